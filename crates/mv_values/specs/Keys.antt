@@ -1,0 +1,33 @@
+-- The rows of a table, by key. Rows are kept in key order: this project's own rule.
+use Rattle.std.specs.Prelude.{◌≡◌, ◌≤◌, ℕ, zero, suc, List, [], ◌∷◌, AllPairs, length, slice_get, Some}
+use Rattle.std.specs.List.Sorted.{IsPartitionPoint}
+use Rattle.std.specs.declared.cmp.Ordering.TheVariants.{Less, Greater}
+use Rattle.mv_values.specs.declared.value.Value.{Value}
+use Rattle.mv_values.specs.declared.rows.Keyed.{Keyed}
+use Rattle.mv_values.specs.Order.{key_order}
+
+-- the row's key is less than the key
+abbrev pub IsBelow : List Value → Keyed → Type 0
+IsBelow key item = key_order item.key key ≡ Less
+
+-- the row's key is greater than the key
+abbrev pub IsAbove : List Value → Keyed → Type 0
+IsAbove key item = key_order item.key key ≡ Greater
+
+-- each key is less than those after it
+abbrev pub IsRising : List Keyed → Type 0
+IsRising rows = AllPairs (λ a b. IsBelow b.key a) rows
+
+-- the row at the place has the key
+abbrev pub IsPlaceOf : List Keyed → List Value → ℕ → Type 0
+IsPlaceOf rows key at = (item : Keyed) × (slice_get rows at ≡ Some item) × (item.key ≡ key)
+
+-- the keys before the place are less, and the others greater
+abbrev pub IsGapFor : List Keyed → List Value → ℕ → Type 0
+IsGapFor rows key at = (at ≤ length rows) × IsPartitionPoint (IsBelow key) (IsAbove key) rows at
+
+-- the rows with another row at the place, under the same key
+abbrev pub with_row : List Keyed → ℕ → List Value → List Keyed
+with_row [] at row = []
+with_row (item ∷ items) zero row = record item { row = row } ∷ items
+with_row (item ∷ items) (suc at) row = item ∷ with_row items at row

@@ -1,0 +1,15 @@
+//! The values of the database: numbers, texts, rows, tables, and what a call is given and answers.
+#![tactic(auto)]
+
+pub mod boxed;
+pub mod calls;
+pub mod copied;
+pub mod list;
+pub mod memory;
+pub mod op;
+pub mod rows;
+pub mod schema;
+#[cfg(test)]
+mod tests;
+pub mod txt;
+pub mod value;
