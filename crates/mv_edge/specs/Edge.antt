@@ -1,0 +1,35 @@
+-- What a read or a write does to the bytes that are left or written, where these are told, and to a count of faults.
+use Rattle.std.specs.Prelude.{◌≡◌, ◌<◌, ◌+◌, ◌-◌, ◌^◌, ◌⊎◌, ◌++◌, ◌∷◌, [], ℕ, List, Option, Some, None, min}
+
+-- where a count stands still
+abbrev pub greatest_count : ℕ
+greatest_count = 2 ^ 64 - 1
+
+-- a count with one more
+abbrev pub one_more : ℕ → ℕ
+one_more count = min (count + 1) greatest_count
+
+-- a count rose; one that had come to its end counts as risen
+abbrev pub Rose : ℕ → ℕ → Type 0
+Rose before after = (before < after) ⊎ (before ≡ greatest_count)
+
+-- these bytes were the next of those that were left; nothing is claimed where they are not told
+abbrev pub Reads : Option (List ℕ) → Option (List ℕ) → List ℕ → Type 0
+Reads None after got = Unit {0}
+Reads (Some all) after got = (rest : List ℕ) × (after ≡ Some rest) × (all ≡ got ++ rest)
+
+-- no bytes were left
+abbrev pub IsAtEnd : Option (List ℕ) → Type 0
+IsAtEnd None = Unit {0}
+IsAtEnd (Some all) = all ≡ []
+
+-- these bytes were written behind those that were there
+abbrev pub Writes : Option (List ℕ) → Option (List ℕ) → List ℕ → Type 0
+Writes None after piece = Unit {0}
+Writes (Some all) after piece = after ≡ Some (all ++ piece)
+
+-- a front of these bytes was written, and not all of them
+abbrev pub WritesFront : Option (List ℕ) → Option (List ℕ) → List ℕ → Type 0
+WritesFront None after piece = Unit {0}
+WritesFront (Some all) after piece =
+    (front : List ℕ) × (byte : ℕ) × (rest : List ℕ) × (piece ≡ front ++ (byte ∷ rest)) × (after ≡ Some (all ++ front))

@@ -1,0 +1,21 @@
+//! Writing all of a text.
+
+ghost use Rattle.std.specs.Prelude.{◌≤◌, OnOk, OnErr};
+ghost use Rattle.mv_edge.specs.Edge.{Rose, Writes, WritesFront};
+
+use crate::edge::{Failed, Sink};
+
+/// Writes all the bytes, or fails after a proper front of them. It takes no memory, and fails only where the sink's
+/// count of faults rises.
+pub fn write_all<K: Sink>(sink: &mut K, bytes: &[u8]) -> Result<(), Failed>
+    ensures all { OnOk result (Writes (K.written sink.old) (K.written sink.new) bytes.now) }
+    ensures front { OnErr result (WritesFront (K.written sink.old) (K.written sink.new) bytes.now) }
+    ensures failed { OnErr result (Rose (K.faults sink.old) (K.faults sink.new)) }
+    ensures count { K.faults sink.old ≤ K.faults sink.new }
+{
+    let mut at = 0usize;
+    while at < bytes.len() {
+        at += sink.write(&bytes[at..])?;
+    }
+    Ok(())
+}
