@@ -1,0 +1,10 @@
+pub mod Steps
+pub mod Runs
+pub mod Texts
+pub mod Blocks
+pub mod Bodies
+pub mod Fronts
+pub mod Pieces
+pub mod Whole
+pub mod Answers
+pub mod Parted

@@ -1,0 +1,111 @@
+-- How a token of each kind is spelled, by its bytes alone. All of this is the language's own.
+use Rattle.std.specs.Prelude.{◌≡◌, ◌≢◌, ◌⊎◌, ℕ, Bool, true, false, not, ◌&&◌, ◌||◌, ◌==◌, List, [], ◌∷◌, ◌++◌, IsTrue, if◌then◌else◌}
+use Rattle.std.specs.List.{list_all, flat_map, AllByRecursion}
+use Rattle.mv_lex.specs.Bytes.{is_blank, is_in_line, is_printable, is_digit, begins_word, continues_word, is_short_symbol, is_long_symbol}
+use Rattle.mv_lex.specs.declared.token.Kind.{Kind}
+use Rattle.mv_lex.specs.declared.token.Kind.TheVariants.{Word, Number, Text, Variable, Symbol, Block, OpenBlock}
+
+-- a letter or `_`, then letters, digits and `_`
+abbrev pub is_word : List ℕ → Bool
+is_word [] = false
+is_word (b ∷ bs) = begins_word b && list_all continues_word bs
+
+-- digits, at least one
+abbrev pub is_number : List ℕ → Bool
+is_number [] = false
+is_number (b ∷ bs) = is_digit b && list_all is_digit bs
+
+-- a colon and a word directly after it
+abbrev pub is_variable : List ℕ → Bool
+is_variable [] = false
+is_variable (b ∷ bs) = b == 58 && is_word bs
+
+-- one of ( ) , ; . = <> < <= > >= + - * / % and two bars
+abbrev pub is_symbol : List ℕ → Bool
+is_symbol (a ∷ []) = is_short_symbol a
+is_symbol (a ∷ b ∷ []) = is_long_symbol a b
+is_symbol _ = false
+
+-- each quote of a text is written twice
+abbrev pub doubled : List ℕ → List ℕ
+doubled [] = []
+doubled (b ∷ bs) = if b == 39 then 39 ∷ 39 ∷ doubled bs else b ∷ doubled bs
+
+-- a text as it is written: between quotes
+abbrev pub quoted : List ℕ → List ℕ
+quoted content = 39 ∷ (doubled content ++ 39 ∷ [])
+
+-- the text that is written so
+pub record IsText (text : List ℕ) : Type 0 where
+  pub content : List ℕ
+  pub printable : IsTrue (list_all is_printable content)
+  pub written : text ≡ quoted content
+
+-- a blank that doesn't end the line
+abbrev pub is_inner_blank : ℕ → Bool
+is_inner_blank b = is_blank b && is_in_line b
+
+-- the line that a block begins with: `<<` and blanks
+abbrev pub opening : List ℕ → List ℕ
+opening blanks = 60 ∷ 60 ∷ blanks
+
+-- lines, each with the LF that ends it
+abbrev pub lines_text : List (List ℕ) → List ℕ
+lines_text lines = flat_map (λ line. line ++ 10 ∷ []) lines
+
+-- a line within a block, without its LF: it isn't `>>`, nor that with a CR
+pub record IsInnerLine (line : List ℕ) : Type 0 where
+  pub one_line : IsTrue (list_all is_in_line line)
+  pub no_end : line ≢ 62 ∷ 62 ∷ []
+  pub no_end_with_return : line ≢ 62 ∷ 62 ∷ 13 ∷ []
+
+-- the line `>>` with its LF, before which a CR may stand; at the end of the input it needs none, and then has no CR
+abbrev pub IsClosing : List ℕ → List ℕ → Type 0
+IsClosing line after = (line ≡ 62 ∷ 62 ∷ 10 ∷ []) ⊎ ((line ≡ 62 ∷ 62 ∷ 13 ∷ 10 ∷ []) ⊎ ((line ≡ 62 ∷ 62 ∷ []) × (after ≡ [])))
+
+-- a block: its first line, the lines between, and the first line that closes it
+pub record IsBlock (text after : List ℕ) : Type 0 where
+  pub blanks : List ℕ
+  pub lines : List (List ℕ)
+  pub closing : List ℕ
+  pub are_blanks : IsTrue (list_all is_inner_blank blanks)
+  pub are_inner : AllByRecursion IsInnerLine lines
+  pub is_closing : IsClosing closing after
+  pub written : text ≡ opening blanks ++ 10 ∷ (lines_text lines ++ closing)
+
+-- a last line with no LF: it isn't `>>`
+pub record IsLastLine (line : List ℕ) : Type 0 where
+  pub one_line : IsTrue (list_all is_in_line line)
+  pub no_end : line ≢ 62 ∷ 62 ∷ []
+
+-- a block whose first line is the last of the input
+pub record IsBareOpening (text : List ℕ) : Type 0 where
+  pub blanks : List ℕ
+  pub are_blanks : IsTrue (list_all is_inner_blank blanks)
+  pub written : text ≡ opening blanks
+
+-- a block with further lines, none of which closes it
+pub record IsUnclosed (text : List ℕ) : Type 0 where
+  pub blanks : List ℕ
+  pub lines : List (List ℕ)
+  pub last : List ℕ
+  pub are_blanks : IsTrue (list_all is_inner_blank blanks)
+  pub are_inner : AllByRecursion IsInnerLine lines
+  pub is_last : IsLastLine last
+  pub written : text ≡ opening blanks ++ 10 ∷ (lines_text lines ++ last)
+
+-- a `<` before another one is no symbol, nor is a `-` before another one: `<<` begins a block and `--` a comment
+abbrev pub stands_alone : List ℕ → List ℕ → Bool
+stands_alone (a ∷ []) (b ∷ _) = not ((a == 60 && b == 60) || (a == 45 && b == 45))
+stands_alone _ _ = true
+
+-- the bytes are a token of the kind, where these others follow, up to the end of the input: a symbol may have to stand alone,
+-- and whether a block is closed or open may hang on the input's end
+abbrev pub IsSpelled : Kind → List ℕ → List ℕ → Type 0
+IsSpelled Word text after = IsTrue (is_word text)
+IsSpelled Number text after = IsTrue (is_number text)
+IsSpelled Text text after = IsText text
+IsSpelled Variable text after = IsTrue (is_variable text)
+IsSpelled Symbol text after = IsTrue (is_symbol text && stands_alone text after)
+IsSpelled Block text after = IsBlock text after
+IsSpelled OpenBlock text after = (IsBareOpening text ⊎ IsUnclosed text) × (after ≡ [])

@@ -1,0 +1,69 @@
+-- The tokens of an input. All of this is the language's own.
+use Rattle.std.specs.Prelude.{◌≡◌, ℕ, ◌+◌, ◌<◌, ◌≤◌, Bool, true, false, ◌&&◌, ◌==◌, List, [], ◌∷◌, ◌++◌, length, take, drop, slice_index, IsTrue, IsFalse}
+use Rattle.std.specs.List.{list_all}
+use Rattle.mv_lex.specs.Bytes.{is_blank, is_in_line, is_allowed}
+use Rattle.mv_lex.specs.Spelling.{IsSpelled}
+use Rattle.mv_lex.specs.declared.token.Kind.{Kind}
+use Rattle.mv_lex.specs.declared.token.Token.{Token}
+
+-- the longest token at the front of the bytes: no longer front of them is a token of any kind
+pub record IsLongest (kind : Kind) (text after : List ℕ) : Type 0 where
+  pub spelled : IsSpelled kind text after
+  pub longest : (other : Kind) (front rest : List ℕ) → front ++ rest ≡ text ++ after → length text < length front → IsSpelled other front rest → ⊥
+
+-- nothing of the line is left: an LF stands there, or the end of the input
+abbrev pub ends_line : List ℕ → Bool
+ends_line [] = true
+ends_line (b ∷ _) = b == 10
+
+-- no token goes on there: a blank stands there, or the end of the input
+abbrev pub is_parted : List ℕ → Bool
+is_parted [] = true
+is_parted (b ∷ _) = is_blank b
+
+-- a comment begins there: `--`
+abbrev pub begins_comment : List ℕ → Bool
+begins_comment (a ∷ b ∷ _) = a == 45 && b == 45
+begins_comment _ = false
+
+-- a token of the kind with these bytes, at its place
+abbrev pub token_at : Kind → ℕ → List ℕ → Token
+token_at kind place text = record { kind = kind; at = place; len = length text }
+
+-- `Reads place bytes tokens end rest`: from a place on, where these bytes stand, come blanks, comments and these tokens,
+-- each the longest that fits, and at the end of them the rest stands
+pub data Reads : ℕ → List ℕ → List Token → ℕ → List ℕ → Type 0 where
+  stop : {place : ℕ} {bytes : List ℕ} → Reads place bytes [] place bytes
+  blank : {place end b : ℕ} {bytes rest : List ℕ} {tokens : List Token} → IsTrue (is_blank b)
+      → Reads (place + 1) bytes tokens end rest → Reads place (b ∷ bytes) tokens end rest
+  comment : {place end : ℕ} {rest : List ℕ} {tokens : List Token} (line bytes : List ℕ) → IsTrue (list_all is_in_line line) → IsTrue (ends_line bytes)
+      → Reads (place + (2 + length line)) bytes tokens end rest → Reads place (45 ∷ 45 ∷ (line ++ bytes)) tokens end rest
+  token : {place end : ℕ} {rest : List ℕ} {tokens : List Token} (kind : Kind) (text bytes : List ℕ) → IsLongest kind text bytes
+      → Reads (place + length text) bytes tokens end rest → Reads place (text ++ bytes) (token_at kind place text ∷ tokens) end rest
+
+-- each byte is one that a script may have
+abbrev pub AreAllowed : List ℕ → Type 0
+AreAllowed bytes = IsTrue (list_all is_allowed bytes)
+
+-- the tokens of an input, all of it
+abbrev pub AreTokens : List ℕ → List Token → Type 0
+AreTokens bytes tokens = AreAllowed bytes × Reads 0 bytes tokens (length bytes) []
+
+-- the first byte that no script has
+abbrev pub IsBadByte : List ℕ → ℕ → Type 0
+IsBadByte bytes place = (place < length bytes) × AreAllowed (take place bytes) × IsFalse (is_allowed (slice_index bytes place))
+
+-- there is a byte, and neither a blank nor a comment nor a token begins there
+abbrev pub BeginsNothing : List ℕ → Type 0
+BeginsNothing [] = ⊥
+BeginsNothing (b ∷ bytes) = IsFalse (is_blank b) × IsFalse (begins_comment (b ∷ bytes))
+    × ((kind : Kind) (text rest : List ℕ) → text ++ rest ≡ b ∷ bytes → IsSpelled kind text rest → ⊥)
+
+-- the first place without a token: what stands before it are tokens, and there nothing begins
+abbrev pub IsBadToken : List ℕ → ℕ → Type 0
+IsBadToken bytes place = AreAllowed bytes × ((tokens : List Token) × (rest : List ℕ) × Reads 0 bytes tokens place rest × BeginsNothing rest)
+
+-- the token lies within the bytes, and its bytes there spell its kind
+pub record IsSpelledIn (bytes : List ℕ) (token : Token) : Type 0 where
+  pub within : token.at + token.len ≤ length bytes
+  pub spelled : IsSpelled token.kind (take token.len (drop token.at bytes)) (drop (token.at + token.len) bytes)

@@ -1,0 +1,13 @@
+-- What the lexer tells, whichever it answers.
+use Rattle.std.specs.Prelude.{List, ℕ, Result, Ok, Err}
+use Rattle.mv_lex.specs.declared.token.Token.{Token}
+use Rattle.mv_lex.specs.declared.lexer.LexFault.{LexFault}
+use Rattle.mv_lex.specs.declared.lexer.LexFault.TheVariants.{BadByte, BadToken, NoMemory}
+use Rattle.mv_lex.specs.Tokens.{AreAllowed, AreTokens, IsBadByte, IsBadToken}
+
+-- the answer says what is so of the bytes; want of memory is met only where each byte is allowed
+abbrev pub Tells : List ℕ → Result (List Token) LexFault → Type 0
+Tells bytes (Ok tokens) = AreTokens bytes tokens
+Tells bytes (Err (BadByte place)) = IsBadByte bytes place
+Tells bytes (Err (BadToken place)) = IsBadToken bytes place
+Tells bytes (Err NoMemory) = AreAllowed bytes
