@@ -1,0 +1,5 @@
+pub mod Parts
+pub mod Texts
+pub mod Trees
+pub mod Grammar
+pub mod Lexemes

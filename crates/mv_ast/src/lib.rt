@@ -1,0 +1,5 @@
+//! The syntax tree of a script, and its grammar.
+#![tactic(auto)]
+
+pub mod lexeme;
+pub mod tree;

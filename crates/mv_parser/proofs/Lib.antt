@@ -1,0 +1,14 @@
+pub mod Basics
+pub mod Takes
+pub mod Again
+pub mod Whole
+pub mod Turns
+pub mod TextLaws
+pub mod Keywords
+pub mod Firsts
+pub mod Inside
+pub mod Prefixes
+pub mod Parsing
+pub mod Printables
+pub mod Counting
+pub mod Lexed

@@ -1,0 +1,6 @@
+pub mod Fitting
+pub mod Reading
+pub mod Lists
+pub mod Words
+pub mod Answers
+pub mod Whole

@@ -1,0 +1,23 @@
+-- Reading all of the tokens.
+use Rattle.std.specs.Prelude.{◌≡◌, ℕ, List, [], ◌∷◌, Result, Ok, Err, length}
+use Rattle.mv_ast.specs.declared.lexeme.Lexeme.{Lexeme}
+use Rattle.mv_ast.specs.declared.tree.Script.{Script}
+use Rattle.mv_ast.specs.Grammar.{script}
+use Rattle.mv_parser.specs.Reading.{◌>>=◌, read, inside}
+use Rattle.mv_parser.specs.declared.fault.Stop.{Stop}
+use Rattle.mv_parser.specs.declared.fault.Stop.TheVariants.{Memory, Wrong}
+
+-- what was read, where no token is left
+abbrev pub whole : {A : Type 0} → A → List Lexeme → Result A ℕ
+whole v [] = Ok v
+whole v (l ∷ ts) = Err (length (l ∷ ts))
+
+-- the tokens read as a script, all of them
+abbrev pub parsed : List ℕ → ℕ → List Lexeme → Result Script ℕ
+parsed bytes depth ts = read (inside bytes depth) (script bytes) ts >>= (λ x. whole x.0 x.1)
+
+-- the answer is what reading gives, unless memory ran out
+abbrev pub Answers : {A : Type 0} → Result A Stop → Result A ℕ → Type 0
+Answers (Ok x) reading = reading ≡ Ok x
+Answers (Err Memory) reading = Unit {0}
+Answers (Err (Wrong left)) reading = reading ≡ Err left

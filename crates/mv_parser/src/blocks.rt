@@ -1,0 +1,241 @@
+//! Statements that hold others.
+
+ghost use Rattle.std.specs.Prelude.{◌≡◌, ℕ, drop};
+ghost use Rattle.mv_ast.specs.declared.lexeme.Terminal.TheVariants as word;
+ghost use Rattle.mv_ast.specs.declared.tree.Stmt.{Stmt};
+ghost use Rattle.mv_ast.specs.declared.tree.Name.{Name};
+ghost use Rattle.mv_ast.specs.Parts.{statement};
+ghost use Rattle.mv_ast.specs.Grammar.{many, stmt, for_each, for_plain, for_distinct, for_rows, loop_body, branch, otherwise};
+ghost use Rattle.mv_parser.specs.Answers.{Reads, ReadsFor};
+
+use crate::fault::Stop;
+use crate::reader::Reader;
+use mv_ast::lexeme::Terminal;
+use mv_ast::tree::{Name, Stmt};
+use mv_values::list::List;
+
+impl Reader<'_> {
+    /// A statement one level further in.
+    #[cycle(stmt)]
+    #[tactic(auto, using(crate::proofs::Inside::inside_stmt, crate::proofs::Inside::inside_no_stmt))]
+    fn statement(&self, at: usize) -> Result<(Stmt, usize), Stop>
+        ensures { Reads self.now at (λ _. statement) result }
+    {
+        if self.depth == 0 {
+            return Err(self.wrong(at));
+        }
+        self.deeper().stmt(at)
+    }
+
+    /// Statements, none or more.
+    #[cycle(stmt)]
+    #[tactic(auto, using(crate::proofs::Turns::more_turn, crate::proofs::Turns::more_stop))]
+    pub(crate) fn statements(&self, at: usize) -> Result<(List<Stmt>, usize), Stop>
+        ensures { Reads self.now at (λ _. many statement) result }
+    {
+        let mut all = List::new(self.alloc);
+        let mut here = at;
+        for _turn in 0..self.left(at) {
+            if !self.has_any(here, &STATEMENT_WORDS) {
+                return Ok((all, here));
+            }
+            let (next, behind) = self.statement(here)?;
+            all.push(next)?;
+            here = behind;
+        }
+        Ok((all, here))
+    }
+
+    /// A statement.
+    #[cycle(stmt)]
+    #[tactic(auto, using(crate::proofs::Firsts::first_assign, crate::proofs::Firsts::first_select, crate::proofs::Firsts::first_for_each, crate::proofs::Firsts::first_branch, crate::proofs::Firsts::first_insert, crate::proofs::Firsts::first_update, crate::proofs::Firsts::first_delete, crate::proofs::Firsts::first_print), unfolding(mv_ast::specs::Grammar::stmt))]
+    fn stmt(&self, at: usize) -> Result<(Stmt, usize), Stop>
+        ensures { Reads self.now at stmt result }
+    {
+        if self.has(at, Terminal::Set) {
+            return self.assign(at);
+        }
+        if self.has(at, Terminal::Select) {
+            return self.select(at);
+        }
+        if self.has(at, Terminal::For) {
+            return self.for_each(at);
+        }
+        if self.has(at, Terminal::If) {
+            return self.branch(at);
+        }
+        if self.has(at, Terminal::Insert) {
+            return self.insert(at);
+        }
+        if self.has(at, Terminal::Update) {
+            return self.update(at);
+        }
+        if self.has(at, Terminal::Delete) {
+            return self.delete(at);
+        }
+        if self.has(at, Terminal::Print) {
+            return self.print(at);
+        }
+        self.rollback(at)
+    }
+
+    /// FOR.
+    #[cycle(stmt)]
+    #[tactic(auto, using(crate::proofs::Firsts::first_for_distinct), unfolding(mv_ast::specs::Grammar::for_each))]
+    fn for_each(&self, at: usize) -> Result<(Stmt, usize), Stop>
+        ensures { Reads self.now at for_each result }
+    {
+        let (token, at) = self.place(at, Terminal::For)?;
+        let (row, at) = self.variable(at)?;
+        let (_, at) = self.one(at, Terminal::In)?;
+        if !self.has(at, Terminal::Select) {
+            return self.for_rows(at, token, row);
+        }
+        let (_, at) = self.one(at, Terminal::Select)?;
+        if self.has(at, Terminal::Distinct) {
+            self.for_distinct(at, token, row)
+        } else {
+            self.for_plain(at, token, row)
+        }
+    }
+
+    /// FOR over rows of a table, behind SELECT.
+    #[cycle(stmt)]
+    #[tactic(auto, unfolding(mv_ast::specs::Grammar::for_plain))]
+    fn for_plain(&self, at: usize, token: u32, row: Name) -> Result<(Stmt, usize), Stop>
+        ensures { ReadsFor self.now at for_plain (λ f. f token row) result }
+    {
+        let (columns, at) = self.separated(at, Terminal::Comma)?;
+        let (_, at) = self.one(at, Terminal::From)?;
+        let (table, at) = self.name(at)?;
+        let (conds, at) = self.conds(at)?;
+        let (sorts, at) = self.sorts(at)?;
+        let (body, at) = self.loop_body(at)?;
+        let distinct = false;
+        Ok((
+            Stmt::ForSelect {
+                token,
+                row,
+                distinct,
+                columns,
+                table,
+                conds,
+                sorts,
+                body,
+            },
+            at,
+        ))
+    }
+
+    /// FOR over distinct rows, from DISTINCT on.
+    #[cycle(stmt)]
+    #[tactic(auto, unfolding(mv_ast::specs::Grammar::for_distinct))]
+    fn for_distinct(&self, at: usize, token: u32, row: Name) -> Result<(Stmt, usize), Stop>
+        ensures { ReadsFor self.now at for_distinct (λ f. f token row) result }
+    {
+        let (_, at) = self.one(at, Terminal::Distinct)?;
+        let (columns, at) = self.separated(at, Terminal::Comma)?;
+        let (_, at) = self.one(at, Terminal::From)?;
+        let (table, at) = self.name(at)?;
+        let (conds, at) = self.conds(at)?;
+        let (body, at) = self.loop_body(at)?;
+        let distinct = true;
+        let sorts = List::new(self.alloc);
+        Ok((
+            Stmt::ForSelect {
+                token,
+                row,
+                distinct,
+                columns,
+                table,
+                conds,
+                sorts,
+                body,
+            },
+            at,
+        ))
+    }
+
+    /// FOR over the rows of a parameter, behind IN.
+    #[cycle(stmt)]
+    #[tactic(auto, unfolding(mv_ast::specs::Grammar::for_rows))]
+    fn for_rows(&self, at: usize, token: u32, row: Name) -> Result<(Stmt, usize), Stop>
+        ensures { ReadsFor self.now at for_rows (λ f. f token row) result }
+    {
+        let (rows, at) = self.variable(at)?;
+        let (body, at) = self.loop_body(at)?;
+        Ok((
+            Stmt::ForRows {
+                token,
+                row,
+                rows,
+                body,
+            },
+            at,
+        ))
+    }
+
+    /// The statements of a FOR.
+    #[cycle(stmt)]
+    #[tactic(auto, unfolding(mv_ast::specs::Grammar::loop_body))]
+    fn loop_body(&self, at: usize) -> Result<(List<Stmt>, usize), Stop>
+        ensures { Reads self.now at loop_body result }
+    {
+        let (_, at) = self.one(at, Terminal::Do)?;
+        let (body, at) = self.statements(at)?;
+        let (_, at) = self.one(at, Terminal::End)?;
+        let (_, at) = self.one(at, Terminal::For)?;
+        let (_, at) = self.one(at, Terminal::Semicolon)?;
+        Ok((body, at))
+    }
+
+    /// IF.
+    #[cycle(stmt)]
+    #[tactic(auto, unfolding(mv_ast::specs::Grammar::branch))]
+    fn branch(&self, at: usize) -> Result<(Stmt, usize), Stop>
+        ensures { Reads self.now at branch result }
+    {
+        let (token, at) = self.place(at, Terminal::If)?;
+        let (test, at) = self.expression(at)?;
+        let (_, at) = self.one(at, Terminal::Then)?;
+        let (yes, at) = self.statements(at)?;
+        let (no, at) = self.otherwise(at)?;
+        let (_, at) = self.one(at, Terminal::End)?;
+        let (_, at) = self.one(at, Terminal::If)?;
+        let (_, at) = self.one(at, Terminal::Semicolon)?;
+        Ok((
+            Stmt::Branch {
+                token,
+                test,
+                yes,
+                no,
+            },
+            at,
+        ))
+    }
+
+    /// The statements behind ELSE, if it is there.
+    #[cycle(stmt)]
+    #[tactic(auto, unfolding(mv_ast::specs::Grammar::otherwise))]
+    fn otherwise(&self, at: usize) -> Result<(List<Stmt>, usize), Stop>
+        ensures { Reads self.now at otherwise result }
+    {
+        if !self.has(at, Terminal::Else) {
+            return Ok((List::new(self.alloc), at));
+        }
+        let (_, at) = self.one(at, Terminal::Else)?;
+        self.statements(at)
+    }
+}
+
+const STATEMENT_WORDS: [Terminal; 9] = [
+    Terminal::Set,
+    Terminal::Select,
+    Terminal::For,
+    Terminal::If,
+    Terminal::Insert,
+    Terminal::Update,
+    Terminal::Delete,
+    Terminal::Print,
+    Terminal::Rollback,
+];

@@ -1,0 +1,185 @@
+//! The clauses of statements.
+
+ghost use Rattle.std.specs.Prelude.{◌≡◌, drop};
+ghost use Rattle.mv_ast.specs.Parts.{one, expression};
+ghost use Rattle.mv_ast.specs.declared.lexeme.Terminal.TheVariants as word;
+ghost use Rattle.mv_ast.specs.Grammar.{◌▸◌, optional, in_parens, cond, conds, sort, sorts, direction, set_item, counted, aggregate, name};
+ghost use Rattle.mv_parser.specs.Reading.{inside, read};
+ghost use Rattle.mv_parser.specs.Answers.{Reads};
+
+use crate::fault::Stop;
+use crate::lists::Parse;
+use crate::reader::Reader;
+use mv_ast::lexeme::Terminal;
+use mv_ast::tree::{Agg, Cond, Expr, Name, SetItem, Sort};
+use mv_values::list::List;
+
+impl Parse for Expr {
+    ghost reading = { λ bytes depth ts. read (inside bytes depth) expression ts };
+
+    fn parse(reader: &Reader, at: usize) -> Result<(Expr, usize), Stop> {
+        reader.expression(at)
+    }
+}
+
+impl Parse for Cond {
+    ghost reading = { λ bytes depth ts. read (inside bytes depth) (cond bytes) ts };
+
+    fn parse(reader: &Reader, at: usize) -> Result<(Cond, usize), Stop> {
+        reader.cond(at)
+    }
+}
+
+impl Parse for Sort {
+    ghost reading = { λ bytes depth ts. read (inside bytes depth) (sort bytes) ts };
+
+    fn parse(reader: &Reader, at: usize) -> Result<(Sort, usize), Stop> {
+        reader.sort(at)
+    }
+}
+
+impl Parse for SetItem {
+    ghost reading = { λ bytes depth ts. read (inside bytes depth) (set_item bytes) ts };
+
+    fn parse(reader: &Reader, at: usize) -> Result<(SetItem, usize), Stop> {
+        reader.set_item(at)
+    }
+}
+
+impl Reader<'_> {
+    /// A test of WHERE.
+    #[tactic(auto, unfolding(mv_ast::specs::Grammar::cond))]
+    fn cond(&self, at: usize) -> Result<(Cond, usize), Stop>
+        ensures { Reads self.now at cond result }
+    {
+        let (column, at) = self.name(at)?;
+        let (op, at) = self.comparison(at)?;
+        let (right, at) = self.sum(at)?;
+        Ok((Cond { column, op, right }, at))
+    }
+
+    /// The tests of WHERE, if there are any.
+    #[tactic(auto, unfolding(mv_ast::specs::Grammar::conds))]
+    pub(crate) fn conds(&self, at: usize) -> Result<(List<Cond>, usize), Stop>
+        ensures { Reads self.now at conds result }
+    {
+        if !self.has(at, Terminal::Where) {
+            return Ok((List::new(self.alloc), at));
+        }
+        let (_, at) = self.one(at, Terminal::Where)?;
+        self.separated(at, Terminal::And)
+    }
+
+    /// Whether rows are wanted in descending order.
+    #[tactic(auto, unfolding(mv_ast::specs::Grammar::direction))]
+    fn direction(&self, at: usize) -> Result<(bool, usize), Stop>
+        ensures { Reads self.now at direction result }
+    {
+        if self.has(at, Terminal::Asc) {
+            let (_, at) = self.one(at, Terminal::Asc)?;
+            return Ok((false, at));
+        }
+        if self.has(at, Terminal::Desc) {
+            let (_, at) = self.one(at, Terminal::Desc)?;
+            return Ok((true, at));
+        }
+        Ok((false, at))
+    }
+
+    /// A column of ORDER BY.
+    #[tactic(auto, unfolding(mv_ast::specs::Grammar::sort))]
+    fn sort(&self, at: usize) -> Result<(Sort, usize), Stop>
+        ensures { Reads self.now at sort result }
+    {
+        let (column, at) = self.name(at)?;
+        let (descending, at) = self.direction(at)?;
+        Ok((Sort { column, descending }, at))
+    }
+
+    /// The columns of ORDER BY, if there are any.
+    #[tactic(auto, unfolding(mv_ast::specs::Grammar::sorts))]
+    pub(crate) fn sorts(&self, at: usize) -> Result<(List<Sort>, usize), Stop>
+        ensures { Reads self.now at sorts result }
+    {
+        if !self.has(at, Terminal::Order) {
+            return Ok((List::new(self.alloc), at));
+        }
+        let (_, at) = self.one(at, Terminal::Order)?;
+        let (_, at) = self.one(at, Terminal::By)?;
+        self.separated(at, Terminal::Comma)
+    }
+
+    /// The expression of OFFSET, if there is one.
+    pub(crate) fn offset(&self, at: usize) -> Result<(Option<Expr>, usize), Stop>
+        ensures { Reads self.now at (λ _. optional (one word.Offset ▸ expression)) result }
+    {
+        if !self.has(at, Terminal::Offset) {
+            return Ok((None, at));
+        }
+        let (_, at) = self.one(at, Terminal::Offset)?;
+        let (offset, at) = self.expression(at)?;
+        Ok((Some(offset), at))
+    }
+
+    /// An item of an UPDATE's SET.
+    #[tactic(auto, unfolding(mv_ast::specs::Grammar::set_item))]
+    fn set_item(&self, at: usize) -> Result<(SetItem, usize), Stop>
+        ensures { Reads self.now at set_item result }
+    {
+        let (column, at) = self.name(at)?;
+        let (_, at) = self.one(at, Terminal::Equal)?;
+        let (right, at) = self.expression(at)?;
+        Ok((SetItem { column, right }, at))
+    }
+
+    /// What COUNT counts.
+    #[tactic(auto, unfolding(mv_ast::specs::Grammar::counted))]
+    fn counted(&self, at: usize) -> Result<(Agg, usize), Stop>
+        ensures { Reads self.now at counted result }
+    {
+        if self.has(at, Terminal::Star) {
+            let (_, at) = self.one(at, Terminal::Star)?;
+            return Ok((Agg::CountAll, at));
+        }
+        let (_, at) = self.one(at, Terminal::Distinct)?;
+        let (column, at) = self.name(at)?;
+        Ok((Agg::CountDistinct(column), at))
+    }
+
+    /// A name in parentheses.
+    fn name_in_parens(&self, at: usize) -> Result<(Name, usize), Stop>
+        ensures { Reads self.now at (λ bytes. in_parens (name bytes)) result }
+    {
+        let (_, at) = self.one(at, Terminal::Open)?;
+        let (name, at) = self.name(at)?;
+        let (_, at) = self.one(at, Terminal::Close)?;
+        Ok((name, at))
+    }
+
+    /// A sum over rows.
+    #[tactic(auto, unfolding(mv_ast::specs::Grammar::aggregate))]
+    pub(crate) fn aggregate(&self, at: usize) -> Result<(Agg, usize), Stop>
+        ensures { Reads self.now at aggregate result }
+    {
+        if self.has(at, Terminal::Count) {
+            let (_, at) = self.one(at, Terminal::Count)?;
+            let (_, at) = self.one(at, Terminal::Open)?;
+            let (agg, at) = self.counted(at)?;
+            let (_, at) = self.one(at, Terminal::Close)?;
+            return Ok((agg, at));
+        }
+        if self.has(at, Terminal::Sum) {
+            let (_, at) = self.one(at, Terminal::Sum)?;
+            let (column, at) = self.name_in_parens(at)?;
+            return Ok((Agg::Sum(column), at));
+        }
+        if self.has(at, Terminal::Min) {
+            let (_, at) = self.one(at, Terminal::Min)?;
+            let (column, at) = self.name_in_parens(at)?;
+            return Ok((Agg::Min(column), at));
+        }
+        let (_, at) = self.one(at, Terminal::Max)?;
+        let (column, at) = self.name_in_parens(at)?;
+        Ok((Agg::Max(column), at))
+    }
+}

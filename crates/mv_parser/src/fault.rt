@@ -1,0 +1,62 @@
+//! Why tokens are no script.
+
+use mv_values::memory::NoMemory;
+
+/// A limit of the language.
+#[derive(Clone, Copy, Debug, PartialEq, Eq)]
+pub enum Which {
+    Depth,
+    Stretch,
+    Name,
+    Literal,
+    Text,
+    Tables,
+    Procedures,
+    Columns,
+    Key,
+    Parameters,
+    Variables,
+    Statements,
+    Calls,
+    Rows,
+}
+
+/// Why tokens are no script within the limits. Tokens count from 1.
+#[derive(Clone, Copy, Debug, PartialEq, Eq)]
+pub enum ParseFault {
+    /// The first token with which no script goes on, or one past the last.
+    Syntax { token: u32 },
+    /// The first token at which a limit is passed.
+    Limit { which: Which, token: u32 },
+    NoMemory,
+}
+
+impl From<NoMemory> for ParseFault {
+    ghost use Rattle.std.specs.Prelude.{◌≡◌};
+    ghost use Rattle.mv_parser.specs.declared.fault.ParseFault.TheVariants.{NoMemory as Refused};
+
+    ghost from_gives = { λ _ e. e ≡ Refused };
+
+    fn from(_refused: NoMemory) -> ParseFault {
+        ParseFault::NoMemory
+    }
+}
+
+/// Why a part of the grammar was not read: for want of memory, or since the first of so many last
+/// tokens can't stand where it stands.
+#[derive(Clone, Copy, Debug, PartialEq, Eq)]
+pub(crate) enum Stop {
+    Memory,
+    Wrong(usize),
+}
+
+impl From<NoMemory> for Stop {
+    ghost use Rattle.std.specs.Prelude.{◌≡◌};
+    ghost use Rattle.mv_parser.specs.declared.fault.Stop.TheVariants.{Memory};
+
+    ghost from_gives = { λ _ e. e ≡ Memory };
+
+    fn from(_refused: NoMemory) -> Stop {
+        Stop::Memory
+    }
+}

@@ -1,0 +1,307 @@
+//! Tables, procedures, copies, calls and the journal.
+
+ghost use Rattle.std.specs.Prelude.{◌≡◌, drop};
+ghost use Rattle.mv_ast.specs.declared.lexeme.Terminal.TheVariants as word;
+ghost use Rattle.mv_ast.specs.Parts.{one};
+ghost use Rattle.mv_ast.specs.Grammar.{◌◂◌, col_def, many, or_none, commas, columns, table, param, param_kind, declaration, procedure, arg, create, copy, call, journal, an_item};
+ghost use Rattle.mv_parser.specs.Reading.{inside, read};
+ghost use Rattle.mv_parser.specs.Answers.{Reads};
+
+use crate::fault::Stop;
+use crate::lists::Parse;
+use crate::reader::Reader;
+use mv_ast::lexeme::Terminal;
+use mv_ast::tree::{
+    Arg, CallDef, ColDef, CopyDef, Item, ItemKind, Param, ParamKind, ProcDef, TableDef, VarDef,
+};
+use mv_values::list::List;
+
+impl Parse for Param {
+    ghost reading = { λ bytes depth ts. read (inside bytes depth) (param bytes) ts };
+
+    fn parse(reader: &Reader, at: usize) -> Result<(Param, usize), Stop> {
+        reader.param(at)
+    }
+}
+
+impl Parse for Arg {
+    ghost reading = { λ bytes depth ts. read (inside bytes depth) (arg bytes) ts };
+
+    fn parse(reader: &Reader, at: usize) -> Result<(Arg, usize), Stop> {
+        reader.arg(at)
+    }
+}
+
+impl Reader<'_> {
+    /// A column and the comma behind it.
+    fn column(&self, at: usize) -> Result<(ColDef, usize), Stop>
+        ensures { Reads self.now at (λ bytes. col_def bytes ◂ one word.Comma) result }
+    {
+        let (column, at) = self.col_def(at)?;
+        let (_, at) = self.one(at, Terminal::Comma)?;
+        Ok((column, at))
+    }
+
+    /// The columns of a table, each with a comma behind it.
+    #[tactic(auto, using(crate::proofs::Turns::more_turn, crate::proofs::Turns::more_stop, crate::proofs::Firsts::first_column), unfolding(mv_ast::specs::Grammar::columns))]
+    fn columns(&self, at: usize) -> Result<(List<ColDef>, usize), Stop>
+        ensures { Reads self.now at columns result }
+    {
+        let (first, at) = self.column(at)?;
+        let mut all = List::new(self.alloc);
+        all.push(first)?;
+        let mut here = at;
+        for _turn in 0..self.left(at) {
+            if !self.has(here, Terminal::Name) {
+                return Ok((all, here));
+            }
+            let (next, behind) = self.column(here)?;
+            all.push(next)?;
+            here = behind;
+        }
+        Ok((all, here))
+    }
+
+    /// A table, behind CREATE.
+    #[tactic(auto, unfolding(mv_ast::specs::Grammar::table))]
+    fn table(&self, at: usize) -> Result<(ItemKind, usize), Stop>
+        ensures { Reads self.now at table result }
+    {
+        let (_, at) = self.one(at, Terminal::Table)?;
+        let (name, at) = self.name(at)?;
+        let (_, at) = self.one(at, Terminal::Open)?;
+        let (columns, at) = self.columns(at)?;
+        let (_, at) = self.one(at, Terminal::Primary)?;
+        let (_, at) = self.one(at, Terminal::Key)?;
+        let (_, at) = self.one(at, Terminal::Open)?;
+        let (key, at) = self.separated(at, Terminal::Comma)?;
+        let (_, at) = self.one(at, Terminal::Close)?;
+        let (_, at) = self.one(at, Terminal::Close)?;
+        let (rows, at) = self.opening_rows(at)?;
+        let (_, at) = self.one(at, Terminal::Semicolon)?;
+        let table = TableDef {
+            name,
+            columns,
+            key,
+            rows,
+        };
+        Ok((ItemKind::Table(table), at))
+    }
+
+    /// What a parameter takes.
+    #[tactic(auto, unfolding(mv_ast::specs::Grammar::param_kind))]
+    fn param_kind(&self, at: usize) -> Result<(ParamKind, usize), Stop>
+        ensures { Reads self.now at param_kind result }
+    {
+        if !self.has(at, Terminal::Rows) {
+            let (kind, at) = self.column_type(at)?;
+            return Ok((ParamKind::One(kind), at));
+        }
+        let (_, at) = self.one(at, Terminal::Rows)?;
+        let (_, at) = self.one(at, Terminal::Open)?;
+        let (columns, at) = self.separated(at, Terminal::Comma)?;
+        let (_, at) = self.one(at, Terminal::Close)?;
+        Ok((ParamKind::Many(columns), at))
+    }
+
+    /// A parameter.
+    #[tactic(auto, unfolding(mv_ast::specs::Grammar::param))]
+    fn param(&self, at: usize) -> Result<(Param, usize), Stop>
+        ensures { Reads self.now at param result }
+    {
+        let (name, at) = self.variable(at)?;
+        let (kind, at) = self.param_kind(at)?;
+        Ok((Param { name, kind }, at))
+    }
+
+    /// Parameters, if there are any.
+    #[tactic(auto, unfolding(mv_ast::specs::Grammar::param, mv_ast::specs::Grammar::variable))]
+    fn params(&self, at: usize) -> Result<(List<Param>, usize), Stop>
+        ensures { Reads self.now at (λ bytes. or_none (commas (param bytes))) result }
+    {
+        if !self.has(at, Terminal::Variable) {
+            return Ok((List::new(self.alloc), at));
+        }
+        self.separated(at, Terminal::Comma)
+    }
+
+    /// DECLARE.
+    #[tactic(auto, unfolding(mv_ast::specs::Grammar::declaration))]
+    fn declaration(&self, at: usize) -> Result<(VarDef, usize), Stop>
+        ensures { Reads self.now at declaration result }
+    {
+        let (_, at) = self.one(at, Terminal::Declare)?;
+        let (name, at) = self.variable(at)?;
+        let (_, at) = self.one(at, Terminal::Equal)?;
+        let (initial, at) = self.literal(at)?;
+        let (_, at) = self.one(at, Terminal::Semicolon)?;
+        Ok((VarDef { name, initial }, at))
+    }
+
+    /// Declarations, none or more.
+    #[tactic(auto, using(crate::proofs::Turns::more_turn, crate::proofs::Turns::more_stop, crate::proofs::Firsts::first_declaration))]
+    fn declarations(&self, at: usize) -> Result<(List<VarDef>, usize), Stop>
+        ensures { Reads self.now at (λ bytes. many (declaration bytes)) result }
+    {
+        let mut all = List::new(self.alloc);
+        let mut here = at;
+        for _turn in 0..self.left(at) {
+            if !self.has(here, Terminal::Declare) {
+                return Ok((all, here));
+            }
+            let (next, behind) = self.declaration(here)?;
+            all.push(next)?;
+            here = behind;
+        }
+        Ok((all, here))
+    }
+
+    /// A procedure, behind CREATE.
+    #[tactic(auto, unfolding(mv_ast::specs::Grammar::procedure))]
+    fn procedure(&self, at: usize) -> Result<(ItemKind, usize), Stop>
+        ensures { Reads self.now at procedure result }
+    {
+        let (_, at) = self.one(at, Terminal::Procedure)?;
+        let (name, at) = self.name(at)?;
+        let (_, at) = self.one(at, Terminal::Open)?;
+        let (params, at) = self.params(at)?;
+        let (_, at) = self.one(at, Terminal::Close)?;
+        let (vars, at) = self.declarations(at)?;
+        let (_, at) = self.one(at, Terminal::Begin)?;
+        let (body, at) = self.statements(at)?;
+        let (_, at) = self.one(at, Terminal::End)?;
+        let (_, at) = self.one(at, Terminal::Semicolon)?;
+        let procedure = ProcDef {
+            name,
+            params,
+            vars,
+            body,
+        };
+        Ok((ItemKind::Proc(procedure), at))
+    }
+
+    /// CREATE.
+    #[tactic(auto, using(crate::proofs::Firsts::first_table), unfolding(mv_ast::specs::Grammar::create))]
+    fn create(&self, at: usize) -> Result<(Item, usize), Stop>
+        ensures { Reads self.now at create result }
+    {
+        let (token, at) = self.place(at, Terminal::Create)?;
+        if self.has(at, Terminal::Table) {
+            let (kind, at) = self.table(at)?;
+            return Ok((Item { token, kind }, at));
+        }
+        let (kind, at) = self.procedure(at)?;
+        Ok((Item { token, kind }, at))
+    }
+
+    /// COPY.
+    #[tactic(auto, unfolding(mv_ast::specs::Grammar::copy))]
+    fn copy(&self, at: usize) -> Result<(Item, usize), Stop>
+        ensures { Reads self.now at copy result }
+    {
+        let (token, at) = self.place(at, Terminal::Copy)?;
+        let (table, at) = self.name(at)?;
+        let (block, at) = self.block(at)?;
+        let kind = ItemKind::Copy(CopyDef { table, block });
+        Ok((Item { token, kind }, at))
+    }
+
+    /// An argument of a call.
+    #[tactic(auto, using(crate::proofs::Firsts::first_lit_rows), unfolding(mv_ast::specs::Grammar::arg))]
+    fn arg(&self, at: usize) -> Result<(Arg, usize), Stop>
+        ensures { Reads self.now at arg result }
+    {
+        if self.has(at, Terminal::Rows) {
+            let (rows, at) = self.lit_rows(at)?;
+            return Ok((Arg::Many(rows), at));
+        }
+        let (literal, at) = self.literal(at)?;
+        Ok((Arg::One(literal), at))
+    }
+
+    /// Arguments, if there are any.
+    #[tactic(auto, using(crate::proofs::Firsts::first_args))]
+    fn args(&self, at: usize) -> Result<(List<Arg>, usize), Stop>
+        ensures { Reads self.now at (λ bytes. or_none (commas (arg bytes))) result }
+    {
+        if !self.has_any(at, &ARGUMENT_WORDS) {
+            return Ok((List::new(self.alloc), at));
+        }
+        self.separated(at, Terminal::Comma)
+    }
+
+    /// CALL.
+    #[tactic(auto, unfolding(mv_ast::specs::Grammar::call))]
+    fn call(&self, at: usize) -> Result<(Item, usize), Stop>
+        ensures { Reads self.now at call result }
+    {
+        let (token, at) = self.place(at, Terminal::Call)?;
+        let (name, at) = self.name(at)?;
+        let (_, at) = self.one(at, Terminal::Open)?;
+        let (arguments, at) = self.args(at)?;
+        let (_, at) = self.one(at, Terminal::Close)?;
+        let (_, at) = self.one(at, Terminal::Semicolon)?;
+        let kind = ItemKind::Call(CallDef { name, arguments });
+        Ok((Item { token, kind }, at))
+    }
+
+    /// JOURNAL.
+    #[tactic(auto, unfolding(mv_ast::specs::Grammar::journal))]
+    fn journal(&self, at: usize) -> Result<(Item, usize), Stop>
+        ensures { Reads self.now at journal result }
+    {
+        let (token, at) = self.place(at, Terminal::Journal)?;
+        let (block, at) = self.block(at)?;
+        let kind = ItemKind::Journal(block);
+        Ok((Item { token, kind }, at))
+    }
+
+    /// An item of a script.
+    #[tactic(auto, using(crate::proofs::Firsts::first_create, crate::proofs::Firsts::first_copy, crate::proofs::Firsts::first_call), unfolding(mv_ast::specs::Grammar::an_item))]
+    pub(crate) fn item(&self, at: usize) -> Result<(Item, usize), Stop>
+        ensures { Reads self.now at an_item result }
+    {
+        if self.has(at, Terminal::Create) {
+            return self.create(at);
+        }
+        if self.has(at, Terminal::Copy) {
+            return self.copy(at);
+        }
+        if self.has(at, Terminal::Call) {
+            return self.call(at);
+        }
+        self.journal(at)
+    }
+
+    /// Items, none or more.
+    #[tactic(auto, using(crate::proofs::Turns::more_turn, crate::proofs::Turns::more_stop, crate::proofs::Firsts::first_an_item))]
+    pub(crate) fn items(&self, at: usize) -> Result<(List<Item>, usize), Stop>
+        ensures { Reads self.now at (λ bytes. many (an_item bytes)) result }
+    {
+        let mut all = List::new(self.alloc);
+        let mut here = at;
+        for _turn in 0..self.left(at) {
+            if !self.has_any(here, &ITEM_WORDS) {
+                return Ok((all, here));
+            }
+            let (next, behind) = self.item(here)?;
+            all.push(next)?;
+            here = behind;
+        }
+        Ok((all, here))
+    }
+}
+
+const ARGUMENT_WORDS: [Terminal; 4] = [
+    Terminal::Rows,
+    Terminal::Minus,
+    Terminal::Number,
+    Terminal::Quoted,
+];
+
+const ITEM_WORDS: [Terminal; 4] = [
+    Terminal::Create,
+    Terminal::Copy,
+    Terminal::Call,
+    Terminal::Journal,
+];

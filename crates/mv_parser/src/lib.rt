@@ -1,0 +1,19 @@
+//! From tokens to the syntax tree.
+#![tactic(auto)]
+
+mod blocks;
+mod clauses;
+mod expr;
+pub mod fault;
+mod items;
+mod lexing;
+mod lists;
+mod literals;
+mod names;
+mod operators;
+pub mod parse;
+mod reader;
+mod single;
+mod statements;
+mod texts;
+mod words;

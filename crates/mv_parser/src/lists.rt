@@ -1,0 +1,47 @@
+//! Lists of parts.
+
+ghost use Rattle.std.specs.Prelude.{◌≡◌, ℕ, List as Seq, drop, length};
+ghost use Rattle.mv_ast.specs.declared.lexeme.Lexeme.{Lexeme};
+ghost use Rattle.mv_parser.specs.Reading.{Read};
+ghost use Rattle.mv_parser.specs.Lists.{read_separated};
+ghost use Rattle.mv_parser.specs.Answers.{Gives};
+
+use crate::fault::Stop;
+use crate::reader::Reader;
+use mv_ast::lexeme::Terminal;
+use mv_values::list::List;
+
+/// What is read from a place on.
+pub(crate) trait Parse: Drop {
+    ghost reading: { Seq ℕ → ℕ → Seq Lexeme → Read Self };
+
+    fn parse(reader: &Reader, at: usize) -> Result<(Self, usize), Stop>
+        ensures { Gives reader.now.lexemes.now result (reading reader.now.bytes.now reader.now.depth (drop at reader.now.lexemes.now)) };
+}
+
+impl Reader<'_> {
+    /// One and then others, each behind a mark.
+    #[tactic(auto, using(crate::proofs::Turns::more_turn, crate::proofs::Turns::more_stop))]
+    pub(crate) fn separated<T: Parse>(
+        &self,
+        at: usize,
+        mark: Terminal,
+    ) -> Result<(List<T>, usize), Stop>
+        ensures { Gives self.now.lexemes.now result (read_separated mark (T.reading self.now.bytes.now self.now.depth) (drop at self.now.lexemes.now)) }
+    {
+        let (first, at) = T::parse(self, at)?;
+        let mut all = List::new(self.alloc);
+        all.push(first)?;
+        let mut here = at;
+        for _turn in 0..self.left(at) {
+            if !self.has(here, mark) {
+                return Ok((all, here));
+            }
+            let (_, behind) = self.one(here, mark)?;
+            let (next, behind) = T::parse(self, behind)?;
+            all.push(next)?;
+            here = behind;
+        }
+        Ok((all, here))
+    }
+}

@@ -1,0 +1,168 @@
+//! Operators, and what is made of them.
+
+ghost use Rattle.std.specs.Prelude.{◌≡◌, ◌<◌, ◌-◌, drop, IfOk};
+ghost use Rattle.mv_ast.specs.Parts.{one};
+ghost use Rattle.mv_ast.specs.Trees.{prefixed, paired, all_prefixed};
+ghost use Rattle.mv_ast.specs.Grammar.{many, op, term_op, sum_op, variable_expr};
+ghost use Rattle.mv_parser.specs.Answers.{Reads};
+
+use crate::fault::Stop;
+use crate::reader::Reader;
+use mv_ast::lexeme::{Lexeme, Terminal};
+use mv_ast::tree::{Expr, ExprKind, OneOp, TwoOp};
+use mv_values::boxed::Boxed;
+use mv_values::list::List;
+use mv_values::memory::NoMemory;
+use mv_values::op::Op;
+use mv_values::value::Value;
+
+impl Reader<'_> {
+    /// The reader of what stands one level further in.
+    pub(crate) fn deeper(&self) -> Reader<'_>
+        requires { 0 < self.now.depth }
+        ensures bytes { result.bytes.now ≡ self.now.bytes.now }
+        ensures lexemes { result.lexemes.now ≡ self.now.lexemes.now }
+        ensures depth { result.depth ≡ self.now.depth - 1 }
+    {
+        Reader {
+            alloc: self.alloc,
+            bytes: self.bytes,
+            lexemes: self.lexemes,
+            depth: self.depth - 1,
+        }
+    }
+
+    /// The tokens of this kind at a place.
+    #[tactic(auto, using(crate::proofs::Turns::more_turn, crate::proofs::Turns::more_stop))]
+    pub(crate) fn repeated(&self, at: usize, kind: Terminal) -> Result<(List<Lexeme>, usize), Stop>
+        ensures { Reads self.now at (λ _. many (one kind)) result }
+    {
+        let mut all = List::new(self.alloc);
+        let mut here = at;
+        for _turn in 0..self.left(at) {
+            if !self.has(here, kind) {
+                return Ok((all, here));
+            }
+            let (lexeme, behind) = self.one(here, kind)?;
+            all.push(lexeme)?;
+            here = behind;
+        }
+        Ok((all, here))
+    }
+
+    /// An expression behind an operator.
+    pub(crate) fn prefixed(&self, op: OneOp, token: u32, inner: Expr) -> Result<Expr, NoMemory>
+        ensures { IfOk result (λ e. e ≡ prefixed op token inner) }
+    {
+        let kind = ExprKind::One(op, Boxed::new(self.alloc, inner)?);
+        Ok(Expr { token, kind })
+    }
+
+    /// An expression behind operators, the last of which is the innermost.
+    pub(crate) fn all_prefixed(
+        &self,
+        op: OneOp,
+        tokens: List<Lexeme>,
+        inner: Expr,
+    ) -> Result<Expr, NoMemory>
+        ensures { IfOk result (λ e. e ≡ all_prefixed op tokens inner) }
+    {
+        let mut tokens = tokens;
+        let mut whole = inner;
+        while let Some(lexeme) = tokens.pop() {
+            whole = self.prefixed(op, lexeme.number, whole)?;
+        }
+        Ok(whole)
+    }
+
+    /// An operator between two expressions.
+    pub(crate) fn paired(&self, op: TwoOp, left: Expr, right: Expr) -> Result<Expr, NoMemory>
+        ensures { IfOk result (λ e. e ≡ paired op left right) }
+    {
+        let token = left.token;
+        let left = Boxed::new(self.alloc, left)?;
+        let right = Boxed::new(self.alloc, right)?;
+        let kind = ExprKind::Two(op, left, right);
+        Ok(Expr { token, kind })
+    }
+
+    /// A comparison.
+    #[tactic(auto, unfolding(mv_ast::specs::Grammar::op))]
+    pub(crate) fn comparison(&self, at: usize) -> Result<(Op, usize), Stop>
+        ensures { Reads self.now at op result }
+    {
+        if self.has(at, Terminal::Equal) {
+            let (_, at) = self.one(at, Terminal::Equal)?;
+            return Ok((Op::Eq, at));
+        }
+        if self.has(at, Terminal::NotEqual) {
+            let (_, at) = self.one(at, Terminal::NotEqual)?;
+            return Ok((Op::Ne, at));
+        }
+        if self.has(at, Terminal::Less) {
+            let (_, at) = self.one(at, Terminal::Less)?;
+            return Ok((Op::Lt, at));
+        }
+        if self.has(at, Terminal::LessOrEqual) {
+            let (_, at) = self.one(at, Terminal::LessOrEqual)?;
+            return Ok((Op::Le, at));
+        }
+        if self.has(at, Terminal::Greater) {
+            let (_, at) = self.one(at, Terminal::Greater)?;
+            return Ok((Op::Gt, at));
+        }
+        let (_, at) = self.one(at, Terminal::GreaterOrEqual)?;
+        Ok((Op::Ge, at))
+    }
+
+    /// An operator of products.
+    #[tactic(auto, unfolding(mv_ast::specs::Grammar::term_op))]
+    pub(crate) fn term_operator(&self, at: usize) -> Result<(TwoOp, usize), Stop>
+        ensures { Reads self.now at term_op result }
+    {
+        if self.has(at, Terminal::Star) {
+            let (_, at) = self.one(at, Terminal::Star)?;
+            return Ok((TwoOp::Mul, at));
+        }
+        if self.has(at, Terminal::Slash) {
+            let (_, at) = self.one(at, Terminal::Slash)?;
+            return Ok((TwoOp::Div, at));
+        }
+        let (_, at) = self.one(at, Terminal::Percent)?;
+        Ok((TwoOp::Rem, at))
+    }
+
+    /// An operator of sums.
+    #[tactic(auto, unfolding(mv_ast::specs::Grammar::sum_op))]
+    pub(crate) fn sum_operator(&self, at: usize) -> Result<(TwoOp, usize), Stop>
+        ensures { Reads self.now at sum_op result }
+    {
+        if self.has(at, Terminal::Plus) {
+            let (_, at) = self.one(at, Terminal::Plus)?;
+            return Ok((TwoOp::Add, at));
+        }
+        if self.has(at, Terminal::Minus) {
+            let (_, at) = self.one(at, Terminal::Minus)?;
+            return Ok((TwoOp::Sub, at));
+        }
+        let (_, at) = self.one(at, Terminal::Bars)?;
+        Ok((TwoOp::Join, at))
+    }
+
+    /// A variable, or a column of a loop's row.
+    #[tactic(auto, unfolding(mv_ast::specs::Grammar::variable_expr))]
+    pub(crate) fn variable_expr(&self, at: usize) -> Result<(Expr, usize), Stop>
+        ensures { Reads self.now at variable_expr result }
+    {
+        let (name, at) = self.variable(at)?;
+        let token = name.token;
+        if !self.has(at, Terminal::Dot) {
+            let kind = ExprKind::Var(name);
+            return Ok((Expr { token, kind }, at));
+        }
+        let (_, at) = self.one(at, Terminal::Dot)?;
+        let (column, at) = self.name(at)?;
+        let kind = ExprKind::Field(name, column);
+        Ok((Expr { token, kind }, at))
+    }
+}

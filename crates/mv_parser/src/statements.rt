@@ -1,0 +1,201 @@
+//! Statements that hold no others.
+
+ghost use Rattle.std.specs.Prelude.{◌≡◌, ℕ, drop};
+ghost use Rattle.mv_ast.specs.declared.lexeme.Terminal.TheVariants as word;
+ghost use Rattle.mv_ast.specs.declared.tree.Stmt.{Stmt};
+ghost use Rattle.mv_ast.specs.Grammar.{commas, variable, assign, select_columns, total, select, insert, update, delete, print, rollback};
+ghost use Rattle.mv_parser.specs.Answers.{Reads, ReadsFor};
+
+use crate::fault::Stop;
+use crate::reader::Reader;
+use mv_ast::lexeme::Terminal;
+use mv_ast::tree::{Name, Stmt};
+use mv_values::list::List;
+
+impl Reader<'_> {
+    /// Variables between commas.
+    #[tactic(auto, using(crate::proofs::Turns::more_turn, crate::proofs::Turns::more_stop))]
+    fn variables(&self, at: usize) -> Result<(List<Name>, usize), Stop>
+        ensures { Reads self.now at (λ bytes. commas (variable bytes)) result }
+    {
+        let (first, at) = self.variable(at)?;
+        let mut all = List::new(self.alloc);
+        all.push(first)?;
+        let mut here = at;
+        for _turn in 0..self.left(at) {
+            if !self.has(here, Terminal::Comma) {
+                return Ok((all, here));
+            }
+            let (_, behind) = self.one(here, Terminal::Comma)?;
+            let (next, behind) = self.variable(behind)?;
+            all.push(next)?;
+            here = behind;
+        }
+        Ok((all, here))
+    }
+
+    /// SET of a variable.
+    #[tactic(auto, unfolding(mv_ast::specs::Grammar::assign))]
+    pub(crate) fn assign(&self, at: usize) -> Result<(Stmt, usize), Stop>
+        ensures { Reads self.now at assign result }
+    {
+        let (token, at) = self.place(at, Terminal::Set)?;
+        let (to, at) = self.variable(at)?;
+        let (_, at) = self.one(at, Terminal::Equal)?;
+        let (right, at) = self.expression(at)?;
+        let (_, at) = self.one(at, Terminal::Semicolon)?;
+        Ok((Stmt::Assign { token, to, right }, at))
+    }
+
+    /// SELECT into variables.
+    #[tactic(auto, using(crate::proofs::Firsts::first_select_columns), unfolding(mv_ast::specs::Grammar::select))]
+    pub(crate) fn select(&self, at: usize) -> Result<(Stmt, usize), Stop>
+        ensures { Reads self.now at select result }
+    {
+        let (token, at) = self.place(at, Terminal::Select)?;
+        if self.has(at, Terminal::Name) {
+            self.select_columns(at, token)
+        } else {
+            self.total(at, token)
+        }
+    }
+
+    /// SELECT of columns, behind its first word.
+    #[tactic(auto, unfolding(mv_ast::specs::Grammar::select_columns))]
+    fn select_columns(&self, at: usize, token: u32) -> Result<(Stmt, usize), Stop>
+        ensures { ReadsFor self.now at select_columns (λ f. f token) result }
+    {
+        let (columns, at) = self.separated(at, Terminal::Comma)?;
+        let (_, at) = self.one(at, Terminal::Into)?;
+        let (to, at) = self.variables(at)?;
+        let (_, at) = self.one(at, Terminal::From)?;
+        let (table, at) = self.name(at)?;
+        let (conds, at) = self.conds(at)?;
+        let (sorts, at) = self.sorts(at)?;
+        let (offset, at) = self.offset(at)?;
+        let (_, at) = self.one(at, Terminal::Semicolon)?;
+        Ok((
+            Stmt::Select {
+                token,
+                columns,
+                to,
+                table,
+                conds,
+                sorts,
+                offset,
+            },
+            at,
+        ))
+    }
+
+    /// SELECT of a sum over rows, behind its first word.
+    #[tactic(auto, unfolding(mv_ast::specs::Grammar::total))]
+    fn total(&self, at: usize, token: u32) -> Result<(Stmt, usize), Stop>
+        ensures { ReadsFor self.now at total (λ f. f token) result }
+    {
+        let (agg, at) = self.aggregate(at)?;
+        let (_, at) = self.one(at, Terminal::Into)?;
+        let (to, at) = self.variable(at)?;
+        let (_, at) = self.one(at, Terminal::From)?;
+        let (table, at) = self.name(at)?;
+        let (conds, at) = self.conds(at)?;
+        let (_, at) = self.one(at, Terminal::Semicolon)?;
+        Ok((
+            Stmt::Total {
+                token,
+                agg,
+                to,
+                table,
+                conds,
+            },
+            at,
+        ))
+    }
+
+    /// INSERT.
+    #[tactic(auto, unfolding(mv_ast::specs::Grammar::insert))]
+    pub(crate) fn insert(&self, at: usize) -> Result<(Stmt, usize), Stop>
+        ensures { Reads self.now at insert result }
+    {
+        let (token, at) = self.place(at, Terminal::Insert)?;
+        let (_, at) = self.one(at, Terminal::Into)?;
+        let (table, at) = self.name(at)?;
+        let (_, at) = self.one(at, Terminal::Values)?;
+        let (_, at) = self.one(at, Terminal::Open)?;
+        let (values, at) = self.separated(at, Terminal::Comma)?;
+        let (_, at) = self.one(at, Terminal::Close)?;
+        let (_, at) = self.one(at, Terminal::Semicolon)?;
+        Ok((
+            Stmt::Insert {
+                token,
+                table,
+                values,
+            },
+            at,
+        ))
+    }
+
+    /// UPDATE.
+    #[tactic(auto, unfolding(mv_ast::specs::Grammar::update))]
+    pub(crate) fn update(&self, at: usize) -> Result<(Stmt, usize), Stop>
+        ensures { Reads self.now at update result }
+    {
+        let (token, at) = self.place(at, Terminal::Update)?;
+        let (table, at) = self.name(at)?;
+        let (_, at) = self.one(at, Terminal::Set)?;
+        let (items, at) = self.separated(at, Terminal::Comma)?;
+        let (conds, at) = self.conds(at)?;
+        let (_, at) = self.one(at, Terminal::Semicolon)?;
+        Ok((
+            Stmt::Update {
+                token,
+                table,
+                items,
+                conds,
+            },
+            at,
+        ))
+    }
+
+    /// DELETE.
+    #[tactic(auto, unfolding(mv_ast::specs::Grammar::delete))]
+    pub(crate) fn delete(&self, at: usize) -> Result<(Stmt, usize), Stop>
+        ensures { Reads self.now at delete result }
+    {
+        let (token, at) = self.place(at, Terminal::Delete)?;
+        let (_, at) = self.one(at, Terminal::From)?;
+        let (table, at) = self.name(at)?;
+        let (conds, at) = self.conds(at)?;
+        let (_, at) = self.one(at, Terminal::Semicolon)?;
+        Ok((
+            Stmt::Delete {
+                token,
+                table,
+                conds,
+            },
+            at,
+        ))
+    }
+
+    /// PRINT.
+    #[tactic(auto, unfolding(mv_ast::specs::Grammar::print))]
+    pub(crate) fn print(&self, at: usize) -> Result<(Stmt, usize), Stop>
+        ensures { Reads self.now at print result }
+    {
+        let (token, at) = self.place(at, Terminal::Print)?;
+        let (values, at) = self.separated(at, Terminal::Comma)?;
+        let (_, at) = self.one(at, Terminal::Semicolon)?;
+        Ok((Stmt::Print { token, values }, at))
+    }
+
+    /// ROLLBACK.
+    #[tactic(auto, unfolding(mv_ast::specs::Grammar::rollback))]
+    pub(crate) fn rollback(&self, at: usize) -> Result<(Stmt, usize), Stop>
+        ensures { Reads self.now at rollback result }
+    {
+        let (token, at) = self.place(at, Terminal::Rollback)?;
+        let (reason, at) = self.quoted(at)?;
+        let (_, at) = self.one(at, Terminal::Semicolon)?;
+        Ok((Stmt::Rollback { token, reason }, at))
+    }
+}
