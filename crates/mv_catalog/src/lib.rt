@@ -1,0 +1,5 @@
+//! Names, types and places: from the tree of a script to a program.
+#![tactic(auto)]
+
+pub mod first;
+pub mod resolved;

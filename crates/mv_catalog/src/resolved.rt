@@ -1,0 +1,163 @@
+//! A program with its names replaced by numbers. Tables, columns, procedures and calls are numbered by place, from 0.
+//! The variables of a procedure are numbered in this order: parameters, declared variables, `:found`, and the loop
+//! rows in the order of their FORs in the text.
+
+use mv_ast::tree::{OneOp, TwoOp};
+use mv_values::boxed::Boxed;
+use mv_values::calls::Call;
+use mv_values::list::List;
+use mv_values::op::Op;
+use mv_values::rows::Database;
+use mv_values::schema::{ColType, TableInfo};
+use mv_values::txt::Txt;
+use mv_values::value::{Row, Value};
+
+/// The type of a parameter: a value, or rows of values.
+#[derive(Drop)]
+pub enum ParamInfo {
+    One(ColType),
+    Many(List<ColType>),
+}
+
+/// A procedure. `defaults` are the first values of its declared variables.
+#[derive(Drop)]
+pub struct ProcInfo {
+    pub name: Txt,
+    pub params: List<ParamInfo>,
+    pub defaults: List<Value>,
+    pub body: List<RStmt>,
+}
+
+/// A block of the script's bytes that fills a table, or the journal (whose table is 0).
+#[derive(Clone, Copy, Debug, PartialEq, Eq)]
+pub struct CopyInfo {
+    pub table: u8,
+    pub at: u32,
+    pub len: u32,
+    pub closed: bool,
+}
+
+/// A script without its names. `rows` are the rows of VALUES, for each table.
+#[derive(Drop)]
+pub struct Resolved {
+    pub tables: List<TableInfo>,
+    pub rows: List<List<Row>>,
+    pub procedures: List<ProcInfo>,
+    pub copies: List<CopyInfo>,
+    pub calls: List<Call>,
+    pub journal: Option<CopyInfo>,
+}
+
+/// An accepted script: what it resolves to, and the database that its calls begin with.
+#[derive(Drop)]
+pub struct Program {
+    pub resolved: Resolved,
+    pub opening: Database,
+}
+
+/// A test of WHERE.
+#[derive(Drop)]
+pub struct RCond {
+    pub column: u16,
+    pub op: Op,
+    pub right: RExpr,
+}
+
+#[derive(Clone, Copy, Debug, PartialEq, Eq)]
+pub struct RSort {
+    pub column: u16,
+    pub descending: bool,
+}
+
+#[derive(Clone, Copy, Debug, PartialEq, Eq)]
+pub enum RAgg {
+    CountAll,
+    CountDistinct(u16),
+    Sum(u16),
+    Min(u16),
+    Max(u16),
+}
+
+#[derive(Drop)]
+pub struct RSetItem {
+    pub column: u16,
+    pub right: RExpr,
+}
+
+#[derive(Drop)]
+pub enum RStmt {
+    Assign {
+        to: u16,
+        right: RExpr,
+    },
+    Select {
+        columns: List<u16>,
+        to: List<u16>,
+        table: u16,
+        conds: List<RCond>,
+        sorts: List<RSort>,
+        offset: Option<RExpr>,
+    },
+    Total {
+        agg: RAgg,
+        to: u16,
+        table: u16,
+        conds: List<RCond>,
+    },
+    ForSelect {
+        row: u16,
+        distinct: bool,
+        columns: List<u16>,
+        table: u16,
+        conds: List<RCond>,
+        sorts: List<RSort>,
+        body: List<RStmt>,
+    },
+    ForRows {
+        row: u16,
+        rows: u16,
+        body: List<RStmt>,
+    },
+    Branch {
+        test: RExpr,
+        yes: List<RStmt>,
+        no: List<RStmt>,
+    },
+    Insert {
+        table: u16,
+        values: List<RExpr>,
+    },
+    Update {
+        table: u16,
+        items: List<RSetItem>,
+        conds: List<RCond>,
+    },
+    Delete {
+        table: u16,
+        conds: List<RCond>,
+    },
+    Print {
+        values: List<RExpr>,
+    },
+    Rollback {
+        reason: Txt,
+    },
+}
+
+#[cycle(expr)]
+#[derive(Drop)]
+pub struct RExpr {
+    pub kind: RExprKind,
+}
+
+#[cycle(expr)]
+#[derive(Drop)]
+pub enum RExprKind {
+    Const(Value),
+    Var(u16),
+    /// A column of a loop's row: the loop's variable, and the place in its row.
+    Field(u16, u16),
+    Col(u16),
+    One(OneOp, Boxed<RExpr>),
+    Two(TwoOp, Boxed<RExpr>, Boxed<RExpr>),
+}
