@@ -1,0 +1,14 @@
+pub mod Containing
+pub mod Putting
+pub mod Undone
+pub mod Sorting
+pub mod Updating
+pub mod Tabling
+pub mod Counting
+pub mod Numbers
+pub mod InOrder
+pub mod InTurn
+pub mod Placing
+pub mod Removing
+pub mod Totalling
+pub mod Once

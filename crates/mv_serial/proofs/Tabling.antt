@@ -1,0 +1,53 @@
+-- Statements that change a table, from what becomes of its rows.
+use Rattle.std.proofs.Common.{◌≡◌, ℕ, Bool, List, Result, Ok, Err, slice_set, refl, ap, ◌∙◌}
+use Rattle.mv_values.specs.declared.rows.Keyed.{Keyed}
+use Rattle.mv_values.specs.declared.schema.TableInfo.{TableInfo}
+use Rattle.mv_values.specs.declared.calls.End.{End}
+use Rattle.mv_catalog.specs.Fits.{key_columns, columns_at, rows_at}
+use Rattle.mv_catalog.specs.declared.resolved.RCond.{RCond}
+use Rattle.mv_catalog.specs.declared.resolved.RSetItem.{RSetItem}
+use Rattle.mv_serial.specs.declared.state.Check.{Check}
+use Rattle.mv_serial.specs.declared.state.State.{State}
+use Rattle.mv_serial.specs.declared.state.Stop.{Stop}
+use Rattle.mv_serial.specs.declared.state.Stop.TheVariants.{Memory, Ended}
+use Rattle.mv_serial.specs.Outcome.{then_do, Fails}
+use Rattle.mv_serial.specs.Env.{with_found}
+use Rattle.mv_serial.specs.Rows.{checks_of, is_some_row}
+use Rattle.mv_serial.specs.Changes.{set_row, updated}
+use Rattle.mv_serial.specs.Alone.{update, matches, with_rows}
+use Rattle.mv_serial.proofs.Undone.{Tables}
+
+-- the database with the rows that a table gets
+abbrev pub table_with : Tables → ℕ → Result (List Keyed) End → Result Tables End
+table_with db t r = then_do r (λ rows. Ok (slice_set db t rows))
+
+tables_ok : {new : Tables} (db : Tables) (t : ℕ) (rows : List Keyed) → ◌≡◌ {A = Result Tables End} (Ok (slice_set db t rows)) (Ok new) → slice_set db t rows ≡ new
+tables_ok db t rows h = cc
+
+state_made : (r : Result (List Keyed) End) (t : ℕ) (found : Bool) (st : State) (new : Tables) → table_with st.tables t r ≡ Ok new
+    → then_do r (λ rows. Ok (with_rows t rows found st)) ≡ Ok (record st { env = with_found st.env found; tables = new })
+state_made (Ok rows) t found st new h = ap (λ (d : Tables). Ok (record st { env = with_found st.env found; tables = d })) (tables_ok st.tables t rows h)
+state_made (Err e) t found st new h = cc
+
+state_failed : {B : Type 0} (r : Result (List Keyed) End) (db : Tables) (t : ℕ) (go : List Keyed → Result B End) (e : End) → table_with db t r ≡ Err e → then_do r go ≡ Err e
+state_failed (Ok rows) db t go e h = cc
+state_failed (Err f) db t go e h = let same : f ≡ e = cc in ap Err same
+
+-- the rows that UPDATE gives a table
+abbrev pub updated_at : List TableInfo → ℕ → List RSetItem → List Check → State → Result (List Keyed) End
+updated_at tables t items checks st = updated (λ row. set_row (columns_at tables t) (key_columns tables t) st.env row items row) checks (rows_at st.tables t)
+
+update_on : (tables : List TableInfo) (t : ℕ) (items : List RSetItem) (conds : List RCond) (st : State) (checks : List Check) → checks_of conds st.env ≡ Ok checks
+    → update tables t items conds st ≡ then_do (updated_at tables t items checks st) (λ rows. Ok (with_rows t rows (is_some_row (matches t checks st)) st))
+update_on tables t items conds st checks h = rw h refl
+
+pub update_ok : (tables : List TableInfo) (t : ℕ) (items : List RSetItem) (conds : List RCond) (st : State) (checks : List Check) (new : Tables) → checks_of conds st.env ≡ Ok checks
+    → table_with st.tables t (updated_at tables t items checks st) ≡ Ok new
+    → update tables t items conds st ≡ Ok (record st { env = with_found st.env (is_some_row (matches t checks st)); tables = new })
+update_ok tables t items conds st checks new h k = update_on tables t items conds st checks h ∙ state_made (updated_at tables t items checks st) t (is_some_row (matches t checks st)) st new k
+
+pub update_fails : (tables : List TableInfo) (t : ℕ) (items : List RSetItem) (conds : List RCond) (st : State) (checks : List Check) (s : Stop) → checks_of conds st.env ≡ Ok checks
+    → Fails s (table_with st.tables t (updated_at tables t items checks st)) → Fails s (update tables t items conds st)
+update_fails tables t items conds st checks Memory h k = tt
+update_fails tables t items conds st checks (Ended e) h k =
+    update_on tables t items conds st checks h ∙ state_failed (updated_at tables t items checks st) st.tables t (λ rows. Ok (with_rows t rows (is_some_row (matches t checks st)) st)) e k

@@ -1,0 +1,21 @@
+use Rattle.std.proofs.Common.{◌≡◌, ◌<◌, rules, length, ap, ◌∙◌}
+use Rattle.mv_serial.proofs.InTurn.{length_replies, all_replied, others_silent, place_within}
+use Rattle.mv_serial.proofs.calls.run_alone.Goals as goal
+
+pub set-requires : goal.set-requires
+set-requires c =
+    let lt : c.loop-i.i < length c.args.order.now = search rules in
+    place_within c.args.program.now c.args.order.now c.loop-i.i c.loop-i.replies c.requires.order lt c.loop-i.invariant.replies
+
+pub returns-clause-len : goal.returns-clause-len
+returns-clause-len c = ap length c.loop-i.invariant.replies ∙ length_replies c.args.program.now c.args.order.now c.loop-i.i
+
+pub returns-clause-replies : goal.returns-clause-replies
+returns-clause-replies c =
+    let all : c.loop-i.i ≡ length c.args.order.now = search rules in
+    all_replied c.args.program.now c.args.order.now c.loop-i.i c.loop-i.replies c.requires.order all c.loop-i.invariant.replies
+
+pub returns-clause-others : goal.returns-clause-others
+returns-clause-others c =
+    let all : c.loop-i.i ≡ length c.args.order.now = search rules in
+    others_silent c.args.program.now c.args.order.now c.loop-i.i c.loop-i.replies all c.loop-i.invariant.replies

@@ -1,0 +1,25 @@
+-- The line that PRINT adds.
+use Rattle.std.specs.Prelude.{ℕ, List, [], ◌∷◌, ◌++◌, if◌then◌else◌, ◌==◌}
+use Rattle.std.specs.Fmt.{signed_decimal}
+use Rattle.mv_values.specs.declared.value.Value.{Value}
+use Rattle.mv_values.specs.declared.value.Value.TheVariants.{Int, Text}
+
+-- each quote doubled
+abbrev pub doubled : List ℕ → List ℕ
+doubled [] = []
+doubled (b ∷ bs) = if b == 39 then 39 ∷ 39 ∷ doubled bs else b ∷ doubled bs
+
+-- a number in decimal digits, a text in single quotes
+abbrev pub printed : Value → List ℕ
+printed (Int z) = signed_decimal z
+printed (Text t) = 39 ∷ (doubled t ++ 39 ∷ [])
+
+-- a comma before each value
+abbrev pub printed_after : List Value → List ℕ
+printed_after [] = []
+printed_after (v ∷ vs) = 44 ∷ (printed v ++ printed_after vs)
+
+-- values joined by commas
+abbrev pub line_of : List Value → List ℕ
+line_of [] = []
+line_of (v ∷ vs) = printed v ++ printed_after vs

@@ -1,0 +1,112 @@
+//! INSERT.
+
+ghost use Rattle.std.specs.Prelude.{◌≡◌, Ok, IfOk, MatchResult, slice_set};
+ghost use Rattle.mv_values.specs.Keys.{IsRising, IsPlaceOf, IsGapFor};
+ghost use Rattle.mv_values.specs.Columns.{columns_of};
+ghost use Rattle.mv_catalog.specs.Fits.{rows_at};
+ghost use Rattle.mv_serial.specs.Outcome.{Gives, Leaves, then_do};
+ghost use Rattle.mv_serial.specs.Changes.{new_row, put_row, keyed};
+ghost use Rattle.mv_serial.specs.Alone.{insert};
+ghost use Rattle.mv_serial.specs.Undoing.{StaysUndoable};
+
+use crate::change::fit_to;
+use crate::env::{column, set_found};
+use crate::expr::value;
+use crate::find::{columns_in, key_in};
+use crate::state::{Env, State, Stop};
+use crate::undo::{Undo, add_row};
+use mv_catalog::resolved::RExpr;
+use mv_values::calls::End;
+use mv_values::list::List;
+use mv_values::memory::NoMemory;
+use mv_values::rows::{Database, Keyed};
+use mv_values::schema::{Column, TableInfo};
+use mv_values::value::{Key, Row, Value};
+use std::alloc::Global;
+
+/// The values of a new row, each fitted to its column.
+fn made_row(alloc: Global, columns: &[Column], exprs: &[RExpr], env: &Env) -> Result<Row, Stop>
+    ensures { Gives result (new_row columns.now exprs.now env.now) }
+{
+    let mut row = List::new(alloc);
+    for (i, column) in columns.iter().enumerate() {
+        let Some(expr) = exprs.get(i) else {
+            return Ok(row);
+        };
+        let v = value(alloc, expr, env, &[])?;
+        row.push(fit_to(column.kind, v)?)?;
+    }
+    Ok(row)
+}
+
+/// The key of a row: its values of the key columns.
+fn key_from(alloc: Global, keys: &[u8], row: &[Value]) -> Result<Key, NoMemory>
+    ensures { IfOk result (λ key. key ≡ columns_of row.now keys.now) }
+{
+    let mut key = List::new(alloc);
+    for c in keys {
+        key.push(column(alloc, row, *c as u16)?)?;
+    }
+    Ok(key)
+}
+
+/// A row under its key.
+fn under_key(alloc: Global, keys: &[u8], row: Row) -> Result<Keyed, NoMemory>
+    ensures { IfOk result (λ item. item ≡ keyed keys.now row) }
+{
+    let key = key_from(alloc, keys, row.as_slice())?;
+    Ok(Keyed { key, row })
+}
+
+/// The place of the row with the key, or the place at which it would stand.
+fn place_in(tables: &Database, table: u16, key: &[Value]) -> Result<usize, usize>
+    ensures rising { IsRising (rows_at tables.now table) }
+    ensures place { MatchResult result (IsPlaceOf (rows_at tables.now table) key.now) (IsGapFor (rows_at tables.now table) key.now) }
+{
+    match tables.as_slice().get(table as usize) {
+        Some(rows) => rows.place_of(key),
+        None => Err(0),
+    }
+}
+
+/// Puts a row into its place by key, unless its key is there. Where there is no table, it is put nowhere.
+fn put_new(
+    alloc: Global,
+    tables: &mut Database,
+    undo: &mut List<Undo>,
+    table: u16,
+    item: Keyed,
+) -> Result<(), Stop>
+    ensures rows { Leaves result tables.new (then_do (put_row item (rows_at tables.old table)) (λ rows. Ok (slice_set tables.old table rows))) }
+    ensures undo { StaysUndoable result undo.old tables.old undo.new tables.new }
+{
+    if table as usize >= tables.len() {
+        return Ok(());
+    }
+    match place_in(tables, table, item.key.as_slice()) {
+        Ok(_) => Err(Stop::Ended(End::Duplicate)),
+        Err(at) => {
+            add_row(alloc, tables, undo, table, at, item)?;
+            Ok(())
+        }
+    }
+}
+
+/// INSERT.
+pub(crate) fn run_insert(
+    alloc: Global,
+    tables: &[TableInfo],
+    table: u16,
+    values: &[RExpr],
+    state: &mut State,
+    undo: &mut List<Undo>,
+) -> Result<(), Stop>
+    ensures does { Leaves result state.new (insert tables.now table values.now state.old) }
+    ensures undo { StaysUndoable result undo.old state.old.tables undo.new state.new.tables }
+{
+    let row = made_row(alloc, columns_in(tables, table), values, &state.env)?;
+    let item = under_key(alloc, key_in(tables, table), row)?;
+    put_new(alloc, &mut state.tables, undo, table, item)?;
+    set_found(&mut state.env, true)?;
+    Ok(())
+}

@@ -1,0 +1,18 @@
+//! The whole-table machine: what procedures do when their calls run alone, one after another.
+#![tactic(auto)]
+
+pub mod calls;
+mod change;
+mod deleting;
+mod env;
+mod expr;
+mod find;
+mod fixing;
+mod inserting;
+mod line;
+mod order;
+mod run;
+pub mod state;
+mod statements;
+mod totals;
+mod undo;

@@ -1,0 +1,266 @@
+//! Statements one after another, and those that hold others.
+
+ghost use Rattle.std.specs.Prelude.{◌≡◌, ◌+◌, ◌++◌, [], drop, Ok, OnOk};
+ghost use Rattle.mv_serial.specs.Outcome.{Gives, Leaves, Rises, then_do};
+ghost use Rattle.mv_serial.specs.Value.{value_of, is_so};
+ghost use Rattle.mv_serial.specs.Alone.{alone, does, loop_over, for_rows, for_select};
+ghost use Rattle.mv_serial.specs.Executed.{count, counted, count_loop, count_rows, count_select};
+ghost use Rattle.mv_serial.specs.Undoing.{StaysUndoable};
+
+use crate::deleting::run_delete;
+use crate::env::{copied_turns, set_found, set_held};
+use crate::expr::{holds, value};
+use crate::find::{checks_from, rows_in};
+use crate::fixing::fixed_rows;
+use crate::inserting::run_insert;
+use crate::run::{run_assign, run_print, run_select, run_update};
+use crate::state::{Env, Held, State, Stop};
+use crate::totals::run_total;
+use crate::undo::Undo;
+use mv_catalog::resolved::{RCond, RExpr, RSort, RStmt};
+use mv_values::calls::End;
+use mv_values::copied::Copied;
+use mv_values::list::List;
+use mv_values::memory::NoMemory;
+use mv_values::schema::TableInfo;
+use mv_values::value::Row;
+use std::alloc::Global;
+
+/// Counts one more.
+fn count_one(steps: &mut usize) -> Result<(), NoMemory>
+    ensures { OnOk result (steps.new ≡ steps.old + 1) }
+{
+    *steps = match steps.checked_add(1) {
+        Some(n) => n,
+        None => return Err(NoMemory),
+    };
+    Ok(())
+}
+
+/// Whether an IF takes its first branch.
+fn takes(alloc: Global, test: &RExpr, env: &Env) -> Result<bool, Stop>
+    ensures { Gives result (then_do (value_of test.now env.now []) (λ v. Ok (is_so v))) }
+{
+    let v = value(alloc, test, env, &[])?;
+    Ok(holds(&v))
+}
+
+/// Runs statements, one after another.
+#[cycle(statements)]
+pub(crate) fn run_all(
+    alloc: Global,
+    tables: &[TableInfo],
+    statements: &[RStmt],
+    state: &mut State,
+    undo: &mut List<Undo>,
+    steps: &mut usize,
+) -> Result<(), Stop>
+    ensures does { Leaves result state.new (alone tables.now statements.now state.old) }
+    ensures undo { StaysUndoable result undo.old state.old.tables undo.new state.new.tables }
+    ensures count { Rises result steps.old (counted tables.now statements.now state.old) steps.new }
+{
+    for statement in statements {
+        run_one(alloc, tables, statement, state, undo, steps)?;
+    }
+    Ok(())
+}
+
+/// Runs one statement.
+#[cycle(statements)]
+#[tactic(auto, using(crate::proofs::Counting::count_out, crate::proofs::Counting::named, crate::proofs::Counting::rises_more, crate::proofs::Counting::rises_one, crate::proofs::Counting::stays_same))]
+fn run_one(
+    alloc: Global,
+    tables: &[TableInfo],
+    statement: &RStmt,
+    state: &mut State,
+    undo: &mut List<Undo>,
+    steps: &mut usize,
+) -> Result<(), Stop>
+    ensures does { Leaves result state.new (does tables.now statement.now state.old) }
+    ensures undo { StaysUndoable result undo.old state.old.tables undo.new state.new.tables }
+    ensures count { Rises result steps.old (count tables.now statement.now state.old) steps.new }
+{
+    count_one(steps)?;
+    match statement {
+        RStmt::Assign { to, right } => run_assign(alloc, *to, right, state),
+        RStmt::Select {
+            columns,
+            to,
+            table,
+            conds,
+            sorts,
+            offset,
+        } => run_select(
+            alloc,
+            columns.as_slice(),
+            to.as_slice(),
+            *table,
+            conds.as_slice(),
+            sorts.as_slice(),
+            offset,
+            state,
+        ),
+        RStmt::Branch { test, yes, no } => {
+            if takes(alloc, test, &state.env)? {
+                run_all(alloc, tables, yes.as_slice(), state, undo, steps)
+            } else {
+                run_all(alloc, tables, no.as_slice(), state, undo, steps)
+            }
+        }
+        RStmt::ForRows { row, rows, body } => {
+            run_rows(
+                alloc,
+                tables,
+                *row,
+                *rows,
+                body.as_slice(),
+                state,
+                undo,
+                steps,
+            )
+        }
+        RStmt::Total {
+            agg,
+            to,
+            table,
+            conds,
+        } => run_total(alloc, *agg, *to, *table, conds.as_slice(), state),
+        RStmt::ForSelect {
+            row,
+            distinct,
+            columns,
+            table,
+            conds,
+            sorts,
+            body,
+        } => {
+            run_turns(
+                alloc,
+                tables,
+                *row,
+                *distinct,
+                columns.as_slice(),
+                *table,
+                conds.as_slice(),
+                sorts.as_slice(),
+                body.as_slice(),
+                state,
+                undo,
+                steps,
+            )
+        }
+        RStmt::Update {
+            table,
+            items,
+            conds,
+        } => run_update(
+            alloc,
+            tables,
+            *table,
+            items.as_slice(),
+            conds.as_slice(),
+            state,
+            undo,
+        ),
+        RStmt::Print { values } => run_print(alloc, values.as_slice(), state),
+        RStmt::Rollback { reason } => Err(Stop::Ended(End::Own(reason.copy(alloc)?))),
+        RStmt::Insert { table, values } => {
+            run_insert(alloc, tables, *table, values.as_slice(), state, undo)
+        }
+        RStmt::Delete { table, conds } => run_delete(alloc, *table, conds.as_slice(), state, undo),
+    }
+}
+
+/// FOR over SELECT.
+#[cycle(statements)]
+fn run_turns(
+    alloc: Global,
+    tables: &[TableInfo],
+    row: u16,
+    once: bool,
+    columns: &[u16],
+    table: u16,
+    conds: &[RCond],
+    sorts: &[RSort],
+    body: &[RStmt],
+    state: &mut State,
+    undo: &mut List<Undo>,
+    steps: &mut usize,
+) -> Result<(), Stop>
+    ensures does { Leaves result state.new (for_select row once columns.now table conds.now sorts.now (alone tables.now body.now) state.old) }
+    ensures undo { StaysUndoable result undo.old state.old.tables undo.new state.new.tables }
+    ensures count { Rises result steps.old (count_select row once columns.now table conds.now sorts.now (alone tables.now body.now) (counted tables.now body.now) state.old) steps.new }
+{
+    let checks = checks_from(alloc, conds, &state.env)?;
+    let rows = fixed_rows(
+        alloc,
+        once,
+        columns,
+        sorts,
+        checks.as_slice(),
+        rows_in(&state.tables, table),
+    )?;
+    run_loop(
+        alloc,
+        tables,
+        row,
+        body,
+        rows.as_slice(),
+        state,
+        undo,
+        steps,
+    )
+}
+
+/// FOR over a ROWS parameter.
+#[cycle(statements)]
+fn run_rows(
+    alloc: Global,
+    tables: &[TableInfo],
+    row: u16,
+    parameter: u16,
+    body: &[RStmt],
+    state: &mut State,
+    undo: &mut List<Undo>,
+    steps: &mut usize,
+) -> Result<(), Stop>
+    ensures does { Leaves result state.new (for_rows row parameter (alone tables.now body.now) state.old) }
+    ensures undo { StaysUndoable result undo.old state.old.tables undo.new state.new.tables }
+    ensures count { Rises result steps.old (count_rows row parameter (alone tables.now body.now) (counted tables.now body.now) state.old) steps.new }
+{
+    let rows = copied_turns(alloc, &state.env, parameter)?;
+    run_loop(
+        alloc,
+        tables,
+        row,
+        body,
+        rows.as_slice(),
+        state,
+        undo,
+        steps,
+    )
+}
+
+/// FOR over rows that are fixed.
+#[cycle(statements)]
+fn run_loop(
+    alloc: Global,
+    tables: &[TableInfo],
+    row: u16,
+    body: &[RStmt],
+    rows: &[Row],
+    state: &mut State,
+    undo: &mut List<Undo>,
+    steps: &mut usize,
+) -> Result<(), Stop>
+    ensures does { Leaves result state.new (loop_over row (alone tables.now body.now) rows.now state.old) }
+    ensures undo { StaysUndoable result undo.old state.old.tables undo.new state.new.tables }
+    ensures count { Rises result steps.old (count_loop row (alone tables.now body.now) (counted tables.now body.now) rows.now state.old) steps.new }
+{
+    set_found(&mut state.env, !rows.is_empty())?;
+    for one in rows {
+        set_held(&mut state.env, row as usize, Held::Turn(one.copy(alloc)?))?;
+        run_all(alloc, tables, body, state, undo, steps)?;
+    }
+    Ok(())
+}
