@@ -1,0 +1,7 @@
+use Rattle.std.proofs.Common.{◌≡◌, ◌++◌, take}
+use Rattle.std.specs.List.{flat_map}
+use Rattle.mv_report.specs.Text.{line}
+use Rattle.mv_report.proofs.replies.write_lines.Given as goal
+
+abbrev pub invariant-loop-line : goal.invariant-loop-line
+invariant-loop-line l = l.text ≡ l.fn.text ++ flat_map line (take l.line-index l.lines)
