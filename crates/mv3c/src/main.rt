@@ -1,0 +1,30 @@
+//! The program: standard input to standard output.
+#![tactic(auto)]
+
+use mv_edge::pace::NoPace;
+use mv_edge::std_edge::{StdSink, StdSource};
+use mv_top::status::Status;
+use mv_top::top::top;
+use std::env;
+use std::process::ExitCode;
+
+fn main(rt: HostRuntime) -> ExitCode {
+    let status = match words(&rt) {
+        Some(words) => {
+            let mut source = StdSource::new(rt.stdin());
+            let mut sink = StdSink::new(rt.stdout());
+            top(&rt, rt.alloc(), &words, &mut source, &mut sink, &NoPace)
+        }
+        None => Status::NoMemory,
+    };
+    ExitCode::from(status as u8)
+}
+
+/// The command line's words after the program's name. None where no memory was found.
+fn words(rt: &HostRuntime) -> Option<Vec<String>> {
+    let mut words = Vec::new(rt.alloc());
+    for word in env::args(rt).ok()?.skip(1) {
+        words.push(word).ok()?;
+    }
+    Some(words)
+}

@@ -1,0 +1,10 @@
+//! The top call: from a command and its input to what is written.
+#![tactic(auto)]
+
+pub mod answer;
+mod program;
+pub mod status;
+#[cfg(test)]
+mod tests;
+pub mod top;
+mod turns;

@@ -1,0 +1,46 @@
+//! How a call of the program ends.
+
+use mv_values::memory::NoMemory;
+use mv_values::txt::Txt;
+
+/// What the program ends with. Its number is the exit status.
+#[derive(Clone, Copy, Debug, PartialEq, Eq)]
+pub enum Status {
+    /// The answer was written.
+    Done = 0,
+    /// The input was refused, and the refusal's line was written.
+    Refused = 1,
+    /// The words are no command, and the usage line was written.
+    Usage = 2,
+    /// No memory was found, and nothing was written.
+    NoMemory = 3,
+    /// The source failed, and nothing was written.
+    ReadFault = 4,
+    /// The sink failed, and a proper front of the answer was written.
+    WriteFault = 5,
+}
+
+/// A command that the program takes.
+#[derive(Clone, Copy, Debug, PartialEq, Eq)]
+pub enum Command {
+    /// Runs the calls of a script.
+    Run,
+}
+
+/// Why there is no answer: the input is refused, with the refusal's number and line, or no memory was found.
+#[derive(Drop)]
+pub enum Fault {
+    Refused { number: u32, line: Txt },
+    NoMemory,
+}
+
+impl From<NoMemory> for Fault {
+    ghost use Rattle.std.specs.Prelude.{◌≡◌};
+    ghost use Rattle.mv_top.specs.declared.status.Fault.TheVariants as fault;
+
+    ghost from_gives = { λ _ e. e ≡ fault.NoMemory };
+
+    fn from(_error: NoMemory) -> Fault {
+        Fault::NoMemory
+    }
+}

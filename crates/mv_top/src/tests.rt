@@ -1,0 +1,194 @@
+//! Whole runs over a source and a sink in memory.
+
+use crate::status::Status;
+use crate::top::top;
+use mv_edge::memory_sink::MemorySink;
+use mv_edge::memory_source::MemorySource;
+use mv_edge::pace::NoPace;
+use mv_values::list::List;
+use std::alloc::Global;
+use std::sync::Wait;
+use std::test::Fail;
+use std::thread::Threads;
+
+const ADD: &str = "CREATE TABLE acc (id INT, bal INT, note TEXT(20), PRIMARY KEY (id))
+  VALUES (0, 0, ''), (1, 100, ''), (2, 100, ''), (3, 100, ''), (4, 100, '');
+CREATE PROCEDURE add (:a INT, :x INT) DECLARE :b = 0; BEGIN
+  SELECT bal INTO :b FROM acc WHERE id = :a;  SET :b = :b + :x;
+  UPDATE acc SET bal = :b WHERE id = :a;  PRINT :b;  END;
+";
+
+const ROOM: usize = 1_000_000;
+
+fn list_of(alloc: Global, bytes: &[u8]) -> Result<List<u8>, Fail> {
+    let mut list = List::new(alloc);
+    list.append(bytes)?;
+    Ok(list)
+}
+
+fn calls(alloc: Global, failing: &[u64]) -> Result<List<u64>, Fail> {
+    let mut list = List::new(alloc);
+    list.append(failing)?;
+    Ok(list)
+}
+
+/// The status of a run of these words on this input, and what was written, by a source whose reads of these numbers
+/// fail and a sink with this room.
+fn run<R: Threads + Wait + Sync>(
+    rt: &R,
+    alloc: Global,
+    words: &[&str],
+    input: &[u8],
+    failing_reads: &[u64],
+    room: usize,
+) -> Result<(Status, String), Fail> {
+    let mut all = Vec::new(alloc);
+    for word in words {
+        all.push(String::from_str(alloc, word)?)?;
+    }
+    let mut source = MemorySource::new(list_of(alloc, input)?, calls(alloc, failing_reads)?);
+    let mut sink = MemorySink::new(alloc, room, List::new(alloc))?;
+    let status = top(rt, alloc, &all, &mut source, &mut sink, &NoPace);
+    let written = str::from_utf8(sink.written()).or(Err("no text"))?;
+    Ok((status, String::from_str(alloc, written)?))
+}
+
+/// The script of accounts with these calls.
+fn script(alloc: Global, calls: &str) -> Result<String, Fail> {
+    Ok(format!(in alloc; "{ADD}{calls}")?)
+}
+
+#[test]
+fn runs_give_their_text(rt: HostRuntime) -> Result<(), Fail> {
+    let opening = "0,0,\n1,100,\n2,100,\n3,100,\n4,100,\n";
+    for (name, calls, replies, history, journal, rows) in [
+        (
+            "one call",
+            "CALL add(1, 5);",
+            "reply 0 done\n105\n",
+            "1 0 starts 0 runs 4\n",
+            "B 0\nC 0\n",
+            "0,0,\n1,105,\n2,100,\n3,100,\n4,100,\n",
+        ),
+        (
+            "two calls on one row",
+            "CALL add(1, 5); CALL add(1, 7);",
+            "reply 0 done\n105\nreply 1 done\n112\n",
+            "1 0 starts 0 runs 4\n2 1 starts 1 runs 4\n",
+            "B 0\nC 0\nB 1\nC 1\n",
+            "0,0,\n1,112,\n2,100,\n3,100,\n4,100,\n",
+        ),
+        (
+            "no such row",
+            "CALL add(9, 5);",
+            "reply 0 done\n5\n",
+            "1 0 starts 0 runs 4\n",
+            "B 0\nC 0\n",
+            opening,
+        ),
+        (
+            "overflow rolls back",
+            "CALL add(1, 9223372036854775807);",
+            "reply 0 rolled back overflow\n",
+            "1 0 starts 0 runs 2\n",
+            "B 0\nC 0\n",
+            opening,
+        ),
+        (
+            "negative numbers",
+            "call ADD ( - 1 , 5 ) ; -- no such row\nCALL add(0, -7);",
+            "reply 0 done\n5\nreply 1 done\n-7\n",
+            "1 0 starts 0 runs 4\n2 1 starts 1 runs 4\n",
+            "B 0\nC 0\nB 1\nC 1\n",
+            "0,-7,\n1,100,\n2,100,\n3,100,\n4,100,\n",
+        ),
+        ("no call", "", "", "", "", opening),
+    ] {
+        let alloc = rt.alloc();
+        let input = script(alloc, calls)?;
+        let want = format!(in alloc;
+            "{replies}history\n{history}journal\n{journal}table acc\n{rows}end\n"
+        )?;
+        let (status, written) = run(&rt, rt.alloc(), &["run"], input.as_bytes(), &[], ROOM)?;
+        assert_eq!(rt; status, Status::Done, "{name}");
+        assert_eq!(rt; written.as_str(), want.as_str(), "{name}");
+    }
+    let (status, written) = run(&rt, rt.alloc(), &["run"], b"", &[], ROOM)?;
+    assert_eq!(rt; status, Status::Done);
+    assert_eq!(rt; written.as_str(), "history\njournal\nend\n");
+    Ok(())
+}
+
+#[test]
+fn a_thousand_calls_on_one_row(rt: HostRuntime) -> Result<(), Fail> {
+    let alloc = rt.alloc();
+    let mut input = String::from_str(alloc, ADD)?;
+    let mut replies = String::new(alloc);
+    let mut history = String::new(alloc);
+    let mut journal = String::new(alloc);
+    for call in 0..1000u32 {
+        input.push_str("CALL add(1, 1);\n")?;
+        write!(replies, "reply {call} done\n{}\n", call + 101)?;
+        write!(history, "{} {call} starts {call} runs 4\n", call + 1)?;
+        write!(journal, "B {call}\nC {call}\n")?;
+    }
+    let want = format!(in alloc;
+        "{replies}history\n{history}journal\n{journal}table acc\n0,0,\n1,1100,\n2,100,\n3,100,\n4,100,\nend\n"
+    )?;
+    let (status, written) = run(&rt, rt.alloc(), &["run"], input.as_bytes(), &[], ROOM)?;
+    assert_eq!(rt; status, Status::Done);
+    assert_eq!(rt; written.as_str(), want.as_str());
+    Ok(())
+}
+
+#[test]
+fn words_that_are_no_command(rt: HostRuntime) -> Result<(), Fail> {
+    let usage = "usage: mv3c run|replay|serial|graph|tpcc [options]\n";
+    for (first, second) in [
+        ("", None),
+        ("Run", None),
+        ("runs", None),
+        ("run", Some("--")),
+        ("run", Some("--threads")),
+        ("run", Some("run")),
+    ] {
+        let (status, written) = match second {
+            Some(word) => run(&rt, rt.alloc(), &[first, word], b"", &[], ROOM)?,
+            None => run(&rt, rt.alloc(), &[first], b"", &[], ROOM)?,
+        };
+        assert_eq!(rt; status, Status::Usage, "{first}");
+        assert_eq!(rt; written.as_str(), usage, "{first}");
+    }
+    let (status, written) = run(&rt, rt.alloc(), &[], b"", &[], ROOM)?;
+    assert_eq!(rt; status, Status::Usage);
+    assert_eq!(rt; written.as_str(), usage);
+    let (status, written) = run(&rt, rt.alloc(), &[], b"", &[], 5)?;
+    assert_eq!(rt; status, Status::WriteFault);
+    assert_eq!(rt; written.as_str(), "usage");
+    Ok(())
+}
+
+#[test]
+fn faults_of_the_source_and_the_sink(rt: HostRuntime) -> Result<(), Fail> {
+    let alloc = rt.alloc();
+    let input = script(alloc, "CALL add(1, 5);")?;
+    for failing in [0, 1] {
+        let (status, written) = run(
+            &rt,
+            rt.alloc(),
+            &["run"],
+            input.as_bytes(),
+            &[failing],
+            ROOM,
+        )?;
+        assert_eq!(rt; status, Status::ReadFault, "read {failing}");
+        assert_eq!(rt; written.as_str(), "", "read {failing}");
+    }
+    let (status, written) = run(&rt, rt.alloc(), &["run"], input.as_bytes(), &[], 17)?;
+    assert_eq!(rt; status, Status::WriteFault);
+    assert_eq!(rt; written.as_str(), "reply 0 done\n105\n");
+    let (status, written) = run(&rt, rt.alloc(), &["run"], b"x", &[], 10)?;
+    assert_eq!(rt; status, Status::WriteFault);
+    assert_eq!(rt; written.as_str(), "refused 22");
+    Ok(())
+}
