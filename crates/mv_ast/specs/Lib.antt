@@ -3,3 +3,4 @@ pub mod Texts
 pub mod Trees
 pub mod Grammar
 pub mod Lexemes
+pub mod Limits

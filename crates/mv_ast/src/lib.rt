@@ -2,4 +2,5 @@
 #![tactic(auto)]
 
 pub mod lexeme;
+pub mod limit;
 pub mod tree;

@@ -1,25 +1,7 @@
 //! Why tokens are no script.
 
+pub use mv_ast::limit::Which;
 use mv_values::memory::NoMemory;
-
-/// A limit of the language.
-#[derive(Clone, Copy, Debug, PartialEq, Eq)]
-pub enum Which {
-    Depth,
-    Stretch,
-    Name,
-    Literal,
-    Text,
-    Tables,
-    Procedures,
-    Columns,
-    Key,
-    Parameters,
-    Variables,
-    Statements,
-    Calls,
-    Rows,
-}
 
 /// Why tokens are no script within the limits. Tokens count from 1.
 #[derive(Clone, Copy, Debug, PartialEq, Eq)]

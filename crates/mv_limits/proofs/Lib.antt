@@ -1,0 +1,4 @@
+pub mod Joining
+pub mod TextLaws
+pub mod Fronts
+pub mod Counting

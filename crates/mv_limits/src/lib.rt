@@ -1,0 +1,11 @@
+//! Where scripts pass the limits of the language.
+#![tactic(auto)]
+
+mod best;
+pub mod early;
+pub mod late;
+mod place;
+mod rows;
+mod statements;
+mod texts;
+mod tokens;

@@ -1,0 +1,84 @@
+//! Limits of tables, parameters and arguments.
+
+ghost use Rattle.std.specs.Prelude.{◌≡◌, map};
+ghost use Rattle.mv_ast.specs.Limits.{soonest, together, row_passes, table_passes, param_passes, argument_passes};
+
+use crate::best::too_many;
+use crate::statements::COLUMNS;
+use mv_ast::limit::{Passed, Which};
+use mv_ast::tree::{Arg, LitRow, Param, ParamKind, TableDef};
+
+/// The most key columns of a table.
+const KEY: usize = 8;
+
+/// The most rows of one ROWS argument.
+const ROWS: usize = 1000;
+
+/// What comes first, with the limits of literal rows.
+fn in_rows(best: Option<Passed>, rows: &[LitRow]) -> Option<Passed>
+    ensures { result ≡ soonest best (together (map row_passes rows.now)) }
+{
+    let mut best = best;
+    for row in rows {
+        best = too_many(best, Which::Columns, COLUMNS, row.values.as_slice());
+    }
+    best
+}
+
+/// What comes first, with the limits of a table.
+#[tactic(auto, using(crate::proofs::Joining::soonest_joined))]
+pub(crate) fn in_table(best: Option<Passed>, table: &TableDef) -> Option<Passed>
+    ensures { result ≡ soonest best (table_passes table.now) }
+{
+    let best = too_many(best, Which::Columns, COLUMNS, table.columns.as_slice());
+    let best = too_many(best, Which::Key, KEY, table.key.as_slice());
+    in_rows(best, table.rows.as_slice())
+}
+
+/// What comes first, with the limits of a parameter.
+#[tactic(auto, unfolding(mv_ast::specs::Limits::soonest))]
+fn in_param(best: Option<Passed>, param: &Param) -> Option<Passed>
+    ensures { result ≡ soonest best (param_passes param.now) }
+{
+    match &param.kind {
+        ParamKind::One(_) => best,
+        ParamKind::Many(columns) => { too_many(best, Which::Columns, COLUMNS, columns.as_slice()) }
+    }
+}
+
+/// What comes first, with the limits of parameters.
+pub(crate) fn in_params(best: Option<Passed>, params: &[Param]) -> Option<Passed>
+    ensures { result ≡ soonest best (together (map param_passes params.now)) }
+{
+    let mut best = best;
+    for param in params {
+        best = in_param(best, param);
+    }
+    best
+}
+
+/// What comes first, with the limits of an argument.
+#[tactic(auto, using(crate::proofs::Joining::soonest_joined), unfolding(mv_ast::specs::Limits::soonest))]
+fn in_argument(best: Option<Passed>, argument: &Arg) -> Option<Passed>
+    ensures { result ≡ soonest best (argument_passes argument.now) }
+{
+    match argument {
+        Arg::One(_) => best,
+        Arg::Many(rows) => {
+            let rows = rows.rows.as_slice();
+            let best = too_many(best, Which::Rows, ROWS, rows);
+            in_rows(best, rows)
+        }
+    }
+}
+
+/// What comes first, with the limits of arguments.
+pub(crate) fn in_arguments(best: Option<Passed>, arguments: &[Arg]) -> Option<Passed>
+    ensures { result ≡ soonest best (together (map argument_passes arguments.now)) }
+{
+    let mut best = best;
+    for argument in arguments {
+        best = in_argument(best, argument);
+    }
+    best
+}
