@@ -12,3 +12,6 @@ pub mod Placing
 pub mod Removing
 pub mod Totalling
 pub mod Once
+pub mod Spanning
+pub mod Standing
+pub mod Ranking

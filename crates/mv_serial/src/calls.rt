@@ -3,7 +3,7 @@
 ghost use Rattle.std.specs.Prelude.{◌≡◌, IfOk, length, replicate};
 ghost use Rattle.mv_serial.specs.Alone.{alone};
 ghost use Rattle.mv_serial.specs.Executed.{counted};
-ghost use Rattle.mv_catalog.specs.Fits.{Fits};
+ghost use Rattle.mv_catalog.specs.Fits.{Fits, KeysStand};
 ghost use Rattle.mv_serial.specs.TableAfter.{argument_held, no_reply, outcome, executed, entered, begun, tables_left, reply_in, table_after, call_order, IsOrder, RepliesOf, OthersSilent, CountsOf};
 
 use crate::state::{Env, Held, State, Stop};
@@ -74,9 +74,11 @@ fn run_procedure(
     call: &Call,
     tables: Database,
 ) -> Result<Left, NoMemory>
+    requires { KeysStand program.now.resolved.tables tables }
     ensures tables { IfOk result (λ l. l.tables ≡ tables_left tables (alone program.now.resolved.tables procedure.now.body (begun procedure.now call.now tables))) }
     ensures reply { IfOk result (λ l. l.reply ≡ reply_in (alone program.now.resolved.tables procedure.now.body (begun procedure.now call.now tables))) }
     ensures steps { IfOk result (λ l. l.steps ≡ counted program.now.resolved.tables procedure.now.body (begun procedure.now call.now tables)) }
+    ensures keys { IfOk result (λ l. KeysStand program.now.resolved.tables l.tables) }
 {
     let env = enter(alloc, procedure, call)?;
     let lines = List::new(alloc);
@@ -140,9 +142,11 @@ fn run_call(
     number: usize,
     tables: Database,
 ) -> Result<Left, NoMemory>
+    requires { KeysStand program.now.resolved.tables tables }
     ensures tables { IfOk result (λ l. l.tables ≡ tables_left tables (outcome program.now number tables)) }
     ensures reply { IfOk result (λ l. l.reply ≡ reply_in (outcome program.now number tables)) }
     ensures steps { IfOk result (λ l. l.steps ≡ executed program.now number tables) }
+    ensures keys { IfOk result (λ l. KeysStand program.now.resolved.tables l.tables) }
 {
     let Some(call) = program.resolved.calls.as_slice().get(number) else {
         return Ok(unchanged(alloc, tables));

@@ -1,7 +1,7 @@
 //! DELETE.
 
 ghost use Rattle.std.specs.Prelude.{◌≡◌, slice_set, OnOk};
-ghost use Rattle.mv_catalog.specs.Fits.{rows_at};
+ghost use Rattle.mv_catalog.specs.Fits.{rows_at, KeysStand};
 ghost use Rattle.mv_serial.specs.Outcome.{Leaves};
 ghost use Rattle.mv_serial.specs.Changes.{without};
 ghost use Rattle.mv_serial.specs.Alone.{delete};
@@ -9,13 +9,14 @@ ghost use Rattle.mv_serial.specs.Spans.{HoldsMatches};
 ghost use Rattle.mv_serial.specs.Undoing.{KeepsUndo, StaysUndoable};
 
 use crate::env::set_found;
-use crate::find::{Span, checks_from, has_match, is_match, rows_in, span_of};
+use crate::find::{Span, checks_from, has_match, is_match, near_matches, rows_in, span_in};
 use crate::state::{Check, State, Stop};
 use crate::undo::{Undo, remove_row};
 use mv_catalog::resolved::RCond;
 use mv_values::list::List;
 use mv_values::memory::NoMemory;
 use mv_values::rows::Database;
+use mv_values::schema::TableInfo;
 use std::alloc::Global;
 
 /// Takes each matching row out, the last one first, so that the places before it stay.
@@ -46,18 +47,21 @@ fn delete_rows(
 /// DELETE.
 pub(crate) fn run_delete(
     alloc: Global,
+    infos: &[TableInfo],
     table: u16,
     conds: &[RCond],
     state: &mut State,
     undo: &mut List<Undo>,
 ) -> Result<(), Stop>
+    requires { KeysStand infos.now state.old.tables }
     ensures does { Leaves result state.new (delete table conds.now state.old) }
+    ensures keys { OnOk result (KeysStand infos.now state.new.tables) }
     ensures undo { StaysUndoable result undo.old state.old.tables undo.new state.new.tables }
 {
     let checks = checks_from(alloc, conds, &state.env)?;
-    let rows = rows_in(&state.tables, table);
-    let found = has_match(checks.as_slice(), rows);
-    let span = span_of(checks.as_slice(), rows);
+    let near = near_matches(infos, &state.tables, table, checks.as_slice());
+    let found = has_match(checks.as_slice(), near);
+    let span = span_in(infos, &state.tables, table, checks.as_slice());
     delete_rows(
         alloc,
         checks.as_slice(),

@@ -1,18 +1,21 @@
 //! Finds the rows that match.
 
 ghost use Rattle.std.specs.Prelude.{◌≡◌, ◌≤◌, ◌<◌, length, slice_range, IfOk};
+ghost use Rattle.std.specs.Option.{option_copied};
+ghost use Rattle.std.specs.Ordering.{is_lt, is_le};
 ghost use Rattle.mv_values.specs.Order.{value_order};
 ghost use Rattle.mv_values.specs.Columns.{column_of};
 ghost use Rattle.mv_values.specs.Keys.{IsRising};
-ghost use Rattle.mv_catalog.specs.Fits.{rows_at, columns_at, key_columns};
+ghost use Rattle.mv_catalog.specs.Fits.{rows_at, columns_at, key_columns, KeysStand};
 ghost use Rattle.mv_serial.specs.Outcome.{Gives};
 ghost use Rattle.mv_serial.specs.Rows.{checks_of, passes, meets, matching, is_some_row};
-ghost use Rattle.mv_serial.specs.Spans.{HoldsMatches};
+ghost use Rattle.mv_serial.specs.Spans.{HoldsMatches, StandUnder, given, front_of, front_order};
 
 use crate::expr::value;
 use crate::state::{Check, Env, Stop};
 use mv_catalog::resolved::RCond;
 use mv_values::list::List;
+use mv_values::op::Op;
 use mv_values::rows::{Database, Keyed};
 use mv_values::schema::{Column, TableInfo};
 use mv_values::value::Value;
@@ -107,21 +110,87 @@ pub(crate) fn has_match(checks: &[Check], rows: &[Keyed]) -> bool
     false
 }
 
-/// A part of the rows that has every matching one.
-pub(crate) fn span_of(checks: &[Check], rows: &[Keyed]) -> Span
+/// The value that the tests give a column by `=`.
+fn given_by(checks: &[Check], c: u8) -> Option<&Value>
+    ensures { option_copied result ≡ given checks.now c }
+{
+    for check in checks {
+        if check.column == c as u16 && check.op == Op::Eq {
+            return Some(&check.value);
+        }
+    }
+    None
+}
+
+/// How a key stands to the values that the tests give its first columns by `=`.
+fn order_to_front(keys: &[u8], checks: &[Check], key: &[Value]) -> Ordering
+    ensures { result ≡ front_order key.now (front_of checks.now keys.now) }
+{
+    for (i, c) in keys.iter().enumerate() {
+        let Some(v) = given_by(checks, *c) else {
+            return Ordering::Equal;
+        };
+        let Some(w) = key.get(i) else {
+            return Ordering::Less;
+        };
+        let order = w.order(v);
+        if order.is_ne() {
+            return order;
+        }
+    }
+    Ordering::Equal
+}
+
+/// A part of the rows that has every matching one: where the tests give values for the whole key or its first columns
+/// by `=`, the rows with these values. It costs the logarithm of the number of rows.
+fn span_of(keys: &[u8], checks: &[Check], rows: &[Keyed]) -> Span
+    requires rising { IsRising rows.now }
+    requires stand { StandUnder keys.now rows.now }
     ensures { HoldsMatches checks.now rows.now result }
 {
-    Span {
-        from: 0,
-        to: rows.len(),
-    }
+    let from = rows.partition_point(
+        |item: &Keyed| -> bool
+            ensures { result ≡ is_lt (front_order item.now.key (front_of checks.entry.now keys.entry.now)) }
+        { order_to_front(keys, checks, item.key.as_slice()).is_lt() },
+    );
+    let to = rows.partition_point(
+        |item: &Keyed| -> bool
+            ensures { result ≡ is_le (front_order item.now.key (front_of checks.entry.now keys.entry.now)) }
+        { order_to_front(keys, checks, item.key.as_slice()).is_le() },
+    );
+    Span { from, to }
 }
 
 /// The rows of a part.
-pub(crate) fn part(rows: &[Keyed], span: Span) -> &[Keyed]
+fn part(rows: &[Keyed], span: Span) -> &[Keyed]
     requires order { span.from ≤ span.to }
     requires within { span.to ≤ length rows.now }
     ensures { result.now ≡ slice_range rows.now span.from span.to }
 {
     &rows[span.from..span.to]
+}
+
+/// A part of a table that has every matching row.
+pub(crate) fn span_in(infos: &[TableInfo], tables: &Database, table: u16, checks: &[Check]) -> Span
+    requires { KeysStand infos.now tables.now }
+    ensures { HoldsMatches checks.now (rows_at tables.now table) result }
+{
+    span_of(key_in(infos, table), checks, rows_in(tables, table))
+}
+
+/// The rows of a table among which every matching one stands.
+pub(crate) fn near_matches<'a>(
+    infos: &[TableInfo],
+    tables: &'a Database,
+    table: u16,
+    checks: &[Check],
+) -> &'a [Keyed]
+    requires { KeysStand infos.now tables.now }
+    ensures matches { matching checks.now result.now ≡ matching checks.now (rows_at tables.now table) }
+    ensures rising { IsRising result.now }
+{
+    part(
+        rows_in(tables, table),
+        span_in(infos, tables, table, checks),
+    )
 }

@@ -1,13 +1,12 @@
 //! Matching rows in order.
 
-ghost use Rattle.std.specs.Prelude.{◌≡◌, ◌≤◌, length, map, slice_get, IfOk, OnOk, if◌then◌else◌};
-ghost use Rattle.std.specs.List.{insert};
+ghost use Rattle.std.specs.Prelude.{◌≡◌, map, slice_get, IfOk, OnOk, if◌then◌else◌};
 ghost use Rattle.std.specs.Option.{option_copied};
 ghost use Rattle.mv_values.specs.Keys.{IsRising};
 ghost use Rattle.std.specs.Ordering.{ordering_reverse};
 ghost use Rattle.mv_values.specs.Order.{value_order};
 ghost use Rattle.mv_values.specs.Columns.{column_of};
-ghost use Rattle.mv_serial.specs.Rows.{sort_order, put_in, ordered, matching, item_at};
+ghost use Rattle.mv_serial.specs.Rows.{sort_order, ordered, matching, item_at};
 
 use crate::find::{is_match, order_of};
 use crate::state::Check;
@@ -42,19 +41,6 @@ fn compare(sorts: &[RSort], a: &Keyed, b: &Keyed) -> Ordering
     compare_keys(a.key.as_slice(), b.key.as_slice())
 }
 
-/// The place before the first row that isn't less.
-fn place_among(sorts: &[RSort], item: &Keyed, rows: &[&Keyed]) -> usize
-    ensures within { result ≤ length rows.now }
-    ensures place { insert (map (λ r. r.now) rows.now) result item.now ≡ put_in (sort_order sorts.now) item.now (map (λ r. r.now) rows.now) }
-{
-    for (i, other) in rows.iter().enumerate() {
-        if compare(sorts, item, other).is_le() {
-            return i;
-        }
-    }
-    rows.len()
-}
-
 /// The rows that match, in key order.
 fn matches_in<'a>(
     alloc: Global,
@@ -81,16 +67,12 @@ fn sorted_in<'a>(
 ) -> Result<Vec<&'a Keyed>, NoMemory>
     ensures { IfOk result (λ v. map (λ r. r.now) v.items ≡ ordered sorts.now (matching checks.now rows.now)) }
 {
-    let mut found: Vec<&'a Keyed> = Vec::new(alloc);
-    let mut left = rows.len();
-    while 0 < left {
-        left -= 1;
-        let item = &rows[left];
-        if is_match(checks, item.row.as_slice()) {
-            let at = place_among(sorts, item, found.as_slice());
-            found.insert(at, item)?;
-        }
-    }
+    let mut found = matches_in(alloc, checks, rows)?;
+    found.sort_by(
+        |a: &&Keyed, b: &&Keyed| -> Ordering
+            ensures { result ≡ sort_order sorts.entry.now a.now.now b.now.now }
+        { compare(sorts, *a, *b) },
+    )?;
     Ok(found)
 }
 

@@ -1,6 +1,7 @@
 //! What each statement does.
 
-ghost use Rattle.std.specs.Prelude.{◌≡◌, ◌++◌, drop, Ok};
+ghost use Rattle.std.specs.Prelude.{◌≡◌, ◌++◌, drop, Ok, OnOk};
+ghost use Rattle.mv_catalog.specs.Fits.{KeysStand};
 ghost use Rattle.mv_serial.specs.Outcome.{Gives, Leaves};
 ghost use Rattle.mv_serial.specs.Value.{values_of};
 ghost use Rattle.mv_serial.specs.Alone.{offset_of, assign, select, update, print};
@@ -9,7 +10,7 @@ ghost use Rattle.mv_serial.specs.Undoing.{StaysUndoable};
 use crate::change::update_rows;
 use crate::env::{set, set_columns, set_found};
 use crate::expr::{number_in, value};
-use crate::find::{checks_from, columns_in, has_match, key_in, rows_in, span_of};
+use crate::find::{checks_from, columns_in, has_match, key_in, near_matches, span_in};
 use crate::line::line_from;
 use crate::order::chosen;
 use crate::state::{Env, State, Stop};
@@ -58,6 +59,7 @@ fn offset(alloc: Global, offset: &Option<RExpr>, env: &Env) -> Result<Value, Sto
 /// SELECT INTO.
 pub(crate) fn run_select(
     alloc: Global,
+    infos: &[TableInfo],
     columns: &[u16],
     to: &[u16],
     table: u16,
@@ -66,13 +68,14 @@ pub(crate) fn run_select(
     skip: &Option<RExpr>,
     state: &mut State,
 ) -> Result<(), Stop>
+    requires { KeysStand infos.now state.old.tables }
     ensures tables { state.new.tables ≡ state.old.tables }
     ensures does { Leaves result state.new (select columns.now to.now table conds.now sorts.now skip.now state.old) }
 {
     let checks = checks_from(alloc, conds, &state.env)?;
     let at = offset(alloc, skip, &state.env)?;
-    let rows = rows_in(&state.tables, table);
-    let found = chosen(alloc, checks.as_slice(), sorts, rows, number_in(&at))?;
+    let near = near_matches(infos, &state.tables, table, checks.as_slice());
+    let found = chosen(alloc, checks.as_slice(), sorts, near, number_in(&at))?;
     match found {
         None => set_found(&mut state.env, false)?,
         Some(item) => {
@@ -103,13 +106,15 @@ pub(crate) fn run_update(
     state: &mut State,
     undo: &mut List<Undo>,
 ) -> Result<(), Stop>
+    requires { KeysStand tables.now state.old.tables }
     ensures does { Leaves result state.new (update tables.now table items.now conds.now state.old) }
+    ensures keys { OnOk result (KeysStand tables.now state.new.tables) }
     ensures undo { StaysUndoable result undo.old state.old.tables undo.new state.new.tables }
 {
     let checks = checks_from(alloc, conds, &state.env)?;
-    let rows = rows_in(&state.tables, table);
-    let found = has_match(checks.as_slice(), rows);
-    let span = span_of(checks.as_slice(), rows);
+    let near = near_matches(tables, &state.tables, table, checks.as_slice());
+    let found = has_match(checks.as_slice(), near);
+    let span = span_in(tables, &state.tables, table, checks.as_slice());
     update_rows(
         alloc,
         columns_in(tables, table),

@@ -1,6 +1,7 @@
 //! Statements one after another, and those that hold others.
 
 ghost use Rattle.std.specs.Prelude.{◌≡◌, ◌+◌, ◌++◌, [], drop, Ok, OnOk};
+ghost use Rattle.mv_catalog.specs.Fits.{KeysStand};
 ghost use Rattle.mv_serial.specs.Outcome.{Gives, Leaves, Rises, then_do};
 ghost use Rattle.mv_serial.specs.Value.{value_of, is_so};
 ghost use Rattle.mv_serial.specs.Alone.{alone, does, loop_over, for_rows, for_select};
@@ -10,7 +11,7 @@ ghost use Rattle.mv_serial.specs.Undoing.{StaysUndoable};
 use crate::deleting::run_delete;
 use crate::env::{copied_turns, set_found, set_held};
 use crate::expr::{holds, value};
-use crate::find::{checks_from, rows_in};
+use crate::find::{checks_from, near_matches};
 use crate::fixing::fixed_rows;
 use crate::inserting::run_insert;
 use crate::run::{run_assign, run_print, run_select, run_update};
@@ -55,7 +56,9 @@ pub(crate) fn run_all(
     undo: &mut List<Undo>,
     steps: &mut usize,
 ) -> Result<(), Stop>
+    requires { KeysStand tables.now state.old.tables }
     ensures does { Leaves result state.new (alone tables.now statements.now state.old) }
+    ensures keys { OnOk result (KeysStand tables.now state.new.tables) }
     ensures undo { StaysUndoable result undo.old state.old.tables undo.new state.new.tables }
     ensures count { Rises result steps.old (counted tables.now statements.now state.old) steps.new }
 {
@@ -76,7 +79,9 @@ fn run_one(
     undo: &mut List<Undo>,
     steps: &mut usize,
 ) -> Result<(), Stop>
+    requires { KeysStand tables.now state.old.tables }
     ensures does { Leaves result state.new (does tables.now statement.now state.old) }
+    ensures keys { OnOk result (KeysStand tables.now state.new.tables) }
     ensures undo { StaysUndoable result undo.old state.old.tables undo.new state.new.tables }
     ensures count { Rises result steps.old (count tables.now statement.now state.old) steps.new }
 {
@@ -92,6 +97,7 @@ fn run_one(
             offset,
         } => run_select(
             alloc,
+            tables,
             columns.as_slice(),
             to.as_slice(),
             *table,
@@ -124,7 +130,7 @@ fn run_one(
             to,
             table,
             conds,
-        } => run_total(alloc, *agg, *to, *table, conds.as_slice(), state),
+        } => run_total(alloc, tables, *agg, *to, *table, conds.as_slice(), state),
         RStmt::ForSelect {
             row,
             distinct,
@@ -167,7 +173,9 @@ fn run_one(
         RStmt::Insert { table, values } => {
             run_insert(alloc, tables, *table, values.as_slice(), state, undo)
         }
-        RStmt::Delete { table, conds } => run_delete(alloc, *table, conds.as_slice(), state, undo),
+        RStmt::Delete { table, conds } => {
+            run_delete(alloc, tables, *table, conds.as_slice(), state, undo)
+        }
     }
 }
 
@@ -187,7 +195,9 @@ fn run_turns(
     undo: &mut List<Undo>,
     steps: &mut usize,
 ) -> Result<(), Stop>
+    requires { KeysStand tables.now state.old.tables }
     ensures does { Leaves result state.new (for_select row once columns.now table conds.now sorts.now (alone tables.now body.now) state.old) }
+    ensures keys { OnOk result (KeysStand tables.now state.new.tables) }
     ensures undo { StaysUndoable result undo.old state.old.tables undo.new state.new.tables }
     ensures count { Rises result steps.old (count_select row once columns.now table conds.now sorts.now (alone tables.now body.now) (counted tables.now body.now) state.old) steps.new }
 {
@@ -198,7 +208,7 @@ fn run_turns(
         columns,
         sorts,
         checks.as_slice(),
-        rows_in(&state.tables, table),
+        near_matches(tables, &state.tables, table, checks.as_slice()),
     )?;
     run_loop(
         alloc,
@@ -224,7 +234,9 @@ fn run_rows(
     undo: &mut List<Undo>,
     steps: &mut usize,
 ) -> Result<(), Stop>
+    requires { KeysStand tables.now state.old.tables }
     ensures does { Leaves result state.new (for_rows row parameter (alone tables.now body.now) state.old) }
+    ensures keys { OnOk result (KeysStand tables.now state.new.tables) }
     ensures undo { StaysUndoable result undo.old state.old.tables undo.new state.new.tables }
     ensures count { Rises result steps.old (count_rows row parameter (alone tables.now body.now) (counted tables.now body.now) state.old) steps.new }
 {
@@ -253,7 +265,9 @@ fn run_loop(
     undo: &mut List<Undo>,
     steps: &mut usize,
 ) -> Result<(), Stop>
+    requires { KeysStand tables.now state.old.tables }
     ensures does { Leaves result state.new (loop_over row (alone tables.now body.now) rows.now state.old) }
+    ensures keys { OnOk result (KeysStand tables.now state.new.tables) }
     ensures undo { StaysUndoable result undo.old state.old.tables undo.new state.new.tables }
     ensures count { Rises result steps.old (count_loop row (alone tables.now body.now) (counted tables.now body.now) rows.now state.old) steps.new }
 {

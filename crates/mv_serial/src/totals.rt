@@ -2,6 +2,7 @@
 
 ghost use Rattle.std.specs.Prelude.{◌≡◌, ◌≤ℤ◌, ◌+ℤ◌, ◌^◌, neg_ℤ, pos, length, IfOk, if◌then◌else◌};
 ghost use Rattle.std.specs.Option.{option_copied, option_map};
+ghost use Rattle.mv_catalog.specs.Fits.{KeysStand};
 ghost use Rattle.mv_values.specs.Columns.{column_of};
 ghost use Rattle.mv_serial.specs.Outcome.{Gives, Leaves};
 ghost use Rattle.mv_serial.specs.Value.{number};
@@ -10,7 +11,7 @@ ghost use Rattle.mv_serial.specs.Alone.{sum_up};
 
 use crate::env::{column as column_in, set, set_found};
 use crate::expr::number_in;
-use crate::find::{checks_from, has_match, is_match, rows_in};
+use crate::find::{checks_from, has_match, is_match, near_matches};
 use crate::fixing::distinct_rows;
 use crate::order::compare_by;
 use crate::state::{Check, State, Stop};
@@ -18,6 +19,7 @@ use mv_catalog::resolved::{RAgg, RCond, RSort};
 use mv_values::calls::End;
 use mv_values::memory::NoMemory;
 use mv_values::rows::Keyed;
+use mv_values::schema::TableInfo;
 use mv_values::value::Value;
 use std::alloc::Global;
 
@@ -146,19 +148,21 @@ fn aggregate_of(
 /// SELECT with an aggregate.
 pub(crate) fn run_total(
     alloc: Global,
+    infos: &[TableInfo],
     agg: RAgg,
     to: u16,
     table: u16,
     conds: &[RCond],
     state: &mut State,
 ) -> Result<(), Stop>
+    requires { KeysStand infos.now state.old.tables }
     ensures tables { state.new.tables ≡ state.old.tables }
     ensures does { Leaves result state.new (sum_up agg to table conds.now state.old) }
 {
     let checks = checks_from(alloc, conds, &state.env)?;
-    let rows = rows_in(&state.tables, table);
-    let found = has_match(checks.as_slice(), rows);
-    let value = aggregate_of(alloc, agg, checks.as_slice(), rows)?;
+    let near = near_matches(infos, &state.tables, table, checks.as_slice());
+    let found = has_match(checks.as_slice(), near);
+    let value = aggregate_of(alloc, agg, checks.as_slice(), near)?;
     match value {
         None => set_found(&mut state.env, found)?,
         Some(v) => {

@@ -1,17 +1,18 @@
-use Rattle.std.proofs.Common.{rules, ◌≡◌, ◌-◌, true, map, ap, ◌∙◌, arith, Bor}
+use Rattle.std.proofs.Common.{rules, Bor, Bool, ap, ◌∙◌}
+use Rattle.std.proofs.lemmas.Fn.{always_returns_same}
+use Rattle.std.proofs.lemmas.List.Sorted.{ranks_by}
+use Rattle.std.specs.Cmp.{IsStrictWeakOrder}
+use Rattle.std.specs.Ordering.{is_lt}
 use Rattle.mv_values.specs.declared.rows.Keyed.{Keyed}
-use Rattle.mv_serial.specs.Rows.{meets}
-use Rattle.mv_serial.proofs.Sorting.{sorted_step}
+use Rattle.mv_serial.specs.Rows.{sort_order, ordered}
+use Rattle.mv_serial.proofs.Ranking.{sort_order_total, ordered_is}
 use Rattle.mv_serial.proofs.order.sorted_in.Goals as goal
 
-pub loop-left-preserved-in-Continue-1 : goal.loop-left-preserved-in-Continue-1
-loop-left-preserved-in-Continue-1 c = record {
-  within = omega (arith, c.loop-left.invariant.within);
-  so_far =
-      let now : Bor Keyed → Keyed = λ r. r.now in
-      let yes' : meets c.args.checks.now c.index-rows-left.result.row ≡ true = search rules in
-      ap (map now) c.in_ok-insert.ensures.items
-      ∙ sorted_step now c.args.sorts.now c.args.checks.now c.args.rows.now (c.loop-left.left - 1) c.loop-left.left c.place_among-at.result c.loop-left.found.items _
-      (omega arith) (omega (arith, c.loop-left.invariant.within)) c.index-rows-left.is yes' c.loop-left.invariant.so_far
-      (rw c.as_slice-then-is_match.ensures.value at c.place_among-at.ensures.place);
-}
+pub returns : goal.returns
+returns c =
+    let lt : Bor Keyed → Bor Keyed → Bool = λ a b. is_lt (sort_order c.args.sorts.now a.now b.now) in
+    let order : IsStrictWeakOrder lt = ranks_by (sort_order_total c.args.sorts.now) (λ (r : Bor Keyed). r.now) in
+    ordered_is c.args.sorts.now c.in_ok-found.found.items c.sort_by.new.self.items
+    (c.in_ok-sort_by.ensures.sorted lt order (always_returns_same _ _ _ (λ a r f h. search rules)))
+    (c.in_ok-sort_by.ensures.stable lt order (always_returns_same _ _ _ (λ a r f h. search rules)))
+    ∙ ap (ordered c.args.sorts.now) c.in_ok-found.ensures

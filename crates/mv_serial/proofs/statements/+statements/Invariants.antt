@@ -1,4 +1,5 @@
 use Rattle.std.proofs.Common.{◌≡◌, ◌+◌, drop}
+use Rattle.mv_catalog.specs.Fits.{KeysStand}
 use Rattle.mv_serial.specs.Alone.{alone, each_turn, loop_over}
 use Rattle.mv_serial.specs.Executed.{counted, count_turns, count_loop}
 use Rattle.mv_serial.specs.Undoing.{KeepsUndo}
@@ -6,6 +7,7 @@ use Rattle.mv_serial.proofs.statements.+statements.Given as goal
 
 abbrev pub invariant-run_all-loop-statement : goal.invariant-run_all-loop-statement
 invariant-run_all-loop-statement l = record {
+  keys : KeysStand l.tables l.state.tables;
   does : alone l.tables (drop l.statement-index l.statements) l.state ≡ alone l.tables l.statements l.fn.state;
   undo : KeepsUndo l.fn.undo l.fn.state.tables l.undo l.state.tables;
   count : l.steps + counted l.tables (drop l.statement-index l.statements) l.state ≡ l.fn.steps + counted l.tables l.statements l.fn.state;
@@ -13,6 +15,7 @@ invariant-run_all-loop-statement l = record {
 
 abbrev pub invariant-run_loop-loop-one : goal.invariant-run_loop-loop-one
 invariant-run_loop-loop-one l = record {
+  keys : KeysStand l.tables l.state.tables;
   does : each_turn l.row (alone l.tables l.body) (drop l.one-index l.rows) l.state ≡ loop_over l.row (alone l.tables l.body) l.rows l.fn.state;
   undo : KeepsUndo l.fn.undo l.fn.state.tables l.undo l.state.tables;
   count : l.steps + count_turns l.row (alone l.tables l.body) (counted l.tables l.body) (drop l.one-index l.rows) l.state ≡ l.fn.steps + count_loop l.row (alone l.tables l.body) (counted l.tables l.body) l.rows l.fn.state;

@@ -1,0 +1,12 @@
+use Rattle.std.proofs.Common.{sym, ap, ◌∙◌}
+use Rattle.mv_values.specs.declared.rows.Keyed.{Keyed}
+use Rattle.mv_catalog.specs.Fits.{key_columns}
+use Rattle.mv_values.specs.Columns.{columns_of}
+use Rattle.mv_serial.proofs.Standing.{insert_stands}
+use Rattle.mv_serial.proofs.inserting.run_insert.Goals as goal
+
+pub returns-clause-keys : goal.returns-clause-keys
+returns-clause-keys c =
+    let is = rw c.key_in.ensures at c.in_ok-item.ensures in
+    insert_stands c.args.tables.now c.args.table c.in_ok-item.item c.args.state.now.tables c.put_new.new.tables c.requires
+    (ap (λ (k : Keyed). k.key) is ∙ sym (ap (λ (k : Keyed). columns_of k.row (key_columns c.args.tables.now c.args.table)) is)) c.in_ok-put_new.ensures.rows
