@@ -5,6 +5,9 @@ mod history;
 mod journal;
 mod number;
 pub mod render;
+pub mod render_serial;
+#[cfg(test)]
+mod serial_tests;
 mod replies;
 mod tables;
 #[cfg(test)]

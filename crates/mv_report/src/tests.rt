@@ -105,7 +105,7 @@ end
     Ok(())
 }
 
-fn table(alloc: Global, name: &str) -> Result<TableInfo, NoMemory> {
+pub(crate) fn table(alloc: Global, name: &str) -> Result<TableInfo, NoMemory> {
     Ok(TableInfo {
         name: txt(alloc, name)?,
         columns: List::new(alloc),
@@ -113,7 +113,7 @@ fn table(alloc: Global, name: &str) -> Result<TableInfo, NoMemory> {
     })
 }
 
-fn accounts(alloc: Global) -> Result<Rows, NoMemory> {
+pub(crate) fn accounts(alloc: Global) -> Result<Rows, NoMemory> {
     let mut rows = Rows::new(alloc);
     rows.push(account(alloc, 0, 0)?)?;
     rows.push(account(alloc, 1, 105)?)?;
@@ -174,7 +174,7 @@ fn is_printable(byte: u8) -> bool
     32 <= byte && byte <= 126
 }
 
-fn replies(alloc: Global) -> Result<List<Reply>, NoMemory> {
+pub(crate) fn replies(alloc: Global) -> Result<List<Reply>, NoMemory> {
     let mut replies = List::new(alloc);
     replies.push(done(alloc, "it's")?)?;
     replies.push(rolled_back(alloc, End::Own(txt(alloc, "it's")?)))?;
