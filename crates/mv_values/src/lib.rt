@@ -3,7 +3,9 @@
 
 pub mod boxed;
 pub mod calls;
+mod compared;
 pub mod copied;
+pub mod key;
 pub mod list;
 pub mod memory;
 pub mod op;

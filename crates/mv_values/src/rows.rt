@@ -68,6 +68,14 @@ impl Rows {
         self.items.as_slice()
     }
 
+    /// Hands the rows out.
+    pub fn into_items(self) -> Vec<Keyed>
+        ensures items { result.items ≡ self }
+        ensures rising { IsRising self }
+    {
+        self.items
+    }
+
     /// Adds a row at the end.
     pub fn push(&mut self, item: Keyed) -> Result<(), NoMemory>
         requires { All (IsBelow item.key) self.old }
