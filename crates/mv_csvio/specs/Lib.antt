@@ -1,2 +1,4 @@
 pub mod Csv
+pub mod Entries
+pub mod Joining
 pub mod Writing

@@ -2,5 +2,8 @@
 #![tactic(auto)]
 
 pub mod dump;
+pub mod fault;
+pub mod gather;
+mod joining;
 #[cfg(test)]
 mod tests;

@@ -1,0 +1,48 @@
+//! The rows of VALUES under their keys.
+
+ghost use Rattle.std.specs.Prelude.{◌≡◌, ◌<◌, ◌^◌, ◌+◌, ◌++◌, ◌∷◌, [], map, length, IfOk, IfErr, MatchResult, IsPermutation};
+ghost use Rattle.mv_values.specs.Keys.{IsRising};
+ghost use Rattle.mv_csvio.specs.Joining.{HasJoined, IsDuplicate, TellsOfValues, under_key};
+
+use crate::fault::CopyFault;
+use crate::joining::Joining;
+use mv_values::copied::Copied;
+use mv_values::key::key_of;
+use mv_values::list::List;
+use mv_values::rows::{Keyed, Rows};
+use mv_values::schema::TableInfo;
+use mv_values::value::Row;
+use std::alloc::Global;
+
+/// The rows of VALUES of a table, each under its key, in the order of their keys. Or the fault `Duplicate` with the
+/// first row whose key stands in an earlier one. It costs n log n for n rows, in whatever order they come.
+pub fn gather(alloc: Global, rows: &List<Row>, table: &TableInfo) -> Result<Rows, CopyFault>
+    requires { length rows.now < 2 ^ 32 }
+    ensures rows { IfOk result (HasJoined table.now [] rows.now) }
+    ensures fault { IfErr result (TellsOfValues table.now rows.now) }
+{
+    let mut joining = Joining::new(alloc);
+    let mut number = 0;
+    for row in rows.as_slice() {
+        number += 1;
+        join_row(alloc, &mut joining, table, row.copy(alloc)?, number)?;
+    }
+    Ok(joining.into_rows(alloc)?)
+}
+
+/// Adds a row under its key, the row with this number of those that join.
+pub(crate) fn join_row(
+    alloc: Global,
+    joining: &mut Joining,
+    table: &TableInfo,
+    row: Row,
+    number: u32,
+) -> Result<(), CopyFault>
+    ensures { MatchResult result (λ _. IsRising joining.new × IsPermutation (joining.old ++ under_key table.now row ∷ []) joining.new) (IsDuplicate table.now joining.old row number) }
+{
+    let key = key_of(alloc, row.as_slice(), table.key.as_slice())?;
+    if !joining.join(Keyed { key, row })? {
+        return Err(CopyFault::Duplicate { row: number });
+    }
+    Ok(())
+}
