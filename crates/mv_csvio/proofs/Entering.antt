@@ -1,16 +1,17 @@
 -- Rows that enter a map by their keys.
 use Rattle.std.proofs.Math.ListN.{get_or-append}
 use Rattle.std.proofs.Math.Seq.{get_or-append_seam}
-use Rattle.std.proofs.Common.{length-append, ◌≡◌, ◌++◌, zero, suc, Bool, true, false, List, [], ◌∷◌, length, Some, refl, sym, ap, subst, ◌∙◌, arith}
+use Rattle.std.proofs.Common.{append_assoc, length-append, ◌≡◌, ◌++◌, zero, suc, Bool, true, false, List, [], ◌∷◌, length, Some, refl, sym, ap, subst, ◌∙◌, arith}
 use Rattle.std.specs.Prelude.{All, IsPermutation, slice_index_or, cond}
 use Rattle.std.specs.Option.{is_some}
 use Rattle.std.specs.Map.{lookup, keys_of}
 use Rattle.std.specs.BTreeMap.{is_at, insert_entry}
 use Rattle.std.specs.Cmp.Lexicographic.{slice_cmp}
 use Rattle.std.specs.List.Sorted.{IsStrictlySortedBy}
-use Rattle.std.specs.Ordering.{match_ordering, is_eq}
+use Rattle.std.specs.Ordering.{ordering_reverse, match_ordering, is_eq}
 use Rattle.std.specs.declared.cmp.Ordering.{Ordering}
 use Rattle.std.specs.declared.cmp.Ordering.TheVariants.{Less, Equal, Greater}
+use Rattle.std.proofs.lemmas.List.{map-append}
 use Rattle.std.proofs.lemmas.List.Elements.{All-cons, All-nil, All-head, All-tail}
 use Rattle.std.proofs.lemmas.List.Kept.{AllPairs-cons}
 use Rattle.std.proofs.lemmas.List.Sorted.{IsPermutation-refl, IsPermutation-cons, IsPermutation-sym, IsPermutation-trans, IsPermutation-to_front, IsPermutation-middle}
@@ -21,7 +22,7 @@ use Rattle.mv_values.specs.declared.value.Value.TheVariants.{Int, Text}
 use Rattle.mv_values.specs.declared.rows.Keyed.{Keyed}
 use Rattle.mv_values.specs.Keys.{IsRising, IsBelow}
 use Rattle.mv_values.specs.Order.{value_order, key_order}
-use Rattle.mv_values.proofs.KeyOrder.{exact_keys}
+use Rattle.mv_values.proofs.KeyOrder.{key_order_total, exact_keys}
 use Rattle.mv_csvio.specs.Entries.{keyed}
 use Rattle.mv_csvio.specs.Joining.{HasKey}
 
@@ -113,3 +114,22 @@ front_below rows front behind item rising is k d within =
     let high = get_or-append_seam front item behind d in
     subst (λ (a : Keyed). key_order a.key item.key ≡ Less) low
     (subst (λ (b : Keyed). key_order (slice_index_or (front ++ item ∷ behind) k d).key b.key ≡ Less) high (whole k (length front) d within (omega (arith, size))))
+
+-- a key above all others enters at the end
+last_by : (key row : List Value) (e : Entry) (es : List Entry) (o : Ordering) → o ≡ Greater → insert_entry key_order es key row ≡ es ++ (key, row) ∷ []
+    → match_ordering o ((key, row) ∷ e ∷ es) ((e.0, row) ∷ es) (e ∷ insert_entry key_order es key row) ≡ (e ∷ es) ++ (key, row) ∷ []
+last_by key row e es o is more = rw is (ap (λ l. e ∷ l) more)
+
+enter_last : (key row : List Value) (es : List Entry) → All (IsBelow key) (keyed es) → insert_entry key_order es key row ≡ es ++ (key, row) ∷ []
+enter_last key row [] h = refl
+enter_last key row (e ∷ es) h =
+    let below = All-head (IsBelow key) (record { key = e.0; row = e.1 }) (keyed es) h in
+    last_by key row e es (key_order key e.0) (key_order_total.antisymm key e.0 ∙ ap ordering_reverse below) (enter_last key row es (All-tail (IsBelow key) (record { key = e.0; row = e.1 }) (keyed es) h))
+
+-- a row of rising rows enters behind those in front of it
+pub enters_last : (rows behind : List Keyed) (item : Keyed) (es fs : List Entry) → IsRising rows → keyed es ++ item ∷ behind ≡ rows → fs ≡ insert_entry compared es item.key item.row
+    → keyed fs ++ behind ≡ rows
+enters_last rows behind item es fs rising is made =
+    let low = front_below rows (keyed es) behind item rising is in
+    let made2 : fs ≡ es ++ (item.key, item.row) ∷ [] = made ∙ (ap (λ (cmp : List Value → List Value → Ordering). insert_entry cmp es item.key item.row) keys_alike ∙ enter_last item.key item.row es low) in
+    ap (λ l. l ++ behind) (ap keyed made2 ∙ map-append (λ (e : Entry). record { key = e.0; row = e.1 }) es ((item.key, item.row) ∷ [])) ∙ (append_assoc (keyed es) (item ∷ []) behind ∙ is)

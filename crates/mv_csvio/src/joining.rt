@@ -39,6 +39,18 @@ impl Joining {
         }
     }
 
+    /// The rows of a table.
+    pub(crate) fn of(alloc: Global, rows: Rows) -> Result<Joining, NoMemory>
+        ensures rows { IfOk result (λ joining. joining ≡ rows) }
+        ensures rising { IsRising rows }
+    {
+        let mut by_key = BTreeMap::new(alloc);
+        for item in rows.into_items() {
+            by_key.insert(item.key, item.row)?;
+        }
+        Ok(Joining { rows: by_key })
+    }
+
     /// Adds a row and says true, or says false where its key is there. It costs the logarithm of the number of rows.
     pub(crate) fn join(&mut self, item: Keyed) -> Result<bool, NoMemory>
         ensures { IfOk result (λ is_new. MatchBool is_new (IsRising self.new × IsPermutation (self.old ++ item ∷ []) self.new) (HasKey self.old item.key)) }

@@ -3,7 +3,10 @@
 
 pub mod dump;
 pub mod fault;
+mod fields;
 pub mod gather;
 mod joining;
+pub mod load;
+mod record;
 #[cfg(test)]
 mod tests;

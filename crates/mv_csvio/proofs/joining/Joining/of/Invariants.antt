@@ -1,0 +1,7 @@
+use Rattle.std.proofs.Common.{◌≡◌, ◌++◌}
+use Rattle.mv_values.specs.Keys.{IsRising}
+use Rattle.mv_csvio.specs.Entries.{keyed}
+use Rattle.mv_csvio.proofs.joining.Joining.of.Given as goal
+
+abbrev pub invariant-loop-item : goal.invariant-loop-item
+invariant-loop-item l = (keyed l.by_key.entries ++ l.item-iterator.rest.items ≡ l.fn.rows) × IsRising l.fn.rows

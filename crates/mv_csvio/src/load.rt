@@ -1,0 +1,86 @@
+//! Blocks of CSV into the rows of a table.
+
+ghost use Rattle.std.specs.Prelude.{◌≡◌, ◌<◌, ◌^◌, [], ℕ, None, length, IfErr, IfOk, List as Seq, MatchResult, OnOk};
+ghost use Rattle.std.specs.Bool.{MatchBool};
+ghost use Rattle.csv.specs.Machine.{next_record};
+ghost use Rattle.csv.specs.Reading.{default_config, strip_bom};
+ghost use Rattle.csv.specs.declared.parser.State.{State};
+ghost use Rattle.csv.specs.declared.parser.State.TheVariants as state;
+ghost use Rattle.mv_values.specs.Keys.{IsRising};
+ghost use Rattle.mv_csvio.specs.Loading.{HasLoaded, TellsOfBlock, records_of};
+ghost use Rattle.mv_csvio.specs.Reading.{HasRead, StandsAt};
+
+use crate::fault::CopyFault;
+use crate::gather::join_row;
+use crate::joining::Joining;
+use crate::record::row_of;
+use csv::{ByteRecord, Reader, ReaderBuilder};
+use mv_values::memory::NoMemory;
+use mv_values::rows::Rows;
+use mv_values::schema::TableInfo;
+use std::alloc::Global;
+use std::mem;
+
+/// Adds the records of a block to the rows of a table, each under its key. Or the fault of the first bad record: a
+/// `Width`, else a `Field`, else a `Duplicate`; the rows are then given up. Rows and columns of a fault count from 1. It
+/// costs n log n for n rows in all, in whatever order they come.
+pub fn load(
+    alloc: Global,
+    block: &[u8],
+    table: &TableInfo,
+    rows: &mut Rows,
+) -> Result<(), CopyFault>
+    requires block { length block.now < 2 ^ 32 }
+    requires columns { length table.now.columns < 2 ^ 32 }
+    ensures ok { OnOk result (HasLoaded table.now rows.old (records_of block.now) rows.new) }
+    ensures fault { IfErr result (TellsOfBlock table.now rows.old (records_of block.now)) }
+{
+    let old = mem::replace(rows, Rows::new(alloc));
+    let mut joining = Joining::of(alloc, old)?;
+    join_records(alloc, block, table, &mut joining)?;
+    *rows = joining.into_rows(alloc)?;
+    Ok(())
+}
+
+/// Adds the records of a block.
+fn join_records(
+    alloc: Global,
+    block: &[u8],
+    table: &TableInfo,
+    joining: &mut Joining,
+) -> Result<(), CopyFault>
+    requires block { length block.now < 2 ^ 32 }
+    requires columns { length table.now.columns < 2 ^ 32 }
+    requires rising { IsRising joining.old }
+    ensures { MatchResult result (λ _. HasLoaded table.now joining.old (records_of block.now) joining.new) (TellsOfBlock table.now joining.old (records_of block.now)) }
+{
+    let mut reader = reader_of(alloc, block);
+    let mut fields = ByteRecord::new(alloc);
+    let mut number = 0;
+    while has_read(&mut reader, &mut fields)? {
+        number += 1;
+        let row = row_of(alloc, &fields, table.columns.as_slice(), number)?;
+        join_row(alloc, joining, table, row, number)?;
+    }
+    Ok(())
+}
+
+/// A reader of the records of a block, of whatever lengths, none of them a header.
+fn reader_of(alloc: Global, block: &[u8]) -> Reader<&[u8]>
+    ensures { StandsAt result state.StartRecord (strip_bom block.now) }
+{
+    ReaderBuilder::new()
+        .has_headers(false)
+        .flexible(true)
+        .from_reader(alloc, block)
+}
+
+/// Reads the next record, and says whether there was one.
+fn has_read(reader: &mut Reader<&[u8]>, fields: &mut ByteRecord) -> Result<bool, NoMemory>
+    ensures { (at : State) (bytes : Seq ℕ) → StandsAt reader.old at bytes → IfOk result (λ found. MatchBool found (HasRead at bytes fields.new reader.new) (next_record default_config at [] [] bytes ≡ None)) }
+{
+    let Ok(found) = reader.read_byte_record(fields) else {
+        return Err(NoMemory);
+    };
+    Ok(found)
+}
