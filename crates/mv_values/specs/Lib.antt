@@ -4,3 +4,4 @@ pub mod Printable
 pub mod Keys
 pub mod Comparing
 pub mod Columns
+pub mod Preds

@@ -9,6 +9,8 @@ pub mod key;
 pub mod list;
 pub mod memory;
 pub mod op;
+pub mod patch;
+pub mod pred;
 pub mod rows;
 pub mod schema;
 #[cfg(test)]

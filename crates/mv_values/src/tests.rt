@@ -1,5 +1,9 @@
 use crate::copied::Copied;
 use crate::list::List;
+use crate::memory::NoMemory;
+use crate::op::Op;
+use crate::patch::{Assign, Patch, Write};
+use crate::pred::{Pred, Test};
 use crate::rows::{Keyed, Rows};
 use crate::txt::Txt;
 use crate::value::{Value, compare_keys};
@@ -47,5 +51,89 @@ fn values_stand_in_order(rt: HostRuntime) -> Result<(), Fail> {
         compare_keys(&[], key(alloc, 1)?.as_slice()),
         Ordering::Less
     );
+    Ok(())
+}
+
+fn row(alloc: Global, numbers: &[i64]) -> Result<List<Value>, NoMemory> {
+    let mut row = List::new(alloc);
+    for n in numbers {
+        row.push(Value::Int(*n))?;
+    }
+    Ok(row)
+}
+
+/// The rows of a table whose first column, its key, is 7 and whose second is at least 10, with the third selected.
+fn rich(alloc: Global) -> Result<Pred, NoMemory> {
+    let mut tests = List::new(alloc);
+    tests.push(Test {
+        column: 0,
+        key_place: Some(0),
+        op: Op::Eq,
+        value: Value::Int(7),
+    })?;
+    tests.push(Test {
+        column: 1,
+        key_place: None,
+        op: Op::Ge,
+        value: Value::Int(10),
+    })?;
+    let mut columns = List::new(alloc);
+    columns.push(2)?;
+    Ok(Pred {
+        table: 0,
+        tests,
+        columns,
+    })
+}
+
+#[test]
+fn a_predicate_sees_what_it_tests_and_selects(rt: HostRuntime) -> Result<(), Fail> {
+    let alloc = rt.alloc();
+    let pred = rich(alloc)?.copy(alloc)?;
+    for (numbers, matches, admits) in [
+        (&[7, 10, 1, 1], true, true),
+        (&[7, 9, 1, 1], false, true),
+        (&[8, 10, 1, 1], false, false),
+    ] {
+        assert_eq!(rt; pred.matches(&row(alloc, numbers)?), matches);
+        assert_eq!(rt; pred.admits(&key(alloc, numbers[0])?), admits);
+    }
+    let before = row(alloc, &[7, 10, 1, 1])?;
+    for (after, want) in [
+        (&[7, 10, 1, 2], true),
+        (&[7, 11, 1, 1], true),
+        (&[7, 10, 2, 1], false),
+        (&[7, 9, 1, 1], false),
+    ] {
+        assert_eq!(rt; pred.same(Some(&before), Some(&row(alloc, after)?)), want);
+    }
+    let poor = row(alloc, &[7, 9, 1, 1])?;
+    assert!(rt; pred.same(Some(&poor), None));
+    assert!(rt; pred.same(None, None));
+    assert!(rt; !pred.same(None, Some(&before)));
+    for (column, want) in [(0, true), (1, true), (2, true), (3, false)] {
+        assert_eq!(rt; pred.names(column), want);
+    }
+    Ok(())
+}
+
+#[test]
+fn writes_are_copied(rt: HostRuntime) -> Result<(), Fail> {
+    let alloc = rt.alloc();
+    let mut items = List::new(alloc);
+    items.push(Assign {
+        column: 3,
+        value: Value::Int(4),
+    })?;
+    let write = Write {
+        table: 2,
+        key: key(alloc, 7)?,
+        patch: Patch::Set(items),
+    };
+    let Patch::Set(copied) = write.copy(alloc)?.patch else {
+        return Err("another patch".into());
+    };
+    assert_eq!(rt; copied.as_slice()[0].column, 3);
+    assert!(rt; copied.as_slice()[0].value == Value::Int(4));
     Ok(())
 }
