@@ -1,5 +1,5 @@
 -- The tokens of a script as the grammar sees them.
-use Rattle.std.specs.Prelude.{ℕ, ◌+◌, List, [], ◌∷◌, length, slice_range, if◌then◌else◌, codes, ◌==◌}
+use Rattle.std.specs.Prelude.{ℕ, ◌+◌, ◌-◌, ◌≤◌, List, [], ◌∷◌, length, take, slice_range, if◌then◌else◌, codes, ◌==◌}
 use Rattle.std.specs.Cmp.Lexicographic.{pointwise}
 use Rattle.mv_lex.specs.declared.token.Token.{Token}
 use Rattle.mv_lex.specs.declared.token.Kind.{Kind}
@@ -8,7 +8,7 @@ use Rattle.mv_ast.specs.declared.lexeme.Lexeme.{Lexeme}
 use Rattle.mv_ast.specs.declared.lexeme.Terminal.{Terminal}
 use Rattle.mv_ast.specs.declared.lexeme.Terminal.TheVariants as word
 use Rattle.mv_ast.specs.declared.tree.Script.{Script}
-use Rattle.mv_ast.specs.Parts.{Is}
+use Rattle.mv_ast.specs.Parts.{Is, Begins}
 use Rattle.mv_ast.specs.Texts.{lower}
 use Rattle.mv_ast.specs.Grammar.{script, inner}
 
@@ -119,3 +119,14 @@ lexemes bytes tokens = lexemes_from 1 bytes tokens
 -- The tokens are a script by the grammar. A part inside another takes fewer tokens, so no more levels than tokens are needed.
 abbrev pub IsScript : List ℕ → List Token → Script → Type 0
 IsScript bytes tokens s = Is (inner bytes (length tokens)) (script bytes) (lexemes bytes tokens) s
+
+-- The first so many tokens begin a script.
+abbrev pub BeginScript : List ℕ → List Token → ℕ → Type 0
+BeginScript bytes tokens n = Begins (inner bytes (length tokens)) (script bytes) (take n (lexemes bytes tokens))
+
+-- The first token, counted from 1, with which no script goes on: those before it begin a script, with it they don't; it is one past the last where all tokens begin a script that they don't end.
+pub record CannotStand (bytes : List ℕ) (tokens : List Token) (t : ℕ) : Type 0 where
+  pub counted : (1 ≤ t) × (t ≤ length tokens + 1)
+  pub before : BeginScript bytes tokens (t - 1)
+  pub with_it : t ≤ length tokens → BeginScript bytes tokens t → ⊥
+  pub no_script : (s : Script) → IsScript bytes tokens s → ⊥

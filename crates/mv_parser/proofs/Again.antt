@@ -55,18 +55,18 @@ heads_both true n js ks (l ∷ xs) ys h i = among_left js ks l.kind h
 heads_both false n js ks [] ys h i = cc
 heads_both false n js ks (l ∷ xs) ys h i = h
 
-heads_left : (m n : Bool) (js ks : List Terminal) (ts : List Lexeme) → Heads m js ts → Heads (cond m true n) (js ++ ks) ts
+pub heads_left : (m n : Bool) (js ks : List Terminal) (ts : List Lexeme) → Heads m js ts → Heads (cond m true n) (js ++ ks) ts
 heads_left true n js ks [] h = refl
 heads_left false n js ks [] h = cc
 heads_left m n js ks (l ∷ ts) h = among_left js ks l.kind h
 
-heads_right : (m n : Bool) (js ks : List Terminal) (ts : List Lexeme) → Heads n ks ts → Heads (cond m true n) (js ++ ks) ts
+pub heads_right : (m n : Bool) (js ks : List Terminal) (ts : List Lexeme) → Heads n ks ts → Heads (cond m true n) (js ++ ks) ts
 heads_right true n js ks [] h = refl
 heads_right false n js ks [] h = h
 heads_right m n js ks (l ∷ ts) h = among_right js ks l.kind h
 
 -- of a part and pieces behind it
-heads_pieces : {B : Type 0} (m n : Bool) (js ks : List Terminal) (P : List Lexeme → B → Type 0) → ((ts : List Lexeme) (b : B) → P ts b → Heads n ks ts)
+pub heads_pieces : {B : Type 0} (m n : Bool) (js ks : List Terminal) (P : List Lexeme → B → Type 0) → ((ts : List Lexeme) (b : B) → P ts b → Heads n ks ts)
     → (bs : List B) (ys : List Lexeme) → Pieces P ys bs → Heads true ks ys
 heads_pieces m n js ks P h [] ys p = subst (Heads true ks) (sym p) refl
 heads_pieces m n js ks P h (b ∷ bs) ys p =
@@ -76,7 +76,7 @@ heads_pieces m n js ks P h (b ∷ bs) ys p =
     go n [] a b = b
     go n (l ∷ xs) a b = a
 
-heads_more : (m : Bool) (js ks : List Terminal) (xs ys : List Lexeme) → Heads m js xs → Heads true ks ys → Heads m (cond m (js ++ ks) js) (xs ++ ys)
+pub heads_more : (m : Bool) (js ks : List Terminal) (xs ys : List Lexeme) → Heads m js xs → Heads true ks ys → Heads m (cond m (js ++ ks) js) (xs ++ ys)
 heads_more true js ks [] [] h i = refl
 heads_more true js ks [] (l ∷ ys) h i = among_right js ks l.kind i
 heads_more true js ks (l ∷ xs) ys h i = among_left js ks l.kind h
@@ -106,11 +106,11 @@ pub stays_free : {A : Type 0} (q : Part A) (ks : List Terminal) (ys rest : List 
 stays_free q ks [] rest h a e = e h
 stays_free q ks (l ∷ ys) rest h a e = apart_not (first q) ks l.kind a h
 
-starts_first : {A : Type 0} (p : Part A) (ts rest : List Lexeme) → is_nullable p ≡ false → HeadOf p ts → starts_with (first p) (ts ++ rest) ≡ true
+pub starts_first : {A : Type 0} (p : Part A) (ts rest : List Lexeme) → is_nullable p ≡ false → HeadOf p ts → starts_with (first p) (ts ++ rest) ≡ true
 starts_first p [] rest n h = cc
 starts_first p (l ∷ ts) rest n h = h
 
-not_true : (b : Bool) → not b ≡ true → b ≡ false
+pub not_true : (b : Bool) → not b ≡ true → b ≡ false
 not_true true h = cc
 not_true false h = refl
 
@@ -145,13 +145,13 @@ unfolding more
 more_ends zero f ks piece a ts h = refl
 more_ends (suc m) f ks piece a ts h = rw h refl
 
-more_turns : {A B : Type 0} (m : ℕ) (f : A → B → A) (ks : List Terminal) (piece : List Lexeme → Read B) (a : A) (ts us : List Lexeme) (b : B)
+pub more_turns : {A B : Type 0} (m : ℕ) (f : A → B → A) (ks : List Terminal) (piece : List Lexeme → Read B) (a : A) (ts us : List Lexeme) (b : B)
     → starts_with ks ts ≡ true → piece ts ≡ Ok (b, us) → more (suc m) f ks piece a ts ≡ more m f ks piece (f a b) us
 unfolding more
 more_turns m f ks piece a ts us b h r = rw (h, r) refl
 
 -- a piece is no token at all, or there is a first one
-length_first : {A : Type 0} (p : Part A) (ts : List Lexeme) → is_nullable p ≡ false → HeadOf p ts → 1 ≤ length ts
+pub length_first : {A : Type 0} (p : Part A) (ts : List Lexeme) → is_nullable p ≡ false → HeadOf p ts → 1 ≤ length ts
 length_first p [] n h = cc
 length_first p (l ∷ ts) n h = omega arith
 

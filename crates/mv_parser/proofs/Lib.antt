@@ -1,7 +1,12 @@
 pub mod Basics
 pub mod Takes
+pub mod Stops
 pub mod Again
+pub mod Begun
+pub mod ReadsOn
+pub mod Shorter
 pub mod Whole
+pub mod Levels
 pub mod Turns
 pub mod TextLaws
 pub mod Keywords
@@ -11,4 +16,5 @@ pub mod Prefixes
 pub mod Parsing
 pub mod Printables
 pub mod Counting
+pub mod Faults
 pub mod Lexed

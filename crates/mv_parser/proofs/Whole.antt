@@ -8,7 +8,7 @@ use Rattle.mv_ast.specs.declared.tree.Script.{Script}
 use Rattle.mv_ast.specs.Parts.{Part, Inner, Is}
 use Rattle.mv_ast.specs.Grammar as rule
 use Rattle.mv_ast.specs.Grammar.{inner, script, expr, stmt}
-use Rattle.mv_parser.specs.Reading.{Read, Inside, inside, read, first, is_nullable, is_among, starts_with}
+use Rattle.mv_parser.specs.Reading.{Read, Inside, inside, read, first, is_nullable, is_among, starts_with, expression_words, statement_words}
 use Rattle.mv_parser.proofs.Basics.{chosen, or_cases, same_kind}
 use Rattle.mv_parser.proofs.Takes.{TakesAll, InnerTakes, takes}
 use Rattle.mv_parser.proofs.Again.{expression_tail, tail, is_clear, Heads, InnerHeads, heads, ReadsAgain, InnerAgain, again}
@@ -54,7 +54,15 @@ inner_heads bytes (suc d) = record {
   stmt = λ ts v i. heads (inner bytes d) (inner_heads bytes d) (stmt bytes) ts v i;
 }
 
-expr_clear : (bytes : List ℕ) → is_clear (expr bytes) ≡ true
+pub expr_first : (bytes : List ℕ) → first (expr bytes) ≡ expression_words
+unfolding all_rules
+expr_first bytes = refl
+
+pub stmt_first : (bytes : List ℕ) → first (stmt bytes) ≡ statement_words
+unfolding all_rules
+stmt_first bytes = refl
+
+pub expr_clear : (bytes : List ℕ) → is_clear (expr bytes) ≡ true
 unfolding all_rules
 expr_clear bytes = refl
 
@@ -62,7 +70,7 @@ expr_tail : (bytes : List ℕ) → are_within (tail (expr bytes)) expression_tai
 unfolding all_rules
 expr_tail bytes = refl
 
-stmt_clear : (bytes : List ℕ) → is_clear (stmt bytes) ≡ true
+pub stmt_clear : (bytes : List ℕ) → is_clear (stmt bytes) ≡ true
 unfolding all_rules
 stmt_clear bytes = refl
 
@@ -70,7 +78,7 @@ stmt_tail : (bytes : List ℕ) → tail (stmt bytes) ≡ []
 unfolding all_rules
 stmt_tail bytes = refl
 
-script_clear : (bytes : List ℕ) → is_clear (script bytes) ≡ true
+pub script_clear : (bytes : List ℕ) → is_clear (script bytes) ≡ true
 unfolding all_rules
 script_clear bytes = refl
 

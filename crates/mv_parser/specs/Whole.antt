@@ -1,9 +1,11 @@
 -- Reading all of the tokens.
-use Rattle.std.specs.Prelude.{◌≡◌, ℕ, List, [], ◌∷◌, Result, Ok, Err, length}
+use Rattle.std.specs.Prelude.{◌≡◌, ℕ, ◌+◌, ◌-◌, List, [], ◌∷◌, Result, Ok, Err, length}
 use Rattle.mv_ast.specs.declared.lexeme.Lexeme.{Lexeme}
 use Rattle.mv_ast.specs.declared.tree.Script.{Script}
 use Rattle.mv_ast.specs.Grammar.{script}
 use Rattle.mv_parser.specs.Reading.{◌>>=◌, read, inside}
+use Rattle.mv_parser.specs.declared.fault.ParseFault.{ParseFault}
+use Rattle.mv_parser.specs.declared.fault.ParseFault.TheVariants.{Syntax, Limit, NoMemory}
 use Rattle.mv_parser.specs.declared.fault.Stop.{Stop}
 use Rattle.mv_parser.specs.declared.fault.Stop.TheVariants.{Memory, Wrong}
 
@@ -21,3 +23,10 @@ abbrev pub Answers : {A : Type 0} → Result A Stop → Result A ℕ → Type 0
 Answers (Ok x) reading = reading ≡ Ok x
 Answers (Err Memory) reading = Unit {0}
 Answers (Err (Wrong left)) reading = reading ≡ Err left
+
+-- what is told of reading so many tokens, unless memory ran out; a fault's token is the first one of those left, counted from 1
+abbrev pub Tells : {A : Type 0} → Result A ParseFault → ℕ → Result A ℕ → Type 0
+Tells (Ok x) count reading = reading ≡ Ok x
+Tells (Err NoMemory) count reading = Unit {0}
+Tells (Err (Syntax token)) count reading = (left : ℕ) × (reading ≡ Err left) × (token ≡ count - left + 1)
+Tells (Err (Limit which token)) count reading = ⊥

@@ -1,17 +1,22 @@
-use Rattle.std.proofs.Common.{ap, arith, length, List}
-use Rattle.mv_ast.specs.declared.lexeme.Lexeme.{Lexeme}
-use Rattle.mv_parser.proofs.Counting.{few_tokens, length_lexemes}
+use Rattle.std.proofs.Common.{arith}
+use Rattle.mv_parser.proofs.Counting.{few_tokens}
+use Rattle.mv_parser.proofs.Faults.{tells_found, tells_only, tells_syntax, tells_syntax_told, tells_no_limit}
 use Rattle.mv_parser.proofs.parse.parse.Goals as goal
 
-pub parse_lexemes-requires-clause-few : goal.parse_lexemes-requires-clause-few
-parse_lexemes-requires-clause-few c =
-    omega (
-      arith,
-      few_tokens c.args.bytes.now c.args.tokens.now c.requires.tokens,
-      length_lexemes 1 c.args.bytes.now c.args.tokens.now,
-      ap (λ (ls : List Lexeme). length ls) c.in_ok-lexemes.ensures.lexemes,
-      ap (λ (ls : List Lexeme). length ls) c.as_slice.ensures,
-    )
+pub read_script-requires-clause-few : goal.read_script-requires-clause-few
+read_script-requires-clause-few c = omega (arith, few_tokens c.args.bytes.now c.args.tokens.now c.requires.tokens)
 
-pub lexemes_of-requires-clause-few : goal.lexemes_of-requires-clause-few
-lexemes_of-requires-clause-few c = omega (arith, few_tokens c.args.bytes.now c.args.tokens.now c.requires.tokens)
+pub returns-clause-found : goal.returns-clause-found
+returns-clause-found c = tells_found c.args.bytes.now c.args.tokens.now c.read_script.result c.read_script.ensures
+
+pub returns-clause-only : goal.returns-clause-only
+returns-clause-only c = tells_only c.args.bytes.now c.args.tokens.now c.read_script.result c.read_script.ensures
+
+pub returns-clause-syntax : goal.returns-clause-syntax
+returns-clause-syntax c = tells_syntax c.args.bytes.now c.args.tokens.now c.read_script.result c.read_script.ensures
+
+pub returns-clause-syntax_told : goal.returns-clause-syntax_told
+returns-clause-syntax_told c = tells_syntax_told c.args.bytes.now c.args.tokens.now c.read_script.result c.read_script.ensures
+
+pub returns-clause-no_limit : goal.returns-clause-no_limit
+returns-clause-no_limit c = tells_no_limit c.args.bytes.now c.args.tokens.now c.read_script.result c.read_script.ensures

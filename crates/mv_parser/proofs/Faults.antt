@@ -1,0 +1,139 @@
+-- The token that a fault names.
+use Rattle.std.proofs.Common.{◌≡◌, ◌⊎◌, inl, inr, ℕ, ◌+◌, ◌-◌, ◌<◌, ◌≤◌, List, [], ◌∷◌, ◌++◌, Result, Ok, Err, length, take, drop, refl, sym, ap, subst, ◌∙◌, arith, length-append}
+use Rattle.std.specs.Prelude.{IfOk, MatchResult}
+use Rattle.std.proofs.Math.Seq.{take-append_seam}
+use Rattle.std.proofs.lemmas.Bool.{cases_lt}
+use Rattle.std.proofs.lemmas.List.{take-append-drop, take-append-le, length-drop}
+use Rattle.mv_lex.specs.declared.token.Token.{Token}
+use Rattle.mv_ast.specs.declared.lexeme.Lexeme.{Lexeme}
+use Rattle.mv_ast.specs.declared.tree.Script.{Script}
+use Rattle.mv_ast.specs.Parts.{Is, Begins}
+use Rattle.mv_ast.specs.Grammar.{script, inner}
+use Rattle.mv_ast.specs.Lexemes.{lexemes, IsScript, BeginScript, CannotStand}
+use Rattle.mv_parser.specs.declared.fault.ParseFault.{ParseFault}
+use Rattle.mv_parser.specs.declared.fault.ParseFault.TheVariants.{Syntax, Limit, NoMemory}
+use Rattle.mv_parser.specs.declared.fault.Which.{Which}
+use Rattle.mv_parser.specs.Reading.{◌>>=◌, inside, read}
+use Rattle.mv_parser.specs.Whole.{whole, parsed, Tells}
+use Rattle.mv_parser.proofs.Basics.{bind_err}
+use Rattle.mv_parser.proofs.Stops.{Stands, stops}
+use Rattle.mv_parser.proofs.Begun.{whole_begins}
+use Rattle.mv_parser.proofs.ReadsOn.{Past, reads_on}
+use Rattle.mv_parser.proofs.Shorter.{shorter}
+use Rattle.mv_parser.proofs.Whole.{script_takes, script_clear}
+use Rattle.mv_parser.proofs.Levels.{level, inner_begun, inner_shorter}
+use Rattle.mv_parser.proofs.Parsing.{answers_found, same_answer, no_fault}
+use Rattle.mv_parser.proofs.Counting.{length_lexemes}
+
+whole_err : {A : Type 0} (v : A) (ts : List Lexeme) (n : ℕ) → whole v ts ≡ Err n → length ts ≡ n
+whole_err v [] n h = cc
+whole_err {A = A} v (l ∷ ts) n h = let same : ◌≡◌ {A = Result A ℕ} (Err (length (l ∷ ts))) (Err n) = h in cc
+
+abbrev pub Begin : List ℕ → ℕ → List Lexeme → Type 0
+Begin bytes d ts = Begins (inner bytes d) (script bytes) ts
+
+-- the tokens before a fault begin a script
+pub script_stops : (bytes : List ℕ) (d : ℕ) (ts : List Lexeme) (n : ℕ) → parsed bytes d ts ≡ Err n → Stands (Begin bytes d) ts n
+script_stops bytes d ts n h =
+    elim (bind_err (read (inside bytes d) (script bytes) ts) (λ x. whole x.0 x.1) n h) [
+      | inl e ↦ stops (inner bytes d) (inside bytes d) (level bytes d).takes (level bytes d).stops (script bytes) ts n e
+      | inr x ↦ (
+          let i = script_takes bytes d ts x.0.0 x.0.1 x.1 in
+          (i.0, x.0.1, i.1, whole_err x.0.0 x.0.1 n x.2, whole_begins (inner bytes d) (inner_begun bytes d) (script bytes) i.0 x.0.0 i.2))
+    ]
+
+-- a fault lies behind each front that begins a script
+script_on : (bytes : List ℕ) (d : ℕ) (front post : List Lexeme) (n : ℕ) → Begin bytes d front → parsed bytes d (front ++ post) ≡ Err n → n ≤ length post
+script_on bytes d front post n b h =
+    let p = reads_on (inner bytes d) (inside bytes d) (level bytes d) (script bytes) (script_clear bytes) front b post in
+    elim (bind_err (read (inside bytes d) (script bytes) (front ++ post)) (λ x. whole x.0 x.1) n h) [
+      | inl e ↦ subst (Past {A = Script} (length post)) e p
+      | inr x ↦ (
+          let q : length x.0.1 ≤ length post = subst (Past {A = Script} (length post)) x.1 p in
+          let same = whole_err x.0.0 x.0.1 n x.2 in
+          omega arith)
+    ]
+
+on_front : (bytes : List ℕ) (d m : ℕ) (ts : List Lexeme) (n : ℕ) → Begin bytes d (take m ts) → parsed bytes d ts ≡ Err n → n ≤ length ts - m
+on_front bytes d m ts n b h =
+    let r = script_on bytes d (take m ts) (drop m ts) n b (ap (parsed bytes d) (take-append-drop m ts) ∙ h) in
+    omega (arith, length-drop m ts)
+
+stands_before : (bytes : List ℕ) (d : ℕ) (ts : List Lexeme) (n : ℕ) → parsed bytes d ts ≡ Err n → (n ≤ length ts) × Begin bytes d (take (length ts - n) ts)
+stands_before bytes d ts n h =
+    let i = script_stops bytes d ts n h in
+    let len : length ts ≡ length i.0 + length i.1 = ap length i.2 ∙ length-append i.0 i.1 in
+    let count : length ts - n ≡ length i.0 = omega (arith, i.3) in
+    let front : take (length ts - n) ts ≡ i.0 = ap (λ k. take k ts) count ∙ (ap (take (length i.0)) i.2 ∙ take-append_seam i.0 i.1) in
+    (omega (arith, i.3), subst (Begin bytes d) (sym front) i.4)
+
+pub names_token : (bytes : List ℕ) (tokens : List Token) (left t : ℕ) → parsed bytes (length tokens) (lexemes bytes tokens) ≡ Err left → t ≡ length tokens - left + 1
+    → CannotStand bytes tokens t
+names_token bytes tokens left t h is =
+    let d = length tokens in
+    let ts = lexemes bytes tokens in
+    let len : length ts ≡ d = length_lexemes 1 bytes tokens in
+    let b = stands_before bytes d ts left h in
+    let within = b.0 in
+    let place : length ts - left ≡ t - 1 = omega arith in
+    record {
+      counted = (omega arith, omega arith);
+      before = subst (λ k. Begin bytes d (take k ts)) place b.1;
+      with_it = λ there begun. let further = on_front bytes d t ts left begun h in omega arith;
+      no_script = λ s i. no_fault bytes d ts s left i h;
+    }
+
+-- there is only one such token
+pub one_token : (bytes : List ℕ) (tokens : List Token) (left t : ℕ) → parsed bytes (length tokens) (lexemes bytes tokens) ≡ Err left → CannotStand bytes tokens t
+    → t ≡ length tokens - left + 1
+one_token bytes tokens left t h c =
+    let d = length tokens in
+    let ts = lexemes bytes tokens in
+    let len : length ts ≡ d = length_lexemes 1 bytes tokens in
+    let counted = c.counted in
+    let behind = on_front bytes d (t - 1) ts left c.before h in
+    let i = script_stops bytes d ts left h in
+    let split : length ts ≡ length i.0 + length i.1 = ap length i.2 ∙ length-append i.0 i.1 in
+    let last = i.3 in
+    elim (cases_lt (length i.0) t) [
+      | inl after ↦ omega arith
+      | inr before ↦ (
+          let front : take t ts ≡ take t i.0 = ap (take t) i.2 ∙ take-append-le t i.0 i.1 before in
+          let begun : Begin bytes d (take t i.0) =
+          shorter (inner bytes d) (inner_begun bytes d) (inner_shorter bytes d) (script bytes) i.0 (take t i.0) (drop t i.0) i.4 (sym (take-append-drop t i.0)) in
+          absurd (c.with_it (omega arith) (subst (Begin bytes d) (sym front) begun)))
+    ]
+
+-- what follows from what is told
+pub tells_found : (bytes : List ℕ) (tokens : List Token) (r : Result Script ParseFault) → Tells r (length tokens) (parsed bytes (length tokens) (lexemes bytes tokens))
+    → IfOk r (λ s. IsScript bytes tokens s)
+tells_found bytes tokens (Ok s) t = answers_found bytes (length tokens) (lexemes bytes tokens) s t
+tells_found bytes tokens (Err e) t = tt
+
+pub tells_only : (bytes : List ℕ) (tokens : List Token) (r : Result Script ParseFault) → Tells r (length tokens) (parsed bytes (length tokens) (lexemes bytes tokens))
+    → (s : Script) → IsScript bytes tokens s → MatchResult r (λ answer. answer ≡ s) (λ fault. fault ≡ NoMemory)
+tells_only bytes tokens (Ok x) t s i = same_answer bytes (length tokens) (lexemes bytes tokens) s x i t
+tells_only bytes tokens (Err NoMemory) t s i = refl
+tells_only bytes tokens (Err (Syntax k)) t s i = absurd (no_fault bytes (length tokens) (lexemes bytes tokens) s t.0 i t.1)
+tells_only bytes tokens (Err (Limit w k)) t s i = absurd t
+
+pub tells_syntax : (bytes : List ℕ) (tokens : List Token) (r : Result Script ParseFault) → Tells r (length tokens) (parsed bytes (length tokens) (lexemes bytes tokens))
+    → (token : ℕ) → r ≡ Err (Syntax token) → CannotStand bytes tokens token
+tells_syntax bytes tokens (Ok x) t token h = cc
+tells_syntax bytes tokens (Err NoMemory) t token h = cc
+tells_syntax bytes tokens (Err (Syntax k)) t token h = let same : k ≡ token = cc in subst (CannotStand bytes tokens) same (names_token bytes tokens t.0 k t.1 t.2)
+tells_syntax bytes tokens (Err (Limit w k)) t token h = absurd t
+
+pub tells_syntax_told : (bytes : List ℕ) (tokens : List Token) (r : Result Script ParseFault) → Tells r (length tokens) (parsed bytes (length tokens) (lexemes bytes tokens))
+    → (token : ℕ) → CannotStand bytes tokens token → (r ≡ Err (Syntax token)) ⊎ (r ≡ Err NoMemory)
+tells_syntax_told bytes tokens (Ok x) t token c = absurd (c.no_script x (answers_found bytes (length tokens) (lexemes bytes tokens) x t))
+tells_syntax_told bytes tokens (Err NoMemory) t token c = inr refl
+tells_syntax_told bytes tokens (Err (Syntax k)) t token c = inl (ap (λ n. Err (Syntax n)) (t.2 ∙ sym (one_token bytes tokens t.0 token t.1 c)))
+tells_syntax_told bytes tokens (Err (Limit w k)) t token c = absurd t
+
+pub tells_no_limit : (bytes : List ℕ) (tokens : List Token) (r : Result Script ParseFault) → Tells r (length tokens) (parsed bytes (length tokens) (lexemes bytes tokens))
+    → (which : Which) (token : ℕ) → r ≡ Err (Limit which token) → ⊥
+tells_no_limit bytes tokens (Ok x) t which token h = cc
+tells_no_limit bytes tokens (Err NoMemory) t which token h = cc
+tells_no_limit bytes tokens (Err (Syntax k)) t which token h = cc
+tells_no_limit bytes tokens (Err (Limit w k)) t which token h = t
