@@ -15,5 +15,7 @@ pub mod parse;
 mod reader;
 mod single;
 mod statements;
+#[cfg(test)]
+mod tests;
 mod texts;
 mod words;
