@@ -116,15 +116,15 @@ lexemes_from number bytes (t ∷ ts) = lexeme_of number bytes t ∷ lexemes_from
 abbrev pub lexemes : List ℕ → List Token → List Lexeme
 lexemes bytes tokens = lexemes_from 1 bytes tokens
 
--- The tokens are a script by the grammar. A part inside another takes fewer tokens, so no more levels than tokens are needed.
+-- The tokens are a script by the grammar, with what stands inside to any number of levels.
 abbrev pub IsScript : List ℕ → List Token → Script → Type 0
-IsScript bytes tokens s = Is (inner bytes (length tokens)) (script bytes) (lexemes bytes tokens) s
+IsScript bytes tokens s = (levels : ℕ) × Is (inner bytes levels) (script bytes) (lexemes bytes tokens) s
 
 -- The first so many tokens begin a script.
 abbrev pub BeginScript : List ℕ → List Token → ℕ → Type 0
-BeginScript bytes tokens n = Begins (inner bytes (length tokens)) (script bytes) (take n (lexemes bytes tokens))
+BeginScript bytes tokens n = (levels : ℕ) × Begins (inner bytes levels) (script bytes) (take n (lexemes bytes tokens))
 
--- The first token, counted from 1, with which no script goes on: those before it begin a script, with it they don't; it is one past the last where all tokens begin a script that they don't end.
+-- The first token, counted from 1, with which no script goes on: those before it begin a script, with it they don't; it is one past the last where all tokens begin a script and are none.
 pub record CannotStand (bytes : List ℕ) (tokens : List Token) (t : ℕ) : Type 0 where
   pub counted : (1 ≤ t) × (t ≤ length tokens + 1)
   pub before : BeginScript bytes tokens (t - 1)

@@ -22,6 +22,7 @@ use Rattle.mv_parser.proofs.ReadsOn.{Past, reads_on}
 use Rattle.mv_parser.proofs.Shorter.{shorter}
 use Rattle.mv_parser.proofs.Whole.{script_takes, script_clear}
 use Rattle.mv_parser.proofs.Levels.{level, inner_begun, inner_shorter}
+use Rattle.mv_parser.proofs.Enough.{enough, enough_begin}
 use Rattle.mv_parser.proofs.Parsing.{answers_found, same_answer, no_fault}
 use Rattle.mv_parser.proofs.Counting.{length_lexemes}
 
@@ -67,6 +68,18 @@ stands_before bytes d ts n h =
     let front : take (length ts - n) ts ≡ i.0 = ap (λ k. take k ts) count ∙ (ap (take (length i.0)) i.2 ∙ take-append_seam i.0 i.1) in
     (omega (arith, i.3), subst (Begin bytes d) (sym front) i.4)
 
+front_within : (m : ℕ) (ts : List Lexeme) → length (take m ts) ≤ length ts
+front_within m ts = omega (arith, ap length (take-append-drop m ts), length-append (take m ts) (drop m ts))
+
+-- as many levels as there are tokens are enough
+front_begins : (bytes : List ℕ) (tokens : List Token) (t : ℕ) → BeginScript bytes tokens t → Begin bytes (length tokens) (take t (lexemes bytes tokens))
+front_begins bytes tokens t b =
+    let ts = lexemes bytes tokens in
+    enough_begin bytes b.0 (length tokens) (take t ts) (omega (arith, front_within t ts, length_lexemes 1 bytes tokens)) b.1
+
+all_is : (bytes : List ℕ) (tokens : List Token) (s : Script) → IsScript bytes tokens s → Is (inner bytes (length tokens)) (script bytes) (lexemes bytes tokens) s
+all_is bytes tokens s i = enough bytes i.0 (length tokens) (lexemes bytes tokens) s (omega (arith, length_lexemes 1 bytes tokens)) i.1
+
 pub names_token : (bytes : List ℕ) (tokens : List Token) (left t : ℕ) → parsed bytes (length tokens) (lexemes bytes tokens) ≡ Err left → t ≡ length tokens - left + 1
     → CannotStand bytes tokens t
 names_token bytes tokens left t h is =
@@ -78,9 +91,9 @@ names_token bytes tokens left t h is =
     let place : length ts - left ≡ t - 1 = omega arith in
     record {
       counted = (omega arith, omega arith);
-      before = subst (λ k. Begin bytes d (take k ts)) place b.1;
-      with_it = λ there begun. let further = on_front bytes d t ts left begun h in omega arith;
-      no_script = λ s i. no_fault bytes d ts s left i h;
+      before = (d, subst (λ k. Begin bytes d (take k ts)) place b.1);
+      with_it = λ there begun. let further = on_front bytes d t ts left (front_begins bytes tokens t begun) h in omega arith;
+      no_script = λ s i. no_fault bytes d ts s left (all_is bytes tokens s i) h;
     }
 
 -- there is only one such token
@@ -91,7 +104,7 @@ one_token bytes tokens left t h c =
     let ts = lexemes bytes tokens in
     let len : length ts ≡ d = length_lexemes 1 bytes tokens in
     let counted = c.counted in
-    let behind = on_front bytes d (t - 1) ts left c.before h in
+    let behind = on_front bytes d (t - 1) ts left (front_begins bytes tokens (t - 1) c.before) h in
     let i = script_stops bytes d ts left h in
     let split : length ts ≡ length i.0 + length i.1 = ap length i.2 ∙ length-append i.0 i.1 in
     let last = i.3 in
@@ -101,20 +114,20 @@ one_token bytes tokens left t h c =
           let front : take t ts ≡ take t i.0 = ap (take t) i.2 ∙ take-append-le t i.0 i.1 before in
           let begun : Begin bytes d (take t i.0) =
           shorter (inner bytes d) (inner_begun bytes d) (inner_shorter bytes d) (script bytes) i.0 (take t i.0) (drop t i.0) i.4 (sym (take-append-drop t i.0)) in
-          absurd (c.with_it (omega arith) (subst (Begin bytes d) (sym front) begun)))
+          absurd (c.with_it (omega arith) (d, subst (Begin bytes d) (sym front) begun)))
     ]
 
 -- what follows from what is told
 pub tells_found : (bytes : List ℕ) (tokens : List Token) (r : Result Script ParseFault) → Tells r (length tokens) (parsed bytes (length tokens) (lexemes bytes tokens))
     → IfOk r (λ s. IsScript bytes tokens s)
-tells_found bytes tokens (Ok s) t = answers_found bytes (length tokens) (lexemes bytes tokens) s t
+tells_found bytes tokens (Ok s) t = (length tokens, answers_found bytes (length tokens) (lexemes bytes tokens) s t)
 tells_found bytes tokens (Err e) t = tt
 
 pub tells_only : (bytes : List ℕ) (tokens : List Token) (r : Result Script ParseFault) → Tells r (length tokens) (parsed bytes (length tokens) (lexemes bytes tokens))
     → (s : Script) → IsScript bytes tokens s → MatchResult r (λ answer. answer ≡ s) (λ fault. fault ≡ NoMemory)
-tells_only bytes tokens (Ok x) t s i = same_answer bytes (length tokens) (lexemes bytes tokens) s x i t
+tells_only bytes tokens (Ok x) t s i = same_answer bytes (length tokens) (lexemes bytes tokens) s x (all_is bytes tokens s i) t
 tells_only bytes tokens (Err NoMemory) t s i = refl
-tells_only bytes tokens (Err (Syntax k)) t s i = absurd (no_fault bytes (length tokens) (lexemes bytes tokens) s t.0 i t.1)
+tells_only bytes tokens (Err (Syntax k)) t s i = absurd (no_fault bytes (length tokens) (lexemes bytes tokens) s t.0 (all_is bytes tokens s i) t.1)
 tells_only bytes tokens (Err (Limit w k)) t s i = absurd t
 
 pub tells_syntax : (bytes : List ℕ) (tokens : List Token) (r : Result Script ParseFault) → Tells r (length tokens) (parsed bytes (length tokens) (lexemes bytes tokens))
@@ -126,7 +139,7 @@ tells_syntax bytes tokens (Err (Limit w k)) t token h = absurd t
 
 pub tells_syntax_told : (bytes : List ℕ) (tokens : List Token) (r : Result Script ParseFault) → Tells r (length tokens) (parsed bytes (length tokens) (lexemes bytes tokens))
     → (token : ℕ) → CannotStand bytes tokens token → (r ≡ Err (Syntax token)) ⊎ (r ≡ Err NoMemory)
-tells_syntax_told bytes tokens (Ok x) t token c = absurd (c.no_script x (answers_found bytes (length tokens) (lexemes bytes tokens) x t))
+tells_syntax_told bytes tokens (Ok x) t token c = absurd (c.no_script x (length tokens, answers_found bytes (length tokens) (lexemes bytes tokens) x t))
 tells_syntax_told bytes tokens (Err NoMemory) t token c = inr refl
 tells_syntax_told bytes tokens (Err (Syntax k)) t token c = inl (ap (λ n. Err (Syntax n)) (t.2 ∙ sym (one_token bytes tokens t.0 token t.1 c)))
 tells_syntax_told bytes tokens (Err (Limit w k)) t token c = absurd t

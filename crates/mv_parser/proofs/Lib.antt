@@ -6,7 +6,9 @@ pub mod Begun
 pub mod ReadsOn
 pub mod Shorter
 pub mod Whole
+pub mod Guarded
 pub mod Levels
+pub mod Enough
 pub mod Turns
 pub mod TextLaws
 pub mod Keywords

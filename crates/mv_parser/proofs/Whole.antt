@@ -11,6 +11,7 @@ use Rattle.mv_ast.specs.Grammar.{inner, script, expr, stmt}
 use Rattle.mv_parser.specs.Reading.{Read, Inside, inside, read, first, is_nullable, is_among, starts_with, expression_words, statement_words}
 use Rattle.mv_parser.proofs.Basics.{chosen, or_cases, same_kind}
 use Rattle.mv_parser.proofs.Takes.{TakesAll, InnerTakes, takes}
+use Rattle.mv_parser.proofs.Guarded.{is_guarded}
 use Rattle.mv_parser.proofs.Again.{expression_tail, tail, is_clear, Heads, InnerHeads, heads, ReadsAgain, InnerAgain, again}
 
 -- all rules, opened at once
@@ -81,6 +82,18 @@ stmt_tail bytes = refl
 pub script_clear : (bytes : List ℕ) → is_clear (script bytes) ≡ true
 unfolding all_rules
 script_clear bytes = refl
+
+pub expr_guarded : (bytes : List ℕ) → is_guarded (expr bytes) ≡ true
+unfolding all_rules
+expr_guarded bytes = refl
+
+pub stmt_guarded : (bytes : List ℕ) → is_guarded (stmt bytes) ≡ true
+unfolding all_rules
+stmt_guarded bytes = refl
+
+pub script_guarded : (bytes : List ℕ) → is_guarded (script bytes) ≡ true
+unfolding all_rules
+script_guarded bytes = refl
 
 pub inner_again : (bytes : List ℕ) (d : ℕ) → InnerAgain (inner bytes d) (inside bytes d)
 unfolding inner inside
