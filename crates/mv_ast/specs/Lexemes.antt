@@ -1,5 +1,5 @@
 -- The tokens of a script as the grammar sees them.
-use Rattle.std.specs.Prelude.{ℕ, ◌+◌, ◌-◌, ◌≤◌, List, [], ◌∷◌, length, take, slice_range, if◌then◌else◌, codes, ◌==◌}
+use Rattle.std.specs.Prelude.{◌≡◌, ◌⊎◌, ℕ, ◌+◌, ◌-◌, ◌≤◌, List, [], ◌∷◌, Some, None, length, take, slice_range, if◌then◌else◌, codes, ◌==◌}
 use Rattle.std.specs.Cmp.Lexicographic.{pointwise}
 use Rattle.mv_lex.specs.declared.token.Token.{Token}
 use Rattle.mv_lex.specs.declared.token.Kind.{Kind}
@@ -7,10 +7,12 @@ use Rattle.mv_lex.specs.declared.token.Kind.TheVariants as token
 use Rattle.mv_ast.specs.declared.lexeme.Lexeme.{Lexeme}
 use Rattle.mv_ast.specs.declared.lexeme.Terminal.{Terminal}
 use Rattle.mv_ast.specs.declared.lexeme.Terminal.TheVariants as word
+use Rattle.mv_ast.specs.declared.limit.Which.{Which}
 use Rattle.mv_ast.specs.declared.tree.Script.{Script}
 use Rattle.mv_ast.specs.Parts.{Is, Begins}
 use Rattle.mv_ast.specs.Texts.{lower}
 use Rattle.mv_ast.specs.Grammar.{script, inner}
+use Rattle.mv_ast.specs.Limits.{at_token, first_early, first_late}
 
 -- the keywords, which are no names
 unfoldable pub keywords : List (List ℕ × Terminal)
@@ -116,17 +118,30 @@ lexemes_from number bytes (t ∷ ts) = lexeme_of number bytes t ∷ lexemes_from
 abbrev pub lexemes : List ℕ → List Token → List Lexeme
 lexemes bytes tokens = lexemes_from 1 bytes tokens
 
--- The tokens are a script by the grammar, with what stands inside to any number of levels.
-abbrev pub IsScript : List ℕ → List Token → Script → Type 0
-IsScript bytes tokens s = (levels : ℕ) × Is (inner bytes levels) (script bytes) (lexemes bytes tokens) s
+-- The tokens are a script by the grammar, limits aside, with what stands inside to any number of levels.
+abbrev pub IsByGrammar : List ℕ → List Token → Script → Type 0
+IsByGrammar bytes tokens s = (levels : ℕ) × Is (inner bytes levels) (script bytes) (lexemes bytes tokens) s
 
--- The first so many tokens begin a script.
+-- The tokens are a script by the grammar and pass no limit.
+pub record IsScript (bytes : List ℕ) (tokens : List Token) (s : Script) : Type 0 where
+  pub grammar : IsByGrammar bytes tokens s
+  pub early : first_early (lexemes bytes tokens) ≡ None
+  pub late : first_late bytes (lexemes bytes tokens) s ≡ None
+
+-- This limit is the one to tell, at this token: depth or stretch where they are passed first, and else another limit that a script by the grammar passes first.
+abbrev pub PassesLimit : List ℕ → List Token → Which → ℕ → Type 0
+PassesLimit bytes tokens which token =
+    (first_early (lexemes bytes tokens) ≡ Some (at_token which token))
+    ⊎ ((first_early (lexemes bytes tokens) ≡ None) × (s : Script) × IsByGrammar bytes tokens s × (first_late bytes (lexemes bytes tokens) s ≡ Some (at_token which token)))
+
+-- The first so many tokens begin a script, limits aside.
 abbrev pub BeginScript : List ℕ → List Token → ℕ → Type 0
 BeginScript bytes tokens n = (levels : ℕ) × Begins (inner bytes levels) (script bytes) (take n (lexemes bytes tokens))
 
--- The first token, counted from 1, with which no script goes on: those before it begin a script, with it they don't; it is one past the last where all tokens begin a script and are none.
+-- The first token, counted from 1, with which no script goes on, where depth and stretch aren't passed: the tokens before it begin a script, with it they don't; it is one past the last where all tokens begin a script and are none.
 pub record CannotStand (bytes : List ℕ) (tokens : List Token) (t : ℕ) : Type 0 where
+  pub early : first_early (lexemes bytes tokens) ≡ None
   pub counted : (1 ≤ t) × (t ≤ length tokens + 1)
   pub before : BeginScript bytes tokens (t - 1)
   pub with_it : t ≤ length tokens → BeginScript bytes tokens t → ⊥
-  pub no_script : (s : Script) → IsScript bytes tokens s → ⊥
+  pub no_script : (s : Script) → IsByGrammar bytes tokens s → ⊥

@@ -1,8 +1,9 @@
 -- Reading all of the tokens.
-use Rattle.std.specs.Prelude.{◌≡◌, ℕ, ◌+◌, ◌-◌, List, [], ◌∷◌, Result, Ok, Err, length}
+use Rattle.std.specs.Prelude.{◌≡◌, ◌⊎◌, ℕ, ◌+◌, ◌-◌, List, [], ◌∷◌, Some, None, Result, Ok, Err, length}
 use Rattle.mv_ast.specs.declared.lexeme.Lexeme.{Lexeme}
 use Rattle.mv_ast.specs.declared.tree.Script.{Script}
 use Rattle.mv_ast.specs.Grammar.{script}
+use Rattle.mv_ast.specs.Limits.{at_token, first_early, first_late}
 use Rattle.mv_parser.specs.Reading.{◌>>=◌, read, inside}
 use Rattle.mv_parser.specs.declared.fault.ParseFault.{ParseFault}
 use Rattle.mv_parser.specs.declared.fault.ParseFault.TheVariants.{Syntax, Limit, NoMemory}
@@ -24,9 +25,11 @@ Answers (Ok x) reading = reading ≡ Ok x
 Answers (Err Memory) reading = Unit {0}
 Answers (Err (Wrong left)) reading = reading ≡ Err left
 
--- what is told of reading so many tokens, unless memory ran out; a fault's token is the first one of those left, counted from 1
-abbrev pub Tells : {A : Type 0} → Result A ParseFault → ℕ → Result A ℕ → Type 0
-Tells (Ok x) count reading = reading ≡ Ok x
-Tells (Err NoMemory) count reading = Unit {0}
-Tells (Err (Syntax token)) count reading = (left : ℕ) × (reading ≡ Err left) × (token ≡ count - left + 1)
-Tells (Err (Limit which token)) count reading = ⊥
+-- What is told of a script's tokens and of reading them, unless memory ran out: a limit that needs no tree, then a fault of the grammar, then another limit. A fault's token is the first one of those left, counted from 1.
+abbrev pub Tells : List ℕ → List Lexeme → Result Script ℕ → Result Script ParseFault → Type 0
+Tells bytes ts reading (Ok s) = (first_early ts ≡ None) × (reading ≡ Ok s) × (first_late bytes ts s ≡ None)
+Tells bytes ts reading (Err NoMemory) = Unit {0}
+Tells bytes ts reading (Err (Syntax token)) = (first_early ts ≡ None) × (left : ℕ) × (reading ≡ Err left) × (token ≡ length ts - left + 1)
+Tells bytes ts reading (Err (Limit which token)) =
+    (first_early ts ≡ Some (at_token which token))
+    ⊎ ((first_early ts ≡ None) × (s : Script) × (reading ≡ Ok s) × (first_late bytes ts s ≡ Some (at_token which token)))

@@ -1,6 +1,6 @@
 //! Scripts, expressions and faults of the grammar, worked out by hand.
 
-use crate::fault::ParseFault;
+use crate::fault::{ParseFault, Which};
 use crate::parse::parse;
 use mv_ast::tree::{Expr, ExprKind, Item, ItemKind, Script, Stmt};
 use mv_lex::lexer::lex;
@@ -58,6 +58,36 @@ fn names_the_first_token_that_cannot_stand(rt: HostRuntime) -> Result<(), Fail> 
     ] {
         let fault = read(rt.alloc(), script)?.err();
         assert_eq!(rt; fault, Some(ParseFault::Syntax { token }), "{script}");
+    }
+    Ok(())
+}
+
+const fn limit(which: Which, token: u32) -> ParseFault {
+    ParseFault::Limit { which, token }
+}
+
+/// Depth and stretch count before the grammar, and the grammar before the other limits.
+#[test]
+fn tells_limits_and_faults_in_their_order(rt: HostRuntime) -> Result<(), Fail> {
+    let deep = "CREATE PROCEDURE p () BEGIN SET :x = ((((((((((((((((((((((((((((((((";
+    for (script, fault) in [
+        (deep, limit(Which::Depth, 41)),
+        ("CALL p(9223372036854775808);", limit(Which::Literal, 4)),
+        (
+            "CALL p(9223372036854775808)",
+            ParseFault::Syntax { token: 6 },
+        ),
+        (
+            "CALL p('', 9223372036854775808); CREATE TABLE a (id TEXT(0), PRIMARY KEY (id));",
+            limit(Which::Literal, 6),
+        ),
+        (
+            "CREATE TABLE a (id TEXT(0), PRIMARY KEY (id));",
+            limit(Which::Text, 8),
+        ),
+    ] {
+        let told = read(rt.alloc(), script)?.err();
+        assert_eq!(rt; told, Some(fault), "{script}");
     }
     Ok(())
 }

@@ -1,6 +1,6 @@
 use Rattle.std.proofs.Common.{arith}
 use Rattle.mv_parser.proofs.Counting.{few_tokens}
-use Rattle.mv_parser.proofs.Faults.{tells_found, tells_only, tells_syntax, tells_syntax_told, tells_no_limit}
+use Rattle.mv_parser.proofs.Faults.{tells_found, tells_only, tells_syntax, tells_syntax_told, tells_limit, tells_limit_told}
 use Rattle.mv_parser.proofs.parse.parse.Goals as goal
 
 pub read_script-requires-clause-few : goal.read_script-requires-clause-few
@@ -18,5 +18,8 @@ returns-clause-syntax c = tells_syntax c.args.bytes.now c.args.tokens.now c.read
 pub returns-clause-syntax_told : goal.returns-clause-syntax_told
 returns-clause-syntax_told c = tells_syntax_told c.args.bytes.now c.args.tokens.now c.read_script.result c.read_script.ensures
 
-pub returns-clause-no_limit : goal.returns-clause-no_limit
-returns-clause-no_limit c = tells_no_limit c.args.bytes.now c.args.tokens.now c.read_script.result c.read_script.ensures
+pub returns-clause-limit : goal.returns-clause-limit
+returns-clause-limit c = tells_limit c.args.bytes.now c.args.tokens.now c.read_script.result c.read_script.ensures
+
+pub returns-clause-limit_told : goal.returns-clause-limit_told
+returns-clause-limit_told c = tells_limit_told c.args.bytes.now c.args.tokens.now c.read_script.result c.read_script.ensures
