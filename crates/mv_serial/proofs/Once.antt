@@ -1,93 +1,118 @@
 -- Each row once, in the order of their values.
-use Rattle.std.proofs.Common.{◌≡◌, ℕ, zero, suc, ◌+◌, ◌<◌, ◌≤◌, List, [], ◌∷◌, Result, Ok, Err, length, slice_index_or, refl, sym, ap, subst, ◌∙◌, arith}
-use Rattle.std.proofs.lemmas.List.Elements.{All-cons, All-nil, All-head, All-tail}
-use Rattle.std.proofs.lemmas.List.Kept.{AllPairs-cons}
-use Rattle.std.proofs.lemmas.List.Sorted.{searchable_from_sorted}
-use Rattle.std.specs.Prelude.{All, AllPairs, MatchResult}
-use Rattle.std.specs.List.{insert, AllWithin}
-use Rattle.std.specs.List.Sorted.{IsBinarySearchResult, IsNonDecreasingBy, IsSearchInRange}
-use Rattle.std.specs.Ordering.{ordering_index, ordering_reverse, is_lt}
+use Rattle.std.proofs.Common.{◌≡◌, Bool, true, false, not, cond, List, [], ◌∷◌, ◌++◌, Option, Some, None, refl, sym, ap, subst, ◌∙◌, append_assoc}
+use Rattle.std.proofs.lemmas.Cmp.{tied_itself}
+use Rattle.std.specs.Ordering.{is_eq, is_gt, ordering_reverse}
 use Rattle.std.specs.declared.cmp.Ordering.{Ordering}
 use Rattle.std.specs.declared.cmp.Ordering.TheVariants.{Less, Equal, Greater}
 use Rattle.mv_values.specs.declared.value.Value.{Value}
 use Rattle.mv_values.specs.Order.{key_order}
-use Rattle.mv_values.proofs.KeyOrder.{key_order_total}
-use Rattle.mv_serial.specs.Rows.{put_by, put_once, distinct}
+use Rattle.mv_values.proofs.KeyOrder.{key_order_total, exact_keys}
+use Rattle.mv_serial.specs.Rows.{put_in, sorted, put_by, put_once, distinct}
+use Rattle.mv_serial.specs.Once.{is_same, once_each}
 
-abbrev IsLess : List Value → List Value → Type 0
-IsLess a b = key_order a b ≡ Less
+abbrev Row : Type 0
+Row = List Value
 
-abbrev Rising : List (List Value) → Type 0
-Rising rows = AllPairs (λ a b. key_order a b ≡ Less) rows
-
-turned : (x y : List Value) (o : Ordering) → key_order y x ≡ o → key_order x y ≡ ordering_reverse o
+turned : (x y : Row) (o : Ordering) → key_order y x ≡ o → key_order x y ≡ ordering_reverse o
 turned x y o h = key_order_total.antisymm x y ∙ ap ordering_reverse h
 
-put_first : (x y : List Value) (ys : List (List Value)) → key_order y x ≡ Greater → put_once x (y ∷ ys) ≡ x ∷ y ∷ ys
-put_first x y ys h = ap (λ o. put_by o x y ys (put_once x ys)) (turned x y Greater h)
+-- what is greater is another
+other_less : (l x : Row) → key_order l x ≡ Less → is_same (Some l) x ≡ false
+other_less l x h = rw h refl
 
-put_none : (x y : List Value) (ys : List (List Value)) → key_order y x ≡ Equal → put_once x (y ∷ ys) ≡ y ∷ ys
-put_none x y ys h = ap (λ o. put_by o x y ys (put_once x ys)) (turned x y Equal h)
+same_itself : (x y : Row) → key_order x y ≡ Equal → is_same (Some x) y ≡ true
+same_itself x y h = rw h refl
 
-put_later : (x y : List Value) (ys : List (List Value)) → key_order y x ≡ Less → put_once x (y ∷ ys) ≡ y ∷ put_once x ys
-put_later x y ys h = ap (λ o. put_by o x y ys (put_once x ys)) (turned x y Less h)
+taken : (l x : Row) (xs : List Row) → is_same (Some l) x ≡ false → once_each (Some l) (x ∷ xs) ≡ x ∷ once_each (Some x) xs
+taken l x xs h = rw h refl
 
--- the place at which a row would stand
-put_gap : (x : List Value) (ys : List (List Value)) (i : ℕ) → i ≤ length ys → AllWithin (λ y. key_order y x ≡ Less) ys 0 i → AllWithin (λ y. key_order y x ≡ Greater) ys i (length ys) → insert ys i x ≡ put_once x ys
-put_gap x [] zero le low high = refl
-put_gap x [] (suc i) le low high = absurd (omega (arith, le))
-put_gap x (y ∷ ys) zero le low high = sym (put_first x y ys (high zero y (omega arith) (omega arith)))
-put_gap x (y ∷ ys) (suc i) le low high =
-    ap (λ l. y ∷ l) (put_gap x ys i (omega (arith, le)) (λ k d from to. low (suc k) d (omega arith) (omega (arith, to))) (λ k d from to. high (suc k) d (omega (arith, from)) (omega (arith, to))))
-    ∙ sym (put_later x y ys (low zero y (omega arith) (omega arith)))
+left_out : (l x : Row) (xs : List Row) → is_same (Some l) x ≡ true → once_each (Some l) (x ∷ xs) ≡ once_each (Some x) xs
+left_out l x xs h = rw h refl
 
-less_than_same : (y z x : List Value) → key_order y z ≡ Less → key_order z x ≡ Equal → key_order y x ≡ Less
-less_than_same y z x h e =
-    let above : key_order x y ≡ Greater = sym (key_order_total.congr z x y e) ∙ turned z y Less h in
-    turned y x Greater above
+in_before : (x y : Row) (ys : List Row) → is_gt (key_order x y) ≡ false → put_in key_order x (y ∷ ys) ≡ x ∷ y ∷ ys
+in_before x y ys h = rw h refl
 
--- a row that is there
-put_there : (x : List Value) (ys : List (List Value)) (i : ℕ) → Rising ys → i < length ys → ((d : List Value) → key_order (slice_index_or ys i d) x ≡ Equal) → put_once x ys ≡ ys
-put_there x [] i rising lt h = absurd (omega (arith, lt))
-put_there x (y ∷ ys) zero rising lt h = put_none x y ys (h y)
-put_there x (y ∷ ys) (suc i) rising lt h =
-    put_later x y ys (less_than_same y (slice_index_or ys i y) x (rising 0 (suc i) y (omega arith) lt) (h y))
-    ∙ ap (λ l. y ∷ l) (put_there x ys i (λ k j d below within. rising (suc k) (suc j) d (omega (arith, below)) (omega (arith, within))) (omega (arith, lt)) h)
+in_after : (x y : Row) (ys : List Row) → key_order x y ≡ Greater → put_in key_order x (y ∷ ys) ≡ y ∷ put_in key_order x ys
+in_after x y ys h = rw h refl
 
-searchable : (ys : List (List Value)) (x : List Value) → Rising ys → IsNonDecreasingBy (λ y. ordering_index (key_order y x)) ys
-searchable ys x rising =
-    searchable_from_sorted key_order_total (λ y. y) ys x (λ k d from within. ap is_lt (turned (slice_index_or ys (k + 1) d) (slice_index_or ys k d) Less (rising k (k + 1) d (omega arith) within)))
+once_before : (x y : Row) (ys : List Row) → key_order x y ≡ Less → put_once x (y ∷ ys) ≡ x ∷ y ∷ ys
+once_before x y ys h = rw h refl
 
--- what a binary search by the rows' order answers
-pub searched : (ys : List (List Value)) (x : List Value) (r : Result ℕ ℕ) → Rising ys → IsSearchInRange r (length ys) → IsBinarySearchResult (λ y. key_order y x) ys r
-    → MatchResult r (λ _. put_once x ys ≡ ys) (λ at. (at ≤ length ys) × (insert ys at x ≡ put_once x ys))
-searched ys x (Ok i) rising bound h = put_there x ys i rising bound h
-searched ys x (Err i) rising bound h = let p = h (searchable ys x rising) in (bound, put_gap x ys i bound p.0 p.1)
+once_there : (x y : Row) (ys : List Row) → key_order x y ≡ Equal → put_once x (y ∷ ys) ≡ y ∷ ys
+once_there x y ys h = rw h refl
 
-put_keeps : (P : List Value → Type 0) (x : List Value) (ys : List (List Value)) → All P ys → P x → All P (put_once x ys)
-put_keeps P x [] all p = All-cons P x [] p (All-nil P)
-put_keeps P x (y ∷ ys) all p = by (key_order x y) (put_keeps P x ys (All-tail P _ _ all) p)
+once_after : (x y : Row) (ys : List Row) → key_order x y ≡ Greater → put_once x (y ∷ ys) ≡ y ∷ put_once x ys
+once_after x y ys h = rw h refl
+
+not_gt : (x y : Row) (o : Ordering) → key_order x y ≡ o → is_gt o ≡ false → is_gt (key_order x y) ≡ false
+not_gt x y o h k = ap is_gt h ∙ k
+
+-- a row put in before the next one, or in its place
+put_here : (x y : Row) (ys : List Row) (o : Ordering) → key_order x y ≡ o → is_gt o ≡ false → x ∷ once_each (Some x) (y ∷ ys) ≡ put_once x (y ∷ once_each (Some y) ys)
+put_here x y ys Less e h = ap (λ l. x ∷ l) (taken x y ys (other_less x y e)) ∙ sym (once_before x y (once_each (Some y) ys) e)
+put_here x y ys Equal e h =
+    ap (λ l. x ∷ l) (left_out x y ys (same_itself x y e)) ∙ (ap (λ r. r ∷ once_each (Some y) ys) (exact_keys x y e) ∙ sym (once_there x y (once_each (Some y) ys) e))
+put_here x y ys Greater e h = cc
+
+-- what isn't less than a row that is greater is greater
+greater_on : (l x y : Row) (o : Ordering) → key_order l x ≡ Less → key_order x y ≡ o → is_gt o ≡ false → key_order l y ≡ Less
+greater_on l x y Less h e k = key_order_total.trans l x y h e
+greater_on l x y Equal h e k = subst (λ r. key_order l r ≡ Less) (exact_keys x y e) h
+greater_on l x y Greater h e k = cc
+
+-- putting in before taking each once, behind a lesser row
+put_behind : (l x : Row) (ys : List Row) → key_order l x ≡ Less → once_each (Some l) (put_in key_order x ys) ≡ put_once x (once_each (Some l) ys)
+put_behind l x [] h = taken l x [] (other_less l x h)
+put_behind l x (y ∷ ys) h = by (key_order x y) refl (λ less. put_behind y x ys less)
   where
-    by : (o : Ordering) → All P (put_once x ys) → All P (put_by o x y ys (put_once x ys))
-    by Less h = All-cons P x (y ∷ ys) p all
-    by Equal h = all
-    by Greater h = All-cons P y (put_once x ys) (All-head P _ _ all) h
+    here : (o : Ordering) → key_order x y ≡ o → is_gt o ≡ false → once_each (Some l) (put_in key_order x (y ∷ ys)) ≡ put_once x (once_each (Some l) (y ∷ ys))
+    here o e k =
+        ap (once_each (Some l)) (in_before x y ys (not_gt x y o e k))
+        ∙ (taken l x (y ∷ ys) (other_less l x h)
+        ∙ (put_here x y ys o e k ∙ sym (ap (put_once x) (taken l y ys (other_less l y (greater_on l x y o h e k))))))
 
-put_rises : (x : List Value) (ys : List (List Value)) → Rising ys → Rising (put_once x ys)
-put_rises x [] h = AllPairs-cons IsLess x [] (All-nil (IsLess x)) h
-put_rises x (y ∷ ys) h = by (key_order x y) refl (put_rises x ys (λ i j d lt within. h (suc i) (suc j) d (omega (arith, lt)) (omega (arith, within))))
+    on : (b : Bool) → is_same (Some l) y ≡ b → key_order x y ≡ Greater → once_each (Some y) (put_in key_order x ys) ≡ put_once x (once_each (Some y) ys)
+        → once_each (Some l) (put_in key_order x (y ∷ ys)) ≡ put_once x (once_each (Some l) (y ∷ ys))
+    on true same e later =
+        ap (once_each (Some l)) (in_after x y ys e) ∙ (left_out l y (put_in key_order x ys) same ∙ (later ∙ sym (ap (put_once x) (left_out l y ys same))))
+    on false same e later =
+        ap (once_each (Some l)) (in_after x y ys e)
+        ∙ (taken l y (put_in key_order x ys) same
+        ∙ (ap (λ r. y ∷ r) later ∙ (sym (once_after x y (once_each (Some y) ys) e) ∙ sym (ap (put_once x) (taken l y ys same)))))
+
+    by : (o : Ordering) → key_order x y ≡ o → (key_order y x ≡ Less → once_each (Some y) (put_in key_order x ys) ≡ put_once x (once_each (Some y) ys))
+        → once_each (Some l) (put_in key_order x (y ∷ ys)) ≡ put_once x (once_each (Some l) (y ∷ ys))
+    by Less e later = here Less e refl
+    by Equal e later = here Equal e refl
+    by Greater e later = on (is_same (Some l) y) refl e (later (turned y x Greater e))
+
+put_first : (x : Row) (ys : List Row) → once_each None (put_in key_order x ys) ≡ put_once x (once_each None ys)
+put_first x [] = refl
+put_first x (y ∷ ys) = by (key_order x y) refl
   where
-    later : All (IsLess y) ys
-    later k d within = h zero (suc k) d (omega arith) (omega (arith, within))
+    by : (o : Ordering) → key_order x y ≡ o → once_each None (put_in key_order x (y ∷ ys)) ≡ put_once x (y ∷ once_each (Some y) ys)
+    by Less e = ap (once_each None) (in_before x y ys (not_gt x y Less e refl)) ∙ put_here x y ys Less e refl
+    by Equal e = ap (once_each None) (in_before x y ys (not_gt x y Equal e refl)) ∙ put_here x y ys Equal e refl
+    by Greater e =
+        ap (once_each None) (in_after x y ys e) ∙ (ap (λ r. y ∷ r) (put_behind y x ys (turned y x Greater e)) ∙ sym (once_after x y (once_each (Some y) ys) e))
 
-    by : (o : Ordering) → key_order x y ≡ o → Rising (put_once x ys) → Rising (put_by o x y ys (put_once x ys))
-    by Less e r = AllPairs-cons IsLess x (y ∷ ys) (All-cons (IsLess x) y ys e (λ k d within. key_order_total.trans x y (slice_index_or ys k d) e (later k d within))) h
-    by Equal e r = h
-    by Greater e r = AllPairs-cons IsLess y (put_once x ys) (put_keeps (IsLess y) x ys later (turned y x Greater e)) r
+-- rows in order, each taken once
+pub distinct_is : (xs : List Row) → once_each None (sorted key_order xs) ≡ distinct xs
+distinct_is [] = refl
+distinct_is (x ∷ xs) = put_first x (sorted key_order xs) ∙ ap (put_once x) (distinct_is xs)
 
-distinct_rises : (xs : List (List Value)) → Rising (distinct xs)
-distinct_rises [] = λ i j d lt within. absurd (omega (arith, within))
-distinct_rises (x ∷ xs) = put_rises x (distinct xs) (distinct_rises xs)
+-- a turn that takes the row
+pub turn_taken : (all : List Row) (before : Option Row) (row : Row) (rows meant : List Row) → true ≡ not (is_same before row) → all ++ once_each before (row ∷ rows) ≡ meant → (all ++ row ∷ []) ++ once_each (Some row) rows ≡ meant
+turn_taken all before row rows meant new so_far = by (is_same before row) refl new so_far
+  where
+    by : (b : Bool) → is_same before row ≡ b → true ≡ not b → all ++ cond b (once_each (Some row) rows) (row ∷ once_each (Some row) rows) ≡ meant → (all ++ row ∷ []) ++ once_each (Some row) rows ≡ meant
+    by true e n h = cc
+    by false e n h = append_assoc all (row ∷ []) (once_each (Some row) rows) ∙ h
 
-pub rises_as : (xs found : List (List Value)) → found ≡ distinct xs → Rising found
-rises_as xs found h = subst Rising (sym h) (distinct_rises xs)
+-- a turn that leaves it out
+pub turn_left_out : (all : List Row) (before : Option Row) (row : Row) (rows meant : List Row) → false ≡ not (is_same before row) → all ++ once_each before (row ∷ rows) ≡ meant → all ++ once_each (Some row) rows ≡ meant
+turn_left_out all before row rows meant new so_far = by (is_same before row) new so_far
+  where
+    by : (b : Bool) → false ≡ not b → all ++ cond b (once_each (Some row) rows) (row ∷ once_each (Some row) rows) ≡ meant → all ++ once_each (Some row) rows ≡ meant
+    by true n h = h
+    by false n h = cc

@@ -9,12 +9,13 @@ use Rattle.std.specs.List.Sorted.{IsSortedBy, IsStableBy, ties}
 use Rattle.std.specs.Ordering.{is_lt, is_gt, ordering_reverse, ordering_then}
 use Rattle.std.specs.declared.cmp.Ordering.{Ordering}
 use Rattle.std.specs.declared.cmp.Ordering.TheVariants.{Less, Equal, Greater}
+use Rattle.mv_values.specs.declared.value.Value.{Value}
 use Rattle.mv_values.specs.declared.rows.Keyed.{Keyed}
-use Rattle.mv_values.specs.Columns.{column_of}
-use Rattle.mv_values.specs.Order.{value_order}
+use Rattle.mv_values.specs.Columns.{column_of, columns_of}
+use Rattle.mv_values.specs.Order.{value_order, key_order}
 use Rattle.mv_values.proofs.KeyOrder.{value_order_total, key_order_total}
 use Rattle.mv_catalog.specs.declared.resolved.RSort.{RSort}
-use Rattle.mv_serial.specs.Rows.{then_by, put_in, sorted, sort_order, ordered}
+use Rattle.mv_serial.specs.Rows.{then_by, put_in, sorted, sort_order, ordered, projected}
 
 abbrev pub less : {X : Type 0} → (X → X → Ordering) → X → X → Bool
 less order a b = is_lt (order a b)
@@ -229,3 +230,14 @@ pub ordered_is : (sorts : List RSort) (xs ys : List (Bor Keyed)) → IsSortedBy 
 ordered_is sorts xs ys up stable =
     ap (map (λ (r : Bor Keyed). r.now)) (sort_is {order = λ (a b : Bor Keyed). sort_order sorts a.now b.now} (on_total (λ (r : Bor Keyed). r.now) (sort_order_total sorts)) xs ys up stable)
     ∙ sorted_seen (λ (r : Bor Keyed). r.now) (sort_order sorts) xs
+
+-- rows seen through references, put in the order of some columns by a stable sort
+pub projected_is : (cs : List ℕ) (xs ys : List (Bor Keyed)) → IsSortedBy (λ (a b : Bor Keyed). is_lt (key_order (columns_of a.now.row cs) (columns_of b.now.row cs))) ys
+    → IsStableBy (λ (a b : Bor Keyed). is_lt (key_order (columns_of a.now.row cs) (columns_of b.now.row cs))) xs ys
+    → projected cs (map (λ (r : Bor Keyed). r.now) ys) ≡ sorted key_order (projected cs (map (λ (r : Bor Keyed). r.now) xs))
+projected_is cs xs ys up stable =
+    let seen : Keyed → List Value = λ item. columns_of item.row cs in
+    ap (λ (l : List (Bor Keyed)). projected cs (map (λ (r : Bor Keyed). r.now) l))
+    (sort_is {order = λ (a b : Bor Keyed). key_order (columns_of a.now.row cs) (columns_of b.now.row cs)} (on_total (λ (r : Bor Keyed). columns_of r.now.row cs) key_order_total) xs ys up stable)
+    ∙ (ap (map seen) (sorted_seen (λ (r : Bor Keyed). r.now) (λ a b. key_order (columns_of a.row cs) (columns_of b.row cs)) xs)
+    ∙ sorted_seen seen key_order (map (λ (r : Bor Keyed). r.now) xs))

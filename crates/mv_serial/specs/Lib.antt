@@ -9,3 +9,4 @@ pub mod Executed
 pub mod TableAfter
 pub mod Spans
 pub mod Undoing
+pub mod Once

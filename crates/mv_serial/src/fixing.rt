@@ -1,23 +1,23 @@
 //! The rows of a loop over a table, fixed before its first turn.
 
-ghost use Rattle.std.specs.Prelude.{◌≡◌, ◌≤◌, map, length, AllPairs, IfOk, OnOk, MatchResult};
-ghost use Rattle.std.specs.List.{insert};
-ghost use Rattle.std.specs.declared.cmp.Ordering.TheVariants.{Less};
+ghost use Rattle.std.specs.Prelude.{◌≡◌, None, map, not, IfOk};
+ghost use Rattle.std.specs.Option.{option_copied, option_map};
 ghost use Rattle.mv_values.specs.Order.{key_order};
 ghost use Rattle.mv_values.specs.Keys.{IsRising};
 ghost use Rattle.mv_values.specs.Columns.{columns_of};
-ghost use Rattle.mv_serial.specs.Rows.{matching, ordered, projected, put_once, distinct};
+ghost use Rattle.mv_serial.specs.Rows.{matching, ordered, sorted, projected, distinct};
+ghost use Rattle.mv_serial.specs.Once.{is_same, once_each};
 ghost use Rattle.mv_serial.specs.Alone.{fixed};
 
 use crate::env::column;
-use crate::find::is_match;
-use crate::order::ordered_in;
+use crate::find::order_of;
+use crate::order::{matches_in, ordered_in};
 use crate::state::Check;
 use mv_catalog::resolved::RSort;
 use mv_values::list::List;
 use mv_values::memory::NoMemory;
 use mv_values::rows::Keyed;
-use mv_values::value::{Row, Value, compare_keys};
+use mv_values::value::{Row, Value};
 use std::alloc::Global;
 use std::cmp::Ordering;
 
@@ -58,27 +58,65 @@ fn projections(alloc: Global, columns: &[u16], items: &[&Keyed]) -> Result<List<
     Ok(all)
 }
 
-/// Whether a row is there, or else the place at which it would stand. It costs the logarithm of the number of rows.
-fn place_of(rows: &[Row], row: &[Value]) -> Result<usize, usize>
-    requires { AllPairs (λ a b. key_order a b ≡ Less) rows.now }
-    ensures { MatchResult result (λ _. put_once row.now rows.now ≡ rows.now) (λ at. (at ≤ length rows.now) × (insert rows.now at row.now ≡ put_once row.now rows.now)) }
+/// How these columns of a row stand to those of another.
+fn compare_columns(columns: &[u16], a: &[Value], b: &[Value]) -> Ordering
+    ensures { result ≡ key_order (columns_of a.now columns.now) (columns_of b.now columns.now) }
 {
-    rows.binary_search_by(
-        |other: &Row| -> Ordering
-            ensures { result ≡ key_order other.now row.entry.now }
-        { compare_keys(other.as_slice(), row) },
-    )
+    for c in columns {
+        let order = match b.get(*c as usize) {
+            Some(v) => order_of(a, *c, v),
+            None => order_of(a, *c, &Value::Int(0)),
+        };
+        if order.is_ne() {
+            return order;
+        }
+    }
+    Ordering::Equal
 }
 
-/// Puts a row into its place, unless it is there.
-fn put_row(rows: &mut List<Row>, row: Row) -> Result<(), NoMemory>
-    requires { AllPairs (λ a b. key_order a b ≡ Less) rows.old }
-    ensures { OnOk result (rows.new ≡ put_once row rows.old) }
+/// The rows that match, in the order of these columns.
+fn in_column_order<'a>(
+    alloc: Global,
+    columns: &[u16],
+    checks: &[Check],
+    rows: &'a [Keyed],
+) -> Result<Vec<&'a Keyed>, NoMemory>
+    ensures { IfOk result (λ v. projected columns.now (map (λ r. r.now) v.items) ≡ sorted key_order (projected columns.now (matching checks.now rows.now))) }
 {
-    match place_of(rows.as_slice(), row.as_slice()) {
-        Ok(_) => Ok(()),
-        Err(at) => rows.insert(at, row),
+    let mut found = matches_in(alloc, checks, rows)?;
+    found.sort_by(
+        |a: &&Keyed, b: &&Keyed| -> Ordering
+            ensures { result ≡ key_order (columns_of a.now.now.row columns.entry.now) (columns_of b.now.now.row columns.entry.now) }
+        { compare_columns(columns, a.row.as_slice(), b.row.as_slice()) },
+    )?;
+    Ok(found)
+}
+
+/// Whether a row has these columns otherwise than the one before it.
+fn is_new(columns: &[u16], before: Option<&Keyed>, item: &Keyed) -> bool
+    ensures { result ≡ not (is_same (option_map (λ i. columns_of i.row columns.now) (option_copied before.entry)) (columns_of item.now.row columns.now)) }
+{
+    match before {
+        None => true,
+        Some(other) => {
+            compare_columns(columns, other.row.as_slice(), item.row.as_slice()).is_ne()
+        }
     }
+}
+
+/// These columns of the rows, without rows that are the one before them.
+fn without_repeats(alloc: Global, columns: &[u16], items: &[&Keyed]) -> Result<List<Row>, NoMemory>
+    ensures { IfOk result (λ v. v ≡ once_each None (projected columns.now (map (λ r. r.now) items.now))) }
+{
+    let mut all = List::new(alloc);
+    let mut before: Option<&Keyed> = None;
+    for item in items {
+        if is_new(columns, before, item) {
+            all.push(projection(alloc, item.row.as_slice(), columns)?)?;
+        }
+        before = Some(*item);
+    }
+    Ok(all)
 }
 
 /// These columns of the rows that match, each row once, in the order of their values.
@@ -90,17 +128,8 @@ pub(crate) fn distinct_rows(
 ) -> Result<List<Row>, NoMemory>
     ensures { IfOk result (λ v. v ≡ distinct (projected columns.now (matching checks.now rows.now))) }
 {
-    let mut found = List::new(alloc);
-    let mut left = rows.len();
-    while 0 < left {
-        left -= 1;
-        let item = &rows[left];
-        if !is_match(checks, item.row.as_slice()) {
-            continue;
-        }
-        put_row(&mut found, projection(alloc, item.row.as_slice(), columns)?)?;
-    }
-    Ok(found)
+    let found = in_column_order(alloc, columns, checks, rows)?;
+    without_repeats(alloc, columns, found.as_slice())
 }
 
 /// The rows of a loop over the rows that match.

@@ -42,7 +42,7 @@ fn compare(sorts: &[RSort], a: &Keyed, b: &Keyed) -> Ordering
 }
 
 /// The rows that match, in key order.
-fn matches_in<'a>(
+pub(crate) fn matches_in<'a>(
     alloc: Global,
     checks: &[Check],
     rows: &'a [Keyed],
