@@ -15,3 +15,4 @@ pub mod Once
 pub mod Spanning
 pub mod Standing
 pub mod Ranking
+pub mod Lawful

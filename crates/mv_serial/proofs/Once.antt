@@ -1,13 +1,12 @@
 -- Each row once, in the order of their values.
 use Rattle.std.proofs.Common.{◌≡◌, Bool, true, false, not, cond, List, [], ◌∷◌, ◌++◌, Option, Some, None, refl, sym, ap, subst, ◌∙◌, append_assoc}
-use Rattle.std.proofs.lemmas.Cmp.{tied_itself}
-use Rattle.std.specs.Ordering.{is_eq, is_gt, ordering_reverse}
+use Rattle.std.specs.Ordering.{is_gt, ordering_reverse}
 use Rattle.std.specs.declared.cmp.Ordering.{Ordering}
 use Rattle.std.specs.declared.cmp.Ordering.TheVariants.{Less, Equal, Greater}
 use Rattle.mv_values.specs.declared.value.Value.{Value}
 use Rattle.mv_values.specs.Order.{key_order}
 use Rattle.mv_values.proofs.KeyOrder.{key_order_total, exact_keys}
-use Rattle.mv_serial.specs.Rows.{put_in, sorted, put_by, put_once, distinct}
+use Rattle.mv_serial.specs.Rows.{put_in, sorted, put_once, distinct}
 use Rattle.mv_serial.specs.Once.{is_same, once_each}
 
 abbrev Row : Type 0

@@ -1,5 +1,5 @@
 -- What UPDATE, DELETE and INSERT make of the rows of a table.
-use Rattle.std.specs.Prelude.{ℕ, not, List, [], ◌∷◌, Result, Ok, Err, slice_set, if◌then◌else◌, ◌==◌}
+use Rattle.std.specs.Prelude.{◌≡◌, ℕ, not, List, [], ◌∷◌, Result, Ok, Err, slice_set, if◌then◌else◌, ◌==◌}
 use Rattle.std.specs.List.{filter, list_any}
 use Rattle.std.specs.declared.cmp.Ordering.{Ordering}
 use Rattle.std.specs.declared.cmp.Ordering.TheVariants.{Less, Equal, Greater}
@@ -10,6 +10,7 @@ use Rattle.mv_values.specs.declared.calls.End.{End}
 use Rattle.mv_values.specs.declared.calls.End.TheVariants.{Duplicate}
 use Rattle.mv_values.specs.Order.{key_order}
 use Rattle.mv_values.specs.Columns.{columns_of}
+use Rattle.mv_catalog.specs.Fits.{rows_at}
 use Rattle.mv_catalog.specs.declared.resolved.RExpr.{RExpr}
 use Rattle.mv_catalog.specs.declared.resolved.RSetItem.{RSetItem}
 use Rattle.mv_serial.specs.declared.state.Check.{Check}
@@ -58,3 +59,7 @@ put_row new (item ∷ items) = put_row_by (key_order new.key item.key) new item 
 -- a row under its key
 abbrev pub keyed : List ℕ → List Value → Keyed
 keyed keys row = record { key = columns_of row keys; row = row }
+
+-- the rows of all tables but one stay
+abbrev pub OthersStay : ℕ → List (List Keyed) → List (List Keyed) → Type 0
+OthersStay t old new = (u : ℕ) → (u ≡ t → ⊥) → rows_at new u ≡ rows_at old u

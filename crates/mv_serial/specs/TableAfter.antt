@@ -99,6 +99,12 @@ IsOrder p order = All (λ c. c < length p.resolved.calls) order × AllPairs (λ 
 abbrev pub RepliesOf : Program → List ℕ → List Reply → Type 0
 RepliesOf p order replies = (k : ℕ) → k < length order → slice_get replies (slice_index order k) ≡ Some (reply_of p order (suc k))
 
+-- a call that is rolled back has no lines, and leaves the database as it was before it
+abbrev pub StoppedUnchanged : Program → List ℕ → List Reply → Type 0
+StoppedUnchanged p order replies =
+    (k : ℕ) → k < length order → (r : Reply) (e : End) → slice_get replies (slice_index order k) ≡ Some r → r.end ≡ Some e
+    → (r.lines ≡ []) × (table_after p order (suc k) ≡ table_after p order k)
+
 -- a call that doesn't stand in the order has a reply of no lines
 abbrev pub OthersSilent : Program → List ℕ → List Reply → Type 0
 OthersSilent p order replies = (c : ℕ) → c < length p.resolved.calls → All (λ d. d ≡ c → ⊥) order → slice_get replies c ≡ Some no_reply

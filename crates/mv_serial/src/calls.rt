@@ -4,7 +4,7 @@ ghost use Rattle.std.specs.Prelude.{◌≡◌, IfOk, length, replicate};
 ghost use Rattle.mv_serial.specs.Alone.{alone};
 ghost use Rattle.mv_serial.specs.Executed.{counted};
 ghost use Rattle.mv_catalog.specs.Fits.{Fits, KeysStand};
-ghost use Rattle.mv_serial.specs.TableAfter.{argument_held, no_reply, outcome, executed, entered, begun, tables_left, reply_in, table_after, call_order, IsOrder, RepliesOf, OthersSilent, CountsOf};
+ghost use Rattle.mv_serial.specs.TableAfter.{argument_held, no_reply, outcome, executed, entered, begun, tables_left, reply_in, table_after, call_order, IsOrder, RepliesOf, OthersSilent, StoppedUnchanged, CountsOf};
 
 use crate::state::{Env, Held, State, Stop};
 use crate::statements::run_all;
@@ -105,8 +105,9 @@ fn run_procedure(
         Err(Stop::Memory) => Err(NoMemory),
         Err(Stop::Ended(end)) => {
             undo_all(alloc, &mut tables, &mut undo)?;
+            let none = List::new(alloc);
             let reply = Reply {
-                lines: List::new(alloc),
+                lines: none,
                 end: Some(end),
             };
             Ok(Left {
@@ -180,6 +181,8 @@ pub fn run_alone(alloc: Global, program: &Program, order: &[u32]) -> Result<Seri
     ensures len { IfOk result (λ s. length s.replies ≡ length program.now.resolved.calls) }
     ensures replies { IfOk result (λ s. RepliesOf program.now order.now s.replies) }
     ensures others { IfOk result (λ s. OthersSilent program.now order.now s.replies) }
+    ensures stopped { IfOk result (λ s. StoppedUnchanged program.now order.now s.replies) }
+    ensures keys { IfOk result (λ s. KeysStand program.now.resolved.tables s.tables) }
 {
     let mut tables = program.opening.copy(alloc)?;
     let mut replies = silent(alloc, program.resolved.calls.len())?;
@@ -204,6 +207,8 @@ pub fn run_counted(alloc: Global, program: &Program) -> Result<Counted, NoMemory
     ensures replies { IfOk result (λ c. RepliesOf program.now (call_order program.now) c.serial.replies) }
     ensures counts_len { IfOk result (λ c. length c.counts ≡ length program.now.resolved.calls) }
     ensures counts { IfOk result (λ c. CountsOf program.now (call_order program.now) c.counts) }
+    ensures stopped { IfOk result (λ c. StoppedUnchanged program.now (call_order program.now) c.serial.replies) }
+    ensures keys { IfOk result (λ c. KeysStand program.now.resolved.tables c.serial.tables) }
 {
     let mut tables = program.opening.copy(alloc)?;
     let mut replies = List::new(alloc);

@@ -3,7 +3,7 @@
 ghost use Rattle.std.specs.Prelude.{◌≡◌, slice_set, OnOk};
 ghost use Rattle.mv_catalog.specs.Fits.{rows_at, KeysStand};
 ghost use Rattle.mv_serial.specs.Outcome.{Leaves};
-ghost use Rattle.mv_serial.specs.Changes.{without};
+ghost use Rattle.mv_serial.specs.Changes.{without, OthersStay};
 ghost use Rattle.mv_serial.specs.Alone.{delete};
 ghost use Rattle.mv_serial.specs.Spans.{HoldsMatches};
 ghost use Rattle.mv_serial.specs.Undoing.{KeepsUndo, StaysUndoable};
@@ -56,6 +56,7 @@ pub(crate) fn run_delete(
     requires { KeysStand infos.now state.old.tables }
     ensures does { Leaves result state.new (delete table conds.now state.old) }
     ensures keys { OnOk result (KeysStand infos.now state.new.tables) }
+    ensures others { OnOk result (OthersStay table state.old.tables state.new.tables) }
     ensures undo { StaysUndoable result undo.old state.old.tables undo.new state.new.tables }
 {
     let checks = checks_from(alloc, conds, &state.env)?;

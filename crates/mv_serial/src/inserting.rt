@@ -5,7 +5,7 @@ ghost use Rattle.mv_values.specs.Keys.{IsRising, IsPlaceOf, IsGapFor};
 ghost use Rattle.mv_values.specs.Columns.{columns_of};
 ghost use Rattle.mv_catalog.specs.Fits.{rows_at, KeysStand};
 ghost use Rattle.mv_serial.specs.Outcome.{Gives, Leaves, then_do};
-ghost use Rattle.mv_serial.specs.Changes.{new_row, put_row, keyed};
+ghost use Rattle.mv_serial.specs.Changes.{new_row, put_row, keyed, OthersStay};
 ghost use Rattle.mv_serial.specs.Alone.{insert};
 ghost use Rattle.mv_serial.specs.Undoing.{StaysUndoable};
 
@@ -104,6 +104,7 @@ pub(crate) fn run_insert(
     requires { KeysStand tables.now state.old.tables }
     ensures does { Leaves result state.new (insert tables.now table values.now state.old) }
     ensures keys { OnOk result (KeysStand tables.now state.new.tables) }
+    ensures others { OnOk result (OthersStay table state.old.tables state.new.tables) }
     ensures undo { StaysUndoable result undo.old state.old.tables undo.new state.new.tables }
 {
     let row = made_row(alloc, columns_in(tables, table), values, &state.env)?;

@@ -5,6 +5,7 @@ ghost use Rattle.mv_catalog.specs.Fits.{KeysStand};
 ghost use Rattle.mv_serial.specs.Outcome.{Gives, Leaves};
 ghost use Rattle.mv_serial.specs.Value.{values_of};
 ghost use Rattle.mv_serial.specs.Alone.{offset_of, assign, select, update, print};
+ghost use Rattle.mv_serial.specs.Changes.{OthersStay};
 ghost use Rattle.mv_serial.specs.Undoing.{StaysUndoable};
 
 use crate::change::update_rows;
@@ -109,6 +110,7 @@ pub(crate) fn run_update(
     requires { KeysStand tables.now state.old.tables }
     ensures does { Leaves result state.new (update tables.now table items.now conds.now state.old) }
     ensures keys { OnOk result (KeysStand tables.now state.new.tables) }
+    ensures others { OnOk result (OthersStay table state.old.tables state.new.tables) }
     ensures undo { StaysUndoable result undo.old state.old.tables undo.new state.new.tables }
 {
     let checks = checks_from(alloc, conds, &state.env)?;

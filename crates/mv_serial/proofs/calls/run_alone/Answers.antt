@@ -1,5 +1,6 @@
 use Rattle.std.proofs.Common.{◌≡◌, ◌<◌, rules, length, ap, ◌∙◌}
 use Rattle.mv_serial.proofs.InTurn.{length_replies, all_replied, others_silent, place_within}
+use Rattle.mv_serial.proofs.Lawful.{stopped_unchanged}
 use Rattle.mv_serial.proofs.calls.run_alone.Goals as goal
 
 pub set-requires : goal.set-requires
@@ -19,3 +20,6 @@ pub returns-clause-others : goal.returns-clause-others
 returns-clause-others c =
     let all : c.loop-i.i ≡ length c.args.order.now = search rules in
     others_silent c.args.program.now c.args.order.now c.loop-i.i c.loop-i.replies all c.loop-i.invariant.replies
+
+pub returns-clause-stopped : goal.returns-clause-stopped
+returns-clause-stopped c = stopped_unchanged c.args.program.now c.args.order.now c.loop-i.replies (returns-clause-replies c)

@@ -1,6 +1,8 @@
 use Rattle.std.proofs.Common.{◌≡◌, rules, length, ap, ◌∙◌}
 use Rattle.mv_serial.proofs.Numbers.{length_map_numbers}
 use Rattle.mv_serial.proofs.InOrder.{reply_to, count_of, tables_told, replies_told, counts_told}
+use Rattle.mv_serial.specs.TableAfter.{call_order}
+use Rattle.mv_serial.proofs.Lawful.{stopped_unchanged}
 use Rattle.mv_serial.proofs.calls.run_counted.Goals as goal
 
 pub returns-clause-tables : goal.returns-clause-tables
@@ -27,3 +29,6 @@ pub returns-clause-counts : goal.returns-clause-counts
 returns-clause-counts c =
     let all : c.loop-number.number ≡ length c.args.program.now.resolved.calls = search rules in
     counts_told c.args.program.now c.loop-number.number c.loop-number.counts all c.loop-number.invariant.counts
+
+pub returns-clause-stopped : goal.returns-clause-stopped
+returns-clause-stopped c = stopped_unchanged c.args.program.now (call_order c.args.program.now) c.loop-number.replies (returns-clause-replies c)

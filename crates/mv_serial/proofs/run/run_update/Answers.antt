@@ -1,6 +1,7 @@
 use Rattle.std.proofs.lemmas.Result.{err_from_is_err_and}
+use Rattle.mv_serial.proofs.Lawful.{others_stay}
 use Rattle.mv_serial.proofs.Standing.{update_stands}
-use Rattle.mv_serial.proofs.Tabling.{update_ok, update_fails}
+use Rattle.mv_serial.proofs.Tabling.{updated_at, update_ok, update_fails}
 use Rattle.mv_serial.proofs.run.run_update.Goals as goal
 
 pub returns-clause-does : goal.returns-clause-does
@@ -21,3 +22,8 @@ pub returns-clause-keys : goal.returns-clause-keys
 returns-clause-keys c =
     let made = rw (c.columns_in.ensures, c.key_in.ensures, c.as_slice-4.ensures) at c.in_ok-update_rows.ensures.rows in
     update_stands c.args.tables.now c.args.table c.args.items.now c.in_ok-checks.checks c.args.state.now c.update_rows.new.tables c.requires made
+
+pub returns-clause-others : goal.returns-clause-others
+returns-clause-others c =
+    let made = rw (c.columns_in.ensures, c.key_in.ensures, c.as_slice-4.ensures) at c.in_ok-update_rows.ensures.rows in
+    others_stay c.args.state.now.tables c.update_rows.new.tables c.args.table (updated_at c.args.tables.now c.args.table c.args.items.now c.in_ok-checks.checks c.args.state.now) made
