@@ -1,6 +1,7 @@
 pub mod Csv
 pub mod Entries
 pub mod Fields
+pub mod Fitting
 pub mod Joining
 pub mod Loading
 pub mod Reading

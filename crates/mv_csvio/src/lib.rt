@@ -6,6 +6,7 @@ pub mod fault;
 mod fields;
 pub mod gather;
 mod joining;
+pub mod laws;
 pub mod load;
 mod record;
 #[cfg(test)]

@@ -1,0 +1,28 @@
+-- Which rows a table may have.
+use Rattle.std.specs.Prelude.{◌≡◌, ◌≤◌, ◌<◌, ⊤, ℕ, List, All, length}
+use Rattle.std.specs.List.{AllZip}
+use Rattle.std.specs.Int.RustNames.{FitsSigned}
+use Rattle.std.specs.Int.{w64}
+use Rattle.mv_values.specs.declared.value.Value.{Value}
+use Rattle.mv_values.specs.declared.value.Value.TheVariants as value
+use Rattle.mv_values.specs.declared.rows.Keyed.{Keyed}
+use Rattle.mv_values.specs.declared.schema.ColType.{ColType}
+use Rattle.mv_values.specs.declared.schema.ColType.TheVariants as column
+use Rattle.mv_values.specs.declared.schema.TableInfo.{TableInfo}
+use Rattle.mv_values.specs.Columns.{columns_of}
+use Rattle.mv_values.specs.Printable.{IsPrintable}
+
+-- the value is one of the type: a number of 64 bits, or a text that can be printed and is no longer than the type says
+abbrev pub FitsType : ColType → Value → Type 0
+FitsType column.Int (value.Int z) = FitsSigned w64 z
+FitsType column.Int (value.Text t) = ⊥
+FitsType (column.Text n) (value.Int z) = ⊥
+FitsType (column.Text n) (value.Text t) = All IsPrintable t × (length t ≤ n)
+
+-- the row has a value of its type for each column, and stands under its key
+abbrev pub FitsTable : TableInfo → Keyed → Type 0
+FitsTable table item = AllZip (λ c v. FitsType c.kind v) table.columns item.row × (item.key ≡ columns_of item.row table.key)
+
+-- every row does, and the table has a column
+abbrev pub AllFit : TableInfo → List Keyed → Type 0
+AllFit table rows = (0 < length table.columns) × All (FitsTable table) rows
