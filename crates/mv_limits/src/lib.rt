@@ -7,5 +7,7 @@ pub mod late;
 mod place;
 mod rows;
 mod statements;
+#[cfg(test)]
+mod tests;
 mod texts;
 mod tokens;
