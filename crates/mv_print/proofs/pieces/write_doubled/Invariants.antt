@@ -1,0 +1,6 @@
+use Rattle.std.proofs.Common.{◌≡◌, ◌++◌, drop}
+use Rattle.mv_lex.specs.Spelling.{doubled}
+use Rattle.mv_print.proofs.pieces.write_doubled.Given as goal
+
+abbrev pub invariant-loop-byte : goal.invariant-loop-byte
+invariant-loop-byte l = l.text ++ doubled (drop l.byte-index l.content) ≡ l.fn.text ++ doubled l.content

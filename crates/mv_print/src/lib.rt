@@ -1,0 +1,11 @@
+//! The print of a script.
+#![tactic(auto)]
+
+mod clauses;
+mod expr;
+mod items;
+mod listed;
+mod pieces;
+pub mod print;
+mod statements;
+mod words;
