@@ -1,0 +1,134 @@
+-- All faults of names and types in a script. The rules are this project's own.
+use Rattle.std.specs.Prelude.{ℕ, Bool, true, false, not, List, [], ◌∷◌, ◌++◌, length, map, Option, Some, None, nat_le, ◌==◌}
+use Rattle.std.specs.List.{flat_map}
+use Rattle.mv_values.specs.declared.schema.ColType.{ColType}
+use Rattle.mv_values.specs.declared.schema.ColType.TheVariants as column
+use Rattle.mv_values.specs.declared.value.Value.{Value}
+use Rattle.mv_values.specs.declared.value.Value.TheVariants as value
+use Rattle.mv_ast.specs.declared.tree.Name.{Name}
+use Rattle.mv_ast.specs.declared.tree.Lit.{Lit}
+use Rattle.mv_ast.specs.declared.tree.LitRow.{LitRow}
+use Rattle.mv_ast.specs.declared.tree.ColDef.{ColDef}
+use Rattle.mv_ast.specs.declared.tree.TableDef.{TableDef}
+use Rattle.mv_ast.specs.declared.tree.Param.{Param}
+use Rattle.mv_ast.specs.declared.tree.ParamKind.{ParamKind}
+use Rattle.mv_ast.specs.declared.tree.ParamKind.TheVariants as param
+use Rattle.mv_ast.specs.declared.tree.VarDef.{VarDef}
+use Rattle.mv_ast.specs.declared.tree.ProcDef.{ProcDef}
+use Rattle.mv_ast.specs.declared.tree.CopyDef.{CopyDef}
+use Rattle.mv_ast.specs.declared.tree.Arg.{Arg}
+use Rattle.mv_ast.specs.declared.tree.Arg.TheVariants as arg
+use Rattle.mv_ast.specs.declared.tree.CallDef.{CallDef}
+use Rattle.mv_ast.specs.declared.tree.Script.{Script}
+use Rattle.mv_names.specs.declared.fault.Fault.{Fault}
+use Rattle.mv_names.specs.declared.parts.Parts.{Parts}
+use Rattle.mv_names.specs.First.{unknown, wrong, when}
+use Rattle.mv_names.specs.Named.{is_named, first_named}
+use Rattle.mv_names.specs.Items.{parts_of, lates}
+use Rattle.mv_names.specs.Scope.{scope_of, found, parameter}
+use Rattle.mv_names.specs.Statements.{doubles, table_named, missing_table, statements}
+
+-- Literals
+
+-- a value of the type, and no text longer than it
+abbrev pub fits : ColType → Value → Bool
+fits column.Int (value.Int z) = true
+fits column.Int (value.Text t) = false
+fits (column.Text n) (value.Int z) = false
+fits (column.Text n) (value.Text t) = nat_le (length t) n
+
+abbrev pub literal : ColType → Lit → List Fault
+literal kind l = when (not (fits kind l.value)) (wrong l.token)
+
+-- a literal for each column, as far as there are both
+abbrev pub literals : List ColDef → List Lit → List Fault
+literals [] ls = []
+literals (c ∷ cs) [] = []
+literals (c ∷ cs) (l ∷ ls) = literal c.kind l ++ literals cs ls
+
+abbrev pub row : List ColDef → LitRow → List Fault
+row columns r = when (not (length r.values == length columns)) (wrong r.token) ++ literals columns r.values
+
+abbrev pub rows : List ColDef → List LitRow → List Fault
+rows columns rs = flat_map (row columns) rs
+
+-- Tables
+
+abbrev pub column_doubles : List ColDef → List Fault
+column_doubles columns = doubles (λ (c : ColDef). c.name) [] columns
+
+abbrev pub missing_key : List ColDef → Name → List Fault
+missing_key columns n = when (not (is_named (λ (c : ColDef). c.name.text) columns n.text)) (unknown n.token)
+
+abbrev pub table : TableDef → List Fault
+table t = column_doubles t.columns ++ flat_map (missing_key t.columns) t.key ++ doubles (λ (n : Name). n) [] t.key ++ rows t.columns t.rows
+
+-- Procedures
+
+abbrev pub param_columns : ParamKind → List Fault
+param_columns (param.One kind) = []
+param_columns (param.Many columns) = column_doubles columns
+
+-- a text that a variable begins with has at most 4,000 bytes
+abbrev pub begins : Value → Bool
+begins (value.Int z) = true
+begins (value.Text t) = nat_le (length t) 4000
+
+abbrev pub initial : VarDef → List Fault
+initial v = when (not (begins v.initial.value)) (wrong v.initial.token)
+
+-- its parameters and variables share one space, in which `found` is taken from the start
+abbrev pub procedure : List TableDef → ProcDef → List Fault
+procedure tables p =
+    doubles (λ (q : Param). q.name) (found.name ∷ []) p.params
+    ++ doubles (λ (v : VarDef). v.name) (found.name ∷ map (λ (q : Param). q.name.text) p.params) p.vars
+    ++ flat_map (λ (q : Param). param_columns q.kind) p.params ++ flat_map initial p.vars ++ statements tables p.body (scope_of p)
+
+-- Copies and calls
+
+abbrev pub copy : List TableDef → CopyDef → List Fault
+copy tables c = missing_table c.table.token (table_named tables c.table.text)
+
+abbrev pub argument : ParamKind → Arg → List Fault
+argument (param.One kind) (arg.One l) = literal kind l
+argument (param.One kind) (arg.Many rs) = wrong rs.token ∷ []
+argument (param.Many columns) (arg.One l) = wrong l.token ∷ []
+argument (param.Many columns) (arg.Many rs) = rows columns rs.rows
+
+-- an argument for each parameter, as far as there are both
+abbrev pub arguments : List Param → List Arg → List Fault
+arguments [] as' = []
+arguments (q ∷ qs) [] = []
+arguments (q ∷ qs) (a ∷ as') = argument q.kind a ++ arguments qs as'
+
+abbrev pub arg_token : Arg → ℕ
+arg_token (arg.One l) = l.token
+arg_token (arg.Many rs) = rs.token
+
+-- the first token of the arguments, and the procedure's name where there are none
+abbrev pub arguments_token : List Arg → Name → ℕ
+arguments_token [] n = n.token
+arguments_token (a ∷ as') n = arg_token a
+
+abbrev pub call_to : Option ProcDef → CallDef → List Fault
+call_to None c = unknown c.name.token ∷ []
+call_to (Some p) c =
+    when (not (length c.arguments == length p.params)) (wrong (arguments_token c.arguments c.name)) ++ arguments p.params c.arguments
+
+abbrev pub procedure_named : List ProcDef → Name → Option ProcDef
+procedure_named procedures n = first_named (λ (p : ProcDef). p.name.text) procedures n.text
+
+abbrev pub call : List ProcDef → CallDef → List Fault
+call procedures c = call_to (procedure_named procedures c.name) c
+
+-- The whole. A table and a procedure may share a name; those that stand later in the script are there too.
+
+abbrev pub parts_faults : Parts → List Fault
+parts_faults p =
+    doubles (λ (t : TableDef). t.name) [] p.tables ++ doubles (λ (q : ProcDef). q.name) [] p.procedures
+    ++ flat_map table p.tables ++ flat_map (procedure p.tables) p.procedures
+    ++ flat_map (copy p.tables) p.copies ++ flat_map (call p.procedures) p.calls
+
+-- all faults of names and types
+abbrev pub faults : Script → List Fault
+faults script = lates 0 script.items ++ parts_faults (parts_of script.items)

@@ -1,0 +1,52 @@
+-- The first of faults: the one at the least token, and at one token the one whose kind stands first. This project's own rule.
+use Rattle.std.specs.Prelude.{◌≡◌, ℕ, Bool, true, false, ◌&&◌, ◌||◌, List, [], ◌∷◌, Option, Some, None, nat_lt, ◌==◌, if◌then◌else◌, All}
+use Rattle.std.specs.List.{IsAmong}
+use Rattle.mv_names.specs.declared.fault.Fault.{Fault}
+use Rattle.mv_names.specs.declared.fault.FaultKind.{FaultKind}
+use Rattle.mv_names.specs.declared.fault.FaultKind.TheVariants.{UnknownName, DoubleName, WrongType, KeyAssigned, Late}
+
+-- the order of the kinds
+abbrev pub rank : FaultKind → ℕ
+rank UnknownName = 0
+rank DoubleName = 1
+rank WrongType = 2
+rank KeyAssigned = 3
+rank Late = 4
+
+abbrev pub is_before : Fault → Fault → Bool
+is_before f g = nat_lt f.token g.token || (f.token == g.token && nat_lt (rank f.kind) (rank g.kind))
+
+-- a fault is the first of faults: it is one of them, and none is before it
+abbrev pub IsFirst : List Fault → Fault → Type 0
+IsFirst faults f = IsAmong faults f × All (λ g. is_before g f ≡ false) faults
+
+-- the earlier of the first fault so far and one more
+abbrev pub earlier : Option Fault → Fault → Option Fault
+earlier None f = Some f
+earlier (Some best) f = if is_before f best then Some f else Some best
+
+-- the first of the fault so far and these
+abbrev pub first_of : Option Fault → List Fault → Option Fault
+first_of best [] = best
+first_of best (f ∷ fs) = first_of (earlier best f) fs
+
+-- the faults, each with the number of its token
+abbrev pub unknown : ℕ → Fault
+unknown token = record { token = token; kind = UnknownName }
+
+abbrev pub double : ℕ → Fault
+double token = record { token = token; kind = DoubleName }
+
+abbrev pub wrong : ℕ → Fault
+wrong token = record { token = token; kind = WrongType }
+
+abbrev pub key_set : ℕ → Fault
+key_set token = record { token = token; kind = KeyAssigned }
+
+abbrev pub late : ℕ → Fault
+late token = record { token = token; kind = Late }
+
+-- the fault where the test holds
+abbrev pub when : Bool → Fault → List Fault
+when true f = f ∷ []
+when false f = []

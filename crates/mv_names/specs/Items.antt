@@ -1,0 +1,65 @@
+-- The items of a script by their kinds, and the items that come late.
+use Rattle.std.specs.Prelude.{ℕ, List, [], ◌∷◌, ◌++◌, Option, Some, None, nat_lt, max, slice_get}
+use Rattle.std.specs.List.{flat_map}
+use Rattle.mv_ast.specs.declared.tree.Item.{Item}
+use Rattle.mv_ast.specs.declared.tree.ItemKind.{ItemKind}
+use Rattle.mv_ast.specs.declared.tree.ItemKind.TheVariants.{Table, Proc, Copy, Call, Journal}
+use Rattle.mv_ast.specs.declared.tree.TableDef.{TableDef}
+use Rattle.mv_ast.specs.declared.tree.ProcDef.{ProcDef}
+use Rattle.mv_ast.specs.declared.tree.CopyDef.{CopyDef}
+use Rattle.mv_ast.specs.declared.tree.CallDef.{CallDef}
+use Rattle.mv_ast.specs.declared.tree.Span.{Span}
+use Rattle.mv_names.specs.declared.fault.Fault.{Fault}
+use Rattle.mv_names.specs.declared.parts.Parts.{Parts}
+use Rattle.mv_names.specs.First.{late, when}
+
+abbrev pub table_in : ItemKind → List TableDef
+table_in (Table t) = t ∷ []
+table_in k = []
+
+abbrev pub procedure_in : ItemKind → List ProcDef
+procedure_in (Proc p) = p ∷ []
+procedure_in k = []
+
+abbrev pub copy_in : ItemKind → List CopyDef
+copy_in (Copy c) = c ∷ []
+copy_in k = []
+
+abbrev pub call_in : ItemKind → List CallDef
+call_in (Call c) = c ∷ []
+call_in k = []
+
+abbrev pub journal_in : ItemKind → List Span
+journal_in (Journal j) = j ∷ []
+journal_in k = []
+
+-- the items by their kinds, and the first journal
+abbrev pub parts_of : List Item → Parts
+parts_of items = record {
+  tables = flat_map (λ (i : Item). table_in i.kind) items;
+  procedures = flat_map (λ (i : Item). procedure_in i.kind) items;
+  copies = flat_map (λ (i : Item). copy_in i.kind) items;
+  calls = flat_map (λ (i : Item). call_in i.kind) items;
+  journal = slice_get (flat_map (λ (i : Item). journal_in i.kind) items) 0;
+}
+
+-- the order of the kinds: tables, procedures, copies, calls, journal
+abbrev pub stage : ItemKind → ℕ
+stage (Table t) = 0
+stage (Proc p) = 1
+stage (Copy c) = 2
+stage (Call c) = 3
+stage (Journal j) = 4
+
+-- the least kind that may stand after an item; nothing may stand after a journal
+abbrev pub stage_after : ItemKind → ℕ
+stage_after (Table t) = 0
+stage_after (Proc p) = 1
+stage_after (Copy c) = 2
+stage_after (Call c) = 3
+stage_after (Journal j) = 5
+
+-- an item is late where its kind may not stand after one before it; this is the least kind that may stand now
+abbrev pub lates : ℕ → List Item → List Fault
+lates least [] = []
+lates least (i ∷ is) = when (nat_lt (stage i.kind) least) (late i.token) ++ lates (max least (stage_after i.kind)) is

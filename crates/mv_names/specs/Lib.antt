@@ -1,0 +1,7 @@
+pub mod First
+pub mod Named
+pub mod Items
+pub mod Scope
+pub mod Typing
+pub mod Statements
+pub mod Faults

@@ -1,0 +1,56 @@
+//! The names that may be used in a procedure, and their types.
+
+use crate::named::Named;
+use mv_values::list::List;
+use mv_values::txt::Txt;
+
+/// The type of an expression. It is unknown where a name isn't there, which is a fault already: it then fits every place.
+#[derive(Clone, Copy, Debug, PartialEq, Eq)]
+pub enum ValueType {
+    Int,
+    Text,
+    Unknown,
+}
+
+/// A column of a loop's row.
+#[derive(Drop)]
+pub struct Field {
+    pub name: Txt,
+    pub kind: ValueType,
+}
+
+/// What a name of a procedure stands for.
+#[derive(Drop)]
+pub enum Meaning {
+    /// A value that can be read and not set: a parameter, or `:found`.
+    Fixed(ValueType),
+    /// A declared variable.
+    Variable(ValueType),
+    /// A ROWS parameter.
+    Rows(List<Field>),
+    /// A loop's row.
+    Turn(List<Field>),
+}
+
+/// A name of a procedure, and what it stands for.
+#[derive(Drop)]
+pub struct Entry {
+    pub name: Txt,
+    pub meaning: Meaning,
+}
+
+impl Named for Field {
+    ghost name_of = { λ f. f.name };
+
+    fn name(&self) -> &Txt {
+        &self.name
+    }
+}
+
+impl Named for Entry {
+    ghost name_of = { λ e. e.name };
+
+    fn name(&self) -> &Txt {
+        &self.name
+    }
+}
