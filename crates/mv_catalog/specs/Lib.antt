@@ -1,3 +1,5 @@
 pub mod Fits
 pub mod Maybe
 pub mod First
+pub mod Building
+pub mod Resolving

@@ -2,4 +2,6 @@
 #![tactic(auto)]
 
 pub mod first;
+pub mod refused;
 pub mod resolved;
+pub mod slot;
