@@ -1,5 +1,5 @@
 -- The first of faults: the one at the least token, and at one token the one whose kind stands first. This project's own rule.
-use Rattle.std.specs.Prelude.{◌≡◌, ℕ, Bool, true, false, ◌&&◌, ◌||◌, List, [], ◌∷◌, Option, Some, None, nat_lt, ◌==◌, if◌then◌else◌, All}
+use Rattle.std.specs.Prelude.{◌≡◌, ℕ, Bool, true, false, ◌&&◌, ◌||◌, List, [], ◌∷◌, nat_lt, ◌==◌, All}
 use Rattle.std.specs.List.{IsAmong}
 use Rattle.mv_names.specs.declared.fault.Fault.{Fault}
 use Rattle.mv_names.specs.declared.fault.FaultKind.{FaultKind}
@@ -19,16 +19,6 @@ is_before f g = nat_lt f.token g.token || (f.token == g.token && nat_lt (rank f.
 -- a fault is the first of faults: it is one of them, and none is before it
 abbrev pub IsFirst : List Fault → Fault → Type 0
 IsFirst faults f = IsAmong faults f × All (λ g. is_before g f ≡ false) faults
-
--- the earlier of the first fault so far and one more
-abbrev pub earlier : Option Fault → Fault → Option Fault
-earlier None f = Some f
-earlier (Some best) f = if is_before f best then Some f else Some best
-
--- the first of the fault so far and these
-abbrev pub first_of : Option Fault → List Fault → Option Fault
-first_of best [] = best
-first_of best (f ∷ fs) = first_of (earlier best f) fs
 
 -- the faults, each with the number of its token
 abbrev pub unknown : ℕ → Fault

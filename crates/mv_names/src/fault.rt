@@ -1,7 +1,11 @@
 //! Faults of names and types, and which of two comes first.
 
-ghost use Rattle.std.specs.Prelude.{◌≡◌};
-ghost use Rattle.mv_names.specs.First.{is_before, earlier, rank};
+ghost use Rattle.std.specs.Prelude.{◌≡◌, ◌++◌, OnOk};
+ghost use Rattle.mv_names.specs.First.{is_before, rank, when};
+ghost use Rattle.mv_names.specs.First as kinds;
+
+use mv_values::list::List;
+use mv_values::memory::NoMemory;
 
 /// What is wrong with a name or a type. At one token the first kind of this list counts.
 #[derive(Clone, Copy, Debug, PartialEq, Eq)]
@@ -46,18 +50,64 @@ fn comes_before(fault: Fault, other: Fault) -> bool
         || (fault.token == other.token && rank_of(fault.kind) < rank_of(other.kind))
 }
 
-/// Keeps the earlier of the first fault so far and one more.
-pub(crate) fn note(first: &mut Option<Fault>, fault: Fault)
-    ensures { first.new ≡ earlier first.old fault }
-{
-    *first = match *first {
-        None => Some(fault),
-        Some(best) => {
-            if comes_before(fault, best) {
-                Some(fault)
-            } else {
-                Some(best)
-            }
+impl Fault {
+    /// A name that isn't there.
+    pub(crate) fn unknown(token: u32) -> Fault
+        ensures { result ≡ kinds.unknown token }
+    {
+        Fault {
+            token,
+            kind: FaultKind::UnknownName,
         }
-    };
+    }
+
+    /// A second one of a name.
+    pub(crate) fn double(token: u32) -> Fault
+        ensures { result ≡ kinds.double token }
+    {
+        Fault {
+            token,
+            kind: FaultKind::DoubleName,
+        }
+    }
+
+    /// A part of another type or length than its place.
+    pub(crate) fn wrong(token: u32) -> Fault
+        ensures { result ≡ kinds.wrong token }
+    {
+        Fault {
+            token,
+            kind: FaultKind::WrongType,
+        }
+    }
+
+    /// A key column in SET.
+    pub(crate) fn key_set(token: u32) -> Fault
+        ensures { result ≡ kinds.key_set token }
+    {
+        Fault {
+            token,
+            kind: FaultKind::KeyAssigned,
+        }
+    }
+
+    /// An item after one of a later kind.
+    pub(crate) fn late(token: u32) -> Fault
+        ensures { result ≡ kinds.late token }
+    {
+        Fault {
+            token,
+            kind: FaultKind::Late,
+        }
+    }
+}
+
+/// Adds a fault where the test holds.
+pub(crate) fn add_if(faults: &mut List<Fault>, holds: bool, fault: Fault) -> Result<(), NoMemory>
+    ensures { OnOk result (faults.new ≡ faults.old ++ when holds fault) }
+{
+    if holds {
+        faults.push(fault)?;
+    }
+    Ok(())
 }

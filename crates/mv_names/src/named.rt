@@ -25,6 +25,14 @@ impl Named for Name {
     }
 }
 
+impl Named for Txt {
+    ghost name_of = { λ t. t };
+
+    fn name(&self) -> &Txt {
+        self
+    }
+}
+
 impl Named for ColDef {
     ghost name_of = { λ c. c.name.text };
 

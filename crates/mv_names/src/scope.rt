@@ -1,8 +1,11 @@
 //! The names that may be used in a procedure, and their types.
 
 use crate::named::Named;
+use mv_values::copied::Copied;
 use mv_values::list::List;
+use mv_values::memory::NoMemory;
 use mv_values::txt::Txt;
+use std::alloc::Global;
 
 /// The type of an expression. It is unknown where a name isn't there, which is a fault already: it then fits every place.
 #[derive(Clone, Copy, Debug, PartialEq, Eq)]
@@ -37,6 +40,17 @@ pub enum Meaning {
 pub struct Entry {
     pub name: Txt,
     pub meaning: Meaning,
+}
+
+impl Copied for Field {
+    ghost use Rattle.std.specs.Prelude.{◌≡◌, IfOk};
+
+    fn copy(&self, alloc: Global) -> Result<Field, NoMemory> {
+        Ok(Field {
+            name: self.name.copy(alloc)?,
+            kind: self.kind,
+        })
+    }
 }
 
 impl Named for Field {

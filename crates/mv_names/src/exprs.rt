@@ -1,0 +1,267 @@
+//! The types of expressions, and their faults.
+
+ghost use Rattle.std.specs.Prelude.{◌≡◌, ◌++◌, OnOk, IfOk};
+ghost use Rattle.std.specs.Option.{option_copied};
+ghost use Rattle.mv_names.specs.Scope.{entry_of, type_in, type_of_value, type_of_column, column_type, type_among};
+ghost use Rattle.mv_names.specs.Typing.{clash, misfit, read_type, read_faults, of_turn_type, of_turn_faults, turn_type, turn_faults, field_type, missing_field, field_named, column_faults, missing_column, type_of, faults_of, in_place, judged, placed, one_wants, one_gives, left_wants, right_wants, two_gives};
+
+use crate::fault::{Fault, add_if};
+use crate::named::find;
+use crate::scope::{Entry, Field, Meaning, ValueType};
+use mv_ast::tree::{ColDef, Expr, ExprKind, Name, OneOp, TwoOp};
+use mv_values::list::List;
+use mv_values::memory::NoMemory;
+use mv_values::schema::ColType;
+use mv_values::value::Value;
+
+/// The type of a column's values.
+pub(crate) fn column_kind(kind: ColType) -> ValueType
+    ensures { result ≡ type_in kind }
+{
+    match kind {
+        ColType::Int => ValueType::Int,
+        ColType::Text(_) => ValueType::Text,
+    }
+}
+
+pub(crate) fn value_kind(value: &Value) -> ValueType
+    ensures { result ≡ type_of_value value.now }
+{
+    match value {
+        Value::Int(_) => ValueType::Int,
+        Value::Text(_) => ValueType::Text,
+    }
+}
+
+/// The type of a column, unknown where the table or the column isn't there.
+pub(crate) fn kind_among(columns: Option<&[ColDef]>, name: &Name) -> ValueType
+    ensures { result ≡ type_among (option_copied columns.entry) name.now.text }
+{
+    match columns {
+        None => ValueType::Unknown,
+        Some(columns) => match find(columns, &name.text) {
+            None => ValueType::Unknown,
+            Some(column) => column_kind(column.kind),
+        },
+    }
+}
+
+/// Whether two types can't stand in one place.
+fn do_clash(place: ValueType, kind: ValueType) -> bool
+    ensures { result ≡ clash place kind }
+{
+    match (place, kind) {
+        (ValueType::Int, ValueType::Text) | (ValueType::Text, ValueType::Int) => true,
+        _ => false,
+    }
+}
+
+/// Adds a part that doesn't fit its place.
+pub(crate) fn check_fit(
+    faults: &mut List<Fault>,
+    place: ValueType,
+    token: u32,
+    kind: ValueType,
+) -> Result<(), NoMemory>
+    ensures { OnOk result (faults.new ≡ faults.old ++ misfit place token kind) }
+{
+    add_if(faults, do_clash(place, kind), Fault::wrong(token))
+}
+
+/// A name that is read as a value.
+fn check_variable(
+    scope: &[Entry],
+    name: &Name,
+    faults: &mut List<Fault>,
+) -> Result<ValueType, NoMemory>
+    ensures kind { IfOk result (λ t. t ≡ read_type (entry_of scope.now name.now.text)) }
+    ensures faults { OnOk result (faults.new ≡ faults.old ++ read_faults name.now.token (entry_of scope.now name.now.text)) }
+{
+    match find(scope, &name.text) {
+        None => {
+            faults.push(Fault::unknown(name.token))?;
+            Ok(ValueType::Unknown)
+        }
+        Some(entry) => match &entry.meaning {
+            Meaning::Fixed(kind) => Ok(*kind),
+            Meaning::Variable(kind) => Ok(*kind),
+            Meaning::Rows(_) => {
+                faults.push(Fault::wrong(name.token))?;
+                Ok(ValueType::Unknown)
+            }
+            Meaning::Turn(_) => {
+                faults.push(Fault::wrong(name.token))?;
+                Ok(ValueType::Unknown)
+            }
+        },
+    }
+}
+
+/// A column among those of a loop's row.
+fn check_in_turn(
+    fields: &[Field],
+    name: &Name,
+    faults: &mut List<Fault>,
+) -> Result<ValueType, NoMemory>
+    ensures kind { IfOk result (λ t. t ≡ field_type (field_named fields.now name.now)) }
+    ensures faults { OnOk result (faults.new ≡ faults.old ++ missing_field name.now.token (field_named fields.now name.now)) }
+{
+    match find(fields, &name.text) {
+        None => {
+            faults.push(Fault::unknown(name.token))?;
+            Ok(ValueType::Unknown)
+        }
+        Some(field) => Ok(field.kind),
+    }
+}
+
+/// A column of a loop's row.
+fn check_field(
+    scope: &[Entry],
+    row: &Name,
+    name: &Name,
+    faults: &mut List<Fault>,
+) -> Result<ValueType, NoMemory>
+    ensures kind { IfOk result (λ t. t ≡ of_turn_type (entry_of scope.now row.now.text) name.now) }
+    ensures faults { OnOk result (faults.new ≡ faults.old ++ of_turn_faults row.now.token (entry_of scope.now row.now.text) name.now) }
+{
+    match find(scope, &row.text) {
+        None => {
+            faults.push(Fault::unknown(row.token))?;
+            Ok(ValueType::Unknown)
+        }
+        Some(entry) => match &entry.meaning {
+            Meaning::Turn(fields) => check_in_turn(fields.as_slice(), name, faults),
+            _ => {
+                faults.push(Fault::wrong(row.token))?;
+                Ok(ValueType::Unknown)
+            }
+        },
+    }
+}
+
+/// Adds a column that isn't there, where its table is.
+pub(crate) fn check_column(
+    columns: Option<&[ColDef]>,
+    name: &Name,
+    faults: &mut List<Fault>,
+) -> Result<(), NoMemory>
+    ensures { OnOk result (faults.new ≡ faults.old ++ column_faults (option_copied columns.entry) name.now) }
+{
+    if let Some(columns) = columns {
+        if find(columns, &name.text).is_none() {
+            faults.push(Fault::unknown(name.token))?;
+        }
+    }
+    Ok(())
+}
+
+fn wanted_by_one(_op: OneOp) -> ValueType
+    ensures { result ≡ one_wants _op }
+{
+    ValueType::Int
+}
+
+fn given_by_one(op: OneOp) -> ValueType
+    ensures { result ≡ one_gives op }
+{
+    match op {
+        OneOp::Neg | OneOp::Not => ValueType::Int,
+        OneOp::TextOf => ValueType::Text,
+    }
+}
+
+/// The type of an operator's left side.
+fn wanted_left(op: TwoOp) -> ValueType
+    ensures { result ≡ left_wants op }
+{
+    match op {
+        TwoOp::Add | TwoOp::Sub | TwoOp::Mul | TwoOp::Div | TwoOp::Rem => ValueType::Int,
+        TwoOp::And | TwoOp::Or => ValueType::Int,
+        TwoOp::Join | TwoOp::Left | TwoOp::Contains => ValueType::Text,
+        TwoOp::Compare(_) => ValueType::Unknown,
+    }
+}
+
+/// The type of an operator's right side, where the left side has this type.
+fn wanted_right(op: TwoOp, left: ValueType) -> ValueType
+    ensures { result ≡ right_wants op left }
+{
+    match op {
+        TwoOp::Add | TwoOp::Sub | TwoOp::Mul | TwoOp::Div | TwoOp::Rem => ValueType::Int,
+        TwoOp::And | TwoOp::Or | TwoOp::Left => ValueType::Int,
+        TwoOp::Join | TwoOp::Contains => ValueType::Text,
+        TwoOp::Compare(_) => left,
+    }
+}
+
+fn given_by_two(op: TwoOp) -> ValueType
+    ensures { result ≡ two_gives op }
+{
+    match op {
+        TwoOp::Add | TwoOp::Sub | TwoOp::Mul | TwoOp::Div | TwoOp::Rem => ValueType::Int,
+        TwoOp::And | TwoOp::Or | TwoOp::Compare(_) | TwoOp::Contains => ValueType::Int,
+        TwoOp::Join | TwoOp::Left => ValueType::Text,
+    }
+}
+
+/// The type of an expression. It adds the faults in it.
+#[cycle(judging)]
+pub(crate) fn check_expr(
+    scope: &[Entry],
+    columns: Option<&[ColDef]>,
+    e: &Expr,
+    faults: &mut List<Fault>,
+) -> Result<ValueType, NoMemory>
+    ensures kind { IfOk result (λ t. t ≡ type_of scope.now (option_copied columns.entry) e.now) }
+    ensures faults { OnOk result (faults.new ≡ faults.old ++ faults_of scope.now (option_copied columns.entry) e.now) }
+{
+    match &e.kind {
+        ExprKind::Const(value) => Ok(value_kind(value)),
+        ExprKind::Var(name) => check_variable(scope, name, faults),
+        ExprKind::Field(row, name) => check_field(scope, row, name, faults),
+        ExprKind::Col(name) => {
+            check_column(columns, name, faults)?;
+            Ok(kind_among(columns, name))
+        }
+        ExprKind::One(op, a) => {
+            check_operand(wanted_by_one(*op), scope, columns, a.get(), faults)?;
+            Ok(given_by_one(*op))
+        }
+        ExprKind::Two(op, a, b) => {
+            let left = check_operand(wanted_left(*op), scope, columns, a.get(), faults)?;
+            check_operand(wanted_right(*op, left), scope, columns, b.get(), faults)?;
+            Ok(given_by_two(*op))
+        }
+    }
+}
+
+/// The type of an expression in a place of this type. It adds the faults in it, and one where it doesn't fit.
+#[cycle(judging)]
+pub(crate) fn check_operand(
+    place: ValueType,
+    scope: &[Entry],
+    columns: Option<&[ColDef]>,
+    e: &Expr,
+    faults: &mut List<Fault>,
+) -> Result<ValueType, NoMemory>
+    ensures kind { IfOk result (λ t. t ≡ type_of scope.now (option_copied columns.entry) e.now) }
+    ensures faults { OnOk result (faults.new ≡ faults.old ++ in_place place (judged e.now scope.now (option_copied columns.entry))) }
+{
+    let kind = check_expr(scope, columns, e, faults)?;
+    check_fit(faults, place, e.token, kind)?;
+    Ok(kind)
+}
+
+/// An expression in a place of this type, where no column stands by itself.
+pub(crate) fn check_placed(
+    place: ValueType,
+    scope: &[Entry],
+    e: &Expr,
+    faults: &mut List<Fault>,
+) -> Result<(), NoMemory>
+    ensures { OnOk result (faults.new ≡ faults.old ++ placed place scope.now e.now) }
+{
+    check_operand(place, scope, Some(&[]), e, faults)?;
+    Ok(())
+}

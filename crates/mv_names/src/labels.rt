@@ -1,0 +1,103 @@
+//! Second ones of a name.
+
+ghost use Rattle.std.specs.Prelude.{◌≡◌, ◌++◌, map, OnOk};
+ghost use Rattle.mv_names.specs.Statements.{doubles};
+
+use crate::fault::{Fault, add_if};
+use crate::named::has_name;
+use mv_ast::tree::{ColDef, Name, Param, ProcDef, SetItem, TableDef, VarDef};
+use mv_values::copied::Copied;
+use mv_values::list::List;
+use mv_values::memory::NoMemory;
+use mv_values::txt::Txt;
+use std::alloc::Global;
+
+/// What has a name with a place in the text.
+pub(crate) trait Labelled {
+    ghost use Rattle.mv_ast.specs.declared.tree.Name.{Name};
+
+    /// Its name.
+    ghost label_of: { Self → Name };
+
+    /// Lends its name.
+    fn label(&self) -> &Name
+        ensures { result.now ≡ label_of self.now };
+}
+
+impl Labelled for Name {
+    ghost label_of = { λ n. n };
+
+    fn label(&self) -> &Name {
+        self
+    }
+}
+
+impl Labelled for ColDef {
+    ghost label_of = { λ c. c.name };
+
+    fn label(&self) -> &Name {
+        &self.name
+    }
+}
+
+impl Labelled for Param {
+    ghost label_of = { λ p. p.name };
+
+    fn label(&self) -> &Name {
+        &self.name
+    }
+}
+
+impl Labelled for VarDef {
+    ghost label_of = { λ v. v.name };
+
+    fn label(&self) -> &Name {
+        &self.name
+    }
+}
+
+impl Labelled for TableDef {
+    ghost label_of = { λ t. t.name };
+
+    fn label(&self) -> &Name {
+        &self.name
+    }
+}
+
+impl Labelled for ProcDef {
+    ghost label_of = { λ p. p.name };
+
+    fn label(&self) -> &Name {
+        &self.name
+    }
+}
+
+impl Labelled for SetItem {
+    ghost label_of = { λ i. i.column };
+
+    fn label(&self) -> &Name {
+        &self.column
+    }
+}
+
+/// Adds each name that is taken or stands before it too, and takes them. It costs the product of the numbers of both.
+pub(crate) fn check_doubles<T: Labelled>(
+    alloc: Global,
+    taken: &mut List<Txt>,
+    items: &[T],
+    faults: &mut List<Fault>,
+) -> Result<(), NoMemory>
+    ensures faults { OnOk result (faults.new ≡ faults.old ++ doubles T.label_of taken.old items.now) }
+    ensures taken { OnOk result (taken.new ≡ taken.old ++ map (λ x. (T.label_of x).text) items.now) }
+{
+    for item in items {
+        let name = item.label();
+        add_if(
+            faults,
+            has_name(taken.as_slice(), &name.text),
+            Fault::double(name.token),
+        )?;
+        taken.push(name.text.copy(alloc)?)?;
+    }
+    Ok(())
+}
