@@ -1,6 +1,6 @@
 -- What a script without faults stands for: its names by their numbers. Where a name isn't there, or a number is greater
 -- than its type's greatest, any number will do: then the script has a fault, or passes the limits of the language.
-use Rattle.std.specs.Prelude.{ℕ, ◌+◌, ◌-◌, ◌^◌, Bool, List, [], ◌∷◌, ◌++◌, length, map, min, suc, Option, Some, None}
+use Rattle.std.specs.Prelude.{ℕ, ◌+◌, ◌-◌, ◌^◌, Bool, List, [], ◌∷◌, ◌++◌, length, map, min, suc, slice_get, Option, Some, None}
 use Rattle.mv_values.specs.declared.value.Value.{Value}
 use Rattle.mv_values.specs.declared.schema.ColType.{ColType}
 use Rattle.mv_values.specs.declared.schema.Column.{Column}
@@ -302,7 +302,7 @@ call_of procedures c = record {
   arguments = map argument_of c.arguments;
 }
 
--- the journal's block, whose table is 0
+-- the first journal's block, whose table is 0
 abbrev pub journal_of : Option Span → Option CopyInfo
 journal_of None = None
 journal_of (Some s) = Some (copy_info 0 s)
@@ -314,7 +314,7 @@ resolved_parts p = record {
   procedures = map (procedure_of p.tables) p.procedures;
   copies = map (copy_of p.tables) p.copies;
   calls = map (call_of p.procedures) p.calls;
-  journal = journal_of p.journal;
+  journal = journal_of (slice_get p.journals 0);
 }
 
 -- what a script without faults stands for

@@ -1,0 +1,3 @@
+pub mod Unrolled
+pub mod Ordered
+pub mod Taken

@@ -1,5 +1,5 @@
 -- All faults of names and types in a script. The rules are this project's own.
-use Rattle.std.specs.Prelude.{ℕ, Bool, true, false, not, List, [], ◌∷◌, ◌++◌, length, map, Option, Some, None, nat_le, ◌==◌}
+use Rattle.std.specs.Prelude.{ℕ, Bool, true, false, not, List, [], ◌∷◌, ◌++◌, length, map, Option, Some, None, nat_le, ◌==◌, if◌then◌else◌}
 use Rattle.std.specs.List.{flat_map}
 use Rattle.mv_values.specs.declared.schema.ColType.{ColType}
 use Rattle.mv_values.specs.declared.schema.ColType.TheVariants as column
@@ -23,9 +23,9 @@ use Rattle.mv_ast.specs.declared.tree.Script.{Script}
 use Rattle.mv_names.specs.declared.fault.Fault.{Fault}
 use Rattle.mv_names.specs.declared.parts.Parts.{Parts}
 use Rattle.mv_names.specs.First.{unknown, wrong, when}
-use Rattle.mv_names.specs.Named.{is_named, first_named}
+use Rattle.mv_names.specs.Named.{Text, is_named, first_named}
 use Rattle.mv_names.specs.Items.{parts_of, lates}
-use Rattle.mv_names.specs.Scope.{scope_of, found, parameter}
+use Rattle.mv_names.specs.Scope.{scope_of, found}
 use Rattle.mv_names.specs.Statements.{doubles, table_named, missing_table, statements}
 
 -- Literals
@@ -40,14 +40,15 @@ fits (column.Text n) (value.Text t) = nat_le (length t) n
 abbrev pub literal : ColType → Lit → List Fault
 literal kind l = when (not (fits kind l.value)) (wrong l.token)
 
--- a literal for each column, as far as there are both
+-- a literal for each column
 abbrev pub literals : List ColDef → List Lit → List Fault
-literals [] ls = []
-literals (c ∷ cs) [] = []
+literals cs [] = []
+literals [] (l ∷ ls) = []
 literals (c ∷ cs) (l ∷ ls) = literal c.kind l ++ literals cs ls
 
+-- a row of another length doesn't fit, and else each literal has to
 abbrev pub row : List ColDef → LitRow → List Fault
-row columns r = when (not (length r.values == length columns)) (wrong r.token) ++ literals columns r.values
+row columns r = if length r.values == length columns then literals columns r.values else wrong r.token ∷ []
 
 abbrev pub rows : List ColDef → List LitRow → List Fault
 rows columns rs = flat_map (row columns) rs
@@ -60,8 +61,11 @@ column_doubles columns = doubles (λ (c : ColDef). c.name) [] columns
 abbrev pub missing_key : List ColDef → Name → List Fault
 missing_key columns n = when (not (is_named (λ (c : ColDef). c.name.text) columns n.text)) (unknown n.token)
 
+abbrev pub key_doubles : List Name → List Fault
+key_doubles key = doubles (λ (n : Name). n) [] key
+
 abbrev pub table : TableDef → List Fault
-table t = column_doubles t.columns ++ flat_map (missing_key t.columns) t.key ++ doubles (λ (n : Name). n) [] t.key ++ rows t.columns t.rows
+table t = column_doubles t.columns ++ flat_map (missing_key t.columns) t.key ++ key_doubles t.key ++ rows t.columns t.rows
 
 -- Procedures
 
@@ -77,12 +81,18 @@ begins (value.Text t) = nat_le (length t) 4000
 abbrev pub initial : VarDef → List Fault
 initial v = when (not (begins v.initial.value)) (wrong v.initial.token)
 
--- its parameters and variables share one space, in which `found` is taken from the start
+-- its parameters and variables share one space, of which these names are taken
+abbrev pub name_doubles : List Text → ProcDef → List Fault
+name_doubles taken p =
+    doubles (λ (q : Param). q.name) taken p.params ++ doubles (λ (v : VarDef). v.name) (taken ++ map (λ (q : Param). q.name.text) p.params) p.vars
+
+-- `found` is taken from the start
+abbrev pub declarations : ProcDef → List Fault
+declarations p =
+    name_doubles (found.name ∷ []) p ++ flat_map (λ (q : Param). param_columns q.kind) p.params ++ flat_map initial p.vars
+
 abbrev pub procedure : List TableDef → ProcDef → List Fault
-procedure tables p =
-    doubles (λ (q : Param). q.name) (found.name ∷ []) p.params
-    ++ doubles (λ (v : VarDef). v.name) (found.name ∷ map (λ (q : Param). q.name.text) p.params) p.vars
-    ++ flat_map (λ (q : Param). param_columns q.kind) p.params ++ flat_map initial p.vars ++ statements tables p.body (scope_of p)
+procedure tables p = declarations p ++ statements tables p.body (scope_of p)
 
 -- Copies and calls
 
@@ -95,10 +105,10 @@ argument (param.One kind) (arg.Many rs) = wrong rs.token ∷ []
 argument (param.Many columns) (arg.One l) = wrong l.token ∷ []
 argument (param.Many columns) (arg.Many rs) = rows columns rs.rows
 
--- an argument for each parameter, as far as there are both
+-- an argument for each parameter
 abbrev pub arguments : List Param → List Arg → List Fault
-arguments [] as' = []
-arguments (q ∷ qs) [] = []
+arguments qs [] = []
+arguments [] (a ∷ as') = []
 arguments (q ∷ qs) (a ∷ as') = argument q.kind a ++ arguments qs as'
 
 abbrev pub arg_token : Arg → ℕ
@@ -110,10 +120,11 @@ abbrev pub arguments_token : List Arg → Name → ℕ
 arguments_token [] n = n.token
 arguments_token (a ∷ as') n = arg_token a
 
+-- arguments of another number don't fit, and else each has to
 abbrev pub call_to : Option ProcDef → CallDef → List Fault
 call_to None c = unknown c.name.token ∷ []
 call_to (Some p) c =
-    when (not (length c.arguments == length p.params)) (wrong (arguments_token c.arguments c.name)) ++ arguments p.params c.arguments
+    if length c.arguments == length p.params then arguments p.params c.arguments else wrong (arguments_token c.arguments c.name) ∷ []
 
 abbrev pub procedure_named : List ProcDef → Name → Option ProcDef
 procedure_named procedures n = first_named (λ (p : ProcDef). p.name.text) procedures n.text
@@ -123,10 +134,15 @@ call procedures c = call_to (procedure_named procedures c.name) c
 
 -- The whole. A table and a procedure may share a name; those that stand later in the script are there too.
 
+abbrev pub table_doubles : List TableDef → List Fault
+table_doubles tables = doubles (λ (t : TableDef). t.name) [] tables
+
+abbrev pub procedure_doubles : List ProcDef → List Fault
+procedure_doubles procedures = doubles (λ (q : ProcDef). q.name) [] procedures
+
 abbrev pub parts_faults : Parts → List Fault
 parts_faults p =
-    doubles (λ (t : TableDef). t.name) [] p.tables ++ doubles (λ (q : ProcDef). q.name) [] p.procedures
-    ++ flat_map table p.tables ++ flat_map (procedure p.tables) p.procedures
+    table_doubles p.tables ++ procedure_doubles p.procedures ++ flat_map table p.tables ++ flat_map (procedure p.tables) p.procedures
     ++ flat_map (copy p.tables) p.copies ++ flat_map (call p.procedures) p.calls
 
 -- all faults of names and types

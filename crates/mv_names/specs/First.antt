@@ -1,6 +1,5 @@
 -- The first of faults: the one at the least token, and at one token the one whose kind stands first. This project's own rule.
-use Rattle.std.specs.Prelude.{◌≡◌, ℕ, Bool, true, false, ◌&&◌, ◌||◌, List, [], ◌∷◌, nat_lt, ◌==◌, All}
-use Rattle.std.specs.List.{IsAmong}
+use Rattle.std.specs.Prelude.{◌≡◌, ℕ, Bool, true, false, ◌&&◌, ◌||◌, List, [], ◌∷◌, ◌++◌, Option, Some, None, nat_lt, ◌==◌, All}
 use Rattle.mv_names.specs.declared.fault.Fault.{Fault}
 use Rattle.mv_names.specs.declared.fault.FaultKind.{FaultKind}
 use Rattle.mv_names.specs.declared.fault.FaultKind.TheVariants.{UnknownName, DoubleName, WrongType, KeyAssigned, Late}
@@ -18,7 +17,12 @@ is_before f g = nat_lt f.token g.token || (f.token == g.token && nat_lt (rank f.
 
 -- a fault is the first of faults: it is one of them, and none is before it
 abbrev pub IsFirst : List Fault → Fault → Type 0
-IsFirst faults f = IsAmong faults f × All (λ g. is_before g f ≡ false) faults
+IsFirst faults f = (front : List Fault) × (back : List Fault) × (faults ≡ front ++ f ∷ back) × All (λ g. is_before g f ≡ false) faults
+
+-- the same where there may be none
+abbrev pub IsFirstOf : List Fault → Option Fault → Type 0
+IsFirstOf faults None = faults ≡ []
+IsFirstOf faults (Some f) = IsFirst faults f
 
 -- the faults, each with the number of its token
 abbrev pub unknown : ℕ → Fault

@@ -1,5 +1,5 @@
 -- The items of a script by their kinds, and the items that come late.
-use Rattle.std.specs.Prelude.{ℕ, List, [], ◌∷◌, ◌++◌, Option, Some, None, nat_lt, max, slice_get}
+use Rattle.std.specs.Prelude.{ℕ, List, [], ◌∷◌, ◌++◌, nat_lt, max}
 use Rattle.std.specs.List.{flat_map}
 use Rattle.mv_ast.specs.declared.tree.Item.{Item}
 use Rattle.mv_ast.specs.declared.tree.ItemKind.{ItemKind}
@@ -33,14 +33,14 @@ abbrev pub journal_in : ItemKind → List Span
 journal_in (Journal j) = j ∷ []
 journal_in k = []
 
--- the items by their kinds, and the first journal
+-- the items by their kinds
 abbrev pub parts_of : List Item → Parts
 parts_of items = record {
   tables = flat_map (λ (i : Item). table_in i.kind) items;
   procedures = flat_map (λ (i : Item). procedure_in i.kind) items;
   copies = flat_map (λ (i : Item). copy_in i.kind) items;
   calls = flat_map (λ (i : Item). call_in i.kind) items;
-  journal = slice_get (flat_map (λ (i : Item). journal_in i.kind) items) 0;
+  journals = flat_map (λ (i : Item). journal_in i.kind) items;
 }
 
 -- the order of the kinds: tables, procedures, copies, calls, journal

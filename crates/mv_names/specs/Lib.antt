@@ -1,4 +1,5 @@
 pub mod First
+pub mod Earlier
 pub mod Named
 pub mod Items
 pub mod Scope

@@ -1,5 +1,5 @@
 -- The faults of statements. The rules are this project's own.
-use Rattle.std.specs.Prelude.{ℕ, Bool, true, false, not, List, [], ◌∷◌, ◌++◌, length, map, Option, Some, None, ◌==◌}
+use Rattle.std.specs.Prelude.{ℕ, Bool, false, not, List, [], ◌∷◌, ◌++◌, length, map, Option, Some, None, ◌==◌}
 use Rattle.std.specs.List.{flat_map}
 use Rattle.mv_ast.specs.declared.tree.Name.{Name}
 use Rattle.mv_ast.specs.declared.tree.ColDef.{ColDef}
@@ -15,9 +15,9 @@ use Rattle.mv_ast.specs.declared.tree.Stmt.TheOpen.{Stmt-F, Assign, Select, Tota
 use Rattle.mv_ast.specs.declared.tree.Stmt.TheFolds.{fold-Stmt}
 use Rattle.mv_names.specs.declared.fault.Fault.{Fault}
 use Rattle.mv_names.specs.declared.scope.ValueType.{ValueType}
-use Rattle.mv_names.specs.declared.scope.ValueType.TheVariants.{Int, Text, Unknown}
+use Rattle.mv_names.specs.declared.scope.ValueType.TheVariants.{Int, Unknown}
 use Rattle.mv_names.specs.declared.scope.Meaning.{Meaning}
-use Rattle.mv_names.specs.declared.scope.Meaning.TheVariants.{Fixed, Variable, Rows, Turn}
+use Rattle.mv_names.specs.declared.scope.Meaning.TheVariants.{Variable, Rows}
 use Rattle.mv_names.specs.declared.scope.Entry.{Entry}
 use Rattle.mv_names.specs.First.{unknown, double, wrong, key_set, when}
 use Rattle.mv_names.specs.Named as named

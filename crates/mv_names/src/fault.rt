@@ -1,8 +1,9 @@
 //! Faults of names and types, and which of two comes first.
 
 ghost use Rattle.std.specs.Prelude.{◌≡◌, ◌++◌, OnOk};
-ghost use Rattle.mv_names.specs.First.{is_before, rank, when};
+ghost use Rattle.mv_names.specs.First.{is_before, rank, when, IsFirstOf};
 ghost use Rattle.mv_names.specs.First as kinds;
+ghost use Rattle.mv_names.specs.Earlier.{earlier_of};
 
 use mv_values::list::List;
 use mv_values::memory::NoMemory;
@@ -110,4 +111,31 @@ pub(crate) fn add_if(faults: &mut List<Fault>, holds: bool, fault: Fault) -> Res
         faults.push(fault)?;
     }
     Ok(())
+}
+
+/// The earlier of the first fault so far and one more.
+fn earlier(first: Option<Fault>, fault: Fault) -> Fault
+    ensures { result ≡ earlier_of first fault }
+{
+    match first {
+        None => fault,
+        Some(best) => {
+            if comes_before(fault, best) {
+                fault
+            } else {
+                best
+            }
+        }
+    }
+}
+
+/// The first of faults, none only where there are none.
+pub fn first_of(faults: &[Fault]) -> Option<Fault>
+    ensures { IsFirstOf faults.now result }
+{
+    let mut first = None;
+    for fault in faults {
+        first = Some(earlier(first, *fault));
+    }
+    first
 }

@@ -1,8 +1,11 @@
 //! Names and types: the faults of a script, and the first of them.
 #![tactic(auto)]
 
+mod bodies;
+pub mod check;
 mod exprs;
 pub mod fault;
+mod items;
 mod labels;
 pub mod named;
 pub mod parts;

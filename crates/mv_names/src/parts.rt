@@ -1,14 +1,68 @@
 //! The items of a script by their kinds.
 
-use mv_ast::tree::{CallDef, CopyDef, ProcDef, Span, TableDef};
-use mv_values::list::List;
+ghost use Rattle.std.specs.Prelude.{◌≡◌, ◌++◌, OnOk, IfOk};
+ghost use Rattle.mv_names.specs.Items.{table_in, procedure_in, copy_in, call_in, journal_in, parts_of};
 
-/// The items of a script by their kinds, each kind in the order of the text, and the first journal.
+use mv_ast::tree::{CallDef, CopyDef, Item, ItemKind, ProcDef, Script, Span, TableDef};
+use mv_values::list::List;
+use mv_values::memory::NoMemory;
+use std::alloc::Global;
+
+/// The items of a script by their kinds, each kind in the order of the text.
 #[derive(Drop)]
 pub struct Parts {
     pub tables: List<TableDef>,
     pub procedures: List<ProcDef>,
     pub copies: List<CopyDef>,
     pub calls: List<CallDef>,
-    pub journal: Option<Span>,
+    pub journals: List<Span>,
+}
+
+/// Adds an item to those of its kind.
+fn add(parts: &mut Parts, kind: ItemKind) -> Result<(), NoMemory>
+    ensures tables { OnOk result (parts.new.tables ≡ parts.old.tables ++ table_in kind) }
+    ensures procedures { OnOk result (parts.new.procedures ≡ parts.old.procedures ++ procedure_in kind) }
+    ensures copies { OnOk result (parts.new.copies ≡ parts.old.copies ++ copy_in kind) }
+    ensures calls { OnOk result (parts.new.calls ≡ parts.old.calls ++ call_in kind) }
+    ensures journals { OnOk result (parts.new.journals ≡ parts.old.journals ++ journal_in kind) }
+{
+    match kind {
+        ItemKind::Table(table) => parts.tables.push(table),
+        ItemKind::Proc(procedure) => parts.procedures.push(procedure),
+        ItemKind::Copy(copy) => parts.copies.push(copy),
+        ItemKind::Call(call) => parts.calls.push(call),
+        ItemKind::Journal(journal) => parts.journals.push(journal),
+    }
+}
+
+/// What is left in the place of an item that was taken.
+fn blank() -> Item {
+    Item {
+        token: 0,
+        kind: ItemKind::Journal(Span {
+            token: 0,
+            at: 0,
+            len: 0,
+            closed: true,
+        }),
+    }
+}
+
+/// The items of a script by their kinds. The script is given up.
+pub fn part(alloc: Global, script: Script) -> Result<Parts, NoMemory>
+    ensures { IfOk result (λ parts. parts ≡ parts_of script.items) }
+{
+    let Script { mut items } = script;
+    let mut parts = Parts {
+        tables: List::new(alloc),
+        procedures: List::new(alloc),
+        copies: List::new(alloc),
+        calls: List::new(alloc),
+        journals: List::new(alloc),
+    };
+    for i in 0..items.len() {
+        let item = items.replace(i, blank());
+        add(&mut parts, item.kind)?;
+    }
+    Ok(parts)
 }

@@ -19,7 +19,7 @@ use mv_values::memory::NoMemory;
 use std::alloc::Global;
 
 /// The columns of a table, where it is there.
-fn columns_in<'a>(table: Option<&'a TableDef>) -> Option<&'a [ColDef]>
+pub(crate) fn columns_in<'a>(table: Option<&'a TableDef>) -> Option<&'a [ColDef]>
     ensures { option_copied result ≡ columns_of (option_copied table.entry) }
 {
     match table {
@@ -123,7 +123,7 @@ fn token_of_values(values: &[Expr], token: u32) -> u32
     }
 }
 
-fn check_columns(
+pub(crate) fn check_columns(
     columns: Option<&[ColDef]>,
     names: &[Name],
     faults: &mut List<Fault>,
@@ -155,7 +155,7 @@ fn check_cond(
     Ok(())
 }
 
-fn check_where(
+pub(crate) fn check_where(
     scope: &[Entry],
     columns: Option<&[ColDef]>,
     conds: &[Cond],
@@ -169,7 +169,7 @@ fn check_where(
     Ok(())
 }
 
-fn check_order(
+pub(crate) fn check_order(
     columns: Option<&[ColDef]>,
     sorts: &[Sort],
     faults: &mut List<Fault>,
@@ -232,7 +232,7 @@ fn check_agg(
 }
 
 /// A value for each column.
-fn check_values(
+pub(crate) fn check_values(
     scope: &[Entry],
     columns: &[ColDef],
     values: &[Expr],
@@ -298,7 +298,11 @@ fn check_items(
 // Loops
 
 /// Adds a loop's name that is taken where the loop stands.
-fn check_turn_name(scope: &[Entry], name: &Name, faults: &mut List<Fault>) -> Result<(), NoMemory>
+pub(crate) fn check_turn_name(
+    scope: &[Entry],
+    name: &Name,
+    faults: &mut List<Fault>,
+) -> Result<(), NoMemory>
     ensures { OnOk result (faults.new ≡ faults.old ++ turn_name scope.now name.now) }
 {
     add_if(
@@ -309,7 +313,11 @@ fn check_turn_name(scope: &[Entry], name: &Name, faults: &mut List<Fault>) -> Re
 }
 
 /// Adds a loop's parameter that isn't there, or is no ROWS parameter.
-fn check_rows(scope: &[Entry], name: &Name, faults: &mut List<Fault>) -> Result<(), NoMemory>
+pub(crate) fn check_rows(
+    scope: &[Entry],
+    name: &Name,
+    faults: &mut List<Fault>,
+) -> Result<(), NoMemory>
     ensures { OnOk result (faults.new ≡ faults.old ++ rows_faults name.now.token (entry_of scope.now name.now.text)) }
 {
     match find(scope, &name.text) {
@@ -322,7 +330,7 @@ fn check_rows(scope: &[Entry], name: &Name, faults: &mut List<Fault>) -> Result<
 }
 
 /// The row of a loop over a SELECT.
-fn turn_of_select(
+pub(crate) fn turn_of_select(
     alloc: Global,
     turn: &Name,
     columns: Option<&[ColDef]>,
@@ -357,7 +365,12 @@ fn fields_named(alloc: Global, scope: &[Entry], rows: &Name) -> Result<List<Fiel
 }
 
 /// The row of a loop over a ROWS parameter.
-fn turn_of_rows(alloc: Global, turn: &Name, scope: &[Entry], rows: &Name) -> Result<Entry, NoMemory>
+pub(crate) fn turn_of_rows(
+    alloc: Global,
+    turn: &Name,
+    scope: &[Entry],
+    rows: &Name,
+) -> Result<Entry, NoMemory>
     ensures { IfOk result (λ e. e ≡ rows_turn turn.now scope.now rows.now) }
 {
     let fields = fields_named(alloc, scope, rows)?;
@@ -369,7 +382,7 @@ fn turn_of_rows(alloc: Global, turn: &Name, scope: &[Entry], rows: &Name) -> Res
 
 // Statements
 
-fn check_assign(
+pub(crate) fn check_assign(
     scope: &[Entry],
     to: &Name,
     right: &Expr,
@@ -381,7 +394,7 @@ fn check_assign(
     check_placed(kind, scope, right, faults)
 }
 
-fn check_select(
+pub(crate) fn check_select(
     scope: &[Entry],
     table: Option<&TableDef>,
     columns: &[Name],
@@ -405,7 +418,7 @@ fn check_select(
     check_offset(scope, offset, faults)
 }
 
-fn check_total(
+pub(crate) fn check_total(
     scope: &[Entry],
     table: Option<&TableDef>,
     agg: &Agg,
@@ -423,7 +436,7 @@ fn check_total(
     check_where(scope, own, conds, faults)
 }
 
-fn check_insert(
+pub(crate) fn check_insert(
     scope: &[Entry],
     table: Option<&TableDef>,
     name: &Name,
@@ -446,7 +459,7 @@ fn check_insert(
     }
 }
 
-fn check_update(
+pub(crate) fn check_update(
     alloc: Global,
     scope: &[Entry],
     table: Option<&TableDef>,
@@ -463,7 +476,7 @@ fn check_update(
     check_where(scope, columns_in(table), conds, faults)
 }
 
-fn check_delete(
+pub(crate) fn check_delete(
     scope: &[Entry],
     table: Option<&TableDef>,
     name: &Name,

@@ -1,4 +1,4 @@
-use Rattle.std.proofs.Common.{◌≡◌, ◌+◌, ◌++◌, drop}
+use Rattle.std.proofs.Common.{◌≡◌, ◌++◌, drop}
 use Rattle.std.specs.Option.{option_copied}
 use Rattle.mv_names.specs.Statements.{order_faults}
 use Rattle.mv_names.proofs.statements.check_order.Given as goal

@@ -1,0 +1,221 @@
+//! The faults of statements one after another, and of those that hold others.
+
+ghost use Rattle.std.specs.Prelude.{◌≡◌, ◌∷◌, ◌++◌, [], OnOk};
+ghost use Rattle.std.specs.Option.{option_copied};
+ghost use Rattle.mv_names.specs.Statements.{table_named, statements, statement_faults, for_select, for_rows};
+
+use crate::exprs::check_placed;
+use crate::fault::Fault;
+use crate::named::find;
+use crate::scope::{Entry, ValueType};
+use crate::statements::{
+    check_assign, check_columns, check_delete, check_insert, check_order, check_rows, check_select,
+    check_table, check_total, check_turn_name, check_update, check_values, check_where, columns_in,
+    turn_of_rows, turn_of_select,
+};
+use mv_ast::tree::{Cond, Name, Sort, Stmt, TableDef};
+use mv_values::list::List;
+use mv_values::memory::NoMemory;
+use std::alloc::Global;
+
+/// Adds the faults of statements. The names are as before.
+#[cycle(statements)]
+pub(crate) fn check_statements(
+    alloc: Global,
+    tables: &[TableDef],
+    body: &[Stmt],
+    scope: &mut List<Entry>,
+    faults: &mut List<Fault>,
+) -> Result<(), NoMemory>
+    ensures faults { OnOk result (faults.new ≡ faults.old ++ statements tables.now body.now scope.old) }
+    ensures scope { OnOk result (scope.new ≡ scope.old) }
+{
+    for statement in body {
+        check_statement(alloc, tables, statement, scope, faults)?;
+    }
+    Ok(())
+}
+
+/// Adds the faults of a statement. The names are as before.
+#[cycle(statements)]
+fn check_statement(
+    alloc: Global,
+    tables: &[TableDef],
+    statement: &Stmt,
+    scope: &mut List<Entry>,
+    faults: &mut List<Fault>,
+) -> Result<(), NoMemory>
+    ensures faults { OnOk result (faults.new ≡ faults.old ++ statement_faults tables.now statement.now scope.old) }
+    ensures scope { OnOk result (scope.new ≡ scope.old) }
+{
+    match statement {
+        Stmt::Assign { to, right, .. } => check_assign(scope.as_slice(), to, right, faults),
+        Stmt::Select {
+            columns,
+            to,
+            table,
+            conds,
+            sorts,
+            offset,
+            ..
+        } => check_select(
+            scope.as_slice(),
+            find(tables, &table.text),
+            columns.as_slice(),
+            to.as_slice(),
+            table,
+            conds.as_slice(),
+            sorts.as_slice(),
+            offset,
+            faults,
+        ),
+        Stmt::Total {
+            agg,
+            to,
+            table,
+            conds,
+            ..
+        } => check_total(
+            scope.as_slice(),
+            find(tables, &table.text),
+            agg,
+            to,
+            table,
+            conds.as_slice(),
+            faults,
+        ),
+        Stmt::ForSelect {
+            row,
+            columns,
+            table,
+            conds,
+            sorts,
+            body,
+            ..
+        } => {
+            check_for_select(
+                alloc,
+                tables,
+                row,
+                columns.as_slice(),
+                table,
+                conds.as_slice(),
+                sorts.as_slice(),
+                body.as_slice(),
+                scope,
+                faults,
+            )
+        }
+        Stmt::ForRows {
+            row,
+            rows,
+            body,
+            ..
+        } => check_for_rows(alloc, tables, row, rows, body.as_slice(), scope, faults),
+        Stmt::Branch { test, yes, no, .. } => {
+            check_placed(ValueType::Int, scope.as_slice(), test, faults)?;
+            check_statements(alloc, tables, yes.as_slice(), scope, faults)?;
+            check_statements(alloc, tables, no.as_slice(), scope, faults)
+        }
+        Stmt::Insert { table, values, .. } => check_insert(
+            scope.as_slice(),
+            find(tables, &table.text),
+            table,
+            values.as_slice(),
+            faults,
+        ),
+        Stmt::Update {
+            table,
+            items,
+            conds,
+            ..
+        } => check_update(
+            alloc,
+            scope.as_slice(),
+            find(tables, &table.text),
+            table,
+            items.as_slice(),
+            conds.as_slice(),
+            faults,
+        ),
+        Stmt::Delete { table, conds, .. } => check_delete(
+            scope.as_slice(),
+            find(tables, &table.text),
+            table,
+            conds.as_slice(),
+            faults,
+        ),
+        Stmt::Print { values, .. } => {
+            check_values(scope.as_slice(), &[], values.as_slice(), faults)
+        }
+        Stmt::Rollback { .. } => Ok(()),
+    }
+}
+
+/// FOR over SELECT. Its row is seen in its body alone.
+#[cycle(statements)]
+fn check_for_select(
+    alloc: Global,
+    tables: &[TableDef],
+    turn: &Name,
+    columns: &[Name],
+    table: &Name,
+    conds: &[Cond],
+    sorts: &[Sort],
+    body: &[Stmt],
+    scope: &mut List<Entry>,
+    faults: &mut List<Fault>,
+) -> Result<(), NoMemory>
+    ensures faults { OnOk result (faults.new ≡ faults.old ++ for_select (table_named tables.now table.now.text) turn.now columns.now table.now conds.now sorts.now (statements tables.now body.now) scope.old) }
+    ensures scope { OnOk result (scope.new ≡ scope.old) }
+{
+    let found = find(tables, &table.text);
+    let own = columns_in(found);
+    check_turn_name(scope.as_slice(), turn, faults)?;
+    check_table(found, table.token, faults)?;
+    check_columns(own, columns, faults)?;
+    check_where(scope.as_slice(), own, conds, faults)?;
+    check_order(own, sorts, faults)?;
+    let entry = turn_of_select(alloc, turn, own, columns)?;
+    check_body(alloc, tables, entry, body, scope, faults)
+}
+
+/// FOR over a ROWS parameter.
+#[cycle(statements)]
+fn check_for_rows(
+    alloc: Global,
+    tables: &[TableDef],
+    turn: &Name,
+    rows: &Name,
+    body: &[Stmt],
+    scope: &mut List<Entry>,
+    faults: &mut List<Fault>,
+) -> Result<(), NoMemory>
+    ensures faults { OnOk result (faults.new ≡ faults.old ++ for_rows turn.now rows.now (statements tables.now body.now) scope.old) }
+    ensures scope { OnOk result (scope.new ≡ scope.old) }
+{
+    check_turn_name(scope.as_slice(), turn, faults)?;
+    check_rows(scope.as_slice(), rows, faults)?;
+    let entry = turn_of_rows(alloc, turn, scope.as_slice(), rows)?;
+    check_body(alloc, tables, entry, body, scope, faults)
+}
+
+/// The body of a loop, in which its row is seen.
+#[cycle(statements)]
+fn check_body(
+    alloc: Global,
+    tables: &[TableDef],
+    turn: Entry,
+    body: &[Stmt],
+    scope: &mut List<Entry>,
+    faults: &mut List<Fault>,
+) -> Result<(), NoMemory>
+    ensures faults { OnOk result (faults.new ≡ faults.old ++ statements tables.now body.now (scope.old ++ turn ∷ [])) }
+    ensures scope { OnOk result (scope.new ≡ scope.old) }
+{
+    let outside = scope.len();
+    scope.push(turn)?;
+    check_statements(alloc, tables, body, scope, faults)?;
+    scope.truncate(outside);
+    Ok(())
+}

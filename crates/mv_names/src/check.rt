@@ -1,0 +1,146 @@
+//! The faults of a whole script.
+
+ghost use Rattle.std.specs.Prelude.{◌≡◌, ◌++◌, OnOk};
+ghost use Rattle.std.specs.List.{flat_map};
+ghost use Rattle.mv_names.specs.Items.{stage, stage_after, lates};
+ghost use Rattle.mv_names.specs.Faults as meant;
+ghost use Rattle.mv_names.specs.Faults.{parts_faults};
+
+use crate::fault::{Fault, add_if};
+use crate::items::{check_call, check_copy, check_procedure, check_table_def};
+use crate::labels::check_doubles;
+use crate::parts::Parts;
+use mv_ast::tree::{CallDef, CopyDef, Item, ItemKind, ProcDef, TableDef};
+use mv_values::list::List;
+use mv_values::memory::NoMemory;
+use std::alloc::Global;
+
+/// The place of an item's kind in the order of kinds.
+fn stage_of(kind: &ItemKind) -> u8
+    ensures { result ≡ stage kind.now }
+{
+    match kind {
+        ItemKind::Table(_) => 0,
+        ItemKind::Proc(_) => 1,
+        ItemKind::Copy(_) => 2,
+        ItemKind::Call(_) => 3,
+        ItemKind::Journal(_) => 4,
+    }
+}
+
+/// The least kind that may stand after an item.
+fn stage_behind(kind: &ItemKind) -> u8
+    ensures { result ≡ stage_after kind.now }
+{
+    match kind {
+        ItemKind::Table(_) => 0,
+        ItemKind::Proc(_) => 1,
+        ItemKind::Copy(_) => 2,
+        ItemKind::Call(_) => 3,
+        ItemKind::Journal(_) => 5,
+    }
+}
+
+/// Adds the items that stand after one of a later kind.
+pub fn check_order(items: &[Item], faults: &mut List<Fault>) -> Result<(), NoMemory>
+    ensures { OnOk result (faults.new ≡ faults.old ++ lates 0 items.now) }
+{
+    let mut least = 0;
+    for item in items {
+        add_if(
+            faults,
+            stage_of(&item.kind) < least,
+            Fault::late(item.token),
+        )?;
+        least = least.max(stage_behind(&item.kind));
+    }
+    Ok(())
+}
+
+fn check_tables(
+    alloc: Global,
+    tables: &[TableDef],
+    faults: &mut List<Fault>,
+) -> Result<(), NoMemory>
+    ensures { OnOk result (faults.new ≡ faults.old ++ flat_map meant.table tables.now) }
+{
+    for table in tables {
+        check_table_def(alloc, table, faults)?;
+    }
+    Ok(())
+}
+
+fn check_procedures(
+    alloc: Global,
+    tables: &[TableDef],
+    procedures: &[ProcDef],
+    faults: &mut List<Fault>,
+) -> Result<(), NoMemory>
+    ensures { OnOk result (faults.new ≡ faults.old ++ flat_map (meant.procedure tables.now) procedures.now) }
+{
+    for procedure in procedures {
+        check_procedure(alloc, tables, procedure, faults)?;
+    }
+    Ok(())
+}
+
+fn check_copies(
+    tables: &[TableDef],
+    copies: &[CopyDef],
+    faults: &mut List<Fault>,
+) -> Result<(), NoMemory>
+    ensures { OnOk result (faults.new ≡ faults.old ++ flat_map (meant.copy tables.now) copies.now) }
+{
+    for copy in copies {
+        check_copy(tables, copy, faults)?;
+    }
+    Ok(())
+}
+
+fn check_calls(
+    procedures: &[ProcDef],
+    calls: &[CallDef],
+    faults: &mut List<Fault>,
+) -> Result<(), NoMemory>
+    ensures { OnOk result (faults.new ≡ faults.old ++ flat_map (meant.call procedures.now) calls.now) }
+{
+    for call in calls {
+        check_call(procedures, call, faults)?;
+    }
+    Ok(())
+}
+
+fn check_table_names(
+    alloc: Global,
+    tables: &[TableDef],
+    faults: &mut List<Fault>,
+) -> Result<(), NoMemory>
+    ensures { OnOk result (faults.new ≡ faults.old ++ meant.table_doubles tables.now) }
+{
+    check_doubles(alloc, &mut List::new(alloc), tables, faults)
+}
+
+fn check_procedure_names(
+    alloc: Global,
+    procedures: &[ProcDef],
+    faults: &mut List<Fault>,
+) -> Result<(), NoMemory>
+    ensures { OnOk result (faults.new ≡ faults.old ++ meant.procedure_doubles procedures.now) }
+{
+    check_doubles(alloc, &mut List::new(alloc), procedures, faults)
+}
+
+/// Adds the faults of the items, but for their order.
+pub fn check_parts(alloc: Global, parts: &Parts, faults: &mut List<Fault>) -> Result<(), NoMemory>
+    ensures { OnOk result (faults.new ≡ faults.old ++ parts_faults parts.now) }
+{
+    let tables = parts.tables.as_slice();
+    let procedures = parts.procedures.as_slice();
+    check_table_names(alloc, tables, faults)?;
+    check_procedure_names(alloc, procedures, faults)?;
+    check_tables(alloc, tables, faults)?;
+    check_procedures(alloc, tables, procedures, faults)?;
+    check_copies(tables, parts.copies.as_slice(), faults)?;
+    check_calls(procedures, parts.calls.as_slice(), faults)?;
+    Ok(())
+}

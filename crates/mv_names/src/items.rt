@@ -1,0 +1,384 @@
+//! The faults of tables, procedures, copies and calls.
+
+ghost use Rattle.std.specs.Prelude.{◌≡◌, ◌∷◌, ◌++◌, [], map, codes, length, OnOk, IfOk};
+ghost use Rattle.std.specs.List.{flat_map};
+ghost use Rattle.std.specs.Option.{option_copied};
+ghost use Rattle.mv_names.specs.Scope.{found, parameter, variable, meaning_of, declared_field, scope_of};
+ghost use Rattle.mv_names.specs.Faults as meant;
+ghost use Rattle.mv_names.specs.Faults.{fits, begins, arg_token, arguments_token};
+
+use crate::bodies::check_statements;
+use crate::exprs::{column_kind, value_kind};
+use crate::fault::{Fault, add_if};
+use crate::labels::check_doubles;
+use crate::named::{find, has_name};
+use crate::scope::{Entry, Field, Meaning, ValueType};
+use crate::statements::check_table;
+use mv_ast::tree::{
+    Arg, CallDef, ColDef, CopyDef, Lit, LitRow, Name, Param, ParamKind, ProcDef, TableDef, VarDef,
+};
+use mv_values::copied::Copied;
+use mv_values::list::List;
+use mv_values::memory::NoMemory;
+use mv_values::schema::ColType;
+use mv_values::txt::Txt;
+use mv_values::value::Value;
+use std::alloc::Global;
+
+// Literals
+
+/// Whether a value is of the type, and no text longer than it.
+fn does_fit(kind: ColType, value: &Value) -> bool
+    ensures { result ≡ fits kind value.now }
+{
+    match (kind, value) {
+        (ColType::Int, Value::Int(_)) => true,
+        (ColType::Text(most), Value::Text(text)) => text.len() <= most as usize,
+        _ => false,
+    }
+}
+
+fn check_literal(kind: ColType, literal: &Lit, faults: &mut List<Fault>) -> Result<(), NoMemory>
+    ensures { OnOk result (faults.new ≡ faults.old ++ meant.literal kind literal.now) }
+{
+    add_if(
+        faults,
+        !does_fit(kind, &literal.value),
+        Fault::wrong(literal.token),
+    )
+}
+
+/// A literal for each column.
+fn check_literals(
+    columns: &[ColDef],
+    literals: &[Lit],
+    faults: &mut List<Fault>,
+) -> Result<(), NoMemory>
+    requires { length literals.now ≡ length columns.now }
+    ensures { OnOk result (faults.new ≡ faults.old ++ meant.literals columns.now literals.now) }
+{
+    for i in 0..literals.len() {
+        check_literal(columns[i].kind, &literals[i], faults)?;
+    }
+    Ok(())
+}
+
+fn check_row(columns: &[ColDef], row: &LitRow, faults: &mut List<Fault>) -> Result<(), NoMemory>
+    ensures { OnOk result (faults.new ≡ faults.old ++ meant.row columns.now row.now) }
+{
+    let values = row.values.as_slice();
+    if values.len() == columns.len() {
+        check_literals(columns, values, faults)
+    } else {
+        faults.push(Fault::wrong(row.token))
+    }
+}
+
+fn check_rows(columns: &[ColDef], rows: &[LitRow], faults: &mut List<Fault>) -> Result<(), NoMemory>
+    ensures { OnOk result (faults.new ≡ faults.old ++ meant.rows columns.now rows.now) }
+{
+    for row in rows {
+        check_row(columns, row, faults)?;
+    }
+    Ok(())
+}
+
+// Tables
+
+fn check_column_names(
+    alloc: Global,
+    columns: &[ColDef],
+    faults: &mut List<Fault>,
+) -> Result<(), NoMemory>
+    ensures { OnOk result (faults.new ≡ faults.old ++ meant.column_doubles columns.now) }
+{
+    check_doubles(alloc, &mut List::new(alloc), columns, faults)
+}
+
+/// Adds a key column that isn't there.
+fn check_key_column(
+    columns: &[ColDef],
+    name: &Name,
+    faults: &mut List<Fault>,
+) -> Result<(), NoMemory>
+    ensures { OnOk result (faults.new ≡ faults.old ++ meant.missing_key columns.now name.now) }
+{
+    let is_there = has_name(columns, &name.text);
+    add_if(faults, !is_there, Fault::unknown(name.token))
+}
+
+fn check_key(columns: &[ColDef], key: &[Name], faults: &mut List<Fault>) -> Result<(), NoMemory>
+    ensures { OnOk result (faults.new ≡ faults.old ++ flat_map (meant.missing_key columns.now) key.now) }
+{
+    for name in key {
+        check_key_column(columns, name, faults)?;
+    }
+    Ok(())
+}
+
+fn check_key_names(alloc: Global, key: &[Name], faults: &mut List<Fault>) -> Result<(), NoMemory>
+    ensures { OnOk result (faults.new ≡ faults.old ++ meant.key_doubles key.now) }
+{
+    let mut taken = List::new(alloc);
+    check_doubles(alloc, &mut taken, key, faults)?;
+    Ok(())
+}
+
+pub(crate) fn check_table_def(
+    alloc: Global,
+    table: &TableDef,
+    faults: &mut List<Fault>,
+) -> Result<(), NoMemory>
+    ensures { OnOk result (faults.new ≡ faults.old ++ meant.table table.now) }
+{
+    let columns = table.columns.as_slice();
+    check_column_names(alloc, columns, faults)?;
+    check_key(columns, table.key.as_slice(), faults)?;
+    check_key_names(alloc, table.key.as_slice(), faults)?;
+    check_rows(columns, table.rows.as_slice(), faults)
+}
+
+// Procedures
+
+fn check_param(alloc: Global, kind: &ParamKind, faults: &mut List<Fault>) -> Result<(), NoMemory>
+    ensures { OnOk result (faults.new ≡ faults.old ++ meant.param_columns kind.now) }
+{
+    match kind {
+        ParamKind::One(_) => Ok(()),
+        ParamKind::Many(columns) => check_column_names(alloc, columns.as_slice(), faults),
+    }
+}
+
+fn check_params(alloc: Global, params: &[Param], faults: &mut List<Fault>) -> Result<(), NoMemory>
+    ensures { OnOk result (faults.new ≡ faults.old ++ flat_map (λ q. meant.param_columns q.kind) params.now) }
+{
+    for param in params {
+        check_param(alloc, &param.kind, faults)?;
+    }
+    Ok(())
+}
+
+/// The greatest number of bytes of a variable's text.
+const LONGEST: usize = 4000;
+
+/// Whether a variable may begin with the value.
+fn can_begin(value: &Value) -> bool
+    ensures { result ≡ begins value.now }
+{
+    match value {
+        Value::Int(_) => true,
+        Value::Text(text) => text.len() <= LONGEST,
+    }
+}
+
+fn check_initials(vars: &[VarDef], faults: &mut List<Fault>) -> Result<(), NoMemory>
+    ensures { OnOk result (faults.new ≡ faults.old ++ flat_map meant.initial vars.now) }
+{
+    for var in vars {
+        add_if(
+            faults,
+            !can_begin(&var.initial.value),
+            Fault::wrong(var.initial.token),
+        )?;
+    }
+    Ok(())
+}
+
+const FOUND: &[u8] = b"found";
+
+fn found_name(alloc: Global) -> Result<Txt, NoMemory>
+    ensures { IfOk result (λ t. t ≡ codes "found") }
+{
+    Txt::of(alloc, FOUND)
+}
+
+/// Adds the parameters and variables whose name is taken. They share one space.
+fn check_names(
+    alloc: Global,
+    taken: &mut List<Txt>,
+    procedure: &ProcDef,
+    faults: &mut List<Fault>,
+) -> Result<(), NoMemory>
+    ensures { OnOk result (faults.new ≡ faults.old ++ meant.name_doubles taken.old procedure.now) }
+{
+    check_doubles(alloc, taken, procedure.params.as_slice(), faults)?;
+    check_doubles(alloc, taken, procedure.vars.as_slice(), faults)?;
+    Ok(())
+}
+
+/// The names that are taken from the start.
+fn first_names(alloc: Global) -> Result<List<Txt>, NoMemory>
+    ensures { IfOk result (λ all. all ≡ found.name ∷ []) }
+{
+    let mut taken = List::new(alloc);
+    taken.push(found_name(alloc)?)?;
+    Ok(taken)
+}
+
+fn fields_of_columns(alloc: Global, columns: &[ColDef]) -> Result<List<Field>, NoMemory>
+    ensures { IfOk result (λ all. all ≡ map declared_field columns.now) }
+{
+    let mut fields = List::new(alloc);
+    for column in columns {
+        fields.push(Field {
+            name: column.name.text.copy(alloc)?,
+            kind: column_kind(column.kind),
+        })?;
+    }
+    Ok(fields)
+}
+
+fn meaning_of_param(alloc: Global, kind: &ParamKind) -> Result<Meaning, NoMemory>
+    ensures { IfOk result (λ m. m ≡ meaning_of kind.now) }
+{
+    match kind {
+        ParamKind::One(kind) => Ok(Meaning::Fixed(column_kind(*kind))),
+        ParamKind::Many(columns) => {
+            Ok(Meaning::Rows(fields_of_columns(alloc, columns.as_slice())?))
+        }
+    }
+}
+
+fn add_params(alloc: Global, scope: &mut List<Entry>, params: &[Param]) -> Result<(), NoMemory>
+    ensures { OnOk result (scope.new ≡ scope.old ++ map parameter params.now) }
+{
+    for param in params {
+        scope.push(Entry {
+            name: param.name.text.copy(alloc)?,
+            meaning: meaning_of_param(alloc, &param.kind)?,
+        })?;
+    }
+    Ok(())
+}
+
+fn add_vars(alloc: Global, scope: &mut List<Entry>, vars: &[VarDef]) -> Result<(), NoMemory>
+    ensures { OnOk result (scope.new ≡ scope.old ++ map variable vars.now) }
+{
+    for var in vars {
+        scope.push(Entry {
+            name: var.name.text.copy(alloc)?,
+            meaning: Meaning::Variable(value_kind(&var.initial.value)),
+        })?;
+    }
+    Ok(())
+}
+
+/// The names of a procedure outside its loops.
+fn names_of_procedure(alloc: Global, procedure: &ProcDef) -> Result<List<Entry>, NoMemory>
+    ensures { IfOk result (λ all. all ≡ scope_of procedure.now) }
+{
+    let mut scope = List::new(alloc);
+    scope.push(Entry {
+        name: found_name(alloc)?,
+        meaning: Meaning::Fixed(ValueType::Int),
+    })?;
+    add_params(alloc, &mut scope, procedure.params.as_slice())?;
+    add_vars(alloc, &mut scope, procedure.vars.as_slice())?;
+    Ok(scope)
+}
+
+/// The names and first values that a procedure declares.
+fn check_declarations(
+    alloc: Global,
+    procedure: &ProcDef,
+    faults: &mut List<Fault>,
+) -> Result<(), NoMemory>
+    ensures { OnOk result (faults.new ≡ faults.old ++ meant.declarations procedure.now) }
+{
+    check_names(alloc, &mut first_names(alloc)?, procedure, faults)?;
+    check_params(alloc, procedure.params.as_slice(), faults)?;
+    check_initials(procedure.vars.as_slice(), faults)?;
+    Ok(())
+}
+
+pub(crate) fn check_procedure(
+    alloc: Global,
+    tables: &[TableDef],
+    procedure: &ProcDef,
+    faults: &mut List<Fault>,
+) -> Result<(), NoMemory>
+    ensures { OnOk result (faults.new ≡ faults.old ++ meant.procedure tables.now procedure.now) }
+{
+    check_declarations(alloc, procedure, faults)?;
+    let mut scope = names_of_procedure(alloc, procedure)?;
+    check_statements(alloc, tables, procedure.body.as_slice(), &mut scope, faults)?;
+    Ok(())
+}
+
+// Copies and calls
+
+pub(crate) fn check_copy(
+    tables: &[TableDef],
+    copy: &CopyDef,
+    faults: &mut List<Fault>,
+) -> Result<(), NoMemory>
+    ensures { OnOk result (faults.new ≡ faults.old ++ meant.copy tables.now copy.now) }
+{
+    check_table(find(tables, &copy.table.text), copy.table.token, faults)
+}
+
+fn check_argument(kind: &ParamKind, arg: &Arg, faults: &mut List<Fault>) -> Result<(), NoMemory>
+    ensures { OnOk result (faults.new ≡ faults.old ++ meant.argument kind.now arg.now) }
+{
+    match kind {
+        ParamKind::One(kind) => match arg {
+            Arg::One(literal) => check_literal(*kind, literal, faults),
+            Arg::Many(rows) => faults.push(Fault::wrong(rows.token)),
+        },
+        ParamKind::Many(columns) => match arg {
+            Arg::One(literal) => faults.push(Fault::wrong(literal.token)),
+            Arg::Many(rows) => check_rows(columns.as_slice(), rows.rows.as_slice(), faults),
+        },
+    }
+}
+
+/// An argument for each parameter.
+fn check_arguments(params: &[Param], args: &[Arg], faults: &mut List<Fault>) -> Result<(), NoMemory>
+    requires { length args.now ≡ length params.now }
+    ensures { OnOk result (faults.new ≡ faults.old ++ meant.arguments params.now args.now) }
+{
+    for i in 0..args.len() {
+        check_argument(&params[i].kind, &args[i], faults)?;
+    }
+    Ok(())
+}
+
+fn token_of_arg(arg: &Arg) -> u32
+    ensures { result ≡ arg_token arg.now }
+{
+    match arg {
+        Arg::One(literal) => literal.token,
+        Arg::Many(rows) => rows.token,
+    }
+}
+
+/// The first token of the arguments, and the procedure's name where there are none.
+fn token_of_args(args: &[Arg], name: &Name) -> u32
+    ensures { result ≡ arguments_token args.now name.now }
+{
+    match args {
+        [arg, ..] => token_of_arg(arg),
+        [] => name.token,
+    }
+}
+
+pub(crate) fn check_call(
+    procedures: &[ProcDef],
+    call: &CallDef,
+    faults: &mut List<Fault>,
+) -> Result<(), NoMemory>
+    ensures { OnOk result (faults.new ≡ faults.old ++ meant.call procedures.now call.now) }
+{
+    match find(procedures, &call.name.text) {
+        None => faults.push(Fault::unknown(call.name.token)),
+        Some(procedure) => {
+            let args = call.arguments.as_slice();
+            let params = procedure.params.as_slice();
+            if args.len() == params.len() {
+                check_arguments(params, args, faults)
+            } else {
+                faults.push(Fault::wrong(token_of_args(args, &call.name)))
+            }
+        }
+    }
+}
