@@ -14,5 +14,7 @@ mod order;
 mod run;
 pub mod state;
 mod statements;
+#[cfg(test)]
+mod tests;
 mod totals;
 mod undo;
