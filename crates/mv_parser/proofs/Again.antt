@@ -1,15 +1,13 @@
 -- What is in the grammar is read, whatever follows that doesn't go on with it.
-use Rattle.std.proofs.Common.{◌≡◌, ℕ, zero, suc, ◌+◌, ◌≤◌, Bool, true, false, cond, not, List, [], ◌∷◌, ◌++◌, Result, Ok, Err, ◌⊎◌, inl, inr, length, refl, sym, ap, subst, ◌∙◌, append_assoc, append-nil, length-append, arith}
-use denote.Enum.Bare.{sameb}
-use Rattle.mv_ast.specs.contracts.lexeme.Terminal.{the_type}
+use Rattle.std.proofs.Common.{◌≡◌, ℕ, zero, suc, ◌+◌, ◌≤◌, Bool, true, false, cond, not, List, [], ◌∷◌, ◌++◌, Ok, inl, inr, length, refl, sym, ap, subst, ◌∙◌, append_assoc, length-append, arith}
 use Rattle.mv_ast.specs.declared.lexeme.Lexeme.{Lexeme}
 use Rattle.mv_ast.specs.declared.lexeme.Terminal.{Terminal}
 use Rattle.mv_ast.specs.declared.lexeme.Terminal.TheVariants as word
 use Rattle.mv_ast.specs.declared.tree.Expr.{Expr}
 use Rattle.mv_ast.specs.declared.tree.Stmt.{Stmt}
 use Rattle.mv_ast.specs.Parts.{Part, give, one, both, either, left, expression, statement, Inner, Is, Pieces, joined}
-use Rattle.mv_parser.specs.Reading.{◌>>=◌, Read, Inside, read, read_one, more, first, is_nullable, is_among, starts_with, expression_words, statement_words}
-use Rattle.mv_parser.proofs.Basics.{chosen, and_true, bind_ok, same_read, same_kind, kind_same, among_left, among_right, not_starting, are_apart, apart_not}
+use Rattle.mv_parser.specs.Reading.{Read, Inside, read, more, first, is_nullable, is_among, starts_with, expression_words, statement_words}
+use Rattle.mv_parser.proofs.Basics.{and_true, kind_same, among_left, among_right, not_starting, are_apart, apart_not}
 
 -- the kinds with which something that is whole can go on
 abbrev pub expression_tail : List Terminal

@@ -1,5 +1,5 @@
 -- Facts on tests and on answers.
-use Rattle.std.proofs.Common.{◌≡◌, ℕ, Bool, true, false, cond, ◌&&◌, List, [], ◌∷◌, ◌++◌, Result, Ok, Err, ◌⊎◌, inl, inr, refl, sym, ap, subst, ◌∙◌}
+use Rattle.std.proofs.Common.{◌≡◌, ℕ, Bool, true, false, cond, List, [], ◌∷◌, ◌++◌, Result, Ok, Err, ◌⊎◌, inl, inr, refl, sym, ap, subst}
 use denote.Enum.Bare.{sameb, same_true, true_same}
 use Rattle.mv_ast.specs.contracts.lexeme.Terminal.{the_type}
 use Rattle.mv_ast.specs.declared.lexeme.Lexeme.{Lexeme}

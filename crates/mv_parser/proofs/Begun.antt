@@ -1,13 +1,13 @@
 -- What begins a part: no token at all, the whole of it, and otherwise a token that it can begin with.
-use Rattle.std.proofs.Common.{◌≡◌, Bool, true, false, cond, List, [], ◌∷◌, ◌++◌, ◌⊎◌, inl, inr, refl, sym, ap, subst, ◌∙◌, append-nil}
+use Rattle.std.proofs.Common.{Bool, true, false, cond, List, [], ◌∷◌, ◌++◌, inl, inr, refl, sym, ap, subst, ◌∙◌, append-nil}
 use Rattle.mv_ast.specs.declared.lexeme.Lexeme.{Lexeme}
 use Rattle.mv_ast.specs.declared.lexeme.Terminal.{Terminal}
 use Rattle.mv_ast.specs.declared.tree.Expr.{Expr}
 use Rattle.mv_ast.specs.declared.tree.Stmt.{Stmt}
 use Rattle.mv_ast.specs.Parts.{Part, give, one, both, either, left, expression, statement, Inner, Is, Begins}
-use Rattle.mv_parser.specs.Reading.{first, is_nullable, is_among, expression_words, statement_words}
+use Rattle.mv_parser.specs.Reading.{first, is_nullable, expression_words, statement_words}
 use Rattle.mv_parser.proofs.Basics.{among_left, kind_same}
-use Rattle.mv_parser.proofs.Again.{Heads, HeadOf, InnerHeads, heads, heads_left, heads_right, heads_pieces, heads_more}
+use Rattle.mv_parser.proofs.Again.{Heads, InnerHeads, heads, heads_left, heads_right, heads_pieces, heads_more}
 
 pub record InnerBegun (R : Inner) : Type 0 where
   pub no_expr : R.begins_expression []

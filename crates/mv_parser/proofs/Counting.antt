@@ -1,7 +1,7 @@
 -- There are no more tokens than bytes.
-use Rattle.std.proofs.Common.{◌≡◌, ℕ, zero, suc, ◌+◌, ◌<◌, ◌≤◌, Bool, true, false, ◌&&◌, List, [], ◌∷◌, ◌++◌, length, refl, ap, arith, ◌⊎◌, inl, inr, length-append}
-use Rattle.mv_lex.specs.Spelling.{IsSpelled, is_word, is_number, is_variable, is_symbol, stands_alone, IsText, IsBlock, IsBareOpening, IsUnclosed}
-use Rattle.mv_lex.specs.Tokens.{Reads, stop, blank, comment, token, AreTokens, IsLongest}
+use Rattle.std.proofs.Common.{◌≡◌, ℕ, suc, ◌+◌, ◌<◌, ◌≤◌, List, [], ◌∷◌, length, refl, ap, arith, inl, inr, length-append}
+use Rattle.mv_lex.specs.Spelling.{IsSpelled}
+use Rattle.mv_lex.specs.Tokens.{Reads, stop, blank, comment, token, AreTokens}
 use Rattle.mv_lex.specs.declared.token.Token.{Token}
 use Rattle.mv_ast.specs.Lexemes.{lexemes_from}
 use Rattle.mv_lex.specs.declared.token.Kind.{Kind}

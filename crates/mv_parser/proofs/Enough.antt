@@ -1,5 +1,5 @@
 -- A part inside another takes fewer tokens, so no more levels than tokens are needed.
-use Rattle.std.proofs.Common.{◌≡◌, ℕ, zero, suc, ◌+◌, ◌<◌, ◌≤◌, Bool, true, false, cond, List, [], ◌∷◌, ◌++◌, ◌⊎◌, inl, inr, length, refl, sym, ap, subst, ◌∙◌, length-append, arith}
+use Rattle.std.proofs.Common.{◌≡◌, ℕ, zero, suc, ◌+◌, ◌<◌, ◌≤◌, Bool, true, false, cond, List, [], ◌∷◌, ◌++◌, inl, inr, length, refl, sym, ap, subst, ◌∙◌, length-append, arith}
 use Rattle.mv_ast.specs.declared.lexeme.Lexeme.{Lexeme}
 use Rattle.mv_ast.specs.declared.tree.Expr.{Expr}
 use Rattle.mv_ast.specs.declared.tree.Script.{Script}
@@ -7,7 +7,6 @@ use Rattle.mv_ast.specs.declared.tree.Stmt.{Stmt}
 use Rattle.mv_ast.specs.Parts.{Part, give, one, both, either, left, expression, statement, Inner, Is, Begins, Pieces}
 use Rattle.mv_ast.specs.Grammar.{inner, expr, stmt, script}
 use Rattle.mv_parser.specs.Reading.{is_nullable}
-use Rattle.mv_parser.proofs.Basics.{and_true}
 use Rattle.mv_parser.proofs.Again.{InnerHeads, heads, length_first}
 use Rattle.mv_parser.proofs.Begun.{begun_none}
 use Rattle.mv_parser.proofs.Whole.{inner_heads, expr_guarded, stmt_guarded, script_guarded}
@@ -108,8 +107,17 @@ begins_carried n R S h c (left f p q) ts r b =
           let rp = room_first n (is_guarded p) (cond (is_nullable p) (is_guarded q) true) (length x.0) (length us) (length ts) s r in
           let rq = room_behind n (is_guarded p) (is_nullable p) (is_guarded q) (length x.0) (length us) (length ts) s (has_token R h p x.0 x.3 x.6) r in
           let rooms = room_less n (is_guarded q) (length x.1) (length x.2) (length us) (length-append x.1 x.2) rq in
-          inr (x.0, x.1, x.2, x.3, x.4, x.5, is_carried n R S h c p x.0 x.3 rp x.6, pieces_carried n (is_guarded q) (Is R q) (Is S q) (is_carried n R S h c q) x.4 x.1 rooms.0 x.7,
-            begins_carried n R S h c q x.2 rooms.1 x.8))
+          inr (
+            x.0,
+            x.1,
+            x.2,
+            x.3,
+            x.4,
+            x.5,
+            is_carried n R S h c p x.0 x.3 rp x.6,
+            pieces_carried n (is_guarded q) (Is R q) (Is S q) (is_carried n R S h c q) x.4 x.1 rooms.0 x.7,
+            begins_carried n R S h c q x.2 rooms.1 x.8,
+          ))
     ]
 begins_carried n R S h c expression ts r b = c.begins_expr ts (omega arith) b
 begins_carried n R S h c statement ts r b = c.begins_stmt ts (omega arith) b

@@ -1,5 +1,5 @@
 -- The token that a fault names.
-use Rattle.std.proofs.Common.{◌≡◌, ◌⊎◌, inl, inr, ℕ, ◌+◌, ◌-◌, ◌<◌, ◌≤◌, List, [], ◌∷◌, ◌++◌, Option, Some, None, Result, Ok, Err, length, take, drop, refl, sym, ap, subst, ◌∙◌, arith, length-append}
+use Rattle.std.proofs.Common.{◌≡◌, ◌⊎◌, inl, inr, ℕ, ◌+◌, ◌-◌, ◌≤◌, List, [], ◌∷◌, ◌++◌, Option, Some, None, Result, Ok, Err, length, take, drop, refl, sym, ap, subst, ◌∙◌, arith, length-append}
 use Rattle.std.specs.Prelude.{IfOk, MatchResult}
 use Rattle.std.proofs.Math.Seq.{take-append_seam}
 use Rattle.std.proofs.lemmas.Bool.{cases_lt}
@@ -15,7 +15,7 @@ use Rattle.mv_ast.specs.declared.limit.Passed.{Passed}
 use Rattle.mv_ast.specs.declared.limit.Which.{Which}
 use Rattle.mv_parser.specs.declared.fault.ParseFault.{ParseFault}
 use Rattle.mv_parser.specs.declared.fault.ParseFault.TheVariants.{Syntax, Limit, NoMemory}
-use Rattle.mv_parser.specs.Reading.{◌>>=◌, inside, read}
+use Rattle.mv_parser.specs.Reading.{inside, read}
 use Rattle.mv_parser.specs.Whole.{whole, parsed, Tells}
 use Rattle.mv_parser.proofs.Basics.{bind_err}
 use Rattle.mv_parser.proofs.Stops.{Stands, stops}

@@ -1,12 +1,11 @@
 -- With which token a part begins.
-use Rattle.std.proofs.Common.{◌≡◌, ℕ, List, [], ◌∷◌, false, refl}
-use Rattle.mv_ast.specs.declared.lexeme.Terminal.{Terminal}
+use Rattle.std.proofs.Common.{◌≡◌, ℕ, List, [], ◌∷◌, refl}
 use Rattle.mv_ast.specs.declared.lexeme.Terminal.TheVariants as word
 use Rattle.mv_ast.specs.declared.lexeme.Lexeme.{Lexeme}
 use Rattle.mv_ast.specs.declared.tree.ColDef.{ColDef}
 use Rattle.mv_ast.specs.Parts.{one, both}
 use Rattle.mv_ast.specs.Grammar as rule
-use Rattle.mv_parser.specs.Reading.{first, is_nullable}
+use Rattle.mv_parser.specs.Reading.{first}
 
 pub first_name : (bytes : List ℕ) → first (rule.name bytes) ≡ word.Name ∷ []
 unfolding rule.name

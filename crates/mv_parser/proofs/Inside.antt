@@ -1,8 +1,8 @@
 -- What stands one level further in.
-use Rattle.std.proofs.Common.{◌≡◌, ℕ, zero, suc, ◌<◌, ◌-◌, List, Ok, Err, length, refl, arith}
+use Rattle.std.proofs.Common.{◌≡◌, ℕ, zero, suc, ◌<◌, ◌-◌, List, Err, length, refl, arith}
 use Rattle.mv_ast.specs.declared.lexeme.Lexeme.{Lexeme}
 use Rattle.mv_ast.specs.Grammar.{expr, stmt}
-use Rattle.mv_parser.specs.Reading.{Inside, inside, read}
+use Rattle.mv_parser.specs.Reading.{inside, read}
 
 pub inside_expr : (bytes : List ℕ) (d : ℕ) (ts : List Lexeme) → 0 < d → (inside bytes d).expr ts ≡ read (inside bytes (d - 1)) (expr bytes) ts
 unfolding inside

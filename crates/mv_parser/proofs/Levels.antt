@@ -1,14 +1,14 @@
 -- What stands inside, at each level, has the properties of a part.
-use Rattle.std.proofs.Common.{◌≡◌, ℕ, zero, suc, ◌≤◌, true, List, [], ◌∷◌, ◌++◌, Err, length, refl, sym, subst, ◌∙◌, arith}
+use Rattle.std.proofs.Common.{◌≡◌, ℕ, zero, suc, ◌≤◌, true, List, [], ◌++◌, length, refl, sym, subst, ◌∙◌, arith}
 use Rattle.mv_ast.specs.declared.lexeme.Lexeme.{Lexeme}
 use Rattle.mv_ast.specs.declared.tree.Expr.{Expr}
 use Rattle.mv_ast.specs.declared.tree.Stmt.{Stmt}
 use Rattle.mv_ast.specs.Grammar.{inner, expr, stmt}
-use Rattle.mv_parser.specs.Reading.{Inside, inside, expression_words, statement_words}
-use Rattle.mv_parser.proofs.Stops.{same_left, StopsAll, Stands, InnerStops, stops}
+use Rattle.mv_parser.specs.Reading.{inside, expression_words, statement_words}
+use Rattle.mv_parser.proofs.Stops.{same_left, InnerStops, stops}
 use Rattle.mv_parser.proofs.Again.{Heads}
 use Rattle.mv_parser.proofs.Begun.{InnerBegun, begun_none, whole_begins, begun_heads}
-use Rattle.mv_parser.proofs.ReadsOn.{Past, Level, reads_on, none_both}
+use Rattle.mv_parser.proofs.ReadsOn.{Level, reads_on, none_both}
 use Rattle.mv_parser.proofs.Shorter.{InnerShorter, shorter}
 use Rattle.mv_parser.proofs.Whole.{inner_takes, inner_heads, inner_again, expr_first, stmt_first, expr_clear, stmt_clear}
 

@@ -1,15 +1,12 @@
 -- The whole of a script.
-use Rattle.std.proofs.Common.{◌≡◌, List, [], ◌∷◌, ◌++◌, Result, Ok, Err, length, refl, sym, ap, subst, ◌∙◌, append-nil}
-use Rattle.std.specs.Prelude.{IfOk, MatchResult}
+use Rattle.std.proofs.Common.{◌≡◌, List, [], ◌∷◌, ◌++◌, Ok, Err, length, refl, sym, ap, subst, ◌∙◌, append-nil}
 use Rattle.mv_ast.specs.declared.lexeme.Lexeme.{Lexeme}
 use Rattle.mv_ast.specs.declared.tree.Script.{Script}
 use Rattle.mv_ast.specs.Parts.{Is}
 use Rattle.mv_ast.specs.Grammar.{script, inner}
-use Rattle.mv_parser.specs.Reading.{◌>>=◌, Read, inside, read}
+use Rattle.mv_parser.specs.Reading.{◌>>=◌, inside, read}
 use Rattle.std.proofs.Common.{ℕ, zero, suc, ◌-◌, ◌<◌, ◌≤◌, drop, arith}
-use Rattle.mv_parser.specs.declared.fault.Stop.{Stop}
-use Rattle.mv_parser.specs.declared.fault.Stop.TheVariants.{Memory, Wrong}
-use Rattle.mv_parser.specs.Whole.{whole, parsed, Answers}
+use Rattle.mv_parser.specs.Whole.{whole, parsed}
 use Rattle.mv_parser.proofs.Basics.{bind_ok}
 use Rattle.mv_parser.proofs.Whole.{script_takes, script_again}
 

@@ -1,11 +1,11 @@
 -- The tokens of the bytes lie in them, and are printable.
-use Rattle.std.proofs.Common.{◌≡◌, ℕ, zero, suc, ◌+◌, ◌-◌, ◌<◌, ◌≤◌, Bool, true, false, cond, ◌&&◌, nat_eq, nat_lt, List, [], ◌∷◌, ◌++◌, length, take, drop, slice_range, refl, sym, ap, subst, ◌∙◌, arith, ◌⊎◌, inl, inr}
+use Rattle.std.proofs.Common.{◌≡◌, ℕ, ◌+◌, ◌-◌, ◌≤◌, Bool, true, false, cond, ◌&&◌, nat_eq, nat_lt, List, [], ◌∷◌, ◌++◌, length, take, drop, refl, sym, subst, arith}
 use Rattle.std.proofs.lemmas.Bool.Decides.{nat_tests}
 use Rattle.std.proofs.lemmas.Bool.{le-leb}
 use Rattle.std.specs.Prelude.{nat_le}
-use Rattle.std.specs.List.{list_all, All}
-use Rattle.mv_lex.specs.Bytes.{is_from, is_printable, is_digit, begins_word, continues_word, is_short_symbol, is_long_symbol}
-use Rattle.mv_lex.specs.Spelling.{IsSpelled, is_word, is_number, is_variable, is_symbol, stands_alone, IsText, doubled, quoted}
+use Rattle.std.specs.List.{list_all}
+use Rattle.mv_lex.specs.Bytes.{is_printable, is_digit, begins_word, continues_word, is_short_symbol, is_long_symbol}
+use Rattle.mv_lex.specs.Spelling.{IsSpelled, is_word, is_number, is_variable, is_symbol, stands_alone, IsText, doubled}
 use Rattle.mv_lex.specs.Tokens.{IsSpelledIn}
 use Rattle.mv_lex.specs.declared.token.Token.{Token}
 use Rattle.mv_lex.specs.declared.token.Kind.{Kind}
@@ -13,7 +13,7 @@ use Rattle.mv_lex.specs.declared.token.Kind.TheVariants as token
 use Rattle.mv_ast.specs.declared.lexeme.Lexeme.{Lexeme}
 use Rattle.mv_ast.specs.declared.lexeme.Terminal.{Terminal}
 use Rattle.mv_ast.specs.declared.lexeme.Terminal.TheVariants as word
-use Rattle.mv_ast.specs.Lexemes.{kind_of, lexeme_of, lexemes_from}
+use Rattle.mv_ast.specs.Lexemes.{kind_of, lexeme_of}
 use Rattle.mv_parser.specs.Fitting.{fits, must_print}
 
 both_true : (a b : Bool) → (a && b) ≡ true → (a ≡ true) × (b ≡ true)

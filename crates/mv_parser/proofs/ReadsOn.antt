@@ -1,11 +1,9 @@
 -- What begins a part is read to its end, whatever follows.
-use Rattle.std.proofs.Common.{◌≡◌, ℕ, zero, suc, ◌+◌, ◌≤◌, Bool, true, false, cond, not, List, [], ◌∷◌, ◌++◌, Result, Ok, Err, ◌⊎◌, inl, inr, length, refl, sym, ap, subst, ◌∙◌, append_assoc, append-nil, length-append, arith}
-use denote.Enum.Bare.{sameb}
-use Rattle.mv_ast.specs.contracts.lexeme.Terminal.{the_type}
+use Rattle.std.proofs.Common.{◌≡◌, ℕ, zero, suc, ◌+◌, ◌≤◌, Bool, true, false, cond, not, List, [], ◌∷◌, ◌++◌, Ok, Err, ◌⊎◌, inl, inr, length, refl, sym, ap, subst, ◌∙◌, append_assoc, length-append, arith}
 use Rattle.mv_ast.specs.declared.lexeme.Lexeme.{Lexeme}
 use Rattle.mv_ast.specs.declared.lexeme.Terminal.{Terminal}
 use Rattle.mv_ast.specs.Parts.{Part, give, one, both, either, left, expression, statement, Inner, Is, Begins, Pieces}
-use Rattle.mv_parser.specs.Reading.{◌>>=◌, Read, Inside, read, read_one, more, first, is_nullable, is_among, starts_with}
+use Rattle.mv_parser.specs.Reading.{◌>>=◌, Read, Inside, read, read_one, more, first, is_nullable, starts_with}
 use Rattle.mv_parser.proofs.Basics.{and_true, kind_same, are_apart, apart_not}
 use Rattle.mv_parser.proofs.Takes.{TakesAll, InnerTakes, takes}
 use Rattle.mv_parser.proofs.Stops.{StopsAll, InnerStops, stops}

@@ -1,5 +1,5 @@
 -- What begins a part is begun by every front of it.
-use Rattle.std.proofs.Common.{◌≡◌, List, [], ◌∷◌, ◌++◌, ◌⊎◌, inl, inr, refl, sym, ap, subst, ◌∙◌, append_assoc}
+use Rattle.std.proofs.Common.{◌≡◌, List, [], ◌∷◌, ◌++◌, ◌⊎◌, inl, inr, refl, sym, ap, ◌∙◌, append_assoc}
 use Rattle.mv_ast.specs.declared.lexeme.Lexeme.{Lexeme}
 use Rattle.mv_ast.specs.declared.lexeme.Terminal.{Terminal}
 use Rattle.mv_ast.specs.Parts.{Part, give, one, both, either, left, expression, statement, Inner, Is, Begins, Pieces}

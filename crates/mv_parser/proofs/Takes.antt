@@ -1,11 +1,9 @@
 -- What is read is in the grammar.
-use Rattle.std.proofs.Common.{◌≡◌, ℕ, zero, suc, Bool, true, false, cond, List, [], ◌∷◌, ◌++◌, Result, Ok, Err, ◌⊎◌, inl, inr, length, refl, sym, ap, subst, ◌∙◌, append_assoc, append-nil}
+use Rattle.std.proofs.Common.{◌≡◌, ℕ, zero, suc, List, [], ◌∷◌, ◌++◌, Ok, Err, inl, inr, length, refl, sym, ap, subst, ◌∙◌, append_assoc}
 use denote.Enum.Bare.{sameb}
 use Rattle.mv_ast.specs.contracts.lexeme.Terminal.{the_type}
 use Rattle.mv_ast.specs.declared.lexeme.Lexeme.{Lexeme}
 use Rattle.mv_ast.specs.declared.lexeme.Terminal.{Terminal}
-use Rattle.mv_ast.specs.declared.tree.Expr.{Expr}
-use Rattle.mv_ast.specs.declared.tree.Stmt.{Stmt}
 use Rattle.mv_ast.specs.Parts.{Part, give, one, both, either, left, expression, statement, Inner, Is, Pieces, joined}
 use Rattle.mv_parser.specs.Reading.{◌>>=◌, Read, Inside, read, read_one, more, first, starts_with}
 use Rattle.mv_parser.proofs.Basics.{chosen, bind_ok, same_read, same_kind}

@@ -1,5 +1,5 @@
 -- What a function of the parser answers.
-use Rattle.std.specs.Prelude.{◌≡◌, ℕ, ◌-◌, ◌+◌, ◌<◌, List, [], ◌∷◌, Option, Some, None, drop, length, Result, Ok, Err}
+use Rattle.std.specs.Prelude.{◌≡◌, ℕ, ◌+◌, ◌<◌, List, [], ◌∷◌, Option, Some, None, drop, length, Result, Ok, Err}
 use Rattle.mv_ast.specs.declared.lexeme.Lexeme.{Lexeme}
 use Rattle.mv_ast.specs.Parts.{Part}
 use Rattle.mv_parser.specs.Reading.{◌>>=◌, Read, Inside, read, inside}

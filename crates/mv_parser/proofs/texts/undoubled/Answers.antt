@@ -1,4 +1,4 @@
-use Rattle.std.proofs.Common.{length, arith}
+use Rattle.std.proofs.Common.{arith}
 use Rattle.mv_ast.specs.Texts.{undoubled}
 use Rattle.mv_parser.proofs.TextLaws.{letters_end}
 use Rattle.mv_parser.proofs.texts.undoubled.Goals as goal

@@ -1,4 +1,4 @@
-use Rattle.std.proofs.Common.{List, [], ◌∷◌, ◌∙◌, sym, drop}
+use Rattle.std.proofs.Common.{[], ◌∷◌, ◌∙◌, sym, drop}
 use Rattle.mv_ast.specs.declared.lexeme.Terminal.TheVariants as word
 use Rattle.mv_ast.specs.Parts.{give}
 use Rattle.mv_ast.specs.Trees.{paired_by, with_op}

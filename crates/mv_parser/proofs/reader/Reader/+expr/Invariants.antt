@@ -4,7 +4,7 @@ use Rattle.mv_ast.specs.declared.tree.TwoOp.TheVariants.{And, Or}
 use Rattle.mv_ast.specs.Parts.{give, one}
 use Rattle.mv_ast.specs.Trees.{paired, paired_by, with_op}
 use Rattle.mv_ast.specs.Grammar.{◌▸◌, ◌⊛◌, expr, conj, neg, sum, term, fac, sum_op, term_op}
-use Rattle.mv_parser.specs.Reading.{more, read, read_one, first}
+use Rattle.mv_parser.specs.Reading.{more, read}
 use Rattle.mv_parser.specs.Answers.{inside_of}
 use Rattle.mv_parser.proofs.reader.Reader.+expr.Given as goal
 

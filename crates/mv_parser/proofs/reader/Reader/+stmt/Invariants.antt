@@ -1,4 +1,4 @@
-use Rattle.std.proofs.Common.{◌≡◌, ◌-◌, ◌+◌, ◌*◌, [], ◌∷◌, drop}
+use Rattle.std.proofs.Common.{◌≡◌, ◌-◌, ◌+◌, ◌*◌, drop}
 use Rattle.mv_ast.specs.Parts.{statement}
 use Rattle.mv_ast.specs.Grammar.{added, many}
 use Rattle.mv_parser.specs.Reading.{more, read, statement_words}

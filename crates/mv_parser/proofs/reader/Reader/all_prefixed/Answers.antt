@@ -1,4 +1,3 @@
-use Rattle.std.proofs.Common.{List}
 use Rattle.mv_ast.specs.Trees.{all_prefixed}
 use Rattle.mv_parser.proofs.Prefixes.{prefixed_kept}
 use Rattle.mv_parser.proofs.reader.Reader.all_prefixed.Goals as goal

@@ -1,4 +1,4 @@
-use Rattle.std.proofs.Common.{◌≡◌, ◌-◌, [], ◌∷◌, drop}
+use Rattle.std.proofs.Common.{◌≡◌, ◌-◌, drop}
 use Rattle.mv_ast.specs.declared.lexeme.Terminal.TheVariants as word
 use Rattle.mv_ast.specs.Parts.{one}
 use Rattle.mv_ast.specs.Grammar.{added, ◌◂◌, columns, col_def}

@@ -1,6 +1,4 @@
-use Rattle.std.proofs.Common.{◌≡◌, ◌-◌, [], ◌∷◌, drop}
-use Rattle.mv_ast.specs.declared.lexeme.Terminal.TheVariants as word
-use Rattle.mv_ast.specs.Parts.{one}
+use Rattle.std.proofs.Common.{◌≡◌, ◌-◌, drop}
 use Rattle.mv_ast.specs.Grammar.{added, many, declaration}
 use Rattle.mv_parser.specs.Reading.{first, more, read}
 use Rattle.mv_parser.specs.Answers.{inside_of}

@@ -1,4 +1,4 @@
-use Rattle.std.proofs.Common.{List, [], ◌∷◌, ◌∙◌, sym, drop}
+use Rattle.std.proofs.Common.{[], ◌∷◌, ◌∙◌, sym, drop}
 use Rattle.mv_ast.specs.Parts.{one}
 use Rattle.mv_ast.specs.Grammar.{added, many}
 use Rattle.mv_parser.specs.Reading.{read, read_one}

@@ -1,4 +1,4 @@
-use Rattle.std.proofs.Common.{◌≡◌, ◌-◌, [], ◌∷◌, drop, length}
+use Rattle.std.proofs.Common.{◌≡◌, ◌-◌, [], ◌∷◌, drop}
 use Rattle.mv_ast.specs.Grammar.{added}
 use Rattle.mv_parser.specs.Reading.{more}
 use Rattle.mv_parser.specs.Lists.{read_separated, read_behind}
