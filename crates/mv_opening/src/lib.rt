@@ -1,0 +1,5 @@
+//! The database that the calls of a script begin with.
+#![tactic(auto)]
+
+pub mod fault;
+pub mod opening;

@@ -1,0 +1,89 @@
+//! The rows of VALUES, the blocks of the copies, and the journal's block.
+
+ghost use Rattle.std.specs.Prelude.{◌≡◌, ◌<◌, ◌≤◌, ◌+◌, ◌^◌, ◌⊎◌, All, length, MatchResult};
+ghost use Rattle.std.specs.Bool.{MatchBool};
+ghost use Rattle.mv_opening.specs.Opening.{FitTogether, HasCopied, HaveGathered, IsClosed, IsOpen, IsOpening, TellsOfCopy, TellsOfTables, TellsOpening};
+ghost use Rattle.mv_opening.specs.declared.fault.OpeningFault.TheVariants as fault;
+
+use crate::fault::OpeningFault;
+use mv_catalog::resolved::{CopyInfo, Resolved};
+use mv_csvio::gather::gather;
+use mv_csvio::load::load;
+use mv_values::list::List;
+use mv_values::rows::{Database, Rows};
+use mv_values::schema::TableInfo;
+use std::alloc::Global;
+
+/// The database that the calls begin with. Or a fault, tried in this order: `Duplicate` for the rows of VALUES, table
+/// by table; for each copy in the order of the text `OpenBlock`, and then the first bad record of its block;
+/// `OpenBlock` for the journal.
+pub fn opening(alloc: Global, resolved: &Resolved, bytes: &[u8]) -> Result<Database, OpeningFault>
+    requires { FitTogether resolved.now bytes.now }
+    ensures { MatchResult result (IsOpening resolved.now bytes.now) (TellsOpening resolved.now bytes.now) }
+{
+    let mut tables = gather_all(alloc, resolved)?;
+    for copy in resolved.copies.as_slice() {
+        take_copy(alloc, resolved.tables.as_slice(), bytes, *copy, &mut tables)?;
+    }
+    if is_open(&resolved.journal) {
+        return Err(OpeningFault::OpenBlock);
+    }
+    Ok(tables)
+}
+
+/// The rows of VALUES of each table.
+fn gather_all(alloc: Global, resolved: &Resolved) -> Result<Database, OpeningFault>
+    requires tables { length resolved.now.tables ≤ 256 }
+    requires values { length resolved.now.rows ≡ length resolved.now.tables }
+    requires rows { All (λ rows. length rows < 2 ^ 32) resolved.now.rows }
+    ensures { MatchResult result (HaveGathered resolved.now.tables resolved.now.rows) (λ f. (f ≡ fault.NoMemory) ⊎ TellsOfTables resolved.now f) }
+{
+    let mut tables = List::new(alloc);
+    let values = resolved.rows.as_slice();
+    for (place, table) in resolved.tables.as_slice().iter().enumerate() {
+        match gather(alloc, &values[place], table) {
+            Ok(rows) => tables.push(rows)?,
+            Err(fault) => return Err(OpeningFault::of_rows(fault, place as u8)),
+        }
+    }
+    Ok(tables)
+}
+
+/// Adds the records of a copy's block to the rows of its table.
+fn take_copy(
+    alloc: Global,
+    infos: &[TableInfo],
+    bytes: &[u8],
+    copy: CopyInfo,
+    tables: &mut Database,
+) -> Result<(), OpeningFault>
+    requires tables { length tables.old ≡ length infos.now }
+    requires table { copy.table < length infos.now }
+    requires block { copy.at + copy.len ≤ length bytes.now }
+    requires bytes { length bytes.now < 2 ^ 32 }
+    requires columns { All (λ info. length info.columns < 2 ^ 32) infos.now }
+    ensures { MatchResult result (λ _. HasCopied infos.now bytes.now tables.old copy tables.new) (λ f. (f ≡ fault.NoMemory) ⊎ TellsOfCopy infos.now bytes.now tables.old copy f) }
+{
+    if !copy.closed {
+        return Err(OpeningFault::OpenBlock);
+    }
+    let table = copy.table as usize;
+    let at = copy.at as usize;
+    let block = &bytes[at..at + copy.len as usize];
+    let mut rows = tables.replace(table, Rows::new(alloc));
+    if let Err(fault) = load(alloc, block, &infos[table], &mut rows) {
+        return Err(OpeningFault::of_rows(fault, copy.table));
+    }
+    tables.set(table, rows);
+    Ok(())
+}
+
+/// Whether there is a block and it has no end.
+fn is_open(block: &Option<CopyInfo>) -> bool
+    ensures { MatchBool result (IsOpen block.now) (IsClosed block.now) }
+{
+    match block {
+        Some(block) => !block.closed,
+        None => false,
+    }
+}
