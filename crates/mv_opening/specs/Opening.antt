@@ -14,13 +14,17 @@ use Rattle.mv_csvio.specs.Loading.{HasLoaded, IsFirstBad, records_of}
 use Rattle.mv_opening.specs.declared.fault.OpeningFault.{OpeningFault}
 use Rattle.mv_opening.specs.declared.fault.OpeningFault.TheVariants as fault
 
+-- a copy is of one of so many tables, and its block stands in so many bytes
+abbrev pub Stands : ℕ → ℕ → CopyInfo → Type 0
+Stands tables size c = (c.table < tables) × (c.at + c.len ≤ size)
+
 -- what a resolved script and its bytes keep to
 pub record FitTogether (resolved : Resolved) (bytes : List ℕ) : Type 0 where
   pub tables : length resolved.tables ≤ 256
   pub values : length resolved.rows ≡ length resolved.tables
   pub rows : All (λ rows. length rows < 2 ^ 32) resolved.rows
   pub columns : All (λ table. length table.columns < 2 ^ 32) resolved.tables
-  pub copies : All (λ c. (c.table < length resolved.tables) × (c.at + c.len ≤ length bytes)) resolved.copies
+  pub copies : All (Stands (length resolved.tables) (length bytes)) resolved.copies
   pub size : length bytes < 2 ^ 32
 
 -- the rows of VALUES of each table, under their keys

@@ -2,4 +2,7 @@
 #![tactic(auto)]
 
 pub mod fault;
+pub mod fitting;
 pub mod opening;
+#[cfg(test)]
+mod tests;
