@@ -2,3 +2,4 @@ pub mod Joining
 pub mod TextLaws
 pub mod Fronts
 pub mod Counting
+pub mod Least

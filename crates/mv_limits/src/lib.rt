@@ -4,6 +4,7 @@
 mod best;
 pub mod early;
 pub mod late;
+pub mod laws;
 mod place;
 mod rows;
 mod statements;
