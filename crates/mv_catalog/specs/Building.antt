@@ -1,8 +1,7 @@
 -- What a script without faults stands for: its names by their numbers. Where a name isn't there, or a number is greater
 -- than its type's greatest, any number will do: then the script has a fault, or passes the limits of the language.
-use Rattle.std.specs.Prelude.{ℕ, ◌+◌, ◌-◌, ◌^◌, Bool, List, [], ◌∷◌, ◌++◌, length, map, min, suc, slice_get, Option, Some, None}
+use Rattle.std.specs.Prelude.{ℕ, ◌+◌, ◌-◌, ◌^◌, Bool, List, [], ◌∷◌, ◌++◌, length, map, min, slice_get, Option, Some, None}
 use Rattle.mv_values.specs.declared.value.Value.{Value}
-use Rattle.mv_values.specs.declared.schema.ColType.{ColType}
 use Rattle.mv_values.specs.declared.schema.Column.{Column}
 use Rattle.mv_values.specs.declared.schema.TableInfo.{TableInfo}
 use Rattle.mv_values.specs.declared.calls.Argument.{Argument}
@@ -229,7 +228,7 @@ abbrev pub stmt_step : List TableDef → stmt.Stmt-F Built → Built
 stmt_step tables (stmt.Assign token to right) = single (λ slots. r_stmt.Assign (number_of slots to) (plain slots right))
 stmt_step tables (stmt.Select token columns to table conds sorts offset) =
     single (λ slots. let own = columns_named tables table in r_stmt.Select (map (column_number own) columns) (numbers_of slots to) (small (table_place tables table))
-      (conds_of slots own conds) (sorts_of own sorts) (maybe_plain slots offset))
+    (conds_of slots own conds) (sorts_of own sorts) (maybe_plain slots offset))
 stmt_step tables (stmt.Total token a to table conds) =
     single (λ slots. let own = columns_named tables table in r_stmt.Total (agg_of own a) (number_of slots to) (small (table_place tables table)) (conds_of slots own conds))
 stmt_step tables (stmt.ForSelect token turn distinct columns table conds sorts body) = for_select tables turn distinct columns table conds sorts body

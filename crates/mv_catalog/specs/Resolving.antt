@@ -1,5 +1,5 @@
 -- What is answered of a script: what it stands for where it has no fault, and else its first one.
-use Rattle.std.specs.Prelude.{◌≡◌, ℕ, List, [], Result, Ok, Err}
+use Rattle.std.specs.Prelude.{◌≡◌, ℕ, [], Result, Ok, Err}
 use Rattle.mv_ast.specs.declared.tree.Script.{Script}
 use Rattle.mv_names.specs.declared.fault.Fault.{Fault}
 use Rattle.mv_names.specs.declared.fault.FaultKind.{FaultKind}

@@ -1,6 +1,12 @@
 //! Names, types and places: from the tree of a script to a program.
 #![tactic(auto)]
 
+pub mod build;
+mod build_exprs;
+mod build_names;
+mod build_statements;
+#[cfg(test)]
+mod build_tests;
 pub mod first;
 pub mod refused;
 pub mod resolved;

@@ -1,0 +1,6 @@
+use Rattle.std.proofs.Common.{◌≡◌, ◌++◌, drop}
+use Rattle.mv_catalog.specs.Building.{items_of}
+use Rattle.mv_catalog.proofs.build_exprs.set_items.Given as goal
+
+abbrev pub invariant-loop-item : goal.invariant-loop-item
+invariant-loop-item l = l.all ++ items_of l.slots l.columns (drop l.item-index l.items) ≡ items_of l.slots l.columns l.items

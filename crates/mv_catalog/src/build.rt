@@ -1,0 +1,279 @@
+//! Building a program: what a script without faults stands for.
+
+ghost use Rattle.std.specs.Prelude.{◌≡◌, IfOk, map, slice_get};
+ghost use Rattle.mv_names.specs.Named.{place_named};
+ghost use Rattle.mv_ast.specs.declared.tree.Name.{Name as NameValue};
+ghost use Rattle.mv_ast.specs.declared.tree.TableDef.{TableDef as TableValue};
+ghost use Rattle.mv_ast.specs.declared.tree.Param.{Param as ParamValue};
+ghost use Rattle.mv_ast.specs.declared.tree.VarDef.{VarDef as VarValue};
+ghost use Rattle.mv_ast.specs.declared.tree.ColDef.{ColDef as ColValue};
+ghost use Rattle.mv_catalog.specs.Building.{tiny, column_name, described, table_of, row_of, rows_of, param_of, procedure_of, copy_info, copy_of, argument_of, call_of, journal_of, resolved_parts};
+
+use crate::build_names::{number_of_found, slots, small_number, sum, tiny_number};
+use crate::build_statements::statements;
+use crate::resolved::{CopyInfo, ParamInfo, ProcInfo, Resolved};
+use mv_ast::tree::{
+    Arg, CallDef, ColDef, CopyDef, LitRow, Name, Param, ParamKind, ProcDef, Span, TableDef, VarDef,
+};
+use mv_names::named::place;
+use mv_names::parts::Parts;
+use mv_values::calls::{Argument, Call};
+use mv_values::copied::Copied;
+use mv_values::list::List;
+use mv_values::memory::NoMemory;
+use mv_values::schema::{ColType, Column, TableInfo};
+use mv_values::value::{Row, Value};
+use std::alloc::Global;
+
+// Tables
+
+fn described_columns(alloc: Global, columns: &[ColDef]) -> Result<List<Column>, NoMemory>
+    ensures { IfOk result (λ all. all ≡ map described columns.now) }
+{
+    let mut all = List::new(alloc);
+    for column in columns {
+        all.push(Column {
+            name: column.name.text.copy(alloc)?,
+            kind: column.kind,
+        })?;
+    }
+    Ok(all)
+}
+
+/// The places of the key columns, in the order of PRIMARY KEY.
+fn key_places(alloc: Global, columns: &[ColDef], key: &[Name]) -> Result<List<u8>, NoMemory>
+    ensures { IfOk result (λ all. all ≡ map (λ (n : NameValue). tiny (place_named column_name columns.now n.text)) key.now) }
+{
+    let mut all = List::new(alloc);
+    for name in key {
+        all.push(tiny_number(place(columns, &name.text)))?;
+    }
+    Ok(all)
+}
+
+fn table_info(alloc: Global, table: &TableDef) -> Result<TableInfo, NoMemory>
+    ensures { IfOk result (λ t. t ≡ table_of table.now) }
+{
+    let columns = table.columns.as_slice();
+    Ok(TableInfo {
+        name: table.name.text.copy(alloc)?,
+        columns: described_columns(alloc, columns)?,
+        key: key_places(alloc, columns, table.key.as_slice())?,
+    })
+}
+
+fn table_infos(alloc: Global, tables: &[TableDef]) -> Result<List<TableInfo>, NoMemory>
+    ensures { IfOk result (λ all. all ≡ map table_of tables.now) }
+{
+    let mut all = List::new(alloc);
+    for table in tables {
+        all.push(table_info(alloc, table)?)?;
+    }
+    Ok(all)
+}
+
+fn row(alloc: Global, literals: &LitRow) -> Result<Row, NoMemory>
+    ensures { IfOk result (λ r. r ≡ row_of literals.now) }
+{
+    let mut all = List::new(alloc);
+    for literal in literals.values.as_slice() {
+        all.push(literal.value.copy(alloc)?)?;
+    }
+    Ok(all)
+}
+
+fn rows(alloc: Global, literals: &[LitRow]) -> Result<List<Row>, NoMemory>
+    ensures { IfOk result (λ all. all ≡ rows_of literals.now) }
+{
+    let mut all = List::new(alloc);
+    for one in literals {
+        all.push(row(alloc, one)?)?;
+    }
+    Ok(all)
+}
+
+/// The rows of VALUES, for each table.
+fn rows_of_tables(alloc: Global, tables: &[TableDef]) -> Result<List<List<Row>>, NoMemory>
+    ensures { IfOk result (λ all. all ≡ map (λ (t : TableValue). rows_of t.rows) tables.now) }
+{
+    let mut all = List::new(alloc);
+    for table in tables {
+        all.push(rows(alloc, table.rows.as_slice())?)?;
+    }
+    Ok(all)
+}
+
+// Procedures
+
+fn types(alloc: Global, columns: &[ColDef]) -> Result<List<ColType>, NoMemory>
+    ensures { IfOk result (λ all. all ≡ map (λ (c : ColValue). c.kind) columns.now) }
+{
+    let mut all = List::new(alloc);
+    for column in columns {
+        all.push(column.kind)?;
+    }
+    Ok(all)
+}
+
+fn param(alloc: Global, kind: &ParamKind) -> Result<ParamInfo, NoMemory>
+    ensures { IfOk result (λ p. p ≡ param_of kind.now) }
+{
+    match kind {
+        ParamKind::One(kind) => Ok(ParamInfo::One(*kind)),
+        ParamKind::Many(columns) => Ok(ParamInfo::Many(types(alloc, columns.as_slice())?)),
+    }
+}
+
+fn params(alloc: Global, params: &[Param]) -> Result<List<ParamInfo>, NoMemory>
+    ensures { IfOk result (λ all. all ≡ map (λ (q : ParamValue). param_of q.kind) params.now) }
+{
+    let mut all = List::new(alloc);
+    for one in params {
+        all.push(param(alloc, &one.kind)?)?;
+    }
+    Ok(all)
+}
+
+fn defaults(alloc: Global, vars: &[VarDef]) -> Result<List<Value>, NoMemory>
+    ensures { IfOk result (λ all. all ≡ map (λ (v : VarValue). v.initial.value) vars.now) }
+{
+    let mut all = List::new(alloc);
+    for var in vars {
+        all.push(var.initial.value.copy(alloc)?)?;
+    }
+    Ok(all)
+}
+
+fn procedure(alloc: Global, tables: &[TableDef], definition: &ProcDef) -> Result<ProcInfo, NoMemory>
+    ensures { IfOk result (λ p. p ≡ procedure_of tables.now definition.now) }
+{
+    let mut slots = slots(alloc, definition)?;
+    let mut next = sum(number_of_found(definition)?, 1)?;
+    let body = definition.body.as_slice();
+    Ok(ProcInfo {
+        name: definition.name.text.copy(alloc)?,
+        params: params(alloc, definition.params.as_slice())?,
+        defaults: defaults(alloc, definition.vars.as_slice())?,
+        body: statements(alloc, tables, body, &mut slots, &mut next)?,
+    })
+}
+
+fn procedures(
+    alloc: Global,
+    tables: &[TableDef],
+    definitions: &[ProcDef],
+) -> Result<List<ProcInfo>, NoMemory>
+    ensures { IfOk result (λ all. all ≡ map (procedure_of tables.now) definitions.now) }
+{
+    let mut all = List::new(alloc);
+    for definition in definitions {
+        all.push(procedure(alloc, tables, definition)?)?;
+    }
+    Ok(all)
+}
+
+// Copies and calls
+
+/// A block that fills the table of this number.
+fn block_into(table: u8, block: Span) -> CopyInfo
+    ensures { result ≡ copy_info table block }
+{
+    CopyInfo {
+        table,
+        at: block.at,
+        len: block.len,
+        closed: block.closed,
+    }
+}
+
+fn copy_into(tables: &[TableDef], definition: &CopyDef) -> CopyInfo
+    ensures { result ≡ copy_of tables.now definition.now }
+{
+    let table = tiny_number(place(tables, &definition.table.text));
+    block_into(table, definition.block)
+}
+
+fn copies(
+    alloc: Global,
+    tables: &[TableDef],
+    definitions: &[CopyDef],
+) -> Result<List<CopyInfo>, NoMemory>
+    ensures { IfOk result (λ all. all ≡ map (copy_of tables.now) definitions.now) }
+{
+    let mut all = List::new(alloc);
+    for definition in definitions {
+        all.push(copy_into(tables, definition))?;
+    }
+    Ok(all)
+}
+
+fn argument(alloc: Global, argument: &Arg) -> Result<Argument, NoMemory>
+    ensures { IfOk result (λ a. a ≡ argument_of argument.now) }
+{
+    match argument {
+        Arg::One(literal) => Ok(Argument::One(literal.value.copy(alloc)?)),
+        Arg::Many(literals) => Ok(Argument::Many(rows(alloc, literals.rows.as_slice())?)),
+    }
+}
+
+fn arguments(alloc: Global, arguments: &[Arg]) -> Result<List<Argument>, NoMemory>
+    ensures { IfOk result (λ all. all ≡ map argument_of arguments.now) }
+{
+    let mut all = List::new(alloc);
+    for one in arguments {
+        all.push(argument(alloc, one)?)?;
+    }
+    Ok(all)
+}
+
+/// A call. It costs a walk over the procedures' names, to its own.
+fn call(alloc: Global, procedures: &[ProcDef], definition: &CallDef) -> Result<Call, NoMemory>
+    ensures { IfOk result (λ c. c ≡ call_of procedures.now definition.now) }
+{
+    Ok(Call {
+        procedure: small_number(place(procedures, &definition.name.text)),
+        arguments: arguments(alloc, definition.arguments.as_slice())?,
+    })
+}
+
+fn calls(
+    alloc: Global,
+    procedures: &[ProcDef],
+    definitions: &[CallDef],
+) -> Result<List<Call>, NoMemory>
+    ensures { IfOk result (λ all. all ≡ map (call_of procedures.now) definitions.now) }
+{
+    let mut all = List::new(alloc);
+    for definition in definitions {
+        all.push(call(alloc, procedures, definition)?)?;
+    }
+    Ok(all)
+}
+
+/// The first journal.
+fn journal(blocks: &[Span]) -> Option<CopyInfo>
+    ensures { result ≡ journal_of (slice_get blocks.now 0) }
+{
+    match blocks {
+        [] => None,
+        [block, ..] => Some(block_into(0, *block)),
+    }
+}
+
+/// What the parts of a script stand for, where they have no fault; where they have one, a program in which the numbers of
+/// names that aren't there mean nothing. It costs the size of the parts, and for each name a walk over those among which
+/// it is looked up.
+pub fn built(alloc: Global, parts: &Parts) -> Result<Resolved, NoMemory>
+    ensures { IfOk result (λ r. r ≡ resolved_parts parts.now) }
+{
+    let tables = parts.tables.as_slice();
+    let definitions = parts.procedures.as_slice();
+    Ok(Resolved {
+        tables: table_infos(alloc, tables)?,
+        rows: rows_of_tables(alloc, tables)?,
+        procedures: procedures(alloc, tables, definitions)?,
+        copies: copies(alloc, tables, parts.copies.as_slice())?,
+        calls: calls(alloc, definitions, parts.calls.as_slice())?,
+        journal: journal(parts.journals.as_slice()),
+    })
+}

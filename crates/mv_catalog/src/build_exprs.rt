@@ -1,0 +1,150 @@
+//! Building expressions, and the clauses that hold them.
+
+ghost use Rattle.std.specs.Prelude.{◌≡◌, [], IfOk};
+ghost use Rattle.mv_catalog.specs.Building.{expr_of, plain, plains, maybe_plain, conds_of, sorts_of, agg_of, items_of};
+
+use crate::build_names::{column, field, variable};
+use crate::resolved::{RAgg, RCond, RExpr, RExprKind, RSetItem, RSort};
+use crate::slot::Slot;
+use mv_ast::tree::{Agg, ColDef, Cond, Expr, ExprKind, SetItem, Sort};
+use mv_values::boxed::Boxed;
+use mv_values::copied::Copied;
+use mv_values::list::List;
+use mv_values::memory::NoMemory;
+use std::alloc::Global;
+
+/// An expression, for the variables and the columns that stand by themselves.
+fn expr(alloc: Global, e: &Expr, slots: &[Slot], columns: &[ColDef]) -> Result<RExpr, NoMemory>
+    ensures { IfOk result (λ r. r ≡ expr_of e.now slots.now columns.now) }
+{
+    match &e.kind {
+        ExprKind::Const(v) => Ok(of_kind(RExprKind::Const(v.copy(alloc)?))),
+        ExprKind::Var(name) => Ok(of_kind(RExprKind::Var(variable(slots, name)))),
+        ExprKind::Field(row, name) => {
+            let place = field(slots, row, name);
+            Ok(of_kind(RExprKind::Field(variable(slots, row), place)))
+        }
+        ExprKind::Col(name) => Ok(of_kind(RExprKind::Col(column(columns, name)))),
+        ExprKind::One(op, a) => {
+            let a = Boxed::new(alloc, expr(alloc, a.get(), slots, columns)?)?;
+            Ok(of_kind(RExprKind::One(*op, a)))
+        }
+        ExprKind::Two(op, a, b) => {
+            let a = Boxed::new(alloc, expr(alloc, a.get(), slots, columns)?)?;
+            let b = Boxed::new(alloc, expr(alloc, b.get(), slots, columns)?)?;
+            Ok(of_kind(RExprKind::Two(*op, a, b)))
+        }
+    }
+}
+
+/// An expression of this kind.
+fn of_kind(kind: RExprKind) -> RExpr
+    ensures { result.kind ≡ kind }
+{
+    RExpr { kind }
+}
+
+/// An expression in which no column stands by itself.
+pub(crate) fn plain_expr(alloc: Global, slots: &[Slot], e: &Expr) -> Result<RExpr, NoMemory>
+    ensures { IfOk result (λ r. r ≡ plain slots.now e.now) }
+{
+    expr(alloc, e, slots, &[])
+}
+
+pub(crate) fn plain_exprs(
+    alloc: Global,
+    slots: &[Slot],
+    exprs: &[Expr],
+) -> Result<List<RExpr>, NoMemory>
+    ensures { IfOk result (λ all. all ≡ plains slots.now exprs.now) }
+{
+    let mut all = List::new(alloc);
+    for e in exprs {
+        all.push(plain_expr(alloc, slots, e)?)?;
+    }
+    Ok(all)
+}
+
+pub(crate) fn offset(
+    alloc: Global,
+    slots: &[Slot],
+    e: &Option<Expr>,
+) -> Result<Option<RExpr>, NoMemory>
+    ensures { IfOk result (λ r. r ≡ maybe_plain slots.now e.now) }
+{
+    match e {
+        None => Ok(None),
+        Some(e) => Ok(Some(plain_expr(alloc, slots, e)?)),
+    }
+}
+
+/// WHERE.
+pub(crate) fn conds(
+    alloc: Global,
+    slots: &[Slot],
+    columns: &[ColDef],
+    conds: &[Cond],
+) -> Result<List<RCond>, NoMemory>
+    ensures { IfOk result (λ all. all ≡ conds_of slots.now columns.now conds.now) }
+{
+    let mut all = List::new(alloc);
+    for cond in conds {
+        let right = plain_expr(alloc, slots, &cond.right)?;
+        all.push(RCond {
+            column: column(columns, &cond.column),
+            op: cond.op,
+            right,
+        })?;
+    }
+    Ok(all)
+}
+
+/// ORDER BY.
+pub(crate) fn sorts(
+    alloc: Global,
+    columns: &[ColDef],
+    sorts: &[Sort],
+) -> Result<List<RSort>, NoMemory>
+    ensures { IfOk result (λ all. all ≡ sorts_of columns.now sorts.now) }
+{
+    let mut all = List::new(alloc);
+    for sort in sorts {
+        all.push(RSort {
+            column: column(columns, &sort.column),
+            descending: sort.descending,
+        })?;
+    }
+    Ok(all)
+}
+
+pub(crate) fn aggregate(columns: &[ColDef], agg: &Agg) -> RAgg
+    ensures { result ≡ agg_of columns.now agg.now }
+{
+    match agg {
+        Agg::CountAll => RAgg::CountAll,
+        Agg::CountDistinct(name) => RAgg::CountDistinct(column(columns, name)),
+        Agg::Sum(name) => RAgg::Sum(column(columns, name)),
+        Agg::Min(name) => RAgg::Min(column(columns, name)),
+        Agg::Max(name) => RAgg::Max(column(columns, name)),
+    }
+}
+
+/// The items of UPDATE's SET, in which columns may stand by themselves.
+pub(crate) fn set_items(
+    alloc: Global,
+    slots: &[Slot],
+    columns: &[ColDef],
+    items: &[SetItem],
+) -> Result<List<RSetItem>, NoMemory>
+    ensures { IfOk result (λ all. all ≡ items_of slots.now columns.now items.now) }
+{
+    let mut all = List::new(alloc);
+    for item in items {
+        let right = expr(alloc, &item.right, slots, columns)?;
+        all.push(RSetItem {
+            column: column(columns, &item.column),
+            right,
+        })?;
+    }
+    Ok(all)
+}

@@ -1,0 +1,229 @@
+//! Names by their numbers: columns, tables, and the variables of a procedure.
+
+ghost use Rattle.std.specs.Prelude.{◌≡◌, ◌+◌, ◌++◌, ◌∷◌, [], IfOk, OnOk, length, map};
+ghost use Rattle.mv_names.specs.Scope.{found};
+ghost use Rattle.mv_catalog.specs.Building.{small, tiny, column_number, table_place, columns_named, column_name, slot, param_fields, param_slots, variable_slots, found_number, slots_of, slot_named, number_of, numbers_of, fields_in, field_place, names_of};
+
+use crate::slot::Slot;
+use mv_ast::tree::{ColDef, Name, Param, ParamKind, ProcDef, TableDef, VarDef};
+use mv_names::named::{find, place};
+use mv_values::copied::Copied;
+use mv_values::list::List;
+use mv_values::memory::NoMemory;
+use mv_values::txt::Txt;
+use std::alloc::Global;
+
+/// As a number of 16 bits, the greatest where it is greater.
+pub(crate) fn small_number(n: usize) -> u16
+    ensures { result ≡ small n }
+{
+    n.min(65_535) as u16
+}
+
+/// As a number of 8 bits, the greatest where it is greater.
+pub(crate) fn tiny_number(n: usize) -> u8
+    ensures { result ≡ tiny n }
+{
+    n.min(255) as u8
+}
+
+/// A sum. More than can be counted is more than memory holds.
+pub(crate) fn sum(a: usize, b: usize) -> Result<usize, NoMemory>
+    ensures { IfOk result (λ n. n ≡ a + b) }
+{
+    match a.checked_add(b) {
+        Some(n) => Ok(n),
+        None => Err(NoMemory),
+    }
+}
+
+// Columns and tables
+
+/// The number of a column.
+pub(crate) fn column(columns: &[ColDef], name: &Name) -> u16
+    ensures { result ≡ column_number columns.now name.now }
+{
+    small_number(place(columns, &name.text))
+}
+
+/// The numbers of columns.
+pub(crate) fn columns(
+    alloc: Global,
+    columns: &[ColDef],
+    names: &[Name],
+) -> Result<List<u16>, NoMemory>
+    ensures { IfOk result (λ all. all ≡ map (column_number columns.now) names.now) }
+{
+    let mut all = List::new(alloc);
+    for name in names {
+        all.push(column(columns, name))?;
+    }
+    Ok(all)
+}
+
+/// The number of a table.
+pub(crate) fn table(tables: &[TableDef], name: &Name) -> u16
+    ensures { result ≡ small (table_place tables.now name.now) }
+{
+    small_number(place(tables, &name.text))
+}
+
+/// The columns of the table of a name, none where there is none.
+pub(crate) fn columns_in<'a>(tables: &'a [TableDef], name: &Name) -> &'a [ColDef]
+    ensures { result.now ≡ columns_named tables.now name.now }
+{
+    match find(tables, &name.text) {
+        Some(table) => table.columns.as_slice(),
+        None => &[],
+    }
+}
+
+// The variables of a procedure
+
+/// A name with its number.
+pub(crate) fn slot_at(
+    alloc: Global,
+    number: usize,
+    name: &Txt,
+    fields: List<Txt>,
+) -> Result<Slot, NoMemory>
+    ensures { IfOk result (λ s. s ≡ slot number name.now fields) }
+{
+    Ok(Slot {
+        name: name.copy(alloc)?,
+        number: small_number(number),
+        fields,
+    })
+}
+
+/// The names of columns.
+fn column_names(alloc: Global, columns: &[ColDef]) -> Result<List<Txt>, NoMemory>
+    ensures { IfOk result (λ all. all ≡ map column_name columns.now) }
+{
+    let mut all = List::new(alloc);
+    for column in columns {
+        all.push(column.name.text.copy(alloc)?)?;
+    }
+    Ok(all)
+}
+
+/// The texts of names.
+pub(crate) fn texts(alloc: Global, names: &[Name]) -> Result<List<Txt>, NoMemory>
+    ensures { IfOk result (λ all. all ≡ names_of names.now) }
+{
+    let mut all = List::new(alloc);
+    for name in names {
+        all.push(name.text.copy(alloc)?)?;
+    }
+    Ok(all)
+}
+
+/// The names of the columns of a parameter, none where it is a value.
+fn fields_of_param(alloc: Global, kind: &ParamKind) -> Result<List<Txt>, NoMemory>
+    ensures { IfOk result (λ all. all ≡ param_fields kind.now) }
+{
+    match kind {
+        ParamKind::One(_) => Ok(List::new(alloc)),
+        ParamKind::Many(columns) => column_names(alloc, columns.as_slice()),
+    }
+}
+
+fn add_params(alloc: Global, params: &[Param], slots: &mut List<Slot>) -> Result<(), NoMemory>
+    ensures { OnOk result (slots.new ≡ slots.old ++ param_slots 0 params.now) }
+{
+    for (i, param) in params.iter().enumerate() {
+        let fields = fields_of_param(alloc, &param.kind)?;
+        slots.push(slot_at(alloc, i, &param.name.text, fields)?)?;
+    }
+    Ok(())
+}
+
+fn add_variables(
+    alloc: Global,
+    first: usize,
+    vars: &[VarDef],
+    slots: &mut List<Slot>,
+) -> Result<(), NoMemory>
+    ensures { OnOk result (slots.new ≡ slots.old ++ variable_slots first vars.now) }
+{
+    let mut number = first;
+    for var in vars {
+        slots.push(slot_at(alloc, number, &var.name.text, List::new(alloc))?)?;
+        number = sum(number, 1)?;
+    }
+    Ok(())
+}
+
+/// The number of `:found`.
+pub(crate) fn number_of_found(definition: &ProcDef) -> Result<usize, NoMemory>
+    ensures { IfOk result (λ n. n ≡ found_number definition.now) }
+{
+    sum(definition.params.len(), definition.vars.len())
+}
+
+/// The variables of a procedure, without its loops.
+pub(crate) fn slots(alloc: Global, definition: &ProcDef) -> Result<List<Slot>, NoMemory>
+    ensures { IfOk result (λ all. all ≡ slots_of definition.now) }
+{
+    let mut all = List::new(alloc);
+    add_params(alloc, definition.params.as_slice(), &mut all)?;
+    let params = definition.params.len();
+    add_variables(alloc, params, definition.vars.as_slice(), &mut all)?;
+    let name = Txt::of(alloc, b"found")?;
+    let number = number_of_found(definition)?;
+    all.push(slot_at(alloc, number, &name, List::new(alloc))?)?;
+    Ok(all)
+}
+
+/// The number of a variable.
+pub(crate) fn variable(slots: &[Slot], name: &Name) -> u16
+    ensures { result ≡ number_of slots.now name.now }
+{
+    match find(slots, &name.text) {
+        Some(slot) => slot.number,
+        None => 0,
+    }
+}
+
+/// The numbers of variables.
+pub(crate) fn variables(
+    alloc: Global,
+    slots: &[Slot],
+    names: &[Name],
+) -> Result<List<u16>, NoMemory>
+    ensures { IfOk result (λ all. all ≡ numbers_of slots.now names.now) }
+{
+    let mut all = List::new(alloc);
+    for name in names {
+        all.push(variable(slots, name))?;
+    }
+    Ok(all)
+}
+
+/// The names of the columns of a variable that stands for rows, none of any other.
+fn fields_in<'a>(slots: &'a [Slot], name: &Name) -> &'a [Txt]
+    ensures { result.now ≡ fields_in (slot_named slots.now name.now.text) }
+{
+    match find(slots, &name.text) {
+        Some(slot) => slot.fields.as_slice(),
+        None => &[],
+    }
+}
+
+/// Copies of them.
+pub(crate) fn fields(alloc: Global, slots: &[Slot], name: &Name) -> Result<List<Txt>, NoMemory>
+    ensures { IfOk result (λ all. all ≡ fields_in (slot_named slots.now name.now.text)) }
+{
+    let mut all = List::new(alloc);
+    for text in fields_in(slots, name) {
+        all.push(text.copy(alloc)?)?;
+    }
+    Ok(all)
+}
+
+/// The place of a column in a loop's row.
+pub(crate) fn field(slots: &[Slot], row: &Name, column: &Name) -> u16
+    ensures { result ≡ field_place slots.now row.now column.now }
+{
+    small_number(place(fields_in(slots, row), &column.text))
+}

@@ -1,0 +1,342 @@
+//! Building statements. Loops are numbered in the order of the text, and each sees its row under its name.
+
+ghost use Rattle.std.specs.Prelude.{◌≡◌, ◌+◌, ◌++◌, ◌∷◌, [], IfOk, OnOk, map};
+ghost use Rattle.mv_catalog.specs.declared.resolved.RStmt.TheVariants as r_stmt;
+ghost use Rattle.mv_catalog.specs.Building.{small, table_place, columns_named, column_number, number_of, numbers_of, plain, plains, maybe_plain, conds_of, sorts_of, agg_of, items_of, built, for_select, for_rows, loops_of, statements_of};
+
+use crate::build_exprs::{aggregate, conds, offset, plain_expr, plain_exprs, set_items, sorts};
+use crate::build_names::{
+    columns, columns_in, fields, slot_at, small_number, sum, table, texts, variable, variables,
+};
+use crate::resolved::RStmt;
+use crate::slot::Slot;
+use mv_ast::tree::{Agg, Cond, Expr, Name, SetItem, Sort, Stmt, TableDef};
+use mv_values::copied::Copied;
+use mv_values::list::List;
+use mv_values::memory::NoMemory;
+use mv_values::txt::Txt;
+use std::alloc::Global;
+
+// Statements without statements in them
+
+/// SET.
+fn assign(alloc: Global, slots: &[Slot], to: &Name, right: &Expr) -> Result<RStmt, NoMemory>
+    ensures { IfOk result (λ s. s ≡ r_stmt.Assign (number_of slots.now to.now) (plain slots.now right.now)) }
+{
+    let right = plain_expr(alloc, slots, right)?;
+    Ok(RStmt::Assign {
+        to: variable(slots, to),
+        right,
+    })
+}
+
+/// SELECT INTO.
+fn select(
+    alloc: Global,
+    tables: &[TableDef],
+    slots: &[Slot],
+    selected: &[Name],
+    to: &[Name],
+    name: &Name,
+    tests: &[Cond],
+    order: &[Sort],
+    skip: &Option<Expr>,
+) -> Result<RStmt, NoMemory>
+    ensures { IfOk result (λ s. let own = columns_named tables.now name.now in s ≡ r_stmt.Select (map (column_number own) selected.now) (numbers_of slots.now to.now) (small (table_place tables.now name.now)) (conds_of slots.now own tests.now) (sorts_of own order.now) (maybe_plain slots.now skip.now)) }
+{
+    let own = columns_in(tables, name);
+    Ok(RStmt::Select {
+        columns: columns(alloc, own, selected)?,
+        to: variables(alloc, slots, to)?,
+        table: table(tables, name),
+        conds: conds(alloc, slots, own, tests)?,
+        sorts: sorts(alloc, own, order)?,
+        offset: offset(alloc, slots, skip)?,
+    })
+}
+
+/// SELECT with an aggregate.
+fn total(
+    alloc: Global,
+    tables: &[TableDef],
+    slots: &[Slot],
+    agg: &Agg,
+    to: &Name,
+    name: &Name,
+    tests: &[Cond],
+) -> Result<RStmt, NoMemory>
+    ensures { IfOk result (λ s. let own = columns_named tables.now name.now in s ≡ r_stmt.Total (agg_of own agg.now) (number_of slots.now to.now) (small (table_place tables.now name.now)) (conds_of slots.now own tests.now)) }
+{
+    let own = columns_in(tables, name);
+    Ok(RStmt::Total {
+        agg: aggregate(own, agg),
+        to: variable(slots, to),
+        table: table(tables, name),
+        conds: conds(alloc, slots, own, tests)?,
+    })
+}
+
+/// INSERT.
+fn insert(
+    alloc: Global,
+    tables: &[TableDef],
+    slots: &[Slot],
+    name: &Name,
+    values: &[Expr],
+) -> Result<RStmt, NoMemory>
+    ensures { IfOk result (λ s. s ≡ r_stmt.Insert (small (table_place tables.now name.now)) (plains slots.now values.now)) }
+{
+    Ok(RStmt::Insert {
+        table: table(tables, name),
+        values: plain_exprs(alloc, slots, values)?,
+    })
+}
+
+/// UPDATE.
+fn update(
+    alloc: Global,
+    tables: &[TableDef],
+    slots: &[Slot],
+    name: &Name,
+    items: &[SetItem],
+    tests: &[Cond],
+) -> Result<RStmt, NoMemory>
+    ensures { IfOk result (λ s. let own = columns_named tables.now name.now in s ≡ r_stmt.Update (small (table_place tables.now name.now)) (items_of slots.now own items.now) (conds_of slots.now own tests.now)) }
+{
+    let own = columns_in(tables, name);
+    Ok(RStmt::Update {
+        table: table(tables, name),
+        items: set_items(alloc, slots, own, items)?,
+        conds: conds(alloc, slots, own, tests)?,
+    })
+}
+
+/// DELETE.
+fn delete(
+    alloc: Global,
+    tables: &[TableDef],
+    slots: &[Slot],
+    name: &Name,
+    tests: &[Cond],
+) -> Result<RStmt, NoMemory>
+    ensures { IfOk result (λ s. s ≡ r_stmt.Delete (small (table_place tables.now name.now)) (conds_of slots.now (columns_named tables.now name.now) tests.now)) }
+{
+    let own = columns_in(tables, name);
+    Ok(RStmt::Delete {
+        table: table(tables, name),
+        conds: conds(alloc, slots, own, tests)?,
+    })
+}
+
+/// PRINT.
+fn print(alloc: Global, slots: &[Slot], values: &[Expr]) -> Result<RStmt, NoMemory>
+    ensures { IfOk result (λ s. s ≡ r_stmt.Print (plains slots.now values.now)) }
+{
+    Ok(RStmt::Print {
+        values: plain_exprs(alloc, slots, values)?,
+    })
+}
+
+/// ROLLBACK.
+fn rollback(alloc: Global, reason: &Txt) -> Result<RStmt, NoMemory>
+    ensures { IfOk result (λ s. s ≡ r_stmt.Rollback reason.now) }
+{
+    Ok(RStmt::Rollback {
+        reason: reason.copy(alloc)?,
+    })
+}
+
+// Statements in order, and those that hold others
+
+/// Statements, of which the first loop has the number `next`, which becomes that of the next loop behind them. `slots`
+/// are left as they were.
+#[cycle(statements)]
+pub(crate) fn statements(
+    alloc: Global,
+    tables: &[TableDef],
+    body: &[Stmt],
+    slots: &mut List<Slot>,
+    next: &mut usize,
+) -> Result<List<RStmt>, NoMemory>
+    ensures built { IfOk result (λ all. all ≡ statements_of tables.now body.now slots.old next.old) }
+    ensures slots { IfOk result (λ all. slots.new ≡ slots.old) }
+    ensures next { IfOk result (λ all. next.new ≡ next.old + loops_of tables.now body.now) }
+{
+    let mut all = List::new(alloc);
+    for s in body {
+        all.push(statement(alloc, tables, s, slots, next)?)?;
+    }
+    Ok(all)
+}
+
+/// A statement.
+#[cycle(statements)]
+fn statement(
+    alloc: Global,
+    tables: &[TableDef],
+    s: &Stmt,
+    slots: &mut List<Slot>,
+    next: &mut usize,
+) -> Result<RStmt, NoMemory>
+    ensures built { IfOk result (λ r. r ≡ (built tables.now s.now).build slots.old next.old) }
+    ensures slots { IfOk result (λ r. slots.new ≡ slots.old) }
+    ensures next { IfOk result (λ r. next.new ≡ next.old + (built tables.now s.now).loops) }
+{
+    let seen = slots.as_slice();
+    match s {
+        Stmt::Assign { to, right, .. } => assign(alloc, seen, to, right),
+        Stmt::Select {
+            columns,
+            to,
+            table,
+            conds,
+            sorts,
+            offset,
+            ..
+        } => {
+            let (columns, to) = (columns.as_slice(), to.as_slice());
+            let (conds, sorts) = (conds.as_slice(), sorts.as_slice());
+            select(
+                alloc, tables, seen, columns, to, table, conds, sorts, offset,
+            )
+        }
+        Stmt::Total {
+            agg,
+            to,
+            table,
+            conds,
+            ..
+        } => total(alloc, tables, seen, agg, to, table, conds.as_slice()),
+        Stmt::ForSelect {
+            row,
+            distinct,
+            columns,
+            table,
+            conds,
+            sorts,
+            body,
+            ..
+        } => {
+            let (columns, conds) = (columns.as_slice(), conds.as_slice());
+            let (sorts, body) = (sorts.as_slice(), body.as_slice());
+            over_select(
+                alloc, tables, row, *distinct, columns, table, conds, sorts, body, slots, next,
+            )
+        }
+        Stmt::ForRows {
+            row,
+            rows,
+            body,
+            ..
+        } => over_rows(alloc, tables, row, rows, body.as_slice(), slots, next),
+        Stmt::Branch { test, yes, no, .. } => {
+            let test = plain_expr(alloc, seen, test)?;
+            let yes = statements(alloc, tables, yes.as_slice(), slots, next)?;
+            let no = statements(alloc, tables, no.as_slice(), slots, next)?;
+            Ok(RStmt::Branch { test, yes, no })
+        }
+        Stmt::Insert { table, values, .. } => insert(alloc, tables, seen, table, values.as_slice()),
+        Stmt::Update {
+            table,
+            items,
+            conds,
+            ..
+        } => update(
+            alloc,
+            tables,
+            seen,
+            table,
+            items.as_slice(),
+            conds.as_slice(),
+        ),
+        Stmt::Delete { table, conds, .. } => delete(alloc, tables, seen, table, conds.as_slice()),
+        Stmt::Print { values, .. } => print(alloc, seen, values.as_slice()),
+        Stmt::Rollback { reason, .. } => rollback(alloc, reason),
+    }
+}
+
+/// The body of the loop that `slot` names, which takes the next number.
+#[cycle(statements)]
+fn body_under(
+    alloc: Global,
+    tables: &[TableDef],
+    slot: Slot,
+    body: &[Stmt],
+    slots: &mut List<Slot>,
+    next: &mut usize,
+) -> Result<List<RStmt>, NoMemory>
+    ensures built { IfOk result (λ all. all ≡ statements_of tables.now body.now (slots.old ++ slot ∷ []) (next.old + 1)) }
+    ensures slots { IfOk result (λ all. slots.new ≡ slots.old) }
+    ensures next { IfOk result (λ all. next.new ≡ next.old + 1 + loops_of tables.now body.now) }
+{
+    let outside = slots.len();
+    slots.push(slot)?;
+    *next = sum(*next, 1)?;
+    let all = statements(alloc, tables, body, slots, next)?;
+    slots.truncate(outside);
+    Ok(all)
+}
+
+/// FOR over SELECT.
+#[cycle(statements)]
+fn over_select(
+    alloc: Global,
+    tables: &[TableDef],
+    row: &Name,
+    distinct: bool,
+    selected: &[Name],
+    name: &Name,
+    tests: &[Cond],
+    order: &[Sort],
+    body: &[Stmt],
+    slots: &mut List<Slot>,
+    next: &mut usize,
+) -> Result<RStmt, NoMemory>
+    ensures built { IfOk result (λ r. r ≡ (for_select tables.now row.now distinct selected.now name.now tests.now order.now (map (built tables.now) body.now)).build slots.old next.old) }
+    ensures slots { IfOk result (λ r. slots.new ≡ slots.old) }
+    ensures next { IfOk result (λ r. next.new ≡ next.old + (1 + loops_of tables.now body.now)) }
+{
+    let number = *next;
+    let own = columns_in(tables, name);
+    let columns = columns(alloc, own, selected)?;
+    let conds = conds(alloc, slots.as_slice(), own, tests)?;
+    let sorts = sorts(alloc, own, order)?;
+    let slot = slot_at(alloc, number, &row.text, texts(alloc, selected)?)?;
+    let body = body_under(alloc, tables, slot, body, slots, next)?;
+    Ok(RStmt::ForSelect {
+        row: small_number(number),
+        distinct,
+        columns,
+        table: table(tables, name),
+        conds,
+        sorts,
+        body,
+    })
+}
+
+/// FOR over a ROWS parameter.
+#[cycle(statements)]
+fn over_rows(
+    alloc: Global,
+    tables: &[TableDef],
+    row: &Name,
+    rows: &Name,
+    body: &[Stmt],
+    slots: &mut List<Slot>,
+    next: &mut usize,
+) -> Result<RStmt, NoMemory>
+    ensures built { IfOk result (λ r. r ≡ (for_rows row.now rows.now (map (built tables.now) body.now)).build slots.old next.old) }
+    ensures slots { IfOk result (λ r. slots.new ≡ slots.old) }
+    ensures next { IfOk result (λ r. next.new ≡ next.old + (1 + loops_of tables.now body.now)) }
+{
+    let number = *next;
+    let parameter = variable(slots.as_slice(), rows);
+    let fields = fields(alloc, slots.as_slice(), rows)?;
+    let slot = slot_at(alloc, number, &row.text, fields)?;
+    let body = body_under(alloc, tables, slot, body, slots, next)?;
+    Ok(RStmt::ForRows {
+        row: small_number(number),
+        rows: parameter,
+        body,
+    })
+}
