@@ -9,5 +9,6 @@ mod build_statements;
 mod build_tests;
 pub mod first;
 pub mod refused;
+pub mod resolve;
 pub mod resolved;
 pub mod slot;

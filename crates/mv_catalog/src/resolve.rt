@@ -1,0 +1,47 @@
+//! Resolving scripts: the program that a script stands for, or its first fault.
+
+ghost use Rattle.mv_ast.specs.declared.tree.Script.{Script as ScriptValue};
+ghost use Rattle.mv_names.specs.First.{IsFirst};
+ghost use Rattle.mv_names.specs.Faults.{faults};
+ghost use Rattle.mv_catalog.specs.Resolving.{Refuses, Resolves};
+
+use crate::build::built;
+use crate::refused::NameFault;
+use crate::resolved::Resolved;
+use mv_ast::tree::Script;
+use mv_names::check::{check_order, check_parts};
+use mv_names::fault::{Fault, FaultKind, first_of};
+use mv_names::parts::part;
+use mv_values::list::List;
+use std::alloc::Global;
+
+/// A fault of names or types, as an answer.
+fn refused(fault: Fault) -> NameFault
+    ensures { (script : ScriptValue) → IsFirst (faults script) fault → Refuses script result }
+{
+    let token = fault.token;
+    match fault.kind {
+        FaultKind::UnknownName => NameFault::UnknownName { token },
+        FaultKind::DoubleName => NameFault::DoubleName { token },
+        FaultKind::WrongType => NameFault::WrongType { token },
+        FaultKind::KeyAssigned => NameFault::KeyAssigned { token },
+        FaultKind::Late => NameFault::Late { token },
+    }
+}
+
+/// The program that a script stands for. Where the script has faults of names or types, their first is answered instead:
+/// the one at the least token, and of two at one token the one whose kind stands first in `NameFault`. `NoMemory` comes
+/// only where memory runs out. The script is given up. It costs the size of the script, and for each name a walk over
+/// those among which it is looked up.
+pub fn resolve(alloc: Global, script: Script) -> Result<Resolved, NameFault>
+    ensures { Resolves script result }
+{
+    let mut faults = List::new(alloc);
+    check_order(script.items.as_slice(), &mut faults)?;
+    let parts = part(alloc, script)?;
+    check_parts(alloc, &parts, &mut faults)?;
+    match first_of(faults.as_slice()) {
+        None => Ok(built(alloc, &parts)?),
+        Some(fault) => Err(refused(fault)),
+    }
+}
