@@ -6,6 +6,7 @@ use mv_edge::std_edge::{StdSink, StdSource};
 use mv_top::status::Status;
 use mv_top::top::top;
 use std::env;
+use std::io::ErrorKind;
 use std::process::ExitCode;
 
 fn main(rt: HostRuntime) -> ExitCode {
@@ -20,10 +21,16 @@ fn main(rt: HostRuntime) -> ExitCode {
     ExitCode::from(status as u8)
 }
 
-/// The command line's words after the program's name. None where no memory was found.
+/// The command line's words after the program's name. A line with a word that isn't UTF-8 is no command, so it has no
+/// words here. None where no memory was found.
 fn words(rt: &HostRuntime) -> Option<Vec<String>> {
     let mut words = Vec::new(rt.alloc());
-    for word in env::args(rt).ok()?.skip(1) {
+    let arguments = match env::args(rt) {
+        Ok(arguments) => arguments,
+        Err(error) if error.kind() == ErrorKind::InvalidData => return Some(words),
+        Err(_) => return None,
+    };
+    for word in arguments.skip(1) {
         words.push(word).ok()?;
     }
     Some(words)

@@ -6,9 +6,9 @@ mod journal;
 mod number;
 pub mod render;
 pub mod render_serial;
+mod replies;
 #[cfg(test)]
 mod serial_tests;
-mod replies;
 mod tables;
 #[cfg(test)]
 mod tests;

@@ -2,15 +2,20 @@
 use Rattle.std.proofs.Common.{◌≡◌, ◌⊎◌, inl, inr, ◌<◌, ◌≤◌, ◌+◌, ◌^◌, ℕ, List, length, take, Option, Some, refl, sym, ap, subst, ◌∙◌, arith}
 use Rattle.std.proofs.lemmas.List.{take_all, length-take-le}
 use Rattle.std.proofs.lemmas.Bool.{cases_lt}
-use Rattle.std.specs.Prelude.{codes}
 use Rattle.std.specs.Option.{ForSome}
 use Rattle.mv_edge.specs.Edge.{Rose, Writes, WritesFront}
 use Rattle.mv_edge.specs.declared.reading.TheConstants.{MOST}
 use Rattle.mv_catalog.specs.declared.resolved.Program.{Program}
+use Rattle.mv_top.specs.declared.refusal.Refusal.{Refusal}
+use Rattle.mv_top.specs.declared.refusal.Refusal.TheVariants.{TooLong}
+use Rattle.mv_top.specs.Refusals.{line_of}
+use Rattle.mv_top.specs.Failing.{IsToldBy}
+use Rattle.mv_top.specs.declared.status.Fault.{Fault}
+use Rattle.mv_top.specs.declared.status.Fault.TheVariants as fault
 use Rattle.mv_top.specs.declared.status.Status.{Status}
 use Rattle.mv_top.specs.declared.status.Status.TheVariants.{Done, Refused, Usage, NoMemory, ReadFault, WriteFault}
 use Rattle.mv_top.specs.History.{text, in_turn}
-use Rattle.mv_top.specs.Answers.{most_bytes, IsFirst, IsRunText, IsRefusal, too_long, not_built, IsAnswer, usage, refused, done, IsAnswered, Puts, Wrote, RanOr, run_words, line, usage_line}
+use Rattle.mv_top.specs.Answers.{most_bytes, IsFirst, IsRunText, Refuses, too_long, fails, Fails, IsRefusal, HasCause, IsAnswer, usage, refused, done, IsAnswered, Puts, Wrote, RanOr, RefusedOr, run_words, line, usage_line}
 
 -- bytes that aren't too many were all that were left
 pub whole : (all bytes : List ℕ) → bytes ≡ take MOST all → length bytes ≤ most_bytes → bytes ≡ all
@@ -34,12 +39,21 @@ first_of_read all bytes program e first =
     let same : all ≡ bytes = sym (e ∙ take_all MOST all (omega arith)) in
     subst (λ (xs : List ℕ). IsFirst xs program) same first
 
+pub cause_of_read : (all bytes : List ℕ) (refusal : Refusal) → bytes ≡ take MOST all → Refuses all refusal → Refuses bytes refusal
+cause_of_read all bytes _ e (too_long more) =
+    too_long (let cut : length (take MOST all) ≡ MOST = length-take-le MOST all (omega arith) in let same : length bytes ≡ MOST = ap length e ∙ cut in omega arith)
+cause_of_read all bytes _ e (fails refusal few f) =
+    let same : all ≡ bytes = sym (e ∙ take_all MOST all (omega arith)) in subst (λ (xs : List ℕ). Refuses xs refusal) same (fails refusal few f)
+
 run_of_left : (all bytes answer : List ℕ) → bytes ≡ take MOST all → IsRunText bytes answer → IsRunText all answer
 run_of_left all bytes answer e run = subst (λ (xs : List ℕ). IsRunText xs answer) (whole all bytes e run.1.size) run
 
+cause_of_left : (all bytes : List ℕ) (refusal : Refusal) → bytes ≡ take MOST all → Refuses bytes refusal → Refuses all refusal
+cause_of_left all bytes _ e (too_long more) = too_long (too_many all bytes e more)
+cause_of_left all bytes _ e (fails refusal few f) = subst (λ (xs : List ℕ). Refuses xs refusal) (whole all bytes e few) (fails refusal few f)
+
 refusal_of_left : (all bytes : List ℕ) (number : ℕ) (what : List ℕ) → bytes ≡ take MOST all → IsRefusal bytes number what → IsRefusal all number what
-refusal_of_left all bytes number what e (too_long more) = too_long (too_many all bytes e more)
-refusal_of_left all bytes number what e (not_built few none) = subst (λ (xs : List ℕ). IsRefusal xs 22 (codes "refused 22 not built")) (whole all bytes e few) (not_built few none)
+refusal_of_left all bytes number what e r = (r.0, cause_of_left all bytes r.0 e r.1, r.2, r.3)
 
 -- what is answered to the bytes that were read is what is answered to those that were left
 pub answer_of_left : (words : List (List ℕ)) (left : Option (List ℕ)) (bytes : List ℕ) (status : Status) (answer : List ℕ)
@@ -69,9 +83,22 @@ pub ran_by : (old new : Option (List ℕ)) (f g : ℕ) (status : Status) (answer
 ran_by old new f g status answer result program s a no_fault (inl p) = subst (λ (r : Status). RanOr r old new program) (sym (p.0 ∙ s)) (subst (Writes old new) a p.1)
 ran_by old new f g status answer result program s a no_fault (inr p) = absurd (no_fault p.2)
 
--- a refusal for want of a first script
-pub cause_of_none : (bytes what : List ℕ) → length bytes ≤ most_bytes → ((program : Program) → IsFirst bytes program → ⊥) → what ≡ codes "refused 22 not built" → IsRefusal bytes 22 what
-cause_of_none bytes what few none e = subst (IsRefusal bytes 22) (sym e) (not_built few none)
+-- the line of a refusal that was put was written, unless the sink failed
+pub refused_by : (old new : Option (List ℕ)) (f g : ℕ) (status : Status) (answer : List ℕ) (result : Status) (refusal : Refusal)
+    → status ≡ Refused → answer ≡ line (line_of refusal) → (Rose f g → ⊥) → Puts old new f g status answer result → RefusedOr result old new refusal
+refused_by old new f g status answer result refusal s a no_fault (inl p) = subst (λ (r : Status). RefusedOr r old new refusal) (sym (p.0 ∙ s)) (subst (Writes old new) a p.1)
+refused_by old new f g status answer result refusal s a no_fault (inr p) = absurd (no_fault p.2)
 
-pub cause_of_size : (bytes what : List ℕ) → most_bytes < length bytes → what ≡ codes "refused 1 too long" → IsRefusal bytes 1 what
-cause_of_size bytes what more e = subst (IsRefusal bytes 1) (sym e) (too_long more)
+-- the refusal that is told has its cause
+pub has_cause : (bytes : List ℕ) (refusal : Refusal) (f : Fault) → Refuses bytes refusal → IsToldBy refusal f → HasCause bytes f
+has_cause bytes refusal (fault.Refused number what) cause told = (refusal, cause, told.0, told.1)
+has_cause bytes refusal fault.NoMemory cause told = told
+
+-- a cause in bytes that aren't too many, and the only cause of bytes that are
+pub within : (bytes : List ℕ) (refusal : Refusal) → length bytes ≤ most_bytes → Refuses bytes refusal → Fails bytes refusal
+within bytes _ few (too_long more) = absurd (omega arith)
+within bytes _ few (fails refusal size f) = f
+
+pub beyond : (bytes : List ℕ) (refusal : Refusal) → most_bytes < length bytes → Refuses bytes refusal → refusal ≡ TooLong
+beyond bytes _ more (too_long many) = refl
+beyond bytes _ more (fails refusal few f) = absurd (omega arith)

@@ -3,3 +3,4 @@ pub mod InTurn
 pub mod Outcomes
 pub mod Answering
 pub mod Printing
+mod Failing

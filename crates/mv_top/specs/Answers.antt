@@ -4,12 +4,16 @@ use Rattle.std.specs.Option.{ForSome}
 use Rattle.std.specs.declared.alloc.Global.{Global}
 use Rattle.mv_edge.specs.Edge.{Rose, Writes, WritesFront}
 use Rattle.mv_lex.specs.declared.token.Token.{Token}
-use Rattle.mv_lex.specs.Tokens.{AreTokens}
+use Rattle.mv_lex.specs.Tokens.{AreTokens, IsBadByte, IsBadToken}
 use Rattle.mv_ast.specs.declared.tree.Script.{Script}
-use Rattle.mv_ast.specs.Lexemes.{IsScript}
+use Rattle.mv_ast.specs.declared.limit.Which.{Which}
+use Rattle.mv_ast.specs.Lexemes.{IsScript, CannotStand, PassesLimit}
 use Rattle.mv_catalog.specs.declared.resolved.Program.{Program}
 use Rattle.mv_catalog.specs.First.{first}
 use Rattle.mv_top.specs.History.{text, in_turn}
+use Rattle.mv_top.specs.Refusals.{number_of, line_of}
+use Rattle.mv_top.specs.declared.refusal.Refusal.{Refusal}
+use Rattle.mv_top.specs.declared.refusal.Refusal.TheVariants as why
 use Rattle.mv_top.specs.declared.status.Status.{Status}
 use Rattle.mv_top.specs.declared.status.Status.TheVariants.{Done, Refused, Usage, NoMemory, ReadFault, WriteFault}
 use Rattle.mv_top.specs.declared.status.Fault.{Fault}
@@ -32,10 +36,34 @@ pub record IsFirst (bytes : List ℕ) (program : Program) : Type 0 where
 abbrev pub IsRunText : List ℕ → List ℕ → Type 0
 IsRunText bytes answer = (program : Program) × IsFirst bytes program × (answer ≡ text program (in_turn program))
 
--- which refusal these bytes get, and its line: 1 where they are too many, and else 22 where they are no first script
-pub data IsRefusal (bytes : List ℕ) : ℕ → List ℕ → Type 0 where
-  too_long : most_bytes < length bytes → IsRefusal bytes 1 (codes "refused 1 too long")
-  not_built : length bytes ≤ most_bytes → ((program : Program) → IsFirst bytes program → ⊥) → IsRefusal bytes 22 (codes "refused 22 not built")
+-- why bytes have no tokens
+pub data HasNoTokens (bytes : List ℕ) : Refusal → Type 0 where
+  bad_byte : (at : ℕ) → IsBadByte bytes at → HasNoTokens bytes (why.Byte at)
+  bad_token : (at : ℕ) → IsBadToken bytes at → HasNoTokens bytes (why.Token at)
+
+-- why tokens are no script within the limits: depth and stretch are looked at before the grammar, the other limits after it
+pub data IsNoScript (bytes : List ℕ) (tokens : List Token) : Refusal → Type 0 where
+  syntax : (token : ℕ) → CannotStand bytes tokens token → IsNoScript bytes tokens (why.Syntax token)
+  limit : (which : Which) (token : ℕ) → PassesLimit bytes tokens which token → IsNoScript bytes tokens (why.Limit which token)
+
+-- why tokens are refused that are a script within the limits
+pub data IsNotTaken (bytes : List ℕ) (tokens : List Token) : Refusal → Type 0 where
+  not_built : (script : Script) → IsScript bytes tokens script → first script.items ≡ None → IsNotTaken bytes tokens why.NotBuilt
+
+-- why bytes that aren't too many are refused
+pub data Fails (bytes : List ℕ) : Refusal → Type 0 where
+  no_tokens : (refusal : Refusal) → HasNoTokens bytes refusal → Fails bytes refusal
+  no_script : (tokens : List Token) (refusal : Refusal) → AreTokens bytes tokens → IsNoScript bytes tokens refusal → Fails bytes refusal
+  not_taken : (tokens : List Token) (refusal : Refusal) → AreTokens bytes tokens → IsNotTaken bytes tokens refusal → Fails bytes refusal
+
+-- why bytes are refused
+pub data Refuses (bytes : List ℕ) : Refusal → Type 0 where
+  too_long : most_bytes < length bytes → Refuses bytes why.TooLong
+  fails : (refusal : Refusal) → length bytes ≤ most_bytes → Fails bytes refusal → Refuses bytes refusal
+
+-- the number and the line of a refusal that these bytes get
+abbrev pub IsRefusal : List ℕ → ℕ → List ℕ → Type 0
+IsRefusal bytes number what = (refusal : Refusal) × Refuses bytes refusal × (number ≡ number_of refusal) × (what ≡ line_of refusal)
 
 -- a refusal has its cause in the bytes
 abbrev pub HasCause : List ℕ → Fault → Type 0
@@ -93,3 +121,12 @@ RanOr Refused old new program = ⊥
 RanOr Usage old new program = ⊥
 RanOr ReadFault old new program = ⊥
 RanOr WriteFault old new program = ⊥
+
+-- memory was not found, or the line of the refusal was written
+abbrev pub RefusedOr : Status → Option (List ℕ) → Option (List ℕ) → Refusal → Type 0
+RefusedOr Refused old new refusal = Writes old new (line (line_of refusal))
+RefusedOr NoMemory old new refusal = new ≡ old
+RefusedOr Done old new refusal = ⊥
+RefusedOr Usage old new refusal = ⊥
+RefusedOr ReadFault old new refusal = ⊥
+RefusedOr WriteFault old new refusal = ⊥

@@ -1,3 +1,5 @@
 pub mod History
+pub mod Refusals
 pub mod Answers
+pub mod Failing
 pub mod Turns

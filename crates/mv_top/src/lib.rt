@@ -3,6 +3,7 @@
 
 pub mod answer;
 mod program;
+pub mod refusal;
 pub mod status;
 #[cfg(test)]
 mod tests;

@@ -189,6 +189,118 @@ fn faults_of_the_source_and_the_sink(rt: HostRuntime) -> Result<(), Fail> {
     assert_eq!(rt; written.as_str(), "reply 0 done\n105\n");
     let (status, written) = run(&rt, rt.alloc(), &["run"], b"x", &[], 10)?;
     assert_eq!(rt; status, Status::WriteFault);
-    assert_eq!(rt; written.as_str(), "refused 22");
+    assert_eq!(rt; written.as_str(), "refused 4 ");
+    Ok(())
+}
+
+/// The line of the refusal of an input.
+fn refusal<R: Threads + Wait + Sync>(rt: &R, alloc: Global, input: &[u8]) -> Result<String, Fail> {
+    let (status, written) = run(rt, alloc, &["run"], input, &[], ROOM)?;
+    if status != Status::Refused {
+        return Err("it is not refused".into());
+    }
+    Ok(written)
+}
+
+#[test]
+fn refusals_name_their_place(rt: HostRuntime) -> Result<(), Fail> {
+    let alloc = rt.alloc();
+    for (input, want) in [
+        ("\x7f", "refused 2 byte 0"),
+        ("CALL p();\x00", "refused 2 byte 9"),
+        (
+            "CREATE TABLE a (id INT, t TEXT(4), PRIMARY KEY (id)) VALUES (1, 'ab",
+            "refused 3 token at 64",
+        ),
+        ("CALL 'a''", "refused 3 token at 8"),
+        ("x", "refused 4 syntax at token 1"),
+        ("CALL p()", "refused 4 syntax at token 5"),
+        ("CALL p(,);", "refused 4 syntax at token 4"),
+        (
+            "CREATE PROCEDURE p () BEGIN SET :x = 1 END;",
+            "refused 4 syntax at token 11",
+        ),
+        (
+            "CALL p(9223372036854775808);",
+            "refused 5 limit literal at token 4",
+        ),
+        ("CALL p(-9223372036854775807);", "refused 22 not built"),
+        (
+            "CREATE TABLE t (id TEXT(0), PRIMARY KEY (id));",
+            "refused 5 limit text at token 8",
+        ),
+        (
+            "CREATE TABLE t (id INT, PRIMARY KEY (id, id, id, id, id, id, id, id, id));",
+            "refused 5 limit key at token 27",
+        ),
+        ("CREATE PROCEDURE p () BEGIN END;", "refused 22 not built"),
+    ] {
+        let line = refusal(&rt, rt.alloc(), input.as_bytes())?;
+        let want = format!(in alloc; "{want}\n")?;
+        assert_eq!(rt; line.as_str(), want.as_str(), "{input}");
+    }
+    Ok(())
+}
+
+#[test]
+fn refusals_at_a_limit_and_past_it(rt: HostRuntime) -> Result<(), Fail> {
+    let alloc = rt.alloc();
+    for (front, repeated, count, back, want) in [
+        (
+            "CREATE PROCEDURE p () BEGIN SET :x = ",
+            "(",
+            33,
+            "",
+            "refused 5 limit depth at token 41",
+        ),
+        (
+            "CREATE PROCEDURE p () BEGIN SET :x = ",
+            "(",
+            31,
+            "",
+            "refused 4 syntax at token 41",
+        ),
+        ("CALL ", "a", 64, "();", "refused 22 not built"),
+        ("CALL ", "a", 65, "();", "refused 5 limit name at token 2"),
+        (
+            "CREATE PROCEDURE p () BEGIN SET :x = ",
+            "NOT ",
+            991,
+            "",
+            "refused 4 syntax at token 1001",
+        ),
+        (
+            "CREATE PROCEDURE p () BEGIN SET :x = ",
+            "NOT ",
+            992,
+            "",
+            "refused 5 limit stretch at token 1001",
+        ),
+    ] {
+        let mut input = String::from_str(alloc, front)?;
+        for _ in 0..count {
+            input.push_str(repeated)?;
+        }
+        input.push_str(back)?;
+        let line = refusal(&rt, rt.alloc(), input.as_bytes())?;
+        let want = format!(in alloc; "{want}\n")?;
+        assert_eq!(rt; line.as_str(), want.as_str(), "{front}{repeated}{count}");
+    }
+    Ok(())
+}
+
+#[test]
+fn inputs_of_the_greatest_size(rt: HostRuntime) -> Result<(), Fail> {
+    let alloc = rt.alloc();
+    let mut input = List::new(alloc);
+    for _ in 0..4096 {
+        input.append(&[b' '; 4096])?;
+    }
+    let (status, written) = run(&rt, rt.alloc(), &["run"], input.as_slice(), &[], ROOM)?;
+    assert_eq!(rt; status, Status::Done);
+    assert_eq!(rt; written.as_str(), "history\njournal\nend\n");
+    input.push(b' ')?;
+    let line = refusal(&rt, rt.alloc(), input.as_slice())?;
+    assert_eq!(rt; line.as_str(), "refused 1 too long\n");
     Ok(())
 }

@@ -3,7 +3,9 @@
 ghost use Rattle.std.specs.Prelude.{◌≡◌, ◌⊎◌, ◌↔◌, ℕ, List as Seq, Some, IsTrue, IfOk, string_bytes};
 ghost use Rattle.mv_edge.specs.Edge.{Rose};
 ghost use Rattle.mv_catalog.specs.declared.resolved.Program.{Program};
-ghost use Rattle.mv_top.specs.Answers.{IsFirst, IsAnswered, Puts, Wrote, RanOr, words_of, run_words, line, usage_line};
+ghost use Rattle.mv_top.specs.declared.refusal.Refusal.{Refusal as Why};
+ghost use Rattle.mv_top.specs.Refusals.{line_of};
+ghost use Rattle.mv_top.specs.Answers.{IsFirst, Refuses, IsAnswered, Puts, Wrote, RanOr, RefusedOr, words_of, run_words, line, usage_line};
 ghost use Rattle.mv_top.specs.History.{text, in_turn};
 
 use crate::answer::answer;
@@ -40,6 +42,10 @@ pub fn top<R: Threads + Wait + Sync, S: Source, K: Sink, P: Pace>(
     ensures complete { (all : Seq ℕ) (program : Program) → words_of words.now ≡ run_words → S.left source.old ≡ Some all → IsFirst all program
         → (Rose (S.faults source.old) (S.faults source.new) → ⊥) → (Rose (K.faults sink.old) (K.faults sink.new) → ⊥)
         → RanOr result (K.written sink.old) (K.written sink.new) program }
+    // An input with the cause of a refusal gets its line, unless the source or the sink fails or memory runs out.
+    ensures refuses { (all : Seq ℕ) (refusal : Why) → words_of words.now ≡ run_words → S.left source.old ≡ Some all → Refuses all refusal
+        → (Rose (S.faults source.old) (S.faults source.new) → ⊥) → (Rose (K.faults sink.old) (K.faults sink.new) → ⊥)
+        → RefusedOr result (K.written sink.old) (K.written sink.new) refusal }
 {
     if !is_run(words) {
         return put(sink, Status::Usage, USAGE_LINE);
@@ -80,6 +86,7 @@ fn answered<R: Threads + Wait + Sync, P: Pace>(
 ) -> Result<(Status, List<u8>), NoMemory>
     ensures found { IfOk result (λ answer. IsAnswered bytes.now answer.0 answer.1) }
     ensures only { (program : Program) → IsFirst bytes.now program → IfOk result (λ answer. (answer.0 ≡ Status.Done) × (answer.1 ≡ text program (in_turn program))) }
+    ensures told { (refusal : Why) → Refuses bytes.now refusal → IfOk result (λ answer. (answer.0 ≡ Status.Refused) × (answer.1 ≡ line (line_of refusal))) }
 {
     match answer(rt, alloc, &Command::Run, bytes, pace) {
         Ok(text) => Ok((Status::Done, text)),
