@@ -5,8 +5,6 @@ pub mod build;
 mod build_exprs;
 mod build_names;
 mod build_statements;
-#[cfg(test)]
-mod build_tests;
 pub mod first;
 pub mod refused;
 pub mod resolve;
