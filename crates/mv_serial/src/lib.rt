@@ -11,6 +11,8 @@ mod fixing;
 mod inserting;
 mod line;
 mod order;
+#[cfg(test)]
+mod programs;
 mod run;
 pub mod state;
 mod statements;
