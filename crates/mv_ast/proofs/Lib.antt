@@ -1,1 +1,4 @@
 pub mod Limited
+pub mod Counting
+pub mod Holding
+pub mod Standing

@@ -4,3 +4,4 @@ pub mod Trees
 pub mod Grammar
 pub mod Lexemes
 pub mod Limits
+pub mod Standing

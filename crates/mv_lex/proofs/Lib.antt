@@ -8,3 +8,4 @@ pub mod Pieces
 pub mod Whole
 pub mod Answers
 pub mod Parted
+pub mod Counting
