@@ -8,7 +8,7 @@ use Rattle.mv_ast.specs.declared.limit.Which.{Which}
 use Rattle.mv_ast.specs.declared.limit.Which.TheVariants as limit
 use Rattle.mv_ast.specs.declared.tree.Item.{Item}
 use Rattle.mv_ast.specs.declared.tree.Script.{Script}
-use Rattle.mv_ast.specs.Limits.{first_late, is_counted, is_sooner, item_passes, passes_in, script_passes, sooner, soonest, together, token_passes, too_many, too_many_items}
+use Rattle.mv_ast.specs.Limits.{first_late, is_counted, is_sooner, item_passes, item_token, passes_in, script_passes, sooner, soonest, together, token_passes, too_many, too_many_items}
 
 -- lists that are joined to nothing
 pub nothing_left : {A : Type 0} (xs ys : List A) → xs ++ ys ≡ [] → (xs ≡ []) × (ys ≡ [])
@@ -18,7 +18,7 @@ nothing_left (x ∷ xs) ys h = cc h
 pub nothing_together : {A B : Type 0} (f : A → List B) (xs : List A) → together (map f xs) ≡ [] → All (λ x. f x ≡ []) xs
 nothing_together f [] h = All-nil (λ x. f x ≡ [])
 nothing_together f (x ∷ xs) h =
-    let both = nothing_left (f x) (together (map f xs)) h in
+    let both = nothing_left _ _ h in
     All-cons (λ y. f y ≡ []) x xs both.0 (nothing_together f xs both.1)
 
 -- of two that are there one is
@@ -40,8 +40,7 @@ none_soonest [] h = refl
 none_soonest (p ∷ ps) h = absurd (stays (Some p) p ps refl h)
 
 pub kept : (bytes : List ℕ) (lexemes : List Lexeme) (script : Script) → first_late bytes lexemes script ≡ None → script_passes script ≡ []
-kept bytes lexemes script h =
-    (nothing_left (token_passes bytes lexemes) (script_passes script) (none_soonest (token_passes bytes lexemes ++ script_passes script) h)).1
+kept bytes lexemes script h = (nothing_left _ _ (none_soonest (token_passes bytes lexemes ++ script_passes script) h)).1
 
 -- a list that doesn't pass its limit has no more items than that
 pub few : {A : Type 0} (which : Which) (most : ℕ) (token : A → ℕ) (items : List A) → too_many which most token items ≡ [] → length items ≤ most
@@ -50,32 +49,23 @@ few which zero token (x ∷ xs) h = cc h
 few which (suc most) token (x ∷ xs) h = let less = few which most token xs h in omega arith
 
 -- the parts of what a script passes
-pub tables_kept : (script : Script) → script_passes script ≡ [] → length (filter (λ (i : Item). is_counted limit.Tables i.kind) script.items) ≤ 64
-tables_kept script h =
-    let tables = too_many_items limit.Tables 64 script.items in
-    let rest = too_many_items limit.Procedures 256 script.items ++ (too_many_items limit.Calls 1000000 script.items ++ together (map passes_in script.items)) in
-    few limit.Tables 64 (λ (i : Item). i.token) (filter (λ (i : Item). is_counted limit.Tables i.kind) script.items) (nothing_left tables rest h).0
-
 behind_tables : (script : Script) → script_passes script ≡ [] → too_many_items limit.Procedures 256 script.items ++ (too_many_items limit.Calls 1000000 script.items ++ together (map passes_in script.items)) ≡ []
-behind_tables script h =
-    (nothing_left (too_many_items limit.Tables 64 script.items) (too_many_items limit.Procedures 256 script.items ++ (too_many_items limit.Calls 1000000 script.items ++ together (map passes_in script.items))) h).1
+behind_tables script h = (nothing_left _ _ h).1
+
+behind_procedures : (script : Script) → script_passes script ≡ [] → too_many_items limit.Calls 1000000 script.items ++ together (map passes_in script.items) ≡ []
+behind_procedures script h = (nothing_left _ _ (behind_tables script h)).1
+
+pub tables_kept : (script : Script) → script_passes script ≡ [] → length (filter (λ (i : Item). is_counted limit.Tables i.kind) script.items) ≤ 64
+tables_kept script h = few limit.Tables 64 item_token (filter (λ (i : Item). is_counted limit.Tables i.kind) script.items) (nothing_left _ _ h).0
 
 pub procedures_kept : (script : Script) → script_passes script ≡ [] → length (filter (λ (i : Item). is_counted limit.Procedures i.kind) script.items) ≤ 256
 procedures_kept script h =
-    let procedures = too_many_items limit.Procedures 256 script.items in
-    let rest = too_many_items limit.Calls 1000000 script.items ++ together (map passes_in script.items) in
-    few limit.Procedures 256 (λ (i : Item). i.token) (filter (λ (i : Item). is_counted limit.Procedures i.kind) script.items) (nothing_left procedures rest (behind_tables script h)).0
-
-behind_procedures : (script : Script) → script_passes script ≡ [] → too_many_items limit.Calls 1000000 script.items ++ together (map passes_in script.items) ≡ []
-behind_procedures script h =
-    (nothing_left (too_many_items limit.Procedures 256 script.items) (too_many_items limit.Calls 1000000 script.items ++ together (map passes_in script.items)) (behind_tables script h)).1
+    few limit.Procedures 256 item_token (filter (λ (i : Item). is_counted limit.Procedures i.kind) script.items) (nothing_left _ _ (behind_tables script h)).0
 
 pub calls_kept : (script : Script) → script_passes script ≡ [] → length (filter (λ (i : Item). is_counted limit.Calls i.kind) script.items) ≤ 1000000
 calls_kept script h =
-    few limit.Calls 1000000 (λ (i : Item). i.token) (filter (λ (i : Item). is_counted limit.Calls i.kind) script.items)
-    (nothing_left (too_many_items limit.Calls 1000000 script.items) (together (map passes_in script.items)) (behind_procedures script h)).0
+    few limit.Calls 1000000 item_token (filter (λ (i : Item). is_counted limit.Calls i.kind) script.items) (nothing_left _ _ (behind_procedures script h)).0
 
 -- no item passes a limit
 pub items_kept : (script : Script) → script_passes script ≡ [] → All (λ (i : Item). item_passes i.kind ≡ []) script.items
-items_kept script h =
-    nothing_together passes_in script.items (nothing_left (too_many_items limit.Calls 1000000 script.items) (together (map passes_in script.items)) (behind_procedures script h)).1
+items_kept script h = nothing_together passes_in script.items (nothing_left _ _ (behind_procedures script h)).1
