@@ -26,7 +26,7 @@ use Rattle.mv_parser.proofs.Whole.{script_takes, script_clear}
 use Rattle.mv_parser.proofs.Levels.{level, inner_begun, inner_shorter}
 use Rattle.mv_parser.proofs.Enough.{enough, enough_begin}
 use Rattle.mv_parser.proofs.Parsing.{answers_found, same_answer, no_fault}
-use Rattle.mv_parser.proofs.Counting.{length_lexemes}
+use Rattle.mv_ast.proofs.Counting.{length_lexemes}
 
 whole_err : {A : Type 0} (v : A) (ts : List Lexeme) (n : ℕ) → whole v ts ≡ Err n → length ts ≡ n
 whole_err v [] n h = cc

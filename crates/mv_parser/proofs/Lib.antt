@@ -17,6 +17,5 @@ pub mod Inside
 pub mod Prefixes
 pub mod Parsing
 pub mod Printables
-pub mod Counting
 pub mod Faults
 pub mod Lexed

@@ -1,5 +1,5 @@
 use Rattle.std.proofs.Common.{arith}
-use Rattle.mv_parser.proofs.Counting.{few_tokens}
+use Rattle.mv_lex.proofs.Counting.{few_tokens}
 use Rattle.mv_parser.proofs.Faults.{tells_found, tells_only, tells_syntax, tells_syntax_told, tells_limit, tells_limit_told}
 use Rattle.mv_parser.proofs.parse.parse.Goals as goal
 

@@ -1,6 +1,6 @@
 use Rattle.std.proofs.Common.{ap, arith, length, List}
 use Rattle.mv_ast.specs.declared.lexeme.Lexeme.{Lexeme}
-use Rattle.mv_parser.proofs.Counting.{length_lexemes}
+use Rattle.mv_ast.proofs.Counting.{length_lexemes}
 use Rattle.mv_parser.proofs.parse.read_script.Goals as goal
 
 pub overflow_cast-result : goal.overflow_cast-result
