@@ -1,7 +1,7 @@
 -- What the fields of a record are to the columns of a table. The forms are this project's own: a number is an optional
 -- `-` and decimal digits, leading zeros allowed, within 64 bits; a text is bytes from 32 to 126, no more than its column
 -- allows.
-use Rattle.std.specs.Prelude.{◌≡◌, ◌++◌, ◌∷◌, ◌+◌, ◌^◌, ◌==◌, ◌&&◌, if◌then◌else◌, ⊤, ℕ, Bool, List, [], map, length, Option, Some, None, option_map, ℤ, pos, neg_ℤ, nat_lt, nat_le, IsTrue}
+use Rattle.std.specs.Prelude.{◌≡◌, ◌++◌, ◌∷◌, ◌+◌, ◌^◌, ◌==◌, ◌&&◌, if◌then◌else◌, ℕ, Bool, List, [], map, length, Option, Some, None, option_map, ℤ, pos, neg_ℤ, nat_lt, nat_le, IsTrue}
 use Rattle.std.specs.List.{list_all}
 use Rattle.std.specs.Str.{all_ascii_digits}
 use Rattle.std.specs.Str.Parse.{digits_value}
@@ -61,9 +61,9 @@ IsFirstMisfit columns fields number =
     × (values_in columns fields ≡ map Some front ++ None ∷ rest)
     × (number ≡ length front + 1)
 
--- why the record with this number is no row; nothing is said of want of memory
+-- why the record with this number is no row
 abbrev pub IsNoRow : List Column → List (List ℕ) → ℕ → CopyFault → Type 0
 IsNoRow columns fields number (fault.Field r c) = (r ≡ number) × IsFirstMisfit columns fields c
 IsNoRow columns fields number (fault.Width r) = (r ≡ number) × ¬ (length fields ≡ length columns)
 IsNoRow columns fields number (fault.Duplicate r) = ⊥
-IsNoRow columns fields number fault.NoMemory = ⊤
+IsNoRow columns fields number fault.NoMemory = ⊥

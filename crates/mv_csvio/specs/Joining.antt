@@ -1,5 +1,5 @@
 -- Rows that join the rows of a table. Each row stands under its key, and no two have the same key.
-use Rattle.std.specs.Prelude.{◌≡◌, ◌++◌, ◌∷◌, ◌+◌, ⊤, ℕ, List, [], map, length, Contains, IsPermutation}
+use Rattle.std.specs.Prelude.{◌≡◌, ◌++◌, ◌∷◌, ◌+◌, ℕ, List, [], map, length, Contains, IsPermutation}
 use Rattle.mv_values.specs.declared.value.Value.{Value}
 use Rattle.mv_values.specs.declared.rows.Keyed.{Keyed}
 use Rattle.mv_values.specs.declared.schema.TableInfo.{TableInfo}
@@ -20,10 +20,10 @@ HasJoined table before rows after = IsRising after × IsPermutation (before ++ m
 abbrev pub HasKey : List Keyed → List Value → Type 0
 HasKey rows key = Contains (map (λ item. item.key) rows) key
 
--- the row can't join those that are there, since its key is; nothing is said of want of memory
+-- why the row with this number can't join those that are there: its key is
 abbrev pub IsDuplicate : TableInfo → List Keyed → List Value → ℕ → CopyFault → Type 0
 IsDuplicate table there row number (fault.Duplicate r) = (r ≡ number) × HasKey there (columns_of row table.key)
-IsDuplicate table there row number fault.NoMemory = ⊤
+IsDuplicate table there row number fault.NoMemory = ⊥
 IsDuplicate table there row number (fault.Field r c) = ⊥
 IsDuplicate table there row number (fault.Width r) = ⊥
 
@@ -37,9 +37,9 @@ IsFirstDuplicate table rows number =
     × HasKey there (columns_of row table.key)
     × (number ≡ length front + 1)
 
--- why the rows of VALUES can't be taken; nothing is said of want of memory
+-- why the rows of VALUES can't be taken
 abbrev pub TellsOfValues : TableInfo → List (List Value) → CopyFault → Type 0
 TellsOfValues table rows (fault.Duplicate row) = IsFirstDuplicate table rows row
-TellsOfValues table rows fault.NoMemory = ⊤
+TellsOfValues table rows fault.NoMemory = ⊥
 TellsOfValues table rows (fault.Field row column) = ⊥
 TellsOfValues table rows (fault.Width row) = ⊥

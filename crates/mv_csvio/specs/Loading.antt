@@ -1,5 +1,5 @@
 -- What a block of CSV adds to the rows of a table.
-use Rattle.std.specs.Prelude.{◌≡◌, ◌++◌, ◌∷◌, ◌+◌, ⊤, ℕ, List, length}
+use Rattle.std.specs.Prelude.{◌≡◌, ◌++◌, ◌∷◌, ◌+◌, ℕ, List, length}
 use Rattle.std.specs.List.{AllZip}
 use Rattle.csv.specs.Reading.{default_config, records, strip_bom}
 use Rattle.mv_values.specs.declared.value.Value.{Value}
@@ -38,8 +38,3 @@ IsFirstBad table before block f =
     × (block ≡ front ++ bad ∷ rest)
     × HasLoaded table before front there
     × IsBad table there bad (length front + 1) f
-
--- why a block can't be taken; nothing is said of want of memory
-abbrev pub TellsOfBlock : TableInfo → List Keyed → List Record → CopyFault → Type 0
-TellsOfBlock table before block fault.NoMemory = ⊤
-TellsOfBlock table before block f = IsFirstBad table before block f

@@ -1,7 +1,10 @@
 //! The rows of VALUES under their keys.
 
-ghost use Rattle.std.specs.Prelude.{◌≡◌, ◌<◌, ◌^◌, ◌+◌, ◌++◌, ◌∷◌, [], map, length, IfOk, IfErr, MatchResult, IsPermutation};
+ghost use Rattle.std.specs.Prelude.{◌≡◌, ◌<◌, ◌^◌, ◌++◌, ◌∷◌, ◌⊎◌, [], length, Err, IfOk, IfErr, List as Seq, MatchResult, IsPermutation};
 ghost use Rattle.mv_values.specs.Keys.{IsRising};
+ghost use Rattle.mv_values.specs.declared.rows.Keyed.{Keyed};
+ghost use Rattle.mv_csvio.specs.declared.fault.CopyFault.{CopyFault};
+ghost use Rattle.mv_csvio.specs.declared.fault.CopyFault.TheVariants as fault;
 ghost use Rattle.mv_csvio.specs.Joining.{HasJoined, IsDuplicate, TellsOfValues, under_key};
 
 use crate::fault::CopyFault;
@@ -19,7 +22,23 @@ use std::alloc::Global;
 pub fn gather(alloc: Global, rows: &List<Row>, table: &TableInfo) -> Result<Rows, CopyFault>
     requires { length rows.now < 2 ^ 32 }
     ensures rows { IfOk result (HasJoined table.now [] rows.now) }
-    ensures fault { IfErr result (TellsOfValues table.now rows.now) }
+    ensures only { (joined : Seq Keyed) → HasJoined table.now [] rows.now joined → MatchResult result (λ answer. answer ≡ joined) (λ f. f ≡ fault.NoMemory) }
+    ensures fault { IfErr result (λ f. (f ≡ fault.NoMemory) ⊎ TellsOfValues table.now rows.now f) }
+    ensures told { (f : CopyFault) → TellsOfValues table.now rows.now f → (result ≡ Err f) ⊎ (result ≡ Err fault.NoMemory) }
+{
+    let joining = join_values(alloc, rows, table)?;
+    Ok(joining.into_rows(alloc)?)
+}
+
+/// As `gather`, but more rows can join those of the answer.
+pub fn join_values(
+    alloc: Global,
+    rows: &List<Row>,
+    table: &TableInfo,
+) -> Result<Joining, CopyFault>
+    requires { length rows.now < 2 ^ 32 }
+    ensures rows { IfOk result (HasJoined table.now [] rows.now) }
+    ensures fault { IfErr result (λ f. (f ≡ fault.NoMemory) ⊎ TellsOfValues table.now rows.now f) }
 {
     let mut joining = Joining::new(alloc);
     let mut number = 0;
@@ -27,7 +46,7 @@ pub fn gather(alloc: Global, rows: &List<Row>, table: &TableInfo) -> Result<Rows
         number += 1;
         join_row(alloc, &mut joining, table, row.copy(alloc)?, number)?;
     }
-    Ok(joining.into_rows(alloc)?)
+    Ok(joining)
 }
 
 /// Adds a row under its key, the row with this number of those that join.
@@ -38,7 +57,7 @@ pub(crate) fn join_row(
     row: Row,
     number: u32,
 ) -> Result<(), CopyFault>
-    ensures { MatchResult result (λ _. IsRising joining.new × IsPermutation (joining.old ++ under_key table.now row ∷ []) joining.new) (IsDuplicate table.now joining.old row number) }
+    ensures { MatchResult result (λ _. IsRising joining.new × IsPermutation (joining.old ++ under_key table.now row ∷ []) joining.new) (λ f. (f ≡ fault.NoMemory) ⊎ IsDuplicate table.now joining.old row number f) }
 {
     let key = key_of(alloc, row.as_slice(), table.key.as_slice())?;
     if !joining.join(Keyed { key, row })? {

@@ -15,7 +15,7 @@ use std::marker::Model;
 
 /// Rows by key, of which more can join. Contracts see the rows in the order of their keys.
 #[derive(Drop)]
-pub(crate) struct Joining {
+pub struct Joining {
     rows: BTreeMap<Key, Row>,
 }
 
@@ -31,7 +31,7 @@ impl Model for Joining {
 
 impl Joining {
     /// No rows. It takes no memory.
-    pub(crate) fn new(alloc: Global) -> Joining
+    pub fn new(alloc: Global) -> Joining
         ensures { result ≡ [] }
     {
         Joining {
@@ -40,7 +40,7 @@ impl Joining {
     }
 
     /// The rows of a table.
-    pub(crate) fn of(alloc: Global, rows: Rows) -> Result<Joining, NoMemory>
+    pub fn of(alloc: Global, rows: Rows) -> Result<Joining, NoMemory>
         ensures rows { IfOk result (λ joining. joining ≡ rows) }
         ensures rising { IsRising rows }
     {
@@ -62,8 +62,8 @@ impl Joining {
         Ok(true)
     }
 
-    /// The rows.
-    pub(crate) fn into_rows(self, alloc: Global) -> Result<Rows, NoMemory>
+    /// The rows, as those of a table.
+    pub fn into_rows(self, alloc: Global) -> Result<Rows, NoMemory>
         ensures { IfOk result (λ rows. rows ≡ self) }
     {
         let mut rows = Rows::new(alloc);

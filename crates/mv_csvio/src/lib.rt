@@ -5,7 +5,7 @@ pub mod dump;
 pub mod fault;
 mod fields;
 pub mod gather;
-mod joining;
+pub mod joining;
 pub mod laws;
 pub mod load;
 mod record;

@@ -1,13 +1,16 @@
 //! Blocks of CSV into the rows of a table.
 
-ghost use Rattle.std.specs.Prelude.{◌≡◌, ◌<◌, ◌^◌, [], ℕ, None, length, IfErr, IfOk, List as Seq, MatchResult, OnOk};
+ghost use Rattle.std.specs.Prelude.{◌≡◌, ◌<◌, ◌^◌, ◌⊎◌, [], ℕ, None, length, Err, IfErr, IfOk, List as Seq, MatchResult, OnOk};
 ghost use Rattle.std.specs.Bool.{MatchBool};
 ghost use Rattle.csv.specs.Machine.{next_record};
 ghost use Rattle.csv.specs.Reading.{default_config, strip_bom};
 ghost use Rattle.csv.specs.declared.parser.State.{State};
 ghost use Rattle.csv.specs.declared.parser.State.TheVariants as state;
 ghost use Rattle.mv_values.specs.Keys.{IsRising};
-ghost use Rattle.mv_csvio.specs.Loading.{HasLoaded, TellsOfBlock, records_of};
+ghost use Rattle.mv_values.specs.declared.rows.Keyed.{Keyed};
+ghost use Rattle.mv_csvio.specs.declared.fault.CopyFault.{CopyFault};
+ghost use Rattle.mv_csvio.specs.declared.fault.CopyFault.TheVariants as fault;
+ghost use Rattle.mv_csvio.specs.Loading.{HasLoaded, IsFirstBad, records_of};
 ghost use Rattle.mv_csvio.specs.Reading.{HasRead, StandsAt};
 
 use crate::fault::CopyFault;
@@ -33,7 +36,9 @@ pub fn load(
     requires block { length block.now < 2 ^ 32 }
     requires columns { length table.now.columns < 2 ^ 32 }
     ensures ok { OnOk result (HasLoaded table.now rows.old (records_of block.now) rows.new) }
-    ensures fault { IfErr result (TellsOfBlock table.now rows.old (records_of block.now)) }
+    ensures only { (loaded : Seq Keyed) → HasLoaded table.now rows.old (records_of block.now) loaded → MatchResult result (λ _. rows.new ≡ loaded) (λ f. f ≡ fault.NoMemory) }
+    ensures fault { IfErr result (λ f. (f ≡ fault.NoMemory) ⊎ IsFirstBad table.now rows.old (records_of block.now) f) }
+    ensures told { (f : CopyFault) → IsFirstBad table.now rows.old (records_of block.now) f → (result ≡ Err f) ⊎ (result ≡ Err fault.NoMemory) }
 {
     let old = mem::replace(rows, Rows::new(alloc));
     let mut joining = Joining::of(alloc, old)?;
@@ -42,8 +47,8 @@ pub fn load(
     Ok(())
 }
 
-/// Adds the records of a block.
-fn join_records(
+/// As `load`, but more rows can join those that are there then. It costs n log m for a block of n records and m rows in all.
+pub fn join_records(
     alloc: Global,
     block: &[u8],
     table: &TableInfo,
@@ -52,7 +57,7 @@ fn join_records(
     requires block { length block.now < 2 ^ 32 }
     requires columns { length table.now.columns < 2 ^ 32 }
     requires rising { IsRising joining.old }
-    ensures { MatchResult result (λ _. HasLoaded table.now joining.old (records_of block.now) joining.new) (TellsOfBlock table.now joining.old (records_of block.now)) }
+    ensures { MatchResult result (λ _. HasLoaded table.now joining.old (records_of block.now) joining.new) (λ f. (f ≡ fault.NoMemory) ⊎ IsFirstBad table.now joining.old (records_of block.now) f) }
 {
     let mut reader = reader_of(alloc, block);
     let mut fields = ByteRecord::new(alloc);

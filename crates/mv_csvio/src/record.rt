@@ -1,7 +1,8 @@
 //! A record as a row.
 
-ghost use Rattle.std.specs.Prelude.{◌≡◌, ◌<◌, ◌^◌, length, MatchResult};
+ghost use Rattle.std.specs.Prelude.{◌≡◌, ◌<◌, ◌^◌, ◌⊎◌, length, MatchResult};
 ghost use Rattle.csv.specs.Records.{fields_of};
+ghost use Rattle.mv_csvio.specs.declared.fault.CopyFault.TheVariants as fault;
 ghost use Rattle.mv_csvio.specs.Fields.{IsNoRow, IsRow};
 
 use crate::fault::CopyFault;
@@ -21,7 +22,7 @@ pub(crate) fn row_of(
     number: u32,
 ) -> Result<Row, CopyFault>
     requires { length columns.now < 2 ^ 32 }
-    ensures { MatchResult result (IsRow columns.now (fields_of fields.now)) (IsNoRow columns.now (fields_of fields.now) number) }
+    ensures { MatchResult result (IsRow columns.now (fields_of fields.now)) (λ f. (f ≡ fault.NoMemory) ⊎ IsNoRow columns.now (fields_of fields.now) number f) }
 {
     if fields.len() != columns.len() {
         return Err(CopyFault::Width { row: number });

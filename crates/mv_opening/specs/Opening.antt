@@ -109,6 +109,6 @@ TellsOfJournal resolved bytes f =
     × IsOpen resolved.journal
     × (f ≡ fault.OpenBlock)
 
--- why a script has no opening: its VALUES, else a copy, else its journal; nothing is said of want of memory
-abbrev pub TellsOpening : Resolved → List ℕ → OpeningFault → Type 0
-TellsOpening resolved bytes f = (f ≡ fault.NoMemory) ⊎ TellsOfTables resolved f ⊎ TellsOfCopies resolved bytes f ⊎ TellsOfJournal resolved bytes f
+-- why a script has no opening: its VALUES, else a copy, else its journal
+abbrev pub HasNoOpening : Resolved → List ℕ → OpeningFault → Type 0
+HasNoOpening resolved bytes f = TellsOfTables resolved f ⊎ TellsOfCopies resolved bytes f ⊎ TellsOfJournal resolved bytes f

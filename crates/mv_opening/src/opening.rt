@@ -1,16 +1,22 @@
 //! The rows of VALUES, the blocks of the copies, and the journal's block.
 
-ghost use Rattle.std.specs.Prelude.{◌≡◌, ◌<◌, ◌≤◌, ◌+◌, ◌^◌, ◌⊎◌, All, length, MatchResult};
+ghost use Rattle.std.specs.Prelude.{◌≡◌, ◌<◌, ◌≤◌, ◌+◌, ◌^◌, ◌⊎◌, All, Err, IfErr, IfOk, List as Seq, length, MatchResult};
 ghost use Rattle.std.specs.Bool.{MatchBool};
-ghost use Rattle.mv_opening.specs.Opening.{FitTogether, HasCopied, HaveGathered, IsClosed, IsOpen, IsOpening, TellsOfCopy, TellsOfTables, TellsOpening};
+ghost use Rattle.mv_opening.specs.Opening.{FitTogether, HasCopied, HaveGathered, IsClosed, IsOpen, IsOpening, HasNoOpening, TellsOfCopy, TellsOfTables};
+ghost use Rattle.mv_opening.specs.declared.fault.OpeningFault.{OpeningFault};
 ghost use Rattle.mv_opening.specs.declared.fault.OpeningFault.TheVariants as fault;
+ghost use Rattle.mv_values.specs.Keys.{IsRising};
+ghost use Rattle.mv_values.specs.declared.rows.Keyed.{Keyed};
+ghost use Rattle.mv_catalog.specs.Fits.{KeysStand};
 
 use crate::fault::OpeningFault;
 use mv_catalog::resolved::{CopyInfo, Resolved};
-use mv_csvio::gather::gather;
-use mv_csvio::load::load;
+use mv_csvio::gather::join_values;
+use mv_csvio::joining::Joining;
+use mv_csvio::load::join_records;
 use mv_values::list::List;
-use mv_values::rows::{Database, Rows};
+use mv_values::memory::NoMemory;
+use mv_values::rows::Database;
 use mv_values::schema::TableInfo;
 use std::alloc::Global;
 
@@ -19,7 +25,24 @@ use std::alloc::Global;
 /// `OpenBlock` for the journal.
 pub fn opening(alloc: Global, resolved: &Resolved, bytes: &[u8]) -> Result<Database, OpeningFault>
     requires { FitTogether resolved.now bytes.now }
-    ensures { MatchResult result (IsOpening resolved.now bytes.now) (TellsOpening resolved.now bytes.now) }
+    ensures opened { IfOk result (IsOpening resolved.now bytes.now) }
+    ensures only { (tables : Seq (Seq Keyed)) → IsOpening resolved.now bytes.now tables → MatchResult result (λ answer. answer ≡ tables) (λ f. f ≡ fault.NoMemory) }
+    ensures refused { IfErr result (λ f. (f ≡ fault.NoMemory) ⊎ HasNoOpening resolved.now bytes.now f) }
+    ensures told { (f : OpeningFault) → HasNoOpening resolved.now bytes.now f → (result ≡ Err f) ⊎ (result ≡ Err fault.NoMemory) }
+    ensures fits { IfOk result (KeysStand resolved.now.tables) }
+{
+    let tables = join_all(alloc, resolved, bytes)?;
+    Ok(into_database(alloc, tables)?)
+}
+
+/// The rows of VALUES and of the copies, table by table.
+fn join_all(
+    alloc: Global,
+    resolved: &Resolved,
+    bytes: &[u8],
+) -> Result<List<Joining>, OpeningFault>
+    requires { FitTogether resolved.now bytes.now }
+    ensures { MatchResult result (IsOpening resolved.now bytes.now) (λ f. (f ≡ fault.NoMemory) ⊎ HasNoOpening resolved.now bytes.now f) }
 {
     let mut tables = gather_all(alloc, resolved)?;
     for copy in resolved.copies.as_slice() {
@@ -32,7 +55,7 @@ pub fn opening(alloc: Global, resolved: &Resolved, bytes: &[u8]) -> Result<Datab
 }
 
 /// The rows of VALUES of each table.
-fn gather_all(alloc: Global, resolved: &Resolved) -> Result<Database, OpeningFault>
+fn gather_all(alloc: Global, resolved: &Resolved) -> Result<List<Joining>, OpeningFault>
     requires tables { length resolved.now.tables ≤ 256 }
     requires values { length resolved.now.rows ≡ length resolved.now.tables }
     requires rows { All (λ rows. length rows < 2 ^ 32) resolved.now.rows }
@@ -41,7 +64,7 @@ fn gather_all(alloc: Global, resolved: &Resolved) -> Result<Database, OpeningFau
     let mut tables = List::new(alloc);
     let values = resolved.rows.as_slice();
     for (place, table) in resolved.tables.as_slice().iter().enumerate() {
-        match gather(alloc, &values[place], table) {
+        match join_values(alloc, &values[place], table) {
             Ok(rows) => tables.push(rows)?,
             Err(fault) => return Err(OpeningFault::of_rows(fault, place as u8)),
         }
@@ -55,9 +78,10 @@ fn take_copy(
     infos: &[TableInfo],
     bytes: &[u8],
     copy: CopyInfo,
-    tables: &mut Database,
+    tables: &mut List<Joining>,
 ) -> Result<(), OpeningFault>
     requires tables { length tables.old ≡ length infos.now }
+    requires rising { All IsRising tables.old }
     requires table { copy.table < length infos.now }
     requires block { copy.at + copy.len ≤ length bytes.now }
     requires bytes { length bytes.now < 2 ^ 32 }
@@ -70,12 +94,24 @@ fn take_copy(
     let table = copy.table as usize;
     let at = copy.at as usize;
     let block = &bytes[at..at + copy.len as usize];
-    let mut rows = tables.replace(table, Rows::new(alloc));
-    if let Err(fault) = load(alloc, block, &infos[table], &mut rows) {
+    let mut rows = tables.replace(table, Joining::new(alloc));
+    if let Err(fault) = join_records(alloc, block, &infos[table], &mut rows) {
         return Err(OpeningFault::of_rows(fault, copy.table));
     }
     tables.set(table, rows);
     Ok(())
+}
+
+/// The tables, no more rows joining them.
+fn into_database(alloc: Global, mut tables: List<Joining>) -> Result<Database, NoMemory>
+    ensures { IfOk result (λ database. database ≡ tables) }
+{
+    let mut database = List::new(alloc);
+    for place in 0..tables.len() {
+        let joining = tables.replace(place, Joining::new(alloc));
+        database.push(joining.into_rows(alloc)?)?;
+    }
+    Ok(database)
 }
 
 /// Whether there is a block and it has no end.
