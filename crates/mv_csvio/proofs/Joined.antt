@@ -1,5 +1,5 @@
 -- Rows that joined one after another.
-use Rattle.std.proofs.Common.{◌≡◌, ◌++◌, ◌∷◌, ◌<◌, ◌+◌, ℕ, List, [], map, length, take, drop, sym, ap, subst, ◌∙◌, arith, append_assoc, append-nil}
+use Rattle.std.proofs.Common.{◌≡◌, ◌++◌, ◌∷◌, ◌<◌, ◌+◌, ◌⊎◌, inl, inr, ℕ, List, [], map, length, take, drop, sym, ap, subst, ◌∙◌, arith, append_assoc, append-nil}
 use Rattle.std.specs.Prelude.{IsPermutation, slice_index_or}
 use Rattle.std.proofs.lemmas.List.{drop_more, take_more, map-append, take-append-drop, length-take}
 use Rattle.std.proofs.lemmas.List.Sorted.{IsPermutation-trans, IsPermutation-refl, IsPermutation-append_left}
@@ -45,9 +45,10 @@ first_duplicate table rows i row there number lt is h key n =
 
 -- the fault of a row that can't join
 pub tells_of_values : (table : TableInfo) (rows : List (List Value)) (i : ℕ) (row copy : List Value) (there : List Keyed) (number : ℕ) (f : CopyFault) → i < length rows → row ≡ slice_index_or rows i row
-    → HasJoined table [] (take i rows) there → copy ≡ row → number ≡ i + 1 → IsDuplicate table there copy number f → TellsOfValues table rows f
-tells_of_values table rows i row copy there number (fault.Duplicate r) lt is h same n d =
-    first_duplicate table rows i row there r lt is h (subst (λ (k : List Value). HasKey there (columns_of k table.key)) same d.1) (d.0 ∙ n)
-tells_of_values table rows i row copy there number fault.NoMemory lt is h same n d = tt
-tells_of_values table rows i row copy there number (fault.Field r c) lt is h same n d = absurd d
-tells_of_values table rows i row copy there number (fault.Width r) lt is h same n d = absurd d
+    → HasJoined table [] (take i rows) there → copy ≡ row → number ≡ i + 1 → (f ≡ fault.NoMemory) ⊎ IsDuplicate table there copy number f → (f ≡ fault.NoMemory) ⊎ TellsOfValues table rows f
+tells_of_values table rows i row copy there number f lt is h same n (inl e) = inl e
+tells_of_values table rows i row copy there number (fault.Duplicate r) lt is h same n (inr d) =
+    inr (first_duplicate table rows i row there r lt is h (subst (λ (k : List Value). HasKey there (columns_of k table.key)) same d.1) (d.0 ∙ n))
+tells_of_values table rows i row copy there number fault.NoMemory lt is h same n (inr d) = absurd d
+tells_of_values table rows i row copy there number (fault.Field r c) lt is h same n (inr d) = absurd d
+tells_of_values table rows i row copy there number (fault.Width r) lt is h same n (inr d) = absurd d

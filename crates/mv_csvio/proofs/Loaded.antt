@@ -1,5 +1,5 @@
 -- The records of a block, each taken or the first that can't be.
-use Rattle.std.proofs.Common.{◌≡◌, ◌++◌, ◌∷◌, ◌<◌, ◌≤◌, ◌+◌, ◌^◌, ℕ, zero, suc, List, [], length, Some, None, refl, sym, ap, subst, ◌∙◌, arith, append_assoc, length-append}
+use Rattle.std.proofs.Common.{◌≡◌, ◌++◌, ◌∷◌, ◌<◌, ◌≤◌, ◌+◌, ◌^◌, ◌⊎◌, inl, inr, ℕ, zero, suc, List, [], length, Some, None, refl, sym, ap, subst, ◌∙◌, arith, append_assoc, length-append}
 use Rattle.std.specs.Prelude.{IsPermutation}
 use Rattle.std.specs.List.{AllZip}
 use Rattle.csv.specs.Machine.{next_record}
@@ -15,7 +15,7 @@ use Rattle.mv_csvio.specs.declared.fault.CopyFault.{CopyFault}
 use Rattle.mv_csvio.specs.declared.fault.CopyFault.TheVariants as fault
 use Rattle.mv_csvio.specs.Fields.{IsNoRow, IsRow}
 use Rattle.mv_csvio.specs.Joining.{HasJoined, IsDuplicate, under_key}
-use Rattle.mv_csvio.specs.Loading.{HasLoaded, IsBad, IsFirstBad, Record, TellsOfBlock, records_of}
+use Rattle.mv_csvio.specs.Loading.{HasLoaded, IsBad, IsFirstBad, Record, records_of}
 use Rattle.mv_csvio.proofs.Blocks.{all_records, reached_size, records_are, strip_size, takes}
 use Rattle.mv_csvio.proofs.Joined.{joined_more, joined_none}
 
@@ -77,18 +77,21 @@ first_bad table before block front next rest bad there f h loaded is =
 
 -- a record that is no row
 pub tells_no_row : (table : TableInfo) (before : List Keyed) (block : List ℕ) (front : List Record) (next : State) (rest : List ℕ) (bad : Record) (there : List Keyed) (number : ℕ) (f : CopyFault)
-    → ReachedIn block (front ++ bad ∷ []) next rest → HasLoaded table before front there → number ≡ length front + 1 → IsNoRow table.columns bad number f → TellsOfBlock table before (records_of block) f
-tells_no_row table before block front next rest bad there number (fault.Field r c) h loaded n is = first_bad table before block front next rest bad there (fault.Field r c) h loaded (is.0 ∙ n, is.1)
-tells_no_row table before block front next rest bad there number (fault.Width r) h loaded n is = first_bad table before block front next rest bad there (fault.Width r) h loaded (is.0 ∙ n, is.1)
-tells_no_row table before block front next rest bad there number (fault.Duplicate r) h loaded n is = absurd is
-tells_no_row table before block front next rest bad there number fault.NoMemory h loaded n is = tt
+    → ReachedIn block (front ++ bad ∷ []) next rest → HasLoaded table before front there → number ≡ length front + 1 → (f ≡ fault.NoMemory) ⊎ IsNoRow table.columns bad number f
+    → (f ≡ fault.NoMemory) ⊎ IsFirstBad table before (records_of block) f
+tells_no_row table before block front next rest bad there number f h loaded n (inl e) = inl e
+tells_no_row table before block front next rest bad there number (fault.Field r c) h loaded n (inr is) = inr (first_bad table before block front next rest bad there (fault.Field r c) h loaded (is.0 ∙ n, is.1))
+tells_no_row table before block front next rest bad there number (fault.Width r) h loaded n (inr is) = inr (first_bad table before block front next rest bad there (fault.Width r) h loaded (is.0 ∙ n, is.1))
+tells_no_row table before block front next rest bad there number (fault.Duplicate r) h loaded n (inr is) = absurd is
+tells_no_row table before block front next rest bad there number fault.NoMemory h loaded n (inr is) = absurd is
 
 -- a row whose key is there
 pub tells_duplicate : (table : TableInfo) (before : List Keyed) (block : List ℕ) (front : List Record) (next : State) (rest : List ℕ) (bad : Record) (row : List Value) (there : List Keyed) (number : ℕ) (f : CopyFault)
-    → ReachedIn block (front ++ bad ∷ []) next rest → HasLoaded table before front there → number ≡ length front + 1 → IsRow table.columns bad row → IsDuplicate table there row number f
-    → TellsOfBlock table before (records_of block) f
-tells_duplicate table before block front next rest bad row there number (fault.Duplicate r) h loaded n is d =
-    first_bad table before block front next rest bad there (fault.Duplicate r) h loaded (d.0 ∙ n, row, is, d.1)
-tells_duplicate table before block front next rest bad row there number (fault.Field r c) h loaded n is d = absurd d
-tells_duplicate table before block front next rest bad row there number (fault.Width r) h loaded n is d = absurd d
-tells_duplicate table before block front next rest bad row there number fault.NoMemory h loaded n is d = tt
+    → ReachedIn block (front ++ bad ∷ []) next rest → HasLoaded table before front there → number ≡ length front + 1 → IsRow table.columns bad row → (f ≡ fault.NoMemory) ⊎ IsDuplicate table there row number f
+    → (f ≡ fault.NoMemory) ⊎ IsFirstBad table before (records_of block) f
+tells_duplicate table before block front next rest bad row there number f h loaded n is (inl e) = inl e
+tells_duplicate table before block front next rest bad row there number (fault.Duplicate r) h loaded n is (inr d) =
+    inr (first_bad table before block front next rest bad there (fault.Duplicate r) h loaded (d.0 ∙ n, row, is, d.1))
+tells_duplicate table before block front next rest bad row there number (fault.Field r c) h loaded n is (inr d) = absurd d
+tells_duplicate table before block front next rest bad row there number (fault.Width r) h loaded n is (inr d) = absurd d
+tells_duplicate table before block front next rest bad row there number fault.NoMemory h loaded n is (inr d) = absurd d

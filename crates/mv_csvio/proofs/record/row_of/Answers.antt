@@ -1,4 +1,4 @@
-use Rattle.std.proofs.Common.{◌≡◌, ◌<◌, ◌+◌, length, Some, None, refl, sym, ap, ◌∙◌, arith, rules}
+use Rattle.std.proofs.Common.{◌≡◌, ◌<◌, ◌+◌, length, Some, None, inr, refl, sym, ap, ◌∙◌, arith, rules}
 use Rattle.csv.specs.Records.{field_at, fields_of}
 use Rattle.mv_csvio.specs.Fields.{value_in}
 use Rattle.mv_csvio.proofs.Rows.{field_there, value_more, misfit, all_values, one_longer}
@@ -11,7 +11,8 @@ returns-in_default c =
 
 pub returns-in_default-2 : goal.returns-in_default-2
 returns-in_default-2 c =
-    let inv = c.loop-column.invariant in (
+    let inv = c.loop-column.invariant in
+    inr (
       refl,
       misfit c.args.columns.now (fields_of c.args.fields.now) c.loop-column.column-index (c.loop-column.place + 1) c.column-item.result c.in-Some.field.now c.loop-column.row
           c.loop-column-test.true c.column-item.is (search rules) (search rules) inv.1 inv.3 (search rules),
