@@ -1,12 +1,12 @@
 use Rattle.std.proofs.Common.{◌≡◌, ◌<◌, ◌∙◌, List, length, refl, ap, sym, subst, rules}
 use Rattle.std.proofs.lemmas.Result.{err_from_is_err_and}
-use Rattle.mv_opening.proofs.Opened.{copied_at, copied_length, first_copy_at, gathered_length}
-use Rattle.mv_opening.proofs.opening.opening.Goals as goal
+use Rattle.mv_opening.proofs.Opened.{copied_at, copied_length, copied_rise, first_copy_at, gathered_length, gathered_rise}
+use Rattle.mv_opening.proofs.opening.join_all.Goals as goal
 
 pub loop-copy-init : goal.loop-copy-init
 loop-copy-init c =
     let tables = c.in_ok-tables.tables in
-    (tables, c.in_ok-tables.ensures, refl, gathered_length c.args.resolved.now.tables c.args.resolved.now.rows tables c.in_ok-tables.ensures)
+    (tables, c.in_ok-tables.ensures, refl, gathered_length c.args.resolved.now.tables c.args.resolved.now.rows tables c.in_ok-tables.ensures, gathered_rise c.args.resolved.now.tables c.args.resolved.now.rows tables c.in_ok-tables.ensures)
 
 pub returns-in_err-take_copy : goal.returns-in_err-take_copy
 returns-in_err-take_copy c =
@@ -26,4 +26,5 @@ loop-copy-preserved c =
       inv.1,
       copied_at c.args.resolved.now c.args.bytes.now inv.0 c.loop-copy.tables c.take_copy.new.tables c.loop-copy.copy-index _ within inv.2 taken,
       copied_length c.args.resolved.now.tables c.args.bytes.now c.loop-copy.tables _ c.take_copy.new.tables taken ∙ inv.3,
+      copied_rise c.args.resolved.now.tables c.args.bytes.now c.loop-copy.tables _ c.take_copy.new.tables taken inv.4,
     )
