@@ -1,2 +1,4 @@
+pub mod Once
 pub mod Opened
 pub mod Together
+pub mod Stands

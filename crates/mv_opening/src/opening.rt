@@ -2,7 +2,7 @@
 
 ghost use Rattle.std.specs.Prelude.{◌≡◌, ◌<◌, ◌≤◌, ◌+◌, ◌^◌, ◌⊎◌, All, Err, IfErr, IfOk, List as Seq, length, MatchResult};
 ghost use Rattle.std.specs.Bool.{MatchBool};
-ghost use Rattle.mv_opening.specs.Opening.{FitTogether, HasCopied, HaveGathered, IsClosed, IsOpen, IsOpening, HasNoOpening, TellsOfCopy, TellsOfTables};
+ghost use Rattle.mv_opening.specs.Opening.{FitTogether, HasCopied, HaveGathered, IsClosed, IsOpen, IsOpening, HasNoOpening, TablesFit, TellsOfCopy, TellsOfTables, ValuesFit};
 ghost use Rattle.mv_opening.specs.declared.fault.OpeningFault.{OpeningFault};
 ghost use Rattle.mv_opening.specs.declared.fault.OpeningFault.TheVariants as fault;
 ghost use Rattle.mv_values.specs.Keys.{IsRising};
@@ -30,6 +30,7 @@ pub fn opening(alloc: Global, resolved: &Resolved, bytes: &[u8]) -> Result<Datab
     ensures refused { IfErr result (λ f. (f ≡ fault.NoMemory) ⊎ HasNoOpening resolved.now bytes.now f) }
     ensures told { (f : OpeningFault) → HasNoOpening resolved.now bytes.now f → (result ≡ Err f) ⊎ (result ≡ Err fault.NoMemory) }
     ensures fits { IfOk result (KeysStand resolved.now.tables) }
+    ensures typed { ValuesFit resolved.now.tables resolved.now.rows → IfOk result (TablesFit resolved.now.tables) }
 {
     let tables = join_all(alloc, resolved, bytes)?;
     Ok(into_database(alloc, tables)?)
