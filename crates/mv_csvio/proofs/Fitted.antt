@@ -16,7 +16,7 @@ use Rattle.mv_values.specs.declared.schema.Column.{Column}
 use Rattle.mv_values.specs.declared.schema.TableInfo.{TableInfo}
 use Rattle.mv_values.specs.Columns.{columns_of}
 use Rattle.mv_csvio.specs.Fields.{IsRow, are_digits, is_printable, is_text, natural, negative, number_in, value_in, values_in}
-use Rattle.mv_csvio.specs.Fitting.{FitsTable, FitsType}
+use Rattle.mv_csvio.specs.Fitting.{FitsTable, FitsType, HasTypes}
 use Rattle.mv_csvio.specs.Joining.{HasJoined, under_key}
 use Rattle.mv_csvio.specs.Loading.{HasLoaded, Record}
 use Rattle.mv_csvio.proofs.Values.{all_printable, both}
@@ -36,11 +36,7 @@ joined_keys table before rows after old h = joined_all (StandsUnder table.key) t
 pub loaded_keys : (table : TableInfo) (before : List Keyed) (block : List Record) (after : List Keyed) → All (StandsUnder table.key) before → HasLoaded table before block after → All (StandsUnder table.key) after
 loaded_keys table before block after old h = joined_keys table before h.0 after old h.2
 
--- the row has a value of its type for each column
-abbrev pub IsTyped : TableInfo → List Value → Type 0
-IsTyped table row = AllZip (λ c v. FitsType c.kind v) table.columns row
-
-pub joined_fit : (table : TableInfo) (before : List Keyed) (rows : List (List Value)) (after : List Keyed) → All (FitsTable table) before → All (IsTyped table) rows → HasJoined table before rows after → All (FitsTable table) after
+pub joined_fit : (table : TableInfo) (before : List Keyed) (rows : List (List Value)) (after : List Keyed) → All (FitsTable table) before → All (HasTypes table) rows → HasJoined table before rows after → All (FitsTable table) after
 joined_fit table before rows after old new h = joined_all (FitsTable table) table before rows after old (λ k d within. (new k d within, refl)) h
 
 -- a number that was read has 64 bits
@@ -98,11 +94,11 @@ fits_columns (c ∷ cs) (f ∷ fs) (v ∷ row) n h =
     let tail : values_in cs fs ≡ map Some row = cc h in
     (fits_type c.kind f v head, fits_columns cs fs row (omega (arith, n)) tail)
 
-rows_fit : (table : TableInfo) (block : List Record) (rows : List (List Value)) → AllZip (IsRow table.columns) block rows → All (IsTyped table) rows
-rows_fit table [] [] h = All-nil (IsTyped table)
+rows_fit : (table : TableInfo) (block : List Record) (rows : List (List Value)) → AllZip (IsRow table.columns) block rows → All (HasTypes table) rows
+rows_fit table [] [] h = All-nil (HasTypes table)
 rows_fit table [] (row ∷ rows) h = absurd h
 rows_fit table (r ∷ rs) [] h = absurd h
-rows_fit table (r ∷ rs) (row ∷ rows) h = All-cons (IsTyped table) row rows (fits_columns table.columns r row h.0.0 h.0.1) (rows_fit table rs rows h.1)
+rows_fit table (r ∷ rs) (row ∷ rows) h = All-cons (HasTypes table) row rows (fits_columns table.columns r row h.0.0 h.0.1) (rows_fit table rs rows h.1)
 
 pub loaded_fit : (table : TableInfo) (before : List Keyed) (block : List Record) (after : List Keyed) → All (FitsTable table) before → HasLoaded table before block after → All (FitsTable table) after
 loaded_fit table before block after old h = joined_fit table before h.0 after old (rows_fit table block h.0 h.1) h.2

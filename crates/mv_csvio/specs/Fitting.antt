@@ -19,9 +19,13 @@ FitsType column.Int (value.Text t) = ⊥
 FitsType (column.Text n) (value.Int z) = ⊥
 FitsType (column.Text n) (value.Text t) = All IsPrintable t × (length t ≤ n)
 
--- the row has a value of its type for each column, and stands under its key
+-- the row has a value of its type for each column
+abbrev pub HasTypes : TableInfo → List Value → Type 0
+HasTypes table row = AllZip (λ c v. FitsType c.kind v) table.columns row
+
+-- it does, and stands under its key
 abbrev pub FitsTable : TableInfo → Keyed → Type 0
-FitsTable table item = AllZip (λ c v. FitsType c.kind v) table.columns item.row × (item.key ≡ columns_of item.row table.key)
+FitsTable table item = HasTypes table item.row × (item.key ≡ columns_of item.row table.key)
 
 -- every row does, and the table has a column
 abbrev pub AllFit : TableInfo → List Keyed → Type 0

@@ -18,7 +18,7 @@ use mv_values::value::Row;
 use std::alloc::Global;
 
 /// The rows of VALUES of a table, each under its key, in the order of their keys. Or the fault `Duplicate` with the
-/// first row whose key stands in an earlier one. It costs n log n for n rows, in whatever order they come.
+/// first row whose key stands in an earlier one, or `NoMemory`. It costs n log n for n rows, in whatever order they come.
 pub fn gather(alloc: Global, rows: &List<Row>, table: &TableInfo) -> Result<Rows, CopyFault>
     requires { length rows.now < 2 ^ 32 }
     ensures rows { IfOk result (HasJoined table.now [] rows.now) }
@@ -30,12 +30,8 @@ pub fn gather(alloc: Global, rows: &List<Row>, table: &TableInfo) -> Result<Rows
     Ok(joining.into_rows(alloc)?)
 }
 
-/// As `gather`, but more rows can join those of the answer.
-pub fn join_values(
-    alloc: Global,
-    rows: &List<Row>,
-    table: &TableInfo,
-) -> Result<Joining, CopyFault>
+/// As `gather`, and more rows can join those of the answer.
+pub fn join_values(alloc: Global, rows: &List<Row>, table: &TableInfo) -> Result<Joining, CopyFault>
     requires { length rows.now < 2 ^ 32 }
     ensures rows { IfOk result (HasJoined table.now [] rows.now) }
     ensures fault { IfErr result (λ f. (f ≡ fault.NoMemory) ⊎ TellsOfValues table.now rows.now f) }

@@ -25,7 +25,7 @@ use std::alloc::Global;
 use std::mem;
 
 /// Adds the records of a block to the rows of a table, each under its key. Or the fault of the first bad record: a
-/// `Width`, else a `Field`, else a `Duplicate`; the rows are then given up. Rows and columns of a fault count from 1. It
+/// `Width`, else a `Field`, else a `Duplicate`; or `NoMemory`. After a fault the rows are given up. Rows and columns of a fault count from 1. It
 /// costs n log n for n rows in all, in whatever order they come.
 pub fn load(
     alloc: Global,
@@ -47,7 +47,8 @@ pub fn load(
     Ok(())
 }
 
-/// As `load`, but more rows can join those that are there then. It costs n log m for a block of n records and m rows in all.
+/// As `load`, and more rows can join those that are there after it. It costs n log m for a block of n records and m rows
+/// in all, so many small blocks cost no more than a large one.
 pub fn join_records(
     alloc: Global,
     block: &[u8],

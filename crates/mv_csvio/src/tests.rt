@@ -70,6 +70,9 @@ const BLOCKS: &[(&[u8], Result<&[u8], CopyFault>)] = &[
     (b"1,2,abcd\n", Err(CopyFault::Field { row: 1, column: 3 })),
     (b"1,2,\t\n", Err(CopyFault::Field { row: 1, column: 3 })),
     (b"+1,2,\n", Err(CopyFault::Field { row: 1, column: 1 })),
+    (b"1,+5,\n", Err(CopyFault::Field { row: 1, column: 2 })),
+    (b"x,y,abcd\n", Err(CopyFault::Field { row: 1, column: 1 })),
+    (b"1,y,abcd\n", Err(CopyFault::Field { row: 1, column: 2 })),
     (b"1,-,\n", Err(CopyFault::Field { row: 1, column: 2 })),
     (b"1,--2,\n", Err(CopyFault::Field { row: 1, column: 2 })),
     (b"1,,\n", Err(CopyFault::Field { row: 1, column: 2 })),
@@ -88,6 +91,14 @@ const BLOCKS: &[(&[u8], Result<&[u8], CopyFault>)] = &[
         Err(CopyFault::Field { row: 1, column: 2 }),
     ),
     (
+        b"1,-0009223372036854775808,\n",
+        Ok(b"1,-9223372036854775808,\n5,0,\n6,0,\n"),
+    ),
+    (
+        b"1,0009223372036854775808,\n",
+        Err(CopyFault::Field { row: 1, column: 2 }),
+    ),
+    (
         b"1,99999999999999999999999,\n",
         Err(CopyFault::Field { row: 1, column: 2 }),
     ),
@@ -97,6 +108,18 @@ const BLOCKS: &[(&[u8], Result<&[u8], CopyFault>)] = &[
     (b"1,2,a\r3,4,b\r", Ok(b"1,2,a\n3,4,b\n5,0,\n6,0,\n")),
     (b"1,2,\"a", Ok(b"1,2,a\n5,0,\n6,0,\n")),
     (b"1,2,\"a\n", Err(CopyFault::Field { row: 1, column: 3 })),
+    (
+        b"1,2,\"\r\n\"\n",
+        Err(CopyFault::Field { row: 1, column: 3 }),
+    ),
+    (
+        b"\"1\",\"2\n\",\n5,1\n",
+        Err(CopyFault::Field { row: 1, column: 2 }),
+    ),
+    (
+        b"7,1,\"\n8,1,\n",
+        Err(CopyFault::Field { row: 1, column: 3 }),
+    ),
     (
         b"\n\r\n1,2,a\n\n\n3,4,b\n",
         Ok(b"1,2,a\n3,4,b\n5,0,\n6,0,\n"),

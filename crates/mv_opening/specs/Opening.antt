@@ -10,7 +10,7 @@ use Rattle.mv_catalog.specs.declared.resolved.Resolved.{Resolved}
 use Rattle.mv_catalog.specs.Fits.{rows_at}
 use Rattle.mv_csvio.specs.declared.fault.CopyFault.{CopyFault}
 use Rattle.mv_csvio.specs.declared.fault.CopyFault.TheVariants as copy
-use Rattle.mv_csvio.specs.Fitting.{FitsTable, FitsType}
+use Rattle.mv_csvio.specs.Fitting.{FitsTable, HasTypes}
 use Rattle.mv_csvio.specs.Joining.{HasJoined, TellsOfValues}
 use Rattle.mv_csvio.specs.Loading.{HasLoaded, IsFirstBad, records_of}
 use Rattle.mv_opening.specs.declared.fault.OpeningFault.{OpeningFault}
@@ -115,14 +115,10 @@ TellsOfJournal resolved bytes f =
 abbrev pub HasNoOpening : Resolved → List ℕ → OpeningFault → Type 0
 HasNoOpening resolved bytes f = TellsOfTables resolved f ⊎ TellsOfCopies resolved bytes f ⊎ TellsOfJournal resolved bytes f
 
--- the row has a value of its type for each column of the table
-abbrev pub HasTypes : TableInfo → List Value → Type 0
-HasTypes table row = AllZip (λ c v. FitsType c.kind v) table.columns row
-
--- so have the rows of VALUES of each table
+-- the rows of VALUES have a value of its type for each column of their table
 abbrev pub ValuesFit : List TableInfo → List (List (List Value)) → Type 0
 ValuesFit infos values = AllZip (λ info rows. All (HasTypes info) rows) infos values
 
--- each row has a value of its type for each column of its table, and stands under its key
+-- so have all rows of each table, and they stand under their keys
 abbrev pub TablesFit : List TableInfo → List (List Keyed) → Type 0
 TablesFit infos tables = AllZip (λ info rows. All (FitsTable info) rows) infos tables

@@ -22,7 +22,8 @@ use std::alloc::Global;
 
 /// The database that the calls begin with. Or a fault, tried in this order: `Duplicate` for the rows of VALUES, table
 /// by table; for each copy in the order of the text `OpenBlock`, and then the first bad record of its block;
-/// `OpenBlock` for the journal.
+/// `OpenBlock` for the journal; and `NoMemory` at any time. It costs n log n for n rows in all, in whatever order they
+/// come and however many blocks they stand in.
 pub fn opening(alloc: Global, resolved: &Resolved, bytes: &[u8]) -> Result<Database, OpeningFault>
     requires { FitTogether resolved.now bytes.now }
     ensures opened { IfOk result (IsOpening resolved.now bytes.now) }
@@ -37,11 +38,7 @@ pub fn opening(alloc: Global, resolved: &Resolved, bytes: &[u8]) -> Result<Datab
 }
 
 /// The rows of VALUES and of the copies, table by table.
-fn join_all(
-    alloc: Global,
-    resolved: &Resolved,
-    bytes: &[u8],
-) -> Result<List<Joining>, OpeningFault>
+fn join_all(alloc: Global, resolved: &Resolved, bytes: &[u8]) -> Result<List<Joining>, OpeningFault>
     requires { FitTogether resolved.now bytes.now }
     ensures { MatchResult result (IsOpening resolved.now bytes.now) (λ f. (f ≡ fault.NoMemory) ⊎ HasNoOpening resolved.now bytes.now f) }
 {
@@ -103,7 +100,7 @@ fn take_copy(
     Ok(())
 }
 
-/// The tables, no more rows joining them.
+/// The rows of each table, no more of them joining.
 fn into_database(alloc: Global, mut tables: List<Joining>) -> Result<Database, NoMemory>
     ensures { IfOk result (λ database. database ≡ tables) }
 {

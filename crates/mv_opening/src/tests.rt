@@ -67,6 +67,31 @@ const CASES: &[Case] = &[
         want: Err(OpeningFault::Width { table: 1, row: 1 }),
     },
     Case {
+        first: &[],
+        second: &[],
+        copies: &[(0, 0, 4, true), (1, 6, 2, true)],
+        journal: None,
+        want: Err(OpeningFault::Field {
+            table: 1,
+            row: 1,
+            column: 1,
+        }),
+    },
+    Case {
+        first: &[],
+        second: &[3],
+        copies: &[(0, 0, 0, true), (1, 8, 1, true), (0, 4, 4, false)],
+        journal: None,
+        want: Err(OpeningFault::Duplicate { table: 1, row: 1 }),
+    },
+    Case {
+        first: &[],
+        second: &[],
+        copies: &[(1, 8, 2, true), (0, 0, 4, true), (1, 0, 1, true)],
+        journal: None,
+        want: Ok(b"1,5\n.1\n3\n."),
+    },
+    Case {
         first: &[1],
         second: &[],
         copies: &[(1, 8, 2, true), (0, 0, 4, true)],
@@ -119,6 +144,43 @@ fn opens_in_the_order_of_the_text(rt: HostRuntime) -> Result<(), Fail> {
         }
     }
     Ok(())
+}
+
+/// Two thousand blocks of one record each, in falling order.
+#[test]
+fn takes_many_small_blocks(rt: HostRuntime) -> Result<(), Fail> {
+    let alloc = rt.alloc();
+    let mut falling = List::new(alloc);
+    let mut rising = List::new(alloc);
+    let mut copies = List::new(alloc);
+    for n in 0..2_000u32 {
+        add_number(alloc, &mut falling, 11_999 - n)?;
+        add_number(alloc, &mut rising, 10_000 + n)?;
+        copies.push(block_of((1, n * 6, 6, true)))?;
+    }
+    let mut resolved = script(alloc, &CASES[0])?;
+    resolved.copies = copies;
+    let bytes = falling.as_slice();
+    let fit = fit_together(&resolved, bytes);
+    assert!(rt; fit);
+    if !fit {
+        return Ok(());
+    }
+    match opening(alloc, &resolved, bytes) {
+        Err(_) => assert!(rt; false),
+        Ok(tables) => {
+            let mut text = List::new(alloc);
+            for rows in &tables.as_slice()[tables.len().min(1)..] {
+                dump(alloc, rows, &mut text)?;
+            }
+            assert_eq!(rt; text.as_slice(), rising.as_slice());
+        }
+    }
+    Ok(())
+}
+
+fn add_number(alloc: Global, text: &mut List<u8>, n: u32) -> Result<(), NoMemory> {
+    text.append(format!(in alloc; "{n}\n")?.as_bytes())
 }
 
 fn script(alloc: Global, case: &Case) -> Result<Resolved, NoMemory> {
