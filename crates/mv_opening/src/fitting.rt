@@ -10,7 +10,7 @@ use mv_values::value::Row;
 
 /// Whether each copy has a table and its block stands in the bytes, and nothing is longer than `opening` counts.
 pub fn fit_together(resolved: &Resolved, bytes: &[u8]) -> bool
-    ensures { IsTrue result → FitTogether resolved.now bytes.now }
+    ensures { IsTrue result ↔ FitTogether resolved.now bytes.now }
 {
     let tables = resolved.tables.len();
     tables <= 256
