@@ -1,5 +1,5 @@
 -- Rows that join stand under their keys, and rows that are loaded fit their table.
-use Rattle.std.proofs.Common.{w64, inl, inr, ◌≡◌, ◌++◌, ◌∷◌, ◌<◌, ◌≤◌, ◌^◌, ◌==◌, ◌&&◌, if◌then◌else◌, rules, ℕ, zero, suc, Bool, true, false, List, [], map, length, Option, Some, None, ℤ, pos, neg_ℤ, refl, sym, ap, subst, arith}
+use Rattle.std.proofs.Common.{w64, inl, inr, ◌≡◌, ◌++◌, ◌∷◌, ◌≤◌, ◌^◌, ◌==◌, ◌&&◌, if◌then◌else◌, rules, ℕ, zero, suc, Bool, true, false, List, [], map, length, Option, Some, None, ℤ, pos, neg_ℤ, refl, subst, arith}
 use Rattle.std.specs.Prelude.{All, nat_le, nat_lt, option_map}
 use Rattle.std.specs.Int.RustNames.{FitsSigned}
 use Rattle.std.specs.List.{AllZip, list_all}

@@ -1,5 +1,5 @@
 -- The records of a block, each taken or the first that can't be.
-use Rattle.std.proofs.Common.{◌≡◌, ◌++◌, ◌∷◌, ◌<◌, ◌≤◌, ◌+◌, ◌^◌, ◌⊎◌, inl, inr, ℕ, zero, suc, List, [], length, Some, None, refl, sym, ap, subst, ◌∙◌, arith, append_assoc, length-append}
+use Rattle.std.proofs.Common.{◌≡◌, ◌++◌, ◌∷◌, ◌<◌, ◌+◌, ◌^◌, ◌⊎◌, inl, inr, ℕ, suc, List, [], length, Some, None, refl, sym, subst, ◌∙◌, arith, append_assoc, length-append}
 use Rattle.std.specs.Prelude.{IsPermutation}
 use Rattle.std.specs.List.{AllZip}
 use Rattle.csv.specs.Machine.{next_record}
@@ -14,7 +14,7 @@ use Rattle.mv_values.specs.Keys.{IsRising}
 use Rattle.mv_csvio.specs.declared.fault.CopyFault.{CopyFault}
 use Rattle.mv_csvio.specs.declared.fault.CopyFault.TheVariants as fault
 use Rattle.mv_csvio.specs.Fields.{IsNoRow, IsRow}
-use Rattle.mv_csvio.specs.Joining.{HasJoined, IsDuplicate, under_key}
+use Rattle.mv_csvio.specs.Joining.{IsDuplicate, under_key}
 use Rattle.mv_csvio.specs.Loading.{HasLoaded, IsBad, IsFirstBad, Record, records_of}
 use Rattle.mv_csvio.proofs.Blocks.{all_records, reached_size, records_are, strip_size, takes}
 use Rattle.mv_csvio.proofs.Joined.{joined_more, joined_none}

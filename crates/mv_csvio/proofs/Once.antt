@@ -9,7 +9,7 @@ use Rattle.mv_values.specs.declared.schema.TableInfo.{TableInfo}
 use Rattle.mv_values.specs.Columns.{columns_of}
 use Rattle.mv_csvio.specs.declared.fault.CopyFault.{CopyFault}
 use Rattle.mv_csvio.specs.declared.fault.CopyFault.TheVariants as fault
-use Rattle.mv_csvio.specs.Fields.{IsFirstMisfit, IsNoRow, IsRow, values_in}
+use Rattle.mv_csvio.specs.Fields.{IsFirstMisfit, IsRow}
 use Rattle.mv_csvio.specs.Joining.{HasJoined, HasKey, TellsOfValues}
 use Rattle.mv_csvio.specs.Loading.{HasLoaded, IsBad, IsFirstBad, Record}
 use Rattle.mv_csvio.proofs.Exact.{only_fault, only_one}

@@ -1,6 +1,6 @@
 -- What fields are to columns.
-use Rattle.std.proofs.Common.{w64, inl, inr, ◌≡◌, ◌≢◌, ◌++◌, ◌∷◌, ◌<◌, ◌≤◌, ◌+◌, ◌^◌, ◌==◌, ◌&&◌, rules, ℕ, zero, suc, Bool, true, false, List, [], map, length, take, drop, Option, Some, None, Result, Ok, Err, ℤ, pos, neg_ℤ, refl, sym, ap, subst, ◌∙◌, arith}
-use Rattle.std.specs.Prelude.{All, IsTrue, nat_lt, nat_le}
+use Rattle.std.proofs.Common.{w64, inl, inr, ◌≡◌, ◌∷◌, ◌<◌, ◌≤◌, ◌^◌, ◌==◌, ◌&&◌, rules, ℕ, zero, suc, Bool, true, false, List, [], length, Some, None, Result, Ok, Err, ℤ, pos, neg_ℤ, refl, arith}
+use Rattle.std.specs.Prelude.{All}
 use Rattle.std.specs.List.{list_all}
 use Rattle.std.proofs.lemmas.List.Elements.{All-nil, All-cons}
 use Rattle.mv_values.specs.Printable.{IsPrintable}

@@ -1,7 +1,7 @@
 -- What the fields of a record are to the columns of a table. The forms are this project's own: a number is an optional
 -- `-` and decimal digits, leading zeros allowed, within 64 bits; a text is bytes from 32 to 126, no more than its column
 -- allows.
-use Rattle.std.specs.Prelude.{◌≡◌, ◌++◌, ◌∷◌, ◌+◌, ◌^◌, ◌==◌, ◌&&◌, if◌then◌else◌, ℕ, Bool, List, [], map, length, Option, Some, None, option_map, ℤ, pos, neg_ℤ, nat_lt, nat_le, IsTrue}
+use Rattle.std.specs.Prelude.{◌≡◌, ◌++◌, ◌∷◌, ◌+◌, ◌^◌, ◌==◌, ◌&&◌, if◌then◌else◌, ℕ, Bool, List, [], map, length, Option, Some, None, option_map, ℤ, pos, neg_ℤ, nat_lt, nat_le}
 use Rattle.std.specs.List.{list_all}
 use Rattle.std.specs.Str.{all_ascii_digits}
 use Rattle.std.specs.Str.Parse.{digits_value}

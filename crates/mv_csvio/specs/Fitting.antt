@@ -1,5 +1,5 @@
 -- Which rows a table may have.
-use Rattle.std.specs.Prelude.{◌≡◌, ◌≤◌, ◌<◌, ⊤, ℕ, List, All, length}
+use Rattle.std.specs.Prelude.{◌≡◌, ◌≤◌, ◌<◌, List, All, length}
 use Rattle.std.specs.List.{AllZip}
 use Rattle.std.specs.Int.RustNames.{FitsSigned}
 use Rattle.std.specs.Int.{w64}

@@ -1,7 +1,6 @@
-use Rattle.std.proofs.Common.{◌≡◌, ◌⊎◌, [], Ok, rules}
+use Rattle.std.proofs.Common.{[], Ok, rules}
 use Rattle.std.proofs.lemmas.Result.{err_from_is_err_and}
-use Rattle.mv_csvio.specs.declared.fault.CopyFault.TheVariants as fault
-use Rattle.mv_csvio.specs.Joining.{HasJoined, TellsOfValues}
+use Rattle.mv_csvio.specs.Joining.{HasJoined}
 use Rattle.mv_csvio.proofs.Once.{gather_only, gather_told}
 use Rattle.mv_csvio.proofs.gather.gather.Goals as goal
 

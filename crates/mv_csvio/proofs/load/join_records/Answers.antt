@@ -1,10 +1,10 @@
-use Rattle.std.proofs.Common.{◌≡◌, ◌<◌, ◌+◌, ◌^◌, ◌++◌, ◌∷◌, [], length, refl, sym, ap, subst, ◌∙◌, arith, rules}
+use Rattle.std.proofs.Common.{◌<◌, ◌+◌, ◌^◌, ◌++◌, ◌∷◌, [], refl, ap, arith, rules}
 use Rattle.std.proofs.lemmas.Result.{err_from_is_err_and}
 use Rattle.csv.specs.Reading.{strip_bom}
 use Rattle.csv.specs.Records.{fields_of}
 use Rattle.csv.specs.declared.parser.State.TheVariants as st
 use Rattle.mv_csvio.specs.Fields.{IsRow}
-use Rattle.mv_csvio.specs.Reading.{StandsAt, size_of}
+use Rattle.mv_csvio.specs.Reading.{StandsAt}
 use Rattle.mv_csvio.proofs.Loaded.{counted, loaded_all, loaded_more, loaded_none, more_reached, none_reached, number_more, shorter, tells_duplicate, tells_no_row}
 use Rattle.mv_csvio.proofs.load.join_records.Goals as goal
 

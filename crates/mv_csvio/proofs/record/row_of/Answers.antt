@@ -1,6 +1,5 @@
-use Rattle.std.proofs.Common.{◌≡◌, ◌<◌, ◌+◌, length, Some, None, inr, refl, sym, ap, ◌∙◌, arith, rules}
-use Rattle.csv.specs.Records.{field_at, fields_of}
-use Rattle.mv_csvio.specs.Fields.{value_in}
+use Rattle.std.proofs.Common.{◌+◌, inr, refl, ap, arith, rules}
+use Rattle.csv.specs.Records.{fields_of}
 use Rattle.mv_csvio.proofs.Rows.{field_there, value_more, misfit, all_values, one_longer}
 use Rattle.mv_csvio.proofs.record.row_of.Goals as goal
 
