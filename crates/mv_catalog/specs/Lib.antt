@@ -1,5 +1,3 @@
 pub mod Fits
-pub mod Maybe
-pub mod First
 pub mod Building
 pub mod Resolving

@@ -5,7 +5,6 @@ pub mod build;
 mod build_exprs;
 mod build_names;
 mod build_statements;
-pub mod first;
 pub mod refused;
 pub mod resolve;
 pub mod resolved;

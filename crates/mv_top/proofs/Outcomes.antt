@@ -13,7 +13,8 @@ use Rattle.mv_catalog.specs.declared.resolved.Program.{Program}
 use Rattle.mv_serial.specs.TableAfter.{table_after, reply_of, executed, call_order, first_numbers, RepliesOf, CountsOf}
 use Rattle.mv_top.specs.History.{commits, start_of, commit_of, history_line, outcome_of, turn, in_turn}
 use Rattle.mv_top.specs.Turns.{turn_line, turn_lines}
-use Rattle.mv_top.proofs.Numbers.{length_numbers, index_numbers, told_numbers, same_numbers}
+use Rattle.mv_top.proofs.Numbers.{length_numbers, index_numbers, same_numbers}
+use Rattle.mv_top.proofs.Serials.{replies_in_order}
 use Rattle.mv_top.proofs.InTurn.{commits_in_turn, start_in_turn, commit_in_turn}
 
 -- how many calls there are
@@ -23,8 +24,7 @@ calls_in p = length p.resolved.calls
 replies_are : (p : Program) (replies : List Reply) → length replies ≡ calls_in p → RepliesOf p (call_order p) replies
     → replies ≡ map (λ c. reply_of p (commits (in_turn p)) (commit_of (in_turn p) c)) (call_order p)
 replies_are p replies len told =
-    told_numbers replies (λ c. reply_of p (call_order p) (suc c)) (calls_in p) len
-    (λ k lt. let within : k < length (call_order p) = omega (arith, length_numbers (calls_in p)) in ap (slice_get replies) (sym (index_numbers (calls_in p) k lt)) ∙ told k within)
+    replies_in_order p replies len told
     ∙ same_numbers (λ c. reply_of p (call_order p) (suc c)) (λ c. reply_of p (commits (in_turn p)) (commit_of (in_turn p) c)) (calls_in p)
     (λ k lt. ap (λ order. reply_of p order (suc k)) (sym (commits_in_turn (calls_in p))) ∙ ap (reply_of p (commits (in_turn p))) (sym (commit_in_turn (calls_in p) k lt)))
 

@@ -1,5 +1,4 @@
 pub mod History
-pub mod Refusals
+pub mod Serial
 pub mod Answers
-pub mod Failing
 pub mod Turns

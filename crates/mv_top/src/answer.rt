@@ -1,19 +1,22 @@
 //! The answer to a command and its input.
 
-ghost use Rattle.std.specs.Prelude.{◌≡◌, ◌≤◌, ◌<◌, ℕ, List as Seq, length, IfOk, IfErr, MatchResult};
+ghost use Rattle.std.specs.Prelude.{◌≡◌, ◌≤◌, length, IfOk, IfErr, MatchResult};
+ghost use Rattle.mv_accept.specs.declared.refusal.Refusal.{Refusal as Why};
+ghost use Rattle.mv_accept.specs.Accepting.{Accepts, Refuses, most_calls};
+ghost use Rattle.mv_catalog.specs.Fits.{Fits};
 ghost use Rattle.mv_catalog.specs.declared.resolved.Program.{Program};
-ghost use Rattle.mv_top.specs.declared.refusal.Refusal.{Refusal as Why};
-ghost use Rattle.mv_top.specs.Answers.{IsFirst, IsRunText, Refuses, HasCause, most_bytes};
-ghost use Rattle.mv_top.specs.Failing.{IsToldBy};
-ghost use Rattle.mv_top.specs.History.{text, in_turn};
+ghost use Rattle.mv_top.specs.Answers.{IsTextFor, text_for, HasCause, IsToldBy};
 
-use crate::program::{MOST_BYTES, NoProgram, program_of};
-use crate::refusal::Refusal;
+use crate::serial::serial_text;
 use crate::status::{Command, Fault};
 use crate::turns::run_in_turn;
+use mv_accept::accept::{NotAccepted, accept};
+use mv_accept::refusal::Refusal;
+use mv_catalog::resolved::Program;
 use mv_edge::pace::Pace;
 use mv_report::render::render;
 use mv_values::list::List;
+use mv_values::memory::NoMemory;
 use std::alloc::Global;
 use std::sync::Wait;
 use std::thread::Threads;
@@ -26,21 +29,38 @@ pub fn answer<R: Threads + Wait + Sync, P: Pace>(
     bytes: &[u8],
     _pace: &P,
 ) -> Result<List<u8>, Fault>
-    ensures found { IfOk result (IsRunText bytes.now) }
-    // A first script gets the text of its run.
-    ensures only { (program : Program) → IsFirst bytes.now program → MatchResult result (λ answer. answer ≡ text program (in_turn program)) (λ fault. fault ≡ Fault.NoMemory) }
+    ensures found { IfOk result (IsTextFor command.now bytes.now) }
+    // An accepted script gets the command's text.
+    ensures only { (program : Program) → Accepts bytes.now program → MatchResult result (λ answer. answer ≡ text_for command.now program) (λ fault. fault ≡ Fault.NoMemory) }
     ensures refused { IfErr result (HasCause bytes.now) }
     // A refusal that has its cause in the bytes is answered.
     ensures told { (refusal : Why) → Refuses bytes.now refusal → MatchResult result (λ answer. ⊥) (IsToldBy refusal) }
 {
+    match accept(alloc, bytes) {
+        Ok(program) => Ok(text_of(alloc, command, &program)?),
+        Err(NotAccepted::NoMemory) => Err(Fault::NoMemory),
+        Err(NotAccepted::Refused(refusal)) => Err(refused(alloc, &refusal)),
+    }
+}
+
+/// What a command makes of a program.
+fn text_of(alloc: Global, command: &Command, program: &Program) -> Result<List<u8>, NoMemory>
+    requires fits { Fits program.now }
+    requires few { length program.now.resolved.calls ≤ most_calls }
+    ensures { IfOk result (λ text. text ≡ text_for command.now program.now) }
+{
     match command {
-        Command::Run => run_text(alloc, bytes),
+        Command::Run => {
+            let outcome = run_in_turn(alloc, program)?;
+            render(alloc, &program.resolved.tables, &outcome)
+        }
+        Command::Serial => serial_text(alloc, program),
     }
 }
 
 /// What is answered to an input that is refused.
-fn refused(alloc: Global, refusal: Refusal) -> Fault
-    ensures { IsToldBy refusal result }
+fn refused(alloc: Global, refusal: &Refusal) -> Fault
+    ensures { IsToldBy refusal.now result }
 {
     match refusal.line(alloc) {
         Ok(line) => Fault::Refused {
@@ -49,23 +69,4 @@ fn refused(alloc: Global, refusal: Refusal) -> Fault
         },
         Err(_) => Fault::NoMemory,
     }
-}
-
-fn run_text(alloc: Global, bytes: &[u8]) -> Result<List<u8>, Fault>
-    ensures found { IfOk result (IsRunText bytes.now) }
-    ensures only { (program : Program) → IsFirst bytes.now program → MatchResult result (λ answer. answer ≡ text program (in_turn program)) (λ fault. fault ≡ Fault.NoMemory) }
-    ensures refused { IfErr result (HasCause bytes.now) }
-    // A refusal that has its cause in the bytes is answered.
-    ensures told { (refusal : Why) → Refuses bytes.now refusal → MatchResult result (λ answer. ⊥) (IsToldBy refusal) }
-{
-    if MOST_BYTES < bytes.len() {
-        return Err(refused(alloc, Refusal::TooLong));
-    }
-    let program = match program_of(alloc, bytes) {
-        Ok(program) => program,
-        Err(NoProgram::NoMemory) => return Err(Fault::NoMemory),
-        Err(NoProgram::Refused(refusal)) => return Err(refused(alloc, refusal)),
-    };
-    let outcome = run_in_turn(alloc, &program)?;
-    Ok(render(alloc, &program.resolved.tables, &outcome)?)
 }

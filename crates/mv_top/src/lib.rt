@@ -2,8 +2,7 @@
 #![tactic(auto)]
 
 pub mod answer;
-mod program;
-pub mod refusal;
+mod serial;
 pub mod status;
 #[cfg(test)]
 mod tests;

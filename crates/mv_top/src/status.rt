@@ -23,8 +23,10 @@ pub enum Status {
 /// A command that the program takes.
 #[derive(Clone, Copy, Debug, PartialEq, Eq)]
 pub enum Command {
-    /// Runs the calls of a script.
+    /// Runs the calls of a script, and writes their history.
     Run,
+    /// Runs each call alone behind those before it, by the machine that says what calls mean.
+    Serial,
 }
 
 /// Why there is no answer: the input is refused, with the refusal's number and line, or no memory was found.

@@ -1,12 +1,13 @@
 //! The top call: words, a source, a sink.
 
-ghost use Rattle.std.specs.Prelude.{◌≡◌, ◌⊎◌, ◌↔◌, ℕ, List as Seq, Some, IsTrue, IfOk, string_bytes};
+ghost use Rattle.std.specs.Prelude.{◌≡◌, ◌⊎◌, ◌↔◌, ℕ, List as Seq, Some, IsTrue, string_bytes, IfOk, IfSome, IfNone};
 ghost use Rattle.mv_edge.specs.Edge.{Rose};
 ghost use Rattle.mv_catalog.specs.declared.resolved.Program.{Program};
-ghost use Rattle.mv_top.specs.declared.refusal.Refusal.{Refusal as Why};
-ghost use Rattle.mv_top.specs.Refusals.{line_of};
-ghost use Rattle.mv_top.specs.Answers.{IsFirst, Refuses, IsAnswered, Puts, Wrote, RanOr, RefusedOr, words_of, run_words, line, usage_line};
-ghost use Rattle.mv_top.specs.History.{text, in_turn};
+ghost use Rattle.mv_accept.specs.declared.refusal.Refusal.{Refusal as Why};
+ghost use Rattle.mv_accept.specs.Accepting.{Accepts, Refuses};
+ghost use Rattle.mv_accept.specs.Refusals.{line_of};
+ghost use Rattle.mv_top.specs.declared.status.Command.{Command as Task};
+ghost use Rattle.mv_top.specs.Answers.{IsAnswered, Puts, Wrote, WroteOr, IsNoCommand, words_of, words_for, name_of, text_for, line, usage_line};
 
 use crate::answer::answer;
 use crate::status::{Command, Fault, Status};
@@ -32,43 +33,59 @@ pub fn top<R: Threads + Wait + Sync, S: Source, K: Sink, P: Pace>(
     sink: &mut K,
     pace: &P,
 ) -> Status
-    // What was written, for each status: Done has the text of a run, Refused and Usage their line.
+    // What was written, for each status: Done has the command's text, Refused and Usage their line.
     ensures wrote { Wrote (words_of words.now) (S.left source.old) (K.written sink.old) (K.written sink.new) result }
-    // Words that are no command are refused as such.
-    ensures words { (words_of words.now ≡ run_words → ⊥) → (result ≡ Status.Usage) ⊎ (result ≡ Status.WriteFault) }
+    // Words that are no command are refused as such, and the source isn't read.
+    ensures words { IsNoCommand (words_of words.now) → (result ≡ Status.Usage) ⊎ (result ≡ Status.WriteFault) }
+    ensures unread { IsNoCommand (words_of words.now) → S.left source.new ≡ S.left source.old }
     ensures reading { result ≡ Status.ReadFault → Rose (S.faults source.old) (S.faults source.new) }
     ensures writing { result ≡ Status.WriteFault → Rose (K.faults sink.old) (K.faults sink.new) }
-    // A first script is run, unless the source or the sink fails or memory runs out.
-    ensures complete { (all : Seq ℕ) (program : Program) → words_of words.now ≡ run_words → S.left source.old ≡ Some all → IsFirst all program
+    // An accepted script gets the command's text, unless the source or the sink fails or memory runs out.
+    ensures complete { (command : Task) (all : Seq ℕ) (program : Program) → words_of words.now ≡ words_for command → S.left source.old ≡ Some all → Accepts all program
         → (Rose (S.faults source.old) (S.faults source.new) → ⊥) → (Rose (K.faults sink.old) (K.faults sink.new) → ⊥)
-        → RanOr result (K.written sink.old) (K.written sink.new) program }
+        → WroteOr Status.Done (text_for command program) (K.written sink.old) (K.written sink.new) result }
     // An input with the cause of a refusal gets its line, unless the source or the sink fails or memory runs out.
-    ensures refuses { (all : Seq ℕ) (refusal : Why) → words_of words.now ≡ run_words → S.left source.old ≡ Some all → Refuses all refusal
+    ensures refuses { (command : Task) (all : Seq ℕ) (refusal : Why) → words_of words.now ≡ words_for command → S.left source.old ≡ Some all → Refuses all refusal
         → (Rose (S.faults source.old) (S.faults source.new) → ⊥) → (Rose (K.faults sink.old) (K.faults sink.new) → ⊥)
-        → RefusedOr result (K.written sink.old) (K.written sink.new) refusal }
+        → WroteOr Status.Refused (line (line_of refusal)) (K.written sink.old) (K.written sink.new) result }
 {
-    if !is_run(words) {
+    let Some(command) = command_of(words) else {
         return put(sink, Status::Usage, USAGE_LINE);
-    }
+    };
     let bytes = match read_all(alloc, source) {
         Ok(bytes) => bytes,
         Err(ReadFault::NoMemory) => return Status::NoMemory,
         Err(ReadFault::Failed) => return Status::ReadFault,
     };
-    match answered(rt, alloc, bytes.as_slice(), pace) {
+    match answered(rt, alloc, &command, bytes.as_slice(), pace) {
         Ok((status, text)) => put(sink, status, text.as_slice()),
         Err(_) => Status::NoMemory,
     }
 }
 
-/// Whether the words are the one command.
-fn is_run(words: &[String]) -> bool
-    ensures { IsTrue result ↔ (words_of words.now ≡ run_words) }
+/// The command that the words are.
+fn command_of(words: &[String]) -> Option<Command>
+    ensures found { IfSome result (λ command. words_of words.now ≡ words_for command) }
+    ensures none { IfNone result (IsNoCommand (words_of words.now)) }
 {
     match words {
-        [word] => is_word(word, "run"),
-        _ => false,
+        [word] => command_named(word),
+        _ => None,
     }
+}
+
+/// The command of this name.
+fn command_named(word: &String) -> Option<Command>
+    ensures found { IfSome result (λ command. string_bytes word.now ≡ name_of command) }
+    ensures none { IfNone result ((command : Task) → string_bytes word.now ≡ name_of command → ⊥) }
+{
+    if is_word(word, "run") {
+        return Some(Command::Run);
+    }
+    if is_word(word, "serial") {
+        return Some(Command::Serial);
+    }
+    None
 }
 
 fn is_word(word: &String, text: &str) -> bool
@@ -81,14 +98,15 @@ fn is_word(word: &String, text: &str) -> bool
 fn answered<R: Threads + Wait + Sync, P: Pace>(
     rt: &R,
     alloc: Global,
+    command: &Command,
     bytes: &[u8],
     pace: &P,
 ) -> Result<(Status, List<u8>), NoMemory>
-    ensures found { IfOk result (λ answer. IsAnswered bytes.now answer.0 answer.1) }
-    ensures only { (program : Program) → IsFirst bytes.now program → IfOk result (λ answer. (answer.0 ≡ Status.Done) × (answer.1 ≡ text program (in_turn program))) }
+    ensures found { IfOk result (λ answer. IsAnswered command.now bytes.now answer.0 answer.1) }
+    ensures only { (program : Program) → Accepts bytes.now program → IfOk result (λ answer. (answer.0 ≡ Status.Done) × (answer.1 ≡ text_for command.now program)) }
     ensures told { (refusal : Why) → Refuses bytes.now refusal → IfOk result (λ answer. (answer.0 ≡ Status.Refused) × (answer.1 ≡ line (line_of refusal))) }
 {
-    match answer(rt, alloc, &Command::Run, bytes, pace) {
+    match answer(rt, alloc, command, bytes, pace) {
         Ok(text) => Ok((Status::Done, text)),
         Err(Fault::NoMemory) => Err(NoMemory),
         Err(Fault::Refused { line, .. }) => Ok((Status::Refused, ended(alloc, line.as_slice())?)),

@@ -1,5 +1,17 @@
+use Rattle.std.proofs.Common.{◌≡◌, ◌∙◌, ap, sym, subst, refl}
+use Rattle.mv_accept.specs.Refusals.{line_of}
+use Rattle.mv_top.specs.declared.status.Fault.{Fault}
+use Rattle.mv_top.specs.Answers.{IsToldBy, line}
 use Rattle.mv_top.proofs.top.answered.Goals as goal
+
+pub returns-in-Ok-clause-told : goal.returns-in-Ok-clause-told
+returns-in-Ok-clause-told g c = λ refusal cause. absurd (c.in-Ok.ensures.told refusal cause)
 
 pub returns-in_ok-ended-in-Err-Refused-clause-only : goal.returns-in_ok-ended-in-Err-Refused-clause-only
 returns-in_ok-ended-in-Err-Refused-clause-only g c =
-    λ program first. (let fault = c.in-Err-Refused.field-0-is in let want = c.in-Err-Refused.ensures.only program first in cc)
+    λ program accepted. (let fault = c.in-Err-Refused.field-0-is in let want = c.in-Err-Refused.ensures.only program accepted in cc)
+
+pub returns-in_ok-ended-in-Err-Refused-clause-told : goal.returns-in_ok-ended-in-Err-Refused-clause-told
+returns-in_ok-ended-in-Err-Refused-clause-told g c =
+    λ refusal cause. (let told = subst (λ (f : Fault). IsToldBy refusal f) c.in-Err-Refused.field-0-is (c.in-Err-Refused.ensures.told refusal cause) in
+    (refl, c.in_ok-ended-in-Err-Refused.ensures ∙ ap line (c.as_slice.ensures.bytes ∙ told.1)))

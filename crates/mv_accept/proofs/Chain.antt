@@ -1,0 +1,59 @@
+-- Two answers behind one another: where each is exact, so is the last.
+use Rattle.std.proofs.Common.{◌≡◌, ◌⊎◌, inl, inr, Result, Ok, Err, refl, sym, subst, ◌∙◌}
+use Rattle.std.specs.Prelude.{IfOk, IfErr, MatchResult}
+use Rattle.mv_accept.specs.declared.refusal.Refusal.{Refusal}
+use Rattle.mv_accept.specs.declared.accept.NotAccepted.{NotAccepted}
+use Rattle.mv_accept.specs.declared.accept.NotAccepted.TheVariants.{Refused, NoMemory}
+use Rattle.mv_accept.specs.Exact.{Exact, HasCause, Tells}
+
+module _ {A B : Type 0} (P : A → Type 0) (C : Refusal → Type 0) (Q : A → B → Type 0) (D : A → Refusal → Type 0) where
+  -- what there is behind what there is
+  abbrev pub Then : B → Type 0
+  Then b = (a : A) × P a × Q a b
+
+  -- why there is none: there is nothing to begin with, or nothing behind it
+  abbrev pub Neither : Refusal → Type 0
+  Neither refusal = C refusal ⊎ ((a : A) × P a × D a refusal)
+
+  cause_of_first : (f : NotAccepted) → HasCause C f → HasCause Neither f
+  cause_of_first (Refused refusal) c = inl c
+  cause_of_first NoMemory c = c
+
+  cause_of_next : (a : A) → P a → (f : NotAccepted) → HasCause (D a) f → HasCause Neither f
+  cause_of_next a p (Refused refusal) d = inr (a, p, d)
+  cause_of_next a p NoMemory d = d
+
+  -- nothing was found to begin with
+  pub failed : (f : NotAccepted) → Exact P C (Err f) → Exact Then Neither (Err f)
+  failed f e = record {
+    found = tt;
+    only = λ b t. e.only t.0 t.1;
+    refused = cause_of_first f e.refused;
+    told = λ refusal n. elim n [
+      | inl c ↦ e.told refusal c
+      | inr d ↦ inr (e.only d.0 d.1)
+    ];
+  }
+
+  same : (a b : A) → Exact P C (Ok a) → P b → a ≡ b
+  same a b e p = e.only b p
+
+  found_next : (a : A) → P a → (r : Result B NotAccepted) → IfOk r (Q a) → IfOk r Then
+  found_next a p (Ok b) q = (a, p, q)
+  found_next a p (Err f) q = tt
+
+  refused_next : (a : A) → P a → (r : Result B NotAccepted) → IfErr r (HasCause (D a)) → IfErr r (HasCause Neither)
+  refused_next a p (Ok b) d = tt
+  refused_next a p (Err f) d = cause_of_next a p f d
+
+  -- the next answer is that to what was found
+  pub passed : (a : A) (r : Result B NotAccepted) → Exact P C (Ok a) → Exact (Q a) (D a) r → Exact Then Neither r
+  passed a r e n = record {
+    found = found_next a e.found r n.found;
+    only = λ b t. n.only b (subst (λ (x : A). Q x b) (sym (same a t.0 e t.1)) t.2);
+    refused = refused_next a e.found r n.refused;
+    told = λ refusal c. elim c [
+      | inl h ↦ absurd (e.told refusal h)
+      | inr d ↦ n.told refusal (subst (λ (x : A). D x refusal) (sym (same a d.0 e d.1)) d.2)
+    ];
+  }

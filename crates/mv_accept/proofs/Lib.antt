@@ -1,0 +1,6 @@
+pub mod Printing
+pub mod Chain
+pub mod Stages
+pub mod Naming
+pub mod Sizes
+pub mod Fitting

@@ -1,0 +1,106 @@
+-- Which bytes are accepted, and for which program; and why others are refused. The parts are looked at in this order:
+-- tokens, script, names and types, opening rows; each is looked at only where those before it stand.
+use Rattle.std.specs.Prelude.{◌≡◌, ◌⊎◌, ◌<◌, ◌≤◌, ◌^◌, ℕ, List, [], Option, Some, None, length, slice_get}
+use Rattle.mv_values.specs.declared.schema.TableInfo.{TableInfo}
+use Rattle.mv_lex.specs.declared.token.Token.{Token}
+use Rattle.mv_lex.specs.Tokens.{AreTokens, IsBadByte, IsBadToken}
+use Rattle.mv_ast.specs.declared.tree.Script.{Script}
+use Rattle.mv_ast.specs.declared.limit.Which.{Which}
+use Rattle.mv_ast.specs.Lexemes.{IsScript, CannotStand, PassesLimit}
+use Rattle.mv_names.specs.declared.fault.Fault.{Fault}
+use Rattle.mv_names.specs.declared.fault.FaultKind.{FaultKind}
+use Rattle.mv_names.specs.declared.fault.FaultKind.TheVariants as kind
+use Rattle.mv_names.specs.First.{IsFirst}
+use Rattle.mv_names.specs.Faults.{faults}
+use Rattle.mv_catalog.specs.declared.resolved.Resolved.{Resolved}
+use Rattle.mv_catalog.specs.declared.resolved.Program.{Program}
+use Rattle.mv_catalog.specs.Building.{resolved_of}
+use Rattle.mv_opening.specs.declared.fault.OpeningFault.{OpeningFault}
+use Rattle.mv_opening.specs.declared.fault.OpeningFault.TheVariants as opening
+use Rattle.mv_opening.specs.Opening.{IsOpening, HasNoOpening}
+use Rattle.mv_accept.specs.declared.refusal.Refusal.{Refusal}
+use Rattle.mv_accept.specs.declared.refusal.Refusal.TheVariants as why
+
+-- the longest input that is taken
+abbrev pub most_bytes : ℕ
+most_bytes = 2 ^ 24
+
+-- the most calls of a script
+abbrev pub most_calls : ℕ
+most_calls = 1000000
+
+-- the tokens of bytes that aren't too many
+abbrev pub HasTokens : List ℕ → List Token → Type 0
+HasTokens bytes tokens = (length bytes ≤ most_bytes) × AreTokens bytes tokens
+
+-- the script that the bytes spell, within the limits of the language
+abbrev pub Spells : List ℕ → Script → Type 0
+Spells bytes script = (tokens : List Token) × HasTokens bytes tokens × IsScript bytes tokens script
+
+-- what a script without faults of names and types stands for
+abbrev pub Means : Script → Resolved → Type 0
+Means script resolved = (faults script ≡ []) × (resolved ≡ resolved_of script)
+
+abbrev pub StandsFor : List ℕ → Resolved → Type 0
+StandsFor bytes resolved = (script : Script) × Spells bytes script × Means script resolved
+
+-- the program: what the script stands for, with the rows that its calls begin with
+abbrev pub Opens : List ℕ → Resolved → Program → Type 0
+Opens bytes resolved program = (program.resolved ≡ resolved) × IsOpening resolved bytes program.opening
+
+-- accepted bytes, and their program
+abbrev pub Accepts : List ℕ → Program → Type 0
+Accepts bytes program = (resolved : Resolved) × StandsFor bytes resolved × Opens bytes resolved program
+
+-- why bytes have no tokens
+pub data HasNoTokens (bytes : List ℕ) : Refusal → Type 0 where
+  too_long : most_bytes < length bytes → HasNoTokens bytes why.TooLong
+  bad_byte : (at : ℕ) → length bytes ≤ most_bytes → IsBadByte bytes at → HasNoTokens bytes (why.Byte at)
+  bad_token : (at : ℕ) → length bytes ≤ most_bytes → IsBadToken bytes at → HasNoTokens bytes (why.Token at)
+
+-- why tokens are no script within the limits: depth and stretch are looked at before the grammar, the others after it
+pub data IsNoScript (bytes : List ℕ) (tokens : List Token) : Refusal → Type 0 where
+  syntax : (token : ℕ) → CannotStand bytes tokens token → IsNoScript bytes tokens (why.Syntax token)
+  limit : (which : Which) (token : ℕ) → PassesLimit bytes tokens which token → IsNoScript bytes tokens (why.Limit which token)
+
+-- what is told of a fault of names and types at a token
+abbrev pub refusal_at : FaultKind → ℕ → Refusal
+refusal_at kind.UnknownName token = why.UnknownName token
+refusal_at kind.DoubleName token = why.DoubleName token
+refusal_at kind.WrongType token = why.WrongType token
+refusal_at kind.KeyAssigned token = why.KeyAssigned token
+refusal_at kind.Late token = why.Late token
+
+-- why a script stands for nothing: its first fault of names and types
+abbrev pub HasFault : Script → Refusal → Type 0
+HasFault script refusal = (fault : Fault) × IsFirst (faults script) fault × (refusal ≡ refusal_at fault.kind fault.token)
+
+-- the name of a table
+abbrev pub name_in : Option TableInfo → List ℕ
+name_in None = []
+name_in (Some table) = table.name
+
+abbrev pub table_name : Resolved → ℕ → List ℕ
+table_name resolved t = name_in (slice_get resolved.tables t)
+
+-- what is told of rows that can't be taken
+abbrev pub TellsOfRows : Resolved → OpeningFault → Refusal → Type 0
+TellsOfRows resolved (opening.Field t row column) refusal = refusal ≡ why.Field (table_name resolved t) row column
+TellsOfRows resolved (opening.Width t row) refusal = refusal ≡ why.Width (table_name resolved t) row
+TellsOfRows resolved (opening.Duplicate t row) refusal = refusal ≡ why.Duplicate (table_name resolved t) row
+TellsOfRows resolved opening.OpenBlock refusal = refusal ≡ why.OpenBlock
+TellsOfRows resolved opening.NoMemory refusal = ⊥
+
+-- why there are no rows that the calls begin with
+abbrev pub HasNoRows : List ℕ → Resolved → Refusal → Type 0
+HasNoRows bytes resolved refusal = (fault : OpeningFault) × HasNoOpening resolved bytes fault × TellsOfRows resolved fault refusal
+
+-- Why bytes are refused
+abbrev pub SpellsNothing : List ℕ → Refusal → Type 0
+SpellsNothing bytes refusal = HasNoTokens bytes refusal ⊎ ((tokens : List Token) × HasTokens bytes tokens × IsNoScript bytes tokens refusal)
+
+abbrev pub StandsForNothing : List ℕ → Refusal → Type 0
+StandsForNothing bytes refusal = SpellsNothing bytes refusal ⊎ ((script : Script) × Spells bytes script × HasFault script refusal)
+
+abbrev pub Refuses : List ℕ → Refusal → Type 0
+Refuses bytes refusal = StandsForNothing bytes refusal ⊎ ((resolved : Resolved) × StandsFor bytes resolved × HasNoRows bytes resolved refusal)

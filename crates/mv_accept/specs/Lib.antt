@@ -1,0 +1,4 @@
+pub mod Exact
+pub mod Refusals
+pub mod Accepting
+pub mod Telling

@@ -1,0 +1,187 @@
+//! Accepting a script: from bytes to a program, part by part.
+
+ghost use Rattle.std.specs.Prelude.{◌≡◌, ◌≤◌, length, IfOk, All};
+ghost use Rattle.mv_lex.specs.Tokens.{IsSpelledIn};
+ghost use Rattle.mv_catalog.specs.Fits.{Fits};
+ghost use Rattle.mv_opening.specs.Opening.{FitTogether};
+ghost use Rattle.mv_accept.specs.Exact.{Exact};
+ghost use Rattle.mv_accept.specs.Accepting.{HasTokens, HasNoTokens, Spells, SpellsNothing, StandsFor, StandsForNothing, Accepts, Refuses, TellsOfRows, most_calls, table_name};
+ghost use Rattle.mv_accept.specs.Telling.{of_lexing, of_parsing, of_naming, OfOpening};
+
+use crate::refusal::Refusal;
+use mv_ast::tree::Script;
+use mv_catalog::refused::NameFault;
+use mv_catalog::resolve::resolve;
+use mv_catalog::resolved::{Program, Resolved};
+use mv_lex::lexer::{LexFault, lex};
+use mv_lex::token::Token;
+use mv_opening::fault::OpeningFault;
+use mv_opening::opening::opening;
+use mv_parser::fault::ParseFault;
+use mv_parser::parse::parse;
+use mv_values::copied::Copied;
+use mv_values::list::List;
+use mv_values::memory::NoMemory;
+use mv_values::txt::Txt;
+use std::alloc::Global;
+
+/// No input of more bytes is taken.
+pub const MOST_BYTES: usize = 16_777_216;
+
+/// Why there is no program.
+#[derive(Drop)]
+pub enum NotAccepted {
+    Refused(Refusal),
+    NoMemory,
+}
+
+impl From<NoMemory> for NotAccepted {
+    ghost use Rattle.std.specs.Prelude.{◌≡◌};
+    ghost use Rattle.mv_accept.specs.declared.accept.NotAccepted.TheVariants as failure;
+
+    ghost from_gives = { λ _ e. e ≡ failure.NoMemory };
+
+    fn from(_error: NoMemory) -> NotAccepted {
+        NotAccepted::NoMemory
+    }
+}
+
+/// The program of these bytes: what the script stands for, and the database that its calls begin with. Or the first
+/// cause of refusal in this order: too many bytes; a byte that no script has; a place without a token; depth and
+/// stretch; the grammar; the other limits; names and types; the rows of VALUES, table by table; the copies in the order
+/// of the text; the journal's block. It takes time in the number of bytes, and n log n for n rows.
+pub fn accept(alloc: Global, bytes: &[u8]) -> Result<Program, NotAccepted>
+    ensures exact { Exact (Accepts bytes.now) (Refuses bytes.now) result }
+    ensures fits { IfOk result Fits }
+    ensures few { IfOk result (λ program. length program.resolved.calls ≤ most_calls) }
+{
+    let resolved = match resolved_of(alloc, bytes) {
+        Ok(resolved) => resolved,
+        Err(failure) => return Err(failure),
+    };
+    match opening(alloc, &resolved, bytes) {
+        Ok(opening) => Ok(Program { resolved, opening }),
+        Err(fault) => Err(of_opening(alloc, &resolved, fault)),
+    }
+}
+
+/// What the script of the bytes stands for.
+fn resolved_of(alloc: Global, bytes: &[u8]) -> Result<Resolved, NotAccepted>
+    ensures { Exact (StandsFor bytes.now) (StandsForNothing bytes.now) result }
+{
+    let script = match script_of(alloc, bytes) {
+        Ok(script) => script,
+        Err(failure) => return Err(failure),
+    };
+    match resolve(alloc, script) {
+        Ok(resolved) => Ok(resolved),
+        Err(fault) => Err(of_naming(fault)),
+    }
+}
+
+/// The script that the bytes spell.
+fn script_of(alloc: Global, bytes: &[u8]) -> Result<Script, NotAccepted>
+    ensures { Exact (Spells bytes.now) (SpellsNothing bytes.now) result }
+{
+    let tokens = match tokens_of(alloc, bytes) {
+        Ok(tokens) => tokens,
+        Err(failure) => return Err(failure),
+    };
+    match parse(alloc, &tokens, bytes) {
+        Ok(script) => Ok(script),
+        Err(fault) => Err(of_parsing(fault)),
+    }
+}
+
+/// The tokens of the bytes.
+fn tokens_of(alloc: Global, bytes: &[u8]) -> Result<List<Token>, NotAccepted>
+    ensures exact { Exact (HasTokens bytes.now) (HasNoTokens bytes.now) result }
+    ensures spelled { IfOk result (All (IsSpelledIn bytes.now)) }
+{
+    if MOST_BYTES < bytes.len() {
+        return Err(NotAccepted::Refused(Refusal::TooLong));
+    }
+    match lex(alloc, bytes) {
+        Ok(tokens) => Ok(tokens),
+        Err(fault) => Err(of_lexing(fault)),
+    }
+}
+
+fn of_lexing(fault: LexFault) -> NotAccepted
+    ensures { result ≡ of_lexing fault }
+{
+    match fault {
+        LexFault::BadByte { at } => NotAccepted::Refused(Refusal::Byte { at }),
+        LexFault::BadToken { at } => NotAccepted::Refused(Refusal::Token { at }),
+        LexFault::NoMemory => NotAccepted::NoMemory,
+    }
+}
+
+fn of_parsing(fault: ParseFault) -> NotAccepted
+    ensures { result ≡ of_parsing fault }
+{
+    match fault {
+        ParseFault::Syntax { token } => NotAccepted::Refused(Refusal::Syntax { token }),
+        ParseFault::Limit { which, token } => NotAccepted::Refused(Refusal::Limit { which, token }),
+        ParseFault::NoMemory => NotAccepted::NoMemory,
+    }
+}
+
+fn of_naming(fault: NameFault) -> NotAccepted
+    ensures { result ≡ of_naming fault }
+{
+    match fault {
+        NameFault::UnknownName { token } => NotAccepted::Refused(Refusal::UnknownName { token }),
+        NameFault::DoubleName { token } => NotAccepted::Refused(Refusal::DoubleName { token }),
+        NameFault::WrongType { token } => NotAccepted::Refused(Refusal::WrongType { token }),
+        NameFault::KeyAssigned { token } => NotAccepted::Refused(Refusal::KeyAssigned { token }),
+        NameFault::Late { token } => NotAccepted::Refused(Refusal::Late { token }),
+        NameFault::NoMemory => NotAccepted::NoMemory,
+    }
+}
+
+fn of_opening(alloc: Global, resolved: &Resolved, fault: OpeningFault) -> NotAccepted
+    ensures { OfOpening resolved.now fault result }
+{
+    match refusal_of(alloc, resolved, fault) {
+        Ok(refusal) => NotAccepted::Refused(refusal),
+        Err(_) => NotAccepted::NoMemory,
+    }
+}
+
+/// The refusal of rows that can't be taken, with the name of their table.
+fn refusal_of(
+    alloc: Global,
+    resolved: &Resolved,
+    fault: OpeningFault,
+) -> Result<Refusal, NoMemory>
+    ensures { IfOk result (TellsOfRows resolved.now fault) }
+{
+    match fault {
+        OpeningFault::Field { table, row, column } => Ok(Refusal::Field {
+            table: table_name(alloc, resolved, table)?,
+            row,
+            column,
+        }),
+        OpeningFault::Width { table, row } => Ok(Refusal::Width {
+            table: table_name(alloc, resolved, table)?,
+            row,
+        }),
+        OpeningFault::Duplicate { table, row } => Ok(Refusal::Duplicate {
+            table: table_name(alloc, resolved, table)?,
+            row,
+        }),
+        OpeningFault::OpenBlock => Ok(Refusal::OpenBlock),
+        OpeningFault::NoMemory => Err(NoMemory),
+    }
+}
+
+/// The name of the table with this number.
+fn table_name(alloc: Global, resolved: &Resolved, table: u8) -> Result<Txt, NoMemory>
+    ensures { IfOk result (λ name. name ≡ table_name resolved.now table) }
+{
+    match resolved.tables.as_slice().get(table as usize) {
+        Some(table) => table.name.copy(alloc),
+        None => Ok(Txt::new(alloc)),
+    }
+}

@@ -1,0 +1,163 @@
+//! Why a script is refused: the number and the line of each refusal.
+
+ghost use Rattle.std.specs.Prelude.{◌≡◌, ◌++◌, IfOk, All, codes, decimal};
+ghost use Rattle.mv_values.specs.Printable.{IsPrintable};
+ghost use Rattle.mv_accept.specs.Refusals.{number_of, line_of, limit_name};
+
+use mv_ast::limit::Which;
+use mv_values::memory::NoMemory;
+use mv_values::txt::Txt;
+use std::alloc::Global;
+
+/// Why a script is refused. Bytes count from 0; tokens, rows and columns from 1.
+#[derive(Drop)]
+pub enum Refusal {
+    /// It has more than 2^24 bytes.
+    TooLong,
+    /// This is the first byte that no script has.
+    Byte { at: u32 },
+    /// No token stands at this place, which is the first such.
+    Token { at: u32 },
+    /// This is the first token with which no script goes on, or one past the last.
+    Syntax { token: u32 },
+    /// A limit of the language is passed first at this token.
+    Limit { which: Which, token: u32 },
+    /// A table, column, procedure, variable, loop or key column of this name isn't there.
+    UnknownName { token: u32 },
+    /// Another one of this name is there already.
+    DoubleName { token: u32 },
+    /// This part has another type or length than its place, or is no declared variable where one is set.
+    WrongType { token: u32 },
+    /// A key column is set.
+    KeyAssigned { token: u32 },
+    /// An item stands behind one of a later kind, or it is a second journal.
+    Late { token: u32 },
+    /// The field of a copy is no value of its column.
+    Field { table: Txt, row: u32, column: u32 },
+    /// The record of a copy has another number of fields than its table has columns.
+    Width { table: Txt, row: u32 },
+    /// A row with the key is there already. Rows of VALUES or of the copy's block are counted.
+    Duplicate { table: Txt, row: u32 },
+    /// The block of a copy or of the journal has no end.
+    OpenBlock,
+}
+
+impl Refusal {
+    /// The number of the refusal.
+    pub fn number(&self) -> u32
+        ensures { result ≡ number_of self.now }
+    {
+        match self {
+            Refusal::TooLong => 1,
+            Refusal::Byte { .. } => 2,
+            Refusal::Token { .. } => 3,
+            Refusal::Syntax { .. } => 4,
+            Refusal::Limit { .. } => 5,
+            Refusal::UnknownName { .. } => 6,
+            Refusal::DoubleName { .. } => 7,
+            Refusal::WrongType { .. } => 8,
+            Refusal::KeyAssigned { .. } => 9,
+            Refusal::Late { .. } => 10,
+            Refusal::Field { .. } => 11,
+            Refusal::Width { .. } => 12,
+            Refusal::Duplicate { .. } => 13,
+            Refusal::OpenBlock => 14,
+        }
+    }
+
+    /// The line that is written.
+    pub fn line(&self, alloc: Global) -> Result<Txt, NoMemory>
+        ensures { IfOk result (λ line. line ≡ line_of self.now) }
+    {
+        match self {
+            Refusal::TooLong => Txt::of(alloc, b"refused 1 too long"),
+            Refusal::Byte { at } => numbered(alloc, b"refused 2 byte ", *at),
+            Refusal::Token { at } => numbered(alloc, b"refused 3 token at ", *at),
+            Refusal::Syntax { token } => numbered(alloc, b"refused 4 syntax at token ", *token),
+            Refusal::Limit { which, token } => limit_line(alloc, *which, *token),
+            Refusal::UnknownName { token } => {
+                numbered(alloc, b"refused 6 unknown name at token ", *token)
+            }
+            Refusal::DoubleName { token } => {
+                numbered(alloc, b"refused 7 double name at token ", *token)
+            }
+            Refusal::WrongType { token } => {
+                numbered(alloc, b"refused 8 wrong type at token ", *token)
+            }
+            Refusal::KeyAssigned { token } => {
+                numbered(alloc, b"refused 9 key assigned at token ", *token)
+            }
+            Refusal::Late { token } => numbered(alloc, b"refused 10 late at token ", *token),
+            Refusal::Field { table, row, column } => field_line(alloc, table, *row, *column),
+            Refusal::Width { table, row } => row_line(alloc, b"refused 12 table ", table, *row),
+            Refusal::Duplicate { table, row } => row_line(alloc, b"refused 13 table ", table, *row),
+            Refusal::OpenBlock => Txt::of(alloc, b"refused 14 open block"),
+        }
+    }
+}
+
+/// A text with a number behind it.
+fn numbered(alloc: Global, front: &[u8], number: u32) -> Result<Txt, NoMemory>
+    requires { All IsPrintable front.now }
+    ensures { IfOk result (λ text. text ≡ front.now ++ decimal number) }
+{
+    let mut text = Txt::of(alloc, front)?;
+    text.append(number.to_string(alloc)?.as_bytes())?;
+    Ok(text)
+}
+
+/// A text with a row of a table behind it.
+fn row_line(alloc: Global, front: &[u8], table: &Txt, row: u32) -> Result<Txt, NoMemory>
+    requires { All IsPrintable front.now }
+    ensures { IfOk result (λ text. text ≡ front.now ++ table.now ++ codes " row " ++ decimal row) }
+{
+    let mut text = Txt::of(alloc, front)?;
+    text.append(table.as_slice())?;
+    text.append(b" row ")?;
+    text.append(row.to_string(alloc)?.as_bytes())?;
+    Ok(text)
+}
+
+/// The line of a field that is no value.
+fn field_line(alloc: Global, table: &Txt, row: u32, column: u32) -> Result<Txt, NoMemory>
+    ensures { IfOk result (λ line. line ≡ codes "refused 11 table " ++ table.now ++ codes " row " ++ decimal row ++ codes " column " ++ decimal column) }
+{
+    let mut line = row_line(alloc, b"refused 11 table ", table, row)?;
+    line.append(b" column ")?;
+    line.append(column.to_string(alloc)?.as_bytes())?;
+    Ok(line)
+}
+
+/// The line of a limit that is passed.
+fn limit_line(alloc: Global, which: Which, token: u32) -> Result<Txt, NoMemory>
+    ensures { IfOk result (λ line. line ≡ codes "refused 5 limit " ++ limit_name which ++ codes " at token " ++ decimal token) }
+{
+    let mut line = Txt::of(alloc, b"refused 5 limit ")?;
+    line.append(limit_name(which))?;
+    line.append(b" at token ")?;
+    line.append(token.to_string(alloc)?.as_bytes())?;
+    Ok(line)
+}
+
+/// The printed name of a limit.
+fn limit_name(which: Which) -> &'static [u8]
+    ensures name { result.now ≡ limit_name which }
+    ensures printable { All IsPrintable result.now }
+{
+    match which {
+        Which::Depth => b"depth",
+        Which::Stretch => b"stretch",
+        Which::Name => b"name",
+        Which::Literal => b"literal",
+        Which::Text => b"text",
+        Which::Tables => b"tables",
+        Which::Procedures => b"procedures",
+        Which::Columns => b"columns",
+        Which::Key => b"key",
+        Which::Parameters => b"parameters",
+        Which::Variables => b"variables",
+        Which::Statements => b"statements",
+        Which::Calls => b"calls",
+        Which::Rows => b"rows",
+    }
+}
