@@ -39,7 +39,8 @@ misfit place token type = when (clash place type) (wrong token)
 abbrev pub in_place : ValueType → Judged → List Fault
 in_place place part = part.faults ++ misfit place part.token part.type
 
--- a name that is read as a value; a ROWS parameter or a loop can't be
+-- a name that is read as a value; a ROWS parameter or a loop can't be. A name that isn't there is a fault at the name, one of
+-- the wrong sort at the expression's first token, which in parentheses is the `(`.
 abbrev pub type_of_meaning : Meaning → ValueType
 type_of_meaning (Fixed t) = t
 type_of_meaning (Variable t) = t
@@ -56,15 +57,15 @@ abbrev pub read_type : Option Entry → ValueType
 read_type None = Unknown
 read_type (Some e) = type_of_meaning e.meaning
 
-abbrev pub read_faults : ℕ → Option Entry → List Fault
-read_faults token None = unknown token ∷ []
-read_faults token (Some e) = reading_faults token e.meaning
+abbrev pub read_faults : Name → ℕ → Option Entry → List Fault
+read_faults n token None = unknown n.token ∷ []
+read_faults n token (Some e) = reading_faults token e.meaning
 
 abbrev pub judged_variable : List Entry → Name → ℕ → Judged
 judged_variable scope n token = record {
   token = token;
   type = read_type (entry_of scope n.text);
-  faults = read_faults n.token (entry_of scope n.text);
+  faults = read_faults n token (entry_of scope n.text);
 }
 
 -- a column of a loop's row
@@ -91,15 +92,15 @@ abbrev pub of_turn_type : Option Entry → Name → ValueType
 of_turn_type None n = Unknown
 of_turn_type (Some e) n = turn_type e.meaning n
 
-abbrev pub of_turn_faults : ℕ → Option Entry → Name → List Fault
-of_turn_faults token None n = unknown token ∷ []
-of_turn_faults token (Some e) n = turn_faults token e.meaning n
+abbrev pub of_turn_faults : Name → ℕ → Option Entry → Name → List Fault
+of_turn_faults r token None n = unknown r.token ∷ []
+of_turn_faults r token (Some e) n = turn_faults token e.meaning n
 
 abbrev pub judged_field : List Entry → Name → Name → ℕ → Judged
 judged_field scope r n token = record {
   token = token;
   type = of_turn_type (entry_of scope r.text) n;
-  faults = of_turn_faults r.token (entry_of scope r.text) n;
+  faults = of_turn_faults r token (entry_of scope r.text) n;
 }
 
 -- a column: one that isn't there is a fault, but not where its table isn't there

@@ -68,14 +68,15 @@ pub(crate) fn check_fit(
     add_if(faults, do_clash(place, kind), Fault::wrong(token))
 }
 
-/// A name that is read as a value.
+/// A name that is read as a value, in an expression that begins at this token.
 fn check_variable(
     scope: &[Entry],
     name: &Name,
+    token: u32,
     faults: &mut List<Fault>,
 ) -> Result<ValueType, NoMemory>
     ensures kind { IfOk result (λ t. t ≡ read_type (entry_of scope.now name.now.text)) }
-    ensures faults { OnOk result (faults.new ≡ faults.old ++ read_faults name.now.token (entry_of scope.now name.now.text)) }
+    ensures faults { OnOk result (faults.new ≡ faults.old ++ read_faults name.now token (entry_of scope.now name.now.text)) }
 {
     match find(scope, &name.text) {
         None => {
@@ -86,11 +87,11 @@ fn check_variable(
             Meaning::Fixed(kind) => Ok(*kind),
             Meaning::Variable(kind) => Ok(*kind),
             Meaning::Rows(_) => {
-                faults.push(Fault::wrong(name.token))?;
+                faults.push(Fault::wrong(token))?;
                 Ok(ValueType::Unknown)
             }
             Meaning::Turn(_) => {
-                faults.push(Fault::wrong(name.token))?;
+                faults.push(Fault::wrong(token))?;
                 Ok(ValueType::Unknown)
             }
         },
@@ -115,15 +116,16 @@ fn check_in_turn(
     }
 }
 
-/// A column of a loop's row.
+/// A column of a loop's row, in an expression that begins at this token.
 fn check_field(
     scope: &[Entry],
     row: &Name,
     name: &Name,
+    token: u32,
     faults: &mut List<Fault>,
 ) -> Result<ValueType, NoMemory>
     ensures kind { IfOk result (λ t. t ≡ of_turn_type (entry_of scope.now row.now.text) name.now) }
-    ensures faults { OnOk result (faults.new ≡ faults.old ++ of_turn_faults row.now.token (entry_of scope.now row.now.text) name.now) }
+    ensures faults { OnOk result (faults.new ≡ faults.old ++ of_turn_faults row.now token (entry_of scope.now row.now.text) name.now) }
 {
     match find(scope, &row.text) {
         None => {
@@ -133,7 +135,7 @@ fn check_field(
         Some(entry) => match &entry.meaning {
             Meaning::Turn(fields) => check_in_turn(fields.as_slice(), name, faults),
             _ => {
-                faults.push(Fault::wrong(row.token))?;
+                faults.push(Fault::wrong(token))?;
                 Ok(ValueType::Unknown)
             }
         },
@@ -218,8 +220,8 @@ pub(crate) fn check_expr(
 {
     match &e.kind {
         ExprKind::Const(value) => Ok(value_kind(value)),
-        ExprKind::Var(name) => check_variable(scope, name, faults),
-        ExprKind::Field(row, name) => check_field(scope, row, name, faults),
+        ExprKind::Var(name) => check_variable(scope, name, e.token, faults),
+        ExprKind::Field(row, name) => check_field(scope, row, name, e.token, faults),
         ExprKind::Col(name) => {
             check_column(columns, name, faults)?;
             Ok(kind_among(columns, name))
