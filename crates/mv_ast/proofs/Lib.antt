@@ -2,3 +2,4 @@ pub mod Limited
 pub mod Counting
 pub mod Holding
 pub mod Standing
+pub mod Keyed

@@ -5,3 +5,4 @@ pub mod Grammar
 pub mod Lexemes
 pub mod Limits
 pub mod Standing
+pub mod Keys
