@@ -1,3 +1,6 @@
 pub mod Fits
+pub mod Types
+pub mod Statements
+pub mod Text
 pub mod Building
 pub mod Resolving

@@ -1,9 +1,13 @@
 //! Resolving scripts: the program that a script stands for, or its first fault.
 
+ghost use Rattle.std.specs.Prelude.{◌≡◌, [], IfOk};
 ghost use Rattle.mv_ast.specs.declared.tree.Script.{Script as ScriptValue};
+ghost use Rattle.mv_ast.specs.Keys.{HasKeys};
+ghost use Rattle.mv_ast.specs.Limits.{script_passes};
 ghost use Rattle.mv_names.specs.First.{IsFirst};
 ghost use Rattle.mv_names.specs.Faults.{faults};
 ghost use Rattle.mv_catalog.specs.Resolving.{Refuses, Resolves};
+ghost use Rattle.mv_catalog.specs.Text.{FitsText};
 
 use crate::build::built;
 use crate::refused::NameFault;
@@ -33,8 +37,12 @@ fn refused(fault: Fault) -> NameFault
 /// the one at the least token, and of two at one token the one whose kind stands first in `NameFault`. `NoMemory` comes
 /// only where memory runs out. The script is given up. It costs the size of the script, and for each name a walk over
 /// those among which it is looked up.
+///
+/// The program is of one piece where the script is within the limits and each table names a key column, as in every
+/// script by the grammar.
 pub fn resolve(alloc: Global, script: Script) -> Result<Resolved, NameFault>
-    ensures { Resolves script result }
+    ensures resolves { Resolves script result }
+    ensures fits { script_passes script ≡ [] → HasKeys script → IfOk result FitsText }
 {
     let mut faults = List::new(alloc);
     check_order(script.items.as_slice(), &mut faults)?;

@@ -1,0 +1,69 @@
+-- Lists without faults, and names found by their places.
+use Rattle.std.proofs.Common.{◌≡◌, ℕ, zero, suc, ◌<◌, ◌≤◌, ◌-◌, ◌^◌, Bool, true, false, not, ◌||◌, List, [], ◌∷◌, ◌++◌, Option, Some, refl, ap, map, length, slice_get, arith, if◌then◌else◌, All}
+use Rattle.std.specs.List.{flat_map, AllByRecursion}
+use Rattle.mv_ast.proofs.Limited.{nothing_left as neither_left}
+use Rattle.std.proofs.lemmas.List.Elements.{All-nil, All-cons}
+use Rattle.mv_names.specs.Named.{Text, same_text, first_named, place_named}
+use Rattle.mv_names.specs.declared.fault.Fault.{Fault}
+use Rattle.mv_names.specs.First.{when}
+use Rattle.mv_catalog.specs.Building.{small, tiny}
+
+-- two lists that make none
+pub nothing_left : {A : Type 0} (xs ys : List A) → xs ++ ys ≡ [] → xs ≡ []
+nothing_left xs ys h = (neither_left xs ys h).0
+
+pub nothing_right : {A : Type 0} (xs ys : List A) → xs ++ ys ≡ [] → ys ≡ []
+nothing_right xs ys h = (neither_left xs ys h).1
+
+pub neither : (p q : Bool) → (p || q) ≡ false → (p ≡ false) × (q ≡ false)
+neither true q h = cc
+neither false q h = (refl, h)
+
+pub not_false : (b : Bool) → not b ≡ false → b ≡ true
+not_false true h = refl
+not_false false h = cc
+
+pub not_when : (b : Bool) (f : Fault) → when b f ≡ [] → b ≡ false
+not_when true f h = cc
+not_when false f h = refl
+
+-- what holds of each item that makes nothing
+pub all_mapped : {A B C : Type 0} (f : A → List B) (g : A → C) (P : C → Type 0) → ((x : A) → f x ≡ [] → P (g x)) → (xs : List A) → flat_map f xs ≡ [] → All P (map g xs)
+all_mapped f g P each [] h = All-nil P
+all_mapped f g P each (x ∷ xs) h =
+    All-cons P (g x) (map g xs) (each x (nothing_left (f x) (flat_map f xs) h)) (all_mapped f g P each xs (nothing_right (f x) (flat_map f xs) h))
+
+pub each_of : {A B : Type 0} (f : A → List B) (P : A → Type 0) → ((x : A) → f x ≡ [] → P x) → (xs : List A) → flat_map f xs ≡ [] → AllByRecursion P xs
+each_of f P each [] h = tt
+each_of f P each (x ∷ xs) h = (each x (nothing_left (f x) (flat_map f xs) h), each_of f P each xs (nothing_right (f x) (flat_map f xs) h))
+
+pub small_is : (n : ℕ) → n ≤ 2 ^ 16 - 1 → small n ≡ n
+small_is n h = omega arith
+
+pub tiny_is : (n : ℕ) → n ≤ 2 ^ 8 - 1 → tiny n ≡ n
+tiny_is n h = omega arith
+
+place_step : {A : Type 0} (x y : A) (xs : List A) (b : Bool) (first : Option A) (p : ℕ) → (if b then Some x else first) ≡ Some y → (first ≡ Some y → slice_get xs p ≡ Some y)
+    → slice_get (x ∷ xs) (if b then 0 else suc p) ≡ Some y
+place_step x y xs true first p h ih = h
+place_step x y xs false first p h ih = ih h
+
+-- the first of a name stands at its place
+pub place_found : {A : Type 0} (name : A → Text) (xs : List A) (n : Text) (y : A) → first_named name xs n ≡ Some y → slice_get xs (place_named name xs n) ≡ Some y
+place_found name [] n y h = cc
+place_found name (x ∷ xs) n y h =
+    place_step x y xs (same_text (name x) n) (first_named name xs n) (place_named name xs n) h (place_found name xs n y)
+
+pub map_map : {A B C : Type 0} (f : B → C) (g : A → B) (xs : List A) → map f (map g xs) ≡ map (λ x. f (g x)) xs
+map_map f g [] = refl
+map_map f g (x ∷ xs) = ap (λ l. f (g x) ∷ l) (map_map f g xs)
+
+pub get_map : {A B : Type 0} (f : A → B) (xs : List A) (i : ℕ) (x : A) → slice_get xs i ≡ Some x → slice_get (map f xs) i ≡ Some (f x)
+get_map f [] i x h = cc
+get_map f (y ∷ ys) zero x h = let same : y ≡ x = cc in ap (λ z. Some (f z)) same
+get_map f (y ∷ ys) (suc i) x h = get_map f ys i x h
+
+pub get_within : {A : Type 0} (xs : List A) (i : ℕ) (x : A) → slice_get xs i ≡ Some x → i < length xs
+get_within [] i x h = cc
+get_within (y ∷ ys) zero x h = omega arith
+get_within (y ∷ ys) (suc i) x h = omega (arith, get_within ys i x h)

@@ -1,0 +1,94 @@
+-- A text that stands for a program of one piece: its numbers are those of what is there, and types agree. This project's own.
+use Rattle.std.specs.Prelude.{◌≡◌, ◌≢◌, ◌<◌, ◌≤◌, ⊤, List, [], ◌∷◌, ◌++◌, length, map, Some, slice_get, All, AllPairs}
+use Rattle.std.specs.List.{AllZip}
+use Rattle.mv_values.specs.declared.schema.ColType.{ColType}
+use Rattle.mv_values.specs.declared.schema.ColType.TheVariants as column
+use Rattle.mv_values.specs.declared.schema.Column.{Column}
+use Rattle.mv_values.specs.declared.schema.TableInfo.{TableInfo}
+use Rattle.mv_values.specs.declared.value.Value.{Value}
+use Rattle.mv_values.specs.declared.value.Value.TheVariants as value
+use Rattle.mv_values.specs.declared.calls.Argument.{Argument}
+use Rattle.mv_values.specs.declared.calls.Argument.TheVariants as argument
+use Rattle.mv_values.specs.declared.calls.Call.{Call}
+use Rattle.mv_catalog.specs.declared.resolved.ParamInfo.{ParamInfo}
+use Rattle.mv_catalog.specs.declared.resolved.ParamInfo.TheVariants as param
+use Rattle.mv_catalog.specs.declared.resolved.ProcInfo.{ProcInfo}
+use Rattle.mv_catalog.specs.declared.resolved.CopyInfo.{CopyInfo}
+use Rattle.mv_catalog.specs.declared.resolved.Resolved.{Resolved}
+use Rattle.mv_catalog.specs.Types.{int, Var, fixed, declared, rows, Vars, kind_of_column, kind_of_value}
+use Rattle.mv_catalog.specs.Statements.{all_well, IsWell, rows_of, CountsFrom}
+
+-- Values and rows
+
+-- a value of the type, and no text longer than the type says. That numbers have 64 bits and that texts can be printed is so of
+-- every value of a program.
+abbrev pub IsOf : ColType → Value → Type 0
+IsOf column.Int (value.Int z) = ⊤
+IsOf column.Int (value.Text t) = ⊥
+IsOf (column.Text n) (value.Int z) = ⊥
+IsOf (column.Text n) (value.Text t) = length t ≤ n
+
+-- a value for each column
+abbrev pub IsRow : List ColType → List Value → Type 0
+IsRow types row = AllZip IsOf types row
+
+-- Tables
+
+abbrev pub types_of : TableInfo → List ColType
+types_of t = map (λ (c : Column). c.kind) t.columns
+
+-- a table has columns, and key columns among them, each but once
+pub record IsTable (t : TableInfo) : Type 0 where
+  pub wide : 0 < length t.columns
+  pub some : 0 < length t.key
+  pub within : All (λ c. c < length t.columns) t.key
+  pub once : AllPairs (λ c d. c ≢ d) t.key
+
+abbrev pub RowsFit : TableInfo → List (List Value) → Type 0
+RowsFit t all = All (IsRow (types_of t)) all
+
+-- Procedures
+
+abbrev pub param_var : ParamInfo → Var
+param_var (param.One type) = fixed (kind_of_column type)
+param_var (param.Many types) = rows (map kind_of_column types)
+
+-- the numbers outside loops: parameters, declared variables and `:found`
+abbrev pub own_vars : ProcInfo → List Var
+own_vars p = map param_var p.params ++ map (λ v. declared (kind_of_value v)) p.defaults ++ fixed int ∷ []
+
+abbrev pub vars_of : ProcInfo → Vars
+vars_of p = slice_get (own_vars p)
+
+-- a variable begins with no text of more than 4,000 bytes
+abbrev pub IsShort : Value → Type 0
+IsShort (value.Int z) = ⊤
+IsShort (value.Text t) = length t ≤ 4000
+
+-- what its variables begin with, its statements, and the numbers of its loops' rows: those behind `:found`, in the order of the text
+pub record IsProcedure (tables : List TableInfo) (p : ProcInfo) : Type 0 where
+  pub defaults : All IsShort p.defaults
+  pub body : all_well (IsWell tables) p.body (vars_of p)
+  pub loops : CountsFrom (length (own_vars p)) (rows_of p.body)
+
+-- Calls
+
+abbrev pub Suits : ParamInfo → Argument → Type 0
+Suits (param.One type) (argument.One v) = IsOf type v
+Suits (param.One type) (argument.Many all) = ⊥
+Suits (param.Many types) (argument.One v) = ⊥
+Suits (param.Many types) (argument.Many all) = All (IsRow types) all
+
+-- a call of a procedure that is there, with an argument for each parameter
+abbrev pub IsCall : List ProcInfo → Call → Type 0
+IsCall procedures c = (p : ProcInfo) × (slice_get procedures c.procedure ≡ Some p) × AllZip Suits p.params c.arguments
+
+-- The whole
+
+-- the text's part of a program is of one piece
+pub record FitsText (r : Resolved) : Type 0 where
+  pub tables : All IsTable r.tables
+  pub rows : AllZip RowsFit r.tables r.rows
+  pub procedures : All (IsProcedure r.tables) r.procedures
+  pub copies : All (λ (c : CopyInfo). c.table < length r.tables) r.copies
+  pub calls : All (IsCall r.procedures) r.calls
