@@ -1,9 +1,15 @@
 -- What bytes stand for fits together with them.
-use Rattle.std.proofs.Common.{◌≡◌, ◌≤◌, ℕ, List, length, sym, subst}
+use Rattle.std.proofs.Common.{◌≡◌, ◌≤◌, ℕ, List, [], length, sym, subst}
+use Rattle.mv_ast.specs.declared.tree.Script.{Script}
+use Rattle.mv_ast.specs.Keys.{HasKeys}
+use Rattle.mv_ast.specs.Lexemes.{lexemes}
+use Rattle.mv_ast.specs.Limits.{script_passes}
+use Rattle.mv_ast.proofs.Keyed.{keyed}
+use Rattle.mv_ast.proofs.Limited.{kept}
 use Rattle.mv_catalog.specs.declared.resolved.Resolved.{Resolved}
 use Rattle.mv_opening.specs.Opening.{FitTogether}
 use Rattle.mv_opening.proofs.Together.{fits_together, few_calls}
-use Rattle.mv_accept.specs.Accepting.{StandsFor, most_calls}
+use Rattle.mv_accept.specs.Accepting.{Spells, StandsFor, most_calls}
 
 pub fitting : (bytes : List ℕ) (resolved : Resolved) → StandsFor bytes resolved → FitTogether resolved bytes
 fitting bytes resolved s =
@@ -14,3 +20,10 @@ pub few : (bytes : List ℕ) (resolved : Resolved) → StandsFor bytes resolved 
 few bytes resolved s =
     let spelled = s.1 in
     subst (λ (r : Resolved). length r.calls ≤ most_calls) (sym s.2.1) (few_calls bytes spelled.0 s.0 spelled.2)
+
+-- a script that bytes spell passes no limit, and each of its tables names a key column
+pub kept_limits : (bytes : List ℕ) (script : Script) → Spells bytes script → script_passes script ≡ []
+kept_limits bytes script s = kept bytes (lexemes bytes s.0) script s.2.late
+
+pub has_keys : (bytes : List ℕ) (script : Script) → Spells bytes script → HasKeys script
+has_keys bytes script s = keyed bytes s.0 script s.2.grammar

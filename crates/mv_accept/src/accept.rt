@@ -3,7 +3,7 @@
 ghost use Rattle.std.specs.Prelude.{◌≡◌, ◌≤◌, length, IfOk, All};
 ghost use Rattle.mv_lex.specs.Tokens.{IsSpelledIn};
 ghost use Rattle.mv_catalog.specs.Fits.{Fits};
-ghost use Rattle.mv_opening.specs.Opening.{FitTogether};
+ghost use Rattle.mv_catalog.specs.Text.{FitsText};
 ghost use Rattle.mv_accept.specs.Exact.{Exact};
 ghost use Rattle.mv_accept.specs.Accepting.{HasTokens, HasNoTokens, Spells, SpellsNothing, StandsFor, StandsForNothing, Accepts, Refuses, TellsOfRows, most_calls, table_name};
 ghost use Rattle.mv_accept.specs.Telling.{of_lexing, of_parsing, of_naming, OfOpening};
@@ -52,6 +52,8 @@ impl From<NoMemory> for NotAccepted {
 /// of the text; the journal's block. It takes time in the number of bytes, and n log n for n rows.
 pub fn accept(alloc: Global, bytes: &[u8]) -> Result<Program, NotAccepted>
     ensures exact { Exact (Accepts bytes.now) (Refuses bytes.now) result }
+    // What is accepted is of one piece, and its rows stand under their keys.
+    ensures whole { IfOk result (λ program. FitsText program.resolved) }
     ensures fits { IfOk result Fits }
     ensures few { IfOk result (λ program. length program.resolved.calls ≤ most_calls) }
 {
@@ -67,7 +69,8 @@ pub fn accept(alloc: Global, bytes: &[u8]) -> Result<Program, NotAccepted>
 
 /// What the script of the bytes stands for.
 fn resolved_of(alloc: Global, bytes: &[u8]) -> Result<Resolved, NotAccepted>
-    ensures { Exact (StandsFor bytes.now) (StandsForNothing bytes.now) result }
+    ensures exact { Exact (StandsFor bytes.now) (StandsForNothing bytes.now) result }
+    ensures whole { IfOk result FitsText }
 {
     let script = match script_of(alloc, bytes) {
         Ok(script) => script,
