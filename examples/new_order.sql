@@ -1,6 +1,7 @@
--- The tables and procedures of TPC-C (revision 5.11), shortened: addresses, telephone numbers, credit limits, image
--- numbers and the districts' stock texts are left out, h_id is a key of its own, and :c = 0 asks for a customer by last
--- name. Amounts are cents, rates are ten-thousandths, and a carrier or a delivery date of 0 stands for none.
+-- The tables and procedures of TPC-C (revision 5.11), shortened: addresses, telephone numbers, the date since when a
+-- customer is one, credit limits, image numbers and the districts' texts of a stock are left out, h_id is a key of its
+-- own, and :c = 0 asks for a customer by last name. Amounts are cents, rates are ten-thousandths, and a carrier or a
+-- delivery date of 0 stands for none.
 -- Then come a warehouse with one district, two customers and nine items, and two orders that share item 5.
 -- The numbers on the right count the statements of new_order.
 
