@@ -1,5 +1,5 @@
 -- The opening of a script is settled by it: there is one, or there is none for one reason.
-use Rattle.std.proofs.Common.{true, false, ◌≡◌, ◌++◌, ◌∷◌, ◌⊎◌, ℕ, zero, suc, List, [], length, Option, Some, None, Result, Err, inl, inr, refl, sym, ap, subst, ◌∙◌, append-nil}
+use Rattle.std.proofs.Common.{true, false, ◌≡◌, ◌++◌, ◌∷◌, ◌⊎◌, ℕ, List, [], length, Option, Some, None, Result, Err, inl, inr, refl, sym, ap, subst, ◌∙◌}
 use Rattle.std.specs.Prelude.{MatchResult, slice_get, slice_set}
 use Rattle.mv_values.specs.declared.value.Value.{Value}
 use Rattle.mv_values.specs.declared.rows.Keyed.{Keyed}
@@ -9,14 +9,14 @@ use Rattle.mv_catalog.specs.declared.resolved.CopyInfo.{CopyInfo}
 use Rattle.mv_catalog.specs.declared.resolved.Resolved.{Resolved}
 use Rattle.mv_csvio.specs.declared.fault.CopyFault.{CopyFault}
 use Rattle.mv_csvio.specs.Joining.{HasJoined, TellsOfValues}
-use Rattle.mv_csvio.specs.Loading.{HasLoaded, IsFirstBad, records_of}
+use Rattle.mv_csvio.specs.Loading.{records_of}
 use Rattle.mv_csvio.proofs.Exact.{only_fault, only_one}
 use Rattle.mv_csvio.proofs.Firsts.{one_first}
 use Rattle.mv_csvio.proofs.Once.{first_bad_once, loaded_apart, loaded_once, values_apart, values_once}
 use Rattle.mv_csvio.proofs.Rising.{joined_once}
 use Rattle.mv_opening.specs.declared.fault.OpeningFault.{OpeningFault}
 use Rattle.mv_opening.specs.declared.fault.OpeningFault.TheVariants as fault
-use Rattle.mv_opening.specs.Opening.{HasCopied, HasNoOpening, HaveCopied, HaveGathered, IsClosed, IsOpen, IsOpening, TellsOfCopies, TellsOfCopy, TellsOfJournal, TellsOfTables, block_of, in_table}
+use Rattle.mv_opening.specs.Opening.{HasCopied, HasNoOpening, HaveCopied, HaveGathered, IsClosed, IsOpen, IsOpening, TellsOfCopies, TellsOfCopy, TellsOfTables, block_of, in_table}
 
 -- The rows of VALUES
 

@@ -1,8 +1,8 @@
 -- Tables and copies that are taken one after another.
-use Rattle.std.proofs.Common.{true, ◌≡◌, ◌++◌, ◌∷◌, ◌<◌, ◌≤◌, ◌+◌, ℕ, zero, suc, List, [], length, take, drop, Option, Some, None, inl, inr, ◌⊎◌, refl, sym, ap, subst, ◌∙◌, arith, append_assoc}
+use Rattle.std.proofs.Common.{true, ◌≡◌, ◌++◌, ◌∷◌, ◌<◌, ◌+◌, ℕ, zero, suc, List, [], length, take, drop, Some, inl, inr, ◌⊎◌, refl, sym, ap, subst, ◌∙◌, arith, append_assoc}
 use Rattle.std.specs.Prelude.{All, slice_get, slice_index_or, slice_set}
 use Rattle.std.proofs.lemmas.List.Elements.{All-cons, All-head, All-nil, All-tail}
-use Rattle.std.proofs.lemmas.List.{drop_more, length-take, take-append-drop, take_more, take_all}
+use Rattle.std.proofs.lemmas.List.{drop_more, length-take, take-append-drop, take_more}
 use Rattle.mv_values.specs.declared.value.Value.{Value}
 use Rattle.mv_values.specs.declared.rows.Keyed.{Keyed}
 use Rattle.mv_values.specs.declared.schema.TableInfo.{TableInfo}

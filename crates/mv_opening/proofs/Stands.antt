@@ -1,7 +1,6 @@
 -- The rows of an opening stand under their keys and fit their tables.
-use Rattle.std.proofs.Common.{◌≡◌, ℕ, zero, suc, List, [], ◌∷◌, Option, Some, sym, ap, subst}
+use Rattle.std.proofs.Common.{◌≡◌, ℕ, zero, suc, List, [], ◌∷◌, Some, sym, ap, subst}
 use Rattle.std.specs.Prelude.{All, slice_get, slice_set}
-use Rattle.std.specs.List.{AllZip}
 use Rattle.std.proofs.lemmas.List.Elements.{All-nil}
 use Rattle.mv_values.specs.declared.value.Value.{Value}
 use Rattle.mv_values.specs.declared.rows.Keyed.{Keyed}
@@ -10,7 +9,7 @@ use Rattle.mv_catalog.specs.Fits.{KeysStand, key_columns, key_in, rows_at}
 use Rattle.mv_catalog.specs.declared.resolved.CopyInfo.{CopyInfo}
 use Rattle.mv_catalog.specs.declared.resolved.Resolved.{Resolved}
 use Rattle.mv_csvio.specs.Fitting.{FitsTable}
-use Rattle.mv_csvio.specs.Loading.{HasLoaded, records_of}
+use Rattle.mv_csvio.specs.Loading.{records_of}
 use Rattle.mv_csvio.proofs.Fitted.{StandsUnder, joined_fit, joined_keys, loaded_fit, loaded_keys}
 use Rattle.mv_opening.specs.Opening.{HasCopied, HaveCopied, HaveGathered, IsOpening, TablesFit, ValuesFit, block_of}
 

@@ -1,6 +1,6 @@
 -- The database that the calls of a script begin with: the rows of VALUES, table by table, and then the blocks of the
 -- copies in the order of the text. The first part that can't be taken refuses the script.
-use Rattle.std.specs.Prelude.{◌≡◌, ◌++◌, ◌∷◌, ◌+◌, ◌<◌, ◌≤◌, ◌^◌, ◌⊎◌, ⊤, ℕ, Bool, true, false, List, [], All, length, Option, Some, None, slice_get, slice_range, slice_set}
+use Rattle.std.specs.Prelude.{◌≡◌, ◌++◌, ◌∷◌, ◌+◌, ◌<◌, ◌≤◌, ◌^◌, ◌⊎◌, ⊤, ℕ, true, false, List, [], All, length, Option, Some, None, slice_get, slice_range, slice_set}
 use Rattle.std.specs.List.{AllZip}
 use Rattle.mv_values.specs.declared.value.Value.{Value}
 use Rattle.mv_values.specs.declared.rows.Keyed.{Keyed}

@@ -1,4 +1,4 @@
-use Rattle.std.proofs.Common.{◌≡◌, ◌<◌, ◌⊎◌, Some, sym, ◌∙◌, refl, arith, rules, slice_index_or, length}
+use Rattle.std.proofs.Common.{◌≡◌, ◌<◌, ◌⊎◌, Some, rules, slice_index_or, length}
 use Rattle.std.specs.Prelude.{slice_get}
 use Rattle.mv_csvio.specs.Joining.{TellsOfValues}
 use Rattle.mv_csvio.specs.declared.fault.CopyFault.TheVariants as copy

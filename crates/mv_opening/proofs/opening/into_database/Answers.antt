@@ -1,6 +1,4 @@
-use Rattle.std.proofs.Common.{◌≡◌, ◌∷◌, ◌++◌, ◌∙◌, [], ap, length, rules}
-use Rattle.mv_values.specs.declared.rows.Keyed.{Keyed}
-use Rattle.std.proofs.Common.{List as Seq}
+use Rattle.std.proofs.Common.{◌≡◌, ◌∷◌, ◌++◌, ◌∙◌, [], rules}
 use Rattle.mv_opening.proofs.Opened.{handed_more, set_length}
 use Rattle.mv_opening.proofs.opening.into_database.Goals as goal
 

@@ -1,4 +1,4 @@
-use Rattle.std.proofs.Common.{◌≡◌, ◌<◌, ◌∙◌, List, length, refl, ap, sym, subst, rules}
+use Rattle.std.proofs.Common.{◌<◌, ◌∙◌, length, refl, rules}
 use Rattle.std.proofs.lemmas.Result.{err_from_is_err_and}
 use Rattle.mv_opening.proofs.Opened.{copied_at, copied_length, copied_rise, first_copy_at, gathered_length, gathered_rise}
 use Rattle.mv_opening.proofs.opening.join_all.Goals as goal
