@@ -1,0 +1,286 @@
+-- Printed pieces are read as parts of the grammar, part by part.
+use Rattle.std.proofs.Common.{◌≡◌, ℕ, ◌+◌, ◌≤◌, Bool, true, List, [], ◌∷◌, ◌++◌, length, map, refl, sym, ap, subst, ◌∙◌, append_assoc, append-nil, arith, inl, inr, ◌⊎◌}
+use Rattle.std.proofs.lemmas.List.{map-append}
+use Rattle.std.specs.List.{list_all}
+use Rattle.mv_lex.specs.Bytes.{is_allowed, is_blank}
+use Rattle.mv_lex.specs.Tokens.{IsLongest}
+use Rattle.mv_lex.specs.declared.token.Kind.{Kind}
+use Rattle.mv_ast.specs.declared.lexeme.Lexeme.{Lexeme}
+use Rattle.mv_ast.specs.declared.lexeme.Terminal.{Terminal}
+use Rattle.mv_ast.specs.Texts.{spelling}
+use Rattle.mv_ast.specs.Lexemes.{kind_of}
+use Rattle.mv_ast.specs.Limits.{together}
+use Rattle.mv_ast.specs.Parts.{Part, give, one, both, either, left, expression, statement, Is, Pieces, joined}
+use Rattle.mv_ast.specs.Grammar.{inner, added, single, place, ◌⊛◌, ◌◂◌, ◌▸◌}
+use Rattle.mv_print.specs.Printing.{Piece}
+
+-- the token stands for the piece
+pub record Fits (text : List ℕ) (l : Lexeme) (p : Piece) : Type 0 where
+  pub kind : l.kind ≡ p.kind
+  pub spells : spelling text l ≡ p.text
+  pub len : l.len ≡ length p.text
+
+abbrev pub Spelled : List ℕ → List Lexeme → List Piece → Type 0
+Spelled text [] [] = Unit {0}
+Spelled text (l ∷ ls) (p ∷ ps) = Fits text l p × Spelled text ls ps
+Spelled text [] (p ∷ ps) = ⊥
+Spelled text (l ∷ ls) [] = ⊥
+
+-- the piece is a token of this kind, whatever follows the blank behind it
+pub record Sound (p : Piece) : Type 0 where
+  pub token : Kind
+  pub longest : (rest : List ℕ) → IsLongest token p.text (p.gap ++ rest)
+  pub is : kind_of token p.text ≡ p.kind
+  pub allowed : list_all is_allowed p.text ≡ true
+  pub gaps : list_all is_blank p.gap ≡ true
+
+abbrev pub Sounds : List Piece → Type 0
+Sounds [] = Unit {0}
+Sounds (p ∷ ps) = Sound p × Sounds ps
+
+pub sounds_joined : (ps qs : List Piece) → Sounds ps → Sounds qs → Sounds (ps ++ qs)
+sounds_joined [] qs h k = k
+sounds_joined (p ∷ ps) qs h k = (h.0, sounds_joined ps qs h.1 k)
+
+abbrev pub Apart : List ℕ → List Lexeme → List Piece → List Piece → Type 0
+Apart text ls ps qs = (xs : List Lexeme) × (ys : List Lexeme) × (ls ≡ xs ++ ys) × Spelled text xs ps × Spelled text ys qs
+
+pub apart : (text : List ℕ) (ls : List Lexeme) (ps qs : List Piece) → Spelled text ls (ps ++ qs) → Apart text ls ps qs
+apart text ls [] qs s = ([], ls, refl, tt, s)
+apart text [] (p ∷ ps) qs s = absurd s
+apart text (l ∷ ls) (p ∷ ps) qs s = let i = apart text ls ps qs s.1 in (l ∷ i.0, i.1, ap (λ r. l ∷ r) i.2, (s.0, i.3), i.4)
+
+pub none_spelled : (text : List ℕ) (ls : List Lexeme) → Spelled text ls [] → ls ≡ []
+none_spelled text [] s = refl
+none_spelled text (l ∷ ls) s = absurd s
+
+pub one_spelled : (text : List ℕ) (ls : List Lexeme) (p : Piece) → Spelled text ls (p ∷ []) → (l : Lexeme) × (ls ≡ l ∷ []) × Fits text l p
+one_spelled text [] p s = absurd s
+one_spelled text (l ∷ ls) p s = (l, ap (λ r. l ∷ r) (none_spelled text ls s.1), s.0)
+
+-- the tokens are this part, for such a value
+abbrev pub Reading : {A : Type 0} → List ℕ → Part A → (A → Type 0) → ℕ → List Lexeme → Type 0
+Reading {A = A} text p Q d ls = (w : A) × Is (inner text d) p ls w × Q w
+
+-- tokens that stand for the pieces are this part, for such a value
+pub record Prints {A : Type 0} (text : List ℕ) (p : Part A) (Q : A → Type 0) (ps : List Piece) : Type 0 where
+  pub sounds : Sounds ps
+  pub levels : ℕ
+  pub reads : (d : ℕ) (ls : List Lexeme) → levels ≤ d → Spelled text ls ps → Reading text p Q d ls
+
+pub prints_give : {A : Type 0} {text : List ℕ} {Q : A → Type 0} (v : A) → Q v → Prints text (give v) Q []
+prints_give {text = text} v q = record { sounds = tt; levels = 0; reads = λ d ls h s. (v, (none_spelled text ls s, refl), q) }
+
+one_read : {text : List ℕ} (d : ℕ) (t : Terminal) (p : Piece) (ls : List Lexeme) → p.kind ≡ t → Spelled text ls (p ∷ []) → Reading text (one t) (λ l. Fits text l p) d ls
+one_read {text = text} d t p ls e s =
+    let i = one_spelled text ls p s in (i.0, (i.1, i.2.kind ∙ e), i.2)
+
+pub prints_one : {text : List ℕ} {t : Terminal} (p : Piece) → Sound p → p.kind ≡ t → Prints text (one t) (λ l. Fits text l p) (p ∷ [])
+prints_one {text = text} {t = t} p s e = record { sounds = (s, tt); levels = 0; reads = λ d ls h z. one_read d t p ls e z }
+
+both_read : {A B C : Type 0} {text : List ℕ} {P : A → Type 0} {Q : B → Type 0} {S : C → Type 0} {ps qs : List Piece} (f : A → B → C) (p : Part A) (q : Part B)
+    → Prints text p P ps → Prints text q Q qs → ((a : A) (b : B) → P a → Q b → S (f a b))
+    → (d : ℕ) (ls : List Lexeme) (m n : ℕ) → m ≤ d → n ≤ d → ((d : ℕ) (ls : List Lexeme) → m ≤ d → Spelled text ls ps → Reading text p P d ls)
+    → ((d : ℕ) (ls : List Lexeme) → n ≤ d → Spelled text ls qs → Reading text q Q d ls)
+    → Spelled text ls (ps ++ qs) → Reading text (both f p q) S d ls
+both_read {text = text} {ps = ps} {qs = qs} f p q x y k d ls m n hm hn rx ry s =
+    let i = apart text ls ps qs s in
+    let a = rx d i.0 hm i.3 in
+    let b = ry d i.1 hn i.4 in
+    (f a.0 b.0, (i.0, i.1, a.0, b.0, i.2, a.1, b.1, refl), k a.0 b.0 a.2 b.2)
+
+pub prints_both : {A B C : Type 0} {text : List ℕ} {P : A → Type 0} {Q : B → Type 0} {S : C → Type 0} {ps qs : List Piece} {f : A → B → C} {p : Part A} {q : Part B}
+    → Prints text p P ps → Prints text q Q qs → ((a : A) (b : B) → P a → Q b → S (f a b)) → Prints text (both f p q) S (ps ++ qs)
+prints_both {ps = ps} {qs = qs} {f = f} {p = p} {q = q} x y k = record {
+  sounds = sounds_joined ps qs x.sounds y.sounds;
+  levels = x.levels + y.levels;
+  reads = λ d ls h s. (let m = x.levels in let n = y.levels in both_read f p q x y k d ls m n (omega arith) (omega arith) x.reads y.reads s);
+}
+
+pub prints_inl : {A : Type 0} {text : List ℕ} {Q : A → Type 0} {ps : List Piece} {p q : Part A} → Prints text p Q ps → Prints text (either p q) Q ps
+prints_inl x = record { sounds = x.sounds; levels = x.levels; reads = λ d ls h s. (let r = x.reads d ls h s in (r.0, inl r.1, r.2)) }
+
+pub prints_inr : {A : Type 0} {text : List ℕ} {Q : A → Type 0} {ps : List Piece} {p q : Part A} → Prints text q Q ps → Prints text (either p q) Q ps
+prints_inr x = record { sounds = x.sounds; levels = x.levels; reads = λ d ls h s. (let r = x.reads d ls h s in (r.0, inr r.1, r.2)) }
+
+-- for what is so of more values
+pub prints_for : {A : Type 0} {text : List ℕ} {P Q : A → Type 0} {ps : List Piece} {p : Part A} → ((a : A) → P a → Q a) → Prints text p P ps → Prints text p Q ps
+prints_for k x = record { sounds = x.sounds; levels = x.levels; reads = λ d ls h s. (let r = x.reads d ls h s in (r.0, r.1, k r.0 r.2)) }
+
+-- The tokens of a source are good.
+abbrev pub Each : (Lexeme → Type 0) → List Lexeme → Type 0
+Each G [] = Unit {0}
+Each G (l ∷ ls) = G l × Each G ls
+
+pub each_apart : (G : Lexeme → Type 0) (xs ys : List Lexeme) → Each G (xs ++ ys) → Each G xs × Each G ys
+each_apart G [] ys h = (tt, h)
+each_apart G (x ∷ xs) ys h = let i = each_apart G xs ys h.1 in ((h.0, i.0), i.1)
+
+-- a value that was read from these tokens has these pieces, and they are read as one that is the same but for places
+pub record Turned {A : Type 0} (text : List ℕ) (p : Part A) (K : List Piece → Type 0) (Q : A → Type 0) (ts : List Lexeme) : Type 0 where
+  pub pieces : List Piece
+  pub is : K pieces
+  pub prints : Prints text p Q pieces
+
+pub record Turns {A : Type 0} (G : Lexeme → Type 0) (bytes text : List ℕ) (d : ℕ) (p q : Part A) (K : A → List Piece → Type 0) (R : A → A → Type 0) : Type 0 where
+  pub turn : (ts : List Lexeme) (v : A) → Each G ts → Is (inner bytes d) p ts v → Turned text q (K v) (R v) ts
+
+pub turns_give : {A : Type 0} {G : Lexeme → Type 0} {bytes text : List ℕ} {d : ℕ} {K : A → List Piece → Type 0} {R : A → A → Type 0} {u v : A}
+    → K u [] → R u v → Turns G bytes text d (give u) (give v) K R
+turns_give {text = text} {K = K} {R = R} {u = u} {v = v} k r = record {
+  turn = λ ts w g i. subst (λ x. Turned text (give v) (K x) (R x) ts) (sym i.1) (record { pieces = []; is = k; prints = prints_give v r });
+}
+
+turned_both : {A B C : Type 0} {text : List ℕ} {ts xs ys : List Lexeme} {a : A} {b : B} (f : A → B → C) (fq : B → List Piece) (p : Part A) (q : Part B)
+    (K : C → List Piece → Type 0) (R : C → C → Type 0) (P : A → Type 0) (Q : B → Type 0)
+    → Turned text p (λ ps. K (f a b) (ps ++ fq b)) P xs → Turned text q (λ qs. qs ≡ fq b) Q ys → ((x : A) (y : B) → P x → Q y → R (f a b) (f x y))
+    → Turned text (both f p q) (K (f a b)) (R (f a b)) ts
+turned_both {a = a} {b = b} f fq p q K R P Q x y k = record {
+  pieces = x.pieces ++ fq b;
+  is = x.is;
+  prints = prints_both x.prints (subst (λ r. Prints _ q Q r) y.is y.prints) k;
+}
+
+pub turns_both : {A B C : Type 0} {G : Lexeme → Type 0} {bytes text : List ℕ} {d : ℕ} {K : C → List Piece → Type 0} {R : C → C → Type 0} {f : A → B → C} {p p' : Part A} {q q' : Part B}
+    (fq : B → List Piece) (Q : B → B → Type 0) (P : A → A → Type 0)
+    → Turns G bytes text d q q' (λ b qs. qs ≡ fq b) Q
+    → Turns G bytes text d p p' (λ a ps. (b : B) → K (f a b) (ps ++ fq b)) P
+    → ((a x : A) (b y : B) → P a x → Q b y → R (f a b) (f x y))
+    → Turns G bytes text d (both f p q) (both f p' q') K R
+turns_both {G = G} {text = text} {K = K} {R = R} {f = f} {p' = p'} {q' = q'} fq Q P y x k = record {
+  turn = λ ts v g i. (
+      let g' = each_apart G i.0 i.1 (subst (Each G) i.4 g) in
+      let a = x.turn i.0 i.2 g'.0 i.5 in
+      let b = y.turn i.1 i.3 g'.1 i.6 in
+      let a' : Turned text p' (λ ps. K (f i.2 i.3) (ps ++ fq i.3)) (P i.2) i.0 = record { pieces = a.pieces; is = a.is i.3; prints = a.prints } in
+      subst (λ w. Turned text (both f p' q') (K w) (R w) ts) (sym i.7) (turned_both f fq p' q' K R (P i.2) (Q i.3) a' b (λ w z h j. k i.2 w i.3 z h j)));
+}
+
+-- a sequence: a function and then its next argument
+pub turns_next : {A B : Type 0} {G : Lexeme → Type 0} {bytes text : List ℕ} {d : ℕ} {K : B → List Piece → Type 0} {R : B → B → Type 0} {p p' : Part (A → B)} {q q' : Part A}
+    {fq : A → List Piece} {Q : A → A → Type 0}
+    → Turns G bytes text d q q' (λ b qs. qs ≡ fq b) Q
+    → Turns G bytes text d p p' (λ h ps. (a : A) → K (h a) (ps ++ fq a)) (λ h j. (a x : A) → Q a x → R (h a) (j x))
+    → Turns G bytes text d (p ⊛ q) (p' ⊛ q') K R
+turns_next {R = R} {fq = fq} {Q = Q} y x = turns_both fq Q (λ h j. (a x : _) → Q a x → R (h a) (j x)) y x (λ a z b w h k. h b w k)
+
+-- one token, whose piece hangs on nothing
+turns_mark : {G : Lexeme → Type 0} {bytes text : List ℕ} {d : ℕ} {t : Terminal} (x : Piece) → Sound x → x.kind ≡ t
+    → Turns G bytes text d (one t) (one t) (λ l ps. ps ≡ x ∷ []) (λ l m. Unit {0})
+turns_mark x s e = record { turn = λ ts v g i. record { pieces = x ∷ []; is = refl; prints = prints_for (λ l h. tt) (prints_one x s e) } }
+
+-- a part and a token behind it
+pub turns_skip : {A : Type 0} {G : Lexeme → Type 0} {bytes text : List ℕ} {d : ℕ} {t : Terminal} {K : A → List Piece → Type 0} {R : A → A → Type 0} {p p' : Part A}
+    (x : Piece) → Sound x → x.kind ≡ t
+    → Turns G bytes text d p p' (λ a ps. K a (ps ++ x ∷ [])) R → Turns G bytes text d (p ◂ one t) (p' ◂ one t) K R
+turns_skip {K = K} {R = R} x s e z = turns_both (λ l. x ∷ []) (λ l m. Unit {0}) R (turns_mark x s e) (record { turn = λ ts v g i. (let a = z.turn ts v g i in record { pieces = a.pieces; is = λ b. a.is; prints = a.prints }) }) (λ a y b w h k. h)
+
+-- the number of a token
+pub turns_place : {G : Lexeme → Type 0} {bytes text : List ℕ} {d : ℕ} {t : Terminal} (x : Piece) → Sound x → x.kind ≡ t
+    → Turns G bytes text d (place t) (place t) (λ n ps. ps ≡ x ∷ []) (λ n m. Unit {0})
+turns_place x s e = turns_next (turns_mark x s e) (turns_give (λ a. refl) (λ a b h. tt))
+
+-- a token and the part behind it
+pub turns_behind : {A : Type 0} {G : Lexeme → Type 0} {bytes text : List ℕ} {d : ℕ} {t : Terminal} {K : A → List Piece → Type 0} {R : A → A → Type 0} {p p' : Part A}
+    (x : Piece) → Sound x → x.kind ≡ t
+    → Turns G bytes text d p p' (λ a ps. K a (x ∷ ps)) R → Turns G bytes text d (one t ▸ p) (one t ▸ p') K R
+turns_behind {G = G} {text = text} {t = t} {K = K} {R = R} {p' = p'} x s e z = record {
+  turn = λ ts v g i. (
+      let g' = each_apart G i.0 i.1 (subst (Each G) i.4 g) in
+      let b = z.turn i.1 i.3 g'.1 i.6 in
+      let r : Turned text (one t ▸ p') (K i.3) (R i.3) ts = record {
+        pieces = x ∷ b.pieces;
+        is = b.is;
+        prints = prints_both (prints_one x s e) b.prints (λ a y h k. k);
+      } in
+      subst (λ w. Turned text (one t ▸ p') (K w) (R w) ts) (sym i.7) r);
+}
+
+pub turns_either : {A : Type 0} {G : Lexeme → Type 0} {bytes text : List ℕ} {d : ℕ} {K : A → List Piece → Type 0} {R : A → A → Type 0} {p p' q q' : Part A}
+    → Turns G bytes text d p p' K R → Turns G bytes text d q q' K R → Turns G bytes text d (either p q) (either p' q') K R
+turns_either {text = text} {K = K} {R = R} {p' = p'} {q' = q'} x y = record {
+  turn = λ ts v g i. elim i as (λ j. Turned text (either p' q') (K v) (R v) ts) [
+    | inl h ↦ (let a = x.turn ts v g h in record { pieces = a.pieces; is = a.is; prints = prints_inl a.prints })
+    | inr h ↦ (let a = y.turn ts v g h in record { pieces = a.pieces; is = a.is; prints = prints_inr a.prints })
+  ];
+}
+
+-- with other words for the pieces and for the value
+pub turns_as : {A : Type 0} {G : Lexeme → Type 0} {bytes text : List ℕ} {d : ℕ} {K L : A → List Piece → Type 0} {R S : A → A → Type 0} {p p' : Part A}
+    → ((v : A) (ps : List Piece) → K v ps → L v ps) → ((v w : A) → R v w → S v w) → Turns G bytes text d p p' K R → Turns G bytes text d p p' L S
+turns_as k r x = record { turn = λ ts v g i. (let a = x.turn ts v g i in record { pieces = a.pieces; is = k v a.pieces a.is; prints = prints_for (λ w h. r v w h) a.prints }) }
+
+-- Lists: one behind another.
+pub joined_added : {A : Type 0} (xs ys : List A) → joined added xs ys ≡ xs ++ ys
+joined_added xs [] = sym (append-nil xs)
+joined_added xs (y ∷ ys) = joined_added (xs ++ y ∷ []) ys ∙ append_assoc xs (y ∷ []) ys
+
+abbrev pub Readings : {A : Type 0} → List ℕ → Part A → (List A → Type 0) → ℕ → List Lexeme → Type 0
+Readings {A = A} text p Q d ls = (ws : List A) × Pieces (Is (inner text d) p) ls ws × Q ws
+
+record More {A B : Type 0} (text : List ℕ) (p : Part A) (c : A → B) (vs : List A) (ps : List Piece) : Type 0 where
+  pub sounds : Sounds ps
+  pub levels : ℕ
+  pub reads : (d : ℕ) (ls : List Lexeme) → levels ≤ d → Spelled text ls ps → Readings text p (λ ws. map c vs ≡ map c ws) d ls
+
+more_read : {A B : Type 0} (text : List ℕ) (p : Part A) (c : A → B) (v : A) (vs : List A) (ps qs : List Piece) (d : ℕ) (ls : List Lexeme)
+    → ((ls : List Lexeme) → Spelled text ls ps → Reading text p (λ w. c v ≡ c w) d ls)
+    → ((ls : List Lexeme) → Spelled text ls qs → Readings text p (λ ws. map c vs ≡ map c ws) d ls)
+    → Spelled text ls (ps ++ qs) → Readings text p (λ ws. map c (v ∷ vs) ≡ map c ws) d ls
+more_read text p c v vs ps qs d ls f g s =
+    let i = apart text ls ps qs s in
+    let a = f i.0 i.3 in
+    let b = g i.1 i.4 in
+    (a.0 ∷ b.0, (i.0, i.1, i.2, a.1, b.1), ap (λ r. r ∷ map c vs) a.2 ∙ ap (λ r. c a.0 ∷ r) b.2)
+
+more_turned : {A B : Type 0} (G : Lexeme → Type 0) (bytes text : List ℕ) (d : ℕ) (p p' : Part A) (f : A → List Piece) (c : A → B)
+    → Turns G bytes text d p p' (λ v ps. ps ≡ f v) (λ v w. c v ≡ c w)
+    → (vs : List A) (ts : List Lexeme) → Each G ts → Pieces (Is (inner bytes d) p) ts vs → More text p' c vs (together (map f vs))
+more_turned G bytes text d p p' f c x [] ts g i = record { sounds = tt; levels = 0; reads = λ e ls h s. ([], none_spelled text ls s, refl) }
+more_turned G bytes text d p p' f c x (v ∷ vs) ts g i =
+    let g' = each_apart G i.0 i.1 (subst (Each G) i.2 g) in
+    let t = x.turn i.0 v g'.0 i.3 in
+    let a : Prints text p' (λ w. c v ≡ c w) (f v) = subst (λ r. Prints text p' (λ w. c v ≡ c w) r) t.is t.prints in
+    let b = more_turned G bytes text d p p' f c x vs i.1 g'.1 i.4 in
+    record {
+      sounds = sounds_joined (f v) (together (map f vs)) a.sounds b.sounds;
+      levels = a.levels + b.levels;
+      reads = λ e ls h s. (let m = a.levels in let n = b.levels in
+          more_read text p' c v vs (f v) (together (map f vs)) e ls (λ r z. a.reads e r (omega arith) z) (λ r z. b.reads e r (omega arith) z) s);
+    }
+
+left_read : {A B : Type 0} (text : List ℕ) (p : Part (List A)) (q : Part A) (c : A → B) (a vs : List A) (ps qs : List Piece) (d : ℕ) (ls : List Lexeme)
+    → ((ls : List Lexeme) → Spelled text ls ps → Reading text p (λ ws. map c a ≡ map c ws) d ls)
+    → ((ls : List Lexeme) → Spelled text ls qs → Readings text q (λ ws. map c vs ≡ map c ws) d ls)
+    → Spelled text ls (ps ++ qs) → Reading text (left added p q) (λ ws. map c (a ++ vs) ≡ map c ws) d ls
+left_read text p q c a vs ps qs d ls f g s =
+    let i = apart text ls ps qs s in
+    let x = f i.0 i.3 in
+    let y = g i.1 i.4 in (
+      joined added x.0 y.0,
+      (i.0, i.1, x.0, y.0, i.2, x.1, y.1, refl),
+      map-append c a vs ∙ (ap (λ r. r ++ map c vs) x.2 ∙ (ap (λ r. map c x.0 ++ r) y.2 ∙ (sym (map-append c x.0 y.0) ∙ ap (map c) (sym (joined_added x.0 y.0))))),
+    )
+
+pub turns_left : {A B : Type 0} {G : Lexeme → Type 0} {bytes text : List ℕ} {d : ℕ} {K : List A → List Piece → Type 0} {p p' : Part (List A)} {q q' : Part A} {f : A → List Piece} {c : A → B}
+    → Turns G bytes text d q q' (λ v ps. ps ≡ f v) (λ v w. c v ≡ c w)
+    → Turns G bytes text d p p' (λ vs ps. (ws : List A) → K (vs ++ ws) (ps ++ together (map f ws))) (λ v w. map c v ≡ map c w)
+    → Turns G bytes text d (left added p q) (left added p' q') K (λ v w. map c v ≡ map c w)
+turns_left {G = G} {bytes = bytes} {text = text} {d = d} {K = K} {p' = p'} {q = q} {q' = q'} {f = f} {c = c} y x = record {
+  turn = λ ts v g i. (
+      let g' = each_apart G i.0 i.1 (subst (Each G) i.4 g) in
+      let a = x.turn i.0 i.2 g'.0 i.5 in
+      let b = more_turned G bytes text d q q' f c y i.3 i.1 g'.1 i.6 in
+      let e : i.2 ++ i.3 ≡ v = sym (joined_added i.2 i.3) ∙ sym i.7 in
+      let r : Turned text (left added p' q') (K (i.2 ++ i.3)) (λ w. map c (i.2 ++ i.3) ≡ map c w) ts = record {
+        pieces = a.pieces ++ together (map f i.3);
+        is = a.is i.3;
+        prints = record {
+          sounds = sounds_joined a.pieces (together (map f i.3)) a.prints.sounds b.sounds;
+          levels = a.prints.levels + b.levels;
+          reads = λ e ls h s. (let m = a.prints.levels in let n = b.levels in
+              left_read text p' q' c i.2 i.3 a.pieces (together (map f i.3)) e ls (λ r z. a.prints.reads e r (omega arith) z) (λ r z. b.reads e r (omega arith) z) s);
+        };
+      } in
+      subst (λ w. Turned text (left added p' q') (K w) (λ z. map c w ≡ map c z) ts) e r);
+}
