@@ -1,3 +1,4 @@
 pub mod Writing
 pub mod Trees
 pub mod Building
+pub mod Sounding
