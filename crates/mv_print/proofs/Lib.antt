@@ -2,3 +2,4 @@ pub mod Writing
 pub mod Trees
 pub mod Building
 pub mod Sounding
+pub mod Meaning
