@@ -284,3 +284,59 @@ turns_left {G = G} {bytes = bytes} {text = text} {d = d} {K = K} {p' = p'} {q = 
       } in
       subst (λ w. Turned text (left added p' q') (K w) (λ z. map c w ≡ map c z) ts) e r);
 }
+
+-- The same for pieces alone: a function and its next argument; a token before or behind; the number of a token.
+pub prints_next : {A B : Type 0} {text : List ℕ} {P : A → Type 0} {Q : B → Type 0} {ps qs : List Piece} {p : Part (A → B)} {q : Part A}
+    → Prints text p (λ f. (a : A) → P a → Q (f a)) ps → Prints text q P qs → Prints text (p ⊛ q) Q (ps ++ qs)
+prints_next x y = prints_both x y (λ f a h k. h a k)
+
+pub prints_behind : {A : Type 0} {text : List ℕ} {Q : A → Type 0} {ps : List Piece} {t : Terminal} {p : Part A} (x : Piece) → Sound x → x.kind ≡ t
+    → Prints text p Q ps → Prints text (one t ▸ p) Q (x ∷ ps)
+prints_behind x s e y = prints_both (prints_one x s e) y (λ a b h k. k)
+
+pub prints_skip : {A : Type 0} {text : List ℕ} {Q : A → Type 0} {ps : List Piece} {t : Terminal} {p : Part A} (x : Piece) → Sound x → x.kind ≡ t
+    → Prints text p Q ps → Prints text (p ◂ one t) Q (ps ++ x ∷ [])
+prints_skip x s e y = prints_both y (prints_one x s e) (λ a b h k. h)
+
+pub prints_place : {text : List ℕ} {t : Terminal} (x : Piece) → Sound x → x.kind ≡ t → Prints text (place t) (λ n. Unit {0}) (x ∷ [])
+prints_place x s e = prints_next (prints_give (λ (l : Lexeme). l.number) (λ l h. tt)) (prints_one x s e)
+
+-- one more piece at the end of a repetition
+joined_more : {A B : Type 0} (f : A → B → A) (a : A) (bs : List B) (b : B) → f (joined f a bs) b ≡ joined f a (bs ++ b ∷ [])
+joined_more f a [] b = refl
+joined_more f a (c ∷ bs) b = joined_more f (f a c) bs b
+
+pieces_more : {B : Type 0} (P : List Lexeme → B → Type 0) (ys zs : List Lexeme) (bs : List B) (b : B) → Pieces P ys bs → P zs b → Pieces P (ys ++ zs) (bs ++ b ∷ [])
+pieces_more P ys zs [] b h k = subst (λ r. Pieces P (r ++ zs) (b ∷ [])) (sym h) (zs, [], sym (append-nil zs), k, refl)
+pieces_more P ys zs (c ∷ bs) b h k = (h.0, h.1 ++ zs, ap (λ r. r ++ zs) h.2 ∙ append_assoc h.0 h.1 zs, h.3, pieces_more P h.1 zs bs b h.4 k)
+
+left_more : {A B : Type 0} (text : List ℕ) (f : A → B → A) (p : Part A) (q : Part B) (d : ℕ) (xs ys ls : List Lexeme) (a : A) (b : B) → ls ≡ xs ++ ys
+    → Is (inner text d) (left f p q) xs a → Is (inner text d) q ys b → Is (inner text d) (left f p q) ls (f a b)
+left_more text f p q d xs ys ls a b e i j = (
+  i.0,
+  i.1 ++ ys,
+  i.2,
+  i.3 ++ b ∷ [],
+  e ∙ (ap (λ r. r ++ ys) i.4 ∙ append_assoc i.0 i.1 ys),
+  i.5,
+  pieces_more (Is (inner text d) q) i.1 ys i.3 b i.6 j,
+  ap (λ r. f r b) i.7 ∙ joined_more f i.2 i.3 b,
+)
+
+left_more_read : {A B : Type 0} {text : List ℕ} {P : A → Type 0} {Q : B → Type 0} {S : A → Type 0} {ps qs : List Piece} (f : A → B → A) (p : Part A) (q : Part B) (d : ℕ) (ls : List Lexeme)
+    → ((a : A) (b : B) → P a → Q b → S (f a b))
+    → ((ls : List Lexeme) → Spelled text ls ps → Reading text (left f p q) P d ls) → ((ls : List Lexeme) → Spelled text ls qs → Reading text q Q d ls)
+    → Spelled text ls (ps ++ qs) → Reading text (left f p q) S d ls
+left_more_read {text = text} {ps = ps} {qs = qs} f p q d ls k rx ry s =
+    let i = apart text ls ps qs s in
+    let a = rx i.0 i.3 in
+    let b = ry i.1 i.4 in
+    (f a.0 b.0, left_more text f p q d i.0 i.1 ls a.0 b.0 i.2 a.1 b.1, k a.0 b.0 a.2 b.2)
+
+pub prints_more : {A B : Type 0} {text : List ℕ} {P : A → Type 0} {Q : B → Type 0} {S : A → Type 0} {ps qs : List Piece} {f : A → B → A} {p : Part A} {q : Part B}
+    → Prints text (left f p q) P ps → Prints text q Q qs → ((a : A) (b : B) → P a → Q b → S (f a b)) → Prints text (left f p q) S (ps ++ qs)
+prints_more {ps = ps} {qs = qs} {f = f} {p = p} {q = q} x y k = record {
+  sounds = sounds_joined ps qs x.sounds y.sounds;
+  levels = x.levels + y.levels;
+  reads = λ d ls h s. (let m = x.levels in let n = y.levels in left_more_read f p q d ls k (λ r z. x.reads d r (omega arith) z) (λ r z. y.reads d r (omega arith) z) s);
+}

@@ -3,3 +3,4 @@ pub mod Trees
 pub mod Building
 pub mod Sounding
 pub mod Meaning
+pub mod Levels
