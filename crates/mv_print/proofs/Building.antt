@@ -340,3 +340,53 @@ prints_more {ps = ps} {qs = qs} {f = f} {p = p} {q = q} x y k = record {
   levels = x.levels + y.levels;
   reads = λ d ls h s. (let m = x.levels in let n = y.levels in left_more_read f p q d ls k (λ r z. x.reads d r (omega arith) z) (λ r z. y.reads d r (omega arith) z) s);
 }
+
+-- what is so of each value that is read from good tokens as this part
+pub record Gives {A : Type 0} (G : Lexeme → Type 0) (bytes : List ℕ) (d : ℕ) (p : Part A) (H : List Lexeme → A → Type 0) : Type 0 where
+  pub given : (ts : List Lexeme) (v : A) → Each G ts → Is (inner bytes d) p ts v → H ts v
+
+pub gives_give : {A : Type 0} {G : Lexeme → Type 0} {bytes : List ℕ} {d : ℕ} {H : List Lexeme → A → Type 0} {u : A} → H [] u → Gives G bytes d (give u) H
+gives_give {H = H} h = record { given = λ ts v g i. subst (λ r. H r v) (sym i.0) (subst (H []) (sym i.1) h) }
+
+pub gives_one : {G : Lexeme → Type 0} {bytes : List ℕ} {d : ℕ} {t : Terminal} {H : List Lexeme → Lexeme → Type 0} → ((l : Lexeme) → G l → l.kind ≡ t → H (l ∷ []) l) → Gives G bytes d (one t) H
+gives_one {G = G} {H = H} h = record { given = λ ts v g i. subst (λ r. H r v) (sym i.0) (h v (subst (Each G) i.0 g).0 i.1) }
+
+pub gives_both : {A B C : Type 0} {G : Lexeme → Type 0} {bytes : List ℕ} {d : ℕ} {P : List Lexeme → A → Type 0} {Q : List Lexeme → B → Type 0} {H : List Lexeme → C → Type 0}
+    {f : A → B → C} {p : Part A} {q : Part B}
+    → Gives G bytes d p P → Gives G bytes d q Q → ((xs ys : List Lexeme) (a : A) (b : B) → P xs a → Q ys b → H (xs ++ ys) (f a b)) → Gives G bytes d (both f p q) H
+gives_both {G = G} {H = H} {f = f} x y k = record {
+  given = λ ts v g i. (
+      let g' = each_apart G i.0 i.1 (subst (Each G) i.4 g) in
+      subst (λ r. H r v) (sym i.4) (subst (H (i.0 ++ i.1)) (sym i.7) (k i.0 i.1 i.2 i.3 (x.given i.0 i.2 g'.0 i.5) (y.given i.1 i.3 g'.1 i.6))));
+}
+
+pub gives_next : {A B : Type 0} {G : Lexeme → Type 0} {bytes : List ℕ} {d : ℕ} {P : List Lexeme → A → Type 0} {H : List Lexeme → B → Type 0} {p : Part (A → B)} {q : Part A}
+    → Gives G bytes d p (λ xs f. (ys : List Lexeme) (a : A) → P ys a → H (xs ++ ys) (f a)) → Gives G bytes d q P → Gives G bytes d (p ⊛ q) H
+gives_next x y = gives_both x y (λ xs ys f a h k. h ys a k)
+
+pub gives_either : {A : Type 0} {G : Lexeme → Type 0} {bytes : List ℕ} {d : ℕ} {H : List Lexeme → A → Type 0} {p q : Part A}
+    → Gives G bytes d p H → Gives G bytes d q H → Gives G bytes d (either p q) H
+gives_either {H = H} x y = record { given = λ ts v g i. elim i as (λ j. H ts v) [ inl h ↦ x.given ts v g h | inr h ↦ y.given ts v g h ] }
+
+-- a property that each further piece keeps
+abbrev Kept : {A B : Type 0} → (A → B → A) → (List Lexeme → A → Type 0) → (List Lexeme → B → Type 0) → Type 0
+Kept {A = A} {B = B} f P Q = (xs ys : List Lexeme) (a : A) (b : B) → P xs a → Q ys b → P (xs ++ ys) (f a b)
+
+gives_pieces : {A B : Type 0} (G : Lexeme → Type 0) (bytes : List ℕ) (d : ℕ) (P : List Lexeme → A → Type 0) (Q : List Lexeme → B → Type 0) (f : A → B → A) (q : Part B)
+    → Gives G bytes d q Q → Kept f P Q → (bs : List B) (xs ys : List Lexeme) (a : A) → P xs a → Each G ys → Pieces (Is (inner bytes d) q) ys bs → P (xs ++ ys) (joined f a bs)
+gives_pieces G bytes d P Q f q y k [] xs ys a h g i = subst (λ r. P r a) (sym (append-nil xs) ∙ ap (λ r. xs ++ r) (sym i)) h
+gives_pieces G bytes d P Q f q y k (b ∷ bs) xs ys a h g i =
+    let g' = each_apart G i.0 i.1 (subst (Each G) i.2 g) in
+    let r = gives_pieces G bytes d P Q f q y k bs (xs ++ i.0) i.1 (f a b) (k xs i.0 a b h (y.given i.0 b g'.0 i.3)) g'.1 i.4 in
+    subst (λ z. P z (joined f (f a b) bs)) (append_assoc xs i.0 i.1 ∙ ap (λ z. xs ++ z) (sym i.2)) r
+
+pub gives_left : {A B : Type 0} {G : Lexeme → Type 0} {bytes : List ℕ} {d : ℕ} {P : List Lexeme → A → Type 0} {Q : List Lexeme → B → Type 0} {f : A → B → A} {p : Part A} {q : Part B}
+    → Gives G bytes d p P → Gives G bytes d q Q → Kept f P Q → Gives G bytes d (left f p q) P
+gives_left {G = G} {bytes = bytes} {d = d} {P = P} {Q = Q} {f = f} {q = q} x y k = record {
+  given = λ ts v g i. (
+      let g' = each_apart G i.0 i.1 (subst (Each G) i.4 g) in
+      subst (λ r. P r v) (sym i.4) (subst (P (i.0 ++ i.1)) (sym i.7) (gives_pieces G bytes d P Q f q y k i.3 i.0 i.1 i.2 (x.given i.0 i.2 g'.0 i.5) g'.1 i.6)));
+}
+
+pub gives_any : {A : Type 0} {G : Lexeme → Type 0} {bytes : List ℕ} {d : ℕ} {p : Part A} → Gives G bytes d p (λ ts v. Unit {0})
+gives_any = record { given = λ ts v g i. tt }

@@ -7,14 +7,15 @@ use Rattle.mv_ast.specs.declared.tree.Expr.{Expr, out-Expr, fold_out-Expr}
 use Rattle.mv_ast.specs.declared.tree.ExprKind.{ExprKind}
 use Rattle.mv_ast.specs.declared.tree.ExprKind.TheFolds.{fold-ExprKind, fold-roll-ExprKind}
 use Rattle.mv_ast.specs.declared.tree.ExprKind.TheOpen as open-kind
-use Rattle.mv_ast.specs.declared.tree.ExprKind.TheVariants.{Const, Var, Field, Col, One, Two, rolls-One, rolls-Two}
+use Rattle.mv_ast.specs.declared.tree.ExprKind.TheVariants.{Const, Var, Field, Col, One, Two, rolls-Var, rolls-Field, rolls-Col, rolls-One, rolls-Two}
+use Rattle.mv_ast.specs.declared.tree.Name.{Name}
 use Rattle.mv_ast.specs.declared.tree.OneOp.{OneOp}
 use Rattle.mv_ast.specs.declared.tree.TwoOp.{TwoOp}
 use Rattle.mv_ast.specs.Parts.{Part, give, one, both, either, left, expression, Is}
 use Rattle.mv_ast.specs.Trees.{leaf, parenthesized}
 use Rattle.mv_ast.specs.Grammar.{inner, expr, conj, neg, comp, sum, term, fac, prim, in_parentheses}
 use Rattle.mv_print.specs.Printing.{Piece, key, expr_pieces}
-use Rattle.mv_print.specs.Same.{kind_step, expr_step, placeless_expr}
+use Rattle.mv_print.specs.Same.{kind_step, expr_step, placeless_expr, placeless_name}
 use Rattle.mv_print.proofs.Building.{Reading, Prints, Spelled, prints_give, prints_next, prints_skip, prints_place, prints_inl, prints_inr}
 use Rattle.mv_print.proofs.Sounding.{sound_key}
 
@@ -33,6 +34,15 @@ placeless_one op a = ap placeless_inside (sym (rolls-One op a)) ∙ fold-roll-Ex
 
 pub placeless_two : (op : TwoOp) (a b : Expr) → placeless_inside (Two op a b) ≡ Two op (placeless_expr a) (placeless_expr b)
 placeless_two op a b = ap placeless_inside (sym (rolls-Two op a b)) ∙ fold-roll-ExprKind ExprKind Expr kind_step expr_step (open-kind.Two op a b)
+
+pub placeless_var : (n : Name) → placeless_inside (Var n) ≡ Var (placeless_name n)
+placeless_var n = ap placeless_inside (sym (rolls-Var n)) ∙ fold-roll-ExprKind ExprKind Expr kind_step expr_step (open-kind.Var n)
+
+pub placeless_field : (n c : Name) → placeless_inside (Field n c) ≡ Field (placeless_name n) (placeless_name c)
+placeless_field n c = ap placeless_inside (sym (rolls-Field n c)) ∙ fold-roll-ExprKind ExprKind Expr kind_step expr_step (open-kind.Field n c)
+
+pub placeless_col : (n : Name) → placeless_inside (Col n) ≡ Col (placeless_name n)
+placeless_col n = ap placeless_inside (sym (rolls-Col n)) ∙ fold-roll-ExprKind ExprKind Expr kind_step expr_step (open-kind.Col n)
 
 pub same_one : (t u : ℕ) (op : OneOp) (a x : Expr) → Same a x → Same (leaf t (One op a)) (leaf u (One op x))
 same_one t u op a x h =

@@ -4,3 +4,5 @@ pub mod Building
 pub mod Sounding
 pub mod Meaning
 pub mod Levels
+pub mod Tokens
+pub mod Expressions

@@ -1,8 +1,9 @@
 -- Pieces of expressions and statements that are written part by part.
-use Rattle.std.proofs.Common.{◌≡◌, ◌≤◌, ℕ, Bool, List, [], ◌∷◌, ◌++◌, Result, Ok, Err, map, length, take, drop, get_or, sym, ap, ◌∙◌, ◌-◌, arith, length-drop}
+use Rattle.std.proofs.Common.{refl, ◌≡◌, ◌≤◌, ℕ, Bool, List, [], ◌∷◌, ◌++◌, Result, Ok, Err, map, length, take, drop, get_or, sym, ap, ◌∙◌, ◌-◌, arith, length-drop}
 use Rattle.std.specs.Result.{OnOk}
 use Rattle.std.proofs.lemmas.List.{take_all}
 use Rattle.mv_values.specs.declared.memory.NoMemory.{NoMemory}
+use Rattle.mv_values.specs.declared.value.Value.{Value}
 use Rattle.mv_ast.specs.declared.lexeme.Terminal.{Terminal}
 use Rattle.mv_ast.specs.declared.lexeme.Terminal.TheVariants as word
 use Rattle.mv_ast.specs.declared.tree.Cond.{Cond}
@@ -10,7 +11,7 @@ use Rattle.mv_ast.specs.declared.tree.Expr.{Expr, out-Expr, fold_out-Expr}
 use Rattle.mv_ast.specs.declared.tree.ExprKind.{ExprKind}
 use Rattle.mv_ast.specs.declared.tree.ExprKind.TheFolds.{fold-ExprKind, fold-roll-ExprKind}
 use Rattle.mv_ast.specs.declared.tree.ExprKind.TheOpen as open-kind
-use Rattle.mv_ast.specs.declared.tree.ExprKind.TheVariants.{One, Two, rolls-One, rolls-Two}
+use Rattle.mv_ast.specs.declared.tree.ExprKind.TheVariants.{Const, Var, Field, Col, One, Two, rolls-Const, rolls-Var, rolls-Field, rolls-Col, rolls-One, rolls-Two}
 use Rattle.mv_ast.specs.declared.tree.Name.{Name}
 use Rattle.mv_ast.specs.declared.tree.OneOp.{OneOp}
 use Rattle.mv_ast.specs.declared.tree.Sort.{Sort}
@@ -20,7 +21,7 @@ use Rattle.mv_ast.specs.declared.tree.Stmt.TheOpen as open-statement
 use Rattle.mv_ast.specs.declared.tree.Stmt.TheVariants.{ForSelect, ForRows, Branch, rolls-ForSelect, rolls-ForRows, rolls-Branch}
 use Rattle.mv_ast.specs.declared.tree.TwoOp.{TwoOp}
 use Rattle.mv_ast.specs.Limits.{together}
-use Rattle.mv_print.specs.Printing.{Piece, Leveled, key, line_end, variable_piece, put, written, kind_step, expr_step, expr_pieces, whole_expr, one_lead, one_level, one_tail, one_pieces, two_lead, two_middle, two_tail, two_pieces, left_level, right_level, query_pieces, else_lead, separated, statement_step, statement_pieces, statements_pieces}
+use Rattle.mv_print.specs.Printing.{Piece, Leveled, key, line_end, name_piece, variable_piece, value_pieces, put, written, kind_step, expr_step, expr_pieces, whole_expr, one_lead, one_level, one_tail, one_pieces, two_lead, two_middle, two_tail, two_pieces, left_level, right_level, query_pieces, else_lead, separated, statement_step, statement_pieces, statements_pieces}
 use Rattle.mv_print.proofs.Writing.{written_joined, else_mapped}
 
 pub on_ok : {P Q : Type 0} (r : Result (Unit {0}) NoMemory) → (P → Q) → OnOk r P → OnOk r Q
@@ -35,18 +36,34 @@ pub follow_one : (old middle new : List ℕ) (p : Piece) (qs : List Piece) → m
 unfolding written
 follow_one old middle new p qs h i = i ∙ ap (λ t. written t qs) h
 
-kind_pieces : ExprKind → Leveled
+pub kind_pieces : ExprKind → Leveled
 kind_pieces = fold-ExprKind Leveled Leveled kind_step expr_step
 
-of_kind : (e : Expr) (k : ExprKind) → (out-Expr e).kind ≡ k → expr_pieces e ≡ kind_pieces k
+pub of_kind : (e : Expr) (k : ExprKind) → (out-Expr e).kind ≡ k → expr_pieces e ≡ kind_pieces k
 unfolding kind_pieces
 of_kind e k h = fold_out-Expr Leveled Leveled kind_step expr_step e ∙ ap (fold-ExprKind Leveled Leveled kind_step expr_step) h
 
-of_one : (op : OneOp) (a : Expr) → kind_pieces (One op a) ≡ one_pieces op (expr_pieces a)
+pub of_const : (v : Value) (n : ℕ) → kind_pieces (Const v) n ≡ value_pieces v
+unfolding kind_pieces
+of_const v n = ap (λ k. fold-ExprKind Leveled Leveled kind_step expr_step k n) (sym (rolls-Const v)) ∙ ap (λ f. f n) (fold-roll-ExprKind Leveled Leveled kind_step expr_step (open-kind.Const v))
+
+pub of_var : (x : Name) (n : ℕ) → kind_pieces (Var x) n ≡ variable_piece x ∷ []
+unfolding kind_pieces
+of_var x n = ap (λ k. fold-ExprKind Leveled Leveled kind_step expr_step k n) (sym (rolls-Var x)) ∙ ap (λ f. f n) (fold-roll-ExprKind Leveled Leveled kind_step expr_step (open-kind.Var x))
+
+pub of_field : (x c : Name) (n : ℕ) → kind_pieces (Field x c) n ≡ variable_piece x ∷ key word.Dot ∷ name_piece c ∷ []
+unfolding kind_pieces
+of_field x c n = ap (λ k. fold-ExprKind Leveled Leveled kind_step expr_step k n) (sym (rolls-Field x c)) ∙ ap (λ f. f n) (fold-roll-ExprKind Leveled Leveled kind_step expr_step (open-kind.Field x c))
+
+pub of_col : (c : Name) (n : ℕ) → kind_pieces (Col c) n ≡ name_piece c ∷ []
+unfolding kind_pieces
+of_col c n = ap (λ k. fold-ExprKind Leveled Leveled kind_step expr_step k n) (sym (rolls-Col c)) ∙ ap (λ f. f n) (fold-roll-ExprKind Leveled Leveled kind_step expr_step (open-kind.Col c))
+
+pub of_one : (op : OneOp) (a : Expr) → kind_pieces (One op a) ≡ one_pieces op (expr_pieces a)
 unfolding kind_pieces
 of_one op a = ap (fold-ExprKind Leveled Leveled kind_step expr_step) (sym (rolls-One op a)) ∙ fold-roll-ExprKind Leveled Leveled kind_step expr_step (open-kind.One op a)
 
-of_two : (op : TwoOp) (a b : Expr) → kind_pieces (Two op a b) ≡ two_pieces op (expr_pieces a) (expr_pieces b)
+pub of_two : (op : TwoOp) (a b : Expr) → kind_pieces (Two op a b) ≡ two_pieces op (expr_pieces a) (expr_pieces b)
 unfolding kind_pieces
 of_two op a b = ap (fold-ExprKind Leveled Leveled kind_step expr_step) (sym (rolls-Two op a b)) ∙ fold-roll-ExprKind Leveled Leveled kind_step expr_step (open-kind.Two op a b)
 
