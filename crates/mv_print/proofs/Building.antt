@@ -165,7 +165,7 @@ pub turns_next : {A B : Type 0} {G : Lexeme → Type 0} {bytes text : List ℕ} 
 turns_next {R = R} {fq = fq} {Q = Q} y x = turns_both fq Q (λ h j. (a x : _) → Q a x → R (h a) (j x)) y x (λ a z b w h k. h b w k)
 
 -- one token, whose piece hangs on nothing
-turns_mark : {G : Lexeme → Type 0} {bytes text : List ℕ} {d : ℕ} {t : Terminal} (x : Piece) → Sound x → x.kind ≡ t
+pub turns_mark : {G : Lexeme → Type 0} {bytes text : List ℕ} {d : ℕ} {t : Terminal} (x : Piece) → Sound x → x.kind ≡ t
     → Turns G bytes text d (one t) (one t) (λ l ps. ps ≡ x ∷ []) (λ l m. Unit {0})
 turns_mark x s e = record { turn = λ ts v g i. record { pieces = x ∷ []; is = refl; prints = prints_for (λ l h. tt) (prints_one x s e) } }
 
@@ -390,3 +390,20 @@ gives_left {G = G} {bytes = bytes} {d = d} {P = P} {Q = Q} {f = f} {q = q} x y k
 
 pub gives_any : {A : Type 0} {G : Lexeme → Type 0} {bytes : List ℕ} {d : ℕ} {p : Part A} → Gives G bytes d p (λ ts v. Unit {0})
 gives_any = record { given = λ ts v g i. tt }
+
+-- what hangs on nothing, and the part behind it
+pub turns_after : {A X : Type 0} {G : Lexeme → Type 0} {bytes text : List ℕ} {d : ℕ} {K : A → List Piece → Type 0} {R : A → A → Type 0} {q q' : Part X} {p p' : Part A}
+    (xs : List Piece) → Turns G bytes text d q q' (λ x ps. ps ≡ xs) (λ x y. Unit {0})
+    → Turns G bytes text d p p' (λ a ps. K a (xs ++ ps)) R → Turns G bytes text d (q ▸ p) (q' ▸ p') K R
+turns_after {G = G} {text = text} {K = K} {R = R} {q' = q'} {p' = p'} xs y z = record {
+  turn = λ ts v g i. (
+      let g' = each_apart G i.0 i.1 (subst (Each G) i.4 g) in
+      let a = y.turn i.0 i.2 g'.0 i.5 in
+      let b = z.turn i.1 i.3 g'.1 i.6 in
+      let r : Turned text (q' ▸ p') (K i.3) (R i.3) ts = record {
+        pieces = a.pieces ++ b.pieces;
+        is = subst (λ r. K i.3 (r ++ b.pieces)) (sym a.is) b.is;
+        prints = prints_both a.prints b.prints (λ x w h k. k);
+      } in
+      subst (λ w. Turned text (q' ▸ p') (K w) (R w) ts) (sym i.7) r);
+}

@@ -318,11 +318,11 @@ module _ (bytes text : List ℕ) (d : ℕ) where
   abbrev FoundInside : Type 0
   FoundInside = Found expression
 
-  found_name : Gives (Meant bytes) bytes d (name bytes) (λ ts n. IsName n.text)
+  pub found_name : Gives (Meant bytes) bytes d (name bytes) (λ ts n. IsName n.text)
   unfolding name
   found_name = gives_next (gives_give (λ ys l h. h)) (gives_one (λ l g e. meant_name l g e))
 
-  found_variable : Gives (Meant bytes) bytes d (variable bytes) (λ ts n. IsVariable n.text)
+  pub found_variable : Gives (Meant bytes) bytes d (variable bytes) (λ ts n. IsVariable n.text)
   unfolding variable
   found_variable = gives_next (gives_give (λ ys l h. h)) (gives_one (λ l g e. meant_variable l g e))
 

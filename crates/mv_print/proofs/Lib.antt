@@ -6,3 +6,6 @@ pub mod Meaning
 pub mod Levels
 pub mod Tokens
 pub mod Expressions
+pub mod Turning
+pub mod Rules
+pub mod Sentences

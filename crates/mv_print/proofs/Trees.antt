@@ -90,18 +90,18 @@ ending = key word.End ∷ key word.For ∷ line_end ∷ []
 abbrev pub if_ending : List Piece
 if_ending = key word.End ∷ key word.If ∷ line_end ∷ []
 
-of_rows : (token : ℕ) (row rows : Name) (body : List Stmt) → statement_pieces (ForRows token row rows body)
+pub of_rows : (token : ℕ) (row rows : Name) (body : List Stmt) → statement_pieces (ForRows token row rows body)
     ≡ key word.For ∷ variable_piece row ∷ key word.In ∷ variable_piece rows ∷ key word.Do ∷ (statements_pieces body ++ ending)
 of_rows token row rows body = ap statement_pieces (sym (rolls-ForRows token row rows body)) ∙ fold-roll-Stmt (List Piece) statement_step (open-statement.ForRows token row rows body)
 
-of_select : (token : ℕ) (row : Name) (distinct : Bool) (columns : List Name) (table : Name) (conds : List Cond) (sorts : List Sort) (body : List Stmt)
+pub of_select : (token : ℕ) (row : Name) (distinct : Bool) (columns : List Name) (table : Name) (conds : List Cond) (sorts : List Sort) (body : List Stmt)
     → statement_pieces (ForSelect token row distinct columns table conds sorts body)
     ≡ key word.For ∷ variable_piece row ∷ key word.In ∷ (query_pieces distinct columns table conds sorts ++ key word.Do ∷ (statements_pieces body ++ ending))
 of_select token row distinct columns table conds sorts body =
     ap statement_pieces (sym (rolls-ForSelect token row distinct columns table conds sorts body))
     ∙ fold-roll-Stmt (List Piece) statement_step (open-statement.ForSelect token row distinct columns table conds sorts body)
 
-of_branch : (token : ℕ) (test : Expr) (ys ns : List Stmt) → statement_pieces (Branch token test ys ns)
+pub of_branch : (token : ℕ) (test : Expr) (ys ns : List Stmt) → statement_pieces (Branch token test ys ns)
     ≡ key word.If ∷ (whole_expr test ++ key word.Then ∷ (statements_pieces ys ++ (else_lead ns ++ (statements_pieces ns ++ if_ending))))
 of_branch token test ys ns =
     ap statement_pieces (sym (rolls-Branch token test ys ns)) ∙ (fold-roll-Stmt (List Piece) statement_step (open-statement.Branch token test ys ns)

@@ -1,0 +1,208 @@
+-- Names, literals and the clauses of statements, as they are printed and read again.
+use Rattle.std.proofs.Common.{◌≡◌, ℕ, zero, suc, ◌+◌, ◌-◌, ◌<◌, ◌≤◌, min, Bool, true, false, cond, nat_lt, List, [], ◌∷◌, ◌++◌, Option, Some, None, map, refl, sym, ap, subst, ◌∙◌, append_assoc, append-nil, arith, inl, inr}
+use Rattle.std.specs.Prelude.{pos, negsuc, ◌-ℤ◌}
+use Rattle.std.specs.Option.{option_map}
+use Rattle.std.specs.List.{list_all}
+use Rattle.std.proofs.lemmas.Bool.{lt-ltb}
+use Rattle.mv_lex.specs.Bytes.{is_printable}
+use Rattle.mv_values.specs.declared.op.Op.{Op}
+use Rattle.mv_values.specs.declared.op.Op.TheVariants.{Eq, Ne, Lt, Le, Gt, Ge}
+use Rattle.mv_values.specs.declared.schema.ColType.{ColType}
+use Rattle.mv_values.specs.declared.schema.ColType.TheVariants as column
+use Rattle.mv_values.specs.declared.value.Value.{Value}
+use Rattle.mv_values.specs.declared.value.Value.TheVariants as value
+use Rattle.mv_ast.specs.declared.lexeme.Lexeme.{Lexeme}
+use Rattle.mv_ast.specs.declared.lexeme.Terminal.TheVariants as word
+use Rattle.mv_ast.specs.declared.tree.Agg.{Agg}
+use Rattle.mv_ast.specs.declared.tree.Agg.TheVariants as agg
+use Rattle.mv_ast.specs.declared.tree.ColDef.{ColDef}
+use Rattle.mv_ast.specs.declared.tree.Cond.{Cond}
+use Rattle.mv_ast.specs.declared.tree.Expr.{Expr}
+use Rattle.mv_ast.specs.declared.tree.Lit.{Lit}
+use Rattle.mv_ast.specs.declared.tree.LitRow.{LitRow}
+use Rattle.mv_ast.specs.declared.tree.Name.{Name}
+use Rattle.mv_ast.specs.declared.tree.SetItem.{SetItem}
+use Rattle.mv_ast.specs.declared.tree.Sort.{Sort}
+use Rattle.mv_ast.specs.Texts.{greatest}
+use Rattle.mv_ast.specs.Parts.{Part, give, one, both, either, left, expression, statement, Is}
+use Rattle.mv_ast.specs.Grammar as rule
+use Rattle.mv_ast.specs.Grammar.{inner, ◌⊛◌, number_of, text_of, negative_of, positive_of, quoted_of, text_column}
+use Rattle.mv_print.specs.Printing.{Piece, key, name_piece, name_pieces, variable_piece, variable_pieces, number_piece, text_piece, value_pieces, literal_pieces, row_pieces, type_pieces, column_pieces, whole_expr, expr_pieces, cond_pieces, conds_pieces, direction_pieces, sort_pieces, sorts_pieces, offset_pieces, agg_pieces, set_pieces, op_word, listed}
+use Rattle.mv_print.specs.Same.{placeless_name, placeless_expr, placeless_literal, placeless_row, placeless_column, placeless_cond, placeless_sort, placeless_set, placeless_agg}
+use Rattle.mv_print.proofs.Building.{Prints, Turns, Gives, gives_give, gives_one, gives_both, gives_next, gives_either, gives_any, prints_give, prints_one, prints_next, prints_behind, prints_inl, prints_inr, prints_for, turns_give, turns_next, turns_either, turns_as}
+use Rattle.mv_print.proofs.Sounding.{IsName, IsVariable, sound_key, sound_number, sound_text}
+use Rattle.mv_print.proofs.Meaning.{Meant, meant_text}
+use Rattle.mv_print.proofs.Tokens.{prints_token, SameName, prints_name, prints_variable, number_read, text_read}
+use Rattle.mv_print.proofs.Levels.{Same, prints_inside, Printable}
+use Rattle.mv_print.proofs.Expressions.{found_name, found_variable, found_inside, found_sum}
+use Rattle.mv_print.proofs.Turning.{turns_then, skip, behind_key, behind_keys, place_key, turns_parens, turns_many, turns_separated, turns_commas, turns_optional, turns_found}
+
+-- functions at what is the same
+pub same2 : {A B C : Type 0} (f : A → B → C) {a x : A} {b y : B} → a ≡ x → b ≡ y → f a b ≡ f x y
+same2 f {x = x} {b = b} h k = ap (λ r. f r b) h ∙ ap (f x) k
+
+pub same3 : {A B C D : Type 0} (f : A → B → C → D) {a x : A} {b y : B} {c z : C} → a ≡ x → b ≡ y → c ≡ z → f a b c ≡ f x y z
+same3 f {x = x} {b = b} {c = c} h k l = ap (λ r. f r b c) h ∙ same2 (f x) k l
+
+pub same4 : {A B C D E : Type 0} (f : A → B → C → D → E) {a x : A} {b y : B} {c z : C} {d w : D} → a ≡ x → b ≡ y → c ≡ z → d ≡ w → f a b c d ≡ f x y z w
+same4 f {x = x} {b = b} {c = c} {d = d} h k l m = ap (λ r. f r b c d) h ∙ same3 (f x) k l m
+
+pub same5 : {A B C D E F : Type 0} (f : A → B → C → D → E → F) {a x : A} {b y : B} {c z : C} {d w : D} {e v : E} → a ≡ x → b ≡ y → c ≡ z → d ≡ w → e ≡ v → f a b c d e ≡ f x y z w v
+same5 f {x = x} {b = b} {c = c} {d = d} {e = e} h k l m n = ap (λ r. f r b c d e) h ∙ same4 (f x) k l m n
+
+pub same6 : {A B C D E F G : Type 0} (f : A → B → C → D → E → F → G) {a x : A} {b y : B} {c z : C} {d w : D} {e v : E} {g u : F}
+    → a ≡ x → b ≡ y → c ≡ z → d ≡ w → e ≡ v → g ≡ u → f a b c d e g ≡ f x y z w v u
+same6 f {x = x} {b = b} {c = c} {d = d} {e = e} {g = g} h k l m n o = ap (λ r. f r b c d e g) h ∙ same5 (f x) k l m n o
+
+-- values that a literal has
+abbrev pub IsLiteral : Value → Type 0
+IsLiteral (value.Int (pos n)) = n ≤ greatest
+IsLiteral (value.Int (negsuc n)) = suc n ≤ greatest
+IsLiteral (value.Text t) = list_all is_printable t ≡ true
+
+negated : (n : ℕ) → pos 0 -ℤ pos (suc n) ≡ negsuc n
+negated n =
+    let l : nat_lt 0 (suc n) ≡ true = lt-ltb 0 (suc n) (omega arith) in
+    let e : suc n - 1 ≡ n = omega arith in
+    rw l (ap negsuc e)
+
+negated_literal : (n : ℕ) → n ≤ greatest → IsLiteral (value.Int (pos 0 -ℤ pos n))
+negated_literal zero h = omega arith
+negated_literal (suc n) h = subst (λ r. IsLiteral (value.Int r)) (sym (negated n)) h
+
+value_same : (l : Lit) (v : Value) (t : ℕ) → v ≡ l.value → placeless_literal l ≡ placeless_literal (record { value = v; token = t })
+value_same l v t h = ap (λ (r : Value). (let x : Lit = record { value = r; token = 0 } in x)) (sym h)
+
+prints_value : {text : List ℕ} (l : Lit) (v : Value) → l.value ≡ v → IsLiteral v → Prints text (rule.literal text) (λ w. placeless_literal l ≡ placeless_literal w) (value_pieces v)
+unfolding rule.literal
+prints_value {text = text} l (value.Int (pos n)) e h =
+    prints_inr (prints_inl (prints_token (number_piece n) (sound_number n h) refl (λ m f. value_same l _ m.number (ap (λ (r : ℕ). value.Int (pos r)) (number_read text n m h f) ∙ sym e))))
+prints_value {text = text} l (value.Int (negsuc n)) e h =
+    prints_inl (prints_next (prints_next {P = λ o. Unit {0}} (prints_give (negative_of text) (λ m u o f. value_same l _ m.number
+    (ap (λ (r : ℕ). value.Int (pos 0 -ℤ pos r)) (number_read text (suc n) o h f) ∙ (ap value.Int (negated n) ∙ sym e))))
+    (prints_for (λ m u. tt) (prints_one (key word.Minus) (sound_key word.Minus) refl))) (prints_one (number_piece (suc n)) (sound_number (suc n) h) refl))
+prints_value {text = text} l (value.Text t) e h =
+    prints_inr (prints_inr (prints_token (text_piece t) (sound_text t h) refl (λ m f. value_same l _ m.number (ap value.Text (text_read text t m f) ∙ sym e))))
+
+prints_op : {text : List ℕ} (o : Op) → Prints text (rule.op text) (λ x. o ≡ x) (key (op_word o) ∷ [])
+unfolding rule.op
+prints_op Eq = prints_inl (prints_behind (key word.Equal) (sound_key word.Equal) refl (prints_give Eq refl))
+prints_op Ne = prints_inr (prints_inl (prints_behind (key word.NotEqual) (sound_key word.NotEqual) refl (prints_give Ne refl)))
+prints_op Lt = prints_inr (prints_inr (prints_inl (prints_behind (key word.Less) (sound_key word.Less) refl (prints_give Lt refl))))
+prints_op Le = prints_inr (prints_inr (prints_inr (prints_inl (prints_behind (key word.LessOrEqual) (sound_key word.LessOrEqual) refl (prints_give Le refl)))))
+prints_op Gt = prints_inr (prints_inr (prints_inr (prints_inr (prints_inl (prints_behind (key word.Greater) (sound_key word.Greater) refl (prints_give Gt refl))))))
+prints_op Ge = prints_inr (prints_inr (prints_inr (prints_inr (prints_inr (prints_behind (key word.GreaterOrEqual) (sound_key word.GreaterOrEqual) refl (prints_give Ge refl))))))
+
+prints_direction : {text : List ℕ} (b : Bool) → Prints text (rule.direction text) (λ x. b ≡ x) (direction_pieces b)
+unfolding rule.direction
+prints_direction true = prints_inr (prints_inl (prints_behind (key word.Desc) (sound_key word.Desc) refl (prints_give true refl)))
+prints_direction false = prints_inr (prints_inr (prints_give false refl))
+
+-- a size in TEXT ( n )
+abbrev IsSize : ColType → List Piece → Type 0
+IsSize k ps = (n : ℕ) × (n ≤ 65535) × (k ≡ column.Text n) × (ps ≡ number_piece n ∷ [])
+
+size_back : (n m : ℕ) → n ≤ 65535 → m ≡ n → n ≡ min m 65535
+size_back n m h e = omega arith
+
+-- a name in parentheses
+abbrev within : Name → List Piece
+within n = key word.Open ∷ name_piece n ∷ key word.Close ∷ []
+
+module _ (bytes text : List ℕ) (d : ℕ) where
+  abbrev pub Rule : {A B : Type 0} → Part A → Part A → (A → List Piece) → (A → B) → Type 0
+  Rule p q f c = Turns (Meant bytes) bytes text d p q (λ v ps. ps ≡ f v) (λ v w. c v ≡ c w)
+
+  pub rule_name : Rule (rule.name bytes) (rule.name text) name_pieces placeless_name
+  rule_name = turns_found (found_name bytes text d) (λ v h. prints_name v h)
+
+  pub rule_variable : Rule (rule.variable bytes) (rule.variable text) variable_pieces placeless_name
+  rule_variable = turns_found (found_variable bytes text d) (λ v h. prints_variable v h)
+
+  found_literal : Gives (Meant bytes) bytes d (rule.literal bytes) (λ ts l. IsLiteral l.value)
+  unfolding rule.literal
+  found_literal =
+      gives_either (gives_next (gives_next (gives_give (λ ys m u zs l h. negated_literal (number_of bytes l) (omega arith))) (gives_any)) gives_any)
+      (gives_either (gives_next (gives_give (λ ys l h. omega arith)) gives_any) (gives_next (gives_give (λ ys l h. h)) (gives_one (λ l g e. meant_text l g e))))
+
+  pub rule_literal : Rule (rule.literal bytes) (rule.literal text) literal_pieces placeless_literal
+  rule_literal = turns_found found_literal (λ l h. prints_value l l.value refl h)
+
+  pub rule_row : Rule (rule.lit_row bytes) (rule.lit_row text) row_pieces placeless_row
+  unfolding rule.lit_row
+  rule_row =
+      skip (sound_key word.Close) (turns_next (turns_commas {K = λ ls ps. ps ≡ listed literal_pieces ls} rule_literal (λ v vs. refl)) (turns_next (place_key (sound_key word.Open))
+      (turns_give (λ n ls. refl) (λ n m u ls ms h. ap (λ (r : List Lit). (let x : LitRow = record { token = 0; values = r } in x)) h))))
+
+  found_size : Gives (Meant bytes) bytes d (give (text_column bytes) ⊛ one word.Number) (λ ts v. (n : ℕ) × (n ≤ 65535) × (v ≡ column.Text n))
+  found_size = gives_next (gives_give (λ ys l h. (min (number_of bytes l) 65535, omega arith, refl))) gives_any
+
+  turns_size : Turns (Meant bytes) bytes text d (give (text_column bytes) ⊛ one word.Number) (give (text_column text) ⊛ one word.Number) IsSize (λ v w. v ≡ w)
+  turns_size = record {
+    turn = λ ts v g i. (
+        let s = found_size.given ts v g i in
+        record {
+          pieces = number_piece s.0 ∷ [];
+          is = (s.0, s.1, s.2, refl);
+          prints = prints_token (number_piece s.0) (sound_number s.0 (let m = s.1 in omega arith)) refl (λ l f. s.2 ∙ ap column.Text (size_back s.0 (number_of text l) s.1 (number_read text s.0 l (let m = s.1 in omega arith) f)));
+        });
+  }
+
+  pub rule_type : Rule (rule.column_type bytes) (rule.column_type text) type_pieces (λ k. k)
+  unfolding rule.column_type
+  rule_type =
+      turns_either (behind_key (sound_key word.Int) (turns_give refl refl))
+      (behind_key (sound_key word.Text) (turns_parens (turns_as
+      (λ v ps h. ap (λ r. key word.Text ∷ key word.Open ∷ (r ++ key word.Close ∷ [])) h.3 ∙ ap type_pieces (sym h.2)) (λ v w h. h) turns_size)))
+
+  pub rule_column : Rule (rule.col_def bytes) (rule.col_def text) column_pieces placeless_column
+  unfolding rule.col_def
+  rule_column = turns_next rule_type (turns_next rule_name
+      (turns_give (λ n k. refl) (λ n m h k l i. same2 (λ (r : Name) (s : ColType). (let x : ColDef = record { name = r; kind = s } in x)) h i)))
+
+  pub rule_op : Rule (rule.op bytes) (rule.op text) (λ o. key (op_word o) ∷ []) (λ o. o)
+  rule_op = turns_found {H = λ o. Unit {0}} gives_any (λ o h. prints_op o)
+
+  pub rule_expression : Rule expression expression whole_expr placeless_expr
+  rule_expression = turns_found (found_inside bytes text d) (λ e h. prints_inside (h 0 (omega arith)))
+
+  rule_sum : Rule (rule.sum bytes) (rule.sum text) (λ e. expr_pieces e 4) placeless_expr
+  rule_sum = turns_found (found_sum bytes text d (found_inside bytes text d)) (λ e h. h 4 (omega arith))
+
+  rule_cond : Rule (rule.cond bytes) (rule.cond text) cond_pieces placeless_cond
+  unfolding rule.cond
+  rule_cond = turns_next rule_sum (turns_next rule_op (turns_next rule_name
+      (turns_give (λ n o e. refl) (λ n m h o p i e f j. same3 (λ (r : Name) (s : Op) (t : Expr). (let x : Cond = record { column = r; op = s; right = t } in x)) h i j))))
+
+  pub rule_conds : Rule (rule.conds bytes) (rule.conds text) conds_pieces (map placeless_cond)
+  unfolding rule.conds
+  rule_conds = turns_either (behind_key (sound_key word.Where) (turns_separated (sound_key word.And) rule_cond (λ v vs. refl))) (turns_give refl refl)
+
+  rule_direction : Rule (rule.direction bytes) (rule.direction text) direction_pieces (λ b. b)
+  rule_direction = turns_found {H = λ o. Unit {0}} gives_any (λ b h. prints_direction b)
+
+  rule_sort : Rule (rule.sort bytes) (rule.sort text) sort_pieces placeless_sort
+  unfolding rule.sort
+  rule_sort = turns_next rule_direction (turns_next rule_name
+      (turns_give (λ n b. refl) (λ n m h b c i. same2 (λ (r : Name) (s : Bool). (let x : Sort = record { column = r; descending = s } in x)) h i)))
+
+  pub rule_sorts : Rule (rule.sorts bytes) (rule.sorts text) sorts_pieces (map placeless_sort)
+  unfolding rule.sorts
+  rule_sorts = turns_either (behind_keys (sound_key word.Order) (sound_key word.By) (turns_commas rule_sort (λ v vs. refl))) (turns_give refl refl)
+
+  pub rule_set : Rule (rule.set_item bytes) (rule.set_item text) set_pieces placeless_set
+  unfolding rule.set_item
+  rule_set = turns_next rule_expression (skip (sound_key word.Equal) (turns_next rule_name
+      (turns_give (λ n e. refl) (λ n m h e f i. same2 (λ (r : Name) (s : Expr). (let x : SetItem = record { column = r; right = s } in x)) h i))))
+
+  rule_within : Rule (rule.in_parens (rule.name bytes)) (rule.in_parens (rule.name text)) within placeless_name
+  rule_within = turns_parens (turns_as (λ v ps h. ap (λ r. key word.Open ∷ (r ++ key word.Close ∷ [])) h) (λ v w h. h) rule_name)
+
+  pub rule_agg : Rule (rule.aggregate bytes) (rule.aggregate text) agg_pieces placeless_agg
+  unfolding rule.aggregate rule.counted
+  rule_agg =
+      turns_either (behind_key (sound_key word.Count) (turns_parens (turns_either (behind_key (sound_key word.Star) (turns_give refl refl))
+      (behind_key (sound_key word.Distinct) (turns_next rule_name (turns_give (λ n. refl) (λ n m h. ap agg.CountDistinct h)))))))
+      (turns_either (behind_key (sound_key word.Sum) (turns_next rule_within (turns_give (λ n. refl) (λ n m h. ap agg.Sum h))))
+      (turns_either (behind_key (sound_key word.Min) (turns_next rule_within (turns_give (λ n. refl) (λ n m h. ap agg.Min h))))
+      (behind_key (sound_key word.Max) (turns_next rule_within (turns_give (λ n. refl) (λ n m h. ap agg.Max h))))))
