@@ -78,15 +78,14 @@ one_read {text = text} d t p ls e s =
 pub prints_one : {text : List ℕ} {t : Terminal} (p : Piece) → Sound p → p.kind ≡ t → Prints text (one t) (λ l. Fits text l p) (p ∷ [])
 prints_one {text = text} {t = t} p s e = record { sounds = (s, tt); levels = 0; reads = λ d ls h z. one_read d t p ls e z }
 
-both_read : {A B C : Type 0} {text : List ℕ} {P : A → Type 0} {Q : B → Type 0} {S : C → Type 0} {ps qs : List Piece} (f : A → B → C) (p : Part A) (q : Part B)
-    → Prints text p P ps → Prints text q Q qs → ((a : A) (b : B) → P a → Q b → S (f a b))
-    → (d : ℕ) (ls : List Lexeme) (m n : ℕ) → m ≤ d → n ≤ d → ((d : ℕ) (ls : List Lexeme) → m ≤ d → Spelled text ls ps → Reading text p P d ls)
-    → ((d : ℕ) (ls : List Lexeme) → n ≤ d → Spelled text ls qs → Reading text q Q d ls)
+pub both_read : {A B C : Type 0} {text : List ℕ} {P : A → Type 0} {Q : B → Type 0} {S : C → Type 0} {ps qs : List Piece} (f : A → B → C) (p : Part A) (q : Part B) (d : ℕ) (ls : List Lexeme)
+    → ((a : A) (b : B) → P a → Q b → S (f a b))
+    → ((ls : List Lexeme) → Spelled text ls ps → Reading text p P d ls) → ((ls : List Lexeme) → Spelled text ls qs → Reading text q Q d ls)
     → Spelled text ls (ps ++ qs) → Reading text (both f p q) S d ls
-both_read {text = text} {ps = ps} {qs = qs} f p q x y k d ls m n hm hn rx ry s =
+both_read {text = text} {ps = ps} {qs = qs} f p q d ls k rx ry s =
     let i = apart text ls ps qs s in
-    let a = rx d i.0 hm i.3 in
-    let b = ry d i.1 hn i.4 in
+    let a = rx i.0 i.3 in
+    let b = ry i.1 i.4 in
     (f a.0 b.0, (i.0, i.1, a.0, b.0, i.2, a.1, b.1, refl), k a.0 b.0 a.2 b.2)
 
 pub prints_both : {A B C : Type 0} {text : List ℕ} {P : A → Type 0} {Q : B → Type 0} {S : C → Type 0} {ps qs : List Piece} {f : A → B → C} {p : Part A} {q : Part B}
@@ -94,7 +93,7 @@ pub prints_both : {A B C : Type 0} {text : List ℕ} {P : A → Type 0} {Q : B �
 prints_both {ps = ps} {qs = qs} {f = f} {p = p} {q = q} x y k = record {
   sounds = sounds_joined ps qs x.sounds y.sounds;
   levels = x.levels + y.levels;
-  reads = λ d ls h s. (let m = x.levels in let n = y.levels in both_read f p q x y k d ls m n (omega arith) (omega arith) x.reads y.reads s);
+  reads = λ d ls h s. (let m = x.levels in let n = y.levels in both_read f p q d ls k (λ r z. x.reads d r (omega arith) z) (λ r z. y.reads d r (omega arith) z) s);
 }
 
 pub prints_inl : {A : Type 0} {text : List ℕ} {Q : A → Type 0} {ps : List Piece} {p q : Part A} → Prints text p Q ps → Prints text (either p q) Q ps
@@ -218,12 +217,12 @@ joined_added xs (y ∷ ys) = joined_added (xs ++ y ∷ []) ys ∙ append_assoc x
 abbrev pub Readings : {A : Type 0} → List ℕ → Part A → (List A → Type 0) → ℕ → List Lexeme → Type 0
 Readings {A = A} text p Q d ls = (ws : List A) × Pieces (Is (inner text d) p) ls ws × Q ws
 
-record More {A B : Type 0} (text : List ℕ) (p : Part A) (c : A → B) (vs : List A) (ps : List Piece) : Type 0 where
+pub record More {A B : Type 0} (text : List ℕ) (p : Part A) (c : A → B) (vs : List A) (ps : List Piece) : Type 0 where
   pub sounds : Sounds ps
   pub levels : ℕ
   pub reads : (d : ℕ) (ls : List Lexeme) → levels ≤ d → Spelled text ls ps → Readings text p (λ ws. map c vs ≡ map c ws) d ls
 
-more_read : {A B : Type 0} (text : List ℕ) (p : Part A) (c : A → B) (v : A) (vs : List A) (ps qs : List Piece) (d : ℕ) (ls : List Lexeme)
+pub more_read : {A B : Type 0} (text : List ℕ) (p : Part A) (c : A → B) (v : A) (vs : List A) (ps qs : List Piece) (d : ℕ) (ls : List Lexeme)
     → ((ls : List Lexeme) → Spelled text ls ps → Reading text p (λ w. c v ≡ c w) d ls)
     → ((ls : List Lexeme) → Spelled text ls qs → Readings text p (λ ws. map c vs ≡ map c ws) d ls)
     → Spelled text ls (ps ++ qs) → Readings text p (λ ws. map c (v ∷ vs) ≡ map c ws) d ls

@@ -9,3 +9,4 @@ pub mod Expressions
 pub mod Turning
 pub mod Rules
 pub mod Sentences
+pub mod Scripts

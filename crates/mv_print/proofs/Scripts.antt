@@ -1,0 +1,266 @@
+-- Items and scripts, as they are printed and read again.
+use Rattle.std.proofs.Common.{◌≡◌, ℕ, zero, suc, ◌+◌, ◌≤◌, Bool, true, false, ◌&&◌, List, [], ◌∷◌, ◌++◌, ◌⊎◌, length, map, slice_range, refl, sym, ap, subst, ◌∙◌, append_assoc, append-nil, length-append, arith, inl, inr}
+use Rattle.std.specs.List.{list_all}
+use Rattle.std.proofs.lemmas.Bool.{and_parts, and_from}
+use Rattle.std.proofs.lemmas.List.Folds.{list_all-append}
+use Rattle.mv_lex.specs.Bytes.{is_allowed}
+use Rattle.mv_lex.specs.Spelling.{IsSpelled, IsBlock, IsUnclosed, IsBareOpening, opening, lines_text}
+use Rattle.mv_lex.specs.Tokens.{IsLongest}
+use Rattle.mv_lex.specs.declared.token.Kind.TheVariants as token
+use Rattle.mv_lex.proofs.Fronts.{block_is}
+use Rattle.mv_lex.proofs.Pieces.{found_longest}
+use Rattle.mv_lex.proofs.Parted.{parted_longest}
+use Rattle.mv_values.specs.declared.schema.ColType.{ColType}
+use Rattle.mv_ast.specs.declared.lexeme.Lexeme.{Lexeme}
+use Rattle.mv_ast.specs.declared.lexeme.Terminal.TheVariants as word
+use Rattle.mv_ast.specs.declared.tree.Arg.{Arg}
+use Rattle.mv_ast.specs.declared.tree.Arg.TheVariants as argument
+use Rattle.mv_ast.specs.declared.tree.ColDef.{ColDef}
+use Rattle.mv_ast.specs.declared.tree.Item.{Item}
+use Rattle.mv_ast.specs.declared.tree.ItemKind.{ItemKind}
+use Rattle.mv_ast.specs.declared.tree.ItemKind.TheVariants.{Table, Proc, Copy, Call, Journal}
+use Rattle.mv_ast.specs.declared.tree.Lit.{Lit}
+use Rattle.mv_ast.specs.declared.tree.LitRow.{LitRow}
+use Rattle.mv_ast.specs.declared.tree.LitRows.{LitRows}
+use Rattle.mv_ast.specs.declared.tree.Name.{Name}
+use Rattle.mv_ast.specs.declared.tree.Param.{Param}
+use Rattle.mv_ast.specs.declared.tree.ParamKind.{ParamKind}
+use Rattle.mv_ast.specs.declared.tree.ParamKind.TheVariants as parameter
+use Rattle.mv_ast.specs.declared.tree.Script.{Script}
+use Rattle.mv_ast.specs.declared.tree.Span.{Span}
+use Rattle.mv_ast.specs.declared.tree.Stmt.{Stmt}
+use Rattle.mv_ast.specs.declared.tree.VarDef.{VarDef}
+use Rattle.mv_ast.specs.Limits.{together}
+use Rattle.mv_ast.specs.Parts.{Part, give, one, both, either, left, expression, statement, Is, Pieces, joined}
+use Rattle.mv_ast.specs.Trees.{table_of, procedure_of, copy_of, journal_of, script_of}
+use Rattle.mv_ast.specs.Texts.{spelling}
+use Rattle.mv_ast.specs.Grammar as rule
+use Rattle.mv_ast.specs.Grammar.{inner, added, place, closed_of, open_of, ◌⊛◌, ◌▸◌}
+use Rattle.mv_print.specs.Printing.{Piece, key, line_end, name_piece, name_pieces, variable_piece, listed, literal_pieces, row_pieces, type_pieces, column_pieces, column_and_comma, values_pieces, table_pieces, param_kind_pieces, param_pieces, declared_pieces, procedure_pieces, statements_pieces, block_piece, span_piece, arg_pieces, item_pieces, pieces_of}
+use Rattle.mv_print.specs.Same.{placeless_name, placeless_literal, placeless_row, placeless_column, placeless_param_kind, placeless_param, placeless_variable, placeless_argument, placeless_statement, placeless_span, placeless_kind, placeless, span_bytes, block_bytes}
+use Rattle.mv_print.proofs.Building.{Fits, Spelled, Sound, Sounds, sounds_joined, Each, each_apart, apart, one_spelled, none_spelled, Reading, Readings, Prints, Turned, Turns, Gives, gives_give, gives_one, gives_both, gives_next, gives_either, gives_left, gives_any, both_read, more_read, joined_added, turns_give, turns_next, turns_either, turns_left, turns_as}
+use Rattle.mv_print.proofs.Sounding.{sound_key}
+use Rattle.mv_print.proofs.Meaning.{Meant, meant, closed_bytes, open_bytes, bare_bytes}
+use Rattle.mv_print.proofs.Tokens.{prints_token}
+use Rattle.mv_print.proofs.Turning.{turns_then, skip, skip_end, behind_key, behind_keys, place_key, turns_parens, turns_many, turns_commas, turns_found}
+use Rattle.mv_print.proofs.Rules.{Rule, same2, same3, same4, rule_name, rule_variable, rule_literal, rule_row, rule_type, rule_column}
+use Rattle.mv_print.proofs.Sentences.{way_inside}
+
+regroup_table : (cs ns rows : List Piece) (a b c e : Piece) → (((((cs ++ a ∷ []) ++ b ∷ []) ++ ns) ++ c ∷ []) ++ rows) ++ e ∷ [] ≡ cs ++ a ∷ b ∷ (ns ++ c ∷ (rows ++ e ∷ []))
+regroup_table cs ns rows a b c e =
+    append_assoc ((((cs ++ a ∷ []) ++ b ∷ []) ++ ns) ++ c ∷ []) rows (e ∷ [])
+    ∙ (append_assoc (((cs ++ a ∷ []) ++ b ∷ []) ++ ns) (c ∷ []) (rows ++ e ∷ [])
+    ∙ (append_assoc ((cs ++ a ∷ []) ++ b ∷ []) ns (c ∷ (rows ++ e ∷ []))
+    ∙ (append_assoc (cs ++ a ∷ []) (b ∷ []) (ns ++ c ∷ (rows ++ e ∷ [])) ∙ append_assoc cs (a ∷ []) (b ∷ (ns ++ c ∷ (rows ++ e ∷ []))))))
+
+regroup_procedure : (ps vs body : List Piece) (a b c : Piece) → ((((ps ++ vs) ++ a ∷ []) ++ body) ++ b ∷ []) ++ c ∷ [] ≡ ps ++ (vs ++ a ∷ (body ++ b ∷ c ∷ []))
+regroup_procedure ps vs body a b c =
+    append_assoc ((((ps ++ vs) ++ a ∷ []) ++ body)) (b ∷ []) (c ∷ [])
+    ∙ (append_assoc ((ps ++ vs) ++ a ∷ []) body (b ∷ c ∷ [])
+    ∙ (append_assoc (ps ++ vs) (a ∷ []) (body ++ b ∷ c ∷ []) ∙ append_assoc ps vs (a ∷ (body ++ b ∷ c ∷ []))))
+
+-- an item with no block
+abbrev no_block : ItemKind → ItemKind × List ℕ
+no_block k = (k, [])
+
+-- spans of the same bytes
+abbrev SameSpan : List ℕ → List ℕ → Span → Span → Type 0
+SameSpan bytes text s w = (placeless_span s ≡ placeless_span w) × (span_bytes bytes s ≡ span_bytes text w)
+
+-- the piece is the last of the text
+pub record Last (p : Piece) : Type 0 where
+  pub longest : IsLongest token.OpenBlock p.text []
+  pub kind : p.kind ≡ word.OpenBlock
+  pub allowed : list_all is_allowed p.text ≡ true
+  pub gap : p.gap ≡ []
+
+abbrev pub Ended : List Piece → Type 0
+Ended ps = (front : List Piece) × (x : Piece) × (ps ≡ front ++ x ∷ []) × Sounds front × Last x
+
+-- The parts of a spelling are allowed.
+allowed_parts : (xs ys : List ℕ) → list_all is_allowed (xs ++ ys) ≡ true → (list_all is_allowed xs ≡ true) × (list_all is_allowed ys ≡ true)
+allowed_parts xs ys h = and_parts (list_all is_allowed xs) (list_all is_allowed ys) (sym (list_all-append is_allowed xs ys) ∙ h)
+
+allowed_joined : (xs ys : List ℕ) → list_all is_allowed xs ≡ true → list_all is_allowed ys ≡ true → list_all is_allowed (xs ++ ys) ≡ true
+allowed_joined xs ys h k = list_all-append is_allowed xs ys ∙ and_from (list_all is_allowed xs) (list_all is_allowed ys) h k
+
+allowed_inside : (front inside after : List ℕ) (spelled : List ℕ) → spelled ≡ front ++ 10 ∷ (inside ++ after) → list_all is_allowed spelled ≡ true → list_all is_allowed inside ≡ true
+allowed_inside front inside after spelled e h =
+    (allowed_parts inside after (allowed_parts (10 ∷ []) (inside ++ after) (allowed_parts front (10 ∷ (inside ++ after)) (sym (ap (list_all is_allowed) e) ∙ h)).1).1).0
+
+-- a closed block: its lines, and how they are printed
+pub record ClosedBlock (bytes : List ℕ) (s : Span) : Type 0 where
+  pub lines : List (List ℕ)
+  pub content : span_bytes bytes s ≡ lines_text lines
+  pub block : (after : List ℕ) → IsBlock (block_piece (lines_text lines) true).text after
+  pub allowed : list_all is_allowed (lines_text lines) ≡ true
+
+closed_block : (bytes : List ℕ) (l : Lexeme) → Meant bytes l → l.kind ≡ word.Block → ClosedBlock bytes (closed_of bytes l)
+closed_block bytes l m e =
+    let b : IsBlock (spelling bytes l) m.after = meant l word.Block m e in
+    record {
+      lines = b.lines;
+      content = closed_bytes bytes l b.blanks (lines_text b.lines) b.closing m.after b.written m.len b.are_blanks b.is_closing;
+      block = λ after. record { blanks = []; lines = b.lines; closing = 62 ∷ 62 ∷ 10 ∷ []; are_blanks = refl; are_inner = b.are_inner; is_closing = inl refl; written = refl };
+      allowed = allowed_inside (opening b.blanks) (lines_text b.lines) b.closing (spelling bytes l) b.written m.allowed;
+    }
+
+closed_sound : (content : List ℕ) → ((after : List ℕ) → IsBlock (block_piece content true).text after) → list_all is_allowed content ≡ true → Sound (block_piece content true)
+closed_sound content b a = record {
+  token = token.Block;
+  longest = λ rest. found_longest token.Block (length (block_piece content true).text) (block_piece content true).text rest (block_is (block_piece content true).text rest (b rest)) refl (b rest);
+  is = refl;
+  allowed = allowed_joined content (62 ∷ 62 ∷ 10 ∷ []) a refl;
+  gaps = refl;
+}
+
+closed_again : (text content : List ℕ) (l : Lexeme) → Fits text l (block_piece content true) → span_bytes text (closed_of text l) ≡ content
+closed_again text content l f = closed_bytes text l [] content (62 ∷ 62 ∷ 10 ∷ []) [] f.spells (f.len ∙ sym (ap length f.spells)) refl (inl refl)
+
+prints_closed : {bytes text : List ℕ} (s : Span) → s.closed ≡ true → ClosedBlock bytes s
+    → Prints text (give (closed_of text) ⊛ one word.Block) (SameSpan bytes text s) (block_piece (span_bytes bytes s) true ∷ [])
+prints_closed {bytes = bytes} {text = text} s c b =
+    let c' = span_bytes bytes s in
+    let e = b.content in
+    let x : Sound (block_piece c' true) = subst (λ r. Sound (block_piece r true)) (sym e) (closed_sound (lines_text b.lines) b.block b.allowed) in
+    prints_token (block_piece c' true) x refl (λ l f. (ap (λ (r : Bool). (let y : Span = record { token = 0; at = 0; len = 0; closed = r } in y)) c, sym (closed_again text c' l f)))
+
+-- an open block
+pub record OpenedBlock (bytes : List ℕ) (s : Span) : Type 0 where
+  pub unclosed : IsUnclosed (block_piece (span_bytes bytes s) false).text
+  pub allowed : list_all is_allowed (span_bytes bytes s) ≡ true
+
+opened_by : (bytes : List ℕ) (l : Lexeme) → Meant bytes l → IsBareOpening (spelling bytes l) ⊎ IsUnclosed (spelling bytes l) → OpenedBlock bytes (open_of bytes l)
+opened_by bytes l m (inl b) =
+    let e = bare_bytes bytes l b.blanks b.written m.len b.are_blanks in
+    record {
+      unclosed = subst (λ r. IsUnclosed (block_piece r false).text) (sym e) (record {
+        blanks = [];
+        lines = [];
+        last = [];
+        are_blanks = refl;
+        are_inner = tt;
+        is_last = record { one_line = refl; no_end = λ h. cc };
+        written = refl;
+      });
+      allowed = subst (λ r. list_all is_allowed r ≡ true) (sym e) refl;
+    }
+opened_by bytes l m (inr b) =
+    let lines = lines_text b.lines ++ b.last in
+    let e = open_bytes bytes l b.blanks lines b.written m.len b.are_blanks in
+    record {
+      unclosed = subst (λ r. IsUnclosed (block_piece r false).text) (sym e) (record {
+        blanks = [];
+        lines = b.lines;
+        last = b.last;
+        are_blanks = refl;
+        are_inner = b.are_inner;
+        is_last = b.is_last;
+        written = refl;
+      });
+      allowed = subst (λ r. list_all is_allowed r ≡ true) (sym e) (allowed_inside (opening b.blanks) lines [] (spelling bytes l) (b.written ∙ ap (λ r. opening b.blanks ++ 10 ∷ r) (sym (append-nil lines))) m.allowed);
+    }
+
+opened_block : (bytes : List ℕ) (l : Lexeme) → Meant bytes l → l.kind ≡ word.OpenBlock → OpenedBlock bytes (open_of bytes l)
+opened_block bytes l m e = let b : IsSpelled token.OpenBlock (spelling bytes l) m.after = meant l word.OpenBlock m e in opened_by bytes l m b.0
+
+opened_last : (bytes : List ℕ) (s : Span) → OpenedBlock bytes s → Last (block_piece (span_bytes bytes s) false)
+opened_last bytes s b = record { longest = parted_longest token.OpenBlock (block_piece (span_bytes bytes s) false).text [] refl (inr b.unclosed, refl); kind = refl; allowed = b.allowed; gap = refl }
+
+opened_again : (text content : List ℕ) (l : Lexeme) → Fits text l (block_piece content false) → span_bytes text (open_of text l) ≡ content
+opened_again text content l f = open_bytes text l [] content f.spells (f.len ∙ sym (ap length f.spells)) refl
+
+module _ (bytes text : List ℕ) (d : ℕ) where
+  abbrev Way : {A B : Type 0} → Part A → Part A → (A → List Piece) → (A → B) → Type 0
+  Way = Rule bytes text d
+
+  way_columns : Way (rule.columns bytes) (rule.columns text) (λ cs. together (map column_and_comma cs)) (map placeless_column)
+  unfolding rule.columns
+  way_columns =
+      turns_left (skip (sound_key word.Comma) (turns_as (λ v ps h. ap (λ r. r ++ key word.Comma ∷ []) h) (λ v w h. h) (rule_column bytes text d)))
+      (skip (sound_key word.Comma) (turns_next (rule_column bytes text d) (turns_give (λ c cs. refl) (λ c e h. ap (λ r. r ∷ []) h))))
+
+  way_values : Way (rule.opening_rows bytes) (rule.opening_rows text) values_pieces (map placeless_row)
+  unfolding rule.opening_rows
+  way_values = turns_either (behind_key (sound_key word.Values) (turns_commas (rule_row bytes text d) (λ r rs. refl))) (turns_give refl refl)
+
+  -- an item behind CREATE
+  abbrev Created : ItemKind → List Piece → Type 0
+  Created k ps = key word.Create ∷ ps ≡ item_pieces bytes k
+
+  abbrev SameKind : ItemKind → ItemKind → Type 0
+  SameKind k j = ◌≡◌ {A = ItemKind × List ℕ} (placeless_kind k, block_bytes bytes k) (placeless_kind j, block_bytes text j)
+
+  way_table : Turns (Meant bytes) bytes text d (rule.table bytes) (rule.table text) Created SameKind
+  unfolding rule.table
+  way_table =
+      skip_end (turns_next way_values (skip (sound_key word.Close) (turns_next {fq = λ ns. key word.Open ∷ (listed name_pieces ns ++ key word.Close ∷ [])} (turns_parens (turns_commas (rule_name bytes text d) (λ n ns. refl)))
+      (skip (sound_key word.Key) (skip (sound_key word.Primary) (turns_next way_columns (skip (sound_key word.Open) (turns_next (rule_name bytes text d) (skip (sound_key word.Table)
+      (turns_give (λ n columns ns rows. ap (λ r. key word.Create ∷ key word.Table ∷ name_piece n ∷ key word.Open ∷ r)
+      (regroup_table (together (map column_and_comma columns)) (key word.Open ∷ (listed name_pieces ns ++ key word.Close ∷ [])) (values_pieces rows) (key word.Primary) (key word.Key) (key word.Close) line_end
+      ∙ ap (λ r. together (map column_and_comma columns) ++ key word.Primary ∷ key word.Key ∷ key word.Open ∷ r) (append_assoc (listed name_pieces ns) (key word.Close ∷ []) (key word.Close ∷ (values_pieces rows ++ line_end ∷ [])))))
+      (λ a a' h b b' i c c' j e e' k. ap no_block (same4 table_of h i j k))))))))))))
+
+  way_param_kind : Way (rule.param_kind bytes) (rule.param_kind text) param_kind_pieces placeless_param_kind
+  unfolding rule.param_kind
+  way_param_kind =
+      turns_either (behind_key (sound_key word.Rows) (turns_next {fq = λ cs. key word.Open ∷ (listed column_pieces cs ++ key word.Close ∷ [])} (turns_parens (turns_commas (rule_column bytes text d) (λ c cs. refl)))
+      (turns_give (λ cs. refl) (λ cs es h. ap parameter.Many h))))
+      (turns_next (rule_type bytes text d) (turns_give (λ k. refl) (λ k j h. ap parameter.One h)))
+
+  way_param : Way (rule.param bytes) (rule.param text) param_pieces placeless_param
+  unfolding rule.param
+  way_param = turns_next way_param_kind (turns_next (rule_variable bytes text d)
+      (turns_give (λ n k. refl) (λ n m h k j i. same2 (λ (r : Name) (s : ParamKind). (let x : Param = record { name = r; kind = s } in x)) h i)))
+
+  way_declaration : Way (rule.declaration bytes) (rule.declaration text) declared_pieces placeless_variable
+  unfolding rule.declaration
+  way_declaration =
+      skip (sound_key word.Semicolon) (turns_next (rule_literal bytes text d) (skip (sound_key word.Equal) (turns_next (rule_variable bytes text d) (skip (sound_key word.Declare)
+      (turns_give (λ n l. refl) (λ n m h k j i. same2 (λ (r : Name) (s : Lit). (let x : VarDef = record { name = r; initial = s } in x)) h i))))))
+
+  abbrev param_list : List Param → List Piece
+  param_list ps = key word.Open ∷ (listed param_pieces ps ++ key word.Close ∷ [])
+
+  way_params : Way (rule.in_parens (rule.or_none (rule.commas (rule.param bytes)))) (rule.in_parens (rule.or_none (rule.commas (rule.param text)))) param_list (map placeless_param)
+  way_params = turns_parens (turns_either (turns_commas way_param (λ p ps. refl)) (turns_give refl refl))
+
+  way_procedure : Turns (Meant bytes) bytes text d (rule.procedure bytes) (rule.procedure text) Created SameKind
+  unfolding rule.procedure
+  way_procedure =
+      skip_end (skip (sound_key word.End) (turns_next {fq = statements_pieces} (turns_many (way_inside bytes text d) (λ vs. refl)) (skip (sound_key word.Begin)
+      (turns_next {fq = λ vs. together (map declared_pieces vs)} (turns_many way_declaration (λ vs. refl)) (turns_next way_params (turns_next (rule_name bytes text d) (skip (sound_key word.Procedure)
+      (turns_give (λ n params vars body. ap (λ r. key word.Create ∷ key word.Procedure ∷ name_piece n ∷ r)
+      (regroup_procedure (param_list params) (together (map declared_pieces vars)) (statements_pieces body) (key word.Begin) (key word.End) line_end
+      ∙ ap (λ r. key word.Open ∷ r) (append_assoc (listed param_pieces params) (key word.Close ∷ []) (together (map declared_pieces vars) ++ key word.Begin ∷ (statements_pieces body ++ key word.End ∷ line_end ∷ [])))))
+      (λ a a' h b b' i c c' j e e' k. ap no_block (same4 procedure_of h i j k))))))))))
+
+  way_create : Turns (Meant bytes) bytes text d (rule.create bytes) (rule.create text) (λ i ps. ps ≡ pieces_of bytes i) (λ i j. placeless bytes i ≡ placeless text j)
+  unfolding rule.create
+  way_create = turns_then (turns_either way_table way_procedure) (turns_next (place_key (sound_key word.Create)) (turns_give (λ n k qs h. h) (λ n m u k j h. h)))
+
+  abbrev rows_pieces : List LitRow → List Piece
+  rows_pieces rs = key word.Open ∷ (listed row_pieces rs ++ key word.Close ∷ [])
+
+  abbrev placeless_rows : LitRows → LitRows
+  placeless_rows r = record { token = 0; rows = map placeless_row r.rows }
+
+  way_rows : Way (rule.lit_rows bytes) (rule.lit_rows text) (λ r. key word.Rows ∷ rows_pieces r.rows) placeless_rows
+  unfolding rule.lit_rows
+  way_rows =
+      turns_next {fq = rows_pieces} (turns_parens (turns_either (turns_commas (rule_row bytes text d) (λ r rs. refl)) (turns_give refl refl))) (turns_next (place_key (sound_key word.Rows))
+      (turns_give (λ n rs. refl) (λ n m u rs ss h. ap (λ (r : List LitRow). (let x : LitRows = record { token = 0; rows = r } in x)) h)))
+
+  way_arg : Way (rule.arg bytes) (rule.arg text) arg_pieces placeless_argument
+  unfolding rule.arg
+  way_arg =
+      turns_either (turns_next way_rows (turns_give (λ r. refl) (λ r s h. ap argument.Many h))) (turns_next (rule_literal bytes text d) (turns_give (λ l. refl) (λ l m h. ap argument.One h)))
+
+  abbrev arg_list : List Arg → List Piece
+  arg_list as' = key word.Open ∷ (listed arg_pieces as' ++ key word.Close ∷ [])
+
+  way_call : Turns (Meant bytes) bytes text d (rule.call bytes) (rule.call text) (λ i ps. ps ≡ pieces_of bytes i) (λ i j. placeless bytes i ≡ placeless text j)
+  unfolding rule.call
+  way_call =
+      skip_end (turns_next {fq = arg_list} (turns_parens (turns_either (turns_commas way_arg (λ v vs. refl)) (turns_give refl refl))) (turns_next (rule_name bytes text d) (turns_next (place_key (sound_key word.Call))
+      (turns_give (λ n name args. simp append_assoc refl) (λ n m u a a' h b b' i. ap no_block (same2 (λ r s. Call (record { name = r; arguments = s })) h i))))))
