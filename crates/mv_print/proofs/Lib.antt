@@ -10,3 +10,4 @@ pub mod Turning
 pub mod Rules
 pub mod Sentences
 pub mod Scripts
+pub mod Lexing

@@ -36,8 +36,8 @@ use Rattle.mv_ast.specs.Trees.{table_of, procedure_of, copy_of, journal_of, scri
 use Rattle.mv_ast.specs.Texts.{spelling}
 use Rattle.mv_ast.specs.Grammar as rule
 use Rattle.mv_ast.specs.Grammar.{inner, added, place, closed_of, open_of, ◌⊛◌, ◌▸◌}
-use Rattle.mv_print.specs.Printing.{Piece, key, line_end, name_piece, name_pieces, variable_piece, listed, literal_pieces, row_pieces, type_pieces, column_pieces, column_and_comma, values_pieces, table_pieces, param_kind_pieces, param_pieces, declared_pieces, procedure_pieces, statements_pieces, block_piece, span_piece, arg_pieces, item_pieces, pieces_of}
-use Rattle.mv_print.specs.Same.{placeless_name, placeless_literal, placeless_row, placeless_column, placeless_param_kind, placeless_param, placeless_variable, placeless_argument, placeless_statement, placeless_span, placeless_kind, placeless, span_bytes, block_bytes}
+use Rattle.mv_print.specs.Printing.{Piece, key, line_end, name_piece, name_pieces, variable_piece, listed, literal_pieces, row_pieces, type_pieces, column_pieces, column_and_comma, values_pieces, table_pieces, param_kind_pieces, param_pieces, declared_pieces, procedure_pieces, statements_pieces, block_piece, span_piece, arg_pieces, item_pieces, pieces_of, script_pieces}
+use Rattle.mv_print.specs.Same.{placeless_name, placeless_literal, placeless_row, placeless_column, placeless_param_kind, placeless_param, placeless_variable, placeless_argument, placeless_statement, placeless_span, placeless_kind, placeless, span_bytes, block_bytes, SameButPlaces}
 use Rattle.mv_print.proofs.Building.{Fits, Spelled, Sound, Sounds, sounds_joined, Each, each_apart, apart, one_spelled, none_spelled, Reading, Readings, Prints, Turned, Turns, Gives, gives_give, gives_one, gives_both, gives_next, gives_either, gives_left, gives_any, both_read, more_read, joined_added, turns_give, turns_next, turns_either, turns_left, turns_as}
 use Rattle.mv_print.proofs.Sounding.{sound_key}
 use Rattle.mv_print.proofs.Meaning.{Meant, meant, closed_bytes, open_bytes, bare_bytes}
@@ -116,14 +116,6 @@ closed_sound content b a = record {
 
 closed_again : (text content : List ℕ) (l : Lexeme) → Fits text l (block_piece content true) → span_bytes text (closed_of text l) ≡ content
 closed_again text content l f = closed_bytes text l [] content (62 ∷ 62 ∷ 10 ∷ []) [] f.spells (f.len ∙ sym (ap length f.spells)) refl (inl refl)
-
-prints_closed : {bytes text : List ℕ} (s : Span) → s.closed ≡ true → ClosedBlock bytes s
-    → Prints text (give (closed_of text) ⊛ one word.Block) (SameSpan bytes text s) (block_piece (span_bytes bytes s) true ∷ [])
-prints_closed {bytes = bytes} {text = text} s c b =
-    let c' = span_bytes bytes s in
-    let e = b.content in
-    let x : Sound (block_piece c' true) = subst (λ r. Sound (block_piece r true)) (sym e) (closed_sound (lines_text b.lines) b.block b.allowed) in
-    prints_token (block_piece c' true) x refl (λ l f. (ap (λ (r : Bool). (let y : Span = record { token = 0; at = 0; len = 0; closed = r } in y)) c, sym (closed_again text c' l f)))
 
 -- an open block
 pub record OpenedBlock (bytes : List ℕ) (s : Span) : Type 0 where
@@ -264,3 +256,243 @@ module _ (bytes text : List ℕ) (d : ℕ) where
   way_call =
       skip_end (turns_next {fq = arg_list} (turns_parens (turns_either (turns_commas way_arg (λ v vs. refl)) (turns_give refl refl))) (turns_next (rule_name bytes text d) (turns_next (place_key (sound_key word.Call))
       (turns_give (λ n name args. simp append_assoc refl) (λ n m u a a' h b b' i. ap no_block (same2 (λ r s. Call (record { name = r; arguments = s })) h i))))))
+
+-- the tokens end with an open block
+abbrev pub EndsOpen : List Lexeme → Type 0
+EndsOpen ts = (us : List Lexeme) × (l : Lexeme) × (ts ≡ us ++ l ∷ []) × (l.kind ≡ word.OpenBlock)
+
+-- an item that was read from these tokens is read from its pieces
+pub record ItemTurned (bytes text : List ℕ) (p : Part Item) (ts : List Lexeme) (i : Item) : Type 0 where
+  pub sounds : Sounds (pieces_of bytes i) ⊎ (Ended (pieces_of bytes i) × EndsOpen ts)
+  pub levels : ℕ
+  pub reads : (d : ℕ) (ls : List Lexeme) → levels ≤ d → Spelled text ls (pieces_of bytes i) → Reading text p (λ j. placeless bytes i ≡ placeless text j) d ls
+
+item_turned : {bytes text : List ℕ} {p : Part Item} {ts : List Lexeme} (i : Item) → Turned text p (λ ps. ps ≡ pieces_of bytes i) (λ j. placeless bytes i ≡ placeless text j) ts → ItemTurned bytes text p ts i
+item_turned {bytes = bytes} {text = text} {p = p} i a =
+    let x : Prints text p (λ j. placeless bytes i ≡ placeless text j) (pieces_of bytes i) = subst (λ r. Prints text p (λ j. placeless bytes i ≡ placeless text j) r) a.is a.prints in
+    record { sounds = inl x.sounds; levels = x.levels; reads = x.reads }
+
+item_inl : {bytes text : List ℕ} {p q : Part Item} {ts : List Lexeme} {i : Item} → ItemTurned bytes text p ts i → ItemTurned bytes text (either p q) ts i
+item_inl x = record { sounds = x.sounds; levels = x.levels; reads = λ d ls h s. (let r = x.reads d ls h s in (r.0, inl r.1, r.2)) }
+
+item_inr : {bytes text : List ℕ} {p q : Part Item} {ts : List Lexeme} {i : Item} → ItemTurned bytes text q ts i → ItemTurned bytes text (either p q) ts i
+item_inr x = record { sounds = x.sounds; levels = x.levels; reads = λ d ls h s. (let r = x.reads d ls h s in (r.0, inr r.1, r.2)) }
+
+-- a block that was read from these tokens is read from its piece
+record BlockTurned (bytes text : List ℕ) (ts : List Lexeme) (s : Span) : Type 0 where
+  pub sounds : Sounds (span_piece bytes s ∷ []) ⊎ (Last (span_piece bytes s) × EndsOpen ts)
+  pub reads : (d : ℕ) (ls : List Lexeme) → Spelled text ls (span_piece bytes s ∷ []) → Reading text (rule.block text) (SameSpan bytes text s) d ls
+
+abbrev AnyLevel : List ℕ → List ℕ → Span → List Piece → Type 0
+AnyLevel bytes text s ps = (d : ℕ) (ls : List Lexeme) → Spelled text ls ps → Reading text (rule.block text) (SameSpan bytes text s) d ls
+
+closed_read : (bytes text : List ℕ) (s : Span) → s.closed ≡ true → ClosedBlock bytes s → AnyLevel bytes text s (block_piece (span_bytes bytes s) true ∷ [])
+unfolding rule.block
+closed_read bytes text s c b d ls z =
+    let i = one_spelled text ls (block_piece (span_bytes bytes s) true) z in (
+      closed_of text i.0,
+      inl ([], ls, closed_of text, i.0, refl, (refl, refl), (i.1, i.2.kind), refl),
+      (ap (λ (r : Bool). (let y : Span = record { token = 0; at = 0; len = 0; closed = r } in y)) c, sym (closed_again text (span_bytes bytes s) i.0 i.2)),
+    )
+
+opened_read : (bytes text : List ℕ) (s : Span) → s.closed ≡ false → AnyLevel bytes text s (block_piece (span_bytes bytes s) false ∷ [])
+unfolding rule.block
+opened_read bytes text s c d ls z =
+    let i = one_spelled text ls (block_piece (span_bytes bytes s) false) z in (
+      open_of text i.0,
+      inr ([], ls, open_of text, i.0, refl, (refl, refl), (i.1, i.2.kind), refl),
+      (ap (λ (r : Bool). (let y : Span = record { token = 0; at = 0; len = 0; closed = r } in y)) c, sym (opened_again text (span_bytes bytes s) i.0 i.2)),
+    )
+
+closed_turned : (bytes text : List ℕ) (ts : List Lexeme) (s : Span) → ClosedBlock bytes s × (s.closed ≡ true) → BlockTurned bytes text ts s
+closed_turned bytes text ts s b =
+    let x : Sound (block_piece (span_bytes bytes s) true) = subst (λ r. Sound (block_piece r true)) (sym b.0.content) (closed_sound (lines_text b.0.lines) b.0.block b.0.allowed) in
+    record {
+      sounds = inl (subst (λ c. Sound (block_piece (span_bytes bytes s) c)) (sym b.1) x, tt);
+      reads = subst (λ c. AnyLevel bytes text s (block_piece (span_bytes bytes s) c ∷ [])) (sym b.1) (closed_read bytes text s b.1 b.0);
+    }
+
+opened_turned : (bytes text : List ℕ) (ts : List Lexeme) (s : Span) → OpenedBlock bytes s × (s.closed ≡ false) × EndsOpen ts → BlockTurned bytes text ts s
+opened_turned bytes text ts s b = record {
+  sounds = inr (subst (λ c. Last (block_piece (span_bytes bytes s) c)) (sym b.1) (opened_last bytes s b.0), b.2);
+  reads = subst (λ c. AnyLevel bytes text s (block_piece (span_bytes bytes s) c ∷ [])) (sym b.1) (opened_read bytes text s b.1);
+}
+
+gives_block : (bytes text : List ℕ) (d : ℕ) → Gives (Meant bytes) bytes d (rule.block bytes) (λ ts s. BlockTurned bytes text ts s)
+unfolding rule.block
+gives_block bytes text d = gives_either
+    (gives_next {P = λ ts l. ClosedBlock bytes (closed_of bytes l)} (gives_give (λ ys l h. closed_turned bytes text ys (closed_of bytes l) (h, refl))) (gives_one (λ l g e. closed_block bytes l g e)))
+    (gives_next {P = λ ts l. OpenedBlock bytes (open_of bytes l) × EndsOpen ts} (gives_give (λ ys l h. opened_turned bytes text ys (open_of bytes l) (h.0, refl, h.1)))
+    (gives_one (λ l g e. (opened_block bytes l g e, ([], l, refl, e)))))
+
+-- an item before its block
+abbrev BeforeBlock : List ℕ → (Span → Item) → List Piece → Type 0
+BeforeBlock bytes h ps = (s : Span) → ps ++ span_piece bytes s ∷ [] ≡ pieces_of bytes (h s)
+
+abbrev SameBefore : List ℕ → List ℕ → (Span → Item) → (Span → Item) → Type 0
+SameBefore bytes text h j = (s w : Span) → SameSpan bytes text s w → placeless bytes (h s) ≡ placeless text (j w)
+
+block_sounds : (bytes : List ℕ) (ts xs ys : List Lexeme) (ps : List Piece) (x : Piece) → ts ≡ xs ++ ys → Sounds ps → Sounds (x ∷ []) ⊎ (Last x × EndsOpen ys)
+    → Sounds (ps ++ x ∷ []) ⊎ (Ended (ps ++ x ∷ []) × EndsOpen ts)
+block_sounds bytes ts xs ys ps x e s (inl h) = inl (sounds_joined ps (x ∷ []) s h)
+block_sounds bytes ts xs ys ps x e s (inr h) =
+    let o = h.1 in
+    inr ((ps, x, refl, s, h.0), (xs ++ o.0, o.1, e ∙ (ap (λ r. xs ++ r) o.2 ∙ sym (append_assoc xs o.0 (o.1 ∷ []))), o.3))
+
+block_item : (bytes text : List ℕ) (ts xs ys : List Lexeme) (h : Span → Item) (s : Span) (p : Part (Span → Item)) → ts ≡ xs ++ ys
+    → Turned text p (BeforeBlock bytes h) (SameBefore bytes text h) xs → BlockTurned bytes text ys s → ItemTurned bytes text (p ⊛ rule.block text) ts (h s)
+block_item bytes text ts xs ys h s p e a b =
+    let is = a.is s in
+    record {
+      sounds = subst (λ r. Sounds r ⊎ (Ended r × EndsOpen ts)) is (block_sounds bytes ts xs ys a.pieces (span_piece bytes s) e a.prints.sounds b.sounds);
+      levels = a.prints.levels;
+      reads = λ d ls l z. both_read {P = SameBefore bytes text h} {Q = SameSpan bytes text s} (λ f x. f x) p (rule.block text) d ls (λ j w k m. k s w m)
+          (λ r y. a.prints.reads d r l y) (λ r y. b.reads d r y) (subst (λ r. Spelled text ls r) (sym is) z);
+    }
+
+module _ (bytes text : List ℕ) (d : ℕ) where
+  block_behind : {p q : Part (Span → Item)} → Turns (Meant bytes) bytes text d p q (BeforeBlock bytes) (SameBefore bytes text)
+      → (ts : List Lexeme) (i : Item) → Each (Meant bytes) ts → Is (inner bytes d) (p ⊛ rule.block bytes) ts i → ItemTurned bytes text (q ⊛ rule.block text) ts i
+  block_behind {q = q} x ts v g i =
+      let g' = each_apart (Meant bytes) i.0 i.1 (subst (Each (Meant bytes)) i.4 g) in
+      let a = x.turn i.0 i.2 g'.0 i.5 in
+      let b = (gives_block bytes text d).given i.1 i.3 g'.1 i.6 in
+      subst (λ r. ItemTurned bytes text (q ⊛ rule.block text) ts r) (sym i.7) (block_item bytes text ts i.0 i.1 i.2 i.3 q i.4 a b)
+
+  abbrev copied : Name → Span → List ℕ → ItemKind × List ℕ
+  copied n s b = (Copy (record { table = n; block = s }), b)
+
+  way_copy : Turns (Meant bytes) bytes text d (give copy_of ⊛ place word.Copy ⊛ rule.name bytes) (give copy_of ⊛ place word.Copy ⊛ rule.name text) (BeforeBlock bytes) (SameBefore bytes text)
+  way_copy = turns_next (rule_name bytes text d) (turns_next (place_key (sound_key word.Copy)) (turns_give (λ n name s. refl) (λ n m u a b h s w k. same3 copied h k.0 k.1)))
+
+  abbrev journaled : Span → List ℕ → ItemKind × List ℕ
+  journaled s b = (Journal s, b)
+
+  way_journal : Turns (Meant bytes) bytes text d (give journal_of ⊛ place word.Journal) (give journal_of ⊛ place word.Journal) (BeforeBlock bytes) (SameBefore bytes text)
+  way_journal = turns_next (place_key (sound_key word.Journal)) (turns_give (λ n s. refl) (λ n m u s w k. same2 journaled k.0 k.1))
+
+  way_item : (ts : List Lexeme) (i : Item) → Each (Meant bytes) ts → Is (inner bytes d) (rule.an_item bytes) ts i → ItemTurned bytes text (rule.an_item text) ts i
+  unfolding rule.an_item rule.copy rule.journal
+  way_item ts v g i =
+      elim i as (λ j. ItemTurned bytes text (rule.an_item text) ts v) [
+        | inl h ↦ item_inl (item_turned v ((way_create bytes text d).turn ts v g h))
+        | inr j ↦ elim j as (λ j. ItemTurned bytes text (rule.an_item text) ts v) [
+          | inl h ↦ item_inr (item_inl (block_behind way_copy ts v g h))
+          | inr k ↦ elim k as (λ j. ItemTurned bytes text (rule.an_item text) ts v) [
+            | inl h ↦ item_inr (item_inr (item_inl (item_turned v ((way_call bytes text d).turn ts v g h))))
+            | inr h ↦ item_inr (item_inr (item_inr (block_behind way_journal ts v g h)))
+          ]
+        ]
+      ]
+
+  -- an item has a token
+  abbrev Some : {A : Type 0} → Part A → Type 0
+  Some p = Gives (Meant bytes) bytes d p (λ ts v. 1 ≤ length ts)
+
+  some_first : {A B : Type 0} {p : Part (A → B)} {q : Part A} → Some p → Some (p ⊛ q)
+  some_first x = gives_both x gives_any (λ xs ys a b h k. omega (arith, length-append xs ys))
+
+  some_second : {A B C : Type 0} {f : A → B → C} {p : Part A} {q : Part B} → Some q → Some (both f p q)
+  some_second x = gives_both gives_any x (λ xs ys a b h k. omega (arith, length-append xs ys))
+
+  some_skip : {A B C : Type 0} {f : A → B → C} {p : Part A} {q : Part B} → Some p → Some (both f p q)
+  some_skip x = gives_both x gives_any (λ xs ys a b h k. omega (arith, length-append xs ys))
+
+  some_item : Some (rule.an_item bytes)
+  unfolding rule.an_item rule.create rule.copy rule.call rule.journal
+  some_item =
+      gives_either (some_skip (some_second (some_second (gives_one (λ l g e. omega arith)))))
+      (gives_either (some_skip (some_skip (some_second (some_second (gives_one (λ l g e. omega arith))))))
+      (gives_either (some_skip (some_skip (some_skip (some_second (some_second (gives_one (λ l g e. omega arith)))))))
+      (some_skip (some_second (some_second (gives_one (λ l g e. omega arith)))))))
+
+-- an open block is the last token
+abbrev pub LastOpen : List Lexeme → Type 0
+LastOpen [] = Unit {0}
+LastOpen (l ∷ ls) = (l.kind ≡ word.OpenBlock → ls ≡ []) × LastOpen ls
+
+open_behind : (xs ys : List Lexeme) → LastOpen (xs ++ ys) → LastOpen ys
+open_behind [] ys h = h
+open_behind (x ∷ xs) ys h = open_behind xs ys h.1
+
+open_last : (us : List Lexeme) (l : Lexeme) (ys : List Lexeme) → LastOpen (us ++ l ∷ ys) → l.kind ≡ word.OpenBlock → ys ≡ []
+open_last [] l ys h k = h.0 k
+open_last (u ∷ us) l ys h k = open_last us l ys h.1 k
+
+pub record ItemsTurned (bytes text : List ℕ) (vs : List Item) : Type 0 where
+  pub sounds : Sounds (together (map (pieces_of bytes) vs)) ⊎ Ended (together (map (pieces_of bytes) vs))
+  pub levels : ℕ
+  pub reads : (d : ℕ) (ls : List Lexeme) → levels ≤ d → Spelled text ls (together (map (pieces_of bytes) vs))
+      → Readings text (rule.an_item text) (λ ws. map (placeless bytes) vs ≡ map (placeless text) ws) d ls
+
+placeless_read : (bytes text : List ℕ) (v : Item) (vs : List Item) (ps qs : List Piece) (d : ℕ) (ls : List Lexeme)
+    → ((ls : List Lexeme) → Spelled text ls ps → Reading text (rule.an_item text) (λ w. placeless bytes v ≡ placeless text w) d ls)
+    → ((ls : List Lexeme) → Spelled text ls qs → Readings text (rule.an_item text) (λ ws. map (placeless bytes) vs ≡ map (placeless text) ws) d ls)
+    → Spelled text ls (ps ++ qs) → Readings text (rule.an_item text) (λ ws. map (placeless bytes) (v ∷ vs) ≡ map (placeless text) ws) d ls
+placeless_read bytes text v vs ps qs d ls f g s =
+    let i = apart text ls ps qs s in
+    let a = f i.0 i.3 in
+    let b = g i.1 i.4 in
+    (a.0 ∷ b.0, (i.0, i.1, i.2, a.1, b.1), ap (λ r. r ∷ map (placeless bytes) vs) a.2 ∙ ap (λ r. placeless text a.0 ∷ r) b.2)
+
+-- no items are left behind an open block
+no_items : (bytes : List ℕ) (d : ℕ) (vs : List Item) (ts : List Lexeme) → Each (Meant bytes) ts → Pieces (Is (inner bytes d) (rule.an_item bytes)) ts vs → ts ≡ [] → vs ≡ []
+no_items bytes d [] ts g i e = refl
+no_items bytes d (v ∷ vs) ts g i e =
+    let g' = each_apart (Meant bytes) i.0 i.1 (subst (Each (Meant bytes)) i.2 g) in
+    let n = (some_item bytes [] d).given i.0 v g'.0 i.3 in
+    absurd (omega (arith, ap length e, ap length i.2, length-append i.0 i.1))
+
+items_sounds : (bytes : List ℕ) (ts xs ys : List Lexeme) (ps : List Piece) (vs : List Item) → ts ≡ xs ++ ys → LastOpen ts → Sounds ps ⊎ (Ended ps × EndsOpen xs) → (ys ≡ [] → vs ≡ [])
+    → Sounds (together (map (pieces_of bytes) vs)) ⊎ Ended (together (map (pieces_of bytes) vs)) → Sounds (ps ++ together (map (pieces_of bytes) vs)) ⊎ Ended (ps ++ together (map (pieces_of bytes) vs))
+items_sounds bytes ts xs ys ps vs e o (inl h) n (inl k) = inl (sounds_joined ps (together (map (pieces_of bytes) vs)) h k)
+items_sounds bytes ts xs ys ps vs e o (inl h) n (inr k) =
+    inr (ps ++ k.0, k.1, ap (λ r. ps ++ r) k.2 ∙ sym (append_assoc ps k.0 (k.1 ∷ [])), sounds_joined ps k.0 h k.3, k.4)
+items_sounds bytes ts xs ys ps vs e o (inr h) n k =
+    let u = h.1 in
+    let all : ts ≡ u.0 ++ u.1 ∷ ys = e ∙ (ap (λ r. r ++ ys) u.2 ∙ append_assoc u.0 (u.1 ∷ []) ys) in
+    let none = n (open_last u.0 u.1 ys (subst LastOpen all o) u.3) in
+    let r : Ended (ps ++ []) = subst Ended (sym (append-nil ps)) h.0 in
+    subst (λ z. Sounds (ps ++ together (map (pieces_of bytes) z)) ⊎ Ended (ps ++ together (map (pieces_of bytes) z))) (sym none) (inr r)
+
+items_turned : (bytes text : List ℕ) (d : ℕ) (vs : List Item) (ts : List Lexeme) → Each (Meant bytes) ts → LastOpen ts → Pieces (Is (inner bytes d) (rule.an_item bytes)) ts vs → ItemsTurned bytes text vs
+items_turned bytes text d [] ts g o i = record { sounds = inl tt; levels = 0; reads = λ e ls h s. ([], none_spelled text ls s, refl) }
+items_turned bytes text d (v ∷ vs) ts g o i =
+    let g' = each_apart (Meant bytes) i.0 i.1 (subst (Each (Meant bytes)) i.2 g) in
+    let a = way_item bytes text d i.0 v g'.0 i.3 in
+    let o' = open_behind i.0 i.1 (subst LastOpen i.2 o) in
+    let b = items_turned bytes text d vs i.1 g'.1 o' i.4 in
+    record {
+      sounds = items_sounds bytes ts i.0 i.1 (pieces_of bytes v) vs i.2 o a.sounds (λ e. no_items bytes d vs i.1 g'.1 i.4 e) b.sounds;
+      levels = a.levels + b.levels;
+      reads = λ e ls h s. (let m = a.levels in let n = b.levels in
+          placeless_read bytes text v vs (pieces_of bytes v) (together (map (pieces_of bytes) vs)) e ls (λ r z. a.reads e r (omega arith) z) (λ r z. b.reads e r (omega arith) z) s);
+    }
+
+-- a script is read from its pieces
+pub record ScriptTurned (bytes text : List ℕ) (s : Script) : Type 0 where
+  pub sounds : Sounds (script_pieces bytes s) ⊎ Ended (script_pieces bytes s)
+  pub levels : ℕ
+  pub reads : (d : ℕ) (ls : List Lexeme) → levels ≤ d → Spelled text ls (script_pieces bytes s) → Reading text (rule.script text) (λ t. SameButPlaces bytes s text t) d ls
+
+script_read : (bytes text : List ℕ) (d : ℕ) (ls : List Lexeme) (s : Script) → Readings text (rule.an_item text) (λ ws. map (placeless bytes) s.items ≡ map (placeless text) ws) d ls
+    → Reading text (rule.script text) (λ t. SameButPlaces bytes s text t) d ls
+unfolding rule.script
+script_read bytes text d ls s r = (
+  script_of (joined added [] r.0),
+  ([], ls, script_of, joined added [] r.0, refl, (refl, refl), ([], ls, [], r.0, refl, (refl, refl), r.1, refl), refl),
+  r.2 ∙ ap (map (placeless text)) (sym (joined_added [] r.0)),
+)
+
+pub script_turned : (bytes text : List ℕ) (d : ℕ) (ts : List Lexeme) (s : Script) → Each (Meant bytes) ts → LastOpen ts → Is (inner bytes d) (rule.script bytes) ts s → ScriptTurned bytes text s
+unfolding rule.script
+script_turned bytes text d ts s g o i =
+    let m = i.6 in
+    let none : i.0 ≡ [] = i.5.0 in
+    let first : m.0 ≡ [] = m.5.0 in
+    let all : ts ≡ m.1 = i.4 ∙ (ap (λ r. r ++ i.1) none ∙ (m.4 ∙ ap (λ r. r ++ m.1) first)) in
+    let list : i.3 ≡ m.3 = m.7 ∙ (joined_added m.2 m.3 ∙ ap (λ r. r ++ m.3) m.5.1) in
+    let same : script_of m.3 ≡ s = ap script_of (sym list) ∙ (ap (λ f. f i.3) (sym i.5.1) ∙ sym i.7) in
+    let a = items_turned bytes text d m.3 m.1 (subst (Each (Meant bytes)) all g) (subst LastOpen all o) m.6 in
+    let r : ScriptTurned bytes text (script_of m.3) = record { sounds = a.sounds; levels = a.levels; reads = λ e ls h z. script_read bytes text e ls (script_of m.3) (a.reads e ls h z) } in
+    subst (ScriptTurned bytes text) same r

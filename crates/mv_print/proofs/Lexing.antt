@@ -1,0 +1,159 @@
+-- The tokens of a source, and those of printed pieces.
+use Rattle.std.proofs.Common.{◌≡◌, ℕ, zero, suc, ◌+◌, ◌-◌, ◌<◌, ◌≤◌, Bool, true, false, ◌&&◌, List, [], ◌∷◌, ◌++◌, ◌⊎◌, length, map, take, drop, slice_range, refl, sym, ap, subst, ◌∙◌, append_assoc, append-nil, length-append, arith, inl, inr}
+use Rattle.std.specs.List.{list_all}
+use Rattle.std.proofs.lemmas.Bool.{and_parts, and_from}
+use Rattle.std.proofs.lemmas.Bool.Decides.{nat_tests}
+use Rattle.std.proofs.lemmas.List.{take_at, drop_at}
+use Rattle.std.proofs.lemmas.List.Folds.{list_all-append}
+use Rattle.mv_lex.specs.Bytes.{is_allowed, is_blank}
+use Rattle.mv_lex.specs.Spelling.{IsSpelled}
+use Rattle.mv_lex.specs.Tokens.{IsLongest, Reads, stop, blank, comment, token, token_at, AreTokens}
+use Rattle.mv_lex.specs.declared.token.Kind.{Kind}
+use Rattle.mv_lex.specs.declared.token.Kind.TheVariants as kind
+use Rattle.mv_lex.specs.declared.token.Token.{Token}
+use Rattle.mv_ast.specs.declared.lexeme.Lexeme.{Lexeme}
+use Rattle.mv_ast.specs.declared.lexeme.Terminal.TheVariants as word
+use Rattle.mv_ast.specs.Texts.{spelling}
+use Rattle.mv_ast.specs.Lexemes.{kind_of, lexeme_of, lexemes_from, lexemes}
+use Rattle.mv_print.specs.Printing.{Piece, put, written}
+use Rattle.mv_print.proofs.Building.{Fits, Spelled, Sound, Sounds, Each}
+use Rattle.mv_print.proofs.Meaning.{Meant, kind_behind, behind}
+use Rattle.mv_print.proofs.Scripts.{LastOpen, Last, Ended}
+
+allowed_apart : (xs ys : List ℕ) → list_all is_allowed (xs ++ ys) ≡ true → (list_all is_allowed xs ≡ true) × (list_all is_allowed ys ≡ true)
+allowed_apart xs ys h = and_parts (list_all is_allowed xs) (list_all is_allowed ys) (sym (list_all-append is_allowed xs ys) ∙ h)
+
+allowed_joined : (xs ys : List ℕ) → list_all is_allowed xs ≡ true → list_all is_allowed ys ≡ true → list_all is_allowed (xs ++ ys) ≡ true
+allowed_joined xs ys h k = list_all-append is_allowed xs ys ∙ and_from (list_all is_allowed xs) (list_all is_allowed ys) h k
+
+-- the bytes at a place
+at_place : (before text rest bytes : List ℕ) (n : ℕ) → bytes ≡ before ++ (text ++ rest) → n ≡ length before → slice_range bytes n (n + length text) ≡ text
+at_place before text rest bytes n e h =
+    let c : n + length text - n ≡ length text = omega arith in
+    ap (λ (k : ℕ). take k (drop n bytes)) c ∙ (ap (λ r. take (length text) (drop n r)) e ∙ (ap (take (length text)) (drop_at before (text ++ rest) n (sym h)) ∙ take_at text rest (length text) refl))
+
+-- a token of the source
+token_meant : (bytes before text rest : List ℕ) (n place : ℕ) (k : Kind) → bytes ≡ before ++ (text ++ rest) → place ≡ length before → list_all is_allowed text ≡ true → IsSpelled k text rest
+    → Meant bytes (lexeme_of n bytes (token_at k place text))
+token_meant bytes before text rest n place k e h a s =
+    let i = at_place before text rest bytes place e h in
+    record {
+      token = k;
+      after = rest;
+      spelled = subst (λ r. IsSpelled k r rest) (sym i) s;
+      is = refl;
+      len = sym (ap length i);
+      allowed = ap (list_all is_allowed) i ∙ a;
+    }
+
+-- all tokens of the source
+pub all_meant : {place end : ℕ} {bytes rest : List ℕ} {tokens : List Token} (n : ℕ) (all before : List ℕ) → all ≡ before ++ bytes → place ≡ length before → list_all is_allowed bytes ≡ true
+    → Reads place bytes tokens end rest → Each (Meant all) (lexemes_from n all tokens)
+all_meant n all before e h a stop = tt
+all_meant n all before e h a (blank {b = b} {bytes = bytes} i r) =
+    all_meant n all (before ++ b ∷ []) (e ∙ sym (append_assoc before (b ∷ []) bytes)) (omega (arith, length-append before (b ∷ []))) (allowed_apart (b ∷ []) bytes a).1 r
+all_meant n all before e h a (comment line bytes l i r) =
+    let front = 45 ∷ 45 ∷ line in
+    all_meant n all (before ++ front) (e ∙ sym (append_assoc before front bytes)) (omega (arith, length-append before front)) (allowed_apart front bytes a).1 r
+all_meant n all before e h a (token {place = place} k text bytes l r) = (
+  token_meant all before text bytes n place k e h (allowed_apart text bytes a).0 l.spelled,
+  all_meant (n + 1) all (before ++ text) (e ∙ sym (append_assoc before text bytes)) (omega (arith, length-append before text)) (allowed_apart text bytes a).1 r,
+)
+
+-- no token is left at the end
+none_left : {place end : ℕ} {bytes rest : List ℕ} {tokens : List Token} → Reads place bytes tokens end rest → bytes ≡ [] → tokens ≡ []
+none_left stop e = refl
+none_left (blank i r) e = cc
+none_left (comment line bytes l i r) e = cc
+none_left (token k text bytes l r) e = absurd ?
+
+pub last_open : {place end : ℕ} {bytes rest : List ℕ} {tokens : List Token} (n : ℕ) (all : List ℕ) → Reads place bytes tokens end rest → LastOpen (lexemes_from n all tokens)
+last_open n all stop = tt
+last_open n all (blank i r) = last_open n all r
+last_open n all (comment line bytes l i r) = last_open n all r
+last_open n all (token {place = place} {tokens = tokens} k text bytes l r) = (
+  (λ e. ap (lexemes_from (n + 1) all) (none_left r (ends k text bytes (sym (behind k (slice_range all place (place + length text))) ∙ ap kind_behind e) l.spelled))),
+  last_open (n + 1) all r,
+)
+  where
+    ends : (k : Kind) (text bytes : List ℕ) → k ≡ kind.OpenBlock → IsSpelled k text bytes → bytes ≡ []
+    ends k text bytes e s = (subst (λ j. IsSpelled j text bytes) e s).1
+
+-- Printed pieces, one behind another.
+abbrev pub flat : List Piece → List ℕ
+flat [] = []
+flat (p ∷ ps) = (p.text ++ p.gap) ++ flat ps
+
+pub written_flat : (before : List ℕ) (ps : List Piece) → written before ps ≡ before ++ flat ps
+unfolding written put
+written_flat before [] = sym (append-nil before)
+written_flat before (p ∷ ps) = written_flat (before ++ (p.text ++ p.gap)) ps ∙ append_assoc before (p.text ++ p.gap) (flat ps)
+
+-- the pieces are tokens behind these bytes
+pub record Lexed (before : List ℕ) (ps : List Piece) : Type 0 where
+  pub tokens : List Token
+  pub reads : Reads (length before) (flat ps) tokens (length (before ++ flat ps)) []
+  pub spelled : (n : ℕ) → Spelled (before ++ flat ps) (lexemes_from n (before ++ flat ps) tokens) ps
+  pub allowed : list_all is_allowed (flat ps) ≡ true
+
+lexed_none : (before : List ℕ) → Lexed before []
+lexed_none before = record {
+  tokens = [];
+  reads = subst (λ (r : ℕ). Reads (length before) [] [] r []) (ap length (sym (append-nil before))) stop;
+  spelled = λ n. tt;
+  allowed = refl;
+}
+
+blanks_read : (gap bytes : List ℕ) (place end : ℕ) (tokens : List Token) → list_all is_blank gap ≡ true → Reads (place + length gap) bytes tokens end [] → Reads place (gap ++ bytes) tokens end []
+blanks_read [] bytes place end tokens h r = let e : place + 0 ≡ place = omega arith in subst (λ (n : ℕ). Reads n bytes tokens end []) e r
+blanks_read (b ∷ gap) bytes place end tokens h r =
+    let k = and_parts (is_blank b) (list_all is_blank gap) h in
+    let e : place + length (b ∷ gap) ≡ place + 1 + length gap = omega arith in
+    blank k.0 (blanks_read gap bytes (place + 1) end tokens k.1 (subst (λ (n : ℕ). Reads n bytes tokens end []) e r))
+
+blank_allowed : (gap : List ℕ) → list_all is_blank gap ≡ true → list_all is_allowed gap ≡ true
+blank_allowed [] h = refl
+blank_allowed (b ∷ gap) h = let k = and_parts (is_blank b) (list_all is_blank gap) h in and_from (is_allowed b) (list_all is_allowed gap) (one b k.0) (blank_allowed gap k.1)
+  where
+    one : (b : ℕ) → is_blank b ≡ true → is_allowed b ≡ true
+    one b h = grind (arith, nat_tests)
+
+piece_fits : (before rest : List ℕ) (n : ℕ) (k : Kind) (p : Piece) → kind_of k p.text ≡ p.kind → Fits (before ++ (p.text ++ rest)) (lexeme_of n (before ++ (p.text ++ rest)) (token_at k (length before) p.text)) p
+piece_fits before rest n k p e =
+    let i = at_place before p.text rest (before ++ (p.text ++ rest)) (length before) refl refl in
+    record { kind = ap (kind_of k) i ∙ e; spells = i; len = refl }
+
+-- with a token more in front
+lexed_more : (before : List ℕ) (k : Kind) (p : Piece) (ps : List Piece) → IsLongest k p.text (p.gap ++ flat ps) → kind_of k p.text ≡ p.kind → list_all is_allowed p.text ≡ true → list_all is_blank p.gap ≡ true
+    → Lexed (before ++ (p.text ++ p.gap)) ps → Lexed before (p ∷ ps)
+lexed_more before k p ps l e a g x =
+    let bytes = before ++ ((p.text ++ p.gap) ++ flat ps) in
+    let whole : (before ++ (p.text ++ p.gap)) ++ flat ps ≡ bytes = append_assoc before (p.text ++ p.gap) (flat ps) in
+    let inner : p.text ++ (p.gap ++ flat ps) ≡ (p.text ++ p.gap) ++ flat ps = sym (append_assoc p.text p.gap (flat ps)) in
+    let at' : length (before ++ (p.text ++ p.gap)) ≡ length before + length p.text + length p.gap = omega (arith, length-append before (p.text ++ p.gap), length-append p.text p.gap) in
+    let r : Reads (length before + length p.text + length p.gap) (flat ps) x.tokens (length bytes) [] =
+        subst (λ (m : ℕ). Reads m (flat ps) x.tokens (length bytes) []) at' (subst (λ b. Reads (length (before ++ (p.text ++ p.gap))) (flat ps) x.tokens (length b) []) whole x.reads) in
+    let t : Reads (length before) (p.text ++ (p.gap ++ flat ps)) (token_at k (length before) p.text ∷ x.tokens) (length bytes) [] =
+        token k p.text (p.gap ++ flat ps) l (blanks_read p.gap (flat ps) (length before + length p.text) (length bytes) x.tokens g r) in
+    record {
+      tokens = token_at k (length before) p.text ∷ x.tokens;
+      reads = subst (λ b. Reads (length before) b (token_at k (length before) p.text ∷ x.tokens) (length bytes) []) inner t;
+      spelled = λ n. (
+          subst (λ b. Fits (before ++ b) (lexeme_of n (before ++ b) (token_at k (length before) p.text)) p) inner (piece_fits before (p.gap ++ flat ps) n k p e),
+          subst (λ b. Spelled b (lexemes_from (n + 1) b x.tokens) ps) whole (x.spelled (n + 1)));
+      allowed = allowed_joined (p.text ++ p.gap) (flat ps) (allowed_joined p.text p.gap a (blank_allowed p.gap g)) x.allowed;
+    }
+
+lexed_by : (before : List ℕ) (ps qs : List Piece) → Sounds ps → ((b : List ℕ) → Lexed b qs) → Lexed before (ps ++ qs)
+lexed_by before [] qs s x = x before
+lexed_by before (p ∷ ps) qs s x = lexed_more before s.0.token p (ps ++ qs) (s.0.longest (flat (ps ++ qs))) s.0.is s.0.allowed s.0.gaps (lexed_by (before ++ (p.text ++ p.gap)) ps qs s.1 x)
+
+lexed_last : (p : Piece) → Last p → (before : List ℕ) → Lexed before (p ∷ [])
+lexed_last p h before =
+    let l : IsLongest kind.OpenBlock p.text (p.gap ++ []) = subst (λ r. IsLongest kind.OpenBlock p.text (r ++ [])) (sym h.gap) h.longest in
+    lexed_more before kind.OpenBlock p [] l (sym h.kind) h.allowed (ap (list_all is_blank) h.gap) (lexed_none (before ++ (p.text ++ p.gap)))
+
+-- the pieces of a whole script are tokens
+pub lexed : (ps : List Piece) → Sounds ps ⊎ Ended ps → Lexed [] ps
+lexed ps (inl s) = subst (Lexed []) (append-nil ps) (lexed_by [] ps [] s lexed_none)
+lexed ps (inr e) = subst (Lexed []) (sym e.2) (lexed_by [] e.0 (e.1 ∷ []) e.3 (lexed_last e.1 e.4))
