@@ -11,6 +11,7 @@ use Rattle.mv_lex.specs.Tokens.{IsLongest, Reads, stop, blank, comment, token, t
 use Rattle.mv_lex.specs.declared.token.Kind.{Kind}
 use Rattle.mv_lex.specs.declared.token.Kind.TheVariants as kind
 use Rattle.mv_lex.specs.declared.token.Token.{Token}
+use Rattle.mv_lex.proofs.Pieces.{some_bytes}
 use Rattle.mv_ast.specs.declared.lexeme.Lexeme.{Lexeme}
 use Rattle.mv_ast.specs.declared.lexeme.Terminal.TheVariants as word
 use Rattle.mv_ast.specs.Texts.{spelling}
@@ -65,7 +66,7 @@ none_left : {place end : ℕ} {bytes rest : List ℕ} {tokens : List Token} → 
 none_left stop e = refl
 none_left (blank i r) e = cc
 none_left (comment line bytes l i r) e = cc
-none_left (token k text bytes l r) e = absurd ?
+none_left (token k text bytes l r) e = absurd (omega (arith, some_bytes k text bytes l.spelled, ap length e, length-append text bytes))
 
 pub last_open : {place end : ℕ} {bytes rest : List ℕ} {tokens : List Token} (n : ℕ) (all : List ℕ) → Reads place bytes tokens end rest → LastOpen (lexemes_from n all tokens)
 last_open n all stop = tt

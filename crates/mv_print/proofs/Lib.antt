@@ -11,3 +11,4 @@ pub mod Rules
 pub mod Sentences
 pub mod Scripts
 pub mod Lexing
+pub mod Law

@@ -1,6 +1,10 @@
 //! The print.
 
-ghost use Rattle.std.specs.Prelude.{◌≡◌, IfOk};
+ghost use Rattle.std.specs.Prelude.{◌≡◌, List as Seq, IfOk};
+ghost use Rattle.mv_lex.specs.declared.token.Token.{Token};
+ghost use Rattle.mv_lex.specs.Tokens.{AreTokens};
+ghost use Rattle.mv_ast.specs.Lexemes.{IsByGrammar};
+ghost use Rattle.mv_print.specs.Back.{ReadsBack};
 ghost use Rattle.mv_print.specs.Printing.{printed};
 
 use crate::items::write_items;
@@ -13,6 +17,16 @@ use std::alloc::Global;
 /// space parts two tokens, and each statement and each item ends its line. Parentheses stand only
 /// where the grammar needs them. It takes time in the length of the text.
 pub fn print_script(alloc: Global, script: &Script, bytes: &[u8]) -> Result<List<u8>, NoMemory>
+    // The text is that of the script's pieces.
+    ensures text { IfOk result (λ text. text ≡ printed bytes.now script.now) }
+    // The print of a script that these bytes are is read back as the same script but for places.
+    ensures read_back { (tokens : Seq Token) → AreTokens bytes.now tokens → IsByGrammar bytes.now tokens script.now → IfOk result (λ text. ReadsBack bytes.now script.now text) }
+{
+    write_script(alloc, script, bytes)
+}
+
+/// The text of the script's pieces.
+fn write_script(alloc: Global, script: &Script, bytes: &[u8]) -> Result<List<u8>, NoMemory>
     ensures { IfOk result (λ text. text ≡ printed bytes.now script.now) }
 {
     let mut text = List::new(alloc);
