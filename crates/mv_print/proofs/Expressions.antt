@@ -285,8 +285,8 @@ prints_call : {text : List ℕ} (tok : ℕ) (o : TwoOp) (t : Terminal) (a b : Ex
     → Prints text (two_arguments text o t) (Same (leaf tok (Two o a b))) (call_core t a b)
 prints_call {text = text} tok o t a b s h g =
     let e : (key t ∷ key word.Open ∷ expr_pieces a 0 ++ key word.Comma ∷ []) ++ expr_pieces b 0 ++ key word.Close ∷ [] ≡ call_core t a b =
-        ap (λ r. key t ∷ key word.Open ∷ r) (append_assoc (expr_pieces a 0 ++ key word.Comma ∷ []) (expr_pieces b 0) (key word.Close ∷ [])
-        ∙ append_assoc (expr_pieces a 0) (key word.Comma ∷ []) (expr_pieces b 0 ++ key word.Close ∷ [])) in
+    ap (λ r. key t ∷ key word.Open ∷ r) (append_assoc (expr_pieces a 0 ++ key word.Comma ∷ []) (expr_pieces b 0) (key word.Close ∷ [])
+    ∙ append_assoc (expr_pieces a 0) (key word.Comma ∷ []) (expr_pieces b 0 ++ key word.Close ∷ [])) in
     subst (λ r. Prints text (two_arguments text o t) (Same (leaf tok (Two o a b))) r) e
     (prints_skip (key word.Close) (sound_key word.Close) refl (prints_next (prints_skip (key word.Comma) (sound_key word.Comma) refl (prints_next
     (prints_skip (key word.Open) (sound_key word.Open) refl (prints_next (prints_give (called o) (λ n k x p y q. same_two tok n o a b x y p q)) (prints_place (key t) s refl)))

@@ -133,15 +133,16 @@ lexed_more before k p ps l e a g x =
     let inner : p.text ++ (p.gap ++ flat ps) ≡ (p.text ++ p.gap) ++ flat ps = sym (append_assoc p.text p.gap (flat ps)) in
     let at' : length (before ++ (p.text ++ p.gap)) ≡ length before + length p.text + length p.gap = omega (arith, length-append before (p.text ++ p.gap), length-append p.text p.gap) in
     let r : Reads (length before + length p.text + length p.gap) (flat ps) x.tokens (length bytes) [] =
-        subst (λ (m : ℕ). Reads m (flat ps) x.tokens (length bytes) []) at' (subst (λ b. Reads (length (before ++ (p.text ++ p.gap))) (flat ps) x.tokens (length b) []) whole x.reads) in
+    subst (λ (m : ℕ). Reads m (flat ps) x.tokens (length bytes) []) at' (subst (λ b. Reads (length (before ++ (p.text ++ p.gap))) (flat ps) x.tokens (length b) []) whole x.reads) in
     let t : Reads (length before) (p.text ++ (p.gap ++ flat ps)) (token_at k (length before) p.text ∷ x.tokens) (length bytes) [] =
-        token k p.text (p.gap ++ flat ps) l (blanks_read p.gap (flat ps) (length before + length p.text) (length bytes) x.tokens g r) in
+    token k p.text (p.gap ++ flat ps) l (blanks_read p.gap (flat ps) (length before + length p.text) (length bytes) x.tokens g r) in
     record {
       tokens = token_at k (length before) p.text ∷ x.tokens;
       reads = subst (λ b. Reads (length before) b (token_at k (length before) p.text ∷ x.tokens) (length bytes) []) inner t;
       spelled = λ n. (
-          subst (λ b. Fits (before ++ b) (lexeme_of n (before ++ b) (token_at k (length before) p.text)) p) inner (piece_fits before (p.gap ++ flat ps) n k p e),
-          subst (λ b. Spelled b (lexemes_from (n + 1) b x.tokens) ps) whole (x.spelled (n + 1)));
+        subst (λ b. Fits (before ++ b) (lexeme_of n (before ++ b) (token_at k (length before) p.text)) p) inner (piece_fits before (p.gap ++ flat ps) n k p e),
+        subst (λ b. Spelled b (lexemes_from (n + 1) b x.tokens) ps) whole (x.spelled (n + 1)),
+      );
       allowed = allowed_joined (p.text ++ p.gap) (flat ps) (allowed_joined p.text p.gap a (blank_allowed p.gap g)) x.allowed;
     }
 

@@ -152,7 +152,7 @@ last_line_cut front a b =
     let m : length (front ++ a ∷ b ∷ []) - 1 ≡ length (front ++ a ∷ []) = omega (arith, length-append front (a ∷ b ∷ []), length-append front (a ∷ [])) in
     let two : drop (length (front ++ a ∷ b ∷ []) - 2) (front ++ a ∷ b ∷ []) ≡ a ∷ b ∷ [] = ap (λ (k : ℕ). drop k (front ++ a ∷ b ∷ [])) n ∙ drop_at front (a ∷ b ∷ []) (length front) refl in
     let one : drop (length (front ++ a ∷ b ∷ []) - 1) (front ++ a ∷ b ∷ []) ≡ b ∷ [] =
-        ap (λ (k : ℕ). drop k (front ++ a ∷ b ∷ [])) m ∙ (ap (drop (length (front ++ a ∷ []))) (sym (append_assoc front (a ∷ []) (b ∷ []))) ∙ drop_at (front ++ a ∷ []) (b ∷ []) (length (front ++ a ∷ [])) refl) in
+    ap (λ (k : ℕ). drop k (front ++ a ∷ b ∷ [])) m ∙ (ap (drop (length (front ++ a ∷ []))) (sym (append_assoc front (a ∷ []) (b ∷ []))) ∙ drop_at (front ++ a ∷ []) (b ∷ []) (length (front ++ a ∷ [])) refl) in
     ap (λ (r : List ℕ). which (pointwise ◌==◌ (13 ∷ 10 ∷ []) r) (ends_with ◌==◌ (front ++ a ∷ b ∷ []) (10 ∷ []))) two
     ∙ ap (λ (r : List ℕ). which (pointwise ◌==◌ (13 ∷ 10 ∷ []) (a ∷ b ∷ [])) (pointwise ◌==◌ (10 ∷ []) r)) one
 

@@ -222,7 +222,7 @@ module _ (bytes text : List ℕ) (d : ℕ) where
       (turns_next {fq = listed name_pieces} (turns_commas (rule_name bytes text d) (λ v vs. refl))
       (turns_give (λ columns table conds sorts body n row. simp append_assoc (sym (simp append_assoc at of_select n row false columns table conds sorts body)))
       (λ a a' h b b' i c c' j e e' k f f' l n n' row x m.
-        bare_for_select n row false a b c e f ∙ (same6 (λ r. tree.ForSelect 0 r false) m h i j k l ∙ sym (bare_for_select n' x false a' b' c' e' f')))))))))
+      bare_for_select n row false a b c e f ∙ (same6 (λ r. tree.ForSelect 0 r false) m h i j k l ∙ sym (bare_for_select n' x false a' b' c' e' f')))))))))
 
   way_distinct : Inside → Turns (Meant bytes) bytes text d (rule.for_distinct bytes) (rule.for_distinct text) OfSelect SameFor
   unfolding rule.for_distinct
@@ -231,7 +231,7 @@ module _ (bytes text : List ℕ) (d : ℕ) where
       (turns_next {fq = listed name_pieces} (turns_commas (rule_name bytes text d) (λ v vs. refl)) (skip (sound_key word.Distinct)
       (turns_give (λ columns table conds body n row. simp append_assoc (sym (simp append_assoc at of_select n row true columns table conds [] body)))
       (λ a a' h b b' i c c' j f f' l n n' row x m.
-        bare_for_select n row true a b c [] f ∙ (same5 (λ r s t u. tree.ForSelect 0 r true s t u []) m h i j l ∙ sym (bare_for_select n' x true a' b' c' [] f')))))))))
+      bare_for_select n row true a b c [] f ∙ (same5 (λ r s t u. tree.ForSelect 0 r true s t u []) m h i j l ∙ sym (bare_for_select n' x true a' b' c' [] f')))))))))
 
   way_for : Inside → Statement (rule.for_each bytes) (rule.for_each text)
   unfolding rule.for_each

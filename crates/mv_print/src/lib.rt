@@ -8,4 +8,6 @@ mod listed;
 mod pieces;
 pub mod print;
 mod statements;
+#[cfg(test)]
+mod tests;
 mod words;
