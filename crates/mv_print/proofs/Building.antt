@@ -1,5 +1,5 @@
 -- Printed pieces are read as parts of the grammar, part by part.
-use Rattle.std.proofs.Common.{◌≡◌, ℕ, ◌+◌, ◌≤◌, Bool, true, List, [], ◌∷◌, ◌++◌, length, map, refl, sym, ap, subst, ◌∙◌, append_assoc, append-nil, arith, inl, inr, ◌⊎◌}
+use Rattle.std.proofs.Common.{◌≡◌, ℕ, suc, ◌+◌, ◌≤◌, Bool, true, List, [], ◌∷◌, ◌++◌, length, map, refl, sym, ap, subst, ◌∙◌, append_assoc, append-nil, arith, inl, inr, ◌⊎◌}
 use Rattle.std.proofs.lemmas.List.{map-append}
 use Rattle.std.specs.List.{list_all}
 use Rattle.mv_lex.specs.Bytes.{is_allowed, is_blank}
@@ -7,12 +7,14 @@ use Rattle.mv_lex.specs.Tokens.{IsLongest}
 use Rattle.mv_lex.specs.declared.token.Kind.{Kind}
 use Rattle.mv_ast.specs.declared.lexeme.Lexeme.{Lexeme}
 use Rattle.mv_ast.specs.declared.lexeme.Terminal.{Terminal}
+use Rattle.mv_ast.specs.declared.lexeme.Terminal.TheVariants as word
 use Rattle.mv_ast.specs.Texts.{spelling}
 use Rattle.mv_ast.specs.Lexemes.{kind_of}
 use Rattle.mv_ast.specs.Limits.{together}
 use Rattle.mv_ast.specs.Parts.{Part, give, one, both, either, left, expression, statement, Is, Pieces, joined}
 use Rattle.mv_ast.specs.Grammar.{inner, added, single, place, ◌⊛◌, ◌◂◌, ◌▸◌}
 use Rattle.mv_print.specs.Printing.{Piece}
+use Rattle.mv_print.proofs.Light.{kinds, BehindEnd, Light, light_none, light_joined, light_raised, light_ends}
 
 -- the token stands for the piece
 pub record Fits (text : List ℕ) (l : Lexeme) (p : Piece) : Type 0 where
@@ -115,99 +117,182 @@ pub each_apart : (G : Lexeme → Type 0) (xs ys : List Lexeme) → Each G (xs ++
 each_apart G [] ys h = (tt, h)
 each_apart G (x ∷ xs) ys h = let i = each_apart G xs ys h.1 in ((h.0, i.0), i.1)
 
--- a value that was read from these tokens has these pieces, and they are read as one that is the same but for places
-pub record Turned {A : Type 0} (text : List ℕ) (p : Part A) (K : List Piece → Type 0) (Q : A → Type 0) (ts : List Lexeme) : Type 0 where
+abbrev pub marks : List Piece → List Terminal
+marks ps = map (λ p. p.kind) ps
+
+-- tokens behind tokens, and pieces behind pieces
+pub light_both : (l m n : ℕ) (ts xs ys : List Lexeme) (ps qs : List Piece) → ts ≡ xs ++ ys → Light l m (kinds xs) (marks ps) → Light m n (kinds ys) (marks qs) → Light l n (kinds ts) (marks (ps ++ qs))
+light_both l m n ts xs ys ps qs e x y =
+    let r : Light l n (kinds xs ++ kinds ys) (marks ps ++ marks qs) = light_joined l m n (kinds xs) (kinds ys) (marks ps) (marks qs) x y in
+    subst (λ z. Light l n (kinds z) (marks (ps ++ qs))) (sym e)
+    (subst (λ z. Light l n z (marks (ps ++ qs))) (sym (map-append (λ (l : Lexeme). l.kind) xs ys)) (subst (λ z. Light l n (kinds xs ++ kinds ys) z) (sym (map-append (λ (p : Piece). p.kind) ps qs)) r))
+
+-- one token and its piece
+pub light_token : (m n : ℕ) (t : Terminal) (ts : List Lexeme) (l : Lexeme) (x : Piece) → ts ≡ l ∷ [] → l.kind ≡ t → x.kind ≡ t → Light m n (t ∷ []) (t ∷ []) → Light m n (kinds ts) (marks (x ∷ []))
+light_token m n t ts l x e f g h =
+    subst (λ z. Light m n (kinds z) (x.kind ∷ [])) (sym e) (subst (λ z. Light m n (z ∷ []) (x.kind ∷ [])) (sym f) (subst (λ z. Light m n (t ∷ []) (z ∷ [])) (sym g) h))
+
+pub light_nothing : (n : ℕ) (ts : List Lexeme) → ts ≡ [] → Light n n (kinds ts) []
+light_nothing n ts e = subst (λ z. Light n n (kinds z) []) (sym e) (light_none n)
+
+-- a value that was read from these tokens has these pieces, and they are read as one that is the same but for places; they go from one level to another
+pub record TurnedTo {A : Type 0} (m n : ℕ) (text : List ℕ) (p : Part A) (K : List Piece → Type 0) (Q : A → Type 0) (ts : List Lexeme) : Type 0 where
   pub pieces : List Piece
   pub is : K pieces
   pub prints : Prints text p Q pieces
+  pub light : Light m n (kinds ts) (marks pieces)
 
-pub record Turns {A : Type 0} (G : Lexeme → Type 0) (bytes text : List ℕ) (d : ℕ) (p q : Part A) (K : A → List Piece → Type 0) (R : A → A → Type 0) : Type 0 where
-  pub turn : (ts : List Lexeme) (v : A) → Each G ts → Is (inner bytes d) p ts v → Turned text q (K v) (R v) ts
+abbrev pub Turned : {A : Type 0} → List ℕ → Part A → (List Piece → Type 0) → (A → Type 0) → List Lexeme → Type 0
+Turned text p K Q ts = TurnedTo 0 0 text p K Q ts
 
-pub turns_give : {A : Type 0} {G : Lexeme → Type 0} {bytes text : List ℕ} {d : ℕ} {K : A → List Piece → Type 0} {R : A → A → Type 0} {u v : A}
-    → K u [] → R u v → Turns G bytes text d (give u) (give v) K R
-turns_give {text = text} {K = K} {R = R} {u = u} {v = v} k r = record {
-  turn = λ ts w g i. subst (λ x. Turned text (give v) (K x) (R x) ts) (sym i.1) (record { pieces = []; is = k; prints = prints_give v r });
+pub record TurnsTo {A : Type 0} (m n : ℕ) (G : Lexeme → Type 0) (bytes text : List ℕ) (d : ℕ) (p q : Part A) (K : A → List Piece → Type 0) (R : A → A → Type 0) : Type 0 where
+  pub turn : (ts : List Lexeme) (v : A) → Each G ts → Is (inner bytes d) p ts v → TurnedTo m n text q (K v) (R v) ts
+
+abbrev pub Turns : {A : Type 0} → (Lexeme → Type 0) → List ℕ → List ℕ → ℕ → Part A → Part A → (A → List Piece → Type 0) → (A → A → Type 0) → Type 0
+Turns G bytes text d p q K R = TurnsTo 0 0 G bytes text d p q K R
+
+pub turns_give : {A : Type 0} {n : ℕ} {G : Lexeme → Type 0} {bytes text : List ℕ} {d : ℕ} {K : A → List Piece → Type 0} {R : A → A → Type 0} {u v : A}
+    → K u [] → R u v → TurnsTo n n G bytes text d (give u) (give v) K R
+turns_give {n = n} {text = text} {K = K} {R = R} {u = u} {v = v} k r = record {
+  turn = λ ts w g i. subst (λ x. TurnedTo n n text (give v) (K x) (R x) ts) (sym i.1) (record { pieces = []; is = k; prints = prints_give v r; light = light_nothing n ts i.0 });
 }
 
-turned_both : {A B C : Type 0} {text : List ℕ} {ts xs ys : List Lexeme} {a : A} {b : B} (f : A → B → C) (fq : B → List Piece) (p : Part A) (q : Part B)
-    (K : C → List Piece → Type 0) (R : C → C → Type 0) (P : A → Type 0) (Q : B → Type 0)
-    → Turned text p (λ ps. K (f a b) (ps ++ fq b)) P xs → Turned text q (λ qs. qs ≡ fq b) Q ys → ((x : A) (y : B) → P x → Q y → R (f a b) (f x y))
-    → Turned text (both f p q) (K (f a b)) (R (f a b)) ts
-turned_both {a = a} {b = b} f fq p q K R P Q x y k = record {
-  pieces = x.pieces ++ fq b;
-  is = x.is;
-  prints = prints_both x.prints (subst (λ r. Prints _ q Q r) y.is y.prints) k;
-}
+-- a level further in
+pub turns_raised : {A : Type 0} (n : ℕ) {G : Lexeme → Type 0} {bytes text : List ℕ} {d : ℕ} {p p' : Part A} {K : A → List Piece → Type 0} {R : A → A → Type 0}
+    → TurnsTo 0 0 G bytes text d p p' K R → TurnsTo n n G bytes text d p p' K R
+turns_raised n x = record { turn = λ ts v g i. (let a = x.turn ts v g i in record { pieces = a.pieces; is = a.is; prints = a.prints; light = light_raised n (kinds ts) (marks a.pieces) a.light }) }
 
-pub turns_both : {A B C : Type 0} {G : Lexeme → Type 0} {bytes text : List ℕ} {d : ℕ} {K : C → List Piece → Type 0} {R : C → C → Type 0} {f : A → B → C} {p p' : Part A} {q q' : Part B}
-    (fq : B → List Piece) (Q : B → B → Type 0) (P : A → A → Type 0)
-    → Turns G bytes text d q q' (λ b qs. qs ≡ fq b) Q
-    → Turns G bytes text d p p' (λ a ps. (b : B) → K (f a b) (ps ++ fq b)) P
-    → ((a x : A) (b y : B) → P a x → Q b y → R (f a b) (f x y))
-    → Turns G bytes text d (both f p q) (both f p' q') K R
-turns_both {G = G} {text = text} {K = K} {R = R} {f = f} {p' = p'} {q' = q'} fq Q P y x k = record {
+-- a function and then its next argument, each from one level to another
+pub turns_level : {A B : Type 0} {m k n : ℕ} {G : Lexeme → Type 0} {bytes text : List ℕ} {d : ℕ} {K : B → List Piece → Type 0} {R : B → B → Type 0} {p p' : Part (A → B)} {q q' : Part A}
+    {L : A → List Piece → Type 0} {Q : A → A → Type 0}
+    → TurnsTo k n G bytes text d q q' L Q
+    → TurnsTo m k G bytes text d p p' (λ h ps. (a : A) (qs : List Piece) → L a qs → K (h a) (ps ++ qs)) (λ h j. (a x : A) → Q a x → R (h a) (j x))
+    → TurnsTo m n G bytes text d (p ⊛ q) (p' ⊛ q') K R
+turns_level {m = m} {k = c} {n = n} {G = G} {text = text} {K = K} {R = R} {p' = p'} {q' = q'} y x = record {
   turn = λ ts v g i. (
       let g' = each_apart G i.0 i.1 (subst (Each G) i.4 g) in
       let a = x.turn i.0 i.2 g'.0 i.5 in
       let b = y.turn i.1 i.3 g'.1 i.6 in
-      let a' : Turned text p' (λ ps. K (f i.2 i.3) (ps ++ fq i.3)) (P i.2) i.0 = record { pieces = a.pieces; is = a.is i.3; prints = a.prints } in
-      subst (λ w. Turned text (both f p' q') (K w) (R w) ts) (sym i.7) (turned_both f fq p' q' K R (P i.2) (Q i.3) a' b (λ w z h j. k i.2 w i.3 z h j)));
+      let r : TurnedTo m n text (p' ⊛ q') (K (i.2 i.3)) (R (i.2 i.3)) ts = record {
+        pieces = a.pieces ++ b.pieces;
+        is = a.is i.3 b.pieces b.is;
+        prints = prints_both a.prints b.prints (λ j w h k. h i.3 w k);
+        light = light_both m c n ts i.0 i.1 a.pieces b.pieces i.4 a.light b.light;
+      } in
+      subst (λ w. TurnedTo m n text (p' ⊛ q') (K w) (R w) ts) (sym i.7) r);
 }
 
--- a sequence: a function and then its next argument
-pub turns_next : {A B : Type 0} {G : Lexeme → Type 0} {bytes text : List ℕ} {d : ℕ} {K : B → List Piece → Type 0} {R : B → B → Type 0} {p p' : Part (A → B)} {q q' : Part A}
+pub turns_then : {A B : Type 0} {m n : ℕ} {G : Lexeme → Type 0} {bytes text : List ℕ} {d : ℕ} {K : B → List Piece → Type 0} {R : B → B → Type 0} {p p' : Part (A → B)} {q q' : Part A}
+    {L : A → List Piece → Type 0} {Q : A → A → Type 0} → TurnsTo 0 0 G bytes text d q q' L Q
+    → TurnsTo m n G bytes text d p p' (λ h ps. (a : A) (qs : List Piece) → L a qs → K (h a) (ps ++ qs)) (λ h j. (a x : A) → Q a x → R (h a) (j x))
+    → TurnsTo m n G bytes text d (p ⊛ q) (p' ⊛ q') K R
+turns_then {n = n} y x = turns_level (turns_raised n y) x
+
+-- the pieces of the argument hang on its value
+known : {A B : Type 0} {m n : ℕ} {G : Lexeme → Type 0} {bytes text : List ℕ} {d : ℕ} (K : B → List Piece → Type 0) {S : (A → B) → (A → B) → Type 0} {p p' : Part (A → B)} {fq : A → List Piece}
+    → TurnsTo m n G bytes text d p p' (λ h ps. (a : A) → K (h a) (ps ++ fq a)) S → TurnsTo m n G bytes text d p p' (λ h ps. (a : A) (qs : List Piece) → qs ≡ fq a → K (h a) (ps ++ qs)) S
+known K x = record {
+  turn = λ ts v g i. (let t = x.turn ts v g i in record { pieces = t.pieces; is = λ a qs e. subst (λ r. K (v a) (t.pieces ++ r)) (sym e) (t.is a); prints = t.prints; light = t.light });
+}
+
+pub turns_next : {A B : Type 0} {m n : ℕ} {G : Lexeme → Type 0} {bytes text : List ℕ} {d : ℕ} {K : B → List Piece → Type 0} {R : B → B → Type 0} {p p' : Part (A → B)} {q q' : Part A}
     {fq : A → List Piece} {Q : A → A → Type 0}
-    → Turns G bytes text d q q' (λ b qs. qs ≡ fq b) Q
-    → Turns G bytes text d p p' (λ h ps. (a : A) → K (h a) (ps ++ fq a)) (λ h j. (a x : A) → Q a x → R (h a) (j x))
-    → Turns G bytes text d (p ⊛ q) (p' ⊛ q') K R
-turns_next {R = R} {fq = fq} {Q = Q} y x = turns_both fq Q (λ h j. (a x : _) → Q a x → R (h a) (j x)) y x (λ a z b w h k. h b w k)
+    → TurnsTo 0 0 G bytes text d q q' (λ b qs. qs ≡ fq b) Q
+    → TurnsTo m n G bytes text d p p' (λ h ps. (a : A) → K (h a) (ps ++ fq a)) (λ h j. (a x : A) → Q a x → R (h a) (j x))
+    → TurnsTo m n G bytes text d (p ⊛ q) (p' ⊛ q') K R
+turns_next {K = K} y x = turns_then y (known K x)
+
+-- the argument goes from one level to another
+pub turns_deeper : {A B : Type 0} {m k n : ℕ} {G : Lexeme → Type 0} {bytes text : List ℕ} {d : ℕ} {K : B → List Piece → Type 0} {R : B → B → Type 0} {p p' : Part (A → B)} {q q' : Part A}
+    {fq : A → List Piece} {Q : A → A → Type 0}
+    → TurnsTo k n G bytes text d q q' (λ b qs. qs ≡ fq b) Q
+    → TurnsTo m k G bytes text d p p' (λ h ps. (a : A) → K (h a) (ps ++ fq a)) (λ h j. (a x : A) → Q a x → R (h a) (j x))
+    → TurnsTo m n G bytes text d (p ⊛ q) (p' ⊛ q') K R
+turns_deeper {K = K} y x = turns_level y (known K x)
 
 -- one token, whose piece hangs on nothing
-pub turns_mark : {G : Lexeme → Type 0} {bytes text : List ℕ} {d : ℕ} {t : Terminal} (x : Piece) → Sound x → x.kind ≡ t
-    → Turns G bytes text d (one t) (one t) (λ l ps. ps ≡ x ∷ []) (λ l m. Unit {0})
-turns_mark x s e = record { turn = λ ts v g i. record { pieces = x ∷ []; is = refl; prints = prints_for (λ l h. tt) (prints_one x s e) } }
+pub turns_mark : {m n : ℕ} {G : Lexeme → Type 0} {bytes text : List ℕ} {d : ℕ} {t : Terminal} (x : Piece) → Sound x → x.kind ≡ t → Light m n (t ∷ []) (t ∷ [])
+    → TurnsTo m n G bytes text d (one t) (one t) (λ l ps. ps ≡ x ∷ []) (λ l m. Unit {0})
+turns_mark {m = m} {n = n} {t = t} x s e l = record { turn = λ ts v g i. record { pieces = x ∷ []; is = refl; prints = prints_for (λ l h. tt) (prints_one x s e); light = light_token m n t ts v x i.0 i.1 e l } }
 
 -- a part and a token behind it
-pub turns_skip : {A : Type 0} {G : Lexeme → Type 0} {bytes text : List ℕ} {d : ℕ} {t : Terminal} {K : A → List Piece → Type 0} {R : A → A → Type 0} {p p' : Part A}
-    (x : Piece) → Sound x → x.kind ≡ t
-    → Turns G bytes text d p p' (λ a ps. K a (ps ++ x ∷ [])) R → Turns G bytes text d (p ◂ one t) (p' ◂ one t) K R
-turns_skip {K = K} {R = R} x s e z = turns_both (λ l. x ∷ []) (λ l m. Unit {0}) R (turns_mark x s e) (record { turn = λ ts v g i. (let a = z.turn ts v g i in record { pieces = a.pieces; is = λ b. a.is; prints = a.prints }) }) (λ a y b w h k. h)
+pub turns_skip : {A : Type 0} {m k n : ℕ} {G : Lexeme → Type 0} {bytes text : List ℕ} {d : ℕ} {t : Terminal} {K : A → List Piece → Type 0} {R : A → A → Type 0} {p p' : Part A}
+    (x : Piece) → Sound x → x.kind ≡ t → Light k n (t ∷ []) (t ∷ [])
+    → TurnsTo m k G bytes text d p p' (λ a ps. K a (ps ++ x ∷ [])) R → TurnsTo m n G bytes text d (p ◂ one t) (p' ◂ one t) K R
+turns_skip {m = m} {k = c} {n = n} {G = G} {text = text} {t = t} {K = K} {R = R} {p' = p'} x s e l z = record {
+  turn = λ ts v g i. (
+      let g' = each_apart G i.0 i.1 (subst (Each G) i.4 g) in
+      let a = z.turn i.0 i.2 g'.0 i.5 in
+      let r : TurnedTo m n text (p' ◂ one t) (K i.2) (R i.2) ts = record {
+        pieces = a.pieces ++ x ∷ [];
+        is = a.is;
+        prints = prints_both a.prints (prints_one x s e) (λ w y h k. h);
+        light = light_both m c n ts i.0 i.1 a.pieces (x ∷ []) i.4 a.light (light_token c n t i.1 i.3 x i.6.0 i.6.1 e l);
+      } in
+      subst (λ w. TurnedTo m n text (p' ◂ one t) (K w) (R w) ts) (sym i.7) r);
+}
+
+-- a part, END and a token behind it
+pub turns_ends : {A : Type 0} {m n : ℕ} {G : Lexeme → Type 0} {bytes text : List ℕ} {d : ℕ} {t : Terminal} {K : A → List Piece → Type 0} {R : A → A → Type 0} {p p' : Part A}
+    (w x : Piece) → Sound w → Sound x → w.kind ≡ word.End → x.kind ≡ t → BehindEnd t
+    → TurnsTo m (suc n) G bytes text d p p' (λ a ps. K a ((ps ++ w ∷ []) ++ x ∷ [])) R → TurnsTo m n G bytes text d (p ◂ one word.End ◂ one t) (p' ◂ one word.End ◂ one t) K R
+turns_ends {m = m} {n = n} {G = G} {text = text} {t = t} {K = K} {R = R} {p' = p'} w x q s f e l z = record {
+  turn = λ ts v g i. (
+      let g' = each_apart G i.0 i.1 (subst (Each G) i.4 g) in
+      let j = i.5 in
+      let h' = each_apart G j.0 j.1 (subst (Each G) j.4 g'.0) in
+      let a = z.turn j.0 j.2 h'.0 j.5 in
+      let all : ts ≡ j.0 ++ (j.3 ∷ i.3 ∷ []) = i.4 ∙ (ap (λ r. r ++ i.1) (j.4 ∙ ap (λ r. j.0 ++ r) j.6.0) ∙ (ap (λ r. (j.0 ++ j.3 ∷ []) ++ r) i.6.0 ∙ append_assoc j.0 (j.3 ∷ []) (i.3 ∷ []))) in
+      let two : Light (suc n) n (j.3.kind ∷ i.3.kind ∷ []) (w.kind ∷ x.kind ∷ []) =
+          subst (λ r. Light (suc n) n (r ∷ i.3.kind ∷ []) (w.kind ∷ x.kind ∷ [])) (sym j.6.1) (subst (λ r. Light (suc n) n (word.End ∷ r ∷ []) (w.kind ∷ x.kind ∷ [])) (sym i.6.1)
+          (subst (λ r. Light (suc n) n (word.End ∷ t ∷ []) (r ∷ x.kind ∷ [])) (sym f) (subst (λ r. Light (suc n) n (word.End ∷ t ∷ []) (word.End ∷ r ∷ [])) (sym e) (light_ends n t l)))) in
+      let r : TurnedTo m n text (p' ◂ one word.End ◂ one t) (K j.2) (R j.2) ts = record {
+        pieces = (a.pieces ++ w ∷ []) ++ x ∷ [];
+        is = a.is;
+        prints = prints_both (prints_both a.prints (prints_one w q f) (λ w y h k. h)) (prints_one x s e) (λ w y h k. h);
+        light = subst (λ r. Light m n (kinds ts) (marks r)) (sym (append_assoc a.pieces (w ∷ []) (x ∷ [])))
+            (light_both m (suc n) n ts j.0 (j.3 ∷ i.3 ∷ []) a.pieces (w ∷ x ∷ []) all a.light two);
+      } in
+      subst (λ w. TurnedTo m n text (p' ◂ one word.End ◂ one t) (K w) (R w) ts) (sym (i.7 ∙ j.7)) r);
+}
 
 -- the number of a token
-pub turns_place : {G : Lexeme → Type 0} {bytes text : List ℕ} {d : ℕ} {t : Terminal} (x : Piece) → Sound x → x.kind ≡ t
-    → Turns G bytes text d (place t) (place t) (λ n ps. ps ≡ x ∷ []) (λ n m. Unit {0})
-turns_place x s e = turns_next (turns_mark x s e) (turns_give (λ a. refl) (λ a b h. tt))
+pub turns_place : {m n : ℕ} {G : Lexeme → Type 0} {bytes text : List ℕ} {d : ℕ} {t : Terminal} (x : Piece) → Sound x → x.kind ≡ t → Light m n (t ∷ []) (t ∷ [])
+    → TurnsTo m n G bytes text d (place t) (place t) (λ n ps. ps ≡ x ∷ []) (λ n m. Unit {0})
+turns_place x s e l = turns_level (turns_mark x s e l) (turns_give (λ a qs h. h) (λ a b h. tt))
 
 -- a token and the part behind it
-pub turns_behind : {A : Type 0} {G : Lexeme → Type 0} {bytes text : List ℕ} {d : ℕ} {t : Terminal} {K : A → List Piece → Type 0} {R : A → A → Type 0} {p p' : Part A}
-    (x : Piece) → Sound x → x.kind ≡ t
-    → Turns G bytes text d p p' (λ a ps. K a (x ∷ ps)) R → Turns G bytes text d (one t ▸ p) (one t ▸ p') K R
-turns_behind {G = G} {text = text} {t = t} {K = K} {R = R} {p' = p'} x s e z = record {
+pub turns_behind : {A : Type 0} {m k n : ℕ} {G : Lexeme → Type 0} {bytes text : List ℕ} {d : ℕ} {t : Terminal} {K : A → List Piece → Type 0} {R : A → A → Type 0} {p p' : Part A}
+    (x : Piece) → Sound x → x.kind ≡ t → Light m k (t ∷ []) (t ∷ [])
+    → TurnsTo k n G bytes text d p p' (λ a ps. K a (x ∷ ps)) R → TurnsTo m n G bytes text d (one t ▸ p) (one t ▸ p') K R
+turns_behind {m = m} {k = c} {n = n} {G = G} {text = text} {t = t} {K = K} {R = R} {p' = p'} x s e l z = record {
   turn = λ ts v g i. (
       let g' = each_apart G i.0 i.1 (subst (Each G) i.4 g) in
       let b = z.turn i.1 i.3 g'.1 i.6 in
-      let r : Turned text (one t ▸ p') (K i.3) (R i.3) ts = record {
+      let r : TurnedTo m n text (one t ▸ p') (K i.3) (R i.3) ts = record {
         pieces = x ∷ b.pieces;
         is = b.is;
         prints = prints_both (prints_one x s e) b.prints (λ a y h k. k);
+        light = light_both m c n ts i.0 i.1 (x ∷ []) b.pieces i.4 (light_token m c t i.0 i.2 x i.5.0 i.5.1 e l) b.light;
       } in
-      subst (λ w. Turned text (one t ▸ p') (K w) (R w) ts) (sym i.7) r);
+      subst (λ w. TurnedTo m n text (one t ▸ p') (K w) (R w) ts) (sym i.7) r);
 }
 
-pub turns_either : {A : Type 0} {G : Lexeme → Type 0} {bytes text : List ℕ} {d : ℕ} {K : A → List Piece → Type 0} {R : A → A → Type 0} {p p' q q' : Part A}
-    → Turns G bytes text d p p' K R → Turns G bytes text d q q' K R → Turns G bytes text d (either p q) (either p' q') K R
-turns_either {text = text} {K = K} {R = R} {p' = p'} {q' = q'} x y = record {
-  turn = λ ts v g i. elim i as (λ j. Turned text (either p' q') (K v) (R v) ts) [
-    | inl h ↦ (let a = x.turn ts v g h in record { pieces = a.pieces; is = a.is; prints = prints_inl a.prints })
-    | inr h ↦ (let a = y.turn ts v g h in record { pieces = a.pieces; is = a.is; prints = prints_inr a.prints })
+pub turns_either : {A : Type 0} {m n : ℕ} {G : Lexeme → Type 0} {bytes text : List ℕ} {d : ℕ} {K : A → List Piece → Type 0} {R : A → A → Type 0} {p p' q q' : Part A}
+    → TurnsTo m n G bytes text d p p' K R → TurnsTo m n G bytes text d q q' K R → TurnsTo m n G bytes text d (either p q) (either p' q') K R
+turns_either {m = m} {n = n} {text = text} {K = K} {R = R} {p' = p'} {q' = q'} x y = record {
+  turn = λ ts v g i. elim i as (λ j. TurnedTo m n text (either p' q') (K v) (R v) ts) [
+    | inl h ↦ (let a = x.turn ts v g h in record { pieces = a.pieces; is = a.is; prints = prints_inl a.prints; light = a.light })
+    | inr h ↦ (let a = y.turn ts v g h in record { pieces = a.pieces; is = a.is; prints = prints_inr a.prints; light = a.light })
   ];
 }
 
 -- with other words for the pieces and for the value
-pub turns_as : {A : Type 0} {G : Lexeme → Type 0} {bytes text : List ℕ} {d : ℕ} {K L : A → List Piece → Type 0} {R S : A → A → Type 0} {p p' : Part A}
-    → ((v : A) (ps : List Piece) → K v ps → L v ps) → ((v w : A) → R v w → S v w) → Turns G bytes text d p p' K R → Turns G bytes text d p p' L S
-turns_as k r x = record { turn = λ ts v g i. (let a = x.turn ts v g i in record { pieces = a.pieces; is = k v a.pieces a.is; prints = prints_for (λ w h. r v w h) a.prints }) }
+pub turns_as : {A : Type 0} {m n : ℕ} {G : Lexeme → Type 0} {bytes text : List ℕ} {d : ℕ} {K L : A → List Piece → Type 0} {R S : A → A → Type 0} {p p' : Part A}
+    → ((v : A) (ps : List Piece) → K v ps → L v ps) → ((v w : A) → R v w → S v w) → TurnsTo m n G bytes text d p p' K R → TurnsTo m n G bytes text d p p' L S
+turns_as k r x = record {
+  turn = λ ts v g i. (let a = x.turn ts v g i in record { pieces = a.pieces; is = k v a.pieces a.is; prints = prints_for (λ w h. r v w h) a.prints; light = a.light });
+}
 
 -- Lists: one behind another.
 pub joined_added : {A : Type 0} (xs ys : List A) → joined added xs ys ≡ xs ++ ys
@@ -217,8 +302,9 @@ joined_added xs (y ∷ ys) = joined_added (xs ++ y ∷ []) ys ∙ append_assoc x
 abbrev pub Readings : {A : Type 0} → List ℕ → Part A → (List A → Type 0) → ℕ → List Lexeme → Type 0
 Readings {A = A} text p Q d ls = (ws : List A) × Pieces (Is (inner text d) p) ls ws × Q ws
 
-pub record More {A B : Type 0} (text : List ℕ) (p : Part A) (c : A → B) (vs : List A) (ps : List Piece) : Type 0 where
+pub record More {A B : Type 0} (text : List ℕ) (p : Part A) (c : A → B) (vs : List A) (ps : List Piece) (ts : List Lexeme) : Type 0 where
   pub sounds : Sounds ps
+  pub light : Light 0 0 (kinds ts) (marks ps)
   pub levels : ℕ
   pub reads : (d : ℕ) (ls : List Lexeme) → levels ≤ d → Spelled text ls ps → Readings text p (λ ws. map c vs ≡ map c ws) d ls
 
@@ -234,15 +320,17 @@ more_read text p c v vs ps qs d ls f g s =
 
 more_turned : {A B : Type 0} (G : Lexeme → Type 0) (bytes text : List ℕ) (d : ℕ) (p p' : Part A) (f : A → List Piece) (c : A → B)
     → Turns G bytes text d p p' (λ v ps. ps ≡ f v) (λ v w. c v ≡ c w)
-    → (vs : List A) (ts : List Lexeme) → Each G ts → Pieces (Is (inner bytes d) p) ts vs → More text p' c vs (together (map f vs))
-more_turned G bytes text d p p' f c x [] ts g i = record { sounds = tt; levels = 0; reads = λ e ls h s. ([], none_spelled text ls s, refl) }
+    → (vs : List A) (ts : List Lexeme) → Each G ts → Pieces (Is (inner bytes d) p) ts vs → More text p' c vs (together (map f vs)) ts
+more_turned G bytes text d p p' f c x [] ts g i = record { sounds = tt; light = light_nothing 0 ts i; levels = 0; reads = λ e ls h s. ([], none_spelled text ls s, refl) }
 more_turned G bytes text d p p' f c x (v ∷ vs) ts g i =
     let g' = each_apart G i.0 i.1 (subst (Each G) i.2 g) in
     let t = x.turn i.0 v g'.0 i.3 in
     let a : Prints text p' (λ w. c v ≡ c w) (f v) = subst (λ r. Prints text p' (λ w. c v ≡ c w) r) t.is t.prints in
     let b = more_turned G bytes text d p p' f c x vs i.1 g'.1 i.4 in
+    let l : Light 0 0 (kinds i.0) (marks (f v)) = subst (λ r. Light 0 0 (kinds i.0) (marks r)) t.is t.light in
     record {
       sounds = sounds_joined (f v) (together (map f vs)) a.sounds b.sounds;
+      light = light_both 0 0 0 ts i.0 i.1 (f v) (together (map f vs)) i.2 l b.light;
       levels = a.levels + b.levels;
       reads = λ e ls h s. (let m = a.levels in let n = b.levels in
           more_read text p' c v vs (f v) (together (map f vs)) e ls (λ r z. a.reads e r (omega arith) z) (λ r z. b.reads e r (omega arith) z) s);
@@ -280,6 +368,7 @@ turns_left {G = G} {bytes = bytes} {text = text} {d = d} {K = K} {p' = p'} {q = 
           reads = λ e ls h s. (let m = a.prints.levels in let n = b.levels in
               left_read text p' q' c i.2 i.3 a.pieces (together (map f i.3)) e ls (λ r z. a.prints.reads e r (omega arith) z) (λ r z. b.reads e r (omega arith) z) s);
         };
+        light = light_both 0 0 0 ts i.0 i.1 a.pieces (together (map f i.3)) i.4 a.light b.light;
       } in
       subst (λ w. Turned text (left added p' q') (K w) (λ z. map c w ≡ map c z) ts) e r);
 }
@@ -391,18 +480,22 @@ pub gives_any : {A : Type 0} {G : Lexeme → Type 0} {bytes : List ℕ} {d : ℕ
 gives_any = record { given = λ ts v g i. tt }
 
 -- what hangs on nothing, and the part behind it
-pub turns_after : {A X : Type 0} {G : Lexeme → Type 0} {bytes text : List ℕ} {d : ℕ} {K : A → List Piece → Type 0} {R : A → A → Type 0} {q q' : Part X} {p p' : Part A}
-    (xs : List Piece) → Turns G bytes text d q q' (λ x ps. ps ≡ xs) (λ x y. Unit {0})
-    → Turns G bytes text d p p' (λ a ps. K a (xs ++ ps)) R → Turns G bytes text d (q ▸ p) (q' ▸ p') K R
-turns_after {G = G} {text = text} {K = K} {R = R} {q' = q'} {p' = p'} xs y z = record {
+pub turns_after : {A X : Type 0} {m n : ℕ} {G : Lexeme → Type 0} {bytes text : List ℕ} {d : ℕ} {K : A → List Piece → Type 0} {R : A → A → Type 0} {q q' : Part X} {p p' : Part A}
+    (xs : List Piece) → TurnsTo m m G bytes text d q q' (λ x ps. ps ≡ xs) (λ x y. Unit {0})
+    → TurnsTo m n G bytes text d p p' (λ a ps. K a (xs ++ ps)) R → TurnsTo m n G bytes text d (q ▸ p) (q' ▸ p') K R
+turns_after {m = m} {n = n} {G = G} {text = text} {K = K} {R = R} {q' = q'} {p' = p'} xs y z = record {
   turn = λ ts v g i. (
       let g' = each_apart G i.0 i.1 (subst (Each G) i.4 g) in
       let a = y.turn i.0 i.2 g'.0 i.5 in
       let b = z.turn i.1 i.3 g'.1 i.6 in
-      let r : Turned text (q' ▸ p') (K i.3) (R i.3) ts = record {
+      let r : TurnedTo m n text (q' ▸ p') (K i.3) (R i.3) ts = record {
         pieces = a.pieces ++ b.pieces;
         is = subst (λ r. K i.3 (r ++ b.pieces)) (sym a.is) b.is;
         prints = prints_both a.prints b.prints (λ x w h k. k);
+        light = light_both m m n ts i.0 i.1 a.pieces b.pieces i.4 a.light b.light;
       } in
-      subst (λ w. Turned text (q' ▸ p') (K w) (R w) ts) (sym i.7) r);
+      subst (λ w. TurnedTo m n text (q' ▸ p') (K w) (R w) ts) (sym i.7) r);
 }
+
+pub gives_for : {A : Type 0} {G : Lexeme → Type 0} {bytes : List ℕ} {d : ℕ} {p : Part A} {P Q : List Lexeme → A → Type 0} → ((ts : List Lexeme) (v : A) → P ts v → Q ts v) → Gives G bytes d p P → Gives G bytes d p Q
+gives_for k x = record { given = λ ts v g i. k ts v (x.given ts v g i) }

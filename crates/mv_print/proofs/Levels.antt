@@ -1,6 +1,7 @@
 -- An expression is read at each level from its pieces there, if it is at its own.
-use Rattle.std.proofs.Common.{◌≡◌, ℕ, zero, suc, ◌+◌, ◌-◌, ◌<◌, ◌≤◌, Bool, true, false, nat_lt, List, [], ◌∷◌, ◌++◌, Option, Some, None, length, refl, sym, ap, subst, ◌∙◌, append_assoc, append-nil, arith, inl, inr}
+use Rattle.std.proofs.Common.{◌≡◌, ◌⊎◌, ℕ, zero, suc, ◌+◌, ◌-◌, ◌<◌, ◌≤◌, Bool, true, false, nat_lt, List, [], ◌∷◌, ◌++◌, Option, Some, None, length, refl, sym, ap, subst, ◌∙◌, append_assoc, append-nil, arith, inl, inr}
 use Rattle.std.proofs.lemmas.Bool.{ltb-true, ltb-false}
+use Rattle.std.proofs.lemmas.Bool.Decides.{nat_tests}
 use Rattle.mv_ast.specs.declared.lexeme.Lexeme.{Lexeme}
 use Rattle.mv_ast.specs.declared.lexeme.Terminal.TheVariants as word
 use Rattle.mv_ast.specs.declared.tree.Expr.{Expr, out-Expr, fold_out-Expr}
@@ -109,9 +110,15 @@ prints_parens e x =
     prints_inr (prints_inr (prints_inr (prints_inr (prints_inl (prints_skip (key word.Close) (sound_key word.Close) refl
     (prints_next (prints_next (prints_give parenthesized (λ n h w k. same_within e w n k)) (prints_place (key word.Open) (sound_key word.Open) refl)) (prints_inside x)))))))
 
--- what is printed can be read at each level
+-- what is printed can be read at each level, and has parentheses there or not
+abbrev pub AtEach : List ℕ → Expr → Type 0
+AtEach text e = (n : ℕ) → n ≤ 7 → Prints text (part_at n text) (Same e) (expr_pieces e n)
+
+abbrev pub Wrapped : Expr → Type 0
+Wrapped e = (n : ℕ) → n ≤ 7 → (expr_pieces e n ≡ expr_pieces e 0) ⊎ (expr_pieces e n ≡ key word.Open ∷ (expr_pieces e 0 ++ key word.Close ∷ []))
+
 abbrev pub Printable : List ℕ → Expr → Type 0
-Printable text e = (n : ℕ) → n ≤ 7 → Prints text (part_at n text) (Same e) (expr_pieces e n)
+Printable text e = AtEach text e × Wrapped e
 
 -- how an expression is read at its own level, and in parentheses where a higher one is asked for
 pub record Core (text : List ℕ) (e : Expr) (level : ℕ) : Type 0 where
@@ -126,5 +133,13 @@ printable_at {text = text} {e = e} level n false b h c =
 printable_at {text = text} {e = e} level n true b h c =
     subst (λ r. Prints text (part_at n text) (Same e) r) (sym (c.within n h b)) (prints_down 7 n h (prints_parens e (prints_down level 0 (omega arith) c.prints)))
 
+not_below : (n : ℕ) → nat_lt n 0 ≡ false
+not_below n = grind (arith, nat_tests)
+
+wrapped_at : {text : List ℕ} {e : Expr} (level n : ℕ) (b : Bool) → nat_lt level n ≡ b → n ≤ 7 → Core text e level
+    → (expr_pieces e n ≡ expr_pieces e 0) ⊎ (expr_pieces e n ≡ key word.Open ∷ (expr_pieces e 0 ++ key word.Close ∷ []))
+wrapped_at level n false b h c = inl (c.bare n h b ∙ sym (c.bare 0 (omega arith) (not_below level)))
+wrapped_at level n true b h c = inr (c.within n h b ∙ ap (λ r. key word.Open ∷ (r ++ key word.Close ∷ [])) (sym (c.bare 0 (omega arith) (not_below level))))
+
 pub printable_of : {text : List ℕ} {e : Expr} (level : ℕ) → Core text e level → Printable text e
-printable_of level c n h = printable_at level n (nat_lt level n) refl h c
+printable_of level c = (λ n h. printable_at level n (nat_lt level n) refl h c, λ n h. wrapped_at level n (nat_lt level n) refl h c)

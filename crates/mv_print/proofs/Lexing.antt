@@ -17,7 +17,8 @@ use Rattle.mv_ast.specs.declared.lexeme.Terminal.TheVariants as word
 use Rattle.mv_ast.specs.Texts.{spelling}
 use Rattle.mv_ast.specs.Lexemes.{kind_of, lexeme_of, lexemes_from, lexemes}
 use Rattle.mv_print.specs.Printing.{Piece, put, written}
-use Rattle.mv_print.proofs.Building.{Fits, Spelled, Sound, Sounds, Each}
+use Rattle.mv_print.proofs.Light.{kinds}
+use Rattle.mv_print.proofs.Building.{marks, Fits, Spelled, Sound, Sounds, Each}
 use Rattle.mv_print.proofs.Meaning.{Meant, kind_behind, behind}
 use Rattle.mv_print.proofs.Scripts.{LastOpen, Last, Ended}
 
@@ -159,3 +160,10 @@ lexed_last p h before =
 pub lexed : (ps : List Piece) → Sounds ps ⊎ Ended ps → Lexed [] ps
 lexed ps (inl s) = subst (Lexed []) (append-nil ps) (lexed_by [] ps [] s lexed_none)
 lexed ps (inr e) = subst (Lexed []) (sym e.2) (lexed_by [] e.0 (e.1 ∷ []) e.3 (lexed_last e.1 e.4))
+
+-- the kinds of the tokens are those of the pieces
+pub kinds_spelled : (text : List ℕ) (ls : List Lexeme) (ps : List Piece) → Spelled text ls ps → kinds ls ≡ marks ps
+kinds_spelled text [] [] s = refl
+kinds_spelled text (l ∷ ls) (p ∷ ps) s = ap (λ r. r ∷ kinds ls) s.0.kind ∙ ap (λ r. p.kind ∷ r) (kinds_spelled text ls ps s.1)
+kinds_spelled text [] (p ∷ ps) s = absurd s
+kinds_spelled text (l ∷ ls) [] s = absurd s

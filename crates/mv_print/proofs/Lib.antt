@@ -1,5 +1,6 @@
 pub mod Writing
 pub mod Trees
+pub mod Light
 pub mod Building
 pub mod Sounding
 pub mod Meaning

@@ -4,6 +4,7 @@ use Rattle.std.specs.Prelude.{pos, negsuc, ◌-ℤ◌}
 use Rattle.std.specs.Option.{option_map}
 use Rattle.std.specs.List.{list_all}
 use Rattle.std.proofs.lemmas.Bool.{lt-ltb}
+use Rattle.std.proofs.lemmas.List.{map-append}
 use Rattle.mv_lex.specs.Bytes.{is_printable}
 use Rattle.mv_values.specs.declared.op.Op.{Op}
 use Rattle.mv_values.specs.declared.op.Op.TheVariants.{Eq, Ne, Lt, Le, Gt, Ge}
@@ -12,6 +13,7 @@ use Rattle.mv_values.specs.declared.schema.ColType.TheVariants as column
 use Rattle.mv_values.specs.declared.value.Value.{Value}
 use Rattle.mv_values.specs.declared.value.Value.TheVariants as value
 use Rattle.mv_ast.specs.declared.lexeme.Lexeme.{Lexeme}
+use Rattle.mv_ast.specs.declared.lexeme.Terminal.{Terminal}
 use Rattle.mv_ast.specs.declared.lexeme.Terminal.TheVariants as word
 use Rattle.mv_ast.specs.declared.tree.Agg.{Agg}
 use Rattle.mv_ast.specs.declared.tree.Agg.TheVariants as agg
@@ -29,13 +31,14 @@ use Rattle.mv_ast.specs.Grammar as rule
 use Rattle.mv_ast.specs.Grammar.{inner, ◌⊛◌, number_of, text_of, negative_of, positive_of, quoted_of, text_column}
 use Rattle.mv_print.specs.Printing.{Piece, key, name_piece, name_pieces, variable_piece, variable_pieces, number_piece, text_piece, value_pieces, literal_pieces, row_pieces, type_pieces, column_pieces, whole_expr, expr_pieces, cond_pieces, conds_pieces, direction_pieces, sort_pieces, sorts_pieces, offset_pieces, agg_pieces, set_pieces, op_word, listed}
 use Rattle.mv_print.specs.Same.{placeless_name, placeless_expr, placeless_literal, placeless_row, placeless_column, placeless_cond, placeless_sort, placeless_set, placeless_agg}
-use Rattle.mv_print.proofs.Building.{Prints, Turns, Gives, gives_give, gives_one, gives_both, gives_next, gives_either, gives_any, prints_give, prints_one, prints_next, prints_behind, prints_inl, prints_inr, prints_for, turns_give, turns_next, turns_either, turns_as}
+use Rattle.mv_print.proofs.Light.{kinds, Plain, Light, light_none, light_joined, light_plain, light_drop}
+use Rattle.mv_print.proofs.Building.{marks, light_both, light_nothing, gives_for, turns_then, turns_deeper, Prints, Turns, Gives, gives_give, gives_one, gives_both, gives_next, gives_either, gives_any, prints_give, prints_one, prints_next, prints_behind, prints_inl, prints_inr, prints_for, turns_give, turns_next, turns_either, turns_as}
 use Rattle.mv_print.proofs.Sounding.{IsName, IsVariable, sound_key, sound_number, sound_text}
 use Rattle.mv_print.proofs.Meaning.{Meant, meant_text}
 use Rattle.mv_print.proofs.Tokens.{prints_token, SameName, prints_name, prints_variable, number_read, text_read}
 use Rattle.mv_print.proofs.Levels.{Same, prints_inside, Printable}
-use Rattle.mv_print.proofs.Expressions.{found_name, found_variable, found_inside, found_sum}
-use Rattle.mv_print.proofs.Turning.{turns_then, skip, behind_key, behind_keys, place_key, turns_parens, turns_many, turns_separated, turns_commas, turns_optional, turns_found}
+use Rattle.mv_print.proofs.Expressions.{found_name, found_variable, found_op, plain_op, found_inside, found_sum}
+use Rattle.mv_print.proofs.Turning.{plain_key, skip_open, skip_close, place_open, skip, behind_key, behind_keys, place_key, turns_parens, turns_many, turns_separated, turns_commas, turns_optional, turns_found}
 
 -- functions at what is the same
 pub same2 : {A B C : Type 0} (f : A → B → C) {a x : A} {b y : B} → a ≡ x → b ≡ y → f a b ≡ f x y
@@ -69,6 +72,13 @@ negated n =
 negated_literal : (n : ℕ) → n ≤ greatest → IsLiteral (value.Int (pos 0 -ℤ pos n))
 negated_literal zero h = omega arith
 negated_literal (suc n) h = subst (λ r. IsLiteral (value.Int r)) (sym (negated n)) h
+
+negated_light : (n : ℕ) → Light 0 0 (word.Minus ∷ word.Number ∷ []) (marks (value_pieces (value.Int (pos 0 -ℤ pos n))))
+negated_light zero =
+    light_joined 0 0 0 (word.Minus ∷ []) (word.Number ∷ []) [] (word.Number ∷ []) (light_drop 0 word.Minus (record { opens = refl; closes = refl; ends = refl }) refl) (light_plain 0 word.Number (record { opens = refl; closes = refl; ends = refl }))
+negated_light (suc n) =
+    subst (λ r. Light 0 0 (word.Minus ∷ word.Number ∷ []) (marks (value_pieces (value.Int r)))) (sym (negated n))
+    (light_joined 0 0 0 (word.Minus ∷ []) (word.Number ∷ []) (word.Minus ∷ []) (word.Number ∷ []) (light_plain 0 word.Minus (record { opens = refl; closes = refl; ends = refl })) (light_plain 0 word.Number (record { opens = refl; closes = refl; ends = refl })))
 
 value_same : (l : Lit) (v : Value) (t : ℕ) → v ≡ l.value → placeless_literal l ≡ placeless_literal (record { value = v; token = t })
 value_same l v t h = ap (λ (r : Value). (let x : Lit = record { value = r; token = 0 } in x)) (sym h)
@@ -114,45 +124,65 @@ module _ (bytes text : List ℕ) (d : ℕ) where
   Rule p q f c = Turns (Meant bytes) bytes text d p q (λ v ps. ps ≡ f v) (λ v w. c v ≡ c w)
 
   pub rule_name : Rule (rule.name bytes) (rule.name text) name_pieces placeless_name
-  rule_name = turns_found (found_name bytes text d) (λ v h. prints_name v h)
+  rule_name = turns_found {H = λ n. IsName n.text} (found_name bytes text d) (λ v h. prints_name v h)
 
   pub rule_variable : Rule (rule.variable bytes) (rule.variable text) variable_pieces placeless_name
-  rule_variable = turns_found (found_variable bytes text d) (λ v h. prints_variable v h)
+  rule_variable = turns_found {H = λ n. IsVariable n.text} (found_variable bytes text d) (λ v h. prints_variable v h)
 
-  found_literal : Gives (Meant bytes) bytes d (rule.literal bytes) (λ ts l. IsLiteral l.value)
+  -- the tokens are these
+  abbrev Kinds : List Lexeme → List Terminal → Type 0
+  Kinds ts ks = kinds ts ≡ ks
+
+  abbrev LitLight : List Lexeme → Value → Type 0
+  LitLight ts v = Light 0 0 (kinds ts) (marks (value_pieces v))
+
+  one_kind : (t : Terminal) → Gives (Meant bytes) bytes d (one t) (λ ts l. Kinds ts (t ∷ []))
+  one_kind t = gives_one (λ l g e. ap (λ r. r ∷ []) e)
+
+  lit_of : (ts : List Lexeme) (ks : List Terminal) (v : Value) → Kinds ts ks → Light 0 0 ks (marks (value_pieces v)) → LitLight ts v
+  lit_of ts ks v e l = subst (λ r. Light 0 0 r (marks (value_pieces v))) (sym e) l
+
+  found_literal : Gives (Meant bytes) bytes d (rule.literal bytes) (λ ts l. IsLiteral l.value × LitLight ts l.value)
   unfolding rule.literal
   found_literal =
-      gives_either (gives_next (gives_next (gives_give (λ ys m u zs l h. negated_literal (number_of bytes l) (omega arith))) (gives_any)) gives_any)
-      (gives_either (gives_next (gives_give (λ ys l h. omega arith)) gives_any) (gives_next (gives_give (λ ys l h. h)) (gives_one (λ l g e. meant_text l g e))))
+      gives_either (gives_next (gives_next (gives_give (λ xs m h ys l k. (negated_literal (number_of bytes l) (omega arith),
+        lit_of (xs ++ ys) (word.Minus ∷ word.Number ∷ []) (value.Int (pos 0 -ℤ pos (number_of bytes l))) (map-append (λ (l : Lexeme). l.kind) xs ys ∙ (ap (λ r. r ++ kinds ys) h ∙ ap (λ r. word.Minus ∷ r) k)) (negated_light (number_of bytes l)))))
+      (one_kind word.Minus)) (one_kind word.Number))
+      (gives_either (gives_next (gives_give (λ ys l k. (omega arith, lit_of ys (word.Number ∷ []) (value.Int (pos (number_of bytes l))) k (light_plain 0 word.Number (record { opens = refl; closes = refl; ends = refl }))))) (one_kind word.Number))
+      (gives_next {P = λ ts l. (list_all is_printable (text_of bytes l) ≡ true) × Kinds ts (word.Quoted ∷ [])}
+      (gives_give (λ ys l h. (h.0, lit_of ys (word.Quoted ∷ []) (value.Text (text_of bytes l)) h.1 (light_plain 0 word.Quoted (record { opens = refl; closes = refl; ends = refl }))))) (gives_one (λ l g e. (meant_text l g e, ap (λ r. r ∷ []) e)))))
 
   pub rule_literal : Rule (rule.literal bytes) (rule.literal text) literal_pieces placeless_literal
-  rule_literal = turns_found found_literal (λ l h. prints_value l l.value refl h)
+  rule_literal = turns_found {H = λ l. IsLiteral l.value} found_literal (λ l h. prints_value l l.value refl h)
 
   pub rule_row : Rule (rule.lit_row bytes) (rule.lit_row text) row_pieces placeless_row
   unfolding rule.lit_row
   rule_row =
-      skip (sound_key word.Close) (turns_next (turns_commas {K = λ ls ps. ps ≡ listed literal_pieces ls} rule_literal (λ v vs. refl)) (turns_next (place_key (sound_key word.Open))
+      skip_close (turns_next (turns_commas {K = λ ls ps. ps ≡ listed literal_pieces ls} rule_literal (λ v vs. refl)) (turns_deeper (place_open (sound_key word.Open) (record { opens = refl; ends = refl }))
       (turns_give (λ n ls. refl) (λ n m u ls ms h. ap (λ (r : List Lit). (let x : LitRow = record { token = 0; values = r } in x)) h))))
 
-  found_size : Gives (Meant bytes) bytes d (give (text_column bytes) ⊛ one word.Number) (λ ts v. (n : ℕ) × (n ≤ 65535) × (v ≡ column.Text n))
-  found_size = gives_next (gives_give (λ ys l h. (min (number_of bytes l) 65535, omega arith, refl))) gives_any
+  found_size : Gives (Meant bytes) bytes d (give (text_column bytes) ⊛ one word.Number) (λ ts v. ((n : ℕ) × (n ≤ 65535) × (v ≡ column.Text n)) × Light 0 0 (kinds ts) (word.Number ∷ []))
+  found_size = gives_next {P = λ ts l. Kinds ts (word.Number ∷ [])}
+      (gives_give (λ ys l h. ((min (number_of bytes l) 65535, omega arith, refl), subst (λ r. Light 0 0 r (word.Number ∷ [])) (sym h) (light_plain 0 word.Number (record { opens = refl; closes = refl; ends = refl }))))) (one_kind word.Number)
 
   turns_size : Turns (Meant bytes) bytes text d (give (text_column bytes) ⊛ one word.Number) (give (text_column text) ⊛ one word.Number) IsSize (λ v w. v ≡ w)
   turns_size = record {
     turn = λ ts v g i. (
-        let s = found_size.given ts v g i in
+        let f = found_size.given ts v g i in
+        let s = f.0 in
         record {
           pieces = number_piece s.0 ∷ [];
           is = (s.0, s.1, s.2, refl);
-          prints = prints_token (number_piece s.0) (sound_number s.0 (let m = s.1 in omega arith)) refl (λ l f. s.2 ∙ ap column.Text (size_back s.0 (number_of text l) s.1 (number_read text s.0 l (let m = s.1 in omega arith) f)));
+          light = f.1;
+          prints = prints_token (number_piece s.0) (sound_number s.0 (let m = s.1 in omega arith)) refl (λ l z. s.2 ∙ ap column.Text (size_back s.0 (number_of text l) s.1 (number_read text s.0 l (let m = s.1 in omega arith) z)));
         });
   }
 
   pub rule_type : Rule (rule.column_type bytes) (rule.column_type text) type_pieces (λ k. k)
   unfolding rule.column_type
   rule_type =
-      turns_either (behind_key (sound_key word.Int) (turns_give refl refl))
-      (behind_key (sound_key word.Text) (turns_parens (turns_as
+      turns_either (behind_key (plain_key word.Int) (turns_give refl refl))
+      (behind_key (plain_key word.Text) (turns_parens (turns_as
       (λ v ps h. ap (λ r. key word.Text ∷ key word.Open ∷ (r ++ key word.Close ∷ [])) h.3 ∙ ap type_pieces (sym h.2)) (λ v w h. h) turns_size)))
 
   pub rule_column : Rule (rule.col_def bytes) (rule.col_def text) column_pieces placeless_column
@@ -161,13 +191,14 @@ module _ (bytes text : List ℕ) (d : ℕ) where
       (turns_give (λ n k. refl) (λ n m h k l i. same2 (λ (r : Name) (s : ColType). (let x : ColDef = record { name = r; kind = s } in x)) h i)))
 
   pub rule_op : Rule (rule.op bytes) (rule.op text) (λ o. key (op_word o) ∷ []) (λ o. o)
-  rule_op = turns_found {H = λ o. Unit {0}} gives_any (λ o h. prints_op o)
+  rule_op = turns_found {H = λ o. Unit {0}}
+      (gives_for (λ ts o h. (tt, subst (λ r. Light 0 0 (kinds r) (op_word o ∷ [])) (sym h.1) (subst (λ r. Light 0 0 (r ∷ []) (op_word o ∷ [])) (sym h.2) (light_plain 0 (op_word o) (plain_op o))))) (found_op bytes text d)) (λ o h. prints_op o)
 
   pub rule_expression : Rule expression expression whole_expr placeless_expr
-  rule_expression = turns_found (found_inside bytes text d) (λ e h. prints_inside (h 0 (omega arith)))
+  rule_expression = turns_found {H = Printable text} (gives_for (λ ts e h. (h.0, h.1 0 (omega arith))) (found_inside bytes text d)) (λ e h. prints_inside (h.0 0 (omega arith)))
 
   rule_sum : Rule (rule.sum bytes) (rule.sum text) (λ e. expr_pieces e 4) placeless_expr
-  rule_sum = turns_found (found_sum bytes text d (found_inside bytes text d)) (λ e h. h 4 (omega arith))
+  rule_sum = turns_found {H = Printable text} (gives_for (λ ts e h. (h.0, h.1 4 (omega arith))) (found_sum bytes text d (found_inside bytes text d))) (λ e h. h.0 4 (omega arith))
 
   rule_cond : Rule (rule.cond bytes) (rule.cond text) cond_pieces placeless_cond
   unfolding rule.cond
@@ -176,10 +207,20 @@ module _ (bytes text : List ℕ) (d : ℕ) where
 
   pub rule_conds : Rule (rule.conds bytes) (rule.conds text) conds_pieces (map placeless_cond)
   unfolding rule.conds
-  rule_conds = turns_either (behind_key (sound_key word.Where) (turns_separated (sound_key word.And) rule_cond (λ v vs. refl))) (turns_give refl refl)
+  rule_conds = turns_either (behind_key (plain_key word.Where) (turns_separated (plain_key word.And) rule_cond (λ v vs. refl))) (turns_give refl refl)
+
+  -- ASC isn't printed
+  found_direction : Gives (Meant bytes) bytes d (rule.direction bytes) (λ ts b. Unit {0} × Light 0 0 (kinds ts) (marks (direction_pieces b)))
+  unfolding rule.direction
+  found_direction =
+      gives_either (gives_both {P = λ ts l. Light 0 0 (kinds ts) []} {Q = λ ts b. (ts ≡ []) × (b ≡ false)} (gives_one (λ l g e. subst (λ r. Light 0 0 (r ∷ []) []) (sym e) (light_drop 0 word.Asc (record { opens = refl; closes = refl; ends = refl }) refl))) (gives_give (refl, refl))
+      (λ xs ys l b h k. (tt, subst (λ r. Light 0 0 (kinds (xs ++ ys)) (marks (direction_pieces r))) (sym k.1) (light_both 0 0 0 (xs ++ ys) xs ys [] [] refl h (light_nothing 0 ys k.0)))))
+      (gives_either (gives_both {P = λ ts l. Light 0 0 (kinds ts) (word.Desc ∷ [])} {Q = λ ts b. (ts ≡ []) × (b ≡ true)} (gives_one (λ l g e. subst (λ r. Light 0 0 (r ∷ []) (word.Desc ∷ [])) (sym e) (light_plain 0 word.Desc (record { opens = refl; closes = refl; ends = refl })))) (gives_give (refl, refl))
+      (λ xs ys l b h k. (tt, subst (λ r. Light 0 0 (kinds (xs ++ ys)) (marks (direction_pieces r))) (sym k.1) (light_both 0 0 0 (xs ++ ys) xs ys (key word.Desc ∷ []) [] refl h (light_nothing 0 ys k.0)))))
+      (gives_give (tt, light_none 0)))
 
   rule_direction : Rule (rule.direction bytes) (rule.direction text) direction_pieces (λ b. b)
-  rule_direction = turns_found {H = λ o. Unit {0}} gives_any (λ b h. prints_direction b)
+  rule_direction = turns_found {H = λ o. Unit {0}} found_direction (λ b h. prints_direction b)
 
   rule_sort : Rule (rule.sort bytes) (rule.sort text) sort_pieces placeless_sort
   unfolding rule.sort
@@ -188,11 +229,11 @@ module _ (bytes text : List ℕ) (d : ℕ) where
 
   pub rule_sorts : Rule (rule.sorts bytes) (rule.sorts text) sorts_pieces (map placeless_sort)
   unfolding rule.sorts
-  rule_sorts = turns_either (behind_keys (sound_key word.Order) (sound_key word.By) (turns_commas rule_sort (λ v vs. refl))) (turns_give refl refl)
+  rule_sorts = turns_either (behind_keys (plain_key word.Order) (plain_key word.By) (turns_commas rule_sort (λ v vs. refl))) (turns_give refl refl)
 
   pub rule_set : Rule (rule.set_item bytes) (rule.set_item text) set_pieces placeless_set
   unfolding rule.set_item
-  rule_set = turns_next rule_expression (skip (sound_key word.Equal) (turns_next rule_name
+  rule_set = turns_next rule_expression (skip (plain_key word.Equal) (turns_next rule_name
       (turns_give (λ n e. refl) (λ n m h e f i. same2 (λ (r : Name) (s : Expr). (let x : SetItem = record { column = r; right = s } in x)) h i))))
 
   rule_within : Rule (rule.in_parens (rule.name bytes)) (rule.in_parens (rule.name text)) within placeless_name
@@ -201,8 +242,8 @@ module _ (bytes text : List ℕ) (d : ℕ) where
   pub rule_agg : Rule (rule.aggregate bytes) (rule.aggregate text) agg_pieces placeless_agg
   unfolding rule.aggregate rule.counted
   rule_agg =
-      turns_either (behind_key (sound_key word.Count) (turns_parens (turns_either (behind_key (sound_key word.Star) (turns_give refl refl))
-      (behind_key (sound_key word.Distinct) (turns_next rule_name (turns_give (λ n. refl) (λ n m h. ap agg.CountDistinct h)))))))
-      (turns_either (behind_key (sound_key word.Sum) (turns_next rule_within (turns_give (λ n. refl) (λ n m h. ap agg.Sum h))))
-      (turns_either (behind_key (sound_key word.Min) (turns_next rule_within (turns_give (λ n. refl) (λ n m h. ap agg.Min h))))
-      (behind_key (sound_key word.Max) (turns_next rule_within (turns_give (λ n. refl) (λ n m h. ap agg.Max h))))))
+      turns_either (behind_key (plain_key word.Count) (turns_parens (turns_either (behind_key (plain_key word.Star) (turns_give refl refl))
+      (behind_key (plain_key word.Distinct) (turns_next rule_name (turns_give (λ n. refl) (λ n m h. ap agg.CountDistinct h)))))))
+      (turns_either (behind_key (plain_key word.Sum) (turns_next rule_within (turns_give (λ n. refl) (λ n m h. ap agg.Sum h))))
+      (turns_either (behind_key (plain_key word.Min) (turns_next rule_within (turns_give (λ n. refl) (λ n m h. ap agg.Min h))))
+      (behind_key (plain_key word.Max) (turns_next rule_within (turns_give (λ n. refl) (λ n m h. ap agg.Max h))))))

@@ -38,11 +38,12 @@ use Rattle.mv_ast.specs.Grammar as rule
 use Rattle.mv_ast.specs.Grammar.{inner, added, place, closed_of, open_of, ◌⊛◌, ◌▸◌}
 use Rattle.mv_print.specs.Printing.{Piece, key, line_end, name_piece, name_pieces, variable_piece, listed, literal_pieces, row_pieces, type_pieces, column_pieces, column_and_comma, values_pieces, table_pieces, param_kind_pieces, param_pieces, declared_pieces, procedure_pieces, statements_pieces, block_piece, span_piece, arg_pieces, item_pieces, pieces_of, script_pieces}
 use Rattle.mv_print.specs.Same.{placeless_name, placeless_literal, placeless_row, placeless_column, placeless_param_kind, placeless_param, placeless_variable, placeless_argument, placeless_statement, placeless_span, placeless_kind, placeless, span_bytes, block_bytes, SameButPlaces}
-use Rattle.mv_print.proofs.Building.{Fits, Spelled, Sound, Sounds, sounds_joined, Each, each_apart, apart, one_spelled, none_spelled, Reading, Readings, Prints, Turned, Turns, Gives, gives_give, gives_one, gives_both, gives_next, gives_either, gives_left, gives_any, both_read, more_read, joined_added, turns_give, turns_next, turns_either, turns_left, turns_as}
+use Rattle.mv_print.proofs.Light.{kinds, Light, light_plain}
+use Rattle.mv_print.proofs.Building.{marks, light_both, light_nothing, turns_then, turns_deeper, Fits, Spelled, Sound, Sounds, sounds_joined, Each, each_apart, apart, one_spelled, none_spelled, Reading, Readings, Prints, Turned, Turns, Gives, gives_give, gives_one, gives_both, gives_next, gives_either, gives_left, gives_any, both_read, more_read, joined_added, turns_give, turns_next, turns_either, turns_left, turns_as}
 use Rattle.mv_print.proofs.Sounding.{sound_key}
 use Rattle.mv_print.proofs.Meaning.{Meant, meant, closed_bytes, open_bytes, bare_bytes}
 use Rattle.mv_print.proofs.Tokens.{prints_token}
-use Rattle.mv_print.proofs.Turning.{turns_then, skip, skip_end, behind_key, behind_keys, place_key, turns_parens, turns_many, turns_commas, turns_found}
+use Rattle.mv_print.proofs.Turning.{plain_key, skip_open, skip_close, skip_ends, skip_end_line, place_open, skip, skip_end, behind_key, behind_keys, place_key, turns_parens, turns_many, turns_commas, turns_found}
 use Rattle.mv_print.proofs.Rules.{Rule, same2, same3, same4, rule_name, rule_variable, rule_literal, rule_row, rule_type, rule_column}
 use Rattle.mv_print.proofs.Sentences.{way_inside}
 
@@ -169,12 +170,12 @@ module _ (bytes text : List ℕ) (d : ℕ) where
   way_columns : Way (rule.columns bytes) (rule.columns text) (λ cs. together (map column_and_comma cs)) (map placeless_column)
   unfolding rule.columns
   way_columns =
-      turns_left (skip (sound_key word.Comma) (turns_as (λ v ps h. ap (λ r. r ++ key word.Comma ∷ []) h) (λ v w h. h) (rule_column bytes text d)))
-      (skip (sound_key word.Comma) (turns_next (rule_column bytes text d) (turns_give (λ c cs. refl) (λ c e h. ap (λ r. r ∷ []) h))))
+      turns_left (skip (plain_key word.Comma) (turns_as (λ v ps h. ap (λ r. r ++ key word.Comma ∷ []) h) (λ v w h. h) (rule_column bytes text d)))
+      (skip (plain_key word.Comma) (turns_next (rule_column bytes text d) (turns_give (λ c cs. refl) (λ c e h. ap (λ r. r ∷ []) h))))
 
   way_values : Way (rule.opening_rows bytes) (rule.opening_rows text) values_pieces (map placeless_row)
   unfolding rule.opening_rows
-  way_values = turns_either (behind_key (sound_key word.Values) (turns_commas (rule_row bytes text d) (λ r rs. refl))) (turns_give refl refl)
+  way_values = turns_either (behind_key (plain_key word.Values) (turns_commas (rule_row bytes text d) (λ r rs. refl))) (turns_give refl refl)
 
   -- an item behind CREATE
   abbrev Created : ItemKind → List Piece → Type 0
@@ -186,8 +187,8 @@ module _ (bytes text : List ℕ) (d : ℕ) where
   way_table : Turns (Meant bytes) bytes text d (rule.table bytes) (rule.table text) Created SameKind
   unfolding rule.table
   way_table =
-      skip_end (turns_next way_values (skip (sound_key word.Close) (turns_next {fq = λ ns. key word.Open ∷ (listed name_pieces ns ++ key word.Close ∷ [])} (turns_parens (turns_commas (rule_name bytes text d) (λ n ns. refl)))
-      (skip (sound_key word.Key) (skip (sound_key word.Primary) (turns_next way_columns (skip (sound_key word.Open) (turns_next (rule_name bytes text d) (skip (sound_key word.Table)
+      skip_end (turns_next way_values (skip_close (turns_next {fq = λ ns. key word.Open ∷ (listed name_pieces ns ++ key word.Close ∷ [])} (turns_parens (turns_commas (rule_name bytes text d) (λ n ns. refl)))
+      (skip (plain_key word.Key) (skip (plain_key word.Primary) (turns_next way_columns (skip_open (sound_key word.Open) (record { opens = refl; ends = refl }) (turns_next (rule_name bytes text d) (skip (plain_key word.Table)
       (turns_give (λ n columns ns rows. ap (λ r. key word.Create ∷ key word.Table ∷ name_piece n ∷ key word.Open ∷ r)
       (regroup_table (together (map column_and_comma columns)) (key word.Open ∷ (listed name_pieces ns ++ key word.Close ∷ [])) (values_pieces rows) (key word.Primary) (key word.Key) (key word.Close) line_end
       ∙ ap (λ r. together (map column_and_comma columns) ++ key word.Primary ∷ key word.Key ∷ key word.Open ∷ r) (append_assoc (listed name_pieces ns) (key word.Close ∷ []) (key word.Close ∷ (values_pieces rows ++ line_end ∷ [])))))
@@ -196,7 +197,7 @@ module _ (bytes text : List ℕ) (d : ℕ) where
   way_param_kind : Way (rule.param_kind bytes) (rule.param_kind text) param_kind_pieces placeless_param_kind
   unfolding rule.param_kind
   way_param_kind =
-      turns_either (behind_key (sound_key word.Rows) (turns_next {fq = λ cs. key word.Open ∷ (listed column_pieces cs ++ key word.Close ∷ [])} (turns_parens (turns_commas (rule_column bytes text d) (λ c cs. refl)))
+      turns_either (behind_key (plain_key word.Rows) (turns_next {fq = λ cs. key word.Open ∷ (listed column_pieces cs ++ key word.Close ∷ [])} (turns_parens (turns_commas (rule_column bytes text d) (λ c cs. refl)))
       (turns_give (λ cs. refl) (λ cs es h. ap parameter.Many h))))
       (turns_next (rule_type bytes text d) (turns_give (λ k. refl) (λ k j h. ap parameter.One h)))
 
@@ -208,7 +209,7 @@ module _ (bytes text : List ℕ) (d : ℕ) where
   way_declaration : Way (rule.declaration bytes) (rule.declaration text) declared_pieces placeless_variable
   unfolding rule.declaration
   way_declaration =
-      skip (sound_key word.Semicolon) (turns_next (rule_literal bytes text d) (skip (sound_key word.Equal) (turns_next (rule_variable bytes text d) (skip (sound_key word.Declare)
+      skip (plain_key word.Semicolon) (turns_next (rule_literal bytes text d) (skip (plain_key word.Equal) (turns_next (rule_variable bytes text d) (skip (plain_key word.Declare)
       (turns_give (λ n l. refl) (λ n m h k j i. same2 (λ (r : Name) (s : Lit). (let x : VarDef = record { name = r; initial = s } in x)) h i))))))
 
   abbrev param_list : List Param → List Piece
@@ -220,16 +221,16 @@ module _ (bytes text : List ℕ) (d : ℕ) where
   way_procedure : Turns (Meant bytes) bytes text d (rule.procedure bytes) (rule.procedure text) Created SameKind
   unfolding rule.procedure
   way_procedure =
-      skip_end (skip (sound_key word.End) (turns_next {fq = statements_pieces} (turns_many (way_inside bytes text d) (λ vs. refl)) (skip (sound_key word.Begin)
-      (turns_next {fq = λ vs. together (map declared_pieces vs)} (turns_many way_declaration (λ vs. refl)) (turns_next way_params (turns_next (rule_name bytes text d) (skip (sound_key word.Procedure)
+      skip_end_line (turns_next {fq = statements_pieces} (turns_many (way_inside bytes text d) (λ vs. refl)) (skip_open (sound_key word.Begin) (record { opens = refl; ends = refl })
+      (turns_next {fq = λ vs. together (map declared_pieces vs)} (turns_many way_declaration (λ vs. refl)) (turns_next way_params (turns_next (rule_name bytes text d) (skip (plain_key word.Procedure)
       (turns_give (λ n params vars body. ap (λ r. key word.Create ∷ key word.Procedure ∷ name_piece n ∷ r)
       (regroup_procedure (param_list params) (together (map declared_pieces vars)) (statements_pieces body) (key word.Begin) (key word.End) line_end
       ∙ ap (λ r. key word.Open ∷ r) (append_assoc (listed param_pieces params) (key word.Close ∷ []) (together (map declared_pieces vars) ++ key word.Begin ∷ (statements_pieces body ++ key word.End ∷ line_end ∷ [])))))
-      (λ a a' h b b' i c c' j e e' k. ap no_block (same4 procedure_of h i j k))))))))))
+      (λ a a' h b b' i c c' j e e' k. ap no_block (same4 procedure_of h i j k)))))))))
 
   way_create : Turns (Meant bytes) bytes text d (rule.create bytes) (rule.create text) (λ i ps. ps ≡ pieces_of bytes i) (λ i j. placeless bytes i ≡ placeless text j)
   unfolding rule.create
-  way_create = turns_then (turns_either way_table way_procedure) (turns_next (place_key (sound_key word.Create)) (turns_give (λ n k qs h. h) (λ n m u k j h. h)))
+  way_create = turns_then (turns_either way_table way_procedure) (turns_next (place_key (plain_key word.Create)) (turns_give (λ n k qs h. h) (λ n m u k j h. h)))
 
   abbrev rows_pieces : List LitRow → List Piece
   rows_pieces rs = key word.Open ∷ (listed row_pieces rs ++ key word.Close ∷ [])
@@ -240,7 +241,7 @@ module _ (bytes text : List ℕ) (d : ℕ) where
   way_rows : Way (rule.lit_rows bytes) (rule.lit_rows text) (λ r. key word.Rows ∷ rows_pieces r.rows) placeless_rows
   unfolding rule.lit_rows
   way_rows =
-      turns_next {fq = rows_pieces} (turns_parens (turns_either (turns_commas (rule_row bytes text d) (λ r rs. refl)) (turns_give refl refl))) (turns_next (place_key (sound_key word.Rows))
+      turns_next {fq = rows_pieces} (turns_parens (turns_either (turns_commas (rule_row bytes text d) (λ r rs. refl)) (turns_give refl refl))) (turns_next (place_key (plain_key word.Rows))
       (turns_give (λ n rs. refl) (λ n m u rs ss h. ap (λ (r : List LitRow). (let x : LitRows = record { token = 0; rows = r } in x)) h)))
 
   way_arg : Way (rule.arg bytes) (rule.arg text) arg_pieces placeless_argument
@@ -254,7 +255,7 @@ module _ (bytes text : List ℕ) (d : ℕ) where
   way_call : Turns (Meant bytes) bytes text d (rule.call bytes) (rule.call text) (λ i ps. ps ≡ pieces_of bytes i) (λ i j. placeless bytes i ≡ placeless text j)
   unfolding rule.call
   way_call =
-      skip_end (turns_next {fq = arg_list} (turns_parens (turns_either (turns_commas way_arg (λ v vs. refl)) (turns_give refl refl))) (turns_next (rule_name bytes text d) (turns_next (place_key (sound_key word.Call))
+      skip_end (turns_next {fq = arg_list} (turns_parens (turns_either (turns_commas way_arg (λ v vs. refl)) (turns_give refl refl))) (turns_next (rule_name bytes text d) (turns_next (place_key (plain_key word.Call))
       (turns_give (λ n name args. simp append_assoc refl) (λ n m u a a' h b b' i. ap no_block (same2 (λ r s. Call (record { name = r; arguments = s })) h i))))))
 
 -- the tokens end with an open block
@@ -264,23 +265,25 @@ EndsOpen ts = (us : List Lexeme) × (l : Lexeme) × (ts ≡ us ++ l ∷ []) × (
 -- an item that was read from these tokens is read from its pieces
 pub record ItemTurned (bytes text : List ℕ) (p : Part Item) (ts : List Lexeme) (i : Item) : Type 0 where
   pub sounds : Sounds (pieces_of bytes i) ⊎ (Ended (pieces_of bytes i) × EndsOpen ts)
+  pub light : Light 0 0 (kinds ts) (marks (pieces_of bytes i))
   pub levels : ℕ
   pub reads : (d : ℕ) (ls : List Lexeme) → levels ≤ d → Spelled text ls (pieces_of bytes i) → Reading text p (λ j. placeless bytes i ≡ placeless text j) d ls
 
 item_turned : {bytes text : List ℕ} {p : Part Item} {ts : List Lexeme} (i : Item) → Turned text p (λ ps. ps ≡ pieces_of bytes i) (λ j. placeless bytes i ≡ placeless text j) ts → ItemTurned bytes text p ts i
-item_turned {bytes = bytes} {text = text} {p = p} i a =
+item_turned {bytes = bytes} {text = text} {p = p} {ts = ts} i a =
     let x : Prints text p (λ j. placeless bytes i ≡ placeless text j) (pieces_of bytes i) = subst (λ r. Prints text p (λ j. placeless bytes i ≡ placeless text j) r) a.is a.prints in
-    record { sounds = inl x.sounds; levels = x.levels; reads = x.reads }
+    record { sounds = inl x.sounds; light = subst (λ r. Light 0 0 (kinds ts) (marks r)) a.is a.light; levels = x.levels; reads = x.reads }
 
 item_inl : {bytes text : List ℕ} {p q : Part Item} {ts : List Lexeme} {i : Item} → ItemTurned bytes text p ts i → ItemTurned bytes text (either p q) ts i
-item_inl x = record { sounds = x.sounds; levels = x.levels; reads = λ d ls h s. (let r = x.reads d ls h s in (r.0, inl r.1, r.2)) }
+item_inl x = record { sounds = x.sounds; light = x.light; levels = x.levels; reads = λ d ls h s. (let r = x.reads d ls h s in (r.0, inl r.1, r.2)) }
 
 item_inr : {bytes text : List ℕ} {p q : Part Item} {ts : List Lexeme} {i : Item} → ItemTurned bytes text q ts i → ItemTurned bytes text (either p q) ts i
-item_inr x = record { sounds = x.sounds; levels = x.levels; reads = λ d ls h s. (let r = x.reads d ls h s in (r.0, inr r.1, r.2)) }
+item_inr x = record { sounds = x.sounds; light = x.light; levels = x.levels; reads = λ d ls h s. (let r = x.reads d ls h s in (r.0, inr r.1, r.2)) }
 
 -- a block that was read from these tokens is read from its piece
 record BlockTurned (bytes text : List ℕ) (ts : List Lexeme) (s : Span) : Type 0 where
   pub sounds : Sounds (span_piece bytes s ∷ []) ⊎ (Last (span_piece bytes s) × EndsOpen ts)
+  pub light : Light 0 0 (kinds ts) (marks (span_piece bytes s ∷ []))
   pub reads : (d : ℕ) (ls : List Lexeme) → Spelled text ls (span_piece bytes s ∷ []) → Reading text (rule.block text) (SameSpan bytes text s) d ls
 
 abbrev AnyLevel : List ℕ → List ℕ → Span → List Piece → Type 0
@@ -304,16 +307,18 @@ opened_read bytes text s c d ls z =
       (ap (λ (r : Bool). (let y : Span = record { token = 0; at = 0; len = 0; closed = r } in y)) c, sym (opened_again text (span_bytes bytes s) i.0 i.2)),
     )
 
-closed_turned : (bytes text : List ℕ) (ts : List Lexeme) (s : Span) → ClosedBlock bytes s × (s.closed ≡ true) → BlockTurned bytes text ts s
-closed_turned bytes text ts s b =
+closed_turned : (bytes text : List ℕ) (ts : List Lexeme) (s : Span) → ClosedBlock bytes s × (s.closed ≡ true) → Light 0 0 (kinds ts) (word.Block ∷ []) → BlockTurned bytes text ts s
+closed_turned bytes text ts s b l =
     let x : Sound (block_piece (span_bytes bytes s) true) = subst (λ r. Sound (block_piece r true)) (sym b.0.content) (closed_sound (lines_text b.0.lines) b.0.block b.0.allowed) in
     record {
       sounds = inl (subst (λ c. Sound (block_piece (span_bytes bytes s) c)) (sym b.1) x, tt);
+      light = subst (λ c. Light 0 0 (kinds ts) (marks (block_piece (span_bytes bytes s) c ∷ []))) (sym b.1) l;
       reads = subst (λ c. AnyLevel bytes text s (block_piece (span_bytes bytes s) c ∷ [])) (sym b.1) (closed_read bytes text s b.1 b.0);
     }
 
-opened_turned : (bytes text : List ℕ) (ts : List Lexeme) (s : Span) → OpenedBlock bytes s × (s.closed ≡ false) × EndsOpen ts → BlockTurned bytes text ts s
-opened_turned bytes text ts s b = record {
+opened_turned : (bytes text : List ℕ) (ts : List Lexeme) (s : Span) → OpenedBlock bytes s × (s.closed ≡ false) × EndsOpen ts → Light 0 0 (kinds ts) (word.OpenBlock ∷ []) → BlockTurned bytes text ts s
+opened_turned bytes text ts s b l = record {
+  light = subst (λ c. Light 0 0 (kinds ts) (marks (block_piece (span_bytes bytes s) c ∷ []))) (sym b.1) l;
   sounds = inr (subst (λ c. Last (block_piece (span_bytes bytes s) c)) (sym b.1) (opened_last bytes s b.0), b.2);
   reads = subst (λ c. AnyLevel bytes text s (block_piece (span_bytes bytes s) c ∷ [])) (sym b.1) (opened_read bytes text s b.1);
 }
@@ -321,9 +326,10 @@ opened_turned bytes text ts s b = record {
 gives_block : (bytes text : List ℕ) (d : ℕ) → Gives (Meant bytes) bytes d (rule.block bytes) (λ ts s. BlockTurned bytes text ts s)
 unfolding rule.block
 gives_block bytes text d = gives_either
-    (gives_next {P = λ ts l. ClosedBlock bytes (closed_of bytes l)} (gives_give (λ ys l h. closed_turned bytes text ys (closed_of bytes l) (h, refl))) (gives_one (λ l g e. closed_block bytes l g e)))
-    (gives_next {P = λ ts l. OpenedBlock bytes (open_of bytes l) × EndsOpen ts} (gives_give (λ ys l h. opened_turned bytes text ys (open_of bytes l) (h.0, refl, h.1)))
-    (gives_one (λ l g e. (opened_block bytes l g e, ([], l, refl, e)))))
+    (gives_next {P = λ ts l. ClosedBlock bytes (closed_of bytes l) × Light 0 0 (kinds ts) (word.Block ∷ [])} (gives_give (λ ys l h. closed_turned bytes text ys (closed_of bytes l) (h.0, refl) h.1))
+    (gives_one (λ l g e. (closed_block bytes l g e, subst (λ r. Light 0 0 (r ∷ []) (word.Block ∷ [])) (sym e) (light_plain 0 word.Block (record { opens = refl; closes = refl; ends = refl }))))))
+    (gives_next {P = λ ts l. OpenedBlock bytes (open_of bytes l) × EndsOpen ts × Light 0 0 (kinds ts) (word.OpenBlock ∷ [])} (gives_give (λ ys l h. opened_turned bytes text ys (open_of bytes l) (h.0, refl, h.1) h.2))
+    (gives_one (λ l g e. (opened_block bytes l g e, ([], l, refl, e), subst (λ r. Light 0 0 (r ∷ []) (word.OpenBlock ∷ [])) (sym e) (light_plain 0 word.OpenBlock (record { opens = refl; closes = refl; ends = refl }))))))
 
 -- an item before its block
 abbrev BeforeBlock : List ℕ → (Span → Item) → List Piece → Type 0
@@ -344,6 +350,7 @@ block_item : (bytes text : List ℕ) (ts xs ys : List Lexeme) (h : Span → Item
 block_item bytes text ts xs ys h s p e a b =
     let is = a.is s in
     record {
+      light = subst (λ r. Light 0 0 (kinds ts) (marks r)) is (light_both 0 0 0 ts xs ys a.pieces (span_piece bytes s ∷ []) e a.light b.light);
       sounds = subst (λ r. Sounds r ⊎ (Ended r × EndsOpen ts)) is (block_sounds bytes ts xs ys a.pieces (span_piece bytes s) e a.prints.sounds b.sounds);
       levels = a.prints.levels;
       reads = λ d ls l z. both_read {P = SameBefore bytes text h} {Q = SameSpan bytes text s} (λ f x. f x) p (rule.block text) d ls (λ j w k m. k s w m)
@@ -363,13 +370,13 @@ module _ (bytes text : List ℕ) (d : ℕ) where
   copied n s b = (Copy (record { table = n; block = s }), b)
 
   way_copy : Turns (Meant bytes) bytes text d (give copy_of ⊛ place word.Copy ⊛ rule.name bytes) (give copy_of ⊛ place word.Copy ⊛ rule.name text) (BeforeBlock bytes) (SameBefore bytes text)
-  way_copy = turns_next (rule_name bytes text d) (turns_next (place_key (sound_key word.Copy)) (turns_give (λ n name s. refl) (λ n m u a b h s w k. same3 copied h k.0 k.1)))
+  way_copy = turns_next (rule_name bytes text d) (turns_next (place_key (plain_key word.Copy)) (turns_give (λ n name s. refl) (λ n m u a b h s w k. same3 copied h k.0 k.1)))
 
   abbrev journaled : Span → List ℕ → ItemKind × List ℕ
   journaled s b = (Journal s, b)
 
   way_journal : Turns (Meant bytes) bytes text d (give journal_of ⊛ place word.Journal) (give journal_of ⊛ place word.Journal) (BeforeBlock bytes) (SameBefore bytes text)
-  way_journal = turns_next (place_key (sound_key word.Journal)) (turns_give (λ n s. refl) (λ n m u s w k. same2 journaled k.0 k.1))
+  way_journal = turns_next (place_key (plain_key word.Journal)) (turns_give (λ n s. refl) (λ n m u s w k. same2 journaled k.0 k.1))
 
   way_item : (ts : List Lexeme) (i : Item) → Each (Meant bytes) ts → Is (inner bytes d) (rule.an_item bytes) ts i → ItemTurned bytes text (rule.an_item text) ts i
   unfolding rule.an_item rule.copy rule.journal
@@ -419,7 +426,8 @@ open_last : (us : List Lexeme) (l : Lexeme) (ys : List Lexeme) → LastOpen (us 
 open_last [] l ys h k = h.0 k
 open_last (u ∷ us) l ys h k = open_last us l ys h.1 k
 
-pub record ItemsTurned (bytes text : List ℕ) (vs : List Item) : Type 0 where
+pub record ItemsTurned (bytes text : List ℕ) (vs : List Item) (ts : List Lexeme) : Type 0 where
+  pub light : Light 0 0 (kinds ts) (marks (together (map (pieces_of bytes) vs)))
   pub sounds : Sounds (together (map (pieces_of bytes) vs)) ⊎ Ended (together (map (pieces_of bytes) vs))
   pub levels : ℕ
   pub reads : (d : ℕ) (ls : List Lexeme) → levels ≤ d → Spelled text ls (together (map (pieces_of bytes) vs))
@@ -455,14 +463,15 @@ items_sounds bytes ts xs ys ps vs e o (inr h) n k =
     let r : Ended (ps ++ []) = subst Ended (sym (append-nil ps)) h.0 in
     subst (λ z. Sounds (ps ++ together (map (pieces_of bytes) z)) ⊎ Ended (ps ++ together (map (pieces_of bytes) z))) (sym none) (inr r)
 
-items_turned : (bytes text : List ℕ) (d : ℕ) (vs : List Item) (ts : List Lexeme) → Each (Meant bytes) ts → LastOpen ts → Pieces (Is (inner bytes d) (rule.an_item bytes)) ts vs → ItemsTurned bytes text vs
-items_turned bytes text d [] ts g o i = record { sounds = inl tt; levels = 0; reads = λ e ls h s. ([], none_spelled text ls s, refl) }
+items_turned : (bytes text : List ℕ) (d : ℕ) (vs : List Item) (ts : List Lexeme) → Each (Meant bytes) ts → LastOpen ts → Pieces (Is (inner bytes d) (rule.an_item bytes)) ts vs → ItemsTurned bytes text vs ts
+items_turned bytes text d [] ts g o i = record { light = light_nothing 0 ts i; sounds = inl tt; levels = 0; reads = λ e ls h s. ([], none_spelled text ls s, refl) }
 items_turned bytes text d (v ∷ vs) ts g o i =
     let g' = each_apart (Meant bytes) i.0 i.1 (subst (Each (Meant bytes)) i.2 g) in
     let a = way_item bytes text d i.0 v g'.0 i.3 in
     let o' = open_behind i.0 i.1 (subst LastOpen i.2 o) in
     let b = items_turned bytes text d vs i.1 g'.1 o' i.4 in
     record {
+      light = light_both 0 0 0 ts i.0 i.1 (pieces_of bytes v) (together (map (pieces_of bytes) vs)) i.2 a.light b.light;
       sounds = items_sounds bytes ts i.0 i.1 (pieces_of bytes v) vs i.2 o a.sounds (λ e. no_items bytes d vs i.1 g'.1 i.4 e) b.sounds;
       levels = a.levels + b.levels;
       reads = λ e ls h s. (let m = a.levels in let n = b.levels in
@@ -470,7 +479,8 @@ items_turned bytes text d (v ∷ vs) ts g o i =
     }
 
 -- a script is read from its pieces
-pub record ScriptTurned (bytes text : List ℕ) (s : Script) : Type 0 where
+pub record ScriptTurned (bytes text : List ℕ) (ts : List Lexeme) (s : Script) : Type 0 where
+  pub light : Light 0 0 (kinds ts) (marks (script_pieces bytes s))
   pub sounds : Sounds (script_pieces bytes s) ⊎ Ended (script_pieces bytes s)
   pub levels : ℕ
   pub reads : (d : ℕ) (ls : List Lexeme) → levels ≤ d → Spelled text ls (script_pieces bytes s) → Reading text (rule.script text) (λ t. SameButPlaces bytes s text t) d ls
@@ -484,7 +494,7 @@ script_read bytes text d ls s r = (
   r.2 ∙ ap (map (placeless text)) (sym (joined_added [] r.0)),
 )
 
-pub script_turned : (bytes text : List ℕ) (d : ℕ) (ts : List Lexeme) (s : Script) → Each (Meant bytes) ts → LastOpen ts → Is (inner bytes d) (rule.script bytes) ts s → ScriptTurned bytes text s
+pub script_turned : (bytes text : List ℕ) (d : ℕ) (ts : List Lexeme) (s : Script) → Each (Meant bytes) ts → LastOpen ts → Is (inner bytes d) (rule.script bytes) ts s → ScriptTurned bytes text ts s
 unfolding rule.script
 script_turned bytes text d ts s g o i =
     let m = i.6 in
@@ -494,5 +504,5 @@ script_turned bytes text d ts s g o i =
     let list : i.3 ≡ m.3 = m.7 ∙ (joined_added m.2 m.3 ∙ ap (λ r. r ++ m.3) m.5.1) in
     let same : script_of m.3 ≡ s = ap script_of (sym list) ∙ (ap (λ f. f i.3) (sym i.5.1) ∙ sym i.7) in
     let a = items_turned bytes text d m.3 m.1 (subst (Each (Meant bytes)) all g) (subst LastOpen all o) m.6 in
-    let r : ScriptTurned bytes text (script_of m.3) = record { sounds = a.sounds; levels = a.levels; reads = λ e ls h z. script_read bytes text e ls (script_of m.3) (a.reads e ls h z) } in
-    subst (ScriptTurned bytes text) same r
+    let r : ScriptTurned bytes text ts (script_of m.3) = record { light = subst (λ z. Light 0 0 (kinds z) (marks (script_pieces bytes (script_of m.3)))) (sym all) a.light; sounds = a.sounds; levels = a.levels; reads = λ e ls h z. script_read bytes text e ls (script_of m.3) (a.reads e ls h z) } in
+    subst (ScriptTurned bytes text ts) same r

@@ -23,11 +23,12 @@ use Rattle.mv_ast.specs.Grammar as rule
 use Rattle.mv_ast.specs.Grammar.{inner, ◌⊛◌, ◌▸◌}
 use Rattle.mv_print.specs.Printing.{Piece, key, line_end, name_piece, name_pieces, variable_piece, variable_pieces, text_piece, whole_expr, conds_pieces, sorts_pieces, offset_pieces, agg_pieces, set_pieces, listed, query_pieces, else_lead, statement_step, statement_pieces, statements_pieces}
 use Rattle.mv_print.specs.Same.{placeless_name, placeless_expr, placeless_cond, placeless_sort, placeless_set, placeless_agg, placeless_statement, statement_step as placeless_step}
-use Rattle.mv_print.proofs.Building.{Prints, Turned, Turns, Each, each_apart, turns_give, turns_next, turns_either, turns_as, Reading, gives_next, gives_give, gives_one, prints_inl, prints_inr, prints_give}
+use Rattle.mv_print.proofs.Light.{kinds, Light, light_plain, light_drop, light_through}
+use Rattle.mv_print.proofs.Building.{marks, light_nothing, TurnsTo, TurnedTo, turns_then, turns_level, turns_deeper, turns_raised, Prints, Turned, Turns, Each, each_apart, turns_give, turns_next, turns_either, turns_as, Reading, gives_next, gives_give, gives_one, prints_inl, prints_inr, prints_give}
 use Rattle.mv_print.proofs.Sounding.{sound_key, sound_text}
 use Rattle.mv_print.proofs.Meaning.{Meant, meant_text}
 use Rattle.mv_print.proofs.Trees.{of_rows, of_select, of_branch, ending, if_ending}
-use Rattle.mv_print.proofs.Turning.{turns_then, skip, skip_end, behind_key, behind_keys, place_key, turns_parens, turns_many, turns_commas, turns_optional, turns_found}
+use Rattle.mv_print.proofs.Turning.{plain_key, skip_open, skip_close, skip_ends, place_open, skip, skip_end, behind_key, behind_keys, place_key, turns_parens, turns_many, turns_commas, turns_optional, turns_found}
 use Rattle.mv_print.proofs.Tokens.{prints_token, SameName, text_read}
 use Rattle.mv_print.proofs.Rules.{Rule, same2, same3, same4, same5, same6, rule_name, rule_variable, rule_expression, rule_conds, rule_sorts, rule_set, rule_agg}
 
@@ -114,7 +115,7 @@ module _ (bytes text : List ℕ) (d : ℕ) where
   way_assign : Statement (rule.assign bytes) (rule.assign text)
   unfolding rule.assign
   way_assign =
-      skip_end (turns_next (rule_expression bytes text d) (skip (sound_key word.Equal) (turns_next (rule_variable bytes text d) (turns_next (place_key (sound_key word.Set))
+      skip_end (turns_next (rule_expression bytes text d) (skip (plain_key word.Equal) (turns_next (rule_variable bytes text d) (turns_next (place_key (plain_key word.Set))
       (turns_give (λ n to e. sym (pieces_assign n to e)) (λ n m u to x h e f k. bare_assign n to e ∙ (same2 (tree.Assign 0) h k ∙ sym (bare_assign m x f))))))))
 
   -- a SELECT behind its first word
@@ -125,13 +126,13 @@ module _ (bytes text : List ℕ) (d : ℕ) where
   SameAfter h j = (n m : ℕ) → placeless_statement (h n) ≡ placeless_statement (j m)
 
   way_offset : Way (rule.optional (one word.Offset ▸ expression)) (rule.optional (one word.Offset ▸ expression)) offset_pieces (option_map placeless_expr)
-  way_offset = turns_optional (behind_key (sound_key word.Offset) (turns_as (λ e ps h. ap (λ r. key word.Offset ∷ r) h) (λ v w h. h) (rule_expression bytes text d))) refl
+  way_offset = turns_optional (behind_key (plain_key word.Offset) (turns_as (λ e ps h. ap (λ r. key word.Offset ∷ r) h) (λ v w h. h) (rule_expression bytes text d))) refl
 
   way_columns : Turns (Meant bytes) bytes text d (rule.select_columns bytes) (rule.select_columns text) AfterSelect SameAfter
   unfolding rule.select_columns
   way_columns =
-      skip_end (turns_next way_offset (turns_next (rule_sorts bytes text d) (turns_next (rule_conds bytes text d) (turns_next (rule_name bytes text d) (skip (sound_key word.From)
-      (turns_next {fq = listed variable_pieces} (turns_commas (rule_variable bytes text d) (λ v vs. refl)) (skip (sound_key word.Into)
+      skip_end (turns_next way_offset (turns_next (rule_sorts bytes text d) (turns_next (rule_conds bytes text d) (turns_next (rule_name bytes text d) (skip (plain_key word.From)
+      (turns_next {fq = listed variable_pieces} (turns_commas (rule_variable bytes text d) (λ v vs. refl)) (skip (plain_key word.Into)
       (turns_next {fq = listed name_pieces} (turns_commas (rule_name bytes text d) (λ v vs. refl))
       (turns_give (λ columns to table conds sorts offset n. simp append_assoc (sym (pieces_select n columns to table conds sorts offset)))
       (λ a a' h b b' i c c' j e e' k f f' l g g' m n n'. bare_select n a b c e f g ∙ (same6 (tree.Select 0) h i j k l m ∙ sym (bare_select n' a' b' c' e' f' g'))))))))))))
@@ -139,62 +140,62 @@ module _ (bytes text : List ℕ) (d : ℕ) where
   way_total : Turns (Meant bytes) bytes text d (rule.total bytes) (rule.total text) AfterSelect SameAfter
   unfolding rule.total
   way_total =
-      skip_end (turns_next (rule_conds bytes text d) (turns_next (rule_name bytes text d) (skip (sound_key word.From) (turns_next (rule_variable bytes text d) (skip (sound_key word.Into)
+      skip_end (turns_next (rule_conds bytes text d) (turns_next (rule_name bytes text d) (skip (plain_key word.From) (turns_next (rule_variable bytes text d) (skip (plain_key word.Into)
       (turns_next (rule_agg bytes text d)
       (turns_give (λ f to table conds n. simp append_assoc (sym (pieces_total n f to table conds)))
       (λ a a' h b b' i c c' j e e' k n n'. bare_total n a b c e ∙ (same4 (tree.Total 0) h i j k ∙ sym (bare_total n' a' b' c' e'))))))))))
 
   way_select : Statement (rule.select bytes) (rule.select text)
   unfolding rule.select
-  way_select = turns_then (turns_either way_columns way_total) (turns_next (place_key (sound_key word.Select))
+  way_select = turns_then (turns_either way_columns way_total) (turns_next (place_key (plain_key word.Select))
       (turns_give (λ n h qs k. k n) (λ n m u h j k. k n m)))
 
   way_insert : Statement (rule.insert bytes) (rule.insert text)
   unfolding rule.insert
   way_insert =
       skip_end (turns_next {fq = λ es. key word.Open ∷ (listed whole_expr es ++ key word.Close ∷ [])} (turns_parens (turns_commas (rule_expression bytes text d) (λ v vs. refl)))
-      (skip (sound_key word.Values) (turns_next (rule_name bytes text d) (skip (sound_key word.Into) (turns_next (place_key (sound_key word.Insert))
+      (skip (plain_key word.Values) (turns_next (rule_name bytes text d) (skip (plain_key word.Into) (turns_next (place_key (plain_key word.Insert))
       (turns_give (λ n table values. simp append_assoc (sym (pieces_insert n table values)))
       (λ n n' u a a' h b b' i. bare_insert n a b ∙ (same2 (tree.Insert 0) h i ∙ sym (bare_insert n' a' b')))))))))
 
   way_update : Statement (rule.update bytes) (rule.update text)
   unfolding rule.update
   way_update =
-      skip_end (turns_next (rule_conds bytes text d) (turns_next {fq = listed set_pieces} (turns_commas (rule_set bytes text d) (λ v vs. refl)) (skip (sound_key word.Set)
-      (turns_next (rule_name bytes text d) (turns_next (place_key (sound_key word.Update))
+      skip_end (turns_next (rule_conds bytes text d) (turns_next {fq = listed set_pieces} (turns_commas (rule_set bytes text d) (λ v vs. refl)) (skip (plain_key word.Set)
+      (turns_next (rule_name bytes text d) (turns_next (place_key (plain_key word.Update))
       (turns_give (λ n table items conds. simp append_assoc (sym (pieces_update n table items conds)))
       (λ n n' u a a' h b b' i c c' j. bare_update n a b c ∙ (same3 (tree.Update 0) h i j ∙ sym (bare_update n' a' b' c')))))))))
 
   way_delete : Statement (rule.delete bytes) (rule.delete text)
   unfolding rule.delete
   way_delete =
-      skip_end (turns_next (rule_conds bytes text d) (turns_next (rule_name bytes text d) (skip (sound_key word.From) (turns_next (place_key (sound_key word.Delete))
+      skip_end (turns_next (rule_conds bytes text d) (turns_next (rule_name bytes text d) (skip (plain_key word.From) (turns_next (place_key (plain_key word.Delete))
       (turns_give (λ n table conds. sym (pieces_delete n table conds))
       (λ n n' u a a' h b b' i. bare_delete n a b ∙ (same2 (tree.Delete 0) h i ∙ sym (bare_delete n' a' b'))))))))
 
   way_print : Statement (rule.print bytes) (rule.print text)
   unfolding rule.print
   way_print =
-      skip_end (turns_next {fq = listed whole_expr} (turns_commas (rule_expression bytes text d) (λ v vs. refl)) (turns_next (place_key (sound_key word.Print))
+      skip_end (turns_next {fq = listed whole_expr} (turns_commas (rule_expression bytes text d) (λ v vs. refl)) (turns_next (place_key (plain_key word.Print))
       (turns_give (λ n values. sym (pieces_print n values)) (λ n n' u a a' h. bare_print n a ∙ (ap (tree.Print 0) h ∙ sym (bare_print n' a'))))))
 
   way_text : Way (give (rule.text_of bytes) ⊛ one word.Quoted) (give (rule.text_of text) ⊛ one word.Quoted) (λ t. text_piece t ∷ []) (λ t. t)
-  way_text = turns_found {H = λ t. list_all is_printable t ≡ true} (gives_next (gives_give (λ ys l h. h)) (gives_one (λ l g e. meant_text l g e)))
+  way_text = turns_found {H = λ t. list_all is_printable t ≡ true} (gives_next (gives_give (λ ys l h. h)) (gives_one (λ l g e. (meant_text l g e, subst (λ r. Light 0 0 (r ∷ []) (word.Quoted ∷ [])) (sym e) (light_plain 0 word.Quoted (record { opens = refl; closes = refl; ends = refl }))))))
       (λ t h. prints_token (text_piece t) (sound_text t h) refl (λ l f. sym (text_read text t l f)))
 
   way_rollback : Statement (rule.rollback bytes) (rule.rollback text)
   unfolding rule.rollback
   way_rollback =
-      skip_end (turns_next way_text (turns_next (place_key (sound_key word.Rollback))
+      skip_end (turns_next way_text (turns_next (place_key (plain_key word.Rollback))
       (turns_give (λ n t. sym (pieces_rollback n t)) (λ n n' u a a' h. bare_rollback n a ∙ (ap (tree.Rollback 0) h ∙ sym (bare_rollback n' a'))))))
 
   -- with statements inside
   abbrev Inside : Type 0
   Inside = Statement statement statement
 
-  way_body : Inside → Way (rule.loop_body bytes) (rule.loop_body text) (λ body. key word.Do ∷ (statements_pieces body ++ ending)) (map placeless_statement)
+  way_body : Inside → TurnsTo 1 0 (Meant bytes) bytes text d (rule.loop_body bytes) (rule.loop_body text) (λ body ps. ps ≡ key word.Do ∷ (statements_pieces body ++ ending)) (λ v w. map placeless_statement v ≡ map placeless_statement w)
   unfolding rule.loop_body
-  way_body inside = skip_end (skip (sound_key word.For) (skip (sound_key word.End) (behind_key (sound_key word.Do) (turns_many inside (λ vs. simp append_assoc refl)))))
+  way_body inside = skip_end (skip_ends (sound_key word.For) (record { opens = refl; closes = refl; ends = refl }) (behind_key (plain_key word.Do) (turns_raised 1 (turns_many inside (λ vs. simp append_assoc refl)))))
 
   -- a loop behind its first words
   abbrev AfterFor : (ℕ → Name → Stmt) → List Piece → Type 0
@@ -204,31 +205,31 @@ module _ (bytes text : List ℕ) (d : ℕ) where
   SameFor h j = (n m : ℕ) (row x : Name) → SameName row x → placeless_statement (h n row) ≡ placeless_statement (j m x)
 
   abbrev Loop : Part (ℕ → Name → Stmt) → Part (ℕ → Name → Stmt) → Type 0
-  Loop p q = Turns (Meant bytes) bytes text d p q AfterFor SameFor
+  Loop p q = TurnsTo 1 0 (Meant bytes) bytes text d p q AfterFor SameFor
 
   way_rows : Inside → Loop (rule.for_rows bytes) (rule.for_rows text)
   unfolding rule.for_rows
-  way_rows inside = turns_next (way_body inside) (turns_next (rule_variable bytes text d)
+  way_rows inside = turns_deeper (way_body inside) (turns_next (rule_variable bytes text d)
       (turns_give (λ rows body n row. sym (of_rows n row rows body))
       (λ a a' h b b' i n n' row x j. bare_for_rows n row a b ∙ (same3 (tree.ForRows 0) j h i ∙ sym (bare_for_rows n' x a' b')))))
 
   abbrev OfSelect : (ℕ → Name → Stmt) → List Piece → Type 0
   OfSelect h ps = AfterFor h (key word.Select ∷ ps)
 
-  way_plain : Inside → Turns (Meant bytes) bytes text d (rule.for_plain bytes) (rule.for_plain text) OfSelect SameFor
+  way_plain : Inside → TurnsTo 1 0 (Meant bytes) bytes text d (rule.for_plain bytes) (rule.for_plain text) OfSelect SameFor
   unfolding rule.for_plain
   way_plain inside =
-      turns_next (way_body inside) (turns_next (rule_sorts bytes text d) (turns_next (rule_conds bytes text d) (turns_next (rule_name bytes text d) (skip (sound_key word.From)
+      turns_deeper (way_body inside) (turns_next (rule_sorts bytes text d) (turns_next (rule_conds bytes text d) (turns_next (rule_name bytes text d) (skip (plain_key word.From)
       (turns_next {fq = listed name_pieces} (turns_commas (rule_name bytes text d) (λ v vs. refl))
       (turns_give (λ columns table conds sorts body n row. simp append_assoc (sym (simp append_assoc at of_select n row false columns table conds sorts body)))
       (λ a a' h b b' i c c' j e e' k f f' l n n' row x m.
       bare_for_select n row false a b c e f ∙ (same6 (λ r. tree.ForSelect 0 r false) m h i j k l ∙ sym (bare_for_select n' x false a' b' c' e' f')))))))))
 
-  way_distinct : Inside → Turns (Meant bytes) bytes text d (rule.for_distinct bytes) (rule.for_distinct text) OfSelect SameFor
+  way_distinct : Inside → TurnsTo 1 0 (Meant bytes) bytes text d (rule.for_distinct bytes) (rule.for_distinct text) OfSelect SameFor
   unfolding rule.for_distinct
   way_distinct inside =
-      turns_next (way_body inside) (turns_next (rule_conds bytes text d) (turns_next (rule_name bytes text d) (skip (sound_key word.From)
-      (turns_next {fq = listed name_pieces} (turns_commas (rule_name bytes text d) (λ v vs. refl)) (skip (sound_key word.Distinct)
+      turns_deeper (way_body inside) (turns_next (rule_conds bytes text d) (turns_next (rule_name bytes text d) (skip (plain_key word.From)
+      (turns_next {fq = listed name_pieces} (turns_commas (rule_name bytes text d) (λ v vs. refl)) (skip (plain_key word.Distinct)
       (turns_give (λ columns table conds body n row. simp append_assoc (sym (simp append_assoc at of_select n row true columns table conds [] body)))
       (λ a a' h b b' i c c' j f f' l n n' row x m.
       bare_for_select n row true a b c [] f ∙ (same5 (λ r s t u. tree.ForSelect 0 r true s t u []) m h i j l ∙ sym (bare_for_select n' x true a' b' c' [] f')))))))))
@@ -236,8 +237,8 @@ module _ (bytes text : List ℕ) (d : ℕ) where
   way_for : Inside → Statement (rule.for_each bytes) (rule.for_each text)
   unfolding rule.for_each
   way_for inside =
-      turns_then (turns_either (behind_key (sound_key word.Select) (turns_either (way_distinct inside) (way_plain inside))) (way_rows inside))
-      (skip (sound_key word.In) (turns_next (rule_variable bytes text d) (turns_next (place_key (sound_key word.For))
+      turns_level (turns_either (behind_key (plain_key word.Select) (turns_either (way_distinct inside) (way_plain inside))) (way_rows inside))
+      (skip (plain_key word.In) (turns_next (rule_variable bytes text d) (turns_deeper (place_open (sound_key word.For) (record { opens = refl; ends = refl }))
       (turns_give (λ n row h qs k. k n row) (λ n m u row x s h j k. k n m row x s)))))
 
   -- an ELSE with no statements isn't printed
@@ -247,28 +248,33 @@ module _ (bytes text : List ℕ) (d : ℕ) where
   otherwise_turned : (ts : List Lexeme) (ns : List Stmt) → Turned text (one word.Else ▸ rule.many statement) (λ ps. ps ≡ key word.Else ∷ statements_pieces ns) (λ w. map placeless_statement ns ≡ map placeless_statement w) ts
       → Turned text (rule.otherwise text) (λ ps. ps ≡ else_pieces ns) (λ w. map placeless_statement ns ≡ map placeless_statement w) ts
   unfolding rule.otherwise
-  otherwise_turned ts [] x = record { pieces = []; is = refl; prints = prints_inr (prints_give [] refl) }
-  otherwise_turned ts (n ∷ ns) x = record { pieces = x.pieces; is = x.is; prints = prints_inl x.prints }
+  otherwise_turned ts [] x = record {
+    pieces = [];
+    is = refl;
+    prints = prints_inr (prints_give [] refl);
+    light = light_through 0 0 (kinds ts) (word.Else ∷ []) [] (subst (λ r. Light 0 0 (kinds ts) (marks r)) x.is x.light) (light_drop 0 word.Else (record { opens = refl; closes = refl; ends = refl }) refl);
+  }
+  otherwise_turned ts (n ∷ ns) x = record { pieces = x.pieces; is = x.is; prints = prints_inl x.prints; light = x.light }
 
   way_else : Inside → Way (one word.Else ▸ rule.many statement) (one word.Else ▸ rule.many statement) (λ ns. key word.Else ∷ statements_pieces ns) (map placeless_statement)
-  way_else inside = behind_key (sound_key word.Else) (turns_many inside (λ vs. refl))
+  way_else inside = behind_key (plain_key word.Else) (turns_many inside (λ vs. refl))
 
   way_otherwise : Inside → Way (rule.otherwise bytes) (rule.otherwise text) else_pieces (map placeless_statement)
   unfolding rule.otherwise
   way_otherwise inside = record {
     turn = λ ts v g i. elim i as (λ j. Turned text (rule.otherwise text) (λ ps. ps ≡ else_pieces v) (λ w. map placeless_statement v ≡ map placeless_statement w) ts) [
       | inl h ↦ otherwise_turned ts v ((way_else inside).turn ts v g h)
-      | inr h ↦ subst (λ r. Turned text (rule.otherwise text) (λ ps. ps ≡ else_pieces r) (λ w. map placeless_statement r ≡ map placeless_statement w) ts) (sym h.1) (record { pieces = []; is = refl; prints = prints_inr (prints_give [] refl) })
+      | inr h ↦ subst (λ r. Turned text (rule.otherwise text) (λ ps. ps ≡ else_pieces r) (λ w. map placeless_statement r ≡ map placeless_statement w) ts) (sym h.1) (record { pieces = []; is = refl; prints = prints_inr (prints_give [] refl); light = light_nothing 0 ts h.0 })
     ];
   }
 
   way_branch : Inside → Statement (rule.branch bytes) (rule.branch text)
   unfolding rule.branch
   way_branch inside =
-      skip_end (skip (sound_key word.If) (skip (sound_key word.End) (turns_next (way_otherwise inside) (turns_next {fq = statements_pieces} (turns_many inside (λ vs. refl)) (skip (sound_key word.Then)
-      (turns_next (rule_expression bytes text d) (turns_next (place_key (sound_key word.If))
+      skip_end (skip_ends (sound_key word.If) (record { opens = refl; closes = refl; ends = refl }) (turns_next (way_otherwise inside) (turns_next {fq = statements_pieces} (turns_many inside (λ vs. refl)) (skip (plain_key word.Then)
+      (turns_next (rule_expression bytes text d) (turns_deeper (place_open (sound_key word.If) (record { opens = refl; ends = refl }))
       (turns_give (λ n test ys ns. regroup (whole_expr test) (statements_pieces ys) (else_lead ns) (statements_pieces ns) (key word.If) (key word.Then) (key word.End) (key word.If) line_end ∙ sym (of_branch n test ys ns))
-      (λ n n' u a a' h b b' i c c' j. bare_branch n a b c ∙ (same3 (tree.Branch 0) h i j ∙ sym (bare_branch n' a' b' c')))))))))))
+      (λ n n' u a a' h b b' i c c' j. bare_branch n a b c ∙ (same3 (tree.Branch 0) h i j ∙ sym (bare_branch n' a' b' c'))))))))))
 
   way_stmt : Inside → Statement (rule.stmt bytes) (rule.stmt text)
   unfolding rule.stmt
@@ -289,5 +295,5 @@ pub way_inside : (bytes text : List ℕ) (d : ℕ) → Inside bytes text d
 unfolding inner
 way_inside bytes text zero = record { turn = λ ts v g i. absurd i }
 way_inside bytes text (suc d) = record {
-  turn = λ ts v g i. (let a = (way_stmt bytes text d (way_inside bytes text d)).turn ts v g i in record { pieces = a.pieces; is = a.is; prints = prints_statement a.prints });
+  turn = λ ts v g i. (let a = (way_stmt bytes text d (way_inside bytes text d)).turn ts v g i in record { pieces = a.pieces; is = a.is; prints = prints_statement a.prints; light = a.light });
 }

@@ -3,7 +3,7 @@
 ghost use Rattle.std.specs.Prelude.{◌≡◌, List as Seq, IfOk};
 ghost use Rattle.mv_lex.specs.declared.token.Token.{Token};
 ghost use Rattle.mv_lex.specs.Tokens.{AreTokens};
-ghost use Rattle.mv_ast.specs.Lexemes.{IsByGrammar};
+ghost use Rattle.mv_ast.specs.Lexemes.{IsScript};
 ghost use Rattle.mv_print.specs.Back.{ReadsBack};
 ghost use Rattle.mv_print.specs.Printing.{printed};
 
@@ -20,7 +20,7 @@ pub fn print_script(alloc: Global, script: &Script, bytes: &[u8]) -> Result<List
     // The text is that of the script's pieces.
     ensures text { IfOk result (λ text. text ≡ printed bytes.now script.now) }
     // The print of a script that these bytes are is read back as the same script but for places.
-    ensures read_back { (tokens : Seq Token) → AreTokens bytes.now tokens → IsByGrammar bytes.now tokens script.now → IfOk result (λ text. ReadsBack bytes.now script.now text) }
+    ensures read_back { (tokens : Seq Token) → AreTokens bytes.now tokens → IsScript bytes.now tokens script.now → IfOk result (λ text. ReadsBack bytes.now script.now text) }
 {
     write_script(alloc, script, bytes)
 }
