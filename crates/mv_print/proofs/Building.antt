@@ -244,8 +244,8 @@ turns_ends {m = m} {n = n} {G = G} {text = text} {t = t} {K = K} {R = R} {p' = p
       let a = z.turn j.0 j.2 h'.0 j.5 in
       let all : ts ≡ j.0 ++ (j.3 ∷ i.3 ∷ []) = i.4 ∙ (ap (λ r. r ++ i.1) (j.4 ∙ ap (λ r. j.0 ++ r) j.6.0) ∙ (ap (λ r. (j.0 ++ j.3 ∷ []) ++ r) i.6.0 ∙ append_assoc j.0 (j.3 ∷ []) (i.3 ∷ []))) in
       let two : Light (suc n) n (j.3.kind ∷ i.3.kind ∷ []) (w.kind ∷ x.kind ∷ []) =
-          subst (λ r. Light (suc n) n (r ∷ i.3.kind ∷ []) (w.kind ∷ x.kind ∷ [])) (sym j.6.1) (subst (λ r. Light (suc n) n (word.End ∷ r ∷ []) (w.kind ∷ x.kind ∷ [])) (sym i.6.1)
-          (subst (λ r. Light (suc n) n (word.End ∷ t ∷ []) (r ∷ x.kind ∷ [])) (sym f) (subst (λ r. Light (suc n) n (word.End ∷ t ∷ []) (word.End ∷ r ∷ [])) (sym e) (light_ends n t l)))) in
+      subst (λ r. Light (suc n) n (r ∷ i.3.kind ∷ []) (w.kind ∷ x.kind ∷ [])) (sym j.6.1) (subst (λ r. Light (suc n) n (word.End ∷ r ∷ []) (w.kind ∷ x.kind ∷ [])) (sym i.6.1)
+      (subst (λ r. Light (suc n) n (word.End ∷ t ∷ []) (r ∷ x.kind ∷ [])) (sym f) (subst (λ r. Light (suc n) n (word.End ∷ t ∷ []) (word.End ∷ r ∷ [])) (sym e) (light_ends n t l)))) in
       let r : TurnedTo m n text (p' ◂ one word.End ◂ one t) (K j.2) (R j.2) ts = record {
         pieces = (a.pieces ++ w ∷ []) ++ x ∷ [];
         is = a.is;

@@ -460,9 +460,11 @@ module _ (bytes text : List ℕ) (d : ℕ) where
   unfolding text_of_call
   found_textof inside =
       gives_next {P = λ ts e. Printable text e × Light 0 0 (kinds ts) (marks (key word.Open ∷ (expr_pieces e 0 ++ key word.Close ∷ [])))}
-      (gives_next {P = λ ts n. OnlyPlain ts word.TextOf} (gives_give (λ xs n h ys e k. (printable_one n TextOf e k.0,
+      (gives_next {P = λ ts n. OnlyPlain ts word.TextOf} (gives_give (λ xs n h ys e k. (
+        printable_one n TextOf e k.0,
         lit_leaf (xs ++ ys) (prefixed TextOf n e) (key word.TextOf ∷ key word.Open ∷ (expr_pieces e 0 ++ key word.Close ∷ [])) (λ m. one_at n TextOf e m _ (ap (λ f. f m) (of_one TextOf e)))
-        (light_both 0 0 0 (xs ++ ys) xs ys (key word.TextOf ∷ []) (key word.Open ∷ (expr_pieces e 0 ++ key word.Close ∷ [])) refl h k.1))))
+            (light_both 0 0 0 (xs ++ ys) xs ys (key word.TextOf ∷ []) (key word.Open ∷ (expr_pieces e 0 ++ key word.Close ∷ [])) refl h k.1),
+      )))
       (gives_next (gives_give (λ ys l h. h)) (gives_one (λ l g e. only word.TextOf l (record { opens = refl; closes = refl; ends = refl }) e))))
       (found_argument inside)
 
@@ -489,7 +491,7 @@ module _ (bytes text : List ℕ) (d : ℕ) where
       let lead = (key t ∷ key word.Open ∷ expr_pieces h.1 0) ++ key word.Comma ∷ [] in
       let ps = lead ++ expr_pieces h.2 0 in
       let regroup : ps ++ key word.Close ∷ [] ≡ call_core t h.1 h.2 =
-        append_assoc lead (expr_pieces h.2 0) (key word.Close ∷ []) ∙ append_assoc (key t ∷ key word.Open ∷ expr_pieces h.1 0) (key word.Comma ∷ []) (expr_pieces h.2 0 ++ key word.Close ∷ []) in
+      append_assoc lead (expr_pieces h.2 0) (key word.Close ∷ []) ∙ append_assoc (key t ∷ key word.Open ∷ expr_pieces h.1 0) (key word.Comma ∷ []) (expr_pieces h.2 0 ++ key word.Close ∷ []) in
       let l0 = light_both 0 1 0 (xs ++ ys) xs ys ps (key word.Close ∷ []) refl h.6 (light_token 1 0 word.Close ys l (key word.Close) k.0 k.1 refl (light_close 0)) in
       let l1 : Light 0 0 (kinds (xs ++ ys)) (marks (call_core t h.1 h.2)) = subst (λ r. Light 0 0 (kinds (xs ++ ys)) (marks r)) regroup l0 in
       subst (λ r. Printable text r × Lit 7 (xs ++ ys) r) (sym h.3) (printable_two h.0 o h.1 h.2 h.4 h.5, lit_leaf (xs ++ ys) (called o h.0 h.1 h.2) (call_core t h.1 h.2) (λ m. same h.0 h.1 h.2 m) l1)
@@ -507,11 +509,24 @@ module _ (bytes text : List ℕ) (d : ℕ) where
       inside
       (λ xs ys f a h k. (h.0, a, ap (λ r. r a) h.1, k.0, light_both 0 1 1 (xs ++ ys) xs ys (key t ∷ key word.Open ∷ []) (expr_pieces a 0) refl h.2 (light_raised 1 (kinds ys) (marks (expr_pieces a 0)) (k.1 0 (omega arith))))))
       (gives_one (λ l g e. (refl, e)))
-      (λ xs ys f l h k. (h.0, h.1, h.2, h.3, light_both 0 1 1 (xs ++ ys) xs ys (key t ∷ key word.Open ∷ expr_pieces h.1 0) (key word.Comma ∷ []) refl h.4
-        (light_token 1 1 word.Comma ys l (key word.Comma) k.0 k.1 refl (light_plain 1 word.Comma (record { opens = refl; closes = refl; ends = refl }))))))
+      (λ xs ys f l h k. (
+        h.0,
+        h.1,
+        h.2,
+        h.3,
+        light_both 0 1 1 (xs ++ ys) xs ys (key t ∷ key word.Open ∷ expr_pieces h.1 0) (key word.Comma ∷ []) refl h.4
+            (light_token 1 1 word.Comma ys l (key word.Comma) k.0 k.1 refl (light_plain 1 word.Comma (record { opens = refl; closes = refl; ends = refl }))),
+      )))
       inside
-      (λ xs ys f b h k. (h.0, h.1, b, ap (λ r. r b) h.2, h.3, k.0,
-        light_both 0 1 1 (xs ++ ys) xs ys ((key t ∷ key word.Open ∷ expr_pieces h.1 0) ++ key word.Comma ∷ []) (expr_pieces b 0) refl h.4 (light_raised 1 (kinds ys) (marks (expr_pieces b 0)) (k.1 0 (omega arith))))))
+      (λ xs ys f b h k. (
+        h.0,
+        h.1,
+        b,
+        ap (λ r. r b) h.2,
+        h.3,
+        k.0,
+        light_both 0 1 1 (xs ++ ys) xs ys ((key t ∷ key word.Open ∷ expr_pieces h.1 0) ++ key word.Comma ∷ []) (expr_pieces b 0) refl h.4 (light_raised 1 (kinds ys) (marks (expr_pieces b 0)) (k.1 0 (omega arith))),
+      )))
       (gives_one (λ l g e. (refl, e)))
       (λ xs ys e l h k. call_end o t xs ys e l same h k)
 
@@ -529,8 +544,10 @@ module _ (bytes text : List ℕ) (d : ℕ) where
       (gives_both {P = λ ts l. OnlyPlain ts word.Dot} (gives_one (λ l g e. only word.Dot l (record { opens = refl; closes = refl; ends = refl }) e)) found_name
       (λ xs ys a n h k. (k.0, light_both 0 0 0 (xs ++ ys) xs ys (key word.Dot ∷ []) (name_piece n ∷ []) refl h k.1))))
       (gives_give (light_none 0))))
-      (gives_either (gives_next (gives_give (λ ys n h. (printable_column n.token n h.0,
-        lit_leaf ys (leaf n.token (Col n)) (name_piece n ∷ []) (λ m. ap (λ f. f m) (of_kind (leaf n.token (Col n)) (Col n) refl) ∙ of_col n m) h.1))) found_name)
+      (gives_either (gives_next (gives_give (λ ys n h. (
+        printable_column n.token n h.0,
+        lit_leaf ys (leaf n.token (Col n)) (name_piece n ∷ []) (λ m. ap (λ f. f m) (of_kind (leaf n.token (Col n)) (Col n) refl) ∙ of_col n m) h.1,
+      ))) found_name)
       (gives_either (found_parens inside)
       (gives_either (found_call inside Left word.Left (record { opens = refl; closes = refl; ends = refl }) (λ n a b m. two_at n Left a b m))
       (gives_either (found_textof inside)

@@ -142,8 +142,8 @@ light_ends n t p b k r s u h =
     let l = u.shorter in
     let more = longer_less (is_stop t) (r.stretch + 1) (s.stretch + 1) (omega arith) in
     let v : Under (b + n) k (step t (step word.End r)) (step t (step word.End s)) = subst (λ z. Under (b + n) k z (step t (step word.End s))) (sym (behind_step t p r))
-        (subst (λ z. Under (b + n) k (record { depth = r.depth - 1; stretch = longer (is_stop t) (r.stretch + 1); behind = false }) z) (sym (behind_step t p s))
-        (record { least_deep = omega arith; within = omega arith; shorter = more; first = refl; second = refl })) in
+    (subst (λ z. Under (b + n) k (record { depth = r.depth - 1; stretch = longer (is_stop t) (r.stretch + 1); behind = false }) z) (sym (behind_step t p s))
+    (record { least_deep = omega arith; within = omega arith; shorter = more; first = refl; second = refl })) in
     let w' = v.within in
     let l' = v.shorter in
     let d = h.0 in

@@ -145,8 +145,10 @@ module _ (bytes text : List ℕ) (d : ℕ) where
   found_literal : Gives (Meant bytes) bytes d (rule.literal bytes) (λ ts l. IsLiteral l.value × LitLight ts l.value)
   unfolding rule.literal
   found_literal =
-      gives_either (gives_next (gives_next (gives_give (λ xs m h ys l k. (negated_literal (number_of bytes l) (omega arith),
-        lit_of (xs ++ ys) (word.Minus ∷ word.Number ∷ []) (value.Int (pos 0 -ℤ pos (number_of bytes l))) (map-append (λ (l : Lexeme). l.kind) xs ys ∙ (ap (λ r. r ++ kinds ys) h ∙ ap (λ r. word.Minus ∷ r) k)) (negated_light (number_of bytes l)))))
+      gives_either (gives_next (gives_next (gives_give (λ xs m h ys l k. (
+        negated_literal (number_of bytes l) (omega arith),
+        lit_of (xs ++ ys) (word.Minus ∷ word.Number ∷ []) (value.Int (pos 0 -ℤ pos (number_of bytes l))) (map-append (λ (l : Lexeme). l.kind) xs ys ∙ (ap (λ r. r ++ kinds ys) h ∙ ap (λ r. word.Minus ∷ r) k)) (negated_light (number_of bytes l)),
+      )))
       (one_kind word.Minus)) (one_kind word.Number))
       (gives_either (gives_next (gives_give (λ ys l k. (omega arith, lit_of ys (word.Number ∷ []) (value.Int (pos (number_of bytes l))) k (light_plain 0 word.Number (record { opens = refl; closes = refl; ends = refl }))))) (one_kind word.Number))
       (gives_next {P = λ ts l. (list_all is_printable (text_of bytes l) ≡ true) × Kinds ts (word.Quoted ∷ [])}

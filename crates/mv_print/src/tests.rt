@@ -30,28 +30,36 @@ fn are_printable(bytes: &[u8]) -> bool
     bytes.iter().all(|byte| is_printable(*byte))
 }
 
-/// The text of bytes that can be printed, and else of none.
-fn text(alloc: Global, bytes: &[u8]) -> Result<Txt, Fail> {
-    if are_printable(bytes) {
-        Ok(Txt::of(alloc, bytes)?)
-    } else {
-        Ok(Txt::new(alloc))
+/// The text of bytes that can be printed, and else, or with no memory, of none.
+fn text(alloc: Global, bytes: &[u8]) -> Txt {
+    if !are_printable(bytes) {
+        return Txt::new(alloc);
+    }
+    match Txt::of(alloc, bytes) {
+        Ok(text) => text,
+        Err(_) => Txt::new(alloc),
     }
 }
 
-fn name(alloc: Global, bytes: &[u8]) -> Result<Name, Fail> {
-    Ok(Name {
-        text: text(alloc, bytes)?,
+fn name(alloc: Global, bytes: &[u8]) -> Name {
+    Name {
+        text: text(alloc, bytes),
         token: 0,
-    })
+    }
 }
 
-fn names(alloc: Global, all: &[&[u8]]) -> Result<List<Name>, Fail> {
+/// A list of one item, or of none with no memory.
+fn single<T: Drop>(alloc: Global, item: T) -> List<T> {
     let mut list = List::new(alloc);
-    for bytes in all {
-        list.push(name(alloc, bytes)?)?;
-    }
-    Ok(list)
+    let _kept = list.push(item);
+    list
+}
+
+/// A list of two items, or of fewer with no memory.
+fn pair<T: Drop>(alloc: Global, first: T, second: T) -> List<T> {
+    let mut list = single(alloc, first);
+    let _kept = list.push(second);
+    list
 }
 
 fn expr(kind: ExprKind) -> Expr {
@@ -62,351 +70,204 @@ fn number(value: i64) -> Expr {
     expr(ExprKind::Const(Value::Int(value)))
 }
 
-fn one(alloc: Global, op: OneOp, operand: Expr) -> Result<Expr, Fail> {
-    Ok(expr(ExprKind::One(op, Boxed::new(alloc, operand)?)))
-}
-
-fn two(alloc: Global, op: TwoOp, left: Expr, right: Expr) -> Result<Expr, Fail> {
-    let left = Boxed::new(alloc, left)?;
-    let right = Boxed::new(alloc, right)?;
-    Ok(expr(ExprKind::Two(op, left, right)))
-}
-
-/// Two operators, the first of which is the right operand of the second, or else its left one.
-fn nested(alloc: Global, inner: TwoOp, outer: TwoOp, on_right: bool) -> Result<Expr, Fail> {
-    let pair = two(alloc, inner, number(1), number(2))?;
-    if on_right {
-        two(alloc, outer, number(3), pair)
-    } else {
-        two(alloc, outer, pair, number(3))
+fn one(alloc: Global, op: OneOp, operand: Expr) -> Expr {
+    match Boxed::new(alloc, operand) {
+        Ok(operand) => expr(ExprKind::One(op, operand)),
+        Err(_) => number(0),
     }
 }
 
-/// A sign or NOT before an operator, or else before its left operand.
-fn prefixed(alloc: Global, prefix: OneOp, op: TwoOp, whole: bool) -> Result<Expr, Fail> {
-    if whole {
-        let pair = two(alloc, op, number(1), number(2))?;
-        one(alloc, prefix, pair)
-    } else {
-        let left = one(alloc, prefix, number(1))?;
-        two(alloc, op, left, number(2))
+fn two(alloc: Global, op: TwoOp, left: Expr, right: Expr) -> Expr {
+    match (Boxed::new(alloc, left), Boxed::new(alloc, right)) {
+        (Ok(left), Ok(right)) => expr(ExprKind::Two(op, left, right)),
+        _ => number(0),
     }
+}
+
+/// An operator of 1 and 2.
+fn ones(alloc: Global, op: TwoOp) -> Expr {
+    two(alloc, op, number(1), number(2))
+}
+
+/// An operator as the left operand of another.
+fn left(alloc: Global, inner: TwoOp, outer: TwoOp) -> Expr {
+    two(alloc, outer, ones(alloc, inner), number(3))
+}
+
+/// An operator as the right operand of another.
+fn right(alloc: Global, inner: TwoOp, outer: TwoOp) -> Expr {
+    two(alloc, outer, number(3), ones(alloc, inner))
 }
 
 /// The script of one item.
-fn script_of(alloc: Global, kind: ItemKind) -> Result<Script, Fail> {
-    let mut items = List::new(alloc);
-    items.push(Item { token: 1, kind })?;
-    Ok(Script { items })
+fn script_of(alloc: Global, kind: ItemKind) -> Script {
+    Script {
+        items: single(alloc, Item { token: 1, kind }),
+    }
 }
 
 /// A procedure of one statement.
-fn procedure_of(alloc: Global, statement: Stmt) -> Result<Script, Fail> {
-    let mut body = List::new(alloc);
-    body.push(statement)?;
+fn procedure_of(alloc: Global, statement: Stmt) -> Script {
     script_of(
         alloc,
         ItemKind::Proc(ProcDef {
-            name: name(alloc, b"p")?,
+            name: name(alloc, b"p"),
             params: List::new(alloc),
             vars: List::new(alloc),
-            body,
+            body: single(alloc, statement),
         }),
     )
+}
+
+/// Whether a script whose blocks stand in the bytes is printed so.
+fn is_printed(alloc: Global, script: &Script, bytes: &[u8], want: &[u8]) -> bool {
+    match print_script(alloc, script, bytes) {
+        Ok(text) => text.as_slice() == want,
+        Err(_) => false,
+    }
 }
 
 #[test]
 fn expressions(rt: HostRuntime) -> Result<(), Fail> {
     let alloc = rt.alloc();
-    let minus_minus = one(alloc, OneOp::Neg, one(alloc, OneOp::Neg, number(1))?)?;
     for (value, want) in [
+        (left(alloc, TwoOp::Add, TwoOp::Mul), "( 1 + 2 ) * 3"),
+        (right(alloc, TwoOp::Mul, TwoOp::Add), "3 + 1 * 2"),
+        (left(alloc, TwoOp::Sub, TwoOp::Sub), "1 - 2 - 3"),
+        (right(alloc, TwoOp::Sub, TwoOp::Join), "3 || ( 1 - 2 )"),
+        (right(alloc, TwoOp::Or, TwoOp::Or), "3 or ( 1 or 2 )"),
+        (left(alloc, TwoOp::Or, TwoOp::And), "( 1 or 2 ) and 3"),
         (
-            nested(alloc, TwoOp::Add, TwoOp::Mul, false)?,
-            "( 1 + 2 ) * 3",
-        ),
-        (nested(alloc, TwoOp::Mul, TwoOp::Add, false)?, "1 * 2 + 3"),
-        (nested(alloc, TwoOp::Mul, TwoOp::Add, true)?, "3 + 1 * 2"),
-        (nested(alloc, TwoOp::Sub, TwoOp::Sub, false)?, "1 - 2 - 3"),
-        (
-            nested(alloc, TwoOp::Sub, TwoOp::Join, true)?,
-            "3 || ( 1 - 2 )",
-        ),
-        (
-            nested(alloc, TwoOp::Div, TwoOp::Rem, true)?,
-            "3 % ( 1 / 2 )",
-        ),
-        (
-            nested(alloc, TwoOp::Or, TwoOp::And, false)?,
-            "( 1 or 2 ) and 3",
-        ),
-        (nested(alloc, TwoOp::And, TwoOp::Or, true)?, "3 or 1 and 2"),
-        (
-            nested(alloc, TwoOp::Or, TwoOp::Or, true)?,
-            "3 or ( 1 or 2 )",
-        ),
-        (nested(alloc, TwoOp::Or, TwoOp::Or, false)?, "1 or 2 or 3"),
-        (
-            nested(alloc, TwoOp::Compare(Op::Lt), TwoOp::Compare(Op::Eq), false)?,
+            left(alloc, TwoOp::Compare(Op::Lt), TwoOp::Compare(Op::Eq)),
             "( 1 < 2 ) = 3",
         ),
+        (right(alloc, TwoOp::Or, TwoOp::Left), "left ( 3 , 1 or 2 )"),
         (
-            nested(alloc, TwoOp::Compare(Op::Ge), TwoOp::And, true)?,
-            "3 and 1 >= 2",
-        ),
-        (
-            nested(alloc, TwoOp::Or, TwoOp::Left, true)?,
-            "left ( 3 , 1 or 2 )",
-        ),
-        (
-            nested(alloc, TwoOp::Contains, TwoOp::Mul, false)?,
-            "contains ( 1 , 2 ) * 3",
-        ),
-        (
-            prefixed(alloc, OneOp::Neg, TwoOp::Mul, true)?,
+            one(alloc, OneOp::Neg, ones(alloc, TwoOp::Mul)),
             "- ( 1 * 2 )",
         ),
-        (prefixed(alloc, OneOp::Neg, TwoOp::Mul, false)?, "- 1 * 2"),
         (
-            prefixed(alloc, OneOp::Not, TwoOp::Compare(Op::Ne), true)?,
+            one(alloc, OneOp::Not, ones(alloc, TwoOp::Compare(Op::Ne))),
             "not 1 <> 2",
         ),
         (
-            prefixed(alloc, OneOp::Not, TwoOp::Compare(Op::Le), false)?,
-            "( not 1 ) <= 2",
-        ),
-        (
-            prefixed(alloc, OneOp::Not, TwoOp::And, true)?,
-            "not ( 1 and 2 )",
-        ),
-        (
-            prefixed(alloc, OneOp::Not, TwoOp::And, false)?,
-            "not 1 and 2",
-        ),
-        (
-            prefixed(alloc, OneOp::TextOf, TwoOp::Or, true)?,
-            "textof ( 1 or 2 )",
-        ),
-        (minus_minus, "- - 1"),
-        (
-            expr(ExprKind::Const(Value::Text(text(alloc, b"it's")?))),
+            expr(ExprKind::Const(Value::Text(text(alloc, b"it's")))),
             "'it''s'",
         ),
         (
-            expr(ExprKind::Field(name(alloc, b"r")?, name(alloc, b"c")?)),
+            expr(ExprKind::Field(name(alloc, b"r"), name(alloc, b"c"))),
             ":r . c",
         ),
-        (expr(ExprKind::Col(name(alloc, b"c")?)), "c"),
     ] {
-        let mut values = List::new(alloc);
-        values.push(value)?;
-        let script = procedure_of(alloc, Stmt::Print { token: 0, values })?;
-        let printed = print_script(alloc, &script, b"")?;
+        let values = single(alloc, value);
+        let script = procedure_of(alloc, Stmt::Print { token: 0, values });
         let whole = format!(in alloc; "create procedure p ( ) begin print {want} ;\nend ;\n")?;
-        assert!(rt; printed.as_slice() == whole.as_bytes());
+        assert!(rt; is_printed(alloc, &script, b"", whole.as_bytes()));
     }
     Ok(())
 }
 
-/// A list of one item.
-fn single<T: Drop>(alloc: Global, item: T) -> Result<List<T>, Fail> {
-    let mut list = List::new(alloc);
-    list.push(item).or(Err("no memory"))?;
-    Ok(list)
+fn conds(alloc: Global) -> List<Cond> {
+    single(
+        alloc,
+        Cond {
+            column: name(alloc, b"id"),
+            op: Op::Eq,
+            right: left(alloc, TwoOp::Or, TwoOp::Add),
+        },
+    )
 }
-
-fn conds(alloc: Global) -> Result<List<Cond>, Fail> {
-    let mut list = List::new(alloc);
-    for op in [Op::Eq, Op::Gt] {
-        list.push(Cond {
-            column: name(alloc, b"id")?,
-            op,
-            right: nested(alloc, TwoOp::Or, TwoOp::Add, false)?,
-        })?;
-    }
-    Ok(list)
-}
-
-fn sorts(alloc: Global) -> Result<List<Sort>, Fail> {
-    let mut list = List::new(alloc);
-    for descending in [true, false] {
-        list.push(Sort {
-            column: name(alloc, b"id")?,
-            descending,
-        })?;
-    }
-    Ok(list)
-}
-
-const TESTS: &str = "where id = ( 1 or 2 ) + 3 and id > ( 1 or 2 ) + 3 ";
 
 /// SET of a variable to 1.
-fn set(alloc: Global) -> Result<Stmt, Fail> {
-    Ok(Stmt::Assign {
+fn set(alloc: Global) -> Stmt {
+    Stmt::Assign {
         token: 0,
-        to: name(alloc, b"x")?,
+        to: name(alloc, b"x"),
         right: number(1),
-    })
+    }
 }
 
 #[test]
-fn selects(rt: HostRuntime) -> Result<(), Fail> {
+fn statements(rt: HostRuntime) -> Result<(), Fail> {
     let alloc = rt.alloc();
     let token = 0;
-    for (statement, want, tests, rest) in [
-        (set(alloc)?, "set :x = 1 ", "", ";\n"),
+    for (statement, want) in [
         (
             Stmt::Select {
                 token,
-                columns: names(alloc, &[b"a", b"b"])?,
-                to: names(alloc, &[b"x", b"y"])?,
-                table: name(alloc, b"t")?,
-                conds: conds(alloc)?,
-                sorts: sorts(alloc)?,
+                columns: pair(alloc, name(alloc, b"a"), name(alloc, b"b")),
+                to: pair(alloc, name(alloc, b"x"), name(alloc, b"y")),
+                table: name(alloc, b"t"),
+                conds: conds(alloc),
+                sorts: single(
+                    alloc,
+                    Sort {
+                        column: name(alloc, b"id"),
+                        descending: true,
+                    },
+                ),
                 offset: Some(number(2)),
             },
-            "select a , b into :x , :y from t ",
-            TESTS,
-            "order by id desc , id offset 2 ;\n",
+            "select a , b into :x , :y from t where id = ( 1 or 2 ) + 3 order by id desc offset 2 ;\n",
         ),
         (
             Stmt::Total {
                 token,
-                agg: Agg::CountDistinct(name(alloc, b"a")?),
-                to: name(alloc, b"x")?,
-                table: name(alloc, b"t")?,
+                agg: Agg::CountDistinct(name(alloc, b"a")),
+                to: name(alloc, b"x"),
+                table: name(alloc, b"t"),
                 conds: List::new(alloc),
             },
-            "select count ( distinct a ) into :x from t ",
-            "",
-            ";\n",
+            "select count ( distinct a ) into :x from t ;\n",
         ),
-    ] {
-        let script = procedure_of(alloc, statement)?;
-        let printed = print_script(alloc, &script, b"")?;
-        let whole = format!(in alloc; "create procedure p ( ) begin {want}{tests}{rest}end ;\n")?;
-        assert!(rt; printed.as_slice() == whole.as_bytes());
-    }
-    Ok(())
-}
-
-#[test]
-fn loops(rt: HostRuntime) -> Result<(), Fail> {
-    let alloc = rt.alloc();
-    let token = 0;
-    for (statement, want, tests, rest) in [
         (
             Stmt::ForSelect {
                 token,
-                row: name(alloc, b"r")?,
+                row: name(alloc, b"r"),
                 distinct: true,
-                columns: names(alloc, &[b"a"])?,
-                table: name(alloc, b"t")?,
-                conds: conds(alloc)?,
+                columns: single(alloc, name(alloc, b"a")),
+                table: name(alloc, b"t"),
+                conds: List::new(alloc),
                 sorts: List::new(alloc),
-                body: single(alloc, set(alloc)?)?,
+                body: single(alloc, set(alloc)),
             },
-            "for :r in select distinct a from t ",
-            TESTS,
-            "do set :x = 1 ;\nend for ;\n",
-        ),
-        (
-            Stmt::ForRows {
-                token,
-                row: name(alloc, b"r")?,
-                rows: name(alloc, b"s")?,
-                body: List::new(alloc),
-            },
-            "for :r in :s do end for ",
-            "",
-            ";\n",
-        ),
-        (
-            Stmt::Branch {
-                token,
-                test: number(1),
-                yes: single(alloc, set(alloc)?)?,
-                no: List::new(alloc),
-            },
-            "if 1 then set :x = 1 ;\nend if ",
-            "",
-            ";\n",
+            "for :r in select distinct a from t do set :x = 1 ;\nend for ;\n",
         ),
         (
             Stmt::Branch {
                 token,
                 test: number(1),
                 yes: List::new(alloc),
-                no: single(alloc, set(alloc)?)?,
+                no: single(alloc, set(alloc)),
             },
-            "if 1 then else set :x = 1 ;\nend if ",
-            "",
-            ";\n",
-        ),
-    ] {
-        let script = procedure_of(alloc, statement)?;
-        let printed = print_script(alloc, &script, b"")?;
-        let whole = format!(in alloc; "create procedure p ( ) begin {want}{tests}{rest}end ;\n")?;
-        assert!(rt; printed.as_slice() == whole.as_bytes());
-    }
-    Ok(())
-}
-
-#[test]
-fn changes(rt: HostRuntime) -> Result<(), Fail> {
-    let alloc = rt.alloc();
-    let token = 0;
-    for (statement, want, tests, rest) in [
-        (
-            Stmt::Insert {
-                token,
-                table: name(alloc, b"t")?,
-                values: single(alloc, number(1))?,
-            },
-            "insert into t values ( 1 ) ",
-            "",
-            ";\n",
+            "if 1 then else set :x = 1 ;\nend if ;\n",
         ),
         (
             Stmt::Update {
                 token,
-                table: name(alloc, b"t")?,
+                table: name(alloc, b"t"),
                 items: single(
                     alloc,
                     SetItem {
-                        column: name(alloc, b"a")?,
+                        column: name(alloc, b"a"),
                         right: number(1),
                     },
-                )?,
-                conds: conds(alloc)?,
+                ),
+                conds: conds(alloc),
             },
-            "update t set a = 1 ",
-            TESTS,
-            ";\n",
-        ),
-        (
-            Stmt::Delete {
-                token,
-                table: name(alloc, b"t")?,
-                conds: conds(alloc)?,
-            },
-            "delete from t ",
-            TESTS,
-            ";\n",
+            "update t set a = 1 where id = ( 1 or 2 ) + 3 ;\n",
         ),
         (
             Stmt::Rollback {
                 token,
-                reason: text(alloc, b"no")?,
+                reason: text(alloc, b"no"),
             },
-            "rollback 'no' ",
-            "",
-            ";\n",
+            "rollback 'no' ;\n",
         ),
     ] {
-        let script = procedure_of(alloc, statement)?;
-        let printed = print_script(alloc, &script, b"")?;
-        let whole = format!(in alloc; "create procedure p ( ) begin {want}{tests}{rest}end ;\n")?;
-        assert!(rt; printed.as_slice() == whole.as_bytes());
+        let script = procedure_of(alloc, statement);
+        let whole = format!(in alloc; "create procedure p ( ) begin {want}end ;\n")?;
+        assert!(rt; is_printed(alloc, &script, b"", whole.as_bytes()));
     }
     Ok(())
 }
@@ -415,105 +276,91 @@ fn literal(value: Value) -> Lit {
     Lit { value, token: 0 }
 }
 
-fn row(alloc: Global) -> Result<LitRow, Fail> {
-    let mut values = List::new(alloc);
-    values.push(literal(Value::Int(-7)))?;
-    values.push(literal(Value::Text(text(alloc, b"a")?)))?;
-    Ok(LitRow { token: 0, values })
-}
-
-fn columns(alloc: Global) -> Result<List<ColDef>, Fail> {
-    let mut columns = List::new(alloc);
-    for kind in [ColType::Int, ColType::Text(20)] {
-        columns.push(ColDef {
-            name: name(alloc, b"a")?,
-            kind,
-        })?;
-    }
-    Ok(columns)
-}
-
-fn params(alloc: Global) -> Result<List<Param>, Fail> {
-    let mut params = List::new(alloc);
-    params.push(Param {
-        name: name(alloc, b"a")?,
-        kind: ParamKind::One(ColType::Int),
-    })?;
-    params.push(Param {
-        name: name(alloc, b"b")?,
-        kind: ParamKind::Many(columns(alloc)?),
-    })?;
-    Ok(params)
-}
-
-fn arguments(alloc: Global) -> Result<List<Arg>, Fail> {
-    let mut arguments = List::new(alloc);
-    arguments.push(Arg::One(literal(Value::Int(1))))?;
-    arguments.push(Arg::Many(LitRows {
+fn row(alloc: Global) -> LitRow {
+    LitRow {
         token: 0,
-        rows: single(alloc, row(alloc)?)?,
-    }))?;
-    Ok(arguments)
+        values: pair(
+            alloc,
+            literal(Value::Int(-7)),
+            literal(Value::Text(text(alloc, b"a"))),
+        ),
+    }
+}
+
+fn column(alloc: Global, kind: ColType) -> ColDef {
+    ColDef {
+        name: name(alloc, b"a"),
+        kind,
+    }
+}
+
+fn params(alloc: Global) -> List<Param> {
+    single(
+        alloc,
+        Param {
+            name: name(alloc, b"b"),
+            kind: ParamKind::Many(single(alloc, column(alloc, ColType::Text(20)))),
+        },
+    )
+}
+
+fn span(len: u32, closed: bool) -> Span {
+    Span {
+        token: 0,
+        at: 3,
+        len,
+        closed,
+    }
 }
 
 #[test]
 fn items(rt: HostRuntime) -> Result<(), Fail> {
     let alloc = rt.alloc();
+    let rows = LitRows {
+        token: 0,
+        rows: single(alloc, row(alloc)),
+    };
     let declared = VarDef {
-        name: name(alloc, b"x")?,
+        name: name(alloc, b"x"),
         initial: literal(Value::Int(0)),
     };
     for (kind, want) in [
         (
             ItemKind::Table(TableDef {
-                name: name(alloc, b"t")?,
-                columns: columns(alloc)?,
-                key: names(alloc, &[b"a", b"b"])?,
-                rows: single(alloc, row(alloc)?)?,
+                name: name(alloc, b"t"),
+                columns: single(alloc, column(alloc, ColType::Int)),
+                key: pair(alloc, name(alloc, b"a"), name(alloc, b"b")),
+                rows: single(alloc, row(alloc)),
             }),
-            "create table t ( a int , a text ( 20 ) , primary key ( a , b ) ) values ( - 7 , 'a' ) ;\n",
+            "create table t ( a int , primary key ( a , b ) ) values ( - 7 , 'a' ) ;\n",
         ),
         (
             ItemKind::Proc(ProcDef {
-                name: name(alloc, b"p")?,
-                params: params(alloc)?,
-                vars: single(alloc, declared)?,
+                name: name(alloc, b"p"),
+                params: params(alloc),
+                vars: single(alloc, declared),
                 body: List::new(alloc),
             }),
-            "create procedure p ( :a int , :b rows ( a int , a text ( 20 ) ) ) declare :x = 0 ; begin end ;\n",
+            "create procedure p ( :b rows ( a text ( 20 ) ) ) declare :x = 0 ; begin end ;\n",
         ),
         (
             ItemKind::Call(CallDef {
-                name: name(alloc, b"p")?,
-                arguments: arguments(alloc)?,
+                name: name(alloc, b"p"),
+                arguments: pair(alloc, Arg::One(literal(Value::Int(1))), Arg::Many(rows)),
             }),
             "call p ( 1 , rows ( ( - 7 , 'a' ) ) ) ;\n",
         ),
         (
             ItemKind::Copy(CopyDef {
-                table: name(alloc, b"t")?,
-                block: Span {
-                    token: 0,
-                    at: 3,
-                    len: 4,
-                    closed: true,
-                },
+                table: name(alloc, b"t"),
+                block: span(4, true),
             }),
             "copy t <<\n1,2\n>>\n",
         ),
-        (
-            ItemKind::Journal(Span {
-                token: 0,
-                at: 3,
-                len: 9,
-                closed: false,
-            }),
-            "journal <<\n1,2\n>>",
-        ),
+        (ItemKind::Journal(span(6, false)), "journal <<\n1,2\n>>"),
     ] {
-        let script = script_of(alloc, kind)?;
-        let printed = print_script(alloc, &script, b"<<\n1,2\n>>")?;
-        assert!(rt; printed.as_slice() == want.as_bytes());
+        let script = script_of(alloc, kind);
+        assert!(rt; is_printed(alloc, &script, b"<<\n1,2\n>>", want.as_bytes()));
     }
     Ok(())
 }
