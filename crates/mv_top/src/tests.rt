@@ -18,6 +18,24 @@ CREATE PROCEDURE add (:a INT, :x INT) DECLARE :b = 0; BEGIN
   UPDATE acc SET bal = :b WHERE id = :a;  PRINT :b;  END;
 ";
 
+const OTHERS: &str = "CREATE PROCEDURE transfer (:a INT, :c INT, :x INT) DECLARE :b = 0; BEGIN
+  SELECT bal INTO :b FROM acc WHERE id = :a;
+  IF :b < :x THEN ROLLBACK 'no funds'; END IF;
+  UPDATE acc SET bal = bal - :x WHERE id = :a;
+  UPDATE acc SET bal = bal + :x WHERE id = :c;
+  UPDATE acc SET bal = bal + 1 WHERE id = 0;  END;
+CREATE PROCEDURE mark (:a INT, :t TEXT(20)) BEGIN
+  UPDATE acc SET note = :t WHERE id = :a;  END;
+CREATE PROCEDURE put (:k INT, :v INT) BEGIN
+  INSERT INTO acc VALUES (:k, :v, '');  END;
+CREATE PROCEDURE rich () DECLARE :n = 0; BEGIN
+  SELECT COUNT(*) INTO :n FROM acc WHERE bal >= 100;  PRINT :n;  END;
+CREATE PROCEDURE tell () DECLARE :b = 0; DECLARE :x = 0; DECLARE :z = 0; BEGIN
+  SELECT bal INTO :b FROM acc WHERE id = 1;
+  IF :b > 100 THEN SET :x = 1; END IF;
+  SELECT bal INTO :z FROM acc WHERE id = 2;  PRINT :x;  PRINT :z;  END;
+";
+
 const ROOM: usize = 1_000_000;
 
 fn list_of(alloc: Global, bytes: &[u8]) -> Result<List<u8>, Fail> {
@@ -55,7 +73,7 @@ fn run<R: Threads + Wait + Sync>(
 
 /// The script of accounts with these calls.
 fn script(alloc: Global, calls: &str) -> Result<String, Fail> {
-    Ok(format!(in alloc; "{ADD}{calls}")?)
+    Ok(format!(in alloc; "{ADD}{OTHERS}{calls}")?)
 }
 
 #[test]
@@ -102,6 +120,22 @@ fn runs_give_their_text(rt: HostRuntime) -> Result<(), Fail> {
             "B 0\nC 0\nB 1\nC 1\n",
             "0,-7,\n1,100,\n2,100,\n3,100,\n4,100,\n",
         ),
+        (
+            "a row of the same key",
+            "CALL put(7, 1); CALL put(7, 2);",
+            "reply 0 done\nreply 1 rolled back duplicate key\n",
+            "1 0 starts 0 runs 1\n2 1 starts 1 runs 1\n",
+            "B 0\nC 0\nB 1\nC 1\n",
+            "0,0,\n1,100,\n2,100,\n3,100,\n4,100,\n7,1,\n",
+        ),
+        (
+            "a reason of its own, and both branches",
+            "CALL transfer(1, 2, 150); CALL tell(); CALL add(1, 1); CALL tell();",
+            "reply 0 rolled back 'no funds'\nreply 1 done\n0\n100\nreply 2 done\n101\nreply 3 done\n1\n100\n",
+            "1 0 starts 0 runs 3\n2 1 starts 1 runs 5\n3 2 starts 2 runs 4\n4 3 starts 3 runs 6\n",
+            "B 0\nC 0\nB 1\nC 1\nB 2\nC 2\nB 3\nC 3\n",
+            "0,0,\n1,101,\n2,100,\n3,100,\n4,100,\n",
+        ),
         ("no call", "", "", "", "", opening),
     ] {
         let alloc = rt.alloc();
@@ -113,9 +147,95 @@ fn runs_give_their_text(rt: HostRuntime) -> Result<(), Fail> {
         assert_eq!(rt; status, Status::Done, "{name}");
         assert_eq!(rt; written.as_str(), want.as_str(), "{name}");
     }
-    let (status, written) = run(&rt, rt.alloc(), &["run"], b"", &[], ROOM)?;
-    assert_eq!(rt; status, Status::Done);
-    assert_eq!(rt; written.as_str(), "history\njournal\nend\n");
+    for (input, want) in [
+        ("", "history\njournal\nend\n"),
+        (
+            "CREATE PROCEDURE p () BEGIN END;",
+            "history\njournal\nend\n",
+        ),
+        (
+            "CREATE PROCEDURE p (:a INT) BEGIN END; CALL p(-9223372036854775807);",
+            "reply 0 done\nhistory\n1 0 starts 0 runs 0\njournal\nB 0\nC 0\nend\n",
+        ),
+    ] {
+        let (status, written) = run(&rt, rt.alloc(), &["run"], input.as_bytes(), &[], ROOM)?;
+        assert_eq!(rt; status, Status::Done, "{input}");
+        assert_eq!(rt; written.as_str(), want, "{input}");
+    }
+    Ok(())
+}
+
+#[test]
+fn calls_alone_in_their_order(rt: HostRuntime) -> Result<(), Fail> {
+    for (calls, replies, rows) in [
+        (
+            "CALL add(1, 5); CALL add(1, 7);",
+            "reply 0 done\n105\nreply 1 done\n112\n",
+            "0,0,\n1,112,\n2,100,\n3,100,\n4,100,\n",
+        ),
+        (
+            "CALL transfer(1, 2, 10); CALL transfer(3, 4, 10);",
+            "reply 0 done\nreply 1 done\n",
+            "0,2,\n1,90,\n2,110,\n3,90,\n4,110,\n",
+        ),
+        (
+            "CALL mark(1, 'x'); CALL add(1, 5);",
+            "reply 0 done\nreply 1 done\n105\n",
+            "0,0,\n1,105,x\n2,100,\n3,100,\n4,100,\n",
+        ),
+        (
+            "CALL add(1, 0); CALL add(1, 7);",
+            "reply 0 done\n100\nreply 1 done\n107\n",
+            "0,0,\n1,107,\n2,100,\n3,100,\n4,100,\n",
+        ),
+        (
+            "CALL put(7, 100); CALL rich();",
+            "reply 0 done\nreply 1 done\n5\n",
+            "0,0,\n1,100,\n2,100,\n3,100,\n4,100,\n7,100,\n",
+        ),
+        (
+            "CALL add(1, 5); CALL tell();",
+            "reply 0 done\n105\nreply 1 done\n1\n100\n",
+            "0,0,\n1,105,\n2,100,\n3,100,\n4,100,\n",
+        ),
+        (
+            "CALL transfer(1, 2, 150); CALL add(1, 60);",
+            "reply 0 rolled back 'no funds'\nreply 1 done\n160\n",
+            "0,0,\n1,160,\n2,100,\n3,100,\n4,100,\n",
+        ),
+        (
+            "CALL put(7, 1); CALL put(7, 2);",
+            "reply 0 done\nreply 1 rolled back duplicate key\n",
+            "0,0,\n1,100,\n2,100,\n3,100,\n4,100,\n7,1,\n",
+        ),
+        (
+            "CALL add(1, 9223372036854775807);",
+            "reply 0 rolled back overflow\n",
+            "0,0,\n1,100,\n2,100,\n3,100,\n4,100,\n",
+        ),
+    ] {
+        let alloc = rt.alloc();
+        let input = script(alloc, calls)?;
+        let want = format!(in alloc; "{replies}table acc\n{rows}end\n")?;
+        let (status, written) = run(&rt, rt.alloc(), &["serial"], input.as_bytes(), &[], ROOM)?;
+        assert_eq!(rt; status, Status::Done, "{calls}");
+        assert_eq!(rt; written.as_str(), want.as_str(), "{calls}");
+    }
+    for (input, want) in [
+        ("", "end\n"),
+        (
+            "CREATE TABLE m (k INT, d INT, e INT, PRIMARY KEY (k)) VALUES (1, 0, 0);
+CREATE PROCEDURE se () BEGIN UPDATE m SET e = 1 WHERE k = 1; END;
+CREATE PROCEDURE sd () DECLARE :n = 0; BEGIN
+  UPDATE m SET d = 1 WHERE k = 1; SELECT COUNT(*) INTO :n FROM m WHERE d = 1 AND e = 1; PRINT :n; END;
+CALL se(); CALL sd();",
+            "reply 0 done\nreply 1 done\n1\ntable m\n1,1,1\nend\n",
+        ),
+    ] {
+        let (status, written) = run(&rt, rt.alloc(), &["serial"], input.as_bytes(), &[], ROOM)?;
+        assert_eq!(rt; status, Status::Done, "{input}");
+        assert_eq!(rt; written.as_str(), want, "{input}");
+    }
     Ok(())
 }
 
@@ -150,7 +270,11 @@ fn words_that_are_no_command(rt: HostRuntime) -> Result<(), Fail> {
         ("runs", None),
         ("run", Some("--")),
         ("run", Some("--threads")),
-        ("run", Some("run")),
+        ("run", Some("serial")),
+        ("Serial", None),
+        ("serials", None),
+        ("serial", Some("")),
+        ("serial", Some("serial")),
     ] {
         let (status, written) = match second {
             Some(word) => run(&rt, rt.alloc(), &[first, word], b"", &[], ROOM)?,
@@ -193,9 +317,14 @@ fn faults_of_the_source_and_the_sink(rt: HostRuntime) -> Result<(), Fail> {
     Ok(())
 }
 
-/// The line of the refusal of an input.
-fn refusal<R: Threads + Wait + Sync>(rt: &R, alloc: Global, input: &[u8]) -> Result<String, Fail> {
-    let (status, written) = run(rt, alloc, &["run"], input, &[], ROOM)?;
+/// The line of the refusal of an input by a command.
+fn refusal<R: Threads + Wait + Sync>(
+    rt: &R,
+    alloc: Global,
+    command: &str,
+    input: &[u8],
+) -> Result<String, Fail> {
+    let (status, written) = run(rt, alloc, &[command], input, &[], ROOM)?;
     if status != Status::Refused {
         return Err("it is not refused".into());
     }
@@ -224,7 +353,39 @@ fn refusals_name_their_place(rt: HostRuntime) -> Result<(), Fail> {
             "CALL p(9223372036854775808);",
             "refused 5 limit literal at token 4",
         ),
-        ("CALL p(-9223372036854775807);", "refused 22 not built"),
+        (
+            "CALL p(-9223372036854775807);",
+            "refused 6 unknown name at token 2",
+        ),
+        (
+            "CREATE PROCEDURE p () BEGIN END; CREATE PROCEDURE p () BEGIN END;",
+            "refused 7 double name at token 11",
+        ),
+        (
+            "CREATE PROCEDURE p () BEGIN END; CALL p('');",
+            "refused 8 wrong type at token 12",
+        ),
+        (
+            "CREATE TABLE t (id INT, PRIMARY KEY (id)); CREATE PROCEDURE p () BEGIN UPDATE t SET id = 1; END;",
+            "refused 9 key assigned at token 24",
+        ),
+        (
+            "CREATE PROCEDURE p () BEGIN END; CREATE TABLE t (id INT, PRIMARY KEY (id));",
+            "refused 10 late at token 9",
+        ),
+        (
+            "CREATE TABLE t (id INT, PRIMARY KEY (id)); COPY t <<\nx\n>>\n",
+            "refused 11 table t row 1 column 1",
+        ),
+        (
+            "CREATE TABLE t (id INT, PRIMARY KEY (id)); COPY t <<\n1\n2,\n>>\n",
+            "refused 12 table t row 2",
+        ),
+        (
+            "CREATE TABLE t (id INT, PRIMARY KEY (id)) VALUES (1), (1);",
+            "refused 13 table t row 2",
+        ),
+        ("JOURNAL <<\nB 0\n", "refused 14 open block"),
         (
             "CREATE TABLE t (id TEXT(0), PRIMARY KEY (id));",
             "refused 5 limit text at token 8",
@@ -233,11 +394,12 @@ fn refusals_name_their_place(rt: HostRuntime) -> Result<(), Fail> {
             "CREATE TABLE t (id INT, PRIMARY KEY (id, id, id, id, id, id, id, id, id));",
             "refused 5 limit key at token 27",
         ),
-        ("CREATE PROCEDURE p () BEGIN END;", "refused 22 not built"),
     ] {
-        let line = refusal(&rt, rt.alloc(), input.as_bytes())?;
         let want = format!(in alloc; "{want}\n")?;
-        assert_eq!(rt; line.as_str(), want.as_str(), "{input}");
+        for command in ["run", "serial"] {
+            let line = refusal(&rt, rt.alloc(), command, input.as_bytes())?;
+            assert_eq!(rt; line.as_str(), want.as_str(), "{command} {input}");
+        }
     }
     Ok(())
 }
@@ -260,7 +422,7 @@ fn refusals_at_a_limit_and_past_it(rt: HostRuntime) -> Result<(), Fail> {
             "",
             "refused 4 syntax at token 41",
         ),
-        ("CALL ", "a", 64, "();", "refused 22 not built"),
+        ("CALL ", "a", 64, "();", "refused 6 unknown name at token 2"),
         ("CALL ", "a", 65, "();", "refused 5 limit name at token 2"),
         (
             "CREATE PROCEDURE p () BEGIN SET :x = ",
@@ -282,7 +444,7 @@ fn refusals_at_a_limit_and_past_it(rt: HostRuntime) -> Result<(), Fail> {
             input.push_str(repeated)?;
         }
         input.push_str(back)?;
-        let line = refusal(&rt, rt.alloc(), input.as_bytes())?;
+        let line = refusal(&rt, rt.alloc(), "run", input.as_bytes())?;
         let want = format!(in alloc; "{want}\n")?;
         assert_eq!(rt; line.as_str(), want.as_str(), "{front}{repeated}{count}");
     }
@@ -300,7 +462,7 @@ fn inputs_of_the_greatest_size(rt: HostRuntime) -> Result<(), Fail> {
     assert_eq!(rt; status, Status::Done);
     assert_eq!(rt; written.as_str(), "history\njournal\nend\n");
     input.push(b' ')?;
-    let line = refusal(&rt, rt.alloc(), input.as_slice())?;
+    let line = refusal(&rt, rt.alloc(), "run", input.as_slice())?;
     assert_eq!(rt; line.as_str(), "refused 1 too long\n");
     Ok(())
 }
