@@ -175,7 +175,7 @@ not_opened bytes resolved f told o only cause all = record {
   only = λ p h. memory_told resolved f told (only p.opening h.1) o;
   refused = row_cause bytes resolved f told o cause;
   told = λ refusal c. elim (all c.0 c.1) [
-      | inl e ↦ (let same : f ≡ c.0 = cc in row_told bytes resolved f c.0 told o same refusal c.2)
-      | inr e ↦ (let same : f ≡ opening.NoMemory = cc in inr (memory_told resolved f told same o))
-    ];
+    | inl e ↦ (let same : f ≡ c.0 = cc in row_told bytes resolved f c.0 told o same refusal c.2)
+    | inr e ↦ (let same : f ≡ opening.NoMemory = cc in inr (memory_told resolved f told same o))
+  ];
 }

@@ -153,11 +153,7 @@ fn of_opening(alloc: Global, resolved: &Resolved, fault: OpeningFault) -> NotAcc
 }
 
 /// The refusal of rows that can't be taken, with the name of their table.
-fn refusal_of(
-    alloc: Global,
-    resolved: &Resolved,
-    fault: OpeningFault,
-) -> Result<Refusal, NoMemory>
+fn refusal_of(alloc: Global, resolved: &Resolved, fault: OpeningFault) -> Result<Refusal, NoMemory>
     ensures { IfOk result (TellsOfRows resolved.now fault) }
 {
     match fault {
