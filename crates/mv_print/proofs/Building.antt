@@ -1,5 +1,5 @@
 -- Printed pieces are read as parts of the grammar, part by part.
-use Rattle.std.proofs.Common.{◌≡◌, ℕ, suc, ◌+◌, ◌≤◌, Bool, true, List, [], ◌∷◌, ◌++◌, length, map, refl, sym, ap, subst, ◌∙◌, append_assoc, append-nil, arith, inl, inr, ◌⊎◌}
+use Rattle.std.proofs.Common.{◌≡◌, ℕ, suc, ◌+◌, ◌≤◌, Bool, true, List, [], ◌∷◌, ◌++◌, length, false, map, refl, sym, ap, subst, ◌∙◌, append_assoc, append-nil, arith, inl, inr, ◌⊎◌}
 use Rattle.std.proofs.lemmas.List.{map-append}
 use Rattle.std.specs.List.{list_all}
 use Rattle.mv_lex.specs.Bytes.{is_allowed, is_blank}
@@ -8,9 +8,9 @@ use Rattle.mv_lex.specs.declared.token.Kind.{Kind}
 use Rattle.mv_ast.specs.declared.lexeme.Lexeme.{Lexeme}
 use Rattle.mv_ast.specs.declared.lexeme.Terminal.{Terminal}
 use Rattle.mv_ast.specs.declared.lexeme.Terminal.TheVariants as word
-use Rattle.mv_ast.specs.Texts.{spelling}
+use Rattle.mv_ast.specs.Texts.{spelling, number_from}
 use Rattle.mv_ast.specs.Lexemes.{kind_of}
-use Rattle.mv_ast.specs.Limits.{together}
+use Rattle.mv_ast.specs.Limits.{together, own_passes, is_size}
 use Rattle.mv_ast.specs.Parts.{Part, give, one, both, either, left, expression, statement, Is, Pieces, joined}
 use Rattle.mv_ast.specs.Grammar.{inner, added, single, place, ◌⊛◌, ◌◂◌, ◌▸◌}
 use Rattle.mv_print.specs.Printing.{Piece}
@@ -28,21 +28,53 @@ Spelled text (l ∷ ls) (p ∷ ps) = Fits text l p × Spelled text ls ps
 Spelled text [] (p ∷ ps) = ⊥
 Spelled text (l ∷ ls) [] = ⊥
 
--- the piece is a token of this kind, whatever follows the blank behind it
-pub record Sound (p : Piece) : Type 0 where
+-- the piece is a token of this kind, whatever follows the blank behind it, and passes no limit of its own
+pub record Base (p : Piece) : Type 0 where
   pub token : Kind
   pub longest : (rest : List ℕ) → IsLongest token p.text (p.gap ++ rest)
   pub is : kind_of token p.text ≡ p.kind
   pub allowed : list_all is_allowed p.text ≡ true
   pub gaps : list_all is_blank p.gap ≡ true
+  pub own : (n : ℕ) → own_passes p.kind p.text n ≡ []
+
+abbrev pub is_type : Terminal → Bool
+is_type word.Text = true
+is_type t = false
+
+-- such a piece that isn't the word TEXT
+pub record Sound (p : Piece) : Type 0 where
+  pub base : Base p
+  pub plain : is_type p.kind ≡ false
+
+-- the size of a TEXT column stands behind the next piece
+abbrev pub SizeBehind : List Piece → Type 0
+SizeBehind [] = ⊥
+SizeBehind (q ∷ []) = ⊥
+SizeBehind (q ∷ r ∷ ps) = is_size (number_from 0 r.text) ≡ true
+
+abbrev pub Sounded : Piece → List Piece → Type 0
+Sounded p ps = Sound p ⊎ (Base p × SizeBehind ps)
+
+pub base_of : (p : Piece) (ps : List Piece) → Sounded p ps → Base p
+base_of p ps (inl s) = s.base
+base_of p ps (inr s) = s.0
 
 abbrev pub Sounds : List Piece → Type 0
 Sounds [] = Unit {0}
-Sounds (p ∷ ps) = Sound p × Sounds ps
+Sounds (p ∷ ps) = Sounded p ps × Sounds ps
+
+size_more : (ps qs : List Piece) → SizeBehind ps → SizeBehind (ps ++ qs)
+size_more [] qs h = absurd h
+size_more (p ∷ []) qs h = absurd h
+size_more (p ∷ r ∷ ps) qs h = h
+
+sounded_more : (p : Piece) (ps qs : List Piece) → Sounded p ps → Sounded p (ps ++ qs)
+sounded_more p ps qs (inl s) = inl s
+sounded_more p ps qs (inr s) = inr (s.0, size_more ps qs s.1)
 
 pub sounds_joined : (ps qs : List Piece) → Sounds ps → Sounds qs → Sounds (ps ++ qs)
 sounds_joined [] qs h k = k
-sounds_joined (p ∷ ps) qs h k = (h.0, sounds_joined ps qs h.1 k)
+sounds_joined (p ∷ ps) qs h k = (sounded_more p ps qs h.0, sounds_joined ps qs h.1 k)
 
 abbrev pub Apart : List ℕ → List Lexeme → List Piece → List Piece → Type 0
 Apart text ls ps qs = (xs : List Lexeme) × (ys : List Lexeme) × (ls ≡ xs ++ ys) × Spelled text xs ps × Spelled text ys qs
@@ -73,12 +105,12 @@ pub record Prints {A : Type 0} (text : List ℕ) (p : Part A) (Q : A → Type 0)
 pub prints_give : {A : Type 0} {text : List ℕ} {Q : A → Type 0} (v : A) → Q v → Prints text (give v) Q []
 prints_give {text = text} v q = record { sounds = tt; levels = 0; reads = λ d ls h s. (v, (none_spelled text ls s, refl), q) }
 
-one_read : {text : List ℕ} (d : ℕ) (t : Terminal) (p : Piece) (ls : List Lexeme) → p.kind ≡ t → Spelled text ls (p ∷ []) → Reading text (one t) (λ l. Fits text l p) d ls
+pub one_read : {text : List ℕ} (d : ℕ) (t : Terminal) (p : Piece) (ls : List Lexeme) → p.kind ≡ t → Spelled text ls (p ∷ []) → Reading text (one t) (λ l. Fits text l p) d ls
 one_read {text = text} d t p ls e s =
     let i = one_spelled text ls p s in (i.0, (i.1, i.2.kind ∙ e), i.2)
 
 pub prints_one : {text : List ℕ} {t : Terminal} (p : Piece) → Sound p → p.kind ≡ t → Prints text (one t) (λ l. Fits text l p) (p ∷ [])
-prints_one {text = text} {t = t} p s e = record { sounds = (s, tt); levels = 0; reads = λ d ls h z. one_read d t p ls e z }
+prints_one {text = text} {t = t} p s e = record { sounds = (inl s, tt); levels = 0; reads = λ d ls h z. one_read d t p ls e z }
 
 pub both_read : {A B C : Type 0} {text : List ℕ} {P : A → Type 0} {Q : B → Type 0} {S : C → Type 0} {ps qs : List Piece} (f : A → B → C) (p : Part A) (q : Part B) (d : ℕ) (ls : List Lexeme)
     → ((a : A) (b : B) → P a → Q b → S (f a b))
@@ -108,14 +140,28 @@ prints_inr x = record { sounds = x.sounds; levels = x.levels; reads = λ d ls h 
 pub prints_for : {A : Type 0} {text : List ℕ} {P Q : A → Type 0} {ps : List Piece} {p : Part A} → ((a : A) → P a → Q a) → Prints text p P ps → Prints text p Q ps
 prints_for k x = record { sounds = x.sounds; levels = x.levels; reads = λ d ls h s. (let r = x.reads d ls h s in (r.0, r.1, k r.0 r.2)) }
 
--- The tokens of a source are good.
-abbrev pub Each : (Lexeme → Type 0) → List Lexeme → Type 0
-Each G [] = Unit {0}
-Each G (l ∷ ls) = G l × Each G ls
+-- What is so of each token of a source, and of each three tokens.
+pub record Goodness : Type 1 where
+  pub one_good : Lexeme → Type 0
+  pub three_good : Lexeme → Lexeme → Lexeme → Type 0
 
-pub each_apart : (G : Lexeme → Type 0) (xs ys : List Lexeme) → Each G (xs ++ ys) → Each G xs × Each G ys
+abbrev pub Triple : (Lexeme → Lexeme → Lexeme → Type 0) → Lexeme → List Lexeme → Type 0
+Triple T l [] = Unit {0}
+Triple T l (b ∷ []) = Unit {0}
+Triple T l (b ∷ c ∷ ls) = T l b c
+
+abbrev pub Each : Goodness → List Lexeme → Type 0
+Each G [] = Unit {0}
+Each G (l ∷ ls) = G.one_good l × Triple G.three_good l ls × Each G ls
+
+triple_first : (T : Lexeme → Lexeme → Lexeme → Type 0) (l : Lexeme) (xs ys : List Lexeme) → Triple T l (xs ++ ys) → Triple T l xs
+triple_first T l [] ys h = tt
+triple_first T l (b ∷ []) ys h = tt
+triple_first T l (b ∷ c ∷ xs) ys h = h
+
+pub each_apart : (G : Goodness) (xs ys : List Lexeme) → Each G (xs ++ ys) → Each G xs × Each G ys
 each_apart G [] ys h = (tt, h)
-each_apart G (x ∷ xs) ys h = let i = each_apart G xs ys h.1 in ((h.0, i.0), i.1)
+each_apart G (x ∷ xs) ys h = let i = each_apart G xs ys h.2 in ((h.0, triple_first G.three_good x xs ys h.1, i.0), i.1)
 
 abbrev pub marks : List Piece → List Terminal
 marks ps = map (λ p. p.kind) ps
@@ -145,25 +191,25 @@ pub record TurnedTo {A : Type 0} (m n : ℕ) (text : List ℕ) (p : Part A) (K :
 abbrev pub Turned : {A : Type 0} → List ℕ → Part A → (List Piece → Type 0) → (A → Type 0) → List Lexeme → Type 0
 Turned text p K Q ts = TurnedTo 0 0 text p K Q ts
 
-pub record TurnsTo {A : Type 0} (m n : ℕ) (G : Lexeme → Type 0) (bytes text : List ℕ) (d : ℕ) (p q : Part A) (K : A → List Piece → Type 0) (R : A → A → Type 0) : Type 0 where
+pub record TurnsTo {A : Type 0} (m n : ℕ) (G : Goodness) (bytes text : List ℕ) (d : ℕ) (p q : Part A) (K : A → List Piece → Type 0) (R : A → A → Type 0) : Type 0 where
   pub turn : (ts : List Lexeme) (v : A) → Each G ts → Is (inner bytes d) p ts v → TurnedTo m n text q (K v) (R v) ts
 
-abbrev pub Turns : {A : Type 0} → (Lexeme → Type 0) → List ℕ → List ℕ → ℕ → Part A → Part A → (A → List Piece → Type 0) → (A → A → Type 0) → Type 0
+abbrev pub Turns : {A : Type 0} → Goodness → List ℕ → List ℕ → ℕ → Part A → Part A → (A → List Piece → Type 0) → (A → A → Type 0) → Type 0
 Turns G bytes text d p q K R = TurnsTo 0 0 G bytes text d p q K R
 
-pub turns_give : {A : Type 0} {n : ℕ} {G : Lexeme → Type 0} {bytes text : List ℕ} {d : ℕ} {K : A → List Piece → Type 0} {R : A → A → Type 0} {u v : A}
+pub turns_give : {A : Type 0} {n : ℕ} {G : Goodness} {bytes text : List ℕ} {d : ℕ} {K : A → List Piece → Type 0} {R : A → A → Type 0} {u v : A}
     → K u [] → R u v → TurnsTo n n G bytes text d (give u) (give v) K R
 turns_give {n = n} {text = text} {K = K} {R = R} {u = u} {v = v} k r = record {
   turn = λ ts w g i. subst (λ x. TurnedTo n n text (give v) (K x) (R x) ts) (sym i.1) (record { pieces = []; is = k; prints = prints_give v r; light = light_nothing n ts i.0 });
 }
 
 -- a level further in
-pub turns_raised : {A : Type 0} (n : ℕ) {G : Lexeme → Type 0} {bytes text : List ℕ} {d : ℕ} {p p' : Part A} {K : A → List Piece → Type 0} {R : A → A → Type 0}
+pub turns_raised : {A : Type 0} (n : ℕ) {G : Goodness} {bytes text : List ℕ} {d : ℕ} {p p' : Part A} {K : A → List Piece → Type 0} {R : A → A → Type 0}
     → TurnsTo 0 0 G bytes text d p p' K R → TurnsTo n n G bytes text d p p' K R
 turns_raised n x = record { turn = λ ts v g i. (let a = x.turn ts v g i in record { pieces = a.pieces; is = a.is; prints = a.prints; light = light_raised n (kinds ts) (marks a.pieces) a.light }) }
 
 -- a function and then its next argument, each from one level to another
-pub turns_level : {A B : Type 0} {m k n : ℕ} {G : Lexeme → Type 0} {bytes text : List ℕ} {d : ℕ} {K : B → List Piece → Type 0} {R : B → B → Type 0} {p p' : Part (A → B)} {q q' : Part A}
+pub turns_level : {A B : Type 0} {m k n : ℕ} {G : Goodness} {bytes text : List ℕ} {d : ℕ} {K : B → List Piece → Type 0} {R : B → B → Type 0} {p p' : Part (A → B)} {q q' : Part A}
     {L : A → List Piece → Type 0} {Q : A → A → Type 0}
     → TurnsTo k n G bytes text d q q' L Q
     → TurnsTo m k G bytes text d p p' (λ h ps. (a : A) (qs : List Piece) → L a qs → K (h a) (ps ++ qs)) (λ h j. (a x : A) → Q a x → R (h a) (j x))
@@ -182,20 +228,20 @@ turns_level {m = m} {k = c} {n = n} {G = G} {text = text} {K = K} {R = R} {p' = 
       subst (λ w. TurnedTo m n text (p' ⊛ q') (K w) (R w) ts) (sym i.7) r);
 }
 
-pub turns_then : {A B : Type 0} {m n : ℕ} {G : Lexeme → Type 0} {bytes text : List ℕ} {d : ℕ} {K : B → List Piece → Type 0} {R : B → B → Type 0} {p p' : Part (A → B)} {q q' : Part A}
+pub turns_then : {A B : Type 0} {m n : ℕ} {G : Goodness} {bytes text : List ℕ} {d : ℕ} {K : B → List Piece → Type 0} {R : B → B → Type 0} {p p' : Part (A → B)} {q q' : Part A}
     {L : A → List Piece → Type 0} {Q : A → A → Type 0} → TurnsTo 0 0 G bytes text d q q' L Q
     → TurnsTo m n G bytes text d p p' (λ h ps. (a : A) (qs : List Piece) → L a qs → K (h a) (ps ++ qs)) (λ h j. (a x : A) → Q a x → R (h a) (j x))
     → TurnsTo m n G bytes text d (p ⊛ q) (p' ⊛ q') K R
 turns_then {n = n} y x = turns_level (turns_raised n y) x
 
 -- the pieces of the argument hang on its value
-known : {A B : Type 0} {m n : ℕ} {G : Lexeme → Type 0} {bytes text : List ℕ} {d : ℕ} (K : B → List Piece → Type 0) {S : (A → B) → (A → B) → Type 0} {p p' : Part (A → B)} {fq : A → List Piece}
+known : {A B : Type 0} {m n : ℕ} {G : Goodness} {bytes text : List ℕ} {d : ℕ} (K : B → List Piece → Type 0) {S : (A → B) → (A → B) → Type 0} {p p' : Part (A → B)} {fq : A → List Piece}
     → TurnsTo m n G bytes text d p p' (λ h ps. (a : A) → K (h a) (ps ++ fq a)) S → TurnsTo m n G bytes text d p p' (λ h ps. (a : A) (qs : List Piece) → qs ≡ fq a → K (h a) (ps ++ qs)) S
 known K x = record {
   turn = λ ts v g i. (let t = x.turn ts v g i in record { pieces = t.pieces; is = λ a qs e. subst (λ r. K (v a) (t.pieces ++ r)) (sym e) (t.is a); prints = t.prints; light = t.light });
 }
 
-pub turns_next : {A B : Type 0} {m n : ℕ} {G : Lexeme → Type 0} {bytes text : List ℕ} {d : ℕ} {K : B → List Piece → Type 0} {R : B → B → Type 0} {p p' : Part (A → B)} {q q' : Part A}
+pub turns_next : {A B : Type 0} {m n : ℕ} {G : Goodness} {bytes text : List ℕ} {d : ℕ} {K : B → List Piece → Type 0} {R : B → B → Type 0} {p p' : Part (A → B)} {q q' : Part A}
     {fq : A → List Piece} {Q : A → A → Type 0}
     → TurnsTo 0 0 G bytes text d q q' (λ b qs. qs ≡ fq b) Q
     → TurnsTo m n G bytes text d p p' (λ h ps. (a : A) → K (h a) (ps ++ fq a)) (λ h j. (a x : A) → Q a x → R (h a) (j x))
@@ -203,7 +249,7 @@ pub turns_next : {A B : Type 0} {m n : ℕ} {G : Lexeme → Type 0} {bytes text 
 turns_next {K = K} y x = turns_then y (known K x)
 
 -- the argument goes from one level to another
-pub turns_deeper : {A B : Type 0} {m k n : ℕ} {G : Lexeme → Type 0} {bytes text : List ℕ} {d : ℕ} {K : B → List Piece → Type 0} {R : B → B → Type 0} {p p' : Part (A → B)} {q q' : Part A}
+pub turns_deeper : {A B : Type 0} {m k n : ℕ} {G : Goodness} {bytes text : List ℕ} {d : ℕ} {K : B → List Piece → Type 0} {R : B → B → Type 0} {p p' : Part (A → B)} {q q' : Part A}
     {fq : A → List Piece} {Q : A → A → Type 0}
     → TurnsTo k n G bytes text d q q' (λ b qs. qs ≡ fq b) Q
     → TurnsTo m k G bytes text d p p' (λ h ps. (a : A) → K (h a) (ps ++ fq a)) (λ h j. (a x : A) → Q a x → R (h a) (j x))
@@ -211,12 +257,12 @@ pub turns_deeper : {A B : Type 0} {m k n : ℕ} {G : Lexeme → Type 0} {bytes t
 turns_deeper {K = K} y x = turns_level y (known K x)
 
 -- one token, whose piece hangs on nothing
-pub turns_mark : {m n : ℕ} {G : Lexeme → Type 0} {bytes text : List ℕ} {d : ℕ} {t : Terminal} (x : Piece) → Sound x → x.kind ≡ t → Light m n (t ∷ []) (t ∷ [])
+pub turns_mark : {m n : ℕ} {G : Goodness} {bytes text : List ℕ} {d : ℕ} {t : Terminal} (x : Piece) → Sound x → x.kind ≡ t → Light m n (t ∷ []) (t ∷ [])
     → TurnsTo m n G bytes text d (one t) (one t) (λ l ps. ps ≡ x ∷ []) (λ l m. Unit {0})
 turns_mark {m = m} {n = n} {t = t} x s e l = record { turn = λ ts v g i. record { pieces = x ∷ []; is = refl; prints = prints_for (λ l h. tt) (prints_one x s e); light = light_token m n t ts v x i.0 i.1 e l } }
 
 -- a part and a token behind it
-pub turns_skip : {A : Type 0} {m k n : ℕ} {G : Lexeme → Type 0} {bytes text : List ℕ} {d : ℕ} {t : Terminal} {K : A → List Piece → Type 0} {R : A → A → Type 0} {p p' : Part A}
+pub turns_skip : {A : Type 0} {m k n : ℕ} {G : Goodness} {bytes text : List ℕ} {d : ℕ} {t : Terminal} {K : A → List Piece → Type 0} {R : A → A → Type 0} {p p' : Part A}
     (x : Piece) → Sound x → x.kind ≡ t → Light k n (t ∷ []) (t ∷ [])
     → TurnsTo m k G bytes text d p p' (λ a ps. K a (ps ++ x ∷ [])) R → TurnsTo m n G bytes text d (p ◂ one t) (p' ◂ one t) K R
 turns_skip {m = m} {k = c} {n = n} {G = G} {text = text} {t = t} {K = K} {R = R} {p' = p'} x s e l z = record {
@@ -233,7 +279,7 @@ turns_skip {m = m} {k = c} {n = n} {G = G} {text = text} {t = t} {K = K} {R = R}
 }
 
 -- a part, END and a token behind it
-pub turns_ends : {A : Type 0} {m n : ℕ} {G : Lexeme → Type 0} {bytes text : List ℕ} {d : ℕ} {t : Terminal} {K : A → List Piece → Type 0} {R : A → A → Type 0} {p p' : Part A}
+pub turns_ends : {A : Type 0} {m n : ℕ} {G : Goodness} {bytes text : List ℕ} {d : ℕ} {t : Terminal} {K : A → List Piece → Type 0} {R : A → A → Type 0} {p p' : Part A}
     (w x : Piece) → Sound w → Sound x → w.kind ≡ word.End → x.kind ≡ t → BehindEnd t
     → TurnsTo m (suc n) G bytes text d p p' (λ a ps. K a ((ps ++ w ∷ []) ++ x ∷ [])) R → TurnsTo m n G bytes text d (p ◂ one word.End ◂ one t) (p' ◂ one word.End ◂ one t) K R
 turns_ends {m = m} {n = n} {G = G} {text = text} {t = t} {K = K} {R = R} {p' = p'} w x q s f e l z = record {
@@ -257,12 +303,12 @@ turns_ends {m = m} {n = n} {G = G} {text = text} {t = t} {K = K} {R = R} {p' = p
 }
 
 -- the number of a token
-pub turns_place : {m n : ℕ} {G : Lexeme → Type 0} {bytes text : List ℕ} {d : ℕ} {t : Terminal} (x : Piece) → Sound x → x.kind ≡ t → Light m n (t ∷ []) (t ∷ [])
+pub turns_place : {m n : ℕ} {G : Goodness} {bytes text : List ℕ} {d : ℕ} {t : Terminal} (x : Piece) → Sound x → x.kind ≡ t → Light m n (t ∷ []) (t ∷ [])
     → TurnsTo m n G bytes text d (place t) (place t) (λ n ps. ps ≡ x ∷ []) (λ n m. Unit {0})
 turns_place x s e l = turns_level (turns_mark x s e l) (turns_give (λ a qs h. h) (λ a b h. tt))
 
 -- a token and the part behind it
-pub turns_behind : {A : Type 0} {m k n : ℕ} {G : Lexeme → Type 0} {bytes text : List ℕ} {d : ℕ} {t : Terminal} {K : A → List Piece → Type 0} {R : A → A → Type 0} {p p' : Part A}
+pub turns_behind : {A : Type 0} {m k n : ℕ} {G : Goodness} {bytes text : List ℕ} {d : ℕ} {t : Terminal} {K : A → List Piece → Type 0} {R : A → A → Type 0} {p p' : Part A}
     (x : Piece) → Sound x → x.kind ≡ t → Light m k (t ∷ []) (t ∷ [])
     → TurnsTo k n G bytes text d p p' (λ a ps. K a (x ∷ ps)) R → TurnsTo m n G bytes text d (one t ▸ p) (one t ▸ p') K R
 turns_behind {m = m} {k = c} {n = n} {G = G} {text = text} {t = t} {K = K} {R = R} {p' = p'} x s e l z = record {
@@ -278,7 +324,7 @@ turns_behind {m = m} {k = c} {n = n} {G = G} {text = text} {t = t} {K = K} {R = 
       subst (λ w. TurnedTo m n text (one t ▸ p') (K w) (R w) ts) (sym i.7) r);
 }
 
-pub turns_either : {A : Type 0} {m n : ℕ} {G : Lexeme → Type 0} {bytes text : List ℕ} {d : ℕ} {K : A → List Piece → Type 0} {R : A → A → Type 0} {p p' q q' : Part A}
+pub turns_either : {A : Type 0} {m n : ℕ} {G : Goodness} {bytes text : List ℕ} {d : ℕ} {K : A → List Piece → Type 0} {R : A → A → Type 0} {p p' q q' : Part A}
     → TurnsTo m n G bytes text d p p' K R → TurnsTo m n G bytes text d q q' K R → TurnsTo m n G bytes text d (either p q) (either p' q') K R
 turns_either {m = m} {n = n} {text = text} {K = K} {R = R} {p' = p'} {q' = q'} x y = record {
   turn = λ ts v g i. elim i as (λ j. TurnedTo m n text (either p' q') (K v) (R v) ts) [
@@ -288,7 +334,7 @@ turns_either {m = m} {n = n} {text = text} {K = K} {R = R} {p' = p'} {q' = q'} x
 }
 
 -- with other words for the pieces and for the value
-pub turns_as : {A : Type 0} {m n : ℕ} {G : Lexeme → Type 0} {bytes text : List ℕ} {d : ℕ} {K L : A → List Piece → Type 0} {R S : A → A → Type 0} {p p' : Part A}
+pub turns_as : {A : Type 0} {m n : ℕ} {G : Goodness} {bytes text : List ℕ} {d : ℕ} {K L : A → List Piece → Type 0} {R S : A → A → Type 0} {p p' : Part A}
     → ((v : A) (ps : List Piece) → K v ps → L v ps) → ((v w : A) → R v w → S v w) → TurnsTo m n G bytes text d p p' K R → TurnsTo m n G bytes text d p p' L S
 turns_as k r x = record {
   turn = λ ts v g i. (let a = x.turn ts v g i in record { pieces = a.pieces; is = k v a.pieces a.is; prints = prints_for (λ w h. r v w h) a.prints; light = a.light });
@@ -318,7 +364,7 @@ more_read text p c v vs ps qs d ls f g s =
     let b = g i.1 i.4 in
     (a.0 ∷ b.0, (i.0, i.1, i.2, a.1, b.1), ap (λ r. r ∷ map c vs) a.2 ∙ ap (λ r. c a.0 ∷ r) b.2)
 
-more_turned : {A B : Type 0} (G : Lexeme → Type 0) (bytes text : List ℕ) (d : ℕ) (p p' : Part A) (f : A → List Piece) (c : A → B)
+more_turned : {A B : Type 0} (G : Goodness) (bytes text : List ℕ) (d : ℕ) (p p' : Part A) (f : A → List Piece) (c : A → B)
     → Turns G bytes text d p p' (λ v ps. ps ≡ f v) (λ v w. c v ≡ c w)
     → (vs : List A) (ts : List Lexeme) → Each G ts → Pieces (Is (inner bytes d) p) ts vs → More text p' c vs (together (map f vs)) ts
 more_turned G bytes text d p p' f c x [] ts g i = record { sounds = tt; light = light_nothing 0 ts i; levels = 0; reads = λ e ls h s. ([], none_spelled text ls s, refl) }
@@ -349,7 +395,7 @@ left_read text p q c a vs ps qs d ls f g s =
       map-append c a vs ∙ (ap (λ r. r ++ map c vs) x.2 ∙ (ap (λ r. map c x.0 ++ r) y.2 ∙ (sym (map-append c x.0 y.0) ∙ ap (map c) (sym (joined_added x.0 y.0))))),
     )
 
-pub turns_left : {A B : Type 0} {G : Lexeme → Type 0} {bytes text : List ℕ} {d : ℕ} {K : List A → List Piece → Type 0} {p p' : Part (List A)} {q q' : Part A} {f : A → List Piece} {c : A → B}
+pub turns_left : {A B : Type 0} {G : Goodness} {bytes text : List ℕ} {d : ℕ} {K : List A → List Piece → Type 0} {p p' : Part (List A)} {q q' : Part A} {f : A → List Piece} {c : A → B}
     → Turns G bytes text d q q' (λ v ps. ps ≡ f v) (λ v w. c v ≡ c w)
     → Turns G bytes text d p p' (λ vs ps. (ws : List A) → K (vs ++ ws) (ps ++ together (map f ws))) (λ v w. map c v ≡ map c w)
     → Turns G bytes text d (left added p q) (left added p' q') K (λ v w. map c v ≡ map c w)
@@ -430,16 +476,16 @@ prints_more {ps = ps} {qs = qs} {f = f} {p = p} {q = q} x y k = record {
 }
 
 -- what is so of each value that is read from good tokens as this part
-pub record Gives {A : Type 0} (G : Lexeme → Type 0) (bytes : List ℕ) (d : ℕ) (p : Part A) (H : List Lexeme → A → Type 0) : Type 0 where
+pub record Gives {A : Type 0} (G : Goodness) (bytes : List ℕ) (d : ℕ) (p : Part A) (H : List Lexeme → A → Type 0) : Type 0 where
   pub given : (ts : List Lexeme) (v : A) → Each G ts → Is (inner bytes d) p ts v → H ts v
 
-pub gives_give : {A : Type 0} {G : Lexeme → Type 0} {bytes : List ℕ} {d : ℕ} {H : List Lexeme → A → Type 0} {u : A} → H [] u → Gives G bytes d (give u) H
+pub gives_give : {A : Type 0} {G : Goodness} {bytes : List ℕ} {d : ℕ} {H : List Lexeme → A → Type 0} {u : A} → H [] u → Gives G bytes d (give u) H
 gives_give {H = H} h = record { given = λ ts v g i. subst (λ r. H r v) (sym i.0) (subst (H []) (sym i.1) h) }
 
-pub gives_one : {G : Lexeme → Type 0} {bytes : List ℕ} {d : ℕ} {t : Terminal} {H : List Lexeme → Lexeme → Type 0} → ((l : Lexeme) → G l → l.kind ≡ t → H (l ∷ []) l) → Gives G bytes d (one t) H
+pub gives_one : {G : Goodness} {bytes : List ℕ} {d : ℕ} {t : Terminal} {H : List Lexeme → Lexeme → Type 0} → ((l : Lexeme) → G.one_good l → l.kind ≡ t → H (l ∷ []) l) → Gives G bytes d (one t) H
 gives_one {G = G} {H = H} h = record { given = λ ts v g i. subst (λ r. H r v) (sym i.0) (h v (subst (Each G) i.0 g).0 i.1) }
 
-pub gives_both : {A B C : Type 0} {G : Lexeme → Type 0} {bytes : List ℕ} {d : ℕ} {P : List Lexeme → A → Type 0} {Q : List Lexeme → B → Type 0} {H : List Lexeme → C → Type 0}
+pub gives_both : {A B C : Type 0} {G : Goodness} {bytes : List ℕ} {d : ℕ} {P : List Lexeme → A → Type 0} {Q : List Lexeme → B → Type 0} {H : List Lexeme → C → Type 0}
     {f : A → B → C} {p : Part A} {q : Part B}
     → Gives G bytes d p P → Gives G bytes d q Q → ((xs ys : List Lexeme) (a : A) (b : B) → P xs a → Q ys b → H (xs ++ ys) (f a b)) → Gives G bytes d (both f p q) H
 gives_both {G = G} {H = H} {f = f} x y k = record {
@@ -448,11 +494,11 @@ gives_both {G = G} {H = H} {f = f} x y k = record {
       subst (λ r. H r v) (sym i.4) (subst (H (i.0 ++ i.1)) (sym i.7) (k i.0 i.1 i.2 i.3 (x.given i.0 i.2 g'.0 i.5) (y.given i.1 i.3 g'.1 i.6))));
 }
 
-pub gives_next : {A B : Type 0} {G : Lexeme → Type 0} {bytes : List ℕ} {d : ℕ} {P : List Lexeme → A → Type 0} {H : List Lexeme → B → Type 0} {p : Part (A → B)} {q : Part A}
+pub gives_next : {A B : Type 0} {G : Goodness} {bytes : List ℕ} {d : ℕ} {P : List Lexeme → A → Type 0} {H : List Lexeme → B → Type 0} {p : Part (A → B)} {q : Part A}
     → Gives G bytes d p (λ xs f. (ys : List Lexeme) (a : A) → P ys a → H (xs ++ ys) (f a)) → Gives G bytes d q P → Gives G bytes d (p ⊛ q) H
 gives_next x y = gives_both x y (λ xs ys f a h k. h ys a k)
 
-pub gives_either : {A : Type 0} {G : Lexeme → Type 0} {bytes : List ℕ} {d : ℕ} {H : List Lexeme → A → Type 0} {p q : Part A}
+pub gives_either : {A : Type 0} {G : Goodness} {bytes : List ℕ} {d : ℕ} {H : List Lexeme → A → Type 0} {p q : Part A}
     → Gives G bytes d p H → Gives G bytes d q H → Gives G bytes d (either p q) H
 gives_either {H = H} x y = record { given = λ ts v g i. elim i as (λ j. H ts v) [ inl h ↦ x.given ts v g h | inr h ↦ y.given ts v g h ] }
 
@@ -460,7 +506,7 @@ gives_either {H = H} x y = record { given = λ ts v g i. elim i as (λ j. H ts v
 abbrev Kept : {A B : Type 0} → (A → B → A) → (List Lexeme → A → Type 0) → (List Lexeme → B → Type 0) → Type 0
 Kept {A = A} {B = B} f P Q = (xs ys : List Lexeme) (a : A) (b : B) → P xs a → Q ys b → P (xs ++ ys) (f a b)
 
-gives_pieces : {A B : Type 0} (G : Lexeme → Type 0) (bytes : List ℕ) (d : ℕ) (P : List Lexeme → A → Type 0) (Q : List Lexeme → B → Type 0) (f : A → B → A) (q : Part B)
+gives_pieces : {A B : Type 0} (G : Goodness) (bytes : List ℕ) (d : ℕ) (P : List Lexeme → A → Type 0) (Q : List Lexeme → B → Type 0) (f : A → B → A) (q : Part B)
     → Gives G bytes d q Q → Kept f P Q → (bs : List B) (xs ys : List Lexeme) (a : A) → P xs a → Each G ys → Pieces (Is (inner bytes d) q) ys bs → P (xs ++ ys) (joined f a bs)
 gives_pieces G bytes d P Q f q y k [] xs ys a h g i = subst (λ r. P r a) (sym (append-nil xs) ∙ ap (λ r. xs ++ r) (sym i)) h
 gives_pieces G bytes d P Q f q y k (b ∷ bs) xs ys a h g i =
@@ -468,7 +514,7 @@ gives_pieces G bytes d P Q f q y k (b ∷ bs) xs ys a h g i =
     let r = gives_pieces G bytes d P Q f q y k bs (xs ++ i.0) i.1 (f a b) (k xs i.0 a b h (y.given i.0 b g'.0 i.3)) g'.1 i.4 in
     subst (λ z. P z (joined f (f a b) bs)) (append_assoc xs i.0 i.1 ∙ ap (λ z. xs ++ z) (sym i.2)) r
 
-pub gives_left : {A B : Type 0} {G : Lexeme → Type 0} {bytes : List ℕ} {d : ℕ} {P : List Lexeme → A → Type 0} {Q : List Lexeme → B → Type 0} {f : A → B → A} {p : Part A} {q : Part B}
+pub gives_left : {A B : Type 0} {G : Goodness} {bytes : List ℕ} {d : ℕ} {P : List Lexeme → A → Type 0} {Q : List Lexeme → B → Type 0} {f : A → B → A} {p : Part A} {q : Part B}
     → Gives G bytes d p P → Gives G bytes d q Q → Kept f P Q → Gives G bytes d (left f p q) P
 gives_left {G = G} {bytes = bytes} {d = d} {P = P} {Q = Q} {f = f} {q = q} x y k = record {
   given = λ ts v g i. (
@@ -476,11 +522,11 @@ gives_left {G = G} {bytes = bytes} {d = d} {P = P} {Q = Q} {f = f} {q = q} x y k
       subst (λ r. P r v) (sym i.4) (subst (P (i.0 ++ i.1)) (sym i.7) (gives_pieces G bytes d P Q f q y k i.3 i.0 i.1 i.2 (x.given i.0 i.2 g'.0 i.5) g'.1 i.6)));
 }
 
-pub gives_any : {A : Type 0} {G : Lexeme → Type 0} {bytes : List ℕ} {d : ℕ} {p : Part A} → Gives G bytes d p (λ ts v. Unit {0})
+pub gives_any : {A : Type 0} {G : Goodness} {bytes : List ℕ} {d : ℕ} {p : Part A} → Gives G bytes d p (λ ts v. Unit {0})
 gives_any = record { given = λ ts v g i. tt }
 
 -- what hangs on nothing, and the part behind it
-pub turns_after : {A X : Type 0} {m n : ℕ} {G : Lexeme → Type 0} {bytes text : List ℕ} {d : ℕ} {K : A → List Piece → Type 0} {R : A → A → Type 0} {q q' : Part X} {p p' : Part A}
+pub turns_after : {A X : Type 0} {m n : ℕ} {G : Goodness} {bytes text : List ℕ} {d : ℕ} {K : A → List Piece → Type 0} {R : A → A → Type 0} {q q' : Part X} {p p' : Part A}
     (xs : List Piece) → TurnsTo m m G bytes text d q q' (λ x ps. ps ≡ xs) (λ x y. Unit {0})
     → TurnsTo m n G bytes text d p p' (λ a ps. K a (xs ++ ps)) R → TurnsTo m n G bytes text d (q ▸ p) (q' ▸ p') K R
 turns_after {m = m} {n = n} {G = G} {text = text} {K = K} {R = R} {q' = q'} {p' = p'} xs y z = record {
@@ -497,5 +543,5 @@ turns_after {m = m} {n = n} {G = G} {text = text} {K = K} {R = R} {q' = q'} {p' 
       subst (λ w. TurnedTo m n text (q' ▸ p') (K w) (R w) ts) (sym i.7) r);
 }
 
-pub gives_for : {A : Type 0} {G : Lexeme → Type 0} {bytes : List ℕ} {d : ℕ} {p : Part A} {P Q : List Lexeme → A → Type 0} → ((ts : List Lexeme) (v : A) → P ts v → Q ts v) → Gives G bytes d p P → Gives G bytes d p Q
+pub gives_for : {A : Type 0} {G : Goodness} {bytes : List ℕ} {d : ℕ} {p : Part A} {P Q : List Lexeme → A → Type 0} → ((ts : List Lexeme) (v : A) → P ts v → Q ts v) → Gives G bytes d p P → Gives G bytes d p Q
 gives_for k x = record { given = λ ts v g i. k ts v (x.given ts v g i) }

@@ -28,8 +28,8 @@ use Rattle.mv_print.specs.Printing.{Piece, key, name_piece, variable_piece, numb
 use Rattle.mv_print.specs.Same.{placeless_expr, placeless_name}
 use Rattle.mv_print.proofs.Light.{kinds, Plain, Light, light_none, light_joined, light_raised, light_plain, light_opens, light_close, light_parens, light_within}
 use Rattle.mv_print.proofs.Building.{marks, light_both, light_token, Each, Gives, gives_give, gives_one, gives_both, gives_next, gives_either, gives_left, gives_any, Reading, Prints, Spelled, Sound, Fits, apart, one_spelled, joined_added, prints_give, prints_one, prints_both, prints_next, prints_skip, prints_behind, prints_place, prints_inl, prints_inr, prints_more, prints_for}
-use Rattle.mv_print.proofs.Sounding.{IsName, IsVariable, sound_key, sound_number, sound_text}
-use Rattle.mv_print.proofs.Meaning.{Meant, meant_name, meant_variable, meant_text}
+use Rattle.mv_print.proofs.Sounding.{IsContent, IsName, IsVariable, sound_key, sound_number, sound_text}
+use Rattle.mv_print.proofs.Meaning.{Meant, Good, meant_name, meant_variable, meant_text}
 use Rattle.mv_print.proofs.Tokens.{prints_token, SameName, prints_name, prints_variable, number_read, text_read}
 use Rattle.mv_print.proofs.Trees.{kind_pieces, of_kind, of_const, of_var, of_field, of_col, of_one, of_two}
 use Rattle.mv_print.proofs.Levels.{Same, same_one, same_two, same_kind, placeless_is, placeless_var, placeless_field, placeless_col, part_at, prints_inside, Printable, Wrapped, Core, printable_of}
@@ -51,7 +51,7 @@ printable_number {text = text} t n h =
     printable_leaf (leaf t k) (number_piece n ∷ []) (λ m. ap (λ f. f m) (of_kind (leaf t k) k refl) ∙ of_const (value.Int (pos n)) m)
     (prints_inl (prints_token (number_piece n) (sound_number n h) refl (λ l f. const_same t l.number n _ (number_read text n l h f))))
 
-pub printable_text : {text : List ℕ} (t : ℕ) (content : List ℕ) → list_all is_printable content ≡ true → Printable text (leaf t (Const (value.Text content)))
+pub printable_text : {text : List ℕ} (t : ℕ) (content : List ℕ) → IsContent content → Printable text (leaf t (Const (value.Text content)))
 unfolding prim
 printable_text {text = text} t content h =
     let k = Const (value.Text content) in
@@ -149,7 +149,7 @@ prefix_read text d o t p a tok x ps (l ∷ ls) e r s =
 prints_prefix : {text : List ℕ} {o : OneOp} {t : Terminal} {p : Part Expr} {ps : List Piece} (a : Expr) (tok : ℕ) (x : Piece) → Sound x → x.kind ≡ t
     → Prints text (prefixes o t p) (Same a) ps → Prints text (prefixes o t p) (Same (leaf tok (One o a))) (x ∷ ps)
 prints_prefix {text = text} {o = o} {t = t} {p = p} {ps = ps} a tok x s e y = record {
-  sounds = (s, y.sounds);
+  sounds = (inl s, y.sounds);
   levels = y.levels;
   reads = λ d ls h z. prefix_read text d o t p a tok x ps ls e (λ r j. y.reads d r h j) z;
 }
@@ -373,7 +373,7 @@ plain_op Ge = record { opens = refl; closes = refl; ends = refl }
 -- Each expression that is read from good tokens can be printed at each level, and its pieces are no heavier than the tokens.
 module _ (bytes text : List ℕ) (d : ℕ) where
   abbrev Found : ℕ → Part Expr → Type 0
-  Found level p = Gives (Meant bytes) bytes d p (λ ts e. Printable text e × Lit level ts e)
+  Found level p = Gives (Good bytes) bytes d p (λ ts e. Printable text e × Lit level ts e)
 
   abbrev FoundInside : Type 0
   FoundInside = Found 0 expression
@@ -385,11 +385,11 @@ module _ (bytes text : List ℕ) (d : ℕ) where
   only : (t : Terminal) (l : Lexeme) → Plain t → l.kind ≡ t → OnlyPlain (l ∷ []) t
   only t l p e = subst (λ r. Light 0 0 (r ∷ []) (t ∷ [])) (sym e) (light_plain 0 t p)
 
-  pub found_name : Gives (Meant bytes) bytes d (name bytes) (λ ts n. IsName n.text × OnlyPlain ts word.Name)
+  pub found_name : Gives (Good bytes) bytes d (name bytes) (λ ts n. IsName n.text × OnlyPlain ts word.Name)
   unfolding name
   found_name = gives_next (gives_give (λ ys l h. h)) (gives_one (λ l g e. (meant_name l g e, only word.Name l (record { opens = refl; closes = refl; ends = refl }) e)))
 
-  pub found_variable : Gives (Meant bytes) bytes d (variable bytes) (λ ts n. IsVariable n.text × OnlyPlain ts word.Variable)
+  pub found_variable : Gives (Good bytes) bytes d (variable bytes) (λ ts n. IsVariable n.text × OnlyPlain ts word.Variable)
   unfolding variable
   found_variable = gives_next (gives_give (λ ys l h. h)) (gives_one (λ l g e. (meant_variable l g e, only word.Variable l (record { opens = refl; closes = refl; ends = refl }) e)))
 
@@ -422,7 +422,7 @@ module _ (bytes text : List ℕ) (d : ℕ) where
   abbrev Opened : List Lexeme → Expr → Type 0
   Opened xs w = (ts : List Lexeme) × (kinds xs ≡ word.Open ∷ kinds ts) × Printable text w × Lit 0 ts w
 
-  found_open : Gives (Meant bytes) bytes d (place word.Open) (λ ts n. kinds ts ≡ word.Open ∷ [])
+  found_open : Gives (Good bytes) bytes d (place word.Open) (λ ts n. kinds ts ≡ word.Open ∷ [])
   found_open = gives_next (gives_give (λ ys l h. h)) (gives_one (λ l g e. ap (λ r. r ∷ []) e))
 
   abbrev opened_kinds : (xs ts : List Lexeme) → kinds xs ≡ word.Open ∷ [] → kinds (xs ++ ts) ≡ word.Open ∷ kinds ts
@@ -443,7 +443,7 @@ module _ (bytes text : List ℕ) (d : ℕ) where
       (λ xs ys w l h k. (h.2, subst (λ r. Lit 7 (xs ++ r) w) (sym k.0) (lit_parens text h.0 (xs ++ l ∷ []) w h.2.1 (closed_kinds xs h.0 l h.1 k.1) h.3)))
 
   -- TEXTOF
-  found_argument : FoundInside → Gives (Meant bytes) bytes d (in_parens expression) (λ ts e. Printable text e × Light 0 0 (kinds ts) (marks (key word.Open ∷ (expr_pieces e 0 ++ key word.Close ∷ []))))
+  found_argument : FoundInside → Gives (Good bytes) bytes d (in_parens expression) (λ ts e. Printable text e × Light 0 0 (kinds ts) (marks (key word.Open ∷ (expr_pieces e 0 ++ key word.Close ∷ []))))
   found_argument inside =
       gives_both {P = Opened} {Q = λ ts l. (ts ≡ l ∷ []) × (l.kind ≡ word.Close)}
       (gives_both {P = λ ts l. kinds ts ≡ word.Open ∷ []} (gives_one (λ l g e. ap (λ r. r ∷ []) e)) inside (λ xs ys l e h k. (ys, opened_kinds xs ys h, k.0, k.1)))
@@ -536,7 +536,7 @@ module _ (bytes text : List ℕ) (d : ℕ) where
       gives_either (gives_next {P = λ ts l. OnlyPlain ts word.Number}
       (gives_give (λ ys l h. (printable_number l.number (number_of bytes l) (omega arith), lit_leaf ys (const_number bytes l) (number_piece (number_of bytes l) ∷ []) (λ m. pieces_value l.number (value.Int (pos (number_of bytes l))) m) h)))
       (gives_one (λ l g e. only word.Number l (record { opens = refl; closes = refl; ends = refl }) e)))
-      (gives_either (gives_next {P = λ ts l. (list_all is_printable (text_of bytes l) ≡ true) × OnlyPlain ts word.Quoted}
+      (gives_either (gives_next {P = λ ts l. IsContent (text_of bytes l) × OnlyPlain ts word.Quoted}
       (gives_give (λ ys l h. (printable_text l.number (text_of bytes l) h.0, lit_leaf ys (const_text bytes l) (text_piece (text_of bytes l) ∷ []) (λ m. pieces_value l.number (value.Text (text_of bytes l)) m) h.1)))
       (gives_one (λ l g e. (meant_text l g e, only word.Quoted l (record { opens = refl; closes = refl; ends = refl }) e))))
       (gives_either (gives_next {P = FieldLit} (gives_next (gives_give (λ xs n h ys o k. found_either xs ys n o h.0 h.1 k)) found_variable)
@@ -554,14 +554,18 @@ module _ (bytes text : List ℕ) (d : ℕ) where
       (found_call inside Contains word.Contains (record { opens = refl; closes = refl; ends = refl }) (λ n a b m. two_at n Contains a b m))))))))
 
   -- prefixes
-  abbrev Prefixes : Terminal → List Lexeme → List Lexeme → Type 0
-  Prefixes t ts ls = (ts ≡ ls) × Each (λ l. l.kind ≡ t) ls
+  abbrev EachKind : Terminal → List Lexeme → Type 0
+  EachKind t [] = Unit {0}
+  EachKind t (l ∷ ls) = (l.kind ≡ t) × EachKind t ls
 
-  each_more : (t : Terminal) (ls : List Lexeme) (l : Lexeme) → Each (λ m. m.kind ≡ t) ls → l.kind ≡ t → Each (λ m. m.kind ≡ t) (ls ++ l ∷ [])
+  abbrev Prefixes : Terminal → List Lexeme → List Lexeme → Type 0
+  Prefixes t ts ls = (ts ≡ ls) × EachKind t ls
+
+  each_more : (t : Terminal) (ls : List Lexeme) (l : Lexeme) → EachKind t ls → l.kind ≡ t → EachKind t (ls ++ l ∷ [])
   each_more t [] l h k = (k, tt)
   each_more t (m ∷ ls) l h k = (h.0, each_more t ls l h.1 k)
 
-  found_marks : (t : Terminal) → Gives (Meant bytes) bytes d (many (one t)) (Prefixes t)
+  found_marks : (t : Terminal) → Gives (Good bytes) bytes d (many (one t)) (Prefixes t)
   found_marks t = gives_left {Q = OnlyOf t} (gives_give (refl, tt)) (gives_one (λ l g e. (refl, e)))
       (λ xs ys ls l h k. (ap (λ r. r ++ ys) h.0 ∙ ap (λ r. ls ++ r) k.0, each_more t ls l h.1 k.1))
 
@@ -570,11 +574,11 @@ module _ (bytes text : List ℕ) (d : ℕ) where
   prefix_level Not = 2
   prefix_level TextOf = 0
 
-  neg_all : (ls ts : List Lexeme) (e : Expr) → Each (λ l. l.kind ≡ word.Minus) ls → Printable text e → Lit 6 ts e → Printable text (all_prefixed Neg ls e) × Lit 6 (ls ++ ts) (all_prefixed Neg ls e)
+  neg_all : (ls ts : List Lexeme) (e : Expr) → EachKind word.Minus ls → Printable text e → Lit 6 ts e → Printable text (all_prefixed Neg ls e) × Lit 6 (ls ++ ts) (all_prefixed Neg ls e)
   neg_all [] ts e h p l = (p, l)
   neg_all (m ∷ ls) ts e h p l = let r = neg_all ls ts e h.1 p l in (printable_one m.number Neg (all_prefixed Neg ls e) r.0, lit_neg m (ls ++ ts) (all_prefixed Neg ls e) h.0 r.1)
 
-  not_all : (ls ts : List Lexeme) (e : Expr) → Each (λ l. l.kind ≡ word.Not) ls → Printable text e → Lit 2 ts e → Printable text (all_prefixed Not ls e) × Lit 2 (ls ++ ts) (all_prefixed Not ls e)
+  not_all : (ls ts : List Lexeme) (e : Expr) → EachKind word.Not ls → Printable text e → Lit 2 ts e → Printable text (all_prefixed Not ls e) × Lit 2 (ls ++ ts) (all_prefixed Not ls e)
   not_all [] ts e h p l = (p, l)
   not_all (m ∷ ls) ts e h p l = let r = not_all ls ts e h.1 p l in (printable_one m.number Not (all_prefixed Not ls e) r.0, lit_not m (ls ++ ts) (all_prefixed Not ls e) h.0 r.1)
 
@@ -591,7 +595,7 @@ module _ (bytes text : List ℕ) (d : ℕ) where
   abbrev IsOperator : ℕ → ℕ → ℕ → List Lexeme → TwoOp → Type 0
   IsOperator level near far ts o = (t : Terminal) × (l : Lexeme) × (ts ≡ l ∷ []) × (l.kind ≡ t) × Shape o t level near far × Plain t
 
-  operator : (t : Terminal) (o : TwoOp) (level near far : ℕ) → Shape o t level near far → Plain t → Gives (Meant bytes) bytes d (one t ▸ give o) (IsOperator level near far)
+  operator : (t : Terminal) (o : TwoOp) (level near far : ℕ) → Shape o t level near far → Plain t → Gives (Good bytes) bytes d (one t ▸ give o) (IsOperator level near far)
   operator t o level near far s p =
       gives_both {P = OnlyOf t} {Q = λ ts v. (ts ≡ []) × (v ≡ o)} (gives_one (λ l g e. (refl, e))) (gives_give (refl, refl))
       (λ xs ys l v h k. (t, l, ap (λ r. r ++ ys) h.0 ∙ ap (λ r. l ∷ r) k.0, h.1, subst (λ r. Shape r t level near far) (sym k.1) s, p))
@@ -601,8 +605,8 @@ module _ (bytes text : List ℕ) (d : ℕ) where
   Behind level near far ts z =
       (t : Terminal) × (l : Lexeme) × (ys : List Lexeme) × (ts ≡ l ∷ ys) × (l.kind ≡ t) × Shape z.0 t level near far × Plain t × Printable text z.1 × Light 0 0 (kinds ys) (marks (expr_pieces z.1 far))
 
-  found_behind : {p : Part TwoOp} {q : Part Expr} (level near far : ℕ) → Gives (Meant bytes) bytes d p (IsOperator level near far) → Found far q
-      → Gives (Meant bytes) bytes d (give with_op ⊛ p ⊛ q) (Behind level near far)
+  found_behind : {p : Part TwoOp} {q : Part Expr} (level near far : ℕ) → Gives (Good bytes) bytes d p (IsOperator level near far) → Found far q
+      → Gives (Good bytes) bytes d (give with_op ⊛ p ⊛ q) (Behind level near far)
   found_behind level near far y x =
       gives_next {P = λ ts e. Printable text e × Lit far ts e} (gives_next {P = IsOperator level near far}
       (gives_give (λ xs o h ys e k. (h.0, h.1, ys, ap (λ r. r ++ ys) h.2, h.3, h.4, h.5, k.0, k.1 far (omega arith)))) y) x
@@ -637,12 +641,12 @@ module _ (bytes text : List ℕ) (d : ℕ) where
   abbrev pub IsComparison : List Lexeme → Op → Type 0
   IsComparison ts o = (l : Lexeme) × (ts ≡ l ∷ []) × (l.kind ≡ op_word o)
 
-  comparison : (o : Op) → Gives (Meant bytes) bytes d (one (op_word o) ▸ give o) IsComparison
+  comparison : (o : Op) → Gives (Good bytes) bytes d (one (op_word o) ▸ give o) IsComparison
   comparison o =
       gives_both {P = OnlyOf (op_word o)} {Q = λ ts v. (ts ≡ []) × (v ≡ o)} (gives_one (λ l g e. (refl, e))) (gives_give (refl, refl))
       (λ xs ys l v h k. (l, ap (λ r. r ++ ys) h.0 ∙ ap (λ r. l ∷ r) k.0, h.1 ∙ ap op_word (sym k.1)))
 
-  pub found_op : Gives (Meant bytes) bytes d (op bytes) IsComparison
+  pub found_op : Gives (Good bytes) bytes d (op bytes) IsComparison
   unfolding op
   found_op = gives_either (comparison Eq) (gives_either (comparison Ne) (gives_either (comparison Lt) (gives_either (comparison Le) (gives_either (comparison Gt) (comparison Ge)))))
 
@@ -674,7 +678,7 @@ module _ (bytes text : List ℕ) (d : ℕ) where
   abbrev After : Terminal → ℕ → List Lexeme → Expr → Type 0
   After t far ts b = (l : Lexeme) × (ys : List Lexeme) × (ts ≡ l ∷ ys) × (l.kind ≡ t) × Printable text b × Lit far ys b
 
-  found_after : {q : Part Expr} (t : Terminal) (far : ℕ) → Found far q → Gives (Meant bytes) bytes d (one t ▸ q) (After t far)
+  found_after : {q : Part Expr} (t : Terminal) (far : ℕ) → Found far q → Gives (Good bytes) bytes d (one t ▸ q) (After t far)
   found_after t far x = gives_both {P = OnlyOf t} (gives_one (λ l g e. (refl, e))) x (λ xs ys l b h k. (l, ys, ap (λ r. r ++ ys) h.0, h.1, k.0, k.1))
 
   found_conj : FoundInside → Found 1 (conj bytes)
@@ -692,7 +696,7 @@ module _ (bytes text : List ℕ) (d : ℕ) where
   ))
 
 -- to any depth
-pub found_inside : (bytes text : List ℕ) (d : ℕ) → Gives (Meant bytes) bytes d expression (λ ts e. Printable text e × Lit 0 ts e)
+pub found_inside : (bytes text : List ℕ) (d : ℕ) → Gives (Good bytes) bytes d expression (λ ts e. Printable text e × Lit 0 ts e)
 unfolding inner
 found_inside bytes text zero = record { given = λ ts v g i. absurd i }
 found_inside bytes text (suc d) = record { given = λ ts v g i. (found_expr bytes text d (found_inside bytes text d)).given ts v g i }

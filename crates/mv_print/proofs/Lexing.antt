@@ -1,5 +1,5 @@
 -- The tokens of a source, and those of printed pieces.
-use Rattle.std.proofs.Common.{◌≡◌, ℕ, zero, suc, ◌+◌, ◌-◌, ◌<◌, ◌≤◌, Bool, true, false, ◌&&◌, List, [], ◌∷◌, ◌++◌, ◌⊎◌, length, map, take, drop, slice_range, refl, sym, ap, subst, ◌∙◌, append_assoc, append-nil, length-append, arith, inl, inr}
+use Rattle.std.proofs.Common.{◌≡◌, ℕ, zero, suc, ◌+◌, ◌-◌, ◌<◌, ◌≤◌, Bool, true, false, ◌&&◌, not, List, [], ◌∷◌, ◌++◌, ◌⊎◌, length, map, take, drop, slice_range, refl, sym, ap, subst, ◌∙◌, append_assoc, append-nil, length-append, arith, inl, inr}
 use Rattle.std.specs.List.{list_all}
 use Rattle.std.proofs.lemmas.Bool.{and_parts, and_from}
 use Rattle.std.proofs.lemmas.Bool.Decides.{nat_tests}
@@ -14,12 +14,16 @@ use Rattle.mv_lex.specs.declared.token.Token.{Token}
 use Rattle.mv_lex.proofs.Pieces.{some_bytes}
 use Rattle.mv_ast.specs.declared.lexeme.Lexeme.{Lexeme}
 use Rattle.mv_ast.specs.declared.lexeme.Terminal.TheVariants as word
-use Rattle.mv_ast.specs.Texts.{spelling}
+use Rattle.mv_ast.specs.declared.lexeme.Terminal.{Terminal}
+use Rattle.mv_ast.specs.declared.limit.Passed.{Passed}
+use Rattle.mv_ast.specs.declared.limit.Which.TheVariants as limit
+use Rattle.mv_ast.specs.Limits.{at_token, when, own_passes, size_passes, is_size_of, is_size, token_passes}
+use Rattle.mv_ast.specs.Texts.{spelling, number_from}
 use Rattle.mv_ast.specs.Lexemes.{kind_of, lexeme_of, lexemes_from, lexemes}
 use Rattle.mv_print.specs.Printing.{Piece, put, written}
 use Rattle.mv_print.proofs.Light.{kinds}
-use Rattle.mv_print.proofs.Building.{marks, Fits, Spelled, Sound, Sounds, Each}
-use Rattle.mv_print.proofs.Meaning.{Meant, kind_behind, behind}
+use Rattle.mv_print.proofs.Building.{marks, Fits, Spelled, Base, Sound, is_type, SizeBehind, Sounded, base_of, Sounds, Triple, Each}
+use Rattle.mv_print.proofs.Meaning.{Meant, Good, kind_behind, behind}
 use Rattle.mv_print.proofs.Scripts.{LastOpen, Last, Ended}
 
 allowed_apart : (xs ys : List ℕ) → list_all is_allowed (xs ++ ys) ≡ true → (list_all is_allowed xs ≡ true) × (list_all is_allowed ys ≡ true)
@@ -49,8 +53,12 @@ token_meant bytes before text rest n place k e h a s =
     }
 
 -- all tokens of the source
+abbrev pub AllMeant : List ℕ → List Lexeme → Type 0
+AllMeant bytes [] = Unit {0}
+AllMeant bytes (l ∷ ls) = Meant bytes l × AllMeant bytes ls
+
 pub all_meant : {place end : ℕ} {bytes rest : List ℕ} {tokens : List Token} (n : ℕ) (all before : List ℕ) → all ≡ before ++ bytes → place ≡ length before → list_all is_allowed bytes ≡ true
-    → Reads place bytes tokens end rest → Each (Meant all) (lexemes_from n all tokens)
+    → Reads place bytes tokens end rest → AllMeant all (lexemes_from n all tokens)
 all_meant n all before e h a stop = tt
 all_meant n all before e h a (blank {b = b} {bytes = bytes} i r) =
     all_meant n all (before ++ b ∷ []) (e ∙ sym (append_assoc before (b ∷ []) bytes)) (omega (arith, length-append before (b ∷ []))) (allowed_apart (b ∷ []) bytes a).1 r
@@ -149,7 +157,9 @@ lexed_more before k p ps l e a g x =
 
 lexed_by : (before : List ℕ) (ps qs : List Piece) → Sounds ps → ((b : List ℕ) → Lexed b qs) → Lexed before (ps ++ qs)
 lexed_by before [] qs s x = x before
-lexed_by before (p ∷ ps) qs s x = lexed_more before s.0.token p (ps ++ qs) (s.0.longest (flat (ps ++ qs))) s.0.is s.0.allowed s.0.gaps (lexed_by (before ++ (p.text ++ p.gap)) ps qs s.1 x)
+lexed_by before (p ∷ ps) qs s x =
+    let b = base_of p ps s.0 in
+    lexed_more before b.token p (ps ++ qs) (b.longest (flat (ps ++ qs))) b.is b.allowed b.gaps (lexed_by (before ++ (p.text ++ p.gap)) ps qs s.1 x)
 
 lexed_last : (p : Piece) → Last p → (before : List ℕ) → Lexed before (p ∷ [])
 lexed_last p h before =
@@ -167,3 +177,87 @@ kinds_spelled text [] [] s = refl
 kinds_spelled text (l ∷ ls) (p ∷ ps) s = ap (λ r. r ∷ kinds ls) s.0.kind ∙ ap (λ r. p.kind ∷ r) (kinds_spelled text ls ps s.1)
 kinds_spelled text [] (p ∷ ps) s = absurd s
 kinds_spelled text (l ∷ ls) [] s = absurd s
+
+-- Tokens that pass no limit of their own.
+none_left_of : {A : Type 0} (xs ys : List A) → xs ++ ys ≡ [] → (xs ≡ []) × (ys ≡ [])
+none_left_of [] ys h = (refl, h)
+none_left_of (x ∷ xs) ys h = cc
+
+never : (b : Bool) (p : Passed) → when b p ≡ [] → b ≡ false
+never true p h = cc
+never false p h = refl
+
+size_true : (a b : Bool) → (a && not b) ≡ false → a ≡ true → b ≡ true
+size_true true true h k = refl
+size_true true false h k = cc
+size_true false b h k = cc
+
+triple_good : (bytes : List ℕ) (l : Lexeme) (ls : List Lexeme) → size_passes bytes (l ∷ ls) ≡ [] → Triple (Good bytes).three_good l ls
+triple_good bytes l [] h = tt
+triple_good bytes l (b ∷ []) h = tt
+triple_good bytes l (b ∷ c ∷ ls) h =
+    λ k. size_true (is_size_of l.kind b.kind c.kind) (is_size (number_from 0 (spelling bytes c))) (never (is_size_of l.kind b.kind c.kind && not (is_size (number_from 0 (spelling bytes c)))) (at_token limit.Text c.number) h) k
+
+pub all_good : (bytes : List ℕ) (ls : List Lexeme) → AllMeant bytes ls → token_passes bytes ls ≡ [] → Each (Good bytes) ls
+unfolding token_passes
+all_good bytes [] m h = tt
+all_good bytes (l ∷ ls) m h =
+    let two = none_left_of (own_passes l.kind (spelling bytes l) l.number ++ size_passes bytes (l ∷ ls)) (token_passes bytes ls) h in
+    let one = none_left_of (own_passes l.kind (spelling bytes l) l.number) (size_passes bytes (l ∷ ls)) two.0 in
+    ((m.0, one.0), triple_good bytes l ls one.1, all_good bytes ls m.1 two.1)
+
+-- and so for printed tokens
+no_type : (a b c : Terminal) → is_type a ≡ false → is_size_of a b c ≡ false
+no_type word.Text b c h = cc
+no_type a b c h = refl
+
+when_false : (b : Bool) (p : Passed) → b ≡ false → when b p ≡ []
+when_false b p h = rw h refl
+
+and_false : (a b : Bool) → a ≡ false → (a && b) ≡ false
+and_false a b h = rw h refl
+
+and_true : (a b : Bool) → b ≡ true → (a && not b) ≡ false
+and_true true b h = rw h refl
+and_true false b h = refl
+
+size_none : (text : List ℕ) (l : Lexeme) (ls : List Lexeme) (p : Piece) (ps qs : List Piece) → Fits text l p → Spelled text ls (ps ++ qs) → Sounded p ps → size_passes text (l ∷ ls) ≡ []
+size_none text l [] p ps qs f s h = refl
+size_none text l (b ∷ []) p ps qs f s h = refl
+size_none text l (b ∷ c ∷ ls) p ps qs f s (inl h) =
+    when_false (is_size_of l.kind b.kind c.kind && not (is_size (number_from 0 (spelling text c)))) (at_token limit.Text c.number)
+    (and_false (is_size_of l.kind b.kind c.kind) (not (is_size (number_from 0 (spelling text c)))) (no_type l.kind b.kind c.kind (ap is_type f.kind ∙ h.plain)))
+size_none text l (b ∷ c ∷ ls) p [] qs f s (inr h) = absurd h.1
+size_none text l (b ∷ c ∷ ls) p (q ∷ []) qs f s (inr h) = absurd h.1
+size_none text l (b ∷ c ∷ ls) p (q ∷ r ∷ ps) qs f s (inr h) =
+    when_false (is_size_of l.kind b.kind c.kind && not (is_size (number_from 0 (spelling text c)))) (at_token limit.Text c.number)
+    (and_true (is_size_of l.kind b.kind c.kind) (is_size (number_from 0 (spelling text c))) (ap (λ t. is_size (number_from 0 t)) s.1.0.spells ∙ h.1))
+
+own_none : (text : List ℕ) (l : Lexeme) (p : Piece) → Fits text l p → ((n : ℕ) → own_passes p.kind p.text n ≡ []) → own_passes l.kind (spelling text l) l.number ≡ []
+own_none text l p f h = subst (λ k. own_passes k (spelling text l) l.number ≡ []) (sym f.kind) (subst (λ t. own_passes p.kind t l.number ≡ []) (sym f.spells) (h l.number))
+
+joined_none : {A : Type 0} (xs ys zs : List A) → xs ≡ [] → ys ≡ [] → zs ≡ [] → (xs ++ ys) ++ zs ≡ []
+joined_none xs ys zs h k l = rw (h, k, l) refl
+
+passes_by : (text : List ℕ) (ps qs : List Piece) (ls : List Lexeme) → Sounds ps → ((ls : List Lexeme) → Spelled text ls qs → token_passes text ls ≡ []) → Spelled text ls (ps ++ qs) → token_passes text ls ≡ []
+unfolding token_passes
+passes_by text [] qs ls s x z = x ls z
+passes_by text (p ∷ ps) qs [] s x z = absurd z
+passes_by text (p ∷ ps) qs (l ∷ ls) s x z =
+    joined_none (own_passes l.kind (spelling text l) l.number) (size_passes text (l ∷ ls)) (token_passes text ls)
+    (own_none text l p z.0 (base_of p ps s.0).own) (size_none text l ls p ps qs z.0 z.1 s.0) (passes_by text ps qs ls s.1 x z.1)
+
+last_passes : (text : List ℕ) (p : Piece) (ls : List Lexeme) → Last p → Spelled text ls (p ∷ []) → token_passes text ls ≡ []
+unfolding token_passes
+last_passes text p [] h z = absurd z
+last_passes text p (l ∷ []) h z = joined_none (own_passes l.kind (spelling text l) l.number) [] [] (subst (λ k. own_passes k (spelling text l) l.number ≡ []) (sym (z.0.kind ∙ h.kind)) refl) refl refl
+last_passes text p (l ∷ m ∷ ls) h z = absurd z.1
+
+none_passes : (text : List ℕ) (ls : List Lexeme) → Spelled text ls [] → token_passes text ls ≡ []
+unfolding token_passes
+none_passes text [] z = refl
+none_passes text (l ∷ ls) z = absurd z
+
+pub passes_none : (text : List ℕ) (ps : List Piece) (ls : List Lexeme) → Sounds ps ⊎ Ended ps → Spelled text ls ps → token_passes text ls ≡ []
+passes_none text ps ls (inl s) z = passes_by text ps [] ls s (none_passes text) (subst (Spelled text ls) (sym (append-nil ps)) z)
+passes_none text ps ls (inr e) z = passes_by text e.0 (e.1 ∷ []) ls e.3 (λ ms y. last_passes text e.1 ms e.4 y) (subst (Spelled text ls) e.2 z)

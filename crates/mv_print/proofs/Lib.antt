@@ -12,4 +12,5 @@ pub mod Rules
 pub mod Sentences
 pub mod Scripts
 pub mod Lexing
+pub mod Counting
 pub mod Law

@@ -2,7 +2,7 @@
 use Rattle.std.proofs.Common.{◌≡◌, ℕ, suc, ◌+◌, ◌-◌, ◌<◌, ◌≤◌, Bool, true, false, cond, ◌&&◌, ◌==◌, nat_lt, List, [], ◌∷◌, ◌++◌, Option, Some, None, length, take, drop, slice_range, refl, sym, ap, subst, ◌∙◌, append_assoc, append-nil, length-append, arith, inl, inr}
 use Rattle.std.specs.List.{list_all, ends_with, position, prefix_len}
 use Rattle.std.proofs.lemmas.Bool.{and_parts, and_from, lt-ltb}
-use Rattle.std.proofs.lemmas.List.{take_at, drop_at, drop-drop, take-append-drop}
+use Rattle.std.proofs.lemmas.List.{take_at, drop_at, drop-drop, take-append-drop, length-map}
 use Rattle.std.specs.Cmp.Lexicographic.{pointwise}
 use Rattle.mv_lex.specs.Bytes.{is_allowed, is_blank, is_in_line, is_printable}
 use Rattle.mv_lex.specs.Spelling.{IsSpelled, is_word, is_number, is_variable, is_symbol, stands_alone, IsText, IsBlock, IsClosing, IsUnclosed, IsBareOpening, is_inner_blank, opening, quoted}
@@ -13,11 +13,16 @@ use Rattle.mv_ast.specs.declared.lexeme.Lexeme.{Lexeme}
 use Rattle.mv_ast.specs.declared.lexeme.Terminal.{Terminal}
 use Rattle.mv_ast.specs.declared.lexeme.Terminal.TheVariants as word
 use Rattle.mv_ast.specs.declared.tree.Span.{Span}
-use Rattle.mv_ast.specs.Texts.{spelling, lower, unquoted, first_line, last_line, line_end}
+use Rattle.mv_ast.specs.Texts.{spelling, number_from, lower, unquoted, first_line, last_line, line_end}
 use Rattle.mv_ast.specs.Lexemes.{kind_of, keywords, symbols, listed}
 use Rattle.mv_ast.specs.Grammar.{closed_of, open_of}
 use Rattle.mv_print.specs.Same.{span_bytes}
-use Rattle.mv_print.proofs.Sounding.{IsName, IsVariable, lower_word, lower_twice, unquoted_back}
+use Rattle.mv_ast.specs.declared.limit.Passed.{Passed}
+use Rattle.mv_ast.specs.declared.limit.Which.TheVariants as limit
+use Rattle.mv_ast.specs.Limits.{at_token, when, own_passes, is_size_of, is_size}
+use Rattle.std.specs.Char.{to_ascii_lowercase}
+use Rattle.mv_print.proofs.Building.{Goodness}
+use Rattle.mv_print.proofs.Sounding.{IsContent, IsName, IsVariable, lower_word, lower_twice, unquoted_back}
 
 -- the token is spelled so in the bytes
 pub record Meant (bytes : List ℕ) (l : Lexeme) : Type 0 where
@@ -90,8 +95,26 @@ meant {bytes = bytes} l t m e =
     let k : m.token ≡ kind_behind t = sym (behind m.token (spelling bytes l)) ∙ ap kind_behind (m.is ∙ e) in
     subst (λ k. IsSpelled k (spelling bytes l) m.after) k m.spelled
 
-pub meant_name : {bytes : List ℕ} (l : Lexeme) → Meant bytes l → l.kind ≡ word.Name → IsName (lower (spelling bytes l))
-meant_name {bytes = bytes} l m e =
+-- the tokens of a source that passes no limit
+abbrev pub Good : List ℕ → Goodness
+Good bytes = record {
+  one_good = λ l. Meant bytes l × (own_passes l.kind (spelling bytes l) l.number ≡ []);
+  three_good = λ a b c. is_size_of a.kind b.kind c.kind ≡ true → is_size (number_from 0 (spelling bytes c)) ≡ true;
+}
+
+abbrev GoodOne : List ℕ → Lexeme → Type 0
+GoodOne bytes l = Meant bytes l × (own_passes l.kind (spelling bytes l) l.number ≡ [])
+
+never_when : (b : Bool) (p : Passed) → when b p ≡ [] → b ≡ false
+never_when true p h = cc
+never_when false p h = refl
+
+own_at : (l : Lexeme) (t : Terminal) (text : List ℕ) → l.kind ≡ t → own_passes l.kind text l.number ≡ [] → own_passes t text l.number ≡ []
+own_at l t text e h = subst (λ k. own_passes k text l.number ≡ []) e h
+
+pub meant_name : {bytes : List ℕ} (l : Lexeme) → GoodOne bytes l → l.kind ≡ word.Name → IsName (lower (spelling bytes l))
+meant_name {bytes = bytes} l g e =
+    let m = g.0 in
     let s = spelling bytes l in
     let k : m.token ≡ token.Word = sym (behind m.token s) ∙ ap kind_behind (m.is ∙ e) in
     let f : kind_of token.Word s ≡ word.Name = sym (ap (λ k. kind_of k s) k) ∙ (m.is ∙ e) in
@@ -99,21 +122,30 @@ meant_name {bytes = bytes} l m e =
       letters = lower_word s (meant l word.Name m e);
       free = ap (listed keywords word.Name) (lower_twice s) ∙ f;
       lowered = lower_twice s;
+      short = ap (nat_lt 64) (length-map s to_ascii_lowercase) ∙ never_when (nat_lt 64 (length s)) (at_token limit.Name l.number) (own_at l word.Name s e g.1);
     }
 
-variable_word : (s : List ℕ) → is_variable s ≡ true → is_word (drop 1 s) ≡ true
+variable_word : (s : List ℕ) → is_variable s ≡ true → (is_word (drop 1 s) ≡ true) × (length (58 ∷ drop 1 s) ≡ length s)
 variable_word [] h = cc
-variable_word (b ∷ s) h = (and_parts (b == 58) (is_word s) h).1
+variable_word (b ∷ s) h = ((and_parts (b == 58) (is_word s) h).1, refl)
 
-pub meant_variable : {bytes : List ℕ} (l : Lexeme) → Meant bytes l → l.kind ≡ word.Variable → IsVariable (lower (drop 1 (spelling bytes l)))
-meant_variable {bytes = bytes} l m e =
+pub meant_variable : {bytes : List ℕ} (l : Lexeme) → GoodOne bytes l → l.kind ≡ word.Variable → IsVariable (lower (drop 1 (spelling bytes l)))
+meant_variable {bytes = bytes} l g e =
     let s = drop 1 (spelling bytes l) in
-    record { letters = lower_word s (variable_word (spelling bytes l) (meant l word.Variable m e)); lowered = lower_twice s }
+    let w = variable_word (spelling bytes l) (meant l word.Variable g.0 e) in
+    let n : length (58 ∷ lower s) ≡ length (spelling bytes l) = ap suc (length-map s to_ascii_lowercase) ∙ w.1 in
+    record {
+      letters = lower_word s w.0;
+      lowered = lower_twice s;
+      short = ap (nat_lt 65) n ∙ never_when (nat_lt 65 (length (spelling bytes l))) (at_token limit.Name l.number) (own_at l word.Variable (spelling bytes l) e g.1);
+    }
 
-pub meant_text : {bytes : List ℕ} (l : Lexeme) → Meant bytes l → l.kind ≡ word.Quoted → list_all is_printable (unquoted (spelling bytes l)) ≡ true
-meant_text {bytes = bytes} l m e =
-    let t : IsText (spelling bytes l) = meant l word.Quoted m e in
-    ap (list_all is_printable) (ap unquoted t.written ∙ unquoted_back t.content) ∙ t.printable
+pub meant_text : {bytes : List ℕ} (l : Lexeme) → GoodOne bytes l → l.kind ≡ word.Quoted → IsContent (unquoted (spelling bytes l))
+meant_text {bytes = bytes} l g e =
+    let t : IsText (spelling bytes l) = meant l word.Quoted g.0 e in (
+      ap (list_all is_printable) (ap unquoted t.written ∙ unquoted_back t.content) ∙ t.printable,
+      never_when (nat_lt 4000 (length (unquoted (spelling bytes l)))) (at_token limit.Text l.number) (own_at l word.Quoted (spelling bytes l) e g.1),
+    )
 
 -- Where a block's lines stand.
 slice_inside : (bytes : List ℕ) (a n : ℕ) (front inside after : List ℕ) → slice_range bytes a (a + n) ≡ front ++ (inside ++ after)

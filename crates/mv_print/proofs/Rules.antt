@@ -4,6 +4,7 @@ use Rattle.std.specs.Prelude.{pos, negsuc, ◌-ℤ◌}
 use Rattle.std.specs.Option.{option_map}
 use Rattle.std.specs.List.{list_all}
 use Rattle.std.proofs.lemmas.Bool.{lt-ltb}
+use Rattle.std.proofs.lemmas.Bool.Decides.{nat_tests}
 use Rattle.std.proofs.lemmas.List.{map-append}
 use Rattle.mv_lex.specs.Bytes.{is_printable}
 use Rattle.mv_values.specs.declared.op.Op.{Op}
@@ -25,16 +26,17 @@ use Rattle.mv_ast.specs.declared.tree.LitRow.{LitRow}
 use Rattle.mv_ast.specs.declared.tree.Name.{Name}
 use Rattle.mv_ast.specs.declared.tree.SetItem.{SetItem}
 use Rattle.mv_ast.specs.declared.tree.Sort.{Sort}
-use Rattle.mv_ast.specs.Texts.{greatest}
+use Rattle.mv_ast.specs.Texts.{greatest, number_from, spelling}
+use Rattle.mv_ast.specs.Limits.{is_size, is_size_of}
 use Rattle.mv_ast.specs.Parts.{Part, give, one, both, either, left, expression, statement, Is}
 use Rattle.mv_ast.specs.Grammar as rule
-use Rattle.mv_ast.specs.Grammar.{inner, ◌⊛◌, number_of, text_of, negative_of, positive_of, quoted_of, text_column}
+use Rattle.mv_ast.specs.Grammar.{inner, in_parens, ◌⊛◌, ◌▸◌, number_of, text_of, negative_of, positive_of, quoted_of, text_column}
 use Rattle.mv_print.specs.Printing.{Piece, key, name_piece, name_pieces, variable_piece, variable_pieces, number_piece, text_piece, value_pieces, literal_pieces, row_pieces, type_pieces, column_pieces, whole_expr, expr_pieces, cond_pieces, conds_pieces, direction_pieces, sort_pieces, sorts_pieces, offset_pieces, agg_pieces, set_pieces, op_word, listed}
 use Rattle.mv_print.specs.Same.{placeless_name, placeless_expr, placeless_literal, placeless_row, placeless_column, placeless_cond, placeless_sort, placeless_set, placeless_agg}
-use Rattle.mv_print.proofs.Light.{kinds, Plain, Light, light_none, light_joined, light_plain, light_drop}
-use Rattle.mv_print.proofs.Building.{marks, light_both, light_nothing, gives_for, turns_then, turns_deeper, Prints, Turns, Gives, gives_give, gives_one, gives_both, gives_next, gives_either, gives_any, prints_give, prints_one, prints_next, prints_behind, prints_inl, prints_inr, prints_for, turns_give, turns_next, turns_either, turns_as}
-use Rattle.mv_print.proofs.Sounding.{IsName, IsVariable, sound_key, sound_number, sound_text}
-use Rattle.mv_print.proofs.Meaning.{Meant, meant_text}
+use Rattle.mv_print.proofs.Light.{kinds, Plain, Light, light_none, light_joined, light_plain, light_drop, light_within}
+use Rattle.mv_print.proofs.Building.{Fits, Each, both_read, one_read, prints_skip, marks, light_both, light_nothing, gives_for, turns_then, turns_deeper, Prints, Turns, Gives, gives_give, gives_one, gives_both, gives_next, gives_either, gives_any, prints_give, prints_one, prints_next, prints_behind, prints_inl, prints_inr, prints_for, turns_give, turns_next, turns_either, turns_as}
+use Rattle.mv_print.proofs.Sounding.{IsContent, digits_back, IsName, IsVariable, sound_key, sound_number, sound_text}
+use Rattle.mv_print.proofs.Meaning.{Good, meant_text}
 use Rattle.mv_print.proofs.Tokens.{prints_token, SameName, prints_name, prints_variable, number_read, text_read}
 use Rattle.mv_print.proofs.Levels.{Same, prints_inside, Printable}
 use Rattle.mv_print.proofs.Expressions.{found_name, found_variable, found_op, plain_op, found_inside, found_sum}
@@ -61,7 +63,7 @@ same6 f {x = x} {b = b} {c = c} {d = d} {e = e} {g = g} h k l m n o = ap (λ r. 
 abbrev pub IsLiteral : Value → Type 0
 IsLiteral (value.Int (pos n)) = n ≤ greatest
 IsLiteral (value.Int (negsuc n)) = suc n ≤ greatest
-IsLiteral (value.Text t) = list_all is_printable t ≡ true
+IsLiteral (value.Text t) = IsContent t
 
 negated : (n : ℕ) → pos 0 -ℤ pos (suc n) ≡ negsuc n
 negated n =
@@ -108,12 +110,28 @@ unfolding rule.direction
 prints_direction true = prints_inr (prints_inl (prints_behind (key word.Desc) (sound_key word.Desc) refl (prints_give true refl)))
 prints_direction false = prints_inr (prints_inr (prints_give false refl))
 
--- a size in TEXT ( n )
-abbrev IsSize : ColType → List Piece → Type 0
-IsSize k ps = (n : ℕ) × (n ≤ 65535) × (k ≡ column.Text n) × (ps ≡ number_piece n ∷ [])
+-- the column TEXT ( n ), as it is printed
+size_prints : {text : List ℕ} (n : ℕ) (v : ColType) → v ≡ column.Text n → n ≤ 4000 → Prints text (in_parens (give (text_column text) ⊛ one word.Number)) (λ w. v ≡ w) (key word.Open ∷ number_piece n ∷ key word.Close ∷ [])
+size_prints {text = text} n v e h =
+    prints_skip (key word.Close) (sound_key word.Close) refl (prints_behind (key word.Open) (sound_key word.Open) refl
+    (prints_token (number_piece n) (sound_number n (omega arith)) refl (λ l f. e ∙ ap column.Text (size_back n (number_of text l) h (number_read text n l (omega arith) f)))))
+  where
+    size_back : (n m : ℕ) → n ≤ 4000 → m ≡ n → n ≡ min m 65535
+    size_back n m h e = omega arith
 
-size_back : (n m : ℕ) → n ≤ 65535 → m ≡ n → n ≡ min m 65535
-size_back n m h e = omega arith
+type_prints : {text : List ℕ} (n : ℕ) (v : ColType) → v ≡ column.Text n → is_size n ≡ true → n ≤ 4000
+    → Prints text (one word.Text ▸ in_parens (give (text_column text) ⊛ one word.Number)) (λ w. v ≡ w) (key word.Text ∷ key word.Open ∷ number_piece n ∷ key word.Close ∷ [])
+type_prints {text = text} n v e i h =
+    let y = size_prints {text = text} n v e h in
+    record {
+      sounds = (inr (sound_key word.Text, ap is_size (digits_back n (omega arith)) ∙ i), y.sounds);
+      levels = y.levels;
+      reads = λ d ls l s. both_read {P = λ m. Fits text m (key word.Text)} {ps = key word.Text ∷ []} (λ a b. b) (one word.Text) (in_parens (give (text_column text) ⊛ one word.Number)) d ls (λ a b j k. k)
+          (λ r z. one_read d word.Text (key word.Text) r refl z) (λ r z. y.reads d r l z) s;
+    }
+
+size_most : (n : ℕ) → is_size n ≡ true → n ≤ 4000
+size_most n h = grind (arith, nat_tests)
 
 -- a name in parentheses
 abbrev within : Name → List Piece
@@ -121,7 +139,7 @@ within n = key word.Open ∷ name_piece n ∷ key word.Close ∷ []
 
 module _ (bytes text : List ℕ) (d : ℕ) where
   abbrev pub Rule : {A B : Type 0} → Part A → Part A → (A → List Piece) → (A → B) → Type 0
-  Rule p q f c = Turns (Meant bytes) bytes text d p q (λ v ps. ps ≡ f v) (λ v w. c v ≡ c w)
+  Rule p q f c = Turns (Good bytes) bytes text d p q (λ v ps. ps ≡ f v) (λ v w. c v ≡ c w)
 
   pub rule_name : Rule (rule.name bytes) (rule.name text) name_pieces placeless_name
   rule_name = turns_found {H = λ n. IsName n.text} (found_name bytes text d) (λ v h. prints_name v h)
@@ -136,13 +154,13 @@ module _ (bytes text : List ℕ) (d : ℕ) where
   abbrev LitLight : List Lexeme → Value → Type 0
   LitLight ts v = Light 0 0 (kinds ts) (marks (value_pieces v))
 
-  one_kind : (t : Terminal) → Gives (Meant bytes) bytes d (one t) (λ ts l. Kinds ts (t ∷ []))
+  one_kind : (t : Terminal) → Gives (Good bytes) bytes d (one t) (λ ts l. Kinds ts (t ∷ []))
   one_kind t = gives_one (λ l g e. ap (λ r. r ∷ []) e)
 
   lit_of : (ts : List Lexeme) (ks : List Terminal) (v : Value) → Kinds ts ks → Light 0 0 ks (marks (value_pieces v)) → LitLight ts v
   lit_of ts ks v e l = subst (λ r. Light 0 0 r (marks (value_pieces v))) (sym e) l
 
-  found_literal : Gives (Meant bytes) bytes d (rule.literal bytes) (λ ts l. IsLiteral l.value × LitLight ts l.value)
+  found_literal : Gives (Good bytes) bytes d (rule.literal bytes) (λ ts l. IsLiteral l.value × LitLight ts l.value)
   unfolding rule.literal
   found_literal =
       gives_either (gives_next (gives_next (gives_give (λ xs m h ys l k. (
@@ -151,7 +169,7 @@ module _ (bytes text : List ℕ) (d : ℕ) where
       )))
       (one_kind word.Minus)) (one_kind word.Number))
       (gives_either (gives_next (gives_give (λ ys l k. (omega arith, lit_of ys (word.Number ∷ []) (value.Int (pos (number_of bytes l))) k (light_plain 0 word.Number (record { opens = refl; closes = refl; ends = refl }))))) (one_kind word.Number))
-      (gives_next {P = λ ts l. (list_all is_printable (text_of bytes l) ≡ true) × Kinds ts (word.Quoted ∷ [])}
+      (gives_next {P = λ ts l. IsContent (text_of bytes l) × Kinds ts (word.Quoted ∷ [])}
       (gives_give (λ ys l h. (h.0, lit_of ys (word.Quoted ∷ []) (value.Text (text_of bytes l)) h.1 (light_plain 0 word.Quoted (record { opens = refl; closes = refl; ends = refl }))))) (gives_one (λ l g e. (meant_text l g e, ap (λ r. r ∷ []) e)))))
 
   pub rule_literal : Rule (rule.literal bytes) (rule.literal text) literal_pieces placeless_literal
@@ -163,29 +181,60 @@ module _ (bytes text : List ℕ) (d : ℕ) where
       skip_close (turns_next (turns_commas {K = λ ls ps. ps ≡ listed literal_pieces ls} rule_literal (λ v vs. refl)) (turns_deeper (place_open (sound_key word.Open) (record { opens = refl; ends = refl }))
       (turns_give (λ n ls. refl) (λ n m u ls ms h. ap (λ (r : List Lit). (let x : LitRow = record { token = 0; values = r } in x)) h))))
 
-  found_size : Gives (Meant bytes) bytes d (give (text_column bytes) ⊛ one word.Number) (λ ts v. ((n : ℕ) × (n ≤ 65535) × (v ≡ column.Text n)) × Light 0 0 (kinds ts) (word.Number ∷ []))
-  found_size = gives_next {P = λ ts l. Kinds ts (word.Number ∷ [])}
-      (gives_give (λ ys l h. ((min (number_of bytes l) 65535, omega arith, refl), subst (λ r. Light 0 0 r (word.Number ∷ [])) (sym h) (light_plain 0 word.Number (record { opens = refl; closes = refl; ends = refl }))))) (one_kind word.Number)
+  -- the tokens TEXT ( n )
+  abbrev SizeTokens : List Lexeme → ColType → Type 0
+  SizeTokens ts v = (a : Lexeme) × (b : Lexeme) × (c : Lexeme) × (e : Lexeme) × (ts ≡ a ∷ b ∷ c ∷ e ∷ []) × ((a.kind ≡ word.Text) × (b.kind ≡ word.Open) × (c.kind ≡ word.Number) × (e.kind ≡ word.Close)) × (v ≡ text_column bytes c)
 
-  turns_size : Turns (Meant bytes) bytes text d (give (text_column bytes) ⊛ one word.Number) (give (text_column text) ⊛ one word.Number) IsSize (λ v w. v ≡ w)
+  abbrev OnlyOf : Terminal → List Lexeme → Lexeme → Type 0
+  OnlyOf t ts l = (ts ≡ l ∷ []) × (l.kind ≡ t)
+
+  found_number : Gives (Good bytes) bytes d (give (text_column bytes) ⊛ one word.Number) (λ ts v. (c : Lexeme) × (ts ≡ c ∷ []) × (c.kind ≡ word.Number) × (v ≡ text_column bytes c))
+  found_number = gives_next {P = OnlyOf word.Number} (gives_give (λ ys l h. (l, h.0, h.1, refl))) (gives_one (λ l g e. (refl, e)))
+
+  found_size : Gives (Good bytes) bytes d (one word.Text ▸ in_parens (give (text_column bytes) ⊛ one word.Number)) SizeTokens
+  found_size =
+      gives_both {P = OnlyOf word.Text} {Q = λ ts v. (b : Lexeme) × (c : Lexeme) × (e : Lexeme) × (ts ≡ b ∷ c ∷ e ∷ []) × ((b.kind ≡ word.Open) × (c.kind ≡ word.Number) × (e.kind ≡ word.Close)) × (v ≡ text_column bytes c)}
+      (gives_one (λ l g e. (refl, e)))
+      (gives_both {P = λ ts v. (b : Lexeme) × (c : Lexeme) × (ts ≡ b ∷ c ∷ []) × ((b.kind ≡ word.Open) × (c.kind ≡ word.Number)) × (v ≡ text_column bytes c)} {Q = OnlyOf word.Close}
+      (gives_both {P = OnlyOf word.Open} (gives_one (λ l g e. (refl, e))) found_number (λ xs ys l v h k. (l, k.0, ap (λ r. r ++ ys) h.0 ∙ ap (λ r. l ∷ r) k.1, (h.1, k.2), k.3)))
+      (gives_one (λ l g e. (refl, e)))
+      (λ xs ys v l h k. (h.0, h.1, l, ap (λ r. r ++ ys) h.2 ∙ ap (λ r. h.0 ∷ h.1 ∷ r) k.0, (h.3.0, h.3.1, k.1), h.4)))
+      (λ xs ys l v h k. (l, k.0, k.1, k.2, ap (λ r. r ++ ys) h.0 ∙ ap (λ r. l ∷ r) k.3, (h.1, k.4.0, k.4.1, k.4.2), k.5))
+
+  size_kinds : (a b c e : Lexeme) → (a.kind ≡ word.Text) × (b.kind ≡ word.Open) × (c.kind ≡ word.Number) × (e.kind ≡ word.Close) → kinds (a ∷ b ∷ c ∷ e ∷ []) ≡ word.Text ∷ word.Open ∷ word.Number ∷ word.Close ∷ []
+  size_kinds a b c e h = same4 (λ (p q r s : Terminal). p ∷ q ∷ r ∷ s ∷ []) h.0 h.1 h.2 h.3
+
+  is_size_text : (a b c : Lexeme) → a.kind ≡ word.Text → b.kind ≡ word.Open → c.kind ≡ word.Number → is_size_of a.kind b.kind c.kind ≡ true
+  is_size_text a b c h k l = subst (λ r. is_size_of r b.kind c.kind ≡ true) (sym h) (subst (λ r. is_size_of word.Text r c.kind ≡ true) (sym k) (subst (λ r. is_size_of word.Text word.Open r ≡ true) (sym l) refl))
+
+  capped : (n : ℕ) → n ≤ 4000 → min (min n greatest) 65535 ≡ n
+  capped n h = omega arith
+
+  size_light : Light 0 0 (word.Text ∷ word.Open ∷ word.Number ∷ word.Close ∷ []) (word.Text ∷ word.Open ∷ word.Number ∷ word.Close ∷ [])
+  size_light =
+      light_joined 0 0 0 (word.Text ∷ []) (word.Open ∷ word.Number ∷ word.Close ∷ []) (word.Text ∷ []) (word.Open ∷ word.Number ∷ word.Close ∷ []) (light_plain 0 word.Text (record { opens = refl; closes = refl; ends = refl }))
+      (light_within (word.Number ∷ []) (word.Number ∷ []) (light_plain 0 word.Number (record { opens = refl; closes = refl; ends = refl })))
+
+  turns_size : Turns (Good bytes) bytes text d (one word.Text ▸ in_parens (give (text_column bytes) ⊛ one word.Number)) (one word.Text ▸ in_parens (give (text_column text) ⊛ one word.Number)) (λ v ps. ps ≡ type_pieces v) (λ v w. v ≡ w)
   turns_size = record {
     turn = λ ts v g i. (
         let f = found_size.given ts v g i in
-        let s = f.0 in
+        let good = subst (Each (Good bytes)) f.4 g in
+        let n = number_from 0 (spelling bytes f.2) in
+        let z : is_size n ≡ true = good.1 (is_size_text f.0 f.1 f.2 f.5.0 f.5.1 f.5.2) in
+        let m = size_most n z in
+        let e : v ≡ column.Text n = f.6 ∙ ap column.Text (capped n m) in
         record {
-          pieces = number_piece s.0 ∷ [];
-          is = (s.0, s.1, s.2, refl);
-          light = f.1;
-          prints = prints_token (number_piece s.0) (sound_number s.0 (let m = s.1 in omega arith)) refl (λ l z. s.2 ∙ ap column.Text (size_back s.0 (number_of text l) s.1 (number_read text s.0 l (let m = s.1 in omega arith) z)));
+          pieces = key word.Text ∷ key word.Open ∷ number_piece n ∷ key word.Close ∷ [];
+          is = ap type_pieces (sym e);
+          prints = type_prints n v e z m;
+          light = subst (λ r. Light 0 0 r (word.Text ∷ word.Open ∷ word.Number ∷ word.Close ∷ [])) (sym (ap kinds f.4 ∙ size_kinds f.0 f.1 f.2 f.3 f.5)) size_light;
         });
   }
 
   pub rule_type : Rule (rule.column_type bytes) (rule.column_type text) type_pieces (λ k. k)
   unfolding rule.column_type
-  rule_type =
-      turns_either (behind_key (plain_key word.Int) (turns_give refl refl))
-      (behind_key (plain_key word.Text) (turns_parens (turns_as
-      (λ v ps h. ap (λ r. key word.Text ∷ key word.Open ∷ (r ++ key word.Close ∷ [])) h.3 ∙ ap type_pieces (sym h.2)) (λ v w h. h) turns_size)))
+  rule_type = turns_either (behind_key (plain_key word.Int) (turns_give refl refl)) turns_size
 
   pub rule_column : Rule (rule.col_def bytes) (rule.col_def text) column_pieces placeless_column
   unfolding rule.col_def
@@ -212,7 +261,7 @@ module _ (bytes text : List ℕ) (d : ℕ) where
   rule_conds = turns_either (behind_key (plain_key word.Where) (turns_separated (plain_key word.And) rule_cond (λ v vs. refl))) (turns_give refl refl)
 
   -- ASC isn't printed
-  found_direction : Gives (Meant bytes) bytes d (rule.direction bytes) (λ ts b. Unit {0} × Light 0 0 (kinds ts) (marks (direction_pieces b)))
+  found_direction : Gives (Good bytes) bytes d (rule.direction bytes) (λ ts b. Unit {0} × Light 0 0 (kinds ts) (marks (direction_pieces b)))
   unfolding rule.direction
   found_direction =
       gives_either (gives_both {P = λ ts l. Light 0 0 (kinds ts) []} {Q = λ ts b. (ts ≡ []) × (b ≡ false)} (gives_one (λ l g e. subst (λ r. Light 0 0 (r ∷ []) []) (sym e) (light_drop 0 word.Asc (record { opens = refl; closes = refl; ends = refl }) refl))) (gives_give (refl, refl))

@@ -41,7 +41,7 @@ use Rattle.mv_print.specs.Same.{placeless_name, placeless_literal, placeless_row
 use Rattle.mv_print.proofs.Light.{kinds, Light, light_plain}
 use Rattle.mv_print.proofs.Building.{marks, light_both, light_nothing, turns_then, turns_deeper, Fits, Spelled, Sound, Sounds, sounds_joined, Each, each_apart, apart, one_spelled, none_spelled, Reading, Readings, Prints, Turned, Turns, Gives, gives_give, gives_one, gives_both, gives_next, gives_either, gives_left, gives_any, both_read, more_read, joined_added, turns_give, turns_next, turns_either, turns_left, turns_as}
 use Rattle.mv_print.proofs.Sounding.{sound_key}
-use Rattle.mv_print.proofs.Meaning.{Meant, meant, closed_bytes, open_bytes, bare_bytes}
+use Rattle.mv_print.proofs.Meaning.{Meant, Good, meant, closed_bytes, open_bytes, bare_bytes}
 use Rattle.mv_print.proofs.Tokens.{prints_token}
 use Rattle.mv_print.proofs.Turning.{plain_key, skip_open, skip_close, skip_ends, skip_end_line, place_open, skip, skip_end, behind_key, behind_keys, place_key, turns_parens, turns_many, turns_commas, turns_found}
 use Rattle.mv_print.proofs.Rules.{Rule, same2, same3, same4, rule_name, rule_variable, rule_literal, rule_row, rule_type, rule_column}
@@ -108,11 +108,15 @@ closed_block bytes l m e =
 
 closed_sound : (content : List ℕ) → ((after : List ℕ) → IsBlock (block_piece content true).text after) → list_all is_allowed content ≡ true → Sound (block_piece content true)
 closed_sound content b a = record {
+  base = record {
   token = token.Block;
   longest = λ rest. found_longest token.Block (length (block_piece content true).text) (block_piece content true).text rest (block_is (block_piece content true).text rest (b rest)) refl (b rest);
   is = refl;
   allowed = allowed_joined content (62 ∷ 62 ∷ 10 ∷ []) a refl;
   gaps = refl;
+  own = λ n. refl;
+  };
+  plain = refl;
 }
 
 closed_again : (text content : List ℕ) (l : Lexeme) → Fits text l (block_piece content true) → span_bytes text (closed_of text l) ≡ content
@@ -184,7 +188,7 @@ module _ (bytes text : List ℕ) (d : ℕ) where
   abbrev SameKind : ItemKind → ItemKind → Type 0
   SameKind k j = ◌≡◌ {A = ItemKind × List ℕ} (placeless_kind k, block_bytes bytes k) (placeless_kind j, block_bytes text j)
 
-  way_table : Turns (Meant bytes) bytes text d (rule.table bytes) (rule.table text) Created SameKind
+  way_table : Turns (Good bytes) bytes text d (rule.table bytes) (rule.table text) Created SameKind
   unfolding rule.table
   way_table =
       skip_end (turns_next way_values (skip_close (turns_next {fq = λ ns. key word.Open ∷ (listed name_pieces ns ++ key word.Close ∷ [])} (turns_parens (turns_commas (rule_name bytes text d) (λ n ns. refl)))
@@ -218,7 +222,7 @@ module _ (bytes text : List ℕ) (d : ℕ) where
   way_params : Way (rule.in_parens (rule.or_none (rule.commas (rule.param bytes)))) (rule.in_parens (rule.or_none (rule.commas (rule.param text)))) param_list (map placeless_param)
   way_params = turns_parens (turns_either (turns_commas way_param (λ p ps. refl)) (turns_give refl refl))
 
-  way_procedure : Turns (Meant bytes) bytes text d (rule.procedure bytes) (rule.procedure text) Created SameKind
+  way_procedure : Turns (Good bytes) bytes text d (rule.procedure bytes) (rule.procedure text) Created SameKind
   unfolding rule.procedure
   way_procedure =
       skip_end_line (turns_next {fq = statements_pieces} (turns_many (way_inside bytes text d) (λ vs. refl)) (skip_open (sound_key word.Begin) (record { opens = refl; ends = refl })
@@ -228,7 +232,7 @@ module _ (bytes text : List ℕ) (d : ℕ) where
       ∙ ap (λ r. key word.Open ∷ r) (append_assoc (listed param_pieces params) (key word.Close ∷ []) (together (map declared_pieces vars) ++ key word.Begin ∷ (statements_pieces body ++ key word.End ∷ line_end ∷ [])))))
       (λ a a' h b b' i c c' j e e' k. ap no_block (same4 procedure_of h i j k)))))))))
 
-  way_create : Turns (Meant bytes) bytes text d (rule.create bytes) (rule.create text) (λ i ps. ps ≡ pieces_of bytes i) (λ i j. placeless bytes i ≡ placeless text j)
+  way_create : Turns (Good bytes) bytes text d (rule.create bytes) (rule.create text) (λ i ps. ps ≡ pieces_of bytes i) (λ i j. placeless bytes i ≡ placeless text j)
   unfolding rule.create
   way_create = turns_then (turns_either way_table way_procedure) (turns_next (place_key (plain_key word.Create)) (turns_give (λ n k qs h. h) (λ n m u k j h. h)))
 
@@ -252,7 +256,7 @@ module _ (bytes text : List ℕ) (d : ℕ) where
   abbrev arg_list : List Arg → List Piece
   arg_list as' = key word.Open ∷ (listed arg_pieces as' ++ key word.Close ∷ [])
 
-  way_call : Turns (Meant bytes) bytes text d (rule.call bytes) (rule.call text) (λ i ps. ps ≡ pieces_of bytes i) (λ i j. placeless bytes i ≡ placeless text j)
+  way_call : Turns (Good bytes) bytes text d (rule.call bytes) (rule.call text) (λ i ps. ps ≡ pieces_of bytes i) (λ i j. placeless bytes i ≡ placeless text j)
   unfolding rule.call
   way_call =
       skip_end (turns_next {fq = arg_list} (turns_parens (turns_either (turns_commas way_arg (λ v vs. refl)) (turns_give refl refl))) (turns_next (rule_name bytes text d) (turns_next (place_key (plain_key word.Call))
@@ -311,7 +315,7 @@ closed_turned : (bytes text : List ℕ) (ts : List Lexeme) (s : Span) → Closed
 closed_turned bytes text ts s b l =
     let x : Sound (block_piece (span_bytes bytes s) true) = subst (λ r. Sound (block_piece r true)) (sym b.0.content) (closed_sound (lines_text b.0.lines) b.0.block b.0.allowed) in
     record {
-      sounds = inl (subst (λ c. Sound (block_piece (span_bytes bytes s) c)) (sym b.1) x, tt);
+      sounds = inl (inl (subst (λ c. Sound (block_piece (span_bytes bytes s) c)) (sym b.1) x), tt);
       light = subst (λ c. Light 0 0 (kinds ts) (marks (block_piece (span_bytes bytes s) c ∷ []))) (sym b.1) l;
       reads = subst (λ c. AnyLevel bytes text s (block_piece (span_bytes bytes s) c ∷ [])) (sym b.1) (closed_read bytes text s b.1 b.0);
     }
@@ -323,13 +327,13 @@ opened_turned bytes text ts s b l = record {
   reads = subst (λ c. AnyLevel bytes text s (block_piece (span_bytes bytes s) c ∷ [])) (sym b.1) (opened_read bytes text s b.1);
 }
 
-gives_block : (bytes text : List ℕ) (d : ℕ) → Gives (Meant bytes) bytes d (rule.block bytes) (λ ts s. BlockTurned bytes text ts s)
+gives_block : (bytes text : List ℕ) (d : ℕ) → Gives (Good bytes) bytes d (rule.block bytes) (λ ts s. BlockTurned bytes text ts s)
 unfolding rule.block
 gives_block bytes text d = gives_either
     (gives_next {P = λ ts l. ClosedBlock bytes (closed_of bytes l) × Light 0 0 (kinds ts) (word.Block ∷ [])} (gives_give (λ ys l h. closed_turned bytes text ys (closed_of bytes l) (h.0, refl) h.1))
-    (gives_one (λ l g e. (closed_block bytes l g e, subst (λ r. Light 0 0 (r ∷ []) (word.Block ∷ [])) (sym e) (light_plain 0 word.Block (record { opens = refl; closes = refl; ends = refl }))))))
+    (gives_one (λ l g e. (closed_block bytes l g.0 e, subst (λ r. Light 0 0 (r ∷ []) (word.Block ∷ [])) (sym e) (light_plain 0 word.Block (record { opens = refl; closes = refl; ends = refl }))))))
     (gives_next {P = λ ts l. OpenedBlock bytes (open_of bytes l) × EndsOpen ts × Light 0 0 (kinds ts) (word.OpenBlock ∷ [])} (gives_give (λ ys l h. opened_turned bytes text ys (open_of bytes l) (h.0, refl, h.1) h.2))
-    (gives_one (λ l g e. (opened_block bytes l g e, ([], l, refl, e), subst (λ r. Light 0 0 (r ∷ []) (word.OpenBlock ∷ [])) (sym e) (light_plain 0 word.OpenBlock (record { opens = refl; closes = refl; ends = refl }))))))
+    (gives_one (λ l g e. (opened_block bytes l g.0 e, ([], l, refl, e), subst (λ r. Light 0 0 (r ∷ []) (word.OpenBlock ∷ [])) (sym e) (light_plain 0 word.OpenBlock (record { opens = refl; closes = refl; ends = refl }))))))
 
 -- an item before its block
 abbrev BeforeBlock : List ℕ → (Span → Item) → List Piece → Type 0
@@ -358,10 +362,10 @@ block_item bytes text ts xs ys h s p e a b =
     }
 
 module _ (bytes text : List ℕ) (d : ℕ) where
-  block_behind : {p q : Part (Span → Item)} → Turns (Meant bytes) bytes text d p q (BeforeBlock bytes) (SameBefore bytes text)
-      → (ts : List Lexeme) (i : Item) → Each (Meant bytes) ts → Is (inner bytes d) (p ⊛ rule.block bytes) ts i → ItemTurned bytes text (q ⊛ rule.block text) ts i
+  block_behind : {p q : Part (Span → Item)} → Turns (Good bytes) bytes text d p q (BeforeBlock bytes) (SameBefore bytes text)
+      → (ts : List Lexeme) (i : Item) → Each (Good bytes) ts → Is (inner bytes d) (p ⊛ rule.block bytes) ts i → ItemTurned bytes text (q ⊛ rule.block text) ts i
   block_behind {q = q} x ts v g i =
-      let g' = each_apart (Meant bytes) i.0 i.1 (subst (Each (Meant bytes)) i.4 g) in
+      let g' = each_apart (Good bytes) i.0 i.1 (subst (Each (Good bytes)) i.4 g) in
       let a = x.turn i.0 i.2 g'.0 i.5 in
       let b = (gives_block bytes text d).given i.1 i.3 g'.1 i.6 in
       subst (λ r. ItemTurned bytes text (q ⊛ rule.block text) ts r) (sym i.7) (block_item bytes text ts i.0 i.1 i.2 i.3 q i.4 a b)
@@ -369,16 +373,16 @@ module _ (bytes text : List ℕ) (d : ℕ) where
   abbrev copied : Name → Span → List ℕ → ItemKind × List ℕ
   copied n s b = (Copy (record { table = n; block = s }), b)
 
-  way_copy : Turns (Meant bytes) bytes text d (give copy_of ⊛ place word.Copy ⊛ rule.name bytes) (give copy_of ⊛ place word.Copy ⊛ rule.name text) (BeforeBlock bytes) (SameBefore bytes text)
+  way_copy : Turns (Good bytes) bytes text d (give copy_of ⊛ place word.Copy ⊛ rule.name bytes) (give copy_of ⊛ place word.Copy ⊛ rule.name text) (BeforeBlock bytes) (SameBefore bytes text)
   way_copy = turns_next (rule_name bytes text d) (turns_next (place_key (plain_key word.Copy)) (turns_give (λ n name s. refl) (λ n m u a b h s w k. same3 copied h k.0 k.1)))
 
   abbrev journaled : Span → List ℕ → ItemKind × List ℕ
   journaled s b = (Journal s, b)
 
-  way_journal : Turns (Meant bytes) bytes text d (give journal_of ⊛ place word.Journal) (give journal_of ⊛ place word.Journal) (BeforeBlock bytes) (SameBefore bytes text)
+  way_journal : Turns (Good bytes) bytes text d (give journal_of ⊛ place word.Journal) (give journal_of ⊛ place word.Journal) (BeforeBlock bytes) (SameBefore bytes text)
   way_journal = turns_next (place_key (plain_key word.Journal)) (turns_give (λ n s. refl) (λ n m u s w k. same2 journaled k.0 k.1))
 
-  way_item : (ts : List Lexeme) (i : Item) → Each (Meant bytes) ts → Is (inner bytes d) (rule.an_item bytes) ts i → ItemTurned bytes text (rule.an_item text) ts i
+  way_item : (ts : List Lexeme) (i : Item) → Each (Good bytes) ts → Is (inner bytes d) (rule.an_item bytes) ts i → ItemTurned bytes text (rule.an_item text) ts i
   unfolding rule.an_item rule.copy rule.journal
   way_item ts v g i =
       elim i as (λ j. ItemTurned bytes text (rule.an_item text) ts v) [
@@ -394,7 +398,7 @@ module _ (bytes text : List ℕ) (d : ℕ) where
 
   -- an item has a token
   abbrev Some : {A : Type 0} → Part A → Type 0
-  Some p = Gives (Meant bytes) bytes d p (λ ts v. 1 ≤ length ts)
+  Some p = Gives (Good bytes) bytes d p (λ ts v. 1 ≤ length ts)
 
   some_first : {A B : Type 0} {p : Part (A → B)} {q : Part A} → Some p → Some (p ⊛ q)
   some_first x = gives_both x gives_any (λ xs ys a b h k. omega (arith, length-append xs ys))
@@ -444,10 +448,10 @@ placeless_read bytes text v vs ps qs d ls f g s =
     (a.0 ∷ b.0, (i.0, i.1, i.2, a.1, b.1), ap (λ r. r ∷ map (placeless bytes) vs) a.2 ∙ ap (λ r. placeless text a.0 ∷ r) b.2)
 
 -- no items are left behind an open block
-no_items : (bytes : List ℕ) (d : ℕ) (vs : List Item) (ts : List Lexeme) → Each (Meant bytes) ts → Pieces (Is (inner bytes d) (rule.an_item bytes)) ts vs → ts ≡ [] → vs ≡ []
+no_items : (bytes : List ℕ) (d : ℕ) (vs : List Item) (ts : List Lexeme) → Each (Good bytes) ts → Pieces (Is (inner bytes d) (rule.an_item bytes)) ts vs → ts ≡ [] → vs ≡ []
 no_items bytes d [] ts g i e = refl
 no_items bytes d (v ∷ vs) ts g i e =
-    let g' = each_apart (Meant bytes) i.0 i.1 (subst (Each (Meant bytes)) i.2 g) in
+    let g' = each_apart (Good bytes) i.0 i.1 (subst (Each (Good bytes)) i.2 g) in
     let n = (some_item bytes [] d).given i.0 v g'.0 i.3 in
     absurd (omega (arith, ap length e, ap length i.2, length-append i.0 i.1))
 
@@ -463,10 +467,10 @@ items_sounds bytes ts xs ys ps vs e o (inr h) n k =
     let r : Ended (ps ++ []) = subst Ended (sym (append-nil ps)) h.0 in
     subst (λ z. Sounds (ps ++ together (map (pieces_of bytes) z)) ⊎ Ended (ps ++ together (map (pieces_of bytes) z))) (sym none) (inr r)
 
-items_turned : (bytes text : List ℕ) (d : ℕ) (vs : List Item) (ts : List Lexeme) → Each (Meant bytes) ts → LastOpen ts → Pieces (Is (inner bytes d) (rule.an_item bytes)) ts vs → ItemsTurned bytes text vs ts
+items_turned : (bytes text : List ℕ) (d : ℕ) (vs : List Item) (ts : List Lexeme) → Each (Good bytes) ts → LastOpen ts → Pieces (Is (inner bytes d) (rule.an_item bytes)) ts vs → ItemsTurned bytes text vs ts
 items_turned bytes text d [] ts g o i = record { light = light_nothing 0 ts i; sounds = inl tt; levels = 0; reads = λ e ls h s. ([], none_spelled text ls s, refl) }
 items_turned bytes text d (v ∷ vs) ts g o i =
-    let g' = each_apart (Meant bytes) i.0 i.1 (subst (Each (Meant bytes)) i.2 g) in
+    let g' = each_apart (Good bytes) i.0 i.1 (subst (Each (Good bytes)) i.2 g) in
     let a = way_item bytes text d i.0 v g'.0 i.3 in
     let o' = open_behind i.0 i.1 (subst LastOpen i.2 o) in
     let b = items_turned bytes text d vs i.1 g'.1 o' i.4 in
@@ -494,7 +498,7 @@ script_read bytes text d ls s r = (
   r.2 ∙ ap (map (placeless text)) (sym (joined_added [] r.0)),
 )
 
-pub script_turned : (bytes text : List ℕ) (d : ℕ) (ts : List Lexeme) (s : Script) → Each (Meant bytes) ts → LastOpen ts → Is (inner bytes d) (rule.script bytes) ts s → ScriptTurned bytes text ts s
+pub script_turned : (bytes text : List ℕ) (d : ℕ) (ts : List Lexeme) (s : Script) → Each (Good bytes) ts → LastOpen ts → Is (inner bytes d) (rule.script bytes) ts s → ScriptTurned bytes text ts s
 unfolding rule.script
 script_turned bytes text d ts s g o i =
     let m = i.6 in
@@ -503,6 +507,6 @@ script_turned bytes text d ts s g o i =
     let all : ts ≡ m.1 = i.4 ∙ (ap (λ r. r ++ i.1) none ∙ (m.4 ∙ ap (λ r. r ++ m.1) first)) in
     let list : i.3 ≡ m.3 = m.7 ∙ (joined_added m.2 m.3 ∙ ap (λ r. r ++ m.3) m.5.1) in
     let same : script_of m.3 ≡ s = ap script_of (sym list) ∙ (ap (λ f. f i.3) (sym i.5.1) ∙ sym i.7) in
-    let a = items_turned bytes text d m.3 m.1 (subst (Each (Meant bytes)) all g) (subst LastOpen all o) m.6 in
+    let a = items_turned bytes text d m.3 m.1 (subst (Each (Good bytes)) all g) (subst LastOpen all o) m.6 in
     let r : ScriptTurned bytes text ts (script_of m.3) = record { light = subst (λ z. Light 0 0 (kinds z) (marks (script_pieces bytes (script_of m.3)))) (sym all) a.light; sounds = a.sounds; levels = a.levels; reads = λ e ls h z. script_read bytes text e ls (script_of m.3) (a.reads e ls h z) } in
     subst (ScriptTurned bytes text ts) same r

@@ -25,8 +25,8 @@ use Rattle.mv_print.specs.Printing.{Piece, key, line_end, name_piece, name_piece
 use Rattle.mv_print.specs.Same.{placeless_name, placeless_expr, placeless_cond, placeless_sort, placeless_set, placeless_agg, placeless_statement, statement_step as placeless_step}
 use Rattle.mv_print.proofs.Light.{kinds, Light, light_plain, light_drop, light_through}
 use Rattle.mv_print.proofs.Building.{marks, light_nothing, TurnsTo, TurnedTo, turns_then, turns_level, turns_deeper, turns_raised, Prints, Turned, Turns, Each, each_apart, turns_give, turns_next, turns_either, turns_as, Reading, gives_next, gives_give, gives_one, prints_inl, prints_inr, prints_give}
-use Rattle.mv_print.proofs.Sounding.{sound_key, sound_text}
-use Rattle.mv_print.proofs.Meaning.{Meant, meant_text}
+use Rattle.mv_print.proofs.Sounding.{IsContent, sound_key, sound_text}
+use Rattle.mv_print.proofs.Meaning.{Good, meant_text}
 use Rattle.mv_print.proofs.Trees.{of_rows, of_select, of_branch, ending, if_ending}
 use Rattle.mv_print.proofs.Turning.{plain_key, skip_open, skip_close, skip_ends, place_open, skip, skip_end, behind_key, behind_keys, place_key, turns_parens, turns_many, turns_commas, turns_optional, turns_found}
 use Rattle.mv_print.proofs.Tokens.{prints_token, SameName, text_read}
@@ -36,7 +36,7 @@ use Rattle.mv_print.proofs.Rules.{Rule, same2, same3, same4, same5, same6, rule_
 pieces_assign : (t : ℕ) (to : Name) (right : Expr) → statement_pieces (tree.Assign t to right) ≡ key word.Set ∷ variable_piece to ∷ key word.Equal ∷ (whole_expr right ++ line_end ∷ [])
 pieces_assign t to right = ap statement_pieces (sym (tree.rolls-Assign t to right)) ∙ fold-roll-Stmt (List Piece) statement_step (inside.Assign t to right)
 
-bare_assign : (t : ℕ) (to : Name) (right : Expr) → placeless_statement (tree.Assign t to right) ≡ tree.Assign 0 (placeless_name to) (placeless_expr right)
+pub bare_assign : (t : ℕ) (to : Name) (right : Expr) → placeless_statement (tree.Assign t to right) ≡ tree.Assign 0 (placeless_name to) (placeless_expr right)
 bare_assign t to right = ap placeless_statement (sym (tree.rolls-Assign t to right)) ∙ fold-roll-Stmt Stmt placeless_step (inside.Assign t to right)
 
 pieces_select : (t : ℕ) (columns to : List Name) (table : Name) (conds : List Cond) (sorts : List Sort) (offset : Option Expr) → statement_pieces (tree.Select t columns to table conds sorts offset)
@@ -44,7 +44,7 @@ pieces_select : (t : ℕ) (columns to : List Name) (table : Name) (conds : List 
 pieces_select t columns to table conds sorts offset =
     ap statement_pieces (sym (tree.rolls-Select t columns to table conds sorts offset)) ∙ fold-roll-Stmt (List Piece) statement_step (inside.Select t columns to table conds sorts offset)
 
-bare_select : (t : ℕ) (columns to : List Name) (table : Name) (conds : List Cond) (sorts : List Sort) (offset : Option Expr) → placeless_statement (tree.Select t columns to table conds sorts offset)
+pub bare_select : (t : ℕ) (columns to : List Name) (table : Name) (conds : List Cond) (sorts : List Sort) (offset : Option Expr) → placeless_statement (tree.Select t columns to table conds sorts offset)
     ≡ tree.Select 0 (map placeless_name columns) (map placeless_name to) (placeless_name table) (map placeless_cond conds) (map placeless_sort sorts) (option_map placeless_expr offset)
 bare_select t columns to table conds sorts offset =
     ap placeless_statement (sym (tree.rolls-Select t columns to table conds sorts offset)) ∙ fold-roll-Stmt Stmt placeless_step (inside.Select t columns to table conds sorts offset)
@@ -52,46 +52,46 @@ bare_select t columns to table conds sorts offset =
 pieces_total : (t : ℕ) (f : Agg) (to : Name) (table : Name) (conds : List Cond) → statement_pieces (tree.Total t f to table conds) ≡ key word.Select ∷ (agg_pieces f ++ key word.Into ∷ variable_piece to ∷ key word.From ∷ name_piece table ∷ (conds_pieces conds ++ line_end ∷ []))
 pieces_total t f to table conds = ap statement_pieces (sym (tree.rolls-Total t f to table conds)) ∙ fold-roll-Stmt (List Piece) statement_step (inside.Total t f to table conds)
 
-bare_total : (t : ℕ) (f : Agg) (to : Name) (table : Name) (conds : List Cond) → placeless_statement (tree.Total t f to table conds) ≡ tree.Total 0 (placeless_agg f) (placeless_name to) (placeless_name table) (map placeless_cond conds)
+pub bare_total : (t : ℕ) (f : Agg) (to : Name) (table : Name) (conds : List Cond) → placeless_statement (tree.Total t f to table conds) ≡ tree.Total 0 (placeless_agg f) (placeless_name to) (placeless_name table) (map placeless_cond conds)
 bare_total t f to table conds = ap placeless_statement (sym (tree.rolls-Total t f to table conds)) ∙ fold-roll-Stmt Stmt placeless_step (inside.Total t f to table conds)
 
-bare_for_select : (t : ℕ) (row : Name) (distinct : Bool) (columns : List Name) (table : Name) (conds : List Cond) (sorts : List Sort) (body : List Stmt) → placeless_statement (tree.ForSelect t row distinct columns table conds sorts body) ≡ tree.ForSelect 0 (placeless_name row) distinct (map placeless_name columns) (placeless_name table) (map placeless_cond conds) (map placeless_sort sorts) (map placeless_statement body)
+pub bare_for_select : (t : ℕ) (row : Name) (distinct : Bool) (columns : List Name) (table : Name) (conds : List Cond) (sorts : List Sort) (body : List Stmt) → placeless_statement (tree.ForSelect t row distinct columns table conds sorts body) ≡ tree.ForSelect 0 (placeless_name row) distinct (map placeless_name columns) (placeless_name table) (map placeless_cond conds) (map placeless_sort sorts) (map placeless_statement body)
 bare_for_select t row distinct columns table conds sorts body = ap placeless_statement (sym (tree.rolls-ForSelect t row distinct columns table conds sorts body)) ∙ fold-roll-Stmt Stmt placeless_step (inside.ForSelect t row distinct columns table conds sorts body)
 
-bare_for_rows : (t : ℕ) (row : Name) (rows : Name) (body : List Stmt) → placeless_statement (tree.ForRows t row rows body) ≡ tree.ForRows 0 (placeless_name row) (placeless_name rows) (map placeless_statement body)
+pub bare_for_rows : (t : ℕ) (row : Name) (rows : Name) (body : List Stmt) → placeless_statement (tree.ForRows t row rows body) ≡ tree.ForRows 0 (placeless_name row) (placeless_name rows) (map placeless_statement body)
 bare_for_rows t row rows body = ap placeless_statement (sym (tree.rolls-ForRows t row rows body)) ∙ fold-roll-Stmt Stmt placeless_step (inside.ForRows t row rows body)
 
-bare_branch : (t : ℕ) (test : Expr) (ys : List Stmt) (ns : List Stmt) → placeless_statement (tree.Branch t test ys ns) ≡ tree.Branch 0 (placeless_expr test) (map placeless_statement ys) (map placeless_statement ns)
+pub bare_branch : (t : ℕ) (test : Expr) (ys : List Stmt) (ns : List Stmt) → placeless_statement (tree.Branch t test ys ns) ≡ tree.Branch 0 (placeless_expr test) (map placeless_statement ys) (map placeless_statement ns)
 bare_branch t test ys ns = ap placeless_statement (sym (tree.rolls-Branch t test ys ns)) ∙ fold-roll-Stmt Stmt placeless_step (inside.Branch t test ys ns)
 
 pieces_insert : (t : ℕ) (table : Name) (values : List Expr) → statement_pieces (tree.Insert t table values) ≡ key word.Insert ∷ key word.Into ∷ name_piece table ∷ key word.Values ∷ key word.Open ∷ (listed whole_expr values ++ key word.Close ∷ line_end ∷ [])
 pieces_insert t table values = ap statement_pieces (sym (tree.rolls-Insert t table values)) ∙ fold-roll-Stmt (List Piece) statement_step (inside.Insert t table values)
 
-bare_insert : (t : ℕ) (table : Name) (values : List Expr) → placeless_statement (tree.Insert t table values) ≡ tree.Insert 0 (placeless_name table) (map placeless_expr values)
+pub bare_insert : (t : ℕ) (table : Name) (values : List Expr) → placeless_statement (tree.Insert t table values) ≡ tree.Insert 0 (placeless_name table) (map placeless_expr values)
 bare_insert t table values = ap placeless_statement (sym (tree.rolls-Insert t table values)) ∙ fold-roll-Stmt Stmt placeless_step (inside.Insert t table values)
 
 pieces_update : (t : ℕ) (table : Name) (items : List SetItem) (conds : List Cond) → statement_pieces (tree.Update t table items conds) ≡ key word.Update ∷ name_piece table ∷ key word.Set ∷ (listed set_pieces items ++ (conds_pieces conds ++ line_end ∷ []))
 pieces_update t table items conds = ap statement_pieces (sym (tree.rolls-Update t table items conds)) ∙ fold-roll-Stmt (List Piece) statement_step (inside.Update t table items conds)
 
-bare_update : (t : ℕ) (table : Name) (items : List SetItem) (conds : List Cond) → placeless_statement (tree.Update t table items conds) ≡ tree.Update 0 (placeless_name table) (map placeless_set items) (map placeless_cond conds)
+pub bare_update : (t : ℕ) (table : Name) (items : List SetItem) (conds : List Cond) → placeless_statement (tree.Update t table items conds) ≡ tree.Update 0 (placeless_name table) (map placeless_set items) (map placeless_cond conds)
 bare_update t table items conds = ap placeless_statement (sym (tree.rolls-Update t table items conds)) ∙ fold-roll-Stmt Stmt placeless_step (inside.Update t table items conds)
 
 pieces_delete : (t : ℕ) (table : Name) (conds : List Cond) → statement_pieces (tree.Delete t table conds) ≡ key word.Delete ∷ key word.From ∷ name_piece table ∷ (conds_pieces conds ++ line_end ∷ [])
 pieces_delete t table conds = ap statement_pieces (sym (tree.rolls-Delete t table conds)) ∙ fold-roll-Stmt (List Piece) statement_step (inside.Delete t table conds)
 
-bare_delete : (t : ℕ) (table : Name) (conds : List Cond) → placeless_statement (tree.Delete t table conds) ≡ tree.Delete 0 (placeless_name table) (map placeless_cond conds)
+pub bare_delete : (t : ℕ) (table : Name) (conds : List Cond) → placeless_statement (tree.Delete t table conds) ≡ tree.Delete 0 (placeless_name table) (map placeless_cond conds)
 bare_delete t table conds = ap placeless_statement (sym (tree.rolls-Delete t table conds)) ∙ fold-roll-Stmt Stmt placeless_step (inside.Delete t table conds)
 
 pieces_print : (t : ℕ) (values : List Expr) → statement_pieces (tree.Print t values) ≡ key word.Print ∷ (listed whole_expr values ++ line_end ∷ [])
 pieces_print t values = ap statement_pieces (sym (tree.rolls-Print t values)) ∙ fold-roll-Stmt (List Piece) statement_step (inside.Print t values)
 
-bare_print : (t : ℕ) (values : List Expr) → placeless_statement (tree.Print t values) ≡ tree.Print 0 (map placeless_expr values)
+pub bare_print : (t : ℕ) (values : List Expr) → placeless_statement (tree.Print t values) ≡ tree.Print 0 (map placeless_expr values)
 bare_print t values = ap placeless_statement (sym (tree.rolls-Print t values)) ∙ fold-roll-Stmt Stmt placeless_step (inside.Print t values)
 
 pieces_rollback : (t : ℕ) (reason : List ℕ) → statement_pieces (tree.Rollback t reason) ≡ key word.Rollback ∷ text_piece reason ∷ line_end ∷ []
 pieces_rollback t reason = ap statement_pieces (sym (tree.rolls-Rollback t reason)) ∙ fold-roll-Stmt (List Piece) statement_step (inside.Rollback t reason)
 
-bare_rollback : (t : ℕ) (reason : List ℕ) → placeless_statement (tree.Rollback t reason) ≡ tree.Rollback 0 reason
+pub bare_rollback : (t : ℕ) (reason : List ℕ) → placeless_statement (tree.Rollback t reason) ≡ tree.Rollback 0 reason
 bare_rollback t reason = ap placeless_statement (sym (tree.rolls-Rollback t reason)) ∙ fold-roll-Stmt Stmt placeless_step (inside.Rollback t reason)
 
 regroup : (test ys lead ns : List Piece) (a b c e f : Piece) → ((((((a ∷ test) ++ b ∷ []) ++ ys) ++ (lead ++ ns)) ++ c ∷ []) ++ e ∷ []) ++ f ∷ []
@@ -128,7 +128,7 @@ module _ (bytes text : List ℕ) (d : ℕ) where
   way_offset : Way (rule.optional (one word.Offset ▸ expression)) (rule.optional (one word.Offset ▸ expression)) offset_pieces (option_map placeless_expr)
   way_offset = turns_optional (behind_key (plain_key word.Offset) (turns_as (λ e ps h. ap (λ r. key word.Offset ∷ r) h) (λ v w h. h) (rule_expression bytes text d))) refl
 
-  way_columns : Turns (Meant bytes) bytes text d (rule.select_columns bytes) (rule.select_columns text) AfterSelect SameAfter
+  way_columns : Turns (Good bytes) bytes text d (rule.select_columns bytes) (rule.select_columns text) AfterSelect SameAfter
   unfolding rule.select_columns
   way_columns =
       skip_end (turns_next way_offset (turns_next (rule_sorts bytes text d) (turns_next (rule_conds bytes text d) (turns_next (rule_name bytes text d) (skip (plain_key word.From)
@@ -137,7 +137,7 @@ module _ (bytes text : List ℕ) (d : ℕ) where
       (turns_give (λ columns to table conds sorts offset n. simp append_assoc (sym (pieces_select n columns to table conds sorts offset)))
       (λ a a' h b b' i c c' j e e' k f f' l g g' m n n'. bare_select n a b c e f g ∙ (same6 (tree.Select 0) h i j k l m ∙ sym (bare_select n' a' b' c' e' f' g'))))))))))))
 
-  way_total : Turns (Meant bytes) bytes text d (rule.total bytes) (rule.total text) AfterSelect SameAfter
+  way_total : Turns (Good bytes) bytes text d (rule.total bytes) (rule.total text) AfterSelect SameAfter
   unfolding rule.total
   way_total =
       skip_end (turns_next (rule_conds bytes text d) (turns_next (rule_name bytes text d) (skip (plain_key word.From) (turns_next (rule_variable bytes text d) (skip (plain_key word.Into)
@@ -180,7 +180,7 @@ module _ (bytes text : List ℕ) (d : ℕ) where
       (turns_give (λ n values. sym (pieces_print n values)) (λ n n' u a a' h. bare_print n a ∙ (ap (tree.Print 0) h ∙ sym (bare_print n' a'))))))
 
   way_text : Way (give (rule.text_of bytes) ⊛ one word.Quoted) (give (rule.text_of text) ⊛ one word.Quoted) (λ t. text_piece t ∷ []) (λ t. t)
-  way_text = turns_found {H = λ t. list_all is_printable t ≡ true} (gives_next (gives_give (λ ys l h. h)) (gives_one (λ l g e. (meant_text l g e, subst (λ r. Light 0 0 (r ∷ []) (word.Quoted ∷ [])) (sym e) (light_plain 0 word.Quoted (record { opens = refl; closes = refl; ends = refl }))))))
+  way_text = turns_found {H = IsContent} (gives_next (gives_give (λ ys l h. h)) (gives_one (λ l g e. (meant_text l g e, subst (λ r. Light 0 0 (r ∷ []) (word.Quoted ∷ [])) (sym e) (light_plain 0 word.Quoted (record { opens = refl; closes = refl; ends = refl }))))))
       (λ t h. prints_token (text_piece t) (sound_text t h) refl (λ l f. sym (text_read text t l f)))
 
   way_rollback : Statement (rule.rollback bytes) (rule.rollback text)
@@ -193,7 +193,7 @@ module _ (bytes text : List ℕ) (d : ℕ) where
   abbrev Inside : Type 0
   Inside = Statement statement statement
 
-  way_body : Inside → TurnsTo 1 0 (Meant bytes) bytes text d (rule.loop_body bytes) (rule.loop_body text) (λ body ps. ps ≡ key word.Do ∷ (statements_pieces body ++ ending)) (λ v w. map placeless_statement v ≡ map placeless_statement w)
+  way_body : Inside → TurnsTo 1 0 (Good bytes) bytes text d (rule.loop_body bytes) (rule.loop_body text) (λ body ps. ps ≡ key word.Do ∷ (statements_pieces body ++ ending)) (λ v w. map placeless_statement v ≡ map placeless_statement w)
   unfolding rule.loop_body
   way_body inside = skip_end (skip_ends (sound_key word.For) (record { opens = refl; closes = refl; ends = refl }) (behind_key (plain_key word.Do) (turns_raised 1 (turns_many inside (λ vs. simp append_assoc refl)))))
 
@@ -205,7 +205,7 @@ module _ (bytes text : List ℕ) (d : ℕ) where
   SameFor h j = (n m : ℕ) (row x : Name) → SameName row x → placeless_statement (h n row) ≡ placeless_statement (j m x)
 
   abbrev Loop : Part (ℕ → Name → Stmt) → Part (ℕ → Name → Stmt) → Type 0
-  Loop p q = TurnsTo 1 0 (Meant bytes) bytes text d p q AfterFor SameFor
+  Loop p q = TurnsTo 1 0 (Good bytes) bytes text d p q AfterFor SameFor
 
   way_rows : Inside → Loop (rule.for_rows bytes) (rule.for_rows text)
   unfolding rule.for_rows
@@ -216,7 +216,7 @@ module _ (bytes text : List ℕ) (d : ℕ) where
   abbrev OfSelect : (ℕ → Name → Stmt) → List Piece → Type 0
   OfSelect h ps = AfterFor h (key word.Select ∷ ps)
 
-  way_plain : Inside → TurnsTo 1 0 (Meant bytes) bytes text d (rule.for_plain bytes) (rule.for_plain text) OfSelect SameFor
+  way_plain : Inside → TurnsTo 1 0 (Good bytes) bytes text d (rule.for_plain bytes) (rule.for_plain text) OfSelect SameFor
   unfolding rule.for_plain
   way_plain inside =
       turns_deeper (way_body inside) (turns_next (rule_sorts bytes text d) (turns_next (rule_conds bytes text d) (turns_next (rule_name bytes text d) (skip (plain_key word.From)
@@ -225,7 +225,7 @@ module _ (bytes text : List ℕ) (d : ℕ) where
       (λ a a' h b b' i c c' j e e' k f f' l n n' row x m.
       bare_for_select n row false a b c e f ∙ (same6 (λ r. tree.ForSelect 0 r false) m h i j k l ∙ sym (bare_for_select n' x false a' b' c' e' f')))))))))
 
-  way_distinct : Inside → TurnsTo 1 0 (Meant bytes) bytes text d (rule.for_distinct bytes) (rule.for_distinct text) OfSelect SameFor
+  way_distinct : Inside → TurnsTo 1 0 (Good bytes) bytes text d (rule.for_distinct bytes) (rule.for_distinct text) OfSelect SameFor
   unfolding rule.for_distinct
   way_distinct inside =
       turns_deeper (way_body inside) (turns_next (rule_conds bytes text d) (turns_next (rule_name bytes text d) (skip (plain_key word.From)

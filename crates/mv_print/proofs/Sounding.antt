@@ -1,5 +1,5 @@
 -- Each printed piece is one token, and means what the tree has.
-use Rattle.std.proofs.Common.{◌≡◌, ℕ, suc, ◌+◌, ◌-◌, ◌*◌, ◌<◌, ◌≤◌, ◌/◌, ◌%◌, min, Bool, true, false, cond, ◌&&◌, ◌==◌, List, [], ◌∷◌, ◌++◌, length, map, take, drop, slice_range, refl, sym, ap, subst, ◌∙◌, append_assoc, append-nil, length-append, arith, inl, inr}
+use Rattle.std.proofs.Common.{◌≡◌, ℕ, suc, ◌+◌, ◌-◌, ◌*◌, ◌<◌, ◌≤◌, ◌/◌, ◌%◌, min, Bool, true, false, cond, nat_lt, ◌&&◌, ◌==◌, List, [], ◌∷◌, ◌++◌, length, map, take, drop, slice_range, refl, sym, ap, subst, ◌∙◌, append_assoc, append-nil, length-append, arith, inl, inr}
 use Rattle.std.specs.Prelude.{decimal, ◌^◌, codes}
 use Rattle.std.specs.List.{list_all}
 use Rattle.std.specs.Char.{to_ascii_lowercase}
@@ -17,17 +17,20 @@ use Rattle.mv_lex.proofs.Parted.{parted_longest}
 use Rattle.mv_ast.specs.declared.lexeme.Terminal.{Terminal}
 use Rattle.mv_ast.specs.declared.lexeme.Terminal.TheVariants as word
 use Rattle.mv_ast.specs.declared.tree.Name.{Name}
+use Rattle.mv_ast.specs.declared.limit.Passed.{Passed}
+use Rattle.mv_ast.specs.declared.limit.Which.TheVariants as limit
+use Rattle.mv_ast.specs.Limits.{at_token, when, own_passes}
 use Rattle.mv_ast.specs.Texts.{lower, number, number_from, greatest, undoubled, unquoted}
 use Rattle.mv_ast.specs.Lexemes.{kind_of, keywords, symbols, listed}
 use Rattle.mv_print.specs.Printing.{Piece, key, line_end, spelled, name_piece, variable_piece, number_piece, text_piece}
-use Rattle.mv_print.proofs.Building.{Sound}
+use Rattle.mv_print.proofs.Building.{Base, Sound}
 
 -- keywords and symbols
-word_sound : (t : Terminal) → is_word (spelled t) ≡ true → kind_of token.Word (spelled t) ≡ t → list_all is_allowed (spelled t) ≡ true → Sound (key t)
-word_sound t w k a = record { token = token.Word; longest = λ rest. parted_longest token.Word (spelled t) (32 ∷ rest) refl w; is = k; allowed = a; gaps = refl }
+word_sound : (t : Terminal) → is_word (spelled t) ≡ true → kind_of token.Word (spelled t) ≡ t → list_all is_allowed (spelled t) ≡ true → ((n : ℕ) → own_passes t (spelled t) n ≡ []) → Base (key t)
+word_sound t w k a o = record { token = token.Word; longest = λ rest. parted_longest token.Word (spelled t) (32 ∷ rest) refl w; is = k; allowed = a; gaps = refl; own = o }
 
-symbol_sound : (t : Terminal) → ((rest : List ℕ) → (is_symbol (spelled t) && stands_alone (spelled t) (32 ∷ rest)) ≡ true) → kind_of token.Symbol (spelled t) ≡ t → list_all is_allowed (spelled t) ≡ true → Sound (key t)
-symbol_sound t w k a = record { token = token.Symbol; longest = λ rest. parted_longest token.Symbol (spelled t) (32 ∷ rest) refl (w rest); is = k; allowed = a; gaps = refl }
+symbol_sound : (t : Terminal) → ((rest : List ℕ) → (is_symbol (spelled t) && stands_alone (spelled t) (32 ∷ rest)) ≡ true) → kind_of token.Symbol (spelled t) ≡ t → list_all is_allowed (spelled t) ≡ true → ((n : ℕ) → own_passes t (spelled t) n ≡ []) → Base (key t)
+symbol_sound t w k a o = record { token = token.Symbol; longest = λ rest. parted_longest token.Symbol (spelled t) (32 ∷ rest) refl (w rest); is = k; allowed = a; gaps = refl; own = o }
 
 abbrev pub SoundKey : Terminal → Type 0
 SoundKey word.Name = Unit {0}
@@ -36,6 +39,7 @@ SoundKey word.Quoted = Unit {0}
 SoundKey word.Variable = Unit {0}
 SoundKey word.Block = Unit {0}
 SoundKey word.OpenBlock = Unit {0}
+SoundKey word.Text = Base (key word.Text)
 SoundKey t = Sound (key t)
 
 pub sound_key : (t : Terminal) → SoundKey t
@@ -46,28 +50,29 @@ sound_key word.Quoted = tt
 sound_key word.Variable = tt
 sound_key word.Block = tt
 sound_key word.OpenBlock = tt
-sound_key word.Open = symbol_sound word.Open (λ r. refl) refl refl
-sound_key word.Close = symbol_sound word.Close (λ r. refl) refl refl
-sound_key word.Comma = symbol_sound word.Comma (λ r. refl) refl refl
-sound_key word.Semicolon = symbol_sound word.Semicolon (λ r. refl) refl refl
-sound_key word.Dot = symbol_sound word.Dot (λ r. refl) refl refl
-sound_key word.Equal = symbol_sound word.Equal (λ r. refl) refl refl
-sound_key word.NotEqual = symbol_sound word.NotEqual (λ r. refl) refl refl
-sound_key word.Less = symbol_sound word.Less (λ r. refl) refl refl
-sound_key word.LessOrEqual = symbol_sound word.LessOrEqual (λ r. refl) refl refl
-sound_key word.Greater = symbol_sound word.Greater (λ r. refl) refl refl
-sound_key word.GreaterOrEqual = symbol_sound word.GreaterOrEqual (λ r. refl) refl refl
-sound_key word.Plus = symbol_sound word.Plus (λ r. refl) refl refl
-sound_key word.Minus = symbol_sound word.Minus (λ r. refl) refl refl
-sound_key word.Star = symbol_sound word.Star (λ r. refl) refl refl
-sound_key word.Slash = symbol_sound word.Slash (λ r. refl) refl refl
-sound_key word.Percent = symbol_sound word.Percent (λ r. refl) refl refl
-sound_key word.Bars = symbol_sound word.Bars (λ r. refl) refl refl
-sound_key t = word_sound t refl refl refl
+sound_key word.Open = record { base = symbol_sound word.Open (λ r. refl) refl refl (λ n. refl); plain = refl }
+sound_key word.Close = record { base = symbol_sound word.Close (λ r. refl) refl refl (λ n. refl); plain = refl }
+sound_key word.Comma = record { base = symbol_sound word.Comma (λ r. refl) refl refl (λ n. refl); plain = refl }
+sound_key word.Semicolon = record { base = symbol_sound word.Semicolon (λ r. refl) refl refl (λ n. refl); plain = refl }
+sound_key word.Dot = record { base = symbol_sound word.Dot (λ r. refl) refl refl (λ n. refl); plain = refl }
+sound_key word.Equal = record { base = symbol_sound word.Equal (λ r. refl) refl refl (λ n. refl); plain = refl }
+sound_key word.NotEqual = record { base = symbol_sound word.NotEqual (λ r. refl) refl refl (λ n. refl); plain = refl }
+sound_key word.Less = record { base = symbol_sound word.Less (λ r. refl) refl refl (λ n. refl); plain = refl }
+sound_key word.LessOrEqual = record { base = symbol_sound word.LessOrEqual (λ r. refl) refl refl (λ n. refl); plain = refl }
+sound_key word.Greater = record { base = symbol_sound word.Greater (λ r. refl) refl refl (λ n. refl); plain = refl }
+sound_key word.GreaterOrEqual = record { base = symbol_sound word.GreaterOrEqual (λ r. refl) refl refl (λ n. refl); plain = refl }
+sound_key word.Plus = record { base = symbol_sound word.Plus (λ r. refl) refl refl (λ n. refl); plain = refl }
+sound_key word.Minus = record { base = symbol_sound word.Minus (λ r. refl) refl refl (λ n. refl); plain = refl }
+sound_key word.Star = record { base = symbol_sound word.Star (λ r. refl) refl refl (λ n. refl); plain = refl }
+sound_key word.Slash = record { base = symbol_sound word.Slash (λ r. refl) refl refl (λ n. refl); plain = refl }
+sound_key word.Percent = record { base = symbol_sound word.Percent (λ r. refl) refl refl (λ n. refl); plain = refl }
+sound_key word.Bars = record { base = symbol_sound word.Bars (λ r. refl) refl refl (λ n. refl); plain = refl }
+sound_key word.Text = word_sound word.Text refl refl refl (λ n. refl)
+sound_key t = record { base = word_sound t refl refl refl (λ n. refl); plain = refl }
 
 pub sound_end : Sound line_end
 unfolding listed symbols
-sound_end = record { token = token.Symbol; longest = λ rest. parted_longest token.Symbol (spelled word.Semicolon) (10 ∷ rest) refl refl; is = refl; allowed = refl; gaps = refl }
+sound_end = record { base = record { token = token.Symbol; longest = λ rest. parted_longest token.Symbol (spelled word.Semicolon) (10 ∷ rest) refl refl; is = refl; allowed = refl; gaps = refl; own = λ n. refl }; plain = refl }
 
 -- a text of printable bytes
 each_by : (p q : ℕ → Bool) → ((b : ℕ) → p b ≡ true → q b ≡ true) → (bs : List ℕ) → list_all p bs ≡ true → list_all q bs ≡ true
@@ -125,16 +130,25 @@ pub record IsName (t : List ℕ) : Type 0 where
   pub letters : is_word t ≡ true
   pub free : kind_of token.Word t ≡ word.Name
   pub lowered : lower t ≡ t
+  pub short : nat_lt 64 (length t) ≡ false
 
 pub record IsVariable (t : List ℕ) : Type 0 where
   pub letters : is_word t ≡ true
   pub lowered : lower t ≡ t
+  pub short : nat_lt 65 (length (58 ∷ t)) ≡ false
+
+-- the bytes of a text
+abbrev pub IsContent : List ℕ → Type 0
+IsContent t = (list_all is_printable t ≡ true) × (nat_lt 4000 (length t) ≡ false)
+
+none_when : (b : Bool) (p : Passed) → b ≡ false → when b p ≡ []
+none_when b p h = rw h refl
 
 pub sound_name : (n : Name) → IsName n.text → Sound (name_piece n)
-sound_name n h = record { token = token.Word; longest = λ rest. parted_longest token.Word n.text (32 ∷ rest) refl h.letters; is = h.free; allowed = word_allowed n.text h.letters; gaps = refl }
+sound_name n h = record { base = record { token = token.Word; longest = λ rest. parted_longest token.Word n.text (32 ∷ rest) refl h.letters; is = h.free; allowed = word_allowed n.text h.letters; gaps = refl; own = λ m. none_when (nat_lt 64 (length n.text)) (at_token limit.Name m) h.short }; plain = refl }
 
 pub sound_variable : (n : Name) → IsVariable n.text → Sound (variable_piece n)
-sound_variable n h = record { token = token.Variable; longest = λ rest. parted_longest token.Variable (58 ∷ n.text) (32 ∷ rest) refl h.letters; is = refl; allowed = word_allowed n.text h.letters; gaps = refl }
+sound_variable n h = record { base = record { token = token.Variable; longest = λ rest. parted_longest token.Variable (58 ∷ n.text) (32 ∷ rest) refl h.letters; is = refl; allowed = word_allowed n.text h.letters; gaps = refl; own = λ m. none_when (nat_lt 65 (length (58 ∷ n.text))) (at_token limit.Name m) h.short }; plain = refl }
 
 -- numbers
 number_more : (ds : List ℕ) (k d : ℕ) → number_from k (ds ++ d ∷ []) ≡ 10 * number_from k ds + (d - 48)
@@ -171,10 +185,18 @@ digits_of n h = decimal_by_steps Digits one_digit next_digit n h
 pub number_back : (n : ℕ) → n ≤ greatest → number (decimal n) ≡ n
 number_back n h = let e = (digits_of n (omega arith)).1 in omega arith
 
+not_greater : (m n : ℕ) → n ≤ m → nat_lt m n ≡ false
+not_greater m n h = grind (arith, nat_tests)
+
+-- the digits of a number are that number
+pub digits_back : (n : ℕ) → n ≤ greatest → number_from 0 (decimal n) ≡ n
+digits_back n h = (digits_of n (omega arith)).1
+
 pub sound_number : (n : ℕ) → n ≤ greatest → Sound (number_piece n)
 sound_number n h =
     let d = (digits_of n (omega arith)).0 in
-    record { token = token.Number; longest = λ rest. parted_longest token.Number (decimal n) (32 ∷ rest) refl d; is = refl; allowed = number_allowed (decimal n) d; gaps = refl }
+    let e = (digits_of n (omega arith)).1 in
+    record { base = record { token = token.Number; longest = λ rest. parted_longest token.Number (decimal n) (32 ∷ rest) refl d; is = refl; allowed = number_allowed (decimal n) d; gaps = refl; own = λ m. none_when (nat_lt greatest (number_from 0 (decimal n))) (at_token limit.Literal m) (not_greater greatest (number_from 0 (decimal n)) (omega arith)) }; plain = refl }
 
 -- texts
 undoubled_quote : (b : ℕ) (bs : List ℕ) (q : Bool) → (b == 39) ≡ q → undoubled (doubled bs) ≡ bs → undoubled (doubled (b ∷ bs)) ≡ b ∷ bs
@@ -204,11 +226,15 @@ doubled_allowed (b ∷ bs) h = let k = and_parts (is_printable b) (list_all is_p
     go true q p r = r
     go false q p r = and_from (is_allowed b) (list_all is_allowed (doubled bs)) p r
 
-pub sound_text : (t : List ℕ) → list_all is_printable t ≡ true → Sound (text_piece t)
+pub sound_text : (t : List ℕ) → IsContent t → Sound (text_piece t)
 sound_text t h = record {
-  token = token.Text;
-  longest = λ rest. parted_longest token.Text (quoted t) (32 ∷ rest) refl (record { content = t; printable = h; written = refl });
-  is = refl;
-  allowed = list_all-append is_allowed (doubled t) (39 ∷ []) ∙ and_from (list_all is_allowed (doubled t)) true (doubled_allowed t h) refl;
-  gaps = refl;
+  base = record {
+    token = token.Text;
+    longest = λ rest. parted_longest token.Text (quoted t) (32 ∷ rest) refl (record { content = t; printable = h.0; written = refl });
+    is = refl;
+    allowed = list_all-append is_allowed (doubled t) (39 ∷ []) ∙ and_from (list_all is_allowed (doubled t)) true (doubled_allowed t h.0) refl;
+    gaps = refl;
+    own = λ m. none_when (nat_lt 4000 (length (unquoted (quoted t)))) (at_token limit.Text m) (ap (λ r. nat_lt 4000 (length r)) (unquoted_back t) ∙ h.1);
+  };
+  plain = refl;
 }

@@ -1,12 +1,11 @@
 -- The print of a script is read back as the same script.
-use Rattle.std.specs.Prelude.{◌≡◌, ℕ, List, None}
+use Rattle.std.specs.Prelude.{ℕ, List}
 use Rattle.mv_lex.specs.Tokens.{AreTokens}
 use Rattle.mv_lex.specs.declared.token.Token.{Token}
 use Rattle.mv_ast.specs.declared.tree.Script.{Script}
-use Rattle.mv_ast.specs.Lexemes.{IsByGrammar, lexemes}
-use Rattle.mv_ast.specs.Limits.{first_early}
+use Rattle.mv_ast.specs.Lexemes.{IsScript}
 use Rattle.mv_print.specs.Same.{SameButPlaces}
 
--- The text has tokens, and they are a script by the grammar that is the script of these bytes but for places.
+-- The text has tokens, and they are a script, within all limits, that is the script of these bytes but for places.
 abbrev pub ReadsBack : List ℕ → Script → List ℕ → Type 0
-ReadsBack bytes s text = (tokens : List Token) × (t : Script) × AreTokens text tokens × IsByGrammar text tokens t × (first_early (lexemes text tokens) ≡ None) × SameButPlaces bytes s text t
+ReadsBack bytes s text = (tokens : List Token) × (t : Script) × AreTokens text tokens × IsScript text tokens t × SameButPlaces bytes s text t
