@@ -11,8 +11,8 @@ use Rattle.mv_ast.specs.declared.lexeme.Terminal.TheVariants as word
 use Rattle.mv_ast.specs.Texts.{spelling, number_from}
 use Rattle.mv_ast.specs.Lexemes.{kind_of}
 use Rattle.mv_ast.specs.Limits.{together, own_passes, is_size}
-use Rattle.mv_ast.specs.Parts.{Part, give, one, both, either, left, expression, statement, Is, Pieces, joined}
-use Rattle.mv_ast.specs.Grammar.{inner, added, single, place, ◌⊛◌, ◌◂◌, ◌▸◌}
+use Rattle.mv_ast.specs.Parts.{Part, give, one, both, either, left, Is, Pieces, joined}
+use Rattle.mv_ast.specs.Grammar.{inner, added, place, ◌⊛◌, ◌◂◌, ◌▸◌}
 use Rattle.mv_print.specs.Printing.{Piece}
 use Rattle.mv_print.proofs.Light.{kinds, BehindEnd, Light, light_none, light_joined, light_raised, light_ends}
 

@@ -3,7 +3,7 @@ use Rattle.std.proofs.Common.{◌≡◌, ℕ, suc, ◌+◌, Bool, true, false, L
 use Rattle.std.specs.Prelude.{option_to_list}
 use Rattle.std.specs.List.{filter}
 use Rattle.std.specs.Option.{option_map}
-use Rattle.std.proofs.lemmas.List.{map-append, length-map}
+use Rattle.std.proofs.lemmas.List.{map-append}
 use Rattle.std.proofs.lemmas.Option.{slice_get-map}
 use Rattle.mv_ast.specs.declared.limit.Passed.{Passed}
 use Rattle.mv_ast.specs.declared.limit.Which.{Which}
@@ -25,7 +25,7 @@ use Rattle.mv_ast.specs.declared.tree.Script.{Script}
 use Rattle.mv_ast.specs.declared.tree.SetItem.{SetItem}
 use Rattle.mv_ast.specs.declared.tree.Sort.{Sort}
 use Rattle.mv_ast.specs.declared.tree.Stmt.{Stmt}
-use Rattle.mv_ast.specs.declared.tree.Stmt.TheFolds.{fold-Stmt, fold-roll-Stmt, map-Stmt, ind-Stmt}
+use Rattle.mv_ast.specs.declared.tree.Stmt.TheFolds.{fold-roll-Stmt, map-Stmt, ind-Stmt}
 use Rattle.mv_ast.specs.declared.tree.Stmt.TheOpen as inside
 use Rattle.mv_ast.specs.declared.tree.Stmt.TheOpen.{Stmt-F}
 use Rattle.mv_ast.specs.declared.tree.Stmt.TheVariants as tree
@@ -33,7 +33,7 @@ use Rattle.mv_ast.specs.declared.tree.Stmt.TheViews.{roll-Stmt}
 use Rattle.mv_ast.specs.Limits.{at_token, too_many, together, columns_most, name_token, column_token, param_token, declared_token, literal_token, row_token, item_token, sort_token, expr_token, set_token, row_passes, kind_passes, param_passes, argument_passes, item_passes, is_counted, passes_in, too_many_items, script_passes, statement_step, statement_passes, tokens_step, statement_tokens}
 use Rattle.mv_ast.specs.Trees.{script_of}
 use Rattle.mv_print.specs.Same.{placeless_name, placeless_expr, placeless_cond, placeless_sort, placeless_set, placeless_agg, placeless_statement, placeless_literal, placeless_row, placeless_column, placeless_param_kind, placeless_param, placeless_variable, placeless_argument, placeless_kind, placeless, SameButPlaces}
-use Rattle.mv_print.proofs.Rules.{same2, same3}
+use Rattle.mv_print.proofs.Rules.{same2}
 use Rattle.mv_print.proofs.Sentences.{bare_assign, bare_select, bare_total, bare_for_select, bare_for_rows, bare_branch, bare_insert, bare_update, bare_delete, bare_print, bare_rollback}
 
 -- which limits are passed, wherever
@@ -259,5 +259,5 @@ none_passed (p ∷ ps) h = cc
 pub passes_back : (bytes text : List ℕ) (s t : Script) → SameButPlaces bytes s text t → script_passes s ≡ [] → script_passes t ≡ []
 passes_back bytes text s t e h =
     let same : map bare_item t.items ≡ map bare_item s.items =
-        sym (bare_of text t.items) ∙ (ap (map (λ (p : ItemKind × List ℕ). (let x : Item = record { token = 0; kind = p.0 } in x))) (sym e) ∙ bare_of bytes s.items) in
+    sym (bare_of text t.items) ∙ (ap (map (λ (p : ItemKind × List ℕ). (let x : Item = record { token = 0; kind = p.0 } in x))) (sym e) ∙ bare_of bytes s.items) in
     none_passed (script_passes t) (script_same t.items ∙ (ap (λ r. whiches (script_passes (script_of r))) same ∙ (sym (script_same s.items) ∙ ap whiches h)))

@@ -1,12 +1,10 @@
 -- Each expression of a source is read from its pieces.
-use Rattle.std.proofs.Common.{◌≡◌, ◌⊎◌, ℕ, zero, suc, ◌+◌, ◌-◌, ◌<◌, ◌≤◌, min, Bool, true, false, nat_lt, List, [], ◌∷◌, ◌++◌, Option, Some, None, length, refl, sym, ap, subst, ◌∙◌, append_assoc, append-nil, arith, inl, inr}
+use Rattle.std.proofs.Common.{◌≡◌, ◌⊎◌, ℕ, zero, suc, ◌≤◌, true, false, nat_lt, List, [], ◌∷◌, ◌++◌, Option, Some, None, refl, sym, ap, subst, ◌∙◌, append_assoc, append-nil, arith, inl, inr}
 use Rattle.std.specs.Prelude.{pos}
-use Rattle.std.specs.List.{list_all}
-use Rattle.std.proofs.lemmas.Bool.{ltb-true, ltb-false}
+use Rattle.std.proofs.lemmas.Bool.{ltb-true}
 use Rattle.std.proofs.lemmas.Bool.Decides.{nat_tests}
 use Rattle.std.proofs.lemmas.List.{map-append}
 use Rattle.mv_values.specs.declared.value.Value.{Value}
-use Rattle.mv_lex.specs.Bytes.{is_printable}
 use Rattle.mv_values.specs.declared.op.Op.{Op}
 use Rattle.mv_values.specs.declared.op.Op.TheVariants.{Eq, Ne, Lt, Le, Gt, Ge}
 use Rattle.mv_values.specs.declared.value.Value.TheVariants as value
@@ -21,18 +19,18 @@ use Rattle.mv_ast.specs.declared.tree.OneOp.TheVariants.{Neg, Not, TextOf}
 use Rattle.mv_ast.specs.declared.tree.TwoOp.{TwoOp}
 use Rattle.mv_ast.specs.declared.tree.TwoOp.TheVariants.{Add, Sub, Mul, Div, Rem, Join, Compare, And, Or, Left, Contains}
 use Rattle.mv_ast.specs.Texts.{greatest}
-use Rattle.mv_ast.specs.Parts.{Part, give, one, both, either, left, expression, Is, Pieces, joined}
+use Rattle.mv_ast.specs.Parts.{Part, give, one, expression, Is, Pieces, joined}
 use Rattle.mv_ast.specs.Trees.{leaf, parenthesized, prefixed, all_prefixed, paired, paired_by, called, column_named, variable_or_field, with_op, with_comparison, compared}
-use Rattle.mv_ast.specs.Grammar.{◌⊛◌, ◌▸◌, inner, added, many, optional, name, variable, const_number, const_text, expr, conj, neg, comp, op, sum, sum_op, term, term_op, fac, prim, variable_expr, left_call, contains_call, text_of_call, two_arguments, in_parens, place, in_parentheses, number_of, text_of}
+use Rattle.mv_ast.specs.Grammar.{◌⊛◌, ◌▸◌, inner, added, many, name, variable, const_number, const_text, expr, conj, neg, comp, op, sum, sum_op, term, term_op, fac, prim, variable_expr, left_call, contains_call, text_of_call, two_arguments, in_parens, place, in_parentheses, number_of, text_of}
 use Rattle.mv_print.specs.Printing.{Piece, key, name_piece, variable_piece, number_piece, text_piece, value_pieces, expr_pieces, Leveled, two_pieces, opened, closed, op_word}
-use Rattle.mv_print.specs.Same.{placeless_expr, placeless_name}
+use Rattle.mv_print.specs.Same.{placeless_name}
 use Rattle.mv_print.proofs.Light.{kinds, Plain, Light, light_none, light_joined, light_raised, light_plain, light_opens, light_close, light_parens, light_within}
-use Rattle.mv_print.proofs.Building.{marks, light_both, light_token, Each, Gives, gives_give, gives_one, gives_both, gives_next, gives_either, gives_left, gives_any, Reading, Prints, Spelled, Sound, Fits, apart, one_spelled, joined_added, prints_give, prints_one, prints_both, prints_next, prints_skip, prints_behind, prints_place, prints_inl, prints_inr, prints_more, prints_for}
+use Rattle.mv_print.proofs.Building.{marks, light_both, light_token, Gives, gives_give, gives_one, gives_both, gives_next, gives_either, gives_left, Reading, Prints, Spelled, Sound, joined_added, prints_give, prints_next, prints_skip, prints_behind, prints_place, prints_inl, prints_inr, prints_more, prints_for}
 use Rattle.mv_print.proofs.Sounding.{IsContent, IsName, IsVariable, sound_key, sound_number, sound_text}
-use Rattle.mv_print.proofs.Meaning.{Meant, Good, meant_name, meant_variable, meant_text}
+use Rattle.mv_print.proofs.Meaning.{Good, meant_name, meant_variable, meant_text}
 use Rattle.mv_print.proofs.Tokens.{prints_token, SameName, prints_name, prints_variable, number_read, text_read}
 use Rattle.mv_print.proofs.Trees.{kind_pieces, of_kind, of_const, of_var, of_field, of_col, of_one, of_two}
-use Rattle.mv_print.proofs.Levels.{Same, same_one, same_two, same_kind, placeless_is, placeless_var, placeless_field, placeless_col, part_at, prints_inside, Printable, Wrapped, Core, printable_of}
+use Rattle.mv_print.proofs.Levels.{Same, same_one, same_two, same_kind, placeless_is, placeless_var, placeless_field, placeless_col, part_at, prints_inside, Printable, Wrapped, printable_of}
 
 -- what stands for itself at each level
 printable_leaf : {text : List ℕ} (e : Expr) (ps : List Piece) → ((n : ℕ) → expr_pieces e n ≡ ps) → Prints text (prim text) (Same e) ps → Printable text e

@@ -1,9 +1,9 @@
 -- The law of printing.
-use Rattle.std.proofs.Common.{◌≡◌, ℕ, ◌≤◌, Bool, true, false, cond, List, [], ◌∷◌, ◌++◌, Option, Some, None, Result, Ok, Err, IfOk, refl, sym, subst, arith}
+use Rattle.std.proofs.Common.{◌≡◌, ℕ, Bool, true, false, cond, List, [], ◌∷◌, ◌++◌, Some, None, Result, Ok, Err, IfOk, refl, sym, subst, arith}
 use Rattle.mv_lex.specs.Tokens.{AreTokens}
 use Rattle.mv_lex.specs.declared.token.Token.{Token}
 use Rattle.mv_ast.specs.declared.tree.Script.{Script}
-use Rattle.mv_ast.specs.Lexemes.{IsByGrammar, IsScript, lexemes}
+use Rattle.mv_ast.specs.Lexemes.{IsScript, lexemes}
 use Rattle.mv_ast.specs.declared.lexeme.Lexeme.{Lexeme}
 use Rattle.mv_ast.specs.declared.limit.Passed.{Passed}
 use Rattle.mv_ast.specs.Limits.{first_early, is_sooner, soonest, token_passes, script_passes}
@@ -53,12 +53,17 @@ flat_back bytes tokens s a i =
     let t = script_turned bytes (flat ps) i.grammar.0 ts s good (last_open 1 bytes a.1) i.grammar.1 in
     let l = lexed ps t.sounds in
     let ls = lexemes (flat ps) l.tokens in
-    let r = t.reads t.levels ls (omega arith) (l.spelled 1) in
-    (l.tokens, r.0, (l.allowed, l.reads), record {
-      grammar = (t.levels, r.1);
-      early = early_back bytes (flat ps) ts ls ps t.light (l.spelled 1) i.early;
-      late = none_told (token_passes (flat ps) ls) (script_passes r.0) (passes_none (flat ps) ps ls t.sounds (l.spelled 1)) (passes_back bytes (flat ps) s r.0 r.2 none.1);
-    }, r.2)
+    let r = t.reads t.levels ls (omega arith) (l.spelled 1) in (
+      l.tokens,
+      r.0,
+      (l.allowed, l.reads),
+      record {
+        grammar = (t.levels, r.1);
+        early = early_back bytes (flat ps) ts ls ps t.light (l.spelled 1) i.early;
+        late = none_told (token_passes (flat ps) ls) (script_passes r.0) (passes_none (flat ps) ps ls t.sounds (l.spelled 1)) (passes_back bytes (flat ps) s r.0 r.2 none.1);
+      },
+      r.2,
+    )
 
 pub printed_back : {E : Type 0} (bytes : List ℕ) (tokens : List Token) (s : Script) (r : Result (List ℕ) E) → AreTokens bytes tokens → IsScript bytes tokens s
     → IfOk r (λ text. text ≡ printed bytes s) → IfOk r (λ text. ReadsBack bytes s text)

@@ -1,6 +1,6 @@
 -- An expression is read at each level from its pieces there, if it is at its own.
-use Rattle.std.proofs.Common.{◌≡◌, ◌⊎◌, ℕ, zero, suc, ◌+◌, ◌-◌, ◌<◌, ◌≤◌, Bool, true, false, nat_lt, List, [], ◌∷◌, ◌++◌, Option, Some, None, length, refl, sym, ap, subst, ◌∙◌, append_assoc, append-nil, arith, inl, inr}
-use Rattle.std.proofs.lemmas.Bool.{ltb-true, ltb-false}
+use Rattle.std.proofs.Common.{◌≡◌, ◌⊎◌, ℕ, zero, suc, ◌+◌, ◌-◌, ◌≤◌, Bool, true, false, nat_lt, List, [], ◌∷◌, ◌++◌, None, refl, sym, ap, subst, ◌∙◌, append-nil, arith, inl, inr}
+use Rattle.std.proofs.lemmas.Bool.{ltb-false}
 use Rattle.std.proofs.lemmas.Bool.Decides.{nat_tests}
 use Rattle.mv_ast.specs.declared.lexeme.Lexeme.{Lexeme}
 use Rattle.mv_ast.specs.declared.lexeme.Terminal.TheVariants as word
@@ -8,16 +8,16 @@ use Rattle.mv_ast.specs.declared.tree.Expr.{Expr, out-Expr, fold_out-Expr}
 use Rattle.mv_ast.specs.declared.tree.ExprKind.{ExprKind}
 use Rattle.mv_ast.specs.declared.tree.ExprKind.TheFolds.{fold-ExprKind, fold-roll-ExprKind}
 use Rattle.mv_ast.specs.declared.tree.ExprKind.TheOpen as open-kind
-use Rattle.mv_ast.specs.declared.tree.ExprKind.TheVariants.{Const, Var, Field, Col, One, Two, rolls-Var, rolls-Field, rolls-Col, rolls-One, rolls-Two}
+use Rattle.mv_ast.specs.declared.tree.ExprKind.TheVariants.{Var, Field, Col, One, Two, rolls-Var, rolls-Field, rolls-Col, rolls-One, rolls-Two}
 use Rattle.mv_ast.specs.declared.tree.Name.{Name}
 use Rattle.mv_ast.specs.declared.tree.OneOp.{OneOp}
 use Rattle.mv_ast.specs.declared.tree.TwoOp.{TwoOp}
-use Rattle.mv_ast.specs.Parts.{Part, give, one, both, either, left, expression, Is}
+use Rattle.mv_ast.specs.Parts.{Part, expression, Is}
 use Rattle.mv_ast.specs.Trees.{leaf, parenthesized}
 use Rattle.mv_ast.specs.Grammar.{inner, expr, conj, neg, comp, sum, term, fac, prim, in_parentheses}
 use Rattle.mv_print.specs.Printing.{Piece, key, expr_pieces}
 use Rattle.mv_print.specs.Same.{kind_step, expr_step, placeless_expr, placeless_name}
-use Rattle.mv_print.proofs.Building.{Reading, Prints, Spelled, prints_give, prints_next, prints_skip, prints_place, prints_inl, prints_inr}
+use Rattle.mv_print.proofs.Building.{Reading, Prints, prints_give, prints_next, prints_skip, prints_place, prints_inl, prints_inr}
 use Rattle.mv_print.proofs.Sounding.{sound_key}
 
 -- trees that are the same but for places

@@ -1,5 +1,5 @@
 -- The tokens of a source, and those of printed pieces.
-use Rattle.std.proofs.Common.{◌≡◌, ℕ, zero, suc, ◌+◌, ◌-◌, ◌<◌, ◌≤◌, Bool, true, false, ◌&&◌, not, List, [], ◌∷◌, ◌++◌, ◌⊎◌, length, map, take, drop, slice_range, refl, sym, ap, subst, ◌∙◌, append_assoc, append-nil, length-append, arith, inl, inr}
+use Rattle.std.proofs.Common.{◌≡◌, ℕ, ◌+◌, ◌-◌, Bool, true, false, ◌&&◌, not, List, [], ◌∷◌, ◌++◌, ◌⊎◌, length, take, drop, slice_range, refl, sym, ap, subst, ◌∙◌, append_assoc, append-nil, length-append, arith, inl, inr}
 use Rattle.std.specs.List.{list_all}
 use Rattle.std.proofs.lemmas.Bool.{and_parts, and_from}
 use Rattle.std.proofs.lemmas.Bool.Decides.{nat_tests}
@@ -7,7 +7,7 @@ use Rattle.std.proofs.lemmas.List.{take_at, drop_at}
 use Rattle.std.proofs.lemmas.List.Folds.{list_all-append}
 use Rattle.mv_lex.specs.Bytes.{is_allowed, is_blank}
 use Rattle.mv_lex.specs.Spelling.{IsSpelled}
-use Rattle.mv_lex.specs.Tokens.{IsLongest, Reads, stop, blank, comment, token, token_at, AreTokens}
+use Rattle.mv_lex.specs.Tokens.{IsLongest, Reads, stop, blank, comment, token, token_at}
 use Rattle.mv_lex.specs.declared.token.Kind.{Kind}
 use Rattle.mv_lex.specs.declared.token.Kind.TheVariants as kind
 use Rattle.mv_lex.specs.declared.token.Token.{Token}
@@ -19,10 +19,10 @@ use Rattle.mv_ast.specs.declared.limit.Passed.{Passed}
 use Rattle.mv_ast.specs.declared.limit.Which.TheVariants as limit
 use Rattle.mv_ast.specs.Limits.{at_token, when, own_passes, size_passes, is_size_of, is_size, token_passes}
 use Rattle.mv_ast.specs.Texts.{spelling, number_from}
-use Rattle.mv_ast.specs.Lexemes.{kind_of, lexeme_of, lexemes_from, lexemes}
+use Rattle.mv_ast.specs.Lexemes.{kind_of, lexeme_of, lexemes_from}
 use Rattle.mv_print.specs.Printing.{Piece, put, written}
 use Rattle.mv_print.proofs.Light.{kinds}
-use Rattle.mv_print.proofs.Building.{marks, Fits, Spelled, Base, Sound, is_type, SizeBehind, Sounded, base_of, Sounds, Triple, Each}
+use Rattle.mv_print.proofs.Building.{marks, Fits, Spelled, is_type, Sounded, base_of, Sounds, Triple, Each}
 use Rattle.mv_print.proofs.Meaning.{Meant, Good, kind_behind, behind}
 use Rattle.mv_print.proofs.Scripts.{LastOpen, Last, Ended}
 

@@ -1,19 +1,18 @@
 -- What the tokens of a source mean, and where the bytes of its blocks stand.
-use Rattle.std.proofs.Common.{◌≡◌, ℕ, suc, ◌+◌, ◌-◌, ◌<◌, ◌≤◌, Bool, true, false, cond, ◌&&◌, ◌==◌, nat_lt, List, [], ◌∷◌, ◌++◌, Option, Some, None, length, take, drop, slice_range, refl, sym, ap, subst, ◌∙◌, append_assoc, append-nil, length-append, arith, inl, inr}
-use Rattle.std.specs.List.{list_all, ends_with, position, prefix_len}
+use Rattle.std.proofs.Common.{◌≡◌, ℕ, suc, ◌+◌, ◌-◌, ◌<◌, Bool, true, false, cond, ◌==◌, nat_lt, List, [], ◌∷◌, ◌++◌, length, take, drop, slice_range, refl, sym, ap, subst, ◌∙◌, append_assoc, append-nil, length-append, arith, inl, inr}
+use Rattle.std.specs.List.{list_all, ends_with, prefix_len}
 use Rattle.std.proofs.lemmas.Bool.{and_parts, and_from, lt-ltb}
 use Rattle.std.proofs.lemmas.List.{take_at, drop_at, drop-drop, take-append-drop, length-map}
 use Rattle.std.specs.Cmp.Lexicographic.{pointwise}
 use Rattle.mv_lex.specs.Bytes.{is_allowed, is_blank, is_in_line, is_printable}
-use Rattle.mv_lex.specs.Spelling.{IsSpelled, is_word, is_number, is_variable, is_symbol, stands_alone, IsText, IsBlock, IsClosing, IsUnclosed, IsBareOpening, is_inner_blank, opening, quoted}
+use Rattle.mv_lex.specs.Spelling.{IsSpelled, is_word, is_variable, IsText, IsClosing, is_inner_blank, opening}
 use Rattle.mv_lex.specs.declared.token.Kind.{Kind}
 use Rattle.mv_lex.specs.declared.token.Kind.TheVariants as token
-use Rattle.mv_lex.proofs.Runs.{Stops, run_exact}
+use Rattle.mv_lex.proofs.Runs.{run_exact}
 use Rattle.mv_ast.specs.declared.lexeme.Lexeme.{Lexeme}
 use Rattle.mv_ast.specs.declared.lexeme.Terminal.{Terminal}
 use Rattle.mv_ast.specs.declared.lexeme.Terminal.TheVariants as word
-use Rattle.mv_ast.specs.declared.tree.Span.{Span}
-use Rattle.mv_ast.specs.Texts.{spelling, number_from, lower, unquoted, first_line, last_line, line_end}
+use Rattle.mv_ast.specs.Texts.{spelling, number_from, lower, unquoted, first_line, last_line}
 use Rattle.mv_ast.specs.Lexemes.{kind_of, keywords, symbols, listed}
 use Rattle.mv_ast.specs.Grammar.{closed_of, open_of}
 use Rattle.mv_print.specs.Same.{span_bytes}

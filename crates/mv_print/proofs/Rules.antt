@@ -1,12 +1,9 @@
 -- Names, literals and the clauses of statements, as they are printed and read again.
-use Rattle.std.proofs.Common.{◌≡◌, ℕ, zero, suc, ◌+◌, ◌-◌, ◌<◌, ◌≤◌, min, Bool, true, false, cond, nat_lt, List, [], ◌∷◌, ◌++◌, Option, Some, None, map, refl, sym, ap, subst, ◌∙◌, append_assoc, append-nil, arith, inl, inr}
+use Rattle.std.proofs.Common.{◌≡◌, ℕ, zero, suc, ◌-◌, ◌≤◌, min, Bool, true, false, nat_lt, List, [], ◌∷◌, ◌++◌, map, refl, sym, ap, subst, ◌∙◌, arith, inr}
 use Rattle.std.specs.Prelude.{pos, negsuc, ◌-ℤ◌}
-use Rattle.std.specs.Option.{option_map}
-use Rattle.std.specs.List.{list_all}
 use Rattle.std.proofs.lemmas.Bool.{lt-ltb}
 use Rattle.std.proofs.lemmas.Bool.Decides.{nat_tests}
 use Rattle.std.proofs.lemmas.List.{map-append}
-use Rattle.mv_lex.specs.Bytes.{is_printable}
 use Rattle.mv_values.specs.declared.op.Op.{Op}
 use Rattle.mv_values.specs.declared.op.Op.TheVariants.{Eq, Ne, Lt, Le, Gt, Ge}
 use Rattle.mv_values.specs.declared.schema.ColType.{ColType}
@@ -16,7 +13,6 @@ use Rattle.mv_values.specs.declared.value.Value.TheVariants as value
 use Rattle.mv_ast.specs.declared.lexeme.Lexeme.{Lexeme}
 use Rattle.mv_ast.specs.declared.lexeme.Terminal.{Terminal}
 use Rattle.mv_ast.specs.declared.lexeme.Terminal.TheVariants as word
-use Rattle.mv_ast.specs.declared.tree.Agg.{Agg}
 use Rattle.mv_ast.specs.declared.tree.Agg.TheVariants as agg
 use Rattle.mv_ast.specs.declared.tree.ColDef.{ColDef}
 use Rattle.mv_ast.specs.declared.tree.Cond.{Cond}
@@ -28,19 +24,19 @@ use Rattle.mv_ast.specs.declared.tree.SetItem.{SetItem}
 use Rattle.mv_ast.specs.declared.tree.Sort.{Sort}
 use Rattle.mv_ast.specs.Texts.{greatest, number_from, spelling}
 use Rattle.mv_ast.specs.Limits.{is_size, is_size_of}
-use Rattle.mv_ast.specs.Parts.{Part, give, one, both, either, left, expression, statement, Is}
+use Rattle.mv_ast.specs.Parts.{Part, give, one, expression}
 use Rattle.mv_ast.specs.Grammar as rule
 use Rattle.mv_ast.specs.Grammar.{inner, in_parens, ◌⊛◌, ◌▸◌, number_of, text_of, negative_of, positive_of, quoted_of, text_column}
-use Rattle.mv_print.specs.Printing.{Piece, key, name_piece, name_pieces, variable_piece, variable_pieces, number_piece, text_piece, value_pieces, literal_pieces, row_pieces, type_pieces, column_pieces, whole_expr, expr_pieces, cond_pieces, conds_pieces, direction_pieces, sort_pieces, sorts_pieces, offset_pieces, agg_pieces, set_pieces, op_word, listed}
+use Rattle.mv_print.specs.Printing.{Piece, key, name_piece, name_pieces, variable_pieces, number_piece, text_piece, value_pieces, literal_pieces, row_pieces, type_pieces, column_pieces, whole_expr, expr_pieces, cond_pieces, conds_pieces, direction_pieces, sort_pieces, sorts_pieces, agg_pieces, set_pieces, op_word, listed}
 use Rattle.mv_print.specs.Same.{placeless_name, placeless_expr, placeless_literal, placeless_row, placeless_column, placeless_cond, placeless_sort, placeless_set, placeless_agg}
-use Rattle.mv_print.proofs.Light.{kinds, Plain, Light, light_none, light_joined, light_plain, light_drop, light_within}
-use Rattle.mv_print.proofs.Building.{Fits, Each, both_read, one_read, prints_skip, marks, light_both, light_nothing, gives_for, turns_then, turns_deeper, Prints, Turns, Gives, gives_give, gives_one, gives_both, gives_next, gives_either, gives_any, prints_give, prints_one, prints_next, prints_behind, prints_inl, prints_inr, prints_for, turns_give, turns_next, turns_either, turns_as}
+use Rattle.mv_print.proofs.Light.{kinds, Light, light_none, light_joined, light_plain, light_drop, light_within}
+use Rattle.mv_print.proofs.Building.{Fits, Each, both_read, one_read, prints_skip, marks, light_both, light_nothing, gives_for, turns_deeper, Prints, Turns, Gives, gives_give, gives_one, gives_both, gives_next, gives_either, prints_give, prints_one, prints_next, prints_behind, prints_inl, prints_inr, prints_for, turns_give, turns_next, turns_either, turns_as}
 use Rattle.mv_print.proofs.Sounding.{IsContent, digits_back, IsName, IsVariable, sound_key, sound_number, sound_text}
 use Rattle.mv_print.proofs.Meaning.{Good, meant_text}
-use Rattle.mv_print.proofs.Tokens.{prints_token, SameName, prints_name, prints_variable, number_read, text_read}
-use Rattle.mv_print.proofs.Levels.{Same, prints_inside, Printable}
+use Rattle.mv_print.proofs.Tokens.{prints_token, prints_name, prints_variable, number_read, text_read}
+use Rattle.mv_print.proofs.Levels.{prints_inside, Printable}
 use Rattle.mv_print.proofs.Expressions.{found_name, found_variable, found_op, plain_op, found_inside, found_sum}
-use Rattle.mv_print.proofs.Turning.{plain_key, skip_open, skip_close, place_open, skip, behind_key, behind_keys, place_key, turns_parens, turns_many, turns_separated, turns_commas, turns_optional, turns_found}
+use Rattle.mv_print.proofs.Turning.{plain_key, skip_close, place_open, skip, behind_key, behind_keys, turns_parens, turns_separated, turns_commas, turns_found}
 
 -- functions at what is the same
 pub same2 : {A B C : Type 0} (f : A → B → C) {a x : A} {b y : B} → a ≡ x → b ≡ y → f a b ≡ f x y

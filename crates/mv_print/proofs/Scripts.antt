@@ -1,5 +1,5 @@
 -- Items and scripts, as they are printed and read again.
-use Rattle.std.proofs.Common.{◌≡◌, ℕ, zero, suc, ◌+◌, ◌≤◌, Bool, true, false, ◌&&◌, List, [], ◌∷◌, ◌++◌, ◌⊎◌, length, map, slice_range, refl, sym, ap, subst, ◌∙◌, append_assoc, append-nil, length-append, arith, inl, inr}
+use Rattle.std.proofs.Common.{◌≡◌, ℕ, ◌+◌, ◌≤◌, Bool, true, false, List, [], ◌∷◌, ◌++◌, ◌⊎◌, length, map, refl, sym, ap, subst, ◌∙◌, append_assoc, append-nil, length-append, arith, inl, inr}
 use Rattle.std.specs.List.{list_all}
 use Rattle.std.proofs.lemmas.Bool.{and_parts, and_from}
 use Rattle.std.proofs.lemmas.List.Folds.{list_all-append}
@@ -10,15 +10,13 @@ use Rattle.mv_lex.specs.declared.token.Kind.TheVariants as token
 use Rattle.mv_lex.proofs.Fronts.{block_is}
 use Rattle.mv_lex.proofs.Pieces.{found_longest}
 use Rattle.mv_lex.proofs.Parted.{parted_longest}
-use Rattle.mv_values.specs.declared.schema.ColType.{ColType}
 use Rattle.mv_ast.specs.declared.lexeme.Lexeme.{Lexeme}
 use Rattle.mv_ast.specs.declared.lexeme.Terminal.TheVariants as word
 use Rattle.mv_ast.specs.declared.tree.Arg.{Arg}
 use Rattle.mv_ast.specs.declared.tree.Arg.TheVariants as argument
-use Rattle.mv_ast.specs.declared.tree.ColDef.{ColDef}
 use Rattle.mv_ast.specs.declared.tree.Item.{Item}
 use Rattle.mv_ast.specs.declared.tree.ItemKind.{ItemKind}
-use Rattle.mv_ast.specs.declared.tree.ItemKind.TheVariants.{Table, Proc, Copy, Call, Journal}
+use Rattle.mv_ast.specs.declared.tree.ItemKind.TheVariants.{Copy, Call, Journal}
 use Rattle.mv_ast.specs.declared.tree.Lit.{Lit}
 use Rattle.mv_ast.specs.declared.tree.LitRow.{LitRow}
 use Rattle.mv_ast.specs.declared.tree.LitRows.{LitRows}
@@ -28,22 +26,20 @@ use Rattle.mv_ast.specs.declared.tree.ParamKind.{ParamKind}
 use Rattle.mv_ast.specs.declared.tree.ParamKind.TheVariants as parameter
 use Rattle.mv_ast.specs.declared.tree.Script.{Script}
 use Rattle.mv_ast.specs.declared.tree.Span.{Span}
-use Rattle.mv_ast.specs.declared.tree.Stmt.{Stmt}
 use Rattle.mv_ast.specs.declared.tree.VarDef.{VarDef}
 use Rattle.mv_ast.specs.Limits.{together}
-use Rattle.mv_ast.specs.Parts.{Part, give, one, both, either, left, expression, statement, Is, Pieces, joined}
+use Rattle.mv_ast.specs.Parts.{Part, give, both, either, Is, Pieces, joined}
 use Rattle.mv_ast.specs.Trees.{table_of, procedure_of, copy_of, journal_of, script_of}
 use Rattle.mv_ast.specs.Texts.{spelling}
 use Rattle.mv_ast.specs.Grammar as rule
 use Rattle.mv_ast.specs.Grammar.{inner, added, place, closed_of, open_of, ◌⊛◌, ◌▸◌}
-use Rattle.mv_print.specs.Printing.{Piece, key, line_end, name_piece, name_pieces, variable_piece, listed, literal_pieces, row_pieces, type_pieces, column_pieces, column_and_comma, values_pieces, table_pieces, param_kind_pieces, param_pieces, declared_pieces, procedure_pieces, statements_pieces, block_piece, span_piece, arg_pieces, item_pieces, pieces_of, script_pieces}
-use Rattle.mv_print.specs.Same.{placeless_name, placeless_literal, placeless_row, placeless_column, placeless_param_kind, placeless_param, placeless_variable, placeless_argument, placeless_statement, placeless_span, placeless_kind, placeless, span_bytes, block_bytes, SameButPlaces}
+use Rattle.mv_print.specs.Printing.{Piece, key, line_end, name_piece, name_pieces, listed, row_pieces, column_pieces, column_and_comma, values_pieces, param_kind_pieces, param_pieces, declared_pieces, statements_pieces, block_piece, span_piece, arg_pieces, item_pieces, pieces_of, script_pieces}
+use Rattle.mv_print.specs.Same.{placeless_row, placeless_column, placeless_param_kind, placeless_param, placeless_variable, placeless_argument, placeless_span, placeless_kind, placeless, span_bytes, block_bytes, SameButPlaces}
 use Rattle.mv_print.proofs.Light.{kinds, Light, light_plain}
-use Rattle.mv_print.proofs.Building.{marks, light_both, light_nothing, turns_then, turns_deeper, Fits, Spelled, Sound, Sounds, sounds_joined, Each, each_apart, apart, one_spelled, none_spelled, Reading, Readings, Prints, Turned, Turns, Gives, gives_give, gives_one, gives_both, gives_next, gives_either, gives_left, gives_any, both_read, more_read, joined_added, turns_give, turns_next, turns_either, turns_left, turns_as}
+use Rattle.mv_print.proofs.Building.{marks, light_both, light_nothing, turns_then, Fits, Spelled, Sound, Sounds, sounds_joined, Each, each_apart, apart, one_spelled, none_spelled, Reading, Readings, Prints, Turned, Turns, Gives, gives_give, gives_one, gives_both, gives_next, gives_either, gives_any, both_read, joined_added, turns_give, turns_next, turns_either, turns_left, turns_as}
 use Rattle.mv_print.proofs.Sounding.{sound_key}
 use Rattle.mv_print.proofs.Meaning.{Meant, Good, meant, closed_bytes, open_bytes, bare_bytes}
-use Rattle.mv_print.proofs.Tokens.{prints_token}
-use Rattle.mv_print.proofs.Turning.{plain_key, skip_open, skip_close, skip_ends, skip_end_line, place_open, skip, skip_end, behind_key, behind_keys, place_key, turns_parens, turns_many, turns_commas, turns_found}
+use Rattle.mv_print.proofs.Turning.{plain_key, skip_open, skip_close, skip_end_line, skip, skip_end, behind_key, place_key, turns_parens, turns_many, turns_commas}
 use Rattle.mv_print.proofs.Rules.{Rule, same2, same3, same4, rule_name, rule_variable, rule_literal, rule_row, rule_type, rule_column}
 use Rattle.mv_print.proofs.Sentences.{way_inside}
 
@@ -109,12 +105,12 @@ closed_block bytes l m e =
 closed_sound : (content : List ℕ) → ((after : List ℕ) → IsBlock (block_piece content true).text after) → list_all is_allowed content ≡ true → Sound (block_piece content true)
 closed_sound content b a = record {
   base = record {
-  token = token.Block;
-  longest = λ rest. found_longest token.Block (length (block_piece content true).text) (block_piece content true).text rest (block_is (block_piece content true).text rest (b rest)) refl (b rest);
-  is = refl;
-  allowed = allowed_joined content (62 ∷ 62 ∷ 10 ∷ []) a refl;
-  gaps = refl;
-  own = λ n. refl;
+    token = token.Block;
+    longest = λ rest. found_longest token.Block (length (block_piece content true).text) (block_piece content true).text rest (block_is (block_piece content true).text rest (b rest)) refl (b rest);
+    is = refl;
+    allowed = allowed_joined content (62 ∷ 62 ∷ 10 ∷ []) a refl;
+    gaps = refl;
+    own = λ n. refl;
   };
   plain = refl;
 }

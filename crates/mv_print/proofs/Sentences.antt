@@ -1,8 +1,6 @@
 -- Statements, as they are printed and read again.
-use Rattle.std.proofs.Common.{◌≡◌, ℕ, zero, suc, ◌+◌, ◌≤◌, Bool, true, false, List, [], ◌∷◌, ◌++◌, Option, Some, None, map, refl, sym, ap, subst, ◌∙◌, append_assoc, append-nil, arith, inl, inr}
+use Rattle.std.proofs.Common.{◌≡◌, ℕ, zero, suc, ◌≤◌, Bool, true, false, List, [], ◌∷◌, ◌++◌, Option, map, refl, sym, ap, subst, ◌∙◌, append_assoc, arith, inl, inr}
 use Rattle.std.specs.Option.{option_map}
-use Rattle.std.specs.List.{list_all}
-use Rattle.mv_lex.specs.Bytes.{is_printable}
 use Rattle.mv_ast.specs.declared.lexeme.Lexeme.{Lexeme}
 use Rattle.mv_ast.specs.declared.lexeme.Terminal.TheVariants as word
 use Rattle.mv_ast.specs.declared.tree.Agg.{Agg}
@@ -12,23 +10,21 @@ use Rattle.mv_ast.specs.declared.tree.Name.{Name}
 use Rattle.mv_ast.specs.declared.tree.SetItem.{SetItem}
 use Rattle.mv_ast.specs.declared.tree.Sort.{Sort}
 use Rattle.mv_ast.specs.declared.tree.Stmt.{Stmt}
-use Rattle.mv_ast.specs.declared.tree.Stmt.TheFolds.{fold-Stmt, fold-roll-Stmt}
+use Rattle.mv_ast.specs.declared.tree.Stmt.TheFolds.{fold-roll-Stmt}
 use Rattle.mv_ast.specs.declared.tree.Stmt.TheOpen as inside
 use Rattle.mv_ast.specs.declared.tree.Stmt.TheOpen.{Stmt-F}
 use Rattle.mv_ast.specs.declared.tree.Stmt.TheVariants as tree
-use Rattle.mv_ast.specs.Limits.{together}
-use Rattle.mv_ast.specs.Parts.{Part, give, one, both, either, left, expression, statement, Is}
-use Rattle.mv_ast.specs.Trees.{select_of, total_of, for_plain_of, for_distinct_of, for_rows_of}
+use Rattle.mv_ast.specs.Parts.{Part, give, one, expression, statement}
 use Rattle.mv_ast.specs.Grammar as rule
 use Rattle.mv_ast.specs.Grammar.{inner, ◌⊛◌, ◌▸◌}
-use Rattle.mv_print.specs.Printing.{Piece, key, line_end, name_piece, name_pieces, variable_piece, variable_pieces, text_piece, whole_expr, conds_pieces, sorts_pieces, offset_pieces, agg_pieces, set_pieces, listed, query_pieces, else_lead, statement_step, statement_pieces, statements_pieces}
+use Rattle.mv_print.specs.Printing.{Piece, key, line_end, name_piece, name_pieces, variable_piece, variable_pieces, text_piece, whole_expr, conds_pieces, sorts_pieces, offset_pieces, agg_pieces, set_pieces, listed, else_lead, statement_step, statement_pieces, statements_pieces}
 use Rattle.mv_print.specs.Same.{placeless_name, placeless_expr, placeless_cond, placeless_sort, placeless_set, placeless_agg, placeless_statement, statement_step as placeless_step}
 use Rattle.mv_print.proofs.Light.{kinds, Light, light_plain, light_drop, light_through}
-use Rattle.mv_print.proofs.Building.{marks, light_nothing, TurnsTo, TurnedTo, turns_then, turns_level, turns_deeper, turns_raised, Prints, Turned, Turns, Each, each_apart, turns_give, turns_next, turns_either, turns_as, Reading, gives_next, gives_give, gives_one, prints_inl, prints_inr, prints_give}
+use Rattle.mv_print.proofs.Building.{marks, light_nothing, TurnsTo, turns_then, turns_level, turns_deeper, turns_raised, Prints, Turned, Turns, turns_give, turns_next, turns_either, turns_as, Reading, gives_next, gives_give, gives_one, prints_inl, prints_inr, prints_give}
 use Rattle.mv_print.proofs.Sounding.{IsContent, sound_key, sound_text}
 use Rattle.mv_print.proofs.Meaning.{Good, meant_text}
-use Rattle.mv_print.proofs.Trees.{of_rows, of_select, of_branch, ending, if_ending}
-use Rattle.mv_print.proofs.Turning.{plain_key, skip_open, skip_close, skip_ends, place_open, skip, skip_end, behind_key, behind_keys, place_key, turns_parens, turns_many, turns_commas, turns_optional, turns_found}
+use Rattle.mv_print.proofs.Trees.{of_rows, of_select, of_branch, ending}
+use Rattle.mv_print.proofs.Turning.{plain_key, skip_ends, place_open, skip, skip_end, behind_key, place_key, turns_parens, turns_many, turns_commas, turns_optional, turns_found}
 use Rattle.mv_print.proofs.Tokens.{prints_token, SameName, text_read}
 use Rattle.mv_print.proofs.Rules.{Rule, same2, same3, same4, same5, same6, rule_name, rule_variable, rule_expression, rule_conds, rule_sorts, rule_set, rule_agg}
 

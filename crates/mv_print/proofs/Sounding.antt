@@ -1,17 +1,15 @@
 -- Each printed piece is one token, and means what the tree has.
-use Rattle.std.proofs.Common.{◌≡◌, ℕ, suc, ◌+◌, ◌-◌, ◌*◌, ◌<◌, ◌≤◌, ◌/◌, ◌%◌, min, Bool, true, false, cond, nat_lt, ◌&&◌, ◌==◌, List, [], ◌∷◌, ◌++◌, length, map, take, drop, slice_range, refl, sym, ap, subst, ◌∙◌, append_assoc, append-nil, length-append, arith, inl, inr}
-use Rattle.std.specs.Prelude.{decimal, ◌^◌, codes}
+use Rattle.std.proofs.Common.{◌≡◌, ℕ, ◌+◌, ◌-◌, ◌*◌, ◌<◌, ◌≤◌, ◌/◌, ◌%◌, Bool, true, false, cond, nat_lt, ◌&&◌, ◌==◌, List, [], ◌∷◌, ◌++◌, length, take, refl, sym, ap, ◌∙◌, length-append, arith}
+use Rattle.std.specs.Prelude.{decimal, ◌^◌}
 use Rattle.std.specs.List.{list_all}
 use Rattle.std.specs.Char.{to_ascii_lowercase}
 use Rattle.std.proofs.lemmas.Bool.{and_parts, and_from, eqb-true}
 use Rattle.std.proofs.lemmas.Bool.Decides.{nat_tests}
 use Rattle.std.proofs.lemmas.Fmt.{decimal_by_steps}
-use Rattle.std.proofs.lemmas.List.{take_at, drop_at, map-append}
+use Rattle.std.proofs.lemmas.List.{take_at}
 use Rattle.std.proofs.lemmas.List.Folds.{list_all-append}
-use Rattle.mv_lex.specs.Bytes.{is_allowed, is_blank, is_printable, is_digit, begins_word, continues_word}
-use Rattle.mv_lex.specs.Spelling.{IsSpelled, is_word, is_number, is_variable, is_symbol, stands_alone, IsText, doubled, quoted}
-use Rattle.mv_lex.specs.Tokens.{IsLongest}
-use Rattle.mv_lex.specs.declared.token.Kind.{Kind}
+use Rattle.mv_lex.specs.Bytes.{is_allowed, is_printable, is_digit, begins_word, continues_word}
+use Rattle.mv_lex.specs.Spelling.{is_word, is_number, is_symbol, stands_alone, doubled, quoted}
 use Rattle.mv_lex.specs.declared.token.Kind.TheVariants as token
 use Rattle.mv_lex.proofs.Parted.{parted_longest}
 use Rattle.mv_ast.specs.declared.lexeme.Terminal.{Terminal}
@@ -22,7 +20,7 @@ use Rattle.mv_ast.specs.declared.limit.Which.TheVariants as limit
 use Rattle.mv_ast.specs.Limits.{at_token, when, own_passes}
 use Rattle.mv_ast.specs.Texts.{lower, number, number_from, greatest, undoubled, unquoted}
 use Rattle.mv_ast.specs.Lexemes.{kind_of, keywords, symbols, listed}
-use Rattle.mv_print.specs.Printing.{Piece, key, line_end, spelled, name_piece, variable_piece, number_piece, text_piece}
+use Rattle.mv_print.specs.Printing.{key, line_end, spelled, name_piece, variable_piece, number_piece, text_piece}
 use Rattle.mv_print.proofs.Building.{Base, Sound}
 
 -- keywords and symbols

@@ -1,14 +1,10 @@
 -- Single tokens, as they are printed and read again.
-use Rattle.std.proofs.Common.{◌≡◌, ℕ, ◌≤◌, true, List, [], ◌∷◌, ◌++◌, length, drop, refl, sym, ap, subst, ◌∙◌}
-use Rattle.std.specs.List.{list_all}
-use Rattle.mv_lex.specs.Bytes.{is_printable}
-use Rattle.mv_lex.specs.Spelling.{quoted}
+use Rattle.std.proofs.Common.{◌≡◌, ℕ, ◌≤◌, List, [], ◌∷◌, drop, refl, sym, ap, ◌∙◌}
 use Rattle.mv_ast.specs.declared.lexeme.Lexeme.{Lexeme}
 use Rattle.mv_ast.specs.declared.lexeme.Terminal.{Terminal}
-use Rattle.mv_ast.specs.declared.lexeme.Terminal.TheVariants as word
 use Rattle.mv_ast.specs.declared.tree.Name.{Name}
-use Rattle.mv_ast.specs.Texts.{lower, number, greatest, unquoted, spelling}
-use Rattle.mv_ast.specs.Parts.{Part, give, one}
+use Rattle.mv_ast.specs.Texts.{lower, number, greatest, unquoted}
+use Rattle.mv_ast.specs.Parts.{give, one}
 use Rattle.mv_ast.specs.Grammar.{◌⊛◌, name, variable, name_of, variable_of, number_of, text_of}
 use Rattle.mv_print.specs.Printing.{Piece, name_piece, variable_piece, number_piece, text_piece}
 use Rattle.mv_print.specs.Same.{placeless_name}

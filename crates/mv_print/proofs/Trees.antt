@@ -1,5 +1,5 @@
 -- Pieces of expressions and statements that are written part by part.
-use Rattle.std.proofs.Common.{refl, ◌≡◌, ◌≤◌, ℕ, Bool, List, [], ◌∷◌, ◌++◌, Result, Ok, Err, map, length, take, drop, get_or, sym, ap, ◌∙◌, ◌-◌, arith, length-drop}
+use Rattle.std.proofs.Common.{◌≡◌, ◌≤◌, ℕ, Bool, List, [], ◌∷◌, ◌++◌, Result, Ok, Err, map, length, take, drop, get_or, sym, ap, ◌∙◌, ◌-◌, arith, length-drop}
 use Rattle.std.specs.Result.{OnOk}
 use Rattle.std.proofs.lemmas.List.{take_all}
 use Rattle.mv_values.specs.declared.memory.NoMemory.{NoMemory}

@@ -1,15 +1,14 @@
 -- Parts of the grammar by the roles of their tokens.
-use Rattle.std.proofs.Common.{◌≡◌, ℕ, suc, List, [], ◌∷◌, ◌++◌, Option, Some, None, map, refl, sym, ap, subst}
+use Rattle.std.proofs.Common.{◌≡◌, ℕ, suc, List, [], ◌∷◌, ◌++◌, Option, Some, None, map, refl, ap}
 use Rattle.std.specs.Option.{option_map}
-use Rattle.mv_ast.specs.declared.lexeme.Lexeme.{Lexeme}
 use Rattle.mv_ast.specs.declared.lexeme.Terminal.{Terminal}
 use Rattle.mv_ast.specs.declared.lexeme.Terminal.TheVariants as word
 use Rattle.mv_ast.specs.Limits.{together}
-use Rattle.mv_ast.specs.Parts.{Part, give, one, both, either, left, Is}
-use Rattle.mv_ast.specs.Grammar.{inner, single, place, many, separated, commas, optional, in_parens, ◌⊛◌, ◌◂◌, ◌▸◌}
+use Rattle.mv_ast.specs.Parts.{Part, one}
+use Rattle.mv_ast.specs.Grammar.{place, many, separated, commas, optional, in_parens, ◌◂◌, ◌▸◌}
 use Rattle.mv_print.specs.Printing.{Piece, key, line_end, separated as printed_separated}
 use Rattle.mv_print.proofs.Light.{kinds, Plain, Opens, BehindEnd, Light, light_plain, light_opens, light_close}
-use Rattle.mv_print.proofs.Building.{Goodness, Sound, Prints, Each, each_apart, marks, Turned, Turns, Gives, prints_both, turns_give, turns_next, turns_skip, turns_place, turns_behind, turns_either, turns_as, turns_left, turns_then, turns_raised, turns_after, turns_mark, turns_ends, TurnsTo}
+use Rattle.mv_print.proofs.Building.{Goodness, Sound, Prints, marks, Turns, Gives, turns_give, turns_next, turns_skip, turns_place, turns_behind, turns_either, turns_as, turns_left, turns_then, turns_raised, turns_after, turns_mark, turns_ends, TurnsTo}
 use Rattle.mv_print.proofs.Sounding.{sound_key, sound_end}
 
 -- Keywords and symbols that change no level.
