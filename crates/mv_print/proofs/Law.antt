@@ -1,12 +1,13 @@
 -- The law of printing.
-use Rattle.std.proofs.Common.{◌≡◌, ℕ, Bool, true, false, cond, List, [], ◌∷◌, ◌++◌, Some, None, Result, Ok, Err, IfOk, refl, sym, subst, arith}
+use Rattle.std.proofs.Common.{◌≡◌, ℕ, List, [], ◌++◌, None, Result, Ok, Err, IfOk, refl, sym, subst, arith}
 use Rattle.mv_lex.specs.Tokens.{AreTokens}
 use Rattle.mv_lex.specs.declared.token.Token.{Token}
 use Rattle.mv_ast.specs.declared.tree.Script.{Script}
 use Rattle.mv_ast.specs.Lexemes.{IsScript, lexemes}
 use Rattle.mv_ast.specs.declared.lexeme.Lexeme.{Lexeme}
 use Rattle.mv_ast.specs.declared.limit.Passed.{Passed}
-use Rattle.mv_ast.specs.Limits.{first_early, is_sooner, soonest, token_passes, script_passes}
+use Rattle.mv_ast.specs.Limits.{first_early, soonest, token_passes, script_passes}
+use Rattle.mv_ast.proofs.Limited.{nothing_left, none_soonest}
 use Rattle.mv_print.specs.Printing.{Piece, printed, script_pieces}
 use Rattle.mv_print.specs.Back.{ReadsBack}
 use Rattle.mv_print.proofs.Light.{kinds, Light, Keeps, front_at, keeps_of, first_of}
@@ -21,25 +22,7 @@ early_back bytes text ts ls ps l s h =
     let k = l 0 0 (front_at []) (front_at []) (record { least_deep = omega arith; within = omega arith; shorter = omega arith; first = refl; second = refl }) (keeps_of [] ts h) in
     first_of [] ls (subst (Keeps (front_at [])) (sym (kinds_spelled text ls ps s)) k.0)
 
--- no limit is passed where none is told
-none_sooner : (q : Passed) (ps : List Passed) → soonest (Some q) ps ≡ None → ⊥
-unfolding soonest
-none_sooner q [] h = cc
-none_sooner q (p ∷ ps) h = go (is_sooner p q) (none_sooner p ps) (none_sooner q ps) h
-  where
-    go : (b : Bool) → (soonest (Some p) ps ≡ None → ⊥) → (soonest (Some q) ps ≡ None → ⊥) → soonest (cond b (Some p) (Some q)) ps ≡ None → ⊥
-    go true f g k = f k
-    go false f g k = g k
-
-none_soonest : (ps : List Passed) → soonest None ps ≡ None → ps ≡ []
-unfolding soonest
-none_soonest [] h = refl
-none_soonest (p ∷ ps) h = absurd (none_sooner p ps h)
-
-nothing : (ps qs : List Passed) → ps ++ qs ≡ [] → (ps ≡ []) × (qs ≡ [])
-nothing [] qs h = (refl, h)
-nothing (p ∷ ps) qs h = cc
-
+-- no limit is told where none is passed
 none_told : (ps qs : List Passed) → ps ≡ [] → qs ≡ [] → soonest None (ps ++ qs) ≡ None
 unfolding soonest
 none_told ps qs h k = rw (h, k) refl
@@ -48,7 +31,7 @@ flat_back : (bytes : List ℕ) (tokens : List Token) (s : Script) → AreTokens 
 flat_back bytes tokens s a i =
     let ps = script_pieces bytes s in
     let ts = lexemes bytes tokens in
-    let none = nothing (token_passes bytes ts) (script_passes s) (none_soonest (token_passes bytes ts ++ script_passes s) i.late) in
+    let none = nothing_left (token_passes bytes ts) (script_passes s) (none_soonest (token_passes bytes ts ++ script_passes s) i.late) in
     let good = all_good bytes ts (all_meant 1 bytes [] refl refl a.0 a.1) none.0 in
     let t = script_turned bytes (flat ps) i.grammar.0 ts s good (last_open 1 bytes a.1) i.grammar.1 in
     let l = lexed ps t.sounds in

@@ -20,6 +20,7 @@ use Rattle.mv_ast.specs.declared.limit.Which.TheVariants as limit
 use Rattle.mv_ast.specs.Limits.{at_token, when, own_passes, size_passes, is_size_of, is_size, token_passes}
 use Rattle.mv_ast.specs.Texts.{spelling, number_from}
 use Rattle.mv_ast.specs.Lexemes.{kind_of, lexeme_of, lexemes_from}
+use Rattle.mv_ast.proofs.Limited.{nothing_left}
 use Rattle.mv_print.specs.Printing.{Piece, put, written}
 use Rattle.mv_print.proofs.Light.{kinds}
 use Rattle.mv_print.proofs.Building.{marks, Fits, Spelled, is_type, Sounded, base_of, Sounds, Triple, Each}
@@ -179,10 +180,6 @@ kinds_spelled text [] (p ∷ ps) s = absurd s
 kinds_spelled text (l ∷ ls) [] s = absurd s
 
 -- Tokens that pass no limit of their own.
-none_left_of : {A : Type 0} (xs ys : List A) → xs ++ ys ≡ [] → (xs ≡ []) × (ys ≡ [])
-none_left_of [] ys h = (refl, h)
-none_left_of (x ∷ xs) ys h = cc
-
 never : (b : Bool) (p : Passed) → when b p ≡ [] → b ≡ false
 never true p h = cc
 never false p h = refl
@@ -202,8 +199,8 @@ pub all_good : (bytes : List ℕ) (ls : List Lexeme) → AllMeant bytes ls → t
 unfolding token_passes
 all_good bytes [] m h = tt
 all_good bytes (l ∷ ls) m h =
-    let two = none_left_of (own_passes l.kind (spelling bytes l) l.number ++ size_passes bytes (l ∷ ls)) (token_passes bytes ls) h in
-    let one = none_left_of (own_passes l.kind (spelling bytes l) l.number) (size_passes bytes (l ∷ ls)) two.0 in
+    let two = nothing_left (own_passes l.kind (spelling bytes l) l.number ++ size_passes bytes (l ∷ ls)) (token_passes bytes ls) h in
+    let one = nothing_left (own_passes l.kind (spelling bytes l) l.number) (size_passes bytes (l ∷ ls)) two.0 in
     ((m.0, one.0), triple_good bytes l ls one.1, all_good bytes ls m.1 two.1)
 
 -- and so for printed tokens
