@@ -16,3 +16,5 @@ pub mod Spanning
 pub mod Standing
 pub mod Ranking
 pub mod Lawful
+pub mod Fitting
+pub mod Valued

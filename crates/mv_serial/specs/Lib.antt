@@ -10,3 +10,4 @@ pub mod TableAfter
 pub mod Spans
 pub mod Undoing
 pub mod Once
+pub mod Typed
