@@ -18,3 +18,4 @@ pub mod Ranking
 pub mod Lawful
 pub mod Fitting
 pub mod Valued
+pub mod RowsTyped

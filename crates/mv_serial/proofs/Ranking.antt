@@ -85,7 +85,7 @@ put_filter {X} {order} o z x (y ∷ ys) = by (is_gt (order x y)) refl (put_filte
     by true e h =
         ap (λ l. cond (ties (less order) z y) (y ∷ l) l) h ∙ over (ties (less order) z x) (ties (less order) z y) refl refl e
 
-put_all : {X : Type 0} (order : X → X → Ordering) (P : X → Type 0) (x : X) (ys : List X) → All P ys → P x → All P (put_in order x ys)
+pub put_all : {X : Type 0} (order : X → X → Ordering) (P : X → Type 0) (x : X) (ys : List X) → All P ys → P x → All P (put_in order x ys)
 put_all order P x [] all p = All-cons P x [] p (All-nil P)
 put_all {X} order P x (y ∷ ys) all p = by (is_gt (order x y)) (put_all order P x ys (All-tail P _ _ all) p)
   where

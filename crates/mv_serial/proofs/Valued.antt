@@ -33,7 +33,7 @@ IsKind k v = kind_of_value v ≡ k
 
 -- What operators give
 
-fitted_kind : (z : ℤ) → IfOk (fitted z) (IsKind int)
+pub fitted_kind : (z : ℤ) → IfOk (fitted z) (IsKind int)
 fitted_kind z = by (int_le (negsuc (2 ^ 63 - 1)) z && int_lt z (pos (2 ^ 63)))
   where
     by : (b : Bool) → IfOk {E = End} (if b then Ok (Int z) else Err Overflow) (IsKind int)
