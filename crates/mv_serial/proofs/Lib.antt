@@ -19,3 +19,4 @@ pub mod Lawful
 pub mod Fitting
 pub mod Valued
 pub mod RowsTyped
+pub mod RunsTyped
