@@ -20,3 +20,4 @@ pub mod Fitting
 pub mod Valued
 pub mod RowsTyped
 pub mod RunsTyped
+pub mod CallsTyped

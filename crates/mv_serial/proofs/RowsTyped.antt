@@ -1,6 +1,7 @@
 -- Rows that have a value of its type for each column keep it.
 use Rattle.std.proofs.Common.{◌≡◌, ℕ, zero, suc, ◌<◌, ℤ, pos, negsuc, Bool, true, false, cond, List, [], ◌∷◌, Option, Some, None, Result, Ok, Err, refl, sym, ap, subst, ◌∙◌, map, length, slice_get, slice_set, arith, All, IfOk, leb-true, if◌then◌else◌}
-use Rattle.std.proofs.lemmas.List.Elements.{All-nil, All-cons, All-head, All-tail, All-filter, All-map, All-weaker}
+use Rattle.std.proofs.lemmas.List.Elements.{All-nil, All-cons, All-head, All-tail, All-filter, All-map, All-weaker, All-get_or}
+use Rattle.std.proofs.lemmas.Option.{get_or_from_slice_get, slice_get_within}
 use Rattle.std.specs.Prelude.{nat_le, not, ◌==◌}
 use Rattle.std.proofs.lemmas.Result.{IfOk-weaker}
 use Rattle.std.specs.List.{AllZip, list_any}
@@ -55,12 +56,15 @@ then_any (Err e) go Q k = tt
 some_is : {A : Type 0} (x y : A) → Some x ≡ Some y → x ≡ y
 some_is x y h = cc
 
+pub all_get : {X : Type 0} (P : X → Type 0) (xs : List X) (n : ℕ) (x : X) → All P xs → slice_get xs n ≡ Some x → P x
+all_get P xs n x all at = subst P (get_or_from_slice_get xs n x x at) (All-get_or P xs n x (slice_get_within xs n x at) all)
+
 -- Rows
 
 abbrev pub HasRow : TableInfo → Keyed → Type 0
 HasRow table item = IsRow (types_of table) item.row
 
-kind_is : (type : ColType) (v : Value) → IsOf type v → IsKind (kind_of_column type) v
+pub kind_is : (type : ColType) (v : Value) → IsOf type v → IsKind (kind_of_column type) v
 kind_is column'.Int (Int z) h = refl
 kind_is column'.Int (Text t) h = absurd h
 kind_is (column'.Text n) (Int z) h = absurd h
@@ -129,13 +133,8 @@ module _ (table : TableInfo) where
   taken_by vars env cs xs (Some item) fit has h =
       fit_found vars (with_values env xs (columns_of item.row cs)) true (values_fit vars env item.row cs xs fit (table_kinds table item.row (has item refl)) h)
 
-  place_all : (rows : List Keyed) (n : ℕ) (item : Keyed) → All (HasRow table) rows → slice_get rows n ≡ Some item → HasRow table item
-  place_all [] n item all h = cc
-  place_all (r ∷ rs) zero item all h = subst (HasRow table) (some_is r item h) (All-head (HasRow table) r rs all)
-  place_all (r ∷ rs) (suc n) item all h = place_all rs n item (All-tail (HasRow table) r rs all) h
-
   item_all : (rows : List Keyed) (z : ℤ) (item : Keyed) → All (HasRow table) rows → item_at rows z ≡ Some item → HasRow table item
-  item_all rows (pos n) item all h = place_all rows n item all h
+  item_all rows (pos n) item all h = all_get (HasRow table) rows n item all h
   item_all rows (negsuc n) item all h = cc
 
   pub taken_fits : (vars : Vars) (env : Env) (cs xs : List ℕ) (sorts : List RSort) (rows : List Keyed) (z : ℤ) → Fit vars env → All (HasRow table) rows → AllZip (Takes vars (kinds_of table)) cs xs

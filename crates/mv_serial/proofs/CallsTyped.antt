@@ -1,0 +1,117 @@
+-- Calls leave rows that suit their tables.
+use Rattle.std.proofs.Common.{◌≡◌, ℕ, zero, suc, ◌+◌, List, [], ◌∷◌, ◌++◌, Option, Some, None, Result, Ok, Err, refl, sym, ap, subst, ◌∙◌, map, length, slice_get, slice_index_or, arith, All, IfOk, length-append}
+use Rattle.std.proofs.lemmas.List.{length-map}
+use Rattle.std.proofs.lemmas.List.Elements.{All-weaker}
+use Rattle.std.proofs.lemmas.Slice.Zip.{AllZip-long}
+use Rattle.std.specs.Prelude.{slice_index}
+use Rattle.std.specs.List.{AllZip}
+use Rattle.mv_values.specs.declared.value.Value.{Value}
+use Rattle.mv_values.specs.declared.schema.TableInfo.{TableInfo}
+use Rattle.mv_values.specs.declared.calls.Argument.{Argument}
+use Rattle.mv_values.specs.declared.calls.Argument.TheVariants as argument
+use Rattle.mv_values.specs.declared.calls.Call.{Call}
+use Rattle.mv_values.specs.declared.calls.End.{End}
+use Rattle.mv_catalog.specs.declared.resolved.ParamInfo.{ParamInfo}
+use Rattle.mv_catalog.specs.declared.resolved.ParamInfo.TheVariants as param
+use Rattle.mv_catalog.specs.declared.resolved.ProcInfo.{ProcInfo}
+use Rattle.mv_catalog.specs.declared.resolved.Program.{Program}
+use Rattle.mv_catalog.specs.Types.{int, Var, fixed, declared, Vars, kind_of_value, kind_of_column}
+use Rattle.mv_catalog.specs.Text.{IsRow, param_var, own_vars, vars_of, Suits, IsCall, IsProcedure, FitsText}
+use Rattle.mv_serial.specs.declared.state.Held.{Held}
+use Rattle.mv_serial.specs.declared.state.Held.TheVariants.{Scalar}
+use Rattle.mv_serial.specs.declared.state.State.{State}
+use Rattle.mv_serial.specs.Env.{unset}
+use Rattle.mv_serial.specs.Alone.{alone}
+use Rattle.mv_serial.specs.TableAfter.{Tables, argument_held, entered, begun, outcome_in, outcome_at, outcome, tables_left, table_after}
+use Rattle.mv_serial.specs.Typed.{TablesTyped}
+use Rattle.mv_serial.proofs.Fitting.{OfKinds, Holds, Fit}
+use Rattle.mv_serial.proofs.RowsTyped.{all_get, kind_is, row_kinds}
+use Rattle.mv_serial.proofs.RunsTyped.{Kept, alone_kept}
+
+zip_append : {A B : Type 0} (R : A → B → Type 0) (xs xs' : List A) (ys ys' : List B) → AllZip R xs ys → AllZip R xs' ys' → AllZip R (xs ++ xs') (ys ++ ys')
+zip_append R [] xs' [] ys' h k = k
+zip_append R [] xs' (y ∷ ys) ys' h k = absurd h
+zip_append R (x ∷ xs) xs' [] ys' h k = absurd h
+zip_append R (x ∷ xs) xs' (y ∷ ys) ys' h k = (h.0, zip_append R xs xs' ys ys' h.1 k)
+
+last_at : {A : Type 0} (xs : List A) (x : A) → slice_get (xs ++ x ∷ []) (length xs) ≡ Some x
+last_at [] x = refl
+last_at (y ∷ ys) x = last_at ys x
+
+-- The variables that a call begins with
+
+argument_holds : (q : ParamInfo) (a : Argument) → Suits q a → Holds (param_var q) (argument_held a)
+argument_holds (param.One type) (argument.One v) h = kind_is type v h
+argument_holds (param.One type) (argument.Many all) h = absurd h
+argument_holds (param.Many types) (argument.One v) h = absurd h
+argument_holds (param.Many types) (argument.Many all) h = All-weaker (IsRow types) (OfKinds (map kind_of_column types)) (row_kinds types) all h
+
+arguments_hold : (qs : List ParamInfo) (as' : List Argument) → AllZip Suits qs as' → AllZip Holds (map param_var qs) (map argument_held as')
+arguments_hold [] [] h = tt
+arguments_hold [] (a ∷ as') h = absurd h
+arguments_hold (q ∷ qs) [] h = absurd h
+arguments_hold (q ∷ qs) (a ∷ as') h = (argument_holds q a h.0, arguments_hold qs as' h.1)
+
+defaults_hold : (vs : List Value) → AllZip Holds (map (λ v. declared (kind_of_value v)) vs) (map Scalar vs)
+defaults_hold [] = tt
+defaults_hold (v ∷ vs) = (refl, defaults_hold vs)
+
+holds_at : (vs : List Var) (hs : List Held) → AllZip Holds vs hs → (x : ℕ) (v : Var) → slice_get vs x ≡ Some v → Holds v (slice_index_or hs x unset)
+holds_at [] hs h x v at = cc
+holds_at (w ∷ ws) [] h x v at = absurd h
+holds_at (w ∷ ws) (g ∷ gs) h zero v at = let same : w ≡ v = cc in subst (λ u. Holds u g) same h.0
+holds_at (w ∷ ws) (g ∷ gs) h (suc x) v at = holds_at ws gs h.1 x v at
+
+module _ (proc : ProcInfo) (call : Call) (suits : AllZip Suits proc.params call.arguments) where
+  params : List Var
+  params = map param_var proc.params
+
+  declareds : List Var
+  declareds = map (λ v. declared (kind_of_value v)) proc.defaults
+
+  all_hold : AllZip Holds (own_vars proc) (entered proc call).held
+  all_hold =
+      zip_append Holds (map param_var proc.params ++ map (λ v. declared (kind_of_value v)) proc.defaults) (fixed int ∷ []) (map argument_held call.arguments ++ map Scalar proc.defaults) (unset ∷ [])
+      (zip_append Holds (map param_var proc.params) (map (λ v. declared (kind_of_value v)) proc.defaults) (map argument_held call.arguments) (map Scalar proc.defaults)
+      (arguments_hold proc.params call.arguments suits) (defaults_hold proc.defaults)) (refl, tt)
+
+  found_place : length (params ++ declareds) ≡ length call.arguments + length proc.defaults
+  unfolding params declareds
+  found_place =
+      omega (arith, length-append params declareds, length-map proc.params param_var, length-map proc.defaults (λ v. declared (kind_of_value v)), AllZip-long Suits proc.params call.arguments suits)
+
+  entered_fits : Fit (vars_of proc) (entered proc call)
+  unfolding params declareds
+  entered_fits = record {
+    holds = holds_at (own_vars proc) (entered proc call).held all_hold;
+    found = subst (λ n. slice_get (own_vars proc) n ≡ Some (fixed int)) found_place (last_at (params ++ declareds) (fixed int));
+  }
+
+-- The tables that calls leave
+
+left_typed : (tables : List TableInfo) (vars : Vars) (db : Tables) (r : Result State End) → TablesTyped tables db → IfOk r (Kept tables vars) → TablesTyped tables (tables_left db r)
+left_typed tables vars db (Ok st) h k = k.typed
+left_typed tables vars db (Err e) h k = h
+
+module _ (p : Program) (fits : FitsText p.resolved) where
+  call_typed : (call : Call) (db : Tables) → IsCall p.resolved.procedures call → TablesTyped p.resolved.tables db
+      → TablesTyped p.resolved.tables (tables_left db (outcome_in p (slice_get p.resolved.procedures call.procedure) call db))
+  call_typed call db is typed =
+      let proc = is.0 in
+      let own : IsProcedure p.resolved.tables proc = all_get (IsProcedure p.resolved.tables) p.resolved.procedures call.procedure proc fits.procedures is.1 in
+      let began : Kept p.resolved.tables (vars_of proc) (begun proc call db) = record { fit = entered_fits proc call is.2; typed = typed } in
+      subst (λ o. TablesTyped p.resolved.tables (tables_left db (outcome_in p o call db))) (sym is.1)
+      (left_typed p.resolved.tables (vars_of proc) db (alone p.resolved.tables proc.body (begun proc call db)) typed
+      (alone_kept p.resolved.tables proc.body (vars_of proc) own.body (begun proc call db) began))
+
+  outcome_typed : (c : ℕ) (db : Tables) → TablesTyped p.resolved.tables db → TablesTyped p.resolved.tables (tables_left db (outcome p c db))
+  outcome_typed c db typed = by (slice_get p.resolved.calls c) refl
+    where
+      by : (o : Option Call) → slice_get p.resolved.calls c ≡ o → TablesTyped p.resolved.tables (tables_left db (outcome_at p o db))
+      by None at = typed
+      by (Some call) at = call_typed call db (all_get (IsCall p.resolved.procedures) p.resolved.calls c call fits.calls at) typed
+
+  -- rows that suit their tables at the opening do so after each call
+  pub after_typed : (order : List ℕ) → TablesTyped p.resolved.tables p.opening → (k : ℕ) → TablesTyped p.resolved.tables (table_after p order k)
+  after_typed order typed zero = typed
+  after_typed order typed (suc k) = outcome_typed (slice_index order k) (table_after p order k) (after_typed order typed k)
