@@ -4,6 +4,8 @@ ghost use Rattle.std.specs.Prelude.{◌≡◌, IfOk, length, replicate};
 ghost use Rattle.mv_serial.specs.Alone.{alone};
 ghost use Rattle.mv_serial.specs.Executed.{counted};
 ghost use Rattle.mv_catalog.specs.Fits.{Fits, KeysStand};
+ghost use Rattle.mv_catalog.specs.Text.{FitsText};
+ghost use Rattle.mv_serial.specs.Typed.{TablesTyped};
 ghost use Rattle.mv_serial.specs.TableAfter.{argument_held, no_reply, outcome, executed, entered, begun, tables_left, reply_in, table_after, call_order, IsOrder, RepliesOf, OthersSilent, StoppedUnchanged, CountsOf};
 
 use crate::state::{Env, Held, State, Stop};
@@ -183,6 +185,7 @@ pub fn run_alone(alloc: Global, program: &Program, order: &[u32]) -> Result<Seri
     ensures others { IfOk result (λ s. OthersSilent program.now order.now s.replies) }
     ensures stopped { IfOk result (λ s. StoppedUnchanged program.now order.now s.replies) }
     ensures keys { IfOk result (λ s. KeysStand program.now.resolved.tables s.tables) }
+    ensures typed { FitsText program.now.resolved → TablesTyped program.now.resolved.tables program.now.opening → IfOk result (λ s. TablesTyped program.now.resolved.tables s.tables) }
 {
     let mut tables = program.opening.copy(alloc)?;
     let mut replies = silent(alloc, program.resolved.calls.len())?;
@@ -209,6 +212,7 @@ pub fn run_counted(alloc: Global, program: &Program) -> Result<Counted, NoMemory
     ensures counts { IfOk result (λ c. CountsOf program.now (call_order program.now) c.counts) }
     ensures stopped { IfOk result (λ c. StoppedUnchanged program.now (call_order program.now) c.serial.replies) }
     ensures keys { IfOk result (λ c. KeysStand program.now.resolved.tables c.serial.tables) }
+    ensures typed { FitsText program.now.resolved → TablesTyped program.now.resolved.tables program.now.opening → IfOk result (λ c. TablesTyped program.now.resolved.tables c.serial.tables) }
 {
     let mut tables = program.opening.copy(alloc)?;
     let mut replies = List::new(alloc);

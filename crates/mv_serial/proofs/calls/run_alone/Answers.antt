@@ -1,6 +1,8 @@
-use Rattle.std.proofs.Common.{◌≡◌, ◌<◌, rules, length, ap, ◌∙◌}
+use Rattle.std.proofs.Common.{◌≡◌, ◌<◌, rules, length, ap, sym, subst, ◌∙◌}
 use Rattle.mv_serial.proofs.InTurn.{length_replies, all_replied, others_silent, place_within}
 use Rattle.mv_serial.proofs.Lawful.{stopped_unchanged}
+use Rattle.mv_serial.proofs.CallsTyped.{after_typed}
+use Rattle.mv_serial.specs.Typed.{TablesTyped}
 use Rattle.mv_serial.proofs.calls.run_alone.Goals as goal
 
 pub set-requires : goal.set-requires
@@ -23,3 +25,7 @@ returns-clause-others c =
 
 pub returns-clause-stopped : goal.returns-clause-stopped
 returns-clause-stopped c = stopped_unchanged c.args.program.now c.args.order.now c.loop-i.replies (returns-clause-replies c)
+
+pub returns-clause-typed : goal.returns-clause-typed
+returns-clause-typed c fits typed =
+    subst (TablesTyped c.args.program.now.resolved.tables) (sym c.loop-i.invariant.tables) (after_typed c.args.program.now fits c.args.order.now typed c.loop-i.i)

@@ -1,8 +1,10 @@
-use Rattle.std.proofs.Common.{◌≡◌, rules, length, ap, ◌∙◌}
+use Rattle.std.proofs.Common.{◌≡◌, rules, length, ap, sym, subst, ◌∙◌}
 use Rattle.mv_serial.proofs.Numbers.{length_map_numbers}
 use Rattle.mv_serial.proofs.InOrder.{reply_to, count_of, tables_told, replies_told, counts_told}
 use Rattle.mv_serial.specs.TableAfter.{call_order}
 use Rattle.mv_serial.proofs.Lawful.{stopped_unchanged}
+use Rattle.mv_serial.proofs.CallsTyped.{after_typed}
+use Rattle.mv_serial.specs.Typed.{TablesTyped}
 use Rattle.mv_serial.proofs.calls.run_counted.Goals as goal
 
 pub returns-clause-tables : goal.returns-clause-tables
@@ -32,3 +34,8 @@ returns-clause-counts c =
 
 pub returns-clause-stopped : goal.returns-clause-stopped
 returns-clause-stopped c = stopped_unchanged c.args.program.now (call_order c.args.program.now) c.loop-number.replies (returns-clause-replies c)
+
+pub returns-clause-typed : goal.returns-clause-typed
+returns-clause-typed c fits typed =
+    subst (TablesTyped c.args.program.now.resolved.tables) (sym (returns-clause-tables c))
+    (after_typed c.args.program.now fits (call_order c.args.program.now) typed (length c.args.program.now.resolved.calls))
