@@ -1,8 +1,8 @@
 -- Rows that have a value of its type for each column keep it.
-use Rattle.std.proofs.Common.{◌≡◌, ℕ, zero, suc, ◌<◌, ℤ, pos, negsuc, Bool, true, false, cond, List, [], ◌∷◌, Option, Some, None, Result, Ok, Err, refl, sym, ap, subst, ◌∙◌, map, length, slice_get, slice_set, arith, All, IfOk, leb-true, if◌then◌else◌}
-use Rattle.std.proofs.lemmas.List.Elements.{All-nil, All-cons, All-head, All-tail, All-filter, All-map, All-weaker, All-get_or}
+use Rattle.std.proofs.Common.{◌≡◌, ℕ, zero, suc, ℤ, pos, negsuc, Bool, true, false, List, [], ◌∷◌, Option, Some, None, Result, Ok, Err, refl, sym, subst, ◌∙◌, map, length, slice_get, slice_set, All, IfOk, leb-true, if◌then◌else◌}
+use Rattle.std.proofs.lemmas.List.Elements.{All-nil, All-cons, All-head, All-tail, All-map, All-weaker, All-get_or}
 use Rattle.std.proofs.lemmas.Option.{get_or_from_slice_get, slice_get_within}
-use Rattle.std.specs.Prelude.{nat_le, not, ◌==◌}
+use Rattle.std.specs.Prelude.{nat_le, ◌==◌}
 use Rattle.std.proofs.lemmas.Result.{IfOk-weaker}
 use Rattle.std.specs.List.{AllZip, list_any}
 use Rattle.std.specs.Ordering.{is_le}
@@ -25,18 +25,18 @@ use Rattle.mv_catalog.specs.declared.resolved.RAgg.TheVariants.{CountAll, CountD
 use Rattle.mv_catalog.specs.declared.resolved.RSetItem.{RSetItem}
 use Rattle.mv_catalog.specs.declared.resolved.RSort.{RSort}
 use Rattle.mv_catalog.specs.Fits.{rows_at}
-use Rattle.mv_catalog.specs.Types.{Kind, int, text, Vars, kind_of_value, kind_of_column}
+use Rattle.mv_catalog.specs.Types.{Kind, int, Vars, kind_of_column}
 use Rattle.mv_catalog.specs.Statements.{kinds_of, Gives, Takes, IsItem, IsTotal}
 use Rattle.mv_catalog.specs.Text.{IsOf, IsRow, types_of}
 use Rattle.mv_catalog.proofs.Lists.{map_map}
 use Rattle.mv_serial.specs.declared.state.Check.{Check}
 use Rattle.mv_serial.specs.declared.state.Env.{Env}
 use Rattle.mv_serial.specs.Outcome.{then_do}
-use Rattle.mv_serial.specs.Env.{with_value, with_values, with_found}
+use Rattle.mv_serial.specs.Env.{with_value, with_values}
 use Rattle.mv_serial.specs.Value.{value_of, fitted}
-use Rattle.mv_serial.specs.Rows.{meets, matching, put_in, sorted, ordered, sort_order, item_at, put_by, put_once, distinct, projected, column, lesser, least, greater, greatest, total, sum_of, aggregate, fit_kind, fit}
-use Rattle.mv_serial.specs.Changes.{with_column, set_row, updated, without, new_row, put_row, put_row_by}
-use Rattle.mv_serial.specs.Alone.{fixed, taken, totalled}
+use Rattle.mv_serial.specs.Rows.{meets, sorted, ordered, sort_order, item_at, put_by, put_once, distinct, projected, column, lesser, least, greater, greatest, total, sum_of, aggregate, fit_kind, fit}
+use Rattle.mv_serial.specs.Changes.{with_column, set_row, updated, new_row, put_row, put_row_by}
+use Rattle.mv_serial.specs.Alone.{fixed, taken}
 use Rattle.mv_serial.specs.TableAfter.{Tables}
 use Rattle.mv_serial.specs.Typed.{TablesTyped}
 use Rattle.mv_serial.proofs.Fitting.{OfKinds, Fit, fit_value, fit_found}

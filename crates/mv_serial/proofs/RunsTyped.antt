@@ -1,8 +1,7 @@
 -- Statements keep variables and rows typed.
-use Rattle.std.proofs.Common.{◌≡◌, ℕ, Bool, true, false, List, [], ◌∷◌, Option, Some, None, Result, Ok, Err, refl, sym, ap, subst, ◌∙◌, map, slice_get, All, IfOk, if◌then◌else◌}
+use Rattle.std.proofs.Common.{◌≡◌, ℕ, Bool, true, false, List, [], ◌∷◌, Option, Some, None, Result, Ok, refl, sym, ap, subst, map, slice_get, All, IfOk, if◌then◌else◌}
 use Rattle.std.proofs.lemmas.List.Elements.{All-head, All-tail, All-filter}
 use Rattle.std.specs.Prelude.{not, ◌++◌}
-use Rattle.std.specs.List.{AllZip}
 use Rattle.mv_values.specs.declared.value.Value.{Value}
 use Rattle.mv_values.specs.declared.rows.Keyed.{Keyed}
 use Rattle.mv_values.specs.declared.schema.TableInfo.{TableInfo}
@@ -29,7 +28,7 @@ use Rattle.mv_serial.specs.declared.state.Env.{Env}
 use Rattle.mv_serial.specs.Outcome.{then_do}
 use Rattle.mv_serial.specs.Env.{with_held, with_value, with_found, turns_at}
 use Rattle.mv_serial.specs.Value.{value_of, values_of, is_so, number}
-use Rattle.mv_serial.specs.Rows.{checks_of, matching, meets, is_some_row, item_at, ordered, aggregate}
+use Rattle.mv_serial.specs.Rows.{checks_of, meets, is_some_row, item_at, ordered, aggregate}
 use Rattle.mv_serial.specs.Changes.{set_row, updated, without, new_row, put_row, keyed}
 use Rattle.mv_serial.specs.Line.{line_of}
 use Rattle.mv_serial.specs.Alone.{Does, all_of, each_turn, matches, with_rows, offset_of, taken, totalled, fixed, is_turn, loop_over, does, alone, stmt_step}

@@ -1,5 +1,5 @@
 -- Expressions give values of their types.
-use Rattle.std.proofs.Common.{◌≡◌, ℤ, pos, ◌^◌, ◌-◌, negsuc, int_le, int_lt, Bool, true, false, ◌&&◌, List, [], Option, Some, None, Result, Ok, Err, refl, sym, ap, subst, ◌∙◌, slice_get, if◌then◌else◌, IfOk}
+use Rattle.std.proofs.Common.{◌≡◌, ℤ, pos, ◌^◌, ◌-◌, negsuc, int_le, int_lt, Bool, true, false, ◌&&◌, List, Option, Some, None, Result, Ok, Err, refl, sym, ap, subst, ◌∙◌, if◌then◌else◌, IfOk}
 use Rattle.std.specs.Prelude.{ℕ, ◌+ℤ◌, ◌-ℤ◌, ◌*ℤ◌, neg_ℤ, ◌++◌, int_div, int_rem, nat_le, length}
 use Rattle.std.specs.Ordering.{int_eq}
 use Rattle.mv_values.specs.declared.value.Value.{Value}
@@ -11,7 +11,7 @@ use Rattle.mv_ast.specs.declared.tree.OneOp.{OneOp}
 use Rattle.mv_ast.specs.declared.tree.OneOp.TheVariants.{Neg, Not, TextOf}
 use Rattle.mv_ast.specs.declared.tree.TwoOp.{TwoOp}
 use Rattle.mv_ast.specs.declared.tree.TwoOp.TheVariants.{Add, Sub, Mul, Div, Rem, Join, Compare, And, Or, Left, Contains}
-use Rattle.mv_catalog.specs.declared.resolved.RExpr.{RExpr, RExpr-F, fold-roll-RExpr, roll-RExpr, rolls-RExpr'}
+use Rattle.mv_catalog.specs.declared.resolved.RExpr.{RExpr, fold-roll-RExpr, rolls-RExpr'}
 use Rattle.mv_catalog.specs.declared.resolved.RExprKind.{RExprKind, out-RExprKind, roll-out-RExprKind}
 use Rattle.mv_catalog.specs.declared.resolved.RExprKind.TheFolds.{fold-RExprKind, fold-roll-RExprKind, map-RExprKind}
 use Rattle.mv_catalog.specs.declared.resolved.RExprKind.TheViews.{roll-RExprKind}
