@@ -2,7 +2,7 @@
 //! 0 where both prints are the same, and then the print was written to standard output.
 #![tactic(auto)]
 
-use mv_edge::reading::read_all;
+use mv_edge::reading::{MOST, read_all};
 use mv_edge::std_edge::{StdSink, StdSource};
 use mv_edge::writing::write_all;
 use mv_lex::lexer::lex;
@@ -11,9 +11,6 @@ use mv_print::print::print_script;
 use mv_values::list::List;
 use std::alloc::Global;
 use std::process::ExitCode;
-
-/// No input of more bytes is taken.
-const MOST_BYTES: usize = 16_777_216;
 
 fn main(rt: HostRuntime) -> ExitCode {
     let alloc = rt.alloc();
@@ -39,7 +36,7 @@ fn main(rt: HostRuntime) -> ExitCode {
 
 /// The print of the script that the bytes spell. None where they spell none, or no memory was found.
 fn reprinted(alloc: Global, bytes: &[u8]) -> Option<List<u8>> {
-    if MOST_BYTES < bytes.len() {
+    if MOST <= bytes.len() {
         return None;
     }
     let tokens = lex(alloc, bytes).ok()?;
