@@ -4,7 +4,7 @@ use Rattle.std.specs.Prelude.{MatchResult, slice_get, slice_set}
 use Rattle.mv_values.specs.declared.value.Value.{Value}
 use Rattle.mv_values.specs.declared.rows.Keyed.{Keyed}
 use Rattle.mv_values.specs.declared.schema.TableInfo.{TableInfo}
-use Rattle.mv_catalog.specs.Fits.{rows_at}
+use Rattle.mv_values.specs.Tables.{rows_at}
 use Rattle.mv_catalog.specs.declared.resolved.CopyInfo.{CopyInfo}
 use Rattle.mv_catalog.specs.declared.resolved.Resolved.{Resolved}
 use Rattle.mv_csvio.specs.declared.fault.CopyFault.{CopyFault}

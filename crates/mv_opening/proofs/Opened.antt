@@ -11,7 +11,7 @@ use Rattle.mv_catalog.specs.declared.resolved.CopyInfo.{CopyInfo}
 use Rattle.mv_catalog.specs.declared.resolved.Resolved.{Resolved}
 use Rattle.mv_csvio.specs.declared.fault.CopyFault.{CopyFault}
 use Rattle.mv_csvio.specs.Joining.{HasJoined, TellsOfValues}
-use Rattle.mv_catalog.specs.Fits.{rows_at}
+use Rattle.mv_values.specs.Tables.{rows_at}
 use Rattle.mv_csvio.specs.declared.fault.CopyFault.TheVariants as copy
 use Rattle.mv_csvio.specs.Loading.{IsFirstBad, records_of}
 use Rattle.mv_opening.specs.declared.fault.OpeningFault.{OpeningFault}

@@ -5,7 +5,7 @@ use Rattle.std.proofs.lemmas.List.Elements.{All-nil}
 use Rattle.mv_values.specs.declared.value.Value.{Value}
 use Rattle.mv_values.specs.declared.rows.Keyed.{Keyed}
 use Rattle.mv_values.specs.declared.schema.TableInfo.{TableInfo}
-use Rattle.mv_catalog.specs.Fits.{KeysStand, key_columns, key_in, rows_at}
+use Rattle.mv_values.specs.Tables.{KeysStand, key_columns, key_in, rows_at}
 use Rattle.mv_catalog.specs.declared.resolved.CopyInfo.{CopyInfo}
 use Rattle.mv_catalog.specs.declared.resolved.Resolved.{Resolved}
 use Rattle.mv_csvio.specs.Fitting.{FitsTable}

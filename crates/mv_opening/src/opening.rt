@@ -7,7 +7,7 @@ ghost use Rattle.mv_opening.specs.declared.fault.OpeningFault.{OpeningFault};
 ghost use Rattle.mv_opening.specs.declared.fault.OpeningFault.TheVariants as fault;
 ghost use Rattle.mv_values.specs.Keys.{IsRising};
 ghost use Rattle.mv_values.specs.declared.rows.Keyed.{Keyed};
-ghost use Rattle.mv_catalog.specs.Fits.{KeysStand};
+ghost use Rattle.mv_values.specs.Tables.{KeysStand};
 
 use crate::fault::OpeningFault;
 use mv_catalog::resolved::{CopyInfo, Resolved};

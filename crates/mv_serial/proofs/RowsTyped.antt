@@ -24,7 +24,7 @@ use Rattle.mv_catalog.specs.declared.resolved.RAgg.{RAgg}
 use Rattle.mv_catalog.specs.declared.resolved.RAgg.TheVariants.{CountAll, CountDistinct, Sum, Min, Max}
 use Rattle.mv_catalog.specs.declared.resolved.RSetItem.{RSetItem}
 use Rattle.mv_catalog.specs.declared.resolved.RSort.{RSort}
-use Rattle.mv_catalog.specs.Fits.{rows_at}
+use Rattle.mv_values.specs.Tables.{rows_at}
 use Rattle.mv_catalog.specs.Types.{Kind, int, Vars, kind_of_column}
 use Rattle.mv_catalog.specs.Statements.{kinds_of, Gives, Takes, IsItem, IsTotal}
 use Rattle.mv_catalog.specs.Text.{IsOf, IsRow, types_of}

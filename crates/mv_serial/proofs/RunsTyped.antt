@@ -15,7 +15,7 @@ use Rattle.mv_catalog.specs.declared.resolved.RStmt.{RStmt}
 use Rattle.mv_catalog.specs.declared.resolved.RStmt.TheOpen as open'
 use Rattle.mv_catalog.specs.declared.resolved.RStmt.TheViews.{roll-RStmt}
 use Rattle.mv_catalog.specs.declared.resolved.RStmt.TheFolds.{fold-roll-RStmt, map-RStmt, ind-RStmt}
-use Rattle.mv_catalog.specs.Fits.{key_columns, columns_in, columns_at, rows_at}
+use Rattle.mv_values.specs.Tables.{key_columns, columns_in, columns_at, rows_at}
 use Rattle.mv_catalog.specs.Types.{Kind, declared, rows, Vars}
 use Rattle.mv_catalog.specs.Statements.{all_well, IsWell, kinds_of, Gives, with_turn}
 use Rattle.mv_catalog.specs.Statements as well

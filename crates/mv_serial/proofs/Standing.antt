@@ -15,7 +15,7 @@ use Rattle.mv_values.specs.declared.schema.TableInfo.{TableInfo}
 use Rattle.mv_values.specs.declared.calls.End.{End}
 use Rattle.mv_values.specs.Columns.{column_of, columns_of}
 use Rattle.mv_values.specs.Order.{key_order}
-use Rattle.mv_catalog.specs.Fits.{key_columns, columns_at, rows_at, KeysStand}
+use Rattle.mv_values.specs.Tables.{key_columns, columns_at, rows_at, KeysStand}
 use Rattle.mv_catalog.specs.declared.resolved.RSetItem.{RSetItem}
 use Rattle.mv_serial.specs.declared.state.Check.{Check}
 use Rattle.mv_serial.specs.declared.state.Env.{Env}

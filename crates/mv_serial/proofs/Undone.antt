@@ -5,7 +5,7 @@ use Rattle.std.specs.List.{insert, remove}
 use Rattle.mv_values.specs.declared.value.Value.{Value}
 use Rattle.mv_values.specs.declared.rows.Keyed.{Keyed}
 use Rattle.mv_values.specs.Keys.{with_row}
-use Rattle.mv_catalog.specs.Fits.{rows_at}
+use Rattle.mv_values.specs.Tables.{rows_at}
 use Rattle.mv_serial.specs.declared.undo.Was.{Was}
 use Rattle.mv_serial.specs.declared.undo.Undo.{Undo}
 use Rattle.mv_serial.specs.Undoing.{undo_rows, undo_one, undone, CanUndoRows, CanUndo, KeepsUndo}

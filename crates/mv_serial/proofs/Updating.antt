@@ -5,7 +5,7 @@ use Rattle.mv_values.specs.declared.value.Value.{Value}
 use Rattle.mv_values.specs.declared.rows.Keyed.{Keyed}
 use Rattle.mv_values.specs.declared.calls.End.{End}
 use Rattle.mv_values.specs.Keys.{with_row}
-use Rattle.mv_catalog.specs.Fits.{rows_at}
+use Rattle.mv_values.specs.Tables.{rows_at}
 use Rattle.mv_serial.specs.declared.state.Check.{Check}
 use Rattle.mv_serial.specs.declared.undo.Undo.{Undo}
 use Rattle.mv_serial.specs.Outcome.{then_do}

@@ -3,7 +3,7 @@ use Rattle.std.specs.Prelude.{◌≡◌, ◌<◌, ◌≤◌, List, [], ◌∷◌
 use Rattle.std.specs.List.{insert, remove}
 use Rattle.mv_values.specs.declared.rows.Keyed.{Keyed}
 use Rattle.mv_values.specs.Keys.{IsRising, with_row}
-use Rattle.mv_catalog.specs.Fits.{rows_at}
+use Rattle.mv_values.specs.Tables.{rows_at}
 use Rattle.mv_serial.specs.declared.undo.Was.{Was}
 use Rattle.mv_serial.specs.declared.undo.Was.TheVariants.{Other, Absent, Present}
 use Rattle.mv_serial.specs.declared.undo.Undo.{Undo}

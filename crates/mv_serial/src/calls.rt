@@ -3,7 +3,8 @@
 ghost use Rattle.std.specs.Prelude.{◌≡◌, IfOk, length, replicate};
 ghost use Rattle.mv_serial.specs.Alone.{alone};
 ghost use Rattle.mv_serial.specs.Executed.{counted};
-ghost use Rattle.mv_catalog.specs.Fits.{Fits, KeysStand};
+ghost use Rattle.mv_values.specs.Tables.{KeysStand};
+ghost use Rattle.mv_catalog.specs.Fits.{Fits};
 ghost use Rattle.mv_catalog.specs.Text.{FitsText};
 ghost use Rattle.mv_serial.specs.Typed.{TablesTyped};
 ghost use Rattle.mv_serial.specs.TableAfter.{argument_held, no_reply, outcome, executed, entered, begun, tables_left, reply_in, table_after, call_order, IsOrder, RepliesOf, OthersSilent, StoppedUnchanged, CountsOf};

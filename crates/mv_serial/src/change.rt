@@ -2,7 +2,7 @@
 
 ghost use Rattle.std.specs.Prelude.{◌≡◌, ◌≤◌, Ok, length, slice_set, ◌==◌};
 ghost use Rattle.std.specs.List.{list_any};
-ghost use Rattle.mv_catalog.specs.Fits.{rows_at};
+ghost use Rattle.mv_values.specs.Tables.{rows_at};
 ghost use Rattle.mv_serial.specs.Outcome.{Gives, Leaves, then_do};
 ghost use Rattle.mv_serial.specs.Rows.{fits_kind, fit_kind, fit};
 ghost use Rattle.mv_serial.specs.Changes.{with_column, set_row, updated};

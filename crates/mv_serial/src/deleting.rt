@@ -1,7 +1,7 @@
 //! DELETE.
 
 ghost use Rattle.std.specs.Prelude.{◌≡◌, slice_set, OnOk};
-ghost use Rattle.mv_catalog.specs.Fits.{rows_at, KeysStand};
+ghost use Rattle.mv_values.specs.Tables.{rows_at, KeysStand};
 ghost use Rattle.mv_serial.specs.Outcome.{Leaves};
 ghost use Rattle.mv_serial.specs.Changes.{without, OthersStay};
 ghost use Rattle.mv_serial.specs.Alone.{delete};

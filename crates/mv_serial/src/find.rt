@@ -6,7 +6,7 @@ ghost use Rattle.std.specs.Ordering.{is_lt, is_le};
 ghost use Rattle.mv_values.specs.Order.{value_order};
 ghost use Rattle.mv_values.specs.Columns.{column_of};
 ghost use Rattle.mv_values.specs.Keys.{IsRising};
-ghost use Rattle.mv_catalog.specs.Fits.{rows_at, columns_at, key_columns, KeysStand};
+ghost use Rattle.mv_values.specs.Tables.{rows_at, columns_at, key_columns, KeysStand};
 ghost use Rattle.mv_serial.specs.Outcome.{Gives};
 ghost use Rattle.mv_serial.specs.Rows.{checks_of, passes, meets, matching, is_some_row};
 ghost use Rattle.mv_serial.specs.Spans.{HoldsMatches, StandUnder, given, front_of, front_order};

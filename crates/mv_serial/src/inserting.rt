@@ -3,7 +3,7 @@
 ghost use Rattle.std.specs.Prelude.{◌≡◌, Ok, IfOk, OnOk, MatchResult, slice_set};
 ghost use Rattle.mv_values.specs.Keys.{IsRising, IsPlaceOf, IsGapFor};
 ghost use Rattle.mv_values.specs.Columns.{columns_of};
-ghost use Rattle.mv_catalog.specs.Fits.{rows_at, KeysStand};
+ghost use Rattle.mv_values.specs.Tables.{rows_at, KeysStand};
 ghost use Rattle.mv_serial.specs.Outcome.{Gives, Leaves, then_do};
 ghost use Rattle.mv_serial.specs.Changes.{new_row, put_row, keyed, OthersStay};
 ghost use Rattle.mv_serial.specs.Alone.{insert};

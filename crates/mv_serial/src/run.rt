@@ -1,7 +1,7 @@
 //! What each statement does.
 
 ghost use Rattle.std.specs.Prelude.{◌≡◌, ◌++◌, drop, Ok, OnOk};
-ghost use Rattle.mv_catalog.specs.Fits.{KeysStand};
+ghost use Rattle.mv_values.specs.Tables.{KeysStand};
 ghost use Rattle.mv_serial.specs.Outcome.{Gives, Leaves};
 ghost use Rattle.mv_serial.specs.Value.{values_of};
 ghost use Rattle.mv_serial.specs.Alone.{offset_of, assign, select, update, print};

@@ -1,7 +1,7 @@
 //! Statements one after another, and those that hold others.
 
 ghost use Rattle.std.specs.Prelude.{◌≡◌, ◌+◌, ◌++◌, [], drop, Ok, OnOk};
-ghost use Rattle.mv_catalog.specs.Fits.{KeysStand};
+ghost use Rattle.mv_values.specs.Tables.{KeysStand};
 ghost use Rattle.mv_serial.specs.Outcome.{Gives, Leaves, Rises, then_do};
 ghost use Rattle.mv_serial.specs.Value.{value_of, is_so};
 ghost use Rattle.mv_serial.specs.Alone.{alone, does, loop_over, for_rows, for_select};

@@ -2,7 +2,7 @@
 
 ghost use Rattle.std.specs.Prelude.{◌≡◌, ◌≤ℤ◌, ◌+ℤ◌, ◌^◌, neg_ℤ, pos, length, IfOk, if◌then◌else◌};
 ghost use Rattle.std.specs.Option.{option_copied, option_map};
-ghost use Rattle.mv_catalog.specs.Fits.{KeysStand};
+ghost use Rattle.mv_values.specs.Tables.{KeysStand};
 ghost use Rattle.mv_values.specs.Columns.{column_of};
 ghost use Rattle.mv_serial.specs.Outcome.{Gives, Leaves};
 ghost use Rattle.mv_serial.specs.Value.{number};

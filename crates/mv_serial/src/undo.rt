@@ -3,7 +3,7 @@
 ghost use Rattle.std.specs.Prelude.{◌≡◌, [], ◌<◌, ◌≤◌, length, slice_set, OnOk};
 ghost use Rattle.std.specs.List.{insert, remove};
 ghost use Rattle.mv_values.specs.Keys.{IsRising, with_row};
-ghost use Rattle.mv_catalog.specs.Fits.{rows_at};
+ghost use Rattle.mv_values.specs.Tables.{rows_at};
 ghost use Rattle.mv_serial.specs.Undoing.{undo_rows, undo_one, undone, CanUndoRows, CanUndo, KeepsUndo};
 
 use mv_values::list::List;

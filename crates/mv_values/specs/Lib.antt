@@ -5,3 +5,5 @@ pub mod Keys
 pub mod Comparing
 pub mod Columns
 pub mod Preds
+pub mod Tables
+pub mod Patching

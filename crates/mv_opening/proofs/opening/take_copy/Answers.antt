@@ -2,7 +2,7 @@ use Rattle.std.proofs.Common.{◌≡◌, ◌∙◌, ◌⊎◌, List, Some, true,
 use Rattle.std.specs.Prelude.{slice_get, slice_set}
 use Rattle.mv_values.specs.declared.rows.Keyed.{Keyed}
 use Rattle.mv_values.specs.Keys.{IsRising}
-use Rattle.mv_catalog.specs.Fits.{rows_at}
+use Rattle.mv_values.specs.Tables.{rows_at}
 use Rattle.mv_csvio.specs.Loading.{HasLoaded, IsFirstBad, records_of}
 use Rattle.mv_csvio.specs.declared.fault.CopyFault.TheVariants as copy
 use Rattle.mv_opening.specs.Opening.{block_of}

@@ -1,5 +1,5 @@
 use Rattle.std.proofs.Common.{◌≡◌, ◌≤◌, ◌++◌, Ok, length, take, drop, slice_set}
-use Rattle.mv_catalog.specs.Fits.{rows_at}
+use Rattle.mv_values.specs.Tables.{rows_at}
 use Rattle.mv_serial.specs.Outcome.{then_do}
 use Rattle.mv_serial.specs.Changes.{set_row, updated}
 use Rattle.mv_serial.specs.Undoing.{KeepsUndo}

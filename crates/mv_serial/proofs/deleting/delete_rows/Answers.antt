@@ -1,7 +1,7 @@
 use Rattle.std.proofs.Common.{rules, ◌≡◌, suc, true, false, List, [], slice_index_or, slice_set, take, remove, sym, ap, subst, ◌-◌, ◌∙◌, arith}
 use Rattle.std.proofs.lemmas.List.{set-get_or}
 use Rattle.mv_values.specs.declared.rows.Keyed.{Keyed}
-use Rattle.mv_catalog.specs.Fits.{rows_at}
+use Rattle.mv_values.specs.Tables.{rows_at}
 use Rattle.mv_serial.specs.Rows.{meets, matching}
 use Rattle.mv_serial.proofs.Removing.{done_start, done_end, done_kept, done_gone}
 use Rattle.mv_serial.proofs.Undone.{table_within}

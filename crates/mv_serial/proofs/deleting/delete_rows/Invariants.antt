@@ -1,5 +1,5 @@
 use Rattle.std.proofs.Common.{◌≡◌, ◌≤◌, slice_set}
-use Rattle.mv_catalog.specs.Fits.{rows_at}
+use Rattle.mv_values.specs.Tables.{rows_at}
 use Rattle.mv_serial.specs.Undoing.{KeepsUndo}
 use Rattle.mv_serial.proofs.Removing.{IsDone}
 use Rattle.mv_serial.proofs.deleting.delete_rows.Given as goal

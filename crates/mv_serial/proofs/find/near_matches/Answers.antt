@@ -1,5 +1,5 @@
 use Rattle.mv_serial.proofs.Spanning.{part_matches, part_rises}
-use Rattle.mv_catalog.specs.Fits.{rows_at}
+use Rattle.mv_values.specs.Tables.{rows_at}
 use Rattle.mv_serial.proofs.find.near_matches.Goals as goal
 
 pub returns-clause-matches : goal.returns-clause-matches

@@ -1,6 +1,6 @@
 use Rattle.std.proofs.Common.{arith}
 use Rattle.std.specs.List.{insert}
-use Rattle.mv_catalog.specs.Fits.{rows_at}
+use Rattle.mv_values.specs.Tables.{rows_at}
 use Rattle.mv_serial.specs.declared.undo.Was.TheVariants.{Absent}
 use Rattle.mv_serial.proofs.Undone.{put_back, keeps, length_insert, remove_insert}
 use Rattle.mv_serial.proofs.undo.add_row.Goals as goal

@@ -1,6 +1,6 @@
 use Rattle.std.proofs.Common.{arith}
 use Rattle.mv_values.specs.Keys.{with_row}
-use Rattle.mv_catalog.specs.Fits.{rows_at}
+use Rattle.mv_values.specs.Tables.{rows_at}
 use Rattle.mv_serial.specs.declared.undo.Was.TheVariants.{Other}
 use Rattle.mv_serial.proofs.Undone.{put_back, keeps, table_within, length_with_row}
 use Rattle.mv_serial.proofs.undo.change_row.Goals as goal

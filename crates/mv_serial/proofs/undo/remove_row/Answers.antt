@@ -1,7 +1,7 @@
 use Rattle.std.proofs.Common.{sym, subst, arith}
 use Rattle.std.specs.List.{remove}
 use Rattle.mv_values.specs.Keys.{IsRising}
-use Rattle.mv_catalog.specs.Fits.{rows_at}
+use Rattle.mv_values.specs.Tables.{rows_at}
 use Rattle.mv_serial.specs.declared.undo.Was.TheVariants.{Present}
 use Rattle.mv_serial.proofs.Undone.{put_back, keeps, table_within, length_remove}
 use Rattle.mv_serial.proofs.undo.remove_row.Goals as goal
