@@ -1,0 +1,4 @@
+//! What a run of a procedure leaves: its records, and what they tell.
+#![tactic(auto)]
+
+pub mod record;

@@ -1,0 +1,87 @@
+-- What a statement asks of a table. That predicates stand for what was read is the paper's (Dashti, Basil John, Shaikhha and Koch,
+-- SIGMOD 2017); which tests and columns they have is this project's own.
+use Rattle.std.specs.Prelude.{ℕ, ◌==◌, List, [], ◌∷◌, ◌++◌, Result, Ok, Err, map}
+use Rattle.std.specs.List.{flat_map, position}
+use Rattle.mv_values.specs.declared.value.Value.{Value}
+use Rattle.mv_values.specs.declared.op.Op.TheVariants.{Eq}
+use Rattle.mv_values.specs.declared.pred.Pred.{Pred}
+use Rattle.mv_values.specs.declared.pred.Test.{Test}
+use Rattle.mv_values.specs.declared.schema.TableInfo.{TableInfo}
+use Rattle.mv_values.specs.declared.calls.End.{End}
+use Rattle.mv_values.specs.Columns.{column_of}
+use Rattle.mv_values.specs.Tables.{key_columns, columns_at}
+use Rattle.mv_catalog.specs.declared.resolved.RExpr.{RExpr, fold-RExpr}
+use Rattle.mv_catalog.specs.declared.resolved.RExprKind.TheOpen as kind
+use Rattle.mv_catalog.specs.declared.resolved.RExprKind.TheOpen.{RExprKind-F}
+use Rattle.mv_catalog.specs.declared.resolved.RAgg.{RAgg}
+use Rattle.mv_catalog.specs.declared.resolved.RAgg.TheVariants.{CountAll, CountDistinct, Sum, Min, Max}
+use Rattle.mv_catalog.specs.declared.resolved.RCond.{RCond}
+use Rattle.mv_catalog.specs.declared.resolved.RSort.{RSort}
+use Rattle.mv_catalog.specs.declared.resolved.RSetItem.{RSetItem}
+use Rattle.mv_catalog.specs.declared.resolved.RStmt.TheOpen.{RStmt-F, Assign, Select, Total, ForSelect, ForRows, Branch, Insert, Update, Delete, Print, Rollback}
+use Rattle.mv_serial.specs.declared.state.Check.{Check}
+use Rattle.mv_serial.specs.declared.state.State.{State}
+use Rattle.mv_serial.specs.Alone.{offset_of}
+use Rattle.mv_serial.specs.Rows.{checks_of}
+use Rattle.mv_serial.specs.Changes.{new_row}
+use Rattle.mv_recorded.specs.Reading.{each_once}
+
+-- goes on with the value; of a fault comes nothing
+abbrev pub on : {A B : Type 0} → Result A End → (A → List B) → List B
+on (Ok x) go = go x
+on (Err e) go = []
+
+-- a test, with the place of its column in the key
+abbrev pub test_of : List ℕ → Check → Test
+test_of keys check = record { column = check.column; key_place = position (λ k. k == check.column) keys; op = check.op; value = check.value }
+
+-- the rows of a table that pass the tests, and the columns that are selected of them
+abbrev pub pred_of : List TableInfo → ℕ → List Check → List ℕ → Pred
+pred_of tables t checks cs = record { table = t; tests = map (test_of (key_columns tables t)) checks; columns = each_once cs }
+
+-- the columns in an expression that stand by themselves, in the order of the text
+abbrev pub kind_columns : RExprKind-F (List ℕ) (List ℕ) → List ℕ
+kind_columns (kind.Const v) = []
+kind_columns (kind.Var x) = []
+kind_columns (kind.Field x c) = []
+kind_columns (kind.Col c) = c ∷ []
+kind_columns (kind.One op a) = a
+kind_columns (kind.Two op a b) = a ++ b
+
+abbrev pub columns_in : RExpr → List ℕ
+columns_in = fold-RExpr (List ℕ) (List ℕ) kind_columns (λ e. e.kind)
+
+-- the column of an aggregate
+abbrev pub column_in : RAgg → List ℕ
+column_in CountAll = []
+column_in (CountDistinct c) = c ∷ []
+column_in (Sum c) = c ∷ []
+column_in (Min c) = c ∷ []
+column_in (Max c) = c ∷ []
+
+-- each key column equals the row's
+abbrev pub same_key : List ℕ → List Value → List Check
+same_key keys row = map (λ c. record { column = c; op = Eq; value = column_of row c }) keys
+
+-- the tests are WHERE's, and these columns are selected
+abbrev pub asked : List TableInfo → ℕ → List RCond → List ℕ → State → List Pred
+asked tables t conds cs st = on (checks_of conds st.env) (λ checks. pred_of tables t checks cs ∷ [])
+
+-- the listed columns and those of ORDER BY
+abbrev pub with_sorts : List ℕ → List RSort → List ℕ
+with_sorts cs sorts = cs ++ map (λ s. s.column) sorts
+
+-- what a statement asks; nothing where it faults before rows are looked at
+abbrev pub preds_of : {X : Type 0} → List TableInfo → RStmt-F X → State → List Pred
+preds_of tables (Select cs xs t conds sorts offset) st = on (offset_of offset st.env) (λ n. asked tables t conds (with_sorts cs sorts) st)
+preds_of tables (Total agg x t conds) st = asked tables t conds (column_in agg) st
+preds_of tables (ForSelect x once cs t conds sorts body) st = asked tables t conds (with_sorts cs sorts) st
+preds_of tables (Insert t es) st =
+    on (new_row (columns_at tables t) es st.env) (λ row. pred_of tables t (same_key (key_columns tables t) row) [] ∷ [])
+preds_of tables (Update t items conds) st = asked tables t conds (flat_map (λ i. columns_in i.right) items) st
+preds_of tables (Delete t conds) st = asked tables t conds [] st
+preds_of tables (Assign x e) st = []
+preds_of tables (ForRows x y body) st = []
+preds_of tables (Branch e ys ns) st = []
+preds_of tables (Print es) st = []
+preds_of tables (Rollback reason) st = []

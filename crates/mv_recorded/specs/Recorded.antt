@@ -1,0 +1,147 @@
+-- The records of a full run of a procedure on a database, in the order in which its statements are executed, up to and including a
+-- record with an end. That each executed statement leaves one record is this project's own.
+use Rattle.std.specs.Prelude.{ℕ, ◌+◌, Bool, List, [], ◌∷◌, ◌++◌, Option, Some, None, Result, Ok, Err, map, length, slice_get, if◌then◌else◌}
+use Rattle.std.specs.List.{sum}
+use Rattle.std.specs.Result.{result_err}
+use Rattle.mv_values.specs.declared.value.Value.{Value}
+use Rattle.mv_values.specs.declared.schema.TableInfo.{TableInfo}
+use Rattle.mv_values.specs.declared.calls.Call.{Call}
+use Rattle.mv_values.specs.declared.calls.End.{End}
+use Rattle.mv_catalog.specs.declared.resolved.ProcInfo.{ProcInfo}
+use Rattle.mv_catalog.specs.declared.resolved.Program.{Program}
+use Rattle.mv_catalog.specs.declared.resolved.RStmt.{RStmt}
+use Rattle.mv_catalog.specs.declared.resolved.RStmt.TheOpen.{RStmt-F, ForSelect, ForRows, Branch}
+use Rattle.mv_catalog.specs.declared.resolved.RStmt.TheFolds.{fold-RStmt, para-RStmt}
+use Rattle.mv_serial.specs.declared.state.State.{State}
+use Rattle.mv_serial.specs.declared.state.Held.TheVariants.{Turn}
+use Rattle.mv_serial.specs.Env.{with_found, with_held}
+use Rattle.mv_serial.specs.Value.{value_of, is_so}
+use Rattle.mv_serial.specs.Alone.{Does, alone, does, is_turn}
+use Rattle.mv_serial.specs.TableAfter.{Tables, begun, reply_in, tables_left}
+use Rattle.mv_record.specs.declared.record.Record.{Record}
+use Rattle.mv_record.specs.Runs.{Run, Meaning}
+use Rattle.mv_recorded.specs.Reading.{Loop, expressions, reads_of}
+use Rattle.mv_recorded.specs.Asking.{on, preds_of}
+use Rattle.mv_recorded.specs.Doing.{fixed_rows, itself, sets_of, writes_of, printed_line}
+
+-- how many statements a statement is, with those that it holds
+abbrev pub size_step : RStmt-F ℕ → ℕ
+size_step (ForSelect x once cs t conds sorts body) = 1 + sum body
+size_step (ForRows x y body) = 1 + sum body
+size_step (Branch e ys ns) = 1 + (sum ys + sum ns)
+size_step s = 1
+
+abbrev pub size : RStmt → ℕ
+size = fold-RStmt ℕ size_step
+
+-- where statements stand in a run: the number of the record that directly holds them, the loops around them from the inside out, and
+-- the turns of these from the outside in
+pub record Site : Type 0 where
+  pub parent : Option ℕ
+  pub loops : List Loop
+  pub turns : List ℕ
+
+-- in an IF, in a FOR and in a turn of it
+abbrev pub within : ℕ → Site → Site
+within number site = record site { parent = Some number }
+
+abbrev pub within_loop : ℕ → ℕ → Site → Site
+within_loop x number site = record { parent = Some number; loops = record { row = x; number = number } ∷ site.loops; turns = site.turns }
+
+abbrev pub in_turn : ℕ → Site → Site
+in_turn k site = record site { turns = site.turns ++ k ∷ [] }
+
+-- the record of a statement itself, by its number in the text, its site, the records before it and the state before it; the first
+-- `params` variables are parameters
+abbrev pub own_record : {X : Type 0} → List TableInfo → ℕ → RStmt-F X → ℕ → Site → List Record → State → Record
+own_record tables params s n site before st = record {
+  spot = record { statement = n; turns = site.turns };
+  parent = site.parent;
+  reads = reads_of params site.loops before (expressions s);
+  preds = preds_of tables s st;
+  sets = on (itself tables s st) (λ next. sets_of s next);
+  rows = on (fixed_rows s st) (λ rows. rows);
+  writes = on (itself tables s st) (λ next. writes_of tables s st);
+  line = printed_line s st;
+  end = result_err (itself tables s st);
+}
+
+-- the records that statements leave, the first of which has this number in the text
+abbrev pub Tells : Type 0
+Tells = ℕ → Site → List Record → State → List Record
+
+-- of statements in order, each with the records that it leaves
+abbrev pub tell_all : List TableInfo → List (RStmt × Tells) → Tells
+tell_all tables [] n site before st = []
+tell_all tables (s ∷ ss) n site before st =
+    let these : List Record = s.1 n site before st in
+    these ++ on (does tables s.0 st) (tell_all tables ss (n + size s.0) site (before ++ these))
+
+-- of the turns of a loop, the first of which has this number
+abbrev pub tell_turns : ℕ → Does → Tells → List (List Value) → ℕ → Tells
+tell_turns x body tells [] k n site before st = []
+tell_turns x body tells (row ∷ rows) k n site before st =
+    let next : State = record st { env = with_held st.env x (Turn row) } in
+    let these : List Record = tells n (in_turn k site) before next in
+    these ++ on (body next) (tell_turns x body tells rows (k + 1) n site (before ++ these))
+
+-- of a loop over rows
+abbrev pub tell_loop : ℕ → Does → Tells → List (List Value) → Tells
+tell_loop x body tells rows n site before st = tell_turns x body tells rows 1 n site before (record st { env = with_found st.env (is_turn rows) })
+
+-- what a list of statements does, and how many statements it is
+abbrev pub body_of : List TableInfo → List (RStmt × Tells) → Does
+body_of tables body = alone tables (map (λ s. s.0) body)
+
+abbrev pub size_of : List (RStmt × Tells) → ℕ
+size_of body = sum (map (λ s. size s.0) body)
+
+-- of what a statement holds whose own record has this number
+abbrev pub tell_inner : List TableInfo → RStmt-F (RStmt × Tells) → ℕ → Tells
+tell_inner tables (ForSelect x once cs t conds sorts body) number n site before st =
+    on (fixed_rows (ForSelect x once cs t conds sorts body) st) (λ rows. tell_loop x (body_of tables body) (tell_all tables body) rows n (within_loop x number site) before st)
+tell_inner tables (ForRows x y body) number n site before st =
+    on (fixed_rows (ForRows x y body) st) (λ rows. tell_loop x (body_of tables body) (tell_all tables body) rows n (within_loop x number site) before st)
+tell_inner tables (Branch e ys ns) number n site before st =
+    on (value_of e st.env []) (λ v. if is_so v then tell_all tables ys n (within number site) before st
+    else tell_all tables ns (n + size_of ys) (within number site) before st)
+tell_inner tables s number n site before st = []
+
+-- of a statement: its own record, and then those of what it holds
+abbrev pub tell_step : List TableInfo → ℕ → RStmt-F (RStmt × Tells) → Tells
+tell_step tables params s n site before st =
+    let own : Record = own_record tables params s n site before st in
+    own ∷ tell_inner tables s (length before) (n + 1) site (before ++ own ∷ []) st
+
+abbrev pub tell : List TableInfo → ℕ → RStmt → Tells
+tell tables params = para-RStmt Tells (tell_step tables params)
+
+-- of a list of statements
+abbrev pub told : List TableInfo → ℕ → List RStmt → Tells
+told tables params ss = tell_all tables (map (λ s. (s, tell tables params s)) ss)
+
+-- outside any statement
+abbrev pub outside : Site
+outside = record { parent = None; loops = []; turns = [] }
+
+-- the records of a full run of a call of a procedure on a database
+abbrev pub recorded : List TableInfo → ProcInfo → Call → Tables → List Record
+recorded tables proc call db = told tables (length call.arguments) proc.body 1 outside [] (begun proc call db)
+
+-- the records of the call of this number on a database
+abbrev pub records_in : Program → Option ProcInfo → Call → Tables → List Record
+records_in p None call db = []
+records_in p (Some proc) call db = recorded p.resolved.tables proc call db
+
+abbrev pub records_at : Program → Option Call → Tables → List Record
+records_at p None db = []
+records_at p (Some call) db = records_in p (slice_get p.resolved.procedures call.procedure) call db
+
+abbrev pub records : Program → ℕ → Tables → List Record
+records p c db = records_at p (slice_get p.resolved.calls c) db
+
+-- what the calls of a procedure leave: these records, and the reply and the database of the machine that runs the call alone
+abbrev pub meaning : List TableInfo → ProcInfo → Meaning
+meaning tables proc call db =
+    let outcome : Result State End = alone tables proc.body (begun proc call db) in
+    record { records = recorded tables proc call db; reply = reply_in outcome; tables = tables_left db outcome }

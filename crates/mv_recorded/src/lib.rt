@@ -1,0 +1,2 @@
+//! The records of a full run of a procedure.
+#![tactic(auto)]
