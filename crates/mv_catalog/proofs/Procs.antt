@@ -39,6 +39,7 @@ use Rattle.mv_catalog.proofs.Scopes.{SameFields, Means, Same, Matches, type_know
 use Rattle.mv_catalog.proofs.Exprs.{value_known}
 use Rattle.mv_catalog.proofs.Loops.{first_before, first_behind, Fresh}
 use Rattle.mv_catalog.proofs.Stmts.{stmts_claim}
+use Rattle.mv_catalog.proofs.Sized.{all_sized}
 
 -- What stands at the numbers from one on
 
@@ -292,6 +293,7 @@ procedure_is tables p few_tables narrow h k =
     record {
       defaults = all_mapped faults.initial (λ (v : VarDef). v.initial.value) IsShort
           (λ v e. short v.initial.value (not_false (faults.begins v.initial.value) (not_when (not (faults.begins v.initial.value)) (wrong v.initial.token) e))) p.vars (nothing_right (a ++ b) c hc);
+      short = omega (arith, lines, all_sized tables p.body (slots_of p) (found_number p + 1));
       body = r.allowed;
       loops = subst (λ n. CountsFrom n (rows_of (procedure_of tables p).body)) (sym (count_own tables p)) r.counts;
     }

@@ -136,6 +136,7 @@ table_is t some most h =
     let count : length (table_of t).key ≡ length t.key = length-map t.key (λ (n : Name). tiny (place_named column_name t.columns n.text)) in
     record {
       wide = (let first = key 0 0 (omega (arith, count)) in omega arith);
+      narrow = omega (arith, most, length-map t.columns described);
       some = omega (arith, count);
       within = key;
       once = once t.columns most t.key hb (nothing_right (a ++ b) c hc);
@@ -283,6 +284,7 @@ fits_text script h k keys =
     let narrow : All (λ (t : TableDef). length t.columns ≤ 32) p.tables = kept_all table_in (λ (t : TableDef). length t.columns ≤ 32) (λ k. item_passes k ≡ []) kept_table script.items kept in
     let named : All (λ (t : TableDef). 0 < length t.key) p.tables = kept_all table_in (λ (t : TableDef). 0 < length t.key) NamesKey keyed_table script.items keys in
     record {
+      few = omega (arith, few_tables, length-map p.tables table_of);
       tables = tables_are p.tables named narrow hc;
       rows = all_rows p.tables hc;
       procedures = procedures_are p.tables few_tables narrow p.procedures (nothing_right ((a ++ b) ++ c) d hd) (kept_all procedure_in (λ (p : ProcDef). procedure_passes p ≡ []) (λ k. item_passes k ≡ []) kept_procedure script.items kept);

@@ -149,3 +149,22 @@ rows_of ss = together (map rows_in ss)
 abbrev pub CountsFrom : ℕ → List ℕ → Type 0
 CountsFrom n [] = ⊤
 CountsFrom n (m ∷ ms) = (m ≡ n) × CountsFrom (n + 1) ms
+
+-- Numbers of statements
+
+abbrev pub total_size : List ℕ → ℕ
+total_size [] = 0
+total_size (n ∷ ns) = n + total_size ns
+
+-- how many statements a statement is, with those that it holds
+abbrev pub size_step : RStmt-F ℕ → ℕ
+size_step (ForSelect row distinct columns table conds sorts body) = 1 + total_size body
+size_step (ForRows row over body) = 1 + total_size body
+size_step (Branch test ys ns) = 1 + (total_size ys + total_size ns)
+size_step s = 1
+
+abbrev pub size : RStmt → ℕ
+size = fold-RStmt ℕ size_step
+
+abbrev pub size_of : List RStmt → ℕ
+size_of ss = total_size (map size ss)

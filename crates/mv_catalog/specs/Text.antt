@@ -16,7 +16,7 @@ use Rattle.mv_catalog.specs.declared.resolved.ProcInfo.{ProcInfo}
 use Rattle.mv_catalog.specs.declared.resolved.CopyInfo.{CopyInfo}
 use Rattle.mv_catalog.specs.declared.resolved.Resolved.{Resolved}
 use Rattle.mv_catalog.specs.Types.{int, Var, fixed, declared, rows, Vars, kind_of_column, kind_of_value}
-use Rattle.mv_catalog.specs.Statements.{all_well, IsWell, rows_of, CountsFrom}
+use Rattle.mv_catalog.specs.Statements.{all_well, IsWell, rows_of, CountsFrom, size_of}
 
 -- Values and rows
 
@@ -37,9 +37,10 @@ IsRow types row = AllZip IsOf types row
 abbrev pub types_of : TableInfo → List ColType
 types_of t = map (λ (c : Column). c.kind) t.columns
 
--- a table has columns, and key columns among them, each but once
+-- a table has columns, no more than 32, and key columns among them, each but once
 pub record IsTable (t : TableInfo) : Type 0 where
   pub wide : 0 < length t.columns
+  pub narrow : length t.columns ≤ 32
   pub some : 0 < length t.key
   pub within : All (λ c. c < length t.columns) t.key
   pub once : AllPairs (λ c d. c ≢ d) t.key
@@ -65,9 +66,11 @@ abbrev pub IsShort : Value → Type 0
 IsShort (value.Int z) = ⊤
 IsShort (value.Text t) = length t ≤ 4000
 
--- what its variables begin with, its statements, and the numbers of its loops' rows: those behind `:found`, in the order of the text
+-- what its variables begin with, its statements, no more than 1,000 with those inside others, and the numbers of its loops' rows:
+-- those behind `:found`, in the order of the text
 pub record IsProcedure (tables : List TableInfo) (p : ProcInfo) : Type 0 where
   pub defaults : All IsShort p.defaults
+  pub short : size_of p.body ≤ 1000
   pub body : all_well (IsWell tables) p.body (vars_of p)
   pub loops : CountsFrom (length (own_vars p)) (rows_of p.body)
 
@@ -85,8 +88,9 @@ IsCall procedures c = (p : ProcInfo) × (slice_get procedures c.procedure ≡ So
 
 -- The whole
 
--- the text's part of a program is of one piece
+-- the text's part of a program is of one piece; it has no more than 64 tables
 pub record FitsText (r : Resolved) : Type 0 where
+  pub few : length r.tables ≤ 64
   pub tables : All IsTable r.tables
   pub rows : AllZip RowsFit r.tables r.rows
   pub procedures : All (IsProcedure r.tables) r.procedures
