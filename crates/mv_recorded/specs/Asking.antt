@@ -19,11 +19,11 @@ use Rattle.mv_catalog.specs.declared.resolved.RCond.{RCond}
 use Rattle.mv_catalog.specs.declared.resolved.RSort.{RSort}
 use Rattle.mv_catalog.specs.declared.resolved.RSetItem.{RSetItem}
 use Rattle.mv_catalog.specs.declared.resolved.RStmt.TheOpen.{RStmt-F, Assign, Select, Total, ForSelect, ForRows, Branch, Insert, Update, Delete, Print, Rollback}
-use Rattle.mv_serial.specs.declared.state.Check.{Check}
-use Rattle.mv_serial.specs.declared.state.State.{State}
-use Rattle.mv_serial.specs.Alone.{offset_of}
-use Rattle.mv_serial.specs.Rows.{checks_of}
-use Rattle.mv_serial.specs.Changes.{new_row}
+use Rattle.mv_alone.specs.declared.state.Check.{Check}
+use Rattle.mv_alone.specs.declared.state.State.{State}
+use Rattle.mv_alone.specs.Alone.{offset_of}
+use Rattle.mv_alone.specs.Rows.{checks_of}
+use Rattle.mv_alone.specs.Changes.{new_row}
 use Rattle.mv_recorded.specs.Reading.{each_once}
 
 -- goes on with the value; of a fault comes nothing

@@ -12,12 +12,12 @@ use Rattle.mv_catalog.specs.declared.resolved.Program.{Program}
 use Rattle.mv_catalog.specs.declared.resolved.RStmt.{RStmt}
 use Rattle.mv_catalog.specs.declared.resolved.RStmt.TheOpen.{RStmt-F, ForSelect, ForRows, Branch}
 use Rattle.mv_catalog.specs.declared.resolved.RStmt.TheFolds.{fold-RStmt, para-RStmt}
-use Rattle.mv_serial.specs.declared.state.State.{State}
-use Rattle.mv_serial.specs.declared.state.Held.TheVariants.{Turn}
-use Rattle.mv_serial.specs.Env.{with_found, with_held}
-use Rattle.mv_serial.specs.Value.{value_of, is_so}
-use Rattle.mv_serial.specs.Alone.{Does, alone, does, is_turn}
-use Rattle.mv_serial.specs.TableAfter.{Tables, begun, reply_in, tables_left}
+use Rattle.mv_alone.specs.declared.state.State.{State}
+use Rattle.mv_alone.specs.declared.state.Held.TheVariants.{Turn}
+use Rattle.mv_alone.specs.Env.{with_found, with_held}
+use Rattle.mv_alone.specs.Value.{value_of, is_so}
+use Rattle.mv_alone.specs.Alone.{Does, alone, does, is_turn}
+use Rattle.mv_alone.specs.TableAfter.{Tables, begun, reply_in, tables_left}
 use Rattle.mv_record.specs.declared.record.Record.{Record}
 use Rattle.mv_record.specs.Runs.{Run, Meaning}
 use Rattle.mv_recorded.specs.Reading.{Loop, expressions, reads_of}

@@ -17,12 +17,12 @@ use Rattle.mv_catalog.specs.declared.resolved.ProcInfo.{ProcInfo}
 use Rattle.mv_catalog.specs.declared.resolved.Program.{Program}
 use Rattle.mv_catalog.specs.Types.{int, Var, fixed, declared, Vars, kind_of_value, kind_of_column}
 use Rattle.mv_catalog.specs.Text.{IsRow, param_var, own_vars, vars_of, Suits, IsCall, IsProcedure, FitsText}
-use Rattle.mv_serial.specs.declared.state.Held.{Held}
-use Rattle.mv_serial.specs.declared.state.Held.TheVariants.{Scalar}
-use Rattle.mv_serial.specs.declared.state.State.{State}
-use Rattle.mv_serial.specs.Env.{unset}
-use Rattle.mv_serial.specs.Alone.{alone}
-use Rattle.mv_serial.specs.TableAfter.{Tables, argument_held, entered, begun, outcome_in, outcome_at, outcome, tables_left, table_after}
+use Rattle.mv_alone.specs.declared.state.Held.{Held}
+use Rattle.mv_alone.specs.declared.state.Held.TheVariants.{Scalar}
+use Rattle.mv_alone.specs.declared.state.State.{State}
+use Rattle.mv_alone.specs.Env.{unset}
+use Rattle.mv_alone.specs.Alone.{alone}
+use Rattle.mv_alone.specs.TableAfter.{Tables, argument_held, entered, begun, outcome_in, outcome_at, outcome, tables_left, table_after}
 use Rattle.mv_serial.specs.Typed.{TablesTyped}
 use Rattle.mv_serial.proofs.Fitting.{OfKinds, Holds, Fit}
 use Rattle.mv_serial.proofs.RowsTyped.{all_get, kind_is, row_kinds}

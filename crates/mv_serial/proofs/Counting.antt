@@ -9,17 +9,17 @@ use Rattle.mv_catalog.specs.declared.resolved.RSort.{RSort}
 use Rattle.mv_catalog.specs.declared.resolved.RStmt.TheOpen as open'
 use Rattle.mv_catalog.specs.declared.resolved.RStmt.TheVariants.{Branch, ForRows, ForSelect, rolls-Branch, rolls-ForRows, rolls-ForSelect}
 use Rattle.mv_catalog.specs.declared.resolved.RStmt.{RStmt, out-RStmt, roll-out-RStmt, map-RStmt, para-roll-RStmt}
-use Rattle.mv_serial.specs.declared.state.Stop.{Stop}
-use Rattle.mv_serial.specs.declared.state.Stop.TheVariants.{Memory, Ended}
+use Rattle.mv_alone.specs.declared.state.Stop.{Stop}
+use Rattle.mv_alone.specs.declared.state.Stop.TheVariants.{Memory, Ended}
 use Rattle.mv_serial.specs.declared.undo.Undo.{Undo}
-use Rattle.mv_serial.specs.declared.state.State.{State}
-use Rattle.mv_serial.specs.Outcome.{Rises, Fails, then_do}
-use Rattle.mv_serial.specs.Value.{value_of, is_so}
-use Rattle.mv_serial.specs.Alone.{alone}
+use Rattle.mv_alone.specs.declared.state.State.{State}
+use Rattle.mv_alone.specs.Outcome.{Rises, Fails, then_do}
+use Rattle.mv_alone.specs.Value.{value_of, is_so}
+use Rattle.mv_alone.specs.Alone.{alone}
 use Rattle.mv_serial.specs.Undoing.{StaysUndoable}
 use Rattle.mv_serial.proofs.Undone.{Tables}
 use Rattle.mv_serial.proofs.Updating.{keeps_all}
-use Rattle.mv_serial.specs.Executed.{Counts, count, count_step, count_on, count_branch, count_rows, count_select, counted}
+use Rattle.mv_alone.specs.Executed.{Counts, count, count_step, count_on, count_branch, count_rows, count_select, counted}
 
 pub count_out : (tables : List TableInfo) (s : RStmt) → count tables s ≡ count_step tables (map-RStmt RStmt (RStmt × Counts) (λ y. (y, count tables y)) (out-RStmt s))
 count_out tables s = ap (count tables) (sym (roll-out-RStmt s)) ∙ para-roll-RStmt Counts (count_step tables) (out-RStmt s)

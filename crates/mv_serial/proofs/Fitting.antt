@@ -5,10 +5,10 @@ use Rattle.mv_values.specs.declared.value.Value.{Value}
 use Rattle.mv_values.specs.Columns.{column_of}
 use Rattle.mv_catalog.specs.Types.{Kind, int, Var, fixed, declared, rows, turn, Vars, kind_of_value}
 use Rattle.mv_catalog.specs.Statements.{with_turn}
-use Rattle.mv_serial.specs.declared.state.Held.{Held}
-use Rattle.mv_serial.specs.declared.state.Held.TheVariants.{Scalar, Turn}
-use Rattle.mv_serial.specs.declared.state.Env.{Env}
-use Rattle.mv_serial.specs.Env.{unset, held_at, scalar_in, turn_in, turns_in, put_at, with_held, with_value, with_found, truth}
+use Rattle.mv_alone.specs.declared.state.Held.{Held}
+use Rattle.mv_alone.specs.declared.state.Held.TheVariants.{Scalar, Turn}
+use Rattle.mv_alone.specs.declared.state.Env.{Env}
+use Rattle.mv_alone.specs.Env.{unset, held_at, scalar_in, turn_in, turns_in, put_at, with_held, with_value, with_found, truth}
 
 -- a row that has a value of its type for each column, and maybe more
 abbrev pub OfKinds : List Kind → List Value → Type 0

@@ -3,7 +3,7 @@ use Rattle.std.proofs.Common.{◌≡◌, ◌<◌, ◌≤◌, ℕ, zero, suc, Lis
 use Rattle.std.specs.Prelude.{slice_get, slice_index}
 use Rattle.mv_values.specs.declared.calls.Reply.{Reply}
 use Rattle.mv_catalog.specs.declared.resolved.Program.{Program}
-use Rattle.mv_serial.specs.TableAfter.{Tables, outcome, executed, tables_left, reply_in, table_after, first_numbers, call_order, RepliesOf, CountsOf}
+use Rattle.mv_alone.specs.TableAfter.{Tables, outcome, executed, tables_left, reply_in, table_after, first_numbers, call_order, RepliesOf, CountsOf}
 use Rattle.mv_serial.proofs.Numbers.{length_numbers, index_numbers, get_numbers}
 
 -- the database after the first n calls

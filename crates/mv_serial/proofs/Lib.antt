@@ -1,7 +1,4 @@
-pub mod Containing
-pub mod Putting
 pub mod Undone
-pub mod Sorting
 pub mod Updating
 pub mod Tabling
 pub mod Counting
@@ -10,11 +7,7 @@ pub mod InOrder
 pub mod InTurn
 pub mod Placing
 pub mod Removing
-pub mod Totalling
-pub mod Once
-pub mod Spanning
 pub mod Standing
-pub mod Ranking
 pub mod Lawful
 pub mod Fitting
 pub mod Valued

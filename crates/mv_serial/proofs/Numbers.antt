@@ -1,7 +1,7 @@
 -- Numbers in order.
 use Rattle.std.proofs.Common.{◌≡◌, ◌<◌, ◌+◌, ℕ, zero, suc, List, [], ◌∷◌, ◌++◌, length, map, Some, refl, sym, ap, ◌∙◌, add-zero, zero-add, arith}
 use Rattle.std.specs.Prelude.{slice_get, slice_index}
-use Rattle.mv_serial.specs.TableAfter.{first_numbers}
+use Rattle.mv_alone.specs.TableAfter.{first_numbers}
 
 -- n numbers from a on
 abbrev numbers_from : ℕ → ℕ → List ℕ

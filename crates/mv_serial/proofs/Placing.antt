@@ -11,8 +11,8 @@ use Rattle.mv_values.specs.declared.calls.End.TheVariants.{Duplicate}
 use Rattle.mv_values.specs.Order.{key_order}
 use Rattle.mv_values.specs.Keys.{IsBelow, IsAbove, IsRising, IsPlaceOf, IsGapFor}
 use Rattle.mv_values.proofs.KeyOrder.{key_order_total}
-use Rattle.mv_serial.specs.Outcome.{then_do}
-use Rattle.mv_serial.specs.Changes.{put_row}
+use Rattle.mv_alone.specs.Outcome.{then_do}
+use Rattle.mv_alone.specs.Changes.{put_row}
 
 above_less : (key : List Value) (item : Keyed) → IsAbove key item → key_order key item.key ≡ Less
 above_less key item h = key_order_total.antisymm key item.key ∙ ap ordering_reverse h

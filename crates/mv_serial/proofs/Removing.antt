@@ -2,9 +2,9 @@
 use Rattle.std.proofs.Common.{◌≡◌, ℕ, zero, suc, ◌<◌, ◌≤◌, true, false, not, List, [], ◌∷◌, ◌++◌, length, take, drop, slice_index_or, remove, refl, sym, ap, subst, ◌∙◌, arith, take-append-drop}
 use Rattle.std.proofs.lemmas.List.Elements.{filter-append}
 use Rattle.mv_values.specs.declared.rows.Keyed.{Keyed}
-use Rattle.mv_serial.specs.declared.state.Check.{Check}
-use Rattle.mv_serial.specs.Rows.{meets, matching}
-use Rattle.mv_serial.specs.Changes.{without}
+use Rattle.mv_alone.specs.declared.state.Check.{Check}
+use Rattle.mv_alone.specs.Rows.{meets, matching}
+use Rattle.mv_alone.specs.Changes.{without}
 use Rattle.mv_serial.proofs.Undone.{length_remove}
 use Rattle.mv_serial.proofs.Updating.{first_misses}
 

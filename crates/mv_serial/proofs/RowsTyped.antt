@@ -29,18 +29,18 @@ use Rattle.mv_catalog.specs.Types.{Kind, int, Vars, kind_of_column}
 use Rattle.mv_catalog.specs.Statements.{kinds_of, Gives, Takes, IsItem, IsTotal}
 use Rattle.mv_catalog.specs.Text.{IsOf, IsRow, types_of}
 use Rattle.mv_catalog.proofs.Lists.{map_map}
-use Rattle.mv_serial.specs.declared.state.Check.{Check}
-use Rattle.mv_serial.specs.declared.state.Env.{Env}
-use Rattle.mv_serial.specs.Outcome.{then_do}
-use Rattle.mv_serial.specs.Env.{with_value, with_values}
-use Rattle.mv_serial.specs.Value.{value_of, fitted}
-use Rattle.mv_serial.specs.Rows.{meets, sorted, ordered, sort_order, item_at, put_by, put_once, distinct, projected, column, lesser, least, greater, greatest, total, sum_of, aggregate, fit_kind, fit}
-use Rattle.mv_serial.specs.Changes.{with_column, set_row, updated, new_row, put_row, put_row_by}
-use Rattle.mv_serial.specs.Alone.{fixed, taken}
-use Rattle.mv_serial.specs.TableAfter.{Tables}
+use Rattle.mv_alone.specs.declared.state.Check.{Check}
+use Rattle.mv_alone.specs.declared.state.Env.{Env}
+use Rattle.mv_alone.specs.Outcome.{then_do}
+use Rattle.mv_alone.specs.Env.{with_value, with_values}
+use Rattle.mv_alone.specs.Value.{value_of, fitted}
+use Rattle.mv_alone.specs.Rows.{meets, sorted, ordered, sort_order, item_at, put_by, put_once, distinct, projected, column, lesser, least, greater, greatest, total, sum_of, aggregate, fit_kind, fit}
+use Rattle.mv_alone.specs.Changes.{with_column, set_row, updated, new_row, put_row, put_row_by}
+use Rattle.mv_alone.specs.Alone.{fixed, taken}
+use Rattle.mv_alone.specs.TableAfter.{Tables}
 use Rattle.mv_serial.specs.Typed.{TablesTyped}
 use Rattle.mv_serial.proofs.Fitting.{OfKinds, Fit, fit_value, fit_found}
-use Rattle.mv_serial.proofs.Ranking.{put_all}
+use Rattle.mv_alone.proofs.Ranking.{put_all}
 use Rattle.mv_serial.proofs.Valued.{IsKind, fitted_kind, value_kind}
 
 -- going on with a value of which something holds

@@ -21,18 +21,18 @@ use Rattle.mv_catalog.specs.Statements.{all_well, IsWell, kinds_of, Gives, with_
 use Rattle.mv_catalog.specs.Statements as well
 use Rattle.mv_catalog.specs.Text.{IsRow, types_of}
 use Rattle.mv_catalog.proofs.Typed.{well_by}
-use Rattle.mv_serial.specs.declared.state.Check.{Check}
-use Rattle.mv_serial.specs.declared.state.Held.TheVariants.{Turn}
-use Rattle.mv_serial.specs.declared.state.State.{State}
-use Rattle.mv_serial.specs.declared.state.Env.{Env}
-use Rattle.mv_serial.specs.Outcome.{then_do}
-use Rattle.mv_serial.specs.Env.{with_held, with_value, with_found, turns_at}
-use Rattle.mv_serial.specs.Value.{value_of, values_of, is_so, number}
-use Rattle.mv_serial.specs.Rows.{checks_of, meets, is_some_row, item_at, ordered, aggregate}
-use Rattle.mv_serial.specs.Changes.{set_row, updated, without, new_row, put_row, keyed}
-use Rattle.mv_serial.specs.Line.{line_of}
-use Rattle.mv_serial.specs.Alone.{Does, all_of, each_turn, matches, with_rows, offset_of, taken, totalled, fixed, is_turn, loop_over, does, alone, stmt_step}
-use Rattle.mv_serial.specs.Alone as alone'
+use Rattle.mv_alone.specs.declared.state.Check.{Check}
+use Rattle.mv_alone.specs.declared.state.Held.TheVariants.{Turn}
+use Rattle.mv_alone.specs.declared.state.State.{State}
+use Rattle.mv_alone.specs.declared.state.Env.{Env}
+use Rattle.mv_alone.specs.Outcome.{then_do}
+use Rattle.mv_alone.specs.Env.{with_held, with_value, with_found, turns_at}
+use Rattle.mv_alone.specs.Value.{value_of, values_of, is_so, number}
+use Rattle.mv_alone.specs.Rows.{checks_of, meets, is_some_row, item_at, ordered, aggregate}
+use Rattle.mv_alone.specs.Changes.{set_row, updated, without, new_row, put_row, keyed}
+use Rattle.mv_alone.specs.Line.{line_of}
+use Rattle.mv_alone.specs.Alone.{Does, all_of, each_turn, matches, with_rows, offset_of, taken, totalled, fixed, is_turn, loop_over, does, alone, stmt_step}
+use Rattle.mv_alone.specs.Alone as alone'
 use Rattle.mv_serial.specs.Typed.{TablesTyped}
 use Rattle.mv_serial.proofs.Fitting.{OfKinds, Fit, fit_value, fit_found, fit_turn, fit_behind}
 use Rattle.mv_serial.proofs.Valued.{IsKind}

@@ -17,14 +17,14 @@ use Rattle.mv_values.specs.Columns.{column_of, columns_of}
 use Rattle.mv_values.specs.Order.{key_order}
 use Rattle.mv_values.specs.Tables.{key_columns, columns_at, rows_at, KeysStand}
 use Rattle.mv_catalog.specs.declared.resolved.RSetItem.{RSetItem}
-use Rattle.mv_serial.specs.declared.state.Check.{Check}
-use Rattle.mv_serial.specs.declared.state.Env.{Env}
-use Rattle.mv_serial.specs.declared.state.State.{State}
-use Rattle.mv_serial.specs.Outcome.{then_do}
-use Rattle.mv_serial.specs.Value.{value_of}
-use Rattle.mv_serial.specs.Rows.{meets, fit}
-use Rattle.mv_serial.specs.Changes.{with_column, set_row, updated, without, put_row_by, put_row}
-use Rattle.mv_serial.specs.Spans.{StandUnder}
+use Rattle.mv_alone.specs.declared.state.Check.{Check}
+use Rattle.mv_alone.specs.declared.state.Env.{Env}
+use Rattle.mv_alone.specs.declared.state.State.{State}
+use Rattle.mv_alone.specs.Outcome.{then_do}
+use Rattle.mv_alone.specs.Value.{value_of}
+use Rattle.mv_alone.specs.Rows.{meets, fit}
+use Rattle.mv_alone.specs.Changes.{with_column, set_row, updated, without, put_row_by, put_row}
+use Rattle.mv_alone.specs.Spans.{StandUnder}
 use Rattle.mv_serial.proofs.Undone.{Tables}
 use Rattle.mv_serial.proofs.Updating.{New}
 use Rattle.mv_serial.proofs.Tabling.{table_with, updated_at}

@@ -6,15 +6,15 @@ use Rattle.mv_values.specs.declared.calls.End.{End}
 use Rattle.mv_values.specs.Tables.{key_columns, columns_at, rows_at}
 use Rattle.mv_catalog.specs.declared.resolved.RCond.{RCond}
 use Rattle.mv_catalog.specs.declared.resolved.RSetItem.{RSetItem}
-use Rattle.mv_serial.specs.declared.state.Check.{Check}
-use Rattle.mv_serial.specs.declared.state.State.{State}
-use Rattle.mv_serial.specs.declared.state.Stop.{Stop}
-use Rattle.mv_serial.specs.declared.state.Stop.TheVariants.{Memory, Ended}
-use Rattle.mv_serial.specs.Outcome.{then_do, Fails}
-use Rattle.mv_serial.specs.Env.{with_found}
-use Rattle.mv_serial.specs.Rows.{checks_of, is_some_row}
-use Rattle.mv_serial.specs.Changes.{set_row, updated}
-use Rattle.mv_serial.specs.Alone.{update, matches, with_rows}
+use Rattle.mv_alone.specs.declared.state.Check.{Check}
+use Rattle.mv_alone.specs.declared.state.State.{State}
+use Rattle.mv_alone.specs.declared.state.Stop.{Stop}
+use Rattle.mv_alone.specs.declared.state.Stop.TheVariants.{Memory, Ended}
+use Rattle.mv_alone.specs.Outcome.{then_do, Fails}
+use Rattle.mv_alone.specs.Env.{with_found}
+use Rattle.mv_alone.specs.Rows.{checks_of, is_some_row}
+use Rattle.mv_alone.specs.Changes.{set_row, updated}
+use Rattle.mv_alone.specs.Alone.{update, matches, with_rows}
 use Rattle.mv_serial.proofs.Undone.{Tables}
 
 -- the database with the rows that a table gets

@@ -6,11 +6,11 @@ use Rattle.mv_values.specs.declared.rows.Keyed.{Keyed}
 use Rattle.mv_values.specs.declared.calls.End.{End}
 use Rattle.mv_values.specs.Keys.{with_row}
 use Rattle.mv_values.specs.Tables.{rows_at}
-use Rattle.mv_serial.specs.declared.state.Check.{Check}
+use Rattle.mv_alone.specs.declared.state.Check.{Check}
 use Rattle.mv_serial.specs.declared.undo.Undo.{Undo}
-use Rattle.mv_serial.specs.Outcome.{then_do}
-use Rattle.mv_serial.specs.Rows.{meets, matching}
-use Rattle.mv_serial.specs.Changes.{updated}
+use Rattle.mv_alone.specs.Outcome.{then_do}
+use Rattle.mv_alone.specs.Rows.{meets, matching}
+use Rattle.mv_alone.specs.Changes.{updated}
 use Rattle.mv_serial.specs.Undoing.{KeepsUndo}
 use Rattle.mv_serial.proofs.Undone.{Tables}
 

@@ -1,13 +1,2 @@
-pub mod Outcome
-pub mod Env
-pub mod Value
-pub mod Rows
-pub mod Changes
-pub mod Line
-pub mod Alone
-pub mod Executed
-pub mod TableAfter
-pub mod Spans
 pub mod Undoing
-pub mod Once
 pub mod Typed

@@ -7,8 +7,8 @@ use Rattle.mv_values.specs.Tables.{rows_at}
 use Rattle.mv_serial.specs.declared.undo.Was.{Was}
 use Rattle.mv_serial.specs.declared.undo.Was.TheVariants.{Other, Absent, Present}
 use Rattle.mv_serial.specs.declared.undo.Undo.{Undo}
-use Rattle.mv_serial.specs.declared.state.Stop.{Stop}
-use Rattle.mv_serial.specs.declared.state.Stop.TheVariants.{Memory, Ended}
+use Rattle.mv_alone.specs.declared.state.Stop.{Stop}
+use Rattle.mv_alone.specs.declared.state.Stop.TheVariants.{Memory, Ended}
 
 -- the rows of a table before the change
 abbrev pub undo_rows : Was → List Keyed → List Keyed

@@ -1,24 +1,24 @@
 //! Whole calls, one after another.
 
 ghost use Rattle.std.specs.Prelude.{◌≡◌, IfOk, length, replicate};
-ghost use Rattle.mv_serial.specs.Alone.{alone};
-ghost use Rattle.mv_serial.specs.Executed.{counted};
+ghost use Rattle.mv_alone.specs.Alone.{alone};
+ghost use Rattle.mv_alone.specs.Executed.{counted};
 ghost use Rattle.mv_values.specs.Tables.{KeysStand};
 ghost use Rattle.mv_catalog.specs.Fits.{Fits};
 ghost use Rattle.mv_catalog.specs.Text.{FitsText};
 ghost use Rattle.mv_serial.specs.Typed.{TablesTyped};
-ghost use Rattle.mv_serial.specs.TableAfter.{argument_held, no_reply, outcome, executed, entered, begun, tables_left, reply_in, table_after, call_order, IsOrder, RepliesOf, OthersSilent, StoppedUnchanged, CountsOf};
+ghost use Rattle.mv_alone.specs.TableAfter.{no_reply, outcome, executed, begun, tables_left, reply_in, table_after, call_order, IsOrder, RepliesOf, OthersSilent, StoppedUnchanged, CountsOf};
 
-use crate::state::{Env, Held, State, Stop};
 use crate::statements::run_all;
 use crate::undo::undo_all;
+use mv_alone::enter::variables_for;
+use mv_alone::state::{State, Stop};
 use mv_catalog::resolved::{ProcInfo, Program};
-use mv_values::calls::{Argument, Call, Reply};
+use mv_values::calls::{Call, Reply};
 use mv_values::copied::Copied;
 use mv_values::list::List;
 use mv_values::memory::NoMemory;
 use mv_values::rows::Database;
-use mv_values::value::Value;
 use std::alloc::Global;
 
 /// What calls leave that ran alone: the reply of each call by its number, and the database after the last.
@@ -44,31 +44,6 @@ struct Left {
     steps: usize,
 }
 
-fn held(alloc: Global, argument: &Argument) -> Result<Held, NoMemory>
-    ensures { IfOk result (λ h. h ≡ argument_held argument.now) }
-{
-    match argument {
-        Argument::One(v) => Ok(Held::Scalar(v.copy(alloc)?)),
-        Argument::Many(rows) => Ok(Held::Turns(rows.copy(alloc)?)),
-    }
-}
-
-/// The variables that a call begins with.
-fn enter(alloc: Global, procedure: &ProcInfo, call: &Call) -> Result<Env, NoMemory>
-    ensures { IfOk result (λ env. env ≡ entered procedure.now call.now) }
-{
-    let mut all = List::new(alloc);
-    for argument in call.arguments.as_slice() {
-        all.push(held(alloc, argument)?)?;
-    }
-    for value in procedure.defaults.as_slice() {
-        all.push(Held::Scalar(value.copy(alloc)?))?;
-    }
-    let found = all.len();
-    all.push(Held::Scalar(Value::Int(0)))?;
-    Ok(Env { held: all, found })
-}
-
 /// Runs a call of a procedure. Where it is rolled back, its changes are taken back.
 fn run_procedure(
     alloc: Global,
@@ -83,7 +58,7 @@ fn run_procedure(
     ensures steps { IfOk result (λ l. l.steps ≡ counted program.now.resolved.tables procedure.now.body (begun procedure.now call.now tables)) }
     ensures keys { IfOk result (λ l. KeysStand program.now.resolved.tables l.tables) }
 {
-    let env = enter(alloc, procedure, call)?;
+    let env = variables_for(alloc, procedure, call)?;
     let lines = List::new(alloc);
     let mut state = State { env, tables, lines };
     let mut undo = List::new(alloc);

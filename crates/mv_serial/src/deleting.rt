@@ -2,16 +2,16 @@
 
 ghost use Rattle.std.specs.Prelude.{◌≡◌, slice_set, OnOk};
 ghost use Rattle.mv_values.specs.Tables.{rows_at, KeysStand};
-ghost use Rattle.mv_serial.specs.Outcome.{Leaves};
-ghost use Rattle.mv_serial.specs.Changes.{without, OthersStay};
-ghost use Rattle.mv_serial.specs.Alone.{delete};
-ghost use Rattle.mv_serial.specs.Spans.{HoldsMatches};
+ghost use Rattle.mv_alone.specs.Outcome.{Leaves};
+ghost use Rattle.mv_alone.specs.Changes.{without, OthersStay};
+ghost use Rattle.mv_alone.specs.Alone.{delete};
+ghost use Rattle.mv_alone.specs.Spans.{HoldsMatches};
 ghost use Rattle.mv_serial.specs.Undoing.{KeepsUndo, StaysUndoable};
 
-use crate::env::set_found;
-use crate::find::{Span, checks_from, has_match, is_match, near_matches, rows_in, span_in};
-use crate::state::{Check, State, Stop};
 use crate::undo::{Undo, remove_row};
+use mv_alone::env::set_found;
+use mv_alone::find::{Span, checks_from, has_match, is_match, near_matches, rows_in, span_in};
+use mv_alone::state::{Check, State, Stop};
 use mv_catalog::resolved::RCond;
 use mv_values::list::List;
 use mv_values::memory::NoMemory;

@@ -1,62 +1,25 @@
 //! INSERT.
 
-ghost use Rattle.std.specs.Prelude.{◌≡◌, Ok, IfOk, OnOk, MatchResult, slice_set};
+ghost use Rattle.std.specs.Prelude.{Ok, OnOk, MatchResult, slice_set};
 ghost use Rattle.mv_values.specs.Keys.{IsRising, IsPlaceOf, IsGapFor};
-ghost use Rattle.mv_values.specs.Columns.{columns_of};
 ghost use Rattle.mv_values.specs.Tables.{rows_at, KeysStand};
-ghost use Rattle.mv_serial.specs.Outcome.{Gives, Leaves, then_do};
-ghost use Rattle.mv_serial.specs.Changes.{new_row, put_row, keyed, OthersStay};
-ghost use Rattle.mv_serial.specs.Alone.{insert};
+ghost use Rattle.mv_alone.specs.Outcome.{Leaves, then_do};
+ghost use Rattle.mv_alone.specs.Changes.{put_row, OthersStay};
+ghost use Rattle.mv_alone.specs.Alone.{insert};
 ghost use Rattle.mv_serial.specs.Undoing.{StaysUndoable};
 
-use crate::change::fit_to;
-use crate::env::{column, set_found};
-use crate::expr::value;
-use crate::find::{columns_in, key_in};
-use crate::state::{Env, State, Stop};
 use crate::undo::{Undo, add_row};
+use mv_alone::env::set_found;
+use mv_alone::find::{columns_in, key_in};
+use mv_alone::made::{made_row, under_key};
+use mv_alone::state::{State, Stop};
 use mv_catalog::resolved::RExpr;
 use mv_values::calls::End;
 use mv_values::list::List;
-use mv_values::memory::NoMemory;
 use mv_values::rows::{Database, Keyed};
-use mv_values::schema::{Column, TableInfo};
-use mv_values::value::{Key, Row, Value};
+use mv_values::schema::TableInfo;
+use mv_values::value::Value;
 use std::alloc::Global;
-
-/// The values of a new row, each fitted to its column.
-fn made_row(alloc: Global, columns: &[Column], exprs: &[RExpr], env: &Env) -> Result<Row, Stop>
-    ensures { Gives result (new_row columns.now exprs.now env.now) }
-{
-    let mut row = List::new(alloc);
-    for (i, column) in columns.iter().enumerate() {
-        let Some(expr) = exprs.get(i) else {
-            return Ok(row);
-        };
-        let v = value(alloc, expr, env, &[])?;
-        row.push(fit_to(column.kind, v)?)?;
-    }
-    Ok(row)
-}
-
-/// The key of a row: its values of the key columns.
-fn key_from(alloc: Global, keys: &[u8], row: &[Value]) -> Result<Key, NoMemory>
-    ensures { IfOk result (λ key. key ≡ columns_of row.now keys.now) }
-{
-    let mut key = List::new(alloc);
-    for c in keys {
-        key.push(column(alloc, row, *c as u16)?)?;
-    }
-    Ok(key)
-}
-
-/// A row under its key.
-fn under_key(alloc: Global, keys: &[u8], row: Row) -> Result<Keyed, NoMemory>
-    ensures { IfOk result (λ item. item ≡ keyed keys.now row) }
-{
-    let key = key_from(alloc, keys, row.as_slice())?;
-    Ok(Keyed { key, row })
-}
 
 /// The place of the row with the key, or the place at which it would stand.
 fn place_in(tables: &Database, table: u16, key: &[Value]) -> Result<usize, usize>

@@ -4,17 +4,10 @@
 pub mod calls;
 mod change;
 mod deleting;
-mod env;
-mod expr;
-mod find;
-mod fixing;
 mod inserting;
-mod line;
-mod order;
 #[cfg(test)]
 mod programs;
 mod run;
-pub mod state;
 mod statements;
 #[cfg(test)]
 mod tests;

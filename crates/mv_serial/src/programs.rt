@@ -5,8 +5,8 @@ ghost use Rattle.mv_values.specs.Printable.{IsPrintable};
 ghost use Rattle.mv_catalog.specs.Fits.{Fits};
 
 use crate::calls::{Counted, run_counted};
-use crate::line::line_from;
 use Word::{Col, Field, Int, One, Text, Two, Var};
+use mv_alone::line::line_from;
 use mv_ast::tree::{OneOp, TwoOp};
 use mv_catalog::resolved::{
     ParamInfo, ProcInfo, Program, RAgg, RCond, RExpr, RExprKind, RSetItem, RSort, RStmt, Resolved,

@@ -1,37 +1,24 @@
 //! What each statement does.
 
-ghost use Rattle.std.specs.Prelude.{◌≡◌, ◌++◌, drop, Ok, OnOk};
+ghost use Rattle.std.specs.Prelude.{◌≡◌, OnOk};
 ghost use Rattle.mv_values.specs.Tables.{KeysStand};
-ghost use Rattle.mv_serial.specs.Outcome.{Gives, Leaves};
-ghost use Rattle.mv_serial.specs.Value.{values_of};
-ghost use Rattle.mv_serial.specs.Alone.{offset_of, assign, select, update, print};
-ghost use Rattle.mv_serial.specs.Changes.{OthersStay};
+ghost use Rattle.mv_alone.specs.Outcome.{Leaves};
+ghost use Rattle.mv_alone.specs.Alone.{assign, select, update, print};
+ghost use Rattle.mv_alone.specs.Changes.{OthersStay};
 ghost use Rattle.mv_serial.specs.Undoing.{StaysUndoable};
 
 use crate::change::update_rows;
-use crate::env::{set, set_columns, set_found};
-use crate::expr::{number_in, value};
-use crate::find::{checks_from, columns_in, has_match, key_in, near_matches, span_in};
-use crate::line::line_from;
-use crate::order::chosen;
-use crate::state::{Env, State, Stop};
 use crate::undo::Undo;
+use mv_alone::env::{set_columns, set_found, set_value};
+use mv_alone::expr::{number_in, offset, value, values};
+use mv_alone::find::{checks_from, columns_in, has_match, key_in, near_matches, span_in};
+use mv_alone::line::line_from;
+use mv_alone::order::chosen_row;
+use mv_alone::state::{State, Stop};
 use mv_catalog::resolved::{RCond, RExpr, RSetItem, RSort};
 use mv_values::list::List;
 use mv_values::schema::TableInfo;
-use mv_values::value::{Row, Value};
 use std::alloc::Global;
-
-/// The values of expressions, in order.
-fn values(alloc: Global, exprs: &[RExpr], env: &Env) -> Result<Row, Stop>
-    ensures { Gives result (values_of exprs.now env.now) }
-{
-    let mut all = List::new(alloc);
-    for expr in exprs {
-        all.push(value(alloc, expr, env, &[])?)?;
-    }
-    Ok(all)
-}
 
 /// SET.
 pub(crate) fn run_assign(
@@ -44,17 +31,8 @@ pub(crate) fn run_assign(
     ensures tables { state.new.tables ≡ state.old.tables }
 {
     let v = value(alloc, right, &state.env, &[])?;
-    set(&mut state.env, to, v)?;
+    set_value(&mut state.env, to, v)?;
     Ok(())
-}
-
-fn offset(alloc: Global, offset: &Option<RExpr>, env: &Env) -> Result<Value, Stop>
-    ensures { Gives result (offset_of offset.now env.now) }
-{
-    match offset {
-        None => Ok(Value::Int(0)),
-        Some(e) => value(alloc, e, env, &[]),
-    }
 }
 
 /// SELECT INTO.
@@ -76,7 +54,7 @@ pub(crate) fn run_select(
     let checks = checks_from(alloc, conds, &state.env)?;
     let at = offset(alloc, skip, &state.env)?;
     let near = near_matches(infos, &state.tables, table, checks.as_slice());
-    let found = chosen(alloc, checks.as_slice(), sorts, near, number_in(&at))?;
+    let found = chosen_row(alloc, checks.as_slice(), sorts, near, number_in(&at))?;
     match found {
         None => set_found(&mut state.env, false)?,
         Some(item) => {

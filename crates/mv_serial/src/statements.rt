@@ -2,22 +2,22 @@
 
 ghost use Rattle.std.specs.Prelude.{◌≡◌, ◌+◌, ◌++◌, [], drop, Ok, OnOk};
 ghost use Rattle.mv_values.specs.Tables.{KeysStand};
-ghost use Rattle.mv_serial.specs.Outcome.{Gives, Leaves, Rises, then_do};
-ghost use Rattle.mv_serial.specs.Value.{value_of, is_so};
-ghost use Rattle.mv_serial.specs.Alone.{alone, does, loop_over, for_rows, for_select};
-ghost use Rattle.mv_serial.specs.Executed.{count, counted, count_loop, count_rows, count_select};
+ghost use Rattle.mv_alone.specs.Outcome.{Gives, Leaves, Rises, then_do};
+ghost use Rattle.mv_alone.specs.Value.{value_of, is_so};
+ghost use Rattle.mv_alone.specs.Alone.{alone, does, loop_over, for_rows, for_select};
+ghost use Rattle.mv_alone.specs.Executed.{count, counted, count_loop, count_rows, count_select};
 ghost use Rattle.mv_serial.specs.Undoing.{StaysUndoable};
 
 use crate::deleting::run_delete;
-use crate::env::{copied_turns, set_found, set_held};
-use crate::expr::{holds, value};
-use crate::find::{checks_from, near_matches};
-use crate::fixing::fixed_rows;
 use crate::inserting::run_insert;
 use crate::run::{run_assign, run_print, run_select, run_update};
-use crate::state::{Env, Held, State, Stop};
 use crate::totals::run_total;
 use crate::undo::Undo;
+use mv_alone::env::{copied_turns, set_found, set_held};
+use mv_alone::expr::{holds, value};
+use mv_alone::find::{checks_from, near_matches};
+use mv_alone::fixing::fixed_rows;
+use mv_alone::state::{Env, Held, State, Stop};
 use mv_catalog::resolved::{RCond, RExpr, RSort, RStmt};
 use mv_values::calls::End;
 use mv_values::copied::Copied;

@@ -5,7 +5,7 @@ use Rattle.std.specs.Prelude.{slice_get, slice_index}
 use Rattle.std.specs.List.{flat_map}
 use Rattle.mv_journal.specs.declared.event.Event.{Event}
 use Rattle.mv_top.specs.History.{commits, start_after, commit_after, start_of, commit_of, turn}
-use Rattle.mv_serial.specs.TableAfter.{first_numbers}
+use Rattle.mv_alone.specs.TableAfter.{first_numbers}
 use Rattle.mv_top.proofs.Numbers.{numbers_from, first_numbers_are}
 
 commits_from : (a n : ℕ) → commits (flat_map turn (numbers_from a n)) ≡ numbers_from a n

@@ -10,7 +10,7 @@ use Rattle.mv_journal.specs.declared.outcome.Mark.TheVariants.{Plain}
 use Rattle.mv_journal.specs.declared.outcome.HistoryLine.{HistoryLine}
 use Rattle.mv_journal.specs.declared.outcome.Outcome.{Outcome}
 use Rattle.mv_catalog.specs.declared.resolved.Program.{Program}
-use Rattle.mv_serial.specs.TableAfter.{table_after, reply_of, executed, call_order, first_numbers, RepliesOf, CountsOf}
+use Rattle.mv_alone.specs.TableAfter.{table_after, reply_of, executed, call_order, first_numbers, RepliesOf, CountsOf}
 use Rattle.mv_top.specs.History.{commits, start_of, commit_of, history_line, outcome_of, turn, in_turn}
 use Rattle.mv_top.specs.Turns.{turn_line, turn_lines}
 use Rattle.mv_top.proofs.Numbers.{length_numbers, index_numbers, same_numbers}

@@ -6,7 +6,7 @@ use Rattle.mv_values.specs.declared.rows.Keyed.{Keyed}
 use Rattle.mv_values.specs.declared.calls.Reply.{Reply}
 use Rattle.mv_catalog.specs.declared.resolved.Program.{Program}
 use Rattle.mv_report.specs.Serial.{serial_text}
-use Rattle.mv_serial.specs.TableAfter.{table_after, reply_of, call_order, first_numbers, IsOrder, RepliesOf}
+use Rattle.mv_alone.specs.TableAfter.{table_after, reply_of, call_order, first_numbers, IsOrder, RepliesOf}
 use Rattle.mv_top.specs.Serial.{serial_replies, serial}
 use Rattle.mv_top.proofs.Numbers.{length_numbers, index_numbers, told_numbers}
 

@@ -10,7 +10,7 @@ use Rattle.mv_journal.specs.declared.outcome.Round.{Round}
 use Rattle.mv_journal.specs.declared.outcome.HistoryLine.{HistoryLine}
 use Rattle.mv_journal.specs.declared.outcome.Outcome.{Outcome}
 use Rattle.mv_catalog.specs.declared.resolved.Program.{Program}
-use Rattle.mv_serial.specs.TableAfter.{table_after, reply_of, executed, call_order}
+use Rattle.mv_alone.specs.TableAfter.{table_after, reply_of, executed, call_order}
 use Rattle.mv_report.specs.Text.{text_of}
 
 -- the calls in the order of their commits

@@ -3,7 +3,7 @@
 ghost use Rattle.std.specs.Prelude.{◌≡◌, ◌≤◌, length, IfOk};
 ghost use Rattle.mv_accept.specs.Accepting.{most_calls};
 ghost use Rattle.mv_catalog.specs.Fits.{Fits};
-ghost use Rattle.mv_serial.specs.TableAfter.{first_numbers};
+ghost use Rattle.mv_alone.specs.TableAfter.{first_numbers};
 ghost use Rattle.mv_top.specs.Serial.{serial};
 
 use mv_catalog::resolved::Program;

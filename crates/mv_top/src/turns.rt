@@ -4,7 +4,7 @@ ghost use Rattle.std.specs.Prelude.{◌≡◌, ◌≤◌, ◌<◌, ◌^◌, leng
 ghost use Rattle.std.specs.List.{flat_map};
 ghost use Rattle.mv_catalog.specs.Fits.{Fits};
 ghost use Rattle.mv_accept.specs.Accepting.{most_calls};
-ghost use Rattle.mv_serial.specs.TableAfter.{first_numbers};
+ghost use Rattle.mv_alone.specs.TableAfter.{first_numbers};
 ghost use Rattle.mv_top.specs.History.{outcome_of, in_turn, turn};
 ghost use Rattle.mv_top.specs.Turns.{turn_line, turn_lines};
 

@@ -1,7 +1,7 @@
 use Rattle.std.proofs.Common.{◌≡◌, rules, length, ap, sym, subst, ◌∙◌}
 use Rattle.mv_serial.proofs.Numbers.{length_map_numbers}
 use Rattle.mv_serial.proofs.InOrder.{reply_to, count_of, tables_told, replies_told, counts_told}
-use Rattle.mv_serial.specs.TableAfter.{call_order}
+use Rattle.mv_alone.specs.TableAfter.{call_order}
 use Rattle.mv_serial.proofs.Lawful.{stopped_unchanged}
 use Rattle.mv_serial.proofs.CallsTyped.{after_typed}
 use Rattle.mv_serial.specs.Typed.{TablesTyped}

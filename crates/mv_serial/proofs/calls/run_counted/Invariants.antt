@@ -1,6 +1,6 @@
 use Rattle.std.proofs.Common.{◌≡◌, map}
 use Rattle.mv_values.specs.Tables.{KeysStand}
-use Rattle.mv_serial.specs.TableAfter.{first_numbers}
+use Rattle.mv_alone.specs.TableAfter.{first_numbers}
 use Rattle.mv_serial.proofs.InOrder.{after, reply_to, count_of}
 use Rattle.mv_serial.proofs.calls.run_counted.Given as goal
 

@@ -4,9 +4,9 @@ use Rattle.std.proofs.lemmas.Grind.{drop_more_same}
 use Rattle.mv_values.specs.declared.rows.Keyed.{Keyed}
 use Rattle.mv_values.specs.Keys.{with_row}
 use Rattle.mv_values.specs.Tables.{rows_at}
-use Rattle.mv_serial.specs.Outcome.{then_do}
-use Rattle.mv_serial.specs.Rows.{meets}
-use Rattle.mv_serial.specs.Changes.{set_row, updated}
+use Rattle.mv_alone.specs.Outcome.{then_do}
+use Rattle.mv_alone.specs.Rows.{meets}
+use Rattle.mv_alone.specs.Changes.{set_row, updated}
 use Rattle.mv_serial.proofs.Undone.{table_within, length_with_row}
 use Rattle.mv_serial.proofs.Updating.{New, updated_start, updated_end, turn_made, set_rows, set_again, keeps_on, keeps_all, drop_with_row}
 use Rattle.mv_serial.proofs.change.update_rows.Goals as goal

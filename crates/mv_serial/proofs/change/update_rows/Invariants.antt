@@ -1,7 +1,7 @@
 use Rattle.std.proofs.Common.{◌≡◌, ◌≤◌, ◌++◌, Ok, length, take, drop, slice_set}
 use Rattle.mv_values.specs.Tables.{rows_at}
-use Rattle.mv_serial.specs.Outcome.{then_do}
-use Rattle.mv_serial.specs.Changes.{set_row, updated}
+use Rattle.mv_alone.specs.Outcome.{then_do}
+use Rattle.mv_alone.specs.Changes.{set_row, updated}
 use Rattle.mv_serial.specs.Undoing.{KeepsUndo}
 use Rattle.mv_serial.proofs.change.update_rows.Given as goal
 

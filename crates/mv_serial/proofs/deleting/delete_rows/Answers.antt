@@ -2,7 +2,7 @@ use Rattle.std.proofs.Common.{rules, ◌≡◌, suc, true, false, List, [], slic
 use Rattle.std.proofs.lemmas.List.{set-get_or}
 use Rattle.mv_values.specs.declared.rows.Keyed.{Keyed}
 use Rattle.mv_values.specs.Tables.{rows_at}
-use Rattle.mv_serial.specs.Rows.{meets, matching}
+use Rattle.mv_alone.specs.Rows.{meets, matching}
 use Rattle.mv_serial.proofs.Removing.{done_start, done_end, done_kept, done_gone}
 use Rattle.mv_serial.proofs.Undone.{table_within}
 use Rattle.mv_serial.proofs.Updating.{keeps_all, keeps_on, set_rows, set_again}

@@ -1,6 +1,6 @@
 use Rattle.std.proofs.Common.{Ok, slice_set, sym, ap, ◌∙◌}
 use Rattle.mv_values.specs.Tables.{rows_at}
-use Rattle.mv_serial.specs.Outcome.{then_do}
+use Rattle.mv_alone.specs.Outcome.{then_do}
 use Rattle.mv_serial.proofs.Placing.{put_gap, put_there, rising_insert}
 use Rattle.mv_serial.proofs.inserting.put_new.Goals as goal
 

@@ -2,7 +2,7 @@ use Rattle.std.proofs.Common.{sym, ap, ◌∙◌}
 use Rattle.mv_values.specs.declared.rows.Keyed.{Keyed}
 use Rattle.mv_values.specs.Tables.{key_columns, rows_at}
 use Rattle.mv_values.specs.Columns.{columns_of}
-use Rattle.mv_serial.specs.Changes.{put_row}
+use Rattle.mv_alone.specs.Changes.{put_row}
 use Rattle.mv_serial.proofs.Lawful.{others_stay}
 use Rattle.mv_serial.proofs.Standing.{insert_stands}
 use Rattle.mv_serial.proofs.inserting.run_insert.Goals as goal

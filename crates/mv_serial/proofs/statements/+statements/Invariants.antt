@@ -1,7 +1,7 @@
 use Rattle.std.proofs.Common.{◌≡◌, ◌+◌, drop}
 use Rattle.mv_values.specs.Tables.{KeysStand}
-use Rattle.mv_serial.specs.Alone.{alone, each_turn, loop_over}
-use Rattle.mv_serial.specs.Executed.{counted, count_turns, count_loop}
+use Rattle.mv_alone.specs.Alone.{alone, each_turn, loop_over}
+use Rattle.mv_alone.specs.Executed.{counted, count_turns, count_loop}
 use Rattle.mv_serial.specs.Undoing.{KeepsUndo}
 use Rattle.mv_serial.proofs.statements.+statements.Given as goal
 

@@ -1,6 +1,6 @@
 use Rattle.std.proofs.Common.{◌≡◌}
 use Rattle.std.specs.List.{flat_map}
-use Rattle.mv_serial.specs.TableAfter.{first_numbers}
+use Rattle.mv_alone.specs.TableAfter.{first_numbers}
 use Rattle.mv_top.specs.History.{turn}
 use Rattle.mv_top.proofs.turns.journal_of.Given as goal
 

@@ -1,0 +1,69 @@
+-- What the variables of a call hold.
+use Rattle.std.specs.Prelude.{ℕ, zero, suc, pos, Bool, List, [], ◌∷◌, slice_index_or, if◌then◌else◌}
+use Rattle.mv_values.specs.declared.value.Value.{Value}
+use Rattle.mv_values.specs.declared.value.Value.TheVariants.{Int}
+use Rattle.mv_alone.specs.declared.state.Held.{Held}
+use Rattle.mv_alone.specs.declared.state.Held.TheVariants.{Scalar, Turn, Turns}
+use Rattle.mv_alone.specs.declared.state.Env.{Env}
+
+-- a variable that was never set holds 0
+abbrev pub unset : Held
+unset = Scalar (Int (pos 0))
+
+abbrev pub held_at : Env → ℕ → Held
+held_at env x = slice_index_or env.held x unset
+
+abbrev pub scalar_in : Held → Value
+scalar_in (Scalar v) = v
+scalar_in (Turn row) = Int (pos 0)
+scalar_in (Turns rows) = Int (pos 0)
+
+abbrev pub turn_in : Held → List Value
+turn_in (Scalar v) = []
+turn_in (Turn row) = row
+turn_in (Turns rows) = []
+
+abbrev pub turns_in : Held → List (List Value)
+turns_in (Scalar v) = []
+turns_in (Turn row) = []
+turns_in (Turns rows) = rows
+
+-- the value of a variable
+abbrev pub scalar_at : Env → ℕ → Value
+scalar_at env x = scalar_in (held_at env x)
+
+-- the row of a loop
+abbrev pub turn_at : Env → ℕ → List Value
+turn_at env x = turn_in (held_at env x)
+
+-- the rows of a ROWS parameter
+abbrev pub turns_at : Env → ℕ → List (List Value)
+turns_at env x = turns_in (held_at env x)
+
+-- the list with this at the place, made longer where it ends before
+abbrev pub put_at : List Held → ℕ → Held → List Held
+put_at [] zero h = h ∷ []
+put_at [] (suc x) h = unset ∷ put_at [] x h
+put_at (g ∷ gs) zero h = h ∷ gs
+put_at (g ∷ gs) (suc x) h = g ∷ put_at gs x h
+
+abbrev pub with_held : Env → ℕ → Held → Env
+with_held env x h = record env { held = put_at env.held x h }
+
+-- sets a variable
+abbrev pub with_value : Env → ℕ → Value → Env
+with_value env x v = with_held env x (Scalar v)
+
+-- sets variables in order
+abbrev pub with_values : Env → List ℕ → List Value → Env
+with_values env [] vs = env
+with_values env (x ∷ xs) [] = env
+with_values env (x ∷ xs) (v ∷ vs) = with_values (with_value env x v) xs vs
+
+-- 1 or 0
+abbrev pub truth : Bool → Value
+truth b = Int (if b then pos 1 else pos 0)
+
+-- sets `:found`
+abbrev pub with_found : Env → Bool → Env
+with_found env b = with_value env env.found (truth b)

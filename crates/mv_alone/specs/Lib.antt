@@ -1,0 +1,11 @@
+pub mod Outcome
+pub mod Env
+pub mod Value
+pub mod Rows
+pub mod Changes
+pub mod Line
+pub mod Alone
+pub mod Executed
+pub mod TableAfter
+pub mod Spans
+pub mod Once

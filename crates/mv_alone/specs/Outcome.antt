@@ -1,0 +1,31 @@
+-- Going on with a value, or stopping.
+use Rattle.std.specs.Prelude.{◌≡◌, ℕ, ◌+◌, Result, Ok, Err}
+use Rattle.mv_values.specs.declared.calls.End.{End}
+use Rattle.mv_alone.specs.declared.state.Stop.{Stop}
+use Rattle.mv_alone.specs.declared.state.Stop.TheVariants.{Memory, Ended}
+
+-- goes on with the value, or stops
+abbrev pub then_do : {A B : Type 0} → Result A End → (A → Result B End) → Result B End
+then_do (Ok x) go = go x
+then_do (Err e) go = Err e
+
+-- the end is the one that is meant, unless memory ran out
+abbrev pub Fails : {A : Type 0} → Stop → Result A End → Type 0
+Fails Memory meant = Unit {0}
+Fails (Ended e) meant = meant ≡ Err e
+
+-- the answer is the one that is meant, unless memory ran out
+abbrev pub Gives : {A : Type 0} → Result A Stop → Result A End → Type 0
+Gives (Ok x) meant = meant ≡ Ok x
+Gives (Err s) meant = Fails s meant
+
+-- the same of a function that changes a state in its place
+abbrev pub Leaves : {A : Type 0} → Result (Unit {0}) Stop → A → Result A End → Type 0
+Leaves (Ok x) new meant = meant ≡ Ok new
+Leaves (Err s) new meant = Fails s meant
+
+-- a count rose by so much, unless memory ran out
+abbrev pub Rises : Result (Unit {0}) Stop → ℕ → ℕ → ℕ → Type 0
+Rises (Ok x) old by new = new ≡ old + by
+Rises (Err Memory) old by new = Unit {0}
+Rises (Err (Ended e)) old by new = new ≡ old + by

@@ -1,0 +1,155 @@
+-- The rows of a table: which ones match, in what order they stand, what they add up to, and what becomes of them.
+use Rattle.std.specs.Prelude.{ℕ, ℤ, pos, negsuc, ◌+ℤ◌, Bool, true, false, ◌&&◌, List, [], ◌∷◌, Option, Some, None, Result, Ok, Err, map, length, slice_get, if◌then◌else◌, nat_le}
+use Rattle.std.specs.List.{filter}
+use Rattle.std.specs.Ordering.{is_gt, is_le, ordering_reverse}
+use Rattle.std.specs.declared.cmp.Ordering.{Ordering}
+use Rattle.std.specs.declared.cmp.Ordering.TheVariants.{Less, Equal, Greater}
+use Rattle.mv_values.specs.declared.value.Value.{Value}
+use Rattle.mv_values.specs.declared.value.Value.TheVariants.{Int, Text}
+use Rattle.mv_values.specs.declared.rows.Keyed.{Keyed}
+use Rattle.mv_values.specs.declared.schema.ColType.{ColType}
+use Rattle.mv_values.specs.declared.schema.ColType.TheVariants as kind
+use Rattle.mv_values.specs.declared.schema.Column.{Column}
+use Rattle.mv_values.specs.declared.calls.End.{End}
+use Rattle.mv_values.specs.declared.calls.End.TheVariants.{TooLong}
+use Rattle.mv_values.specs.Comparing.{op_holds}
+use Rattle.mv_values.specs.Order.{value_order, key_order}
+use Rattle.mv_values.specs.Columns.{column_of, columns_of}
+use Rattle.mv_catalog.specs.declared.resolved.RCond.{RCond}
+use Rattle.mv_catalog.specs.declared.resolved.RSort.{RSort}
+use Rattle.mv_catalog.specs.declared.resolved.RAgg.{RAgg}
+use Rattle.mv_catalog.specs.declared.resolved.RAgg.TheVariants.{CountAll, CountDistinct, Sum, Min, Max}
+use Rattle.mv_alone.specs.declared.state.Check.{Check}
+use Rattle.mv_alone.specs.declared.state.Env.{Env}
+use Rattle.mv_alone.specs.Outcome.{then_do}
+use Rattle.mv_alone.specs.Value.{value_of, number, fitted}
+
+-- the tests of WHERE with their right sides evaluated in order, before any row is looked at
+abbrev pub checks_of : List RCond → Env → Result (List Check) End
+checks_of [] env = Ok []
+checks_of (c ∷ cs) env = then_do (value_of c.right env []) (λ v. then_do (checks_of cs env) (λ checks. Ok (record { column = c.column; op = c.op; value = v } ∷ checks)))
+
+-- the row passes the test
+abbrev pub passes : List Value → Check → Bool
+passes row check = op_holds check.op (value_order (column_of row check.column) check.value)
+
+-- the row passes every test
+abbrev pub meets : List Check → List Value → Bool
+meets [] row = true
+meets (check ∷ checks) row = passes row check && meets checks row
+
+-- the rows that match, in key order
+abbrev pub matching : List Check → List Keyed → List Keyed
+matching checks rows = filter (λ item. meets checks item.row) rows
+
+abbrev pub is_some_row : List Keyed → Bool
+is_some_row [] = false
+is_some_row (item ∷ items) = true
+
+-- goes on to the next order where the first one ties
+abbrev pub then_by : Ordering → Ordering → Ordering
+then_by Less other = Less
+then_by Equal other = other
+then_by Greater other = Greater
+
+-- how a row stands to another by ORDER BY, ties by key
+abbrev pub sort_order : List RSort → Keyed → Keyed → Ordering
+sort_order [] a b = key_order a.key b.key
+sort_order (s ∷ ss) a b =
+    let up = value_order (column_of a.row s.column) (column_of b.row s.column) in
+    then_by (if s.descending then ordering_reverse up else up) (sort_order ss a b)
+
+-- puts a thing before the first that isn't less
+abbrev pub put_in : {A : Type 0} → (A → A → Ordering) → A → List A → List A
+put_in order x [] = x ∷ []
+put_in order x (y ∷ ys) = if is_gt (order x y) then y ∷ put_in order x ys else x ∷ y ∷ ys
+
+-- the list in this order
+abbrev pub sorted : {A : Type 0} → (A → A → Ordering) → List A → List A
+sorted order [] = []
+sorted order (x ∷ xs) = put_in order x (sorted order xs)
+
+-- the rows in ORDER BY order
+abbrev pub ordered : List RSort → List Keyed → List Keyed
+ordered sorts rows = sorted (sort_order sorts) rows
+
+-- the row at a place from 0 on, none at a negative one
+abbrev pub item_at : List Keyed → ℤ → Option Keyed
+item_at rows (pos n) = slice_get rows n
+item_at rows (negsuc n) = None
+
+-- the place of x by how it stands to y
+abbrev pub put_by : Ordering → List Value → List Value → List (List Value) → List (List Value) → List (List Value)
+put_by Less x y ys later = x ∷ y ∷ ys
+put_by Equal x y ys later = y ∷ ys
+put_by Greater x y ys later = y ∷ later
+
+-- puts a row into its place, unless it is there
+abbrev pub put_once : List Value → List (List Value) → List (List Value)
+put_once x [] = x ∷ []
+put_once x (y ∷ ys) = put_by (key_order x y) x y ys (put_once x ys)
+
+-- each row once, in the order of their values
+abbrev pub distinct : List (List Value) → List (List Value)
+distinct [] = []
+distinct (x ∷ xs) = put_once x (distinct xs)
+
+-- the rows with these columns alone
+abbrev pub projected : List ℕ → List Keyed → List (List Value)
+projected cs rows = map (λ item. columns_of item.row cs) rows
+
+-- the values of a column
+abbrev pub column : ℕ → List Keyed → List Value
+column c rows = map (λ item. column_of item.row c) rows
+
+-- the sum of numbers
+abbrev pub sum_of : List Value → ℤ
+sum_of [] = pos 0
+sum_of (v ∷ vs) = number v +ℤ sum_of vs
+
+-- the lesser of a value and what is there
+abbrev pub lesser : Value → Option Value → Value
+lesser v None = v
+lesser v (Some w) = if is_le (value_order v w) then v else w
+
+abbrev pub greater : Value → Option Value → Value
+greater v None = v
+greater v (Some w) = if is_le (value_order v w) then w else v
+
+abbrev pub least : List Value → Option Value
+least [] = None
+least (v ∷ vs) = Some (lesser v (least vs))
+
+abbrev pub greatest : List Value → Option Value
+greatest [] = None
+greatest (v ∷ vs) = Some (greater v (greatest vs))
+
+-- a number as a total
+abbrev pub total : ℤ → Result (Option Value) End
+total z = then_do (fitted z) (λ v. Ok (Some v))
+
+-- what an aggregate gives: MIN and MAX give nothing for no rows
+abbrev pub aggregate : RAgg → List Keyed → Result (Option Value) End
+aggregate CountAll rows = total (pos (length rows))
+aggregate (CountDistinct c) rows = total (pos (length (distinct (projected (c ∷ []) rows))))
+aggregate (Sum c) rows = total (sum_of (column c rows))
+aggregate (Min c) rows = Ok (least (column c rows))
+aggregate (Max c) rows = Ok (greatest (column c rows))
+
+-- whether the value isn't longer than its column
+abbrev pub fits_kind : ColType → Value → Bool
+fits_kind kind.Int v = true
+fits_kind (kind.Text n) (Int z) = true
+fits_kind (kind.Text n) (Text t) = nat_le (length t) n
+
+-- the value of a column of this type, or a text too long
+abbrev pub fit_kind : ColType → Value → Result Value End
+fit_kind k v = if fits_kind k v then Ok v else Err TooLong
+
+abbrev pub fit_column : Option Column → Value → Result Value End
+fit_column None v = Ok v
+fit_column (Some c) v = fit_kind c.kind v
+
+-- the value of the column at a place, or a text too long
+abbrev pub fit : List Column → ℕ → Value → Result Value End
+fit columns c v = fit_column (slice_get columns c) v

@@ -1,0 +1,52 @@
+//! The line that PRINT adds.
+
+ghost use Rattle.std.specs.Prelude.{◌≡◌, ◌++◌, [], ◌∷◌, All, OnOk, IfOk};
+ghost use Rattle.mv_values.specs.Printable.{IsPrintable};
+ghost use Rattle.mv_alone.specs.Line.{doubled, printed, printed_after, line_of};
+
+use crate::expr::digits;
+use mv_values::memory::NoMemory;
+use mv_values::txt::Txt;
+use mv_values::value::Value;
+use std::alloc::Global;
+
+fn add_doubled(text: &mut Txt, bytes: &[u8]) -> Result<(), NoMemory>
+    requires { All IsPrintable bytes.now }
+    ensures { OnOk result (text.new ≡ text.old ++ doubled bytes.now) }
+{
+    for byte in bytes {
+        if *byte == b'\'' {
+            text.append(b"''")?;
+        } else {
+            text.append(&[*byte])?;
+        }
+    }
+    Ok(())
+}
+
+fn add_value(alloc: Global, line: &mut Txt, value: &Value) -> Result<(), NoMemory>
+    ensures { OnOk result (line.new ≡ line.old ++ printed value.now) }
+{
+    match value {
+        Value::Int(n) => line.append(digits(alloc, *n)?.as_slice()),
+        Value::Text(t) => {
+            line.append(b"'")?;
+            add_doubled(line, t.as_slice())?;
+            line.append(b"'")
+        }
+    }
+}
+
+/// The values joined by commas, texts in single quotes with each quote doubled.
+pub fn line_from(alloc: Global, values: &[Value]) -> Result<Txt, NoMemory>
+    ensures { IfOk result (λ t. t ≡ line_of values.now) }
+{
+    let mut line = Txt::new(alloc);
+    for (i, value) in values.iter().enumerate() {
+        if 0 < i {
+            line.append(b",")?;
+        }
+        add_value(alloc, &mut line, value)?;
+    }
+    Ok(line)
+}

@@ -1,0 +1,58 @@
+//! What a running call works on.
+
+use mv_values::calls::End;
+use mv_values::list::List;
+use mv_values::memory::NoMemory;
+use mv_values::op::Op;
+use mv_values::rows::Database;
+use mv_values::txt::Txt;
+use mv_values::value::{Row, Value};
+
+/// What a variable holds: a value, the row of a loop's turn, or the rows of a ROWS parameter.
+#[derive(Drop)]
+pub enum Held {
+    Scalar(Value),
+    Turn(Row),
+    Turns(List<Row>),
+}
+
+/// The variables of a call, by number, and the number of `:found`.
+#[derive(Drop)]
+pub struct Env {
+    pub held: List<Held>,
+    pub found: usize,
+}
+
+/// A call on its way: its variables, the database, and the lines that it has printed.
+#[derive(Drop)]
+pub struct State {
+    pub env: Env,
+    pub tables: Database,
+    pub lines: List<Txt>,
+}
+
+/// A test of WHERE whose right side has been evaluated.
+#[derive(Drop)]
+pub struct Check {
+    pub column: u16,
+    pub op: Op,
+    pub value: Value,
+}
+
+/// Why statements went no further: no memory was found, or the call was rolled back.
+#[derive(Drop)]
+pub enum Stop {
+    Memory,
+    Ended(End),
+}
+
+impl From<NoMemory> for Stop {
+    ghost use Rattle.std.specs.Prelude.{◌≡◌};
+    ghost use Rattle.mv_alone.specs.declared.state.Stop.TheVariants.{Memory};
+
+    ghost from_gives = { λ _ e. e ≡ Memory };
+
+    fn from(_error: NoMemory) -> Stop {
+        Stop::Memory
+    }
+}

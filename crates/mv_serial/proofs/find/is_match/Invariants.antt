@@ -1,6 +1,0 @@
-use Rattle.std.proofs.Common.{◌≡◌, drop}
-use Rattle.mv_serial.specs.Rows.{meets}
-use Rattle.mv_serial.proofs.find.is_match.Given as goal
-
-abbrev pub invariant-loop-check : goal.invariant-loop-check
-invariant-loop-check l = meets (drop l.check-index l.checks) l.row ≡ meets l.checks l.row
