@@ -1,2 +1,4 @@
 pub mod Runs
 pub mod Paths
+pub mod Writes
+pub mod Admitting

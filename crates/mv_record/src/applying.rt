@@ -1,0 +1,138 @@
+//! Writes to a database.
+
+ghost use Rattle.std.specs.Prelude.{◌≡◌, ◌<◌, ◌≤◌, length, [], List, IfOk, OnOk, OnErr, MatchResult, slice_set};
+ghost use Rattle.std.specs.Option.{option_copied};
+ghost use Rattle.mv_values.specs.declared.value.Value.{Value};
+ghost use Rattle.mv_values.specs.Keys.{IsRising, IsPlaceOf, IsGapFor};
+ghost use Rattle.mv_values.specs.Patching.{row_of, with_columns, patched, placed, patched_rows, written, applied};
+ghost use Rattle.mv_values.specs.Tables.{rows_at};
+ghost use Rattle.mv_record.specs.Writes.{HasAppliedFront};
+
+use mv_values::copied::Copied;
+use mv_values::memory::NoMemory;
+use mv_values::patch::{Assign, Patch, Write};
+use mv_values::rows::{Database, Keyed, Rows};
+use mv_values::value::{Key, Row};
+use std::alloc::Global;
+
+/// A row with columns set, in order. A column that the row doesn't have is left out.
+fn set_columns(alloc: Global, row: &Row, items: &[Assign]) -> Result<Row, NoMemory>
+    ensures { IfOk result (λ new. new ≡ with_columns items.now row.now) }
+{
+    let mut new = row.copy(alloc)?;
+    for item in items {
+        if (item.column as usize) < new.len() {
+            new.set(item.column as usize, item.value.copy(alloc)?);
+        }
+    }
+    Ok(new)
+}
+
+/// The row behind a patch of a row, or of none. It costs the size of the row.
+pub fn patch_row(alloc: Global, patch: &Patch, was: Option<&Row>) -> Result<Option<Row>, NoMemory>
+    ensures { IfOk result (λ row. row ≡ patched patch.now (option_copied was.entry)) }
+{
+    match patch {
+        Patch::Insert(row) => Ok(Some(row.copy(alloc)?)),
+        Patch::Set(items) => match was {
+            Some(row) => Ok(Some(set_columns(alloc, row, items.as_slice())?)),
+            None => Ok(None),
+        },
+        Patch::Delete => Ok(None),
+    }
+}
+
+/// The row at the place of a key.
+fn row_at(rows: &Rows, place: Result<usize, usize>) -> Option<&Row>
+    requires { MatchResult place (λ at. at < length rows.now) (λ at. at ≤ length rows.now) }
+    ensures { (key : List Value) → MatchResult place (IsPlaceOf rows.now key) (IsGapFor rows.now key) → option_copied result ≡ row_of rows.now key }
+{
+    match place {
+        Ok(at) => Some(&rows.as_slice()[at].row),
+        Err(_) => None,
+    }
+}
+
+/// The row under a key. It costs the logarithm of the number of rows.
+pub fn find_row<'a>(rows: &'a Rows, key: &Key) -> Option<&'a Row>
+    ensures { option_copied result ≡ row_of rows.now key.now }
+{
+    row_at(rows, rows.place_of(key.as_slice()))
+}
+
+/// Puts a row, or none, under a key whose place is known.
+fn put_at(
+    alloc: Global,
+    rows: &mut Rows,
+    key: &Key,
+    place: Result<usize, usize>,
+    row: Option<Row>,
+) -> Result<(), NoMemory>
+    requires rising { IsRising rows.old }
+    requires place { MatchResult place (IsPlaceOf rows.old key.now) (IsGapFor rows.old key.now) }
+    ensures ok { OnOk result (rows.new ≡ placed key.now row rows.old) }
+    ensures err { OnErr result (rows.new ≡ rows.old) }
+{
+    match (place, row) {
+        (Ok(at), Some(row)) => {
+            rows.set_row(at, row);
+            Ok(())
+        }
+        (Ok(at), None) => {
+            rows.remove(at);
+            Ok(())
+        }
+        (Err(at), Some(row)) => {
+            let key = key.copy(alloc)?;
+            rows.insert(at, Keyed { key, row })
+        }
+        (Err(_), None) => Ok(()),
+    }
+}
+
+/// Puts a row under a key, in the place of one that stands there, or takes that one out. It costs the logarithm of the
+/// number of rows, and where a row comes or goes the moving of those behind it.
+pub fn put_row(alloc: Global, rows: &mut Rows, key: &Key, row: Option<Row>) -> Result<(), NoMemory>
+    ensures ok { OnOk result (rows.new ≡ placed key.now row rows.old) }
+    ensures err { OnErr result (rows.new ≡ rows.old) }
+{
+    let place = rows.place_of(key.as_slice());
+    put_at(alloc, rows, key, place, row)
+}
+
+/// Patches the row under a key.
+fn patch_rows(alloc: Global, rows: &mut Rows, key: &Key, patch: &Patch) -> Result<(), NoMemory>
+    ensures ok { OnOk result (rows.new ≡ patched_rows key.now patch.now rows.old) }
+    ensures err { OnErr result (rows.new ≡ rows.old) }
+{
+    let place = rows.place_of(key.as_slice());
+    let row = patch_row(alloc, patch, row_at(rows, place))?;
+    put_at(alloc, rows, key, place, row)
+}
+
+/// Does a write. A database without the write's table stays as it is. It searches for the key once, and doesn't walk
+/// the table.
+pub fn apply(alloc: Global, database: &mut Database, write: &Write) -> Result<(), NoMemory>
+    ensures ok { OnOk result (database.new ≡ written write.now database.old) }
+    ensures err { OnErr result (database.new ≡ database.old) }
+{
+    let table = write.table as usize;
+    if table >= database.len() {
+        return Ok(());
+    }
+    let mut rows = database.replace(table, Rows::new(alloc));
+    let done = patch_rows(alloc, &mut rows, &write.key, &write.patch);
+    database.set(table, rows);
+    done
+}
+
+/// Does writes, one after another. Where memory runs out the first of them are done, and the others not.
+pub fn apply_all(alloc: Global, database: &mut Database, writes: &[Write]) -> Result<(), NoMemory>
+    ensures ok { OnOk result (database.new ≡ applied writes.now database.old) }
+    ensures err { OnErr result (HasAppliedFront writes.now database.old database.new) }
+{
+    for write in writes {
+        apply(alloc, database, write)?;
+    }
+    Ok(())
+}
