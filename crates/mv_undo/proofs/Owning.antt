@@ -1,0 +1,198 @@
+-- Own writes of records with smaller numbers.
+use Rattle.std.proofs.Math.ListN.{get_or-map}
+use Rattle.std.proofs.Math.Nat.{eq-or-lt_of_le}
+use Rattle.std.proofs.Common.{◌≡◌, ◌<◌, ◌≤◌, ℕ, zero, suc, ◌⊎◌, inl, inr, Bool, true, false, cond, List, [], ◌∷◌, Option, Some, None, length, take, drop, map, refl, sym, ap, subst, ◌∙◌, arith, Result, Ok, Err, IfOk}
+use Rattle.std.specs.Prelude.{◌&&◌, ◌||◌, ◌==◌, nat_lt, slice_index_or, AllPairs}
+use Rattle.std.specs.List.{filter, list_any}
+use Rattle.std.specs.List.Sorted.{IsPartitionPoint, IsPartitionedBy}
+use Rattle.std.specs.Option.{is_some}
+use Rattle.std.specs.Ordering.{is_eq}
+use Rattle.std.specs.declared.cmp.Ordering.{Ordering}
+use Rattle.std.specs.declared.cmp.Ordering.TheVariants.{Less, Equal, Greater}
+use Rattle.std.proofs.lemmas.Bool.Decides.{nat_tests}
+use Rattle.std.proofs.lemmas.List.{length-map}
+use Rattle.mv_values.specs.declared.value.Value.{Value}
+use Rattle.mv_values.specs.declared.rows.Keyed.{Keyed}
+use Rattle.mv_values.specs.declared.patch.Write.{Write}
+use Rattle.mv_values.specs.declared.pred.Pred.{Pred}
+use Rattle.mv_values.specs.Keys.{IsRising}
+use Rattle.mv_values.specs.Order.{key_order}
+use Rattle.mv_values.specs.Patching.{row_of, patched, placed}
+use Rattle.mv_values.specs.Preds.{admits}
+use Rattle.mv_values.proofs.KeyOrder.{exact_keys}
+use Rattle.mv_record.specs.Writes.{is_on, writes_on, patched_by}
+use Rattle.mv_record.proofs.Patching.{row_of-placed_same, placed_other, rising_placed}
+use Rattle.mv_undo.specs.declared.owned.Owned.{Owned}
+use Rattle.mv_undo.specs.Owning.{IsInOrder, before, earlier, is_earlier_on, touches, is_sought, is_wanted, is_among, AreSought}
+
+-- Those before a number
+
+-- the front up to the first that fails a test is what passes it
+front_passes : (p : Owned → Bool) (xs : List Owned) (n : ℕ) → n ≤ length xs → IsPartitionPoint (λ y. p y ≡ true) (λ y. p y ≡ false) xs n → take n xs ≡ filter p xs
+front_passes p [] zero le h = refl
+front_passes p [] (suc n) le h = refl
+front_passes p (x ∷ xs) zero le h =
+    let more = front_passes p xs zero (omega arith) (λ k d low lt. absurd (omega (arith, lt)), λ k d low lt. h.1 (suc k) d (omega arith) (omega (arith, lt))) in
+    let first : p x ≡ false = h.1 0 x (omega arith) (omega arith) in
+    rw first more
+front_passes p (x ∷ xs) (suc n) le h =
+    let more = front_passes p xs n (omega (arith, le)) (λ k d low lt. h.0 (suc k) d (omega arith) (omega (arith, lt)), λ k d low lt. h.1 (suc k) d (omega (arith, low)) (omega (arith, lt))) in
+    let first : p x ≡ true = h.0 0 x (omega arith) (omega arith) in
+    rw first (ap (λ l. x ∷ l) more)
+
+smaller : (a b n : ℕ) → a ≤ b → nat_lt b n ≡ true → nat_lt a n ≡ true
+smaller a b n le h = grind (arith, nat_tests)
+
+parted : (n : ℕ) (xs : List Owned) → IsInOrder xs → IsPartitionedBy (λ o. nat_lt o.number n) xs
+parted n xs order i j d le within h = by (eq-or-lt_of_le le)
+  where
+    by : (i ≡ j) ⊎ (i < j) → nat_lt (slice_index_or xs i d).number n ≡ true
+    by (inl same) = rw same h
+    by (inr lt) = smaller (slice_index_or xs i d).number (slice_index_or xs j d).number n (order i j d lt within) h
+
+pub dropped : (n : ℕ) (xs : List Owned) (len : ℕ) → IsInOrder xs → len ≤ length xs
+    → (IsPartitionedBy (λ o. nat_lt o.number n) xs → IsPartitionPoint (λ o. nat_lt o.number n ≡ true) (λ o. nat_lt o.number n ≡ false) xs len) → take len xs ≡ before n xs
+dropped n xs len order le h = front_passes (λ o. nat_lt o.number n) xs len le (h (parted n xs order))
+
+-- Writes on a key
+
+pub touches_earlier : (n t : ℕ) (key : List Value) (xs : List Owned) → list_any (is_earlier_on n t key) xs ≡ touches t key (earlier n xs)
+touches_earlier n t key [] = refl
+touches_earlier n t key (x ∷ xs) = by (nat_lt x.number n) (touches_earlier n t key xs)
+  where
+    by : (b : Bool) → list_any (is_earlier_on n t key) xs ≡ touches t key (earlier n xs)
+        → (b && is_on t key x.write) || list_any (is_earlier_on n t key) xs ≡ touches t key (map (λ o. o.write) (cond b (x ∷ before n xs) (before n xs)))
+    by true more = ap (λ b. is_on t key x.write || b) more
+    by false more = more
+
+writes_earlier : (n t : ℕ) (key : List Value) (x : Owned) (xs : List Owned)
+    → writes_on t key (earlier n (x ∷ xs)) ≡ cond (is_earlier_on n t key x) (x.write ∷ writes_on t key (earlier n xs)) (writes_on t key (earlier n xs))
+writes_earlier n t key x xs = by (nat_lt x.number n)
+  where
+    by : (b : Bool) → writes_on t key (map (λ o. o.write) (cond b (x ∷ before n xs) (before n xs))) ≡ cond (b && is_on t key x.write) (x.write ∷ writes_on t key (earlier n xs)) (writes_on t key (earlier n xs))
+    by true = refl
+    by false = refl
+
+-- the row behind the writes from a place on
+abbrev pub behind : ℕ → ℕ → List Value → List Owned → Option (List Value) → Option (List Value)
+behind n t key xs row = patched_by (writes_on t key (earlier n xs)) row
+
+pub behind_one : (n t : ℕ) (key : List Value) (x : Owned) (xs : List Owned) (row : Option (List Value)) → is_earlier_on n t key x ≡ true → behind n t key (x ∷ xs) row ≡ behind n t key xs (patched x.write.patch row)
+behind_one n t key x xs row h = ap (λ ws. patched_by ws row) (writes_earlier n t key x xs ∙ ap (λ b. cond b (x.write ∷ writes_on t key (earlier n xs)) (writes_on t key (earlier n xs))) h)
+
+pub behind_other : (n t : ℕ) (key : List Value) (x : Owned) (xs : List Owned) (row : Option (List Value)) → is_earlier_on n t key x ≡ false → behind n t key (x ∷ xs) row ≡ behind n t key xs row
+behind_other n t key x xs row h = ap (λ ws. patched_by ws row) (writes_earlier n t key x xs ∙ ap (λ b. cond b (x.write ∷ writes_on t key (earlier n xs)) (writes_on t key (earlier n xs))) h)
+
+-- The keys
+
+-- an empty row under each wanted key
+abbrev pub gathered : Pred → ℕ → List Owned → List Keyed → List Keyed
+gathered pred n [] found = found
+gathered pred n (o ∷ os) found = gathered pred n os (cond (is_wanted pred n o) (placed o.write.key (Some []) found) found)
+
+gathered_rising : (pred : Pred) (n : ℕ) (os : List Owned) (found : List Keyed) → IsRising found → IsRising (gathered pred n os found)
+gathered_rising pred n [] found h = h
+gathered_rising pred n (o ∷ os) found h = gathered_rising pred n os (cond (is_wanted pred n o) (placed o.write.key (Some []) found) found) (by (is_wanted pred n o))
+  where
+    by : (b : Bool) → IsRising (cond b (placed o.write.key (Some []) found) found)
+    by true = rising_placed o.write.key (Some []) found h
+    by false = h
+
+equal : (o : Ordering) → is_eq o ≡ true → o ≡ Equal
+equal Less e = cc
+equal Equal e = refl
+equal Greater e = cc
+
+gathered_one : (pred : Pred) (n : ℕ) (o : Owned) (found : List Keyed) (key : List Value) → IsRising found → (w : Bool) (k : Bool) → is_eq (key_order o.write.key key) ≡ k
+    → row_of (cond w (placed o.write.key (Some []) found) found) key ≡ cond (w && k) (Some []) (row_of found key)
+gathered_one pred n o found key h true true e =
+    subst (λ j. row_of (placed o.write.key (Some []) found) j ≡ Some []) (exact_keys o.write.key key (equal (key_order o.write.key key) e)) (row_of-placed_same o.write.key (Some []) found h)
+gathered_one pred n o found key h true false e = placed_other o.write.key (Some []) found key e
+gathered_one pred n o found key h false k e = refl
+
+both : (l e a k b : Bool) → (k ≡ true → a ≡ b) → (l && e && a) && k ≡ (l && (e && k)) && b
+both true true a true b h = let same = h refl in by a b same
+  where
+    by : (a b : Bool) → a ≡ b → a && true ≡ b
+    by true b same = same
+    by false b same = same
+both true true true false b h = refl
+both true true false false b h = refl
+both true false a k b h = refl
+both false e a k b h = refl
+
+either : (s : Option (List Value)) (r : Option (List Value)) (t a b : Bool) → cond (t && a) s (cond (b && a) s r) ≡ cond ((b || t) && a) s r
+either s r true true true = refl
+either s r true true false = refl
+either s r true false true = refl
+either s r true false false = refl
+either s r false true true = refl
+either s r false true false = refl
+either s r false false true = refl
+either s r false false false = refl
+
+gathered_row : (pred : Pred) (n : ℕ) (os : List Owned) (found : List Keyed) (key : List Value) → IsRising found
+    → row_of (gathered pred n os found) key ≡ cond (is_sought pred (earlier n os) key) (Some []) (row_of found key)
+gathered_row pred n [] found key h = refl
+gathered_row pred n (o ∷ os) found key h =
+    gathered_row pred n os more key (by (is_wanted pred n o))
+    ∙ (ap (cond (is_sought pred (earlier n os) key) (Some [])) (gathered_one pred n o found key h (is_wanted pred n o) (is_eq (key_order o.write.key key)) refl
+    ∙ ap (λ b. cond b (Some []) (row_of found key)) (both (nat_lt o.number n) (o.write.table == pred.table) (admits pred o.write.key) (is_eq (key_order o.write.key key)) (admits pred key) admitted))
+    ∙ (either (Some []) (row_of found key) (touches pred.table key (earlier n os)) (admits pred key) (is_earlier_on n pred.table key o)
+    ∙ ap (λ b. cond (b && admits pred key) (Some []) (row_of found key)) touched))
+  where
+    more : List Keyed
+    more = cond (is_wanted pred n o) (placed o.write.key (Some []) found) found
+
+    by : (b : Bool) → IsRising (cond b (placed o.write.key (Some []) found) found)
+    by true = rising_placed o.write.key (Some []) found h
+    by false = h
+
+    admitted : is_eq (key_order o.write.key key) ≡ true → admits pred o.write.key ≡ admits pred key
+    admitted e = ap (admits pred) (exact_keys o.write.key key (equal (key_order o.write.key key) e))
+
+    touched : is_earlier_on n pred.table key o || touches pred.table key (earlier n os) ≡ touches pred.table key (earlier n (o ∷ os))
+    touched = ap (λ b. is_earlier_on n pred.table key o || b) (sym (touches_earlier n pred.table key os)) ∙ touches_earlier n pred.table key (o ∷ os)
+
+abbrev pub keys : List Keyed → List (List Value)
+keys rows = map (λ item. item.key) rows
+
+rising_keys : (rows : List Keyed) → IsRising rows → AllPairs (λ a b. key_order a b ≡ Less) (keys rows)
+rising_keys rows h i j d lt within =
+    let item : Keyed = record { key = d; row = [] } in
+    let size = length-map rows (λ (k : Keyed). k.key) in
+    let low = h i j item lt (omega (arith, within, size)) in
+    rw (get_or-map (λ (k : Keyed). k.key) rows i item, get_or-map (λ (k : Keyed). k.key) rows j item) low
+
+among_rows : (rows : List Keyed) (key : List Value) → is_among (keys rows) key ≡ is_some (row_of rows key)
+among_rows [] key = refl
+among_rows (x ∷ xs) key = by (is_eq (key_order x.key key)) (among_rows xs key)
+  where
+    by : (b : Bool) → is_among (keys xs) key ≡ is_some (row_of xs key) → b || is_among (keys xs) key ≡ is_some (cond b (Some x.row) (row_of xs key))
+    by true more = refl
+    by false more = more
+
+pub gathered_sought : (pred : Pred) (n : ℕ) (os : List Owned) → AreSought pred (earlier n os) (keys (gathered pred n os []))
+gathered_sought pred n os =
+    let none : IsRising [] = λ i j d lt within. absurd (omega (arith, within)) in
+    record {
+      rising = rising_keys (gathered pred n os []) (gathered_rising pred n os [] none);
+      are = λ key. among_rows (gathered pred n os []) key ∙ (ap is_some (gathered_row pred n os [] key none) ∙ by (is_sought pred (earlier n os) key));
+    }
+  where
+    by : (b : Bool) → is_some (cond {A = Option (List Value)} b (Some []) None) ≡ b
+    by true = refl
+    by false = refl
+
+drop_past : (items : List Owned) (i : ℕ) → length items ≤ i → drop i items ≡ []
+drop_past [] zero le = refl
+drop_past [] (suc i) le = refl
+drop_past (x ∷ xs) zero le = absurd (omega (arith, le))
+drop_past (x ∷ xs) (suc i) le = drop_past xs i (omega (arith, le))
+
+pub found_keys : {E : Type 0} (r : Result (List (List Value)) E) (pred : Pred) (n : ℕ) (os items : List Owned) (i : ℕ) (found : List Keyed) → gathered pred n (drop i items) found ≡ gathered pred n os [] → length items ≤ i
+    → IfOk r (λ ks. ks ≡ keys found) → IfOk r (λ ks. AreSought pred (earlier n os) ks)
+found_keys (Err e) pred n os items i found h le is = tt
+found_keys (Ok ks) pred n os items i found h le is =
+    let all : found ≡ gathered pred n os [] = ap (λ l. gathered pred n l found) (sym (drop_past items i le)) ∙ h in
+    subst (AreSought pred (earlier n os)) (sym (is ∙ ap keys all)) (gathered_sought pred n os)

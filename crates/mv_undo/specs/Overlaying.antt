@@ -1,0 +1,21 @@
+-- What a call sees of a database before its own writes.
+use Rattle.std.specs.Prelude.{◌≡◌, ◌<◌, List, None, length, if◌then◌else◌}
+use Rattle.mv_values.specs.declared.value.Value.{Value}
+use Rattle.mv_values.specs.declared.rows.Keyed.{Keyed}
+use Rattle.mv_values.specs.declared.patch.Write.{Write}
+use Rattle.mv_values.specs.declared.pred.Pred.{Pred}
+use Rattle.mv_values.specs.Patching.{row_of, applied, found_by}
+use Rattle.mv_values.specs.Tables.{rows_at}
+use Rattle.mv_record.specs.Writes.{AreRising}
+use Rattle.mv_record.specs.Admitting.{Admitted}
+use Rattle.mv_undo.specs.Owning.{is_sought}
+
+-- the rows that a predicate finds in a database, and the database's own rows at the keys that writes wrote and the predicate admits;
+-- the predicate's table is there, and where a row of it matches, before the writes or behind them, the predicate admits its key
+pub record IsSeen (pred : Pred) (ws : List Write) (rows own : List Keyed) (db : List (List Keyed)) : Type 0 where
+  pub rising : AreRising db
+  pub table : pred.table < length db
+  pub found : rows ≡ found_by pred db
+  pub old : (key : List Value) → row_of own key ≡ (if is_sought pred ws key then row_of (rows_at db pred.table) key else None)
+  pub before : Admitted pred (rows_at db pred.table)
+  pub behind : Admitted pred (rows_at (applied ws db) pred.table)

@@ -1,0 +1,49 @@
+//! What a call sees of a database behind its own writes.
+
+ghost use Rattle.std.specs.Prelude.{◌≡◌, List, IfOk};
+ghost use Rattle.mv_values.specs.declared.rows.Keyed.{Keyed};
+ghost use Rattle.mv_values.specs.Patching.{applied, found_by};
+ghost use Rattle.mv_values.specs.Preds.{matched};
+ghost use Rattle.mv_undo.specs.Owning.{earlier};
+ghost use Rattle.mv_undo.specs.Overlaying.{IsSeen};
+
+use crate::undo::Undo;
+use mv_record::applying::{find_row, put_row};
+use mv_values::memory::NoMemory;
+use mv_values::pred::Pred;
+use mv_values::rows::Rows;
+use mv_values::value::Row;
+use std::alloc::Global;
+
+/// The row, where the predicate matches it.
+fn matched(pred: &Pred, row: Option<Row>) -> Option<Row>
+    ensures { result ≡ matched pred.now row }
+{
+    match row {
+        Some(row) if pred.matches(&row) => Some(row),
+        _ => None,
+    }
+}
+
+impl Undo {
+    /// The predicate's rows behind the writes of records with smaller numbers: `rows` are its rows before them, and
+    /// `own` the rows then at the keys that `keys` gives.
+    pub fn overlay(
+        &self,
+        alloc: Global,
+        number: usize,
+        pred: &Pred,
+        rows: Rows,
+        own: Rows,
+    ) -> Result<Rows, NoMemory>
+        ensures { IfOk result (λ after. (db : List (List Keyed)) → IsSeen pred.now (earlier number self.now) rows own db → after ≡ found_by pred.now (applied (earlier number self.now) db)) }
+    {
+        let keys = self.keys(alloc, number, pred)?;
+        let mut rows = rows;
+        for key in keys.as_slice() {
+            let row = self.row_behind(alloc, number, pred.table, key, find_row(&own, key))?;
+            put_row(alloc, &mut rows, key, matched(pred, row))?;
+        }
+        Ok(rows)
+    }
+}

@@ -1,0 +1,32 @@
+//! A write of a running call.
+
+ghost use Rattle.std.specs.Prelude.{◌≡◌, nat_lt};
+ghost use Rattle.mv_undo.specs.Owning.{is_earlier_on};
+
+use mv_values::patch::Write;
+use mv_values::value::{Key, compare_keys};
+
+/// A write, with the number of its record.
+#[derive(Drop)]
+pub struct Owned {
+    pub number: usize,
+    pub write: Write,
+}
+
+impl Owned {
+    /// Whether a record with a smaller number wrote it.
+    pub(crate) fn is_before(&self, number: usize) -> bool
+        ensures { result ≡ nat_lt self.now.number number }
+    {
+        self.number < number
+    }
+
+    /// Whether a record with a smaller number wrote it on the key of the table.
+    pub(crate) fn is_earlier_on(&self, number: usize, table: u8, key: &Key) -> bool
+        ensures { result ≡ is_earlier_on number table key.now self.now }
+    {
+        self.is_before(number)
+            && self.write.table == table
+            && compare_keys(self.write.key.as_slice(), key.as_slice()).is_eq()
+    }
+}
