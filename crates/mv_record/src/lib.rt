@@ -3,3 +3,5 @@
 
 pub mod applying;
 pub mod record;
+#[cfg(test)]
+mod tests;

@@ -1,7 +1,6 @@
 -- The rows of a predicate behind own writes.
-use Rattle.std.proofs.Common.{◌≡◌, ◌<◌, ◌≤◌, drop, ℕ, zero, suc, Bool, true, false, cond, List, [], ◌∷◌, Option, Some, None, length, refl, sym, ap, subst, ◌∙◌, arith}
-use Rattle.std.specs.Prelude.{◌&&◌, ◌||◌, Contains, slice_index_or}
-use Rattle.std.specs.List.{filter}
+use Rattle.std.proofs.Common.{◌≡◌, ◌≤◌, drop, ℕ, zero, suc, Bool, true, false, cond, List, [], ◌∷◌, Option, Some, None, length, refl, sym, ap, subst, ◌∙◌, arith}
+use Rattle.std.specs.Prelude.{◌&&◌, ◌||◌, slice_index_or}
 use Rattle.std.specs.Ordering.{is_eq}
 use Rattle.std.specs.declared.cmp.Ordering.{Ordering}
 use Rattle.std.specs.declared.cmp.Ordering.TheVariants.{Less, Equal, Greater}
@@ -19,7 +18,7 @@ use Rattle.mv_record.specs.Writes.{is_on, writes_on, patched_by, AreRising}
 use Rattle.mv_record.specs.Admitting.{Admitted}
 use Rattle.mv_record.proofs.Rising.{found_stands}
 use Rattle.mv_record.proofs.Patching.{row_of-placed_same, placed_other, rising_placed, rows_same, row_of-found, rising_found, row_applied, rising_applied}
-use Rattle.mv_undo.specs.Owning.{touches, is_sought, is_among, AreSought}
+use Rattle.mv_undo.specs.Owning.{touches, is_among, AreSought}
 use Rattle.mv_undo.specs.Overlaying.{IsSeen}
 
 -- the row that the predicate finds under a key behind writes, from the row before them

@@ -1,6 +1,8 @@
 //! The own writes of a running call.
 #![tactic(auto)]
 
-pub mod owned;
 mod overlay;
+pub mod owned;
+#[cfg(test)]
+mod tests;
 pub mod undo;
