@@ -2,3 +2,4 @@ pub mod Reading
 pub mod Asking
 pub mod Doing
 pub mod Recorded
+pub mod Laws

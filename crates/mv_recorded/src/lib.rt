@@ -1,2 +1,4 @@
 //! The records of a full run of a procedure.
 #![tactic(auto)]
+
+pub mod laws;

@@ -1,0 +1,17 @@
+-- What holds of the records of every full run.
+use Rattle.std.specs.Prelude.{◌≡◌, ℕ, List, length}
+use Rattle.mv_values.specs.declared.schema.TableInfo.{TableInfo}
+use Rattle.mv_values.specs.declared.calls.Call.{Call}
+use Rattle.mv_catalog.specs.declared.resolved.ProcInfo.{ProcInfo}
+use Rattle.mv_catalog.specs.declared.resolved.Program.{Program}
+use Rattle.mv_serial.specs.Executed.{counted}
+use Rattle.mv_serial.specs.TableAfter.{Tables, begun, executed}
+use Rattle.mv_recorded.specs.Recorded.{recorded, records}
+
+-- they are as many as statements are executed
+abbrev pub RunsCounted : Type 0
+RunsCounted = (tables : List TableInfo) (proc : ProcInfo) (call : Call) (db : Tables) → length (recorded tables proc call db) ≡ counted tables proc.body (begun proc call db)
+
+-- the same of the calls of a program
+abbrev pub CallsCounted : Type 0
+CallsCounted = (program : Program) (call : ℕ) (db : Tables) → length (records program call db) ≡ executed program call db

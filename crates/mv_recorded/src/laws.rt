@@ -1,0 +1,11 @@
+//! What holds of the records of every full run, of whatever procedure, call and database.
+
+ghost use Rattle.mv_recorded.specs.Laws.{RunsCounted, CallsCounted};
+
+/// A full run leaves as many records as it executes statements.
+#[tactic(auto, using(crate::proofs::Counted::recorded_counted, crate::proofs::Counted::records_counted))]
+pub fn record_for_each_statement()
+    ensures run { RunsCounted }
+    ensures call { CallsCounted }
+{
+}
