@@ -2,11 +2,14 @@
 use Rattle.std.specs.Prelude.{◌≡◌, ℕ, List, length}
 use Rattle.mv_values.specs.declared.schema.TableInfo.{TableInfo}
 use Rattle.mv_values.specs.declared.calls.Call.{Call}
+use Rattle.mv_values.specs.Keys.{IsRising}
+use Rattle.mv_values.specs.Tables.{rows_at}
 use Rattle.mv_catalog.specs.declared.resolved.ProcInfo.{ProcInfo}
 use Rattle.mv_catalog.specs.declared.resolved.Program.{Program}
 use Rattle.mv_serial.specs.Executed.{counted}
 use Rattle.mv_serial.specs.TableAfter.{Tables, begun, executed}
-use Rattle.mv_recorded.specs.Recorded.{recorded, records}
+use Rattle.mv_record.specs.Runs.{TellsAll}
+use Rattle.mv_recorded.specs.Recorded.{recorded, records, meaning}
 
 -- they are as many as statements are executed
 abbrev pub RunsCounted : Type 0
@@ -15,3 +18,7 @@ RunsCounted = (tables : List TableInfo) (proc : ProcInfo) (call : Call) (db : Ta
 -- the same of the calls of a program
 abbrev pub CallsCounted : Type 0
 CallsCounted = (program : Program) (call : ℕ) (db : Tables) → length (records program call db) ≡ executed program call db
+
+-- they tell the reply and the database after the call, where the keys of each table rise
+abbrev pub MeaningsTell : Type 0
+MeaningsTell = (tables : List TableInfo) (proc : ProcInfo) (call : Call) (db : Tables) → ((t : ℕ) → IsRising (rows_at db t)) → TellsAll db (meaning tables proc call db)
