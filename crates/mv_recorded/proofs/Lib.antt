@@ -5,3 +5,6 @@ pub mod Patched
 pub mod Setting
 pub mod Leading
 pub mod Meant
+pub mod Naming
+pub mod Climbing
+pub mod Rising

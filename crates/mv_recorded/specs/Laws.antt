@@ -8,7 +8,8 @@ use Rattle.mv_catalog.specs.declared.resolved.ProcInfo.{ProcInfo}
 use Rattle.mv_catalog.specs.declared.resolved.Program.{Program}
 use Rattle.mv_serial.specs.Executed.{counted}
 use Rattle.mv_serial.specs.TableAfter.{Tables, begun, executed}
-use Rattle.mv_record.specs.Runs.{TellsAll}
+use Rattle.mv_record.specs.Runs.{TellsAll, NamesEarlier}
+use Rattle.mv_record.specs.Paths.{PathsRise}
 use Rattle.mv_recorded.specs.Recorded.{recorded, records, meaning}
 
 -- they are as many as statements are executed
@@ -22,3 +23,11 @@ CallsCounted = (program : Program) (call : ℕ) (db : Tables) → length (record
 -- they tell the reply and the database after the call, where the keys of each table rise
 abbrev pub MeaningsTell : Type 0
 MeaningsTell = (tables : List TableInfo) (proc : ProcInfo) (call : Call) (db : Tables) → ((t : ℕ) → IsRising (rows_at db t)) → TellsAll db (meaning tables proc call db)
+
+-- their controllers and definers are earlier records
+abbrev pub NamesEarlierOnes : Type 0
+NamesEarlierOnes = (tables : List TableInfo) (proc : ProcInfo) (call : Call) (db : Tables) → NamesEarlier 0 (recorded tables proc call db)
+
+-- they stand in the order of their paths
+abbrev pub PathsAreInOrder : Type 0
+PathsAreInOrder = (tables : List TableInfo) (proc : ProcInfo) (call : Call) (db : Tables) → PathsRise (recorded tables proc call db)

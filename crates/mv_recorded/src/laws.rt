@@ -1,6 +1,6 @@
 //! What holds of the records of every full run, of whatever procedure, call and database.
 
-ghost use Rattle.mv_recorded.specs.Laws.{RunsCounted, CallsCounted, MeaningsTell};
+ghost use Rattle.mv_recorded.specs.Laws.{RunsCounted, CallsCounted, MeaningsTell, NamesEarlierOnes, PathsAreInOrder};
 
 /// A full run leaves as many records as it executes statements.
 #[tactic(auto, using(crate::proofs::Counted::recorded_counted, crate::proofs::Counted::records_counted))]
@@ -14,5 +14,19 @@ pub fn record_for_each_statement()
 #[tactic(auto, using(crate::proofs::Meant::meaning_tells))]
 pub fn records_tell_all()
     ensures { MeaningsTell }
+{
+}
+
+/// The controller of each record and the definers of what it reads are earlier records.
+#[tactic(auto, using(crate::proofs::Naming::recorded_names))]
+pub fn records_name_earlier_ones()
+    ensures { NamesEarlierOnes }
+{
+}
+
+/// Each record has a smaller path than the records behind it.
+#[tactic(auto, using(crate::proofs::Rising::recorded_rises))]
+pub fn paths_rise()
+    ensures { PathsAreInOrder }
 {
 }

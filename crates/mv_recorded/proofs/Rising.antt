@@ -1,0 +1,303 @@
+-- The paths of the records of a full run rise.
+use Rattle.std.proofs.Common.{◌≡◌, ℕ, zero, suc, ◌+◌, ◌<◌, ◌≤◌, Bool, true, false, List, [], ◌∷◌, ◌++◌, Option, Some, None, Result, Ok, Err, AllPairs, map, drop, length, nat_lt, slice_get, if◌then◌else◌, refl, sym, ap, subst, ◌∙◌, arith, length-append, append-nil, append_assoc}
+use Rattle.std.proofs.Math.Seq.{drop-append_seam}
+use Rattle.std.proofs.lemmas.Bool.Decides.{nat_tests}
+use Rattle.std.proofs.lemmas.List.Sums.{sum_by-cons}
+use Rattle.std.specs.List.{sum}
+use Rattle.std.specs.Option.{option_and_then}
+use Rattle.mv_values.specs.declared.value.Value.{Value}
+use Rattle.mv_values.specs.declared.schema.TableInfo.{TableInfo}
+use Rattle.mv_values.specs.declared.calls.Call.{Call}
+use Rattle.mv_values.specs.declared.calls.End.{End}
+use Rattle.mv_catalog.specs.declared.resolved.ProcInfo.{ProcInfo}
+use Rattle.mv_catalog.specs.declared.resolved.RStmt.{RStmt, roll-RStmt, map-RStmt, ind-RStmt, para-roll-RStmt, fold-roll-RStmt}
+use Rattle.mv_catalog.specs.declared.resolved.RStmt.TheOpen.{RStmt-F, Assign, Select, Total, ForSelect, ForRows, Branch, Insert, Update, Delete, Print, Rollback}
+use Rattle.mv_serial.specs.declared.state.State.{State}
+use Rattle.mv_serial.specs.declared.state.Held.TheVariants.{Turn}
+use Rattle.mv_serial.specs.Env.{with_held, with_found}
+use Rattle.mv_serial.specs.Value.{value_of, is_so}
+use Rattle.mv_serial.specs.Alone.{Does, does, is_turn}
+use Rattle.mv_serial.specs.TableAfter.{Tables, begun}
+use Rattle.mv_record.specs.declared.record.Record.{Record}
+use Rattle.mv_record.specs.Paths.{Nest, path, inside, nest_of, nests_behind, paths, IsEarlierPath, PathsRise}
+use Rattle.mv_recorded.specs.Asking.{on}
+use Rattle.mv_recorded.specs.Doing.{fixed_rows}
+use Rattle.mv_recorded.specs.Recorded.{Tells, Site, tell, tell_inner, tell_step, tell_turns, own_record, in_turn, within, within_loop, size, size_step, size_of, body_of, told, outside, recorded}
+use Rattle.mv_recorded.proofs.Counted.{firsts}
+use Rattle.mv_recorded.proofs.Climbing.{front_earlier, less_earlier, behind_same, NotLater, earlier_not_later, number_not_later, Climb, climb_on, climb_from, climb_join, climb_to, climb_pairs}
+
+-- Nests behind nests
+
+abbrev paths_behind : List Nest → List Record → List (List ℕ)
+paths_behind nests rs = map path (nests_behind nests rs)
+
+many_nests : (nests : List Nest) (rs : List Record) → length (nests_behind nests rs) ≡ length rs
+many_nests nests [] = refl
+many_nests nests (r ∷ rs) = let rest = many_nests (nests ++ nest_of nests r ∷ []) rs in omega (arith, rest)
+
+paths_join : (nests : List Nest) (rs ss : List Record) → paths_behind nests (rs ++ ss) ≡ paths_behind nests rs ++ paths_behind (nests ++ nests_behind nests rs) ss
+paths_join nests [] ss = ap (λ l. paths_behind l ss) (sym (append-nil nests))
+paths_join nests (r ∷ rs) ss =
+    let it : Nest = nest_of nests r in
+    ap (λ l. path it ∷ l) (paths_join (nests ++ it ∷ []) rs ss
+    ∙ ap (λ l. paths_behind (nests ++ it ∷ []) rs ++ paths_behind l ss) (append_assoc nests (it ∷ []) (nests_behind (nests ++ it ∷ []) rs)))
+
+-- a nest for each record
+abbrev AsMany : List Nest → List Record → Type 0
+AsMany nests rs = length nests ≡ length rs
+
+more_as_many : (nests : List Nest) (before these : List Record) → AsMany nests before → AsMany (nests ++ nests_behind nests these) (before ++ these)
+more_as_many nests before these h = omega (arith, length-append nests (nests_behind nests these), length-append before these, many_nests nests these, h)
+
+-- Sites
+
+-- these numbers and turns stand around what stands at the site
+abbrev Stands : List Nest → Site → List ℕ → Type 0
+Stands nests site around = (more : List Nest) → inside (option_and_then (slice_get (nests ++ more)) site.parent) site.turns ≡ around
+
+stands_on : (nests more : List Nest) (site : Site) (around : List ℕ) → Stands nests site around → Stands (nests ++ more) site around
+stands_on nests more site around h others =
+    ap (λ l. inside (option_and_then (slice_get l) site.parent) site.turns) (append_assoc nests more others) ∙ h (more ++ others)
+
+found_at : (nests : List Nest) (it : Nest) (more : List Nest) → slice_get ((nests ++ it ∷ []) ++ more) (length nests) ≡ Some it
+found_at [] it more = refl
+found_at (n ∷ nests) it more = found_at nests it more
+
+own_number : (nests : List Nest) (it : Nest) (more : List Nest) (number : ℕ) → number ≡ length nests → slice_get ((nests ++ it ∷ []) ++ more) number ≡ Some it
+own_number nests it more number h = ap (slice_get ((nests ++ it ∷ []) ++ more)) h ∙ found_at nests it more
+
+not_deeper : (it : Nest) (turns : List ℕ) → it.spot.turns ≡ turns → inside (Some it) turns ≡ it.around
+not_deeper it turns h =
+    let no : nat_lt (length it.spot.turns) (length turns) ≡ false = subst (λ l. nat_lt (length it.spot.turns) (length l) ≡ false) h (grind (arith, nat_tests)) in
+    ap (λ b. if b then it.around ++ it.spot.statement ∷ drop (length it.spot.turns) turns else it.around) no
+
+one_deeper : (it : Nest) (turns : List ℕ) (k : ℕ) → it.spot.turns ≡ turns → inside (Some it) (turns ++ k ∷ []) ≡ it.around ++ it.spot.statement ∷ k ∷ []
+one_deeper it turns k h =
+    let long : length (it.spot.turns ++ k ∷ []) ≡ length it.spot.turns + 1 = length-append it.spot.turns (k ∷ []) in
+    let so : nat_lt (length it.spot.turns) (length (it.spot.turns ++ k ∷ [])) ≡ true = grind (arith, nat_tests) in
+    subst (λ l. inside (Some it) (l ++ k ∷ []) ≡ it.around ++ it.spot.statement ∷ k ∷ []) h
+    (ap (λ b. if b then it.around ++ it.spot.statement ∷ drop (length it.spot.turns) (it.spot.turns ++ k ∷ []) else it.around) so
+    ∙ ap (λ l. it.around ++ it.spot.statement ∷ l) (drop-append_seam it.spot.turns (k ∷ [])))
+
+-- Runs
+
+-- the paths of these many statements rise, behind what stands around them
+abbrev Rises : Tells → ℕ → Type 0
+Rises tells many = (n : ℕ) (site : Site) (before : List Record) (st : State) (nests : List Nest) (around : List ℕ) → AsMany nests before → Stands nests site around
+    → Climb (around ++ n ∷ []) (paths_behind nests (tells n site before st)) (around ++ (n + many) ∷ [])
+
+-- what follows on these records
+follow_rises : {A : Type 0} (nests : List Nest) (these : List Record) (r : Result A End) (go : A → List Record) (low middle high : List ℕ)
+    → Climb low (paths_behind nests these) middle → NotLater middle high → ((x : A) → Climb middle (paths_behind (nests ++ nests_behind nests these) (go x)) high)
+    → Climb low (paths_behind nests (these ++ on r go)) high
+follow_rises nests these (Ok x) go low middle high h le k =
+    subst (λ ps. Climb low ps high) (sym (paths_join nests these (go x)))
+    (climb_join low (paths_behind nests these) middle (paths_behind (nests ++ nests_behind nests these) (go x)) high h (k x))
+follow_rises nests these (Err e) go low middle high h le k =
+    subst (λ rs. Climb low (paths_behind nests rs) high) (sym (append-nil these)) (climb_to low (paths_behind nests these) middle high h le)
+
+-- the loops' numbers and turns are those of its site, with this turn
+abbrev StandsInTurns : List Nest → Site → List ℕ → ℕ → Type 0
+StandsInTurns nests site around m = (k : ℕ) → Stands nests (in_turn k site) (around ++ m ∷ k ∷ [])
+
+turn_earlier : (around : List ℕ) (m k : ℕ) (ks : List ℕ) → IsEarlierPath (around ++ m ∷ k ∷ ks) (around ++ m ∷ (k + 1) ∷ [])
+turn_earlier around m k ks =
+    behind_same around (m ∷ k ∷ ks) (m ∷ (k + 1) ∷ []) (behind_same (m ∷ []) (k ∷ ks) ((k + 1) ∷ []) (less_earlier k (k + 1) ks [] (omega arith)))
+
+turns_rise : (x : ℕ) (body : Does) (tells : Tells) (many : ℕ) → Rises tells many → (rows : List (List Value)) (k n : ℕ) (site : Site) (before : List Record) (st : State)
+    (nests : List Nest) (around : List ℕ) (m : ℕ) (high : List ℕ) → ((j : ℕ) → IsEarlierPath (around ++ m ∷ j ∷ []) high) → AsMany nests before → StandsInTurns nests site around m
+    → Climb (around ++ m ∷ k ∷ []) (paths_behind nests (tell_turns x body tells rows k n site before st)) high
+turns_rise x body tells many h [] k n site before st nests around m high top as_many stands = earlier_not_later (around ++ m ∷ k ∷ []) high (top k)
+turns_rise x body tells many h (row ∷ rows) k n site before st nests around m high top as_many stands =
+    let next : State = record st { env = with_held st.env x (Turn row) } in
+    let these : List Record = tells n (in_turn k site) before next in
+    let low : List ℕ = around ++ m ∷ k ∷ [] in
+    let middle : List ℕ = around ++ m ∷ (k + 1) ∷ [] in
+    let nested : (j : ℕ) → (around ++ m ∷ k ∷ []) ++ j ∷ [] ≡ around ++ m ∷ k ∷ j ∷ [] = λ j. append_assoc around (m ∷ k ∷ []) (j ∷ []) in
+    follow_rises nests these (body next) (tell_turns x body tells rows (k + 1) n site (before ++ these)) low middle high
+    (climb_from low (low ++ n ∷ []) (paths_behind nests these) middle
+    (earlier_not_later low (low ++ n ∷ []) (subst (IsEarlierPath low) (sym (nested n)) (behind_same around (m ∷ k ∷ []) (m ∷ k ∷ n ∷ []) (behind_same (m ∷ k ∷ []) [] (n ∷ []) (front_earlier n [])))))
+    (climb_to (low ++ n ∷ []) (paths_behind nests these) (low ++ (n + many) ∷ []) middle (h n (in_turn k site) before next nests low as_many (stands k))
+    (earlier_not_later (low ++ (n + many) ∷ []) middle (subst (λ p. IsEarlierPath p middle) (sym (nested (n + many))) (turn_earlier around m k ((n + many) ∷ []))))))
+    (earlier_not_later middle high (top (k + 1)))
+    (λ last. turns_rise x body tells many h rows (k + 1) n site (before ++ these) last (nests ++ nests_behind nests these) around m high top (more_as_many nests before these as_many)
+    (λ j. stands_on nests (nests_behind nests these) (in_turn j site) (around ++ m ∷ j ∷ []) (stands j)))
+
+sum_first : (n : ℕ) (ns : List ℕ) → sum (n ∷ ns) ≡ n + sum ns
+sum_first n ns = sum_by-cons (λ m. m) n ns
+
+-- a statement whose paths rise
+abbrev Known : List TableInfo → ℕ → Type 0
+Known tables params = (s : RStmt) × Rises (tell tables params s) (size s)
+
+abbrev plain : (tables : List TableInfo) (params : ℕ) → List (Known tables params) → List RStmt
+plain tables params ks = map (λ k. k.0) ks
+
+number_same : (around : List ℕ) (m n : ℕ) → m ≡ n → NotLater (around ++ m ∷ []) (around ++ n ∷ [])
+number_same around m n h o lt = subst (λ l. IsEarlierPath o (around ++ l ∷ [])) h lt
+
+at_most : (around : List ℕ) (m n : ℕ) → m ≤ n → NotLater (around ++ m ∷ []) (around ++ n ∷ [])
+at_most around m n le = by_test (nat_lt m n) refl
+  where
+    by_test : (b : Bool) → nat_lt m n ≡ b → NotLater (around ++ m ∷ []) (around ++ n ∷ [])
+    by_test true is = number_not_later around m n (grind (arith, nat_tests))
+    by_test false is = number_same around m n (grind (arith, nat_tests))
+
+all_rise : (tables : List TableInfo) (params : ℕ) (known : List (Known tables params)) → Rises (told tables params (plain tables params known)) (sum (map size (plain tables params known)))
+all_rise tables params [] n site before st nests around as_many stands = at_most around n (n + 0) (omega arith)
+all_rise tables params (k ∷ ks) n site before st nests around as_many stands =
+    let these : List Record = tell tables params k.0 n site before st in
+    let rest : ℕ = sum (map size (plain tables params ks)) in
+    let one_more = sum_first (size k.0) (map size (plain tables params ks)) in
+    let same : n + size k.0 + rest ≡ n + sum (map size (plain tables params (k ∷ ks))) = omega (arith, one_more) in
+    subst (λ m. Climb (around ++ n ∷ []) (paths_behind nests (told tables params (plain tables params (k ∷ ks)) n site before st)) (around ++ m ∷ [])) same
+    (follow_rises nests these (does tables k.0 st) (told tables params (plain tables params ks) (n + size k.0) site (before ++ these)) (around ++ n ∷ []) (around ++ (n + size k.0) ∷ []) (around ++ (n + size k.0 + rest) ∷ [])
+    (k.1 n site before st nests around as_many stands) (at_most around (n + size k.0) (n + size k.0 + rest) (omega arith))
+    (λ next. all_rise tables params ks (n + size k.0) site (before ++ these) next (nests ++ nests_behind nests these) around (more_as_many nests before these as_many)
+    (stands_on nests (nests_behind nests these) site around stands)))
+
+-- a statement, with what those that it holds leave
+abbrev telling : (tables : List TableInfo) (params : ℕ) → RStmt-F (Known tables params) → RStmt-F (RStmt × Tells)
+telling tables params y = map-RStmt RStmt (RStmt × Tells) (λ s. (s, tell tables params s)) (map-RStmt (Known tables params) RStmt (λ k. k.0) y)
+
+-- a record and what is behind it
+own_rises : (nests : List Nest) (own : Record) (rs : List Record) (around : List ℕ) (n : ℕ) (middle high : List ℕ) → path (nest_of nests own) ≡ around ++ n ∷ []
+    → IsEarlierPath (around ++ n ∷ []) middle → Climb middle (paths_behind (nests ++ nest_of nests own ∷ []) rs) high → Climb (around ++ n ∷ []) (paths_behind nests (own ∷ rs)) high
+own_rises nests own rs around n middle high is lt h =
+    let it : List ℕ = path (nest_of nests own) in
+    (λ o less. subst (IsEarlierPath o) (sym is) less, climb_on it middle (paths_behind (nests ++ nest_of nests own ∷ []) rs) high (subst (λ p. IsEarlierPath p middle) (sym is) lt) h)
+
+next_number : (around : List ℕ) (n : ℕ) → IsEarlierPath (around ++ n ∷ []) (around ++ (n + 1) ∷ [])
+next_number around n = behind_same around (n ∷ []) ((n + 1) ∷ []) (less_earlier n (n + 1) [] [] (omega arith))
+
+first_turn : (around : List ℕ) (n k : ℕ) → IsEarlierPath (around ++ n ∷ []) (around ++ n ∷ k ∷ [])
+first_turn around n k = behind_same around (n ∷ []) (n ∷ k ∷ []) (behind_same (n ∷ []) [] (k ∷ []) (front_earlier k []))
+
+one_rises : (nests : List Nest) (own : Record) (around : List ℕ) (n : ℕ) → path (nest_of nests own) ≡ around ++ n ∷ []
+    → Climb (around ++ n ∷ []) (paths_behind nests (own ∷ [])) (around ++ (n + 1) ∷ [])
+one_rises nests own around n is = own_rises nests own [] around n (around ++ (n + 1) ∷ []) (around ++ (n + 1) ∷ []) is (next_number around n) (λ o lt. lt)
+
+stands_here : (nests : List Nest) (site : Site) (around : List ℕ) → Stands nests site around → inside (option_and_then (slice_get nests) site.parent) site.turns ≡ around
+stands_here nests site around stands = ap (λ l. inside (option_and_then (slice_get l) site.parent) site.turns) (sym (append-nil nests)) ∙ stands []
+
+-- in an IF nothing more stands around, in a FOR its number and the turn
+stands_within : (nests : List Nest) (it : Nest) (site : Site) (number : ℕ) → number ≡ length nests → it.spot.turns ≡ site.turns → Stands (nests ++ it ∷ []) (within number site) it.around
+stands_within nests it site number h same more = ap (λ o. inside o site.turns) (own_number nests it more number h) ∙ not_deeper it site.turns same
+
+stands_in_turns : (nests : List Nest) (it : Nest) (x : ℕ) (site : Site) (number : ℕ) → number ≡ length nests → it.spot.turns ≡ site.turns
+    → StandsInTurns (nests ++ it ∷ []) (within_loop x number site) it.around it.spot.statement
+stands_in_turns nests it x site number h same k more = ap (λ o. inside o (site.turns ++ k ∷ [])) (own_number nests it more number h) ∙ one_deeper it site.turns k same
+
+on_rises : {A : Type 0} (nests : List Nest) (r : Result A End) (go : A → List Record) (low high : List ℕ) → NotLater low high
+    → ((x : A) → Climb low (paths_behind nests (go x)) high) → Climb low (paths_behind nests (on r go)) high
+on_rises nests (Ok x) go low high le h = h x
+on_rises nests (Err e) go low high le h = le
+
+either_rises : (nests : List Nest) (b : Bool) (rs ss : List Record) (low high : List ℕ) → Climb low (paths_behind nests rs) high → Climb low (paths_behind nests ss) high
+    → Climb low (paths_behind nests (if b then rs else ss)) high
+either_rises nests true rs ss low high h k = h
+either_rises nests false rs ss low high h k = k
+
+sizes : (f : RStmt → Tells) (ss : List RStmt) → size_of (map (λ s. (s, f s)) ss) ≡ sum (map size ss)
+sizes f [] = refl
+sizes f (s ∷ ss) =
+    sum_first (size s) (map (λ p. size p.0) (map (λ s. (s, f s)) ss)) ∙ (ap (λ n. size s + n) (sizes f ss) ∙ sym (sum_first (size s) (map size ss)))
+
+turn_before : (around : List ℕ) (n j many : ℕ) → IsEarlierPath (around ++ n ∷ j ∷ []) (around ++ (n + (1 + many)) ∷ [])
+turn_before around n j many = behind_same around (n ∷ j ∷ []) ((n + (1 + many)) ∷ []) (less_earlier n (n + (1 + many)) (j ∷ []) [] (omega arith))
+
+-- the turns of a FOR behind its own record
+loop_rises : (x : ℕ) (body : Does) (tells : Tells) (many : ℕ) → Rises tells many → (rows : List (List Value)) (own : Record) (n : ℕ) (site : Site) (before : List Record) (st : State)
+    (nests : List Nest) (around : List ℕ) → AsMany nests before → (nest_of nests own).around ≡ around → own.spot.statement ≡ n → own.spot.turns ≡ site.turns
+    → Climb (around ++ n ∷ 1 ∷ []) (paths_behind (nests ++ nest_of nests own ∷ []) (tell_turns x body tells rows 1 (n + 1) (within_loop x (length before) site) (before ++ own ∷ []) st)) (around ++ (n + (1 + many)) ∷ [])
+loop_rises x body tells many h rows own n site before st nests around as_many stands is same =
+    turns_rise x body tells many h rows 1 (n + 1) (within_loop x (length before) site) (before ++ own ∷ []) st (nests ++ nest_of nests own ∷ []) around n (around ++ (n + (1 + many)) ∷ [])
+    (λ j. turn_before around n j many)
+    (more_as_many nests before (own ∷ []) as_many)
+    (λ k more. stands_in_turns nests (nest_of nests own) x site (length before) (sym as_many) same k more ∙ (ap (λ a. a ++ own.spot.statement ∷ k ∷ []) stands ∙ ap (λ m. around ++ m ∷ k ∷ []) is))
+
+-- the branch of an IF behind its own record
+branch_rises : (tables : List TableInfo) (params : ℕ) (known : List (Known tables params)) (m : ℕ) (own : Record) (site : Site) (before : List Record) (st : State)
+    (nests : List Nest) (around : List ℕ) → AsMany nests before → (nest_of nests own).around ≡ around → own.spot.turns ≡ site.turns
+    → Climb (around ++ m ∷ []) (paths_behind (nests ++ nest_of nests own ∷ []) (told tables params (plain tables params known) m (within (length before) site) (before ++ own ∷ []) st))
+    (around ++ (m + sum (map size (plain tables params known))) ∷ [])
+branch_rises tables params known m own site before st nests around as_many stands same =
+    all_rise tables params known m (within (length before) site) (before ++ own ∷ []) st (nests ++ nest_of nests own ∷ []) around (more_as_many nests before (own ∷ []) as_many)
+    (λ others. stands_within nests (nest_of nests own) site (length before) (sym as_many) same others ∙ stands)
+
+step_rises : (tables : List TableInfo) (params : ℕ) (y : RStmt-F (Known tables params))
+    → Rises (tell_step tables params (telling tables params y)) (size_step (map-RStmt RStmt ℕ size (map-RStmt (Known tables params) RStmt (λ k. k.0) y)))
+step_rises tables params (Assign x e) n site before st nests around as_many stands =
+    one_rises nests (own_record tables params (telling tables params (Assign x e)) n site before st) around n (ap (λ a. a ++ n ∷ []) (stands_here nests site around stands))
+step_rises tables params (Select cs xs t conds sorts offset) n site before st nests around as_many stands =
+    one_rises nests (own_record tables params (telling tables params (Select cs xs t conds sorts offset)) n site before st) around n (ap (λ a. a ++ n ∷ []) (stands_here nests site around stands))
+step_rises tables params (Total agg x t conds) n site before st nests around as_many stands =
+    one_rises nests (own_record tables params (telling tables params (Total agg x t conds)) n site before st) around n (ap (λ a. a ++ n ∷ []) (stands_here nests site around stands))
+step_rises tables params (ForSelect x once cs t conds sorts body) n site before st nests around as_many stands =
+    let own : Record = own_record tables params (telling tables params (ForSelect x once cs t conds sorts body)) n site before st in
+    let here = stands_here nests site around stands in
+    let many : ℕ = sum (map size (plain tables params body)) in
+    own_rises nests own _ around n (around ++ n ∷ 1 ∷ []) (around ++ (n + (1 + many)) ∷ []) (ap (λ a. a ++ n ∷ []) here) (first_turn around n 1)
+    (on_rises (nests ++ nest_of nests own ∷ []) (fixed_rows (telling tables params (ForSelect x once cs t conds sorts body)) st) _ (around ++ n ∷ 1 ∷ []) (around ++ (n + (1 + many)) ∷ [])
+    (earlier_not_later (around ++ n ∷ 1 ∷ []) (around ++ (n + (1 + many)) ∷ []) (turn_before around n 1 many))
+    (λ rows. loop_rises x (body_of tables (map (λ s. (s, tell tables params s)) (plain tables params body))) (told tables params (plain tables params body)) many (all_rise tables params body) rows own n site before
+    (record st { env = with_found st.env (is_turn rows) }) nests around as_many here refl refl))
+step_rises tables params (ForRows x y body) n site before st nests around as_many stands =
+    let own : Record = own_record tables params (telling tables params (ForRows x y body)) n site before st in
+    let here = stands_here nests site around stands in
+    let many : ℕ = sum (map size (plain tables params body)) in
+    own_rises nests own _ around n (around ++ n ∷ 1 ∷ []) (around ++ (n + (1 + many)) ∷ []) (ap (λ a. a ++ n ∷ []) here) (first_turn around n 1)
+    (on_rises (nests ++ nest_of nests own ∷ []) (fixed_rows (telling tables params (ForRows x y body)) st) _ (around ++ n ∷ 1 ∷ []) (around ++ (n + (1 + many)) ∷ [])
+    (earlier_not_later (around ++ n ∷ 1 ∷ []) (around ++ (n + (1 + many)) ∷ []) (turn_before around n 1 many))
+    (λ rows. loop_rises x (body_of tables (map (λ s. (s, tell tables params s)) (plain tables params body))) (told tables params (plain tables params body)) many (all_rise tables params body) rows own n site before
+    (record st { env = with_found st.env (is_turn rows) }) nests around as_many here refl refl))
+step_rises tables params (Branch e ys ns) n site before st nests around as_many stands =
+    let own : Record = own_record tables params (telling tables params (Branch e ys ns)) n site before st in
+    let here = stands_here nests site around stands in
+    let all : List Nest = nests ++ nest_of nests own ∷ [] in
+    let low : List ℕ = around ++ (n + 1) ∷ [] in
+    let yes_many : ℕ = sum (map size (plain tables params ys)) in
+    let no_many : ℕ = sum (map size (plain tables params ns)) in
+    let passed : ℕ = n + 1 + size_of (map (λ s. (s, tell tables params s)) (plain tables params ys)) in
+    let skips = sizes (tell tables params) (plain tables params ys) in
+    let high : List ℕ = around ++ (n + (1 + (yes_many + no_many))) ∷ [] in
+    own_rises nests own _ around n low high (ap (λ a. a ++ n ∷ []) here) (next_number around n)
+    (on_rises all (value_of e st.env []) _ low high (at_most around (n + 1) (n + (1 + (yes_many + no_many))) (omega arith))
+    (λ v. either_rises all (is_so v) _ _ low high
+    (climb_to low _ (around ++ (n + 1 + yes_many) ∷ []) high (branch_rises tables params ys (n + 1) own site before st nests around as_many here refl)
+    (at_most around (n + 1 + yes_many) (n + (1 + (yes_many + no_many))) (omega arith)))
+    (climb_from low (around ++ passed ∷ []) _ high (at_most around (n + 1) passed (omega arith))
+    (climb_to (around ++ passed ∷ []) _ (around ++ (passed + no_many) ∷ []) high (branch_rises tables params ns passed own site before st nests around as_many here refl)
+    (at_most around (passed + no_many) (n + (1 + (yes_many + no_many))) (omega (arith, skips)))))))
+step_rises tables params (Insert t es) n site before st nests around as_many stands =
+    one_rises nests (own_record tables params (telling tables params (Insert t es)) n site before st) around n (ap (λ a. a ++ n ∷ []) (stands_here nests site around stands))
+step_rises tables params (Update t items conds) n site before st nests around as_many stands =
+    one_rises nests (own_record tables params (telling tables params (Update t items conds)) n site before st) around n (ap (λ a. a ++ n ∷ []) (stands_here nests site around stands))
+step_rises tables params (Delete t conds) n site before st nests around as_many stands =
+    one_rises nests (own_record tables params (telling tables params (Delete t conds)) n site before st) around n (ap (λ a. a ++ n ∷ []) (stands_here nests site around stands))
+step_rises tables params (Print es) n site before st nests around as_many stands =
+    one_rises nests (own_record tables params (telling tables params (Print es)) n site before st) around n (ap (λ a. a ++ n ∷ []) (stands_here nests site around stands))
+step_rises tables params (Rollback reason) n site before st nests around as_many stands =
+    one_rises nests (own_record tables params (telling tables params (Rollback reason)) n site before st) around n (ap (λ a. a ++ n ∷ []) (stands_here nests site around stands))
+
+pub statement_rises : (tables : List TableInfo) (params : ℕ) (s : RStmt) → Rises (tell tables params s) (size s)
+statement_rises tables params = ind-RStmt (λ s. Rises (tell tables params s) (size s)) (λ x y is.
+    subst (λ z. Rises (tell tables params (roll-RStmt z)) (size (roll-RStmt z))) is (λ n site before st nests around as_many stands.
+    let z : RStmt-F RStmt = map-RStmt (Known tables params) RStmt (λ k. k.0) y in
+    subst (λ rs. Climb (around ++ n ∷ []) (paths_behind nests rs) (around ++ (n + size (roll-RStmt z)) ∷ [])) (sym (ap (λ f. f n site before st) (para-roll-RStmt Tells (tell_step tables params) z)))
+    (subst (λ m. Climb (around ++ n ∷ []) (paths_behind nests (tell_step tables params (telling tables params y) n site before st)) (around ++ (n + m) ∷ [])) (sym (fold-roll-RStmt ℕ size_step z))
+    (step_rises tables params y n site before st nests around as_many stands))))
+
+known_firsts : (tables : List TableInfo) (params : ℕ) (ss : List RStmt) → map (λ (k : Known tables params). k.0) (map (λ s. (s, statement_rises tables params s)) ss) ≡ ss
+known_firsts tables params [] = refl
+known_firsts tables params (s ∷ ss) = ap (λ l. s ∷ l) (known_firsts tables params ss)
+
+pub told_rises : (tables : List TableInfo) (params : ℕ) (ss : List RStmt) → Rises (told tables params ss) (sum (map size ss))
+told_rises tables params ss =
+    subst (λ ts. Rises (told tables params ts) (sum (map size ts))) (known_firsts tables params ss) (all_rise tables params (map (λ s. (s, statement_rises tables params s)) ss))
+
+-- each record's path comes before those of the records behind it
+pub recorded_rises : (tables : List TableInfo) (proc : ProcInfo) (call : Call) (db : Tables) → PathsRise (recorded tables proc call db)
+recorded_rises tables proc call db =
+    climb_pairs (1 ∷ []) (paths (recorded tables proc call db)) ((1 + sum (map size proc.body)) ∷ [])
+    (told_rises tables (length call.arguments) proc.body 1 outside [] (begun proc call db) [] [] refl (λ more. refl))
