@@ -145,22 +145,22 @@ deletes t st (Err e) rise = tt
 leads_none : (st : State) → LeadsTo st [] (Ok st)
 leads_none st rise = (refl, rise)
 
-leads_own : (tables : List TableInfo) (params : ℕ) (y : RStmt-F (RStmt × Tells)) (n : ℕ) (site : Site) (before : List Record) (st : State)
+pub leads_own : {X : Type 0} (tables : List TableInfo) (params : ℕ) (y : RStmt-F X) (n : ℕ) (site : Site) (before : List Record) (st : State)
     → LeadsTo st (own_record tables params y n site before st ∷ []) (itself tables y st)
-leads_own tables params (Assign x e) n site before st = still (itself {X = RStmt × Tells} tables (Assign x e) st) st (then_keeps (value_of e st.env []) _ st (λ v. refl))
-leads_own tables params (Select cs xs t conds sorts offset) n site before st =
-    still (itself {X = RStmt × Tells} tables (Select cs xs t conds sorts offset) st) st (then_keeps (checks_of conds st.env) _ st (λ checks. then_keeps (offset_of offset st.env) _ st (λ at. refl)))
-leads_own tables params (Total agg x t conds) n site before st =
-    still (itself {X = RStmt × Tells} tables (Total agg x t conds) st) st (then_keeps (checks_of conds st.env) _ st (λ checks. then_keeps (aggregate agg (matches t checks st)) _ st (λ v. refl)))
-leads_own tables params (ForSelect x once cs t conds sorts body) n site before st =
-    still (itself {X = RStmt × Tells} tables (ForSelect x once cs t conds sorts body) st) st (then_keeps (then_do (checks_of conds st.env) (λ checks. Ok (fixed once cs sorts (matches t checks st)))) _ st (λ rows. refl))
-leads_own tables params (ForRows x y body) n site before st = still (itself {X = RStmt × Tells} tables (ForRows x y body) st) st refl
-leads_own tables params (Branch e ys ns) n site before st = still (itself {X = RStmt × Tells} tables (Branch e ys ns) st) st (then_keeps (value_of e st.env []) _ st (λ v. refl))
-leads_own tables params (Insert t es) n site before st = inserts tables t st (new_row (columns_at tables t) es st.env)
-leads_own tables params (Update t items conds) n site before st = updates tables t items st (checks_of conds st.env)
-leads_own tables params (Delete t conds) n site before st = deletes t st (checks_of conds st.env)
-leads_own tables params (Print es) n site before st = still (itself {X = RStmt × Tells} tables (Print es) st) st (then_keeps (values_of es st.env) _ st (λ vs. refl))
-leads_own tables params (Rollback reason) n site before st = still (itself {X = RStmt × Tells} tables (Rollback reason) st) st tt
+leads_own {X} tables params (Assign x e) n site before st = still (itself {X = X} tables (Assign x e) st) st (then_keeps (value_of e st.env []) _ st (λ v. refl))
+leads_own {X} tables params (Select cs xs t conds sorts offset) n site before st =
+    still (itself {X = X} tables (Select cs xs t conds sorts offset) st) st (then_keeps (checks_of conds st.env) _ st (λ checks. then_keeps (offset_of offset st.env) _ st (λ at. refl)))
+leads_own {X} tables params (Total agg x t conds) n site before st =
+    still (itself {X = X} tables (Total agg x t conds) st) st (then_keeps (checks_of conds st.env) _ st (λ checks. then_keeps (aggregate agg (matches t checks st)) _ st (λ v. refl)))
+leads_own {X} tables params (ForSelect x once cs t conds sorts body) n site before st =
+    still (itself {X = X} tables (ForSelect x once cs t conds sorts body) st) st (then_keeps (then_do (checks_of conds st.env) (λ checks. Ok (fixed once cs sorts (matches t checks st)))) _ st (λ rows. refl))
+leads_own {X} tables params (ForRows x y body) n site before st = still (itself {X = X} tables (ForRows x y body) st) st refl
+leads_own {X} tables params (Branch e ys ns) n site before st = still (itself {X = X} tables (Branch e ys ns) st) st (then_keeps (value_of e st.env []) _ st (λ v. refl))
+leads_own {X} tables params (Insert t es) n site before st = inserts tables t st (new_row (columns_at tables t) es st.env)
+leads_own {X} tables params (Update t items conds) n site before st = updates tables t items st (checks_of conds st.env)
+leads_own {X} tables params (Delete t conds) n site before st = deletes t st (checks_of conds st.env)
+leads_own {X} tables params (Print es) n site before st = still (itself {X = X} tables (Print es) st) st (then_keeps (values_of es st.env) _ st (λ vs. refl))
+leads_own {X} tables params (Rollback reason) n site before st = still (itself {X = X} tables (Rollback reason) st) st tt
 
 pub leads_law : IsLaw LeadsTo
-leads_law = record { none = leads_none; more = leads_more; enters = leads_inside; own = leads_own }
+leads_law = record { none = leads_none; more = leads_more; enters = leads_inside; own = leads_own {X = RStmt × Tells} }

@@ -8,3 +8,5 @@ pub mod Meant
 pub mod Naming
 pub mod Climbing
 pub mod Rising
+pub mod Slots
+pub mod Effects

@@ -25,7 +25,7 @@ after_of : (k : List Value) (rows : List Keyed) → All (λ b. key_order k b.key
 after_of k [] h = tt
 after_of k (r ∷ rs) h = (h 0 r (omega arith), after_of k rs (λ i d lt. h (suc i) d (omega (arith, lt))))
 
-rises_of : (rows : List Keyed) → IsRising rows → Rises rows
+pub rises_of : (rows : List Keyed) → IsRising rows → Rises rows
 rises_of [] h = tt
 rises_of (r ∷ rs) h =
     (after_of r.key rs (λ i d lt. h 0 (suc i) d (omega arith) (omega (arith, lt))), rises_of rs (λ i j d lt within. h (suc i) (suc j) d (omega (arith, lt)) (omega (arith, within))))

@@ -79,45 +79,45 @@ prints : (values : Result (List Value) End) (r : Record) (st : State) → r.end 
 prints (Ok vs) r st e l = (ap (λ o. option_or o None) e, sym (ap (λ o. st.lines ++ (option_to_list o ++ [])) l))
 prints (Err f) r st e l = record { front = []; last = r; are = refl; goes_on = refl; ends = e }
 
-tells_own : (tables : List TableInfo) (params : ℕ) (y : RStmt-F (RStmt × Tells)) (n : ℕ) (site : Site) (before : List Record) (st : State)
+pub tells_own : {X : Type 0} (tables : List TableInfo) (params : ℕ) (y : RStmt-F X) (n : ℕ) (site : Site) (before : List Record) (st : State)
     → TellsOf st (own_record tables params y n site before st ∷ []) (itself tables y st)
-tells_own tables params (Assign x e) n site before st =
-    quiet (itself {X = RStmt × Tells} tables (Assign x e) st) (own_record {X = RStmt × Tells} tables params (Assign x e) n site before st) st refl refl
+tells_own {X} tables params (Assign x e) n site before st =
+    quiet (itself {X = X} tables (Assign x e) st) (own_record {X = X} tables params (Assign x e) n site before st) st refl refl
     (then_keeps (value_of e st.env []) _ st (λ v. refl))
-tells_own tables params (Select cs xs t conds sorts offset) n site before st =
-    quiet (itself {X = RStmt × Tells} tables (Select cs xs t conds sorts offset) st) (own_record {X = RStmt × Tells} tables params (Select cs xs t conds sorts offset) n site before st) st refl refl
+tells_own {X} tables params (Select cs xs t conds sorts offset) n site before st =
+    quiet (itself {X = X} tables (Select cs xs t conds sorts offset) st) (own_record {X = X} tables params (Select cs xs t conds sorts offset) n site before st) st refl refl
     (then_keeps (checks_of conds st.env) _ st (λ checks. then_keeps (offset_of offset st.env) _ st (λ at. refl)))
-tells_own tables params (Total agg x t conds) n site before st =
-    quiet (itself {X = RStmt × Tells} tables (Total agg x t conds) st) (own_record {X = RStmt × Tells} tables params (Total agg x t conds) n site before st) st refl refl
+tells_own {X} tables params (Total agg x t conds) n site before st =
+    quiet (itself {X = X} tables (Total agg x t conds) st) (own_record {X = X} tables params (Total agg x t conds) n site before st) st refl refl
     (then_keeps (checks_of conds st.env) _ st (λ checks. then_keeps (aggregate agg (matches t checks st)) _ st (λ v. refl)))
-tells_own tables params (ForSelect x once cs t conds sorts body) n site before st =
-    quiet (itself {X = RStmt × Tells} tables (ForSelect x once cs t conds sorts body) st) (own_record {X = RStmt × Tells} tables params (ForSelect x once cs t conds sorts body) n site before st) st refl refl
+tells_own {X} tables params (ForSelect x once cs t conds sorts body) n site before st =
+    quiet (itself {X = X} tables (ForSelect x once cs t conds sorts body) st) (own_record {X = X} tables params (ForSelect x once cs t conds sorts body) n site before st) st refl refl
     (then_keeps (then_do (checks_of conds st.env) (λ checks. Ok (fixed once cs sorts (matches t checks st)))) _ st (λ rows. refl))
-tells_own tables params (ForRows x y body) n site before st =
-    quiet (itself {X = RStmt × Tells} tables (ForRows x y body) st) (own_record {X = RStmt × Tells} tables params (ForRows x y body) n site before st) st refl refl refl
-tells_own tables params (Branch e ys ns) n site before st =
-    quiet (itself {X = RStmt × Tells} tables (Branch e ys ns) st) (own_record {X = RStmt × Tells} tables params (Branch e ys ns) n site before st) st refl refl
+tells_own {X} tables params (ForRows x y body) n site before st =
+    quiet (itself {X = X} tables (ForRows x y body) st) (own_record {X = X} tables params (ForRows x y body) n site before st) st refl refl refl
+tells_own {X} tables params (Branch e ys ns) n site before st =
+    quiet (itself {X = X} tables (Branch e ys ns) st) (own_record {X = X} tables params (Branch e ys ns) n site before st) st refl refl
     (then_keeps (value_of e st.env []) _ st (λ v. refl))
-tells_own tables params (Insert t es) n site before st =
-    quiet (itself {X = RStmt × Tells} tables (Insert t es) st) (own_record {X = RStmt × Tells} tables params (Insert t es) n site before st) st refl refl
+tells_own {X} tables params (Insert t es) n site before st =
+    quiet (itself {X = X} tables (Insert t es) st) (own_record {X = X} tables params (Insert t es) n site before st) st refl refl
     (then_keeps (new_row (columns_at tables t) es st.env) _ st (λ row. then_keeps (put_row (keyed (key_columns tables t) row) (rows_at st.tables t)) _ st (λ rows. refl)))
-tells_own tables params (Update t items conds) n site before st =
-    quiet (itself {X = RStmt × Tells} tables (Update t items conds) st) (own_record {X = RStmt × Tells} tables params (Update t items conds) n site before st) st refl refl
+tells_own {X} tables params (Update t items conds) n site before st =
+    quiet (itself {X = X} tables (Update t items conds) st) (own_record {X = X} tables params (Update t items conds) n site before st) st refl refl
     (then_keeps (checks_of conds st.env) _ st (λ checks.
     then_keeps (updated (λ row. set_row (columns_at tables t) (key_columns tables t) st.env row items row) checks (rows_at st.tables t)) _ st (λ rows. refl)))
-tells_own tables params (Delete t conds) n site before st =
-    quiet (itself {X = RStmt × Tells} tables (Delete t conds) st) (own_record {X = RStmt × Tells} tables params (Delete t conds) n site before st) st refl refl
+tells_own {X} tables params (Delete t conds) n site before st =
+    quiet (itself {X = X} tables (Delete t conds) st) (own_record {X = X} tables params (Delete t conds) n site before st) st refl refl
     (then_keeps (checks_of conds st.env) _ st (λ checks. refl))
-tells_own tables params (Print es) n site before st = prints (values_of es st.env) (own_record {X = RStmt × Tells} tables params (Print es) n site before st) st refl refl
-tells_own tables params (Rollback reason) n site before st =
-    record { front = []; last = own_record {X = RStmt × Tells} tables params (Rollback reason) n site before st; are = refl; goes_on = refl; ends = refl }
+tells_own {X} tables params (Print es) n site before st = prints (values_of es st.env) (own_record {X = X} tables params (Print es) n site before st) st refl refl
+tells_own {X} tables params (Rollback reason) n site before st =
+    record { front = []; last = own_record {X = X} tables params (Rollback reason) n site before st; are = refl; goes_on = refl; ends = refl }
 
 tells_law : IsLaw TellsOf
 tells_law = record {
   none = λ st. (refl, sym (append-nil st.lines));
   more = tells_more;
   enters = tells_inside;
-  own = tells_own;
+  own = tells_own {X = RStmt × Tells};
 }
 
 -- the lines and the end of a full run are the machine's

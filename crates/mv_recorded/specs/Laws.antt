@@ -1,16 +1,22 @@
 -- What holds of the records of every full run.
-use Rattle.std.specs.Prelude.{◌≡◌, ℕ, List, length}
+use Rattle.std.specs.Prelude.{◌≡◌, ℕ, List, Ok, length}
 use Rattle.mv_values.specs.declared.schema.TableInfo.{TableInfo}
 use Rattle.mv_values.specs.declared.calls.Call.{Call}
 use Rattle.mv_values.specs.Keys.{IsRising}
 use Rattle.mv_values.specs.Tables.{rows_at}
 use Rattle.mv_catalog.specs.declared.resolved.ProcInfo.{ProcInfo}
 use Rattle.mv_catalog.specs.declared.resolved.Program.{Program}
+use Rattle.mv_catalog.specs.declared.resolved.RStmt.{RStmt}
+use Rattle.mv_catalog.specs.declared.resolved.RStmt.TheOpen.{RStmt-F}
+use Rattle.mv_serial.specs.declared.state.State.{State}
 use Rattle.mv_serial.specs.Executed.{counted}
 use Rattle.mv_serial.specs.TableAfter.{Tables, begun, executed}
 use Rattle.mv_record.specs.Runs.{TellsAll, NamesEarlier}
 use Rattle.mv_record.specs.Paths.{PathsRise}
-use Rattle.mv_recorded.specs.Recorded.{recorded, records, meaning}
+use Rattle.mv_record.specs.declared.record.Record.{Record}
+use Rattle.mv_recorded.specs.Doing.{itself}
+use Rattle.mv_recorded.specs.Effect.{behind, HasColumns}
+use Rattle.mv_recorded.specs.Recorded.{Site, own_record, recorded, records, meaning}
 
 -- they are as many as statements are executed
 abbrev pub RunsCounted : Type 0
@@ -31,3 +37,9 @@ NamesEarlierOnes = (tables : List TableInfo) (proc : ProcInfo) (call : Call) (db
 -- they stand in the order of their paths
 abbrev pub PathsAreInOrder : Type 0
 PathsAreInOrder = (tables : List TableInfo) (proc : ProcInfo) (call : Call) (db : Tables) → PathsRise (recorded tables proc call db)
+
+-- of a statement that goes on, the record makes the state behind it of the one before it, where the keys of each table rise
+abbrev pub EffectsTold : Type 0
+EffectsTold =
+    (tables : List TableInfo) (params : ℕ) (s : RStmt-F RStmt) (n : ℕ) (site : Site) (before : List Record) (st next : State) → HasColumns s
+    → ((t : ℕ) → IsRising (rows_at st.tables t)) → itself tables s st ≡ Ok next → next ≡ behind (own_record tables params s n site before st) st

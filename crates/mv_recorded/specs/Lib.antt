@@ -2,4 +2,5 @@ pub mod Reading
 pub mod Asking
 pub mod Doing
 pub mod Recorded
+pub mod Effect
 pub mod Laws

@@ -1,6 +1,6 @@
 //! What holds of the records of every full run, of whatever procedure, call and database.
 
-ghost use Rattle.mv_recorded.specs.Laws.{RunsCounted, CallsCounted, MeaningsTell, NamesEarlierOnes, PathsAreInOrder};
+ghost use Rattle.mv_recorded.specs.Laws.{RunsCounted, CallsCounted, MeaningsTell, NamesEarlierOnes, PathsAreInOrder, EffectsTold};
 
 /// A full run leaves as many records as it executes statements.
 #[tactic(auto, using(crate::proofs::Counted::recorded_counted, crate::proofs::Counted::records_counted))]
@@ -28,5 +28,11 @@ pub fn records_name_earlier_ones()
 #[tactic(auto, using(crate::proofs::Rising::recorded_rises))]
 pub fn paths_rise()
     ensures { PathsAreInOrder }
+{
+}
+
+/// A record tells the whole effect of its statement.
+pub fn effects_are_told()
+    ensures { EffectsTold }
 {
 }
