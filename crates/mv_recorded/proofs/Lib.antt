@@ -10,3 +10,5 @@ pub mod Climbing
 pub mod Rising
 pub mod Slots
 pub mod Effects
+pub mod Unrolled
+pub mod Examples

@@ -3,4 +3,5 @@ pub mod Asking
 pub mod Doing
 pub mod Recorded
 pub mod Effect
+pub mod Examples
 pub mod Laws

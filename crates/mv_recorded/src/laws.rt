@@ -1,5 +1,6 @@
 //! What holds of the records of every full run, of whatever procedure, call and database.
 
+ghost use Rattle.mv_recorded.specs.Examples.{AddsFive, AddOverflows, UpdateOverflows, LooksInVain, Transfers, TransferRollsBack, AddsUp};
 ghost use Rattle.mv_recorded.specs.Laws.{RunsCounted, CallsCounted, MeaningsTell, NamesEarlierOnes, PathsAreInOrder, EffectsTold};
 
 /// A full run leaves as many records as it executes statements.
@@ -34,5 +35,18 @@ pub fn paths_rise()
 /// A record tells the whole effect of its statement.
 pub fn effects_are_told()
     ensures { EffectsTold }
+{
+}
+
+/// The records of small procedures, worked out by hand.
+#[tactic(auto, using(crate::proofs::Examples::adds_five, crate::proofs::Examples::add_overflows, crate::proofs::Examples::update_overflows, crate::proofs::Examples::looks_in_vain, crate::proofs::Examples::transfers, crate::proofs::Examples::transfer_rolls_back, crate::proofs::Examples::adds_up))]
+pub fn worked_examples()
+    ensures add { AddsFive }
+    ensures overflow { AddOverflows }
+    ensures update_overflow { UpdateOverflows }
+    ensures no_row { LooksInVain }
+    ensures transfer { Transfers }
+    ensures rollback { TransferRollsBack }
+    ensures turns { AddsUp }
 {
 }

@@ -1,0 +1,265 @@
+-- Records of small procedures, worked out by hand.
+use Rattle.std.specs.Prelude.{◌≡◌, ℕ, pos, List, [], ◌∷◌, Option, Some, None}
+use Rattle.mv_values.specs.declared.value.Value.{Value}
+use Rattle.mv_values.specs.declared.value.Value.TheVariants.{Int, Text}
+use Rattle.mv_values.specs.declared.op.Op.TheVariants.{Eq, Lt}
+use Rattle.mv_values.specs.declared.rows.Keyed.{Keyed}
+use Rattle.mv_values.specs.declared.pred.Pred.{Pred}
+use Rattle.mv_values.specs.declared.patch.Patch.TheVariants as patch
+use Rattle.mv_values.specs.declared.patch.Write.{Write}
+use Rattle.mv_values.specs.declared.calls.Call.{Call}
+use Rattle.mv_values.specs.declared.calls.Argument.{Argument}
+use Rattle.mv_values.specs.declared.calls.Argument.TheVariants.{One, Many}
+use Rattle.mv_values.specs.declared.calls.End.TheVariants.{Own, Overflow}
+use Rattle.mv_values.specs.declared.schema.TableInfo.{TableInfo}
+use Rattle.mv_values.specs.declared.schema.ColType.TheVariants as column
+use Rattle.mv_ast.specs.declared.tree.TwoOp.{TwoOp}
+use Rattle.mv_ast.specs.declared.tree.TwoOp.TheVariants.{Add, Sub, Compare}
+use Rattle.mv_catalog.specs.declared.resolved.RExpr.{RExpr}
+use Rattle.mv_catalog.specs.declared.resolved.RExprKind.{RExprKind}
+use Rattle.mv_catalog.specs.declared.resolved.RExprKind.TheViews.{roll-RExprKind}
+use Rattle.mv_catalog.specs.declared.resolved.RExprKind.TheOpen.{RExprKind-F}
+use Rattle.mv_catalog.specs.declared.resolved.RExprKind.TheOpen as kind
+use Rattle.mv_catalog.specs.declared.resolved.RCond.{RCond}
+use Rattle.mv_catalog.specs.declared.resolved.ProcInfo.{ProcInfo}
+use Rattle.mv_catalog.specs.declared.resolved.RStmt.{RStmt, roll-RStmt}
+use Rattle.mv_catalog.specs.declared.resolved.RStmt.TheOpen.{RStmt-F, Assign, Select, ForRows, Branch, Update, Print, Rollback}
+use Rattle.mv_record.specs.declared.record.Record.{Record}
+use Rattle.mv_record.specs.declared.record.Read.{Read}
+use Rattle.mv_record.specs.declared.record.Slot.{Slot}
+use Rattle.mv_record.specs.Paths.{paths}
+use Rattle.mv_recorded.specs.Recorded.{recorded}
+
+-- Expressions
+
+-- an expression of a kind
+abbrev pub expr : RExprKind-F RExprKind RExpr → RExpr
+expr d = record { kind = roll-RExprKind d }
+
+abbrev pub constant : Value → RExpr
+constant v = expr (kind.Const v)
+
+abbrev pub var : ℕ → RExpr
+var x = expr (kind.Var x)
+
+abbrev pub field : ℕ → ℕ → RExpr
+field x c = expr (kind.Field x c)
+
+abbrev pub col : ℕ → RExpr
+col c = expr (kind.Col c)
+
+abbrev pub two : TwoOp → RExpr → RExpr → RExpr
+two op a b = expr (kind.Two op a b)
+
+-- Accounts with a number, a balance and a note
+
+abbrev pub acc : List TableInfo
+acc = record {
+  name = [];
+  columns = record { name = []; kind = column.Int } ∷ record { name = []; kind = column.Int } ∷ record { name = []; kind = column.Text 20 } ∷ [];
+  key = 0 ∷ [];
+} ∷ []
+
+abbrev pub account : ℕ → ℕ → Keyed
+account a b = record { key = Int (pos a) ∷ []; row = Int (pos a) ∷ Int (pos b) ∷ Text [] ∷ [] }
+
+-- two accounts beside the one for fees
+abbrev pub bank : List (List Keyed)
+bank = (account 0 0 ∷ account 1 100 ∷ account 2 100 ∷ []) ∷ []
+
+-- WHERE id = x
+abbrev pub of_account : RExpr → List RCond
+of_account x = record { column = 0; op = Eq; right = x } ∷ []
+
+-- the account a, of which these columns are selected
+abbrev pub asks : ℕ → List ℕ → List Pred
+asks a cs = record { table = 0; tests = record { column = 0; key_place = Some 0; op = Eq; value = Int (pos a) } ∷ []; columns = cs } ∷ []
+
+abbrev pub writes_balance : ℕ → ℕ → List Write
+writes_balance a b = record { table = 0; key = Int (pos a) ∷ []; patch = patch.Set (record { column = 1; value = Int (pos b) } ∷ []) } ∷ []
+
+-- Records
+
+abbrev pub reads : ℕ → ℕ → Read
+reads x number = record { slot = x; definer = Some number }
+
+abbrev pub reads_default : ℕ → Read
+reads_default x = record { slot = x; definer = None }
+
+abbrev pub sets : ℕ → ℕ → Slot
+sets x n = record { slot = x; value = Int (pos n) }
+
+abbrev pub blank : ℕ → Record
+blank n = record { spot = record { statement = n; turns = [] }; parent = None; reads = []; preds = []; sets = []; rows = []; writes = []; line = None; end = None }
+
+abbrev pub call_of : List Argument → Call
+call_of arguments = record { procedure = 0; arguments = arguments }
+
+abbrev pub number_of : ℕ → Argument
+number_of n = One (Int (pos n))
+
+-- SELECT bal INTO x FROM acc WHERE id = :a
+abbrev pub read_balance : ℕ → RStmt-F RStmt
+read_balance x = Select (1 ∷ []) (x ∷ []) 0 (of_account (var 0)) [] None
+
+-- PROCEDURE add (:a, :x): the variables are a, x, b and `:found`
+
+abbrev pub add_amount : RStmt-F RStmt
+add_amount = Assign 2 (two Add (var 2) (var 1))
+
+abbrev pub set_balance : RStmt-F RStmt
+set_balance = Update 0 (record { column = 1; right = var 2 } ∷ []) (of_account (var 0))
+
+abbrev pub tell_balance : RStmt-F RStmt
+tell_balance = Print (var 2 ∷ [])
+
+abbrev pub add : ProcInfo
+add = record {
+  name = []; params = []; defaults = Int (pos 0) ∷ [];
+  body = roll-RStmt (read_balance 2) ∷ roll-RStmt add_amount ∷ roll-RStmt set_balance ∷ roll-RStmt tell_balance ∷ [];
+}
+
+abbrev pub add_read : Record
+add_read = record (blank 1) { preds = asks 1 (1 ∷ []); sets = sets 2 100 ∷ sets 3 1 ∷ [] }
+
+abbrev pub add_sum : Record
+add_sum = record (blank 2) { reads = reads 2 0 ∷ []; sets = sets 2 105 ∷ [] }
+
+abbrev pub add_write : Record
+add_write = record (blank 3) { reads = reads 2 1 ∷ []; preds = asks 1 []; sets = sets 3 1 ∷ []; writes = writes_balance 1 105 }
+
+abbrev pub add_line : Record
+add_line = record (blank 4) { reads = reads 2 1 ∷ []; line = Some (49 ∷ 48 ∷ 53 ∷ []) }
+
+-- the sum is read by the UPDATE and by the PRINT
+abbrev pub AddsFive : Type 0
+AddsFive = recorded acc add (call_of (number_of 1 ∷ number_of 5 ∷ [])) bank ≡ add_read ∷ add_sum ∷ add_write ∷ add_line ∷ []
+
+abbrev pub greatest : ℕ
+greatest = 9223372036854775807
+
+abbrev pub add_overflow : Record
+add_overflow = record (blank 2) { reads = reads 2 0 ∷ []; end = Some Overflow }
+
+-- the second record ends the call, and has set nothing
+abbrev pub AddOverflows : Type 0
+AddOverflows = recorded acc add (call_of (number_of 1 ∷ number_of greatest ∷ [])) bank ≡ add_read ∷ add_overflow ∷ []
+
+-- PROCEDURE raise (:a, :x): UPDATE acc SET bal = bal + :x WHERE id = :a
+
+abbrev pub raise_balance : RStmt-F RStmt
+raise_balance = Update 0 (record { column = 1; right = two Add (col 1) (var 1) } ∷ []) (of_account (var 0))
+
+abbrev pub raise : ProcInfo
+raise = record { name = []; params = []; defaults = []; body = roll-RStmt raise_balance ∷ [] }
+
+-- it faulted after rows were looked at: it has its predicate and its end, and changes nothing
+abbrev pub UpdateOverflows : Type 0
+UpdateOverflows =
+    recorded acc raise (call_of (number_of 1 ∷ number_of greatest ∷ [])) bank ≡ record (blank 1) { preds = asks 1 (1 ∷ []); end = Some Overflow } ∷ []
+
+-- PROCEDURE look (:a): the variables are a, b and `:found`; SELECT bal INTO :b FROM acc WHERE id = :a; PRINT :b, :found
+
+abbrev pub tell_found : RStmt-F RStmt
+tell_found = Print (var 1 ∷ var 2 ∷ [])
+
+abbrev pub look : ProcInfo
+look = record { name = []; params = []; defaults = Int (pos 0) ∷ []; body = roll-RStmt (read_balance 1) ∷ roll-RStmt tell_found ∷ [] }
+
+abbrev pub look_read : Record
+look_read = record (blank 1) { preds = asks 7 (1 ∷ []); sets = sets 2 0 ∷ [] }
+
+abbrev pub look_line : Record
+look_line = record (blank 2) { reads = reads_default 1 ∷ reads 2 0 ∷ []; line = Some (48 ∷ 44 ∷ 48 ∷ []) }
+
+-- a SELECT without a row sets `:found` alone: its target is still the default
+abbrev pub LooksInVain : Type 0
+LooksInVain = recorded acc look (call_of (number_of 7 ∷ [])) bank ≡ look_read ∷ look_line ∷ []
+
+-- PROCEDURE transfer (:a, :c, :x): the variables are a, c, x, b and `:found`
+
+-- IF :b < :x THEN ROLLBACK 'no funds'; END IF
+abbrev pub no_funds : List ℕ
+no_funds = 110 ∷ 111 ∷ 32 ∷ 102 ∷ 117 ∷ 110 ∷ 100 ∷ 115 ∷ []
+
+abbrev pub look_at_funds : RStmt-F RStmt
+look_at_funds = Branch (two (Compare Lt) (var 3) (var 2)) (roll-RStmt (Rollback no_funds) ∷ []) []
+
+abbrev pub take_amount : RStmt-F RStmt
+take_amount = Update 0 (record { column = 1; right = two Sub (col 1) (var 2) } ∷ []) (of_account (var 0))
+
+abbrev pub give_amount : RStmt-F RStmt
+give_amount = Update 0 (record { column = 1; right = two Add (col 1) (var 2) } ∷ []) (of_account (var 1))
+
+abbrev pub take_fee : RStmt-F RStmt
+take_fee = Update 0 (record { column = 1; right = two Add (col 1) (constant (Int (pos 1))) } ∷ []) (of_account (constant (Int (pos 0))))
+
+abbrev pub transfer : ProcInfo
+transfer = record {
+  name = []; params = []; defaults = Int (pos 0) ∷ [];
+  body = roll-RStmt (read_balance 3) ∷ roll-RStmt look_at_funds ∷ roll-RStmt take_amount ∷ roll-RStmt give_amount ∷ roll-RStmt take_fee ∷ [];
+}
+
+abbrev pub call_transfer : ℕ → Call
+call_transfer x = call_of (number_of 1 ∷ number_of 2 ∷ number_of x ∷ [])
+
+abbrev pub read_first : Record
+read_first = record (blank 1) { preds = asks 1 (1 ∷ []); sets = sets 3 100 ∷ sets 4 1 ∷ [] }
+
+-- an IF has read what its condition names, and sets nothing
+abbrev pub looked : Record
+looked = record (blank 2) { reads = reads 3 0 ∷ [] }
+
+-- its controller is the record of the IF, which has the number 1
+abbrev pub rolled_back : Record
+rolled_back = record (blank 3) { parent = Some 1; end = Some (Own no_funds) }
+
+abbrev pub taken : Record
+taken = record (blank 4) { preds = asks 1 (1 ∷ []); sets = sets 4 1 ∷ []; writes = writes_balance 1 90 }
+
+abbrev pub given : Record
+given = record (blank 5) { preds = asks 2 (1 ∷ []); sets = sets 4 1 ∷ []; writes = writes_balance 2 110 }
+
+abbrev pub fee_taken : Record
+fee_taken = record (blank 6) { preds = asks 0 (1 ∷ []); sets = sets 4 1 ∷ []; writes = writes_balance 0 1 }
+
+-- what the IF holds isn't executed, but counts in the numbers of the statements behind it
+abbrev pub Transfers : Type 0
+Transfers = recorded acc transfer (call_transfer 10) bank ≡ read_first ∷ looked ∷ taken ∷ given ∷ fee_taken ∷ []
+
+-- none comes behind the ROLLBACK; an IF adds nothing to the paths of what it holds
+abbrev pub TransferRollsBack : Type 0
+TransferRollsBack =
+    (recorded acc transfer (call_transfer 150) bank ≡ read_first ∷ looked ∷ rolled_back ∷ [])
+    × (paths (read_first ∷ looked ∷ rolled_back ∷ []) ≡ (1 ∷ []) ∷ (2 ∷ []) ∷ (3 ∷ []) ∷ [])
+
+-- PROCEDURE total (:lines ROWS): FOR :l IN :lines DO SET :n = :n + :l.q; END FOR; the variables are lines, n, `:found` and l
+
+abbrev pub add_line_amount : RStmt-F RStmt
+add_line_amount = Assign 1 (two Add (var 1) (field 3 0))
+
+abbrev pub over_lines : RStmt-F RStmt
+over_lines = ForRows 3 0 (roll-RStmt add_line_amount ∷ [])
+
+abbrev pub total : ProcInfo
+total = record { name = []; params = []; defaults = Int (pos 0) ∷ []; body = roll-RStmt over_lines ∷ [] }
+
+abbrev pub lines : List (List Value)
+lines = (Int (pos 5) ∷ []) ∷ (Int (pos 7) ∷ []) ∷ []
+
+abbrev pub loop_record : Record
+loop_record = record (blank 1) { sets = sets 2 1 ∷ []; rows = lines }
+
+abbrev pub first_turn : Record
+first_turn =
+    record (blank 2) { spot = record { statement = 2; turns = 1 ∷ [] }; parent = Some 0; reads = reads_default 1 ∷ reads 3 0 ∷ []; sets = sets 1 5 ∷ [] }
+
+abbrev pub second_turn : Record
+second_turn =
+    record (blank 2) { spot = record { statement = 2; turns = 2 ∷ [] }; parent = Some 0; reads = reads 1 1 ∷ reads 3 0 ∷ []; sets = sets 1 12 ∷ [] }
+
+-- turns count from 1; the row is read from the FOR's record, and the sum from the turn before; each turn has paths of its own
+abbrev pub AddsUp : Type 0
+AddsUp =
+    (recorded [] total (call_of (Many lines ∷ [])) [] ≡ loop_record ∷ first_turn ∷ second_turn ∷ [])
+    × (paths (loop_record ∷ first_turn ∷ second_turn ∷ []) ≡ (1 ∷ []) ∷ (1 ∷ 1 ∷ 2 ∷ []) ∷ (1 ∷ 2 ∷ 2 ∷ []) ∷ [])
