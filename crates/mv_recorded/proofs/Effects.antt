@@ -13,14 +13,14 @@ use Rattle.mv_values.specs.Tables.{rows_at, key_columns, columns_at}
 use Rattle.mv_catalog.specs.declared.resolved.RAgg.{RAgg}
 use Rattle.mv_catalog.specs.declared.resolved.RAgg.TheVariants.{CountAll, CountDistinct, Sum, Min, Max}
 use Rattle.mv_catalog.specs.declared.resolved.RStmt.TheOpen.{RStmt-F, Assign, Select, Total, ForSelect, ForRows, Branch, Insert, Update, Delete, Print, Rollback}
-use Rattle.mv_serial.specs.declared.state.Env.{Env}
-use Rattle.mv_serial.specs.declared.state.State.{State}
-use Rattle.mv_serial.specs.Outcome.{then_do}
-use Rattle.mv_serial.specs.Env.{scalar_at, turns_at, with_value, with_values, with_found, truth}
-use Rattle.mv_serial.specs.Value.{value_of, values_of, fitted, is_so, number}
-use Rattle.mv_serial.specs.Rows.{checks_of, aggregate, total, sum_of, distinct, projected, column, is_some_row, ordered, item_at}
-use Rattle.mv_serial.specs.Changes.{new_row, put_row, keyed, updated, set_row}
-use Rattle.mv_serial.specs.Alone.{matches, offset_of, taken, totalled, is_turn}
+use Rattle.mv_alone.specs.declared.state.Env.{Env}
+use Rattle.mv_alone.specs.declared.state.State.{State}
+use Rattle.mv_alone.specs.Outcome.{then_do}
+use Rattle.mv_alone.specs.Env.{scalar_at, turns_at, with_value, with_values, with_found, truth}
+use Rattle.mv_alone.specs.Value.{value_of, values_of, fitted, is_so, number}
+use Rattle.mv_alone.specs.Rows.{checks_of, aggregate, total, sum_of, distinct, projected, column, is_some_row, ordered, item_at}
+use Rattle.mv_alone.specs.Changes.{new_row, put_row, keyed, updated, set_row}
+use Rattle.mv_alone.specs.Alone.{matches, offset_of, taken, totalled, is_turn}
 use Rattle.mv_record.specs.declared.record.Slot.{Slot}
 use Rattle.mv_record.specs.declared.record.Record.{Record}
 use Rattle.mv_recorded.specs.Asking.{on}

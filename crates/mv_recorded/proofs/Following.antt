@@ -5,19 +5,20 @@ use Rattle.mv_values.specs.declared.schema.TableInfo.{TableInfo}
 use Rattle.mv_values.specs.declared.calls.End.{End}
 use Rattle.mv_catalog.specs.declared.resolved.RStmt.{RStmt, roll-RStmt, map-RStmt, ind-RStmt, fold-roll-RStmt, para-roll-RStmt}
 use Rattle.mv_catalog.specs.declared.resolved.RStmt.TheOpen.{RStmt-F, Assign, Select, Total, ForSelect, ForRows, Branch, Insert, Update, Delete, Print, Rollback}
-use Rattle.mv_serial.specs.declared.state.Env.{Env}
-use Rattle.mv_serial.specs.declared.state.State.{State}
-use Rattle.mv_serial.specs.declared.state.Check.{Check}
-use Rattle.mv_serial.specs.declared.state.Held.TheVariants.{Turn}
-use Rattle.mv_serial.specs.Outcome.{then_do}
-use Rattle.mv_serial.specs.Env.{with_found, with_held, turns_at}
-use Rattle.mv_serial.specs.Value.{value_of, is_so}
-use Rattle.mv_serial.specs.Rows.{checks_of}
-use Rattle.mv_serial.specs.Alone.{Does, alone, does, stmt_step, each_turn, loop_over, fixed, matches, is_turn}
+use Rattle.mv_alone.specs.declared.state.Env.{Env}
+use Rattle.mv_alone.specs.declared.state.State.{State}
+use Rattle.mv_alone.specs.declared.state.Check.{Check}
+use Rattle.mv_alone.specs.declared.state.Held.TheVariants.{Turn}
+use Rattle.mv_alone.specs.Outcome.{then_do}
+use Rattle.mv_alone.specs.Env.{with_found, with_held, turns_at}
+use Rattle.mv_alone.specs.Value.{value_of, is_so}
+use Rattle.mv_alone.specs.Rows.{checks_of}
+use Rattle.mv_alone.specs.Alone.{Does, alone, does, stmt_step, each_turn, loop_over, fixed, matches, is_turn}
 use Rattle.mv_record.specs.declared.record.Record.{Record}
 use Rattle.mv_recorded.specs.Asking.{on}
 use Rattle.mv_recorded.specs.Doing.{itself, before_turns}
-use Rattle.mv_recorded.specs.Recorded.{Tells, Site, tell, tell_step, tell_turns, tell_loop, own_record, in_turn, within, within_loop, size, told}
+use Rattle.mv_catalog.specs.Statements.{size}
+use Rattle.mv_recorded.specs.Recorded.{Tells, Site, tell, tell_step, tell_turns, tell_loop, own_record, in_turn, within, within_loop, told}
 use Rattle.mv_recorded.proofs.Counted.{firsts}
 
 -- what may be said of a run: the state that it began with, its records, and the state or the end that it came to

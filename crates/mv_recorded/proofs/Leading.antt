@@ -15,14 +15,14 @@ use Rattle.mv_catalog.specs.declared.resolved.RExpr.{RExpr}
 use Rattle.mv_catalog.specs.declared.resolved.RSetItem.{RSetItem}
 use Rattle.mv_catalog.specs.declared.resolved.RStmt.{RStmt}
 use Rattle.mv_catalog.specs.declared.resolved.RStmt.TheOpen.{RStmt-F, Assign, Select, Total, ForSelect, ForRows, Branch, Insert, Update, Delete, Print, Rollback}
-use Rattle.mv_serial.specs.declared.state.Env.{Env}
-use Rattle.mv_serial.specs.declared.state.Check.{Check}
-use Rattle.mv_serial.specs.declared.state.State.{State}
-use Rattle.mv_serial.specs.Outcome.{then_do}
-use Rattle.mv_serial.specs.Value.{value_of, values_of}
-use Rattle.mv_serial.specs.Rows.{checks_of, aggregate, matching, is_some_row}
-use Rattle.mv_serial.specs.Changes.{new_row, put_row, keyed, updated, set_row, without}
-use Rattle.mv_serial.specs.Alone.{Does, matches, offset_of, fixed, with_rows}
+use Rattle.mv_alone.specs.declared.state.Env.{Env}
+use Rattle.mv_alone.specs.declared.state.Check.{Check}
+use Rattle.mv_alone.specs.declared.state.State.{State}
+use Rattle.mv_alone.specs.Outcome.{then_do}
+use Rattle.mv_alone.specs.Value.{value_of, values_of}
+use Rattle.mv_alone.specs.Rows.{checks_of, aggregate, matching, is_some_row}
+use Rattle.mv_alone.specs.Changes.{new_row, put_row, keyed, updated, set_row, without}
+use Rattle.mv_alone.specs.Alone.{Does, matches, offset_of, fixed, with_rows}
 use Rattle.mv_record.specs.declared.record.Record.{Record}
 use Rattle.mv_record.specs.Runs.{Tables, writes_in}
 use Rattle.mv_recorded.specs.Asking.{on}

@@ -10,9 +10,9 @@ use Rattle.mv_values.specs.Keys.{IsRising}
 use Rattle.mv_values.specs.Order.{key_order}
 use Rattle.mv_values.specs.Tables.{rows_at}
 use Rattle.mv_catalog.specs.declared.resolved.ProcInfo.{ProcInfo}
-use Rattle.mv_serial.specs.declared.state.State.{State}
-use Rattle.mv_serial.specs.Alone.{alone}
-use Rattle.mv_serial.specs.TableAfter.{Tables, begun, reply_in, tables_left}
+use Rattle.mv_alone.specs.declared.state.State.{State}
+use Rattle.mv_alone.specs.Alone.{alone}
+use Rattle.mv_alone.specs.TableAfter.{Tables, begun, reply_in, tables_left}
 use Rattle.mv_record.specs.declared.record.Record.{Record}
 use Rattle.mv_record.specs.Runs.{TellsAll, writes_in, lines_in}
 use Rattle.mv_recorded.specs.Recorded.{recorded, meaning, outside}

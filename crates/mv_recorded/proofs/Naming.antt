@@ -10,18 +10,19 @@ use Rattle.mv_catalog.specs.declared.resolved.ProcInfo.{ProcInfo}
 use Rattle.mv_catalog.specs.declared.resolved.RExpr.{RExpr}
 use Rattle.mv_catalog.specs.declared.resolved.RStmt.{RStmt, roll-RStmt, map-RStmt, ind-RStmt, para-roll-RStmt}
 use Rattle.mv_catalog.specs.declared.resolved.RStmt.TheOpen.{RStmt-F, Assign, Select, Total, ForSelect, ForRows, Branch, Insert, Update, Delete, Print, Rollback}
-use Rattle.mv_serial.specs.declared.state.State.{State}
-use Rattle.mv_serial.specs.declared.state.Held.TheVariants.{Turn}
-use Rattle.mv_serial.specs.Env.{with_found, with_held}
-use Rattle.mv_serial.specs.Value.{value_of, is_so}
-use Rattle.mv_serial.specs.Alone.{Does, does, is_turn}
-use Rattle.mv_serial.specs.TableAfter.{Tables, begun}
+use Rattle.mv_alone.specs.declared.state.State.{State}
+use Rattle.mv_alone.specs.declared.state.Held.TheVariants.{Turn}
+use Rattle.mv_alone.specs.Env.{with_found, with_held}
+use Rattle.mv_alone.specs.Value.{value_of, is_so}
+use Rattle.mv_alone.specs.Alone.{Does, does, is_turn}
+use Rattle.mv_alone.specs.TableAfter.{Tables, begun}
 use Rattle.mv_record.specs.declared.record.Record.{Record}
 use Rattle.mv_record.specs.Runs.{IsEarlier, ReadsEarlier, NamesEarlier}
 use Rattle.mv_recorded.specs.Asking.{on}
 use Rattle.mv_recorded.specs.Doing.{fixed_rows}
 use Rattle.mv_recorded.specs.Reading.{Loop, loop_of, last_place, sets_variable, definer, read_variables, reads_of, expressions}
-use Rattle.mv_recorded.specs.Recorded.{Tells, Site, tell, tell_inner, tell_step, tell_turns, tell_loop, own_record, in_turn, within, within_loop, body_of, size, size_of, told, outside, recorded}
+use Rattle.mv_catalog.specs.Statements.{size}
+use Rattle.mv_recorded.specs.Recorded.{Tells, Site, tell, tell_inner, tell_step, tell_turns, tell_loop, own_record, in_turn, within, within_loop, body_of, size_of, told, outside, recorded}
 
 -- the loops around began earlier
 abbrev LoopsEarlier : ℕ → List Loop → Type 0

@@ -2,8 +2,6 @@
 use Rattle.std.proofs.Common.{◌≡◌, ℕ, zero, suc, ◌+◌, ◌<◌, ◌≤◌, Bool, true, false, List, [], ◌∷◌, ◌++◌, Option, Some, None, Result, Ok, Err, AllPairs, map, drop, length, nat_lt, slice_get, if◌then◌else◌, refl, sym, ap, subst, ◌∙◌, arith, length-append, append-nil, append_assoc}
 use Rattle.std.proofs.Math.Seq.{drop-append_seam}
 use Rattle.std.proofs.lemmas.Bool.Decides.{nat_tests}
-use Rattle.std.proofs.lemmas.List.Sums.{sum_by-cons}
-use Rattle.std.specs.List.{sum}
 use Rattle.std.specs.Option.{option_and_then}
 use Rattle.mv_values.specs.declared.value.Value.{Value}
 use Rattle.mv_values.specs.declared.schema.TableInfo.{TableInfo}
@@ -12,17 +10,18 @@ use Rattle.mv_values.specs.declared.calls.End.{End}
 use Rattle.mv_catalog.specs.declared.resolved.ProcInfo.{ProcInfo}
 use Rattle.mv_catalog.specs.declared.resolved.RStmt.{RStmt, roll-RStmt, map-RStmt, ind-RStmt, para-roll-RStmt, fold-roll-RStmt}
 use Rattle.mv_catalog.specs.declared.resolved.RStmt.TheOpen.{RStmt-F, Assign, Select, Total, ForSelect, ForRows, Branch, Insert, Update, Delete, Print, Rollback}
-use Rattle.mv_serial.specs.declared.state.State.{State}
-use Rattle.mv_serial.specs.declared.state.Held.TheVariants.{Turn}
-use Rattle.mv_serial.specs.Env.{with_held, with_found}
-use Rattle.mv_serial.specs.Value.{value_of, is_so}
-use Rattle.mv_serial.specs.Alone.{Does, does, is_turn}
-use Rattle.mv_serial.specs.TableAfter.{Tables, begun}
+use Rattle.mv_alone.specs.declared.state.State.{State}
+use Rattle.mv_alone.specs.declared.state.Held.TheVariants.{Turn}
+use Rattle.mv_alone.specs.Env.{with_held, with_found}
+use Rattle.mv_alone.specs.Value.{value_of, is_so}
+use Rattle.mv_alone.specs.Alone.{Does, does, is_turn}
+use Rattle.mv_alone.specs.TableAfter.{Tables, begun}
 use Rattle.mv_record.specs.declared.record.Record.{Record}
 use Rattle.mv_record.specs.Paths.{Nest, path, inside, nest_of, nests_behind, paths, IsEarlierPath, PathsRise}
 use Rattle.mv_recorded.specs.Asking.{on}
 use Rattle.mv_recorded.specs.Doing.{fixed_rows}
-use Rattle.mv_recorded.specs.Recorded.{Tells, Site, tell, tell_inner, tell_step, tell_turns, own_record, in_turn, within, within_loop, size, size_step, size_of, body_of, told, outside, recorded}
+use Rattle.mv_catalog.specs.Statements.{size, size_step, total_size}
+use Rattle.mv_recorded.specs.Recorded.{Tells, Site, tell, tell_inner, tell_step, tell_turns, own_record, in_turn, within, within_loop, size_of, body_of, told, outside, recorded}
 use Rattle.mv_recorded.proofs.Counted.{firsts}
 use Rattle.mv_recorded.proofs.Climbing.{front_earlier, less_earlier, behind_same, NotLater, earlier_not_later, number_not_later, Climb, climb_on, climb_from, climb_join, climb_to, climb_pairs}
 
@@ -123,8 +122,8 @@ turns_rise x body tells many h (row ∷ rows) k n site before st nests around m 
     (λ last. turns_rise x body tells many h rows (k + 1) n site (before ++ these) last (nests ++ nests_behind nests these) around m high top (more_as_many nests before these as_many)
     (λ j. stands_on nests (nests_behind nests these) (in_turn j site) (around ++ m ∷ j ∷ []) (stands j)))
 
-sum_first : (n : ℕ) (ns : List ℕ) → sum (n ∷ ns) ≡ n + sum ns
-sum_first n ns = sum_by-cons (λ m. m) n ns
+first_size : (n : ℕ) (ns : List ℕ) → total_size (n ∷ ns) ≡ n + total_size ns
+first_size n ns = refl
 
 -- a statement whose paths rise
 abbrev Known : List TableInfo → ℕ → Type 0
@@ -143,13 +142,13 @@ at_most around m n le = by_test (nat_lt m n) refl
     by_test true is = number_not_later around m n (grind (arith, nat_tests))
     by_test false is = number_same around m n (grind (arith, nat_tests))
 
-all_rise : (tables : List TableInfo) (params : ℕ) (known : List (Known tables params)) → Rises (told tables params (plain tables params known)) (sum (map size (plain tables params known)))
+all_rise : (tables : List TableInfo) (params : ℕ) (known : List (Known tables params)) → Rises (told tables params (plain tables params known)) (total_size (map size (plain tables params known)))
 all_rise tables params [] n site before st nests around as_many stands = at_most around n (n + 0) (omega arith)
 all_rise tables params (k ∷ ks) n site before st nests around as_many stands =
     let these : List Record = tell tables params k.0 n site before st in
-    let rest : ℕ = sum (map size (plain tables params ks)) in
-    let one_more = sum_first (size k.0) (map size (plain tables params ks)) in
-    let same : n + size k.0 + rest ≡ n + sum (map size (plain tables params (k ∷ ks))) = omega (arith, one_more) in
+    let rest : ℕ = total_size (map size (plain tables params ks)) in
+    let one_more = first_size (size k.0) (map size (plain tables params ks)) in
+    let same : n + size k.0 + rest ≡ n + total_size (map size (plain tables params (k ∷ ks))) = omega (arith, one_more) in
     subst (λ m. Climb (around ++ n ∷ []) (paths_behind nests (told tables params (plain tables params (k ∷ ks)) n site before st)) (around ++ m ∷ [])) same
     (follow_rises nests these (does tables k.0 st) (told tables params (plain tables params ks) (n + size k.0) site (before ++ these)) (around ++ n ∷ []) (around ++ (n + size k.0) ∷ []) (around ++ (n + size k.0 + rest) ∷ [])
     (k.1 n site before st nests around as_many stands) (at_most around (n + size k.0) (n + size k.0 + rest) (omega arith))
@@ -198,10 +197,10 @@ either_rises : (nests : List Nest) (b : Bool) (rs ss : List Record) (low high : 
 either_rises nests true rs ss low high h k = h
 either_rises nests false rs ss low high h k = k
 
-sizes : (f : RStmt → Tells) (ss : List RStmt) → size_of (map (λ s. (s, f s)) ss) ≡ sum (map size ss)
+sizes : (f : RStmt → Tells) (ss : List RStmt) → size_of (map (λ s. (s, f s)) ss) ≡ total_size (map size ss)
 sizes f [] = refl
 sizes f (s ∷ ss) =
-    sum_first (size s) (map (λ p. size p.0) (map (λ s. (s, f s)) ss)) ∙ (ap (λ n. size s + n) (sizes f ss) ∙ sym (sum_first (size s) (map size ss)))
+    first_size (size s) (map (λ p. size p.0) (map (λ s. (s, f s)) ss)) ∙ (ap (λ n. size s + n) (sizes f ss) ∙ sym (first_size (size s) (map size ss)))
 
 turn_before : (around : List ℕ) (n j many : ℕ) → IsEarlierPath (around ++ n ∷ j ∷ []) (around ++ (n + (1 + many)) ∷ [])
 turn_before around n j many = behind_same around (n ∷ j ∷ []) ((n + (1 + many)) ∷ []) (less_earlier n (n + (1 + many)) (j ∷ []) [] (omega arith))
@@ -220,7 +219,7 @@ loop_rises x body tells many h rows own n site before st nests around as_many st
 branch_rises : (tables : List TableInfo) (params : ℕ) (known : List (Known tables params)) (m : ℕ) (own : Record) (site : Site) (before : List Record) (st : State)
     (nests : List Nest) (around : List ℕ) → AsMany nests before → (nest_of nests own).around ≡ around → own.spot.turns ≡ site.turns
     → Climb (around ++ m ∷ []) (paths_behind (nests ++ nest_of nests own ∷ []) (told tables params (plain tables params known) m (within (length before) site) (before ++ own ∷ []) st))
-    (around ++ (m + sum (map size (plain tables params known))) ∷ [])
+    (around ++ (m + total_size (map size (plain tables params known))) ∷ [])
 branch_rises tables params known m own site before st nests around as_many stands same =
     all_rise tables params known m (within (length before) site) (before ++ own ∷ []) st (nests ++ nest_of nests own ∷ []) around (more_as_many nests before (own ∷ []) as_many)
     (λ others. stands_within nests (nest_of nests own) site (length before) (sym as_many) same others ∙ stands)
@@ -236,7 +235,7 @@ step_rises tables params (Total agg x t conds) n site before st nests around as_
 step_rises tables params (ForSelect x once cs t conds sorts body) n site before st nests around as_many stands =
     let own : Record = own_record tables params (telling tables params (ForSelect x once cs t conds sorts body)) n site before st in
     let here = stands_here nests site around stands in
-    let many : ℕ = sum (map size (plain tables params body)) in
+    let many : ℕ = total_size (map size (plain tables params body)) in
     own_rises nests own _ around n (around ++ n ∷ 1 ∷ []) (around ++ (n + (1 + many)) ∷ []) (ap (λ a. a ++ n ∷ []) here) (first_turn around n 1)
     (on_rises (nests ++ nest_of nests own ∷ []) (fixed_rows (telling tables params (ForSelect x once cs t conds sorts body)) st) _ (around ++ n ∷ 1 ∷ []) (around ++ (n + (1 + many)) ∷ [])
     (earlier_not_later (around ++ n ∷ 1 ∷ []) (around ++ (n + (1 + many)) ∷ []) (turn_before around n 1 many))
@@ -245,7 +244,7 @@ step_rises tables params (ForSelect x once cs t conds sorts body) n site before 
 step_rises tables params (ForRows x y body) n site before st nests around as_many stands =
     let own : Record = own_record tables params (telling tables params (ForRows x y body)) n site before st in
     let here = stands_here nests site around stands in
-    let many : ℕ = sum (map size (plain tables params body)) in
+    let many : ℕ = total_size (map size (plain tables params body)) in
     own_rises nests own _ around n (around ++ n ∷ 1 ∷ []) (around ++ (n + (1 + many)) ∷ []) (ap (λ a. a ++ n ∷ []) here) (first_turn around n 1)
     (on_rises (nests ++ nest_of nests own ∷ []) (fixed_rows (telling tables params (ForRows x y body)) st) _ (around ++ n ∷ 1 ∷ []) (around ++ (n + (1 + many)) ∷ [])
     (earlier_not_later (around ++ n ∷ 1 ∷ []) (around ++ (n + (1 + many)) ∷ []) (turn_before around n 1 many))
@@ -256,8 +255,8 @@ step_rises tables params (Branch e ys ns) n site before st nests around as_many 
     let here = stands_here nests site around stands in
     let all : List Nest = nests ++ nest_of nests own ∷ [] in
     let low : List ℕ = around ++ (n + 1) ∷ [] in
-    let yes_many : ℕ = sum (map size (plain tables params ys)) in
-    let no_many : ℕ = sum (map size (plain tables params ns)) in
+    let yes_many : ℕ = total_size (map size (plain tables params ys)) in
+    let no_many : ℕ = total_size (map size (plain tables params ns)) in
     let passed : ℕ = n + 1 + size_of (map (λ s. (s, tell tables params s)) (plain tables params ys)) in
     let skips = sizes (tell tables params) (plain tables params ys) in
     let high : List ℕ = around ++ (n + (1 + (yes_many + no_many))) ∷ [] in
@@ -292,12 +291,12 @@ known_firsts : (tables : List TableInfo) (params : ℕ) (ss : List RStmt) → ma
 known_firsts tables params [] = refl
 known_firsts tables params (s ∷ ss) = ap (λ l. s ∷ l) (known_firsts tables params ss)
 
-pub told_rises : (tables : List TableInfo) (params : ℕ) (ss : List RStmt) → Rises (told tables params ss) (sum (map size ss))
+pub told_rises : (tables : List TableInfo) (params : ℕ) (ss : List RStmt) → Rises (told tables params ss) (total_size (map size ss))
 told_rises tables params ss =
-    subst (λ ts. Rises (told tables params ts) (sum (map size ts))) (known_firsts tables params ss) (all_rise tables params (map (λ s. (s, statement_rises tables params s)) ss))
+    subst (λ ts. Rises (told tables params ts) (total_size (map size ts))) (known_firsts tables params ss) (all_rise tables params (map (λ s. (s, statement_rises tables params s)) ss))
 
 -- each record's path comes before those of the records behind it
 pub recorded_rises : (tables : List TableInfo) (proc : ProcInfo) (call : Call) (db : Tables) → PathsRise (recorded tables proc call db)
 recorded_rises tables proc call db =
-    climb_pairs (1 ∷ []) (paths (recorded tables proc call db)) ((1 + sum (map size proc.body)) ∷ [])
+    climb_pairs (1 ∷ []) (paths (recorded tables proc call db)) ((1 + total_size (map size proc.body)) ∷ [])
     (told_rises tables (length call.arguments) proc.body 1 outside [] (begun proc call db) [] [] refl (λ more. refl))

@@ -16,12 +16,12 @@ use Rattle.mv_values.specs.Columns.{column_of}
 use Rattle.mv_values.specs.Order.{key_order}
 use Rattle.mv_values.specs.Patching.{with_columns}
 use Rattle.mv_catalog.specs.declared.resolved.RSetItem.{RSetItem}
-use Rattle.mv_serial.specs.declared.state.Check.{Check}
-use Rattle.mv_serial.specs.declared.state.Env.{Env}
-use Rattle.mv_serial.specs.Outcome.{then_do}
-use Rattle.mv_serial.specs.Value.{value_of}
-use Rattle.mv_serial.specs.Rows.{meets, matching, fit}
-use Rattle.mv_serial.specs.Changes.{with_column, set_row, updated}
+use Rattle.mv_alone.specs.declared.state.Check.{Check}
+use Rattle.mv_alone.specs.declared.state.Env.{Env}
+use Rattle.mv_alone.specs.Outcome.{then_do}
+use Rattle.mv_alone.specs.Value.{value_of}
+use Rattle.mv_alone.specs.Rows.{meets, matching, fit}
+use Rattle.mv_alone.specs.Changes.{with_column, set_row, updated}
 use Rattle.mv_recorded.specs.Asking.{on}
 use Rattle.mv_recorded.specs.Doing.{write, changed}
 use Rattle.mv_recorded.proofs.Patched.{AllAfter, Rises, AllPast, all_pass, patched_all, OnTable, on_both, changes_first}

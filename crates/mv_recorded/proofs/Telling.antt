@@ -11,15 +11,15 @@ use Rattle.mv_values.specs.Tables.{key_columns, columns_at, rows_at}
 use Rattle.mv_catalog.specs.declared.resolved.ProcInfo.{ProcInfo}
 use Rattle.mv_catalog.specs.declared.resolved.RStmt.{RStmt}
 use Rattle.mv_catalog.specs.declared.resolved.RStmt.TheOpen.{RStmt-F, Assign, Select, Total, ForSelect, ForRows, Branch, Insert, Update, Delete, Print, Rollback}
-use Rattle.mv_serial.specs.declared.state.Env.{Env}
-use Rattle.mv_serial.specs.declared.state.State.{State}
-use Rattle.mv_serial.specs.Outcome.{then_do}
-use Rattle.mv_serial.specs.Value.{value_of, values_of}
-use Rattle.mv_serial.specs.Rows.{checks_of, aggregate}
-use Rattle.mv_serial.specs.Changes.{new_row, put_row, keyed, updated, set_row}
-use Rattle.mv_serial.specs.Line.{line_of}
-use Rattle.mv_serial.specs.Alone.{alone, matches, offset_of, fixed}
-use Rattle.mv_serial.specs.TableAfter.{Tables, begun}
+use Rattle.mv_alone.specs.declared.state.Env.{Env}
+use Rattle.mv_alone.specs.declared.state.State.{State}
+use Rattle.mv_alone.specs.Outcome.{then_do}
+use Rattle.mv_alone.specs.Value.{value_of, values_of}
+use Rattle.mv_alone.specs.Rows.{checks_of, aggregate}
+use Rattle.mv_alone.specs.Changes.{new_row, put_row, keyed, updated, set_row}
+use Rattle.mv_alone.specs.Line.{line_of}
+use Rattle.mv_alone.specs.Alone.{alone, matches, offset_of, fixed}
+use Rattle.mv_alone.specs.TableAfter.{Tables, begun}
 use Rattle.mv_record.specs.declared.record.Record.{Record}
 use Rattle.mv_record.specs.Runs.{lines_in, end_in, StopsWith}
 use Rattle.mv_recorded.specs.Doing.{itself}

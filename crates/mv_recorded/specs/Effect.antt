@@ -2,9 +2,9 @@
 use Rattle.std.specs.Prelude.{◌≤◌, ℕ, List, [], ◌∷◌, ◌++◌, option_to_list, length}
 use Rattle.mv_values.specs.Patching.{applied}
 use Rattle.mv_catalog.specs.declared.resolved.RStmt.TheOpen.{RStmt-F, Assign, Select, Total, ForSelect, ForRows, Branch, Insert, Update, Delete, Print, Rollback}
-use Rattle.mv_serial.specs.declared.state.Env.{Env}
-use Rattle.mv_serial.specs.declared.state.State.{State}
-use Rattle.mv_serial.specs.Env.{with_value}
+use Rattle.mv_alone.specs.declared.state.Env.{Env}
+use Rattle.mv_alone.specs.declared.state.State.{State}
+use Rattle.mv_alone.specs.Env.{with_value}
 use Rattle.mv_record.specs.declared.record.Slot.{Slot}
 use Rattle.mv_record.specs.declared.record.Record.{Record}
 

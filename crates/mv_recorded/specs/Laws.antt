@@ -8,9 +8,9 @@ use Rattle.mv_catalog.specs.declared.resolved.ProcInfo.{ProcInfo}
 use Rattle.mv_catalog.specs.declared.resolved.Program.{Program}
 use Rattle.mv_catalog.specs.declared.resolved.RStmt.{RStmt}
 use Rattle.mv_catalog.specs.declared.resolved.RStmt.TheOpen.{RStmt-F}
-use Rattle.mv_serial.specs.declared.state.State.{State}
-use Rattle.mv_serial.specs.Executed.{counted}
-use Rattle.mv_serial.specs.TableAfter.{Tables, begun, executed}
+use Rattle.mv_alone.specs.declared.state.State.{State}
+use Rattle.mv_alone.specs.Executed.{counted}
+use Rattle.mv_alone.specs.TableAfter.{Tables, begun, executed}
 use Rattle.mv_record.specs.Runs.{TellsAll, NamesEarlier}
 use Rattle.mv_record.specs.Paths.{PathsRise}
 use Rattle.mv_record.specs.declared.record.Record.{Record}

@@ -1,7 +1,6 @@
 -- The records of a full run of a procedure on a database, in the order in which its statements are executed, up to and including a
 -- record with an end. That each executed statement leaves one record is this project's own.
 use Rattle.std.specs.Prelude.{ℕ, ◌+◌, Bool, List, [], ◌∷◌, ◌++◌, Option, Some, None, Result, Ok, Err, map, length, slice_get, if◌then◌else◌}
-use Rattle.std.specs.List.{sum}
 use Rattle.std.specs.Result.{result_err}
 use Rattle.mv_values.specs.declared.value.Value.{Value}
 use Rattle.mv_values.specs.declared.schema.TableInfo.{TableInfo}
@@ -11,7 +10,8 @@ use Rattle.mv_catalog.specs.declared.resolved.ProcInfo.{ProcInfo}
 use Rattle.mv_catalog.specs.declared.resolved.Program.{Program}
 use Rattle.mv_catalog.specs.declared.resolved.RStmt.{RStmt}
 use Rattle.mv_catalog.specs.declared.resolved.RStmt.TheOpen.{RStmt-F, ForSelect, ForRows, Branch}
-use Rattle.mv_catalog.specs.declared.resolved.RStmt.TheFolds.{fold-RStmt, para-RStmt}
+use Rattle.mv_catalog.specs.declared.resolved.RStmt.TheFolds.{para-RStmt}
+use Rattle.mv_catalog.specs.Statements.{size, total_size}
 use Rattle.mv_alone.specs.declared.state.State.{State}
 use Rattle.mv_alone.specs.declared.state.Held.TheVariants.{Turn}
 use Rattle.mv_alone.specs.Env.{with_found, with_held}
@@ -23,16 +23,6 @@ use Rattle.mv_record.specs.Runs.{Run, Meaning}
 use Rattle.mv_recorded.specs.Reading.{Loop, expressions, reads_of}
 use Rattle.mv_recorded.specs.Asking.{on, preds_of}
 use Rattle.mv_recorded.specs.Doing.{fixed_rows, itself, sets_of, writes_of, printed_line}
-
--- how many statements a statement is, with those that it holds
-abbrev pub size_step : RStmt-F ℕ → ℕ
-size_step (ForSelect x once cs t conds sorts body) = 1 + sum body
-size_step (ForRows x y body) = 1 + sum body
-size_step (Branch e ys ns) = 1 + (sum ys + sum ns)
-size_step s = 1
-
-abbrev pub size : RStmt → ℕ
-size = fold-RStmt ℕ size_step
 
 -- where statements stand in a run: the number of the record that directly holds them, the loops around them from the inside out, and
 -- the turns of these from the outside in
@@ -94,7 +84,7 @@ abbrev pub body_of : List TableInfo → List (RStmt × Tells) → Does
 body_of tables body = alone tables (map (λ s. s.0) body)
 
 abbrev pub size_of : List (RStmt × Tells) → ℕ
-size_of body = sum (map (λ s. size s.0) body)
+size_of body = total_size (map (λ s. size s.0) body)
 
 -- of what a statement holds whose own record has this number
 abbrev pub tell_inner : List TableInfo → RStmt-F (RStmt × Tells) → ℕ → Tells
