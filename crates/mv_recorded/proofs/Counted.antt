@@ -69,7 +69,6 @@ loop_counted x a b same tells counts h rows n site before st =
 abbrev Known : List TableInfo → ℕ → Type 0
 Known tables params = (s : RStmt) × LeavesAsMany (tell tables params s) (count tables s)
 
-
 all_counted : (tables : List TableInfo) (params : ℕ) (known : List (Known tables params)) → LeavesAsMany (told tables params (map (λ k. k.0) known)) (counted tables (map (λ k. k.0) known))
 all_counted tables params [] n site before st = refl
 all_counted tables params (k ∷ ks) n site before st =

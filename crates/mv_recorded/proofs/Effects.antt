@@ -2,6 +2,8 @@
 use Rattle.std.proofs.Common.{◌≡◌, ◌≤◌, inl, inr, ℕ, ℤ, pos, Bool, true, false, ◌||◌, List, [], ◌∷◌, ◌++◌, Option, Some, None, Result, Ok, Err, map, length, option_to_list, refl, sym, ap, subst, ◌∙◌, arith, append-nil}
 use Rattle.std.proofs.lemmas.List.{length-map}
 use Rattle.std.specs.Option.{is_some}
+use Rattle.std.specs.Result.{result_ok, result_err}
+use Rattle.mv_serial.specs.Line.{line_of}
 use Rattle.mv_values.specs.declared.value.Value.{Value}
 use Rattle.mv_values.specs.declared.rows.Keyed.{Keyed}
 use Rattle.mv_values.specs.declared.schema.TableInfo.{TableInfo}
@@ -24,8 +26,8 @@ use Rattle.mv_alone.specs.Alone.{matches, offset_of, taken, totalled, is_turn}
 use Rattle.mv_record.specs.declared.record.Slot.{Slot}
 use Rattle.mv_record.specs.declared.record.Record.{Record}
 use Rattle.mv_recorded.specs.Asking.{on}
-use Rattle.mv_recorded.specs.Doing.{itself, fixed_rows, is_found, gives_always, when, set_variables, sets_of}
-use Rattle.mv_recorded.specs.Effect.{with_slots, behind, HasColumns}
+use Rattle.mv_recorded.specs.Doing.{itself, fixed_rows, before_turns, writes_of, printed_line, is_found, gives_always, when, set_variables, sets_of}
+use Rattle.mv_recorded.specs.Effect.{with_slots, behind, TellsEffect, HasColumns}
 use Rattle.mv_recorded.specs.Reading.{each_once}
 use Rattle.mv_recorded.specs.Recorded.{Site, own_record}
 use Rattle.mv_recorded.proofs.Setting.{then_ok}
@@ -170,3 +172,37 @@ effect_told tables params y n site before st next has rise h =
     (env_told tables y st next has h ∙ ap (λ ss. with_slots ss st.env) (sym sets))
     ((leads (λ t. rises_of (rows_at st.tables t) (rise t))).0 ∙ ap (λ ws. applied ws st.tables) (append-nil own.writes))
     (told.1 ∙ ap (λ ls. st.lines ++ ls) (append-nil (option_to_list own.line)))
+
+-- Where it ends
+
+no_line : {X : Type 0} (tables : List TableInfo) (y : RStmt-F X) (st : State) (e : End) → itself tables y st ≡ Err e → printed_line y st ≡ None
+no_line tables (Print es) st e h = by_values (values_of es st.env) h
+  where
+    by_values : (vs : Result (List Value) End) → then_do vs (λ vs. Ok (record st { lines = st.lines ++ line_of vs ∷ [] })) ≡ Err e → result_ok (then_do vs (λ vs. Ok (line_of vs))) ≡ None
+    by_values (Ok vs) k = cc
+    by_values (Err f) k = refl
+no_line tables y st e h = refl
+
+no_rows : {X : Type 0} (tables : List TableInfo) (y : RStmt-F X) (st : State) (e : End) → itself tables y st ≡ Err e → on (fixed_rows y st) (λ rows. rows) ≡ []
+no_rows tables (ForSelect x once cs t conds sorts body) st e h = by_rows (fixed_rows (ForSelect x once cs t conds sorts body) st) h
+  where
+    by_rows : (rows : Result (List (List Value)) End) → before_turns rows st ≡ Err e → on rows (λ rows. rows) ≡ []
+    by_rows (Ok rows) k = cc
+    by_rows (Err f) k = refl
+no_rows tables (ForRows x y body) st e h = cc
+no_rows tables y st e h = refl
+
+-- the record tells where its statement leads
+pub effect_known : {X : Type 0} (tables : List TableInfo) (params : ℕ) (y : RStmt-F X) (n : ℕ) (site : Site) (before : List Record) (st : State) → HasColumns y
+    → ((t : ℕ) → IsRising (rows_at st.tables t)) → TellsEffect (own_record tables params y n site before st) st (itself tables y st)
+effect_known tables params y n site before st has rise = by_outcome (itself tables y st) refl
+  where
+    by_outcome : (out : Result State End) → itself tables y st ≡ out → TellsEffect (own_record tables params y n site before st) st out
+    by_outcome (Ok next) h = (ap result_err h, effect_told tables params y n site before st next has rise h)
+    by_outcome (Err e) h = record {
+      sets = ap (λ out. on out (λ next. sets_of y next)) h;
+      rows = no_rows tables y st e h;
+      writes = ap (λ out. on out (λ next. writes_of tables y st)) h;
+      line = no_line tables y st e h;
+      end = ap result_err h;
+    }

@@ -52,8 +52,14 @@ adds_five = reads_first 5 (roll-RStmt add_amount ∷ roll-RStmt set_balance ∷ 
 
 overflows_then : (ss : List RStmt) → told acc 2 (roll-RStmt add_amount ∷ ss) 2 outside (add_read ∷ []) (at_add greatest 100 1 100) ≡ add_overflow ∷ []
 overflows_then ss = told_first acc 2 add_amount ss 2 outside (add_read ∷ []) (at_add greatest 100 1 100)
-    ∙ rw (value_two Add (var 2) (var 1) (at_add greatest 100 1 100).env [], value_var 2 (at_add greatest 100 1 100).env [], value_var 1 (at_add greatest 100 1 100).env [],
-    variables_two Add (var 2) (var 1), variables_var 2, variables_var 1) refl
+    ∙ rw (
+      value_two Add (var 2) (var 1) (at_add greatest 100 1 100).env [],
+      value_var 2 (at_add greatest 100 1 100).env [],
+      value_var 1 (at_add greatest 100 1 100).env [],
+      variables_two Add (var 2) (var 1),
+      variables_var 2,
+      variables_var 1,
+    ) refl
 
 pub add_overflows : AddOverflows
 add_overflows = reads_first greatest (roll-RStmt add_amount ∷ roll-RStmt set_balance ∷ roll-RStmt tell_balance ∷ [])
@@ -66,9 +72,19 @@ at_raise = with_accounts (scalar 1 ∷ scalar greatest ∷ scalar 0 ∷ []) 2 (a
 
 pub update_overflows : UpdateOverflows
 update_overflows = told_first acc 2 raise_balance [] 1 outside [] at_raise
-    ∙ rw (value_var 0 at_raise.env [], value_two Add (col 1) (var 1) at_raise.env (account 1 100).row, value_col 1 at_raise.env (account 1 100).row,
-    value_var 1 at_raise.env (account 1 100).row, variables_var 0, variables_two Add (col 1) (var 1), variables_col 1, variables_var 1,
-    columns_two Add (col 1) (var 1), columns_col 1, columns_var 1) refl
+    ∙ rw (
+      value_var 0 at_raise.env [],
+      value_two Add (col 1) (var 1) at_raise.env (account 1 100).row,
+      value_col 1 at_raise.env (account 1 100).row,
+      value_var 1 at_raise.env (account 1 100).row,
+      variables_var 0,
+      variables_two Add (col 1) (var 1),
+      variables_col 1,
+      variables_var 1,
+      columns_two Add (col 1) (var 1),
+      columns_col 1,
+      columns_var 1,
+    ) refl
 
 -- look
 
@@ -98,26 +114,65 @@ transfer_reads x ss = told_first acc 3 (read_balance 3) ss 1 outside [] (at_tran
 looks_then : (ss : List RStmt) → told acc 3 (roll-RStmt look_at_funds ∷ ss) 2 outside (read_first ∷ []) (at_transfer 10 100 1 0 100 100)
     ≡ looked ∷ told acc 3 ss 4 outside (read_first ∷ looked ∷ []) (at_transfer 10 100 1 0 100 100)
 looks_then ss = told_first acc 3 look_at_funds ss 2 outside (read_first ∷ []) (at_transfer 10 100 1 0 100 100)
-    ∙ rw (value_two (Compare Lt) (var 3) (var 2) (at_transfer 10 100 1 0 100 100).env [], value_var 3 (at_transfer 10 100 1 0 100 100).env [], value_var 2 (at_transfer 10 100 1 0 100 100).env [],
-    variables_two (Compare Lt) (var 3) (var 2), variables_var 3, variables_var 2, size_is (Rollback no_funds)) refl
+    ∙ rw (
+      value_two (Compare Lt) (var 3) (var 2) (at_transfer 10 100 1 0 100 100).env [],
+      value_var 3 (at_transfer 10 100 1 0 100 100).env [],
+      value_var 2 (at_transfer 10 100 1 0 100 100).env [],
+      variables_two (Compare Lt) (var 3) (var 2),
+      variables_var 3,
+      variables_var 2,
+      size_is (Rollback no_funds),
+    ) refl
 
 takes_then : (ss : List RStmt) → told acc 3 (roll-RStmt take_amount ∷ ss) 4 outside (read_first ∷ looked ∷ []) (at_transfer 10 100 1 0 100 100)
     ≡ taken ∷ told acc 3 ss 5 outside (read_first ∷ looked ∷ taken ∷ []) (at_transfer 10 100 1 0 90 100)
 takes_then ss = told_first acc 3 take_amount ss 4 outside (read_first ∷ looked ∷ []) (at_transfer 10 100 1 0 100 100)
-    ∙ rw (value_var 0 (at_transfer 10 100 1 0 100 100).env [], value_two Sub (col 1) (var 2) (at_transfer 10 100 1 0 100 100).env (account 1 100).row, value_col 1 (at_transfer 10 100 1 0 100 100).env (account 1 100).row,
-    value_var 2 (at_transfer 10 100 1 0 100 100).env (account 1 100).row, variables_two Sub (col 1) (var 2), variables_col 1, variables_var 2, variables_var 0, columns_two Sub (col 1) (var 2), columns_col 1, columns_var 2) refl
+    ∙ rw (
+      value_var 0 (at_transfer 10 100 1 0 100 100).env [],
+      value_two Sub (col 1) (var 2) (at_transfer 10 100 1 0 100 100).env (account 1 100).row,
+      value_col 1 (at_transfer 10 100 1 0 100 100).env (account 1 100).row,
+      value_var 2 (at_transfer 10 100 1 0 100 100).env (account 1 100).row,
+      variables_two Sub (col 1) (var 2),
+      variables_col 1,
+      variables_var 2,
+      variables_var 0,
+      columns_two Sub (col 1) (var 2),
+      columns_col 1,
+      columns_var 2,
+    ) refl
 
 gives_then : (ss : List RStmt) → told acc 3 (roll-RStmt give_amount ∷ ss) 5 outside (read_first ∷ looked ∷ taken ∷ []) (at_transfer 10 100 1 0 90 100)
     ≡ given ∷ told acc 3 ss 6 outside (read_first ∷ looked ∷ taken ∷ given ∷ []) (at_transfer 10 100 1 0 90 110)
 gives_then ss = told_first acc 3 give_amount ss 5 outside (read_first ∷ looked ∷ taken ∷ []) (at_transfer 10 100 1 0 90 100)
-    ∙ rw (value_var 1 (at_transfer 10 100 1 0 90 100).env [], value_two Add (col 1) (var 2) (at_transfer 10 100 1 0 90 100).env (account 2 100).row, value_col 1 (at_transfer 10 100 1 0 90 100).env (account 2 100).row,
-    value_var 2 (at_transfer 10 100 1 0 90 100).env (account 2 100).row, variables_two Add (col 1) (var 2), variables_col 1, variables_var 2, variables_var 1, columns_two Add (col 1) (var 2), columns_col 1, columns_var 2) refl
+    ∙ rw (
+      value_var 1 (at_transfer 10 100 1 0 90 100).env [],
+      value_two Add (col 1) (var 2) (at_transfer 10 100 1 0 90 100).env (account 2 100).row,
+      value_col 1 (at_transfer 10 100 1 0 90 100).env (account 2 100).row,
+      value_var 2 (at_transfer 10 100 1 0 90 100).env (account 2 100).row,
+      variables_two Add (col 1) (var 2),
+      variables_col 1,
+      variables_var 2,
+      variables_var 1,
+      columns_two Add (col 1) (var 2),
+      columns_col 1,
+      columns_var 2,
+    ) refl
 
 takes_fee : told acc 3 (roll-RStmt take_fee ∷ []) 6 outside (read_first ∷ looked ∷ taken ∷ given ∷ []) (at_transfer 10 100 1 0 90 110) ≡ fee_taken ∷ []
 takes_fee = told_first acc 3 take_fee [] 6 outside (read_first ∷ looked ∷ taken ∷ given ∷ []) (at_transfer 10 100 1 0 90 110)
-    ∙ rw (value_constant (Int (pos 0)) (at_transfer 10 100 1 0 90 110).env [], value_two Add (col 1) (constant (Int (pos 1))) (at_transfer 10 100 1 0 90 110).env (account 0 0).row, value_col 1 (at_transfer 10 100 1 0 90 110).env (account 0 0).row,
-    value_constant (Int (pos 1)) (at_transfer 10 100 1 0 90 110).env (account 0 0).row, variables_two Add (col 1) (constant (Int (pos 1))), variables_col 1, variables_constant (Int (pos 1)), variables_constant (Int (pos 0)),
-    columns_two Add (col 1) (constant (Int (pos 1))), columns_col 1, columns_constant (Int (pos 1))) refl
+    ∙ rw (
+      value_constant (Int (pos 0)) (at_transfer 10 100 1 0 90 110).env [],
+      value_two Add (col 1) (constant (Int (pos 1))) (at_transfer 10 100 1 0 90 110).env (account 0 0).row,
+      value_col 1 (at_transfer 10 100 1 0 90 110).env (account 0 0).row,
+      value_constant (Int (pos 1)) (at_transfer 10 100 1 0 90 110).env (account 0 0).row,
+      variables_two Add (col 1) (constant (Int (pos 1))),
+      variables_col 1,
+      variables_constant (Int (pos 1)),
+      variables_constant (Int (pos 0)),
+      columns_two Add (col 1) (constant (Int (pos 1))),
+      columns_col 1,
+      columns_constant (Int (pos 1)),
+    ) refl
 
 pub transfers : Transfers
 transfers = transfer_reads 10 (roll-RStmt look_at_funds ∷ roll-RStmt take_amount ∷ roll-RStmt give_amount ∷ roll-RStmt take_fee ∷ [])
@@ -128,13 +183,23 @@ transfers = transfer_reads 10 (roll-RStmt look_at_funds ∷ roll-RStmt take_amou
 
 rolls_back_then : (ss : List RStmt) → told acc 3 (roll-RStmt look_at_funds ∷ ss) 2 outside (read_first ∷ []) (at_transfer 150 100 1 0 100 100) ≡ looked ∷ rolled_back ∷ []
 rolls_back_then ss = told_first acc 3 look_at_funds ss 2 outside (read_first ∷ []) (at_transfer 150 100 1 0 100 100)
-    ∙ rw (value_two (Compare Lt) (var 3) (var 2) (at_transfer 150 100 1 0 100 100).env [], value_var 3 (at_transfer 150 100 1 0 100 100).env [], value_var 2 (at_transfer 150 100 1 0 100 100).env [],
-    variables_two (Compare Lt) (var 3) (var 2), variables_var 3, variables_var 2,
-    tell_is acc 3 (Rollback no_funds) 3 (within 1 outside) (read_first ∷ looked ∷ []) (at_transfer 150 100 1 0 100 100), does_is acc (Rollback no_funds) (at_transfer 150 100 1 0 100 100)) refl
+    ∙ rw (
+      value_two (Compare Lt) (var 3) (var 2) (at_transfer 150 100 1 0 100 100).env [],
+      value_var 3 (at_transfer 150 100 1 0 100 100).env [],
+      value_var 2 (at_transfer 150 100 1 0 100 100).env [],
+      variables_two (Compare Lt) (var 3) (var 2),
+      variables_var 3,
+      variables_var 2,
+      tell_is acc 3 (Rollback no_funds) 3 (within 1 outside) (read_first ∷ looked ∷ []) (at_transfer 150 100 1 0 100 100),
+      does_is acc (Rollback no_funds) (at_transfer 150 100 1 0 100 100),
+    ) refl
 
 pub transfer_rolls_back : TransferRollsBack
-transfer_rolls_back = (transfer_reads 150 (roll-RStmt look_at_funds ∷ roll-RStmt take_amount ∷ roll-RStmt give_amount ∷ roll-RStmt take_fee ∷ [])
-    ∙ ap (λ rs. read_first ∷ rs) (rolls_back_then (roll-RStmt take_amount ∷ roll-RStmt give_amount ∷ roll-RStmt take_fee ∷ [])), refl)
+transfer_rolls_back = (
+  transfer_reads 150 (roll-RStmt look_at_funds ∷ roll-RStmt take_amount ∷ roll-RStmt give_amount ∷ roll-RStmt take_fee ∷ [])
+      ∙ ap (λ rs. read_first ∷ rs) (rolls_back_then (roll-RStmt take_amount ∷ roll-RStmt give_amount ∷ roll-RStmt take_fee ∷ [])),
+  refl,
+)
 
 -- total
 
@@ -154,10 +219,25 @@ abbrev at_total : State
 at_total = record { env = record { held = Turns lines ∷ scalar 0 ∷ scalar 0 ∷ []; found = 2 }; tables = []; lines = [] }
 
 pub adds_up : AddsUp
-adds_up = (told_first [] 1 over_lines [] 1 outside [] at_total
-    ∙ rw (tell_is [] 1 add_line_amount 2 (turn 1) (loop_record ∷ []) first_env, does_is [] add_line_amount first_env,
-    value_two Add (var 1) (field 3 0) first_env.env [], value_var 1 first_env.env [], value_field 3 0 first_env.env [],
-    variables_two Add (var 1) (field 3 0), variables_var 1, variables_field 3 0,
-    tell_is [] 1 add_line_amount 2 (turn 2) (loop_record ∷ first_turn ∷ []) second_env, does_is [] add_line_amount second_env,
-    value_two Add (var 1) (field 3 0) second_env.env [], value_var 1 second_env.env [], value_field 3 0 second_env.env [],
-    variables_two Add (var 1) (field 3 0), variables_var 1, variables_field 3 0) refl, refl)
+adds_up = (
+  told_first [] 1 over_lines [] 1 outside [] at_total
+      ∙ rw (
+        tell_is [] 1 add_line_amount 2 (turn 1) (loop_record ∷ []) first_env,
+        does_is [] add_line_amount first_env,
+        value_two Add (var 1) (field 3 0) first_env.env [],
+        value_var 1 first_env.env [],
+        value_field 3 0 first_env.env [],
+        variables_two Add (var 1) (field 3 0),
+        variables_var 1,
+        variables_field 3 0,
+        tell_is [] 1 add_line_amount 2 (turn 2) (loop_record ∷ first_turn ∷ []) second_env,
+        does_is [] add_line_amount second_env,
+        value_two Add (var 1) (field 3 0) second_env.env [],
+        value_var 1 second_env.env [],
+        value_field 3 0 second_env.env [],
+        variables_two Add (var 1) (field 3 0),
+        variables_var 1,
+        variables_field 3 0,
+      ) refl,
+  refl,
+)

@@ -30,7 +30,7 @@ pub record IsLaw (R : Claim) : Type 0 where
   pub more : (st next : State) (rs ss : List Record) (out : Result State End) → R st rs (Ok next) → R next ss out → R st (rs ++ ss) out
   pub enters : (st : State) (env : Env) (rs : List Record) (out : Result State End) → R (record st { env = env }) rs out → R st rs out
   pub own : (tables : List TableInfo) (params : ℕ) (y : RStmt-F (RStmt × Tells)) (n : ℕ) (site : Site) (before : List Record) (st : State)
-    → R st (own_record tables params y n site before st ∷ []) (itself tables y st)
+      → R st (own_record tables params y n site before st ∷ []) (itself tables y st)
 
 -- the law holds of what is told of a statement
 abbrev pub Follows : Claim → Tells → Does → Type 0

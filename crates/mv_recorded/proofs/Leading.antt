@@ -117,9 +117,10 @@ updates_with : (tables : List TableInfo) (t : ℕ) (items : List RSetItem) (st :
 updates_with tables t items st c (Ok rows) is rise =
     let new : New = new_of tables t items st in
     let ws : List Write = set_writes t items new (matches t c st) in
-    let same = sets_lead t items new (set_row_makes (columns_at tables t) (key_columns tables t) st.env items) c (rows_at st.tables t) rows (rise t) is in
-    (ap (slice_set st.tables t) (sym same) ∙ (sym (applied_on t ws st.tables (sets_on t items new (matches t c st))) ∙ ap (λ vs. applied vs st.tables) (sym (append-nil ws))),
-    rise_set st.tables t rows rise (updated_rises new c (rows_at st.tables t) rows (rise t) is))
+    let same = sets_lead t items new (set_row_makes (columns_at tables t) (key_columns tables t) st.env items) c (rows_at st.tables t) rows (rise t) is in (
+      ap (slice_set st.tables t) (sym same) ∙ (sym (applied_on t ws st.tables (sets_on t items new (matches t c st))) ∙ ap (λ vs. applied vs st.tables) (sym (append-nil ws))),
+      rise_set st.tables t rows rise (updated_rises new c (rows_at st.tables t) rows (rise t) is),
+    )
 updates_with tables t items st c (Err e) is rise = tt
 
 updates : (tables : List TableInfo) (t : ℕ) (items : List RSetItem) (st : State) (checks : Result (List Check) End)
@@ -135,9 +136,10 @@ delete_made t st checks = then_do checks (λ c. Ok (with_rows t (without c (rows
 deletes : (t : ℕ) (st : State) (checks : Result (List Check) End)
     → LeadsBy st (on (delete_made t st checks) (λ next. on checks (λ c. map (λ item. write t item.key patch.Delete) (matches t c st))) ++ []) (delete_made t st checks)
 deletes t st (Ok c) rise =
-    let ws : List Write = map (λ item. write t item.key patch.Delete) (matches t c st) in
-    (ap (slice_set st.tables t) (sym (deletes_lead t c (rows_at st.tables t) (rise t))) ∙ (sym (applied_on t ws st.tables (deletes_on t (matches t c st))) ∙ ap (λ vs. applied vs st.tables) (sym (append-nil ws))),
-    rise_set st.tables t (without c (rows_at st.tables t)) rise (without_rises c (rows_at st.tables t) (rise t)))
+    let ws : List Write = map (λ item. write t item.key patch.Delete) (matches t c st) in (
+      ap (slice_set st.tables t) (sym (deletes_lead t c (rows_at st.tables t) (rise t))) ∙ (sym (applied_on t ws st.tables (deletes_on t (matches t c st))) ∙ ap (λ vs. applied vs st.tables) (sym (append-nil ws))),
+      rise_set st.tables t (without c (rows_at st.tables t)) rise (without_rises c (rows_at st.tables t) (rise t)),
+    )
 deletes t st (Err e) rise = tt
 
 -- All statements

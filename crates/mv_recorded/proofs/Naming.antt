@@ -139,9 +139,10 @@ inside_earlier : (before : List Record) (own : Record) (site : Site) → SiteEar
 inside_earlier before own site s = (omega (arith, length-append before (own ∷ [])), loops_later (length before) (length (before ++ own ∷ [])) (omega (arith, length-append before (own ∷ []))) site.loops s.1)
 
 loop_inside_earlier : (x : ℕ) (before : List Record) (own : Record) (site : Site) → SiteEarlier (length before) site → SiteEarlier (length (before ++ own ∷ [])) (within_loop x (length before) site)
-loop_inside_earlier x before own site s =
-    (omega (arith, length-append before (own ∷ [])),
-    (omega (arith, length-append before (own ∷ [])), loops_later (length before) (length (before ++ own ∷ [])) (omega (arith, length-append before (own ∷ []))) site.loops s.1))
+loop_inside_earlier x before own site s = (
+  omega (arith, length-append before (own ∷ [])),
+  (omega (arith, length-append before (own ∷ [])), loops_later (length before) (length (before ++ own ∷ [])) (omega (arith, length-append before (own ∷ []))) site.loops s.1),
+)
 
 inner_names : (tables : List TableInfo) (params : ℕ) (y : RStmt-F (Known tables params)) (n : ℕ) (site : Site) (before : List Record) (own : Record) (st : State) → SiteEarlier (length before) site
     → NamesEarlier (length (before ++ own ∷ [])) (tell_inner tables (telling tables params y) (length before) n site (before ++ own ∷ []) st)

@@ -45,9 +45,10 @@ lines_together : (rs ss : List Record) → lines_in (rs ++ ss) ≡ lines_in rs +
 lines_together rs ss = flat_map-append (λ r. option_to_list r.line) rs ss
 
 tells_more : (st next : State) (rs ss : List Record) (out : Result State End) → TellsOf st rs (Ok next) → TellsOf next ss out → TellsOf st (rs ++ ss) out
-tells_more st next rs ss (Ok last) h k =
-    (end_behind rs ss h.0 ∙ k.0,
-    k.1 ∙ (ap (λ l. l ++ lines_in ss) h.1 ∙ (append_assoc st.lines (lines_in rs) (lines_in ss) ∙ ap (λ l. st.lines ++ l) (sym (lines_together rs ss)))))
+tells_more st next rs ss (Ok last) h k = (
+  end_behind rs ss h.0 ∙ k.0,
+  k.1 ∙ (ap (λ l. l ++ lines_in ss) h.1 ∙ (append_assoc st.lines (lines_in rs) (lines_in ss) ∙ ap (λ l. st.lines ++ l) (sym (lines_together rs ss)))),
+)
 tells_more st next rs ss (Err e) h k = record {
   front = rs ++ k.front;
   last = k.last;

@@ -115,7 +115,9 @@ tell_balance = Print (var 2 ∷ [])
 
 abbrev pub add : ProcInfo
 add = record {
-  name = []; params = []; defaults = Int (pos 0) ∷ [];
+  name = [];
+  params = [];
+  defaults = Int (pos 0) ∷ [];
   body = roll-RStmt (read_balance 2) ∷ roll-RStmt add_amount ∷ roll-RStmt set_balance ∷ roll-RStmt tell_balance ∷ [];
 }
 
@@ -196,7 +198,9 @@ take_fee = Update 0 (record { column = 1; right = two Add (col 1) (constant (Int
 
 abbrev pub transfer : ProcInfo
 transfer = record {
-  name = []; params = []; defaults = Int (pos 0) ∷ [];
+  name = [];
+  params = [];
+  defaults = Int (pos 0) ∷ [];
   body = roll-RStmt (read_balance 3) ∷ roll-RStmt look_at_funds ∷ roll-RStmt take_amount ∷ roll-RStmt give_amount ∷ roll-RStmt take_fee ∷ [];
 }
 

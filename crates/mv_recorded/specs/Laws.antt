@@ -1,5 +1,5 @@
 -- What holds of the records of every full run.
-use Rattle.std.specs.Prelude.{◌≡◌, ℕ, List, Ok, length}
+use Rattle.std.specs.Prelude.{◌≡◌, ℕ, List, length}
 use Rattle.mv_values.specs.declared.schema.TableInfo.{TableInfo}
 use Rattle.mv_values.specs.declared.calls.Call.{Call}
 use Rattle.mv_values.specs.Keys.{IsRising}
@@ -15,7 +15,7 @@ use Rattle.mv_record.specs.Runs.{TellsAll, NamesEarlier}
 use Rattle.mv_record.specs.Paths.{PathsRise}
 use Rattle.mv_record.specs.declared.record.Record.{Record}
 use Rattle.mv_recorded.specs.Doing.{itself}
-use Rattle.mv_recorded.specs.Effect.{behind, HasColumns}
+use Rattle.mv_recorded.specs.Effect.{TellsEffect, HasColumns}
 use Rattle.mv_recorded.specs.Recorded.{Site, own_record, recorded, records, meaning}
 
 -- they are as many as statements are executed
@@ -38,8 +38,8 @@ NamesEarlierOnes = (tables : List TableInfo) (proc : ProcInfo) (call : Call) (db
 abbrev pub PathsAreInOrder : Type 0
 PathsAreInOrder = (tables : List TableInfo) (proc : ProcInfo) (call : Call) (db : Tables) → PathsRise (recorded tables proc call db)
 
--- of a statement that goes on, the record makes the state behind it of the one before it, where the keys of each table rise
+-- each tells the whole effect of its statement, where the keys of each table rise
 abbrev pub EffectsTold : Type 0
 EffectsTold =
-    (tables : List TableInfo) (params : ℕ) (s : RStmt-F RStmt) (n : ℕ) (site : Site) (before : List Record) (st next : State) → HasColumns s
-    → ((t : ℕ) → IsRising (rows_at st.tables t)) → itself tables s st ≡ Ok next → next ≡ behind (own_record tables params s n site before st) st
+    (tables : List TableInfo) (params : ℕ) (s : RStmt-F RStmt) (n : ℕ) (site : Site) (before : List Record) (st : State) → HasColumns s
+    → ((t : ℕ) → IsRising (rows_at st.tables t)) → TellsEffect (own_record tables params s n site before st) st (itself tables s st)
