@@ -1,0 +1,97 @@
+//! A view of a database in memory.
+
+ghost use Rattle.std.specs.Prelude.{◌≡◌, false, IfOk};
+ghost use Rattle.std.specs.Option.{option_copied};
+ghost use Rattle.mv_values.specs.Keys.{IsRising};
+ghost use Rattle.mv_values.specs.Patching.{found_by, row_of};
+ghost use Rattle.mv_values.specs.Tables.{rows_at};
+
+use crate::narrow::find;
+use crate::view::{Refused, View};
+use mv_values::copied::Copied;
+use mv_values::memory::NoMemory;
+use mv_values::pred::Pred;
+use mv_values::rows::{Database, Keyed, Rows};
+use mv_values::value::{Key, Row, Value};
+use std::alloc::Global;
+use std::marker::Model;
+
+/// A view of a database in memory. It never answers Stale.
+#[derive(Drop)]
+pub struct Plain<'a> {
+    tables: &'a Database,
+    pub(crate) rows_calls: u64,
+    pub(crate) row_calls: u64,
+}
+
+impl<'a> Model for Plain<'a> {
+    ghost use Rattle.std.specs.Prelude.{false};
+    ghost use Rattle.mv_view.specs.Viewing.{Sight};
+
+    ghost Value = { Sight };
+
+    ghost view = { λ p. record { database = p.tables.now; start = 0; may_be_stale = false; stale_answers = 0; last_low = 0; rows_calls = p.rows_calls; row_calls = p.row_calls } };
+}
+
+impl<'a> Plain<'a> {
+    /// A view of the database, that was given no calls yet. It takes no memory.
+    pub fn new(tables: &'a Database) -> Plain<'a>
+        ensures { result ≡ record { database = tables.now; start = 0; may_be_stale = false; stale_answers = 0; last_low = 0; rows_calls = 0; row_calls = 0 } }
+    {
+        Plain {
+            tables,
+            rows_calls: 0,
+            row_calls: 0,
+        }
+    }
+}
+
+/// The rows of a table, none where there is no such table.
+fn rows_in(tables: &Database, table: u8) -> &[Keyed]
+    ensures items { result.now ≡ rows_at tables.now table }
+    ensures rising { IsRising (rows_at tables.now table) }
+{
+    match tables.as_slice().get(table as usize) {
+        Some(rows) => rows.as_slice(),
+        None => &[],
+    }
+}
+
+/// The row under the key, where there is one. It costs the logarithm of the number of rows.
+fn row_under<'a>(rows: &'a Rows, key: &[Value]) -> Option<&'a Row>
+    ensures { option_copied result ≡ row_of rows.now key.now }
+{
+    match rows.place_of(key) {
+        Ok(at) => Some(&rows.as_slice()[at].row),
+        Err(_) => None,
+    }
+}
+
+/// A copy of the row of a table under the key, where there is one.
+fn copy_row(alloc: Global, tables: &Database, table: u8, key: &Key) -> Result<Option<Row>, NoMemory>
+    ensures { IfOk result (λ row. row ≡ row_of (rows_at tables.now table) key.now) }
+{
+    let Some(rows) = tables.as_slice().get(table as usize) else {
+        return Ok(None);
+    };
+    match row_under(rows, key.as_slice()) {
+        Some(row) => Ok(Some(row.copy(alloc)?)),
+        None => Ok(None),
+    }
+}
+
+impl<'a> View for Plain<'a> {
+    ghost sight = { λ p. p };
+
+    fn rows(&mut self, alloc: Global, pred: &Pred) -> Result<Rows, Refused> {
+        self.rows_calls = self.rows_calls.saturating_add(1);
+        let found = find(alloc, pred, rows_in(self.tables, pred.table))?;
+        Ok(found)
+    }
+
+    fn row(&mut self, alloc: Global, table: u8, key: &Key) -> Result<Option<Row>, Refused> {
+        self.row_calls = self.row_calls.saturating_add(1);
+        let row = copy_row(alloc, self.tables, table, key)?;
+        Ok(row)
+    }
+}
