@@ -21,7 +21,7 @@ use Rattle.mv_values.specs.Order.{value_order, key_order}
 use Rattle.mv_values.specs.Preds.{agrees, matches, holds_at}
 use Rattle.mv_values.specs.Keys.{IsRising}
 use Rattle.mv_values.proofs.KeyOrder.{value_order_total, exact_values}
-use Rattle.mv_view.specs.Admitting.{Admitted}
+use Rattle.mv_record.specs.Admitting.{Admitted}
 use Rattle.mv_view.specs.Narrowing.{matching, is_equality, is_place, given, has_at, RisesAt, FirstReaches}
 
 -- Filters

@@ -7,7 +7,7 @@ ghost use Rattle.std.specs.Ordering.{is_lt, is_le};
 ghost use Rattle.mv_values.specs.Columns.{column_of};
 ghost use Rattle.mv_values.specs.Keys.{IsRising};
 ghost use Rattle.mv_values.specs.Order.{value_order};
-ghost use Rattle.mv_view.specs.Admitting.{Admitted};
+ghost use Rattle.mv_record.specs.Admitting.{Admitted};
 ghost use Rattle.mv_view.specs.Narrowing.{is_place, given, matching, has_at, RisesAt, FirstReaches};
 
 use mv_values::copied::Copied;

@@ -4,7 +4,7 @@ ghost use Rattle.std.specs.Prelude.{◌↔◌, All, IsTrue};
 ghost use Rattle.mv_values.specs.Keys.{IsBelow};
 ghost use Rattle.mv_values.specs.Preds.{matches, admits};
 ghost use Rattle.mv_values.specs.Tables.{rows_at};
-ghost use Rattle.mv_view.specs.Admitting.{Admitted};
+ghost use Rattle.mv_record.specs.Admitting.{Admitted};
 
 use crate::plain::Plain;
 use crate::view::View;

@@ -3,7 +3,7 @@
 ghost use Rattle.std.specs.Prelude.{◌≡◌, IfOk};
 ghost use Rattle.mv_values.specs.Patching.{found_by, row_of};
 ghost use Rattle.mv_values.specs.Tables.{rows_at};
-ghost use Rattle.mv_view.specs.Admitting.{Admitted};
+ghost use Rattle.mv_record.specs.Admitting.{Admitted};
 ghost use Rattle.mv_view.specs.Viewing.{Sight, with_rows_call, with_row_call, answered, MayAnswer};
 
 use mv_values::memory::NoMemory;

@@ -4,7 +4,7 @@ use Rattle.std.proofs.lemmas.List.Elements.{All-filter}
 use Rattle.std.proofs.lemmas.List.Kept.{AllPairs-filter}
 use Rattle.mv_values.specs.Keys.{IsRising, IsBelow}
 use Rattle.mv_values.specs.Preds.{matches, admits}
-use Rattle.mv_view.specs.Admitting.{Admitted}
+use Rattle.mv_record.specs.Admitting.{Admitted}
 use Rattle.mv_view.specs.Narrowing.{given, has_at, matching}
 use Rattle.mv_view.proofs.Narrowing.{FrontsAgree, no_front, rises_at, one_value_more, given_matches}
 use Rattle.mv_view.proofs.narrow.near_matches.Goals as goal

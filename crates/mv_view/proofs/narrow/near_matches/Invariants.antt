@@ -1,6 +1,6 @@
 use Rattle.std.proofs.Common.{◌≡◌}
 use Rattle.mv_values.specs.Keys.{IsRising}
-use Rattle.mv_view.specs.Admitting.{Admitted}
+use Rattle.mv_record.specs.Admitting.{Admitted}
 use Rattle.mv_view.specs.Narrowing.{matching}
 use Rattle.mv_view.proofs.Narrowing.{FrontsAgree}
 use Rattle.mv_view.proofs.narrow.near_matches.Given as goal
