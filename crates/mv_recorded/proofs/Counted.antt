@@ -15,12 +15,12 @@ use Rattle.mv_alone.specs.Env.{with_found, with_held, turns_at}
 use Rattle.mv_alone.specs.Value.{value_of, is_so}
 use Rattle.mv_alone.specs.Rows.{checks_of}
 use Rattle.mv_alone.specs.Alone.{Does, alone, does, fixed, matches, is_turn}
-use Rattle.mv_alone.specs.Executed.{Counts, count, count_all, count_step, count_on, count_turns, count_loop, counted}
+use Rattle.mv_alone.specs.Executed.{Counts, count, count_step, count_on, count_turns, count_loop, counted}
 use Rattle.mv_alone.specs.TableAfter.{Tables, begun, executed_in, executed_at, executed}
 use Rattle.mv_record.specs.declared.record.Record.{Record}
 use Rattle.mv_recorded.specs.Asking.{on}
 use Rattle.mv_catalog.specs.Statements.{size}
-use Rattle.mv_recorded.specs.Recorded.{Tells, Site, records_in, records_at, records, tell, tell_all, tell_step, tell_turns, tell_loop, in_turn, own_record, told, recorded, outside}
+use Rattle.mv_recorded.specs.Recorded.{Tells, Site, records_in, records_at, records, tell, tell_step, tell_turns, tell_loop, in_turn, own_record, told, recorded, outside}
 
 -- it leaves as many records as are counted
 abbrev LeavesAsMany : Tells → Counts → Type 0

@@ -1,9 +1,10 @@
 -- A record tells the whole effect of its statement.
-use Rattle.std.proofs.Common.{◌≡◌, ◌≤◌, inl, inr, ℕ, ℤ, pos, Bool, true, false, ◌||◌, List, [], ◌∷◌, ◌++◌, Option, Some, None, Result, Ok, Err, map, length, option_to_list, refl, sym, ap, subst, ◌∙◌, arith, append-nil}
+use Rattle.std.proofs.Common.{◌≡◌, ◌≤◌, inl, inr, ℕ, ℤ, pos, Bool, true, false, ◌||◌, List, [], ◌∷◌, ◌++◌, Option, Some, None, Result, Ok, Err, length, option_to_list, refl, sym, ap, subst, ◌∙◌, arith, append-nil}
 use Rattle.std.proofs.lemmas.List.{length-map}
+use Rattle.std.proofs.lemmas.List.Elements.{length_all_zip}
 use Rattle.std.specs.Option.{is_some}
 use Rattle.std.specs.Result.{result_ok, result_err}
-use Rattle.mv_serial.specs.Line.{line_of}
+use Rattle.mv_alone.specs.Line.{line_of}
 use Rattle.mv_values.specs.declared.value.Value.{Value}
 use Rattle.mv_values.specs.declared.rows.Keyed.{Keyed}
 use Rattle.mv_values.specs.declared.schema.TableInfo.{TableInfo}
@@ -14,6 +15,9 @@ use Rattle.mv_values.specs.Patching.{applied}
 use Rattle.mv_values.specs.Tables.{rows_at, key_columns, columns_at}
 use Rattle.mv_catalog.specs.declared.resolved.RAgg.{RAgg}
 use Rattle.mv_catalog.specs.declared.resolved.RAgg.TheVariants.{CountAll, CountDistinct, Sum, Min, Max}
+use Rattle.mv_catalog.specs.Statements.{Well, stmt_step}
+use Rattle.mv_catalog.specs.Types.{Vars}
+use Rattle.mv_catalog.specs.declared.resolved.RStmt.{RStmt}
 use Rattle.mv_catalog.specs.declared.resolved.RStmt.TheOpen.{RStmt-F, Assign, Select, Total, ForSelect, ForRows, Branch, Insert, Update, Delete, Print, Rollback}
 use Rattle.mv_alone.specs.declared.state.Env.{Env}
 use Rattle.mv_alone.specs.declared.state.State.{State}
@@ -23,17 +27,16 @@ use Rattle.mv_alone.specs.Value.{value_of, values_of, fitted, is_so, number}
 use Rattle.mv_alone.specs.Rows.{checks_of, aggregate, total, sum_of, distinct, projected, column, is_some_row, ordered, item_at}
 use Rattle.mv_alone.specs.Changes.{new_row, put_row, keyed, updated, set_row}
 use Rattle.mv_alone.specs.Alone.{matches, offset_of, taken, totalled, is_turn}
-use Rattle.mv_record.specs.declared.record.Slot.{Slot}
 use Rattle.mv_record.specs.declared.record.Record.{Record}
 use Rattle.mv_recorded.specs.Asking.{on}
-use Rattle.mv_recorded.specs.Doing.{itself, fixed_rows, before_turns, writes_of, printed_line, is_found, gives_always, when, set_variables, sets_of}
+use Rattle.mv_recorded.specs.Doing.{itself, fixed_rows, before_turns, writes_of, printed_line, gives_always, when, set_variables, sets_of}
 use Rattle.mv_recorded.specs.Effect.{with_slots, behind, TellsEffect, HasColumns}
 use Rattle.mv_recorded.specs.Reading.{each_once}
 use Rattle.mv_recorded.specs.Recorded.{Site, own_record}
 use Rattle.mv_recorded.proofs.Setting.{then_ok}
-use Rattle.mv_recorded.proofs.Slots.{IsSet, AllSet, is_set, stays_set, all_stay_set, values_set, Within, AllWithin, slots_in, absorbed, all_absorbed, nothing_new, last_within, all_within_once, once_and_last_set, set_has}
+use Rattle.mv_recorded.proofs.Slots.{is_set, stays_set, all_stay_set, values_set, slots_in, absorbed, all_absorbed, nothing_new, last_within, all_within_once, once_and_last_set, set_has}
 use Rattle.mv_recorded.proofs.Telling.{TellsOf, tells_own}
-use Rattle.mv_recorded.proofs.Leading.{AllRise, LeadsTo, leads_own}
+use Rattle.mv_recorded.proofs.Leading.{LeadsTo, leads_own}
 use Rattle.mv_recorded.proofs.Meant.{rises_of}
 
 state_ok : {s next : State} → ◌≡◌ {A = Result State End} (Ok s) (Ok next) → s ≡ next
@@ -206,3 +209,8 @@ effect_known tables params y n site before st has rise = by_outcome (itself tabl
       line = no_line tables y st e h;
       end = ap result_err h;
     }
+
+-- a well formed statement has a column for each target
+pub columns_there : {X : Type 0} (tables : List TableInfo) (v : X → RStmt) (well : X → Well) (y : RStmt-F X) (vars : Vars) → stmt_step tables X v well y vars → HasColumns y
+columns_there tables v well (Select cs xs t conds sorts offset) vars h = let same = length_all_zip _ cs xs h.0.2.0 in omega (arith, same)
+columns_there tables v well y vars h = tt

@@ -1,7 +1,6 @@
 -- The records of small procedures are those that were worked out by hand.
 use Rattle.std.proofs.Common.{◌≡◌, ℕ, pos, List, [], ◌∷◌, refl, ap, ◌∙◌}
 use Rattle.std.specs.Fmt.{digits}
-use Rattle.mv_values.specs.declared.value.Value.{Value}
 use Rattle.mv_values.specs.declared.value.Value.TheVariants.{Int}
 use Rattle.mv_values.specs.declared.op.Op.TheVariants.{Lt}
 use Rattle.mv_values.specs.declared.rows.Keyed.{Keyed}
@@ -11,7 +10,7 @@ use Rattle.mv_catalog.specs.declared.resolved.RStmt.TheOpen.{Rollback}
 use Rattle.mv_alone.specs.declared.state.State.{State}
 use Rattle.mv_alone.specs.declared.state.Held.{Held}
 use Rattle.mv_alone.specs.declared.state.Held.TheVariants.{Scalar, Turns, Turn}
-use Rattle.mv_recorded.specs.Examples.{var, two, col, field, constant, acc, account, add_amount, set_balance, tell_balance, read_balance, add_read, add_sum, add_write, add_line, AddsFive, greatest, add_overflow, AddOverflows, raise_balance, UpdateOverflows, tell_found, look_read, look_line, LooksInVain, no_funds, look_at_funds, take_amount, give_amount, take_fee, read_first, looked, rolled_back, taken, given, fee_taken, Transfers, TransferRollsBack, add_line_amount, over_lines, lines, loop_record, first_turn, second_turn, AddsUp}
+use Rattle.mv_recorded.specs.Examples.{var, col, field, constant, acc, account, add_amount, set_balance, tell_balance, read_balance, add_read, add_sum, add_write, add_line, AddsFive, greatest, add_overflow, AddOverflows, raise_balance, UpdateOverflows, tell_found, look_read, look_line, LooksInVain, no_funds, look_at_funds, take_amount, give_amount, take_fee, read_first, looked, rolled_back, taken, given, fee_taken, Transfers, TransferRollsBack, add_line_amount, over_lines, lines, loop_record, first_turn, AddsUp}
 use Rattle.mv_recorded.specs.Recorded.{Site, told, outside, within, within_loop, in_turn}
 use Rattle.mv_recorded.proofs.Unrolled.{value_var, value_two, value_col, value_field, value_constant, variables_var, variables_two, variables_col, variables_field, variables_constant, columns_var, columns_two, columns_col, columns_constant, told_first, tell_is, does_is, size_is}
 

@@ -1,5 +1,5 @@
 -- The changes of a full run's records, applied in order, lead to the database of the machine that runs the call alone.
-use Rattle.std.proofs.Common.{◌≡◌, ℕ, zero, suc, Bool, true, List, [], ◌∷◌, ◌++◌, Result, Ok, Err, map, slice_set, refl, sym, ap, subst, ◌∙◌, append-nil}
+use Rattle.std.proofs.Common.{◌≡◌, ℕ, zero, suc, true, List, [], ◌∷◌, ◌++◌, Result, Ok, Err, map, slice_set, refl, sym, ap, subst, ◌∙◌, append-nil}
 use Rattle.std.proofs.lemmas.Grind.{flat_map-append}
 use Rattle.mv_values.specs.declared.value.Value.{Value}
 use Rattle.mv_values.specs.declared.rows.Keyed.{Keyed}
@@ -10,8 +10,6 @@ use Rattle.mv_values.specs.declared.calls.End.{End}
 use Rattle.mv_values.specs.Columns.{columns_of}
 use Rattle.mv_values.specs.Patching.{written, applied, patched_rows}
 use Rattle.mv_values.specs.Tables.{key_columns, columns_at, rows_at}
-use Rattle.mv_catalog.specs.declared.resolved.RCond.{RCond}
-use Rattle.mv_catalog.specs.declared.resolved.RExpr.{RExpr}
 use Rattle.mv_catalog.specs.declared.resolved.RSetItem.{RSetItem}
 use Rattle.mv_catalog.specs.declared.resolved.RStmt.{RStmt}
 use Rattle.mv_catalog.specs.declared.resolved.RStmt.TheOpen.{RStmt-F, Assign, Select, Total, ForSelect, ForRows, Branch, Insert, Update, Delete, Print, Rollback}
@@ -20,16 +18,16 @@ use Rattle.mv_alone.specs.declared.state.Check.{Check}
 use Rattle.mv_alone.specs.declared.state.State.{State}
 use Rattle.mv_alone.specs.Outcome.{then_do}
 use Rattle.mv_alone.specs.Value.{value_of, values_of}
-use Rattle.mv_alone.specs.Rows.{checks_of, aggregate, matching, is_some_row}
+use Rattle.mv_alone.specs.Rows.{checks_of, aggregate, is_some_row}
 use Rattle.mv_alone.specs.Changes.{new_row, put_row, keyed, updated, set_row, without}
-use Rattle.mv_alone.specs.Alone.{Does, matches, offset_of, fixed, with_rows}
+use Rattle.mv_alone.specs.Alone.{matches, offset_of, fixed, with_rows}
 use Rattle.mv_record.specs.declared.record.Record.{Record}
 use Rattle.mv_record.specs.Runs.{Tables, writes_in}
 use Rattle.mv_recorded.specs.Asking.{on}
-use Rattle.mv_recorded.specs.Doing.{itself, write, writes_of}
+use Rattle.mv_recorded.specs.Doing.{itself, write}
 use Rattle.mv_recorded.specs.Recorded.{Tells, Site, own_record}
 use Rattle.mv_recorded.proofs.Following.{IsLaw}
-use Rattle.mv_recorded.proofs.Patched.{Rises, OnTable, applied_on, deletes_on, deletes_lead, without_rises, put_leads, put_rises}
+use Rattle.mv_recorded.proofs.Patched.{Rises, applied_on, deletes_on, deletes_lead, without_rises, put_leads, put_rises}
 use Rattle.mv_recorded.proofs.Setting.{New, set_writes, sets_on, sets_lead, set_row_makes, updated_rises}
 
 -- in each table keys rise

@@ -7,8 +7,10 @@ pub mod Leading
 pub mod Meant
 pub mod Naming
 pub mod Climbing
+pub mod Nesting
 pub mod Rising
 pub mod Slots
 pub mod Effects
 pub mod Unrolled
 pub mod Examples
+pub mod TableExamples

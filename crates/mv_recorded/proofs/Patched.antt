@@ -1,7 +1,6 @@
 -- Rows of a table to which changes are applied one by one.
-use Rattle.std.proofs.Common.{◌≡◌, ℕ, zero, suc, Bool, true, false, cond, not, List, [], ◌∷◌, ◌++◌, Option, Some, None, Result, Ok, Err, map, slice_set, refl, sym, ap, subst, ◌∙◌, if◌then◌else◌}
+use Rattle.std.proofs.Common.{◌≡◌, ℕ, zero, suc, Bool, true, false, cond, not, List, [], ◌∷◌, ◌++◌, Option, Some, Result, Ok, Err, map, slice_set, refl, ap, subst, ◌∙◌, if◌then◌else◌}
 use Rattle.std.proofs.lemmas.Cmp.{tied_itself}
-use Rattle.std.specs.List.{filter}
 use Rattle.std.specs.Ordering.{is_eq, ordering_reverse}
 use Rattle.std.specs.declared.cmp.Ordering.{Ordering}
 use Rattle.std.specs.declared.cmp.Ordering.TheVariants.{Less, Equal, Greater}
@@ -12,7 +11,7 @@ use Rattle.mv_values.specs.declared.patch.Patch.TheVariants.{Insert, Delete}
 use Rattle.mv_values.specs.declared.patch.Write.{Write}
 use Rattle.mv_values.specs.declared.calls.End.{End}
 use Rattle.mv_values.specs.Order.{key_order}
-use Rattle.mv_values.specs.Patching.{row_of, patched, standing, placed, placed_by, patched_rows, written, applied}
+use Rattle.mv_values.specs.Patching.{row_of, patched, standing, placed, placed_by, patched_rows, applied}
 use Rattle.mv_values.specs.Tables.{rows_at}
 use Rattle.mv_values.proofs.KeyOrder.{key_order_total}
 use Rattle.mv_alone.specs.declared.state.Check.{Check}

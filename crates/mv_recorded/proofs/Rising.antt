@@ -1,8 +1,6 @@
 -- The paths of the records of a full run rise.
-use Rattle.std.proofs.Common.{◌≡◌, ℕ, zero, suc, ◌+◌, ◌<◌, ◌≤◌, Bool, true, false, List, [], ◌∷◌, ◌++◌, Option, Some, None, Result, Ok, Err, AllPairs, map, drop, length, nat_lt, slice_get, if◌then◌else◌, refl, sym, ap, subst, ◌∙◌, arith, length-append, append-nil, append_assoc}
-use Rattle.std.proofs.Math.Seq.{drop-append_seam}
+use Rattle.std.proofs.Common.{◌≡◌, ℕ, ◌+◌, ◌≤◌, Bool, true, false, List, [], ◌∷◌, ◌++◌, Result, Ok, Err, map, length, nat_lt, if◌then◌else◌, refl, sym, ap, subst, ◌∙◌, arith, append-nil, append_assoc}
 use Rattle.std.proofs.lemmas.Bool.Decides.{nat_tests}
-use Rattle.std.specs.Option.{option_and_then}
 use Rattle.mv_values.specs.declared.value.Value.{Value}
 use Rattle.mv_values.specs.declared.schema.TableInfo.{TableInfo}
 use Rattle.mv_values.specs.declared.calls.Call.{Call}
@@ -17,66 +15,13 @@ use Rattle.mv_alone.specs.Value.{value_of, is_so}
 use Rattle.mv_alone.specs.Alone.{Does, does, is_turn}
 use Rattle.mv_alone.specs.TableAfter.{Tables, begun}
 use Rattle.mv_record.specs.declared.record.Record.{Record}
-use Rattle.mv_record.specs.Paths.{Nest, path, inside, nest_of, nests_behind, paths, IsEarlierPath, PathsRise}
+use Rattle.mv_record.specs.Paths.{Nest, path, nest_of, nests_behind, paths, IsEarlierPath, PathsRise}
 use Rattle.mv_recorded.specs.Asking.{on}
 use Rattle.mv_recorded.specs.Doing.{fixed_rows}
 use Rattle.mv_catalog.specs.Statements.{size, size_step, total_size}
-use Rattle.mv_recorded.specs.Recorded.{Tells, Site, tell, tell_inner, tell_step, tell_turns, own_record, in_turn, within, within_loop, size_of, body_of, told, outside, recorded}
-use Rattle.mv_recorded.proofs.Counted.{firsts}
+use Rattle.mv_recorded.specs.Recorded.{Tells, Site, tell, tell_step, tell_turns, own_record, in_turn, within, within_loop, size_of, body_of, told, outside, recorded}
+use Rattle.mv_recorded.proofs.Nesting.{paths_behind, paths_join, AsMany, more_as_many, Stands, stands_on, StandsInTurns, stands_here, stands_within, stands_in_turns}
 use Rattle.mv_recorded.proofs.Climbing.{front_earlier, less_earlier, behind_same, NotLater, earlier_not_later, number_not_later, Climb, climb_on, climb_from, climb_join, climb_to, climb_pairs}
-
--- Nests behind nests
-
-abbrev paths_behind : List Nest → List Record → List (List ℕ)
-paths_behind nests rs = map path (nests_behind nests rs)
-
-many_nests : (nests : List Nest) (rs : List Record) → length (nests_behind nests rs) ≡ length rs
-many_nests nests [] = refl
-many_nests nests (r ∷ rs) = let rest = many_nests (nests ++ nest_of nests r ∷ []) rs in omega (arith, rest)
-
-paths_join : (nests : List Nest) (rs ss : List Record) → paths_behind nests (rs ++ ss) ≡ paths_behind nests rs ++ paths_behind (nests ++ nests_behind nests rs) ss
-paths_join nests [] ss = ap (λ l. paths_behind l ss) (sym (append-nil nests))
-paths_join nests (r ∷ rs) ss =
-    let it : Nest = nest_of nests r in
-    ap (λ l. path it ∷ l) (paths_join (nests ++ it ∷ []) rs ss
-    ∙ ap (λ l. paths_behind (nests ++ it ∷ []) rs ++ paths_behind l ss) (append_assoc nests (it ∷ []) (nests_behind (nests ++ it ∷ []) rs)))
-
--- a nest for each record
-abbrev AsMany : List Nest → List Record → Type 0
-AsMany nests rs = length nests ≡ length rs
-
-more_as_many : (nests : List Nest) (before these : List Record) → AsMany nests before → AsMany (nests ++ nests_behind nests these) (before ++ these)
-more_as_many nests before these h = omega (arith, length-append nests (nests_behind nests these), length-append before these, many_nests nests these, h)
-
--- Sites
-
--- these numbers and turns stand around what stands at the site
-abbrev Stands : List Nest → Site → List ℕ → Type 0
-Stands nests site around = (more : List Nest) → inside (option_and_then (slice_get (nests ++ more)) site.parent) site.turns ≡ around
-
-stands_on : (nests more : List Nest) (site : Site) (around : List ℕ) → Stands nests site around → Stands (nests ++ more) site around
-stands_on nests more site around h others =
-    ap (λ l. inside (option_and_then (slice_get l) site.parent) site.turns) (append_assoc nests more others) ∙ h (more ++ others)
-
-found_at : (nests : List Nest) (it : Nest) (more : List Nest) → slice_get ((nests ++ it ∷ []) ++ more) (length nests) ≡ Some it
-found_at [] it more = refl
-found_at (n ∷ nests) it more = found_at nests it more
-
-own_number : (nests : List Nest) (it : Nest) (more : List Nest) (number : ℕ) → number ≡ length nests → slice_get ((nests ++ it ∷ []) ++ more) number ≡ Some it
-own_number nests it more number h = ap (slice_get ((nests ++ it ∷ []) ++ more)) h ∙ found_at nests it more
-
-not_deeper : (it : Nest) (turns : List ℕ) → it.spot.turns ≡ turns → inside (Some it) turns ≡ it.around
-not_deeper it turns h =
-    let no : nat_lt (length it.spot.turns) (length turns) ≡ false = subst (λ l. nat_lt (length it.spot.turns) (length l) ≡ false) h (grind (arith, nat_tests)) in
-    ap (λ b. if b then it.around ++ it.spot.statement ∷ drop (length it.spot.turns) turns else it.around) no
-
-one_deeper : (it : Nest) (turns : List ℕ) (k : ℕ) → it.spot.turns ≡ turns → inside (Some it) (turns ++ k ∷ []) ≡ it.around ++ it.spot.statement ∷ k ∷ []
-one_deeper it turns k h =
-    let long : length (it.spot.turns ++ k ∷ []) ≡ length it.spot.turns + 1 = length-append it.spot.turns (k ∷ []) in
-    let so : nat_lt (length it.spot.turns) (length (it.spot.turns ++ k ∷ [])) ≡ true = grind (arith, nat_tests) in
-    subst (λ l. inside (Some it) (l ++ k ∷ []) ≡ it.around ++ it.spot.statement ∷ k ∷ []) h
-    (ap (λ b. if b then it.around ++ it.spot.statement ∷ drop (length it.spot.turns) (it.spot.turns ++ k ∷ []) else it.around) so
-    ∙ ap (λ l. it.around ++ it.spot.statement ∷ l) (drop-append_seam it.spot.turns (k ∷ [])))
 
 -- Runs
 
@@ -94,10 +39,6 @@ follow_rises nests these (Ok x) go low middle high h le k =
     (climb_join low (paths_behind nests these) middle (paths_behind (nests ++ nests_behind nests these) (go x)) high h (k x))
 follow_rises nests these (Err e) go low middle high h le k =
     subst (λ rs. Climb low (paths_behind nests rs) high) (sym (append-nil these)) (climb_to low (paths_behind nests these) middle high h le)
-
--- the loops' numbers and turns are those of its site, with this turn
-abbrev StandsInTurns : List Nest → Site → List ℕ → ℕ → Type 0
-StandsInTurns nests site around m = (k : ℕ) → Stands nests (in_turn k site) (around ++ m ∷ k ∷ [])
 
 turn_earlier : (around : List ℕ) (m k : ℕ) (ks : List ℕ) → IsEarlierPath (around ++ m ∷ k ∷ ks) (around ++ m ∷ (k + 1) ∷ [])
 turn_earlier around m k ks =
@@ -175,17 +116,6 @@ first_turn around n k = behind_same around (n ∷ []) (n ∷ k ∷ []) (behind_s
 one_rises : (nests : List Nest) (own : Record) (around : List ℕ) (n : ℕ) → path (nest_of nests own) ≡ around ++ n ∷ []
     → Climb (around ++ n ∷ []) (paths_behind nests (own ∷ [])) (around ++ (n + 1) ∷ [])
 one_rises nests own around n is = own_rises nests own [] around n (around ++ (n + 1) ∷ []) (around ++ (n + 1) ∷ []) is (next_number around n) (λ o lt. lt)
-
-stands_here : (nests : List Nest) (site : Site) (around : List ℕ) → Stands nests site around → inside (option_and_then (slice_get nests) site.parent) site.turns ≡ around
-stands_here nests site around stands = ap (λ l. inside (option_and_then (slice_get l) site.parent) site.turns) (sym (append-nil nests)) ∙ stands []
-
--- in an IF nothing more stands around, in a FOR its number and the turn
-stands_within : (nests : List Nest) (it : Nest) (site : Site) (number : ℕ) → number ≡ length nests → it.spot.turns ≡ site.turns → Stands (nests ++ it ∷ []) (within number site) it.around
-stands_within nests it site number h same more = ap (λ o. inside o site.turns) (own_number nests it more number h) ∙ not_deeper it site.turns same
-
-stands_in_turns : (nests : List Nest) (it : Nest) (x : ℕ) (site : Site) (number : ℕ) → number ≡ length nests → it.spot.turns ≡ site.turns
-    → StandsInTurns (nests ++ it ∷ []) (within_loop x number site) it.around it.spot.statement
-stands_in_turns nests it x site number h same k more = ap (λ o. inside o (site.turns ++ k ∷ [])) (own_number nests it more number h) ∙ one_deeper it site.turns k same
 
 on_rises : {A : Type 0} (nests : List Nest) (r : Result A End) (go : A → List Record) (low high : List ℕ) → NotLater low high
     → ((x : A) → Climb low (paths_behind nests (go x)) high) → Climb low (paths_behind nests (on r go)) high

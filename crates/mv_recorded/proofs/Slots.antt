@@ -6,7 +6,7 @@ use Rattle.mv_values.specs.declared.value.Value.{Value}
 use Rattle.mv_alone.specs.declared.state.Env.{Env}
 use Rattle.mv_alone.specs.declared.state.Held.{Held}
 use Rattle.mv_alone.specs.declared.state.Held.TheVariants.{Scalar}
-use Rattle.mv_alone.specs.Env.{unset, put_at, held_at, scalar_in, scalar_at, with_value, with_values}
+use Rattle.mv_alone.specs.Env.{unset, put_at, scalar_in, scalar_at, with_value, with_values}
 use Rattle.mv_record.specs.declared.record.Slot.{Slot}
 use Rattle.mv_recorded.specs.Effect.{with_slots}
 use Rattle.mv_recorded.specs.Reading.{each_once}

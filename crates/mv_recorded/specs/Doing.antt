@@ -1,9 +1,8 @@
 -- What a statement does by itself, without what it holds: an IF only looks at its condition, a FOR only fixes its rows.
-use Rattle.std.specs.Prelude.{ℕ, Bool, true, false, ◌||◌, List, [], ◌∷◌, ◌++◌, Option, Some, None, Result, Ok, Err, map}
+use Rattle.std.specs.Prelude.{ℕ, Bool, true, false, ◌||◌, List, [], ◌∷◌, ◌++◌, Option, None, Result, Ok, Err, map}
 use Rattle.std.specs.List.{flat_map}
 use Rattle.std.specs.Result.{result_ok}
 use Rattle.mv_values.specs.declared.value.Value.{Value}
-use Rattle.mv_values.specs.declared.rows.Keyed.{Keyed}
 use Rattle.mv_values.specs.declared.patch.Patch.{Patch}
 use Rattle.mv_values.specs.declared.patch.Patch.TheVariants as patch
 use Rattle.mv_values.specs.declared.patch.Write.{Write}
@@ -21,7 +20,7 @@ use Rattle.mv_alone.specs.Outcome.{then_do}
 use Rattle.mv_alone.specs.Env.{scalar_at, with_found, turns_at}
 use Rattle.mv_alone.specs.Value.{value_of, values_of, is_so}
 use Rattle.mv_alone.specs.Rows.{checks_of}
-use Rattle.mv_alone.specs.Changes.{new_row, set_row, keyed}
+use Rattle.mv_alone.specs.Changes.{new_row, set_row}
 use Rattle.mv_alone.specs.Line.{line_of}
 use Rattle.mv_alone.specs.Alone.{matches, fixed, is_turn, assign, select, sum_up, insert, update, delete, print}
 use Rattle.mv_record.specs.declared.record.Slot.{Slot}

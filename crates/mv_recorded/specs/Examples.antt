@@ -1,8 +1,8 @@
 -- Records of small procedures, worked out by hand.
-use Rattle.std.specs.Prelude.{◌≡◌, ℕ, pos, List, [], ◌∷◌, Option, Some, None}
+use Rattle.std.specs.Prelude.{◌≡◌, ℕ, pos, true, false, List, [], ◌∷◌, Some, None}
 use Rattle.mv_values.specs.declared.value.Value.{Value}
 use Rattle.mv_values.specs.declared.value.Value.TheVariants.{Int, Text}
-use Rattle.mv_values.specs.declared.op.Op.TheVariants.{Eq, Lt}
+use Rattle.mv_values.specs.declared.op.Op.TheVariants.{Eq, Lt, Ge}
 use Rattle.mv_values.specs.declared.rows.Keyed.{Keyed}
 use Rattle.mv_values.specs.declared.pred.Pred.{Pred}
 use Rattle.mv_values.specs.declared.patch.Patch.TheVariants as patch
@@ -10,20 +10,21 @@ use Rattle.mv_values.specs.declared.patch.Write.{Write}
 use Rattle.mv_values.specs.declared.calls.Call.{Call}
 use Rattle.mv_values.specs.declared.calls.Argument.{Argument}
 use Rattle.mv_values.specs.declared.calls.Argument.TheVariants.{One, Many}
-use Rattle.mv_values.specs.declared.calls.End.TheVariants.{Own, Overflow}
+use Rattle.mv_values.specs.declared.calls.End.TheVariants.{Own, Overflow, ZeroDivisor}
 use Rattle.mv_values.specs.declared.schema.TableInfo.{TableInfo}
 use Rattle.mv_values.specs.declared.schema.ColType.TheVariants as column
 use Rattle.mv_ast.specs.declared.tree.TwoOp.{TwoOp}
-use Rattle.mv_ast.specs.declared.tree.TwoOp.TheVariants.{Add, Sub, Compare}
+use Rattle.mv_ast.specs.declared.tree.TwoOp.TheVariants.{Add, Sub, Div, Compare}
 use Rattle.mv_catalog.specs.declared.resolved.RExpr.{RExpr}
 use Rattle.mv_catalog.specs.declared.resolved.RExprKind.{RExprKind}
 use Rattle.mv_catalog.specs.declared.resolved.RExprKind.TheViews.{roll-RExprKind}
 use Rattle.mv_catalog.specs.declared.resolved.RExprKind.TheOpen.{RExprKind-F}
 use Rattle.mv_catalog.specs.declared.resolved.RExprKind.TheOpen as kind
 use Rattle.mv_catalog.specs.declared.resolved.RCond.{RCond}
+use Rattle.mv_catalog.specs.declared.resolved.RAgg.TheVariants.{Sum}
 use Rattle.mv_catalog.specs.declared.resolved.ProcInfo.{ProcInfo}
 use Rattle.mv_catalog.specs.declared.resolved.RStmt.{RStmt, roll-RStmt}
-use Rattle.mv_catalog.specs.declared.resolved.RStmt.TheOpen.{RStmt-F, Assign, Select, ForRows, Branch, Update, Print, Rollback}
+use Rattle.mv_catalog.specs.declared.resolved.RStmt.TheOpen.{RStmt-F, Assign, Select, Total, ForSelect, ForRows, Branch, Insert, Update, Delete, Print, Rollback}
 use Rattle.mv_record.specs.declared.record.Record.{Record}
 use Rattle.mv_record.specs.declared.record.Read.{Read}
 use Rattle.mv_record.specs.declared.record.Slot.{Slot}
@@ -267,3 +268,95 @@ abbrev pub AddsUp : Type 0
 AddsUp =
     (recorded [] total (call_of (Many lines ∷ [])) [] ≡ loop_record ∷ first_turn ∷ second_turn ∷ [])
     × (paths (loop_record ∷ first_turn ∷ second_turn ∷ []) ≡ (1 ∷ []) ∷ (1 ∷ 1 ∷ 2 ∷ []) ∷ (1 ∷ 2 ∷ 2 ∷ []) ∷ [])
+
+-- PROCEDURE close (:least): the variables are least, n, `:found` and r
+
+abbrev pub delete_found : RStmt-F RStmt
+delete_found = Delete 0 (of_account (field 3 0))
+
+-- FOR :r IN SELECT id FROM acc WHERE bal >= :least ORDER BY bal DESC DO DELETE FROM acc WHERE id = :r.id; END FOR
+abbrev pub over_accounts : RStmt-F RStmt
+over_accounts =
+    ForSelect 3 false (0 ∷ []) 0 (record { column = 1; op = Ge; right = var 0 } ∷ []) (record { column = 1; descending = true } ∷ []) (roll-RStmt delete_found ∷ [])
+
+-- SELECT SUM(bal) INTO :n FROM acc
+abbrev pub sum_up_balances : RStmt-F RStmt
+sum_up_balances = Total (Sum 1) 1 0 []
+
+-- INSERT INTO acc VALUES (9, :n, 'x')
+abbrev pub open_account : RStmt-F RStmt
+open_account = Insert 0 (constant (Int (pos 9)) ∷ var 1 ∷ constant (Text (120 ∷ [])) ∷ [])
+
+abbrev pub close : ProcInfo
+close = record {
+  name = [];
+  params = [];
+  defaults = Int (pos 0) ∷ [];
+  body = roll-RStmt over_accounts ∷ roll-RStmt sum_up_balances ∷ roll-RStmt open_account ∷ [];
+}
+
+abbrev pub rich_bank : List (List Keyed)
+rich_bank = (account 0 7 ∷ account 1 100 ∷ account 2 200 ∷ []) ∷ []
+
+abbrev pub for_record : Record
+for_record = record (blank 1) {
+  preds = record { table = 0; tests = record { column = 1; key_place = None; op = Ge; value = Int (pos 50) } ∷ []; columns = 0 ∷ 1 ∷ [] } ∷ [];
+  sets = sets 2 1 ∷ [];
+  rows = (Int (pos 2) ∷ []) ∷ (Int (pos 1) ∷ []) ∷ [];
+}
+
+-- in this turn, of this account
+abbrev pub deleted : ℕ → ℕ → Record
+deleted k a = record (blank 2) {
+  spot = record { statement = 2; turns = k ∷ [] };
+  parent = Some 0;
+  reads = reads 3 0 ∷ [];
+  preds = asks a [];
+  sets = sets 2 1 ∷ [];
+  writes = record { table = 0; key = Int (pos a) ∷ []; patch = patch.Delete } ∷ [];
+}
+
+abbrev pub sum_record : Record
+sum_record = record (blank 3) { preds = record { table = 0; tests = []; columns = 1 ∷ [] } ∷ []; sets = sets 1 7 ∷ sets 2 1 ∷ [] }
+
+abbrev pub opened : Record
+opened = record (blank 4) {
+  reads = reads 1 3 ∷ [];
+  preds = asks 9 [];
+  sets = sets 2 1 ∷ [];
+  writes = record { table = 0; key = Int (pos 9) ∷ []; patch = patch.Insert (Int (pos 9) ∷ Int (pos 7) ∷ Text (120 ∷ []) ∷ []) } ∷ [];
+}
+
+-- a FOR asks for the columns that it lists and sorts by, and fixes its rows; an INSERT asks whether its key is there
+abbrev pub Closes : Type 0
+Closes =
+    recorded acc close (call_of (number_of 50 ∷ [])) rich_bank ≡ for_record ∷ deleted 1 2 ∷ deleted 2 1 ∷ sum_record ∷ opened ∷ []
+
+-- PROCEDURE second (): the variables are b and `:found`; SELECT id, bal INTO :b, :b FROM acc ORDER BY bal DESC OFFSET :b
+
+abbrev pub read_twice : RStmt-F RStmt
+read_twice = Select (0 ∷ 1 ∷ []) (0 ∷ 0 ∷ []) 0 [] (record { column = 1; descending = true } ∷ []) (Some (var 0))
+
+abbrev pub second : ProcInfo
+second = record { name = []; params = []; defaults = Int (pos 1) ∷ []; body = roll-RStmt read_twice ∷ [] }
+
+-- a target that is named twice is set once, to the later value; a column is selected once
+abbrev pub ReadsTwice : Type 0
+ReadsTwice =
+    recorded acc second (call_of []) rich_bank ≡ record (blank 1) {
+      reads = reads_default 0 ∷ [];
+      preds = record { table = 0; tests = []; columns = 0 ∷ 1 ∷ [] } ∷ [];
+      sets = sets 0 100 ∷ sets 1 1 ∷ [];
+    } ∷ []
+
+-- PROCEDURE wrong (:a): DELETE FROM acc WHERE id = :a / 0
+
+abbrev pub delete_wrong : RStmt-F RStmt
+delete_wrong = Delete 0 (of_account (two Div (var 0) (constant (Int (pos 0)))))
+
+abbrev pub wrong : ProcInfo
+wrong = record { name = []; params = []; defaults = []; body = roll-RStmt delete_wrong ∷ [] }
+
+-- it faulted before rows were looked at, so it asks nothing
+abbrev pub DividesByZero : Type 0
+DividesByZero = recorded acc wrong (call_of (number_of 1 ∷ [])) bank ≡ record (blank 1) { end = Some ZeroDivisor } ∷ []

@@ -4,6 +4,8 @@ use Rattle.mv_values.specs.declared.schema.TableInfo.{TableInfo}
 use Rattle.mv_values.specs.declared.calls.Call.{Call}
 use Rattle.mv_values.specs.Keys.{IsRising}
 use Rattle.mv_values.specs.Tables.{rows_at}
+use Rattle.mv_catalog.specs.Statements.{IsWell, stmt_step}
+use Rattle.mv_catalog.specs.Types.{Vars}
 use Rattle.mv_catalog.specs.declared.resolved.ProcInfo.{ProcInfo}
 use Rattle.mv_catalog.specs.declared.resolved.Program.{Program}
 use Rattle.mv_catalog.specs.declared.resolved.RStmt.{RStmt}
@@ -43,3 +45,7 @@ abbrev pub EffectsTold : Type 0
 EffectsTold =
     (tables : List TableInfo) (params : ℕ) (s : RStmt-F RStmt) (n : ℕ) (site : Site) (before : List Record) (st : State) → HasColumns s
     → ((t : ℕ) → IsRising (rows_at st.tables t)) → TellsEffect (own_record tables params s n site before st) st (itself tables s st)
+
+-- a well formed statement has a column for each target
+abbrev pub ColumnsThere : Type 0
+ColumnsThere = (tables : List TableInfo) (s : RStmt-F RStmt) (vars : Vars) → stmt_step tables RStmt (λ s. s) (IsWell tables) s vars → HasColumns s

@@ -5,7 +5,6 @@ use Rattle.std.specs.Option.{option_or}
 use Rattle.mv_catalog.specs.declared.resolved.RExpr.{RExpr, fold-RExpr}
 use Rattle.mv_catalog.specs.declared.resolved.RExprKind.TheOpen.{RExprKind-F, Const, Var, Field, Col, One, Two}
 use Rattle.mv_catalog.specs.declared.resolved.RCond.{RCond}
-use Rattle.mv_catalog.specs.declared.resolved.RSetItem.{RSetItem}
 use Rattle.mv_catalog.specs.declared.resolved.RStmt.TheOpen.{RStmt-F, Assign, Select, Total, ForSelect, ForRows, Branch, Insert, Update, Delete, Print, Rollback}
 use Rattle.mv_record.specs.declared.record.Read.{Read}
 use Rattle.mv_record.specs.declared.record.Record.{Record}

@@ -1,6 +1,6 @@
 -- The records of a full run of a procedure on a database, in the order in which its statements are executed, up to and including a
 -- record with an end. That each executed statement leaves one record is this project's own.
-use Rattle.std.specs.Prelude.{ℕ, ◌+◌, Bool, List, [], ◌∷◌, ◌++◌, Option, Some, None, Result, Ok, Err, map, length, slice_get, if◌then◌else◌}
+use Rattle.std.specs.Prelude.{ℕ, ◌+◌, List, [], ◌∷◌, ◌++◌, Option, Some, None, Result, map, length, slice_get, if◌then◌else◌}
 use Rattle.std.specs.Result.{result_err}
 use Rattle.mv_values.specs.declared.value.Value.{Value}
 use Rattle.mv_values.specs.declared.schema.TableInfo.{TableInfo}
@@ -19,7 +19,7 @@ use Rattle.mv_alone.specs.Value.{value_of, is_so}
 use Rattle.mv_alone.specs.Alone.{Does, alone, does, is_turn}
 use Rattle.mv_alone.specs.TableAfter.{Tables, begun, reply_in, tables_left}
 use Rattle.mv_record.specs.declared.record.Record.{Record}
-use Rattle.mv_record.specs.Runs.{Run, Meaning}
+use Rattle.mv_record.specs.Runs.{Meaning}
 use Rattle.mv_recorded.specs.Reading.{Loop, expressions, reads_of}
 use Rattle.mv_recorded.specs.Asking.{on, preds_of}
 use Rattle.mv_recorded.specs.Doing.{fixed_rows, itself, sets_of, writes_of, printed_line}

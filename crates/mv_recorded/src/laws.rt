@@ -1,7 +1,7 @@
 //! What holds of the records of every full run, of whatever procedure, call and database.
 
-ghost use Rattle.mv_recorded.specs.Examples.{AddsFive, AddOverflows, UpdateOverflows, LooksInVain, Transfers, TransferRollsBack, AddsUp};
-ghost use Rattle.mv_recorded.specs.Laws.{RunsCounted, CallsCounted, MeaningsTell, NamesEarlierOnes, PathsAreInOrder, EffectsTold};
+ghost use Rattle.mv_recorded.specs.Examples.{AddsFive, AddOverflows, UpdateOverflows, LooksInVain, Transfers, TransferRollsBack, AddsUp, Closes, ReadsTwice, DividesByZero};
+ghost use Rattle.mv_recorded.specs.Laws.{RunsCounted, CallsCounted, MeaningsTell, NamesEarlierOnes, PathsAreInOrder, EffectsTold, ColumnsThere};
 
 /// A full run leaves as many records as it executes statements.
 #[tactic(auto, using(crate::proofs::Counted::recorded_counted, crate::proofs::Counted::records_counted))]
@@ -10,7 +10,8 @@ pub fn record_for_each_statement()
     ensures call { CallsCounted }
 {}
 
-/// The records tell the reply of the call, its lines or its end, and the database after it.
+/// On a database whose keys rise, the records tell the reply of the call, its lines or its end, and the database after
+/// it.
 #[tactic(auto, using(crate::proofs::Meant::meaning_tells))]
 pub fn records_tell_all()
     ensures { MeaningsTell }
@@ -22,19 +23,21 @@ pub fn records_name_earlier_ones()
     ensures { NamesEarlierOnes }
 {}
 
-/// Each record has a smaller path than the records behind it.
+/// Each record has a smaller path than the records behind it, so no two have the same.
 #[tactic(auto, using(crate::proofs::Rising::recorded_rises))]
 pub fn paths_rise()
     ensures { PathsAreInOrder }
 {}
 
-/// A record tells the whole effect of its statement.
+/// On a database whose keys rise, a record tells the whole effect of its statement: the values, the changes and the line
+/// that lead from the state before it to the one behind it, or the end of the call. It asks for a column for each target
+/// of a SELECT, which a well formed statement has.
 pub fn effects_are_told()
-    ensures { EffectsTold }
+    ensures effect { EffectsTold }
+    ensures well { ColumnsThere }
 {}
 
 /// The records of small procedures, worked out by hand.
-#[tactic(auto, using(crate::proofs::Examples::adds_five, crate::proofs::Examples::add_overflows, crate::proofs::Examples::update_overflows, crate::proofs::Examples::looks_in_vain, crate::proofs::Examples::transfers, crate::proofs::Examples::transfer_rolls_back, crate::proofs::Examples::adds_up))]
 pub fn worked_examples()
     ensures add { AddsFive }
     ensures overflow { AddOverflows }
@@ -43,4 +46,7 @@ pub fn worked_examples()
     ensures transfer { Transfers }
     ensures rollback { TransferRollsBack }
     ensures turns { AddsUp }
+    ensures table { Closes }
+    ensures twice { ReadsTwice }
+    ensures fault { DividesByZero }
 {}
