@@ -1,2 +1,5 @@
 pub mod Owning
 pub mod Laying
+pub mod Fronts
+pub mod Indexing
+pub mod Looking

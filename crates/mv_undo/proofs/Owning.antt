@@ -11,6 +11,7 @@ use Rattle.std.specs.declared.cmp.Ordering.{Ordering}
 use Rattle.std.specs.declared.cmp.Ordering.TheVariants.{Less, Equal, Greater}
 use Rattle.std.proofs.lemmas.Bool.Decides.{nat_tests}
 use Rattle.std.proofs.lemmas.List.{length-map}
+use Rattle.std.proofs.lemmas.List.Kept.{AllPairs-filter}
 use Rattle.mv_values.specs.declared.value.Value.{Value}
 use Rattle.mv_values.specs.declared.rows.Keyed.{Keyed}
 use Rattle.mv_values.specs.declared.pred.Pred.{Pred}
@@ -64,7 +65,7 @@ touches_earlier n t key (x ∷ xs) = by (nat_lt x.number n) (touches_earlier n t
     by true more = ap (λ b. is_on t key x.write || b) more
     by false more = more
 
-writes_earlier : (n t : ℕ) (key : List Value) (x : Owned) (xs : List Owned)
+pub writes_earlier : (n t : ℕ) (key : List Value) (x : Owned) (xs : List Owned)
     → writes_on t key (earlier n (x ∷ xs)) ≡ cond (is_earlier_on n t key x) (x.write ∷ writes_on t key (earlier n xs)) (writes_on t key (earlier n xs))
 writes_earlier n t key x xs = by (nat_lt x.number n)
   where
@@ -183,15 +184,22 @@ gathered_sought pred n os =
     by true = refl
     by false = refl
 
-drop_past : (items : List Owned) (i : ℕ) → length items ≤ i → drop i items ≡ []
-drop_past [] zero le = refl
-drop_past [] (suc i) le = refl
-drop_past (x ∷ xs) zero le = absurd (omega (arith, le))
-drop_past (x ∷ xs) (suc i) le = drop_past xs i (omega (arith, le))
-
-pub found_keys : {E : Type 0} (r : Result (List (List Value)) E) (pred : Pred) (n : ℕ) (os items : List Owned) (i : ℕ) (found : List Keyed) → gathered pred n (drop i items) found ≡ gathered pred n os [] → length items ≤ i
+pub found_keys : {E : Type 0} (r : Result (List (List Value)) E) (pred : Pred) (n : ℕ) (os rest : List Owned) (found : List Keyed) → gathered pred n rest found ≡ gathered pred n os [] → rest ≡ []
     → IfOk r (λ ks. ks ≡ keys found) → IfOk r (λ ks. AreSought pred (earlier n os) ks)
-found_keys (Err e) pred n os items i found h le is = tt
-found_keys (Ok ks) pred n os items i found h le is =
-    let all : found ≡ gathered pred n os [] = ap (λ l. gathered pred n l found) (sym (drop_past items i le)) ∙ h in
+found_keys (Err e) pred n os rest found h none is = tt
+found_keys (Ok ks) pred n os rest found h none is =
+    let all : found ≡ gathered pred n os [] = ap (λ l. gathered pred n l found) (sym none) ∙ h in
     subst (AreSought pred (earlier n os)) (sym (is ∙ ap keys all)) (gathered_sought pred n os)
+
+pub gathered_wanted : (pred : Pred) (n : ℕ) (o : Owned) (os : List Owned) (found : List Keyed) → is_wanted pred n o ≡ true → gathered pred n (o ∷ os) found ≡ gathered pred n os (placed o.write.key (Some []) found)
+gathered_wanted pred n o os found h = ap (λ b. gathered pred n os (cond b (placed o.write.key (Some []) found) found)) h
+
+pub gathered_other : (pred : Pred) (n : ℕ) (o : Owned) (os : List Owned) (found : List Keyed) → is_wanted pred n o ≡ false → gathered pred n (o ∷ os) found ≡ gathered pred n os found
+gathered_other pred n o os found h = ap (λ b. gathered pred n os (cond b (placed o.write.key (Some []) found) found)) h
+
+pub order_before : (n len : ℕ) (xs : List Owned) → IsInOrder xs → take len xs ≡ before n xs → IsInOrder (take len xs)
+order_before n len xs order is = subst IsInOrder (sym is) (AllPairs-filter (λ a b. a.number ≤ b.number) (λ o. nat_lt o.number n) xs order)
+
+pub point_before : (n : ℕ) (xs : List Owned) (len : ℕ) → IsInOrder xs
+    → (IsPartitionedBy (λ o. nat_lt o.number n) xs → IsPartitionPoint (λ o. nat_lt o.number n ≡ true) (λ o. nat_lt o.number n ≡ false) xs len) → IsPartitionPoint (λ o. nat_lt o.number n ≡ true) (λ o. nat_lt o.number n ≡ false) xs len
+point_before n xs len order h = h (parted n xs order)

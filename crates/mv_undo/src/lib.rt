@@ -1,6 +1,9 @@
 //! The own writes of a running call.
 #![tactic(auto)]
 
+mod front;
+mod index;
+mod lookup;
 mod overlay;
 pub mod owned;
 #[cfg(test)]

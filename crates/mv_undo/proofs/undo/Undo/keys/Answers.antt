@@ -1,6 +1,18 @@
-use Rattle.mv_undo.proofs.Owning.{found_keys}
+use Rattle.std.proofs.Common.{ap, ◌∙◌, subst, List}
+use Rattle.mv_values.specs.declared.value.Value.{Value}
+use Rattle.mv_undo.specs.Owning.{earlier, AreSought}
+use Rattle.mv_undo.specs.Indexing.{lined}
+use Rattle.mv_undo.specs.declared.owned.Owned.{Owned}
+use Rattle.mv_undo.proofs.Looking.{same_sought, if_ok}
 use Rattle.mv_undo.proofs.undo.Undo.keys.Goals as goal
 
 pub returns : goal.returns
 returns c =
-    found_keys c.keys_of.result c.args.pred.now c.args.number c.args.self.now c.as_slice-owned-items.result.now c.loop-owned.owned-index c.loop-owned.found c.loop-owned.invariant c.loop-owned-test.false c.keys_of.ensures
+    let items = c.as_slice-items.result.now in
+    let part = lined items c.span-places.result.now in
+    let pred = c.args.pred.now in
+    let writes = rw c.as_slice-2.ensures at c.span-places.ensures.writes in
+    if_ok c.keys_at.result (λ (keys : List (List Value)). AreSought pred (earlier c.args.number part) keys) (λ (keys : List (List Value)). AreSought pred (earlier c.args.number c.args.self.now) keys)
+    (λ keys is.
+    subst (λ (l : List Owned). AreSought pred (earlier c.args.number l) keys) (c.as_slice-items.ensures.value ∙ c.self.view_is)
+    (same_sought c.args.number pred part items keys (λ key so. writes key (c.in_ok-front.ensures key so)) is)) c.keys_at.ensures

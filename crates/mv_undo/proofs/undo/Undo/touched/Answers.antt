@@ -1,11 +1,17 @@
-use Rattle.std.proofs.Common.{◌∙◌, ap}
-use Rattle.std.specs.List.{list_any}
-use Rattle.mv_undo.specs.Owning.{is_earlier_on}
+use Rattle.std.proofs.Common.{ap, ◌∙◌}
+use Rattle.mv_undo.specs.Owning.{earlier, touches}
+use Rattle.mv_undo.specs.Indexing.{lined}
 use Rattle.mv_undo.proofs.Owning.{touches_earlier}
+use Rattle.mv_undo.proofs.Fronts.{begins_itself}
+use Rattle.mv_undo.proofs.Looking.{same_touches}
 use Rattle.mv_undo.proofs.undo.Undo.touched.Goals as goal
 
 pub returns : goal.returns
 returns c =
+    let items = c.as_slice-items.result.now in
+    let part = lined items c.span-places.result.now in
+    let key = c.args.key.now in
+    let writes = rw c.as_slice-2.ensures at c.span-places.ensures.writes in
     c.is_some_on.ensures
-    ∙ (ap (list_any (is_earlier_on c.args.number c.args.table c.args.key.now)) (c.as_slice.ensures.value ∙ c.self.view_is)
-    ∙ touches_earlier c.args.number c.args.table c.args.key.now c.args.self.now)
+    ∙ (touches_earlier c.args.number c.args.table key part
+    ∙ (same_touches c.args.number c.args.table key part items (writes key (begins_itself key)) ∙ ap (λ l. touches c.args.table key (earlier c.args.number l)) (c.as_slice-items.ensures.value ∙ c.self.view_is)))

@@ -1,0 +1,327 @@
+-- The places of own writes, by table and key.
+use Rattle.std.proofs.Common.{◌≡◌, ℕ, zero, suc, ◌+◌, ◌-◌, ◌<◌, ◌≤◌, Bool, true, false, ◌&&◌, ◌==◌, cond, List, [], ◌∷◌, ◌++◌, Option, Some, None, All, length, map, take, drop, insert, slice_get, slice_index_or, slice_range, refl, sym, ap, subst, ◌∙◌, ◌⊎◌, inl, inr, arith, take-append-drop, length-append}
+use Rattle.std.specs.Prelude.{pos, AllPairs, nat_lt}
+use Rattle.std.specs.List.{filter}
+use Rattle.std.specs.List.Sorted.{IsPartitionPoint, IsPartitionedBy}
+use Rattle.std.specs.Ordering.{is_lt, is_le, is_eq, ordering_then}
+use Rattle.std.specs.declared.cmp.Ordering.{Ordering}
+use Rattle.std.specs.declared.cmp.Ordering.TheVariants.{Less, Equal, Greater}
+use Rattle.std.proofs.lemmas.Bool.{cases_Bool, cases_lt}
+use Rattle.std.proofs.lemmas.Bool.Decides.{nat_tests}
+use Rattle.std.proofs.lemmas.Cmp.{tied_itself}
+use Rattle.std.proofs.lemmas.List.{get_or-take, get_or-drop, length-take, length-drop, drop-drop, append-nil, map-append}
+use Rattle.std.proofs.lemmas.List.Elements.{filter-append, filter_passes, All-nil, All-cons}
+use Rattle.std.proofs.lemmas.List.Kept.{AllPairs-cons, AllPairs-filter}
+use Rattle.mv_values.specs.declared.value.Value.{Value}
+use Rattle.mv_values.specs.declared.value.Value.TheVariants.{Int}
+use Rattle.mv_values.specs.Order.{value_order, key_order}
+use Rattle.mv_values.proofs.KeyOrder.{value_order_total, key_order_total, exact_keys}
+use Rattle.mv_record.specs.Writes.{is_on}
+use Rattle.mv_undo.specs.declared.owned.Owned.{Owned}
+use Rattle.mv_undo.specs.Owning.{before}
+use Rattle.mv_undo.specs.Indexing.{owned_or, owned_at, lined, full_key, key_at, owned_on, IsIndexed, front_order}
+use Rattle.mv_undo.proofs.Fronts.{below_too, within_too, parted_by_front, parted_by_key, above_le, equal_first, both_so, equal_is, alike}
+
+-- A write on a key
+
+on_full : (t : ℕ) (key : List Value) (o : Owned) → is_on t key o.write ≡ true → full_key o ≡ Int (pos t) ∷ key
+on_full t key o on =
+    let two = both_so (o.write.table == t) (is_eq (key_order o.write.key key)) on in
+    ap (λ n. Int (pos n) ∷ o.write.key) (alike o.write.table t two.0) ∙ ap (λ k. Int (pos t) ∷ k) (exact_keys o.write.key key (equal_is (key_order o.write.key key) two.1))
+
+on_begins : (t : ℕ) (key front : List Value) (o : Owned) → front_order key front ≡ Equal → is_on t key o.write ≡ true → front_order (full_key o) (Int (pos t) ∷ front) ≡ Equal
+on_begins t key front o h on =
+    ap (λ k. front_order k (Int (pos t) ∷ front)) (on_full t key o on)
+    ∙ (equal_first (value_order (Int (pos t)) (Int (pos t))) (front_order key front) (tied_itself value_order_total (Int (pos t))) ∙ h)
+
+below_misses : (o : Ordering) → is_lt o ≡ true → o ≡ Equal → ⊥
+below_misses o lt e = let no : is_lt Equal ≡ true = subst (λ p. is_lt p ≡ true) e lt in cc
+
+above_misses : (o : Ordering) → is_le o ≡ false → o ≡ Equal → ⊥
+above_misses o le e = let no : is_le Equal ≡ false = subst (λ p. is_le p ≡ false) e le in cc
+
+off : (b : Bool) → (b ≡ true → ⊥) → b ≡ false
+off true h = absurd (h refl)
+off false h = refl
+
+-- Places one after another
+
+on_append : (items : List Owned) (t : ℕ) (key : List Value) (xs ys : List ℕ) → owned_on t key (lined items (xs ++ ys)) ≡ owned_on t key (lined items xs) ++ owned_on t key (lined items ys)
+on_append items t key xs ys = ap (owned_on t key) (map-append (owned_at items) xs ys) ∙ filter-append (λ (o : Owned). is_on t key o.write) (lined items xs) (lined items ys)
+
+none_on : (items : List Owned) (t : ℕ) (key : List Value) (xs : List ℕ) → ((k d : ℕ) → k < length xs → is_on t key (owned_at items (slice_index_or xs k d)).write ≡ false) → owned_on t key (lined items xs) ≡ []
+none_on items t key [] h = refl
+none_on items t key (x ∷ xs) h =
+    let first : is_on t key (owned_at items x).write ≡ false = h zero x (omega arith) in
+    rw first (none_on items t key xs (λ k d lt. h (suc k) d (omega (arith, lt))))
+
+-- A part of the places
+
+both_tests : (o : Ordering) → is_lt o ≡ true → is_le o ≡ false → ⊥
+both_tests Less a b = cc
+both_tests Equal a b = cc
+both_tests Greater a b = cc
+
+abbrev pub is_low : List Owned → ℕ → List Value → ℕ → Bool
+is_low items t front place = is_lt (front_order (key_at items place) (Int (pos t) ∷ front))
+
+abbrev pub is_up : List Owned → ℕ → List Value → ℕ → Bool
+is_up items t front place = is_le (front_order (key_at items place) (Int (pos t) ∷ front))
+
+abbrev pub Searched : (ℕ → Bool) → List ℕ → ℕ → Type 0
+Searched test order at = IsPartitionedBy test order → IsPartitionPoint (λ y. test y ≡ true) (λ y. test y ≡ false) order at
+
+low_point : (items : List Owned) (order : List ℕ) (t : ℕ) (front : List Value) (at : ℕ) → IsIndexed items order → Searched (is_low items t front) order at
+    → IsPartitionPoint (λ y. is_low items t front y ≡ true) (λ y. is_low items t front y ≡ false) order at
+low_point items order t front at ix h = h (parted_by_front is_lt (key_at items) (Int (pos t) ∷ front) order below_too ix.sorted)
+
+up_point : (items : List Owned) (order : List ℕ) (t : ℕ) (front : List Value) (at : ℕ) → IsIndexed items order → Searched (is_up items t front) order at
+    → IsPartitionPoint (λ y. is_up items t front y ≡ true) (λ y. is_up items t front y ≡ false) order at
+up_point items order t front at ix h = h (parted_by_front is_le (key_at items) (Int (pos t) ∷ front) order within_too ix.sorted)
+
+pub span_order : (items : List Owned) (order : List ℕ) (t : ℕ) (front : List Value) (from to : ℕ) → IsIndexed items order → from ≤ length order → Searched (is_low items t front) order from → Searched (is_up items t front) order to
+    → from ≤ to
+span_order items order t front from to ix low first last =
+    elim (cases_lt to from) [
+      | inl crossed ↦ absurd (both_tests _ ((low_point items order t front from ix first).0 to 0 (omega arith) crossed) ((up_point items order t front to ix last).1 to 0 (omega arith) (omega (arith, crossed, low))))
+      | inr fine ↦ fine
+    ]
+
+-- what a part leaves out isn't on the key
+part_same : (items : List Owned) (t : ℕ) (key : List Value) (order : List ℕ) (from to : ℕ) → from ≤ to → owned_on t key (lined items (take from order)) ≡ [] → owned_on t key (lined items (drop to order)) ≡ []
+    → owned_on t key (lined items (slice_range order from to)) ≡ owned_on t key (lined items order)
+part_same items t key order from to le front back =
+    let rest : List ℕ = drop from order in
+    let G : List ℕ → List Owned = λ xs. owned_on t key (lined items xs) in
+    let later : G (drop (to - from) rest) ≡ [] = ap G (drop-drop (to - from) from order ∙ ap (λ n. drop n order) (omega (arith, le))) ∙ back in
+    let inside : G (take (to - from) rest) ≡ G rest =
+    sym (append-nil (G (take (to - from) rest)))
+    ∙ (ap (λ l. G (take (to - from) rest) ++ l) (sym later) ∙ (sym (on_append items t key (take (to - from) rest) (drop (to - from) rest)) ∙ ap G (take-append-drop (to - from) rest))) in
+    inside ∙ (ap (λ l. l ++ G rest) (sym front) ∙ (sym (on_append items t key (take from order) rest) ∙ ap G (take-append-drop from order)))
+
+pub span_on : (items : List Owned) (order : List ℕ) (t : ℕ) (front : List Value) (from to : ℕ) → IsIndexed items order → from ≤ length order → to ≤ length order → Searched (is_low items t front) order from → Searched (is_up items t front) order to
+    → (key : List Value) → front_order key front ≡ Equal → owned_on t key (lined items (slice_range order from to)) ≡ owned_on t key items
+span_on items order t front from to ix low high first last key h =
+    part_same items t key order from to (span_order items order t front from to ix low first last)
+    (none_on items t key (take from order) (λ k d lt.
+    let inside : k < from = omega (arith, lt, length-take from order) in
+    let is : slice_index_or (take from order) k d ≡ slice_index_or order k d = get_or-take from order k d inside in
+    rw is (off _ (λ on. below_misses _ ((low_point items order t front from ix first).0 k d (omega arith) inside) (on_begins t key front (owned_at items (slice_index_or order k d)) h on)))))
+    (none_on items t key (drop to order) (λ k d lt.
+    let inside : to + k < length order = omega (arith, lt, length-drop to order) in
+    let is : slice_index_or (drop to order) k d ≡ slice_index_or order (to + k) d = get_or-drop to order k d in
+    rw is (off _ (λ on. above_misses _ ((up_point items order t front to ix last).1 (to + k) d (omega arith) inside) (on_begins t key front (owned_at items (slice_index_or order (to + k) d)) h on)))))
+    ∙ ix.each t key
+
+pub part_within : (order : List ℕ) (n from to : ℕ) → to ≤ length order → All (λ p. p < n) order → All (λ p. p < n) (slice_range order from to)
+part_within order n from to high h k d lt =
+    let inside : k < to - from = omega (arith, lt, length-take (to - from) (drop from order)) in
+    let is : slice_index_or (take (to - from) (drop from order)) k d ≡ slice_index_or order (from + k) d = get_or-take (to - from) (drop from order) k d inside ∙ get_or-drop from order k d in
+    rw is (h (from + k) d (omega (arith, inside, high)))
+
+-- One more write
+
+at_more : (items : List Owned) (o : Owned) (p : ℕ) → p < length items → owned_at (items ++ o ∷ []) p ≡ owned_at items p
+at_more [] o p lt = absurd (omega (arith, lt))
+at_more (x ∷ xs) o zero lt = refl
+at_more (x ∷ xs) o (suc p) lt = at_more xs o p (omega (arith, lt))
+
+at_last : (items : List Owned) (o : Owned) → owned_at (items ++ o ∷ []) (length items) ≡ o
+at_last [] o = refl
+at_last (x ∷ xs) o = at_last xs o
+
+lined_same : (f g : ℕ → Owned) (xs : List ℕ) → ((k d : ℕ) → k < length xs → f (slice_index_or xs k d) ≡ g (slice_index_or xs k d)) → map f xs ≡ map g xs
+lined_same f g [] h = refl
+lined_same f g (x ∷ xs) h =
+    let head : f x ≡ g x = h zero x (omega arith) in
+    let tail : map f xs ≡ map g xs = lined_same f g xs (λ k d lt. h (suc k) d (omega (arith, lt))) in
+    cc
+
+insert_is : (xs : List ℕ) (at n : ℕ) → insert xs at n ≡ take at xs ++ n ∷ drop at xs
+insert_is xs zero n = refl
+insert_is [] (suc at) n = refl
+insert_is (x ∷ xs) (suc at) n = ap (λ l. x ∷ l) (insert_is xs at n)
+
+all_insert : (P : ℕ → Type 0) (xs : List ℕ) (at n : ℕ) → All P xs → P n → All P (insert xs at n)
+all_insert P xs zero n h p = All-cons P n xs p h
+all_insert P [] (suc at) n h p = All-cons P n [] p h
+all_insert P (x ∷ xs) (suc at) n h p = All-cons P x (insert xs at n) (h 0 x (omega arith)) (all_insert P xs at n (λ k d lt. h (suc k) d (omega (arith, lt))) p)
+
+pairs_insert : (R : ℕ → ℕ → Type 0) (xs : List ℕ) (at n : ℕ) → AllPairs R xs → IsPartitionPoint (λ x. R x n) (λ x. R n x) xs at → AllPairs R (insert xs at n)
+pairs_insert R xs zero n h point = AllPairs-cons R n xs (λ k d lt. point.1 k d (omega arith) lt) h
+pairs_insert R [] (suc at) n h point = AllPairs-cons R n [] (All-nil (R n)) h
+pairs_insert R (x ∷ xs) (suc at) n h point =
+    AllPairs-cons R x (insert xs at n) (all_insert (R x) xs at n (λ k d lt. h 0 (suc k) d (omega arith) (omega (arith, lt))) (point.0 0 x (omega arith) (omega arith)))
+    (pairs_insert R xs at n (λ i j d lt within. h (suc i) (suc j) d (omega (arith, lt)) (omega (arith, within)))
+    (λ k d low lt. point.0 (suc k) d (omega arith) (omega (arith, lt)), λ k d low lt. point.1 (suc k) d (omega (arith, low)) (omega (arith, lt))))
+
+abbrev InOrder : (ℕ → List Value) → ℕ → ℕ → Type 0
+InOrder K p q = is_le (key_order (K p) (K q)) ≡ true
+
+pairs_same : (K J : ℕ → List Value) (xs : List ℕ) → ((k d : ℕ) → k < length xs → J (slice_index_or xs k d) ≡ K (slice_index_or xs k d)) → AllPairs (InOrder K) xs → AllPairs (InOrder J) xs
+pairs_same K J xs h pairs i j d lt within =
+    ap (λ k. is_le (key_order k (J (slice_index_or xs j d)))) (h i d (omega (arith, lt, within)))
+    ∙ (ap (λ k. is_le (key_order (K (slice_index_or xs i d)) k)) (h j d within) ∙ pairs i j d lt within)
+
+join : (o : Owned) (b : Bool) (FA FB FI : List Owned) → FA ++ FB ≡ FI → (b ≡ true → FB ≡ []) → FA ++ cond b (o ∷ FB) FB ≡ FI ++ cond b (o ∷ []) []
+join o true FA FB FI is none =
+    ap (λ l. FA ++ o ∷ l) (none refl) ∙ ap (λ l. l ++ o ∷ []) (sym (append-nil FA) ∙ (ap (λ l. FA ++ l) (sym (none refl)) ∙ is))
+join o false FA FB FI is none = is ∙ sym (append-nil FI)
+
+pub indexed_more : (items : List Owned) (order : List ℕ) (o : Owned) (at : ℕ) → IsIndexed items order → at ≤ length order → Searched (λ p. is_le (key_order (key_at items p) (full_key o))) order at → IsIndexed (items ++ o ∷ []) (insert order at (length items))
+indexed_more items order o at ix high search' = record { within = inside; sorted = rising; each = found }
+  where
+    more : List Owned
+    more = items ++ o ∷ []
+
+    n : ℕ
+    n = length items
+
+    point : IsPartitionPoint (λ p. is_le (key_order (key_at items p) (full_key o)) ≡ true) (λ p. is_le (key_order (key_at items p) (full_key o)) ≡ false) order at
+    point = search' (parted_by_key (key_at items) (full_key o) order ix.sorted)
+
+    stays : (k d : ℕ) → k < length order → owned_at (items ++ o ∷ []) (slice_index_or order k d) ≡ owned_at items (slice_index_or order k d)
+    stays k d lt = at_more items o (slice_index_or order k d) (ix.within k d lt)
+
+    inside : All (λ p. p < length (items ++ o ∷ [])) (insert order at (length items))
+    inside = all_insert (λ p. p < length (items ++ o ∷ [])) order at (length items) (λ k d lt. omega (arith, ix.within k d lt, length-append items (o ∷ []))) (omega (arith, length-append items (o ∷ [])))
+
+    last_key : key_at (items ++ o ∷ []) (length items) ≡ full_key o
+    last_key = ap full_key (at_last items o)
+
+    rising : AllPairs (InOrder (key_at (items ++ o ∷ []))) (insert order at (length items))
+    rising = pairs_insert (InOrder (key_at (items ++ o ∷ []))) order at (length items)
+        (pairs_same (key_at items) (key_at (items ++ o ∷ [])) order (λ k d lt. ap full_key (stays k d lt)) ix.sorted) (
+          λ k d low lt.
+              ap (λ j. is_le (key_order (key_at (items ++ o ∷ []) (slice_index_or order k d)) j)) last_key
+              ∙ (ap (λ j. is_le (key_order (full_key j) (full_key o))) (stays k d (omega (arith, lt, high))) ∙ point.0 k d low lt),
+          λ k d low lt.
+              ap (λ j. is_le (key_order j (key_at (items ++ o ∷ []) (slice_index_or order k d)))) last_key
+              ∙ (ap (λ j. is_le (key_order (full_key o) (full_key j))) (stays k d lt) ∙ above_le (key_at items (slice_index_or order k d)) (full_key o) (point.1 k d low lt)),
+        )
+
+    first_part : lined (items ++ o ∷ []) (take at order) ≡ lined items (take at order)
+    first_part = lined_same (owned_at (items ++ o ∷ [])) (owned_at items) (take at order) (λ k d lt.
+        let front : k < at = omega (arith, lt, length-take at order) in
+        let is : slice_index_or (take at order) k d ≡ slice_index_or order k d = get_or-take at order k d front in
+        rw is (stays k d (omega (arith, front, high))))
+
+    last_part : lined (items ++ o ∷ []) (drop at order) ≡ lined items (drop at order)
+    last_part = lined_same (owned_at (items ++ o ∷ [])) (owned_at items) (drop at order) (λ k d lt.
+        let back : at + k < length order = omega (arith, lt, length-drop at order) in
+        let is : slice_index_or (drop at order) k d ≡ slice_index_or order (at + k) d = get_or-drop at order k d in
+        rw is (stays (at + k) d back))
+
+    all : lined (items ++ o ∷ []) (insert order at (length items)) ≡ lined items (take at order) ++ o ∷ lined items (drop at order)
+    all =
+        ap (lined (items ++ o ∷ [])) (insert_is order at (length items))
+        ∙ (map-append (owned_at (items ++ o ∷ [])) (take at order) (length items ∷ drop at order)
+        ∙ (ap (λ l. l ++ owned_at (items ++ o ∷ []) (length items) ∷ lined (items ++ o ∷ []) (drop at order)) first_part
+        ∙ (ap (λ j. lined items (take at order) ++ j ∷ lined (items ++ o ∷ []) (drop at order)) (at_last items o)
+        ∙ ap (λ l. lined items (take at order) ++ o ∷ l) last_part)))
+
+    none_behind : (t : ℕ) (key : List Value) → is_on t key o.write ≡ true → owned_on t key (lined items (drop at order)) ≡ []
+    none_behind t key on = none_on items t key (drop at order) (λ k d lt.
+        let back : at + k < length order = omega (arith, lt, length-drop at order) in
+        let is : slice_index_or (drop at order) k d ≡ slice_index_or order (at + k) d = get_or-drop at order k d in
+        rw is (off _ (λ there.
+        above_misses (key_order (key_at items (slice_index_or order (at + k) d)) (full_key o)) (point.1 (at + k) d (omega arith) back)
+        (ap (λ j. key_order j (full_key o)) (on_full t key (owned_at items (slice_index_or order (at + k) d)) there)
+        ∙ (ap (key_order (Int (pos t) ∷ key)) (on_full t key o on) ∙ tied_itself key_order_total (Int (pos t) ∷ key))))))
+
+    found : (t : ℕ) (key : List Value) → owned_on t key (lined (items ++ o ∷ []) (insert order at (length items))) ≡ owned_on t key (items ++ o ∷ [])
+    found t key =
+        ap (owned_on t key) all
+        ∙ (filter-append (λ (j : Owned). is_on t key j.write) (lined items (take at order)) (o ∷ lined items (drop at order))
+        ∙ (join o (is_on t key o.write) (owned_on t key (lined items (take at order))) (owned_on t key (lined items (drop at order))) (owned_on t key items)
+        (sym (on_append items t key (take at order) (drop at order)) ∙ (ap (λ l. owned_on t key (lined items l)) (take-append-drop at order) ∙ ix.each t key)) (none_behind t key)
+        ∙ sym (filter-append (λ (j : Owned). is_on t key j.write) items (o ∷ []))))
+
+-- Fewer writes
+
+at_take : (items : List Owned) (n p : ℕ) → p < n → owned_at (take n items) p ≡ owned_at items p
+at_take items zero p lt = absurd (omega (arith, lt))
+at_take [] (suc n) p lt = refl
+at_take (x ∷ xs) (suc n) zero lt = refl
+at_take (x ∷ xs) (suc n) (suc p) lt = at_take xs n p (omega (arith, lt))
+
+at_index : (items : List Owned) (p : ℕ) (d : Owned) → p < length items → owned_at items p ≡ slice_index_or items p d
+at_index [] p d lt = absurd (omega (arith, lt))
+at_index (x ∷ xs) zero d lt = refl
+at_index (x ∷ xs) (suc p) d lt = at_index xs p d (omega (arith, lt))
+
+below : (p n : ℕ) → p < n → nat_lt p n ≡ true
+below p n lt = grind (arith, nat_tests)
+
+not_below : (p n : ℕ) → n ≤ p → nat_lt p n ≡ false
+not_below p n le = grind (arith, nat_tests)
+
+is_below : (p n : ℕ) → nat_lt p n ≡ true → p < n
+is_below p n h = grind (arith, nat_tests)
+
+lined_filter : (f : ℕ → Owned) (test : ℕ → Bool) (q : Owned → Bool) (xs : List ℕ) → ((k d : ℕ) → k < length xs → test (slice_index_or xs k d) ≡ q (f (slice_index_or xs k d))) → map f (filter test xs) ≡ filter q (map f xs)
+lined_filter f test q [] h = refl
+lined_filter f test q (x ∷ xs) h =
+    let first : test x ≡ q (f x) = h zero x (omega arith) in
+    rw first (by (q (f x)) (lined_filter f test q xs (λ k d lt. h (suc k) d (omega (arith, lt)))))
+  where
+    by : (b : Bool) → map f (filter test xs) ≡ filter q (map f xs) → map f (cond b (x ∷ filter test xs) (filter test xs)) ≡ cond b (f x ∷ filter q (map f xs)) (filter q (map f xs))
+    by true more = ap (λ l. f x ∷ l) more
+    by false more = more
+
+filter_turned : (p q : Owned → Bool) (xs : List Owned) → filter p (filter q xs) ≡ filter q (filter p xs)
+filter_turned p q [] = refl
+filter_turned p q (x ∷ xs) = by (p x) (q x) refl refl (filter_turned p q xs)
+  where
+    by : (a b : Bool) → p x ≡ a → q x ≡ b → filter p (filter q xs) ≡ filter q (filter p xs) → filter p (cond b (x ∷ filter q xs) (filter q xs)) ≡ filter q (cond a (x ∷ filter p xs) (filter p xs))
+    by true true e f more = rw (e, f) (ap (λ l. x ∷ l) more)
+    by true false e f more = rw f more
+    by false true e f more = rw e more
+    by false false e f more = more
+
+pub indexed_less : (items : List Owned) (order : List ℕ) (number len : ℕ) → IsIndexed items order → len ≤ length items
+    → IsPartitionPoint (λ o. nat_lt o.number number ≡ true) (λ o. nat_lt o.number number ≡ false) items len → take len items ≡ before number items → IsIndexed (take len items) (filter (λ p. nat_lt p len) order)
+indexed_less items order number len ix high point is = record { within = inside; sorted = rising; each = found }
+  where
+    kept : List ℕ
+    kept = filter (λ p. nat_lt p len) order
+
+    front : (k d : ℕ) → k < length (filter (λ p. nat_lt p len) order) → slice_index_or (filter (λ p. nat_lt p len) order) k d < len
+    front k d lt = is_below _ _ (filter_passes (λ p. nat_lt p len) order k d lt)
+
+    inside : All (λ p. p < length (take len items)) (filter (λ p. nat_lt p len) order)
+    inside k d lt = omega (arith, front k d lt, length-take len items, high)
+
+    stays : (k d : ℕ) → k < length (filter (λ p. nat_lt p len) order) → owned_at (take len items) (slice_index_or (filter (λ p. nat_lt p len) order) k d) ≡ owned_at items (slice_index_or (filter (λ p. nat_lt p len) order) k d)
+    stays k d lt = at_take items len (slice_index_or (filter (λ p. nat_lt p len) order) k d) (front k d lt)
+
+    rising : AllPairs (InOrder (key_at (take len items))) (filter (λ p. nat_lt p len) order)
+    rising = pairs_same (key_at items) (key_at (take len items)) (filter (λ p. nat_lt p len) order) (λ k d lt. ap full_key (stays k d lt)) (AllPairs-filter (InOrder (key_at items)) (λ p. nat_lt p len) order ix.sorted)
+
+    tells : (p : ℕ) → p < length items → nat_lt p len ≡ nat_lt (owned_at items p).number number
+    tells p lt =
+        let d : Owned = owned_at items p in
+        let at : owned_at items p ≡ slice_index_or items p d = at_index items p d lt in
+        elim (cases_lt p len) [
+          | inl low ↦ below p len low ∙ sym (ap (λ (o : Owned). nat_lt o.number number) at ∙ point.0 p d (omega arith) low)
+          | inr back ↦ not_below p len back ∙ sym (ap (λ (o : Owned). nat_lt o.number number) at ∙ point.1 p d back lt)
+        ]
+
+    all : lined (take len items) (filter (λ p. nat_lt p len) order) ≡ before number (lined items order)
+    all =
+        lined_same (owned_at (take len items)) (owned_at items) (filter (λ p. nat_lt p len) order) stays
+        ∙ lined_filter (owned_at items) (λ p. nat_lt p len) (λ o. nat_lt o.number number) order (λ k d lt. tells (slice_index_or order k d) (ix.within k d lt))
+
+    found : (t : ℕ) (key : List Value) → owned_on t key (lined (take len items) (filter (λ p. nat_lt p len) order)) ≡ owned_on t key (take len items)
+    found t key =
+        ap (owned_on t key) all
+        ∙ (filter_turned (λ o. is_on t key o.write) (λ o. nat_lt o.number number) (lined items order)
+        ∙ (ap (before number) (ix.each t key)
+        ∙ (filter_turned (λ o. nat_lt o.number number) (λ o. is_on t key o.write) items ∙ ap (owned_on t key) (sym is))))
+
+pub indexed_none : IsIndexed [] []
+indexed_none = record {
+  within = All-nil (λ p. p < length {A = Owned} []);
+  sorted = λ i j d lt within. absurd (omega (arith, within));
+  each = λ t key. refl;
+}

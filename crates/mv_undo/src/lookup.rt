@@ -1,0 +1,119 @@
+//! What is found of own writes at some of their places.
+
+ghost use Rattle.std.specs.Prelude.{◌≡◌, ◌<◌, length, map, All, IfOk};
+ghost use Rattle.std.specs.List.{list_any};
+ghost use Rattle.std.specs.Option.{option_copied};
+ghost use Rattle.mv_record.specs.Writes.{writes_on, patched_by};
+ghost use Rattle.mv_undo.specs.Indexing.{owned_at, lined};
+ghost use Rattle.mv_undo.specs.Owning.{earlier, is_earlier_on, is_wanted, AreSought};
+
+use crate::owned::Owned;
+use mv_record::applying::{patch_row, put_row};
+use mv_values::copied::Copied;
+use mv_values::list::List;
+use mv_values::memory::NoMemory;
+use mv_values::pred::Pred;
+use mv_values::rows::Rows;
+use mv_values::value::{Key, Row};
+use std::alloc::Global;
+
+/// The write at a place.
+fn write_at(items: &[Owned], place: usize) -> &Owned
+    requires { place < length items.now }
+    ensures { result.now ≡ owned_at items.now place }
+{
+    &items[place]
+}
+
+/// Whether a record with a smaller number wrote it, on a key of the predicate's table that the predicate admits.
+fn is_sought(owned: &Owned, number: usize, pred: &Pred) -> bool
+    ensures { result ≡ is_wanted pred.now number owned.now }
+{
+    owned.is_before(number) && owned.write.table == pred.table && pred.admits(&owned.write.key)
+}
+
+/// Whether one of the writes at these places is of a record with a smaller number, on the key.
+pub(crate) fn is_some_on(
+    items: &[Owned],
+    places: &[usize],
+    number: usize,
+    table: u8,
+    key: &Key,
+) -> bool
+    requires { All (λ place. place < length items.now) places.now }
+    ensures { result ≡ list_any (is_earlier_on number table key.now) (lined items.now places.now) }
+{
+    for place in places {
+        if write_at(items, *place).is_earlier_on(number, table, key) {
+            return true;
+        }
+    }
+    false
+}
+
+/// The row behind those of the writes at these places that records with smaller numbers wrote on the key.
+pub(crate) fn patched_at(
+    alloc: Global,
+    items: &[Owned],
+    places: &[usize],
+    number: usize,
+    table: u8,
+    key: &Key,
+    was: Option<&Row>,
+) -> Result<Option<Row>, NoMemory>
+    requires { All (λ place. place < length items.now) places.now }
+    ensures { IfOk result (λ row. row ≡ patched_by (writes_on table key.now (earlier number (lined items.now places.now))) (option_copied was.entry)) }
+{
+    let mut row = copy_of(alloc, was)?;
+    for place in places {
+        let owned = write_at(items, *place);
+        if !owned.is_earlier_on(number, table, key) {
+            continue;
+        }
+        row = patch_row(alloc, &owned.write.patch, row.as_ref())?;
+    }
+    Ok(row)
+}
+
+/// The keys of those of the writes at these places that `is_sought` takes, each once, in order.
+pub(crate) fn keys_at(
+    alloc: Global,
+    items: &[Owned],
+    places: &[usize],
+    number: usize,
+    pred: &Pred,
+) -> Result<List<Key>, NoMemory>
+    requires { All (λ place. place < length items.now) places.now }
+    ensures { IfOk result (λ keys. AreSought pred.now (earlier number (lined items.now places.now)) keys) }
+{
+    let mut found = Rows::new(alloc);
+    for place in places {
+        let owned = write_at(items, *place);
+        if !is_sought(owned, number, pred) {
+            continue;
+        }
+        put_row(alloc, &mut found, &owned.write.key, Some(List::new(alloc)))?;
+    }
+    keys_of(alloc, found)
+}
+
+/// The keys of rows.
+fn keys_of(alloc: Global, rows: Rows) -> Result<List<Key>, NoMemory>
+    ensures { IfOk result (λ keys. keys ≡ map (λ item. item.key) rows) }
+{
+    let mut keys = List::new(alloc);
+    for item in rows.into_items() {
+        keys.push(item.key)?;
+    }
+    Ok(keys)
+}
+
+/// A copy of a row, where there is one.
+fn copy_of(alloc: Global, row: Option<&Row>) -> Result<Option<Row>, NoMemory>
+    ensures { IfOk result (λ copy. copy ≡ option_copied row.entry) }
+{
+    match row {
+        Some(row) => Ok(Some(row.copy(alloc)?)),
+        None => Ok(None),
+    }
+}
