@@ -1,12 +1,12 @@
 -- The places of own writes, by table and key.
-use Rattle.std.proofs.Common.{◌≡◌, ℕ, zero, suc, ◌+◌, ◌-◌, ◌<◌, ◌≤◌, Bool, true, false, ◌&&◌, ◌==◌, cond, List, [], ◌∷◌, ◌++◌, Option, Some, None, All, length, map, take, drop, insert, slice_get, slice_index_or, slice_range, refl, sym, ap, subst, ◌∙◌, ◌⊎◌, inl, inr, arith, take-append-drop, length-append}
+use Rattle.std.proofs.Common.{◌≡◌, ℕ, zero, suc, ◌+◌, ◌-◌, ◌<◌, ◌≤◌, Bool, true, false, ◌==◌, cond, List, [], ◌∷◌, ◌++◌, All, length, map, take, drop, insert, slice_index_or, slice_range, refl, sym, ap, subst, ◌∙◌, inl, inr, arith, take-append-drop, length-append}
 use Rattle.std.specs.Prelude.{pos, AllPairs, nat_lt}
 use Rattle.std.specs.List.{filter}
 use Rattle.std.specs.List.Sorted.{IsPartitionPoint, IsPartitionedBy}
-use Rattle.std.specs.Ordering.{is_lt, is_le, is_eq, ordering_then}
+use Rattle.std.specs.Ordering.{is_lt, is_le, is_eq}
 use Rattle.std.specs.declared.cmp.Ordering.{Ordering}
 use Rattle.std.specs.declared.cmp.Ordering.TheVariants.{Less, Equal, Greater}
-use Rattle.std.proofs.lemmas.Bool.{cases_Bool, cases_lt}
+use Rattle.std.proofs.lemmas.Bool.{cases_lt}
 use Rattle.std.proofs.lemmas.Bool.Decides.{nat_tests}
 use Rattle.std.proofs.lemmas.Cmp.{tied_itself}
 use Rattle.std.proofs.lemmas.List.{get_or-take, get_or-drop, length-take, length-drop, drop-drop, append-nil, map-append}
@@ -19,7 +19,7 @@ use Rattle.mv_values.proofs.KeyOrder.{value_order_total, key_order_total, exact_
 use Rattle.mv_record.specs.Writes.{is_on}
 use Rattle.mv_undo.specs.declared.owned.Owned.{Owned}
 use Rattle.mv_undo.specs.Owning.{before}
-use Rattle.mv_undo.specs.Indexing.{owned_or, owned_at, lined, full_key, key_at, owned_on, IsIndexed, front_order}
+use Rattle.mv_undo.specs.Indexing.{owned_at, lined, full_key, key_at, owned_on, IsIndexed, front_order}
 use Rattle.mv_undo.proofs.Fronts.{below_too, within_too, parted_by_front, parted_by_key, above_le, equal_first, both_so, equal_is, alike}
 
 -- A write on a key

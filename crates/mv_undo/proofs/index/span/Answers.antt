@@ -1,6 +1,6 @@
 use Rattle.std.proofs.Common.{rules, length}
 use Rattle.std.proofs.lemmas.Fn.{always_returns_same}
-use Rattle.mv_undo.proofs.Indexing.{is_low, is_up, Searched, span_order, span_on, part_within}
+use Rattle.mv_undo.proofs.Indexing.{is_low, is_up, span_order, span_on, part_within}
 use Rattle.mv_undo.proofs.index.span.Goals as goal
 
 pub part-requires-clause-order : goal.part-requires-clause-order

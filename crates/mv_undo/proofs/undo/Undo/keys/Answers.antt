@@ -1,4 +1,4 @@
-use Rattle.std.proofs.Common.{ap, ◌∙◌, subst, List}
+use Rattle.std.proofs.Common.{◌∙◌, subst, List}
 use Rattle.mv_values.specs.declared.value.Value.{Value}
 use Rattle.mv_undo.specs.Owning.{earlier, AreSought}
 use Rattle.mv_undo.specs.Indexing.{lined}
