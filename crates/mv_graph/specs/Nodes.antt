@@ -1,0 +1,148 @@
+-- What is known of the statements of a procedure before it runs: a node for each, in the order of the text, and what a graph means.
+use Rattle.std.specs.Prelude.{◌≡◌, ◌≤◌, ℕ, ◌+◌, List, [], ◌∷◌, ◌++◌, Option, Some, None, map, length}
+use Rattle.std.specs.List.{sum}
+use Rattle.mv_catalog.specs.declared.resolved.ProcInfo.{ProcInfo}
+use Rattle.mv_catalog.specs.declared.resolved.RStmt.{RStmt}
+use Rattle.mv_catalog.specs.declared.resolved.RStmt.TheOpen.{RStmt-F, Assign, Select, Total, ForSelect, ForRows, Branch, Insert, Update, Delete, Print, Rollback}
+use Rattle.mv_catalog.specs.declared.resolved.RStmt.TheFolds.{fold-RStmt}
+use Rattle.mv_record.specs.Runs.{Meaning}
+use Rattle.mv_recorded.specs.Reading.{expressions, each_once, read_variables}
+use Rattle.mv_recorded.specs.Recorded.{size, meaning}
+use Rattle.mv_graph.specs.declared.graph.Graph.{Graph}
+use Rattle.mv_graph.specs.declared.graph.Node.{Node}
+use Rattle.mv_graph.specs.declared.graph.Keyword.{Keyword}
+use Rattle.mv_graph.specs.declared.graph.Keyword.TheVariants as keyword
+
+-- One statement
+
+-- the keyword that it begins with
+abbrev pub keyword_of : {X : Type 0} → RStmt-F X → Keyword
+keyword_of (Assign x e) = keyword.Set
+keyword_of (Select cs xs t conds sorts offset) = keyword.Select
+keyword_of (Total agg x t conds) = keyword.Select
+keyword_of (ForSelect x once cs t conds sorts body) = keyword.For
+keyword_of (ForRows x y body) = keyword.For
+keyword_of (Branch e ys ns) = keyword.If
+keyword_of (Insert t es) = keyword.Insert
+keyword_of (Update t items conds) = keyword.Update
+keyword_of (Delete t conds) = keyword.Delete
+keyword_of (Print es) = keyword.Print
+keyword_of (Rollback reason) = keyword.Rollback
+
+-- the variables that it may set, where `:found` has this number; a FOR sets its row too
+abbrev pub may_set : {X : Type 0} → ℕ → RStmt-F X → List ℕ
+may_set found (Assign x e) = x ∷ []
+may_set found (Select cs xs t conds sorts offset) = each_once xs ++ found ∷ []
+may_set found (Total agg x t conds) = x ∷ found ∷ []
+may_set found (ForSelect x once cs t conds sorts body) = x ∷ found ∷ []
+may_set found (ForRows x y body) = x ∷ found ∷ []
+may_set found (Branch e ys ns) = []
+may_set found (Insert t es) = found ∷ []
+may_set found (Update t items conds) = found ∷ []
+may_set found (Delete t conds) = found ∷ []
+may_set found (Print es) = []
+may_set found (Rollback reason) = []
+
+-- the table that it changes
+abbrev pub changed_table : {X : Type 0} → RStmt-F X → Option ℕ
+changed_table (Insert t es) = Some t
+changed_table (Update t items conds) = Some t
+changed_table (Delete t conds) = Some t
+changed_table (Assign x e) = None
+changed_table (Select cs xs t conds sorts offset) = None
+changed_table (Total agg x t conds) = None
+changed_table (ForSelect x once cs t conds sorts body) = None
+changed_table (ForRows x y body) = None
+changed_table (Branch e ys ns) = None
+changed_table (Print es) = None
+changed_table (Rollback reason) = None
+
+-- the table of its predicate
+abbrev pub asked_table : {X : Type 0} → RStmt-F X → Option ℕ
+asked_table (Select cs xs t conds sorts offset) = Some t
+asked_table (Total agg x t conds) = Some t
+asked_table (ForSelect x once cs t conds sorts body) = Some t
+asked_table (Insert t es) = Some t
+asked_table (Update t items conds) = Some t
+asked_table (Delete t conds) = Some t
+asked_table (Assign x e) = None
+asked_table (ForRows x y body) = None
+asked_table (Branch e ys ns) = None
+asked_table (Print es) = None
+asked_table (Rollback reason) = None
+
+-- Statements in the order of the text
+
+-- the nodes of statements, the first of which has this number, by the statement and the FORs that hold them
+abbrev pub Nodes : Type 0
+Nodes = ℕ → Option ℕ → List ℕ → List Node
+
+abbrev pub all_nodes : List Nodes → Nodes
+all_nodes [] n holder loops = []
+all_nodes (s ∷ ss) n holder loops =
+    let these : List Node = s n holder loops in
+    these ++ all_nodes ss (n + length these) holder loops
+
+-- of what a statement with this number holds
+abbrev pub inner_nodes : RStmt-F Nodes → ℕ → List ℕ → List Node
+inner_nodes (ForSelect x once cs t conds sorts body) n loops = all_nodes body (n + 1) (Some n) (loops ++ n ∷ [])
+inner_nodes (ForRows x y body) n loops = all_nodes body (n + 1) (Some n) (loops ++ n ∷ [])
+inner_nodes (Branch e ys ns) n loops =
+    let first : List Node = all_nodes ys (n + 1) (Some n) loops in
+    first ++ all_nodes ns (n + 1 + length first) (Some n) loops
+inner_nodes (Assign x e) n loops = []
+inner_nodes (Select cs xs t conds sorts offset) n loops = []
+inner_nodes (Total agg x t conds) n loops = []
+inner_nodes (Insert t es) n loops = []
+inner_nodes (Update t items conds) n loops = []
+inner_nodes (Delete t conds) n loops = []
+inner_nodes (Print es) n loops = []
+inner_nodes (Rollback reason) n loops = []
+
+-- a statement's own node, where the first `params` variables are parameters, `:found` has this number, and it holds so many others
+abbrev pub own_node : {X : Type 0} → ℕ → ℕ → RStmt-F X → Option ℕ → List ℕ → ℕ → Node
+own_node params found s holder loops others = record {
+  keyword = keyword_of s;
+  parent = holder;
+  loops = loops;
+  reads = read_variables params (expressions s);
+  sets = may_set found s;
+  changes = changed_table s;
+  asks = asked_table s;
+  size = 1 + others;
+}
+
+abbrev pub node_step : ℕ → ℕ → RStmt-F Nodes → Nodes
+node_step params found s n holder loops =
+    let inner : List Node = inner_nodes s n loops in
+    own_node params found s holder loops (length inner) ∷ inner
+
+abbrev pub nodes_of : ℕ → ℕ → RStmt → Nodes
+nodes_of params found = fold-RStmt Nodes (node_step params found)
+
+-- of statements in order
+abbrev pub body_nodes : ℕ → ℕ → List RStmt → Nodes
+body_nodes params found ss = all_nodes (map (nodes_of params found) ss)
+
+-- of a procedure: parameters stand first, then the declared variables, then `:found`
+abbrev pub nodes_in : ProcInfo → List Node
+nodes_in proc =
+    let params : ℕ = length proc.params in
+    body_nodes params (params + length proc.defaults) proc.body 1 None []
+
+-- A graph
+
+-- its nodes are those of its procedure
+abbrev pub IsGraph : Graph → Type 0
+IsGraph g = g.nodes ≡ nodes_in g.procedure
+
+-- its meaning is its procedure's
+abbrev pub meaning_of : Graph → Meaning
+meaning_of g = meaning g.tables g.procedure
+
+-- the most statements of a procedure
+abbrev pub most_statements : ℕ
+most_statements = 1000
+
+abbrev pub HasFewStatements : ProcInfo → Type 0
+HasFewStatements proc = sum (map size proc.body) ≤ most_statements
