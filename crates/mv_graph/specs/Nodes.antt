@@ -4,7 +4,7 @@ use Rattle.std.specs.List.{sum}
 use Rattle.mv_catalog.specs.declared.resolved.ProcInfo.{ProcInfo}
 use Rattle.mv_catalog.specs.declared.resolved.RStmt.{RStmt}
 use Rattle.mv_catalog.specs.declared.resolved.RStmt.TheOpen.{RStmt-F, Assign, Select, Total, ForSelect, ForRows, Branch, Insert, Update, Delete, Print, Rollback}
-use Rattle.mv_catalog.specs.declared.resolved.RStmt.TheFolds.{fold-RStmt}
+use Rattle.mv_catalog.specs.declared.resolved.RStmt.TheFolds.{fold-RStmt, map-RStmt}
 use Rattle.mv_record.specs.Runs.{Meaning}
 use Rattle.mv_recorded.specs.Reading.{expressions, each_once, read_variables}
 use Rattle.mv_recorded.specs.Recorded.{size, meaning}
@@ -99,9 +99,10 @@ inner_nodes (Delete t conds) n loops = []
 inner_nodes (Print es) n loops = []
 inner_nodes (Rollback reason) n loops = []
 
--- a statement's own node, where the first `params` variables are parameters, `:found` has this number, and it holds so many others
+-- a statement's own node, where the first `params` variables are parameters, `:found` has this number, and it is `whole` statements with
+-- those that it holds
 abbrev pub own_node : {X : Type 0} → ℕ → ℕ → RStmt-F X → Option ℕ → List ℕ → ℕ → Node
-own_node params found s holder loops others = record {
+own_node params found s holder loops whole = record {
   keyword = keyword_of s;
   parent = holder;
   loops = loops;
@@ -109,16 +110,20 @@ own_node params found s holder loops others = record {
   sets = may_set found s;
   changes = changed_table s;
   asks = asked_table s;
-  size = 1 + others;
+  size = whole;
 }
 
 abbrev pub node_step : ℕ → ℕ → RStmt-F Nodes → Nodes
 node_step params found s n holder loops =
     let inner : List Node = inner_nodes s n loops in
-    own_node params found s holder loops (length inner) ∷ inner
+    own_node params found s holder loops (1 + length inner) ∷ inner
 
 abbrev pub nodes_of : ℕ → ℕ → RStmt → Nodes
 nodes_of params found = fold-RStmt Nodes (node_step params found)
+
+-- of what a statement with this number holds
+abbrev pub held_nodes : ℕ → ℕ → RStmt-F RStmt → ℕ → List ℕ → List Node
+held_nodes params found s n loops = inner_nodes (map-RStmt RStmt Nodes (nodes_of params found) s) n loops
 
 -- of statements in order
 abbrev pub body_nodes : ℕ → ℕ → List RStmt → Nodes
@@ -140,9 +145,15 @@ IsGraph g = g.nodes ≡ nodes_in g.procedure
 abbrev pub meaning_of : Graph → Meaning
 meaning_of g = meaning g.tables g.procedure
 
--- the most statements of a procedure
+-- The limits of a script
+
+-- the most statements of a procedure, and the most parameters and declared variables
 abbrev pub most_statements : ℕ
 most_statements = 1000
 
-abbrev pub HasFewStatements : ProcInfo → Type 0
-HasFewStatements proc = sum (map size proc.body) ≤ most_statements
+abbrev pub most_variables : ℕ
+most_variables = 80
+
+pub record IsSmall (proc : ProcInfo) : Type 0 where
+  pub statements : sum (map size proc.body) ≤ most_statements
+  pub variables : length proc.params + length proc.defaults ≤ most_variables

@@ -1,0 +1,10 @@
+use Rattle.std.proofs.Common.{◌≡◌, ◌∙◌, ap, map}
+use Rattle.mv_compile.specs.Compiled.{graph_of}
+use Rattle.mv_compile.proofs.Meaning.{are_graphs, mean_text}
+use Rattle.mv_compile.proofs.compile.compile.Goals as goal
+
+pub returns-clause-nodes : goal.returns-clause-nodes
+returns-clause-nodes c = are_graphs c.args.resolved.now c.in_ok-graphs.graphs (c.in_ok-graphs.ensures ∙ ap (map (graph_of c.args.resolved.now.tables)) c.as_slice.ensures)
+
+pub returns-clause-means : goal.returns-clause-means
+returns-clause-means c = mean_text c.args.resolved.now c.in_ok-graphs.graphs (c.in_ok-graphs.ensures ∙ ap (map (graph_of c.args.resolved.now.tables)) c.as_slice.ensures)

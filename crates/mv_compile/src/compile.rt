@@ -1,0 +1,87 @@
+//! The graphs of a script.
+
+ghost use Rattle.std.specs.Prelude.{◌≡◌, IfOk, All, map};
+ghost use Rattle.std.specs.List.{AllZip};
+ghost use Rattle.mv_graph.specs.Nodes.{nodes_in, IsGraph, IsSmall};
+ghost use Rattle.mv_compile.specs.Compiled.{graph_of, graphs_of, MeansText};
+
+use crate::copies::copy_procedure;
+use crate::nodes::{Slots, add_nodes};
+use mv_catalog::resolved::{ProcInfo, Resolved};
+use mv_graph::graph::{Graph, Node};
+use mv_values::copied::Copied;
+use mv_values::list::List;
+use mv_values::memory::NoMemory;
+use mv_values::schema::TableInfo;
+use std::alloc::Global;
+
+/// The nodes of a procedure, in the order of the text.
+fn nodes_in(alloc: Global, procedure: &ProcInfo) -> Result<List<Node>, NoMemory>
+    requires { IsSmall procedure.now }
+    ensures { IfOk result (λ nodes. nodes ≡ nodes_in procedure.now) }
+{
+    let params = procedure.params.len();
+    let slots = Slots {
+        params,
+        found: (params + procedure.defaults.len()) as u16,
+    };
+    let loops = List::new(alloc);
+    let mut nodes = List::new(alloc);
+    add_nodes(
+        alloc,
+        &mut nodes,
+        slots,
+        procedure.body.as_slice(),
+        None,
+        &loops,
+    )?;
+    Ok(nodes)
+}
+
+/// A procedure over these tables as a graph.
+fn graph_of(
+    alloc: Global,
+    tables: &List<TableInfo>,
+    procedure: &ProcInfo,
+) -> Result<Graph, NoMemory>
+    requires { IsSmall procedure.now }
+    ensures { IfOk result (λ graph. graph ≡ graph_of tables.now procedure.now) }
+{
+    let nodes = nodes_in(alloc, procedure)?;
+    let tables = tables.copy(alloc)?;
+    let procedure = copy_procedure(alloc, procedure)?;
+    Ok(Graph {
+        tables,
+        procedure,
+        nodes,
+    })
+}
+
+/// Procedures over these tables as graphs.
+fn graphs_of(
+    alloc: Global,
+    tables: &List<TableInfo>,
+    procedures: &[ProcInfo],
+) -> Result<List<Graph>, NoMemory>
+    requires { All IsSmall procedures.now }
+    ensures { IfOk result (λ graphs. graphs ≡ map (graph_of tables.now) procedures.now) }
+{
+    let mut graphs = List::new(alloc);
+    for procedure in procedures {
+        graphs.push(graph_of(alloc, tables, procedure)?)?;
+    }
+    Ok(graphs)
+}
+
+/// The graphs of a script's procedures, in order. It takes time in the size of the script and in the square of the number
+/// of variables that a statement names. No procedure of a script passes what is asked of them here.
+pub fn compile(alloc: Global, resolved: &Resolved) -> Result<List<Graph>, NoMemory>
+    requires { All IsSmall resolved.now.procedures }
+    ensures graphs { IfOk result (λ graphs. graphs ≡ graphs_of resolved.now) }
+    // The nodes of each are those of its procedure, and it means what the procedure's text means.
+    ensures nodes { IfOk result (All IsGraph) }
+    ensures means { IfOk result (λ graphs. AllZip (MeansText resolved.now.tables) graphs resolved.now.procedures) }
+{
+    let graphs = graphs_of(alloc, &resolved.tables, resolved.procedures.as_slice())?;
+    Ok(graphs)
+}

@@ -1,0 +1,10 @@
+//! From procedures to graphs.
+#![tactic(auto)]
+
+pub mod compile;
+pub mod copies;
+mod nodes;
+mod reads;
+mod sizes;
+#[cfg(test)]
+mod tests;

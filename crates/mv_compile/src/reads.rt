@@ -1,0 +1,209 @@
+//! What is known of a statement by itself before it runs.
+
+ghost use Rattle.std.specs.Prelude.{◌≡◌, ◌++◌, ◌==◌, IfOk, OnOk, nat_le, map, option_to_list};
+ghost use Rattle.std.specs.List.{filter, flat_map, list_any};
+ghost use Rattle.mv_catalog.specs.declared.resolved.RStmt.{out-RStmt};
+ghost use Rattle.mv_recorded.specs.Reading.{variables, rights, expressions, each_once, read_variables};
+ghost use Rattle.mv_compile.specs.Adding.{with_new};
+ghost use Rattle.mv_graph.specs.Nodes.{keyword_of, may_set, changed_table, asked_table};
+
+use mv_catalog::resolved::{RCond, RExpr, RExprKind, RSetItem, RStmt};
+use mv_graph::graph::Keyword;
+use mv_values::list::List;
+use mv_values::memory::NoMemory;
+use std::alloc::Global;
+
+// Variables in expressions
+
+/// Adds the variables in an expression, in the order of the text.
+fn add_variables(found: &mut List<u16>, expr: &RExpr) -> Result<(), NoMemory>
+    ensures { OnOk result (found.new ≡ found.old ++ variables expr.now) }
+{
+    match &expr.kind {
+        RExprKind::Const(_) | RExprKind::Col(_) => Ok(()),
+        RExprKind::Var(x) | RExprKind::Field(x, _) => found.push(*x),
+        RExprKind::One(_, a) => add_variables(found, a.get()),
+        RExprKind::Two(_, a, b) => {
+            add_variables(found, a.get())?;
+            add_variables(found, b.get())
+        }
+    }
+}
+
+fn add_all(found: &mut List<u16>, exprs: &[RExpr]) -> Result<(), NoMemory>
+    ensures { OnOk result (found.new ≡ found.old ++ flat_map variables exprs.now) }
+{
+    for expr in exprs {
+        add_variables(found, expr)?;
+    }
+    Ok(())
+}
+
+fn add_offset(found: &mut List<u16>, offset: &Option<RExpr>) -> Result<(), NoMemory>
+    ensures { OnOk result (found.new ≡ found.old ++ flat_map variables (option_to_list offset.now)) }
+{
+    match offset {
+        None => Ok(()),
+        Some(expr) => add_variables(found, expr),
+    }
+}
+
+fn add_conds(found: &mut List<u16>, conds: &[RCond]) -> Result<(), NoMemory>
+    ensures { OnOk result (found.new ≡ found.old ++ flat_map variables (rights conds.now)) }
+{
+    for cond in conds {
+        add_variables(found, &cond.right)?;
+    }
+    Ok(())
+}
+
+fn add_items(found: &mut List<u16>, items: &[RSetItem]) -> Result<(), NoMemory>
+    ensures { OnOk result (found.new ≡ found.old ++ flat_map variables (map (λ i. i.right) items.now)) }
+{
+    for item in items {
+        add_variables(found, &item.right)?;
+    }
+    Ok(())
+}
+
+/// The variables in a statement's own expressions, in the order of the text.
+fn variables_in(alloc: Global, statement: &RStmt) -> Result<List<u16>, NoMemory>
+    ensures { IfOk result (λ found. found ≡ flat_map variables (expressions (out-RStmt statement.now))) }
+{
+    let mut found = List::new(alloc);
+    match statement {
+        RStmt::Assign { right, .. } => add_variables(&mut found, right)?,
+        RStmt::Select { conds, offset, .. } => {
+            add_conds(&mut found, conds.as_slice())?;
+            add_offset(&mut found, offset)?;
+        }
+        RStmt::Total { conds, .. } | RStmt::ForSelect { conds, .. } | RStmt::Delete { conds, .. } =>
+            add_conds(&mut found, conds.as_slice())?,
+        RStmt::Branch { test, .. } => add_variables(&mut found, test)?,
+        RStmt::Insert { values, .. } | RStmt::Print { values } => {
+            add_all(&mut found, values.as_slice())?
+        }
+        RStmt::Update { items, conds, .. } => {
+            add_items(&mut found, items.as_slice())?;
+            add_conds(&mut found, conds.as_slice())?;
+        }
+        RStmt::ForRows { .. } | RStmt::Rollback { .. } => {}
+    }
+    Ok(found)
+}
+
+// Lists of variables
+
+/// The numbers, each once, where it first stands. It takes time in the square of how many there are.
+fn once_each(alloc: Global, numbers: &[u16]) -> Result<List<u16>, NoMemory>
+    ensures { IfOk result (λ all. all ≡ each_once numbers.now) }
+{
+    let mut all = List::new(alloc);
+    for number in numbers {
+        add_new(&mut all, *number)?;
+    }
+    Ok(all)
+}
+
+/// Adds a number that isn't there yet.
+fn add_new(all: &mut List<u16>, number: u16) -> Result<(), NoMemory>
+    ensures { OnOk result (all.new ≡ with_new all.old number) }
+{
+    if has(all.as_slice(), number) {
+        Ok(())
+    } else {
+        all.push(number)
+    }
+}
+
+fn has(numbers: &[u16], number: u16) -> bool
+    ensures { result ≡ list_any (λ n. n == number) numbers.now }
+{
+    numbers.iter().any(|n| *n == number)
+}
+
+/// Those of the numbers that are none of the first `params`.
+fn behind(alloc: Global, params: usize, numbers: &[u16]) -> Result<List<u16>, NoMemory>
+    ensures { IfOk result (λ all. all ≡ filter (λ x. nat_le params x) numbers.now) }
+{
+    let mut all = List::new(alloc);
+    for number in numbers {
+        if params <= *number as usize {
+            all.push(*number)?;
+        }
+    }
+    Ok(all)
+}
+
+/// The variables that a statement's own expressions read, each once. The first `params` variables are parameters.
+pub(crate) fn reads(alloc: Global, params: usize, statement: &RStmt) -> Result<List<u16>, NoMemory>
+    ensures { IfOk result (λ all. all ≡ read_variables params (expressions (out-RStmt statement.now))) }
+{
+    let all = variables_in(alloc, statement)?;
+    let each = once_each(alloc, all.as_slice())?;
+    behind(alloc, params, each.as_slice())
+}
+
+/// The variables that a statement may set. `:found` has this number.
+pub(crate) fn sets(alloc: Global, found: u16, statement: &RStmt) -> Result<List<u16>, NoMemory>
+    ensures { IfOk result (λ all. all ≡ may_set found (out-RStmt statement.now)) }
+{
+    let mut all = List::new(alloc);
+    match statement {
+        RStmt::Branch { .. } | RStmt::Print { .. } | RStmt::Rollback { .. } => return Ok(all),
+        RStmt::Assign { to, .. } => {
+            all.push(*to)?;
+            return Ok(all);
+        }
+        RStmt::Select { to, .. } => all = once_each(alloc, to.as_slice())?,
+        RStmt::Total { to, .. } => all.push(*to)?,
+        RStmt::ForSelect { row, .. } | RStmt::ForRows { row, .. } => all.push(*row)?,
+        RStmt::Insert { .. } | RStmt::Update { .. } | RStmt::Delete { .. } => {}
+    }
+    all.push(found)?;
+    Ok(all)
+}
+
+/// The keyword that a statement begins with.
+pub(crate) fn keyword(statement: &RStmt) -> Keyword
+    ensures { result ≡ keyword_of (out-RStmt statement.now) }
+{
+    match statement {
+        RStmt::Assign { .. } => Keyword::Set,
+        RStmt::Select { .. } | RStmt::Total { .. } => Keyword::Select,
+        RStmt::ForSelect { .. } | RStmt::ForRows { .. } => Keyword::For,
+        RStmt::Branch { .. } => Keyword::If,
+        RStmt::Insert { .. } => Keyword::Insert,
+        RStmt::Update { .. } => Keyword::Update,
+        RStmt::Delete { .. } => Keyword::Delete,
+        RStmt::Print { .. } => Keyword::Print,
+        RStmt::Rollback { .. } => Keyword::Rollback,
+    }
+}
+
+/// The table that a statement changes.
+pub(crate) fn changes(statement: &RStmt) -> Option<u16>
+    ensures { result ≡ changed_table (out-RStmt statement.now) }
+{
+    match statement {
+        RStmt::Insert { table, .. } | RStmt::Update { table, .. } | RStmt::Delete { table, .. } => {
+            Some(*table)
+        }
+        _ => None,
+    }
+}
+
+/// The table of a statement's predicate.
+pub(crate) fn asks(statement: &RStmt) -> Option<u16>
+    ensures { result ≡ asked_table (out-RStmt statement.now) }
+{
+    match statement {
+        RStmt::Select { table, .. }
+        | RStmt::Total { table, .. }
+        | RStmt::ForSelect { table, .. }
+        | RStmt::Insert { table, .. }
+        | RStmt::Update { table, .. }
+        | RStmt::Delete { table, .. } => Some(*table),
+        _ => None,
+    }
+}

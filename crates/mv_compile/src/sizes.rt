@@ -1,0 +1,37 @@
+//! How many statements there are.
+
+ghost use Rattle.std.specs.Prelude.{◌≡◌, ◌<◌, ◌^◌, map};
+ghost use Rattle.std.specs.List.{sum};
+ghost use Rattle.mv_recorded.specs.Recorded.{size};
+
+use mv_catalog::resolved::RStmt;
+
+/// How many statements these are, with those that they hold.
+#[cycle(sizing)]
+pub(crate) fn size_of_all(statements: &[RStmt]) -> u16
+    requires { sum (map size statements.now) < 2 ^ 16 }
+    ensures { result ≡ sum (map size statements.now) }
+{
+    let mut all = 0;
+    for statement in statements {
+        all += size_of(statement);
+    }
+    all
+}
+
+/// How many statements it is, with those that it holds.
+#[cycle(sizing)]
+pub(crate) fn size_of(statement: &RStmt) -> u16
+    requires { size statement.now < 2 ^ 16 }
+    ensures { result ≡ size statement.now }
+{
+    match statement {
+        RStmt::ForSelect { body, .. } | RStmt::ForRows { body, .. } => {
+            1 + size_of_all(body.as_slice())
+        }
+        RStmt::Branch { yes, no, .. } => {
+            1 + (size_of_all(yes.as_slice()) + size_of_all(no.as_slice()))
+        }
+        _ => 1,
+    }
+}
