@@ -291,6 +291,8 @@ procedure_is tables p few_tables narrow h k =
     (all_match tables p (nothing_left a b hb) most many (nothing_left k3 (k4 ++ k5) r3)) (fresh_own (own_vars (procedure_of tables p)) (found_number p + 1) (count_own tables p)) room
     (nothing_right ((a ++ b) ++ c) d h) (nothing_left k4 k5 r4) in
     record {
+      few = omega (arith, most, length-map p.params (λ (q : Param). param_of q.kind));
+      declared = omega (arith, many, length-map p.vars (λ (v : VarDef). v.initial.value));
       defaults = all_mapped faults.initial (λ (v : VarDef). v.initial.value) IsShort
           (λ v e. short v.initial.value (not_false (faults.begins v.initial.value) (not_when (not (faults.begins v.initial.value)) (wrong v.initial.token) e))) p.vars (nothing_right (a ++ b) c hc);
       short = omega (arith, lines, all_sized tables p.body (slots_of p) (found_number p + 1));

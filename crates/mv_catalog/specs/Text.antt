@@ -66,9 +66,11 @@ abbrev pub IsShort : Value → Type 0
 IsShort (value.Int z) = ⊤
 IsShort (value.Text t) = length t ≤ 4000
 
--- what its variables begin with, its statements, no more than 1,000 with those inside others, and the numbers of its loops' rows:
--- those behind `:found`, in the order of the text
+-- no more than 16 parameters and 64 declared variables, what these begin with, its statements, no more than 1,000 with those inside
+-- others, and the numbers of its loops' rows: those behind `:found`, in the order of the text
 pub record IsProcedure (tables : List TableInfo) (p : ProcInfo) : Type 0 where
+  pub few : length p.params ≤ 16
+  pub declared : length p.defaults ≤ 64
   pub defaults : All IsShort p.defaults
   pub short : size_of p.body ≤ 1000
   pub body : all_well (IsWell tables) p.body (vars_of p)

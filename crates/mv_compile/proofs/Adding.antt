@@ -1,15 +1,13 @@
 -- The nodes of statements, added one after another.
 use Rattle.std.proofs.Common.{◌≡◌, ℕ, suc, ◌+◌, ◌<◌, ◌≤◌, List, [], ◌∷◌, ◌++◌, Option, Some, Result, Ok, Err, map, length, drop, slice_index_or, refl, sym, ap, subst, ◌∙◌, arith, append_assoc, length-append}
 use Rattle.std.specs.Prelude.{OnOk}
-use Rattle.std.specs.List.{sum}
-use Rattle.std.proofs.lemmas.List.Sums.{sum_by-cons}
 use Rattle.std.proofs.Math.Seq.{drop-cons}
+use Rattle.mv_catalog.specs.Statements.{size, total_size}
 use Rattle.mv_values.specs.declared.memory.NoMemory.{NoMemory}
 use Rattle.mv_catalog.specs.declared.resolved.RStmt.{RStmt, out-RStmt, out-roll-RStmt}
 use Rattle.mv_catalog.specs.declared.resolved.RStmt.TheOpen as open'
 use Rattle.mv_catalog.specs.declared.resolved.RStmt.TheVariants.{Branch, rolls-Branch}
 use Rattle.mv_catalog.specs.declared.resolved.RExpr.{RExpr}
-use Rattle.mv_recorded.specs.Recorded.{size}
 use Rattle.mv_graph.specs.declared.graph.Node.{Node}
 use Rattle.mv_graph.specs.Nodes.{own_node, nodes_of, held_nodes, body_nodes}
 use Rattle.mv_graph.proofs.Sizes.{nodes_count, body_counts, nodes_out}
@@ -72,11 +70,11 @@ one_more params found nodes new ss i d holder loops lt is =
 
 pub one_more_counted : (params found : ℕ) (nodes new : List Node) (ss : List RStmt) (i : ℕ) (d : RStmt) (holder : Option ℕ) (loops : List ℕ) → i < length ss
     → new ≡ nodes ++ nodes_of params found (slice_index_or ss i d) (length nodes + 1) holder loops
-    → length new + sum (map size (drop (i + 1) ss)) ≡ length nodes + sum (map size (drop i ss))
+    → length new + total_size (map size (drop (i + 1) ss)) ≡ length nodes + total_size (map size (drop i ss))
 one_more_counted params found nodes new ss i d holder loops lt is =
     let next : suc i ≡ i + 1 = omega arith in
     let these : List Node = nodes_of params found (slice_index_or ss i d) (length nodes + 1) holder loops in
     let rest : List RStmt = drop (i + 1) ss in
     let split : drop i ss ≡ slice_index_or ss i d ∷ rest = drop-cons ss i d lt ∙ ap (λ k. slice_index_or ss i d ∷ drop k ss) next in
-    let sums : sum (map size (drop i ss)) ≡ size (slice_index_or ss i d) + sum (map size rest) = ap (λ l. sum (map size l)) split ∙ sum_by-cons (λ (m : ℕ). m) (size (slice_index_or ss i d)) (map size rest) in
+    let sums : total_size (map size (drop i ss)) ≡ size (slice_index_or ss i d) + total_size (map size rest) = ap (λ l. total_size (map size l)) split in
     omega (arith, ap length is, length-append nodes these, nodes_count params found (slice_index_or ss i d) (length nodes + 1) holder loops, sums)

@@ -1,3 +1,4 @@
 pub mod Once
 pub mod Adding
 pub mod Meaning
+pub mod Small

@@ -2,6 +2,7 @@
 
 ghost use Rattle.std.specs.Prelude.{◌≡◌, IfOk, All, map};
 ghost use Rattle.std.specs.List.{AllZip};
+ghost use Rattle.mv_catalog.specs.Text.{FitsText};
 ghost use Rattle.mv_graph.specs.Nodes.{nodes_in, IsGraph, IsSmall};
 ghost use Rattle.mv_compile.specs.Compiled.{graph_of, graphs_of, MeansText};
 
@@ -74,9 +75,10 @@ fn graphs_of(
 }
 
 /// The graphs of a script's procedures, in order. It takes time in the size of the script and in the square of the number
-/// of variables that a statement names. No procedure of a script passes what is asked of them here.
+/// of variables that a statement names.
+#[tactic(auto, using(crate::proofs::Small::all_small))]
 pub fn compile(alloc: Global, resolved: &Resolved) -> Result<List<Graph>, NoMemory>
-    requires { All IsSmall resolved.now.procedures }
+    requires { FitsText resolved.now }
     ensures graphs { IfOk result (λ graphs. graphs ≡ graphs_of resolved.now) }
     // The nodes of each are those of its procedure, and it means what the procedure's text means.
     ensures nodes { IfOk result (All IsGraph) }

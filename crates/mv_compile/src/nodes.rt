@@ -1,9 +1,8 @@
 //! The nodes of statements.
 
 ghost use Rattle.std.specs.Prelude.{◌≡◌, ◌<◌, ◌≤◌, ◌+◌, ◌^◌, ◌++◌, ◌∷◌, [], IfOk, OnOk, Some, length, map};
-ghost use Rattle.std.specs.List.{sum};
+ghost use Rattle.mv_catalog.specs.Statements.{size, total_size};
 ghost use Rattle.mv_catalog.specs.declared.resolved.RStmt.{out-RStmt};
-ghost use Rattle.mv_recorded.specs.Recorded.{size};
 ghost use Rattle.mv_graph.specs.Nodes.{own_node, nodes_of, held_nodes, body_nodes};
 
 use crate::reads::{asks, changes, keyword, reads, sets};
@@ -67,9 +66,9 @@ pub(crate) fn add_nodes(
     holder: Option<u16>,
     loops: &List<u16>,
 ) -> Result<(), NoMemory>
-    requires room { length nodes.old + sum (map size statements.now) < 2 ^ 16 }
+    requires room { length nodes.old + total_size (map size statements.now) < 2 ^ 16 }
     ensures nodes { OnOk result (nodes.new ≡ nodes.old ++ body_nodes slots.params slots.found statements.now (length nodes.old + 1) holder loops.now) }
-    ensures count { OnOk result (length nodes.new ≡ length nodes.old + sum (map size statements.now)) }
+    ensures count { OnOk result (length nodes.new ≡ length nodes.old + total_size (map size statements.now)) }
 {
     for statement in statements {
         add_node(alloc, nodes, slots, statement, holder, loops)?;
@@ -127,7 +126,7 @@ fn add_turns(
     body: &[RStmt],
     loops: &List<u16>,
 ) -> Result<(), NoMemory>
-    requires room { length nodes.old + sum (map size body.now) < 2 ^ 16 }
+    requires room { length nodes.old + total_size (map size body.now) < 2 ^ 16 }
     ensures { OnOk result (nodes.new ≡ nodes.old ++ body_nodes slots.params slots.found body.now (length nodes.old + 1) (Some (length nodes.old)) (loops.now ++ length nodes.old ∷ [])) }
 {
     let number = nodes.len() as u16;

@@ -1,16 +1,15 @@
 //! How many statements there are.
 
 ghost use Rattle.std.specs.Prelude.{◌≡◌, ◌<◌, ◌^◌, map};
-ghost use Rattle.std.specs.List.{sum};
-ghost use Rattle.mv_recorded.specs.Recorded.{size};
+ghost use Rattle.mv_catalog.specs.Statements.{size, total_size};
 
 use mv_catalog::resolved::RStmt;
 
 /// How many statements these are, with those that they hold.
 #[cycle(sizing)]
 pub(crate) fn size_of_all(statements: &[RStmt]) -> u16
-    requires { sum (map size statements.now) < 2 ^ 16 }
-    ensures { result ≡ sum (map size statements.now) }
+    requires { total_size (map size statements.now) < 2 ^ 16 }
+    ensures { result ≡ total_size (map size statements.now) }
 {
     let mut all = 0;
     for statement in statements {

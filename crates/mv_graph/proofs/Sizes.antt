@@ -1,11 +1,9 @@
 -- A statement has as many nodes as it is statements, with those that it holds: its own one, and behind it theirs.
 use Rattle.std.proofs.Common.{◌≡◌, ℕ, ◌+◌, ◌≤◌, List, [], ◌∷◌, ◌++◌, Option, Some, map, length, refl, sym, ap, subst, ◌∙◌, arith, length-append}
-use Rattle.std.specs.List.{sum}
-use Rattle.std.proofs.lemmas.List.Sums.{sum_by-cons}
+use Rattle.mv_catalog.specs.Statements.{size, size_step, total_size}
 use Rattle.mv_catalog.specs.declared.resolved.RStmt.TheOpen as open'
 use Rattle.mv_catalog.specs.declared.resolved.RStmt.{RStmt, roll-RStmt, out-RStmt, roll-out-RStmt}
 use Rattle.mv_catalog.specs.declared.resolved.RStmt.TheFolds.{fold-roll-RStmt, map-RStmt, ind-RStmt}
-use Rattle.mv_recorded.specs.Recorded.{size, size_step}
 use Rattle.mv_graph.specs.declared.graph.Node.{Node}
 use Rattle.mv_graph.specs.Nodes.{Nodes, all_nodes, inner_nodes, own_node, node_step, nodes_of, held_nodes, body_nodes}
 
@@ -16,13 +14,13 @@ abbrev Known : ℕ → ℕ → Type 0
 Known params found = (s : RStmt) × Counts params found s
 
 all_count : (params found : ℕ) (ks : List (Known params found)) (n : ℕ) (holder : Option ℕ) (loops : List ℕ)
-    → length (all_nodes (map (nodes_of params found) (map (λ k. k.0) ks)) n holder loops) ≡ sum (map size (map (λ k. k.0) ks))
+    → length (all_nodes (map (nodes_of params found) (map (λ k. k.0) ks)) n holder loops) ≡ total_size (map size (map (λ k. k.0) ks))
 all_count params found [] n holder loops = refl
 all_count params found (k ∷ ks) n holder loops =
     let these : List Node = nodes_of params found k.0 n holder loops in
     let first : length these ≡ size k.0 = k.1 n holder loops in
     let others : List Node = all_nodes (map (nodes_of params found) (map (λ j. j.0) ks)) (n + length these) holder loops in
-    length-append these others ∙ (ap (λ m. m + length others) first ∙ (ap (λ m. size k.0 + m) (all_count params found ks (n + length these) holder loops) ∙ sym (sum_by-cons (λ (m : ℕ). m) (size k.0) (map size (map (λ j. j.0) ks)))))
+    length-append these others ∙ (ap (λ m. m + length others) first ∙ (ap (λ m. size k.0 + m) (all_count params found ks (n + length these) holder loops)))
 
 step_counts : (params found : ℕ) (y : open'.RStmt-F (Known params found)) → let d = map-RStmt (Known params found) RStmt (λ k. k.0) y in
     (n : ℕ) (holder : Option ℕ) (loops : List ℕ) → length (node_step params found (map-RStmt RStmt Nodes (nodes_of params found) d) n holder loops) ≡ size_step (map-RStmt RStmt ℕ size d)
@@ -51,13 +49,13 @@ nodes_count params found = ind-RStmt (Counts params found) rolled
         subst (λ z. Counts params found (roll-RStmt z)) is
         (λ n holder loops. ap (λ f. length (f n holder loops)) (fold-roll-RStmt Nodes (node_step params found) d) ∙ (step_counts params found y n holder loops ∙ sym (fold-roll-RStmt ℕ size_step d)))
 
-pub body_counts : (params found : ℕ) (ss : List RStmt) (n : ℕ) (holder : Option ℕ) (loops : List ℕ) → length (body_nodes params found ss n holder loops) ≡ sum (map size ss)
+pub body_counts : (params found : ℕ) (ss : List RStmt) (n : ℕ) (holder : Option ℕ) (loops : List ℕ) → length (body_nodes params found ss n holder loops) ≡ total_size (map size ss)
 body_counts params found [] n holder loops = refl
 body_counts params found (s ∷ ss) n holder loops =
     let these : List Node = nodes_of params found s n holder loops in
     let first : length these ≡ size s = nodes_count params found s n holder loops in
     let others : List Node = body_nodes params found ss (n + length these) holder loops in
-    length-append these others ∙ (ap (λ m. m + length others) first ∙ (ap (λ m. size s + m) (body_counts params found ss (n + length these) holder loops) ∙ sym (sum_by-cons (λ (m : ℕ). m) (size s) (map size ss))))
+    length-append these others ∙ (ap (λ m. m + length others) first ∙ (ap (λ m. size s + m) (body_counts params found ss (n + length these) holder loops)))
 
 -- what a statement's node tells doesn't depend on what the statement holds
 own_same : (params found : ℕ) (x : open'.RStmt-F RStmt) (holder : Option ℕ) (loops : List ℕ) (whole : ℕ)

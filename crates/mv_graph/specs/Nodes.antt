@@ -1,13 +1,13 @@
 -- What is known of the statements of a procedure before it runs: a node for each, in the order of the text, and what a graph means.
 use Rattle.std.specs.Prelude.{◌≡◌, ◌≤◌, ℕ, ◌+◌, List, [], ◌∷◌, ◌++◌, Option, Some, None, map, length}
-use Rattle.std.specs.List.{sum}
+use Rattle.mv_catalog.specs.Statements.{size, total_size}
 use Rattle.mv_catalog.specs.declared.resolved.ProcInfo.{ProcInfo}
 use Rattle.mv_catalog.specs.declared.resolved.RStmt.{RStmt}
 use Rattle.mv_catalog.specs.declared.resolved.RStmt.TheOpen.{RStmt-F, Assign, Select, Total, ForSelect, ForRows, Branch, Insert, Update, Delete, Print, Rollback}
 use Rattle.mv_catalog.specs.declared.resolved.RStmt.TheFolds.{fold-RStmt, map-RStmt}
 use Rattle.mv_record.specs.Runs.{Meaning}
 use Rattle.mv_recorded.specs.Reading.{expressions, each_once, read_variables}
-use Rattle.mv_recorded.specs.Recorded.{size, meaning}
+use Rattle.mv_recorded.specs.Recorded.{meaning}
 use Rattle.mv_graph.specs.declared.graph.Graph.{Graph}
 use Rattle.mv_graph.specs.declared.graph.Node.{Node}
 use Rattle.mv_graph.specs.declared.graph.Keyword.{Keyword}
@@ -155,5 +155,5 @@ abbrev pub most_variables : ℕ
 most_variables = 80
 
 pub record IsSmall (proc : ProcInfo) : Type 0 where
-  pub statements : sum (map size proc.body) ≤ most_statements
+  pub statements : total_size (map size proc.body) ≤ most_statements
   pub variables : length proc.params + length proc.defaults ≤ most_variables

@@ -1,6 +1,5 @@
 use Rattle.std.proofs.Common.{◌≡◌, ◌+◌, ◌++◌, drop, map, length}
-use Rattle.std.specs.List.{sum}
-use Rattle.mv_recorded.specs.Recorded.{size}
+use Rattle.mv_catalog.specs.Statements.{size, total_size}
 use Rattle.mv_graph.specs.Nodes.{body_nodes}
 use Rattle.mv_compile.proofs.nodes.+nodes.Given as goal
 
@@ -8,5 +7,5 @@ abbrev pub invariant-add_nodes-loop-statement : goal.invariant-add_nodes-loop-st
 invariant-add_nodes-loop-statement l = record {
   nodes : l.nodes ++ body_nodes l.slots.params l.slots.found (drop l.statement-index l.statements) (length l.nodes + 1) l.holder l.loops
       ≡ l.fn.nodes ++ body_nodes l.slots.params l.slots.found l.statements (length l.fn.nodes + 1) l.holder l.loops;
-  room : length l.nodes + sum (map size (drop l.statement-index l.statements)) ≡ length l.fn.nodes + sum (map size l.statements);
+  room : length l.nodes + total_size (map size (drop l.statement-index l.statements)) ≡ length l.fn.nodes + total_size (map size l.statements);
 }
