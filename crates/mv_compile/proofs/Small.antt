@@ -1,13 +1,25 @@
--- The procedures of a text of one piece keep within the limits of a script.
-use Rattle.std.proofs.Common.{ℕ, ◌≤◌, List, All, arith}
+-- The procedures of a text of one piece keep within the limits of a script, and so do their graphs.
+use Rattle.std.proofs.Common.{ℕ, ◌≤◌, ◌+◌, List, [], None, map, length, arith}
+use Rattle.std.specs.List.{All}
+use Rattle.std.proofs.lemmas.List.Elements.{All-map}
 use Rattle.mv_values.specs.declared.schema.TableInfo.{TableInfo}
 use Rattle.mv_catalog.specs.declared.resolved.ProcInfo.{ProcInfo}
 use Rattle.mv_catalog.specs.declared.resolved.Resolved.{Resolved}
 use Rattle.mv_catalog.specs.Text.{FitsText, IsProcedure}
-use Rattle.mv_graph.specs.Nodes.{IsSmall}
+use Rattle.mv_graph.specs.Nodes.{IsSmall, HasFewNodes}
+use Rattle.mv_graph.proofs.Sizes.{body_counts}
+use Rattle.mv_compile.specs.Compiled.{graph_of, graphs_of}
 
 small : (tables : List TableInfo) (p : ProcInfo) → IsProcedure tables p → IsSmall p
 small tables p h = record { statements = h.short; variables = omega (arith, h.few, h.declared) }
 
 pub all_small : (r : Resolved) → FitsText r → All IsSmall r.procedures
 all_small r h = λ k d within. small r.tables _ (h.procedures k d within)
+
+few_nodes : (tables : List TableInfo) (p : ProcInfo) → IsProcedure tables p → HasFewNodes (graph_of tables p)
+few_nodes tables p h =
+    let counts = body_counts (length p.params) (length p.params + length p.defaults) p.body 1 None [] in
+    omega (arith, h.short, counts)
+
+pub all_few_nodes : (r : Resolved) → FitsText r → All HasFewNodes (graphs_of r)
+all_few_nodes r h = All-map HasFewNodes (graph_of r.tables) r.procedures (λ k d within. few_nodes r.tables _ (h.procedures k d within))

@@ -3,7 +3,7 @@
 ghost use Rattle.std.specs.Prelude.{◌≡◌, IfOk, All, map};
 ghost use Rattle.std.specs.List.{AllZip};
 ghost use Rattle.mv_catalog.specs.Text.{FitsText};
-ghost use Rattle.mv_graph.specs.Nodes.{nodes_in, IsGraph, IsSmall};
+ghost use Rattle.mv_graph.specs.Nodes.{nodes_in, IsGraph, IsSmall, HasFewNodes};
 ghost use Rattle.mv_compile.specs.Compiled.{graph_of, graphs_of, MeansText};
 
 use crate::copies::copy_procedure;
@@ -76,12 +76,13 @@ fn graphs_of(
 
 /// The graphs of a script's procedures, in order. It takes time in the size of the script and in the square of the number
 /// of variables that a statement names.
-#[tactic(auto, using(crate::proofs::Small::all_small))]
+#[tactic(auto, using(crate::proofs::Small::all_small, crate::proofs::Small::all_few_nodes))]
 pub fn compile(alloc: Global, resolved: &Resolved) -> Result<List<Graph>, NoMemory>
     requires { FitsText resolved.now }
     ensures graphs { IfOk result (λ graphs. graphs ≡ graphs_of resolved.now) }
     // The nodes of each are those of its procedure, and it means what the procedure's text means.
     ensures nodes { IfOk result (All IsGraph) }
+    ensures few { IfOk result (All HasFewNodes) }
     ensures means { IfOk result (λ graphs. AllZip (MeansText resolved.now.tables) graphs resolved.now.procedures) }
 {
     let graphs = graphs_of(alloc, &resolved.tables, resolved.procedures.as_slice())?;

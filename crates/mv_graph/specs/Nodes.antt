@@ -157,3 +157,7 @@ most_variables = 80
 pub record IsSmall (proc : ProcInfo) : Type 0 where
   pub statements : total_size (map size proc.body) ≤ most_statements
   pub variables : length proc.params + length proc.defaults ≤ most_variables
+
+-- there are no more nodes than a procedure has statements
+abbrev pub HasFewNodes : Graph → Type 0
+HasFewNodes g = length g.nodes ≤ most_statements

@@ -5,6 +5,7 @@ mod history;
 mod journal;
 mod number;
 pub mod render;
+pub mod render_graphs;
 pub mod render_serial;
 mod replies;
 #[cfg(test)]

@@ -7,19 +7,23 @@ use Rattle.mv_catalog.specs.declared.resolved.Program.{Program}
 use Rattle.mv_accept.specs.declared.refusal.Refusal.{Refusal}
 use Rattle.mv_accept.specs.Accepting.{Accepts, Refuses}
 use Rattle.mv_accept.specs.Refusals.{number_of, line_of}
+use Rattle.mv_compile.specs.Compiled.{graphs_of}
+use Rattle.mv_report.specs.Graphs.{graphs_text}
 use Rattle.mv_top.specs.History.{text, in_turn}
 use Rattle.mv_top.specs.Serial.{serial}
 use Rattle.mv_top.specs.declared.status.Command.{Command}
-use Rattle.mv_top.specs.declared.status.Command.TheVariants.{Run, Serial}
+use Rattle.mv_top.specs.declared.status.Command.TheVariants.{Run, Serial, Graph}
 use Rattle.mv_top.specs.declared.status.Status.{Status}
 use Rattle.mv_top.specs.declared.status.Status.TheVariants.{Done, Refused, Usage, NoMemory, ReadFault, WriteFault}
 use Rattle.mv_top.specs.declared.status.Fault.{Fault}
 use Rattle.mv_top.specs.declared.status.Fault.TheVariants as fault
 
--- what a command makes of a program: the text of a run by one worker, and that of the calls alone in call order
+-- what a command makes of a program: the text of a run by one worker, that of the calls alone in call order, and that of the graphs of
+-- its procedures
 abbrev pub text_for : Command → Program → List ℕ
 text_for Run program = text program (in_turn program)
 text_for Serial program = serial program
+text_for Graph program = graphs_text program.resolved (graphs_of program.resolved)
 
 -- the bytes are accepted, and this is what the command makes of their program
 abbrev pub IsTextFor : Command → List ℕ → List ℕ → Type 0
@@ -47,6 +51,7 @@ words_of words = map string_bytes words
 abbrev pub name_of : Command → List ℕ
 name_of Run = codes "run"
 name_of Serial = codes "serial"
+name_of Graph = codes "graph"
 
 abbrev pub words_for : Command → List (List ℕ)
 words_for command = name_of command ∷ []

@@ -4,7 +4,10 @@ ghost use Rattle.std.specs.Prelude.{◌≡◌, ◌≤◌, length, IfOk, IfErr, M
 ghost use Rattle.mv_accept.specs.declared.refusal.Refusal.{Refusal as Why};
 ghost use Rattle.mv_accept.specs.Accepting.{Accepts, Refuses, most_calls};
 ghost use Rattle.mv_catalog.specs.Fits.{Fits};
+ghost use Rattle.mv_catalog.specs.Text.{FitsText};
 ghost use Rattle.mv_catalog.specs.declared.resolved.Program.{Program};
+ghost use Rattle.mv_compile.specs.Compiled.{graphs_of};
+ghost use Rattle.mv_report.specs.Graphs.{graphs_text};
 ghost use Rattle.mv_top.specs.Answers.{IsTextFor, text_for, HasCause, IsToldBy};
 
 use crate::serial::serial_text;
@@ -13,8 +16,10 @@ use crate::turns::run_in_turn;
 use mv_accept::accept::{NotAccepted, accept};
 use mv_accept::refusal::Refusal;
 use mv_catalog::resolved::Program;
+use mv_compile::compile::compile;
 use mv_edge::pace::Pace;
 use mv_report::render::render;
+use mv_report::render_graphs::render_graphs;
 use mv_values::list::List;
 use mv_values::memory::NoMemory;
 use std::alloc::Global;
@@ -43,8 +48,18 @@ pub fn answer<R: Threads + Wait + Sync, P: Pace>(
     }
 }
 
+/// The graphs of a program's procedures as text. It takes time in the square of the number of a procedure's statements.
+fn graph_text(alloc: Global, program: &Program) -> Result<List<u8>, NoMemory>
+    requires { FitsText program.now.resolved }
+    ensures { IfOk result (λ text. text ≡ graphs_text program.now.resolved (graphs_of program.now.resolved)) }
+{
+    let graphs = compile(alloc, &program.resolved)?;
+    render_graphs(alloc, &program.resolved, &graphs)
+}
+
 /// What a command makes of a program.
 fn text_of(alloc: Global, command: &Command, program: &Program) -> Result<List<u8>, NoMemory>
+    requires whole { FitsText program.now.resolved }
     requires fits { Fits program.now }
     requires few { length program.now.resolved.calls ≤ most_calls }
     ensures { IfOk result (λ text. text ≡ text_for command.now program.now) }
@@ -55,6 +70,7 @@ fn text_of(alloc: Global, command: &Command, program: &Program) -> Result<List<u
             render(alloc, &program.resolved.tables, &outcome)
         }
         Command::Serial => serial_text(alloc, program),
+        Command::Graph => graph_text(alloc, program),
     }
 }
 

@@ -27,6 +27,8 @@ pub enum Command {
     Run,
     /// Runs each call alone behind those before it, by the machine that says what calls mean.
     Serial,
+    /// Runs nothing, and writes which statements of a procedure may depend on which.
+    Graph,
 }
 
 /// Why there is no answer: the input is refused, with the refusal's number and line, or no memory was found.

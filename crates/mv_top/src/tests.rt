@@ -240,6 +240,33 @@ CALL se(); CALL sd();",
 }
 
 #[test]
+fn statements_and_what_they_depend_on(rt: HostRuntime) -> Result<(), Fail> {
+    let transfer = "procedure transfer
+1 select
+2 if v1
+3 rollback c2
+4 update
+5 update t4
+6 update t4 t5
+";
+    let add = "procedure add\n1 select\n2 set v1\n3 update v1 v2\n4 print v1 v2\n";
+    let others = "procedure mark\n1 update
+procedure put\n1 insert
+procedure rich\n1 select\n2 print v1
+procedure tell\n1 select\n2 if v1\n3 set c2\n4 select\n5 print v3\n6 print v4
+";
+    let alloc = rt.alloc();
+    let input = script(alloc, "CALL add(1, 5);")?;
+    let want = format!(in alloc; "{add}{transfer}{others}end\n")?;
+    for (input, want) in [("", "end\n"), (input.as_str(), want.as_str())] {
+        let (status, written) = run(&rt, rt.alloc(), &["graph"], input.as_bytes(), &[], ROOM)?;
+        assert_eq!(rt; status, Status::Done, "{input}");
+        assert_eq!(rt; written.as_str(), want, "{input}");
+    }
+    Ok(())
+}
+
+#[test]
 fn a_thousand_calls_on_one_row(rt: HostRuntime) -> Result<(), Fail> {
     let alloc = rt.alloc();
     let mut input = String::from_str(alloc, ADD)?;
@@ -275,6 +302,8 @@ fn words_that_are_no_command(rt: HostRuntime) -> Result<(), Fail> {
         ("serials", None),
         ("serial", Some("")),
         ("serial", Some("serial")),
+        ("graphs", None),
+        ("graph", Some("--threads")),
     ] {
         let (status, written) = match second {
             Some(word) => run(&rt, rt.alloc(), &[first, word], b"", &[], ROOM)?,
@@ -396,7 +425,7 @@ fn refusals_name_their_place(rt: HostRuntime) -> Result<(), Fail> {
         ),
     ] {
         let want = format!(in alloc; "{want}\n")?;
-        for command in ["run", "serial"] {
+        for command in ["run", "serial", "graph"] {
             let line = refusal(&rt, rt.alloc(), command, input.as_bytes())?;
             assert_eq!(rt; line.as_str(), want.as_str(), "{command} {input}");
         }

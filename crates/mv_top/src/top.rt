@@ -85,6 +85,9 @@ fn command_named(word: &String) -> Option<Command>
     if is_word(word, "serial") {
         return Some(Command::Serial);
     }
+    if is_word(word, "graph") {
+        return Some(Command::Graph);
+    }
     None
 }
 
