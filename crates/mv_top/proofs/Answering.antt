@@ -11,7 +11,7 @@ use Rattle.mv_accept.specs.declared.refusal.Refusal.TheVariants as why
 use Rattle.mv_accept.specs.Accepting.{most_bytes, Accepts, Refuses}
 use Rattle.mv_accept.proofs.Sizes.{accepted_are_few, too_many_are_told, too_many_are_refused}
 use Rattle.mv_top.specs.declared.status.Command.{Command}
-use Rattle.mv_top.specs.declared.status.Command.TheVariants.{Run, Serial}
+use Rattle.mv_top.specs.declared.status.Command.TheVariants.{Run, Serial, Graph}
 use Rattle.mv_top.specs.declared.status.Fault.{Fault}
 use Rattle.mv_top.specs.declared.status.Fault.TheVariants as fault
 use Rattle.mv_top.specs.declared.status.Status.{Status}
@@ -100,5 +100,10 @@ has_cause bytes refusal fault.NoMemory cause told = told
 pub same_command : (a b : Command) → words_for a ≡ words_for b → a ≡ b
 same_command Run Run e = refl
 same_command Serial Serial e = refl
+same_command Graph Graph e = refl
 same_command Run Serial e = cc
+same_command Run Graph e = cc
 same_command Serial Run e = cc
+same_command Serial Graph e = cc
+same_command Graph Run e = cc
+same_command Graph Serial e = cc

@@ -7,10 +7,9 @@ use Rattle.mv_catalog.specs.declared.resolved.Program.{Program}
 use Rattle.mv_accept.specs.declared.refusal.Refusal.{Refusal}
 use Rattle.mv_accept.specs.Accepting.{Accepts, Refuses}
 use Rattle.mv_accept.specs.Refusals.{number_of, line_of}
-use Rattle.mv_compile.specs.Compiled.{graphs_of}
-use Rattle.mv_report.specs.Graphs.{graphs_text}
 use Rattle.mv_top.specs.History.{text, in_turn}
 use Rattle.mv_top.specs.Serial.{serial}
+use Rattle.mv_top.specs.Graphs.{graphs}
 use Rattle.mv_top.specs.declared.status.Command.{Command}
 use Rattle.mv_top.specs.declared.status.Command.TheVariants.{Run, Serial, Graph}
 use Rattle.mv_top.specs.declared.status.Status.{Status}
@@ -23,7 +22,7 @@ use Rattle.mv_top.specs.declared.status.Fault.TheVariants as fault
 abbrev pub text_for : Command → Program → List ℕ
 text_for Run program = text program (in_turn program)
 text_for Serial program = serial program
-text_for Graph program = graphs_text program.resolved (graphs_of program.resolved)
+text_for Graph program = graphs program
 
 -- the bytes are accepted, and this is what the command makes of their program
 abbrev pub IsTextFor : Command → List ℕ → List ℕ → Type 0

@@ -1,4 +1,5 @@
 pub mod History
 pub mod Serial
+pub mod Graphs
 pub mod Answers
 pub mod Turns

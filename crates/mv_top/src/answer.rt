@@ -6,20 +6,17 @@ ghost use Rattle.mv_accept.specs.Accepting.{Accepts, Refuses, most_calls};
 ghost use Rattle.mv_catalog.specs.Fits.{Fits};
 ghost use Rattle.mv_catalog.specs.Text.{FitsText};
 ghost use Rattle.mv_catalog.specs.declared.resolved.Program.{Program};
-ghost use Rattle.mv_compile.specs.Compiled.{graphs_of};
-ghost use Rattle.mv_report.specs.Graphs.{graphs_text};
 ghost use Rattle.mv_top.specs.Answers.{IsTextFor, text_for, HasCause, IsToldBy};
 
+use crate::graphs::graph_text;
 use crate::serial::serial_text;
 use crate::status::{Command, Fault};
 use crate::turns::run_in_turn;
 use mv_accept::accept::{NotAccepted, accept};
 use mv_accept::refusal::Refusal;
 use mv_catalog::resolved::Program;
-use mv_compile::compile::compile;
 use mv_edge::pace::Pace;
 use mv_report::render::render;
-use mv_report::render_graphs::render_graphs;
 use mv_values::list::List;
 use mv_values::memory::NoMemory;
 use std::alloc::Global;
@@ -46,15 +43,6 @@ pub fn answer<R: Threads + Wait + Sync, P: Pace>(
         Err(NotAccepted::NoMemory) => Err(Fault::NoMemory),
         Err(NotAccepted::Refused(refusal)) => Err(refused(alloc, &refusal)),
     }
-}
-
-/// The graphs of a program's procedures as text. It takes time in the square of the number of a procedure's statements.
-fn graph_text(alloc: Global, program: &Program) -> Result<List<u8>, NoMemory>
-    requires { FitsText program.now.resolved }
-    ensures { IfOk result (λ text. text ≡ graphs_text program.now.resolved (graphs_of program.now.resolved)) }
-{
-    let graphs = compile(alloc, &program.resolved)?;
-    render_graphs(alloc, &program.resolved, &graphs)
 }
 
 /// What a command makes of a program.

@@ -2,6 +2,7 @@
 #![tactic(auto)]
 
 pub mod answer;
+mod graphs;
 mod serial;
 pub mod status;
 #[cfg(test)]
