@@ -5,3 +5,4 @@ pub mod Totalling
 pub mod Once
 pub mod Spanning
 pub mod Ranking
+pub mod Standing

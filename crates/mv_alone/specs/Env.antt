@@ -47,6 +47,12 @@ put_at [] (suc x) h = unset ∷ put_at [] x h
 put_at (g ∷ gs) zero h = h ∷ gs
 put_at (g ∷ gs) (suc x) h = g ∷ put_at gs x h
 
+-- the list with at least this many items
+abbrev pub padded : ℕ → List Held → List Held
+padded zero hs = hs
+padded (suc n) [] = unset ∷ padded n []
+padded (suc n) (h ∷ hs) = h ∷ padded n hs
+
 abbrev pub with_held : Env → ℕ → Held → Env
 with_held env x h = record env { held = put_at env.held x h }
 

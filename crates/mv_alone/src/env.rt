@@ -1,8 +1,8 @@
 //! What the variables of a call hold.
 
-ghost use Rattle.std.specs.Prelude.{◌≡◌, IfOk, OnOk, length};
+ghost use Rattle.std.specs.Prelude.{◌≡◌, IfOk, OnErr, OnOk, length, take};
 ghost use Rattle.mv_values.specs.Columns.{column_of, columns_of};
-ghost use Rattle.mv_alone.specs.Env.{scalar_at, turn_at, turns_at, put_at, unset, truth, with_held, with_value, with_values, with_found};
+ghost use Rattle.mv_alone.specs.Env.{scalar_at, turn_at, turns_at, padded, truth, with_held, with_value, with_values, with_found};
 
 use crate::state::{Env, Held};
 use mv_values::copied::Copied;
@@ -58,35 +58,60 @@ pub fn column_value(alloc: Global, row: &[Value], c: u16) -> Result<Value, NoMem
     }
 }
 
-/// Puts what a variable holds, making the list longer where it ends before.
-#[tactic(auto, using(crate::proofs::Putting::put_longer))]
-fn put(held: &mut List<Held>, x: usize, what: Held) -> Result<(), NoMemory>
-    ensures { OnOk result (held.new ≡ put_at held.old x what) }
+/// Adds unset variables until there are this many.
+#[tactic(auto, using(crate::proofs::Putting::pad_longer, crate::proofs::Putting::pad_full, crate::proofs::Putting::front_longer))]
+fn add_unset(held: &mut List<Held>, len: usize) -> Result<(), NoMemory>
+    ensures ok { OnOk result (held.new ≡ padded len held.old) }
+    ensures err { OnErr result (take (length held.old) held.new ≡ held.old) }
 {
-    while held.len() <= x {
+    while held.len() < len {
         held.push(Held::Scalar(Value::Int(0)))?;
     }
-    held.set(x, what);
     Ok(())
 }
 
-/// Sets what a variable holds. Room is taken only for a variable that there was not yet.
-pub fn set_held(env: &mut Env, x: usize, what: Held) -> Result<(), NoMemory>
-    ensures { OnOk result (env.new ≡ with_held env.old x what) }
+/// Adds unset variables where there are fewer than this. After NoMemory the variables are as before.
+pub fn pad(held: &mut List<Held>, len: usize) -> Result<(), NoMemory>
+    ensures ok { OnOk result (held.new ≡ padded len held.old) }
+    ensures err { OnErr result (held.new ≡ held.old) }
 {
-    put(&mut env.held, x, what)
+    let before = held.len();
+    match add_unset(held, len) {
+        Ok(()) => Ok(()),
+        Err(error) => {
+            held.truncate(before);
+            Err(error)
+        }
+    }
 }
 
-/// Sets a variable to a value.
+/// Sets what a variable holds. It takes memory only where there was no such variable yet. After NoMemory the variables
+/// are as before.
+#[tactic(auto, using(crate::proofs::Putting::put_padded, crate::proofs::Putting::padded_long))]
+pub fn set_held(env: &mut Env, x: usize, what: Held) -> Result<(), NoMemory>
+    ensures ok { OnOk result (env.new ≡ with_held env.old x what) }
+    ensures err { OnErr result (env.new ≡ env.old) }
+{
+    let Some(len) = x.checked_add(1) else {
+        return Err(NoMemory);
+    };
+    pad(&mut env.held, len)?;
+    env.held.set(x, what);
+    Ok(())
+}
+
+/// Sets a variable to a value. After NoMemory the variables are as before.
 pub fn set_value(env: &mut Env, x: u16, value: Value) -> Result<(), NoMemory>
-    ensures { OnOk result (env.new ≡ with_value env.old x value) }
+    ensures ok { OnOk result (env.new ≡ with_value env.old x value) }
+    ensures err { OnErr result (env.new ≡ env.old) }
 {
     set_held(env, x as usize, Held::Scalar(value))
 }
 
-/// Sets `:found`.
+/// Sets `:found`. After NoMemory the variables are as before.
 pub fn set_found(env: &mut Env, found: bool) -> Result<(), NoMemory>
-    ensures { OnOk result (env.new ≡ with_found env.old found) }
+    ensures ok { OnOk result (env.new ≡ with_found env.old found) }
+    ensures err { OnErr result (env.new ≡ env.old) }
 {
     set_held(env, env.found, Held::Scalar(truth_of(found)))
 }

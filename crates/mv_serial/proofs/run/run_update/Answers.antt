@@ -8,7 +8,7 @@ pub returns-clause-does : goal.returns-clause-does
 returns-clause-does c =
     let made = rw (c.columns_in.ensures, c.key_in.ensures, c.as_slice-4.ensures) at c.in_ok-update_rows.ensures.rows in
     let near = rw c.as_slice.ensures at c.near_matches-near.ensures.matches in
-    rw (c.in_ok-set_found.ensures, c.has_match-found.ensures, c.as_slice-2.ensures, near)
+    rw (c.in_ok-set_found.ensures.ok, c.has_match-found.ensures, c.as_slice-2.ensures, near)
     (update_ok c.args.tables.now c.args.table c.args.items.now c.args.conds.now c.args.state.now c.in_ok-checks.checks c.update_rows.new.tables c.in_ok-checks.ensures made)
 
 pub returns-in_err-update_rows-clause-does : goal.returns-in_err-update_rows-clause-does
