@@ -71,11 +71,12 @@ leads_inside st env rs (Err e) h rise = tt
 
 -- Statements that change no table
 
-abbrev KeepsTables : Result State End → State → Type 0
+-- the database is as before, unless the call ends
+abbrev pub KeepsTables : Result State End → State → Type 0
 KeepsTables (Ok next) st = next.tables ≡ st.tables
 KeepsTables (Err e) st = Unit {0}
 
-then_keeps : {A : Type 0} (r : Result A End) (go : A → Result State End) (st : State) → ((x : A) → KeepsTables (go x) st) → KeepsTables (then_do r go) st
+pub then_keeps : {A : Type 0} (r : Result A End) (go : A → Result State End) (st : State) → ((x : A) → KeepsTables (go x) st) → KeepsTables (then_do r go) st
 then_keeps (Ok x) go st h = h x
 then_keeps (Err e) go st h = tt
 

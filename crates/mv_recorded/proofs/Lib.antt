@@ -4,6 +4,7 @@ pub mod Telling
 pub mod Patched
 pub mod Setting
 pub mod Leading
+pub mod Standing
 pub mod Meant
 pub mod Naming
 pub mod Climbing

@@ -1,9 +1,9 @@
 -- What holds of the records of every full run.
-use Rattle.std.specs.Prelude.{◌≡◌, ℕ, List, length}
+use Rattle.std.specs.Prelude.{◌≡◌, ℕ, List, length, Ok}
 use Rattle.mv_values.specs.declared.schema.TableInfo.{TableInfo}
 use Rattle.mv_values.specs.declared.calls.Call.{Call}
 use Rattle.mv_values.specs.Keys.{IsRising}
-use Rattle.mv_values.specs.Tables.{rows_at}
+use Rattle.mv_values.specs.Tables.{rows_at, KeysStand}
 use Rattle.mv_catalog.specs.Statements.{IsWell, stmt_step}
 use Rattle.mv_catalog.specs.Types.{Vars}
 use Rattle.mv_catalog.specs.declared.resolved.ProcInfo.{ProcInfo}
@@ -49,3 +49,7 @@ EffectsTold =
 -- a well formed statement has a column for each target
 abbrev pub ColumnsThere : Type 0
 ColumnsThere = (tables : List TableInfo) (s : RStmt-F RStmt) (vars : Vars) → stmt_step tables RStmt (λ s. s) (IsWell tables) s vars → HasColumns s
+
+-- a statement leaves each row under its own values of the key columns
+abbrev pub KeysKept : Type 0
+KeysKept = (tables : List TableInfo) (s : RStmt-F RStmt) (st next : State) → KeysStand tables st.tables → itself tables s st ≡ Ok next → KeysStand tables next.tables

@@ -1,7 +1,7 @@
 //! What holds of the records of every full run, of whatever procedure, call and database.
 
 ghost use Rattle.mv_recorded.specs.Examples.{AddsFive, AddOverflows, UpdateOverflows, LooksInVain, Transfers, TransferRollsBack, AddsUp, Closes, ReadsTwice, DividesByZero};
-ghost use Rattle.mv_recorded.specs.Laws.{RunsCounted, CallsCounted, MeaningsTell, NamesEarlierOnes, PathsAreInOrder, EffectsTold, ColumnsThere};
+ghost use Rattle.mv_recorded.specs.Laws.{RunsCounted, CallsCounted, MeaningsTell, NamesEarlierOnes, PathsAreInOrder, EffectsTold, ColumnsThere, KeysKept};
 
 /// A full run leaves as many records as it executes statements.
 #[tactic(auto, using(crate::proofs::Counted::recorded_counted, crate::proofs::Counted::records_counted))]
@@ -35,6 +35,12 @@ pub fn paths_rise()
 pub fn effects_are_told()
     ensures effect { EffectsTold }
     ensures well { ColumnsThere }
+{}
+
+/// Where each row stands under its own values of its table's key columns, a statement leaves it so.
+#[tactic(auto, using(crate::proofs::Standing::itself_stands))]
+pub fn keys_are_kept()
+    ensures { KeysKept }
 {}
 
 /// The records of small procedures, worked out by hand.
