@@ -52,8 +52,9 @@ impl From<NoMemory> for NotAccepted {
 /// of the text; the journal's block. It takes time in the number of bytes, and n log n for n rows.
 pub fn accept(alloc: Global, bytes: &[u8]) -> Result<Program, NotAccepted>
     ensures exact { Exact (Accepts bytes.now) (Refuses bytes.now) result }
-    // What is accepted is of one piece, and its rows stand under their keys.
+    // What is accepted is of one piece, and each table has its rows, which stand under their keys.
     ensures whole { IfOk result (λ program. FitsText program.resolved) }
+    ensures sized { IfOk result (λ program. length program.opening ≡ length program.resolved.tables) }
     ensures fits { IfOk result Fits }
     ensures few { IfOk result (λ program. length program.resolved.calls ≤ most_calls) }
 {

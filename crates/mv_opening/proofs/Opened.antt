@@ -16,7 +16,7 @@ use Rattle.mv_csvio.specs.declared.fault.CopyFault.TheVariants as copy
 use Rattle.mv_csvio.specs.Loading.{IsFirstBad, records_of}
 use Rattle.mv_opening.specs.declared.fault.OpeningFault.{OpeningFault}
 use Rattle.mv_opening.specs.declared.fault.OpeningFault.TheVariants as fault
-use Rattle.mv_opening.specs.Opening.{HasCopied, HaveCopied, HaveGathered, HasNoOpening, TellsOfCopy, TellsOfTables, block_of, in_table}
+use Rattle.mv_opening.specs.Opening.{HasCopied, HaveCopied, HaveGathered, HasNoOpening, IsOpening, TellsOfCopy, TellsOfTables, block_of, in_table}
 
 -- the item at a place
 pub got : {A : Type 0} (xs : List A) (i : ℕ) (x : A) → i < length xs → x ≡ slice_index_or xs i x → slice_get xs i ≡ Some x
@@ -173,3 +173,11 @@ handed_more all given new tables i x y h e made =
     let rest = drop (i + 1) (slice_set tables i y) in
     let one : drop i tables ≡ x ∷ rest = one_handed tables i x y e ∙ ap (λ n. x ∷ drop n (slice_set tables i y)) next in
     ap (λ l. l ++ rest) made ∙ (append_assoc given (x ∷ []) rest ∙ (ap (λ l. given ++ l) (sym one) ∙ h))
+
+-- copies leave as many tables as there are
+all_copied_length : (infos : List TableInfo) (bytes : List ℕ) (there : List (List Keyed)) (cs : List CopyInfo) (after : List (List Keyed)) → HaveCopied infos bytes there cs after → length after ≡ length there
+all_copied_length infos bytes there [] after h = ap length (sym h)
+all_copied_length infos bytes there (c ∷ cs) after h = all_copied_length infos bytes h.0 cs after h.2 ∙ copied_length infos bytes there c h.0 h.1
+
+pub opening_sized : (resolved : Resolved) (bytes : List ℕ) (tables : List (List Keyed)) → IsOpening resolved bytes tables → length tables ≡ length resolved.tables
+opening_sized resolved bytes tables h = all_copied_length resolved.tables bytes h.0 resolved.copies tables h.2 ∙ gathered_length resolved.tables resolved.rows h.0 h.1

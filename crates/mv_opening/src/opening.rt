@@ -30,6 +30,7 @@ pub fn opening(alloc: Global, resolved: &Resolved, bytes: &[u8]) -> Result<Datab
     ensures only { (tables : Seq (Seq Keyed)) → IsOpening resolved.now bytes.now tables → MatchResult result (λ answer. answer ≡ tables) (λ f. f ≡ fault.NoMemory) }
     ensures refused { IfErr result (λ f. (f ≡ fault.NoMemory) ⊎ HasNoOpening resolved.now bytes.now f) }
     ensures told { (f : OpeningFault) → HasNoOpening resolved.now bytes.now f → (result ≡ Err f) ⊎ (result ≡ Err fault.NoMemory) }
+    ensures sized { IfOk result (λ tables. length tables ≡ length resolved.now.tables) }
     ensures fits { IfOk result (KeysStand resolved.now.tables) }
     ensures typed { ValuesFit resolved.now.tables resolved.now.rows → IfOk result (TablesFit resolved.now.tables) }
 {

@@ -2,6 +2,7 @@ use Rattle.std.proofs.Common.{Ok, rules}
 use Rattle.std.proofs.lemmas.Result.{err_from_is_err_and}
 use Rattle.mv_opening.specs.Opening.{IsOpening}
 use Rattle.mv_opening.proofs.Once.{opening_only, opening_told}
+use Rattle.mv_opening.proofs.Opened.{opening_sized}
 use Rattle.mv_opening.proofs.Stands.{opening_fits, opening_stands}
 use Rattle.mv_opening.proofs.opening.opening.Goals as goal
 
@@ -34,3 +35,8 @@ pub returns-clause-typed : goal.returns-clause-typed
 returns-clause-typed c = λ fit.
     let is : IsOpening c.args.resolved.now c.args.bytes.now c.in_ok-into_database.field-0 = search (rules, c.in_ok-tables.ensures) in
     opening_fits c.args.resolved.now c.args.bytes.now c.in_ok-into_database.field-0 fit is
+
+pub returns-clause-sized : goal.returns-clause-sized
+returns-clause-sized c =
+    let is : IsOpening c.args.resolved.now c.args.bytes.now c.in_ok-into_database.field-0 = search (rules, c.in_ok-tables.ensures) in
+    opening_sized c.args.resolved.now c.args.bytes.now c.in_ok-into_database.field-0 is
