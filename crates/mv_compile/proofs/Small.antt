@@ -1,4 +1,4 @@
--- The procedures of a text of one piece keep within the limits of a script, and so do their graphs.
+-- The procedures of a text of one piece keep within the limits of a script, and so do their graphs, which are of one piece too.
 use Rattle.std.proofs.Common.{ℕ, ◌≤◌, ◌+◌, List, [], None, map, length, arith}
 use Rattle.std.specs.List.{All}
 use Rattle.std.proofs.lemmas.List.Elements.{All-map}
@@ -6,7 +6,7 @@ use Rattle.mv_values.specs.declared.schema.TableInfo.{TableInfo}
 use Rattle.mv_catalog.specs.declared.resolved.ProcInfo.{ProcInfo}
 use Rattle.mv_catalog.specs.declared.resolved.Resolved.{Resolved}
 use Rattle.mv_catalog.specs.Text.{FitsText, IsProcedure}
-use Rattle.mv_graph.specs.Nodes.{IsSmall, HasFewNodes}
+use Rattle.mv_graph.specs.Nodes.{IsSmall, IsSound, HasFewNodes}
 use Rattle.mv_graph.proofs.Sizes.{body_counts}
 use Rattle.mv_compile.specs.Compiled.{graph_of, graphs_of}
 
@@ -23,3 +23,6 @@ few_nodes tables p h =
 
 pub all_few_nodes : (r : Resolved) → FitsText r → All HasFewNodes (graphs_of r)
 all_few_nodes r h = All-map HasFewNodes (graph_of r.tables) r.procedures (λ k d within. few_nodes r.tables _ (h.procedures k d within))
+
+pub all_sound : (r : Resolved) → FitsText r → All IsSound (graphs_of r)
+all_sound r h = All-map IsSound (graph_of r.tables) r.procedures (λ k d within. record { few = h.few; tables = h.tables; procedure = h.procedures k d within })

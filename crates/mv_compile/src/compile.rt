@@ -3,7 +3,7 @@
 ghost use Rattle.std.specs.Prelude.{◌≡◌, IfOk, All, map};
 ghost use Rattle.std.specs.List.{AllZip};
 ghost use Rattle.mv_catalog.specs.Text.{FitsText};
-ghost use Rattle.mv_graph.specs.Nodes.{nodes_in, IsGraph, IsSmall, HasFewNodes};
+ghost use Rattle.mv_graph.specs.Nodes.{nodes_in, IsGraph, IsSmall, IsSound, HasFewNodes};
 ghost use Rattle.mv_compile.specs.Compiled.{graph_of, graphs_of, MeansText};
 
 use crate::copies::copy_procedure;
@@ -83,6 +83,7 @@ pub fn compile(alloc: Global, resolved: &Resolved) -> Result<List<Graph>, NoMemo
     // The nodes of each are those of its procedure, and it means what the procedure's text means.
     ensures nodes { IfOk result (All IsGraph) }
     ensures few { IfOk result (All HasFewNodes) }
+    ensures sound { IfOk result (All IsSound) }
     ensures means { IfOk result (λ graphs. AllZip (MeansText resolved.now.tables) graphs resolved.now.procedures) }
 {
     let graphs = graphs_of(alloc, &resolved.tables, resolved.procedures.as_slice())?;

@@ -1,6 +1,7 @@
 -- What is known of the statements of a procedure before it runs: a node for each, in the order of the text, and what a graph means.
-use Rattle.std.specs.Prelude.{◌≡◌, ◌≤◌, ℕ, ◌+◌, List, [], ◌∷◌, ◌++◌, Option, Some, None, map, length}
+use Rattle.std.specs.Prelude.{◌≡◌, ◌≤◌, ℕ, ◌+◌, List, [], ◌∷◌, ◌++◌, Option, Some, None, All, map, length}
 use Rattle.mv_catalog.specs.Statements.{size, total_size}
+use Rattle.mv_catalog.specs.Text.{IsTable, IsProcedure}
 use Rattle.mv_catalog.specs.declared.resolved.ProcInfo.{ProcInfo}
 use Rattle.mv_catalog.specs.declared.resolved.RStmt.{RStmt}
 use Rattle.mv_catalog.specs.declared.resolved.RStmt.TheOpen.{RStmt-F, Assign, Select, Total, ForSelect, ForRows, Branch, Insert, Update, Delete, Print, Rollback}
@@ -144,6 +145,12 @@ IsGraph g = g.nodes ≡ nodes_in g.procedure
 -- its meaning is its procedure's
 abbrev pub meaning_of : Graph → Meaning
 meaning_of g = meaning g.tables g.procedure
+
+-- its tables and its procedure are those of a program of one piece
+pub record IsSound (g : Graph) : Type 0 where
+  pub few : length g.tables ≤ 64
+  pub tables : All IsTable g.tables
+  pub procedure : IsProcedure g.tables g.procedure
 
 -- The limits of a script
 

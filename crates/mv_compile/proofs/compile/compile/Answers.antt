@@ -1,6 +1,9 @@
-use Rattle.std.proofs.Common.{◌≡◌, ◌∙◌, ap, map}
+use Rattle.std.proofs.Common.{◌≡◌, ◌∙◌, ap, map, subst, sym}
+use Rattle.std.specs.List.{All}
+use Rattle.mv_graph.specs.Nodes.{IsSound}
 use Rattle.mv_compile.specs.Compiled.{graph_of}
 use Rattle.mv_compile.proofs.Meaning.{are_graphs, mean_text}
+use Rattle.mv_compile.proofs.Small.{all_sound}
 use Rattle.mv_compile.proofs.compile.compile.Goals as goal
 
 pub returns-clause-nodes : goal.returns-clause-nodes
@@ -8,3 +11,7 @@ returns-clause-nodes c = are_graphs c.args.resolved.now c.in_ok-graphs.graphs (c
 
 pub returns-clause-means : goal.returns-clause-means
 returns-clause-means c = mean_text c.args.resolved.now c.in_ok-graphs.graphs (c.in_ok-graphs.ensures ∙ ap (map (graph_of c.args.resolved.now.tables)) c.as_slice.ensures)
+
+pub returns-clause-sound : goal.returns-clause-sound
+returns-clause-sound c =
+    subst (All IsSound) (sym (c.in_ok-graphs.ensures ∙ ap (map (graph_of c.args.resolved.now.tables)) c.as_slice.ensures)) (all_sound c.args.resolved.now c.requires)
