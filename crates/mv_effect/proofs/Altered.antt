@@ -1,0 +1,254 @@
+-- What statements do that change the rows of a table.
+use Rattle.std.proofs.Common.{◌≡◌, ℕ, suc, Bool, true, false, cond, List, [], ◌∷◌, ◌++◌, None, Result, Ok, Err, map, refl, sym, ap, ◌∙◌, arith, if◌then◌else◌}
+use Rattle.std.specs.Prelude.{◌&&◌, All}
+use Rattle.std.specs.List.{flat_map}
+use Rattle.std.specs.Ordering.{is_eq, ordering_then}
+use Rattle.std.specs.declared.cmp.Ordering.{Ordering}
+use Rattle.std.specs.declared.cmp.Ordering.TheVariants.{Less, Equal, Greater}
+use Rattle.mv_values.specs.declared.value.Value.{Value}
+use Rattle.mv_values.specs.declared.pred.Pred.{Pred}
+use Rattle.mv_values.specs.declared.patch.Patch.TheVariants as patch
+use Rattle.mv_values.specs.declared.patch.Write.{Write}
+use Rattle.mv_values.specs.declared.rows.Keyed.{Keyed}
+use Rattle.mv_values.specs.declared.schema.TableInfo.{TableInfo}
+use Rattle.mv_values.specs.declared.calls.End.{End}
+use Rattle.mv_values.specs.declared.calls.End.TheVariants.{Duplicate}
+use Rattle.mv_values.specs.Columns.{column_of, columns_of}
+use Rattle.mv_values.specs.Keys.{IsRising}
+use Rattle.mv_values.specs.Order.{value_order, key_order}
+use Rattle.mv_values.specs.Patching.{found_by}
+use Rattle.mv_values.specs.Tables.{rows_at, columns_at, key_columns, KeysStand}
+use Rattle.mv_catalog.specs.declared.resolved.RExpr.{RExpr}
+use Rattle.mv_catalog.specs.declared.resolved.RCond.{RCond}
+use Rattle.mv_catalog.specs.declared.resolved.RSetItem.{RSetItem}
+use Rattle.mv_catalog.specs.declared.resolved.RStmt.TheOpen.{Insert, Update, Delete}
+use Rattle.mv_alone.specs.declared.state.Check.{Check}
+use Rattle.mv_alone.specs.declared.state.Env.{Env}
+use Rattle.mv_alone.specs.Outcome.{then_do}
+use Rattle.mv_alone.specs.Env.{with_found}
+use Rattle.mv_alone.specs.Rows.{meets, matching, is_some_row}
+use Rattle.mv_alone.specs.Changes.{new_row, set_row, updated, put_row, put_row_by, keyed}
+use Rattle.mv_record.specs.declared.record.Slot.{Slot}
+use Rattle.mv_record.proofs.Rising.{Above, Rises, rises_from, turned, lower}
+use Rattle.mv_recorded.specs.Asking.{on, pred_of, same_key, columns_in}
+use Rattle.mv_recorded.specs.Doing.{write, changed}
+use Rattle.mv_recorded.proofs.Setting.{then_ok}
+use Rattle.mv_effect.specs.declared.effect.Effect.{Effect}
+use Rattle.mv_effect.specs.Effects.{IsEffect, changes, only_end, slots_behind}
+use Rattle.mv_effect.proofs.Chosen.{asks, asked_of, then_err, same_ok, rows_asked}
+
+-- an effect that asks, sets variables and changes rows
+abbrev pub altered : List Pred → List Slot → List Write → Effect
+altered preds sets writes = record { preds = preds; sets = sets; rows = []; writes = writes; line = None; end = None }
+
+-- DELETE
+
+-- what a DELETE does that found these rows
+pub delete_goes : (tables : List TableInfo) (t : ℕ) (conds : List RCond) (env : Env) (db : List (List Keyed)) (pred : Pred) (rows : List Keyed)
+    → asks tables t conds [] env ≡ Ok pred → rows ≡ found_by pred db
+    → IsEffect tables (Delete t conds) env db (altered (pred ∷ []) (slots_behind (with_found env (is_some_row rows)) (env.found ∷ [])) (map (λ item. write t item.key patch.Delete) rows))
+delete_goes tables t conds env db pred rows h found = λ lines.
+    let a = asked_of tables t conds [] env pred h in
+    let rows_are = rows_asked tables t a.checks [] pred db rows a.is found in
+    rw a.are
+    (ap (λ p. altered (p ∷ []) (slots_behind (with_found env (is_some_row rows)) (env.found ∷ [])) (map (λ item. write t item.key patch.Delete) rows)) a.is
+    ∙ ap (λ l. altered (pred_of tables t a.checks [] ∷ []) (slots_behind (with_found env (is_some_row l)) (env.found ∷ [])) (map (λ item. write t item.key patch.Delete) l)) rows_are)
+
+-- UPDATE
+
+-- what SET makes of a row
+abbrev pub New : Type 0
+New = List Value → Result (List Value) End
+
+-- where a row is made of each that matches, the table has rows behind it
+set_all : (t : ℕ) (items : List RSetItem) (new : New) (checks : List Check) (rows : List Keyed) (ws : List Write) → changes t items new (matching checks rows) ≡ Ok ws
+    → (out : List Keyed) × (updated new checks rows ≡ Ok out)
+set_all t items new checks [] ws h = ([], refl)
+set_all t items new checks (r ∷ rs) ws h = by (λ vs k. set_all t items new checks rs vs k) (meets checks r.row) h
+  where
+    by : ((vs : List Write) → changes t items new (matching checks rs) ≡ Ok vs → (out : List Keyed) × (updated new checks rs ≡ Ok out))
+        → (b : Bool) → changes t items new (cond b (r ∷ matching checks rs) (matching checks rs)) ≡ Ok ws
+        → (out : List Keyed) × ((if b then then_do (new r.row) (λ row. then_do (updated new checks rs) (λ rest. Ok (record r { row = row } ∷ rest))) else then_do (updated new checks rs) (λ rest. Ok (r ∷ rest))) ≡ Ok out)
+    by ih true k =
+        let made = then_ok (new r.row) (λ row. then_do (changes t items new (matching checks rs)) (λ vs. Ok (write t r.key (changed items row) ∷ vs))) ws k in
+        let later = then_ok (changes t items new (matching checks rs)) (λ vs. Ok (write t r.key (changed items made.0) ∷ vs)) ws made.2 in
+        let rest = ih later.0 later.1 in (
+          record r { row = made.0 } ∷ rest.0,
+          ap (λ o. then_do o (λ row. then_do (updated new checks rs) (λ more. Ok (record r { row = row } ∷ more)))) made.1
+              ∙ ap (λ o. then_do o (λ more. Ok (record r { row = made.0 } ∷ more))) rest.1,
+        )
+    by ih false k = let rest = ih ws k in (r ∷ rest.0, ap (λ o. then_do o (λ more. Ok (r ∷ more))) rest.1)
+
+-- where no row is made of one that matches, the statement ends so
+set_stops : (t : ℕ) (items : List RSetItem) (new : New) (checks : List Check) (rows : List Keyed) (e : End) → changes t items new (matching checks rows) ≡ Err e → updated new checks rows ≡ Err e
+set_stops t items new checks [] e h = cc
+set_stops t items new checks (r ∷ rs) e h = by (λ k. set_stops t items new checks rs e k) (meets checks r.row) h
+  where
+    made : (changes t items new (matching checks rs) ≡ Err e → updated new checks rs ≡ Err e) → (o : Result (List Value) End) → then_do o (λ row. then_do (changes t items new (matching checks rs)) (λ vs. Ok (write t r.key (changed items row) ∷ vs))) ≡ Err e
+        → then_do o (λ row. then_do (updated new checks rs) (λ rest. Ok (record r { row = row } ∷ rest))) ≡ Err e
+    made ih (Ok row) k = rw (ih (then_err (changes t items new (matching checks rs)) (λ vs. write t r.key (changed items row) ∷ vs) e k)) refl
+    made ih (Err d) k = cc
+
+    by : (changes t items new (matching checks rs) ≡ Err e → updated new checks rs ≡ Err e)
+        → (b : Bool) → changes t items new (cond b (r ∷ matching checks rs) (matching checks rs)) ≡ Err e
+        → (if b then then_do (new r.row) (λ row. then_do (updated new checks rs) (λ rest. Ok (record r { row = row } ∷ rest))) else then_do (updated new checks rs) (λ rest. Ok (r ∷ rest))) ≡ Err e
+    by ih true k = made ih (new r.row) k
+    by ih false k = rw (ih k) refl
+
+-- the changes of rows of which new ones are made
+abbrev written_of : ℕ → List RSetItem → New → List Keyed → List Write
+written_of t items new rows = flat_map (λ item. on (new item.row) (λ row. write t item.key (changed items row) ∷ [])) rows
+
+-- what was written are the changes of all rows, where a row is made of each
+writes_are : (t : ℕ) (items : List RSetItem) (new : New) (rows : List Keyed) (ws : List Write) → changes t items new rows ≡ Ok ws → ws ≡ written_of t items new rows
+writes_are t items new [] ws h = sym (same_ok h)
+writes_are t items new (r ∷ rs) ws h =
+    let made = then_ok (new r.row) (λ row. then_do (changes t items new rs) (λ vs. Ok (write t r.key (changed items row) ∷ vs))) ws h in
+    let later = then_ok (changes t items new rs) (λ vs. Ok (write t r.key (changed items made.0) ∷ vs)) ws made.2 in
+    sym (same_ok later.2) ∙ (ap (λ l. write t r.key (changed items made.0) ∷ l) (writes_are t items new rs later.0 later.1)
+    ∙ ap (λ o. on o (λ row. write t r.key (changed items row) ∷ []) ++ written_of t items new rs) (sym made.1))
+
+-- what the SET of a statement makes of a row of a table
+abbrev pub new_of : List TableInfo → ℕ → Env → List RSetItem → New
+new_of tables t env items row = set_row (columns_at tables t) (key_columns tables t) env row items row
+
+-- what an UPDATE does that ends at a row that it found
+pub update_unset : (tables : List TableInfo) (t : ℕ) (items : List RSetItem) (conds : List RCond) (env : Env) (db : List (List Keyed)) (pred : Pred) (rows : List Keyed) (e : End)
+    → asks tables t conds (flat_map (λ i. columns_in i.right) items) env ≡ Ok pred → rows ≡ found_by pred db → changes t items (new_of tables t env items) rows ≡ Err e
+    → IsEffect tables (Update t items conds) env db (only_end (pred ∷ []) e)
+update_unset tables t items conds env db pred rows e h found k = λ lines.
+    let a = asked_of tables t conds (flat_map (λ i. columns_in i.right) items) env pred h in
+    let rows_are = rows_asked tables t a.checks (flat_map (λ i. columns_in i.right) items) pred db rows a.is found in
+    let stops = set_stops t items (new_of tables t env items) a.checks (rows_at db t) e (ap (changes t items (new_of tables t env items)) (sym rows_are) ∙ k) in
+    rw (a.are, stops) (ap (λ p. only_end (p ∷ []) e) a.is)
+
+-- what an UPDATE does that found these rows and makes new ones of all
+pub update_goes : (tables : List TableInfo) (t : ℕ) (items : List RSetItem) (conds : List RCond) (env : Env) (db : List (List Keyed)) (pred : Pred) (rows : List Keyed) (ws : List Write)
+    → asks tables t conds (flat_map (λ i. columns_in i.right) items) env ≡ Ok pred → rows ≡ found_by pred db → changes t items (new_of tables t env items) rows ≡ Ok ws
+    → IsEffect tables (Update t items conds) env db (altered (pred ∷ []) (slots_behind (with_found env (is_some_row rows)) (env.found ∷ [])) ws)
+update_goes tables t items conds env db pred rows ws h found k = λ lines.
+    let cs : List ℕ = flat_map (λ i. columns_in i.right) items in
+    let a = asked_of tables t conds cs env pred h in
+    let rows_are = rows_asked tables t a.checks cs pred db rows a.is found in
+    let new : New = new_of tables t env items in
+    let all = set_all t items new a.checks (rows_at db t) ws (ap (changes t items new) (sym rows_are) ∙ k) in
+    rw (a.are, all.1)
+    (ap (λ p. altered (p ∷ []) (slots_behind (with_found env (is_some_row rows)) (env.found ∷ [])) ws) a.is
+    ∙ (ap (λ l. altered (pred_of tables t a.checks cs ∷ []) (slots_behind (with_found env (is_some_row rows)) (env.found ∷ [])) l) (writes_are t items new rows ws k)
+    ∙ ap (λ l. altered (pred_of tables t a.checks cs ∷ []) (slots_behind (with_found env (is_some_row l)) (env.found ∷ [])) (written_of t items new l)) rows_are))
+
+-- INSERT
+
+-- two orders are both ties exactly where the first and then the second is one
+eq_then : (a b : Ordering) → is_eq a && is_eq b ≡ is_eq (ordering_then a b)
+eq_then Less b = refl
+eq_then Equal b = refl
+eq_then Greater b = refl
+
+-- a row passes the tests of a key exactly where it has that key
+meets_key : (keys : List ℕ) (row a : List Value) → meets (same_key keys row) a ≡ is_eq (key_order (columns_of a keys) (columns_of row keys))
+meets_key [] row a = refl
+meets_key (k ∷ ks) row a =
+    ap (λ b. is_eq (value_order (column_of a k) (column_of row k)) && b) (meets_key ks row a)
+    ∙ eq_then (value_order (column_of a k) (column_of row k)) (key_order (columns_of a ks) (columns_of row ks))
+
+-- the rows stand under their own keys
+abbrev Own : List ℕ → List Keyed → Type 0
+Own keys [] = Unit {0}
+Own keys (r ∷ rs) = (r.key ≡ columns_of r.row keys) × Own keys rs
+
+-- the same by recursion, of a fact on each row
+own_of : (keys : List ℕ) (rows : List Keyed) → All (λ item. item.key ≡ columns_of item.row keys) rows → Own keys rows
+own_of keys [] h = tt
+own_of keys (r ∷ rs) h = (h 0 r (omega arith), own_of keys rs (λ k d lt. h (suc k) d (omega (arith, lt))))
+
+-- a row under its own key passes the tests of a key exactly where its key is that one
+meets_own : (keys : List ℕ) (row : List Value) (r : Keyed) → r.key ≡ columns_of r.row keys → meets (same_key keys row) r.row ≡ is_eq (key_order r.key (columns_of row keys))
+meets_own keys row r own = meets_key keys row r.row ∙ ap (λ k. is_eq (key_order k (columns_of row keys))) (sym own)
+
+-- no row above a key has it
+none_above : (keys : List ℕ) (row : List Value) (rows : List Keyed) → Own keys rows → Above (columns_of row keys) rows → matching (same_key keys row) rows ≡ []
+none_above keys row [] own h = refl
+none_above keys row (r ∷ rs) own h =
+    let back : key_order r.key (columns_of row keys) ≡ Greater = turned (columns_of row keys) r.key Less h.0 in
+    let fails : meets (same_key keys row) r.row ≡ false = meets_own keys row r own.0 ∙ ap is_eq back in
+    ap (λ b. cond b (r ∷ matching (same_key keys row) rs) (matching (same_key keys row) rs)) fails ∙ none_above keys row rs own.1 h.1
+
+-- where no row has the key the new row is put
+put_new : (keys : List ℕ) (row : List Value) (rows : List Keyed) → Own keys rows → matching (same_key keys row) rows ≡ [] → (out : List Keyed) × (put_row (keyed keys row) rows ≡ Ok out)
+put_new keys row [] own h = (keyed keys row ∷ [], refl)
+put_new keys row (r ∷ rs) own h = by (λ k. put_new keys row rs own.1 k) (meets (same_key keys row) r.row) refl h (key_order (columns_of row keys) r.key) refl
+  where
+    new : Keyed
+    new = keyed keys row
+
+    by : (matching (same_key keys row) rs ≡ [] → (out : List Keyed) × (put_row (keyed keys row) rs ≡ Ok out))
+        → (b : Bool) → meets (same_key keys row) r.row ≡ b → cond b (r ∷ matching (same_key keys row) rs) (matching (same_key keys row) rs) ≡ []
+        → (o : Ordering) → key_order (columns_of row keys) r.key ≡ o → (out : List Keyed) × (put_row_by o (keyed keys row) r rs (put_row (keyed keys row) rs) ≡ Ok out)
+    by ih true m k o e = absurd (elim (nothing k) [ ])
+      where
+        nothing : r ∷ matching (same_key keys row) rs ≡ [] → ⊥
+        nothing k = cc
+    by ih false m k Less e = (keyed keys row ∷ r ∷ rs, refl)
+    by ih false m k Equal e =
+        let tied : key_order r.key (columns_of row keys) ≡ Equal = turned (columns_of row keys) r.key Equal e in
+        let there : false ≡ true = sym m ∙ (meets_own keys row r own.0 ∙ ap is_eq tied) in
+        absurd (apart there)
+      where
+        apart : false ≡ true → ⊥
+        apart h = cc
+    by ih false m k Greater e = let rest = ih k in (r ∷ rest.0, rw rest.1 refl)
+
+-- where a row has the key it isn't
+put_twice : (keys : List ℕ) (row : List Value) (rows : List Keyed) (x : Keyed) (xs : List Keyed) → Own keys rows → Rises rows → matching (same_key keys row) rows ≡ x ∷ xs → put_row (keyed keys row) rows ≡ Err Duplicate
+put_twice keys row [] x xs own rises h = cc
+put_twice keys row (r ∷ rs) x xs own rises h = by (λ k. put_twice keys row rs x xs own.1 rises.1 k) (meets (same_key keys row) r.row) refl h (key_order (columns_of row keys) r.key) refl
+  where
+    by : (matching (same_key keys row) rs ≡ x ∷ xs → put_row (keyed keys row) rs ≡ Err Duplicate)
+        → (b : Bool) → meets (same_key keys row) r.row ≡ b → cond b (r ∷ matching (same_key keys row) rs) (matching (same_key keys row) rs) ≡ x ∷ xs
+        → (o : Ordering) → key_order (columns_of row keys) r.key ≡ o → put_row_by o (keyed keys row) r rs (put_row (keyed keys row) rs) ≡ Err Duplicate
+    by ih b m k Equal e = refl
+    by ih true m k Less e =
+        let back : key_order r.key (columns_of row keys) ≡ Greater = turned (columns_of row keys) r.key Less e in
+        let there : true ≡ false = sym m ∙ (meets_own keys row r own.0 ∙ ap is_eq back) in
+        cc
+    by ih false m k Less e =
+        let none : matching (same_key keys row) rs ≡ [] = none_above keys row rs own.1 (lower (columns_of row keys) r.key rs e rises.0) in
+        cc
+    by ih true m k Greater e =
+        let back : key_order r.key (columns_of row keys) ≡ Less = turned (columns_of row keys) r.key Greater e in
+        let there : true ≡ false = sym m ∙ (meets_own keys row r own.0 ∙ ap is_eq back) in
+        cc
+    by ih false m k Greater e = rw (ih k) refl
+
+-- a row with the key is found
+found_key : (tables : List TableInfo) (t : ℕ) (row : List Value) (pred : Pred) (db : List (List Keyed)) (rows : List Keyed)
+    → pred ≡ pred_of tables t (same_key (key_columns tables t) row) [] → rows ≡ found_by pred db → matching (same_key (key_columns tables t) row) (rows_at db t) ≡ rows
+found_key tables t row pred db rows is found = sym (rows_asked tables t (same_key (key_columns tables t) row) [] pred db rows is found)
+
+-- what an INSERT does that found a row with its key
+pub insert_twice : (tables : List TableInfo) (t : ℕ) (es : List RExpr) (env : Env) (db : List (List Keyed)) (row : List Value) (pred : Pred) (rows : List Keyed)
+    → KeysStand tables db → IsRising (rows_at db t) → new_row (columns_at tables t) es env ≡ Ok row → pred ≡ pred_of tables t (same_key (key_columns tables t) row) []
+    → rows ≡ found_by pred db → is_some_row rows ≡ true → IsEffect tables (Insert t es) env db (only_end (pred ∷ []) Duplicate)
+insert_twice tables t es env db row pred rows stand rising made is found some = λ lines.
+    let there = by rows some (found_key tables t row pred db rows is found) in
+    rw (made, there) (ap (λ p. only_end (p ∷ []) Duplicate) is)
+  where
+    by : (l : List Keyed) → is_some_row l ≡ true → matching (same_key (key_columns tables t) row) (rows_at db t) ≡ l → put_row (keyed (key_columns tables t) row) (rows_at db t) ≡ Err Duplicate
+    by [] e m = cc
+    by (x ∷ xs) e m = put_twice (key_columns tables t) row (rows_at db t) x xs (own_of (key_columns tables t) (rows_at db t) (stand t)) (rises_from (rows_at db t) rising) m
+
+-- what an INSERT does that found none
+pub insert_goes : (tables : List TableInfo) (t : ℕ) (es : List RExpr) (env : Env) (db : List (List Keyed)) (row : List Value) (pred : Pred) (rows : List Keyed) (item : Keyed)
+    → KeysStand tables db → new_row (columns_at tables t) es env ≡ Ok row → pred ≡ pred_of tables t (same_key (key_columns tables t) row) []
+    → rows ≡ found_by pred db → is_some_row rows ≡ false → item ≡ keyed (key_columns tables t) row
+    → IsEffect tables (Insert t es) env db (altered (pred ∷ []) (slots_behind (with_found env true) (env.found ∷ [])) (write t item.key (patch.Insert item.row) ∷ []))
+insert_goes tables t es env db row pred rows item stand made is found none same = λ lines.
+    let put = put_new (key_columns tables t) row (rows_at db t) (own_of (key_columns tables t) (rows_at db t) (stand t)) (found_key tables t row pred db rows is found ∙ empty rows none) in
+    rw (made, put.1)
+    (ap (λ p. altered (p ∷ []) (slots_behind (with_found env true) (env.found ∷ [])) (write t item.key (patch.Insert item.row) ∷ [])) is
+    ∙ ap (λ (i : Keyed). altered (pred_of tables t (same_key (key_columns tables t) row) [] ∷ []) (slots_behind (with_found env true) (env.found ∷ [])) (write t i.key (patch.Insert i.row) ∷ [])) same)
+  where
+    empty : (l : List Keyed) → is_some_row l ≡ false → l ≡ []
+    empty [] e = refl
+    empty (x ∷ xs) e = cc

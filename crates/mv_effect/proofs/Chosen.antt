@@ -1,0 +1,175 @@
+-- What statements do that look at a table and change none.
+use Rattle.std.proofs.Common.{◌≡◌, ℕ, ℤ, pos, Bool, true, false, ◌||◌, List, [], ◌∷◌, ◌++◌, Option, Some, None, Result, Ok, Err, length, refl, sym, ap, ◌∙◌}
+use Rattle.std.specs.Option.{is_some}
+use Rattle.mv_values.specs.declared.value.Value.{Value}
+use Rattle.mv_values.specs.declared.patch.Write.{Write}
+use Rattle.mv_values.specs.declared.pred.Pred.{Pred}
+use Rattle.mv_values.specs.declared.rows.Keyed.{Keyed}
+use Rattle.mv_values.specs.declared.schema.TableInfo.{TableInfo}
+use Rattle.mv_values.specs.declared.calls.End.{End}
+use Rattle.mv_values.specs.Columns.{columns_of}
+use Rattle.mv_values.specs.Patching.{found_by}
+use Rattle.mv_values.specs.Tables.{rows_at}
+use Rattle.mv_catalog.specs.declared.resolved.RExpr.{RExpr}
+use Rattle.mv_catalog.specs.declared.resolved.RCond.{RCond}
+use Rattle.mv_catalog.specs.declared.resolved.RSort.{RSort}
+use Rattle.mv_catalog.specs.declared.resolved.RAgg.{RAgg}
+use Rattle.mv_catalog.specs.declared.resolved.RAgg.TheVariants.{CountAll, CountDistinct, Sum, Min, Max}
+use Rattle.mv_catalog.specs.declared.resolved.RStmt.{RStmt}
+use Rattle.mv_catalog.specs.declared.resolved.RStmt.TheOpen.{Select, Total, ForSelect}
+use Rattle.mv_alone.specs.declared.state.Check.{Check}
+use Rattle.mv_alone.specs.declared.state.Env.{Env}
+use Rattle.mv_alone.specs.Outcome.{then_do}
+use Rattle.mv_alone.specs.Env.{scalar_at, truth, with_value, with_values, with_found}
+use Rattle.mv_alone.specs.Value.{number, is_so, fitted}
+use Rattle.mv_alone.specs.Rows.{checks_of, matching, ordered, item_at, aggregate, total, is_some_row, sum_of, distinct, projected, column}
+use Rattle.mv_alone.specs.Alone.{offset_of, taken, totalled, fixed, is_turn}
+use Rattle.mv_record.specs.declared.record.Slot.{Slot}
+use Rattle.mv_recorded.specs.Asking.{pred_of, with_sorts, column_in}
+use Rattle.mv_recorded.specs.Doing.{when, gives_always}
+use Rattle.mv_recorded.specs.Reading.{each_once}
+use Rattle.mv_recorded.proofs.Setting.{then_ok}
+use Rattle.mv_effect.specs.declared.effect.Effect.{Effect}
+use Rattle.mv_effect.specs.Effects.{IsEffect, only_end, slots_behind}
+use Rattle.mv_effect.proofs.Variables.{found_has, same_found}
+use Rattle.mv_effect.proofs.Matching.{found_matching, matching_all}
+
+-- What was asked
+
+-- what a statement asks, if the right sides of WHERE give values
+abbrev pub asks : List TableInfo → ℕ → List RCond → List ℕ → Env → Result Pred End
+asks tables t conds cs env = then_do (checks_of conds env) (λ checks. Ok (pred_of tables t checks cs))
+
+-- the tests of what was asked
+pub record Asks (tables : List TableInfo) (t : ℕ) (conds : List RCond) (cs : List ℕ) (env : Env) (pred : Pred) : Type 0 where
+  pub checks : List Check
+  pub are : checks_of conds env ≡ Ok checks
+  pub is : pred ≡ pred_of tables t checks cs
+
+-- two values are the same where the answers with them are
+pub same_ok : {A : Type 0} {x y : A} → ◌≡◌ {A = Result A End} (Ok x) (Ok y) → x ≡ y
+same_ok h = cc
+
+-- what was asked has the tests of WHERE with their values
+pub asked_of : (tables : List TableInfo) (t : ℕ) (conds : List RCond) (cs : List ℕ) (env : Env) (pred : Pred) → asks tables t conds cs env ≡ Ok pred → Asks tables t conds cs env pred
+asked_of tables t conds cs env pred h =
+    let c = then_ok (checks_of conds env) (λ checks. Ok (pred_of tables t checks cs)) pred h in
+    record { checks = c.0; are = c.1; is = sym (same_ok c.2) }
+
+-- what goes on with a value ends only where there was none
+pub then_err : {A B : Type 0} (r : Result A End) (f : A → B) (e : End) → then_do r (λ x. Ok (f x)) ≡ Err e → r ≡ Err e
+then_err (Ok x) f e h = cc
+then_err (Err d) f e h = cc
+
+-- the rows that were found are those that pass WHERE
+pub rows_asked : (tables : List TableInfo) (t : ℕ) (checks : List Check) (cs : List ℕ) (pred : Pred) (db : List (List Keyed)) (rows : List Keyed) → pred ≡ pred_of tables t checks cs → rows ≡ found_by pred db
+    → rows ≡ matching checks (rows_at db t)
+rows_asked tables t checks cs pred db rows is found = found ∙ (ap (λ p. found_by p db) is ∙ found_matching tables t checks cs db)
+
+-- Variables
+
+-- a truth is so exactly where it is true
+truth_is_so : (b : Bool) → is_so (truth b) ≡ b
+truth_is_so true = refl
+truth_is_so false = refl
+
+-- `:found` is so exactly where it was set to true
+found_is : (env : Env) (b : Bool) → is_so (scalar_at (with_found env b) env.found) ≡ b
+found_is env b = ap is_so (found_has env b) ∙ truth_is_so b
+
+-- the variables set behind a SELECT
+abbrev taken_names : List ℕ → Env → List ℕ
+taken_names xs next = when (is_so (scalar_at next next.found)) (each_once xs) ++ next.found ∷ []
+
+-- a SELECT sets the same variables by the row that it chose and by the state behind it
+taken_named : (env : Env) (cs xs : List ℕ) (item : Option Keyed) → when (is_some item) (each_once xs) ++ env.found ∷ [] ≡ taken_names xs (taken cs xs item env)
+taken_named env cs xs None = ap (λ b. when b (each_once xs) ++ env.found ∷ []) (sym (found_is env false))
+taken_named env cs xs (Some item) =
+    let first : Env = with_values env xs (columns_of item.row cs) in
+    ap (λ f. each_once xs ++ f ∷ []) (sym (same_found env xs (columns_of item.row cs))) ∙ ap (λ b. when b (each_once xs) ++ first.found ∷ []) (sym (found_is first true))
+
+-- so does an aggregate, by its total
+total_named : (env : Env) (x : ℕ) (o : Option Value) (always some : Bool) → is_some o ≡ (always || some)
+    → when (is_some o) (x ∷ []) ++ env.found ∷ [] ≡ when (always || is_so (scalar_at (with_found (totalled x o env) some) (totalled x o env).found)) (x ∷ []) ++ (totalled x o env).found ∷ []
+total_named env x None always some h =
+    ap (λ b. when b (x ∷ []) ++ env.found ∷ []) (h ∙ ap (λ b. always || b) (sym (found_is env some)))
+total_named env x (Some v) always some h =
+    ap (λ b. when b (x ∷ []) ++ env.found ∷ []) (h ∙ ap (λ b. always || b) (sym (found_is (with_value env x v) some)))
+
+-- MIN and MAX give nothing for no rows, the others always something
+total_some : (z : ℤ) (o : Option Value) → total z ≡ Ok o → is_some o ≡ true
+total_some z o h = let v = then_ok (fitted z) (λ v. Ok (Some v)) o h in ap is_some (sym (same_ok v.2))
+
+-- an aggregate gives something exactly where it always does or a row was found
+gives : (agg : RAgg) (rows : List Keyed) (o : Option Value) → aggregate agg rows ≡ Ok o → is_some o ≡ (gives_always agg || is_some_row rows)
+gives CountAll rows o h = total_some (pos (length rows)) o h
+gives (CountDistinct c) rows o h = total_some (pos (length (distinct (projected (c ∷ []) rows)))) o h
+gives (Sum c) rows o h = total_some (sum_of (column c rows)) o h
+gives (Min c) [] o h = ap is_some (sym (same_ok h))
+gives (Min c) (row ∷ rows) o h = ap is_some (sym (same_ok h))
+gives (Max c) [] o h = ap is_some (sym (same_ok h))
+gives (Max c) (row ∷ rows) o h = ap is_some (sym (same_ok h))
+
+-- SELECT
+
+-- an effect with these variables set, rows and changes
+abbrev pub filled : Effect → List Slot → List (List Value) → List Write → Effect
+filled e sets rows writes = record { preds = e.preds; sets = sets; rows = rows; writes = writes; line = e.line; end = e.end }
+
+-- an effect that asks, sets variables and fixes rows
+abbrev pub made : List Pred → List Slot → List (List Value) → Effect
+made preds sets rows = record { preds = preds; sets = sets; rows = rows; writes = []; line = None; end = None }
+
+-- what a SELECT does that found these rows and chose this one of them
+pub select_goes : (tables : List TableInfo) (cs xs : List ℕ) (t : ℕ) (conds : List RCond) (sorts : List RSort) (offset : Option RExpr) (env : Env) (db : List (List Keyed)) (pred : Pred) (v : Value) (rows : List Keyed) (chosen : Option Keyed)
+    → asks tables t conds (with_sorts cs sorts) env ≡ Ok pred → offset_of offset env ≡ Ok v → rows ≡ found_by pred db → chosen ≡ item_at (ordered sorts (matching [] rows)) (number v)
+    → IsEffect tables (Select cs xs t conds sorts offset) env db (made (pred ∷ []) (slots_behind (taken cs xs chosen env) (when (is_some chosen) (each_once xs) ++ env.found ∷ [])) [])
+select_goes tables cs xs t conds sorts offset env db pred v rows chosen h k found is = λ lines.
+    let a = asked_of tables t conds (with_sorts cs sorts) env pred h in
+    let rows_are = rows_asked tables t a.checks (with_sorts cs sorts) pred db rows a.is found in
+    let item : Option Keyed = item_at (ordered sorts (matching a.checks (rows_at db t))) (number v) in
+    let same : chosen ≡ item = is ∙ ap (λ l. item_at (ordered sorts l) (number v)) (matching_all rows ∙ rows_are) in
+    rw (a.are, k)
+    (ap (λ p. made (p ∷ []) (slots_behind (taken cs xs chosen env) (when (is_some chosen) (each_once xs) ++ env.found ∷ [])) []) a.is
+    ∙ (ap (λ o. made (pred_of tables t a.checks (with_sorts cs sorts) ∷ []) (slots_behind (taken cs xs o env) (when (is_some o) (each_once xs) ++ env.found ∷ [])) []) same
+    ∙ ap (λ ns. made (pred_of tables t a.checks (with_sorts cs sorts) ∷ []) (slots_behind (taken cs xs item env) ns) []) (taken_named env cs xs item)))
+
+-- Aggregates
+
+-- what an aggregate does whose total doesn't fit
+pub total_unfit : (tables : List TableInfo) (agg : RAgg) (x t : ℕ) (conds : List RCond) (env : Env) (db : List (List Keyed)) (pred : Pred) (rows : List Keyed) (e : End)
+    → asks tables t conds (column_in agg) env ≡ Ok pred → rows ≡ found_by pred db → aggregate agg (matching [] rows) ≡ Err e → IsEffect tables (Total agg x t conds) env db (only_end (pred ∷ []) e)
+total_unfit tables agg x t conds env db pred rows e h found k = λ lines.
+    let a = asked_of tables t conds (column_in agg) env pred h in
+    let rows_are = matching_all rows ∙ rows_asked tables t a.checks (column_in agg) pred db rows a.is found in
+    let fails : aggregate agg (matching a.checks (rows_at db t)) ≡ Err e = ap (aggregate agg) (sym rows_are) ∙ k in
+    rw (a.are, fails) (ap (λ p. only_end (p ∷ []) e) a.is)
+
+-- what an aggregate does that found these rows and gives this total
+pub total_goes : (tables : List TableInfo) (agg : RAgg) (x t : ℕ) (conds : List RCond) (env : Env) (db : List (List Keyed)) (pred : Pred) (rows : List Keyed) (o : Option Value)
+    → asks tables t conds (column_in agg) env ≡ Ok pred → rows ≡ found_by pred db → aggregate agg (matching [] rows) ≡ Ok o
+    → IsEffect tables (Total agg x t conds) env db (made (pred ∷ []) (slots_behind (with_found (totalled x o env) (is_some_row (matching [] rows))) (when (is_some o) (x ∷ []) ++ env.found ∷ [])) [])
+total_goes tables agg x t conds env db pred rows o h found k = λ lines.
+    let a = asked_of tables t conds (column_in agg) env pred h in
+    let rows_are = matching_all rows ∙ rows_asked tables t a.checks (column_in agg) pred db rows a.is found in
+    let gives_here : aggregate agg (matching a.checks (rows_at db t)) ≡ Ok o = ap (aggregate agg) (sym rows_are) ∙ k in
+    let p : Pred = pred_of tables t a.checks (column_in agg) in
+    let some : Bool = is_some_row (matching a.checks (rows_at db t)) in
+    rw (a.are, gives_here)
+    (ap (λ q. made (q ∷ []) (slots_behind (with_found (totalled x o env) (is_some_row (matching [] rows))) (when (is_some o) (x ∷ []) ++ env.found ∷ [])) []) a.is
+    ∙ (ap (λ l. made (p ∷ []) (slots_behind (with_found (totalled x o env) (is_some_row l)) (when (is_some o) (x ∷ []) ++ env.found ∷ [])) []) rows_are
+    ∙ ap (λ ns. made (p ∷ []) (slots_behind (with_found (totalled x o env) some) ns) []) (total_named env x o (gives_always agg) some (gives agg (matching a.checks (rows_at db t)) o gives_here))))
+
+-- FOR
+
+-- what a FOR does that found these rows and has these turns
+pub for_goes : (tables : List TableInfo) (x : ℕ) (once : Bool) (cs : List ℕ) (t : ℕ) (conds : List RCond) (sorts : List RSort) (body : List RStmt) (env : Env) (db : List (List Keyed)) (pred : Pred) (rows : List Keyed) (turns : List (List Value))
+    → asks tables t conds (with_sorts cs sorts) env ≡ Ok pred → rows ≡ found_by pred db → turns ≡ fixed once cs sorts (matching [] rows)
+    → IsEffect tables (ForSelect x once cs t conds sorts body) env db (made (pred ∷ []) (slots_behind (with_found env (is_turn turns)) (env.found ∷ [])) turns)
+for_goes tables x once cs t conds sorts body env db pred rows turns h found is = λ lines.
+    let a = asked_of tables t conds (with_sorts cs sorts) env pred h in
+    let rows_are = matching_all rows ∙ rows_asked tables t a.checks (with_sorts cs sorts) pred db rows a.is found in
+    let same : turns ≡ fixed once cs sorts (matching a.checks (rows_at db t)) = is ∙ ap (fixed once cs sorts) rows_are in
+    rw a.are
+    (ap (λ q. made (q ∷ []) (slots_behind (with_found env (is_turn turns)) (env.found ∷ [])) turns) a.is
+    ∙ ap (λ ts. made (pred_of tables t a.checks (with_sorts cs sorts) ∷ []) (slots_behind (with_found env (is_turn ts)) (env.found ∷ [])) ts) same)

@@ -1,0 +1,11 @@
+pub mod Once
+pub mod Variables
+pub mod Checks
+pub mod Asked
+pub mod Few
+pub mod Ends
+pub mod Matching
+pub mod Chosen
+pub mod Altered
+pub mod WellNamed
+pub mod Accounts

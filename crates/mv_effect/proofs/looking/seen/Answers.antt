@@ -1,0 +1,16 @@
+use Rattle.std.proofs.Common.{◌<◌, subst, sym}
+use Rattle.mv_undo.specs.Owning.{earlier}
+use Rattle.mv_values.specs.Patching.{applied}
+use Rattle.mv_effect.proofs.Matching.{admitted}
+use Rattle.mv_effect.proofs.looking.seen.Goals as goal
+
+pub look-requires-clause-table : goal.look-requires-clause-table
+look-requires-clause-table g c = subst (λ n. c.args.pred.now.table < n) (sym c.requires.stands.database.size) c.requires.knows.table
+
+pub look-requires-clause-before : goal.look-requires-clause-before
+look-requires-clause-before g c =
+    admitted c.args.here.now.tables.now c.args.pred.now (g.V.View.sight c.args.view.now).database c.requires.knows c.requires.stands.database.keys
+
+pub look-requires-clause-behind : goal.look-requires-clause-behind
+look-requires-clause-behind g c =
+    admitted c.args.here.now.tables.now c.args.pred.now (applied (earlier c.args.here.now.number c.args.here.now.undo.now) (g.V.View.sight c.args.view.now).database) c.requires.knows c.requires.stands.behind

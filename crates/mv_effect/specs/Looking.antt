@@ -1,0 +1,70 @@
+-- What a statement may be executed on, and what it leaves of its view.
+use Rattle.std.specs.Prelude.{◌≡◌, ◌<◌, ◌≤◌, ◌+◌, ◌*◌, ◌==◌, ℕ, suc, List, [], ◌∷◌, length, Result, Ok, Err, All, if◌then◌else◌}
+use Rattle.std.specs.List.{position}
+use Rattle.mv_values.specs.declared.rows.Keyed.{Keyed}
+use Rattle.mv_values.specs.declared.pred.Pred.{Pred}
+use Rattle.mv_values.specs.declared.pred.Test.{Test}
+use Rattle.mv_values.specs.declared.patch.Write.{Write}
+use Rattle.mv_values.specs.declared.schema.TableInfo.{TableInfo}
+use Rattle.mv_values.specs.Patching.{applied}
+use Rattle.mv_values.specs.Tables.{KeysStand, key_columns}
+use Rattle.mv_catalog.specs.Text.{IsTable}
+use Rattle.mv_record.specs.Writes.{AreRising}
+use Rattle.mv_undo.specs.Owning.{touches}
+use Rattle.mv_view.specs.Viewing.{Sight, one_more}
+use Rattle.mv_view.specs.declared.view.Refused.{Refused}
+use Rattle.mv_view.specs.declared.view.Refused.TheVariants.{NoMemory, Stale}
+
+-- a database of these tables: the rows of each stand under their own keys, which rise
+pub record IsDatabase (tables : List TableInfo) (db : List (List Keyed)) : Type 0 where
+  pub size : length db ≡ length tables
+  pub rising : AreRising db
+  pub keys : KeysStand tables db
+
+-- tables of a program, and a database of them before these writes and behind them
+pub record Stands (tables : List TableInfo) (ws : List Write) (db : List (List Keyed)) : Type 0 where
+  pub few : length tables ≤ 64
+  pub each : All IsTable tables
+  pub database : IsDatabase tables db
+  pub behind : KeysStand tables (applied ws db)
+
+-- how many different keys writes are on
+abbrev pub different : List Write → ℕ
+different [] = 0
+different (w ∷ ws) = if touches w.table w.key ws then different ws else suc (different ws)
+
+-- it is the same view of the same database
+pub record IsSameView (before after : Sight) : Type 0 where
+  pub database : after.database ≡ before.database
+  pub start : after.start ≡ before.start
+  pub may_be_stale : after.may_be_stale ≡ before.may_be_stale
+
+-- none of its answers was Stale
+pub record WasNeverStale (before after : Sight) : Type 0 where
+  pub answers : after.stale_answers ≡ before.stale_answers
+  pub last_low : after.last_low ≡ before.last_low
+
+-- one of its answers was, with this low
+pub record WasStale (low : ℕ) (before after : Sight) : Type 0 where
+  pub answers : after.stale_answers ≡ one_more before.stale_answers
+  pub last_low : after.last_low ≡ low
+
+-- what is answered is Stale exactly where an answer of the view was, and has its low
+abbrev pub PassesOn : {A : Type 0} → Sight → Sight → Result A Refused → Type 0
+PassesOn before after (Ok x) = WasNeverStale before after
+PassesOn before after (Err NoMemory) = WasNeverStale before after
+PassesOn before after (Err (Stale start low)) = WasStale low before after
+
+-- it was given at most so many calls of `rows` and of `row`
+pub record AskedAtMost (rows row : ℕ) (before after : Sight) : Type 0 where
+  pub for_rows : after.rows_calls ≤ before.rows_calls + rows
+  pub for_row : after.row_calls ≤ before.row_calls + row
+
+-- it was asked at most once for each of these predicates, and then for each key that earlier writes are on
+abbrev pub AskedFor : List Pred → List Write → Sight → Sight → Type 0
+AskedFor preds ws before after = AskedAtMost (length preds) (length preds * different ws) before after
+
+-- the predicate's table is there, and each of its tests has the place of its column in the key
+pub record KnowsKey (tables : List TableInfo) (pred : Pred) : Type 0 where
+  pub table : pred.table < length tables
+  pub places : All (λ (test : Test). test.key_place ≡ position (λ k. k == test.column) (key_columns tables pred.table)) pred.tests

@@ -1,0 +1,215 @@
+//! Statements that change the rows of a table.
+
+ghost use Rattle.std.specs.Prelude.{◌≡◌, ◌<◌, ◌≤◌, ◌^◌, ◌∷◌, [], ℕ, IfOk, All, map, length};
+ghost use Rattle.mv_values.specs.declared.patch.Patch.TheVariants as patch;
+ghost use Rattle.mv_values.specs.Columns.{column_of};
+ghost use Rattle.mv_values.specs.Patching.{applied};
+ghost use Rattle.mv_values.specs.Tables.{columns_at, key_columns};
+ghost use Rattle.mv_catalog.specs.declared.resolved.RSetItem.{RSetItem};
+ghost use Rattle.mv_catalog.specs.declared.resolved.RStmt.TheOpen as layer;
+ghost use Rattle.mv_alone.specs.Changes.{set_row};
+ghost use Rattle.mv_alone.specs.Outcome.{Gives};
+ghost use Rattle.mv_recorded.specs.Doing.{changed, write};
+ghost use Rattle.mv_undo.specs.Owning.{earlier};
+ghost use Rattle.mv_view.specs.Viewing.{MayAnswer};
+ghost use Rattle.mv_effect.specs.Effects.{IsEffect, changes};
+ghost use Rattle.mv_effect.specs.Looking.{Stands, IsSameView, PassesOn, different, AskedAtMost, AskedFor};
+ghost use Rattle.mv_effect.specs.Naming.{Tests, Sets};
+
+use crate::asking::{key_pred, pred_from, right_columns};
+use crate::effect::{Effect, asking, ended, one, stopped};
+use crate::here::Here;
+use crate::looking::{is_any, seen};
+use crate::numbers::narrow;
+use crate::setting::found_alone;
+use mv_alone::env::column_value;
+use mv_alone::find::{columns_in, key_in};
+use mv_alone::made::{made_row, row_after_set, under_key};
+use mv_alone::state::{Env, Stop};
+use mv_catalog::resolved::{RCond, RExpr, RSetItem};
+use mv_values::calls::End;
+use mv_values::copied::Copied;
+use mv_values::list::List;
+use mv_values::memory::NoMemory;
+use mv_values::patch::{Assign, Patch, Write};
+use mv_values::rows::{Keyed, Rows};
+use mv_values::schema::TableInfo;
+use mv_values::value::{Key, Value};
+use mv_view::view::{Refused, View};
+use std::alloc::Global;
+
+/// INSERT writes its row, and sets `:found`. It ends the call where a value is stopped, and where a row with the key is
+/// there, which it asks for by a test of each key column.
+pub(crate) fn insert<V: View>(
+    alloc: Global,
+    here: &Here<'_>,
+    table: u16,
+    exprs: &[RExpr],
+    view: &mut V,
+) -> Result<Effect, Refused>
+    requires stands { Stands here.now.tables.now (earlier here.now.number here.now.undo.now) (V.sight view.old).database }
+    requires found { here.now.env.now.found < 2 ^ 16 }
+    requires table { table < length here.now.tables.now }
+    ensures effect { IfOk result (IsEffect here.now.tables.now (layer.Insert table exprs.now) here.now.env.now (applied (earlier here.now.number here.now.undo.now) (V.sight view.old).database)) }
+    ensures refused { MayAnswer (V.sight view.old) (V.sight view.new) result }
+    ensures stale { PassesOn (V.sight view.old) (V.sight view.new) result }
+    ensures same { IsSameView (V.sight view.old) (V.sight view.new) }
+    ensures bounded { AskedAtMost 1 (different (earlier here.now.number here.now.undo.now)) (V.sight view.old) (V.sight view.new) }
+    ensures looks { IfOk result (λ e. AskedFor e.preds (earlier here.now.number here.now.undo.now) (V.sight view.old) (V.sight view.new)) }
+{
+    let row = match made_row(alloc, columns_in(here.tables, table), exprs, here.env) {
+        Ok(row) => row,
+        Err(stop) => return stopped(alloc, List::new(alloc), stop),
+    };
+    let pred = key_pred(alloc, here.tables, table, row.as_slice())?;
+    let rows = seen(alloc, here, &pred, view)?;
+    if is_any(&rows) {
+        return Ok(ended(alloc, one(alloc, pred)?, End::Duplicate));
+    }
+    let item = under_key(alloc, key_in(here.tables, table), row)?;
+    let mut effect = asking(alloc, pred)?;
+    effect.sets = found_alone(alloc, here.env, true)?;
+    effect.writes.push(Write {
+        table: narrow(table),
+        key: item.key,
+        patch: Patch::Insert(item.row),
+    })?;
+    Ok(effect)
+}
+
+/// That the rows are no more.
+fn deletes(alloc: Global, table: u8, rows: Rows) -> Result<List<Write>, NoMemory>
+    ensures { IfOk result (λ writes. writes ≡ map (λ item. write table item.key patch.Delete) rows) }
+{
+    let mut writes = List::new(alloc);
+    for item in rows.into_items() {
+        writes.push(Write {
+            table,
+            key: item.key,
+            patch: Patch::Delete,
+        })?;
+    }
+    Ok(writes)
+}
+
+/// DELETE takes out the rows that match, and sets `:found`. It ends the call where a right side of WHERE is stopped.
+pub(crate) fn delete<V: View>(
+    alloc: Global,
+    here: &Here<'_>,
+    table: u16,
+    conds: &[RCond],
+    view: &mut V,
+) -> Result<Effect, Refused>
+    requires stands { Stands here.now.tables.now (earlier here.now.number here.now.undo.now) (V.sight view.old).database }
+    requires found { here.now.env.now.found < 2 ^ 16 }
+    requires tests { Tests here.now.tables.now table conds.now }
+    ensures effect { IfOk result (IsEffect here.now.tables.now (layer.Delete table conds.now) here.now.env.now (applied (earlier here.now.number here.now.undo.now) (V.sight view.old).database)) }
+    ensures refused { MayAnswer (V.sight view.old) (V.sight view.new) result }
+    ensures stale { PassesOn (V.sight view.old) (V.sight view.new) result }
+    ensures same { IsSameView (V.sight view.old) (V.sight view.new) }
+    ensures bounded { AskedAtMost 1 (different (earlier here.now.number here.now.undo.now)) (V.sight view.old) (V.sight view.new) }
+    ensures looks { IfOk result (λ e. AskedFor e.preds (earlier here.now.number here.now.undo.now) (V.sight view.old) (V.sight view.new)) }
+{
+    let pred = match pred_from(alloc, here.tables, table, conds, &[], here.env) {
+        Ok(pred) => pred,
+        Err(stop) => return stopped(alloc, List::new(alloc), stop),
+    };
+    let rows = seen(alloc, here, &pred, view)?;
+    let mut effect = asking(alloc, pred)?;
+    effect.sets = found_alone(alloc, here.env, is_any(&rows))?;
+    effect.writes = deletes(alloc, narrow(table), rows)?;
+    Ok(effect)
+}
+
+/// The columns of SET, with their values in the row behind it.
+fn assigns(alloc: Global, items: &[RSetItem], row: &[Value]) -> Result<List<Assign>, NoMemory>
+    requires { All (λ (i : RSetItem). i.column < 256) items.now }
+    ensures { IfOk result (λ all. patch.Set all ≡ changed items.now row.now) }
+{
+    let mut all = List::new(alloc);
+    for item in items {
+        all.push(Assign {
+            column: narrow(item.column),
+            value: column_value(alloc, row, item.column)?,
+        })?;
+    }
+    Ok(all)
+}
+
+/// What SET makes of the row under a key.
+fn set_write(
+    alloc: Global,
+    table: u8,
+    key: &Key,
+    items: &[RSetItem],
+    row: &[Value],
+) -> Result<Write, NoMemory>
+    requires { All (λ (i : RSetItem). i.column < 256) items.now }
+    ensures { IfOk result (λ w. w ≡ write table key.now (changed items.now row.now)) }
+{
+    Ok(Write {
+        table,
+        key: key.copy(alloc)?,
+        patch: Patch::Set(assigns(alloc, items, row)?),
+    })
+}
+
+/// What SET makes of the rows. Stopped by the first row where it is, so that nothing is written.
+fn set_writes(
+    alloc: Global,
+    tables: &[TableInfo],
+    table: u16,
+    env: &Env,
+    items: &[RSetItem],
+    rows: &[Keyed],
+) -> Result<List<Write>, Stop>
+    requires table { table < 256 }
+    requires columns { All (λ (i : RSetItem). i.column < 256) items.now }
+    ensures { Gives result (changes table items.now (λ row. set_row (columns_at tables.now table) (key_columns tables.now table) env.now row items.now row) rows.now) }
+{
+    let columns = columns_in(tables, table);
+    let keys = key_in(tables, table);
+    let mut writes = List::new(alloc);
+    for item in rows {
+        let row = row_after_set(alloc, columns, keys, env, &item.row, items)?;
+        writes.push(set_write(alloc, narrow(table), &item.key, items, row.as_slice())?)?;
+    }
+    Ok(writes)
+}
+
+/// UPDATE writes the rows that match, each made anew, and sets `:found`. It ends the call where a right side of WHERE or
+/// of SET is stopped, or a text is longer than its column allows.
+pub(crate) fn update<V: View>(
+    alloc: Global,
+    here: &Here<'_>,
+    table: u16,
+    items: &[RSetItem],
+    conds: &[RCond],
+    view: &mut V,
+) -> Result<Effect, Refused>
+    requires stands { Stands here.now.tables.now (earlier here.now.number here.now.undo.now) (V.sight view.old).database }
+    requires found { here.now.env.now.found < 2 ^ 16 }
+    requires tests { Tests here.now.tables.now table conds.now }
+    requires sets { Sets here.now.tables.now table items.now }
+    ensures effect { IfOk result (IsEffect here.now.tables.now (layer.Update table items.now conds.now) here.now.env.now (applied (earlier here.now.number here.now.undo.now) (V.sight view.old).database)) }
+    ensures refused { MayAnswer (V.sight view.old) (V.sight view.new) result }
+    ensures stale { PassesOn (V.sight view.old) (V.sight view.new) result }
+    ensures same { IsSameView (V.sight view.old) (V.sight view.new) }
+    ensures bounded { AskedAtMost 1 (different (earlier here.now.number here.now.undo.now)) (V.sight view.old) (V.sight view.new) }
+    ensures looks { IfOk result (λ e. AskedFor e.preds (earlier here.now.number here.now.undo.now) (V.sight view.old) (V.sight view.new)) }
+{
+    let asked = right_columns(alloc, items)?;
+    let pred = match pred_from(alloc, here.tables, table, conds, asked.as_slice(), here.env) {
+        Ok(pred) => pred,
+        Err(stop) => return stopped(alloc, List::new(alloc), stop),
+    };
+    let rows = seen(alloc, here, &pred, view)?;
+    let writes = match set_writes(alloc, here.tables, table, here.env, items, rows.as_slice()) {
+        Ok(writes) => writes,
+        Err(stop) => return stopped(alloc, one(alloc, pred)?, stop),
+    };
+    let mut effect = asking(alloc, pred)?;
+    effect.sets = found_alone(alloc, here.env, is_any(&rows))?;
+    effect.writes = writes;
+    Ok(effect)
+}

@@ -1,0 +1,89 @@
+//! What a statement does by itself.
+
+ghost use Rattle.std.specs.Prelude.{◌≡◌, ◌∷◌, [], IfOk};
+ghost use Rattle.mv_effect.specs.Effects.{empty, only_asks, only_end, IsStopped};
+
+use mv_alone::state::Stop;
+use mv_record::record::Slot;
+use mv_values::calls::End;
+use mv_values::list::List;
+use mv_values::memory::NoMemory;
+use mv_values::patch::Write;
+use mv_values::pred::Pred;
+use mv_values::txt::Txt;
+use mv_values::value::Row;
+use mv_view::view::Refused;
+use std::alloc::Global;
+
+/// What a statement does by itself: its record without its place, its controller and what it reads.
+#[derive(Drop)]
+pub struct Effect {
+    /// What it asks of tables. None where it looks at no rows.
+    pub preds: List<Pred>,
+    /// What it sets: its targets in the order of the text, and `:found` last.
+    pub sets: List<Slot>,
+    /// The rows that a FOR goes through.
+    pub rows: List<Row>,
+    /// What it changes, in key order.
+    pub writes: List<Write>,
+    /// What PRINT adds.
+    pub line: Option<Txt>,
+    /// Why the call ends here.
+    pub end: Option<End>,
+}
+
+/// No effect.
+pub(crate) fn nothing(alloc: Global) -> Effect
+    ensures { result ≡ empty }
+{
+    Effect {
+        preds: List::new(alloc),
+        sets: List::new(alloc),
+        rows: List::new(alloc),
+        writes: List::new(alloc),
+        line: None,
+        end: None,
+    }
+}
+
+/// A list of one predicate.
+pub(crate) fn one(alloc: Global, pred: Pred) -> Result<List<Pred>, NoMemory>
+    ensures { IfOk result (λ preds. preds ≡ pred ∷ []) }
+{
+    let mut preds = List::new(alloc);
+    preds.push(pred)?;
+    Ok(preds)
+}
+
+/// The effect of a statement that only asks this.
+pub(crate) fn asking(alloc: Global, pred: Pred) -> Result<Effect, NoMemory>
+    ensures { IfOk result (λ e. e ≡ only_asks pred) }
+{
+    let mut effect = nothing(alloc);
+    effect.preds = one(alloc, pred)?;
+    Ok(effect)
+}
+
+/// The effect of a statement that asks this and ends the call.
+pub(crate) fn ended(alloc: Global, preds: List<Pred>, end: End) -> Effect
+    ensures { result ≡ only_end preds end }
+{
+    Effect {
+        preds,
+        sets: List::new(alloc),
+        rows: List::new(alloc),
+        writes: List::new(alloc),
+        line: None,
+        end: Some(end),
+    }
+}
+
+/// The answer for a statement that was stopped when it had asked this.
+pub(crate) fn stopped(alloc: Global, preds: List<Pred>, stop: Stop) -> Result<Effect, Refused>
+    ensures { IsStopped preds stop result }
+{
+    match stop {
+        Stop::Memory => Err(Refused::NoMemory),
+        Stop::Ended(end) => Ok(ended(alloc, preds, end)),
+    }
+}

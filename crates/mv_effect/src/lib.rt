@@ -1,0 +1,15 @@
+//! What one statement does by itself, read over a view of the database and the call's own writes.
+#![tactic(auto)]
+
+mod asking;
+mod changing;
+pub mod effect;
+mod here;
+mod looking;
+mod numbers;
+mod plainly;
+mod selecting;
+mod setting;
+pub mod statement;
+#[cfg(test)]
+mod tests;

@@ -1,0 +1,59 @@
+//! Numbers of tables and columns in one byte.
+
+ghost use Rattle.std.specs.Prelude.{◌≡◌, ◌<◌, ◌≤◌, ◌==◌, IfOk, IfSome, All, take, length};
+ghost use Rattle.std.specs.List.{list_any, position};
+ghost use Rattle.mv_recorded.specs.Reading.{each_once};
+
+use mv_values::list::List;
+use mv_values::memory::NoMemory;
+use std::alloc::Global;
+
+/// The number of a table or a column, of which there are no more than 256.
+pub(crate) fn narrow(number: u16) -> u8
+    requires { number < 256 }
+    ensures { result ≡ number }
+{
+    number as u8
+}
+
+/// Whether the number stands among the first ones.
+pub(crate) fn is_among_first(numbers: &[u16], first: usize, number: u16) -> bool
+    ensures { result ≡ list_any (λ n. n == number) (take first numbers.now) }
+{
+    numbers.iter().take(first).any(|n| *n == number)
+}
+
+/// The columns, each once, where it first stands.
+#[tactic(auto, using(crate::proofs::Once::once_there, crate::proofs::Once::once_new))]
+pub(crate) fn columns_once(alloc: Global, columns: &[u16]) -> Result<List<u8>, NoMemory>
+    requires { All (λ c. c < 256) columns.now }
+    ensures { IfOk result (λ once. once ≡ each_once columns.now) }
+{
+    let mut once = List::new(alloc);
+    for (i, column) in columns.iter().enumerate() {
+        if is_among_first(columns, i, *column) {
+            continue;
+        }
+        once.push(narrow(*column))?;
+    }
+    Ok(once)
+}
+
+/// The place of a column in the key.
+fn place_in(keys: &[u8], column: u16) -> Option<usize>
+    ensures place { result ≡ position (λ k. k == column) keys.now }
+    ensures within { IfSome result (λ place. place < length keys.now) }
+{
+    keys.iter().position(|k| *k as u16 == column)
+}
+
+/// The place of a column in the key, from 0, where it is a key column.
+pub(crate) fn key_place(keys: &[u8], column: u16) -> Option<u8>
+    requires { length keys.now ≤ 256 }
+    ensures { result ≡ position (λ k. k == column) keys.now }
+{
+    match place_in(keys, column) {
+        Some(place) => Some(place as u8),
+        None => None,
+    }
+}

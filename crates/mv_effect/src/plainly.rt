@@ -1,0 +1,102 @@
+//! Statements that look at no table.
+
+ghost use Rattle.std.specs.Prelude.{◌≡◌, ◌<◌, ◌^◌, ℕ, IfOk};
+ghost use Rattle.mv_catalog.specs.declared.resolved.RStmt.{RStmt};
+ghost use Rattle.mv_catalog.specs.declared.resolved.RStmt.TheOpen as layer;
+ghost use Rattle.mv_alone.specs.Alone.{is_turn};
+ghost use Rattle.mv_view.specs.Viewing.{Sight, MayAnswer};
+ghost use Rattle.mv_effect.specs.Effects.{IsEffectAnywhere};
+ghost use Rattle.mv_effect.specs.Looking.{PassesOn};
+
+use crate::effect::{Effect, ended, nothing, stopped};
+use crate::setting::found_alone;
+use mv_alone::env::copied_turns;
+use mv_alone::expr::{value, values};
+use mv_alone::line::line_from;
+use mv_alone::state::Env;
+use mv_catalog::resolved::RExpr;
+use mv_record::record::Slot;
+use mv_values::calls::End;
+use mv_values::copied::Copied;
+use mv_values::list::List;
+use mv_values::txt::Txt;
+use mv_values::value::Row;
+use mv_view::view::Refused;
+use std::alloc::Global;
+
+/// SET sets its variable, and ends the call where its right side is stopped.
+#[tactic(auto, using(mv_recorded::proofs::Slots::set_has))]
+pub(crate) fn assign(alloc: Global, to: u16, right: &RExpr, env: &Env) -> Result<Effect, Refused>
+    ensures effect { IfOk result (IsEffectAnywhere (layer.Assign to right.now) env.now) }
+    ensures refused { (sight : Sight) → MayAnswer sight sight result }
+    ensures stale { (sight : Sight) → PassesOn sight sight result }
+{
+    let value = match value(alloc, right, env, &[]) {
+        Ok(value) => value,
+        Err(stop) => return stopped(alloc, List::new(alloc), stop),
+    };
+    let mut effect = nothing(alloc);
+    effect.sets.push(Slot { slot: to, value })?;
+    Ok(effect)
+}
+
+/// IF has no effect of its own, and ends the call where its condition is stopped.
+pub(crate) fn branch(alloc: Global, test: &RExpr, env: &Env) -> Result<Effect, Refused>
+    ensures effect { IfOk result (λ e. (ys ns : List RStmt) → IsEffectAnywhere (layer.Branch test.now ys ns) env.now e) }
+    ensures refused { (sight : Sight) → MayAnswer sight sight result }
+    ensures stale { (sight : Sight) → PassesOn sight sight result }
+{
+    match value(alloc, test, env, &[]) {
+        Ok(_) => Ok(nothing(alloc)),
+        Err(stop) => stopped(alloc, List::new(alloc), stop),
+    }
+}
+
+/// PRINT adds a line, and ends the call where one of its values is stopped.
+pub(crate) fn print(alloc: Global, exprs: &[RExpr], env: &Env) -> Result<Effect, Refused>
+    ensures effect { IfOk result (IsEffectAnywhere (layer.Print exprs.now) env.now) }
+    ensures refused { (sight : Sight) → MayAnswer sight sight result }
+    ensures stale { (sight : Sight) → PassesOn sight sight result }
+{
+    let values = match values(alloc, exprs, env) {
+        Ok(values) => values,
+        Err(stop) => return stopped(alloc, List::new(alloc), stop),
+    };
+    let mut effect = nothing(alloc);
+    effect.line = Some(line_from(alloc, values.as_slice())?);
+    Ok(effect)
+}
+
+/// ROLLBACK ends the call.
+pub(crate) fn rollback(alloc: Global, reason: &Txt) -> Result<Effect, Refused>
+    ensures effect { IfOk result (λ e. (env : Env) → IsEffectAnywhere (layer.Rollback reason.now) env e) }
+    ensures refused { (sight : Sight) → MayAnswer sight sight result }
+    ensures stale { (sight : Sight) → PassesOn sight sight result }
+{
+    let reason = reason.copy(alloc)?;
+    Ok(ended(alloc, List::new(alloc), End::Own(reason)))
+}
+
+/// Whether a loop has a turn.
+pub(crate) fn has_turn(rows: &List<Row>) -> bool
+    ensures { result ≡ is_turn rows.now }
+{
+    match rows.as_slice().first() {
+        None => false,
+        Some(_) => true,
+    }
+}
+
+/// FOR over a ROWS parameter goes through its rows, and sets `:found` to whether there is one.
+pub(crate) fn for_rows(alloc: Global, over: u16, env: &Env) -> Result<Effect, Refused>
+    requires { env.now.found < 2 ^ 16 }
+    ensures effect { IfOk result (λ e. (row : ℕ) (body : List RStmt) → IsEffectAnywhere (layer.ForRows row over body) env.now e) }
+    ensures refused { (sight : Sight) → MayAnswer sight sight result }
+    ensures stale { (sight : Sight) → PassesOn sight sight result }
+{
+    let rows = copied_turns(alloc, env, over)?;
+    let mut effect = nothing(alloc);
+    effect.sets = found_alone(alloc, env, has_turn(&rows))?;
+    effect.rows = rows;
+    Ok(effect)
+}

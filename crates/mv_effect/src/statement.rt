@@ -1,0 +1,121 @@
+//! What one statement does by itself.
+
+ghost use Rattle.std.specs.Prelude.{◌<◌, ◌≤◌, ◌^◌, IfOk, All, length};
+ghost use Rattle.mv_values.specs.Patching.{applied};
+ghost use Rattle.mv_values.specs.Tables.{KeysStand};
+ghost use Rattle.mv_catalog.specs.declared.resolved.RStmt.{out-RStmt};
+ghost use Rattle.mv_catalog.specs.Text.{IsTable};
+ghost use Rattle.mv_undo.specs.Owning.{earlier};
+ghost use Rattle.mv_view.specs.Viewing.{MayAnswer};
+ghost use Rattle.mv_effect.specs.Effects.{IsEffect};
+ghost use Rattle.mv_effect.specs.Looking.{IsDatabase, IsSameView, PassesOn, different, AskedAtMost, AskedFor};
+ghost use Rattle.mv_effect.specs.Naming.{NamesColumns};
+
+use crate::changing::{delete, insert, update};
+use crate::effect::Effect;
+use crate::here::Here;
+use crate::plainly::{assign, branch, for_rows, print, rollback};
+use crate::selecting::{for_select, select, total};
+use mv_alone::state::Env;
+use mv_catalog::resolved::RStmt;
+use mv_undo::undo::Undo;
+use mv_values::schema::TableInfo;
+use mv_view::view::{Refused, View};
+use std::alloc::Global;
+
+/// What a statement does by itself where these variables stand before it, read over the view and the own writes of
+/// records with smaller numbers. An IF only evaluates its condition, and a FOR only fixes its rows. The view is asked
+/// once for the rows of the table that the statement looks at, and at most once for each key that these writes are on.
+///
+/// `NoMemory` where no memory was found, `Stale` where the view answered so.
+pub fn effect<V: View>(
+    alloc: Global,
+    tables: &[TableInfo],
+    statement: &RStmt,
+    env: &Env,
+    undo: &Undo,
+    number: usize,
+    view: &mut V,
+) -> Result<Effect, Refused>
+    requires few { length tables.now ≤ 64 }
+    requires tables { All IsTable tables.now }
+    requires names { NamesColumns tables.now (out-RStmt statement.now) }
+    requires found { env.now.found < 2 ^ 16 }
+    requires database { IsDatabase tables.now (V.sight view.old).database }
+    requires behind { KeysStand tables.now (applied (earlier number undo.now) (V.sight view.old).database) }
+    ensures effect { IfOk result (IsEffect tables.now (out-RStmt statement.now) env.now (applied (earlier number undo.now) (V.sight view.old).database)) }
+    ensures refused { MayAnswer (V.sight view.old) (V.sight view.new) result }
+    ensures stale { PassesOn (V.sight view.old) (V.sight view.new) result }
+    ensures same { IsSameView (V.sight view.old) (V.sight view.new) }
+    ensures bounded { AskedAtMost 1 (different (earlier number undo.now)) (V.sight view.old) (V.sight view.new) }
+    ensures looks { IfOk result (λ e. AskedFor e.preds (earlier number undo.now) (V.sight view.old) (V.sight view.new)) }
+{
+    let here = Here {
+        tables,
+        env,
+        undo,
+        number,
+    };
+    match statement {
+        RStmt::Assign { to, right } => assign(alloc, *to, right, env),
+        RStmt::Select {
+            columns,
+            to,
+            table,
+            conds,
+            sorts,
+            offset,
+        } => select(
+            alloc,
+            &here,
+            columns.as_slice(),
+            to.as_slice(),
+            *table,
+            conds.as_slice(),
+            sorts.as_slice(),
+            offset,
+            view,
+        ),
+        RStmt::Total {
+            agg,
+            to,
+            table,
+            conds,
+        } => total(alloc, &here, *agg, *to, *table, conds.as_slice(), view),
+        RStmt::ForSelect {
+            distinct,
+            columns,
+            table,
+            conds,
+            sorts,
+            ..
+        } => for_select(
+            alloc,
+            &here,
+            *distinct,
+            columns.as_slice(),
+            *table,
+            conds.as_slice(),
+            sorts.as_slice(),
+            view,
+        ),
+        RStmt::ForRows { rows, .. } => for_rows(alloc, *rows, env),
+        RStmt::Branch { test, .. } => branch(alloc, test, env),
+        RStmt::Insert { table, values } => insert(alloc, &here, *table, values.as_slice(), view),
+        RStmt::Update {
+            table,
+            items,
+            conds,
+        } => update(
+            alloc,
+            &here,
+            *table,
+            items.as_slice(),
+            conds.as_slice(),
+            view,
+        ),
+        RStmt::Delete { table, conds } => delete(alloc, &here, *table, conds.as_slice(), view),
+        RStmt::Print { values } => print(alloc, values.as_slice(), env),
+        RStmt::Rollback { reason } => rollback(alloc, reason),
+    }
+}
