@@ -19,7 +19,10 @@ use Rattle.mv_recorded.specs.Asking.{on}
 use Rattle.mv_recorded.specs.Doing.{itself, before_turns}
 use Rattle.mv_catalog.specs.Statements.{size}
 use Rattle.mv_recorded.specs.Recorded.{Tells, Site, tell, tell_step, tell_turns, tell_loop, own_record, in_turn, within_loop, told}
-use Rattle.mv_recorded.proofs.Counted.{firsts}
+
+pub firsts : {B : Type 0} (f : RStmt → B) (ss : List RStmt) → map (λ (s : RStmt × B). s.0) (map (λ s. (s, f s)) ss) ≡ ss
+firsts f [] = refl
+firsts f (s ∷ ss) = ap (λ l. s ∷ l) (firsts f ss)
 
 -- what may be said of a run: the state that it began with, its records, and the state or the end that it came to
 abbrev pub Claim : Type 1

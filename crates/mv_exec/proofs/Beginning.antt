@@ -1,0 +1,109 @@
+-- A call before its first statement.
+use Rattle.std.proofs.Common.{◌≡◌, ℕ, ◌<◌, Bool, true, false, ◌||◌, nat_lt, List, [], ◌∷◌, ◌++◌, Option, None, length, take, slice_set, if◌then◌else◌, refl, sym, ap, subst, ◌∙◌, arith}
+use Rattle.std.proofs.lemmas.Bool.Decides.{nat_tests}
+use Rattle.mv_values.specs.declared.calls.Call.{Call}
+use Rattle.mv_values.specs.declared.schema.TableInfo.{TableInfo}
+use Rattle.mv_catalog.specs.declared.resolved.ProcInfo.{ProcInfo}
+use Rattle.mv_catalog.specs.declared.resolved.RStmt.{RStmt}
+use Rattle.mv_alone.specs.declared.state.Env.{Env}
+use Rattle.mv_alone.specs.TableAfter.{Tables, entered, begun}
+use Rattle.mv_record.specs.declared.record.Record.{Record}
+use Rattle.mv_recorded.specs.Recorded.{outside, recorded}
+use Rattle.mv_undo.specs.declared.owned.Owned.{Owned}
+use Rattle.mv_undo.specs.Owning.{before}
+use Rattle.mv_exec.specs.declared.places.Place.{Place}
+use Rattle.mv_exec.specs.declared.task.Task.{Task}
+use Rattle.mv_exec.specs.Left.{left}
+use Rattle.mv_exec.specs.Places.{block_of, holding, some_run, jobs_left, is_left, AreFilled, AreNumbered, EndsLeft}
+use Rattle.mv_exec.specs.Tasks.{standing, first_place, none_in, run_of, IsTask, AreHeldBefore, BeginsCall, unbegun}
+use Rattle.mv_exec.proofs.Leaving.{all_left}
+use Rattle.mv_exec.proofs.Going.{same_run}
+use Rattle.mv_exec.proofs.Placing.{no_last, same_last}
+use Rattle.mv_exec.proofs.Turning.{is_below}
+
+filled : (proc : ProcInfo) (body : List RStmt) → proc.body ≡ body → AreFilled proc None (standing (none_in body) (first_place ∷ []))
+filled proc [] e = tt
+filled proc (s ∷ ss) e = (subst (λ (ss : List RStmt). 0 < length ss) (sym e) (omega arith), tt)
+
+numbered : (proc : ProcInfo) (body : List RStmt) → AreNumbered proc None (standing (none_in body) (first_place ∷ []))
+numbered proc [] = tt
+numbered proc (s ∷ ss) = ((omega arith, omega arith), tt)
+
+ends : (proc : ProcInfo) (body : List RStmt) → proc.body ≡ body → EndsLeft proc [] (standing (none_in body) (first_place ∷ []))
+ends proc [] e outer p h = absurd (no_last outer p (sym h))
+ends proc (s ∷ ss) e outer p h =
+    let k : ([] ≡ outer) × (first_place ≡ p) = same_last [] outer first_place p h in
+    subst (λ q. is_left [] (block_of proc (holding proc None outer) q) q ≡ true) k.1
+    (ap (λ (bl : List RStmt). is_left [] bl first_place) e ∙ ap (λ b. b || false) (is_below 0 (length (s ∷ ss)) (omega arith)))
+
+holders : (b : Bool) → AreHeldBefore 0 (standing b (first_place ∷ []))
+holders true = tt
+holders false = (tt, tt)
+
+jobs : (proc : ProcInfo) (body : List RStmt) → proc.body ≡ body → jobs_left proc [] (standing (none_in body) (first_place ∷ [])) ≡ some_run outside 1 proc.body ++ []
+jobs proc [] e = ap (λ ss. some_run outside 1 ss ++ []) (sym e)
+jobs proc (s ∷ ss) e = refl
+
+pub unbegun_task : (proc : ProcInfo) (params : ℕ) (env : Env) (first : Option Env) (empty : Bool) → empty ≡ none_in proc.body → IsTask proc (unbegun params env first empty)
+unbegun_task proc params env first empty e =
+    subst (λ b. IsTask proc (unbegun params env first b)) (sym e)
+    (record {
+      filled = filled proc proc.body refl;
+      numbers = numbered proc proc.body;
+      ends = ends proc proc.body refl;
+      holders = holders (none_in proc.body);
+      some = omega arith;
+      empty = refl;
+      undo = refl;
+      definers = λ x. refl;
+      counted = omega arith;
+    })
+
+pub unbegun_run : (proc : ProcInfo) (tables : List TableInfo) (call : Call) (db : Tables) (params : ℕ) (env : Env) (first : Option Env) (empty : Bool) → empty ≡ none_in proc.body
+    → env ≡ entered proc call → params ≡ length call.arguments → run_of proc tables (unbegun params env first empty) db ≡ recorded tables proc call db
+unbegun_run proc tables call db params env first empty e v n =
+    subst (λ b. run_of proc tables (unbegun params env first b) db ≡ recorded tables proc call db) (sym e)
+    (subst (λ w. run_of proc tables (unbegun params w first (none_in proc.body)) db ≡ recorded tables proc call db) (sym v)
+    (subst (λ m. run_of proc tables (unbegun m (entered proc call) first (none_in proc.body)) db ≡ recorded tables proc call db) (sym n)
+    (ap (λ js. left tables (length call.arguments) js [] (begun proc call db)) (jobs proc proc.body refl)
+    ∙ (sym (same_run tables (length call.arguments) outside 1 proc.body [] [] (begun proc call db)) ∙ all_left tables proc call db))))
+
+-- no write was made by a record before the first
+below_zero : (n : ℕ) → nat_lt n 0 ≡ false
+below_zero n = grind (arith, nat_tests)
+
+pub none_before : (all : List Owned) → before 0 all ≡ []
+none_before [] = refl
+none_before (o ∷ all) = ap (λ b. if b then o ∷ before 0 all else before 0 all) (below_zero o.number) ∙ none_before all
+
+pub only_first : (ps : List Place) → 0 < length ps → slice_set (take 1 ps) 0 first_place ≡ first_place ∷ []
+only_first [] lt = absurd (omega (arith, lt))
+only_first (p ∷ ps) lt = refl
+
+-- a task whose parts are those of a call that has done nothing
+abbrev pub task_of : ℕ → Env → Option Env → List Record → List Owned → List (Option ℕ) → List Place → Bool → Task
+task_of params env first records undo definers places empty =
+    record { parameters = params; env = env; first = first; records = records; executed = 0; undo = undo; definers = definers; places = places; ended = empty; empty = empty }
+
+pub restarted : (P : Task → Type 0) (params : ℕ) (env was : Env) (first : Option Env) (records : List Record) (undo : List Owned) (definers : List (Option ℕ)) (places : List Place) (empty : Bool)
+    → env ≡ was → first ≡ None → records ≡ [] → undo ≡ [] → definers ≡ [] → places ≡ first_place ∷ [] → P (unbegun params was None empty) → P (task_of params env first records undo definers places empty)
+restarted P params env was first records undo definers places empty e f r u d q h =
+    subst (λ v. P (task_of params v first records undo definers places empty)) (sym e)
+    (subst (λ v. P (task_of params was v records undo definers places empty)) (sym f)
+    (subst (λ v. P (task_of params was None v undo definers places empty)) (sym r)
+    (subst (λ v. P (task_of params was None [] v definers places empty)) (sym u)
+    (subst (λ v. P (task_of params was None [] [] v places empty)) (sym d)
+    (subst (λ v. P (task_of params was None [] [] [] v empty)) (sym q) h)))))
+
+-- the same of a task that is such a one
+pub new_task : (proc : ProcInfo) (task : Task) (params : ℕ) (env : Env) (empty : Bool) → task ≡ unbegun params env None empty → empty ≡ none_in proc.body → IsTask proc task
+new_task proc task params env empty is none = subst (IsTask proc) (sym is) (unbegun_task proc params env None empty none)
+
+pub new_begins : (proc : ProcInfo) (call : Call) (task : Task) (params : ℕ) (env : Env) (empty : Bool) → task ≡ unbegun params env None empty → env ≡ entered proc call → params ≡ length call.arguments
+    → BeginsCall task proc call
+new_begins proc call task params env empty is e n = subst (λ t. BeginsCall t proc call) (sym is) (e, n)
+
+pub new_run : (proc : ProcInfo) (call : Call) (task : Task) (params : ℕ) (env : Env) (empty : Bool) → task ≡ unbegun params env None empty → empty ≡ none_in proc.body → env ≡ entered proc call
+    → params ≡ length call.arguments → (tables : List TableInfo) (db : Tables) → run_of proc tables task db ≡ recorded tables proc call db
+new_run proc call task params env empty is none e n tables db =
+    subst (λ t. run_of proc tables t db ≡ recorded tables proc call db) (sym is) (unbegun_run proc tables call db params env None empty none e n)

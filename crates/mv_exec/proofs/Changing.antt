@@ -1,0 +1,84 @@
+-- Changes of variables.
+use Rattle.std.proofs.Common.{◌≡◌, ℕ, zero, suc, ◌+◌, ◌<◌, ◌≤◌, max, List, [], ◌∷◌, map, length, slice_set, refl, sym, ap, subst, ◌∙◌, arith}
+use Rattle.mv_alone.specs.declared.state.Held.{Held}
+use Rattle.mv_alone.specs.declared.state.Env.{Env}
+use Rattle.mv_alone.specs.Env.{put_at, padded, unset, with_held}
+use Rattle.mv_alone.proofs.Putting.{pad_full, put_padded}
+use Rattle.mv_record.specs.declared.record.Slot.{Slot}
+use Rattle.mv_recorded.specs.Effect.{with_slots}
+use Rattle.mv_exec.specs.declared.changes.Change.{Change}
+use Rattle.mv_exec.specs.Env.{changed, room, of_slot}
+
+pub room_next : (most needed r : ℕ) → max most (max needed r) ≡ max (max most needed) r
+room_next most needed r = omega arith
+
+-- one variable set
+pub set_next : (env : Env) (x : ℕ) (h : Held) → x < length env.held → record env { held = slice_set env.held x h } ≡ with_held env x h
+set_next env x h lt =
+    ap (λ hs. record env { held = hs }) (ap (λ hs. slice_set hs x h) (sym (pad_full (x + 1) env.held (omega (arith, lt)))) ∙ put_padded env.held x h)
+
+pub room_here : (x r n : ℕ) → max (x + 1) r ≤ n → x < n
+room_here x r n le = omega (arith, le)
+
+pub room_stays : (x r n : ℕ) → max (x + 1) r ≤ n → r ≤ n
+room_stays x r n le = omega (arith, le)
+
+-- Room made first
+
+put_padded_in : (n : ℕ) (hs : List Held) (x : ℕ) (h : Held) → put_at (padded n hs) x h ≡ padded n (put_at hs x h)
+put_padded_in zero hs x h = refl
+put_padded_in (suc n) [] zero h = refl
+put_padded_in (suc n) [] (suc x) h = ap (λ l. unset ∷ l) (put_padded_in n [] x h)
+put_padded_in (suc n) (g ∷ gs) zero h = refl
+put_padded_in (suc n) (g ∷ gs) (suc x) h = ap (λ l. g ∷ l) (put_padded_in n gs x h)
+
+put_long : (hs : List Held) (x : ℕ) (h : Held) → max (x + 1) (length hs) ≤ length (put_at hs x h)
+put_long [] zero h = omega arith
+put_long [] (suc x) h = let k : max (x + 1) 0 ≤ length (put_at [] x h) = put_long [] x h in omega arith
+put_long (g ∷ gs) zero h = omega arith
+put_long (g ∷ gs) (suc x) h = let k : max (x + 1) (length gs) ≤ length (put_at gs x h) = put_long gs x h in omega arith
+
+changed_padded : (cs : List Change) (n : ℕ) (env : Env) → changed cs (record env { held = padded n env.held }) ≡ (let e : Env = changed cs env in record e { held = padded n e.held })
+changed_padded [] n env = refl
+changed_padded (c ∷ cs) n env =
+    ap (λ hs. changed cs (record env { held = hs })) (put_padded_in n env.held c.slot c.held) ∙ changed_padded cs n (with_held env c.slot c.held)
+
+changed_long : (cs : List Change) (env : Env) → max (room cs) (length env.held) ≤ length (changed cs env).held
+changed_long [] env = omega arith
+changed_long (c ∷ cs) env =
+    let k : max (room cs) (length (put_at env.held c.slot c.held)) ≤ length (changed cs (with_held env c.slot c.held)).held = changed_long cs (with_held env c.slot c.held) in
+    let l : max (c.slot + 1) (length env.held) ≤ length (put_at env.held c.slot c.held) = put_long env.held c.slot c.held in
+    omega arith
+
+pub padded_changed : (cs : List Change) (env : Env) → changed cs (record env { held = padded (room cs) env.held }) ≡ changed cs env
+padded_changed cs env =
+    let e : Env = changed cs env in
+    let k : max (room cs) (length env.held) ≤ length (changed cs env).held = changed_long cs env in
+    changed_padded cs (room cs) env ∙ ap (λ hs. record e { held = hs }) (pad_full (room cs) e.held (omega arith))
+
+-- what slots tell of
+pub slots_changed : (ss : List Slot) (env : Env) → changed (map of_slot ss) env ≡ with_slots ss env
+slots_changed [] env = refl
+slots_changed (s ∷ ss) env = slots_changed ss (with_held env s.slot (of_slot s).held)
+
+-- A step through changes
+
+set_len : (hs : List Held) (x : ℕ) (h : Held) → length (slice_set hs x h) ≡ length hs
+set_len [] x h = refl
+set_len (g ∷ gs) zero h = refl
+set_len (g ∷ gs) (suc x) h = ap suc (set_len gs x h)
+
+room_all : (env : Env) (cs rest : List Change) (c : Change) → cs ≡ c ∷ rest → room cs ≤ length env.held → max (c.slot + 1) (room rest) ≤ length env.held
+room_all env cs rest c e le = subst (λ ds. room ds ≤ length env.held) e le
+
+pub set_step : (env : Env) (new : List Held) (cs rest : List Change) (c : Change) → cs ≡ c ∷ rest → room cs ≤ length env.held → new ≡ slice_set env.held c.slot c.held
+    → changed rest (record env { held = new }) ≡ changed cs env
+set_step env new cs rest c e le is =
+    ap (λ hs. changed rest (record env { held = hs })) is
+    ∙ (ap (changed rest) (set_next env c.slot c.held (room_here c.slot (room rest) (length env.held) (room_all env cs rest c e le))) ∙ ap (λ ds. changed ds env) (sym e))
+
+pub room_step : (env : Env) (new : List Held) (cs rest : List Change) (c : Change) → cs ≡ c ∷ rest → room cs ≤ length env.held → new ≡ slice_set env.held c.slot c.held → room rest ≤ length new
+room_step env new cs rest c e le is =
+    let k : room rest ≤ length env.held = room_stays c.slot (room rest) (length env.held) (room_all env cs rest c e le) in
+    let l : length new ≡ length env.held = ap length is ∙ set_len env.held c.slot c.held in
+    omega arith

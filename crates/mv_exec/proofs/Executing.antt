@@ -1,0 +1,149 @@
+-- The record of a statement that is executed is the next one.
+use Rattle.std.proofs.Common.{◌≡◌, ℕ, ◌+◌, ◌-◌, ◌<◌, List, [], ◌∷◌, ◌++◌, Some, None, Result, Ok, Err, All, map, length, drop, refl, sym, ap, subst, ◌∙◌, arith, append-nil}
+use Rattle.std.proofs.lemmas.List.{map-append}
+use Rattle.mv_values.specs.declared.patch.Write.{Write}
+use Rattle.mv_values.specs.declared.schema.TableInfo.{TableInfo}
+use Rattle.mv_values.specs.Patching.{applied}
+use Rattle.mv_values.specs.Tables.{KeysStand}
+use Rattle.mv_catalog.specs.declared.resolved.ProcInfo.{ProcInfo}
+use Rattle.mv_catalog.specs.declared.resolved.RStmt.{RStmt, out-RStmt}
+use Rattle.mv_catalog.specs.declared.resolved.RStmt.TheOpen.{RStmt-F}
+use Rattle.mv_catalog.specs.Statements.{size}
+use Rattle.mv_values.specs.declared.calls.End.{End}
+use Rattle.mv_alone.specs.declared.state.State.{State}
+use Rattle.mv_alone.specs.TableAfter.{Tables}
+use Rattle.mv_record.specs.declared.record.Record.{Record}
+use Rattle.mv_record.specs.Runs.{writes_in}
+use Rattle.mv_record.specs.Writes.{AreRising}
+use Rattle.mv_record.proofs.Patching.{rising_applied}
+use Rattle.mv_recorded.specs.Asking.{on}
+use Rattle.mv_recorded.specs.Doing.{itself}
+use Rattle.mv_recorded.specs.Effect.{TellsEffect, HasColumns}
+use Rattle.mv_recorded.specs.Recorded.{Site, own_record, outside}
+use Rattle.mv_recorded.proofs.Effects.{effect_known}
+use Rattle.mv_recorded.proofs.Standing.{itself_stands}
+use Rattle.mv_undo.specs.declared.owned.Owned.{Owned}
+use Rattle.mv_undo.specs.Owning.{before, earlier}
+use Rattle.mv_view.specs.Viewing.{Sight}
+use Rattle.mv_effect.specs.declared.effect.Effect.{Effect}
+use Rattle.mv_effect.specs.Effects.{effect_of, IsEffect}
+use Rattle.mv_effect.specs.Looking.{AskedFor}
+use Rattle.mv_exec.specs.declared.places.Place.{Place}
+use Rattle.mv_exec.specs.declared.task.Ahead.{Ahead}
+use Rattle.mv_exec.specs.declared.task.Task.{Task}
+use Rattle.mv_exec.specs.Keeping.{owned, all_owned}
+use Rattle.mv_exec.specs.Left.{run, left, inside}
+use Rattle.mv_exec.specs.Places.{block_of, holding, site_in, site_of, turns_of, jobs_left}
+use Rattle.mv_exec.specs.Tasks.{places_of, state_of, left_of, IsTask, Foresees, IsNext}
+use Rattle.mv_exec.specs.Steps.{HasAdded, ahead_in}
+use Rattle.mv_exec.specs.Running.{record_of, HasRun}
+use Rattle.mv_exec.proofs.Defining.{before_owned}
+use Rattle.mv_exec.proofs.Stepping.{one_more, owned_earlier}
+use Rattle.mv_exec.proofs.Adding.{StandsAt, left_next, applied_both, writes_more}
+
+-- its own writes
+
+all_before : (number : ℕ) (all : List Owned) → All (λ o. o.number < number) all → before number all ≡ all
+all_before number all h = ap (before number) (sym (append-nil all)) ∙ before_owned number all [] h
+
+owned_writes : (n : ℕ) (ws : List Write) → map (λ (o : Owned). o.write) (owned n ws) ≡ ws
+owned_writes n [] = refl
+owned_writes n (w ∷ ws) = ap (λ l. w ∷ l) (owned_writes n ws)
+
+all_writes : (n : ℕ) (rs : List Record) → map (λ (o : Owned). o.write) (all_owned n rs) ≡ writes_in rs
+all_writes n [] = refl
+all_writes n (r ∷ rs) =
+    map-append (λ (o : Owned). o.write) (owned n r.writes) (all_owned (n + 1) rs)
+    ∙ (ap (λ ws. ws ++ map (λ (o : Owned). o.write) (all_owned (n + 1) rs)) (owned_writes n r.writes) ∙ ap (λ ws. r.writes ++ ws) (all_writes (n + 1) rs))
+
+-- the earlier own writes of the next statement are those of all records
+pub own_writes : (proc : ProcInfo) (task : Task) → IsTask proc task → earlier (length task.records) task.undo ≡ writes_in task.records
+own_writes proc task t =
+    ap (earlier (length task.records)) t.undo
+    ∙ (ap (map (λ (o : Owned). o.write)) (all_before (length task.records) (all_owned 0 task.records) (owned_earlier task.records)) ∙ all_writes 0 task.records)
+
+-- behind them the keys stand
+pub keys_before : (proc : ProcInfo) (tables : List TableInfo) (task : Task) (db : Tables) → IsTask proc task → KeysStand tables (applied (writes_in task.records) db)
+    → KeysStand tables (applied (earlier (length task.records) task.undo) db)
+keys_before proc tables task db t h = subst (λ ws. KeysStand tables (applied ws db)) (sym (own_writes proc task t)) h
+
+-- The record
+
+same_ahead : (a b : Ahead) → a.spot ≡ b.spot → a.parent ≡ b.parent → a.reads ≡ b.reads → a ≡ b
+same_ahead a b s p r =
+    ap (λ v. record a { spot = v }) s ∙ (ap (λ v. record a { spot = b.spot; parent = v }) p ∙ ap (λ v. record b { reads = v }) r)
+
+-- the next record is this one, and so it tells the effect of its statement
+pub record LeavesNext (proc : ProcInfo) (tables : List TableInfo) (task : Task) (db : Tables) (y : RStmt-F RStmt) (r : Record) : Type 0 where
+  pub tail : List Record
+  pub left : left_of proc tables task db ≡ r ∷ tail
+  pub tells : TellsEffect r (state_of task db) (itself tables y (state_of task db))
+
+-- the record of the next statement's effect is the next one
+effect_next : (proc : ProcInfo) (tables : List TableInfo) (task : Task) (db : Tables) (outer : List Place) (p : Place) (s : RStmt) (ahead : Ahead) (e : Effect)
+    → IsTask proc task → StandsAt proc (places_of task) outer p s → HasColumns (out-RStmt s) → AreRising db → IsNext proc task (Some ahead)
+    → IsEffect tables (out-RStmt s) task.env (applied (earlier (length task.records) task.undo) db) e → LeavesNext proc tables task db (out-RStmt s) (record_of ahead e)
+effect_next proc tables task db outer p s ahead e t at has rise next effect =
+    let st : State = state_of task db in
+    let site : Site = site_in p.holder (site_of outside outer) in
+    let own : Record = own_record tables task.parameters (out-RStmt s) p.number site task.records st in
+    let rest : List Record = on (itself tables (out-RStmt s) st) (left tables task.parameters
+    (inside (length task.records) (out-RStmt s) p.number site st ++ run site (p.number + size s) (drop (p.at + 1) (block_of proc (holding proc None outer) p))
+    ∷ (turns_of task.records (site_of outside outer) (block_of proc (holding proc None outer) p) p.first p.holder ++ jobs_left proc task.records outer)) (task.records ++ own ∷ [])) in
+    let leaves : left_of proc tables task db ≡ own ∷ rest = left_next proc tables task db outer p s at in
+    let foreseen : Foresees ahead (own ∷ rest) = subst (Foresees ahead) leaves (next tables db) in
+    let is : e ≡ effect_of tables (out-RStmt s) st = subst (λ ws. IsEffect tables (out-RStmt s) task.env (applied ws db) e) (own_writes proc task t) effect st.lines in
+    let same : own ≡ record_of ahead e = ap (λ a. record_of a (effect_of tables (out-RStmt s) st)) (same_ahead (ahead_in own) ahead foreseen.0 foreseen.1 foreseen.2) ∙ ap (record_of ahead) (sym is) in
+    record {
+      tail = rest;
+      left = leaves ∙ ap (λ r. r ∷ rest) same;
+      tells = subst (λ r. TellsEffect r st (itself tables (out-RStmt s) st)) same
+          (effect_known tables task.parameters (out-RStmt s) p.number site task.records st has (rising_applied (writes_in task.records) db rise));
+    }
+
+-- behind it the keys stand
+keys_told : (tables : List TableInfo) (y : RStmt-F RStmt) (r : Record) (st : State) (out : Result State End) → itself tables y st ≡ out → KeysStand tables st.tables → TellsEffect r st out
+    → KeysStand tables (applied r.writes st.tables)
+keys_told tables y r st (Ok next) is keys tells = subst (KeysStand tables) (ap (λ (n : State). n.tables) tells.1) (itself_stands tables y st next keys is)
+keys_told tables y r st (Err e) is keys tells = subst (λ ws. KeysStand tables (applied ws st.tables)) (sym tells.writes) keys
+
+-- What was executed
+
+-- a record more was counted
+pub counts_one : (proc : ProcInfo) (old : Task) (r : Record) (new : Task) (all number : ℕ) → HasAdded proc old r new → all ≡ length new.records → number ≡ length old.records
+    → new.executed + (all - number) ≡ old.executed + 1
+counts_one proc old r new all number h is was =
+    let more : length new.records ≡ length old.records + 1 = ap length h.records ∙ one_more old.records r in
+    omega (arith, more, is, was, h.executed)
+
+-- the next record of the run was added
+pub executed_run : (proc : ProcInfo) (tables : List TableInfo) (old new : Task) (before after : Sight) (n : ℕ) (outer : List Place) (p : Place) (s : RStmt) (ahead : Ahead) (e : Effect) (r : Record)
+    → IsTask proc old → StandsAt proc (places_of old) outer p s → HasColumns (out-RStmt s) → AreRising before.database → IsNext proc old (Some ahead)
+    → IsEffect tables (out-RStmt s) old.env (applied (earlier (length old.records) old.undo) before.database) e
+    → AskedFor e.preds (earlier (length old.records) old.undo) before after
+    → r ≡ record_of ahead e → n ≡ old.executed + 1 → HasAdded proc old r new → HasRun tables proc old (record new { executed = n }) before after
+executed_run proc tables old new before after n outer p s ahead e r t at has rise next effect asked is count added =
+    let it : LeavesNext proc tables old before.database (out-RStmt s) (record_of ahead e) = effect_next proc tables old before.database outer p s ahead e t at has rise next effect in
+    let left : left_of proc tables old before.database ≡ r ∷ it.tail = it.left ∙ ap (λ q. q ∷ it.tail) (sym is) in
+    record {
+      next = r;
+      records = added.records;
+      left = left ∙ ap (λ rs. r ∷ rs) (sym (added.left tables before.database it.tail rise left));
+      executed = count;
+      parameters = added.parameters;
+      beginning = added.beginning;
+      asked = subst (λ (q : Record). AskedFor q.preds (writes_in old.records) before after) (sym is) (subst (λ ws. AskedFor e.preds ws before after) (own_writes proc old t) asked);
+    }
+
+-- behind it the keys stand
+pub executed_keys : (proc : ProcInfo) (tables : List TableInfo) (old new : Task) (db : Tables) (outer : List Place) (p : Place) (s : RStmt) (ahead : Ahead) (e : Effect) (r : Record)
+    → IsTask proc old → StandsAt proc (places_of old) outer p s → HasColumns (out-RStmt s) → AreRising db → IsNext proc old (Some ahead)
+    → IsEffect tables (out-RStmt s) old.env (applied (earlier (length old.records) old.undo) db) e → KeysStand tables (applied (writes_in old.records) db)
+    → r ≡ record_of ahead e → HasAdded proc old r new → KeysStand tables (applied (writes_in new.records) db)
+executed_keys proc tables old new db outer p s ahead e r t at has rise next effect keys is added =
+    let it : LeavesNext proc tables old db (out-RStmt s) (record_of ahead e) = effect_next proc tables old db outer p s ahead e t at has rise next effect in
+    let behind : KeysStand tables (applied r.writes (applied (writes_in old.records) db)) =
+    subst (λ (q : Record). KeysStand tables (applied q.writes (applied (writes_in old.records) db))) (sym is)
+    (keys_told tables (out-RStmt s) (record_of ahead e) (state_of old db) (itself tables (out-RStmt s) (state_of old db)) refl keys it.tells) in
+    subst (KeysStand tables)
+    (sym (ap (λ (rs : List Record). applied (writes_in rs) db) added.records ∙ (ap (λ ws. applied ws db) (writes_more old.records r) ∙ applied_both (writes_in old.records) r.writes db))) behind

@@ -1,0 +1,326 @@
+-- A call behind one record more.
+use Rattle.std.proofs.Common.{◌≡◌, ◌≢◌, ℕ, ◌+◌, ◌<◌, ◌≤◌, Bool, true, false, List, [], ◌∷◌, ◌++◌, Option, Some, None, All, length, take, slice_get, slice_set, if◌then◌else◌, ◌==◌, refl, sym, ap, subst, ◌∙◌, arith, append-nil, length-append}
+use Rattle.std.specs.Prelude.{IsSome}
+use Rattle.std.specs.List.{list_any}
+use Rattle.std.specs.Option.{is_some}
+use Rattle.mv_catalog.specs.Statements.{size, size_of}
+use Rattle.mv_values.specs.declared.calls.End.{End}
+use Rattle.mv_values.specs.declared.schema.TableInfo.{TableInfo}
+use Rattle.mv_catalog.specs.declared.resolved.ProcInfo.{ProcInfo}
+use Rattle.mv_catalog.specs.declared.resolved.RStmt.{RStmt, out-RStmt}
+use Rattle.mv_catalog.specs.declared.resolved.RStmt.TheOpen.{RStmt-F, Assign, Select, Total, ForSelect, ForRows, Branch, Insert, Update, Delete, Print, Rollback}
+use Rattle.mv_alone.specs.declared.state.Env.{Env}
+use Rattle.mv_alone.specs.TableAfter.{Tables}
+use Rattle.mv_record.specs.declared.record.Record.{Record}
+use Rattle.mv_record.specs.declared.record.Slot.{Slot}
+use Rattle.mv_recorded.specs.Effect.{with_slots, HasColumns}
+use Rattle.mv_recorded.specs.Reading.{last_place, sets_variable}
+use Rattle.mv_values.specs.declared.patch.Write.{Write}
+use Rattle.mv_undo.specs.declared.owned.Owned.{Owned}
+use Rattle.mv_undo.specs.Owning.{before}
+use Rattle.mv_exec.specs.declared.places.Holder.{Holder}
+use Rattle.mv_exec.specs.declared.places.Holder.TheVariants as by
+use Rattle.mv_exec.specs.declared.places.Place.{Place}
+use Rattle.mv_exec.specs.declared.task.Task.{Task}
+use Rattle.mv_exec.specs.Left.{left}
+use Rattle.mv_exec.specs.Env.{begun_with}
+use Rattle.mv_exec.specs.Keeping.{all_owned, owned, widened, define, slot_room}
+use Rattle.mv_exec.specs.Moves.{entered, looped, inner_places, moved_on, Chooses, walked}
+use Rattle.mv_exec.specs.Places.{body_in, branch_in, held, holding, AreFilled, IsNumbered, AreNumbered}
+use Rattle.mv_exec.specs.Tasks.{none_in, places_of, beginning, state_of, left_of, definer_in, IsTask, IsHeldBefore, AreHeldBefore, IsTrimmed}
+use Rattle.mv_exec.specs.Steps.{held_with, with_record, HasFronts, IsWidened, HasAdded, TellsLeft, stepped}
+use Rattle.mv_exec.proofs.Ending.{ends_exactly}
+use Rattle.mv_exec.proofs.Found.{record_found}
+use Rattle.mv_exec.proofs.Placing.{no_last}
+use Rattle.mv_exec.proofs.Turning.{filled_last, filled_outer, filled_more, held_last, held_outer, held_more}
+use Rattle.mv_exec.proofs.Trimming.{every_front, filled_front, held_front}
+use Rattle.mv_exec.proofs.Numbering.{numbered_on}
+use Rattle.mv_exec.proofs.Defining.{define_at, widened_same, widened_long, last_more, owned_more, owned_below, before_owned}
+use Rattle.mv_exec.proofs.Adding.{StandsAt, get_last, held_statement, goes_on, ends_all}
+
+-- Lists
+
+-- an item of a list with others around it
+pub set_between : {A : Type 0} (xs ys : List A) (x y : A) → slice_set ((xs ++ x ∷ []) ++ ys) (length xs) y ≡ (xs ++ y ∷ []) ++ ys
+set_between [] ys x y = refl
+set_between (z ∷ zs) ys x y = ap (λ l. z ∷ l) (set_between zs ys x y)
+
+-- Where a call stands behind a record
+
+-- the places behind a statement: the one behind it, and the one inside it
+abbrev pub going : ℕ → List Place → Place → RStmt → Bool → List Place
+going number outer p s b = (outer ++ moved_on (size s) p ∷ []) ++ inner_places number p.number b (out-RStmt s)
+
+entered_filled : (proc : ProcInfo) (os : List Place) (number : ℕ) (b : Bool) (first : ℕ) (block : List RStmt) → held proc (by.Branch number b) (holding proc None os) ≡ block
+    → AreFilled proc None os → AreFilled proc None (os ++ entered (by.Branch number b) first block)
+entered_filled proc os number b first [] e h = subst (AreFilled proc None) (sym (append-nil os)) h
+entered_filled proc os number b first (s ∷ ss) e h =
+    filled_more proc None os (record { holder = by.Branch number b; first = first; at = 0; number = first }) h (subst (λ (bl : List RStmt). 0 < length bl) (sym e) (omega arith))
+
+looped_filled : (proc : ProcInfo) (os : List Place) (number x first : ℕ) (body : List RStmt) → held proc (by.Loop number x 0) (holding proc None os) ≡ body
+    → AreFilled proc None os → AreFilled proc None (os ++ looped number x first body)
+looped_filled proc os number x first [] e h = subst (AreFilled proc None) (sym (append-nil os)) h
+looped_filled proc os number x first (s ∷ ss) e h =
+    filled_more proc None os (record { holder = by.Loop number x 0; first = first; at = length (s ∷ ss); number = first }) h (subst (λ (bl : List RStmt). 0 < length bl) (sym e) (omega arith))
+
+-- a place inside a statement lies in a list that isn't empty
+inner_filled : (proc : ProcInfo) (os : List Place) (s : RStmt) (y : RStmt-F RStmt) (number n : ℕ) (b : Bool) → holding proc None os ≡ Some s → out-RStmt s ≡ y
+    → AreFilled proc None os → AreFilled proc None (os ++ inner_places number n b y)
+inner_filled proc os s (Assign x e) number n b at is h = subst (AreFilled proc None) (sym (append-nil os)) h
+inner_filled proc os s (Select cs xs t conds sorts offset) number n b at is h = subst (AreFilled proc None) (sym (append-nil os)) h
+inner_filled proc os s (Total agg x t conds) number n b at is h = subst (AreFilled proc None) (sym (append-nil os)) h
+inner_filled proc os s (ForSelect x once cs t conds sorts body) number n b at is h = looped_filled proc os number x (n + 1) body (ap (held proc (by.Loop number x 0)) at ∙ ap body_in is) h
+inner_filled proc os s (ForRows x y body) number n b at is h = looped_filled proc os number x (n + 1) body (ap (held proc (by.Loop number x 0)) at ∙ ap body_in is) h
+inner_filled proc os s (Branch e ys ns) number n true at is h = entered_filled proc os number true (n + 1) ys (ap (held proc (by.Branch number true)) at ∙ ap (branch_in true) is) h
+inner_filled proc os s (Branch e ys ns) number n false at is h = entered_filled proc os number false (n + 1 + size_of ys) ns (ap (held proc (by.Branch number false)) at ∙ ap (branch_in false) is) h
+inner_filled proc os s (Insert t es) number n b at is h = subst (AreFilled proc None) (sym (append-nil os)) h
+inner_filled proc os s (Update t items conds) number n b at is h = subst (AreFilled proc None) (sym (append-nil os)) h
+inner_filled proc os s (Delete t conds) number n b at is h = subst (AreFilled proc None) (sym (append-nil os)) h
+inner_filled proc os s (Print es) number n b at is h = subst (AreFilled proc None) (sym (append-nil os)) h
+inner_filled proc os s (Rollback reason) number n b at is h = subst (AreFilled proc None) (sym (append-nil os)) h
+
+holder_later : (n : ℕ) (h : Holder) → IsHeldBefore n h → IsHeldBefore (n + 1) h
+holder_later n by.Procedure h = tt
+holder_later n (by.Branch number b) h = omega (arith, h)
+holder_later n (by.Loop number x k) h = omega (arith, h)
+
+held_later : (n : ℕ) (ps : List Place) → AreHeldBefore n ps → AreHeldBefore (n + 1) ps
+held_later n [] h = tt
+held_later n (p ∷ ps) h = (holder_later n p.holder h.0, held_later n ps h.1)
+
+entered_held : (n : ℕ) (os : List Place) (b : Bool) (first : ℕ) (block : List RStmt) → AreHeldBefore (n + 1) os → AreHeldBefore (n + 1) (os ++ entered (by.Branch n b) first block)
+entered_held n os b first [] h = subst (AreHeldBefore (n + 1)) (sym (append-nil os)) h
+entered_held n os b first (s ∷ ss) h = held_more (n + 1) os (record { holder = by.Branch n b; first = first; at = 0; number = first }) h (omega arith)
+
+looped_held : (n : ℕ) (os : List Place) (x first : ℕ) (body : List RStmt) → AreHeldBefore (n + 1) os → AreHeldBefore (n + 1) (os ++ looped n x first body)
+looped_held n os x first [] h = subst (AreHeldBefore (n + 1)) (sym (append-nil os)) h
+looped_held n os x first (s ∷ ss) h = held_more (n + 1) os (record { holder = by.Loop n x 0; first = first; at = length (s ∷ ss); number = first }) h (omega arith)
+
+-- a place inside a statement is held by its record
+inner_held : (n : ℕ) (os : List Place) (m : ℕ) (b : Bool) (y : RStmt-F RStmt) → AreHeldBefore (n + 1) os → AreHeldBefore (n + 1) (os ++ inner_places n m b y)
+inner_held n os m b (Assign x e) h = subst (AreHeldBefore (n + 1)) (sym (append-nil os)) h
+inner_held n os m b (Select cs xs t conds sorts offset) h = subst (AreHeldBefore (n + 1)) (sym (append-nil os)) h
+inner_held n os m b (Total agg x t conds) h = subst (AreHeldBefore (n + 1)) (sym (append-nil os)) h
+inner_held n os m b (ForSelect x once cs t conds sorts body) h = looped_held n os x (m + 1) body h
+inner_held n os m b (ForRows x y body) h = looped_held n os x (m + 1) body h
+inner_held n os m true (Branch e ys ns) h = entered_held n os true (m + 1) ys h
+inner_held n os m false (Branch e ys ns) h = entered_held n os false (m + 1 + size_of ys) ns h
+inner_held n os m b (Insert t es) h = subst (AreHeldBefore (n + 1)) (sym (append-nil os)) h
+inner_held n os m b (Update t items conds) h = subst (AreHeldBefore (n + 1)) (sym (append-nil os)) h
+inner_held n os m b (Delete t conds) h = subst (AreHeldBefore (n + 1)) (sym (append-nil os)) h
+inner_held n os m b (Print es) h = subst (AreHeldBefore (n + 1)) (sym (append-nil os)) h
+inner_held n os m b (Rollback reason) h = subst (AreHeldBefore (n + 1)) (sym (append-nil os)) h
+
+going_filled : (proc : ProcInfo) (number : ℕ) (ps outer : List Place) (p : Place) (s : RStmt) (b : Bool) → StandsAt proc ps outer p s → AreFilled proc None ps → AreFilled proc None (going number outer p s b)
+going_filled proc number ps outer p s b at h =
+    let were : AreFilled proc None (outer ++ p ∷ []) = subst (AreFilled proc None) at.are h in
+    inner_filled proc (outer ++ moved_on (size s) p ∷ []) s (out-RStmt s) number p.number b (held_statement proc ps outer p s (size s) at) refl
+    (filled_more proc None outer (moved_on (size s) p) (filled_outer proc None outer p were) (filled_last proc None outer p were))
+
+going_held : (proc : ProcInfo) (number : ℕ) (ps outer : List Place) (p : Place) (s : RStmt) (b : Bool) → StandsAt proc ps outer p s → AreHeldBefore number ps → AreHeldBefore (number + 1) (going number outer p s b)
+going_held proc number ps outer p s b at h =
+    let were : AreHeldBefore (number + 1) (outer ++ p ∷ []) = held_later number (outer ++ p ∷ []) (subst (AreHeldBefore number) at.are h) in
+    inner_held number (outer ++ moved_on (size s) p ∷ []) p.number b (out-RStmt s)
+    (held_more (number + 1) outer (moved_on (size s) p) (held_outer (number + 1) outer p were) (held_last (number + 1) outer p were))
+
+going_some : (number : ℕ) (outer : List Place) (p : Place) (s : RStmt) (b : Bool) → 0 < length (going number outer p s b)
+going_some number [] p s b = omega arith
+going_some number (q ∷ outer) p s b = omega arith
+
+-- What a call keeps
+
+-- what it keeps wherever it stands
+pub record IsKept (proc : ProcInfo) (task : Task) : Type 0 where
+  pub filled : AreFilled proc None task.places
+  pub numbers : AreNumbered proc None task.places
+  pub holders : AreHeldBefore (length task.records) task.places
+  pub some : 0 < length task.places
+  pub empty : task.empty ≡ none_in proc.body
+  pub undo : task.undo ≡ all_owned 0 task.records
+  pub definers : (x : ℕ) → definer_in task.definers x ≡ last_place (sets_variable x) 0 task.records
+  pub counted : task.executed ≤ length task.records
+
+pub one_more : (rs : List Record) (r : Record) → length (rs ++ r ∷ []) ≡ length rs + 1
+one_more rs r = omega (arith, length-append rs (r ∷ []))
+
+owned_then : (rs : List Record) (r : Record) → all_owned 0 (rs ++ r ∷ []) ≡ all_owned 0 rs ++ owned (length rs) r.writes
+owned_then rs r = owned_more 0 rs r ∙ ap (λ n. all_owned 0 rs ++ owned n r.writes) (let e : 0 + length rs ≡ length rs = omega arith in e)
+
+-- its own writes are those of its records, of earlier numbers
+pub owned_earlier : (rs : List Record) → All (λ o. o.number < length rs) (all_owned 0 rs)
+owned_earlier rs = subst (λ n. All (λ (o : Owned). o.number < n) (all_owned 0 rs)) (let e : 0 + length rs ≡ length rs = omega arith in e) (owned_below 0 rs)
+
+definers_then : (ds : List (Option ℕ)) (rs : List Record) (r : Record) → ((x : ℕ) → definer_in ds x ≡ last_place (sets_variable x) 0 rs)
+    → (x : ℕ) → definer_in (define (widened (slot_room r.sets) ds) r.sets (length rs)) x ≡ last_place (sets_variable x) 0 (rs ++ r ∷ [])
+definers_then ds rs r h x =
+    define_at (widened (slot_room r.sets) ds) r.sets (length rs) x (widened_long (slot_room r.sets) ds)
+    ∙ (ap (λ d. if list_any (λ (s : Slot). s.slot == x) r.sets then Some (length rs) else d) (widened_same (slot_room r.sets) ds x ∙ h x)
+    ∙ (ap (λ n. if list_any (λ (s : Slot). s.slot == x) r.sets then Some n else last_place (sets_variable x) 0 rs) (let e : length rs ≡ 0 + length rs = omega arith in e)
+    ∙ sym (last_more (sets_variable x) 0 rs r)))
+
+pub going_kept : (proc : ProcInfo) (task : Task) (r : Record) (env : Env) (outer : List Place) (p : Place) (s : RStmt) (b : Bool) → IsTask proc task → StandsAt proc (places_of task) outer p s
+    → IsKept proc (with_record task r env (going (length task.records) outer p s b))
+going_kept proc task r env outer p s b t at = record {
+  filled = going_filled proc (length task.records) (places_of task) outer p s b at t.filled;
+  numbers = numbered_on proc (places_of task) outer p s (length task.records) b t.numbers at;
+  holders = subst (λ n. AreHeldBefore n (going (length task.records) outer p s b)) (sym (one_more task.records r)) (going_held proc (length task.records) (places_of task) outer p s b at t.holders);
+  some = going_some (length task.records) outer p s b;
+  empty = t.empty;
+  undo = ap (λ os. os ++ owned (length task.records) r.writes) t.undo ∙ sym (owned_then task.records r);
+  definers = definers_then task.definers task.records r t.definers;
+  counted = omega (arith, t.counted, one_more task.records r);
+}
+
+trimmed_task : (proc : ProcInfo) (mid new : Task) → IsKept proc mid → IsTrimmed proc mid new → IsTask proc new
+trimmed_task proc mid new k t = subst (IsTask proc) (sym t.rest) (record {
+  filled = subst (AreFilled proc None) (sym t.front) (filled_front proc None t.stay mid.places k.filled);
+  numbers = subst (AreNumbered proc None) (sym t.front) (every_front (IsNumbered (size_of proc.body)) proc None t.stay mid.places k.numbers);
+  ends = t.ends;
+  holders = subst (AreHeldBefore (length mid.records)) (sym t.front) (held_front (length mid.records) t.stay mid.places k.holders);
+  some = t.some k.some;
+  empty = k.empty;
+  undo = k.undo;
+  definers = k.definers;
+  counted = k.counted;
+})
+
+ended_task : (proc : ProcInfo) (mid : Task) → IsKept proc mid → IsTask proc (record mid { ended = true })
+ended_task proc mid k = record {
+  filled = tt;
+  numbers = tt;
+  ends = λ outer p e. absurd (no_last outer p (sym e));
+  holders = tt;
+  some = k.some;
+  empty = k.empty;
+  undo = k.undo;
+  definers = k.definers;
+  counted = k.counted;
+}
+
+-- What is left
+
+begun_same : (first : Option Env) (a b : Env) → IsSome first → begun_with first a ≡ begun_with first b
+begun_same None a b h = cc
+begun_same (Some e) a b h = refl
+
+-- the call behind a record, before places are dropped
+abbrev pub behind_record : Task → Record → List Place → Place → RStmt → Bool → Task
+behind_record task r outer p s b = with_record task r (walked (out-RStmt s) r.rows (with_slots r.sets task.env)) (going (length task.records) outer p s b)
+
+trimmed_added : (proc : ProcInfo) (task : Task) (r : Record) (outer : List Place) (p : Place) (s : RStmt) (b : Bool) (new : Task)
+    → IsTask proc task → IsSome task.first → StandsAt proc (places_of task) outer p s → Chooses task.env b (out-RStmt s) → HasColumns (out-RStmt s) → r.end ≡ None
+    → IsTrimmed proc (behind_record task r outer p s b) new → HasAdded proc task r new
+trimmed_added proc task r outer p s b new t kept at chosen has ends trim =
+    let mid : Task = behind_record task r outer p s b in
+    record {
+      parameters = ap (λ (u : Task). u.parameters) trim.rest;
+      records = ap (λ (u : Task). u.records) trim.rest;
+      executed = ap (λ (u : Task). u.executed) trim.rest;
+      beginning = ap beginning trim.rest ∙ begun_same task.first mid.env task.env kept;
+      left = λ tables db tail rise leaves.
+          ap (λ u. left_of proc tables u db) trim.rest
+          ∙ (ap (λ js. left tables task.parameters js mid.records (state_of mid db)) trim.left
+          ∙ goes_on proc tables task db r tail outer p s b t at chosen has rise leaves ends);
+    }
+
+ended_added : (proc : ProcInfo) (task : Task) (r : Record) (outer : List Place) (p : Place) (s : RStmt) (b : Bool) (e : End)
+    → IsSome task.first → StandsAt proc (places_of task) outer p s → r.end ≡ Some e
+    → HasAdded proc task r (let mid : Task = behind_record task r outer p s b in record mid { ended = true })
+ended_added proc task r outer p s b e kept at ends = record {
+  parameters = refl;
+  records = refl;
+  executed = refl;
+  beginning = begun_same task.first (walked (out-RStmt s) r.rows (with_slots r.sets task.env)) task.env kept;
+  left = λ tables db tail rise leaves. sym (ends_all proc tables task db r tail outer p s e at leaves ends);
+}
+
+-- Something is left
+
+-- of a call that hasn't ended, whatever the database is
+pub some_left : (proc : ProcInfo) (task : Task) → IsTask proc task → task.ended ≡ false → (tables : List TableInfo) (db : Tables) → left_of proc tables task db ≢ []
+some_left proc task t live tables db none = let ended : task.ended ≡ true = (ends_exactly proc task t tables db).1 none in cc
+
+pub tells_left : (proc : ProcInfo) (task : Task) → IsTask proc task → TellsLeft proc task (stepped task.ended)
+tells_left proc task t = by task.ended refl
+  where
+    by : (b : Bool) → task.ended ≡ b → TellsLeft proc task (stepped b)
+    by true e = (e, λ tables db. (ends_exactly proc task t tables db).0 e)
+    by false e = (e, some_left proc task t e)
+
+-- The whole step
+
+-- that a record was added to this call at this statement, up to its end or the dropping of places
+pub record IsPast (proc : ProcInfo) (task : Task) (r : Record) (outer : List Place) (p : Place) (s : RStmt) (b : Bool) (mid new : Task) (ends : Bool) : Type 0 where
+  pub stands : StandsAt proc (places_of task) outer p s
+  pub is : mid ≡ behind_record task r outer p s b
+  pub ended : ends ≡ true → new ≡ record mid { ended = true }
+  pub trimmed : ends ≡ false → IsTrimmed proc mid new
+
+pub past_task : (proc : ProcInfo) (task : Task) (r : Record) (outer : List Place) (p : Place) (s : RStmt) (b : Bool) (mid new : Task) (ends : Bool) → IsTask proc task
+    → IsPast proc task r outer p s b mid new ends → IsTask proc new
+past_task proc task r outer p s b mid new ends t past = by ends refl
+  where
+    kept : IsKept proc mid
+    kept = subst (IsKept proc) (sym past.is) (going_kept proc task r (walked (out-RStmt s) r.rows (with_slots r.sets task.env)) outer p s b t past.stands)
+
+    by : (e : Bool) → ends ≡ e → IsTask proc new
+    by true e = subst (IsTask proc) (sym (past.ended e)) (ended_task proc mid kept)
+    by false e = trimmed_task proc mid new kept (past.trimmed e)
+
+pub past_added : (proc : ProcInfo) (task : Task) (r : Record) (outer : List Place) (p : Place) (s : RStmt) (b : Bool) (mid new : Task) (end : Option End) (ends : Bool) → IsTask proc task → IsSome task.first
+    → Chooses task.env b (out-RStmt s) → HasColumns (out-RStmt s) → r.end ≡ end → ends ≡ is_some end → IsPast proc task r outer p s b mid new ends → HasAdded proc task r new
+past_added proc task r outer p s b mid new None ends t kept chosen has end are past =
+    trimmed_added proc task r outer p s b new t kept past.stands chosen has end (subst (λ m. IsTrimmed proc m new) past.is (past.trimmed are))
+past_added proc task r outer p s b mid new (Some e) ends t kept chosen has end are past =
+    subst (HasAdded proc task r) (sym (past.ended are ∙ ap (λ (m : Task). record m { ended = true }) past.is)) (ended_added proc task r outer p s b e kept past.stands end)
+
+pub past_found : (proc : ProcInfo) (task : Task) (r : Record) (outer : List Place) (p : Place) (s : RStmt) (b : Bool) (mid new : Task) (ends : Bool)
+    → IsPast proc task r outer p s b mid new ends → new.env.found ≡ task.env.found
+past_found proc task r outer p s b mid new ends past = by ends refl
+  where
+    behind : mid.env.found ≡ task.env.found
+    behind = ap (λ (u : Task). u.env.found) past.is ∙ record_found (out-RStmt s) r.rows r.sets task.env
+
+    by : (e : Bool) → ends ≡ e → new.env.found ≡ task.env.found
+    by true e = ap (λ (u : Task). u.env.found) (past.ended e) ∙ behind
+    by false e = ap (λ (u : Task). u.env.found) (past.trimmed e).rest ∙ behind
+
+-- the parts of the call, one after another, make the call behind the record
+pub parts_behind : (proc : ProcInfo) (task : Task) (r : Record) (outer : List Place) (p : Place) (s : RStmt) (b : Bool) (held : Task) (env : Env) (inner : List Place) (behind : Place) (n at : ℕ)
+    (definers : List (Option ℕ)) (places : List Place)
+    → held ≡ held_with task r env (task.places ++ inner) → env ≡ walked (out-RStmt s) r.rows (with_slots r.sets task.env) → task.places ≡ outer ++ p ∷ []
+    → inner ≡ inner_places (length task.records) p.number b (out-RStmt s) → behind ≡ moved_on (size s) p → n ≡ length task.records → at ≡ length outer
+    → ((o i : List Place) (q : Place) → held.places ≡ (o ++ q ∷ []) ++ i → at ≡ length o → places ≡ (o ++ behind ∷ []) ++ i)
+    → ((q : Record) → slice_get held.records n ≡ Some q → definers ≡ define held.definers q.sets n)
+    → record held { definers = definers; places = places } ≡ behind_record task r outer p s b
+parts_behind proc task r outer p s b held env inner behind n at definers places h ran are inside moved num top put note =
+    let was : held.places ≡ (outer ++ p ∷ []) ++ inner = ap (λ (u : Task). u.places) h ∙ ap (λ ps. ps ++ inner) are in
+    let put_is : places ≡ going (length task.records) outer p s b =
+    put outer inner p was top ∙ (ap (λ q. (outer ++ q ∷ []) ++ inner) moved ∙ ap (λ is. (outer ++ moved_on (size s) p ∷ []) ++ is) inside) in
+    let last : slice_get held.records n ≡ Some r = ap (λ (u : Task). slice_get u.records n) h ∙ (ap (slice_get (task.records ++ r ∷ [])) num ∙ get_last task.records r) in
+    let noted : definers ≡ define (widened (slot_room r.sets) task.definers) r.sets (length task.records) =
+    note r last ∙ (ap (λ (u : Task). define u.definers r.sets n) h ∙ ap (define (widened (slot_room r.sets) task.definers) r.sets) num) in
+    ap (λ (u : Task). record u { definers = definers; places = places }) h
+    ∙ (ap (λ e. let u : Task = held_with task r e places in record u { definers = definers }) ran
+    ∙ (ap (λ ds. let u : Task = held_with task r (walked (out-RStmt s) r.rows (with_slots r.sets task.env)) places in record u { definers = ds }) noted
+    ∙ ap (with_record task r (walked (out-RStmt s) r.rows (with_slots r.sets task.env))) put_is))
+
+-- The call where memory ran out
+
+-- what was added is taken back
+pub undone : (old : Task) (definers : List (Option ℕ)) (undo after : List Owned) (new : Task) (records : List Record) (places : List Place) (number : ℕ) (ws : List Write)
+    → HasFronts (record old { definers = definers; undo = undo }) new → ((x : ℕ) → definer_in definers x ≡ definer_in old.definers x)
+    → records ≡ take (length old.records) new.records → places ≡ take (length old.places) new.places
+    → All (λ o. o.number < number) old.undo → undo ≡ old.undo ++ owned number ws → after ≡ before number new.undo
+    → IsWidened old (record new { records = records; places = places; undo = after })
+undone old definers undo after new records places number ws f same rs ps all more less =
+    let dropped : after ≡ old.undo = less ∙ (ap (λ (u : Task). before number u.undo) f.rest ∙ (ap (before number) more ∙ before_owned number old.undo ws all)) in
+    record {
+      rest =
+          ap (λ (u : Task). record u { records = records; places = places; undo = after }) f.rest
+          ∙ (ap (λ v. record old { definers = definers; records = v; places = places; undo = after }) (rs ∙ f.records)
+          ∙ (ap (λ v. record old { definers = definers; places = v; undo = after }) (ps ∙ f.places)
+          ∙ (ap (λ v. record old { definers = definers; undo = v }) dropped
+          ∙ ap (λ v. record old { definers = v }) (sym (ap (λ (u : Task). u.definers) f.rest)))));
+      same = λ x. ap (λ v. definer_in v x) (ap (λ (u : Task). u.definers) f.rest) ∙ same x;
+    }

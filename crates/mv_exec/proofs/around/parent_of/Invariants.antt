@@ -1,0 +1,7 @@
+use Rattle.std.proofs.Common.{◌≡◌, take}
+use Rattle.mv_recorded.specs.Recorded.{outside}
+use Rattle.mv_exec.specs.Places.{site_of}
+use Rattle.mv_exec.proofs.around.parent_of.Given as goal
+
+abbrev pub invariant-loop-place : goal.invariant-loop-place
+invariant-loop-place l = l.parent ≡ (site_of outside (take l.place-index l.places)).parent

@@ -1,0 +1,25 @@
+-- The variables of a running call, and those that it began with.
+use Rattle.std.specs.Prelude.{ℕ, ◌+◌, max, List, [], ◌∷◌, Option, Some, None}
+use Rattle.mv_alone.specs.declared.state.Env.{Env}
+use Rattle.mv_alone.specs.declared.state.Held.TheVariants.{Scalar}
+use Rattle.mv_alone.specs.Env.{with_held}
+use Rattle.mv_record.specs.declared.record.Slot.{Slot}
+use Rattle.mv_exec.specs.declared.changes.Change.{Change}
+
+-- the variables that a call began with: those that were kept, or the ones that it has
+abbrev pub begun_with : Option Env → Env → Env
+begun_with None env = env
+begun_with (Some first) env = first
+
+-- variables set, in order
+abbrev pub changed : List Change → Env → Env
+changed [] env = env
+changed (c ∷ cs) env = changed cs (with_held env c.slot c.held)
+
+-- as many variables as changes need
+abbrev pub room : List Change → ℕ
+room [] = 0
+room (c ∷ cs) = max (c.slot + 1) (room cs)
+
+abbrev pub of_slot : Slot → Change
+of_slot s = record { slot = s.slot; held = Scalar s.value }

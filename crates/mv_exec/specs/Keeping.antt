@@ -1,0 +1,35 @@
+-- What a call keeps of its records beside them.
+use Rattle.std.specs.Prelude.{◌≡◌, ℕ, zero, suc, ◌+◌, max, List, [], ◌∷◌, ◌++◌, Option, Some, None, map, slice_set}
+use Rattle.mv_values.specs.declared.patch.Write.{Write}
+use Rattle.mv_record.specs.declared.record.Record.{Record}
+use Rattle.mv_record.specs.declared.record.Slot.{Slot}
+use Rattle.mv_undo.specs.declared.owned.Owned.{Owned}
+
+-- the writes of a record of this number
+abbrev pub owned : ℕ → List Write → List Owned
+owned number ws = map (λ w. record { number = number; write = w }) ws
+
+-- those of records, of which the first has this number
+abbrev pub all_owned : ℕ → List Record → List Owned
+all_owned n [] = []
+all_owned n (r ∷ rs) = owned n r.writes ++ all_owned (n + 1) rs
+
+-- nothing but writes of a record of this number were added
+abbrev pub HasMore : ℕ → List Owned → List Owned → Type 0
+HasMore number old new = (ws : List Write) × (new ≡ old ++ owned number ws)
+
+-- the list with at least this many numbers
+abbrev pub widened : ℕ → List (Option ℕ) → List (Option ℕ)
+widened zero ds = ds
+widened (suc n) [] = None ∷ widened n []
+widened (suc n) (d ∷ ds) = d ∷ widened n ds
+
+-- the record of this number has set these variables
+abbrev pub define : List (Option ℕ) → List Slot → ℕ → List (Option ℕ)
+define ds [] number = ds
+define ds (s ∷ ss) number = define (slice_set ds s.slot (Some number)) ss number
+
+-- as many variables as these slots need
+abbrev pub slot_room : List Slot → ℕ
+slot_room [] = 0
+slot_room (s ∷ ss) = max (s.slot + 1) (slot_room ss)

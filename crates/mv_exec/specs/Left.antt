@@ -1,0 +1,47 @@
+-- What is left of a run from a place in it on: the records that it will still leave. This project's own.
+use Rattle.std.specs.Prelude.{ℕ, ◌+◌, List, [], ◌∷◌, ◌++◌, if◌then◌else◌}
+use Rattle.mv_catalog.specs.Statements.{size_of}
+use Rattle.mv_values.specs.declared.value.Value.{Value}
+use Rattle.mv_values.specs.declared.schema.TableInfo.{TableInfo}
+use Rattle.mv_catalog.specs.declared.resolved.RStmt.{RStmt}
+use Rattle.mv_catalog.specs.declared.resolved.RStmt.TheOpen.{RStmt-F, ForSelect, ForRows, Branch}
+use Rattle.mv_alone.specs.declared.state.State.{State}
+use Rattle.mv_alone.specs.Value.{value_of, is_so}
+use Rattle.mv_alone.specs.Alone.{Does, alone, each_turn}
+use Rattle.mv_record.specs.declared.record.Record.{Record}
+use Rattle.mv_recorded.specs.Asking.{on}
+use Rattle.mv_recorded.specs.Doing.{fixed_rows}
+use Rattle.mv_recorded.specs.Recorded.{Site, told, tell_turns, within, within_loop}
+
+-- a part of what is left: statements one after another, of which the first has this number in the text; or turns of a loop, of which
+-- the first has this number
+pub data Job : Type 0 where
+  run : Site → ℕ → List RStmt → Job
+  turns : Site → ℕ → ℕ → List RStmt → List (List Value) → ℕ → Job
+
+-- what it does to the state
+abbrev pub does_job : List TableInfo → Job → Does
+does_job tables (run site n ss) = alone tables ss
+does_job tables (turns site n x body rows k) = each_turn x (alone tables body) rows
+
+-- the records that it leaves behind others
+abbrev pub tells_job : List TableInfo → ℕ → Job → List Record → State → List Record
+tells_job tables params (run site n ss) before st = told tables params ss n site before st
+tells_job tables params (turns site n x body rows k) before st = tell_turns x (alone tables body) (told tables params body) rows k n site before st
+
+-- the records that these leave, one after another
+abbrev pub left : List TableInfo → ℕ → List Job → List Record → State → List Record
+left tables params [] before st = []
+left tables params (j ∷ js) before st =
+    let these : List Record = tells_job tables params j before st in
+    these ++ on (does_job tables j st) (left tables params js (before ++ these))
+
+-- what a statement holds, where its own record has this number, from the state before it: the branch that it takes, or all its turns
+abbrev pub inside : ℕ → RStmt-F RStmt → ℕ → Site → State → List Job
+inside number (ForSelect x once cs t conds sorts body) n site st =
+    on (fixed_rows (ForSelect x once cs t conds sorts body) st) (λ rows. turns (within_loop x number site) (n + 1) x body rows 1 ∷ [])
+inside number (ForRows x y body) n site st =
+    on (fixed_rows (ForRows x y body) st) (λ rows. turns (within_loop x number site) (n + 1) x body rows 1 ∷ [])
+inside number (Branch e ys ns) n site st =
+    on (value_of e st.env []) (λ v. (if is_so v then run (within number site) (n + 1) ys else run (within number site) (n + 1 + size_of ys) ns) ∷ [])
+inside number s n site st = []

@@ -1,0 +1,11 @@
+pub mod Left
+pub mod Places
+pub mod Env
+pub mod Keeping
+pub mod Tasks
+pub mod Moves
+pub mod Ahead
+pub mod Fresh
+pub mod Steps
+pub mod Running
+pub mod Graphs

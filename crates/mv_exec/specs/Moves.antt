@@ -1,0 +1,54 @@
+-- Where a record leads a running call. This project's own.
+use Rattle.std.specs.Prelude.{◌≡◌, ℕ, ◌+◌, Bool, List, [], ◌∷◌, Ok, length, if◌then◌else◌}
+use Rattle.mv_values.specs.declared.value.Value.{Value}
+use Rattle.mv_catalog.specs.Statements.{size_of}
+use Rattle.mv_catalog.specs.declared.resolved.RStmt.{RStmt}
+use Rattle.mv_catalog.specs.declared.resolved.RStmt.TheOpen.{RStmt-F, ForSelect, ForRows, Branch}
+use Rattle.mv_alone.specs.declared.state.Env.{Env}
+use Rattle.mv_alone.specs.declared.state.Held.TheVariants.{Turn}
+use Rattle.mv_alone.specs.Env.{with_held}
+use Rattle.mv_alone.specs.Value.{value_of, is_so}
+use Rattle.mv_exec.specs.declared.places.Holder.{Holder}
+use Rattle.mv_exec.specs.declared.places.Holder.TheVariants as by
+use Rattle.mv_exec.specs.declared.places.Place.{Place}
+
+-- before the first statement of a list that isn't empty
+abbrev pub entered : Holder → ℕ → List RStmt → List Place
+entered h first [] = []
+entered h first (s ∷ ss) = record { holder = h; first = first; at = 0; number = first } ∷ []
+
+-- before the first turn of a loop whose body isn't empty
+abbrev pub looped : ℕ → ℕ → ℕ → List RStmt → List Place
+looped number x first [] = []
+looped number x first (s ∷ ss) = record { holder = by.Loop number x 0; first = first; at = length (s ∷ ss); number = first } ∷ []
+
+-- the place inside a statement: its record and it itself have these numbers, and an IF chooses this branch
+abbrev pub inner_places : ℕ → ℕ → Bool → RStmt-F RStmt → List Place
+inner_places number n b (Branch e ys ns) = if b then entered (by.Branch number b) (n + 1) ys else entered (by.Branch number b) (n + 1 + size_of ys) ns
+inner_places number n b (ForSelect x once cs t conds sorts body) = looped number x (n + 1) body
+inner_places number n b (ForRows x y body) = looped number x (n + 1) body
+inner_places number n b s = []
+
+-- the place behind a statement of this size
+abbrev pub moved_on : ℕ → Place → Place
+moved_on size p = record p { at = p.at + 1; number = p.number + size }
+
+-- an IF chooses this branch, unless its condition faults
+abbrev pub Chooses : Env → Bool → RStmt-F RStmt → Type 0
+Chooses env b (Branch e ys ns) = (v : Value) → value_of e env [] ≡ Ok v → b ≡ is_so v
+Chooses env b s = Unit {0}
+
+-- the variables after turns of an empty body, which only set the loop's row
+abbrev pub run_through : ℕ → List (List Value) → Env → Env
+run_through x [] env = env
+run_through x (row ∷ rows) env = run_through x rows (with_held env x (Turn row))
+
+abbrev pub through : ℕ → List RStmt → List (List Value) → Env → Env
+through x [] rows env = run_through x rows env
+through x (s ∷ ss) rows env = env
+
+-- where a loop's body is empty its turns are over at once
+abbrev pub walked : RStmt-F RStmt → List (List Value) → Env → Env
+walked (ForSelect x once cs t conds sorts body) rows env = through x body rows env
+walked (ForRows x y body) rows env = through x body rows env
+walked s rows env = env

@@ -1,0 +1,166 @@
+-- Where a running call stands in its procedure, and what it will still run from there. This project's own.
+use Rattle.std.specs.Prelude.{◌≡◌, ◌≤◌, ◌<◌, ℕ, ◌+◌, ◌-◌, Bool, true, false, ◌||◌, nat_lt, List, [], ◌∷◌, ◌++◌, Option, Some, None, length, take, drop, slice_get}
+use Rattle.mv_values.specs.declared.value.Value.{Value}
+use Rattle.mv_catalog.specs.Statements.{size_of}
+use Rattle.mv_catalog.specs.declared.resolved.ProcInfo.{ProcInfo}
+use Rattle.mv_catalog.specs.declared.resolved.RStmt.{RStmt, out-RStmt}
+use Rattle.mv_catalog.specs.declared.resolved.RStmt.TheOpen.{RStmt-F, ForSelect, ForRows, Branch}
+use Rattle.mv_alone.specs.declared.state.Env.{Env}
+use Rattle.mv_alone.specs.declared.state.Held.TheVariants.{Turn}
+use Rattle.mv_alone.specs.Env.{with_held}
+use Rattle.mv_record.specs.declared.record.Record.{Record}
+use Rattle.mv_recorded.specs.Recorded.{Site, outside, within, within_loop, in_turn}
+use Rattle.mv_exec.specs.declared.places.Holder.{Holder}
+use Rattle.mv_exec.specs.declared.places.Holder.TheVariants as by
+use Rattle.mv_exec.specs.declared.places.Place.{Place}
+use Rattle.mv_exec.specs.Left.{Job, run, turns}
+
+-- Lists of statements
+
+-- the branches of an IF, and the body of a FOR
+abbrev pub branch_in : Bool → RStmt-F RStmt → List RStmt
+branch_in true (Branch e ys ns) = ys
+branch_in false (Branch e ys ns) = ns
+branch_in b s = []
+
+abbrev pub body_in : RStmt-F RStmt → List RStmt
+body_in (ForSelect x once cs t conds sorts body) = body
+body_in (ForRows x y body) = body
+body_in s = []
+
+abbrev pub branch_of : Bool → RStmt → List RStmt
+branch_of b s = branch_in b (out-RStmt s)
+
+abbrev pub body_of : RStmt → List RStmt
+body_of s = body_in (out-RStmt s)
+
+-- the list that the holder names: the procedure's body, or a list of the statement that holds it
+abbrev pub held : ProcInfo → Holder → Option RStmt → List RStmt
+held proc by.Procedure s = proc.body
+held proc (by.Branch number b) None = []
+held proc (by.Branch number b) (Some s) = branch_of b s
+held proc (by.Loop number x k) None = []
+held proc (by.Loop number x k) (Some s) = body_of s
+
+-- the list of a place that this statement holds, and the statement before the place, which holds the next place
+abbrev pub block_of : ProcInfo → Option RStmt → Place → List RStmt
+block_of proc s p = held proc p.holder s
+
+abbrev pub passed : ProcInfo → Option RStmt → Place → Option RStmt
+passed proc s p = slice_get (block_of proc s p) (p.at - 1)
+
+-- the statement that holds what lies behind places, of which this statement holds the first
+abbrev pub holding : ProcInfo → Option RStmt → List Place → Option RStmt
+holding proc s [] = s
+holding proc s (p ∷ ps) = holding proc (passed proc s p) ps
+
+-- Sites
+
+abbrev pub site_in : Holder → Site → Site
+site_in by.Procedure site = site
+site_in (by.Branch number b) site = within number site
+site_in (by.Loop number x k) site = in_turn k (within_loop x number site)
+
+abbrev pub site_of : Site → List Place → Site
+site_of site [] = site
+site_of site (p ∷ ps) = site_of (site_in p.holder site) ps
+
+-- What is left
+
+-- the rows of a loop are those of its FOR's record
+abbrev pub rows_in : Option Record → List (List Value)
+rows_in None = []
+rows_in (Some r) = r.rows
+
+abbrev pub rows_at : List Record → ℕ → List (List Value)
+rows_at rs number = rows_in (slice_get rs number)
+
+abbrev pub some_run : Site → ℕ → List RStmt → List Job
+some_run site n [] = []
+some_run site n (s ∷ ss) = run site n (s ∷ ss) ∷ []
+
+abbrev pub some_turns : Site → ℕ → ℕ → List RStmt → List (List Value) → ℕ → List Job
+some_turns site n x body [] k = []
+some_turns site n x body (row ∷ rows) k = turns site n x body (row ∷ rows) k ∷ []
+
+-- the turns of a loop that are left
+abbrev pub turns_of : List Record → Site → List RStmt → ℕ → Holder → List Job
+turns_of rs site block first by.Procedure = []
+turns_of rs site block first (by.Branch number b) = []
+turns_of rs site block first (by.Loop number x k) = some_turns (within_loop x number site) first x block (drop k (rows_at rs number)) (k + 1)
+
+-- what is left at a place in this list: the statements from it on, and the turns behind this one
+abbrev pub jobs_here : List Record → List RStmt → Site → Place → List Job
+jobs_here rs block site p = some_run (site_in p.holder site) p.number (drop p.at block) ++ turns_of rs site block p.first p.holder
+
+-- what is left at places, of which each lies in the statement that the one before has passed: the inner ones come first
+abbrev pub jobs_of : ProcInfo → List Record → Option RStmt → Site → List Place → List Job
+jobs_of proc rs s site [] = []
+jobs_of proc rs s site (p ∷ ps) = jobs_of proc rs (passed proc s p) (site_in p.holder site) ps ++ jobs_here rs (block_of proc s p) site p
+
+abbrev pub jobs_left : ProcInfo → List Record → List Place → List Job
+jobs_left proc rs ps = jobs_of proc rs None outside ps
+
+-- there is a turn behind this one
+abbrev pub has_turn : List Record → Holder → Bool
+has_turn rs by.Procedure = false
+has_turn rs (by.Branch number b) = false
+has_turn rs (by.Loop number x k) = nat_lt k (length (rows_at rs number))
+
+-- there is a statement at the place or behind it, or a turn
+abbrev pub is_left : List Record → List RStmt → Place → Bool
+is_left rs block p = nat_lt p.at (length block) || has_turn rs p.holder
+
+-- something is left at the innermost place
+abbrev pub EndsLeft : ProcInfo → List Record → List Place → Type 0
+EndsLeft proc rs ps = (outer : List Place) (p : Place) → ps ≡ outer ++ p ∷ [] → is_left rs (block_of proc (holding proc None outer) p) p ≡ true
+
+-- of the first i places this many stay: behind them nothing is left
+pub record StaysTo (proc : ProcInfo) (rs : List Record) (ps : List Place) (i stay : ℕ) : Type 0 where
+  pub within : stay ≤ i
+  pub same : jobs_left proc rs (take stay ps) ≡ jobs_left proc rs (take i ps)
+  pub ends : EndsLeft proc rs (take stay ps)
+
+-- this is said of each place and the list in which it lies
+abbrev pub Every : (List RStmt → Place → Type 0) → ProcInfo → Option RStmt → List Place → Type 0
+Every P proc s [] = Unit {0}
+Every P proc s (p ∷ ps) = P (block_of proc s p) p × Every P proc (passed proc s p) ps
+
+-- each place lies in a list that isn't empty
+abbrev pub IsFilled : List RStmt → Place → Type 0
+IsFilled block p = 0 < length block
+
+abbrev pub AreFilled : ProcInfo → Option RStmt → List Place → Type 0
+AreFilled = Every IsFilled
+
+-- the statements of its list, and those from it on, have numbers in the text up to the most
+abbrev pub IsNumbered : ℕ → List RStmt → Place → Type 0
+IsNumbered most block p = (p.first + size_of block ≤ most + 1) × (p.number + size_of (drop p.at block) ≤ most + 1)
+
+abbrev pub AreNumbered : ProcInfo → Option RStmt → List Place → Type 0
+AreNumbered proc = Every (IsNumbered (size_of proc.body)) proc
+
+-- a statement stands at the innermost place
+abbrev pub IsReady : ProcInfo → List Place → Type 0
+IsReady proc ps = (outer : List Place) (p : Place) → ps ≡ outer ++ p ∷ [] → nat_lt p.at (length (block_of proc (holding proc None outer) p)) ≡ true
+
+-- Turns
+
+abbrev pub in_next_turn : Holder → Holder
+in_next_turn by.Procedure = by.Procedure
+in_next_turn (by.Branch number b) = by.Branch number b
+in_next_turn (by.Loop number x k) = by.Loop number x (k + 1)
+
+-- the place before the first statement of the next turn
+abbrev pub next_turn : Place → Place
+next_turn p = record { holder = in_next_turn p.holder; first = p.first; at = 0; number = p.first }
+
+abbrev pub with_turn : ℕ → Option (List Value) → Env → Env
+with_turn x None env = env
+with_turn x (Some row) env = with_held env x (Turn row)
+
+-- the variables in the next turn
+abbrev pub turned : List Record → Holder → Env → Env
+turned rs by.Procedure env = env
+turned rs (by.Branch number b) env = env
+turned rs (by.Loop number x k) env = with_turn x (slice_get (rows_at rs number) k) env

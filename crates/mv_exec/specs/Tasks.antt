@@ -1,0 +1,125 @@
+-- A running call: what it has done, and what it will still do. This project's own.
+use Rattle.std.specs.Prelude.{◌≡◌, ◌↔◌, ◌<◌, ◌≤◌, ℕ, Bool, true, false, List, [], ◌∷◌, ◌++◌, Option, Some, None, length, take, slice_get}
+use Rattle.mv_values.specs.declared.calls.Call.{Call}
+use Rattle.mv_values.specs.declared.schema.TableInfo.{TableInfo}
+use Rattle.mv_values.specs.Patching.{applied}
+use Rattle.mv_catalog.specs.declared.resolved.ProcInfo.{ProcInfo}
+use Rattle.mv_catalog.specs.declared.resolved.RStmt.{RStmt}
+use Rattle.mv_alone.specs.declared.state.Env.{Env}
+use Rattle.mv_alone.specs.declared.state.State.{State}
+use Rattle.mv_alone.specs.TableAfter.{Tables, entered}
+use Rattle.mv_record.specs.declared.record.Record.{Record}
+use Rattle.mv_record.specs.Runs.{lines_in, writes_in}
+use Rattle.mv_recorded.specs.Reading.{last_place, sets_variable}
+use Rattle.mv_exec.specs.declared.places.Holder.{Holder}
+use Rattle.mv_exec.specs.declared.places.Holder.TheVariants as by
+use Rattle.mv_exec.specs.declared.places.Place.{Place}
+use Rattle.mv_exec.specs.declared.task.Ahead.{Ahead}
+use Rattle.mv_exec.specs.declared.task.Task.{Task}
+use Rattle.mv_exec.specs.Left.{left}
+use Rattle.mv_exec.specs.Env.{begun_with}
+use Rattle.mv_exec.specs.Keeping.{all_owned}
+use Rattle.mv_exec.specs.Places.{jobs_left, AreFilled, AreNumbered, EndsLeft}
+
+-- the variables with which the call began
+abbrev pub beginning : Task → Env
+beginning task = begun_with task.first task.env
+
+-- it began as a call of the procedure begins
+abbrev pub BeginsCall : Task → ProcInfo → Call → Type 0
+BeginsCall task proc call = (beginning task ≡ entered proc call) × (task.parameters ≡ length call.arguments)
+
+-- the state behind its records, where the call began on this database
+abbrev pub state_of : Task → Tables → State
+state_of task db = record { env = task.env; tables = applied (writes_in task.records) db; lines = lines_in task.records }
+
+-- before the first statement of a procedure
+abbrev pub first_place : Place
+first_place = record { holder = by.Procedure; first = 1; at = 0; number = 1 }
+
+abbrev pub none_in : List RStmt → Bool
+none_in [] = true
+none_in (s ∷ ss) = false
+
+-- where it stands: nowhere once it has ended
+abbrev pub standing : Bool → List Place → List Place
+standing true ps = []
+standing false ps = ps
+
+abbrev pub places_of : Task → List Place
+places_of task = standing task.ended task.places
+
+-- the records that it will still leave on a database
+abbrev pub left_of : ProcInfo → List TableInfo → Task → Tables → List Record
+left_of proc tables task db = left tables task.parameters (jobs_left proc task.records (places_of task)) task.records (state_of task db)
+
+-- all its records on a database: those that it has, and those that it will leave
+abbrev pub run_of : ProcInfo → List TableInfo → Task → Tables → List Record
+run_of proc tables task db = task.records ++ left_of proc tables task db
+
+-- What its parts keep to one another
+
+-- the number in a list of numbers, none behind its end
+abbrev pub number_in : Option (Option ℕ) → Option ℕ
+number_in None = None
+number_in (Some o) = o
+
+abbrev pub definer_in : List (Option ℕ) → ℕ → Option ℕ
+definer_in definers x = number_in (slice_get definers x)
+
+-- a place is held by an earlier record
+abbrev pub IsHeldBefore : ℕ → Holder → Type 0
+IsHeldBefore n by.Procedure = Unit {0}
+IsHeldBefore n (by.Branch number b) = number < n
+IsHeldBefore n (by.Loop number x k) = number < n
+
+abbrev pub AreHeldBefore : ℕ → List Place → Type 0
+AreHeldBefore n [] = Unit {0}
+AreHeldBefore n (p ∷ ps) = IsHeldBefore n p.holder × AreHeldBefore n ps
+
+pub record IsTask (proc : ProcInfo) (task : Task) : Type 0 where
+  pub filled : AreFilled proc None (places_of task)
+  pub numbers : AreNumbered proc None (places_of task)
+  pub ends : EndsLeft proc task.records (places_of task)
+  pub holders : AreHeldBefore (length task.records) (places_of task)
+  pub some : 0 < length task.places
+  pub empty : task.empty ≡ none_in proc.body
+  pub undo : task.undo ≡ all_owned 0 task.records
+  pub definers : (x : ℕ) → definer_in task.definers x ≡ last_place (sets_variable x) 0 task.records
+  pub counted : task.executed ≤ length task.records
+
+-- a call that stands as before: it has what it had, and will still leave the same
+pub record IsAsBefore (proc : ProcInfo) (old new : Task) : Type 0 where
+  pub parameters : new.parameters ≡ old.parameters
+  pub records : new.records ≡ old.records
+  pub executed : new.executed ≡ old.executed
+  pub undo : new.undo ≡ old.undo
+  pub beginning : beginning new ≡ beginning old
+  pub left : (tables : List TableInfo) (db : Tables) → left_of proc tables new db ≡ left_of proc tables old db
+
+-- a call that has these parameters and variables, and has done nothing
+abbrev pub unbegun : ℕ → Env → Option Env → Bool → Task
+unbegun params env first empty =
+    record { parameters = params; env = env; first = first; records = []; executed = 0; undo = []; definers = []; places = first_place ∷ []; ended = empty; empty = empty }
+
+-- what the next record will be: its place, its controller, and the definers of what it reads
+abbrev pub Foresees : Ahead → List Record → Type 0
+Foresees ahead [] = ⊥
+Foresees ahead (r ∷ rs) = (r.spot ≡ ahead.spot) × (r.parent ≡ ahead.parent) × (r.reads ≡ ahead.reads)
+
+abbrev pub IsNext : ProcInfo → Task → Option Ahead → Type 0
+IsNext proc task None = (tables : List TableInfo) (db : Tables) → left_of proc tables task db ≡ []
+IsNext proc task (Some ahead) = (tables : List TableInfo) (db : Tables) → Foresees ahead (left_of proc tables task db)
+
+-- it is so exactly where no record is left, on any database
+abbrev pub TellsEnd : ProcInfo → Task → Bool → Type 0
+TellsEnd proc task b = (tables : List TableInfo) (db : Tables) → (b ≡ true) ↔ (left_of proc tables task db ≡ [])
+
+-- only the front of its places has stayed, at whose innermost one something is left; nothing was left behind them
+pub record IsTrimmed (proc : ProcInfo) (old new : Task) : Type 0 where
+  pub rest : new ≡ record old { places = new.places; ended = new.ended }
+  pub stay : ℕ
+  pub front : places_of new ≡ take stay old.places
+  pub left : jobs_left proc old.records (places_of new) ≡ jobs_left proc old.records old.places
+  pub ends : EndsLeft proc old.records (places_of new)
+  pub some : 0 < length old.places → 0 < length new.places

@@ -1,0 +1,80 @@
+//! What is around the statement at a place: the record that holds it, and the loops with their turns.
+
+ghost use Rattle.std.specs.Prelude.{◌≡◌, IfOk, OnOk};
+ghost use Rattle.mv_recorded.specs.Reading.{loop_of};
+ghost use Rattle.mv_recorded.specs.Recorded.{Site, outside};
+ghost use Rattle.mv_exec.specs.Places.{site_in, site_of};
+
+use crate::places::{Holder, Place};
+use mv_values::list::List;
+use mv_values::memory::NoMemory;
+use std::alloc::Global;
+
+/// The record that holds what the holder holds, where this one holds the holder.
+fn parent_in(holder: Holder, parent: Option<usize>) -> Option<usize>
+    ensures { (site : Site) → parent ≡ site.parent → result ≡ (site_in holder site).parent }
+{
+    match holder {
+        Holder::Procedure => parent,
+        Holder::Branch { record, .. } => Some(record),
+        Holder::Loop { record, .. } => Some(record),
+    }
+}
+
+/// The number of the record that holds the statements of the innermost place.
+pub(crate) fn parent_of(places: &[Place]) -> Option<usize>
+    ensures { result ≡ (site_of outside places.now).parent }
+{
+    let mut parent = None;
+    for place in places {
+        parent = parent_in(place.holder, parent);
+    }
+    parent
+}
+
+/// The record of the FOR whose row a variable is, in the holder, where it is this outside the holder.
+fn loop_in(holder: Holder, variable: u16, found: Option<usize>) -> Option<usize>
+    ensures { (site : Site) → found ≡ loop_of variable site.loops → result ≡ loop_of variable (site_in holder site).loops }
+{
+    match holder {
+        Holder::Loop { record, row, .. } => {
+            if row == variable {
+                return Some(record);
+            }
+            found
+        }
+        _ => found,
+    }
+}
+
+/// The record of the FOR around the innermost place whose row a variable is.
+pub(crate) fn loop_around(places: &[Place], variable: u16) -> Option<usize>
+    ensures { result ≡ loop_of variable (site_of outside places.now).loops }
+{
+    let mut found = None;
+    for place in places {
+        found = loop_in(place.holder, variable, found);
+    }
+    found
+}
+
+/// Adds the turn of a holder that is a loop.
+fn add_turn(turns: &mut List<usize>, holder: Holder) -> Result<(), NoMemory>
+    ensures { OnOk result ((site : Site) → turns.old ≡ site.turns → turns.new ≡ (site_in holder site).turns) }
+{
+    match holder {
+        Holder::Loop { turn, .. } => turns.push(turn),
+        _ => Ok(()),
+    }
+}
+
+/// The turns of the loops around the innermost place, from the outside in.
+pub(crate) fn turns_around(alloc: Global, places: &[Place]) -> Result<List<usize>, NoMemory>
+    ensures { IfOk result (λ turns. turns ≡ (site_of outside places.now).turns) }
+{
+    let mut turns = List::new(alloc);
+    for place in places {
+        add_turn(&mut turns, place.holder)?;
+    }
+    Ok(turns)
+}

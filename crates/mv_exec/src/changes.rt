@@ -1,0 +1,94 @@
+//! What a record changes of the variables.
+
+ghost use Rattle.std.specs.Prelude.{◌≡◌, ◌≤◌, [], map, length, IfOk, OnOk, OnErr, MatchOption, option_to_list, List};
+ghost use Rattle.mv_values.specs.declared.value.Value.{Value};
+ghost use Rattle.mv_catalog.specs.declared.resolved.RStmt.{out-RStmt};
+ghost use Rattle.mv_alone.specs.declared.state.Env.{Env};
+ghost use Rattle.mv_recorded.specs.Effect.{with_slots};
+ghost use Rattle.mv_exec.specs.Env.{changed, room, of_slot};
+ghost use Rattle.mv_exec.specs.Moves.{walked, run_through};
+
+use mv_alone::env::pad;
+use mv_alone::state::{Env, Held};
+use mv_catalog::resolved::RStmt;
+use mv_record::record::{Record, Slot};
+use mv_values::copied::Copied;
+use mv_values::memory::NoMemory;
+use mv_values::value::Row;
+use std::alloc::Global;
+
+/// A variable, with what it is set to.
+#[derive(Drop)]
+pub struct Change {
+    pub slot: u16,
+    pub held: Held,
+}
+
+/// How many variables the changes need.
+#[tactic(auto, using(crate::proofs::Changing::room_next))]
+fn room_for(changes: &[Change]) -> usize
+    ensures { result ≡ room changes.now }
+{
+    let mut most = 0;
+    for change in changes {
+        let needed = change.slot as usize + 1;
+        if needed > most {
+            most = needed;
+        }
+    }
+    most
+}
+
+/// Sets variables, in order.
+#[tactic(auto, using(crate::proofs::Changing::room_here))]
+fn set_all(env: &mut Env, changes: Vec<Change>)
+    requires { room changes.items ≤ length env.old.held }
+    ensures { env.new ≡ changed changes.items env.old }
+{
+    for change in changes {
+        env.held.set(change.slot as usize, change.held);
+    }
+}
+
+/// Makes changes, in order. After NoMemory the variables are as before.
+#[tactic(auto, using(crate::proofs::Changing::padded_changed, mv_alone::proofs::Putting::padded_long))]
+pub(crate) fn make_changes(env: &mut Env, changes: Vec<Change>) -> Result<(), NoMemory>
+    ensures ok { OnOk result (env.new ≡ changed changes.items env.old) }
+    ensures err { OnErr result (env.new ≡ env.old) }
+{
+    pad(&mut env.held, room_for(&changes))?;
+    set_all(env, changes);
+    Ok(())
+}
+
+/// The changes that slots tell of.
+pub(crate) fn changes_of(alloc: Global, slots: &[Slot]) -> Result<Vec<Change>, NoMemory>
+    ensures { IfOk result (λ cs. cs.items ≡ map of_slot slots.now) }
+{
+    let mut changes = Vec::new(alloc);
+    for slot in slots {
+        let held = Held::Scalar(slot.value.copy(alloc)?);
+        changes.push(Change {
+            slot: slot.slot,
+            held,
+        })?;
+    }
+    Ok(changes)
+}
+
+/// The variable of the row of a loop whose body is empty.
+pub(crate) fn row_of_empty(statement: &RStmt) -> Option<u16>
+    ensures { MatchOption result ((rows : List (List Value)) (env : Env) → walked (out-RStmt statement.now) rows env ≡ env) (λ x. (rows : List (List Value)) (env : Env) → walked (out-RStmt statement.now) rows env ≡ run_through x rows env) }
+{
+    match statement {
+        RStmt::ForSelect { row, body, .. } => match body.as_slice() {
+            [] => Some(*row),
+            _ => None,
+        },
+        RStmt::ForRows { row, body, .. } => match body.as_slice() {
+            [] => Some(*row),
+            _ => None,
+        },
+        _ => None,
+    }
+}

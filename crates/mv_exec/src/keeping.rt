@@ -1,0 +1,75 @@
+//! What a call keeps of its records beside them: its own writes, and who last set each variable.
+
+ghost use Rattle.std.specs.Prelude.{◌≡◌, ◌<◌, ◌≤◌, ◌++◌, All, ℕ, OnOk, OnErr};
+ghost use Rattle.mv_exec.specs.Keeping.{owned, HasMore, define, widened};
+ghost use Rattle.mv_exec.specs.Tasks.{definer_in};
+
+use mv_record::record::Slot;
+use mv_undo::undo::Undo;
+use mv_values::copied::Copied;
+use mv_values::list::List;
+use mv_values::memory::NoMemory;
+use mv_values::patch::Write;
+use std::alloc::Global;
+
+/// Adds copies of writes with the number of their record.
+fn add_writes(
+    alloc: Global,
+    undo: &mut Undo,
+    number: usize,
+    writes: &[Write],
+) -> Result<(), NoMemory>
+    requires { All (λ o. o.number ≤ number) undo.old }
+    ensures ok { OnOk result (undo.new ≡ undo.old ++ owned number writes.now) }
+    ensures err { OnErr result (HasMore number undo.old undo.new) }
+{
+    for write in writes {
+        let own = write.copy(alloc)?;
+        undo.push(number, own)?;
+    }
+    Ok(())
+}
+
+/// Adds copies of writes with the number of their record, which is larger than those of the writes before. After
+/// NoMemory the writes are as before.
+pub(crate) fn push_writes(
+    alloc: Global,
+    undo: &mut Undo,
+    number: usize,
+    writes: &[Write],
+) -> Result<(), NoMemory>
+    requires { All (λ o. o.number < number) undo.old }
+    ensures ok { OnOk result (undo.new ≡ undo.old ++ owned number writes.now) }
+    ensures err { OnErr result (undo.new ≡ undo.old) }
+{
+    match add_writes(alloc, undo, number, writes) {
+        Ok(()) => Ok(()),
+        Err(error) => {
+            undo.drop_from(number);
+            Err(error)
+        }
+    }
+}
+
+/// Makes the list of definers longer where it has fewer than this. Who last set each variable stays.
+#[tactic(auto, using(crate::proofs::Defining::widen_longer, crate::proofs::Defining::widened_full, crate::proofs::Defining::none_behind))]
+pub(crate) fn widen(definers: &mut List<Option<usize>>, len: usize) -> Result<(), NoMemory>
+    ensures ok { OnOk result (definers.new ≡ widened len definers.old) }
+    ensures same { (x : ℕ) → definer_in definers.new x ≡ definer_in definers.old x }
+{
+    while definers.len() < len {
+        definers.push(None)?;
+    }
+    Ok(())
+}
+
+/// Sets who last set these variables. A variable behind the end of the list is left out.
+pub(crate) fn set_definers(definers: &mut List<Option<usize>>, sets: &[Slot], number: usize)
+    ensures { definers.new ≡ define definers.old sets.now number }
+{
+    for set in sets {
+        if (set.slot as usize) < definers.len() {
+            definers.set(set.slot as usize, Some(number));
+        }
+    }
+}

@@ -1,0 +1,21 @@
+//! Execution: runs a procedure one statement at a time, over a view of the database.
+#![tactic(auto)]
+
+mod add;
+mod adopt;
+mod around;
+mod changes;
+mod env;
+mod keeping;
+mod moves;
+mod next;
+mod peek;
+pub mod places;
+mod reading;
+pub mod running;
+mod settle;
+mod sizes;
+pub mod step;
+pub mod task;
+#[cfg(test)]
+mod tests;

@@ -1,0 +1,186 @@
+//! A running call.
+
+ghost use Rattle.std.specs.Prelude.{◌≡◌, ◌<◌, [], ◌∷◌, None, length, IfOk, List};
+ghost use Rattle.mv_values.specs.declared.schema.TableInfo.{TableInfo};
+ghost use Rattle.mv_values.specs.declared.calls.Call.{Call};
+ghost use Rattle.mv_catalog.specs.declared.resolved.ProcInfo.{ProcInfo};
+ghost use Rattle.mv_catalog.specs.declared.resolved.RStmt.{RStmt};
+ghost use Rattle.mv_alone.specs.TableAfter.{Tables, entered};
+ghost use Rattle.mv_recorded.specs.Recorded.{recorded};
+ghost use Rattle.mv_exec.specs.Env.{begun_with};
+ghost use Rattle.mv_exec.specs.Tasks.{first_place, none_in, run_of, IsTask, BeginsCall, TellsEnd, unbegun as not_begun};
+
+use crate::places::{Holder, Place};
+use mv_alone::enter::variables_for;
+use mv_alone::state::Env;
+use mv_catalog::resolved::{ProcInfo, RStmt};
+use mv_record::record::{Read, Record, Spot};
+use mv_undo::undo::Undo;
+use mv_values::calls::Call;
+use mv_values::list::List;
+use mv_values::memory::NoMemory;
+use std::alloc::Global;
+use std::mem;
+
+/// The place, controller and definers of a record that isn't there yet.
+#[derive(Drop)]
+pub struct Ahead {
+    pub spot: Spot,
+    /// The number of the record of the IF or FOR that directly holds its statement.
+    pub parent: Option<usize>,
+    pub reads: List<Read>,
+}
+
+/// A running call: its records so far, its own writes, and where it stands.
+#[derive(Drop)]
+pub struct Task {
+    /// How many of the variables are parameters.
+    pub(crate) parameters: usize,
+    pub(crate) env: Env,
+    /// The variables that the call began with, kept from its first statement on.
+    pub(crate) first: Option<Env>,
+    pub(crate) records: List<Record>,
+    /// How many of the records were added by executing a statement.
+    pub(crate) executed: usize,
+    pub(crate) undo: Undo,
+    /// For each variable the number of the record that last set it.
+    pub(crate) definers: List<Option<usize>>,
+    /// Where the call stands, from the outside in. Behind each place but the last the next one lies in the statement
+    /// before it.
+    pub(crate) places: List<Place>,
+    /// Whether no statement is left.
+    pub(crate) ended: bool,
+    /// Whether the procedure has no statements.
+    pub(crate) empty: bool,
+}
+
+/// Before the first statement of a procedure.
+fn before_all() -> Place
+    ensures { result ≡ first_place }
+{
+    Place {
+        holder: Holder::Procedure,
+        first: 1,
+        at: 0,
+        number: 1,
+    }
+}
+
+/// Whether there are no statements.
+fn is_empty(block: &[RStmt]) -> bool
+    ensures { result ≡ none_in block.now }
+{
+    match block {
+        [] => true,
+        _ => false,
+    }
+}
+
+/// A call that has done nothing.
+fn unbegun(alloc: Global, parameters: usize, env: Env, places: List<Place>, empty: bool) -> Task
+    requires { places ≡ first_place ∷ [] }
+    ensures { result ≡ not_begun parameters env None empty }
+{
+    Task {
+        parameters,
+        env,
+        first: None,
+        records: List::new(alloc),
+        executed: 0,
+        undo: Undo::new(alloc),
+        definers: List::new(alloc),
+        places,
+        ended: empty,
+        empty,
+    }
+}
+
+/// Puts the variables back that were kept.
+fn take_back(env: &mut Env, first: &mut Option<Env>)
+    ensures env { env.new ≡ begun_with first.old env.old }
+    ensures none { first.new ≡ None }
+{
+    if let Some(kept) = first.take() {
+        *env = kept;
+    }
+}
+
+/// Leaves the place before the first statement of the procedure alone.
+#[tactic(auto, using(crate::proofs::Beginning::only_first))]
+fn go_back(places: &mut List<Place>)
+    ensures { 0 < length places.old → places.new ≡ first_place ∷ [] }
+{
+    if places.len() > 0 {
+        places.truncate(1);
+        places.set(0, before_all());
+    }
+}
+
+impl Task {
+    /// A call of a procedure before its first statement. Its arguments are copied.
+    #[tactic(auto, using(crate::proofs::Beginning::new_task, crate::proofs::Beginning::new_begins, crate::proofs::Beginning::new_run))]
+    pub(crate) fn of(alloc: Global, procedure: &ProcInfo, call: &Call) -> Result<Task, NoMemory>
+        ensures task { IfOk result (λ t. IsTask procedure.now t) }
+        ensures records { IfOk result (λ t. t.records ≡ []) }
+        ensures executed { IfOk result (λ t. t.executed ≡ 0) }
+        ensures begins { IfOk result (λ t. BeginsCall t procedure.now call.now) }
+        ensures env { IfOk result (λ t. t.env ≡ entered procedure.now call.now) }
+        ensures run { IfOk result (λ t. (tables : List TableInfo) (db : Tables) → run_of procedure.now tables t db ≡ recorded tables procedure.now call.now db) }
+    {
+        let env = variables_for(alloc, procedure, call)?;
+        let empty = is_empty(procedure.body.as_slice());
+        let mut places = List::new(alloc);
+        places.push(before_all())?;
+        let parameters = call.arguments.len();
+        let task = unbegun(alloc, parameters, env, places, empty);
+        Ok(task)
+    }
+
+    /// Lends the records so far.
+    pub fn records(&self) -> &[Record]
+        ensures { result.now ≡ self.now.records }
+    {
+        self.records.as_slice()
+    }
+
+    /// How many of the records were added by executing a statement.
+    pub fn executed(&self) -> usize
+        ensures { result ≡ self.now.executed }
+    {
+        self.executed
+    }
+
+    /// Whether no statement is left.
+    #[tactic(auto, using(crate::proofs::Ending::ends_exactly))]
+    pub fn ended(&self) -> bool
+        ensures value { result ≡ self.now.ended }
+        ensures exact { (proc : ProcInfo) → IsTask proc self.now → TellsEnd proc self.now result }
+    {
+        self.ended
+    }
+
+    /// Lends the call's own writes, with the numbers of their records.
+    pub fn undo(&self) -> &Undo
+        ensures { result.now ≡ self.now.undo }
+    {
+        &self.undo
+    }
+
+    /// Hands the records out, and leaves the call before its first statement. It takes no memory.
+    pub fn restart(&mut self, alloc: Global) -> List<Record>
+        ensures back { result ≡ self.old.records }
+        ensures records { self.new.records ≡ [] }
+        ensures executed { self.new.executed ≡ 0 }
+        ensures task { (proc : ProcInfo) → IsTask proc self.old → IsTask proc self.new }
+        ensures begins { (proc : ProcInfo) (call : Call) → BeginsCall self.old proc call → BeginsCall self.new proc call }
+        ensures run { (proc : ProcInfo) (tables : List TableInfo) (call : Call) (db : Tables) → IsTask proc self.old → BeginsCall self.old proc call → run_of proc tables self.new db ≡ recorded tables proc call db }
+    {
+        take_back(&mut self.env, &mut self.first);
+        self.executed = 0;
+        self.undo.drop_from(0);
+        self.definers.truncate(0);
+        go_back(&mut self.places);
+        self.ended = self.empty;
+        mem::replace(&mut self.records, List::new(alloc))
+    }
+}
