@@ -5,7 +5,6 @@ pub mod Rows
 pub mod Changes
 pub mod Line
 pub mod Alone
-pub mod Executed
 pub mod TableAfter
 pub mod Spans
 pub mod Once

@@ -1,5 +1,5 @@
 -- Going on with a value, or stopping.
-use Rattle.std.specs.Prelude.{◌≡◌, ℕ, ◌+◌, Result, Ok, Err}
+use Rattle.std.specs.Prelude.{◌≡◌, Result, Ok, Err}
 use Rattle.mv_values.specs.declared.calls.End.{End}
 use Rattle.mv_alone.specs.declared.state.Stop.{Stop}
 use Rattle.mv_alone.specs.declared.state.Stop.TheVariants.{Memory, Ended}
@@ -23,9 +23,3 @@ Gives (Err s) meant = Fails s meant
 abbrev pub Leaves : {A : Type 0} → Result (Unit {0}) Stop → A → Result A End → Type 0
 Leaves (Ok x) new meant = meant ≡ Ok new
 Leaves (Err s) new meant = Fails s meant
-
--- a count rose by so much, unless memory ran out
-abbrev pub Rises : Result (Unit {0}) Stop → ℕ → ℕ → ℕ → Type 0
-Rises (Ok x) old by new = new ≡ old + by
-Rises (Err Memory) old by new = Unit {0}
-Rises (Err (Ended e)) old by new = new ≡ old + by

@@ -14,7 +14,6 @@ use Rattle.mv_alone.specs.declared.state.Env.{Env}
 use Rattle.mv_alone.specs.declared.state.State.{State}
 use Rattle.mv_alone.specs.Env.{unset}
 use Rattle.mv_alone.specs.Alone.{alone}
-use Rattle.mv_alone.specs.Executed.{counted}
 
 abbrev pub Tables : Type 0
 Tables = List (List Keyed)
@@ -70,18 +69,6 @@ abbrev pub reply_of : Program → List ℕ → ℕ → Reply
 reply_of p order zero = no_reply
 reply_of p order (suc k) = reply_in (outcome p (slice_index order k) (table_after p order k))
 
-abbrev pub executed_in : Program → Option ProcInfo → Call → Tables → ℕ
-executed_in p None call db = 0
-executed_in p (Some proc) call db = counted p.resolved.tables proc.body (begun proc call db)
-
-abbrev pub executed_at : Program → Option Call → Tables → ℕ
-executed_at p None db = 0
-executed_at p (Some call) db = executed_in p (slice_get p.resolved.procedures call.procedure) call db
-
--- how many statements the call of this number executes on a database
-abbrev pub executed : Program → ℕ → Tables → ℕ
-executed p c db = executed_at p (slice_get p.resolved.calls c) db
-
 -- the numbers below n in order
 abbrev pub first_numbers : ℕ → List ℕ
 first_numbers zero = []
@@ -108,7 +95,3 @@ StoppedUnchanged p order replies =
 -- a call that doesn't stand in the order has a reply of no lines
 abbrev pub OthersSilent : Program → List ℕ → List Reply → Type 0
 OthersSilent p order replies = (c : ℕ) → c < length p.resolved.calls → All (λ d. d ≡ c → ⊥) order → slice_get replies c ≡ Some no_reply
-
--- each count is how many statements its call executes on the database before it
-abbrev pub CountsOf : Program → List ℕ → List ℕ → Type 0
-CountsOf p order counts = (k : ℕ) → k < length order → slice_get counts k ≡ Some (executed p (slice_index order k) (table_after p order k))

@@ -1,4 +1,3 @@
-pub mod Counted
 pub mod Following
 pub mod Telling
 pub mod Patched

@@ -1,5 +1,5 @@
 -- What holds of the records of every full run.
-use Rattle.std.specs.Prelude.{◌≡◌, ℕ, List, length, Ok}
+use Rattle.std.specs.Prelude.{◌≡◌, ℕ, List, Ok}
 use Rattle.mv_values.specs.declared.schema.TableInfo.{TableInfo}
 use Rattle.mv_values.specs.declared.calls.Call.{Call}
 use Rattle.mv_values.specs.Keys.{IsRising}
@@ -7,26 +7,16 @@ use Rattle.mv_values.specs.Tables.{rows_at, KeysStand}
 use Rattle.mv_catalog.specs.Statements.{IsWell, stmt_step}
 use Rattle.mv_catalog.specs.Types.{Vars}
 use Rattle.mv_catalog.specs.declared.resolved.ProcInfo.{ProcInfo}
-use Rattle.mv_catalog.specs.declared.resolved.Program.{Program}
 use Rattle.mv_catalog.specs.declared.resolved.RStmt.{RStmt}
 use Rattle.mv_catalog.specs.declared.resolved.RStmt.TheOpen.{RStmt-F}
 use Rattle.mv_alone.specs.declared.state.State.{State}
-use Rattle.mv_alone.specs.Executed.{counted}
-use Rattle.mv_alone.specs.TableAfter.{Tables, begun, executed}
+use Rattle.mv_alone.specs.TableAfter.{Tables}
 use Rattle.mv_record.specs.Runs.{TellsAll, NamesEarlier}
 use Rattle.mv_record.specs.Paths.{PathsRise}
 use Rattle.mv_record.specs.declared.record.Record.{Record}
 use Rattle.mv_recorded.specs.Doing.{itself}
 use Rattle.mv_recorded.specs.Effect.{TellsEffect, HasColumns}
-use Rattle.mv_recorded.specs.Recorded.{Site, own_record, recorded, records, meaning}
-
--- they are as many as statements are executed
-abbrev pub RunsCounted : Type 0
-RunsCounted = (tables : List TableInfo) (proc : ProcInfo) (call : Call) (db : Tables) → length (recorded tables proc call db) ≡ counted tables proc.body (begun proc call db)
-
--- the same of the calls of a program
-abbrev pub CallsCounted : Type 0
-CallsCounted = (program : Program) (call : ℕ) (db : Tables) → length (records program call db) ≡ executed program call db
+use Rattle.mv_recorded.specs.Recorded.{Site, own_record, recorded, meaning}
 
 -- they tell the reply and the database after the call, where the keys of each table rise
 abbrev pub MeaningsTell : Type 0

@@ -1,14 +1,7 @@
 //! What holds of the records of every full run, of whatever procedure, call and database.
 
 ghost use Rattle.mv_recorded.specs.Examples.{AddsFive, AddOverflows, UpdateOverflows, LooksInVain, Transfers, TransferRollsBack, AddsUp, Closes, ReadsTwice, DividesByZero};
-ghost use Rattle.mv_recorded.specs.Laws.{RunsCounted, CallsCounted, MeaningsTell, NamesEarlierOnes, PathsAreInOrder, EffectsTold, ColumnsThere, KeysKept};
-
-/// A full run leaves as many records as it executes statements.
-#[tactic(auto, using(crate::proofs::Counted::recorded_counted, crate::proofs::Counted::records_counted))]
-pub fn record_for_each_statement()
-    ensures run { RunsCounted }
-    ensures call { CallsCounted }
-{}
+ghost use Rattle.mv_recorded.specs.Laws.{MeaningsTell, NamesEarlierOnes, PathsAreInOrder, EffectsTold, ColumnsThere, KeysKept};
 
 /// On a database whose keys rise, the records tell the reply of the call, its lines or its end, and the database after
 /// it.

@@ -1,13 +1,15 @@
 -- What calls and statements leave as it was.
-use Rattle.std.proofs.Common.{◌≡◌, ℕ, suc, List, [], Some, None, Result, Ok, Err, slice_set, refl, sym, ap, subst, ◌∙◌}
+use Rattle.std.proofs.Common.{◌≡◌, ◌<◌, ℕ, suc, List, [], ◌∷◌, Some, None, Result, Ok, Err, length, slice_set, refl, sym, ap, subst, ◌∙◌, arith}
 use Rattle.std.proofs.lemmas.List.{get_or-set_other}
+use Rattle.std.proofs.lemmas.List.Elements.{All-cons, All-nil}
+use Rattle.std.proofs.lemmas.List.Kept.{AllPairs-cons}
 use Rattle.std.specs.Prelude.{slice_index}
 use Rattle.mv_values.specs.declared.rows.Keyed.{Keyed}
 use Rattle.mv_values.specs.declared.calls.Reply.{Reply}
 use Rattle.mv_values.specs.declared.calls.End.{End}
 use Rattle.mv_catalog.specs.declared.resolved.Program.{Program}
 use Rattle.mv_alone.specs.declared.state.State.{State}
-use Rattle.mv_alone.specs.TableAfter.{Tables, outcome, tables_left, reply_in, reply_of, table_after, RepliesOf, StoppedUnchanged}
+use Rattle.mv_alone.specs.TableAfter.{Tables, outcome, tables_left, reply_in, reply_of, table_after, IsOrder, RepliesOf, StoppedUnchanged}
 use Rattle.mv_alone.specs.Changes.{OthersStay}
 use Rattle.mv_serial.proofs.Tabling.{table_with}
 
@@ -32,3 +34,11 @@ others_stay db new t (Err e) is = cc
 
 pub others_left : (db new : Tables) (t : ℕ) (rows : List Keyed) → new ≡ slice_set db t rows → OthersStay t db new
 others_left db new t rows is = subst (OthersStay t db) (sym is) (others_set db t rows)
+
+-- a program's only two calls, in order
+pub two_in_order : (p : Program) → length p.resolved.calls ≡ 2 → IsOrder p (0 ∷ 1 ∷ [])
+two_in_order p two = (
+  All-cons (λ c. c < length p.resolved.calls) 0 (1 ∷ []) (omega (arith, two)) (All-cons (λ c. c < length p.resolved.calls) 1 [] (omega (arith, two)) (All-nil (λ c. c < length p.resolved.calls))),
+  AllPairs-cons (λ a b. a ≡ b → ⊥) 0 (1 ∷ []) (All-cons (λ b. 0 ≡ b → ⊥) 1 [] (λ same. absurd (omega (arith, same))) (All-nil (λ b. 0 ≡ b → ⊥)))
+      (AllPairs-cons (λ a b. a ≡ b → ⊥) 1 [] (All-nil (λ b. 1 ≡ b → ⊥)) (λ i j d lt within. absurd (omega arith))),
+)

@@ -1,9 +1,6 @@
 pub mod Undone
 pub mod Updating
 pub mod Tabling
-pub mod Counting
-pub mod Numbers
-pub mod InOrder
 pub mod InTurn
 pub mod Placing
 pub mod Removing

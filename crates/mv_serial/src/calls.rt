@@ -2,12 +2,11 @@
 
 ghost use Rattle.std.specs.Prelude.{◌≡◌, IfOk, length, replicate};
 ghost use Rattle.mv_alone.specs.Alone.{alone};
-ghost use Rattle.mv_alone.specs.Executed.{counted};
 ghost use Rattle.mv_values.specs.Tables.{KeysStand};
 ghost use Rattle.mv_catalog.specs.Fits.{Fits};
 ghost use Rattle.mv_catalog.specs.Text.{FitsText};
 ghost use Rattle.mv_serial.specs.Typed.{TablesTyped};
-ghost use Rattle.mv_alone.specs.TableAfter.{no_reply, outcome, executed, begun, tables_left, reply_in, table_after, call_order, IsOrder, RepliesOf, OthersSilent, StoppedUnchanged, CountsOf};
+ghost use Rattle.mv_alone.specs.TableAfter.{no_reply, outcome, begun, tables_left, reply_in, table_after, IsOrder, RepliesOf, OthersSilent, StoppedUnchanged};
 
 use crate::statements::run_all;
 use crate::undo::undo_all;
@@ -28,20 +27,11 @@ pub struct Serial {
     pub tables: Database,
 }
 
-/// The same, with how many statements each call executed: an IF and a FOR count one too, and so does a statement that
-/// stops its call.
-#[derive(Drop)]
-pub struct Counted {
-    pub serial: Serial,
-    pub counts: List<usize>,
-}
-
-/// What a call leaves: the database after it, its reply, and how many statements it executed.
+/// What a call leaves: the database after it, and its reply.
 #[derive(Drop)]
 struct Left {
     tables: Database,
     reply: Reply,
-    steps: usize,
 }
 
 /// Runs a call of a procedure. Where it is rolled back, its changes are taken back.
@@ -55,17 +45,15 @@ fn run_procedure(
     requires { KeysStand program.now.resolved.tables tables }
     ensures tables { IfOk result (λ l. l.tables ≡ tables_left tables (alone program.now.resolved.tables procedure.now.body (begun procedure.now call.now tables))) }
     ensures reply { IfOk result (λ l. l.reply ≡ reply_in (alone program.now.resolved.tables procedure.now.body (begun procedure.now call.now tables))) }
-    ensures steps { IfOk result (λ l. l.steps ≡ counted program.now.resolved.tables procedure.now.body (begun procedure.now call.now tables)) }
     ensures keys { IfOk result (λ l. KeysStand program.now.resolved.tables l.tables) }
 {
     let env = variables_for(alloc, procedure, call)?;
     let lines = List::new(alloc);
     let mut state = State { env, tables, lines };
     let mut undo = List::new(alloc);
-    let mut steps = 0;
     let infos = program.resolved.tables.as_slice();
     let body = procedure.body.as_slice();
-    let ran = run_all(alloc, infos, body, &mut state, &mut undo, &mut steps);
+    let ran = run_all(alloc, infos, body, &mut state, &mut undo);
     let State {
         env: _,
         mut tables,
@@ -74,11 +62,7 @@ fn run_procedure(
     match ran {
         Ok(()) => {
             let reply = Reply { lines, end: None };
-            Ok(Left {
-                tables,
-                reply,
-                steps,
-            })
+            Ok(Left { tables, reply })
         }
         Err(Stop::Memory) => Err(NoMemory),
         Err(Stop::Ended(end)) => {
@@ -88,11 +72,7 @@ fn run_procedure(
                 lines: none,
                 end: Some(end),
             };
-            Ok(Left {
-                tables,
-                reply,
-                steps,
-            })
+            Ok(Left { tables, reply })
         }
     }
 }
@@ -101,17 +81,12 @@ fn run_procedure(
 fn unchanged(alloc: Global, tables: Database) -> Left
     ensures tables { result.tables ≡ tables }
     ensures reply { result.reply ≡ no_reply }
-    ensures steps { result.steps ≡ 0 }
 {
     let reply = Reply {
         lines: List::new(alloc),
         end: None,
     };
-    Left {
-        tables,
-        reply,
-        steps: 0,
-    }
+    Left { tables, reply }
 }
 
 /// Runs the call of this number.
@@ -124,7 +99,6 @@ fn run_call(
     requires { KeysStand program.now.resolved.tables tables }
     ensures tables { IfOk result (λ l. l.tables ≡ tables_left tables (outcome program.now number tables)) }
     ensures reply { IfOk result (λ l. l.reply ≡ reply_in (outcome program.now number tables)) }
-    ensures steps { IfOk result (λ l. l.steps ≡ executed program.now number tables) }
     ensures keys { IfOk result (λ l. KeysStand program.now.resolved.tables l.tables) }
 {
     let Some(call) = program.resolved.calls.as_slice().get(number) else {
@@ -170,39 +144,9 @@ pub fn run_alone(alloc: Global, program: &Program, order: &[u32]) -> Result<Seri
         let Left {
             tables: after,
             reply,
-            steps: _,
         } = run_call(alloc, program, number, tables)?;
         tables = after;
         replies.set(number, reply);
     }
     Ok(Serial { replies, tables })
-}
-
-/// Runs all calls alone in the order of the script, and counts their statements.
-pub fn run_counted(alloc: Global, program: &Program) -> Result<Counted, NoMemory>
-    requires { Fits program.now }
-    ensures tables { IfOk result (λ c. c.serial.tables ≡ table_after program.now (call_order program.now) (length program.now.resolved.calls)) }
-    ensures len { IfOk result (λ c. length c.serial.replies ≡ length program.now.resolved.calls) }
-    ensures replies { IfOk result (λ c. RepliesOf program.now (call_order program.now) c.serial.replies) }
-    ensures counts_len { IfOk result (λ c. length c.counts ≡ length program.now.resolved.calls) }
-    ensures counts { IfOk result (λ c. CountsOf program.now (call_order program.now) c.counts) }
-    ensures stopped { IfOk result (λ c. StoppedUnchanged program.now (call_order program.now) c.serial.replies) }
-    ensures keys { IfOk result (λ c. KeysStand program.now.resolved.tables c.serial.tables) }
-    ensures typed { FitsText program.now.resolved → TablesTyped program.now.resolved.tables program.now.opening → IfOk result (λ c. TablesTyped program.now.resolved.tables c.serial.tables) }
-{
-    let mut tables = program.opening.copy(alloc)?;
-    let mut replies = List::new(alloc);
-    let mut counts = List::new(alloc);
-    for number in 0..program.resolved.calls.len() {
-        let Left {
-            tables: after,
-            reply,
-            steps,
-        } = run_call(alloc, program, number, tables)?;
-        tables = after;
-        replies.push(reply)?;
-        counts.push(steps)?;
-    }
-    let serial = Serial { replies, tables };
-    Ok(Counted { serial, counts })
 }

@@ -1,10 +1,10 @@
 //! Short programs on one table, and what they print and leave, for tests.
 
-ghost use Rattle.std.specs.Prelude.{◌↔◌, IsTrue, IfOk, All};
+ghost use Rattle.std.specs.Prelude.{◌≡◌, ◌↔◌, IsTrue, IfOk, All, length};
 ghost use Rattle.mv_values.specs.Printable.{IsPrintable};
 ghost use Rattle.mv_catalog.specs.Fits.{Fits};
 
-use crate::calls::{Counted, run_counted};
+use crate::calls::{Serial, run_alone};
 use Word::{Col, Field, Int, One, Text, Two, Var};
 use mv_alone::line::line_from;
 use mv_ast::tree::{OneOp, TwoOp};
@@ -313,7 +313,8 @@ fn call(alloc: Global, procedure: u16) -> Result<Call, Fail> {
 /// A program of two calls: the first fills the table, and the second one runs the statements.
 #[tactic(auto, using(crate::proofs::Standing::none_stand))]
 fn program(alloc: Global, steps: &[Step]) -> Result<Program, Fail>
-    ensures { IfOk result (λ p. Fits p) }
+    ensures fits { IfOk result (λ p. Fits p) }
+    ensures two { IfOk result (λ p. length p.resolved.calls ≡ 2) }
 {
     let mut tables = List::new(alloc);
     tables.push(TableInfo {
@@ -373,10 +374,11 @@ fn rows_told(alloc: Global, rows: &Rows) -> Result<Vec<u8>, Fail> {
 }
 
 /// What the second call of a program of these steps answers, and the rows that it leaves.
+#[tactic(auto, using(crate::proofs::Lawful::two_in_order))]
 pub(crate) fn ran(alloc: Global, steps: &[Step]) -> Result<(Vec<u8>, Vec<u8>), Fail> {
     let program = program(alloc, steps)?;
-    let Counted { serial, counts: _ } = run_counted(alloc, &program)?;
-    let reply = serial.replies.as_slice().get(1).ok_or("no reply")?;
-    let rows = serial.tables.as_slice().get(0).ok_or("no table")?;
+    let Serial { replies, tables } = run_alone(alloc, &program, &[0, 1])?;
+    let reply = replies.as_slice().get(1).ok_or("no reply")?;
+    let rows = tables.as_slice().get(0).ok_or("no table")?;
     Ok((told(alloc, reply)?, rows_told(alloc, rows)?))
 }

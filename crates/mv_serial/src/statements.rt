@@ -1,11 +1,10 @@
 //! Statements one after another, and those that hold others.
 
-ghost use Rattle.std.specs.Prelude.{◌≡◌, ◌+◌, ◌++◌, [], drop, Ok, OnOk};
+ghost use Rattle.std.specs.Prelude.{◌≡◌, ◌++◌, [], drop, Ok, OnOk};
 ghost use Rattle.mv_values.specs.Tables.{KeysStand};
-ghost use Rattle.mv_alone.specs.Outcome.{Gives, Leaves, Rises, then_do};
+ghost use Rattle.mv_alone.specs.Outcome.{Gives, Leaves, then_do};
 ghost use Rattle.mv_alone.specs.Value.{value_of, is_so};
 ghost use Rattle.mv_alone.specs.Alone.{alone, does, loop_over, for_rows, for_select};
-ghost use Rattle.mv_alone.specs.Executed.{count, counted, count_loop, count_rows, count_select};
 ghost use Rattle.mv_serial.specs.Undoing.{StaysUndoable};
 
 use crate::deleting::run_delete;
@@ -27,17 +26,6 @@ use mv_values::schema::TableInfo;
 use mv_values::value::Row;
 use std::alloc::Global;
 
-/// Counts one more.
-fn count_one(steps: &mut usize) -> Result<(), NoMemory>
-    ensures { OnOk result (steps.new ≡ steps.old + 1) }
-{
-    *steps = match steps.checked_add(1) {
-        Some(n) => n,
-        None => return Err(NoMemory),
-    };
-    Ok(())
-}
-
 /// Whether an IF takes its first branch.
 fn takes(alloc: Global, test: &RExpr, env: &Env) -> Result<bool, Stop>
     ensures { Gives result (then_do (value_of test.now env.now []) (λ v. Ok (is_so v))) }
@@ -54,38 +42,32 @@ pub(crate) fn run_all(
     statements: &[RStmt],
     state: &mut State,
     undo: &mut List<Undo>,
-    steps: &mut usize,
 ) -> Result<(), Stop>
     requires { KeysStand tables.now state.old.tables }
     ensures does { Leaves result state.new (alone tables.now statements.now state.old) }
     ensures keys { OnOk result (KeysStand tables.now state.new.tables) }
     ensures undo { StaysUndoable result undo.old state.old.tables undo.new state.new.tables }
-    ensures count { Rises result steps.old (counted tables.now statements.now state.old) steps.new }
 {
     for statement in statements {
-        run_one(alloc, tables, statement, state, undo, steps)?;
+        run_one(alloc, tables, statement, state, undo)?;
     }
     Ok(())
 }
 
 /// Runs one statement.
 #[cycle(statements)]
-#[tactic(auto, using(crate::proofs::Counting::count_out, crate::proofs::Counting::named, crate::proofs::Counting::rises_more, crate::proofs::Counting::rises_one, crate::proofs::Counting::stays_same))]
 fn run_one(
     alloc: Global,
     tables: &[TableInfo],
     statement: &RStmt,
     state: &mut State,
     undo: &mut List<Undo>,
-    steps: &mut usize,
 ) -> Result<(), Stop>
     requires { KeysStand tables.now state.old.tables }
     ensures does { Leaves result state.new (does tables.now statement.now state.old) }
     ensures keys { OnOk result (KeysStand tables.now state.new.tables) }
     ensures undo { StaysUndoable result undo.old state.old.tables undo.new state.new.tables }
-    ensures count { Rises result steps.old (count tables.now statement.now state.old) steps.new }
 {
-    count_one(steps)?;
     match statement {
         RStmt::Assign { to, right } => run_assign(alloc, *to, right, state),
         RStmt::Select {
@@ -108,22 +90,13 @@ fn run_one(
         ),
         RStmt::Branch { test, yes, no } => {
             if takes(alloc, test, &state.env)? {
-                run_all(alloc, tables, yes.as_slice(), state, undo, steps)
+                run_all(alloc, tables, yes.as_slice(), state, undo)
             } else {
-                run_all(alloc, tables, no.as_slice(), state, undo, steps)
+                run_all(alloc, tables, no.as_slice(), state, undo)
             }
         }
         RStmt::ForRows { row, rows, body } => {
-            run_rows(
-                alloc,
-                tables,
-                *row,
-                *rows,
-                body.as_slice(),
-                state,
-                undo,
-                steps,
-            )
+            run_rows(alloc, tables, *row, *rows, body.as_slice(), state, undo)
         }
         RStmt::Total {
             agg,
@@ -152,7 +125,6 @@ fn run_one(
                 body.as_slice(),
                 state,
                 undo,
-                steps,
             )
         }
         RStmt::Update {
@@ -193,13 +165,11 @@ fn run_turns(
     body: &[RStmt],
     state: &mut State,
     undo: &mut List<Undo>,
-    steps: &mut usize,
 ) -> Result<(), Stop>
     requires { KeysStand tables.now state.old.tables }
     ensures does { Leaves result state.new (for_select row once columns.now table conds.now sorts.now (alone tables.now body.now) state.old) }
     ensures keys { OnOk result (KeysStand tables.now state.new.tables) }
     ensures undo { StaysUndoable result undo.old state.old.tables undo.new state.new.tables }
-    ensures count { Rises result steps.old (count_select row once columns.now table conds.now sorts.now (alone tables.now body.now) (counted tables.now body.now) state.old) steps.new }
 {
     let checks = checks_from(alloc, conds, &state.env)?;
     let rows = fixed_rows(
@@ -210,16 +180,7 @@ fn run_turns(
         checks.as_slice(),
         near_matches(tables, &state.tables, table, checks.as_slice()),
     )?;
-    run_loop(
-        alloc,
-        tables,
-        row,
-        body,
-        rows.as_slice(),
-        state,
-        undo,
-        steps,
-    )
+    run_loop(alloc, tables, row, body, rows.as_slice(), state, undo)
 }
 
 /// FOR over a ROWS parameter.
@@ -232,25 +193,14 @@ fn run_rows(
     body: &[RStmt],
     state: &mut State,
     undo: &mut List<Undo>,
-    steps: &mut usize,
 ) -> Result<(), Stop>
     requires { KeysStand tables.now state.old.tables }
     ensures does { Leaves result state.new (for_rows row parameter (alone tables.now body.now) state.old) }
     ensures keys { OnOk result (KeysStand tables.now state.new.tables) }
     ensures undo { StaysUndoable result undo.old state.old.tables undo.new state.new.tables }
-    ensures count { Rises result steps.old (count_rows row parameter (alone tables.now body.now) (counted tables.now body.now) state.old) steps.new }
 {
     let rows = copied_turns(alloc, &state.env, parameter)?;
-    run_loop(
-        alloc,
-        tables,
-        row,
-        body,
-        rows.as_slice(),
-        state,
-        undo,
-        steps,
-    )
+    run_loop(alloc, tables, row, body, rows.as_slice(), state, undo)
 }
 
 /// FOR over rows that are fixed.
@@ -263,18 +213,16 @@ fn run_loop(
     rows: &[Row],
     state: &mut State,
     undo: &mut List<Undo>,
-    steps: &mut usize,
 ) -> Result<(), Stop>
     requires { KeysStand tables.now state.old.tables }
     ensures does { Leaves result state.new (loop_over row (alone tables.now body.now) rows.now state.old) }
     ensures keys { OnOk result (KeysStand tables.now state.new.tables) }
     ensures undo { StaysUndoable result undo.old state.old.tables undo.new state.new.tables }
-    ensures count { Rises result steps.old (count_loop row (alone tables.now body.now) (counted tables.now body.now) rows.now state.old) steps.new }
 {
     set_found(&mut state.env, !rows.is_empty())?;
     for one in rows {
         set_held(&mut state.env, row as usize, Held::Turn(one.copy(alloc)?))?;
-        run_all(alloc, tables, body, state, undo, steps)?;
+        run_all(alloc, tables, body, state, undo)?;
     }
     Ok(())
 }

@@ -10,7 +10,9 @@ use Rattle.mv_journal.specs.declared.outcome.Mark.TheVariants.{Plain}
 use Rattle.mv_journal.specs.declared.outcome.HistoryLine.{HistoryLine}
 use Rattle.mv_journal.specs.declared.outcome.Outcome.{Outcome}
 use Rattle.mv_catalog.specs.declared.resolved.Program.{Program}
-use Rattle.mv_alone.specs.TableAfter.{table_after, reply_of, executed, call_order, first_numbers, RepliesOf, CountsOf}
+use Rattle.mv_alone.specs.TableAfter.{table_after, reply_of, call_order, first_numbers, RepliesOf}
+use Rattle.mv_recorded.specs.Recorded.{records}
+use Rattle.mv_run.specs.Counts.{CountsOf}
 use Rattle.mv_top.specs.History.{commits, start_of, commit_of, history_line, outcome_of, turn, in_turn}
 use Rattle.mv_top.specs.Turns.{turn_line, turn_lines}
 use Rattle.mv_top.proofs.Numbers.{length_numbers, index_numbers, same_numbers}
@@ -49,11 +51,11 @@ line_is p counts told k lt =
     let j = in_turn p in
     let within : k < length (call_order p) = omega (arith, length_numbers (calls_in p)) in
     let start : start_of (in_turn p) k ≡ k = start_in_turn (calls_in p) k lt in
-    let count : slice_index counts k ≡ executed p k (table_after p (call_order p) k) =
-    index_of_get counts k _ (told k within) ∙ ap (λ c. executed p c (table_after p (call_order p) k)) (index_numbers (calls_in p) k lt) in
+    let count : slice_index counts k ≡ length (records p k (table_after p (call_order p) k)) =
+    index_of_get counts k _ (told k within) ∙ ap (λ c. length (records p c (table_after p (call_order p) k))) (index_numbers (calls_in p) k lt) in
     let same_order : call_order p ≡ commits (in_turn p) = sym (commits_in_turn (calls_in p)) in
-    ap (line_with k k) (count ∙ ap (λ o. executed p k (table_after p o k)) same_order)
-    ∙ ap (λ s. line_with k s (executed p k (table_after p (commits (in_turn p)) s))) (sym start)
+    ap (line_with k k) (count ∙ ap (λ o. length (records p k (table_after p o k))) same_order)
+    ∙ ap (λ s. line_with k s (length (records p k (table_after p (commits (in_turn p)) s)))) (sym start)
 
 history_is : (p : Program) (counts : List ℕ) → length counts ≡ calls_in p → CountsOf p (call_order p) counts
     → turn_lines counts (length counts) ≡ map (history_line p (in_turn p)) (commits (in_turn p))

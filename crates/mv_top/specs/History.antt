@@ -10,7 +10,8 @@ use Rattle.mv_journal.specs.declared.outcome.Round.{Round}
 use Rattle.mv_journal.specs.declared.outcome.HistoryLine.{HistoryLine}
 use Rattle.mv_journal.specs.declared.outcome.Outcome.{Outcome}
 use Rattle.mv_catalog.specs.declared.resolved.Program.{Program}
-use Rattle.mv_alone.specs.TableAfter.{table_after, reply_of, executed, call_order}
+use Rattle.mv_alone.specs.TableAfter.{table_after, reply_of, call_order}
+use Rattle.mv_recorded.specs.Recorded.{records}
 use Rattle.mv_report.specs.Text.{text_of}
 
 -- the calls in the order of their commits
@@ -40,9 +41,9 @@ commit_after n (e ∷ es) c = commit_after n es c
 abbrev pub commit_of : List Event → ℕ → ℕ
 commit_of = commit_after 0
 
--- a call's one round: as many records as the call executes statements on the database at its start
+-- a call's one round: as many records as a full run of the call leaves on the database at its start
 abbrev pub round_of : Program → List Event → ℕ → Round
-round_of p j c = record { start = start_of j c; count = Some (executed p c (table_after p (commits j) (start_of j c))); mark = Plain }
+round_of p j c = record { start = start_of j c; count = Some (length (records p c (table_after p (commits j) (start_of j c)))); mark = Plain }
 
 abbrev pub history_line : Program → List Event → ℕ → HistoryLine
 history_line p j c = record { call = c; rounds = round_of p j c ∷ [] }

@@ -48,6 +48,7 @@ pub fn answer<R: Threads + Wait + Sync, P: Pace>(
 /// What a command makes of a program.
 fn text_of(alloc: Global, command: &Command, program: &Program) -> Result<List<u8>, NoMemory>
     requires whole { FitsText program.now.resolved }
+    requires sized { length program.now.opening ≡ length program.now.resolved.tables }
     requires fits { Fits program.now }
     requires few { length program.now.resolved.calls ≤ most_calls }
     ensures { IfOk result (λ text. text ≡ text_for command.now program.now) }

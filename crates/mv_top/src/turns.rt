@@ -3,6 +3,7 @@
 ghost use Rattle.std.specs.Prelude.{◌≡◌, ◌≤◌, ◌<◌, ◌^◌, length, IfOk};
 ghost use Rattle.std.specs.List.{flat_map};
 ghost use Rattle.mv_catalog.specs.Fits.{Fits};
+ghost use Rattle.mv_catalog.specs.Text.{FitsText};
 ghost use Rattle.mv_accept.specs.Accepting.{most_calls};
 ghost use Rattle.mv_alone.specs.TableAfter.{first_numbers};
 ghost use Rattle.mv_top.specs.History.{outcome_of, in_turn, turn};
@@ -11,7 +12,7 @@ ghost use Rattle.mv_top.specs.Turns.{turn_line, turn_lines};
 use mv_catalog::resolved::Program;
 use mv_journal::event::Event;
 use mv_journal::outcome::{HistoryLine, Mark, Outcome, Round};
-use mv_serial::calls::{Counted, Serial, run_counted};
+use mv_run::calls::{Ran, run_calls};
 use mv_values::list::List;
 use mv_values::memory::NoMemory;
 use std::alloc::Global;
@@ -51,14 +52,20 @@ fn journal_of(alloc: Global, calls: u32) -> Result<List<Event>, NoMemory>
     Ok(journal)
 }
 
-/// What the calls of a program come to, one after another in the order of the script. It costs the calls' work.
+/// What the calls of a program come to, each executed over the database that the one before left, in the order of the
+/// script. It costs the calls' work, and for each procedure the square of the number of its statements.
 pub(crate) fn run_in_turn(alloc: Global, program: &Program) -> Result<Outcome, NoMemory>
+    requires whole { FitsText program.now.resolved }
+    requires sized { length program.now.opening ≡ length program.now.resolved.tables }
     requires fits { Fits program.now }
     requires few { length program.now.resolved.calls ≤ most_calls }
     ensures { IfOk result (λ outcome. outcome ≡ outcome_of program.now (in_turn program.now)) }
 {
-    let Counted { serial, counts } = run_counted(alloc, program)?;
-    let Serial { replies, tables } = serial;
+    let Ran {
+        replies,
+        counts,
+        tables,
+    } = run_calls(alloc, program)?;
     let history = history_of(alloc, counts.as_slice())?;
     let journal = journal_of(alloc, counts.len() as u32)?;
     Ok(Outcome {

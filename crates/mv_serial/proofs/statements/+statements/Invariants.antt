@@ -1,7 +1,6 @@
-use Rattle.std.proofs.Common.{◌≡◌, ◌+◌, drop}
+use Rattle.std.proofs.Common.{◌≡◌, drop}
 use Rattle.mv_values.specs.Tables.{KeysStand}
 use Rattle.mv_alone.specs.Alone.{alone, each_turn, loop_over}
-use Rattle.mv_alone.specs.Executed.{counted, count_turns, count_loop}
 use Rattle.mv_serial.specs.Undoing.{KeepsUndo}
 use Rattle.mv_serial.proofs.statements.+statements.Given as goal
 
@@ -10,7 +9,6 @@ invariant-run_all-loop-statement l = record {
   keys : KeysStand l.tables l.state.tables;
   does : alone l.tables (drop l.statement-index l.statements) l.state ≡ alone l.tables l.statements l.fn.state;
   undo : KeepsUndo l.fn.undo l.fn.state.tables l.undo l.state.tables;
-  count : l.steps + counted l.tables (drop l.statement-index l.statements) l.state ≡ l.fn.steps + counted l.tables l.statements l.fn.state;
 }
 
 abbrev pub invariant-run_loop-loop-one : goal.invariant-run_loop-loop-one
@@ -18,5 +16,4 @@ invariant-run_loop-loop-one l = record {
   keys : KeysStand l.tables l.state.tables;
   does : each_turn l.row (alone l.tables l.body) (drop l.one-index l.rows) l.state ≡ loop_over l.row (alone l.tables l.body) l.rows l.fn.state;
   undo : KeepsUndo l.fn.undo l.fn.state.tables l.undo l.state.tables;
-  count : l.steps + count_turns l.row (alone l.tables l.body) (counted l.tables l.body) (drop l.one-index l.rows) l.state ≡ l.fn.steps + count_loop l.row (alone l.tables l.body) (counted l.tables l.body) l.rows l.fn.state;
 }

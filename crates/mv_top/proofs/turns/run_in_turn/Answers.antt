@@ -8,8 +8,8 @@ use Rattle.mv_top.proofs.turns.run_in_turn.Goals as goal
 
 pub returns : goal.returns
 returns c =
-    outcome_is c.args.program.now c.in_ok-serial.field-0.serial.replies c.in_ok-serial.field-0.serial.tables c.in_ok-serial.field-0.counts
+    outcome_is c.args.program.now c.in_ok-replies.field-0.replies c.in_ok-replies.field-0.tables c.in_ok-replies.field-0.counts
     c.in_ok-history.history c.in_ok-journal.journal
-    c.in_ok-serial.ensures.tables c.in_ok-serial.ensures.len c.in_ok-serial.ensures.replies c.in_ok-serial.ensures.counts_len c.in_ok-serial.ensures.counts
+    c.in_ok-replies.ensures.tables c.in_ok-replies.ensures.len c.in_ok-replies.ensures.replies c.in_ok-replies.ensures.counts_len c.in_ok-replies.ensures.counts
     (c.in_ok-history.ensures ∙ ap (λ (counts : List ℕ). turn_lines counts (length counts)) c.as_slice.ensures)
     (c.in_ok-journal.ensures ∙ ap (λ n. flat_map turn (first_numbers n)) c.len.ensures)

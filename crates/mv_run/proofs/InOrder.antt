@@ -3,8 +3,10 @@ use Rattle.std.proofs.Common.{◌≡◌, ◌<◌, ◌≤◌, ℕ, zero, suc, Lis
 use Rattle.std.specs.Prelude.{slice_get, slice_index}
 use Rattle.mv_values.specs.declared.calls.Reply.{Reply}
 use Rattle.mv_catalog.specs.declared.resolved.Program.{Program}
-use Rattle.mv_alone.specs.TableAfter.{Tables, outcome, executed, tables_left, reply_in, table_after, first_numbers, call_order, RepliesOf, CountsOf}
-use Rattle.mv_serial.proofs.Numbers.{length_numbers, index_numbers, get_numbers}
+use Rattle.mv_alone.specs.TableAfter.{Tables, outcome, tables_left, reply_in, table_after, first_numbers, call_order, RepliesOf}
+use Rattle.mv_recorded.specs.Recorded.{records}
+use Rattle.mv_run.specs.Counts.{CountsOf}
+use Rattle.mv_run.proofs.Numbers.{length_numbers, index_numbers, get_numbers}
 
 -- the database after the first n calls
 abbrev pub after : Program → ℕ → Tables
@@ -15,7 +17,7 @@ abbrev pub reply_to : Program → ℕ → Reply
 reply_to p c = reply_in (outcome p c (after p c))
 
 abbrev pub count_of : Program → ℕ → ℕ
-count_of p c = executed p c (after p c)
+count_of p c = length (records p c (after p c))
 
 -- the place of a call is its number
 place_is : (p : Program) (k : ℕ) → k < length p.resolved.calls → slice_index (call_order p) k ≡ k
@@ -53,4 +55,4 @@ pub counts_told : (p : Program) (n : ℕ) (counts : List ℕ) → n ≡ length p
 counts_told p n counts all is k lt =
     ap (λ ks. slice_get ks k) is
     ∙ (get_numbers (count_of p) n k (omega (arith, all, within p k lt))
-    ∙ ap Some (told p (executed p) k (within p k lt)))
+    ∙ ap Some (told p (λ c db. length (records p c db)) k (within p k lt)))

@@ -1,11 +1,21 @@
-use Rattle.std.proofs.Common.{◌≡◌, rules, length, ap, sym, subst, ◌∙◌}
-use Rattle.mv_serial.proofs.Numbers.{length_map_numbers}
-use Rattle.mv_serial.proofs.InOrder.{reply_to, count_of, tables_told, replies_told, counts_told}
-use Rattle.mv_alone.specs.TableAfter.{call_order}
-use Rattle.mv_serial.proofs.Lawful.{stopped_unchanged}
-use Rattle.mv_serial.proofs.CallsTyped.{after_typed}
-use Rattle.mv_serial.specs.Typed.{TablesTyped}
-use Rattle.mv_serial.proofs.calls.run_counted.Goals as goal
+use Rattle.std.proofs.Common.{◌≡◌, rules, length, List, ap, sym, subst, ◌∙◌}
+use Rattle.mv_values.specs.declared.rows.Keyed.{Keyed}
+use Rattle.mv_values.specs.Tables.{KeysStand}
+use Rattle.mv_run.proofs.Numbers.{length_map_numbers}
+use Rattle.mv_run.proofs.InOrder.{reply_to, count_of, tables_told, replies_told, counts_told}
+use Rattle.mv_run.proofs.calls.run_calls.Goals as goal
+
+pub loop-number-init : goal.loop-number-init
+loop-number-init c = record {
+  database = record {
+    size = ap length c.in_ok-tables.ensures ∙ c.requires.sized;
+    rising = c.walk_tables.ensures;
+    keys = subst (λ (db : List (List Keyed)). KeysStand c.args.program.now.resolved.tables db) (sym c.in_ok-tables.ensures) c.requires.fits;
+  };
+  tables = c.in_ok-tables.ensures;
+  replies = c.new-replies.ensures;
+  counts = c.new-counts.ensures;
+}
 
 pub returns-clause-tables : goal.returns-clause-tables
 returns-clause-tables c =
@@ -31,11 +41,3 @@ pub returns-clause-counts : goal.returns-clause-counts
 returns-clause-counts c =
     let all : c.loop-number.number ≡ length c.args.program.now.resolved.calls = search rules in
     counts_told c.args.program.now c.loop-number.number c.loop-number.counts all c.loop-number.invariant.counts
-
-pub returns-clause-stopped : goal.returns-clause-stopped
-returns-clause-stopped c = stopped_unchanged c.args.program.now (call_order c.args.program.now) c.loop-number.replies (returns-clause-replies c)
-
-pub returns-clause-typed : goal.returns-clause-typed
-returns-clause-typed c fits typed =
-    subst (TablesTyped c.args.program.now.resolved.tables) (sym (returns-clause-tables c))
-    (after_typed c.args.program.now fits (call_order c.args.program.now) typed (length c.args.program.now.resolved.calls))

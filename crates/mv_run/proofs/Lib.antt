@@ -1,0 +1,5 @@
+pub mod Telling
+pub mod Numbers
+pub mod InOrder
+pub mod Calling
+pub mod Rising

@@ -1,0 +1,23 @@
+-- What records tell of their call: its reply, and the database after it. This project's own.
+use Rattle.std.specs.Prelude.{List, [], Option, Some, None}
+use Rattle.mv_values.specs.declared.calls.End.{End}
+use Rattle.mv_values.specs.declared.calls.Reply.{Reply}
+use Rattle.mv_values.specs.Patching.{applied}
+use Rattle.mv_record.specs.declared.record.Record.{Record}
+use Rattle.mv_record.specs.Runs.{Tables, lines_in, end_in, writes_in}
+
+abbrev pub reply_with : Option End → List Record → Reply
+reply_with None rs = record { lines = lines_in rs; end = None }
+reply_with (Some e) rs = record { lines = []; end = Some e }
+
+-- the lines of the records, or the end that one has and no lines
+abbrev pub reply_told : List Record → Reply
+reply_told rs = reply_with (end_in rs) rs
+
+abbrev pub tables_with : Option End → List Record → Tables → Tables
+tables_with None rs db = applied (writes_in rs) db
+tables_with (Some e) rs db = db
+
+-- the database with their changes, or as before where one has an end
+abbrev pub tables_told : List Record → Tables → Tables
+tables_told rs db = tables_with (end_in rs) rs db
