@@ -136,6 +136,22 @@ fn runs_give_their_text(rt: HostRuntime) -> Result<(), Fail> {
             "B 0\nC 0\nB 1\nC 1\nB 2\nC 2\nB 3\nC 3\n",
             "0,0,\n1,101,\n2,100,\n3,100,\n4,100,\n",
         ),
+        (
+            "other columns of one row",
+            "CALL mark(1, 'x'); CALL add(1, 5);",
+            "reply 0 done\nreply 1 done\n105\n",
+            "1 0 starts 0 runs 1\n2 1 starts 1 runs 4\n",
+            "B 0\nC 0\nB 1\nC 1\n",
+            "0,0,\n1,105,x\n2,100,\n3,100,\n4,100,\n",
+        ),
+        (
+            "a sum that stays",
+            "CALL add(1, 0); CALL add(1, 7);",
+            "reply 0 done\n100\nreply 1 done\n107\n",
+            "1 0 starts 0 runs 4\n2 1 starts 1 runs 4\n",
+            "B 0\nC 0\nB 1\nC 1\n",
+            "0,0,\n1,107,\n2,100,\n3,100,\n4,100,\n",
+        ),
         ("no call", "", "", "", "", opening),
     ] {
         let alloc = rt.alloc();
