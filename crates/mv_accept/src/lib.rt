@@ -3,5 +3,3 @@
 
 pub mod accept;
 pub mod refusal;
-#[cfg(test)]
-mod tests;

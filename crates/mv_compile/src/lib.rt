@@ -6,5 +6,3 @@ pub mod copies;
 mod nodes;
 mod reads;
 mod sizes;
-#[cfg(test)]
-mod tests;

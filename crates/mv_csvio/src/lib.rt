@@ -9,5 +9,3 @@ pub mod joining;
 pub mod laws;
 pub mod load;
 mod record;
-#[cfg(test)]
-mod tests;

@@ -8,6 +8,4 @@ pub mod memory_source;
 pub mod pace;
 pub mod reading;
 pub mod std_edge;
-#[cfg(test)]
-mod tests;
 pub mod writing;

@@ -8,4 +8,3 @@ pub mod Matching
 pub mod Chosen
 pub mod Altered
 pub mod WellNamed
-pub mod Accounts

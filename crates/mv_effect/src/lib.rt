@@ -11,5 +11,3 @@ mod plainly;
 mod selecting;
 mod setting;
 pub mod statement;
-#[cfg(test)]
-mod tests;

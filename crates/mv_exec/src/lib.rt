@@ -17,5 +17,3 @@ mod settle;
 mod sizes;
 pub mod step;
 pub mod task;
-#[cfg(test)]
-mod tests;

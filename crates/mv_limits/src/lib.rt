@@ -8,7 +8,5 @@ pub mod laws;
 mod place;
 mod rows;
 mod statements;
-#[cfg(test)]
-mod tests;
 mod texts;
 mod tokens;

@@ -4,5 +4,3 @@
 pub mod fault;
 pub mod fitting;
 pub mod opening;
-#[cfg(test)]
-mod tests;

@@ -15,7 +15,5 @@ pub mod parse;
 mod reader;
 mod single;
 mod statements;
-#[cfg(test)]
-mod tests;
 mod texts;
 mod words;

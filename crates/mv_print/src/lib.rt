@@ -8,6 +8,4 @@ mod listed;
 mod pieces;
 pub mod print;
 mod statements;
-#[cfg(test)]
-mod tests;
 mod words;

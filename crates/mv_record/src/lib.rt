@@ -3,5 +3,3 @@
 
 pub mod applying;
 pub mod record;
-#[cfg(test)]
-mod tests;

@@ -8,8 +8,4 @@ pub mod render;
 pub mod render_graphs;
 pub mod render_serial;
 mod replies;
-#[cfg(test)]
-mod serial_tests;
 mod tables;
-#[cfg(test)]
-mod tests;

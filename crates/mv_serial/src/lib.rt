@@ -5,11 +5,7 @@ pub mod calls;
 mod change;
 mod deleting;
 mod inserting;
-#[cfg(test)]
-mod programs;
 mod run;
 mod statements;
-#[cfg(test)]
-mod tests;
 mod totals;
 mod undo;

@@ -5,7 +5,5 @@ pub mod answer;
 mod graphs;
 mod serial;
 pub mod status;
-#[cfg(test)]
-mod tests;
 pub mod top;
 mod turns;

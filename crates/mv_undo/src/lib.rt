@@ -6,6 +6,4 @@ mod index;
 mod lookup;
 mod overlay;
 pub mod owned;
-#[cfg(test)]
-mod tests;
 pub mod undo;

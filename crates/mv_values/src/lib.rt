@@ -13,7 +13,5 @@ pub mod patch;
 pub mod pred;
 pub mod rows;
 pub mod schema;
-#[cfg(test)]
-mod tests;
 pub mod txt;
 pub mod value;

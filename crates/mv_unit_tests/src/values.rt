@@ -1,12 +1,14 @@
-use crate::copied::Copied;
-use crate::list::List;
-use crate::memory::NoMemory;
-use crate::op::Op;
-use crate::patch::{Assign, Patch, Write};
-use crate::pred::{Pred, Test};
-use crate::rows::{Keyed, Rows};
-use crate::txt::Txt;
-use crate::value::{Value, compare_keys};
+//! Rows, values, predicates and writes.
+
+use mv_values::copied::Copied;
+use mv_values::list::List;
+use mv_values::memory::NoMemory;
+use mv_values::op::Op;
+use mv_values::patch::{Assign, Patch, Write};
+use mv_values::pred::{Pred, Test};
+use mv_values::rows::{Keyed, Rows};
+use mv_values::txt::Txt;
+use mv_values::value::{Value, compare_keys};
 use std::alloc::Global;
 use std::cmp::Ordering;
 use std::test::Fail;

@@ -1,10 +1,12 @@
+//! Texts of outcomes, worked out by hand.
+
 ghost use Rattle.std.specs.Prelude.{◌≡◌, ◌∷◌, [], ◌↔◌, IsTrue, IfOk, All};
 ghost use Rattle.mv_values.specs.Printable.{IsPrintable};
 ghost use Rattle.mv_values.specs.declared.value.Value.TheVariants.{Int};
 
-use crate::render::render;
 use mv_journal::event::Event;
 use mv_journal::outcome::{HistoryLine, Mark, Outcome, Round};
+use mv_report::render::render;
 use mv_values::calls::{End, Reply};
 use mv_values::list::List;
 use mv_values::memory::NoMemory;

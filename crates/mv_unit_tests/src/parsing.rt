@@ -1,16 +1,16 @@
 //! Scripts, expressions and faults of the grammar, worked out by hand.
 
-use crate::fault::{ParseFault, Which};
-use crate::parse::parse;
 use mv_ast::tree::{Expr, ExprKind, Item, ItemKind, Script, Stmt};
 use mv_lex::lexer::lex;
+use mv_parser::fault::{ParseFault, Which};
+use mv_parser::parse::parse;
 use mv_values::txt::Txt;
 use mv_values::value::Value;
 use std::alloc::Global;
 use std::test::Fail;
 
 /// What parsing this text answers.
-fn read(alloc: Global, text: &str) -> Result<Result<Script, ParseFault>, Fail> {
+pub(crate) fn read(alloc: Global, text: &str) -> Result<Result<Script, ParseFault>, Fail> {
     let bytes = text.as_bytes();
     if bytes.len() > 1 << 24 {
         return Err("too long".into());
@@ -19,43 +19,46 @@ fn read(alloc: Global, text: &str) -> Result<Result<Script, ParseFault>, Fail> {
     Ok(parse(alloc, &tokens, bytes))
 }
 
+const FAULTS: &[(&str, u32)] = &[
+    // Levels of parentheses that are never closed: one past the last.
+    (
+        "CREATE PROCEDURE p () BEGIN SET :x = (((((((((((((((((((((((((((((((",
+        41,
+    ),
+    ("JOURNAL", 2),
+    ("CALL p()", 5),
+    ("CALL p() CALL q();", 5),
+    ("CALL p(1,);", 6),
+    ("CALL p(- 'a');", 5),
+    ("DELETE FROM a;", 1),
+    ("CREATE INDEX i;", 2),
+    ("CREATE TABLE a (id INT);", 7),
+    ("CREATE TABLE a (id INT, PRIMARY KEY (id, 3));", 13),
+    ("CREATE TABLE a (id TEXT, PRIMARY KEY (id));", 7),
+    ("COPY a <<\n1\n>>\n;", 4),
+    ("CREATE PROCEDURE p () DECLARE :x = 1 BEGIN END;", 10),
+    ("CREATE PROCEDURE p () BEGIN SET :x = 1 END;", 11),
+    ("CREATE PROCEDURE p () BEGIN PRINT select; END;", 8),
+    ("CREATE PROCEDURE p () BEGIN PRINT 1 < 2 < 3; END;", 11),
+    ("CREATE PROCEDURE p () BEGIN PRINT 1 + NOT 2; END;", 10),
+    (
+        "CREATE PROCEDURE p () BEGIN IF 1 = 1 THEN PRINT 1; ELSE END; END;",
+        17,
+    ),
+    (
+        "CREATE PROCEDURE p () BEGIN SELECT DISTINCT a INTO :x FROM t; END;",
+        8,
+    ),
+    (
+        "CREATE PROCEDURE p () BEGIN FOR :r IN SELECT DISTINCT a FROM t ORDER BY a DO END FOR; END;",
+        15,
+    ),
+];
+
 #[test]
 fn names_the_first_token_that_cannot_stand(rt: HostRuntime) -> Result<(), Fail> {
-    for (script, token) in [
-        // Levels of parentheses that are never closed: one past the last.
-        (
-            "CREATE PROCEDURE p () BEGIN SET :x = (((((((((((((((((((((((((((((((",
-            41,
-        ),
-        ("JOURNAL", 2),
-        ("CALL p()", 5),
-        ("CALL p() CALL q();", 5),
-        ("CALL p(1,);", 6),
-        ("CALL p(- 'a');", 5),
-        ("DELETE FROM a;", 1),
-        ("CREATE INDEX i;", 2),
-        ("CREATE TABLE a (id INT);", 7),
-        ("CREATE TABLE a (id INT, PRIMARY KEY (id, 3));", 13),
-        ("CREATE TABLE a (id TEXT, PRIMARY KEY (id));", 7),
-        ("COPY a <<\n1\n>>\n;", 4),
-        ("CREATE PROCEDURE p () DECLARE :x = 1 BEGIN END;", 10),
-        ("CREATE PROCEDURE p () BEGIN SET :x = 1 END;", 11),
-        ("CREATE PROCEDURE p () BEGIN PRINT select; END;", 8),
-        ("CREATE PROCEDURE p () BEGIN PRINT 1 < 2 < 3; END;", 11),
-        ("CREATE PROCEDURE p () BEGIN PRINT 1 + NOT 2; END;", 10),
-        (
-            "CREATE PROCEDURE p () BEGIN IF 1 = 1 THEN PRINT 1; ELSE END; END;",
-            17,
-        ),
-        (
-            "CREATE PROCEDURE p () BEGIN SELECT DISTINCT a INTO :x FROM t; END;",
-            8,
-        ),
-        (
-            "CREATE PROCEDURE p () BEGIN FOR :r IN SELECT DISTINCT a FROM t ORDER BY a DO END FOR; END;",
-            15,
-        ),
-    ] {
+    for case in FAULTS {
+        let (script, token) = *case;
         let fault = read(rt.alloc(), script)?.err();
         assert_eq!(rt; fault, Some(ParseFault::Syntax { token }), "{script}");
     }
@@ -251,28 +254,31 @@ fn printed(alloc: Global, script: &Script) -> Result<String, Fail> {
     Ok(out)
 }
 
+const BINDING: &[(&str, &str)] = &[
+    ("a - b - c", "Sub[Sub[a b] c]"),
+    ("a - b * c % d", "Sub[a Rem[Mul[b c] d]]"),
+    ("(a - (b - c)) / -1", "Div[Sub[a Sub[b c]] Neg[1]]"),
+    (
+        "NOT a = b AND c < 1 OR 'x' >= :Y",
+        "Or[And[Not[Compare(Eq)[a b]] Compare(Lt)[c 1]] Compare(Ge)[x :y]]",
+    ),
+    ("1 OR 2 AND 3 OR 4", "Or[Or[1 And[2 3]] 4]"),
+    ("- -A || 'it''s'", "Join[Neg[Neg[a]] it's]"),
+    ("NOT NOT :R . Id", "Not[Not[r.id]]"),
+    (
+        "LEFT(TEXTOF(-007), 2) <> ''",
+        "Compare(Ne)[Left[TextOf[Neg[7]] 2] ]",
+    ),
+    (
+        "CONTAINS('''', (((1)))) = :select",
+        "Compare(Eq)[Contains[' 1] :select]",
+    ),
+];
+
 #[test]
 fn joins_operators_as_they_bind(rt: HostRuntime) -> Result<(), Fail> {
-    for (written, want) in [
-        ("a - b - c", "Sub[Sub[a b] c]"),
-        ("a - b * c % d", "Sub[a Rem[Mul[b c] d]]"),
-        ("(a - (b - c)) / -1", "Div[Sub[a Sub[b c]] Neg[1]]"),
-        (
-            "NOT a = b AND c < 1 OR 'x' >= :Y",
-            "Or[And[Not[Compare(Eq)[a b]] Compare(Lt)[c 1]] Compare(Ge)[x :y]]",
-        ),
-        ("1 OR 2 AND 3 OR 4", "Or[Or[1 And[2 3]] 4]"),
-        ("- -A || 'it''s'", "Join[Neg[Neg[a]] it's]"),
-        ("NOT NOT :R . Id", "Not[Not[r.id]]"),
-        (
-            "LEFT(TEXTOF(-007), 2) <> ''",
-            "Compare(Ne)[Left[TextOf[Neg[7]] 2] ]",
-        ),
-        (
-            "CONTAINS('''', (((1)))) = :select",
-            "Compare(Eq)[Contains[' 1] :select]",
-        ),
-    ] {
+    for case in BINDING {
+        let (written, want) = *case;
         let alloc = rt.alloc();
         let script = format!(in alloc; "CREATE PROCEDURE p () BEGIN PRINT {written}; END;")?;
         let told = match read(alloc, script.as_str())? {

@@ -1,6 +1,6 @@
 //! Scripts, and the line that each of them is refused with, worked out by hand from the rules of the language.
 
-use crate::accept::{NotAccepted, accept};
+use mv_accept::accept::{NotAccepted, accept};
 use std::alloc::Global;
 use std::test::Fail;
 
@@ -213,21 +213,23 @@ fn statements_with_a_fault(rt: HostRuntime) -> Result<(), Fail> {
     Ok(())
 }
 
+const ACCEPTED: &[&str] = &[
+    "",
+    "set :I = :A + :Found - 1;",
+    "SELECT n, s INTO :i, :w FROM t WHERE s >= '' AND k = 1 ORDER BY s DESC, k OFFSET :a;",
+    "SELECT n, n INTO :i, :i FROM t;",
+    "SELECT MAX(s) INTO :w FROM T;",
+    "SELECT COUNT(DISTINCT s) INTO :i FROM t;",
+    "FOR :r IN :m DO END FOR; FOR :r IN SELECT n FROM t DO PRINT :r.n; END FOR;",
+    "FOR :r IN :m DO IF :r.x THEN SET :w = :R.Y; ELSE INSERT INTO t VALUES (:r.x, 1, :u); END IF; END FOR;",
+    "FOR :r IN SELECT s, s FROM t DO FOR :q IN SELECT k FROM t WHERE s = :r.s DO END FOR; END FOR;",
+    "UPDATE t SET n = k + n, s = s || :u WHERE k = (:a);",
+    "DELETE FROM t WHERE s <> LEFT(TEXTOF(1 = 1), 2);",
+];
+
 #[test]
 fn statements_without_a_fault(rt: HostRuntime) -> Result<(), Fail> {
-    for statements in [
-        "",
-        "set :I = :A + :Found - 1;",
-        "SELECT n, s INTO :i, :w FROM t WHERE s >= '' AND k = 1 ORDER BY s DESC, k OFFSET :a;",
-        "SELECT n, n INTO :i, :i FROM t;",
-        "SELECT MAX(s) INTO :w FROM T;",
-        "SELECT COUNT(DISTINCT s) INTO :i FROM t;",
-        "FOR :r IN :m DO END FOR; FOR :r IN SELECT n FROM t DO PRINT :r.n; END FOR;",
-        "FOR :r IN :m DO IF :r.x THEN SET :w = :R.Y; ELSE INSERT INTO t VALUES (:r.x, 1, :u); END IF; END FOR;",
-        "FOR :r IN SELECT s, s FROM t DO FOR :q IN SELECT k FROM t WHERE s = :r.s DO END FOR; END FOR;",
-        "UPDATE t SET n = k + n, s = s || :u WHERE k = (:a);",
-        "DELETE FROM t WHERE s <> LEFT(TEXTOF(1 = 1), 2);",
-    ] {
+    for statements in ACCEPTED {
         let alloc = rt.alloc();
         let script = format!(in alloc; "{HEAD}{statements} END; CALL P(1, 'abc', ROWS ());")?;
         let line = told(alloc, script.as_str())?;
@@ -279,116 +281,119 @@ fn arguments_that_do_not_fit(rt: HostRuntime) -> Result<(), Fail> {
     Ok(())
 }
 
+const SCRIPTS: &[(&str, &str)] = &[
+    ("", "accepted"),
+    ("CALL q();", "refused 6 unknown name at token 2"),
+    ("COPY z <<\n>>\n", "refused 6 unknown name at token 2"),
+    (
+        "CREATE TABLE t (k INT, PRIMARY KEY (z));",
+        "refused 6 unknown name at token 11",
+    ),
+    (
+        "CREATE TABLE t (k INT, PRIMARY KEY (z, z)); CREATE TABLE t (k INT, PRIMARY KEY (k));",
+        "refused 6 unknown name at token 11",
+    ),
+    (
+        "CREATE PROCEDURE p () BEGIN SET :x = 1; END;",
+        "refused 6 unknown name at token 8",
+    ),
+    (
+        "CREATE TABLE t (k INT, PRIMARY KEY (k)); CREATE TABLE T (k INT, PRIMARY KEY (k));",
+        "refused 7 double name at token 17",
+    ),
+    (
+        "CREATE TABLE t (k INT, K INT, PRIMARY KEY (k));",
+        "refused 7 double name at token 8",
+    ),
+    (
+        "CREATE TABLE t (k INT, PRIMARY KEY (k, k));",
+        "refused 7 double name at token 13",
+    ),
+    (
+        "CREATE PROCEDURE p () BEGIN END; CREATE PROCEDURE p () BEGIN END;",
+        "refused 7 double name at token 11",
+    ),
+    (
+        "CREATE PROCEDURE p (:a INT, :A INT) BEGIN END;",
+        "refused 7 double name at token 8",
+    ),
+    (
+        "CREATE PROCEDURE p (:found INT) BEGIN END;",
+        "refused 7 double name at token 5",
+    ),
+    (
+        "CREATE PROCEDURE p (:m ROWS (x INT, X INT)) BEGIN END;",
+        "refused 7 double name at token 11",
+    ),
+    (
+        "CREATE PROCEDURE p () DECLARE :x = 0; DECLARE :x = ''; BEGIN END;",
+        "refused 7 double name at token 12",
+    ),
+    (
+        "CREATE PROCEDURE p (:a INT) DECLARE :a = 0; BEGIN END;",
+        "refused 7 double name at token 9",
+    ),
+    (
+        "CREATE PROCEDURE p () DECLARE :Found = 0; BEGIN END;",
+        "refused 7 double name at token 7",
+    ),
+    // A table and a procedure may share a name, and so may a parameter and a column of rows.
+    (
+        "CREATE TABLE t (t INT, PRIMARY KEY (t)); CREATE PROCEDURE T (:a INT, :m ROWS (a INT)) BEGIN END; CALL t(1, ROWS ());",
+        "accepted",
+    ),
+    (
+        "CREATE TABLE t (k INT, s TEXT(2), PRIMARY KEY (k)) VALUES (-1, 'abc');",
+        "refused 8 wrong type at token 25",
+    ),
+    (
+        "CREATE TABLE t (k INT, s TEXT(2), PRIMARY KEY (k)) VALUES ('a', -1);",
+        "refused 8 wrong type at token 22",
+    ),
+    (
+        "CREATE TABLE t (k INT, s TEXT(2), PRIMARY KEY (k)) VALUES (1, -1);",
+        "refused 8 wrong type at token 24",
+    ),
+    (
+        "CREATE TABLE t (k INT, s TEXT(2), PRIMARY KEY (k)) VALUES (1, 'ab'), (2, '', 3);",
+        "refused 8 wrong type at token 27",
+    ),
+    (
+        "CREATE PROCEDURE q () BEGIN END; CALL q(-1);",
+        "refused 8 wrong type at token 12",
+    ),
+    // What stands later is there too, and is late.
+    (
+        "CALL p(); CREATE PROCEDURE p () BEGIN END;",
+        "refused 10 late at token 6",
+    ),
+    (
+        "COPY t <<\n>>\nCREATE TABLE t (k INT, PRIMARY KEY (k));",
+        "refused 10 late at token 4",
+    ),
+    (
+        "CREATE PROCEDURE p () BEGIN END; CREATE TABLE t (id INT, PRIMARY KEY (id));",
+        "refused 10 late at token 9",
+    ),
+    (
+        "CREATE PROCEDURE p () BEGIN END; CALL p(); CREATE PROCEDURE p () BEGIN END;",
+        "refused 10 late at token 14",
+    ),
+    ("JOURNAL <<\n>>\nCALL p();", "refused 10 late at token 3"),
+    (
+        "JOURNAL <<\n>>\nJOURNAL <<\n>>\n",
+        "refused 10 late at token 3",
+    ),
+    (
+        "CALL z(); CREATE TABLE t (k INT, k INT, PRIMARY KEY (k));",
+        "refused 6 unknown name at token 2",
+    ),
+];
+
 #[test]
 fn scripts_as_a_whole(rt: HostRuntime) -> Result<(), Fail> {
-    for (script, want) in [
-        ("", "accepted"),
-        ("CALL q();", "refused 6 unknown name at token 2"),
-        ("COPY z <<\n>>\n", "refused 6 unknown name at token 2"),
-        (
-            "CREATE TABLE t (k INT, PRIMARY KEY (z));",
-            "refused 6 unknown name at token 11",
-        ),
-        (
-            "CREATE TABLE t (k INT, PRIMARY KEY (z, z)); CREATE TABLE t (k INT, PRIMARY KEY (k));",
-            "refused 6 unknown name at token 11",
-        ),
-        (
-            "CREATE PROCEDURE p () BEGIN SET :x = 1; END;",
-            "refused 6 unknown name at token 8",
-        ),
-        (
-            "CREATE TABLE t (k INT, PRIMARY KEY (k)); CREATE TABLE T (k INT, PRIMARY KEY (k));",
-            "refused 7 double name at token 17",
-        ),
-        (
-            "CREATE TABLE t (k INT, K INT, PRIMARY KEY (k));",
-            "refused 7 double name at token 8",
-        ),
-        (
-            "CREATE TABLE t (k INT, PRIMARY KEY (k, k));",
-            "refused 7 double name at token 13",
-        ),
-        (
-            "CREATE PROCEDURE p () BEGIN END; CREATE PROCEDURE p () BEGIN END;",
-            "refused 7 double name at token 11",
-        ),
-        (
-            "CREATE PROCEDURE p (:a INT, :A INT) BEGIN END;",
-            "refused 7 double name at token 8",
-        ),
-        (
-            "CREATE PROCEDURE p (:found INT) BEGIN END;",
-            "refused 7 double name at token 5",
-        ),
-        (
-            "CREATE PROCEDURE p (:m ROWS (x INT, X INT)) BEGIN END;",
-            "refused 7 double name at token 11",
-        ),
-        (
-            "CREATE PROCEDURE p () DECLARE :x = 0; DECLARE :x = ''; BEGIN END;",
-            "refused 7 double name at token 12",
-        ),
-        (
-            "CREATE PROCEDURE p (:a INT) DECLARE :a = 0; BEGIN END;",
-            "refused 7 double name at token 9",
-        ),
-        (
-            "CREATE PROCEDURE p () DECLARE :Found = 0; BEGIN END;",
-            "refused 7 double name at token 7",
-        ),
-        // A table and a procedure may share a name, and so may a parameter and a column of rows.
-        (
-            "CREATE TABLE t (t INT, PRIMARY KEY (t)); CREATE PROCEDURE T (:a INT, :m ROWS (a INT)) BEGIN END; CALL t(1, ROWS ());",
-            "accepted",
-        ),
-        (
-            "CREATE TABLE t (k INT, s TEXT(2), PRIMARY KEY (k)) VALUES (-1, 'abc');",
-            "refused 8 wrong type at token 25",
-        ),
-        (
-            "CREATE TABLE t (k INT, s TEXT(2), PRIMARY KEY (k)) VALUES ('a', -1);",
-            "refused 8 wrong type at token 22",
-        ),
-        (
-            "CREATE TABLE t (k INT, s TEXT(2), PRIMARY KEY (k)) VALUES (1, -1);",
-            "refused 8 wrong type at token 24",
-        ),
-        (
-            "CREATE TABLE t (k INT, s TEXT(2), PRIMARY KEY (k)) VALUES (1, 'ab'), (2, '', 3);",
-            "refused 8 wrong type at token 27",
-        ),
-        (
-            "CREATE PROCEDURE q () BEGIN END; CALL q(-1);",
-            "refused 8 wrong type at token 12",
-        ),
-        // What stands later is there too, and is late.
-        (
-            "CALL p(); CREATE PROCEDURE p () BEGIN END;",
-            "refused 10 late at token 6",
-        ),
-        (
-            "COPY t <<\n>>\nCREATE TABLE t (k INT, PRIMARY KEY (k));",
-            "refused 10 late at token 4",
-        ),
-        (
-            "CREATE PROCEDURE p () BEGIN END; CREATE TABLE t (id INT, PRIMARY KEY (id));",
-            "refused 10 late at token 9",
-        ),
-        (
-            "CREATE PROCEDURE p () BEGIN END; CALL p(); CREATE PROCEDURE p () BEGIN END;",
-            "refused 10 late at token 14",
-        ),
-        ("JOURNAL <<\n>>\nCALL p();", "refused 10 late at token 3"),
-        (
-            "JOURNAL <<\n>>\nJOURNAL <<\n>>\n",
-            "refused 10 late at token 3",
-        ),
-        (
-            "CALL z(); CREATE TABLE t (k INT, k INT, PRIMARY KEY (k));",
-            "refused 6 unknown name at token 2",
-        ),
-    ] {
+    for case in SCRIPTS {
+        let (script, want) = *case;
         let line = told(rt.alloc(), script)?;
         assert_eq!(rt; line.as_str(), want, "{script}");
     }
@@ -400,44 +405,64 @@ const ACCOUNTS: &str = "CREATE TABLE acc (id INT, bal INT, note TEXT(20), PRIMAR
   VALUES (0, 0, ''), (1, 100, ''), (2, 100, ''), (3, 100, ''), (4, 100, '');
 ";
 
+const COPIES: &[(&str, &str)] = &[
+    ("COPY acc <<\n7,5,x\n8,-6,\n>>\n", "accepted"),
+    (
+        "COPY acc <<\n7,5,x\n8,y,z\n>>\n",
+        "refused 11 table acc row 2 column 2",
+    ),
+    (
+        "COPY acc <<\n7,5,x\n8,1\n>>\n",
+        "refused 12 table acc row 2",
+    ),
+    (
+        "COPY acc <<\n7,5,x\n7,1,\n>>\n",
+        "refused 13 table acc row 2",
+    ),
+    ("COPY Acc <<\n4,5,x\n>>\n", "refused 13 table acc row 1"),
+    ("COPY acc <<\n-9223372036854775808,-0,x\n>>\n", "accepted"),
+    (
+        "COPY acc <<\n+5,1,x\n>>\n",
+        "refused 11 table acc row 1 column 1",
+    ),
+    (
+        "COPY acc <<\n9223372036854775808,1,x\n>>\n",
+        "refused 11 table acc row 1 column 1",
+    ),
+    (
+        "COPY acc <<\n5,1,abcdefghijklmnopqrst\n6,1,abcdefghijklmnopqrstu\n>>\n",
+        "refused 11 table acc row 2 column 3",
+    ),
+    (
+        "COPY acc <<\n5,1,\t\n>>\n",
+        "refused 11 table acc row 1 column 3",
+    ),
+    ("COPY acc <<\n7,5,x\n8,y,z\n", "refused 14 open block"),
+    (
+        "COPY acc <<\n7,5,x\n>>\nCOPY acc <<\n8,5,x\n9,5,x\n7,5,x\n>>\n",
+        "refused 13 table acc row 3",
+    ),
+    (
+        "COPY acc <<\n0,5,x\n>>\nCOPY acc <<\n7\n",
+        "refused 13 table acc row 1",
+    ),
+    ("JOURNAL <<\n>>\n", "accepted"),
+    ("JOURNAL <<\nQ 0\n", "refused 14 open block"),
+    (
+        "COPY acc <<\nx,5,x\n>>\nJOURNAL <<\n",
+        "refused 11 table acc row 1 column 1",
+    ),
+    // Names and types are looked at before rows.
+    (
+        "COPY acc <<\nx\n>>\nCALL add(1, 5);",
+        "refused 6 unknown name at token 68",
+    ),
+];
+
 #[test]
 fn copied_rows(rt: HostRuntime) -> Result<(), Fail> {
-    for (copies, want) in [
-        ("COPY acc <<\n7,5,x\n8,-6,\n>>\n", "accepted"),
-        (
-            "COPY acc <<\n7,5,x\n8,y,z\n>>\n",
-            "refused 11 table acc row 2 column 2",
-        ),
-        (
-            "COPY acc <<\n7,5,x\n8,1\n>>\n",
-            "refused 12 table acc row 2",
-        ),
-        (
-            "COPY acc <<\n7,5,x\n7,1,\n>>\n",
-            "refused 13 table acc row 2",
-        ),
-        ("COPY Acc <<\n4,5,x\n>>\n", "refused 13 table acc row 1"),
-        ("COPY acc <<\n7,5,x\n8,y,z\n", "refused 14 open block"),
-        (
-            "COPY acc <<\n7,5,x\n>>\nCOPY acc <<\n8,5,x\n9,5,x\n7,5,x\n>>\n",
-            "refused 13 table acc row 3",
-        ),
-        (
-            "COPY acc <<\n0,5,x\n>>\nCOPY acc <<\n7\n",
-            "refused 13 table acc row 1",
-        ),
-        ("JOURNAL <<\n>>\n", "accepted"),
-        ("JOURNAL <<\nQ 0\n", "refused 14 open block"),
-        (
-            "COPY acc <<\nx,5,x\n>>\nJOURNAL <<\n",
-            "refused 11 table acc row 1 column 1",
-        ),
-        // Names and types are looked at before rows.
-        (
-            "COPY acc <<\nx\n>>\nCALL add(1, 5);",
-            "refused 6 unknown name at token 68",
-        ),
-    ] {
+    for case in COPIES {
+        let (copies, want) = *case;
         let alloc = rt.alloc();
         let script = format!(in alloc; "{ACCOUNTS}{copies}")?;
         let line = told(alloc, script.as_str())?;
@@ -446,41 +471,44 @@ fn copied_rows(rt: HostRuntime) -> Result<(), Fail> {
     Ok(())
 }
 
+const TWO_TABLES: &[(&str, &str, &str, &str)] = &[
+    (
+        "(1), (2)",
+        "(1)",
+        "COPY b <<\n2\n>>\nCOPY a <<\n3\n>>\n",
+        "accepted",
+    ),
+    (
+        "(1), (2), (1)",
+        "(1), (1)",
+        "COPY a <<\n",
+        "refused 13 table a row 3",
+    ),
+    (
+        "(1)",
+        "(2), (2)",
+        "COPY a <<\nx\n>>\n",
+        "refused 13 table b row 2",
+    ),
+    (
+        "(1)",
+        "(1)",
+        "COPY b <<\n2\nx\n>>\nCOPY a <<\nx\n>>\n",
+        "refused 11 table b row 2 column 1",
+    ),
+    (
+        "(1)",
+        "(1)",
+        "COPY b <<\n2\n>>\nCOPY a <<\n2,2\n>>\nJOURNAL <<\n",
+        "refused 12 table a row 1",
+    ),
+];
+
 /// Two tables, and rows of each in VALUES.
 #[test]
 fn rows_of_two_tables(rt: HostRuntime) -> Result<(), Fail> {
-    for (first, second, copies, want) in [
-        (
-            "(1), (2)",
-            "(1)",
-            "COPY b <<\n2\n>>\nCOPY a <<\n3\n>>\n",
-            "accepted",
-        ),
-        (
-            "(1), (2), (1)",
-            "(1), (1)",
-            "COPY a <<\n",
-            "refused 13 table a row 3",
-        ),
-        (
-            "(1)",
-            "(2), (2)",
-            "COPY a <<\nx\n>>\n",
-            "refused 13 table b row 2",
-        ),
-        (
-            "(1)",
-            "(1)",
-            "COPY b <<\n2\nx\n>>\nCOPY a <<\nx\n>>\n",
-            "refused 11 table b row 2 column 1",
-        ),
-        (
-            "(1)",
-            "(1)",
-            "COPY b <<\n2\n>>\nCOPY a <<\n2,2\n>>\nJOURNAL <<\n",
-            "refused 12 table a row 1",
-        ),
-    ] {
+    for case in TWO_TABLES {
+        let (first, second, copies, want) = *case;
         let alloc = rt.alloc();
         let script = format!(in alloc;
             "CREATE TABLE a (k INT, PRIMARY KEY (k)) VALUES {first}; CREATE TABLE b (k INT, PRIMARY KEY (k)) VALUES {second};\n{copies}"

@@ -1,8 +1,8 @@
 use Rattle.std.proofs.Common.{◌≡◌, ◌≤◌, ◌==◌, false, ◌∷◌, [], length, ap, sym, ◌∙◌, arith, rules}
 use Rattle.std.proofs.lemmas.Bool.Decides.{nat_tests}
 use Rattle.mv_values.specs.Columns.{columns_of}
-use Rattle.mv_effect.proofs.Accounts.{own_key}
-use Rattle.mv_effect.proofs.tests.has_own_key.Goals as goal
+use Rattle.mv_tests.proofs.OneTable.{own_key}
+use Rattle.mv_tests.proofs.records.has_own_key.Goals as goal
 
 pub returns : goal.returns
 returns c = λ is.

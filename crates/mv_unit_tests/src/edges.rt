@@ -1,8 +1,10 @@
-use crate::edge::Failed;
-use crate::memory_sink::MemorySink;
-use crate::memory_source::MemorySource;
-use crate::reading::{ReadFault, read_all};
-use crate::writing::write_all;
+//! Sources and sinks in memory, and those that fail.
+
+use mv_edge::edge::Failed;
+use mv_edge::memory_sink::MemorySink;
+use mv_edge::memory_source::MemorySource;
+use mv_edge::reading::{ReadFault, read_all};
+use mv_edge::writing::write_all;
 use mv_values::list::List;
 use std::test::Fail;
 

@@ -1,5 +1,7 @@
-use crate::render_serial::render_serial;
-use crate::tests::{accounts, replies, table};
+//! Texts of calls that ran alone.
+
+use crate::reports::{accounts, replies, table};
+use mv_report::render_serial::render_serial;
 use mv_values::list::List;
 use mv_values::rows::{Database, Rows};
 use std::test::Fail;

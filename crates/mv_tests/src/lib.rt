@@ -1,0 +1,15 @@
+//! Tests of whole scripts, which go through all crates, by public calls alone. The crate has nothing else.
+#![tactic(auto)]
+
+#[cfg(test)]
+mod commands;
+#[cfg(test)]
+mod copies;
+#[cfg(test)]
+mod machine;
+#[cfg(test)]
+mod records;
+#[cfg(test)]
+mod refusals;
+#[cfg(test)]
+mod whole;

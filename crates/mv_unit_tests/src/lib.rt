@@ -1,0 +1,22 @@
+//! Tests of single layers, by public calls alone. They stand here since a crate with tests is proved twice. The crate has
+//! nothing else.
+#![tactic(auto)]
+
+#[cfg(test)]
+mod edges;
+#[cfg(test)]
+mod limits;
+#[cfg(test)]
+mod own_writes;
+#[cfg(test)]
+mod parsing;
+#[cfg(test)]
+mod prints;
+#[cfg(test)]
+mod reports;
+#[cfg(test)]
+mod serial_reports;
+#[cfg(test)]
+mod tokens;
+#[cfg(test)]
+mod values;

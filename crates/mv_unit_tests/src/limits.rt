@@ -1,0 +1,275 @@
+//! Scripts at each limit and one past it. Their tokens were counted by hand.
+
+use crate::parsing::read;
+use mv_parser::fault::{ParseFault, Which};
+use std::alloc::Global;
+use std::test::Fail;
+
+/// A part in the middle of a script that stands there again and again: what stands before it, the part, what stands
+/// behind them all with what closes each, and the end; how often the part may stand there; and which limit is passed at
+/// which token where it stands there once more.
+type Case = (
+    &'static str,
+    &'static str,
+    (&'static str, &'static str),
+    &'static str,
+    u32,
+    (Which, u32),
+);
+
+const CASES: &[Case] = &[
+    (
+        "CREATE PROCEDURE p () BEGIN SET :x = ",
+        "(",
+        ("0", ")"),
+        "; END;",
+        31,
+        (Which::Depth, 41),
+    ),
+    (
+        "CREATE PROCEDURE p () BEGIN ",
+        "IF 0 THEN ",
+        ("", "END IF; "),
+        "END;",
+        31,
+        (Which::Depth, 100),
+    ),
+    (
+        "CREATE PROCEDURE p () BEGIN ",
+        "FOR :r IN :m DO ",
+        ("", "END FOR; "),
+        "END;",
+        31,
+        (Which::Depth, 162),
+    ),
+    (
+        "CREATE PROCEDURE p () BEGIN SET :x = ",
+        "NOT ",
+        ("", ""),
+        "0; END;",
+        990,
+        (Which::Stretch, 1001),
+    ),
+    ("CALL ", "a", ("", ""), "();", 64, (Which::Name, 2)),
+    (
+        "CREATE PROCEDURE p (:",
+        "a",
+        ("", ""),
+        " INT) BEGIN END;",
+        64,
+        (Which::Name, 5),
+    ),
+    ("CALL p('", "x", ("", ""), "');", 4000, (Which::Text, 4)),
+    ("CALL p('", "''", ("", ""), "');", 4000, (Which::Text, 4)),
+    (
+        "",
+        "CREATE TABLE a (id INT, PRIMARY KEY (id)); ",
+        ("", ""),
+        "",
+        64,
+        (Which::Tables, 897),
+    ),
+    (
+        "",
+        "CREATE PROCEDURE p () BEGIN END; ",
+        ("", ""),
+        "",
+        256,
+        (Which::Procedures, 2049),
+    ),
+    (
+        "CREATE TABLE a (",
+        "id INT, ",
+        ("", ""),
+        "PRIMARY KEY (id));",
+        32,
+        (Which::Columns, 101),
+    ),
+    (
+        "CREATE TABLE a (id INT, PRIMARY KEY (id",
+        ", id",
+        ("", ""),
+        "));",
+        7,
+        (Which::Key, 27),
+    ),
+    (
+        "CREATE TABLE a (id INT, PRIMARY KEY (id)) VALUES (0",
+        ", 0",
+        ("", ""),
+        ");",
+        31,
+        (Which::Columns, 80),
+    ),
+    (
+        "CREATE PROCEDURE p (:a INT",
+        ", :a INT",
+        ("", ""),
+        ") BEGIN END;",
+        15,
+        (Which::Parameters, 53),
+    ),
+    (
+        "CREATE PROCEDURE p (:a ROWS (x INT",
+        ", x INT",
+        ("", ""),
+        ")) BEGIN END;",
+        31,
+        (Which::Columns, 104),
+    ),
+    (
+        "CREATE PROCEDURE p () ",
+        "DECLARE :x = 0; ",
+        ("", ""),
+        "BEGIN END;",
+        64,
+        (Which::Variables, 326),
+    ),
+    (
+        "CREATE PROCEDURE p () BEGIN ",
+        "PRINT 0; ",
+        ("", ""),
+        "END;",
+        1000,
+        (Which::Statements, 3007),
+    ),
+    (
+        "CREATE PROCEDURE p () BEGIN FOR :r IN :m DO IF 0 THEN ELSE ",
+        "PRINT 0; ",
+        ("", ""),
+        "END IF; END FOR; END;",
+        998,
+        (Which::Statements, 3010),
+    ),
+    (
+        "CREATE PROCEDURE p () BEGIN PRINT 0",
+        ", 0",
+        ("", ""),
+        "; END;",
+        31,
+        (Which::Columns, 72),
+    ),
+    (
+        "CALL p(ROWS ((0)",
+        ", (0)",
+        ("", ""),
+        "));",
+        999,
+        (Which::Rows, 4006),
+    ),
+    (
+        "CALL p(ROWS ((0",
+        ", 0",
+        ("", ""),
+        ")));",
+        31,
+        (Which::Columns, 71),
+    ),
+];
+
+/// The script of a case in which the part stands so often.
+fn script(alloc: Global, case: &Case, count: u32) -> Result<String, Fail> {
+    let (front, part, (middle, close), back, _, _) = case;
+    let mut text = String::from_str(alloc, front)?;
+    for _ in 0..count {
+        text.push_str(part)?;
+    }
+    text.push_str(middle)?;
+    for _ in 0..count {
+        text.push_str(close)?;
+    }
+    text.push_str(back)?;
+    Ok(text)
+}
+
+#[test]
+fn limits_are_told_where_they_are_passed(rt: HostRuntime) -> Result<(), Fail> {
+    let alloc = rt.alloc();
+    for case in CASES {
+        let (front, part, _, _, most, (which, token)) = *case;
+        let script_at = script(alloc, case, most)?;
+        assert_eq!(rt;
+            read(alloc, script_at.as_str())?.err(),
+            None,
+            "{front}{part}"
+        );
+        let script_past = script(alloc, case, most.saturating_add(1))?;
+        let want = Some(ParseFault::Limit { which, token });
+        assert_eq!(rt;
+            read(alloc, script_past.as_str())?.err(),
+            want,
+            "{front}{part}"
+        );
+    }
+    Ok(())
+}
+
+const NUMBERS: &[(&str, Option<(Which, u32)>)] = &[
+    (
+        "CALL p(9223372036854775807, 00000000000000000009223372036854775807);",
+        None,
+    ),
+    (
+        "CALL p(00000000000000000009223372036854775808);",
+        Some((Which::Literal, 4)),
+    ),
+    (
+        "CALL p(99999999999999999999999999999999999999);",
+        Some((Which::Literal, 4)),
+    ),
+    (
+        "CREATE TABLE a (id TEXT(1), x TEXT(4000), PRIMARY KEY (id));",
+        None,
+    ),
+    (
+        "CREATE TABLE a (id TEXT(0), PRIMARY KEY (id));",
+        Some((Which::Text, 8)),
+    ),
+    (
+        "CREATE TABLE a (id TEXT(4001), PRIMARY KEY (id));",
+        Some((Which::Text, 8)),
+    ),
+    // At one token the limit that stands first counts, and of two tokens the first.
+    (
+        "CREATE TABLE a (id TEXT(9223372036854775808), PRIMARY KEY (id));",
+        Some((Which::Literal, 8)),
+    ),
+    (
+        "CREATE TABLE a (id TEXT(0), x TEXT(9223372036854775808), PRIMARY KEY (id));",
+        Some((Which::Text, 8)),
+    ),
+];
+
+#[test]
+fn numbers_and_sizes_at_their_limits(rt: HostRuntime) -> Result<(), Fail> {
+    for case in NUMBERS {
+        let (script, limit) = *case;
+        let want = limit.map(|(which, token)| ParseFault::Limit { which, token });
+        assert_eq!(rt; read(rt.alloc(), script)?.err(), want, "{script}");
+    }
+    Ok(())
+}
+
+const ENDS: &[(&str, &str, &str)] = &[
+    ("CALL p(0", ", 0", ");"),
+    ("", "CALL p(); ", ""),
+    ("", "COPY a <<\n1\n>>\n", ""),
+    (
+        "CREATE PROCEDURE p () BEGIN ",
+        "IF (0) THEN FOR :r IN :m DO END FOR; END IF; ",
+        "END;",
+    ),
+];
+
+/// Each ends a stretch: a comma, a semicolon, a block. Each closes what it opened.
+#[test]
+fn stretches_and_depths_end(rt: HostRuntime) -> Result<(), Fail> {
+    let alloc = rt.alloc();
+    for case in ENDS {
+        let (front, part, back) = *case;
+        let none = (Which::Depth, 0);
+        let script = script(alloc, &(front, part, ("", ""), back, 0, none), 400)?;
+        assert_eq!(rt; read(alloc, script.as_str())?.err(), None, "{part}");
+    }
+    Ok(())
+}
