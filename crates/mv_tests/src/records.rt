@@ -3,9 +3,8 @@
 ghost use Rattle.std.specs.Prelude.{◌≡◌, ◌≤◌, ◌∷◌, [], IsTrue, IfOk, All, length};
 ghost use Rattle.std.specs.Option.{option_copied};
 ghost use Rattle.mv_values.specs.Columns.{columns_of};
-ghost use Rattle.mv_values.specs.Keys.{IsRising};
 ghost use Rattle.mv_values.specs.Patching.{applied};
-ghost use Rattle.mv_values.specs.Tables.{key_columns, rows_at};
+ghost use Rattle.mv_values.specs.Tables.{key_columns};
 ghost use Rattle.mv_catalog.specs.Text.{FitsText};
 ghost use Rattle.mv_record.specs.Runs.{writes_in};
 ghost use Rattle.mv_graph.specs.Nodes.{IsSound};
@@ -13,6 +12,7 @@ ghost use Rattle.mv_effect.specs.Looking.{IsDatabase};
 ghost use Rattle.mv_exec.specs.Graphs.{Runs};
 
 use mv_accept::accept::accept;
+use mv_alone::find::rows_in;
 use mv_alone::line::line_from;
 use mv_catalog::resolved::Program;
 use mv_compile::compile::compile;
@@ -291,16 +291,6 @@ fn have_own_keys(rows: &[Keyed]) -> bool
     rows.iter().all(has_own_key)
 }
 
-fn rows_in(database: &Database) -> &[Keyed]
-    ensures rows { result.now ≡ rows_at database.now 0 }
-    ensures rising { IsRising (rows_at database.now 0) }
-{
-    match database.as_slice().get(0) {
-        Some(rows) => rows.as_slice(),
-        None => &[],
-    }
-}
-
 /// Whether the first column alone is the key.
 fn is_first_key(key: &[u8]) -> bool
     ensures { IsTrue result → key.now ≡ 0 ∷ [] }
@@ -327,7 +317,7 @@ fn is_one_table(tables: &[TableInfo]) -> bool
 fn is_sound(tables: &[TableInfo], database: &Database) -> bool
     ensures { IsTrue result → IsDatabase tables.now database.now }
 {
-    is_one_table(tables) && database.len() == 1 && have_own_keys(rows_in(database))
+    is_one_table(tables) && database.len() == 1 && have_own_keys(rows_in(database, 0))
 }
 
 /// The database behind the writes of records.
