@@ -10,6 +10,7 @@ pub mod Guarded
 pub mod Levels
 pub mod Enough
 pub mod Turns
+pub mod Chains
 pub mod TextLaws
 pub mod Keywords
 pub mod Firsts

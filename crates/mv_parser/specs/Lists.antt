@@ -2,6 +2,7 @@
 use Rattle.std.specs.Prelude.{List, [], ◌∷◌, Ok, length}
 use Rattle.mv_ast.specs.declared.lexeme.Lexeme.{Lexeme}
 use Rattle.mv_ast.specs.declared.lexeme.Terminal.{Terminal}
+use Rattle.mv_ast.specs.declared.lexeme.Terminal.TheVariants as word
 use Rattle.mv_ast.specs.Grammar.{added, single}
 use Rattle.mv_parser.specs.Reading.{◌>>=◌, Read, read_one, more}
 
@@ -15,3 +16,7 @@ begun x = Ok (single x.0, x.1)
 -- one, and then others, each behind a mark
 abbrev pub read_separated : {A : Type 0} → Terminal → (List Lexeme → Read A) → List Lexeme → Read (List A)
 read_separated mark reading ts = (reading ts >>= begun) >>= (λ x. more (length x.1) added (mark ∷ []) (read_behind mark reading) x.0 x.1)
+
+-- what stands in parentheses
+abbrev pub read_in_parens : {A : Type 0} → (List Lexeme → Read A) → List Lexeme → Read A
+read_in_parens reading ts = read_behind word.Open reading ts >>= (λ x. read_one word.Close x.1 >>= (λ y. Ok (x.0, y.1)))

@@ -1,17 +1,23 @@
 //! Statements that hold others.
 
-ghost use Rattle.std.specs.Prelude.{◌≡◌, ℕ, drop};
+ghost use Rattle.std.specs.Prelude.{◌≡◌, ℕ, List, drop};
 ghost use Rattle.mv_ast.specs.declared.lexeme.Terminal.TheVariants as word;
 ghost use Rattle.mv_ast.specs.declared.tree.Stmt.{Stmt};
+ghost use Rattle.mv_ast.specs.declared.tree.Stmt.TheVariants.{Branch};
 ghost use Rattle.mv_ast.specs.declared.tree.Name.{Name};
+ghost use Rattle.mv_ast.specs.declared.tree.Cond.{Cond};
+ghost use Rattle.mv_ast.specs.declared.tree.Sort.{Sort};
+ghost use Rattle.mv_ast.specs.Trees.{for_plain_of, for_distinct_of};
 ghost use Rattle.mv_ast.specs.Parts.{statement};
 ghost use Rattle.mv_ast.specs.Grammar.{many, stmt, for_each, for_plain, for_distinct, for_rows, loop_body, branch, otherwise};
-ghost use Rattle.mv_parser.specs.Answers.{Reads, ReadsFor};
+ghost use Rattle.mv_parser.specs.Reading.{Read, read};
+ghost use Rattle.mv_parser.specs.Rests.{plain_rest, distinct_rest, branches};
+ghost use Rattle.mv_parser.specs.Answers.{Reads, ReadsFor, Gives, GivesBy, Completes, inside_of};
 
 use crate::fault::Stop;
 use crate::reader::Reader;
 use mv_ast::lexeme::Terminal;
-use mv_ast::tree::{Name, Stmt};
+use mv_ast::tree::{Cond, Expr, Name, Sort, Stmt};
 use mv_values::list::List;
 
 impl Reader<'_> {
@@ -106,25 +112,49 @@ impl Reader<'_> {
         ensures { ReadsFor self.now at for_plain (λ f. f token row) result }
     {
         let (columns, at) = self.separated(at, Terminal::Comma)?;
+        let rest = self.plain_rest(at);
+        self.plain_loop(token, row, columns, rest)
+    }
+
+    /// FOR over rows of a table, from FROM on.
+    #[cycle(stmt)]
+    fn plain_rest(
+        &self,
+        at: usize,
+    ) -> Result<((Name, List<Cond>, List<Sort>, List<Stmt>), usize), Stop>
+        ensures { (f : Name → List Cond → List Sort → List Stmt → ℕ → Name → Stmt) → GivesBy self.now.lexemes.now (λ x. f x.0 x.1 x.2 x.3) result (read (inside_of self.now) (plain_rest self.now.bytes.now f) (drop at self.now.lexemes.now)) }
+    {
         let (_, at) = self.one(at, Terminal::From)?;
         let (table, at) = self.name(at)?;
         let (conds, at) = self.conds(at)?;
         let (sorts, at) = self.sorts(at)?;
         let (body, at) = self.loop_body(at)?;
+        Ok(((table, conds, sorts, body), at))
+    }
+
+    /// FOR over rows of a table, of what was read.
+    fn plain_loop(
+        &self,
+        token: u32,
+        row: Name,
+        columns: List<Name>,
+        rest: Result<((Name, List<Cond>, List<Sort>, List<Stmt>), usize), Stop>,
+    ) -> Result<(Stmt, usize), Stop>
+        ensures { Completes self.now.lexemes.now (λ x. for_plain_of columns x.0 x.1 x.2 x.3) (λ f. f token row) rest result }
+    {
+        let ((table, conds, sorts, body), at) = rest?;
         let distinct = false;
-        Ok((
-            Stmt::ForSelect {
-                token,
-                row,
-                distinct,
-                columns,
-                table,
-                conds,
-                sorts,
-                body,
-            },
-            at,
-        ))
+        let each = Stmt::ForSelect {
+            token,
+            row,
+            distinct,
+            columns,
+            table,
+            conds,
+            sorts,
+            body,
+        };
+        Ok((each, at))
     }
 
     /// FOR over distinct rows, from DISTINCT on.
@@ -135,25 +165,46 @@ impl Reader<'_> {
     {
         let (_, at) = self.one(at, Terminal::Distinct)?;
         let (columns, at) = self.separated(at, Terminal::Comma)?;
+        let rest = self.distinct_rest(at);
+        self.distinct_loop(token, row, columns, rest)
+    }
+
+    /// FOR over distinct rows, from FROM on.
+    #[cycle(stmt)]
+    fn distinct_rest(&self, at: usize) -> Result<((Name, List<Cond>, List<Stmt>), usize), Stop>
+        ensures { (f : Name → List Cond → List Stmt → ℕ → Name → Stmt) → GivesBy self.now.lexemes.now (λ x. f x.0 x.1 x.2) result (read (inside_of self.now) (distinct_rest self.now.bytes.now f) (drop at self.now.lexemes.now)) }
+    {
         let (_, at) = self.one(at, Terminal::From)?;
         let (table, at) = self.name(at)?;
         let (conds, at) = self.conds(at)?;
         let (body, at) = self.loop_body(at)?;
+        Ok(((table, conds, body), at))
+    }
+
+    /// FOR over distinct rows, of what was read.
+    fn distinct_loop(
+        &self,
+        token: u32,
+        row: Name,
+        columns: List<Name>,
+        rest: Result<((Name, List<Cond>, List<Stmt>), usize), Stop>,
+    ) -> Result<(Stmt, usize), Stop>
+        ensures { Completes self.now.lexemes.now (λ x. for_distinct_of columns x.0 x.1 x.2) (λ f. f token row) rest result }
+    {
+        let ((table, conds, body), at) = rest?;
         let distinct = true;
         let sorts = List::new(self.alloc);
-        Ok((
-            Stmt::ForSelect {
-                token,
-                row,
-                distinct,
-                columns,
-                table,
-                conds,
-                sorts,
-                body,
-            },
-            at,
-        ))
+        let each = Stmt::ForSelect {
+            token,
+            row,
+            distinct,
+            columns,
+            table,
+            conds,
+            sorts,
+            body,
+        };
+        Ok((each, at))
     }
 
     /// FOR over the rows of a parameter, behind IN.
@@ -183,10 +234,7 @@ impl Reader<'_> {
     {
         let (_, at) = self.one(at, Terminal::Do)?;
         let (body, at) = self.statements(at)?;
-        let (_, at) = self.one(at, Terminal::End)?;
-        let (_, at) = self.one(at, Terminal::For)?;
-        let (_, at) = self.one(at, Terminal::Semicolon)?;
-        Ok((body, at))
+        self.ended(body, at, Terminal::For)
     }
 
     /// IF.
@@ -197,21 +245,41 @@ impl Reader<'_> {
     {
         let (token, at) = self.place(at, Terminal::If)?;
         let (test, at) = self.expression(at)?;
+        let rest = self.branches(at);
+        self.branched(token, test, rest)
+    }
+
+    /// What stands behind the test of IF.
+    #[cycle(stmt)]
+    fn branches(&self, at: usize) -> Result<((List<Stmt>, List<Stmt>), usize), Stop>
+        ensures { (f : List Stmt → List Stmt → Stmt) → GivesBy self.now.lexemes.now (λ x. f x.0 x.1) result (read (inside_of self.now) (branches self.now.bytes.now f) (drop at self.now.lexemes.now)) }
+    {
         let (_, at) = self.one(at, Terminal::Then)?;
         let (yes, at) = self.statements(at)?;
         let (no, at) = self.otherwise(at)?;
         let (_, at) = self.one(at, Terminal::End)?;
         let (_, at) = self.one(at, Terminal::If)?;
         let (_, at) = self.one(at, Terminal::Semicolon)?;
-        Ok((
-            Stmt::Branch {
-                token,
-                test,
-                yes,
-                no,
-            },
-            at,
-        ))
+        Ok(((yes, no), at))
+    }
+
+    /// IF of what was read.
+    fn branched(
+        &self,
+        token: u32,
+        test: Expr,
+        rest: Result<((List<Stmt>, List<Stmt>), usize), Stop>,
+    ) -> Result<(Stmt, usize), Stop>
+        ensures { (reading : Read Stmt) → GivesBy self.now.lexemes.now (λ x. Branch token test x.0 x.1) rest reading → Gives self.now.lexemes.now result reading }
+    {
+        let ((yes, no), at) = rest?;
+        let branch = Stmt::Branch {
+            token,
+            test,
+            yes,
+            no,
+        };
+        Ok((branch, at))
     }
 
     /// The statements behind ELSE, if it is there.

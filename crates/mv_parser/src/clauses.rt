@@ -8,6 +8,7 @@ ghost use Rattle.mv_parser.specs.Reading.{inside, read};
 ghost use Rattle.mv_parser.specs.Answers.{Reads};
 
 use crate::fault::Stop;
+use crate::level::Level;
 use crate::lists::Parse;
 use crate::reader::Reader;
 use mv_ast::lexeme::Terminal;
@@ -48,13 +49,13 @@ impl Parse for SetItem {
 
 impl Reader<'_> {
     /// A test of WHERE.
-    #[tactic(auto, unfolding(mv_ast::specs::Grammar::cond))]
+    #[tactic(auto, unfolding(mv_ast::specs::Grammar::cond, mv_ast::specs::Grammar::sum))]
     fn cond(&self, at: usize) -> Result<(Cond, usize), Stop>
         ensures { Reads self.now at cond result }
     {
         let (column, at) = self.name(at)?;
         let (op, at) = self.comparison(at)?;
-        let (right, at) = self.sum(at)?;
+        let (right, at) = self.chain(at, Level::Sum)?;
         Ok((Cond { column, op, right }, at))
     }
 
@@ -152,8 +153,7 @@ impl Reader<'_> {
     {
         let (_, at) = self.one(at, Terminal::Open)?;
         let (name, at) = self.name(at)?;
-        let (_, at) = self.one(at, Terminal::Close)?;
-        Ok((name, at))
+        self.followed(name, at, Terminal::Close)
     }
 
     /// A sum over rows.
@@ -165,8 +165,7 @@ impl Reader<'_> {
             let (_, at) = self.one(at, Terminal::Count)?;
             let (_, at) = self.one(at, Terminal::Open)?;
             let (agg, at) = self.counted(at)?;
-            let (_, at) = self.one(at, Terminal::Close)?;
-            return Ok((agg, at));
+            return self.followed(agg, at, Terminal::Close);
         }
         if self.has(at, Terminal::Sum) {
             let (_, at) = self.one(at, Terminal::Sum)?;

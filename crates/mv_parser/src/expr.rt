@@ -1,70 +1,73 @@
 //! Expressions.
 
 ghost use Rattle.std.specs.Prelude.{◌≡◌, drop};
-ghost use Rattle.mv_ast.specs.declared.lexeme.Terminal.TheVariants as word;
-ghost use Rattle.mv_ast.specs.Parts.{expression};
-ghost use Rattle.mv_ast.specs.Grammar.{two_arguments, in_parentheses, text_of_call, prim, fac, term, sum, comp, neg, conj, expr};
-ghost use Rattle.mv_parser.specs.Answers.{Reads};
+ghost use Rattle.mv_ast.specs.Parts.{give, expression};
+ghost use Rattle.mv_ast.specs.Trees.{with_comparison};
+ghost use Rattle.mv_ast.specs.Grammar.{◌⊛◌, two_arguments, in_parentheses, text_of_call, prim, fac, op, sum, comp, neg};
+ghost use Rattle.mv_parser.specs.Levels.{operand, next, chain, with_compare};
+ghost use Rattle.mv_parser.specs.Answers.{Reads, ReadsFor};
 
 use crate::fault::Stop;
-use crate::lists::Parse;
+use crate::level::{Level, marks};
 use crate::reader::Reader;
 use mv_ast::lexeme::Terminal;
 use mv_ast::tree::{Expr, ExprKind, OneOp, TwoOp};
 use mv_values::boxed::Boxed;
-use mv_values::value::Value;
 
 impl Reader<'_> {
     /// An expression one level further in.
     #[cycle(expr)]
-    #[tactic(auto, using(crate::proofs::Inside::inside_expr, crate::proofs::Inside::inside_none))]
+    #[tactic(auto, using(crate::proofs::Inside::inside_expr, crate::proofs::Inside::inside_none, crate::proofs::Chains::chain_or))]
     pub(crate) fn expression(&self, at: usize) -> Result<(Expr, usize), Stop>
         ensures { Reads self.now at (λ _. expression) result }
     {
         if self.depth == 0 {
             return Err(self.wrong(at));
         }
-        self.deeper().expr(at)
+        self.deeper().chain(at, Level::Or)
     }
 
-    /// Conjunctions between OR.
+    /// Operands of a level between its operators.
     #[cycle(expr)]
-    #[tactic(auto, using(crate::proofs::Turns::more_turn, crate::proofs::Turns::more_stop), unfolding(mv_ast::specs::Grammar::expr))]
-    fn expr(&self, at: usize) -> Result<(Expr, usize), Stop>
-        ensures { Reads self.now at expr result }
+    pub(crate) fn chain(&self, at: usize, level: Level) -> Result<(Expr, usize), Stop>
+        ensures { Reads self.now at (λ bytes. chain bytes level) result }
     {
-        let (mut whole, at) = self.conj(at)?;
+        let (mut whole, at) = self.operand(at, level)?;
         let mut here = at;
         for _turn in 0..self.left(at) {
-            if !self.has(here, Terminal::Or) {
+            if !self.has_any(here, marks(level)) {
                 return Ok((whole, here));
             }
-            let (_, behind) = self.one(here, Terminal::Or)?;
-            let (next, behind) = self.conj(behind)?;
-            whole = self.paired(TwoOp::Or, whole, next)?;
+            let next = self.next(here, level);
+            let (joined, behind) = self.joined(whole, next)?;
+            whole = joined;
             here = behind;
         }
         Ok((whole, here))
     }
 
-    /// Negations between AND.
+    /// An operator of a level and the operand behind it.
     #[cycle(expr)]
-    #[tactic(auto, using(crate::proofs::Turns::more_turn, crate::proofs::Turns::more_stop), unfolding(mv_ast::specs::Grammar::conj))]
-    fn conj(&self, at: usize) -> Result<(Expr, usize), Stop>
-        ensures { Reads self.now at conj result }
+    fn next(&self, at: usize, level: Level) -> Result<((TwoOp, Expr), usize), Stop>
+        ensures { Reads self.now at (λ bytes. next bytes level) result }
     {
-        let (mut whole, at) = self.neg(at)?;
-        let mut here = at;
-        for _turn in 0..self.left(at) {
-            if !self.has(here, Terminal::And) {
-                return Ok((whole, here));
-            }
-            let (_, behind) = self.one(here, Terminal::And)?;
-            let (next, behind) = self.neg(behind)?;
-            whole = self.paired(TwoOp::And, whole, next)?;
-            here = behind;
+        let (op, at) = self.operator(at, level)?;
+        let (right, at) = self.operand(at, level)?;
+        Ok(((op, right), at))
+    }
+
+    /// What stands between the operators of a level.
+    #[cycle(expr)]
+    #[tactic(auto, using(crate::proofs::Chains::chain_and, crate::proofs::Chains::chain_term))]
+    fn operand(&self, at: usize, level: Level) -> Result<(Expr, usize), Stop>
+        ensures { Reads self.now at (λ bytes. operand bytes level) result }
+    {
+        match level {
+            Level::Or => self.chain(at, Level::And),
+            Level::And => self.neg(at),
+            Level::Sum => self.chain(at, Level::Term),
+            Level::Term => self.fac(at),
         }
-        Ok((whole, here))
     }
 
     /// A comparison behind any number of NOT.
@@ -80,57 +83,27 @@ impl Reader<'_> {
 
     /// A sum, or two sums that are compared.
     #[cycle(expr)]
-    #[tactic(auto, unfolding(mv_ast::specs::Grammar::comp, mv_ast::specs::Grammar::op))]
+    #[tactic(auto, unfolding(mv_ast::specs::Grammar::comp, mv_ast::specs::Grammar::sum, mv_ast::specs::Grammar::op))]
     fn comp(&self, at: usize) -> Result<(Expr, usize), Stop>
         ensures { Reads self.now at comp result }
     {
-        let (left, at) = self.sum(at)?;
+        let (left, at) = self.chain(at, Level::Sum)?;
         if !self.has_any(at, &COMPARISONS) {
             return Ok((left, at));
         }
+        let next = self.compared(at);
+        self.joined(left, next)
+    }
+
+    /// A comparison and the sum behind it.
+    #[cycle(expr)]
+    #[tactic(auto, unfolding(mv_ast::specs::Grammar::sum))]
+    fn compared(&self, at: usize) -> Result<((TwoOp, Expr), usize), Stop>
+        ensures { ReadsFor self.now at (λ bytes. give with_comparison ⊛ op bytes ⊛ sum bytes) with_compare result }
+    {
         let (op, at) = self.comparison(at)?;
-        let (right, at) = self.sum(at)?;
-        Ok((self.paired(TwoOp::Compare(op), left, right)?, at))
-    }
-
-    /// Terms between `+`, `-` and two bars.
-    #[cycle(expr)]
-    #[tactic(auto, using(crate::proofs::Turns::more_turn, crate::proofs::Turns::more_stop), unfolding(mv_ast::specs::Grammar::sum, mv_ast::specs::Grammar::sum_op))]
-    pub(crate) fn sum(&self, at: usize) -> Result<(Expr, usize), Stop>
-        ensures { Reads self.now at sum result }
-    {
-        let (mut whole, at) = self.term(at)?;
-        let mut here = at;
-        for _turn in 0..self.left(at) {
-            if !self.has_any(here, &SUM_OPERATORS) {
-                return Ok((whole, here));
-            }
-            let (op, behind) = self.sum_operator(here)?;
-            let (next, behind) = self.term(behind)?;
-            whole = self.paired(op, whole, next)?;
-            here = behind;
-        }
-        Ok((whole, here))
-    }
-
-    /// Factors between `*`, `/` and `%`.
-    #[cycle(expr)]
-    #[tactic(auto, using(crate::proofs::Turns::more_turn, crate::proofs::Turns::more_stop), unfolding(mv_ast::specs::Grammar::term, mv_ast::specs::Grammar::term_op))]
-    fn term(&self, at: usize) -> Result<(Expr, usize), Stop>
-        ensures { Reads self.now at term result }
-    {
-        let (mut whole, at) = self.fac(at)?;
-        let mut here = at;
-        for _turn in 0..self.left(at) {
-            if !self.has_any(here, &TERM_OPERATORS) {
-                return Ok((whole, here));
-            }
-            let (op, behind) = self.term_operator(here)?;
-            let (next, behind) = self.fac(behind)?;
-            whole = self.paired(op, whole, next)?;
-            here = behind;
-        }
-        Ok((whole, here))
+        let (right, at) = self.chain(at, Level::Sum)?;
+        Ok(((TwoOp::Compare(op), right), at))
     }
 
     /// A value behind any number of `-`.
@@ -151,25 +124,16 @@ impl Reader<'_> {
         ensures { Reads self.now at prim result }
     {
         if self.has(at, Terminal::Number) {
-            let (lexeme, at) = self.one(at, Terminal::Number)?;
-            let token = lexeme.number;
-            let kind = ExprKind::Const(Value::Int(self.number_of(lexeme)));
-            return Ok((Expr { token, kind }, at));
+            return self.number_expr(at);
         }
         if self.has(at, Terminal::Quoted) {
-            let (lexeme, at) = self.one(at, Terminal::Quoted)?;
-            let token = lexeme.number;
-            let kind = ExprKind::Const(Value::Text(self.text_of(lexeme)?));
-            return Ok((Expr { token, kind }, at));
+            return self.text_expr(at);
         }
         if self.has(at, Terminal::Variable) {
             return self.variable_expr(at);
         }
         if self.has(at, Terminal::Name) {
-            let (name, at) = self.name(at)?;
-            let token = name.token;
-            let kind = ExprKind::Col(name);
-            return Ok((Expr { token, kind }, at));
+            return self.column_expr(at);
         }
         if self.has(at, Terminal::Open) {
             return self.in_parentheses(at);
@@ -191,9 +155,8 @@ impl Reader<'_> {
     {
         let (token, at) = self.place(at, Terminal::Open)?;
         let (inner, at) = self.expression(at)?;
-        let (_, at) = self.one(at, Terminal::Close)?;
         let Expr { token: _, kind } = inner;
-        Ok((Expr { token, kind }, at))
+        self.followed(Expr { token, kind }, at, Terminal::Close)
     }
 
     /// A call with two arguments.
@@ -204,13 +167,12 @@ impl Reader<'_> {
         let (token, at) = self.place(at, word)?;
         let (_, at) = self.one(at, Terminal::Open)?;
         let (left, at) = self.expression(at)?;
+        let left = Boxed::new(self.alloc, left)?;
         let (_, at) = self.one(at, Terminal::Comma)?;
         let (right, at) = self.expression(at)?;
-        let (_, at) = self.one(at, Terminal::Close)?;
-        let left = Boxed::new(self.alloc, left)?;
         let right = Boxed::new(self.alloc, right)?;
         let kind = ExprKind::Two(op, left, right);
-        Ok((Expr { token, kind }, at))
+        self.followed(Expr { token, kind }, at, Terminal::Close)
     }
 
     /// A call of TEXTOF.
@@ -222,7 +184,7 @@ impl Reader<'_> {
         let (token, at) = self.place(at, Terminal::TextOf)?;
         let (_, at) = self.one(at, Terminal::Open)?;
         let (inner, at) = self.expression(at)?;
-        let (_, at) = self.one(at, Terminal::Close)?;
+        let (inner, at) = self.followed(inner, at, Terminal::Close)?;
         Ok((self.prefixed(OneOp::TextOf, token, inner)?, at))
     }
 }
@@ -235,7 +197,3 @@ const COMPARISONS: [Terminal; 6] = [
     Terminal::Greater,
     Terminal::GreaterOrEqual,
 ];
-
-const SUM_OPERATORS: [Terminal; 3] = [Terminal::Plus, Terminal::Minus, Terminal::Bars];
-
-const TERM_OPERATORS: [Terminal; 3] = [Terminal::Star, Terminal::Slash, Terminal::Percent];

@@ -3,7 +3,7 @@
 ghost use Rattle.std.specs.Prelude.{◌≡◌, drop};
 ghost use Rattle.mv_ast.specs.declared.lexeme.Terminal.TheVariants as word;
 ghost use Rattle.mv_ast.specs.Parts.{one};
-ghost use Rattle.mv_ast.specs.Grammar.{◌◂◌, col_def, many, or_none, commas, columns, table, param, param_kind, declaration, procedure, arg, create, copy, call, journal, an_item};
+ghost use Rattle.mv_ast.specs.Grammar.{◌◂◌, in_parens, col_def, many, or_none, commas, columns, table, param, param_kind, declaration, procedure, arg, create, copy, call, journal, an_item};
 ghost use Rattle.mv_parser.specs.Reading.{inside, read};
 ghost use Rattle.mv_parser.specs.Answers.{Reads};
 
@@ -38,8 +38,7 @@ impl Reader<'_> {
         ensures { Reads self.now at (λ bytes. col_def bytes ◂ one word.Comma) result }
     {
         let (column, at) = self.col_def(at)?;
-        let (_, at) = self.one(at, Terminal::Comma)?;
-        Ok((column, at))
+        self.followed(column, at, Terminal::Comma)
     }
 
     /// The columns of a table, each with a comma behind it.
@@ -73,19 +72,16 @@ impl Reader<'_> {
         let (columns, at) = self.columns(at)?;
         let (_, at) = self.one(at, Terminal::Primary)?;
         let (_, at) = self.one(at, Terminal::Key)?;
-        let (_, at) = self.one(at, Terminal::Open)?;
-        let (key, at) = self.separated(at, Terminal::Comma)?;
-        let (_, at) = self.one(at, Terminal::Close)?;
+        let (key, at) = self.in_parens(at)?;
         let (_, at) = self.one(at, Terminal::Close)?;
         let (rows, at) = self.opening_rows(at)?;
-        let (_, at) = self.one(at, Terminal::Semicolon)?;
         let table = TableDef {
             name,
             columns,
             key,
             rows,
         };
-        Ok((ItemKind::Table(table), at))
+        self.followed(ItemKind::Table(table), at, Terminal::Semicolon)
     }
 
     /// What a parameter takes.
@@ -98,9 +94,7 @@ impl Reader<'_> {
             return Ok((ParamKind::One(kind), at));
         }
         let (_, at) = self.one(at, Terminal::Rows)?;
-        let (_, at) = self.one(at, Terminal::Open)?;
-        let (columns, at) = self.separated(at, Terminal::Comma)?;
-        let (_, at) = self.one(at, Terminal::Close)?;
+        let (columns, at) = self.in_parens(at)?;
         Ok((ParamKind::Many(columns), at))
     }
 
@@ -125,6 +119,15 @@ impl Reader<'_> {
         self.separated(at, Terminal::Comma)
     }
 
+    /// Parameters in parentheses.
+    fn params_in_parens(&self, at: usize) -> Result<(List<Param>, usize), Stop>
+        ensures { Reads self.now at (λ bytes. in_parens (or_none (commas (param bytes)))) result }
+    {
+        let (_, at) = self.one(at, Terminal::Open)?;
+        let (params, at) = self.params(at)?;
+        self.followed(params, at, Terminal::Close)
+    }
+
     /// DECLARE.
     #[tactic(auto, unfolding(mv_ast::specs::Grammar::declaration))]
     fn declaration(&self, at: usize) -> Result<(VarDef, usize), Stop>
@@ -134,8 +137,7 @@ impl Reader<'_> {
         let (name, at) = self.variable(at)?;
         let (_, at) = self.one(at, Terminal::Equal)?;
         let (initial, at) = self.literal(at)?;
-        let (_, at) = self.one(at, Terminal::Semicolon)?;
-        Ok((VarDef { name, initial }, at))
+        self.followed(VarDef { name, initial }, at, Terminal::Semicolon)
     }
 
     /// Declarations, none or more.
@@ -163,21 +165,18 @@ impl Reader<'_> {
     {
         let (_, at) = self.one(at, Terminal::Procedure)?;
         let (name, at) = self.name(at)?;
-        let (_, at) = self.one(at, Terminal::Open)?;
-        let (params, at) = self.params(at)?;
-        let (_, at) = self.one(at, Terminal::Close)?;
+        let (params, at) = self.params_in_parens(at)?;
         let (vars, at) = self.declarations(at)?;
         let (_, at) = self.one(at, Terminal::Begin)?;
         let (body, at) = self.statements(at)?;
-        let (_, at) = self.one(at, Terminal::End)?;
-        let (_, at) = self.one(at, Terminal::Semicolon)?;
         let procedure = ProcDef {
             name,
             params,
             vars,
             body,
         };
-        Ok((ItemKind::Proc(procedure), at))
+        let (kind, at) = self.followed(ItemKind::Proc(procedure), at, Terminal::End)?;
+        self.followed(kind, at, Terminal::Semicolon)
     }
 
     /// CREATE.
@@ -230,6 +229,15 @@ impl Reader<'_> {
         self.separated(at, Terminal::Comma)
     }
 
+    /// Arguments in parentheses.
+    fn args_in_parens(&self, at: usize) -> Result<(List<Arg>, usize), Stop>
+        ensures { Reads self.now at (λ bytes. in_parens (or_none (commas (arg bytes)))) result }
+    {
+        let (_, at) = self.one(at, Terminal::Open)?;
+        let (arguments, at) = self.args(at)?;
+        self.followed(arguments, at, Terminal::Close)
+    }
+
     /// CALL.
     #[tactic(auto, unfolding(mv_ast::specs::Grammar::call))]
     fn call(&self, at: usize) -> Result<(Item, usize), Stop>
@@ -237,12 +245,9 @@ impl Reader<'_> {
     {
         let (token, at) = self.place(at, Terminal::Call)?;
         let (name, at) = self.name(at)?;
-        let (_, at) = self.one(at, Terminal::Open)?;
-        let (arguments, at) = self.args(at)?;
-        let (_, at) = self.one(at, Terminal::Close)?;
-        let (_, at) = self.one(at, Terminal::Semicolon)?;
+        let (arguments, at) = self.args_in_parens(at)?;
         let kind = ItemKind::Call(CallDef { name, arguments });
-        Ok((Item { token, kind }, at))
+        self.followed(Item { token, kind }, at, Terminal::Semicolon)
     }
 
     /// JOURNAL.

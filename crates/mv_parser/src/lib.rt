@@ -6,6 +6,7 @@ mod clauses;
 mod expr;
 pub mod fault;
 mod items;
+mod level;
 mod lexing;
 mod lists;
 mod literals;

@@ -2,8 +2,9 @@
 
 ghost use Rattle.std.specs.Prelude.{◌≡◌, ℕ, List as Seq, drop, length};
 ghost use Rattle.mv_ast.specs.declared.lexeme.Lexeme.{Lexeme};
+ghost use Rattle.mv_ast.specs.declared.lexeme.Terminal.TheVariants as word;
 ghost use Rattle.mv_parser.specs.Reading.{Read};
-ghost use Rattle.mv_parser.specs.Lists.{read_separated};
+ghost use Rattle.mv_parser.specs.Lists.{read_separated, read_in_parens};
 ghost use Rattle.mv_parser.specs.Answers.{Gives};
 
 use crate::fault::Stop;
@@ -20,6 +21,15 @@ pub(crate) trait Parse: Drop {
 }
 
 impl Reader<'_> {
+    /// One and then others, each behind a comma, in parentheses.
+    pub(crate) fn in_parens<T: Parse>(&self, at: usize) -> Result<(List<T>, usize), Stop>
+        ensures { Gives self.now.lexemes.now result (read_in_parens (read_separated word.Comma (T.reading self.now.bytes.now self.now.depth)) (drop at self.now.lexemes.now)) }
+    {
+        let (_, at) = self.one(at, Terminal::Open)?;
+        let (all, at) = self.separated(at, Terminal::Comma)?;
+        self.followed(all, at, Terminal::Close)
+    }
+
     /// One and then others, each behind a mark.
     #[tactic(auto, using(crate::proofs::Turns::more_turn, crate::proofs::Turns::more_stop))]
     pub(crate) fn separated<T: Parse>(

@@ -80,8 +80,7 @@ impl Reader<'_> {
     {
         let (token, at) = self.place(at, Terminal::Open)?;
         let (values, at) = self.separated(at, Terminal::Comma)?;
-        let (_, at) = self.one(at, Terminal::Close)?;
-        Ok((LitRow { token, values }, at))
+        self.followed(LitRow { token, values }, at, Terminal::Close)
     }
 
     /// The rows of an argument.
@@ -92,7 +91,7 @@ impl Reader<'_> {
         let (token, at) = self.place(at, Terminal::Rows)?;
         let (_, at) = self.one(at, Terminal::Open)?;
         let (rows, at) = self.rows_inside(at)?;
-        let (_, at) = self.one(at, Terminal::Close)?;
+        let (rows, at) = self.followed(rows, at, Terminal::Close)?;
         Ok((LitRows { token, rows }, at))
     }
 

@@ -1,12 +1,15 @@
 //! Operators, and what is made of them.
 
 ghost use Rattle.std.specs.Prelude.{◌≡◌, ◌<◌, ◌-◌, drop, IfOk};
-ghost use Rattle.mv_ast.specs.Parts.{one};
-ghost use Rattle.mv_ast.specs.Trees.{prefixed, paired, all_prefixed};
-ghost use Rattle.mv_ast.specs.Grammar.{many, op, term_op, sum_op, variable_expr};
-ghost use Rattle.mv_parser.specs.Answers.{Reads};
+ghost use Rattle.mv_ast.specs.declared.lexeme.Terminal.TheVariants as word;
+ghost use Rattle.mv_ast.specs.Parts.{give, one};
+ghost use Rattle.mv_ast.specs.Trees.{prefixed, paired, all_prefixed, column_named};
+ghost use Rattle.mv_ast.specs.Grammar.{◌⊛◌, many, name, const_number, const_text, op, term_op, sum_op, variable_expr};
+ghost use Rattle.mv_parser.specs.Levels.{operator};
+ghost use Rattle.mv_parser.specs.Answers.{Reads, Joins};
 
 use crate::fault::Stop;
+use crate::level::Level;
 use crate::reader::Reader;
 use mv_ast::lexeme::{Lexeme, Terminal};
 use mv_ast::tree::{Expr, ExprKind, OneOp, TwoOp};
@@ -86,6 +89,18 @@ impl Reader<'_> {
         Ok(Expr { token, kind })
     }
 
+    /// What was read, joined with what was read behind it.
+    pub(crate) fn joined(
+        &self,
+        left: Expr,
+        next: Result<((TwoOp, Expr), usize), Stop>,
+    ) -> Result<(Expr, usize), Stop>
+        ensures { Joins self.now.lexemes.now left next result }
+    {
+        let ((op, right), at) = next?;
+        Ok((self.paired(op, left, right)?, at))
+    }
+
     /// A comparison.
     #[tactic(auto, unfolding(mv_ast::specs::Grammar::op))]
     pub(crate) fn comparison(&self, at: usize) -> Result<(Op, usize), Stop>
@@ -147,6 +162,54 @@ impl Reader<'_> {
         }
         let (_, at) = self.one(at, Terminal::Bars)?;
         Ok((TwoOp::Join, at))
+    }
+
+    /// An operator of a level.
+    pub(crate) fn operator(&self, at: usize, level: Level) -> Result<(TwoOp, usize), Stop>
+        ensures { Reads self.now at (λ bytes. operator bytes level) result }
+    {
+        match level {
+            Level::Or => {
+                let (_, at) = self.one(at, Terminal::Or)?;
+                Ok((TwoOp::Or, at))
+            }
+            Level::And => {
+                let (_, at) = self.one(at, Terminal::And)?;
+                Ok((TwoOp::And, at))
+            }
+            Level::Sum => self.sum_operator(at),
+            Level::Term => self.term_operator(at),
+        }
+    }
+
+    /// A number, as an expression.
+    pub(crate) fn number_expr(&self, at: usize) -> Result<(Expr, usize), Stop>
+        ensures { Reads self.now at (λ bytes. give (const_number bytes) ⊛ one word.Number) result }
+    {
+        let (lexeme, at) = self.one(at, Terminal::Number)?;
+        let token = lexeme.number;
+        let kind = ExprKind::Const(Value::Int(self.number_of(lexeme)));
+        Ok((Expr { token, kind }, at))
+    }
+
+    /// A text, as an expression.
+    pub(crate) fn text_expr(&self, at: usize) -> Result<(Expr, usize), Stop>
+        ensures { Reads self.now at (λ bytes. give (const_text bytes) ⊛ one word.Quoted) result }
+    {
+        let (lexeme, at) = self.one(at, Terminal::Quoted)?;
+        let token = lexeme.number;
+        let kind = ExprKind::Const(Value::Text(self.text_of(lexeme)?));
+        Ok((Expr { token, kind }, at))
+    }
+
+    /// A column, as an expression.
+    pub(crate) fn column_expr(&self, at: usize) -> Result<(Expr, usize), Stop>
+        ensures { Reads self.now at (λ bytes. give column_named ⊛ name bytes) result }
+    {
+        let (name, at) = self.name(at)?;
+        let token = name.token;
+        let kind = ExprKind::Col(name);
+        Ok((Expr { token, kind }, at))
     }
 
     /// A variable, or a column of a loop's row.

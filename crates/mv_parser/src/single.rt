@@ -1,8 +1,9 @@
 //! Single tokens.
 
 ghost use Rattle.std.specs.Prelude.{◌≡◌, [], ◌∷◌, drop, IsTrue, IfOk, IfSome, length, ◌<◌, ◌-◌};
-ghost use Rattle.mv_ast.specs.Parts.{one};
-ghost use Rattle.mv_ast.specs.Grammar.{name};
+ghost use Rattle.mv_ast.specs.declared.lexeme.Terminal.TheVariants as word;
+ghost use Rattle.mv_ast.specs.Parts.{give, one};
+ghost use Rattle.mv_ast.specs.Grammar.{◌◂◌};
 ghost use Rattle.mv_parser.specs.Fitting.{fits};
 ghost use Rattle.mv_parser.specs.Reading.{starts_with, is_among};
 ghost use Rattle.mv_parser.specs.Answers.{Reads, Ahead};
@@ -71,6 +72,33 @@ impl Reader<'_> {
         } else {
             Err(self.wrong(at))
         }
+    }
+
+    /// What was read, where a token of this kind stands behind it.
+    pub(crate) fn followed<T: Drop>(
+        &self,
+        value: T,
+        at: usize,
+        kind: Terminal,
+    ) -> Result<(T, usize), Stop>
+        ensures { Reads self.now at (λ _. give value ◂ one kind) result }
+    {
+        let (_, at) = self.one(at, kind)?;
+        Ok((value, at))
+    }
+
+    /// What was read, where END, another word and a semicolon stand behind it.
+    pub(crate) fn ended<T: Drop>(
+        &self,
+        value: T,
+        at: usize,
+        kind: Terminal,
+    ) -> Result<(T, usize), Stop>
+        ensures { Reads self.now at (λ _. give value ◂ one word.End ◂ one kind ◂ one word.Semicolon) result }
+    {
+        let (value, at) = self.followed(value, at, Terminal::End)?;
+        let (value, at) = self.followed(value, at, kind)?;
+        self.followed(value, at, Terminal::Semicolon)
     }
 }
 

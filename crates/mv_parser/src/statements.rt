@@ -1,15 +1,22 @@
 //! Statements that hold no others.
 
-ghost use Rattle.std.specs.Prelude.{◌≡◌, ℕ, drop};
+ghost use Rattle.std.specs.Prelude.{◌≡◌, ℕ, List, Option, drop};
 ghost use Rattle.mv_ast.specs.declared.lexeme.Terminal.TheVariants as word;
 ghost use Rattle.mv_ast.specs.declared.tree.Stmt.{Stmt};
+ghost use Rattle.mv_ast.specs.declared.tree.Name.{Name};
+ghost use Rattle.mv_ast.specs.declared.tree.Cond.{Cond};
+ghost use Rattle.mv_ast.specs.declared.tree.Sort.{Sort};
+ghost use Rattle.mv_ast.specs.declared.tree.Expr.{Expr};
+ghost use Rattle.mv_ast.specs.Trees.{select_of, total_of};
+ghost use Rattle.mv_parser.specs.Reading.{read};
+ghost use Rattle.mv_parser.specs.Rests.{select_rest, total_rest};
 ghost use Rattle.mv_ast.specs.Grammar.{commas, variable, assign, select_columns, total, select, insert, update, delete, print, rollback};
-ghost use Rattle.mv_parser.specs.Answers.{Reads, ReadsFor};
+ghost use Rattle.mv_parser.specs.Answers.{Reads, ReadsFor, GivesBy, Completes, inside_of};
 
 use crate::fault::Stop;
 use crate::reader::Reader;
 use mv_ast::lexeme::Terminal;
-use mv_ast::tree::{Name, Stmt};
+use mv_ast::tree::{Agg, Cond, Expr, Name, Sort, Stmt};
 use mv_values::list::List;
 
 impl Reader<'_> {
@@ -43,8 +50,7 @@ impl Reader<'_> {
         let (to, at) = self.variable(at)?;
         let (_, at) = self.one(at, Terminal::Equal)?;
         let (right, at) = self.expression(at)?;
-        let (_, at) = self.one(at, Terminal::Semicolon)?;
-        Ok((Stmt::Assign { token, to, right }, at))
+        self.followed(Stmt::Assign { token, to, right }, at, Terminal::Semicolon)
     }
 
     /// SELECT into variables.
@@ -68,24 +74,47 @@ impl Reader<'_> {
         let (columns, at) = self.separated(at, Terminal::Comma)?;
         let (_, at) = self.one(at, Terminal::Into)?;
         let (to, at) = self.variables(at)?;
+        let rest = self.select_rest(at);
+        self.selected(token, columns, to, rest)
+    }
+
+    /// SELECT of columns, from FROM on.
+    fn select_rest(
+        &self,
+        at: usize,
+    ) -> Result<((Name, List<Cond>, List<Sort>, Option<Expr>), usize), Stop>
+        ensures { (f : Name → List Cond → List Sort → Option Expr → ℕ → Stmt) → GivesBy self.now.lexemes.now (λ x. f x.0 x.1 x.2 x.3) result (read (inside_of self.now) (select_rest self.now.bytes.now f) (drop at self.now.lexemes.now)) }
+    {
         let (_, at) = self.one(at, Terminal::From)?;
         let (table, at) = self.name(at)?;
         let (conds, at) = self.conds(at)?;
         let (sorts, at) = self.sorts(at)?;
         let (offset, at) = self.offset(at)?;
         let (_, at) = self.one(at, Terminal::Semicolon)?;
-        Ok((
-            Stmt::Select {
-                token,
-                columns,
-                to,
-                table,
-                conds,
-                sorts,
-                offset,
-            },
-            at,
-        ))
+        Ok(((table, conds, sorts, offset), at))
+    }
+
+    /// SELECT of columns, of what was read.
+    fn selected(
+        &self,
+        token: u32,
+        columns: List<Name>,
+        to: List<Name>,
+        rest: Result<((Name, List<Cond>, List<Sort>, Option<Expr>), usize), Stop>,
+    ) -> Result<(Stmt, usize), Stop>
+        ensures { Completes self.now.lexemes.now (λ x. select_of columns to x.0 x.1 x.2 x.3) (λ f. f token) rest result }
+    {
+        let ((table, conds, sorts, offset), at) = rest?;
+        let select = Stmt::Select {
+            token,
+            columns,
+            to,
+            table,
+            conds,
+            sorts,
+            offset,
+        };
+        Ok((select, at))
     }
 
     /// SELECT of a sum over rows, behind its first word.
@@ -94,22 +123,41 @@ impl Reader<'_> {
         ensures { ReadsFor self.now at total (λ f. f token) result }
     {
         let (agg, at) = self.aggregate(at)?;
+        let rest = self.total_rest(at);
+        self.totalled(token, agg, rest)
+    }
+
+    /// SELECT of a sum over rows, from INTO on.
+    fn total_rest(&self, at: usize) -> Result<((Name, Name, List<Cond>), usize), Stop>
+        ensures { (f : Name → Name → List Cond → ℕ → Stmt) → GivesBy self.now.lexemes.now (λ x. f x.0 x.1 x.2) result (read (inside_of self.now) (total_rest self.now.bytes.now f) (drop at self.now.lexemes.now)) }
+    {
         let (_, at) = self.one(at, Terminal::Into)?;
         let (to, at) = self.variable(at)?;
         let (_, at) = self.one(at, Terminal::From)?;
         let (table, at) = self.name(at)?;
         let (conds, at) = self.conds(at)?;
         let (_, at) = self.one(at, Terminal::Semicolon)?;
-        Ok((
-            Stmt::Total {
-                token,
-                agg,
-                to,
-                table,
-                conds,
-            },
-            at,
-        ))
+        Ok(((to, table, conds), at))
+    }
+
+    /// SELECT of a sum over rows, of what was read.
+    fn totalled(
+        &self,
+        token: u32,
+        agg: Agg,
+        rest: Result<((Name, Name, List<Cond>), usize), Stop>,
+    ) -> Result<(Stmt, usize), Stop>
+        ensures { Completes self.now.lexemes.now (λ x. total_of agg x.0 x.1 x.2) (λ f. f token) rest result }
+    {
+        let ((to, table, conds), at) = rest?;
+        let total = Stmt::Total {
+            token,
+            agg,
+            to,
+            table,
+            conds,
+        };
+        Ok((total, at))
     }
 
     /// INSERT.
@@ -121,18 +169,13 @@ impl Reader<'_> {
         let (_, at) = self.one(at, Terminal::Into)?;
         let (table, at) = self.name(at)?;
         let (_, at) = self.one(at, Terminal::Values)?;
-        let (_, at) = self.one(at, Terminal::Open)?;
-        let (values, at) = self.separated(at, Terminal::Comma)?;
-        let (_, at) = self.one(at, Terminal::Close)?;
-        let (_, at) = self.one(at, Terminal::Semicolon)?;
-        Ok((
-            Stmt::Insert {
-                token,
-                table,
-                values,
-            },
-            at,
-        ))
+        let (values, at) = self.in_parens(at)?;
+        let statement = Stmt::Insert {
+            token,
+            table,
+            values,
+        };
+        self.followed(statement, at, Terminal::Semicolon)
     }
 
     /// UPDATE.
@@ -145,16 +188,13 @@ impl Reader<'_> {
         let (_, at) = self.one(at, Terminal::Set)?;
         let (items, at) = self.separated(at, Terminal::Comma)?;
         let (conds, at) = self.conds(at)?;
-        let (_, at) = self.one(at, Terminal::Semicolon)?;
-        Ok((
-            Stmt::Update {
-                token,
-                table,
-                items,
-                conds,
-            },
-            at,
-        ))
+        let statement = Stmt::Update {
+            token,
+            table,
+            items,
+            conds,
+        };
+        self.followed(statement, at, Terminal::Semicolon)
     }
 
     /// DELETE.
@@ -166,15 +206,12 @@ impl Reader<'_> {
         let (_, at) = self.one(at, Terminal::From)?;
         let (table, at) = self.name(at)?;
         let (conds, at) = self.conds(at)?;
-        let (_, at) = self.one(at, Terminal::Semicolon)?;
-        Ok((
-            Stmt::Delete {
-                token,
-                table,
-                conds,
-            },
-            at,
-        ))
+        let statement = Stmt::Delete {
+            token,
+            table,
+            conds,
+        };
+        self.followed(statement, at, Terminal::Semicolon)
     }
 
     /// PRINT.
@@ -184,8 +221,7 @@ impl Reader<'_> {
     {
         let (token, at) = self.place(at, Terminal::Print)?;
         let (values, at) = self.separated(at, Terminal::Comma)?;
-        let (_, at) = self.one(at, Terminal::Semicolon)?;
-        Ok((Stmt::Print { token, values }, at))
+        self.followed(Stmt::Print { token, values }, at, Terminal::Semicolon)
     }
 
     /// ROLLBACK.
@@ -195,7 +231,6 @@ impl Reader<'_> {
     {
         let (token, at) = self.place(at, Terminal::Rollback)?;
         let (reason, at) = self.quoted(at)?;
-        let (_, at) = self.one(at, Terminal::Semicolon)?;
-        Ok((Stmt::Rollback { token, reason }, at))
+        self.followed(Stmt::Rollback { token, reason }, at, Terminal::Semicolon)
     }
 }

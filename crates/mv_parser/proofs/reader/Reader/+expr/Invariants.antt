@@ -1,69 +1,58 @@
-use Rattle.std.proofs.Common.{◌≡◌, ◌-◌, ◌+◌, ◌*◌, [], ◌∷◌, drop}
-use Rattle.mv_ast.specs.declared.lexeme.Terminal.TheVariants as word
-use Rattle.mv_ast.specs.declared.tree.TwoOp.TheVariants.{And, Or}
-use Rattle.mv_ast.specs.Parts.{give, one}
-use Rattle.mv_ast.specs.Trees.{paired, paired_by, with_op}
-use Rattle.mv_ast.specs.Grammar.{◌▸◌, ◌⊛◌, expr, conj, neg, sum, term, fac, sum_op, term_op}
+use Rattle.std.proofs.Common.{◌≡◌, ◌-◌, ◌+◌, ◌*◌, drop, ℕ}
+use Rattle.mv_ast.specs.Trees.{paired_by}
+use Rattle.mv_parser.specs.declared.level.Level.{Level}
+use Rattle.mv_parser.specs.declared.level.Level.TheVariants as level
 use Rattle.mv_parser.specs.Reading.{more, read}
 use Rattle.mv_parser.specs.Answers.{inside_of}
+use Rattle.mv_parser.specs.Levels.{marks, next, chain}
 use Rattle.mv_parser.proofs.reader.Reader.+expr.Given as goal
 
+-- how many calls may still be made at one depth, by levels
+abbrev rank : Level → ℕ
+rank level.Term = 4
+rank level.Sum = 7
+rank level.And = 13
+rank level.Or = 16
+
 abbrev pub decreases-expression : goal.decreases-expression
-decreases-expression l = 10 * l.self.now.depth + 0
+decreases-expression l = 20 * l.self.now.depth + 0
 
 abbrev pub decreases-in_parentheses : goal.decreases-in_parentheses
-decreases-in_parentheses l = 10 * l.self.now.depth + 1
+decreases-in_parentheses l = 20 * l.self.now.depth + 1
 
 abbrev pub decreases-two_arguments : goal.decreases-two_arguments
-decreases-two_arguments l = 10 * l.self.now.depth + 1
+decreases-two_arguments l = 20 * l.self.now.depth + 1
 
 abbrev pub decreases-text_of_call : goal.decreases-text_of_call
-decreases-text_of_call l = 10 * l.self.now.depth + 1
+decreases-text_of_call l = 20 * l.self.now.depth + 1
 
 abbrev pub decreases-prim : goal.decreases-prim
-decreases-prim l = 10 * l.self.now.depth + 2
+decreases-prim l = 20 * l.self.now.depth + 2
 
 abbrev pub decreases-fac : goal.decreases-fac
-decreases-fac l = 10 * l.self.now.depth + 3
+decreases-fac l = 20 * l.self.now.depth + 3
 
-abbrev pub decreases-term : goal.decreases-term
-decreases-term l = 10 * l.self.now.depth + 4
+abbrev pub decreases-operand : goal.decreases-operand
+decreases-operand l = 20 * l.self.now.depth + rank l.level
 
-abbrev pub decreases-sum : goal.decreases-sum
-decreases-sum l = 10 * l.self.now.depth + 5
+abbrev pub decreases-next : goal.decreases-next
+decreases-next l = 20 * l.self.now.depth + rank l.level + 1
+
+abbrev pub decreases-chain : goal.decreases-chain
+decreases-chain l = 20 * l.self.now.depth + rank l.level + 2
+
+abbrev pub decreases-compared : goal.decreases-compared
+decreases-compared l = 20 * l.self.now.depth + 10
 
 abbrev pub decreases-comp : goal.decreases-comp
-decreases-comp l = 10 * l.self.now.depth + 6
+decreases-comp l = 20 * l.self.now.depth + 11
 
 abbrev pub decreases-neg : goal.decreases-neg
-decreases-neg l = 10 * l.self.now.depth + 7
+decreases-neg l = 20 * l.self.now.depth + 12
 
-abbrev pub decreases-conj : goal.decreases-conj
-decreases-conj l = 10 * l.self.now.depth + 8
-
-abbrev pub decreases-expr : goal.decreases-expr
-decreases-expr l = 10 * l.self.now.depth + 9
-
-abbrev pub invariant-expr-loop-turn : goal.invariant-expr-loop-turn
-invariant-expr-loop-turn l =
+abbrev pub invariant-chain-loop-turn : goal.invariant-chain-loop-turn
+invariant-chain-loop-turn l =
+    let inside = inside_of l.fn.self in
     let bytes = l.fn.self.bytes.now in
-    more (l._turn-end - l._turn) (paired Or) (word.Or ∷ []) (read (inside_of l.fn.self) (one word.Or ▸ conj bytes)) l.whole (drop l.here l.fn.self.lexemes.now)
-    ≡ read (inside_of l.fn.self) (expr bytes) (drop l.fn.at l.fn.self.lexemes.now)
-
-abbrev pub invariant-conj-loop-turn : goal.invariant-conj-loop-turn
-invariant-conj-loop-turn l =
-    let bytes = l.fn.self.bytes.now in
-    more (l._turn-end - l._turn) (paired And) (word.And ∷ []) (read (inside_of l.fn.self) (one word.And ▸ neg bytes)) l.whole (drop l.here l.fn.self.lexemes.now)
-    ≡ read (inside_of l.fn.self) (conj bytes) (drop l.fn.at l.fn.self.lexemes.now)
-
-abbrev pub invariant-sum-loop-turn : goal.invariant-sum-loop-turn
-invariant-sum-loop-turn l =
-    let bytes = l.fn.self.bytes.now in
-    more (l._turn-end - l._turn) paired_by (word.Plus ∷ word.Minus ∷ word.Bars ∷ []) (read (inside_of l.fn.self) (give with_op ⊛ sum_op bytes ⊛ term bytes)) l.whole (drop l.here l.fn.self.lexemes.now)
-    ≡ read (inside_of l.fn.self) (sum bytes) (drop l.fn.at l.fn.self.lexemes.now)
-
-abbrev pub invariant-term-loop-turn : goal.invariant-term-loop-turn
-invariant-term-loop-turn l =
-    let bytes = l.fn.self.bytes.now in
-    more (l._turn-end - l._turn) paired_by (word.Star ∷ word.Slash ∷ word.Percent ∷ []) (read (inside_of l.fn.self) (give with_op ⊛ term_op bytes ⊛ fac bytes)) l.whole (drop l.here l.fn.self.lexemes.now)
-    ≡ read (inside_of l.fn.self) (term bytes) (drop l.fn.at l.fn.self.lexemes.now)
+    more (l._turn-end - l._turn) paired_by (marks l.level) (read inside (next bytes l.level)) l.whole (drop l.here l.fn.self.lexemes.now)
+    ≡ read inside (chain bytes l.level) (drop l.fn.at l.fn.self.lexemes.now)
