@@ -1,25 +1,23 @@
 //! Blocks of CSV, and rows of VALUES, with the tables that they fill or the line of their first fault, worked out by hand.
 
-use crate::whole::{ROOM, run};
-use mv_top::status::Status;
+use crate::whole::{answers, joined, refuses};
 use std::alloc::Global;
 use std::sync::Wait;
 use std::test::Fail;
 use std::thread::Threads;
 
-/// Has a script be answered by `serial` with this text.
+/// Has a script be answered by `serial` with this text, or refused with this line.
 fn check<R: Threads + Wait + Sync>(
     rt: &R,
     alloc: Global,
     script: &str,
     want: &str,
 ) -> Result<(), Fail> {
-    let (status, written) = run(rt, alloc, &["serial"], script.as_bytes(), &[], ROOM)?;
-    let is_told = status == Status::Done || status == Status::Refused;
-    if !is_told || written.as_str() != want {
-        return Err(format!(in alloc; "{script}: {written}")?.into());
+    if want.starts_with("refused ") {
+        refuses(rt, alloc, "serial", script, want)
+    } else {
+        answers(rt, alloc, "serial", script, want)
     }
-    Ok(())
 }
 
 /// Blocks for a table in which the keys 5 and 6 are.
@@ -103,14 +101,23 @@ const BLOCKS: &[(&str, &str)] = &[
     ("\n1,2,a\n\n1,3,b\n", "refused 13 table t row 2\n"),
 ];
 
+const OPENED: &str =
+    "CREATE TABLE t (id INT, n INT, x TEXT(3), PRIMARY KEY (id)) VALUES (6, 0, ''), (5, 0, '');\nCOPY t <<\n";
+
+fn check_block<R: Threads + Wait + Sync>(
+    rt: &R,
+    alloc: Global,
+    block: &str,
+    want: &str,
+) -> Result<(), Fail> {
+    let script = joined(alloc, &[OPENED, block, ">>\n"])?;
+    check(rt, alloc, script.as_str(), want)
+}
+
 #[test]
 fn blocks_fill_tables(rt: HostRuntime) -> Result<(), Fail> {
-    let alloc = rt.alloc();
     for (block, want) in BLOCKS {
-        let script = format!(in alloc;
-            "CREATE TABLE t (id INT, n INT, x TEXT(3), PRIMARY KEY (id)) VALUES (6, 0, ''), (5, 0, '');\nCOPY t <<\n{block}>>\n"
-        )?;
-        check(&rt, alloc, script.as_str(), want)?;
+        check_block(&rt, rt.alloc(), block, want)?;
     }
     Ok(())
 }
@@ -144,8 +151,7 @@ const TABLES: &[(&str, &str)] = &[
 
 #[test]
 fn tables_are_written_in_key_order(rt: HostRuntime) -> Result<(), Fail> {
-    for case in TABLES {
-        let (script, want) = *case;
+    for (script, want) in TABLES {
         check(&rt, rt.alloc(), script, want)?;
     }
     Ok(())

@@ -1,8 +1,7 @@
 //! Short procedures on one table, with what they print and leave, worked out by hand from the rules of the language. Each
 //! is run by `serial` and by `run`.
 
-use crate::whole::{ROOM, run};
-use mv_top::status::Status;
+use crate::whole::{answers, joined};
 use std::alloc::Global;
 use std::sync::Wait;
 use std::test::Fail;
@@ -25,25 +24,56 @@ const START: &str = "1,5,b\n1,7,a\n2,5,a\n3,1,c\n";
 
 const SHOW: &str = "PRINT :n, :s, :found;";
 
-/// Has these statements answer this reply by both commands, leave so many records and the table these rows.
-fn check<R: Threads + Wait + Sync>(
+/// The history and the journal of one call that leaves so many records.
+fn history(alloc: Global, records: u32) -> Result<String, Fail> {
+    Ok(format!(in alloc; "history\n1 0 starts 0 runs {records}\njournal\nB 0\nC 0\n")?)
+}
+
+/// Has a script of one call answer this reply by a command, with this history before the table, and leave it these rows.
+fn check_by<R: Threads + Wait + Sync>(
     rt: &R,
     alloc: Global,
-    statements: &str,
+    command: &str,
+    script: &str,
+    reply: &str,
+    history: &str,
+    rows: &str,
+) -> Result<(), Fail> {
+    let parts = ["reply 0 ", reply, "\n", history, "table t\n", rows, "end\n"];
+    let want = joined(alloc, &parts)?;
+    answers(rt, alloc, command, script, want.as_str())
+}
+
+/// The same by `run`, where the call leaves so many records.
+fn check_run<R: Threads + Wait + Sync>(
+    rt: &R,
+    alloc: Global,
+    script: &str,
     reply: &str,
     records: u32,
     rows: &str,
 ) -> Result<(), Fail> {
-    let script = format!(in alloc; "{FRONT}{statements}{BACK}")?;
-    let history = format!(in alloc; "history\n1 0 starts 0 runs {records}\njournal\nB 0\nC 0\n")?;
-    for (command, history) in [("serial", ""), ("run", history.as_str())] {
-        let want = format!(in alloc; "reply 0 {reply}\n{history}table t\n{rows}end\n")?;
-        let (status, written) = run(rt, alloc, &[command], script.as_bytes(), &[], ROOM)?;
-        if status != Status::Done || written.as_str() != want.as_str() {
-            return Err(format!(in alloc; "{command} {statements}: {written}")?.into());
-        }
-    }
-    Ok(())
+    let history = history(alloc, records)?;
+    check_by(rt, alloc, "run", script, reply, history.as_str(), rows)
+}
+
+fn script(alloc: Global, statements: &[&str]) -> Result<String, Fail> {
+    let statements = joined(alloc, statements)?;
+    joined(alloc, &[FRONT, statements.as_str(), BACK])
+}
+
+/// Has these statements, in parts, answer this reply by both commands, leave so many records and the table these rows.
+fn check<R: Threads + Wait + Sync>(
+    rt: &R,
+    alloc: Global,
+    statements: &[&str],
+    reply: &str,
+    records: u32,
+    rows: &str,
+) -> Result<(), Fail> {
+    let script = script(alloc, statements)?;
+    check_by(rt, alloc, "serial", script.as_str(), reply, "", rows)?;
+    check_run(rt, alloc, script.as_str(), reply, records, rows)
 }
 
 /// Expressions, and the reply of a PRINT of each.
@@ -111,347 +141,355 @@ const EXPRESSIONS: &[(&str, &str)] = &[
 
 #[test]
 fn expressions_have_their_values(rt: HostRuntime) -> Result<(), Fail> {
-    let alloc = rt.alloc();
     for (expression, reply) in EXPRESSIONS {
-        let statement = format!(in alloc; "PRINT {expression};")?;
-        check(&rt, alloc, statement.as_str(), reply, 1, START)?;
+        check(
+            &rt,
+            rt.alloc(),
+            &["PRINT ", expression, ";"],
+            reply,
+            1,
+            START,
+        )?;
     }
     Ok(())
 }
 
-/// Statements, with the reply and how many records they leave, that of the PRINT behind them counted, and the rows.
-const STATEMENTS: &[(&str, &str, u32, &str)] = &[
+/// Statements, with the reply and how many records they leave, that of the PRINT behind them counted. The rows stay.
+const LOOKS: &[(&str, &str, u32)] = &[
     (
         "SELECT k, x INTO :n, :s FROM t WHERE g = 1 AND k = 5;",
         "done\n5,'b',1",
         2,
-        START,
     ),
     (
         "SELECT g, x INTO :n, :s FROM t WHERE k = 5 AND g = 2;",
         "done\n2,'a',1",
         2,
-        START,
     ),
     (
         "SELECT k, x INTO :n, :s FROM t WHERE g = 1 AND g = 2;",
         "done\n7,'q',0",
         2,
-        START,
     ),
     (
         "SELECT k, x INTO :n, :s FROM t WHERE k = 1;",
         "done\n1,'c',1",
         2,
-        START,
     ),
     (
         "SELECT k, x INTO :n, :s FROM t WHERE g = 9;",
         "done\n7,'q',0",
         2,
-        START,
     ),
     (
         "SELECT k, x INTO :n, :s FROM t WHERE g = 1 OFFSET 0;",
         "done\n5,'b',1",
         2,
-        START,
     ),
     (
         "SELECT k, x INTO :n, :s FROM t WHERE g = 1 OFFSET 1;",
         "done\n7,'a',1",
         2,
-        START,
     ),
     (
         "SELECT k, x INTO :n, :s FROM t WHERE g = 1 OFFSET 2;",
         "done\n7,'q',0",
         2,
-        START,
     ),
     (
         "SELECT k, x INTO :n, :s FROM t OFFSET -1;",
         "done\n7,'q',0",
         2,
-        START,
     ),
     (
         "SELECT g, x INTO :n, :s FROM t ORDER BY x;",
         "done\n1,'a',1",
         2,
-        START,
     ),
     (
         "SELECT g, x INTO :n, :s FROM t ORDER BY x OFFSET 1;",
         "done\n2,'a',1",
         2,
-        START,
     ),
     (
         "SELECT g, x INTO :n, :s FROM t ORDER BY x DESC;",
         "done\n3,'c',1",
         2,
-        START,
     ),
     (
         "SELECT g, x INTO :n, :s FROM t ORDER BY x DESC OFFSET 2;",
         "done\n1,'a',1",
         2,
-        START,
     ),
     (
         "SELECT g, x INTO :n, :s FROM t ORDER BY k DESC, x OFFSET 1;",
         "done\n2,'a',1",
         2,
-        START,
     ),
     (
         "SELECT g, k INTO :n, :n FROM t WHERE g = 3;",
         "done\n1,'q',1",
         2,
-        START,
     ),
-    ("SELECT COUNT(*) INTO :n FROM t;", "done\n4,'q',1", 2, START),
+    ("SELECT COUNT(*) INTO :n FROM t;", "done\n4,'q',1", 2),
     (
         "SELECT COUNT(*) INTO :n FROM t WHERE g <> 1;",
         "done\n2,'q',1",
         2,
-        START,
     ),
     (
         "SELECT COUNT(*) INTO :n FROM t WHERE k < 5;",
         "done\n1,'q',1",
         2,
-        START,
     ),
     (
         "SELECT COUNT(*) INTO :n FROM t WHERE k <= 5;",
         "done\n3,'q',1",
         2,
-        START,
     ),
     (
         "SELECT COUNT(*) INTO :n FROM t WHERE k > 5;",
         "done\n1,'q',1",
         2,
-        START,
     ),
     (
         "SELECT COUNT(*) INTO :n FROM t WHERE k >= 5;",
         "done\n3,'q',1",
         2,
-        START,
     ),
     (
         "SELECT COUNT(*) INTO :n FROM t WHERE g = 9;",
         "done\n0,'q',0",
         2,
-        START,
     ),
     (
         "SELECT COUNT(DISTINCT x) INTO :n FROM t;",
         "done\n3,'q',1",
         2,
-        START,
     ),
-    ("SELECT SUM(k) INTO :n FROM t;", "done\n18,'q',1", 2, START),
+    ("SELECT SUM(k) INTO :n FROM t;", "done\n18,'q',1", 2),
     (
         "SELECT SUM(k) INTO :n FROM t WHERE g = 1;",
         "done\n12,'q',1",
         2,
-        START,
     ),
     (
         "SELECT SUM(k) INTO :n FROM t WHERE g = 9;",
         "done\n0,'q',0",
         2,
-        START,
     ),
-    ("SELECT MIN(k) INTO :n FROM t;", "done\n1,'q',1", 2, START),
-    ("SELECT MAX(g) INTO :n FROM t;", "done\n3,'q',1", 2, START),
-    ("SELECT MIN(x) INTO :s FROM t;", "done\n7,'a',1", 2, START),
-    ("SELECT MAX(x) INTO :s FROM t;", "done\n7,'c',1", 2, START),
+    ("SELECT MIN(k) INTO :n FROM t;", "done\n1,'q',1", 2),
+    ("SELECT MAX(g) INTO :n FROM t;", "done\n3,'q',1", 2),
+    ("SELECT MIN(x) INTO :s FROM t;", "done\n7,'a',1", 2),
+    ("SELECT MAX(x) INTO :s FROM t;", "done\n7,'c',1", 2),
     (
         "SELECT MIN(k) INTO :n FROM t WHERE g = 9;",
         "done\n7,'q',0",
         2,
-        START,
     ),
     (
         "SELECT COUNT(*) INTO :n FROM t WHERE g = 1 / 0;",
         "rolled back division by zero",
         1,
-        START,
     ),
+];
+
+#[test]
+fn statements_look_at_rows(rt: HostRuntime) -> Result<(), Fail> {
+    for (statement, reply, records) in LOOKS {
+        check(
+            &rt,
+            rt.alloc(),
+            &[statement, " ", SHOW],
+            reply,
+            *records,
+            START,
+        )?;
+    }
+    Ok(())
+}
+
+/// The same with the rows, where they change.
+type Stated = (&'static str, &'static str, u32, Option<&'static str>);
+
+const STATEMENTS: &[Stated] = &[
     (
         "INSERT INTO t VALUES (2, 9, 'abc');",
         "done\n7,'q',1",
         2,
-        "1,5,b\n1,7,a\n2,5,a\n2,9,abc\n3,1,c\n",
+        Some("1,5,b\n1,7,a\n2,5,a\n2,9,abc\n3,1,c\n"),
     ),
     (
         "INSERT INTO t VALUES (1, 5, '');",
         "rolled back duplicate key",
         1,
-        START,
+        None,
     ),
     (
         "INSERT INTO t VALUES (1, 5, 'abcd');",
         "rolled back text too long",
         1,
-        START,
+        None,
     ),
     (
         "INSERT INTO t VALUES (1, 1 % 0, 'abcd');",
         "rolled back division by zero",
         1,
-        START,
+        None,
     ),
     (
         "UPDATE t SET x = 'z' WHERE g = 1;",
         "done\n7,'q',1",
         2,
-        "1,5,z\n1,7,z\n2,5,a\n3,1,c\n",
+        Some("1,5,z\n1,7,z\n2,5,a\n3,1,c\n"),
     ),
     (
         "UPDATE t SET x = 'z' WHERE g = 9;",
         "done\n7,'q',0",
         2,
-        START,
+        None,
     ),
     (
         "UPDATE t SET x = TEXTOF(8 / (k - 1));",
         "rolled back division by zero",
         1,
-        START,
+        None,
     ),
     (
         "UPDATE t SET x = 'abcd';",
         "rolled back text too long",
         1,
-        START,
+        None,
     ),
     (
         "DELETE FROM t WHERE g = 1;",
         "done\n7,'q',1",
         2,
-        "2,5,a\n3,1,c\n",
+        Some("2,5,a\n3,1,c\n"),
     ),
     (
         "DELETE FROM t WHERE x = 'a';",
         "done\n7,'q',1",
         2,
-        "1,5,b\n3,1,c\n",
+        Some("1,5,b\n3,1,c\n"),
     ),
-    ("DELETE FROM t WHERE g > 3;", "done\n7,'q',0", 2, START),
-    ("DELETE FROM t;", "done\n7,'q',1", 2, ""),
-    ("ROLLBACK 'stop';", "rolled back 'stop'", 1, START),
+    ("DELETE FROM t WHERE g > 3;", "done\n7,'q',0", 2, None),
+    ("DELETE FROM t;", "done\n7,'q',1", 2, Some("")),
+    ("ROLLBACK 'stop';", "rolled back 'stop'", 1, None),
     (
         "FOR :r IN SELECT g, k FROM t DO PRINT :r.g, :r.k; END FOR;",
         "done\n1,5\n1,7\n2,5\n3,1\n7,'q',1",
         6,
-        START,
+        None,
     ),
     (
         "FOR :r IN SELECT k FROM t ORDER BY x DESC DO PRINT :r.k; END FOR;",
         "done\n1\n5\n7\n5\n7,'q',1",
         6,
-        START,
+        None,
     ),
     (
         "FOR :r IN SELECT DISTINCT x FROM t DO PRINT :r.x; END FOR;",
         "done\n'a'\n'b'\n'c'\n7,'q',1",
         5,
-        START,
+        None,
     ),
     (
         "FOR :r IN SELECT DISTINCT k FROM t WHERE g <= 2 DO PRINT :r.k; END FOR;",
         "done\n5\n7\n7,'q',1",
         4,
-        START,
+        None,
     ),
     (
         "FOR :r IN SELECT k FROM t WHERE g = 1 DO PRINT :found; END FOR;",
         "done\n1\n1\n7,'q',1",
         4,
-        START,
+        None,
     ),
     (
         "FOR :r IN SELECT k FROM t WHERE g = 9 DO SET :n = 1; END FOR;",
         "done\n7,'q',0",
         2,
-        START,
+        None,
     ),
     (
         "FOR :r IN SELECT g, k FROM t WHERE g >= 2 DO INSERT INTO t VALUES (:r.g + 2, :r.k, ''); PRINT :r.g; END FOR;",
         "done\n2\n3\n7,'q',1",
         6,
-        "1,5,b\n1,7,a\n2,5,a\n3,1,c\n4,5,\n5,1,\n",
+        Some("1,5,b\n1,7,a\n2,5,a\n3,1,c\n4,5,\n5,1,\n"),
     ),
     (
         "FOR :r IN SELECT g FROM t DO DELETE FROM t; PRINT :r.g; END FOR;",
         "done\n1\n1\n2\n3\n7,'q',0",
         10,
-        "",
+        Some(""),
     ),
     (
         "FOR :r IN :rows DO PRINT :r.a, :r.b; END FOR;",
         "done\n9,1\n4,2\n7,'q',1",
         4,
-        START,
+        None,
     ),
     (
         "IF :n = 7 THEN SET :s = 'y'; ELSE SET :s = 'n'; END IF;",
         "done\n7,'y',0",
         3,
-        START,
+        None,
     ),
     (
         "IF 0 THEN SET :s = 'y'; ELSE SET :n = 2; END IF;",
         "done\n2,'q',0",
         3,
-        START,
+        None,
     ),
-    ("IF 0 THEN SET :s = 'y'; END IF;", "done\n7,'q',0", 2, START),
+    ("IF 0 THEN SET :s = 'y'; END IF;", "done\n7,'q',0", 2, None),
     (
         "IF -1 THEN PRINT 1; DELETE FROM t; ROLLBACK 'it''s'; END IF;",
         "rolled back 'it''s'",
         4,
-        START,
+        None,
     ),
     // What a call wrote itself is seen by what comes after it.
     (
         "UPDATE t SET x = 'm' WHERE g = 1 AND k = 5; DELETE FROM t WHERE x = 'm'; SELECT x INTO :s FROM t WHERE g = 1;",
         "done\n7,'a',1",
         4,
-        "1,7,a\n2,5,a\n3,1,c\n",
+        Some("1,7,a\n2,5,a\n3,1,c\n"),
     ),
     (
         "DELETE FROM t WHERE g = 1 AND k = 5; INSERT INTO t VALUES (1, 5, 'n'); UPDATE t SET x = x || 'o' WHERE k = 5; SELECT x INTO :s FROM t WHERE g = 1 AND k = 5;",
         "done\n7,'no',1",
         5,
-        "1,5,no\n1,7,a\n2,5,ao\n3,1,c\n",
+        Some("1,5,no\n1,7,a\n2,5,ao\n3,1,c\n"),
     ),
     (
         "INSERT INTO t VALUES (1, 6, 'z'); DELETE FROM t WHERE g = 2; SELECT COUNT(*) INTO :n FROM t WHERE g >= 1 AND g <= 2; SELECT MAX(x) INTO :s FROM t WHERE g = 1 AND k > 5;",
         "done\n3,'z',1",
         5,
-        "1,5,b\n1,6,z\n1,7,a\n3,1,c\n",
+        Some("1,5,b\n1,6,z\n1,7,a\n3,1,c\n"),
     ),
     (
         "UPDATE t SET x = 'z' WHERE x = 'a'; SELECT COUNT(*) INTO :n FROM t WHERE x = 'a'; DELETE FROM t WHERE g = 9 AND k = 9;",
         "done\n0,'q',0",
         4,
-        "1,5,b\n1,7,z\n2,5,z\n3,1,c\n",
+        Some("1,5,b\n1,7,z\n2,5,z\n3,1,c\n"),
     ),
 ];
 
+fn prints_and_leaves<R: Threads + Wait + Sync>(
+    rt: &R,
+    alloc: Global,
+    case: &Stated,
+) -> Result<(), Fail> {
+    let (statement, reply, records, rows) = *case;
+    let rows = rows.unwrap_or(START);
+    check(rt, alloc, &[statement, " ", SHOW], reply, records, rows)
+}
+
 #[test]
 fn statements_print_and_leave_rows(rt: HostRuntime) -> Result<(), Fail> {
-    let alloc = rt.alloc();
-    for (statement, reply, records, rows) in STATEMENTS {
-        let statements = format!(in alloc; "{statement} {SHOW}")?;
-        check(&rt, alloc, statements.as_str(), reply, *records, rows)?;
+    for case in STATEMENTS {
+        prints_and_leaves(&rt, rt.alloc(), case)?;
     }
     Ok(())
 }

@@ -11,6 +11,7 @@ ghost use Rattle.mv_graph.specs.Nodes.{IsSound};
 ghost use Rattle.mv_effect.specs.Looking.{IsDatabase};
 ghost use Rattle.mv_exec.specs.Graphs.{Runs};
 
+use crate::whole::{ensure, joined};
 use mv_accept::accept::accept;
 use mv_alone::find::rows_in;
 use mv_alone::line::line_from;
@@ -26,12 +27,14 @@ use mv_values::calls::{Call, End};
 use mv_values::copied::Copied;
 use mv_values::list::List;
 use mv_values::memory::NoMemory;
-use mv_values::patch::{Patch, Write};
+use mv_values::patch::{Assign, Patch, Write};
 use mv_values::rows::{Database, Keyed};
 use mv_values::schema::TableInfo;
+use mv_values::txt::Txt;
 use mv_values::value::{Row, Value};
 use mv_view::plain::Plain;
 use std::alloc::Global;
+use std::slice;
 use std::test::Fail;
 
 /// What stands before the statements of a case. The variables have the numbers 0 for `:rows`, 1 for `:n`, 2 for `:s`, 3 for
@@ -135,8 +138,7 @@ END FOR;",
 // Records as text
 
 fn tell_text(out: &mut String, bytes: &[u8]) -> Result<(), Fail> {
-    out.push_str(str::from_utf8(bytes).or(Err("no text"))?)?;
-    Ok(())
+    Ok(out.push_str(str::from_utf8(bytes).or(Err("no text"))?)?)
 }
 
 fn tell_values(alloc: Global, out: &mut String, values: &[Value]) -> Result<(), Fail> {
@@ -144,132 +146,192 @@ fn tell_values(alloc: Global, out: &mut String, values: &[Value]) -> Result<(), 
     tell_text(out, line.as_slice())
 }
 
-fn tell_place(out: &mut String, spot: &Spot, parent: Option<usize>) -> Result<(), Fail> {
-    write!(out, "{}", spot.statement)?;
-    for (i, turn) in spot.turns.as_slice().iter().enumerate() {
-        write!(out, "{}{turn}", if i == 0 { "@" } else { "." })?;
-    }
-    if let Some(parent) = parent {
-        write!(out, " in {parent}")?;
+/// A text before a value.
+fn tell_value(alloc: Global, out: &mut String, front: &str, value: &Value) -> Result<(), Fail> {
+    out.push_str(front)?;
+    tell_values(alloc, out, slice::from_ref(value))
+}
+
+fn tell_turns(out: &mut String, turns: &[usize]) -> Result<(), Fail> {
+    let mut front = "@";
+    for turn in turns {
+        write!(out, "{front}{turn}")?;
+        front = ".";
     }
     Ok(())
 }
 
+fn tell_parent(out: &mut String, parent: Option<usize>) -> Result<(), Fail> {
+    match parent {
+        Some(parent) => Ok(write!(out, " in {parent}")?),
+        None => Ok(()),
+    }
+}
+
+fn tell_read(out: &mut String, front: &str, read: &Read) -> Result<(), Fail> {
+    write!(out, "{front} {}<", read.slot)?;
+    match read.definer {
+        Some(definer) => Ok(write!(out, "{definer}")?),
+        None => Ok(()),
+    }
+}
+
 fn tell_reads(out: &mut String, reads: &[Read]) -> Result<(), Fail> {
-    for (i, read) in reads.iter().enumerate() {
-        let front = if i == 0 { " reads" } else { "" };
-        write!(out, "{front} {}<", read.slot)?;
-        if let Some(definer) = read.definer {
-            write!(out, "{definer}")?;
-        }
+    let mut front = " reads";
+    for read in reads {
+        tell_read(out, front, read)?;
+        front = "";
+    }
+    Ok(())
+}
+
+/// The place, controller and definers of a record.
+fn tell_place(
+    out: &mut String,
+    spot: &Spot,
+    parent: Option<usize>,
+    reads: &[Read],
+) -> Result<(), Fail> {
+    write!(out, "{}", spot.statement)?;
+    tell_turns(out, spot.turns.as_slice())?;
+    tell_parent(out, parent)?;
+    tell_reads(out, reads)
+}
+
+fn tell_asks(out: &mut String, asks: usize) -> Result<(), Fail> {
+    if asks > 0 {
+        write!(out, " asks {asks}")?;
     }
     Ok(())
 }
 
 fn tell_sets(alloc: Global, out: &mut String, sets: &[Slot]) -> Result<(), Fail> {
-    for (i, set) in sets.iter().enumerate() {
-        let front = if i == 0 { " sets" } else { "" };
-        write!(out, "{front} {}=", set.slot)?;
-        let value = set.value.copy(alloc)?;
-        tell_values(alloc, out, &[value])?;
+    let mut front = " sets";
+    for set in sets {
+        write!(out, "{front} {}", set.slot)?;
+        tell_value(alloc, out, "=", &set.value)?;
+        front = "";
     }
     Ok(())
 }
 
 fn tell_rows(alloc: Global, out: &mut String, rows: &[Row]) -> Result<(), Fail> {
-    for (i, row) in rows.iter().enumerate() {
-        out.push_str(if i == 0 { " rows " } else { "" })?;
+    let mut front = " rows ";
+    for row in rows {
+        out.push_str(front)?;
         tell_values(alloc, out, row.as_slice())?;
+        front = "";
         out.push_str("|")?;
     }
     Ok(())
 }
 
-fn tell_write(alloc: Global, out: &mut String, write: &Write) -> Result<(), Fail> {
-    let key = write.key.as_slice();
-    match &write.patch {
-        Patch::Delete => {
-            out.push_str(" takes ")?;
-            tell_values(alloc, out, key)?;
-        }
-        Patch::Insert(row) => {
-            out.push_str(" puts ")?;
-            tell_values(alloc, out, key)?;
-            out.push_str(": ")?;
-            tell_values(alloc, out, row.as_slice())?;
-        }
-        Patch::Set(items) => {
-            out.push_str(" puts ")?;
-            tell_values(alloc, out, key)?;
-            for item in items.as_slice() {
-                write!(out, " {}=", item.column)?;
-                let value = item.value.copy(alloc)?;
-                tell_values(alloc, out, &[value])?;
-            }
-        }
+fn tell_items(alloc: Global, out: &mut String, items: &[Assign]) -> Result<(), Fail> {
+    for item in items {
+        write!(out, " {}", item.column)?;
+        tell_value(alloc, out, "=", &item.value)?;
     }
     Ok(())
 }
 
-fn tell_end(alloc: Global, out: &mut String, end: &End) -> Result<(), Fail> {
-    out.push_str(" ends ")?;
-    match end {
-        End::Own(reason) => {
-            let reason = Value::Text(reason.copy(alloc)?);
-            tell_values(alloc, out, &[reason])?;
+fn tell_write(alloc: Global, out: &mut String, write: &Write) -> Result<(), Fail> {
+    let word = match &write.patch {
+        Patch::Delete => " takes ",
+        _ => " puts ",
+    };
+    out.push_str(word)?;
+    tell_values(alloc, out, write.key.as_slice())?;
+    match &write.patch {
+        Patch::Delete => Ok(()),
+        Patch::Insert(row) => {
+            out.push_str(": ")?;
+            tell_values(alloc, out, row.as_slice())
         }
-        End::Duplicate => out.push_str("duplicate key")?,
-        End::Overflow => out.push_str("overflow")?,
-        End::ZeroDivisor => out.push_str("division by zero")?,
-        End::TooLong => out.push_str("text too long")?,
+        Patch::Set(items) => tell_items(alloc, out, items.as_slice()),
+    }
+}
+
+fn tell_writes(alloc: Global, out: &mut String, writes: &[Write]) -> Result<(), Fail> {
+    for write in writes {
+        tell_write(alloc, out, write)?;
     }
     Ok(())
+}
+
+fn tell_line(out: &mut String, line: Option<&Txt>) -> Result<(), Fail> {
+    match line {
+        Some(line) => {
+            out.push_str(" line ")?;
+            tell_text(out, line.as_slice())
+        }
+        None => Ok(()),
+    }
+}
+
+fn tell_end(out: &mut String, end: &End) -> Result<(), Fail> {
+    out.push_str(" ends ")?;
+    let word = match end {
+        End::Own(reason) => {
+            out.push_str("'")?;
+            tell_text(out, reason.as_slice())?;
+            "'"
+        }
+        End::Duplicate => "duplicate key",
+        End::Overflow => "overflow",
+        End::ZeroDivisor => "division by zero",
+        End::TooLong => "text too long",
+    };
+    Ok(out.push_str(word)?)
 }
 
 fn tell_record(alloc: Global, out: &mut String, record: &Record) -> Result<(), Fail> {
-    tell_place(out, &record.spot, record.parent)?;
-    tell_reads(out, record.reads.as_slice())?;
-    if record.preds.len() > 0 {
-        write!(out, " asks {}", record.preds.len())?;
-    }
+    tell_place(out, &record.spot, record.parent, record.reads.as_slice())?;
+    tell_asks(out, record.preds.len())?;
     tell_sets(alloc, out, record.sets.as_slice())?;
     tell_rows(alloc, out, record.rows.as_slice())?;
-    for write in record.writes.as_slice() {
-        tell_write(alloc, out, write)?;
-    }
-    if let Some(line) = &record.line {
-        out.push_str(" line ")?;
-        tell_text(out, line.as_slice())?;
-    }
+    tell_writes(alloc, out, record.writes.as_slice())?;
+    tell_line(out, record.line.as_ref())?;
     if let Some(end) = &record.end {
-        tell_end(alloc, out, end)?;
+        tell_end(out, end)?;
     }
-    out.push_str("; ")?;
+    Ok(out.push_str("; ")?)
+}
+
+fn tell_records(alloc: Global, out: &mut String, records: &[Record]) -> Result<(), Fail> {
+    for record in records {
+        tell_record(alloc, out, record)?;
+    }
     Ok(())
 }
 
-fn told(alloc: Global, records: &[Record]) -> Result<String, Fail> {
+/// Has records be told so.
+fn are_told(alloc: Global, records: &[Record], want: &str) -> Result<(), Fail> {
     let mut out = String::new(alloc);
-    for record in records {
-        tell_record(alloc, &mut out, record)?;
-    }
-    Ok(out)
+    tell_records(alloc, &mut out, records)?;
+    ensure(alloc, out.as_str() == want, out.as_str())
 }
 
-/// The place, controller and definers of a record.
-fn where_it_stands(alloc: Global, record: &Record) -> Result<String, Fail> {
-    let mut out = String::new(alloc);
-    tell_place(&mut out, &record.spot, record.parent)?;
-    tell_reads(&mut out, record.reads.as_slice())?;
-    Ok(out)
-}
-
-/// The same of one that isn't there yet.
-fn where_it_will_stand(alloc: Global, ahead: &Ahead) -> Result<String, Fail> {
-    let mut out = String::new(alloc);
-    tell_place(&mut out, &ahead.spot, ahead.parent)?;
-    tell_reads(&mut out, ahead.reads.as_slice())?;
-    Ok(out)
+/// Has a record stand where it was foreseen.
+fn is_foreseen(alloc: Global, record: &Record, ahead: &Ahead) -> Result<(), Fail> {
+    let mut stands = String::new(alloc);
+    tell_place(
+        &mut stands,
+        &record.spot,
+        record.parent,
+        record.reads.as_slice(),
+    )?;
+    let mut foreseen = String::new(alloc);
+    tell_place(
+        &mut foreseen,
+        &ahead.spot,
+        ahead.parent,
+        ahead.reads.as_slice(),
+    )?;
+    ensure(
+        alloc,
+        stands.as_str() == foreseen.as_str(),
+        foreseen.as_str(),
+    )
 }
 
 // Running calls
@@ -331,41 +393,40 @@ fn behind(alloc: Global, database: &Database, records: &[Record]) -> Result<Data
     Ok(database)
 }
 
+/// Whether they are rows of one table, before and behind the writes of records.
+fn are_sound(
+    alloc: Global,
+    graph: &Graph,
+    database: &Database,
+    records: &[Record],
+) -> Result<bool, NoMemory>
+    ensures before { IfOk result (λ are. IsTrue are → IsDatabase graph.now.tables database.now) }
+    ensures behind { IfOk result (λ are. IsTrue are → IsDatabase graph.now.tables (applied (writes_in records.now) database.now)) }
+{
+    let behind = behind(alloc, database, records)?;
+    let tables = graph.tables.as_slice();
+    Ok(is_sound(tables, database) && is_sound(tables, &behind))
+}
+
 /// Executes what is left of a call over a database: one statement by `next`, and the others by `finish`.
 fn execute(alloc: Global, graph: &Graph, task: &mut Task, database: &Database) -> Result<(), Fail>
     requires sound { IsSound graph.now }
     requires runs { Runs graph.now task.old }
     ensures runs { Runs graph.now task.new }
 {
-    let behind = behind(alloc, database, task.records())?;
-    if !is_sound(graph.tables.as_slice(), database) {
+    if !are_sound(alloc, graph, database, task.records())? {
         return Err("no database of one table".into());
-    }
-    if !is_sound(graph.tables.as_slice(), &behind) {
-        return Err("writes that leave their keys".into());
     }
     let mut view = Plain::new(database);
     let stepped = next(alloc, graph, task, &mut view).or(Err("no step"))?;
     if (stepped == Stepped::Ended) != task.ended() {
         return Err("a step that tells no end".into());
     }
-    finish(alloc, graph, task, &mut view).or(Err("no end"))?;
-    Ok(())
+    Ok(finish(alloc, graph, task, &mut view).or(Err("no end"))?)
 }
 
-/// Adopts a copy of a record that tells neither its place nor its controller nor what it reads, which `peek` has to foresee.
-fn adopt_copy(alloc: Global, graph: &Graph, task: &mut Task, record: &Record) -> Result<(), Fail>
-    requires sound { IsSound graph.now }
-    requires runs { Runs graph.now task.old }
-    ensures runs { Runs graph.now task.new }
-{
-    let Some(ahead) = peek(alloc, graph, task)? else {
-        return Err("nothing is ahead".into());
-    };
-    let stands = where_it_stands(alloc, record)?;
-    if where_it_will_stand(alloc, &ahead)?.as_str() != stands.as_str() {
-        return Err("another record is ahead".into());
-    }
+/// A copy of a record that tells neither its place nor its controller nor what it reads.
+fn placeless(alloc: Global, record: &Record) -> Result<Record, NoMemory> {
     let mut given = record.copy(alloc)?;
     given.spot = Spot {
         statement: 0,
@@ -373,14 +434,60 @@ fn adopt_copy(alloc: Global, graph: &Graph, task: &mut Task, record: &Record) ->
     };
     given.parent = None;
     given.reads = List::new(alloc);
+    Ok(given)
+}
+
+/// Has `peek` foresee the place, controller and reads of this record.
+fn foresees(alloc: Global, graph: &Graph, task: &Task, record: &Record) -> Result<(), Fail>
+    requires sound { IsSound graph.now }
+    requires runs { Runs graph.now task.now }
+{
+    match peek(alloc, graph, task)? {
+        Some(ahead) => is_foreseen(alloc, record, &ahead),
+        None => Err("nothing is ahead".into()),
+    }
+}
+
+/// Adopts a copy of a record that `peek` foresees.
+fn adopt_copy(alloc: Global, graph: &Graph, task: &mut Task, record: &Record) -> Result<(), Fail>
+    requires sound { IsSound graph.now }
+    requires runs { Runs graph.now task.old }
+    ensures runs { Runs graph.now task.new }
+{
+    foresees(alloc, graph, task, record)?;
     if task.ended() {
         return Err("it has ended".into());
     }
+    let given = placeless(alloc, record)?;
     let stepped = adopt(alloc, graph, task, given)?;
-    if (stepped == Stepped::Ended) != task.ended() {
-        return Err("a step that tells no end".into());
+    ensure(
+        alloc,
+        (stepped == Stepped::Ended) == task.ended(),
+        "a step that tells no end",
+    )
+}
+
+/// Adopts copies of these records.
+fn adopt_all(alloc: Global, graph: &Graph, task: &mut Task, given: &[Record]) -> Result<(), Fail>
+    requires sound { IsSound graph.now }
+    requires runs { Runs graph.now task.old }
+    ensures runs { Runs graph.now task.new }
+{
+    for record in given {
+        adopt_copy(alloc, graph, task, record)?;
     }
     Ok(())
+}
+
+/// A call that has left no records.
+fn begun(alloc: Global, graph: &Graph, call: &Call) -> Result<Task, Fail>
+    requires sound { IsSound graph.now }
+    ensures runs { IfOk result (Runs graph.now) }
+{
+    if call.arguments.len() > 16 {
+        return Err("too many arguments".into());
+    }
+    Ok(Task::new(alloc, graph, call)?)
 }
 
 /// A call that adopts copies of these records, and then executes what is left.
@@ -394,15 +501,68 @@ fn run_behind(
     requires sound { IsSound graph.now }
     ensures runs { IfOk result (Runs graph.now) }
 {
-    if call.arguments.len() > 16 {
-        return Err("too many arguments".into());
-    }
-    let mut task = Task::new(alloc, graph, call)?;
-    for record in given {
-        adopt_copy(alloc, graph, &mut task, record)?;
-    }
+    let mut task = begun(alloc, graph, call)?;
+    adopt_all(alloc, graph, &mut task, given)?;
     execute(alloc, graph, &mut task, database)?;
     Ok(task)
+}
+
+/// Has a call have these records, of which it executed so many.
+fn has_left(alloc: Global, task: &Task, executed: Option<usize>, want: &str) -> Result<(), Fail> {
+    ensure(
+        alloc,
+        Some(task.executed()) == executed,
+        "another number of executed records",
+    )?;
+    are_told(alloc, task.records(), want)
+}
+
+/// Has a call that adopts copies of the first so many records execute the others, and leave them all.
+fn adopts(
+    alloc: Global,
+    graph: &Graph,
+    call: &Call,
+    database: &Database,
+    records: &[Record],
+    count: usize,
+    want: &str,
+) -> Result<(), Fail>
+    requires sound { IsSound graph.now }
+    requires count { count ≤ length records.now }
+{
+    let executed = records.len().checked_sub(count);
+    let task = run_behind(alloc, graph, call, database, &records[..count])?;
+    has_left(alloc, &task, executed, want)
+}
+
+/// The same for each number of records.
+fn adopts_each(
+    alloc: Global,
+    graph: &Graph,
+    call: &Call,
+    database: &Database,
+    records: &[Record],
+    want: &str,
+) -> Result<(), Fail>
+    requires sound { IsSound graph.now }
+{
+    for count in 0..=records.len() {
+        adopts(alloc, graph, call, database, records, count, want)?;
+    }
+    Ok(())
+}
+
+/// The records of a call that executes them all.
+fn records_of(
+    alloc: Global,
+    graph: &Graph,
+    call: &Call,
+    database: &Database,
+) -> Result<List<Record>, Fail>
+    requires sound { IsSound graph.now }
+{
+    let mut task = run_behind(alloc, graph, call, database, &[])?;
+    Ok(task.restart(alloc))
 }
 
 /// Has a call leave these records, whether all of them are executed, or the first ones adopted, or all once more.
@@ -415,23 +575,9 @@ fn check(
 ) -> Result<(), Fail>
     requires sound { IsSound graph.now }
 {
-    let mut whole = run_behind(alloc, graph, call, database, &[])?;
-    let records = whole.restart(alloc);
-    if told(alloc, records.as_slice())?.as_str() != want {
-        return Err(told(alloc, records.as_slice())?.into());
-    }
-    for count in 0..=records.len() {
-        let task = run_behind(alloc, graph, call, database, &records.as_slice()[..count])?;
-        if told(alloc, task.records())?.as_str() != want
-            || task.executed().checked_add(count) != Some(records.len())
-        {
-            return Err(format!(in alloc;
-                "{count} adopted: {}",
-                told(alloc, task.records())?
-            )?.into());
-        }
-    }
-    Ok(())
+    let records = records_of(alloc, graph, call, database)?;
+    are_told(alloc, records.as_slice(), want)?;
+    adopts_each(alloc, graph, call, database, records.as_slice(), want)
 }
 
 fn accepted(alloc: Global, script: &str) -> Result<Program, Fail>
@@ -440,16 +586,39 @@ fn accepted(alloc: Global, script: &str) -> Result<Program, Fail>
     Ok(accept(alloc, script.as_bytes()).or(Err("refused"))?)
 }
 
+fn check_only(alloc: Global, program: &Program, graphs: &[Graph], want: &str) -> Result<(), Fail>
+    requires sound { All IsSound graphs.now }
+{
+    let calls = program.resolved.calls.as_slice();
+    let ([graph], [call]) = (graphs, calls) else {
+        return Err("no call".into());
+    };
+    check(alloc, graph, call, &program.opening, want)
+}
+
+/// Has the only call of a program leave these records.
+fn leaves(alloc: Global, program: &Program, want: &str) -> Result<(), Fail>
+    requires { FitsText program.now.resolved }
+{
+    let graphs = compile(alloc, &program.resolved)?;
+    check_only(alloc, program, graphs.as_slice(), want)
+}
+
+fn script_leaves(alloc: Global, script: &str, want: &str) -> Result<(), Fail> {
+    let program = accepted(alloc, script)?;
+    leaves(alloc, &program, want)
+}
+
+/// Has the call of a procedure of these statements leave these records.
+fn statements_leave(alloc: Global, statements: &str, want: &str) -> Result<(), Fail> {
+    let script = joined(alloc, &[FRONT, statements, BACK])?;
+    script_leaves(alloc, script.as_str(), want)
+}
+
 #[test]
 fn records_are_executed_or_adopted(rt: HostRuntime) -> Result<(), Fail> {
-    let alloc = rt.alloc();
     for (statements, want) in CASES {
-        let script = format!(in alloc; "{FRONT}{statements}{BACK}")?;
-        let program = accepted(alloc, script.as_str())?;
-        let graphs = compile(alloc, &program.resolved)?;
-        let graph = graphs.as_slice().first().ok_or("no graph")?;
-        let call = program.resolved.calls.as_slice().first().ok_or("no call")?;
-        check(alloc, graph, call, &program.opening, want)?;
+        statements_leave(rt.alloc(), statements, want)?;
     }
     Ok(())
 }

@@ -1,25 +1,55 @@
 //! Scripts, and the line that each of them is refused with, worked out by hand from the rules of the language.
 
+use crate::whole::{ensure, joined};
 use mv_accept::accept::{NotAccepted, accept};
+use mv_accept::refusal::Refusal;
+use mv_values::memory::NoMemory;
 use std::alloc::Global;
 use std::test::Fail;
 
-/// The line of the refusal of a script, or that it is accepted.
-fn told(alloc: Global, script: &str) -> Result<String, Fail> {
-    let refusal = match accept(alloc, script.as_bytes()) {
-        Ok(_) => return Ok(String::from_str(alloc, "accepted")?),
-        Err(NotAccepted::NoMemory) => return Err("no memory".into()),
-        Err(NotAccepted::Refused(refusal)) => refusal,
-    };
-    let line = refusal.line(alloc)?;
-    let line = str::from_utf8(line.as_slice()).or(Err("no text"))?;
-    Ok(String::from_str(alloc, line)?)
+fn fault(alloc: Global, script: &str) -> Option<NotAccepted> {
+    accept(alloc, script.as_bytes()).err()
 }
 
-/// A table and the head of a procedure, in whose body the statements stand. Its tokens are 60.
+fn has_line(alloc: Global, refusal: &Refusal, want: &str) -> Result<bool, NoMemory> {
+    let line = refusal.line(alloc)?;
+    Ok(line.as_slice() == want.as_bytes())
+}
+
+/// Has a script be refused with this line, or be accepted where the line says so.
+fn tells(alloc: Global, script: &str, want: &str) -> Result<(), Fail> {
+    let holds = match fault(alloc, script) {
+        None => want == "accepted",
+        Some(NotAccepted::NoMemory) => false,
+        Some(NotAccepted::Refused(refusal)) => has_line(alloc, &refusal, want)?,
+    };
+    ensure(alloc, holds, script)
+}
+
+/// The same of a script between two texts.
+fn tells_within(
+    alloc: Global,
+    front: &str,
+    script: &str,
+    back: &str,
+    want: &str,
+) -> Result<(), Fail> {
+    let script = joined(alloc, &[front, script, back])?;
+    tells(alloc, script.as_str(), want)
+}
+
+fn tell_within(alloc: Global, front: &str, back: &str, cases: &[(&str, &str)]) -> Result<(), Fail> {
+    for (script, want) in cases {
+        tells_within(alloc, front, script, back, want)?;
+    }
+    Ok(())
+}
+
+/// A table and the head of a procedure, in whose body the statements stand.
 const HEAD: &str = "CREATE TABLE t (k INT, n INT, s TEXT(3), PRIMARY KEY (k));
 CREATE PROCEDURE p (:a INT, :u TEXT(3), :m ROWS (x INT, y TEXT(2))) DECLARE :i = 0; DECLARE :w = ''; BEGIN ";
 
+/// The tokens of this head.
 const HEAD_TOKENS: u32 = 60;
 
 /// Statements, and the token of the fault among theirs.
@@ -187,61 +217,120 @@ const KEYS: Cases = &[
     ("UPDATE t SET k = 1, k = 2 WHERE z = 1;", 4),
 ];
 
-const FAULTS: &[(&str, Cases)] = &[
-    ("refused 6 unknown name", UNKNOWN_TABLES),
-    ("refused 6 unknown name", UNKNOWN_COLUMNS),
-    ("refused 6 unknown name", UNKNOWN_VARIABLES),
-    ("refused 7 double name", DOUBLE_NAMES),
-    ("refused 8 wrong type", WRONG_TARGETS),
-    ("refused 8 wrong type", WRONG_PLACES),
-    ("refused 8 wrong type", WRONG_SIDES),
-    ("refused 9 key assigned", KEYS),
-];
+/// A text, how many tokens it has, and the text behind each script.
+type Frame = (&'static str, u32, &'static str);
 
-#[test]
-fn statements_with_a_fault(rt: HostRuntime) -> Result<(), Fail> {
-    for (what, cases) in FAULTS {
-        for (statements, token) in *cases {
-            let alloc = rt.alloc();
-            let script = format!(in alloc; "{HEAD}{statements} END;")?;
-            let at = HEAD_TOKENS.saturating_add(*token);
-            let want = format!(in alloc; "{what} at token {at}")?;
-            let line = told(alloc, script.as_str())?;
-            assert_eq!(rt; line.as_str(), want.as_str(), "{statements}");
-        }
+/// Has each script in a frame be refused with what is told and the token of its fault, counted among its own.
+fn tells_tokens(alloc: Global, frame: &Frame, what: &str, cases: Cases) -> Result<(), Fail> {
+    let (front, before, back) = *frame;
+    for (script, token) in cases {
+        let want = line(alloc, what, before.saturating_add(*token))?;
+        tells_within(alloc, front, script, back, want.as_str())?;
     }
     Ok(())
 }
 
-const ACCEPTED: &[&str] = &[
-    "",
-    "set :I = :A + :Found - 1;",
-    "SELECT n, s INTO :i, :w FROM t WHERE s >= '' AND k = 1 ORDER BY s DESC, k OFFSET :a;",
-    "SELECT n, n INTO :i, :i FROM t;",
-    "SELECT MAX(s) INTO :w FROM T;",
-    "SELECT COUNT(DISTINCT s) INTO :i FROM t;",
-    "FOR :r IN :m DO END FOR; FOR :r IN SELECT n FROM t DO PRINT :r.n; END FOR;",
-    "FOR :r IN :m DO IF :r.x THEN SET :w = :R.Y; ELSE INSERT INTO t VALUES (:r.x, 1, :u); END IF; END FOR;",
-    "FOR :r IN SELECT s, s FROM t DO FOR :q IN SELECT k FROM t WHERE s = :r.s DO END FOR; END FOR;",
-    "UPDATE t SET n = k + n, s = s || :u WHERE k = (:a);",
-    "DELETE FROM t WHERE s <> LEFT(TEXTOF(1 = 1), 2);",
+fn line(alloc: Global, what: &str, token: u32) -> Result<String, Fail> {
+    Ok(format!(in alloc; "{what} at token {token}")?)
+}
+
+const IN_BODY: Frame = (HEAD, HEAD_TOKENS, " END;");
+
+const UNKNOWN: &str = "refused 6 unknown name";
+
+const DOUBLE: &str = "refused 7 double name";
+
+const WRONG: &str = "refused 8 wrong type";
+
+const ASSIGNED: &str = "refused 9 key assigned";
+
+#[test]
+fn unknown_tables(rt: HostRuntime) -> Result<(), Fail> {
+    tells_tokens(rt.alloc(), &IN_BODY, UNKNOWN, UNKNOWN_TABLES)
+}
+
+#[test]
+fn unknown_columns(rt: HostRuntime) -> Result<(), Fail> {
+    tells_tokens(rt.alloc(), &IN_BODY, UNKNOWN, UNKNOWN_COLUMNS)
+}
+
+#[test]
+fn unknown_variables(rt: HostRuntime) -> Result<(), Fail> {
+    tells_tokens(rt.alloc(), &IN_BODY, UNKNOWN, UNKNOWN_VARIABLES)
+}
+
+#[test]
+fn double_names(rt: HostRuntime) -> Result<(), Fail> {
+    tells_tokens(rt.alloc(), &IN_BODY, DOUBLE, DOUBLE_NAMES)
+}
+
+#[test]
+fn wrong_targets(rt: HostRuntime) -> Result<(), Fail> {
+    tells_tokens(rt.alloc(), &IN_BODY, WRONG, WRONG_TARGETS)
+}
+
+#[test]
+fn wrong_places(rt: HostRuntime) -> Result<(), Fail> {
+    tells_tokens(rt.alloc(), &IN_BODY, WRONG, WRONG_PLACES)
+}
+
+#[test]
+fn wrong_sides(rt: HostRuntime) -> Result<(), Fail> {
+    tells_tokens(rt.alloc(), &IN_BODY, WRONG, WRONG_SIDES)
+}
+
+#[test]
+fn keys_that_are_assigned(rt: HostRuntime) -> Result<(), Fail> {
+    tells_tokens(rt.alloc(), &IN_BODY, ASSIGNED, KEYS)
+}
+
+const ACCEPTED: &[(&str, &str)] = &[
+    ("", "accepted"),
+    ("set :I = :A + :Found - 1;", "accepted"),
+    (
+        "SELECT n, s INTO :i, :w FROM t WHERE s >= '' AND k = 1 ORDER BY s DESC, k OFFSET :a;",
+        "accepted",
+    ),
+    ("SELECT n, n INTO :i, :i FROM t;", "accepted"),
+    ("SELECT MAX(s) INTO :w FROM T;", "accepted"),
+    ("SELECT COUNT(DISTINCT s) INTO :i FROM t;", "accepted"),
+    (
+        "FOR :r IN :m DO END FOR; FOR :r IN SELECT n FROM t DO PRINT :r.n; END FOR;",
+        "accepted",
+    ),
+    (
+        "FOR :r IN :m DO IF :r.x THEN SET :w = :R.Y; ELSE INSERT INTO t VALUES (:r.x, 1, :u); END IF; END FOR;",
+        "accepted",
+    ),
+    (
+        "FOR :r IN SELECT s, s FROM t DO FOR :q IN SELECT k FROM t WHERE s = :r.s DO END FOR; END FOR;",
+        "accepted",
+    ),
+    (
+        "UPDATE t SET n = k + n, s = s || :u WHERE k = (:a);",
+        "accepted",
+    ),
+    (
+        "DELETE FROM t WHERE s <> LEFT(TEXTOF(1 = 1), 2);",
+        "accepted",
+    ),
 ];
 
 #[test]
 fn statements_without_a_fault(rt: HostRuntime) -> Result<(), Fail> {
-    for statements in ACCEPTED {
-        let alloc = rt.alloc();
-        let script = format!(in alloc; "{HEAD}{statements} END; CALL P(1, 'abc', ROWS ());")?;
-        let line = told(alloc, script.as_str())?;
-        assert_eq!(rt; line.as_str(), "accepted", "{statements}");
-    }
-    Ok(())
+    tell_within(
+        rt.alloc(),
+        HEAD,
+        " END; CALL P(1, 'abc', ROWS ());",
+        ACCEPTED,
+    )
 }
 
-/// A procedure that is called. Its tokens are 29.
+/// A procedure that is called.
 const CALLED: &str = "CREATE PROCEDURE p (:a INT, :u TEXT(2), :m ROWS (x INT, y TEXT(1))) BEGIN END;
 ";
 
+/// Its tokens.
 const CALLED_TOKENS: u32 = 29;
 
 const CALLS: Cases = &[
@@ -264,21 +353,17 @@ const CALLS: Cases = &[
     ),
 ];
 
+const CALLING: Frame = (CALLED, CALLED_TOKENS, "");
+
 #[test]
 fn arguments_that_do_not_fit(rt: HostRuntime) -> Result<(), Fail> {
-    for (calls, token) in CALLS {
-        let alloc = rt.alloc();
-        let script = format!(in alloc; "{CALLED}{calls}")?;
-        let at = CALLED_TOKENS.saturating_add(*token);
-        let want = format!(in alloc; "refused 8 wrong type at token {at}")?;
-        let line = told(alloc, script.as_str())?;
-        assert_eq!(rt; line.as_str(), want.as_str(), "{calls}");
-    }
-    let alloc = rt.alloc();
-    let script = format!(in alloc; "{CALLED}CALL P(-1, '''''', ROWS ((1, 'a'), (-2, '')));")?;
-    let line = told(alloc, script.as_str())?;
-    assert_eq!(rt; line.as_str(), "accepted");
-    Ok(())
+    tells_tokens(rt.alloc(), &CALLING, WRONG, CALLS)
+}
+
+#[test]
+fn arguments_that_fit(rt: HostRuntime) -> Result<(), Fail> {
+    let call = "CALL P(-1, '''''', ROWS ((1, 'a'), (-2, '')));";
+    tells_within(rt.alloc(), CALLED, call, "", "accepted")
 }
 
 const SCRIPTS: &[(&str, &str)] = &[
@@ -392,12 +477,7 @@ const SCRIPTS: &[(&str, &str)] = &[
 
 #[test]
 fn scripts_as_a_whole(rt: HostRuntime) -> Result<(), Fail> {
-    for case in SCRIPTS {
-        let (script, want) = *case;
-        let line = told(rt.alloc(), script)?;
-        assert_eq!(rt; line.as_str(), want, "{script}");
-    }
-    Ok(())
+    tell_within(rt.alloc(), "", "", SCRIPTS)
 }
 
 /// A table of accounts with its rows, to which rows are copied.
@@ -461,14 +541,7 @@ const COPIES: &[(&str, &str)] = &[
 
 #[test]
 fn copied_rows(rt: HostRuntime) -> Result<(), Fail> {
-    for case in COPIES {
-        let (copies, want) = *case;
-        let alloc = rt.alloc();
-        let script = format!(in alloc; "{ACCOUNTS}{copies}")?;
-        let line = told(alloc, script.as_str())?;
-        assert_eq!(rt; line.as_str(), want, "{copies}");
-    }
-    Ok(())
+    tell_within(rt.alloc(), ACCOUNTS, "", COPIES)
 }
 
 const TWO_TABLES: &[(&str, &str, &str, &str)] = &[
@@ -505,16 +578,18 @@ const TWO_TABLES: &[(&str, &str, &str, &str)] = &[
 ];
 
 /// Two tables, and rows of each in VALUES.
+fn tells_of_two(alloc: Global, case: &(&str, &str, &str, &str)) -> Result<(), Fail> {
+    let (first, second, copies, want) = *case;
+    let script = format!(in alloc;
+        "CREATE TABLE a (k INT, PRIMARY KEY (k)) VALUES {first}; CREATE TABLE b (k INT, PRIMARY KEY (k)) VALUES {second};\n{copies}"
+    )?;
+    tells(alloc, script.as_str(), want)
+}
+
 #[test]
 fn rows_of_two_tables(rt: HostRuntime) -> Result<(), Fail> {
     for case in TWO_TABLES {
-        let (first, second, copies, want) = *case;
-        let alloc = rt.alloc();
-        let script = format!(in alloc;
-            "CREATE TABLE a (k INT, PRIMARY KEY (k)) VALUES {first}; CREATE TABLE b (k INT, PRIMARY KEY (k)) VALUES {second};\n{copies}"
-        )?;
-        let line = told(alloc, script.as_str())?;
-        assert_eq!(rt; line.as_str(), want, "{first} {second} {copies}");
+        tells_of_two(rt.alloc(), case)?;
     }
     Ok(())
 }

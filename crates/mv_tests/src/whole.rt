@@ -6,42 +6,137 @@ use mv_edge::pace::NoPace;
 use mv_top::status::Status;
 use mv_top::top::top;
 use mv_values::list::List;
+use mv_values::memory::NoMemory;
 use std::alloc::Global;
 use std::sync::Wait;
 use std::test::Fail;
 use std::thread::Threads;
 
-pub(crate) const ROOM: usize = 1_000_000;
-
-fn list_of(alloc: Global, bytes: &[u8]) -> Result<List<u8>, Fail> {
-    let mut list = List::new(alloc);
-    list.append(bytes)?;
-    Ok(list)
+/// The texts, joined.
+pub(crate) fn joined(alloc: Global, parts: &[&str]) -> Result<String, Fail> {
+    let mut text = String::new(alloc);
+    for part in parts {
+        text.push_str(part)?;
+    }
+    Ok(text)
 }
 
-fn calls(alloc: Global, failing: &[u64]) -> Result<List<u64>, Fail> {
-    let mut list = List::new(alloc);
-    list.append(failing)?;
-    Ok(list)
+/// An error that tells a case, unless it holds.
+pub(crate) fn ensure(alloc: Global, holds: bool, case: &str) -> Result<(), Fail> {
+    if holds {
+        return Ok(());
+    }
+    Err(String::from_str(alloc, case)?.into())
 }
 
-/// The status of a run of these words on this input, and what was written, by a source whose reads of these numbers
-/// fail and a sink with this room.
-pub(crate) fn run<R: Threads + Wait + Sync>(
-    rt: &R,
-    alloc: Global,
-    words: &[&str],
-    input: &[u8],
-    failing_reads: &[u64],
-    room: usize,
-) -> Result<(Status, String), Fail> {
+/// A source of these bytes whose reads of these numbers fail.
+fn source(alloc: Global, input: &[u8], failing: &[u64]) -> Result<MemorySource, NoMemory> {
+    let mut bytes = List::new(alloc);
+    bytes.append(input)?;
+    let mut calls = List::new(alloc);
+    calls.append(failing)?;
+    Ok(MemorySource::new(bytes, calls))
+}
+
+fn strings(alloc: Global, words: &[&str]) -> Result<Vec<String>, Fail> {
     let mut all = Vec::new(alloc);
     for word in words {
         all.push(String::from_str(alloc, word)?)?;
     }
-    let mut source = MemorySource::new(list_of(alloc, input)?, calls(alloc, failing_reads)?);
-    let mut sink = MemorySink::new(alloc, room, List::new(alloc))?;
-    let status = top(rt, alloc, &all, &mut source, &mut sink, &NoPace);
-    let written = str::from_utf8(sink.written()).or(Err("no text"))?;
-    Ok((status, String::from_str(alloc, written)?))
+    Ok(all)
+}
+
+/// A sink of this room.
+fn sink(alloc: Global, room: usize) -> Result<MemorySink, NoMemory> {
+    MemorySink::new(alloc, room, List::new(alloc))
+}
+
+fn status_of<R: Threads + Wait + Sync>(
+    rt: &R,
+    alloc: Global,
+    words: &[String],
+    source: &mut MemorySource,
+    sink: &mut MemorySink,
+) -> Status {
+    top(rt, alloc, words, source, sink, &NoPace)
+}
+
+/// Has this text be written to a sink.
+fn wrote(alloc: Global, sink: &MemorySink, want: &str) -> Result<(), Fail> {
+    let text = str::from_utf8(sink.written()).or(Err("no text"))?;
+    if text == want {
+        return Ok(());
+    }
+    Err(format!(in alloc; "{text} in place of {want}")?.into())
+}
+
+/// Has a run of these words on a source end with this status, and write this text to a sink with this room.
+fn runs_on<R: Threads + Wait + Sync>(
+    rt: &R,
+    alloc: Global,
+    words: &[String],
+    source: &mut MemorySource,
+    room: usize,
+    want: (Status, &str),
+) -> Result<(), Fail> {
+    let (status, text) = want;
+    let mut sink = sink(alloc, room)?;
+    let got = status_of(rt, alloc, words, source, &mut sink);
+    wrote(alloc, &sink, text)?;
+    ensure(alloc, got == status, "another status")
+}
+
+/// Has a run of these words on an input end with this status, and write this text, by a source whose reads of these
+/// numbers fail and a sink with this room.
+pub(crate) fn runs<R: Threads + Wait + Sync>(
+    rt: &R,
+    alloc: Global,
+    words: &[&str],
+    input: &[u8],
+    edges: (&[u64], usize),
+    want: (Status, &str),
+) -> Result<(), Fail> {
+    let (failing, room) = edges;
+    let words = strings(alloc, words)?;
+    let mut source = source(alloc, input, failing)?;
+    runs_on(rt, alloc, words.as_slice(), &mut source, room, want)
+}
+
+/// A source without faults, and a sink with room.
+pub(crate) const SOUND: (&[u64], usize) = (&[], 1_000_000);
+
+/// Has a command answer an input with this text.
+pub(crate) fn answers<R: Threads + Wait + Sync>(
+    rt: &R,
+    alloc: Global,
+    command: &str,
+    input: &str,
+    want: &str,
+) -> Result<(), Fail> {
+    runs(
+        rt,
+        alloc,
+        &[command],
+        input.as_bytes(),
+        SOUND,
+        (Status::Done, want),
+    )
+}
+
+/// Has a command refuse an input with this line.
+pub(crate) fn refuses<R: Threads + Wait + Sync>(
+    rt: &R,
+    alloc: Global,
+    command: &str,
+    input: &str,
+    want: &str,
+) -> Result<(), Fail> {
+    runs(
+        rt,
+        alloc,
+        &[command],
+        input.as_bytes(),
+        SOUND,
+        (Status::Refused, want),
+    )
 }

@@ -3,7 +3,11 @@
 #![tactic(auto)]
 
 #[cfg(test)]
+mod cases;
+#[cfg(test)]
 mod edges;
+#[cfg(test)]
+mod graphs;
 #[cfg(test)]
 mod limits;
 #[cfg(test)]
@@ -15,8 +19,8 @@ mod prints;
 #[cfg(test)]
 mod reports;
 #[cfg(test)]
-mod serial_reports;
-#[cfg(test)]
 mod tokens;
 #[cfg(test)]
 mod values;
+#[cfg(test)]
+mod views;

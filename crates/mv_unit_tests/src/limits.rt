@@ -1,6 +1,7 @@
 //! Scripts at each limit and one past it. Their tokens were counted by hand.
 
-use crate::parsing::read;
+use crate::cases::repeat;
+use crate::parsing::has_fault;
 use mv_parser::fault::{ParseFault, Which};
 use std::alloc::Global;
 use std::test::Fail;
@@ -169,53 +170,54 @@ const CASES: &[Case] = &[
 
 /// The script of a case in which the part stands so often.
 fn script(alloc: Global, case: &Case, count: u32) -> Result<String, Fail> {
-    let (front, part, (middle, close), back, _, _) = case;
+    let (front, part, (middle, close), back, _, _) = *case;
     let mut text = String::from_str(alloc, front)?;
-    for _ in 0..count {
-        text.push_str(part)?;
-    }
+    repeat(&mut text, part, count)?;
     text.push_str(middle)?;
-    for _ in 0..count {
-        text.push_str(close)?;
-    }
+    repeat(&mut text, close, count)?;
     text.push_str(back)?;
     Ok(text)
 }
 
+/// Has the script of a case in which the part stands so often have this fault, if any.
+fn has_limit(alloc: Global, case: &Case, count: u32, want: Option<ParseFault>) -> Result<(), Fail> {
+    let script = script(alloc, case, count)?;
+    has_fault(alloc, script.as_str(), want)
+}
+
+fn limits_at(alloc: Global, case: &Case) -> Result<(), Fail> {
+    let (_, _, _, _, most, (which, token)) = *case;
+    has_limit(alloc, case, most, None)?;
+    let past = most.saturating_add(1);
+    has_limit(alloc, case, past, Some(ParseFault::Limit { which, token }))
+}
+
 #[test]
 fn limits_are_told_where_they_are_passed(rt: HostRuntime) -> Result<(), Fail> {
-    let alloc = rt.alloc();
     for case in CASES {
-        let (front, part, _, _, most, (which, token)) = *case;
-        let script_at = script(alloc, case, most)?;
-        assert_eq!(rt;
-            read(alloc, script_at.as_str())?.err(),
-            None,
-            "{front}{part}"
-        );
-        let script_past = script(alloc, case, most.saturating_add(1))?;
-        let want = Some(ParseFault::Limit { which, token });
-        assert_eq!(rt;
-            read(alloc, script_past.as_str())?.err(),
-            want,
-            "{front}{part}"
-        );
+        limits_at(rt.alloc(), case)?;
     }
     Ok(())
 }
 
-const NUMBERS: &[(&str, Option<(Which, u32)>)] = &[
+const NUMBERS: &[(&str, Option<ParseFault>)] = &[
     (
         "CALL p(9223372036854775807, 00000000000000000009223372036854775807);",
         None,
     ),
     (
         "CALL p(00000000000000000009223372036854775808);",
-        Some((Which::Literal, 4)),
+        Some(ParseFault::Limit {
+            which: Which::Literal,
+            token: 4,
+        }),
     ),
     (
         "CALL p(99999999999999999999999999999999999999);",
-        Some((Which::Literal, 4)),
+        Some(ParseFault::Limit {
+            which: Which::Literal,
+            token: 4,
+        }),
     ),
     (
         "CREATE TABLE a (id TEXT(1), x TEXT(4000), PRIMARY KEY (id));",
@@ -223,53 +225,70 @@ const NUMBERS: &[(&str, Option<(Which, u32)>)] = &[
     ),
     (
         "CREATE TABLE a (id TEXT(0), PRIMARY KEY (id));",
-        Some((Which::Text, 8)),
+        Some(ParseFault::Limit {
+            which: Which::Text,
+            token: 8,
+        }),
     ),
     (
         "CREATE TABLE a (id TEXT(4001), PRIMARY KEY (id));",
-        Some((Which::Text, 8)),
+        Some(ParseFault::Limit {
+            which: Which::Text,
+            token: 8,
+        }),
     ),
     // At one token the limit that stands first counts, and of two tokens the first.
     (
         "CREATE TABLE a (id TEXT(9223372036854775808), PRIMARY KEY (id));",
-        Some((Which::Literal, 8)),
+        Some(ParseFault::Limit {
+            which: Which::Literal,
+            token: 8,
+        }),
     ),
     (
         "CREATE TABLE a (id TEXT(0), x TEXT(9223372036854775808), PRIMARY KEY (id));",
-        Some((Which::Text, 8)),
+        Some(ParseFault::Limit {
+            which: Which::Text,
+            token: 8,
+        }),
     ),
 ];
 
 #[test]
 fn numbers_and_sizes_at_their_limits(rt: HostRuntime) -> Result<(), Fail> {
-    for case in NUMBERS {
-        let (script, limit) = *case;
-        let want = limit.map(|(which, token)| ParseFault::Limit { which, token });
-        assert_eq!(rt; read(rt.alloc(), script)?.err(), want, "{script}");
+    for (script, want) in NUMBERS {
+        has_fault(rt.alloc(), script, *want)?;
     }
     Ok(())
 }
 
-const ENDS: &[(&str, &str, &str)] = &[
-    ("CALL p(0", ", 0", ");"),
-    ("", "CALL p(); ", ""),
-    ("", "COPY a <<\n1\n>>\n", ""),
+/// A case with no limit is one that isn't passed.
+const ENDS: &[Case] = &[
+    ("CALL p(0", ", 0", ("", ""), ");", 400, (Which::Depth, 0)),
+    ("", "CALL p(); ", ("", ""), "", 400, (Which::Depth, 0)),
+    (
+        "",
+        "COPY a <<\n1\n>>\n",
+        ("", ""),
+        "",
+        400,
+        (Which::Depth, 0),
+    ),
     (
         "CREATE PROCEDURE p () BEGIN ",
         "IF (0) THEN FOR :r IN :m DO END FOR; END IF; ",
+        ("", ""),
         "END;",
+        400,
+        (Which::Depth, 0),
     ),
 ];
 
 /// Each ends a stretch: a comma, a semicolon, a block. Each closes what it opened.
 #[test]
 fn stretches_and_depths_end(rt: HostRuntime) -> Result<(), Fail> {
-    let alloc = rt.alloc();
     for case in ENDS {
-        let (front, part, back) = *case;
-        let none = (Which::Depth, 0);
-        let script = script(alloc, &(front, part, ("", ""), back, 0, none), 400)?;
-        assert_eq!(rt; read(alloc, script.as_str())?.err(), None, "{part}");
+        has_limit(rt.alloc(), case, 400, None)?;
     }
     Ok(())
 }

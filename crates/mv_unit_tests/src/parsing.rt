@@ -1,5 +1,6 @@
 //! Scripts, expressions and faults of the grammar, worked out by hand.
 
+use crate::cases::{between, ensure};
 use mv_ast::tree::{Expr, ExprKind, Item, ItemKind, Script, Stmt};
 use mv_lex::lexer::lex;
 use mv_parser::fault::{ParseFault, Which};
@@ -17,6 +18,12 @@ pub(crate) fn read(alloc: Global, text: &str) -> Result<Result<Script, ParseFaul
     }
     let tokens = lex(alloc, bytes).or(Err("no tokens"))?;
     Ok(parse(alloc, &tokens, bytes))
+}
+
+/// Has parsing this text answer this fault, if any.
+pub(crate) fn has_fault(alloc: Global, text: &str, want: Option<ParseFault>) -> Result<(), Fail> {
+    let fault = read(alloc, text)?.err();
+    ensure(alloc, fault == want, text)
 }
 
 const FAULTS: &[(&str, u32)] = &[
@@ -57,40 +64,56 @@ const FAULTS: &[(&str, u32)] = &[
 
 #[test]
 fn names_the_first_token_that_cannot_stand(rt: HostRuntime) -> Result<(), Fail> {
-    for case in FAULTS {
-        let (script, token) = *case;
-        let fault = read(rt.alloc(), script)?.err();
-        assert_eq!(rt; fault, Some(ParseFault::Syntax { token }), "{script}");
+    for (script, token) in FAULTS {
+        has_fault(
+            rt.alloc(),
+            script,
+            Some(ParseFault::Syntax { token: *token }),
+        )?;
     }
     Ok(())
 }
 
-const fn limit(which: Which, token: u32) -> ParseFault {
-    ParseFault::Limit { which, token }
-}
-
 /// Depth and stretch count before the grammar, and the grammar before the other limits.
+const ORDER: &[(&str, ParseFault)] = &[
+    (
+        "CREATE PROCEDURE p () BEGIN SET :x = ((((((((((((((((((((((((((((((((",
+        ParseFault::Limit {
+            which: Which::Depth,
+            token: 41,
+        },
+    ),
+    (
+        "CALL p(9223372036854775808);",
+        ParseFault::Limit {
+            which: Which::Literal,
+            token: 4,
+        },
+    ),
+    (
+        "CALL p(9223372036854775808)",
+        ParseFault::Syntax { token: 6 },
+    ),
+    (
+        "CALL p('', 9223372036854775808); CREATE TABLE a (id TEXT(0), PRIMARY KEY (id));",
+        ParseFault::Limit {
+            which: Which::Literal,
+            token: 6,
+        },
+    ),
+    (
+        "CREATE TABLE a (id TEXT(0), PRIMARY KEY (id));",
+        ParseFault::Limit {
+            which: Which::Text,
+            token: 8,
+        },
+    ),
+];
+
 #[test]
 fn tells_limits_and_faults_in_their_order(rt: HostRuntime) -> Result<(), Fail> {
-    let deep = "CREATE PROCEDURE p () BEGIN SET :x = ((((((((((((((((((((((((((((((((";
-    for (script, fault) in [
-        (deep, limit(Which::Depth, 41)),
-        ("CALL p(9223372036854775808);", limit(Which::Literal, 4)),
-        (
-            "CALL p(9223372036854775808)",
-            ParseFault::Syntax { token: 6 },
-        ),
-        (
-            "CALL p('', 9223372036854775808); CREATE TABLE a (id TEXT(0), PRIMARY KEY (id));",
-            limit(Which::Literal, 6),
-        ),
-        (
-            "CREATE TABLE a (id TEXT(0), PRIMARY KEY (id));",
-            limit(Which::Text, 8),
-        ),
-    ] {
-        let told = read(rt.alloc(), script)?.err();
-        assert_eq!(rt; told, Some(fault), "{script}");
+    for (script, fault) in ORDER {
+        has_fault(rt.alloc(), script, Some(*fault))?;
     }
     Ok(())
 }
@@ -121,137 +144,183 @@ B 0
 ";
 
 /// The name of a kind of statement, and how many parts its lists have.
-fn statement(out: &mut String, stmt: &Stmt) -> Result<(), Fail> {
+fn parts(stmt: &Stmt) -> (&'static str, [usize; 3]) {
     match stmt {
-        Stmt::Assign { .. } => out.push_str("set")?,
+        Stmt::Assign { .. } => ("set", [0, 0, 0]),
         Stmt::Select {
             columns,
             to,
             conds,
-            sorts,
-            offset,
             ..
-        } => {
-            let (columns, to, conds) = (columns.len(), to.len(), conds.len());
-            write!(out, "select {columns} {to} {conds}")?;
-            for sort in sorts.as_slice() {
-                out.push_str(if sort.descending { " down" } else { " up" })?;
-            }
-            out.push_str(if offset.is_some() { " offset" } else { "" })?;
-        }
-        Stmt::Total { conds, .. } => write!(out, "total {}", conds.len())?,
+        } => ("select", [columns.len(), to.len(), conds.len()]),
+        Stmt::Total { conds, .. } => ("total", [conds.len(), 0, 0]),
         Stmt::ForSelect {
             distinct,
             sorts,
             body,
             ..
-        } => write!(out, "for {distinct} {} {}", sorts.len(), body.len())?,
-        Stmt::ForRows { body, .. } => write!(out, "for rows {}", body.len())?,
-        Stmt::Branch { yes, no, .. } => write!(out, "if {} {}", yes.len(), no.len())?,
-        Stmt::Insert { values, .. } => write!(out, "insert {}", values.len())?,
-        Stmt::Update { items, conds, .. } => {
-            write!(out, "update {} {}", items.len(), conds.len())?
-        }
-        Stmt::Delete { conds, .. } => write!(out, "delete {}", conds.len())?,
-        Stmt::Print { values, .. } => write!(out, "print {}", values.len())?,
-        Stmt::Rollback { .. } => out.push_str("rollback")?,
+        } => ("for", [*distinct as usize, sorts.len(), body.len()]),
+        Stmt::ForRows { body, .. } => ("for rows", [body.len(), 0, 0]),
+        Stmt::Branch { yes, no, .. } => ("if", [yes.len(), no.len(), 0]),
+        Stmt::Insert { values, .. } => ("insert", [values.len(), 0, 0]),
+        Stmt::Update { items, conds, .. } => ("update", [items.len(), conds.len(), 0]),
+        Stmt::Delete { conds, .. } => ("delete", [conds.len(), 0, 0]),
+        Stmt::Print { values, .. } => ("print", [values.len(), 0, 0]),
+        Stmt::Rollback { .. } => ("rollback", [0, 0, 0]),
     }
-    Ok(out.push_str("; ")?)
+}
+
+/// How a SELECT sorts, and whether it has an OFFSET.
+fn clauses(out: &mut String, stmt: &Stmt) -> Result<(), Fail> {
+    if let Stmt::Select { sorts, offset, .. } = stmt {
+        for sort in sorts.as_slice() {
+            out.push_str(if sort.descending { " down" } else { " up" })?;
+        }
+        out.push_str(if offset.is_some() { " offset" } else { "" })?;
+    }
+    Ok(())
+}
+
+fn statement(out: &mut String, stmt: &Stmt) -> Result<(), Fail> {
+    let (name, [a, b, c]) = parts(stmt);
+    write!(out, "; {name} {a} {b} {c}")?;
+    clauses(out, stmt)
+}
+
+/// The name of a kind of item, and how many parts its lists have.
+fn contents(kind: &ItemKind) -> (&'static str, [usize; 3]) {
+    match kind {
+        ItemKind::Table(table) => {
+            let (columns, key, rows) = (table.columns.len(), table.key.len(), table.rows.len());
+            ("table", [columns, key, rows])
+        }
+        ItemKind::Proc(procedure) => {
+            let (params, vars) = (procedure.params.len(), procedure.vars.len());
+            ("procedure", [params, vars, procedure.body.len()])
+        }
+        ItemKind::Copy(copy) => ("copy", [copy.block.len as usize, 0, 0]),
+        ItemKind::Call(call) => ("call", [call.arguments.len(), 0, 0]),
+        ItemKind::Journal(span) => ("journal", [span.len as usize, span.closed as usize, 0]),
+    }
+}
+
+/// The statements of a procedure, and none of another item.
+fn body(item: &Item) -> &[Stmt] {
+    match &item.kind {
+        ItemKind::Proc(procedure) => procedure.body.as_slice(),
+        _ => &[],
+    }
 }
 
 /// The token and the kind of an item, and how many parts its lists have.
 fn item(out: &mut String, item: &Item) -> Result<(), Fail> {
-    write!(out, "{} ", item.token)?;
-    match &item.kind {
-        ItemKind::Table(table) => {
-            let (columns, key, rows) = (table.columns.len(), table.key.len(), table.rows.len());
-            write!(out, "table {columns} {key} {rows}; ")?;
-        }
-        ItemKind::Proc(procedure) => {
-            let (params, vars) = (procedure.params.len(), procedure.vars.len());
-            write!(out, "procedure {params} {vars}: ")?;
-            for stmt in procedure.body.as_slice() {
-                statement(out, stmt)?;
-            }
-        }
-        ItemKind::Copy(copy) => write!(out, "copy {}; ", copy.block.len)?,
-        ItemKind::Call(call) => write!(out, "call {}; ", call.arguments.len())?,
-        ItemKind::Journal(span) => write!(out, "journal {} {}", span.len, span.closed)?,
+    let (name, [a, b, c]) = contents(&item.kind);
+    write!(out, "{} {name} {a} {b} {c}", item.token)?;
+    for stmt in body(item) {
+        statement(out, stmt)?;
+    }
+    Ok(out.push_str("\n")?)
+}
+
+fn items(out: &mut String, items: &[Item]) -> Result<(), Fail> {
+    for part in items {
+        item(out, part)?;
     }
     Ok(())
 }
 
+const CONTENTS: &str = "1 table 2 2 2
+36 copy 4 0 0
+39 procedure 3 2 12; set 0 0 0; select 2 2 2 down up up offset; total 1 0 0; for 0 1 1; for 1 0 0; for rows 2 0 0; \
+if 1 2 0; insert 2 0 0; update 2 1 0; delete 0 0 0; print 3 0 0; rollback 0 0 0
+235 call 3 0 0
+258 journal 4 0 0
+";
+
+/// Has a text be read as items with these contents.
+fn has_contents(alloc: Global, text: &str, want: &str) -> Result<(), Fail> {
+    let Ok(script) = read(alloc, text)? else {
+        return Err("no script".into());
+    };
+    let mut told = String::new(alloc);
+    items(&mut told, script.items.as_slice())?;
+    ensure(alloc, told.as_str() == want, told.as_str())
+}
+
 #[test]
 fn reads_each_kind_of_item_and_statement(rt: HostRuntime) -> Result<(), Fail> {
-    let mut told = String::new(rt.alloc());
-    match read(rt.alloc(), EVERYTHING)? {
-        Ok(script) => {
-            for part in script.items.as_slice() {
-                item(&mut told, part)?;
-            }
-        }
-        Err(fault) => write!(told, "{fault:?}")?,
-    }
-    let want =
-        "1 table 2 2 2; 36 copy 4; 39 procedure 3 2: set; select 2 2 2 down up up offset; total 1; \
-for false 1 1; for true 0 0; for rows 2; if 1 2; insert 2; update 2 1; delete 0; print 3; rollback; \
-235 call 3; 258 journal 4 false";
-    assert_eq!(rt; told.as_str(), want);
-    let empty = read(rt.alloc(), " -- nothing\n")?;
-    assert!(rt; empty.is_ok_and(|script| script.items.len() == 0));
-    Ok(())
+    has_contents(rt.alloc(), EVERYTHING, CONTENTS)?;
+    has_contents(rt.alloc(), " -- nothing\n", "")
 }
 
 fn text(out: &mut String, text: &Txt) -> Result<(), Fail> {
     Ok(out.push_str(str::from_utf8(text.as_slice()).or(Err("no text"))?)?)
 }
 
-/// The expression with each operator before its operands.
-fn shape(out: &mut String, expr: &Expr) -> Result<(), Fail> {
-    match &expr.kind {
-        ExprKind::Const(Value::Int(n)) => write!(out, "{n}")?,
-        ExprKind::Const(Value::Text(t)) => text(out, t)?,
+/// A constant, a variable or a column.
+fn leaf(out: &mut String, kind: &ExprKind) -> Result<(), Fail> {
+    match kind {
+        ExprKind::Const(Value::Int(n)) => Ok(write!(out, "{n}")?),
+        ExprKind::Const(Value::Text(t)) => text(out, t),
         ExprKind::Var(name) => {
             out.push_str(":")?;
-            text(out, &name.text)?;
+            text(out, &name.text)
         }
         ExprKind::Field(row, column) => {
             text(out, &row.text)?;
             out.push_str(".")?;
-            text(out, &column.text)?;
+            text(out, &column.text)
         }
-        ExprKind::Col(name) => text(out, &name.text)?,
+        ExprKind::Col(name) => text(out, &name.text),
+        _ => Err("no leaf".into()),
+    }
+}
+
+/// The expression with each operator before its operands.
+fn shape(out: &mut String, expr: &Expr) -> Result<(), Fail> {
+    match &expr.kind {
         ExprKind::One(op, inner) => {
             write!(out, "{op:?}[")?;
             shape(out, inner.get())?;
-            out.push_str("]")?;
+            Ok(out.push_str("]")?)
         }
         ExprKind::Two(op, left, right) => {
             write!(out, "{op:?}[")?;
             shape(out, left.get())?;
             out.push_str(" ")?;
             shape(out, right.get())?;
-            out.push_str("]")?;
+            Ok(out.push_str("]")?)
+        }
+        kind => leaf(out, kind),
+    }
+}
+
+/// The expression that is printed by the only statement of an item.
+fn printed(item: &Item) -> Option<&Expr> {
+    match body(item) {
+        [Stmt::Print { values, .. }] => values.as_slice().first(),
+        _ => None,
+    }
+}
+
+fn shapes(out: &mut String, items: &[Item]) -> Result<(), Fail> {
+    for item in items {
+        match printed(item) {
+            Some(expr) => shape(out, expr)?,
+            None => return Err("no expression".into()),
         }
     }
     Ok(())
 }
 
-/// The shape of the expression that is printed by the only statement of the only item.
-fn printed(alloc: Global, script: &Script) -> Result<String, Fail> {
-    let mut out = String::new(alloc);
-    for item in script.items.as_slice() {
-        if let ItemKind::Proc(procedure) = &item.kind {
-            for stmt in procedure.body.as_slice() {
-                if let Stmt::Print { values, .. } = stmt {
-                    for value in values.as_slice() {
-                        shape(&mut out, value)?;
-                    }
-                }
-            }
-        }
-    }
-    Ok(out)
+/// Has the expression that the only item of a text prints have this shape.
+fn has_shape(alloc: Global, text: &str, want: &str) -> Result<(), Fail> {
+    let Ok(script) = read(alloc, text)? else {
+        return Err("no script".into());
+    };
+    let mut told = String::new(alloc);
+    shapes(&mut told, script.items.as_slice())?;
+    ensure(alloc, told.as_str() == want, told.as_str())
 }
 
 const BINDING: &[(&str, &str)] = &[
@@ -275,17 +344,20 @@ const BINDING: &[(&str, &str)] = &[
     ),
 ];
 
+fn binds(alloc: Global, written: &str, want: &str) -> Result<(), Fail> {
+    let script = between(
+        alloc,
+        "CREATE PROCEDURE p () BEGIN PRINT ",
+        written,
+        "; END;",
+    )?;
+    has_shape(alloc, script.as_str(), want)
+}
+
 #[test]
 fn joins_operators_as_they_bind(rt: HostRuntime) -> Result<(), Fail> {
-    for case in BINDING {
-        let (written, want) = *case;
-        let alloc = rt.alloc();
-        let script = format!(in alloc; "CREATE PROCEDURE p () BEGIN PRINT {written}; END;")?;
-        let told = match read(alloc, script.as_str())? {
-            Ok(script) => printed(alloc, &script)?,
-            Err(fault) => format!(in alloc; "{fault:?}")?,
-        };
-        assert_eq!(rt; told.as_str(), want, "{written}");
+    for (written, want) in BINDING {
+        binds(rt.alloc(), written, want)?;
     }
     Ok(())
 }

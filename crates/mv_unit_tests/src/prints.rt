@@ -1,18 +1,33 @@
 //! Prints of scripts, worked out by hand.
 
+use crate::cases::{between, ensure};
 use crate::parsing::read;
 use mv_print::print::print_script;
 use std::alloc::Global;
 use std::test::Fail;
 
-/// The print of a script.
-fn printed(alloc: Global, script: &str) -> Result<String, Fail> {
+fn prints(alloc: Global, script: &str, want: &str) -> Result<(), Fail> {
     let Ok(tree) = read(alloc, script)? else {
         return Err("no script".into());
     };
     let text = print_script(alloc, &tree, script.as_bytes())?;
-    let text = str::from_utf8(text.as_slice()).or(Err("no text"))?;
-    Ok(String::from_str(alloc, text)?)
+    ensure(alloc, text.as_slice() == want.as_bytes(), want)
+}
+
+/// What stands before and behind a case, and what is printed of that.
+type Frame = [&'static str; 4];
+
+fn prints_within(alloc: Global, frame: &Frame, written: &str, want: &str) -> Result<(), Fail> {
+    let script = between(alloc, frame[0], written, frame[1])?;
+    let want = between(alloc, frame[2], want, frame[3])?;
+    prints(alloc, script.as_str(), want.as_str())
+}
+
+fn print_as_told(alloc: Global, frame: &Frame, cases: &[(&str, &str)]) -> Result<(), Fail> {
+    for (written, want) in cases {
+        prints_within(alloc, frame, written, want)?;
+    }
+    Ok(())
 }
 
 const EXPRESSIONS: &[(&str, &str)] = &[
@@ -34,16 +49,16 @@ const EXPRESSIONS: &[(&str, &str)] = &[
     (":R.C % :x / a", ":r . c % :x / a"),
 ];
 
+const PRINTED: Frame = [
+    "CREATE PROCEDURE p () BEGIN PRINT ",
+    "; END;",
+    "create procedure p ( ) begin print ",
+    " ;\nend ;\n",
+];
+
 #[test]
 fn expressions_have_the_parentheses_that_they_need(rt: HostRuntime) -> Result<(), Fail> {
-    for case in EXPRESSIONS {
-        let (written, want) = *case;
-        let alloc = rt.alloc();
-        let script = format!(in alloc; "CREATE PROCEDURE p () BEGIN PRINT {written}; END;")?;
-        let want = format!(in alloc; "create procedure p ( ) begin print {want} ;\nend ;\n")?;
-        assert_eq!(rt; printed(alloc, script.as_str())?.as_str(), want.as_str());
-    }
-    Ok(())
+    print_as_told(rt.alloc(), &PRINTED, EXPRESSIONS)
 }
 
 const STATEMENTS: &[(&str, &str)] = &[
@@ -86,16 +101,16 @@ const STATEMENTS: &[(&str, &str)] = &[
     ("ROLLBACK 'no';", "rollback 'no' ;\n"),
 ];
 
+const BODY: Frame = [
+    "CREATE PROCEDURE p () BEGIN ",
+    " END;",
+    "create procedure p ( ) begin ",
+    "end ;\n",
+];
+
 #[test]
 fn statements_end_their_lines(rt: HostRuntime) -> Result<(), Fail> {
-    for case in STATEMENTS {
-        let (written, want) = *case;
-        let alloc = rt.alloc();
-        let script = format!(in alloc; "CREATE PROCEDURE p () BEGIN {written} END;")?;
-        let want = format!(in alloc; "create procedure p ( ) begin {want}end ;\n")?;
-        assert_eq!(rt; printed(alloc, script.as_str())?.as_str(), want.as_str());
-    }
-    Ok(())
+    print_as_told(rt.alloc(), &BODY, STATEMENTS)
 }
 
 const ITEMS: &[(&str, &str)] = &[
@@ -116,11 +131,9 @@ const ITEMS: &[(&str, &str)] = &[
     ("JOURNAL <<\nB 0\n", "journal <<\nB 0\n"),
 ];
 
+const SCRIPT: Frame = ["", "", "", ""];
+
 #[test]
 fn items_end_their_lines(rt: HostRuntime) -> Result<(), Fail> {
-    for case in ITEMS {
-        let (written, want) = *case;
-        assert_eq!(rt; printed(rt.alloc(), written)?.as_str(), want);
-    }
-    Ok(())
+    print_as_told(rt.alloc(), &SCRIPT, ITEMS)
 }

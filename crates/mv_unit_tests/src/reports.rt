@@ -1,12 +1,14 @@
-//! Texts of outcomes, worked out by hand.
+//! Texts of outcomes, and of calls that ran alone, worked out by hand.
 
-ghost use Rattle.std.specs.Prelude.{◌≡◌, ◌∷◌, [], ◌↔◌, IsTrue, IfOk, All};
-ghost use Rattle.mv_values.specs.Printable.{IsPrintable};
+ghost use Rattle.std.specs.Prelude.{◌≡◌, ◌∷◌, [], IfOk};
 ghost use Rattle.mv_values.specs.declared.value.Value.TheVariants.{Int};
 
+use crate::cases::ensure;
+use crate::values::txt;
 use mv_journal::event::Event;
 use mv_journal::outcome::{HistoryLine, Mark, Outcome, Round};
 use mv_report::render::render;
+use mv_report::render_serial::render_serial;
 use mv_values::calls::{End, Reply};
 use mv_values::list::List;
 use mv_values::memory::NoMemory;
@@ -17,44 +19,46 @@ use mv_values::value::Value;
 use std::alloc::Global;
 use std::test::Fail;
 
-#[test]
-fn prints_a_run_of_nothing(rt: HostRuntime) -> Result<(), Fail> {
-    let alloc = rt.alloc();
-    let outcome = Outcome {
-        replies: List::new(alloc),
-        history: List::new(alloc),
-        journal: List::new(alloc),
-        tables: List::new(alloc),
-    };
-    let text = render(alloc, &List::new(alloc), &outcome)?;
-    assert_eq!(rt; text.as_slice(), b"history\njournal\nend\n".as_slice());
-    Ok(())
+/// What a call answers: its only line, or why it was rolled back.
+enum Answer {
+    Line(&'static str),
+    Own(&'static str),
+    Duplicate,
+    Overflow,
+    ZeroDivisor,
+    TooLong,
 }
 
-#[test]
-fn prints_a_call(rt: HostRuntime) -> Result<(), Fail> {
-    let alloc = rt.alloc();
-    let mut tables = List::new(alloc);
-    tables.push(table(alloc, "acc")?)?;
-    let mut database: Database = List::new(alloc);
-    database.push(accounts(alloc)?)?;
-    let mut replies = List::new(alloc);
-    replies.push(done(alloc, "105")?)?;
-    let mut rounds = List::new(alloc);
-    rounds.push(round(0, Some(4), Mark::Plain))?;
-    let mut history = List::new(alloc);
-    history.push(HistoryLine { call: 0, rounds })?;
-    let mut journal = List::new(alloc);
-    journal.push(Event::B(0))?;
-    journal.push(Event::C(0))?;
-    let outcome = Outcome {
-        replies,
-        history,
-        journal,
-        tables: database,
-    };
-    let text = render(alloc, &tables, &outcome)?;
-    let want = "reply 0 done
+/// A table with the name of accounts has their rows, another one none. A commit is a call with its rounds.
+struct Case {
+    tables: &'static [&'static str],
+    answers: &'static [Answer],
+    commits: &'static [(u32, &'static [Round])],
+    events: &'static [Event],
+    text: &'static str,
+}
+
+const NOTHING: Case = Case {
+    tables: &[],
+    answers: &[],
+    commits: &[],
+    events: &[],
+    text: "history\njournal\nend\n",
+};
+
+const ONE_CALL: Case = Case {
+    tables: &["acc"],
+    answers: &[Answer::Line("105")],
+    commits: &[(
+        0,
+        &[Round {
+            start: 0,
+            count: Some(4),
+            mark: Mark::Plain,
+        }],
+    )],
+    events: &[Event::B(0), Event::C(0)],
+    text: "reply 0 done
 105
 history
 1 0 starts 0 runs 4
@@ -68,22 +72,100 @@ table acc
 3,100,
 4,100,
 end
-";
-    assert_eq!(rt; text.as_slice(), want.as_bytes());
-    Ok(())
-}
+",
+};
 
-#[test]
-fn prints_each_mark_and_end(rt: HostRuntime) -> Result<(), Fail> {
-    let alloc = rt.alloc();
-    let outcome = Outcome {
-        replies: replies(alloc)?,
-        history: history(alloc)?,
-        journal: journal(alloc)?,
-        tables: List::new(alloc),
-    };
-    let text = render(alloc, &List::new(alloc), &outcome)?;
-    let want = "reply 0 done
+const ANSWERS: &[Answer] = &[
+    Answer::Line("it's"),
+    Answer::Own("it's"),
+    Answer::Duplicate,
+    Answer::Overflow,
+    Answer::ZeroDivisor,
+    Answer::TooLong,
+];
+
+const COMMITS: &[(u32, &[Round])] = &[
+    (
+        3,
+        &[Round {
+            start: 0,
+            count: Some(4),
+            mark: Mark::Plain,
+        }],
+    ),
+    (
+        1,
+        &[
+            Round {
+                start: 0,
+                count: Some(4),
+                mark: Mark::Plain,
+            },
+            Round {
+                start: 1,
+                count: Some(2),
+                mark: Mark::Plain,
+            },
+        ],
+    ),
+    (
+        5,
+        &[
+            Round {
+                start: 0,
+                count: Some(12),
+                mark: Mark::Plain,
+            },
+            Round {
+                start: 1,
+                count: Some(0),
+                mark: Mark::Plain,
+            },
+            Round {
+                start: 2,
+                count: Some(3),
+                mark: Mark::Exclusive,
+            },
+        ],
+    ),
+    (
+        0,
+        &[
+            Round {
+                start: 1,
+                count: None,
+                mark: Mark::Plain,
+            },
+            Round {
+                start: 2,
+                count: None,
+                mark: Mark::Moved,
+            },
+            Round {
+                start: 3,
+                count: Some(7),
+                mark: Mark::Moved,
+            },
+        ],
+    ),
+];
+
+const EVENTS: &[Event] = &[
+    Event::B(10),
+    Event::S(1),
+    Event::A(1),
+    Event::M(u32::MAX),
+    Event::G,
+    Event::C(0),
+    Event::X(5),
+];
+
+const EACH: Case = Case {
+    tables: &[],
+    answers: ANSWERS,
+    commits: COMMITS,
+    events: EVENTS,
+    text: "reply 0 done
 it's
 reply 1 rolled back 'it''s'
 reply 2 rolled back duplicate key
@@ -102,12 +184,12 @@ M 4294967295
 C 0
 X 5
 end
-";
-    assert_eq!(rt; text.as_slice(), want.as_bytes());
-    Ok(())
-}
+",
+};
 
-pub(crate) fn table(alloc: Global, name: &str) -> Result<TableInfo, NoMemory> {
+// Outcomes
+
+fn table(alloc: Global, name: &str) -> Result<TableInfo, NoMemory> {
     Ok(TableInfo {
         name: txt(alloc, name)?,
         columns: List::new(alloc),
@@ -115,14 +197,12 @@ pub(crate) fn table(alloc: Global, name: &str) -> Result<TableInfo, NoMemory> {
     })
 }
 
-pub(crate) fn accounts(alloc: Global) -> Result<Rows, NoMemory> {
-    let mut rows = Rows::new(alloc);
-    rows.push(account(alloc, 0, 0)?)?;
-    rows.push(account(alloc, 1, 105)?)?;
-    rows.push(account(alloc, 2, 100)?)?;
-    rows.push(account(alloc, 3, 100)?)?;
-    rows.push(account(alloc, 4, 100)?)?;
-    Ok(rows)
+fn tables(alloc: Global, names: &[&str]) -> Result<List<TableInfo>, NoMemory> {
+    let mut tables = List::new(alloc);
+    for name in names {
+        tables.push(table(alloc, name)?)?;
+    }
+    Ok(tables)
 }
 
 fn account(alloc: Global, id: i64, balance: i64) -> Result<Keyed, NoMemory>
@@ -133,8 +213,35 @@ fn account(alloc: Global, id: i64, balance: i64) -> Result<Keyed, NoMemory>
     let mut row = List::new(alloc);
     row.push(Value::Int(id))?;
     row.push(Value::Int(balance))?;
-    row.push(Value::Text(txt(alloc, "")?))?;
+    row.push(Value::Text(Txt::new(alloc)))?;
     Ok(Keyed { key, row })
+}
+
+/// Five accounts, of which the second has this balance.
+pub(crate) fn accounts(alloc: Global, second: i64) -> Result<Rows, NoMemory> {
+    let mut rows = Rows::new(alloc);
+    rows.push(account(alloc, 0, 0)?)?;
+    rows.push(account(alloc, 1, second)?)?;
+    rows.push(account(alloc, 2, 100)?)?;
+    rows.push(account(alloc, 3, 100)?)?;
+    rows.push(account(alloc, 4, 100)?)?;
+    Ok(rows)
+}
+
+fn rows_of(alloc: Global, name: &str) -> Result<Rows, NoMemory> {
+    if name == "acc" {
+        accounts(alloc, 105)
+    } else {
+        Ok(Rows::new(alloc))
+    }
+}
+
+fn database(alloc: Global, names: &[&str]) -> Result<Database, NoMemory> {
+    let mut database = List::new(alloc);
+    for name in names {
+        database.push(rows_of(alloc, name)?)?;
+    }
+    Ok(database)
 }
 
 fn done(alloc: Global, line: &str) -> Result<Reply, NoMemory> {
@@ -150,86 +257,123 @@ fn rolled_back(alloc: Global, end: End) -> Reply {
     }
 }
 
-fn round(start: u32, count: Option<usize>, mark: Mark) -> Round {
-    Round { start, count, mark }
+fn reply(alloc: Global, answer: &Answer) -> Result<Reply, NoMemory> {
+    let end = match answer {
+        Answer::Line(line) => return done(alloc, line),
+        Answer::Own(reason) => End::Own(txt(alloc, reason)?),
+        Answer::Duplicate => End::Duplicate,
+        Answer::Overflow => End::Overflow,
+        Answer::ZeroDivisor => End::ZeroDivisor,
+        Answer::TooLong => End::TooLong,
+    };
+    Ok(rolled_back(alloc, end))
 }
 
-/// The text of bytes that can be printed, and else of none.
-fn txt(alloc: Global, text: &str) -> Result<Txt, NoMemory> {
-    let bytes = text.as_bytes();
-    if are_printable(bytes) {
-        Txt::of(alloc, bytes)
-    } else {
-        Txt::of(alloc, b"")
-    }
-}
-
-fn are_printable(bytes: &[u8]) -> bool
-    ensures { IsTrue result ↔ All IsPrintable bytes.now }
-{
-    bytes.iter().all(|byte| is_printable(*byte))
-}
-
-fn is_printable(byte: u8) -> bool
-    ensures { IsTrue result ↔ IsPrintable byte }
-{
-    32 <= byte && byte <= 126
-}
-
-pub(crate) fn replies(alloc: Global) -> Result<List<Reply>, NoMemory> {
+fn replies(alloc: Global, answers: &[Answer]) -> Result<List<Reply>, NoMemory> {
     let mut replies = List::new(alloc);
-    replies.push(done(alloc, "it's")?)?;
-    replies.push(rolled_back(alloc, End::Own(txt(alloc, "it's")?)))?;
-    replies.push(rolled_back(alloc, End::Duplicate))?;
-    replies.push(rolled_back(alloc, End::Overflow))?;
-    replies.push(rolled_back(alloc, End::ZeroDivisor))?;
-    replies.push(rolled_back(alloc, End::TooLong))?;
+    for answer in answers {
+        replies.push(reply(alloc, answer)?)?;
+    }
     Ok(replies)
 }
 
-fn history(alloc: Global) -> Result<List<HistoryLine>, NoMemory> {
+fn commit(alloc: Global, call: u32, listed: &[Round]) -> Result<HistoryLine, NoMemory> {
+    let mut rounds = List::new(alloc);
+    rounds.append(listed)?;
+    Ok(HistoryLine { call, rounds })
+}
+
+fn history(alloc: Global, commits: &[(u32, &[Round])]) -> Result<List<HistoryLine>, NoMemory> {
     let mut history = List::new(alloc);
-    for (call, listed) in [
-        (3, [(0, Some(4), Mark::Plain)].as_slice()),
-        (1, &[(0, Some(4), Mark::Plain), (1, Some(2), Mark::Plain)]),
-        (
-            5,
-            &[
-                (0, Some(12), Mark::Plain),
-                (1, Some(0), Mark::Plain),
-                (2, Some(3), Mark::Exclusive),
-            ],
-        ),
-        (
-            0,
-            &[
-                (1, None, Mark::Plain),
-                (2, None, Mark::Moved),
-                (3, Some(7), Mark::Moved),
-            ],
-        ),
-    ] {
-        let mut rounds = List::new(alloc);
-        for (start, count, mark) in listed {
-            rounds.push(round(*start, *count, *mark))?;
-        }
-        history.push(HistoryLine { call, rounds })?;
+    for (call, listed) in commits {
+        history.push(commit(alloc, *call, listed)?)?;
     }
     Ok(history)
 }
 
-fn journal(alloc: Global) -> Result<List<Event>, NoMemory> {
+fn journal(alloc: Global, events: &[Event]) -> Result<List<Event>, NoMemory> {
     let mut journal = List::new(alloc);
-    for event in [
-        Event::B(10),
-        Event::S(1),
-        Event::A(1),
-        Event::M(u32::MAX),
-        Event::G,
-        Event::C(0),
-        Event::X(5),
-    ] {
-        journal.push(event)?;
-    }
+    journal.append(events)?;
     Ok(journal)
+}
+
+fn outcome(alloc: Global, case: &Case) -> Result<Outcome, NoMemory> {
+    Ok(Outcome {
+        replies: replies(alloc, case.answers)?,
+        history: history(alloc, case.commits)?,
+        journal: journal(alloc, case.events)?,
+        tables: database(alloc, case.tables)?,
+    })
+}
+
+// Their texts
+
+fn text(alloc: Global, case: &Case) -> Result<List<u8>, NoMemory> {
+    let tables = tables(alloc, case.tables)?;
+    let outcome = outcome(alloc, case)?;
+    render(alloc, &tables, &outcome)
+}
+
+fn prints(alloc: Global, case: &Case) -> Result<(), Fail> {
+    let text = text(alloc, case)?;
+    ensure(alloc, text.as_slice() == case.text.as_bytes(), case.text)
+}
+
+#[test]
+fn prints_a_run_of_nothing(rt: HostRuntime) -> Result<(), Fail> {
+    prints(rt.alloc(), &NOTHING)
+}
+
+#[test]
+fn prints_a_call(rt: HostRuntime) -> Result<(), Fail> {
+    prints(rt.alloc(), &ONE_CALL)
+}
+
+#[test]
+fn prints_each_mark_and_end(rt: HostRuntime) -> Result<(), Fail> {
+    prints(rt.alloc(), &EACH)
+}
+
+fn serial_text(alloc: Global, names: &[&str], answers: &[Answer]) -> Result<List<u8>, NoMemory> {
+    let tables = tables(alloc, names)?;
+    let database = database(alloc, names)?;
+    let replies = replies(alloc, answers)?;
+    render_serial(alloc, &tables, &replies, &database)
+}
+
+fn prints_serial(
+    alloc: Global,
+    names: &[&str],
+    answers: &[Answer],
+    want: &str,
+) -> Result<(), Fail> {
+    let text = serial_text(alloc, names, answers)?;
+    ensure(alloc, text.as_slice() == want.as_bytes(), want)
+}
+
+#[test]
+fn prints_nothing_but_the_end_of_no_calls(rt: HostRuntime) -> Result<(), Fail> {
+    prints_serial(rt.alloc(), &[], &[], "end\n")
+}
+
+const ALONE: &str = "reply 0 done
+it's
+reply 1 rolled back 'it''s'
+reply 2 rolled back duplicate key
+reply 3 rolled back overflow
+reply 4 rolled back division by zero
+reply 5 rolled back text too long
+table acc
+0,0,
+1,105,
+2,100,
+3,100,
+4,100,
+table empty
+end
+";
+
+#[test]
+fn prints_replies_and_tables_of_calls_alone(rt: HostRuntime) -> Result<(), Fail> {
+    prints_serial(rt.alloc(), &["acc", "empty"], ANSWERS, ALONE)
 }

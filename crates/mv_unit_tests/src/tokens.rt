@@ -3,72 +3,182 @@
 use mv_lex::lexer::{LexFault, lex};
 use mv_lex::token::{Kind, Token};
 
-/// A token as a row of a table tells it.
-const fn token(kind: Kind, at: u32, len: u32) -> Token {
-    Token { kind, at, len }
-}
+const TOKENS: &[(&[u8], &[Token])] = &[
+    (b"", &[]),
+    (b" \t\r\n-- only a comment", &[]),
+    (
+        b"<= <> << \n",
+        &[
+            Token {
+                kind: Kind::Symbol,
+                at: 0,
+                len: 2,
+            },
+            Token {
+                kind: Kind::Symbol,
+                at: 3,
+                len: 2,
+            },
+            Token {
+                kind: Kind::OpenBlock,
+                at: 6,
+                len: 4,
+            },
+        ],
+    ),
+    (
+        b"a--b",
+        &[Token {
+            kind: Kind::Word,
+            at: 0,
+            len: 1,
+        }],
+    ),
+    (
+        b"a--b\n-1",
+        &[
+            Token {
+                kind: Kind::Word,
+                at: 0,
+                len: 1,
+            },
+            Token {
+                kind: Kind::Symbol,
+                at: 5,
+                len: 1,
+            },
+            Token {
+                kind: Kind::Number,
+                at: 6,
+                len: 1,
+            },
+        ],
+    ),
+    (
+        b"'it''s'",
+        &[Token {
+            kind: Kind::Text,
+            at: 0,
+            len: 7,
+        }],
+    ),
+    (
+        b":x_1 ",
+        &[Token {
+            kind: Kind::Variable,
+            at: 0,
+            len: 4,
+        }],
+    ),
+    (
+        b"12ab",
+        &[
+            Token {
+                kind: Kind::Number,
+                at: 0,
+                len: 2,
+            },
+            Token {
+                kind: Kind::Word,
+                at: 2,
+                len: 2,
+            },
+        ],
+    ),
+    (
+        b"<",
+        &[Token {
+            kind: Kind::Symbol,
+            at: 0,
+            len: 1,
+        }],
+    ),
+    (
+        b"<<",
+        &[Token {
+            kind: Kind::OpenBlock,
+            at: 0,
+            len: 2,
+        }],
+    ),
+    (
+        b"||",
+        &[Token {
+            kind: Kind::Symbol,
+            at: 0,
+            len: 2,
+        }],
+    ),
+    (
+        b"<<\n>>",
+        &[Token {
+            kind: Kind::Block,
+            at: 0,
+            len: 5,
+        }],
+    ),
+    (
+        b"<<\n>>\r",
+        &[Token {
+            kind: Kind::OpenBlock,
+            at: 0,
+            len: 6,
+        }],
+    ),
+    (
+        b"<<\r\n1\n >>\n>>\r\n;",
+        &[
+            Token {
+                kind: Kind::Block,
+                at: 0,
+                len: 14,
+            },
+            Token {
+                kind: Kind::Symbol,
+                at: 14,
+                len: 1,
+            },
+        ],
+    ),
+    (
+        b"<<\n>>>\n>>x",
+        &[Token {
+            kind: Kind::OpenBlock,
+            at: 0,
+            len: 10,
+        }],
+    ),
+];
 
 #[test]
 fn tells_tokens(rt: HostRuntime) -> Result<(), LexFault> {
-    let alloc = rt.alloc();
-    for (bytes, want) in [
-        (&b""[..], &[][..]),
-        (b" \t\r\n-- only a comment", &[]),
-        (
-            b"<= <> << \n",
-            &[
-                token(Kind::Symbol, 0, 2),
-                token(Kind::Symbol, 3, 2),
-                token(Kind::OpenBlock, 6, 4),
-            ],
-        ),
-        (b"a--b", &[token(Kind::Word, 0, 1)]),
-        (
-            b"a--b\n-1",
-            &[
-                token(Kind::Word, 0, 1),
-                token(Kind::Symbol, 5, 1),
-                token(Kind::Number, 6, 1),
-            ],
-        ),
-        (b"'it''s'", &[token(Kind::Text, 0, 7)]),
-        (b":x_1 ", &[token(Kind::Variable, 0, 4)]),
-        (
-            b"12ab",
-            &[token(Kind::Number, 0, 2), token(Kind::Word, 2, 2)],
-        ),
-        (b"<", &[token(Kind::Symbol, 0, 1)]),
-        (b"<<", &[token(Kind::OpenBlock, 0, 2)]),
-        (b"||", &[token(Kind::Symbol, 0, 2)]),
-        (b"<<\n>>", &[token(Kind::Block, 0, 5)]),
-        (b"<<\n>>\r", &[token(Kind::OpenBlock, 0, 6)]),
-        (
-            b"<<\r\n1\n >>\n>>\r\n;",
-            &[token(Kind::Block, 0, 14), token(Kind::Symbol, 14, 1)],
-        ),
-        (b"<<\n>>>\n>>x", &[token(Kind::OpenBlock, 0, 10)]),
-    ] {
-        let tokens = lex(alloc, bytes)?;
+    for case in TOKENS {
+        let (bytes, want) = *case;
+        let tokens = lex(rt.alloc(), bytes)?;
         assert!(rt; tokens.as_slice() == want);
     }
     Ok(())
 }
 
+const FAULTS: &[(&[u8], LexFault)] = &[
+    (
+        b"CREATE TABLE a (id INT, t TEXT(4), PRIMARY KEY (id)) VALUES (1, 'ab",
+        LexFault::BadToken { at: 64 },
+    ),
+    (&[128], LexFault::BadByte { at: 0 }),
+    (b"'a\x7f", LexFault::BadByte { at: 2 }),
+    (b"::", LexFault::BadToken { at: 0 }),
+    (b"a : b", LexFault::BadToken { at: 2 }),
+    (b"<<x", LexFault::BadToken { at: 0 }),
+    (b"'a''", LexFault::BadToken { at: 3 }),
+    (b"'a\n'", LexFault::BadToken { at: 0 }),
+    (b"1 | 2", LexFault::BadToken { at: 2 }),
+];
+
 #[test]
 fn tells_faults(rt: HostRuntime) {
-    let alloc = rt.alloc();
-    let unclosed = &b"CREATE TABLE a (id INT, t TEXT(4), PRIMARY KEY (id)) VALUES (1, 'ab"[..];
-    for (bytes, want) in [
-        (unclosed, LexFault::BadToken { at: 64 }),
-        (&[128], LexFault::BadByte { at: 0 }),
-        (b"'a\x7f", LexFault::BadByte { at: 2 }),
-        (b"::", LexFault::BadToken { at: 0 }),
-        (b"a : b", LexFault::BadToken { at: 2 }),
-        (b"<<x", LexFault::BadToken { at: 0 }),
-        (b"'a''", LexFault::BadToken { at: 3 }),
-        (b"'a\n'", LexFault::BadToken { at: 0 }),
-        (b"1 | 2", LexFault::BadToken { at: 2 }),
-    ] {
-        assert!(rt; lex(alloc, bytes).err() == Some(want));
+    for case in FAULTS {
+        let (bytes, want) = *case;
+        assert!(rt; lex(rt.alloc(), bytes).err() == Some(want));
     }
 }

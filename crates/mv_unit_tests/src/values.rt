@@ -1,5 +1,9 @@
 //! Rows, values, predicates and writes.
 
+ghost use Rattle.std.specs.Prelude.{◌↔◌, IsTrue, All};
+ghost use Rattle.mv_values.specs.Printable.{IsPrintable};
+
+use crate::cases::{ensure, ensure_at};
 use mv_values::copied::Copied;
 use mv_values::list::List;
 use mv_values::memory::NoMemory;
@@ -8,60 +12,122 @@ use mv_values::patch::{Assign, Patch, Write};
 use mv_values::pred::{Pred, Test};
 use mv_values::rows::{Keyed, Rows};
 use mv_values::txt::Txt;
-use mv_values::value::{Value, compare_keys};
+use mv_values::value::{Row, Value, compare_keys};
 use std::alloc::Global;
 use std::cmp::Ordering;
 use std::test::Fail;
 
-fn key(alloc: Global, n: i64) -> Result<List<Value>, Fail> {
-    let mut key = List::new(alloc);
-    key.push(Value::Int(n))?;
-    Ok(key)
-}
-
-#[test]
-fn rows_are_found_by_key(rt: HostRuntime) -> Result<(), Fail> {
-    let alloc = rt.alloc();
-    let mut rows = Rows::new(alloc);
-    let first = Keyed {
-        key: key(alloc, 7)?,
-        row: key(alloc, 7)?,
-    };
-    rows.push(first)?;
-    for (n, want) in [(6, Err(0)), (7, Ok(0)), (8, Err(1))] {
-        assert_eq!(rt; rows.place_of(key(alloc, n)?.as_slice()), want, "{n}");
-    }
-    let copy = rows.copy(alloc)?;
-    assert_eq!(rt; copy.as_slice().len(), 1);
-    Ok(())
-}
-
-#[test]
-fn values_stand_in_order(rt: HostRuntime) -> Result<(), Fail> {
-    let alloc = rt.alloc();
-    let a = Value::Text(Txt::of(alloc, b"a")?);
-    let ab = Value::Text(Txt::of(alloc, b"ab")?);
-    for (left, right, want) in [
-        (&Value::Int(-1), &Value::Int(1), Ordering::Less),
-        (&Value::Int(9), &a, Ordering::Less),
-        (&a, &ab, Ordering::Less),
-        (&ab, &ab, Ordering::Equal),
-    ] {
-        assert_eq!(rt; left.order(right), want);
-    }
-    assert_eq!(rt;
-        compare_keys(&[], key(alloc, 1)?.as_slice()),
-        Ordering::Less
-    );
-    Ok(())
-}
-
-fn row(alloc: Global, numbers: &[i64]) -> Result<List<Value>, NoMemory> {
+/// A row, or a key, of numbers.
+pub(crate) fn row(alloc: Global, numbers: &[i64]) -> Result<Row, NoMemory> {
     let mut row = List::new(alloc);
     for n in numbers {
         row.push(Value::Int(*n))?;
     }
     Ok(row)
+}
+
+fn is_printable(byte: u8) -> bool
+    ensures { IsTrue result ↔ IsPrintable byte }
+{
+    32 <= byte && byte <= 126
+}
+
+fn are_printable(bytes: &[u8]) -> bool
+    ensures { IsTrue result ↔ All IsPrintable bytes.now }
+{
+    bytes.iter().all(|byte| is_printable(*byte))
+}
+
+/// The text of bytes that can be printed, and else of none.
+pub(crate) fn txt(alloc: Global, text: &str) -> Result<Txt, NoMemory> {
+    let bytes = text.as_bytes();
+    if are_printable(bytes) {
+        Txt::of(alloc, bytes)
+    } else {
+        Ok(Txt::new(alloc))
+    }
+}
+
+/// The rows of one row, under this key.
+fn only(alloc: Global, n: i64) -> Result<Rows, NoMemory> {
+    let key = row(alloc, &[n])?;
+    let row = row(alloc, &[n])?;
+    let mut rows = Rows::new(alloc);
+    rows.push(Keyed { key, row })?;
+    Ok(rows)
+}
+
+fn place_of(alloc: Global, rows: &Rows, n: i64) -> Result<Result<usize, usize>, NoMemory> {
+    let key = row(alloc, &[n])?;
+    Ok(rows.place_of(key.as_slice()))
+}
+
+/// A key, and its place or its gap where the only key is 7.
+const PLACES: &[(i64, Result<usize, usize>)] = &[(6, Err(0)), (7, Ok(0)), (8, Err(1))];
+
+fn found_as_told(alloc: Global, rows: &Rows) -> Result<(), Fail> {
+    for (i, (n, want)) in PLACES.iter().enumerate() {
+        ensure_at(alloc, place_of(alloc, rows, *n)? == *want, i)?;
+    }
+    Ok(())
+}
+
+#[test]
+fn rows_are_found_by_key(rt: HostRuntime) -> Result<(), Fail> {
+    let rows = only(rt.alloc(), 7)?;
+    found_as_told(rt.alloc(), &rows)
+}
+
+#[test]
+fn rows_are_copied(rt: HostRuntime) -> Result<(), Fail> {
+    let copy = only(rt.alloc(), 7)?.copy(rt.alloc())?;
+    ensure(
+        rt.alloc(),
+        copy.as_slice().len() == 1,
+        "another number of rows",
+    )
+}
+
+/// A value of a case.
+enum Given {
+    Number(i64),
+    Text(&'static str),
+}
+
+fn value(alloc: Global, given: &Given) -> Result<Value, NoMemory> {
+    match given {
+        Given::Number(n) => Ok(Value::Int(*n)),
+        Given::Text(text) => Ok(Value::Text(txt(alloc, text)?)),
+    }
+}
+
+fn order(alloc: Global, left: &Given, right: &Given) -> Result<Ordering, NoMemory> {
+    let left = value(alloc, left)?;
+    let right = value(alloc, right)?;
+    Ok(left.order(&right))
+}
+
+const ORDERS: &[(Given, Given, Ordering)] = &[
+    (Given::Number(-1), Given::Number(1), Ordering::Less),
+    (Given::Number(9), Given::Text("a"), Ordering::Less),
+    (Given::Text("a"), Given::Text("ab"), Ordering::Less),
+    (Given::Text("ab"), Given::Text("ab"), Ordering::Equal),
+];
+
+#[test]
+fn values_stand_in_order(rt: HostRuntime) -> Result<(), Fail> {
+    let alloc = rt.alloc();
+    for (i, (left, right, want)) in ORDERS.iter().enumerate() {
+        ensure_at(alloc, order(alloc, left, right)? == *want, i)?;
+    }
+    Ok(())
+}
+
+#[test]
+fn a_shorter_key_stands_first(rt: HostRuntime) -> Result<(), Fail> {
+    let key = row(rt.alloc(), &[1])?;
+    let order = compare_keys(&[], key.as_slice());
+    ensure(rt.alloc(), order == Ordering::Less, "an empty key")
 }
 
 /// The rows of a table whose first column, its key, is 7 and whose second is at least 10, with the third selected.
@@ -88,58 +154,122 @@ fn rich(alloc: Global) -> Result<Pred, NoMemory> {
     })
 }
 
-#[test]
-fn a_predicate_sees_what_it_tests_and_selects(rt: HostRuntime) -> Result<(), Fail> {
-    let alloc = rt.alloc();
-    let pred = rich(alloc)?.copy(alloc)?;
-    for (numbers, matches, admits) in [
-        (&[7, 10, 1, 1], true, true),
-        (&[7, 9, 1, 1], false, true),
-        (&[8, 10, 1, 1], false, false),
-    ] {
-        assert_eq!(rt; pred.matches(&row(alloc, numbers)?), matches);
-        assert_eq!(rt; pred.admits(&key(alloc, numbers[0])?), admits);
-    }
-    let before = row(alloc, &[7, 10, 1, 1])?;
-    for (after, want) in [
-        (&[7, 10, 1, 2], true),
-        (&[7, 11, 1, 1], true),
-        (&[7, 10, 2, 1], false),
-        (&[7, 9, 1, 1], false),
-    ] {
-        assert_eq!(rt; pred.same(Some(&before), Some(&row(alloc, after)?)), want);
-    }
-    let poor = row(alloc, &[7, 9, 1, 1])?;
-    assert!(rt; pred.same(Some(&poor), None));
-    assert!(rt; pred.same(None, None));
-    assert!(rt; !pred.same(None, Some(&before)));
-    for (column, want) in [(0, true), (1, true), (2, true), (3, false)] {
-        assert_eq!(rt; pred.names(column), want);
+/// A row, and whether the predicate matches it and admits its first column as a key.
+type Matched = ([i64; 4], bool, bool);
+
+const MATCHED: &[Matched] = &[
+    ([7, 10, 1, 1], true, true),
+    ([7, 9, 1, 1], false, true),
+    ([8, 10, 1, 1], false, false),
+];
+
+fn matches(alloc: Global, pred: &Pred, case: &Matched) -> Result<bool, NoMemory> {
+    let (numbers, matches, admits) = *case;
+    let key = row(alloc, &[numbers[0]])?;
+    let row = row(alloc, &numbers)?;
+    Ok(pred.matches(&row) == matches && pred.admits(&key) == admits)
+}
+
+fn matched_as_told(alloc: Global, pred: &Pred) -> Result<(), Fail> {
+    for (i, case) in MATCHED.iter().enumerate() {
+        ensure_at(alloc, matches(alloc, pred, case)?, i)?;
     }
     Ok(())
 }
 
+/// A row before and after, where there is one, and whether the predicate sees the same.
+type Seen = (Option<[i64; 4]>, Option<[i64; 4]>, bool);
+
+const SEEN: &[Seen] = &[
+    (Some([7, 10, 1, 1]), Some([7, 10, 1, 2]), true),
+    (Some([7, 10, 1, 1]), Some([7, 11, 1, 1]), true),
+    (Some([7, 10, 1, 1]), Some([7, 10, 2, 1]), false),
+    (Some([7, 10, 1, 1]), Some([7, 9, 1, 1]), false),
+    (Some([7, 9, 1, 1]), None, true),
+    (None, None, true),
+    (None, Some([7, 10, 1, 1]), false),
+];
+
+fn maybe_row(alloc: Global, numbers: Option<[i64; 4]>) -> Result<Option<Row>, NoMemory> {
+    match numbers {
+        None => Ok(None),
+        Some(numbers) => Ok(Some(row(alloc, &numbers)?)),
+    }
+}
+
+fn sees(alloc: Global, pred: &Pred, case: &Seen) -> Result<bool, NoMemory> {
+    let (before, after, want) = *case;
+    let before = maybe_row(alloc, before)?;
+    let after = maybe_row(alloc, after)?;
+    Ok(pred.same(before.as_ref(), after.as_ref()) == want)
+}
+
+fn seen_as_told(alloc: Global, pred: &Pred) -> Result<(), Fail> {
+    for (i, case) in SEEN.iter().enumerate() {
+        ensure_at(alloc, sees(alloc, pred, case)?, i)?;
+    }
+    Ok(())
+}
+
+const NAMED: &[(u8, bool)] = &[(0, true), (1, true), (2, true), (3, false)];
+
+fn named_as_told(alloc: Global, pred: &Pred) -> Result<(), Fail> {
+    for (i, (column, want)) in NAMED.iter().enumerate() {
+        ensure_at(alloc, pred.names(*column) == *want, i)?;
+    }
+    Ok(())
+}
+
+fn sees_as_told(alloc: Global, pred: &Pred) -> Result<(), Fail> {
+    matched_as_told(alloc, pred)?;
+    seen_as_told(alloc, pred)?;
+    named_as_told(alloc, pred)
+}
+
+fn copy_of_rich(alloc: Global) -> Result<Pred, NoMemory> {
+    let pred = rich(alloc)?;
+    pred.copy(alloc)
+}
+
 #[test]
-fn writes_are_copied(rt: HostRuntime) -> Result<(), Fail> {
-    let alloc = rt.alloc();
+fn a_predicate_sees_what_it_tests_and_selects(rt: HostRuntime) -> Result<(), Fail> {
+    let pred = copy_of_rich(rt.alloc())?;
+    sees_as_told(rt.alloc(), &pred)
+}
+
+/// A write of column 3 of a row of table 2.
+fn write(alloc: Global) -> Result<Write, NoMemory> {
+    let key = row(alloc, &[7])?;
     let mut items = List::new(alloc);
     items.push(Assign {
         column: 3,
         value: Value::Int(4),
     })?;
-    let write = Write {
+    Ok(Write {
         table: 2,
-        key: key(alloc, 7)?,
+        key,
         patch: Patch::Set(items),
-    };
-    let copied = write.copy(alloc)?;
-    match &copied.patch {
-        Patch::Set(items) => {
-            assert_eq!(rt; items.as_slice().len(), 1);
-            assert_eq!(rt; items.as_slice()[0].column, 3);
-        }
-        _ => return Err("another patch".into()),
+    })
+}
+
+/// The table and the column of a write that sets one column.
+fn set_by(write: &Write) -> Option<(u8, u8)> {
+    match &write.patch {
+        Patch::Set(items) => match items.as_slice() {
+            [item] => Some((write.table, item.column)),
+            _ => None,
+        },
+        _ => None,
     }
-    assert_eq!(rt; copied.table, 2);
-    Ok(())
+}
+
+fn copy_of_write(alloc: Global) -> Result<Write, NoMemory> {
+    let write = write(alloc)?;
+    write.copy(alloc)
+}
+
+#[test]
+fn writes_are_copied(rt: HostRuntime) -> Result<(), Fail> {
+    let copy = copy_of_write(rt.alloc())?;
+    ensure(rt.alloc(), set_by(&copy) == Some((2, 3)), "another write")
 }

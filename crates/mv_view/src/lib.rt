@@ -3,6 +3,4 @@
 
 mod narrow;
 pub mod plain;
-#[cfg(test)]
-mod tests;
 pub mod view;

@@ -1,0 +1,36 @@
+//! Cases of tables.
+
+use std::alloc::Global;
+use std::test::Fail;
+
+/// An error that tells a case, unless it holds.
+pub(crate) fn ensure(alloc: Global, holds: bool, case: &str) -> Result<(), Fail> {
+    if holds {
+        return Ok(());
+    }
+    Err(String::from_str(alloc, case)?.into())
+}
+
+/// The same with the number of the case in its table, counted from 0.
+pub(crate) fn ensure_at(alloc: Global, holds: bool, case: usize) -> Result<(), Fail> {
+    if holds {
+        return Ok(());
+    }
+    Err(format!(in alloc; "case {case}")?.into())
+}
+
+/// A text between two others.
+pub(crate) fn between(alloc: Global, front: &str, text: &str, back: &str) -> Result<String, Fail> {
+    let mut all = String::from_str(alloc, front)?;
+    all.push_str(text)?;
+    all.push_str(back)?;
+    Ok(all)
+}
+
+/// Adds a text so often at the end of another.
+pub(crate) fn repeat(text: &mut String, part: &str, count: u32) -> Result<(), Fail> {
+    for _ in 0..count {
+        text.push_str(part)?;
+    }
+    Ok(())
+}

@@ -1,0 +1,150 @@
+//! What a view in memory shows of one table of accounts: 0 with nothing, 1 to 4 with 100, the owners' names empty.
+
+ghost use Rattle.std.specs.Prelude.{◌≡◌, ◌↔◌, All, IsTrue, IfOk};
+ghost use Rattle.mv_values.specs.Preds.{matches, admits};
+ghost use Rattle.mv_values.specs.Tables.{rows_at};
+ghost use Rattle.mv_record.specs.Admitting.{Admitted};
+ghost use Rattle.mv_view.specs.Viewing.{with_row_call};
+
+use crate::cases::{ensure, ensure_at};
+use crate::reports::accounts;
+use crate::values::row;
+use mv_values::list::List;
+use mv_values::memory::NoMemory;
+use mv_values::op::Op;
+use mv_values::pred::{Pred, Test};
+use mv_values::rows::{Database, Keyed};
+use mv_values::value::{Row, Value};
+use mv_view::plain::Plain;
+use mv_view::view::View;
+use std::alloc::Global;
+use std::test::Fail;
+
+fn database(alloc: Global) -> Result<Database, NoMemory> {
+    let mut tables = List::new(alloc);
+    tables.push(accounts(alloc, 100)?)?;
+    Ok(tables)
+}
+
+/// The rows that pass one test, of a key column or of another.
+fn where_is(alloc: Global, column: u8, op: Op, value: i64) -> Result<Pred, NoMemory> {
+    let key_place = if column == 0 { Some(0) } else { None };
+    let value = Value::Int(value);
+    let mut tests = List::new(alloc);
+    tests.push(Test {
+        column,
+        key_place,
+        op,
+        value,
+    })?;
+    Ok(Pred {
+        table: 0,
+        tests,
+        columns: List::new(alloc),
+    })
+}
+
+fn admits_match(pred: &Pred, item: &Keyed) -> bool
+    ensures { IsTrue result ↔ (IsTrue (matches pred.now item.now.row) → IsTrue (admits pred.now item.now.key)) }
+{
+    !pred.matches(&item.row) || pred.admits(&item.key)
+}
+
+fn admits_matches(pred: &Pred, rows: &[Keyed]) -> bool
+    ensures { IsTrue result ↔ Admitted pred.now rows.now }
+{
+    rows.iter().all(|item| admits_match(pred, item))
+}
+
+fn has_admitted(pred: &Pred, tables: &Database) -> bool
+    ensures { IsTrue result → Admitted pred.now (rows_at tables.now pred.now.table) }
+{
+    match tables.as_slice().get(pred.table as usize) {
+        Some(rows) => admits_matches(pred, rows.as_slice()),
+        None => true,
+    }
+}
+
+/// The number in a column.
+fn number(row: &Row, column: usize) -> Option<i64> {
+    match row.as_slice().get(column) {
+        Some(Value::Int(number)) => Some(*number),
+        _ => None,
+    }
+}
+
+/// How many rows they are, and the last one's number.
+fn last(rows: &[Keyed]) -> (usize, Option<i64>) {
+    match rows.last() {
+        Some(item) => (rows.len(), number(&item.row, 0)),
+        None => (0, None),
+    }
+}
+
+/// A column, how a number has to stand to it, and how many rows are found, with the last one's number.
+type Found = (u8, Op, i64, (usize, Option<i64>));
+
+const FOUND: &[Found] = &[
+    (0, Op::Eq, 0, (1, Some(0))),
+    (0, Op::Eq, 3, (1, Some(3))),
+    (0, Op::Eq, 9, (0, None)),
+    (0, Op::Ne, 4, (4, Some(3))),
+    (0, Op::Lt, 2, (2, Some(1))),
+    (1, Op::Eq, 100, (4, Some(4))),
+    (1, Op::Le, 99, (1, Some(0))),
+];
+
+fn finds(alloc: Global, tables: &Database, case: &Found) -> Result<bool, Fail> {
+    let (column, op, value, want) = *case;
+    let pred = where_is(alloc, column, op, value)?;
+    if !has_admitted(&pred, tables) {
+        return Err("a row that the predicate doesn't admit".into());
+    }
+    let mut view = Plain::new(tables);
+    match view.rows(alloc, &pred) {
+        Ok(rows) => Ok(last(rows.as_slice()) == want),
+        Err(_) => Err("no rows".into()),
+    }
+}
+
+fn found_as_told(alloc: Global, tables: &Database) -> Result<(), Fail> {
+    for (i, case) in FOUND.iter().enumerate() {
+        ensure_at(alloc, finds(alloc, tables, case)?, i)?;
+    }
+    Ok(())
+}
+
+#[test]
+fn rows_are_found_by_their_tests(rt: HostRuntime) -> Result<(), Fail> {
+    let tables = database(rt.alloc())?;
+    found_as_told(rt.alloc(), &tables)
+}
+
+/// Has the row under this key have this number in its second column, where there is one.
+fn shows(alloc: Global, view: &mut Plain, table: u8, id: i64, want: Option<i64>) -> Result<(), Fail>
+    ensures counted { IfOk result (λ shown. view.new ≡ with_row_call view.old) }
+{
+    let key = row(alloc, &[id])?;
+    match view.row(alloc, table, &key) {
+        Ok(Some(row)) => ensure(alloc, number(&row, 1) == want, "another row"),
+        Ok(None) => ensure(alloc, want == None, "no row"),
+        Err(_) => Err("no answer".into()),
+    }
+}
+
+/// Looks four rows up. That the view counts four calls can only be proved: its counts are seen by contracts alone.
+fn shows_rows(alloc: Global, view: &mut Plain) -> Result<(), Fail>
+    ensures counted { IfOk result (λ shown. view.new ≡ with_row_call (with_row_call (with_row_call (with_row_call view.old)))) }
+{
+    shows(alloc, view, 0, 1, Some(100))?;
+    shows(alloc, view, 0, 0, Some(0))?;
+    shows(alloc, view, 0, 7, None)?;
+    shows(alloc, view, 1, 1, None)
+}
+
+#[test]
+fn a_row_is_found_by_its_key_and_calls_are_counted(rt: HostRuntime) -> Result<(), Fail> {
+    let tables = database(rt.alloc())?;
+    let mut view = Plain::new(&tables);
+    shows_rows(rt.alloc(), &mut view)
+}
