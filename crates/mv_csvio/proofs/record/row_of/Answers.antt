@@ -3,6 +3,9 @@ use Rattle.csv.specs.Records.{fields_of}
 use Rattle.mv_csvio.proofs.Rows.{field_there, value_more, misfit, all_values, one_longer}
 use Rattle.mv_csvio.proofs.record.row_of.Goals as goal
 
+pub loop-column-init : goal.loop-column-init
+loop-column-init c = search rules
+
 pub returns-in_default : goal.returns-in_default
 returns-in_default c =
     let inv = c.loop-column.invariant in

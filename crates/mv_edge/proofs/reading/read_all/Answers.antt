@@ -11,3 +11,6 @@ returns-then-n-eq0-clause-bytes g c =
 pub returns-clause-bytes : goal.returns-clause-bytes
 returns-clause-bytes g c =
     most_of (g.S.Source.left c.args.source.now) (g.S.Source.left c.loop-buffer.source) c.loop-buffer.bytes MOST c.loop-buffer.invariant.so_far (grind (arith, common_steps, c.loop-buffer.invariant.within))
+
+pub loop-buffer-preserved : goal.loop-buffer-preserved
+loop-buffer-preserved g c = grind (arith, common_steps)

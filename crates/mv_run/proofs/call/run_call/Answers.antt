@@ -1,4 +1,4 @@
-use Rattle.std.proofs.Common.{List, sym, subst, ◌∙◌}
+use Rattle.std.proofs.Common.{List, length, sym, subst, ap, arith, ◌∙◌}
 use Rattle.mv_values.specs.Patching.{applied}
 use Rattle.mv_values.specs.Tables.{KeysStand}
 use Rattle.mv_record.specs.Runs.{writes_in}
@@ -20,3 +20,6 @@ returns-clause-database c =
     subst (IsDatabase c.args.graph.now.tables) (sym c.in_ok-commit.ensures)
     (told_database c.args.graph.now.tables c.records-records.result.now c.args.database.now c.requires.database
     (subst (λ (rs : List Record). KeysStand c.args.graph.now.tables (applied (writes_in rs) c.args.database.now)) (sym c.records-records.ensures) c.in_ok-task.ensures.keys))
+
+pub returns-clause-count : goal.returns-clause-count
+returns-clause-count c = omega (arith, ap length (c.records-records.ensures ∙ c.in_ok-task.ensures.records))

@@ -1,4 +1,5 @@
-use Rattle.std.proofs.Common.{◌≡◌, ◌∙◌, ap, sym, subst, refl}
+use Rattle.std.proofs.lemmas.Grind.{common_steps}
+use Rattle.std.proofs.Common.{◌≡◌, ◌∙◌, ap, sym, subst, refl, arith}
 use Rattle.mv_accept.specs.Refusals.{line_of}
 use Rattle.mv_top.specs.declared.status.Fault.{Fault}
 use Rattle.mv_top.specs.Answers.{IsToldBy, line}
@@ -15,3 +16,6 @@ pub returns-in_ok-ended-in-Err-Refused-clause-told : goal.returns-in_ok-ended-in
 returns-in_ok-ended-in-Err-Refused-clause-told g c =
     λ refusal cause. (let told = subst (λ (f : Fault). IsToldBy refusal f) c.in-Err-Refused.field-0-is (c.in-Err-Refused.ensures.told refusal cause) in
     (refl, c.in_ok-ended-in-Err-Refused.ensures ∙ ap line (c.as_slice.ensures.bytes ∙ told.1)))
+
+pub returns-in-Ok-clause-found : goal.returns-in-Ok-clause-found
+returns-in-Ok-clause-found g c = grind (arith, common_steps)

@@ -44,3 +44,6 @@ returns-in-Ok-answered-clause-refuses g c =
     c.in-Ok-answered.status Refused c.in-Ok-answered.text (line (line_of refusal)) c.put-in-Ok-answered.result told.0 told.1 no_write
     (subst (λ (text : List ℕ). Puts (g.K.Sink.written c.args.sink.now) (g.K.Sink.written c.put-in-Ok-answered.new.sink) (g.K.Sink.faults c.args.sink.now) (g.K.Sink.faults c.put-in-Ok-answered.new.sink) c.in-Ok-answered.status text c.put-in-Ok-answered.result)
     c.as_slice-in-Ok-answered.ensures c.put-in-Ok-answered.ensures))
+
+pub returns-in-Err-NoMemory-clause-reading : goal.returns-in-Err-NoMemory-clause-reading
+returns-in-Err-NoMemory-clause-reading g c = λ e. cc
