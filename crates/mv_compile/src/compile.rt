@@ -1,6 +1,6 @@
 //! The graphs of a script.
 
-ghost use Rattle.std.specs.Prelude.{◌≡◌, IfOk, All, map};
+ghost use Rattle.std.specs.Prelude.{◌≡◌, ◌+◌, length, IfOk, All, map};
 ghost use Rattle.std.specs.List.{AllZip};
 ghost use Rattle.mv_catalog.specs.Text.{FitsText};
 ghost use Rattle.mv_graph.specs.Nodes.{nodes_in, IsGraph, IsSmall, IsSound, HasFewNodes};
@@ -16,16 +16,25 @@ use mv_values::memory::NoMemory;
 use mv_values::schema::TableInfo;
 use std::alloc::Global;
 
+/// How the variables of a procedure are numbered.
+fn slots_of(procedure: &ProcInfo) -> Slots
+    requires { IsSmall procedure.now }
+    ensures params { result.params ≡ length procedure.now.params }
+    ensures found { result.found ≡ length procedure.now.params + length procedure.now.defaults }
+{
+    let params = procedure.params.len();
+    Slots {
+        params,
+        found: (params + procedure.defaults.len()) as u16,
+    }
+}
+
 /// The nodes of a procedure, in the order of the text.
 fn nodes_in(alloc: Global, procedure: &ProcInfo) -> Result<List<Node>, NoMemory>
     requires { IsSmall procedure.now }
     ensures { IfOk result (λ nodes. nodes ≡ nodes_in procedure.now) }
 {
-    let params = procedure.params.len();
-    let slots = Slots {
-        params,
-        found: (params + procedure.defaults.len()) as u16,
-    };
+    let slots = slots_of(procedure);
     let loops = List::new(alloc);
     let mut nodes = List::new(alloc);
     add_nodes(

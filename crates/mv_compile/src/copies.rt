@@ -1,6 +1,7 @@
 //! Copies of procedures.
 
 ghost use Rattle.std.specs.Prelude.{◌≡◌, IfOk};
+ghost use Rattle.mv_catalog.specs.declared.resolved.RStmt.TheVariants.{Select, ForSelect, Branch, Update};
 
 use mv_catalog::resolved::{ParamInfo, ProcInfo, RCond, RExpr, RExprKind, RSetItem, RSort, RStmt};
 use mv_values::boxed::Boxed;
@@ -95,6 +96,89 @@ fn copy_sorts(alloc: Global, sorts: &[RSort]) -> Result<List<RSort>, NoMemory>
 
 // Statements
 
+fn copy_select(
+    alloc: Global,
+    columns: &List<u16>,
+    to: &List<u16>,
+    table: u16,
+    conds: &[RCond],
+    sorts: &[RSort],
+    offset: &Option<RExpr>,
+) -> Result<RStmt, NoMemory>
+    ensures { IfOk result (λ it. it ≡ Select columns.now to.now table conds.now sorts.now offset.now) }
+{
+    let columns = columns.copy(alloc)?;
+    let to = to.copy(alloc)?;
+    let conds = copy_conds(alloc, conds)?;
+    let sorts = copy_sorts(alloc, sorts)?;
+    let offset = copy_offset(alloc, offset)?;
+    Ok(RStmt::Select {
+        columns,
+        to,
+        table,
+        conds,
+        sorts,
+        offset,
+    })
+}
+
+/// A copy of a FOR over SELECT whose body was copied.
+fn copy_for_select(
+    alloc: Global,
+    row: u16,
+    distinct: bool,
+    columns: &List<u16>,
+    table: u16,
+    conds: &[RCond],
+    sorts: &[RSort],
+    body: List<RStmt>,
+) -> Result<RStmt, NoMemory>
+    ensures { IfOk result (λ it. it ≡ ForSelect row distinct columns.now table conds.now sorts.now body) }
+{
+    let columns = columns.copy(alloc)?;
+    let conds = copy_conds(alloc, conds)?;
+    let sorts = copy_sorts(alloc, sorts)?;
+    Ok(RStmt::ForSelect {
+        row,
+        distinct,
+        columns,
+        table,
+        conds,
+        sorts,
+        body,
+    })
+}
+
+/// A copy of an IF whose branches were copied.
+fn copy_branch(
+    alloc: Global,
+    test: &RExpr,
+    yes: List<RStmt>,
+    no: List<RStmt>,
+) -> Result<RStmt, NoMemory>
+    ensures { IfOk result (λ it. it ≡ Branch test.now yes no) }
+{
+    let test = copy_expr(alloc, test)?;
+    Ok(RStmt::Branch { test, yes, no })
+}
+
+fn copy_update(
+    alloc: Global,
+    table: u16,
+    items: &[RSetItem],
+    conds: &[RCond],
+) -> Result<RStmt, NoMemory>
+    ensures { IfOk result (λ it. it ≡ Update table items.now conds.now) }
+{
+    let items = copy_items(alloc, items)?;
+    let conds = copy_conds(alloc, conds)?;
+    Ok(RStmt::Update {
+        table,
+        items,
+        conds,
+    })
+}
+
 /// A copy of statements.
 #[cycle(copying)]
 pub fn copy_statements(alloc: Global, statements: &[RStmt]) -> Result<List<RStmt>, NoMemory>
@@ -124,14 +208,15 @@ pub fn copy_statement(alloc: Global, statement: &RStmt) -> Result<RStmt, NoMemor
             conds,
             sorts,
             offset,
-        } => Ok(RStmt::Select {
-            columns: columns.copy(alloc)?,
-            to: to.copy(alloc)?,
-            table: *table,
-            conds: copy_conds(alloc, conds.as_slice())?,
-            sorts: copy_sorts(alloc, sorts.as_slice())?,
-            offset: copy_offset(alloc, offset)?,
-        }),
+        } => copy_select(
+            alloc,
+            columns,
+            to,
+            *table,
+            conds.as_slice(),
+            sorts.as_slice(),
+            offset,
+        ),
         RStmt::Total {
             agg,
             to,
@@ -151,25 +236,29 @@ pub fn copy_statement(alloc: Global, statement: &RStmt) -> Result<RStmt, NoMemor
             conds,
             sorts,
             body,
-        } => Ok(RStmt::ForSelect {
-            row: *row,
-            distinct: *distinct,
-            columns: columns.copy(alloc)?,
-            table: *table,
-            conds: copy_conds(alloc, conds.as_slice())?,
-            sorts: copy_sorts(alloc, sorts.as_slice())?,
-            body: copy_statements(alloc, body.as_slice())?,
-        }),
+        } => {
+            let body = copy_statements(alloc, body.as_slice())?;
+            copy_for_select(
+                alloc,
+                *row,
+                *distinct,
+                columns,
+                *table,
+                conds.as_slice(),
+                sorts.as_slice(),
+                body,
+            )
+        }
         RStmt::ForRows { row, rows, body } => Ok(RStmt::ForRows {
             row: *row,
             rows: *rows,
             body: copy_statements(alloc, body.as_slice())?,
         }),
-        RStmt::Branch { test, yes, no } => Ok(RStmt::Branch {
-            test: copy_expr(alloc, test)?,
-            yes: copy_statements(alloc, yes.as_slice())?,
-            no: copy_statements(alloc, no.as_slice())?,
-        }),
+        RStmt::Branch { test, yes, no } => {
+            let yes = copy_statements(alloc, yes.as_slice())?;
+            let no = copy_statements(alloc, no.as_slice())?;
+            copy_branch(alloc, test, yes, no)
+        }
         RStmt::Insert { table, values } => Ok(RStmt::Insert {
             table: *table,
             values: copy_exprs(alloc, values.as_slice())?,
@@ -178,11 +267,7 @@ pub fn copy_statement(alloc: Global, statement: &RStmt) -> Result<RStmt, NoMemor
             table,
             items,
             conds,
-        } => Ok(RStmt::Update {
-            table: *table,
-            items: copy_items(alloc, items.as_slice())?,
-            conds: copy_conds(alloc, conds.as_slice())?,
-        }),
+        } => copy_update(alloc, *table, items.as_slice(), conds.as_slice()),
         RStmt::Delete { table, conds } => Ok(RStmt::Delete {
             table: *table,
             conds: copy_conds(alloc, conds.as_slice())?,

@@ -1,6 +1,6 @@
 //! What is known of a statement by itself before it runs.
 
-ghost use Rattle.std.specs.Prelude.{◌≡◌, ◌++◌, ◌==◌, IfOk, OnOk, nat_le, map, option_to_list};
+ghost use Rattle.std.specs.Prelude.{◌≡◌, ◌++◌, ◌∷◌, [], ◌==◌, IfOk, OnOk, nat_le, map, option_to_list};
 ghost use Rattle.std.specs.List.{filter, flat_map, list_any};
 ghost use Rattle.mv_catalog.specs.declared.resolved.RStmt.{out-RStmt};
 ghost use Rattle.mv_recorded.specs.Reading.{variables, rights, expressions, each_once, read_variables};
@@ -122,13 +122,20 @@ fn has(numbers: &[u16], number: u16) -> bool
     numbers.iter().any(|n| *n == number)
 }
 
+/// Whether a variable is none of the first `params`.
+fn is_behind(params: usize, number: u16) -> bool
+    ensures { result ≡ nat_le params number }
+{
+    params <= number as usize
+}
+
 /// Those of the numbers that are none of the first `params`.
 fn behind(alloc: Global, params: usize, numbers: &[u16]) -> Result<List<u16>, NoMemory>
     ensures { IfOk result (λ all. all ≡ filter (λ x. nat_le params x) numbers.now) }
 {
     let mut all = List::new(alloc);
     for number in numbers {
-        if params <= *number as usize {
+        if is_behind(params, *number) {
             all.push(*number)?;
         }
     }
@@ -144,24 +151,40 @@ pub(crate) fn reads(alloc: Global, params: usize, statement: &RStmt) -> Result<L
     behind(alloc, params, each.as_slice())
 }
 
+/// A list of one variable.
+fn one(alloc: Global, variable: u16) -> Result<List<u16>, NoMemory>
+    ensures { IfOk result (λ all. all ≡ variable ∷ []) }
+{
+    let mut all = List::new(alloc);
+    all.push(variable)?;
+    Ok(all)
+}
+
+/// The variables, and `:found`, which has this number.
+fn with_found(all: List<u16>, found: u16) -> Result<List<u16>, NoMemory>
+    ensures { IfOk result (λ new. new ≡ all ++ found ∷ []) }
+{
+    let mut new = all;
+    new.push(found)?;
+    Ok(new)
+}
+
 /// The variables that a statement may set. `:found` has this number.
 pub(crate) fn sets(alloc: Global, found: u16, statement: &RStmt) -> Result<List<u16>, NoMemory>
     ensures { IfOk result (λ all. all ≡ may_set found (out-RStmt statement.now)) }
 {
-    let mut all = List::new(alloc);
     match statement {
-        RStmt::Branch { .. } | RStmt::Print { .. } | RStmt::Rollback { .. } => return Ok(all),
-        RStmt::Assign { to, .. } => {
-            all.push(*to)?;
-            return Ok(all);
+        RStmt::Branch { .. } | RStmt::Print { .. } | RStmt::Rollback { .. } => Ok(List::new(alloc)),
+        RStmt::Assign { to, .. } => one(alloc, *to),
+        RStmt::Select { to, .. } => with_found(once_each(alloc, to.as_slice())?, found),
+        RStmt::Total { to, .. } => with_found(one(alloc, *to)?, found),
+        RStmt::ForSelect { row, .. } | RStmt::ForRows { row, .. } => {
+            with_found(one(alloc, *row)?, found)
         }
-        RStmt::Select { to, .. } => all = once_each(alloc, to.as_slice())?,
-        RStmt::Total { to, .. } => all.push(*to)?,
-        RStmt::ForSelect { row, .. } | RStmt::ForRows { row, .. } => all.push(*row)?,
-        RStmt::Insert { .. } | RStmt::Update { .. } | RStmt::Delete { .. } => {}
+        RStmt::Insert { .. } | RStmt::Update { .. } | RStmt::Delete { .. } => {
+            with_found(List::new(alloc), found)
+        }
     }
-    all.push(found)?;
-    Ok(all)
 }
 
 /// The keyword that a statement begins with.

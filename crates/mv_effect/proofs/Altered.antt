@@ -34,8 +34,8 @@ use Rattle.mv_recorded.specs.Asking.{on, pred_of, same_key, columns_in}
 use Rattle.mv_recorded.specs.Doing.{write, changed}
 use Rattle.mv_recorded.proofs.Setting.{then_ok}
 use Rattle.mv_effect.specs.declared.effect.Effect.{Effect}
-use Rattle.mv_effect.specs.Effects.{IsEffect, changes, only_end, slots_behind}
-use Rattle.mv_effect.proofs.Chosen.{asks, asked_of, then_err, same_ok, rows_asked}
+use Rattle.mv_effect.specs.Effects.{IsEffect, asks, asked_then, changes, writing, new_of, inserting, only_end, slots_behind}
+use Rattle.mv_effect.proofs.Chosen.{asked_of, then_err, same_ok, rows_asked}
 
 -- an effect that asks, sets variables and changes rows
 abbrev pub altered : List Pred → List Slot → List Write → Effect
@@ -46,7 +46,7 @@ altered preds sets writes = record { preds = preds; sets = sets; rows = []; writ
 -- what a DELETE does that found these rows
 pub delete_goes : (tables : List TableInfo) (t : ℕ) (conds : List RCond) (env : Env) (db : List (List Keyed)) (pred : Pred) (rows : List Keyed)
     → asks tables t conds [] env ≡ Ok pred → rows ≡ found_by pred db
-    → IsEffect tables (Delete t conds) env db (altered (pred ∷ []) (slots_behind (with_found env (is_some_row rows)) (env.found ∷ [])) (map (λ item. write t item.key patch.Delete) rows))
+    → IsEffect tables (Delete t conds) env db (writing pred (is_some_row rows) (map (λ item. write t item.key patch.Delete) rows) env)
 delete_goes tables t conds env db pred rows h found = λ lines.
     let a = asked_of tables t conds [] env pred h in
     let rows_are = rows_asked tables t a.checks [] pred db rows a.is found in
@@ -108,12 +108,8 @@ writes_are t items new (r ∷ rs) ws h =
     sym (same_ok later.2) ∙ (ap (λ l. write t r.key (changed items made.0) ∷ l) (writes_are t items new rs later.0 later.1)
     ∙ ap (λ o. on o (λ row. write t r.key (changed items row) ∷ []) ++ written_of t items new rs) (sym made.1))
 
--- what the SET of a statement makes of a row of a table
-abbrev pub new_of : List TableInfo → ℕ → Env → List RSetItem → New
-new_of tables t env items row = set_row (columns_at tables t) (key_columns tables t) env row items row
-
 -- what an UPDATE does that ends at a row that it found
-pub update_unset : (tables : List TableInfo) (t : ℕ) (items : List RSetItem) (conds : List RCond) (env : Env) (db : List (List Keyed)) (pred : Pred) (rows : List Keyed) (e : End)
+update_unset : (tables : List TableInfo) (t : ℕ) (items : List RSetItem) (conds : List RCond) (env : Env) (db : List (List Keyed)) (pred : Pred) (rows : List Keyed) (e : End)
     → asks tables t conds (flat_map (λ i. columns_in i.right) items) env ≡ Ok pred → rows ≡ found_by pred db → changes t items (new_of tables t env items) rows ≡ Err e
     → IsEffect tables (Update t items conds) env db (only_end (pred ∷ []) e)
 update_unset tables t items conds env db pred rows e h found k = λ lines.
@@ -123,7 +119,7 @@ update_unset tables t items conds env db pred rows e h found k = λ lines.
     rw (a.are, stops) (ap (λ p. only_end (p ∷ []) e) a.is)
 
 -- what an UPDATE does that found these rows and makes new ones of all
-pub update_goes : (tables : List TableInfo) (t : ℕ) (items : List RSetItem) (conds : List RCond) (env : Env) (db : List (List Keyed)) (pred : Pred) (rows : List Keyed) (ws : List Write)
+update_goes : (tables : List TableInfo) (t : ℕ) (items : List RSetItem) (conds : List RCond) (env : Env) (db : List (List Keyed)) (pred : Pred) (rows : List Keyed) (ws : List Write)
     → asks tables t conds (flat_map (λ i. columns_in i.right) items) env ≡ Ok pred → rows ≡ found_by pred db → changes t items (new_of tables t env items) rows ≡ Ok ws
     → IsEffect tables (Update t items conds) env db (altered (pred ∷ []) (slots_behind (with_found env (is_some_row rows)) (env.found ∷ [])) ws)
 update_goes tables t items conds env db pred rows ws h found k = λ lines.
@@ -136,6 +132,16 @@ update_goes tables t items conds env db pred rows ws h found k = λ lines.
     (ap (λ p. altered (p ∷ []) (slots_behind (with_found env (is_some_row rows)) (env.found ∷ [])) ws) a.is
     ∙ (ap (λ l. altered (pred_of tables t a.checks cs ∷ []) (slots_behind (with_found env (is_some_row rows)) (env.found ∷ [])) l) (writes_are t items new rows ws k)
     ∙ ap (λ l. altered (pred_of tables t a.checks cs ∷ []) (slots_behind (with_found env (is_some_row l)) (env.found ∷ [])) (written_of t items new l)) rows_are))
+
+-- what an UPDATE does that found these rows
+pub update_done : (tables : List TableInfo) (t : ℕ) (items : List RSetItem) (conds : List RCond) (env : Env) (db : List (List Keyed)) (pred : Pred) (rows : List Keyed)
+    → asks tables t conds (flat_map (λ i. columns_in i.right) items) env ≡ Ok pred → rows ≡ found_by pred db
+    → IsEffect tables (Update t items conds) env db (asked_then pred (changes t items (new_of tables t env items) rows) (λ ws. writing pred (is_some_row rows) ws env))
+update_done tables t items conds env db pred rows h found = by (changes t items (new_of tables t env items) rows) refl
+  where
+    by : (r : Result (List Write) End) → changes t items (new_of tables t env items) rows ≡ r → IsEffect tables (Update t items conds) env db (asked_then pred r (λ ws. writing pred (is_some_row rows) ws env))
+    by (Ok ws) k = update_goes tables t items conds env db pred rows ws h found k
+    by (Err e) k = update_unset tables t items conds env db pred rows e h found k
 
 -- INSERT
 
@@ -227,7 +233,7 @@ found_key : (tables : List TableInfo) (t : ℕ) (row : List Value) (pred : Pred)
 found_key tables t row pred db rows is found = sym (rows_asked tables t (same_key (key_columns tables t) row) [] pred db rows is found)
 
 -- what an INSERT does that found a row with its key
-pub insert_twice : (tables : List TableInfo) (t : ℕ) (es : List RExpr) (env : Env) (db : List (List Keyed)) (row : List Value) (pred : Pred) (rows : List Keyed)
+insert_twice : (tables : List TableInfo) (t : ℕ) (es : List RExpr) (env : Env) (db : List (List Keyed)) (row : List Value) (pred : Pred) (rows : List Keyed)
     → KeysStand tables db → IsRising (rows_at db t) → new_row (columns_at tables t) es env ≡ Ok row → pred ≡ pred_of tables t (same_key (key_columns tables t) row) []
     → rows ≡ found_by pred db → is_some_row rows ≡ true → IsEffect tables (Insert t es) env db (only_end (pred ∷ []) Duplicate)
 insert_twice tables t es env db row pred rows stand rising made is found some = λ lines.
@@ -239,7 +245,7 @@ insert_twice tables t es env db row pred rows stand rising made is found some = 
     by (x ∷ xs) e m = put_twice (key_columns tables t) row (rows_at db t) x xs (own_of (key_columns tables t) (rows_at db t) (stand t)) (rises_from (rows_at db t) rising) m
 
 -- what an INSERT does that found none
-pub insert_goes : (tables : List TableInfo) (t : ℕ) (es : List RExpr) (env : Env) (db : List (List Keyed)) (row : List Value) (pred : Pred) (rows : List Keyed) (item : Keyed)
+insert_goes : (tables : List TableInfo) (t : ℕ) (es : List RExpr) (env : Env) (db : List (List Keyed)) (row : List Value) (pred : Pred) (rows : List Keyed) (item : Keyed)
     → KeysStand tables db → new_row (columns_at tables t) es env ≡ Ok row → pred ≡ pred_of tables t (same_key (key_columns tables t) row) []
     → rows ≡ found_by pred db → is_some_row rows ≡ false → item ≡ keyed (key_columns tables t) row
     → IsEffect tables (Insert t es) env db (altered (pred ∷ []) (slots_behind (with_found env true) (env.found ∷ [])) (write t item.key (patch.Insert item.row) ∷ []))
@@ -252,3 +258,13 @@ insert_goes tables t es env db row pred rows item stand made is found none same 
     empty : (l : List Keyed) → is_some_row l ≡ false → l ≡ []
     empty [] e = refl
     empty (x ∷ xs) e = cc
+
+-- what an INSERT does that found these rows under its key
+pub insert_done : (tables : List TableInfo) (t : ℕ) (es : List RExpr) (env : Env) (db : List (List Keyed)) (row : List Value) (pred : Pred) (rows : List Keyed)
+    → KeysStand tables db → IsRising (rows_at db t) → new_row (columns_at tables t) es env ≡ Ok row → pred ≡ pred_of tables t (same_key (key_columns tables t) row) []
+    → rows ≡ found_by pred db → IsEffect tables (Insert t es) env db (inserting tables t row pred (is_some_row rows) env)
+insert_done tables t es env db row pred rows stand rising made is found = by (is_some_row rows) refl
+  where
+    by : (b : Bool) → is_some_row rows ≡ b → IsEffect tables (Insert t es) env db (inserting tables t row pred b env)
+    by true some = insert_twice tables t es env db row pred rows stand rising made is found some
+    by false none = insert_goes tables t es env db row pred rows (keyed (key_columns tables t) row) stand made is found none refl

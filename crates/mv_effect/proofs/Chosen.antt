@@ -2,7 +2,6 @@
 use Rattle.std.proofs.Common.{◌≡◌, ℕ, ℤ, pos, Bool, true, false, ◌||◌, List, [], ◌∷◌, ◌++◌, Option, Some, None, Result, Ok, Err, length, refl, sym, ap, ◌∙◌}
 use Rattle.std.specs.Option.{is_some}
 use Rattle.mv_values.specs.declared.value.Value.{Value}
-use Rattle.mv_values.specs.declared.patch.Write.{Write}
 use Rattle.mv_values.specs.declared.pred.Pred.{Pred}
 use Rattle.mv_values.specs.declared.rows.Keyed.{Keyed}
 use Rattle.mv_values.specs.declared.schema.TableInfo.{TableInfo}
@@ -19,7 +18,9 @@ use Rattle.mv_catalog.specs.declared.resolved.RStmt.{RStmt}
 use Rattle.mv_catalog.specs.declared.resolved.RStmt.TheOpen.{Select, Total, ForSelect}
 use Rattle.mv_alone.specs.declared.state.Check.{Check}
 use Rattle.mv_alone.specs.declared.state.Env.{Env}
-use Rattle.mv_alone.specs.Outcome.{then_do}
+use Rattle.mv_alone.specs.declared.state.Stop.{Stop}
+use Rattle.mv_alone.specs.declared.state.Stop.TheVariants.{Memory, Ended}
+use Rattle.mv_alone.specs.Outcome.{Fails, then_do}
 use Rattle.mv_alone.specs.Env.{scalar_at, truth, with_value, with_values, with_found}
 use Rattle.mv_alone.specs.Value.{number, is_so, fitted}
 use Rattle.mv_alone.specs.Rows.{checks_of, matching, ordered, item_at, aggregate, total, is_some_row, sum_of, distinct, projected, column}
@@ -30,15 +31,11 @@ use Rattle.mv_recorded.specs.Doing.{when, gives_always}
 use Rattle.mv_recorded.specs.Reading.{each_once}
 use Rattle.mv_recorded.proofs.Setting.{then_ok}
 use Rattle.mv_effect.specs.declared.effect.Effect.{Effect}
-use Rattle.mv_effect.specs.Effects.{IsEffect, only_end, slots_behind}
+use Rattle.mv_effect.specs.Effects.{EndsBy, IsEffect, effect_of, asks, asked_by, asked_then, row_number, taking, totalling, going, only_end, slots_behind}
 use Rattle.mv_effect.proofs.Variables.{found_has, same_found}
 use Rattle.mv_effect.proofs.Matching.{found_matching, matching_all}
 
 -- What was asked
-
--- what a statement asks, if the right sides of WHERE give values
-abbrev pub asks : List TableInfo → ℕ → List RCond → List ℕ → Env → Result Pred End
-asks tables t conds cs env = then_do (checks_of conds env) (λ checks. Ok (pred_of tables t checks cs))
 
 -- the tests of what was asked
 pub record Asks (tables : List TableInfo) (t : ℕ) (conds : List RCond) (cs : List ℕ) (env : Env) (pred : Pred) : Type 0 where
@@ -112,32 +109,64 @@ gives (Max c) (row ∷ rows) o h = ap is_some (sym (same_ok h))
 
 -- SELECT
 
--- an effect with these variables set, rows and changes
-abbrev pub filled : Effect → List Slot → List (List Value) → List Write → Effect
-filled e sets rows writes = record { preds = e.preds; sets = sets; rows = rows; writes = writes; line = e.line; end = e.end }
+-- what was asked, with the value
+pub both_asked : {A B : Type 0} (r : Result A End) (o : Result B End) (x : A × B) → ◌≡◌ {A = Result (A × B) Effect} (Ok x) (asked_by r o) → (r ≡ Ok x.0) × (o ≡ Ok x.1)
+both_asked (Ok a) (Ok b) x h = (ap (λ p. Ok p.0) (sym (same_pair h)), ap (λ p. Ok p.1) (sym (same_pair h)))
+  where
+    same_pair : {C D : Type 0} {p q : C × D} → ◌≡◌ {A = Result (C × D) Effect} (Ok p) (Ok q) → p ≡ q
+    same_pair e = cc
+both_asked (Ok a) (Err e) x h = cc
+both_asked (Err e) o x h = cc
+
+same_err : {A : Type 0} {x y : Effect} → ◌≡◌ {A = Result A Effect} (Err x) (Err y) → x ≡ y
+same_err h = cc
 
 -- an effect that asks, sets variables and fixes rows
 abbrev pub made : List Pred → List Slot → List (List Value) → Effect
 made preds sets rows = record { preds = preds; sets = sets; rows = rows; writes = []; line = None; end = None }
 
--- what a SELECT does that found these rows and chose this one of them
-pub select_goes : (tables : List TableInfo) (cs xs : List ℕ) (t : ℕ) (conds : List RCond) (sorts : List RSort) (offset : Option RExpr) (env : Env) (db : List (List Keyed)) (pred : Pred) (v : Value) (rows : List Keyed) (chosen : Option Keyed)
-    → asks tables t conds (with_sorts cs sorts) env ≡ Ok pred → offset_of offset env ≡ Ok v → rows ≡ found_by pred db → chosen ≡ item_at (ordered sorts (matching [] rows)) (number v)
-    → IsEffect tables (Select cs xs t conds sorts offset) env db (made (pred ∷ []) (slots_behind (taken cs xs chosen env) (when (is_some chosen) (each_once xs) ++ env.found ∷ [])) [])
-select_goes tables cs xs t conds sorts offset env db pred v rows chosen h k found is = λ lines.
+-- what a SELECT does that found these rows
+pub select_goes : (tables : List TableInfo) (cs xs : List ℕ) (t : ℕ) (conds : List RCond) (sorts : List RSort) (offset : Option RExpr) (env : Env) (db : List (List Keyed)) (pred : Pred) (z : ℤ) (rows : List Keyed)
+    → asks tables t conds (with_sorts cs sorts) env ≡ Ok pred → row_number offset env ≡ Ok z → rows ≡ found_by pred db
+    → IsEffect tables (Select cs xs t conds sorts offset) env db (taking pred cs xs (item_at (ordered sorts (matching [] rows)) z) env)
+select_goes tables cs xs t conds sorts offset env db pred z rows h k found = λ lines.
     let a = asked_of tables t conds (with_sorts cs sorts) env pred h in
+    let v = then_ok (offset_of offset env) (λ v. Ok (number v)) z k in
+    let at : number v.0 ≡ z = same_ok v.2 in
     let rows_are = rows_asked tables t a.checks (with_sorts cs sorts) pred db rows a.is found in
-    let item : Option Keyed = item_at (ordered sorts (matching a.checks (rows_at db t))) (number v) in
-    let same : chosen ≡ item = is ∙ ap (λ l. item_at (ordered sorts l) (number v)) (matching_all rows ∙ rows_are) in
-    rw (a.are, k)
-    (ap (λ p. made (p ∷ []) (slots_behind (taken cs xs chosen env) (when (is_some chosen) (each_once xs) ++ env.found ∷ [])) []) a.is
-    ∙ (ap (λ o. made (pred_of tables t a.checks (with_sorts cs sorts) ∷ []) (slots_behind (taken cs xs o env) (when (is_some o) (each_once xs) ++ env.found ∷ [])) []) same
+    let chosen : Option Keyed = item_at (ordered sorts (matching [] rows)) z in
+    let item : Option Keyed = item_at (ordered sorts (matching a.checks (rows_at db t))) (number v.0) in
+    let same : chosen ≡ item = ap (λ l. item_at (ordered sorts l) z) (matching_all rows ∙ rows_are) ∙ ap (item_at (ordered sorts (matching a.checks (rows_at db t)))) (sym at) in
+    rw (a.are, v.1)
+    (ap (λ p. taking p cs xs chosen env) a.is
+    ∙ (ap (λ o. taking (pred_of tables t a.checks (with_sorts cs sorts)) cs xs o env) same
     ∙ ap (λ ns. made (pred_of tables t a.checks (with_sorts cs sorts) ∷ []) (slots_behind (taken cs xs item env) ns) []) (taken_named env cs xs item)))
+
+-- what a SELECT does that is stopped before it looks at rows
+pub select_unasked : (tables : List TableInfo) (cs xs : List ℕ) (t : ℕ) (conds : List RCond) (sorts : List RSort) (offset : Option RExpr) (env : Env) (db : List (List Keyed)) (e : Effect)
+    → Err e ≡ asked_by (asks tables t conds (with_sorts cs sorts) env) (row_number offset env) → IsEffect tables (Select cs xs t conds sorts offset) env db e
+select_unasked tables cs xs t conds sorts offset env db e h = by (checks_of conds env) refl (offset_of offset env) refl h
+  where
+    by : (r : Result (List Check) End) → checks_of conds env ≡ r → (o : Result Value End) → offset_of offset env ≡ o
+        → Err e ≡ asked_by (then_do r (λ checks. Ok (pred_of tables t checks (with_sorts cs sorts)))) (then_do o (λ v. Ok (number v)))
+        → (lines : List (List ℕ)) → e ≡ effect_of tables (Select cs xs t conds sorts offset) (record { env = env; tables = db; lines = lines })
+    by (Ok cs') are (Ok v) is k lines = cc
+    by (Ok cs') are (Err d) is k lines = rw (are, is) (same_err k)
+    by (Err d) are (Ok v) is k lines = rw (are, is) (same_err k)
+    by (Err d) are (Err f) is k lines = rw (are, is) (same_err k)
+
+-- where OFFSET is stopped it ends so
+pub row_unasked : (r : Result Pred End) (pred : Pred) (offset : Option RExpr) (env : Env) (stop : Stop) (preds : List Pred) (e : Effect)
+    → r ≡ Ok pred → Fails stop (offset_of offset env) → preds ≡ [] → EndsBy stop preds e → ◌≡◌ {A = Result (Pred × ℤ) Effect} (Err e) (asked_by r (row_number offset env))
+row_unasked r pred offset env Memory preds e is h none ends = absurd ends
+row_unasked r pred offset env (Ended d) preds e is h none ends =
+    ap (λ x. Err x) (ends ∙ ap (λ ps. only_end ps d) none)
+    ∙ sym (ap (λ q. asked_by q (row_number offset env)) is ∙ ap (λ (o : Result Value End). asked_by (Ok pred) (then_do o (λ v. Ok (number v)))) h)
 
 -- Aggregates
 
 -- what an aggregate does whose total doesn't fit
-pub total_unfit : (tables : List TableInfo) (agg : RAgg) (x t : ℕ) (conds : List RCond) (env : Env) (db : List (List Keyed)) (pred : Pred) (rows : List Keyed) (e : End)
+total_unfit : (tables : List TableInfo) (agg : RAgg) (x t : ℕ) (conds : List RCond) (env : Env) (db : List (List Keyed)) (pred : Pred) (rows : List Keyed) (e : End)
     → asks tables t conds (column_in agg) env ≡ Ok pred → rows ≡ found_by pred db → aggregate agg (matching [] rows) ≡ Err e → IsEffect tables (Total agg x t conds) env db (only_end (pred ∷ []) e)
 total_unfit tables agg x t conds env db pred rows e h found k = λ lines.
     let a = asked_of tables t conds (column_in agg) env pred h in
@@ -146,7 +175,7 @@ total_unfit tables agg x t conds env db pred rows e h found k = λ lines.
     rw (a.are, fails) (ap (λ p. only_end (p ∷ []) e) a.is)
 
 -- what an aggregate does that found these rows and gives this total
-pub total_goes : (tables : List TableInfo) (agg : RAgg) (x t : ℕ) (conds : List RCond) (env : Env) (db : List (List Keyed)) (pred : Pred) (rows : List Keyed) (o : Option Value)
+total_goes : (tables : List TableInfo) (agg : RAgg) (x t : ℕ) (conds : List RCond) (env : Env) (db : List (List Keyed)) (pred : Pred) (rows : List Keyed) (o : Option Value)
     → asks tables t conds (column_in agg) env ≡ Ok pred → rows ≡ found_by pred db → aggregate agg (matching [] rows) ≡ Ok o
     → IsEffect tables (Total agg x t conds) env db (made (pred ∷ []) (slots_behind (with_found (totalled x o env) (is_some_row (matching [] rows))) (when (is_some o) (x ∷ []) ++ env.found ∷ [])) [])
 total_goes tables agg x t conds env db pred rows o h found k = λ lines.
@@ -160,16 +189,26 @@ total_goes tables agg x t conds env db pred rows o h found k = λ lines.
     ∙ (ap (λ l. made (p ∷ []) (slots_behind (with_found (totalled x o env) (is_some_row l)) (when (is_some o) (x ∷ []) ++ env.found ∷ [])) []) rows_are
     ∙ ap (λ ns. made (p ∷ []) (slots_behind (with_found (totalled x o env) some) ns) []) (total_named env x o (gives_always agg) some (gives agg (matching a.checks (rows_at db t)) o gives_here))))
 
+-- what an aggregate does that found these rows
+pub total_done : (tables : List TableInfo) (agg : RAgg) (x t : ℕ) (conds : List RCond) (env : Env) (db : List (List Keyed)) (pred : Pred) (rows : List Keyed)
+    → asks tables t conds (column_in agg) env ≡ Ok pred → rows ≡ found_by pred db
+    → IsEffect tables (Total agg x t conds) env db (asked_then pred (aggregate agg (matching [] rows)) (λ total. totalling pred x total (is_some_row (matching [] rows)) env))
+total_done tables agg x t conds env db pred rows h found = by (aggregate agg (matching [] rows)) refl
+  where
+    by : (r : Result (Option Value) End) → aggregate agg (matching [] rows) ≡ r
+        → IsEffect tables (Total agg x t conds) env db (asked_then pred r (λ total. totalling pred x total (is_some_row (matching [] rows)) env))
+    by (Ok o) k = total_goes tables agg x t conds env db pred rows o h found k
+    by (Err e) k = total_unfit tables agg x t conds env db pred rows e h found k
+
 -- FOR
 
--- what a FOR does that found these rows and has these turns
-pub for_goes : (tables : List TableInfo) (x : ℕ) (once : Bool) (cs : List ℕ) (t : ℕ) (conds : List RCond) (sorts : List RSort) (body : List RStmt) (env : Env) (db : List (List Keyed)) (pred : Pred) (rows : List Keyed) (turns : List (List Value))
-    → asks tables t conds (with_sorts cs sorts) env ≡ Ok pred → rows ≡ found_by pred db → turns ≡ fixed once cs sorts (matching [] rows)
-    → IsEffect tables (ForSelect x once cs t conds sorts body) env db (made (pred ∷ []) (slots_behind (with_found env (is_turn turns)) (env.found ∷ [])) turns)
-for_goes tables x once cs t conds sorts body env db pred rows turns h found is = λ lines.
+-- what a FOR does that found these rows
+pub for_goes : (tables : List TableInfo) (x : ℕ) (once : Bool) (cs : List ℕ) (t : ℕ) (conds : List RCond) (sorts : List RSort) (body : List RStmt) (env : Env) (db : List (List Keyed)) (pred : Pred) (rows : List Keyed)
+    → asks tables t conds (with_sorts cs sorts) env ≡ Ok pred → rows ≡ found_by pred db
+    → IsEffect tables (ForSelect x once cs t conds sorts body) env db (going pred (fixed once cs sorts (matching [] rows)) env)
+for_goes tables x once cs t conds sorts body env db pred rows h found = λ lines.
     let a = asked_of tables t conds (with_sorts cs sorts) env pred h in
     let rows_are = matching_all rows ∙ rows_asked tables t a.checks (with_sorts cs sorts) pred db rows a.is found in
-    let same : turns ≡ fixed once cs sorts (matching a.checks (rows_at db t)) = is ∙ ap (fixed once cs sorts) rows_are in
     rw a.are
-    (ap (λ q. made (q ∷ []) (slots_behind (with_found env (is_turn turns)) (env.found ∷ [])) turns) a.is
-    ∙ ap (λ ts. made (pred_of tables t a.checks (with_sorts cs sorts) ∷ []) (slots_behind (with_found env (is_turn ts)) (env.found ∷ [])) ts) same)
+    (ap (λ p. going p (fixed once cs sorts (matching [] rows)) env) a.is
+    ∙ ap (λ l. going (pred_of tables t a.checks (with_sorts cs sorts)) (fixed once cs sorts l) env) rows_are)

@@ -1,16 +1,23 @@
 -- Statements that are stopped, and what these have asked.
-use Rattle.std.proofs.Common.{◌≡◌, List, Result, Ok, Err, IfOk, sym, ap, subst, ◌∙◌}
+use Rattle.std.proofs.Common.{◌≡◌, List, [], ◌∷◌, Result, Ok, Err, IfOk, sym, ap, ◌∙◌}
+use Rattle.mv_values.specs.declared.memory.NoMemory.{NoMemory}
 use Rattle.mv_values.specs.declared.pred.Pred.{Pred}
 use Rattle.mv_values.specs.declared.calls.End.{End}
 use Rattle.mv_alone.specs.declared.state.Stop.{Stop}
 use Rattle.mv_alone.specs.declared.state.Stop.TheVariants.{Memory, Ended}
 use Rattle.mv_alone.specs.Outcome.{Fails}
-use Rattle.mv_view.specs.declared.view.Refused.{Refused}
 use Rattle.mv_effect.specs.declared.effect.Effect.{Effect}
-use Rattle.mv_effect.specs.Effects.{IsStopped, only_end}
+use Rattle.mv_effect.specs.Effects.{EndsBy, asked_then, only_end}
 
--- what is said of an effect that only ends the call is so where the statement was stopped
-pub when_stopped : {A : Type 0} (preds asked : List Pred) (stop : Stop) (r : Result Effect Refused) (meant : Result A End) (P : Effect → Type 0)
-    → preds ≡ asked → IsStopped preds stop r → Fails stop meant → ((e : End) → meant ≡ Err e → P (only_end asked e)) → IfOk r P
-when_stopped preds asked Memory r meant P same is h go = subst (λ (x : Result Effect Refused). IfOk x P) (sym is) tt
-when_stopped preds asked (Ended e) r meant P same is h go = subst (λ (x : Result Effect Refused). IfOk x P) (sym (is ∙ ap (λ ps. Ok (only_end ps e)) same)) (go e h)
+-- a statement goes on with a value
+pub goes_on : {A : Type 0} (pred : Pred) (meant : Result A End) (go : A → Effect) (x : A) (r : Result Effect NoMemory) (made : Effect)
+    → meant ≡ Ok x → IfOk r (λ e. e ≡ made) → made ≡ go x → IfOk r (λ e. e ≡ asked_then pred meant go)
+goes_on pred meant go x (Err n) made is h same = tt
+goes_on pred meant go x (Ok e) made is h same = h ∙ (same ∙ sym (ap (λ m. asked_then pred m go) is))
+
+-- it ends where there is none
+pub ends_there : {A : Type 0} (pred : Pred) (meant : Result A End) (go : A → Effect) (preds : List Pred) (stop : Stop) (r : Result Effect NoMemory)
+    → preds ≡ pred ∷ [] → IfOk r (EndsBy stop preds) → Fails stop meant → IfOk r (λ e. e ≡ asked_then pred meant go)
+ends_there pred meant go preds stop (Err n) same is h = tt
+ends_there pred meant go preds Memory (Ok e) same is h = absurd is
+ends_there pred meant go preds (Ended d) (Ok e) same is h = is ∙ (ap (λ ps. only_end ps d) same ∙ sym (ap (λ m. asked_then pred m go) h))

@@ -1,5 +1,6 @@
 -- What a statement does by itself: what its record tells, but for its place, its controller and what it reads.
-use Rattle.std.specs.Prelude.{◌≡◌, ℕ, ◌==◌, List, [], ◌∷◌, Option, Some, None, Result, Ok, Err, map, if◌then◌else◌}
+use Rattle.std.specs.Prelude.{◌≡◌, ℕ, ℤ, ◌==◌, Bool, ◌++◌, List, [], ◌∷◌, true, Option, Some, None, Result, Ok, Err, map, if◌then◌else◌}
+use Rattle.std.specs.Option.{is_some}
 use Rattle.std.specs.Result.{result_err}
 use Rattle.mv_values.specs.declared.value.Value.{Value}
 use Rattle.mv_values.specs.declared.patch.Write.{Write}
@@ -7,20 +8,30 @@ use Rattle.mv_values.specs.declared.pred.Pred.{Pred}
 use Rattle.mv_values.specs.declared.rows.Keyed.{Keyed}
 use Rattle.mv_values.specs.declared.schema.TableInfo.{TableInfo}
 use Rattle.mv_values.specs.declared.calls.End.{End}
+use Rattle.mv_values.specs.declared.calls.End.TheVariants.{Duplicate}
+use Rattle.mv_values.specs.declared.patch.Patch.TheVariants.{Insert}
+use Rattle.mv_values.specs.Tables.{columns_at, key_columns}
 use Rattle.mv_catalog.specs.declared.resolved.RStmt.{RStmt}
 use Rattle.mv_catalog.specs.declared.resolved.RStmt.TheOpen.{RStmt-F}
+use Rattle.mv_catalog.specs.declared.resolved.RExpr.{RExpr}
 use Rattle.mv_catalog.specs.declared.resolved.RSetItem.{RSetItem}
+use Rattle.mv_catalog.specs.declared.resolved.RCond.{RCond}
 use Rattle.mv_alone.specs.Outcome.{then_do}
 use Rattle.mv_alone.specs.declared.state.Env.{Env}
 use Rattle.mv_alone.specs.declared.state.State.{State}
-use Rattle.mv_alone.specs.Env.{scalar_at}
+use Rattle.mv_alone.specs.Env.{scalar_at, with_found}
+use Rattle.mv_alone.specs.Value.{number}
+use Rattle.mv_alone.specs.Alone.{offset_of, taken, totalled, is_turn}
+use Rattle.mv_alone.specs.Rows.{checks_of}
+use Rattle.mv_alone.specs.Changes.{set_row, keyed}
 use Rattle.mv_record.specs.declared.record.Slot.{Slot}
 use Rattle.mv_alone.specs.declared.state.Stop.{Stop}
 use Rattle.mv_alone.specs.declared.state.Stop.TheVariants.{Memory, Ended}
 use Rattle.mv_view.specs.declared.view.Refused.{Refused}
 use Rattle.mv_view.specs.declared.view.Refused.TheVariants.{NoMemory}
-use Rattle.mv_recorded.specs.Asking.{on, preds_of}
-use Rattle.mv_recorded.specs.Doing.{fixed_rows, itself, sets_of, writes_of, printed_line, write, changed}
+use Rattle.mv_recorded.specs.Asking.{on, pred_of, preds_of}
+use Rattle.mv_recorded.specs.Reading.{each_once}
+use Rattle.mv_recorded.specs.Doing.{when, fixed_rows, itself, sets_of, writes_of, printed_line, write, changed}
 use Rattle.mv_effect.specs.declared.effect.Effect.{Effect}
 
 -- what a statement does from a state on
@@ -59,6 +70,16 @@ abbrev pub IsStopped : List Pred → Stop → Result Effect Refused → Type 0
 IsStopped preds Memory answer = answer ≡ Err NoMemory
 IsStopped preds (Ended e) answer = (answer ≡ Ok (only_end preds e))
 
+-- an effect of a statement that was stopped: it only ends the call, and there is none where memory ran out
+abbrev pub EndsBy : Stop → List Pred → Effect → Type 0
+EndsBy Memory preds effect = ⊥
+EndsBy (Ended e) preds effect = effect ≡ only_end preds e
+
+-- a statement that asked this: what it does with a value, or the end where there is none
+abbrev pub asked_then : {A : Type 0} → Pred → Result A End → (A → Effect) → Effect
+asked_then pred (Ok x) go = go x
+asked_then pred (Err e) go = only_end (pred ∷ []) e
+
 -- variables, with the values that they have behind a statement
 abbrev pub slots_behind : Env → List ℕ → List Slot
 slots_behind env xs = map (λ x. record { slot = x; value = scalar_at env x }) xs
@@ -69,7 +90,46 @@ last_column [] cs x last = last
 last_column (y ∷ ys) [] x last = last
 last_column (y ∷ ys) (c ∷ cs) x last = last_column ys cs x (if y == x then Some c else last)
 
+-- what a statement asks of a table, where the right sides of WHERE have values
+abbrev pub asks : List TableInfo → ℕ → List RCond → List ℕ → Env → Result Pred End
+asks tables t conds cs env = then_do (checks_of conds env) (λ checks. Ok (pred_of tables t checks cs))
+
+-- what a statement asks of a table, and a value that it needs before it looks there, or its effect where it ends before
+abbrev pub asked_by : {A B : Type 0} → Result A End → Result B End → Result (A × B) Effect
+asked_by (Ok a) (Ok b) = Ok (a, b)
+asked_by (Ok a) (Err e) = Err (only_end [] e)
+asked_by (Err e) b = Err (only_end [] e)
+
+-- the number of the row that a SELECT takes
+abbrev pub row_number : Option RExpr → Env → Result ℤ End
+row_number offset env = then_do (offset_of offset env) (λ v. Ok (number v))
+
+-- a statement that asked this and takes this row
+abbrev pub taking : Pred → List ℕ → List ℕ → Option Keyed → Env → Effect
+taking pred cs xs item env = record (only_asks pred) { sets = slots_behind (taken cs xs item env) (when (is_some item) (each_once xs) ++ env.found ∷ []) }
+
+-- a statement that asked this and gives this total
+abbrev pub totalling : Pred → ℕ → Option Value → Bool → Env → Effect
+totalling pred x total found env = record (only_asks pred) { sets = slots_behind (with_found (totalled x total env) found) (when (is_some total) (x ∷ []) ++ env.found ∷ []) }
+
+-- a statement that asked this and goes through these rows
+abbrev pub going : Pred → List (List Value) → Env → Effect
+going pred turns env = record (only_asks pred) { sets = slots_behind (with_found env (is_turn turns)) (env.found ∷ []); rows = turns }
+
+-- a statement that asked this, where it found something or not, and writes this
+abbrev pub writing : Pred → Bool → List Write → Env → Effect
+writing pred found ws env = record (only_asks pred) { sets = slots_behind (with_found env found) (env.found ∷ []); writes = ws }
+
 -- what SET writes to rows, up to the first one at which it faults
 abbrev pub changes : ℕ → List RSetItem → (List Value → Result (List Value) End) → List Keyed → Result (List Write) End
 changes t items new [] = Ok []
 changes t items new (item ∷ rest) = then_do (new item.row) (λ row. then_do (changes t items new rest) (λ ws. Ok (write t item.key (changed items row) ∷ ws)))
+
+-- what SET makes of a row of a table
+abbrev pub new_of : List TableInfo → ℕ → Env → List RSetItem → List Value → Result (List Value) End
+new_of tables t env items row = set_row (columns_at tables t) (key_columns tables t) env row items row
+
+-- an INSERT of a row that asked this, where a row with its key is there or not
+abbrev pub inserting : List TableInfo → ℕ → List Value → Pred → Bool → Env → Effect
+inserting tables t row pred there env =
+    if there then only_end (pred ∷ []) Duplicate else writing pred true (write t (keyed (key_columns tables t) row).key (Insert row) ∷ []) env

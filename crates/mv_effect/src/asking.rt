@@ -8,6 +8,7 @@ ghost use Rattle.mv_alone.specs.Rows.{checks_of};
 ghost use Rattle.mv_recorded.specs.Asking.{test_of, pred_of, same_key, columns_in, column_in, with_sorts};
 ghost use Rattle.mv_values.specs.Tables.{key_columns};
 ghost use Rattle.mv_catalog.specs.Text.{IsTable};
+ghost use Rattle.mv_effect.specs.Effects.{asks};
 ghost use Rattle.mv_effect.specs.Looking.{KnowsKey};
 ghost use Rattle.mv_effect.specs.Naming.{Tests, AreColumns};
 
@@ -57,7 +58,7 @@ pub(crate) fn pred_from(
     requires each { All IsTable tables.now }
     requires tests { Tests tables.now table conds.now }
     requires columns { AreColumns tables.now table columns.now }
-    ensures asks { Gives result (then_do (checks_of conds.now env.now) (λ checks. Ok (pred_of tables.now table checks columns.now))) }
+    ensures asks { Gives result (asks tables.now table conds.now columns.now env.now) }
     ensures knows { IfOk result (KnowsKey tables.now) }
 {
     let tests = tests_from(alloc, key_in(tables, table), conds, env)?;
@@ -70,11 +71,7 @@ pub(crate) fn pred_from(
 }
 
 /// These columns, and those of ORDER BY.
-pub(crate) fn sorted_columns(
-    alloc: Global,
-    columns: &[u16],
-    sorts: &[RSort],
-) -> Result<List<u16>, NoMemory>
+fn sorted_columns(alloc: Global, columns: &[u16], sorts: &[RSort]) -> Result<List<u16>, NoMemory>
     ensures { IfOk result (λ all. all ≡ with_sorts columns.now sorts.now) }
 {
     let mut all = List::new(alloc);
@@ -85,8 +82,29 @@ pub(crate) fn sorted_columns(
     Ok(all)
 }
 
+/// What a statement asks that sees these columns and those of ORDER BY. Stopped where a right side of WHERE is.
+pub(crate) fn pred_sorted(
+    alloc: Global,
+    tables: &[TableInfo],
+    columns: &[u16],
+    table: u16,
+    conds: &[RCond],
+    sorts: &[RSort],
+    env: &Env,
+) -> Result<Pred, Stop>
+    requires few { length tables.now ≤ 64 }
+    requires each { All IsTable tables.now }
+    requires tests { Tests tables.now table conds.now }
+    requires columns { AreColumns tables.now table (with_sorts columns.now sorts.now) }
+    ensures asks { Gives result (asks tables.now table conds.now (with_sorts columns.now sorts.now) env.now) }
+    ensures knows { IfOk result (KnowsKey tables.now) }
+{
+    let asked = sorted_columns(alloc, columns, sorts)?;
+    pred_from(alloc, tables, table, conds, asked.as_slice(), env)
+}
+
 /// The column of an aggregate, where it has one.
-pub(crate) fn aggregate_columns(alloc: Global, agg: RAgg) -> Result<List<u16>, NoMemory>
+fn aggregate_columns(alloc: Global, agg: RAgg) -> Result<List<u16>, NoMemory>
     ensures { IfOk result (λ all. all ≡ column_in agg) }
 {
     let mut all = List::new(alloc);
@@ -97,6 +115,26 @@ pub(crate) fn aggregate_columns(alloc: Global, agg: RAgg) -> Result<List<u16>, N
         }
     }
     Ok(all)
+}
+
+/// What an aggregate asks. Stopped where a right side of WHERE is.
+pub(crate) fn pred_added(
+    alloc: Global,
+    tables: &[TableInfo],
+    agg: RAgg,
+    table: u16,
+    conds: &[RCond],
+    env: &Env,
+) -> Result<Pred, Stop>
+    requires few { length tables.now ≤ 64 }
+    requires each { All IsTable tables.now }
+    requires tests { Tests tables.now table conds.now }
+    requires columns { AreColumns tables.now table (column_in agg) }
+    ensures asks { Gives result (asks tables.now table conds.now (column_in agg) env.now) }
+    ensures knows { IfOk result (KnowsKey tables.now) }
+{
+    let asked = aggregate_columns(alloc, agg)?;
+    pred_from(alloc, tables, table, conds, asked.as_slice(), env)
 }
 
 /// Adds the columns that stand by themselves in an expression.
@@ -115,7 +153,7 @@ fn add_columns(columns: &mut List<u16>, expr: &RExpr) -> Result<(), NoMemory>
 }
 
 /// The columns in the right sides of SET.
-pub(crate) fn right_columns(alloc: Global, items: &[RSetItem]) -> Result<List<u16>, NoMemory>
+fn right_columns(alloc: Global, items: &[RSetItem]) -> Result<List<u16>, NoMemory>
     ensures { IfOk result (λ all. all ≡ flat_map (λ i. columns_in i.right) items.now) }
 {
     let mut all = List::new(alloc);
@@ -123,6 +161,26 @@ pub(crate) fn right_columns(alloc: Global, items: &[RSetItem]) -> Result<List<u1
         add_columns(&mut all, &item.right)?;
     }
     Ok(all)
+}
+
+/// What an UPDATE asks: the columns in the right sides of SET. Stopped where a right side of WHERE is.
+pub(crate) fn pred_set(
+    alloc: Global,
+    tables: &[TableInfo],
+    table: u16,
+    items: &[RSetItem],
+    conds: &[RCond],
+    env: &Env,
+) -> Result<Pred, Stop>
+    requires few { length tables.now ≤ 64 }
+    requires each { All IsTable tables.now }
+    requires tests { Tests tables.now table conds.now }
+    requires columns { AreColumns tables.now table (flat_map (λ i. columns_in i.right) items.now) }
+    ensures asks { Gives result (asks tables.now table conds.now (flat_map (λ i. columns_in i.right) items.now) env.now) }
+    ensures knows { IfOk result (KnowsKey tables.now) }
+{
+    let asked = right_columns(alloc, items)?;
+    pred_from(alloc, tables, table, conds, asked.as_slice(), env)
 }
 
 /// The tests that each key column equals the row's.

@@ -1,23 +1,22 @@
 //! Statements that change the rows of a table.
 
-ghost use Rattle.std.specs.Prelude.{◌≡◌, ◌<◌, ◌≤◌, ◌^◌, ◌∷◌, [], ℕ, IfOk, All, map, length};
+ghost use Rattle.std.specs.Prelude.{◌≡◌, ◌<◌, ◌≤◌, ◌^◌, ◌∷◌, [], ℕ, IfOk, Ok, All, map, length};
 ghost use Rattle.mv_values.specs.declared.patch.Patch.TheVariants as patch;
-ghost use Rattle.mv_values.specs.Columns.{column_of};
 ghost use Rattle.mv_values.specs.Patching.{applied};
-ghost use Rattle.mv_values.specs.Tables.{columns_at, key_columns};
 ghost use Rattle.mv_catalog.specs.declared.resolved.RSetItem.{RSetItem};
 ghost use Rattle.mv_catalog.specs.declared.resolved.RStmt.TheOpen as layer;
-ghost use Rattle.mv_alone.specs.Changes.{set_row};
-ghost use Rattle.mv_alone.specs.Outcome.{Gives};
+ghost use Rattle.mv_alone.specs.Changes.{keyed};
+ghost use Rattle.mv_alone.specs.Outcome.{Gives, then_do};
+ghost use Rattle.mv_alone.specs.Rows.{is_some_row};
 ghost use Rattle.mv_recorded.specs.Doing.{changed, write};
 ghost use Rattle.mv_undo.specs.Owning.{earlier};
 ghost use Rattle.mv_view.specs.Viewing.{MayAnswer};
-ghost use Rattle.mv_effect.specs.Effects.{IsEffect, changes};
+ghost use Rattle.mv_effect.specs.Effects.{IsEffect, asked_then, changes, inserting, new_of, writing};
 ghost use Rattle.mv_effect.specs.Looking.{Stands, IsSameView, PassesOn, different, AskedAtMost, AskedFor};
 ghost use Rattle.mv_effect.specs.Naming.{Tests, Sets};
 
-use crate::asking::{key_pred, pred_from, right_columns};
-use crate::effect::{Effect, asking, ended, one, stopped};
+use crate::asking::{key_pred, pred_from, pred_set};
+use crate::effect::{Effect, ended, ended_by, one, setting, stopped};
 use crate::here::Here;
 use crate::looking::{is_any, seen};
 use crate::numbers::narrow;
@@ -32,11 +31,64 @@ use mv_values::copied::Copied;
 use mv_values::list::List;
 use mv_values::memory::NoMemory;
 use mv_values::patch::{Assign, Patch, Write};
+use mv_values::pred::Pred;
 use mv_values::rows::{Keyed, Rows};
 use mv_values::schema::TableInfo;
-use mv_values::value::{Key, Value};
+use mv_values::value::{Key, Row, Value};
 use mv_view::view::{Refused, View};
 use std::alloc::Global;
+
+/// The effect of a statement that asked this, where it found something or not, and writes this.
+fn writing(
+    alloc: Global,
+    env: &Env,
+    pred: Pred,
+    found: bool,
+    writes: List<Write>,
+) -> Result<Effect, NoMemory>
+    requires { env.now.found < 2 ^ 16 }
+    ensures { IfOk result (λ e. e ≡ writing pred found writes env.now) }
+{
+    let sets = found_alone(alloc, env, found)?;
+    let mut effect = setting(alloc, pred, sets)?;
+    effect.writes = writes;
+    Ok(effect)
+}
+
+/// That a row is put under its key.
+fn insertion(alloc: Global, table: u8, keys: &[u8], row: Row) -> Result<List<Write>, NoMemory>
+    ensures { IfOk result (λ writes. writes ≡ write table (keyed keys.now row).key (patch.Insert row) ∷ []) }
+{
+    let item = under_key(alloc, keys, row)?;
+    let mut writes = List::new(alloc);
+    writes.push(Write {
+        table,
+        key: item.key,
+        patch: Patch::Insert(item.row),
+    })?;
+    Ok(writes)
+}
+
+/// What an INSERT of this row does that asked this, where a row with its key is there or not.
+fn inserted(
+    alloc: Global,
+    tables: &[TableInfo],
+    table: u16,
+    env: &Env,
+    pred: Pred,
+    row: Row,
+    there: bool,
+) -> Result<Effect, NoMemory>
+    requires table { table < 256 }
+    requires found { env.now.found < 2 ^ 16 }
+    ensures { IfOk result (λ e. e ≡ inserting tables.now table row pred there env.now) }
+{
+    if there {
+        return Ok(ended(alloc, one(alloc, pred)?, End::Duplicate));
+    }
+    let writes = insertion(alloc, narrow(table), key_in(tables, table), row)?;
+    writing(alloc, env, pred, true, writes)
+}
 
 /// INSERT writes its row, and sets `:found`. It ends the call where a value is stopped, and where a row with the key is
 /// there, which it asks for by a test of each key column.
@@ -63,18 +115,15 @@ pub(crate) fn insert<V: View>(
     };
     let pred = key_pred(alloc, here.tables, table, row.as_slice())?;
     let rows = seen(alloc, here, &pred, view)?;
-    if is_any(&rows) {
-        return Ok(ended(alloc, one(alloc, pred)?, End::Duplicate));
-    }
-    let item = under_key(alloc, key_in(here.tables, table), row)?;
-    let mut effect = asking(alloc, pred)?;
-    effect.sets = found_alone(alloc, here.env, true)?;
-    effect.writes.push(Write {
-        table: narrow(table),
-        key: item.key,
-        patch: Patch::Insert(item.row),
-    })?;
-    Ok(effect)
+    Ok(inserted(
+        alloc,
+        here.tables,
+        table,
+        here.env,
+        pred,
+        row,
+        is_any(&rows),
+    )?)
 }
 
 /// That the rows are no more.
@@ -90,6 +139,17 @@ fn deletes(alloc: Global, table: u8, rows: Rows) -> Result<List<Write>, NoMemory
         })?;
     }
     Ok(writes)
+}
+
+/// What a DELETE does that asked this and found these rows.
+fn deleted(alloc: Global, env: &Env, table: u16, pred: Pred, rows: Rows) -> Result<Effect, NoMemory>
+    requires table { table < 256 }
+    requires found { env.now.found < 2 ^ 16 }
+    ensures { IfOk result (λ e. e ≡ writing pred (is_some_row rows) (map (λ item. write table item.key patch.Delete) rows) env.now) }
+{
+    let found = is_any(&rows);
+    let writes = deletes(alloc, narrow(table), rows)?;
+    writing(alloc, env, pred, found, writes)
 }
 
 /// DELETE takes out the rows that match, and sets `:found`. It ends the call where a right side of WHERE is stopped.
@@ -115,10 +175,7 @@ pub(crate) fn delete<V: View>(
         Err(stop) => return stopped(alloc, List::new(alloc), stop),
     };
     let rows = seen(alloc, here, &pred, view)?;
-    let mut effect = asking(alloc, pred)?;
-    effect.sets = found_alone(alloc, here.env, is_any(&rows))?;
-    effect.writes = deletes(alloc, narrow(table), rows)?;
-    Ok(effect)
+    Ok(deleted(alloc, here.env, table, pred, rows)?)
 }
 
 /// The columns of SET, with their values in the row behind it.
@@ -136,7 +193,7 @@ fn assigns(alloc: Global, items: &[RSetItem], row: &[Value]) -> Result<List<Assi
     Ok(all)
 }
 
-/// What SET makes of the row under a key.
+/// What SET writes to the row under a key, behind which it is this row.
 fn set_write(
     alloc: Global,
     table: u8,
@@ -147,11 +204,30 @@ fn set_write(
     requires { All (λ (i : RSetItem). i.column < 256) items.now }
     ensures { IfOk result (λ w. w ≡ write table key.now (changed items.now row.now)) }
 {
+    let patch = Patch::Set(assigns(alloc, items, row)?);
     Ok(Write {
         table,
         key: key.copy(alloc)?,
-        patch: Patch::Set(assigns(alloc, items, row)?),
+        patch,
     })
+}
+
+/// What SET makes of a row. Stopped where the row that it makes is.
+fn write_for(
+    alloc: Global,
+    tables: &[TableInfo],
+    table: u16,
+    env: &Env,
+    items: &[RSetItem],
+    item: &Keyed,
+) -> Result<Write, Stop>
+    requires table { table < 256 }
+    requires columns { All (λ (i : RSetItem). i.column < 256) items.now }
+    ensures { Gives result (then_do (new_of tables.now table env.now items.now item.now.row) (λ row. Ok (write table item.now.key (changed items.now row)))) }
+{
+    let columns = columns_in(tables, table);
+    let row = row_after_set(alloc, columns, key_in(tables, table), env, &item.row, items)?;
+    Ok(set_write(alloc, narrow(table), &item.key, items, row.as_slice())?)
 }
 
 /// What SET makes of the rows. Stopped by the first row where it is, so that nothing is written.
@@ -165,16 +241,35 @@ fn set_writes(
 ) -> Result<List<Write>, Stop>
     requires table { table < 256 }
     requires columns { All (λ (i : RSetItem). i.column < 256) items.now }
-    ensures { Gives result (changes table items.now (λ row. set_row (columns_at tables.now table) (key_columns tables.now table) env.now row items.now row) rows.now) }
+    ensures { Gives result (changes table items.now (new_of tables.now table env.now items.now) rows.now) }
 {
-    let columns = columns_in(tables, table);
-    let keys = key_in(tables, table);
     let mut writes = List::new(alloc);
     for item in rows {
-        let row = row_after_set(alloc, columns, keys, env, &item.row, items)?;
-        writes.push(set_write(alloc, narrow(table), &item.key, items, row.as_slice())?)?;
+        let write = write_for(alloc, tables, table, env, items, item)?;
+        writes.push(write)?;
     }
     Ok(writes)
+}
+
+/// What an UPDATE does that asked this and found these rows.
+fn updated(
+    alloc: Global,
+    tables: &[TableInfo],
+    table: u16,
+    env: &Env,
+    items: &[RSetItem],
+    pred: Pred,
+    rows: &Rows,
+) -> Result<Effect, NoMemory>
+    requires table { table < 256 }
+    requires columns { All (λ (i : RSetItem). i.column < 256) items.now }
+    requires found { env.now.found < 2 ^ 16 }
+    ensures { IfOk result (λ e. e ≡ asked_then pred (changes table items.now (new_of tables.now table env.now items.now) rows.now) (λ ws. writing pred (is_some_row rows.now) ws env.now)) }
+{
+    match set_writes(alloc, tables, table, env, items, rows.as_slice()) {
+        Ok(writes) => writing(alloc, env, pred, is_any(rows), writes),
+        Err(stop) => ended_by(alloc, one(alloc, pred)?, stop),
+    }
 }
 
 /// UPDATE writes the rows that match, each made anew, and sets `:found`. It ends the call where a right side of WHERE or
@@ -198,18 +293,10 @@ pub(crate) fn update<V: View>(
     ensures bounded { AskedAtMost 1 (different (earlier here.now.number here.now.undo.now)) (V.sight view.old) (V.sight view.new) }
     ensures looks { IfOk result (λ e. AskedFor e.preds (earlier here.now.number here.now.undo.now) (V.sight view.old) (V.sight view.new)) }
 {
-    let asked = right_columns(alloc, items)?;
-    let pred = match pred_from(alloc, here.tables, table, conds, asked.as_slice(), here.env) {
+    let pred = match pred_set(alloc, here.tables, table, items, conds, here.env) {
         Ok(pred) => pred,
         Err(stop) => return stopped(alloc, List::new(alloc), stop),
     };
     let rows = seen(alloc, here, &pred, view)?;
-    let writes = match set_writes(alloc, here.tables, table, here.env, items, rows.as_slice()) {
-        Ok(writes) => writes,
-        Err(stop) => return stopped(alloc, one(alloc, pred)?, stop),
-    };
-    let mut effect = asking(alloc, pred)?;
-    effect.sets = found_alone(alloc, here.env, is_any(&rows))?;
-    effect.writes = writes;
-    Ok(effect)
+    Ok(updated(alloc, here.tables, table, here.env, items, pred, &rows)?)
 }

@@ -1,7 +1,7 @@
 //! What a statement does by itself.
 
 ghost use Rattle.std.specs.Prelude.{◌≡◌, ◌∷◌, [], IfOk};
-ghost use Rattle.mv_effect.specs.Effects.{empty, only_asks, only_end, IsStopped};
+ghost use Rattle.mv_effect.specs.Effects.{empty, only_asks, only_end, EndsBy, IsStopped};
 
 use mv_alone::state::Stop;
 use mv_record::record::Slot;
@@ -75,6 +75,25 @@ pub(crate) fn ended(alloc: Global, preds: List<Pred>, end: End) -> Effect
         writes: List::new(alloc),
         line: None,
         end: Some(end),
+    }
+}
+
+/// The effect of a statement that asks this and sets these variables.
+pub(crate) fn setting(alloc: Global, pred: Pred, sets: List<Slot>) -> Result<Effect, NoMemory>
+    ensures { IfOk result (λ e. e ≡ record (only_asks pred) { sets = sets }) }
+{
+    let mut effect = asking(alloc, pred)?;
+    effect.sets = sets;
+    Ok(effect)
+}
+
+/// The effect of a statement that was stopped when it had asked this. No memory where it was stopped by want of it.
+pub(crate) fn ended_by(alloc: Global, preds: List<Pred>, stop: Stop) -> Result<Effect, NoMemory>
+    ensures { IfOk result (EndsBy stop preds) }
+{
+    match stop {
+        Stop::Memory => Err(NoMemory),
+        Stop::Ended(end) => Ok(ended(alloc, preds, end)),
     }
 }
 

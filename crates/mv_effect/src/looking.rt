@@ -1,14 +1,14 @@
 //! The rows that a statement sees: those of a view, behind the call's own writes.
 
-ghost use Rattle.std.specs.Prelude.{◌≡◌, ◌<◌, None, IfOk, length, if◌then◌else◌, List};
+ghost use Rattle.std.specs.Prelude.{◌≡◌, ◌<◌, None, IfOk, OnOk, length, if◌then◌else◌, List};
 ghost use Rattle.mv_values.specs.declared.value.Value.{Value};
-ghost use Rattle.mv_values.specs.Patching.{row_of, applied, found_by};
+ghost use Rattle.mv_values.specs.Patching.{row_of, placed, applied, found_by};
 ghost use Rattle.mv_values.specs.Tables.{rows_at};
 ghost use Rattle.mv_alone.specs.Rows.{is_some_row};
 ghost use Rattle.mv_record.specs.Admitting.{Admitted};
 ghost use Rattle.mv_record.specs.Writes.{AreRising};
 ghost use Rattle.mv_undo.specs.Owning.{earlier, is_among};
-ghost use Rattle.mv_view.specs.Viewing.{MayAnswer};
+ghost use Rattle.mv_view.specs.Viewing.{MayAnswer, answered, with_row_call};
 ghost use Rattle.mv_effect.specs.Looking.{different, KnowsKey, Stands, IsSameView, PassesOn, AskedAtMost};
 
 use crate::here::Here;
@@ -19,6 +19,23 @@ use mv_values::rows::Rows;
 use mv_values::value::Key;
 use mv_view::view::{Refused, View};
 use std::alloc::Global;
+
+/// Puts the view's row under a key of a table among others. It asks for it.
+fn add_row<V: View>(
+    alloc: Global,
+    table: u8,
+    key: &Key,
+    own: &mut Rows,
+    view: &mut V,
+) -> Result<(), Refused>
+    ensures found { OnOk result (own.new ≡ placed key.now (row_of (rows_at (V.sight view.old).database table) key.now) own.old) }
+    ensures counts { V.sight view.new ≡ answered result (with_row_call (V.sight view.old)) }
+    ensures stale { MayAnswer (V.sight view.old) (V.sight view.new) result }
+{
+    let row = view.row(alloc, table, key)?;
+    put_row(alloc, own, key, row)?;
+    Ok(())
+}
 
 /// The view's rows under these keys of a table. It asks for each of them.
 fn rows_under<V: View>(
@@ -35,8 +52,7 @@ fn rows_under<V: View>(
 {
     let mut own = Rows::new(alloc);
     for key in keys {
-        let row = view.row(alloc, table, key)?;
-        put_row(alloc, &mut own, key, row)?;
+        add_row(alloc, table, key, &mut own, view)?;
     }
     Ok(own)
 }

@@ -1,19 +1,22 @@
 //! Statements that look at a table and change none.
 
-ghost use Rattle.std.specs.Prelude.{◌≡◌, ◌<◌, ◌^◌, ℕ, IfOk, List};
+ghost use Rattle.std.specs.Prelude.{◌≡◌, ◌<◌, ◌≤◌, ◌^◌, ℕ, IfOk, List, [], All, length};
+ghost use Rattle.mv_values.specs.Keys.{IsRising};
 ghost use Rattle.mv_values.specs.Patching.{applied};
 ghost use Rattle.mv_catalog.specs.declared.resolved.RStmt.{RStmt};
 ghost use Rattle.mv_catalog.specs.declared.resolved.RStmt.TheOpen as layer;
-ghost use Rattle.mv_alone.specs.Rows.{is_some_row};
+ghost use Rattle.mv_catalog.specs.Text.{IsTable};
+ghost use Rattle.mv_alone.specs.Alone.{fixed};
+ghost use Rattle.mv_alone.specs.Rows.{aggregate, is_some_row, item_at, matching, ordered};
 ghost use Rattle.mv_recorded.specs.Asking.{column_in, with_sorts};
 ghost use Rattle.mv_undo.specs.Owning.{earlier};
 ghost use Rattle.mv_view.specs.Viewing.{MayAnswer};
-ghost use Rattle.mv_effect.specs.Effects.{IsEffect};
-ghost use Rattle.mv_effect.specs.Looking.{Stands, IsSameView, PassesOn, different, AskedAtMost, AskedFor};
+ghost use Rattle.mv_effect.specs.Effects.{IsEffect, asks, asked_by, asked_then, row_number, going, taking, totalling};
+ghost use Rattle.mv_effect.specs.Looking.{KnowsKey, Stands, IsSameView, PassesOn, different, AskedAtMost, AskedFor};
 ghost use Rattle.mv_effect.specs.Naming.{Tests, AreColumns};
 
-use crate::asking::{aggregate_columns, pred_from, sorted_columns};
-use crate::effect::{Effect, asking, nothing, one, stopped};
+use crate::asking::{pred_added, pred_sorted};
+use crate::effect::{Effect, ended_by, one, setting, stopped};
 use crate::here::Here;
 use crate::looking::seen;
 use crate::plainly::has_turn;
@@ -22,11 +25,63 @@ use mv_alone::expr::{number_in, offset};
 use mv_alone::find::has_match;
 use mv_alone::fixing::fixed_rows;
 use mv_alone::order::chosen_row;
+use mv_alone::state::Env;
 use mv_alone::totals::aggregate_of;
 use mv_catalog::resolved::{RAgg, RCond, RExpr, RSort};
 use mv_values::list::List;
+use mv_values::memory::NoMemory;
+use mv_values::pred::Pred;
+use mv_values::rows::Keyed;
+use mv_values::value::{Row, Value};
 use mv_view::view::{Refused, View};
 use std::alloc::Global;
+
+/// What a SELECT asks, and the number of its row, or what it does where a right side of WHERE or OFFSET is stopped.
+fn asked_row(
+    alloc: Global,
+    here: &Here<'_>,
+    columns: &[u16],
+    table: u16,
+    conds: &[RCond],
+    sorts: &[RSort],
+    at: &Option<RExpr>,
+) -> Result<Result<(Pred, i64), Effect>, NoMemory>
+    requires few { length here.now.tables.now ≤ 64 }
+    requires each { All IsTable here.now.tables.now }
+    requires tests { Tests here.now.tables.now table conds.now }
+    requires columns { AreColumns here.now.tables.now table (with_sorts columns.now sorts.now) }
+    ensures asks { IfOk result (λ asked. asked ≡ asked_by (asks here.now.tables.now table conds.now (with_sorts columns.now sorts.now) here.now.env.now) (row_number at.now here.now.env.now)) }
+    ensures knows { IfOk result (λ asked. IfOk asked (λ r. KnowsKey here.now.tables.now r.0)) }
+{
+    let pred = match pred_sorted(alloc, here.tables, columns, table, conds, sorts, here.env) {
+        Ok(pred) => pred,
+        Err(stop) => return Ok(Err(ended_by(alloc, List::new(alloc), stop)?)),
+    };
+    match offset(alloc, at, here.env) {
+        Ok(at) => Ok(Ok((pred, number_in(&at)))),
+        Err(stop) => Ok(Err(ended_by(alloc, List::new(alloc), stop)?)),
+    }
+}
+
+/// What a SELECT does that asked this, takes the row of this number and found these rows.
+fn chosen(
+    alloc: Global,
+    env: &Env,
+    columns: &[u16],
+    to: &[u16],
+    sorts: &[RSort],
+    asked: (Pred, i64),
+    rows: &[Keyed],
+) -> Result<Effect, NoMemory>
+    requires rising { IsRising rows.now }
+    requires found { env.now.found < 2 ^ 16 }
+    ensures { IfOk result (λ e. e ≡ taking asked.0 columns.now to.now (item_at (ordered sorts.now (matching [] rows.now)) asked.1) env.now) }
+{
+    let (pred, at) = asked;
+    let item = chosen_row(alloc, &[], sorts, rows, at)?;
+    let sets = taken_slots(alloc, env, columns, to, item)?;
+    setting(alloc, pred, sets)
+}
 
 /// SELECT INTO sets its targets to the columns of the chosen row, where there is one, and `:found`. It ends the call where
 /// a right side of WHERE or OFFSET is stopped.
@@ -52,20 +107,46 @@ pub(crate) fn select<V: View>(
     ensures bounded { AskedAtMost 1 (different (earlier here.now.number here.now.undo.now)) (V.sight view.old) (V.sight view.new) }
     ensures looks { IfOk result (λ e. AskedFor e.preds (earlier here.now.number here.now.undo.now) (V.sight view.old) (V.sight view.new)) }
 {
-    let asked = sorted_columns(alloc, columns, sorts)?;
-    let pred = match pred_from(alloc, here.tables, table, conds, asked.as_slice(), here.env) {
-        Ok(pred) => pred,
-        Err(stop) => return stopped(alloc, List::new(alloc), stop),
+    let asked = match asked_row(alloc, here, columns, table, conds, sorts, at)? {
+        Ok(asked) => asked,
+        Err(end) => return Ok(end),
     };
-    let at = match offset(alloc, at, here.env) {
-        Ok(at) => number_in(&at),
-        Err(stop) => return stopped(alloc, List::new(alloc), stop),
-    };
-    let rows = seen(alloc, here, &pred, view)?;
-    let chosen = chosen_row(alloc, &[], sorts, rows.as_slice(), at)?;
-    let mut effect = asking(alloc, pred)?;
-    effect.sets = taken_slots(alloc, here.env, columns, to, chosen)?;
-    Ok(effect)
+    let rows = seen(alloc, here, &asked.0, view)?;
+    Ok(chosen(alloc, here.env, columns, to, sorts, asked, rows.as_slice())?)
+}
+
+/// The effect of an aggregate that asked this and gives this.
+fn totalled(
+    alloc: Global,
+    env: &Env,
+    to: u16,
+    pred: Pred,
+    total: Option<Value>,
+    found: bool,
+) -> Result<Effect, NoMemory>
+    requires { env.now.found < 2 ^ 16 }
+    ensures { IfOk result (λ e. e ≡ totalling pred to total found env.now) }
+{
+    let sets = total_slots(alloc, env, to, total, found)?;
+    setting(alloc, pred, sets)
+}
+
+/// What an aggregate does that asked this and found these rows.
+fn added(
+    alloc: Global,
+    env: &Env,
+    agg: RAgg,
+    to: u16,
+    pred: Pred,
+    rows: &[Keyed],
+) -> Result<Effect, NoMemory>
+    requires { env.now.found < 2 ^ 16 }
+    ensures { IfOk result (λ e. e ≡ asked_then pred (aggregate agg (matching [] rows.now)) (λ total. totalling pred to total (is_some_row (matching [] rows.now)) env.now)) }
+{
+    match aggregate_of(alloc, agg, &[], rows) {
+        Ok(total) => totalled(alloc, env, to, pred, total, has_match(&[], rows)),
+        Err(stop) => ended_by(alloc, one(alloc, pred)?, stop),
+    }
 }
 
 /// SELECT with an aggregate sets its target, where there is a total, and `:found`. It ends the call where a right side of
@@ -90,20 +171,41 @@ pub(crate) fn total<V: View>(
     ensures bounded { AskedAtMost 1 (different (earlier here.now.number here.now.undo.now)) (V.sight view.old) (V.sight view.new) }
     ensures looks { IfOk result (λ e. AskedFor e.preds (earlier here.now.number here.now.undo.now) (V.sight view.old) (V.sight view.new)) }
 {
-    let asked = aggregate_columns(alloc, agg)?;
-    let pred = match pred_from(alloc, here.tables, table, conds, asked.as_slice(), here.env) {
+    let pred = match pred_added(alloc, here.tables, agg, table, conds, here.env) {
         Ok(pred) => pred,
         Err(stop) => return stopped(alloc, List::new(alloc), stop),
     };
     let rows = seen(alloc, here, &pred, view)?;
-    let total = match aggregate_of(alloc, agg, &[], rows.as_slice()) {
-        Ok(total) => total,
-        Err(stop) => return stopped(alloc, one(alloc, pred)?, stop),
-    };
-    let found = has_match(&[], rows.as_slice());
-    let mut effect = asking(alloc, pred)?;
-    effect.sets = total_slots(alloc, here.env, to, total, found)?;
+    Ok(added(alloc, here.env, agg, to, pred, rows.as_slice())?)
+}
+
+/// What a FOR does that asked this and has these turns.
+fn turning(alloc: Global, env: &Env, pred: Pred, turns: List<Row>) -> Result<Effect, NoMemory>
+    requires { env.now.found < 2 ^ 16 }
+    ensures { IfOk result (λ e. e ≡ going pred turns env.now) }
+{
+    let sets = found_alone(alloc, env, has_turn(&turns))?;
+    let mut effect = setting(alloc, pred, sets)?;
+    effect.rows = turns;
     Ok(effect)
+}
+
+/// What a FOR does that asked this and found these rows.
+fn gone_through(
+    alloc: Global,
+    env: &Env,
+    once: bool,
+    columns: &[u16],
+    sorts: &[RSort],
+    pred: Pred,
+    rows: &[Keyed],
+) -> Result<Effect, NoMemory>
+    requires rising { IsRising rows.now }
+    requires found { env.now.found < 2 ^ 16 }
+    ensures { IfOk result (λ e. e ≡ going pred (fixed once columns.now sorts.now (matching [] rows.now)) env.now) }
+{
+    let turns = fixed_rows(alloc, once, columns, sorts, &[], rows)?;
+    turning(alloc, env, pred, turns)
 }
 
 /// FOR over SELECT fixes its rows, and sets `:found` to whether there is one. It ends the call where a right side of WHERE
@@ -129,15 +231,10 @@ pub(crate) fn for_select<V: View>(
     ensures bounded { AskedAtMost 1 (different (earlier here.now.number here.now.undo.now)) (V.sight view.old) (V.sight view.new) }
     ensures looks { IfOk result (λ e. AskedFor e.preds (earlier here.now.number here.now.undo.now) (V.sight view.old) (V.sight view.new)) }
 {
-    let asked = sorted_columns(alloc, columns, sorts)?;
-    let pred = match pred_from(alloc, here.tables, table, conds, asked.as_slice(), here.env) {
+    let pred = match pred_sorted(alloc, here.tables, columns, table, conds, sorts, here.env) {
         Ok(pred) => pred,
         Err(stop) => return stopped(alloc, List::new(alloc), stop),
     };
     let rows = seen(alloc, here, &pred, view)?;
-    let fixed = fixed_rows(alloc, once, columns, sorts, &[], rows.as_slice())?;
-    let mut effect = asking(alloc, pred)?;
-    effect.sets = found_alone(alloc, here.env, has_turn(&fixed))?;
-    effect.rows = fixed;
-    Ok(effect)
+    Ok(gone_through(alloc, here.env, once, columns, sorts, pred, rows.as_slice())?)
 }

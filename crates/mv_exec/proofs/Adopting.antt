@@ -1,5 +1,5 @@
 -- A record for the next statement, which a call first comes to.
-use Rattle.std.proofs.Common.{◌≡◌, Bool, true, false, [], ◌∷◌, ◌++◌, Some, None, Result, Ok, Err, OnOk, refl, sym, ap, subst, ◌∙◌}
+use Rattle.std.proofs.Common.{◌≡◌, Bool, true, false, [], ◌∷◌, ◌++◌, Some, None, Result, Ok, Err, OnOk, OnErr, refl, sym, ap, subst, ◌∙◌}
 use Rattle.mv_catalog.specs.declared.resolved.ProcInfo.{ProcInfo}
 use Rattle.mv_record.specs.declared.record.Record.{Record}
 use Rattle.mv_exec.specs.declared.task.Ahead.{Ahead}
@@ -47,3 +47,19 @@ adopts proc old mid new ahead given r next is before added = (
 pub on_ok : {T E : Type 0} (r : Result T E) (P Q : Type 0) → (P → Q) → OnOk r P → OnOk r Q
 on_ok (Ok x) P Q f h = f h
 on_ok (Err e) P Q f h = h
+
+-- and what one that is Err tells
+pub on_err : {T E : Type 0} {P Q : Type 0} (r : Result T E) → (P → Q) → OnErr r P → OnErr r Q
+on_err (Ok x) f h = h
+on_err (Err e) f h = f h
+
+-- a call stands as before where it does so twice
+pub before_both : (proc : ProcInfo) (old mid new : Task) → IsAsBefore proc old mid → IsAsBefore proc mid new → IsAsBefore proc old new
+before_both proc old mid new a b = record {
+  parameters = b.parameters ∙ a.parameters;
+  records = b.records ∙ a.records;
+  executed = b.executed ∙ a.executed;
+  undo = b.undo ∙ a.undo;
+  beginning = b.beginning ∙ a.beginning;
+  left = λ tables db. b.left tables db ∙ a.left tables db;
+}

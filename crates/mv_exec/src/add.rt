@@ -1,6 +1,6 @@
 //! Adds a record to a running call.
 
-ghost use Rattle.std.specs.Prelude.{◌≡◌, ◌<◌, ◌≤◌, ◌++◌, ◌∷◌, [], false, true, All, None, Some, List, length, slice_get, option_to_list, max, MatchOption, IfOk, OnOk, OnErr, IsSome};
+ghost use Rattle.std.specs.Prelude.{◌≡◌, ◌<◌, ◌≤◌, ◌+◌, ◌++◌, ◌∷◌, [], false, true, All, None, Some, List, length, slice_get, option_to_list, max, MatchOption, IfOk, OnOk, OnErr, IsSome};
 ghost use Rattle.mv_catalog.specs.Statements.{size_of};
 ghost use Rattle.mv_record.specs.declared.record.Record.{Record};
 ghost use Rattle.mv_exec.specs.declared.places.Place.{Place};
@@ -35,6 +35,14 @@ pub(crate) fn next_statement<'p>(
     Some((place, statement))
 }
 
+/// How many variables these need, where some need this many.
+fn room_with(most: usize, slot: &Slot) -> usize
+    ensures { result ≡ max most (slot.now.slot + 1) }
+{
+    let needed = slot.slot as usize + 1;
+    if needed > most { needed } else { most }
+}
+
 /// How many variables these need.
 #[tactic(auto, using(crate::proofs::Changing::room_next))]
 fn room_for(slots: &[Slot]) -> usize
@@ -42,10 +50,7 @@ fn room_for(slots: &[Slot]) -> usize
 {
     let mut most = 0;
     for slot in slots {
-        let needed = slot.slot as usize + 1;
-        if needed > most {
-            most = needed;
-        }
+        most = room_with(most, slot);
     }
     most
 }
@@ -131,9 +136,9 @@ fn finish(procedure: &ProcInfo, task: &mut Task, ends: bool) -> Stepped
 {
     if ends {
         task.ended = true;
-    } else {
-        trim(procedure, task);
+        return answer(task.ended);
     }
+    trim(procedure, task);
     answer(task.ended)
 }
 

@@ -5,8 +5,7 @@ ghost use Rattle.mv_exec.specs.Steps.{Adopts, IsOfProgram, TellsLeft};
 ghost use Rattle.mv_exec.specs.Tasks.{IsTask, IsAsBefore};
 
 use crate::add::add;
-use crate::peek::peek;
-use crate::settle::settle;
+use crate::peek::come_to;
 use crate::step::Stepped;
 use crate::task::{Ahead, Task};
 use mv_catalog::resolved::ProcInfo;
@@ -48,9 +47,6 @@ pub(crate) fn adopt(
     ensures found { task.new.env.found ≡ task.old.env.found }
     ensures err { OnErr result (IsAsBefore procedure.now task.old task.new) }
 {
-    let Some(ahead) = peek(alloc, procedure, task)? else {
-        unreachable!();
-    };
-    settle(alloc, procedure, task)?;
+    let ahead = come_to(alloc, procedure, task)?;
     add(alloc, procedure, task, placed(ahead, given))
 }

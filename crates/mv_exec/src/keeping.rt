@@ -1,6 +1,6 @@
 //! What a call keeps of its records beside them: its own writes, and who last set each variable.
 
-ghost use Rattle.std.specs.Prelude.{◌≡◌, ◌<◌, ◌≤◌, ◌++◌, All, ℕ, OnOk, OnErr};
+ghost use Rattle.std.specs.Prelude.{◌≡◌, ◌<◌, ◌≤◌, ◌++◌, All, ℕ, Some, slice_set, OnOk, OnErr};
 ghost use Rattle.mv_exec.specs.Keeping.{owned, HasMore, define, widened};
 ghost use Rattle.mv_exec.specs.Tasks.{definer_in};
 
@@ -63,13 +63,20 @@ pub(crate) fn widen(definers: &mut List<Option<usize>>, len: usize) -> Result<()
     Ok(())
 }
 
+/// Sets who last set a variable. One behind the end of the list is left out.
+fn set_definer(definers: &mut List<Option<usize>>, variable: u16, number: usize)
+    ensures { definers.new ≡ slice_set definers.old variable (Some number) }
+{
+    if (variable as usize) < definers.len() {
+        definers.set(variable as usize, Some(number));
+    }
+}
+
 /// Sets who last set these variables. A variable behind the end of the list is left out.
 pub(crate) fn set_definers(definers: &mut List<Option<usize>>, sets: &[Slot], number: usize)
     ensures { definers.new ≡ define definers.old sets.now number }
 {
     for set in sets {
-        if (set.slot as usize) < definers.len() {
-            definers.set(set.slot as usize, Some(number));
-        }
+        set_definer(definers, set.slot, number);
     }
 }

@@ -14,8 +14,7 @@ ghost use Rattle.mv_exec.specs.Steps.{TellsLeft};
 ghost use Rattle.mv_exec.specs.Tasks.{places_of, run_of, IsTask, IsAsBefore, IsNext};
 
 use crate::add::{add, next_statement};
-use crate::peek::peek;
-use crate::settle::settle;
+use crate::peek::come_to;
 use crate::step::Stepped;
 use crate::task::{Ahead, Task};
 use mv_catalog::resolved::ProcInfo;
@@ -121,9 +120,6 @@ pub(crate) fn next<V: View>(
     if task.ended {
         return Ok(Stepped::Ended);
     }
-    let Some(ahead) = peek(alloc, procedure, task)? else {
-        unreachable!();
-    };
-    settle(alloc, procedure, task)?;
+    let ahead = come_to(alloc, procedure, task)?;
     execute(alloc, tables, procedure, task, ahead, view)
 }

@@ -1,20 +1,20 @@
 //! The place, controller and definers of the next record.
 
-ghost use Rattle.std.specs.Prelude.{◌≡◌, ◌<◌, ◌≤◌, ◌^◌, true, false, map, IfOk};
+ghost use Rattle.std.specs.Prelude.{◌≡◌, ◌<◌, ◌≤◌, ◌^◌, true, false, Some, map, IfOk, OnOk, IsSome};
 ghost use Rattle.std.specs.Option.{option_or};
 ghost use Rattle.mv_catalog.specs.Statements.{size_of};
 ghost use Rattle.mv_catalog.specs.declared.resolved.RStmt.{out-RStmt};
 ghost use Rattle.mv_recorded.specs.Reading.{loop_of};
 ghost use Rattle.mv_recorded.specs.Recorded.{outside};
 ghost use Rattle.mv_record.specs.declared.record.Read.{Read};
-ghost use Rattle.mv_exec.specs.Places.{site_of, has_turn, next_turn};
-ghost use Rattle.mv_exec.specs.Tasks.{IsTask, IsNext, definer_in};
+ghost use Rattle.mv_exec.specs.Places.{site_of, has_turn, next_turn, IsReady};
+ghost use Rattle.mv_exec.specs.Tasks.{places_of, IsTask, IsNext, IsAsBefore, definer_in};
 ghost use Rattle.mv_exec.specs.Ahead.{IsAhead, ahead_at};
 
 use crate::around::{loop_around, parent_of, turns_around};
 use crate::places::{Holder, Place, block, holder_of, innermost, rows_of, statement_at};
 use crate::reading::variables_read;
-use crate::settle::{place_of_turn, set_innermost};
+use crate::settle::{place_of_turn, set_innermost, settle};
 use crate::task::{Ahead, Task};
 use mv_catalog::resolved::{ProcInfo, RStmt};
 use mv_record::record::{Read, Record, Spot};
@@ -29,16 +29,23 @@ impl Copied for Place {
     }
 }
 
+/// The number of the record that last set a variable, other than the row of a loop.
+fn last_definer(definers: &[Option<usize>], variable: u16) -> Option<usize>
+    ensures { result ≡ definer_in definers.now variable }
+{
+    match definers.get(variable as usize) {
+        Some(definer) => *definer,
+        None => None,
+    }
+}
+
 /// The number of the record that last set a variable: of a loop's row the FOR's.
 fn definer_of(places: &[Place], definers: &[Option<usize>], variable: u16) -> Option<usize>
     ensures { result ≡ option_or (loop_of variable (site_of outside places.now).loops) (definer_in definers.now variable) }
 {
     match loop_around(places, variable) {
         Some(record) => Some(record),
-        None => match definers.get(variable as usize) {
-            Some(definer) => *definer,
-            None => None,
-        },
+        None => last_definer(definers, variable),
     }
 }
 
@@ -149,4 +156,29 @@ pub(crate) fn peek(
     };
     let ahead = ahead_of(alloc, task, places.as_slice(), place.number, statement)?;
     Ok(Some(ahead))
+}
+
+/// The place, controller and definers of the next record. The place of its statement becomes the innermost one. After
+/// NoMemory the call is as before.
+pub(crate) fn come_to(
+    alloc: Global,
+    procedure: &ProcInfo,
+    task: &mut Task,
+) -> Result<Ahead, NoMemory>
+    requires task { IsTask procedure.now task.old }
+    requires live { task.old.ended ≡ false }
+    requires short { size_of procedure.now.body ≤ 1000 }
+    ensures next { IfOk result (λ ahead. IsNext procedure.now task.old (Some ahead)) }
+    ensures task { IsTask procedure.now task.new }
+    ensures same { IsAsBefore procedure.now task.old task.new }
+    ensures live { task.new.ended ≡ false }
+    ensures ready { OnOk result (IsReady procedure.now (places_of task.new)) }
+    ensures kept { OnOk result (IsSome task.new.first) }
+    ensures found { task.new.env.found ≡ task.old.env.found }
+{
+    let Some(ahead) = peek(alloc, procedure, task)? else {
+        unreachable!();
+    };
+    settle(alloc, procedure, task)?;
+    Ok(ahead)
 }

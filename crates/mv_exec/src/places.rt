@@ -1,6 +1,6 @@
 //! Where a running call stands in its procedure.
 
-ghost use Rattle.std.specs.Prelude.{◌≡◌, ◌-◌, ◌++◌, ◌∷◌, [], None, Some, length, slice_get, MatchOption, IfOk};
+ghost use Rattle.std.specs.Prelude.{◌≡◌, ◌-◌, ◌++◌, ◌∷◌, [], None, Some, nat_lt, length, slice_get, MatchOption, IfOk};
 ghost use Rattle.std.specs.Option.{option_copied};
 ghost use Rattle.mv_recorded.specs.Reading.{loop_of};
 ghost use Rattle.mv_recorded.specs.Recorded.{outside};
@@ -127,11 +127,18 @@ fn has_next_turn(records: &[Record], holder: Holder) -> bool
     }
 }
 
+/// Whether a statement is left in this list from a place on.
+fn is_before_end(block: &[RStmt], at: usize) -> bool
+    ensures { result ≡ nat_lt at (length block.now) }
+{
+    at < block.len()
+}
+
 /// Whether a statement or a turn is left at a place in this list.
 fn has_left(records: &[Record], block: &[RStmt], place: Place) -> bool
     ensures { result ≡ is_left records.now block.now place }
 {
-    place.at < block.len() || has_next_turn(records, place.holder)
+    is_before_end(block, place.at) || has_next_turn(records, place.holder)
 }
 
 /// How many of the places stay: nothing is left at those behind them.

@@ -14,3 +14,21 @@ look-requires-clause-before g c =
 pub look-requires-clause-behind : goal.look-requires-clause-behind
 look-requires-clause-behind g c =
     admitted c.args.here.now.tables.now c.args.pred.now (applied (earlier c.args.here.now.number c.args.here.now.undo.now) (g.V.View.sight c.args.view.now).database) c.requires.knows c.requires.stands.behind
+
+pub look-requires-clause-rising : goal.look-requires-clause-rising
+look-requires-clause-rising g c = c.requires.stands.database.rising
+
+pub returns-clause-found : goal.returns-clause-found
+returns-clause-found g c = c.look.ensures.found
+
+pub returns-clause-refused : goal.returns-clause-refused
+returns-clause-refused g c = c.look.ensures.refused
+
+pub returns-clause-stale : goal.returns-clause-stale
+returns-clause-stale g c = c.look.ensures.stale
+
+pub returns-clause-same : goal.returns-clause-same
+returns-clause-same g c = c.look.ensures.same
+
+pub returns-clause-looks : goal.returns-clause-looks
+returns-clause-looks g c = c.look.ensures.looks

@@ -60,3 +60,93 @@ returns-in-Print-clause-stale g c = c.print.ensures.stale (g.V.View.sight c.args
 
 pub returns-in-Rollback-clause-stale : goal.returns-in-Rollback-clause-stale
 returns-in-Rollback-clause-stale g c = c.rollback.ensures.stale (g.V.View.sight c.args.view.now)
+
+pub returns-in-Select-clause-refused : goal.returns-in-Select-clause-refused
+returns-in-Select-clause-refused g c = c.select.ensures.refused
+
+pub returns-in-Select-clause-stale : goal.returns-in-Select-clause-stale
+returns-in-Select-clause-stale g c = c.select.ensures.stale
+
+pub returns-in-Select-clause-same : goal.returns-in-Select-clause-same
+returns-in-Select-clause-same g c = c.select.ensures.same
+
+pub returns-in-Select-clause-bounded : goal.returns-in-Select-clause-bounded
+returns-in-Select-clause-bounded g c = c.select.ensures.bounded
+
+pub returns-in-Select-clause-looks : goal.returns-in-Select-clause-looks
+returns-in-Select-clause-looks g c = c.select.ensures.looks
+
+pub returns-in-Total-clause-refused : goal.returns-in-Total-clause-refused
+returns-in-Total-clause-refused g c = c.total.ensures.refused
+
+pub returns-in-Total-clause-stale : goal.returns-in-Total-clause-stale
+returns-in-Total-clause-stale g c = c.total.ensures.stale
+
+pub returns-in-Total-clause-same : goal.returns-in-Total-clause-same
+returns-in-Total-clause-same g c = c.total.ensures.same
+
+pub returns-in-Total-clause-bounded : goal.returns-in-Total-clause-bounded
+returns-in-Total-clause-bounded g c = c.total.ensures.bounded
+
+pub returns-in-Total-clause-looks : goal.returns-in-Total-clause-looks
+returns-in-Total-clause-looks g c = c.total.ensures.looks
+
+pub returns-in-ForSelect-clause-refused : goal.returns-in-ForSelect-clause-refused
+returns-in-ForSelect-clause-refused g c = c.for_select.ensures.refused
+
+pub returns-in-ForSelect-clause-stale : goal.returns-in-ForSelect-clause-stale
+returns-in-ForSelect-clause-stale g c = c.for_select.ensures.stale
+
+pub returns-in-ForSelect-clause-same : goal.returns-in-ForSelect-clause-same
+returns-in-ForSelect-clause-same g c = c.for_select.ensures.same
+
+pub returns-in-ForSelect-clause-bounded : goal.returns-in-ForSelect-clause-bounded
+returns-in-ForSelect-clause-bounded g c = c.for_select.ensures.bounded
+
+pub returns-in-ForSelect-clause-looks : goal.returns-in-ForSelect-clause-looks
+returns-in-ForSelect-clause-looks g c = c.for_select.ensures.looks
+
+pub returns-in-Insert-clause-refused : goal.returns-in-Insert-clause-refused
+returns-in-Insert-clause-refused g c = c.insert.ensures.refused
+
+pub returns-in-Insert-clause-stale : goal.returns-in-Insert-clause-stale
+returns-in-Insert-clause-stale g c = c.insert.ensures.stale
+
+pub returns-in-Insert-clause-same : goal.returns-in-Insert-clause-same
+returns-in-Insert-clause-same g c = c.insert.ensures.same
+
+pub returns-in-Insert-clause-bounded : goal.returns-in-Insert-clause-bounded
+returns-in-Insert-clause-bounded g c = c.insert.ensures.bounded
+
+pub returns-in-Insert-clause-looks : goal.returns-in-Insert-clause-looks
+returns-in-Insert-clause-looks g c = c.insert.ensures.looks
+
+pub returns-in-Update-clause-refused : goal.returns-in-Update-clause-refused
+returns-in-Update-clause-refused g c = c.update.ensures.refused
+
+pub returns-in-Update-clause-stale : goal.returns-in-Update-clause-stale
+returns-in-Update-clause-stale g c = c.update.ensures.stale
+
+pub returns-in-Update-clause-same : goal.returns-in-Update-clause-same
+returns-in-Update-clause-same g c = c.update.ensures.same
+
+pub returns-in-Update-clause-bounded : goal.returns-in-Update-clause-bounded
+returns-in-Update-clause-bounded g c = c.update.ensures.bounded
+
+pub returns-in-Update-clause-looks : goal.returns-in-Update-clause-looks
+returns-in-Update-clause-looks g c = c.update.ensures.looks
+
+pub returns-in-Delete-clause-refused : goal.returns-in-Delete-clause-refused
+returns-in-Delete-clause-refused g c = c.delete.ensures.refused
+
+pub returns-in-Delete-clause-stale : goal.returns-in-Delete-clause-stale
+returns-in-Delete-clause-stale g c = c.delete.ensures.stale
+
+pub returns-in-Delete-clause-same : goal.returns-in-Delete-clause-same
+returns-in-Delete-clause-same g c = c.delete.ensures.same
+
+pub returns-in-Delete-clause-bounded : goal.returns-in-Delete-clause-bounded
+returns-in-Delete-clause-bounded g c = c.delete.ensures.bounded
+
+pub returns-in-Delete-clause-looks : goal.returns-in-Delete-clause-looks
+returns-in-Delete-clause-looks g c = c.delete.ensures.looks
