@@ -1,5 +1,6 @@
 -- Lists without faults, and names found by their places.
-use Rattle.std.proofs.Common.{◌≡◌, ℕ, zero, suc, ◌<◌, ◌≤◌, ◌-◌, ◌^◌, Bool, true, false, not, ◌||◌, List, [], ◌∷◌, ◌++◌, Option, Some, refl, ap, map, length, slice_get, arith, if◌then◌else◌, All}
+use Rattle.std.proofs.Common.{◌≡◌, ℕ, zero, suc, ◌+◌, ◌<◌, ◌≤◌, ◌-◌, ◌^◌, Bool, true, false, not, ◌||◌, List, [], ◌∷◌, ◌++◌, Option, Some, Result, Ok, Err, OnOk, refl, ap, map, drop, get_or, length, slice_get, arith, if◌then◌else◌, All}
+use Rattle.std.proofs.lemmas.Grind.{common_steps}
 use Rattle.std.specs.List.{flat_map, AllByRecursion}
 use Rattle.mv_ast.proofs.Limited.{nothing_left as neither_left}
 use Rattle.std.proofs.lemmas.List.Elements.{All-nil, All-cons}
@@ -67,3 +68,13 @@ pub get_within : {A : Type 0} (xs : List A) (i : ℕ) (x : A) → slice_get xs i
 get_within [] i x h = cc
 get_within (y ∷ ys) zero x h = omega arith
 get_within (y ∷ ys) (suc i) x h = omega (arith, get_within ys i x h)
+
+-- one item more of a list that is built item by item, from the item at this place
+pub one_on : {A B : Type 0} (f : A → B) (xs : List A) (i : ℕ) (x : A) (all new : List B) (y : B) → x ≡ get_or xs i x → i < length xs → y ≡ f x → new ≡ all ++ y ∷ [] → all ++ map f (drop i xs) ≡ map f xs
+    → new ++ map f (drop (i + 1) xs) ≡ map f xs
+one_on f xs i x all new y at within is added so_far = grind (arith, common_steps)
+
+-- what holds anyhow holds of the Ok
+pub on_ok : {A E P : Type 0} (r : Result A E) → P → OnOk r P
+on_ok (Ok a) p = p
+on_ok (Err e) p = tt

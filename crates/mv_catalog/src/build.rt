@@ -9,9 +9,9 @@ ghost use Rattle.mv_ast.specs.declared.tree.VarDef.{VarDef as VarValue};
 ghost use Rattle.mv_ast.specs.declared.tree.ColDef.{ColDef as ColValue};
 ghost use Rattle.mv_catalog.specs.Building.{tiny, column_name, described, table_of, row_of, rows_of, param_of, procedure_of, copy_info, copy_of, argument_of, call_of, journal_of, resolved_parts};
 
-use crate::build_names::{number_of_found, slots, small_number, sum, tiny_number};
+use crate::build_names::{number_of_found, push_copy, slots, small_number, sum, tiny_number};
 use crate::build_statements::statements;
-use crate::resolved::{CopyInfo, ParamInfo, ProcInfo, Resolved};
+use crate::resolved::{CopyInfo, ParamInfo, ProcInfo, RStmt, Resolved};
 use mv_ast::tree::{
     Arg, CallDef, ColDef, CopyDef, LitRow, Name, Param, ParamKind, ProcDef, Span, TableDef, VarDef,
 };
@@ -77,7 +77,7 @@ fn row(alloc: Global, literals: &LitRow) -> Result<Row, NoMemory>
 {
     let mut all = List::new(alloc);
     for literal in literals.values.as_slice() {
-        all.push(literal.value.copy(alloc)?)?;
+        push_copy(alloc, &mut all, &literal.value)?;
     }
     Ok(all)
 }
@@ -139,22 +139,30 @@ fn defaults(alloc: Global, vars: &[VarDef]) -> Result<List<Value>, NoMemory>
 {
     let mut all = List::new(alloc);
     for var in vars {
-        all.push(var.initial.value.copy(alloc)?)?;
+        push_copy(alloc, &mut all, &var.initial.value)?;
     }
+    Ok(all)
+}
+
+/// The body of a procedure. Its first loop has the number behind that of `:found`.
+fn body(alloc: Global, tables: &[TableDef], definition: &ProcDef) -> Result<List<RStmt>, NoMemory>
+    ensures { IfOk result (λ all. all ≡ (procedure_of tables.now definition.now).body) }
+{
+    let mut slots = slots(alloc, definition)?;
+    let mut next = sum(number_of_found(definition)?, 1)?;
+    let body = definition.body.as_slice();
+    let all = statements(alloc, tables, body, &mut slots, &mut next)?;
     Ok(all)
 }
 
 fn procedure(alloc: Global, tables: &[TableDef], definition: &ProcDef) -> Result<ProcInfo, NoMemory>
     ensures { IfOk result (λ p. p ≡ procedure_of tables.now definition.now) }
 {
-    let mut slots = slots(alloc, definition)?;
-    let mut next = sum(number_of_found(definition)?, 1)?;
-    let body = definition.body.as_slice();
     Ok(ProcInfo {
         name: definition.name.text.copy(alloc)?,
         params: params(alloc, definition.params.as_slice())?,
         defaults: defaults(alloc, definition.vars.as_slice())?,
-        body: statements(alloc, tables, body, &mut slots, &mut next)?,
+        body: body(alloc, tables, definition)?,
     })
 }
 

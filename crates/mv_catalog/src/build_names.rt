@@ -37,6 +37,17 @@ pub(crate) fn sum(a: usize, b: usize) -> Result<usize, NoMemory>
     }
 }
 
+/// Adds a copy of an item.
+pub(crate) fn push_copy<T: Copied>(
+    alloc: Global,
+    all: &mut List<T>,
+    item: &T,
+) -> Result<(), NoMemory>
+    ensures { OnOk result (all.new ≡ all.old ++ item.now ∷ []) }
+{
+    all.push(item.copy(alloc)?)
+}
+
 // Columns and tables
 
 /// The number of a column.
@@ -102,7 +113,7 @@ fn column_names(alloc: Global, columns: &[ColDef]) -> Result<List<Txt>, NoMemory
 {
     let mut all = List::new(alloc);
     for column in columns {
-        all.push(column.name.text.copy(alloc)?)?;
+        push_copy(alloc, &mut all, &column.name.text)?;
     }
     Ok(all)
 }
@@ -113,7 +124,7 @@ pub(crate) fn texts(alloc: Global, names: &[Name]) -> Result<List<Txt>, NoMemory
 {
     let mut all = List::new(alloc);
     for name in names {
-        all.push(name.text.copy(alloc)?)?;
+        push_copy(alloc, &mut all, &name.text)?;
     }
     Ok(all)
 }
@@ -161,17 +172,23 @@ pub(crate) fn number_of_found(definition: &ProcDef) -> Result<usize, NoMemory>
     sum(definition.params.len(), definition.vars.len())
 }
 
+/// `:found` with its number.
+fn found_slot(alloc: Global, definition: &ProcDef) -> Result<Slot, NoMemory>
+    ensures { IfOk result (λ s. s ≡ slot (found_number definition.now) found.name []) }
+{
+    let name = Txt::of(alloc, b"found")?;
+    slot_at(alloc, number_of_found(definition)?, &name, List::new(alloc))
+}
+
 /// The variables of a procedure, without its loops.
 pub(crate) fn slots(alloc: Global, definition: &ProcDef) -> Result<List<Slot>, NoMemory>
     ensures { IfOk result (λ all. all ≡ slots_of definition.now) }
 {
     let mut all = List::new(alloc);
-    add_params(alloc, definition.params.as_slice(), &mut all)?;
-    let params = definition.params.len();
-    add_variables(alloc, params, definition.vars.as_slice(), &mut all)?;
-    let name = Txt::of(alloc, b"found")?;
-    let number = number_of_found(definition)?;
-    all.push(slot_at(alloc, number, &name, List::new(alloc))?)?;
+    let params = definition.params.as_slice();
+    add_params(alloc, params, &mut all)?;
+    add_variables(alloc, params.len(), definition.vars.as_slice(), &mut all)?;
+    all.push(found_slot(alloc, definition)?)?;
     Ok(all)
 }
 
@@ -214,11 +231,10 @@ fn fields_in<'a>(slots: &'a [Slot], name: &Name) -> &'a [Txt]
 pub(crate) fn fields(alloc: Global, slots: &[Slot], name: &Name) -> Result<List<Txt>, NoMemory>
     ensures { IfOk result (λ all. all ≡ fields_in (slot_named slots.now name.now.text)) }
 {
-    let mut all = List::new(alloc);
-    for text in fields_in(slots, name) {
-        all.push(text.copy(alloc)?)?;
+    match find(slots, &name.text) {
+        Some(slot) => slot.fields.copy(alloc),
+        None => Ok(List::new(alloc)),
     }
-    Ok(all)
 }
 
 /// The place of a column in a loop's row.

@@ -146,6 +146,59 @@ fn rollback(alloc: Global, reason: &Txt) -> Result<RStmt, NoMemory>
     })
 }
 
+/// IF, with these branches.
+fn branch(
+    alloc: Global,
+    slots: &[Slot],
+    test: &Expr,
+    yes: List<RStmt>,
+    no: List<RStmt>,
+) -> Result<RStmt, NoMemory>
+    ensures { IfOk result (λ s. s ≡ r_stmt.Branch (plain slots.now test.now) yes no) }
+{
+    Ok(RStmt::Branch {
+        test: plain_expr(alloc, slots, test)?,
+        yes,
+        no,
+    })
+}
+
+/// FOR over SELECT, of this number and with this body.
+fn select_loop(
+    alloc: Global,
+    tables: &[TableDef],
+    slots: &[Slot],
+    number: usize,
+    distinct: bool,
+    selected: &[Name],
+    name: &Name,
+    tests: &[Cond],
+    order: &[Sort],
+    body: List<RStmt>,
+) -> Result<RStmt, NoMemory>
+    ensures { IfOk result (λ s. let own = columns_named tables.now name.now in s ≡ r_stmt.ForSelect (small number) distinct (map (column_number own) selected.now) (small (table_place tables.now name.now)) (conds_of slots.now own tests.now) (sorts_of own order.now) body) }
+{
+    let own = columns_in(tables, name);
+    Ok(RStmt::ForSelect {
+        row: small_number(number),
+        distinct,
+        columns: columns(alloc, own, selected)?,
+        table: table(tables, name),
+        conds: conds(alloc, slots, own, tests)?,
+        sorts: sorts(alloc, own, order)?,
+        body,
+    })
+}
+
+/// Goes into a loop: it takes the next number, and its row is seen.
+fn enter(row: Slot, slots: &mut List<Slot>, next: &mut usize) -> Result<(), NoMemory>
+    ensures slots { OnOk result (slots.new ≡ slots.old ++ row ∷ []) }
+    ensures next { OnOk result (next.new ≡ next.old + 1) }
+{
+    *next = sum(*next, 1)?;
+    slots.push(row)
+}
+
 // Statements in order, and those that hold others
 
 /// Statements, of which the first loop has the number `next`, which becomes that of the next loop behind them. `slots`
@@ -230,10 +283,9 @@ fn statement(
             ..
         } => over_rows(alloc, tables, row, rows, body.as_slice(), slots, next),
         Stmt::Branch { test, yes, no, .. } => {
-            let test = plain_expr(alloc, seen, test)?;
             let yes = statements(alloc, tables, yes.as_slice(), slots, next)?;
             let no = statements(alloc, tables, no.as_slice(), slots, next)?;
-            Ok(RStmt::Branch { test, yes, no })
+            branch(alloc, slots.as_slice(), test, yes, no)
         }
         Stmt::Insert { table, values, .. } => insert(alloc, tables, seen, table, values.as_slice()),
         Stmt::Update {
@@ -270,8 +322,7 @@ fn body_under(
     ensures next { IfOk result (λ all. next.new ≡ next.old + 1 + loops_of tables.now body.now) }
 {
     let outside = slots.len();
-    slots.push(slot)?;
-    *next = sum(*next, 1)?;
+    enter(slot, slots, next)?;
     let all = statements(alloc, tables, body, slots, next)?;
     slots.truncate(outside);
     Ok(all)
@@ -297,21 +348,20 @@ fn over_select(
     ensures next { IfOk result (λ r. next.new ≡ next.old + (1 + loops_of tables.now body.now)) }
 {
     let number = *next;
-    let own = columns_in(tables, name);
-    let columns = columns(alloc, own, selected)?;
-    let conds = conds(alloc, slots.as_slice(), own, tests)?;
-    let sorts = sorts(alloc, own, order)?;
     let slot = slot_at(alloc, number, &row.text, texts(alloc, selected)?)?;
     let body = body_under(alloc, tables, slot, body, slots, next)?;
-    Ok(RStmt::ForSelect {
-        row: small_number(number),
+    select_loop(
+        alloc,
+        tables,
+        slots.as_slice(),
+        number,
         distinct,
-        columns,
-        table: table(tables, name),
-        conds,
-        sorts,
+        selected,
+        name,
+        tests,
+        order,
         body,
-    })
+    )
 }
 
 /// FOR over a ROWS parameter.

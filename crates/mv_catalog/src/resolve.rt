@@ -5,6 +5,7 @@ ghost use Rattle.mv_ast.specs.declared.tree.Script.{Script as ScriptValue};
 ghost use Rattle.mv_ast.specs.Keys.{HasKeys};
 ghost use Rattle.mv_ast.specs.Limits.{script_passes};
 ghost use Rattle.mv_names.specs.First.{IsFirst};
+ghost use Rattle.mv_names.specs.Items.{parts_of};
 ghost use Rattle.mv_names.specs.Faults.{faults};
 ghost use Rattle.mv_catalog.specs.Resolving.{Refuses, Resolves};
 ghost use Rattle.mv_catalog.specs.Text.{FitsText};
@@ -15,7 +16,7 @@ use crate::resolved::Resolved;
 use mv_ast::tree::Script;
 use mv_names::check::{check_order, check_parts};
 use mv_names::fault::{Fault, FaultKind, first_of};
-use mv_names::parts::part;
+use mv_names::parts::{Parts, part};
 use mv_values::list::List;
 use std::alloc::Global;
 
@@ -30,6 +31,16 @@ fn refused(fault: Fault) -> NameFault
         FaultKind::WrongType => NameFault::WrongType { token },
         FaultKind::KeyAssigned => NameFault::KeyAssigned { token },
         FaultKind::Late => NameFault::Late { token },
+    }
+}
+
+/// What a script with these parts and these faults stands for, or the first fault.
+fn answer(alloc: Global, parts: &Parts, found: &[Fault]) -> Result<Resolved, NameFault>
+    ensures { (script : ScriptValue) → found.now ≡ faults script → parts.now ≡ parts_of script.items → Resolves script result }
+{
+    match first_of(found) {
+        None => Ok(built(alloc, parts)?),
+        Some(fault) => Err(refused(fault)),
     }
 }
 
@@ -48,8 +59,5 @@ pub fn resolve(alloc: Global, script: Script) -> Result<Resolved, NameFault>
     check_order(script.items.as_slice(), &mut faults)?;
     let parts = part(alloc, script)?;
     check_parts(alloc, &parts, &mut faults)?;
-    match first_of(faults.as_slice()) {
-        None => Ok(built(alloc, &parts)?),
-        Some(fault) => Err(refused(fault)),
-    }
+    answer(alloc, &parts, faults.as_slice())
 }

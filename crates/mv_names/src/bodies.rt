@@ -1,6 +1,6 @@
 //! The faults of statements one after another, and of those that hold others.
 
-ghost use Rattle.std.specs.Prelude.{◌≡◌, ◌∷◌, ◌++◌, [], OnOk};
+ghost use Rattle.std.specs.Prelude.{◌≡◌, ◌∷◌, ◌++◌, [], take, OnOk};
 ghost use Rattle.std.specs.Option.{option_copied};
 ghost use Rattle.mv_names.specs.Statements.{table_named, statements, statement_faults, for_select, for_rows};
 
@@ -17,6 +17,13 @@ use mv_ast::tree::{Cond, Name, Sort, Stmt, TableDef};
 use mv_values::list::List;
 use mv_values::memory::NoMemory;
 use std::alloc::Global;
+
+/// Leaves a loop, before which so many names were seen.
+fn leave(scope: &mut List<Entry>, outside: usize)
+    ensures { scope.new ≡ take outside scope.old }
+{
+    scope.truncate(outside);
+}
 
 /// Adds the faults of statements. The names are as before.
 #[cycle(statements)]
@@ -216,6 +223,6 @@ fn check_body(
     let outside = scope.len();
     scope.push(turn)?;
     check_statements(alloc, tables, body, scope, faults)?;
-    scope.truncate(outside);
+    leave(scope, outside);
     Ok(())
 }

@@ -1,7 +1,8 @@
 //! The faults of a whole script.
 
-ghost use Rattle.std.specs.Prelude.{◌≡◌, ◌++◌, OnOk};
+ghost use Rattle.std.specs.Prelude.{◌≡◌, ◌++◌, OnOk, nat_lt};
 ghost use Rattle.std.specs.List.{flat_map};
+ghost use Rattle.mv_names.specs.First.{when, late};
 ghost use Rattle.mv_names.specs.Items.{stage, stage_after, lates};
 ghost use Rattle.mv_names.specs.Faults as meant;
 ghost use Rattle.mv_names.specs.Faults.{parts_faults};
@@ -41,17 +42,24 @@ fn stage_behind(kind: &ItemKind) -> u8
     }
 }
 
+/// Adds an item before whose kind this one has begun.
+fn check_item(least: u8, item: &Item, faults: &mut List<Fault>) -> Result<(), NoMemory>
+    ensures { OnOk result (faults.new ≡ faults.old ++ when (nat_lt (stage item.now.kind) least) (late item.now.token)) }
+{
+    add_if(
+        faults,
+        stage_of(&item.kind) < least,
+        Fault::late(item.token),
+    )
+}
+
 /// Adds the items that stand after one of a later kind.
 pub fn check_order(items: &[Item], faults: &mut List<Fault>) -> Result<(), NoMemory>
     ensures { OnOk result (faults.new ≡ faults.old ++ lates 0 items.now) }
 {
     let mut least = 0;
     for item in items {
-        add_if(
-            faults,
-            stage_of(&item.kind) < least,
-            Fault::late(item.token),
-        )?;
+        check_item(least, item, faults)?;
         least = least.max(stage_behind(&item.kind));
     }
     Ok(())

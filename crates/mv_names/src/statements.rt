@@ -329,6 +329,24 @@ pub(crate) fn check_rows(
     }
 }
 
+/// The selected columns, as those of a loop's row.
+fn selected_fields(
+    alloc: Global,
+    columns: Option<&[ColDef]>,
+    names: &[Name],
+) -> Result<List<Field>, NoMemory>
+    ensures { IfOk result (λ all. all ≡ map (selected_field (option_copied columns.entry)) names.now) }
+{
+    let mut fields = List::new(alloc);
+    for name in names {
+        fields.push(Field {
+            name: name.text.copy(alloc)?,
+            kind: kind_among(columns, name),
+        })?;
+    }
+    Ok(fields)
+}
+
 /// The row of a loop over a SELECT.
 pub(crate) fn turn_of_select(
     alloc: Global,
@@ -338,13 +356,7 @@ pub(crate) fn turn_of_select(
 ) -> Result<Entry, NoMemory>
     ensures { IfOk result (λ e. e ≡ select_turn turn.now (option_copied columns.entry) names.now) }
 {
-    let mut fields = List::new(alloc);
-    for name in names {
-        fields.push(Field {
-            name: name.text.copy(alloc)?,
-            kind: kind_among(columns, name),
-        })?;
-    }
+    let fields = selected_fields(alloc, columns, names)?;
     Ok(Entry {
         name: turn.text.copy(alloc)?,
         meaning: Meaning::Turn(fields),

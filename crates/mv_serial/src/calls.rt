@@ -1,19 +1,20 @@
 //! Whole calls, one after another.
 
-ghost use Rattle.std.specs.Prelude.{◌≡◌, IfOk, length, replicate};
+ghost use Rattle.std.specs.Prelude.{◌≡◌, [], Some, IfOk, length, replicate};
 ghost use Rattle.mv_alone.specs.Alone.{alone};
 ghost use Rattle.mv_values.specs.Tables.{KeysStand};
 ghost use Rattle.mv_catalog.specs.Fits.{Fits};
 ghost use Rattle.mv_catalog.specs.Text.{FitsText};
 ghost use Rattle.mv_serial.specs.Typed.{TablesTyped};
+ghost use Rattle.mv_serial.specs.Undoing.{undone, CanUndo};
 ghost use Rattle.mv_alone.specs.TableAfter.{no_reply, outcome, begun, tables_left, reply_in, table_after, IsOrder, RepliesOf, OthersSilent, StoppedUnchanged};
 
 use crate::statements::run_all;
-use crate::undo::undo_all;
+use crate::undo::{Undo, undo_all};
 use mv_alone::enter::variables_for;
 use mv_alone::state::{State, Stop};
 use mv_catalog::resolved::{ProcInfo, Program};
-use mv_values::calls::{Call, Reply};
+use mv_values::calls::{Call, End, Reply};
 use mv_values::copied::Copied;
 use mv_values::list::List;
 use mv_values::memory::NoMemory;
@@ -32,6 +33,26 @@ pub struct Serial {
 struct Left {
     tables: Database,
     reply: Reply,
+}
+
+/// What a call leaves that is rolled back: its changes are taken back, and it has no lines.
+fn rolled_back(
+    alloc: Global,
+    tables: Database,
+    undo: List<Undo>,
+    end: End,
+) -> Result<Left, NoMemory>
+    requires { CanUndo undo tables }
+    ensures tables { IfOk result (λ l. l.tables ≡ undone undo tables) }
+    ensures reply { IfOk result (λ l. l.reply ≡ record { lines = []; end = Some end }) }
+{
+    let (mut tables, mut undo) = (tables, undo);
+    undo_all(alloc, &mut tables, &mut undo)?;
+    let reply = Reply {
+        lines: List::new(alloc),
+        end: Some(end),
+    };
+    Ok(Left { tables, reply })
 }
 
 /// Runs a call of a procedure. Where it is rolled back, its changes are taken back.
@@ -56,7 +77,7 @@ fn run_procedure(
     let ran = run_all(alloc, infos, body, &mut state, &mut undo);
     let State {
         env: _,
-        mut tables,
+        tables,
         lines,
     } = state;
     match ran {
@@ -65,15 +86,7 @@ fn run_procedure(
             Ok(Left { tables, reply })
         }
         Err(Stop::Memory) => Err(NoMemory),
-        Err(Stop::Ended(end)) => {
-            undo_all(alloc, &mut tables, &mut undo)?;
-            let none = List::new(alloc);
-            let reply = Reply {
-                lines: none,
-                end: Some(end),
-            };
-            Ok(Left { tables, reply })
-        }
+        Err(Stop::Ended(end)) => rolled_back(alloc, tables, undo, end),
     }
 }
 

@@ -4,7 +4,8 @@ ghost use Rattle.std.specs.Prelude.{◌≡◌, ◌++◌, [], drop, Ok, OnOk};
 ghost use Rattle.mv_values.specs.Tables.{KeysStand};
 ghost use Rattle.mv_alone.specs.Outcome.{Gives, Leaves, then_do};
 ghost use Rattle.mv_alone.specs.Value.{value_of, is_so};
-ghost use Rattle.mv_alone.specs.Alone.{alone, does, loop_over, for_rows, for_select};
+ghost use Rattle.mv_alone.specs.Env.{with_found};
+ghost use Rattle.mv_alone.specs.Alone.{alone, does, is_turn, loop_over, for_rows, for_select};
 ghost use Rattle.mv_serial.specs.Undoing.{StaysUndoable};
 
 use crate::deleting::run_delete;
@@ -32,6 +33,13 @@ fn takes(alloc: Global, test: &RExpr, env: &Env) -> Result<bool, Stop>
 {
     let v = value(alloc, test, env, &[])?;
     Ok(holds(&v))
+}
+
+/// `:found` of a loop over these rows.
+fn find_rows(rows: &[Row], env: &mut Env) -> Result<(), NoMemory>
+    ensures { OnOk result (env.new ≡ with_found env.old (is_turn rows.now)) }
+{
+    set_found(env, !rows.is_empty())
 }
 
 /// Runs statements, one after another.
@@ -219,7 +227,7 @@ fn run_loop(
     ensures keys { OnOk result (KeysStand tables.now state.new.tables) }
     ensures undo { StaysUndoable result undo.old state.old.tables undo.new state.new.tables }
 {
-    set_found(&mut state.env, !rows.is_empty())?;
+    find_rows(rows, &mut state.env)?;
     for one in rows {
         set_held(&mut state.env, row as usize, Held::Turn(one.copy(alloc)?))?;
         run_all(alloc, tables, body, state, undo)?;

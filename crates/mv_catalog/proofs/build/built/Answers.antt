@@ -1,0 +1,17 @@
+use Rattle.mv_catalog.proofs.build.built.Goals as goal
+
+pub returns : goal.returns
+returns c =
+    rw (
+      c.in_ok-table_infos.ensures,
+      c.in_ok-rows_of_tables.ensures,
+      c.in_ok-procedures.ensures,
+      c.in_ok-copies.ensures,
+      c.in_ok-calls.ensures,
+      c.journal.ensures,
+      c.as_slice-tables.ensures,
+      c.as_slice-definitions.ensures,
+      c.as_slice.ensures,
+      c.as_slice-2.ensures,
+      c.as_slice-3.ensures,
+    )
