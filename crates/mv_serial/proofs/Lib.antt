@@ -11,3 +11,5 @@ pub mod Valued
 pub mod RowsTyped
 pub mod RunsTyped
 pub mod CallsTyped
+pub mod Calling
+pub mod Turning
