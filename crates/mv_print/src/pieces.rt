@@ -72,7 +72,7 @@ fn write_doubled(content: &[u8], text: &mut List<u8>) -> Result<(), NoMemory>
 pub(crate) fn write_text(content: &[u8], text: &mut List<u8>) -> Result<(), NoMemory>
     ensures { OnOk result (text.new ≡ put text.old (text_piece content.now)) }
 {
-    text.push(b'\'')?;
+    text.append(b"'")?;
     write_doubled(content, text)?;
     text.append(b"' ")
 }
