@@ -4,7 +4,7 @@ use mv_values::memory::NoMemory;
 
 /// Why a script was not resolved: its first fault, with the number of its token, or want of memory. Of two faults at one
 /// token the first of this list counts.
-#[derive(Clone, Copy, Debug, PartialEq, Eq)]
+#[derive(Clone, Copy)]
 pub enum NameFault {
     /// A table, column, procedure, variable, loop or key column that isn't there.
     UnknownName { token: u32 },

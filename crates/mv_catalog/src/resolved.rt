@@ -29,7 +29,7 @@ pub struct ProcInfo {
 }
 
 /// A block of the script's bytes that fills a table, or the journal (whose table is 0).
-#[derive(Clone, Copy, Debug, PartialEq, Eq)]
+#[derive(Clone, Copy)]
 pub struct CopyInfo {
     pub table: u8,
     pub at: u32,
@@ -63,13 +63,13 @@ pub struct RCond {
     pub right: RExpr,
 }
 
-#[derive(Clone, Copy, Debug, PartialEq, Eq)]
+#[derive(Clone, Copy)]
 pub struct RSort {
     pub column: u16,
     pub descending: bool,
 }
 
-#[derive(Clone, Copy, Debug, PartialEq, Eq)]
+#[derive(Clone, Copy)]
 pub enum RAgg {
     CountAll,
     CountDistinct(u16),

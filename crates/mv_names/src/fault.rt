@@ -9,7 +9,7 @@ use mv_values::list::List;
 use mv_values::memory::NoMemory;
 
 /// What is wrong with a name or a type. At one token the first kind of this list counts.
-#[derive(Clone, Copy, Debug, PartialEq, Eq)]
+#[derive(Clone, Copy)]
 pub enum FaultKind {
     /// A name that isn't there.
     UnknownName,
@@ -24,7 +24,7 @@ pub enum FaultKind {
 }
 
 /// A fault, with the number of the token that it stands at.
-#[derive(Clone, Copy, Debug, PartialEq, Eq)]
+#[derive(Clone, Copy)]
 pub struct Fault {
     pub token: u32,
     pub kind: FaultKind,

@@ -8,7 +8,7 @@ use mv_values::txt::Txt;
 use std::alloc::Global;
 
 /// The type of an expression. It is unknown where a name isn't there, which is a fault already: it then fits every place.
-#[derive(Clone, Copy, Debug, PartialEq, Eq)]
+#[derive(Clone, Copy)]
 pub enum ValueType {
     Int,
     Text,
