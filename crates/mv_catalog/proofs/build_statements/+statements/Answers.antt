@@ -33,7 +33,7 @@ statement-returns-in-ForSelect-clause-built t c =
     rw (built_is c.args.tables.now c.args.s.now (layer.ForSelect c.in-ForSelect.token c.in-ForSelect.row c.in-ForSelect.distinct c.in-ForSelect.columns c.in-ForSelect.table c.in-ForSelect.conds c.in-ForSelect.sorts c.in-ForSelect.body) _ c.in-ForSelect.is (rolls-ForSelect c.in-ForSelect.token c.in-ForSelect.row c.in-ForSelect.distinct c.in-ForSelect.columns c.in-ForSelect.table c.in-ForSelect.conds c.in-ForSelect.sorts c.in-ForSelect.body)) k
 
 pub statement-returns-in-ForSelect-clause-next : goal.statement-returns-in-ForSelect-clause-next
-statement-returns-in-ForSelect-clause-next t c = 
+statement-returns-in-ForSelect-clause-next t c =
     let k = rw c.as_slice-body.ensures at c.over_select.ensures.next in
     rw (built_is c.args.tables.now c.args.s.now (layer.ForSelect c.in-ForSelect.token c.in-ForSelect.row c.in-ForSelect.distinct c.in-ForSelect.columns c.in-ForSelect.table c.in-ForSelect.conds c.in-ForSelect.sorts c.in-ForSelect.body) _ c.in-ForSelect.is (rolls-ForSelect c.in-ForSelect.token c.in-ForSelect.row c.in-ForSelect.distinct c.in-ForSelect.columns c.in-ForSelect.table c.in-ForSelect.conds c.in-ForSelect.sorts c.in-ForSelect.body)) k
 
@@ -43,7 +43,7 @@ statement-returns-in-ForRows-clause-built t c =
     rw (built_is c.args.tables.now c.args.s.now (layer.ForRows c.in-ForRows.token c.in-ForRows.row c.in-ForRows.rows c.in-ForRows.body) _ c.in-ForRows.is (rolls-ForRows c.in-ForRows.token c.in-ForRows.row c.in-ForRows.rows c.in-ForRows.body)) k
 
 pub statement-returns-in-ForRows-clause-next : goal.statement-returns-in-ForRows-clause-next
-statement-returns-in-ForRows-clause-next t c = 
+statement-returns-in-ForRows-clause-next t c =
     let k = rw c.as_slice-in-ForRows.ensures at c.over_rows.ensures.next in
     rw (built_is c.args.tables.now c.args.s.now (layer.ForRows c.in-ForRows.token c.in-ForRows.row c.in-ForRows.rows c.in-ForRows.body) _ c.in-ForRows.is (rolls-ForRows c.in-ForRows.token c.in-ForRows.row c.in-ForRows.rows c.in-ForRows.body)) k
 
