@@ -1,0 +1,4 @@
+use Rattle.mv_catalog.proofs.build_statements.select.Goals as goal
+
+pub returns : goal.returns
+returns c = rw (c.in_ok-columns.ensures, c.in_ok-variables.ensures, c.table.ensures, c.in_ok-conds.ensures, c.in_ok-sorts.ensures, c.in_ok-offset.ensures, c.columns_in-own.ensures)
