@@ -8,7 +8,7 @@ use mv_values::list::List;
 use mv_values::memory::NoMemory;
 
 /// An event. All but a collection name a call by its number.
-#[derive(Clone, Copy, Debug, PartialEq, Eq)]
+#[derive(Clone, Copy)]
 pub enum Event {
     /// A call begins.
     B(u32),

@@ -6,7 +6,7 @@ use mv_values::list::List;
 use mv_values::rows::Database;
 
 /// How a round of a call came about.
-#[derive(Clone, Copy, Debug, PartialEq, Eq)]
+#[derive(Clone, Copy)]
 pub enum Mark {
     /// It is the first, or a repair.
     Plain,
@@ -17,7 +17,7 @@ pub enum Mark {
 }
 
 /// A round of a call: its start, and how many records it executed, which isn't known where a move ended it.
-#[derive(Clone, Copy, Debug, PartialEq, Eq)]
+#[derive(Clone, Copy)]
 pub struct Round {
     pub start: u32,
     pub count: Option<usize>,
