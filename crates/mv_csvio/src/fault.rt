@@ -3,7 +3,7 @@
 use mv_values::memory::NoMemory;
 
 /// Why the rows of VALUES or of a block can't be taken. Rows and columns count from 1.
-#[derive(Clone, Copy, Debug, PartialEq, Eq)]
+#[derive(Clone, Copy)]
 pub enum CopyFault {
     /// The field is no value of its column.
     Field { row: u32, column: u32 },

@@ -8,7 +8,7 @@ use mv_values::memory::NoMemory;
 
 /// Why the database that the calls begin with can't be made. Tables are numbered from 0 in the order of the script;
 /// rows and columns count from 1.
-#[derive(Clone, Copy, Debug, PartialEq, Eq)]
+#[derive(Clone, Copy)]
 pub enum OpeningFault {
     /// The field of a copy is no value of its column.
     Field { table: u8, row: u32, column: u32 },

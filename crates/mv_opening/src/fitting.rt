@@ -15,30 +15,31 @@ pub fn fit_together(resolved: &Resolved, bytes: &[u8]) -> bool
     let tables = resolved.tables.len();
     tables <= 256
         && resolved.rows.len() == tables
-        && resolved.rows.as_slice().iter().all(|rows| are_few(rows))
-        && resolved
-            .tables
-            .as_slice()
-            .iter()
-            .all(|table| is_narrow(table))
-        && resolved
-            .copies
-            .as_slice()
-            .iter()
-            .all(|copy| stands(copy, tables, bytes.len()))
+        && are_few(resolved.rows.as_slice())
+        && are_narrow(resolved.tables.as_slice())
+        && all_stand(resolved.copies.as_slice(), tables, bytes.len())
         && bytes.len() < 1 << 32
 }
 
-fn are_few(rows: &List<Row>) -> bool
-    ensures { IsTrue result ↔ (length rows.now < 2 ^ 32) }
+/// Whether each table has less than 2^32 rows.
+fn are_few(tables: &[List<Row>]) -> bool
+    ensures { IsTrue result ↔ All (λ rows. length rows < 2 ^ 32) tables.now }
 {
-    rows.len() < 1 << 32
+    tables.iter().all(|rows| rows.len() < 1 << 32)
 }
 
-fn is_narrow(table: &TableInfo) -> bool
-    ensures { IsTrue result ↔ (length table.now.columns < 2 ^ 32) }
+/// Whether each table has less than 2^32 columns.
+fn are_narrow(tables: &[TableInfo]) -> bool
+    ensures { IsTrue result ↔ All (λ table. length table.columns < 2 ^ 32) tables.now }
 {
-    table.columns.len() < 1 << 32
+    tables.iter().all(|table| table.columns.len() < 1 << 32)
+}
+
+/// Whether each copy is of one of so many tables, and its block stands in so many bytes.
+fn all_stand(copies: &[CopyInfo], tables: usize, len: usize) -> bool
+    ensures { IsTrue result ↔ All (Stands tables len) copies.now }
+{
+    copies.iter().all(|copy| stands(copy, tables, len))
 }
 
 /// Whether a copy is of one of so many tables, and its block stands in so many bytes.

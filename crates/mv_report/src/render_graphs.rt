@@ -14,7 +14,7 @@ use std::alloc::Global;
 
 /// A kind of edge: from what directly holds a statement, from what sets a variable that it reads, and from what changes
 /// the table that it asks.
-#[derive(Clone, Copy, Debug, PartialEq, Eq)]
+#[derive(Clone, Copy)]
 pub(crate) enum Kind {
     Control,
     Variable,

@@ -4,7 +4,7 @@ use mv_values::memory::NoMemory;
 use mv_values::txt::Txt;
 
 /// What the program ends with. Its number is the exit status.
-#[derive(Clone, Copy, Debug, PartialEq, Eq)]
+#[derive(Clone, Copy, PartialEq, Eq)]
 pub enum Status {
     /// The answer was written.
     Done = 0,
@@ -21,7 +21,7 @@ pub enum Status {
 }
 
 /// A command that the program takes.
-#[derive(Clone, Copy, Debug, PartialEq, Eq)]
+#[derive(Clone, Copy)]
 pub enum Command {
     /// Runs the calls of a script, and writes their history.
     Run,

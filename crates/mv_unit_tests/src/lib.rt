@@ -19,6 +19,8 @@ mod prints;
 #[cfg(test)]
 mod reports;
 #[cfg(test)]
+mod scripts;
+#[cfg(test)]
 mod tokens;
 #[cfg(test)]
 mod values;

@@ -2,6 +2,7 @@
 
 use crate::cases::{between, ensure};
 use crate::parsing::read;
+use crate::scripts;
 use mv_print::print::print_script;
 use std::alloc::Global;
 use std::test::Fail;
@@ -136,4 +137,10 @@ const SCRIPT: Frame = ["", "", "", ""];
 #[test]
 fn items_end_their_lines(rt: HostRuntime) -> Result<(), Fail> {
     print_as_told(rt.alloc(), &SCRIPT, ITEMS)
+}
+
+#[test]
+fn whole_scripts_are_printed_and_read_back(rt: HostRuntime) -> Result<(), Fail> {
+    prints(rt.alloc(), scripts::WRITTEN, scripts::PRINTED)?;
+    prints(rt.alloc(), scripts::PRINTED, scripts::PRINTED)
 }
