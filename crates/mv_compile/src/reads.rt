@@ -169,6 +169,13 @@ fn with_found(all: List<u16>, found: u16) -> Result<List<u16>, NoMemory>
     Ok(new)
 }
 
+/// The variables that a loop may set: its row, and `:found`.
+fn set_by_loop(alloc: Global, row: u16, found: u16) -> Result<List<u16>, NoMemory>
+    ensures { IfOk result (λ all. all ≡ row ∷ found ∷ []) }
+{
+    with_found(one(alloc, row)?, found)
+}
+
 /// The variables that a statement may set. `:found` has this number.
 pub(crate) fn sets(alloc: Global, found: u16, statement: &RStmt) -> Result<List<u16>, NoMemory>
     ensures { IfOk result (λ all. all ≡ may_set found (out-RStmt statement.now)) }
@@ -179,7 +186,7 @@ pub(crate) fn sets(alloc: Global, found: u16, statement: &RStmt) -> Result<List<
         RStmt::Select { to, .. } => with_found(once_each(alloc, to.as_slice())?, found),
         RStmt::Total { to, .. } => with_found(one(alloc, *to)?, found),
         RStmt::ForSelect { row, .. } | RStmt::ForRows { row, .. } => {
-            with_found(one(alloc, *row)?, found)
+            set_by_loop(alloc, *row, found)
         }
         RStmt::Insert { .. } | RStmt::Update { .. } | RStmt::Delete { .. } => {
             with_found(List::new(alloc), found)
