@@ -1,6 +1,7 @@
 //! The variables that a call begins with.
 
-ghost use Rattle.std.specs.Prelude.{◌≡◌, IfOk};
+ghost use Rattle.std.specs.Prelude.{◌≡◌, ◌++◌, map, IfOk, OnOk};
+ghost use Rattle.mv_alone.specs.declared.state.Held.TheVariants.{Scalar};
 ghost use Rattle.mv_alone.specs.TableAfter.{argument_held, entered};
 
 use crate::state::{Env, Held};
@@ -22,18 +23,34 @@ fn held(alloc: Global, argument: &Argument) -> Result<Held, NoMemory>
     }
 }
 
+/// What the variables of the parameters hold.
+fn given(alloc: Global, arguments: &[Argument]) -> Result<List<Held>, NoMemory>
+    ensures { IfOk result (λ all. all ≡ map argument_held arguments.now) }
+{
+    let mut all = List::new(alloc);
+    for argument in arguments {
+        all.push(held(alloc, argument)?)?;
+    }
+    Ok(all)
+}
+
+/// Adds what the declared variables hold, which begin with these values.
+fn add_declared(alloc: Global, all: &mut List<Held>, values: &[Value]) -> Result<(), NoMemory>
+    ensures { OnOk result (all.new ≡ all.old ++ map Scalar values.now) }
+{
+    for value in values {
+        all.push(Held::Scalar(value.copy(alloc)?))?;
+    }
+    Ok(())
+}
+
 /// The variables that a call begins with: its arguments, then the declared variables with their values, then `:found`
 /// with 0. All of them are copied.
 pub fn variables_for(alloc: Global, procedure: &ProcInfo, call: &Call) -> Result<Env, NoMemory>
     ensures { IfOk result (λ env. env ≡ entered procedure.now call.now) }
 {
-    let mut all = List::new(alloc);
-    for argument in call.arguments.as_slice() {
-        all.push(held(alloc, argument)?)?;
-    }
-    for value in procedure.defaults.as_slice() {
-        all.push(Held::Scalar(value.copy(alloc)?))?;
-    }
+    let mut all = given(alloc, call.arguments.as_slice())?;
+    add_declared(alloc, &mut all, procedure.defaults.as_slice())?;
     let found = all.len();
     all.push(Held::Scalar(Value::Int(0)))?;
     Ok(Env { held: all, found })
