@@ -1,3 +1,4 @@
 pub mod Unrolled
 pub mod Ordered
 pub mod Taken
+pub mod Finding

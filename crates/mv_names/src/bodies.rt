@@ -9,9 +9,9 @@ use crate::fault::Fault;
 use crate::named::find;
 use crate::scope::{Entry, ValueType};
 use crate::statements::{
-    check_assign, check_columns, check_delete, check_insert, check_order, check_rows, check_select,
-    check_table, check_total, check_turn_name, check_update, check_values, check_where, columns_in,
-    turn_of_rows, turn_of_select,
+    check_assign, check_delete, check_insert, check_rows, check_select, check_selected,
+    check_total, check_turn_name, check_update, check_values, columns_in, turn_of_rows,
+    turn_of_select,
 };
 use mv_ast::tree::{Cond, Name, Sort, Stmt, TableDef};
 use mv_values::list::List;
@@ -177,13 +177,17 @@ fn check_for_select(
     ensures scope { OnOk result (scope.new ≡ scope.old) }
 {
     let found = find(tables, &table.text);
-    let own = columns_in(found);
     check_turn_name(scope.as_slice(), turn, faults)?;
-    check_table(found, table.token, faults)?;
-    check_columns(own, columns, faults)?;
-    check_where(scope.as_slice(), own, conds, faults)?;
-    check_order(own, sorts, faults)?;
-    let entry = turn_of_select(alloc, turn, own, columns)?;
+    check_selected(
+        scope.as_slice(),
+        found,
+        columns,
+        table,
+        conds,
+        sorts,
+        faults,
+    )?;
+    let entry = turn_of_select(alloc, turn, columns_in(found), columns)?;
     check_body(alloc, tables, entry, body, scope, faults)
 }
 

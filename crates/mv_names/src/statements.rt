@@ -5,6 +5,7 @@ ghost use Rattle.std.specs.List.{flat_map};
 ghost use Rattle.std.specs.Option.{option_copied};
 ghost use Rattle.mv_names.specs.Scope.{entry_of, columns_of, fields_of, declared_field, type_among, selected_field, select_turn, rows_turn};
 ghost use Rattle.mv_names.specs.Typing.{column_faults};
+ghost use Rattle.mv_ast.specs.declared.tree.Agg.TheVariants.{Sum};
 ghost use Rattle.mv_names.specs.Statements.{doubles, table_named, missing_table, target_type, target_faults, target, targets, names_token, values_token, cond_faults, where_faults, order_faults, offset_faults, agg_type, agg_faults, turn_name, rows_faults, values_faults, is_key, item_faults, statements, statement_faults, all_faults, assign, select, total, for_select, for_rows, branch, insert, update, delete};
 
 use crate::exprs::{check_column, check_fit, check_operand, check_placed, column_kind, kind_among};
@@ -123,7 +124,7 @@ fn token_of_values(values: &[Expr], token: u32) -> u32
     }
 }
 
-pub(crate) fn check_columns(
+fn check_columns(
     columns: Option<&[ColDef]>,
     names: &[Name],
     faults: &mut List<Fault>,
@@ -155,7 +156,7 @@ fn check_cond(
     Ok(())
 }
 
-pub(crate) fn check_where(
+fn check_where(
     scope: &[Entry],
     columns: Option<&[ColDef]>,
     conds: &[Cond],
@@ -169,7 +170,7 @@ pub(crate) fn check_where(
     Ok(())
 }
 
-pub(crate) fn check_order(
+fn check_order(
     columns: Option<&[ColDef]>,
     sorts: &[Sort],
     faults: &mut List<Fault>,
@@ -195,38 +196,42 @@ fn check_offset(
     Ok(())
 }
 
-/// The type of a total. It adds a column that isn't there, and a SUM of texts.
+/// The type of a total.
+fn agg_kind(columns: Option<&[ColDef]>, agg: &Agg) -> ValueType
+    ensures { result ≡ agg_type (option_copied columns.entry) agg.now }
+{
+    match agg {
+        Agg::CountAll | Agg::CountDistinct(_) | Agg::Sum(_) => ValueType::Int,
+        Agg::Min(name) | Agg::Max(name) => kind_among(columns, name),
+    }
+}
+
+/// Adds a column to be added up that isn't there, or has texts.
+fn check_sum(
+    columns: Option<&[ColDef]>,
+    name: &Name,
+    faults: &mut List<Fault>,
+) -> Result<(), NoMemory>
+    ensures { OnOk result (faults.new ≡ faults.old ++ agg_faults (option_copied columns.entry) (Sum name.now)) }
+{
+    check_column(columns, name, faults)?;
+    let kind = kind_among(columns, name);
+    check_fit(faults, ValueType::Int, name.token, kind)
+}
+
+/// Adds a total's column that isn't there, and a SUM of texts.
 fn check_agg(
     columns: Option<&[ColDef]>,
     agg: &Agg,
     faults: &mut List<Fault>,
-) -> Result<ValueType, NoMemory>
-    ensures kind { IfOk result (λ t. t ≡ agg_type (option_copied columns.entry) agg.now) }
-    ensures faults { OnOk result (faults.new ≡ faults.old ++ agg_faults (option_copied columns.entry) agg.now) }
+) -> Result<(), NoMemory>
+    ensures { OnOk result (faults.new ≡ faults.old ++ agg_faults (option_copied columns.entry) agg.now) }
 {
     match agg {
-        Agg::CountAll => Ok(ValueType::Int),
-        Agg::CountDistinct(name) => {
-            check_column(columns, name, faults)?;
-            Ok(ValueType::Int)
-        }
-        Agg::Sum(name) => {
-            check_column(columns, name, faults)?;
-            check_fit(
-                faults,
-                ValueType::Int,
-                name.token,
-                kind_among(columns, name),
-            )?;
-            Ok(ValueType::Int)
-        }
-        Agg::Min(name) => {
-            check_column(columns, name, faults)?;
-            Ok(kind_among(columns, name))
-        }
-        Agg::Max(name) => {
-            check_column(columns, name, faults)?;
-            Ok(kind_among(columns, name))
+        Agg::CountAll => Ok(()),
+        Agg::Sum(name) => check_sum(columns, name, faults),
+        Agg::CountDistinct(name) | Agg::Min(name) | Agg::Max(name) => {
+            check_column(columns, name, faults)
         }
     }
 }
@@ -430,6 +435,25 @@ pub(crate) fn check_select(
     check_offset(scope, offset, faults)
 }
 
+/// What a loop over a SELECT names: its table and columns, WHERE and ORDER BY.
+pub(crate) fn check_selected(
+    scope: &[Entry],
+    table: Option<&TableDef>,
+    columns: &[Name],
+    name: &Name,
+    conds: &[Cond],
+    sorts: &[Sort],
+    faults: &mut List<Fault>,
+) -> Result<(), NoMemory>
+    ensures { OnOk result (let own = columns_of (option_copied table.entry) in faults.new ≡ faults.old ++ missing_table name.now.token (option_copied table.entry) ++ flat_map (column_faults own) columns.now ++ where_faults scope.now own conds.now ++ order_faults own sorts.now) }
+{
+    let own = columns_in(table);
+    check_table(table, name.token, faults)?;
+    check_columns(own, columns, faults)?;
+    check_where(scope, own, conds, faults)?;
+    check_order(own, sorts, faults)
+}
+
 pub(crate) fn check_total(
     scope: &[Entry],
     table: Option<&TableDef>,
@@ -443,8 +467,8 @@ pub(crate) fn check_total(
 {
     let own = columns_in(table);
     check_table(table, name.token, faults)?;
-    let kind = check_agg(own, agg, faults)?;
-    check_taking(scope, kind, to, faults)?;
+    check_agg(own, agg, faults)?;
+    check_taking(scope, agg_kind(own, agg), to, faults)?;
     check_where(scope, own, conds, faults)
 }
 
