@@ -1,7 +1,7 @@
 -- Things that are found by name, one place after another.
-use Rattle.std.proofs.Common.{◌≡◌, ℕ, suc, ◌+◌, ◌<◌, Bool, true, false, List, ◌∷◌, Option, Some, sym, ap, ◌∙◌, drop, get_or, length, add-one}
+use Rattle.std.proofs.Common.{◌≡◌, ℕ, suc, ◌+◌, ◌<◌, Bool, true, false, List, ◌∷◌, Option, Some, sym, ap, ◌∙◌, drop, get_or, length, arith, add-one}
 use Rattle.std.proofs.Math.Seq.{drop-cons}
-use Rattle.mv_names.specs.Named.{Text, same_text, is_named, first_named}
+use Rattle.mv_names.specs.Named.{Text, same_text, is_named, first_named, place_named}
 
 -- those from this place on
 from_here : {A : Type 0} (xs : List A) (k : ℕ) (x : A) → x ≡ get_or xs k x → k < length xs → drop k xs ≡ x ∷ drop (k + 1) xs
@@ -34,3 +34,11 @@ pub first_behind : {A : Type 0} (name_of : A → Text) (xs : List A) (k : ℕ) (
 first_behind name_of xs k x n first is within other so_far =
     let here = rw (from_here xs k x is within) at so_far in
     rw (← other) at here
+
+-- the place of the first, where the one at this place has the name
+pub place_here : {A : Type 0} (name_of : A → Text) (xs : List A) (k : ℕ) (x : A) (n : Text) (place : ℕ) → x ≡ get_or xs k x → k < length xs → true ≡ same_text (name_of x) n
+    → k + place_named name_of (drop k xs) n ≡ place → k ≡ place
+place_here name_of xs k x n place is within same so_far =
+    let here = rw (from_here xs k x is within) at so_far in
+    let at_it : k + 0 ≡ place = rw (← same) at here in
+    omega arith
