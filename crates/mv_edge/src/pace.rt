@@ -3,7 +3,7 @@
 use std::sync::Wait;
 
 /// Where a worker stands.
-#[derive(Clone, Copy, Debug, PartialEq, Eq)]
+#[derive(Clone, Copy)]
 pub enum Moment {
     /// After a begin.
     Begun,
@@ -16,7 +16,7 @@ pub enum Moment {
 }
 
 /// A worker, the call that it works on, and where it stands.
-#[derive(Clone, Copy, Debug, PartialEq, Eq)]
+#[derive(Clone, Copy)]
 pub struct Point {
     pub worker: u32,
     pub call: u32,

@@ -16,7 +16,7 @@ pub const MOST: usize = 16_777_217;
 const PIECE: usize = 4096;
 
 /// Why a source wasn't read.
-#[derive(Clone, Copy, Debug, PartialEq, Eq)]
+#[derive(Clone, Copy, PartialEq, Eq)]
 pub enum ReadFault {
     NoMemory,
     Failed,

@@ -4,7 +4,7 @@ pub use mv_ast::limit::Which;
 use mv_values::memory::NoMemory;
 
 /// Why tokens are no script within the limits. Tokens count from 1.
-#[derive(Clone, Copy, Debug, PartialEq, Eq)]
+#[derive(Clone, Copy, PartialEq, Eq)]
 pub enum ParseFault {
     /// The first token with which no script goes on, or one past the last.
     Syntax { token: u32 },
@@ -26,7 +26,7 @@ impl From<NoMemory> for ParseFault {
 
 /// Why a part of the grammar was not read: for want of memory, or since the first of so many last
 /// tokens can't stand where it stands.
-#[derive(Clone, Copy, Debug, PartialEq, Eq)]
+#[derive(Clone, Copy)]
 pub(crate) enum Stop {
     Memory,
     Wrong(usize),
