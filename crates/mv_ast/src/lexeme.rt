@@ -1,7 +1,7 @@
 //! Tokens as the grammar sees them.
 
 /// What the grammar sees of a token: which keyword, which symbol, or of which kind it is.
-#[derive(Clone, Copy, Debug, PartialEq, Eq)]
+#[derive(Clone, Copy, PartialEq, Eq)]
 pub enum Terminal {
     Name,
     Number,
@@ -81,7 +81,7 @@ pub enum Terminal {
 
 /// A token as the grammar sees it: its number, counted from 1, what it is, the place of its first
 /// byte, and how many bytes it has.
-#[derive(Clone, Copy, Debug, PartialEq, Eq)]
+#[derive(Clone, Copy)]
 pub struct Lexeme {
     pub number: u32,
     pub kind: Terminal,

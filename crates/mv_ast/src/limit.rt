@@ -1,7 +1,7 @@
 //! The limits of the language.
 
 /// A limit of the language. Where two are passed at one token, the first in this list counts.
-#[derive(Clone, Copy, Debug, PartialEq, Eq)]
+#[derive(Clone, Copy, PartialEq, Eq)]
 pub enum Which {
     /// How deep parentheses, IF, FOR and BEGIN stand in one another.
     Depth,
@@ -35,7 +35,7 @@ pub enum Which {
 }
 
 /// A limit, and the first token at which it is passed, counted from 1.
-#[derive(Clone, Copy, Debug, PartialEq, Eq)]
+#[derive(Clone, Copy)]
 pub struct Passed {
     pub which: Which,
     pub token: u32,

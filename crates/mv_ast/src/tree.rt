@@ -15,7 +15,7 @@ pub struct Name {
 }
 
 /// The bytes of a block: where they begin, how many there are, and whether a line `>>` ends them.
-#[derive(Clone, Copy, Debug, PartialEq, Eq)]
+#[derive(Clone, Copy)]
 pub struct Span {
     pub token: u32,
     pub at: u32,
@@ -240,14 +240,14 @@ pub enum ExprKind {
     Two(TwoOp, Boxed<Expr>, Boxed<Expr>),
 }
 
-#[derive(Clone, Copy, Debug, PartialEq, Eq)]
+#[derive(Clone, Copy, Debug)]
 pub enum OneOp {
     Neg,
     Not,
     TextOf,
 }
 
-#[derive(Clone, Copy, Debug, PartialEq, Eq)]
+#[derive(Clone, Copy, Debug)]
 pub enum TwoOp {
     Add,
     Sub,
