@@ -47,7 +47,7 @@ pub struct Reply {
 
 /// How calls are run: the greatest number of repairs and moves before a call is decided in one step, from 0 to 100,
 /// and how many commits a start may lie behind, from 1, where that is limited.
-#[derive(Clone, Copy, Debug, PartialEq, Eq)]
+#[derive(Clone, Copy)]
 pub struct Options {
     pub rounds: u32,
     pub horizon: Option<u32>,

@@ -9,7 +9,7 @@ use crate::txt::Txt;
 use std::alloc::Global;
 
 /// The type of a column: a number, or a text of at most so many bytes, from 1 to 4,000.
-#[derive(Clone, Copy, Debug, PartialEq, Eq)]
+#[derive(Clone, Copy)]
 pub enum ColType {
     Int,
     Text(u16),
