@@ -12,7 +12,7 @@ use crate::classes::{
 use crate::token::Kind;
 
 /// What stands at the front, and how many bytes it takes.
-#[derive(Clone, Copy, Debug, PartialEq, Eq)]
+#[derive(Clone, Copy)]
 pub(crate) enum Piece {
     /// A blank or a comment.
     Gap(usize),

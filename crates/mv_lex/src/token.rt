@@ -1,7 +1,7 @@
 //! Tokens.
 
 /// What a token is.
-#[derive(Clone, Copy, Debug, PartialEq, Eq)]
+#[derive(Clone, Copy, PartialEq, Eq)]
 pub enum Kind {
     Word,
     Number,
@@ -15,7 +15,7 @@ pub enum Kind {
 }
 
 /// A token: its kind, the place of its first byte, from 0, and how many bytes it has.
-#[derive(Clone, Copy, Debug, PartialEq, Eq)]
+#[derive(Clone, Copy, PartialEq, Eq)]
 pub struct Token {
     pub kind: Kind,
     pub at: u32,
