@@ -1,4 +1,4 @@
-use Rattle.std.proofs.Common.{arith}
+use Rattle.std.proofs.Common.{arith, rules}
 use Rattle.std.proofs.lemmas.Grind.{common_steps}
 use Rattle.mv_edge.proofs.Steps.{whole_of, most_of}
 use Rattle.mv_edge.specs.declared.reading.TheConstants.{MOST}
@@ -7,6 +7,9 @@ use Rattle.mv_edge.proofs.reading.read_all.Goals as goal
 pub returns-then-n-eq0-clause-bytes : goal.returns-then-n-eq0-clause-bytes
 returns-then-n-eq0-clause-bytes g c =
     whole_of (g.S.Source.left c.args.source.now) (g.S.Source.left c.loop-buffer.source) c.loop-buffer.bytes MOST c.loop-buffer.invariant.so_far (c.in_ok-n.ensures.end (grind (arith, common_steps)) c.if-n-eq0.true) c.loop-buffer.invariant.within
+
+pub returns-then-n-eq0-clause-failed : goal.returns-then-n-eq0-clause-failed
+returns-then-n-eq0-clause-failed g c = search rules
 
 pub returns-clause-bytes : goal.returns-clause-bytes
 returns-clause-bytes g c =
