@@ -6,7 +6,7 @@ ghost use Rattle.mv_values.specs.Comparing.{op_holds};
 use std::cmp::Ordering;
 
 /// How two values of one type are compared.
-#[derive(Clone, Copy, PartialEq, Eq)]
+#[derive(Clone, Copy, Debug, PartialEq, Eq)]
 pub enum Op {
     Eq,
     Ne,
