@@ -22,7 +22,7 @@ pub struct Spot {
 
 /// A variable that a statement reads, and the number of the record that last set it: none where it still has the value
 /// that it began with.
-#[derive(Clone, Copy, Debug, PartialEq, Eq)]
+#[derive(Clone, Copy)]
 pub struct Read {
     pub slot: u16,
     pub definer: Option<usize>,
