@@ -13,7 +13,7 @@ use mv_values::value::{Key, Row};
 use std::alloc::Global;
 
 /// Why a view gives no rows.
-#[derive(Clone, Copy, Debug, PartialEq, Eq)]
+#[derive(Clone, Copy)]
 pub enum Refused {
     /// No memory was found.
     NoMemory,
