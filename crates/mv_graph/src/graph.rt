@@ -10,7 +10,7 @@ use mv_values::list::List;
 use mv_values::schema::TableInfo;
 
 /// The keyword that a statement begins with.
-#[derive(Clone, Copy, Debug, PartialEq, Eq)]
+#[derive(Clone, Copy)]
 pub enum Keyword {
     Set,
     Select,
@@ -56,7 +56,7 @@ pub struct Graph {
 }
 
 /// How a statement may depend on another: because that one directly holds it, by a variable, or by a table.
-#[derive(Clone, Copy, Debug, PartialEq, Eq)]
+#[derive(Clone, Copy, PartialEq)]
 pub struct Edges {
     pub control: bool,
     pub variable: bool,
