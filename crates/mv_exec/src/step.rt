@@ -22,7 +22,7 @@ use mv_values::value::Row;
 use std::alloc::Global;
 
 /// Whether statements are left behind the record that was added: `Ended` where none is.
-#[derive(Clone, Copy, Debug, PartialEq, Eq)]
+#[derive(Clone, Copy, PartialEq)]
 pub enum Stepped {
     Ran,
     Ended,
