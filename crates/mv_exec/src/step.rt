@@ -22,7 +22,7 @@ use mv_values::value::Row;
 use std::alloc::Global;
 
 /// Whether statements are left behind the record that was added: `Ended` where none is.
-#[derive(Clone, Copy, PartialEq)]
+#[derive(Clone, Copy, PartialEq, Eq)]
 pub enum Stepped {
     Ran,
     Ended,

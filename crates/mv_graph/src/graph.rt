@@ -56,7 +56,7 @@ pub struct Graph {
 }
 
 /// How a statement may depend on another: because that one directly holds it, by a variable, or by a table.
-#[derive(Clone, Copy, PartialEq)]
+#[derive(Clone, Copy, PartialEq, Eq)]
 pub struct Edges {
     pub control: bool,
     pub variable: bool,
