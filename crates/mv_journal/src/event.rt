@@ -1,7 +1,7 @@
 //! The events of a run.
 
 ghost use Rattle.std.specs.Prelude.{◌≡◌, ◌++◌, ◌∷◌, OnOk, OnErr, decimal, take, length};
-ghost use Rattle.mv_journal.specs.Events.{event_text};
+ghost use Rattle.mv_journal.specs.Events.{event_text, IsInRange};
 
 use itoa::Buffer;
 use mv_values::list::List;
@@ -31,6 +31,7 @@ pub enum Event {
 pub fn write_event(event: Event, text: &mut List<u8>) -> Result<(), NoMemory>
     ensures ok { OnOk result (text.new ≡ text.old ++ event_text event) }
     ensures err { OnErr result (take (length text.old) text.new ≡ text.old) }
+    ensures range { IsInRange event }
 {
     match event {
         Event::B(call) => write_named(b'B', call, text),
