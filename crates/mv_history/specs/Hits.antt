@@ -1,0 +1,70 @@
+-- Which changes hit a record, and which writes touch it. A predicate is judged by the columns that it tests and selects; both rules are
+-- this project's own.
+use Rattle.std.specs.Prelude.{ℕ, ◌==◌, Bool, true, false, not, ◌&&◌, List, [], ◌∷◌, ◌++◌, Option, Some, None, map, if◌then◌else◌}
+use Rattle.std.specs.List.{list_any}
+use Rattle.std.specs.Ordering.{is_eq}
+use Rattle.mv_values.specs.declared.value.Value.{Value}
+use Rattle.mv_values.specs.declared.pred.Pred.{Pred}
+use Rattle.mv_values.specs.declared.patch.Patch.{Patch}
+use Rattle.mv_values.specs.declared.patch.Patch.TheVariants.{Insert, Set, Delete}
+use Rattle.mv_values.specs.declared.patch.Write.{Write}
+use Rattle.mv_values.specs.Columns.{columns_of}
+use Rattle.mv_values.specs.Order.{key_order}
+use Rattle.mv_values.specs.Preds.{admits, names, sees}
+use Rattle.mv_record.specs.declared.record.Record.{Record}
+use Rattle.mv_record.specs.Runs.{writes_in}
+use Rattle.mv_record.specs.Writes.{is_on}
+use Rattle.mv_history.specs.declared.change.Change.{Change}
+use Rattle.mv_history.specs.Changes.{is_same}
+
+-- Hit
+
+-- the columns that a predicate selects or tests
+abbrev pub named_columns : Pred → List ℕ
+named_columns p = p.columns ++ map (λ t. t.column) p.tests
+
+-- both rows are absent, or both have the same values in the columns that the predicate selects or tests
+abbrev pub is_alike : Pred → Option (List Value) → Option (List Value) → Bool
+is_alike p None None = true
+is_alike p (Some a) (Some b) = is_eq (key_order (columns_of a (named_columns p)) (columns_of b (named_columns p)))
+is_alike p None (Some b) = false
+is_alike p (Some a) None = false
+
+-- one of these records wrote the key
+abbrev pub has_written : List Record → Change → Bool
+has_written rs c = list_any (is_on c.table c.key) (writes_in rs)
+
+-- Of a key that records before this one wrote, a change hits where the predicate admits the key and a column that it names, or whether
+-- the row is there, differs. Of another key it hits where the predicate sees something else than before.
+abbrev pub hits_predicate : List Record → Change → Pred → Bool
+hits_predicate before c p =
+    (c.table == p.table) && (if has_written before c then admits p c.key && not (is_alike p c.before c.after) else not (is_same (sees p c.before) (sees p c.after)))
+
+-- Hit: the change hits a record, before which its call left others
+abbrev pub hits : List Record → Record → Change → Bool
+hits before r c = list_any (hits_predicate before c) r.preds
+
+-- a change of the list hits a record
+abbrev pub any_hits : List Change → List Record → Record → Bool
+any_hits changes before r = list_any (hits before r) changes
+
+-- no change of the list hits one of these records, before which their call left others
+abbrev pub is_unhit : List Change → List Record → List Record → Bool
+is_unhit changes before [] = true
+is_unhit changes before (r ∷ rs) = not (any_hits changes before r) && is_unhit changes (before ++ r ∷ []) rs
+
+-- Touch
+
+-- the patch makes or removes a row, or sets a column that the predicate selects or tests
+abbrev pub reaches : Pred → Patch → Bool
+reaches p (Insert row) = true
+reaches p (Set items) = list_any (λ a. names p a.column) items
+reaches p Delete = true
+
+-- the write is on a key that the predicate admits, and reaches it
+abbrev pub touches_predicate : Write → Pred → Bool
+touches_predicate w p = (w.table == p.table) && (admits p w.key && reaches p w.patch)
+
+-- Touch: the write touches a record
+abbrev pub touches : Record → Write → Bool
+touches r w = list_any (touches_predicate w) r.preds

@@ -1,0 +1,20 @@
+-- What holds of changes and of paths, whatever run they come from.
+use Rattle.std.specs.Prelude.{◌≡◌, List, ◌∷◌, ◌++◌, length}
+use Rattle.mv_values.specs.declared.rows.Keyed.{Keyed}
+use Rattle.mv_record.specs.declared.record.Record.{Record}
+use Rattle.mv_record.specs.Writes.{AreRising}
+use Rattle.mv_history.specs.declared.change.Change.{Change}
+use Rattle.mv_history.specs.Changes.{changes_between, Covers}
+use Rattle.mv_history.specs.Kept.{Placed, with_paths, next_placed}
+
+-- the changes between two databases whose keys rise cover what lies between them
+abbrev pub ChangesCover : Type 0
+ChangesCover = (old new : List (List Keyed)) → AreRising old → AreRising new → length old ≡ length new → Covers (changes_between old new) old new
+
+-- changes that cover one step and the next cover both
+abbrev pub ChangesJoin : Type 0
+ChangesJoin = (cs ds : List Change) (old mid new : List (List Keyed)) → Covers cs old mid → Covers ds mid new → Covers (cs ++ ds) old new
+
+-- the paths of the first records of a run don't hang on those after them
+abbrev pub FrontKeepsPaths : Type 0
+FrontKeepsPaths = (front : List Record) (r : Record) (behind : List Record) → (more : List Placed) × (with_paths (front ++ r ∷ behind) ≡ with_paths front ++ next_placed front r ∷ more)

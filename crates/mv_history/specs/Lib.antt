@@ -1,0 +1,4 @@
+pub mod Changes
+pub mod Hits
+pub mod Kept
+pub mod Laws
