@@ -1,0 +1,4 @@
+pub mod Entries
+pub mod Spanning
+pub mod Parting
+pub mod Storing

@@ -1,0 +1,7 @@
+use Rattle.std.proofs.Common.{subst}
+use Rattle.mv_table.specs.Entries.{KeysRise}
+use Rattle.mv_table.proofs.Entries.{entries_rise}
+use Rattle.mv_table.proofs.key_map.KeyMap.into_entries.Goals as goal
+
+pub returns-clause-rising : goal.returns-clause-rising
+returns-clause-rising g c = subst KeysRise c.self.view_is (entries_rise c.self.inside.entries.entries c.into_iter.ensures.into_iter_gives.5)

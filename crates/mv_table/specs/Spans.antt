@@ -1,0 +1,61 @@
+-- Spans of keys, and which one tests leave. The rule is this project's own.
+use Rattle.std.specs.Prelude.{◌≡◌, ◌<◌, ℕ, Bool, true, false, not, ◌&&◌, ◌==◌, List, Option, Some, None, length, pos, slice_index_or}
+use Rattle.std.specs.List.{list_all}
+use Rattle.std.specs.Ordering.{is_le, is_gt}
+use Rattle.mv_values.specs.declared.value.Value.{Value}
+use Rattle.mv_values.specs.declared.value.Value.TheVariants.{Int}
+use Rattle.mv_values.specs.declared.op.Op.{Op}
+use Rattle.mv_values.specs.declared.op.Op.TheVariants.{Eq, Lt, Le, Gt, Ge}
+use Rattle.mv_values.specs.declared.pred.Test.{Test}
+use Rattle.mv_values.specs.Columns.{column_of}
+use Rattle.mv_values.specs.Order.{key_order}
+use Rattle.mv_values.specs.Preds.{allows, agrees}
+use Rattle.mv_table.specs.declared.span.Span.{Span}
+use Rattle.mv_table.specs.declared.span.Side.{Side}
+use Rattle.mv_table.specs.declared.span.Side.TheVariants.{Both, Low, High}
+
+-- the key is at the end of a span or past it
+abbrev pub is_past : Option (List Value) → List Value → Bool
+is_past None key = false
+is_past (Some end') key = is_le (key_order end' key)
+
+-- the key is in the span: not below its low end, and below its high one
+abbrev pub is_within : Span → List Value → Bool
+is_within span key = is_le (key_order span.low key) && not (is_past span.high key)
+
+-- the low end isn't above the high one
+abbrev pub RunsTo : List Value → Option (List Value) → Type 0
+RunsTo low None = Unit {0}
+RunsTo low (Some high) = is_gt (key_order low high) ≡ false
+
+abbrev pub IsForward : Span → Type 0
+IsForward span = RunsTo span.low span.high
+
+-- every test on a key column holds of the key
+abbrev pub Admits : List Test → List Value → Type 0
+Admits tests key = list_all (agrees key) tests ≡ true
+
+-- each key that the tests admit is in the span
+abbrev pub Covers : List Test → Span → Type 0
+Covers tests span = (key : List Value) → Admits tests key → is_within span key ≡ true
+
+-- a key has these values in its first columns, where one that it doesn't have counts as 0
+abbrev pub Agrees : List Value → List Value → Type 0
+Agrees key front = (i : ℕ) → i < length front → column_of key i ≡ slice_index_or front i (Int (pos 0))
+
+-- a test by the comparison bounds a value from this side
+abbrev pub bounds : Side → Op → Bool
+bounds Both Eq = true
+bounds Low Gt = true
+bounds Low Ge = true
+bounds High Lt = true
+bounds High Le = true
+bounds side op = false
+
+-- the test holds of the value at the place of each key that the tests admit
+abbrev pub HoldsAt : List Test → ℕ → Test → Type 0
+HoldsAt tests place test = (key : List Value) → Admits tests key → allows test (column_of key place) ≡ true
+
+abbrev pub is_place : Option ℕ → ℕ → Bool
+is_place None place = false
+is_place (Some p) place = p == place

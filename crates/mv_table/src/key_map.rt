@@ -1,0 +1,130 @@
+//! A map by key, in key order.
+
+ghost use Rattle.std.specs.Prelude.{◌≡◌, [], length, None, Some, OnOk, OnErr, IfOk, IfErr, List, if◌then◌else◌};
+ghost use Rattle.std.specs.List.{filter};
+ghost use Rattle.std.specs.Option.{option_copied};
+ghost use Rattle.std.specs.Ordering.{is_eq};
+ghost use Rattle.mv_values.specs.declared.value.Value.{Value};
+ghost use Rattle.mv_values.specs.Order.{key_order};
+ghost use Rattle.mv_table.specs.Entries.{item_of, with_item, KeysRise};
+ghost use Rattle.mv_table.specs.Spans.{is_within, IsForward};
+
+use crate::span::Span;
+use mv_values::memory::NoMemory;
+use mv_values::value::Key;
+use std::alloc::Global;
+use std::collections::BTreeMap;
+use std::collections::btree_map::{IntoIter, Iter, Range};
+use std::marker::Model;
+use std::mem;
+use std::ops::Bound;
+
+/// Items by key. Contracts see the entries in key order.
+#[derive(Drop)]
+pub struct KeyMap<T> {
+    entries: BTreeMap<Key, T>,
+}
+
+impl<T> Model for KeyMap<T> {
+    ghost use Rattle.std.specs.Prelude.{List as Seq};
+    ghost use Rattle.mv_values.specs.declared.value.Value.{Value as Val};
+
+    ghost Value = { Seq (Seq Val × T) };
+
+    ghost view = { λ m. m.entries.entries };
+}
+
+impl<T> KeyMap<T> {
+    /// No items. It takes no memory.
+    pub fn new(alloc: Global) -> KeyMap<T>
+        ensures { result ≡ [] }
+    {
+        KeyMap {
+            entries: BTreeMap::new(alloc),
+        }
+    }
+
+    /// How many items there are.
+    pub fn len(&self) -> usize
+        ensures len { result ≡ length self.now }
+        ensures rising { KeysRise self.now }
+    {
+        self.entries.len()
+    }
+
+    /// The item under a key. It costs the logarithm of the number of items.
+    pub fn get(&self, key: &Key) -> Option<&T>
+        ensures { option_copied result ≡ item_of self.now key.now }
+    {
+        self.entries.get(key)
+    }
+
+    /// The entries, in key order.
+    pub fn iter(&self) -> Iter<'_, Key, T>
+        ensures items { result ≡ self.now }
+        ensures rising { KeysRise self.now }
+    {
+        self.entries.iter()
+    }
+
+    /// The entries whose keys are in the span, in key order. It costs the logarithm of the number of items.
+    pub fn range(&self, span: &Span) -> Range<'_, Key, T>
+        requires { IsForward span.now }
+        ensures items { result ≡ filter (λ e. is_within span.now e.0) self.now }
+        ensures rising { KeysRise self.now }
+    {
+        let low = Bound::Included(&span.low);
+        match &span.high {
+            Some(high) => self.entries.range((low, Bound::Excluded(high))),
+            None => self.entries.range((low, Bound::Unbounded)),
+        }
+    }
+}
+
+impl<T> KeyMap<T> {
+    /// Puts an item in the place of the one under a key, which is handed out; where there is none, nothing changes. It
+    /// costs the logarithm of the number of items, and takes no memory.
+    pub fn replace(&mut self, key: &Key, item: T) -> Result<T, T>
+        ensures items { OnOk result (self.new ≡ with_item key.now (Some item) self.old) }
+        ensures was { IfOk result (λ was. item_of self.old key.now ≡ Some was) }
+        ensures none { IfErr result (λ back. (back ≡ item) × (item_of self.old key.now ≡ None)) }
+        ensures same { OnErr result (self.new ≡ self.old) }
+    {
+        let Some(place) = self.entries.get_mut(key) else {
+            return Err(item);
+        };
+        Ok(mem::replace(place, item))
+    }
+}
+
+impl<T: Drop> KeyMap<T> {
+    /// Puts an item under a key, in the place of one that stands there, which is handed out. It costs the logarithm of
+    /// the number of items.
+    pub fn put(&mut self, key: Key, item: T) -> Result<Option<T>, NoMemory>
+        ensures ok { OnOk result (self.new ≡ with_item key (Some item) self.old) }
+        ensures at { OnOk result ((other : List Value) → item_of self.new other ≡ (if is_eq (key_order key other) then Some item else item_of self.old other)) }
+        ensures was { IfOk result (λ was. was ≡ item_of self.old key) }
+        ensures err { OnErr result (self.new ≡ self.old) }
+    {
+        let was = self.entries.insert(key, item)?;
+        Ok(was)
+    }
+
+    /// Takes the item under a key out. It costs the logarithm of the number of items, and takes no memory.
+    pub fn take(&mut self, key: &Key) -> Option<T>
+        ensures items { self.new ≡ with_item key.now None self.old }
+        ensures at { (other : List Value) → item_of self.new other ≡ (if is_eq (key_order key.now other) then None else item_of self.old other) }
+        ensures was { result ≡ item_of self.old key.now }
+    {
+        let _len = self.entries.len();
+        self.entries.remove(key)
+    }
+
+    /// Hands the entries out, in key order.
+    pub fn into_entries(self) -> IntoIter<Key, T, Global>
+        ensures items { result ≡ self }
+        ensures rising { KeysRise self }
+    {
+        self.entries.into_iter()
+    }
+}

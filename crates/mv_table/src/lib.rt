@@ -1,0 +1,6 @@
+//! Maps and tables by key: stored rows in key order, and the span of keys that tests leave to look at.
+#![tactic(auto)]
+
+pub mod key_map;
+pub mod span;
+pub mod table;

@@ -1,0 +1,291 @@
+//! The span of keys that tests leave to look at.
+
+ghost use Rattle.std.specs.Prelude.{◌≡◌, not, ◌++◌, ◌∷◌, [], ◌≤◌, true, false, pos, List, length, slice_range, IfOk, IfSome};
+ghost use Rattle.std.specs.List.{filter, All};
+ghost use Rattle.std.specs.Ordering.{is_lt, is_le};
+ghost use Rattle.std.specs.declared.cmp.Ordering.TheVariants.{Less};
+ghost use Rattle.mv_values.specs.declared.value.Value.{Value};
+ghost use Rattle.mv_values.specs.declared.value.Value.TheVariants.{Int};
+ghost use Rattle.mv_values.specs.declared.rows.Keyed.{Keyed};
+ghost use Rattle.mv_values.specs.Columns.{column_of};
+ghost use Rattle.mv_values.specs.Keys.{IsRising};
+ghost use Rattle.mv_values.specs.Order.{value_order, key_order};
+ghost use Rattle.mv_values.specs.Preds.{allows};
+ghost use Rattle.mv_table.specs.declared.span.Side.TheVariants.{Both, Low, High};
+ghost use Rattle.mv_table.specs.Spans.{is_past, is_within, IsForward, Admits, Covers, Agrees, bounds, HoldsAt, is_place};
+
+use mv_values::copied::Copied;
+use mv_values::list::List;
+use mv_values::memory::NoMemory;
+use mv_values::op::Op;
+use mv_values::pred::Test;
+use mv_values::rows::Keyed;
+use mv_values::txt::Txt;
+use mv_values::value::{Key, Value, compare_keys};
+use std::alloc::Global;
+
+/// The keys from `low` on and below `high`, or all of them from `low` on.
+#[derive(Drop)]
+pub struct Span {
+    pub low: Key,
+    pub high: Option<Key>,
+}
+
+/// From which side a test bounds a value: `=` from both.
+#[derive(Clone, Copy)]
+enum Side {
+    Both,
+    Low,
+    High,
+}
+
+impl Side {
+    /// Whether a test by the comparison bounds a value from this side.
+    fn bounds(self, op: Op) -> bool
+        ensures { result ≡ bounds self op }
+    {
+        match (self, op) {
+            (Side::Both, Op::Eq) => true,
+            (Side::Low, Op::Gt) => true,
+            (Side::Low, Op::Ge) => true,
+            (Side::High, Op::Lt) => true,
+            (Side::High, Op::Le) => true,
+            _ => false,
+        }
+    }
+}
+
+/// Whether it is this place of the key.
+fn is_place(key_place: Option<u8>, place: usize) -> bool
+    ensures { result ≡ is_place key_place place }
+{
+    match key_place {
+        None => false,
+        Some(p) => p as usize == place,
+    }
+}
+
+/// The first test on a place of the key that bounds its value from this side.
+fn test_at(tests: &[Test], place: usize, side: Side) -> Option<&Test>
+    ensures side { IfSome result (λ test. bounds side test.now.op ≡ true) }
+    ensures holds { IfSome result (λ test. HoldsAt tests.now place test.now) }
+{
+    for test in tests {
+        if is_place(test.key_place, place) && side.bounds(test.op) {
+            return Some(test);
+        }
+    }
+    None
+}
+
+/// The values that the tests give the first columns of the key by `=`.
+fn first_values(alloc: Global, tests: &[Test]) -> Result<List<Value>, NoMemory>
+    ensures { IfOk result (λ front. (key : List Value) → Admits tests.now key → Agrees key front) }
+{
+    let mut front = List::new(alloc);
+    for place in 0..tests.len() {
+        match test_at(tests, place, Side::Both) {
+            Some(test) => front.push(test.value.copy(alloc)?)?,
+            None => return Ok(front),
+        }
+    }
+    Ok(front)
+}
+
+/// A value above this one and all below it.
+fn value_above(alloc: Global, value: &Value) -> Result<Value, NoMemory>
+    ensures { IfOk result (λ above. (v : Value) → is_le (value_order v value.now) ≡ true → value_order v above ≡ Less) }
+{
+    match value {
+        Value::Int(n) => match n.checked_add(1) {
+            Some(next) => Ok(Value::Int(next)),
+            None => Ok(Value::Text(Txt::new(alloc))),
+        },
+        Value::Text(text) => {
+            let mut longer = text.copy(alloc)?;
+            longer.append(b" ")?;
+            Ok(Value::Text(longer))
+        }
+    }
+}
+
+/// The least value that a test leaves. Of a text it is too low by the text itself, where the test is `>`.
+fn least_of(alloc: Global, test: &Test) -> Result<Value, NoMemory>
+    requires { bounds Low test.now.op ≡ true }
+    ensures { IfOk result (λ least. (v : Value) → allows test.now v ≡ true → is_lt (value_order v least) ≡ false) }
+{
+    match (test.op, &test.value) {
+        (Op::Gt, Value::Int(n)) => Ok(Value::Int(n.saturating_add(1))),
+        (_, value) => value.copy(alloc),
+    }
+}
+
+/// A value above all that a test leaves.
+fn end_of(alloc: Global, test: &Test) -> Result<Value, NoMemory>
+    requires { bounds High test.now.op ≡ true }
+    ensures { IfOk result (λ end'. (v : Value) → allows test.now v ≡ true → value_order v end' ≡ Less) }
+{
+    if test.op == Op::Lt {
+        test.value.copy(alloc)
+    } else {
+        value_above(alloc, &test.value)
+    }
+}
+
+/// Copies of these values.
+fn copies(alloc: Global, values: &[Value]) -> Result<Key, NoMemory>
+    ensures { IfOk result (λ key. key ≡ values.now) }
+{
+    let mut key = List::new(alloc);
+    for value in values {
+        key.push(value.copy(alloc)?)?;
+    }
+    Ok(key)
+}
+
+/// Copies of these values, and one more behind them.
+fn key_with(alloc: Global, front: &[Value], last: Value) -> Result<Key, NoMemory>
+    ensures { IfOk result (λ key. key ≡ front.now ++ last ∷ []) }
+{
+    let mut key = copies(alloc, front)?;
+    key.push(last)?;
+    Ok(key)
+}
+
+/// A key above all that begin with these values, where there is a value.
+fn key_above(alloc: Global, front: &[Value]) -> Result<Option<Key>, NoMemory>
+    ensures { IfOk result (λ high. (key : List Value) → Agrees key front.now → is_past high key ≡ false) }
+{
+    match front.split_last() {
+        None => Ok(None),
+        Some((last, first)) => {
+            let above = value_above(alloc, last)?;
+            Ok(Some(key_with(alloc, first, above)?))
+        }
+    }
+}
+
+/// A key above all that the tests admit, where the tests bound one from above.
+fn high_end(alloc: Global, tests: &[Test], front: &[Value]) -> Result<Option<Key>, NoMemory>
+    ensures { IfOk result (λ high. (key : List Value) → Admits tests.now key → Agrees key front.now → is_past high key ≡ false) }
+{
+    match test_at(tests, front.len(), Side::High) {
+        None => key_above(alloc, front),
+        Some(test) => {
+            let end = end_of(alloc, test)?;
+            Ok(Some(key_with(alloc, front, end)?))
+        }
+    }
+}
+
+/// Drops numbers 0 from the end: a key may end before them, since a column that it doesn't have counts as 0.
+fn without_last_zeros(front: List<Value>) -> List<Value>
+    ensures { (key : List Value) → Agrees key front → is_le (key_order result key) ≡ true }
+{
+    let mut keep = 0;
+    for (i, value) in front.as_slice().iter().enumerate() {
+        if !value.is(&Value::Int(0)) {
+            keep = i + 1;
+        }
+    }
+    let mut front = front;
+    front.truncate(keep);
+    front
+}
+
+/// The least value above 0 that the tests leave at a place of the key, where they bound it so.
+fn least_at(alloc: Global, tests: &[Test], place: usize) -> Result<Option<Value>, NoMemory>
+    ensures least { IfOk result (λ least. IfSome least (λ v. (key : List Value) → Admits tests.now key → is_lt (value_order (column_of key place) v) ≡ false)) }
+    ensures above { IfOk result (λ least. IfSome least (λ v. value_order (Int (pos 0)) v ≡ Less)) }
+{
+    let Some(test) = test_at(tests, place, Side::Low) else {
+        return Ok(None);
+    };
+    let least = least_of(alloc, test)?;
+    if Value::Int(0).order(&least).is_lt() {
+        Ok(Some(least))
+    } else {
+        Ok(None)
+    }
+}
+
+/// A key that is above none that the tests admit.
+fn low_end(alloc: Global, tests: &[Test], front: List<Value>) -> Result<Key, NoMemory>
+    ensures { IfOk result (λ low. (key : List Value) → Admits tests.now key → Agrees key front → is_le (key_order low key) ≡ true) }
+{
+    match least_at(alloc, tests, front.len())? {
+        None => Ok(without_last_zeros(front)),
+        Some(least) => {
+            let mut low = front;
+            low.push(least)?;
+            Ok(low)
+        }
+    }
+}
+
+impl Span {
+    /// The span from one key to another, or no key at all where the first is above the second.
+    fn between(alloc: Global, low: Key, high: Option<Key>) -> Result<Span, NoMemory>
+        ensures forward { IfOk result IsForward }
+        ensures same { IfOk result (λ span. (key : List Value) → is_le (key_order low key) ≡ true → is_past high key ≡ false → is_within span key ≡ true) }
+    {
+        if let Some(end) = &high {
+            if compare_keys(low.as_slice(), end.as_slice()).is_gt() {
+                let high = Some(low.copy(alloc)?);
+                return Ok(Span { low, high });
+            }
+        }
+        Ok(Span { low, high })
+    }
+
+    /// The keys that these tests leave to look at: those with the values that `=` gives the first columns of the key,
+    /// and on the key column after these within what `<`, `<=`, `>` and `>=` leave. Each key that the tests admit is
+    /// among them. It costs the size of these values, and the number of tests for each.
+    pub fn of(alloc: Global, tests: &[Test]) -> Result<Span, NoMemory>
+        ensures covers { IfOk result (Covers tests.now) }
+        ensures forward { IfOk result IsForward }
+    {
+        let front = first_values(alloc, tests)?;
+        let high = high_end(alloc, tests, front.as_slice())?;
+        let low = low_end(alloc, tests, front)?;
+        Span::between(alloc, low, high)
+    }
+
+    /// Whether the key is below the end of the span.
+    fn is_before_end(&self, key: &[Value]) -> bool
+        ensures { result ≡ not (is_past self.now.high key.now) }
+    {
+        match &self.high {
+            None => true,
+            Some(high) => compare_keys(high.as_slice(), key).is_gt(),
+        }
+    }
+
+    /// The rows whose keys are in the span. It costs the logarithm of the number of rows.
+    pub fn part<'a>(&self, rows: &'a [Keyed]) -> &'a [Keyed]
+        requires forward { IsForward self.now }
+        requires rising { IsRising rows.now }
+        ensures { result.now ≡ filter (λ item. is_within self.now item.key) rows.now }
+    {
+        let from = rows.partition_point(
+            |item: &Keyed| -> bool
+                ensures { result ≡ not (is_le (key_order self.entry.now.low item.now.key)) }
+            { compare_keys(self.low.as_slice(), item.key.as_slice()).is_gt() },
+        );
+        let to = rows.partition_point(
+            |item: &Keyed| -> bool
+                ensures { result ≡ not (is_past self.entry.now.high item.now.key) }
+            { self.is_before_end(item.key.as_slice()) },
+        );
+        part(rows, from, to)
+    }
+}
+
+/// The rows from one place up to another.
+fn part(rows: &[Keyed], from: usize, to: usize) -> &[Keyed]
+    requires order { from ≤ to }
+    requires within { to ≤ length rows.now }
+    ensures { result.now ≡ slice_range rows.now from to }
+{
+    &rows[from..to]
+}
