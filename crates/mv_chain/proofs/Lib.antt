@@ -1,0 +1,4 @@
+pub mod Columns
+pub mod Versions
+pub mod Places
+pub mod Values

@@ -1,0 +1,178 @@
+//! The versions of a row.
+
+ghost use Rattle.std.specs.Prelude.{◌≡◌, ◌<◌, ◌≤◌, ◌++◌, ◌∷◌, ℕ, [], IfOk, OnOk, OnErr, IfSome, length, slice_get};
+ghost use Rattle.std.specs.Vec.{vec_capacity};
+ghost use Rattle.std.specs.Option.{is_some, option_and_then, option_copied};
+ghost use Rattle.mv_chain.specs.Versions.{row_at, newest, IsNext, without, with_own, stamped, collected};
+
+use crate::commit::do_patch;
+use crate::compose::compose;
+use crate::pending::{Pending, place_of};
+use crate::undo::{Undo, place_after, stood_before, take_back, value_before};
+use mv_values::copied::Copied;
+use mv_values::memory::NoMemory;
+use mv_values::patch::Patch;
+use mv_values::value::{Row, Value};
+use std::alloc::Global;
+use std::marker::Model;
+use std::mem;
+
+/// The versions of a row: the row after each commit since the last collection, and the patches of calls that have not committed. One
+/// without old versions takes its row and the room of two empty lists.
+#[derive(Drop)]
+pub struct Chain {
+    row: Option<Row>,
+    undos: Vec<Undo>,
+    own: Vec<Pending>,
+}
+
+impl Model for Chain {
+    ghost use Rattle.std.specs.Prelude.{◌≤◌, ◌+◌, length};
+    ghost use Rattle.std.specs.Vec.{vec_capacity};
+    ghost use Rattle.mv_chain.specs.Versions.{Versions};
+    ghost use Rattle.mv_chain.specs.Undoing.{before, commits_of, Rises};
+
+    ghost Value = { Versions };
+
+    ghost view = { λ c. record { base = before c.undos.items c.row; commits = commits_of c.undos.items c.row; own = c.own.items } };
+
+    ghost invariant = { λ c. Rises c.undos.items × (length c.undos.items + length c.own.items ≤ vec_capacity c.undos) };
+}
+
+impl Chain {
+    /// The versions of a row, or of none, before any commit. It takes no memory.
+    pub fn new(alloc: Global, base: Option<Row>) -> Chain
+        ensures { result ≡ record { base = base; commits = []; own = [] } }
+    {
+        Chain {
+            row: base,
+            undos: Vec::new(alloc),
+            own: Vec::new(alloc),
+        }
+    }
+
+    /// The row that the last commit left, where there is one.
+    pub fn newest(&self) -> Option<&Row>
+        ensures { option_copied result ≡ newest self.now }
+    {
+        self.row.as_ref()
+    }
+
+    /// A copy of the row after n commits, where there is one. It costs the size of the row, the logarithm of the number of commits,
+    /// and the patches of those after n.
+    pub fn row_at(&self, alloc: Global, n: u32) -> Result<Option<Row>, NoMemory>
+        ensures { IfOk result (λ row. row ≡ row_at self.now n) }
+    {
+        let first = place_after(self.undos.as_slice(), n);
+        let mut row = copy_of(alloc, self.row.as_ref())?;
+        let mut at = self.undos.len();
+        while first < at {
+            at -= 1;
+            row = take_back(alloc, row, &self.undos[at].patch)?;
+        }
+        Ok(row)
+    }
+
+    /// Whether there is a row after n commits. It costs the logarithm of the number of commits, and those after n up to the first that
+    /// inserts or deletes.
+    pub fn exists_at(&self, n: u32) -> bool
+        ensures { result ≡ is_some (row_at self.now n) }
+    {
+        let first = place_after(self.undos.as_slice(), n);
+        stood_before(&self.undos[first..], self.row.as_ref())
+    }
+
+    /// Lends the value of a column after n commits, where there is a row. It costs the logarithm of the number of commits, and those
+    /// after n up to the first that sets the column.
+    pub fn value_at(&self, n: u32, column: u8) -> Option<&Value>
+        requires { IfSome (row_at self.now n) (λ row. column < length row) }
+        ensures { option_copied result ≡ option_and_then (λ row. slice_get row column) (row_at self.now n) }
+    {
+        if !self.exists_at(n) {
+            return None;
+        }
+        let first = place_after(self.undos.as_slice(), n);
+        value_before(&self.undos[first..], self.row.as_ref(), column)
+    }
+
+    /// Adds a patch of a call, after the call's own, and makes room for its stamp. Where no memory is found the versions are as before.
+    pub fn put(&mut self, call: u32, patch: Patch) -> Result<(), NoMemory>
+        ensures ok { OnOk result (self.new ≡ record self.old { own = with_own call patch self.old.own }) }
+        ensures err { OnErr result (self.new ≡ self.old) }
+    {
+        self.undos.reserve(self.own.len() + 1)?;
+        match place_of(self.own.as_slice(), call) {
+            Some(at) => compose(&mut self.own[at].patch, patch),
+            None => {
+                self.own.push(Pending { call, patch })?;
+                Ok(())
+            }
+        }
+    }
+
+    /// Makes a call's patch commit n, where it has one. It takes no memory.
+    pub fn stamp(&mut self, call: u32, n: u32)
+        requires { IsNext n self.old }
+        ensures { self.new ≡ stamped call n self.old }
+    {
+        let Some(at) = place_of(self.own.as_slice(), call) else {
+            return;
+        };
+        let patch = mem::replace(&mut self.own[at].patch, Patch::Delete);
+        let done = do_patch(self.row.take(), patch);
+        self.row = done.row;
+        push_within(
+            &mut self.undos,
+            Undo {
+                commit: n,
+                patch: done.undo,
+            },
+        );
+        forget(&mut self.own, call);
+    }
+
+    /// Drops a call's patch. It takes no memory.
+    pub fn drop_of(&mut self, call: u32)
+        ensures { self.new ≡ record self.old { own = without call self.old.own } }
+    {
+        forget(&mut self.own, call);
+    }
+
+    /// Forgets the rows before commit `low`. Reads from `low` on stay as they were, and so do the patches that are not committed. It
+    /// takes no memory.
+    pub fn collect(&mut self, low: u32)
+        ensures versions { self.new ≡ collected low self.old }
+        ensures reads { (n : ℕ) → low ≤ n → row_at self.new n ≡ row_at self.old n }
+    {
+        let gone = place_after(self.undos.as_slice(), low);
+        let left = self.undos.len() - gone;
+        self.undos.rotate_left(gone);
+        self.undos.truncate(left);
+    }
+}
+
+/// A copy of a row, where there is one.
+fn copy_of(alloc: Global, row: Option<&Row>) -> Result<Option<Row>, NoMemory>
+    ensures { IfOk result (λ copy. copy ≡ option_copied row.entry) }
+{
+    match row {
+        Some(row) => Ok(Some(row.copy(alloc)?)),
+        None => Ok(None),
+    }
+}
+
+/// Adds an entry at the end, where there is room.
+fn push_within(undos: &mut Vec<Undo>, entry: Undo)
+    requires { length undos.old.items < vec_capacity undos.old }
+    ensures items { undos.new.items ≡ undos.old.items ++ entry ∷ [] }
+    ensures room { vec_capacity undos.old ≤ vec_capacity undos.new }
+{
+    let _ = undos.push(entry);
+}
+
+/// Drops the patches of a call.
+fn forget(own: &mut Vec<Pending>, call: u32)
+    ensures { own.new.items ≡ without call own.old.items }
+{
+    own.retain(|pending| pending.call != call);
+}

@@ -1,0 +1,121 @@
+//! What takes commits back.
+
+ghost use Rattle.std.specs.Prelude.{◌≡◌, ◌≤◌, ◌<◌, IfOk, List, Some, drop, length, slice_get};
+ghost use Rattle.std.specs.Option.{is_some, option_copied};
+ghost use Rattle.mv_values.specs.declared.value.Value.{Value as Val};
+ghost use Rattle.mv_chain.specs.Undoing.{set_back, undone, before, item_on, later, Rises};
+
+use mv_values::copied::Copied;
+use mv_values::memory::NoMemory;
+use mv_values::patch::{Assign, Patch};
+use mv_values::value::{Row, Value};
+use std::alloc::Global;
+
+/// A commit's number, and the patch that takes it back. The items of a `Set` are done from the last to the first.
+#[derive(Drop)]
+pub struct Undo {
+    pub commit: u32,
+    pub patch: Patch,
+}
+
+/// The place of the first commit after n. It costs the logarithm of their number.
+pub(crate) fn place_after(undos: &[Undo], n: u32) -> usize
+    requires { Rises undos.now }
+    ensures later { drop result undos.now ≡ later n undos.now }
+    ensures within { result ≤ length undos.now }
+{
+    undos.partition_point(|undo| undo.commit <= n)
+}
+
+/// A row with columns set, from the last item to the first.
+fn set_back(alloc: Global, row: Row, items: &[Assign]) -> Result<Row, NoMemory>
+    ensures { IfOk result (λ new. new ≡ set_back items.now row) }
+{
+    let mut new = row;
+    let mut at = items.len();
+    while 0 < at {
+        at -= 1;
+        let item = &items[at];
+        if (item.column as usize) < new.len() {
+            new.set(item.column as usize, item.value.copy(alloc)?);
+        }
+    }
+    Ok(new)
+}
+
+/// The row before a commit, from the row after it. It costs the size of the patch.
+pub(crate) fn take_back(
+    alloc: Global,
+    row: Option<Row>,
+    patch: &Patch,
+) -> Result<Option<Row>, NoMemory>
+    ensures { IfOk result (λ was. was ≡ undone patch.now row) }
+{
+    match patch {
+        Patch::Insert(was) => Ok(Some(was.copy(alloc)?)),
+        Patch::Set(items) => match row {
+            Some(row) => Ok(Some(set_back(alloc, row, items.as_slice())?)),
+            None => Ok(None),
+        },
+        Patch::Delete => Ok(None),
+    }
+}
+
+/// Whether there was a row before these commits. It stops at the last of them that inserted or deleted.
+pub(crate) fn stood_before(undos: &[Undo], now: Option<&Row>) -> bool
+    ensures { result ≡ is_some (before undos.now (option_copied now.entry)) }
+{
+    for undo in undos {
+        match &undo.patch {
+            Patch::Insert(_) => return true,
+            Patch::Set(_) => {}
+            Patch::Delete => return false,
+        }
+    }
+    now.is_some()
+}
+
+/// The value that the first item on a column has.
+fn item_on(items: &[Assign], column: u8) -> Option<&Value>
+    ensures { option_copied result ≡ item_on column items.now }
+{
+    for item in items {
+        if item.column == column {
+            return Some(&item.value);
+        }
+    }
+    None
+}
+
+/// The value of a column, where the row has it.
+fn column_of(row: &Row, column: u8) -> Option<&Value>
+    ensures { option_copied result ≡ slice_get row.now column }
+{
+    row.as_slice().get(column as usize)
+}
+
+/// The value of a column before these commits, of a row that has the column. It stops at the first of them that set the column or
+/// deleted the row.
+pub(crate) fn value_before<'a>(
+    undos: &'a [Undo],
+    now: Option<&'a Row>,
+    column: u8,
+) -> Option<&'a Value>
+    ensures { (row : List Val) → before undos.now (option_copied now.entry) ≡ Some row → column < length row → option_copied result ≡ slice_get row column }
+{
+    for undo in undos {
+        match &undo.patch {
+            Patch::Insert(row) => return column_of(row, column),
+            Patch::Set(items) => {
+                if let Some(value) = item_on(items.as_slice(), column) {
+                    return Some(value);
+                }
+            }
+            Patch::Delete => return None,
+        }
+    }
+    match now {
+        Some(row) => column_of(row, column),
+        None => None,
+    }
+}
