@@ -2,3 +2,4 @@ pub mod Columns
 pub mod Versions
 pub mod Places
 pub mod Values
+pub mod Stamps

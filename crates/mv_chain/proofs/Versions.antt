@@ -1,10 +1,10 @@
 -- What versions are, by the newest row and what takes commits back.
 use Rattle.std.proofs.Common.{◌≡◌, ◌∷◌, ◌++◌, ◌<◌, ◌≤◌, ℕ, zero, suc, true, false, inl, inr, List, [], length, take, drop, get_or, Option, Some, None, refl, ap, sym, ◌∙◌, arith, rules, ◌-◌, length-drop}
-use Rattle.std.specs.Prelude.{nat_le, nat_lt, All}
+use Rattle.std.specs.Prelude.{nat_le, nat_lt, All, ◌↔◌}
 use Rattle.std.specs.List.{filter}
 use Rattle.std.specs.List.Sorted.{IsPartitionPoint, IsPartitionedBy}
 use Rattle.std.proofs.lemmas.Bool.{cases_Bool}
-use Rattle.std.proofs.lemmas.List.Elements.{All-head, All-tail}
+use Rattle.std.proofs.lemmas.List.Elements.{All-head, All-tail, All-nil, All-cons}
 use Rattle.mv_values.specs.declared.value.Value.{Value}
 use Rattle.mv_values.specs.declared.patch.Patch.{Patch}
 use Rattle.mv_chain.specs.declared.undo.Undo.{Undo}
@@ -155,3 +155,28 @@ fewer_later low (u ∷ us) = elim (cases_Bool (nat_le u.commit low)) [
 pub left_is : (us turned cut : List Undo) (gone left low : ℕ) → gone ≤ length us → drop gone us ≡ later low us → turned ≡ drop gone us ++ take gone us → left ≡ length us - gone → cut ≡ take left turned → cut ≡ later low us
 left_is us turned cut gone left low within later_is turned_is left_are cut_is =
     cut_is ∙ ap (take left) turned_is ∙ take_at (drop gone us) (take gone us) left (omega (arith, length-drop gone us, left_are)) ∙ later_is
+
+-- Whether a number is above all of them
+
+below_all : (n : ℕ) (us : List Undo) (now : Option (List Value)) → ((k : ℕ) (d : Undo) → k < length us → (get_or us k d).commit < n) → All (λ c. c.number < n) (commits_of us now)
+below_all n [] now h = All-nil (λ c. c.number < n)
+below_all n (u ∷ us) now h = All-cons (λ c. c.number < n) (record { number = u.commit; row = before us now }) (commits_of us now) (h 0 u (omega arith)) (below_all n us now (λ k d within. h (suc k) d (omega arith)))
+
+-- the last number is below n exactly where all are
+pub next_is : (n : ℕ) (us : List Undo) (now : Option (List Value)) (d : Undo) → Rises us → 0 < length us → ((get_or us (length us - 1) d).commit < n) ↔ All (λ c. c.number < n) (commits_of us now)
+next_is n us now d rises some = (
+  (λ last. below_all n us now (λ k e within.
+      let up : (get_or us k e).commit ≤ (get_or us (length us - 1) e).commit = rises_at us k (length us - 1) e rises (omega arith) (omega arith) in
+      let same : get_or us (length us - 1) e ≡ get_or us (length us - 1) d = get_or_same us (length us - 1) e d (omega arith) in
+      omega (arith, up, last, ap (λ u. u.commit) same))),
+  (λ all. all_below n us now all (length us - 1) d (omega arith)),
+)
+  where
+    get_or_same : (xs : List Undo) (i : ℕ) (a b : Undo) → i < length xs → get_or xs i a ≡ get_or xs i b
+    get_or_same [] i a b h = absurd (omega arith)
+    get_or_same (x ∷ xs) zero a b h = refl
+    get_or_same (x ∷ xs) (suc i) a b h = get_or_same xs i a b (omega arith)
+
+pub none_next : (n : ℕ) (us : List Undo) (now : Option (List Value)) → length us ≡ 0 → All (λ c. c.number < n) (commits_of us now)
+none_next n [] now h = All-nil (λ c. c.number < n)
+none_next n (u ∷ us) now h = absurd (omega arith)

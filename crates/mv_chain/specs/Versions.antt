@@ -48,6 +48,11 @@ abbrev pub own_of : ℕ → List Pending → Option Patch
 own_of call [] = None
 own_of call (p ∷ ps) = if p.call == call then Some p.patch else own_of call ps
 
+-- a row with a call's patch done, where it has one
+abbrev pub patched_by_own : Option Patch → Option (List Value) → Option (List Value)
+patched_by_own None row = row
+patched_by_own (Some patch) row = patched patch row
+
 abbrev pub without : ℕ → List Pending → List Pending
 without call ps = filter (λ p. not (p.call == call)) ps
 

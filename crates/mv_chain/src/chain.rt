@@ -1,14 +1,14 @@
 //! The versions of a row.
 
-ghost use Rattle.std.specs.Prelude.{◌≡◌, ◌<◌, ◌≤◌, ◌++◌, ◌∷◌, ℕ, [], IfOk, OnOk, OnErr, IfSome, length, slice_get};
+ghost use Rattle.std.specs.Prelude.{◌≡◌, ◌↔◌, IsTrue, ◌<◌, ◌≤◌, ◌++◌, ◌∷◌, ℕ, [], IfOk, OnOk, OnErr, OnSome, IfSome, length, slice_get};
 ghost use Rattle.std.specs.Vec.{vec_capacity};
 ghost use Rattle.std.specs.Option.{is_some, option_and_then, option_copied};
-ghost use Rattle.mv_chain.specs.Versions.{row_at, newest, IsNext, without, with_own, stamped, collected};
+ghost use Rattle.mv_chain.specs.Versions.{row_at, newest, IsNext, own_of, without, with_own, stamped, collected};
 
 use crate::commit::do_patch;
 use crate::compose::compose;
 use crate::pending::{Pending, place_of};
-use crate::undo::{Undo, place_after, stood_before, take_back, value_before};
+use crate::undo::{Undo, are_below, place_after, stood_before, take_back, value_before};
 use mv_values::copied::Copied;
 use mv_values::memory::NoMemory;
 use mv_values::patch::Patch;
@@ -110,9 +110,16 @@ impl Chain {
         }
     }
 
-    /// Makes a call's patch commit n, where it has one. It takes no memory.
+    /// Whether all commits have smaller numbers, so that n can be stamped. It takes constant time.
+    pub fn is_next(&self, n: u32) -> bool
+        ensures { IsTrue result ↔ IsNext n self.now }
+    {
+        are_below(self.undos.as_slice(), n)
+    }
+
+    /// Makes a call's patch commit n, where it has one; the number has to be above those of all commits. It takes no memory.
     pub fn stamp(&mut self, call: u32, n: u32)
-        requires { IsNext n self.old }
+        requires { OnSome (own_of call self.old.own) (IsNext n self.old) }
         ensures { self.new ≡ stamped call n self.old }
     {
         let Some(at) = place_of(self.own.as_slice(), call) else {

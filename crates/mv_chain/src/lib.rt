@@ -8,5 +8,6 @@
 pub mod chain;
 mod commit;
 mod compose;
+pub mod laws;
 pub mod pending;
 mod undo;

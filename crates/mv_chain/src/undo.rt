@@ -1,9 +1,9 @@
 //! What takes commits back.
 
-ghost use Rattle.std.specs.Prelude.{◌≡◌, ◌≤◌, ◌<◌, IfOk, List, Some, drop, length, slice_get};
+ghost use Rattle.std.specs.Prelude.{◌≡◌, ◌↔◌, ◌≤◌, ◌<◌, IsTrue, IfOk, All, List, Option, Some, drop, length, slice_get};
 ghost use Rattle.std.specs.Option.{is_some, option_copied};
 ghost use Rattle.mv_values.specs.declared.value.Value.{Value as Val};
-ghost use Rattle.mv_chain.specs.Undoing.{set_back, undone, before, item_on, later, Rises};
+ghost use Rattle.mv_chain.specs.Undoing.{set_back, undone, before, commits_of, item_on, later, Rises};
 
 use mv_values::copied::Copied;
 use mv_values::memory::NoMemory;
@@ -25,6 +25,14 @@ pub(crate) fn place_after(undos: &[Undo], n: u32) -> usize
     ensures within { result ≤ length undos.now }
 {
     undos.partition_point(|undo| undo.commit <= n)
+}
+
+/// Whether all commits have smaller numbers.
+pub(crate) fn are_below(undos: &[Undo], n: u32) -> bool
+    requires { Rises undos.now }
+    ensures { (now : Option (List Val)) → IsTrue result ↔ All (λ c. c.number < n) (commits_of undos.now now) }
+{
+    undos.is_empty() || undos[undos.len() - 1].commit < n
 }
 
 /// A row with columns set, from the last item to the first.
