@@ -1,6 +1,6 @@
 -- Which changes hit a record, and which writes touch it. A predicate is judged by the columns that it tests and selects; both rules are
 -- this project's own.
-use Rattle.std.specs.Prelude.{ℕ, ◌==◌, Bool, true, false, not, ◌&&◌, List, [], ◌∷◌, ◌++◌, Option, Some, None, map, if◌then◌else◌}
+use Rattle.std.specs.Prelude.{ℕ, ◌+◌, ◌==◌, Bool, true, false, not, ◌&&◌, List, [], ◌∷◌, ◌++◌, Option, Some, None, map, length, if◌then◌else◌}
 use Rattle.std.specs.List.{list_any}
 use Rattle.std.specs.Ordering.{is_eq}
 use Rattle.mv_values.specs.declared.value.Value.{Value}
@@ -15,6 +15,7 @@ use Rattle.mv_record.specs.declared.record.Record.{Record}
 use Rattle.mv_record.specs.Runs.{writes_in}
 use Rattle.mv_record.specs.Writes.{is_on}
 use Rattle.mv_history.specs.declared.change.Change.{Change}
+use Rattle.mv_history.specs.declared.change.Hit.{Hit}
 use Rattle.mv_history.specs.Changes.{is_same}
 
 -- Hit
@@ -52,6 +53,20 @@ any_hits changes before r = list_any (hits before r) changes
 abbrev pub is_unhit : List Change → List Record → List Record → Bool
 is_unhit changes before [] = true
 is_unhit changes before (r ∷ rs) = not (any_hits changes before r) && is_unhit changes (before ++ r ∷ []) rs
+
+-- the first commit that hits a record; the first of the commits, each given by its changes, has this number
+abbrev pub first_commit : ℕ → List (List Change) → List Record → Record → Option ℕ
+first_commit number [] before r = None
+first_commit number (changes ∷ later) before r = if any_hits changes before r then Some number else first_commit (number + 1) later before r
+
+abbrev pub or_later : ℕ → Option ℕ → Option Hit → Option Hit
+or_later number None later = later
+or_later number (Some commit) later = Some (record { number = number; commit = commit })
+
+-- the first of the rest of a call's records that is hit, with the first commit that hits it
+abbrev pub first_hit : ℕ → List (List Change) → List Record → List Record → Option Hit
+first_hit number commits before [] = None
+first_hit number commits before (r ∷ rs) = or_later (length before) (first_commit number commits before r) (first_hit number commits (before ++ r ∷ []) rs)
 
 -- Touch
 

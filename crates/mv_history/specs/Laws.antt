@@ -1,10 +1,12 @@
 -- What holds of changes and of paths, whatever run they come from.
-use Rattle.std.specs.Prelude.{◌≡◌, List, ◌∷◌, ◌++◌, length}
+use Rattle.std.specs.Prelude.{◌≡◌, ℕ, true, List, [], ◌∷◌, ◌++◌, None, length}
+use Rattle.std.specs.List.{flat_map}
 use Rattle.mv_values.specs.declared.rows.Keyed.{Keyed}
 use Rattle.mv_record.specs.declared.record.Record.{Record}
 use Rattle.mv_record.specs.Writes.{AreRising}
 use Rattle.mv_history.specs.declared.change.Change.{Change}
 use Rattle.mv_history.specs.Changes.{changes_between, Covers}
+use Rattle.mv_history.specs.Hits.{first_hit, is_unhit}
 use Rattle.mv_history.specs.Kept.{Placed, with_paths, next_placed}
 
 -- the changes between two databases whose keys rise cover what lies between them
@@ -14,6 +16,10 @@ ChangesCover = (old new : List (List Keyed)) → AreRising old → AreRising new
 -- changes that cover one step and the next cover both
 abbrev pub ChangesJoin : Type 0
 ChangesJoin = (cs ds : List Change) (old mid new : List (List Keyed)) → Covers cs old mid → Covers ds mid new → Covers (cs ++ ds) old new
+
+-- where validation finds no hit, no change of any of the commits hits a record
+abbrev pub NoHitIsUnhit : Type 0
+NoHitIsUnhit = (number : ℕ) (commits : List (List Change)) (records : List Record) → first_hit number commits [] records ≡ None → is_unhit (flat_map (λ changes. changes) commits) [] records ≡ true
 
 -- the paths of the first records of a run don't hang on those after them
 abbrev pub FrontKeepsPaths : Type 0

@@ -1,4 +1,4 @@
-//! What lies between two databases.
+//! What lies between two databases, and what of it hits a call.
 
 use mv_values::value::{Key, Row};
 
@@ -10,4 +10,11 @@ pub struct Change {
     pub key: Key,
     pub before: Option<Row>,
     pub after: Option<Row>,
+}
+
+/// What validation finds: the number of the least record that is hit, and the number of the least commit that hits it.
+#[derive(Clone, Copy)]
+pub struct Hit {
+    pub number: usize,
+    pub commit: u32,
 }

@@ -1,0 +1,182 @@
+-- Records that are kept are the same in both runs.
+use Rattle.std.proofs.Common.{◌≡◌, ◌⊎◌, inl, inr, ◌<◌, ◌≤◌, ℕ, Bool, true, false, not, List, [], ◌∷◌, ◌++◌, Result, Ok, Err, map, refl, sym, ap, subst, ◌∙◌, arith}
+use Rattle.std.specs.Prelude.{◌&&◌, ◌||◌}
+use Rattle.std.specs.List.{flat_map, list_any}
+use Rattle.mv_values.specs.declared.value.Value.{Value}
+use Rattle.mv_values.specs.declared.pred.Pred.{Pred}
+use Rattle.mv_values.specs.declared.patch.Write.{Write}
+use Rattle.mv_values.specs.declared.schema.TableInfo.{TableInfo}
+use Rattle.mv_values.specs.declared.calls.End.{End}
+use Rattle.mv_values.specs.Patching.{applied}
+use Rattle.mv_values.specs.Tables.{key_columns, columns_at}
+use Rattle.mv_catalog.specs.declared.resolved.RCond.{RCond}
+use Rattle.mv_catalog.specs.declared.resolved.RStmt.TheOpen.{Assign, Select, Total, ForSelect, ForRows, Branch, Insert, Update, Delete, Print, Rollback}
+use Rattle.mv_alone.specs.declared.state.Check.{Check}
+use Rattle.mv_alone.specs.declared.state.Env.{Env}
+use Rattle.mv_alone.specs.declared.state.State.{State}
+use Rattle.mv_alone.specs.Env.{held_at}
+use Rattle.mv_alone.specs.Alone.{offset_of}
+use Rattle.mv_alone.specs.Changes.{new_row}
+use Rattle.mv_alone.specs.Rows.{checks_of}
+use Rattle.mv_alone.specs.TableAfter.{Tables}
+use Rattle.mv_record.specs.declared.record.Record.{Record}
+use Rattle.mv_record.specs.Runs.{writes_in}
+use Rattle.mv_recorded.specs.Asking.{on, asked, pred_of, preds_of, test_of, same_key}
+use Rattle.mv_recorded.specs.Reading.{variables, expressions, reads_of}
+use Rattle.mv_recorded.specs.Recorded.{Site, own_record}
+use Rattle.mv_effect.proofs.Matching.{places_of}
+use Rattle.mv_history.specs.declared.change.Change.{Change}
+use Rattle.mv_history.specs.Changes.{Covers}
+use Rattle.mv_history.specs.Hits.{hits_predicate, hits, touches_predicate, touches}
+use Rattle.mv_history.specs.Kept.{Path, Placed, reads_stay}
+use Rattle.mv_alike.specs.Inversion.{Bare, Stated, Each, Within, Suits, Fits, Ground, Here, StandsAt, IsOwn, OverSuits}
+use Rattle.mv_alike.proofs.Values.{Agree}
+use Rattle.mv_alike.proofs.Congruent.{contents, congruent, OverAgrees, SeenAlike}
+use Rattle.mv_alike.proofs.Seeing.{Merged, hits_by}
+use Rattle.mv_alike.proofs.Finding.{Places, seen_alike}
+use Rattle.mv_alike.proofs.Placing.{its}
+use Rattle.mv_alike.proofs.Definers.{KeptSame, held_same, stay_of}
+use Rattle.mv_alike.proofs.Keeping.{NoTouch}
+
+-- Predicates have the places of their tests
+
+places_asked : (tables : List TableInfo) (t : ℕ) (checks : List Check) (cs : List ℕ) → Places tables (pred_of tables t checks cs)
+places_asked tables t checks cs = places_of (key_columns tables t) (Ok checks) (map (test_of (key_columns tables t)) checks) refl
+
+places_where : (tables : List TableInfo) (t : ℕ) (conds : List RCond) (cs : List ℕ) (st : State) → Each (Places tables) (asked tables t conds cs st)
+places_where tables t conds cs st = by (checks_of conds st.env)
+  where
+    by : (r : Result (List Check) End) → Each (Places tables) (on r (λ checks. pred_of tables t checks cs ∷ []))
+    by (Ok checks) = (places_asked tables t checks cs, tt)
+    by (Err e) = tt
+
+pub places_preds : (tables : List TableInfo) (y : Bare) (st : State) → Each (Places tables) (preds_of tables y st)
+places_preds tables (Select cs xs t conds sorts offset) st = by (offset_of offset st.env)
+  where
+    by : (r : Result Value End) → Each (Places tables) (on r (λ n. asked tables t conds (cs ++ map (λ s. s.column) sorts) st))
+    by (Ok v) = places_where tables t conds (cs ++ map (λ s. s.column) sorts) st
+    by (Err e) = tt
+places_preds tables (Total agg x t conds) st = places_where tables t conds _ st
+places_preds tables (ForSelect x once cs t conds sorts body) st = places_where tables t conds _ st
+places_preds tables (Insert t es) st = by (new_row (columns_at tables t) es st.env)
+  where
+    by : (r : Result (List Value) End) → Each (Places tables) (on r (λ row. pred_of tables t (same_key (key_columns tables t) row) [] ∷ []))
+    by (Ok row) = (places_asked tables t (same_key (key_columns tables t) row) [], tt)
+    by (Err e) = tt
+places_preds tables (Update t items conds) st = places_where tables t conds _ st
+places_preds tables (Delete t conds) st = places_where tables t conds [] st
+places_preds tables (Assign x e) st = tt
+places_preds tables (ForRows x y body) st = tt
+places_preds tables (Branch e ys ns) st = tt
+places_preds tables (Print es) st = tt
+places_preds tables (Rollback reason) st = tt
+
+-- What the rule says
+
+pub and_parts : (a b : Bool) → (a && b) ≡ true → (a ≡ true) × (b ≡ true)
+and_parts true b h = (refl, h)
+and_parts false b h = cc
+
+or_parts : (a b : Bool) → (a || b) ≡ false → (a ≡ false) × (b ≡ false)
+or_parts true b h = cc
+or_parts false b h = (refl, h)
+
+pub not_so : (b : Bool) → not b ≡ true → b ≡ false
+not_so true h = cc
+not_so false h = refl
+
+pub none_of : {A : Type 0} (f : A → Bool) (xs : List A) → list_any f xs ≡ false → Each (λ x. f x ≡ false) xs
+none_of f [] h = tt
+none_of f (x ∷ xs) h = let both = or_parts (f x) (list_any f xs) h in (both.0, none_of f xs both.1)
+
+pub each_map : {A : Type 0} (P Q : A → Type 0) (xs : List A) → ((x : A) → P x → Q x) → Each P xs → Each Q xs
+each_map P Q [] f h = tt
+each_map P Q (x ∷ xs) f h = (f x h.0, each_map P Q xs f h.1)
+
+-- of each predicate, and each of other things
+pub swap : {A B : Type 0} (P : A → B → Type 0) (as' : List A) (bs : List B) → Each (λ a. Each (λ b. P a b) bs) as' → Each (λ b. Each (λ a. P a b) as') bs
+swap P [] [] h = tt
+swap P [] (b ∷ bs) h = (tt, swap P [] bs tt)
+swap P (a ∷ as') [] h = tt
+swap P (a ∷ as') (b ∷ bs) h = (heads (a ∷ as') h, swap P (a ∷ as') bs (tails (a ∷ as') h))
+  where
+    heads : (xs : List _) → Each (λ a. Each (λ b. P a b) (b ∷ bs)) xs → Each (λ a. P a b) xs
+    heads [] h = tt
+    heads (x ∷ xs) h = (h.0.0, heads xs h.1)
+
+    tails : (xs : List _) → Each (λ a. Each (λ b. P a b) (b ∷ bs)) xs → Each (λ a. Each (λ b. P a b) bs) xs
+    tails [] h = tt
+    tails (x ∷ xs) h = (h.0.1, tails xs h.1)
+
+-- no change hits a predicate of the record, and no write touches one
+abbrev pub Untouched : List Record → List Change → List Write → Pred → Type 0
+Untouched before changes ws p = Each (λ c. hits_by (writes_in before) c p ≡ false) changes × NoTouch p ws
+
+both_each : {A : Type 0} (P Q : A → Type 0) (xs : List A) → Each P xs → Each Q xs → Each (λ x. P x × Q x) xs
+both_each P Q [] h k = tt
+both_each P Q (x ∷ xs) h k = ((h.0, k.0), both_each P Q xs h.1 k.1)
+
+pub untouched : (before : List Record) (changes : List Change) (ws : List Write) (o : Record) → (not (list_any (hits before o) changes) && not (list_any (touches o) ws)) ≡ true → Each (Untouched before changes ws) o.preds
+untouched before changes ws o h =
+    let both = and_parts (not (list_any (hits before o) changes)) (not (list_any (touches o) ws)) h in
+    both_each (λ p. Each (λ c. hits_by (writes_in before) c p ≡ false) changes) (λ p. NoTouch p ws) o.preds
+    (swap (λ c p. hits_by (writes_in before) c p ≡ false) changes o.preds (each_map (λ c. hits before o c ≡ false) (λ c. Each (λ p. hits_by (writes_in before) c p ≡ false) o.preds) changes (λ c e. none_of (hits_predicate before c) o.preds e)
+    (none_of (hits before o) changes (not_so (list_any (hits before o) changes) both.0))))
+    (swap (λ w p. touches_predicate w p ≡ false) ws o.preds (each_map (λ w. touches o w ≡ false) (λ w. Each (λ p. touches_predicate w p ≡ false) o.preds) ws (λ w e. none_of (touches_predicate w) o.preds e)
+    (none_of (touches o) ws (not_so (list_any (touches o) ws) both.1))))
+
+-- One record
+
+agree_all : (base : ℕ) (rows : List ℕ) (e f : Env) (xs : List ℕ) → Each (λ x. (x < base) ⊎ Within x rows) xs → ((x : ℕ) → Within x xs → (x < base) ⊎ Within x rows → held_at e x ≡ held_at f x) → Agree e f xs
+agree_all base rows e f [] h k = tt
+agree_all base rows e f (x ∷ xs) h k = (k x (inl refl) h.0, agree_all base rows e f xs h.1 (λ y w c. k y (inr w) c))
+
+over_agrees : (g : Ground) (y : Bare) (e f : Env) → OverSuits g.params y → ((x : ℕ) → x < g.params → held_at e x ≡ held_at f x) → OverAgrees y e f
+over_agrees g (ForRows x y body) e f h k = k y h
+over_agrees g (Assign x e') e f h k = tt
+over_agrees g (Select cs xs t conds sorts offset) e f h k = tt
+over_agrees g (Total agg x t conds) e f h k = tt
+over_agrees g (ForSelect x once cs t conds sorts body) e f h k = tt
+over_agrees g (Branch e' ys ns) e f h k = tt
+over_agrees g (Insert t es) e f h k = tt
+over_agrees g (Update t items conds) e f h k = tt
+over_agrees g (Delete t conds) e f h k = tt
+over_agrees g (Print es) e f h k = tt
+over_agrees g (Rollback reason) e f h k = tt
+
+-- the same record, in the state before it in both runs
+pub own_same : (g : Ground) (new : Tables) (changes : List Change) (kept : List Path) (fo more fn : List Placed) (or nr : Record) → g.params ≤ g.base → Fits g.tables g.db → Fits g.tables new → Covers changes g.db new
+    → IsOwn g (its fo) or → (b : IsOwn (record g { db = new }) (its fn) nr) → (s : Stated) (n : ℕ) (site : Site) (st : State) → StandsAt g.text n (s ∷ []) → Suits g.tables g.params g.base s → Here g site s.rows (its fo) st
+    → or ≡ own_record g.tables g.params s.it n site (its fo) st → s ≡ b.s → site.turns ≡ b.site.turns
+    → KeptSame kept (fo ++ more) fn → reads_stay kept (fo ++ more) or.reads fn nr.reads ≡ true
+    → Each (λ p. Each (λ c. hits_by (writes_in (its fo)) c p ≡ false) changes × Merged p (writes_in (its fo)) (writes_in (its fn))) or.preds
+    → contents or ≡ contents nr
+own_same g new changes kept fo more fn or nr below fits nfits covers a b s n site st stands suits here is same turns kept' stay free =
+    let k : Ground = record g { db = new } in
+    let other : Here k b.site s.rows (its fn) b.st = subst (λ (t : Stated). Here k b.site t.rows (its fn) b.st) (sym same) b.here in
+    let are : nr ≡ own_record g.tables g.params s.it b.n b.site (its fn) b.st = b.is ∙ ap (λ (t : Stated). own_record g.tables g.params t.it b.n b.site (its fn) b.st) (sym same) in
+    let xs : List ℕ = flat_map variables (expressions s.it) in
+    let stay' : reads_stay kept (fo ++ more) (reads_of g.params site.loops (its fo) (expressions s.it)) fn (reads_of g.params b.site.loops (its fn) (expressions s.it)) ≡ true =
+    sym (ap (λ l. reads_stay kept (fo ++ more) l fn nr.reads) (ap (λ (r : Record). r.reads) is) ∙ ap (λ l. reads_stay kept (fo ++ more) (reads_of g.params site.loops (its fo) (expressions s.it)) fn l) (ap (λ (r : Record). r.reads) are)) ∙ stay in
+    let reads : Agree st.env b.st.env xs = agree_all g.base s.rows st.env b.st.env xs suits.reads
+    (λ x w c. held_same g new kept fo more fn site b.site s.rows st b.st x below here other turns kept' c (stay_of kept (fo ++ more) fn g.params site.loops b.site.loops (its fo) (its fn) xs stay' x w)) in
+    let low : (x : ℕ) → x < g.params → held_at st.env x ≡ held_at b.st.env x =
+    λ x lt. held_same g new kept fo more fn site b.site s.rows st b.st x below here other turns kept' (inl (omega (arith, lt, below))) (λ le. absurd (omega (arith, lt, le))) in
+    let seen : Each (λ p. SeenAlike p st.tables b.st.tables) (preds_of g.tables s.it st) =
+    seen_all (preds_of g.tables s.it st) (places_preds g.tables s.it st) (subst (Each (λ p. Each (λ c. hits_by (writes_in (its fo)) c p ≡ false) changes × Merged p (writes_in (its fo)) (writes_in (its fn)))) (ap (λ (r : Record). r.preds) is) free) other in
+    ap contents is ∙ (congruent g.tables g.params s.it n b.n site b.site (its fo) (its fn) st b.st suits.columns suits.items (record {
+      reads = reads;
+      found = here.told.found ∙ sym other.told.found;
+      over = over_agrees g s.it st.env b.st.env suits.over low;
+      seen = seen;
+      fits = (here.told.fits, other.told.fits);
+    }) ∙ sym (ap contents are))
+  where
+    seen_all : (ps : List Pred) → Each (Places g.tables) ps → Each (λ p. Each (λ c. hits_by (writes_in (its fo)) c p ≡ false) changes × Merged p (writes_in (its fo)) (writes_in (its fn))) ps
+        → Here (record g { db = new }) b.site s.rows (its fn) b.st → Each (λ p. SeenAlike p st.tables b.st.tables) ps
+    seen_all [] h k other = tt
+    seen_all (p ∷ ps) h k other = (
+      subst (λ t. SeenAlike p t b.st.tables) (sym here.told.tables) (subst (λ t. SeenAlike p (applied (writes_in (its fo)) g.db) t) (sym other.told.tables)
+          (seen_alike g.tables p g.db new (writes_in (its fo)) (writes_in (its fn)) changes h.0 fits nfits (subst (Fits g.tables) here.told.tables here.told.fits) (subst (Fits g.tables) other.told.tables other.told.fits) covers k.0.1 k.0.0)),
+      seen_all ps h.1 k.1 other,
+    )

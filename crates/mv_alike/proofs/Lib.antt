@@ -1,0 +1,16 @@
+pub mod Held
+pub mod Widths
+pub mod Inverting
+pub mod Values
+pub mod Alike
+pub mod Congruent
+pub mod Seeing
+pub mod Finding
+pub mod Placing
+pub mod Definers
+pub mod Keeping
+pub mod Lasting
+pub mod Walking
+pub mod Meant
+pub mod Unhit
+pub mod Wellness
