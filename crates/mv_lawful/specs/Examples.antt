@@ -1,0 +1,277 @@
+-- Journals of small calls, worked out by hand. The calls are those of the bank's procedures: `add` adds to an account and prints the sum,
+-- `transfer` moves money and takes a fee into account 0, `put` inserts an account, `rich` counts those with 100 or more, `tell` prints
+-- whether account 1 has more than 100, and account 2.
+use Rattle.std.specs.Prelude.{◌≡◌, ℕ, zero, suc, pos, ◌+◌, ◌-◌, nat_lt, not, List, [], ◌∷◌, ◌++◌, Option, Some, None, ℤ, map, length, codes, decimal, if◌then◌else◌}
+use Rattle.std.specs.List.{filter}
+use Rattle.std.specs.Option.{is_some}
+use Rattle.mv_values.specs.declared.value.Value.{Value}
+use Rattle.mv_values.specs.declared.value.Value.TheVariants.{Int, Text}
+use Rattle.mv_values.specs.declared.op.Op.TheVariants.{Eq, Ge}
+use Rattle.mv_values.specs.declared.calls.End.{End}
+use Rattle.mv_values.specs.declared.calls.End.TheVariants.{Own, Duplicate}
+use Rattle.mv_values.specs.declared.calls.Reply.{Reply}
+use Rattle.mv_values.specs.declared.patch.Patch.TheVariants as patch
+use Rattle.mv_values.specs.declared.rows.Keyed.{Keyed}
+use Rattle.mv_values.specs.Patching.{row_of, applied}
+use Rattle.mv_values.specs.Tables.{rows_at}
+use Rattle.mv_record.specs.declared.record.Record.{Record}
+use Rattle.mv_record.specs.declared.record.Read.{Read}
+use Rattle.mv_record.specs.Runs.{Tables, Run, writes_in, lines_in, end_in}
+use Rattle.mv_history.specs.Samples.{key, account, asks, test, writes_column, writes_balance, reads, reads_default, sets, blank, look, change, print}
+use Rattle.mv_journal.specs.declared.event.Event.{Event}
+use Rattle.mv_journal.specs.declared.event.Event.TheVariants.{B, S, A, M, C, X, G}
+use Rattle.mv_journal.specs.declared.outcome.Mark.TheVariants.{Plain, Exclusive, Moved}
+use Rattle.mv_journal.specs.declared.outcome.Round.{Round}
+use Rattle.mv_journal.specs.declared.outcome.HistoryLine.{HistoryLine}
+use Rattle.mv_lawful.specs.declared.fault.Fault.TheVariants.{Order, Stale, Conflict, Idle, Rounds}
+use Rattle.mv_lawful.specs.declared.fault.Wrong.TheVariants.{Refused, Open}
+use Rattle.mv_lawful.specs.Work.{Work, hit_of}
+use Rattle.mv_lawful.specs.Lawful.{Lawful, wrong_with, course_of}
+use Rattle.mv_lawful.specs.Outcomes.{outcome_of}
+
+-- Databases
+
+abbrev pub natural : ℤ → ℕ
+natural (pos n) = n
+natural i = 0
+
+abbrev pub number : Value → ℕ
+number (Int i) = natural i
+number (Text t) = 0
+
+abbrev pub second_of : List Value → ℕ
+second_of [] = 0
+second_of (k ∷ []) = 0
+second_of (k ∷ b ∷ vs) = number b
+
+abbrev pub balance_in : Option (List Value) → ℕ
+balance_in None = 0
+balance_in (Some row) = second_of row
+
+-- the balance of an account
+abbrev pub balance : Tables → ℕ → ℕ
+balance db a = balance_in (row_of (rows_at db 0) (key a))
+
+abbrev pub five : Tables
+five = (account 0 0 ∷ account 1 100 ∷ account 2 100 ∷ account 3 100 ∷ account 4 100 ∷ []) ∷ []
+
+-- Runs
+
+abbrev pub run_with : Option End → List Record → Tables → Run
+run_with None rs db = record { records = rs; reply = record { lines = lines_in rs; end = None }; tables = applied (writes_in rs) db }
+run_with (Some e) rs db = record { records = rs; reply = record { lines = []; end = Some e }; tables = db }
+
+-- a run with these records
+abbrev pub run_of : List Record → Tables → Run
+run_of rs db = run_with (end_in rs) rs db
+
+abbrev pub add : ℕ → ℕ → Tables → Run
+add a x db = run_of (
+    look 1 a 2 3 (balance db a)
+    ∷ record (blank 2) { reads = reads 2 0 ∷ []; sets = sets 2 (balance db a + x) ∷ [] }
+    ∷ record (blank 3) { reads = reads 2 1 ∷ []; preds = asks a []; sets = sets 3 1 ∷ []; writes = writes_balance a (balance db a + x) }
+    ∷ print 4 (reads 2 1 ∷ []) (decimal (balance db a + x)) ∷ []) db
+
+abbrev pub poor : Record
+poor = record (blank 3) { parent = Some 1; end = Some (Own (codes "no funds")) }
+
+abbrev pub moves : ℕ → ℕ → ℕ → Tables → List Record
+moves a c x db = change 4 a 4 (balance db a - x) ∷ change 5 c 4 (balance db c + x) ∷ change 6 0 4 (balance db 0 + 1) ∷ []
+
+abbrev pub transfer : ℕ → ℕ → ℕ → Tables → Run
+transfer a c x db = run_of (look 1 a 3 4 (balance db a) ∷ record (blank 2) { reads = reads 3 0 ∷ [] } ∷ (if nat_lt (balance db a) x then poor ∷ [] else moves a c x db)) db
+
+abbrev pub insert_row : ℕ → ℕ → Record
+insert_row k v =
+    record (blank 1) { preds = asks k []; sets = sets 2 1 ∷ []; writes = record { table = 0; key = key k; patch = patch.Insert (Int (pos k) ∷ Int (pos v) ∷ Text [] ∷ []) } ∷ [] }
+
+abbrev pub put : ℕ → ℕ → Tables → Run
+put k v db = run_of ((if is_some (row_of (rows_at db 0) (key k)) then record (blank 1) { preds = asks k []; end = Some Duplicate } else insert_row k v) ∷ []) db
+
+abbrev pub count_rich : Tables → ℕ
+count_rich db = length (filter (λ (item : Keyed). not (nat_lt (second_of item.row) 100)) (rows_at db 0))
+
+abbrev pub rich : Tables → Run
+rich db = run_of (
+    record (blank 1) { preds = record { table = 0; tests = test 1 Ge 100 ∷ []; columns = [] } ∷ []; sets = sets 0 (count_rich db) ∷ sets 1 1 ∷ [] }
+    ∷ print 2 (reads 0 0 ∷ []) (decimal (count_rich db)) ∷ []) db
+
+-- what `tell` does after its IF, where x was set by these and z is read by the record of this number
+abbrev pub rest_of_tell : List Read → ℕ → ℕ → Tables → List Record
+rest_of_tell definer x z db = look 4 2 2 3 (balance db 2) ∷ print 5 definer (decimal x) ∷ print 6 (reads 2 z ∷ []) (decimal (balance db 2)) ∷ []
+
+abbrev pub tell : Tables → Run
+tell db = run_of (look 1 1 0 3 (balance db 1) ∷ record (blank 2) { reads = reads 0 0 ∷ [] } ∷ (
+    if nat_lt 100 (balance db 1) then record (blank 3) { parent = Some 1; sets = sets 1 1 ∷ [] } ∷ rest_of_tell (reads 1 2 ∷ []) 1 3 db
+    else rest_of_tell (reads_default 1 ∷ []) 0 2 db)) db
+
+-- Work
+
+abbrev pub run_in : List (Tables → Run) → ℕ → Tables → Run
+run_in [] c db = run_of [] db
+run_in (run ∷ runs) zero db = run db
+run_in (run ∷ runs) (suc c) db = run_in runs c db
+
+abbrev pub work : Tables → List (Tables → Run) → ℕ → Option ℕ → Work
+work db runs rounds horizon = record { run = run_in runs; count = length runs; opening = db; options = record { rounds = rounds; horizon = horizon } }
+
+-- of five accounts, with three rounds and no horizon
+abbrev pub bank : List (Tables → Run) → Work
+bank runs = work five runs 3 None
+
+abbrev pub plain : ℕ → ℕ → Round
+plain start n = record { start = start; count = Some n; mark = Plain }
+
+abbrev pub line : ℕ → List Round → HistoryLine
+line c rounds = record { call = c; rounds = rounds }
+
+-- a journal is lawful, and its commits have these rounds
+abbrev pub Comes : Work → List Event → List HistoryLine → Type 0
+Comes w es history = Lawful w es × ((outcome_of w es).history ≡ history)
+
+abbrev pub Answers : Work → List Event → List Reply → Tables → Type 0
+Answers w es replies tables = ((outcome_of w es).replies ≡ replies) × ((outcome_of w es).tables ≡ tables)
+
+abbrev pub says : List ℕ → Reply
+says numbers = record { lines = map decimal numbers; end = None }
+
+-- the second call is repaired after the first has committed
+abbrev pub repaired_second : List Event
+repaired_second = B 0 ∷ B 1 ∷ C 0 ∷ A 1 ∷ C 1 ∷ []
+
+-- Repairs
+
+-- transfers between other accounts: only the fee is taken again. The fee's UPDATE is hit.
+abbrev pub OnlyTheFee : Type 0
+OnlyTheFee =
+    let w : Work = bank (transfer 1 2 10 ∷ transfer 3 4 10 ∷ []) in
+    Comes w repaired_second (line 0 (plain 0 5 ∷ []) ∷ line 1 (plain 0 5 ∷ plain 1 1 ∷ []) ∷ [])
+    × Answers w repaired_second (says [] ∷ says [] ∷ []) ((account 0 2 ∷ account 1 90 ∷ account 2 110 ∷ account 3 90 ∷ account 4 110 ∷ []) ∷ [])
+    × (hit_of w (0 ∷ []) 0 1 ≡ Some (record { number = 4; commit = 1 }))
+
+-- both add to one account: all is done again. The SELECT is hit.
+abbrev pub AllAgain : Type 0
+AllAgain =
+    let w : Work = bank (add 1 5 ∷ add 1 7 ∷ []) in
+    Comes w repaired_second (line 0 (plain 0 4 ∷ []) ∷ line 1 (plain 0 4 ∷ plain 1 4 ∷ []) ∷ [])
+    × Answers w repaired_second (says (105 ∷ []) ∷ says (112 ∷ []) ∷ []) ((account 0 0 ∷ account 1 112 ∷ account 2 100 ∷ account 3 100 ∷ account 4 100 ∷ []) ∷ [])
+    × (hit_of w (0 ∷ []) 0 1 ≡ Some (record { number = 0; commit = 1 }))
+
+-- to add nothing is no change, so it hits nothing
+abbrev pub NothingAdded : Type 0
+NothingAdded =
+    let w : Work = bank (add 1 0 ∷ add 1 7 ∷ []) in
+    Comes w (B 0 ∷ B 1 ∷ C 0 ∷ C 1 ∷ []) (line 0 (plain 0 4 ∷ []) ∷ line 1 (plain 0 4 ∷ []) ∷ []) × (hit_of w (0 ∷ []) 0 1 ≡ None)
+
+-- a row that comes into a count hits it
+abbrev pub NewRowCounts : Type 0
+NewRowCounts =
+    let w : Work = bank (put 7 100 ∷ rich ∷ []) in
+    Comes w repaired_second (line 0 (plain 0 1 ∷ []) ∷ line 1 (plain 0 2 ∷ plain 1 2 ∷ []) ∷ [])
+    × ((outcome_of w repaired_second).replies ≡ says [] ∷ says (5 ∷ []) ∷ []) × (hit_of w (0 ∷ []) 0 1 ≡ Some (record { number = 0; commit = 1 }))
+
+-- the reader of x has a definer that the old run didn't have; the SELECT of account 2 and its PRINT are kept
+abbrev pub NewDefiner : Type 0
+NewDefiner =
+    let w : Work = bank (add 1 5 ∷ tell ∷ []) in
+    Comes w repaired_second (line 0 (plain 0 4 ∷ []) ∷ line 1 (plain 0 5 ∷ plain 1 4 ∷ []) ∷ []) × ((outcome_of w repaired_second).replies ≡ says (105 ∷ []) ∷ says (1 ∷ 100 ∷ []) ∷ [])
+
+-- a call that would roll back goes through on the later table; in the other order it is rolled back
+abbrev pub OtherBranch : Type 0
+OtherBranch =
+    let w : Work = bank (transfer 1 2 150 ∷ add 1 60 ∷ []) in
+    let es : List Event = B 0 ∷ B 1 ∷ C 1 ∷ A 0 ∷ C 0 ∷ [] in
+    let turns : List Event = B 0 ∷ C 0 ∷ B 1 ∷ C 1 ∷ [] in
+    Comes w es (line 1 (plain 0 4 ∷ []) ∷ line 0 (plain 0 3 ∷ plain 1 5 ∷ []) ∷ [])
+    × Answers w es (says [] ∷ says (160 ∷ []) ∷ []) ((account 0 1 ∷ account 1 10 ∷ account 2 250 ∷ account 3 100 ∷ account 4 100 ∷ []) ∷ [])
+    × Comes w turns (line 0 (plain 0 3 ∷ []) ∷ line 1 (plain 1 4 ∷ []) ∷ [])
+    × ((outcome_of w turns).replies ≡ record { lines = []; end = Some (Own (codes "no funds")) } ∷ says (160 ∷ []) ∷ [])
+
+-- two calls put one key: the later one ends
+abbrev pub SameKey : Type 0
+SameKey =
+    let w : Work = bank (put 7 1 ∷ put 7 2 ∷ []) in
+    Comes w repaired_second (line 0 (plain 0 1 ∷ []) ∷ line 1 (plain 0 1 ∷ plain 1 1 ∷ []) ∷ []) × ((outcome_of w repaired_second).replies ≡ says [] ∷ record { lines = []; end = Some Duplicate } ∷ [])
+
+-- Two columns of one row. No predicate sees the change by itself; the call's own write of the key makes it count.
+
+abbrev pub triple : ℕ → ℕ → Tables
+triple d e = (record { key = key 1; row = Int (pos 1) ∷ Int (pos d) ∷ Int (pos e) ∷ [] } ∷ []) ∷ []
+
+abbrev pub set_column : ℕ → Record
+set_column c = record (blank 1) { preds = asks 1 []; sets = sets 1 1 ∷ []; writes = writes_column 1 c 1 }
+
+abbrev pub third_of : List Value → ℕ
+third_of [] = 0
+third_of (k ∷ []) = 0
+third_of (k ∷ d ∷ []) = 0
+third_of (k ∷ d ∷ e ∷ vs) = number e
+
+abbrev pub third_in : Option (List Value) → ℕ
+third_in None = 0
+third_in (Some row) = third_of row
+
+-- UPDATE m SET e = 1 WHERE k = 1
+abbrev pub set_third : Tables → Run
+set_third db = run_of (set_column 2 ∷ []) db
+
+-- UPDATE m SET d = 1 WHERE k = 1; SELECT COUNT(*) INTO :n FROM m WHERE d = 1 AND e = 1; PRINT :n
+abbrev pub count_both : Tables → Run
+count_both db =
+    let n : ℕ = third_in (row_of (rows_at db 0) (key 1)) in
+    run_of (
+    set_column 1
+    ∷ record (blank 2) { preds = record { table = 0; tests = test 1 Eq 1 ∷ test 2 Eq 1 ∷ []; columns = [] } ∷ []; sets = sets 0 n ∷ sets 1 1 ∷ [] }
+    ∷ print 3 (reads 0 1 ∷ []) (decimal n) ∷ []) db
+
+abbrev pub OwnWriteCounts : Type 0
+OwnWriteCounts =
+    let w : Work = work (triple 0 0) (set_third ∷ count_both ∷ []) 3 None in
+    Comes w repaired_second (line 0 (plain 0 1 ∷ []) ∷ line 1 (plain 0 3 ∷ plain 1 2 ∷ []) ∷ [])
+    × Answers w repaired_second (says [] ∷ says (1 ∷ []) ∷ []) (triple 1 1) × (hit_of w (0 ∷ []) 0 1 ≡ Some (record { number = 1; commit = 1 }))
+
+-- UPDATE .. SET bal = bal + 1 WHERE id = 1, SELECT bal .. WHERE id = 1, SELECT bal .. WHERE id = 2
+abbrev pub write_and_look : Tables → Run
+write_and_look db = run_of (change 1 1 1 (balance db 1 + 1) ∷ look 2 1 0 1 (balance db 1 + 1) ∷ look 3 2 0 1 (balance db 2) ∷ []) db
+
+-- a kept write doesn't touch: what reads after it stays, and only the SELECT of the other account is done again
+abbrev pub KeptWriteStays : Type 0
+KeptWriteStays =
+    let w : Work = bank (add 2 5 ∷ write_and_look ∷ []) in
+    Comes w repaired_second (line 0 (plain 0 4 ∷ []) ∷ line 1 (plain 0 3 ∷ plain 1 1 ∷ []) ∷ [])
+
+-- One step, moves, low
+
+-- with no rounds the repair commits in the same step, and with one it may not
+abbrev pub InOneStep : Type 0
+InOneStep =
+    let runs : List (Tables → Run) = transfer 1 2 10 ∷ transfer 3 4 10 ∷ [] in
+    let es : List Event = B 0 ∷ B 1 ∷ C 0 ∷ X 1 ∷ [] in
+    Comes (work five runs 0 None) es (line 0 (plain 0 5 ∷ []) ∷ line 1 (plain 0 5 ∷ record { start = 1; count = Some 1; mark = Exclusive } ∷ []) ∷ [])
+    × (wrong_with (work five runs 1 None) es ≡ Some (Refused 4 Rounds))
+
+abbrev pub FirstFaults : Type 0
+FirstFaults =
+    let w : Work = bank (add 1 5 ∷ add 1 7 ∷ []) in
+    (wrong_with w (B 0 ∷ B 1 ∷ C 0 ∷ C 1 ∷ []) ≡ Some (Refused 4 Conflict))
+    × (wrong_with w (B 0 ∷ A 0 ∷ []) ≡ Some (Refused 2 Idle))
+    × (wrong_with w (B 1 ∷ []) ≡ Some (Refused 1 Order))
+    × (wrong_with w (B 0 ∷ S 0 ∷ S 0 ∷ S 0 ∷ S 0 ∷ S 0 ∷ []) ≡ Some (Refused 6 Order))
+    × (wrong_with w (B 0 ∷ C 0 ∷ []) ≡ Some (Open 1))
+    × (wrong_with w [] ≡ Some (Open 0))
+
+-- a stale call is moved, and neither goes on nor is repaired
+abbrev pub StaleMoves : Type 0
+StaleMoves =
+    let w : Work = work five (add 1 5 ∷ add 2 5 ∷ add 3 5 ∷ []) 3 (Some 1) in
+    let es : Event → List Event = λ e. B 0 ∷ B 1 ∷ B 2 ∷ C 0 ∷ C 1 ∷ G ∷ e ∷ C 2 ∷ [] in
+    Comes w (es (M 2)) (line 0 (plain 0 4 ∷ []) ∷ line 1 (plain 0 4 ∷ []) ∷ line 2 (record { start = 0; count = None; mark = Plain } ∷ record { start = 2; count = Some 4; mark = Moved } ∷ []) ∷ [])
+    × (wrong_with w (es (S 2)) ≡ Some (Refused 7 Stale))
+    × (wrong_with w (es (A 2)) ≡ Some (Refused 7 Stale))
+
+-- low is the oldest start of a live call, not the newest: call 0 isn't stale
+abbrev pub OldestStart : Type 0
+OldestStart =
+    let w : Work = bank (add 1 5 ∷ add 2 5 ∷ add 3 5 ∷ []) in
+    let es : List Event = B 0 ∷ B 1 ∷ C 1 ∷ B 2 ∷ G ∷ [] in
+    ((course_of w es).low ≡ 0) × Lawful w (es ++ C 0 ∷ C 2 ∷ [])

@@ -1,0 +1,41 @@
+-- What holds of journals.
+use Rattle.std.specs.Prelude.{◌≡◌, ◌≤◌, ◌<◌, ℕ, false, List, [], ◌∷◌, Some, None, length, slice_get}
+use Rattle.std.specs.List.{All, AllPairs, Contains, filter}
+use Rattle.mv_journal.specs.declared.event.Event.{Event}
+use Rattle.mv_lawful.specs.Work.{Work}
+use Rattle.mv_lawful.specs.Lawful.{Turn, Live, Course, Lawful, after, course_of, is_stale}
+use Rattle.mv_lawful.specs.Rounds.{is_repair}
+
+-- Low
+
+-- no event lowers low
+abbrev pub LowNeverFalls : Type 0
+LowNeverFalls = (w : Work) (s : Course) (e : Event) → s.low ≤ (after w s e).low
+
+-- without a horizon no live call is stale, whatever the events
+abbrev pub NoneIsStale : Type 0
+NoneIsStale =
+    (w : Work) (es : List Event) → w.options.horizon ≡ None
+    → (c : ℕ) (l : Live) → slice_get (course_of w es).calls c ≡ Some l → l.done ≡ false → is_stale (course_of w es) l ≡ false
+
+-- Rounds
+
+-- a lawful journal repairs a call, without committing it in the same step, at most as many times as there are rounds
+abbrev pub RepairsAreFew : Type 0
+RepairsAreFew = (w : Work) (es : List Event) → Lawful w es → (c : ℕ) → length (filter (is_repair c) es) ≤ w.options.rounds
+
+-- Orders
+
+abbrev pub first_start : List Turn → ℕ
+first_start [] = 0
+first_start (t ∷ ts) = t.start
+
+-- each call stands once in the order of commits, and no other; its begin counts no more commits than come before its own
+pub record IsSerial (w : Work) (s : Course) : Type 0 where
+  pub calls : All (λ c. c < w.count) s.order
+  pub once : AllPairs (λ a b. a ≡ b → ⊥) s.order
+  pub each : (c : ℕ) → c < w.count → Contains s.order c
+  pub after_begin : (k c : ℕ) (l : Live) → slice_get s.order k ≡ Some c → slice_get s.calls c ≡ Some l → first_start l.turns ≤ k
+
+abbrev pub LawfulIsSerial : Type 0
+LawfulIsSerial = (w : Work) (es : List Event) → Lawful w es → IsSerial w (course_of w es)

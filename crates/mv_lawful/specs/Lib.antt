@@ -1,0 +1,6 @@
+pub mod Work
+pub mod Lawful
+pub mod Rounds
+pub mod Outcomes
+pub mod Laws
+pub mod Examples

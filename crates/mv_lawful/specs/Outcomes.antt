@@ -1,0 +1,44 @@
+-- What a journal comes to: replies, commits with their rounds, events and last tables.
+use Rattle.std.specs.Prelude.{ℕ, zero, suc, ◌==◌, List, [], ◌∷◌, ◌++◌, Option, Some, None, map, length, slice_get}
+use Rattle.std.specs.List.{position}
+use Rattle.mv_values.specs.declared.calls.Reply.{Reply}
+use Rattle.mv_journal.specs.declared.event.Event.{Event}
+use Rattle.mv_journal.specs.declared.outcome.HistoryLine.{HistoryLine}
+use Rattle.mv_journal.specs.declared.outcome.Outcome.{Outcome}
+use Rattle.mv_lawful.specs.Work.{Work, table_at}
+use Rattle.mv_lawful.specs.Lawful.{Turn, Live, Course, course_of}
+use Rattle.mv_lawful.specs.Rounds.{rounds_of}
+
+-- the reply of a call that runs alone after so many commits; a call that isn't there says nothing
+abbrev pub reply_after : Work → List ℕ → ℕ → Option ℕ → Reply
+reply_after w order c None = record { lines = []; end = None }
+reply_after w order c (Some k) = (w.run c (table_at w order k)).reply
+
+-- Reply: what a call of the order answers, alone after those before it
+abbrev pub reply_in : Work → List ℕ → ℕ → Reply
+reply_in w order c = reply_after w order c (position (λ d. d == c) order)
+
+abbrev pub turns_of : Option Live → List Turn
+turns_of None = []
+turns_of (Some l) = l.turns
+
+-- a commit: its call and the call's rounds
+abbrev pub history_line : Work → Course → ℕ → HistoryLine
+history_line w s c = record { call = c; rounds = rounds_of w s.order c (turns_of (slice_get s.calls c)) }
+
+-- the numbers below n
+abbrev pub numbers : ℕ → List ℕ
+numbers zero = []
+numbers (suc n) = numbers n ++ n ∷ []
+
+abbrev pub outcome_at : Work → Course → List Event → Outcome
+outcome_at w s es = record {
+  replies = map (reply_in w s.order) (numbers w.count);
+  history = map (history_line w s) s.order;
+  journal = es;
+  tables = table_at w s.order (length s.order);
+}
+
+-- what a journal comes to
+abbrev pub outcome_of : Work → List Event → Outcome
+outcome_of w es = outcome_at w (course_of w es) es

@@ -1,0 +1,99 @@
+-- How many records each round of a call executes, and how many rounds a call may have.
+use Rattle.std.specs.Prelude.{◌≤◌, ◌<◌, ℕ, ◌+◌, ◌==◌, Bool, false, List, [], ◌∷◌, Option, Some, None, length, slice_get}
+use Rattle.std.specs.List.{filter}
+use Rattle.std.specs.Option.{ForSome}
+use Rattle.mv_journal.specs.declared.event.Event.{Event}
+use Rattle.mv_journal.specs.declared.event.Event.TheVariants.{B, S, A, M, C, X, G}
+use Rattle.mv_journal.specs.declared.outcome.Mark.{Mark}
+use Rattle.mv_journal.specs.declared.outcome.Mark.TheVariants.{Plain, Exclusive, Moved}
+use Rattle.mv_journal.specs.declared.outcome.Round.{Round}
+use Rattle.mv_history.specs.Kept.{executions}
+use Rattle.mv_lawful.specs.Work.{Work, records_at, changes_up_to}
+use Rattle.mv_lawful.specs.Lawful.{Turn, Course, after, beginning}
+
+-- Runs
+
+-- how many records a full run of a call at a start leaves
+abbrev pub whole_run : Work → List ℕ → ℕ → ℕ → ℕ
+whole_run w order c start = length (records_at w order start c)
+
+-- how many a repair from an old start to a new one executes
+abbrev pub repair_run : Work → List ℕ → ℕ → ℕ → ℕ → ℕ
+repair_run w order c old new = executions (records_at w order old c) (records_at w order new c) (changes_up_to w order old new)
+
+-- the number of a round, after one that began at the old start: a repair executes what isn't kept, a moved call runs whole
+abbrev pub later_run : Work → List ℕ → ℕ → ℕ → ℕ → Mark → ℕ
+later_run w order c old start Plain = repair_run w order c old start
+later_run w order c old start Exclusive = repair_run w order c old start
+later_run w order c old start Moved = whole_run w order c start
+
+-- a round that a move ended has no number
+abbrev pub unless_moved : ℕ → List Turn → Option ℕ
+unless_moved n [] = Some n
+unless_moved n (t ∷ ts) = by_mark n t.mark where
+  by_mark : ℕ → Mark → Option ℕ
+  by_mark n Plain = Some n
+  by_mark n Exclusive = Some n
+  by_mark n Moved = None
+
+abbrev pub round : Turn → Option ℕ → Round
+round t number = record { start = t.start; count = number; mark = t.mark }
+
+-- the rounds after one that began at the old start
+abbrev pub later_rounds : Work → List ℕ → ℕ → ℕ → List Turn → List Round
+later_rounds w order c old [] = []
+later_rounds w order c old (t ∷ ts) = round t (unless_moved (later_run w order c old t.start t.mark) ts) ∷ later_rounds w order c t.start ts
+
+-- Runs: the rounds of a call with their numbers. The first runs whole.
+abbrev pub rounds_of : Work → List ℕ → ℕ → List Turn → List Round
+rounds_of w order c [] = []
+rounds_of w order c (t ∷ ts) = round t (unless_moved (whole_run w order c t.start) ts) ∷ later_rounds w order c t.start ts
+
+-- How many rounds there may be
+
+-- the event is a repair or a move of the call
+abbrev pub is_round : ℕ → Event → Bool
+is_round c (A d) = d == c
+is_round c (M d) = d == c
+is_round c (B d) = false
+is_round c (S d) = false
+is_round c (C d) = false
+is_round c (X d) = false
+is_round c G = false
+
+abbrev pub is_repair : ℕ → Event → Bool
+is_repair c (A d) = d == c
+is_repair c (M d) = false
+is_repair c (B d) = false
+is_repair c (S d) = false
+is_repair c (C d) = false
+is_repair c (X d) = false
+is_repair c G = false
+
+-- each call is repaired and moved at most once more than there are rounds
+abbrev pub AreFew : Work → List Event → Type 0
+AreFew w es = (c : ℕ) → length (filter (is_round c) es) ≤ w.options.rounds + 1
+
+-- more commits than the horizon were made after the start
+abbrev pub IsPast : Option ℕ → ℕ → ℕ → Type 0
+IsPast None start n = ⊥
+IsPast (Some horizon) start n = start + horizon < n
+
+-- a call moves only where a horizon is given and its start lies further back
+abbrev pub MayMove : Work → Course → Event → Type 0
+MayMove w s (M c) = ForSome (slice_get s.calls c) (λ l. IsPast w.options.horizon l.start (length s.order))
+MayMove w s (B c) = Unit {0}
+MayMove w s (S c) = Unit {0}
+MayMove w s (A c) = Unit {0}
+MayMove w s (C c) = Unit {0}
+MayMove w s (X c) = Unit {0}
+MayMove w s G = Unit {0}
+
+abbrev pub MovesLate : Work → Course → List Event → Type 0
+MovesLate w s [] = Unit {0}
+MovesLate w s (e ∷ es) = MayMove w s e × MovesLate w (after w s e) es
+
+-- what a run's journal meets beside the law: few rounds, and moves of old calls alone
+pub record IsBounded (w : Work) (es : List Event) : Type 0 where
+  pub few : AreFew w es
+  pub late : MovesLate w beginning es
