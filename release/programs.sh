@@ -43,7 +43,7 @@ END
         changed=$(cd "$top" && find crates.txt crates -name out -prune -o -newercm "$kept" -print -quit 2>&1)
         [ -z "$changed" ] && read -r sources <"$kept" && return
     fi
-    mkdir -p "$top/crates/$name/out" 2>/dev/null && : 2>/dev/null >"$kept.begun.$$"
+    mkdir -p "$top/crates/$name/out" 2>/dev/null && touch "$kept.begun.$$" 2>/dev/null
     sources=$({
         printf '%s\n' "$crates"
         cd "$top" && find "$@" -type f \( -name '*.rt' -o -name '*.antt' \) -print0 | LC_ALL=C sort -z | xargs -0 sha256sum
@@ -90,7 +90,10 @@ build() { # NAME
     fi
     log=$top/crates/$1/out/build.log
     mkdir -p "$top/crates/$1/out" && rm -f "$top/crates/$1/out/built" || return 1
-    echo "$1: from nothing that takes about 45 minutes on four processors, and 7 GB of disk." >&2
+    case "$1" in
+        mv3c) echo "$1: from nothing that takes about 45 minutes on four processors, and 7 GB of disk." >&2 ;;
+        *) echo "$1: from nothing that takes some minutes." >&2 ;;
+    esac
     echo "$1: Ctrl-C stops it. The next start goes on with the crate at which this one stopped." >&2
     watch "$1" $$ </dev/null >&2 &
     watcher=$!
