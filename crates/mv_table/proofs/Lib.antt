@@ -2,3 +2,4 @@ pub mod Entries
 pub mod Spanning
 pub mod Parting
 pub mod Storing
+pub mod Covering

@@ -1,12 +1,13 @@
 -- Spans of keys, and which one tests leave. The rule is this project's own.
 use Rattle.std.specs.Prelude.{◌≡◌, ◌<◌, ℕ, Bool, true, false, not, ◌&&◌, ◌==◌, List, Option, Some, None, length, pos, slice_index_or}
-use Rattle.std.specs.List.{list_all}
+use Rattle.std.specs.List.{list_all, filter, All}
 use Rattle.std.specs.Ordering.{is_le, is_gt}
 use Rattle.mv_values.specs.declared.value.Value.{Value}
 use Rattle.mv_values.specs.declared.value.Value.TheVariants.{Int}
 use Rattle.mv_values.specs.declared.op.Op.{Op}
 use Rattle.mv_values.specs.declared.op.Op.TheVariants.{Eq, Lt, Le, Gt, Ge}
 use Rattle.mv_values.specs.declared.pred.Test.{Test}
+use Rattle.mv_values.specs.declared.rows.Keyed.{Keyed}
 use Rattle.mv_values.specs.Columns.{column_of}
 use Rattle.mv_values.specs.Order.{key_order}
 use Rattle.mv_values.specs.Preds.{allows, agrees}
@@ -38,6 +39,10 @@ Admits tests key = list_all (agrees key) tests ≡ true
 -- each key that the tests admit is in the span
 abbrev pub Covers : List Test → Span → Type 0
 Covers tests span = (key : List Value) → Admits tests key → is_within span key ≡ true
+
+-- a test of rows that looks no further than keys that the tests admit finds in a part what it finds in all rows
+abbrev pub FindsAll : List Test → List Keyed → List Keyed → Type 0
+FindsAll tests rows part = (p : Keyed → Bool) → All (λ item. p item ≡ true → Admits tests item.key) rows → filter p part ≡ filter p rows
 
 -- a key has these values in its first columns, where one that it doesn't have counts as 0
 abbrev pub Agrees : List Value → List Value → Type 0

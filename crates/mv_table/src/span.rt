@@ -7,12 +7,13 @@ ghost use Rattle.std.specs.declared.cmp.Ordering.TheVariants.{Less};
 ghost use Rattle.mv_values.specs.declared.value.Value.{Value};
 ghost use Rattle.mv_values.specs.declared.value.Value.TheVariants.{Int};
 ghost use Rattle.mv_values.specs.declared.rows.Keyed.{Keyed};
+ghost use Rattle.mv_values.specs.declared.pred.Test.{Test};
 ghost use Rattle.mv_values.specs.Columns.{column_of};
 ghost use Rattle.mv_values.specs.Keys.{IsRising};
 ghost use Rattle.mv_values.specs.Order.{value_order, key_order};
 ghost use Rattle.mv_values.specs.Preds.{allows};
 ghost use Rattle.mv_table.specs.declared.span.Side.TheVariants.{Both, Low, High};
-ghost use Rattle.mv_table.specs.Spans.{is_past, is_within, IsForward, Admits, Covers, Agrees, bounds, HoldsAt, is_place};
+ghost use Rattle.mv_table.specs.Spans.{is_past, is_within, IsForward, Admits, Covers, FindsAll, Agrees, bounds, HoldsAt, is_place};
 
 use mv_values::copied::Copied;
 use mv_values::list::List;
@@ -265,7 +266,8 @@ impl Span {
     pub fn part<'a>(&self, rows: &'a [Keyed]) -> &'a [Keyed]
         requires forward { IsForward self.now }
         requires rising { IsRising rows.now }
-        ensures { result.now ≡ filter (λ item. is_within self.now item.key) rows.now }
+        ensures part { result.now ≡ filter (λ item. is_within self.now item.key) rows.now }
+        ensures finds { (tests : List Test) → Covers tests self.now → FindsAll tests rows.now result.now }
     {
         let from = rows.partition_point(
             |item: &Keyed| -> bool

@@ -1,11 +1,11 @@
 -- The places of own writes, by table and key.
-use Rattle.std.proofs.Common.{◌≡◌, ℕ, zero, suc, ◌+◌, ◌-◌, ◌<◌, ◌≤◌, Bool, true, false, ◌==◌, cond, List, [], ◌∷◌, ◌++◌, All, length, map, take, drop, insert, slice_index_or, slice_range, refl, sym, ap, subst, ◌∙◌, inl, inr, arith, take-append-drop, length-append}
-use Rattle.std.specs.Prelude.{pos, AllPairs, nat_lt}
+use Rattle.std.proofs.Common.{◌≡◌, Option, Some, None, ℕ, zero, suc, ◌+◌, ◌-◌, ◌<◌, ◌≤◌, Bool, true, false, ◌==◌, cond, List, [], ◌∷◌, ◌++◌, All, length, map, take, drop, insert, slice_index_or, slice_range, refl, sym, ap, subst, ◌∙◌, inl, inr, arith, take-append-drop, length-append}
+use Rattle.std.specs.Prelude.{pos, AllPairs, nat_lt, not}
 use Rattle.std.specs.List.{filter}
 use Rattle.std.specs.List.Sorted.{IsPartitionPoint, IsPartitionedBy}
-use Rattle.std.specs.Ordering.{is_lt, is_le, is_eq}
+use Rattle.std.specs.Ordering.{is_lt, is_le, is_eq, is_gt}
 use Rattle.std.specs.declared.cmp.Ordering.{Ordering}
-use Rattle.std.specs.declared.cmp.Ordering.TheVariants.{Less, Equal, Greater}
+use Rattle.std.specs.declared.cmp.Ordering.TheVariants.{Equal}
 use Rattle.std.proofs.lemmas.Bool.{cases_lt}
 use Rattle.std.proofs.lemmas.Bool.Decides.{nat_tests}
 use Rattle.std.proofs.lemmas.Cmp.{tied_itself}
@@ -14,13 +14,15 @@ use Rattle.std.proofs.lemmas.List.Elements.{filter-append, filter_passes, All-ni
 use Rattle.std.proofs.lemmas.List.Kept.{AllPairs-cons, AllPairs-filter}
 use Rattle.mv_values.specs.declared.value.Value.{Value}
 use Rattle.mv_values.specs.declared.value.Value.TheVariants.{Int}
-use Rattle.mv_values.specs.Order.{value_order, key_order}
-use Rattle.mv_values.proofs.KeyOrder.{value_order_total, key_order_total, exact_keys}
+use Rattle.mv_values.specs.Order.{key_order}
+use Rattle.mv_values.proofs.KeyOrder.{key_order_total, exact_keys}
 use Rattle.mv_record.specs.Writes.{is_on}
 use Rattle.mv_undo.specs.declared.owned.Owned.{Owned}
 use Rattle.mv_undo.specs.Owning.{before}
-use Rattle.mv_undo.specs.Indexing.{owned_at, lined, full_key, key_at, owned_on, IsIndexed, front_order}
-use Rattle.mv_undo.proofs.Fronts.{below_too, within_too, parted_by_front, parted_by_key, above_le, equal_first, both_so, equal_is, alike}
+use Rattle.mv_table.specs.declared.span.Span.{Span}
+use Rattle.mv_table.specs.Spans.{is_past, is_within, RunsTo, IsForward}
+use Rattle.mv_undo.specs.Indexing.{owned_at, lined, full_key, key_at, owned_on, IsIndexed, IsCut, is_below, is_up_to, end_of, end_in}
+use Rattle.mv_undo.proofs.KeyPlaces.{parted_below, parted_by_key, above_le, below_more, lt_le, not_under, under_end, same_table, next_table, both_so, equal_is, alike}
 
 -- A write on a key
 
@@ -28,11 +30,6 @@ on_full : (t : ℕ) (key : List Value) (o : Owned) → is_on t key o.write ≡ t
 on_full t key o on =
     let two = both_so (o.write.table == t) (is_eq (key_order o.write.key key)) on in
     ap (λ n. Int (pos n) ∷ o.write.key) (alike o.write.table t two.0) ∙ ap (λ k. Int (pos t) ∷ k) (exact_keys o.write.key key (equal_is (key_order o.write.key key) two.1))
-
-on_begins : (t : ℕ) (key front : List Value) (o : Owned) → front_order key front ≡ Equal → is_on t key o.write ≡ true → front_order (full_key o) (Int (pos t) ∷ front) ≡ Equal
-on_begins t key front o h on =
-    ap (λ k. front_order k (Int (pos t) ∷ front)) (on_full t key o on)
-    ∙ (equal_first (value_order (Int (pos t)) (Int (pos t))) (front_order key front) (tied_itself value_order_total (Int (pos t))) ∙ h)
 
 below_misses : (o : Ordering) → is_lt o ≡ true → o ≡ Equal → ⊥
 below_misses o lt e = let no : is_lt Equal ≡ true = subst (λ p. is_lt p ≡ true) e lt in cc
@@ -57,35 +54,24 @@ none_on items t key (x ∷ xs) h =
 
 -- A part of the places
 
-both_tests : (o : Ordering) → is_lt o ≡ true → is_le o ≡ false → ⊥
-both_tests Less a b = cc
-both_tests Equal a b = cc
-both_tests Greater a b = cc
-
-abbrev pub is_low : List Owned → ℕ → List Value → ℕ → Bool
-is_low items t front place = is_lt (front_order (key_at items place) (Int (pos t) ∷ front))
-
-abbrev pub is_up : List Owned → ℕ → List Value → ℕ → Bool
-is_up items t front place = is_le (front_order (key_at items place) (Int (pos t) ∷ front))
-
 abbrev pub Searched : (ℕ → Bool) → List ℕ → ℕ → Type 0
-Searched test order at = IsPartitionedBy test order → IsPartitionPoint (λ y. test y ≡ true) (λ y. test y ≡ false) order at
+Searched test order at = IsPartitionedBy test order → IsCut test order at
 
-low_point : (items : List Owned) (order : List ℕ) (t : ℕ) (front : List Value) (at : ℕ) → IsIndexed items order → Searched (is_low items t front) order at
-    → IsPartitionPoint (λ y. is_low items t front y ≡ true) (λ y. is_low items t front y ≡ false) order at
-low_point items order t front at ix h = h (parted_by_front is_lt (key_at items) (Int (pos t) ∷ front) order below_too ix.sorted)
+pub cut_below : (items : List Owned) (order : List ℕ) (key : List Value) (at : ℕ) → IsIndexed items order → Searched (is_below items key) order at → IsCut (is_below items key) order at
+cut_below items order key at ix h = h (parted_below (key_at items) key order ix.sorted)
 
-up_point : (items : List Owned) (order : List ℕ) (t : ℕ) (front : List Value) (at : ℕ) → IsIndexed items order → Searched (is_up items t front) order at
-    → IsPartitionPoint (λ y. is_up items t front y ≡ true) (λ y. is_up items t front y ≡ false) order at
-up_point items order t front at ix h = h (parted_by_front is_le (key_at items) (Int (pos t) ∷ front) order within_too ix.sorted)
+pub cut_up_to : (items : List Owned) (order : List ℕ) (key : List Value) (at : ℕ) → IsIndexed items order → Searched (is_up_to items key) order at → IsCut (is_up_to items key) order at
+cut_up_to items order key at ix h = h (parted_by_key (key_at items) key order ix.sorted)
 
-pub span_order : (items : List Owned) (order : List ℕ) (t : ℕ) (front : List Value) (from to : ℕ) → IsIndexed items order → from ≤ length order → Searched (is_low items t front) order from → Searched (is_up items t front) order to
-    → from ≤ to
-span_order items order t front from to ix low first last =
+pub cut_order : (p q : ℕ → Bool) (order : List ℕ) (from to : ℕ) → ((n : ℕ) → p n ≡ true → q n ≡ true) → from ≤ length order → IsCut p order from → IsCut q order to → from ≤ to
+cut_order p q order from to more low first last =
     elim (cases_lt to from) [
-      | inl crossed ↦ absurd (both_tests _ ((low_point items order t front from ix first).0 to 0 (omega arith) crossed) ((up_point items order t front to ix last).1 to 0 (omega arith) (omega (arith, crossed, low))))
+      | inl crossed ↦ absurd (clash (slice_index_or order to 0) (first.0 to 0 (omega arith) crossed) (last.1 to 0 (omega arith) (omega (arith, crossed, low))))
       | inr fine ↦ fine
     ]
+  where
+    clash : (n : ℕ) → p n ≡ true → q n ≡ false → ⊥
+    clash n h k = let so = more n h in cc
 
 -- what a part leaves out isn't on the key
 part_same : (items : List Owned) (t : ℕ) (key : List Value) (order : List ℕ) (from to : ℕ) → from ≤ to → owned_on t key (lined items (take from order)) ≡ [] → owned_on t key (lined items (drop to order)) ≡ []
@@ -99,19 +85,56 @@ part_same items t key order from to le front back =
     ∙ (ap (λ l. G (take (to - from) rest) ++ l) (sym later) ∙ (sym (on_append items t key (take (to - from) rest) (drop (to - from) rest)) ∙ ap G (take-append-drop (to - from) rest))) in
     inside ∙ (ap (λ l. l ++ G rest) (sym front) ∙ (sym (on_append items t key (take from order) rest) ∙ ap G (take-append-drop from order)))
 
-pub span_on : (items : List Owned) (order : List ℕ) (t : ℕ) (front : List Value) (from to : ℕ) → IsIndexed items order → from ≤ length order → to ≤ length order → Searched (is_low items t front) order from → Searched (is_up items t front) order to
-    → (key : List Value) → front_order key front ≡ Equal → owned_on t key (lined items (slice_range order from to)) ≡ owned_on t key items
-span_on items order t front from to ix low high first last key h =
-    part_same items t key order from to (span_order items order t front from to ix low first last)
+cut_same : (items : List Owned) (order : List ℕ) (p q : ℕ → Bool) (from to t : ℕ) (key : List Value) → IsIndexed items order → from ≤ to → from ≤ length order → to ≤ length order → IsCut p order from → IsCut q order to
+    → ((n : ℕ) → is_on t key (owned_at items n).write ≡ true → p n ≡ true → ⊥) → ((n : ℕ) → is_on t key (owned_at items n).write ≡ true → q n ≡ false → ⊥) → owned_on t key (lined items (slice_range order from to)) ≡ owned_on t key items
+cut_same items order p q from to t key ix le low high first last under over =
+    part_same items t key order from to le
     (none_on items t key (take from order) (λ k d lt.
     let inside : k < from = omega (arith, lt, length-take from order) in
     let is : slice_index_or (take from order) k d ≡ slice_index_or order k d = get_or-take from order k d inside in
-    rw is (off _ (λ on. below_misses _ ((low_point items order t front from ix first).0 k d (omega arith) inside) (on_begins t key front (owned_at items (slice_index_or order k d)) h on)))))
+    rw is (off _ (λ on. under (slice_index_or order k d) on (first.0 k d (omega arith) inside)))))
     (none_on items t key (drop to order) (λ k d lt.
     let inside : to + k < length order = omega (arith, lt, length-drop to order) in
     let is : slice_index_or (drop to order) k d ≡ slice_index_or order (to + k) d = get_or-drop to order k d in
-    rw is (off _ (λ on. above_misses _ ((up_point items order t front to ix last).1 (to + k) d (omega arith) inside) (on_begins t key front (owned_at items (slice_index_or order (to + k) d)) h on)))))
+    rw is (off _ (λ on. over (slice_index_or order (to + k) d) on (last.1 (to + k) d (omega arith) inside)))))
     ∙ ix.each t key
+
+-- the places on a key
+
+pub key_cut : (items : List Owned) (key : List Value) (n : ℕ) → is_below items key n ≡ true → is_up_to items key n ≡ true
+key_cut items key n = lt_le (key_order (key_at items n) key)
+
+pub cut_on : (items : List Owned) (order : List ℕ) (from to t : ℕ) (key : List Value) → IsIndexed items order → from ≤ to → from ≤ length order → to ≤ length order → IsCut (is_below items (Int (pos t) ∷ key)) order from → IsCut (is_up_to items (Int (pos t) ∷ key)) order to
+    → owned_on t key (lined items (slice_range order from to)) ≡ owned_on t key items
+cut_on items order from to t key ix le low high first last =
+    cut_same items order (is_below items (Int (pos t) ∷ key)) (is_up_to items (Int (pos t) ∷ key)) from to t key ix le low high first last
+    (λ n on below. below_misses _ below (there n on)) (λ n on above. above_misses _ above (there n on))
+  where
+    there : (n : ℕ) → is_on t key (owned_at items n).write ≡ true → key_order (key_at items n) (Int (pos t) ∷ key) ≡ Equal
+    there n on = ap (λ k. key_order k (Int (pos t) ∷ key)) (on_full t key (owned_at items n) on) ∙ tied_itself key_order_total (Int (pos t) ∷ key)
+
+-- the places in a span
+
+end_above : (t : ℕ) (low : List Value) (high : Option (List Value)) → RunsTo low high → is_gt (key_order (Int (pos t) ∷ low) (end_of t high)) ≡ false
+end_above t low None h = ap is_gt (next_table t low)
+end_above t low (Some high) h = ap is_gt (same_table t low high) ∙ h
+
+pub span_cut : (items : List Owned) (t : ℕ) (span : Span) → IsForward span → (n : ℕ) → is_below items (Int (pos t) ∷ span.low) n ≡ true → is_below items (end_in t span) n ≡ true
+span_cut items t span forward n = below_more (key_at items n) (Int (pos t) ∷ span.low) (end_in t span) (end_above t span.low span.high forward)
+
+before_end : (t : ℕ) (high : Option (List Value)) (key : List Value) → not (is_past high key) ≡ true → is_lt (key_order (Int (pos t) ∷ key) (end_of t high)) ≡ true
+before_end t None key h = ap is_lt (next_table t key)
+before_end t (Some high) key h = ap is_lt (same_table t key high) ∙ under_end high key h
+
+pub cut_in : (items : List Owned) (order : List ℕ) (from to t : ℕ) (span : Span) → IsIndexed items order → from ≤ to → from ≤ length order → to ≤ length order → IsCut (is_below items (Int (pos t) ∷ span.low)) order from → IsCut (is_below items (end_in t span)) order to
+    → (key : List Value) → is_within span key ≡ true → owned_on t key (lined items (slice_range order from to)) ≡ owned_on t key items
+cut_in items order from to t span ix le low high first last key within =
+    cut_same items order (is_below items (Int (pos t) ∷ span.low)) (is_below items (end_in t span)) from to t key ix le low high first last
+    (λ n on below. let no : true ≡ false = sym below ∙ (ap (λ k. is_lt (key_order k (Int (pos t) ∷ span.low))) (on_full t key (owned_at items n) on) ∙ (ap is_lt (same_table t key span.low) ∙ not_under span.low key parts.0)) in cc)
+    (λ n on above. let no : false ≡ true = sym above ∙ (ap (λ k. is_lt (key_order k (end_in t span))) (on_full t key (owned_at items n) on) ∙ before_end t span.high key parts.1) in cc)
+  where
+    parts : (is_le (key_order span.low key) ≡ true) × (not (is_past span.high key) ≡ true)
+    parts = both_so (is_le (key_order span.low key)) (not (is_past span.high key)) within
 
 pub part_within : (order : List ℕ) (n from to : ℕ) → to ≤ length order → All (λ p. p < n) order → All (λ p. p < n) (slice_range order from to)
 part_within order n from to high h k d lt =
@@ -256,8 +279,8 @@ below p n lt = grind (arith, nat_tests)
 not_below : (p n : ℕ) → n ≤ p → nat_lt p n ≡ false
 not_below p n le = grind (arith, nat_tests)
 
-is_below : (p n : ℕ) → nat_lt p n ≡ true → p < n
-is_below p n h = grind (arith, nat_tests)
+lower : (p n : ℕ) → nat_lt p n ≡ true → p < n
+lower p n h = grind (arith, nat_tests)
 
 lined_filter : (f : ℕ → Owned) (test : ℕ → Bool) (q : Owned → Bool) (xs : List ℕ) → ((k d : ℕ) → k < length xs → test (slice_index_or xs k d) ≡ q (f (slice_index_or xs k d))) → map f (filter test xs) ≡ filter q (map f xs)
 lined_filter f test q [] h = refl
@@ -287,7 +310,7 @@ indexed_less items order number len ix high point is = record { within = inside;
     kept = filter (λ p. nat_lt p len) order
 
     front : (k d : ℕ) → k < length (filter (λ p. nat_lt p len) order) → slice_index_or (filter (λ p. nat_lt p len) order) k d < len
-    front k d lt = is_below _ _ (filter_passes (λ p. nat_lt p len) order k d lt)
+    front k d lt = lower _ _ (filter_passes (λ p. nat_lt p len) order k d lt)
 
     inside : All (λ p. p < length (take len items)) (filter (λ p. nat_lt p len) order)
     inside k d lt = omega (arith, front k d lt, length-take len items, high)

@@ -1,5 +1,5 @@
 pub mod Owning
 pub mod Laying
-pub mod Fronts
+pub mod KeyPlaces
 pub mod Indexing
 pub mod Looking

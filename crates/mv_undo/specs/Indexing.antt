@@ -1,17 +1,13 @@
 -- The places of own writes, by table and key.
-use Rattle.std.specs.Prelude.{◌≡◌, ◌<◌, ℕ, Bool, true, false, ◌&&◌, ◌==◌, List, [], ◌∷◌, Option, Some, None, All, AllPairs, length, map, slice_get, slice_index_or, pos, if◌then◌else◌}
+use Rattle.std.specs.Prelude.{◌≡◌, ◌<◌, ◌+◌, ℕ, Bool, true, false, List, [], ◌∷◌, Option, Some, None, All, AllPairs, length, map, slice_get, pos}
 use Rattle.std.specs.List.{filter}
-use Rattle.std.specs.Ordering.{is_le, ordering_then}
-use Rattle.std.specs.declared.cmp.Ordering.{Ordering}
-use Rattle.std.specs.declared.cmp.Ordering.TheVariants.{Less, Equal}
+use Rattle.std.specs.List.Sorted.{IsPartitionPoint}
+use Rattle.std.specs.Ordering.{is_lt, is_le}
 use Rattle.mv_values.specs.declared.value.Value.{Value}
 use Rattle.mv_values.specs.declared.value.Value.TheVariants.{Int}
-use Rattle.mv_values.specs.declared.op.Op.{Op}
-use Rattle.mv_values.specs.declared.op.Op.TheVariants.{Eq}
 use Rattle.mv_values.specs.declared.patch.Patch.TheVariants.{Delete}
-use Rattle.mv_values.specs.declared.pred.Test.{Test}
-use Rattle.mv_values.specs.Columns.{column_of}
-use Rattle.mv_values.specs.Order.{value_order, key_order}
+use Rattle.mv_values.specs.Order.{key_order}
+use Rattle.mv_table.specs.declared.span.Span.{Span}
 use Rattle.mv_record.specs.Writes.{is_on}
 use Rattle.mv_undo.specs.declared.owned.Owned.{Owned}
 
@@ -43,25 +39,21 @@ pub record IsIndexed (items : List Owned) (order : List ℕ) : Type 0 where
   pub sorted : AllPairs (λ p q. is_le (key_order (key_at items p) (key_at items q)) ≡ true) order
   pub each : (t : ℕ) (key : List Value) → owned_on t key (lined items order) ≡ owned_on t key items
 
--- how a key stands to values of its first columns
-abbrev pub front_order : List Value → List Value → Ordering
-front_order key [] = Equal
-front_order [] (v ∷ vs) = Less
-front_order (w ∷ ws) (v ∷ vs) = ordering_then (value_order w v) (front_order ws vs)
+-- the write at a place is on a key below this one, or up to it, each with its table in front
+abbrev pub is_below : List Owned → List Value → ℕ → Bool
+is_below items key place = is_lt (key_order (key_at items place) key)
 
-abbrev pub is_equality : Op → Bool
-is_equality Eq = true
-is_equality op = false
+abbrev pub is_up_to : List Owned → List Value → ℕ → Bool
+is_up_to items key place = is_le (key_order (key_at items place) key)
 
-abbrev pub is_place : Option ℕ → ℕ → Bool
-is_place None place = false
-is_place (Some p) place = p == place
+-- the first so many places pass a test, and the others fail it
+abbrev pub IsCut : (ℕ → Bool) → List ℕ → ℕ → Type 0
+IsCut test order at = IsPartitionPoint (λ p. test p ≡ true) (λ p. test p ≡ false) order at
 
--- the value that tests give a place of the key by `=`
-abbrev pub given : List Test → ℕ → Option Value
-given [] place = None
-given (t ∷ ts) place = if is_place t.key_place place && is_equality t.op then Some t.value else given ts place
+-- the end of a span of a table's keys
+abbrev pub end_of : ℕ → Option (List Value) → List Value
+end_of t None = Int (pos (t + 1)) ∷ []
+end_of t (Some high) = Int (pos t) ∷ high
 
--- a key has these values in its first columns, where one that it doesn't have counts as 0
-abbrev pub Agrees : List Value → List Value → Type 0
-Agrees key front = (i : ℕ) → i < length front → column_of key i ≡ slice_index_or front i (Int (pos 0))
+abbrev pub end_in : ℕ → Span → List Value
+end_in t span = end_of t span.high

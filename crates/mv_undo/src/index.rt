@@ -1,16 +1,17 @@
 //! The places of own writes, by table and key.
 
-ghost use Rattle.std.specs.Prelude.{◌≡◌, ◌<◌, ◌≤◌, ◌∷◌, ◌++◌, [], ℕ, pos, All, List, length, slice_get, slice_range};
+ghost use Rattle.std.specs.Prelude.{◌≡◌, ◌<◌, ◌≤◌, ◌∷◌, ◌++◌, [], ℕ, true, pos, All, List, length, slice_get, slice_range};
 ghost use Rattle.std.specs.List.{insert};
 ghost use Rattle.std.specs.Option.{option_copied};
-ghost use Rattle.std.specs.Ordering.{is_lt, is_le};
-ghost use Rattle.std.specs.declared.cmp.Ordering.TheVariants.{Equal};
+ghost use Rattle.std.specs.Ordering.{is_le};
 ghost use Rattle.mv_values.specs.declared.value.Value.{Value};
 ghost use Rattle.mv_values.specs.declared.value.Value.TheVariants.{Int};
 ghost use Rattle.mv_values.specs.Order.{value_order, key_order};
-ghost use Rattle.mv_undo.specs.Indexing.{IsIndexed, front_order, key_at, lined, owned_on};
+ghost use Rattle.mv_table.specs.Spans.{is_within, IsForward};
+ghost use Rattle.mv_undo.specs.Indexing.{IsIndexed, IsCut, is_below, is_up_to, end_in, key_at, lined, owned_on};
 
 use crate::owned::Owned;
+use mv_table::span::Span;
 use mv_values::patch::Write;
 use mv_values::value::{Value, compare_keys};
 use std::cmp::Ordering;
@@ -22,42 +23,15 @@ fn at(items: &[Owned], place: usize) -> Option<&Owned>
     items.get(place)
 }
 
-/// How a key stands to values of its first columns.
-fn order_to_front(key: &[Value], front: &[Value]) -> Ordering
-    ensures { result ≡ front_order key.now front.now }
-{
-    for (i, value) in front.iter().enumerate() {
-        let Some(own) = key.get(i) else {
-            return Ordering::Less;
-        };
-        let order = own.order(value);
-        if order.is_ne() {
-            return order;
-        }
-    }
-    Ordering::Equal
-}
-
 /// How a table stands to another.
-fn order_of_tables(table: u8, other: u8) -> Ordering
+fn order_of_tables(table: u8, other: u16) -> Ordering
     ensures { result ≡ value_order (Int (pos table)) (Int (pos other)) }
 {
     Value::Int(table as i64).order(&Value::Int(other as i64))
 }
 
-/// How a key of a table stands to values of the first columns of a table's keys.
-fn near(table: u8, key: &[Value], other: u8, front: &[Value]) -> Ordering
-    ensures { result ≡ front_order (Int (pos table) ∷ key.now) (Int (pos other) ∷ front.now) }
-{
-    let order = order_of_tables(table, other);
-    if order.is_ne() {
-        return order;
-    }
-    order_to_front(key, front)
-}
-
 /// How a key of a table stands to another.
-fn compare(table: u8, key: &[Value], other: u8, other_key: &[Value]) -> Ordering
+fn compare(table: u8, key: &[Value], other: u16, other_key: &[Value]) -> Ordering
     ensures { result ≡ key_order (Int (pos table) ∷ key.now) (Int (pos other) ∷ other_key.now) }
 {
     let order = order_of_tables(table, other);
@@ -67,29 +41,13 @@ fn compare(table: u8, key: &[Value], other: u8, other_key: &[Value]) -> Ordering
     compare_keys(key, other_key)
 }
 
-/// How the key of the write at a place stands to values of the first columns of a table's keys.
-fn near_at(items: &[Owned], place: usize, table: u8, front: &[Value]) -> Ordering
-    ensures { result ≡ front_order (key_at items.now place) (Int (pos table) ∷ front.now) }
+/// How the key of the write at a place stands to a key of a table.
+fn compare_at(items: &[Owned], place: usize, table: u16, key: &[Value]) -> Ordering
+    ensures { result ≡ key_order (key_at items.now place) (Int (pos table) ∷ key.now) }
 {
     match at(items, place) {
-        Some(owned) => near(owned.write.table, owned.write.key.as_slice(), table, front),
-        None => near(0, &[], table, front),
-    }
-}
-
-/// How the key of the write at a place stands to that of a write.
-fn compare_at(items: &[Owned], place: usize, write: &Write) -> Ordering
-    ensures { result ≡ key_order (key_at items.now place) (Int (pos write.now.table) ∷ write.now.key) }
-{
-    let key = write.key.as_slice();
-    match at(items, place) {
-        Some(owned) => compare(
-            owned.write.table,
-            owned.write.key.as_slice(),
-            write.table,
-            key,
-        ),
-        None => compare(0, &[], write.table, key),
+        Some(owned) => compare(owned.write.table, owned.write.key.as_slice(), table, key),
+        None => compare(0, &[], table, key),
     }
 }
 
@@ -102,7 +60,7 @@ pub(crate) fn place_for(items: &[Owned], order: &[usize], write: &Write) -> usiz
     order.partition_point(
         |place: &usize| -> bool
             ensures { result ≡ is_le (key_order (key_at items.entry.now place.now) (Int (pos write.entry.now.table) ∷ write.entry.now.key)) }
-        { compare_at(items, *place, write).is_le() },
+        { compare_at(items, *place, write.table as u16, write.key.as_slice()).is_le() },
     )
 }
 
@@ -115,27 +73,73 @@ fn part(order: &[usize], from: usize, to: usize) -> &[usize]
     &order[from..to]
 }
 
-/// The places of the writes of a table whose keys begin with these values. It costs the logarithm of the number of
-/// writes.
-pub(crate) fn span<'a>(
+/// How many of the places have writes below a key of a table. It costs the logarithm of the number of writes.
+fn count_below(items: &[Owned], order: &[usize], table: u16, key: &[Value]) -> usize
+    requires { IsIndexed items.now order.now }
+    ensures within { result ≤ length order.now }
+    ensures below { IsCut (is_below items.now (Int (pos table) ∷ key.now)) order.now result }
+{
+    order.partition_point(
+        |place: &usize| -> bool
+            ensures { result ≡ is_below items.entry.now (Int (pos table) ∷ key.entry.now) place.now }
+        { compare_at(items, *place, table, key).is_lt() },
+    )
+}
+
+/// How many of the places have writes up to a key of a table. It costs the logarithm of the number of writes.
+fn count_up_to(items: &[Owned], order: &[usize], table: u16, key: &[Value]) -> usize
+    requires { IsIndexed items.now order.now }
+    ensures within { result ≤ length order.now }
+    ensures up_to { IsCut (is_up_to items.now (Int (pos table) ∷ key.now)) order.now result }
+{
+    order.partition_point(
+        |place: &usize| -> bool
+            ensures { result ≡ is_up_to items.entry.now (Int (pos table) ∷ key.entry.now) place.now }
+        { compare_at(items, *place, table, key).is_le() },
+    )
+}
+
+/// The places of the writes on a key of a table. It costs the logarithm of the number of writes.
+pub(crate) fn places_on<'a>(
     items: &[Owned],
     order: &'a [usize],
     table: u8,
-    front: &[Value],
+    key: &[Value],
 ) -> &'a [usize]
     requires { IsIndexed items.now order.now }
     ensures within { All (λ place. place < length items.now) result.now }
-    ensures writes { (key : List Value) → front_order key front.now ≡ Equal → owned_on table key (lined items.now result.now) ≡ owned_on table key items.now }
+    ensures writes { owned_on table key.now (lined items.now result.now) ≡ owned_on table key.now items.now }
 {
-    let from = order.partition_point(
-        |place: &usize| -> bool
-            ensures { result ≡ is_lt (front_order (key_at items.entry.now place.now) (Int (pos table) ∷ front.entry.now)) }
-        { near_at(items, *place, table, front).is_lt() },
-    );
-    let to = order.partition_point(
-        |place: &usize| -> bool
-            ensures { result ≡ is_le (front_order (key_at items.entry.now place.now) (Int (pos table) ∷ front.entry.now)) }
-        { near_at(items, *place, table, front).is_le() },
-    );
+    let from = count_below(items, order, table as u16, key);
+    let to = count_up_to(items, order, table as u16, key);
+    part(order, from, to)
+}
+
+/// How many of the places have writes of lower tables, or of the table before the end of a span of keys.
+fn count_before_end(items: &[Owned], order: &[usize], table: u8, span: &Span) -> usize
+    requires { IsIndexed items.now order.now }
+    ensures within { result ≤ length order.now }
+    ensures before { IsCut (is_below items.now (end_in table span.now)) order.now result }
+{
+    match &span.high {
+        Some(high) => count_below(items, order, table as u16, high.as_slice()),
+        None => count_below(items, order, table as u16 + 1, &[]),
+    }
+}
+
+/// The places of the writes of a table on keys of a span. It costs the logarithm of the number of writes.
+pub(crate) fn places_in<'a>(
+    items: &[Owned],
+    order: &'a [usize],
+    table: u8,
+    span: &Span,
+) -> &'a [usize]
+    requires indexed { IsIndexed items.now order.now }
+    requires forward { IsForward span.now }
+    ensures within { All (λ place. place < length items.now) result.now }
+    ensures writes { (key : List Value) → is_within span.now key ≡ true → owned_on table key (lined items.now result.now) ≡ owned_on table key items.now }
+{
+    let from = count_below(items, order, table as u16, span.low.as_slice());
+    let to = count_before_end(items, order, table, span);
     part(order, from, to)
 }

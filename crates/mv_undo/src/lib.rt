@@ -1,7 +1,6 @@
 //! The own writes of a running call.
 #![tactic(auto)]
 
-mod front;
 mod index;
 mod lookup;
 mod overlay;

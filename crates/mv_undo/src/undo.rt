@@ -5,10 +5,10 @@ ghost use Rattle.std.specs.Option.{option_copied};
 ghost use Rattle.mv_record.specs.Writes.{writes_on, patched_by};
 ghost use Rattle.mv_undo.specs.Owning.{IsInOrder, before, earlier, touches, AreSought};
 
-use crate::front::front_of;
-use crate::index::{place_for, span};
+use crate::index::{place_for, places_in, places_on};
 use crate::lookup::{is_some_on, keys_at, patched_at};
 use crate::owned::Owned;
+use mv_table::span::Span;
 use mv_values::list::List;
 use mv_values::memory::NoMemory;
 use mv_values::patch::Write;
@@ -96,19 +96,18 @@ impl Undo {
         ensures { result ≡ touches table key.now (earlier number self.now) }
     {
         let items = self.items.as_slice();
-        let places = span(items, self.order.as_slice(), table, key.as_slice());
+        let places = places_on(items, self.order.as_slice(), table, key.as_slice());
         is_some_on(items, places, number, table, key)
     }
 
     /// The keys of the predicate's table that records with smaller numbers wrote and that it admits, each once, in order.
-    /// Where it gives the whole key or its first columns values by `=`, only the writes on keys that begin so are looked
-    /// at; numbers 0 at the end don't count.
+    /// Only the writes on keys of the span that its tests leave are looked at.
     pub fn keys(&self, alloc: Global, number: usize, pred: &Pred) -> Result<List<Key>, NoMemory>
         ensures { IfOk result (λ keys. AreSought pred.now (earlier number self.now) keys) }
     {
-        let front = front_of(alloc, pred)?;
+        let span = Span::of(alloc, pred.tests.as_slice())?;
         let items = self.items.as_slice();
-        let places = span(items, self.order.as_slice(), pred.table, front.as_slice());
+        let places = places_in(items, self.order.as_slice(), pred.table, &span);
         keys_at(alloc, items, places, number, pred)
     }
 
@@ -124,7 +123,7 @@ impl Undo {
         ensures { IfOk result (λ row. row ≡ patched_by (writes_on table key.now (earlier number self.now)) (option_copied was.entry)) }
     {
         let items = self.items.as_slice();
-        let places = span(items, self.order.as_slice(), table, key.as_slice());
+        let places = places_on(items, self.order.as_slice(), table, key.as_slice());
         patched_at(alloc, items, places, number, table, key, was)
     }
 }

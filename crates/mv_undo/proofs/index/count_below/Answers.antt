@@ -1,0 +1,12 @@
+use Rattle.std.proofs.Common.{rules, ◌∷◌}
+use Rattle.std.specs.Prelude.{pos}
+use Rattle.std.proofs.lemmas.Fn.{always_returns_same}
+use Rattle.mv_values.specs.declared.value.Value.TheVariants.{Int}
+use Rattle.mv_undo.specs.Indexing.{is_below}
+use Rattle.mv_undo.proofs.Indexing.{cut_below}
+use Rattle.mv_undo.proofs.index.count_below.Goals as goal
+
+pub returns-clause-below : goal.returns-clause-below
+returns-clause-below c =
+    cut_below c.args.items.now c.args.order.now (Int (pos c.args.table) ∷ c.args.key.now) c.partition_point.result c.requires
+    (c.partition_point.ensures.partitioned (is_below c.args.items.now (Int (pos c.args.table) ∷ c.args.key.now)) (always_returns_same _ _ _ (λ a r f h. search rules)))
