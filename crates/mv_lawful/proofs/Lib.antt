@@ -1,2 +1,4 @@
 pub mod Lows
 pub mod Repairs
+pub mod Serial
+pub mod Turns

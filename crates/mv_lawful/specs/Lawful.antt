@@ -139,6 +139,11 @@ reach w s (e ∷ es) = reach w (after w s e) es
 abbrev pub course_of : Work → List Event → Course
 course_of w es = reach w beginning es
 
+-- none of the events is refused
+abbrev pub AllAllowed : Work → Course → List Event → Type 0
+AllAllowed w s [] = Unit {0}
+AllAllowed w s (e ∷ es) = (refusal w s e ≡ None) × AllAllowed w (after w s e) es
+
 -- the least call, from this number on, that hasn't committed
 abbrev pub first_open : ℕ → List Live → ℕ
 first_open c [] = c

@@ -4,7 +4,8 @@ use Rattle.std.specs.List.{All, AllPairs, Contains, filter}
 use Rattle.mv_journal.specs.declared.event.Event.{Event}
 use Rattle.mv_lawful.specs.Work.{Work}
 use Rattle.mv_lawful.specs.Lawful.{Turn, Live, Course, Lawful, after, course_of, is_stale}
-use Rattle.mv_lawful.specs.Rounds.{is_repair}
+use Rattle.mv_lawful.specs.Rounds.{is_repair, IsBounded}
+use Rattle.mv_lawful.specs.Outcomes.{numbers, in_turn}
 
 -- Low
 
@@ -39,3 +40,13 @@ pub record IsSerial (w : Work) (s : Course) : Type 0 where
 
 abbrev pub LawfulIsSerial : Type 0
 LawfulIsSerial = (w : Work) (es : List Event) → Lawful w es → IsSerial w (course_of w es)
+
+-- the journal of one worker
+pub record IsInTurn (w : Work) (es : List Event) : Type 0 where
+  pub lawful : Lawful w es
+  pub bounded : IsBounded w es
+  pub order : (course_of w es).order ≡ numbers w.count
+
+-- to run the calls one after another is lawful, whatever they do
+abbrev pub InTurnIsLawful : Type 0
+InTurnIsLawful = (w : Work) → IsInTurn w (in_turn w.count)

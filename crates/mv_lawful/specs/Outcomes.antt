@@ -1,8 +1,9 @@
 -- What a journal comes to: replies, commits with their rounds, events and last tables.
 use Rattle.std.specs.Prelude.{ℕ, zero, suc, ◌==◌, List, [], ◌∷◌, ◌++◌, Option, Some, None, map, length, slice_get}
-use Rattle.std.specs.List.{position}
+use Rattle.std.specs.List.{position, flat_map}
 use Rattle.mv_values.specs.declared.calls.Reply.{Reply}
 use Rattle.mv_journal.specs.declared.event.Event.{Event}
+use Rattle.mv_journal.specs.declared.event.Event.TheVariants.{B, C}
 use Rattle.mv_journal.specs.declared.outcome.HistoryLine.{HistoryLine}
 use Rattle.mv_journal.specs.declared.outcome.Outcome.{Outcome}
 use Rattle.mv_lawful.specs.Work.{Work, table_at}
@@ -42,3 +43,13 @@ outcome_at w s es = record {
 -- what a journal comes to
 abbrev pub outcome_of : Work → List Event → Outcome
 outcome_of w es = outcome_at w (course_of w es) es
+
+-- The journal of one worker
+
+-- a call begins and commits
+abbrev pub turn : ℕ → List Event
+turn c = B c ∷ C c ∷ []
+
+-- each of the first n calls begins and commits before the next begins
+abbrev pub in_turn : ℕ → List Event
+in_turn n = flat_map turn (numbers n)

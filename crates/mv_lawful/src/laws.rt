@@ -1,7 +1,19 @@
 //! What holds of journals.
 
 ghost use Rattle.mv_lawful.specs.Examples.{OnlyTheFee, AllAgain, NothingAdded, NewRowCounts, OwnWriteCounts, NewDefiner, OtherBranch, SameKey, KeptWriteStays, InOneStep, FirstFaults, StaleMoves, OldestStart};
-ghost use Rattle.mv_lawful.specs.Laws.{LowNeverFalls, NoneIsStale, RepairsAreFew};
+ghost use Rattle.mv_lawful.specs.Laws.{LowNeverFalls, NoneIsStale, RepairsAreFew, LawfulIsSerial, InTurnIsLawful};
+
+/// Each call of a lawful journal stands once in the order of commits, and no other does. A call's begin counts no more
+/// commits than come before its own, so a call that committed before another began stands before it.
+pub fn lawful_is_serial()
+    ensures { LawfulIsSerial }
+{}
+
+/// The journal in which each call begins and commits before the next begins is lawful, whatever the calls do, and its
+/// commits are in call order.
+pub fn in_turn_is_lawful()
+    ensures { InTurnIsLawful }
+{}
 
 /// No event lowers low.
 pub fn low_never_falls()

@@ -1,0 +1,364 @@
+-- Each call of a lawful journal stands once in the order of commits, after its begin.
+use Rattle.std.proofs.Common.{◌≡◌, ◌≤◌, ◌<◌, inl, inr, ℕ, zero, suc, ◌+◌, Bool, true, false, not, List, [], ◌∷◌, ◌++◌, Option, Some, None, length, slice_set, if◌then◌else◌, refl, sym, ap, subst, ◌∙◌, arith, length-append}
+use Rattle.std.specs.Prelude.{◌==◌, ◌||◌, ◌&&◌, ◌⊎◌, nat_lt, slice_get, slice_index_or, All, AllPairs, Contains}
+use Rattle.std.specs.List.{list_any}
+use Rattle.std.specs.Option.{option_map}
+use Rattle.std.proofs.lemmas.Bool.Decides.{eqb_tells}
+use Rattle.std.proofs.lemmas.List.Kept.{AllPairs-cons}
+use Rattle.std.proofs.lemmas.Option.{slice_get-get_or, slice_get_within}
+use Rattle.mv_journal.specs.declared.event.Event.{Event}
+use Rattle.mv_journal.specs.declared.event.Event.TheVariants.{B, S, A, M, C, X, G}
+use Rattle.mv_journal.specs.declared.outcome.Mark.{Mark}
+use Rattle.mv_journal.specs.declared.outcome.Mark.TheVariants.{Plain, Exclusive, Moved}
+use Rattle.mv_lawful.specs.declared.fault.Fault.{Fault}
+use Rattle.mv_lawful.specs.declared.fault.Fault.TheVariants.{Order}
+use Rattle.mv_lawful.specs.declared.fault.Wrong.TheVariants.{Open}
+use Rattle.mv_lawful.specs.Work.{Work}
+use Rattle.mv_lawful.specs.Lawful.{Turn, Live, Course, beginning, change_live, begin, again, finish, unless, of_live, refusal, after, reach, course_of, first_open, open_call, wrong_from, Lawful}
+use Rattle.mv_lawful.specs.Laws.{first_start, IsSerial}
+use Rattle.mv_lawful.proofs.Repairs.{first_allowed}
+
+-- Numbers in a list
+
+same_number : (a b : ℕ) → (a == b) ≡ true → a ≡ b
+same_number a b h = grind (arith, eqb_tells)
+
+number_itself : (a : ℕ) → (a == a) ≡ true
+number_itself a = grind (arith, eqb_tells)
+
+numbers_apart : (a b : ℕ) → (a ≡ b → ⊥) → (a == b) ≡ false
+numbers_apart a b h = grind (arith, eqb_tells)
+
+true_false : (b : Bool) → b ≡ true → b ≡ false → ⊥
+true_false b h k = cc
+
+abbrev stands : ℕ → List ℕ → Bool
+stands c cs = list_any (λ d. d == c) cs
+
+stands_same : (c : ℕ) (cs : List ℕ) → stands c (cs ++ c ∷ []) ≡ true
+stands_same c [] = ap (λ b. b || false) (number_itself c)
+stands_same c (d ∷ cs) = by (d == c) (stands_same c cs)
+  where
+    by : (b : Bool) → stands c (cs ++ c ∷ []) ≡ true → (b || stands c (cs ++ c ∷ [])) ≡ true
+    by true h = refl
+    by false h = h
+
+stands_other : (d c : ℕ) (cs : List ℕ) → (c ≡ d → ⊥) → stands d (cs ++ c ∷ []) ≡ stands d cs
+stands_other d c [] h = ap (λ b. b || false) (numbers_apart c d h)
+stands_other d c (x ∷ cs) h = ap (λ b. (x == d) || b) (stands_other d c cs h)
+
+stands_at : (cs : List ℕ) (k c : ℕ) → slice_get cs k ≡ Some c → stands c cs ≡ true
+stands_at [] k c is = cc
+stands_at (d ∷ cs) zero c is = let same : d ≡ c = cc in subst (λ x. ((x == c) || stands c cs) ≡ true) (sym same) (ap (λ b. b || stands c cs) (number_itself c))
+stands_at (d ∷ cs) (suc k) c is = by (d == c) (stands_at cs k c is)
+  where
+    by : (b : Bool) → stands c cs ≡ true → (b || stands c cs) ≡ true
+    by true h = refl
+    by false h = h
+
+contains_it : (c : ℕ) (cs : List ℕ) → stands c cs ≡ true → Contains cs c
+contains_it c [] h = cc
+contains_it c (d ∷ cs) h = by (d == c) refl h (contains_it c cs)
+  where
+    later : Contains cs c → Contains (d ∷ cs) c
+    later k = (suc k.0, omega (arith, k.1), k.2)
+
+    by : (b : Bool) → (d == c) ≡ b → (b || stands c cs) ≡ true → (stands c cs ≡ true → Contains cs c) → Contains (d ∷ cs) c
+    by true e h go = (zero, omega arith, same_number d c e)
+    by false e h go = later (go h)
+
+get_end : (cs : List ℕ) (c k x : ℕ) → slice_get (cs ++ c ∷ []) k ≡ Some x → (slice_get cs k ≡ Some x) ⊎ ((k ≡ length cs) × (c ≡ x))
+get_end [] c zero x is = let same : c ≡ x = cc in inr (refl, same)
+get_end [] c (suc k) x is = cc
+get_end (d ∷ cs) c zero x is = inl is
+get_end (d ∷ cs) c (suc k) x is = by (get_end cs c k x is)
+  where
+    by : (slice_get cs k ≡ Some x) ⊎ ((k ≡ length cs) × (c ≡ x)) → (slice_get cs k ≡ Some x) ⊎ ((suc k ≡ suc (length cs)) × (c ≡ x))
+    by (inl h) = inl h
+    by (inr h) = inr (ap suc h.0, h.1)
+
+-- each once
+abbrev Once : List ℕ → Type 0
+Once [] = Unit {0}
+Once (c ∷ cs) = (stands c cs ≡ false) × Once cs
+
+once_more : (cs : List ℕ) (c : ℕ) → Once cs → stands c cs ≡ false → Once (cs ++ c ∷ [])
+once_more [] c h k = (refl, tt)
+once_more (d ∷ cs) c h k = by (d == c) refl k (once_more cs c h.1)
+  where
+    by : (b : Bool) → (d == c) ≡ b → (b || stands c cs) ≡ false → (stands c cs ≡ false → Once (cs ++ c ∷ [])) → Once (d ∷ (cs ++ c ∷ []))
+    by true e k go = cc
+    by false e k go = (stands_other d c cs (λ same. true_false (d == c) (subst (λ x. (d == x) ≡ true) (sym same) (number_itself d)) e) ∙ h.0, go k)
+
+none_same : (c : ℕ) (cs : List ℕ) → stands c cs ≡ false → All (λ b. c ≡ b → ⊥) cs
+none_same c cs h k d within same =
+    let here : slice_get cs k ≡ Some (slice_index_or cs k d) = slice_get-get_or cs k d within in
+    true_false (stands c cs) (stands_at cs k c (here ∙ ap Some (sym same))) h
+
+once_pairs : (cs : List ℕ) → Once cs → AllPairs (λ a b. a ≡ b → ⊥) cs
+once_pairs [] h = λ i j d less within. absurd (omega (arith, within))
+once_pairs (c ∷ cs) h = AllPairs-cons (λ a b. a ≡ b → ⊥) c cs (none_same c cs h.0) (once_pairs cs h.1)
+
+-- Calls
+
+get_cases : (ls : List Live) (c d : ℕ) (m x : Live) → slice_get (slice_set ls c m) d ≡ Some x → ((d ≡ c) × (m ≡ x)) ⊎ ((d ≡ c → ⊥) × (slice_get ls d ≡ Some x))
+get_cases [] c d m x is = cc
+get_cases (y ∷ ls) zero zero m x is = let same : m ≡ x = cc in inl (refl, same)
+get_cases (y ∷ ls) zero (suc d) m x is = inr ((λ e. omega (arith, e)), is)
+get_cases (y ∷ ls) (suc c) zero m x is = inr ((λ e. omega (arith, e)), is)
+get_cases (y ∷ ls) (suc c) (suc d) m x is = by (get_cases ls c d m x is)
+  where
+    by : ((d ≡ c) × (m ≡ x)) ⊎ ((d ≡ c → ⊥) × (slice_get ls d ≡ Some x)) → ((suc d ≡ suc c) × (m ≡ x)) ⊎ ((suc d ≡ suc c → ⊥) × (slice_get ls d ≡ Some x))
+    by (inl h) = inl (ap suc h.0, h.1)
+    by (inr h) = inr ((λ e. h.0 (omega (arith, e))), h.1)
+
+get_last : (ls : List Live) (l : Live) (d : ℕ) (x : Live) → slice_get (ls ++ l ∷ []) d ≡ Some x → (slice_get ls d ≡ Some x) ⊎ ((d ≡ length ls) × (l ≡ x))
+get_last [] l zero x is = let same : l ≡ x = cc in inr (refl, same)
+get_last [] l (suc d) x is = cc
+get_last (y ∷ ls) l zero x is = inl is
+get_last (y ∷ ls) l (suc d) x is = by (get_last ls l d x is)
+  where
+    by : (slice_get ls d ≡ Some x) ⊎ ((d ≡ length ls) × (l ≡ x)) → (slice_get ls d ≡ Some x) ⊎ ((suc d ≡ suc (length ls)) × (l ≡ x))
+    by (inl h) = inl h
+    by (inr h) = inr (ap suc h.0, h.1)
+
+same_length : (ls : List Live) (c : ℕ) (m : Live) → length (slice_set ls c m) ≡ length ls
+same_length [] c m = refl
+same_length (y ∷ ls) zero m = refl
+same_length (y ∷ ls) (suc c) m = ap suc (same_length ls c m)
+
+-- a call that is live
+record LiveAt (ls : List Live) (c : ℕ) : Type 0 where
+  l : Live
+  is : slice_get ls c ≡ Some l
+  live : l.done ≡ false
+
+live_at : (ls : List Live) (c : ℕ) (f : Live → Option Fault) → of_live (slice_get ls c) f ≡ None → LiveAt ls c
+live_at ls c f h = by (slice_get ls c) refl h
+  where
+    live_of : (b : Bool) (later : Option Fault) → unless (not b) Order later ≡ None → b ≡ false
+    live_of true later k = cc
+    live_of false later k = refl
+
+    by : (o : Option Live) → slice_get ls c ≡ o → of_live o f ≡ None → LiveAt ls c
+    by None e k = cc
+    by (Some l) e k = record { l = l; is = e; live = live_of l.done (f l) k }
+
+-- What events keep
+
+record Orderly (w : Work) (order : List ℕ) (calls : List Live) : Type 0 where
+  count : length calls ≤ w.count
+  once : Once order
+  done : (c : ℕ) (l : Live) → slice_get calls c ≡ Some l → l.done ≡ stands c order
+  within : (c : ℕ) → length calls ≤ c → stands c order ≡ false
+  starts : (c : ℕ) (l : Live) → slice_get calls c ≡ Some l → first_start l.turns ≤ length order
+  after_begin : (k c : ℕ) (l : Live) → slice_get order k ≡ Some c → slice_get calls c ≡ Some l → first_start l.turns ≤ k
+
+-- one live call changes and stays live
+changed : (w : Work) (order : List ℕ) (calls : List Live) (c : ℕ) (l m : Live) → Orderly w order calls → slice_get calls c ≡ Some l → l.done ≡ false → m.done ≡ false → first_start m.turns ≤ length order
+    → Orderly w order (slice_set calls c m)
+changed w order calls c l m o is live still low = record {
+  count = let n = same_length calls c m in let k = o.count in omega (arith, n, k);
+  once = o.once;
+  done = λ d x got. done_by d x (get_cases calls c d m x got);
+  within = λ d past. o.within d (let n = same_length calls c m in omega (arith, n, past));
+  starts = λ d x got. starts_by d x (get_cases calls c d m x got);
+  after_begin = λ k d x at got. begin_by k d x at (get_cases calls c d m x got);
+}
+  where
+    away : stands c order ≡ false
+    away = sym (o.done c l is) ∙ live
+
+    done_by : (d : ℕ) (x : Live) → ((d ≡ c) × (m ≡ x)) ⊎ ((d ≡ c → ⊥) × (slice_get calls d ≡ Some x)) → x.done ≡ stands d order
+    done_by d x (inl h) = subst (λ (y : Live). y.done ≡ stands d order) h.1 (still ∙ sym (subst (λ z. stands z order ≡ false) (sym h.0) away))
+    done_by d x (inr h) = o.done d x h.1
+
+    starts_by : (d : ℕ) (x : Live) → ((d ≡ c) × (m ≡ x)) ⊎ ((d ≡ c → ⊥) × (slice_get calls d ≡ Some x)) → first_start x.turns ≤ length order
+    starts_by d x (inl h) = subst (λ (y : Live). first_start y.turns ≤ length order) h.1 low
+    starts_by d x (inr h) = o.starts d x h.1
+
+    begin_by : (k d : ℕ) (x : Live) → slice_get order k ≡ Some d → ((d ≡ c) × (m ≡ x)) ⊎ ((d ≡ c → ⊥) × (slice_get calls d ≡ Some x)) → first_start x.turns ≤ k
+    begin_by k d x at (inl h) = absurd (true_false (stands c order) (stands_at order k c (at ∙ ap Some h.0)) away)
+    begin_by k d x at (inr h) = o.after_begin k d x at h.1
+
+-- one live call commits
+committed : (w : Work) (order : List ℕ) (calls : List Live) (c : ℕ) (l m : Live) → Orderly w order calls → slice_get calls c ≡ Some l → l.done ≡ false → m.done ≡ true → first_start m.turns ≤ length order
+    → Orderly w (order ++ c ∷ []) (slice_set calls c m)
+committed w order calls c l m o is live finished low = record {
+  count = let n = same_length calls c m in let k = o.count in omega (arith, n, k);
+  once = once_more order c o.once away;
+  done = λ d x got. done_by d x (get_cases calls c d m x got);
+  within = λ d past. within_by d (let n = same_length calls c m in omega (arith, n, past));
+  starts = λ d x got. let n = longer in let k = starts_by d x (get_cases calls c d m x got) in omega (arith, n, k);
+  after_begin = λ k d x at got. begin_by k d x (get_end order c k d at) (get_cases calls c d m x got);
+}
+  where
+    away : stands c order ≡ false
+    away = sym (o.done c l is) ∙ live
+
+    longer : length (order ++ c ∷ []) ≡ length order + 1
+    longer = length-append order (c ∷ [])
+
+    done_by : (d : ℕ) (x : Live) → ((d ≡ c) × (m ≡ x)) ⊎ ((d ≡ c → ⊥) × (slice_get calls d ≡ Some x)) → x.done ≡ stands d (order ++ c ∷ [])
+    done_by d x (inl h) = subst (λ (y : Live). y.done ≡ stands d (order ++ c ∷ [])) h.1 (finished ∙ sym (subst (λ z. stands z (order ++ c ∷ []) ≡ true) (sym h.0) (stands_same c order)))
+    done_by d x (inr h) = o.done d x h.1 ∙ sym (stands_other d c order (λ e. h.0 (sym e)))
+
+    in_range : c < length calls
+    in_range = slice_get_within calls c l is
+
+    within_by : (d : ℕ) → length calls ≤ d → stands d (order ++ c ∷ []) ≡ false
+    within_by d past = stands_other d c order (λ e. let r = in_range in omega (arith, r, past, e)) ∙ o.within d past
+
+    starts_by : (d : ℕ) (x : Live) → ((d ≡ c) × (m ≡ x)) ⊎ ((d ≡ c → ⊥) × (slice_get calls d ≡ Some x)) → first_start x.turns ≤ length order
+    starts_by d x (inl h) = subst (λ (y : Live). first_start y.turns ≤ length order) h.1 low
+    starts_by d x (inr h) = o.starts d x h.1
+
+    begin_by : (k d : ℕ) (x : Live) → (slice_get order k ≡ Some d) ⊎ ((k ≡ length order) × (c ≡ d)) → ((d ≡ c) × (m ≡ x)) ⊎ ((d ≡ c → ⊥) × (slice_get calls d ≡ Some x)) → first_start x.turns ≤ k
+    begin_by k d x (inl at) (inl h) = absurd (true_false (stands c order) (stands_at order k c (at ∙ ap Some h.0)) away)
+    begin_by k d x (inl at) (inr h) = o.after_begin k d x at h.1
+    begin_by k d x (inr at) (inl h) = let s = subst (λ (y : Live). first_start y.turns ≤ length order) h.1 low in let e = at.0 in omega (arith, s, e)
+    begin_by k d x (inr at) (inr h) = absurd (h.0 (sym at.1))
+
+-- a call begins
+begun : (w : Work) (order : List ℕ) (calls : List Live) → Orderly w order calls → length calls < w.count → Orderly w order (calls ++ begin (length order) ∷ [])
+begun w order calls o room = record {
+  count = let n = longer in omega (arith, n, room);
+  once = o.once;
+  done = λ d x got. done_by d x (get_last calls (begin (length order)) d x got);
+  within = λ d past. o.within d (let n = longer in omega (arith, n, past));
+  starts = λ d x got. starts_by d x (get_last calls (begin (length order)) d x got);
+  after_begin = λ k d x at got. begin_by k d x at (get_last calls (begin (length order)) d x got);
+}
+  where
+    longer : length (calls ++ begin (length order) ∷ []) ≡ length calls + 1
+    longer = length-append calls (begin (length order) ∷ [])
+
+    next_away : (d : ℕ) → d ≡ length calls → stands d order ≡ false
+    next_away d e = o.within d (omega (arith, e))
+
+    done_by : (d : ℕ) (x : Live) → (slice_get calls d ≡ Some x) ⊎ ((d ≡ length calls) × (begin (length order) ≡ x)) → x.done ≡ stands d order
+    done_by d x (inl h) = o.done d x h
+    done_by d x (inr h) = subst (λ (y : Live). y.done ≡ stands d order) h.1 (sym (next_away d h.0))
+
+    starts_by : (d : ℕ) (x : Live) → (slice_get calls d ≡ Some x) ⊎ ((d ≡ length calls) × (begin (length order) ≡ x)) → first_start x.turns ≤ length order
+    starts_by d x (inl h) = o.starts d x h
+    starts_by d x (inr h) = subst (λ (y : Live). first_start y.turns ≤ length order) h.1 (omega arith)
+
+    begin_by : (k d : ℕ) (x : Live) → slice_get order k ≡ Some d → (slice_get calls d ≡ Some x) ⊎ ((d ≡ length calls) × (begin (length order) ≡ x)) → first_start x.turns ≤ k
+    begin_by k d x at (inl h) = o.after_begin k d x at h
+    begin_by k d x at (inr h) = absurd (true_false (stands d order) (stands_at order k d at) (next_away d h.0))
+
+first_again : (n most : ℕ) (mark : Mark) (ts : List Turn) → first_start ts ≤ most → n ≤ most → first_start (ts ++ record { start = n; mark = mark } ∷ []) ≤ most
+first_again n most mark [] h k = k
+first_again n most mark (t ∷ ts) h k = h
+
+abbrev OrderlyAt : Work → Course → Type 0
+OrderlyAt w s = Orderly w s.order s.calls
+
+at_call : (w : Work) (order : List ℕ) (calls : List Live) (c : ℕ) (f : Live → Live) (a : LiveAt calls c) → Orderly w order (slice_set calls c (f a.l)) → Orderly w order (change_live (slice_get calls c) f calls c)
+at_call w order calls c f a h = subst (λ o. Orderly w order (change_live o f calls c)) (sym a.is) h
+
+room_of : (w : Work) (n c : ℕ) → unless ((c == n) && nat_lt c w.count) Order None ≡ None → n < w.count
+room_of w n c h = by (c == n) (nat_lt c w.count) refl refl h
+  where
+    less : nat_lt c w.count ≡ true → c < w.count
+    less h = grind (arith, h)
+
+    by : (a b : Bool) → (c == n) ≡ a → nat_lt c w.count ≡ b → unless (a && b) Order None ≡ None → n < w.count
+    by true true e k h = subst (λ x. x < w.count) (same_number c n e) (less k)
+    by true false e k h = cc
+    by false b e k h = cc
+
+orderly_after : (w : Work) (s : Course) (e : Event) → refusal w s e ≡ None → OrderlyAt w s → OrderlyAt w (after w s e)
+orderly_after w s (B c) h o = begun w s.order s.calls o (room_of w (length s.calls) c h)
+orderly_after w s (S c) h o =
+    let a = live_at s.calls c _ h in
+    at_call w s.order s.calls c (λ l. record l { steps = l.steps + 1 }) a (changed w s.order s.calls c a.l (record a.l { steps = a.l.steps + 1 }) o a.is a.live a.live (o.starts c a.l a.is))
+orderly_after w s (A c) h o =
+    let a = live_at s.calls c _ h in
+    at_call w s.order s.calls c (again (length s.order) Plain) a
+    (changed w s.order s.calls c a.l (again (length s.order) Plain a.l) o a.is a.live a.live (first_again (length s.order) (length s.order) Plain a.l.turns (o.starts c a.l a.is) (omega arith)))
+orderly_after w s (M c) h o =
+    let a = live_at s.calls c _ h in
+    at_call w s.order s.calls c (again (length s.order) Moved) a
+    (changed w s.order s.calls c a.l (again (length s.order) Moved a.l) o a.is a.live a.live (first_again (length s.order) (length s.order) Moved a.l.turns (o.starts c a.l a.is) (omega arith)))
+orderly_after w s (C c) h o =
+    let a = live_at s.calls c _ h in
+    at_call w (s.order ++ c ∷ []) s.calls c finish a (committed w s.order s.calls c a.l (finish a.l) o a.is a.live refl (o.starts c a.l a.is))
+orderly_after w s (X c) h o =
+    let a = live_at s.calls c _ h in
+    at_call w (s.order ++ c ∷ []) s.calls c (λ l. finish (again (length s.order) Exclusive l)) a
+    (committed w s.order s.calls c a.l (finish (again (length s.order) Exclusive a.l)) o a.is a.live refl (first_again (length s.order) (length s.order) Exclusive a.l.turns (o.starts c a.l a.is) (omega arith)))
+orderly_after w s G h o = o
+
+-- Whole journals
+
+-- orderly, with no call open
+record Ended (w : Work) (s : Course) : Type 0 where
+  orderly : OrderlyAt w s
+  closed : option_map Open (open_call w s) ≡ None
+
+ended_from : (w : Work) (n : ℕ) (s : Course) (es : List Event) → wrong_from w n s es ≡ None → OrderlyAt w s → Ended w (reach w s es)
+ended_from w n s [] h o = record { orderly = o; closed = h }
+ended_from w n s (e ∷ es) h o =
+    let parts = first_allowed n (refusal w s e) (wrong_from w (n + 1) (after w s e) es) h in
+    ended_from w (n + 1) (after w s e) es parts.1 (orderly_after w s e parts.0 o)
+
+open_done : (n : ℕ) (ls : List Live) (i : ℕ) → n + i < first_open n ls → (l : Live) × (slice_get ls i ≡ Some l) × (l.done ≡ true)
+open_done n [] i h = absurd (omega (arith, h))
+open_done n (l ∷ ls) i h = by l.done i refl h (open_done (n + 1) ls)
+  where
+    by : (b : Bool) (i : ℕ) → l.done ≡ b → n + i < (if b then first_open (n + 1) ls else n) → ((j : ℕ) → (n + 1) + j < first_open (n + 1) ls → (m : Live) × (slice_get ls j ≡ Some m) × (m.done ≡ true))
+        → (m : Live) × (slice_get (l ∷ ls) i ≡ Some m) × (m.done ≡ true)
+    by true zero e h go = (l, refl, e)
+    by true (suc j) e h go = go j (omega (arith, h))
+    by false i e h go = absurd (omega (arith, h))
+
+all_done : (w : Work) (s : Course) → option_map Open (open_call w s) ≡ None → (c : ℕ) → c < w.count → (l : Live) × (slice_get s.calls c ≡ Some l) × (l.done ≡ true)
+all_done w s h c less = open_done 0 s.calls c (below (first_open 0 s.calls) (closed (first_open 0 s.calls) h))
+  where
+    closed : (n : ℕ) → option_map Open (if nat_lt n w.count then Some n else None) ≡ None → nat_lt n w.count ≡ false
+    closed n k = by (nat_lt n w.count) k
+      where
+        by : (b : Bool) → option_map Open (if b then Some n else None) ≡ None → b ≡ false
+        by true k = cc
+        by false k = refl
+
+    below : (n : ℕ) → nat_lt n w.count ≡ false → 0 + c < n
+    below n k = grind (arith, k, less)
+
+serial_of : (w : Work) (s : Course) → Ended w s → IsSerial w s
+serial_of w s h = record {
+  calls = λ k d within. below (slice_index_or s.order k d) (stands_at s.order k (slice_index_or s.order k d) (slice_get-get_or s.order k d within));
+  once = once_pairs s.order o.once;
+  each = λ c less. let it = all_done w s h.closed c less in contains_it c s.order (sym (o.done c it.0 it.1) ∙ it.2);
+  after_begin = o.after_begin;
+}
+  where
+    o : OrderlyAt w s
+    o = h.orderly
+
+    below : (c : ℕ) → stands c s.order ≡ true → c < w.count
+    below c k = by (nat_lt c w.count) refl
+      where
+        yes' : nat_lt c w.count ≡ true → c < w.count
+        yes' e = grind (arith, e)
+
+        past : nat_lt c w.count ≡ false → length s.calls ≤ c
+        past e = let n = o.count in grind (arith, e, n)
+
+        by : (b : Bool) → nat_lt c w.count ≡ b → c < w.count
+        by true e = yes' e
+        by false e = absurd (true_false (stands c s.order) k (o.within c (past e)))
+
+pub lawful_is_serial : (w : Work) (es : List Event) → Lawful w es → IsSerial w (course_of w es)
+lawful_is_serial w es h =
+    let start : OrderlyAt w beginning = record {
+      count = omega arith;
+      once = tt;
+      done = λ c l is. cc;
+      within = λ c past. refl;
+      starts = λ c l is. cc;
+      after_begin = λ k c l at is. cc;
+    } in
+    serial_of w (course_of w es) (ended_from w 1 beginning es h start)

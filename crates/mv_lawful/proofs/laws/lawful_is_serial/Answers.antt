@@ -1,0 +1,5 @@
+use Rattle.mv_lawful.proofs.Serial.{lawful_is_serial}
+use Rattle.mv_lawful.proofs.laws.lawful_is_serial.Goals as goal
+
+pub returns : goal.returns
+returns c = lawful_is_serial
