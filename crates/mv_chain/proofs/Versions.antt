@@ -10,7 +10,7 @@ use Rattle.mv_values.specs.declared.patch.Patch.{Patch}
 use Rattle.mv_chain.specs.declared.undo.Undo.{Undo}
 use Rattle.mv_values.specs.Patching.{patched}
 use Rattle.mv_chain.specs.declared.pending.Pending.{Pending}
-use Rattle.std.proofs.lemmas.List.{take_at}
+use Rattle.std.proofs.lemmas.List.{take_at, drop_all}
 use Rattle.mv_chain.specs.Versions.{Versions, Commit, row_after, row_at, newest_of, newest, own_of, without, stamped_by, stamped, collected}
 use Rattle.mv_chain.specs.Undoing.{undone, before, commits_of, later, AllLater, Rises}
 
@@ -180,3 +180,9 @@ next_is n us now d rises some = (
 pub none_next : (n : ℕ) (us : List Undo) (now : Option (List Value)) → length us ≡ 0 → All (λ c. c.number < n) (commits_of us now)
 none_next n [] now h = All-nil (λ c. c.number < n)
 none_next n (u ∷ us) now h = absurd (omega arith)
+
+-- where no commit is later, the newest row is read
+pub newest_at : (n : ℕ) (us : List Undo) (now : Option (List Value)) (own : List Pending) (first : ℕ) → first ≡ length us → drop first us ≡ later n us → now ≡ row_at (shown us now own) n
+newest_at n us now own first whole later_is =
+    let none : later n us ≡ [] = sym later_is ∙ drop_all first us (omega (arith, whole)) in
+    ap (λ l. before l now) (sym none) ∙ sym (row_is n us now)

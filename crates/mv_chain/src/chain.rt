@@ -3,6 +3,7 @@
 ghost use Rattle.std.specs.Prelude.{◌≡◌, ◌↔◌, IsTrue, ◌<◌, ◌≤◌, ◌++◌, ◌∷◌, ℕ, [], IfOk, OnOk, OnErr, OnSome, IfSome, length, slice_get};
 ghost use Rattle.std.specs.Vec.{vec_capacity};
 ghost use Rattle.std.specs.Option.{is_some, option_and_then, option_copied};
+ghost use Rattle.mv_values.specs.Preds.{matched};
 ghost use Rattle.mv_chain.specs.Versions.{row_at, newest, IsNext, own_of, without, with_own, stamped, collected};
 
 use crate::commit::do_patch;
@@ -12,6 +13,7 @@ use crate::undo::{Undo, are_below, place_after, stood_before, take_back, value_b
 use mv_values::copied::Copied;
 use mv_values::memory::NoMemory;
 use mv_values::patch::Patch;
+use mv_values::pred::Pred;
 use mv_values::value::{Row, Value};
 use std::alloc::Global;
 use std::marker::Model;
@@ -71,6 +73,18 @@ impl Chain {
             row = take_back(alloc, row, &self.undos[at].patch)?;
         }
         Ok(row)
+    }
+
+    /// A copy of the row after n commits, where there is one and the predicate matches it. At the newest number it copies no other
+    /// row; else it costs what `row_at` does.
+    pub fn found_at(&self, alloc: Global, n: u32, pred: &Pred) -> Result<Option<Row>, NoMemory>
+        ensures { IfOk result (λ row. row ≡ matched pred.now (row_at self.now n)) }
+    {
+        if place_after(self.undos.as_slice(), n) == self.undos.len() {
+            return copy_of_match(alloc, self.row.as_ref(), pred);
+        }
+        let row = self.row_at(alloc, n)?;
+        Ok(only_match(row, pred))
     }
 
     /// Whether there is a row after n commits. It costs the logarithm of the number of commits, and those after n up to the first that
@@ -166,6 +180,26 @@ fn copy_of(alloc: Global, row: Option<&Row>) -> Result<Option<Row>, NoMemory>
         Some(row) => Ok(Some(row.copy(alloc)?)),
         None => Ok(None),
     }
+}
+
+/// A copy of a row, where there is one and the predicate matches it.
+fn copy_of_match(alloc: Global, row: Option<&Row>, pred: &Pred) -> Result<Option<Row>, NoMemory>
+    ensures { IfOk result (λ copy. copy ≡ matched pred.now (option_copied row.entry)) }
+{
+    match row {
+        Some(row) if pred.matches(row) => Ok(Some(row.copy(alloc)?)),
+        _ => Ok(None),
+    }
+}
+
+/// A row, where there is one and the predicate matches it.
+fn only_match(row: Option<Row>, pred: &Pred) -> Option<Row>
+    ensures { result ≡ matched pred.now row }
+{
+    let Some(row) = row else {
+        return None;
+    };
+    if pred.matches(&row) { Some(row) } else { None }
 }
 
 /// Adds an entry at the end, where there is room.
