@@ -5,9 +5,13 @@
 #[cfg(test)]
 mod cases;
 #[cfg(test)]
+mod chains;
+#[cfg(test)]
 mod edges;
 #[cfg(test)]
 mod graphs;
+#[cfg(test)]
+mod journals;
 #[cfg(test)]
 mod limits;
 #[cfg(test)]
