@@ -19,8 +19,8 @@ use Rattle.mv_values.proofs.KeyOrder.{exact_keys}
 use Rattle.mv_record.proofs.Patching.{row_of-placed_same, placed_other, rising_placed}
 use Rattle.mv_undo.specs.Owning.{is_among}
 use Rattle.mv_view.specs.Viewing.{Sight, one_more, with_rows_call}
-use Rattle.mv_effect.specs.declared.effect.Effect.{Effect}
-use Rattle.mv_effect.specs.Effects.{asked_then, inserting}
+use Rattle.mv_record.specs.declared.effect.Effect.{Effect}
+use Rattle.mv_recorded.specs.Effects.{asked_then, inserting}
 use Rattle.mv_effect.specs.Looking.{IsSameView, WasNeverStale, AskedAtMost, AskedFor, different}
 
 -- it was asked so often, and none of its answers was Stale

@@ -4,7 +4,4 @@ pub mod Checks
 pub mod Asked
 pub mod Few
 pub mod Ends
-pub mod Matching
-pub mod Chosen
-pub mod Altered
 pub mod WellNamed

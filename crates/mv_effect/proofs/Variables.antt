@@ -7,23 +7,9 @@ use Rattle.mv_alone.specs.declared.state.Env.{Env}
 use Rattle.mv_alone.specs.declared.state.Held.{Held}
 use Rattle.mv_alone.specs.declared.state.Held.TheVariants.{Scalar}
 use Rattle.mv_alone.specs.Env.{unset, put_at, scalar_in, scalar_at, truth, with_value, with_values, with_found}
-use Rattle.mv_recorded.proofs.Slots.{set_has}
-use Rattle.mv_effect.specs.Effects.{last_column, slots_behind}
-
--- what `:found` was set to
-pub found_has : (env : Env) (b : Bool) → scalar_at (with_found env b) env.found ≡ truth b
-found_has env b = set_has env env.found (truth b)
-
--- what another variable holds stays
-get_other : (hs : List Held) (x y : ℕ) (h : Held) → (x ≡ y → ⊥) → slice_index_or (put_at hs x h) y unset ≡ slice_index_or hs y unset
-get_other [] zero zero h apart = absurd (apart refl)
-get_other [] zero (suc y) h apart = refl
-get_other [] (suc x) zero h apart = refl
-get_other [] (suc x) (suc y) h apart = get_other [] x y h (λ e. apart (ap suc e))
-get_other (k ∷ hs) zero zero h apart = absurd (apart refl)
-get_other (k ∷ hs) zero (suc y) h apart = refl
-get_other (k ∷ hs) (suc x) zero h apart = refl
-get_other (k ∷ hs) (suc x) (suc y) h apart = get_other hs x y h (λ e. apart (ap suc e))
+use Rattle.mv_recorded.proofs.Slots.{set_has, found_has, get_other}
+use Rattle.mv_effect.specs.Targets.{last_column}
+use Rattle.mv_recorded.specs.Effects.{slots_behind}
 
 -- a variable behind the setting of one
 pub scalar_behind : (env : Env) (y x : ℕ) (v : Value) → scalar_at (with_value env y v) x ≡ (if y == x then v else scalar_at env x)
@@ -100,9 +86,3 @@ pub slots_end : (env : Env) (b : Bool) (xs : List ℕ) (x : ℕ) → x ≡ env.f
 slots_end env b xs x same =
     ap (λ w. slots_behind (with_found env b) xs ++ record { slot = x; value = w } ∷ []) (sym (subst (λ y. scalar_at (with_found env b) y ≡ truth b) (sym same) (found_has env b)))
     ∙ sym (slots_both (with_found env b) xs (x ∷ []))
-
--- the number of `:found` stays when targets take values
-pub same_found : (env : Env) (xs : List ℕ) (vs : List Value) → (with_values env xs vs).found ≡ env.found
-same_found env [] vs = refl
-same_found env (x ∷ xs) [] = refl
-same_found env (x ∷ xs) (v ∷ vs) = same_found (with_value env x v) xs vs

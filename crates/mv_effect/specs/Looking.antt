@@ -1,31 +1,23 @@
 -- What a statement may be executed on, and what it leaves of its view.
-use Rattle.std.specs.Prelude.{◌≡◌, ◌<◌, ◌≤◌, ◌+◌, ◌*◌, ◌==◌, ℕ, suc, List, [], ◌∷◌, length, Result, Ok, Err, All, if◌then◌else◌}
-use Rattle.std.specs.List.{position}
+use Rattle.std.specs.Prelude.{◌≡◌, ◌≤◌, ◌+◌, ◌*◌, ℕ, suc, List, [], ◌∷◌, length, Result, Ok, Err, All, if◌then◌else◌}
 use Rattle.mv_values.specs.declared.rows.Keyed.{Keyed}
 use Rattle.mv_values.specs.declared.pred.Pred.{Pred}
-use Rattle.mv_values.specs.declared.pred.Test.{Test}
 use Rattle.mv_values.specs.declared.patch.Write.{Write}
 use Rattle.mv_values.specs.declared.schema.TableInfo.{TableInfo}
 use Rattle.mv_values.specs.Patching.{applied}
-use Rattle.mv_values.specs.Tables.{KeysStand, key_columns}
+use Rattle.mv_values.specs.Tables.{KeysStand}
 use Rattle.mv_catalog.specs.Text.{IsTable}
-use Rattle.mv_record.specs.Writes.{AreRising}
+use Rattle.mv_record.specs.Databases.{IsDatabaseOf}
 use Rattle.mv_undo.specs.Owning.{touches}
 use Rattle.mv_view.specs.Viewing.{Sight, one_more}
 use Rattle.mv_view.specs.declared.view.Refused.{Refused}
 use Rattle.mv_view.specs.declared.view.Refused.TheVariants.{NoMemory, Stale}
 
--- a database of these tables: the rows of each stand under their own keys, which rise
-pub record IsDatabase (tables : List TableInfo) (db : List (List Keyed)) : Type 0 where
-  pub size : length db ≡ length tables
-  pub rising : AreRising db
-  pub keys : KeysStand tables db
-
 -- tables of a program, and a database of them before these writes and behind them
 pub record Stands (tables : List TableInfo) (ws : List Write) (db : List (List Keyed)) : Type 0 where
   pub few : length tables ≤ 64
   pub each : All IsTable tables
-  pub database : IsDatabase tables db
+  pub database : IsDatabaseOf tables db
   pub behind : KeysStand tables (applied ws db)
 
 -- how many different keys writes are on
@@ -63,8 +55,3 @@ pub record AskedAtMost (rows row : ℕ) (before after : Sight) : Type 0 where
 -- it was asked at most once for each of these predicates, and then for each key that earlier writes are on
 abbrev pub AskedFor : List Pred → List Write → Sight → Sight → Type 0
 AskedFor preds ws before after = AskedAtMost (length preds) (length preds * different ws) before after
-
--- the predicate's table is there, and each of its tests has the place of its column in the key
-pub record KnowsKey (tables : List TableInfo) (pred : Pred) : Type 0 where
-  pub table : pred.table < length tables
-  pub places : All (λ (test : Test). test.key_place ≡ position (λ k. k == test.column) (key_columns tables pred.table)) pred.tests

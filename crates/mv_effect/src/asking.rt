@@ -5,11 +5,10 @@ ghost use Rattle.std.specs.List.{flat_map};
 ghost use Rattle.mv_catalog.specs.declared.resolved.RCond.{RCond};
 ghost use Rattle.mv_alone.specs.Outcome.{Gives, then_do};
 ghost use Rattle.mv_alone.specs.Rows.{checks_of};
-ghost use Rattle.mv_recorded.specs.Asking.{test_of, pred_of, same_key, columns_in, column_in, with_sorts};
+ghost use Rattle.mv_recorded.specs.Asking.{test_of, pred_of, same_key, columns_in, column_in, with_sorts, KnowsKey};
 ghost use Rattle.mv_values.specs.Tables.{key_columns};
 ghost use Rattle.mv_catalog.specs.Text.{IsTable};
-ghost use Rattle.mv_effect.specs.Effects.{asks};
-ghost use Rattle.mv_effect.specs.Looking.{KnowsKey};
+ghost use Rattle.mv_recorded.specs.Effects.{asks};
 ghost use Rattle.mv_effect.specs.Naming.{Tests, AreColumns};
 
 use crate::numbers::{columns_once, key_place, narrow};

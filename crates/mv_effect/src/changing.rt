@@ -11,12 +11,13 @@ ghost use Rattle.mv_alone.specs.Rows.{is_some_row};
 ghost use Rattle.mv_recorded.specs.Doing.{changed, write};
 ghost use Rattle.mv_undo.specs.Owning.{earlier};
 ghost use Rattle.mv_view.specs.Viewing.{MayAnswer};
-ghost use Rattle.mv_effect.specs.Effects.{IsEffect, asked_then, changes, inserting, new_of, writing};
+ghost use Rattle.mv_recorded.specs.Effects.{IsEffect, asked_then, changes, inserting, new_of, writing};
 ghost use Rattle.mv_effect.specs.Looking.{Stands, IsSameView, PassesOn, different, AskedAtMost, AskedFor};
 ghost use Rattle.mv_effect.specs.Naming.{Tests, Sets};
 
 use crate::asking::{key_pred, pred_from, pred_set};
-use crate::effect::{Effect, ended, ended_by, one, setting, stopped};
+use crate::effect::{ended, ended_by, one, setting, stopped};
+use mv_record::effect::Effect;
 use crate::here::Here;
 use crate::looking::{is_any, seen};
 use crate::numbers::narrow;

@@ -3,7 +3,7 @@
 
 mod asking;
 mod changing;
-pub mod effect;
+mod effect;
 mod here;
 mod looking;
 mod numbers;

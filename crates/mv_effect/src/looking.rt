@@ -9,7 +9,8 @@ ghost use Rattle.mv_record.specs.Admitting.{Admitted};
 ghost use Rattle.mv_record.specs.Writes.{AreRising};
 ghost use Rattle.mv_undo.specs.Owning.{earlier, is_among};
 ghost use Rattle.mv_view.specs.Viewing.{MayAnswer, answered, with_row_call};
-ghost use Rattle.mv_effect.specs.Looking.{different, KnowsKey, Stands, IsSameView, PassesOn, AskedAtMost};
+ghost use Rattle.mv_effect.specs.Looking.{different, Stands, IsSameView, PassesOn, AskedAtMost};
+ghost use Rattle.mv_recorded.specs.Asking.{KnowsKey};
 
 use crate::here::Here;
 use mv_record::applying::put_row;

@@ -5,10 +5,11 @@ ghost use Rattle.mv_catalog.specs.declared.resolved.RStmt.{RStmt};
 ghost use Rattle.mv_catalog.specs.declared.resolved.RStmt.TheOpen as layer;
 ghost use Rattle.mv_alone.specs.Alone.{is_turn};
 ghost use Rattle.mv_view.specs.Viewing.{Sight, MayAnswer};
-ghost use Rattle.mv_effect.specs.Effects.{IsEffectAnywhere};
+ghost use Rattle.mv_recorded.specs.Effects.{IsEffectAnywhere};
 ghost use Rattle.mv_effect.specs.Looking.{PassesOn};
 
-use crate::effect::{Effect, ended, nothing, stopped};
+use crate::effect::{ended, nothing, stopped};
+use mv_record::effect::Effect;
 use crate::setting::found_alone;
 use mv_alone::env::copied_turns;
 use mv_alone::expr::{value, values};

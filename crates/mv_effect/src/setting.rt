@@ -8,7 +8,8 @@ ghost use Rattle.mv_alone.specs.Env.{scalar_at, truth, with_values, with_found};
 ghost use Rattle.mv_alone.specs.Alone.{taken, totalled};
 ghost use Rattle.mv_recorded.specs.Doing.{when};
 ghost use Rattle.mv_recorded.specs.Reading.{each_once};
-ghost use Rattle.mv_effect.specs.Effects.{last_column, slots_behind};
+ghost use Rattle.mv_effect.specs.Targets.{last_column};
+ghost use Rattle.mv_recorded.specs.Effects.{slots_behind};
 
 use crate::numbers::is_among_first;
 use mv_alone::env::column_value;

@@ -7,12 +7,13 @@ ghost use Rattle.mv_catalog.specs.declared.resolved.RStmt.{out-RStmt};
 ghost use Rattle.mv_catalog.specs.Text.{IsTable};
 ghost use Rattle.mv_undo.specs.Owning.{earlier};
 ghost use Rattle.mv_view.specs.Viewing.{MayAnswer};
-ghost use Rattle.mv_effect.specs.Effects.{IsEffect};
-ghost use Rattle.mv_effect.specs.Looking.{IsDatabase, IsSameView, PassesOn, different, AskedAtMost, AskedFor};
+ghost use Rattle.mv_recorded.specs.Effects.{IsEffect};
+ghost use Rattle.mv_record.specs.Databases.{IsDatabaseOf};
+ghost use Rattle.mv_effect.specs.Looking.{IsSameView, PassesOn, different, AskedAtMost, AskedFor};
 ghost use Rattle.mv_effect.specs.Naming.{NamesColumns};
 
 use crate::changing::{delete, insert, update};
-use crate::effect::Effect;
+use mv_record::effect::Effect;
 use crate::here::Here;
 use crate::plainly::{assign, branch, for_rows, print, rollback};
 use crate::selecting::{for_select, select, total};
@@ -41,7 +42,7 @@ pub fn effect<V: View>(
     requires tables { All IsTable tables.now }
     requires names { NamesColumns tables.now (out-RStmt statement.now) }
     requires found { env.now.found < 2 ^ 16 }
-    requires database { IsDatabase tables.now (V.sight view.old).database }
+    requires database { IsDatabaseOf tables.now (V.sight view.old).database }
     requires behind { KeysStand tables.now (applied (earlier number undo.now) (V.sight view.old).database) }
     ensures effect { IfOk result (IsEffect tables.now (out-RStmt statement.now) env.now (applied (earlier number undo.now) (V.sight view.old).database)) }
     ensures refused { MayAnswer (V.sight view.old) (V.sight view.new) result }

@@ -17,7 +17,7 @@ use Rattle.mv_record.specs.Runs.{writes_in}
 use Rattle.mv_record.specs.Writes.{AreRising}
 use Rattle.mv_record.proofs.Patching.{rising_applied}
 use Rattle.mv_recorded.specs.Asking.{on}
-use Rattle.mv_recorded.specs.Doing.{itself}
+use Rattle.mv_recorded.specs.Doing.{itself, effect_of}
 use Rattle.mv_recorded.specs.Effect.{TellsEffect, HasColumns}
 use Rattle.mv_recorded.specs.Recorded.{Site, own_record, outside}
 use Rattle.mv_recorded.proofs.Effects.{effect_known}
@@ -25,8 +25,8 @@ use Rattle.mv_recorded.proofs.Standing.{itself_stands}
 use Rattle.mv_undo.specs.declared.owned.Owned.{Owned}
 use Rattle.mv_undo.specs.Owning.{before, earlier}
 use Rattle.mv_view.specs.Viewing.{Sight}
-use Rattle.mv_effect.specs.declared.effect.Effect.{Effect}
-use Rattle.mv_effect.specs.Effects.{effect_of, IsEffect}
+use Rattle.mv_record.specs.declared.effect.Effect.{Effect}
+use Rattle.mv_recorded.specs.Effects.{IsEffect}
 use Rattle.mv_effect.specs.Looking.{AskedFor}
 use Rattle.mv_exec.specs.declared.places.Place.{Place}
 use Rattle.mv_exec.specs.declared.task.Ahead.{Ahead}

@@ -5,7 +5,8 @@ ghost use Rattle.mv_alone.specs.TableAfter.{Tables};
 ghost use Rattle.mv_record.specs.Runs.{writes_in};
 ghost use Rattle.mv_graph.specs.Nodes.{IsSound, meaning_of};
 ghost use Rattle.mv_view.specs.Viewing.{MayAnswer};
-ghost use Rattle.mv_effect.specs.Looking.{AskedAtMost, IsDatabase, IsSameView, PassesOn, different};
+ghost use Rattle.mv_record.specs.Databases.{IsDatabaseOf};
+ghost use Rattle.mv_effect.specs.Looking.{AskedAtMost, IsSameView, PassesOn, different};
 ghost use Rattle.mv_exec.specs.Graphs.{Runs, Began, all_records, KeepsKeys, HasExecutedAll};
 ghost use Rattle.mv_exec.specs.Running.{HasRun};
 ghost use Rattle.mv_exec.specs.Steps.{Adopts, TellsLeft};
@@ -77,7 +78,7 @@ pub fn next<V: View>(
 ) -> Result<Stepped, Refused>
     requires sound { IsSound graph.now }
     requires runs { Runs graph.now task.old }
-    requires database { IsDatabase graph.now.tables (V.sight view.old).database }
+    requires database { IsDatabaseOf graph.now.tables (V.sight view.old).database }
     requires keys { KeepsKeys graph.now task.old (V.sight view.old).database }
     ensures runs { Runs graph.now task.new }
     // What it has and will leave on the view's database stays the same; where a statement was left, it has one record more.
@@ -106,7 +107,7 @@ pub fn finish<V: View>(
 ) -> Result<(), Refused>
     requires sound { IsSound graph.now }
     requires runs { Runs graph.now task.old }
-    requires database { IsDatabase graph.now.tables (V.sight view.old).database }
+    requires database { IsDatabaseOf graph.now.tables (V.sight view.old).database }
     requires keys { KeepsKeys graph.now task.old (V.sight view.old).database }
     ensures runs { Runs graph.now task.new }
     ensures all { OnOk result (task.new.records ≡ all_records graph.now task.old (V.sight view.old).database) }

@@ -2,3 +2,5 @@ pub mod Runs
 pub mod Paths
 pub mod Writes
 pub mod Admitting
+pub mod Effects
+pub mod Databases

@@ -2,4 +2,5 @@
 #![tactic(auto)]
 
 pub mod applying;
+pub mod effect;
 pub mod record;

@@ -74,7 +74,7 @@ truth_is_so : (b : Bool) → is_so (truth b) ≡ b
 truth_is_so true = refl
 truth_is_so false = refl
 
-found_is : (env : Env) (b : Bool) → is_so (scalar_at (with_found env b) env.found) ≡ b
+pub found_is : (env : Env) (b : Bool) → is_so (scalar_at (with_found env b) env.found) ≡ b
 found_is env b = ap is_so (set_has env env.found (truth b)) ∙ truth_is_so b
 
 -- what a SELECT sets
@@ -105,7 +105,7 @@ total_some : (z : ℤ) (o : Option Value) → total z ≡ Ok o → is_some o ≡
 total_some z o h = let v = then_ok (fitted z) _ o h in ap is_some (sym (option_ok v.2))
 
 -- MIN and MAX give nothing for no rows, the others always something
-gives : (agg : RAgg) (rows : List Keyed) (o : Option Value) → aggregate agg rows ≡ Ok o → is_some o ≡ (gives_always agg || is_some_row rows)
+pub gives : (agg : RAgg) (rows : List Keyed) (o : Option Value) → aggregate agg rows ≡ Ok o → is_some o ≡ (gives_always agg || is_some_row rows)
 gives CountAll rows o h = total_some (pos (length rows)) o h
 gives (CountDistinct c) rows o h = total_some (pos (length (distinct (projected (c ∷ []) rows)))) o h
 gives (Sum c) rows o h = total_some (sum_of (column c rows)) o h

@@ -11,6 +11,9 @@ pub mod Nesting
 pub mod Rising
 pub mod Slots
 pub mod Effects
+pub mod Matching
+pub mod Chosen
+pub mod Altered
 pub mod Unrolled
 pub mod Examples
 pub mod TableExamples

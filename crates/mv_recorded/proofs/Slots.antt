@@ -6,7 +6,7 @@ use Rattle.mv_values.specs.declared.value.Value.{Value}
 use Rattle.mv_alone.specs.declared.state.Env.{Env}
 use Rattle.mv_alone.specs.declared.state.Held.{Held}
 use Rattle.mv_alone.specs.declared.state.Held.TheVariants.{Scalar}
-use Rattle.mv_alone.specs.Env.{unset, put_at, scalar_in, scalar_at, with_value, with_values}
+use Rattle.mv_alone.specs.Env.{unset, put_at, scalar_in, scalar_at, truth, with_value, with_values, with_found}
 use Rattle.mv_record.specs.declared.record.Slot.{Slot}
 use Rattle.mv_recorded.specs.Effect.{with_slots}
 use Rattle.mv_recorded.specs.Reading.{each_once}
@@ -29,13 +29,13 @@ put_other (k ∷ hs) zero (suc y) g h apart = refl
 put_other (k ∷ hs) (suc x) zero g h apart = refl
 put_other (k ∷ hs) (suc x) (suc y) g h apart = ap (λ l. k ∷ l) (put_other hs x y g h (λ e. apart (ap suc e)))
 
-get_same : (hs : List Held) (x : ℕ) (h : Held) → slice_index_or (put_at hs x h) x unset ≡ h
+pub get_same : (hs : List Held) (x : ℕ) (h : Held) → slice_index_or (put_at hs x h) x unset ≡ h
 get_same [] zero h = refl
 get_same [] (suc x) h = get_same [] x h
 get_same (k ∷ hs) zero h = refl
 get_same (k ∷ hs) (suc x) h = get_same hs x h
 
-get_other : (hs : List Held) (x y : ℕ) (h : Held) → (x ≡ y → ⊥) → slice_index_or (put_at hs x h) y unset ≡ slice_index_or hs y unset
+pub get_other : (hs : List Held) (x y : ℕ) (h : Held) → (x ≡ y → ⊥) → slice_index_or (put_at hs x h) y unset ≡ slice_index_or hs y unset
 get_other [] zero zero h apart = absurd (apart refl)
 get_other [] zero (suc y) h apart = refl
 get_other [] (suc x) zero h apart = refl
@@ -52,6 +52,16 @@ with_place env hs = record env { held = hs }
 
 pub set_has : (env : Env) (x : ℕ) (v : Value) → scalar_at (with_value env x v) x ≡ v
 set_has env x v = ap scalar_in (get_same env.held x (Scalar v))
+
+-- what `:found` was set to
+pub found_has : (env : Env) (b : Bool) → scalar_at (with_found env b) env.found ≡ truth b
+found_has env b = set_has env env.found (truth b)
+
+-- the number of `:found` stays when targets take values
+pub same_found : (env : Env) (xs : List ℕ) (vs : List Value) → (with_values env xs vs).found ≡ env.found
+same_found env [] vs = refl
+same_found env (x ∷ xs) [] = refl
+same_found env (x ∷ xs) (v ∷ vs) = same_found (with_value env x v) xs vs
 
 -- setting it to its own value changes nothing
 abbrev pub IsSet : Env → ℕ → Type 0
@@ -143,7 +153,7 @@ kept_within x p (y ∷ ys) is h = by_test (p y) refl h (kept_within x p ys is)
     by_test false e (inl same) rest = let no : p x ≡ false = ap p same ∙ e in cc
     by_test false e (inr k) rest = rest k
 
-once_within : (x : ℕ) (xs : List ℕ) → Within x xs → Within x (each_once xs)
+pub once_within : (x : ℕ) (xs : List ℕ) → Within x xs → Within x (each_once xs)
 once_within x [] h = absurd h
 once_within x (y ∷ ys) (inl same) = inl same
 once_within x (y ∷ ys) (inr h) = by_test (x == y) refl (once_within x ys h)

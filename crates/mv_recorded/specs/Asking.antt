@@ -1,6 +1,6 @@
 -- What a statement asks of a table. That predicates stand for what was read is the paper's (Dashti, Basil John, Shaikhha and Koch,
 -- SIGMOD 2017); which tests and columns they have is this project's own.
-use Rattle.std.specs.Prelude.{ℕ, ◌==◌, List, [], ◌∷◌, ◌++◌, Result, Ok, Err, map}
+use Rattle.std.specs.Prelude.{◌≡◌, ◌<◌, ℕ, ◌==◌, All, length, List, [], ◌∷◌, ◌++◌, Result, Ok, Err, map}
 use Rattle.std.specs.List.{flat_map, position}
 use Rattle.mv_values.specs.declared.value.Value.{Value}
 use Rattle.mv_values.specs.declared.op.Op.TheVariants.{Eq}
@@ -84,3 +84,8 @@ preds_of tables (ForRows x y body) st = []
 preds_of tables (Branch e ys ns) st = []
 preds_of tables (Print es) st = []
 preds_of tables (Rollback reason) st = []
+
+-- the predicate's table is there, and each of its tests has the place of its column in the key
+pub record KnowsKey (tables : List TableInfo) (pred : Pred) : Type 0 where
+  pub table : pred.table < length tables
+  pub places : All (λ (test : Test). test.key_place ≡ position (λ k. k == test.column) (key_columns tables pred.table)) pred.tests

@@ -1,7 +1,7 @@
 -- What a statement does by itself, without what it holds: an IF only looks at its condition, a FOR only fixes its rows.
 use Rattle.std.specs.Prelude.{ℕ, Bool, true, false, ◌||◌, List, [], ◌∷◌, ◌++◌, Option, None, Result, Ok, Err, map}
 use Rattle.std.specs.List.{flat_map}
-use Rattle.std.specs.Result.{result_ok}
+use Rattle.std.specs.Result.{result_ok, result_err}
 use Rattle.mv_values.specs.declared.value.Value.{Value}
 use Rattle.mv_values.specs.declared.patch.Patch.{Patch}
 use Rattle.mv_values.specs.declared.patch.Patch.TheVariants as patch
@@ -24,8 +24,9 @@ use Rattle.mv_alone.specs.Changes.{new_row, set_row}
 use Rattle.mv_alone.specs.Line.{line_of}
 use Rattle.mv_alone.specs.Alone.{matches, fixed, is_turn, assign, select, sum_up, insert, update, delete, print}
 use Rattle.mv_record.specs.declared.record.Slot.{Slot}
+use Rattle.mv_record.specs.declared.effect.Effect.{Effect}
 use Rattle.mv_recorded.specs.Reading.{each_once}
-use Rattle.mv_recorded.specs.Asking.{on}
+use Rattle.mv_recorded.specs.Asking.{on, preds_of}
 
 -- the rows that a FOR goes through
 abbrev pub fixed_rows : {X : Type 0} → RStmt-F X → State → Result (List (List Value)) End
@@ -111,3 +112,16 @@ writes_of tables s st = []
 abbrev pub printed_line : {X : Type 0} → RStmt-F X → State → Option (List ℕ)
 printed_line (Print es) st = result_ok (then_do (values_of es st.env) (λ vs. Ok (line_of vs)))
 printed_line s st = None
+
+-- The whole of it
+
+-- what a statement does from a state on
+abbrev pub effect_of : {X : Type 0} → List TableInfo → RStmt-F X → State → Effect
+effect_of tables s st = record {
+  preds = preds_of tables s st;
+  sets = on (itself tables s st) (λ next. sets_of s next);
+  rows = on (fixed_rows s st) (λ rows. rows);
+  writes = on (itself tables s st) (λ next. writes_of tables s st);
+  line = printed_line s st;
+  end = result_err (itself tables s st);
+}

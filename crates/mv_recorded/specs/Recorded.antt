@@ -1,7 +1,6 @@
 -- The records of a full run of a procedure on a database, in the order in which its statements are executed, up to and including a
 -- record with an end. That each executed statement leaves one record is this project's own.
 use Rattle.std.specs.Prelude.{ℕ, ◌+◌, List, [], ◌∷◌, ◌++◌, Option, Some, None, Result, map, length, slice_get, if◌then◌else◌}
-use Rattle.std.specs.Result.{result_err}
 use Rattle.mv_values.specs.declared.value.Value.{Value}
 use Rattle.mv_values.specs.declared.schema.TableInfo.{TableInfo}
 use Rattle.mv_values.specs.declared.calls.Call.{Call}
@@ -20,9 +19,10 @@ use Rattle.mv_alone.specs.Alone.{Does, alone, does, is_turn}
 use Rattle.mv_alone.specs.TableAfter.{Tables, begun, reply_in, tables_left}
 use Rattle.mv_record.specs.declared.record.Record.{Record}
 use Rattle.mv_record.specs.Runs.{Meaning}
+use Rattle.mv_record.specs.Effects.{record_of}
 use Rattle.mv_recorded.specs.Reading.{Loop, expressions, reads_of}
-use Rattle.mv_recorded.specs.Asking.{on, preds_of}
-use Rattle.mv_recorded.specs.Doing.{fixed_rows, itself, sets_of, writes_of, printed_line}
+use Rattle.mv_recorded.specs.Asking.{on}
+use Rattle.mv_recorded.specs.Doing.{fixed_rows, effect_of}
 
 -- where statements stand in a run: the number of the record that directly holds them, the loops around them from the inside out, and
 -- the turns of these from the outside in
@@ -44,17 +44,8 @@ in_turn k site = record site { turns = site.turns ++ k ∷ [] }
 -- the record of a statement itself, by its number in the text, its site, the records before it and the state before it; the first
 -- `params` variables are parameters
 abbrev pub own_record : {X : Type 0} → List TableInfo → ℕ → RStmt-F X → ℕ → Site → List Record → State → Record
-own_record tables params s n site before st = record {
-  spot = record { statement = n; turns = site.turns };
-  parent = site.parent;
-  reads = reads_of params site.loops before (expressions s);
-  preds = preds_of tables s st;
-  sets = on (itself tables s st) (λ next. sets_of s next);
-  rows = on (fixed_rows s st) (λ rows. rows);
-  writes = on (itself tables s st) (λ next. writes_of tables s st);
-  line = printed_line s st;
-  end = result_err (itself tables s st);
-}
+own_record tables params s n site before st =
+    record_of (record { statement = n; turns = site.turns }) site.parent (reads_of params site.loops before (expressions s)) (effect_of tables s st)
 
 -- the records that statements leave, the first of which has this number in the text
 abbrev pub Tells : Type 0

@@ -22,7 +22,7 @@ use Rattle.mv_recorded.proofs.Meant.{meaning_tells}
 use Rattle.mv_graph.specs.declared.graph.Graph.{Graph}
 use Rattle.mv_graph.specs.Nodes.{IsSound, meaning_of}
 use Rattle.mv_compile.specs.Compiled.{graph_of, graphs_of}
-use Rattle.mv_effect.specs.Looking.{IsDatabase}
+use Rattle.mv_record.specs.Databases.{IsDatabaseOf}
 use Rattle.mv_run.specs.Told.{reply_told, tables_with, tables_told}
 use Rattle.mv_run.proofs.Telling.{reply_is_told, tables_are_told}
 
@@ -35,10 +35,10 @@ pub told_tables : (g : Graph) (call : Call) (db : Tables) (rs : List Record) →
 told_tables g call db rs rise is = ap (λ qs. tables_told qs db) is ∙ sym (tables_are_told db (meaning_of g call db) (meaning_tells g.tables g.procedure call db rise))
 
 -- which has a part for each table again, and rows under their keys
-pub told_database : (tables : List TableInfo) (rs : List Record) (db : Tables) → IsDatabase tables db → KeysStand tables (applied (writes_in rs) db) → IsDatabase tables (tables_told rs db)
+pub told_database : (tables : List TableInfo) (rs : List Record) (db : Tables) → IsDatabaseOf tables db → KeysStand tables (applied (writes_in rs) db) → IsDatabaseOf tables (tables_told rs db)
 told_database tables rs db h keys = by (end_in rs)
   where
-    by : (o : Option End) → IsDatabase tables (tables_with o rs db)
+    by : (o : Option End) → IsDatabaseOf tables (tables_with o rs db)
     by None = record { size = length_applied (writes_in rs) db ∙ h.size; rising = rising_applied (writes_in rs) db h.rising; keys = keys }
     by (Some e) = h
 

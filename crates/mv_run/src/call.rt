@@ -1,7 +1,7 @@
 //! One call, executed over the database that those before it left.
 
 ghost use Rattle.std.specs.Prelude.{◌≡◌, ◌≤◌, length, IfOk, OnOk};
-ghost use Rattle.mv_effect.specs.Looking.{IsDatabase};
+ghost use Rattle.mv_record.specs.Databases.{IsDatabaseOf};
 ghost use Rattle.mv_exec.specs.Graphs.{KeepsKeys};
 ghost use Rattle.mv_graph.specs.Nodes.{IsSound, meaning_of};
 
@@ -27,7 +27,7 @@ pub(crate) struct Answer {
 fn execute(alloc: Global, graph: &Graph, call: &Call, database: &Database) -> Result<Task, NoMemory>
     requires sound { IsSound graph.now }
     requires few { length call.now.arguments ≤ 16 }
-    requires database { IsDatabase graph.now.tables database.now }
+    requires database { IsDatabaseOf graph.now.tables database.now }
     ensures records { IfOk result (λ task. task.records ≡ (meaning_of graph.now call.now database.now).records) }
     ensures keys { IfOk result (λ task. KeepsKeys graph.now task database.now) }
 {
@@ -50,11 +50,11 @@ pub(crate) fn run_call(
 ) -> Result<Answer, NoMemory>
     requires sound { IsSound graph.now }
     requires few { length call.now.arguments ≤ 16 }
-    requires database { IsDatabase graph.now.tables database.old }
+    requires database { IsDatabaseOf graph.now.tables database.old }
     ensures reply { IfOk result (λ answer. answer.reply ≡ (meaning_of graph.now call.now database.old).reply) }
     ensures count { IfOk result (λ answer. answer.count ≡ length (meaning_of graph.now call.now database.old).records) }
     ensures tables { OnOk result (database.new ≡ (meaning_of graph.now call.now database.old).tables) }
-    ensures database { OnOk result (IsDatabase graph.now.tables database.new) }
+    ensures database { OnOk result (IsDatabaseOf graph.now.tables database.new) }
 {
     let task = execute(alloc, graph, call, database)?;
     let records = task.records();

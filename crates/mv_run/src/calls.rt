@@ -9,7 +9,7 @@ ghost use Rattle.mv_catalog.specs.Fits.{Fits};
 ghost use Rattle.mv_catalog.specs.Text.{FitsText};
 ghost use Rattle.mv_alone.specs.TableAfter.{outcome, tables_left, reply_in, table_after, call_order, RepliesOf};
 ghost use Rattle.mv_compile.specs.Compiled.{graphs_of};
-ghost use Rattle.mv_effect.specs.Looking.{IsDatabase};
+ghost use Rattle.mv_record.specs.Databases.{IsDatabaseOf};
 ghost use Rattle.mv_recorded.specs.Recorded.{records};
 ghost use Rattle.mv_run.specs.Counts.{CountsOf};
 
@@ -57,11 +57,11 @@ fn run_number(
     requires whole { FitsText program.now.resolved }
     requires graphs { graphs.now ≡ graphs_of program.now.resolved }
     requires number { number < length program.now.resolved.calls }
-    requires database { IsDatabase program.now.resolved.tables database.old }
+    requires database { IsDatabaseOf program.now.resolved.tables database.old }
     ensures reply { IfOk result (λ answer. answer.reply ≡ reply_in (outcome program.now number database.old)) }
     ensures count { IfOk result (λ answer. answer.count ≡ length (records program.now number database.old)) }
     ensures tables { OnOk result (database.new ≡ tables_left database.old (outcome program.now number database.old)) }
-    ensures database { OnOk result (IsDatabase program.now.resolved.tables database.new) }
+    ensures database { OnOk result (IsDatabaseOf program.now.resolved.tables database.new) }
 {
     let Some(call) = call_at(program, number) else {
         unreachable!();

@@ -7,7 +7,7 @@ use Rattle.mv_values.specs.Columns.{columns_of}
 use Rattle.mv_values.specs.Keys.{IsRising}
 use Rattle.mv_values.specs.Tables.{key_columns, rows_at, KeysStand}
 use Rattle.mv_record.specs.Writes.{AreRising}
-use Rattle.mv_effect.specs.Looking.{IsDatabase}
+use Rattle.mv_record.specs.Databases.{IsDatabaseOf}
 
 -- its rows stand under their own keys
 keys_stand : (infos : List TableInfo) (db : List (List Keyed)) → key_columns infos 0 ≡ 0 ∷ [] → length db ≡ 1 → All (λ item. item.key ≡ columns_of item.row (0 ∷ [])) (rows_at db 0) → KeysStand infos db
@@ -24,7 +24,7 @@ are_rising (rows ∷ []) one rising (suc t) = λ i j d lt within. absurd (omega 
 are_rising (rows ∷ more ∷ rest) one rising t = absurd (omega (arith, one))
 
 -- it is a database of the table where its rows stand under their keys, which rise
-pub is_database : (infos : List TableInfo) (db : List (List Keyed)) → length infos ≡ 1 → key_columns infos 0 ≡ 0 ∷ [] → length db ≡ 1 → IsRising (rows_at db 0) → All (λ item. item.key ≡ columns_of item.row (0 ∷ [])) (rows_at db 0) → IsDatabase infos db
+pub is_database : (infos : List TableInfo) (db : List (List Keyed)) → length infos ≡ 1 → key_columns infos 0 ≡ 0 ∷ [] → length db ≡ 1 → IsRising (rows_at db 0) → All (λ item. item.key ≡ columns_of item.row (0 ∷ [])) (rows_at db 0) → IsDatabaseOf infos db
 is_database infos db single key one rising own = record { size = one ∙ sym single; rising = are_rising db one rising; keys = keys_stand infos db key one own }
 
 -- a key of one value that is the row's first

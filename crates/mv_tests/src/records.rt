@@ -8,7 +8,7 @@ ghost use Rattle.mv_values.specs.Tables.{key_columns};
 ghost use Rattle.mv_catalog.specs.Text.{FitsText};
 ghost use Rattle.mv_record.specs.Runs.{writes_in};
 ghost use Rattle.mv_graph.specs.Nodes.{IsSound};
-ghost use Rattle.mv_effect.specs.Looking.{IsDatabase};
+ghost use Rattle.mv_record.specs.Databases.{IsDatabaseOf};
 ghost use Rattle.mv_exec.specs.Graphs.{Runs};
 
 use crate::whole::{ensure, joined};
@@ -377,7 +377,7 @@ fn is_one_table(tables: &[TableInfo]) -> bool
 /// Whether there is one table of this kind, and these are its rows, under their own keys.
 #[tactic(auto, using(crate::proofs::OneTable::is_database))]
 fn is_sound(tables: &[TableInfo], database: &Database) -> bool
-    ensures { IsTrue result → IsDatabase tables.now database.now }
+    ensures { IsTrue result → IsDatabaseOf tables.now database.now }
 {
     is_one_table(tables) && database.len() == 1 && have_own_keys(rows_in(database, 0))
 }
@@ -400,8 +400,8 @@ fn are_sound(
     database: &Database,
     records: &[Record],
 ) -> Result<bool, NoMemory>
-    ensures before { IfOk result (λ are. IsTrue are → IsDatabase graph.now.tables database.now) }
-    ensures behind { IfOk result (λ are. IsTrue are → IsDatabase graph.now.tables (applied (writes_in records.now) database.now)) }
+    ensures before { IfOk result (λ are. IsTrue are → IsDatabaseOf graph.now.tables database.now) }
+    ensures behind { IfOk result (λ are. IsTrue are → IsDatabaseOf graph.now.tables (applied (writes_in records.now) database.now)) }
 {
     let behind = behind(alloc, database, records)?;
     let tables = graph.tables.as_slice();

@@ -3,7 +3,7 @@ use Rattle.std.specs.List.{All}
 use Rattle.mv_values.specs.Tables.{key_columns}
 use Rattle.mv_recorded.specs.Asking.{same_key}
 use Rattle.mv_effect.proofs.Few.{key_few}
-use Rattle.mv_effect.proofs.Matching.{Placed, places_of}
+use Rattle.mv_recorded.proofs.Matching.{Placed, places_of}
 use Rattle.mv_effect.proofs.asking.key_pred.Goals as goal
 
 pub key_tests-requires : goal.key_tests-requires

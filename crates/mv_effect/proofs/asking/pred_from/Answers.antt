@@ -4,7 +4,7 @@ use Rattle.mv_values.specs.Tables.{key_columns}
 use Rattle.mv_catalog.specs.declared.resolved.RCond.{RCond}
 use Rattle.mv_alone.specs.Rows.{checks_of}
 use Rattle.mv_effect.proofs.Few.{key_few, bytes_of}
-use Rattle.mv_effect.proofs.Matching.{Placed, places_of}
+use Rattle.mv_recorded.proofs.Matching.{Placed, places_of}
 use Rattle.mv_effect.proofs.asking.pred_from.Goals as goal
 
 pub tests_from-requires-clause-key : goal.tests_from-requires-clause-key

@@ -1,6 +1,6 @@
 use Rattle.std.proofs.Common.{sym, subst, ◌∙◌}
 use Rattle.mv_alone.specs.Outcome.{Gives}
-use Rattle.mv_effect.specs.Effects.{asks}
+use Rattle.mv_recorded.specs.Effects.{asks}
 use Rattle.mv_effect.specs.Naming.{AreColumns}
 use Rattle.mv_effect.proofs.asking.pred_set.Goals as goal
 

@@ -1,9 +1,9 @@
 use Rattle.std.proofs.Common.{ap, ◌∙◌}
 use Rattle.mv_values.specs.Patching.{applied}
 use Rattle.mv_undo.specs.Owning.{earlier}
-use Rattle.mv_effect.specs.declared.effect.Effect.{Effect}
+use Rattle.mv_record.specs.declared.effect.Effect.{Effect}
 use Rattle.mv_effect.proofs.Asked.{asked_one}
-use Rattle.mv_effect.proofs.Altered.{delete_goes}
+use Rattle.mv_recorded.proofs.Altered.{delete_goes}
 use Rattle.mv_effect.proofs.changing.delete.Goals as goal
 
 pub returns-clause-effect : goal.returns-clause-effect

@@ -5,10 +5,10 @@ use Rattle.mv_alone.specs.Changes.{new_row}
 use Rattle.mv_record.proofs.Patching.{rising_applied}
 use Rattle.mv_recorded.specs.Asking.{pred_of, same_key}
 use Rattle.mv_undo.specs.Owning.{earlier}
-use Rattle.mv_effect.specs.Effects.{inserting}
-use Rattle.mv_effect.specs.declared.effect.Effect.{Effect}
+use Rattle.mv_recorded.specs.Effects.{inserting}
+use Rattle.mv_record.specs.declared.effect.Effect.{Effect}
 use Rattle.mv_effect.proofs.Asked.{asked_one, insert_asks}
-use Rattle.mv_effect.proofs.Altered.{insert_done}
+use Rattle.mv_recorded.proofs.Altered.{insert_done}
 use Rattle.mv_effect.proofs.changing.insert.Goals as goal
 
 pub returns-clause-effect : goal.returns-clause-effect

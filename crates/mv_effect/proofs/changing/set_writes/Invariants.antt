@@ -1,6 +1,6 @@
 use Rattle.std.proofs.Common.{◌≡◌, ◌++◌, Ok, drop}
 use Rattle.mv_alone.specs.Outcome.{then_do}
-use Rattle.mv_effect.specs.Effects.{changes, new_of}
+use Rattle.mv_recorded.specs.Effects.{changes, new_of}
 use Rattle.mv_effect.proofs.changing.set_writes.Given as goal
 
 abbrev pub invariant-loop-item : goal.invariant-loop-item

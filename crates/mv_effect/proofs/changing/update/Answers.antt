@@ -2,10 +2,10 @@ use Rattle.std.proofs.Common.{ap, refl, ◌∙◌}
 use Rattle.mv_values.specs.Patching.{applied}
 use Rattle.mv_catalog.specs.declared.resolved.RSetItem.{RSetItem}
 use Rattle.mv_undo.specs.Owning.{earlier}
-use Rattle.mv_effect.specs.declared.effect.Effect.{Effect}
+use Rattle.mv_record.specs.declared.effect.Effect.{Effect}
 use Rattle.mv_effect.proofs.Asked.{asked_one, then_asks}
 use Rattle.mv_effect.proofs.Few.{bytes_of}
-use Rattle.mv_effect.proofs.Altered.{update_done}
+use Rattle.mv_recorded.proofs.Altered.{update_done}
 use Rattle.mv_effect.proofs.changing.update.Goals as goal
 
 pub updated-requires-clause-columns : goal.updated-requires-clause-columns

@@ -1,7 +1,7 @@
 use Rattle.std.proofs.Common.{ap, subst, sym, ◌∙◌}
 use Rattle.mv_alone.specs.Rows.{is_some_row}
 use Rattle.mv_alone.specs.Outcome.{Fails}
-use Rattle.mv_effect.specs.Effects.{changes, new_of, writing}
+use Rattle.mv_recorded.specs.Effects.{changes, new_of, writing}
 use Rattle.mv_effect.proofs.Ends.{goes_on, ends_there}
 use Rattle.mv_effect.proofs.changing.updated.Goals as goal
 

@@ -1,7 +1,7 @@
 use Rattle.std.proofs.Common.{◌<◌, subst, sym}
 use Rattle.mv_undo.specs.Owning.{earlier}
 use Rattle.mv_values.specs.Patching.{applied}
-use Rattle.mv_effect.proofs.Matching.{admitted}
+use Rattle.mv_recorded.proofs.Matching.{admitted}
 use Rattle.mv_effect.proofs.looking.seen.Goals as goal
 
 pub look-requires-clause-table : goal.look-requires-clause-table

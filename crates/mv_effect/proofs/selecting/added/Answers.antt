@@ -1,6 +1,6 @@
 use Rattle.std.proofs.Common.{[], ap}
 use Rattle.mv_alone.specs.Rows.{matching, is_some_row, aggregate}
-use Rattle.mv_effect.specs.Effects.{totalling}
+use Rattle.mv_recorded.specs.Effects.{totalling}
 use Rattle.mv_effect.proofs.Ends.{goes_on, ends_there}
 use Rattle.mv_effect.proofs.selecting.added.Goals as goal
 

@@ -1,6 +1,6 @@
 use Rattle.mv_recorded.specs.Asking.{with_sorts}
-use Rattle.mv_effect.specs.Effects.{asks}
-use Rattle.mv_effect.proofs.Chosen.{row_unasked}
+use Rattle.mv_recorded.specs.Effects.{asks}
+use Rattle.mv_effect.proofs.Ends.{row_unasked}
 use Rattle.mv_effect.proofs.selecting.asked_row.Goals as goal
 
 pub returns-in_ok-ended_by-in-Err-offset-clause-asks : goal.returns-in_ok-ended_by-in-Err-offset-clause-asks

@@ -3,10 +3,10 @@ use Rattle.mv_values.specs.Patching.{applied}
 use Rattle.mv_alone.specs.Alone.{fixed}
 use Rattle.mv_alone.specs.Rows.{matching}
 use Rattle.mv_undo.specs.Owning.{earlier}
-use Rattle.mv_effect.specs.Effects.{going}
-use Rattle.mv_effect.specs.declared.effect.Effect.{Effect}
+use Rattle.mv_recorded.specs.Effects.{going}
+use Rattle.mv_record.specs.declared.effect.Effect.{Effect}
 use Rattle.mv_effect.proofs.Asked.{asked_one}
-use Rattle.mv_effect.proofs.Chosen.{for_goes}
+use Rattle.mv_recorded.proofs.Chosen.{for_goes}
 use Rattle.mv_effect.proofs.selecting.for_select.Goals as goal
 
 pub returns-clause-effect : goal.returns-clause-effect

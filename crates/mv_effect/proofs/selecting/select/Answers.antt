@@ -2,10 +2,10 @@ use Rattle.std.proofs.Common.{◌∙◌, ap, sym}
 use Rattle.mv_values.specs.Patching.{applied}
 use Rattle.mv_recorded.specs.Asking.{with_sorts}
 use Rattle.mv_undo.specs.Owning.{earlier}
-use Rattle.mv_effect.specs.declared.effect.Effect.{Effect}
-use Rattle.mv_effect.specs.Effects.{asks, row_number}
+use Rattle.mv_record.specs.declared.effect.Effect.{Effect}
+use Rattle.mv_recorded.specs.Effects.{asks, row_number}
 use Rattle.mv_effect.proofs.Asked.{asked_one}
-use Rattle.mv_effect.proofs.Chosen.{both_asked, select_goes, select_unasked}
+use Rattle.mv_recorded.proofs.Chosen.{both_asked, select_goes, select_unasked}
 use Rattle.mv_effect.proofs.selecting.select.Goals as goal
 
 pub returns-clause-effect : goal.returns-clause-effect

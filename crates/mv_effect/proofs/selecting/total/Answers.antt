@@ -1,9 +1,9 @@
 use Rattle.std.proofs.Common.{ap, refl, ◌∙◌}
 use Rattle.mv_values.specs.Patching.{applied}
 use Rattle.mv_undo.specs.Owning.{earlier}
-use Rattle.mv_effect.specs.declared.effect.Effect.{Effect}
+use Rattle.mv_record.specs.declared.effect.Effect.{Effect}
 use Rattle.mv_effect.proofs.Asked.{asked_one, then_asks}
-use Rattle.mv_effect.proofs.Chosen.{total_done}
+use Rattle.mv_recorded.proofs.Chosen.{total_done}
 use Rattle.mv_effect.proofs.selecting.total.Goals as goal
 
 pub returns-clause-effect : goal.returns-clause-effect

@@ -1,5 +1,5 @@
 use Rattle.std.proofs.Common.{◌≡◌, None, drop}
-use Rattle.mv_effect.specs.Effects.{last_column}
+use Rattle.mv_effect.specs.Targets.{last_column}
 use Rattle.mv_effect.proofs.setting.column_for.Given as goal
 
 abbrev pub invariant-loop-i : goal.invariant-loop-i

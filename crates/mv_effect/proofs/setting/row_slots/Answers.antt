@@ -2,9 +2,10 @@ use Rattle.std.proofs.Common.{true, sym, ap, ◌∙◌, ◌+◌, ◌++◌, ◌�
 use Rattle.mv_values.specs.Columns.{columns_of}
 use Rattle.mv_alone.specs.Env.{with_found, with_values}
 use Rattle.mv_recorded.specs.Reading.{each_once}
-use Rattle.mv_effect.specs.Effects.{slots_behind}
+use Rattle.mv_recorded.specs.Effects.{slots_behind}
 use Rattle.mv_effect.proofs.Once.{once_there, once_new, once_all}
-use Rattle.mv_effect.proofs.Variables.{slots_more, slots_end, same_found}
+use Rattle.mv_effect.proofs.Variables.{slots_more, slots_end}
+use Rattle.mv_recorded.proofs.Slots.{same_found}
 use Rattle.mv_effect.proofs.setting.row_slots.Goals as goal
 
 pub loop-i-preserved-then-is_among_first : goal.loop-i-preserved-then-is_among_first

@@ -2,7 +2,7 @@ use Rattle.std.proofs.Common.{◌≡◌, true, take}
 use Rattle.mv_values.specs.Columns.{columns_of}
 use Rattle.mv_alone.specs.Env.{with_found, with_values}
 use Rattle.mv_recorded.specs.Reading.{each_once}
-use Rattle.mv_effect.specs.Effects.{slots_behind}
+use Rattle.mv_recorded.specs.Effects.{slots_behind}
 use Rattle.mv_effect.proofs.setting.row_slots.Given as goal
 
 abbrev pub invariant-loop-i : goal.invariant-loop-i

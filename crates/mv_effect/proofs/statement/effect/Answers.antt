@@ -7,7 +7,7 @@ use Rattle.mv_catalog.specs.declared.resolved.RStmt.TheOpen as layer
 use Rattle.mv_catalog.specs.declared.resolved.RStmt.TheOpen.{RStmt-F}
 use Rattle.mv_alone.specs.declared.state.Env.{Env}
 use Rattle.mv_undo.specs.Owning.{earlier}
-use Rattle.mv_effect.specs.Effects.{IsEffect, IsEffectAnywhere}
+use Rattle.mv_recorded.specs.Effects.{IsEffect, IsEffectAnywhere}
 use Rattle.mv_effect.proofs.statement.effect.Goals as goal
 
 pub returns-in-ForRows-clause-effect : goal.returns-in-ForRows-clause-effect

@@ -3,7 +3,7 @@ use Rattle.mv_values.specs.Patching.{applied}
 use Rattle.mv_values.specs.Tables.{KeysStand}
 use Rattle.mv_catalog.specs.declared.resolved.RStmt.{out-RStmt}
 use Rattle.mv_undo.specs.Owning.{earlier}
-use Rattle.mv_effect.specs.Effects.{IsEffect}
+use Rattle.mv_recorded.specs.Effects.{IsEffect}
 use Rattle.mv_effect.specs.Looking.{AskedFor}
 use Rattle.mv_effect.proofs.WellNamed.{well_named}
 use Rattle.mv_exec.specs.Tasks.{places_of}

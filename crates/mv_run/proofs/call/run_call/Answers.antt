@@ -3,7 +3,7 @@ use Rattle.mv_values.specs.Patching.{applied}
 use Rattle.mv_values.specs.Tables.{KeysStand}
 use Rattle.mv_record.specs.Runs.{writes_in}
 use Rattle.mv_record.specs.declared.record.Record.{Record}
-use Rattle.mv_effect.specs.Looking.{IsDatabase}
+use Rattle.mv_record.specs.Databases.{IsDatabaseOf}
 use Rattle.mv_run.proofs.Calling.{told_reply, told_tables, told_database}
 use Rattle.mv_run.proofs.call.run_call.Goals as goal
 
@@ -17,7 +17,7 @@ returns-clause-tables c =
 
 pub returns-clause-database : goal.returns-clause-database
 returns-clause-database c =
-    subst (IsDatabase c.args.graph.now.tables) (sym c.in_ok-commit.ensures)
+    subst (IsDatabaseOf c.args.graph.now.tables) (sym c.in_ok-commit.ensures)
     (told_database c.args.graph.now.tables c.records-records.result.now c.args.database.now c.requires.database
     (subst (λ (rs : List Record). KeysStand c.args.graph.now.tables (applied (writes_in rs) c.args.database.now)) (sym c.records-records.ensures) c.in_ok-task.ensures.keys))
 

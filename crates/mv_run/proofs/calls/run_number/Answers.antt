@@ -5,7 +5,7 @@ use Rattle.mv_values.specs.declared.schema.TableInfo.{TableInfo}
 use Rattle.mv_alone.specs.declared.state.State.{State}
 use Rattle.mv_alone.specs.TableAfter.{reply_in, tables_left}
 use Rattle.mv_record.specs.declared.record.Record.{Record}
-use Rattle.mv_effect.specs.Looking.{IsDatabase}
+use Rattle.mv_record.specs.Databases.{IsDatabaseOf}
 use Rattle.mv_graph.specs.declared.graph.Graph.{Graph}
 use Rattle.mv_run.proofs.Calling.{goes_by, has_graph}
 use Rattle.mv_run.proofs.calls.run_number.Goals as goal
@@ -31,7 +31,7 @@ pub run_call-requires-clause-database : goal.run_call-requires-clause-database
 run_call-requires-clause-database c =
     let g = goes_by c.args.program.now c.args.number c.in-Some.call.now c.in-Some-graph_for.graph.now c.requires.whole (sym c.in-Some.ensures)
     (subst (λ (gs : List Graph). slice_get gs c.in-Some.call.now.procedure ≡ Some c.in-Some-graph_for.graph.now) c.requires.graphs (sym c.in-Some-graph_for.ensures)) in
-    subst (λ (ts : List TableInfo). IsDatabase ts c.args.database.now) (sym g.tables) c.requires.database
+    subst (λ (ts : List TableInfo). IsDatabaseOf ts c.args.database.now) (sym g.tables) c.requires.database
 
 pub returns-clause-reply : goal.returns-clause-reply
 returns-clause-reply c =
@@ -55,4 +55,4 @@ pub returns-clause-database : goal.returns-clause-database
 returns-clause-database c =
     let g = goes_by c.args.program.now c.args.number c.in-Some.call.now c.in-Some-graph_for.graph.now c.requires.whole (sym c.in-Some.ensures)
     (subst (λ (gs : List Graph). slice_get gs c.in-Some.call.now.procedure ≡ Some c.in-Some-graph_for.graph.now) c.requires.graphs (sym c.in-Some-graph_for.ensures)) in
-    subst (λ (ts : List TableInfo). OnOk c.run_call.result (IsDatabase ts c.run_call.new.database)) g.tables c.run_call.ensures.database
+    subst (λ (ts : List TableInfo). OnOk c.run_call.result (IsDatabaseOf ts c.run_call.new.database)) g.tables c.run_call.ensures.database

@@ -21,8 +21,7 @@ use Rattle.mv_alone.specs.declared.state.Check.{Check}
 use Rattle.mv_alone.specs.Outcome.{then_do}
 use Rattle.mv_alone.specs.Rows.{meets, matching}
 use Rattle.mv_record.specs.Admitting.{Admitted}
-use Rattle.mv_recorded.specs.Asking.{test_of, pred_of}
-use Rattle.mv_effect.specs.Looking.{KnowsKey}
+use Rattle.mv_recorded.specs.Asking.{test_of, pred_of, KnowsKey}
 
 -- Rows
 

@@ -33,9 +33,9 @@ use Rattle.mv_record.proofs.Rising.{Above, Rises, rises_from, turned, lower}
 use Rattle.mv_recorded.specs.Asking.{on, pred_of, same_key, columns_in}
 use Rattle.mv_recorded.specs.Doing.{write, changed}
 use Rattle.mv_recorded.proofs.Setting.{then_ok}
-use Rattle.mv_effect.specs.declared.effect.Effect.{Effect}
-use Rattle.mv_effect.specs.Effects.{IsEffect, asks, asked_then, changes, writing, new_of, inserting, only_end, slots_behind}
-use Rattle.mv_effect.proofs.Chosen.{asked_of, then_err, same_ok, rows_asked}
+use Rattle.mv_record.specs.declared.effect.Effect.{Effect}
+use Rattle.mv_recorded.specs.Effects.{IsEffect, asks, asked_then, changes, writing, new_of, inserting, only_end, slots_behind}
+use Rattle.mv_recorded.proofs.Chosen.{asked_of, then_err, same_ok, rows_asked}
 
 -- an effect that asks, sets variables and changes rows
 abbrev pub altered : List Pred → List Slot → List Write → Effect

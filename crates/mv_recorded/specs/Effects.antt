@@ -1,7 +1,6 @@
--- What a statement does by itself: what its record tells, but for its place, its controller and what it reads.
-use Rattle.std.specs.Prelude.{◌≡◌, ℕ, ℤ, ◌==◌, Bool, ◌++◌, List, [], ◌∷◌, true, Option, Some, None, Result, Ok, Err, map, if◌then◌else◌}
+-- How the effect of each kind of statement comes of what the statement asked and found.
+use Rattle.std.specs.Prelude.{◌≡◌, ℕ, ℤ, Bool, ◌++◌, List, [], ◌∷◌, true, Option, Some, None, Result, Ok, Err, map, if◌then◌else◌}
 use Rattle.std.specs.Option.{is_some}
-use Rattle.std.specs.Result.{result_err}
 use Rattle.mv_values.specs.declared.value.Value.{Value}
 use Rattle.mv_values.specs.declared.patch.Write.{Write}
 use Rattle.mv_values.specs.declared.pred.Pred.{Pred}
@@ -18,32 +17,16 @@ use Rattle.mv_catalog.specs.declared.resolved.RSetItem.{RSetItem}
 use Rattle.mv_catalog.specs.declared.resolved.RCond.{RCond}
 use Rattle.mv_alone.specs.Outcome.{then_do}
 use Rattle.mv_alone.specs.declared.state.Env.{Env}
-use Rattle.mv_alone.specs.declared.state.State.{State}
 use Rattle.mv_alone.specs.Env.{scalar_at, with_found}
 use Rattle.mv_alone.specs.Value.{number}
 use Rattle.mv_alone.specs.Alone.{offset_of, taken, totalled, is_turn}
 use Rattle.mv_alone.specs.Rows.{checks_of}
 use Rattle.mv_alone.specs.Changes.{set_row, keyed}
 use Rattle.mv_record.specs.declared.record.Slot.{Slot}
-use Rattle.mv_alone.specs.declared.state.Stop.{Stop}
-use Rattle.mv_alone.specs.declared.state.Stop.TheVariants.{Memory, Ended}
-use Rattle.mv_view.specs.declared.view.Refused.{Refused}
-use Rattle.mv_view.specs.declared.view.Refused.TheVariants.{NoMemory}
-use Rattle.mv_recorded.specs.Asking.{on, pred_of, preds_of}
+use Rattle.mv_recorded.specs.Asking.{on, pred_of}
 use Rattle.mv_recorded.specs.Reading.{each_once}
-use Rattle.mv_recorded.specs.Doing.{when, fixed_rows, itself, sets_of, writes_of, printed_line, write, changed}
-use Rattle.mv_effect.specs.declared.effect.Effect.{Effect}
-
--- what a statement does from a state on
-abbrev pub effect_of : List TableInfo → RStmt-F RStmt → State → Effect
-effect_of tables s st = record {
-  preds = preds_of tables s st;
-  sets = on (itself tables s st) (λ next. sets_of s next);
-  rows = on (fixed_rows s st) (λ rows. rows);
-  writes = on (itself tables s st) (λ next. writes_of tables s st);
-  line = printed_line s st;
-  end = result_err (itself tables s st);
-}
+use Rattle.mv_recorded.specs.Doing.{effect_of, when, write, changed}
+use Rattle.mv_record.specs.declared.effect.Effect.{Effect}
 
 -- it is what the statement does with these variables on a database, whatever lines stand before it
 abbrev pub IsEffect : List TableInfo → RStmt-F RStmt → Env → List (List Keyed) → Effect → Type 0
@@ -65,16 +48,6 @@ only_asks pred = record empty { preds = pred ∷ [] }
 abbrev pub only_end : List Pred → End → Effect
 only_end preds e = record { preds = preds; sets = []; rows = []; writes = []; line = None; end = Some e }
 
--- an answer for a statement that was stopped: no memory, or an effect that only ends the call
-abbrev pub IsStopped : List Pred → Stop → Result Effect Refused → Type 0
-IsStopped preds Memory answer = answer ≡ Err NoMemory
-IsStopped preds (Ended e) answer = (answer ≡ Ok (only_end preds e))
-
--- an effect of a statement that was stopped: it only ends the call, and there is none where memory ran out
-abbrev pub EndsBy : Stop → List Pred → Effect → Type 0
-EndsBy Memory preds effect = ⊥
-EndsBy (Ended e) preds effect = effect ≡ only_end preds e
-
 -- a statement that asked this: what it does with a value, or the end where there is none
 abbrev pub asked_then : {A : Type 0} → Pred → Result A End → (A → Effect) → Effect
 asked_then pred (Ok x) go = go x
@@ -83,12 +56,6 @@ asked_then pred (Err e) go = only_end (pred ∷ []) e
 -- variables, with the values that they have behind a statement
 abbrev pub slots_behind : Env → List ℕ → List Slot
 slots_behind env xs = map (λ x. record { slot = x; value = scalar_at env x }) xs
-
--- the column that a target takes last, where targets take columns in order
-abbrev pub last_column : List ℕ → List ℕ → ℕ → Option ℕ → Option ℕ
-last_column [] cs x last = last
-last_column (y ∷ ys) [] x last = last
-last_column (y ∷ ys) (c ∷ cs) x last = last_column ys cs x (if y == x then Some c else last)
 
 -- what a statement asks of a table, where the right sides of WHERE have values
 abbrev pub asks : List TableInfo → ℕ → List RCond → List ℕ → Env → Result Pred End

@@ -27,13 +27,14 @@ use Rattle.mv_alone.specs.Rows.{checks_of, matching, ordered, item_at, aggregate
 use Rattle.mv_alone.specs.Alone.{offset_of, taken, totalled, fixed, is_turn}
 use Rattle.mv_record.specs.declared.record.Slot.{Slot}
 use Rattle.mv_recorded.specs.Asking.{pred_of, with_sorts, column_in}
-use Rattle.mv_recorded.specs.Doing.{when, gives_always}
+use Rattle.mv_recorded.specs.Doing.{when, gives_always, effect_of}
 use Rattle.mv_recorded.specs.Reading.{each_once}
 use Rattle.mv_recorded.proofs.Setting.{then_ok}
-use Rattle.mv_effect.specs.declared.effect.Effect.{Effect}
-use Rattle.mv_effect.specs.Effects.{EndsBy, IsEffect, effect_of, asks, asked_by, asked_then, row_number, taking, totalling, going, only_end, slots_behind}
-use Rattle.mv_effect.proofs.Variables.{found_has, same_found}
-use Rattle.mv_effect.proofs.Matching.{found_matching, matching_all}
+use Rattle.mv_record.specs.declared.effect.Effect.{Effect}
+use Rattle.mv_recorded.specs.Effects.{IsEffect, asks, asked_by, asked_then, row_number, taking, totalling, going, only_end, slots_behind}
+use Rattle.mv_recorded.proofs.Slots.{same_found}
+use Rattle.mv_recorded.proofs.Effects.{found_is, gives}
+use Rattle.mv_recorded.proofs.Matching.{found_matching, matching_all}
 
 -- What was asked
 
@@ -65,15 +66,6 @@ rows_asked tables t checks cs pred db rows is found = found ∙ (ap (λ p. found
 
 -- Variables
 
--- a truth is so exactly where it is true
-truth_is_so : (b : Bool) → is_so (truth b) ≡ b
-truth_is_so true = refl
-truth_is_so false = refl
-
--- `:found` is so exactly where it was set to true
-found_is : (env : Env) (b : Bool) → is_so (scalar_at (with_found env b) env.found) ≡ b
-found_is env b = ap is_so (found_has env b) ∙ truth_is_so b
-
 -- the variables set behind a SELECT
 abbrev taken_names : List ℕ → Env → List ℕ
 taken_names xs next = when (is_so (scalar_at next next.found)) (each_once xs) ++ next.found ∷ []
@@ -92,20 +84,6 @@ total_named env x None always some h =
     ap (λ b. when b (x ∷ []) ++ env.found ∷ []) (h ∙ ap (λ b. always || b) (sym (found_is env some)))
 total_named env x (Some v) always some h =
     ap (λ b. when b (x ∷ []) ++ env.found ∷ []) (h ∙ ap (λ b. always || b) (sym (found_is (with_value env x v) some)))
-
--- MIN and MAX give nothing for no rows, the others always something
-total_some : (z : ℤ) (o : Option Value) → total z ≡ Ok o → is_some o ≡ true
-total_some z o h = let v = then_ok (fitted z) (λ v. Ok (Some v)) o h in ap is_some (sym (same_ok v.2))
-
--- an aggregate gives something exactly where it always does or a row was found
-gives : (agg : RAgg) (rows : List Keyed) (o : Option Value) → aggregate agg rows ≡ Ok o → is_some o ≡ (gives_always agg || is_some_row rows)
-gives CountAll rows o h = total_some (pos (length rows)) o h
-gives (CountDistinct c) rows o h = total_some (pos (length (distinct (projected (c ∷ []) rows)))) o h
-gives (Sum c) rows o h = total_some (sum_of (column c rows)) o h
-gives (Min c) [] o h = ap is_some (sym (same_ok h))
-gives (Min c) (row ∷ rows) o h = ap is_some (sym (same_ok h))
-gives (Max c) [] o h = ap is_some (sym (same_ok h))
-gives (Max c) (row ∷ rows) o h = ap is_some (sym (same_ok h))
 
 -- SELECT
 
@@ -149,19 +127,11 @@ select_unasked tables cs xs t conds sorts offset env db e h = by (checks_of cond
   where
     by : (r : Result (List Check) End) → checks_of conds env ≡ r → (o : Result Value End) → offset_of offset env ≡ o
         → Err e ≡ asked_by (then_do r (λ checks. Ok (pred_of tables t checks (with_sorts cs sorts)))) (then_do o (λ v. Ok (number v)))
-        → (lines : List (List ℕ)) → e ≡ effect_of tables (Select cs xs t conds sorts offset) (record { env = env; tables = db; lines = lines })
+        → (lines : List (List ℕ)) → e ≡ effect_of {X = RStmt} tables (Select cs xs t conds sorts offset) (record { env = env; tables = db; lines = lines })
     by (Ok cs') are (Ok v) is k lines = cc
     by (Ok cs') are (Err d) is k lines = rw (are, is) (same_err k)
     by (Err d) are (Ok v) is k lines = rw (are, is) (same_err k)
     by (Err d) are (Err f) is k lines = rw (are, is) (same_err k)
-
--- where OFFSET is stopped it ends so
-pub row_unasked : (r : Result Pred End) (pred : Pred) (offset : Option RExpr) (env : Env) (stop : Stop) (preds : List Pred) (e : Effect)
-    → r ≡ Ok pred → Fails stop (offset_of offset env) → preds ≡ [] → EndsBy stop preds e → ◌≡◌ {A = Result (Pred × ℤ) Effect} (Err e) (asked_by r (row_number offset env))
-row_unasked r pred offset env Memory preds e is h none ends = absurd ends
-row_unasked r pred offset env (Ended d) preds e is h none ends =
-    ap (λ x. Err x) (ends ∙ ap (λ ps. only_end ps d) none)
-    ∙ sym (ap (λ q. asked_by q (row_number offset env)) is ∙ ap (λ (o : Result Value End). asked_by (Ok pred) (then_do o (λ v. Ok (number v)))) h)
 
 -- Aggregates
 
