@@ -2,8 +2,8 @@
 
 ghost use Rattle.std.specs.Prelude.{◌≡◌, ◌≤◌, length, IfOk, All};
 ghost use Rattle.mv_lex.specs.Tokens.{IsSpelledIn};
-ghost use Rattle.mv_catalog.specs.Fits.{Fits};
 ghost use Rattle.mv_catalog.specs.Text.{FitsText};
+ghost use Rattle.mv_record.specs.Databases.{IsProgram};
 ghost use Rattle.mv_accept.specs.Exact.{Exact};
 ghost use Rattle.mv_accept.specs.Accepting.{HasTokens, HasNoTokens, Spells, SpellsNothing, StandsFor, StandsForNothing, Accepts, Refuses, TellsOfRows, most_calls, table_name};
 ghost use Rattle.mv_accept.specs.Telling.{of_lexing, of_parsing, of_naming, OfOpening};
@@ -52,10 +52,8 @@ impl From<NoMemory> for NotAccepted {
 /// of the text; the journal's block. It takes time in the number of bytes, and n log n for n rows.
 pub fn accept(alloc: Global, bytes: &[u8]) -> Result<Program, NotAccepted>
     ensures exact { Exact (Accepts bytes.now) (Refuses bytes.now) result }
-    // What is accepted is of one piece, and each table has its rows, which stand under their keys.
-    ensures whole { IfOk result (λ program. FitsText program.resolved) }
-    ensures sized { IfOk result (λ program. length program.opening ≡ length program.resolved.tables) }
-    ensures fits { IfOk result Fits }
+    // What is accepted is of one piece, and its calls begin with a database of its tables.
+    ensures whole { IfOk result IsProgram }
     ensures few { IfOk result (λ program. length program.resolved.calls ≤ most_calls) }
 {
     let resolved = match resolved_of(alloc, bytes) {

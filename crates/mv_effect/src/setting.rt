@@ -64,7 +64,7 @@ fn slot_before_found(env: &Env, found: bool, x: u16, value: Value) -> Slot
 }
 
 /// What a statement sets that sets `:found` alone.
-#[tactic(auto, using(crate::proofs::Variables::found_has))]
+#[tactic(auto, using(mv_recorded::proofs::Slots::found_has))]
 pub(crate) fn found_alone(alloc: Global, env: &Env, found: bool) -> Result<List<Slot>, NoMemory>
     requires { env.now.found < 2 ^ 16 }
     ensures { IfOk result (λ sets. sets ≡ slots_behind (with_found env.now found) (env.now.found ∷ [])) }

@@ -1,7 +1,6 @@
 -- The database that the calls of a script begin with: the rows of VALUES, table by table, and then the blocks of the
 -- copies in the order of the text. The first part that can't be taken refuses the script.
 use Rattle.std.specs.Prelude.{◌≡◌, ◌++◌, ◌∷◌, ◌+◌, ◌<◌, ◌≤◌, ◌^◌, ◌⊎◌, ⊤, ℕ, true, false, List, [], All, length, Option, Some, None, slice_get, slice_range, slice_set}
-use Rattle.std.specs.List.{AllZip}
 use Rattle.mv_values.specs.declared.value.Value.{Value}
 use Rattle.mv_values.specs.declared.rows.Keyed.{Keyed}
 use Rattle.mv_values.specs.declared.schema.TableInfo.{TableInfo}
@@ -10,7 +9,6 @@ use Rattle.mv_catalog.specs.declared.resolved.Resolved.{Resolved}
 use Rattle.mv_values.specs.Tables.{rows_at}
 use Rattle.mv_csvio.specs.declared.fault.CopyFault.{CopyFault}
 use Rattle.mv_csvio.specs.declared.fault.CopyFault.TheVariants as copy
-use Rattle.mv_csvio.specs.Fitting.{FitsTable, HasTypes}
 use Rattle.mv_csvio.specs.Joining.{HasJoined, TellsOfValues}
 use Rattle.mv_csvio.specs.Loading.{HasLoaded, IsFirstBad, records_of}
 use Rattle.mv_opening.specs.declared.fault.OpeningFault.{OpeningFault}
@@ -114,11 +112,3 @@ TellsOfJournal resolved bytes f =
 -- why a script has no opening: its VALUES, else a copy, else its journal
 abbrev pub HasNoOpening : Resolved → List ℕ → OpeningFault → Type 0
 HasNoOpening resolved bytes f = TellsOfTables resolved f ⊎ TellsOfCopies resolved bytes f ⊎ TellsOfJournal resolved bytes f
-
--- the rows of VALUES have a value of its type for each column of their table
-abbrev pub ValuesFit : List TableInfo → List (List (List Value)) → Type 0
-ValuesFit infos values = AllZip (λ info rows. All (HasTypes info) rows) infos values
-
--- so have all rows of each table, and they stand under their keys
-abbrev pub TablesFit : List TableInfo → List (List Keyed) → Type 0
-TablesFit infos tables = AllZip (λ info rows. All (FitsTable info) rows) infos tables

@@ -2,12 +2,13 @@
 
 ghost use Rattle.std.specs.Prelude.{◌≡◌, ◌<◌, ◌≤◌, ◌+◌, ◌^◌, ◌⊎◌, All, Err, IfErr, IfOk, List as Seq, length, MatchResult};
 ghost use Rattle.std.specs.Bool.{MatchBool};
-ghost use Rattle.mv_opening.specs.Opening.{FitTogether, HasCopied, HaveGathered, IsClosed, IsOpen, IsOpening, HasNoOpening, TablesFit, TellsOfCopy, TellsOfTables, ValuesFit};
+ghost use Rattle.mv_opening.specs.Opening.{FitTogether, HasCopied, HaveGathered, IsClosed, IsOpen, IsOpening, HasNoOpening, TellsOfCopy, TellsOfTables};
 ghost use Rattle.mv_opening.specs.declared.fault.OpeningFault.{OpeningFault};
 ghost use Rattle.mv_opening.specs.declared.fault.OpeningFault.TheVariants as fault;
 ghost use Rattle.mv_values.specs.Keys.{IsRising};
 ghost use Rattle.mv_values.specs.declared.rows.Keyed.{Keyed};
-ghost use Rattle.mv_values.specs.Tables.{KeysStand};
+ghost use Rattle.mv_catalog.specs.Text.{FitsText};
+ghost use Rattle.mv_record.specs.Databases.{IsDatabaseOf};
 
 use crate::fault::OpeningFault;
 use mv_catalog::resolved::{CopyInfo, Resolved};
@@ -30,9 +31,7 @@ pub fn opening(alloc: Global, resolved: &Resolved, bytes: &[u8]) -> Result<Datab
     ensures only { (tables : Seq (Seq Keyed)) → IsOpening resolved.now bytes.now tables → MatchResult result (λ answer. answer ≡ tables) (λ f. f ≡ fault.NoMemory) }
     ensures refused { IfErr result (λ f. (f ≡ fault.NoMemory) ⊎ HasNoOpening resolved.now bytes.now f) }
     ensures told { (f : OpeningFault) → HasNoOpening resolved.now bytes.now f → (result ≡ Err f) ⊎ (result ≡ Err fault.NoMemory) }
-    ensures sized { IfOk result (λ tables. length tables ≡ length resolved.now.tables) }
-    ensures fits { IfOk result (KeysStand resolved.now.tables) }
-    ensures typed { ValuesFit resolved.now.tables resolved.now.rows → IfOk result (TablesFit resolved.now.tables) }
+    ensures database { FitsText resolved.now → IfOk result (IsDatabaseOf resolved.now.tables) }
 {
     let tables = join_all(alloc, resolved, bytes)?;
     Ok(into_database(alloc, tables)?)

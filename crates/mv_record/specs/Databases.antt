@@ -1,12 +1,30 @@
--- Databases of the tables of a program.
-use Rattle.std.specs.Prelude.{◌≡◌, List, length}
+-- Databases of the tables of a program, and programs whose calls begin with one.
+use Rattle.std.specs.Prelude.{◌≡◌, List, All, length}
+use Rattle.std.specs.List.{AllZip}
 use Rattle.mv_values.specs.declared.rows.Keyed.{Keyed}
 use Rattle.mv_values.specs.declared.schema.TableInfo.{TableInfo}
 use Rattle.mv_values.specs.Tables.{KeysStand}
+use Rattle.mv_catalog.specs.declared.resolved.Program.{Program}
+use Rattle.mv_catalog.specs.Text.{FitsText, IsRow, types_of}
 use Rattle.mv_record.specs.Writes.{AreRising}
 
--- a database of these tables: the rows of each stand under their own keys, which rise
+-- the row has a value of its type and length for each column of the table
+abbrev pub HasRow : TableInfo → Keyed → Type 0
+HasRow table item = IsRow (types_of table) item.row
+
+-- so has each row of each table
+abbrev pub AreTyped : List TableInfo → List (List Keyed) → Type 0
+AreTyped tables db = AllZip (λ table rows. All (HasRow table) rows) tables db
+
+-- a database of these tables: as many; the keys of each rise; each row stands under its own key, and has the values that its table
+-- wants
 pub record IsDatabaseOf (tables : List TableInfo) (db : List (List Keyed)) : Type 0 where
   pub size : length db ≡ length tables
   pub rising : AreRising db
   pub keys : KeysStand tables db
+  pub rows : AreTyped tables db
+
+-- a program of one piece, whose calls begin with a database of its tables
+pub record IsProgram (program : Program) : Type 0 where
+  pub text : FitsText program.resolved
+  pub opening : IsDatabaseOf program.resolved.tables program.opening

@@ -17,3 +17,16 @@ pub mod Altered
 pub mod Unrolled
 pub mod Examples
 pub mod TableExamples
+pub mod Typing
+pub mod Valued
+pub mod RowsTyped
+pub mod RunsTyped
+pub mod CallsTyped
+pub mod Fronts
+pub mod Held
+pub mod Inverting
+pub mod Wellness
+pub mod Values
+pub mod Alike
+pub mod Congruent
+pub mod Posting

@@ -1,22 +1,32 @@
 -- What holds of the records of every full run.
-use Rattle.std.specs.Prelude.{◌≡◌, ℕ, List, Ok}
+use Rattle.std.specs.Prelude.{◌≡◌, ◌++◌, ℕ, List, [], Ok, length}
+use Rattle.std.specs.List.{AllZip}
 use Rattle.mv_values.specs.declared.schema.TableInfo.{TableInfo}
 use Rattle.mv_values.specs.declared.calls.Call.{Call}
 use Rattle.mv_values.specs.Keys.{IsRising}
+use Rattle.mv_values.specs.Patching.{applied}
 use Rattle.mv_values.specs.Tables.{rows_at, KeysStand}
 use Rattle.mv_catalog.specs.Statements.{IsWell, stmt_step}
+use Rattle.mv_catalog.specs.Text.{IsProcedure, Suits}
 use Rattle.mv_catalog.specs.Types.{Vars}
+use Rattle.mv_catalog.specs.declared.resolved.Program.{Program}
 use Rattle.mv_catalog.specs.declared.resolved.ProcInfo.{ProcInfo}
 use Rattle.mv_catalog.specs.declared.resolved.RStmt.{RStmt}
 use Rattle.mv_catalog.specs.declared.resolved.RStmt.TheOpen.{RStmt-F}
 use Rattle.mv_alone.specs.declared.state.State.{State}
-use Rattle.mv_alone.specs.TableAfter.{Tables}
-use Rattle.mv_record.specs.Runs.{TellsAll, NamesEarlier}
+use Rattle.mv_alone.specs.TableAfter.{Tables, table_after}
+use Rattle.mv_record.specs.Runs.{TellsAll, NamesEarlier, writes_in}
+use Rattle.mv_record.specs.Databases.{IsDatabaseOf, IsProgram}
 use Rattle.mv_record.specs.Paths.{PathsRise}
 use Rattle.mv_record.specs.declared.record.Record.{Record}
-use Rattle.mv_recorded.specs.Doing.{itself}
+use Rattle.mv_record.specs.Writes.{AreRising}
+use Rattle.mv_recorded.specs.Alike.{ReadsAlike}
+use Rattle.mv_recorded.specs.Doing.{effect_of, itself}
 use Rattle.mv_recorded.specs.Effect.{TellsEffect, HasColumns}
+use Rattle.mv_recorded.specs.Own.{AllOwn, Bare, SetSuits, ground_of}
+use Rattle.mv_recorded.specs.Posts.{IsAt, path_above}
 use Rattle.mv_recorded.specs.Recorded.{Site, own_record, recorded, meaning}
+use Rattle.mv_recorded.specs.Typed.{IsEnvOf}
 
 -- they tell the reply and the database after the call, where the keys of each table rise
 abbrev pub MeaningsTell : Type 0
@@ -43,3 +53,38 @@ ColumnsThere = (tables : List TableInfo) (s : RStmt-F RStmt) (vars : Vars) → s
 -- a statement leaves each row under its own values of the key columns
 abbrev pub KeysKept : Type 0
 KeysKept = (tables : List TableInfo) (s : RStmt-F RStmt) (st next : State) → KeysStand tables st.tables → itself tables s st ≡ Ok next → KeysStand tables next.tables
+
+-- a well formed statement whose variables hold values of their types leaves them so, and a database of its tables one
+abbrev pub DatabaseKept : Type 0
+DatabaseKept =
+    (tables : List TableInfo) (s : RStmt-F RStmt) (vars : Vars) (st next : State) → stmt_step tables RStmt (λ s. s) (IsWell tables) s vars → IsEnvOf vars st.env → IsDatabaseOf tables st.tables → itself tables s st ≡ Ok next
+    → IsEnvOf vars next.env × IsDatabaseOf tables next.tables
+
+-- so do the first records of a full run, however many
+abbrev pub FrontsAreDatabases : Type 0
+FrontsAreDatabases =
+    (tables : List TableInfo) (proc : ProcInfo) (call : Call) (db : Tables) → IsProcedure tables proc → AllZip Suits proc.params call.arguments → IsDatabaseOf tables db
+    → (front rest : List Record) → recorded tables proc call db ≡ front ++ rest → IsDatabaseOf tables (applied (writes_in front) db)
+
+-- and the calls of a program, in whatever order they run
+abbrev pub TablesAfterAre : Type 0
+TablesAfterAre = (p : Program) → IsProgram p → (order : List ℕ) (k : ℕ) → IsDatabaseOf p.resolved.tables (table_after p order k)
+
+-- each record of a full run is the own record of a statement of the procedure, in the state that the records before it lead to, where
+-- the keys of each table rise
+abbrev pub RecordsAreOwn : Type 0
+RecordsAreOwn =
+    (tables : List TableInfo) (proc : ProcInfo) (call : Call) (db : Tables) → IsProcedure tables proc → length call.arguments ≡ length proc.params → AreRising db
+    → AllOwn (ground_of tables proc call db) [] (recorded tables proc call db)
+
+-- what a statement does rests on what it reads, on databases of its tables
+abbrev pub EffectsRest : Type 0
+EffectsRest = (tables : List TableInfo) (s : Bare) (st new : State) → HasColumns s → SetSuits tables s → ReadsAlike tables s st new → effect_of tables s st ≡ effect_of tables s new
+
+-- records of one run, or of two runs of a procedure, have equal paths exactly where their places are equal; then their controllers have
+-- equal paths too
+abbrev pub OnePlaceOnePath : Type 0
+OnePlaceOnePath =
+    (tables others : List TableInfo) (proc : ProcInfo) (call other : Call) (db new : Tables) (i j : ℕ) (o r : Record) (p q : List ℕ)
+    → IsAt (recorded tables proc call db) i o p → IsAt (recorded others proc other new) j r q
+    → (p ≡ q → o.spot ≡ r.spot) × (o.spot ≡ r.spot → p ≡ q) × (p ≡ q → path_above (recorded tables proc call db) o ≡ path_above (recorded others proc other new) r)

@@ -4,5 +4,9 @@ pub mod Doing
 pub mod Effects
 pub mod Recorded
 pub mod Effect
+pub mod Typed
 pub mod Examples
+pub mod Own
+pub mod Alike
+pub mod Posts
 pub mod Laws

@@ -1,7 +1,7 @@
 //! What holds of the records of every full run, of whatever procedure, call and database.
 
 ghost use Rattle.mv_recorded.specs.Examples.{AddsFive, AddOverflows, UpdateOverflows, LooksInVain, Transfers, TransferRollsBack, AddsUp, Closes, ReadsTwice, DividesByZero};
-ghost use Rattle.mv_recorded.specs.Laws.{MeaningsTell, NamesEarlierOnes, PathsAreInOrder, EffectsTold, ColumnsThere, KeysKept};
+ghost use Rattle.mv_recorded.specs.Laws.{MeaningsTell, NamesEarlierOnes, PathsAreInOrder, EffectsTold, ColumnsThere, KeysKept, DatabaseKept, FrontsAreDatabases, TablesAfterAre, RecordsAreOwn, EffectsRest, OnePlaceOnePath};
 
 /// On a database whose keys rise, the records tell the reply of the call, its lines or its end, and the database after
 /// it.
@@ -34,6 +34,33 @@ pub fn effects_are_told()
 #[tactic(auto, using(crate::proofs::Standing::itself_stands))]
 pub fn keys_are_kept()
     ensures { KeysKept }
+{}
+
+/// On a database of its tables a well formed statement, each front of a full run and each call of a program leave one: as
+/// many tables, rising keys, each row under its own key and with the values that its table wants.
+pub fn databases_are_kept()
+    ensures statement { DatabaseKept }
+    ensures fronts { FrontsAreDatabases }
+    ensures calls { TablesAfterAre }
+{}
+
+/// Each record of a full run is the own record of a statement of the procedure, executed in the state that the records
+/// before it lead to.
+pub fn records_are_their_statements()
+    ensures { RecordsAreOwn }
+{}
+
+/// What a statement does rests on what it reads: on the variables in its expressions, on the parameter whose rows a FOR
+/// goes through, and of the rows that its predicates find on the keys and the selected columns.
+#[tactic(auto, using(crate::proofs::Congruent::congruent))]
+pub fn effects_rest_on_what_is_read()
+    ensures { EffectsRest }
+{}
+
+/// Records of one run, or of two runs of a procedure, have equal paths exactly where their places are equal. Then their
+/// controllers have equal paths too.
+pub fn one_place_has_one_path()
+    ensures { OnePlaceOnePath }
 {}
 
 /// The records of small procedures, worked out by hand.

@@ -1,29 +1,25 @@
 -- What a call comes to, by the records of its full run.
 use Rattle.std.proofs.Common.{◌≡◌, ◌≤◌, ◌<◌, ℕ, zero, suc, List, [], ◌∷◌, Option, Some, None, length, map, slice_get, refl, sym, ap, subst, ◌∙◌, arith}
-use Rattle.std.specs.List.{All}
+use Rattle.std.specs.List.{All, AllZip}
 use Rattle.std.proofs.lemmas.Slice.Zip.{AllZip-long}
 use Rattle.std.specs.Prelude.{slice_index_or}
 use Rattle.mv_values.specs.declared.calls.Call.{Call}
-use Rattle.mv_values.specs.declared.calls.End.{End}
 use Rattle.mv_values.specs.declared.schema.TableInfo.{TableInfo}
-use Rattle.mv_values.specs.Patching.{applied}
-use Rattle.mv_values.specs.Tables.{KeysStand}
 use Rattle.mv_catalog.specs.declared.resolved.ProcInfo.{ProcInfo}
 use Rattle.mv_catalog.specs.declared.resolved.Program.{Program}
 use Rattle.mv_catalog.specs.Text.{FitsText, IsCall, IsProcedure, Suits}
 use Rattle.mv_alone.specs.Alone.{alone}
 use Rattle.mv_alone.specs.TableAfter.{Tables, begun, outcome, outcome_at, outcome_in}
 use Rattle.mv_record.specs.declared.record.Record.{Record}
-use Rattle.mv_record.specs.Runs.{end_in, writes_in}
 use Rattle.mv_record.specs.Writes.{AreRising}
-use Rattle.mv_record.proofs.Patching.{length_applied, rising_applied}
 use Rattle.mv_recorded.specs.Recorded.{records, records_at, records_in}
 use Rattle.mv_recorded.proofs.Meant.{meaning_tells}
+use Rattle.mv_recorded.proofs.Fronts.{left_is}
 use Rattle.mv_graph.specs.declared.graph.Graph.{Graph}
 use Rattle.mv_graph.specs.Nodes.{IsSound, meaning_of}
 use Rattle.mv_compile.specs.Compiled.{graph_of, graphs_of}
 use Rattle.mv_record.specs.Databases.{IsDatabaseOf}
-use Rattle.mv_run.specs.Told.{reply_told, tables_with, tables_told}
+use Rattle.mv_run.specs.Told.{reply_told, tables_told}
 use Rattle.mv_run.proofs.Telling.{reply_is_told, tables_are_told}
 
 -- the records of a full run tell its reply
@@ -34,13 +30,9 @@ told_reply g call db rs rise is = ap reply_told is ∙ sym (reply_is_told db (me
 pub told_tables : (g : Graph) (call : Call) (db : Tables) (rs : List Record) → AreRising db → rs ≡ (meaning_of g call db).records → tables_told rs db ≡ (meaning_of g call db).tables
 told_tables g call db rs rise is = ap (λ qs. tables_told qs db) is ∙ sym (tables_are_told db (meaning_of g call db) (meaning_tells g.tables g.procedure call db rise))
 
--- which has a part for each table again, and rows under their keys
-pub told_database : (tables : List TableInfo) (rs : List Record) (db : Tables) → IsDatabaseOf tables db → KeysStand tables (applied (writes_in rs) db) → IsDatabaseOf tables (tables_told rs db)
-told_database tables rs db h keys = by (end_in rs)
-  where
-    by : (o : Option End) → IsDatabaseOf tables (tables_with o rs db)
-    by None = record { size = length_applied (writes_in rs) db ∙ h.size; rising = rising_applied (writes_in rs) db h.rising; keys = keys }
-    by (Some e) = h
+-- which is one of the same tables
+pub left_database : (g : Graph) (call : Call) (db : Tables) → IsSound g → AllZip Suits g.procedure.params call.arguments → IsDatabaseOf g.tables db → IsDatabaseOf g.tables (meaning_of g call db).tables
+left_database g call db sound suits h = left_is g.tables g.procedure call db sound.procedure suits h
 
 -- What stands at a place
 
@@ -73,6 +65,7 @@ not_none (y ∷ xs) (suc n) lt h = not_none xs n (omega (arith, lt)) h
 pub record GoesBy (p : Program) (n : ℕ) (call : Call) (g : Graph) : Type 0 where
   pub sound : IsSound g
   pub few : length call.arguments ≤ 16
+  pub suits : AllZip Suits g.procedure.params call.arguments
   pub tables : g.tables ≡ p.resolved.tables
   pub outcome : (db : Tables) → outcome p n db ≡ alone g.tables g.procedure.body (begun g.procedure call db)
   pub records : (db : Tables) → records p n db ≡ (meaning_of g call db).records
@@ -81,12 +74,13 @@ called : (p : Program) (n : ℕ) (call : Call) → FitsText p.resolved → slice
 called p n call fits h = holds_at (IsCall p.resolved.procedures) p.resolved.calls n call fits.calls h
 
 goes : (p : Program) (n : ℕ) (call : Call) (proc : ProcInfo) → FitsText p.resolved → slice_get p.resolved.calls n ≡ Some call → slice_get p.resolved.procedures call.procedure ≡ Some proc
-    → length proc.params ≡ length call.arguments → GoesBy p n call (graph_of p.resolved.tables proc)
-goes p n call proc fits h k same =
+    → AllZip Suits proc.params call.arguments → GoesBy p n call (graph_of p.resolved.tables proc)
+goes p n call proc fits h k suits =
     let whole : IsProcedure p.resolved.tables proc = holds_at (IsProcedure p.resolved.tables) p.resolved.procedures call.procedure proc fits.procedures k in
     record {
       sound = record { few = fits.few; tables = fits.tables; procedure = whole };
-      few = omega (arith, same, whole.few);
+      few = omega (arith, AllZip-long Suits proc.params call.arguments suits, whole.few);
+      suits = suits;
       tables = refl;
       outcome = λ db. ap (λ o. outcome_at p o db) h ∙ ap (λ o. outcome_in p o call db) k;
       records = λ db. ap (λ o. records_at p o db) h ∙ ap (λ o. records_in p o call db) k;
@@ -96,7 +90,7 @@ pub goes_by : (p : Program) (n : ℕ) (call : Call) (g : Graph) → FitsText p.r
 goes_by p n call g fits h k =
     let is : IsCall p.resolved.procedures call = called p n call fits h in
     let made : g ≡ graph_of p.resolved.tables is.0 = made_at (graph_of p.resolved.tables) p.resolved.procedures call.procedure is.0 g is.1 k in
-    subst (GoesBy p n call) (sym made) (goes p n call is.0 fits h is.1 (sym (AllZip-long Suits is.0.params call.arguments is.2)))
+    subst (GoesBy p n call) (sym made) (goes p n call is.0 fits h is.1 is.2)
 
 -- the procedure of a call has a graph
 pub has_graph : (p : Program) (n : ℕ) (call : Call) → FitsText p.resolved → slice_get p.resolved.calls n ≡ Some call → slice_get (graphs_of p.resolved) call.procedure ≡ None → ⊥

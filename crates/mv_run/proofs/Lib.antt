@@ -2,4 +2,3 @@ pub mod Telling
 pub mod Numbers
 pub mod InOrder
 pub mod Calling
-pub mod Rising

@@ -1,8 +1,9 @@
 //! One call, executed over the database that those before it left.
 
 ghost use Rattle.std.specs.Prelude.{◌≡◌, ◌≤◌, length, IfOk, OnOk};
+ghost use Rattle.std.specs.List.{AllZip};
+ghost use Rattle.mv_catalog.specs.Text.{Suits};
 ghost use Rattle.mv_record.specs.Databases.{IsDatabaseOf};
-ghost use Rattle.mv_exec.specs.Graphs.{KeepsKeys};
 ghost use Rattle.mv_graph.specs.Nodes.{IsSound, meaning_of};
 
 use crate::told::{commit, reply_of};
@@ -29,7 +30,6 @@ fn execute(alloc: Global, graph: &Graph, call: &Call, database: &Database) -> Re
     requires few { length call.now.arguments ≤ 16 }
     requires database { IsDatabaseOf graph.now.tables database.now }
     ensures records { IfOk result (λ task. task.records ≡ (meaning_of graph.now call.now database.now).records) }
-    ensures keys { IfOk result (λ task. KeepsKeys graph.now task database.now) }
 {
     let mut task = Task::new(alloc, graph, call)?;
     let mut view = Plain::new(database);
@@ -50,6 +50,7 @@ pub(crate) fn run_call(
 ) -> Result<Answer, NoMemory>
     requires sound { IsSound graph.now }
     requires few { length call.now.arguments ≤ 16 }
+    requires suits { AllZip Suits graph.now.procedure.params call.now.arguments }
     requires database { IsDatabaseOf graph.now.tables database.old }
     ensures reply { IfOk result (λ answer. answer.reply ≡ (meaning_of graph.now call.now database.old).reply) }
     ensures count { IfOk result (λ answer. answer.count ≡ length (meaning_of graph.now call.now database.old).records) }

@@ -2,14 +2,10 @@
 
 ghost use Rattle.std.specs.Prelude.{◌≡◌, ◌<◌, length, slice_get, IfOk, OnOk};
 ghost use Rattle.std.specs.Option.{option_copied};
-ghost use Rattle.mv_values.specs.Keys.{IsRising};
-ghost use Rattle.mv_values.specs.Tables.{rows_at};
-ghost use Rattle.mv_record.specs.Writes.{AreRising};
-ghost use Rattle.mv_catalog.specs.Fits.{Fits};
 ghost use Rattle.mv_catalog.specs.Text.{FitsText};
 ghost use Rattle.mv_alone.specs.TableAfter.{outcome, tables_left, reply_in, table_after, call_order, RepliesOf};
 ghost use Rattle.mv_compile.specs.Compiled.{graphs_of};
-ghost use Rattle.mv_record.specs.Databases.{IsDatabaseOf};
+ghost use Rattle.mv_record.specs.Databases.{IsDatabaseOf, IsProgram};
 ghost use Rattle.mv_recorded.specs.Recorded.{records};
 ghost use Rattle.mv_run.specs.Counts.{CountsOf};
 
@@ -21,7 +17,7 @@ use mv_values::calls::{Call, Reply};
 use mv_values::copied::Copied;
 use mv_values::list::List;
 use mv_values::memory::NoMemory;
-use mv_values::rows::{Database, Keyed};
+use mv_values::rows::Database;
 use std::alloc::Global;
 
 /// What calls came to that ran one after another: the reply of each, how many records it left, and the last tables.
@@ -72,31 +68,10 @@ fn run_number(
     run_call(alloc, graph, call, database)
 }
 
-/// The rows of a table, none where there is no such table.
-fn rows_in(database: &Database, table: usize) -> &[Keyed]
-    ensures rising { IsRising (rows_at database.now table) }
-{
-    match database.as_slice().get(table) {
-        Some(rows) => rows.as_slice(),
-        None => &[],
-    }
-}
-
-/// Walks over the tables, in each of which the keys rise.
-fn walk_tables(database: &Database)
-    ensures { AreRising database.now }
-{
-    for table in 0..database.len() {
-        let _rows = rows_in(database, table);
-    }
-}
-
 /// Runs all calls of a program in the order of the script, each over the database that the one before left. It costs the
 /// calls' work, and for each procedure the square of the number of its statements.
 pub fn run_calls(alloc: Global, program: &Program) -> Result<Ran, NoMemory>
-    requires whole { FitsText program.now.resolved }
-    requires sized { length program.now.opening ≡ length program.now.resolved.tables }
-    requires fits { Fits program.now }
+    requires whole { IsProgram program.now }
     ensures tables { IfOk result (λ ran. ran.tables ≡ table_after program.now (call_order program.now) (length program.now.resolved.calls)) }
     ensures len { IfOk result (λ ran. length ran.replies ≡ length program.now.resolved.calls) }
     ensures replies { IfOk result (λ ran. RepliesOf program.now (call_order program.now) ran.replies) }
@@ -105,7 +80,6 @@ pub fn run_calls(alloc: Global, program: &Program) -> Result<Ran, NoMemory>
 {
     let graphs = compile(alloc, &program.resolved)?;
     let mut tables = program.opening.copy(alloc)?;
-    walk_tables(&tables);
     let mut replies = List::new(alloc);
     let mut counts = List::new(alloc);
     for number in 0..program.resolved.calls.len() {

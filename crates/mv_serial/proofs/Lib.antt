@@ -6,10 +6,5 @@ pub mod Placing
 pub mod Removing
 pub mod Standing
 pub mod Lawful
-pub mod Fitting
-pub mod Valued
-pub mod RowsTyped
-pub mod RunsTyped
-pub mod CallsTyped
 pub mod Calling
 pub mod Turning

@@ -1,2 +1,1 @@
 pub mod Undoing
-pub mod Typed

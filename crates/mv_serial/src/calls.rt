@@ -3,9 +3,7 @@
 ghost use Rattle.std.specs.Prelude.{◌≡◌, [], Some, IfOk, length, replicate};
 ghost use Rattle.mv_alone.specs.Alone.{alone};
 ghost use Rattle.mv_values.specs.Tables.{KeysStand};
-ghost use Rattle.mv_catalog.specs.Fits.{Fits};
-ghost use Rattle.mv_catalog.specs.Text.{FitsText};
-ghost use Rattle.mv_serial.specs.Typed.{TablesTyped};
+ghost use Rattle.mv_record.specs.Databases.{IsProgram};
 ghost use Rattle.mv_serial.specs.Undoing.{undone, CanUndo};
 ghost use Rattle.mv_alone.specs.TableAfter.{no_reply, outcome, begun, tables_left, reply_in, table_after, IsOrder, RepliesOf, OthersSilent, StoppedUnchanged};
 
@@ -140,15 +138,13 @@ fn silent(alloc: Global, count: usize) -> Result<List<Reply>, NoMemory>
 
 /// Runs calls alone in this order. A call that doesn't stand in it has a reply of no lines.
 pub fn run_alone(alloc: Global, program: &Program, order: &[u32]) -> Result<Serial, NoMemory>
-    requires fits { Fits program.now }
+    requires whole { IsProgram program.now }
     requires order { IsOrder program.now order.now }
     ensures tables { IfOk result (λ s. s.tables ≡ table_after program.now order.now (length order.now)) }
     ensures len { IfOk result (λ s. length s.replies ≡ length program.now.resolved.calls) }
     ensures replies { IfOk result (λ s. RepliesOf program.now order.now s.replies) }
     ensures others { IfOk result (λ s. OthersSilent program.now order.now s.replies) }
     ensures stopped { IfOk result (λ s. StoppedUnchanged program.now order.now s.replies) }
-    ensures keys { IfOk result (λ s. KeysStand program.now.resolved.tables s.tables) }
-    ensures typed { FitsText program.now.resolved → TablesTyped program.now.resolved.tables program.now.opening → IfOk result (λ s. TablesTyped program.now.resolved.tables s.tables) }
 {
     let mut tables = program.opening.copy(alloc)?;
     let mut replies = silent(alloc, program.resolved.calls.len())?;

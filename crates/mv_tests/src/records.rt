@@ -4,11 +4,10 @@ ghost use Rattle.std.specs.Prelude.{◌≡◌, ◌≤◌, ◌∷◌, [], IsTrue,
 ghost use Rattle.std.specs.Option.{option_copied};
 ghost use Rattle.mv_values.specs.Columns.{columns_of};
 ghost use Rattle.mv_values.specs.Patching.{applied};
-ghost use Rattle.mv_values.specs.Tables.{key_columns};
-ghost use Rattle.mv_catalog.specs.Text.{FitsText};
+ghost use Rattle.mv_values.specs.Tables.{KeysStand, key_columns};
 ghost use Rattle.mv_record.specs.Runs.{writes_in};
 ghost use Rattle.mv_graph.specs.Nodes.{IsSound};
-ghost use Rattle.mv_record.specs.Databases.{IsDatabaseOf};
+ghost use Rattle.mv_record.specs.Databases.{IsDatabaseOf, IsProgram};
 ghost use Rattle.mv_exec.specs.Graphs.{Runs};
 
 use crate::whole::{ensure, joined};
@@ -375,9 +374,9 @@ fn is_one_table(tables: &[TableInfo]) -> bool
 }
 
 /// Whether there is one table of this kind, and these are its rows, under their own keys.
-#[tactic(auto, using(crate::proofs::OneTable::is_database))]
-fn is_sound(tables: &[TableInfo], database: &Database) -> bool
-    ensures { IsTrue result → IsDatabaseOf tables.now database.now }
+#[tactic(auto, using(crate::proofs::OneTable::keys_stand))]
+fn have_keys(tables: &[TableInfo], database: &Database) -> bool
+    ensures { IsTrue result → KeysStand tables.now database.now }
 {
     is_one_table(tables) && database.len() == 1 && have_own_keys(rows_in(database, 0))
 }
@@ -393,29 +392,28 @@ fn behind(alloc: Global, database: &Database, records: &[Record]) -> Result<Data
     Ok(database)
 }
 
-/// Whether they are rows of one table, before and behind the writes of records.
-fn are_sound(
+/// Whether the rows of one table stand under their own keys behind the writes of records.
+fn keep_keys(
     alloc: Global,
     graph: &Graph,
     database: &Database,
     records: &[Record],
 ) -> Result<bool, NoMemory>
-    ensures before { IfOk result (λ are. IsTrue are → IsDatabaseOf graph.now.tables database.now) }
-    ensures behind { IfOk result (λ are. IsTrue are → IsDatabaseOf graph.now.tables (applied (writes_in records.now) database.now)) }
+    ensures { IfOk result (λ keep. IsTrue keep → KeysStand graph.now.tables (applied (writes_in records.now) database.now)) }
 {
     let behind = behind(alloc, database, records)?;
-    let tables = graph.tables.as_slice();
-    Ok(is_sound(tables, database) && is_sound(tables, &behind))
+    Ok(have_keys(graph.tables.as_slice(), &behind))
 }
 
 /// Executes what is left of a call over a database: one statement by `next`, and the others by `finish`.
 fn execute(alloc: Global, graph: &Graph, task: &mut Task, database: &Database) -> Result<(), Fail>
     requires sound { IsSound graph.now }
+    requires database { IsDatabaseOf graph.now.tables database.now }
     requires runs { Runs graph.now task.old }
     ensures runs { Runs graph.now task.new }
 {
-    if !are_sound(alloc, graph, database, task.records())? {
-        return Err("no database of one table".into());
+    if !keep_keys(alloc, graph, database, task.records())? {
+        return Err("rows under other keys".into());
     }
     let mut view = Plain::new(database);
     let stepped = next(alloc, graph, task, &mut view).or(Err("no step"))?;
@@ -499,6 +497,7 @@ fn run_behind(
     given: &[Record],
 ) -> Result<Task, Fail>
     requires sound { IsSound graph.now }
+    requires database { IsDatabaseOf graph.now.tables database.now }
     ensures runs { IfOk result (Runs graph.now) }
 {
     let mut task = begun(alloc, graph, call)?;
@@ -528,6 +527,7 @@ fn adopts(
     want: &str,
 ) -> Result<(), Fail>
     requires sound { IsSound graph.now }
+    requires database { IsDatabaseOf graph.now.tables database.now }
     requires count { count ≤ length records.now }
 {
     let executed = records.len().checked_sub(count);
@@ -545,6 +545,7 @@ fn adopts_each(
     want: &str,
 ) -> Result<(), Fail>
     requires sound { IsSound graph.now }
+    requires database { IsDatabaseOf graph.now.tables database.now }
 {
     for count in 0..=records.len() {
         adopts(alloc, graph, call, database, records, count, want)?;
@@ -560,6 +561,7 @@ fn records_of(
     database: &Database,
 ) -> Result<List<Record>, Fail>
     requires sound { IsSound graph.now }
+    requires database { IsDatabaseOf graph.now.tables database.now }
 {
     let mut task = run_behind(alloc, graph, call, database, &[])?;
     Ok(task.restart(alloc))
@@ -574,6 +576,7 @@ fn check(
     want: &str,
 ) -> Result<(), Fail>
     requires sound { IsSound graph.now }
+    requires database { IsDatabaseOf graph.now.tables database.now }
 {
     let records = records_of(alloc, graph, call, database)?;
     are_told(alloc, records.as_slice(), want)?;
@@ -581,13 +584,14 @@ fn check(
 }
 
 fn accepted(alloc: Global, script: &str) -> Result<Program, Fail>
-    ensures { IfOk result (λ program. FitsText program.resolved) }
+    ensures { IfOk result IsProgram }
 {
     Ok(accept(alloc, script.as_bytes()).or(Err("refused"))?)
 }
 
 fn check_only(alloc: Global, program: &Program, graphs: &[Graph], want: &str) -> Result<(), Fail>
     requires sound { All IsSound graphs.now }
+    requires databases { All (λ graph. IsDatabaseOf graph.tables program.now.opening) graphs.now }
 {
     let calls = program.resolved.calls.as_slice();
     let ([graph], [call]) = (graphs, calls) else {
@@ -598,7 +602,7 @@ fn check_only(alloc: Global, program: &Program, graphs: &[Graph], want: &str) ->
 
 /// Has the only call of a program leave these records.
 fn leaves(alloc: Global, program: &Program, want: &str) -> Result<(), Fail>
-    requires { FitsText program.now.resolved }
+    requires { IsProgram program.now }
 {
     let graphs = compile(alloc, &program.resolved)?;
     check_only(alloc, program, graphs.as_slice(), want)

@@ -3,8 +3,7 @@
 ghost use Rattle.std.specs.Prelude.{◌≡◌, ◌≤◌, length, IfOk, IfErr, MatchResult};
 ghost use Rattle.mv_accept.specs.declared.refusal.Refusal.{Refusal as Why};
 ghost use Rattle.mv_accept.specs.Accepting.{Accepts, Refuses, most_calls};
-ghost use Rattle.mv_catalog.specs.Fits.{Fits};
-ghost use Rattle.mv_catalog.specs.Text.{FitsText};
+ghost use Rattle.mv_record.specs.Databases.{IsProgram};
 ghost use Rattle.mv_catalog.specs.declared.resolved.Program.{Program};
 ghost use Rattle.mv_top.specs.Answers.{IsTextFor, text_for, HasCause, IsToldBy};
 
@@ -47,9 +46,7 @@ pub fn answer<R: Threads + Wait + Sync, P: Pace>(
 
 /// What a command makes of a program.
 fn text_of(alloc: Global, command: &Command, program: &Program) -> Result<List<u8>, NoMemory>
-    requires whole { FitsText program.now.resolved }
-    requires sized { length program.now.opening ≡ length program.now.resolved.tables }
-    requires fits { Fits program.now }
+    requires whole { IsProgram program.now }
     requires few { length program.now.resolved.calls ≤ most_calls }
     ensures { IfOk result (λ text. text ≡ text_for command.now program.now) }
 {

@@ -1,7 +1,7 @@
 //! The graphs of a program's procedures.
 
 ghost use Rattle.std.specs.Prelude.{◌≡◌, IfOk};
-ghost use Rattle.mv_catalog.specs.Text.{FitsText};
+ghost use Rattle.mv_record.specs.Databases.{IsProgram};
 ghost use Rattle.mv_top.specs.Graphs.{graphs};
 
 use mv_catalog::resolved::Program;
@@ -14,7 +14,7 @@ use std::alloc::Global;
 /// Which statements each statement of a program may depend on. It takes time in the square of the number of a
 /// procedure's statements.
 pub(crate) fn graph_text(alloc: Global, program: &Program) -> Result<List<u8>, NoMemory>
-    requires { FitsText program.now.resolved }
+    requires whole { IsProgram program.now }
     ensures { IfOk result (λ text. text ≡ graphs program.now) }
 {
     let graphs = compile(alloc, &program.resolved)?;

@@ -2,7 +2,7 @@
 
 ghost use Rattle.std.specs.Prelude.{◌≡◌, ◌≤◌, length, IfOk};
 ghost use Rattle.mv_accept.specs.Accepting.{most_calls};
-ghost use Rattle.mv_catalog.specs.Fits.{Fits};
+ghost use Rattle.mv_record.specs.Databases.{IsProgram};
 ghost use Rattle.mv_alone.specs.TableAfter.{first_numbers};
 ghost use Rattle.mv_top.specs.Serial.{serial};
 
@@ -27,7 +27,7 @@ fn numbers_below(alloc: Global, count: u32) -> Result<List<u32>, NoMemory>
 /// The replies of the calls of a program, each run alone behind those before it, and the last tables. It costs the
 /// calls' work.
 pub(crate) fn serial_text(alloc: Global, program: &Program) -> Result<List<u8>, NoMemory>
-    requires fits { Fits program.now }
+    requires whole { IsProgram program.now }
     requires few { length program.now.resolved.calls ≤ most_calls }
     ensures { IfOk result (λ text. text ≡ serial program.now) }
 {

@@ -2,8 +2,7 @@
 
 ghost use Rattle.std.specs.Prelude.{◌≡◌, ◌≤◌, ◌<◌, ◌^◌, length, IfOk};
 ghost use Rattle.std.specs.List.{flat_map};
-ghost use Rattle.mv_catalog.specs.Fits.{Fits};
-ghost use Rattle.mv_catalog.specs.Text.{FitsText};
+ghost use Rattle.mv_record.specs.Databases.{IsProgram};
 ghost use Rattle.mv_accept.specs.Accepting.{most_calls};
 ghost use Rattle.mv_alone.specs.TableAfter.{first_numbers};
 ghost use Rattle.mv_top.specs.History.{outcome_of, in_turn, turn};
@@ -55,9 +54,7 @@ fn journal_of(alloc: Global, calls: u32) -> Result<List<Event>, NoMemory>
 /// What the calls of a program come to, each executed over the database that the one before left, in the order of the
 /// script. It costs the calls' work, and for each procedure the square of the number of its statements.
 pub(crate) fn run_in_turn(alloc: Global, program: &Program) -> Result<Outcome, NoMemory>
-    requires whole { FitsText program.now.resolved }
-    requires sized { length program.now.opening ≡ length program.now.resolved.tables }
-    requires fits { Fits program.now }
+    requires whole { IsProgram program.now }
     requires few { length program.now.resolved.calls ≤ most_calls }
     ensures { IfOk result (λ outcome. outcome ≡ outcome_of program.now (in_turn program.now)) }
 {

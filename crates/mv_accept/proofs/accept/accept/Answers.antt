@@ -18,6 +18,9 @@ returns-in-Ok-opening-clause-exact c =
     passed (StandsFor c.args.bytes.now) (StandsForNothing c.args.bytes.now) (Opens c.args.bytes.now) (HasNoRows c.args.bytes.now) c.in-Ok.resolved (Ok _) c.in-Ok.ensures.exact
     (opened c.args.bytes.now c.in-Ok.resolved c.in-Ok-opening.opening c.in-Ok-opening.ensures.opened c.in-Ok-opening.ensures.only c.in-Ok-opening.ensures.told)
 
+pub returns-in-Ok-opening-clause-whole : goal.returns-in-Ok-opening-clause-whole
+returns-in-Ok-opening-clause-whole c = record { text = c.in-Ok.ensures.whole; opening = c.in-Ok-opening.ensures.database c.in-Ok.ensures.whole }
+
 pub returns-in-Ok-opening-clause-few : goal.returns-in-Ok-opening-clause-few
 returns-in-Ok-opening-clause-few c = few c.args.bytes.now c.in-Ok.resolved c.in-Ok.ensures.exact.found
 

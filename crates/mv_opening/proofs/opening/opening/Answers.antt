@@ -2,8 +2,7 @@ use Rattle.std.proofs.Common.{Ok, rules}
 use Rattle.std.proofs.lemmas.Result.{err_from_is_err_and}
 use Rattle.mv_opening.specs.Opening.{IsOpening}
 use Rattle.mv_opening.proofs.Once.{opening_only, opening_told}
-use Rattle.mv_opening.proofs.Opened.{opening_sized}
-use Rattle.mv_opening.proofs.Stands.{opening_fits, opening_stands}
+use Rattle.mv_opening.proofs.Stands.{opening_is}
 use Rattle.mv_opening.proofs.opening.opening.Goals as goal
 
 pub returns-in_err-tables-clause-only : goal.returns-in_err-tables-clause-only
@@ -26,17 +25,7 @@ returns-clause-told c =
     let is : IsOpening c.args.resolved.now c.args.bytes.now c.in_ok-into_database.field-0 = search (rules, c.in_ok-tables.ensures) in
     opening_told c.args.resolved.now c.args.bytes.now (Ok c.in_ok-into_database.field-0) is
 
-pub returns-clause-fits : goal.returns-clause-fits
-returns-clause-fits c =
+pub returns-clause-database : goal.returns-clause-database
+returns-clause-database c = λ text.
     let is : IsOpening c.args.resolved.now c.args.bytes.now c.in_ok-into_database.field-0 = search (rules, c.in_ok-tables.ensures) in
-    opening_stands c.args.resolved.now c.args.bytes.now c.in_ok-into_database.field-0 is
-
-pub returns-clause-typed : goal.returns-clause-typed
-returns-clause-typed c = λ fit.
-    let is : IsOpening c.args.resolved.now c.args.bytes.now c.in_ok-into_database.field-0 = search (rules, c.in_ok-tables.ensures) in
-    opening_fits c.args.resolved.now c.args.bytes.now c.in_ok-into_database.field-0 fit is
-
-pub returns-clause-sized : goal.returns-clause-sized
-returns-clause-sized c =
-    let is : IsOpening c.args.resolved.now c.args.bytes.now c.in_ok-into_database.field-0 = search (rules, c.in_ok-tables.ensures) in
-    opening_sized c.args.resolved.now c.args.bytes.now c.in_ok-into_database.field-0 is
+    opening_is c.args.resolved.now c.args.bytes.now c.in_ok-into_database.field-0 text is

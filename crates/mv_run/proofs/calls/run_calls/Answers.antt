@@ -1,17 +1,18 @@
 use Rattle.std.proofs.Common.{◌≡◌, rules, length, List, ap, sym, subst, ◌∙◌}
-use Rattle.mv_values.specs.declared.rows.Keyed.{Keyed}
-use Rattle.mv_values.specs.Tables.{KeysStand}
+use Rattle.mv_record.specs.Databases.{IsDatabaseOf}
 use Rattle.mv_run.proofs.Numbers.{length_map_numbers}
 use Rattle.mv_run.proofs.InOrder.{reply_to, count_of, tables_told, replies_told, counts_told}
 use Rattle.mv_run.proofs.calls.run_calls.Goals as goal
 
+pub compile-requires : goal.compile-requires
+compile-requires c = c.requires.whole.text
+
+pub run_number-requires-clause-whole : goal.run_number-requires-clause-whole
+run_number-requires-clause-whole c = c.requires.whole.text
+
 pub loop-number-init : goal.loop-number-init
 loop-number-init c = record {
-  database = record {
-    size = ap length c.in_ok-tables.ensures ∙ c.requires.sized;
-    rising = c.walk_tables.ensures;
-    keys = subst (λ (db : List (List Keyed)). KeysStand c.args.program.now.resolved.tables db) (sym c.in_ok-tables.ensures) c.requires.fits;
-  };
+  database = subst (IsDatabaseOf c.args.program.now.resolved.tables) (sym c.in_ok-tables.ensures) c.requires.whole.opening;
   tables = c.in_ok-tables.ensures;
   replies = c.new-replies.ensures;
   counts = c.new-counts.ensures;

@@ -27,6 +27,12 @@ run_call-requires-clause-few c =
     (subst (λ (gs : List Graph). slice_get gs c.in-Some.call.now.procedure ≡ Some c.in-Some-graph_for.graph.now) c.requires.graphs (sym c.in-Some-graph_for.ensures)) in
     g.few
 
+pub run_call-requires-clause-suits : goal.run_call-requires-clause-suits
+run_call-requires-clause-suits c =
+    let g = goes_by c.args.program.now c.args.number c.in-Some.call.now c.in-Some-graph_for.graph.now c.requires.whole (sym c.in-Some.ensures)
+    (subst (λ (gs : List Graph). slice_get gs c.in-Some.call.now.procedure ≡ Some c.in-Some-graph_for.graph.now) c.requires.graphs (sym c.in-Some-graph_for.ensures)) in
+    g.suits
+
 pub run_call-requires-clause-database : goal.run_call-requires-clause-database
 run_call-requires-clause-database c =
     let g = goes_by c.args.program.now c.args.number c.in-Some.call.now c.in-Some-graph_for.graph.now c.requires.whole (sym c.in-Some.ensures)

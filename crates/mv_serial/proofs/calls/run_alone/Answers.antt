@@ -1,9 +1,15 @@
 use Rattle.std.proofs.Common.{◌≡◌, ◌<◌, rules, length, ap, sym, subst, ◌∙◌}
+use Rattle.mv_values.specs.Tables.{KeysStand}
 use Rattle.mv_serial.proofs.InTurn.{length_replies, all_replied, others_silent, place_within}
 use Rattle.mv_serial.proofs.Lawful.{stopped_unchanged}
-use Rattle.mv_serial.proofs.CallsTyped.{after_typed}
-use Rattle.mv_serial.specs.Typed.{TablesTyped}
 use Rattle.mv_serial.proofs.calls.run_alone.Goals as goal
+
+pub loop-i-init : goal.loop-i-init
+loop-i-init c = record {
+  keys = subst (KeysStand c.args.program.now.resolved.tables) (sym c.in_ok-tables.ensures) c.requires.whole.opening.keys;
+  tables = c.in_ok-tables.ensures;
+  replies = c.in_ok-replies.ensures;
+}
 
 pub set-requires : goal.set-requires
 set-requires c =
@@ -25,7 +31,3 @@ returns-clause-others c =
 
 pub returns-clause-stopped : goal.returns-clause-stopped
 returns-clause-stopped c = stopped_unchanged c.args.program.now c.args.order.now c.loop-i.replies (returns-clause-replies c)
-
-pub returns-clause-typed : goal.returns-clause-typed
-returns-clause-typed c fits typed =
-    subst (TablesTyped c.args.program.now.resolved.tables) (sym c.loop-i.invariant.tables) (after_typed c.args.program.now fits c.args.order.now typed c.loop-i.i)

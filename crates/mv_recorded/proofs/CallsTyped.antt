@@ -1,4 +1,4 @@
--- Calls leave rows that suit their tables.
+-- The variables that a call begins with hold values of their types.
 use Rattle.std.proofs.Common.{◌≡◌, ℕ, zero, suc, ◌+◌, List, [], ◌∷◌, ◌++◌, Option, Some, None, Result, Ok, Err, refl, sym, subst, map, length, slice_get, slice_index_or, arith, IfOk, length-append}
 use Rattle.std.proofs.lemmas.List.{length-map}
 use Rattle.std.proofs.lemmas.List.Elements.{All-weaker}
@@ -23,10 +23,8 @@ use Rattle.mv_alone.specs.declared.state.State.{State}
 use Rattle.mv_alone.specs.Env.{unset}
 use Rattle.mv_alone.specs.Alone.{alone}
 use Rattle.mv_alone.specs.TableAfter.{Tables, argument_held, entered, begun, outcome_in, outcome_at, outcome, tables_left, table_after}
-use Rattle.mv_serial.specs.Typed.{TablesTyped}
-use Rattle.mv_serial.proofs.Fitting.{OfKinds, Holds, Fit}
-use Rattle.mv_serial.proofs.RowsTyped.{all_get, kind_is, row_kinds}
-use Rattle.mv_serial.proofs.RunsTyped.{Kept, alone_kept}
+use Rattle.mv_recorded.specs.Typed.{OfKinds, Holds, IsEnvOf}
+use Rattle.mv_recorded.proofs.RowsTyped.{kind_is, row_kinds}
 
 zip_append : {A B : Type 0} (R : A → B → Type 0) (xs xs' : List A) (ys ys' : List B) → AllZip R xs ys → AllZip R xs' ys' → AllZip R (xs ++ xs') (ys ++ ys')
 zip_append R [] xs' [] ys' h k = k
@@ -37,8 +35,6 @@ zip_append R (x ∷ xs) xs' (y ∷ ys) ys' h k = (h.0, zip_append R xs xs' ys ys
 last_at : {A : Type 0} (xs : List A) (x : A) → slice_get (xs ++ x ∷ []) (length xs) ≡ Some x
 last_at [] x = refl
 last_at (y ∷ ys) x = last_at ys x
-
--- The variables that a call begins with
 
 argument_holds : (q : ParamInfo) (a : Argument) → Suits q a → Holds (param_var q) (argument_held a)
 argument_holds (param.One type) (argument.One v) h = kind_is type v h
@@ -80,38 +76,9 @@ module _ (proc : ProcInfo) (call : Call) (suits : AllZip Suits proc.params call.
   found_place =
       omega (arith, length-append params declareds, length-map proc.params param_var, length-map proc.defaults (λ v. declared (kind_of_value v)), AllZip-long Suits proc.params call.arguments suits)
 
-  entered_fits : Fit (vars_of proc) (entered proc call)
+  pub entered_fits : IsEnvOf (vars_of proc) (entered proc call)
   unfolding params declareds
   entered_fits = record {
     holds = holds_at (own_vars proc) (entered proc call).held all_hold;
     found = subst (λ n. slice_get (own_vars proc) n ≡ Some (fixed int)) found_place (last_at (params ++ declareds) (fixed int));
   }
-
--- The tables that calls leave
-
-left_typed : (tables : List TableInfo) (vars : Vars) (db : Tables) (r : Result State End) → TablesTyped tables db → IfOk r (Kept tables vars) → TablesTyped tables (tables_left db r)
-left_typed tables vars db (Ok st) h k = k.typed
-left_typed tables vars db (Err e) h k = h
-
-module _ (p : Program) (fits : FitsText p.resolved) where
-  call_typed : (call : Call) (db : Tables) → IsCall p.resolved.procedures call → TablesTyped p.resolved.tables db
-      → TablesTyped p.resolved.tables (tables_left db (outcome_in p (slice_get p.resolved.procedures call.procedure) call db))
-  call_typed call db is typed =
-      let proc = is.0 in
-      let own : IsProcedure p.resolved.tables proc = all_get (IsProcedure p.resolved.tables) p.resolved.procedures call.procedure proc fits.procedures is.1 in
-      let began : Kept p.resolved.tables (vars_of proc) (begun proc call db) = record { fit = entered_fits proc call is.2; typed = typed } in
-      subst (λ o. TablesTyped p.resolved.tables (tables_left db (outcome_in p o call db))) (sym is.1)
-      (left_typed p.resolved.tables (vars_of proc) db (alone p.resolved.tables proc.body (begun proc call db)) typed
-      (alone_kept p.resolved.tables proc.body (vars_of proc) own.body (begun proc call db) began))
-
-  outcome_typed : (c : ℕ) (db : Tables) → TablesTyped p.resolved.tables db → TablesTyped p.resolved.tables (tables_left db (outcome p c db))
-  outcome_typed c db typed = by (slice_get p.resolved.calls c) refl
-    where
-      by : (o : Option Call) → slice_get p.resolved.calls c ≡ o → TablesTyped p.resolved.tables (tables_left db (outcome_at p o db))
-      by None at = typed
-      by (Some call) at = call_typed call db (all_get (IsCall p.resolved.procedures) p.resolved.calls c call fits.calls at) typed
-
-  -- rows that suit their tables at the opening do so after each call
-  pub after_typed : (order : List ℕ) → TablesTyped p.resolved.tables p.opening → (k : ℕ) → TablesTyped p.resolved.tables (table_after p order k)
-  after_typed order typed zero = typed
-  after_typed order typed (suc k) = outcome_typed (slice_index order k) (table_after p order k) (after_typed order typed k)

@@ -26,7 +26,7 @@ use Rattle.mv_alone.specs.Outcome.{then_do}
 use Rattle.mv_alone.specs.Env.{held_at, scalar_in, turn_in, truth}
 use Rattle.mv_alone.specs.Value as value
 use Rattle.mv_alone.specs.Value.{value_of, is_so, number, Meaning, kind_step, expr_step, fitted, quotient, remainder, joined, one_of, both_of, two_of, needs_right}
-use Rattle.mv_serial.proofs.Fitting.{OfKinds, Holds, Fit}
+use Rattle.mv_recorded.specs.Typed.{OfKinds, Holds, IsEnvOf}
 
 abbrev pub IsKind : Kind → Value → Type 0
 IsKind k v = kind_of_value v ≡ k
@@ -127,7 +127,7 @@ value_is d env row =
     ∙ (ap (λ f. f env row) (fold-roll-RExpr Meaning Meaning kind_step expr_step (record { kind = roll-RExprKind d }))
     ∙ ap (λ f. f env row) (fold-roll-RExprKind Meaning Meaning kind_step expr_step d))
 
-module _ (vars : Vars) (columns : List Kind) (env : Env) (row : List Value) (fit : Fit vars env) (typed : OfKinds columns row) where
+module _ (vars : Vars) (columns : List Kind) (env : Env) (row : List Value) (fit : IsEnvOf vars env) (typed : OfKinds columns row) where
   step_kind : (d : RExprKind-F RExprKind RExpr) (t : Kind)
       → types.kind_step vars columns RExprKind RExpr (λ y. y) (λ y. y) (HasKind vars columns) (HasType vars columns) d t
       → IfOk (kind_step (map-RExprKind RExprKind RExpr Meaning Meaning kind_value value_of d) env row) (IsKind t)

@@ -17,7 +17,9 @@ use Rattle.mv_catalog.specs.declared.resolved.RStmt.TheViews.{roll-RStmt}
 use Rattle.mv_catalog.specs.declared.resolved.RStmt.TheFolds.{fold-roll-RStmt, map-RStmt, ind-RStmt}
 use Rattle.mv_values.specs.Tables.{key_columns, columns_in, columns_at, rows_at}
 use Rattle.mv_catalog.specs.Types.{Kind, declared, rows, Vars}
-use Rattle.mv_catalog.specs.Statements.{all_well, IsWell, kinds_of, Gives, with_turn}
+use Rattle.mv_catalog.specs.Statements.{all_well, IsWell, Well, kinds_of, Gives, with_turn}
+use Rattle.mv_recorded.specs.Doing.{itself, fixed_rows}
+use Rattle.mv_recorded.proofs.Setting.{then_ok as goes_on}
 use Rattle.mv_catalog.specs.Statements as well
 use Rattle.mv_catalog.specs.Text.{IsRow, types_of}
 use Rattle.mv_catalog.proofs.Typed.{well_by}
@@ -33,22 +35,23 @@ use Rattle.mv_alone.specs.Changes.{set_row, updated, without, new_row, put_row, 
 use Rattle.mv_alone.specs.Line.{line_of}
 use Rattle.mv_alone.specs.Alone.{Does, all_of, each_turn, matches, with_rows, offset_of, taken, totalled, fixed, is_turn, loop_over, does, alone, stmt_step}
 use Rattle.mv_alone.specs.Alone as alone'
-use Rattle.mv_serial.specs.Typed.{TablesTyped}
-use Rattle.mv_serial.proofs.Fitting.{OfKinds, Fit, fit_value, fit_found, fit_turn, fit_behind}
-use Rattle.mv_serial.proofs.Valued.{IsKind}
-use Rattle.mv_serial.proofs.RowsTyped.{HasRow, MayHave, then_ok, then_any, fixed_kinds, taken_fits, aggregate_kind, gives_kind, new_row_is, set_row_is, updated_all, put_row_all, rows_typed, tables_set}
+use Rattle.mv_record.specs.Databases.{AreTyped, HasRow}
+use Rattle.mv_recorded.specs.Typed.{OfKinds, IsEnvOf}
+use Rattle.mv_recorded.proofs.Typing.{fit_value, fit_found, fit_turn, fit_behind}
+use Rattle.mv_recorded.proofs.Valued.{IsKind}
+use Rattle.mv_recorded.proofs.RowsTyped.{MayHave, then_ok, then_any, fixed_kinds, taken_fits, aggregate_kind, gives_kind, new_row_is, set_row_is, updated_all, put_row_all, rows_typed, tables_set}
 
 module _ (tables : List TableInfo) where
   -- the variables hold values of their types, and the rows suit their tables
   pub record Kept (vars : Vars) (st : State) : Type 0 where
-    pub fit : Fit vars st.env
-    pub typed : TablesTyped tables st.tables
+    pub fit : IsEnvOf vars st.env
+    pub typed : AreTyped tables st.tables
 
   -- a state whose variables and tables alone matter
-  kept : (vars : Vars) (st : State) → Fit vars st.env → TablesTyped tables st.tables → Kept vars st
+  kept : (vars : Vars) (st : State) → IsEnvOf vars st.env → AreTyped tables st.tables → Kept vars st
   kept vars st fit typed = record { fit = fit; typed = typed }
 
-  matches_all : (vars : Vars) (st : State) (n : ℕ) (table : TableInfo) (checks : List Check) → Kept vars st → slice_get tables n ≡ Some table → All (HasRow table) (matches n checks st)
+  pub matches_all : (vars : Vars) (st : State) (n : ℕ) (table : TableInfo) (checks : List Check) → Kept vars st → slice_get tables n ≡ Some table → All (HasRow table) (matches n checks st)
   matches_all vars st n table checks k at = All-filter (λ (item : Keyed). meets checks item.row) (HasRow table) (rows_at st.tables n) (rows_typed tables st.tables n table k.typed at)
 
   -- other rows for a table
@@ -72,7 +75,7 @@ module _ (tables : List TableInfo) where
       (λ m. kept vars (record st { env = env' checks m })
       (taken_fits table vars st.env cs xs sorts (matches n checks st) (number m) k.fit (matches_all vars st n table checks k h.0.1) h.0.2.0) k.typed))
 
-  totalled_fits : (vars : Vars) (env : Env) (x : ℕ) (t : Kind) (o : Option Value) → Fit vars env → vars x ≡ Some (declared t) → MayHave t o → Fit vars (totalled x o env)
+  totalled_fits : (vars : Vars) (env : Env) (x : ℕ) (t : Kind) (o : Option Value) → IsEnvOf vars env → vars x ≡ Some (declared t) → MayHave t o → IsEnvOf vars (totalled x o env)
   totalled_fits vars env x t None fit at has = fit
   totalled_fits vars env x t (Some v) fit at has = fit_value vars env x t v fit at has
 
@@ -189,10 +192,41 @@ module _ (tables : List TableInfo) where
       subst (λ z. Claim (roll-RStmt z)) is
       (λ vars h. subst (Keeps vars) (sym (fold-roll-RStmt Does (stmt_step tables) d)) (step_kept y vars (well_by tables d (roll-RStmt d) vars refl h)))
 
-  stmt_kept : (s : RStmt) → Claim s
-  stmt_kept = ind-RStmt Claim rolled
+  pub does_kept : (s : RStmt) → Claim s
+  does_kept = ind-RStmt Claim rolled
 
   -- statements of which each is well formed
   pub alone_kept : (ss : List RStmt) (vars : Vars) → all_well (IsWell tables) ss vars → Keeps vars (alone tables ss)
   alone_kept [] vars h st k = k
-  alone_kept (s ∷ ss) vars h st k = then_ok (does tables s st) (alone tables ss) (Kept vars) (Kept vars) (stmt_kept s vars h.0 st k) (λ st' k'. alone_kept ss vars h.1 st' k')
+  alone_kept (s ∷ ss) vars h st k = then_ok (does tables s st) (alone tables ss) (Kept vars) (Kept vars) (does_kept s vars h.0 st k) (λ st' k'. alone_kept ss vars h.1 st' k')
+
+  -- The rows of a loop over a table
+
+  pub chosen_kinds : {X : Type 0} (v : X → RStmt) (w : X → Well) (x : ℕ) (once : Bool) (cs : List ℕ) (n : ℕ) (conds : List RCond) (sorts : List RSort) (body : List X) (vars : Vars) (st : State) (all : List (List Value))
+      → (h : well.stmt_step tables X v w (open'.ForSelect x once cs n conds sorts body) vars) → Kept vars st → fixed_rows (open'.ForSelect x once cs n conds sorts body) st ≡ Ok all → All (OfKinds h.2.3.0) all
+  chosen_kinds v w x once cs n conds sorts body vars st all h k is =
+      let table = h.0 in
+      let c = goes_on (checks_of conds st.env) (λ checks. Ok (fixed once cs sorts (matches n checks st))) all is in
+      subst (All (OfKinds h.2.3.0)) (same_rows c.2) (fixed_kinds table once cs sorts h.2.3.0 (matches n c.0 st) h.2.3.1 (matches_all vars st n table c.0 k h.1))
+    where
+      same_rows : {a b : List (List Value)} → ◌≡◌ {A = Result (List (List Value)) End} (Ok a) (Ok b) → a ≡ b
+      same_rows e = cc
+
+  -- A statement itself, without what it holds
+
+  pub itself_kept : {X : Type 0} (v : X → RStmt) (w : X → Well) (y : open'.RStmt-F X) (vars : Vars) (st : State) → well.stmt_step tables X v w y vars → Kept vars st → IfOk (itself tables y st) (Kept vars)
+  itself_kept v w (open'.Assign x e) vars st h k = assign_kept x e vars st h k
+  itself_kept v w (open'.Select cs xs n conds sorts offset) vars st h k = select_kept cs xs n conds sorts offset vars st h k
+  itself_kept v w (open'.Total agg x n conds) vars st h k = total_kept agg x n conds vars st h k
+  itself_kept v w (open'.ForSelect x once cs n conds sorts body) vars st h k =
+      then_any (fixed_rows (open'.ForSelect x once cs n conds sorts body) st) (λ all. Ok (record st { env = with_found st.env (is_turn all) })) (Kept vars)
+      (λ all. kept vars (record st { env = with_found st.env (is_turn all) }) (fit_found vars st.env (is_turn all) k.fit) k.typed)
+  itself_kept v w (open'.ForRows x y body) vars st h k =
+      let all : List (List Value) = turns_at st.env y in
+      kept vars (record st { env = with_found st.env (is_turn all) }) (fit_found vars st.env (is_turn all) k.fit) k.typed
+  itself_kept v w (open'.Branch e ys ns) vars st h k = then_any (value_of e st.env []) (λ v. Ok st) (Kept vars) (λ v. k)
+  itself_kept v w (open'.Insert n es) vars st h k = insert_kept n es vars st h k
+  itself_kept v w (open'.Update n items conds) vars st h k = update_kept n items conds vars st h k
+  itself_kept v w (open'.Delete n conds) vars st h k = delete_kept n conds vars st h k
+  itself_kept v w (open'.Print es) vars st h k = print_kept es vars st k
+  itself_kept v w (open'.Rollback reason) vars st h k = tt

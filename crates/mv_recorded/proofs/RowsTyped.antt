@@ -38,10 +38,11 @@ use Rattle.mv_alone.specs.Rows.{meets, sorted, ordered, sort_order, item_at, put
 use Rattle.mv_alone.specs.Changes.{with_column, set_row, updated, new_row, put_row, put_row_by}
 use Rattle.mv_alone.specs.Alone.{fixed, taken}
 use Rattle.mv_alone.specs.TableAfter.{Tables}
-use Rattle.mv_serial.specs.Typed.{TablesTyped}
-use Rattle.mv_serial.proofs.Fitting.{OfKinds, Fit, fit_value, fit_found}
+use Rattle.mv_record.specs.Databases.{AreTyped, HasRow}
+use Rattle.mv_recorded.specs.Typed.{OfKinds, IsEnvOf}
+use Rattle.mv_recorded.proofs.Typing.{fit_value, fit_found}
 use Rattle.mv_alone.proofs.Ranking.{put_all}
-use Rattle.mv_serial.proofs.Valued.{IsKind, fitted_kind, value_kind}
+use Rattle.mv_recorded.proofs.Valued.{IsKind, fitted_kind, value_kind}
 
 -- going on with a value of which something holds
 pub then_ok : {A B : Type 0} (r : Result A End) (go : A → Result B End) (P : A → Type 0) (Q : B → Type 0) → IfOk r P → ((x : A) → P x → IfOk (go x) Q) → IfOk (then_do r go) Q
@@ -60,9 +61,6 @@ pub all_get : {X : Type 0} (P : X → Type 0) (xs : List X) (n : ℕ) (x : X) �
 all_get P xs n x all at = subst P (get_or_from_slice_get xs n x x at) (All-get_or P xs n x (slice_get_within xs n x at) all)
 
 -- Rows
-
-abbrev pub HasRow : TableInfo → Keyed → Type 0
-HasRow table item = IsRow (types_of table) item.row
 
 pub kind_is : (type : ColType) (v : Value) → IsOf type v → IsKind (kind_of_column type) v
 kind_is column'.Int (Int z) h = refl
@@ -119,16 +117,16 @@ module _ (table : TableInfo) where
   fixed_kinds false cs sorts ts rows h all = projected_kinds cs ts (ordered sorts rows) h (sorted_all (sort_order sorts) (HasRow table) rows all)
 
   -- SELECT INTO
-  values_fit : (vars : Vars) (env : Env) (row : List Value) (cs xs : List ℕ) → Fit vars env → OfKinds (kinds_of table) row → AllZip (Takes vars (kinds_of table)) cs xs
-      → Fit vars (with_values env xs (columns_of row cs))
+  values_fit : (vars : Vars) (env : Env) (row : List Value) (cs xs : List ℕ) → IsEnvOf vars env → OfKinds (kinds_of table) row → AllZip (Takes vars (kinds_of table)) cs xs
+      → IsEnvOf vars (with_values env xs (columns_of row cs))
   values_fit vars env row [] [] fit typed h = fit
   values_fit vars env row [] (x ∷ xs) fit typed h = absurd h
   values_fit vars env row (c ∷ cs) [] fit typed h = absurd h
   values_fit vars env row (c ∷ cs) (x ∷ xs) fit typed h =
       values_fit vars (with_value env x (column_of row c)) row cs xs (fit_value vars env x h.0.0 (column_of row c) fit h.0.2 (typed c h.0.0 h.0.1)) typed h.1
 
-  taken_by : (vars : Vars) (env : Env) (cs xs : List ℕ) (o : Option Keyed) → Fit vars env → ((item : Keyed) → o ≡ Some item → HasRow table item) → AllZip (Takes vars (kinds_of table)) cs xs
-      → Fit vars (taken cs xs o env)
+  taken_by : (vars : Vars) (env : Env) (cs xs : List ℕ) (o : Option Keyed) → IsEnvOf vars env → ((item : Keyed) → o ≡ Some item → HasRow table item) → AllZip (Takes vars (kinds_of table)) cs xs
+      → IsEnvOf vars (taken cs xs o env)
   taken_by vars env cs xs None fit has h = fit_found vars env false fit
   taken_by vars env cs xs (Some item) fit has h =
       fit_found vars (with_values env xs (columns_of item.row cs)) true (values_fit vars env item.row cs xs fit (table_kinds table item.row (has item refl)) h)
@@ -137,8 +135,8 @@ module _ (table : TableInfo) where
   item_all rows (pos n) item all h = all_get (HasRow table) rows n item all h
   item_all rows (negsuc n) item all h = cc
 
-  pub taken_fits : (vars : Vars) (env : Env) (cs xs : List ℕ) (sorts : List RSort) (rows : List Keyed) (z : ℤ) → Fit vars env → All (HasRow table) rows → AllZip (Takes vars (kinds_of table)) cs xs
-      → Fit vars (taken cs xs (item_at (ordered sorts rows) z) env)
+  pub taken_fits : (vars : Vars) (env : Env) (cs xs : List ℕ) (sorts : List RSort) (rows : List Keyed) (z : ℤ) → IsEnvOf vars env → All (HasRow table) rows → AllZip (Takes vars (kinds_of table)) cs xs
+      → IsEnvOf vars (taken cs xs (item_at (ordered sorts rows) z) env)
   taken_fits vars env cs xs sorts rows z fit all h =
       taken_by vars env cs xs (item_at (ordered sorts rows) z) fit (λ item. item_all (ordered sorts rows) z item (sorted_all (sort_order sorts) (HasRow table) rows all)) h
 
@@ -230,7 +228,7 @@ column_set columns keys c v row h s = by (list_any (λ k. k == c) keys)
     by true = h
     by false = cell_set (map (λ (x : Column). x.kind) columns) row c s.type v h s.at s.is
 
-module _ (vars : Vars) (env : Env) (fit' : Fit vars env) where
+module _ (vars : Vars) (env : Env) (fit' : IsEnvOf vars env) where
   no_columns : OfKinds [] []
   no_columns c k at = cc
 
@@ -297,14 +295,14 @@ module _ (table : TableInfo) where
           then_ok (put_row new items) (λ rest. Ok (item ∷ rest)) (All (HasRow table)) (All (HasRow table)) later
           (λ rest h. All-cons (HasRow table) item rest (All-head (HasRow table) item items all) h)
 
-pub rows_typed : (tables : List TableInfo) (db : Tables) (n : ℕ) (table : TableInfo) → TablesTyped tables db → slice_get tables n ≡ Some table → All (HasRow table) (rows_at db n)
+pub rows_typed : (tables : List TableInfo) (db : Tables) (n : ℕ) (table : TableInfo) → AreTyped tables db → slice_get tables n ≡ Some table → All (HasRow table) (rows_at db n)
 rows_typed [] db n table h at = cc
 rows_typed (t ∷ ts) [] n table h at = absurd h
 rows_typed (t ∷ ts) (rows ∷ db) zero table h at = subst (λ u. All (HasRow u) rows) (some_is t table at) h.0
 rows_typed (t ∷ ts) (rows ∷ db) (suc n) table h at = rows_typed ts db n table h.1 at
 
-pub tables_set : (tables : List TableInfo) (db : Tables) (n : ℕ) (table : TableInfo) (rows : List Keyed) → TablesTyped tables db → slice_get tables n ≡ Some table → All (HasRow table) rows
-    → TablesTyped tables (slice_set db n rows)
+pub tables_set : (tables : List TableInfo) (db : Tables) (n : ℕ) (table : TableInfo) (rows : List Keyed) → AreTyped tables db → slice_get tables n ≡ Some table → All (HasRow table) rows
+    → AreTyped tables (slice_set db n rows)
 tables_set [] db n table rows h at all = cc
 tables_set (t ∷ ts) [] n table rows h at all = absurd h
 tables_set (t ∷ ts) (r ∷ db) zero table rows h at all = (subst (λ u. All (HasRow u) rows) (sym (some_is t table at)) all, h.1)

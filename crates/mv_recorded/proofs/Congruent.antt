@@ -1,0 +1,397 @@
+-- A statement does the same where what it reads and what its predicate finds are the same.
+use Rattle.std.proofs.Common.{◌≡◌, ◌≤◌, inl, inr, ℕ, ℤ, zero, suc, Bool, true, false, ◌==◌, cond, not, List, [], ◌∷◌, ◌++◌, Option, Some, None, Result, Ok, Err, map, length, refl, sym, ap, subst, ◌∙◌, arith}
+use Rattle.std.specs.List.{filter, flat_map}
+use Rattle.mv_values.specs.declared.value.Value.{Value}
+use Rattle.mv_values.specs.declared.rows.Keyed.{Keyed}
+use Rattle.mv_values.specs.declared.pred.Pred.{Pred}
+use Rattle.mv_values.specs.declared.patch.Write.{Write}
+use Rattle.mv_values.specs.declared.patch.Patch.TheVariants as patch
+use Rattle.mv_values.specs.declared.schema.TableInfo.{TableInfo}
+use Rattle.mv_values.specs.declared.calls.End.{End}
+use Rattle.mv_values.specs.Columns.{columns_of}
+use Rattle.mv_values.specs.Patching.{found_by}
+use Rattle.mv_values.specs.Tables.{columns_at, key_columns, rows_at}
+use Rattle.mv_catalog.specs.declared.resolved.RAgg.{RAgg}
+use Rattle.mv_catalog.specs.declared.resolved.RCond.{RCond}
+use Rattle.mv_catalog.specs.declared.resolved.RExpr.{RExpr}
+use Rattle.mv_catalog.specs.declared.resolved.RSort.{RSort}
+use Rattle.mv_catalog.specs.declared.resolved.RSetItem.{RSetItem}
+use Rattle.mv_catalog.specs.declared.resolved.RStmt.{RStmt}
+use Rattle.mv_catalog.specs.declared.resolved.RStmt.TheOpen.{RStmt-F, Assign, Select, Total, ForSelect, ForRows, Branch, Insert, Update, Delete, Print, Rollback}
+use Rattle.mv_alone.specs.declared.state.Check.{Check}
+use Rattle.mv_alone.specs.declared.state.Env.{Env}
+use Rattle.mv_alone.specs.declared.state.Held.TheVariants.{Scalar}
+use Rattle.mv_alone.specs.declared.state.State.{State}
+use Rattle.mv_alone.specs.Outcome.{then_do}
+use Rattle.mv_alone.specs.Env.{held_at, scalar_in, scalar_at, turns_in, truth, with_held, with_value, with_values, with_found, turns_at}
+use Rattle.mv_alone.specs.Value.{value_of, values_of, number}
+use Rattle.mv_alone.specs.Rows.{checks_of, ordered, item_at, matching, aggregate, is_some_row, distinct}
+use Rattle.mv_alone.specs.Changes.{new_row}
+use Rattle.mv_alone.specs.Alone.{fixed, is_turn}
+use Rattle.mv_recorded.specs.Asking.{pred_of, with_sorts, column_in, columns_in, preds_of, same_key}
+use Rattle.mv_recorded.specs.Effect.{HasColumns}
+use Rattle.mv_recorded.specs.Reading.{each_once, variables, expressions, rights}
+use Rattle.mv_record.specs.declared.effect.Effect.{Effect}
+use Rattle.mv_recorded.specs.Doing.{effect_of}
+use Rattle.mv_recorded.specs.Effects.{asks, asked_by, asked_then, row_number, taking, totalling, going, writing, inserting, slots_behind, changes, new_of}
+use Rattle.mv_recorded.proofs.Chosen.{asked_of, both_asked, select_goes, select_unasked, total_done, for_goes}
+use Rattle.mv_recorded.proofs.Altered.{delete_goes, update_done, insert_done}
+use Rattle.mv_recorded.proofs.Matching.{matching_all}
+use Rattle.mv_recorded.specs.Own.{Bare, Each, Within, SetSuits}
+use Rattle.mv_recorded.specs.Alike.{Agree, Alike, SeenAlike, ReadsAlike}
+use Rattle.mv_record.specs.Databases.{AreTyped, HasRow, IsDatabaseOf}
+use Rattle.mv_catalog.specs.Text.{IsOf, types_of}
+use Rattle.mv_values.specs.declared.schema.Column.{Column}
+use Rattle.std.specs.Prelude.{All}
+use Rattle.std.proofs.lemmas.List.{length-map}
+use Rattle.std.proofs.lemmas.List.Elements.{All-head, All-tail}
+use Rattle.std.proofs.lemmas.Slice.Zip.{AllZip-long}
+use Rattle.mv_recorded.proofs.Slots.{get_same}
+use Rattle.mv_recorded.proofs.Held.{held_alike}
+use Rattle.mv_recorded.proofs.Values.{value_alike, values_alike, checks_alike, offset_alike, new_row_alike}
+use Rattle.mv_recorded.proofs.Alike.{ItemAlike, agree_parts, agree_once, columns_same, alike_by, ordered_alike, item_alike, projected_same, some_same, aggregate_same, deletes_same, changes_same, Plain}
+
+-- Variables
+
+slots_same : (e f : Env) (ns : List ℕ) → Agree e f ns → slots_behind e ns ≡ slots_behind f ns
+slots_same e f [] h = refl
+slots_same e f (n ∷ ns) h = ap (λ v. record { slot = n; value = scalar_in v } ∷ slots_behind e ns) h.0 ∙ ap (λ l. record { slot = n; value = scalar_at f n } ∷ l) (slots_same e f ns h.1)
+
+found_at : (e : Env) (b : Bool) → held_at (with_found e b) e.found ≡ Scalar (truth b)
+found_at e b = get_same e.held e.found (Scalar (truth b))
+
+-- `:found` is the same behind both
+found_agrees : (e f : Env) (b : Bool) (n : ℕ) → e.found ≡ n → f.found ≡ n → held_at (with_found e b) n ≡ held_at (with_found f b) n
+found_agrees e f b n p q = subst (λ m. held_at (with_found e b) m ≡ Scalar (truth b)) p (found_at e b) ∙ sym (subst (λ m. held_at (with_found f b) m ≡ Scalar (truth b)) q (found_at f b))
+
+found_alike : (e f : Env) (b : Bool) (x : ℕ) → e.found ≡ f.found → held_at e x ≡ held_at f x → held_at (with_found e b) x ≡ held_at (with_found f b) x
+found_alike e f b x same h = held_alike e f e.found (Scalar (truth b)) x h ∙ ap (λ n. held_at (with_held f n (Scalar (truth b))) x) same
+
+-- only `:found` is set
+only_found : (e f : Env) (b : Bool) → e.found ≡ f.found → slots_behind (with_found e b) (e.found ∷ []) ≡ slots_behind (with_found f b) (f.found ∷ [])
+only_found e f b same =
+    slots_same (with_found e b) (with_found f b) (e.found ∷ []) (found_agrees e f b e.found refl (sym same), tt) ∙ ap (λ n. slots_behind (with_found f b) (n ∷ [])) same
+
+values_agree : (e f : Env) (xs : List ℕ) (vs : List Value) (x : ℕ) → held_at e x ≡ held_at f x → held_at (with_values e xs vs) x ≡ held_at (with_values f xs vs) x
+values_agree e f [] vs x h = h
+values_agree e f (y ∷ ys) [] x h = h
+values_agree e f (y ∷ ys) (v ∷ vs) x h = values_agree (with_value e y v) (with_value f y v) ys vs x (held_alike e f y (Scalar v) x h)
+
+values_set : (e f : Env) (xs : List ℕ) (vs : List Value) (x : ℕ) → Within x xs → length xs ≤ length vs → held_at (with_values e xs vs) x ≡ held_at (with_values f xs vs) x
+values_set e f [] vs x w le = absurd w
+values_set e f (y ∷ ys) [] x w le = absurd (omega (arith, le))
+values_set e f (y ∷ ys) (v ∷ vs) x (inl at) le =
+    values_agree (with_value e y v) (with_value f y v) ys vs x
+    (subst (λ z. held_at (with_value e y v) z ≡ held_at (with_value f y v) z) (sym at) (get_same e.held y (Scalar v) ∙ sym (get_same f.held y (Scalar v))))
+values_set e f (y ∷ ys) (v ∷ vs) x (inr w) le = values_set (with_value e y v) (with_value f y v) ys vs x w (omega (arith, le))
+
+values_found : (e : Env) (xs : List ℕ) (vs : List Value) → (with_values e xs vs).found ≡ e.found
+values_found e [] vs = refl
+values_found e (x ∷ xs) [] = refl
+values_found e (x ∷ xs) (v ∷ vs) = values_found (with_value e x v) xs vs
+
+each_within : (P : ℕ → Type 0) (xs : List ℕ) → ((x : ℕ) → Within x xs → P x) → Each P xs
+each_within P [] h = tt
+each_within P (x ∷ xs) h = (h x (inl refl), each_within P xs (λ y w. h y (inr w)))
+
+within_filter : (p : ℕ → Bool) (x : ℕ) (xs : List ℕ) → Within x (filter p xs) → Within x xs
+within_filter p x [] w = absurd w
+within_filter p x (y ∷ ys) w = by (within_filter p x ys) (p y) w
+  where
+    by : (Within x (filter p ys) → Within x ys) → (b : Bool) → Within x (cond b (y ∷ filter p ys) (filter p ys)) → Within x (y ∷ ys)
+    by go true (inl at) = inl at
+    by go true (inr w) = inr (go w)
+    by go false w = inr (go w)
+
+within_once : (x : ℕ) (xs : List ℕ) → Within x (each_once xs) → Within x xs
+within_once x [] w = absurd w
+within_once x (y ∷ ys) (inl at) = inl at
+within_once x (y ∷ ys) (inr w) = inr (within_once x ys (within_filter (λ m. not (m == y)) x (each_once ys) w))
+
+each_join : (P : ℕ → Type 0) (xs ys : List ℕ) → Each P xs → Each P ys → Each P (xs ++ ys)
+each_join P [] ys h k = k
+each_join P (x ∷ xs) ys h k = (h.0, each_join P xs ys h.1 k)
+
+long_columns : (row : List Value) (cs : List ℕ) → length (columns_of row cs) ≡ length cs
+long_columns row [] = refl
+long_columns row (c ∷ cs) = ap suc (long_columns row cs)
+
+-- Effects
+
+taking_same : (p : Pred) (cs xs : List ℕ) (a b : Option Keyed) (e f : Env) → length xs ≤ length cs → e.found ≡ f.found → ItemAlike cs a b → taking p cs xs a e ≡ taking p cs xs b f
+taking_same p cs xs None None e f le same h = ap (λ ss. record { preds = p ∷ []; sets = ss; rows = []; writes = []; line = None; end = None }) (only_found e f false same)
+taking_same p cs xs (Some a) (Some b) e f le same h =
+    let vs : List Value = columns_of a.row cs in
+    let ns : List ℕ = each_once xs ++ e.found ∷ [] in
+    let one : Env = with_values e xs vs in
+    let two : Env = with_values f xs vs in
+    let long : length xs ≤ length vs = omega (arith, le, long_columns a.row cs) in
+    let alike : Agree (with_found one true) (with_found two true) ns =
+    each_join (λ x. held_at (with_found one true) x ≡ held_at (with_found two true) x) (each_once xs) (e.found ∷ [])
+    (each_within (λ x. held_at (with_found one true) x ≡ held_at (with_found two true) x) (each_once xs)
+    (λ x w. found_alike one two true x (values_found e xs vs ∙ (same ∙ sym (values_found f xs vs))) (values_set e f xs vs x (within_once x xs w) long)))
+    (found_agrees one two true e.found (values_found e xs vs) (values_found f xs vs ∙ sym same), tt) in
+    ap (λ ss. record { preds = p ∷ []; sets = ss; rows = []; writes = []; line = None; end = None })
+    (slots_same (with_found one true) (with_found two true) ns alike
+    ∙ (ap (λ n. slots_behind (with_found two true) (each_once xs ++ n ∷ [])) same
+    ∙ ap (λ l. slots_behind (with_found (with_values f xs l) true) (each_once xs ++ f.found ∷ [])) (columns_same a.row b.row cs h)))
+taking_same p cs xs None (Some b) e f le same h = absurd h
+taking_same p cs xs (Some a) None e f le same h = absurd h
+
+totalling_same : (p : Pred) (x : ℕ) (o : Option Value) (b : Bool) (e f : Env) → e.found ≡ f.found → totalling p x o b e ≡ totalling p x o b f
+totalling_same p x None b e f same = ap (λ ss. record { preds = p ∷ []; sets = ss; rows = []; writes = []; line = None; end = None }) (only_found e f b same)
+totalling_same p x (Some v) b e f same =
+    let one : Env = with_value e x v in
+    let two : Env = with_value f x v in
+    ap (λ ss. record { preds = p ∷ []; sets = ss; rows = []; writes = []; line = None; end = None })
+    (slots_same (with_found one b) (with_found two b) (x ∷ e.found ∷ [])
+    (found_alike one two b x same (get_same e.held x (Scalar v) ∙ sym (get_same f.held x (Scalar v))), (found_agrees one two b e.found refl (sym same), tt))
+    ∙ ap (λ n. slots_behind (with_found two b) (x ∷ n ∷ [])) same)
+
+going_same : (p : Pred) (turns : List (List Value)) (e f : Env) → e.found ≡ f.found → going p turns e ≡ going p turns f
+going_same p turns e f same = ap (λ ss. record { preds = p ∷ []; sets = ss; rows = turns; writes = []; line = None; end = None }) (only_found e f (is_turn turns) same)
+
+writing_same : (p : Pred) (b : Bool) (ws : List Write) (e f : Env) → e.found ≡ f.found → writing p b ws e ≡ writing p b ws f
+writing_same p b ws e f same = ap (λ ss. record { preds = p ∷ []; sets = ss; rows = []; writes = ws; line = None; end = None }) (only_found e f b same)
+
+then_same : {A : Type 0} (p : Pred) (r : Result A End) (go back : A → Effect) → ((x : A) → go x ≡ back x) → asked_then p r go ≡ asked_then p r back
+then_same p (Ok x) go back h = h x
+then_same p (Err e) go back h = refl
+
+inserting_same : (tables : List TableInfo) (t : ℕ) (row : List Value) (p : Pred) (b : Bool) (e f : Env) → e.found ≡ f.found → inserting tables t row p b e ≡ inserting tables t row p b f
+inserting_same tables t row p true e f same = refl
+inserting_same tables t row p false e f same = writing_same p true _ e f same
+
+-- Statements
+
+abbrev parts : (e f : Env) (xs ys : List ℕ) → Agree e f (xs ++ ys) → Agree e f xs × Agree e f ys
+parts e f [] ys h = (tt, h)
+parts e f (x ∷ xs) ys h = let rest = parts e f xs ys h.1 in ((h.0, rest.0), rest.1)
+
+flat_parts : (e f : Env) (xs ys : List RExpr) → Agree e f (flat_map variables (xs ++ ys)) → Agree e f (flat_map variables xs) × Agree e f (flat_map variables ys)
+flat_parts e f [] ys h = (tt, h)
+flat_parts e f (x ∷ xs) ys h =
+    let hs = parts e f (variables x) (flat_map variables (xs ++ ys)) h in
+    let rest = flat_parts e f xs ys hs.1 in
+    (join (variables x) hs.0 rest.0, rest.1)
+  where
+    join : (as' : List ℕ) → Agree e f as' → Agree e f (flat_map variables xs) → Agree e f (as' ++ flat_map variables xs)
+    join [] h k = k
+    join (a ∷ as') h k = (h.0, join as' h.1 k)
+
+-- the rows that a predicate with these tests finds agree in the columns that were named
+seen_rows : (tables : List TableInfo) (t : ℕ) (checks : List Check) (cs : List ℕ) (p : Pred) (db new : List (List Keyed)) → p ≡ pred_of tables t checks cs → SeenAlike p db new
+    → Alike cs (matching [] (found_by p db)) (matching [] (found_by p new))
+seen_rows tables t checks cs p db new is h =
+    subst (λ l. Alike cs l (matching [] (found_by p new))) (sym (matching_all (found_by p db)))
+    (subst (λ l. Alike cs (found_by p db) l) (sym (matching_all (found_by p new)))
+    (alike_by (each_once cs) cs (λ a b. agree_once a b cs) (found_by p db) (found_by p new) (subst (λ ds. Alike ds (found_by p db) (found_by p new)) (ap (λ (q : Pred). q.columns) is) h)))
+
+fixed_same : (once : Bool) (cs : List ℕ) (sorts : List RSort) (xs ys : List Keyed) → Alike (with_sorts cs sorts) xs ys → fixed once cs sorts xs ≡ fixed once cs sorts ys
+fixed_same true cs sorts xs ys h = ap distinct (projected_same cs xs ys (alike_by (with_sorts cs sorts) cs (λ a b k. (agree_parts a b cs _ k).0) xs ys h))
+fixed_same false cs sorts xs ys h =
+    projected_same cs (ordered sorts xs) (ordered sorts ys) (alike_by (with_sorts cs sorts) cs (λ a b k. (agree_parts a b cs _ k).0) (ordered sorts xs) (ordered sorts ys) (ordered_alike cs sorts xs ys h))
+
+-- what is asked is the first of the predicates
+seen_of : (tables : List TableInfo) (s : RStmt-F RStmt) (st new : State) (p : Pred) (e : Effect) → e ≡ effect_of tables s st → e.preds ≡ p ∷ [] → Each (λ q. SeenAlike q st.tables new.tables) (preds_of tables s st)
+    → SeenAlike p st.tables new.tables
+seen_of tables s st new p e is asked h = (subst (Each (λ q. SeenAlike q st.tables new.tables)) (sym (ap (λ (e : Effect). e.preds) is) ∙ asked) h).0
+
+then_preds : {A : Type 0} (p : Pred) (r : Result A End) (go : A → Effect) → ((x : A) → (go x).preds ≡ p ∷ []) → (asked_then p r go).preds ≡ p ∷ []
+then_preds p (Ok x) go h = h x
+then_preds p (Err e) go h = refl
+
+abbrev SameEffect : List TableInfo → RStmt-F RStmt → State → State → Type 0
+SameEffect tables s st new = effect_of tables s st ≡ effect_of tables s new
+
+asks_same : (tables : List TableInfo) (t : ℕ) (conds : List RCond) (cs : List ℕ) (e f : Env) → Agree e f (flat_map variables (rights conds)) → asks tables t conds cs e ≡ asks tables t conds cs f
+asks_same tables t conds cs e f h = ap (λ r. then_do r (λ checks. Ok (pred_of tables t checks cs))) (checks_alike conds e f h)
+
+select_same : (tables : List TableInfo) (cs xs : List ℕ) (t : ℕ) (conds : List RCond) (sorts : List RSort) (offset : Option RExpr) (st new : State) → length xs ≤ length cs
+    → ReadsAlike tables (Select cs xs t conds sorts offset) st new → SameEffect tables (Select cs xs t conds sorts offset) st new
+select_same tables cs xs t conds sorts offset st new le m =
+    let hs = flat_parts st.env new.env (rights conds) _ m.reads in
+    by (asked_by (asks tables t conds (with_sorts cs sorts) st.env) (row_number offset st.env)) refl
+    (ap (λ r. asked_by r (row_number offset st.env)) (asks_same tables t conds (with_sorts cs sorts) st.env new.env hs.0)
+    ∙ ap (λ (o : Result Value End). asked_by (asks tables t conds (with_sorts cs sorts) new.env) (then_do o (λ v. Ok (number v)))) (offset_alike offset st.env new.env hs.1))
+  where
+    by : (q : Result (Pred × ℤ) Effect) → q ≡ asked_by (asks tables t conds (with_sorts cs sorts) st.env) (row_number offset st.env)
+        → asked_by (asks tables t conds (with_sorts cs sorts) st.env) (row_number offset st.env) ≡ asked_by (asks tables t conds (with_sorts cs sorts) new.env) (row_number offset new.env)
+        → SameEffect tables (Select cs xs t conds sorts offset) st new
+    by (Err e) is same = sym (select_unasked tables cs xs t conds sorts offset st.env st.tables e is st.lines) ∙ select_unasked tables cs xs t conds sorts offset new.env new.tables e (is ∙ same) new.lines
+    by (Ok q) is same =
+        let a = both_asked (asks tables t conds (with_sorts cs sorts) st.env) (row_number offset st.env) q is in
+        let b = both_asked (asks tables t conds (with_sorts cs sorts) new.env) (row_number offset new.env) q (is ∙ same) in
+        let one = select_goes tables cs xs t conds sorts offset st.env st.tables q.0 q.1 (found_by q.0 st.tables) a.0 a.1 refl st.lines in
+        let two = select_goes tables cs xs t conds sorts offset new.env new.tables q.0 q.1 (found_by q.0 new.tables) b.0 b.1 refl new.lines in
+        let asked = asked_of tables t conds (with_sorts cs sorts) st.env q.0 a.0 in
+        let seen : SeenAlike q.0 st.tables new.tables = seen_of tables (Select cs xs t conds sorts offset) st new q.0 _ one refl m.seen in
+        let rows = seen_rows tables t asked.checks (with_sorts cs sorts) q.0 st.tables new.tables asked.is seen in
+        let xs' = ordered sorts (matching [] (found_by q.0 st.tables)) in
+        let ys' = ordered sorts (matching [] (found_by q.0 new.tables)) in
+        let ordered' : Alike cs xs' ys' = alike_by (with_sorts cs sorts) cs (λ a b k. (agree_parts a b cs _ k).0) xs' ys' (ordered_alike cs sorts (matching [] (found_by q.0 st.tables)) (matching [] (found_by q.0 new.tables)) rows) in
+        sym one ∙ (taking_same q.0 cs xs (item_at xs' q.1) (item_at ys' q.1) st.env new.env le m.found (item_alike cs xs' ys' q.1 ordered') ∙ two)
+
+-- statements that ask by WHERE, where it has no value
+abbrev Unasked : List TableInfo → RStmt-F RStmt → State → State → List RCond → Type 0
+Unasked tables s st new conds = (e : End) → checks_of conds st.env ≡ Err e → checks_of conds new.env ≡ Err e → SameEffect tables s st new
+
+abbrev Asked : List TableInfo → RStmt-F RStmt → State → State → ℕ → List RCond → List ℕ → Type 0
+Asked tables s st new t conds cs = (p : Pred) (checks : List Check) → p ≡ pred_of tables t checks cs → asks tables t conds cs st.env ≡ Ok p → asks tables t conds cs new.env ≡ Ok p → SameEffect tables s st new
+
+by_where : (tables : List TableInfo) (s : RStmt-F RStmt) (st new : State) (t : ℕ) (conds : List RCond) (cs : List ℕ) → Agree st.env new.env (flat_map variables (rights conds)) → Unasked tables s st new conds
+    → Asked tables s st new t conds cs → SameEffect tables s st new
+by_where tables s st new t conds cs h none some = by (checks_of conds st.env) refl (sym (checks_alike conds st.env new.env h))
+  where
+    by : (r : Result (List Check) End) → checks_of conds st.env ≡ r → checks_of conds new.env ≡ checks_of conds st.env → SameEffect tables s st new
+    by (Err e) is same = none e is (same ∙ is)
+    by (Ok checks) is same =
+        some (pred_of tables t checks cs) checks refl (ap (λ r. then_do r (λ checks. Ok (pred_of tables t checks cs))) is) (ap (λ r. then_do r (λ checks. Ok (pred_of tables t checks cs))) (same ∙ is))
+
+total_same : (tables : List TableInfo) (agg : RAgg) (x t : ℕ) (conds : List RCond) (st new : State) → ReadsAlike tables (Total agg x t conds) st new → SameEffect tables (Total agg x t conds) st new
+total_same tables agg x t conds st new m =
+    by_where tables (Total agg x t conds) st new t conds (column_in agg) m.reads (λ e p q. rw (p, q) refl) (λ p checks is a b.
+    let rows : List Keyed = found_by p st.tables in
+    let rows' : List Keyed = found_by p new.tables in
+    let one = total_done tables agg x t conds st.env st.tables p rows a refl st.lines in
+    let two = total_done tables agg x t conds new.env new.tables p rows' b refl new.lines in
+    let seen : SeenAlike p st.tables new.tables = seen_of tables (Total agg x t conds) st new p _ one (then_preds p (aggregate agg (matching [] rows)) _ (λ o. refl)) m.seen in
+    let alike = seen_rows tables t checks (column_in agg) p st.tables new.tables is seen in
+    sym one
+    ∙ (ap (λ r. asked_then p r (λ o. totalling p x o (is_some_row (matching [] rows)) st.env)) (aggregate_same agg (matching [] rows) (matching [] rows') alike)
+    ∙ (ap (λ b. asked_then p (aggregate agg (matching [] rows')) (λ o. totalling p x o b st.env)) (some_same (column_in agg) (matching [] rows) (matching [] rows') alike)
+    ∙ (then_same p (aggregate agg (matching [] rows')) (λ o. totalling p x o (is_some_row (matching [] rows')) st.env) (λ o. totalling p x o (is_some_row (matching [] rows')) new.env)
+    (λ o. totalling_same p x o (is_some_row (matching [] rows')) st.env new.env m.found) ∙ two))))
+
+for_same : (tables : List TableInfo) (x : ℕ) (once : Bool) (cs : List ℕ) (t : ℕ) (conds : List RCond) (sorts : List RSort) (st new : State) → ReadsAlike tables (ForSelect x once cs t conds sorts []) st new
+    → SameEffect tables (ForSelect x once cs t conds sorts []) st new
+for_same tables x once cs t conds sorts st new m =
+    by_where tables (ForSelect x once cs t conds sorts []) st new t conds (with_sorts cs sorts) m.reads (λ e p q. rw (p, q) refl) (λ p checks is a b.
+    let rows : List Keyed = found_by p st.tables in
+    let rows' : List Keyed = found_by p new.tables in
+    let one = for_goes tables x once cs t conds sorts [] st.env st.tables p rows a refl st.lines in
+    let two = for_goes tables x once cs t conds sorts [] new.env new.tables p rows' b refl new.lines in
+    let seen : SeenAlike p st.tables new.tables = seen_of tables (ForSelect x once cs t conds sorts []) st new p _ one refl m.seen in
+    let alike = seen_rows tables t checks (with_sorts cs sorts) p st.tables new.tables is seen in
+    sym one ∙ (ap (λ l. going p l st.env) (fixed_same once cs sorts (matching [] rows) (matching [] rows') alike) ∙ (going_same p _ st.env new.env m.found ∙ two)))
+
+delete_same : (tables : List TableInfo) (t : ℕ) (conds : List RCond) (st new : State) → ReadsAlike tables (Delete t conds) st new → SameEffect tables (Delete t conds) st new
+delete_same tables t conds st new m =
+    by_where tables (Delete t conds) st new t conds [] m.reads (λ e p q. rw (p, q) refl) (λ p checks is a b.
+    let rows : List Keyed = found_by p st.tables in
+    let rows' : List Keyed = found_by p new.tables in
+    let one = delete_goes tables t conds st.env st.tables p rows a refl st.lines in
+    let two = delete_goes tables t conds new.env new.tables p rows' b refl new.lines in
+    let seen : SeenAlike p st.tables new.tables = seen_of tables (Delete t conds) st new p _ one refl m.seen in
+    sym one ∙ (ap (λ b. writing p b (map (λ item. write' t item) rows) st.env) (some_same p.columns rows rows' seen)
+    ∙ (ap (λ l. writing p (is_some_row rows') l st.env) (deletes_same t p.columns rows rows' seen) ∙ (writing_same p (is_some_row rows') _ st.env new.env m.found ∙ two))))
+  where
+    write' : ℕ → Keyed → Write
+    write' t item = record { table = t; key = item.key; patch = patch.Delete }
+
+wide_filter : (n : ℕ) (p : Keyed → Bool) (rows : List Keyed) → Each (λ (item : Keyed). length item.row ≡ n) rows → Each (λ (item : Keyed). length item.row ≡ n) (filter p rows)
+wide_filter n p [] h = tt
+wide_filter n p (x ∷ xs) h = by (p x) (wide_filter n p xs h.1)
+  where
+    by : (b : Bool) → Each (λ (item : Keyed). length item.row ≡ n) (filter p xs) → Each (λ (item : Keyed). length item.row ≡ n) (cond b (x ∷ filter p xs) (filter p xs))
+    by true k = (h.0, k)
+    by false k = k
+
+-- rows have as many values as their table has columns
+row_wide : (table : TableInfo) (rows : List Keyed) → All (HasRow table) rows → Each (λ (item : Keyed). length item.row ≡ length table.columns) rows
+row_wide table [] h = tt
+row_wide table (r ∷ rs) h =
+    let long : length r.row ≡ length (types_of table) = AllZip-long IsOf (types_of table) r.row (All-head (HasRow table) r rs h) in
+    (omega (arith, long, length-map table.columns (λ (c : Column). c.kind)), row_wide table rs (All-tail (HasRow table) r rs h))
+
+all_wide : (tables : List TableInfo) (db : List (List Keyed)) (t : ℕ) → AreTyped tables db → Each (λ (item : Keyed). length item.row ≡ length (columns_at tables t)) (rows_at db t)
+all_wide [] [] t h = tt
+all_wide [] (rows ∷ db) t h = absurd h
+all_wide (table ∷ tables) [] t h = absurd h
+all_wide (table ∷ tables) (rows ∷ db) zero h = row_wide table rows h.0
+all_wide (table ∷ tables) (rows ∷ db) (suc t) h = all_wide tables db t h.1
+
+wide_found : (tables : List TableInfo) (t : ℕ) (p : Pred) (db : List (List Keyed)) → p.table ≡ t → IsDatabaseOf tables db → Each (λ (item : Keyed). length item.row ≡ length (columns_at tables t)) (found_by p db)
+wide_found tables t p db at whole =
+    subst (λ u. Each (λ (item : Keyed). length item.row ≡ length (columns_at tables u)) (found_by p db)) at (wide_filter (length (columns_at tables p.table)) _ (rows_at db p.table) (all_wide tables db p.table whole.rows))
+
+update_same : (tables : List TableInfo) (t : ℕ) (items : List RSetItem) (conds : List RCond) (st new : State) → Each (Plain (key_columns tables t) (length (columns_at tables t))) items
+    → ReadsAlike tables (Update t items conds) st new → SameEffect tables (Update t items conds) st new
+update_same tables t items conds st new plain m =
+    let cs : List ℕ = flat_map (λ i. columns_in i.right) items in
+    let hs = flat_parts st.env new.env (map (λ i. i.right) items) (rights conds) m.reads in
+    by_where tables (Update t items conds) st new t conds cs hs.1 (λ e p q. rw (p, q) refl) (λ p checks is a b.
+    let rows : List Keyed = found_by p st.tables in
+    let rows' : List Keyed = found_by p new.tables in
+    let one = update_done tables t items conds st.env st.tables p rows a refl st.lines in
+    let two = update_done tables t items conds new.env new.tables p rows' b refl new.lines in
+    let at : p.table ≡ t = ap (λ (q : Pred). q.table) is in
+    let seen : SeenAlike p st.tables new.tables = seen_of tables (Update t items conds) st new p _ one (then_preds p (changes t items (new_of tables t st.env items) rows) _ (λ ws. refl)) m.seen in
+    let alike : Alike cs rows rows' = alike_by (each_once cs) cs (λ a b. agree_once a b cs) rows rows' (subst (λ ds. Alike ds rows rows') (ap (λ (q : Pred). q.columns) is) seen) in
+    let same = changes_same t (columns_at tables t) (key_columns tables t) (length (columns_at tables t)) st.env new.env items rows rows' hs.0 alike plain (wide_found tables t p st.tables at m.databases.0) (wide_found tables t p new.tables at m.databases.1) in
+    sym one
+    ∙ (ap (λ r. asked_then p r (λ ws. writing p (is_some_row rows) ws st.env)) same
+    ∙ (ap (λ b. asked_then p (changes t items (new_of tables t new.env items) rows') (λ ws. writing p b ws st.env)) (some_same cs rows rows' alike)
+    ∙ (then_same p (changes t items (new_of tables t new.env items) rows') (λ ws. writing p (is_some_row rows') ws st.env) (λ ws. writing p (is_some_row rows') ws new.env) (λ ws. writing_same p (is_some_row rows') ws st.env new.env m.found) ∙ two))))
+
+insert_preds : (tables : List TableInfo) (t : ℕ) (row : List Value) (p : Pred) (b : Bool) (e : Env) → (inserting tables t row p b e).preds ≡ p ∷ []
+insert_preds tables t row p true e = refl
+insert_preds tables t row p false e = refl
+
+insert_same : (tables : List TableInfo) (t : ℕ) (es : List RExpr) (st new : State) → ReadsAlike tables (Insert t es) st new → SameEffect tables (Insert t es) st new
+insert_same tables t es st new m = by (new_row (columns_at tables t) es st.env) refl (sym (new_row_alike (columns_at tables t) es st.env new.env m.reads))
+  where
+    by : (r : Result (List Value) End) → new_row (columns_at tables t) es st.env ≡ r → new_row (columns_at tables t) es new.env ≡ new_row (columns_at tables t) es st.env → SameEffect tables (Insert t es) st new
+    by (Err e) is same = let is' : new_row (columns_at tables t) es new.env ≡ Err e = same ∙ is in rw (is, is') refl
+    by (Ok row) is same =
+        let p : Pred = pred_of tables t (same_key (key_columns tables t) row) [] in
+        let rows : List Keyed = found_by p st.tables in
+        let rows' : List Keyed = found_by p new.tables in
+        let one = insert_done tables t es st.env st.tables row p rows m.databases.0.keys (m.databases.0.rising t) is refl refl st.lines in
+        let two = insert_done tables t es new.env new.tables row p rows' m.databases.1.keys (m.databases.1.rising t) (same ∙ is) refl refl new.lines in
+        let seen : SeenAlike p st.tables new.tables = seen_of tables (Insert t es) st new p _ one (insert_preds tables t row p (is_some_row rows) st.env) m.seen in
+        sym one ∙ (ap (λ b. inserting tables t row p b st.env) (some_same p.columns rows rows' seen) ∙ (inserting_same tables t row p (is_some_row rows') st.env new.env m.found ∙ two))
+
+assign_same : (tables : List TableInfo) (x : ℕ) (e : RExpr) (st new : State) → ReadsAlike tables (Assign x e) st new → SameEffect tables (Assign x e) st new
+assign_same tables x e st new m = by (value_of e st.env []) refl (sym (value_alike e st.env new.env [] (parts st.env new.env (variables e) [] m.reads).0))
+  where
+    by : (r : Result Value End) → value_of e st.env [] ≡ r → value_of e new.env [] ≡ value_of e st.env [] → SameEffect tables (Assign x e) st new
+    by (Err d) is same = let is' : value_of e new.env [] ≡ Err d = same ∙ is in rw (is, is') refl
+    by (Ok v) is same =
+        let is' : value_of e new.env [] ≡ Ok v = same ∙ is in
+        rw (is, is') (ap (λ h. record { preds = []; sets = record { slot = x; value = scalar_in h } ∷ []; rows = []; writes = []; line = None; end = None }) (get_same st.env.held x (Scalar v) ∙ sym (get_same new.env.held x (Scalar v))))
+
+branch_same : (tables : List TableInfo) (e : RExpr) (st new : State) → ReadsAlike tables (Branch e [] []) st new → SameEffect tables (Branch e [] []) st new
+branch_same tables e st new m = by (value_of e st.env []) refl (sym (value_alike e st.env new.env [] (parts st.env new.env (variables e) [] m.reads).0))
+  where
+    by : (r : Result Value End) → value_of e st.env [] ≡ r → value_of e new.env [] ≡ value_of e st.env [] → SameEffect tables (Branch e [] []) st new
+    by (Err d) is same = let is' : value_of e new.env [] ≡ Err d = same ∙ is in rw (is, is') refl
+    by (Ok v) is same = let is' : value_of e new.env [] ≡ Ok v = same ∙ is in rw (is, is') refl
+
+print_same : (tables : List TableInfo) (es : List RExpr) (st new : State) → ReadsAlike tables (Print es) st new → SameEffect tables (Print es) st new
+print_same tables es st new m = by (values_of es st.env) refl (sym (values_alike es st.env new.env m.reads))
+  where
+    by : (r : Result (List Value) End) → values_of es st.env ≡ r → values_of es new.env ≡ values_of es st.env → SameEffect tables (Print es) st new
+    by (Err d) is same = let is' : values_of es new.env ≡ Err d = same ∙ is in rw (is, is') refl
+    by (Ok v) is same = let is' : values_of es new.env ≡ Ok v = same ∙ is in rw (is, is') refl
+
+rows_same : (tables : List TableInfo) (x y : ℕ) (st new : State) → ReadsAlike tables (ForRows x y []) st new → SameEffect tables (ForRows x y []) st new
+rows_same tables x y st new m =
+    ap (λ l. record { preds = []; sets = slots_behind (with_found st.env (is_turn l)) (st.env.found ∷ []); rows = l; writes = []; line = None; end = None }) (ap turns_in m.over)
+    ∙ ap (λ ss. record { preds = []; sets = ss; rows = turns_at new.env y; writes = []; line = None; end = None }) (only_found st.env new.env (is_turn (turns_at new.env y)) m.found)
+
+-- the law
+pub congruent : (tables : List TableInfo) (y : Bare) (st new : State) → HasColumns y → SetSuits tables y → ReadsAlike tables y st new → effect_of tables y st ≡ effect_of tables y new
+congruent tables (Assign x e) st new has sets h = assign_same tables x e st new (record { reads = h.reads; found = h.found; over = tt; seen = h.seen; databases = h.databases })
+congruent tables (Select cs xs t conds sorts offset) st new has sets h =
+    select_same tables cs xs t conds sorts offset st new has (record { reads = h.reads; found = h.found; over = tt; seen = h.seen; databases = h.databases })
+congruent tables (Total agg x t conds) st new has sets h = total_same tables agg x t conds st new (record { reads = h.reads; found = h.found; over = tt; seen = h.seen; databases = h.databases })
+congruent tables (ForSelect x once cs t conds sorts body) st new has sets h =
+    for_same tables x once cs t conds sorts st new (record { reads = h.reads; found = h.found; over = tt; seen = h.seen; databases = h.databases })
+congruent tables (ForRows x y body) st new has sets h = rows_same tables x y st new (record { reads = h.reads; found = h.found; over = h.over; seen = h.seen; databases = h.databases })
+congruent tables (Branch e ys ns) st new has sets h = branch_same tables e st new (record { reads = h.reads; found = h.found; over = tt; seen = h.seen; databases = h.databases })
+congruent tables (Insert t es) st new has sets h = insert_same tables t es st new (record { reads = h.reads; found = h.found; over = tt; seen = h.seen; databases = h.databases })
+congruent tables (Update t items conds) st new has sets h = update_same tables t items conds st new sets (record { reads = h.reads; found = h.found; over = tt; seen = h.seen; databases = h.databases })
+congruent tables (Delete t conds) st new has sets h = delete_same tables t conds st new (record { reads = h.reads; found = h.found; over = tt; seen = h.seen; databases = h.databases })
+congruent tables (Print es) st new has sets h = print_same tables es st new (record { reads = h.reads; found = h.found; over = tt; seen = h.seen; databases = h.databases })
+congruent tables (Rollback reason) st new has sets h = refl
