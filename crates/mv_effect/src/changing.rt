@@ -17,7 +17,6 @@ ghost use Rattle.mv_effect.specs.Naming.{Tests, Sets};
 
 use crate::asking::{key_pred, pred_from, pred_set};
 use crate::effect::{ended, ended_by, one, setting, stopped};
-use mv_record::effect::Effect;
 use crate::here::Here;
 use crate::looking::{is_any, seen};
 use crate::numbers::narrow;
@@ -27,6 +26,7 @@ use mv_alone::find::{columns_in, key_in};
 use mv_alone::made::{made_row, row_after_set, under_key};
 use mv_alone::state::{Env, Stop};
 use mv_catalog::resolved::{RCond, RExpr, RSetItem};
+use mv_record::effect::Effect;
 use mv_values::calls::End;
 use mv_values::copied::Copied;
 use mv_values::list::List;

@@ -9,13 +9,13 @@ ghost use Rattle.mv_recorded.specs.Effects.{IsEffectAnywhere};
 ghost use Rattle.mv_effect.specs.Looking.{PassesOn};
 
 use crate::effect::{ended, nothing, stopped};
-use mv_record::effect::Effect;
 use crate::setting::found_alone;
 use mv_alone::env::copied_turns;
 use mv_alone::expr::{value, values};
 use mv_alone::line::line_from;
 use mv_alone::state::Env;
 use mv_catalog::resolved::RExpr;
+use mv_record::effect::Effect;
 use mv_record::record::Slot;
 use mv_values::calls::End;
 use mv_values::copied::Copied;

@@ -17,7 +17,6 @@ ghost use Rattle.mv_effect.specs.Naming.{Tests, AreColumns};
 
 use crate::asking::{pred_added, pred_sorted};
 use crate::effect::{ended_by, one, setting, stopped};
-use mv_record::effect::Effect;
 use crate::here::Here;
 use crate::looking::seen;
 use crate::plainly::has_turn;
@@ -29,6 +28,7 @@ use mv_alone::order::chosen_row;
 use mv_alone::state::Env;
 use mv_alone::totals::aggregate_of;
 use mv_catalog::resolved::{RAgg, RCond, RExpr, RSort};
+use mv_record::effect::Effect;
 use mv_values::list::List;
 use mv_values::memory::NoMemory;
 use mv_values::pred::Pred;

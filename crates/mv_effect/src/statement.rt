@@ -13,12 +13,12 @@ ghost use Rattle.mv_effect.specs.Looking.{IsSameView, PassesOn, different, Asked
 ghost use Rattle.mv_effect.specs.Naming.{NamesColumns};
 
 use crate::changing::{delete, insert, update};
-use mv_record::effect::Effect;
 use crate::here::Here;
 use crate::plainly::{assign, branch, for_rows, print, rollback};
 use crate::selecting::{for_select, select, total};
 use mv_alone::state::Env;
 use mv_catalog::resolved::RStmt;
+use mv_record::effect::Effect;
 use mv_undo::undo::Undo;
 use mv_values::schema::TableInfo;
 use mv_view::view::{Refused, View};

@@ -251,9 +251,9 @@ module _ (text : List Post) (tables : List TableInfo) (params : ℕ) where
       let more = many_own nests before own many in (
         own_posted text tables params z n site before st nests post (first_stand text n (post ∷ []) (yes ++ not) stands) s,
         on_posted text (nests ++ nest_of nests own ∷ []) (value_of e st.env []) _ (λ v. either_posted text (nests ++ nest_of nests own ∷ []) (is_so v) _ _
-        (all_posted ys (n + 1) (within (length before) site) (before ++ own ∷ []) st (nests ++ nest_of nests own ∷ []) (in_branch n post) (first_stand text (n + 1) yes not inner) more inside)
-        (all_posted ns _ (within (length before) site) (before ++ own ∷ []) st (nests ++ nest_of nests own ∷ []) (in_branch n post)
-        (subst (λ m. StandAt text m (posts_all (map posts (plain ns)) m (in_branch n post))) at (second_stand text (n + 1) (length yes) yes not refl inner)) more inside)),
+            (all_posted ys (n + 1) (within (length before) site) (before ++ own ∷ []) st (nests ++ nest_of nests own ∷ []) (in_branch n post) (first_stand text (n + 1) yes not inner) more inside)
+            (all_posted ns _ (within (length before) site) (before ++ own ∷ []) st (nests ++ nest_of nests own ∷ []) (in_branch n post)
+            (subst (λ m. StandAt text m (posts_all (map posts (plain ns)) m (in_branch n post))) at (second_stand text (n + 1) (length yes) yes not refl inner)) more inside)),
       )
   step_posted (Insert t es) n site before st nests post stands many s = (own_posted text tables params (telling (Insert t es)) n site before st nests post stands s, tt)
   step_posted (Update t items conds) n site before st nests post stands many s = (own_posted text tables params (telling (Update t items conds)) n site before st nests post stands s, tt)

@@ -240,7 +240,6 @@ step_suits tables params base (Select cs xs t conds sorts offset) vars around h 
     loop = tt;
     over = tt;
     items = tt;
-   
     reads = reads_in params base vars around _ s (known_both vars (rights conds) (option_to_list offset) (conds_known vars (kinds_of h.0.0) conds h.0.2.1) (offset_known vars offset h.1));
   },
   tt,
@@ -270,7 +269,6 @@ step_suits tables params base (Update t items conds) vars around h s high = (
     loop = tt;
     over = tt;
     items = plain_items tables vars t h.0 items h.1 h.2.0;
-   
     reads = reads_in params base vars around _ s (known_both vars (map (λ i. i.right) items) (rights conds) (items_known vars h.0 items h.2.0) (conds_known vars (kinds_of h.0) conds h.2.2));
   },
   tt,
