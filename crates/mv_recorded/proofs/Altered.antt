@@ -27,7 +27,7 @@ use Rattle.mv_alone.specs.declared.state.Env.{Env}
 use Rattle.mv_alone.specs.Outcome.{then_do}
 use Rattle.mv_alone.specs.Env.{with_found}
 use Rattle.mv_alone.specs.Rows.{meets, matching, is_some_row}
-use Rattle.mv_alone.specs.Changes.{new_row, set_row, updated, put_row, put_row_by, keyed}
+use Rattle.mv_alone.specs.Changes.{new_row, updated, put_row, put_row_by, keyed}
 use Rattle.mv_record.specs.declared.record.Slot.{Slot}
 use Rattle.mv_record.proofs.Rising.{Above, Rises, rises_from, turned, lower}
 use Rattle.mv_recorded.specs.Asking.{on, pred_of, same_key, columns_in}

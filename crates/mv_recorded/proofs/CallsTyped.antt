@@ -1,28 +1,22 @@
 -- The variables that a call begins with hold values of their types.
-use Rattle.std.proofs.Common.{◌≡◌, ℕ, zero, suc, ◌+◌, List, [], ◌∷◌, ◌++◌, Option, Some, None, Result, Ok, Err, refl, sym, subst, map, length, slice_get, slice_index_or, arith, IfOk, length-append}
+use Rattle.std.proofs.Common.{◌≡◌, ℕ, zero, suc, ◌+◌, List, [], ◌∷◌, ◌++◌, Some, refl, subst, map, length, slice_get, slice_index_or, arith, length-append}
 use Rattle.std.proofs.lemmas.List.{length-map}
 use Rattle.std.proofs.lemmas.List.Elements.{All-weaker}
 use Rattle.std.proofs.lemmas.Slice.Zip.{AllZip-long}
-use Rattle.std.specs.Prelude.{slice_index}
 use Rattle.std.specs.List.{AllZip}
 use Rattle.mv_values.specs.declared.value.Value.{Value}
-use Rattle.mv_values.specs.declared.schema.TableInfo.{TableInfo}
 use Rattle.mv_values.specs.declared.calls.Argument.{Argument}
 use Rattle.mv_values.specs.declared.calls.Argument.TheVariants as argument
 use Rattle.mv_values.specs.declared.calls.Call.{Call}
-use Rattle.mv_values.specs.declared.calls.End.{End}
 use Rattle.mv_catalog.specs.declared.resolved.ParamInfo.{ParamInfo}
 use Rattle.mv_catalog.specs.declared.resolved.ParamInfo.TheVariants as param
 use Rattle.mv_catalog.specs.declared.resolved.ProcInfo.{ProcInfo}
-use Rattle.mv_catalog.specs.declared.resolved.Program.{Program}
-use Rattle.mv_catalog.specs.Types.{int, Var, fixed, declared, Vars, kind_of_value, kind_of_column}
-use Rattle.mv_catalog.specs.Text.{IsRow, param_var, own_vars, vars_of, Suits, IsCall, IsProcedure, FitsText}
+use Rattle.mv_catalog.specs.Types.{int, Var, fixed, declared, kind_of_value, kind_of_column}
+use Rattle.mv_catalog.specs.Text.{IsRow, param_var, own_vars, vars_of, Suits}
 use Rattle.mv_alone.specs.declared.state.Held.{Held}
 use Rattle.mv_alone.specs.declared.state.Held.TheVariants.{Scalar}
-use Rattle.mv_alone.specs.declared.state.State.{State}
 use Rattle.mv_alone.specs.Env.{unset}
-use Rattle.mv_alone.specs.Alone.{alone}
-use Rattle.mv_alone.specs.TableAfter.{Tables, argument_held, entered, begun, outcome_in, outcome_at, outcome, tables_left, table_after}
+use Rattle.mv_alone.specs.TableAfter.{argument_held, entered}
 use Rattle.mv_recorded.specs.Typed.{OfKinds, Holds, IsEnvOf}
 use Rattle.mv_recorded.proofs.RowsTyped.{kind_is, row_kinds}
 

@@ -1,5 +1,5 @@
 -- What statements do that look at a table and change none.
-use Rattle.std.proofs.Common.{◌≡◌, ℕ, ℤ, pos, Bool, true, false, ◌||◌, List, [], ◌∷◌, ◌++◌, Option, Some, None, Result, Ok, Err, length, refl, sym, ap, ◌∙◌}
+use Rattle.std.proofs.Common.{◌≡◌, ℕ, ℤ, Bool, true, false, ◌||◌, List, [], ◌∷◌, ◌++◌, Option, Some, None, Result, Ok, Err, refl, sym, ap, ◌∙◌}
 use Rattle.std.specs.Option.{is_some}
 use Rattle.mv_values.specs.declared.value.Value.{Value}
 use Rattle.mv_values.specs.declared.pred.Pred.{Pred}
@@ -13,18 +13,15 @@ use Rattle.mv_catalog.specs.declared.resolved.RExpr.{RExpr}
 use Rattle.mv_catalog.specs.declared.resolved.RCond.{RCond}
 use Rattle.mv_catalog.specs.declared.resolved.RSort.{RSort}
 use Rattle.mv_catalog.specs.declared.resolved.RAgg.{RAgg}
-use Rattle.mv_catalog.specs.declared.resolved.RAgg.TheVariants.{CountAll, CountDistinct, Sum, Min, Max}
 use Rattle.mv_catalog.specs.declared.resolved.RStmt.{RStmt}
 use Rattle.mv_catalog.specs.declared.resolved.RStmt.TheOpen.{Select, Total, ForSelect}
 use Rattle.mv_alone.specs.declared.state.Check.{Check}
 use Rattle.mv_alone.specs.declared.state.Env.{Env}
-use Rattle.mv_alone.specs.declared.state.Stop.{Stop}
-use Rattle.mv_alone.specs.declared.state.Stop.TheVariants.{Memory, Ended}
-use Rattle.mv_alone.specs.Outcome.{Fails, then_do}
-use Rattle.mv_alone.specs.Env.{scalar_at, truth, with_value, with_values, with_found}
-use Rattle.mv_alone.specs.Value.{number, is_so, fitted}
-use Rattle.mv_alone.specs.Rows.{checks_of, matching, ordered, item_at, aggregate, total, is_some_row, sum_of, distinct, projected, column}
-use Rattle.mv_alone.specs.Alone.{offset_of, taken, totalled, fixed, is_turn}
+use Rattle.mv_alone.specs.Outcome.{then_do}
+use Rattle.mv_alone.specs.Env.{scalar_at, with_value, with_values, with_found}
+use Rattle.mv_alone.specs.Value.{number, is_so}
+use Rattle.mv_alone.specs.Rows.{checks_of, matching, ordered, item_at, aggregate, is_some_row}
+use Rattle.mv_alone.specs.Alone.{offset_of, taken, totalled, fixed}
 use Rattle.mv_record.specs.declared.record.Slot.{Slot}
 use Rattle.mv_recorded.specs.Asking.{pred_of, with_sorts, column_in}
 use Rattle.mv_recorded.specs.Doing.{when, gives_always, effect_of}

@@ -30,7 +30,7 @@ use Rattle.mv_alone.specs.Changes.{new_row}
 use Rattle.mv_alone.specs.Alone.{fixed, is_turn}
 use Rattle.mv_recorded.specs.Asking.{pred_of, with_sorts, column_in, columns_in, preds_of, same_key}
 use Rattle.mv_recorded.specs.Effect.{HasColumns}
-use Rattle.mv_recorded.specs.Reading.{each_once, variables, expressions, rights}
+use Rattle.mv_recorded.specs.Reading.{each_once, variables, rights}
 use Rattle.mv_record.specs.declared.effect.Effect.{Effect}
 use Rattle.mv_recorded.specs.Doing.{effect_of}
 use Rattle.mv_recorded.specs.Effects.{asks, asked_by, asked_then, row_number, taking, totalling, going, writing, inserting, slots_behind, changes, new_of}

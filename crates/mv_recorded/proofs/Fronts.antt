@@ -13,13 +13,11 @@ use Rattle.mv_values.specs.Tables.{rows_at}
 use Rattle.mv_catalog.specs.declared.resolved.ProcInfo.{ProcInfo}
 use Rattle.mv_catalog.specs.declared.resolved.RStmt.{RStmt, roll-RStmt, map-RStmt, ind-RStmt, para-roll-RStmt}
 use Rattle.mv_catalog.specs.declared.resolved.RStmt.TheOpen.{RStmt-F, Assign, Select, Total, ForSelect, ForRows, Branch, Insert, Update, Delete, Print, Rollback}
-use Rattle.mv_catalog.specs.declared.resolved.Program.{Program}
 use Rattle.mv_catalog.specs.Types.{Kind, Vars}
 use Rattle.mv_catalog.specs.Types as types
 use Rattle.mv_catalog.specs.Statements.{size, Well, IsWell, all_well, with_turn, stmt_step}
 use Rattle.mv_catalog.specs.Text.{Suits, IsCall, IsProcedure, vars_of}
 use Rattle.mv_catalog.proofs.Typed.{well_by}
-use Rattle.mv_alone.specs.declared.state.Env.{Env}
 use Rattle.mv_alone.specs.declared.state.State.{State}
 use Rattle.mv_alone.specs.declared.state.Held.TheVariants.{Turn}
 use Rattle.mv_alone.specs.Env.{with_found, with_held, turns_at}
@@ -34,7 +32,7 @@ use Rattle.mv_record.specs.Runs.{writes_in}
 use Rattle.mv_recorded.specs.Asking.{on}
 use Rattle.mv_recorded.specs.Doing.{itself, fixed_rows, writes_of}
 use Rattle.mv_recorded.specs.Laws.{DatabaseKept, FrontsAreDatabases, TablesAfterAre}
-use Rattle.mv_recorded.specs.Recorded.{Tells, Site, tell, tell_all, tell_inner, tell_step, tell_turns, own_record, in_turn, within, within_loop, body_of, told, outside, recorded}
+use Rattle.mv_recorded.specs.Recorded.{Tells, Site, tell, tell_inner, tell_step, tell_turns, own_record, in_turn, within, within_loop, body_of, told, outside, recorded}
 use Rattle.mv_recorded.specs.Typed.{OfKinds, IsEnvOf}
 use Rattle.mv_recorded.proofs.CallsTyped.{entered_fits}
 use Rattle.mv_recorded.proofs.Following.{Follows, firsts, statement_follows, told_follows}

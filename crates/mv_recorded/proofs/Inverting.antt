@@ -31,7 +31,7 @@ use Rattle.mv_record.specs.declared.record.Record.{Record}
 use Rattle.mv_record.specs.Writes.{AreRising}
 use Rattle.mv_record.proofs.Patching.{rising_applied}
 use Rattle.mv_recorded.specs.Asking.{on}
-use Rattle.mv_recorded.specs.Doing.{itself, before_turns, sets_of, writes_of}
+use Rattle.mv_recorded.specs.Doing.{itself, before_turns, sets_of}
 use Rattle.mv_recorded.specs.Effect.{with_slots, TellsEffect}
 use Rattle.mv_recorded.specs.Reading.{Loop}
 use Rattle.mv_recorded.specs.Recorded.{Tells, Site, tell, tell_step, tell_turns, tell_loop, own_record, in_turn, within, within_loop, told, outside, recorded}

@@ -21,9 +21,9 @@ use Rattle.mv_record.specs.declared.record.Spot.{Spot}
 use Rattle.mv_record.specs.Paths.{Nest, path, nest_of, nests_behind}
 use Rattle.mv_recorded.specs.Asking.{on}
 use Rattle.mv_recorded.specs.Doing.{fixed_rows}
-use Rattle.mv_recorded.specs.Recorded.{Tells, Site, tell, tell_inner, tell_step, tell_turns, own_record, in_turn, within, within_loop, size_of, body_of, told, outside, recorded}
+use Rattle.mv_recorded.specs.Recorded.{Tells, Site, tell, tell_step, tell_turns, own_record, in_turn, within, within_loop, size_of, body_of, told, outside, recorded}
 use Rattle.mv_recorded.specs.Laws.{OnePlaceOnePath}
-use Rattle.mv_recorded.specs.Posts.{Post, Posts, posts, posts_all, posts_inner, posts_step, posts_of, in_branch, in_for, weave, path_held, path_above, IsAt}
+use Rattle.mv_recorded.specs.Posts.{Post, Posts, posts, posts_all, posts_step, posts_of, in_branch, in_for, weave, path_held, path_above}
 use Rattle.mv_recorded.proofs.Nesting.{AsMany, more_as_many, Stands, stands_on, stands_here, stands_within, stands_in_turns, own_number}
 
 -- Weaving

@@ -1,16 +1,15 @@
 -- Variables that are set keep their types.
-use Rattle.std.proofs.Common.{◌≡◌, ◌⊎◌, inl, inr, ℕ, zero, suc, Bool, true, false, List, [], ◌∷◌, Option, Some, None, refl, sym, ap, subst, slice_get, slice_index_or, nat_eq, eqb-true, if◌then◌else◌, All}
+use Rattle.std.proofs.Common.{◌≡◌, ◌⊎◌, inl, inr, ℕ, Bool, true, false, List, Option, Some, None, refl, sym, subst, nat_eq, eqb-true, if◌then◌else◌}
 use Rattle.std.proofs.lemmas.Bool.{eqb-false, cases_eq}
 use Rattle.mv_values.specs.declared.value.Value.{Value}
-use Rattle.mv_values.specs.Columns.{column_of}
-use Rattle.mv_catalog.specs.Types.{Kind, int, Var, fixed, declared, rows, turn, Vars, kind_of_value}
+use Rattle.mv_catalog.specs.Types.{Kind, int, Var, fixed, declared, turn, Vars, kind_of_value}
 use Rattle.mv_catalog.specs.Statements.{with_turn}
 use Rattle.mv_alone.specs.declared.state.Held.{Held}
 use Rattle.mv_alone.specs.declared.state.Held.TheVariants.{Scalar, Turn}
 use Rattle.mv_alone.specs.declared.state.Env.{Env}
 use Rattle.mv_recorded.specs.Typed.{OfKinds, Holds, IsEnvOf}
 use Rattle.mv_recorded.proofs.Slots.{get_same, get_other}
-use Rattle.mv_alone.specs.Env.{unset, held_at, scalar_in, turn_in, turns_in, put_at, with_held, with_value, with_found, truth}
+use Rattle.mv_alone.specs.Env.{held_at, with_held, with_value, with_found, truth}
 
 same_var : (o : Option Var) (v w : Var) → o ≡ Some v → o ≡ Some w → v ≡ w
 same_var o v w h k = cc

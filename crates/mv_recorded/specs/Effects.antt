@@ -23,7 +23,7 @@ use Rattle.mv_alone.specs.Alone.{offset_of, taken, totalled, is_turn}
 use Rattle.mv_alone.specs.Rows.{checks_of}
 use Rattle.mv_alone.specs.Changes.{set_row, keyed}
 use Rattle.mv_record.specs.declared.record.Slot.{Slot}
-use Rattle.mv_recorded.specs.Asking.{on, pred_of}
+use Rattle.mv_recorded.specs.Asking.{pred_of}
 use Rattle.mv_recorded.specs.Reading.{each_once}
 use Rattle.mv_recorded.specs.Doing.{effect_of, when, write, changed}
 use Rattle.mv_record.specs.declared.effect.Effect.{Effect}
