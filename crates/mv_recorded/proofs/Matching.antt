@@ -69,7 +69,7 @@ agrees_where keys row test is h = by test.key_place is
     by (Some p) e = ap (allows test) (at_place p (sym e)) ∙ h
 
 -- the same of all tests
-all_agree : (keys : List ℕ) (row : List Value) (tests : List Test) → All (Placed keys) tests → list_all (passes row) tests ≡ true → list_all (agrees (columns_of row keys)) tests ≡ true
+pub all_agree : (keys : List ℕ) (row : List Value) (tests : List Test) → All (Placed keys) tests → list_all (passes row) tests ≡ true → list_all (agrees (columns_of row keys)) tests ≡ true
 all_agree keys row [] places h = refl
 all_agree keys row (t ∷ ts) places h =
     let both = parts (passes row t) (list_all (passes row) ts) h in

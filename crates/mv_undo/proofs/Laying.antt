@@ -57,7 +57,7 @@ laid_row pred ws own (k ∷ ks) rows key h =
     join false c = refl
 
 -- where a key isn't admitted no row under it matches
-unadmitted : (pred : Pred) (rows : List Keyed) (key : List Value) → Admitted pred rows → admits pred key ≡ false → matched pred (row_of rows key) ≡ None
+pub unadmitted : (pred : Pred) (rows : List Keyed) (key : List Value) → Admitted pred rows → admits pred key ≡ false → matched pred (row_of rows key) ≡ None
 unadmitted pred rows key h not' = by (row_of rows key) refl
   where
     clash : (b : Bool) → b ≡ true → b ≡ false → ⊥
