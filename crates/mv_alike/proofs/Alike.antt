@@ -25,7 +25,7 @@ use Rattle.mv_alone.specs.Changes.{with_column, set_row}
 use Rattle.mv_recorded.specs.Asking.{with_sorts, column_in, columns_in}
 use Rattle.mv_recorded.specs.Doing.{write, changed}
 use Rattle.mv_recorded.specs.Reading.{each_once, variables}
-use Rattle.mv_effect.specs.Effects.{changes}
+use Rattle.mv_recorded.specs.Effects.{changes}
 use Rattle.mv_alike.specs.Inversion.{Each, Within}
 use Rattle.mv_alike.proofs.Values.{Agree, AgreeIn, value_same}
 

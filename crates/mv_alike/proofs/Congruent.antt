@@ -33,11 +33,12 @@ use Rattle.mv_recorded.specs.Asking.{pred_of, with_sorts, column_in, columns_in,
 use Rattle.mv_recorded.specs.Effect.{HasColumns}
 use Rattle.mv_recorded.specs.Reading.{each_once, variables, expressions, rights}
 use Rattle.mv_recorded.specs.Recorded.{Site, own_record}
-use Rattle.mv_effect.specs.declared.effect.Effect.{Effect}
-use Rattle.mv_effect.specs.Effects.{effect_of, asks, asked_by, asked_then, row_number, taking, totalling, going, writing, inserting, slots_behind, changes, new_of}
-use Rattle.mv_effect.proofs.Chosen.{asked_of, both_asked, select_goes, select_unasked, total_done, for_goes}
-use Rattle.mv_effect.proofs.Altered.{delete_goes, update_done, insert_done}
-use Rattle.mv_effect.proofs.Matching.{matching_all}
+use Rattle.mv_record.specs.declared.effect.Effect.{Effect}
+use Rattle.mv_recorded.specs.Doing.{effect_of}
+use Rattle.mv_recorded.specs.Effects.{asks, asked_by, asked_then, row_number, taking, totalling, going, writing, inserting, slots_behind, changes, new_of}
+use Rattle.mv_recorded.proofs.Chosen.{asked_of, both_asked, select_goes, select_unasked, total_done, for_goes}
+use Rattle.mv_recorded.proofs.Altered.{delete_goes, update_done, insert_done}
+use Rattle.mv_recorded.proofs.Matching.{matching_all}
 use Rattle.mv_alike.specs.Inversion.{Bare, Each, Within, SetSuits, Fits}
 use Rattle.mv_alike.proofs.Held.{get_same, held_alike}
 use Rattle.mv_alike.proofs.Values.{Agree, value_alike, values_alike, checks_alike, offset_alike, new_row_alike}

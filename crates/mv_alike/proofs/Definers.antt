@@ -13,7 +13,7 @@ use Rattle.mv_record.specs.declared.record.Record.{Record}
 use Rattle.mv_recorded.specs.Effect.{with_slots}
 use Rattle.mv_recorded.specs.Reading.{Loop, each_once, last_place, loop_of, sets_variable, definer}
 use Rattle.mv_recorded.specs.Recorded.{Site}
-use Rattle.mv_effect.specs.declared.effect.Effect.{Effect}
+use Rattle.mv_record.specs.declared.effect.Effect.{Effect}
 use Rattle.mv_history.specs.Kept.{Path, Placed, among, path_at, is_kept, same_path, reads_stay}
 use Rattle.mv_alike.specs.Inversion.{Each, Within, Ground, Here, LoopsHold, sets_in, rows_of, row_in}
 use Rattle.mv_alike.proofs.Held.{get_same, get_other, slots_alike, slots_both, OwnSlots}

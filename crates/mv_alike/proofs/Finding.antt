@@ -11,7 +11,6 @@ use Rattle.mv_values.specs.declared.pred.Pred.{Pred}
 use Rattle.mv_values.specs.declared.pred.Test.{Test}
 use Rattle.mv_values.specs.declared.patch.Write.{Write}
 use Rattle.mv_values.specs.declared.schema.TableInfo.{TableInfo}
-use Rattle.mv_values.specs.declared.rows.Keyed.{Keyed}
 use Rattle.mv_values.specs.Columns.{columns_of}
 use Rattle.mv_values.specs.Keys.{IsRising}
 use Rattle.mv_values.specs.Order.{key_order}
@@ -21,8 +20,8 @@ use Rattle.mv_values.specs.Tables.{rows_at, columns_at, key_columns}
 use Rattle.mv_record.specs.Admitting.{Admitted}
 use Rattle.mv_record.proofs.Rising.{Above, Rises, rises_from, same_rows, found_stands}
 use Rattle.mv_record.proofs.Patching.{row_of-found, rising_found, row_applied}
-use Rattle.mv_effect.specs.Looking.{KnowsKey}
-use Rattle.mv_effect.proofs.Matching.{admitted}
+use Rattle.mv_recorded.specs.Asking.{KnowsKey}
+use Rattle.mv_recorded.proofs.Matching.{admitted}
 use Rattle.mv_history.specs.declared.change.Change.{Change}
 use Rattle.mv_history.specs.Changes.{Covers}
 use Rattle.mv_alike.specs.Inversion.{Each, Fits}

@@ -10,7 +10,7 @@ use Rattle.mv_values.specs.declared.patch.Write.{Write}
 use Rattle.mv_record.specs.declared.record.Record.{Record}
 use Rattle.mv_record.specs.Paths.{paths, IsEarlierPath, PathsRise}
 use Rattle.mv_record.specs.Runs.{writes_in}
-use Rattle.mv_effect.specs.declared.effect.Effect.{Effect}
+use Rattle.mv_record.specs.declared.effect.Effect.{Effect}
 use Rattle.mv_history.specs.Hits.{touches_predicate}
 use Rattle.mv_history.specs.Kept.{Path, Placed, zip_paths, with_paths, is_path, among, other_writes}
 use Rattle.mv_alike.specs.Inversion.{Each}

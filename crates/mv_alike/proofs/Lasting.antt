@@ -24,7 +24,7 @@ use Rattle.mv_record.specs.Runs.{writes_in}
 use Rattle.mv_recorded.specs.Asking.{on, asked, pred_of, preds_of, test_of, same_key}
 use Rattle.mv_recorded.specs.Reading.{variables, expressions, reads_of}
 use Rattle.mv_recorded.specs.Recorded.{Site, own_record}
-use Rattle.mv_effect.proofs.Matching.{places_of}
+use Rattle.mv_recorded.proofs.Matching.{places_of}
 use Rattle.mv_history.specs.declared.change.Change.{Change}
 use Rattle.mv_history.specs.Changes.{Covers}
 use Rattle.mv_history.specs.Hits.{hits_predicate, hits, touches_predicate, touches}

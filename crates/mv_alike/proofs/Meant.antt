@@ -8,7 +8,7 @@ use Rattle.mv_alone.specs.TableAfter.{Tables}
 use Rattle.mv_record.specs.declared.record.Record.{Record}
 use Rattle.mv_recorded.specs.Recorded.{recorded}
 use Rattle.mv_recorded.proofs.Rising.{recorded_rises}
-use Rattle.mv_effect.specs.declared.effect.Effect.{Effect}
+use Rattle.mv_record.specs.declared.effect.Effect.{Effect}
 use Rattle.mv_history.specs.declared.change.Change.{Change}
 use Rattle.mv_history.specs.Changes.{Covers}
 use Rattle.mv_history.specs.Kept.{Placed, with_paths, among, at, stays, kept_paths, keep}

@@ -41,7 +41,7 @@ use Rattle.mv_recorded.specs.Recorded.{Tells, Site, tell, tell_step, tell_turns,
 use Rattle.mv_recorded.proofs.Effects.{effect_known}
 use Rattle.mv_recorded.proofs.Following.{firsts}
 use Rattle.mv_recorded.proofs.Standing.{itself_stands}
-use Rattle.mv_effect.specs.declared.effect.Effect.{Effect}
+use Rattle.mv_record.specs.declared.effect.Effect.{Effect}
 use Rattle.mv_history.specs.declared.change.Change.{Change}
 use Rattle.mv_history.specs.Changes.{Covers}
 use Rattle.mv_history.specs.Hits.{hits, hits_predicate, is_unhit}
