@@ -18,7 +18,7 @@ fn main(rt: HostRuntime) -> ExitCode {
         }
         None => Status::NoMemory,
     };
-    ExitCode::from(status as u8)
+    ExitCode::from(status.code())
 }
 
 /// The command line's words after the program's name. A line with a word that isn't UTF-8 is no command, so it has no

@@ -1,9 +1,8 @@
 -- One read or write after another.
 use Rattle.std.proofs.Common.{◌≡◌, ℕ, ◌+◌, ◌-◌, ◌<◌, ◌≤◌, List, [], ◌++◌, Option, Some, None, length, take, drop, get_or, refl, sym, ap, subst, ◌∙◌, append_assoc, append-nil, arith}
 use Rattle.std.proofs.Math.Seq.{take-add}
-use Rattle.std.proofs.lemmas.List.{take-append-drop, drop_more, take_at, take_all, length-take-le, length-drop, drop-drop}
-use Rattle.std.proofs.Common.{inl, inr}
-use Rattle.mv_edge.specs.Edge.{Rose, Reads, IsAtEnd, Writes, WritesFront}
+use Rattle.std.proofs.lemmas.List.{take-append-drop, drop_more, take_at, take_all, length-take-le, length-drop, drop-drop, append_cancel_left}
+use Rattle.mv_edge.specs.Edge.{Reads, IsAtEnd, Writes, WritesFront}
 
 pub reads_none : (a : Option (List ℕ)) → Reads a a []
 reads_none None = tt
@@ -60,6 +59,16 @@ most_of a b got most r h all is =
     let r' : Reads (Some all) b got = subst (λ o. Reads o b got) is r in
     front_of all got r'.0 most r'.2 h
 
-pub rose_later : (a b c : ℕ) → a ≤ b → b ≤ c → Rose b c → Rose a c
-rose_later a b c h k (inl lt) = inl (omega arith)
-rose_later a b c h k (inr top) = grind arith
+-- what is left after the front was read is what comes after the most
+pub rest_of : (a c : Option (List ℕ)) (got : List ℕ) (most : ℕ) → Reads a c got → ((all : List ℕ) → a ≡ Some all → got ≡ take most all)
+    → (all : List ℕ) → a ≡ Some all → c ≡ Some (drop most all)
+rest_of a c got most r front all is =
+    let r' : Reads (Some all) c got = subst (λ o. Reads o c got) is r in
+    let same : got ++ r'.0 ≡ got ++ drop most all = sym r'.2 ∙ (sym (take-append-drop most all) ∙ ap (λ xs. xs ++ drop most all) (sym (front all is))) in
+    r'.1 ∙ ap Some (append_cancel_left got r'.0 (drop most all) same)
+
+-- a read of no bytes adds none
+pub reads_nothing : (a b c : Option (List ℕ)) (got bytes : List ℕ) (n : ℕ) → n ≡ 0 → Reads a b got → Reads b c (take n bytes) → Reads a c got
+reads_nothing a b c got bytes n zero_read r s =
+    let s' : Reads b c [] = subst (λ k. Reads b c (take k bytes)) zero_read s in
+    subst (Reads a c) (append-nil got) (reads_more a b c got [] r s')

@@ -76,7 +76,7 @@ impl Sink for MemorySink {
         ensures room { self.new.room + length self.new.written ≡ self.old.room + length self.old.written }
         ensures calls { self.new.plan.calls ≡ one_more self.old.plan.calls }
         ensures failing { self.new.plan.failing ≡ self.old.plan.failing }
-        ensures no_fault { OnOk result (self.new.plan.faults ≡ self.old.plan.faults) }
+        ensures quiet { OnOk result (self.new.plan.faults ≡ self.old.plan.faults) }
         ensures fault { OnErr result (self.new.plan.faults ≡ one_more self.old.plan.faults) }
     {
         self.plan.call()?;

@@ -1,8 +1,8 @@
 //! Reading to the end.
 
-ghost use Rattle.std.specs.Prelude.{◌≡◌, ◌≤◌, take, IfOk, IsErrOf};
+ghost use Rattle.std.specs.Prelude.{◌≡◌, ◌≤◌, Some, take, drop, IfOk, OnOk, IsErrOf};
 ghost use Rattle.std.specs.Option.{ForSome};
-ghost use Rattle.mv_edge.specs.Edge.{Rose, Reads};
+ghost use Rattle.mv_edge.specs.Edge.{Rose};
 
 use crate::edge::{Failed, Source};
 use mv_values::list::List;
@@ -44,11 +44,13 @@ impl From<NoMemory> for ReadFault {
     }
 }
 
-/// The bytes that are left in a source, cut behind the first `MOST`. It fails only where the source's count of faults
-/// rises.
+/// The bytes that are left in a source, up to the first `MOST`. What comes after these stays in the source. `Failed`
+/// comes exactly where the source's count of faults rises.
 pub fn read_all<S: Source>(alloc: Global, source: &mut S) -> Result<List<u8>, ReadFault>
     ensures bytes { IfOk result (λ bytes. ForSome (S.left source.old) (λ all. bytes ≡ take MOST all)) }
-    ensures rest { IfOk result (λ bytes. Reads (S.left source.old) (S.left source.new) bytes) }
+    ensures rest { OnOk result (ForSome (S.left source.old) (λ all. S.left source.new ≡ Some (drop MOST all))) }
+    ensures quiet { OnOk result (S.faults source.new ≡ S.faults source.old) }
+    ensures starved { IsErrOf result ReadFault.NoMemory → S.faults source.new ≡ S.faults source.old }
     ensures failed { IsErrOf result ReadFault.Failed → Rose (S.faults source.old) (S.faults source.new) }
     ensures count { S.faults source.old ≤ S.faults source.new }
 {

@@ -1,14 +1,15 @@
 //! Writing all of a text.
 
-ghost use Rattle.std.specs.Prelude.{◌≤◌, OnOk, OnErr};
+ghost use Rattle.std.specs.Prelude.{◌≡◌, ◌≤◌, OnOk, OnErr};
 ghost use Rattle.mv_edge.specs.Edge.{Rose, Writes, WritesFront};
 
 use crate::edge::{Failed, Sink};
 
-/// Writes all the bytes, or fails after a proper front of them. It takes no memory, and fails only where the sink's
+/// Writes all the bytes, or fails after a proper front of them. It takes no memory, and fails exactly where the sink's
 /// count of faults rises.
 pub fn write_all<K: Sink>(sink: &mut K, bytes: &[u8]) -> Result<(), Failed>
     ensures all { OnOk result (Writes (K.written sink.old) (K.written sink.new) bytes.now) }
+    ensures quiet { OnOk result (K.faults sink.new ≡ K.faults sink.old) }
     ensures front { OnErr result (WritesFront (K.written sink.old) (K.written sink.new) bytes.now) }
     ensures failed { OnErr result (Rose (K.faults sink.old) (K.faults sink.new)) }
     ensures count { K.faults sink.old ≤ K.faults sink.new }

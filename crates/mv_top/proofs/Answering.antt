@@ -16,7 +16,7 @@ use Rattle.mv_top.specs.declared.status.Fault.{Fault}
 use Rattle.mv_top.specs.declared.status.Fault.TheVariants as fault
 use Rattle.mv_top.specs.declared.status.Status.{Status}
 use Rattle.mv_top.specs.declared.status.Status.TheVariants.{Done, Refused, Usage, NoMemory, ReadFault, WriteFault}
-use Rattle.mv_top.specs.Answers.{IsTextFor, IsRefusal, HasCause, IsToldBy, IsAnswer, usage, refused, done, IsAnswered, Puts, Wrote, WroteOr, words_for, line}
+use Rattle.mv_top.specs.Answers.{IsTextFor, IsRefusal, HasCause, IsToldBy, IsAnswer, usage, refused, done, IsAnswered, Puts, Wrote, WroteOr, StandFor, IsRefusedBy, name_of, line}
 
 -- bytes that aren't too many were all that were left
 pub whole : (all bytes : List ℕ) → bytes ≡ take MOST all → length bytes ≤ most_bytes → bytes ≡ all
@@ -60,15 +60,15 @@ cause_of_left all bytes refusal e cause =
 text_of_left : (command : Command) (all bytes answer : List ℕ) → bytes ≡ take MOST all → IsTextFor command bytes answer → IsTextFor command all answer
 text_of_left command all bytes answer e t = subst (λ (xs : List ℕ). IsTextFor command xs answer) (whole all bytes e (accepted_are_few bytes t.0 t.1)) t
 
-refusal_of_left : (all bytes : List ℕ) (number : ℕ) (what : List ℕ) → bytes ≡ take MOST all → IsRefusal bytes number what → IsRefusal all number what
-refusal_of_left all bytes number what e r = (r.0, cause_of_left all bytes r.0 e r.1, r.2, r.3)
+refusal_of_left : (command : Command) (all bytes : List ℕ) (number : ℕ) (what : List ℕ) → bytes ≡ take MOST all → IsRefusal command bytes number what → IsRefusal command all number what
+refusal_of_left command all bytes number what e r = (r.0, cause_of_left all bytes r.0 e r.1, r.2, r.3)
 
 -- what is answered to the bytes that were read is what is answered to those that were left
 pub answer_of_left : (words : List (List ℕ)) (left : Option (List ℕ)) (command : Command) (bytes : List ℕ) (status : Status) (answer : List ℕ)
-    → words ≡ words_for command → ForSome left (λ all. bytes ≡ take MOST all) → IsAnswered command bytes status answer → IsAnswer words left status answer
+    → StandFor words command → ForSome left (λ all. bytes ≡ take MOST all) → IsAnswered command bytes status answer → IsAnswer words left status answer
 answer_of_left words left command bytes Done answer w read a = done command answer w (λ all is. text_of_left command all bytes answer (read all is) a)
 answer_of_left words left command bytes Refused answer w read a =
-    subst (IsAnswer words left Refused) (sym a.3) (refused command a.0 a.1 w (λ all is. refusal_of_left all bytes a.0 a.1 (read all is) a.2))
+    subst (IsAnswer words left Refused) (sym a.3) (refused command a.0 a.1 w (λ all is. refusal_of_left command all bytes a.0 a.1 (read all is) a.2))
 answer_of_left words left command bytes Usage answer w read a = absurd a
 answer_of_left words left command bytes NoMemory answer w read a = absurd a
 answer_of_left words left command bytes ReadFault answer w read a = absurd a
@@ -86,24 +86,33 @@ wrote_by words left old new f g ReadFault answer result a (inl p) = elim a [ ]
 wrote_by words left old new f g WriteFault answer result a (inl p) = elim a [ ]
 
 -- an answer that was put was written with its status, unless the sink failed
-pub put_by : (old new : Option (List ℕ)) (f g : ℕ) (status want : Status) (answer wanted : List ℕ) (result : Status)
-    → status ≡ want → answer ≡ wanted → (Rose f g → ⊥) → Puts old new f g status answer result → WroteOr want wanted old new result
-put_by old new f g status want answer wanted result s a no_fault (inl p) = inr (p.0 ∙ s, subst (Writes old new) a p.1)
-put_by old new f g status want answer wanted result s a no_fault (inr p) = absurd (no_fault p.2)
+pub put_by : (old new : Option (List ℕ)) (f g : ℕ) (status want : Status) (answer : List ℕ) (IsWanted : List ℕ → Type 0) (result : Status)
+    → status ≡ want → IsWanted answer → (Rose f g → ⊥) → Puts old new f g status answer result → WroteOr want IsWanted old new result
+put_by old new f g status want answer IsWanted result s a no_fault (inl p) = inr (p.0 ∙ s, answer, a, p.1)
+put_by old new f g status want answer IsWanted result s a no_fault (inr p) = absurd (no_fault p.2)
+
+-- the sink's count is as before, unless the sink failed
+pub quiet_by : (old new : Option (List ℕ)) (f g : ℕ) (status : Status) (answer : List ℕ) (result : Status)
+    → Puts old new f g status answer result → (result ≡ WriteFault → ⊥) → g ≡ f
+quiet_by old new f g status answer result (inl p) no_fault = p.2
+quiet_by old new f g status answer result (inr p) no_fault = absurd (no_fault p.0)
 
 -- the refusal that is told has its cause
-pub has_cause : (bytes : List ℕ) (refusal : Refusal) (f : Fault) → Refuses bytes refusal → IsToldBy refusal f → HasCause bytes f
-has_cause bytes refusal (fault.Refused number what) cause told = (refusal, cause, told.0, told.1)
-has_cause bytes refusal fault.NoMemory cause told = told
+pub has_cause : (command : Command) (bytes : List ℕ) (refusal : Refusal) (f : Fault) → IsRefusedBy command bytes refusal → IsToldBy refusal f → HasCause command bytes f
+has_cause command bytes refusal (fault.Refused number what) cause told = (refusal, cause, told.0, told.1)
+has_cause command bytes refusal fault.NoMemory cause told = told
 
--- words are those of one command
-pub same_command : (a b : Command) → words_for a ≡ words_for b → a ≡ b
-same_command Run Run e = refl
-same_command Serial Serial e = refl
-same_command Graph Graph e = refl
-same_command Run Serial e = cc
-same_command Run Graph e = cc
-same_command Serial Run e = cc
-same_command Serial Graph e = cc
-same_command Graph Run e = cc
-same_command Graph Serial e = cc
+same_name : (a b : Command) → name_of a ≡ name_of b → a ≡ b
+same_name Run Run e = refl
+same_name Serial Serial e = refl
+same_name Graph Graph e = refl
+same_name Run Serial e = cc
+same_name Run Graph e = cc
+same_name Serial Run e = cc
+same_name Serial Graph e = cc
+same_name Graph Run e = cc
+same_name Graph Serial e = cc
+
+-- words stand for one command
+pub same_command : (words : List (List ℕ)) (a b : Command) → StandFor words a → StandFor words b → a ≡ b
+same_command words a b x y = same_name a b (let e = sym x ∙ y in cc)

@@ -17,25 +17,29 @@ use Rattle.mv_top.specs.declared.status.Status.TheVariants.{Done, Refused, Usage
 use Rattle.mv_top.specs.declared.status.Fault.{Fault}
 use Rattle.mv_top.specs.declared.status.Fault.TheVariants as fault
 
--- what a command makes of a program: the text of a run by one worker, that of the calls alone in call order, and that of the graphs of
--- its procedures
-abbrev pub text_for : Command → Program → List ℕ
-text_for Run program = text program (in_turn program)
-text_for Serial program = serial program
-text_for Graph program = graphs program
+-- the command may write this text for the program: that of a run by one worker, of the calls alone in call order, or of the graphs of
+-- the procedures
+abbrev pub IsTextOf : Command → Program → List ℕ → Type 0
+IsTextOf Run program answer = answer ≡ text program (in_turn program)
+IsTextOf Serial program answer = answer ≡ serial program
+IsTextOf Graph program answer = answer ≡ graphs program
 
--- the bytes are accepted, and this is what the command makes of their program
+-- the bytes are accepted, and the command may write this text for their program
 abbrev pub IsTextFor : Command → List ℕ → List ℕ → Type 0
-IsTextFor command bytes answer = (program : Program) × Accepts bytes program × (answer ≡ text_for command program)
+IsTextFor command bytes answer = (program : Program) × Accepts bytes program × IsTextOf command program answer
 
--- the number and the line of a refusal that these bytes get
-abbrev pub IsRefusal : List ℕ → ℕ → List ℕ → Type 0
-IsRefusal bytes number what = (refusal : Refusal) × Refuses bytes refusal × (number ≡ number_of refusal) × (what ≡ line_of refusal)
+-- the command gives the bytes this refusal; those of the script are the same for each command
+abbrev pub IsRefusedBy : Command → List ℕ → Refusal → Type 0
+IsRefusedBy command bytes refusal = Refuses bytes refusal
 
--- a refusal has its cause in the bytes
-abbrev pub HasCause : List ℕ → Fault → Type 0
-HasCause bytes (fault.Refused number line) = IsRefusal bytes number line
-HasCause bytes fault.NoMemory = Unit {0}
+-- the number and the line of a refusal that the command gives these bytes
+abbrev pub IsRefusal : Command → List ℕ → ℕ → List ℕ → Type 0
+IsRefusal command bytes number what = (refusal : Refusal) × IsRefusedBy command bytes refusal × (number ≡ number_of refusal) × (what ≡ line_of refusal)
+
+-- a refusal has its cause in the command and the bytes
+abbrev pub HasCause : Command → List ℕ → Fault → Type 0
+HasCause command bytes (fault.Refused number line) = IsRefusal command bytes number line
+HasCause command bytes fault.NoMemory = Unit {0}
 
 -- the fault has the number and the line of the refusal, unless no memory was found
 abbrev pub IsToldBy : Refusal → Fault → Type 0
@@ -52,12 +56,13 @@ name_of Run = codes "run"
 name_of Serial = codes "serial"
 name_of Graph = codes "graph"
 
-abbrev pub words_for : Command → List (List ℕ)
-words_for command = name_of command ∷ []
+-- the words of a command line stand for this command
+abbrev pub StandFor : List (List ℕ) → Command → Type 0
+StandFor words command = words ≡ name_of command ∷ []
 
--- words that are no command
+-- words that stand for no command
 abbrev pub IsNoCommand : List (List ℕ) → Type 0
-IsNoCommand words = (command : Command) → words ≡ words_for command → ⊥
+IsNoCommand words = (command : Command) → StandFor words command → ⊥
 
 abbrev pub usage_line : List ℕ
 usage_line = codes "usage: mv3c run|replay|serial|graph|tpcc [options]"
@@ -68,22 +73,22 @@ line bytes = bytes ++ 10 ∷ []
 -- what is answered to these words and these bytes, where the source tells them: the status, and what is written
 pub data IsAnswer (words : List (List ℕ)) (left : Option (List ℕ)) : Status → List ℕ → Type 0 where
   usage : IsNoCommand words → IsAnswer words left Usage (line usage_line)
-  refused : (command : Command) (number : ℕ) (what : List ℕ) → words ≡ words_for command → ForSome left (λ all. IsRefusal all number what) → IsAnswer words left Refused (line what)
-  done : (command : Command) (answer : List ℕ) → words ≡ words_for command → ForSome left (λ all. IsTextFor command all answer) → IsAnswer words left Done answer
+  refused : (command : Command) (number : ℕ) (what : List ℕ) → StandFor words command → ForSome left (λ all. IsRefusal command all number what) → IsAnswer words left Refused (line what)
+  done : (command : Command) (answer : List ℕ) → StandFor words command → ForSome left (λ all. IsTextFor command all answer) → IsAnswer words left Done answer
 
 -- the answer of a command to the bytes that were read: the status, and what is to be written
 abbrev pub IsAnswered : Command → List ℕ → Status → List ℕ → Type 0
 IsAnswered command bytes Done answer = IsTextFor command bytes answer
-IsAnswered command bytes Refused answer = (number : ℕ) × (what : List ℕ) × IsRefusal bytes number what × (answer ≡ line what)
+IsAnswered command bytes Refused answer = (number : ℕ) × (what : List ℕ) × IsRefusal command bytes number what × (answer ≡ line what)
 IsAnswered command bytes Usage answer = ⊥
 IsAnswered command bytes NoMemory answer = ⊥
 IsAnswered command bytes ReadFault answer = ⊥
 IsAnswered command bytes WriteFault answer = ⊥
 
--- an answer was written with its status, or a proper front of it and the sink's count of faults rose
+-- an answer was written with its status and no fault, or a proper front of it and the sink's count of faults rose
 abbrev pub Puts : Option (List ℕ) → Option (List ℕ) → ℕ → ℕ → Status → List ℕ → Status → Type 0
 Puts old new faults_old faults_new status answer result =
-    ((result ≡ status) × Writes old new answer) ⊎ ((result ≡ WriteFault) × WritesFront old new answer × Rose faults_old faults_new)
+    ((result ≡ status) × Writes old new answer × (faults_new ≡ faults_old)) ⊎ ((result ≡ WriteFault) × WritesFront old new answer × Rose faults_old faults_new)
 
 -- what was written: the answer, nothing, or a proper front of the answer
 abbrev pub Wrote : List (List ℕ) → Option (List ℕ) → Option (List ℕ) → Option (List ℕ) → Status → Type 0
@@ -94,6 +99,15 @@ Wrote words left old new NoMemory = new ≡ old
 Wrote words left old new ReadFault = new ≡ old
 Wrote words left old new WriteFault = (status : Status) × (answer : List ℕ) × IsAnswer words left status answer × WritesFront old new answer
 
--- memory was not found, or this answer was written with this status
-abbrev pub WroteOr : Status → List ℕ → Option (List ℕ) → Option (List ℕ) → Status → Type 0
-WroteOr status answer old new result = ((result ≡ NoMemory) × (new ≡ old)) ⊎ ((result ≡ status) × Writes old new answer)
+-- memory was not found, or such an answer was written with this status
+abbrev pub WroteOr : Status → (List ℕ → Type 0) → Option (List ℕ) → Option (List ℕ) → Status → Type 0
+WroteOr status IsWanted old new result = ((result ≡ NoMemory) × (new ≡ old)) ⊎ ((result ≡ status) × (answer : List ℕ) × IsWanted answer × Writes old new answer)
+
+-- the number of a status, with which the program ends
+abbrev pub code_of : Status → ℕ
+code_of Done = 0
+code_of Refused = 1
+code_of Usage = 2
+code_of NoMemory = 3
+code_of ReadFault = 4
+code_of WriteFault = 5

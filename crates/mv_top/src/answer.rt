@@ -2,10 +2,10 @@
 
 ghost use Rattle.std.specs.Prelude.{◌≡◌, ◌≤◌, length, IfOk, IfErr, MatchResult};
 ghost use Rattle.mv_accept.specs.declared.refusal.Refusal.{Refusal as Why};
-ghost use Rattle.mv_accept.specs.Accepting.{Accepts, Refuses, most_calls};
+ghost use Rattle.mv_accept.specs.Accepting.{Accepts, most_calls};
 ghost use Rattle.mv_record.specs.Databases.{IsProgram};
 ghost use Rattle.mv_catalog.specs.declared.resolved.Program.{Program};
-ghost use Rattle.mv_top.specs.Answers.{IsTextFor, text_for, HasCause, IsToldBy};
+ghost use Rattle.mv_top.specs.Answers.{IsTextFor, IsTextOf, IsRefusedBy, HasCause, IsToldBy};
 
 use crate::graphs::graph_text;
 use crate::serial::serial_text;
@@ -31,11 +31,11 @@ pub fn answer<R: Threads + Wait + Sync, P: Pace>(
     _pace: &P,
 ) -> Result<List<u8>, Fault>
     ensures found { IfOk result (IsTextFor command.now bytes.now) }
-    // An accepted script gets the command's text.
-    ensures only { (program : Program) → Accepts bytes.now program → MatchResult result (λ answer. answer ≡ text_for command.now program) (λ fault. fault ≡ Fault.NoMemory) }
-    ensures refused { IfErr result (HasCause bytes.now) }
-    // A refusal that has its cause in the bytes is answered.
-    ensures told { (refusal : Why) → Refuses bytes.now refusal → MatchResult result (λ answer. ⊥) (IsToldBy refusal) }
+    // An accepted script gets a text of the command.
+    ensures only { (program : Program) → Accepts bytes.now program → MatchResult result (IsTextOf command.now program) (λ fault. fault ≡ Fault.NoMemory) }
+    ensures refused { IfErr result (HasCause command.now bytes.now) }
+    // A refusal that has its cause in the command and the bytes is answered.
+    ensures told { (refusal : Why) → IsRefusedBy command.now bytes.now refusal → MatchResult result (λ answer. ⊥) (IsToldBy refusal) }
 {
     match accept(alloc, bytes) {
         Ok(program) => Ok(text_of(alloc, command, &program)?),
@@ -44,11 +44,11 @@ pub fn answer<R: Threads + Wait + Sync, P: Pace>(
     }
 }
 
-/// What a command makes of a program.
+/// A text of the command for a program.
 fn text_of(alloc: Global, command: &Command, program: &Program) -> Result<List<u8>, NoMemory>
     requires whole { IsProgram program.now }
     requires few { length program.now.resolved.calls ≤ most_calls }
-    ensures { IfOk result (λ text. text ≡ text_for command.now program.now) }
+    ensures { IfOk result (IsTextOf command.now program.now) }
 {
     match command {
         Command::Run => {

@@ -1,5 +1,8 @@
 //! How a call of the program ends.
 
+ghost use Rattle.std.specs.Prelude.{◌≡◌};
+ghost use Rattle.mv_top.specs.Answers.{code_of};
+
 use mv_values::memory::NoMemory;
 use mv_values::txt::Txt;
 
@@ -18,6 +21,15 @@ pub enum Status {
     ReadFault = 4,
     /// The sink failed, and a proper front of the answer was written.
     WriteFault = 5,
+}
+
+impl Status {
+    /// The exit status of the program, from 0 to 5.
+    pub fn code(self) -> u8
+        ensures { result ≡ code_of self }
+    {
+        self as u8
+    }
 }
 
 /// A command that the program takes.

@@ -1,19 +1,20 @@
 //! The top call: words, a source, a sink.
 
-ghost use Rattle.std.specs.Prelude.{◌≡◌, ◌⊎◌, ◌↔◌, ℕ, List as Seq, Some, IsTrue, string_bytes, IfOk, IfSome, IfNone};
+ghost use Rattle.std.specs.Prelude.{◌≡◌, ◌⊎◌, ◌↔◌, ℕ, List as Seq, Some, drop, IsTrue, string_bytes, IfOk, IfSome, IfNone};
+ghost use Rattle.std.specs.Option.{ForSome};
 ghost use Rattle.mv_edge.specs.Edge.{Rose};
 ghost use Rattle.mv_catalog.specs.declared.resolved.Program.{Program};
 ghost use Rattle.mv_accept.specs.declared.refusal.Refusal.{Refusal as Why};
-ghost use Rattle.mv_accept.specs.Accepting.{Accepts, Refuses};
+ghost use Rattle.mv_accept.specs.Accepting.{Accepts};
 ghost use Rattle.mv_accept.specs.Refusals.{line_of};
 ghost use Rattle.mv_top.specs.declared.status.Command.{Command as Task};
-ghost use Rattle.mv_top.specs.Answers.{IsAnswered, Puts, Wrote, WroteOr, IsNoCommand, words_of, words_for, name_of, text_for, line, usage_line};
+ghost use Rattle.mv_top.specs.Answers.{IsAnswered, Puts, Wrote, WroteOr, StandFor, IsNoCommand, IsTextOf, IsRefusedBy, words_of, name_of, line, usage_line};
 
 use crate::answer::answer;
 use crate::status::{Command, Fault, Status};
 use mv_edge::edge::{Sink, Source};
 use mv_edge::pace::Pace;
-use mv_edge::reading::{ReadFault, read_all};
+use mv_edge::reading::{MOST, ReadFault, read_all};
 use mv_edge::writing::write_all;
 use mv_values::list::List;
 use mv_values::memory::NoMemory;
@@ -33,21 +34,27 @@ pub fn top<R: Threads + Wait + Sync, S: Source, K: Sink, P: Pace>(
     sink: &mut K,
     pace: &P,
 ) -> Status
-    // What was written, for each status: Done has the command's text, Refused and Usage their line.
+    // What was written, for each status: Done has a text of the command, Refused and Usage their line.
     ensures wrote { Wrote (words_of words.now) (S.left source.old) (K.written sink.old) (K.written sink.new) result }
-    // Words that are no command are refused as such, and the source isn't read.
+    // Words that stand for no command are refused as such, and the source isn't read.
     ensures words { IsNoCommand (words_of words.now) → (result ≡ Status.Usage) ⊎ (result ≡ Status.WriteFault) }
     ensures unread { IsNoCommand (words_of words.now) → S.left source.new ≡ S.left source.old }
+    // A command reads the source as far as inputs are taken, and no byte more.
+    ensures rest { (command : Task) → StandFor (words_of words.now) command → (result ≡ Status.ReadFault → ⊥) → (result ≡ Status.NoMemory → ⊥)
+        → ForSome (S.left source.old) (λ all. S.left source.new ≡ Some (drop MOST all)) }
+    // A count of faults rises exactly where the status tells so.
     ensures reading { result ≡ Status.ReadFault → Rose (S.faults source.old) (S.faults source.new) }
+    ensures read { (result ≡ Status.ReadFault → ⊥) → S.faults source.new ≡ S.faults source.old }
     ensures writing { result ≡ Status.WriteFault → Rose (K.faults sink.old) (K.faults sink.new) }
-    // An accepted script gets the command's text, unless the source or the sink fails or memory runs out.
-    ensures complete { (command : Task) (all : Seq ℕ) (program : Program) → words_of words.now ≡ words_for command → S.left source.old ≡ Some all → Accepts all program
+    ensures written { (result ≡ Status.WriteFault → ⊥) → K.faults sink.new ≡ K.faults sink.old }
+    // An accepted script gets a text of the command, unless the source or the sink fails or memory runs out.
+    ensures complete { (command : Task) (all : Seq ℕ) (program : Program) → StandFor (words_of words.now) command → S.left source.old ≡ Some all → Accepts all program
         → (Rose (S.faults source.old) (S.faults source.new) → ⊥) → (Rose (K.faults sink.old) (K.faults sink.new) → ⊥)
-        → WroteOr Status.Done (text_for command program) (K.written sink.old) (K.written sink.new) result }
+        → WroteOr Status.Done (IsTextOf command program) (K.written sink.old) (K.written sink.new) result }
     // An input with the cause of a refusal gets its line, unless the source or the sink fails or memory runs out.
-    ensures refuses { (command : Task) (all : Seq ℕ) (refusal : Why) → words_of words.now ≡ words_for command → S.left source.old ≡ Some all → Refuses all refusal
+    ensures refuses { (command : Task) (all : Seq ℕ) (refusal : Why) → StandFor (words_of words.now) command → S.left source.old ≡ Some all → IsRefusedBy command all refusal
         → (Rose (S.faults source.old) (S.faults source.new) → ⊥) → (Rose (K.faults sink.old) (K.faults sink.new) → ⊥)
-        → WroteOr Status.Refused (line (line_of refusal)) (K.written sink.old) (K.written sink.new) result }
+        → WroteOr Status.Refused (λ answer. answer ≡ line (line_of refusal)) (K.written sink.old) (K.written sink.new) result }
 {
     let Some(command) = command_of(words) else {
         return put(sink, Status::Usage, USAGE_LINE);
@@ -63,9 +70,9 @@ pub fn top<R: Threads + Wait + Sync, S: Source, K: Sink, P: Pace>(
     }
 }
 
-/// The command that the words are.
+/// The command that the words stand for.
 fn command_of(words: &[String]) -> Option<Command>
-    ensures found { IfSome result (λ command. words_of words.now ≡ words_for command) }
+    ensures found { IfSome result (StandFor (words_of words.now)) }
     ensures none { IfNone result (IsNoCommand (words_of words.now)) }
 {
     match words {
@@ -106,8 +113,8 @@ fn answered<R: Threads + Wait + Sync, P: Pace>(
     pace: &P,
 ) -> Result<(Status, List<u8>), NoMemory>
     ensures found { IfOk result (λ answer. IsAnswered command.now bytes.now answer.0 answer.1) }
-    ensures only { (program : Program) → Accepts bytes.now program → IfOk result (λ answer. (answer.0 ≡ Status.Done) × (answer.1 ≡ text_for command.now program)) }
-    ensures told { (refusal : Why) → Refuses bytes.now refusal → IfOk result (λ answer. (answer.0 ≡ Status.Refused) × (answer.1 ≡ line (line_of refusal))) }
+    ensures only { (program : Program) → Accepts bytes.now program → IfOk result (λ answer. (answer.0 ≡ Status.Done) × IsTextOf command.now program answer.1) }
+    ensures told { (refusal : Why) → IsRefusedBy command.now bytes.now refusal → IfOk result (λ answer. (answer.0 ≡ Status.Refused) × (answer.1 ≡ line (line_of refusal))) }
 {
     match answer(rt, alloc, command, bytes, pace) {
         Ok(text) => Ok((Status::Done, text)),

@@ -4,8 +4,8 @@ use Rattle.mv_accept.specs.Refusals.{line_of}
 use Rattle.mv_top.specs.declared.status.Command.{Command}
 use Rattle.mv_top.specs.declared.status.Status.{Status}
 use Rattle.mv_top.specs.declared.status.Status.TheVariants.{Done, Refused, Usage}
-use Rattle.mv_top.specs.Answers.{IsAnswered, Puts, usage, words_of, words_for, line, usage_line, text_for, WroteOr}
-use Rattle.mv_top.proofs.Answering.{wrote_by, put_by, answer_of_left, accepted_of_read, cause_of_read, same_command}
+use Rattle.mv_top.specs.Answers.{IsAnswered, IsTextOf, Puts, usage, words_of, line, usage_line, WroteOr}
+use Rattle.mv_top.proofs.Answering.{wrote_by, put_by, quiet_by, answer_of_left, accepted_of_read, cause_of_read, same_command}
 use Rattle.mv_top.proofs.top.top.Goals as goal
 
 pub returns-in_default-clause-wrote : goal.returns-in_default-clause-wrote
@@ -29,9 +29,9 @@ returns-in-Ok-answered-clause-complete g c =
     λ command all program words left accepted no_read no_write.
     (let read : Accepts c.in-Ok.bytes program = accepted_of_read all c.in-Ok.bytes program (c.in-Ok.ensures.bytes all left) accepted in
     let told = c.in-Ok-answered.ensures.only program (subst (λ (bytes : List ℕ). Accepts bytes program) (sym c.as_slice.ensures) read) in
-    let same : c.in-Some.command ≡ command = same_command c.in-Some.command command (sym c.in-Some.ensures.found ∙ words) in
+    let same : c.in-Some.command ≡ command = same_command (words_of c.args.words.now) c.in-Some.command command c.in-Some.ensures.found words in
     put_by (g.K.Sink.written c.args.sink.now) (g.K.Sink.written c.put-in-Ok-answered.new.sink) (g.K.Sink.faults c.args.sink.now) (g.K.Sink.faults c.put-in-Ok-answered.new.sink)
-    c.in-Ok-answered.status Done c.in-Ok-answered.text (text_for command program) c.put-in-Ok-answered.result told.0 (told.1 ∙ ap (λ (k : Command). text_for k program) same) no_write
+    c.in-Ok-answered.status Done c.in-Ok-answered.text (IsTextOf command program) c.put-in-Ok-answered.result told.0 (subst (λ (k : Command). IsTextOf k program c.in-Ok-answered.text) same told.1) no_write
     (subst (λ (text : List ℕ). Puts (g.K.Sink.written c.args.sink.now) (g.K.Sink.written c.put-in-Ok-answered.new.sink) (g.K.Sink.faults c.args.sink.now) (g.K.Sink.faults c.put-in-Ok-answered.new.sink) c.in-Ok-answered.status text c.put-in-Ok-answered.result)
     c.as_slice-in-Ok-answered.ensures c.put-in-Ok-answered.ensures))
 
@@ -41,9 +41,17 @@ returns-in-Ok-answered-clause-refuses g c =
     (let read : Refuses c.in-Ok.bytes refusal = cause_of_read all c.in-Ok.bytes refusal (c.in-Ok.ensures.bytes all left) cause in
     let told = c.in-Ok-answered.ensures.told refusal (subst (λ (bytes : List ℕ). Refuses bytes refusal) (sym c.as_slice.ensures) read) in
     put_by (g.K.Sink.written c.args.sink.now) (g.K.Sink.written c.put-in-Ok-answered.new.sink) (g.K.Sink.faults c.args.sink.now) (g.K.Sink.faults c.put-in-Ok-answered.new.sink)
-    c.in-Ok-answered.status Refused c.in-Ok-answered.text (line (line_of refusal)) c.put-in-Ok-answered.result told.0 told.1 no_write
+    c.in-Ok-answered.status Refused c.in-Ok-answered.text (λ (answer : List ℕ). answer ≡ line (line_of refusal)) c.put-in-Ok-answered.result told.0 told.1 no_write
     (subst (λ (text : List ℕ). Puts (g.K.Sink.written c.args.sink.now) (g.K.Sink.written c.put-in-Ok-answered.new.sink) (g.K.Sink.faults c.args.sink.now) (g.K.Sink.faults c.put-in-Ok-answered.new.sink) c.in-Ok-answered.status text c.put-in-Ok-answered.result)
     c.as_slice-in-Ok-answered.ensures c.put-in-Ok-answered.ensures))
 
 pub returns-in-Err-NoMemory-clause-reading : goal.returns-in-Err-NoMemory-clause-reading
 returns-in-Err-NoMemory-clause-reading g c = λ e. cc
+
+pub returns-in_default-clause-written : goal.returns-in_default-clause-written
+returns-in_default-clause-written g c =
+    quiet_by (g.K.Sink.written c.args.sink.now) (g.K.Sink.written c.put.new.sink) (g.K.Sink.faults c.args.sink.now) (g.K.Sink.faults c.put.new.sink) Usage (line usage_line) c.put.result c.put.ensures
+
+pub returns-in-Ok-answered-clause-written : goal.returns-in-Ok-answered-clause-written
+returns-in-Ok-answered-clause-written g c =
+    quiet_by (g.K.Sink.written c.args.sink.now) (g.K.Sink.written c.put-in-Ok-answered.new.sink) (g.K.Sink.faults c.args.sink.now) (g.K.Sink.faults c.put-in-Ok-answered.new.sink) c.in-Ok-answered.status c.as_slice-in-Ok-answered.result.now c.put-in-Ok-answered.result c.put-in-Ok-answered.ensures
