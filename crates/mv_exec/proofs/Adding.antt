@@ -170,7 +170,8 @@ Goes proc tables task db r tail outer p s b =
     left tables task.parameters (jobs_left proc (task.records ++ r ∷ []) ((outer ++ moved_on (size s) p ∷ []) ++ inner_places (length task.records) p.number b (out-RStmt s)))
     (task.records ++ r ∷ []) (state_with (task.records ++ r ∷ []) (walked (out-RStmt s) r.rows (with_slots r.sets task.env)) db) ≡ tail
 
-first_same : (r q : Record) (rs qs : List Record) → r ∷ rs ≡ q ∷ qs → (r ≡ q) × (rs ≡ qs)
+-- two lists with one first record
+pub first_same : (r q : Record) (rs qs : List Record) → r ∷ rs ≡ q ∷ qs → (r ≡ q) × (rs ≡ qs)
 first_same r q rs qs h = (cc, cc)
 
 own_goes : (proc : ProcInfo) (tables : List TableInfo) (task : Task) (db : Tables) (tail : List Record) (outer : List Place) (p : Place) (s : RStmt) (b : Bool) (next : State)

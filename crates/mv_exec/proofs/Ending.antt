@@ -8,7 +8,7 @@ use Rattle.mv_alone.specs.TableAfter.{Tables}
 use Rattle.mv_exec.specs.declared.places.Place.{Place}
 use Rattle.mv_exec.specs.declared.task.Task.{Task}
 use Rattle.mv_exec.specs.Places.{block_of, holding, next_turn}
-use Rattle.mv_exec.specs.Tasks.{places_of, left_of, beginning, IsTask, IsAsBefore, TellsEnd}
+use Rattle.mv_exec.specs.Tasks.{places_of, left_of, beginning, IsTask, StandsAsBefore, TellsEnd}
 use Rattle.mv_exec.proofs.Turning.{FirstOf, first_of, IsDue, standing_live, after_turn, turned_before, turned_ready}
 use Rattle.mv_exec.proofs.Adding.{StandsAt, left_next}
 
@@ -26,7 +26,7 @@ either_left proc tables task db outer p t are none true e =
 either_left proc tables task db outer p t are none false e =
     let due : IsDue proc (places_of task) outer p = record { are = are; none = e } in
     let first : Option Env = Some (beginning task) in
-    let before : IsAsBefore proc task (after_turn task first outer p) = turned_before proc task first outer p t due refl in
+    let before : StandsAsBefore proc task (after_turn task first outer p) = turned_before proc task first outer p t due refl in
     let block : List RStmt = block_of proc (holding proc None outer) (next_turn p) in
     let f : FirstOf RStmt block 0 = first_of block 0 (turned_ready proc task outer p t due outer (next_turn p) refl) in
     stands_left proc tables (after_turn task first outer p) db outer (next_turn p) f.it (record { are = refl; stands = f.there }) (before.left tables db ∙ none)

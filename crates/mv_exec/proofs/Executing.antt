@@ -34,9 +34,10 @@ use Rattle.mv_exec.specs.declared.task.Task.{Task}
 use Rattle.mv_exec.specs.Keeping.{owned, all_owned}
 use Rattle.mv_exec.specs.Left.{run, left, inside}
 use Rattle.mv_exec.specs.Places.{block_of, holding, site_in, site_of, turns_of, jobs_left}
-use Rattle.mv_exec.specs.Tasks.{places_of, state_of, left_of, IsTask, Foresees, IsNext}
-use Rattle.mv_exec.specs.Steps.{HasAdded, ahead_in}
-use Rattle.mv_exec.specs.Running.{record_of, HasRun}
+use Rattle.mv_exec.specs.Tasks.{places_of, state_of, left_of, IsTask}
+use Rattle.mv_exec.specs.Ahead.{ForeseesLeft, ahead_in}
+use Rattle.mv_exec.specs.Steps.{HasAdded, HasExecuted, record_of}
+use Rattle.mv_exec.specs.Running.{Foresees}
 use Rattle.mv_exec.proofs.Defining.{before_owned}
 use Rattle.mv_exec.proofs.Stepping.{one_more, owned_earlier}
 use Rattle.mv_exec.proofs.Adding.{StandsAt, left_next, applied_both, writes_more}
@@ -73,17 +74,16 @@ same_ahead : (a b : Ahead) → a.spot ≡ b.spot → a.parent ≡ b.parent → a
 same_ahead a b s p r =
     ap (λ v. record a { spot = v }) s ∙ (ap (λ v. record a { spot = b.spot; parent = v }) p ∙ ap (λ v. record b { reads = v }) r)
 
--- the next record is this one, and so it tells the effect of its statement
-pub record LeavesNext (proc : ProcInfo) (tables : List TableInfo) (task : Task) (db : Tables) (y : RStmt-F RStmt) (r : Record) : Type 0 where
+-- the next record is this one
+pub record LeavesNext (proc : ProcInfo) (tables : List TableInfo) (task : Task) (db : Tables) (r : Record) : Type 0 where
   pub tail : List Record
   pub left : left_of proc tables task db ≡ r ∷ tail
-  pub tells : TellsEffect r (state_of task db) (itself tables y (state_of task db))
 
 -- the record of the next statement's effect is the next one
 effect_next : (proc : ProcInfo) (tables : List TableInfo) (task : Task) (db : Tables) (outer : List Place) (p : Place) (s : RStmt) (ahead : Ahead) (e : Effect)
-    → IsTask proc task → StandsAt proc (places_of task) outer p s → HasColumns (out-RStmt s) → AreRising db → IsNext proc task (Some ahead)
-    → IsEffect tables (out-RStmt s) task.env (applied (earlier (length task.records) task.undo) db) e → LeavesNext proc tables task db (out-RStmt s) (record_of ahead e)
-effect_next proc tables task db outer p s ahead e t at has rise next effect =
+    → IsTask proc task → StandsAt proc (places_of task) outer p s → ForeseesLeft proc task (Some ahead)
+    → IsEffect tables (out-RStmt s) task.env (applied (earlier (length task.records) task.undo) db) e → LeavesNext proc tables task db (record_of ahead e)
+effect_next proc tables task db outer p s ahead e t at next effect =
     let st : State = state_of task db in
     let site : Site = site_in p.holder (site_of outside outer) in
     let own : Record = own_record tables task.parameters (out-RStmt s) p.number site task.records st in
@@ -91,59 +91,39 @@ effect_next proc tables task db outer p s ahead e t at has rise next effect =
     (inside (length task.records) (out-RStmt s) p.number site st ++ run site (p.number + size s) (drop (p.at + 1) (block_of proc (holding proc None outer) p))
     ∷ (turns_of task.records (site_of outside outer) (block_of proc (holding proc None outer) p) p.first p.holder ++ jobs_left proc task.records outer)) (task.records ++ own ∷ [])) in
     let leaves : left_of proc tables task db ≡ own ∷ rest = left_next proc tables task db outer p s at in
-    let foreseen : Foresees ahead (own ∷ rest) = subst (Foresees ahead) leaves (next tables db) in
+    let foreseen : Foresees (Some ahead) (own ∷ rest) = subst (Foresees (Some ahead)) leaves (next tables db) in
     let is : e ≡ effect_of tables (out-RStmt s) st = subst (λ ws. IsEffect tables (out-RStmt s) task.env (applied ws db) e) (own_writes proc task t) effect st.lines in
     let same : own ≡ record_of ahead e = ap (λ a. record_of a (effect_of tables (out-RStmt s) st)) (same_ahead (ahead_in own) ahead foreseen.0 foreseen.1 foreseen.2) ∙ ap (record_of ahead) (sym is) in
     record {
       tail = rest;
       left = leaves ∙ ap (λ r. r ∷ rest) same;
-      tells = subst (λ r. TellsEffect r st (itself tables (out-RStmt s) st)) same
-          (effect_known tables task.parameters (out-RStmt s) p.number site task.records st has (rising_applied (writes_in task.records) db rise));
     }
-
--- behind it the keys stand
-keys_told : (tables : List TableInfo) (y : RStmt-F RStmt) (r : Record) (st : State) (out : Result State End) → itself tables y st ≡ out → KeysStand tables st.tables → TellsEffect r st out
-    → KeysStand tables (applied r.writes st.tables)
-keys_told tables y r st (Ok next) is keys tells = subst (KeysStand tables) (ap (λ (n : State). n.tables) tells.1) (itself_stands tables y st next keys is)
-keys_told tables y r st (Err e) is keys tells = subst (λ ws. KeysStand tables (applied ws st.tables)) (sym tells.writes) keys
 
 -- What was executed
 
 -- a record more was counted
-pub counts_one : (proc : ProcInfo) (old : Task) (r : Record) (new : Task) (all number : ℕ) → HasAdded proc old r new → all ≡ length new.records → number ≡ length old.records
+pub counts_one : (proc : ProcInfo) (old : Task) (r : Record) (new : Task) (all number : ℕ) → HasAdded proc old r new → new.executed ≡ old.executed → all ≡ length new.records → number ≡ length old.records
     → new.executed + (all - number) ≡ old.executed + 1
-counts_one proc old r new all number h is was =
+counts_one proc old r new all number h same is was =
     let more : length new.records ≡ length old.records + 1 = ap length h.records ∙ one_more old.records r in
-    omega (arith, more, is, was, h.executed)
+    omega (arith, more, is, was, same)
+
+-- the same record was added to the call with another count
+recounted : (proc : ProcInfo) (old : Task) (r : Record) (new : Task) (n : ℕ) → HasAdded proc old r new → HasAdded proc old r (record new { executed = n })
+recounted proc old r new n h = record { parameters = h.parameters; records = h.records; beginning = h.beginning; left = h.left; keys = h.keys }
 
 -- the next record of the run was added
-pub executed_run : (proc : ProcInfo) (tables : List TableInfo) (old new : Task) (before after : Sight) (n : ℕ) (outer : List Place) (p : Place) (s : RStmt) (ahead : Ahead) (e : Effect) (r : Record)
-    → IsTask proc old → StandsAt proc (places_of old) outer p s → HasColumns (out-RStmt s) → AreRising before.database → IsNext proc old (Some ahead)
+pub executed_next : (proc : ProcInfo) (tables : List TableInfo) (old new : Task) (before after : Sight) (n : ℕ) (outer : List Place) (p : Place) (s : RStmt) (ahead : Ahead) (e : Effect) (r : Record)
+    → IsTask proc old → StandsAt proc (places_of old) outer p s → HasColumns (out-RStmt s) → AreRising before.database → ForeseesLeft proc old (Some ahead)
     → IsEffect tables (out-RStmt s) old.env (applied (earlier (length old.records) old.undo) before.database) e
     → AskedFor e.preds (earlier (length old.records) old.undo) before after
-    → r ≡ record_of ahead e → n ≡ old.executed + 1 → HasAdded proc old r new → HasRun tables proc old (record new { executed = n }) before after
-executed_run proc tables old new before after n outer p s ahead e r t at has rise next effect asked is count added =
-    let it : LeavesNext proc tables old before.database (out-RStmt s) (record_of ahead e) = effect_next proc tables old before.database outer p s ahead e t at has rise next effect in
+    → r ≡ record_of ahead e → HasAdded proc old r new → HasExecuted tables proc old (record new { executed = n }) before after
+executed_next proc tables old new before after n outer p s ahead e r t at has rise next effect asked is added =
+    let it : LeavesNext proc tables old before.database (record_of ahead e) = effect_next proc tables old before.database outer p s ahead e t at next effect in
     let left : left_of proc tables old before.database ≡ r ∷ it.tail = it.left ∙ ap (λ q. q ∷ it.tail) (sym is) in
     record {
       next = r;
-      records = added.records;
+      added = recounted proc old r new n added;
       left = left ∙ ap (λ rs. r ∷ rs) (sym (added.left tables before.database it.tail rise left));
-      executed = count;
-      parameters = added.parameters;
-      beginning = added.beginning;
       asked = subst (λ (q : Record). AskedFor q.preds (writes_in old.records) before after) (sym is) (subst (λ ws. AskedFor e.preds ws before after) (own_writes proc old t) asked);
     }
-
--- behind it the keys stand
-pub executed_keys : (proc : ProcInfo) (tables : List TableInfo) (old new : Task) (db : Tables) (outer : List Place) (p : Place) (s : RStmt) (ahead : Ahead) (e : Effect) (r : Record)
-    → IsTask proc old → StandsAt proc (places_of old) outer p s → HasColumns (out-RStmt s) → AreRising db → IsNext proc old (Some ahead)
-    → IsEffect tables (out-RStmt s) old.env (applied (earlier (length old.records) old.undo) db) e → KeysStand tables (applied (writes_in old.records) db)
-    → r ≡ record_of ahead e → HasAdded proc old r new → KeysStand tables (applied (writes_in new.records) db)
-executed_keys proc tables old new db outer p s ahead e r t at has rise next effect keys is added =
-    let it : LeavesNext proc tables old db (out-RStmt s) (record_of ahead e) = effect_next proc tables old db outer p s ahead e t at has rise next effect in
-    let behind : KeysStand tables (applied r.writes (applied (writes_in old.records) db)) =
-    subst (λ (q : Record). KeysStand tables (applied q.writes (applied (writes_in old.records) db))) (sym is)
-    (keys_told tables (out-RStmt s) (record_of ahead e) (state_of old db) (itself tables (out-RStmt s) (state_of old db)) refl keys it.tells) in
-    subst (KeysStand tables)
-    (sym (ap (λ (rs : List Record). applied (writes_in rs) db) added.records ∙ (ap (λ ws. applied ws db) (writes_more old.records r) ∙ applied_both (writes_in old.records) r.writes db))) behind

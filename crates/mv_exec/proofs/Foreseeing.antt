@@ -11,8 +11,9 @@ use Rattle.mv_recorded.specs.Recorded.{Site, outside}
 use Rattle.mv_exec.specs.declared.places.Place.{Place}
 use Rattle.mv_exec.specs.declared.task.Task.{Task}
 use Rattle.mv_exec.specs.Places.{block_of, holding, site_in, site_of, IsReady, AreNumbered, next_turn, turned}
-use Rattle.mv_exec.specs.Tasks.{standing, places_of, left_of, definer_in, beginning, IsTask, IsAsBefore, Foresees, IsNext}
-use Rattle.mv_exec.specs.Ahead.{IsAhead, ahead_at}
+use Rattle.mv_exec.specs.Tasks.{standing, places_of, left_of, definer_in, beginning, IsTask, StandsAsBefore}
+use Rattle.mv_exec.specs.Running.{Foresees}
+use Rattle.mv_exec.specs.Ahead.{IsAhead, ahead_at, ForeseesLeft}
 use Rattle.mv_exec.proofs.Placing.{site_more}
 use Rattle.mv_exec.proofs.Turning.{IsDue, standing_live, after_turn, turned_task, turned_before, turned_ready}
 use Rattle.mv_exec.proofs.Adding.{StandsAt, left_next}
@@ -33,12 +34,12 @@ reads_same params loops records definers y h =
 -- at a place that is ahead
 pub foresees : (proc : ProcInfo) (task : Task) (places outer : List Place) (p : Place) (s : RStmt) → IsTask proc task → task.ended ≡ false → IsAhead proc task places
     → places ≡ outer ++ p ∷ [] → slice_get (block_of proc (holding proc None outer) p) p.at ≡ Some s
-    → IsNext proc task (Some (ahead_at task.parameters task.definers (site_of outside places) p.number (out-RStmt s)))
+    → ForeseesLeft proc task (Some (ahead_at task.parameters task.definers (site_of outside places) p.number (out-RStmt s)))
 foresees proc task places outer p s t live ahead are stands tables db =
     let then : Task = record task { env = ahead.env; places = places } in
     let at : StandsAt proc (places_of then) outer p s = record { are = ap (λ b. standing b places) live ∙ are; stands = stands } in
     let site : site_of outside places ≡ site_in p.holder (site_of outside outer) = ap (site_of outside) are ∙ site_more outside outer p in
-    subst (Foresees (ahead_at task.parameters task.definers (site_of outside places) p.number (out-RStmt s))) (sym (left_next proc tables then db outer p s at) ∙ ahead.left tables db)
+    subst (Foresees (Some (ahead_at task.parameters task.definers (site_of outside places) p.number (out-RStmt s)))) (sym (left_next proc tables then db outer p s at) ∙ ahead.left tables db)
     (subst (λ (i : Site). ((record { statement = p.number; turns = (site_in p.holder (site_of outside outer)).turns }) ≡ (ahead_at task.parameters task.definers i p.number (out-RStmt s)).spot)
     × ((site_in p.holder (site_of outside outer)).parent ≡ i.parent)
     × (reads_of task.parameters (site_in p.holder (site_of outside outer)).loops task.records (expressions (out-RStmt s)) ≡ (ahead_at task.parameters task.definers i p.number (out-RStmt s)).reads)) (sym site)
@@ -59,7 +60,7 @@ pub ahead_turned : (proc : ProcInfo) (task : Task) (ps qs outer : List Place) (p
 ahead_turned proc task ps qs outer p t live same are none new =
     let due : IsDue proc (places_of task) outer p = record { are = standing_live task.ended task.places live ∙ (sym same ∙ are); none = none } in
     let f : Option Env = Some (beginning task) in
-    let before : IsAsBefore proc task (after_turn task f outer p) = turned_before proc task f outer p t due refl in
+    let before : StandsAsBefore proc task (after_turn task f outer p) = turned_before proc task f outer p t due refl in
     record {
       ready = subst (IsReady proc) (sym new) (turned_ready proc task outer p t due);
       numbers = subst (AreNumbered proc None) (sym new) (let then : IsTask proc (after_turn task f outer p) = turned_task proc task f outer p t due in then.numbers);

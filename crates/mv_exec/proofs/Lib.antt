@@ -18,4 +18,6 @@ pub mod Adopting
 pub mod Executing
 pub mod Numbering
 pub mod Ending
-pub mod Finishing
+pub mod Kept
+pub mod Counting
+pub mod Fronts

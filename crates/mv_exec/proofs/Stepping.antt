@@ -16,6 +16,9 @@ use Rattle.mv_record.specs.declared.record.Slot.{Slot}
 use Rattle.mv_recorded.specs.Effect.{with_slots, HasColumns}
 use Rattle.mv_recorded.specs.Reading.{last_place, sets_variable}
 use Rattle.mv_values.specs.declared.patch.Write.{Write}
+use Rattle.mv_values.specs.Patching.{applied}
+use Rattle.mv_values.specs.Tables.{KeysStand}
+use Rattle.mv_record.specs.Runs.{writes_in}
 use Rattle.mv_undo.specs.declared.owned.Owned.{Owned}
 use Rattle.mv_undo.specs.Owning.{before}
 use Rattle.mv_exec.specs.declared.places.Holder.{Holder}
@@ -28,9 +31,10 @@ use Rattle.mv_exec.specs.Keeping.{all_owned, owned, widened, define, slot_room}
 use Rattle.mv_exec.specs.Moves.{entered, looped, inner_places, moved_on, Chooses, walked}
 use Rattle.mv_exec.specs.Places.{body_in, branch_in, held, holding, AreFilled, IsNumbered, AreNumbered}
 use Rattle.mv_exec.specs.Tasks.{none_in, places_of, beginning, state_of, left_of, definer_in, IsTask, IsHeldBefore, AreHeldBefore, IsTrimmed}
-use Rattle.mv_exec.specs.Steps.{held_with, with_record, HasFronts, IsWidened, HasAdded, TellsLeft, stepped}
+use Rattle.mv_exec.specs.Steps.{held_with, with_record, HasFronts, IsWidened, HasAdded}
 use Rattle.mv_exec.proofs.Ending.{ends_exactly}
 use Rattle.mv_exec.proofs.Found.{record_found}
+use Rattle.mv_exec.proofs.Kept.{keys_after}
 use Rattle.mv_exec.proofs.Placing.{no_last}
 use Rattle.mv_exec.proofs.Turning.{filled_last, filled_outer, filled_more, held_last, held_outer, held_more}
 use Rattle.mv_exec.proofs.Trimming.{every_front, filled_front, held_front}
@@ -215,23 +219,25 @@ trimmed_added proc task r outer p s b new t kept at chosen has ends trim =
     record {
       parameters = ap (λ (u : Task). u.parameters) trim.rest;
       records = ap (λ (u : Task). u.records) trim.rest;
-      executed = ap (λ (u : Task). u.executed) trim.rest;
       beginning = ap beginning trim.rest ∙ begun_same task.first mid.env task.env kept;
       left = λ tables db tail rise leaves.
           ap (λ u. left_of proc tables u db) trim.rest
           ∙ (ap (λ js. left tables task.parameters js mid.records (state_of mid db)) trim.left
           ∙ goes_on proc tables task db r tail outer p s b t at chosen has rise leaves ends);
+      keys = λ tables db tail rise leaves keys.
+          subst (λ (rs : List Record). KeysStand tables (applied (writes_in rs) db)) (sym (ap (λ (u : Task). u.records) trim.rest))
+          (keys_after proc tables task db r tail outer p s at has rise leaves keys);
     }
 
 ended_added : (proc : ProcInfo) (task : Task) (r : Record) (outer : List Place) (p : Place) (s : RStmt) (b : Bool) (e : End)
-    → IsSome task.first → StandsAt proc (places_of task) outer p s → r.end ≡ Some e
+    → IsSome task.first → StandsAt proc (places_of task) outer p s → HasColumns (out-RStmt s) → r.end ≡ Some e
     → HasAdded proc task r (let mid : Task = behind_record task r outer p s b in record mid { ended = true })
-ended_added proc task r outer p s b e kept at ends = record {
+ended_added proc task r outer p s b e kept at has ends = record {
   parameters = refl;
   records = refl;
-  executed = refl;
   beginning = begun_same task.first (walked (out-RStmt s) r.rows (with_slots r.sets task.env)) task.env kept;
   left = λ tables db tail rise leaves. sym (ends_all proc tables task db r tail outer p s e at leaves ends);
+  keys = λ tables db tail rise leaves keys. keys_after proc tables task db r tail outer p s at has rise leaves keys;
 }
 
 -- Something is left
@@ -239,13 +245,6 @@ ended_added proc task r outer p s b e kept at ends = record {
 -- of a call that hasn't ended, whatever the database is
 pub some_left : (proc : ProcInfo) (task : Task) → IsTask proc task → task.ended ≡ false → (tables : List TableInfo) (db : Tables) → left_of proc tables task db ≢ []
 some_left proc task t live tables db none = let ended : task.ended ≡ true = (ends_exactly proc task t tables db).1 none in cc
-
-pub tells_left : (proc : ProcInfo) (task : Task) → IsTask proc task → TellsLeft proc task (stepped task.ended)
-tells_left proc task t = by task.ended refl
-  where
-    by : (b : Bool) → task.ended ≡ b → TellsLeft proc task (stepped b)
-    by true e = (e, λ tables db. (ends_exactly proc task t tables db).0 e)
-    by false e = (e, some_left proc task t e)
 
 -- The whole step
 
@@ -272,7 +271,7 @@ pub past_added : (proc : ProcInfo) (task : Task) (r : Record) (outer : List Plac
 past_added proc task r outer p s b mid new None ends t kept chosen has end are past =
     trimmed_added proc task r outer p s b new t kept past.stands chosen has end (subst (λ m. IsTrimmed proc m new) past.is (past.trimmed are))
 past_added proc task r outer p s b mid new (Some e) ends t kept chosen has end are past =
-    subst (HasAdded proc task r) (sym (past.ended are ∙ ap (λ (m : Task). record m { ended = true }) past.is)) (ended_added proc task r outer p s b e kept past.stands end)
+    subst (HasAdded proc task r) (sym (past.ended are ∙ ap (λ (m : Task). record m { ended = true }) past.is)) (ended_added proc task r outer p s b e kept past.stands has end)
 
 pub past_found : (proc : ProcInfo) (task : Task) (r : Record) (outer : List Place) (p : Place) (s : RStmt) (b : Bool) (mid new : Task) (ends : Bool)
     → IsPast proc task r outer p s b mid new ends → new.env.found ≡ task.env.found
@@ -284,6 +283,18 @@ past_found proc task r outer p s b mid new ends past = by ends refl
     by : (e : Bool) → ends ≡ e → new.env.found ≡ task.env.found
     by true e = ap (λ (u : Task). u.env.found) (past.ended e) ∙ behind
     by false e = ap (λ (u : Task). u.env.found) (past.trimmed e).rest ∙ behind
+
+-- nothing was executed
+pub past_executed : (proc : ProcInfo) (task : Task) (r : Record) (outer : List Place) (p : Place) (s : RStmt) (b : Bool) (mid new : Task) (ends : Bool)
+    → IsPast proc task r outer p s b mid new ends → new.executed ≡ task.executed
+past_executed proc task r outer p s b mid new ends past = by ends refl
+  where
+    before : mid.executed ≡ task.executed
+    before = ap (λ (u : Task). u.executed) past.is
+
+    by : (e : Bool) → ends ≡ e → new.executed ≡ task.executed
+    by true e = ap (λ (u : Task). u.executed) (past.ended e) ∙ before
+    by false e = ap (λ (u : Task). u.executed) (past.trimmed e).rest ∙ before
 
 -- the parts of the call, one after another, make the call behind the record
 pub parts_behind : (proc : ProcInfo) (task : Task) (r : Record) (outer : List Place) (p : Place) (s : RStmt) (b : Bool) (held : Task) (env : Env) (inner : List Place) (behind : Place) (n at : ℕ)

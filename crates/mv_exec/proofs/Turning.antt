@@ -19,7 +19,7 @@ use Rattle.mv_exec.specs.declared.task.Task.{Task}
 use Rattle.mv_exec.specs.Left.{Job, run, turns, left}
 use Rattle.mv_exec.specs.Env.{begun_with}
 use Rattle.mv_exec.specs.Places.{held, block_of, passed, holding, site_in, site_of, some_run, some_turns, turns_of, rows_at, jobs_left, has_turn, is_left, EndsLeft, Every, IsFilled, AreFilled, IsNumbered, AreNumbered, IsReady, in_next_turn, next_turn, with_turn, turned}
-use Rattle.mv_exec.specs.Tasks.{standing, places_of, beginning, state_of, IsTask, IsAsBefore, IsHeldBefore, AreHeldBefore}
+use Rattle.mv_exec.specs.Tasks.{standing, places_of, beginning, state_of, IsTask, StandsAsBefore, IsHeldBefore, AreHeldBefore}
 use Rattle.mv_exec.proofs.Leaving.{turn_begins}
 use Rattle.mv_exec.proofs.Placing.{same_last, none_past, jobs_more}
 use Rattle.mv_exec.proofs.Going.{same_behind, same_turns}
@@ -191,7 +191,7 @@ turned_ready proc old outer p t due o q e =
     (subst (λ os. nat_lt 0 (length (block_of proc (holding proc None os) (next_turn p))) ≡ true) h.0 (is_below 0 _ (next_filled proc old outer p t due)))
 
 pub turned_before : (proc : ProcInfo) (old : Task) (f : Option Env) (outer : List Place) (p : Place) → IsTask proc old → IsDue proc (places_of old) outer p
-    → begun_with f (turned old.records p.holder old.env) ≡ beginning old → IsAsBefore proc old (after_turn old f outer p)
+    → begun_with f (turned old.records p.holder old.env) ≡ beginning old → StandsAsBefore proc old (after_turn old f outer p)
 turned_before proc old f outer p t due first = record {
   parameters = refl;
   records = refl;

@@ -4,8 +4,7 @@ pub mod Env
 pub mod Keeping
 pub mod Tasks
 pub mod Moves
+pub mod Running
 pub mod Ahead
 pub mod Fresh
 pub mod Steps
-pub mod Running
-pub mod Graphs

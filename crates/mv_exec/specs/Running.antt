@@ -1,37 +1,118 @@
--- The execution of a call's next statement. This project's own.
-use Rattle.std.specs.Prelude.{◌≡◌, ◌+◌, List, [], ◌∷◌, ◌++◌}
-use Rattle.mv_values.specs.declared.schema.TableInfo.{TableInfo}
-use Rattle.mv_catalog.specs.declared.resolved.ProcInfo.{ProcInfo}
+-- Running calls: all that public contracts say of them. This project's own.
+use Rattle.std.specs.Prelude.{◌≡◌, ◌↔◌, ◌≤◌, ◌+◌, ◌*◌, ℕ, Bool, true, false, List, [], ◌∷◌, ◌++◌, Option, Some, None, Result, Ok, Err, length}
+use Rattle.mv_values.specs.declared.calls.Call.{Call}
+use Rattle.mv_values.specs.Patching.{applied}
+use Rattle.mv_values.specs.Tables.{KeysStand}
+use Rattle.mv_alone.specs.TableAfter.{Tables, entered}
 use Rattle.mv_record.specs.declared.record.Record.{Record}
 use Rattle.mv_record.specs.Runs.{writes_in}
+use Rattle.mv_record.specs.Writes.{AreRising}
 use Rattle.mv_view.specs.Viewing.{Sight}
-use Rattle.mv_record.specs.declared.effect.Effect.{Effect}
-use Rattle.mv_effect.specs.Looking.{AskedFor}
+use Rattle.mv_effect.specs.Looking.{AskedAtMost, AskedFor, IsDatabase, different}
+use Rattle.mv_graph.specs.declared.graph.Graph.{Graph}
+use Rattle.mv_graph.specs.Nodes.{IsSound, meaning_of}
+use Rattle.mv_exec.specs.declared.step.Stepped.{Stepped}
+use Rattle.mv_exec.specs.declared.step.Stepped.TheVariants.{Ran, Ended}
 use Rattle.mv_exec.specs.declared.task.Ahead.{Ahead}
 use Rattle.mv_exec.specs.declared.task.Task.{Task}
-use Rattle.mv_exec.specs.Tasks.{beginning, left_of}
+use Rattle.mv_exec.specs.Tasks.{IsTask, BeginsCall, left_of}
 
--- the record of an effect where this is ahead
-abbrev pub record_of : Ahead → Effect → Record
-record_of ahead e = record {
-  spot = ahead.spot;
-  parent = ahead.parent;
-  reads = ahead.reads;
-  preds = e.preds;
-  sets = e.sets;
-  rows = e.rows;
-  writes = e.writes;
-  line = e.line;
-  end = e.end;
-}
+-- What a running call is
 
--- the next record of the run on a view's database was added, and counted; the view was asked for its predicates over the own writes of
--- earlier ones
-pub record HasRun (tables : List TableInfo) (proc : ProcInfo) (old new : Task) (before after : Sight) : Type 0 where
+-- the full run of the call on a database leaves these records after those that the task has
+abbrev pub Leaves : Graph → Call → Tables → Task → List Record → Type 0
+Leaves g call db task rest = (meaning_of g call db).records ≡ task.records ++ rest
+
+-- the task is this call of the graph, on its way. What it keeps beside its records is its own affair: no other crate looks inside.
+pub record IsTaskOf (g : Graph) (call : Call) (task : Task) : Type 0 where
+  pub whole : IsTask g.procedure task
+  pub begins : BeginsCall task g.procedure call
+  pub few : length call.arguments ≤ 16
+  pub found : task.env.found ≡ (entered g.procedure call).found
+  pub left : (db : Tables) (rest : List Record) → AreRising db → Leaves g call db task rest → left_of g.procedure g.tables task db ≡ rest
+  pub keys : (db : Tables) (rest : List Record) → IsDatabase g.tables db → Leaves g call db task rest → KeysStand g.tables (applied (writes_in task.records) db)
+
+-- it is a running call of the graph
+abbrev pub IsRunning : Graph → Task → Type 0
+IsRunning g task = (call : Call) × IsTaskOf g call task
+
+-- it is a running call of the graph whose records are the first ones of its full run on a database
+pub record IsRunningOn (g : Graph) (db : Tables) (task : Task) : Type 0 where
+  pub call : Call
+  pub is : IsTaskOf g call task
+  pub rest : List Record
+  pub leaves : Leaves g call db task rest
+
+-- it is the same call as before
+abbrev pub IsSameCall : Graph → Task → Task → Type 0
+IsSameCall g old new = (call : Call) → IsTaskOf g call old → IsTaskOf g call new
+
+-- the task shows what it showed before
+pub record IsUnchanged (old new : Task) : Type 0 where
+  pub records : new.records ≡ old.records
+  pub executed : new.executed ≡ old.executed
+  pub ended : new.ended ≡ old.ended
+
+-- `Ended` of a task that has ended, `Ran` of one that hasn't
+abbrev pub stepped : Bool → Stepped
+stepped true = Ended
+stepped false = Ran
+
+-- The next record
+
+-- the first of these records has this place, controller and definers; where nothing is ahead there is none
+abbrev pub Foresees : Option Ahead → List Record → Type 0
+Foresees None rs = rs ≡ []
+Foresees (Some ahead) [] = ⊥
+Foresees (Some ahead) (r ∷ rs) = (r.spot ≡ ahead.spot) × (r.parent ≡ ahead.parent) × (r.reads ≡ ahead.reads)
+
+-- this is ahead of the call, on whatever database its records are the first ones of its full run
+abbrev pub IsNext : Graph → Task → Option Ahead → Type 0
+IsNext g task ahead = (call : Call) (db : Tables) (rest : List Record) → IsTaskOf g call task → AreRising db → Leaves g call db task rest → Foresees ahead rest
+
+-- a record has the content of another one: all but its place, its controller and its definers
+abbrev pub HasContent : Record → Record → Type 0
+HasContent given r = r ≡ record given { spot = r.spot; parent = r.parent; reads = r.reads }
+
+-- a record with the content of the given one was added, and nothing was executed; its place, controller and definers are those ahead
+pub record HasAdopted (g : Graph) (old : Task) (given : Record) (new : Task) : Type 0 where
   pub next : Record
   pub records : new.records ≡ old.records ++ next ∷ []
-  pub left : left_of proc tables old before.database ≡ next ∷ left_of proc tables new before.database
+  pub content : HasContent given next
+  pub place : IsNext g old (Some (record { spot = next.spot; parent = next.parent; reads = next.reads }))
+  pub executed : new.executed ≡ old.executed
+
+-- where a full run of the call goes on with a record of this content, the rest of that run is left
+abbrev pub GoesOnWith : Graph → Task → Record → Task → Type 0
+GoesOnWith g old given new =
+    (call : Call) (db : Tables) (r : Record) (rest : List Record) → IsTaskOf g call old → AreRising db → Leaves g call db old (r ∷ rest) → HasContent given r → Leaves g call db new rest
+
+-- a record was added by executing its statement; the view was asked for its predicates over the own writes of the records before it
+pub record HasRun (old new : Task) (before after : Sight) : Type 0 where
+  pub next : Record
+  pub records : new.records ≡ old.records ++ next ∷ []
   pub executed : new.executed ≡ old.executed + 1
-  pub parameters : new.parameters ≡ old.parameters
-  pub beginning : beginning new ≡ beginning old
   pub asked : AskedFor next.preds (writes_in old.records) before after
+
+-- 1 where it was refused
+abbrev pub refusals : {A E : Type 0} → Result A E → ℕ
+refusals (Ok x) = 0
+refusals (Err e) = 1
+
+-- records were added by executing their statements, after which so many more were tried in vain; for each of them the view was asked for
+-- rows once, and once for each key that the call has written
+pub record HasRunTo (old new : Task) (vain : ℕ) (before after : Sight) : Type 0 where
+  pub more : List Record
+  pub records : new.records ≡ old.records ++ more
+  pub executed : new.executed ≡ old.executed + length more
+  pub asked : AskedAtMost (length more + vain) ((length more + vain) * different (writes_in new.records)) before after
+
+-- Laws
+
+-- a call has ended exactly where its full run leaves nothing more, on whatever database its records are the first ones of that run
+abbrev pub EndsExactly : Type 0
+EndsExactly = (g : Graph) (call : Call) (db : Tables) (task : Task) (rest : List Record) → IsTaskOf g call task → AreRising db → Leaves g call db task rest → (task.ended ≡ true) ↔ (rest ≡ [])
+
+-- the writes of the first records of a full run leave each row under its own values of the key columns
+abbrev pub KeysKept : Type 0
+KeysKept = (g : Graph) (db : Tables) (task : Task) → IsDatabase g.tables db → IsRunningOn g db task → KeysStand g.tables (applied (writes_in task.records) db)

@@ -1,22 +1,26 @@
 -- One record more in a running call. This project's own.
-use Rattle.std.specs.Prelude.{◌≡◌, ◌≢◌, ℕ, Bool, true, false, List, [], ◌∷◌, ◌++◌, Some, None, length, take, slice_get}
+use Rattle.std.specs.Prelude.{◌≡◌, ℕ, List, [], ◌∷◌, ◌++◌, Some, None, length, take, slice_get}
 use Rattle.mv_values.specs.declared.schema.TableInfo.{TableInfo}
+use Rattle.mv_values.specs.Patching.{applied}
+use Rattle.mv_values.specs.Tables.{KeysStand}
 use Rattle.mv_catalog.specs.Text.{IsProcedure}
 use Rattle.mv_catalog.specs.declared.resolved.ProcInfo.{ProcInfo}
 use Rattle.mv_catalog.specs.declared.resolved.RStmt.{RStmt, out-RStmt}
 use Rattle.mv_alone.specs.declared.state.Env.{Env}
 use Rattle.mv_alone.specs.TableAfter.{Tables}
 use Rattle.mv_record.specs.declared.record.Record.{Record}
+use Rattle.mv_record.specs.Runs.{writes_in}
 use Rattle.mv_record.specs.Writes.{AreRising}
 use Rattle.mv_recorded.specs.Effect.{HasColumns}
+use Rattle.mv_view.specs.Viewing.{Sight}
+use Rattle.mv_effect.specs.declared.effect.Effect.{Effect}
+use Rattle.mv_effect.specs.Looking.{AskedFor}
 use Rattle.mv_exec.specs.declared.places.Place.{Place}
-use Rattle.mv_exec.specs.declared.step.Stepped.{Stepped}
-use Rattle.mv_exec.specs.declared.step.Stepped.TheVariants.{Ran, Ended}
 use Rattle.mv_exec.specs.declared.task.Ahead.{Ahead}
 use Rattle.mv_exec.specs.declared.task.Task.{Task}
 use Rattle.mv_exec.specs.Keeping.{owned, widened, define, slot_room}
 use Rattle.mv_exec.specs.Places.{block_of, holding}
-use Rattle.mv_exec.specs.Tasks.{beginning, left_of, definer_in, IsNext}
+use Rattle.mv_exec.specs.Tasks.{beginning, left_of, definer_in}
 
 -- The next statement
 
@@ -58,36 +62,34 @@ pub record IsWidened (old new : Task) : Type 0 where
   pub rest : new ≡ record old { definers = new.definers }
   pub same : (x : ℕ) → definer_in new.definers x ≡ definer_in old.definers x
 
--- The call behind it
+-- The call after it
 
--- the record was added: where it was the next one, what comes behind it is left
+-- the record was added: where it was the next one, what comes after it is left, and it leaves each row under its own key
 pub record HasAdded (proc : ProcInfo) (old : Task) (r : Record) (new : Task) : Type 0 where
   pub parameters : new.parameters ≡ old.parameters
   pub records : new.records ≡ old.records ++ r ∷ []
-  pub executed : new.executed ≡ old.executed
   pub beginning : beginning new ≡ beginning old
   pub left : (tables : List TableInfo) (db : Tables) (tail : List Record) → AreRising db → left_of proc tables old db ≡ r ∷ tail → left_of proc tables new db ≡ tail
+  pub keys : (tables : List TableInfo) (db : Tables) (tail : List Record) → AreRising db → left_of proc tables old db ≡ r ∷ tail
+      → KeysStand tables (applied (writes_in old.records) db) → KeysStand tables (applied (writes_in new.records) db)
 
--- a call has ended exactly where nothing is left of it, whatever the database is
-abbrev pub TellsLeft : ProcInfo → Task → Stepped → Type 0
-TellsLeft proc task Ended = (task.ended ≡ true) × ((tables : List TableInfo) (db : Tables) → left_of proc tables task db ≡ [])
-TellsLeft proc task Ran = (task.ended ≡ false) × ((tables : List TableInfo) (db : Tables) → left_of proc tables task db ≢ [])
+-- the record of an effect where this is ahead
+abbrev pub record_of : Ahead → Effect → Record
+record_of ahead e = record {
+  spot = ahead.spot;
+  parent = ahead.parent;
+  reads = ahead.reads;
+  preds = e.preds;
+  sets = e.sets;
+  rows = e.rows;
+  writes = e.writes;
+  line = e.line;
+  end = e.end;
+}
 
-abbrev pub stepped : Bool → Stepped
-stepped true = Ended
-stepped false = Ran
-
--- The record of a statement that wasn't executed
-
--- the place, controller and definers of a record
-abbrev pub ahead_in : Record → Ahead
-ahead_in r = record { spot = r.spot; parent = r.parent; reads = r.reads }
-
--- it has the place, controller and definers of the next record, and all else of the given one
-pub record IsAdopted (proc : ProcInfo) (task : Task) (given r : Record) : Type 0 where
-  pub next : IsNext proc task (Some (ahead_in r))
-  pub rest : r ≡ record given { spot = r.spot; parent = r.parent; reads = r.reads }
-
--- such a record was added
-abbrev pub Adopts : ProcInfo → Task → Record → Task → Type 0
-Adopts proc old given new = (r : Record) × IsAdopted proc old given r × HasAdded proc old r new
+-- the next record of the run on a view's database was added; the view was asked for its predicates over the own writes of earlier ones
+pub record HasExecuted (tables : List TableInfo) (proc : ProcInfo) (old new : Task) (before after : Sight) : Type 0 where
+  pub next : Record
+  pub added : HasAdded proc old next new
+  pub left : left_of proc tables old before.database ≡ next ∷ left_of proc tables new before.database
+  pub asked : AskedFor next.preds (writes_in old.records) before after

@@ -14,7 +14,6 @@ use Rattle.mv_recorded.specs.Reading.{last_place, sets_variable}
 use Rattle.mv_exec.specs.declared.places.Holder.{Holder}
 use Rattle.mv_exec.specs.declared.places.Holder.TheVariants as by
 use Rattle.mv_exec.specs.declared.places.Place.{Place}
-use Rattle.mv_exec.specs.declared.task.Ahead.{Ahead}
 use Rattle.mv_exec.specs.declared.task.Task.{Task}
 use Rattle.mv_exec.specs.Left.{left}
 use Rattle.mv_exec.specs.Env.{begun_with}
@@ -89,7 +88,7 @@ pub record IsTask (proc : ProcInfo) (task : Task) : Type 0 where
   pub counted : task.executed ≤ length task.records
 
 -- a call that stands as before: it has what it had, and will still leave the same
-pub record IsAsBefore (proc : ProcInfo) (old new : Task) : Type 0 where
+pub record StandsAsBefore (proc : ProcInfo) (old new : Task) : Type 0 where
   pub parameters : new.parameters ≡ old.parameters
   pub records : new.records ≡ old.records
   pub executed : new.executed ≡ old.executed
@@ -101,15 +100,6 @@ pub record IsAsBefore (proc : ProcInfo) (old new : Task) : Type 0 where
 abbrev pub unbegun : ℕ → Env → Option Env → Bool → Task
 unbegun params env first empty =
     record { parameters = params; env = env; first = first; records = []; executed = 0; undo = []; definers = []; places = first_place ∷ []; ended = empty; empty = empty }
-
--- what the next record will be: its place, its controller, and the definers of what it reads
-abbrev pub Foresees : Ahead → List Record → Type 0
-Foresees ahead [] = ⊥
-Foresees ahead (r ∷ rs) = (r.spot ≡ ahead.spot) × (r.parent ≡ ahead.parent) × (r.reads ≡ ahead.reads)
-
-abbrev pub IsNext : ProcInfo → Task → Option Ahead → Type 0
-IsNext proc task None = (tables : List TableInfo) (db : Tables) → left_of proc tables task db ≡ []
-IsNext proc task (Some ahead) = (tables : List TableInfo) (db : Tables) → Foresees ahead (left_of proc tables task db)
 
 -- it is so exactly where no record is left, on any database
 abbrev pub TellsEnd : ProcInfo → Task → Bool → Type 0

@@ -7,8 +7,9 @@ ghost use Rattle.mv_exec.specs.declared.places.Place.{Place};
 ghost use Rattle.mv_exec.specs.Env.{changed};
 ghost use Rattle.mv_exec.specs.Keeping.{define, slot_room};
 ghost use Rattle.mv_exec.specs.Places.{block_of, holding, IsReady};
-ghost use Rattle.mv_exec.specs.Steps.{NextHasColumns, HasAdded, HasFronts, IsWidened, TellsLeft, held_with, stepped};
-ghost use Rattle.mv_exec.specs.Tasks.{places_of, IsTask, IsAsBefore, IsTrimmed};
+ghost use Rattle.mv_exec.specs.Steps.{NextHasColumns, HasAdded, HasFronts, IsWidened, held_with};
+ghost use Rattle.mv_exec.specs.Running.{stepped};
+ghost use Rattle.mv_exec.specs.Tasks.{places_of, IsTask, StandsAsBefore, IsTrimmed};
 
 use crate::changes::{Change, make_changes};
 use crate::keeping::{push_writes, set_definers, widen};
@@ -158,9 +159,10 @@ pub(crate) fn add(
     requires short { size_of procedure.now.body ≤ 1000 }
     ensures task { IsTask procedure.now task.new }
     ensures added { OnOk result (HasAdded procedure.now task.old given task.new) }
-    ensures tells { IfOk result (TellsLeft procedure.now task.new) }
+    ensures executed { OnOk result (task.new.executed ≡ task.old.executed) }
+    ensures tells { IfOk result (λ s. s ≡ stepped task.new.ended) }
     ensures found { task.new.env.found ≡ task.old.env.found }
-    ensures err { OnErr result (IsAsBefore procedure.now task.old task.new) }
+    ensures err { OnErr result (StandsAsBefore procedure.now task.old task.new) }
 {
     let Some((place, statement)) = next_statement(procedure, task.places.as_slice()) else {
         unreachable!();

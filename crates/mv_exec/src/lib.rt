@@ -2,13 +2,12 @@
 #![tactic(auto)]
 
 mod add;
-mod adopt;
 mod around;
 mod changes;
 mod env;
+mod execute;
 mod keeping;
 mod moves;
-mod next;
 mod peek;
 pub mod places;
 mod reading;

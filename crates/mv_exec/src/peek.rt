@@ -8,8 +8,8 @@ ghost use Rattle.mv_recorded.specs.Reading.{loop_of};
 ghost use Rattle.mv_recorded.specs.Recorded.{outside};
 ghost use Rattle.mv_record.specs.declared.record.Read.{Read};
 ghost use Rattle.mv_exec.specs.Places.{site_of, has_turn, next_turn, IsReady};
-ghost use Rattle.mv_exec.specs.Tasks.{places_of, IsTask, IsNext, IsAsBefore, definer_in};
-ghost use Rattle.mv_exec.specs.Ahead.{IsAhead, ahead_at};
+ghost use Rattle.mv_exec.specs.Tasks.{places_of, IsTask, StandsAsBefore, definer_in};
+ghost use Rattle.mv_exec.specs.Ahead.{IsAhead, ForeseesLeft, ahead_at};
 
 use crate::around::{loop_around, parent_of, turns_around};
 use crate::places::{Holder, Place, block, holder_of, innermost, rows_of, statement_at};
@@ -141,7 +141,7 @@ pub(crate) fn peek(
 ) -> Result<Option<Ahead>, NoMemory>
     requires task { IsTask procedure.now task.now }
     requires short { size_of procedure.now.body ≤ 1000 }
-    ensures { IfOk result (λ ahead. IsNext procedure.now task.now ahead) }
+    ensures { IfOk result (λ ahead. ForeseesLeft procedure.now task.now ahead) }
 {
     if task.ended {
         return Ok(None);
@@ -168,9 +168,9 @@ pub(crate) fn come_to(
     requires task { IsTask procedure.now task.old }
     requires live { task.old.ended ≡ false }
     requires short { size_of procedure.now.body ≤ 1000 }
-    ensures next { IfOk result (λ ahead. IsNext procedure.now task.old (Some ahead)) }
+    ensures next { IfOk result (λ ahead. ForeseesLeft procedure.now task.old (Some ahead)) }
     ensures task { IsTask procedure.now task.new }
-    ensures same { IsAsBefore procedure.now task.old task.new }
+    ensures same { StandsAsBefore procedure.now task.old task.new }
     ensures live { task.new.ended ≡ false }
     ensures ready { OnOk result (IsReady procedure.now (places_of task.new)) }
     ensures kept { OnOk result (IsSome task.new.first) }

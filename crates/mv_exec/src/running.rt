@@ -1,17 +1,17 @@
 //! Running calls of a graph: one statement at a time over a view, or to the end.
 
-ghost use Rattle.std.specs.Prelude.{◌≡◌, ◌≤◌, [], false, true, length, IfOk, OnOk, OnErr, List};
+ghost use Rattle.std.specs.Prelude.{◌≡◌, ◌≤◌, [], false, true, length, IfOk, OnOk, OnErr};
 ghost use Rattle.mv_alone.specs.TableAfter.{Tables};
+ghost use Rattle.mv_values.specs.declared.calls.Call.{Call};
 ghost use Rattle.mv_record.specs.Runs.{writes_in};
 ghost use Rattle.mv_graph.specs.Nodes.{IsSound, meaning_of};
 ghost use Rattle.mv_view.specs.Viewing.{MayAnswer};
-ghost use Rattle.mv_record.specs.Databases.{IsDatabaseOf};
-ghost use Rattle.mv_effect.specs.Looking.{AskedAtMost, IsSameView, PassesOn, different};
-ghost use Rattle.mv_exec.specs.Graphs.{Runs, Began, all_records, KeepsKeys, HasExecutedAll};
-ghost use Rattle.mv_exec.specs.Running.{HasRun};
-ghost use Rattle.mv_exec.specs.Steps.{Adopts, TellsLeft};
-ghost use Rattle.mv_exec.specs.Tasks.{IsAsBefore, IsNext};
+ghost use Rattle.mv_effect.specs.Looking.{AskedAtMost, IsDatabase, IsSameView, PassesOn, different};
+ghost use Rattle.mv_exec.specs.Running.{IsRunning, IsRunningOn, IsSameCall, IsTaskOf, IsUnchanged, IsNext, GoesOnWith, HasAdopted, HasRun, HasRunTo, refusals, stepped, EndsExactly, KeysKept};
 
+use crate::add::add;
+use crate::execute::execute;
+use crate::peek::come_to;
 use crate::step::Stepped;
 use crate::task::{Ahead, Task};
 use mv_graph::graph::Graph;
@@ -23,27 +23,44 @@ use std::alloc::Global;
 
 impl Task {
     /// A call before its first statement. Its arguments are copied.
-    #[tactic(auto, using(crate::proofs::Finishing::begins_running))]
     pub fn new(alloc: Global, graph: &Graph, call: &Call) -> Result<Task, NoMemory>
         requires sound { IsSound graph.now }
         requires few { length call.now.arguments ≤ 16 }
-        ensures runs { IfOk result (Runs graph.now) }
+        ensures call { IfOk result (IsTaskOf graph.now call.now) }
         ensures records { IfOk result (λ task. task.records ≡ []) }
         ensures executed { IfOk result (λ task. task.executed ≡ 0) }
-        ensures began { IfOk result (Began graph.now call.now) }
-        ensures all { IfOk result (λ task. (db : Tables) → all_records graph.now task db ≡ (meaning_of graph.now call.now db).records) }
+        ensures running { IfOk result (λ task. (db : Tables) → IsRunningOn graph.now db task) }
     {
-        Task::of(alloc, &graph.procedure, call)
+        let task = Task::of(alloc, &graph.procedure, call)?;
+        Ok(task)
     }
 }
 
 /// The place, controller and definers of the next record, none where no statement is left.
 pub fn peek(alloc: Global, graph: &Graph, task: &Task) -> Result<Option<Ahead>, NoMemory>
     requires sound { IsSound graph.now }
-    requires runs { Runs graph.now task.now }
-    ensures { IfOk result (IsNext graph.now.procedure task.now) }
+    requires running { IsRunning graph.now task.now }
+    ensures { IfOk result (IsNext graph.now task.now) }
 {
-    crate::peek::peek(alloc, &graph.procedure, task)
+    let ahead = crate::peek::peek(alloc, &graph.procedure, task)?;
+    Ok(ahead)
+}
+
+/// The given record at the place that is ahead, with its controller and definers.
+fn placed(ahead: Ahead, given: Record) -> Record
+    ensures { result ≡ record given { spot = ahead.spot; parent = ahead.parent; reads = ahead.reads } }
+{
+    Record {
+        spot: ahead.spot,
+        parent: ahead.parent,
+        reads: ahead.reads,
+        preds: given.preds,
+        sets: given.sets,
+        rows: given.rows,
+        writes: given.writes,
+        line: given.line,
+        end: given.end,
+    }
 }
 
 /// Adds a given record for the next statement, which isn't executed: it gets that statement's place, controller and
@@ -55,19 +72,22 @@ pub fn adopt(
     given: Record,
 ) -> Result<Stepped, NoMemory>
     requires sound { IsSound graph.now }
-    requires runs { Runs graph.now task.old }
+    requires running { IsRunning graph.now task.old }
     requires live { task.old.ended ≡ false }
-    ensures runs { Runs graph.now task.new }
-    ensures adopted { OnOk result (Adopts graph.now.procedure task.old given task.new) }
-    ensures tells { IfOk result (TellsLeft graph.now.procedure task.new) }
-    ensures err { OnErr result (IsAsBefore graph.now.procedure task.old task.new) }
+    ensures running { IsRunning graph.now task.new }
+    ensures call { IsSameCall graph.now task.old task.new }
+    ensures adopted { OnOk result (HasAdopted graph.now task.old given task.new) }
+    ensures goes_on { OnOk result (GoesOnWith graph.now task.old given task.new) }
+    ensures tells { IfOk result (λ it. it ≡ stepped task.new.ended) }
+    ensures err { OnErr result (IsUnchanged task.old task.new) }
 {
-    crate::adopt::adopt(alloc, &graph.procedure, task, given)
+    let ahead = come_to(alloc, &graph.procedure, task)?;
+    add(alloc, &graph.procedure, task, placed(ahead, given))
 }
 
 /// Executes the next statement, read over the view and the call's own writes, and adds its record. An IF only evaluates
-/// its condition, and a FOR only fixes its rows: what they hold comes next. Says whether the call has ended; one that had
-/// ended before stays as it is. After a refusal the call is as before.
+/// its condition, and a FOR only fixes its rows: what they hold comes next. Says whether the call has ended. One that had
+/// ended before stays as it is, and asks nothing of the view. After a refusal the call is as before.
 ///
 /// `NoMemory` where no memory was found, `Stale` where the view answered so.
 pub fn next<V: View>(
@@ -77,26 +97,36 @@ pub fn next<V: View>(
     view: &mut V,
 ) -> Result<Stepped, Refused>
     requires sound { IsSound graph.now }
-    requires runs { Runs graph.now task.old }
-    requires database { IsDatabaseOf graph.now.tables (V.sight view.old).database }
-    requires keys { KeepsKeys graph.now task.old (V.sight view.old).database }
-    ensures runs { Runs graph.now task.new }
-    // What it has and will leave on the view's database stays the same; where a statement was left, it has one record more.
-    ensures all { OnOk result (all_records graph.now task.new (V.sight view.old).database ≡ all_records graph.now task.old (V.sight view.old).database) }
-    ensures ran { OnOk result (task.old.ended ≡ false → HasRun graph.now.tables graph.now.procedure task.old task.new (V.sight view.old) (V.sight view.new)) }
-    ensures rests { task.old.ended ≡ true → IsAsBefore graph.now.procedure task.old task.new }
-    ensures tells { IfOk result (TellsLeft graph.now.procedure task.new) }
-    ensures keys { KeepsKeys graph.now task.new (V.sight view.old).database }
-    ensures err { OnErr result (IsAsBefore graph.now.procedure task.old task.new) }
+    requires database { IsDatabase graph.now.tables (V.sight view.old).database }
+    requires running { IsRunningOn graph.now (V.sight view.old).database task.old }
+    ensures running { IsRunningOn graph.now (V.sight view.old).database task.new }
+    ensures call { IsSameCall graph.now task.old task.new }
+    ensures ran { OnOk result (task.old.ended ≡ false → HasRun task.old task.new (V.sight view.old) (V.sight view.new)) }
+    ensures rests { task.old.ended ≡ true → IsUnchanged task.old task.new }
+    ensures idle { task.old.ended ≡ true → V.sight view.new ≡ V.sight view.old }
+    ensures tells { IfOk result (λ it. it ≡ stepped task.new.ended) }
+    ensures err { OnErr result (IsUnchanged task.old task.new) }
     ensures refused { MayAnswer (V.sight view.old) (V.sight view.new) result }
     ensures stale { PassesOn (V.sight view.old) (V.sight view.new) result }
     ensures same { IsSameView (V.sight view.old) (V.sight view.new) }
     ensures bounded { AskedAtMost 1 (different (writes_in task.old.records)) (V.sight view.old) (V.sight view.new) }
 {
-    crate::next::next(alloc, graph.tables.as_slice(), &graph.procedure, task, view)
+    if task.ended {
+        return Ok(Stepped::Ended);
+    }
+    let ahead = come_to(alloc, &graph.procedure, task)?;
+    execute(
+        alloc,
+        graph.tables.as_slice(),
+        &graph.procedure,
+        task,
+        ahead,
+        view,
+    )
 }
 
-/// Executes what is left of a call over a view, to its end. After a refusal the call has some more records, and can go on.
+/// Executes what is left of a call over a view, to its end. After a refusal the call has some more records: `finish` can
+/// go on, and `restart` begin anew.
 ///
 /// `NoMemory` where no memory was found, `Stale` where the view answered so.
 pub fn finish<V: View>(
@@ -106,14 +136,13 @@ pub fn finish<V: View>(
     view: &mut V,
 ) -> Result<(), Refused>
     requires sound { IsSound graph.now }
-    requires runs { Runs graph.now task.old }
-    requires database { IsDatabaseOf graph.now.tables (V.sight view.old).database }
-    requires keys { KeepsKeys graph.now task.old (V.sight view.old).database }
-    ensures runs { Runs graph.now task.new }
-    ensures all { OnOk result (task.new.records ≡ all_records graph.now task.old (V.sight view.old).database) }
+    requires database { IsDatabase graph.now.tables (V.sight view.old).database }
+    requires running { IsRunningOn graph.now (V.sight view.old).database task.old }
+    ensures running { IsRunningOn graph.now (V.sight view.old).database task.new }
+    ensures call { IsSameCall graph.now task.old task.new }
+    ensures records { OnOk result ((call : Call) → IsTaskOf graph.now call task.old → task.new.records ≡ (meaning_of graph.now call (V.sight view.old).database).records) }
     ensures ended { OnOk result (task.new.ended ≡ true) }
-    ensures executed { HasExecutedAll task.old task.new }
-    ensures keys { KeepsKeys graph.now task.new (V.sight view.old).database }
+    ensures ran { HasRunTo task.old task.new (refusals result) (V.sight view.old) (V.sight view.new) }
     ensures refused { MayAnswer (V.sight view.old) (V.sight view.new) result }
     ensures stale { PassesOn (V.sight view.old) (V.sight view.new) result }
     ensures same { IsSameView (V.sight view.old) (V.sight view.new) }
@@ -123,3 +152,15 @@ pub fn finish<V: View>(
     }
     Ok(())
 }
+
+/// A call has ended exactly where no more records are left of it.
+#[tactic(auto, using(crate::proofs::Fronts::ends_exactly))]
+pub fn calls_end_exactly()
+    ensures { EndsExactly }
+{}
+
+/// What the first records of a call change leaves each row under its own key.
+#[tactic(auto, using(crate::proofs::Fronts::keys_kept))]
+pub fn keys_are_kept()
+    ensures { KeysKept }
+{}

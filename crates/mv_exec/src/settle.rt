@@ -2,7 +2,7 @@
 
 ghost use Rattle.std.specs.Prelude.{◌≡◌, ◌++◌, ◌∷◌, [], List, None, true, false, nat_lt, length, MatchOption, IfOk, OnOk, OnErr, IsSome};
 ghost use Rattle.mv_exec.specs.Places.{holding, block_of, has_turn, next_turn, turned, IsReady};
-ghost use Rattle.mv_exec.specs.Tasks.{places_of, IsTask, IsAsBefore, IsTrimmed};
+ghost use Rattle.mv_exec.specs.Tasks.{places_of, IsTask, StandsAsBefore, IsTrimmed};
 ghost use Rattle.mv_exec.specs.declared.places.Place.{Place};
 
 use crate::env::keep_beginning;
@@ -75,7 +75,7 @@ pub(crate) fn set_innermost(places: &mut List<Place>, place: Place)
 pub(crate) fn settle(alloc: Global, procedure: &ProcInfo, task: &mut Task) -> Result<(), NoMemory>
     requires { IsTask procedure.now task.old }
     ensures task { IsTask procedure.now task.new }
-    ensures same { IsAsBefore procedure.now task.old task.new }
+    ensures same { StandsAsBefore procedure.now task.old task.new }
     ensures ready { OnOk result (IsReady procedure.now (places_of task.new)) }
     ensures kept { OnOk result (IsSome task.new.first) }
     ensures found { task.new.env.found ≡ task.old.env.found }

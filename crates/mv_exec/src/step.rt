@@ -8,7 +8,7 @@ ghost use Rattle.mv_catalog.specs.declared.resolved.RStmt.{out-RStmt};
 ghost use Rattle.mv_recorded.specs.Effect.{with_slots};
 ghost use Rattle.mv_exec.specs.Env.{changed};
 ghost use Rattle.mv_exec.specs.Moves.{Chooses, inner_places, moved_on, run_through, walked};
-ghost use Rattle.mv_exec.specs.Steps.{stepped};
+ghost use Rattle.mv_exec.specs.Running.{stepped};
 
 use crate::changes::{Change, changes_of, row_of_empty};
 use crate::moves::{chooses, inner_place, place_behind};

@@ -7,8 +7,10 @@ ghost use Rattle.mv_catalog.specs.declared.resolved.ProcInfo.{ProcInfo};
 ghost use Rattle.mv_catalog.specs.declared.resolved.RStmt.{RStmt};
 ghost use Rattle.mv_alone.specs.TableAfter.{Tables, entered};
 ghost use Rattle.mv_recorded.specs.Recorded.{recorded};
+ghost use Rattle.mv_graph.specs.declared.graph.Graph.{Graph};
 ghost use Rattle.mv_exec.specs.Env.{begun_with};
-ghost use Rattle.mv_exec.specs.Tasks.{first_place, none_in, run_of, IsTask, BeginsCall, TellsEnd, unbegun as not_begun};
+ghost use Rattle.mv_exec.specs.Running.{IsRunning, IsRunningOn, IsTaskOf};
+ghost use Rattle.mv_exec.specs.Tasks.{first_place, none_in, run_of, IsTask, BeginsCall, unbegun as not_begun};
 
 use crate::places::{Holder, Place};
 use mv_alone::enter::variables_for;
@@ -151,10 +153,8 @@ impl Task {
     }
 
     /// Whether no statement is left.
-    #[tactic(auto, using(crate::proofs::Ending::ends_exactly))]
     pub fn ended(&self) -> bool
-        ensures value { result ≡ self.now.ended }
-        ensures exact { (proc : ProcInfo) → IsTask proc self.now → TellsEnd proc self.now result }
+        ensures { result ≡ self.now.ended }
     {
         self.ended
     }
@@ -166,14 +166,13 @@ impl Task {
         &self.undo
     }
 
-    /// Hands the records out, and leaves the call before its first statement. It takes no memory.
+    /// Hands the records out, and leaves the same call before its first statement. It takes no memory.
     pub fn restart(&mut self, alloc: Global) -> List<Record>
         ensures back { result ≡ self.old.records }
         ensures records { self.new.records ≡ [] }
         ensures executed { self.new.executed ≡ 0 }
-        ensures task { (proc : ProcInfo) → IsTask proc self.old → IsTask proc self.new }
-        ensures begins { (proc : ProcInfo) (call : Call) → BeginsCall self.old proc call → BeginsCall self.new proc call }
-        ensures run { (proc : ProcInfo) (tables : List TableInfo) (call : Call) (db : Tables) → IsTask proc self.old → BeginsCall self.old proc call → run_of proc tables self.new db ≡ recorded tables proc call db }
+        ensures call { (graph : Graph) (call : Call) → IsTaskOf graph call self.old → IsTaskOf graph call self.new }
+        ensures running { (graph : Graph) (db : Tables) → IsRunning graph self.old → IsRunningOn graph db self.new }
     {
         take_back(&mut self.env, &mut self.first);
         self.executed = 0;

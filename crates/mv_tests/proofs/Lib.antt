@@ -1,1 +1,2 @@
 pub mod OneTable
+pub mod Walking

@@ -1,14 +1,16 @@
 //! The records of calls, worked out by hand from the rules of the language: executed, adopted, and both in turn.
 
-ghost use Rattle.std.specs.Prelude.{◌≡◌, ◌≤◌, ◌∷◌, [], IsTrue, IfOk, All, length};
+ghost use Rattle.std.specs.Prelude.{◌≡◌, ◌<◌, ◌+◌, ◌∷◌, [], IsTrue, IfOk, OnOk, All, false, true, length};
 ghost use Rattle.std.specs.Option.{option_copied};
 ghost use Rattle.mv_values.specs.Columns.{columns_of};
-ghost use Rattle.mv_values.specs.Patching.{applied};
-ghost use Rattle.mv_values.specs.Tables.{KeysStand, key_columns};
-ghost use Rattle.mv_record.specs.Runs.{writes_in};
+ghost use Rattle.mv_values.specs.Tables.{key_columns};
+ghost use Rattle.mv_catalog.specs.Text.{FitsText};
+ghost use Rattle.mv_alone.specs.TableAfter.{Tables};
+ghost use Rattle.mv_record.specs.Writes.{AreRising};
 ghost use Rattle.mv_graph.specs.Nodes.{IsSound};
-ghost use Rattle.mv_record.specs.Databases.{IsDatabaseOf, IsProgram};
-ghost use Rattle.mv_exec.specs.Graphs.{Runs};
+ghost use Rattle.mv_effect.specs.Looking.{IsDatabase, IsSameView};
+ghost use Rattle.mv_exec.specs.Running.{HasContent, IsRunning, IsRunningOn, IsSameCall, IsTaskOf};
+ghost use Rattle.mv_tests.specs.Walks.{HasAll};
 
 use crate::whole::{ensure, joined};
 use mv_accept::accept::accept;
@@ -20,7 +22,6 @@ use mv_exec::running::{adopt, finish, next, peek};
 use mv_exec::step::Stepped;
 use mv_exec::task::{Ahead, Task};
 use mv_graph::graph::Graph;
-use mv_record::applying::apply_all;
 use mv_record::record::{Read, Record, Slot, Spot};
 use mv_values::calls::{Call, End};
 use mv_values::copied::Copied;
@@ -32,6 +33,7 @@ use mv_values::schema::TableInfo;
 use mv_values::txt::Txt;
 use mv_values::value::{Row, Value};
 use mv_view::plain::Plain;
+use mv_view::view::{Refused, View};
 use std::alloc::Global;
 use std::slice;
 use std::test::Fail;
@@ -374,57 +376,17 @@ fn is_one_table(tables: &[TableInfo]) -> bool
 }
 
 /// Whether there is one table of this kind, and these are its rows, under their own keys.
-#[tactic(auto, using(crate::proofs::OneTable::keys_stand))]
-fn have_keys(tables: &[TableInfo], database: &Database) -> bool
-    ensures { IsTrue result → KeysStand tables.now database.now }
+#[tactic(auto, using(crate::proofs::OneTable::is_database))]
+fn is_sound(tables: &[TableInfo], database: &Database) -> bool
+    ensures { IsTrue result → IsDatabase tables.now database.now }
 {
     is_one_table(tables) && database.len() == 1 && have_own_keys(rows_in(database, 0))
 }
 
-/// The database behind the writes of records.
-fn behind(alloc: Global, database: &Database, records: &[Record]) -> Result<Database, NoMemory>
-    ensures { IfOk result (λ db. db ≡ applied (writes_in records.now) database.now) }
-{
-    let mut database = database.copy(alloc)?;
-    for record in records {
-        apply_all(alloc, &mut database, record.writes.as_slice())?;
-    }
-    Ok(database)
-}
-
-/// Whether the rows of one table stand under their own keys behind the writes of records.
-fn keep_keys(
-    alloc: Global,
-    graph: &Graph,
-    database: &Database,
-    records: &[Record],
-) -> Result<bool, NoMemory>
-    ensures { IfOk result (λ keep. IsTrue keep → KeysStand graph.now.tables (applied (writes_in records.now) database.now)) }
-{
-    let behind = behind(alloc, database, records)?;
-    Ok(have_keys(graph.tables.as_slice(), &behind))
-}
-
-/// Executes what is left of a call over a database: one statement by `next`, and the others by `finish`.
-fn execute(alloc: Global, graph: &Graph, task: &mut Task, database: &Database) -> Result<(), Fail>
-    requires sound { IsSound graph.now }
-    requires database { IsDatabaseOf graph.now.tables database.now }
-    requires runs { Runs graph.now task.old }
-    ensures runs { Runs graph.now task.new }
-{
-    if !keep_keys(alloc, graph, database, task.records())? {
-        return Err("rows under other keys".into());
-    }
-    let mut view = Plain::new(database);
-    let stepped = next(alloc, graph, task, &mut view).or(Err("no step"))?;
-    if (stepped == Stepped::Ended) != task.ended() {
-        return Err("a step that tells no end".into());
-    }
-    Ok(finish(alloc, graph, task, &mut view).or(Err("no end"))?)
-}
-
 /// A copy of a record that tells neither its place nor its controller nor what it reads.
-fn placeless(alloc: Global, record: &Record) -> Result<Record, NoMemory> {
+fn placeless(alloc: Global, record: &Record) -> Result<Record, NoMemory>
+    ensures { IfOk result (λ given. HasContent given record.now) }
+{
     let mut given = record.copy(alloc)?;
     given.spot = Spot {
         statement: 0,
@@ -438,7 +400,7 @@ fn placeless(alloc: Global, record: &Record) -> Result<Record, NoMemory> {
 /// Has `peek` foresee the place, controller and reads of this record.
 fn foresees(alloc: Global, graph: &Graph, task: &Task, record: &Record) -> Result<(), Fail>
     requires sound { IsSound graph.now }
-    requires runs { Runs graph.now task.now }
+    requires running { IsRunning graph.now task.now }
 {
     match peek(alloc, graph, task)? {
         Some(ahead) => is_foreseen(alloc, record, &ahead),
@@ -449,8 +411,8 @@ fn foresees(alloc: Global, graph: &Graph, task: &Task, record: &Record) -> Resul
 /// Adopts a copy of a record that `peek` foresees.
 fn adopt_copy(alloc: Global, graph: &Graph, task: &mut Task, record: &Record) -> Result<(), Fail>
     requires sound { IsSound graph.now }
-    requires runs { Runs graph.now task.old }
-    ensures runs { Runs graph.now task.new }
+    requires running { IsRunning graph.now task.old }
+    ensures running { IsRunning graph.now task.new }
 {
     foresees(alloc, graph, task, record)?;
     if task.ended() {
@@ -468,8 +430,8 @@ fn adopt_copy(alloc: Global, graph: &Graph, task: &mut Task, record: &Record) ->
 /// Adopts copies of these records.
 fn adopt_all(alloc: Global, graph: &Graph, task: &mut Task, given: &[Record]) -> Result<(), Fail>
     requires sound { IsSound graph.now }
-    requires runs { Runs graph.now task.old }
-    ensures runs { Runs graph.now task.new }
+    requires running { IsRunning graph.now task.old }
+    ensures running { IsRunning graph.now task.new }
 {
     for record in given {
         adopt_copy(alloc, graph, task, record)?;
@@ -477,80 +439,152 @@ fn adopt_all(alloc: Global, graph: &Graph, task: &mut Task, given: &[Record]) ->
     Ok(())
 }
 
+/// Whether a walk adopts the record of this number: the first so many, and then every other one.
+fn is_adopted(number: usize, first: usize) -> bool {
+    number < first || number % 2 == 1
+}
+
+/// Adopts the given record of the next number, which tells no place.
+fn adopt_next(
+    alloc: Global,
+    graph: &Graph,
+    task: &mut Task,
+    given: &[Record],
+) -> Result<(), NoMemory>
+    requires sound { IsSound graph.now }
+    requires running { IsRunning graph.now task.old }
+    requires live { task.old.ended ≡ false }
+    requires within { length task.old.records < length given.now }
+    ensures call { IsSameCall graph.now task.old task.new }
+    ensures goes_on { OnOk result ((db : Tables) → AreRising db → IsRunningOn graph.now db task.old → HasAll graph.now db task.old given.now → IsRunningOn graph.now db task.new) }
+    ensures longer { OnOk result (length task.new.records ≡ length task.old.records + 1) }
+{
+    let record = placeless(alloc, &given[task.records().len()])?;
+    adopt(alloc, graph, task, record)?;
+    Ok(())
+}
+
+/// Adopts the next record from those of another run of the call, or executes the next statement.
+fn step<V: View>(
+    alloc: Global,
+    graph: &Graph,
+    task: &mut Task,
+    given: &[Record],
+    first: usize,
+    view: &mut V,
+) -> Result<(), Refused>
+    requires sound { IsSound graph.now }
+    requires database { IsDatabase graph.now.tables (V.sight view.old).database }
+    requires running { IsRunningOn graph.now (V.sight view.old).database task.old }
+    requires live { task.old.ended ≡ false }
+    requires given { HasAll graph.now (V.sight view.old).database task.old given.now }
+    ensures running { OnOk result (IsRunningOn graph.now (V.sight view.old).database task.new) }
+    ensures call { IsSameCall graph.now task.old task.new }
+    ensures same { IsSameView (V.sight view.old) (V.sight view.new) }
+    ensures longer { OnOk result (length task.new.records ≡ length task.old.records + 1) }
+{
+    if is_adopted(task.records().len(), first) {
+        adopt_next(alloc, graph, task, given)?;
+        return Ok(());
+    }
+    next(alloc, graph, task, view)?;
+    Ok(())
+}
+
+/// Walks a call to its end by `adopt` and `next` in turns. What it adopts comes from another run of the call on the
+/// view's database. It tests nothing of it.
+fn walk<V: View>(
+    alloc: Global,
+    graph: &Graph,
+    task: &mut Task,
+    given: &[Record],
+    first: usize,
+    view: &mut V,
+) -> Result<(), Refused>
+    requires sound { IsSound graph.now }
+    requires database { IsDatabase graph.now.tables (V.sight view.old).database }
+    requires running { IsRunningOn graph.now (V.sight view.old).database task.old }
+    requires given { HasAll graph.now (V.sight view.old).database task.old given.now }
+    ensures records { OnOk result (task.new.records ≡ given.now) }
+    ensures ended { OnOk result (task.new.ended ≡ true) }
+{
+    while !task.ended() {
+        step(alloc, graph, task, given, first, view)?;
+    }
+    Ok(())
+}
+
 /// A call that has left no records.
 fn begun(alloc: Global, graph: &Graph, call: &Call) -> Result<Task, Fail>
     requires sound { IsSound graph.now }
-    ensures runs { IfOk result (Runs graph.now) }
+    ensures call { IfOk result (IsTaskOf graph.now call.now) }
+    ensures running { IfOk result (λ task. (db : Tables) → IsRunningOn graph.now db task) }
 {
     if call.arguments.len() > 16 {
         return Err("too many arguments".into());
     }
-    Ok(Task::new(alloc, graph, call)?)
-}
-
-/// A call that adopts copies of these records, and then executes what is left.
-fn run_behind(
-    alloc: Global,
-    graph: &Graph,
-    call: &Call,
-    database: &Database,
-    given: &[Record],
-) -> Result<Task, Fail>
-    requires sound { IsSound graph.now }
-    requires database { IsDatabaseOf graph.now.tables database.now }
-    ensures runs { IfOk result (Runs graph.now) }
-{
-    let mut task = begun(alloc, graph, call)?;
-    adopt_all(alloc, graph, &mut task, given)?;
-    execute(alloc, graph, &mut task, database)?;
+    let task = Task::new(alloc, graph, call)?;
     Ok(task)
 }
 
+/// How many records a walk executes.
+fn executed_by_walk(len: usize, first: usize) -> usize {
+    (0..len).filter(|n| !is_adopted(*n, first)).count()
+}
+
 /// Has a call have these records, of which it executed so many.
-fn has_left(alloc: Global, task: &Task, executed: Option<usize>, want: &str) -> Result<(), Fail> {
+fn has_left(alloc: Global, task: &Task, executed: usize, want: &str) -> Result<(), Fail> {
     ensure(
         alloc,
-        Some(task.executed()) == executed,
+        task.executed() == executed,
         "another number of executed records",
     )?;
     are_told(alloc, task.records(), want)
 }
 
-/// Has a call that adopts copies of the first so many records execute the others, and leave them all.
+/// Has a call leave these records, and leave them again where it begins anew and adopts its first ones, and of the
+/// others every other one.
+fn walks(
+    alloc: Global,
+    graph: &Graph,
+    call: &Call,
+    database: &Database,
+    first: usize,
+    want: &str,
+) -> Result<(), Fail>
+    requires sound { IsSound graph.now }
+    requires database { IsDatabase graph.now.tables database.now }
+{
+    let mut task = begun(alloc, graph, call)?;
+    let mut view = Plain::new(database);
+    finish(alloc, graph, &mut task, &mut view).or(Err("no end"))?;
+    has_left(alloc, &task, task.records().len(), want)?;
+    let records = task.restart(alloc);
+    walk(
+        alloc,
+        graph,
+        &mut task,
+        records.as_slice(),
+        first,
+        &mut view,
+    )
+    .or(Err("no end"))?;
+    has_left(alloc, &task, executed_by_walk(records.len(), first), want)
+}
+
+/// Has a call that adopts all these records leave them, each where it was foreseen.
 fn adopts(
     alloc: Global,
     graph: &Graph,
     call: &Call,
-    database: &Database,
-    records: &[Record],
-    count: usize,
-    want: &str,
-) -> Result<(), Fail>
-    requires sound { IsSound graph.now }
-    requires database { IsDatabaseOf graph.now.tables database.now }
-    requires count { count ≤ length records.now }
-{
-    let executed = records.len().checked_sub(count);
-    let task = run_behind(alloc, graph, call, database, &records[..count])?;
-    has_left(alloc, &task, executed, want)
-}
-
-/// The same for each number of records.
-fn adopts_each(
-    alloc: Global,
-    graph: &Graph,
-    call: &Call,
-    database: &Database,
     records: &[Record],
     want: &str,
 ) -> Result<(), Fail>
     requires sound { IsSound graph.now }
-    requires database { IsDatabaseOf graph.now.tables database.now }
 {
-    for count in 0..=records.len() {
-        adopts(alloc, graph, call, database, records, count, want)?;
-    }
-    Ok(())
+    let mut task = begun(alloc, graph, call)?;
+    adopt_all(alloc, graph, &mut task, records)?;
+    has_left(alloc, &task, 0, want)
 }
 
 /// The records of a call that executes them all.
@@ -561,13 +595,16 @@ fn records_of(
     database: &Database,
 ) -> Result<List<Record>, Fail>
     requires sound { IsSound graph.now }
-    requires database { IsDatabaseOf graph.now.tables database.now }
+    requires database { IsDatabase graph.now.tables database.now }
 {
-    let mut task = run_behind(alloc, graph, call, database, &[])?;
+    let mut task = begun(alloc, graph, call)?;
+    let mut view = Plain::new(database);
+    finish(alloc, graph, &mut task, &mut view).or(Err("no end"))?;
     Ok(task.restart(alloc))
 }
 
-/// Has a call leave these records, whether all of them are executed, or the first ones adopted, or all once more.
+/// Has a call leave these records, whether all of them are executed, all adopted, or the first ones adopted and others
+/// executed.
 fn check(
     alloc: Global,
     graph: &Graph,
@@ -576,22 +613,26 @@ fn check(
     want: &str,
 ) -> Result<(), Fail>
     requires sound { IsSound graph.now }
-    requires database { IsDatabaseOf graph.now.tables database.now }
 {
+    if !is_sound(graph.tables.as_slice(), database) {
+        return Err("no database of one table".into());
+    }
     let records = records_of(alloc, graph, call, database)?;
-    are_told(alloc, records.as_slice(), want)?;
-    adopts_each(alloc, graph, call, database, records.as_slice(), want)
+    adopts(alloc, graph, call, records.as_slice(), want)?;
+    for first in 0..=records.len() {
+        walks(alloc, graph, call, database, first, want)?;
+    }
+    Ok(())
 }
 
 fn accepted(alloc: Global, script: &str) -> Result<Program, Fail>
-    ensures { IfOk result IsProgram }
+    ensures { IfOk result (λ program. FitsText program.resolved) }
 {
     Ok(accept(alloc, script.as_bytes()).or(Err("refused"))?)
 }
 
 fn check_only(alloc: Global, program: &Program, graphs: &[Graph], want: &str) -> Result<(), Fail>
     requires sound { All IsSound graphs.now }
-    requires databases { All (λ graph. IsDatabaseOf graph.tables program.now.opening) graphs.now }
 {
     let calls = program.resolved.calls.as_slice();
     let ([graph], [call]) = (graphs, calls) else {
@@ -602,7 +643,7 @@ fn check_only(alloc: Global, program: &Program, graphs: &[Graph], want: &str) ->
 
 /// Has the only call of a program leave these records.
 fn leaves(alloc: Global, program: &Program, want: &str) -> Result<(), Fail>
-    requires { IsProgram program.now }
+    requires { FitsText program.now.resolved }
 {
     let graphs = compile(alloc, &program.resolved)?;
     check_only(alloc, program, graphs.as_slice(), want)

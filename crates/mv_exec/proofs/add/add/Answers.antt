@@ -6,11 +6,10 @@ use Rattle.mv_exec.specs.declared.task.Task.{Task}
 use Rattle.mv_exec.specs.Env.{changed}
 use Rattle.mv_exec.specs.Moves.{inner_places}
 use Rattle.mv_exec.specs.Tasks.{places_of}
-use Rattle.mv_exec.specs.Steps.{TellsLeft}
 use Rattle.mv_exec.proofs.Adding.{StandsAt}
 use Rattle.mv_exec.proofs.Numbering.{small_next}
 use Rattle.mv_exec.proofs.Turning.{standing_live}
-use Rattle.mv_exec.proofs.Stepping.{owned_earlier, behind_record, parts_behind, IsPast, past_task, past_added, past_found, tells_left}
+use Rattle.mv_exec.proofs.Stepping.{owned_earlier, behind_record, parts_behind, IsPast, past_task, past_added, past_found, past_executed}
 use Rattle.mv_exec.proofs.add.add.Goals as goal
 use Rattle.mv_exec.proofs.add.add.Goals.{After-finish}
 
@@ -76,11 +75,8 @@ returns-clause-added c =
     c.requires.task c.requires.kept c.in_ok-step.ensures.inner.1
     (c.requires.columns c.in-Some.ensures.0 c.in-Some.place c.in-Some.statement.now (stands c).are c.in-Some.ensures.2) refl c.is_some-ends.ensures (past c)
 
-pub returns-clause-tells : goal.returns-clause-tells
-returns-clause-tells c =
-    subst (TellsLeft c.args.procedure.now c.finish.new.task) (sym c.finish.ensures.stepped)
-    (tells_left c.args.procedure.now c.finish.new.task
-    (past_task c.args.procedure.now c.args.task.now c.args.given c.in-Some.ensures.0 c.in-Some.place c.in-Some.statement.now c.in_ok-step.ensures.inner.0 _ c.finish.new.task c.is_some-ends.result c.requires.task (past c)))
+pub returns-clause-executed : goal.returns-clause-executed
+returns-clause-executed c = past_executed c.args.procedure.now c.args.task.now c.args.given c.in-Some.ensures.0 c.in-Some.place c.in-Some.statement.now c.in_ok-step.ensures.inner.0 _ c.finish.new.task c.is_some-ends.result (past c)
 
 pub returns-clause-found : goal.returns-clause-found
 returns-clause-found c = past_found c.args.procedure.now c.args.task.now c.args.given c.in-Some.ensures.0 c.in-Some.place c.in-Some.statement.now c.in_ok-step.ensures.inner.0 _ c.finish.new.task c.is_some-ends.result (past c)

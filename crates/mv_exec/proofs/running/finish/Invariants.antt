@@ -1,15 +1,14 @@
-use Rattle.std.proofs.Common.{◌≡◌, length}
+use Rattle.std.proofs.Common.{length}
 use Rattle.mv_effect.specs.Looking.{IsSameView, WasNeverStale}
-use Rattle.mv_exec.specs.Graphs.{Runs, all_records, KeepsKeys, HasExecutedAll}
+use Rattle.mv_exec.specs.Running.{IsRunningOn, IsSameCall, HasRunTo}
 use Rattle.mv_exec.specs.Tasks.{left_of}
 use Rattle.mv_exec.proofs.running.finish.Given as goal
 
 abbrev pub invariant-loop-alloc : goal.invariant-loop-alloc
 invariant-loop-alloc g l = record {
-  runs : Runs l.graph l.task;
-  all : all_records l.graph l.task (g.V.View.sight l.fn.view).database ≡ all_records l.graph l.fn.task (g.V.View.sight l.fn.view).database;
-  executed : HasExecutedAll l.fn.task l.task;
-  keys : KeepsKeys l.graph l.task (g.V.View.sight l.fn.view).database;
+  running : IsRunningOn l.graph (g.V.View.sight l.fn.view).database l.task;
+  call : IsSameCall l.graph l.fn.task l.task;
+  ran : HasRunTo l.fn.task l.task 0 (g.V.View.sight l.fn.view) (g.V.View.sight l.view);
   same : IsSameView (g.V.View.sight l.fn.view) (g.V.View.sight l.view);
   never : WasNeverStale (g.V.View.sight l.fn.view) (g.V.View.sight l.view);
 }

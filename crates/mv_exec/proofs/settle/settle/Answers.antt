@@ -1,6 +1,6 @@
 use Rattle.std.proofs.Common.{◌≡◌, ◌++◌, ◌∷◌, [], sym, ap, subst, ◌∙◌}
 use Rattle.mv_exec.specs.Places.{IsReady, next_turn, turned}
-use Rattle.mv_exec.specs.Tasks.{places_of, IsTask, IsAsBefore}
+use Rattle.mv_exec.specs.Tasks.{places_of, IsTask, StandsAsBefore}
 use Rattle.mv_exec.proofs.Turning.{IsDue, standing_live, turn_owed, settled, turned_task, turned_ready, turned_before, begun_kept}
 use Rattle.mv_exec.proofs.settle.settle.Goals as goal
 use Rattle.mv_exec.proofs.settle.settle.Goals.{After-set_innermost}
@@ -24,7 +24,7 @@ returns-clause-task c =
 
 pub returns-clause-same : goal.returns-clause-same
 returns-clause-same c =
-    settled (IsAsBefore c.args.procedure.now c.args.task.now) c.args.task.now c.keep_beginning.new.first c.begin_turn.new.env c.set_innermost.new.places c.in-Some.ensures.0 c.in-Some.place c.if-task.false
+    settled (StandsAsBefore c.args.procedure.now c.args.task.now) c.args.task.now c.keep_beginning.new.first c.begin_turn.new.env c.set_innermost.new.places c.in-Some.ensures.0 c.in-Some.place c.if-task.false
     (env c) (places c)
     (turned_before c.args.procedure.now c.args.task.now c.keep_beginning.new.first c.in-Some.ensures.0 c.in-Some.place c.requires (due c)
     (begun_kept c.keep_beginning.new.first c.args.task.now.first c.args.task.now.env (turned c.args.task.now.records c.in-Some.place.holder c.args.task.now.env) c.in_ok-keep_beginning.ensures.ok))

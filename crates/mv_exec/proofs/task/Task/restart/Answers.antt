@@ -1,23 +1,25 @@
-use Rattle.std.proofs.Common.{◌≡◌, None, refl, ap, ◌∙◌}
+use Rattle.std.proofs.Common.{◌≡◌, None, [], refl, ap, ◌∙◌}
+use Rattle.mv_values.specs.declared.calls.Call.{Call}
+use Rattle.mv_alone.specs.declared.state.Env.{Env}
+use Rattle.mv_graph.specs.declared.graph.Graph.{Graph}
 use Rattle.mv_exec.specs.declared.task.Task.{Task}
-use Rattle.mv_exec.specs.Tasks.{IsTask, run_of}
-use Rattle.mv_recorded.specs.Recorded.{recorded}
-use Rattle.mv_exec.specs.Env.{begun_with}
+use Rattle.mv_exec.specs.Running.{IsTaskOf}
+use Rattle.mv_exec.specs.Tasks.{unbegun}
 use Rattle.mv_exec.proofs.Beginning.{unbegun_task, unbegun_run, restarted, none_before}
+use Rattle.mv_exec.proofs.Fronts.{begins, begins_on}
 use Rattle.mv_exec.proofs.task.Task.restart.Goals as goal
 
-pub returns-clause-task : goal.returns-clause-task
-returns-clause-task c = λ proc t.
-    restarted (IsTask proc) c.args.self.now.parameters c.take_back.new.env c.take_back.new.env c.take_back.new.first c.replace.new.dest c.drop_from.new.self c.truncate.new.self c.go_back.new.places c.args.self.now.empty
-    refl c.take_back.ensures.none (c.replace.ensures.after ∙ c.new.ensures) (c.drop_from.ensures ∙ none_before c.args.self.now.undo) c.truncate.ensures (c.go_back.ensures t.some)
-    (unbegun_task proc c.args.self.now.parameters c.take_back.new.env None c.args.self.now.empty t.empty)
+pub returns-clause-call : goal.returns-clause-call
+returns-clause-call c = λ graph call is.
+    let env : Env = c.take_back.new.env in
+    let empty = c.args.self.now.empty in
+    restarted (IsTaskOf graph call) c.args.self.now.parameters env env c.take_back.new.first c.replace.new.dest c.drop_from.new.self c.truncate.new.self c.go_back.new.places empty
+    refl c.take_back.ensures.none (c.replace.ensures.after ∙ c.new.ensures) (c.drop_from.ensures ∙ none_before c.args.self.now.undo) c.truncate.ensures (c.go_back.ensures is.whole.some)
+    (begins graph call (unbegun c.args.self.now.parameters env None empty) is.few
+    (unbegun_task graph.procedure c.args.self.now.parameters env None empty is.whole.empty)
+    (c.take_back.ensures.env ∙ is.begins.0, is.begins.1)
+    (ap (λ (e : Env). e.found) (c.take_back.ensures.env ∙ is.begins.0)) refl
+    (λ tables db. unbegun_run graph.procedure tables call db c.args.self.now.parameters env None empty is.whole.empty (c.take_back.ensures.env ∙ is.begins.0) is.begins.1))
 
-pub returns-clause-begins : goal.returns-clause-begins
-returns-clause-begins c = λ proc call b. (ap (λ f. begun_with f c.take_back.new.env) c.take_back.ensures.none ∙ (c.take_back.ensures.env ∙ b.0), b.1)
-
-pub returns-clause-run : goal.returns-clause-run
-returns-clause-run c = λ proc tables call db t b.
-    restarted (λ (new : Task). run_of proc tables new db ≡ recorded tables proc call db) c.args.self.now.parameters c.take_back.new.env c.take_back.new.env c.take_back.new.first c.replace.new.dest
-    c.drop_from.new.self c.truncate.new.self c.go_back.new.places c.args.self.now.empty
-    refl c.take_back.ensures.none (c.replace.ensures.after ∙ c.new.ensures) (c.drop_from.ensures ∙ none_before c.args.self.now.undo) c.truncate.ensures (c.go_back.ensures t.some)
-    (unbegun_run proc tables call db c.args.self.now.parameters c.take_back.new.env None c.args.self.now.empty t.empty (c.take_back.ensures.env ∙ b.0) b.1)
+pub returns-clause-running : goal.returns-clause-running
+returns-clause-running c = λ graph db is. begins_on graph is.0 _ (returns-clause-call c graph is.0 is.1) (c.replace.ensures.after ∙ c.new.ensures) db

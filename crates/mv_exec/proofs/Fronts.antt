@@ -1,0 +1,225 @@
+-- Running calls keep what they leave.
+use Rattle.std.proofs.Common.{◌≡◌, ◌↔◌, ◌≤◌, ◌<◌, ◌^◌, ◌+◌, ℕ, false, true, Bool, List, [], ◌∷◌, ◌++◌, Some, None, Option, Result, Ok, Err, OnOk, OnErr, length, refl, sym, ap, subst, ◌∙◌, arith, append_assoc, append-nil, length-append}
+use Rattle.mv_values.specs.declared.calls.Call.{Call}
+use Rattle.mv_values.specs.declared.schema.TableInfo.{TableInfo}
+use Rattle.mv_values.specs.Patching.{applied}
+use Rattle.mv_values.specs.Tables.{KeysStand}
+use Rattle.mv_catalog.specs.declared.resolved.ProcInfo.{ProcInfo}
+use Rattle.mv_alone.specs.declared.state.Env.{Env}
+use Rattle.mv_alone.specs.TableAfter.{Tables, entered}
+use Rattle.mv_record.specs.declared.record.Record.{Record}
+use Rattle.mv_record.specs.Runs.{writes_in}
+use Rattle.mv_record.specs.Writes.{AreRising}
+use Rattle.mv_recorded.specs.Recorded.{recorded, told, outside}
+use Rattle.mv_view.specs.Viewing.{Sight}
+use Rattle.mv_effect.specs.Looking.{AskedFor, IsDatabase}
+use Rattle.mv_graph.specs.declared.graph.Graph.{Graph}
+use Rattle.mv_graph.specs.Nodes.{IsSound, meaning_of}
+use Rattle.mv_exec.specs.declared.task.Ahead.{Ahead}
+use Rattle.mv_exec.specs.declared.task.Task.{Task}
+use Rattle.mv_exec.specs.Tasks.{left_of, run_of, beginning, IsTask, StandsAsBefore, BeginsCall, TellsEnd}
+use Rattle.mv_exec.specs.Running.{Leaves, IsTaskOf, IsRunning, IsRunningOn, IsSameCall, IsUnchanged, Foresees, IsNext, HasContent, HasAdopted, GoesOnWith, HasRun, EndsExactly, KeysKept}
+use Rattle.mv_exec.specs.Ahead.{ForeseesLeft}
+use Rattle.mv_exec.specs.Steps.{HasAdded, HasExecuted}
+use Rattle.mv_exec.proofs.Adopting.{added_before, before_both}
+use Rattle.mv_exec.proofs.Ending as ending
+
+-- Records after those of a task
+
+-- fewer records of a run leave more of it
+less_leaves : (g : Graph) (call : Call) (db : Tables) (old new : Task) (more rest : List Record) → new.records ≡ old.records ++ more → Leaves g call db new rest → Leaves g call db old (more ++ rest)
+less_leaves g call db old new more rest is h = h ∙ (ap (λ rs. rs ++ rest) is ∙ append_assoc old.records more rest)
+
+more_leaves : (g : Graph) (call : Call) (db : Tables) (old new : Task) (more rest : List Record) → new.records ≡ old.records ++ more → Leaves g call db old (more ++ rest) → Leaves g call db new rest
+more_leaves g call db old new more rest is h = h ∙ (sym (append_assoc old.records more rest) ∙ ap (λ rs. rs ++ rest) (sym is))
+
+same_leaves : (g : Graph) (call : Call) (db : Tables) (old new : Task) (rest : List Record) → new.records ≡ old.records → Leaves g call db new rest → Leaves g call db old rest
+same_leaves g call db old new rest is h = h ∙ ap (λ rs. rs ++ rest) is
+
+-- The same call
+
+-- a call that has done nothing
+pub begins : (g : Graph) (call : Call) (task : Task) → length call.arguments ≤ 16 → IsTask g.procedure task → BeginsCall task g.procedure call → task.env.found ≡ (entered g.procedure call).found → task.records ≡ []
+    → ((tables : List TableInfo) (db : Tables) → run_of g.procedure tables task db ≡ recorded tables g.procedure call db) → IsTaskOf g call task
+begins g call task few whole start found none run = record {
+  whole = whole;
+  begins = start;
+  few = few;
+  found = found;
+  left = λ db rest rise h.
+      let all : left_of g.procedure g.tables task db ≡ recorded g.tables g.procedure call db = sym (ap (λ rs. rs ++ left_of g.procedure g.tables task db) none) ∙ run g.tables db in
+      all ∙ (h ∙ ap (λ rs. rs ++ rest) none);
+  keys = λ db rest base h. subst (λ (rs : List Record). KeysStand g.tables (applied (writes_in rs) db)) (sym none) base.keys;
+}
+
+-- on each database it leaves its whole full run
+pub begins_on : (g : Graph) (call : Call) (task : Task) → IsTaskOf g call task → task.records ≡ [] → (db : Tables) → IsRunningOn g db task
+begins_on g call task is none db = record { call = call; is = is; rest = (meaning_of g call db).records; leaves = ap (λ rs. rs ++ (meaning_of g call db).records) (sym none) }
+
+-- a call that stands as before
+pub stays : (g : Graph) (call : Call) (old new : Task) → IsTask g.procedure new → StandsAsBefore g.procedure old new → new.env.found ≡ old.env.found → IsTaskOf g call old → IsTaskOf g call new
+stays g call old new whole before found is = record {
+  whole = whole;
+  begins = (before.beginning ∙ is.begins.0, before.parameters ∙ is.begins.1);
+  few = is.few;
+  found = found ∙ is.found;
+  left = λ db rest rise h. before.left g.tables db ∙ is.left db rest rise (same_leaves g call db old new rest before.records h);
+  keys = λ db rest base h.
+      subst (λ (rs : List Record). KeysStand g.tables (applied (writes_in rs) db)) (sym before.records) (is.keys db rest base (same_leaves g call db old new rest before.records h));
+}
+
+pub stays_on : (g : Graph) (db : Tables) (old new : Task) → IsSameCall g old new → new.records ≡ old.records → IsRunningOn g db old → IsRunningOn g db new
+stays_on g db old new same records on = record {
+  call = on.call;
+  is = same on.call on.is;
+  rest = on.rest;
+  leaves = same_leaves g on.call db new old on.rest (sym records) on.leaves;
+}
+
+-- a call with one record more
+pub grows : (g : Graph) (call : Call) (old new : Task) (r : Record) → IsTask g.procedure new → HasAdded g.procedure old r new → new.env.found ≡ old.env.found → IsTaskOf g call old → IsTaskOf g call new
+grows g call old new r whole added found is = record {
+  whole = whole;
+  begins = (added.beginning ∙ is.begins.0, added.parameters ∙ is.begins.1);
+  few = is.few;
+  found = found ∙ is.found;
+  left = λ db rest rise h. added.left g.tables db rest rise (is.left db (r ∷ rest) rise (less_leaves g call db old new (r ∷ []) rest added.records h));
+  keys = λ db rest base h.
+      let before : Leaves g call db old (r ∷ rest) = less_leaves g call db old new (r ∷ []) rest added.records h in
+      added.keys g.tables db rest base.rising (is.left db (r ∷ rest) base.rising before) (is.keys db (r ∷ rest) base before);
+}
+
+-- of two calls that a task may be, the full runs are the same
+pub one_run : (g : Graph) (c d : Call) (task : Task) (db : Tables) → IsTaskOf g c task → IsTaskOf g d task → (meaning_of g c db).records ≡ (meaning_of g d db).records
+one_run g c d task db a b =
+    ap (λ n. told g.tables n g.procedure.body 1 outside [] (record { env = entered g.procedure c; tables = db; lines = [] })) (sym a.begins.1 ∙ b.begins.1)
+    ∙ ap (λ (e : Env). told g.tables (length d.arguments) g.procedure.body 1 outside [] (record { env = e; tables = db; lines = [] })) (sym a.begins.0 ∙ b.begins.0)
+
+-- The end
+
+pub ends_exactly : EndsExactly
+ends_exactly g call db task rest is rise leaves =
+    let exact : TellsEnd g.procedure task task.ended = ending.ends_exactly g.procedure task is.whole in
+    let left : left_of g.procedure g.tables task db ≡ rest = is.left db rest rise leaves in
+    (λ e. sym left ∙ (exact g.tables db).0 e, λ none. (exact g.tables db).1 (left ∙ none))
+
+pub keys_kept : KeysKept
+keys_kept g db task base on = on.is.keys db on.rest base on.leaves
+
+-- a call that has ended has all records of its full run
+pub finished : (g : Graph) (db : Tables) (task : Task) → AreRising db → IsRunningOn g db task → task.ended ≡ true → (call : Call) → IsTaskOf g call task → task.records ≡ (meaning_of g call db).records
+finished g db task rise on ended call is =
+    let none : on.rest ≡ [] = (ends_exactly g on.call db task on.rest on.is rise on.leaves).0 ended in
+    sym (append-nil task.records) ∙ (ap (λ rs. task.records ++ rs) (sym none) ∙ (sym on.leaves ∙ one_run g on.call call task db on.is is))
+
+-- What is ahead
+
+pub foresees : (g : Graph) (task : Task) (ahead : Option Ahead) → ForeseesLeft g.procedure task ahead → IsNext g task ahead
+foresees g task ahead h call db rest is rise leaves = subst (Foresees ahead) (is.left db rest rise leaves) (h g.tables db)
+
+-- What an answer tells
+
+pub on_ok : {T E : Type 0} (r : Result T E) (P Q : Type 0) → (P → Q) → OnOk r P → OnOk r Q
+on_ok (Ok x) P Q f h = f h
+on_ok (Err e) P Q f h = h
+
+pub both : {T E : Type 0} (r : Result T E) (P Q R : Type 0) → (P → Q → R) → OnOk r P → OnOk r Q → OnOk r R
+both (Ok x) P Q R f p q = f p q
+both (Err e) P Q R f p q = p
+
+pub on_err : {T E : Type 0} (r : Result T E) (P Q : Type 0) → (P → Q) → OnErr r P → OnErr r Q
+on_err (Ok x) P Q f h = h
+on_err (Err e) P Q f h = f h
+
+pub either : {T E : Type 0} (r : Result T E) (P Q R : Type 0) → OnOk r P → OnErr r Q → (P → R) → (Q → R) → R
+either (Ok x) P Q R p q f h = f p
+either (Err e) P Q R p q f h = h q
+
+-- What stays as before
+
+same_end : (proc : ProcInfo) (old new : Task) → IsTask proc old → IsTask proc new → StandsAsBefore proc old new → new.ended ≡ old.ended
+same_end proc old new t u same = by old.ended refl new.ended refl
+  where
+    was : TellsEnd proc old old.ended
+    was = ending.ends_exactly proc old t
+
+    is : TellsEnd proc new new.ended
+    is = ending.ends_exactly proc new u
+
+    by : (a : Bool) → old.ended ≡ a → (b : Bool) → new.ended ≡ b → new.ended ≡ old.ended
+    by true e true f = f ∙ sym e
+    by false e false f = f ∙ sym e
+    by true e false f = (is [] []).1 (same.left [] [] ∙ (was [] []).0 e) ∙ sym e
+    by false e true f = f ∙ sym ((was [] []).1 (sym (same.left [] []) ∙ (is [] []).0 f))
+
+pub unchanged : (proc : ProcInfo) (old new : Task) → IsTask proc old → IsTask proc new → StandsAsBefore proc old new → IsUnchanged old new
+unchanged proc old new t u same = record { records = same.records; executed = same.executed; ended = same_end proc old new t u same }
+
+-- a record that was added after the call came to its statement
+pub executed_before : (proc : ProcInfo) (tables : List TableInfo) (old mid new : Task) (before after : Sight) → StandsAsBefore proc old mid → HasExecuted tables proc mid new before after
+    → HasExecuted tables proc old new before after
+executed_before proc tables old mid new before after same it = record {
+  next = it.next;
+  added = added_before proc old mid it.next new same it.added;
+  left = sym (same.left tables before.database) ∙ it.left;
+  asked = subst (λ (rs : List Record). AskedFor it.next.preds (writes_in rs) before after) same.records it.asked;
+}
+
+-- A record that is adopted
+
+same_in : (given : Record) (r q : Record) → HasContent given r → HasContent given q → r.spot ≡ q.spot → r.parent ≡ q.parent → r.reads ≡ q.reads → r ≡ q
+same_in given r q hr hq s p e =
+    hr ∙ (ap (λ v. record given { spot = v; parent = r.parent; reads = r.reads }) s
+    ∙ (ap (λ v. record given { spot = q.spot; parent = v; reads = r.reads }) p
+    ∙ (ap (λ v. record given { spot = q.spot; parent = q.parent; reads = v }) e ∙ sym hq)))
+
+pub goes_on : (g : Graph) (old new : Task) (given : Record) → HasAdopted g old given new → GoesOnWith g old given new
+goes_on g old new given has call db r rest is rise leaves content =
+    let sees = has.place call db (r ∷ rest) is rise leaves in
+    let same : r ≡ has.next = same_in given r has.next content has.content sees.0 sees.1 sees.2 in
+    more_leaves g call db old new (has.next ∷ []) rest has.records (subst (λ q. Leaves g call db old (q ∷ rest)) same leaves)
+
+pub adopted : (g : Graph) (old new : Task) (ahead : Ahead) (given r : Record) → ForeseesLeft g.procedure old (Some ahead) → r ≡ record given { spot = ahead.spot; parent = ahead.parent; reads = ahead.reads }
+    → HasAdded g.procedure old r new → new.executed ≡ old.executed → HasAdopted g old given new
+adopted g old new ahead given r next is added executed =
+    let at : ahead ≡ record { spot = r.spot; parent = r.parent; reads = r.reads } = ap (λ (q : Record). (let a : Ahead = record { spot = q.spot; parent = q.parent; reads = q.reads } in a)) (sym is) in
+    record {
+      next = r;
+      records = added.records;
+      content = is ∙ ap (λ (q : Record). record given { spot = q.spot; parent = q.parent; reads = q.reads }) (sym is);
+      place = subst (λ a. IsNext g old (Some a)) at (foresees g old (Some ahead) next);
+      executed = executed;
+    }
+
+-- A record that is executed
+
+pub executed_on : (g : Graph) (old new : Task) (before after : Sight) → AreRising before.database → IsSameCall g old new → HasExecuted g.tables g.procedure old new before after
+    → IsRunningOn g before.database old → IsRunningOn g before.database new
+executed_on g old new before after rise same it on =
+    let left : on.rest ≡ it.next ∷ left_of g.procedure g.tables new before.database = sym (on.is.left before.database on.rest rise on.leaves) ∙ it.left in
+    record {
+      call = on.call;
+      is = same on.call on.is;
+      rest = left_of g.procedure g.tables new before.database;
+      leaves = more_leaves g on.call before.database old new (it.next ∷ []) (left_of g.procedure g.tables new before.database) it.added.records (subst (Leaves g on.call before.database old) left on.leaves);
+    }
+
+pub has_run : (g : Graph) (old new : Task) (before after : Sight) → HasExecuted g.tables g.procedure old new before after → new.executed ≡ old.executed + 1 → HasRun old new before after
+has_run g old new before after it counted = record { next = it.next; records = it.added.records; executed = counted; asked = it.asked }
+
+-- less is left than before
+pub shorter : (g : Graph) (old new : Task) (db : Tables) (before after : Sight) → AreRising db → IsSameCall g old new → IsRunningOn g db old → IsRunningOn g db new → HasRun old new before after
+    → length (left_of g.procedure g.tables new db) < length (left_of g.procedure g.tables old db)
+shorter g old new db before after rise same was on ran =
+    let is : IsTaskOf g was.call new = same was.call was.is in
+    let here : Leaves g was.call db new on.rest = one_run g was.call on.call new db is on.is ∙ on.leaves in
+    let left : left_of g.procedure g.tables new db ≡ on.rest = is.left db on.rest rise here in
+    let before : left_of g.procedure g.tables old db ≡ ran.next ∷ on.rest = was.is.left db (ran.next ∷ on.rest) rise (less_leaves g was.call db old new (ran.next ∷ []) on.rest ran.records here) in
+    omega (arith, ap length left, ap length before)
+
+-- How large its numbers are
+
+pub small_found : (g : Graph) (call : Call) (task : Task) → IsSound g → IsTaskOf g call task → task.env.found < 2 ^ 16
+small_found g call task sound is =
+    let found : task.env.found ≡ length call.arguments + length g.procedure.defaults = is.found in
+    omega (arith, found, is.few, sound.procedure.declared)

@@ -1,0 +1,15 @@
+use Rattle.std.proofs.Common.{◌-◌, length}
+use Rattle.mv_effect.specs.Looking.{IsSameView}
+use Rattle.mv_exec.specs.Running.{IsRunningOn}
+use Rattle.mv_tests.specs.Walks.{HasAll}
+use Rattle.mv_tests.proofs.records.walk.Given as goal
+
+abbrev pub invariant-loop-alloc : goal.invariant-loop-alloc
+invariant-loop-alloc g l = record {
+  running : IsRunningOn l.graph (g.V.View.sight l.fn.view).database l.task;
+  given : HasAll l.graph (g.V.View.sight l.fn.view).database l.task l.given;
+  same : IsSameView (g.V.View.sight l.fn.view) (g.V.View.sight l.view);
+}
+
+abbrev pub decreases-loop-alloc : goal.decreases-loop-alloc
+decreases-loop-alloc g l = length l.given - length l.task.records
