@@ -12,4 +12,6 @@ mod records;
 #[cfg(test)]
 mod refusals;
 #[cfg(test)]
+mod walks;
+#[cfg(test)]
 mod whole;

@@ -1,24 +1,23 @@
 //! The records of calls, worked out by hand from the rules of the language: executed, adopted, and both in turn.
 
-ghost use Rattle.std.specs.Prelude.{◌≡◌, ◌<◌, ◌+◌, ◌∷◌, [], IsTrue, IfOk, OnOk, All, false, true, length};
+ghost use Rattle.std.specs.Prelude.{◌≡◌, ◌∷◌, [], IsTrue, IfOk, All, length};
 ghost use Rattle.std.specs.Option.{option_copied};
 ghost use Rattle.mv_values.specs.Columns.{columns_of};
 ghost use Rattle.mv_values.specs.Tables.{key_columns};
 ghost use Rattle.mv_catalog.specs.Text.{FitsText};
 ghost use Rattle.mv_alone.specs.TableAfter.{Tables};
-ghost use Rattle.mv_record.specs.Writes.{AreRising};
 ghost use Rattle.mv_graph.specs.Nodes.{IsSound};
-ghost use Rattle.mv_effect.specs.Looking.{IsDatabase, IsSameView};
-ghost use Rattle.mv_exec.specs.Running.{HasContent, IsRunning, IsRunningOn, IsSameCall, IsTaskOf};
-ghost use Rattle.mv_tests.specs.Walks.{HasAll};
+ghost use Rattle.mv_effect.specs.Looking.{IsDatabase};
+ghost use Rattle.mv_exec.specs.Running.{IsRunning, IsRunningOn, IsTaskOf};
 
+use crate::walks::{is_adopted, placeless, walk};
 use crate::whole::{ensure, joined};
 use mv_accept::accept::accept;
 use mv_alone::find::rows_in;
 use mv_alone::line::line_from;
 use mv_catalog::resolved::Program;
 use mv_compile::compile::compile;
-use mv_exec::running::{adopt, finish, next, peek};
+use mv_exec::running::{adopt, finish, peek};
 use mv_exec::step::Stepped;
 use mv_exec::task::{Ahead, Task};
 use mv_graph::graph::Graph;
@@ -33,7 +32,6 @@ use mv_values::schema::TableInfo;
 use mv_values::txt::Txt;
 use mv_values::value::{Row, Value};
 use mv_view::plain::Plain;
-use mv_view::view::{Refused, View};
 use std::alloc::Global;
 use std::slice;
 use std::test::Fail;
@@ -383,20 +381,6 @@ fn is_sound(tables: &[TableInfo], database: &Database) -> bool
     is_one_table(tables) && database.len() == 1 && have_own_keys(rows_in(database, 0))
 }
 
-/// A copy of a record that tells neither its place nor its controller nor what it reads.
-fn placeless(alloc: Global, record: &Record) -> Result<Record, NoMemory>
-    ensures { IfOk result (λ given. HasContent given record.now) }
-{
-    let mut given = record.copy(alloc)?;
-    given.spot = Spot {
-        statement: 0,
-        turns: List::new(alloc),
-    };
-    given.parent = None;
-    given.reads = List::new(alloc);
-    Ok(given)
-}
-
 /// Has `peek` foresee the place, controller and reads of this record.
 fn foresees(alloc: Global, graph: &Graph, task: &Task, record: &Record) -> Result<(), Fail>
     requires sound { IsSound graph.now }
@@ -435,81 +419,6 @@ fn adopt_all(alloc: Global, graph: &Graph, task: &mut Task, given: &[Record]) ->
 {
     for record in given {
         adopt_copy(alloc, graph, task, record)?;
-    }
-    Ok(())
-}
-
-/// Whether a walk adopts the record of this number: the first so many, and then every other one.
-fn is_adopted(number: usize, first: usize) -> bool {
-    number < first || number % 2 == 1
-}
-
-/// Adopts the given record of the next number, which tells no place.
-fn adopt_next(
-    alloc: Global,
-    graph: &Graph,
-    task: &mut Task,
-    given: &[Record],
-) -> Result<(), NoMemory>
-    requires sound { IsSound graph.now }
-    requires running { IsRunning graph.now task.old }
-    requires live { task.old.ended ≡ false }
-    requires within { length task.old.records < length given.now }
-    ensures call { IsSameCall graph.now task.old task.new }
-    ensures goes_on { OnOk result ((db : Tables) → AreRising db → IsRunningOn graph.now db task.old → HasAll graph.now db task.old given.now → IsRunningOn graph.now db task.new) }
-    ensures longer { OnOk result (length task.new.records ≡ length task.old.records + 1) }
-{
-    let record = placeless(alloc, &given[task.records().len()])?;
-    adopt(alloc, graph, task, record)?;
-    Ok(())
-}
-
-/// Adopts the next record from those of another run of the call, or executes the next statement.
-fn step<V: View>(
-    alloc: Global,
-    graph: &Graph,
-    task: &mut Task,
-    given: &[Record],
-    first: usize,
-    view: &mut V,
-) -> Result<(), Refused>
-    requires sound { IsSound graph.now }
-    requires database { IsDatabase graph.now.tables (V.sight view.old).database }
-    requires running { IsRunningOn graph.now (V.sight view.old).database task.old }
-    requires live { task.old.ended ≡ false }
-    requires given { HasAll graph.now (V.sight view.old).database task.old given.now }
-    ensures running { OnOk result (IsRunningOn graph.now (V.sight view.old).database task.new) }
-    ensures call { IsSameCall graph.now task.old task.new }
-    ensures same { IsSameView (V.sight view.old) (V.sight view.new) }
-    ensures longer { OnOk result (length task.new.records ≡ length task.old.records + 1) }
-{
-    if is_adopted(task.records().len(), first) {
-        adopt_next(alloc, graph, task, given)?;
-        return Ok(());
-    }
-    next(alloc, graph, task, view)?;
-    Ok(())
-}
-
-/// Walks a call to its end by `adopt` and `next` in turns. What it adopts comes from another run of the call on the
-/// view's database. It tests nothing of it.
-fn walk<V: View>(
-    alloc: Global,
-    graph: &Graph,
-    task: &mut Task,
-    given: &[Record],
-    first: usize,
-    view: &mut V,
-) -> Result<(), Refused>
-    requires sound { IsSound graph.now }
-    requires database { IsDatabase graph.now.tables (V.sight view.old).database }
-    requires running { IsRunningOn graph.now (V.sight view.old).database task.old }
-    requires given { HasAll graph.now (V.sight view.old).database task.old given.now }
-    ensures records { OnOk result (task.new.records ≡ given.now) }
-    ensures ended { OnOk result (task.new.ended ≡ true) }
-{
-    while !task.ended() {
-        step(alloc, graph, task, given, first, view)?;
     }
     Ok(())
 }

@@ -1,6 +1,7 @@
-use Rattle.std.proofs.Common.{◌≡◌, ◌<◌, ◌^◌, ◌+◌, List, refl, sym, ap, subst, ◌∙◌}
+use Rattle.std.proofs.Common.{◌≡◌, ◌<◌, ◌^◌, ◌+◌, false, List, OnOk, refl, sym, ap, subst, ◌∙◌}
 use Rattle.std.proofs.lemmas.Result.{err_from_is_err_and}
 use Rattle.mv_values.specs.declared.patch.Write.{Write}
+use Rattle.mv_values.specs.declared.schema.TableInfo.{TableInfo}
 use Rattle.mv_values.specs.Patching.{applied}
 use Rattle.mv_values.specs.Tables.{KeysStand}
 use Rattle.mv_record.specs.declared.record.Record.{Record}
@@ -13,7 +14,7 @@ use Rattle.mv_exec.proofs.Adopting.{before_both}
 use Rattle.mv_exec.proofs.Executing.{own_writes}
 use Rattle.mv_exec.proofs.Fronts.{both, on_err, either, stays, stays_on, grows, unchanged, executed_before, executed_on, has_run, small_found}
 use Rattle.mv_exec.proofs.running.next.Goals as goal
-use Rattle.mv_exec.proofs.running.next.Goals.{After-execute, After-come_to}
+use Rattle.mv_exec.proofs.running.next.Goals.{After-execute}
 
 pub come_to-requires-clause-task : goal.come_to-requires-clause-task
 come_to-requires-clause-task g c = c.requires.running.is.whole
@@ -24,17 +25,24 @@ execute-requires-clause-found g c =
 
 pub execute-requires-clause-keys : goal.execute-requires-clause-keys
 execute-requires-clause-keys g c =
-    subst (λ (rs : List Record). KeysStand c.args.graph.now.tables (applied (writes_in rs) (g.V.View.sight c.args.view.now).database)) (sym c.come_to.ensures.same.records)
-    (c.requires.running.is.keys (g.V.View.sight c.args.view.now).database c.requires.running.rest c.requires.database c.requires.running.leaves)
+    subst (λ (ts : List TableInfo). KeysStand ts (applied (writes_in c.come_to.new.task.records) (g.V.View.sight c.args.view.now).database)) (sym c.as_slice.ensures)
+    (subst (λ (rs : List Record). KeysStand c.args.graph.now.tables (applied (writes_in rs) (g.V.View.sight c.args.view.now).database)) (sym c.come_to.ensures.same.records)
+    (c.requires.running.is.keys (g.V.View.sight c.args.view.now).database c.requires.running.rest c.requires.database c.requires.running.leaves))
 
 came : (g : _) (c : After-execute g) → IsSameCall c.args.graph.now c.args.task.now c.come_to.new.task
 came g c call is = stays c.args.graph.now call c.args.task.now c.come_to.new.task c.come_to.ensures.task c.come_to.ensures.same c.come_to.ensures.found is
+
+executed : (g : _) (c : After-execute g)
+    → OnOk c.execute.result (HasExecuted c.args.graph.now.tables c.args.graph.now.procedure c.come_to.new.task c.execute.new.task (g.V.View.sight c.args.view.now) (g.V.View.sight c.execute.new.view))
+executed g c =
+    subst (λ (ts : List TableInfo). OnOk c.execute.result (HasExecuted ts c.args.graph.now.procedure c.come_to.new.task c.execute.new.task (g.V.View.sight c.args.view.now) (g.V.View.sight c.execute.new.view)))
+    c.as_slice.ensures c.execute.ensures.executed
 
 same : (g : _) (c : After-execute g) → IsSameCall c.args.graph.now c.args.task.now c.execute.new.task
 same g c call is =
     either c.execute.result (HasExecuted c.args.graph.now.tables c.args.graph.now.procedure c.come_to.new.task c.execute.new.task (g.V.View.sight c.args.view.now) (g.V.View.sight c.execute.new.view))
     (StandsAsBefore c.args.graph.now.procedure c.come_to.new.task c.execute.new.task)
-    (IsTaskOf c.args.graph.now call c.execute.new.task) c.execute.ensures.executed c.execute.ensures.err
+    (IsTaskOf c.args.graph.now call c.execute.new.task) (executed g c) c.execute.ensures.err
     (λ it. grows c.args.graph.now call c.come_to.new.task c.execute.new.task it.next c.execute.ensures.task it.added c.execute.ensures.found (came g c call is))
     (λ before. stays c.args.graph.now call c.come_to.new.task c.execute.new.task c.execute.ensures.task before c.execute.ensures.found (came g c call is))
 
@@ -45,7 +53,7 @@ pub returns-clause-running : goal.returns-clause-running
 returns-clause-running g c =
     either c.execute.result (HasExecuted c.args.graph.now.tables c.args.graph.now.procedure c.come_to.new.task c.execute.new.task (g.V.View.sight c.args.view.now) (g.V.View.sight c.execute.new.view))
     (StandsAsBefore c.args.graph.now.procedure c.come_to.new.task c.execute.new.task)
-    (IsRunningOn c.args.graph.now (g.V.View.sight c.args.view.now).database c.execute.new.task) c.execute.ensures.executed c.execute.ensures.err
+    (IsRunningOn c.args.graph.now (g.V.View.sight c.args.view.now).database c.execute.new.task) (executed g c) c.execute.ensures.err
     (λ it. executed_on c.args.graph.now c.args.task.now c.execute.new.task (g.V.View.sight c.args.view.now) (g.V.View.sight c.execute.new.view) c.requires.database.rising (same g c)
     (executed_before c.args.graph.now.procedure c.args.graph.now.tables c.args.task.now c.come_to.new.task c.execute.new.task (g.V.View.sight c.args.view.now) (g.V.View.sight c.execute.new.view)
     c.come_to.ensures.same it) c.requires.running)
@@ -59,7 +67,7 @@ returns-clause-ran g c =
     (λ it counted live. has_run c.args.graph.now c.args.task.now c.execute.new.task (g.V.View.sight c.args.view.now) (g.V.View.sight c.execute.new.view)
     (executed_before c.args.graph.now.procedure c.args.graph.now.tables c.args.task.now c.come_to.new.task c.execute.new.task (g.V.View.sight c.args.view.now) (g.V.View.sight c.execute.new.view)
     c.come_to.ensures.same it) (counted ∙ ap (λ n. n + 1) c.come_to.ensures.same.executed))
-    c.execute.ensures.executed c.execute.ensures.counted
+    (executed g c) c.execute.ensures.counted
 
 pub returns-clause-err : goal.returns-clause-err
 returns-clause-err g c =
@@ -74,9 +82,6 @@ returns-clause-bounded g c =
 
 -- Where no memory was found before the view was asked
 
-came_back : (g : _) (c : After-come_to g) → IsSameCall c.args.graph.now c.args.task.now c.come_to.new.task
-came_back g c call is = stays c.args.graph.now call c.args.task.now c.come_to.new.task c.come_to.ensures.task c.come_to.ensures.same c.come_to.ensures.found is
-
 pub returns-in_err-ahead-clause-call : goal.returns-in_err-ahead-clause-call
 returns-in_err-ahead-clause-call g c call is = stays c.args.graph.now call c.args.task.now c.come_to.new.task c.come_to.ensures.task c.come_to.ensures.same c.come_to.ensures.found is
 
@@ -86,9 +91,7 @@ returns-in_err-ahead-clause-running g c =
     (λ call is. stays c.args.graph.now call c.args.task.now c.come_to.new.task c.come_to.ensures.task c.come_to.ensures.same c.come_to.ensures.found is) c.come_to.ensures.same.records c.requires.running
 
 pub returns-in_err-ahead-clause-err : goal.returns-in_err-ahead-clause-err
-returns-in_err-ahead-clause-err g c =
-    let p = err_from_is_err_and c.from_residual.result c.from_residual.ensures.1 in
-    rw (p.1, p.2) (unchanged c.args.graph.now.procedure c.args.task.now c.come_to.new.task c.requires.running.is.whole c.come_to.ensures.task c.come_to.ensures.same)
+returns-in_err-ahead-clause-err g c = unchanged c.args.graph.now.procedure c.args.task.now c.come_to.new.task c.requires.running.is.whole c.come_to.ensures.task c.come_to.ensures.same
 
 pub returns-in_err-ahead-clause-refused : goal.returns-in_err-ahead-clause-refused
 returns-in_err-ahead-clause-refused g c = let p = err_from_is_err_and c.from_residual.result c.from_residual.ensures.1 in rw (p.1, p.2) tt

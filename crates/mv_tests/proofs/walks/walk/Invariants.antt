@@ -2,7 +2,7 @@ use Rattle.std.proofs.Common.{◌-◌, length}
 use Rattle.mv_effect.specs.Looking.{IsSameView}
 use Rattle.mv_exec.specs.Running.{IsRunningOn}
 use Rattle.mv_tests.specs.Walks.{HasAll}
-use Rattle.mv_tests.proofs.records.walk.Given as goal
+use Rattle.mv_tests.proofs.walks.walk.Given as goal
 
 abbrev pub invariant-loop-alloc : goal.invariant-loop-alloc
 invariant-loop-alloc g l = record {

@@ -1,0 +1,30 @@
+use Rattle.std.proofs.Common.{◌≡◌, false, true, rules, subst, ◌∙◌}
+use Rattle.mv_alone.specs.TableAfter.{Tables}
+use Rattle.mv_exec.specs.Running.{IsRunningOn}
+use Rattle.mv_exec.proofs.Counting.{run_on}
+use Rattle.mv_exec.proofs.Fronts.{finished}
+use Rattle.mv_exec.proofs.running.finish.Goals as goal
+
+pub loop-alloc-preserved : goal.loop-alloc-preserved
+loop-alloc-preserved g c =
+    let live : c.loop-alloc.task.ended ≡ false = search rules in
+    record {
+      running = subst (λ (db : Tables). IsRunningOn c.args.graph.now db c.next.new.task) c.loop-alloc.invariant.same.database c.next.ensures.running;
+      call = λ call is. c.next.ensures.call call (c.loop-alloc.invariant.call call is);
+      ran = run_on c.args.task.now c.loop-alloc.task c.next.new.task (g.V.View.sight c.args.view.now) (g.V.View.sight c.loop-alloc.view) (g.V.View.sight c.next.new.view)
+          c.loop-alloc.invariant.ran (c.in_ok-next.ensures.ran live) c.next.ensures.bounded;
+      same = record {
+        database = c.next.ensures.same.database ∙ c.loop-alloc.invariant.same.database;
+        start = c.next.ensures.same.start ∙ c.loop-alloc.invariant.same.start;
+        may_be_stale = c.next.ensures.same.may_be_stale ∙ c.loop-alloc.invariant.same.may_be_stale;
+      };
+      never = record {
+        answers = c.in_ok-next.ensures.stale.answers ∙ c.loop-alloc.invariant.never.answers;
+        last_low = c.in_ok-next.ensures.stale.last_low ∙ c.loop-alloc.invariant.never.last_low;
+      };
+    }
+
+pub returns-clause-records : goal.returns-clause-records
+returns-clause-records g c = λ call is.
+    let ended : c.loop-alloc.task.ended ≡ true = search rules in
+    finished c.args.graph.now (g.V.View.sight c.args.view.now).database c.loop-alloc.task c.requires.database.rising c.loop-alloc.invariant.running ended call (c.loop-alloc.invariant.call call is)

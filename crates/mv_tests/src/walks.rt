@@ -1,0 +1,108 @@
+//! A walk through a call that adopts some of its records and executes the others.
+
+ghost use Rattle.std.specs.Prelude.{◌≡◌, ◌<◌, ◌+◌, IfOk, OnOk, false, true, length};
+ghost use Rattle.mv_alone.specs.TableAfter.{Tables};
+ghost use Rattle.mv_record.specs.Writes.{AreRising};
+ghost use Rattle.mv_graph.specs.Nodes.{IsSound};
+ghost use Rattle.mv_effect.specs.Looking.{IsDatabase, IsSameView};
+ghost use Rattle.mv_exec.specs.Running.{HasContent, IsRunning, IsRunningOn, IsSameCall};
+ghost use Rattle.mv_tests.specs.Walks.{HasAll};
+
+use mv_exec::running::{adopt, next};
+use mv_exec::task::Task;
+use mv_graph::graph::Graph;
+use mv_record::record::{Record, Spot};
+use mv_values::copied::Copied;
+use mv_values::list::List;
+use mv_values::memory::NoMemory;
+use mv_view::view::{Refused, View};
+use std::alloc::Global;
+
+/// A copy of a record that tells neither its place nor its controller nor what it reads.
+pub(crate) fn placeless(alloc: Global, record: &Record) -> Result<Record, NoMemory>
+    ensures { IfOk result (λ given. HasContent given record.now) }
+{
+    let mut given = record.copy(alloc)?;
+    given.spot = Spot {
+        statement: 0,
+        turns: List::new(alloc),
+    };
+    given.parent = None;
+    given.reads = List::new(alloc);
+    Ok(given)
+}
+
+/// Whether a walk adopts the record of this number: the first so many, and then every other one.
+pub(crate) fn is_adopted(number: usize, first: usize) -> bool {
+    number < first || number % 2 == 1
+}
+
+/// Adopts the given record of the next number, which tells no place.
+fn adopt_next(
+    alloc: Global,
+    graph: &Graph,
+    task: &mut Task,
+    given: &[Record],
+) -> Result<(), NoMemory>
+    requires sound { IsSound graph.now }
+    requires running { IsRunning graph.now task.old }
+    requires live { task.old.ended ≡ false }
+    requires within { length task.old.records < length given.now }
+    ensures call { IsSameCall graph.now task.old task.new }
+    ensures goes_on { OnOk result ((db : Tables) → AreRising db → IsRunningOn graph.now db task.old → HasAll graph.now db task.old given.now → IsRunningOn graph.now db task.new) }
+    ensures longer { OnOk result (length task.new.records ≡ length task.old.records + 1) }
+{
+    let record = placeless(alloc, &given[task.records().len()])?;
+    adopt(alloc, graph, task, record)?;
+    Ok(())
+}
+
+/// Adopts the next record from those of another run of the call, or executes the next statement.
+fn step<V: View>(
+    alloc: Global,
+    graph: &Graph,
+    task: &mut Task,
+    given: &[Record],
+    first: usize,
+    view: &mut V,
+) -> Result<(), Refused>
+    requires sound { IsSound graph.now }
+    requires database { IsDatabase graph.now.tables (V.sight view.old).database }
+    requires running { IsRunningOn graph.now (V.sight view.old).database task.old }
+    requires live { task.old.ended ≡ false }
+    requires given { HasAll graph.now (V.sight view.old).database task.old given.now }
+    ensures running { OnOk result (IsRunningOn graph.now (V.sight view.old).database task.new) }
+    ensures call { IsSameCall graph.now task.old task.new }
+    ensures same { IsSameView (V.sight view.old) (V.sight view.new) }
+    ensures longer { OnOk result (length task.new.records ≡ length task.old.records + 1) }
+{
+    if is_adopted(task.records().len(), first) {
+        adopt_next(alloc, graph, task, given)?;
+        return Ok(());
+    }
+    next(alloc, graph, task, view)?;
+    Ok(())
+}
+
+/// Walks a call to its end by `adopt` and `next` in turns. What it adopts comes from another run of the call on the
+/// view's database. It tests nothing of it.
+pub(crate) fn walk<V: View>(
+    alloc: Global,
+    graph: &Graph,
+    task: &mut Task,
+    given: &[Record],
+    first: usize,
+    view: &mut V,
+) -> Result<(), Refused>
+    requires sound { IsSound graph.now }
+    requires database { IsDatabase graph.now.tables (V.sight view.old).database }
+    requires running { IsRunningOn graph.now (V.sight view.old).database task.old }
+    requires given { HasAll graph.now (V.sight view.old).database task.old given.now }
+    ensures records { OnOk result (task.new.records ≡ given.now) }
+    ensures ended { OnOk result (task.new.ended ≡ true) }
+{
+    while !task.ended() {
+        step(alloc, graph, task, given, first, view)?;
+    }
+    Ok(())
+}
