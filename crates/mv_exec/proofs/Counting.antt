@@ -70,12 +70,13 @@ touched_last v (x ∷ ws) w = ap (λ b. is_on v.table v.key x || b) (touched_las
 -- one more write on another key counts one more
 new_key : (ws : List Write) (w : Write) → touches w.table w.key ws ≡ false → different (ws ++ w ∷ []) ≡ suc (different ws)
 new_key [] w h = refl
-new_key (x ∷ ws) w h = by (is_on w.table w.key x) refl h
+new_key (x ∷ ws) w h = by (is_on w.table w.key x) refl h (λ e. new_key ws w e)
   where
-    by : (b : Bool) → is_on w.table w.key x ≡ b → (b || touches w.table w.key ws) ≡ false → different (x ∷ (ws ++ w ∷ [])) ≡ suc (different (x ∷ ws))
-    by true on e = cc
-    by false off e =
-        let rest : different (ws ++ w ∷ []) ≡ suc (different ws) = new_key ws w e in
+    by : (b : Bool) → is_on w.table w.key x ≡ b → (b || touches w.table w.key ws) ≡ false → (touches w.table w.key ws ≡ false → different (ws ++ w ∷ []) ≡ suc (different ws))
+        → different (x ∷ (ws ++ w ∷ [])) ≡ suc (different (x ∷ ws))
+    by true on e go = cc
+    by false off e go =
+        let rest : different (ws ++ w ∷ []) ≡ suc (different ws) = go e in
         let same : touches x.table x.key (ws ++ w ∷ []) ≡ touches x.table x.key ws =
         touched_last x ws w ∙ (ap (λ b. touches x.table x.key ws || b) (on_either_way x w ∙ off) ∙ none (touches x.table x.key ws)) in
         ap (λ b. if b then different (ws ++ w ∷ []) else suc (different (ws ++ w ∷ []))) same
@@ -92,16 +93,13 @@ new_key (x ∷ ws) w h = by (is_on w.table w.key x) refl h
 -- one more write counts no less
 one_more : (ws : List Write) (w : Write) → different ws ≤ different (ws ++ w ∷ [])
 one_more [] w = omega arith
-one_more (x ∷ ws) w = by (touches x.table x.key ws) refl (is_on x.table x.key w) refl
+one_more (x ∷ ws) w = by (touches x.table x.key ws) refl (is_on x.table x.key w) refl (one_more ws w)
   where
     more : List Write
     more = ws ++ w ∷ []
 
-    rest : different ws ≤ different more
-    rest = one_more ws w
-
-    by : (t : Bool) → touches x.table x.key ws ≡ t → (b : Bool) → is_on x.table x.key w ≡ b → different (x ∷ ws) ≤ different (x ∷ more)
-    by t is b on = at t b (ap (λ u. if u then different ws else suc (different ws)) is)
+    by : (t : Bool) → touches x.table x.key ws ≡ t → (b : Bool) → is_on x.table x.key w ≡ b → different ws ≤ different more → different (x ∷ ws) ≤ different (x ∷ more)
+    by t is b on rest = at t b (ap (λ u. if u then different ws else suc (different ws)) is)
         (ap (λ u. if u then different more else suc (different more)) (touched_last x ws w ∙ (ap (λ u. u || is_on x.table x.key w) is ∙ ap (λ u. t || u) on)))
         (λ f e. new_key ws w (sym (touched_alike x w ws (on ∙ e)) ∙ (is ∙ f)))
       where
@@ -137,11 +135,11 @@ suc_times n a = add-mul n 1 a ∙ ap (λ k. n * a + k) (one-mul a)
 
 -- one step more, which may have asked once
 asked_once_more : (n d e : ℕ) (a b c : Sight) → d ≤ e → AskedAtMost n (n * d) a b → AskedAtMost 1 d b c → AskedAtMost (n + 1) ((n + 1) * e) a c
-asked_once_more n d e a b c more first then =
+asked_once_more n d e a b c more first last =
     let all : n * d ≤ n * e = times_more n d e more in
     record {
-      for_rows = omega (arith, first.for_rows, then.for_rows);
-      for_row = omega (arith, first.for_row, then.for_row, all, more, suc_times n e);
+      for_rows = omega (arith, first.for_rows, last.for_rows);
+      for_row = omega (arith, first.for_row, last.for_row, all, more, suc_times n e);
     }
 
 -- nothing was asked

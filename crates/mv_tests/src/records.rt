@@ -10,7 +10,7 @@ ghost use Rattle.mv_graph.specs.Nodes.{IsSound};
 ghost use Rattle.mv_effect.specs.Looking.{IsDatabase};
 ghost use Rattle.mv_exec.specs.Running.{IsRunning, IsRunningOn, IsTaskOf};
 
-use crate::walks::{is_adopted, placeless, walk};
+use crate::walks::{is_adopted, placeless, run_and_walk};
 use crate::whole::{ensure, joined};
 use mv_accept::accept::accept;
 use mv_alone::find::rows_in;
@@ -451,34 +451,24 @@ fn has_left(alloc: Global, task: &Task, executed: usize, want: &str) -> Result<(
     are_told(alloc, task.records(), want)
 }
 
-/// Has a call leave these records, and leave them again where it begins anew and adopts its first ones, and of the
-/// others every other one.
+/// Has a call leave these records that runs, begins anew, and adopts its first ones, and of the others every other one.
 fn walks(
     alloc: Global,
     graph: &Graph,
     call: &Call,
     database: &Database,
+    len: usize,
     first: usize,
     want: &str,
 ) -> Result<(), Fail>
     requires sound { IsSound graph.now }
     requires database { IsDatabase graph.now.tables database.now }
 {
-    let mut task = begun(alloc, graph, call)?;
-    let mut view = Plain::new(database);
-    finish(alloc, graph, &mut task, &mut view).or(Err("no end"))?;
-    has_left(alloc, &task, task.records().len(), want)?;
-    let records = task.restart(alloc);
-    walk(
-        alloc,
-        graph,
-        &mut task,
-        records.as_slice(),
-        first,
-        &mut view,
-    )
-    .or(Err("no end"))?;
-    has_left(alloc, &task, executed_by_walk(records.len(), first), want)
+    if call.arguments.len() > 16 {
+        return Err("too many arguments".into());
+    }
+    let task = run_and_walk(alloc, graph, call, database, first).or(Err("no end"))?;
+    has_left(alloc, &task, executed_by_walk(len, first), want)
 }
 
 /// Has a call that adopts all these records leave them, each where it was foreseen.
@@ -527,9 +517,10 @@ fn check(
         return Err("no database of one table".into());
     }
     let records = records_of(alloc, graph, call, database)?;
+    are_told(alloc, records.as_slice(), want)?;
     adopts(alloc, graph, call, records.as_slice(), want)?;
     for first in 0..=records.len() {
-        walks(alloc, graph, call, database, first, want)?;
+        walks(alloc, graph, call, database, records.len(), first, want)?;
     }
     Ok(())
 }

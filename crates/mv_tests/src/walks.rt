@@ -1,20 +1,23 @@
 //! A walk through a call that adopts some of its records and executes the others.
 
-ghost use Rattle.std.specs.Prelude.{◌≡◌, ◌<◌, ◌+◌, IfOk, OnOk, false, true, length};
+ghost use Rattle.std.specs.Prelude.{◌≡◌, ◌<◌, ◌≤◌, ◌+◌, IfOk, OnOk, false, true, length};
 ghost use Rattle.mv_alone.specs.TableAfter.{Tables};
 ghost use Rattle.mv_record.specs.Writes.{AreRising};
-ghost use Rattle.mv_graph.specs.Nodes.{IsSound};
+ghost use Rattle.mv_graph.specs.Nodes.{IsSound, meaning_of};
 ghost use Rattle.mv_effect.specs.Looking.{IsDatabase, IsSameView};
 ghost use Rattle.mv_exec.specs.Running.{HasContent, IsRunning, IsRunningOn, IsSameCall};
 ghost use Rattle.mv_tests.specs.Walks.{HasAll};
 
-use mv_exec::running::{adopt, next};
+use mv_exec::running::{adopt, finish, next};
 use mv_exec::task::Task;
 use mv_graph::graph::Graph;
 use mv_record::record::{Record, Spot};
+use mv_values::calls::Call;
 use mv_values::copied::Copied;
 use mv_values::list::List;
 use mv_values::memory::NoMemory;
+use mv_values::rows::Database;
+use mv_view::plain::Plain;
 use mv_view::view::{Refused, View};
 use std::alloc::Global;
 
@@ -86,7 +89,7 @@ fn step<V: View>(
 
 /// Walks a call to its end by `adopt` and `next` in turns. What it adopts comes from another run of the call on the
 /// view's database. It tests nothing of it.
-pub(crate) fn walk<V: View>(
+fn walk<V: View>(
     alloc: Global,
     graph: &Graph,
     task: &mut Task,
@@ -105,4 +108,33 @@ pub(crate) fn walk<V: View>(
         step(alloc, graph, task, given, first, view)?;
     }
     Ok(())
+}
+
+/// Runs a call to its end, begins it anew, and walks it through with the records of the first run.
+pub(crate) fn run_and_walk(
+    alloc: Global,
+    graph: &Graph,
+    call: &Call,
+    database: &Database,
+    first: usize,
+) -> Result<Task, Refused>
+    requires sound { IsSound graph.now }
+    requires few { length call.now.arguments ≤ 16 }
+    requires database { IsDatabase graph.now.tables database.now }
+    ensures records { IfOk result (λ task. task.records ≡ (meaning_of graph.now call.now database.now).records) }
+    ensures ended { IfOk result (λ task. task.ended ≡ true) }
+{
+    let mut task = Task::new(alloc, graph, call)?;
+    let mut view = Plain::new(database);
+    finish(alloc, graph, &mut task, &mut view)?;
+    let records = task.restart(alloc);
+    walk(
+        alloc,
+        graph,
+        &mut task,
+        records.as_slice(),
+        first,
+        &mut view,
+    )?;
+    Ok(task)
 }

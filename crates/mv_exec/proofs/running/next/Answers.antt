@@ -12,7 +12,7 @@ use Rattle.mv_exec.specs.Steps.{HasExecuted}
 use Rattle.mv_exec.specs.Tasks.{StandsAsBefore}
 use Rattle.mv_exec.proofs.Adopting.{before_both}
 use Rattle.mv_exec.proofs.Executing.{own_writes}
-use Rattle.mv_exec.proofs.Fronts.{both, on_err, either, stays, stays_on, grows, unchanged, executed_before, executed_on, has_run, small_found}
+use Rattle.mv_exec.proofs.Fronts.{both, on_err, if_err, either, stays, stays_on, grows, unchanged, executed_before, executed_on, has_run, small_found}
 use Rattle.mv_exec.proofs.running.next.Goals as goal
 use Rattle.mv_exec.proofs.running.next.Goals.{After-execute}
 
@@ -91,7 +91,9 @@ returns-in_err-ahead-clause-running g c =
     (λ call is. stays c.args.graph.now call c.args.task.now c.come_to.new.task c.come_to.ensures.task c.come_to.ensures.same c.come_to.ensures.found is) c.come_to.ensures.same.records c.requires.running
 
 pub returns-in_err-ahead-clause-err : goal.returns-in_err-ahead-clause-err
-returns-in_err-ahead-clause-err g c = unchanged c.args.graph.now.procedure c.args.task.now c.come_to.new.task c.requires.running.is.whole c.come_to.ensures.task c.come_to.ensures.same
+returns-in_err-ahead-clause-err g c =
+    if_err c.from_residual.result (IsUnchanged c.args.task.now c.come_to.new.task)
+    (unchanged c.args.graph.now.procedure c.args.task.now c.come_to.new.task c.requires.running.is.whole c.come_to.ensures.task c.come_to.ensures.same)
 
 pub returns-in_err-ahead-clause-refused : goal.returns-in_err-ahead-clause-refused
 returns-in_err-ahead-clause-refused g c = let p = err_from_is_err_and c.from_residual.result c.from_residual.ensures.1 in rw (p.1, p.2) tt
