@@ -1,0 +1,8 @@
+use Rattle.std.proofs.Common.{◌≡◌, true, rules}
+use Rattle.mv_tests.proofs.Walking.{has_all}
+use Rattle.mv_tests.proofs.walks.walk.Goals as goal
+
+pub returns-clause-records : goal.returns-clause-records
+returns-clause-records g c =
+    let ended : c.loop-alloc.task.ended ≡ true = search rules in
+    has_all c.args.graph.now (g.V.View.sight c.args.view.now).database c.loop-alloc.task c.args.given.now c.requires.database.rising c.loop-alloc.invariant.running ended c.loop-alloc.invariant.given
