@@ -23,9 +23,7 @@ use mv_exec::task::{Ahead, Task};
 use mv_graph::graph::Graph;
 use mv_record::record::{Read, Record, Slot, Spot};
 use mv_values::calls::{Call, End};
-use mv_values::copied::Copied;
 use mv_values::list::List;
-use mv_values::memory::NoMemory;
 use mv_values::patch::{Assign, Patch, Write};
 use mv_values::rows::{Database, Keyed};
 use mv_values::schema::TableInfo;
@@ -438,7 +436,13 @@ fn begun(alloc: Global, graph: &Graph, call: &Call) -> Result<Task, Fail>
 
 /// How many records a walk executes.
 fn executed_by_walk(len: usize, first: usize) -> usize {
-    (0..len).filter(|n| !is_adopted(*n, first)).count()
+    let mut executed: usize = 0;
+    for number in 0..len {
+        if !is_adopted(number, first) {
+            executed = executed.saturating_add(1);
+        }
+    }
+    executed
 }
 
 /// Has a call have these records, of which it executed so many.
