@@ -1,7 +1,6 @@
 -- Statements that are stopped.
 use Rattle.std.specs.Prelude.{◌≡◌, List, Result, Ok, Err}
 use Rattle.mv_values.specs.declared.pred.Pred.{Pred}
-use Rattle.mv_values.specs.declared.calls.End.{End}
 use Rattle.mv_alone.specs.declared.state.Stop.{Stop}
 use Rattle.mv_alone.specs.declared.state.Stop.TheVariants.{Memory, Ended}
 use Rattle.mv_view.specs.declared.view.Refused.{Refused}

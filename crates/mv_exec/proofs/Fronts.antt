@@ -12,7 +12,8 @@ use Rattle.mv_record.specs.Runs.{writes_in}
 use Rattle.mv_record.specs.Writes.{AreRising}
 use Rattle.mv_recorded.specs.Recorded.{recorded, told, outside}
 use Rattle.mv_view.specs.Viewing.{Sight}
-use Rattle.mv_effect.specs.Looking.{AskedFor, IsDatabase}
+use Rattle.mv_record.specs.Databases.{IsDatabaseOf}
+use Rattle.mv_effect.specs.Looking.{AskedFor}
 use Rattle.mv_graph.specs.declared.graph.Graph.{Graph}
 use Rattle.mv_graph.specs.Nodes.{IsSound, meaning_of}
 use Rattle.mv_exec.specs.declared.task.Ahead.{Ahead}

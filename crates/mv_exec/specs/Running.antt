@@ -8,7 +8,8 @@ use Rattle.mv_record.specs.declared.record.Record.{Record}
 use Rattle.mv_record.specs.Runs.{writes_in}
 use Rattle.mv_record.specs.Writes.{AreRising}
 use Rattle.mv_view.specs.Viewing.{Sight}
-use Rattle.mv_effect.specs.Looking.{AskedAtMost, AskedFor, IsDatabase, different}
+use Rattle.mv_record.specs.Databases.{IsDatabaseOf}
+use Rattle.mv_effect.specs.Looking.{AskedAtMost, AskedFor, different}
 use Rattle.mv_graph.specs.declared.graph.Graph.{Graph}
 use Rattle.mv_graph.specs.Nodes.{IsSound, meaning_of}
 use Rattle.mv_exec.specs.declared.step.Stepped.{Stepped}
@@ -30,7 +31,7 @@ pub record IsTaskOf (g : Graph) (call : Call) (task : Task) : Type 0 where
   pub few : length call.arguments ≤ 16
   pub found : task.env.found ≡ (entered g.procedure call).found
   pub left : (db : Tables) (rest : List Record) → AreRising db → Leaves g call db task rest → left_of g.procedure g.tables task db ≡ rest
-  pub keys : (db : Tables) (rest : List Record) → IsDatabase g.tables db → Leaves g call db task rest → KeysStand g.tables (applied (writes_in task.records) db)
+  pub keys : (db : Tables) (rest : List Record) → IsDatabaseOf g.tables db → Leaves g call db task rest → KeysStand g.tables (applied (writes_in task.records) db)
 
 -- it is a running call of the graph
 abbrev pub IsRunning : Graph → Task → Type 0
@@ -115,4 +116,4 @@ EndsExactly = (g : Graph) (call : Call) (db : Tables) (task : Task) (rest : List
 
 -- the writes of the first records of a full run leave each row under its own values of the key columns
 abbrev pub KeysKept : Type 0
-KeysKept = (g : Graph) (db : Tables) (task : Task) → IsDatabase g.tables db → IsRunningOn g db task → KeysStand g.tables (applied (writes_in task.records) db)
+KeysKept = (g : Graph) (db : Tables) (task : Task) → IsDatabaseOf g.tables db → IsRunningOn g db task → KeysStand g.tables (applied (writes_in task.records) db)

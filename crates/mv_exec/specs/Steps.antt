@@ -13,7 +13,7 @@ use Rattle.mv_record.specs.Runs.{writes_in}
 use Rattle.mv_record.specs.Writes.{AreRising}
 use Rattle.mv_recorded.specs.Effect.{HasColumns}
 use Rattle.mv_view.specs.Viewing.{Sight}
-use Rattle.mv_effect.specs.declared.effect.Effect.{Effect}
+use Rattle.mv_record.specs.declared.effect.Effect.{Effect}
 use Rattle.mv_effect.specs.Looking.{AskedFor}
 use Rattle.mv_exec.specs.declared.places.Place.{Place}
 use Rattle.mv_exec.specs.declared.task.Ahead.{Ahead}

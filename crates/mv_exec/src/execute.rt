@@ -6,7 +6,8 @@ ghost use Rattle.mv_values.specs.Tables.{KeysStand};
 ghost use Rattle.mv_catalog.specs.Text.{IsProcedure, IsTable};
 ghost use Rattle.mv_record.specs.Runs.{writes_in};
 ghost use Rattle.mv_undo.specs.Owning.{earlier};
-ghost use Rattle.mv_effect.specs.Looking.{IsDatabase, IsSameView, PassesOn, AskedAtMost, different};
+ghost use Rattle.mv_record.specs.Databases.{IsDatabaseOf};
+ghost use Rattle.mv_effect.specs.Looking.{IsSameView, PassesOn, AskedAtMost, different};
 ghost use Rattle.mv_view.specs.Viewing.{MayAnswer};
 ghost use Rattle.mv_exec.specs.Places.{IsReady};
 ghost use Rattle.mv_exec.specs.Ahead.{ForeseesLeft};
@@ -18,7 +19,7 @@ use crate::add::{add, next_statement};
 use crate::step::Stepped;
 use crate::task::{Ahead, Task};
 use mv_catalog::resolved::ProcInfo;
-use mv_effect::effect::Effect;
+use mv_record::effect::Effect;
 use mv_effect::statement::effect;
 use mv_record::record::Record;
 use mv_values::schema::TableInfo;
@@ -61,7 +62,7 @@ pub(crate) fn execute<V: View>(
     requires kept { IsSome task.old.first }
     requires next { ForeseesLeft procedure.now task.old (Some ahead) }
     requires found { task.old.env.found < 2 ^ 16 }
-    requires database { IsDatabase tables.now (V.sight view.old).database }
+    requires database { IsDatabaseOf tables.now (V.sight view.old).database }
     requires keys { KeysStand tables.now (applied (writes_in task.old.records) (V.sight view.old).database) }
     ensures task { IsTask procedure.now task.new }
     ensures executed { OnOk result (HasExecuted tables.now procedure.now task.old task.new (V.sight view.old) (V.sight view.new)) }

@@ -6,7 +6,8 @@ ghost use Rattle.mv_values.specs.declared.calls.Call.{Call};
 ghost use Rattle.mv_record.specs.Runs.{writes_in};
 ghost use Rattle.mv_graph.specs.Nodes.{IsSound, meaning_of};
 ghost use Rattle.mv_view.specs.Viewing.{MayAnswer};
-ghost use Rattle.mv_effect.specs.Looking.{AskedAtMost, IsDatabase, IsSameView, PassesOn, different};
+ghost use Rattle.mv_record.specs.Databases.{IsDatabaseOf};
+ghost use Rattle.mv_effect.specs.Looking.{AskedAtMost, IsSameView, PassesOn, different};
 ghost use Rattle.mv_exec.specs.Running.{IsRunning, IsRunningOn, IsSameCall, IsTaskOf, IsUnchanged, IsNext, GoesOnWith, HasAdopted, HasRun, HasRunTo, refusals, stepped, EndsExactly, KeysKept};
 
 use crate::add::add;
@@ -97,7 +98,7 @@ pub fn next<V: View>(
     view: &mut V,
 ) -> Result<Stepped, Refused>
     requires sound { IsSound graph.now }
-    requires database { IsDatabase graph.now.tables (V.sight view.old).database }
+    requires database { IsDatabaseOf graph.now.tables (V.sight view.old).database }
     requires running { IsRunningOn graph.now (V.sight view.old).database task.old }
     ensures running { IsRunningOn graph.now (V.sight view.old).database task.new }
     ensures call { IsSameCall graph.now task.old task.new }
@@ -136,7 +137,7 @@ pub fn finish<V: View>(
     view: &mut V,
 ) -> Result<(), Refused>
     requires sound { IsSound graph.now }
-    requires database { IsDatabase graph.now.tables (V.sight view.old).database }
+    requires database { IsDatabaseOf graph.now.tables (V.sight view.old).database }
     requires running { IsRunningOn graph.now (V.sight view.old).database task.old }
     ensures running { IsRunningOn graph.now (V.sight view.old).database task.new }
     ensures call { IsSameCall graph.now task.old task.new }

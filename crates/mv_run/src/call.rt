@@ -1,10 +1,9 @@
 //! One call, executed over the database that those before it left.
 
 ghost use Rattle.std.specs.Prelude.{◌≡◌, ◌≤◌, length, IfOk, OnOk};
-ghost use Rattle.mv_values.specs.Patching.{applied};
-ghost use Rattle.mv_values.specs.Tables.{KeysStand};
-ghost use Rattle.mv_record.specs.Runs.{writes_in};
-ghost use Rattle.mv_effect.specs.Looking.{IsDatabase};
+ghost use Rattle.std.specs.List.{AllZip};
+ghost use Rattle.mv_catalog.specs.Text.{Suits};
+ghost use Rattle.mv_record.specs.Databases.{IsDatabaseOf};
 ghost use Rattle.mv_graph.specs.Nodes.{IsSound, meaning_of};
 
 use crate::told::{commit, reply_of};
@@ -29,9 +28,8 @@ pub(crate) struct Answer {
 fn execute(alloc: Global, graph: &Graph, call: &Call, database: &Database) -> Result<Task, NoMemory>
     requires sound { IsSound graph.now }
     requires few { length call.now.arguments ≤ 16 }
-    requires database { IsDatabase graph.now.tables database.now }
+    requires database { IsDatabaseOf graph.now.tables database.now }
     ensures records { IfOk result (λ task. task.records ≡ (meaning_of graph.now call.now database.now).records) }
-    ensures keys { IfOk result (λ task. KeysStand graph.now.tables (applied (writes_in task.records) database.now)) }
 {
     let mut task = Task::new(alloc, graph, call)?;
     let mut view = Plain::new(database);
@@ -52,11 +50,12 @@ pub(crate) fn run_call(
 ) -> Result<Answer, NoMemory>
     requires sound { IsSound graph.now }
     requires few { length call.now.arguments ≤ 16 }
-    requires database { IsDatabase graph.now.tables database.old }
+    requires suits { AllZip Suits graph.now.procedure.params call.now.arguments }
+    requires database { IsDatabaseOf graph.now.tables database.old }
     ensures reply { IfOk result (λ answer. answer.reply ≡ (meaning_of graph.now call.now database.old).reply) }
     ensures count { IfOk result (λ answer. answer.count ≡ length (meaning_of graph.now call.now database.old).records) }
     ensures tables { OnOk result (database.new ≡ (meaning_of graph.now call.now database.old).tables) }
-    ensures database { OnOk result (IsDatabase graph.now.tables database.new) }
+    ensures database { OnOk result (IsDatabaseOf graph.now.tables database.new) }
 {
     let task = execute(alloc, graph, call, database)?;
     let records = task.records();

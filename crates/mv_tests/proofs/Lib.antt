@@ -1,2 +1,2 @@
-pub mod OneTable
+pub mod Opening
 pub mod Walking

@@ -1,19 +1,14 @@
 //! The records of calls, worked out by hand from the rules of the language: executed, adopted, and both in turn.
 
-ghost use Rattle.std.specs.Prelude.{◌≡◌, ◌∷◌, [], IsTrue, IfOk, All, length};
-ghost use Rattle.std.specs.Option.{option_copied};
-ghost use Rattle.mv_values.specs.Columns.{columns_of};
-ghost use Rattle.mv_values.specs.Tables.{key_columns};
-ghost use Rattle.mv_catalog.specs.Text.{FitsText};
+ghost use Rattle.std.specs.Prelude.{IfOk, All};
 ghost use Rattle.mv_alone.specs.TableAfter.{Tables};
 ghost use Rattle.mv_graph.specs.Nodes.{IsSound};
-ghost use Rattle.mv_effect.specs.Looking.{IsDatabase};
+ghost use Rattle.mv_record.specs.Databases.{IsDatabaseOf, IsProgram};
 ghost use Rattle.mv_exec.specs.Running.{IsRunning, IsRunningOn, IsTaskOf};
 
 use crate::walks::{is_adopted, placeless, run_and_walk};
 use crate::whole::{ensure, joined};
 use mv_accept::accept::accept;
-use mv_alone::find::rows_in;
 use mv_alone::line::line_from;
 use mv_catalog::resolved::Program;
 use mv_compile::compile::compile;
@@ -25,8 +20,7 @@ use mv_record::record::{Read, Record, Slot, Spot};
 use mv_values::calls::{Call, End};
 use mv_values::list::List;
 use mv_values::patch::{Assign, Patch, Write};
-use mv_values::rows::{Database, Keyed};
-use mv_values::schema::TableInfo;
+use mv_values::rows::Database;
 use mv_values::txt::Txt;
 use mv_values::value::{Row, Value};
 use mv_view::plain::Plain;
@@ -333,52 +327,6 @@ fn is_foreseen(alloc: Global, record: &Record, ahead: &Ahead) -> Result<(), Fail
 
 // Running calls
 
-fn has_own_key(item: &Keyed) -> bool
-    ensures { IsTrue result → item.now.key ≡ columns_of item.now.row (0 ∷ []) }
-{
-    let key = item.key.as_slice();
-    let row = item.row.as_slice();
-    if key.len() != 1 || row.is_empty() {
-        return false;
-    }
-    key[0] == row[0]
-}
-
-fn have_own_keys(rows: &[Keyed]) -> bool
-    ensures { IsTrue result → All (λ item. item.key ≡ columns_of item.row (0 ∷ [])) rows.now }
-{
-    rows.iter().all(has_own_key)
-}
-
-/// Whether the first column alone is the key.
-fn is_first_key(key: &[u8]) -> bool
-    ensures { IsTrue result → key.now ≡ 0 ∷ [] }
-{
-    match key {
-        [column] => *column == 0,
-        _ => false,
-    }
-}
-
-/// Whether there is one table whose first column alone is its key.
-fn is_one_table(tables: &[TableInfo]) -> bool
-    ensures one { IsTrue result → length tables.now ≡ 1 }
-    ensures key { IsTrue result → key_columns tables.now 0 ≡ 0 ∷ [] }
-{
-    match tables {
-        [table] => is_first_key(table.key.as_slice()),
-        _ => false,
-    }
-}
-
-/// Whether there is one table of this kind, and these are its rows, under their own keys.
-#[tactic(auto, using(crate::proofs::OneTable::is_database))]
-fn is_sound(tables: &[TableInfo], database: &Database) -> bool
-    ensures { IsTrue result → IsDatabase tables.now database.now }
-{
-    is_one_table(tables) && database.len() == 1 && have_own_keys(rows_in(database, 0))
-}
-
 /// Has `peek` foresee the place, controller and reads of this record.
 fn foresees(alloc: Global, graph: &Graph, task: &Task, record: &Record) -> Result<(), Fail>
     requires sound { IsSound graph.now }
@@ -466,7 +414,7 @@ fn walks(
     want: &str,
 ) -> Result<(), Fail>
     requires sound { IsSound graph.now }
-    requires database { IsDatabase graph.now.tables database.now }
+    requires database { IsDatabaseOf graph.now.tables database.now }
 {
     if call.arguments.len() > 16 {
         return Err("too many arguments".into());
@@ -498,7 +446,7 @@ fn records_of(
     database: &Database,
 ) -> Result<List<Record>, Fail>
     requires sound { IsSound graph.now }
-    requires database { IsDatabase graph.now.tables database.now }
+    requires database { IsDatabaseOf graph.now.tables database.now }
 {
     let mut task = begun(alloc, graph, call)?;
     let mut view = Plain::new(database);
@@ -516,10 +464,8 @@ fn check(
     want: &str,
 ) -> Result<(), Fail>
     requires sound { IsSound graph.now }
+    requires database { IsDatabaseOf graph.now.tables database.now }
 {
-    if !is_sound(graph.tables.as_slice(), database) {
-        return Err("no database of one table".into());
-    }
     let records = records_of(alloc, graph, call, database)?;
     are_told(alloc, records.as_slice(), want)?;
     adopts(alloc, graph, call, records.as_slice(), want)?;
@@ -530,13 +476,14 @@ fn check(
 }
 
 fn accepted(alloc: Global, script: &str) -> Result<Program, Fail>
-    ensures { IfOk result (λ program. FitsText program.resolved) }
+    ensures { IfOk result IsProgram }
 {
     Ok(accept(alloc, script.as_bytes()).or(Err("refused"))?)
 }
 
 fn check_only(alloc: Global, program: &Program, graphs: &[Graph], want: &str) -> Result<(), Fail>
     requires sound { All IsSound graphs.now }
+    requires databases { All (λ graph. IsDatabaseOf graph.tables program.now.opening) graphs.now }
 {
     let calls = program.resolved.calls.as_slice();
     let ([graph], [call]) = (graphs, calls) else {
@@ -547,7 +494,7 @@ fn check_only(alloc: Global, program: &Program, graphs: &[Graph], want: &str) ->
 
 /// Has the only call of a program leave these records.
 fn leaves(alloc: Global, program: &Program, want: &str) -> Result<(), Fail>
-    requires { FitsText program.now.resolved }
+    requires { IsProgram program.now }
 {
     let graphs = compile(alloc, &program.resolved)?;
     check_only(alloc, program, graphs.as_slice(), want)

@@ -4,7 +4,8 @@ ghost use Rattle.std.specs.Prelude.{◌≡◌, ◌<◌, ◌≤◌, ◌+◌, IfOk
 ghost use Rattle.mv_alone.specs.TableAfter.{Tables};
 ghost use Rattle.mv_record.specs.Writes.{AreRising};
 ghost use Rattle.mv_graph.specs.Nodes.{IsSound, meaning_of};
-ghost use Rattle.mv_effect.specs.Looking.{IsDatabase, IsSameView};
+ghost use Rattle.mv_record.specs.Databases.{IsDatabaseOf};
+ghost use Rattle.mv_effect.specs.Looking.{IsSameView};
 ghost use Rattle.mv_exec.specs.Running.{HasContent, IsRunning, IsRunningOn, IsSameCall};
 ghost use Rattle.mv_tests.specs.Walks.{HasAll};
 
@@ -70,7 +71,7 @@ fn step<V: View>(
     view: &mut V,
 ) -> Result<(), Refused>
     requires sound { IsSound graph.now }
-    requires database { IsDatabase graph.now.tables (V.sight view.old).database }
+    requires database { IsDatabaseOf graph.now.tables (V.sight view.old).database }
     requires running { IsRunningOn graph.now (V.sight view.old).database task.old }
     requires live { task.old.ended ≡ false }
     requires given { HasAll graph.now (V.sight view.old).database task.old given.now }
@@ -98,7 +99,7 @@ fn walk<V: View>(
     view: &mut V,
 ) -> Result<(), Refused>
     requires sound { IsSound graph.now }
-    requires database { IsDatabase graph.now.tables (V.sight view.old).database }
+    requires database { IsDatabaseOf graph.now.tables (V.sight view.old).database }
     requires running { IsRunningOn graph.now (V.sight view.old).database task.old }
     requires given { HasAll graph.now (V.sight view.old).database task.old given.now }
     ensures records { OnOk result (task.new.records ≡ given.now) }
@@ -120,7 +121,7 @@ pub(crate) fn run_and_walk(
 ) -> Result<Task, Refused>
     requires sound { IsSound graph.now }
     requires few { length call.now.arguments ≤ 16 }
-    requires database { IsDatabase graph.now.tables database.now }
+    requires database { IsDatabaseOf graph.now.tables database.now }
     ensures records { IfOk result (λ task. task.records ≡ (meaning_of graph.now call.now database.now).records) }
     ensures ended { IfOk result (λ task. task.ended ≡ true) }
 {

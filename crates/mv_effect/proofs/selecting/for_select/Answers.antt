@@ -1,9 +1,6 @@
-use Rattle.std.proofs.Common.{ap, sym, ◌∙◌}
+use Rattle.std.proofs.Common.{ap, ◌∙◌}
 use Rattle.mv_values.specs.Patching.{applied}
-use Rattle.mv_alone.specs.Alone.{fixed}
-use Rattle.mv_alone.specs.Rows.{matching}
 use Rattle.mv_undo.specs.Owning.{earlier}
-use Rattle.mv_recorded.specs.Effects.{going}
 use Rattle.mv_record.specs.declared.effect.Effect.{Effect}
 use Rattle.mv_effect.proofs.Asked.{asked_one}
 use Rattle.mv_recorded.proofs.Chosen.{for_goes}

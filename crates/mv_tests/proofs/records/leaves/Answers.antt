@@ -1,4 +1,4 @@
-use Rattle.mv_tests.proofs.OneTable.{graphs_on}
+use Rattle.mv_tests.proofs.Opening.{graphs_on}
 use Rattle.mv_tests.proofs.records.leaves.Goals as goal
 
 pub check_only-requires-clause-databases : goal.check_only-requires-clause-databases
