@@ -1,5 +1,5 @@
 -- The journal of one worker is lawful.
-use Rattle.std.proofs.Common.{◌≡◌, ◌≤◌, ◌<◌, ℕ, zero, suc, ◌+◌, true, false, not, List, [], ◌∷◌, ◌++◌, Some, None, length, drop, slice_set, if◌then◌else◌, refl, sym, ap, subst, ◌∙◌, arith, append-nil, length-append}
+use Rattle.std.proofs.Common.{Bool, ◌≡◌, ◌≤◌, ◌<◌, ℕ, zero, suc, ◌+◌, true, false, not, List, [], ◌∷◌, ◌++◌, Some, None, length, drop, slice_set, if◌then◌else◌, refl, sym, ap, subst, ◌∙◌, arith, append-nil, length-append}
 use Rattle.std.specs.Prelude.{◌==◌, ◌&&◌, nat_lt, slice_get}
 use Rattle.std.specs.List.{filter}
 use Rattle.std.specs.Option.{option_map, is_some}
@@ -14,7 +14,7 @@ use Rattle.mv_history.specs.declared.change.Change.{Change}
 use Rattle.mv_history.specs.Hits.{first_hit}
 use Rattle.mv_lawful.specs.declared.fault.Fault.TheVariants.{Order, Stale, Conflict}
 use Rattle.mv_lawful.specs.declared.fault.Wrong.TheVariants.{Open}
-use Rattle.mv_lawful.specs.Work.{Work, changes_after, since, hit_of, records_at}
+use Rattle.mv_lawful.specs.Work.{Work, tables_after, changes_after, since, hit_of, records_at}
 use Rattle.mv_lawful.specs.Lawful.{Live, Course, beginning, change_live, begin, finish, unless, of_live, refusal, after, reach, first_open, open_call, or_refused, wrong_from, AllAllowed}
 use Rattle.mv_lawful.specs.Rounds.{is_round, MovesLate}
 use Rattle.mv_lawful.specs.Outcomes.{numbers, turn, in_turn}
@@ -45,7 +45,7 @@ length_numbers zero = refl
 length_numbers (suc n) = let l = length-append (numbers n) (n ∷ []) in let k = length_numbers n in omega (arith, l, k)
 
 -- the first n calls, after their commits
-abbrev done_calls : ℕ → List Live
+abbrev pub done_calls : ℕ → List Live
 done_calls zero = []
 done_calls (suc n) = done_calls n ++ finish (begin n) ∷ []
 
@@ -104,11 +104,35 @@ no_hit w n c =
 
 -- One turn
 
-abbrev course : List ℕ → List Live → Course
+pub tables_more : (w : Work) (db : Tables) (cs : List ℕ) (c : ℕ) → tables_after w db (cs ++ c ∷ []) ≡ (w.run c (tables_after w db cs)).tables
+tables_more w db [] c = refl
+tables_more w db (d ∷ cs) c = tables_more w (w.run d db).tables cs c
+
+get_front : (ls : List Live) (l : Live) (k : ℕ) → k < length ls → slice_get (ls ++ l ∷ []) k ≡ slice_get ls k
+get_front [] l k h = absurd (omega (arith, h))
+get_front (x ∷ ls) l zero h = refl
+get_front (x ∷ ls) l (suc k) h = get_front ls l k (omega (arith, h))
+
+-- each of the first calls began after as many commits as its number
+pub get_done : (n k : ℕ) → k < n → slice_get (done_calls n) k ≡ Some (finish (begin k))
+get_done zero k h = absurd (omega (arith, h))
+get_done (suc n) k h = by (nat_lt k n) refl (get_done n k)
+  where
+    less : nat_lt k n ≡ true → k < n
+    less e = grind (arith, e)
+
+    last : nat_lt k n ≡ false → n ≡ k
+    last e = grind (arith, e, h)
+
+    by : (b : Bool) → nat_lt k n ≡ b → (k < n → slice_get (done_calls n) k ≡ Some (finish (begin k))) → slice_get (done_calls n ++ finish (begin n) ∷ []) k ≡ Some (finish (begin k))
+    by true e go = get_front (done_calls n) (finish (begin n)) k (let l = length_calls n in let m = less e in omega (arith, l, m)) ∙ go (less e)
+    by false e go = subst (λ m. slice_get (done_calls n ++ finish (begin n) ∷ []) m ≡ Some (finish (begin m))) (last e) (at_end (done_calls n) (finish (begin n)) n (length_calls n))
+
+abbrev pub course : List ℕ → List Live → Course
 course order calls = record { order = order; calls = calls; low = 0 }
 
 -- after the first n turns
-abbrev turned : ℕ → Course
+abbrev pub turned : ℕ → Course
 turned n = course (numbers n) (done_calls n)
 
 -- and after the next begin, at some start
@@ -148,7 +172,7 @@ turn_done w n = subst (λ k. after w (one_live n k) (C n) ≡ turned (suc n)) (s
 turns_more : (n : ℕ) → in_turn (suc n) ≡ in_turn n ++ turn n
 turns_more n = flat_map-append turn (numbers n) (n ∷ []) ∙ ap (λ l. in_turn n ++ l) (append-nil (turn n))
 
-turns_reach : (w : Work) (n : ℕ) → reach w beginning (in_turn n) ≡ turned n
+pub turns_reach : (w : Work) (n : ℕ) → reach w beginning (in_turn n) ≡ turned n
 turns_reach w zero = refl
 turns_reach w (suc n) = ap (reach w beginning) (turns_more n) ∙ (reach_join w beginning (in_turn n) (turn n) ∙ (ap (λ s. reach w s (turn n)) (turns_reach w n) ∙ turn_done w n))
 
