@@ -26,8 +26,8 @@ within g db task given rise on all live = by on.rest refl
         omega (arith, ap length are, length-append task.records (r ∷ rest))
 
 -- where the next of these records was adopted, it was the next one of the full run
-pub goes_on : (g : Graph) (db : Tables) (old new : Task) (given : List Record) (record one : Record) → AreRising db → IsRunningOn g db old → HasAll g db old given → length old.records < length given
-    → one ≡ slice_index_or given (length old.records) one → HasContent record one → IsSameCall g old new → GoesOnWith g old record new → IsRunningOn g db new
+pub goes_on : (g : Graph) (db : Tables) (old new : Task) (given : List Record) (given_one one : Record) → AreRising db → IsRunningOn g db old → HasAll g db old given → length old.records < length given
+    → one ≡ slice_index_or given (length old.records) one → HasContent given_one one → IsSameCall g old new → GoesOnWith g old given_one new → IsRunningOn g db new
 goes_on g db old new given it one rise on all lt is content same goes = by on.rest refl
   where
     by : (rest : List Record) → on.rest ≡ rest → IsRunningOn g db new
