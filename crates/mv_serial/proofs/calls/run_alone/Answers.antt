@@ -1,5 +1,7 @@
 use Rattle.std.proofs.Common.{◌≡◌, ◌<◌, rules, length, ap, sym, subst, ◌∙◌}
+use Rattle.std.specs.Prelude.{replicate}
 use Rattle.mv_values.specs.Tables.{KeysStand}
+use Rattle.mv_alone.specs.TableAfter.{no_reply}
 use Rattle.mv_serial.proofs.InTurn.{length_replies, all_replied, others_silent, place_within}
 use Rattle.mv_serial.proofs.Lawful.{stopped_unchanged}
 use Rattle.mv_serial.proofs.calls.run_alone.Goals as goal
@@ -8,7 +10,7 @@ pub loop-i-init : goal.loop-i-init
 loop-i-init c = record {
   keys = subst (KeysStand c.args.program.now.resolved.tables) (sym c.in_ok-tables.ensures) c.requires.whole.opening.keys;
   tables = c.in_ok-tables.ensures;
-  replies = c.in_ok-replies.ensures;
+  replies = c.in_ok-replies.ensures ∙ ap (λ n. replicate n no_reply) c.len.ensures;
 }
 
 pub set-requires : goal.set-requires
