@@ -23,10 +23,10 @@ use mv_view::view::{Refused, View};
 use std::alloc::Global;
 
 /// A copy of a record that tells neither its place nor its controller nor what it reads.
-pub(crate) fn placeless(alloc: Global, record: &Record) -> Result<Record, NoMemory>
-    ensures { IfOk result (λ given. HasContent given record.now) }
+pub(crate) fn placeless(alloc: Global, other: &Record) -> Result<Record, NoMemory>
+    ensures { IfOk result (λ given. HasContent given other.now) }
 {
-    let mut given = record.copy(alloc)?;
+    let mut given = other.copy(alloc)?;
     given.spot = Spot {
         statement: 0,
         turns: List::new(alloc),
@@ -56,8 +56,8 @@ fn adopt_next(
     ensures goes_on { OnOk result ((db : Tables) → AreRising db → IsRunningOn graph.now db task.old → HasAll graph.now db task.old given.now → IsRunningOn graph.now db task.new) }
     ensures longer { OnOk result (length task.new.records ≡ length task.old.records + 1) }
 {
-    let record = placeless(alloc, &given[task.records().len()])?;
-    adopt(alloc, graph, task, record)?;
+    let copy = placeless(alloc, &given[task.records().len()])?;
+    adopt(alloc, graph, task, copy)?;
     Ok(())
 }
 
