@@ -1,0 +1,59 @@
+//! Where rows are in a script.
+
+ghost use Rattle.std.specs.Prelude.{◌≤◌, length};
+
+use crate::place::first_line;
+use mv_lex::token::{Kind, Token};
+
+/// The bytes of a token, none where it isn't in the script.
+pub fn bytes_of<'a>(script: &'a [u8], token: &Token) -> &'a [u8] {
+    let from = (token.at as usize).min(script.len());
+    let after = &script[from..];
+    &after[..(token.len as usize).min(after.len())]
+}
+
+fn is_word(script: &[u8], token: &Token, word: &[u8]) -> bool {
+    token.kind == Kind::Word && bytes_of(script, token).eq_ignore_ascii_case(word)
+}
+
+/// The block of a copy of this table that begins with these tokens, if one does.
+pub fn block_of<'a>(script: &[u8], tokens: &'a [Token], table: &[u8]) -> Option<&'a Token> {
+    match tokens {
+        [copy, name, block, ..] if is_word(script, copy, b"copy") && is_word(script, name, table) =>
+            match block.kind {
+                Kind::Block | Kind::OpenBlock => Some(block),
+                _ => None,
+            },
+        _ => None,
+    }
+}
+
+/// The place where the rows of a block begin: after the line of its `<<`.
+pub fn rows_at(script: &[u8], block: &Token) -> usize
+    ensures { result ≤ length script.now }
+{
+    let line = first_line(bytes_of(script, block));
+    ((block.at as usize).min(script.len()) + line.len() + 1).min(script.len())
+}
+
+/// The bracket before a row of the VALUES of this table, whose CREATE TABLE begins with these tokens, if one does. Rows
+/// count from 1.
+pub fn values_row<'a>(
+    script: &[u8],
+    tokens: &'a [Token],
+    table: &[u8],
+    row: u32,
+) -> Option<&'a Token> {
+    match tokens {
+        [create, word, name, rest @ ..]
+            if is_word(script, create, b"create")
+                && is_word(script, word, b"table")
+                && is_word(script, name, table) => rest
+            .iter()
+            .take_while(|token| bytes_of(script, token) != b";".as_slice())
+            .skip_while(|token| !is_word(script, token, b"values"))
+            .filter(|token| bytes_of(script, token) == b"(".as_slice())
+            .nth((row as usize).saturating_sub(1)),
+        _ => None,
+    }
+}

@@ -1,0 +1,51 @@
+//! The records of a block.
+
+ghost use Rattle.std.specs.Prelude.{◌<◌, length, IfSome};
+
+/// Where in a field a byte of a block is.
+#[derive(Clone, Copy, PartialEq, Eq)]
+enum Inside {
+    /// Before the first byte of a record.
+    Nothing,
+    /// Before the first byte of a field.
+    Field,
+    Plain,
+    Quoted,
+    /// After a quote in a quoted field, which ends the quotes unless another follows.
+    Quote,
+}
+
+/// Where a byte leads.
+fn step(inside: Inside, byte: u8) -> Inside {
+    match (inside, byte) {
+        (Inside::Quoted, b'"') => Inside::Quote,
+        (Inside::Quoted, _) => Inside::Quoted,
+        (Inside::Quote, b'"') => Inside::Quoted,
+        (Inside::Nothing | Inside::Field, b'"') => Inside::Quoted,
+        (_, b'\n' | b'\r') => Inside::Nothing,
+        (_, b',') => Inside::Field,
+        _ => Inside::Plain,
+    }
+}
+
+/// The place in a block of the record with a number, counted from 1, where it has so many. Empty lines are no records.
+pub fn record_at(block: &[u8], row: u32) -> Option<usize>
+    ensures { IfSome result (λ at. at < length block.now) }
+{
+    let mut inside = Inside::Nothing;
+    let mut records = 0u32;
+    for (at, byte) in block.iter().enumerate() {
+        let next = step(inside, *byte);
+        if inside == Inside::Nothing && next != Inside::Nothing {
+            if records >= row {
+                return None;
+            }
+            records += 1;
+            if records == row {
+                return Some(at);
+            }
+        }
+        inside = next;
+    }
+    None
+}
