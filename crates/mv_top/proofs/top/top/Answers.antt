@@ -55,3 +55,6 @@ returns-in_default-clause-written g c =
 pub returns-in-Ok-answered-clause-written : goal.returns-in-Ok-answered-clause-written
 returns-in-Ok-answered-clause-written g c =
     quiet_by (g.K.Sink.written c.args.sink.now) (g.K.Sink.written c.put-in-Ok-answered.new.sink) (g.K.Sink.faults c.args.sink.now) (g.K.Sink.faults c.put-in-Ok-answered.new.sink) c.in-Ok-answered.status c.as_slice-in-Ok-answered.result.now c.put-in-Ok-answered.result c.put-in-Ok-answered.ensures
+
+pub returns-in_default-clause-rest : goal.returns-in_default-clause-rest
+returns-in_default-clause-rest g c = λ command words not_read not_starved. absurd (c.in_default.ensures.none command words)
