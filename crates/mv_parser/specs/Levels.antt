@@ -1,4 +1,4 @@
--- Expressions by the operators that stand between their operands.
+-- Expressions by the levels of their operators.
 use Rattle.std.specs.Prelude.{ℕ, List, [], ◌∷◌}
 use Rattle.mv_values.specs.declared.op.Op.{Op}
 use Rattle.mv_ast.specs.declared.lexeme.Terminal.{Terminal}
@@ -12,7 +12,7 @@ use Rattle.mv_ast.specs.Grammar.{◌▸◌, ◌⊛◌, conj, neg, term, fac, sum
 use Rattle.mv_parser.specs.declared.level.Level.{Level}
 use Rattle.mv_parser.specs.declared.level.Level.TheVariants as level
 
--- the tokens that are an operator of a level
+-- the tokens that are operators of a level
 abbrev pub marks : Level → List Terminal
 marks level.Or = word.Or ∷ []
 marks level.And = word.And ∷ []
@@ -31,14 +31,14 @@ operand bytes level.And = neg bytes
 operand bytes level.Sum = term bytes
 operand bytes level.Term = fac bytes
 
--- an operator and the operand behind it
+-- an operator and the operand after it
 abbrev pub next : List ℕ → Level → Part (TwoOp × Expr)
 next bytes l = give with_op ⊛ operator bytes l ⊛ operand bytes l
 
--- operands between operators, joined from the left
+-- operands and operators, left-associative
 abbrev pub chain : List ℕ → Level → Part Expr
 chain bytes l = left paired_by (operand bytes l) (next bytes l)
 
--- a comparison as an operator between two sums
+-- a comparison as a binary operator
 abbrev pub with_compare : Op × Expr → TwoOp × Expr
 with_compare x = (Compare x.0, x.1)

@@ -10,7 +10,7 @@ use Rattle.mv_ast.specs.declared.tree.Stmt.{Stmt}
 use Rattle.mv_ast.specs.Parts.{Part, give, one, both, either, left, expression, statement}
 use Rattle.mv_ast.specs.Grammar.{expr, stmt}
 
--- what was read and the tokens behind it, or how many tokens are left from the first one on that can't stand there
+-- the value read and the tokens after it, or how many tokens there are from the first wrong one to the end
 abbrev pub Read : Type 0 → Type 0
 Read A = Result (A × List Lexeme) ℕ
 
@@ -19,7 +19,7 @@ abbrev pub ◌>>=◌ : {A B : Type 0} → Result A ℕ → (A → Result B ℕ) 
 (Ok x) >>= f = f x
 (Err e) >>= f = Err e
 
--- whether the first token is of one of these kinds
+-- whether the kind is one of these
 abbrev pub is_among : List Terminal → Terminal → Bool
 is_among [] t = false
 is_among (k ∷ ks) t = if sameb the_type t k then true else is_among ks t
@@ -28,14 +28,14 @@ abbrev pub starts_with : List Terminal → List Lexeme → Bool
 starts_with ks [] = false
 starts_with ks (l ∷ ts) = is_among ks l.kind
 
--- the kinds with which an expression and a statement begin
+-- the kinds with which an expression or a statement begins
 abbrev pub expression_words : List Terminal
 expression_words = word.Not ∷ word.Minus ∷ word.Number ∷ word.Quoted ∷ word.Variable ∷ word.Name ∷ word.Open ∷ word.Left ∷ word.TextOf ∷ word.Contains ∷ []
 
 abbrev pub statement_words : List Terminal
 statement_words = word.Set ∷ word.Select ∷ word.For ∷ word.If ∷ word.Insert ∷ word.Update ∷ word.Delete ∷ word.Print ∷ word.Rollback ∷ []
 
--- whether a part may be no token at all
+-- whether a part may be empty
 abbrev pub is_nullable : {A : Type 0} → Part A → Bool
 is_nullable (give a) = true
 is_nullable (one t) = false
@@ -59,12 +59,12 @@ abbrev pub read_one : Terminal → List Lexeme → Read Lexeme
 read_one t [] = Err 0
 read_one t (l ∷ ts) = if sameb the_type l.kind t then Ok (l, ts) else Err (length (l ∷ ts))
 
--- at most so many more
+-- reads further pieces, at most so many, as long as the next token begins one
 unfoldable pub more : {A B : Type 0} → ℕ → (A → B → A) → List Terminal → (List Lexeme → Read B) → A → List Lexeme → Read A
 more zero f ks piece a ts = Ok (a, ts)
 more (suc m) f ks piece a ts = if starts_with ks ts then (piece ts >>= (λ x. more m f ks piece (f a x.0) x.1)) else Ok (a, ts)
 
--- how what stands inside is read
+-- how nested expressions and statements are read
 pub record Inside : Type 0 where
   pub expr : List Lexeme → Read Expr
   pub stmt : List Lexeme → Read Stmt
@@ -78,7 +78,7 @@ read inside (left f p q) ts = read inside p ts >>= (λ x. more (length x.1) f (f
 read inside expression ts = inside.expr ts
 read inside statement ts = inside.stmt ts
 
--- to a depth
+-- reading of nested expressions and statements, down to a depth
 unfoldable pub inside : List ℕ → ℕ → Inside
 inside bytes zero = record { expr = λ ts. Err (length ts); stmt = λ ts. Err (length ts) }
 inside bytes (suc d) = record { expr = read (inside bytes d) (expr bytes); stmt = read (inside bytes d) (stmt bytes) }

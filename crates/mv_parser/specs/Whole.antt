@@ -10,22 +10,24 @@ use Rattle.mv_parser.specs.declared.fault.ParseFault.TheVariants.{Syntax, Limit,
 use Rattle.mv_parser.specs.declared.fault.Stop.{Stop}
 use Rattle.mv_parser.specs.declared.fault.Stop.TheVariants.{Memory, Wrong}
 
--- what was read, where no token is left
+-- the value read, if no token is left
 abbrev pub whole : {A : Type 0} → A → List Lexeme → Result A ℕ
 whole v [] = Ok v
 whole v (l ∷ ts) = Err (length (l ∷ ts))
 
--- the tokens read as a script, all of them
+-- all tokens read as a script
 abbrev pub parsed : List ℕ → ℕ → List Lexeme → Result Script ℕ
 parsed bytes depth ts = read (inside bytes depth) (script bytes) ts >>= (λ x. whole x.0 x.1)
 
--- the answer is what reading gives, unless memory ran out
+-- the result is that of reading, unless memory ran out
 abbrev pub Answers : {A : Type 0} → Result A Stop → Result A ℕ → Type 0
 Answers (Ok x) reading = reading ≡ Ok x
 Answers (Err Memory) reading = Unit {0}
 Answers (Err (Wrong left)) reading = reading ≡ Err left
 
--- What is told of a script's tokens and of reading them, unless memory ran out: a limit that needs no tree, then a fault of the grammar, then another limit. A fault's token is the first one of those left, counted from 1.
+-- The result for a script's tokens and for reading them, unless memory ran out. The checks are, in this order: the
+-- limits that need no tree, the grammar, and the other limits. The token of a syntax error is the first one of those
+-- left, counted from 1.
 abbrev pub Tells : List ℕ → List Lexeme → Result Script ℕ → Result Script ParseFault → Type 0
 Tells bytes ts reading (Ok s) = (first_early ts ≡ None) × (reading ≡ Ok s) × (first_late bytes ts s ≡ None)
 Tells bytes ts reading (Err NoMemory) = Unit {0}

@@ -1,4 +1,4 @@
-//! Statements that hold others.
+//! Parses the statements that contain statements: FOR and IF.
 
 ghost use Rattle.std.specs.Prelude.{◌≡◌, ℕ, List, drop};
 ghost use Rattle.mv_ast.specs.declared.lexeme.Terminal.TheVariants as word;
@@ -21,7 +21,7 @@ use mv_ast::tree::{Cond, Expr, Name, Sort, Stmt};
 use mv_values::list::List;
 
 impl Reader<'_> {
-    /// A statement one level further in.
+    /// Parses a statement one level deeper.
     #[cycle(stmt)]
     #[tactic(auto, using(crate::proofs::Inside::inside_stmt, crate::proofs::Inside::inside_no_stmt))]
     fn statement(&self, at: usize) -> Result<(Stmt, usize), Stop>
@@ -33,7 +33,7 @@ impl Reader<'_> {
         self.deeper().stmt(at)
     }
 
-    /// Statements, none or more.
+    /// Parses zero or more statements.
     #[cycle(stmt)]
     #[tactic(auto, using(crate::proofs::Turns::more_turn, crate::proofs::Turns::more_stop))]
     pub(crate) fn statements(&self, at: usize) -> Result<(List<Stmt>, usize), Stop>
@@ -52,7 +52,7 @@ impl Reader<'_> {
         Ok((all, here))
     }
 
-    /// A statement.
+    /// Parses a statement.
     #[cycle(stmt)]
     #[tactic(auto, using(crate::proofs::Firsts::first_assign, crate::proofs::Firsts::first_select, crate::proofs::Firsts::first_for_each, crate::proofs::Firsts::first_branch, crate::proofs::Firsts::first_insert, crate::proofs::Firsts::first_update, crate::proofs::Firsts::first_delete, crate::proofs::Firsts::first_print), unfolding(mv_ast::specs::Grammar::stmt))]
     fn stmt(&self, at: usize) -> Result<(Stmt, usize), Stop>
@@ -85,7 +85,7 @@ impl Reader<'_> {
         self.rollback(at)
     }
 
-    /// FOR.
+    /// Parses FOR.
     #[cycle(stmt)]
     #[tactic(auto, using(crate::proofs::Firsts::first_for_distinct), unfolding(mv_ast::specs::Grammar::for_each))]
     fn for_each(&self, at: usize) -> Result<(Stmt, usize), Stop>
@@ -105,7 +105,7 @@ impl Reader<'_> {
         }
     }
 
-    /// FOR over rows of a table, behind SELECT.
+    /// Parses FOR over the rows of a table, after SELECT.
     #[cycle(stmt)]
     #[tactic(auto, unfolding(mv_ast::specs::Grammar::for_plain))]
     fn for_plain(&self, at: usize, token: u32, row: Name) -> Result<(Stmt, usize), Stop>
@@ -116,7 +116,7 @@ impl Reader<'_> {
         self.plain_loop(token, row, columns, rest)
     }
 
-    /// FOR over rows of a table, from FROM on.
+    /// Parses FOR over the rows of a table, starting at FROM.
     #[cycle(stmt)]
     fn plain_rest(
         &self,
@@ -132,7 +132,7 @@ impl Reader<'_> {
         Ok(((table, conds, sorts, body), at))
     }
 
-    /// FOR over rows of a table, of what was read.
+    /// Builds FOR over the rows of a table from its parsed parts.
     fn plain_loop(
         &self,
         token: u32,
@@ -157,7 +157,7 @@ impl Reader<'_> {
         Ok((each, at))
     }
 
-    /// FOR over distinct rows, from DISTINCT on.
+    /// Parses FOR over distinct rows, starting at DISTINCT.
     #[cycle(stmt)]
     #[tactic(auto, unfolding(mv_ast::specs::Grammar::for_distinct))]
     fn for_distinct(&self, at: usize, token: u32, row: Name) -> Result<(Stmt, usize), Stop>
@@ -169,7 +169,7 @@ impl Reader<'_> {
         self.distinct_loop(token, row, columns, rest)
     }
 
-    /// FOR over distinct rows, from FROM on.
+    /// Parses FOR over distinct rows, starting at FROM.
     #[cycle(stmt)]
     fn distinct_rest(&self, at: usize) -> Result<((Name, List<Cond>, List<Stmt>), usize), Stop>
         ensures { (f : Name → List Cond → List Stmt → ℕ → Name → Stmt) → GivesBy self.now.lexemes.now (λ x. f x.0 x.1 x.2) result (read (inside_of self.now) (distinct_rest self.now.bytes.now f) (drop at self.now.lexemes.now)) }
@@ -181,7 +181,7 @@ impl Reader<'_> {
         Ok(((table, conds, body), at))
     }
 
-    /// FOR over distinct rows, of what was read.
+    /// Builds FOR over distinct rows from its parsed parts.
     fn distinct_loop(
         &self,
         token: u32,
@@ -207,7 +207,7 @@ impl Reader<'_> {
         Ok((each, at))
     }
 
-    /// FOR over the rows of a parameter, behind IN.
+    /// Parses FOR over the rows of a parameter, after IN.
     #[cycle(stmt)]
     #[tactic(auto, unfolding(mv_ast::specs::Grammar::for_rows))]
     fn for_rows(&self, at: usize, token: u32, row: Name) -> Result<(Stmt, usize), Stop>
@@ -226,7 +226,7 @@ impl Reader<'_> {
         ))
     }
 
-    /// The statements of a FOR.
+    /// Parses the body of FOR, from DO to the closing semicolon.
     #[cycle(stmt)]
     #[tactic(auto, unfolding(mv_ast::specs::Grammar::loop_body))]
     fn loop_body(&self, at: usize) -> Result<(List<Stmt>, usize), Stop>
@@ -237,7 +237,7 @@ impl Reader<'_> {
         self.ended(body, at, Terminal::For)
     }
 
-    /// IF.
+    /// Parses IF.
     #[cycle(stmt)]
     #[tactic(auto, unfolding(mv_ast::specs::Grammar::branch))]
     fn branch(&self, at: usize) -> Result<(Stmt, usize), Stop>
@@ -249,7 +249,7 @@ impl Reader<'_> {
         self.branched(token, test, rest)
     }
 
-    /// What stands behind the test of IF.
+    /// Parses the rest of IF, after its test.
     #[cycle(stmt)]
     fn branches(&self, at: usize) -> Result<((List<Stmt>, List<Stmt>), usize), Stop>
         ensures { (f : List Stmt → List Stmt → Stmt) → GivesBy self.now.lexemes.now (λ x. f x.0 x.1) result (read (inside_of self.now) (branches self.now.bytes.now f) (drop at self.now.lexemes.now)) }
@@ -263,7 +263,7 @@ impl Reader<'_> {
         Ok(((yes, no), at))
     }
 
-    /// IF of what was read.
+    /// Builds IF from its parsed parts.
     fn branched(
         &self,
         token: u32,
@@ -282,7 +282,7 @@ impl Reader<'_> {
         Ok((branch, at))
     }
 
-    /// The statements behind ELSE, if it is there.
+    /// Parses ELSE and its statements, or nothing if there is no ELSE.
     #[cycle(stmt)]
     #[tactic(auto, unfolding(mv_ast::specs::Grammar::otherwise))]
     fn otherwise(&self, at: usize) -> Result<(List<Stmt>, usize), Stop>

@@ -1,4 +1,4 @@
-//! The clauses of statements.
+//! Parses the clauses of statements.
 
 ghost use Rattle.std.specs.Prelude.{◌≡◌, drop};
 ghost use Rattle.mv_ast.specs.Parts.{one, expression};
@@ -48,7 +48,7 @@ impl Parse for SetItem {
 }
 
 impl Reader<'_> {
-    /// A test of WHERE.
+    /// Parses one test of WHERE.
     #[tactic(auto, unfolding(mv_ast::specs::Grammar::cond, mv_ast::specs::Grammar::sum))]
     fn cond(&self, at: usize) -> Result<(Cond, usize), Stop>
         ensures { Reads self.now at cond result }
@@ -59,7 +59,7 @@ impl Reader<'_> {
         Ok((Cond { column, op, right }, at))
     }
 
-    /// The tests of WHERE, if there are any.
+    /// Parses an optional WHERE with its tests.
     #[tactic(auto, unfolding(mv_ast::specs::Grammar::conds))]
     pub(crate) fn conds(&self, at: usize) -> Result<(List<Cond>, usize), Stop>
         ensures { Reads self.now at conds result }
@@ -71,7 +71,7 @@ impl Reader<'_> {
         self.separated(at, Terminal::And)
     }
 
-    /// Whether rows are wanted in descending order.
+    /// Parses an optional ASC or DESC. Returns whether the order is descending.
     #[tactic(auto, unfolding(mv_ast::specs::Grammar::direction))]
     fn direction(&self, at: usize) -> Result<(bool, usize), Stop>
         ensures { Reads self.now at direction result }
@@ -87,7 +87,7 @@ impl Reader<'_> {
         Ok((false, at))
     }
 
-    /// A column of ORDER BY.
+    /// Parses one column of ORDER BY.
     #[tactic(auto, unfolding(mv_ast::specs::Grammar::sort))]
     fn sort(&self, at: usize) -> Result<(Sort, usize), Stop>
         ensures { Reads self.now at sort result }
@@ -97,7 +97,7 @@ impl Reader<'_> {
         Ok((Sort { column, descending }, at))
     }
 
-    /// The columns of ORDER BY, if there are any.
+    /// Parses an optional ORDER BY with its columns.
     #[tactic(auto, unfolding(mv_ast::specs::Grammar::sorts))]
     pub(crate) fn sorts(&self, at: usize) -> Result<(List<Sort>, usize), Stop>
         ensures { Reads self.now at sorts result }
@@ -110,7 +110,7 @@ impl Reader<'_> {
         self.separated(at, Terminal::Comma)
     }
 
-    /// The expression of OFFSET, if there is one.
+    /// Parses an optional OFFSET with its expression.
     pub(crate) fn offset(&self, at: usize) -> Result<(Option<Expr>, usize), Stop>
         ensures { Reads self.now at (λ _. optional (one word.Offset ▸ expression)) result }
     {
@@ -122,7 +122,7 @@ impl Reader<'_> {
         Ok((Some(offset), at))
     }
 
-    /// An item of an UPDATE's SET.
+    /// Parses one assignment of UPDATE.
     #[tactic(auto, unfolding(mv_ast::specs::Grammar::set_item))]
     fn set_item(&self, at: usize) -> Result<(SetItem, usize), Stop>
         ensures { Reads self.now at set_item result }
@@ -133,7 +133,7 @@ impl Reader<'_> {
         Ok((SetItem { column, right }, at))
     }
 
-    /// What COUNT counts.
+    /// Parses what COUNT counts, in parentheses.
     #[tactic(auto, unfolding(mv_ast::specs::Grammar::counted))]
     fn counted(&self, at: usize) -> Result<(Agg, usize), Stop>
         ensures { Reads self.now at counted result }
@@ -147,7 +147,7 @@ impl Reader<'_> {
         Ok((Agg::CountDistinct(column), at))
     }
 
-    /// A name in parentheses.
+    /// Parses a name in parentheses.
     fn name_in_parens(&self, at: usize) -> Result<(Name, usize), Stop>
         ensures { Reads self.now at (λ bytes. in_parens (name bytes)) result }
     {
@@ -156,7 +156,7 @@ impl Reader<'_> {
         self.followed(name, at, Terminal::Close)
     }
 
-    /// A sum over rows.
+    /// Parses an aggregate: COUNT, SUM, MIN or MAX.
     #[tactic(auto, unfolding(mv_ast::specs::Grammar::aggregate))]
     pub(crate) fn aggregate(&self, at: usize) -> Result<(Agg, usize), Stop>
         ensures { Reads self.now at aggregate result }

@@ -1,4 +1,4 @@
-//! Expressions.
+//! Parses expressions.
 
 ghost use Rattle.std.specs.Prelude.{◌≡◌, drop};
 ghost use Rattle.mv_ast.specs.Parts.{give, expression};
@@ -15,7 +15,7 @@ use mv_ast::tree::{Expr, ExprKind, OneOp, TwoOp};
 use mv_values::boxed::Boxed;
 
 impl Reader<'_> {
-    /// An expression one level further in.
+    /// Parses an expression one level deeper.
     #[cycle(expr)]
     #[tactic(auto, using(crate::proofs::Inside::inside_expr, crate::proofs::Inside::inside_none, crate::proofs::Chains::chain_or))]
     pub(crate) fn expression(&self, at: usize) -> Result<(Expr, usize), Stop>
@@ -27,7 +27,7 @@ impl Reader<'_> {
         self.deeper().chain(at, Level::Or)
     }
 
-    /// Operands of a level between its operators.
+    /// Parses the operands and operators of a level, left-associatively.
     #[cycle(expr)]
     pub(crate) fn chain(&self, at: usize, level: Level) -> Result<(Expr, usize), Stop>
         ensures { Reads self.now at (λ bytes. chain bytes level) result }
@@ -46,7 +46,7 @@ impl Reader<'_> {
         Ok((whole, here))
     }
 
-    /// An operator of a level and the operand behind it.
+    /// Parses an operator of a level and the operand after it.
     #[cycle(expr)]
     fn next(&self, at: usize, level: Level) -> Result<((TwoOp, Expr), usize), Stop>
         ensures { Reads self.now at (λ bytes. next bytes level) result }
@@ -56,7 +56,7 @@ impl Reader<'_> {
         Ok(((op, right), at))
     }
 
-    /// What stands between the operators of a level.
+    /// Parses an operand of a level.
     #[cycle(expr)]
     #[tactic(auto, using(crate::proofs::Chains::chain_and, crate::proofs::Chains::chain_term))]
     fn operand(&self, at: usize, level: Level) -> Result<(Expr, usize), Stop>
@@ -70,7 +70,7 @@ impl Reader<'_> {
         }
     }
 
-    /// A comparison behind any number of NOT.
+    /// Parses a comparison after zero or more NOT.
     #[cycle(expr)]
     #[tactic(auto, unfolding(mv_ast::specs::Grammar::neg))]
     fn neg(&self, at: usize) -> Result<(Expr, usize), Stop>
@@ -81,7 +81,7 @@ impl Reader<'_> {
         Ok((self.all_prefixed(OneOp::Not, words, inner)?, at))
     }
 
-    /// A sum, or two sums that are compared.
+    /// Parses a sum, or a comparison of two sums.
     #[cycle(expr)]
     #[tactic(auto, unfolding(mv_ast::specs::Grammar::comp, mv_ast::specs::Grammar::sum, mv_ast::specs::Grammar::op))]
     fn comp(&self, at: usize) -> Result<(Expr, usize), Stop>
@@ -95,7 +95,7 @@ impl Reader<'_> {
         self.joined(left, next)
     }
 
-    /// A comparison and the sum behind it.
+    /// Parses a comparison operator and the sum after it.
     #[cycle(expr)]
     #[tactic(auto, unfolding(mv_ast::specs::Grammar::sum))]
     fn compared(&self, at: usize) -> Result<((TwoOp, Expr), usize), Stop>
@@ -106,7 +106,7 @@ impl Reader<'_> {
         Ok(((TwoOp::Compare(op), right), at))
     }
 
-    /// A value behind any number of `-`.
+    /// Parses a value after zero or more `-`.
     #[cycle(expr)]
     #[tactic(auto, unfolding(mv_ast::specs::Grammar::fac))]
     fn fac(&self, at: usize) -> Result<(Expr, usize), Stop>
@@ -117,7 +117,7 @@ impl Reader<'_> {
         Ok((self.all_prefixed(OneOp::Neg, signs, inner)?, at))
     }
 
-    /// A single value, a call, or an expression in parentheses.
+    /// Parses a single value, a call, or an expression in parentheses.
     #[cycle(expr)]
     #[tactic(auto, using(crate::proofs::Firsts::first_variable_expr, crate::proofs::Firsts::first_name, crate::proofs::Firsts::first_in_parentheses, crate::proofs::Firsts::first_left_call, crate::proofs::Firsts::first_text_of_call), unfolding(mv_ast::specs::Grammar::prim, mv_ast::specs::Grammar::left_call, mv_ast::specs::Grammar::contains_call))]
     fn prim(&self, at: usize) -> Result<(Expr, usize), Stop>
@@ -147,7 +147,7 @@ impl Reader<'_> {
         self.two_arguments(at, TwoOp::Contains, Terminal::Contains)
     }
 
-    /// An expression in parentheses; its first token is the parenthesis.
+    /// Parses an expression in parentheses. Its token is the opening parenthesis.
     #[cycle(expr)]
     #[tactic(auto, unfolding(mv_ast::specs::Grammar::in_parentheses))]
     fn in_parentheses(&self, at: usize) -> Result<(Expr, usize), Stop>
@@ -159,7 +159,7 @@ impl Reader<'_> {
         self.followed(Expr { token, kind }, at, Terminal::Close)
     }
 
-    /// A call with two arguments.
+    /// Parses a call with two arguments.
     #[cycle(expr)]
     fn two_arguments(&self, at: usize, op: TwoOp, word: Terminal) -> Result<(Expr, usize), Stop>
         ensures { Reads self.now at (λ bytes. two_arguments bytes op word) result }
@@ -175,7 +175,7 @@ impl Reader<'_> {
         self.followed(Expr { token, kind }, at, Terminal::Close)
     }
 
-    /// A call of TEXTOF.
+    /// Parses a call of TEXTOF.
     #[cycle(expr)]
     #[tactic(auto, unfolding(mv_ast::specs::Grammar::text_of_call))]
     fn text_of_call(&self, at: usize) -> Result<(Expr, usize), Stop>

@@ -1,14 +1,14 @@
-//! Why tokens are no script.
+//! The errors of parsing.
 
 pub use mv_ast::limit::Which;
 use mv_values::memory::NoMemory;
 
-/// Why tokens are no script within the limits. Tokens count from 1.
+/// Why parsing failed. Tokens are counted from 1.
 #[derive(Clone, Copy, PartialEq, Eq)]
 pub enum ParseFault {
-    /// The first token with which no script goes on, or one past the last.
+    /// No script continues with this token. It is the first such token, or one past the last.
     Syntax { token: u32 },
-    /// The first token at which a limit is passed.
+    /// This limit is exceeded, and this is the first token at which it is.
     Limit { which: Which, token: u32 },
     NoMemory,
 }
@@ -24,8 +24,8 @@ impl From<NoMemory> for ParseFault {
     }
 }
 
-/// Why a part of the grammar was not read: for want of memory, or since the first of so many last
-/// tokens can't stand where it stands.
+/// Why a part of the grammar wasn't parsed: memory ran out, or a token is wrong. The number counts
+/// the tokens from the wrong one to the end.
 #[derive(Clone, Copy)]
 pub(crate) enum Stop {
     Memory,

@@ -1,4 +1,4 @@
-//! Tables, procedures, copies, calls and the journal.
+//! Parses the items of a script: tables, procedures, copies, calls and the journal.
 
 ghost use Rattle.std.specs.Prelude.{◌≡◌, drop};
 ghost use Rattle.mv_ast.specs.declared.lexeme.Terminal.TheVariants as word;
@@ -33,7 +33,7 @@ impl Parse for Arg {
 }
 
 impl Reader<'_> {
-    /// A column and the comma behind it.
+    /// Parses a column and the comma after it.
     fn column(&self, at: usize) -> Result<(ColDef, usize), Stop>
         ensures { Reads self.now at (λ bytes. col_def bytes ◂ one word.Comma) result }
     {
@@ -41,7 +41,7 @@ impl Reader<'_> {
         self.followed(column, at, Terminal::Comma)
     }
 
-    /// The columns of a table, each with a comma behind it.
+    /// Parses the columns of a table, each followed by a comma.
     #[tactic(auto, using(crate::proofs::Turns::more_turn, crate::proofs::Turns::more_stop, crate::proofs::Firsts::first_column), unfolding(mv_ast::specs::Grammar::columns))]
     fn columns(&self, at: usize) -> Result<(List<ColDef>, usize), Stop>
         ensures { Reads self.now at columns result }
@@ -61,7 +61,7 @@ impl Reader<'_> {
         Ok((all, here))
     }
 
-    /// A table, behind CREATE.
+    /// Parses a table, after CREATE.
     #[tactic(auto, unfolding(mv_ast::specs::Grammar::table))]
     fn table(&self, at: usize) -> Result<(ItemKind, usize), Stop>
         ensures { Reads self.now at table result }
@@ -84,7 +84,7 @@ impl Reader<'_> {
         self.followed(ItemKind::Table(table), at, Terminal::Semicolon)
     }
 
-    /// What a parameter takes.
+    /// Parses the kind of a parameter.
     #[tactic(auto, unfolding(mv_ast::specs::Grammar::param_kind))]
     fn param_kind(&self, at: usize) -> Result<(ParamKind, usize), Stop>
         ensures { Reads self.now at param_kind result }
@@ -98,7 +98,7 @@ impl Reader<'_> {
         Ok((ParamKind::Many(columns), at))
     }
 
-    /// A parameter.
+    /// Parses a parameter.
     #[tactic(auto, unfolding(mv_ast::specs::Grammar::param))]
     fn param(&self, at: usize) -> Result<(Param, usize), Stop>
         ensures { Reads self.now at param result }
@@ -108,7 +108,7 @@ impl Reader<'_> {
         Ok((Param { name, kind }, at))
     }
 
-    /// Parameters, if there are any.
+    /// Parses zero or more parameters, separated by commas.
     #[tactic(auto, unfolding(mv_ast::specs::Grammar::param, mv_ast::specs::Grammar::variable))]
     fn params(&self, at: usize) -> Result<(List<Param>, usize), Stop>
         ensures { Reads self.now at (λ bytes. or_none (commas (param bytes))) result }
@@ -119,7 +119,7 @@ impl Reader<'_> {
         self.separated(at, Terminal::Comma)
     }
 
-    /// Parameters in parentheses.
+    /// Parses zero or more parameters in parentheses.
     fn params_in_parens(&self, at: usize) -> Result<(List<Param>, usize), Stop>
         ensures { Reads self.now at (λ bytes. in_parens (or_none (commas (param bytes)))) result }
     {
@@ -128,7 +128,7 @@ impl Reader<'_> {
         self.followed(params, at, Terminal::Close)
     }
 
-    /// DECLARE.
+    /// Parses DECLARE.
     #[tactic(auto, unfolding(mv_ast::specs::Grammar::declaration))]
     fn declaration(&self, at: usize) -> Result<(VarDef, usize), Stop>
         ensures { Reads self.now at declaration result }
@@ -140,7 +140,7 @@ impl Reader<'_> {
         self.followed(VarDef { name, initial }, at, Terminal::Semicolon)
     }
 
-    /// Declarations, none or more.
+    /// Parses zero or more declarations.
     #[tactic(auto, using(crate::proofs::Turns::more_turn, crate::proofs::Turns::more_stop, crate::proofs::Firsts::first_declaration))]
     fn declarations(&self, at: usize) -> Result<(List<VarDef>, usize), Stop>
         ensures { Reads self.now at (λ bytes. many (declaration bytes)) result }
@@ -158,7 +158,7 @@ impl Reader<'_> {
         Ok((all, here))
     }
 
-    /// A procedure, behind CREATE.
+    /// Parses a procedure, after CREATE.
     #[tactic(auto, unfolding(mv_ast::specs::Grammar::procedure))]
     fn procedure(&self, at: usize) -> Result<(ItemKind, usize), Stop>
         ensures { Reads self.now at procedure result }
@@ -179,7 +179,7 @@ impl Reader<'_> {
         self.followed(kind, at, Terminal::Semicolon)
     }
 
-    /// CREATE.
+    /// Parses CREATE.
     #[tactic(auto, using(crate::proofs::Firsts::first_table), unfolding(mv_ast::specs::Grammar::create))]
     fn create(&self, at: usize) -> Result<(Item, usize), Stop>
         ensures { Reads self.now at create result }
@@ -193,7 +193,7 @@ impl Reader<'_> {
         Ok((Item { token, kind }, at))
     }
 
-    /// COPY.
+    /// Parses COPY.
     #[tactic(auto, unfolding(mv_ast::specs::Grammar::copy))]
     fn copy(&self, at: usize) -> Result<(Item, usize), Stop>
         ensures { Reads self.now at copy result }
@@ -205,7 +205,7 @@ impl Reader<'_> {
         Ok((Item { token, kind }, at))
     }
 
-    /// An argument of a call.
+    /// Parses one argument of a call.
     #[tactic(auto, using(crate::proofs::Firsts::first_lit_rows), unfolding(mv_ast::specs::Grammar::arg))]
     fn arg(&self, at: usize) -> Result<(Arg, usize), Stop>
         ensures { Reads self.now at arg result }
@@ -218,7 +218,7 @@ impl Reader<'_> {
         Ok((Arg::One(literal), at))
     }
 
-    /// Arguments, if there are any.
+    /// Parses zero or more arguments, separated by commas.
     #[tactic(auto, using(crate::proofs::Firsts::first_args))]
     fn args(&self, at: usize) -> Result<(List<Arg>, usize), Stop>
         ensures { Reads self.now at (λ bytes. or_none (commas (arg bytes))) result }
@@ -229,7 +229,7 @@ impl Reader<'_> {
         self.separated(at, Terminal::Comma)
     }
 
-    /// Arguments in parentheses.
+    /// Parses zero or more arguments in parentheses.
     fn args_in_parens(&self, at: usize) -> Result<(List<Arg>, usize), Stop>
         ensures { Reads self.now at (λ bytes. in_parens (or_none (commas (arg bytes)))) result }
     {
@@ -238,7 +238,7 @@ impl Reader<'_> {
         self.followed(arguments, at, Terminal::Close)
     }
 
-    /// CALL.
+    /// Parses CALL.
     #[tactic(auto, unfolding(mv_ast::specs::Grammar::call))]
     fn call(&self, at: usize) -> Result<(Item, usize), Stop>
         ensures { Reads self.now at call result }
@@ -250,7 +250,7 @@ impl Reader<'_> {
         self.followed(Item { token, kind }, at, Terminal::Semicolon)
     }
 
-    /// JOURNAL.
+    /// Parses JOURNAL.
     #[tactic(auto, unfolding(mv_ast::specs::Grammar::journal))]
     fn journal(&self, at: usize) -> Result<(Item, usize), Stop>
         ensures { Reads self.now at journal result }
@@ -261,7 +261,7 @@ impl Reader<'_> {
         Ok((Item { token, kind }, at))
     }
 
-    /// An item of a script.
+    /// Parses one item of a script.
     #[tactic(auto, using(crate::proofs::Firsts::first_create, crate::proofs::Firsts::first_copy, crate::proofs::Firsts::first_call), unfolding(mv_ast::specs::Grammar::an_item))]
     pub(crate) fn item(&self, at: usize) -> Result<(Item, usize), Stop>
         ensures { Reads self.now at an_item result }
@@ -278,7 +278,7 @@ impl Reader<'_> {
         self.journal(at)
     }
 
-    /// Items, none or more.
+    /// Parses zero or more items.
     #[tactic(auto, using(crate::proofs::Turns::more_turn, crate::proofs::Turns::more_stop, crate::proofs::Firsts::first_an_item))]
     pub(crate) fn items(&self, at: usize) -> Result<(List<Item>, usize), Stop>
         ensures { Reads self.now at (λ bytes. many (an_item bytes)) result }

@@ -1,11 +1,11 @@
-//! Levels of operators.
+//! Precedence levels of operators.
 
 ghost use Rattle.std.specs.Prelude.{◌≡◌};
 ghost use Rattle.mv_parser.specs.Levels.{marks};
 
 use mv_ast::lexeme::Terminal;
 
-/// The operators that stand between operands and are joined from the left, from the loosest on.
+/// The levels of left-associative binary operators, loosest first.
 #[derive(Clone, Copy)]
 pub(crate) enum Level {
     Or,
@@ -14,7 +14,7 @@ pub(crate) enum Level {
     Term,
 }
 
-/// The tokens that are an operator of this level.
+/// Returns the tokens that are operators of this level.
 pub(crate) fn marks(level: Level) -> &'static [Terminal]
     ensures { result.now ≡ marks level }
 {

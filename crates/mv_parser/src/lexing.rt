@@ -1,4 +1,4 @@
-//! From tokens to what the grammar sees of them.
+//! Turns tokens into the lexemes that the grammar is defined over.
 
 ghost use Rattle.std.specs.Prelude.{◌≡◌, ◌≤◌, ◌<◌, ◌+◌, ◌^◌, length, IfOk, IsTrue};
 ghost use Rattle.std.specs.List.{All, list_all};
@@ -13,7 +13,7 @@ use mv_values::list::List;
 use mv_values::memory::NoMemory;
 use std::alloc::Global;
 
-/// What the grammar sees of a token of this kind with these bytes.
+/// Returns the terminal of a token of this kind with these bytes.
 fn kind_in(kind: Kind, text: &[u8]) -> Terminal
     ensures { result ≡ kind_of kind text.now }
 {
@@ -42,7 +42,7 @@ fn lexeme_in(number: u32, token: Token, bytes: &[u8]) -> Lexeme
     }
 }
 
-/// What the grammar sees of the tokens, counted from 1.
+/// Returns the lexemes of the tokens, numbered from 1.
 pub(crate) fn lexemes_of(
     alloc: Global,
     tokens: &List<Token>,

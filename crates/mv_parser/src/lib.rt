@@ -1,4 +1,4 @@
-//! From tokens to the syntax tree.
+//! A recursive-descent parser: it turns tokens into the syntax tree.
 #![tactic(auto)]
 
 mod blocks;

@@ -1,4 +1,4 @@
-//! Lists of parts.
+//! Parses lists.
 
 ghost use Rattle.std.specs.Prelude.{◌≡◌, ℕ, List as Seq, drop, length};
 ghost use Rattle.mv_ast.specs.declared.lexeme.Lexeme.{Lexeme};
@@ -12,7 +12,7 @@ use crate::reader::Reader;
 use mv_ast::lexeme::Terminal;
 use mv_values::list::List;
 
-/// What is read from a place on.
+/// A part of the grammar that can be parsed at a position.
 pub(crate) trait Parse: Drop {
     ghost reading: { Seq ℕ → ℕ → Seq Lexeme → Read Self };
 
@@ -21,7 +21,7 @@ pub(crate) trait Parse: Drop {
 }
 
 impl Reader<'_> {
-    /// One and then others, each behind a comma, in parentheses.
+    /// Parses one or more parts in parentheses, separated by commas.
     pub(crate) fn in_parens<T: Parse>(&self, at: usize) -> Result<(List<T>, usize), Stop>
         ensures { Gives self.now.lexemes.now result (read_in_parens (read_separated word.Comma (T.reading self.now.bytes.now self.now.depth)) (drop at self.now.lexemes.now)) }
     {
@@ -30,7 +30,7 @@ impl Reader<'_> {
         self.followed(all, at, Terminal::Close)
     }
 
-    /// One and then others, each behind a mark.
+    /// Parses one or more parts, separated by a mark.
     #[tactic(auto, using(crate::proofs::Turns::more_turn, crate::proofs::Turns::more_stop))]
     pub(crate) fn separated<T: Parse>(
         &self,

@@ -1,4 +1,4 @@
-//! Literals and types of columns.
+//! Parses literals and the types of columns.
 
 ghost use Rattle.std.specs.Prelude.{◌≡◌, ℕ, drop, IsTrue, min, length};
 ghost use Rattle.mv_ast.specs.Parts.{give, one};
@@ -50,7 +50,7 @@ impl Parse for ColDef {
 }
 
 impl Reader<'_> {
-    /// A literal.
+    /// Parses a literal.
     #[tactic(auto, unfolding(mv_ast::specs::Grammar::literal))]
     pub(crate) fn literal(&self, at: usize) -> Result<(Lit, usize), Stop>
         ensures { Reads self.now at literal result }
@@ -73,7 +73,7 @@ impl Reader<'_> {
         Ok((Lit { value, token }, at))
     }
 
-    /// A row of literals.
+    /// Parses a row of literals.
     #[tactic(auto, unfolding(mv_ast::specs::Grammar::lit_row))]
     pub(crate) fn lit_row(&self, at: usize) -> Result<(LitRow, usize), Stop>
         ensures { Reads self.now at lit_row result }
@@ -83,7 +83,7 @@ impl Reader<'_> {
         self.followed(LitRow { token, values }, at, Terminal::Close)
     }
 
-    /// The rows of an argument.
+    /// Parses an argument that is a list of rows.
     #[tactic(auto, unfolding(mv_ast::specs::Grammar::lit_rows))]
     pub(crate) fn lit_rows(&self, at: usize) -> Result<(LitRows, usize), Stop>
         ensures { Reads self.now at lit_rows result }
@@ -95,7 +95,7 @@ impl Reader<'_> {
         Ok((LitRows { token, rows }, at))
     }
 
-    /// The rows in the parentheses of an argument.
+    /// Parses the rows between the parentheses of an argument.
     #[tactic(auto, unfolding(mv_ast::specs::Grammar::lit_row))]
     fn rows_inside(&self, at: usize) -> Result<(List<LitRow>, usize), Stop>
         ensures { Reads self.now at (λ bytes. or_none (commas (lit_row bytes))) result }
@@ -106,7 +106,7 @@ impl Reader<'_> {
         self.separated(at, Terminal::Comma)
     }
 
-    /// The rows of a table at the opening.
+    /// Parses the initial rows of a table.
     #[tactic(auto, unfolding(mv_ast::specs::Grammar::opening_rows))]
     pub(crate) fn opening_rows(&self, at: usize) -> Result<(List<LitRow>, usize), Stop>
         ensures { Reads self.now at opening_rows result }
@@ -118,7 +118,7 @@ impl Reader<'_> {
         self.separated(at, Terminal::Comma)
     }
 
-    /// A column: its name and its type.
+    /// Parses a column: its name and its type.
     #[tactic(auto, unfolding(mv_ast::specs::Grammar::col_def))]
     pub(crate) fn col_def(&self, at: usize) -> Result<(ColDef, usize), Stop>
         ensures { Reads self.now at col_def result }
@@ -128,7 +128,7 @@ impl Reader<'_> {
         Ok((ColDef { name, kind }, at))
     }
 
-    /// The type of a column.
+    /// Parses the type of a column.
     #[tactic(auto, unfolding(mv_ast::specs::Grammar::column_type))]
     pub(crate) fn column_type(&self, at: usize) -> Result<(ColType, usize), Stop>
         ensures { Reads self.now at column_type result }
@@ -144,7 +144,7 @@ impl Reader<'_> {
         Ok((ColType::Text(self.width(lexeme)), at))
     }
 
-    /// The width of a text column; a greater one than fits stands for the greatest.
+    /// Returns the width of a text column, or 65535 if it is greater.
     fn width(&self, lexeme: Lexeme) -> u16
         requires { IsTrue (fits self.now.bytes.now lexeme) }
         ensures { result ≡ min (number_of self.now.bytes.now lexeme) 65535 }

@@ -1,4 +1,4 @@
-//! Names, numbers, texts and blocks.
+//! Parses names, numbers, texts and blocks.
 
 ghost use Rattle.std.specs.Prelude.{◌≡◌, ◌+◌, ℕ, ℤ, pos, drop, IsTrue, IfOk};
 ghost use Rattle.std.specs.List.{list_all};
@@ -19,7 +19,7 @@ use mv_values::memory::NoMemory;
 use mv_values::txt::Txt;
 
 impl Reader<'_> {
-    /// The bytes of a token.
+    /// Returns the bytes of a token.
     fn spelling(&self, lexeme: Lexeme) -> &[u8]
         requires { IsTrue (fits self.now.bytes.now lexeme) }
         ensures { result.now ≡ spelling self.now.bytes.now lexeme }
@@ -28,7 +28,7 @@ impl Reader<'_> {
         &self.bytes[at..at + lexeme.len as usize]
     }
 
-    /// The number of a token of this kind.
+    /// Parses a token of this kind and returns its number.
     pub(crate) fn place(&self, at: usize, kind: Terminal) -> Result<(u32, usize), Stop>
         ensures { Reads self.now at (λ _. place kind) result }
     {
@@ -36,7 +36,7 @@ impl Reader<'_> {
         Ok((lexeme.number, at))
     }
 
-    /// A name.
+    /// Parses a name.
     #[tactic(auto, unfolding(mv_ast::specs::Grammar::name))]
     pub(crate) fn name(&self, at: usize) -> Result<(Name, usize), Stop>
         ensures { Reads self.now at name result }
@@ -47,7 +47,7 @@ impl Reader<'_> {
         Ok((Name { text, token }, at))
     }
 
-    /// A variable, without its colon.
+    /// Parses a variable. Its name is without the colon.
     #[tactic(auto, using(crate::proofs::TextLaws::behind_printable), unfolding(mv_ast::specs::Grammar::variable))]
     pub(crate) fn variable(&self, at: usize) -> Result<(Name, usize), Stop>
         ensures { Reads self.now at variable result }
@@ -58,7 +58,7 @@ impl Reader<'_> {
         Ok((Name { text, token }, at))
     }
 
-    /// The value of a number.
+    /// Returns the value of a number token.
     pub(crate) fn number_of(&self, lexeme: Lexeme) -> i64
         requires { IsTrue (fits self.now.bytes.now lexeme) }
         ensures { result ≡ pos (number_of self.now.bytes.now lexeme) }
@@ -66,7 +66,7 @@ impl Reader<'_> {
         number(self.spelling(lexeme))
     }
 
-    /// The value of a text.
+    /// Returns the value of a text token.
     pub(crate) fn text_of(&self, lexeme: Lexeme) -> Result<Txt, NoMemory>
         requires fitting { IsTrue (fits self.now.bytes.now lexeme) }
         requires quoted { lexeme.kind ≡ word.Quoted }
@@ -75,7 +75,7 @@ impl Reader<'_> {
         unquoted(self.alloc, self.spelling(lexeme))
     }
 
-    /// A text.
+    /// Parses a text.
     pub(crate) fn quoted(&self, at: usize) -> Result<(Txt, usize), Stop>
         ensures { Reads self.now at (λ bytes. give (text_of bytes) ⊛ one word.Quoted) result }
     {
@@ -84,7 +84,7 @@ impl Reader<'_> {
         Ok((text, at))
     }
 
-    /// A block.
+    /// Parses a block.
     #[tactic(auto, unfolding(mv_ast::specs::Grammar::block))]
     pub(crate) fn block(&self, at: usize) -> Result<(Span, usize), Stop>
         ensures { Reads self.now at block result }

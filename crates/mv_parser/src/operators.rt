@@ -1,4 +1,4 @@
-//! Operators, and what is made of them.
+//! Parses operators and builds the expressions made of them.
 
 ghost use Rattle.std.specs.Prelude.{◌≡◌, ◌<◌, ◌-◌, drop, IfOk};
 ghost use Rattle.mv_ast.specs.declared.lexeme.Terminal.TheVariants as word;
@@ -20,7 +20,7 @@ use mv_values::op::Op;
 use mv_values::value::Value;
 
 impl Reader<'_> {
-    /// The reader of what stands one level further in.
+    /// Returns a reader with one level less to go.
     pub(crate) fn deeper(&self) -> Reader<'_>
         requires { 0 < self.now.depth }
         ensures bytes { result.bytes.now ≡ self.now.bytes.now }
@@ -35,7 +35,7 @@ impl Reader<'_> {
         }
     }
 
-    /// The tokens of this kind at a place.
+    /// Parses zero or more tokens of this kind.
     #[tactic(auto, using(crate::proofs::Turns::more_turn, crate::proofs::Turns::more_stop))]
     pub(crate) fn repeated(&self, at: usize, kind: Terminal) -> Result<(List<Lexeme>, usize), Stop>
         ensures { Reads self.now at (λ _. many (one kind)) result }
@@ -53,7 +53,7 @@ impl Reader<'_> {
         Ok((all, here))
     }
 
-    /// An expression behind an operator.
+    /// Applies a prefix operator to an expression.
     pub(crate) fn prefixed(&self, op: OneOp, token: u32, inner: Expr) -> Result<Expr, NoMemory>
         ensures { IfOk result (λ e. e ≡ prefixed op token inner) }
     {
@@ -61,7 +61,7 @@ impl Reader<'_> {
         Ok(Expr { token, kind })
     }
 
-    /// An expression behind operators, the last of which is the innermost.
+    /// Applies a prefix operator once for each token. The last token is the innermost.
     pub(crate) fn all_prefixed(
         &self,
         op: OneOp,
@@ -78,7 +78,7 @@ impl Reader<'_> {
         Ok(whole)
     }
 
-    /// An operator between two expressions.
+    /// Applies a binary operator to two expressions.
     pub(crate) fn paired(&self, op: TwoOp, left: Expr, right: Expr) -> Result<Expr, NoMemory>
         ensures { IfOk result (λ e. e ≡ paired op left right) }
     {
@@ -89,7 +89,7 @@ impl Reader<'_> {
         Ok(Expr { token, kind })
     }
 
-    /// What was read, joined with what was read behind it.
+    /// Joins an expression with the operator and the operand after it.
     pub(crate) fn joined(
         &self,
         left: Expr,
@@ -101,7 +101,7 @@ impl Reader<'_> {
         Ok((self.paired(op, left, right)?, at))
     }
 
-    /// A comparison.
+    /// Parses a comparison operator.
     #[tactic(auto, unfolding(mv_ast::specs::Grammar::op))]
     pub(crate) fn comparison(&self, at: usize) -> Result<(Op, usize), Stop>
         ensures { Reads self.now at op result }
@@ -130,7 +130,7 @@ impl Reader<'_> {
         Ok((Op::Ge, at))
     }
 
-    /// An operator of products.
+    /// Parses `*`, `/` or `%`.
     #[tactic(auto, unfolding(mv_ast::specs::Grammar::term_op))]
     pub(crate) fn term_operator(&self, at: usize) -> Result<(TwoOp, usize), Stop>
         ensures { Reads self.now at term_op result }
@@ -147,7 +147,7 @@ impl Reader<'_> {
         Ok((TwoOp::Rem, at))
     }
 
-    /// An operator of sums.
+    /// Parses `+`, `-` or `||`.
     #[tactic(auto, unfolding(mv_ast::specs::Grammar::sum_op))]
     pub(crate) fn sum_operator(&self, at: usize) -> Result<(TwoOp, usize), Stop>
         ensures { Reads self.now at sum_op result }
@@ -164,7 +164,7 @@ impl Reader<'_> {
         Ok((TwoOp::Join, at))
     }
 
-    /// An operator of a level.
+    /// Parses an operator of a level.
     pub(crate) fn operator(&self, at: usize, level: Level) -> Result<(TwoOp, usize), Stop>
         ensures { Reads self.now at (λ bytes. operator bytes level) result }
     {
@@ -182,7 +182,7 @@ impl Reader<'_> {
         }
     }
 
-    /// A number, as an expression.
+    /// Parses a number as an expression.
     pub(crate) fn number_expr(&self, at: usize) -> Result<(Expr, usize), Stop>
         ensures { Reads self.now at (λ bytes. give (const_number bytes) ⊛ one word.Number) result }
     {
@@ -192,7 +192,7 @@ impl Reader<'_> {
         Ok((Expr { token, kind }, at))
     }
 
-    /// A text, as an expression.
+    /// Parses a text as an expression.
     pub(crate) fn text_expr(&self, at: usize) -> Result<(Expr, usize), Stop>
         ensures { Reads self.now at (λ bytes. give (const_text bytes) ⊛ one word.Quoted) result }
     {
@@ -202,7 +202,7 @@ impl Reader<'_> {
         Ok((Expr { token, kind }, at))
     }
 
-    /// A column, as an expression.
+    /// Parses a column as an expression.
     pub(crate) fn column_expr(&self, at: usize) -> Result<(Expr, usize), Stop>
         ensures { Reads self.now at (λ bytes. give column_named ⊛ name bytes) result }
     {
@@ -212,7 +212,7 @@ impl Reader<'_> {
         Ok((Expr { token, kind }, at))
     }
 
-    /// A variable, or a column of a loop's row.
+    /// Parses a variable, or a column of a loop's row.
     #[tactic(auto, unfolding(mv_ast::specs::Grammar::variable_expr))]
     pub(crate) fn variable_expr(&self, at: usize) -> Result<(Expr, usize), Stop>
         ensures { Reads self.now at variable_expr result }

@@ -1,4 +1,4 @@
-//! Parsing.
+//! The entry point of the parser.
 
 ghost use Rattle.std.specs.Prelude.{◌≡◌, ◌⊎◌, ◌≤◌, ◌^◌, ℕ, Err, length, IfOk, MatchResult};
 ghost use Rattle.std.specs.List.{All};
@@ -19,34 +19,38 @@ use mv_limits::late::first_late;
 use mv_values::list::List;
 use std::alloc::Global;
 
-/// The script that the tokens of these bytes are. It takes time in the number of bytes.
+/// Parses the tokens of these bytes as a script. Takes time linear in the number of bytes.
 ///
 /// # Errors
-/// `Limit` where the tokens pass depth or stretch, or are a script by the grammar that passes
-/// another limit, with the first token at which it does; `Syntax` where depth and stretch are kept
-/// and the tokens are no script by the grammar, with the first token with which no script goes on,
-/// or one past the last; `NoMemory` where memory runs out.
+/// The checks run in this order, and the first that fails is returned:
+/// 1. `Limit` if the tokens exceed the limit of depth or stretch.
+/// 2. `Syntax` if the tokens aren't a script by the grammar. Its token is the first with which no
+///    script continues, or one past the last.
+/// 3. `Limit` if the script exceeds another limit.
+///
+/// The token of `Limit` is the first at which the limit is exceeded. `NoMemory` is returned if
+/// memory runs out.
 pub fn parse(alloc: Global, tokens: &List<Token>, bytes: &[u8]) -> Result<Script, ParseFault>
     requires size { length bytes.now ≤ 2 ^ 24 }
     requires tokens { AreTokens bytes.now tokens.now }
     requires spelled { All (IsSpelledIn bytes.now) tokens.now }
-    // What is answered is a script by the grammar and within the limits.
+    // A returned script conforms to the grammar and the limits.
     ensures found { IfOk result (λ script. IsScript bytes.now tokens.now script) }
-    // A script by the grammar and within the limits is answered.
+    // A script that conforms to the grammar and the limits is returned.
     ensures only { (script : Script) → IsScript bytes.now tokens.now script → MatchResult result (λ answer. answer ≡ script) (λ fault. fault ≡ ParseFault.NoMemory) }
-    // The token that is told is the first with which no script goes on.
+    // The reported token is the first with which no script continues.
     ensures syntax { (token : ℕ) → result ≡ Err (ParseFault.Syntax token) → CannotStand bytes.now tokens.now token }
-    // Where there is such a token, it is told.
+    // If there is such a token, it is reported.
     ensures syntax_told { (token : ℕ) → CannotStand bytes.now tokens.now token → (result ≡ Err (ParseFault.Syntax token)) ⊎ (result ≡ Err ParseFault.NoMemory) }
-    // The limit that is told is passed at the token that is told.
+    // The reported limit is exceeded at the reported token.
     ensures limit { (which : Which) (token : ℕ) → result ≡ Err (ParseFault.Limit which token) → PassesLimit bytes.now tokens.now which token }
-    // Where a limit is to be told, it is told.
+    // If a limit is exceeded, it is reported.
     ensures limit_told { (which : Which) (token : ℕ) → PassesLimit bytes.now tokens.now which token → (result ≡ Err (ParseFault.Limit which token)) ⊎ (result ≡ Err ParseFault.NoMemory) }
 {
     read_script(alloc, tokens, bytes)
 }
 
-/// All of the tokens of these bytes as a script, within the limits.
+/// Parses all tokens as a script and checks the limits.
 fn read_script(alloc: Global, tokens: &List<Token>, bytes: &[u8]) -> Result<Script, ParseFault>
     requires size { length bytes.now ≤ 2 ^ 24 }
     requires few { length tokens.now ≤ 2 ^ 24 }
@@ -77,7 +81,7 @@ fn read_script(alloc: Global, tokens: &List<Token>, bytes: &[u8]) -> Result<Scri
     }
 }
 
-/// All of the tokens as a script.
+/// Parses all tokens as a script.
 #[tactic(auto, unfolding(mv_ast::specs::Grammar::script), using(crate::proofs::Parsing::whole_end, crate::proofs::Parsing::whole_more))]
 fn whole_script(reader: &Reader) -> Result<Script, Stop>
     ensures { Answers result (parsed reader.now.bytes.now reader.now.depth reader.now.lexemes.now) }

@@ -1,4 +1,4 @@
-//! What is read from.
+//! The input of the parser.
 
 ghost use Rattle.std.specs.Prelude.{IsTrue};
 ghost use Rattle.std.specs.List.{list_all};
@@ -7,7 +7,7 @@ ghost use Rattle.mv_parser.specs.Fitting.{fits};
 use mv_ast::lexeme::Lexeme;
 use std::alloc::Global;
 
-/// The tokens of a script, and how many levels of expressions and statements may stand inside.
+/// The tokens of a script, and how many levels of expressions and statements may still be nested.
 #[derive(Drop)]
 pub(crate) struct Reader<'a> {
     pub(crate) alloc: Global,

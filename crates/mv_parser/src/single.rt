@@ -1,4 +1,4 @@
-//! Single tokens.
+//! Parses single tokens.
 
 ghost use Rattle.std.specs.Prelude.{◌≡◌, [], ◌∷◌, drop, IsTrue, IfOk, IfSome, length, ◌<◌, ◌-◌};
 ghost use Rattle.mv_ast.specs.declared.lexeme.Terminal.TheVariants as word;
@@ -13,21 +13,21 @@ use crate::reader::Reader;
 use mv_ast::lexeme::{Lexeme, Terminal};
 
 impl Reader<'_> {
-    /// How many tokens there are from a place on.
+    /// Counts the tokens from a position to the end.
     pub(crate) fn left(&self, at: usize) -> usize
         ensures { result ≡ length (drop at self.now.lexemes.now) }
     {
         self.lexemes.len().saturating_sub(at)
     }
 
-    /// Why reading stops at a place.
+    /// Returns the error for a wrong token at a position.
     pub(crate) fn wrong(&self, at: usize) -> Stop
         ensures { result ≡ Stop.Wrong (length (drop at self.now.lexemes.now)) }
     {
         Stop::Wrong(self.left(at))
     }
 
-    /// The token at a place.
+    /// Returns the token at a position, if there is one.
     fn peek(&self, at: usize) -> Option<Lexeme>
         ensures ahead { Ahead self.now.lexemes.now at result }
         ensures fitting { IfSome result (λ l. IsTrue (fits self.now.bytes.now l)) }
@@ -38,7 +38,7 @@ impl Reader<'_> {
         }
     }
 
-    /// Whether a token of this kind stands at a place.
+    /// Whether the token at a position is of this kind.
     pub(crate) fn has(&self, at: usize, kind: Terminal) -> bool
         ensures { result ≡ starts_with (kind ∷ []) (drop at self.now.lexemes.now) }
     {
@@ -48,7 +48,7 @@ impl Reader<'_> {
         }
     }
 
-    /// Whether a token of one of these kinds stands at a place.
+    /// Whether the token at a position is of one of these kinds.
     pub(crate) fn has_any(&self, at: usize, kinds: &[Terminal]) -> bool
         ensures { result ≡ starts_with kinds.now (drop at self.now.lexemes.now) }
     {
@@ -58,7 +58,7 @@ impl Reader<'_> {
         }
     }
 
-    /// One token of this kind.
+    /// Parses one token of this kind.
     pub(crate) fn one(&self, at: usize, kind: Terminal) -> Result<(Lexeme, usize), Stop>
         ensures reads { Reads self.now at (λ _. one kind) result }
         ensures fitting { IfOk result (λ x. IsTrue (fits self.now.bytes.now x.0)) }
@@ -74,7 +74,7 @@ impl Reader<'_> {
         }
     }
 
-    /// What was read, where a token of this kind stands behind it.
+    /// Parses a token of this kind and returns the given value.
     pub(crate) fn followed<T: Drop>(
         &self,
         value: T,
@@ -87,7 +87,7 @@ impl Reader<'_> {
         Ok((value, at))
     }
 
-    /// What was read, where END, another word and a semicolon stand behind it.
+    /// Parses END, a word and a semicolon, and returns the given value.
     pub(crate) fn ended<T: Drop>(
         &self,
         value: T,
@@ -102,7 +102,7 @@ impl Reader<'_> {
     }
 }
 
-/// Whether the kind is one of these.
+/// Whether the kind is one of these kinds.
 fn is_among(kinds: &[Terminal], kind: Terminal) -> bool
     ensures { result ≡ is_among kinds.now kind }
 {

@@ -1,4 +1,4 @@
-//! Statements that hold no others.
+//! Parses the statements that contain no statements.
 
 ghost use Rattle.std.specs.Prelude.{◌≡◌, ℕ, List, Option, drop};
 ghost use Rattle.mv_ast.specs.declared.lexeme.Terminal.TheVariants as word;
@@ -20,7 +20,7 @@ use mv_ast::tree::{Agg, Cond, Expr, Name, Sort, Stmt};
 use mv_values::list::List;
 
 impl Reader<'_> {
-    /// Variables between commas.
+    /// Parses one or more variables, separated by commas.
     #[tactic(auto, using(crate::proofs::Turns::more_turn, crate::proofs::Turns::more_stop))]
     fn variables(&self, at: usize) -> Result<(List<Name>, usize), Stop>
         ensures { Reads self.now at (λ bytes. commas (variable bytes)) result }
@@ -41,7 +41,7 @@ impl Reader<'_> {
         Ok((all, here))
     }
 
-    /// SET of a variable.
+    /// Parses SET of a variable.
     #[tactic(auto, unfolding(mv_ast::specs::Grammar::assign))]
     pub(crate) fn assign(&self, at: usize) -> Result<(Stmt, usize), Stop>
         ensures { Reads self.now at assign result }
@@ -53,7 +53,7 @@ impl Reader<'_> {
         self.followed(Stmt::Assign { token, to, right }, at, Terminal::Semicolon)
     }
 
-    /// SELECT into variables.
+    /// Parses SELECT into variables.
     #[tactic(auto, using(crate::proofs::Firsts::first_select_columns), unfolding(mv_ast::specs::Grammar::select))]
     pub(crate) fn select(&self, at: usize) -> Result<(Stmt, usize), Stop>
         ensures { Reads self.now at select result }
@@ -66,7 +66,7 @@ impl Reader<'_> {
         }
     }
 
-    /// SELECT of columns, behind its first word.
+    /// Parses SELECT of columns, after SELECT.
     #[tactic(auto, unfolding(mv_ast::specs::Grammar::select_columns))]
     fn select_columns(&self, at: usize, token: u32) -> Result<(Stmt, usize), Stop>
         ensures { ReadsFor self.now at select_columns (λ f. f token) result }
@@ -78,7 +78,7 @@ impl Reader<'_> {
         self.selected(token, columns, to, rest)
     }
 
-    /// SELECT of columns, from FROM on.
+    /// Parses SELECT of columns, starting at FROM.
     fn select_rest(
         &self,
         at: usize,
@@ -94,7 +94,7 @@ impl Reader<'_> {
         Ok(((table, conds, sorts, offset), at))
     }
 
-    /// SELECT of columns, of what was read.
+    /// Builds SELECT of columns from its parsed parts.
     fn selected(
         &self,
         token: u32,
@@ -117,7 +117,7 @@ impl Reader<'_> {
         Ok((select, at))
     }
 
-    /// SELECT of a sum over rows, behind its first word.
+    /// Parses SELECT of an aggregate, after SELECT.
     #[tactic(auto, unfolding(mv_ast::specs::Grammar::total))]
     fn total(&self, at: usize, token: u32) -> Result<(Stmt, usize), Stop>
         ensures { ReadsFor self.now at total (λ f. f token) result }
@@ -127,7 +127,7 @@ impl Reader<'_> {
         self.totalled(token, agg, rest)
     }
 
-    /// SELECT of a sum over rows, from INTO on.
+    /// Parses SELECT of an aggregate, starting at INTO.
     fn total_rest(&self, at: usize) -> Result<((Name, Name, List<Cond>), usize), Stop>
         ensures { (f : Name → Name → List Cond → ℕ → Stmt) → GivesBy self.now.lexemes.now (λ x. f x.0 x.1 x.2) result (read (inside_of self.now) (total_rest self.now.bytes.now f) (drop at self.now.lexemes.now)) }
     {
@@ -140,7 +140,7 @@ impl Reader<'_> {
         Ok(((to, table, conds), at))
     }
 
-    /// SELECT of a sum over rows, of what was read.
+    /// Builds SELECT of an aggregate from its parsed parts.
     fn totalled(
         &self,
         token: u32,
@@ -160,7 +160,7 @@ impl Reader<'_> {
         Ok((total, at))
     }
 
-    /// INSERT.
+    /// Parses INSERT.
     #[tactic(auto, unfolding(mv_ast::specs::Grammar::insert))]
     pub(crate) fn insert(&self, at: usize) -> Result<(Stmt, usize), Stop>
         ensures { Reads self.now at insert result }
@@ -178,7 +178,7 @@ impl Reader<'_> {
         self.followed(statement, at, Terminal::Semicolon)
     }
 
-    /// UPDATE.
+    /// Parses UPDATE.
     #[tactic(auto, unfolding(mv_ast::specs::Grammar::update))]
     pub(crate) fn update(&self, at: usize) -> Result<(Stmt, usize), Stop>
         ensures { Reads self.now at update result }
@@ -197,7 +197,7 @@ impl Reader<'_> {
         self.followed(statement, at, Terminal::Semicolon)
     }
 
-    /// DELETE.
+    /// Parses DELETE.
     #[tactic(auto, unfolding(mv_ast::specs::Grammar::delete))]
     pub(crate) fn delete(&self, at: usize) -> Result<(Stmt, usize), Stop>
         ensures { Reads self.now at delete result }
@@ -214,7 +214,7 @@ impl Reader<'_> {
         self.followed(statement, at, Terminal::Semicolon)
     }
 
-    /// PRINT.
+    /// Parses PRINT.
     #[tactic(auto, unfolding(mv_ast::specs::Grammar::print))]
     pub(crate) fn print(&self, at: usize) -> Result<(Stmt, usize), Stop>
         ensures { Reads self.now at print result }
@@ -224,7 +224,7 @@ impl Reader<'_> {
         self.followed(Stmt::Print { token, values }, at, Terminal::Semicolon)
     }
 
-    /// ROLLBACK.
+    /// Parses ROLLBACK.
     #[tactic(auto, unfolding(mv_ast::specs::Grammar::rollback))]
     pub(crate) fn rollback(&self, at: usize) -> Result<(Stmt, usize), Stop>
         ensures { Reads self.now at rollback result }

@@ -1,4 +1,4 @@
-//! What the bytes of a token stand for.
+//! Decodes the bytes of a token.
 
 ghost use Rattle.std.specs.Prelude.{◌≡◌, ◌≤◌, ◌<◌, ◌-◌, ◌∷◌, IfOk, IfSome, IsTrue, ◌==◌, drop, length, pos, slice_range, slice_index};
 ghost use Rattle.std.specs.List.{list_all, All, position};
@@ -9,7 +9,7 @@ use mv_values::memory::NoMemory;
 use mv_values::txt::Txt;
 use std::alloc::Global;
 
-/// The text in lower case.
+/// Returns the text in lower case.
 #[tactic(auto, using(crate::proofs::TextLaws::lower_printable))]
 pub(crate) fn lowered(alloc: Global, text: &[u8]) -> Result<Txt, NoMemory>
     requires { IsTrue (list_all is_printable text.now) }
@@ -25,7 +25,7 @@ fn small_letters(alloc: Global, text: &[u8]) -> Result<Vec<u8>, NoMemory>
     Ok(text.iter().map(|b| b.to_ascii_lowercase()).collect(alloc)?)
 }
 
-/// The text without its first byte.
+/// Returns the text without its first byte.
 pub(crate) fn behind_first(text: &[u8]) -> &[u8]
     ensures { result.now ≡ drop 1 text.now }
 {
@@ -35,7 +35,7 @@ pub(crate) fn behind_first(text: &[u8]) -> &[u8]
     }
 }
 
-/// The value of digits, or the greatest INT where it is above that.
+/// Returns the value of decimal digits, or the greatest INT if it is above that.
 #[tactic(auto, using(crate::proofs::TextLaws::number_turn, crate::proofs::TextLaws::number_end))]
 pub(crate) fn number(digits: &[u8]) -> i64
     ensures { result ≡ pos (number digits.now) }
@@ -50,7 +50,7 @@ pub(crate) fn number(digits: &[u8]) -> i64
 
 const GREATEST: u64 = 9_223_372_036_854_775_807;
 
-/// What stands between the quotes of a text, where two quotes stand for one.
+/// Returns the contents of a quoted text, with each doubled quote replaced by one.
 #[tactic(auto, using(crate::proofs::TextLaws::unquoted_printable))]
 pub(crate) fn unquoted(alloc: Global, text: &[u8]) -> Result<Txt, NoMemory>
     requires { IsTrue (list_all is_printable text.now) }
@@ -60,7 +60,7 @@ pub(crate) fn unquoted(alloc: Global, text: &[u8]) -> Result<Txt, NoMemory>
     Txt::of(alloc, &content)
 }
 
-/// The text without its first and its last byte.
+/// Returns the text without its first and its last byte.
 fn between(text: &[u8]) -> &[u8]
     ensures { result.now ≡ slice_range text.now 1 (length text.now - 1) }
 {
@@ -70,7 +70,7 @@ fn between(text: &[u8]) -> &[u8]
     &text[1..text.len() - 1]
 }
 
-/// The bytes, with one quote where there are two.
+/// Returns the bytes with each doubled quote replaced by one.
 #[tactic(auto, using(crate::proofs::TextLaws::letter_kept))]
 fn undoubled(alloc: Global, text: &[u8]) -> Result<Vec<u8>, NoMemory>
     ensures { IfOk result (λ v. v.items ≡ undoubled text.now) }
@@ -84,7 +84,7 @@ fn undoubled(alloc: Global, text: &[u8]) -> Result<Vec<u8>, NoMemory>
     Ok(single)
 }
 
-/// The place behind the letter at a place.
+/// Returns the position after the letter at a position.
 #[tactic(auto, using(crate::proofs::TextLaws::letter_twice, crate::proofs::TextLaws::letter_once, crate::proofs::TextLaws::letter_last))]
 fn behind_letter(text: &[u8], at: usize) -> usize
     requires { at < length text.now }
@@ -99,7 +99,7 @@ fn behind_letter(text: &[u8], at: usize) -> usize
     }
 }
 
-/// How many bytes stand up to the first LF, with it.
+/// Returns the length of the first line, LF included.
 #[tactic(auto, using(crate::proofs::TextLaws::first_line_within))]
 pub(crate) fn first_line(text: &[u8]) -> usize
     ensures value { result ≡ first_line text.now }
@@ -111,7 +111,7 @@ pub(crate) fn first_line(text: &[u8]) -> usize
     }
 }
 
-/// The place of the first LF.
+/// Returns the position of the first LF.
 fn first_end(text: &[u8]) -> Option<usize>
     ensures value { result ≡ position (λ b. b == 10) text.now }
     ensures within { IfSome result (λ at. at < length text.now) }
@@ -119,7 +119,7 @@ fn first_end(text: &[u8]) -> Option<usize>
     text.iter().position(|b| *b == b'\n')
 }
 
-/// How many bytes the line has that ends a block.
+/// Returns the length of the line that ends a block.
 pub(crate) fn last_line(text: &[u8]) -> usize
     ensures value { result ≡ last_line text.now }
     ensures few { result ≤ 4 }

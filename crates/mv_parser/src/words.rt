@@ -8,7 +8,7 @@ ghost use Rattle.mv_ast.specs.declared.lexeme.Terminal.TheVariants as word;
 
 use mv_ast::lexeme::Terminal;
 
-/// What a symbol is.
+/// Returns the terminal of a symbol.
 #[tactic(auto, unfolding(mv_ast::specs::Lexemes::symbols, mv_ast::specs::Lexemes::listed))]
 pub(crate) fn symbol_kind(text: &[u8]) -> Terminal
     ensures { result ≡ listed symbols word.Bars text.now }
@@ -34,7 +34,7 @@ pub(crate) fn symbol_kind(text: &[u8]) -> Terminal
     }
 }
 
-/// What a word is: a keyword, whatever the case of its letters, or a name.
+/// Returns the terminal of a word: a keyword, in any letter case, or a name.
 #[tactic(auto, using(crate::proofs::Keywords::by_first, crate::proofs::Keywords::no_word))]
 pub(crate) fn word_kind(text: &[u8]) -> Terminal
     ensures { result ≡ listed keywords word.Name (lower text.now) }
@@ -45,7 +45,7 @@ pub(crate) fn word_kind(text: &[u8]) -> Terminal
     }
 }
 
-/// What the text is by a table of words, whatever the case of its letters.
+/// Looks the text up in a table of words, in any letter case. Returns a name if it isn't there.
 fn named(text: &[u8], words: &[(&[u8], Terminal)]) -> Terminal
     ensures { result ≡ listed (table words.now) word.Name (lower text.now) }
 {
@@ -57,7 +57,7 @@ fn named(text: &[u8], words: &[(&[u8], Terminal)]) -> Terminal
     Terminal::Name
 }
 
-/// The keywords that begin with this letter.
+/// Returns the keywords that begin with this letter.
 #[tactic(auto, unfolding(mv_ast::specs::Lexemes::keywords, mv_ast::specs::Lexemes::listed))]
 fn keywords_with(first: u8) -> &'static [(&'static [u8], Terminal)]
     ensures { Serves first (table result.now) }
