@@ -1,4 +1,4 @@
--- How a script is printed: the tokens of its tree, and what stands behind each of them. All of this is the project's own.
+-- How a script is printed: the tokens of its tree, and the whitespace after each. All of this is the project's own.
 use Rattle.std.specs.Prelude.{ℕ, suc, ◌+◌, pos, negsuc, Bool, true, false, nat_lt, List, [], ◌∷◌, ◌++◌, Option, Some, None, map, slice_range, codes, decimal, if◌then◌else◌}
 use Rattle.mv_lex.specs.Spelling.{quoted}
 use Rattle.mv_values.specs.declared.schema.ColType.{ColType}
@@ -42,13 +42,13 @@ use Rattle.mv_ast.specs.declared.tree.TwoOp.TheVariants.{Add, Sub, Mul, Div, Rem
 use Rattle.mv_ast.specs.declared.tree.VarDef.{VarDef}
 use Rattle.mv_ast.specs.Limits.{together}
 
--- a token, its bytes, and the blank behind it
+-- a token, its bytes, and the whitespace after it
 pub record Piece : Type 0 where
   pub kind : Terminal
   pub text : List ℕ
   pub gap : List ℕ
 
--- keywords and symbols, as they are printed; all other tokens are no words
+-- keywords and symbols as they are printed; empty for all other tokens
 abbrev pub spelled : Terminal → List ℕ
 spelled word.And = codes "and"
 spelled word.Asc = codes "asc"
@@ -125,7 +125,7 @@ spelled word.Variable = []
 spelled word.Block = []
 spelled word.OpenBlock = []
 
--- a token with a space behind it, one that ends its line, and one with nothing behind it
+-- a token followed by a space, one followed by LF, and one followed by nothing
 abbrev pub spaced : Terminal → List ℕ → Piece
 spaced kind text = record { kind = kind; text = text; gap = 32 ∷ [] }
 
@@ -154,7 +154,7 @@ number_piece n = spaced word.Number (decimal n)
 abbrev pub text_piece : List ℕ → Piece
 text_piece t = spaced word.Quoted (quoted t)
 
--- the bytes behind more pieces
+-- the text after one more piece, or after several
 unfoldable pub put : List ℕ → Piece → List ℕ
 put before p = before ++ (p.text ++ p.gap)
 
@@ -162,7 +162,7 @@ unfoldable pub written : List ℕ → List Piece → List ℕ
 written before [] = before
 written before (p ∷ ps) = written (put before p) ps
 
--- items with a mark between them
+-- items, separated by a mark
 abbrev pub separated : {A : Type 0} → Terminal → (A → List Piece) → List A → List Piece
 separated mark f [] = []
 separated mark f (x ∷ xs) = f x ++ together (map (λ y. key mark ∷ f y) xs)
@@ -176,7 +176,7 @@ name_pieces n = name_piece n ∷ []
 abbrev pub variable_pieces : Name → List Piece
 variable_pieces n = variable_piece n ∷ []
 
--- literals: a `-` is a token of its own
+-- literals; the `-` of a negative number is a token of its own
 abbrev pub value_pieces : Value → List Piece
 value_pieces (value.Int (pos n)) = number_piece n ∷ []
 value_pieces (value.Int (negsuc n)) = key word.Minus ∷ number_piece (suc n) ∷ []
@@ -195,8 +195,8 @@ type_pieces (column.Text n) = key word.Text ∷ key word.Open ∷ number_piece n
 abbrev pub column_pieces : ColDef → List Piece
 column_pieces c = name_piece c.name ∷ type_pieces c.kind
 
--- Expressions. A level is how tight an operator binds: OR 0, AND 1, NOT 2, comparisons 3, sums 4, terms 5, a sign 6, and all
--- else 7. What binds looser than its place asks for stands in parentheses.
+-- Expressions. The level of an operator is its precedence: OR 0, AND 1, NOT 2, comparisons 3, sums 4, terms 5, a sign
+-- 6, and all else 7. An operand that binds looser than its operator allows is printed in parentheses.
 abbrev pub level : TwoOp → ℕ
 level Or = 0
 level And = 1
@@ -210,13 +210,13 @@ level Rem = 5
 level Left = 7
 level Contains = 7
 
--- LEFT and CONTAINS have their arguments in parentheses
+-- LEFT and CONTAINS are printed as functions
 abbrev pub is_call : TwoOp → Bool
 is_call Left = true
 is_call Contains = true
 is_call op = false
 
--- operators join from the left, but comparisons don't join
+-- binary operators are left-associative; comparisons aren't associative
 abbrev pub left_level : TwoOp → ℕ
 left_level (Compare op) = 4
 left_level op = if is_call op then 0 else level op
@@ -245,7 +245,7 @@ two_word Rem = word.Percent
 two_word Left = word.Left
 two_word Contains = word.Contains
 
--- parentheses, where they are needed
+-- parentheses, if they are needed
 abbrev pub opened : Bool → List Piece
 opened true = key word.Open ∷ []
 opened false = []
@@ -258,7 +258,7 @@ closed false = []
 abbrev pub Leveled : Type 0
 Leveled = ℕ → List Piece
 
--- what stands before the operand of a prefix, the level of the operand, and what stands behind it
+-- prefix operators: the tokens before the operand, its level, and the tokens after it
 abbrev pub one_lead : OneOp → Leveled
 one_lead Neg n = opened (nat_lt 6 n) ++ key word.Minus ∷ []
 one_lead Not n = opened (nat_lt 2 n) ++ key word.Not ∷ []
@@ -277,7 +277,7 @@ one_tail TextOf n = key word.Close ∷ []
 abbrev pub one_pieces : OneOp → Leveled → Leveled
 one_pieces op a n = one_lead op n ++ (a (one_level op) ++ one_tail op n)
 
--- what stands before, between and behind the operands of an operator
+-- binary operators: the tokens before, between and after the operands
 abbrev pub two_lead : TwoOp → Leveled
 two_lead op n = if is_call op then key (two_word op) ∷ key word.Open ∷ [] else opened (nat_lt (level op) n)
 
@@ -307,7 +307,7 @@ expr_pieces = fold-Expr Leveled Leveled kind_step expr_step
 abbrev pub whole_expr : Expr → List Piece
 whole_expr e = expr_pieces e 0
 
--- the clauses of a statement; a sum stands on the right side of a test
+-- the clauses of a statement; the right side of a test is a sum
 abbrev pub cond_pieces : Cond → List Piece
 cond_pieces c = name_piece c.column ∷ key (op_word c.op) ∷ expr_pieces c.right 4
 
@@ -344,7 +344,7 @@ distinct_pieces false = []
 abbrev pub set_pieces : SetItem → List Piece
 set_pieces i = name_piece i.column ∷ key word.Equal ∷ whole_expr i.right
 
--- an ELSE with no statements isn't printed
+-- an ELSE without statements isn't printed
 abbrev pub else_lead : {A : Type 0} → List A → List Piece
 else_lead [] = []
 else_lead (x ∷ xs) = key word.Else ∷ []
@@ -357,7 +357,7 @@ abbrev pub query_pieces : Bool → List Name → Name → List Cond → List Sor
 query_pieces distinct columns table conds sorts =
     key word.Select ∷ (distinct_pieces distinct ++ (listed name_pieces columns ++ key word.From ∷ name_piece table ∷ (conds_pieces conds ++ sorts_pieces sorts)))
 
--- a statement, from the pieces of those inside it
+-- a statement, given the pieces of its nested statements
 abbrev pub statement_step : Stmt-F (List Piece) → List Piece
 statement_step (Assign token to right) = key word.Set ∷ variable_piece to ∷ key word.Equal ∷ (whole_expr right ++ line_end ∷ [])
 statement_step (Select token columns to table conds sorts offset) =
@@ -412,7 +412,7 @@ procedure_pieces p =
     key word.Create ∷ key word.Procedure ∷ name_piece p.name ∷ key word.Open ∷ (listed param_pieces p.params ++ key word.Close ∷ (together (map declared_pieces p.vars)
     ++ key word.Begin ∷ (statements_pieces p.body ++ key word.End ∷ line_end ∷ [])))
 
--- a block: its bytes between the line `<<` and the line `>>`, and an open one without that
+-- a block: its bytes between the lines `<<` and `>>`; an open block has no line `>>`
 abbrev pub block_piece : List ℕ → Bool → Piece
 block_piece content true = alone word.Block (codes "<<\n" ++ (content ++ codes ">>\n"))
 block_piece content false = alone word.OpenBlock (codes "<<\n" ++ content)
@@ -437,6 +437,6 @@ pieces_of bytes i = item_pieces bytes i.kind
 abbrev pub script_pieces : List ℕ → Script → List Piece
 script_pieces bytes s = together (map (pieces_of bytes) s.items)
 
--- the print of a script, whose blocks stand in these bytes
+-- a script as text, with its blocks taken from these bytes
 abbrev pub printed : List ℕ → Script → List ℕ
 printed bytes s = written [] (script_pieces bytes s)

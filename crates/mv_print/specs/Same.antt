@@ -1,4 +1,4 @@
--- Trees that are the same but for places: the numbers of their tokens, and where their blocks stand.
+-- Trees that are the same except for positions: the numbers of their tokens, and where their blocks are.
 use Rattle.std.specs.Prelude.{◌≡◌, ℕ, ◌+◌, List, [], map, slice_range}
 use Rattle.std.specs.Option.{option_map}
 use Rattle.mv_ast.specs.declared.tree.Agg.{Agg}
@@ -33,7 +33,7 @@ use Rattle.mv_ast.specs.declared.tree.Stmt.TheVariants as statement
 use Rattle.mv_ast.specs.declared.tree.VarDef.{VarDef}
 use Rattle.mv_ast.specs.Trees.{leaf}
 
--- the same with each place at 0
+-- the same with each position set to 0
 abbrev pub placeless_name : Name → Name
 placeless_name n = record { text = n.text; token = 0 }
 
@@ -129,10 +129,11 @@ block_bytes bytes (Copy c) = span_bytes bytes c.block
 block_bytes bytes (Journal s) = span_bytes bytes s
 block_bytes bytes other = []
 
--- an item without its places, and the bytes of its block
+-- an item without its positions, and the bytes of its block
 abbrev pub placeless : List ℕ → Item → ItemKind × List ℕ
 placeless bytes i = (placeless_kind i.kind, block_bytes bytes i.kind)
 
--- The script of these bytes is the script of those but for places: without them its items are the same, and its blocks have the same bytes.
+-- The scripts are the same except for positions: without positions their items are equal, and their blocks have equal
+-- bytes.
 abbrev pub SameButPlaces : List ℕ → Script → List ℕ → Script → Type 0
 SameButPlaces bytes s other t = map (placeless bytes) s.items ≡ map (placeless other) t.items

@@ -1,4 +1,4 @@
-//! Parts of statements and of items.
+//! Prints the parts of statements and of items.
 
 ghost use Rattle.std.specs.Prelude.{◌≡◌, ◌∷◌, [], List as Seq, OnOk};
 ghost use Rattle.mv_print.specs.Printing.{Piece, written, name_pieces, literal_pieces, row_pieces, type_pieces, column_pieces, whole_expr, cond_pieces, conds_pieces, direction_pieces, sort_pieces, sorts_pieces, offset_pieces, agg_pieces, distinct_pieces, set_pieces, name_piece, key};
@@ -122,7 +122,7 @@ pub(crate) fn write_sorts(sorts: &[Sort], text: &mut List<u8>) -> Result<(), NoM
     write_listed(sorts, text)
 }
 
-/// Adds OFFSET, if it is there.
+/// Adds OFFSET and its expression, if there is one.
 #[tactic(auto, unfolding(crate::specs::Printing::written))]
 pub(crate) fn write_offset(offset: &Option<Expr>, text: &mut List<u8>) -> Result<(), NoMemory>
     ensures { OnOk result (text.new ≡ written text.old (offset_pieces offset.now)) }
@@ -136,7 +136,7 @@ pub(crate) fn write_offset(offset: &Option<Expr>, text: &mut List<u8>) -> Result
     }
 }
 
-/// Adds a function of a column, in parentheses.
+/// Adds a function and its column in parentheses.
 #[tactic(auto, unfolding(crate::specs::Printing::written))]
 fn write_of(word: Terminal, column: &Name, text: &mut List<u8>) -> Result<(), NoMemory>
     ensures { OnOk result (text.new ≡ written text.old (key word ∷ key Terminal.Open ∷ name_piece column.now ∷ key Terminal.Close ∷ [])) }
@@ -171,7 +171,7 @@ pub(crate) fn write_agg(agg: &Agg, text: &mut List<u8>) -> Result<(), NoMemory>
     }
 }
 
-/// Adds DISTINCT, if it is there.
+/// Adds DISTINCT, if it is set.
 #[tactic(auto, unfolding(crate::specs::Printing::written))]
 pub(crate) fn write_distinct(distinct: bool, text: &mut List<u8>) -> Result<(), NoMemory>
     ensures { OnOk result (text.new ≡ written text.old (distinct_pieces distinct)) }

@@ -1,4 +1,4 @@
-//! Expressions.
+//! Prints expressions.
 
 ghost use Rattle.std.specs.Prelude.{◌≡◌, OnOk};
 ghost use Rattle.mv_print.specs.Printing.{written, put, level, is_call, left_level, right_level, op_word, two_word, opened, closed, one_lead, one_level, one_tail, two_lead, two_middle, two_tail, expr_pieces};
@@ -10,7 +10,7 @@ use mv_values::list::List;
 use mv_values::memory::NoMemory;
 use mv_values::op::Op;
 
-/// How tight an operator binds.
+/// Returns the precedence level of an operator. A higher level binds tighter.
 fn level(op: TwoOp) -> u8
     ensures { result ≡ level op }
 {
@@ -24,7 +24,7 @@ fn level(op: TwoOp) -> u8
     }
 }
 
-/// Whether the operands stand in parentheses behind the operator.
+/// Whether the operator is printed as a function, with its operands in parentheses.
 fn is_call(op: TwoOp) -> bool
     ensures { result ≡ is_call op }
 {
@@ -34,7 +34,7 @@ fn is_call(op: TwoOp) -> bool
     }
 }
 
-/// The level of the left operand.
+/// Returns the level of the left operand.
 fn left_level(op: TwoOp) -> u8
     ensures { result ≡ left_level op }
 {
@@ -45,7 +45,7 @@ fn left_level(op: TwoOp) -> u8
     }
 }
 
-/// The level of the right operand.
+/// Returns the level of the right operand.
 fn right_level(op: TwoOp) -> u8
     ensures { result ≡ right_level op }
 {
@@ -59,7 +59,7 @@ fn right_level(op: TwoOp) -> u8
     }
 }
 
-/// The symbol of a comparison.
+/// Returns the symbol of a comparison.
 pub(crate) fn op_word(op: Op) -> Terminal
     ensures { result ≡ op_word op }
 {
@@ -73,7 +73,7 @@ pub(crate) fn op_word(op: Op) -> Terminal
     }
 }
 
-/// The word or the symbol of an operator.
+/// Returns the keyword or the symbol of an operator.
 fn two_word(op: TwoOp) -> Terminal
     ensures { result ≡ two_word op }
 {
@@ -116,7 +116,7 @@ fn write_closed(is_needed: bool, text: &mut List<u8>) -> Result<(), NoMemory>
     }
 }
 
-/// Adds what stands before the operand of a prefix.
+/// Adds the tokens before the operand of a prefix operator.
 #[tactic(auto, using(crate::proofs::Writing::written_joined), unfolding(crate::specs::Printing::written))]
 fn write_one_lead(op: OneOp, outer: u8, text: &mut List<u8>) -> Result<(), NoMemory>
     ensures { OnOk result (text.new ≡ written text.old (one_lead op outer)) }
@@ -137,7 +137,7 @@ fn write_one_lead(op: OneOp, outer: u8, text: &mut List<u8>) -> Result<(), NoMem
     }
 }
 
-/// The level of the operand of a prefix.
+/// Returns the level of the operand of a prefix operator.
 fn one_level(op: OneOp) -> u8
     ensures { result ≡ one_level op }
 {
@@ -148,7 +148,7 @@ fn one_level(op: OneOp) -> u8
     }
 }
 
-/// Adds what stands behind the operand of a prefix.
+/// Adds the tokens after the operand of a prefix operator.
 #[tactic(auto, unfolding(crate::specs::Printing::written))]
 fn write_one_tail(op: OneOp, outer: u8, text: &mut List<u8>) -> Result<(), NoMemory>
     ensures { OnOk result (text.new ≡ written text.old (one_tail op outer)) }
@@ -160,7 +160,7 @@ fn write_one_tail(op: OneOp, outer: u8, text: &mut List<u8>) -> Result<(), NoMem
     }
 }
 
-/// Adds what stands before the operands of an operator.
+/// Adds the tokens before the operands of a binary operator.
 #[tactic(auto, unfolding(crate::specs::Printing::written))]
 fn write_two_lead(op: TwoOp, outer: u8, text: &mut List<u8>) -> Result<(), NoMemory>
     ensures { OnOk result (text.new ≡ written text.old (two_lead op outer)) }
@@ -173,7 +173,7 @@ fn write_two_lead(op: TwoOp, outer: u8, text: &mut List<u8>) -> Result<(), NoMem
     }
 }
 
-/// The word between the operands of an operator.
+/// Returns the token between the operands of a binary operator.
 fn two_middle(op: TwoOp) -> Terminal
     ensures { result ≡ two_middle op }
 {
@@ -184,7 +184,7 @@ fn two_middle(op: TwoOp) -> Terminal
     }
 }
 
-/// Adds what stands behind the operands of an operator.
+/// Adds the tokens after the operands of a binary operator.
 #[tactic(auto, unfolding(crate::specs::Printing::written))]
 fn write_two_tail(op: TwoOp, outer: u8, text: &mut List<u8>) -> Result<(), NoMemory>
     ensures { OnOk result (text.new ≡ written text.old (two_tail op outer)) }
@@ -196,7 +196,7 @@ fn write_two_tail(op: TwoOp, outer: u8, text: &mut List<u8>) -> Result<(), NoMem
     }
 }
 
-/// Adds an expression that stands at a level, in parentheses where it binds looser.
+/// Adds an expression at a level, in parentheses if it binds looser than the level.
 #[tactic(auto, using(crate::proofs::Writing::written_joined), unfolding(crate::specs::Printing::written))]
 pub(crate) fn write_expr(expr: &Expr, outer: u8, text: &mut List<u8>) -> Result<(), NoMemory>
     ensures { OnOk result (text.new ≡ written text.old (expr_pieces expr.now outer)) }

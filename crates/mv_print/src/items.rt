@@ -1,4 +1,4 @@
-//! Items of a script.
+//! Prints the items of a script.
 
 ghost use Rattle.std.specs.Prelude.{◌≡◌, ◌++◌, ◌∷◌, [], map, slice_range, ◌+◌, OnOk};
 ghost use Rattle.mv_ast.specs.Limits.{together};
@@ -15,7 +15,7 @@ use mv_ast::tree::{
 use mv_values::list::List;
 use mv_values::memory::NoMemory;
 
-/// Adds columns, each with a comma behind it.
+/// Adds columns, each followed by a comma.
 #[tactic(auto, using(crate::proofs::Writing::written_joined), unfolding(crate::specs::Printing::written))]
 fn write_columns(columns: &[ColDef], text: &mut List<u8>) -> Result<(), NoMemory>
     ensures { OnOk result (text.new ≡ written text.old (together (map column_and_comma columns.now))) }
@@ -113,7 +113,7 @@ fn write_procedure(procedure: &ProcDef, text: &mut List<u8>) -> Result<(), NoMem
     write_end(text)
 }
 
-/// The bytes of a block, as far as there are any.
+/// Returns the bytes of a block, cut off at the end of the input.
 fn content<'a>(bytes: &'a [u8], span: Span) -> &'a [u8]
     ensures { result.now ≡ slice_range bytes.now span.at (span.at + span.len) }
 {
@@ -177,7 +177,7 @@ fn write_item(item: &Item, bytes: &[u8], text: &mut List<u8>) -> Result<(), NoMe
     }
 }
 
-/// Adds items, one behind another.
+/// Adds items, one after another.
 pub(crate) fn write_items(items: &[Item], bytes: &[u8], text: &mut List<u8>) -> Result<(), NoMemory>
     ensures { OnOk result (text.new ≡ written text.old (together (map (pieces_of bytes.now) items.now))) }
 {

@@ -1,4 +1,4 @@
-//! The print of a script.
+//! Prints a script as text.
 #![tactic(auto)]
 
 mod clauses;

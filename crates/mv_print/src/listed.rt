@@ -1,4 +1,4 @@
-//! Lists.
+//! Prints lists.
 
 ghost use Rattle.std.specs.Prelude.{◌≡◌, ◌∷◌, List as Seq, map, OnOk};
 ghost use Rattle.mv_ast.specs.Limits.{together};
@@ -10,16 +10,16 @@ use mv_ast::tree::Name;
 use mv_values::list::List;
 use mv_values::memory::NoMemory;
 
-/// What can be printed.
+/// A part of a script that can be printed.
 pub(crate) trait Printed {
     ghost pieces: { Self → Seq Piece };
 
-    /// Adds the print at the end of a text.
+    /// Adds the printed part to the end of a text.
     fn write(&self, text: &mut List<u8>) -> Result<(), NoMemory>
         ensures { OnOk result (text.new ≡ written text.old (pieces self.now)) };
 }
 
-/// Adds items, one behind another.
+/// Adds items, one after another.
 pub(crate) fn write_all<T: Printed>(items: &[T], text: &mut List<u8>) -> Result<(), NoMemory>
     ensures { OnOk result (text.new ≡ written text.old (together (map T.pieces items.now))) }
 {
@@ -29,7 +29,7 @@ pub(crate) fn write_all<T: Printed>(items: &[T], text: &mut List<u8>) -> Result<
     Ok(())
 }
 
-/// Adds items, each behind a mark.
+/// Adds items, each after a mark.
 #[tactic(auto, unfolding(crate::specs::Printing::written))]
 fn write_more<T: Printed>(mark: Terminal, items: &[T], text: &mut List<u8>) -> Result<(), NoMemory>
     ensures { OnOk result (text.new ≡ written text.old (together (map (λ y. key mark ∷ T.pieces y) items.now))) }
@@ -41,7 +41,7 @@ fn write_more<T: Printed>(mark: Terminal, items: &[T], text: &mut List<u8>) -> R
     Ok(())
 }
 
-/// Adds items with a mark between them.
+/// Adds items, separated by a mark.
 #[tactic(auto, using(crate::proofs::Writing::written_joined), unfolding(crate::specs::Printing::written))]
 pub(crate) fn write_separated<T: Printed>(
     mark: Terminal,
@@ -57,14 +57,14 @@ pub(crate) fn write_separated<T: Printed>(
     write_more(mark, rest, text)
 }
 
-/// Adds items with commas between them.
+/// Adds items, separated by commas.
 pub(crate) fn write_listed<T: Printed>(items: &[T], text: &mut List<u8>) -> Result<(), NoMemory>
     ensures { OnOk result (text.new ≡ written text.old (listed T.pieces items.now)) }
 {
     write_separated(Terminal::Comma, items, text)
 }
 
-/// Adds variables, each behind a comma.
+/// Adds variables, each after a comma.
 #[tactic(auto, unfolding(crate::specs::Printing::written))]
 fn write_more_variables(names: &[Name], text: &mut List<u8>) -> Result<(), NoMemory>
     ensures { OnOk result (text.new ≡ written text.old (together (map (λ y. key Terminal.Comma ∷ variable_pieces y) names.now))) }
@@ -76,7 +76,7 @@ fn write_more_variables(names: &[Name], text: &mut List<u8>) -> Result<(), NoMem
     Ok(())
 }
 
-/// Adds variables with commas between them.
+/// Adds variables, separated by commas.
 #[tactic(auto, using(crate::proofs::Writing::written_joined), unfolding(crate::specs::Printing::written))]
 pub(crate) fn write_variables(names: &[Name], text: &mut List<u8>) -> Result<(), NoMemory>
     ensures { OnOk result (text.new ≡ written text.old (listed variable_pieces names.now)) }

@@ -1,4 +1,4 @@
-//! Single tokens.
+//! Prints single tokens.
 
 ghost use Rattle.std.specs.Prelude.{◌≡◌, ◌++◌, ◌∷◌, [], ℕ, pos, codes, decimal, slice_range, OnOk};
 ghost use Rattle.mv_lex.specs.Spelling.{doubled, quoted};
@@ -55,7 +55,7 @@ pub(crate) fn write_number(number: u64, text: &mut List<u8>) -> Result<(), NoMem
     text.push(b' ')
 }
 
-/// Adds the bytes of a text with its quotes doubled.
+/// Adds the bytes of a text, with each quote doubled.
 fn write_doubled(content: &[u8], text: &mut List<u8>) -> Result<(), NoMemory>
     ensures { OnOk result (text.new ≡ text.old ++ doubled content.now) }
 {
@@ -77,7 +77,7 @@ pub(crate) fn write_text(content: &[u8], text: &mut List<u8>) -> Result<(), NoMe
     text.append(b"' ")
 }
 
-/// Adds a block of these bytes.
+/// Adds a block with these bytes. An open block has no closing line.
 #[tactic(auto, unfolding(crate::specs::Printing::put))]
 pub(crate) fn write_block(content: &[u8], closed: bool, text: &mut List<u8>) -> Result<(), NoMemory>
     ensures { OnOk result (text.new ≡ put text.old (block_piece content.now closed)) }

@@ -1,4 +1,4 @@
-//! The print.
+//! The entry point of the printer.
 
 ghost use Rattle.std.specs.Prelude.{◌≡◌, List as Seq, IfOk};
 ghost use Rattle.mv_lex.specs.declared.token.Token.{Token};
@@ -13,19 +13,23 @@ use mv_values::list::List;
 use mv_values::memory::NoMemory;
 use std::alloc::Global;
 
-/// The text of a script whose blocks stand in these bytes. Keywords and names are in lower case, a
-/// space parts two tokens, and each statement and each item ends its line. Parentheses stand only
-/// where the grammar needs them. It takes time in the length of the text.
+/// Returns the text of a script. The bytes are those that the script was parsed from; its blocks are
+/// copied from them. Keywords and names are in lower case. One space separates two tokens, and each
+/// statement and each item ends its line. Parentheses are printed only where the grammar needs them.
+/// Takes time linear in the length of the text.
+///
+/// # Errors
+/// `NoMemory` if memory runs out.
 pub fn print_script(alloc: Global, script: &Script, bytes: &[u8]) -> Result<List<u8>, NoMemory>
-    // The text is that of the script's pieces.
+    // The text is the pieces of the script, one after another.
     ensures text { IfOk result (λ text. text ≡ printed bytes.now script.now) }
-    // The print of a script that these bytes are is read back as the same script but for places.
+    // If the script was parsed from these bytes, the text parses as the same script, except for positions.
     ensures read_back { (tokens : Seq Token) → AreTokens bytes.now tokens → IsScript bytes.now tokens script.now → IfOk result (λ text. ReadsBack bytes.now script.now text) }
 {
     write_script(alloc, script, bytes)
 }
 
-/// The text of the script's pieces.
+/// Returns the pieces of the script as text.
 fn write_script(alloc: Global, script: &Script, bytes: &[u8]) -> Result<List<u8>, NoMemory>
     ensures { IfOk result (λ text. text ≡ printed bytes.now script.now) }
 {

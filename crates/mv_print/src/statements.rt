@@ -1,4 +1,4 @@
-//! Statements.
+//! Prints statements.
 
 ghost use Rattle.std.specs.Prelude.{◌≡◌, ◌++◌, ◌∷◌, [], map, OnOk};
 ghost use Rattle.mv_ast.specs.Limits.{together};
@@ -13,7 +13,7 @@ use mv_ast::tree::{Agg, Cond, Expr, Name, SetItem, Sort, Stmt};
 use mv_values::list::List;
 use mv_values::memory::NoMemory;
 
-/// SET.
+/// Adds SET.
 #[tactic(auto, using(crate::proofs::Writing::written_joined), unfolding(crate::specs::Printing::written))]
 fn write_assign(to: &Name, right: &Expr, text: &mut List<u8>) -> Result<(), NoMemory>
     ensures { OnOk result (text.new ≡ written text.old (key Terminal.Set ∷ variable_piece to.now ∷ key Terminal.Equal ∷ (whole_expr right.now ++ line_end ∷ []))) }
@@ -25,7 +25,7 @@ fn write_assign(to: &Name, right: &Expr, text: &mut List<u8>) -> Result<(), NoMe
     write_end(text)
 }
 
-/// FROM, a table and its tests.
+/// Adds FROM, a table and the tests of WHERE.
 #[tactic(auto, unfolding(crate::specs::Printing::written))]
 fn write_from(table: &Name, conds: &[Cond], text: &mut List<u8>) -> Result<(), NoMemory>
     ensures { OnOk result (text.new ≡ written text.old (key Terminal.From ∷ name_piece table.now ∷ conds_pieces conds.now)) }
@@ -35,7 +35,7 @@ fn write_from(table: &Name, conds: &[Cond], text: &mut List<u8>) -> Result<(), N
     write_conds(conds, text)
 }
 
-/// SELECT INTO.
+/// Adds SELECT of columns.
 #[tactic(auto, using(crate::proofs::Writing::written_joined), unfolding(crate::specs::Printing::written))]
 fn write_select(
     columns: &[Name],
@@ -59,7 +59,7 @@ fn write_select(
     write_end(text)
 }
 
-/// SELECT of a total.
+/// Adds SELECT of an aggregate.
 #[tactic(auto, using(crate::proofs::Writing::written_joined), unfolding(crate::specs::Printing::written))]
 fn write_total(
     agg: &Agg,
@@ -78,7 +78,7 @@ fn write_total(
     write_end(text)
 }
 
-/// INSERT.
+/// Adds INSERT.
 #[tactic(auto, using(crate::proofs::Writing::written_joined), unfolding(crate::specs::Printing::written))]
 fn write_insert(table: &Name, values: &[Expr], text: &mut List<u8>) -> Result<(), NoMemory>
     ensures { OnOk result (text.new ≡ written text.old (key Terminal.Insert ∷ key Terminal.Into ∷ name_piece table.now ∷ key Terminal.Values ∷ key Terminal.Open ∷ (listed whole_expr values.now ++ key Terminal.Close ∷ line_end ∷ []))) }
@@ -93,7 +93,7 @@ fn write_insert(table: &Name, values: &[Expr], text: &mut List<u8>) -> Result<()
     write_end(text)
 }
 
-/// UPDATE.
+/// Adds UPDATE.
 #[tactic(auto, using(crate::proofs::Writing::written_joined), unfolding(crate::specs::Printing::written))]
 fn write_update(
     table: &Name,
@@ -111,7 +111,7 @@ fn write_update(
     write_end(text)
 }
 
-/// DELETE.
+/// Adds DELETE.
 #[tactic(auto, using(crate::proofs::Writing::written_joined), unfolding(crate::specs::Printing::written))]
 fn write_delete(table: &Name, conds: &[Cond], text: &mut List<u8>) -> Result<(), NoMemory>
     ensures { OnOk result (text.new ≡ written text.old (key Terminal.Delete ∷ key Terminal.From ∷ name_piece table.now ∷ (conds_pieces conds.now ++ line_end ∷ []))) }
@@ -121,7 +121,7 @@ fn write_delete(table: &Name, conds: &[Cond], text: &mut List<u8>) -> Result<(),
     write_end(text)
 }
 
-/// PRINT.
+/// Adds PRINT.
 #[tactic(auto, using(crate::proofs::Writing::written_joined), unfolding(crate::specs::Printing::written))]
 fn write_print(values: &[Expr], text: &mut List<u8>) -> Result<(), NoMemory>
     ensures { OnOk result (text.new ≡ written text.old (key Terminal.Print ∷ (listed whole_expr values.now ++ line_end ∷ []))) }
@@ -131,7 +131,7 @@ fn write_print(values: &[Expr], text: &mut List<u8>) -> Result<(), NoMemory>
     write_end(text)
 }
 
-/// ROLLBACK.
+/// Adds ROLLBACK.
 #[tactic(auto, unfolding(crate::specs::Printing::written))]
 fn write_rollback(reason: &[u8], text: &mut List<u8>) -> Result<(), NoMemory>
     ensures { OnOk result (text.new ≡ written text.old (key Terminal.Rollback ∷ text_piece reason.now ∷ line_end ∷ [])) }
@@ -141,7 +141,7 @@ fn write_rollback(reason: &[u8], text: &mut List<u8>) -> Result<(), NoMemory>
     write_end(text)
 }
 
-/// What a loop begins with: FOR, its row, and IN.
+/// Adds the start of a loop: FOR, its row, and IN.
 #[tactic(auto, unfolding(crate::specs::Printing::written))]
 fn write_for(row: &Name, text: &mut List<u8>) -> Result<(), NoMemory>
     ensures { OnOk result (text.new ≡ written text.old (key Terminal.For ∷ variable_piece row.now ∷ key Terminal.In ∷ [])) }
@@ -151,7 +151,7 @@ fn write_for(row: &Name, text: &mut List<u8>) -> Result<(), NoMemory>
     write_key(Terminal::In, text)
 }
 
-/// The SELECT of a loop.
+/// Adds the SELECT of a loop.
 #[tactic(auto, using(crate::proofs::Writing::written_joined), unfolding(crate::specs::Printing::written))]
 fn write_query(
     distinct: bool,
@@ -170,7 +170,7 @@ fn write_query(
     write_sorts(sorts, text)
 }
 
-/// END, a word and `;`.
+/// Adds END, a keyword and `;`.
 #[tactic(auto, unfolding(crate::specs::Printing::written))]
 fn write_end_of(word: Terminal, text: &mut List<u8>) -> Result<(), NoMemory>
     ensures { OnOk result (text.new ≡ written text.old (key Terminal.End ∷ key word ∷ line_end ∷ [])) }
@@ -180,7 +180,7 @@ fn write_end_of(word: Terminal, text: &mut List<u8>) -> Result<(), NoMemory>
     write_end(text)
 }
 
-/// ELSE, where statements follow.
+/// Adds ELSE, if statements follow.
 #[tactic(auto, unfolding(crate::specs::Printing::written))]
 fn write_else(no: &[Stmt], text: &mut List<u8>) -> Result<(), NoMemory>
     ensures { OnOk result (text.new ≡ written text.old (else_lead no.now)) }
@@ -191,7 +191,7 @@ fn write_else(no: &[Stmt], text: &mut List<u8>) -> Result<(), NoMemory>
     write_key(Terminal::Else, text)
 }
 
-/// Adds statements, one behind another.
+/// Adds statements, one after another.
 #[cycle(statements)]
 pub(crate) fn write_statements(statements: &[Stmt], text: &mut List<u8>) -> Result<(), NoMemory>
     ensures { OnOk result (text.new ≡ written text.old (statements_pieces statements.now)) }
@@ -202,7 +202,7 @@ pub(crate) fn write_statements(statements: &[Stmt], text: &mut List<u8>) -> Resu
     Ok(())
 }
 
-/// Adds a statement with those inside it.
+/// Adds a statement, nested statements included.
 #[cycle(statements)]
 #[tactic(auto, using(crate::proofs::Writing::written_joined, crate::proofs::Writing::else_mapped), unfolding(crate::specs::Printing::written))]
 fn write_statement(statement: &Stmt, text: &mut List<u8>) -> Result<(), NoMemory>

@@ -5,7 +5,7 @@ ghost use Rattle.mv_print.specs.Printing.{spelled};
 
 use mv_ast::lexeme::Terminal;
 
-/// The bytes of a keyword or a symbol, in lower case. All other tokens have none here.
+/// Returns the bytes of a keyword or a symbol, in lower case, and no bytes for other tokens.
 pub(crate) fn spelled(kind: Terminal) -> &'static [u8]
     ensures { result.now ≡ spelled kind }
 {
