@@ -1,6 +1,6 @@
--- What the fields of a record are to the columns of a table. The forms are this project's own: a number is an optional
--- `-` and decimal digits, leading zeros allowed, within 64 bits; a text is bytes from 32 to 126, no more than its column
--- allows.
+-- How the fields of a record are parsed as values of columns. The forms are this project's own: a number is an optional
+-- `-` and decimal digits, leading zeros allowed, in the range of 64-bit signed integers; a text is bytes from 32 to
+-- 126, no more than its column allows.
 use Rattle.std.specs.Prelude.{◌≡◌, ◌++◌, ◌∷◌, ◌+◌, ◌^◌, ◌==◌, ◌&&◌, if◌then◌else◌, ℕ, Bool, List, [], map, length, Option, Some, None, option_map, ℤ, pos, neg_ℤ, nat_lt, nat_le}
 use Rattle.std.specs.List.{list_all}
 use Rattle.std.specs.Str.{all_ascii_digits}
@@ -13,47 +13,47 @@ use Rattle.mv_values.specs.declared.schema.Column.{Column}
 use Rattle.mv_csvio.specs.declared.fault.CopyFault.{CopyFault}
 use Rattle.mv_csvio.specs.declared.fault.CopyFault.TheVariants as fault
 
--- decimal digits, at least one
+-- one or more decimal digits
 abbrev pub are_digits : List ℕ → Bool
 are_digits field = all_ascii_digits field && nat_lt 0 (length field)
 
--- the number that digits are, and the negative one that digits behind a `-` are
+-- the number that the digits spell, and the negative number that they spell after a `-`
 abbrev pub natural : List ℕ → Option ℤ
 natural digits = if are_digits digits && nat_lt (digits_value 10 digits) (2 ^ 63) then Some (pos (digits_value 10 digits)) else None
 
 abbrev pub negative : List ℕ → Option ℤ
 negative digits = if are_digits digits && nat_le (digits_value 10 digits) (2 ^ 63) then Some (neg_ℤ (pos (digits_value 10 digits))) else None
 
--- the number that a field is, if it is one
+-- the field as a number, if it is one
 abbrev pub number_in : List ℕ → Option ℤ
 number_in [] = None
 number_in (b ∷ bs) = if b == 45 then negative bs else natural (b ∷ bs)
 
--- a byte that a text may have
+-- a byte that a text may contain
 abbrev pub is_printable : ℕ → Bool
 is_printable b = nat_le 32 b && nat_le b 126
 
--- the field is a text of at most n bytes
+-- the field is a printable text of at most n bytes
 abbrev pub is_text : ℕ → List ℕ → Bool
 is_text n field = nat_le (length field) n && list_all is_printable field
 
--- the value that a field is to a column of the type, if it is one
+-- the field as a value of the type, if it is one
 abbrev pub value_in : ColType → List ℕ → Option Value
 value_in column.Int field = option_map value.Int (number_in field)
 value_in (column.Text n) field = if is_text n field then Some (value.Text field) else None
 
--- what each field is to its column
+-- each field as a value of its column
 unfoldable pub values_in : List Column → List (List ℕ) → List (Option Value)
 values_in [] fields = []
 values_in (c ∷ cs) [] = []
 values_in (c ∷ cs) (f ∷ fs) = value_in c.kind f ∷ values_in cs fs
 
--- the record is this row: it has a field for each column, which is its value
+-- the record is this row: it has one field for each column, and each field is the column's value
 abbrev pub IsRow : List Column → List (List ℕ) → List Value → Type 0
 IsRow columns fields row = (length fields ≡ length columns) × (values_in columns fields ≡ map Some row)
 
--- the record has a field for each column, and the one with this number is the first that is no value of its column;
--- columns count from 1
+-- the record has one field for each column, and the field with this number is the first that isn't a value of its
+-- column; columns count from 1
 abbrev pub IsFirstMisfit : List Column → List (List ℕ) → ℕ → Type 0
 IsFirstMisfit columns fields number =
     (length fields ≡ length columns)
@@ -61,7 +61,7 @@ IsFirstMisfit columns fields number =
     × (values_in columns fields ≡ map Some front ++ None ∷ rest)
     × (number ≡ length front + 1)
 
--- why the record with this number is no row
+-- why the record with this number isn't a row
 abbrev pub IsNoRow : List Column → List (List ℕ) → ℕ → CopyFault → Type 0
 IsNoRow columns fields number (fault.Field r c) = (r ≡ number) × IsFirstMisfit columns fields c
 IsNoRow columns fields number (fault.Width r) = (r ≡ number) × ¬ (length fields ≡ length columns)

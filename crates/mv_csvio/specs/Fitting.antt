@@ -1,4 +1,4 @@
--- Which rows a table may have.
+-- The rows that a table may have.
 use Rattle.std.specs.Prelude.{◌≡◌, ◌≤◌, ◌<◌, List, All, length}
 use Rattle.std.specs.List.{AllZip}
 use Rattle.std.specs.Int.RustNames.{FitsSigned}
@@ -12,21 +12,21 @@ use Rattle.mv_values.specs.declared.schema.TableInfo.{TableInfo}
 use Rattle.mv_values.specs.Columns.{columns_of}
 use Rattle.mv_values.specs.Printable.{IsPrintable}
 
--- the value is one of the type: a number of 64 bits, or a text that can be printed and is no longer than the type says
+-- the value has the type: a 64-bit signed number, or a printable text no longer than the type allows
 abbrev pub FitsType : ColType → Value → Type 0
 FitsType column.Int (value.Int z) = FitsSigned w64 z
 FitsType column.Int (value.Text t) = ⊥
 FitsType (column.Text n) (value.Int z) = ⊥
 FitsType (column.Text n) (value.Text t) = All IsPrintable t × (length t ≤ n)
 
--- the row has a value of its type for each column
+-- the row has a value of the right type for each column
 abbrev pub HasTypes : TableInfo → List Value → Type 0
 HasTypes table row = AllZip (λ c v. FitsType c.kind v) table.columns row
 
--- it does, and stands under its key
+-- the row has the right types and is stored under its key
 abbrev pub FitsTable : TableInfo → Keyed → Type 0
 FitsTable table item = HasTypes table item.row × (item.key ≡ columns_of item.row table.key)
 
--- every row does, and the table has a column
+-- every row fits the table, and the table has at least one column
 abbrev pub AllFit : TableInfo → List Keyed → Type 0
 AllFit table rows = (0 < length table.columns) × All (FitsTable table) rows

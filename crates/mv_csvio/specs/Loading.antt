@@ -1,4 +1,4 @@
--- What a block of CSV adds to the rows of a table.
+-- What loading a block of CSV adds to the rows of a table.
 use Rattle.std.specs.Prelude.{◌≡◌, ◌++◌, ◌∷◌, ◌+◌, ℕ, List, length}
 use Rattle.std.specs.List.{AllZip}
 use Rattle.csv.specs.Reading.{default_config, records, strip_bom}
@@ -15,23 +15,23 @@ use Rattle.mv_csvio.specs.Joining.{HasJoined, HasKey}
 abbrev pub Record : Type 0
 Record = List (List ℕ)
 
--- the records of a block: those that the `csv` crate's own definition gives, in its default form and behind a byte order
--- mark, if one begins the block; no record is a header
+-- the records of a block, by the `csv` crate's own definition, with its default configuration; a leading byte order
+-- mark is skipped, and no record is a header
 abbrev pub records_of : List ℕ → List Record
 records_of block = records default_config (strip_bom block)
 
--- every record is a row of the table, and these rows join those that were there
+-- every record is a row of the table, and these rows join the earlier rows
 abbrev pub HasLoaded : TableInfo → List Keyed → List Record → List Keyed → Type 0
 HasLoaded table before block after = (rows : List (List Value)) × AllZip (IsRow table.columns) block rows × HasJoined table before rows after
 
--- why a record can't be taken once those in front of it are: it is no row, or its row's key is there
+-- why a record can't be loaded after those before it: it isn't a row, or its key is already there
 abbrev pub IsBad : TableInfo → List Keyed → Record → ℕ → CopyFault → Type 0
 IsBad table there bad number (fault.Duplicate r) = (r ≡ number) × (row : List Value) × IsRow table.columns bad row × HasKey there (columns_of row table.key)
 IsBad table there bad number (fault.Field r c) = IsNoRow table.columns bad number (fault.Field r c)
 IsBad table there bad number (fault.Width r) = IsNoRow table.columns bad number (fault.Width r)
 IsBad table there bad number fault.NoMemory = ⊥
 
--- the fault is that of the first bad record: those in front of it are taken, and it can't be; records count from 1
+-- the fault is that of the first bad record: those before it can be loaded, and it can't; records count from 1
 abbrev pub IsFirstBad : TableInfo → List Keyed → List Record → CopyFault → Type 0
 IsFirstBad table before block f =
     (front : List Record) × (bad : Record) × (rest : List Record) × (there : List Keyed)

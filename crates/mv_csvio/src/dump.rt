@@ -1,4 +1,4 @@
-//! Writing rows as CSV.
+//! Writes rows as CSV.
 
 ghost use Rattle.std.specs.Prelude.{◌≡◌, ◌++◌, ◌∷◌, ◌<◌, ◌-◌, ◌^◌, ℕ, List as Seq, [], length, IfOk, OnOk, OnErr};
 ghost use Rattle.mv_csvio.specs.Csv.{field_of, row_csv, rows_csv};
@@ -12,7 +12,10 @@ use mv_values::rows::Rows;
 use mv_values::value::Value;
 use std::alloc::Global;
 
-/// Adds the CSV of the rows at the end of a text. Where no memory is found the text is as before.
+/// Appends the rows to the text as CSV, one record per row.
+///
+/// # Errors
+/// `NoMemory` if memory runs out. The text is then unchanged.
 pub fn dump(alloc: Global, rows: &Rows, text: &mut List<u8>) -> Result<(), NoMemory>
     ensures ok { OnOk result (text.new ≡ text.old ++ rows_csv rows.now) }
     ensures err { OnErr result (text.new ≡ text.old) }
@@ -21,7 +24,7 @@ pub fn dump(alloc: Global, rows: &Rows, text: &mut List<u8>) -> Result<(), NoMem
     text.append(bytes.as_slice())
 }
 
-/// The CSV of the rows.
+/// Returns the rows as CSV.
 fn csv_of(alloc: Global, rows: &Rows) -> Result<Vec<u8>, NoMemory>
     ensures { IfOk result (λ bytes. bytes.items ≡ rows_csv rows.now) }
 {

@@ -1,17 +1,17 @@
-//! Why rows can't be taken.
+//! The errors of loading rows.
 
 use mv_values::memory::NoMemory;
 
-/// Why the rows of VALUES or of a block can't be taken. Rows and columns count from 1.
+/// Why the rows of VALUES or of a block can't be loaded. Rows and columns are counted from 1.
 #[derive(Clone, Copy)]
 pub enum CopyFault {
-    /// The field is no value of its column.
+    /// The field isn't a value of its column's type.
     Field { row: u32, column: u32 },
-    /// The record has another number of fields than the table has columns.
+    /// The record doesn't have one field for each column of the table.
     Width { row: u32 },
-    /// A row with the key is there already.
+    /// The table already has a row with this row's key.
     Duplicate { row: u32 },
-    /// No memory was found.
+    /// Memory ran out.
     NoMemory,
 }
 

@@ -1,4 +1,4 @@
-//! The fields of a record as values.
+//! Parses the fields of a record.
 
 ghost use Rattle.std.specs.Prelude.{◌≡◌, ◌==◌, All, IfOk, IsTrue, slice_index};
 ghost use Rattle.std.specs.List.{list_all};
@@ -12,7 +12,7 @@ use mv_values::value::Value;
 use std::alloc::Global;
 use std::str;
 
-/// The value that a field is to a column of the type, if it is one.
+/// Returns the field as a value of the type, or `None` if it isn't one.
 pub(crate) fn value_of(
     alloc: Global,
     kind: ColType,
@@ -31,7 +31,7 @@ pub(crate) fn value_of(
     }
 }
 
-/// The number that a field is: an optional `-` and digits, in 64 bits.
+/// Returns the field as a 64-bit signed number, or `None` if it isn't an optional `-` and digits.
 fn number_of(field: &[u8]) -> Option<i64>
     ensures { result ≡ number_in field.now }
 {
@@ -42,14 +42,14 @@ fn number_of(field: &[u8]) -> Option<i64>
     text.parse().ok()
 }
 
-/// Whether a field begins with `+`.
+/// Whether the field begins with `+`.
 fn has_plus(field: &[u8]) -> bool
     ensures { result ≡ (slice_index field.now 0 == 43) }
 {
     matches!(field, [b'+', ..])
 }
 
-/// Whether a field is a text of at most so many bytes.
+/// Whether the field is printable and no longer than the limit, in bytes.
 fn is_text(most: u16, field: &[u8]) -> bool
     ensures text { result ≡ is_text most field.now }
     ensures printable { IsTrue result → All IsPrintable field.now }

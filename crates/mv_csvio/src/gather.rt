@@ -1,4 +1,4 @@
-//! The rows of VALUES under their keys.
+//! Loads the rows of VALUES.
 
 ghost use Rattle.std.specs.Prelude.{◌≡◌, ◌<◌, ◌^◌, ◌++◌, ◌∷◌, ◌⊎◌, [], length, Err, IfOk, IfErr, List as Seq, MatchResult, IsPermutation};
 ghost use Rattle.mv_values.specs.Keys.{IsRising};
@@ -17,8 +17,11 @@ use mv_values::schema::TableInfo;
 use mv_values::value::Row;
 use std::alloc::Global;
 
-/// The rows of VALUES of a table, each under its key, in the order of their keys. Or the fault `Duplicate` with the
-/// first row whose key stands in an earlier one, or `NoMemory`. It costs n log n for n rows, in whatever order they come.
+/// Returns the rows of VALUES of a table, each with its key, in key order. Takes time n log n for n rows, in whatever
+/// order they come. There must be fewer than 2^32 rows.
+///
+/// # Errors
+/// `Duplicate` with the first row whose key an earlier row has. `NoMemory` if memory runs out.
 pub fn gather(alloc: Global, rows: &List<Row>, table: &TableInfo) -> Result<Rows, CopyFault>
     requires { length rows.now < 2 ^ 32 }
     ensures rows { IfOk result (HasJoined table.now [] rows.now) }
@@ -30,7 +33,7 @@ pub fn gather(alloc: Global, rows: &List<Row>, table: &TableInfo) -> Result<Rows
     Ok(joining.into_rows(alloc)?)
 }
 
-/// As `gather`, and more rows can join those of the answer.
+/// Like `gather`, but more rows can be added to the result.
 pub fn join_values(alloc: Global, rows: &List<Row>, table: &TableInfo) -> Result<Joining, CopyFault>
     requires { length rows.now < 2 ^ 32 }
     ensures rows { IfOk result (HasJoined table.now [] rows.now) }
@@ -45,7 +48,7 @@ pub fn join_values(alloc: Global, rows: &List<Row>, table: &TableInfo) -> Result
     Ok(joining)
 }
 
-/// Adds a row under its key, the row with this number of those that join.
+/// Adds a row under its key. The number is reported if the key is a duplicate.
 pub(crate) fn join_row(
     alloc: Global,
     joining: &mut Joining,

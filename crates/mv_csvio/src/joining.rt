@@ -1,4 +1,4 @@
-//! Rows that join those of a table, one after another.
+//! Rows of a table, to which more can be added one by one.
 
 ghost use Rattle.std.specs.Prelude.{◌≡◌, ◌++◌, ◌∷◌, [], IfOk, IsPermutation};
 ghost use Rattle.std.specs.Bool.{MatchBool};
@@ -13,7 +13,7 @@ use std::alloc::Global;
 use std::collections::BTreeMap;
 use std::marker::Model;
 
-/// Rows by key, of which more can join. Contracts see the rows in the order of their keys.
+/// Rows by key, to which more can be added. Contracts see the rows in key order.
 #[derive(Drop)]
 pub struct Joining {
     rows: BTreeMap<Key, Row>,
@@ -30,7 +30,7 @@ impl Model for Joining {
 }
 
 impl Joining {
-    /// No rows. It takes no memory.
+    /// Returns an empty set of rows. Allocates no memory.
     pub fn new(alloc: Global) -> Joining
         ensures { result ≡ [] }
     {
@@ -39,7 +39,10 @@ impl Joining {
         }
     }
 
-    /// The rows of a table.
+    /// Takes over the rows of a table.
+    ///
+    /// # Errors
+    /// `NoMemory` if memory runs out.
     pub fn of(alloc: Global, rows: Rows) -> Result<Joining, NoMemory>
         ensures rows { IfOk result (λ joining. joining ≡ rows) }
         ensures rising { IsRising rows }
@@ -51,7 +54,7 @@ impl Joining {
         Ok(Joining { rows: by_key })
     }
 
-    /// Adds a row and says true, or says false where its key is there. It costs the logarithm of the number of rows.
+    /// Adds a row and returns true, or returns false if its key is already there. Takes time log n for n rows.
     pub(crate) fn join(&mut self, item: Keyed) -> Result<bool, NoMemory>
         ensures { IfOk result (λ is_new. MatchBool is_new (IsRising self.new × IsPermutation (self.old ++ item ∷ []) self.new) (HasKey self.old item.key)) }
     {
@@ -62,7 +65,10 @@ impl Joining {
         Ok(true)
     }
 
-    /// The rows, as those of a table.
+    /// Returns the rows in key order, as rows of a table.
+    ///
+    /// # Errors
+    /// `NoMemory` if memory runs out.
     pub fn into_rows(self, alloc: Global) -> Result<Rows, NoMemory>
         ensures { IfOk result (λ rows. rows ≡ self) }
     {

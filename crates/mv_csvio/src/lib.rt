@@ -1,4 +1,4 @@
-//! The rows of tables as CSV.
+//! Reads and writes the rows of tables as CSV.
 #![tactic(auto)]
 
 pub mod dump;

@@ -1,4 +1,4 @@
-//! Blocks of CSV into the rows of a table.
+//! Loads blocks of CSV into the rows of a table.
 
 ghost use Rattle.std.specs.Prelude.{◌≡◌, ◌<◌, ◌^◌, ◌⊎◌, [], ℕ, None, length, Err, IfErr, IfOk, List as Seq, MatchResult, OnOk};
 ghost use Rattle.std.specs.Bool.{MatchBool};
@@ -24,9 +24,16 @@ use mv_values::schema::TableInfo;
 use std::alloc::Global;
 use std::mem;
 
-/// Adds the records of a block to the rows of a table, each under its key. Or the fault of the first bad record: a
-/// `Width`, else a `Field`, else a `Duplicate`; or `NoMemory`. After a fault the rows are given up. Rows and columns of a fault count from 1. It
-/// costs n log n for n rows in all, in whatever order they come.
+/// Adds the records of a block to the rows of a table, each under its key. Takes time n log n for n rows in all, in
+/// whatever order they come. The block must have fewer than 2^32 bytes.
+///
+/// # Errors
+/// The error of the first bad record, with its number counted from 1. The first of these that applies is returned:
+/// 1. `Width` if the record doesn't have one field for each column.
+/// 2. `Field` with the first field that isn't a value of its column's type.
+/// 3. `Duplicate` if the key is already there, in the table or in the block.
+///
+/// `NoMemory` is returned if memory runs out. After an error the rows are lost.
 pub fn load(
     alloc: Global,
     block: &[u8],
@@ -47,8 +54,8 @@ pub fn load(
     Ok(())
 }
 
-/// As `load`, and more rows can join those that are there after it. It costs n log m for a block of n records and m rows
-/// in all, so many small blocks cost no more than a large one.
+/// Like `load`, but more rows can be added afterwards. Takes time n log m for a block of n records and m rows in all.
+/// Many small blocks cost no more than one large block.
 pub fn join_records(
     alloc: Global,
     block: &[u8],
@@ -71,7 +78,7 @@ pub fn join_records(
     Ok(())
 }
 
-/// A reader of the records of a block, of whatever lengths, none of them a header.
+/// Returns a reader of the records of a block. Records may differ in length, and none is a header.
 fn reader_of(alloc: Global, block: &[u8]) -> Reader<&[u8]>
     ensures { StandsAt result state.StartRecord (strip_bom block.now) }
 {
@@ -81,7 +88,7 @@ fn reader_of(alloc: Global, block: &[u8]) -> Reader<&[u8]>
         .from_reader(alloc, block)
 }
 
-/// Reads the next record, and says whether there was one.
+/// Reads the next record. Returns whether there was one.
 fn has_read(reader: &mut Reader<&[u8]>, fields: &mut ByteRecord) -> Result<bool, NoMemory>
     ensures { (at : State) (bytes : Seq ℕ) → StandsAt reader.old at bytes → IfOk result (λ found. MatchBool found (HasRead at bytes fields.new reader.new) (next_record default_config at [] [] bytes ≡ None)) }
 {

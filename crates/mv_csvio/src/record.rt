@@ -1,4 +1,4 @@
-//! A record as a row.
+//! Parses a record as a row.
 
 ghost use Rattle.std.specs.Prelude.{◌≡◌, ◌<◌, ◌^◌, ◌⊎◌, length, MatchResult};
 ghost use Rattle.csv.specs.Records.{fields_of};
@@ -13,8 +13,7 @@ use mv_values::schema::Column;
 use mv_values::value::Row;
 use std::alloc::Global;
 
-/// The row that the record with this number is: a value of each column. Else `Width`, or `Field` with the first field
-/// that is no value of its column.
+/// Returns the record as a row. Fails with `Width`, or with `Field` for the first field that isn't a value of its type.
 pub(crate) fn row_of(
     alloc: Global,
     fields: &ByteRecord,
