@@ -1,5 +1,5 @@
 -- The database that the calls of a script begin with: the rows of VALUES, table by table, and then the blocks of the
--- copies in the order of the text. The first part that can't be taken refuses the script.
+-- copies in the order of the text. The script is refused for the first part that can't be loaded.
 use Rattle.std.specs.Prelude.{◌≡◌, ◌++◌, ◌∷◌, ◌+◌, ◌<◌, ◌≤◌, ◌^◌, ◌⊎◌, ⊤, ℕ, true, false, List, [], All, length, Option, Some, None, slice_get, slice_range, slice_set}
 use Rattle.mv_values.specs.declared.value.Value.{Value}
 use Rattle.mv_values.specs.declared.rows.Keyed.{Keyed}
@@ -14,11 +14,11 @@ use Rattle.mv_csvio.specs.Loading.{HasLoaded, IsFirstBad, records_of}
 use Rattle.mv_opening.specs.declared.fault.OpeningFault.{OpeningFault}
 use Rattle.mv_opening.specs.declared.fault.OpeningFault.TheVariants as fault
 
--- a copy is of one of so many tables, and its block stands in so many bytes
+-- the copy has one of so many tables, and a block within so many bytes
 abbrev pub Stands : ℕ → ℕ → CopyInfo → Type 0
 Stands tables size c = (c.table < tables) × (c.at + c.len ≤ size)
 
--- what a resolved script and its bytes keep to
+-- the script fits the bytes: each copy has a table and a block within the bytes, and no number is too large
 pub record FitTogether (resolved : Resolved) (bytes : List ℕ) : Type 0 where
   pub tables : length resolved.tables ≤ 256
   pub values : length resolved.rows ≡ length resolved.tables
@@ -27,7 +27,7 @@ pub record FitTogether (resolved : Resolved) (bytes : List ℕ) : Type 0 where
   pub copies : All (Stands (length resolved.tables) (length bytes)) resolved.copies
   pub size : length bytes < 2 ^ 32
 
--- the rows of VALUES of each table, under their keys
+-- the rows of VALUES of each table, with their keys
 abbrev pub HaveGathered : List TableInfo → List (List (List Value)) → List (List Keyed) → Type 0
 HaveGathered [] values tables = tables ≡ []
 HaveGathered (info ∷ infos) [] tables = ⊥
@@ -46,7 +46,7 @@ HasCopied infos bytes before c after =
     × (rows : List Keyed) × HasLoaded info (rows_at before c.table) (records_of (block_of bytes c)) rows
     × (after ≡ slice_set before c.table rows)
 
--- one copy after another
+-- the copies are loaded one after another
 abbrev pub HaveCopied : List TableInfo → List ℕ → List (List Keyed) → List CopyInfo → List (List Keyed) → Type 0
 HaveCopied infos bytes before [] after = before ≡ after
 HaveCopied infos bytes before (c ∷ cs) after = (there : List (List Keyed)) × HasCopied infos bytes before c there × HaveCopied infos bytes there cs after
@@ -59,21 +59,21 @@ abbrev pub IsOpen : Option CopyInfo → Type 0
 IsOpen None = ⊥
 IsOpen (Some c) = c.closed ≡ false
 
--- the rows of VALUES and of all copies, where the journal's block is closed too
+-- the tables have the rows of VALUES and of all copies, and the journal's block is closed
 abbrev pub IsOpening : Resolved → List ℕ → List (List Keyed) → Type 0
 IsOpening resolved bytes tables =
     (gathered : List (List Keyed)) × HaveGathered resolved.tables resolved.rows gathered
     × HaveCopied resolved.tables bytes gathered resolved.copies tables
     × IsClosed resolved.journal
 
--- a fault of rows, with the number of their table
+-- a fault of rows with the number of their table
 abbrev pub in_table : ℕ → CopyFault → OpeningFault
 in_table t (copy.Field r c) = fault.Field t r c
 in_table t (copy.Width r) = fault.Width t r
 in_table t (copy.Duplicate r) = fault.Duplicate t r
 in_table t copy.NoMemory = fault.NoMemory
 
--- the fault of the first table whose rows of VALUES can't be taken
+-- the fault of the first table whose rows of VALUES can't be loaded
 abbrev pub TellsOfTables : Resolved → OpeningFault → Type 0
 TellsOfTables resolved f =
     (front : List TableInfo) × (info : TableInfo) × (rest : List TableInfo) × (rows : List (List Value)) × (there : List (List Keyed)) × (why : CopyFault)
@@ -83,7 +83,7 @@ TellsOfTables resolved f =
     × TellsOfValues info rows why
     × (f ≡ in_table (length front) why)
 
--- why a copy can't be taken: its block is open, or else a record of it is bad
+-- why a copy can't be loaded: its block is open, or it is closed and a record of it is bad
 abbrev pub TellsOfCopy : List TableInfo → List ℕ → List (List Keyed) → CopyInfo → OpeningFault → Type 0
 TellsOfCopy infos bytes there c f =
     ((c.closed ≡ false) × (f ≡ fault.OpenBlock))
@@ -92,7 +92,7 @@ TellsOfCopy infos bytes there c f =
     × (why : CopyFault) × IsFirstBad info (rows_at there c.table) (records_of (block_of bytes c)) why
     × (f ≡ in_table c.table why))
 
--- the fault of the first copy that can't be taken, the rows of VALUES being there
+-- the fault of the first copy that can't be loaded, after the rows of VALUES are
 abbrev pub TellsOfCopies : Resolved → List ℕ → OpeningFault → Type 0
 TellsOfCopies resolved bytes f =
     (gathered : List (List Keyed)) × HaveGathered resolved.tables resolved.rows gathered
@@ -101,7 +101,7 @@ TellsOfCopies resolved bytes f =
     × HaveCopied resolved.tables bytes gathered front there
     × TellsOfCopy resolved.tables bytes there c f
 
--- the journal's block is open, all copies being taken
+-- all copies are loaded, but the journal's block is open
 abbrev pub TellsOfJournal : Resolved → List ℕ → OpeningFault → Type 0
 TellsOfJournal resolved bytes f =
     (gathered : List (List Keyed)) × HaveGathered resolved.tables resolved.rows gathered
@@ -109,6 +109,6 @@ TellsOfJournal resolved bytes f =
     × IsOpen resolved.journal
     × (f ≡ fault.OpenBlock)
 
--- why a script has no opening: its VALUES, else a copy, else its journal
+-- why a script has no opening database: its VALUES, else a copy, else its journal
 abbrev pub HasNoOpening : Resolved → List ℕ → OpeningFault → Type 0
 HasNoOpening resolved bytes f = TellsOfTables resolved f ⊎ TellsOfCopies resolved bytes f ⊎ TellsOfJournal resolved bytes f

@@ -1,4 +1,4 @@
-//! Why a script has no opening.
+//! The errors of making the opening database.
 
 ghost use Rattle.std.specs.Prelude.{◌≡◌};
 ghost use Rattle.mv_opening.specs.Opening.{in_table};
@@ -6,19 +6,19 @@ ghost use Rattle.mv_opening.specs.Opening.{in_table};
 use mv_csvio::fault::CopyFault;
 use mv_values::memory::NoMemory;
 
-/// Why the database that the calls begin with can't be made. Tables are numbered from 0 in the order of the script;
-/// rows and columns count from 1.
+/// Why the database that the calls begin with can't be made. Tables are numbered from 0, in the order of the script.
+/// Rows and columns are counted from 1.
 #[derive(Clone, Copy)]
 pub enum OpeningFault {
-    /// The field of a copy is no value of its column.
+    /// The field of a copy isn't a value of its column's type.
     Field { table: u8, row: u32, column: u32 },
-    /// The record of a copy has another number of fields than the table has columns.
+    /// The record of a copy doesn't have one field for each column of the table.
     Width { table: u8, row: u32 },
-    /// A row with the key is there already. Rows of VALUES or of the copy's block are counted.
+    /// The table already has a row with this row's key. The row is counted within VALUES or within the copy's block.
     Duplicate { table: u8, row: u32 },
-    /// The block of a copy or of the journal has no end.
+    /// The block of a copy or of the journal isn't closed.
     OpenBlock,
-    /// No memory was found.
+    /// Memory ran out.
     NoMemory,
 }
 
@@ -34,7 +34,7 @@ impl From<NoMemory> for OpeningFault {
 }
 
 impl OpeningFault {
-    /// A fault of rows, with the number of their table.
+    /// Adds the number of the table to an error of its rows.
     pub(crate) fn of_rows(fault: CopyFault, table: u8) -> OpeningFault
         ensures { result ≡ in_table table fault }
     {

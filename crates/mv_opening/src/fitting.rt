@@ -1,4 +1,4 @@
-//! Whether a resolved script and its bytes fit together.
+//! Checks that a resolved script and its bytes fit together.
 
 ghost use Rattle.std.specs.Prelude.{◌≡◌, ◌<◌, ◌≤◌, ◌+◌, ◌^◌, ◌↔◌, All, IsTrue, length};
 ghost use Rattle.mv_opening.specs.Opening.{FitTogether, Stands};
@@ -8,7 +8,9 @@ use mv_values::list::List;
 use mv_values::schema::TableInfo;
 use mv_values::value::Row;
 
-/// Whether each copy has a table and its block stands in the bytes, and nothing is longer than `opening` counts.
+/// Whether the script fits the bytes. Each copy must have a table, and a block within the bytes. There may be at most
+/// 256 tables, each with its rows of VALUES. A table must have fewer than 2^32 rows and fewer than 2^32 columns, and
+/// there must be fewer than 2^32 bytes. Takes time linear in the number of tables and copies.
 pub fn fit_together(resolved: &Resolved, bytes: &[u8]) -> bool
     ensures { IsTrue result ↔ FitTogether resolved.now bytes.now }
 {
@@ -21,28 +23,28 @@ pub fn fit_together(resolved: &Resolved, bytes: &[u8]) -> bool
         && bytes.len() < 1 << 32
 }
 
-/// Whether each table has less than 2^32 rows.
+/// Whether each table has fewer than 2^32 rows.
 fn are_few(tables: &[List<Row>]) -> bool
     ensures { IsTrue result ↔ All (λ rows. length rows < 2 ^ 32) tables.now }
 {
     tables.iter().all(|rows| rows.len() < 1 << 32)
 }
 
-/// Whether each table has less than 2^32 columns.
+/// Whether each table has fewer than 2^32 columns.
 fn are_narrow(tables: &[TableInfo]) -> bool
     ensures { IsTrue result ↔ All (λ table. length table.columns < 2 ^ 32) tables.now }
 {
     tables.iter().all(|table| table.columns.len() < 1 << 32)
 }
 
-/// Whether each copy is of one of so many tables, and its block stands in so many bytes.
+/// Whether each copy has one of so many tables, and a block within so many bytes.
 fn all_stand(copies: &[CopyInfo], tables: usize, len: usize) -> bool
     ensures { IsTrue result ↔ All (Stands tables len) copies.now }
 {
     copies.iter().all(|copy| stands(copy, tables, len))
 }
 
-/// Whether a copy is of one of so many tables, and its block stands in so many bytes.
+/// Whether the copy has one of so many tables, and a block within so many bytes.
 fn stands(copy: &CopyInfo, tables: usize, len: usize) -> bool
     ensures { IsTrue result ↔ Stands tables len copy.now }
 {

@@ -1,4 +1,4 @@
-//! The database that the calls of a script begin with.
+//! Makes the database that the calls of a script begin with.
 #![tactic(auto)]
 
 pub mod fault;

@@ -1,4 +1,4 @@
-//! The rows of VALUES, the blocks of the copies, and the journal's block.
+//! Loads the rows of VALUES and of the copies, and checks the journal's block.
 
 ghost use Rattle.std.specs.Prelude.{◌≡◌, ◌<◌, ◌≤◌, ◌+◌, ◌^◌, ◌⊎◌, All, Err, IfErr, IfOk, List as Seq, length, MatchResult};
 ghost use Rattle.std.specs.Bool.{MatchBool};
@@ -21,10 +21,17 @@ use mv_values::rows::Database;
 use mv_values::schema::TableInfo;
 use std::alloc::Global;
 
-/// The database that the calls begin with. Or a fault, tried in this order: `Duplicate` for the rows of VALUES, table
-/// by table; for each copy in the order of the text `OpenBlock`, and then the first bad record of its block;
-/// `OpenBlock` for the journal; and `NoMemory` at any time. It costs n log n for n rows in all, in whatever order they
-/// come and however many blocks they stand in.
+/// Returns the database that the calls begin with. Takes time n log n for n rows in all, in whatever order they come
+/// and however many blocks they are in. The script and the bytes must pass `fit_together`.
+///
+/// # Errors
+/// The checks run in this order, and the first that fails is returned:
+/// 1. `Duplicate` for the rows of VALUES, table by table.
+/// 2. For each copy, in the order of the text: `OpenBlock` if its block isn't closed, else the error of its first bad
+///    record.
+/// 3. `OpenBlock` if the journal's block isn't closed.
+///
+/// `NoMemory` is returned if memory runs out.
 pub fn opening(alloc: Global, resolved: &Resolved, bytes: &[u8]) -> Result<Database, OpeningFault>
     requires { FitTogether resolved.now bytes.now }
     ensures opened { IfOk result (IsOpening resolved.now bytes.now) }
@@ -37,7 +44,7 @@ pub fn opening(alloc: Global, resolved: &Resolved, bytes: &[u8]) -> Result<Datab
     Ok(into_database(alloc, tables)?)
 }
 
-/// The rows of VALUES and of the copies, table by table.
+/// Returns the rows of VALUES and of the copies, table by table.
 fn join_all(alloc: Global, resolved: &Resolved, bytes: &[u8]) -> Result<List<Joining>, OpeningFault>
     requires { FitTogether resolved.now bytes.now }
     ensures { MatchResult result (IsOpening resolved.now bytes.now) (λ f. (f ≡ fault.NoMemory) ⊎ HasNoOpening resolved.now bytes.now f) }
@@ -52,7 +59,7 @@ fn join_all(alloc: Global, resolved: &Resolved, bytes: &[u8]) -> Result<List<Joi
     Ok(tables)
 }
 
-/// The rows of VALUES of each table.
+/// Returns the rows of VALUES, table by table.
 fn gather_all(alloc: Global, resolved: &Resolved) -> Result<List<Joining>, OpeningFault>
     requires tables { length resolved.now.tables ≤ 256 }
     requires values { length resolved.now.rows ≡ length resolved.now.tables }
@@ -100,7 +107,7 @@ fn take_copy(
     Ok(())
 }
 
-/// The rows of each table, no more of them joining.
+/// Returns the finished rows of each table.
 fn into_database(alloc: Global, mut tables: List<Joining>) -> Result<Database, NoMemory>
     ensures { IfOk result (λ database. database ≡ tables) }
 {
@@ -112,7 +119,7 @@ fn into_database(alloc: Global, mut tables: List<Joining>) -> Result<Database, N
     Ok(database)
 }
 
-/// Whether there is a block and it has no end.
+/// Whether there is a block that isn't closed.
 fn is_open(block: &Option<CopyInfo>) -> bool
     ensures { MatchBool result (IsOpen block.now) (IsClosed block.now) }
 {
