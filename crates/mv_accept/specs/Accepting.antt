@@ -1,5 +1,5 @@
--- Which bytes are accepted, and for which program; and why others are refused. The parts are looked at in this order:
--- tokens, script, names and types, opening rows; each is looked at only where those before it stand.
+-- Which bytes are accepted, and as which program; and why others are refused. The checks run in this order: tokens,
+-- script, names and types, opening rows. Each check runs only if those before it pass.
 use Rattle.std.specs.Prelude.{◌≡◌, ◌⊎◌, ◌<◌, ◌≤◌, ◌^◌, ℕ, List, [], Option, Some, None, length, slice_get}
 use Rattle.mv_values.specs.declared.schema.TableInfo.{TableInfo}
 use Rattle.mv_lex.specs.declared.token.Token.{Token}
@@ -21,34 +21,34 @@ use Rattle.mv_opening.specs.Opening.{IsOpening, HasNoOpening}
 use Rattle.mv_accept.specs.declared.refusal.Refusal.{Refusal}
 use Rattle.mv_accept.specs.declared.refusal.Refusal.TheVariants as why
 
--- the longest input that is taken
+-- the greatest number of bytes of a script
 abbrev pub most_bytes : ℕ
 most_bytes = 2 ^ 24
 
--- the most calls of a script
+-- the greatest number of calls of a script
 abbrev pub most_calls : ℕ
 most_calls = 1000000
 
--- the tokens of bytes that aren't too many
+-- the bytes aren't too many, and these are their tokens
 abbrev pub HasTokens : List ℕ → List Token → Type 0
 HasTokens bytes tokens = (length bytes ≤ most_bytes) × AreTokens bytes tokens
 
--- the script that the bytes spell, within the limits of the language
+-- the bytes spell this script, within the limits of the language
 abbrev pub Spells : List ℕ → Script → Type 0
 Spells bytes script = (tokens : List Token) × HasTokens bytes tokens × IsScript bytes tokens script
 
--- what a script without faults of names and types stands for
+-- a script without faults of names and types, and its resolved form
 abbrev pub Means : Script → Resolved → Type 0
 Means script resolved = (faults script ≡ []) × (resolved ≡ resolved_of script)
 
 abbrev pub StandsFor : List ℕ → Resolved → Type 0
 StandsFor bytes resolved = (script : Script) × Spells bytes script × Means script resolved
 
--- the program: what the script stands for, with the rows that its calls begin with
+-- the program: the resolved script, with the rows that its calls begin with
 abbrev pub Opens : List ℕ → Resolved → Program → Type 0
 Opens bytes resolved program = (program.resolved ≡ resolved) × IsOpening resolved bytes program.opening
 
--- accepted bytes, and their program
+-- the bytes are accepted as this program
 abbrev pub Accepts : List ℕ → Program → Type 0
 Accepts bytes program = (resolved : Resolved) × StandsFor bytes resolved × Opens bytes resolved program
 
@@ -58,12 +58,12 @@ pub data HasNoTokens (bytes : List ℕ) : Refusal → Type 0 where
   bad_byte : (at : ℕ) → length bytes ≤ most_bytes → IsBadByte bytes at → HasNoTokens bytes (why.Byte at)
   bad_token : (at : ℕ) → length bytes ≤ most_bytes → IsBadToken bytes at → HasNoTokens bytes (why.Token at)
 
--- why tokens are no script within the limits: depth and stretch are looked at before the grammar, the others after it
+-- why tokens aren't a script within the limits: depth and stretch are checked before the grammar, the others after it
 pub data IsNoScript (bytes : List ℕ) (tokens : List Token) : Refusal → Type 0 where
   syntax : (token : ℕ) → CannotStand bytes tokens token → IsNoScript bytes tokens (why.Syntax token)
   limit : (which : Which) (token : ℕ) → PassesLimit bytes tokens which token → IsNoScript bytes tokens (why.Limit which token)
 
--- what is told of a fault of names and types at a token
+-- the refusal for a fault of names and types at a token
 abbrev pub refusal_at : FaultKind → ℕ → Refusal
 refusal_at kind.UnknownName token = why.UnknownName token
 refusal_at kind.DoubleName token = why.DoubleName token
@@ -71,7 +71,7 @@ refusal_at kind.WrongType token = why.WrongType token
 refusal_at kind.KeyAssigned token = why.KeyAssigned token
 refusal_at kind.Late token = why.Late token
 
--- why a script stands for nothing: its first fault of names and types
+-- why a script can't be resolved: its first fault of names and types
 abbrev pub HasFault : Script → Refusal → Type 0
 HasFault script refusal = (fault : Fault) × IsFirst (faults script) fault × (refusal ≡ refusal_at fault.kind fault.token)
 
@@ -83,7 +83,7 @@ name_in (Some table) = table.name
 abbrev pub table_name : Resolved → ℕ → List ℕ
 table_name resolved t = name_in (slice_get resolved.tables t)
 
--- what is told of rows that can't be taken
+-- the refusal for rows that can't be loaded
 abbrev pub TellsOfRows : Resolved → OpeningFault → Refusal → Type 0
 TellsOfRows resolved (opening.Field t row column) refusal = refusal ≡ why.Field (table_name resolved t) row column
 TellsOfRows resolved (opening.Width t row) refusal = refusal ≡ why.Width (table_name resolved t) row
@@ -91,11 +91,11 @@ TellsOfRows resolved (opening.Duplicate t row) refusal = refusal ≡ why.Duplica
 TellsOfRows resolved opening.OpenBlock refusal = refusal ≡ why.OpenBlock
 TellsOfRows resolved opening.NoMemory refusal = ⊥
 
--- why there are no rows that the calls begin with
+-- why the rows that the calls begin with can't be loaded
 abbrev pub HasNoRows : List ℕ → Resolved → Refusal → Type 0
 HasNoRows bytes resolved refusal = (fault : OpeningFault) × HasNoOpening resolved bytes fault × TellsOfRows resolved fault refusal
 
--- Why bytes are refused
+-- why bytes are refused
 abbrev pub SpellsNothing : List ℕ → Refusal → Type 0
 SpellsNothing bytes refusal = HasNoTokens bytes refusal ⊎ ((tokens : List Token) × HasTokens bytes tokens × IsNoScript bytes tokens refusal)
 

@@ -1,4 +1,4 @@
--- What is answered where a part of the way fails.
+-- The error that is returned when a step fails.
 use Rattle.std.specs.Prelude.{◌≡◌, ◌⊎◌, ℕ}
 use Rattle.mv_lex.specs.declared.lexer.LexFault.{LexFault}
 use Rattle.mv_lex.specs.declared.lexer.LexFault.TheVariants as lexing
@@ -32,7 +32,7 @@ of_naming (naming.KeyAssigned token) = Refused (why.KeyAssigned token)
 of_naming (naming.Late token) = Refused (why.Late token)
 of_naming naming.NoMemory = NoMemory
 
--- this fault of the rows is told, or no memory was found
+-- the error is that of this fault of the rows, unless memory ran out
 abbrev pub OfOpening : Resolved → OpeningFault → NotAccepted → Type 0
 OfOpening resolved fault (Refused refusal) = TellsOfRows resolved fault refusal
 OfOpening resolved fault NoMemory = Unit {0}

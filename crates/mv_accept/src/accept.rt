@@ -1,4 +1,4 @@
-//! Accepting a script: from bytes to a program, part by part.
+//! Accepts a script: turns its bytes into a program, step by step.
 
 ghost use Rattle.std.specs.Prelude.{◌≡◌, ◌≤◌, length, IfOk, All};
 ghost use Rattle.mv_lex.specs.Tokens.{IsSpelledIn};
@@ -25,10 +25,10 @@ use mv_values::memory::NoMemory;
 use mv_values::txt::Txt;
 use std::alloc::Global;
 
-/// No input of more bytes is taken.
+/// The greatest number of bytes that a script may have: 2^24.
 pub const MOST_BYTES: usize = 16_777_216;
 
-/// Why there is no program.
+/// Why a script wasn't accepted.
 #[derive(Drop)]
 pub enum NotAccepted {
     Refused(Refusal),
@@ -46,13 +46,26 @@ impl From<NoMemory> for NotAccepted {
     }
 }
 
-/// The program of these bytes: what the script stands for, and the database that its calls begin with. Or the first
-/// cause of refusal in this order: too many bytes; a byte that no script has; a place without a token; depth and
-/// stretch; the grammar; the other limits; names and types; the rows of VALUES, table by table; the copies in the order
-/// of the text; the journal's block. It takes time in the number of bytes, and n log n for n rows.
+/// Returns the program of these bytes: the resolved script, and the database that its calls begin with. Takes time
+/// linear in the number of bytes, and n log n for n rows.
+///
+/// # Errors
+/// `Refused` with the first check that fails. The checks run in this order:
+/// 1. the number of bytes,
+/// 2. bytes that no script contains,
+/// 3. positions at which no token begins,
+/// 4. the limits of depth and stretch,
+/// 5. the grammar,
+/// 6. the other limits,
+/// 7. names and types,
+/// 8. the rows of VALUES, table by table,
+/// 9. the copies, in the order of the text,
+/// 10. the journal's block.
+///
+/// `NoMemory` is returned if memory runs out.
 pub fn accept(alloc: Global, bytes: &[u8]) -> Result<Program, NotAccepted>
     ensures exact { Exact (Accepts bytes.now) (Refuses bytes.now) result }
-    // What is accepted is of one piece, and its calls begin with a database of its tables.
+    // An accepted program is consistent, and its calls begin with a database of its tables.
     ensures whole { IfOk result IsProgram }
     ensures few { IfOk result (λ program. length program.resolved.calls ≤ most_calls) }
 {
@@ -66,7 +79,7 @@ pub fn accept(alloc: Global, bytes: &[u8]) -> Result<Program, NotAccepted>
     }
 }
 
-/// What the script of the bytes stands for.
+/// Returns the resolved script of the bytes.
 fn resolved_of(alloc: Global, bytes: &[u8]) -> Result<Resolved, NotAccepted>
     ensures exact { Exact (StandsFor bytes.now) (StandsForNothing bytes.now) result }
     ensures whole { IfOk result FitsText }
@@ -81,7 +94,7 @@ fn resolved_of(alloc: Global, bytes: &[u8]) -> Result<Resolved, NotAccepted>
     }
 }
 
-/// The script that the bytes spell.
+/// Returns the script that the bytes spell.
 fn script_of(alloc: Global, bytes: &[u8]) -> Result<Script, NotAccepted>
     ensures { Exact (Spells bytes.now) (SpellsNothing bytes.now) result }
 {
@@ -95,7 +108,7 @@ fn script_of(alloc: Global, bytes: &[u8]) -> Result<Script, NotAccepted>
     }
 }
 
-/// The tokens of the bytes.
+/// Returns the tokens of the bytes.
 fn tokens_of(alloc: Global, bytes: &[u8]) -> Result<List<Token>, NotAccepted>
     ensures exact { Exact (HasTokens bytes.now) (HasNoTokens bytes.now) result }
     ensures spelled { IfOk result (All (IsSpelledIn bytes.now)) }
@@ -151,7 +164,7 @@ fn of_opening(alloc: Global, resolved: &Resolved, fault: OpeningFault) -> NotAcc
     }
 }
 
-/// The refusal of rows that can't be taken, with the name of their table.
+/// Returns the refusal for an error of the opening, with the name of the table.
 fn refusal_of(alloc: Global, resolved: &Resolved, fault: OpeningFault) -> Result<Refusal, NoMemory>
     ensures { IfOk result (TellsOfRows resolved.now fault) }
 {
@@ -174,7 +187,7 @@ fn refusal_of(alloc: Global, resolved: &Resolved, fault: OpeningFault) -> Result
     }
 }
 
-/// The name of the table with this number.
+/// Returns the name of the table with this number.
 fn table_name(alloc: Global, resolved: &Resolved, table: u8) -> Result<Txt, NoMemory>
     ensures { IfOk result (λ name. name ≡ table_name resolved.now table) }
 {

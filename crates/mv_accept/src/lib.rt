@@ -1,4 +1,4 @@
-//! From the bytes of a script to its program, or to why it is refused.
+//! Turns the bytes of a script into a program, or into the reason why the script is refused.
 #![tactic(auto)]
 
 pub mod accept;

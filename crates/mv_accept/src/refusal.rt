@@ -1,4 +1,4 @@
-//! Why a script is refused: the number and the line of each refusal.
+//! The reasons why a script is refused, with a number and a line for each.
 
 ghost use Rattle.std.specs.Prelude.{◌≡◌, ◌++◌, IfOk, All, codes, decimal};
 ghost use Rattle.mv_values.specs.Printable.{IsPrintable};
@@ -9,41 +9,41 @@ use mv_values::memory::NoMemory;
 use mv_values::txt::Txt;
 use std::alloc::Global;
 
-/// Why a script is refused. Bytes count from 0; tokens, rows and columns from 1.
+/// Why a script is refused. Bytes are counted from 0; tokens, rows and columns from 1.
 #[derive(Drop)]
 pub enum Refusal {
-    /// It has more than 2^24 bytes.
+    /// The script has more than 2^24 bytes.
     TooLong,
-    /// This is the first byte that no script has.
+    /// No script contains this byte. It is the first such byte.
     Byte { at: u32 },
-    /// No token stands at this place, which is the first such.
+    /// No token begins at this position. It is the first such position.
     Token { at: u32 },
-    /// This is the first token with which no script goes on, or one past the last.
+    /// No script continues with this token. It is the first such token, or one past the last.
     Syntax { token: u32 },
-    /// A limit of the language is passed first at this token.
+    /// This limit is exceeded, and this is the first token at which it is.
     Limit { which: Which, token: u32 },
-    /// A table, column, procedure, variable, loop or key column of this name isn't there.
+    /// There is no table, column, procedure, variable, loop or key column of this name.
     UnknownName { token: u32 },
-    /// Another one of this name is there already.
+    /// The name is already taken.
     DoubleName { token: u32 },
-    /// This part has another type or length than its place, or is no declared variable where one is set.
+    /// The part doesn't have the required type or length, or it is set and isn't a declared variable.
     WrongType { token: u32 },
-    /// A key column is set.
+    /// An update sets a key column.
     KeyAssigned { token: u32 },
-    /// An item stands behind one of a later kind, or it is a second journal.
+    /// An item comes after one of a later kind, or it is a second journal.
     Late { token: u32 },
-    /// The field of a copy is no value of its column.
+    /// The field of a copy isn't a value of its column's type.
     Field { table: Txt, row: u32, column: u32 },
-    /// The record of a copy has another number of fields than its table has columns.
+    /// The record of a copy doesn't have one field for each column of its table.
     Width { table: Txt, row: u32 },
-    /// A row with the key is there already. Rows of VALUES or of the copy's block are counted.
+    /// The table already has a row with this row's key. The row is counted within VALUES or within the copy's block.
     Duplicate { table: Txt, row: u32 },
-    /// The block of a copy or of the journal has no end.
+    /// The block of a copy or of the journal isn't closed.
     OpenBlock,
 }
 
 impl Refusal {
-    /// The number of the refusal.
+    /// Returns the number of the refusal, from 1 to 14.
     pub fn number(&self) -> u32
         ensures { result ≡ number_of self.now }
     {
@@ -65,7 +65,10 @@ impl Refusal {
         }
     }
 
-    /// The line that is written.
+    /// Returns the line that reports the refusal, without a line end.
+    ///
+    /// # Errors
+    /// `NoMemory` if memory runs out.
     pub fn line(&self, alloc: Global) -> Result<Txt, NoMemory>
         ensures { IfOk result (λ line. line ≡ line_of self.now) }
     {
@@ -96,7 +99,7 @@ impl Refusal {
     }
 }
 
-/// A text with a number behind it.
+/// Returns a text followed by a number.
 fn numbered(alloc: Global, front: &[u8], number: u32) -> Result<Txt, NoMemory>
     requires { All IsPrintable front.now }
     ensures { IfOk result (λ text. text ≡ front.now ++ decimal number) }
@@ -106,7 +109,7 @@ fn numbered(alloc: Global, front: &[u8], number: u32) -> Result<Txt, NoMemory>
     Ok(text)
 }
 
-/// A text with a row of a table behind it.
+/// Returns a text followed by a table and a row.
 fn row_line(alloc: Global, front: &[u8], table: &Txt, row: u32) -> Result<Txt, NoMemory>
     requires { All IsPrintable front.now }
     ensures { IfOk result (λ text. text ≡ front.now ++ table.now ++ codes " row " ++ decimal row) }
@@ -118,7 +121,7 @@ fn row_line(alloc: Global, front: &[u8], table: &Txt, row: u32) -> Result<Txt, N
     Ok(text)
 }
 
-/// The line of a field that is no value.
+/// Returns the line of `Field`.
 fn field_line(alloc: Global, table: &Txt, row: u32, column: u32) -> Result<Txt, NoMemory>
     ensures { IfOk result (λ line. line ≡ codes "refused 11 table " ++ table.now ++ codes " row " ++ decimal row ++ codes " column " ++ decimal column) }
 {
@@ -128,7 +131,7 @@ fn field_line(alloc: Global, table: &Txt, row: u32, column: u32) -> Result<Txt, 
     Ok(line)
 }
 
-/// The line of a limit that is passed.
+/// Returns the line of `Limit`.
 fn limit_line(alloc: Global, which: Which, token: u32) -> Result<Txt, NoMemory>
     ensures { IfOk result (λ line. line ≡ codes "refused 5 limit " ++ limit_name which ++ codes " at token " ++ decimal token) }
 {
@@ -139,7 +142,7 @@ fn limit_line(alloc: Global, which: Which, token: u32) -> Result<Txt, NoMemory>
     Ok(line)
 }
 
-/// The printed name of a limit.
+/// Returns the printed name of a limit.
 fn limit_name(which: Which) -> &'static [u8]
     ensures name { result.now ≡ limit_name which }
     ensures printable { All IsPrintable result.now }
