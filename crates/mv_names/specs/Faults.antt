@@ -30,7 +30,7 @@ use Rattle.mv_names.specs.Statements.{doubles, table_named, missing_table, state
 
 -- Literals
 
--- a value of the type, and no text longer than it
+-- the value has the type, and a text is no longer than the type allows
 abbrev pub fits : ColType → Value → Bool
 fits column.Int (value.Int z) = true
 fits column.Int (value.Text t) = false
@@ -46,7 +46,7 @@ literals cs [] = []
 literals [] (l ∷ ls) = []
 literals (c ∷ cs) (l ∷ ls) = literal c.kind l ++ literals cs ls
 
--- a row of another length doesn't fit, and else each literal has to
+-- the row has a literal for each column, and each literal fits
 abbrev pub row : List ColDef → LitRow → List Fault
 row columns r = if length r.values == length columns then literals columns r.values else wrong r.token ∷ []
 
@@ -73,7 +73,7 @@ abbrev pub param_columns : ParamKind → List Fault
 param_columns (param.One kind) = []
 param_columns (param.Many columns) = column_doubles columns
 
--- a text that a variable begins with has at most 4,000 bytes
+-- the initial text of a variable has at most 4,000 bytes
 abbrev pub begins : Value → Bool
 begins (value.Int z) = true
 begins (value.Text t) = nat_le (length t) 4000
@@ -81,7 +81,7 @@ begins (value.Text t) = nat_le (length t) 4000
 abbrev pub initial : VarDef → List Fault
 initial v = when (not (begins v.initial.value)) (wrong v.initial.token)
 
--- its parameters and variables share one space, of which these names are taken
+-- parameters and variables share one namespace, in which these names are taken
 abbrev pub name_doubles : List Text → ProcDef → List Fault
 name_doubles taken p =
     doubles (λ (q : Param). q.name) taken p.params ++ doubles (λ (v : VarDef). v.name) (taken ++ map (λ (q : Param). q.name.text) p.params) p.vars
@@ -115,12 +115,12 @@ abbrev pub arg_token : Arg → ℕ
 arg_token (arg.One l) = l.token
 arg_token (arg.Many rs) = rs.token
 
--- the first token of the arguments, and the procedure's name where there are none
+-- the first token of the arguments, or that of the procedure's name if there are none
 abbrev pub arguments_token : List Arg → Name → ℕ
 arguments_token [] n = n.token
 arguments_token (a ∷ as') n = arg_token a
 
--- arguments of another number don't fit, and else each has to
+-- the call has an argument for each parameter, and each argument fits
 abbrev pub call_to : Option ProcDef → CallDef → List Fault
 call_to None c = unknown c.name.token ∷ []
 call_to (Some p) c =
@@ -132,7 +132,7 @@ procedure_named procedures n = first_named (λ (p : ProcDef). p.name.text) proce
 abbrev pub call : List ProcDef → CallDef → List Fault
 call procedures c = call_to (procedure_named procedures c.name) c
 
--- The whole. A table and a procedure may share a name; those that stand later in the script are there too.
+-- The whole script. A table and a procedure may share a name. Items may be used before they are declared.
 
 abbrev pub table_doubles : List TableDef → List Fault
 table_doubles tables = doubles (λ (t : TableDef). t.name) [] tables

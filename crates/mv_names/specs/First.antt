@@ -1,4 +1,5 @@
--- The first of faults: the one at the least token, and at one token the one whose kind stands first. This project's own rule.
+-- The first of a script's faults: the one at the least token, and at one token the one whose kind comes first. This
+-- project's own rule.
 use Rattle.std.specs.Prelude.{◌≡◌, ℕ, Bool, true, false, ◌&&◌, ◌||◌, List, [], ◌∷◌, ◌++◌, Option, Some, None, nat_lt, ◌==◌, All}
 use Rattle.mv_names.specs.declared.fault.Fault.{Fault}
 use Rattle.mv_names.specs.declared.fault.FaultKind.{FaultKind}
@@ -15,16 +16,16 @@ rank Late = 4
 abbrev pub is_before : Fault → Fault → Bool
 is_before f g = nat_lt f.token g.token || (f.token == g.token && nat_lt (rank f.kind) (rank g.kind))
 
--- a fault is the first of faults: it is one of them, and none is before it
+-- the fault is the first: it is one of the faults, and no other is before it
 abbrev pub IsFirst : List Fault → Fault → Type 0
 IsFirst faults f = (front : List Fault) × (back : List Fault) × (faults ≡ front ++ f ∷ back) × All (λ g. is_before g f ≡ false) faults
 
--- the same where there may be none
+-- the first fault, or none if there are no faults
 abbrev pub IsFirstOf : List Fault → Option Fault → Type 0
 IsFirstOf faults None = faults ≡ []
 IsFirstOf faults (Some f) = IsFirst faults f
 
--- the faults, each with the number of its token
+-- a fault of each kind, at the token with this number
 abbrev pub unknown : ℕ → Fault
 unknown token = record { token = token; kind = UnknownName }
 
@@ -40,7 +41,7 @@ key_set token = record { token = token; kind = KeyAssigned }
 abbrev pub late : ℕ → Fault
 late token = record { token = token; kind = Late }
 
--- the fault where the test holds
+-- the fault if the test holds
 abbrev pub when : Bool → Fault → List Fault
 when true f = f ∷ []
 when false f = []

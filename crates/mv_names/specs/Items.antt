@@ -1,4 +1,4 @@
--- The items of a script by their kinds, and the items that come late.
+-- The items of a script grouped by kind, and the items that come too late.
 use Rattle.std.specs.Prelude.{ℕ, List, [], ◌∷◌, ◌++◌, nat_lt, max}
 use Rattle.std.specs.List.{flat_map}
 use Rattle.mv_ast.specs.declared.tree.Item.{Item}
@@ -33,7 +33,7 @@ abbrev pub journal_in : ItemKind → List Span
 journal_in (Journal j) = j ∷ []
 journal_in k = []
 
--- the items by their kinds
+-- the items grouped by kind
 abbrev pub parts_of : List Item → Parts
 parts_of items = record {
   tables = flat_map (λ (i : Item). table_in i.kind) items;
@@ -51,7 +51,7 @@ stage (Copy c) = 2
 stage (Call c) = 3
 stage (Journal j) = 4
 
--- the least kind that may stand after an item; nothing may stand after a journal
+-- the least kind allowed after an item; nothing is allowed after a journal
 abbrev pub stage_after : ItemKind → ℕ
 stage_after (Table t) = 0
 stage_after (Proc p) = 1
@@ -59,7 +59,7 @@ stage_after (Copy c) = 2
 stage_after (Call c) = 3
 stage_after (Journal j) = 5
 
--- an item is late where its kind may not stand after one before it; this is the least kind that may stand now
+-- an item is late if its kind is below the least kind allowed, given here; each item may raise that kind
 abbrev pub lates : ℕ → List Item → List Fault
 lates least [] = []
 lates least (i ∷ is) = when (nat_lt (stage i.kind) least) (late i.token) ++ lates (max least (stage_after i.kind)) is

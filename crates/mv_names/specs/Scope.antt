@@ -1,4 +1,5 @@
--- The names of a procedure: `:found`, its parameters, its variables, and the loops around a place. They share one space.
+-- The names in scope in a procedure: `:found`, its parameters, its variables, and the enclosing loops. They share one
+-- namespace.
 use Rattle.std.specs.Prelude.{List, [], ◌∷◌, ◌++◌, map, codes, Option, Some, None}
 use Rattle.mv_values.specs.declared.schema.ColType.{ColType}
 use Rattle.mv_values.specs.declared.schema.ColType.TheVariants as column
@@ -30,7 +31,7 @@ abbrev pub type_of_value : Value → ValueType
 type_of_value (value.Int z) = Int
 type_of_value (value.Text t) = Text
 
--- the first column of the name, by its type
+-- the type of the column found, or unknown
 abbrev pub type_of_column : Option ColDef → ValueType
 type_of_column None = Unknown
 type_of_column (Some c) = type_in c.kind
@@ -38,12 +39,12 @@ type_of_column (Some c) = type_in c.kind
 abbrev pub column_type : List ColDef → named.Text → ValueType
 column_type columns n = type_of_column (first_named (λ (c : ColDef). c.name.text) columns n)
 
--- the columns of a table, where it is there
+-- the columns of a table, if it exists
 abbrev pub columns_of : Option TableDef → Option (List ColDef)
 columns_of None = None
 columns_of (Some t) = Some t.columns
 
--- the type of a column; unknown where the table or the column isn't there
+-- the type of a column; unknown if the table or the column doesn't exist
 abbrev pub type_among : Option (List ColDef) → named.Text → ValueType
 type_among None n = Unknown
 type_among (Some columns) n = column_type columns n
@@ -62,23 +63,23 @@ meaning_of (param.Many columns) = Rows (map declared_field columns)
 abbrev pub parameter : Param → Entry
 parameter p = record { name = p.name.text; meaning = meaning_of p.kind }
 
--- a literal gives its variable the type
+-- a variable has the type of its initial literal
 abbrev pub variable : VarDef → Entry
 variable v = record { name = v.name.text; meaning = Variable (type_of_value v.initial.value) }
 
--- the names of a procedure outside its loops
+-- the names in scope in a procedure outside its loops
 abbrev pub scope_of : ProcDef → List Entry
 scope_of p = found ∷ map parameter p.params ++ map variable p.vars
 
--- a selected column, as a column of the loop's row
+-- a selected column as a field of the loop's row
 abbrev pub selected_field : Option (List ColDef) → Name → Field
 selected_field columns n = record { name = n.text; kind = type_among columns n.text }
 
--- a loop over a SELECT
+-- the row of a loop over a SELECT
 abbrev pub select_turn : Name → Option (List ColDef) → List Name → Entry
 select_turn row columns names = record { name = row.text; meaning = Turn (map (selected_field columns) names) }
 
--- the columns of a ROWS parameter, none of anything else
+-- the columns of a ROWS parameter; empty for anything else
 abbrev pub rows_in : Meaning → List Field
 rows_in (Rows fields) = fields
 rows_in m = []
@@ -87,10 +88,10 @@ abbrev pub fields_of : Option Entry → List Field
 fields_of None = []
 fields_of (Some e) = rows_in e.meaning
 
--- what a name stands for
+-- the entry of a name
 abbrev pub entry_of : List Entry → named.Text → Option Entry
 entry_of scope n = first_named (λ (e : Entry). e.name) scope n
 
--- a loop over a ROWS parameter: its row has the parameter's columns
+-- the row of a loop over a ROWS parameter has the parameter's columns
 abbrev pub rows_turn : Name → List Entry → Name → Entry
 rows_turn row scope rows = record { name = row.text; meaning = Turn (fields_of (entry_of scope rows.text)) }

@@ -27,7 +27,7 @@ use Rattle.mv_names.specs.Typing.{misfit, in_place, placed, judged, column_fault
 
 -- Names
 
--- each name that is taken, or stands before it too
+-- each name that is taken or occurs earlier in the list
 abbrev pub doubles : {A : Type 0} → (A → Name) → List named.Text → List A → List Fault
 doubles label_of taken [] = []
 doubles label_of taken (x ∷ xs) =
@@ -58,11 +58,11 @@ abbrev pub target_faults : ℕ → Option Entry → List Fault
 target_faults token None = unknown token ∷ []
 target_faults token (Some e) = set_faults token e.meaning
 
--- a target that takes a value of this type
+-- a target that receives a value of this type
 abbrev pub target : List Entry → ValueType → Name → List Fault
 target scope value n = target_faults n.token (entry_of scope n.text) ++ misfit value n.token (target_type (entry_of scope n.text))
 
--- a target for each column; one without a column takes any value
+-- a target for each column; a target without a column takes any value
 abbrev pub targets : List Entry → Option (List ColDef) → List Name → List Name → List Fault
 targets scope columns cs [] = []
 targets scope columns [] (n ∷ ns) = target scope Unknown n ++ targets scope columns [] ns
@@ -70,7 +70,7 @@ targets scope columns (c ∷ cs) (n ∷ ns) = target scope (type_among columns c
 
 -- Clauses
 
--- the first token of a list, and this one where it is empty
+-- the first token of a list, or this one if the list is empty
 abbrev pub names_token : List Name → ℕ → ℕ
 names_token [] token = token
 names_token (n ∷ ns) token = n.token
@@ -79,7 +79,7 @@ abbrev pub values_token : List Expr → ℕ → ℕ
 values_token [] token = token
 values_token (e ∷ es) token = e.token
 
--- a test of WHERE: its right side has the column's type
+-- a condition of WHERE: its right side has the column's type
 abbrev pub cond_faults : List Entry → Option (List ColDef) → Cond → List Fault
 cond_faults scope columns c = column_faults columns c.column ++ placed (type_among columns c.column.text) scope c.right
 
@@ -100,7 +100,7 @@ agg_type columns (Sum n) = Int
 agg_type columns (Min n) = type_among columns n.text
 agg_type columns (Max n) = type_among columns n.text
 
--- a total's column is there, and that of a SUM is INT
+-- an aggregate's column exists, and that of a SUM is INT
 abbrev pub agg_faults : Option (List ColDef) → Agg → List Fault
 agg_faults columns CountAll = []
 agg_faults columns (CountDistinct n) = column_faults columns n
@@ -108,7 +108,7 @@ agg_faults columns (Sum n) = column_faults columns n ++ misfit Int n.token (type
 agg_faults columns (Min n) = column_faults columns n
 agg_faults columns (Max n) = column_faults columns n
 
--- a loop's name is not taken where it stands
+-- a loop's name is not yet in scope
 abbrev pub turn_name : List Entry → Name → List Fault
 turn_name scope n = when (is_named (λ (e : Entry). e.name) scope n.text) (double n.token)
 
@@ -120,7 +120,7 @@ abbrev pub rows_faults : ℕ → Option Entry → List Fault
 rows_faults token None = unknown token ∷ []
 rows_faults token (Some e) = not_rows token e.meaning
 
--- a value for each column; one without a column may have any type
+-- a value for each column; a value without a column may have any type
 abbrev pub values_faults : List Entry → List ColDef → List Expr → List Fault
 values_faults scope cs [] = []
 values_faults scope [] (e ∷ es) = placed Unknown scope e ++ values_faults scope [] es
@@ -130,7 +130,7 @@ abbrev pub is_key : Option TableDef → named.Text → Bool
 is_key None n = false
 is_key (Some t) n = is_named (λ (k : Name). k.text) t.key n
 
--- an item of SET: its column is there and no key column, and its expression has the column's type
+-- an item of SET: its column exists and isn't in the key, and its expression has the column's type
 abbrev pub item_faults : List Entry → Option TableDef → SetItem → List Fault
 item_faults scope t i =
     column_faults (columns_of t) i.column ++ when (is_key t i.column.text) (key_set i.column.token)
@@ -138,7 +138,7 @@ item_faults scope t i =
 
 -- Statements
 
--- the faults among the names of a place
+-- the faults, given the names in scope
 abbrev pub Faults : Type 0
 Faults = List Entry → List Fault
 
@@ -150,7 +150,7 @@ all_faults (s ∷ ss) scope = s scope ++ all_faults ss scope
 abbrev pub assign : Name → Expr → Faults
 assign to right scope = target_faults to.token (entry_of scope to.text) ++ placed (target_type (entry_of scope to.text)) scope right
 
--- SELECT INTO; where columns and targets differ in number, the targets don't fit
+-- SELECT INTO: as many targets as columns, and each target fits its column
 abbrev pub select : Option TableDef → List Name → List Name → Name → List Cond → List Sort → Option Expr → Faults
 select t columns to table conds sorts offset scope =
     missing_table table.token t ++ flat_map (column_faults (columns_of t)) columns
@@ -163,7 +163,7 @@ total t agg to table conds scope =
     missing_table table.token t ++ agg_faults (columns_of t) agg ++ target scope (agg_type (columns_of t) agg) to
     ++ where_faults scope (columns_of t) conds
 
--- FOR over SELECT; its row is seen in its body alone
+-- FOR over SELECT: its row is in scope in its body only
 abbrev pub for_select : Option TableDef → Name → List Name → Name → List Cond → List Sort → Faults → Faults
 for_select t turn columns table conds sorts body scope =
     turn_name scope turn ++ missing_table table.token t ++ flat_map (column_faults (columns_of t)) columns
@@ -178,7 +178,7 @@ for_rows turn rows body scope =
 abbrev pub branch : Expr → Faults → Faults → Faults
 branch test ys ns scope = placed Int scope test ++ ys scope ++ ns scope
 
--- INSERT; a list of another length than the columns' doesn't fit
+-- INSERT: a value for each column
 abbrev pub insert : Option TableDef → Name → List Expr → Faults
 insert None table values scope = unknown table.token ∷ values_faults scope [] values
 insert (Some t) table values scope =
@@ -198,7 +198,7 @@ delete t table conds scope = missing_table table.token t ++ where_faults scope (
 abbrev pub print : List Expr → Faults
 print values scope = values_faults scope [] values
 
--- the faults of a statement, given those of the statements in it
+-- the faults of a statement, given those of the statements it contains
 abbrev pub stmt_step : List TableDef → Stmt-F Faults → Faults
 stmt_step tables (Assign token to right) = assign to right
 stmt_step tables (Select token columns to table conds sorts offset) = select (table_named tables table.text) columns to table conds sorts offset
@@ -216,6 +216,6 @@ stmt_step tables (Rollback token reason) = λ scope. []
 abbrev pub statement_faults : List TableDef → Stmt → Faults
 statement_faults tables = fold-Stmt Faults (stmt_step tables)
 
--- the faults of statements
+-- the faults of a statement list
 abbrev pub statements : List TableDef → List Stmt → Faults
 statements tables ss = all_faults (map (statement_faults tables) ss)

@@ -1,4 +1,4 @@
--- The type of an expression, and its faults.
+-- The types of expressions, and their faults.
 use Rattle.std.specs.Prelude.{ℕ, Bool, true, false, List, [], ◌∷◌, ◌++◌, Option, Some, None}
 use Rattle.mv_ast.specs.declared.tree.Name.{Name}
 use Rattle.mv_ast.specs.declared.tree.ColDef.{ColDef}
@@ -20,27 +20,27 @@ use Rattle.mv_names.specs.First.{unknown, wrong, when}
 use Rattle.mv_names.specs.Named.{first_named}
 use Rattle.mv_names.specs.Scope.{entry_of, type_of_value, type_among}
 
--- two types that can't stand in one place
+-- the two types exclude each other
 abbrev pub clash : ValueType → ValueType → Bool
 clash Int Text = true
 clash Text Int = true
 clash t u = false
 
--- a part with its first token, its type and its faults
+-- an expression: its first token, its type and its faults
 pub record Judged : Type 0 where
   pub token : ℕ
   pub type : ValueType
   pub faults : List Fault
 
--- a part in a place of this type
+-- an expression in a place of this type
 abbrev pub misfit : ValueType → ℕ → ValueType → List Fault
 misfit place token type = when (clash place type) (wrong token)
 
 abbrev pub in_place : ValueType → Judged → List Fault
 in_place place part = part.faults ++ misfit place part.token part.type
 
--- a name that is read as a value; a ROWS parameter or a loop can't be. A name that isn't there is a fault at the name, one of
--- the wrong sort at the expression's first token, which in parentheses is the `(`.
+-- a name read as a value is a parameter, a variable or `:found`. An undeclared name is a fault at the name. A ROWS
+-- parameter or a loop is a fault at the first token of the expression, which may be a `(`.
 abbrev pub type_of_meaning : Meaning → ValueType
 type_of_meaning (Fixed t) = t
 type_of_meaning (Variable t) = t
@@ -103,7 +103,7 @@ judged_field scope r n token = record {
   faults = of_turn_faults r token (entry_of scope r.text) n;
 }
 
--- a column: one that isn't there is a fault, but not where its table isn't there
+-- an unknown column is a fault, unless its table is unknown too
 abbrev pub missing_column : ℕ → Option ColDef → List Fault
 missing_column token None = unknown token ∷ []
 missing_column token (Some c) = []
@@ -115,7 +115,7 @@ column_faults (Some columns) n = missing_column n.token (first_named (λ (c : Co
 abbrev pub judged_column : Option (List ColDef) → Name → ℕ → Judged
 judged_column columns n token = record { token = token; type = type_among columns n.text; faults = column_faults columns n }
 
--- the type that an operator wants, and the one that it gives
+-- the type that an operator takes, and the type that it returns
 abbrev pub one_wants : OneOp → ValueType
 one_wants op = Int
 
@@ -124,7 +124,7 @@ one_gives Neg = Int
 one_gives Not = Int
 one_gives TextOf = Text
 
--- the type of the left side; any will do for a comparison
+-- the type of the left side; a comparison takes any
 abbrev pub left_wants : TwoOp → ValueType
 left_wants Add = Int
 left_wants Sub = Int
@@ -138,7 +138,7 @@ left_wants Or = Int
 left_wants Left = Text
 left_wants Contains = Text
 
--- the type of the right side; that of the left side for a comparison
+-- the type of the right side; in a comparison it is that of the left side
 abbrev pub right_wants : TwoOp → ValueType → ValueType
 right_wants Add t = Int
 right_wants Sub t = Int
@@ -165,7 +165,7 @@ two_gives Or = Int
 two_gives Left = Text
 two_gives Contains = Int
 
--- what is judged for the names of a place and the columns that stand there by themselves
+-- an expression, given the names in scope and the columns that may occur bare
 abbrev pub Judges : Type 0
 Judges = List Entry → Option (List ColDef) → Judged
 
@@ -190,7 +190,7 @@ kind_step (kind.Two op a b) token scope columns = judged_two op (a scope columns
 abbrev pub expr_step : Expr-F (ℕ → Judges) Judges → Judges
 expr_step e scope columns = e.kind e.token scope columns
 
--- an expression
+-- the judgement of an expression
 abbrev pub judged : Expr → Judges
 judged = fold-Expr (ℕ → Judges) Judges kind_step expr_step
 
@@ -200,6 +200,6 @@ type_of scope columns e = (judged e scope columns).type
 abbrev pub faults_of : List Entry → Option (List ColDef) → Expr → List Fault
 faults_of scope columns e = (judged e scope columns).faults
 
--- an expression in a place of this type, where no column stands by itself
+-- an expression in a place of this type, without bare columns
 abbrev pub placed : ValueType → List Entry → Expr → List Fault
 placed place scope e = in_place place (judged e scope (Some []))

@@ -1,4 +1,4 @@
-//! The faults of statements one after another, and of those that hold others.
+//! Faults of statement lists, and of statements that contain others.
 
 ghost use Rattle.std.specs.Prelude.{◌≡◌, ◌∷◌, ◌++◌, [], take, OnOk};
 ghost use Rattle.std.specs.Option.{option_copied};
@@ -18,14 +18,14 @@ use mv_values::list::List;
 use mv_values::memory::NoMemory;
 use std::alloc::Global;
 
-/// Leaves a loop, before which so many names were seen.
+/// Leaves a loop: removes the names added since the scope had `outside` entries.
 fn leave(scope: &mut List<Entry>, outside: usize)
     ensures { scope.new ≡ take outside scope.old }
 {
     scope.truncate(outside);
 }
 
-/// Adds the faults of statements. The names are as before.
+/// Adds the faults of statements. Leaves the scope as it was.
 #[cycle(statements)]
 pub(crate) fn check_statements(
     alloc: Global,
@@ -43,7 +43,7 @@ pub(crate) fn check_statements(
     Ok(())
 }
 
-/// Adds the faults of a statement. The names are as before.
+/// Adds the faults of a statement. Leaves the scope as it was.
 #[cycle(statements)]
 fn check_statement(
     alloc: Global,
@@ -159,7 +159,7 @@ fn check_statement(
     }
 }
 
-/// FOR over SELECT. Its row is seen in its body alone.
+/// Checks a FOR over SELECT. Its row is in scope in its body only.
 #[cycle(statements)]
 fn check_for_select(
     alloc: Global,
@@ -191,7 +191,7 @@ fn check_for_select(
     check_body(alloc, tables, entry, body, scope, faults)
 }
 
-/// FOR over a ROWS parameter.
+/// Checks a FOR over a ROWS parameter.
 #[cycle(statements)]
 fn check_for_rows(
     alloc: Global,
@@ -211,7 +211,7 @@ fn check_for_rows(
     check_body(alloc, tables, entry, body, scope, faults)
 }
 
-/// The body of a loop, in which its row is seen.
+/// Checks the body of a loop, with its row in scope.
 #[cycle(statements)]
 fn check_body(
     alloc: Global,

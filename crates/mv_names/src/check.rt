@@ -16,7 +16,7 @@ use mv_values::list::List;
 use mv_values::memory::NoMemory;
 use std::alloc::Global;
 
-/// The place of an item's kind in the order of kinds.
+/// Returns the position of an item's kind in the order of kinds.
 fn stage_of(kind: &ItemKind) -> u8
     ensures { result ≡ stage kind.now }
 {
@@ -29,7 +29,7 @@ fn stage_of(kind: &ItemKind) -> u8
     }
 }
 
-/// The least kind that may stand after an item.
+/// Returns the least kind allowed after an item.
 fn stage_behind(kind: &ItemKind) -> u8
     ensures { result ≡ stage_after kind.now }
 {
@@ -42,7 +42,7 @@ fn stage_behind(kind: &ItemKind) -> u8
     }
 }
 
-/// Adds an item before whose kind this one has begun.
+/// Reports an item whose kind is below the least kind allowed.
 fn check_item(least: u8, item: &Item, faults: &mut List<Fault>) -> Result<(), NoMemory>
     ensures { OnOk result (faults.new ≡ faults.old ++ when (nat_lt (stage item.now.kind) least) (late item.now.token)) }
 {
@@ -53,7 +53,8 @@ fn check_item(least: u8, item: &Item, faults: &mut List<Fault>) -> Result<(), No
     )
 }
 
-/// Adds the items that stand after one of a later kind.
+/// Adds a fault for each item that follows an item of a later kind, and for each item after a journal. Fails if memory
+/// runs out.
 pub fn check_order(items: &[Item], faults: &mut List<Fault>) -> Result<(), NoMemory>
     ensures { OnOk result (faults.new ≡ faults.old ++ lates 0 items.now) }
 {
@@ -138,7 +139,7 @@ fn check_procedure_names(
     check_doubles(alloc, &mut List::new(alloc), procedures, faults)
 }
 
-/// Adds the faults of the items, but for their order.
+/// Adds all faults of the items except those of their order. Fails if memory runs out.
 pub fn check_parts(alloc: Global, parts: &Parts, faults: &mut List<Fault>) -> Result<(), NoMemory>
     ensures { OnOk result (faults.new ≡ faults.old ++ parts_faults parts.now) }
 {

@@ -1,4 +1,4 @@
-//! The types of expressions, and their faults.
+//! Types and faults of expressions.
 
 ghost use Rattle.std.specs.Prelude.{◌≡◌, ◌++◌, OnOk, IfOk};
 ghost use Rattle.std.specs.Option.{option_copied};
@@ -14,7 +14,7 @@ use mv_values::memory::NoMemory;
 use mv_values::schema::ColType;
 use mv_values::value::Value;
 
-/// The type of a column's values.
+/// Returns the type of a column's values.
 pub(crate) fn column_kind(kind: ColType) -> ValueType
     ensures { result ≡ type_in kind }
 {
@@ -33,7 +33,7 @@ pub(crate) fn value_kind(value: &Value) -> ValueType
     }
 }
 
-/// The type of a column, unknown where the table or the column isn't there.
+/// Returns the type of a column; unknown if the table or the column doesn't exist.
 pub(crate) fn kind_among(columns: Option<&[ColDef]>, name: &Name) -> ValueType
     ensures { result ≡ type_among (option_copied columns.entry) name.now.text }
 {
@@ -46,7 +46,7 @@ pub(crate) fn kind_among(columns: Option<&[ColDef]>, name: &Name) -> ValueType
     }
 }
 
-/// Whether two types can't stand in one place.
+/// Whether two types exclude each other.
 fn do_clash(place: ValueType, kind: ValueType) -> bool
     ensures { result ≡ clash place kind }
 {
@@ -56,7 +56,7 @@ fn do_clash(place: ValueType, kind: ValueType) -> bool
     }
 }
 
-/// Adds a part that doesn't fit its place.
+/// Reports a value whose type doesn't fit its place.
 pub(crate) fn check_fit(
     faults: &mut List<Fault>,
     place: ValueType,
@@ -68,7 +68,7 @@ pub(crate) fn check_fit(
     add_if(faults, do_clash(place, kind), Fault::wrong(token))
 }
 
-/// A name that is read as a value, in an expression that begins at this token.
+/// Checks a name read as a value, in an expression that begins at this token. Returns its type.
 fn check_variable(
     scope: &[Entry],
     name: &Name,
@@ -98,7 +98,7 @@ fn check_variable(
     }
 }
 
-/// A column among those of a loop's row.
+/// Checks a column among the fields of a loop's row. Returns its type.
 fn check_in_turn(
     fields: &[Field],
     name: &Name,
@@ -116,7 +116,7 @@ fn check_in_turn(
     }
 }
 
-/// A column of a loop's row, in an expression that begins at this token.
+/// Checks a column of a loop's row, in an expression that begins at this token. Returns its type.
 fn check_field(
     scope: &[Entry],
     row: &Name,
@@ -142,7 +142,7 @@ fn check_field(
     }
 }
 
-/// Adds a column that isn't there, where its table is.
+/// Reports a column that doesn't exist in an existing table.
 pub(crate) fn check_column(
     columns: Option<&[ColDef]>,
     name: &Name,
@@ -173,7 +173,7 @@ fn given_by_one(op: OneOp) -> ValueType
     }
 }
 
-/// The type of an operator's left side.
+/// Returns the type that an operator takes on its left.
 fn wanted_left(op: TwoOp) -> ValueType
     ensures { result ≡ left_wants op }
 {
@@ -185,7 +185,7 @@ fn wanted_left(op: TwoOp) -> ValueType
     }
 }
 
-/// The type of an operator's right side, where the left side has this type.
+/// Returns the type that an operator takes on its right, given the type of its left side.
 fn wanted_right(op: TwoOp, left: ValueType) -> ValueType
     ensures { result ≡ right_wants op left }
 {
@@ -207,7 +207,7 @@ fn given_by_two(op: TwoOp) -> ValueType
     }
 }
 
-/// The type of an expression. It adds the faults in it.
+/// Adds the faults of an expression and returns its type.
 #[cycle(judging)]
 pub(crate) fn check_expr(
     scope: &[Entry],
@@ -238,7 +238,7 @@ pub(crate) fn check_expr(
     }
 }
 
-/// The type of an expression in a place of this type. It adds the faults in it, and one where it doesn't fit.
+/// Adds the faults of an expression in a place of this type, misfit included. Returns the expression's type.
 #[cycle(judging)]
 pub(crate) fn check_operand(
     place: ValueType,
@@ -255,7 +255,7 @@ pub(crate) fn check_operand(
     Ok(kind)
 }
 
-/// An expression in a place of this type, where no column stands by itself.
+/// Checks an expression in a place of this type. It may not contain bare columns.
 pub(crate) fn check_placed(
     place: ValueType,
     scope: &[Entry],

@@ -1,4 +1,4 @@
-//! Faults of names and types, and which of two comes first.
+//! Faults of names and types, and their order.
 
 ghost use Rattle.std.specs.Prelude.{◌≡◌, ◌++◌, OnOk};
 ghost use Rattle.mv_names.specs.First.{is_before, rank, when, IsFirstOf};
@@ -8,29 +8,29 @@ ghost use Rattle.mv_names.specs.Earlier.{earlier_of};
 use mv_values::list::List;
 use mv_values::memory::NoMemory;
 
-/// What is wrong with a name or a type. At one token the first kind of this list counts.
+/// The kind of a fault. If several faults are at one token, the kind listed first here counts.
 #[derive(Clone, Copy)]
 pub enum FaultKind {
-    /// A name that isn't there.
+    /// A name that isn't declared.
     UnknownName,
-    /// A second one of a name.
+    /// A name that is already taken.
     DoubleName,
-    /// A part of another type or length than its place, or a target that can't be set.
+    /// A value or list whose type or length doesn't fit its place, or a target that can't be assigned.
     WrongType,
-    /// A key column in SET.
+    /// A key column in the SET list of an UPDATE.
     KeyAssigned,
-    /// An item after one of a later kind.
+    /// An item after an item of a later kind.
     Late,
 }
 
-/// A fault, with the number of the token that it stands at.
+/// A fault at a token. `token` is the token's number.
 #[derive(Clone, Copy)]
 pub struct Fault {
     pub token: u32,
     pub kind: FaultKind,
 }
 
-/// The place of a kind in the list.
+/// Returns the position of a kind in `FaultKind`.
 fn rank_of(kind: FaultKind) -> u8
     ensures { result ≡ rank kind }
 {
@@ -52,7 +52,7 @@ fn comes_before(fault: Fault, other: Fault) -> bool
 }
 
 impl Fault {
-    /// A name that isn't there.
+    /// Returns a fault for a name that isn't declared.
     pub(crate) fn unknown(token: u32) -> Fault
         ensures { result ≡ kinds.unknown token }
     {
@@ -62,7 +62,7 @@ impl Fault {
         }
     }
 
-    /// A second one of a name.
+    /// Returns a fault for a name that is already taken.
     pub(crate) fn double(token: u32) -> Fault
         ensures { result ≡ kinds.double token }
     {
@@ -72,7 +72,7 @@ impl Fault {
         }
     }
 
-    /// A part of another type or length than its place.
+    /// Returns a fault for a value or list whose type or length doesn't fit its place.
     pub(crate) fn wrong(token: u32) -> Fault
         ensures { result ≡ kinds.wrong token }
     {
@@ -82,7 +82,7 @@ impl Fault {
         }
     }
 
-    /// A key column in SET.
+    /// Returns a fault for a key column in SET.
     pub(crate) fn key_set(token: u32) -> Fault
         ensures { result ≡ kinds.key_set token }
     {
@@ -92,7 +92,7 @@ impl Fault {
         }
     }
 
-    /// An item after one of a later kind.
+    /// Returns a fault for an item after an item of a later kind.
     pub(crate) fn late(token: u32) -> Fault
         ensures { result ≡ kinds.late token }
     {
@@ -103,7 +103,7 @@ impl Fault {
     }
 }
 
-/// Adds a fault where the test holds.
+/// Adds a fault if the test holds.
 pub(crate) fn add_if(faults: &mut List<Fault>, holds: bool, fault: Fault) -> Result<(), NoMemory>
     ensures { OnOk result (faults.new ≡ faults.old ++ when holds fault) }
 {
@@ -113,7 +113,7 @@ pub(crate) fn add_if(faults: &mut List<Fault>, holds: bool, fault: Fault) -> Res
     Ok(())
 }
 
-/// The earlier of the first fault so far and one more.
+/// Returns the earlier of the first fault so far and another one.
 fn earlier(first: Option<Fault>, fault: Fault) -> Fault
     ensures { result ≡ earlier_of first fault }
 {
@@ -129,7 +129,8 @@ fn earlier(first: Option<Fault>, fault: Fault) -> Fault
     }
 }
 
-/// The first of faults, none only where there are none.
+/// Returns the fault that comes first by token, then by kind. Returns `None` only if there are no faults. Costs one
+/// pass over the faults.
 pub fn first_of(faults: &[Fault]) -> Option<Fault>
     ensures { IsFirstOf faults.now result }
 {

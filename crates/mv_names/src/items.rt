@@ -1,4 +1,4 @@
-//! The faults of tables, procedures, copies and calls.
+//! Faults of tables, procedures, copies and calls.
 
 ghost use Rattle.std.specs.Prelude.{◌≡◌, ◌∷◌, ◌++◌, [], map, codes, length, OnOk, IfOk};
 ghost use Rattle.std.specs.List.{flat_map};
@@ -27,7 +27,7 @@ use std::alloc::Global;
 
 // Literals
 
-/// Whether a value is of the type, and no text longer than it.
+/// Whether a value has the type, and a text is no longer than the type allows.
 fn does_fit(kind: ColType, value: &Value) -> bool
     ensures { result ≡ fits kind value.now }
 {
@@ -48,7 +48,7 @@ fn check_literal(kind: ColType, literal: &Lit, faults: &mut List<Fault>) -> Resu
     )
 }
 
-/// A literal for each column.
+/// Checks a literal for each column.
 fn check_literals(
     columns: &[ColDef],
     literals: &[Lit],
@@ -95,7 +95,7 @@ fn check_column_names(
     check_doubles(alloc, &mut List::new(alloc), columns, faults)
 }
 
-/// Adds a key column that isn't there.
+/// Reports a key column that doesn't exist.
 fn check_key_column(
     columns: &[ColDef],
     name: &Name,
@@ -158,10 +158,10 @@ fn check_params(alloc: Global, params: &[Param], faults: &mut List<Fault>) -> Re
     Ok(())
 }
 
-/// The greatest number of bytes of a variable's text.
+/// The greatest length of a variable's text, in bytes.
 const LONGEST: usize = 4000;
 
-/// Whether a variable may begin with the value.
+/// Whether a variable may have this initial value.
 fn can_begin(value: &Value) -> bool
     ensures { result ≡ begins value.now }
 {
@@ -192,7 +192,7 @@ fn found_name(alloc: Global) -> Result<Txt, NoMemory>
     Txt::of(alloc, FOUND)
 }
 
-/// Adds the parameters and variables whose name is taken. They share one space.
+/// Reports parameters and variables whose name is taken. Both share one namespace.
 fn check_names(
     alloc: Global,
     taken: &mut List<Txt>,
@@ -206,7 +206,7 @@ fn check_names(
     Ok(())
 }
 
-/// The names that are taken from the start.
+/// Returns the names that are taken from the start.
 fn first_names(alloc: Global) -> Result<List<Txt>, NoMemory>
     ensures { IfOk result (λ all. all ≡ found.name ∷ []) }
 {
@@ -263,7 +263,7 @@ fn add_vars(alloc: Global, scope: &mut List<Entry>, vars: &[VarDef]) -> Result<(
     Ok(())
 }
 
-/// The names of a procedure outside its loops.
+/// Returns the names in scope in a procedure outside its loops.
 fn names_of_procedure(alloc: Global, procedure: &ProcDef) -> Result<List<Entry>, NoMemory>
     ensures { IfOk result (λ all. all ≡ scope_of procedure.now) }
 {
@@ -277,7 +277,7 @@ fn names_of_procedure(alloc: Global, procedure: &ProcDef) -> Result<List<Entry>,
     Ok(scope)
 }
 
-/// The names and first values that a procedure declares.
+/// Checks the names and initial values that a procedure declares.
 fn check_declarations(
     alloc: Global,
     procedure: &ProcDef,
@@ -332,7 +332,7 @@ fn check_argument(kind: &ParamKind, arg: &Arg, faults: &mut List<Fault>) -> Resu
     }
 }
 
-/// An argument for each parameter.
+/// Checks an argument for each parameter.
 fn check_arguments(params: &[Param], args: &[Arg], faults: &mut List<Fault>) -> Result<(), NoMemory>
     requires { length args.now ≡ length params.now }
     ensures { OnOk result (faults.new ≡ faults.old ++ meant.arguments params.now args.now) }
@@ -352,7 +352,7 @@ fn token_of_arg(arg: &Arg) -> u32
     }
 }
 
-/// The first token of the arguments, and the procedure's name where there are none.
+/// Returns the first token of the arguments, or that of the procedure's name if there are none.
 fn token_of_args(args: &[Arg], name: &Name) -> u32
     ensures { result ≡ arguments_token args.now name.now }
 {

@@ -1,4 +1,4 @@
-//! Second ones of a name.
+//! Duplicate names.
 
 ghost use Rattle.std.specs.Prelude.{◌≡◌, ◌++◌, map, OnOk};
 ghost use Rattle.mv_names.specs.Statements.{doubles};
@@ -12,14 +12,14 @@ use mv_values::memory::NoMemory;
 use mv_values::txt::Txt;
 use std::alloc::Global;
 
-/// What has a name with a place in the text.
+/// An item whose name has a position in the text.
 pub(crate) trait Labelled {
     ghost use Rattle.mv_ast.specs.declared.tree.Name.{Name};
 
-    /// Its name.
+    /// The item's name.
     ghost label_of: { Self → Name };
 
-    /// Lends its name.
+    /// Borrows the item's name.
     fn label(&self) -> &Name
         ensures { result.now ≡ label_of self.now };
 }
@@ -80,7 +80,8 @@ impl Labelled for SetItem {
     }
 }
 
-/// Adds each name that is taken or stands before it too, and takes them. It costs the product of the numbers of both.
+/// Reports each name that is taken or occurs earlier in `items`, then adds all names to `taken`. Costs the number of
+/// items times the number of names taken.
 pub(crate) fn check_doubles<T: Labelled>(
     alloc: Global,
     taken: &mut List<Txt>,

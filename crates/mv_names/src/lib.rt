@@ -1,4 +1,4 @@
-//! Names and types: the faults of a script, and the first of them.
+//! Checks names and types: all faults of a script, and the first of them.
 #![tactic(auto)]
 
 mod bodies;

@@ -1,4 +1,4 @@
-//! Finding things by name. Of two of one name the first is meant.
+//! Look-up by name. If several items share a name, the first is found.
 
 ghost use Rattle.std.specs.Prelude.{◌≡◌, ℕ, List, length};
 ghost use Rattle.std.specs.Option.{option_copied};
@@ -7,12 +7,12 @@ ghost use Rattle.mv_names.specs.Named.{Text, same_text, is_named, first_named, p
 use mv_ast::tree::{ColDef, Name, ProcDef, TableDef};
 use mv_values::txt::Txt;
 
-/// What has a name.
+/// An item that has a name.
 pub trait Named {
-    /// Its name.
+    /// The item's name.
     ghost name_of: { Self → List ℕ };
 
-    /// Lends its name.
+    /// Borrows the item's name.
     fn name(&self) -> &Txt
         ensures { result.now ≡ name_of self.now };
 }
@@ -57,7 +57,7 @@ impl Named for ProcDef {
     }
 }
 
-/// Whether one of them has the name.
+/// Whether an item has the name. Searches linearly.
 pub fn has_name<T: Named>(items: &[T], name: &Txt) -> bool
     ensures { result ≡ is_named T.name_of items.now name.now }
 {
@@ -69,7 +69,7 @@ pub fn has_name<T: Named>(items: &[T], name: &Txt) -> bool
     false
 }
 
-/// The first of the name.
+/// Returns the first item with the name. Searches linearly.
 pub fn find<'a, T: Named>(items: &'a [T], name: &Txt) -> Option<&'a T>
     ensures { option_copied result ≡ first_named T.name_of items.now name.now }
 {
@@ -81,7 +81,7 @@ pub fn find<'a, T: Named>(items: &'a [T], name: &Txt) -> Option<&'a T>
     None
 }
 
-/// The place of the first of the name, and how many there are where none has it.
+/// Returns the index of the first item with the name, or the number of items if none has it. Searches linearly.
 pub fn place<T: Named>(items: &[T], name: &Txt) -> usize
     ensures { result ≡ place_named T.name_of items.now name.now }
 {

@@ -1,4 +1,4 @@
-//! The items of a script by their kinds.
+//! The items of a script, grouped by kind.
 
 ghost use Rattle.std.specs.Prelude.{◌≡◌, ◌++◌, OnOk, IfOk};
 ghost use Rattle.mv_names.specs.Items.{table_in, procedure_in, copy_in, call_in, journal_in, parts_of};
@@ -8,7 +8,7 @@ use mv_values::list::List;
 use mv_values::memory::NoMemory;
 use std::alloc::Global;
 
-/// The items of a script by their kinds, each kind in the order of the text.
+/// The items of a script, grouped by kind. Each group keeps the order of the text.
 #[derive(Drop)]
 pub struct Parts {
     pub tables: List<TableDef>,
@@ -18,7 +18,7 @@ pub struct Parts {
     pub journals: List<Span>,
 }
 
-/// Adds an item to those of its kind.
+/// Adds an item to the group of its kind.
 fn add(parts: &mut Parts, kind: ItemKind) -> Result<(), NoMemory>
     ensures tables { OnOk result (parts.new.tables ≡ parts.old.tables ++ table_in kind) }
     ensures procedures { OnOk result (parts.new.procedures ≡ parts.old.procedures ++ procedure_in kind) }
@@ -35,7 +35,7 @@ fn add(parts: &mut Parts, kind: ItemKind) -> Result<(), NoMemory>
     }
 }
 
-/// What is left in the place of an item that was taken.
+/// Returns a placeholder for an item that was moved out.
 fn blank() -> Item {
     Item {
         token: 0,
@@ -48,7 +48,7 @@ fn blank() -> Item {
     }
 }
 
-/// The items of a script by their kinds. The script is given up.
+/// Groups the items of a script by kind, and consumes the script. Fails if memory runs out.
 pub fn part(alloc: Global, script: Script) -> Result<Parts, NoMemory>
     ensures { IfOk result (λ parts. parts ≡ parts_of script.items) }
 {

@@ -1,4 +1,4 @@
-//! The names that may be used in a procedure, and their types.
+//! The names in scope in a procedure, and their types.
 
 use crate::named::Named;
 use mv_values::copied::Copied;
@@ -7,7 +7,8 @@ use mv_values::memory::NoMemory;
 use mv_values::txt::Txt;
 use std::alloc::Global;
 
-/// The type of an expression. It is unknown where a name isn't there, which is a fault already: it then fits every place.
+/// The type of an expression. `Unknown` follows from a name that isn't declared. That name is already a fault, so
+/// `Unknown` fits every place.
 #[derive(Clone, Copy)]
 pub enum ValueType {
     Int,
@@ -22,7 +23,7 @@ pub struct Field {
     pub kind: ValueType,
 }
 
-/// What a name of a procedure stands for.
+/// What a name of a procedure means.
 #[derive(Drop)]
 pub enum Meaning {
     /// A value that can be read and not set: a parameter, or `:found`.
@@ -35,7 +36,7 @@ pub enum Meaning {
     Turn(List<Field>),
 }
 
-/// A name of a procedure, and what it stands for.
+/// A name of a procedure and its meaning.
 #[derive(Drop)]
 pub struct Entry {
     pub name: Txt,

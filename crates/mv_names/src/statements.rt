@@ -19,7 +19,7 @@ use mv_values::list::List;
 use mv_values::memory::NoMemory;
 use std::alloc::Global;
 
-/// The columns of a table, where it is there.
+/// Returns the columns of a table, if the table exists.
 pub(crate) fn columns_in<'a>(table: Option<&'a TableDef>) -> Option<&'a [ColDef]>
     ensures { option_copied result ≡ columns_of (option_copied table.entry) }
 {
@@ -29,7 +29,7 @@ pub(crate) fn columns_in<'a>(table: Option<&'a TableDef>) -> Option<&'a [ColDef]
     }
 }
 
-/// Adds a table that isn't there.
+/// Reports a table that doesn't exist.
 pub(crate) fn check_table(
     table: Option<&TableDef>,
     token: u32,
@@ -45,7 +45,7 @@ pub(crate) fn check_table(
 
 // Targets
 
-/// Adds a target that isn't a declared variable. The type of one that is.
+/// Reports a target that isn't a declared variable. Returns the target's type.
 fn check_target(
     scope: &[Entry],
     name: &Name,
@@ -69,7 +69,7 @@ fn check_target(
     }
 }
 
-/// A target that takes a value of this type.
+/// Checks a target that receives a value of this type.
 fn check_taking(
     scope: &[Entry],
     value: ValueType,
@@ -83,7 +83,7 @@ fn check_taking(
     Ok(())
 }
 
-/// A target for each column.
+/// Checks a target for each column.
 fn check_targets(
     scope: &[Entry],
     columns: Option<&[ColDef]>,
@@ -105,7 +105,7 @@ fn check_targets(
 
 // Clauses
 
-/// The first token of a list, and the given one where it is empty.
+/// Returns the first token of a list, or the given one if the list is empty.
 fn token_of_names(names: &[Name], token: u32) -> u32
     ensures { result ≡ names_token names.now token }
 {
@@ -137,7 +137,7 @@ fn check_columns(
     Ok(())
 }
 
-/// A test of WHERE.
+/// Checks a condition of WHERE.
 fn check_cond(
     scope: &[Entry],
     columns: Option<&[ColDef]>,
@@ -196,7 +196,7 @@ fn check_offset(
     Ok(())
 }
 
-/// The type of a total.
+/// Returns the type of an aggregate.
 fn agg_kind(columns: Option<&[ColDef]>, agg: &Agg) -> ValueType
     ensures { result ≡ agg_type (option_copied columns.entry) agg.now }
 {
@@ -206,7 +206,7 @@ fn agg_kind(columns: Option<&[ColDef]>, agg: &Agg) -> ValueType
     }
 }
 
-/// Adds a column to be added up that isn't there, or has texts.
+/// Reports a SUM's column that doesn't exist or isn't INT.
 fn check_sum(
     columns: Option<&[ColDef]>,
     name: &Name,
@@ -219,7 +219,7 @@ fn check_sum(
     check_fit(faults, ValueType::Int, name.token, kind)
 }
 
-/// Adds a total's column that isn't there, and a SUM of texts.
+/// Reports an aggregate's column that doesn't exist, and a SUM over texts.
 fn check_agg(
     columns: Option<&[ColDef]>,
     agg: &Agg,
@@ -236,7 +236,7 @@ fn check_agg(
     }
 }
 
-/// A value for each column.
+/// Checks a value for each column.
 pub(crate) fn check_values(
     scope: &[Entry],
     columns: &[ColDef],
@@ -265,7 +265,7 @@ fn is_in_key(table: Option<&TableDef>, name: &Name) -> bool
     }
 }
 
-/// An item of SET.
+/// Checks an item of SET.
 fn check_item(
     scope: &[Entry],
     table: Option<&TableDef>,
@@ -302,7 +302,7 @@ fn check_items(
 
 // Loops
 
-/// Adds a loop's name that is taken where the loop stands.
+/// Reports a loop's name that is already in scope.
 pub(crate) fn check_turn_name(
     scope: &[Entry],
     name: &Name,
@@ -317,7 +317,7 @@ pub(crate) fn check_turn_name(
     )
 }
 
-/// Adds a loop's parameter that isn't there, or is no ROWS parameter.
+/// Reports a loop's parameter that doesn't exist or isn't a ROWS parameter.
 pub(crate) fn check_rows(
     scope: &[Entry],
     name: &Name,
@@ -334,7 +334,7 @@ pub(crate) fn check_rows(
     }
 }
 
-/// The selected columns, as those of a loop's row.
+/// Returns the selected columns as the fields of a loop's row.
 fn selected_fields(
     alloc: Global,
     columns: Option<&[ColDef]>,
@@ -352,7 +352,7 @@ fn selected_fields(
     Ok(fields)
 }
 
-/// The row of a loop over a SELECT.
+/// Returns the row of a loop over a SELECT.
 pub(crate) fn turn_of_select(
     alloc: Global,
     turn: &Name,
@@ -368,7 +368,7 @@ pub(crate) fn turn_of_select(
     })
 }
 
-/// The columns of a ROWS parameter, none of anything else.
+/// Returns the columns of a ROWS parameter; empty for any other name.
 fn fields_named(alloc: Global, scope: &[Entry], rows: &Name) -> Result<List<Field>, NoMemory>
     ensures { IfOk result (λ all. all ≡ fields_of (entry_of scope.now rows.now.text)) }
 {
@@ -381,7 +381,7 @@ fn fields_named(alloc: Global, scope: &[Entry], rows: &Name) -> Result<List<Fiel
     }
 }
 
-/// The row of a loop over a ROWS parameter.
+/// Returns the row of a loop over a ROWS parameter.
 pub(crate) fn turn_of_rows(
     alloc: Global,
     turn: &Name,
@@ -435,7 +435,7 @@ pub(crate) fn check_select(
     check_offset(scope, offset, faults)
 }
 
-/// What a loop over a SELECT names: its table and columns, WHERE and ORDER BY.
+/// Checks the head of a loop over a SELECT: its table, columns, WHERE and ORDER BY.
 pub(crate) fn check_selected(
     scope: &[Entry],
     table: Option<&TableDef>,
