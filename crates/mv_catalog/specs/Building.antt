@@ -1,5 +1,5 @@
--- What a script without faults stands for: its names by their numbers. Where a name isn't there, or a number is greater
--- than its type's greatest, any number will do: then the script has a fault, or passes the limits of the language.
+-- The program of a script without faults: its names replaced by numbers. An unknown name, or a number above the maximum
+-- of its type, may become any number: then the script has a fault, or exceeds the limits of the language.
 use Rattle.std.specs.Prelude.{ℕ, ◌+◌, ◌-◌, ◌^◌, Bool, List, [], ◌∷◌, ◌++◌, length, map, min, slice_get, Option, Some, None}
 use Rattle.mv_values.specs.declared.value.Value.{Value}
 use Rattle.mv_values.specs.declared.schema.Column.{Column}
@@ -57,7 +57,7 @@ use Rattle.mv_catalog.specs.declared.resolved.RStmt.TheVariants as r_stmt
 
 -- Numbers
 
--- as a number of 16 and of 8 bits
+-- the number cut to 16 bits, and to 8 bits
 abbrev pub small : ℕ → ℕ
 small n = min n (2 ^ 16 - 1)
 
@@ -67,7 +67,7 @@ tiny n = min n (2 ^ 8 - 1)
 abbrev pub column_name : ColDef → Text
 column_name c = c.name.text
 
--- the number of a column and of a table: its place
+-- the number of a column and of a table: its position
 abbrev pub column_number : List ColDef → Name → ℕ
 column_number columns n = small (place_named column_name columns n.text)
 
@@ -78,11 +78,11 @@ abbrev pub columns_in : Option TableDef → List ColDef
 columns_in None = []
 columns_in (Some t) = t.columns
 
--- the columns of the table of this name
+-- the columns of the table with this name
 abbrev pub columns_named : List TableDef → Name → List ColDef
 columns_named tables n = columns_in (table_named tables n.text)
 
--- The variables of a procedure: parameters, declared variables, `:found`, and its loops in the order of the text
+-- The variables of a procedure: parameters, declared variables, `:found`, and its loop rows in the order of the text
 
 abbrev pub slot : ℕ → Text → List Text → Slot
 slot n name fields = record { name = name; number = small n; fields = fields }
@@ -91,7 +91,7 @@ abbrev pub param_fields : ParamKind → List Text
 param_fields (param.One kind) = []
 param_fields (param.Many columns) = map column_name columns
 
--- the parameters, of which the first has this number
+-- the slots of parameters, of which the first has this number
 abbrev pub param_slots : ℕ → List Param → List Slot
 param_slots n [] = []
 param_slots n (q ∷ qs) = slot n q.name.text (param_fields q.kind) ∷ param_slots (n + 1) qs
@@ -124,13 +124,13 @@ number_of slots n = number_in (slot_named slots n.text)
 abbrev pub numbers_of : List Slot → List Name → List ℕ
 numbers_of slots ns = map (number_of slots) ns
 
--- the place of a column in a loop's row
+-- the index of a column in a loop's row
 abbrev pub field_place : List Slot → Name → Name → ℕ
 field_place slots r c = small (place_named (λ t. t) (fields_in (slot_named slots r.text)) c.text)
 
 -- Expressions
 
--- what is built with the numbers of a place and the columns that stand there by themselves
+-- a construct, given the variables in scope and the columns that may occur bare
 abbrev pub Builds : Type 0 → Type 0
 Builds A = List Slot → List ColDef → A
 
@@ -148,7 +148,7 @@ expr_step e slots columns = record { kind = e.kind slots columns }
 abbrev pub expr_of : Expr → Builds RExpr
 expr_of = fold-Expr (Builds RExprKind) (Builds RExpr) kind_step expr_step
 
--- an expression in which no column stands by itself
+-- an expression without bare columns
 abbrev pub plain : List Slot → Expr → RExpr
 plain slots e = expr_of e slots []
 
@@ -179,7 +179,7 @@ items_of slots columns is = map (λ (i : SetItem). record { column = column_numb
 
 -- Statements
 
--- a statement: how many loops it has, itself one of them where it is one, and what is built where its first loop has this number
+-- a statement: the number of loops in it, itself included, and the result if its first loop has this number
 pub record Built : Type 0 where
   pub loops : ℕ
   pub build : List Slot → ℕ → RStmt
@@ -199,7 +199,7 @@ single f = record { loops = 0; build = λ slots n. f slots }
 abbrev pub names_of : List Name → List Text
 names_of ns = map (λ (n : Name). n.text) ns
 
--- a loop over a SELECT: its row has the selected columns
+-- a loop over a SELECT; its row has the selected columns
 abbrev pub for_select : List TableDef → Name → Bool → List Name → Name → List Cond → List Sort → List Built → Built
 for_select tables turn distinct columns table conds sorts body = record {
   loops = 1 + loops_in body;
@@ -209,7 +209,7 @@ for_select tables turn distinct columns table conds sorts body = record {
       (build_all body (slots ++ slot n turn.text (names_of columns) ∷ []) (n + 1));
 }
 
--- a loop over a ROWS parameter: its row has the parameter's columns
+-- a loop over a ROWS parameter; its row has the parameter's columns
 abbrev pub for_rows : Name → Name → List Built → Built
 for_rows turn rows body = record {
   loops = 1 + loops_in body;
@@ -245,11 +245,11 @@ stmt_step tables (stmt.Rollback token reason) = single (λ slots. r_stmt.Rollbac
 abbrev pub built : List TableDef → Stmt → Built
 built tables = fold-Stmt Built (stmt_step tables)
 
--- how many loops stand in statements
+-- the number of loops in statements
 abbrev pub loops_of : List TableDef → List Stmt → ℕ
 loops_of tables ss = loops_in (map (built tables) ss)
 
--- statements, of which the first loop has this number
+-- the statements, of which the first loop has this number
 abbrev pub statements_of : List TableDef → List Stmt → List Slot → ℕ → List RStmt
 statements_of tables ss slots n = build_all (map (built tables) ss) slots n
 
@@ -258,7 +258,7 @@ statements_of tables ss slots n = build_all (map (built tables) ss) slots n
 abbrev pub described : ColDef → Column
 described c = record { name = c.name.text; kind = c.kind }
 
--- a table; its key columns by their places
+-- a table; its key columns are given by their indexes
 abbrev pub table_of : TableDef → TableInfo
 table_of t = record {
   name = t.name.text;
@@ -316,6 +316,6 @@ resolved_parts p = record {
   journal = journal_of (slice_get p.journals 0);
 }
 
--- what a script without faults stands for
+-- the program of a script without faults
 abbrev pub resolved_of : Script → Resolved
 resolved_of script = resolved_parts (parts_of script.items)

@@ -1,4 +1,4 @@
--- What is answered of a script: what it stands for where it has no fault, and else its first one.
+-- The result of resolving a script: its program if it has no fault, and otherwise its first fault.
 use Rattle.std.specs.Prelude.{◌≡◌, ℕ, [], Result, Ok, Err}
 use Rattle.mv_ast.specs.declared.tree.Script.{Script}
 use Rattle.mv_names.specs.declared.fault.Fault.{Fault}
@@ -11,7 +11,7 @@ use Rattle.mv_catalog.specs.declared.refused.NameFault.TheVariants.{UnknownName,
 use Rattle.mv_catalog.specs.declared.resolved.Resolved.{Resolved}
 use Rattle.mv_catalog.specs.Building.{resolved_of}
 
--- the first fault is one of this kind, at this token
+-- the first fault has this kind and is at this token
 abbrev pub IsFirstAt : Script → FaultKind → ℕ → Type 0
 IsFirstAt script kind token = let fault : Fault = record { token = token; kind = kind } in IsFirst (faults script) fault
 
@@ -23,7 +23,7 @@ Refuses script (KeyAssigned token) = IsFirstAt script kind.KeyAssigned token
 Refuses script (Late token) = IsFirstAt script kind.Late token
 Refuses script NoMemory = Unit {0}
 
--- what the script stands for, and only where it has no fault; else its first fault
+-- the program, only if the script has no fault; otherwise the first fault
 abbrev pub Resolves : Script → Result Resolved NameFault → Type 0
 Resolves script (Ok r) = (faults script ≡ []) × (r ≡ resolved_of script)
 Resolves script (Err fault) = Refuses script fault

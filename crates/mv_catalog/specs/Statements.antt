@@ -1,4 +1,5 @@
--- Statements where names are numbers: the numbers are those of what is there, and types agree. The rules are this project's own.
+-- Well-formed statements of a program: all numbers refer to existing things, and types agree. The rules are this
+-- project's own.
 use Rattle.std.specs.Prelude.{◌≡◌, ◌≢◌, ◌<◌, ⊤, ℕ, ◌+◌, List, [], ◌∷◌, ◌++◌, length, map, Option, Some, None, slice_get, nat_eq, if◌then◌else◌, All, AllPairs, Contains}
 use Rattle.std.specs.List.{AllZip}
 use Rattle.mv_values.specs.declared.schema.Column.{Column}
@@ -21,19 +22,19 @@ use Rattle.mv_catalog.specs.Types.{Kind, int, declared, rows, turn, Vars, kind_o
 abbrev pub kinds_of : TableInfo → List Kind
 kinds_of t = map (λ (c : Column). kind_of_column c.kind) t.columns
 
--- there is a table with the number, and this is said of it
+-- a table with this number exists, and it satisfies the property
 abbrev pub OfTable : List TableInfo → ℕ → (TableInfo → Type 0) → Type 0
 OfTable tables n P = (t : TableInfo) × (slice_get tables n ≡ Some t) × P t
 
--- an expression in which no column stands by itself has the type
+-- the expression has the type and contains no bare column
 abbrev pub Gives : Vars → Kind → RExpr → Type 0
 Gives vars t e = HasType vars [] e t
 
--- a declared variable takes the values of a column
+-- a declared variable has the type of the column
 abbrev pub Takes : Vars → List Kind → ℕ → ℕ → Type 0
 Takes vars columns c x = (t : Kind) × (slice_get columns c ≡ Some t) × (vars x ≡ Some (declared t))
 
--- a test of WHERE compares a column with a value of its type
+-- a condition of WHERE compares a column with a value of its type
 abbrev pub IsTest : Vars → List Kind → RCond → Type 0
 IsTest vars columns c = (t : Kind) × (slice_get columns c.column ≡ Some t) × Gives vars t c.right
 
@@ -45,7 +46,7 @@ abbrev pub IsOffset : Vars → Option RExpr → Type 0
 IsOffset vars None = ⊤
 IsOffset vars (Some e) = Gives vars int e
 
--- the type of a total; only numbers have a sum
+-- the type of an aggregate; only INT columns have a sum
 abbrev pub IsTotal : List Kind → RAgg → Kind → Type 0
 IsTotal columns CountAll t = t ≡ int
 IsTotal columns (CountDistinct c) t = (t ≡ int) × (c < length columns)
@@ -53,18 +54,18 @@ IsTotal columns (Sum c) t = (t ≡ int) × (slice_get columns c ≡ Some int)
 IsTotal columns (Min c) t = slice_get columns c ≡ Some t
 IsTotal columns (Max c) t = slice_get columns c ≡ Some t
 
--- an item of SET gives a value of its column's type to a column that is none of the key
+-- an item of SET assigns a value of its column's type to a column outside the key
 abbrev pub IsItem : Vars → TableInfo → RSetItem → Type 0
 IsItem vars table i =
     (t : Kind) × (slice_get (kinds_of table) i.column ≡ Some t) × (Contains table.key i.column → ⊥) × HasType vars (kinds_of table) i.right t
 
--- the variables with the row of a loop
+-- the variables, extended by the row of a loop
 abbrev pub with_turn : Vars → ℕ → List Kind → Vars
 with_turn vars row ts x = if nat_eq x row then Some (turn ts) else vars x
 
 -- Statements
 
--- whether a statement is well formed, where these variables may be used
+-- whether a statement is well formed, given the variables in scope
 abbrev pub Well : Type 1
 Well = Vars → Type 0
 
@@ -84,13 +85,13 @@ abbrev pub total : List TableInfo → RAgg → ℕ → ℕ → List RCond → We
 total tables agg to table conds vars =
     OfTable tables table (λ t. ((k : Kind) × IsTotal (kinds_of t) agg k × (vars to ≡ Some (declared k))) × All (IsTest vars (kinds_of t)) conds)
 
--- the row of a loop stands at a number of its own, and is seen in the loop's body alone; it has the selected columns
+-- a loop's row has a number not yet in use, and is in scope in the loop's body only; it has the selected columns
 abbrev pub for_select : List TableInfo → ℕ → List ℕ → ℕ → List RCond → List RSort → Well → Well
 for_select tables row columns table conds sorts body vars =
     OfTable tables table (λ t. All (IsTest vars (kinds_of t)) conds × All (IsSort (kinds_of t)) sorts × (vars row ≡ None)
     × ((ts : List Kind) × (map (slice_get (kinds_of t)) columns ≡ map Some ts) × body (with_turn vars row ts)))
 
--- it has the columns of the ROWS parameter
+-- the row has the columns of the ROWS parameter
 abbrev pub for_rows : ℕ → ℕ → Well → Well
 for_rows row over body vars = (ts : List Kind) × (vars over ≡ Some (rows ts)) × (vars row ≡ None) × body (with_turn vars row ts)
 
@@ -101,18 +102,18 @@ branch test ys ns vars = Gives vars int test × ys vars × ns vars
 abbrev pub insert : List TableInfo → ℕ → List RExpr → Well
 insert tables table values vars = OfTable tables table (λ t. AllZip (Gives vars) (kinds_of t) values)
 
--- each item sets another column
+-- each item sets a different column
 abbrev pub update : List TableInfo → ℕ → List RSetItem → List RCond → Well
 update tables table items conds vars = OfTable tables table (λ t. All (IsItem vars t) items × AllPairs (λ (i j : RSetItem). i.column ≢ j.column) items × All (IsTest vars (kinds_of t)) conds)
 
 abbrev pub delete : List TableInfo → ℕ → List RCond → Well
 delete tables table conds vars = OfTable tables table (λ t. All (IsTest vars (kinds_of t)) conds)
 
--- values of any types
+-- the values may have any types
 abbrev pub print : List RExpr → Well
 print values vars = All (λ e. (t : Kind) × Gives vars t e) values
 
--- the rules, where it is known which statements inside are well formed
+-- the rules, given which of the inner statements are well formed
 abbrev pub stmt_step : List TableInfo → (X : Type 0) → (X → RStmt) → (X → Well) → RStmt-F X → Well
 stmt_step tables X v well (Assign to right) = assign to right
 stmt_step tables X v well (Select columns to table conds sorts offset) = select tables columns to table conds sorts offset
@@ -145,18 +146,18 @@ rows_in = fold-RStmt (List ℕ) rows_step
 abbrev pub rows_of : List RStmt → List ℕ
 rows_of ss = together (map rows_in ss)
 
--- the numbers count from this one
+-- the numbers are consecutive from this one on
 abbrev pub CountsFrom : ℕ → List ℕ → Type 0
 CountsFrom n [] = ⊤
 CountsFrom n (m ∷ ms) = (m ≡ n) × CountsFrom (n + 1) ms
 
--- Numbers of statements
+-- Sizes of statements
 
 abbrev pub total_size : List ℕ → ℕ
 total_size [] = 0
 total_size (n ∷ ns) = n + total_size ns
 
--- how many statements a statement is, with those that it holds
+-- the size of a statement: the number of statements in it, itself included
 abbrev pub size_step : RStmt-F ℕ → ℕ
 size_step (ForSelect row distinct columns table conds sorts body) = 1 + total_size body
 size_step (ForRows row over body) = 1 + total_size body

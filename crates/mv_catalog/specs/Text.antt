@@ -1,4 +1,4 @@
--- A text that stands for a program of one piece: its numbers are those of what is there, and types agree. This project's own.
+-- Well-formed programs: all numbers refer to existing things, types agree, and limits hold. This project's own.
 use Rattle.std.specs.Prelude.{◌≡◌, ◌≢◌, ◌<◌, ◌≤◌, ⊤, List, [], ◌∷◌, ◌++◌, length, map, Some, slice_get, All, AllPairs}
 use Rattle.std.specs.List.{AllZip}
 use Rattle.mv_values.specs.declared.schema.ColType.{ColType}
@@ -20,8 +20,8 @@ use Rattle.mv_catalog.specs.Statements.{all_well, IsWell, rows_of, CountsFrom, s
 
 -- Values and rows
 
--- a value of the type, and no text longer than the type says. That numbers have 64 bits and that texts can be printed is so of
--- every value of a program.
+-- the value has the type, and a text is no longer than the type allows. Every value of a program fits 64 bits or is a
+-- printable text, so that needs no condition.
 abbrev pub IsOf : ColType → Value → Type 0
 IsOf column.Int (value.Int z) = ⊤
 IsOf column.Int (value.Text t) = ⊥
@@ -37,7 +37,7 @@ IsRow types row = AllZip IsOf types row
 abbrev pub types_of : TableInfo → List ColType
 types_of t = map (λ (c : Column). c.kind) t.columns
 
--- a table has columns, no more than 32, and key columns among them, each but once
+-- a table has 1 to 32 columns, and at least one key column; no key column is listed twice
 pub record IsTable (t : TableInfo) : Type 0 where
   pub wide : 0 < length t.columns
   pub narrow : length t.columns ≤ 32
@@ -54,20 +54,20 @@ abbrev pub param_var : ParamInfo → Var
 param_var (param.One type) = fixed (kind_of_column type)
 param_var (param.Many types) = rows (map kind_of_column types)
 
--- the numbers outside loops: parameters, declared variables and `:found`
+-- the variables outside loops: parameters, declared variables and `:found`
 abbrev pub own_vars : ProcInfo → List Var
 own_vars p = map param_var p.params ++ map (λ v. declared (kind_of_value v)) p.defaults ++ fixed int ∷ []
 
 abbrev pub vars_of : ProcInfo → Vars
 vars_of p = slice_get (own_vars p)
 
--- a variable begins with no text of more than 4,000 bytes
+-- the initial text of a variable has at most 4,000 bytes
 abbrev pub IsShort : Value → Type 0
 IsShort (value.Int z) = ⊤
 IsShort (value.Text t) = length t ≤ 4000
 
--- no more than 16 parameters and 64 declared variables, what these begin with, its statements, no more than 1,000 with those inside
--- others, and the numbers of its loops' rows: those behind `:found`, in the order of the text
+-- a procedure has at most 16 parameters, 64 declared variables and 1,000 statements, nested ones included. Its defaults
+-- are short, its statements are well formed, and its loop rows are numbered in the order of the text after `:found`.
 pub record IsProcedure (tables : List TableInfo) (p : ProcInfo) : Type 0 where
   pub few : length p.params ≤ 16
   pub declared : length p.defaults ≤ 64
@@ -84,13 +84,13 @@ Suits (param.One type) (argument.Many all) = ⊥
 Suits (param.Many types) (argument.One v) = ⊥
 Suits (param.Many types) (argument.Many all) = All (IsRow types) all
 
--- a call of a procedure that is there, with an argument for each parameter
+-- a call of an existing procedure, with an argument for each parameter
 abbrev pub IsCall : List ProcInfo → Call → Type 0
 IsCall procedures c = (p : ProcInfo) × (slice_get procedures c.procedure ≡ Some p) × AllZip Suits p.params c.arguments
 
 -- The whole
 
--- the text's part of a program is of one piece; it has no more than 64 tables
+-- the resolved script is well formed; it has at most 64 tables
 pub record FitsText (r : Resolved) : Type 0 where
   pub few : length r.tables ≤ 64
   pub tables : All IsTable r.tables

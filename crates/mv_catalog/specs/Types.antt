@@ -1,4 +1,4 @@
--- The types of expressions where names are numbers. The rules are this project's own.
+-- The types of expressions in a program. The rules are this project's own.
 use Rattle.std.specs.Prelude.{◌≡◌, ℕ, List, Option, Some, None, slice_get}
 use Rattle.mv_values.specs.declared.schema.ColType.{ColType}
 use Rattle.mv_values.specs.declared.schema.ColType.TheVariants as column
@@ -26,19 +26,19 @@ abbrev pub kind_of_column : ColType → Kind
 kind_of_column column.Int = int
 kind_of_column (column.Text n) = text
 
--- what stands at a number of a procedure: a value that is only read, a declared variable, the rows of a ROWS parameter and
--- the row of a loop; rows by the types of their columns
+-- what a variable of a procedure is: a read-only value, a declared variable, the rows of a ROWS parameter, or the row
+-- of a loop; rows are given by the types of their columns
 pub data Var : Type 0 where
   fixed : Kind → Var
   declared : Kind → Var
   rows : List Kind → Var
   turn : List Kind → Var
 
--- what stands at the numbers that may be used in a place
+-- the variables in scope, by their numbers
 abbrev pub Vars : Type 0
 Vars = ℕ → Option Var
 
--- the type of a value that is read
+-- the type of a variable read as a value
 abbrev pub read : Option Var → Option Kind
 read (Some (fixed t)) = Some t
 read (Some (declared t)) = Some t
@@ -54,7 +54,7 @@ field (Some (fixed t)) c = None
 field (Some (declared t)) c = None
 field None c = None
 
--- the type that an operator gives for a value of this type, and for values of these types
+-- the result type of an operator for operands of these types
 abbrev pub one_gives : OneOp → Kind → Option Kind
 one_gives Neg int = Some int
 one_gives Not int = Some int
@@ -76,11 +76,11 @@ two_gives Left text int = Some text
 two_gives Contains text text = Some int
 two_gives op l r = None
 
--- whether an expression has a type
+-- the types that an expression has
 abbrev pub Has : Type 1
 Has = Kind → Type 0
 
--- the rules, where it is known which types the expressions inside have
+-- the rules, given the types of the inner expressions
 abbrev pub kind_step : Vars → List Kind → (X Y : Type 0) → (X → RExprKind) → (Y → RExpr) → (X → Has) → (Y → Has) → RExprKind-F X Y → Has
 kind_step vars columns X Y v w k has (kind.Const c) t = kind_of_value c ≡ t
 kind_step vars columns X Y v w k has (kind.Var x) t = read (vars x) ≡ Some t
@@ -92,6 +92,6 @@ kind_step vars columns X Y v w k has (kind.Two op a b) t = (l : Kind) × (r : Ki
 abbrev pub expr_step : (X Y : Type 0) → (X → RExprKind) → (Y → RExpr) → (X → Has) → (Y → Has) → RExpr-F X Y → Has
 expr_step X Y v w k has e t = k e.kind t
 
--- the expression has the type, where these variables may be used and columns of these types stand by themselves
+-- the expression has the type, given the variables in scope and the types of the columns that may occur bare
 abbrev pub HasType : Vars → List Kind → RExpr → Kind → Type 0
 HasType vars columns = rec-RExpr Has Has (kind_step vars columns) expr_step

@@ -1,4 +1,4 @@
-//! Building a program: what a script without faults stands for.
+//! Builds the program of a script without faults.
 
 ghost use Rattle.std.specs.Prelude.{◌≡◌, IfOk, map, slice_get};
 ghost use Rattle.mv_names.specs.Named.{place_named};
@@ -40,7 +40,7 @@ fn described_columns(alloc: Global, columns: &[ColDef]) -> Result<List<Column>, 
     Ok(all)
 }
 
-/// The places of the key columns, in the order of PRIMARY KEY.
+/// Returns the indexes of the key columns, in the order of PRIMARY KEY.
 fn key_places(alloc: Global, columns: &[ColDef], key: &[Name]) -> Result<List<u8>, NoMemory>
     ensures { IfOk result (λ all. all ≡ map (λ (n : NameValue). tiny (place_named column_name columns.now n.text)) key.now) }
 {
@@ -92,7 +92,7 @@ fn rows(alloc: Global, literals: &[LitRow]) -> Result<List<Row>, NoMemory>
     Ok(all)
 }
 
-/// The rows of VALUES, for each table.
+/// Returns the rows of VALUES for each table.
 fn rows_of_tables(alloc: Global, tables: &[TableDef]) -> Result<List<List<Row>>, NoMemory>
     ensures { IfOk result (λ all. all ≡ map (λ (t : TableValue). rows_of t.rows) tables.now) }
 {
@@ -144,7 +144,7 @@ fn defaults(alloc: Global, vars: &[VarDef]) -> Result<List<Value>, NoMemory>
     Ok(all)
 }
 
-/// The body of a procedure. Its first loop has the number behind that of `:found`.
+/// Builds the body of a procedure. Its first loop has the number after that of `:found`.
 fn body(alloc: Global, tables: &[TableDef], definition: &ProcDef) -> Result<List<RStmt>, NoMemory>
     ensures { IfOk result (λ all. all ≡ (procedure_of tables.now definition.now).body) }
 {
@@ -182,7 +182,7 @@ fn procedures(
 
 // Copies and calls
 
-/// A block that fills the table of this number.
+/// Returns a block that fills the table with this number.
 fn block_into(table: u8, block: Span) -> CopyInfo
     ensures { result ≡ copy_info table block }
 {
@@ -234,7 +234,7 @@ fn arguments(alloc: Global, arguments: &[Arg]) -> Result<List<Argument>, NoMemor
     Ok(all)
 }
 
-/// A call. It costs a walk over the procedures' names, to its own.
+/// Builds a call. Costs a search through the procedures' names.
 fn call(alloc: Global, procedures: &[ProcDef], definition: &CallDef) -> Result<Call, NoMemory>
     ensures { IfOk result (λ c. c ≡ call_of procedures.now definition.now) }
 {
@@ -258,7 +258,7 @@ fn calls(
     Ok(all)
 }
 
-/// The first journal.
+/// Returns the first journal.
 fn journal(blocks: &[Span]) -> Option<CopyInfo>
     ensures { result ≡ journal_of (slice_get blocks.now 0) }
 {
@@ -268,9 +268,8 @@ fn journal(blocks: &[Span]) -> Option<CopyInfo>
     }
 }
 
-/// What the parts of a script stand for, where they have no fault; where they have one, a program in which the numbers of
-/// names that aren't there mean nothing. It costs the size of the parts, and for each name a walk over those among which
-/// it is looked up.
+/// Builds the program of a script's parts. If the parts have a fault, the numbers of unknown names are arbitrary. Fails
+/// if memory runs out. Costs the size of the parts, and a linear search for each name.
 pub fn built(alloc: Global, parts: &Parts) -> Result<Resolved, NoMemory>
     ensures { IfOk result (λ r. r ≡ resolved_parts parts.now) }
 {

@@ -1,4 +1,4 @@
-//! Building expressions, and the clauses that hold them.
+//! Builds expressions and the clauses that contain them.
 
 ghost use Rattle.std.specs.Prelude.{◌≡◌, [], IfOk};
 ghost use Rattle.mv_catalog.specs.Building.{expr_of, plain, plains, maybe_plain, conds_of, sorts_of, agg_of, items_of};
@@ -13,7 +13,7 @@ use mv_values::list::List;
 use mv_values::memory::NoMemory;
 use std::alloc::Global;
 
-/// An expression, for the variables and the columns that stand by themselves.
+/// Builds an expression, given the variables and the columns that may occur bare.
 fn expr(alloc: Global, e: &Expr, slots: &[Slot], columns: &[ColDef]) -> Result<RExpr, NoMemory>
     ensures { IfOk result (λ r. r ≡ expr_of e.now slots.now columns.now) }
 {
@@ -37,14 +37,14 @@ fn expr(alloc: Global, e: &Expr, slots: &[Slot], columns: &[ColDef]) -> Result<R
     }
 }
 
-/// An expression of this kind.
+/// Returns an expression of this kind.
 fn of_kind(kind: RExprKind) -> RExpr
     ensures { result.kind ≡ kind }
 {
     RExpr { kind }
 }
 
-/// An expression in which no column stands by itself.
+/// Builds an expression without bare columns.
 pub(crate) fn plain_expr(alloc: Global, slots: &[Slot], e: &Expr) -> Result<RExpr, NoMemory>
     ensures { IfOk result (λ r. r ≡ plain slots.now e.now) }
 {
@@ -78,7 +78,7 @@ pub(crate) fn offset(
     }
 }
 
-/// WHERE.
+/// Builds the conditions of WHERE.
 pub(crate) fn conds(
     alloc: Global,
     slots: &[Slot],
@@ -99,7 +99,7 @@ pub(crate) fn conds(
     Ok(all)
 }
 
-/// ORDER BY.
+/// Builds the columns of ORDER BY.
 pub(crate) fn sorts(
     alloc: Global,
     columns: &[ColDef],
@@ -129,7 +129,7 @@ pub(crate) fn aggregate(columns: &[ColDef], agg: &Agg) -> RAgg
     }
 }
 
-/// The items of UPDATE's SET, in which columns may stand by themselves.
+/// Builds the items of an UPDATE's SET. They may contain bare columns.
 pub(crate) fn set_items(
     alloc: Global,
     slots: &[Slot],

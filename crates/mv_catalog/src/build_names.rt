@@ -1,4 +1,4 @@
-//! Names by their numbers: columns, tables, and the variables of a procedure.
+//! Numbers for names: columns, tables, and the variables of a procedure.
 
 ghost use Rattle.std.specs.Prelude.{◌≡◌, ◌+◌, ◌++◌, ◌∷◌, [], IfOk, OnOk, length, map};
 ghost use Rattle.mv_names.specs.Scope.{found};
@@ -13,21 +13,21 @@ use mv_values::memory::NoMemory;
 use mv_values::txt::Txt;
 use std::alloc::Global;
 
-/// As a number of 16 bits, the greatest where it is greater.
+/// Converts to 16 bits; greater numbers become 65,535.
 pub(crate) fn small_number(n: usize) -> u16
     ensures { result ≡ small n }
 {
     n.min(65_535) as u16
 }
 
-/// As a number of 8 bits, the greatest where it is greater.
+/// Converts to 8 bits; greater numbers become 255.
 pub(crate) fn tiny_number(n: usize) -> u8
     ensures { result ≡ tiny n }
 {
     n.min(255) as u8
 }
 
-/// A sum. More than can be counted is more than memory holds.
+/// Adds two numbers. Fails on overflow, as if memory ran out.
 pub(crate) fn sum(a: usize, b: usize) -> Result<usize, NoMemory>
     ensures { IfOk result (λ n. n ≡ a + b) }
 {
@@ -37,7 +37,7 @@ pub(crate) fn sum(a: usize, b: usize) -> Result<usize, NoMemory>
     }
 }
 
-/// Adds a copy of an item.
+/// Appends a copy of an item.
 pub(crate) fn push_copy<T: Copied>(
     alloc: Global,
     all: &mut List<T>,
@@ -50,14 +50,14 @@ pub(crate) fn push_copy<T: Copied>(
 
 // Columns and tables
 
-/// The number of a column.
+/// Returns the number of a column.
 pub(crate) fn column(columns: &[ColDef], name: &Name) -> u16
     ensures { result ≡ column_number columns.now name.now }
 {
     small_number(place(columns, &name.text))
 }
 
-/// The numbers of columns.
+/// Returns the numbers of columns.
 pub(crate) fn columns(
     alloc: Global,
     columns: &[ColDef],
@@ -72,14 +72,14 @@ pub(crate) fn columns(
     Ok(all)
 }
 
-/// The number of a table.
+/// Returns the number of a table.
 pub(crate) fn table(tables: &[TableDef], name: &Name) -> u16
     ensures { result ≡ small (table_place tables.now name.now) }
 {
     small_number(place(tables, &name.text))
 }
 
-/// The columns of the table of a name, none where there is none.
+/// Returns the columns of the table with this name; empty if there is no such table.
 pub(crate) fn columns_in<'a>(tables: &'a [TableDef], name: &Name) -> &'a [ColDef]
     ensures { result.now ≡ columns_named tables.now name.now }
 {
@@ -91,7 +91,7 @@ pub(crate) fn columns_in<'a>(tables: &'a [TableDef], name: &Name) -> &'a [ColDef
 
 // The variables of a procedure
 
-/// A name with its number.
+/// Returns a slot for a name without columns.
 pub(crate) fn slot_at(
     alloc: Global,
     number: usize,
@@ -107,7 +107,7 @@ pub(crate) fn slot_at(
     })
 }
 
-/// The names of columns.
+/// Returns the names of columns.
 fn column_names(alloc: Global, columns: &[ColDef]) -> Result<List<Txt>, NoMemory>
     ensures { IfOk result (λ all. all ≡ map column_name columns.now) }
 {
@@ -118,7 +118,7 @@ fn column_names(alloc: Global, columns: &[ColDef]) -> Result<List<Txt>, NoMemory
     Ok(all)
 }
 
-/// The texts of names.
+/// Returns the texts of names.
 pub(crate) fn texts(alloc: Global, names: &[Name]) -> Result<List<Txt>, NoMemory>
     ensures { IfOk result (λ all. all ≡ names_of names.now) }
 {
@@ -129,7 +129,7 @@ pub(crate) fn texts(alloc: Global, names: &[Name]) -> Result<List<Txt>, NoMemory
     Ok(all)
 }
 
-/// The names of the columns of a parameter, none where it is a value.
+/// Returns the column names of a ROWS parameter; empty for a scalar one.
 fn fields_of_param(alloc: Global, kind: &ParamKind) -> Result<List<Txt>, NoMemory>
     ensures { IfOk result (λ all. all ≡ param_fields kind.now) }
 {
@@ -165,14 +165,14 @@ fn add_variables(
     Ok(())
 }
 
-/// The number of `:found`.
+/// Returns the number of `:found`.
 pub(crate) fn number_of_found(definition: &ProcDef) -> Result<usize, NoMemory>
     ensures { IfOk result (λ n. n ≡ found_number definition.now) }
 {
     sum(definition.params.len(), definition.vars.len())
 }
 
-/// `:found` with its number.
+/// Returns the slot of `:found`.
 fn found_slot(alloc: Global, definition: &ProcDef) -> Result<Slot, NoMemory>
     ensures { IfOk result (λ s. s ≡ slot (found_number definition.now) found.name []) }
 {
@@ -180,7 +180,7 @@ fn found_slot(alloc: Global, definition: &ProcDef) -> Result<Slot, NoMemory>
     slot_at(alloc, number_of_found(definition)?, &name, List::new(alloc))
 }
 
-/// The variables of a procedure, without its loops.
+/// Returns the variables of a procedure, without its loop rows.
 pub(crate) fn slots(alloc: Global, definition: &ProcDef) -> Result<List<Slot>, NoMemory>
     ensures { IfOk result (λ all. all ≡ slots_of definition.now) }
 {
@@ -192,7 +192,7 @@ pub(crate) fn slots(alloc: Global, definition: &ProcDef) -> Result<List<Slot>, N
     Ok(all)
 }
 
-/// The number of a variable.
+/// Returns the number of a variable.
 pub(crate) fn variable(slots: &[Slot], name: &Name) -> u16
     ensures { result ≡ number_of slots.now name.now }
 {
@@ -202,7 +202,7 @@ pub(crate) fn variable(slots: &[Slot], name: &Name) -> u16
     }
 }
 
-/// The numbers of variables.
+/// Returns the numbers of variables.
 pub(crate) fn variables(
     alloc: Global,
     slots: &[Slot],
@@ -217,7 +217,7 @@ pub(crate) fn variables(
     Ok(all)
 }
 
-/// The names of the columns of a variable that stands for rows, none of any other.
+/// Returns the column names of a variable that holds rows; empty for any other.
 fn fields_in<'a>(slots: &'a [Slot], name: &Name) -> &'a [Txt]
     ensures { result.now ≡ fields_in (slot_named slots.now name.now.text) }
 {
@@ -227,7 +227,7 @@ fn fields_in<'a>(slots: &'a [Slot], name: &Name) -> &'a [Txt]
     }
 }
 
-/// Copies of them.
+/// Returns copies of a variable's column names.
 pub(crate) fn fields(alloc: Global, slots: &[Slot], name: &Name) -> Result<List<Txt>, NoMemory>
     ensures { IfOk result (λ all. all ≡ fields_in (slot_named slots.now name.now.text)) }
 {
@@ -237,7 +237,7 @@ pub(crate) fn fields(alloc: Global, slots: &[Slot], name: &Name) -> Result<List<
     }
 }
 
-/// The place of a column in a loop's row.
+/// Returns the index of a column in a loop's row.
 pub(crate) fn field(slots: &[Slot], row: &Name, column: &Name) -> u16
     ensures { result ≡ field_place slots.now row.now column.now }
 {

@@ -1,4 +1,4 @@
-//! Building statements. Loops are numbered in the order of the text, and each sees its row under its name.
+//! Builds statements. Loops are numbered in the order of the text. A loop's row is in scope in its body under its name.
 
 ghost use Rattle.std.specs.Prelude.{◌≡◌, ◌+◌, ◌++◌, ◌∷◌, [], IfOk, OnOk, map};
 ghost use Rattle.mv_catalog.specs.declared.resolved.RStmt.TheVariants as r_stmt;
@@ -17,9 +17,9 @@ use mv_values::memory::NoMemory;
 use mv_values::txt::Txt;
 use std::alloc::Global;
 
-// Statements without statements in them
+// Statements that contain no others
 
-/// SET.
+/// Builds a SET.
 fn assign(alloc: Global, slots: &[Slot], to: &Name, right: &Expr) -> Result<RStmt, NoMemory>
     ensures { IfOk result (λ s. s ≡ r_stmt.Assign (number_of slots.now to.now) (plain slots.now right.now)) }
 {
@@ -30,7 +30,7 @@ fn assign(alloc: Global, slots: &[Slot], to: &Name, right: &Expr) -> Result<RStm
     })
 }
 
-/// SELECT INTO.
+/// Builds a SELECT INTO.
 fn select(
     alloc: Global,
     tables: &[TableDef],
@@ -55,7 +55,7 @@ fn select(
     })
 }
 
-/// SELECT with an aggregate.
+/// Builds a SELECT with an aggregate.
 fn total(
     alloc: Global,
     tables: &[TableDef],
@@ -76,7 +76,7 @@ fn total(
     })
 }
 
-/// INSERT.
+/// Builds an INSERT.
 fn insert(
     alloc: Global,
     tables: &[TableDef],
@@ -92,7 +92,7 @@ fn insert(
     })
 }
 
-/// UPDATE.
+/// Builds an UPDATE.
 fn update(
     alloc: Global,
     tables: &[TableDef],
@@ -111,7 +111,7 @@ fn update(
     })
 }
 
-/// DELETE.
+/// Builds a DELETE.
 fn delete(
     alloc: Global,
     tables: &[TableDef],
@@ -128,7 +128,7 @@ fn delete(
     })
 }
 
-/// PRINT.
+/// Builds a PRINT.
 fn print(alloc: Global, slots: &[Slot], values: &[Expr]) -> Result<RStmt, NoMemory>
     ensures { IfOk result (λ s. s ≡ r_stmt.Print (plains slots.now values.now)) }
 {
@@ -137,7 +137,7 @@ fn print(alloc: Global, slots: &[Slot], values: &[Expr]) -> Result<RStmt, NoMemo
     })
 }
 
-/// ROLLBACK.
+/// Builds a ROLLBACK.
 fn rollback(alloc: Global, reason: &Txt) -> Result<RStmt, NoMemory>
     ensures { IfOk result (λ s. s ≡ r_stmt.Rollback reason.now) }
 {
@@ -146,7 +146,7 @@ fn rollback(alloc: Global, reason: &Txt) -> Result<RStmt, NoMemory>
     })
 }
 
-/// IF, with these branches.
+/// Builds an IF with these branches.
 fn branch(
     alloc: Global,
     slots: &[Slot],
@@ -163,7 +163,7 @@ fn branch(
     })
 }
 
-/// FOR over SELECT, of this number and with this body.
+/// Builds a FOR over a SELECT with this number and this body.
 fn select_loop(
     alloc: Global,
     tables: &[TableDef],
@@ -190,7 +190,7 @@ fn select_loop(
     })
 }
 
-/// Goes into a loop: it takes the next number, and its row is seen.
+/// Enters a loop: takes the next number, and brings the loop's row into scope.
 fn enter(row: Slot, slots: &mut List<Slot>, next: &mut usize) -> Result<(), NoMemory>
     ensures slots { OnOk result (slots.new ≡ slots.old ++ row ∷ []) }
     ensures next { OnOk result (next.new ≡ next.old + 1) }
@@ -199,10 +199,10 @@ fn enter(row: Slot, slots: &mut List<Slot>, next: &mut usize) -> Result<(), NoMe
     slots.push(row)
 }
 
-// Statements in order, and those that hold others
+// Statement lists, and statements that contain others
 
-/// Statements, of which the first loop has the number `next`, which becomes that of the next loop behind them. `slots`
-/// are left as they were.
+/// Builds statements. The first loop in them gets the number `next`, and `next` becomes the number after their last
+/// loop. `slots` is left as it was.
 #[cycle(statements)]
 pub(crate) fn statements(
     alloc: Global,
@@ -222,7 +222,7 @@ pub(crate) fn statements(
     Ok(all)
 }
 
-/// A statement.
+/// Builds a statement.
 #[cycle(statements)]
 fn statement(
     alloc: Global,
@@ -307,7 +307,7 @@ fn statement(
     }
 }
 
-/// The body of the loop that `slot` names, which takes the next number.
+/// Builds the body of the loop that `slot` names. The loop takes the next number.
 #[cycle(statements)]
 fn body_under(
     alloc: Global,
@@ -328,7 +328,7 @@ fn body_under(
     Ok(all)
 }
 
-/// FOR over SELECT.
+/// Builds a FOR over a SELECT.
 #[cycle(statements)]
 fn over_select(
     alloc: Global,
@@ -364,7 +364,7 @@ fn over_select(
     )
 }
 
-/// FOR over a ROWS parameter.
+/// Builds a FOR over a ROWS parameter.
 #[cycle(statements)]
 fn over_rows(
     alloc: Global,

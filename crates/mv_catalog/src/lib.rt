@@ -1,4 +1,4 @@
-//! Names, types and places: from the tree of a script to a program.
+//! Translates the syntax tree of a script into a program: checks names and types, and replaces names by numbers.
 #![tactic(auto)]
 
 pub mod build;

@@ -1,22 +1,23 @@
-//! Why a script's names and types were refused.
+//! The errors of resolving a script.
 
 use mv_values::memory::NoMemory;
 
-/// Why a script was not resolved: its first fault, with the number of its token, or want of memory. Of two faults at one
-/// token the first of this list counts.
+/// Why a script was not resolved: its first fault, with the number of the fault's token, or lack of memory. If several
+/// faults are at one token, the one listed first here counts.
 #[derive(Clone, Copy)]
 pub enum NameFault {
-    /// A table, column, procedure, variable, loop or key column that isn't there.
+    /// A table, column, procedure, variable, loop or key column that isn't declared.
     UnknownName { token: u32 },
-    /// A second table, procedure, column, key column, parameter, variable, visible loop or SET column of one name.
+    /// A second table, procedure, column, key column, parameter, variable, enclosing loop or SET column with the same
+    /// name.
     DoubleName { token: u32 },
-    /// A part of another type or length than its place, or a target that isn't a declared variable.
+    /// A value or list whose type or length doesn't fit its place, or a target that isn't a declared variable.
     WrongType { token: u32 },
-    /// A key column in SET.
+    /// A key column in the SET list of an UPDATE.
     KeyAssigned { token: u32 },
-    /// An item after one of a later kind, or a second journal.
+    /// An item after an item of a later kind, or a second journal.
     Late { token: u32 },
-    /// No memory was found.
+    /// Memory ran out.
     NoMemory,
 }
 

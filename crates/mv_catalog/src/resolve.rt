@@ -1,4 +1,4 @@
-//! Resolving scripts: the program that a script stands for, or its first fault.
+//! Resolves a script: returns its program or its first fault.
 
 ghost use Rattle.std.specs.Prelude.{◌≡◌, [], IfOk};
 ghost use Rattle.mv_ast.specs.declared.tree.Script.{Script as ScriptValue};
@@ -20,7 +20,7 @@ use mv_names::parts::{Parts, part};
 use mv_values::list::List;
 use std::alloc::Global;
 
-/// A fault of names or types, as an answer.
+/// Converts a fault to an error.
 fn refused(fault: Fault) -> NameFault
     ensures { (script : ScriptValue) → IsFirst (faults script) fault → Refuses script result }
 {
@@ -34,7 +34,7 @@ fn refused(fault: Fault) -> NameFault
     }
 }
 
-/// What a script with these parts and these faults stands for, or the first fault.
+/// Returns the program of these parts, or the first of these faults.
 fn answer(alloc: Global, parts: &Parts, found: &[Fault]) -> Result<Resolved, NameFault>
     ensures { (script : ScriptValue) → found.now ≡ faults script → parts.now ≡ parts_of script.items → Resolves script result }
 {
@@ -44,13 +44,12 @@ fn answer(alloc: Global, parts: &Parts, found: &[Fault]) -> Result<Resolved, Nam
     }
 }
 
-/// The program that a script stands for. Where the script has faults of names or types, their first is answered instead:
-/// the one at the least token, and of two at one token the one whose kind stands first in `NameFault`. `NoMemory` comes
-/// only where memory runs out. The script is given up. It costs the size of the script, and for each name a walk over
-/// those among which it is looked up.
+/// Resolves the names of a script, and consumes the script. If it has faults of names or types, the first is returned
+/// as the error: the one at the least token, and at one token the one whose kind comes first in `NameFault`. Fails with
+/// `NoMemory` only if memory runs out. Costs the size of the script, and a linear search for each name.
 ///
-/// The program is of one piece where the script is within the limits and each table names a key column, as in every
-/// script by the grammar.
+/// The program is well formed if the script is within the limits and each table names a key column, as the grammar
+/// requires.
 pub fn resolve(alloc: Global, script: Script) -> Result<Resolved, NameFault>
     ensures resolves { Resolves script result }
     ensures fits { script_passes script ≡ [] → HasKeys script → IfOk result FitsText }

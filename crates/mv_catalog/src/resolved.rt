@@ -1,6 +1,6 @@
-//! A program with its names replaced by numbers. Tables, columns, procedures and calls are numbered by place, from 0.
-//! The variables of a procedure are numbered in this order: parameters, declared variables, `:found`, and the loop
-//! rows in the order of their FORs in the text.
+//! Programs, in which numbers replace names. Tables, columns, procedures and calls are numbered by position, from 0.
+//! The variables of a procedure are numbered in this order: parameters, declared variables, `:found`, and the loop rows
+//! in the order of their FORs in the text.
 
 use mv_ast::tree::{OneOp, TwoOp};
 use mv_values::boxed::Boxed;
@@ -12,14 +12,14 @@ use mv_values::schema::{ColType, TableInfo};
 use mv_values::txt::Txt;
 use mv_values::value::{Row, Value};
 
-/// The type of a parameter: a value, or rows of values.
+/// The type of a parameter: a scalar, or rows given by the types of their columns.
 #[derive(Drop)]
 pub enum ParamInfo {
     One(ColType),
     Many(List<ColType>),
 }
 
-/// A procedure. `defaults` are the first values of its declared variables.
+/// A procedure. `defaults` holds the initial values of its declared variables.
 #[derive(Drop)]
 pub struct ProcInfo {
     pub name: Txt,
@@ -28,7 +28,8 @@ pub struct ProcInfo {
     pub body: List<RStmt>,
 }
 
-/// A block of the script's bytes that fills a table, or the journal (whose table is 0).
+/// A block of the script that fills a table, or the journal (whose table is 0). `at` is the offset of its first byte in
+/// the script, `len` its length in bytes. `closed` tells whether a line `>>` ends it.
 #[derive(Clone, Copy)]
 pub struct CopyInfo {
     pub table: u8,
@@ -37,7 +38,7 @@ pub struct CopyInfo {
     pub closed: bool,
 }
 
-/// A script without its names. `rows` are the rows of VALUES, for each table.
+/// A script with its names resolved. `rows` holds the rows of VALUES for each table.
 #[derive(Drop)]
 pub struct Resolved {
     pub tables: List<TableInfo>,
@@ -48,14 +49,14 @@ pub struct Resolved {
     pub journal: Option<CopyInfo>,
 }
 
-/// An accepted script: what it resolves to, and the database that its calls begin with.
+/// An accepted script: its resolved form, and the database before its first call.
 #[derive(Drop)]
 pub struct Program {
     pub resolved: Resolved,
     pub opening: Database,
 }
 
-/// A test of WHERE.
+/// A condition of WHERE.
 #[derive(Drop)]
 pub struct RCond {
     pub column: u16,
@@ -155,7 +156,7 @@ pub struct RExpr {
 pub enum RExprKind {
     Const(Value),
     Var(u16),
-    /// A column of a loop's row: the loop's variable, and the place in its row.
+    /// A column of a loop's row: the number of the loop's variable, and the index in its row.
     Field(u16, u16),
     Col(u16),
     One(OneOp, Boxed<RExpr>),

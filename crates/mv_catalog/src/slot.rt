@@ -1,10 +1,10 @@
-//! The names of a procedure with their numbers.
+//! The names of a procedure and their numbers.
 
 use mv_names::named::Named;
 use mv_values::list::List;
 use mv_values::txt::Txt;
 
-/// A name of a procedure with its number, and the names of the columns where it stands for rows.
+/// A name of a procedure and its number. For a variable that holds rows, `fields` has the names of their columns.
 #[derive(Drop)]
 pub struct Slot {
     pub name: Txt,
