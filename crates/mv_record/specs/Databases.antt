@@ -1,4 +1,4 @@
--- Databases of the tables of a program, and programs whose calls begin with one.
+-- Databases with the tables of a program, and programs with a valid opening database.
 use Rattle.std.specs.Prelude.{◌≡◌, List, All, length}
 use Rattle.std.specs.List.{AllZip}
 use Rattle.mv_values.specs.declared.rows.Keyed.{Keyed}
@@ -8,23 +8,23 @@ use Rattle.mv_catalog.specs.declared.resolved.Program.{Program}
 use Rattle.mv_catalog.specs.Text.{FitsText, IsRow, types_of}
 use Rattle.mv_record.specs.Writes.{AreRising}
 
--- the row has a value of its type and length for each column of the table
+-- the row has a value for each column of the table, of its type and length
 abbrev pub HasRow : TableInfo → Keyed → Type 0
 HasRow table item = IsRow (types_of table) item.row
 
--- so has each row of each table
+-- each row of each table does
 abbrev pub AreTyped : List TableInfo → List (List Keyed) → Type 0
 AreTyped tables db = AllZip (λ table rows. All (HasRow table) rows) tables db
 
--- a database of these tables: as many; the keys of each rise; each row stands under its own key, and has the values that its table
--- wants
+-- a database of these tables: it has a table for each, with rising keys; each row has its own key, and the values that
+-- its table requires
 pub record IsDatabaseOf (tables : List TableInfo) (db : List (List Keyed)) : Type 0 where
   pub size : length db ≡ length tables
   pub rising : AreRising db
   pub keys : KeysStand tables db
   pub rows : AreTyped tables db
 
--- a program of one piece, whose calls begin with a database of its tables
+-- a well-formed program whose opening database has its tables
 pub record IsProgram (program : Program) : Type 0 where
   pub text : FitsText program.resolved
   pub opening : IsDatabaseOf program.resolved.tables program.opening

@@ -1,5 +1,5 @@
--- What the records of a run tell: its lines, its end, and the database after it. All of it speaks of records alone, so it can be said
--- of any meaning of a procedure.
+-- What the records of a run determine: its lines, its end, and the database after it. All definitions are over records
+-- alone, so they apply to any meaning of a procedure.
 use Rattle.std.specs.Prelude.{◌≡◌, ◌<◌, ℕ, ◌+◌, List, [], ◌∷◌, ◌++◌, Option, None, Some, option_to_list}
 use Rattle.std.specs.List.{flat_map}
 use Rattle.std.specs.Option.{option_or}
@@ -15,17 +15,17 @@ use Rattle.mv_record.specs.declared.record.Record.{Record}
 abbrev pub Tables : Type 0
 Tables = List (List Keyed)
 
--- what a run of a call on a database leaves: its records, its reply, and the database after it
+-- the result of running a call on a database: its records, its reply, and the database after it
 pub record Run : Type 0 where
   pub records : List Record
   pub reply : Reply
   pub tables : Tables
 
--- what the calls of a procedure leave
+-- the results of the calls of a procedure
 abbrev pub Meaning : Type 0
 Meaning = Call → Tables → Run
 
--- Lines and end
+-- Lines and the end
 
 abbrev pub lines_in : List Record → List (List ℕ)
 lines_in rs = flat_map (λ r. option_to_list r.line) rs
@@ -35,7 +35,7 @@ abbrev pub end_in : List Record → Option End
 end_in [] = None
 end_in (r ∷ rs) = option_or r.end (end_in rs)
 
--- the last record has the end, and no other has one
+-- the last record has the end, and no other has any
 pub record StopsWith (rs : List Record) (e : End) : Type 0 where
   pub front : List Record
   pub last : Record
@@ -43,15 +43,15 @@ pub record StopsWith (rs : List Record) (e : End) : Type 0 where
   pub goes_on : end_in front ≡ None
   pub ends : last.end ≡ Some e
 
--- Changes
+-- Writes
 
--- the changes of all records, in order
+-- the writes of all records, in order
 abbrev pub writes_in : List Record → List Write
 writes_in rs = flat_map (λ r. r.writes) rs
 
 -- Numbers
 
--- there is none, or it is an earlier one
+-- the number, if any, is an earlier one
 abbrev pub IsEarlier : ℕ → Option ℕ → Type 0
 IsEarlier n None = Unit {0}
 IsEarlier n (Some m) = m < n
@@ -60,20 +60,20 @@ abbrev pub ReadsEarlier : ℕ → List Read → Type 0
 ReadsEarlier n [] = Unit {0}
 ReadsEarlier n (r ∷ rs) = IsEarlier n r.definer × ReadsEarlier n rs
 
--- each record's controller and definers are earlier records, where the first one has this number
+-- each record's controller and definers are earlier records, if the first record has this number
 abbrev pub NamesEarlier : ℕ → List Record → Type 0
 NamesEarlier n [] = Unit {0}
 NamesEarlier n (r ∷ rs) = IsEarlier n r.parent × ReadsEarlier n r.reads × NamesEarlier (n + 1) rs
 
--- What is so of a run
+-- Properties of a run
 
--- no record ends the call, the lines are theirs, and their changes lead to the database after it
+-- no record ends the call, the lines are those of the records, and their writes lead to the database after the run
 pub record GoesThrough (db : Tables) (run : Run) : Type 0 where
   pub goes_on : end_in run.records ≡ None
   pub lines : run.reply.lines ≡ lines_in run.records
   pub tables : run.tables ≡ applied (writes_in run.records) db
 
--- the last record ends the call; there are no lines, and the database is as before
+-- the last record ends the call, there are no lines, and the database is unchanged
 pub record IsRolledBack (e : End) (db : Tables) (run : Run) : Type 0 where
   pub stops : StopsWith run.records e
   pub lines : run.reply.lines ≡ []
@@ -83,6 +83,6 @@ abbrev pub Tells : Option End → Tables → Run → Type 0
 Tells None db run = GoesThrough db run
 Tells (Some e) db run = IsRolledBack e db run
 
--- the records of a run tell its reply and the database after it
+-- the records of a run determine its reply and the database after it
 abbrev pub TellsAll : Tables → Run → Type 0
 TellsAll db run = Tells run.reply.end db run

@@ -1,4 +1,4 @@
--- What writes do to one row of a table.
+-- The effect of writes on one row of a table.
 use Rattle.std.specs.Prelude.{◌≡◌, ℕ, Bool, ◌&&◌, ◌==◌, List, [], ◌∷◌, ◌++◌, Option}
 use Rattle.std.specs.List.{filter}
 use Rattle.std.specs.Ordering.{is_eq}
@@ -10,15 +10,15 @@ use Rattle.mv_values.specs.Order.{key_order}
 use Rattle.mv_values.specs.Patching.{patched, applied}
 use Rattle.mv_values.specs.Tables.{rows_at}
 
--- the write is on this key of this table
+-- the write is to this key of this table
 abbrev pub is_on : ℕ → List Value → Write → Bool
 is_on t key w = (w.table == t) && is_eq (key_order w.key key)
 
--- the writes on this key of this table, in order
+-- the writes to this key of this table, in order
 abbrev pub writes_on : ℕ → List Value → List Write → List Write
 writes_on t key ws = filter (is_on t key) ws
 
--- the row behind patches of it, one after another
+-- the row after these patches, applied in order
 abbrev pub patched_by : List Write → Option (List Value) → Option (List Value)
 patched_by [] was = was
 patched_by (w ∷ ws) was = patched_by ws (patched w.patch was)
@@ -27,6 +27,6 @@ patched_by (w ∷ ws) was = patched_by ws (patched w.patch was)
 abbrev pub AreRising : List (List Keyed) → Type 0
 AreRising db = (t : ℕ) → IsRising (rows_at db t)
 
--- the first of the writes were done, and the others not
+-- the first part of the writes was applied, and the rest was not
 abbrev pub HasAppliedFront : List Write → List (List Keyed) → List (List Keyed) → Type 0
 HasAppliedFront ws old new = (front rest : List Write) × (ws ≡ front ++ rest) × (new ≡ applied front old)

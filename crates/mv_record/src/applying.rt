@@ -1,4 +1,4 @@
-//! Writes to a database.
+//! Applies writes to a database.
 
 ghost use Rattle.std.specs.Prelude.{◌≡◌, ◌<◌, ◌≤◌, length, [], List, IfOk, OnOk, OnErr, MatchResult, slice_set};
 ghost use Rattle.std.specs.Option.{option_copied};
@@ -15,7 +15,7 @@ use mv_values::rows::{Database, Keyed, Rows};
 use mv_values::value::{Key, Row};
 use std::alloc::Global;
 
-/// A row with columns set, in order. A column that the row doesn't have is left out.
+/// Returns the row with columns set, in order. Skips columns that the row doesn't have.
 fn set_columns(alloc: Global, row: &Row, items: &[Assign]) -> Result<Row, NoMemory>
     ensures { IfOk result (λ new. new ≡ with_columns items.now row.now) }
 {
@@ -28,7 +28,8 @@ fn set_columns(alloc: Global, row: &Row, items: &[Assign]) -> Result<Row, NoMemo
     Ok(new)
 }
 
-/// The row behind a patch of a row, or of none. It costs the size of the row.
+/// Returns the row after a patch, given the row before it, if any. Returns `None` after a delete, and after setting
+/// columns of no row. Fails if memory runs out. Costs the size of the row.
 pub fn patch_row(alloc: Global, patch: &Patch, was: Option<&Row>) -> Result<Option<Row>, NoMemory>
     ensures { IfOk result (λ row. row ≡ patched patch.now (option_copied was.entry)) }
 {
@@ -42,7 +43,7 @@ pub fn patch_row(alloc: Global, patch: &Patch, was: Option<&Row>) -> Result<Opti
     }
 }
 
-/// The row at the place of a key.
+/// Returns the row at the place of a key.
 fn row_at(rows: &Rows, place: Result<usize, usize>) -> Option<&Row>
     requires { MatchResult place (λ at. at < length rows.now) (λ at. at ≤ length rows.now) }
     ensures { (key : List Value) → MatchResult place (IsPlaceOf rows.now key) (IsGapFor rows.now key) → option_copied result ≡ row_of rows.now key }
@@ -53,14 +54,14 @@ fn row_at(rows: &Rows, place: Result<usize, usize>) -> Option<&Row>
     }
 }
 
-/// The row under a key. It costs the logarithm of the number of rows.
+/// Returns the row with the key. Costs the logarithm of the number of rows.
 pub fn find_row<'a>(rows: &'a Rows, key: &Key) -> Option<&'a Row>
     ensures { option_copied result ≡ row_of rows.now key.now }
 {
     row_at(rows, rows.place_of(key.as_slice()))
 }
 
-/// Puts a row, or none, under a key whose place is known.
+/// Stores or removes a row under a key whose place is known.
 fn put_at(
     alloc: Global,
     rows: &mut Rows,
@@ -90,8 +91,8 @@ fn put_at(
     }
 }
 
-/// Puts a row under a key, in the place of one that stands there, or takes that one out. It costs the logarithm of the
-/// number of rows, and where a row comes or goes the moving of those behind it.
+/// Stores a row under a key, or removes the row with that key if `row` is `None`. On failure, when memory runs out, the
+/// rows are unchanged. Costs the logarithm of the number of rows; an insertion or removal also moves the rows after it.
 pub fn put_row(alloc: Global, rows: &mut Rows, key: &Key, row: Option<Row>) -> Result<(), NoMemory>
     ensures ok { OnOk result (rows.new ≡ placed key.now row rows.old) }
     ensures err { OnErr result (rows.new ≡ rows.old) }
@@ -100,7 +101,7 @@ pub fn put_row(alloc: Global, rows: &mut Rows, key: &Key, row: Option<Row>) -> R
     put_at(alloc, rows, key, place, row)
 }
 
-/// Patches the row under a key.
+/// Patches the row with the key.
 fn patch_rows(alloc: Global, rows: &mut Rows, key: &Key, patch: &Patch) -> Result<(), NoMemory>
     ensures ok { OnOk result (rows.new ≡ patched_rows key.now patch.now rows.old) }
     ensures err { OnErr result (rows.new ≡ rows.old) }
@@ -110,8 +111,8 @@ fn patch_rows(alloc: Global, rows: &mut Rows, key: &Key, patch: &Patch) -> Resul
     put_at(alloc, rows, key, place, row)
 }
 
-/// Does a write. A database without the write's table stays as it is. It searches for the key once, and doesn't walk
-/// the table.
+/// Applies a write. Has no effect if the database lacks the write's table. On failure, when memory runs out, the
+/// database is unchanged. Searches for the key once; an insertion or removal also moves the rows after it.
 pub fn apply(alloc: Global, database: &mut Database, write: &Write) -> Result<(), NoMemory>
     ensures ok { OnOk result (database.new ≡ written write.now database.old) }
     ensures err { OnErr result (database.new ≡ database.old) }
@@ -126,7 +127,7 @@ pub fn apply(alloc: Global, database: &mut Database, write: &Write) -> Result<()
     done
 }
 
-/// Does writes, one after another. Where memory runs out the first of them are done, and the others not.
+/// Applies writes in order. If memory runs out, only some first part of the writes has been applied.
 pub fn apply_all(alloc: Global, database: &mut Database, writes: &[Write]) -> Result<(), NoMemory>
     ensures ok { OnOk result (database.new ≡ applied writes.now database.old) }
     ensures err { OnErr result (HasAppliedFront writes.now database.old database.new) }

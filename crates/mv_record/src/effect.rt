@@ -1,4 +1,4 @@
-//! What a statement does by itself.
+//! The effect of a single statement.
 
 use crate::record::Slot;
 use mv_values::calls::End;
@@ -8,19 +8,19 @@ use mv_values::pred::Pred;
 use mv_values::txt::Txt;
 use mv_values::value::Row;
 
-/// What a statement does by itself: its record without its place, its controller and what it reads.
+/// The effect of a statement itself: its record without position, controller and reads.
 #[derive(Drop)]
 pub struct Effect {
-    /// What it asks of tables. None where it looks at no rows.
+    /// The predicates it queries tables with. Empty if it looks at no rows.
     pub preds: List<Pred>,
-    /// What it sets: its targets in the order of the text, and `:found` last.
+    /// The variables it sets: its targets in the order of the text, then `:found`.
     pub sets: List<Slot>,
-    /// The rows that a FOR goes through.
+    /// The rows that a FOR iterates over.
     pub rows: List<Row>,
-    /// What it changes, in key order.
+    /// The writes it makes, in key order.
     pub writes: List<Write>,
-    /// What PRINT adds.
+    /// The line that a PRINT adds.
     pub line: Option<Txt>,
-    /// Why the call ends here.
+    /// The reason, if the call ends here.
     pub end: Option<End>,
 }

@@ -1,4 +1,4 @@
-//! What a run of a procedure leaves: its records, and what they tell.
+//! The result of a run of a procedure: its records, and what follows from them.
 #![tactic(auto)]
 
 pub mod applying;

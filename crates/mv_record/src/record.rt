@@ -1,4 +1,4 @@
-//! What a run of a procedure leaves: a record of each executed statement.
+//! The records of a run of a procedure: one for each executed statement.
 
 ghost use Rattle.std.specs.Prelude.{◌≡◌, IfOk};
 
@@ -12,49 +12,48 @@ use mv_values::txt::Txt;
 use mv_values::value::{Row, Value};
 use std::alloc::Global;
 
-/// The place of a record: the number of its statement, counted from 1 through the text of the procedure, and the turn
-/// of each FOR around it, from the outside in, also counted from 1.
+/// The position of a record. `statement` is the number of its statement in the text of the procedure, from 1. `turns`
+/// has the iteration of each enclosing FOR, outermost first, also from 1.
 #[derive(Drop)]
 pub struct Spot {
     pub statement: u16,
     pub turns: List<usize>,
 }
 
-/// A variable that a statement reads, and the number of the record that last set it: none where it still has the value
-/// that it began with.
+/// A variable that a statement reads. `definer` is the number of the record that last set it, or `None` if it still has
+/// its initial value.
 #[derive(Clone, Copy)]
 pub struct Read {
     pub slot: u16,
     pub definer: Option<usize>,
 }
 
-/// A variable with a value.
+/// A variable and its value.
 #[derive(Drop)]
 pub struct Slot {
     pub slot: u16,
     pub value: Value,
 }
 
-/// An executed statement. The records of a run are numbered from 0, in the order in which the statements were executed.
+/// An executed statement. The records of a run are numbered from 0 in the order of execution.
 #[derive(Drop)]
 pub struct Record {
     pub spot: Spot,
-    /// The number of the record of the IF or FOR that directly holds it.
+    /// The number of the record of the innermost enclosing IF or FOR.
     pub parent: Option<usize>,
-    /// The variables that stand in its own expressions, each once, in the order in which they first stand there. A
-    /// parameter isn't one.
+    /// The variables in its own expressions, each once, in the order of first occurrence. Parameters are not included.
     pub reads: List<Read>,
-    /// What it asked of tables. None where it looked at no rows.
+    /// The predicates it queried tables with. Empty if it looked at no rows.
     pub preds: List<Pred>,
-    /// What it set: its targets in the order of the text, and `:found` last.
+    /// The variables it set: its targets in the order of the text, then `:found`.
     pub sets: List<Slot>,
-    /// The rows that a FOR goes through.
+    /// The rows that a FOR iterates over.
     pub rows: List<Row>,
-    /// What it changed, in key order.
+    /// The writes it made, in key order.
     pub writes: List<Write>,
-    /// What PRINT added.
+    /// The line that a PRINT added.
     pub line: Option<Txt>,
-    /// Why the call ended here.
+    /// The reason, if the call ended here.
     pub end: Option<End>,
 }
 
@@ -82,7 +81,7 @@ impl Copied for Slot {
     }
 }
 
-/// A copy of what is there.
+/// Returns a copy of the item, if any.
 fn copy_some<T: Copied>(item: &Option<T>, alloc: Global) -> Result<Option<T>, NoMemory>
     ensures { IfOk result (λ it. it ≡ item.now) }
 {
