@@ -91,7 +91,7 @@ pub(crate) fn columns_in<'a>(tables: &'a [TableDef], name: &Name) -> &'a [ColDef
 
 // The variables of a procedure
 
-/// Returns a slot for a name without columns.
+/// Returns a slot with this number, name and column names.
 pub(crate) fn slot_at(
     alloc: Global,
     number: usize,

@@ -16,8 +16,8 @@ HasRow table item = IsRow (types_of table) item.row
 abbrev pub AreTyped : List TableInfo → List (List Keyed) → Type 0
 AreTyped tables db = AllZip (λ table rows. All (HasRow table) rows) tables db
 
--- a database of these tables: it has a table for each, with rising keys; each row has its own key, and the values that
--- its table requires
+-- a database of these tables: it has a table for each, with rising keys; each row is stored under its own values of the
+-- key columns, and has the values that its table requires
 pub record IsDatabaseOf (tables : List TableInfo) (db : List (List Keyed)) : Type 0 where
   pub size : length db ≡ length tables
   pub rising : AreRising db
