@@ -1,5 +1,5 @@
--- What a statement asks of a table. That predicates stand for what was read is the paper's (Dashti, Basil John, Shaikhha and Koch,
--- SIGMOD 2017); which tests and columns they have is this project's own.
+-- The predicates with which a statement queries tables. That predicates represent what was read is the paper's (Dashti,
+-- Basil John, Shaikhha and Koch, SIGMOD 2017); their tests and columns are this project's own.
 use Rattle.std.specs.Prelude.{◌≡◌, ◌<◌, ℕ, ◌==◌, All, length, List, [], ◌∷◌, ◌++◌, Result, Ok, Err, map}
 use Rattle.std.specs.List.{flat_map, position}
 use Rattle.mv_values.specs.declared.value.Value.{Value}
@@ -25,20 +25,20 @@ use Rattle.mv_alone.specs.Rows.{checks_of}
 use Rattle.mv_alone.specs.Changes.{new_row}
 use Rattle.mv_recorded.specs.Reading.{each_once}
 
--- goes on with the value; of a fault comes nothing
+-- continues with the value; empty after a fault
 abbrev pub on : {A B : Type 0} → Result A End → (A → List B) → List B
 on (Ok x) go = go x
 on (Err e) go = []
 
--- a test, with the place of its column in the key
+-- a test, with the position of its column in the key
 abbrev pub test_of : List ℕ → Check → Test
 test_of keys check = record { column = check.column; key_place = position (λ k. k == check.column) keys; op = check.op; value = check.value }
 
--- the rows of a table that pass the tests, and the columns that are selected of them
+-- the rows of a table that pass the tests, and the columns selected from them
 abbrev pub pred_of : List TableInfo → ℕ → List Check → List ℕ → Pred
 pred_of tables t checks cs = record { table = t; tests = map (test_of (key_columns tables t)) checks; columns = each_once cs }
 
--- the columns in an expression that stand by themselves, in the order of the text
+-- the bare columns in an expression, in the order of the text
 abbrev pub kind_columns : RExprKind-F (List ℕ) (List ℕ) → List ℕ
 kind_columns (kind.Const v) = []
 kind_columns (kind.Var x) = []
@@ -58,19 +58,19 @@ column_in (Sum c) = c ∷ []
 column_in (Min c) = c ∷ []
 column_in (Max c) = c ∷ []
 
--- each key column equals the row's
+-- each key column equals the row's value
 abbrev pub same_key : List ℕ → List Value → List Check
 same_key keys row = map (λ c. record { column = c; op = Eq; value = column_of row c }) keys
 
--- the tests are WHERE's, and these columns are selected
+-- the predicate with the tests of WHERE and these selected columns
 abbrev pub asked : List TableInfo → ℕ → List RCond → List ℕ → State → List Pred
 asked tables t conds cs st = on (checks_of conds st.env) (λ checks. pred_of tables t checks cs ∷ [])
 
--- the listed columns and those of ORDER BY
+-- the listed columns, followed by those of ORDER BY
 abbrev pub with_sorts : List ℕ → List RSort → List ℕ
 with_sorts cs sorts = cs ++ map (λ s. s.column) sorts
 
--- what a statement asks; nothing where it faults before rows are looked at
+-- the predicates of a statement; none if it faults before it looks at rows
 abbrev pub preds_of : {X : Type 0} → List TableInfo → RStmt-F X → State → List Pred
 preds_of tables (Select cs xs t conds sorts offset) st = on (offset_of offset st.env) (λ n. asked tables t conds (with_sorts cs sorts) st)
 preds_of tables (Total agg x t conds) st = asked tables t conds (column_in agg) st
@@ -85,7 +85,7 @@ preds_of tables (Branch e ys ns) st = []
 preds_of tables (Print es) st = []
 preds_of tables (Rollback reason) st = []
 
--- the predicate's table is there, and each of its tests has the place of its column in the key
+-- the predicate's table exists, and each of its tests has the position of its column in the key
 pub record KnowsKey (tables : List TableInfo) (pred : Pred) : Type 0 where
   pub table : pred.table < length tables
   pub places : All (λ (test : Test). test.key_place ≡ position (λ k. k == test.column) (key_columns tables pred.table)) pred.tests

@@ -1,4 +1,5 @@
--- What a statement does by itself, without what it holds: an IF only looks at its condition, a FOR only fixes its rows.
+-- The effect of a statement itself, without the statements it contains: an IF only evaluates its condition, a FOR only
+-- fixes its rows.
 use Rattle.std.specs.Prelude.{ℕ, Bool, true, false, ◌||◌, List, [], ◌∷◌, ◌++◌, Option, None, Result, Ok, Err, map}
 use Rattle.std.specs.List.{flat_map}
 use Rattle.std.specs.Result.{result_ok, result_err}
@@ -28,17 +29,17 @@ use Rattle.mv_record.specs.declared.effect.Effect.{Effect}
 use Rattle.mv_recorded.specs.Reading.{each_once}
 use Rattle.mv_recorded.specs.Asking.{on, preds_of}
 
--- the rows that a FOR goes through
+-- the rows that a FOR iterates over
 abbrev pub fixed_rows : {X : Type 0} → RStmt-F X → State → Result (List (List Value)) End
 fixed_rows (ForSelect x once cs t conds sorts body) st = then_do (checks_of conds st.env) (λ checks. Ok (fixed once cs sorts (matches t checks st)))
 fixed_rows (ForRows x y body) st = Ok (turns_at st.env y)
 fixed_rows s st = Ok []
 
--- `:found` says whether there is a turn
+-- `:found` tells whether there is an iteration
 abbrev pub before_turns : Result (List (List Value)) End → State → Result State End
 before_turns fixed st = then_do fixed (λ rows. Ok (record st { env = with_found st.env (is_turn rows) }))
 
--- the state behind a statement itself, or its end
+-- the state after a statement itself, or its end
 abbrev pub itself : {X : Type 0} → List TableInfo → RStmt-F X → State → Result State End
 itself tables (Assign x e) st = assign x e st
 itself tables (Select cs xs t conds sorts offset) st = select cs xs t conds sorts offset st
@@ -54,11 +55,11 @@ itself tables (Rollback reason) st = Err (Own reason)
 
 -- Variables
 
--- a row was found
+-- whether a row was found
 abbrev pub is_found : State → Bool
 is_found st = is_so (scalar_at st.env st.env.found)
 
--- COUNT and SUM give a number for no rows too
+-- COUNT and SUM return a number even for no rows
 abbrev pub gives_always : RAgg → Bool
 gives_always CountAll = true
 gives_always (CountDistinct c) = true
@@ -70,7 +71,7 @@ abbrev pub when : Bool → List ℕ → List ℕ
 when true xs = xs
 when false xs = []
 
--- the variables that a statement has set, by the state behind it: targets in the order of the text, then `:found`
+-- the variables that a statement has set, given the state after it: targets in the order of the text, then `:found`
 abbrev pub set_variables : {X : Type 0} → RStmt-F X → State → List ℕ
 set_variables (Assign x e) st = x ∷ []
 set_variables (Select cs xs t conds sorts offset) st = when (is_found st) (each_once xs) ++ st.env.found ∷ []
@@ -84,7 +85,7 @@ set_variables (Delete t conds) st = st.env.found ∷ []
 set_variables (Print es) st = []
 set_variables (Rollback reason) st = []
 
--- with the values that they have behind it
+-- these variables with their values after the statement
 abbrev pub sets_of : {X : Type 0} → RStmt-F X → State → List Slot
 sets_of s st = map (λ x. record { slot = x; value = scalar_at st.env x }) (set_variables s st)
 
@@ -93,11 +94,11 @@ sets_of s st = map (λ x. record { slot = x; value = scalar_at st.env x }) (set_
 abbrev pub write : ℕ → List Value → Patch → Write
 write t key p = record { table = t; key = key; patch = p }
 
--- the columns of SET, with their values in the row behind it
+-- the columns of SET, with their values in the row after it
 abbrev pub changed : List RSetItem → List Value → Patch
 changed items row = patch.Set (map (λ i. record { column = i.column; value = column_of row i.column }) items)
 
--- what a statement that doesn't fault changes, in key order
+-- the writes of a statement that doesn't fault, in key order
 abbrev pub writes_of : {X : Type 0} → List TableInfo → RStmt-F X → State → List Write
 writes_of tables (Insert t es) st =
     on (new_row (columns_at tables t) es st.env) (λ row. write t (columns_of row (key_columns tables t)) (patch.Insert row) ∷ [])
@@ -113,9 +114,9 @@ abbrev pub printed_line : {X : Type 0} → RStmt-F X → State → Option (List 
 printed_line (Print es) st = result_ok (then_do (values_of es st.env) (λ vs. Ok (line_of vs)))
 printed_line s st = None
 
--- The whole of it
+-- The whole effect
 
--- what a statement does from a state on
+-- the effect of a statement in a state
 abbrev pub effect_of : {X : Type 0} → List TableInfo → RStmt-F X → State → Effect
 effect_of tables s st = record {
   preds = preds_of tables s st;

@@ -1,4 +1,4 @@
--- How the effect of each kind of statement comes of what the statement asked and found.
+-- The effect of each kind of statement, computed from its predicates and the rows they found.
 use Rattle.std.specs.Prelude.{◌≡◌, ℕ, ℤ, Bool, ◌++◌, List, [], ◌∷◌, true, Option, Some, None, Result, Ok, Err, map, if◌then◌else◌}
 use Rattle.std.specs.Option.{is_some}
 use Rattle.mv_values.specs.declared.value.Value.{Value}
@@ -28,11 +28,11 @@ use Rattle.mv_recorded.specs.Reading.{each_once}
 use Rattle.mv_recorded.specs.Doing.{effect_of, when, write, changed}
 use Rattle.mv_record.specs.declared.effect.Effect.{Effect}
 
--- it is what the statement does with these variables on a database, whatever lines stand before it
+-- the effect of the statement with these variables on a database, whatever lines come before it
 abbrev pub IsEffect : List TableInfo → RStmt-F RStmt → Env → List (List Keyed) → Effect → Type 0
 IsEffect tables s env db effect = (lines : List (List ℕ)) → effect ≡ effect_of tables s (record { env = env; tables = db; lines = lines })
 
--- the same whatever the tables and the database are
+-- the effect of the statement with these variables on any tables and any database
 abbrev pub IsEffectAnywhere : RStmt-F RStmt → Env → Effect → Type 0
 IsEffectAnywhere s env effect = (tables : List TableInfo) (db : List (List Keyed)) → IsEffect tables s env db effect
 
@@ -40,28 +40,28 @@ IsEffectAnywhere s env effect = (tables : List TableInfo) (db : List (List Keyed
 abbrev pub empty : Effect
 empty = record { preds = []; sets = []; rows = []; writes = []; line = None; end = None }
 
--- a statement that only asks
+-- a statement that only queries
 abbrev pub only_asks : Pred → Effect
 only_asks pred = record empty { preds = pred ∷ [] }
 
--- a statement that only asks, and ends the call
+-- a statement that only queries, then ends the call
 abbrev pub only_end : List Pred → End → Effect
 only_end preds e = record { preds = preds; sets = []; rows = []; writes = []; line = None; end = Some e }
 
--- a statement that asked this: what it does with a value, or the end where there is none
+-- a statement after its query: its effect if there is a value, or its end
 abbrev pub asked_then : {A : Type 0} → Pred → Result A End → (A → Effect) → Effect
 asked_then pred (Ok x) go = go x
 asked_then pred (Err e) go = only_end (pred ∷ []) e
 
--- variables, with the values that they have behind a statement
+-- variables with their values after a statement
 abbrev pub slots_behind : Env → List ℕ → List Slot
 slots_behind env xs = map (λ x. record { slot = x; value = scalar_at env x }) xs
 
--- what a statement asks of a table, where the right sides of WHERE have values
+-- the predicate of a statement, if the right sides of WHERE have values
 abbrev pub asks : List TableInfo → ℕ → List RCond → List ℕ → Env → Result Pred End
 asks tables t conds cs env = then_do (checks_of conds env) (λ checks. Ok (pred_of tables t checks cs))
 
--- what a statement asks of a table, and a value that it needs before it looks there, or its effect where it ends before
+-- the predicate of a statement and a value that it needs before it queries, or its effect if it ends before
 abbrev pub asked_by : {A B : Type 0} → Result A End → Result B End → Result (A × B) Effect
 asked_by (Ok a) (Ok b) = Ok (a, b)
 asked_by (Ok a) (Err e) = Err (only_end [] e)
@@ -71,32 +71,32 @@ asked_by (Err e) b = Err (only_end [] e)
 abbrev pub row_number : Option RExpr → Env → Result ℤ End
 row_number offset env = then_do (offset_of offset env) (λ v. Ok (number v))
 
--- a statement that asked this and takes this row
+-- a statement after its query that takes this row
 abbrev pub taking : Pred → List ℕ → List ℕ → Option Keyed → Env → Effect
 taking pred cs xs item env = record (only_asks pred) { sets = slots_behind (taken cs xs item env) (when (is_some item) (each_once xs) ++ env.found ∷ []) }
 
--- a statement that asked this and gives this total
+-- a statement after its query that stores this aggregate
 abbrev pub totalling : Pred → ℕ → Option Value → Bool → Env → Effect
 totalling pred x total found env = record (only_asks pred) { sets = slots_behind (with_found (totalled x total env) found) (when (is_some total) (x ∷ []) ++ env.found ∷ []) }
 
--- a statement that asked this and goes through these rows
+-- a statement after its query that iterates over these rows
 abbrev pub going : Pred → List (List Value) → Env → Effect
 going pred turns env = record (only_asks pred) { sets = slots_behind (with_found env (is_turn turns)) (env.found ∷ []); rows = turns }
 
--- a statement that asked this, where it found something or not, and writes this
+-- a statement after its query that makes these writes; the flag tells whether it found a row
 abbrev pub writing : Pred → Bool → List Write → Env → Effect
 writing pred found ws env = record (only_asks pred) { sets = slots_behind (with_found env found) (env.found ∷ []); writes = ws }
 
--- what SET writes to rows, up to the first one at which it faults
+-- the writes of SET to rows, or the first fault
 abbrev pub changes : ℕ → List RSetItem → (List Value → Result (List Value) End) → List Keyed → Result (List Write) End
 changes t items new [] = Ok []
 changes t items new (item ∷ rest) = then_do (new item.row) (λ row. then_do (changes t items new rest) (λ ws. Ok (write t item.key (changed items row) ∷ ws)))
 
--- what SET makes of a row of a table
+-- a row of a table after SET
 abbrev pub new_of : List TableInfo → ℕ → Env → List RSetItem → List Value → Result (List Value) End
 new_of tables t env items row = set_row (columns_at tables t) (key_columns tables t) env row items row
 
--- an INSERT of a row that asked this, where a row with its key is there or not
+-- an INSERT of a row after its query; the flag tells whether a row with its key exists
 abbrev pub inserting : List TableInfo → ℕ → List Value → Pred → Bool → Env → Effect
 inserting tables t row pred there env =
     if there then only_end (pred ∷ []) Duplicate else writing pred true (write t (keyed (key_columns tables t) row).key (Insert row) ∷ []) env

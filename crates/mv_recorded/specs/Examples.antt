@@ -1,4 +1,4 @@
--- Records of small procedures, worked out by hand.
+-- Records of small procedures, computed by hand.
 use Rattle.std.specs.Prelude.{◌≡◌, ℕ, pos, true, false, List, [], ◌∷◌, Some, None}
 use Rattle.mv_values.specs.declared.value.Value.{Value}
 use Rattle.mv_values.specs.declared.value.Value.TheVariants.{Int, Text}
@@ -33,7 +33,7 @@ use Rattle.mv_recorded.specs.Recorded.{recorded}
 
 -- Expressions
 
--- an expression of a kind
+-- an expression of this kind
 abbrev pub expr : RExprKind-F RExprKind RExpr → RExpr
 expr d = record { kind = roll-RExprKind d }
 
@@ -64,7 +64,7 @@ acc = record {
 abbrev pub account : ℕ → ℕ → Keyed
 account a b = record { key = Int (pos a) ∷ []; row = Int (pos a) ∷ Int (pos b) ∷ Text [] ∷ [] }
 
--- two accounts beside the one for fees
+-- two accounts besides the one for fees
 abbrev pub bank : List (List Keyed)
 bank = (account 0 0 ∷ account 1 100 ∷ account 2 100 ∷ []) ∷ []
 
@@ -72,7 +72,7 @@ bank = (account 0 0 ∷ account 1 100 ∷ account 2 100 ∷ []) ∷ []
 abbrev pub of_account : RExpr → List RCond
 of_account x = record { column = 0; op = Eq; right = x } ∷ []
 
--- the account a, of which these columns are selected
+-- the query for account `a` that selects these columns
 abbrev pub asks : ℕ → List ℕ → List Pred
 asks a cs = record { table = 0; tests = record { column = 0; key_place = Some 0; op = Eq; value = Int (pos a) } ∷ []; columns = cs } ∷ []
 
@@ -134,7 +134,7 @@ add_write = record (blank 3) { reads = reads 2 1 ∷ []; preds = asks 1 []; sets
 abbrev pub add_line : Record
 add_line = record (blank 4) { reads = reads 2 1 ∷ []; line = Some (49 ∷ 48 ∷ 53 ∷ []) }
 
--- the sum is read by the UPDATE and by the PRINT
+-- the UPDATE and the PRINT read the sum
 abbrev pub AddsFive : Type 0
 AddsFive = recorded acc add (call_of (number_of 1 ∷ number_of 5 ∷ [])) bank ≡ add_read ∷ add_sum ∷ add_write ∷ add_line ∷ []
 
@@ -144,7 +144,7 @@ greatest = 9223372036854775807
 abbrev pub add_overflow : Record
 add_overflow = record (blank 2) { reads = reads 2 0 ∷ []; end = Some Overflow }
 
--- the second record ends the call, and has set nothing
+-- the second record ends the call, and sets nothing
 abbrev pub AddOverflows : Type 0
 AddOverflows = recorded acc add (call_of (number_of 1 ∷ number_of greatest ∷ [])) bank ≡ add_read ∷ add_overflow ∷ []
 
@@ -156,7 +156,7 @@ raise_balance = Update 0 (record { column = 1; right = two Add (col 1) (var 1) }
 abbrev pub raise : ProcInfo
 raise = record { name = []; params = []; defaults = []; body = roll-RStmt raise_balance ∷ [] }
 
--- it faulted after rows were looked at: it has its predicate and its end, and changes nothing
+-- the UPDATE faults after it looked at rows: its record has a predicate and an end, but no writes
 abbrev pub UpdateOverflows : Type 0
 UpdateOverflows =
     recorded acc raise (call_of (number_of 1 ∷ number_of greatest ∷ [])) bank ≡ record (blank 1) { preds = asks 1 (1 ∷ []); end = Some Overflow } ∷ []
@@ -175,7 +175,7 @@ look_read = record (blank 1) { preds = asks 7 (1 ∷ []); sets = sets 2 0 ∷ []
 abbrev pub look_line : Record
 look_line = record (blank 2) { reads = reads_default 1 ∷ reads 2 0 ∷ []; line = Some (48 ∷ 44 ∷ 48 ∷ []) }
 
--- a SELECT without a row sets `:found` alone: its target is still the default
+-- a SELECT without a row sets only `:found`: its target keeps its default
 abbrev pub LooksInVain : Type 0
 LooksInVain = recorded acc look (call_of (number_of 7 ∷ [])) bank ≡ look_read ∷ look_line ∷ []
 
@@ -211,11 +211,11 @@ call_transfer x = call_of (number_of 1 ∷ number_of 2 ∷ number_of x ∷ [])
 abbrev pub read_first : Record
 read_first = record (blank 1) { preds = asks 1 (1 ∷ []); sets = sets 3 100 ∷ sets 4 1 ∷ [] }
 
--- an IF has read what its condition names, and sets nothing
+-- an IF reads the variables of its condition, and sets nothing
 abbrev pub looked : Record
 looked = record (blank 2) { reads = reads 3 0 ∷ [] }
 
--- its controller is the record of the IF, which has the number 1
+-- the controller is the record of the IF, which has number 1
 abbrev pub rolled_back : Record
 rolled_back = record (blank 3) { parent = Some 1; end = Some (Own no_funds) }
 
@@ -228,11 +228,11 @@ given = record (blank 5) { preds = asks 2 (1 ∷ []); sets = sets 4 1 ∷ []; wr
 abbrev pub fee_taken : Record
 fee_taken = record (blank 6) { preds = asks 0 (1 ∷ []); sets = sets 4 1 ∷ []; writes = writes_balance 0 1 }
 
--- what the IF holds isn't executed, but counts in the numbers of the statements behind it
+-- the statements in the IF aren't executed, but they count in the numbers of the statements after it
 abbrev pub Transfers : Type 0
 Transfers = recorded acc transfer (call_transfer 10) bank ≡ read_first ∷ looked ∷ taken ∷ given ∷ fee_taken ∷ []
 
--- none comes behind the ROLLBACK; an IF adds nothing to the paths of what it holds
+-- no record follows the ROLLBACK; an IF adds nothing to the paths of the statements in it
 abbrev pub TransferRollsBack : Type 0
 TransferRollsBack =
     (recorded acc transfer (call_transfer 150) bank ≡ read_first ∷ looked ∷ rolled_back ∷ [])
@@ -263,7 +263,8 @@ abbrev pub second_turn : Record
 second_turn =
     record (blank 2) { spot = record { statement = 2; turns = 2 ∷ [] }; parent = Some 0; reads = reads 1 1 ∷ reads 3 0 ∷ []; sets = sets 1 12 ∷ [] }
 
--- turns count from 1; the row is read from the FOR's record, and the sum from the turn before; each turn has paths of its own
+-- iterations count from 1; the row is read from the FOR's record, and the sum from the iteration before; each iteration
+-- has its own paths
 abbrev pub AddsUp : Type 0
 AddsUp =
     (recorded [] total (call_of (Many lines ∷ [])) [] ≡ loop_record ∷ first_turn ∷ second_turn ∷ [])
@@ -305,7 +306,7 @@ for_record = record (blank 1) {
   rows = (Int (pos 2) ∷ []) ∷ (Int (pos 1) ∷ []) ∷ [];
 }
 
--- in this turn, of this account
+-- the DELETE of this account in this iteration
 abbrev pub deleted : ℕ → ℕ → Record
 deleted k a = record (blank 2) {
   spot = record { statement = 2; turns = k ∷ [] };
@@ -327,7 +328,7 @@ opened = record (blank 4) {
   writes = record { table = 0; key = Int (pos 9) ∷ []; patch = patch.Insert (Int (pos 9) ∷ Int (pos 7) ∷ Text (120 ∷ []) ∷ []) } ∷ [];
 }
 
--- a FOR asks for the columns that it lists and sorts by, and fixes its rows; an INSERT asks whether its key is there
+-- a FOR queries the columns that it lists and sorts by, and fixes its rows; an INSERT queries its key
 abbrev pub Closes : Type 0
 Closes =
     recorded acc close (call_of (number_of 50 ∷ [])) rich_bank ≡ for_record ∷ deleted 1 2 ∷ deleted 2 1 ∷ sum_record ∷ opened ∷ []
@@ -340,7 +341,7 @@ read_twice = Select (0 ∷ 1 ∷ []) (0 ∷ 0 ∷ []) 0 [] (record { column = 1;
 abbrev pub second : ProcInfo
 second = record { name = []; params = []; defaults = Int (pos 1) ∷ []; body = roll-RStmt read_twice ∷ [] }
 
--- a target that is named twice is set once, to the later value; a column is selected once
+-- a target named twice is set once, to the later value; a column is selected once
 abbrev pub ReadsTwice : Type 0
 ReadsTwice =
     recorded acc second (call_of []) rich_bank ≡ record (blank 1) {
@@ -357,6 +358,6 @@ delete_wrong = Delete 0 (of_account (two Div (var 0) (constant (Int (pos 0)))))
 abbrev pub wrong : ProcInfo
 wrong = record { name = []; params = []; defaults = []; body = roll-RStmt delete_wrong ∷ [] }
 
--- it faulted before rows were looked at, so it asks nothing
+-- the DELETE faults before it looks at rows, so it has no predicate
 abbrev pub DividesByZero : Type 0
 DividesByZero = recorded acc wrong (call_of (number_of 1 ∷ [])) bank ≡ record (blank 1) { end = Some ZeroDivisor } ∷ []

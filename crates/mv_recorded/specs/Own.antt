@@ -1,4 +1,4 @@
--- What a record of a full run tells of its statement: which one it is, and the state that the records before it lead to.
+-- What a record of a full run determines of its statement: which one it is, and the state after the records before it.
 use Rattle.std.specs.Prelude.{◌≡◌, ◌<◌, ◌≤◌, ◌⊎◌, ⊤, ℕ, ◌+◌, ◌-◌, ◌==◌, false, List, [], ◌∷◌, ◌++◌, Option, Some, None, map, length, slice_get, slice_index_or}
 use Rattle.std.specs.List.{flat_map, list_any}
 use Rattle.mv_values.specs.declared.value.Value.{Value}
@@ -26,11 +26,11 @@ use Rattle.mv_recorded.specs.Recorded.{Site, own_record}
 
 -- The text
 
--- a statement by itself, without what it holds
+-- a statement without the statements it contains
 abbrev pub Bare : Type 0
 Bare = RStmt-F (Unit {0})
 
--- with the rows of the loops around it, from the inside out
+-- a statement with the rows of the enclosing loops, innermost first
 pub record Stated : Type 0 where
   pub it : Bare
   pub rows : List ℕ
@@ -54,7 +54,7 @@ bare {X} s = map-RStmt X (Unit {0}) (λ x. tt) s
 abbrev pub flat_step : RStmt-F Flat → Flat
 flat_step s rows = record { it = bare s; rows = rows } ∷ flat_inner s rows
 
--- a statement with those that it holds, in the order of the text
+-- a statement and those it contains, in the order of the text
 abbrev pub flat : RStmt → Flat
 flat = fold-RStmt Flat flat_step
 
@@ -63,7 +63,7 @@ flat_all ss = flat_list (map flat ss)
 
 -- Statements that suit a procedure
 
--- this is said of each item
+-- each item has the property
 abbrev pub Each : {A : Type 0} → (A → Type 0) → List A → Type 0
 Each P [] = ⊤
 Each P (x ∷ xs) = P x × Each P xs
@@ -72,14 +72,14 @@ abbrev pub Within : ℕ → List ℕ → Type 0
 Within x [] = ⊥
 Within x (y ∷ ys) = (x ≡ y) ⊎ Within x ys
 
--- the variables that a statement names as targets
+-- the targets of a statement
 abbrev pub targets : Bare → List ℕ
 targets (Assign x e) = x ∷ []
 targets (Select cs xs t conds sorts offset) = xs
 targets (Total agg x t conds) = x ∷ []
 targets s = []
 
--- the row of a loop has a number of its own
+-- a loop's row has a number of its own
 abbrev pub LoopSuits : ℕ → List ℕ → Bare → Type 0
 LoopSuits base rows (ForSelect x once cs t conds sorts body) = (base ≤ x) × (Within x rows → ⊥)
 LoopSuits base rows (ForRows x y body) = (base ≤ x) × (Within x rows → ⊥)
@@ -89,12 +89,12 @@ abbrev pub OverSuits : ℕ → Bare → Type 0
 OverSuits params (ForRows x y body) = y < params
 OverSuits params s = ⊤
 
--- SET sets columns of the table and none of its key
+-- SET assigns columns of the table that are outside its key
 abbrev pub SetSuits : List TableInfo → Bare → Type 0
 SetSuits tables (Update t items conds) = Each (λ (i : RSetItem). (i.column < length (columns_at tables t)) × (list_any (λ k. k == i.column) (key_columns tables t) ≡ false)) items
 SetSuits tables s = ⊤
 
--- `base` is the first number behind those of parameters, declared variables and `:found`
+-- `base` is the first number after those of parameters, declared variables and `:found`
 pub record Suits (tables : List TableInfo) (params base : ℕ) (s : Stated) : Type 0 where
   pub columns : HasColumns s.it
   pub targets : Each (λ x. (params ≤ x) × (x < base)) (targets s.it)
@@ -105,7 +105,7 @@ pub record Suits (tables : List TableInfo) (params base : ℕ) (s : Stated) : Ty
 
 -- A run
 
--- what a run goes by
+-- the context of a run
 pub record Ground : Type 0 where
   pub tables : List TableInfo
   pub params : ℕ
@@ -114,11 +114,11 @@ pub record Ground : Type 0 where
   pub db : Tables
   pub text : List Stated
 
--- variables set by records, in order
+-- the variables set by records, in order
 abbrev pub sets_in : List Record → List Slot
 sets_in rs = flat_map (λ r. r.sets) rs
 
--- a state behind these records
+-- the state is one after these records
 pub record Told (g : Ground) (before : List Record) (st : State) : Type 0 where
   pub tables : st.tables ≡ applied (writes_in before) g.db
   pub held : (x : ℕ) → x < g.base → held_at st.env x ≡ held_at (with_slots (sets_in before) g.first) x
@@ -130,26 +130,26 @@ abbrev pub rows_of : Option Record → List (List Value)
 rows_of None = []
 rows_of (Some r) = r.rows
 
--- the row of a turn of the loop whose FOR's record has this number
+-- the row of iteration `k` of the loop whose FOR has the record with this number
 abbrev pub row_in : List Record → ℕ → ℕ → List Value
 row_in rs number k = slice_index_or (rows_of (slice_get rs number)) (k - 1) []
 
--- each loop has the row of its turn
+-- each loop has the row of its iteration
 abbrev pub LoopsHold : List Record → Env → List Loop → List ℕ → Type 0
 LoopsHold rs env [] turns = turns ≡ []
 LoopsHold rs env (l ∷ ls) turns =
     (outer : List ℕ) × (k : ℕ) × (turns ≡ outer ++ k ∷ []) × (l.number < length rs) × (held_at env l.row ≡ Turn (row_in rs l.number k)) × LoopsHold rs env ls outer
 
--- it has these turns, or one more
+-- the iterations are these, or these and one more
 abbrev pub GoesOn : List ℕ → List ℕ → Type 0
 GoesOn outer turns = (turns ≡ outer) ⊎ ((k : ℕ) × (turns ≡ outer ++ k ∷ []))
 
--- what stands at a site goes on with the turns of its controller
+-- the iterations of a site extend those of its controller
 abbrev pub ParentHolds : List Record → Option ℕ → List ℕ → Type 0
 ParentHolds before None turns = turns ≡ []
 ParentHolds before (Some p) turns = (r : Record) × (slice_get before p ≡ Some r) × GoesOn r.spot.turns turns
 
--- at a site, behind these records
+-- the state is one at the site, after these records
 pub record Here (g : Ground) (site : Site) (rows : List ℕ) (before : List Record) (st : State) : Type 0 where
   pub told : Told g before st
   pub around : map (λ l. l.row) site.loops ≡ rows
@@ -157,11 +157,11 @@ pub record Here (g : Ground) (site : Site) (rows : List ℕ) (before : List Reco
   pub loops : LoopsHold before st.env site.loops site.turns
   pub parent : ParentHolds before site.parent site.turns
 
--- statements stand in the text from a number on, which counts from 1
+-- these statements occur in the text from this number on; numbers start at 1
 abbrev pub StandsAt : List Stated → ℕ → List Stated → Type 0
 StandsAt text n these = (front : List Stated) × (back : List Stated) × (text ≡ front ++ (these ++ back)) × (n ≡ length front + 1)
 
--- a record is the own record of a statement of the text, in a state behind the records before it
+-- the record is the own record of a statement of the text, in the state after the records before it
 pub record IsOwn (g : Ground) (before : List Record) (r : Record) : Type 0 where
   pub n : ℕ
   pub s : Stated
@@ -178,7 +178,7 @@ AllOwn g before (r ∷ rs) = IsOwn g before r × AllOwn g (before ++ r ∷ []) r
 
 -- A full run
 
--- what the run of a call of a procedure on a database goes by
+-- the context of a run of a call of a procedure on a database
 abbrev pub ground_of : List TableInfo → ProcInfo → Call → Tables → Ground
 ground_of tables proc call db = record {
   tables = tables;
@@ -189,6 +189,6 @@ ground_of tables proc call db = record {
   text = flat_all proc.body [];
 }
 
--- each statement of the procedure suits its variables and tables
+-- each statement of the procedure fits its variables and tables
 abbrev pub AllSuit : List TableInfo → ProcInfo → Call → Type 0
 AllSuit tables proc call = Each (Suits tables (length call.arguments) (length call.arguments + length proc.defaults + 1)) (flat_all proc.body [])

@@ -1,4 +1,4 @@
--- Where the statements of a procedure stand in its text, and what paths say of it.
+-- The positions of the statements of a procedure in its text, and how they determine paths.
 use Rattle.std.specs.Prelude.{◌≡◌, ℕ, ◌+◌, List, [], ◌∷◌, ◌++◌, Option, Some, None, map, length, slice_get}
 use Rattle.std.specs.Option.{option_and_then, option_map}
 use Rattle.mv_catalog.specs.declared.resolved.ProcInfo.{ProcInfo}
@@ -8,14 +8,14 @@ use Rattle.mv_catalog.specs.declared.resolved.RStmt.TheFolds.{fold-RStmt}
 use Rattle.mv_record.specs.declared.record.Record.{Record}
 use Rattle.mv_record.specs.Paths.{paths}
 
--- a statement of the text: the numbers of the FORs around it, from the outside in, and the number of the IF or FOR that directly holds
--- it, with those of the FORs around that one
+-- a statement of the text: the numbers of the enclosing FORs, outermost first, and the number of the innermost
+-- enclosing IF or FOR with those of the FORs around that one
 pub record Post : Type 0 where
   pub fors : List ℕ
   pub holder : Option ℕ
   pub outer : List ℕ
 
--- of statements, the first of which has this number, in the order of the text
+-- the posts of statements, in the order of the text, if the first one has this number
 abbrev pub Posts : Type 0
 Posts = ℕ → Post → List Post
 
@@ -23,7 +23,7 @@ abbrev pub posts_all : List Posts → Posts
 posts_all [] n post = []
 posts_all (p ∷ ps) n post = let these : List Post = p n post in these ++ posts_all ps (n + length these) post
 
--- inside an IF and inside a FOR that has this number
+-- the post inside an IF, and inside a FOR, with this number
 abbrev pub in_branch : ℕ → Post → Post
 in_branch n post = record { fors = post.fors; holder = Some n; outer = post.fors }
 
@@ -45,13 +45,13 @@ posts = fold-RStmt Posts posts_step
 abbrev pub posts_of : ProcInfo → List Post
 posts_of proc = posts_all (map posts proc.body) 1 (record { fors = []; holder = None; outer = [] })
 
--- numbers of FORs with their turns
+-- the numbers of FORs, each followed by its iteration
 abbrev pub weave : List ℕ → List ℕ → List ℕ
 weave [] turns = []
 weave (f ∷ fs) [] = []
 weave (f ∷ fs) (t ∷ ts) = f ∷ t ∷ weave fs ts
 
--- the path of the IF or FOR that directly holds a statement, in these turns
+-- the path of the innermost enclosing IF or FOR, in these iterations
 abbrev pub path_held : Post → List ℕ → Option (List ℕ)
 path_held post turns = option_map (λ m. weave post.outer turns ++ m ∷ []) post.holder
 

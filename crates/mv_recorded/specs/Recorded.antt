@@ -1,4 +1,4 @@
--- The records of a full run of a procedure on a database, in the order in which its statements are executed, up to and including a
+-- The records of a full run of a procedure on a database, in the order of execution, up to and including the first
 -- record with an end. That each executed statement leaves one record is this project's own.
 use Rattle.std.specs.Prelude.{ℕ, ◌+◌, List, [], ◌∷◌, ◌++◌, Option, Some, None, Result, map, length, slice_get, if◌then◌else◌}
 use Rattle.mv_values.specs.declared.value.Value.{Value}
@@ -24,14 +24,14 @@ use Rattle.mv_recorded.specs.Reading.{Loop, expressions, reads_of}
 use Rattle.mv_recorded.specs.Asking.{on}
 use Rattle.mv_recorded.specs.Doing.{fixed_rows, effect_of}
 
--- where statements stand in a run: the number of the record that directly holds them, the loops around them from the inside out, and
--- the turns of these from the outside in
+-- the site of statements in a run: the number of the record that directly controls them, the enclosing loops, innermost
+-- first, and their iterations, outermost first
 pub record Site : Type 0 where
   pub parent : Option ℕ
   pub loops : List Loop
   pub turns : List ℕ
 
--- in an IF, in a FOR and in a turn of it
+-- the site in an IF, in a FOR, and in an iteration of it
 abbrev pub within : ℕ → Site → Site
 within number site = record site { parent = Some number }
 
@@ -41,24 +41,24 @@ within_loop x number site = record { parent = Some number; loops = record { row 
 abbrev pub in_turn : ℕ → Site → Site
 in_turn k site = record site { turns = site.turns ++ k ∷ [] }
 
--- the record of a statement itself, by its number in the text, its site, the records before it and the state before it; the first
--- `params` variables are parameters
+-- the record of a statement itself, given its number in the text, its site, and the records and the state before it;
+-- the first `params` variables are parameters
 abbrev pub own_record : {X : Type 0} → List TableInfo → ℕ → RStmt-F X → ℕ → Site → List Record → State → Record
 own_record tables params s n site before st =
     record_of (record { statement = n; turns = site.turns }) site.parent (reads_of params site.loops before (expressions s)) (effect_of tables s st)
 
--- the records that statements leave, the first of which has this number in the text
+-- the records of statements, if the first statement has this number in the text
 abbrev pub Tells : Type 0
 Tells = ℕ → Site → List Record → State → List Record
 
--- of statements in order, each with the records that it leaves
+-- the records of statements in order
 abbrev pub tell_all : List TableInfo → List (RStmt × Tells) → Tells
 tell_all tables [] n site before st = []
 tell_all tables (s ∷ ss) n site before st =
     let these : List Record = s.1 n site before st in
     these ++ on (does tables s.0 st) (tell_all tables ss (n + size s.0) site (before ++ these))
 
--- of the turns of a loop, the first of which has this number
+-- the records of the iterations of a loop, of which the first has number `k`
 abbrev pub tell_turns : ℕ → Does → Tells → List (List Value) → ℕ → Tells
 tell_turns x body tells [] k n site before st = []
 tell_turns x body tells (row ∷ rows) k n site before st =
@@ -66,18 +66,18 @@ tell_turns x body tells (row ∷ rows) k n site before st =
     let these : List Record = tells n (in_turn k site) before next in
     these ++ on (body next) (tell_turns x body tells rows (k + 1) n site (before ++ these))
 
--- of a loop over rows
+-- the records of a loop over rows
 abbrev pub tell_loop : ℕ → Does → Tells → List (List Value) → Tells
 tell_loop x body tells rows n site before st = tell_turns x body tells rows 1 n site before (record st { env = with_found st.env (is_turn rows) })
 
--- what a list of statements does, and how many statements it is
+-- the effect of a list of statements, and its size
 abbrev pub body_of : List TableInfo → List (RStmt × Tells) → Does
 body_of tables body = alone tables (map (λ s. s.0) body)
 
 abbrev pub size_of : List (RStmt × Tells) → ℕ
 size_of body = total_size (map (λ s. size s.0) body)
 
--- of what a statement holds whose own record has this number
+-- the records of the statements in a statement whose own record has this number
 abbrev pub tell_inner : List TableInfo → RStmt-F (RStmt × Tells) → ℕ → Tells
 tell_inner tables (ForSelect x once cs t conds sorts body) number n site before st =
     on (fixed_rows (ForSelect x once cs t conds sorts body) st) (λ rows. tell_loop x (body_of tables body) (tell_all tables body) rows n (within_loop x number site) before st)
@@ -88,7 +88,7 @@ tell_inner tables (Branch e ys ns) number n site before st =
     else tell_all tables ns (n + size_of ys) (within number site) before st)
 tell_inner tables s number n site before st = []
 
--- of a statement: its own record, and then those of what it holds
+-- the record of a statement, followed by those of the statements in it
 abbrev pub tell_step : List TableInfo → ℕ → RStmt-F (RStmt × Tells) → Tells
 tell_step tables params s n site before st =
     let own : Record = own_record tables params s n site before st in
@@ -97,11 +97,11 @@ tell_step tables params s n site before st =
 abbrev pub tell : List TableInfo → ℕ → RStmt → Tells
 tell tables params = para-RStmt Tells (tell_step tables params)
 
--- of a list of statements
+-- the records of a list of statements
 abbrev pub told : List TableInfo → ℕ → List RStmt → Tells
 told tables params ss = tell_all tables (map (λ s. (s, tell tables params s)) ss)
 
--- outside any statement
+-- the site outside all statements
 abbrev pub outside : Site
 outside = record { parent = None; loops = []; turns = [] }
 
@@ -109,7 +109,7 @@ outside = record { parent = None; loops = []; turns = [] }
 abbrev pub recorded : List TableInfo → ProcInfo → Call → Tables → List Record
 recorded tables proc call db = told tables (length call.arguments) proc.body 1 outside [] (begun proc call db)
 
--- the records of the call of this number on a database
+-- the records of a call on a database; none if the procedure doesn't exist
 abbrev pub records_in : Program → Option ProcInfo → Call → Tables → List Record
 records_in p None call db = []
 records_in p (Some proc) call db = recorded p.resolved.tables proc call db
@@ -121,7 +121,8 @@ records_at p (Some call) db = records_in p (slice_get p.resolved.procedures call
 abbrev pub records : Program → ℕ → Tables → List Record
 records p c db = records_at p (slice_get p.resolved.calls c) db
 
--- what the calls of a procedure leave: these records, and the reply and the database of the machine that runs the call alone
+-- the results of the calls of a procedure: these records, and the reply and the database of the machine that runs the
+-- call alone
 abbrev pub meaning : List TableInfo → ProcInfo → Meaning
 meaning tables proc call db =
     let outcome : Result State End = alone tables proc.body (begun proc call db) in

@@ -1,4 +1,4 @@
--- Variables that hold values of their types.
+-- Variables whose values have their types.
 use Rattle.std.specs.Prelude.{◌≡◌, ℕ, List, Some, All, slice_get}
 use Rattle.mv_values.specs.declared.value.Value.{Value}
 use Rattle.mv_values.specs.Columns.{column_of}
@@ -7,18 +7,18 @@ use Rattle.mv_alone.specs.declared.state.Held.{Held}
 use Rattle.mv_alone.specs.declared.state.Env.{Env}
 use Rattle.mv_alone.specs.Env.{held_at, scalar_in, turn_in, turns_in}
 
--- a row that has a value of its type for each column, and maybe more
+-- the row has a value of its type for each column, and perhaps more
 abbrev pub OfKinds : List Kind → List Value → Type 0
 OfKinds ks row = (c : ℕ) (k : Kind) → slice_get ks c ≡ Some k → kind_of_value (column_of row c) ≡ k
 
--- a variable holds what its type says
+-- the variable's value has its type
 abbrev pub Holds : Var → Held → Type 0
 Holds (fixed k) h = kind_of_value (scalar_in h) ≡ k
 Holds (declared k) h = kind_of_value (scalar_in h) ≡ k
 Holds (rows ks) h = All (OfKinds ks) (turns_in h)
 Holds (turn ks) h = OfKinds ks (turn_in h)
 
--- each variable does, and `:found` is a number that is only read
+-- each variable has its type, and `:found` is a read-only number
 pub record IsEnvOf (vars : Vars) (env : Env) : Type 0 where
   pub holds : (x : ℕ) (v : Var) → vars x ≡ Some v → Holds v (held_at env x)
   pub found : vars env.found ≡ Some (fixed int)
