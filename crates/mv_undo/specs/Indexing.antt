@@ -1,4 +1,4 @@
--- The places of own writes, by table and key.
+-- The index of the own writes by table and key.
 use Rattle.std.specs.Prelude.{◌≡◌, ◌<◌, ◌+◌, ℕ, Bool, true, false, List, [], ◌∷◌, Option, Some, None, All, AllPairs, length, map, slice_get, pos}
 use Rattle.std.specs.List.{filter}
 use Rattle.std.specs.List.Sorted.{IsPartitionPoint}
@@ -11,7 +11,7 @@ use Rattle.mv_table.specs.declared.span.Span.{Span}
 use Rattle.mv_record.specs.Writes.{is_on}
 use Rattle.mv_undo.specs.declared.owned.Owned.{Owned}
 
--- the write at a place, and one on an empty key where there is no such place
+-- the write at a place; a write to an empty key if there is none
 abbrev pub owned_or : Option Owned → Owned
 owned_or None = record { number = 0; write = record { table = 0; key = []; patch = Delete } }
 owned_or (Some o) = o
@@ -29,24 +29,24 @@ full_key o = Int (pos o.write.table) ∷ o.write.key
 abbrev pub key_at : List Owned → ℕ → List Value
 key_at items place = full_key (owned_at items place)
 
--- the writes on this key of this table
+-- the writes to this key of this table
 abbrev pub owned_on : ℕ → List Value → List Owned → List Owned
 owned_on t key all = filter (λ o. is_on t key o.write) all
 
--- the places stand in the order of their tables and keys, and those of one key in the order of the writes
+-- the places are in the order of their tables and keys, and those of one key in the order of the writes
 pub record IsIndexed (items : List Owned) (order : List ℕ) : Type 0 where
   pub within : All (λ place. place < length items) order
   pub sorted : AllPairs (λ p q. is_le (key_order (key_at items p) (key_at items q)) ≡ true) order
   pub each : (t : ℕ) (key : List Value) → owned_on t key (lined items order) ≡ owned_on t key items
 
--- the write at a place is on a key below this one, or up to it, each with its table in front
+-- the write at a place is to a key below this one, or up to and including it; each key has its table in front
 abbrev pub is_below : List Owned → List Value → ℕ → Bool
 is_below items key place = is_lt (key_order (key_at items place) key)
 
 abbrev pub is_up_to : List Owned → List Value → ℕ → Bool
 is_up_to items key place = is_le (key_order (key_at items place) key)
 
--- the first so many places pass a test, and the others fail it
+-- the first `at` places pass a test, and the others fail it
 abbrev pub IsCut : (ℕ → Bool) → List ℕ → ℕ → Type 0
 IsCut test order at = IsPartitionPoint (λ p. test p ≡ true) (λ p. test p ≡ false) order at
 

@@ -10,8 +10,9 @@ use Rattle.mv_record.specs.Writes.{AreRising}
 use Rattle.mv_record.specs.Admitting.{Admitted}
 use Rattle.mv_undo.specs.Owning.{is_sought}
 
--- the rows that a predicate finds in a database, and the database's own rows at the keys that writes wrote and the predicate admits;
--- the predicate's table is there, and where a row of it matches, before the writes or behind them, the predicate admits its key
+-- `rows` are the rows that a predicate finds in a database, `own` the database's rows at the keys that the writes have
+-- and the predicate admits; the predicate's table exists, and the predicate admits the key of each row that it matches,
+-- before or after the writes
 pub record IsSeen (pred : Pred) (ws : List Write) (rows own : List Keyed) (db : List (List Keyed)) : Type 0 where
   pub rising : AreRising db
   pub table : pred.table < length db

@@ -1,4 +1,4 @@
--- The own writes of a running call, each with the number of its record.
+-- The writes of a running call, each with the number of its record.
 use Rattle.std.specs.Prelude.{◌≡◌, ◌≤◌, ℕ, Bool, ◌&&◌, ◌==◌, nat_lt, List, map, AllPairs}
 use Rattle.std.specs.List.{filter, list_any}
 use Rattle.std.specs.Ordering.{is_eq}
@@ -11,11 +11,11 @@ use Rattle.mv_values.specs.Preds.{admits}
 use Rattle.mv_record.specs.Writes.{is_on}
 use Rattle.mv_undo.specs.declared.owned.Owned.{Owned}
 
--- the numbers don't fall
+-- the numbers never decrease
 abbrev pub IsInOrder : List Owned → Type 0
 IsInOrder all = AllPairs (λ a b. a.number ≤ b.number) all
 
--- those of records with smaller numbers
+-- the writes of records with smaller numbers, with those numbers
 abbrev pub before : ℕ → List Owned → List Owned
 before number all = filter (λ o. nat_lt o.number number) all
 
@@ -23,26 +23,26 @@ before number all = filter (λ o. nat_lt o.number number) all
 abbrev pub earlier : ℕ → List Owned → List Write
 earlier number all = map (λ o. o.write) (before number all)
 
--- it is a write on this key of this table, of a record with a smaller number
+-- a write to this key of this table, by a record with a smaller number
 abbrev pub is_earlier_on : ℕ → ℕ → List Value → Owned → Bool
 is_earlier_on number t key o = nat_lt o.number number && is_on t key o.write
 
--- some write is on this key of this table
+-- some write is to this key of this table
 abbrev pub touches : ℕ → List Value → List Write → Bool
 touches t key ws = list_any (is_on t key) ws
 
--- some write is on this key of the predicate's table, and the predicate admits the key
+-- some write is to this key of the predicate's table, and the predicate admits the key
 abbrev pub is_sought : Pred → List Write → List Value → Bool
 is_sought pred ws key = touches pred.table key ws && admits pred key
 
--- it is such a write, of a record with a smaller number
+-- a write to a key of the predicate's table that the predicate admits, by a record with a smaller number
 abbrev pub is_wanted : Pred → ℕ → Owned → Bool
 is_wanted pred number o = nat_lt o.number number && (o.write.table == pred.table) && admits pred o.write.key
 
 abbrev pub is_among : List (List Value) → List Value → Bool
 is_among keys key = list_any (λ k. is_eq (key_order k key)) keys
 
--- the keys that writes wrote and the predicate admits, each once, in order
+-- the keys that writes have and the predicate admits, each once, in order
 pub record AreSought (pred : Pred) (ws : List Write) (keys : List (List Value)) : Type 0 where
   pub rising : AllPairs (λ a b. key_order a b ≡ Less) keys
   pub are : (key : List Value) → is_among keys key ≡ is_sought pred ws key

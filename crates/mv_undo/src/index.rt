@@ -1,4 +1,4 @@
-//! The places of own writes, by table and key.
+//! An index of the own writes by table and key.
 
 ghost use Rattle.std.specs.Prelude.{◌≡◌, ◌<◌, ◌≤◌, ◌∷◌, ◌++◌, [], ℕ, true, pos, All, List, length, slice_get, slice_range};
 ghost use Rattle.std.specs.List.{insert};
@@ -16,21 +16,21 @@ use mv_values::patch::Write;
 use mv_values::value::{Value, compare_keys};
 use std::cmp::Ordering;
 
-/// The write at a place.
+/// Returns the write at a place.
 fn at(items: &[Owned], place: usize) -> Option<&Owned>
     ensures { option_copied result ≡ slice_get items.now place }
 {
     items.get(place)
 }
 
-/// How a table stands to another.
+/// Compares a table with another.
 fn order_of_tables(table: u8, other: u16) -> Ordering
     ensures { result ≡ value_order (Int (pos table)) (Int (pos other)) }
 {
     Value::Int(table as i64).order(&Value::Int(other as i64))
 }
 
-/// How a key of a table stands to another.
+/// Compares a key of a table with a key of another.
 fn compare(table: u8, key: &[Value], other: u16, other_key: &[Value]) -> Ordering
     ensures { result ≡ key_order (Int (pos table) ∷ key.now) (Int (pos other) ∷ other_key.now) }
 {
@@ -41,7 +41,7 @@ fn compare(table: u8, key: &[Value], other: u16, other_key: &[Value]) -> Orderin
     compare_keys(key, other_key)
 }
 
-/// How the key of the write at a place stands to a key of a table.
+/// Compares the key of the write at a place with a key of a table.
 fn compare_at(items: &[Owned], place: usize, table: u16, key: &[Value]) -> Ordering
     ensures { result ≡ key_order (key_at items.now place) (Int (pos table) ∷ key.now) }
 {
@@ -51,7 +51,7 @@ fn compare_at(items: &[Owned], place: usize, table: u16, key: &[Value]) -> Order
     }
 }
 
-/// Where among the places that of a new last write belongs. It costs the logarithm of their number.
+/// Returns the index in `order` at which a new last write belongs. Costs the logarithm of the number of writes.
 pub(crate) fn place_for(items: &[Owned], order: &[usize], write: &Write) -> usize
     requires { IsIndexed items.now order.now }
     ensures within { result ≤ length order.now }
@@ -64,7 +64,7 @@ pub(crate) fn place_for(items: &[Owned], order: &[usize], write: &Write) -> usiz
     )
 }
 
-/// The places from one up to another.
+/// Returns the places from index `from` up to `to`.
 fn part(order: &[usize], from: usize, to: usize) -> &[usize]
     requires order { from ≤ to }
     requires within { to ≤ length order.now }
@@ -73,7 +73,7 @@ fn part(order: &[usize], from: usize, to: usize) -> &[usize]
     &order[from..to]
 }
 
-/// How many of the places have writes below a key of a table. It costs the logarithm of the number of writes.
+/// Counts the places whose writes are below a key of a table. Costs the logarithm of the number of writes.
 fn count_below(items: &[Owned], order: &[usize], table: u16, key: &[Value]) -> usize
     requires { IsIndexed items.now order.now }
     ensures within { result ≤ length order.now }
@@ -86,7 +86,8 @@ fn count_below(items: &[Owned], order: &[usize], table: u16, key: &[Value]) -> u
     )
 }
 
-/// How many of the places have writes up to a key of a table. It costs the logarithm of the number of writes.
+/// Counts the places whose writes are up to and including a key of a table. Costs the logarithm of the number of
+/// writes.
 fn count_up_to(items: &[Owned], order: &[usize], table: u16, key: &[Value]) -> usize
     requires { IsIndexed items.now order.now }
     ensures within { result ≤ length order.now }
@@ -99,7 +100,7 @@ fn count_up_to(items: &[Owned], order: &[usize], table: u16, key: &[Value]) -> u
     )
 }
 
-/// The places of the writes on a key of a table. It costs the logarithm of the number of writes.
+/// Returns the places of the writes to a key of a table. Costs the logarithm of the number of writes.
 pub(crate) fn places_on<'a>(
     items: &[Owned],
     order: &'a [usize],
@@ -115,7 +116,7 @@ pub(crate) fn places_on<'a>(
     part(order, from, to)
 }
 
-/// How many of the places have writes of lower tables, or of the table before the end of a span of keys.
+/// Counts the places whose writes are to lower tables, or to the table before the end of a span of keys.
 fn count_before_end(items: &[Owned], order: &[usize], table: u8, span: &Span) -> usize
     requires { IsIndexed items.now order.now }
     ensures within { result ≤ length order.now }
@@ -127,7 +128,7 @@ fn count_before_end(items: &[Owned], order: &[usize], table: u8, span: &Span) ->
     }
 }
 
-/// The places of the writes of a table on keys of a span. It costs the logarithm of the number of writes.
+/// Returns the places of the writes of a table to keys of a span. Costs the logarithm of the number of writes.
 pub(crate) fn places_in<'a>(
     items: &[Owned],
     order: &'a [usize],

@@ -1,4 +1,4 @@
-//! The own writes of a running call.
+//! The writes of a running call.
 #![tactic(auto)]
 
 mod index;

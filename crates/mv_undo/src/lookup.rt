@@ -1,4 +1,4 @@
-//! What is found of own writes at some of their places.
+//! Look-ups in the own writes at given places.
 
 ghost use Rattle.std.specs.Prelude.{◌≡◌, ◌<◌, length, map, All, IfOk};
 ghost use Rattle.std.specs.List.{list_any};
@@ -17,7 +17,7 @@ use mv_values::rows::Rows;
 use mv_values::value::{Key, Row};
 use std::alloc::Global;
 
-/// The write at a place.
+/// Returns the write at a place.
 fn write_at(items: &[Owned], place: usize) -> &Owned
     requires { place < length items.now }
     ensures { result.now ≡ owned_at items.now place }
@@ -25,14 +25,14 @@ fn write_at(items: &[Owned], place: usize) -> &Owned
     &items[place]
 }
 
-/// Whether a record with a smaller number wrote it, on a key of the predicate's table that the predicate admits.
+/// Whether an earlier record made the write, to a key of the predicate's table that the predicate admits.
 fn is_sought(owned: &Owned, number: usize, pred: &Pred) -> bool
     ensures { result ≡ is_wanted pred.now number owned.now }
 {
     owned.is_before(number) && owned.write.table == pred.table && pred.admits(&owned.write.key)
 }
 
-/// Whether one of the writes at these places is of a record with a smaller number, on the key.
+/// Whether one of the writes at these places is by an earlier record and to this key.
 pub(crate) fn is_some_on(
     items: &[Owned],
     places: &[usize],
@@ -51,7 +51,7 @@ pub(crate) fn is_some_on(
     false
 }
 
-/// The row behind those of the writes at these places that records with smaller numbers wrote on the key.
+/// Returns the row after the writes at these places to the key that earlier records made.
 pub(crate) fn patched_at(
     alloc: Global,
     items: &[Owned],
@@ -75,7 +75,7 @@ pub(crate) fn patched_at(
     Ok(row)
 }
 
-/// The keys of those of the writes at these places that `is_sought` takes, each once, in order.
+/// Returns the keys of the writes at these places that `is_sought` accepts, each once, in order.
 pub(crate) fn keys_at(
     alloc: Global,
     items: &[Owned],
@@ -97,7 +97,7 @@ pub(crate) fn keys_at(
     keys_of(alloc, found)
 }
 
-/// The keys of rows.
+/// Returns the keys of rows.
 fn keys_of(alloc: Global, rows: Rows) -> Result<List<Key>, NoMemory>
     ensures { IfOk result (λ keys. keys ≡ map (λ item. item.key) rows) }
 {
@@ -108,7 +108,7 @@ fn keys_of(alloc: Global, rows: Rows) -> Result<List<Key>, NoMemory>
     Ok(keys)
 }
 
-/// A copy of a row, where there is one.
+/// Returns a copy of a row, if any.
 fn copy_of(alloc: Global, row: Option<&Row>) -> Result<Option<Row>, NoMemory>
     ensures { IfOk result (λ copy. copy ≡ option_copied row.entry) }
 {

@@ -1,4 +1,4 @@
-//! What a call sees of a database behind its own writes.
+//! The database as a call sees it after its own writes.
 
 ghost use Rattle.std.specs.Prelude.{◌≡◌, List, IfOk};
 ghost use Rattle.mv_values.specs.declared.rows.Keyed.{Keyed};
@@ -15,7 +15,7 @@ use mv_values::rows::Rows;
 use mv_values::value::Row;
 use std::alloc::Global;
 
-/// The row, where the predicate matches it.
+/// Returns the row if the predicate matches it.
 fn matched(pred: &Pred, row: Option<Row>) -> Option<Row>
     ensures { result ≡ matched pred.now row }
 {
@@ -26,8 +26,8 @@ fn matched(pred: &Pred, row: Option<Row>) -> Option<Row>
 }
 
 impl Undo {
-    /// The predicate's rows behind the writes of records with smaller numbers: `rows` are its rows before them, and
-    /// `own` the rows then at the keys that `keys` gives.
+    /// Returns the predicate's rows after the writes of records below `number`. `rows` are its rows before these
+    /// writes. `own` are the database's rows before them at the keys that `keys` returns. Fails if memory runs out.
     pub fn overlay(
         &self,
         alloc: Global,

@@ -6,7 +6,7 @@ ghost use Rattle.mv_undo.specs.Owning.{is_earlier_on};
 use mv_values::patch::Write;
 use mv_values::value::{Key, compare_keys};
 
-/// A write, with the number of its record.
+/// A write and the number of its record.
 #[derive(Drop)]
 pub struct Owned {
     pub number: usize,
@@ -14,14 +14,14 @@ pub struct Owned {
 }
 
 impl Owned {
-    /// Whether a record with a smaller number wrote it.
+    /// Whether a record below `number` made the write.
     pub(crate) fn is_before(&self, number: usize) -> bool
         ensures { result ≡ nat_lt self.now.number number }
     {
         self.number < number
     }
 
-    /// Whether a record with a smaller number wrote it on the key of the table.
+    /// Whether a record below `number` made the write, to this key of this table.
     pub(crate) fn is_earlier_on(&self, number: usize, table: u8, key: &Key) -> bool
         ensures { result ≡ is_earlier_on number table key.now self.now }
     {

@@ -1,4 +1,4 @@
-//! The own writes of a running call, in order.
+//! The writes of a running call, in order.
 
 ghost use Rattle.std.specs.Prelude.{◌≡◌, ◌≤◌, nat_lt, [], ◌∷◌, ◌++◌, All, IfOk, OnOk, OnErr};
 ghost use Rattle.std.specs.Option.{option_copied};
@@ -17,8 +17,8 @@ use mv_values::value::{Key, Row};
 use std::alloc::Global;
 use std::marker::Model;
 
-/// The own writes of a running call, each with the number of its record. Contracts see them in the order in which they
-/// were pushed. `order` has their places by table and key, those of one key in that order.
+/// The writes of a running call, each with the number of its record. Contracts see them in the order of `push`. `order`
+/// has their places by table and key; writes to one key keep the order of `push`.
 #[derive(Drop)]
 pub struct Undo {
     items: Vec<Owned>,
@@ -40,7 +40,7 @@ impl Model for Undo {
 }
 
 impl Undo {
-    /// No writes. It takes no memory.
+    /// Returns an `Undo` without writes. Allocates nothing.
     pub fn new(alloc: Global) -> Undo
         ensures { result ≡ [] }
     {
@@ -50,7 +50,7 @@ impl Undo {
         }
     }
 
-    /// Lends the writes.
+    /// Borrows the writes.
     pub fn as_slice(&self) -> &[Owned]
         ensures items { result.now ≡ self.now }
         ensures order { IsInOrder self.now }
@@ -58,8 +58,8 @@ impl Undo {
         self.items.as_slice()
     }
 
-    /// Adds a write of the last record, or of a later one. It costs the logarithm of the number of writes, and the moving
-    /// of a place for each write on a greater key.
+    /// Appends a write. `number` may not be below that of the last write. Fails if memory runs out; nothing is then
+    /// added. Costs the logarithm of the number of writes, and moves one place for each write to a greater key.
     pub fn push(&mut self, number: usize, write: Write) -> Result<(), NoMemory>
         requires { All (λ o. o.number ≤ number) self.old }
         ensures ok { OnOk result (self.new ≡ self.old ++ record { number = number; write = write } ∷ []) }
@@ -73,7 +73,8 @@ impl Undo {
         Ok(())
     }
 
-    /// Drops the writes of the record with this number, and of later ones. It takes no memory.
+    /// Removes the writes of the record with this number and of later ones. Allocates nothing. Costs the number of
+    /// writes.
     pub fn drop_from(&mut self, number: usize)
         ensures { self.new ≡ before number self.old }
     {
@@ -90,8 +91,8 @@ impl Undo {
         );
     }
 
-    /// Whether a record with a smaller number wrote the key. It takes no memory. It costs the logarithm of the number of
-    /// writes, and the writes on the key.
+    /// Whether a record below `number` wrote the key. Allocates nothing. Costs the logarithm of the number of writes,
+    /// and a scan of the writes to the key.
     pub fn touched(&self, number: usize, table: u8, key: &Key) -> bool
         ensures { result ≡ touches table key.now (earlier number self.now) }
     {
@@ -100,8 +101,9 @@ impl Undo {
         is_some_on(items, places, number, table, key)
     }
 
-    /// The keys of the predicate's table that records with smaller numbers wrote and that it admits, each once, in order.
-    /// Only the writes on keys of the span that its tests leave are looked at.
+    /// Returns the keys of the predicate's table that records below `number` wrote and that the predicate admits, each
+    /// once, in order. Fails if memory runs out. Looks only at writes to keys in the span that the predicate's tests
+    /// leave.
     pub fn keys(&self, alloc: Global, number: usize, pred: &Pred) -> Result<List<Key>, NoMemory>
         ensures { IfOk result (λ keys. AreSought pred.now (earlier number self.now) keys) }
     {
@@ -111,7 +113,7 @@ impl Undo {
         keys_at(alloc, items, places, number, pred)
     }
 
-    /// The row behind the writes of records with smaller numbers on a key, where it was a row before them, or none.
+    /// Returns the row after the writes to a key by records below `number`, given the row before them, if any.
     pub(crate) fn row_behind(
         &self,
         alloc: Global,
