@@ -1,4 +1,4 @@
-//! Views: what a procedure reads its tables through.
+//! Views: the interface through which a procedure reads its tables.
 #![tactic(auto)]
 
 mod narrow;

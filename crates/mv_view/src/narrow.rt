@@ -12,7 +12,7 @@ use mv_values::pred::Pred;
 use mv_values::rows::{Keyed, Rows};
 use std::alloc::Global;
 
-/// Copies of the rows that the predicate matches.
+/// Returns copies of the rows that the predicate matches.
 fn copy_matches(alloc: Global, pred: &Pred, rows: &[Keyed]) -> Result<Rows, NoMemory>
     requires { IsRising rows.now }
     ensures { IfOk result (λ found. found ≡ matching pred.now rows.now) }
@@ -26,8 +26,8 @@ fn copy_matches(alloc: Global, pred: &Pred, rows: &[Keyed]) -> Result<Rows, NoMe
     Ok(found)
 }
 
-/// Copies of the rows of a table that the predicate matches. It looks at the rows in the span of keys that its tests
-/// leave, which it finds in the logarithm of the number of rows.
+/// Returns copies of the rows of a table that the predicate matches. Scans the rows in the span of keys that the
+/// predicate's tests leave. Finding the span costs the logarithm of the number of rows.
 pub(crate) fn find(alloc: Global, pred: &Pred, rows: &[Keyed]) -> Result<Rows, NoMemory>
     requires rising { IsRising rows.now }
     requires admitted { Admitted pred.now rows.now }

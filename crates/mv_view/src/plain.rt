@@ -16,7 +16,7 @@ use mv_values::value::{Key, Row, Value};
 use std::alloc::Global;
 use std::marker::Model;
 
-/// A view of a database in memory. It never answers Stale.
+/// A view of a database in memory. It never returns `Stale`.
 #[derive(Drop)]
 pub struct Plain<'a> {
     tables: &'a Database,
@@ -34,7 +34,7 @@ impl<'a> Model for Plain<'a> {
 }
 
 impl<'a> Plain<'a> {
-    /// A view of the database, that was given no calls yet. It takes no memory.
+    /// Returns a view of the database, with no calls counted. Allocates nothing.
     pub fn new(tables: &'a Database) -> Plain<'a>
         ensures { result ≡ record { database = tables.now; start = 0; may_be_stale = false; stale_answers = 0; last_low = 0; rows_calls = 0; row_calls = 0 } }
     {
@@ -46,7 +46,7 @@ impl<'a> Plain<'a> {
     }
 }
 
-/// The rows of a table, none where there is no such table.
+/// Returns the rows of a table; empty if there is no such table.
 fn rows_in(tables: &Database, table: u8) -> &[Keyed]
     ensures items { result.now ≡ rows_at tables.now table }
     ensures rising { IsRising (rows_at tables.now table) }
@@ -57,7 +57,7 @@ fn rows_in(tables: &Database, table: u8) -> &[Keyed]
     }
 }
 
-/// The row under the key, where there is one. It costs the logarithm of the number of rows.
+/// Returns the row with the key. Costs the logarithm of the number of rows.
 fn row_under<'a>(rows: &'a Rows, key: &[Value]) -> Option<&'a Row>
     ensures { option_copied result ≡ row_of rows.now key.now }
 {
@@ -67,7 +67,7 @@ fn row_under<'a>(rows: &'a Rows, key: &[Value]) -> Option<&'a Row>
     }
 }
 
-/// A copy of the row of a table under the key, where there is one.
+/// Returns a copy of the row of a table with the key.
 fn copy_row(alloc: Global, tables: &Database, table: u8, key: &Key) -> Result<Option<Row>, NoMemory>
     ensures { IfOk result (λ row. row ≡ row_of (rows_at tables.now table) key.now) }
 {

@@ -1,4 +1,4 @@
-//! What a procedure reads its tables through.
+//! The interface through which a procedure reads its tables.
 
 ghost use Rattle.std.specs.Prelude.{◌≡◌, IfOk};
 ghost use Rattle.mv_values.specs.Patching.{found_by, row_of};
@@ -12,12 +12,12 @@ use mv_values::rows::Rows;
 use mv_values::value::{Key, Row};
 use std::alloc::Global;
 
-/// Why a view gives no rows.
+/// Why a view returns no rows.
 #[derive(Clone, Copy)]
 pub enum Refused {
-    /// No memory was found.
+    /// Memory ran out.
     NoMemory,
-    /// What stood after `start` commits may be gone, since rows are kept from `low` commits on.
+    /// The rows as of `start` commits may be gone: the view keeps only rows as of `low` commits and later.
     Stale { start: u32, low: u32 },
 }
 
@@ -32,22 +32,23 @@ impl From<NoMemory> for Refused {
     }
 }
 
-/// One database, as it stood after some number of commits. A view may lose it: where rows are kept from a later commit on
-/// alone, it answers Stale.
+/// A snapshot of a database, taken after some number of commits. A view may lose its snapshot: once only rows as of a
+/// later commit are kept, it returns `Stale`.
 pub trait View {
-    /// Its database and start, whether an answer may be Stale, and its counts of such answers and of calls. A count
-    /// stands still at the greatest `u64`.
+    /// Its database and start, whether it may return `Stale`, and its counts of `Stale` results and of calls. A count
+    /// stops at `u64::MAX`.
     ghost sight: { Self → Sight };
 
-    /// Copies of the rows that the predicate matches, in key order. Each such row has to stand under a key that the
-    /// predicate admits.
+    /// Returns copies of the rows that the predicate matches, in key order. The predicate must admit the key of each
+    /// such row. Fails if memory runs out, or with `Stale` if the snapshot is lost.
     fn rows(&mut self, alloc: Global, pred: &Pred) -> Result<Rows, Refused>
         requires { Admitted pred.now (rows_at (sight self.old).database pred.now.table) }
         ensures found { IfOk result (λ rows. rows ≡ found_by pred.now (sight self.old).database) }
         ensures counts { sight self.new ≡ answered result (with_rows_call (sight self.old)) }
         ensures stale { MayAnswer (sight self.old) (sight self.new) result };
 
-    /// A copy of the row under the key, where there is one.
+    /// Returns a copy of the row with the key, or `None` if there is none. Fails if memory runs out, or with `Stale` if
+    /// the snapshot is lost.
     fn row(&mut self, alloc: Global, table: u8, key: &Key) -> Result<Option<Row>, Refused>
         ensures found { IfOk result (λ row. row ≡ row_of (rows_at (sight self.old).database table) key.now) }
         ensures counts { sight self.new ≡ answered result (with_row_call (sight self.old)) }
