@@ -1,5 +1,4 @@
--- The first of a script's faults: the one at the least token, and at one token the one whose kind comes first. This
--- project's own rule.
+-- The first fault of a script: the one at the least token, and there of the first kind. This project's own rule.
 use Rattle.std.specs.Prelude.{◌≡◌, ℕ, Bool, true, false, ◌&&◌, ◌||◌, List, [], ◌∷◌, ◌++◌, Option, Some, None, nat_lt, ◌==◌, All}
 use Rattle.mv_names.specs.declared.fault.Fault.{Fault}
 use Rattle.mv_names.specs.declared.fault.FaultKind.{FaultKind}

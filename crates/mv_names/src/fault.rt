@@ -19,7 +19,7 @@ pub enum FaultKind {
     WrongType,
     /// A key column in the SET list of an UPDATE.
     KeyAssigned,
-    /// An item after an item of a later kind.
+    /// An item after an item of a later kind, or a second journal.
     Late,
 }
 
