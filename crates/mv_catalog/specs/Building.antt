@@ -57,7 +57,7 @@ use Rattle.mv_catalog.specs.declared.resolved.RStmt.TheVariants as r_stmt
 
 -- Numbers
 
--- the number cut to 16 bits, and to 8 bits
+-- the number, capped at the greatest of 16 bits, and of 8 bits
 abbrev pub small : ℕ → ℕ
 small n = min n (2 ^ 16 - 1)
 

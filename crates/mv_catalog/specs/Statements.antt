@@ -1,5 +1,4 @@
--- Well-formed statements of a program: all numbers refer to existing things, and types agree. The rules are this
--- project's own.
+-- Well-formed statements: all numbers refer to existing things, and types agree. The rules are this project's own.
 use Rattle.std.specs.Prelude.{◌≡◌, ◌≢◌, ◌<◌, ⊤, ℕ, ◌+◌, List, [], ◌∷◌, ◌++◌, length, map, Option, Some, None, slice_get, nat_eq, if◌then◌else◌, All, AllPairs, Contains}
 use Rattle.std.specs.List.{AllZip}
 use Rattle.mv_values.specs.declared.schema.Column.{Column}

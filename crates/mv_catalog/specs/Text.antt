@@ -20,8 +20,8 @@ use Rattle.mv_catalog.specs.Statements.{all_well, IsWell, rows_of, CountsFrom, s
 
 -- Values and rows
 
--- the value has the type, and a text is no longer than the type allows. All numbers of a program have 64 bits and all its
--- texts are printable, so neither is required here.
+-- the value has the type, and a text is no longer than the type allows. All numbers of a program have 64 bits and all
+-- its texts are printable, so neither is required here.
 abbrev pub IsOf : ColType → Value → Type 0
 IsOf column.Int (value.Int z) = ⊤
 IsOf column.Int (value.Text t) = ⊥
