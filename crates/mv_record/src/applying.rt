@@ -91,8 +91,8 @@ fn put_at(
     }
 }
 
-/// Stores a row under a key, or removes the row with that key if `row` is `None`. Fails if memory runs out; the rows are
-/// then unchanged. Costs the logarithm of the number of rows; an insertion or removal also moves the rows after it.
+/// Stores a row under a key, or removes the row with that key if `row` is `None`. Fails if memory runs out; the rows
+/// are then unchanged. Costs the logarithm of the number of rows; an insertion or removal also moves the rows after it.
 pub fn put_row(alloc: Global, rows: &mut Rows, key: &Key, row: Option<Row>) -> Result<(), NoMemory>
     ensures ok { OnOk result (rows.new ≡ placed key.now row rows.old) }
     ensures err { OnErr result (rows.new ≡ rows.old) }
@@ -111,8 +111,8 @@ fn patch_rows(alloc: Global, rows: &mut Rows, key: &Key, patch: &Patch) -> Resul
     put_at(alloc, rows, key, place, row)
 }
 
-/// Applies a write. Has no effect if the database lacks the write's table. Fails if memory runs out; the database is then
-/// unchanged. Searches for the key once; an insertion or removal also moves the rows after it.
+/// Applies a write. Has no effect if the database lacks the write's table. Fails if memory runs out; the database is
+/// then unchanged. Searches for the key once; an insertion or removal also moves the rows after it.
 pub fn apply(alloc: Global, database: &mut Database, write: &Write) -> Result<(), NoMemory>
     ensures ok { OnOk result (database.new ≡ written write.now database.old) }
     ensures err { OnErr result (database.new ≡ database.old) }
