@@ -238,7 +238,8 @@ TransferRollsBack =
     (recorded acc transfer (call_transfer 150) bank ≡ read_first ∷ looked ∷ rolled_back ∷ [])
     × (paths (read_first ∷ looked ∷ rolled_back ∷ []) ≡ (1 ∷ []) ∷ (2 ∷ []) ∷ (3 ∷ []) ∷ [])
 
--- PROCEDURE total (:lines ROWS): FOR :l IN :lines DO SET :n = :n + :l.q; END FOR; the variables are lines, n, `:found` and l
+-- PROCEDURE total (:lines ROWS): FOR :l IN :lines DO SET :n = :n + :l.q; END FOR; the variables are lines, n,
+-- `:found` and l
 
 abbrev pub add_line_amount : RStmt-F RStmt
 add_line_amount = Assign 1 (two Add (var 1) (field 3 0))
@@ -333,7 +334,8 @@ abbrev pub Closes : Type 0
 Closes =
     recorded acc close (call_of (number_of 50 ∷ [])) rich_bank ≡ for_record ∷ deleted 1 2 ∷ deleted 2 1 ∷ sum_record ∷ opened ∷ []
 
--- PROCEDURE second (): the variables are b and `:found`; SELECT id, bal INTO :b, :b FROM acc ORDER BY bal DESC OFFSET :b
+-- PROCEDURE second (): the variables are b and `:found`;
+-- SELECT id, bal INTO :b, :b FROM acc ORDER BY bal DESC OFFSET :b
 
 abbrev pub read_twice : RStmt-F RStmt
 read_twice = Select (0 ∷ 1 ∷ []) (0 ∷ 0 ∷ []) 0 [] (record { column = 1; descending = true } ∷ []) (Some (var 0))

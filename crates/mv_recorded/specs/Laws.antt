@@ -46,7 +46,7 @@ EffectsTold =
     (tables : List TableInfo) (params : ℕ) (s : RStmt-F RStmt) (n : ℕ) (site : Site) (before : List Record) (st : State) → HasColumns s
     → ((t : ℕ) → IsRising (rows_at st.tables t)) → TellsEffect (own_record tables params s n site before st) st (itself tables s st)
 
--- a well formed statement has a column for each target
+-- a well-formed statement has a column for each target
 abbrev pub ColumnsThere : Type 0
 ColumnsThere = (tables : List TableInfo) (s : RStmt-F RStmt) (vars : Vars) → stmt_step tables RStmt (λ s. s) (IsWell tables) s vars → HasColumns s
 

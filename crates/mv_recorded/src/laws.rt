@@ -64,7 +64,7 @@ pub fn one_place_has_one_path()
     ensures { OnePlaceOnePath }
 {}
 
-/// The records of small procedures, worked out by hand.
+/// The records of small procedures, computed by hand.
 pub fn worked_examples()
     ensures add { AddsFive }
     ensures overflow { AddOverflows }
