@@ -1,5 +1,4 @@
--- What a view shows, and what a call leaves of it. That a look-up may come too late for its snapshot is this project's
--- own.
+-- Views, and how calls change them. That a look-up may be too late for its snapshot is this project's own.
 use Rattle.std.specs.Prelude.{◌≡◌, ◌<◌, ◌+◌, ◌-◌, ◌^◌, ◌⊎◌, ⊤, ℕ, Bool, IsTrue, List, Result, Ok, Err, min}
 use Rattle.mv_values.specs.declared.rows.Keyed.{Keyed}
 use Rattle.mv_view.specs.declared.view.Refused.{Refused}

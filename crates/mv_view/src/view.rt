@@ -40,7 +40,7 @@ pub trait View {
     ghost sight: { Self → Sight };
 
     /// Returns copies of the rows that the predicate matches, in key order. The predicate must admit the key of each
-    /// such row. Fails if memory runs out, or with `Stale` if the snapshot is lost.
+    /// such row. Fails if memory runs out, or with `Stale` if the snapshot may be gone.
     fn rows(&mut self, alloc: Global, pred: &Pred) -> Result<Rows, Refused>
         requires { Admitted pred.now (rows_at (sight self.old).database pred.now.table) }
         ensures found { IfOk result (λ rows. rows ≡ found_by pred.now (sight self.old).database) }
@@ -48,7 +48,7 @@ pub trait View {
         ensures stale { MayAnswer (sight self.old) (sight self.new) result };
 
     /// Returns a copy of the row with the key, or `None` if there is none. Fails if memory runs out, or with `Stale` if
-    /// the snapshot is lost.
+    /// the snapshot may be gone.
     fn row(&mut self, alloc: Global, table: u8, key: &Key) -> Result<Option<Row>, Refused>
         ensures found { IfOk result (λ row. row ≡ row_of (rows_at (sight self.old).database table) key.now) }
         ensures counts { sight self.new ≡ answered result (with_row_call (sight self.old)) }
