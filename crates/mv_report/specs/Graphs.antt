@@ -25,12 +25,12 @@ keyword_text keyword.Delete = codes "delete"
 keyword_text keyword.Print = codes "print"
 keyword_text keyword.Rollback = codes "rollback"
 
--- an edge from the statement with this number, where there is one
+-- an edge from the statement with this number, if there is one
 abbrev pub edge_text : List ℕ → ℕ → Bool → List ℕ
 edge_text letter from true = codes " " ++ letter ++ decimal from
 edge_text letter from false = []
 
--- an edge of each kind
+-- the letter of each kind of edge
 abbrev pub letter_of : Kind → List ℕ
 letter_of Control = codes "c"
 letter_of Variable = codes "v"
@@ -41,7 +41,7 @@ has_edge Control e = e.control
 has_edge Variable e = e.variable
 has_edge Table e = e.table
 
--- the edges of a kind to a statement, by the numbers of the statements that they come from, which are counted from 1
+-- the edges of a kind to a statement. Each is named by the number of the statement that it comes from, counted from 1
 abbrev pub kind_text : Graph → ℕ → Kind → List Node → List ℕ
 kind_text graph to kind nodes = flat_map (λ numbered. edge_text (letter_of kind) numbered.0 (has_edge kind (edges graph numbered.0 to))) (enumerate_from 1 nodes)
 

@@ -5,6 +5,7 @@ use Rattle.mv_values.specs.declared.rows.Keyed.{Keyed}
 use Rattle.mv_values.specs.declared.schema.TableInfo.{TableInfo}
 use Rattle.mv_report.specs.Text.{line, replies_text, tables_text}
 
--- the replies, by call number from 0, and the tables in declared order: a run's text without its history and its journal
+-- the replies by call number from 0, then the tables in declared order. A run's text has its history and its journal
+-- between them
 abbrev pub serial_text : List TableInfo → List Reply → List (List Keyed) → List ℕ
 serial_text tables replies database = replies_text replies ++ tables_text tables database ++ line (codes "end")

@@ -20,7 +20,7 @@ use Rattle.mv_journal.specs.Events.{event_text}
 abbrev pub line : List ℕ → List ℕ
 line text = text ++ (10 ∷ [])
 
--- a byte of a text in single quotes: a quote is doubled
+-- a byte of a text in single quotes. A quote is doubled
 abbrev pub in_quotes : ℕ → List ℕ
 in_quotes byte = if byte == 39 then codes "''" else byte ∷ []
 
@@ -32,7 +32,7 @@ reason_text Overflow = codes "overflow"
 reason_text ZeroDivisor = codes "division by zero"
 reason_text TooLong = codes "text too long"
 
--- how a call ended, and its lines where it is done
+-- how a call ended, and its lines if it is done
 abbrev pub answer_text : List (List ℕ) → Option End → List ℕ
 answer_text lines None = line (codes " done") ++ flat_map line lines
 answer_text lines (Some end) = line (codes " rolled back " ++ reason_text end)
@@ -45,13 +45,13 @@ reply_text call reply = codes "reply " ++ decimal call ++ answer_text reply.line
 abbrev pub replies_text : List Reply → List ℕ
 replies_text replies = flat_map (λ numbered. reply_text numbered.0 numbered.1) (enumerate_from 0 replies)
 
--- what tells a repair that committed in the same step, and a whole run after a move, from other rounds
+-- the mark of a round: x for a repair that committed in the same step, m for a whole run after a move
 abbrev pub mark_text : Mark → List ℕ
 mark_text Plain = []
 mark_text Exclusive = codes "x"
 mark_text Moved = codes "m"
 
--- how many records a round executed, with its mark; a hyphen where a move ended it
+-- how many records a round executed, with its mark. A hyphen if a move ended the round
 abbrev pub count_text : Option ℕ → Mark → List ℕ
 count_text None mark = codes "-"
 count_text (Some count) mark = decimal count ++ mark_text mark
@@ -76,7 +76,7 @@ commit_text number commit = line (decimal number ++ codes " " ++ decimal commit.
 abbrev pub history_text : List HistoryLine → List ℕ
 history_text history = flat_map (λ numbered. commit_text numbered.0 numbered.1) (enumerate_from 1 history)
 
--- an event on its line; statements and collections are left out
+-- the line of an event. Statements and collections have none
 abbrev pub event_line : Event → List ℕ
 event_line (S call) = []
 event_line G = []
@@ -86,7 +86,7 @@ event_line event = line (event_text event)
 abbrev pub journal_text : List Event → List ℕ
 journal_text events = flat_map event_line events
 
--- a table: its name, and its rows in key order as CSV
+-- a table: its name, then its rows in key order as CSV
 abbrev pub table_text : TableInfo → List Keyed → List ℕ
 table_text table rows = line (codes "table " ++ table.name) ++ rows_csv rows
 

@@ -1,4 +1,4 @@
-//! Part 2: the commits.
+//! Part 2 of a run's text: the commits.
 
 ghost use Rattle.std.specs.Prelude.{◌≡◌, ◌++◌, codes, decimal, OnOk};
 ghost use Rattle.std.specs.List.{join_by};

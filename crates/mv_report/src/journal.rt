@@ -1,4 +1,4 @@
-//! Part 3: the events.
+//! Part 3 of a run's text: the events.
 
 ghost use Rattle.std.specs.Prelude.{◌≡◌, ◌++◌, OnOk};
 ghost use Rattle.mv_report.specs.Text.{event_line, journal_text};
@@ -7,7 +7,7 @@ use mv_journal::event::{Event, write_event};
 use mv_values::list::List;
 use mv_values::memory::NoMemory;
 
-/// Adds a line for each event but statements and collections.
+/// Adds a line for each event. Statements and collections have none.
 pub(crate) fn write_journal(events: &[Event], text: &mut List<u8>) -> Result<(), NoMemory>
     ensures { OnOk result (text.new ≡ text.old ++ journal_text events.now) }
 {

@@ -1,4 +1,4 @@
-//! The text of a run.
+//! Writes runs, calls that ran alone, and graphs as text.
 #![tactic(auto)]
 
 mod history;

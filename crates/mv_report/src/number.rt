@@ -6,7 +6,7 @@ use itoa::{Buffer, Integer};
 use mv_values::list::List;
 use mv_values::memory::NoMemory;
 
-/// Adds a number at the end of a text.
+/// Adds a number in decimal at the end of a text.
 pub(crate) fn write_number<I: Integer>(number: I, text: &mut List<u8>) -> Result<(), NoMemory>
     ensures { OnOk result (text.new ≡ text.old ++ I.text number) }
 {

@@ -13,7 +13,7 @@ use mv_values::memory::NoMemory;
 use mv_values::schema::TableInfo;
 use std::alloc::Global;
 
-/// The text of a run. It takes time in the length of the text and of the outcome.
+/// Returns the text of a run. Takes time proportional to the lengths of the text and of the outcome.
 pub fn render(
     alloc: Global,
     tables: &List<TableInfo>,

@@ -12,8 +12,8 @@ use mv_values::list::List;
 use mv_values::memory::NoMemory;
 use std::alloc::Global;
 
-/// A kind of edge: from what directly holds a statement, from what sets a variable that it reads, and from what changes
-/// the table that it asks.
+/// A kind of edge to a statement: from the one that directly holds it, from one that sets a variable that it reads, or
+/// from one that changes the table that it asks.
 #[derive(Clone, Copy)]
 pub(crate) enum Kind {
     Control,
@@ -21,7 +21,8 @@ pub(crate) enum Kind {
     Table,
 }
 
-/// The text of the graphs of a script's procedures. It takes time in the square of the number of a procedure's statements.
+/// Returns the text of the graphs of a script's procedures. Takes time quadratic in the number of a procedure's
+/// statements.
 pub fn render_graphs(
     alloc: Global,
     resolved: &Resolved,
@@ -120,7 +121,7 @@ fn write_kind(
     Ok(())
 }
 
-/// Adds the edge of a kind from a statement to another, where there is one.
+/// Adds the edge of a kind from one statement to another, if there is one.
 fn write_edge(
     graph: &Graph,
     from: u16,
@@ -138,7 +139,7 @@ fn write_edge(
     write_number(from, text)
 }
 
-/// Whether there is an edge of the kind.
+/// Whether there is an edge of this kind.
 fn has_edge(kind: Kind, edges: Edges) -> bool
     ensures { result ≡ has_edge kind edges }
 {
@@ -149,7 +150,7 @@ fn has_edge(kind: Kind, edges: Edges) -> bool
     }
 }
 
-/// The letter of a kind of edge.
+/// Returns the letter of a kind of edge.
 fn letter_of(kind: Kind) -> &'static [u8]
     ensures { result.now ≡ letter_of kind }
 {
@@ -160,7 +161,7 @@ fn letter_of(kind: Kind) -> &'static [u8]
     }
 }
 
-/// A keyword in lower case.
+/// Returns a keyword in lower case.
 fn keyword_name(keyword: Keyword) -> &'static [u8]
     ensures { result.now ≡ keyword_text keyword }
 {

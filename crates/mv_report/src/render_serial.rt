@@ -1,4 +1,4 @@
-//! The text of calls that ran alone, in three of a run's parts: replies, tables, end.
+//! The text of calls that ran alone. It has three of a run's parts: replies, tables, end.
 
 ghost use Rattle.std.specs.Prelude.{◌≡◌, IfOk};
 ghost use Rattle.mv_report.specs.Serial.{serial_text};
@@ -12,8 +12,8 @@ use mv_values::rows::Database;
 use mv_values::schema::TableInfo;
 use std::alloc::Global;
 
-/// The text of calls that ran alone: the reply of each call by its number, and the database after the last. It takes
-/// time in the length of the text.
+/// Returns the text of calls that ran alone: the reply of each call by number, and the database after the last call.
+/// Takes time proportional to the length of the text.
 pub fn render_serial(
     alloc: Global,
     tables: &List<TableInfo>,

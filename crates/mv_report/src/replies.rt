@@ -1,4 +1,4 @@
-//! Part 1: what each call answered.
+//! Part 1 of a run's text: the reply of each call.
 
 ghost use Rattle.std.specs.Prelude.{◌≡◌, ◌++◌, ◌∷◌, [], codes, OnOk};
 ghost use Rattle.std.specs.List.{flat_map};

@@ -1,4 +1,4 @@
-//! Part 4: the last tables.
+//! Part 4 of a run's text: the tables after the last call.
 
 ghost use Rattle.std.specs.Prelude.{◌≡◌, ◌++◌, length, OnOk};
 ghost use Rattle.mv_report.specs.Text.{table_text, tables_text};
