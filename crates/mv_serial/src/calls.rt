@@ -1,4 +1,4 @@
-//! Whole calls, one after another.
+//! Runs whole calls, one after another.
 
 ghost use Rattle.std.specs.Prelude.{◌≡◌, [], Some, IfOk, length, replicate};
 ghost use Rattle.mv_alone.specs.Alone.{alone};
@@ -19,21 +19,21 @@ use mv_values::memory::NoMemory;
 use mv_values::rows::Database;
 use std::alloc::Global;
 
-/// What calls leave that ran alone: the reply of each call by its number, and the database after the last.
+/// The result of calls that ran alone: the reply of each call by number, and the database after the last call.
 #[derive(Drop)]
 pub struct Serial {
     pub replies: List<Reply>,
     pub tables: Database,
 }
 
-/// What a call leaves: the database after it, and its reply.
+/// The result of one call: the database after it, and its reply.
 #[derive(Drop)]
 struct Left {
     tables: Database,
     reply: Reply,
 }
 
-/// What a call leaves that is rolled back: its changes are taken back, and it has no lines.
+/// Returns the result of a call that is rolled back: its changes are undone, and its reply has no lines.
 fn rolled_back(
     alloc: Global,
     tables: Database,
@@ -53,7 +53,7 @@ fn rolled_back(
     Ok(Left { tables, reply })
 }
 
-/// Runs a call of a procedure. Where it is rolled back, its changes are taken back.
+/// Runs a call of a procedure. If the call is rolled back, its changes are undone.
 fn run_procedure(
     alloc: Global,
     program: &Program,
@@ -88,7 +88,7 @@ fn run_procedure(
     }
 }
 
-/// What a call leaves that does nothing.
+/// Returns the result of a call that does nothing.
 fn unchanged(alloc: Global, tables: Database) -> Left
     ensures tables { result.tables ≡ tables }
     ensures reply { result.reply ≡ no_reply }
@@ -100,7 +100,7 @@ fn unchanged(alloc: Global, tables: Database) -> Left
     Left { tables, reply }
 }
 
-/// Runs the call of this number.
+/// Runs the call with this number.
 fn run_call(
     alloc: Global,
     program: &Program,
@@ -122,7 +122,7 @@ fn run_call(
     }
 }
 
-/// Replies of no lines.
+/// Returns this many replies without lines.
 fn silent(alloc: Global, count: usize) -> Result<List<Reply>, NoMemory>
     ensures { IfOk result (λ replies. replies ≡ replicate count no_reply) }
 {
@@ -136,7 +136,7 @@ fn silent(alloc: Global, count: usize) -> Result<List<Reply>, NoMemory>
     Ok(replies)
 }
 
-/// Runs calls alone in this order. A call that doesn't stand in it has a reply of no lines.
+/// Runs calls alone, in this order. A call that isn't in the order has a reply without lines.
 pub fn run_alone(alloc: Global, program: &Program, order: &[u32]) -> Result<Serial, NoMemory>
     requires whole { IsProgram program.now }
     requires order { IsOrder program.now order.now }

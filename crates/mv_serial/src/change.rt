@@ -1,4 +1,4 @@
-//! What UPDATE does to the rows of a table.
+//! Executes UPDATE on the rows of a table.
 
 ghost use Rattle.std.specs.Prelude.{◌≡◌, Ok, slice_set};
 ghost use Rattle.mv_values.specs.Tables.{rows_at};
@@ -17,7 +17,7 @@ use mv_values::rows::Database;
 use mv_values::schema::Column;
 use std::alloc::Global;
 
-/// Makes each matching row anew.
+/// Replaces each matching row by its new version.
 pub(crate) fn update_rows(
     alloc: Global,
     columns: &[Column],

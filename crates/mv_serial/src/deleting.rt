@@ -1,4 +1,4 @@
-//! DELETE.
+//! Executes DELETE.
 
 ghost use Rattle.std.specs.Prelude.{◌≡◌, slice_set, OnOk};
 ghost use Rattle.mv_values.specs.Tables.{rows_at, KeysStand};
@@ -19,7 +19,7 @@ use mv_values::rows::Database;
 use mv_values::schema::TableInfo;
 use std::alloc::Global;
 
-/// Takes each matching row out, the last one first, so that the places before it stay.
+/// Removes each matching row. The last one goes first, so that the places before it stay valid.
 fn delete_rows(
     alloc: Global,
     checks: &[Check],
@@ -44,7 +44,7 @@ fn delete_rows(
     Ok(())
 }
 
-/// DELETE.
+/// Executes DELETE.
 pub(crate) fn run_delete(
     alloc: Global,
     infos: &[TableInfo],

@@ -1,4 +1,4 @@
-//! INSERT.
+//! Executes INSERT.
 
 ghost use Rattle.std.specs.Prelude.{Ok, OnOk, MatchResult, slice_set};
 ghost use Rattle.mv_values.specs.Keys.{IsRising, IsPlaceOf, IsGapFor};
@@ -21,7 +21,7 @@ use mv_values::schema::TableInfo;
 use mv_values::value::Value;
 use std::alloc::Global;
 
-/// The place of the row with the key, or the place at which it would stand.
+/// Returns the place of the row with the key. The error is the place where the row would be inserted.
 fn place_in(tables: &Database, table: u16, key: &[Value]) -> Result<usize, usize>
     ensures rising { IsRising (rows_at tables.now table) }
     ensures place { MatchResult result (IsPlaceOf (rows_at tables.now table) key.now) (IsGapFor (rows_at tables.now table) key.now) }
@@ -32,7 +32,7 @@ fn place_in(tables: &Database, table: u16, key: &[Value]) -> Result<usize, usize
     }
 }
 
-/// Puts a row into its place by key, unless its key is there. Where there is no table, it is put nowhere.
+/// Inserts a row at its place by key. Does nothing if the key is there or the table doesn't exist.
 fn put_new(
     alloc: Global,
     tables: &mut Database,
@@ -55,7 +55,7 @@ fn put_new(
     }
 }
 
-/// INSERT.
+/// Executes INSERT.
 pub(crate) fn run_insert(
     alloc: Global,
     tables: &[TableInfo],

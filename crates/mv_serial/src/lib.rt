@@ -1,4 +1,4 @@
-//! The whole-table machine: what procedures do when their calls run alone, one after another.
+//! The whole-table machine: executes procedures whose calls run alone, one after another.
 #![tactic(auto)]
 
 pub mod calls;

@@ -1,4 +1,4 @@
-//! What each statement does.
+//! Executes statements that hold no others.
 
 ghost use Rattle.std.specs.Prelude.{◌≡◌, OnOk};
 ghost use Rattle.mv_values.specs.Tables.{KeysStand};
@@ -20,7 +20,7 @@ use mv_values::list::List;
 use mv_values::schema::TableInfo;
 use std::alloc::Global;
 
-/// SET.
+/// Executes SET.
 pub(crate) fn run_assign(
     alloc: Global,
     to: u16,
@@ -35,7 +35,7 @@ pub(crate) fn run_assign(
     Ok(())
 }
 
-/// SELECT INTO.
+/// Executes SELECT INTO.
 pub(crate) fn run_select(
     alloc: Global,
     infos: &[TableInfo],
@@ -65,7 +65,7 @@ pub(crate) fn run_select(
     Ok(())
 }
 
-/// PRINT.
+/// Executes PRINT.
 pub(crate) fn run_print(alloc: Global, exprs: &[RExpr], state: &mut State) -> Result<(), Stop>
     ensures does { Leaves result state.new (print exprs.now state.old) }
     ensures tables { state.new.tables ≡ state.old.tables }
@@ -75,7 +75,7 @@ pub(crate) fn run_print(alloc: Global, exprs: &[RExpr], state: &mut State) -> Re
     Ok(())
 }
 
-/// UPDATE.
+/// Executes UPDATE.
 pub(crate) fn run_update(
     alloc: Global,
     tables: &[TableInfo],

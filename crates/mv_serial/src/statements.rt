@@ -1,4 +1,4 @@
-//! Statements one after another, and those that hold others.
+//! Executes statements one after another, and those that hold others.
 
 ghost use Rattle.std.specs.Prelude.{◌≡◌, ◌++◌, [], drop, Ok, OnOk};
 ghost use Rattle.mv_values.specs.Tables.{KeysStand};
@@ -35,14 +35,14 @@ fn takes(alloc: Global, test: &RExpr, env: &Env) -> Result<bool, Stop>
     Ok(holds(&v))
 }
 
-/// `:found` of a loop over these rows.
+/// Sets `:found` for a loop over these rows.
 fn find_rows(rows: &[Row], env: &mut Env) -> Result<(), NoMemory>
     ensures { OnOk result (env.new ≡ with_found env.old (is_turn rows.now)) }
 {
     set_found(env, !rows.is_empty())
 }
 
-/// Runs statements, one after another.
+/// Executes statements, one after another.
 #[cycle(statements)]
 pub(crate) fn run_all(
     alloc: Global,
@@ -62,7 +62,7 @@ pub(crate) fn run_all(
     Ok(())
 }
 
-/// Runs one statement.
+/// Executes one statement.
 #[cycle(statements)]
 fn run_one(
     alloc: Global,
@@ -159,7 +159,7 @@ fn run_one(
     }
 }
 
-/// FOR over SELECT.
+/// Executes FOR over SELECT.
 #[cycle(statements)]
 fn run_turns(
     alloc: Global,
@@ -191,7 +191,7 @@ fn run_turns(
     run_loop(alloc, tables, row, body, rows.as_slice(), state, undo)
 }
 
-/// FOR over a ROWS parameter.
+/// Executes FOR over a ROWS parameter.
 #[cycle(statements)]
 fn run_rows(
     alloc: Global,
@@ -211,7 +211,7 @@ fn run_rows(
     run_loop(alloc, tables, row, body, rows.as_slice(), state, undo)
 }
 
-/// FOR over rows that are fixed.
+/// Executes FOR over fixed rows.
 #[cycle(statements)]
 fn run_loop(
     alloc: Global,

@@ -1,4 +1,4 @@
-//! SELECT with an aggregate.
+//! Executes SELECT with an aggregate.
 
 ghost use Rattle.std.specs.Prelude.{◌≡◌};
 ghost use Rattle.mv_values.specs.Tables.{KeysStand};
@@ -13,7 +13,7 @@ use mv_catalog::resolved::{RAgg, RCond};
 use mv_values::schema::TableInfo;
 use std::alloc::Global;
 
-/// SELECT with an aggregate.
+/// Executes SELECT with an aggregate.
 pub(crate) fn run_total(
     alloc: Global,
     infos: &[TableInfo],

@@ -1,4 +1,4 @@
-//! Changes of rows that can be taken back.
+//! Changes of rows that can be undone.
 
 ghost use Rattle.std.specs.Prelude.{◌≡◌, [], ◌<◌, ◌≤◌, length, slice_set, OnOk};
 ghost use Rattle.std.specs.List.{insert, remove};
@@ -12,7 +12,7 @@ use mv_values::rows::{Database, Keyed, Rows};
 use mv_values::value::Row;
 use std::alloc::Global;
 
-/// What stood at a place of a table: another row, no row, or a row that was taken out.
+/// What was at a place of a table before a change: another row, no row, or a row that was removed.
 #[derive(Drop)]
 pub(crate) enum Was {
     Other(usize, Row),
@@ -20,14 +20,14 @@ pub(crate) enum Was {
     Present(usize, Keyed),
 }
 
-/// What takes a change of a table back.
+/// How to undo a change of a table.
 #[derive(Drop)]
 pub(crate) struct Undo {
     pub table: u16,
     pub was: Was,
 }
 
-/// Takes the rows of a table out, and leaves none.
+/// Takes all rows out of a table, and leaves it empty.
 fn take_rows(alloc: Global, tables: &mut Database, table: u16) -> Rows
     ensures rows { result ≡ rows_at tables.old table }
     ensures rising { IsRising result }
@@ -49,7 +49,7 @@ fn put_rows(tables: &mut Database, table: u16, rows: Rows)
     }
 }
 
-/// Puts a row in the place of one.
+/// Replaces a row.
 pub(crate) fn change_row(
     alloc: Global,
     tables: &mut Database,
@@ -72,7 +72,7 @@ pub(crate) fn change_row(
     Ok(())
 }
 
-/// Puts a row at a place. With it the keys have to rise.
+/// Inserts a row at a place. The keys must rise with it.
 pub(crate) fn add_row(
     alloc: Global,
     tables: &mut Database,
@@ -97,7 +97,7 @@ pub(crate) fn add_row(
     Ok(())
 }
 
-/// Takes a row out.
+/// Removes a row.
 pub(crate) fn remove_row(
     alloc: Global,
     tables: &mut Database,
@@ -119,7 +119,7 @@ pub(crate) fn remove_row(
     Ok(())
 }
 
-/// Takes a change of the rows of a table back.
+/// Undoes a change of the rows of a table.
 fn undo_in(rows: &mut Rows, was: Was) -> Result<(), NoMemory>
     requires { CanUndoRows was rows.old }
     ensures { OnOk result (rows.new ≡ undo_rows was rows.old) }
@@ -137,7 +137,7 @@ fn undo_in(rows: &mut Rows, was: Was) -> Result<(), NoMemory>
     }
 }
 
-/// Takes a change back.
+/// Undoes a change.
 fn undo_change(alloc: Global, tables: &mut Database, undo: Undo) -> Result<(), NoMemory>
     requires { CanUndoRows undo.was (rows_at tables.old undo.table) }
     ensures { OnOk result (tables.new ≡ undo_one undo tables.old) }
@@ -149,7 +149,7 @@ fn undo_change(alloc: Global, tables: &mut Database, undo: Undo) -> Result<(), N
     Ok(())
 }
 
-/// Takes all changes back.
+/// Undoes all changes, the last one first.
 pub(crate) fn undo_all(
     alloc: Global,
     tables: &mut Database,
