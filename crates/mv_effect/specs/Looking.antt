@@ -1,4 +1,4 @@
--- What a statement may be executed on, and what it leaves of its view.
+-- What a statement may be executed on, and how it uses its view.
 use Rattle.std.specs.Prelude.{◌≡◌, ◌≤◌, ◌+◌, ◌*◌, ℕ, suc, List, [], ◌∷◌, length, Result, Ok, Err, All, if◌then◌else◌}
 use Rattle.mv_values.specs.declared.rows.Keyed.{Keyed}
 use Rattle.mv_values.specs.declared.pred.Pred.{Pred}
@@ -13,45 +13,45 @@ use Rattle.mv_view.specs.Viewing.{Sight, one_more}
 use Rattle.mv_view.specs.declared.view.Refused.{Refused}
 use Rattle.mv_view.specs.declared.view.Refused.TheVariants.{NoMemory, Stale}
 
--- tables of a program, and a database of them before these writes and behind them
+-- the tables of a program, and a database of them before these writes and after them
 pub record Stands (tables : List TableInfo) (ws : List Write) (db : List (List Keyed)) : Type 0 where
   pub few : length tables ≤ 64
   pub each : All IsTable tables
   pub database : IsDatabaseOf tables db
   pub behind : KeysStand tables (applied ws db)
 
--- how many different keys writes are on
+-- how many different keys the writes are on
 abbrev pub different : List Write → ℕ
 different [] = 0
 different (w ∷ ws) = if touches w.table w.key ws then different ws else suc (different ws)
 
--- it is the same view of the same database
+-- it is the same view, of the same database
 pub record IsSameView (before after : Sight) : Type 0 where
   pub database : after.database ≡ before.database
   pub start : after.start ≡ before.start
   pub may_be_stale : after.may_be_stale ≡ before.may_be_stale
 
--- none of its answers was Stale
+-- the view never answered Stale
 pub record WasNeverStale (before after : Sight) : Type 0 where
   pub answers : after.stale_answers ≡ before.stale_answers
   pub last_low : after.last_low ≡ before.last_low
 
--- one of its answers was, with this low
+-- the view answered Stale once, with this low
 pub record WasStale (low : ℕ) (before after : Sight) : Type 0 where
   pub answers : after.stale_answers ≡ one_more before.stale_answers
   pub last_low : after.last_low ≡ low
 
--- what is answered is Stale exactly where an answer of the view was, and has its low
+-- the result is Stale exactly if an answer of the view was, and has the same low
 abbrev pub PassesOn : {A : Type 0} → Sight → Sight → Result A Refused → Type 0
 PassesOn before after (Ok x) = WasNeverStale before after
 PassesOn before after (Err NoMemory) = WasNeverStale before after
 PassesOn before after (Err (Stale start low)) = WasStale low before after
 
--- it was given at most so many calls of `rows` and of `row`
+-- the view got at most so many calls of `rows` and of `row`
 pub record AskedAtMost (rows row : ℕ) (before after : Sight) : Type 0 where
   pub for_rows : after.rows_calls ≤ before.rows_calls + rows
   pub for_row : after.row_calls ≤ before.row_calls + row
 
--- it was asked at most once for each of these predicates, and then for each key that earlier writes are on
+-- the view was asked at most once for each of these predicates, and then for each key that earlier writes are on
 abbrev pub AskedFor : List Pred → List Write → Sight → Sight → Type 0
 AskedFor preds ws before after = AskedAtMost (length preds) (length preds * different ws) before after

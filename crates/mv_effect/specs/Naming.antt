@@ -1,4 +1,4 @@
--- Statements whose table and column numbers are those of what is there.
+-- Statements that name only tables and columns that exist.
 use Rattle.std.specs.Prelude.{◌<◌, ⊤, ℕ, List, length, All}
 use Rattle.std.specs.List.{flat_map}
 use Rattle.mv_values.specs.declared.schema.TableInfo.{TableInfo}
@@ -12,17 +12,17 @@ use Rattle.mv_recorded.specs.Asking.{columns_in, column_in, with_sorts}
 abbrev pub AreColumns : List TableInfo → ℕ → List ℕ → Type 0
 AreColumns tables t cs = All (λ c. c < length (columns_at tables t)) cs
 
--- there is a table with the number, and WHERE tests columns of it
+-- the table with the number exists, and WHERE tests columns of it
 pub record Tests (tables : List TableInfo) (t : ℕ) (conds : List RCond) : Type 0 where
   pub table : t < length tables
   pub columns : All (λ (c : RCond). c.column < length (columns_at tables t)) conds
 
--- SET sets columns of the table, and its right sides see columns of it
+-- SET sets columns of the table, and its right sides read columns of it
 pub record Sets (tables : List TableInfo) (t : ℕ) (items : List RSetItem) : Type 0 where
   pub columns : All (λ (i : RSetItem). i.column < length (columns_at tables t)) items
   pub rights : AreColumns tables t (flat_map (λ i. columns_in i.right) items)
 
--- the table of a statement is there, and it names columns of it
+-- the table of a statement exists, and the statement names columns of it
 abbrev pub NamesColumns : {X : Type 0} → List TableInfo → RStmt-F X → Type 0
 NamesColumns tables (Select cs xs t conds sorts offset) = Tests tables t conds × AreColumns tables t (with_sorts cs sorts)
 NamesColumns tables (Total agg x t conds) = Tests tables t conds × AreColumns tables t (column_in agg)

@@ -8,12 +8,12 @@ use Rattle.mv_view.specs.declared.view.Refused.TheVariants.{NoMemory}
 use Rattle.mv_record.specs.declared.effect.Effect.{Effect}
 use Rattle.mv_recorded.specs.Effects.{only_end}
 
--- an answer for a statement that was stopped: no memory, or an effect that only ends the call
+-- the result of a statement that was stopped: NoMemory, or an effect that only ends the call
 abbrev pub IsStopped : List Pred → Stop → Result Effect Refused → Type 0
 IsStopped preds Memory answer = answer ≡ Err NoMemory
 IsStopped preds (Ended e) answer = (answer ≡ Ok (only_end preds e))
 
--- an effect of a statement that was stopped: it only ends the call, and there is none where memory ran out
+-- the effect of a statement that was stopped: it only ends the call. There is no effect if memory ran out
 abbrev pub EndsBy : Stop → List Pred → Effect → Type 0
 EndsBy Memory preds effect = ⊥
 EndsBy (Ended e) preds effect = effect ≡ only_end preds e

@@ -1,4 +1,4 @@
--- Targets of a SELECT, which take columns.
+-- The columns that the targets of a SELECT take.
 use Rattle.std.specs.Prelude.{ℕ, ◌==◌, List, [], ◌∷◌, Option, Some, if◌then◌else◌}
 
 -- the column that a target takes last, where targets take columns in order

@@ -1,4 +1,4 @@
-//! What a statement asks of a table.
+//! The predicates that statements ask their tables.
 
 ghost use Rattle.std.specs.Prelude.{◌≡◌, ◌<◌, ◌≤◌, ◌++◌, IfOk, OnOk, All, map, length, Ok, [], ◌∷◌};
 ghost use Rattle.std.specs.List.{flat_map};
@@ -25,7 +25,7 @@ use mv_values::schema::TableInfo;
 use mv_values::value::Value;
 use std::alloc::Global;
 
-/// The tests of WHERE with their right sides evaluated. Stopped where one of these is, by the first.
+/// Returns the tests of WHERE with their right sides evaluated. Fails with the first right side that is stopped.
 fn tests_from(alloc: Global, keys: &[u8], conds: &[RCond], env: &Env) -> Result<List<Test>, Stop>
     requires key { length keys.now ≤ 256 }
     requires columns { All (λ (c : RCond). c.column < 256) conds.now }
@@ -44,7 +44,8 @@ fn tests_from(alloc: Global, keys: &[u8], conds: &[RCond], env: &Env) -> Result<
     Ok(tests)
 }
 
-/// The rows of a table that pass WHERE, and these columns of them. Stopped where a right side of WHERE is, by the first.
+/// Returns the predicate for the rows of a table that pass WHERE, with these columns selected. Fails with the first
+/// right side of WHERE that is stopped.
 pub(crate) fn pred_from(
     alloc: Global,
     tables: &[TableInfo],
@@ -69,7 +70,7 @@ pub(crate) fn pred_from(
     })
 }
 
-/// These columns, and those of ORDER BY.
+/// Returns these columns, then those of ORDER BY.
 fn sorted_columns(alloc: Global, columns: &[u16], sorts: &[RSort]) -> Result<List<u16>, NoMemory>
     ensures { IfOk result (λ all. all ≡ with_sorts columns.now sorts.now) }
 {
@@ -81,7 +82,8 @@ fn sorted_columns(alloc: Global, columns: &[u16], sorts: &[RSort]) -> Result<Lis
     Ok(all)
 }
 
-/// What a statement asks that sees these columns and those of ORDER BY. Stopped where a right side of WHERE is.
+/// Returns the predicate of a statement that reads these columns and those of ORDER BY. Fails with the first right side
+/// of WHERE that is stopped.
 pub(crate) fn pred_sorted(
     alloc: Global,
     tables: &[TableInfo],
@@ -102,7 +104,7 @@ pub(crate) fn pred_sorted(
     pred_from(alloc, tables, table, conds, asked.as_slice(), env)
 }
 
-/// The column of an aggregate, where it has one.
+/// Returns the column of an aggregate, if it has one.
 fn aggregate_columns(alloc: Global, agg: RAgg) -> Result<List<u16>, NoMemory>
     ensures { IfOk result (λ all. all ≡ column_in agg) }
 {
@@ -116,7 +118,7 @@ fn aggregate_columns(alloc: Global, agg: RAgg) -> Result<List<u16>, NoMemory>
     Ok(all)
 }
 
-/// What an aggregate asks. Stopped where a right side of WHERE is.
+/// Returns the predicate of an aggregate. Fails with the first right side of WHERE that is stopped.
 pub(crate) fn pred_added(
     alloc: Global,
     tables: &[TableInfo],
@@ -136,7 +138,7 @@ pub(crate) fn pred_added(
     pred_from(alloc, tables, table, conds, asked.as_slice(), env)
 }
 
-/// Adds the columns that stand by themselves in an expression.
+/// Adds the columns of the table that an expression names.
 fn add_columns(columns: &mut List<u16>, expr: &RExpr) -> Result<(), NoMemory>
     ensures { OnOk result (columns.new ≡ columns.old ++ columns_in expr.now) }
 {
@@ -151,7 +153,7 @@ fn add_columns(columns: &mut List<u16>, expr: &RExpr) -> Result<(), NoMemory>
     }
 }
 
-/// The columns in the right sides of SET.
+/// Returns the columns in the right sides of SET.
 fn right_columns(alloc: Global, items: &[RSetItem]) -> Result<List<u16>, NoMemory>
     ensures { IfOk result (λ all. all ≡ flat_map (λ i. columns_in i.right) items.now) }
 {
@@ -162,7 +164,8 @@ fn right_columns(alloc: Global, items: &[RSetItem]) -> Result<List<u16>, NoMemor
     Ok(all)
 }
 
-/// What an UPDATE asks: the columns in the right sides of SET. Stopped where a right side of WHERE is.
+/// Returns the predicate of an UPDATE, with the columns in the right sides of SET selected. Fails with the first right
+/// side of WHERE that is stopped.
 pub(crate) fn pred_set(
     alloc: Global,
     tables: &[TableInfo],
@@ -182,7 +185,7 @@ pub(crate) fn pred_set(
     pred_from(alloc, tables, table, conds, asked.as_slice(), env)
 }
 
-/// The tests that each key column equals the row's.
+/// Returns the tests that each key column equals that of the row.
 fn key_tests(alloc: Global, keys: &[u8], row: &[Value]) -> Result<List<Test>, NoMemory>
     requires { length keys.now ≤ 256 }
     ensures { IfOk result (λ tests. tests ≡ map (test_of keys.now) (same_key keys.now row.now)) }
@@ -199,7 +202,7 @@ fn key_tests(alloc: Global, keys: &[u8], row: &[Value]) -> Result<List<Test>, No
     Ok(tests)
 }
 
-/// The rows of a table with the same key as a row, and no columns of them.
+/// Returns the predicate for the rows of a table with the same key as a row. It selects no columns.
 pub(crate) fn key_pred(
     alloc: Global,
     tables: &[TableInfo],

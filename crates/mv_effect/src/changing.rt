@@ -39,7 +39,7 @@ use mv_values::value::{Key, Row, Value};
 use mv_view::view::{Refused, View};
 use std::alloc::Global;
 
-/// The effect of a statement that asked this, where it found something or not, and writes this.
+/// Returns the effect of a statement that asked this, found something or not, and writes this.
 fn writing(
     alloc: Global,
     env: &Env,
@@ -56,7 +56,7 @@ fn writing(
     Ok(effect)
 }
 
-/// That a row is put under its key.
+/// Returns the write that inserts a row under its key.
 fn insertion(alloc: Global, table: u8, keys: &[u8], row: Row) -> Result<List<Write>, NoMemory>
     ensures { IfOk result (λ writes. writes ≡ write table (keyed keys.now row).key (patch.Insert row) ∷ []) }
 {
@@ -70,7 +70,7 @@ fn insertion(alloc: Global, table: u8, keys: &[u8], row: Row) -> Result<List<Wri
     Ok(writes)
 }
 
-/// What an INSERT of this row does that asked this, where a row with its key is there or not.
+/// Returns the effect of an INSERT of this row that asked this. `there` is whether a row with its key exists.
 fn inserted(
     alloc: Global,
     tables: &[TableInfo],
@@ -91,8 +91,8 @@ fn inserted(
     writing(alloc, env, pred, true, writes)
 }
 
-/// INSERT writes its row, and sets `:found`. It ends the call where a value is stopped, and where a row with the key is
-/// there, which it asks for by a test of each key column.
+/// Returns the effect of INSERT: it writes its row, and sets `:found`. It asks for rows with the same key by a test of
+/// each key column. The call ends if a value is stopped, or if there is such a row.
 pub(crate) fn insert<V: View>(
     alloc: Global,
     here: &Here<'_>,
@@ -127,7 +127,7 @@ pub(crate) fn insert<V: View>(
     )?)
 }
 
-/// That the rows are no more.
+/// Returns the writes that delete these rows.
 fn deletes(alloc: Global, table: u8, rows: Rows) -> Result<List<Write>, NoMemory>
     ensures { IfOk result (λ writes. writes ≡ map (λ item. write table item.key patch.Delete) rows) }
 {
@@ -142,7 +142,7 @@ fn deletes(alloc: Global, table: u8, rows: Rows) -> Result<List<Write>, NoMemory
     Ok(writes)
 }
 
-/// What a DELETE does that asked this and found these rows.
+/// Returns the effect of a DELETE that asked this and found these rows.
 fn deleted(alloc: Global, env: &Env, table: u16, pred: Pred, rows: Rows) -> Result<Effect, NoMemory>
     requires table { table < 256 }
     requires found { env.now.found < 2 ^ 16 }
@@ -153,7 +153,8 @@ fn deleted(alloc: Global, env: &Env, table: u16, pred: Pred, rows: Rows) -> Resu
     writing(alloc, env, pred, found, writes)
 }
 
-/// DELETE takes out the rows that match, and sets `:found`. It ends the call where a right side of WHERE is stopped.
+/// Returns the effect of DELETE: it deletes the rows that match, and sets `:found`. The call ends if a right side of
+/// WHERE is stopped.
 pub(crate) fn delete<V: View>(
     alloc: Global,
     here: &Here<'_>,
@@ -179,7 +180,7 @@ pub(crate) fn delete<V: View>(
     Ok(deleted(alloc, here.env, table, pred, rows)?)
 }
 
-/// The columns of SET, with their values in the row behind it.
+/// Returns the columns of SET, with their values in the row after it.
 fn assigns(alloc: Global, items: &[RSetItem], row: &[Value]) -> Result<List<Assign>, NoMemory>
     requires { All (λ (i : RSetItem). i.column < 256) items.now }
     ensures { IfOk result (λ all. patch.Set all ≡ changed items.now row.now) }
@@ -194,7 +195,7 @@ fn assigns(alloc: Global, items: &[RSetItem], row: &[Value]) -> Result<List<Assi
     Ok(all)
 }
 
-/// What SET writes to the row under a key, behind which it is this row.
+/// Returns what SET writes under a key, given the row after it.
 fn set_write(
     alloc: Global,
     table: u8,
@@ -213,7 +214,7 @@ fn set_write(
     })
 }
 
-/// What SET makes of a row. Stopped where the row that it makes is.
+/// Returns what SET writes to a row. Fails if the new row is stopped.
 fn write_for(
     alloc: Global,
     tables: &[TableInfo],
@@ -231,7 +232,7 @@ fn write_for(
     Ok(set_write(alloc, narrow(table), &item.key, items, row.as_slice())?)
 }
 
-/// What SET makes of the rows. Stopped by the first row where it is, so that nothing is written.
+/// Returns what SET writes to the rows. Fails with the first new row that is stopped, so that nothing is written.
 fn set_writes(
     alloc: Global,
     tables: &[TableInfo],
@@ -252,7 +253,7 @@ fn set_writes(
     Ok(writes)
 }
 
-/// What an UPDATE does that asked this and found these rows.
+/// Returns the effect of an UPDATE that asked this and found these rows.
 fn updated(
     alloc: Global,
     tables: &[TableInfo],
@@ -273,8 +274,8 @@ fn updated(
     }
 }
 
-/// UPDATE writes the rows that match, each made anew, and sets `:found`. It ends the call where a right side of WHERE or
-/// of SET is stopped, or a text is longer than its column allows.
+/// Returns the effect of UPDATE: it writes a new version of each row that matches, and sets `:found`. The call ends if
+/// a right side of WHERE or of SET is stopped, or if a text is longer than its column allows.
 pub(crate) fn update<V: View>(
     alloc: Global,
     here: &Here<'_>,

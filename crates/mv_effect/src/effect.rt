@@ -1,4 +1,4 @@
-//! What a statement does by itself, put together.
+//! Builds the effects of statements.
 
 ghost use Rattle.std.specs.Prelude.{◌≡◌, ◌∷◌, [], IfOk};
 ghost use Rattle.mv_recorded.specs.Effects.{empty, only_asks, only_end};
@@ -14,7 +14,7 @@ use mv_values::pred::Pred;
 use mv_view::view::Refused;
 use std::alloc::Global;
 
-/// No effect.
+/// Returns the empty effect.
 pub(crate) fn nothing(alloc: Global) -> Effect
     ensures { result ≡ empty }
 {
@@ -28,7 +28,7 @@ pub(crate) fn nothing(alloc: Global) -> Effect
     }
 }
 
-/// A list of one predicate.
+/// Returns a list of one predicate.
 pub(crate) fn one(alloc: Global, pred: Pred) -> Result<List<Pred>, NoMemory>
     ensures { IfOk result (λ preds. preds ≡ pred ∷ []) }
 {
@@ -37,7 +37,7 @@ pub(crate) fn one(alloc: Global, pred: Pred) -> Result<List<Pred>, NoMemory>
     Ok(preds)
 }
 
-/// The effect of a statement that only asks this.
+/// Returns the effect of a statement that only asks this.
 pub(crate) fn asking(alloc: Global, pred: Pred) -> Result<Effect, NoMemory>
     ensures { IfOk result (λ e. e ≡ only_asks pred) }
 {
@@ -46,7 +46,7 @@ pub(crate) fn asking(alloc: Global, pred: Pred) -> Result<Effect, NoMemory>
     Ok(effect)
 }
 
-/// The effect of a statement that asks this and ends the call.
+/// Returns the effect of a statement that asks this and ends the call.
 pub(crate) fn ended(alloc: Global, preds: List<Pred>, end: End) -> Effect
     ensures { result ≡ only_end preds end }
 {
@@ -60,7 +60,7 @@ pub(crate) fn ended(alloc: Global, preds: List<Pred>, end: End) -> Effect
     }
 }
 
-/// The effect of a statement that asks this and sets these variables.
+/// Returns the effect of a statement that asks this and sets these variables.
 pub(crate) fn setting(alloc: Global, pred: Pred, sets: List<Slot>) -> Result<Effect, NoMemory>
     ensures { IfOk result (λ e. e ≡ record (only_asks pred) { sets = sets }) }
 {
@@ -69,7 +69,8 @@ pub(crate) fn setting(alloc: Global, pred: Pred, sets: List<Slot>) -> Result<Eff
     Ok(effect)
 }
 
-/// The effect of a statement that was stopped when it had asked this. No memory where it was stopped by want of it.
+/// Returns the effect of a statement that was stopped after it asked this. Fails if it was stopped because memory ran
+/// out.
 pub(crate) fn ended_by(alloc: Global, preds: List<Pred>, stop: Stop) -> Result<Effect, NoMemory>
     ensures { IfOk result (EndsBy stop preds) }
 {
@@ -79,7 +80,7 @@ pub(crate) fn ended_by(alloc: Global, preds: List<Pred>, stop: Stop) -> Result<E
     }
 }
 
-/// The answer for a statement that was stopped when it had asked this.
+/// Returns the result of a statement that was stopped after it asked this.
 pub(crate) fn stopped(alloc: Global, preds: List<Pred>, stop: Stop) -> Result<Effect, Refused>
     ensures { IsStopped preds stop result }
 {

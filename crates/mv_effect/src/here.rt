@@ -4,8 +4,8 @@ use mv_alone::state::Env;
 use mv_undo::undo::Undo;
 use mv_values::schema::TableInfo;
 
-/// Where a statement is executed: the tables, the variables before it, and the call's own writes, of which it sees those
-/// of records with smaller numbers than its own.
+/// Where a statement is executed: the tables, the variables before it, and the call's own writes. It sees the writes of
+/// records with smaller numbers than its own.
 #[derive(Drop)]
 pub(crate) struct Here<'a> {
     pub(crate) tables: &'a [TableInfo],

@@ -1,4 +1,4 @@
-//! What one statement does by itself, read over a view of the database and the call's own writes.
+//! The effect of one statement, over a view of the database and the call's own writes.
 #![tactic(auto)]
 
 mod asking;

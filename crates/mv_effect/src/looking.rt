@@ -1,4 +1,4 @@
-//! The rows that a statement sees: those of a view, behind the call's own writes.
+//! The rows that a statement sees: those of a view, after the call's own writes.
 
 ghost use Rattle.std.specs.Prelude.{◌≡◌, ◌<◌, None, IfOk, OnOk, length, if◌then◌else◌, List};
 ghost use Rattle.mv_values.specs.declared.value.Value.{Value};
@@ -21,7 +21,7 @@ use mv_values::value::Key;
 use mv_view::view::{Refused, View};
 use std::alloc::Global;
 
-/// Puts the view's row under a key of a table among others. It asks for it.
+/// Adds the view's row under a key of a table to other rows. Asks the view for it once.
 fn add_row<V: View>(
     alloc: Global,
     table: u8,
@@ -38,7 +38,7 @@ fn add_row<V: View>(
     Ok(())
 }
 
-/// The view's rows under these keys of a table. It asks for each of them.
+/// Returns the view's rows under these keys of a table. Asks the view once for each key.
 fn rows_under<V: View>(
     alloc: Global,
     table: u8,
@@ -58,8 +58,8 @@ fn rows_under<V: View>(
     Ok(own)
 }
 
-/// The predicate's rows behind the own writes of records with smaller numbers, in key order. It asks the view once for
-/// its rows, and once for each key that these records wrote and the predicate admits.
+/// Returns the predicate's rows after the own writes of records with smaller numbers, in key order. Asks the view once
+/// for its rows, and once for each key that these records wrote and the predicate admits.
 fn look<V: View>(
     alloc: Global,
     pred: &Pred,
@@ -84,8 +84,8 @@ fn look<V: View>(
     Ok(rows)
 }
 
-/// The predicate's rows behind the call's own writes that the statement sees, in key order. It asks the view once for its
-/// rows, and once for each key that these writes are on and the predicate admits.
+/// Returns the predicate's rows after the call's own writes that the statement sees, in key order. Asks the view once
+/// for its rows, and once for each key that these writes are on and the predicate admits.
 pub(crate) fn seen<V: View>(
     alloc: Global,
     here: &Here<'_>,
@@ -103,7 +103,7 @@ pub(crate) fn seen<V: View>(
     look(alloc, pred, here.undo, here.number, view)
 }
 
-/// Whether there is a row.
+/// Whether there are any rows.
 pub(crate) fn is_any(rows: &Rows) -> bool
     ensures { result ≡ is_some_row rows.now }
 {

@@ -8,7 +8,7 @@ use mv_values::list::List;
 use mv_values::memory::NoMemory;
 use std::alloc::Global;
 
-/// The number of a table or a column, of which there are no more than 256.
+/// Returns the number of a table or a column in one byte. There are no more than 256 of them.
 pub(crate) fn narrow(number: u16) -> u8
     requires { number < 256 }
     ensures { result ≡ number }
@@ -16,14 +16,14 @@ pub(crate) fn narrow(number: u16) -> u8
     number as u8
 }
 
-/// Whether the number stands among the first ones.
+/// Whether the number is among the first ones.
 pub(crate) fn is_among_first(numbers: &[u16], first: usize, number: u16) -> bool
     ensures { result ≡ list_any (λ n. n == number) (take first numbers.now) }
 {
     numbers.iter().take(first).any(|n| *n == number)
 }
 
-/// The columns, each once, where it first stands.
+/// Returns the columns without repeats, in the order of their first occurrences.
 #[tactic(auto, using(crate::proofs::Once::once_there, crate::proofs::Once::once_new))]
 pub(crate) fn columns_once(alloc: Global, columns: &[u16]) -> Result<List<u8>, NoMemory>
     requires { All (λ c. c < 256) columns.now }
@@ -39,7 +39,7 @@ pub(crate) fn columns_once(alloc: Global, columns: &[u16]) -> Result<List<u8>, N
     Ok(once)
 }
 
-/// The place of a column in the key.
+/// Returns the place of a column in the key.
 fn place_in(keys: &[u8], column: u16) -> Option<usize>
     ensures place { result ≡ position (λ k. k == column) keys.now }
     ensures within { IfSome result (λ place. place < length keys.now) }
@@ -47,7 +47,7 @@ fn place_in(keys: &[u8], column: u16) -> Option<usize>
     keys.iter().position(|k| *k as u16 == column)
 }
 
-/// The place of a column in the key, from 0, where it is a key column.
+/// Returns the place of a column in the key, from 0, if it is a key column.
 pub(crate) fn key_place(keys: &[u8], column: u16) -> Option<u8>
     requires { length keys.now ≤ 256 }
     ensures { result ≡ position (λ k. k == column) keys.now }

@@ -1,4 +1,4 @@
-//! Statements that look at no table.
+//! Statements that read no table.
 
 ghost use Rattle.std.specs.Prelude.{◌≡◌, ◌<◌, ◌^◌, ℕ, IfOk};
 ghost use Rattle.mv_catalog.specs.declared.resolved.RStmt.{RStmt};
@@ -25,7 +25,7 @@ use mv_values::value::Row;
 use mv_view::view::Refused;
 use std::alloc::Global;
 
-/// SET sets its variable, and ends the call where its right side is stopped.
+/// Returns the effect of SET: it sets its variable. The call ends if the right side is stopped.
 #[tactic(auto, using(mv_recorded::proofs::Slots::set_has))]
 pub(crate) fn assign(alloc: Global, to: u16, right: &RExpr, env: &Env) -> Result<Effect, Refused>
     ensures effect { IfOk result (IsEffectAnywhere (layer.Assign to right.now) env.now) }
@@ -41,7 +41,7 @@ pub(crate) fn assign(alloc: Global, to: u16, right: &RExpr, env: &Env) -> Result
     Ok(effect)
 }
 
-/// IF has no effect of its own, and ends the call where its condition is stopped.
+/// Returns the effect of IF: none of its own. The call ends if the condition is stopped.
 pub(crate) fn branch(alloc: Global, test: &RExpr, env: &Env) -> Result<Effect, Refused>
     ensures effect { IfOk result (λ e. (ys ns : List RStmt) → IsEffectAnywhere (layer.Branch test.now ys ns) env.now e) }
     ensures refused { (sight : Sight) → MayAnswer sight sight result }
@@ -53,7 +53,7 @@ pub(crate) fn branch(alloc: Global, test: &RExpr, env: &Env) -> Result<Effect, R
     }
 }
 
-/// PRINT adds a line, and ends the call where one of its values is stopped.
+/// Returns the effect of PRINT: it adds a line. The call ends if one of the values is stopped.
 pub(crate) fn print(alloc: Global, exprs: &[RExpr], env: &Env) -> Result<Effect, Refused>
     ensures effect { IfOk result (IsEffectAnywhere (layer.Print exprs.now) env.now) }
     ensures refused { (sight : Sight) → MayAnswer sight sight result }
@@ -68,7 +68,7 @@ pub(crate) fn print(alloc: Global, exprs: &[RExpr], env: &Env) -> Result<Effect,
     Ok(effect)
 }
 
-/// ROLLBACK ends the call.
+/// Returns the effect of ROLLBACK: it ends the call.
 pub(crate) fn rollback(alloc: Global, reason: &Txt) -> Result<Effect, Refused>
     ensures effect { IfOk result (λ e. (env : Env) → IsEffectAnywhere (layer.Rollback reason.now) env e) }
     ensures refused { (sight : Sight) → MayAnswer sight sight result }
@@ -78,7 +78,7 @@ pub(crate) fn rollback(alloc: Global, reason: &Txt) -> Result<Effect, Refused>
     Ok(ended(alloc, List::new(alloc), End::Own(reason)))
 }
 
-/// Whether a loop has a turn.
+/// Whether a loop has any turn.
 pub(crate) fn has_turn(rows: &List<Row>) -> bool
     ensures { result ≡ is_turn rows.now }
 {
@@ -88,7 +88,8 @@ pub(crate) fn has_turn(rows: &List<Row>) -> bool
     }
 }
 
-/// FOR over a ROWS parameter goes through its rows, and sets `:found` to whether there is one.
+/// Returns the effect of FOR over a ROWS parameter: it goes through the rows, and sets `:found` to whether there are
+/// any.
 pub(crate) fn for_rows(alloc: Global, over: u16, env: &Env) -> Result<Effect, Refused>
     requires { env.now.found < 2 ^ 16 }
     ensures effect { IfOk result (λ e. (row : ℕ) (body : List RStmt) → IsEffectAnywhere (layer.ForRows row over body) env.now e) }

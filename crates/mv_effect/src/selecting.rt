@@ -1,4 +1,4 @@
-//! Statements that look at a table and change none.
+//! Statements that read a table and change none.
 
 ghost use Rattle.std.specs.Prelude.{◌≡◌, ◌<◌, ◌≤◌, ◌^◌, ℕ, IfOk, List, [], All, length};
 ghost use Rattle.mv_values.specs.Keys.{IsRising};
@@ -37,7 +37,8 @@ use mv_values::value::{Row, Value};
 use mv_view::view::{Refused, View};
 use std::alloc::Global;
 
-/// What a SELECT asks, and the number of its row, or what it does where a right side of WHERE or OFFSET is stopped.
+/// Returns what a SELECT asks and the number of its row. If a right side of WHERE or OFFSET is stopped, returns the
+/// effect.
 fn asked_row(
     alloc: Global,
     here: &Here<'_>,
@@ -64,7 +65,7 @@ fn asked_row(
     }
 }
 
-/// What a SELECT does that asked this, takes the row of this number and found these rows.
+/// Returns the effect of a SELECT that asked this, takes the row with this number and found these rows.
 fn chosen(
     alloc: Global,
     env: &Env,
@@ -84,8 +85,8 @@ fn chosen(
     setting(alloc, pred, sets)
 }
 
-/// SELECT INTO sets its targets to the columns of the chosen row, where there is one, and `:found`. It ends the call where
-/// a right side of WHERE or OFFSET is stopped.
+/// Returns the effect of SELECT INTO: it sets its targets to the columns of the chosen row, if there is one, and sets
+/// `:found`. The call ends if a right side of WHERE or OFFSET is stopped.
 pub(crate) fn select<V: View>(
     alloc: Global,
     here: &Here<'_>,
@@ -116,7 +117,7 @@ pub(crate) fn select<V: View>(
     Ok(chosen(alloc, here.env, columns, to, sorts, asked, rows.as_slice())?)
 }
 
-/// The effect of an aggregate that asked this and gives this.
+/// Returns the effect of an aggregate that asked this and yields this.
 fn totalled(
     alloc: Global,
     env: &Env,
@@ -132,7 +133,7 @@ fn totalled(
     setting(alloc, pred, sets)
 }
 
-/// What an aggregate does that asked this and found these rows.
+/// Returns the effect of an aggregate that asked this and found these rows.
 fn added(
     alloc: Global,
     env: &Env,
@@ -150,8 +151,8 @@ fn added(
     }
 }
 
-/// SELECT with an aggregate sets its target, where there is a total, and `:found`. It ends the call where a right side of
-/// WHERE is stopped, and where a sum doesn't fit.
+/// Returns the effect of SELECT with an aggregate: it sets its target, if there is a total, and sets `:found`. The call
+/// ends if a right side of WHERE is stopped, or if a sum is out of range.
 pub(crate) fn total<V: View>(
     alloc: Global,
     here: &Here<'_>,
@@ -180,7 +181,7 @@ pub(crate) fn total<V: View>(
     Ok(added(alloc, here.env, agg, to, pred, rows.as_slice())?)
 }
 
-/// What a FOR does that asked this and has these turns.
+/// Returns the effect of a FOR that asked this and has these turns.
 fn turning(alloc: Global, env: &Env, pred: Pred, turns: List<Row>) -> Result<Effect, NoMemory>
     requires { env.now.found < 2 ^ 16 }
     ensures { IfOk result (λ e. e ≡ going pred turns env.now) }
@@ -191,7 +192,7 @@ fn turning(alloc: Global, env: &Env, pred: Pred, turns: List<Row>) -> Result<Eff
     Ok(effect)
 }
 
-/// What a FOR does that asked this and found these rows.
+/// Returns the effect of a FOR that asked this and found these rows.
 fn gone_through(
     alloc: Global,
     env: &Env,
@@ -209,8 +210,8 @@ fn gone_through(
     turning(alloc, env, pred, turns)
 }
 
-/// FOR over SELECT fixes its rows, and sets `:found` to whether there is one. It ends the call where a right side of WHERE
-/// is stopped.
+/// Returns the effect of FOR over SELECT: it fixes its rows, and sets `:found` to whether there are any. The call ends
+/// if a right side of WHERE is stopped.
 pub(crate) fn for_select<V: View>(
     alloc: Global,
     here: &Here<'_>,

@@ -1,4 +1,4 @@
-//! What statements set.
+//! The variables that statements set.
 
 ghost use Rattle.std.specs.Prelude.{◌≡◌, ◌<◌, ◌^◌, ◌==◌, ◌∷◌, ◌++◌, [], None, true, IfOk, if◌then◌else◌};
 ghost use Rattle.std.specs.Option.{is_some, option_copied};
@@ -22,14 +22,14 @@ use mv_values::rows::Keyed;
 use mv_values::value::Value;
 use std::alloc::Global;
 
-/// 1 or 0.
+/// Returns 1 for true and 0 for false.
 fn truth_of(b: bool) -> Value
     ensures { result ≡ truth b }
 {
     Value::Int(if b { 1 } else { 0 })
 }
 
-/// A copy of the value of a variable, or of 0 where it holds rows.
+/// Returns a copy of the value of a variable, or 0 if it holds rows.
 fn scalar(alloc: Global, env: &Env, x: u16) -> Result<Value, NoMemory>
     ensures { IfOk result (λ v. v ≡ scalar_at env.now x) }
 {
@@ -39,7 +39,7 @@ fn scalar(alloc: Global, env: &Env, x: u16) -> Result<Value, NoMemory>
     }
 }
 
-/// The variable `:found`, set to whether something was found.
+/// Returns `:found`, set to whether something was found.
 fn found_slot(env: &Env, found: bool) -> Slot
     requires { env.now.found < 2 ^ 16 }
     ensures { result ≡ record { slot = env.now.found; value = truth found } }
@@ -50,7 +50,7 @@ fn found_slot(env: &Env, found: bool) -> Slot
     }
 }
 
-/// A variable with its value behind the setting of `:found`, which comes last.
+/// Returns a variable with this value. The value of `:found` is `found` instead, since `:found` is set last.
 fn slot_before_found(env: &Env, found: bool, x: u16, value: Value) -> Slot
     ensures { result ≡ record { slot = x; value = if x == env.now.found then truth found else value } }
 {
@@ -63,7 +63,7 @@ fn slot_before_found(env: &Env, found: bool, x: u16, value: Value) -> Slot
     Slot { slot: x, value }
 }
 
-/// What a statement sets that sets `:found` alone.
+/// Returns what a statement sets that sets only `:found`.
 #[tactic(auto, using(mv_recorded::proofs::Slots::found_has))]
 pub(crate) fn found_alone(alloc: Global, env: &Env, found: bool) -> Result<List<Slot>, NoMemory>
     requires { env.now.found < 2 ^ 16 }
@@ -74,7 +74,7 @@ pub(crate) fn found_alone(alloc: Global, env: &Env, found: bool) -> Result<List<
     Ok(sets)
 }
 
-/// What an aggregate sets: its target where there is a total, and `:found`.
+/// Returns what an aggregate sets: its target, if there is a total, and `:found`.
 #[tactic(auto, using(crate::proofs::Variables::total_set))]
 pub(crate) fn total_slots(
     alloc: Global,
@@ -95,7 +95,7 @@ pub(crate) fn total_slots(
     Ok(sets)
 }
 
-/// The column that a target takes, the last one where it stands more than once.
+/// Returns the column that a target takes, the last one if the target occurs more than once.
 fn column_for(to: &[u16], columns: &[u16], x: u16) -> Option<u16>
     ensures { result ≡ last_column to.now columns.now x None }
 {
@@ -111,7 +111,7 @@ fn column_for(to: &[u16], columns: &[u16], x: u16) -> Option<u16>
     last
 }
 
-/// The value that a variable has when the targets have taken the row's columns.
+/// Returns the value of a variable after the targets took the row's columns.
 fn value_taken(
     alloc: Global,
     env: &Env,
@@ -128,7 +128,7 @@ fn value_taken(
     }
 }
 
-/// What a SELECT sets that has found a row: its targets, each once, and `:found`.
+/// Returns what a SELECT sets that found a row: its targets, each once, and `:found`.
 fn row_slots(
     alloc: Global,
     env: &Env,
@@ -151,7 +151,7 @@ fn row_slots(
     Ok(sets)
 }
 
-/// What a SELECT sets: its targets, each once, where there is a row, and `:found`.
+/// Returns what a SELECT sets: its targets, each once, if there is a row, and `:found`.
 pub(crate) fn taken_slots(
     alloc: Global,
     env: &Env,

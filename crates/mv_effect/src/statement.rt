@@ -1,4 +1,4 @@
-//! What one statement does by itself.
+//! The effect of one statement.
 
 ghost use Rattle.std.specs.Prelude.{◌<◌, ◌≤◌, ◌^◌, IfOk, All, length};
 ghost use Rattle.mv_values.specs.Patching.{applied};
@@ -24,11 +24,13 @@ use mv_values::schema::TableInfo;
 use mv_view::view::{Refused, View};
 use std::alloc::Global;
 
-/// What a statement does by itself where these variables stand before it, read over the view and the own writes of
-/// records with smaller numbers. An IF only evaluates its condition, and a FOR only fixes its rows. The view is asked
-/// once for the rows of the table that the statement looks at, and at most once for each key that these writes are on.
+/// Returns the effect of a statement, given the variables before it, over the view and the own writes of records with
+/// smaller numbers. An IF only evaluates its condition, and a FOR only fixes its rows.
 ///
-/// `NoMemory` where no memory was found, `Stale` where the view answered so.
+/// The view is asked once for the rows of the table that the statement reads, and at most once for each key that these
+/// writes are on.
+///
+/// Fails with `NoMemory` if memory runs out, and with `Stale` if the view answers `Stale`.
 pub fn effect<V: View>(
     alloc: Global,
     tables: &[TableInfo],
