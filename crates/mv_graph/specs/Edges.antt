@@ -1,5 +1,5 @@
--- The edges of a graph: how a statement may depend on another one. The paper's graph (Dashti, Basil John, Shaikhha and Koch,
--- SIGMOD 2017) has edges between closures; edges between statements are this project's own.
+-- The edges of a graph: how a statement may depend on another one. The paper's graph (Dashti, Basil John, Shaikhha and
+-- Koch, SIGMOD 2017) has edges between closures; edges between statements are this project's own.
 use Rattle.std.specs.Prelude.{ℕ, zero, suc, Bool, false, ◌&&◌, ◌||◌, ◌==◌, nat_lt, List, Option, Some, None, slice_get}
 use Rattle.std.specs.List.{list_any}
 use Rattle.mv_graph.specs.declared.graph.Node.{Node}
@@ -14,16 +14,15 @@ abbrev pub is_same : Option ℕ → Option ℕ → Bool
 is_same None other = false
 is_same (Some n) other = is_number other n
 
--- a number is in both lists
+-- the lists have a number in common
 abbrev pub has_common : List ℕ → List ℕ → Bool
 has_common ms ns = list_any (λ m. list_any (λ n. n == m) ns) ms
 
--- what the statement with the number `from` does can reach the one with the number `to`: it stands before it in the text, or one FOR
--- holds both
+-- what statement `from` does can reach statement `to`: `from` is earlier in the text, or one FOR holds both
 abbrev pub comes_to : ℕ → Node → ℕ → Node → Bool
 comes_to from a to b = nat_lt from to || has_common a.loops b.loops
 
--- it directly holds the other; it sets a variable that the other reads; it changes the table of the other's predicate
+-- `from` directly holds `to`; it sets a variable that `to` reads; it changes the table of the predicate of `to`
 abbrev pub edges_of : ℕ → Node → ℕ → Node → Edges
 edges_of from a to b = record {
   control = is_number b.parent from;
@@ -41,6 +40,6 @@ edges_in from (Some a) to (Some b) = edges_of from a to b
 edges_in from None to b = record { control = false; variable = false; table = false }
 edges_in from (Some a) to None = record { control = false; variable = false; table = false }
 
--- the edges between statements by their numbers
+-- the edges from one statement to another, by their numbers
 abbrev pub edges : Graph → ℕ → ℕ → Edges
 edges g from to = edges_in from (node_at g from) to (node_at g to)

@@ -1,4 +1,5 @@
--- What is known of the statements of a procedure before it runs: a node for each, in the order of the text, and what a graph means.
+-- What is known of the statements of a procedure before it runs: a node for each, in the order of the text, and what a
+-- graph means.
 use Rattle.std.specs.Prelude.{◌≡◌, ◌≤◌, ℕ, ◌+◌, List, [], ◌∷◌, ◌++◌, Option, Some, None, All, map, length}
 use Rattle.mv_catalog.specs.Statements.{size, total_size}
 use Rattle.mv_catalog.specs.Text.{IsTable, IsProcedure}
@@ -74,7 +75,7 @@ asked_table (Rollback reason) = None
 
 -- Statements in the order of the text
 
--- the nodes of statements, the first of which has this number, by the statement and the FORs that hold them
+-- the nodes of statements, by the number of the first, the statement that holds them, and the FORs that hold them
 abbrev pub Nodes : Type 0
 Nodes = ℕ → Option ℕ → List ℕ → List Node
 
@@ -84,7 +85,7 @@ all_nodes (s ∷ ss) n holder loops =
     let these : List Node = s n holder loops in
     these ++ all_nodes ss (n + length these) holder loops
 
--- of what a statement with this number holds
+-- the nodes of what a statement with this number holds
 abbrev pub inner_nodes : RStmt-F Nodes → ℕ → List ℕ → List Node
 inner_nodes (ForSelect x once cs t conds sorts body) n loops = all_nodes body (n + 1) (Some n) (loops ++ n ∷ [])
 inner_nodes (ForRows x y body) n loops = all_nodes body (n + 1) (Some n) (loops ++ n ∷ [])
@@ -100,8 +101,8 @@ inner_nodes (Delete t conds) n loops = []
 inner_nodes (Print es) n loops = []
 inner_nodes (Rollback reason) n loops = []
 
--- a statement's own node, where the first `params` variables are parameters, `:found` has this number, and it is `whole` statements with
--- those that it holds
+-- a statement's own node. The first `params` variables are parameters, `:found` has the number `found`, and `whole`
+-- counts the statement with those that it holds
 abbrev pub own_node : {X : Type 0} → ℕ → ℕ → RStmt-F X → Option ℕ → List ℕ → ℕ → Node
 own_node params found s holder loops whole = record {
   keyword = keyword_of s;
@@ -122,21 +123,21 @@ node_step params found s n holder loops =
 abbrev pub nodes_of : ℕ → ℕ → RStmt → Nodes
 nodes_of params found = fold-RStmt Nodes (node_step params found)
 
--- of what a statement with this number holds
+-- the nodes of what a statement with this number holds
 abbrev pub held_nodes : ℕ → ℕ → RStmt-F RStmt → ℕ → List ℕ → List Node
 held_nodes params found s n loops = inner_nodes (map-RStmt RStmt Nodes (nodes_of params found) s) n loops
 
--- of statements in order
+-- the nodes of statements in order
 abbrev pub body_nodes : ℕ → ℕ → List RStmt → Nodes
 body_nodes params found ss = all_nodes (map (nodes_of params found) ss)
 
--- of a procedure: parameters stand first, then the declared variables, then `:found`
+-- the nodes of a procedure. Parameters come first, then the declared variables, then `:found`
 abbrev pub nodes_in : ProcInfo → List Node
 nodes_in proc =
     let params : ℕ = length proc.params in
     body_nodes params (params + length proc.defaults) proc.body 1 None []
 
--- A graph
+-- Graphs
 
 -- its nodes are those of its procedure
 abbrev pub IsGraph : Graph → Type 0
@@ -146,7 +147,7 @@ IsGraph g = g.nodes ≡ nodes_in g.procedure
 abbrev pub meaning_of : Graph → Meaning
 meaning_of g = meaning g.tables g.procedure
 
--- its tables and its procedure are those of a program of one piece
+-- its tables and its procedure fit together, as those of a program do
 pub record IsSound (g : Graph) : Type 0 where
   pub few : length g.tables ≤ 64
   pub tables : All IsTable g.tables
@@ -165,6 +166,6 @@ pub record IsSmall (proc : ProcInfo) : Type 0 where
   pub statements : total_size (map size proc.body) ≤ most_statements
   pub variables : length proc.params + length proc.defaults ≤ most_variables
 
--- there are no more nodes than a procedure has statements
+-- there are no more nodes than a procedure may have statements
 abbrev pub HasFewNodes : Graph → Type 0
 HasFewNodes g = length g.nodes ≤ most_statements

@@ -23,39 +23,40 @@ pub enum Keyword {
     Rollback,
 }
 
-/// A statement, as it stands in the text. Statements are counted from 1 through the text of the procedure, tables from 0,
-/// variables by their numbers in the procedure.
+/// A statement of the text. Statements count from 1 through the text of the procedure, tables from 0. Variables have
+/// their numbers in the procedure.
 #[derive(Drop)]
 pub struct Node {
     pub keyword: Keyword,
-    /// The IF or FOR that directly holds it.
+    /// The IF or FOR that directly holds it, if any.
     pub parent: Option<u16>,
-    /// The FORs that hold it, from the outside in.
+    /// The FORs that hold it, the outermost first.
     pub loops: List<u16>,
-    /// The variables that stand in its own expressions. A parameter isn't one.
+    /// The variables in its own expressions, parameters excluded.
     pub reads: List<u16>,
-    /// The variables that it may set, `:found` and the row of a FOR among them.
+    /// The variables that it may set, `:found` and the row of a FOR included.
     pub sets: List<u16>,
-    /// The table that it changes.
+    /// The table that it changes, if any.
     pub changes: Option<u16>,
-    /// The table of its predicate.
+    /// The table of its predicate, if it has one.
     pub asks: Option<u16>,
-    /// How many statements it is, with those that it holds. The one behind it has its number and this in sum.
+    /// The number of statements: itself and those that it holds. The statement after them has its number plus this.
     pub size: u16,
 }
 
-/// A procedure as a graph. What its calls leave is the meaning of the procedure over the tables.
+/// A procedure as a graph. It means what the procedure means over the tables.
 #[derive(Drop)]
 pub struct Graph {
     /// The tables that its statements name.
     pub tables: List<TableInfo>,
-    /// The procedure: its variables with the values that they begin with, and its statements.
+    /// The procedure: its variables with their initial values, and its statements.
     pub procedure: ProcInfo,
     /// A node for each statement, in the order of the text.
     pub nodes: List<Node>,
 }
 
-/// How a statement may depend on another: because that one directly holds it, by a variable, or by a table.
+/// How a statement may depend on another: the other directly holds it, sets a variable that it reads, or changes the
+/// table that it asks.
 #[derive(Clone, Copy, PartialEq, Eq)]
 pub struct Edges {
     pub control: bool,
@@ -63,7 +64,7 @@ pub struct Edges {
     pub table: bool,
 }
 
-/// Whether it is this number.
+/// Whether there is a number and it is this one.
 fn is_number(it: Option<u16>, number: u16) -> bool
     ensures { result ≡ is_number it number }
 {
@@ -90,14 +91,14 @@ fn has(numbers: &[u16], number: u16) -> bool
     numbers.iter().any(|n| *n == number)
 }
 
-/// Whether a number is in both lists. It takes time in the product of their lengths.
+/// Whether the lists have a number in common. Takes time proportional to the product of their lengths.
 fn has_common(left: &[u16], right: &[u16]) -> bool
     ensures { result ≡ has_common left.now right.now }
 {
     left.iter().any(|n| has(right, *n))
 }
 
-/// Whether what statement `from` does can reach statement `to`: it stands before it in the text, or one FOR holds both.
+/// Whether what statement `from` does can reach statement `to`: `from` is earlier in the text, or one FOR holds both.
 fn comes_to(from: u16, earlier: &Node, to: u16, later: &Node) -> bool
     ensures { result ≡ comes_to from earlier.now to later.now }
 {
@@ -105,7 +106,7 @@ fn comes_to(from: u16, earlier: &Node, to: u16, later: &Node) -> bool
 }
 
 impl Graph {
-    /// The statement with this number, counted from 1.
+    /// Returns the statement with this number, counted from 1.
     fn node(&self, number: u16) -> Option<&Node>
         ensures { option_copied result ≡ node_at self.now number }
     {
@@ -115,8 +116,9 @@ impl Graph {
         }
     }
 
-    /// How statement `to` may depend on statement `from`, both counted from 1. A number with no statement has no edges. It
-    /// takes no memory, and time in the products of the lengths of the nodes' lists.
+    /// Returns how statement `to` may depend on statement `from`, both counted from 1. There are no edges if either
+    /// statement doesn't exist. Allocates nothing. Takes time proportional to the products of the lengths of the nodes'
+    /// lists.
     pub fn edge(&self, from: u16, to: u16) -> Edges
         ensures { result ≡ edges self.now from to }
     {
@@ -131,7 +133,7 @@ impl Graph {
     }
 }
 
-/// How a statement may depend on another, by their numbers and nodes.
+/// Returns how a statement may depend on another, by their numbers and nodes.
 fn edges_between(from: u16, earlier: &Node, to: u16, later: &Node) -> Edges
     ensures { result ≡ edges_of from earlier.now to later.now }
 {
