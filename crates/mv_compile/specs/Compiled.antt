@@ -9,15 +9,15 @@ use Rattle.mv_recorded.specs.Recorded.{meaning}
 use Rattle.mv_graph.specs.declared.graph.Graph.{Graph}
 use Rattle.mv_graph.specs.Nodes.{nodes_in, meaning_of}
 
--- a procedure over these tables, with a node for each statement
+-- the graph of a procedure over these tables, with a node for each statement
 abbrev pub graph_of : List TableInfo → ProcInfo → Graph
 graph_of tables proc = record { tables = tables; procedure = proc; nodes = nodes_in proc }
 
--- of each procedure, in order
+-- the graph of each procedure, in order
 abbrev pub graphs_of : Resolved → List Graph
 graphs_of resolved = map (graph_of resolved.tables) resolved.procedures
 
--- on every call and every database it means what the procedure's text means over these tables: the records of a full run, and the
--- reply and the database of the machine that runs the call alone
+-- on every call and every database the graph means what the procedure's text means over these tables: the records of a
+-- full run, and the reply and the database of the machine that runs the call alone
 abbrev pub MeansText : List TableInfo → Graph → ProcInfo → Type 0
 MeansText tables graph proc = (call : Call) (db : Tables) → meaning_of graph call db ≡ meaning tables proc call db

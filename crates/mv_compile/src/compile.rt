@@ -1,4 +1,4 @@
-//! The graphs of a script.
+//! Compiles the procedures of a script to graphs.
 
 ghost use Rattle.std.specs.Prelude.{◌≡◌, ◌+◌, length, IfOk, All, map};
 ghost use Rattle.std.specs.List.{AllZip};
@@ -16,7 +16,7 @@ use mv_values::memory::NoMemory;
 use mv_values::schema::TableInfo;
 use std::alloc::Global;
 
-/// How the variables of a procedure are numbered.
+/// Returns how the variables of a procedure are numbered.
 fn slots_of(procedure: &ProcInfo) -> Slots
     requires { IsSmall procedure.now }
     ensures params { result.params ≡ length procedure.now.params }
@@ -29,7 +29,7 @@ fn slots_of(procedure: &ProcInfo) -> Slots
     }
 }
 
-/// The nodes of a procedure, in the order of the text.
+/// Returns the nodes of a procedure, in the order of the text.
 fn nodes_in(alloc: Global, procedure: &ProcInfo) -> Result<List<Node>, NoMemory>
     requires { IsSmall procedure.now }
     ensures { IfOk result (λ nodes. nodes ≡ nodes_in procedure.now) }
@@ -48,7 +48,7 @@ fn nodes_in(alloc: Global, procedure: &ProcInfo) -> Result<List<Node>, NoMemory>
     Ok(nodes)
 }
 
-/// A procedure over these tables as a graph.
+/// Returns the graph of a procedure over these tables.
 fn graph_of(
     alloc: Global,
     tables: &List<TableInfo>,
@@ -67,7 +67,7 @@ fn graph_of(
     })
 }
 
-/// Procedures over these tables as graphs.
+/// Returns the graphs of procedures over these tables.
 fn graphs_of(
     alloc: Global,
     tables: &List<TableInfo>,
@@ -83,13 +83,13 @@ fn graphs_of(
     Ok(graphs)
 }
 
-/// The graphs of a script's procedures, in order. It takes time in the size of the script and in the square of the number
-/// of variables that a statement names.
+/// Returns the graphs of a script's procedures, in order. Its cost grows with the size of the script, and with the
+/// square of the number of variables that a statement names.
 #[tactic(auto, using(crate::proofs::Small::all_small, crate::proofs::Small::all_few_nodes))]
 pub fn compile(alloc: Global, resolved: &Resolved) -> Result<List<Graph>, NoMemory>
     requires { FitsText resolved.now }
     ensures graphs { IfOk result (λ graphs. graphs ≡ graphs_of resolved.now) }
-    // The nodes of each are those of its procedure, and it means what the procedure's text means.
+    // Each graph has the nodes of its procedure, and means what the procedure's text means.
     ensures nodes { IfOk result (All IsGraph) }
     ensures few { IfOk result (All HasFewNodes) }
     ensures sound { IfOk result (All IsSound) }

@@ -10,9 +10,9 @@ use mv_values::list::List;
 use mv_values::memory::NoMemory;
 use std::alloc::Global;
 
-// Expressions, and what holds them
+// Expressions, and their containers
 
-/// A copy of an expression.
+/// Returns a copy of an expression.
 pub fn copy_expr(alloc: Global, expr: &RExpr) -> Result<RExpr, NoMemory>
     ensures { IfOk result (λ it. it ≡ expr.now) }
 {
@@ -33,7 +33,7 @@ pub fn copy_expr(alloc: Global, expr: &RExpr) -> Result<RExpr, NoMemory>
     }
 }
 
-/// An expression of this kind.
+/// Returns an expression of this kind.
 fn of_kind(kind: RExprKind) -> RExpr
     ensures { result.kind ≡ kind }
 {
@@ -122,7 +122,7 @@ fn copy_select(
     })
 }
 
-/// A copy of a FOR over SELECT whose body was copied.
+/// Returns a copy of a FOR over SELECT, given the copy of its body.
 fn copy_for_select(
     alloc: Global,
     row: u16,
@@ -149,7 +149,7 @@ fn copy_for_select(
     })
 }
 
-/// A copy of an IF whose branches were copied.
+/// Returns a copy of an IF, given the copies of its branches.
 fn copy_branch(
     alloc: Global,
     test: &RExpr,
@@ -179,7 +179,7 @@ fn copy_update(
     })
 }
 
-/// A copy of statements.
+/// Returns a copy of statements.
 #[cycle(copying)]
 pub fn copy_statements(alloc: Global, statements: &[RStmt]) -> Result<List<RStmt>, NoMemory>
     ensures { IfOk result (λ it. it ≡ statements.now) }
@@ -191,7 +191,7 @@ pub fn copy_statements(alloc: Global, statements: &[RStmt]) -> Result<List<RStmt
     Ok(all)
 }
 
-/// A copy of a statement.
+/// Returns a copy of a statement.
 #[cycle(copying)]
 pub fn copy_statement(alloc: Global, statement: &RStmt) -> Result<RStmt, NoMemory>
     ensures { IfOk result (λ it. it ≡ statement.now) }
@@ -302,7 +302,7 @@ fn copy_params(alloc: Global, params: &[ParamInfo]) -> Result<List<ParamInfo>, N
     Ok(all)
 }
 
-/// A copy of a procedure.
+/// Returns a copy of a procedure.
 pub fn copy_procedure(alloc: Global, procedure: &ProcInfo) -> Result<ProcInfo, NoMemory>
     ensures { IfOk result (λ it. it ≡ procedure.now) }
 {

@@ -1,4 +1,4 @@
-//! From procedures to graphs.
+//! Compiles procedures to graphs.
 #![tactic(auto)]
 
 pub mod compile;

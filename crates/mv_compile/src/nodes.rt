@@ -14,14 +14,14 @@ use mv_values::list::List;
 use mv_values::memory::NoMemory;
 use std::alloc::Global;
 
-/// How the variables of a procedure are numbered: parameters come first, and `found` is the number of `:found`.
+/// How the variables of a procedure are numbered. Parameters come first, and `found` is the number of `:found`.
 #[derive(Clone, Copy)]
 pub(crate) struct Slots {
     pub params: usize,
     pub found: u16,
 }
 
-/// The node of a statement, without those of what it holds.
+/// Returns the node of a statement, without those of what it holds.
 fn own_node(
     alloc: Global,
     slots: Slots,
@@ -47,7 +47,7 @@ fn own_node(
     })
 }
 
-/// The loops with one more inside them.
+/// Returns the loops with one more inside them.
 fn with_loop(alloc: Global, loops: &List<u16>, number: u16) -> Result<List<u16>, NoMemory>
     ensures { IfOk result (λ all. all ≡ loops.now ++ number ∷ []) }
 {
@@ -56,7 +56,7 @@ fn with_loop(alloc: Global, loops: &List<u16>, number: u16) -> Result<List<u16>,
     Ok(all)
 }
 
-/// Adds the nodes of statements, which `holder` holds inside these loops.
+/// Adds the nodes of statements that `holder` holds inside these loops.
 #[cycle(nodes)]
 pub(crate) fn add_nodes(
     alloc: Global,
@@ -76,7 +76,7 @@ pub(crate) fn add_nodes(
     Ok(())
 }
 
-/// Adds the node of a statement, and behind it those of what it holds.
+/// Adds the node of a statement, then those of what it holds.
 #[cycle(nodes)]
 fn add_node(
     alloc: Global,
@@ -93,7 +93,7 @@ fn add_node(
     add_held(alloc, nodes, slots, statement, loops)
 }
 
-/// Adds the nodes of what a statement holds whose own node is the last one.
+/// Adds the nodes of what a statement holds. Its own node must be the last one.
 #[cycle(nodes)]
 fn add_held(
     alloc: Global,
@@ -117,7 +117,7 @@ fn add_held(
     }
 }
 
-/// Adds the nodes of the statements in a loop whose own node is the last one.
+/// Adds the nodes of the statements in a loop. The loop's own node must be the last one.
 #[cycle(nodes)]
 fn add_turns(
     alloc: Global,

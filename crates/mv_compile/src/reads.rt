@@ -1,4 +1,4 @@
-//! What is known of a statement by itself before it runs.
+//! What is known of a single statement before it runs.
 
 ghost use Rattle.std.specs.Prelude.{◌≡◌, ◌++◌, ◌∷◌, [], ◌==◌, IfOk, OnOk, nat_le, map, option_to_list};
 ghost use Rattle.std.specs.List.{filter, flat_map, list_any};
@@ -66,7 +66,7 @@ fn add_items(found: &mut List<u16>, items: &[RSetItem]) -> Result<(), NoMemory>
     Ok(())
 }
 
-/// The variables in a statement's own expressions, in the order of the text.
+/// Returns the variables in a statement's own expressions, in the order of the text.
 fn variables_in(alloc: Global, statement: &RStmt) -> Result<List<u16>, NoMemory>
     ensures { IfOk result (λ found. found ≡ flat_map variables (expressions (out-RStmt statement.now))) }
 {
@@ -94,7 +94,7 @@ fn variables_in(alloc: Global, statement: &RStmt) -> Result<List<u16>, NoMemory>
 
 // Lists of variables
 
-/// The numbers, each once, where it first stands. It takes time in the square of how many there are.
+/// Returns the numbers without repeats, in the order of their first occurrences. Takes quadratic time.
 fn once_each(alloc: Global, numbers: &[u16]) -> Result<List<u16>, NoMemory>
     ensures { IfOk result (λ all. all ≡ each_once numbers.now) }
 {
@@ -105,7 +105,7 @@ fn once_each(alloc: Global, numbers: &[u16]) -> Result<List<u16>, NoMemory>
     Ok(all)
 }
 
-/// Adds a number that isn't there yet.
+/// Adds a number, unless it is there.
 fn add_new(all: &mut List<u16>, number: u16) -> Result<(), NoMemory>
     ensures { OnOk result (all.new ≡ with_new all.old number) }
 {
@@ -122,14 +122,14 @@ fn has(numbers: &[u16], number: u16) -> bool
     numbers.iter().any(|n| *n == number)
 }
 
-/// Whether a variable is none of the first `params`.
+/// Whether a variable isn't one of the first `params`.
 fn is_behind(params: usize, number: u16) -> bool
     ensures { result ≡ nat_le params number }
 {
     params <= number as usize
 }
 
-/// Those of the numbers that are none of the first `params`.
+/// Returns the numbers that aren't among the first `params` variables.
 fn behind(alloc: Global, params: usize, numbers: &[u16]) -> Result<List<u16>, NoMemory>
     ensures { IfOk result (λ all. all ≡ filter (λ x. nat_le params x) numbers.now) }
 {
@@ -142,7 +142,8 @@ fn behind(alloc: Global, params: usize, numbers: &[u16]) -> Result<List<u16>, No
     Ok(all)
 }
 
-/// The variables that a statement's own expressions read, each once. The first `params` variables are parameters.
+/// Returns the variables that a statement's own expressions read, each once. The first `params` variables are
+/// parameters, which are left out.
 pub(crate) fn reads(alloc: Global, params: usize, statement: &RStmt) -> Result<List<u16>, NoMemory>
     ensures { IfOk result (λ all. all ≡ read_variables params (expressions (out-RStmt statement.now))) }
 {
@@ -151,7 +152,7 @@ pub(crate) fn reads(alloc: Global, params: usize, statement: &RStmt) -> Result<L
     behind(alloc, params, each.as_slice())
 }
 
-/// A list of one variable.
+/// Returns a list of one variable.
 fn one(alloc: Global, variable: u16) -> Result<List<u16>, NoMemory>
     ensures { IfOk result (λ all. all ≡ variable ∷ []) }
 {
@@ -160,7 +161,7 @@ fn one(alloc: Global, variable: u16) -> Result<List<u16>, NoMemory>
     Ok(all)
 }
 
-/// The variables, and `:found`, which has this number.
+/// Adds `:found`, which has this number, to the variables.
 fn with_found(all: List<u16>, found: u16) -> Result<List<u16>, NoMemory>
     ensures { IfOk result (λ new. new ≡ all ++ found ∷ []) }
 {
@@ -169,14 +170,14 @@ fn with_found(all: List<u16>, found: u16) -> Result<List<u16>, NoMemory>
     Ok(new)
 }
 
-/// The variables that a loop may set: its row, and `:found`.
+/// Returns the variables that a loop may set: its row, and `:found`.
 fn set_by_loop(alloc: Global, row: u16, found: u16) -> Result<List<u16>, NoMemory>
     ensures { IfOk result (λ all. all ≡ row ∷ found ∷ []) }
 {
     with_found(one(alloc, row)?, found)
 }
 
-/// The variables that a statement may set. `:found` has this number.
+/// Returns the variables that a statement may set. `found` is the number of `:found`.
 pub(crate) fn sets(alloc: Global, found: u16, statement: &RStmt) -> Result<List<u16>, NoMemory>
     ensures { IfOk result (λ all. all ≡ may_set found (out-RStmt statement.now)) }
 {
@@ -194,7 +195,7 @@ pub(crate) fn sets(alloc: Global, found: u16, statement: &RStmt) -> Result<List<
     }
 }
 
-/// The keyword that a statement begins with.
+/// Returns the keyword that a statement begins with.
 pub(crate) fn keyword(statement: &RStmt) -> Keyword
     ensures { result ≡ keyword_of (out-RStmt statement.now) }
 {
@@ -211,7 +212,7 @@ pub(crate) fn keyword(statement: &RStmt) -> Keyword
     }
 }
 
-/// The table that a statement changes.
+/// Returns the table that a statement changes, if any.
 pub(crate) fn changes(statement: &RStmt) -> Option<u16>
     ensures { result ≡ changed_table (out-RStmt statement.now) }
 {
@@ -223,7 +224,7 @@ pub(crate) fn changes(statement: &RStmt) -> Option<u16>
     }
 }
 
-/// The table of a statement's predicate.
+/// Returns the table of a statement's predicate, if it has one.
 pub(crate) fn asks(statement: &RStmt) -> Option<u16>
     ensures { result ≡ asked_table (out-RStmt statement.now) }
 {

@@ -1,11 +1,11 @@
-//! How many statements there are.
+//! Counts statements.
 
 ghost use Rattle.std.specs.Prelude.{◌≡◌, ◌<◌, ◌^◌, map};
 ghost use Rattle.mv_catalog.specs.Statements.{size, total_size};
 
 use mv_catalog::resolved::RStmt;
 
-/// How many statements these are, with those that they hold.
+/// Counts these statements, nested ones included.
 #[cycle(sizing)]
 pub(crate) fn size_of_all(statements: &[RStmt]) -> u16
     requires { total_size (map size statements.now) < 2 ^ 16 }
@@ -18,7 +18,7 @@ pub(crate) fn size_of_all(statements: &[RStmt]) -> u16
     all
 }
 
-/// How many statements it is, with those that it holds.
+/// Counts a statement and those nested in it.
 #[cycle(sizing)]
 pub(crate) fn size_of(statement: &RStmt) -> u16
     requires { size statement.now < 2 ^ 16 }
