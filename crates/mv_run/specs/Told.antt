@@ -1,4 +1,4 @@
--- What records tell of their call: its reply, and the database after it. This project's own.
+-- What the records of a call yield: its reply, and the database after it. This project's own.
 use Rattle.std.specs.Prelude.{List, [], Option, Some, None}
 use Rattle.mv_values.specs.declared.calls.End.{End}
 use Rattle.mv_values.specs.declared.calls.Reply.{Reply}
@@ -10,7 +10,7 @@ abbrev pub reply_with : Option End → List Record → Reply
 reply_with None rs = record { lines = lines_in rs; end = None }
 reply_with (Some e) rs = record { lines = []; end = Some e }
 
--- the lines of the records, or the end that one has and no lines
+-- the lines of the records. If a record has an end, that end and no lines
 abbrev pub reply_told : List Record → Reply
 reply_told rs = reply_with (end_in rs) rs
 
@@ -18,6 +18,6 @@ abbrev pub tables_with : Option End → List Record → Tables → Tables
 tables_with None rs db = applied (writes_in rs) db
 tables_with (Some e) rs db = db
 
--- the database with their changes, or as before where one has an end
+-- the database with the changes of the records. If a record has an end, the database as before
 abbrev pub tables_told : List Record → Tables → Tables
 tables_told rs db = tables_with (end_in rs) rs db

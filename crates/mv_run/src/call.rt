@@ -1,4 +1,4 @@
-//! One call, executed over the database that those before it left.
+//! Executes one call over the database that the calls before it left.
 
 ghost use Rattle.std.specs.Prelude.{◌≡◌, ◌≤◌, length, IfOk, OnOk};
 ghost use Rattle.std.specs.List.{AllZip};
@@ -17,14 +17,14 @@ use mv_view::plain::Plain;
 use mv_view::view::Refused;
 use std::alloc::Global;
 
-/// What a call came to: its reply, and how many records it left.
+/// The result of a call: its reply, and how many records it left.
 #[derive(Drop)]
 pub(crate) struct Answer {
     pub(crate) reply: Reply,
     pub(crate) count: usize,
 }
 
-/// Executes a call to its end over a database, which stays as it is.
+/// Executes a call to its end over a database, which stays unchanged.
 fn execute(alloc: Global, graph: &Graph, call: &Call, database: &Database) -> Result<Task, NoMemory>
     requires sound { IsSound graph.now }
     requires few { length call.now.arguments ≤ 16 }
@@ -40,8 +40,8 @@ fn execute(alloc: Global, graph: &Graph, call: &Call, database: &Database) -> Re
     }
 }
 
-/// Executes a call over a database, and does there what it changes, which is nothing where the call is rolled back.
-/// Where memory runs out some of its changes may be done.
+/// Executes a call over a database, and applies its changes there. A call that is rolled back changes nothing. If
+/// memory runs out, some of the changes may be applied.
 pub(crate) fn run_call(
     alloc: Global,
     graph: &Graph,

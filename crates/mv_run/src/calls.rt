@@ -1,4 +1,4 @@
-//! The calls of a program, one after another in the order of the script.
+//! Runs the calls of a program in the order of the script.
 
 ghost use Rattle.std.specs.Prelude.{◌≡◌, ◌<◌, length, slice_get, IfOk, OnOk};
 ghost use Rattle.std.specs.Option.{option_copied};
@@ -20,7 +20,7 @@ use mv_values::memory::NoMemory;
 use mv_values::rows::Database;
 use std::alloc::Global;
 
-/// What calls came to that ran one after another: the reply of each, how many records it left, and the last tables.
+/// The result of calls that ran one after another: the reply of each, how many records each left, and the final tables.
 #[derive(Drop)]
 pub struct Ran {
     pub replies: List<Reply>,
@@ -28,21 +28,21 @@ pub struct Ran {
     pub tables: Database,
 }
 
-/// The call of this number.
+/// Returns the call with this number.
 fn call_at(program: &Program, number: usize) -> Option<&Call>
     ensures { option_copied result ≡ slice_get program.now.resolved.calls number }
 {
     program.resolved.calls.as_slice().get(number)
 }
 
-/// The graph of the procedure that a call names.
+/// Returns the graph of the procedure that a call names.
 fn graph_for<'g>(graphs: &'g [Graph], call: &Call) -> Option<&'g Graph>
     ensures { option_copied result ≡ slice_get graphs.now call.now.procedure }
 {
     graphs.get(call.procedure as usize)
 }
 
-/// Runs the call of this number over the database.
+/// Runs the call with this number over the database.
 fn run_number(
     alloc: Global,
     program: &Program,
@@ -68,8 +68,8 @@ fn run_number(
     run_call(alloc, graph, call, database)
 }
 
-/// Runs all calls of a program in the order of the script, each over the database that the one before left. It costs the
-/// calls' work, and for each procedure the square of the number of its statements.
+/// Runs all calls of a program in the order of the script, each over the database that the one before left. Costs the
+/// work of the calls and, for each procedure, the square of the number of its statements.
 pub fn run_calls(alloc: Global, program: &Program) -> Result<Ran, NoMemory>
     requires whole { IsProgram program.now }
     ensures tables { IfOk result (λ ran. ran.tables ≡ table_after program.now (call_order program.now) (length program.now.resolved.calls)) }

@@ -1,4 +1,4 @@
-//! Calls run one after another, each executed over the database that the one before left.
+//! Runs calls one after another, each over the database that the one before left.
 #![tactic(auto)]
 
 mod call;

@@ -1,4 +1,4 @@
-//! What the records of a call tell: its reply, and what it changes.
+//! What the records of a call yield: its reply and its changes.
 
 ghost use Rattle.std.specs.Prelude.{◌≡◌, IfOk, OnOk};
 ghost use Rattle.std.specs.Option.{option_copied};
@@ -16,7 +16,7 @@ use mv_values::rows::Database;
 use mv_values::txt::Txt;
 use std::alloc::Global;
 
-/// The first end that a record has.
+/// Returns the first end that a record has.
 fn end_of(records: &[Record]) -> Option<&End>
     ensures { option_copied result ≡ end_in records.now }
 {
@@ -28,7 +28,7 @@ fn end_of(records: &[Record]) -> Option<&End>
     None
 }
 
-/// Copies of the lines of records.
+/// Returns copies of the lines of records.
 fn lines_of(alloc: Global, records: &[Record]) -> Result<List<Txt>, NoMemory>
     ensures { IfOk result (λ lines. lines ≡ lines_in records.now) }
 {
@@ -41,7 +41,7 @@ fn lines_of(alloc: Global, records: &[Record]) -> Result<List<Txt>, NoMemory>
     Ok(lines)
 }
 
-/// The reply of a call with these records: their lines, or its end alone.
+/// Returns the reply of a call with these records: their lines, or only its end.
 pub(crate) fn reply_of(alloc: Global, records: &[Record]) -> Result<Reply, NoMemory>
     ensures { IfOk result (λ reply. reply ≡ reply_told records.now) }
 {
@@ -57,7 +57,7 @@ pub(crate) fn reply_of(alloc: Global, records: &[Record]) -> Result<Reply, NoMem
     }
 }
 
-/// Does the writes of records, one record after another.
+/// Applies the writes of records, one record after another.
 fn apply_records(alloc: Global, database: &mut Database, records: &[Record]) -> Result<(), NoMemory>
     ensures { OnOk result (database.new ≡ applied (writes_in records.now) database.old) }
 {
@@ -67,8 +67,8 @@ fn apply_records(alloc: Global, database: &mut Database, records: &[Record]) -> 
     Ok(())
 }
 
-/// Does what a call with these records changes: their writes, or nothing where one of them has an end. Where memory
-/// runs out some of the writes are done.
+/// Applies the changes of a call with these records: their writes, or nothing if one of them has an end. If memory runs
+/// out, some of the writes may be applied.
 pub(crate) fn commit(
     alloc: Global,
     database: &mut Database,
