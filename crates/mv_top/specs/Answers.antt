@@ -1,4 +1,4 @@
--- What is answered to a command and its input, and what is written then.
+-- The answer to a command and its input, and what is written of it.
 use Rattle.std.specs.Prelude.{◌≡◌, ◌⊎◌, ℕ, List, [], ◌∷◌, ◌++◌, Option, Some, None, String, string_bytes, codes, map}
 use Rattle.std.specs.Option.{ForSome}
 use Rattle.std.specs.declared.alloc.Global.{Global}
@@ -17,8 +17,8 @@ use Rattle.mv_top.specs.declared.status.Status.TheVariants.{Done, Refused, Usage
 use Rattle.mv_top.specs.declared.status.Fault.{Fault}
 use Rattle.mv_top.specs.declared.status.Fault.TheVariants as fault
 
--- the command may write this text for the program: that of a run by one worker, of the calls alone in call order, or of the graphs of
--- the procedures
+-- the command may write this text for the program: that of a run by one worker, of the calls alone in call order, or of
+-- the graphs of the procedures
 abbrev pub IsTextOf : Command → Program → List ℕ → Type 0
 IsTextOf Run program answer = answer ≡ text program (in_turn program)
 IsTextOf Serial program answer = answer ≡ serial program
@@ -28,11 +28,11 @@ IsTextOf Graph program answer = answer ≡ graphs program
 abbrev pub IsTextFor : Command → List ℕ → List ℕ → Type 0
 IsTextFor command bytes answer = (program : Program) × Accepts bytes program × IsTextOf command program answer
 
--- the command gives the bytes this refusal; those of the script are the same for each command
+-- the command refuses the bytes with this refusal. Refusals of the script are the same for every command
 abbrev pub IsRefusedBy : Command → List ℕ → Refusal → Type 0
 IsRefusedBy command bytes refusal = Refuses bytes refusal
 
--- the number and the line of a refusal that the command gives these bytes
+-- the number and the line of a refusal with which the command refuses these bytes
 abbrev pub IsRefusal : Command → List ℕ → ℕ → List ℕ → Type 0
 IsRefusal command bytes number what = (refusal : Refusal) × IsRefusedBy command bytes refusal × (number ≡ number_of refusal) × (what ≡ line_of refusal)
 
@@ -41,26 +41,26 @@ abbrev pub HasCause : Command → List ℕ → Fault → Type 0
 HasCause command bytes (fault.Refused number line) = IsRefusal command bytes number line
 HasCause command bytes fault.NoMemory = Unit {0}
 
--- the fault has the number and the line of the refusal, unless no memory was found
+-- the fault has the number and the line of the refusal, unless memory ran out
 abbrev pub IsToldBy : Refusal → Fault → Type 0
 IsToldBy refusal (fault.Refused number line) = (number ≡ number_of refusal) × (line ≡ line_of refusal)
 IsToldBy refusal fault.NoMemory = Unit {0}
 
--- the command line's words
+-- the words of the command line
 abbrev pub words_of : List (String Global) → List (List ℕ)
 words_of words = map string_bytes words
 
--- the one word of a command
+-- the word of a command
 abbrev pub name_of : Command → List ℕ
 name_of Run = codes "run"
 name_of Serial = codes "serial"
 name_of Graph = codes "graph"
 
--- the words of a command line stand for this command
+-- the words of a command line name this command
 abbrev pub StandFor : List (List ℕ) → Command → Type 0
 StandFor words command = words ≡ name_of command ∷ []
 
--- words that stand for no command
+-- the words name no command
 abbrev pub IsNoCommand : List (List ℕ) → Type 0
 IsNoCommand words = (command : Command) → StandFor words command → ⊥
 
@@ -70,13 +70,13 @@ usage_line = codes "usage: mv3c run|replay|serial|graph|tpcc [options]"
 abbrev pub line : List ℕ → List ℕ
 line bytes = bytes ++ 10 ∷ []
 
--- what is answered to these words and these bytes, where the source tells them: the status, and what is written
+-- the answer to these words and to these bytes, if the source's bytes are known: the status, and what is written
 pub data IsAnswer (words : List (List ℕ)) (left : Option (List ℕ)) : Status → List ℕ → Type 0 where
   usage : IsNoCommand words → IsAnswer words left Usage (line usage_line)
   refused : (command : Command) (number : ℕ) (what : List ℕ) → StandFor words command → ForSome left (λ all. IsRefusal command all number what) → IsAnswer words left Refused (line what)
   done : (command : Command) (answer : List ℕ) → StandFor words command → ForSome left (λ all. IsTextFor command all answer) → IsAnswer words left Done answer
 
--- the answer of a command to the bytes that were read: the status, and what is to be written
+-- the answer of a command to the bytes that were read: the status, and the text to write
 abbrev pub IsAnswered : Command → List ℕ → Status → List ℕ → Type 0
 IsAnswered command bytes Done answer = IsTextFor command bytes answer
 IsAnswered command bytes Refused answer = (number : ℕ) × (what : List ℕ) × IsRefusal command bytes number what × (answer ≡ line what)
@@ -85,12 +85,13 @@ IsAnswered command bytes NoMemory answer = ⊥
 IsAnswered command bytes ReadFault answer = ⊥
 IsAnswered command bytes WriteFault answer = ⊥
 
--- an answer was written with its status and no fault, or a proper front of it and the sink's count of faults rose
+-- the answer was written with its status and no fault, or a proper prefix of it was written and the sink's count of
+-- faults rose
 abbrev pub Puts : Option (List ℕ) → Option (List ℕ) → ℕ → ℕ → Status → List ℕ → Status → Type 0
 Puts old new faults_old faults_new status answer result =
     ((result ≡ status) × Writes old new answer × (faults_new ≡ faults_old)) ⊎ ((result ≡ WriteFault) × WritesFront old new answer × Rose faults_old faults_new)
 
--- what was written: the answer, nothing, or a proper front of the answer
+-- what was written: the answer, nothing, or a proper prefix of the answer
 abbrev pub Wrote : List (List ℕ) → Option (List ℕ) → Option (List ℕ) → Option (List ℕ) → Status → Type 0
 Wrote words left old new Done = (answer : List ℕ) × IsAnswer words left Done answer × Writes old new answer
 Wrote words left old new Refused = (answer : List ℕ) × IsAnswer words left Refused answer × Writes old new answer
@@ -99,11 +100,11 @@ Wrote words left old new NoMemory = new ≡ old
 Wrote words left old new ReadFault = new ≡ old
 Wrote words left old new WriteFault = (status : Status) × (answer : List ℕ) × IsAnswer words left status answer × WritesFront old new answer
 
--- memory was not found, or such an answer was written with this status
+-- memory ran out and nothing was written, or such an answer was written with this status
 abbrev pub WroteOr : Status → (List ℕ → Type 0) → Option (List ℕ) → Option (List ℕ) → Status → Type 0
 WroteOr status IsWanted old new result = ((result ≡ NoMemory) × (new ≡ old)) ⊎ ((result ≡ status) × (answer : List ℕ) × IsWanted answer × Writes old new answer)
 
--- the number of a status, with which the program ends
+-- the number of a status, which is the exit status of the program
 abbrev pub code_of : Status → ℕ
 code_of Done = 0
 code_of Refused = 1

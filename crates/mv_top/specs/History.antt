@@ -1,4 +1,4 @@
--- What a journal of begins and commits comes to, and its text. A call runs once, at its start, and its reply is the one
+-- The outcome of a journal of begins and commits, and its text. A call runs once, at its start. Its reply is the one
 -- that it gives alone after the calls that committed before it.
 use Rattle.std.specs.Prelude.{ℕ, ◌+◌, ◌==◌, List, [], ◌∷◌, Option, Some, map, length, if◌then◌else◌}
 use Rattle.std.specs.List.{flat_map}
@@ -20,7 +20,7 @@ commits [] = []
 commits (C c ∷ es) = c ∷ commits es
 commits (e ∷ es) = commits es
 
--- how many commits come before the call's begin, where n came before these events
+-- how many commits precede the call's begin, if n precede these events
 abbrev pub start_after : ℕ → List Event → ℕ → ℕ
 start_after n [] c = n
 start_after n (B d ∷ es) c = if d == c then n else start_after n es c
@@ -31,7 +31,7 @@ start_after n (e ∷ es) c = start_after n es c
 abbrev pub start_of : List Event → ℕ → ℕ
 start_of = start_after 0
 
--- the number of the call's commit, where n came before these events
+-- the number of the call's commit, if n commits precede these events
 abbrev pub commit_after : ℕ → List Event → ℕ → ℕ
 commit_after n [] c = n
 commit_after n (C d ∷ es) c = if d == c then n + 1 else commit_after (n + 1) es c
@@ -41,14 +41,14 @@ commit_after n (e ∷ es) c = commit_after n es c
 abbrev pub commit_of : List Event → ℕ → ℕ
 commit_of = commit_after 0
 
--- a call's one round: as many records as a full run of the call leaves on the database at its start
+-- a call's only round: it executes as many records as a full run of the call leaves on the database at its start
 abbrev pub round_of : Program → List Event → ℕ → Round
 round_of p j c = record { start = start_of j c; count = Some (length (records p c (table_after p (commits j) (start_of j c)))); mark = Plain }
 
 abbrev pub history_line : Program → List Event → ℕ → HistoryLine
 history_line p j c = record { call = c; rounds = round_of p j c ∷ [] }
 
--- the replies by call number, the commits, the events and the last tables
+-- the outcome of a run: the replies by call number, the commits, the events and the final tables
 abbrev pub outcome_of : Program → List Event → Outcome
 outcome_of p j = record {
   replies = map (λ c. reply_of p (commits j) (commit_of j c)) (call_order p);

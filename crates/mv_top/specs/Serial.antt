@@ -9,6 +9,6 @@ use Rattle.mv_report.specs.Serial.{serial_text}
 abbrev pub serial_replies : Program → List Reply
 serial_replies p = map (λ c. reply_of p (call_order p) (suc c)) (call_order p)
 
--- the replies, and the tables after the last call
+-- the text of the replies, and of the tables after the last call
 abbrev pub serial : Program → List ℕ
 serial p = serial_text p.resolved.tables (serial_replies p) (table_after p (call_order p) (length p.resolved.calls))

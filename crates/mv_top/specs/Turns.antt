@@ -1,9 +1,9 @@
--- What one worker writes down, call by call.
+-- The history of one worker, call by call.
 use Rattle.std.specs.Prelude.{ℕ, zero, suc, List, [], ◌∷◌, ◌++◌, Some, slice_index}
 use Rattle.mv_journal.specs.declared.outcome.Mark.TheVariants.{Plain}
 use Rattle.mv_journal.specs.declared.outcome.HistoryLine.{HistoryLine}
 
--- a call's line: it began after as many commits as its number, and its one round executed so many records
+-- a call's line: it began after as many commits as its number, and its only round executed so many records
 abbrev pub turn_line : ℕ → ℕ → HistoryLine
 turn_line call count = record { call = call; rounds = record { start = call; count = Some count; mark = Plain } ∷ [] }
 

@@ -22,7 +22,8 @@ use std::alloc::Global;
 use std::sync::Wait;
 use std::thread::Threads;
 
-/// The text that is written for a command and its input. `Refused` has the number and the line of the refusal.
+/// Returns the text to write for a command and its input. Fails with `Refused`, which has the number and the line of
+/// the refusal, if the input is refused, and with `NoMemory` if memory runs out.
 pub fn answer<R: Threads + Wait + Sync, P: Pace>(
     _rt: &R,
     alloc: Global,
@@ -34,7 +35,7 @@ pub fn answer<R: Threads + Wait + Sync, P: Pace>(
     // An accepted script gets a text of the command.
     ensures only { (program : Program) → Accepts bytes.now program → MatchResult result (IsTextOf command.now program) (λ fault. fault ≡ Fault.NoMemory) }
     ensures refused { IfErr result (HasCause command.now bytes.now) }
-    // A refusal that has its cause in the command and the bytes is answered.
+    // A refusal that has its cause in the command and the bytes is returned, unless memory runs out.
     ensures told { (refusal : Why) → IsRefusedBy command.now bytes.now refusal → MatchResult result (λ answer. ⊥) (IsToldBy refusal) }
 {
     match accept(alloc, bytes) {
@@ -44,7 +45,7 @@ pub fn answer<R: Threads + Wait + Sync, P: Pace>(
     }
 }
 
-/// A text of the command for a program.
+/// Returns a text of the command for a program.
 fn text_of(alloc: Global, command: &Command, program: &Program) -> Result<List<u8>, NoMemory>
     requires whole { IsProgram program.now }
     requires few { length program.now.resolved.calls ≤ most_calls }
@@ -60,7 +61,7 @@ fn text_of(alloc: Global, command: &Command, program: &Program) -> Result<List<u
     }
 }
 
-/// What is answered to an input that is refused.
+/// Returns the fault for a refusal.
 fn refused(alloc: Global, refusal: &Refusal) -> Fault
     ensures { IsToldBy refusal.now result }
 {

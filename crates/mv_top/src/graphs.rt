@@ -11,8 +11,8 @@ use mv_values::list::List;
 use mv_values::memory::NoMemory;
 use std::alloc::Global;
 
-/// Which statements each statement of a program may depend on. It takes time in the square of the number of a
-/// procedure's statements.
+/// Returns the text of which statements each statement of a program may depend on. Takes time quadratic in the number
+/// of a procedure's statements.
 pub(crate) fn graph_text(alloc: Global, program: &Program) -> Result<List<u8>, NoMemory>
     requires whole { IsProgram program.now }
     ensures { IfOk result (λ text. text ≡ graphs program.now) }

@@ -1,4 +1,4 @@
-//! The calls of a program alone, in call order.
+//! Runs the calls of a program alone, in call order.
 
 ghost use Rattle.std.specs.Prelude.{◌≡◌, ◌≤◌, length, IfOk};
 ghost use Rattle.mv_accept.specs.Accepting.{most_calls};
@@ -13,7 +13,7 @@ use mv_values::list::List;
 use mv_values::memory::NoMemory;
 use std::alloc::Global;
 
-/// The numbers below this one, in order.
+/// Returns the numbers below this one, in order.
 fn numbers_below(alloc: Global, count: u32) -> Result<List<u32>, NoMemory>
     ensures { IfOk result (λ numbers. numbers ≡ first_numbers count) }
 {
@@ -24,8 +24,8 @@ fn numbers_below(alloc: Global, count: u32) -> Result<List<u32>, NoMemory>
     Ok(numbers)
 }
 
-/// The replies of the calls of a program, each run alone behind those before it, and the last tables. It costs the
-/// calls' work.
+/// Runs each call of a program alone, after those before it, and returns the text of the replies and the final tables.
+/// Costs the work of the calls.
 pub(crate) fn serial_text(alloc: Global, program: &Program) -> Result<List<u8>, NoMemory>
     requires whole { IsProgram program.now }
     requires few { length program.now.resolved.calls ≤ most_calls }

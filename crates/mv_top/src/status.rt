@@ -1,4 +1,4 @@
-//! How a call of the program ends.
+//! How a run of the program ends.
 
 ghost use Rattle.std.specs.Prelude.{◌≡◌};
 ghost use Rattle.mv_top.specs.Answers.{code_of};
@@ -6,25 +6,25 @@ ghost use Rattle.mv_top.specs.Answers.{code_of};
 use mv_values::memory::NoMemory;
 use mv_values::txt::Txt;
 
-/// What the program ends with. Its number is the exit status.
+/// How the program ends. The number is the exit status.
 #[derive(Clone, Copy, PartialEq, Eq)]
 pub enum Status {
     /// The answer was written.
     Done = 0,
     /// The input was refused, and the refusal's line was written.
     Refused = 1,
-    /// The words are no command, and the usage line was written.
+    /// The words name no command, and the usage line was written.
     Usage = 2,
-    /// No memory was found, and nothing was written.
+    /// Memory ran out, and nothing was written.
     NoMemory = 3,
     /// The source failed, and nothing was written.
     ReadFault = 4,
-    /// The sink failed, and a proper front of the answer was written.
+    /// The sink failed, and a proper prefix of the answer was written.
     WriteFault = 5,
 }
 
 impl Status {
-    /// The exit status of the program, from 0 to 5.
+    /// Returns the exit status of the program, from 0 to 5.
     pub fn code(self) -> u8
         ensures { result ≡ code_of self }
     {
@@ -37,13 +37,13 @@ impl Status {
 pub enum Command {
     /// Runs the calls of a script, and writes their history.
     Run,
-    /// Runs each call alone behind those before it, by the machine that says what calls mean.
+    /// Runs each call alone, after those before it, by the machine that defines what calls mean.
     Serial,
     /// Runs nothing, and writes which statements of a procedure may depend on which.
     Graph,
 }
 
-/// Why there is no answer: the input is refused, with the refusal's number and line, or no memory was found.
+/// Why there is no answer: the input is refused, with the refusal's number and line, or memory ran out.
 #[derive(Drop)]
 pub enum Fault {
     Refused { number: u32, line: Txt },

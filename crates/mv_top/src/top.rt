@@ -24,8 +24,8 @@ use std::thread::Threads;
 
 const USAGE_LINE: &[u8] = b"usage: mv3c run|replay|serial|graph|tpcc [options]\n";
 
-/// Answers the words of a command line: reads the source to its end, or to byte 16,777,217, and writes the answer to
-/// the sink. The whole answer is made before the first write.
+/// Answers the words of a command line. Reads the source to its end, or to byte 16,777,217, and writes the answer to
+/// the sink. The whole answer is built before the first write.
 pub fn top<R: Threads + Wait + Sync, S: Source, K: Sink, P: Pace>(
     rt: &R,
     alloc: Global,
@@ -36,13 +36,13 @@ pub fn top<R: Threads + Wait + Sync, S: Source, K: Sink, P: Pace>(
 ) -> Status
     // What was written, for each status: Done has a text of the command, Refused and Usage their line.
     ensures wrote { Wrote (words_of words.now) (S.left source.old) (K.written sink.old) (K.written sink.new) result }
-    // Words that stand for no command are refused as such, and the source isn't read.
+    // Words that name no command get the usage line, and the source isn't read.
     ensures words { IsNoCommand (words_of words.now) → (result ≡ Status.Usage) ⊎ (result ≡ Status.WriteFault) }
     ensures unread { IsNoCommand (words_of words.now) → S.left source.new ≡ S.left source.old }
-    // A command reads the source as far as inputs are taken, and no byte more.
+    // A command reads the source to its end or to byte 16,777,217, and no byte more.
     ensures rest { (command : Task) → StandFor (words_of words.now) command → (result ≡ Status.ReadFault → ⊥) → (result ≡ Status.NoMemory → ⊥)
         → ForSome (S.left source.old) (λ all. S.left source.new ≡ Some (drop MOST all)) }
-    // A count of faults rises exactly where the status tells so.
+    // A count of faults rises exactly if the status says so.
     ensures reading { result ≡ Status.ReadFault → Rose (S.faults source.old) (S.faults source.new) }
     ensures read { (result ≡ Status.ReadFault → ⊥) → S.faults source.new ≡ S.faults source.old }
     ensures writing { result ≡ Status.WriteFault → Rose (K.faults sink.old) (K.faults sink.new) }
@@ -51,7 +51,8 @@ pub fn top<R: Threads + Wait + Sync, S: Source, K: Sink, P: Pace>(
     ensures complete { (command : Task) (all : Seq ℕ) (program : Program) → StandFor (words_of words.now) command → S.left source.old ≡ Some all → Accepts all program
         → (Rose (S.faults source.old) (S.faults source.new) → ⊥) → (Rose (K.faults sink.old) (K.faults sink.new) → ⊥)
         → WroteOr Status.Done (IsTextOf command program) (K.written sink.old) (K.written sink.new) result }
-    // An input with the cause of a refusal gets its line, unless the source or the sink fails or memory runs out.
+    // An input with the cause of a refusal gets the refusal's line, unless the source or the sink fails or memory runs
+    // out.
     ensures refuses { (command : Task) (all : Seq ℕ) (refusal : Why) → StandFor (words_of words.now) command → S.left source.old ≡ Some all → IsRefusedBy command all refusal
         → (Rose (S.faults source.old) (S.faults source.new) → ⊥) → (Rose (K.faults sink.old) (K.faults sink.new) → ⊥)
         → WroteOr Status.Refused (λ answer. answer ≡ line (line_of refusal)) (K.written sink.old) (K.written sink.new) result }
@@ -70,7 +71,7 @@ pub fn top<R: Threads + Wait + Sync, S: Source, K: Sink, P: Pace>(
     }
 }
 
-/// The command that the words stand for.
+/// Returns the command that the words name.
 fn command_of(words: &[String]) -> Option<Command>
     ensures found { IfSome result (StandFor (words_of words.now)) }
     ensures none { IfNone result (IsNoCommand (words_of words.now)) }
@@ -81,7 +82,7 @@ fn command_of(words: &[String]) -> Option<Command>
     }
 }
 
-/// The command of this name.
+/// Returns the command with this name.
 fn command_named(word: &String) -> Option<Command>
     ensures found { IfSome result (λ command. string_bytes word.now ≡ name_of command) }
     ensures none { IfNone result ((command : Task) → string_bytes word.now ≡ name_of command → ⊥) }
@@ -104,7 +105,7 @@ fn is_word(word: &String, text: &str) -> bool
     word.as_str() == text
 }
 
-/// The status for the bytes, and what is to be written.
+/// Returns the status for the bytes, and the text to write.
 fn answered<R: Threads + Wait + Sync, P: Pace>(
     rt: &R,
     alloc: Global,
@@ -123,7 +124,7 @@ fn answered<R: Threads + Wait + Sync, P: Pace>(
     }
 }
 
-/// A line with its end.
+/// Returns a line with its LF.
 fn ended(alloc: Global, bytes: &[u8]) -> Result<List<u8>, NoMemory>
     ensures { IfOk result (λ text. text ≡ line bytes.now) }
 {
@@ -133,7 +134,7 @@ fn ended(alloc: Global, bytes: &[u8]) -> Result<List<u8>, NoMemory>
     Ok(text)
 }
 
-/// Writes a text, and answers its status where all of it was taken.
+/// Writes a text. Returns `status` if the whole text was written, and `WriteFault` otherwise.
 fn put<K: Sink>(sink: &mut K, status: Status, text: &[u8]) -> Status
     ensures { Puts (K.written sink.old) (K.written sink.new) (K.faults sink.old) (K.faults sink.new) status text.now result }
 {

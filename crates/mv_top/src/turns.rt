@@ -16,7 +16,7 @@ use mv_values::list::List;
 use mv_values::memory::NoMemory;
 use std::alloc::Global;
 
-/// The line of a call in the history.
+/// Returns the history line of a call.
 fn line_of(alloc: Global, call: u32, count: usize) -> Result<HistoryLine, NoMemory>
     ensures { IfOk result (λ l. l ≡ turn_line call count) }
 {
@@ -51,8 +51,8 @@ fn journal_of(alloc: Global, calls: u32) -> Result<List<Event>, NoMemory>
     Ok(journal)
 }
 
-/// What the calls of a program come to, each executed over the database that the one before left, in the order of the
-/// script. It costs the calls' work, and for each procedure the square of the number of its statements.
+/// Returns the outcome of the calls of a program in the order of the script, each executed over the database that the
+/// one before left. Costs the work of the calls and, for each procedure, the square of the number of its statements.
 pub(crate) fn run_in_turn(alloc: Global, program: &Program) -> Result<Outcome, NoMemory>
     requires whole { IsProgram program.now }
     requires few { length program.now.resolved.calls ≤ most_calls }
