@@ -1,4 +1,4 @@
-//! Whole runs of the commands over scripts of accounts, refusals, wrong words, and a source or a sink that fails.
+//! Whole runs of the commands: scripts of accounts, refusals, wrong words, and sources and sinks that fail.
 
 use crate::whole::{SOUND, answers, joined, refuses, runs};
 use mv_top::status::Status;
@@ -33,10 +33,11 @@ CREATE PROCEDURE tell () DECLARE :b = 0; DECLARE :x = 0; DECLARE :z = 0; BEGIN
   SELECT bal INTO :z FROM acc WHERE id = 2;  PRINT :x;  PRINT :z;  END;
 ";
 
-/// The text of the accounts before any call, and the end.
+/// The text of the accounts before any call, and the end line.
 const OPENING: &str = "table acc\n0,0,\n1,100,\n2,100,\n3,100,\n4,100,\nend\n";
 
-/// What a case shows, its calls, and its text: their replies, the history, the journal, and the accounts with the end.
+/// What a case shows, its calls, and the parts of its text: the replies, the history, the journal, and the accounts
+/// with the end line.
 type Run = [&'static str; 6];
 
 const RUNS: &[Run] = &[
@@ -154,7 +155,7 @@ fn runs_of_small_scripts_give_their_text(rt: HostRuntime) -> Result<(), Fail> {
     Ok(())
 }
 
-/// Calls, their replies, and the rows of the accounts.
+/// Calls, their replies, and the rows of the accounts after them.
 const SERIALS: &[(&str, &str, &str)] = &[
     (
         "CALL add(1, 5); CALL add(1, 7);",
@@ -279,7 +280,7 @@ fn statements_and_what_they_depend_on(rt: HostRuntime) -> Result<(), Fail> {
     answers(&rt, rt.alloc(), "graph", input.as_str(), GRAPHS)
 }
 
-/// A part of what a thousand calls are answered with.
+/// A part of the answer to a thousand calls.
 enum Part {
     Replies,
     History,
@@ -347,7 +348,7 @@ fn words_that_are_no_command(rt: HostRuntime) -> Result<(), Fail> {
     Ok(())
 }
 
-/// The reads that fail and the room of the sink, and the status and what is written.
+/// The reads that fail and the room of the sink, then the status and what is written.
 type Faulty = ((&'static [u64], usize), (Status, &'static str));
 
 const FAULTY: &[Faulty] = &[
@@ -466,7 +467,7 @@ fn refusals_name_their_place(rt: HostRuntime) -> Result<(), Fail> {
     Ok(())
 }
 
-/// A part that stands so often between two texts.
+/// Returns a part, repeated this often, between two texts.
 fn repeated(
     alloc: Global,
     front: &str,
@@ -482,7 +483,7 @@ fn repeated(
     Ok(text)
 }
 
-/// What stands in front, what stands there again and again, how often, what stands behind, and the line.
+/// The text before the part, the part, how often it is repeated, the text after it, and the line of the refusal.
 type Limit = (&'static str, &'static str, u32, &'static str, &'static str);
 
 const LIMITS: &[Limit] = &[
@@ -538,7 +539,7 @@ fn refusals_at_a_limit_and_past_it(rt: HostRuntime) -> Result<(), Fail> {
     Ok(())
 }
 
-/// So many blanks as an input may have, and more.
+/// Returns as many blanks as an input may have, then more bytes.
 fn blanks(alloc: Global, more: &[u8]) -> Result<List<u8>, Fail> {
     let mut input = List::new(alloc);
     for _ in 0..4096 {

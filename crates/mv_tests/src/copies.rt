@@ -1,4 +1,5 @@
-//! Blocks of CSV, and rows of VALUES, with the tables that they fill or the line of their first fault, worked out by hand.
+//! Blocks of CSV and rows of VALUES, with the tables that they fill or the line of their first fault, worked out by
+//! hand.
 
 use crate::whole::{answers, joined, refuses};
 use std::alloc::Global;
@@ -6,7 +7,7 @@ use std::sync::Wait;
 use std::test::Fail;
 use std::thread::Threads;
 
-/// Has a script be answered by `serial` with this text, or refused with this line.
+/// Checks that `serial` answers a script with this text, or refuses it with this line.
 fn check<R: Threads + Wait + Sync>(
     rt: &R,
     alloc: Global,
@@ -20,7 +21,7 @@ fn check<R: Threads + Wait + Sync>(
     }
 }
 
-/// Blocks for a table in which the keys 5 and 6 are.
+/// Blocks for a table that has the keys 5 and 6.
 const BLOCKS: &[(&str, &str)] = &[
     ("", "table t\n5,0,\n6,0,\nend\n"),
     ("7,5,x\n8,1,y\n", "table t\n5,0,\n6,0,\n7,5,x\n8,1,y\nend\n"),

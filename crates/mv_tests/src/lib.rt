@@ -1,4 +1,4 @@
-//! Tests of whole scripts, which go through all crates, by public calls alone. The crate has nothing else.
+//! Tests of whole scripts. They go through all crates, by public calls alone. The crate has nothing else.
 #![tactic(auto)]
 
 #[cfg(test)]

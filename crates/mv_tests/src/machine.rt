@@ -1,5 +1,5 @@
-//! Short procedures on one table, with what they print and leave, worked out by hand from the rules of the language. Each
-//! is run by `serial` and by `run`.
+//! Short procedures on one table, with what they print and leave, worked out by hand from the rules of the language.
+//! Both `serial` and `run` execute each.
 
 use crate::whole::{answers, joined};
 use std::alloc::Global;
@@ -7,13 +7,13 @@ use std::sync::Wait;
 use std::test::Fail;
 use std::thread::Threads;
 
-/// What stands before the statements of a case.
+/// The text before the statements of a case.
 const FRONT: &str = "CREATE TABLE t (g INT, k INT, x TEXT(3), PRIMARY KEY (g, k))
   VALUES (2, 5, 'a'), (1, 7, 'a'), (3, 1, 'c'), (1, 5, 'b');
 CREATE PROCEDURE p (:rows ROWS (a INT, b INT)) DECLARE :n = 7; DECLARE :s = 'q'; BEGIN
 ";
 
-/// What stands behind them.
+/// The text after them.
 const BACK: &str = "
 END;
 CALL p(ROWS ((9, 1), (4, 2)));
@@ -24,12 +24,12 @@ const START: &str = "1,5,b\n1,7,a\n2,5,a\n3,1,c\n";
 
 const SHOW: &str = "PRINT :n, :s, :found;";
 
-/// The history and the journal of one call that leaves so many records.
+/// Returns the history and the journal of one call that leaves so many records.
 fn history(alloc: Global, records: u32) -> Result<String, Fail> {
     Ok(format!(in alloc; "history\n1 0 starts 0 runs {records}\njournal\nB 0\nC 0\n")?)
 }
 
-/// Has a script of one call answer this reply by a command, with this history before the table, and leave it these rows.
+/// Checks that a command answers a script of one call with this reply, this history before the table, and these rows.
 fn check_by<R: Threads + Wait + Sync>(
     rt: &R,
     alloc: Global,
@@ -44,7 +44,7 @@ fn check_by<R: Threads + Wait + Sync>(
     answers(rt, alloc, command, script, want.as_str())
 }
 
-/// The same by `run`, where the call leaves so many records.
+/// The same by `run`, for a call that leaves so many records.
 fn check_run<R: Threads + Wait + Sync>(
     rt: &R,
     alloc: Global,
@@ -62,7 +62,8 @@ fn script(alloc: Global, statements: &[&str]) -> Result<String, Fail> {
     joined(alloc, &[FRONT, statements.as_str(), BACK])
 }
 
-/// Has these statements, in parts, answer this reply by both commands, leave so many records and the table these rows.
+/// Checks that both commands answer these statements, given in parts, with this reply and these rows, and that they
+/// leave so many records.
 fn check<R: Threads + Wait + Sync>(
     rt: &R,
     alloc: Global,
@@ -154,7 +155,7 @@ fn expressions_have_their_values(rt: HostRuntime) -> Result<(), Fail> {
     Ok(())
 }
 
-/// Statements, with the reply and how many records they leave, that of the PRINT behind them counted. The rows stay.
+/// Statements, their reply, and how many records they leave, with that of the PRINT after them. The rows don't change.
 const LOOKS: &[(&str, &str, u32)] = &[
     (
         "SELECT k, x INTO :n, :s FROM t WHERE g = 1 AND k = 5;",
@@ -309,7 +310,7 @@ fn statements_look_at_rows(rt: HostRuntime) -> Result<(), Fail> {
     Ok(())
 }
 
-/// The same with the rows, where they change.
+/// The same, with the rows if they change.
 type Stated = (&'static str, &'static str, u32, Option<&'static str>);
 
 const STATEMENTS: &[Stated] = &[
@@ -449,7 +450,7 @@ const STATEMENTS: &[Stated] = &[
         4,
         None,
     ),
-    // What a call wrote itself is seen by what comes after it.
+    // Later statements see what a call wrote itself.
     (
         "UPDATE t SET x = 'm' WHERE g = 1 AND k = 5; DELETE FROM t WHERE x = 'm'; SELECT x INTO :s FROM t WHERE g = 1;",
         "done\n7,'a',1",

@@ -1,4 +1,4 @@
-//! The records of calls, worked out by hand from the rules of the language: executed, adopted, and both in turn.
+//! The records of calls that are executed, adopted, or both in turn, worked out by hand from the rules of the language.
 
 ghost use Rattle.std.specs.Prelude.{IfOk, All};
 ghost use Rattle.mv_alone.specs.TableAfter.{Tables};
@@ -28,22 +28,22 @@ use std::alloc::Global;
 use std::slice;
 use std::test::Fail;
 
-/// What stands before the statements of a case. The variables have the numbers 0 for `:rows`, 1 for `:n`, 2 for `:s`, 3 for
-/// `:found`, and from 4 on those of the loops.
+/// The text before the statements of a case. The variables have the numbers 0 for `:rows`, 1 for `:n`, 2 for `:s`, 3
+/// for `:found`, and from 4 on those of the loops.
 const FRONT: &str = "CREATE TABLE t (id INT, n INT, x TEXT(3), PRIMARY KEY (id))
   VALUES (1, 5, 'b'), (2, 7, 'a'), (3, 5, 'a'), (4, 1, 'c');
 CREATE PROCEDURE p (:rows ROWS (a INT, b INT)) DECLARE :n = 7; DECLARE :s = 'q'; BEGIN
 ";
 
-/// What stands behind them.
+/// The text after them.
 const BACK: &str = "
 END;
 CALL p(ROWS ((9, 1), (4, 2)));
 ";
 
-/// Statements, and the records that they leave: the number of the statement with the turns around it, the record that
-/// holds it, each variable that it reads with the record that set it, how many predicates it has, what it sets, the rows
-/// of a FOR, its writes, its line and its end.
+/// Statements, and the records that they leave. A record has the number of its statement with the turns around it, the
+/// record that holds it, each variable that it reads with the record that set it, how many predicates it has, what it
+/// sets, the rows of a FOR, its writes, its line and its end.
 const CASES: &[(&str, &str)] = &[
     ("", ""),
     (
@@ -137,7 +137,7 @@ fn tell_values(alloc: Global, out: &mut String, values: &[Value]) -> Result<(), 
     tell_text(out, line.as_slice())
 }
 
-/// A text before a value.
+/// Adds a text and a value.
 fn tell_value(alloc: Global, out: &mut String, front: &str, value: &Value) -> Result<(), Fail> {
     out.push_str(front)?;
     tell_values(alloc, out, slice::from_ref(value))
@@ -176,7 +176,7 @@ fn tell_reads(out: &mut String, reads: &[Read]) -> Result<(), Fail> {
     Ok(())
 }
 
-/// The place, controller and definers of a record.
+/// Adds the place, controller and definers of a record.
 fn tell_place(
     out: &mut String,
     spot: &Spot,
@@ -295,14 +295,14 @@ fn tell_records(alloc: Global, out: &mut String, records: &[Record]) -> Result<(
     Ok(())
 }
 
-/// Has records be told so.
+/// Checks that records have this text.
 fn are_told(alloc: Global, records: &[Record], want: &str) -> Result<(), Fail> {
     let mut out = String::new(alloc);
     tell_records(alloc, &mut out, records)?;
     ensure(alloc, out.as_str() == want, out.as_str())
 }
 
-/// Has a record stand where it was foreseen.
+/// Checks that a record is where it was foreseen.
 fn is_foreseen(alloc: Global, record: &Record, ahead: &Ahead) -> Result<(), Fail> {
     let mut stands = String::new(alloc);
     tell_place(
@@ -327,7 +327,7 @@ fn is_foreseen(alloc: Global, record: &Record, ahead: &Ahead) -> Result<(), Fail
 
 // Running calls
 
-/// Has `peek` foresee the place, controller and reads of this record.
+/// Checks that `peek` foresees the place, controller and reads of this record.
 fn foresees(alloc: Global, graph: &Graph, task: &Task, record: &Record) -> Result<(), Fail>
     requires sound { IsSound graph.now }
     requires running { IsRunning graph.now task.now }
@@ -382,7 +382,7 @@ fn begun(alloc: Global, graph: &Graph, call: &Call) -> Result<Task, Fail>
     Ok(task)
 }
 
-/// How many records a walk executes.
+/// Returns how many records a walk executes.
 fn executed_by_walk(len: usize, first: usize) -> usize {
     let mut executed: usize = 0;
     for number in 0..len {
@@ -393,7 +393,7 @@ fn executed_by_walk(len: usize, first: usize) -> usize {
     executed
 }
 
-/// Has a call have these records, of which it executed so many.
+/// Checks that a call has these records, and that it executed so many of them.
 fn has_left(alloc: Global, task: &Task, executed: usize, want: &str) -> Result<(), Fail> {
     ensure(
         alloc,
@@ -403,7 +403,8 @@ fn has_left(alloc: Global, task: &Task, executed: usize, want: &str) -> Result<(
     are_told(alloc, task.records(), want)
 }
 
-/// Has a call leave these records that runs, begins anew, and adopts its first ones, and of the others every other one.
+/// Checks that a call leaves these records if it runs, begins anew, and adopts its first ones and every other one
+/// after.
 fn walks(
     alloc: Global,
     graph: &Graph,
@@ -423,7 +424,7 @@ fn walks(
     has_left(alloc, &task, executed_by_walk(len, first), want)
 }
 
-/// Has a call that adopts all these records leave them, each where it was foreseen.
+/// Checks that a call that adopts all these records leaves them, each where it was foreseen.
 fn adopts(
     alloc: Global,
     graph: &Graph,
@@ -438,7 +439,7 @@ fn adopts(
     has_left(alloc, &task, 0, want)
 }
 
-/// The records of a call that executes them all.
+/// Returns the records of a call that executes them all.
 fn records_of(
     alloc: Global,
     graph: &Graph,
@@ -454,8 +455,8 @@ fn records_of(
     Ok(task.restart(alloc))
 }
 
-/// Has a call leave these records, whether all of them are executed, all adopted, or the first ones adopted and others
-/// executed.
+/// Checks that a call leaves these records, whether all are executed, all are adopted, or the first ones are adopted
+/// and others are executed.
 fn check(
     alloc: Global,
     graph: &Graph,
@@ -492,7 +493,7 @@ fn check_only(alloc: Global, program: &Program, graphs: &[Graph], want: &str) ->
     check(alloc, graph, call, &program.opening, want)
 }
 
-/// Has the only call of a program leave these records.
+/// Checks that the only call of a program leaves these records.
 fn leaves(alloc: Global, program: &Program, want: &str) -> Result<(), Fail>
     requires { IsProgram program.now }
 {
@@ -505,7 +506,7 @@ fn script_leaves(alloc: Global, script: &str, want: &str) -> Result<(), Fail> {
     leaves(alloc, &program, want)
 }
 
-/// Has the call of a procedure of these statements leave these records.
+/// Checks that the call of a procedure with these statements leaves these records.
 fn statements_leave(alloc: Global, statements: &str, want: &str) -> Result<(), Fail> {
     let script = joined(alloc, &[FRONT, statements, BACK])?;
     script_leaves(alloc, script.as_str(), want)

@@ -1,4 +1,4 @@
-//! Scripts, and the line that each of them is refused with, worked out by hand from the rules of the language.
+//! Scripts, and the line with which each is refused, worked out by hand from the rules of the language.
 
 use crate::whole::{ensure, joined};
 use mv_accept::accept::{NotAccepted, accept};
@@ -16,7 +16,7 @@ fn has_line(alloc: Global, refusal: &Refusal, want: &str) -> Result<bool, NoMemo
     Ok(line.as_slice() == want.as_bytes())
 }
 
-/// Has a script be refused with this line, or be accepted where the line says so.
+/// Checks that a script is refused with this line, or accepted if the line says so.
 fn tells(alloc: Global, script: &str, want: &str) -> Result<(), Fail> {
     let holds = match fault(alloc, script) {
         None => want == "accepted",
@@ -26,7 +26,7 @@ fn tells(alloc: Global, script: &str, want: &str) -> Result<(), Fail> {
     ensure(alloc, holds, script)
 }
 
-/// The same of a script between two texts.
+/// The same for a script between two texts.
 fn tells_within(
     alloc: Global,
     front: &str,
@@ -45,7 +45,7 @@ fn tell_within(alloc: Global, front: &str, back: &str, cases: &[(&str, &str)]) -
     Ok(())
 }
 
-/// A table and the head of a procedure, in whose body the statements stand.
+/// A table, and the head of a procedure whose body has the statements.
 const HEAD: &str = "CREATE TABLE t (k INT, n INT, s TEXT(3), PRIMARY KEY (k));
 CREATE PROCEDURE p (:a INT, :u TEXT(3), :m ROWS (x INT, y TEXT(2))) DECLARE :i = 0; DECLARE :w = ''; BEGIN ";
 
@@ -81,7 +81,7 @@ const UNKNOWN_COLUMNS: Cases = &[
     ("UPDATE t SET n = z + 1;", 6),
     ("UPDATE t SET n = 1 WHERE z = 1;", 8),
     ("DELETE FROM t WHERE k = 1 AND z = 1;", 9),
-    // A column stands by itself only on the right side of SET in an UPDATE.
+    // A bare column is allowed only on the right side of SET in an UPDATE.
     ("SET :i = n;", 4),
     ("SELECT n INTO :i FROM t WHERE k = n;", 10),
     ("SELECT n INTO :i FROM t OFFSET n;", 8),
@@ -110,10 +110,10 @@ const UNKNOWN_VARIABLES: Cases = &[
     ("FOR :r IN :z DO END FOR;", 4),
     ("FOR :r IN :m DO PRINT :r.z; END FOR;", 9),
     ("FOR :r IN SELECT n FROM t DO PRINT :r.k; END FOR;", 12),
-    // A loop is seen in its body alone.
+    // A loop's row is visible only in its body.
     ("FOR :r IN SELECT n FROM t DO END FOR; PRINT :r.n;", 13),
     ("FOR :r IN SELECT n FROM t WHERE k = :r.n DO END FOR;", 11),
-    // At one token a name that isn't there comes before a wrong type.
+    // At one token, a missing name comes before a wrong type.
     ("SELECT n, s INTO :z FROM t;", 6),
     ("INSERT INTO t VALUES (:z);", 6),
     ("SET :w = :z + 1;", 4),
@@ -169,7 +169,7 @@ const WRONG_PLACES: Cases = &[
     ("UPDATE t SET s = n;", 6),
     ("UPDATE t SET n = 1 WHERE s = 1;", 10),
     ("DELETE FROM t WHERE s = 1;", 7),
-    // Rows in the place of a value, and a value in the place of rows.
+    // Rows in place of a value, and a value in place of rows.
     ("PRINT :m;", 2),
     ("PRINT (:m);", 2),
     ("PRINT 1 + ((:m));", 4),
@@ -217,10 +217,10 @@ const KEYS: Cases = &[
     ("UPDATE t SET k = 1, k = 2 WHERE z = 1;", 4),
 ];
 
-/// A text, how many tokens it has, and the text behind each script.
+/// A text, how many tokens it has, and the text after each script.
 type Frame = (&'static str, u32, &'static str);
 
-/// Has each script in a frame be refused with what is told and the token of its fault, counted among its own.
+/// Checks that each script in a frame is refused with this text and the token of its fault, counted among its own.
 fn tells_tokens(alloc: Global, frame: &Frame, what: &str, cases: Cases) -> Result<(), Fail> {
     let (front, before, back) = *frame;
     for (script, token) in cases {
@@ -330,7 +330,7 @@ fn statements_without_a_fault(rt: HostRuntime) -> Result<(), Fail> {
 const CALLED: &str = "CREATE PROCEDURE p (:a INT, :u TEXT(2), :m ROWS (x INT, y TEXT(1))) BEGIN END;
 ";
 
-/// Its tokens.
+/// The number of its tokens.
 const CALLED_TOKENS: u32 = 29;
 
 const CALLS: Cases = &[
@@ -447,7 +447,7 @@ const SCRIPTS: &[(&str, &str)] = &[
         "CREATE PROCEDURE q () BEGIN END; CALL q(-1);",
         "refused 8 wrong type at token 12",
     ),
-    // What stands later is there too, and is late.
+    // A name that is defined later exists too, but late.
     (
         "CALL p(); CREATE PROCEDURE p () BEGIN END;",
         "refused 10 late at token 6",
@@ -480,7 +480,7 @@ fn scripts_as_a_whole(rt: HostRuntime) -> Result<(), Fail> {
     tell_within(rt.alloc(), "", "", SCRIPTS)
 }
 
-/// A table of accounts with its rows, to which rows are copied.
+/// A table of accounts with its rows, which copies add rows to.
 const ACCOUNTS: &str = "CREATE TABLE acc (id INT, bal INT, note TEXT(20), PRIMARY KEY (id))
   VALUES (0, 0, ''), (1, 100, ''), (2, 100, ''), (3, 100, ''), (4, 100, '');
 ";
@@ -532,7 +532,7 @@ const COPIES: &[(&str, &str)] = &[
         "COPY acc <<\nx,5,x\n>>\nJOURNAL <<\n",
         "refused 11 table acc row 1 column 1",
     ),
-    // Names and types are looked at before rows.
+    // Names and types are checked before rows.
     (
         "COPY acc <<\nx\n>>\nCALL add(1, 5);",
         "refused 6 unknown name at token 68",
@@ -577,7 +577,7 @@ const TWO_TABLES: &[(&str, &str, &str, &str)] = &[
     ),
 ];
 
-/// Two tables, and rows of each in VALUES.
+/// Checks the line for two tables, each with rows in VALUES.
 fn tells_of_two(alloc: Global, case: &(&str, &str, &str, &str)) -> Result<(), Fail> {
     let (first, second, copies, want) = *case;
     let script = format!(in alloc;

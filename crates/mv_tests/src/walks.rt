@@ -22,7 +22,7 @@ use mv_view::plain::Plain;
 use mv_view::view::{Refused, View};
 use std::alloc::Global;
 
-/// A copy of a record that tells neither its place nor its controller nor what it reads.
+/// Returns a copy of a record without its place, its controller and its reads.
 pub(crate) fn placeless(alloc: Global, other: &Record) -> Result<Record, NoMemory>
     ensures { IfOk result (λ given. HasContent given other.now) }
 {
@@ -36,12 +36,12 @@ pub(crate) fn placeless(alloc: Global, other: &Record) -> Result<Record, NoMemor
     Ok(given)
 }
 
-/// Whether a walk adopts the record of this number: the first so many, and then every other one.
+/// Whether a walk adopts the record with this number: it adopts so many first ones, and then every other one.
 pub(crate) fn is_adopted(number: usize, first: usize) -> bool {
     number < first || number % 2 == 1
 }
 
-/// Adopts the given record of the next number, which tells no place.
+/// Adopts the given record with the next number, which has no place.
 fn adopt_next(
     alloc: Global,
     graph: &Graph,
@@ -61,7 +61,7 @@ fn adopt_next(
     Ok(())
 }
 
-/// Adopts the next record from those of another run of the call, or executes the next statement.
+/// Adopts the next record of another run of the call, or executes the next statement.
 fn step<V: View>(
     alloc: Global,
     graph: &Graph,
@@ -88,8 +88,8 @@ fn step<V: View>(
     Ok(())
 }
 
-/// Walks a call to its end by `adopt` and `next` in turns. What it adopts comes from another run of the call on the
-/// view's database. It tests nothing of it.
+/// Walks a call to its end by `adopt` and `next` in turns. The records that it adopts are those of another run of the
+/// call on the view's database. They aren't checked.
 fn walk<V: View>(
     alloc: Global,
     graph: &Graph,
@@ -111,7 +111,7 @@ fn walk<V: View>(
     Ok(())
 }
 
-/// Runs a call to its end, begins it anew, and walks it through with the records of the first run.
+/// Runs a call to its end, begins it anew, and walks through it with the records of the first run.
 pub(crate) fn run_and_walk(
     alloc: Global,
     graph: &Graph,

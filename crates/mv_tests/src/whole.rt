@@ -12,7 +12,7 @@ use std::sync::Wait;
 use std::test::Fail;
 use std::thread::Threads;
 
-/// The texts, joined.
+/// Joins texts.
 pub(crate) fn joined(alloc: Global, parts: &[&str]) -> Result<String, Fail> {
     let mut text = String::new(alloc);
     for part in parts {
@@ -21,7 +21,7 @@ pub(crate) fn joined(alloc: Global, parts: &[&str]) -> Result<String, Fail> {
     Ok(text)
 }
 
-/// An error that tells a case, unless it holds.
+/// Fails with the text of a case unless the condition holds.
 pub(crate) fn ensure(alloc: Global, holds: bool, case: &str) -> Result<(), Fail> {
     if holds {
         return Ok(());
@@ -29,7 +29,7 @@ pub(crate) fn ensure(alloc: Global, holds: bool, case: &str) -> Result<(), Fail>
     Err(String::from_str(alloc, case)?.into())
 }
 
-/// A source of these bytes whose reads of these numbers fail.
+/// Returns a source of these bytes. Its reads with these numbers fail.
 fn source(alloc: Global, input: &[u8], failing: &[u64]) -> Result<MemorySource, NoMemory> {
     let mut bytes = List::new(alloc);
     bytes.append(input)?;
@@ -46,7 +46,7 @@ fn strings(alloc: Global, words: &[&str]) -> Result<Vec<String>, Fail> {
     Ok(all)
 }
 
-/// A sink of this room.
+/// Returns a sink with this room.
 fn sink(alloc: Global, room: usize) -> Result<MemorySink, NoMemory> {
     MemorySink::new(alloc, room, List::new(alloc))
 }
@@ -61,7 +61,7 @@ fn status_of<R: Threads + Wait + Sync>(
     top(rt, alloc, words, source, sink, &NoPace)
 }
 
-/// Has this text be written to a sink.
+/// Checks that this text was written to a sink.
 fn wrote(alloc: Global, sink: &MemorySink, want: &str) -> Result<(), Fail> {
     let text = str::from_utf8(sink.written()).or(Err("no text"))?;
     if text == want {
@@ -70,7 +70,7 @@ fn wrote(alloc: Global, sink: &MemorySink, want: &str) -> Result<(), Fail> {
     Err(format!(in alloc; "{text} in place of {want}")?.into())
 }
 
-/// Has a run of these words on a source end with this status, and write this text to a sink with this room.
+/// Checks that a run with these words on a source ends with this status, and writes this text to a sink with this room.
 fn runs_on<R: Threads + Wait + Sync>(
     rt: &R,
     alloc: Global,
@@ -86,8 +86,8 @@ fn runs_on<R: Threads + Wait + Sync>(
     ensure(alloc, got == status, "another status")
 }
 
-/// Has a run of these words on an input end with this status, and write this text, by a source whose reads of these
-/// numbers fail and a sink with this room.
+/// Checks that a run with these words on an input ends with this status and writes this text. The reads of the source
+/// with these numbers fail, and the sink has this room.
 pub(crate) fn runs<R: Threads + Wait + Sync>(
     rt: &R,
     alloc: Global,
@@ -102,10 +102,10 @@ pub(crate) fn runs<R: Threads + Wait + Sync>(
     runs_on(rt, alloc, words.as_slice(), &mut source, room, want)
 }
 
-/// A source without faults, and a sink with room.
+/// A source without faults, and a sink with enough room.
 pub(crate) const SOUND: (&[u64], usize) = (&[], 1_000_000);
 
-/// Has a command answer an input with this text.
+/// Checks that a command answers an input with this text.
 pub(crate) fn answers<R: Threads + Wait + Sync>(
     rt: &R,
     alloc: Global,
@@ -123,7 +123,7 @@ pub(crate) fn answers<R: Threads + Wait + Sync>(
     )
 }
 
-/// Has a command refuse an input with this line.
+/// Checks that a command refuses an input with this line.
 pub(crate) fn refuses<R: Threads + Wait + Sync>(
     rt: &R,
     alloc: Global,
