@@ -1,9 +1,9 @@
-//! Cases of tables.
+//! Helpers for tables of cases.
 
 use std::alloc::Global;
 use std::test::Fail;
 
-/// An error that tells a case, unless it holds.
+/// Fails with the text of a case unless the condition holds.
 pub(crate) fn ensure(alloc: Global, holds: bool, case: &str) -> Result<(), Fail> {
     if holds {
         return Ok(());
@@ -11,7 +11,7 @@ pub(crate) fn ensure(alloc: Global, holds: bool, case: &str) -> Result<(), Fail>
     Err(String::from_str(alloc, case)?.into())
 }
 
-/// The same with the number of the case in its table, counted from 0.
+/// The same with the number of the case in its table, from 0.
 pub(crate) fn ensure_at(alloc: Global, holds: bool, case: usize) -> Result<(), Fail> {
     if holds {
         return Ok(());
@@ -19,7 +19,7 @@ pub(crate) fn ensure_at(alloc: Global, holds: bool, case: usize) -> Result<(), F
     Err(format!(in alloc; "case {case}")?.into())
 }
 
-/// A text between two others.
+/// Returns a text between two others.
 pub(crate) fn between(alloc: Global, front: &str, text: &str, back: &str) -> Result<String, Fail> {
     let mut all = String::from_str(alloc, front)?;
     all.push_str(text)?;
@@ -27,7 +27,7 @@ pub(crate) fn between(alloc: Global, front: &str, text: &str, back: &str) -> Res
     Ok(all)
 }
 
-/// Adds a text so often at the end of another.
+/// Adds a text this many times at the end of another.
 pub(crate) fn repeat(text: &mut String, part: &str, count: u32) -> Result<(), Fail> {
     for _ in 0..count {
         text.push_str(part)?;

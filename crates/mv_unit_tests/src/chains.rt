@@ -1,4 +1,4 @@
-//! Random histories of one row, against the plain row after each commit.
+//! Random histories of one row, compared with the plain row after each commit.
 
 ghost use Rattle.std.specs.Prelude.{◌≡◌, Some};
 ghost use Rattle.mv_chain.specs.Versions.{row_at};
@@ -70,7 +70,7 @@ fn patch_of(alloc: Global, change: Change) -> Result<Patch, NoMemory> {
     }
 }
 
-/// A chain, the rows after each commit, and the changes that are not committed.
+/// A chain, the rows after each commit, and the uncommitted changes.
 #[derive(Drop)]
 struct History {
     chain: Chain,
@@ -83,7 +83,7 @@ fn byte(random: &mut SplitMix64) -> u8 {
     (random.next_u64() % 256) as u8
 }
 
-/// A number of commits.
+/// Returns a number of commits.
 fn number(commits: usize) -> u32 {
     commits.min(1000) as u32
 }
@@ -158,7 +158,7 @@ fn has_numbers(row: &Row, numbers: Numbers) -> bool {
     }
 }
 
-/// Whether the chain has this row after n commits, whole and by columns.
+/// Whether the chain has this row after n commits, read whole and by columns.
 fn reads(alloc: Global, chain: &Chain, n: u32, want: Plain) -> Result<bool, NoMemory> {
     let row = chain.row_at(alloc, n)?;
     match (row, want) {

@@ -1,4 +1,4 @@
-//! Sources and sinks in memory, and those that fail.
+//! Sources and sinks in memory that work or fail.
 
 use crate::cases::ensure_at;
 use mv_edge::edge::Failed;
@@ -17,7 +17,7 @@ fn only(alloc: Global, call: u64) -> Result<List<u64>, NoMemory> {
     Ok(calls)
 }
 
-/// The read that fails, and how many of 5000 bytes are read.
+/// The read that fails, and how many of 5000 bytes are read or the fault.
 const READS: &[(u64, Result<usize, ReadFault>)] = &[
     (0, Err(ReadFault::Failed)),
     (1, Err(ReadFault::Failed)),
@@ -25,7 +25,7 @@ const READS: &[(u64, Result<usize, ReadFault>)] = &[
     (3, Ok(5000)),
 ];
 
-/// A source of 5000 bytes whose call of this number fails.
+/// Returns a source of 5000 bytes whose call with this number fails.
 fn source(alloc: Global, failing: u64) -> Result<MemorySource, NoMemory> {
     let calls = only(alloc, failing)?;
     let mut bytes = List::new(alloc);
@@ -50,7 +50,7 @@ fn reads_all_or_fails(rt: HostRuntime) -> Result<(), Fail> {
     Ok(())
 }
 
-/// The write that fails, the room, and what is answered and written.
+/// The write that fails, the room, the result, and what is written.
 type Written = (u64, usize, Result<(), Failed>, &'static [u8]);
 
 const WRITES: &[Written] = &[

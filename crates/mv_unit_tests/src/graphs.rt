@@ -1,4 +1,4 @@
-//! The edges of a graph that was made by hand.
+//! The edges of a graph that is built by hand.
 
 use crate::cases::ensure_at;
 use mv_catalog::resolved::ProcInfo;
@@ -9,8 +9,8 @@ use mv_values::txt::Txt;
 use std::alloc::Global;
 use std::test::Fail;
 
-/// A statement: what holds it, the loops that it stands in, the variables that it reads and sets, and whether it changes
-/// and asks the one table.
+/// A statement: what holds it, the loops around it, the variables that it reads and sets, and whether it changes and
+/// asks the one table.
 type Stated = (
     Option<u16>,
     &'static [u16],
@@ -20,8 +20,8 @@ type Stated = (
     bool,
 );
 
-/// A SELECT INTO 3, an IF on 3 that holds a ROLLBACK, three UPDATEs of one table, and a FOR over its rows (variable 5) that
-/// holds an UPDATE and a SET of 3 by 3 and the row; 4 is `:found`.
+/// A SELECT INTO 3, an IF on 3 that holds a ROLLBACK, three UPDATEs of one table, and a FOR over its rows (variable 5)
+/// that holds an UPDATE and a SET of 3 by 3 and the row. 4 is `:found`.
 const STATED: &[Stated] = &[
     (None, &[], &[], &[3, 4], false, true),
     (None, &[], &[3], &[], false, false),
@@ -75,19 +75,20 @@ fn graph(alloc: Global) -> Result<Graph, NoMemory> {
     })
 }
 
-/// Two statements, and whether the one holds the other, sets a variable that it reads, changes the table that it asks.
+/// Two statements, and whether the first holds the second, sets a variable that it reads, or changes the table that it
+/// asks.
 const EDGES: &[(u16, u16, [bool; 3])] = &[
     // The IF reads what the SELECT set, and holds the ROLLBACK.
     (1, 2, [false, true, false]),
     (2, 3, [true, false, false]),
     (1, 3, [false, false, false]),
-    // Each UPDATE changes the table that later statements ask, and not that of earlier ones.
+    // Each UPDATE changes the table that later statements ask, but not that of earlier ones.
     (1, 4, [false, false, false]),
     (4, 5, [false, false, true]),
     (5, 4, [false, false, false]),
     (4, 4, [false, false, false]),
     (4, 6, [false, true, true]),
-    // What a FOR holds doesn't reach its own WHERE, but what stands in the same FOR, itself too.
+    // What a FOR holds doesn't reach the FOR's own WHERE. It reaches statements in the same FOR, itself included.
     (7, 6, [false, false, false]),
     (7, 7, [false, false, true]),
     (6, 7, [true, false, false]),

@@ -1,4 +1,4 @@
-//! Which lines are events, and which line is told where one is none.
+//! Which lines are events, and which line is reported if one isn't.
 
 ghost use Rattle.std.specs.Prelude.{◌≡◌, ◌<◌, ◌^◌, length};
 
@@ -10,7 +10,7 @@ use mv_values::memory::NoMemory;
 use std::alloc::Global;
 use std::test::Fail;
 
-/// What a journal is read as: the text that its events are written as, or the number of the first bad line.
+/// How a journal is read: the text of its events, or the number of the first bad line.
 #[derive(Drop)]
 enum Read {
     Events(List<u8>),

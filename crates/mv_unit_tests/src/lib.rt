@@ -1,5 +1,5 @@
-//! Tests of single layers, by public calls alone. They stand here since a crate with tests is proved twice. The crate has
-//! nothing else.
+//! Tests of single layers, by public calls alone. They are here because a crate with tests is proved twice. The crate
+//! has nothing else.
 #![tactic(auto)]
 
 #[cfg(test)]

@@ -6,9 +6,9 @@ use mv_parser::fault::{ParseFault, Which};
 use std::alloc::Global;
 use std::test::Fail;
 
-/// A part in the middle of a script that stands there again and again: what stands before it, the part, what stands
-/// behind them all with what closes each, and the end; how often the part may stand there; and which limit is passed at
-/// which token where it stands there once more.
+/// A script with a part that is repeated: the text before the part, the part, the text after all parts with the text
+/// that closes each, and the end; how often the part may be repeated; and the limit and the token at which one more
+/// passes it.
 type Case = (
     &'static str,
     &'static str,
@@ -168,7 +168,7 @@ const CASES: &[Case] = &[
     ),
 ];
 
-/// The script of a case in which the part stands so often.
+/// Returns the script of a case with the part repeated this often.
 fn script(alloc: Global, case: &Case, count: u32) -> Result<String, Fail> {
     let (front, part, (middle, close), back, _, _) = *case;
     let mut text = String::from_str(alloc, front)?;
@@ -179,7 +179,7 @@ fn script(alloc: Global, case: &Case, count: u32) -> Result<String, Fail> {
     Ok(text)
 }
 
-/// Has the script of a case in which the part stands so often have this fault, if any.
+/// Checks that the script of a case with the part repeated this often has this fault, or none.
 fn has_limit(alloc: Global, case: &Case, count: u32, want: Option<ParseFault>) -> Result<(), Fail> {
     let script = script(alloc, case, count)?;
     has_fault(alloc, script.as_str(), want)
@@ -237,7 +237,7 @@ const NUMBERS: &[(&str, Option<ParseFault>)] = &[
             token: 8,
         }),
     ),
-    // At one token the limit that stands first counts, and of two tokens the first.
+    // At one token the first limit counts, and of two tokens the first.
     (
         "CREATE TABLE a (id TEXT(9223372036854775808), PRIMARY KEY (id));",
         Some(ParseFault::Limit {
@@ -262,7 +262,7 @@ fn numbers_and_sizes_at_their_limits(rt: HostRuntime) -> Result<(), Fail> {
     Ok(())
 }
 
-/// A case with no limit is one that isn't passed.
+/// These cases pass no limit.
 const ENDS: &[Case] = &[
     ("CALL p(0", ", 0", ("", ""), ");", 400, (Which::Depth, 0)),
     ("", "CALL p(); ", ("", ""), "", 400, (Which::Depth, 0)),
@@ -284,7 +284,7 @@ const ENDS: &[Case] = &[
     ),
 ];
 
-/// Each ends a stretch: a comma, a semicolon, a block. Each closes what it opened.
+/// Each case ends a stretch: a comma, a semicolon, a block. Each closes what it opened.
 #[test]
 fn stretches_and_depths_end(rt: HostRuntime) -> Result<(), Fail> {
     for case in ENDS {

@@ -1,4 +1,4 @@
-//! Which keys own writes touched, worked out by hand. What is seen behind them is tried by the scripts of `mv_tests`.
+//! Which keys own writes touched, worked out by hand. The scripts of `mv_tests` test what is seen after them.
 
 ghost use Rattle.std.specs.Prelude.{◌↔◌, ◌≤◌, IsTrue, All};
 
@@ -27,7 +27,7 @@ const WRITTEN: &[Written] = &[
     (3, 0, [1, 2]),
 ];
 
-/// Adds a write of a record whose number isn't less than those before.
+/// Adds a write of a record whose number isn't less than those before it.
 fn push(alloc: Global, undo: &mut Undo, written: &Written) -> Result<(), Fail> {
     let (number, table, numbers) = *written;
     if !is_last(undo.as_slice(), number) {
@@ -49,7 +49,7 @@ fn undo_of(alloc: Global) -> Result<Undo, Fail> {
     Ok(undo)
 }
 
-/// Whether a record finds a key of a table touched.
+/// Whether a key of a table is touched for a record.
 fn touched(alloc: Global, undo: &Undo, sought: &Written) -> Result<bool, NoMemory> {
     let (number, table, numbers) = *sought;
     let key = row(alloc, &numbers)?;
@@ -81,12 +81,12 @@ fn keys_are_touched_by_earlier_records(rt: HostRuntime) -> Result<(), Fail> {
     touched_as_told(rt.alloc(), &undo)
 }
 
-/// A number, how many writes are left where those of records from it on are dropped, and whether they touch a key.
+/// A number, how many writes are left after those of records from it on are dropped, and whether they touch a key.
 type Dropped = (usize, usize, bool);
 
 const DROPPED: &[Dropped] = &[(0, 0, false), (1, 1, false), (2, 3, true), (4, 4, true)];
 
-/// Drops writes of later records. Behind them a key can be touched that none touched.
+/// Drops the writes of later records. After that, a key can be touched that none touched before.
 fn drops(alloc: Global, undo: &mut Undo, case: &Dropped) -> Result<bool, Fail> {
     let (number, want, early) = *case;
     undo.drop_from(number);

@@ -1,4 +1,4 @@
-//! Scripts, expressions and faults of the grammar, worked out by hand.
+//! Scripts, expressions and grammar faults, worked out by hand.
 
 use crate::cases::{between, ensure};
 use mv_ast::tree::{Expr, ExprKind, Item, ItemKind, Script, Stmt};
@@ -10,7 +10,7 @@ use mv_values::value::Value;
 use std::alloc::Global;
 use std::test::Fail;
 
-/// What parsing this text answers.
+/// Returns the result of parsing this text.
 pub(crate) fn read(alloc: Global, text: &str) -> Result<Result<Script, ParseFault>, Fail> {
     let bytes = text.as_bytes();
     if bytes.len() > 1 << 24 {
@@ -20,14 +20,14 @@ pub(crate) fn read(alloc: Global, text: &str) -> Result<Result<Script, ParseFaul
     Ok(parse(alloc, &tokens, bytes))
 }
 
-/// Has parsing this text answer this fault, if any.
+/// Checks that parsing this text yields this fault, or none.
 pub(crate) fn has_fault(alloc: Global, text: &str, want: Option<ParseFault>) -> Result<(), Fail> {
     let fault = read(alloc, text)?.err();
     ensure(alloc, fault == want, text)
 }
 
 const FAULTS: &[(&str, u32)] = &[
-    // Levels of parentheses that are never closed: one past the last.
+    // Parentheses that are never closed, one level past the limit.
     (
         "CREATE PROCEDURE p () BEGIN SET :x = (((((((((((((((((((((((((((((((",
         41,
@@ -74,7 +74,7 @@ fn names_the_first_token_that_cannot_stand(rt: HostRuntime) -> Result<(), Fail> 
     Ok(())
 }
 
-/// Depth and stretch count before the grammar, and the grammar before the other limits.
+/// Depth and stretch are checked before the grammar, and the grammar before the other limits.
 const ORDER: &[(&str, ParseFault)] = &[
     (
         "CREATE PROCEDURE p () BEGIN SET :x = ((((((((((((((((((((((((((((((((",
@@ -143,7 +143,7 @@ JOURNAL <<
 B 0
 ";
 
-/// The name of a kind of statement, and how many parts its lists have.
+/// Returns the name of a kind of statement, and the lengths of its lists.
 fn parts(stmt: &Stmt) -> (&'static str, [usize; 3]) {
     match stmt {
         Stmt::Assign { .. } => ("set", [0, 0, 0]),
@@ -170,7 +170,7 @@ fn parts(stmt: &Stmt) -> (&'static str, [usize; 3]) {
     }
 }
 
-/// How a SELECT sorts, and whether it has an OFFSET.
+/// Adds how a SELECT sorts, and whether it has an OFFSET.
 fn clauses(out: &mut String, stmt: &Stmt) -> Result<(), Fail> {
     if let Stmt::Select { sorts, offset, .. } = stmt {
         for sort in sorts.as_slice() {
@@ -187,7 +187,7 @@ fn statement(out: &mut String, stmt: &Stmt) -> Result<(), Fail> {
     clauses(out, stmt)
 }
 
-/// The name of a kind of item, and how many parts its lists have.
+/// Returns the name of a kind of item, and the lengths of its lists.
 fn contents(kind: &ItemKind) -> (&'static str, [usize; 3]) {
     match kind {
         ItemKind::Table(table) => {
@@ -204,7 +204,7 @@ fn contents(kind: &ItemKind) -> (&'static str, [usize; 3]) {
     }
 }
 
-/// The statements of a procedure, and none of another item.
+/// Returns the statements of a procedure, and none for another item.
 fn body(item: &Item) -> &[Stmt] {
     match &item.kind {
         ItemKind::Proc(procedure) => procedure.body.as_slice(),
@@ -212,7 +212,7 @@ fn body(item: &Item) -> &[Stmt] {
     }
 }
 
-/// The token and the kind of an item, and how many parts its lists have.
+/// Adds the token and the kind of an item, and the lengths of its lists.
 fn item(out: &mut String, item: &Item) -> Result<(), Fail> {
     let (name, [a, b, c]) = contents(&item.kind);
     write!(out, "{} {name} {a} {b} {c}", item.token)?;
@@ -237,7 +237,7 @@ if 1 2 0; insert 2 0 0; update 2 1 0; delete 0 0 0; print 3 0 0; rollback 0 0 0
 258 journal 4 0 0
 ";
 
-/// Has a text be read as items with these contents.
+/// Checks that a text is parsed to items with these contents.
 fn has_contents(alloc: Global, text: &str, want: &str) -> Result<(), Fail> {
     let Ok(script) = read(alloc, text)? else {
         return Err("no script".into());
@@ -257,7 +257,7 @@ fn text(out: &mut String, text: &Txt) -> Result<(), Fail> {
     Ok(out.push_str(str::from_utf8(text.as_slice()).or(Err("no text"))?)?)
 }
 
-/// A constant, a variable or a column.
+/// Adds a constant, a variable or a column.
 fn leaf(out: &mut String, kind: &ExprKind) -> Result<(), Fail> {
     match kind {
         ExprKind::Const(Value::Int(n)) => Ok(write!(out, "{n}")?),
@@ -276,7 +276,7 @@ fn leaf(out: &mut String, kind: &ExprKind) -> Result<(), Fail> {
     }
 }
 
-/// The expression with each operator before its operands.
+/// Adds an expression with each operator before its operands.
 fn shape(out: &mut String, expr: &Expr) -> Result<(), Fail> {
     match &expr.kind {
         ExprKind::One(op, inner) => {
@@ -295,7 +295,7 @@ fn shape(out: &mut String, expr: &Expr) -> Result<(), Fail> {
     }
 }
 
-/// The expression that is printed by the only statement of an item.
+/// Returns the expression that the only statement of an item prints.
 fn printed(item: &Item) -> Option<&Expr> {
     match body(item) {
         [Stmt::Print { values, .. }] => values.as_slice().first(),
@@ -313,7 +313,7 @@ fn shapes(out: &mut String, items: &[Item]) -> Result<(), Fail> {
     Ok(())
 }
 
-/// Has the expression that the only item of a text prints have this shape.
+/// Checks that the expression that the only item of a text prints has this shape.
 fn has_shape(alloc: Global, text: &str, want: &str) -> Result<(), Fail> {
     let Ok(script) = read(alloc, text)? else {
         return Err("no script".into());

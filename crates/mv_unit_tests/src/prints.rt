@@ -15,7 +15,7 @@ fn prints(alloc: Global, script: &str, want: &str) -> Result<(), Fail> {
     ensure(alloc, text.as_slice() == want.as_bytes(), want)
 }
 
-/// What stands before and behind a case, and what is printed of that.
+/// The texts before and after a case, and their prints.
 type Frame = [&'static str; 4];
 
 fn prints_within(alloc: Global, frame: &Frame, written: &str, want: &str) -> Result<(), Fail> {
@@ -128,7 +128,7 @@ const ITEMS: &[(&str, &str)] = &[
         "call p ( 1 , rows ( ( - 7 , 'a' ) ) , rows ( ) ) ;\n",
     ),
     ("COPY t <<\n1,2\n>>\n", "copy t <<\n1,2\n>>\n"),
-    // An open block goes to the end.
+    // An open block extends to the end.
     ("JOURNAL <<\nB 0\n", "journal <<\nB 0\n"),
 ];
 

@@ -1,4 +1,4 @@
-//! Texts of outcomes, and of calls that ran alone, worked out by hand.
+//! The texts of outcomes and of calls that ran alone, worked out by hand.
 
 ghost use Rattle.std.specs.Prelude.{◌≡◌, ◌∷◌, [], IfOk};
 ghost use Rattle.mv_values.specs.declared.value.Value.TheVariants.{Int};
@@ -19,7 +19,7 @@ use mv_values::value::Value;
 use std::alloc::Global;
 use std::test::Fail;
 
-/// What a call answers: its only line, or why it was rolled back.
+/// The reply to a call: its only line, or why it was rolled back.
 enum Answer {
     Line(&'static str),
     Own(&'static str),
@@ -29,7 +29,8 @@ enum Answer {
     TooLong,
 }
 
-/// A table with the name of accounts has their rows, another one none. A commit is a call with its rounds.
+/// A case. A table with the name of accounts has their rows, and any other table has none. A commit is a call with its
+/// rounds.
 struct Case {
     tables: &'static [&'static str],
     answers: &'static [Answer],
@@ -217,7 +218,7 @@ fn account(alloc: Global, id: i64, balance: i64) -> Result<Keyed, NoMemory>
     Ok(Keyed { key, row })
 }
 
-/// Five accounts, of which the second has this balance.
+/// Returns five accounts. The second has this balance.
 pub(crate) fn accounts(alloc: Global, second: i64) -> Result<Rows, NoMemory> {
     let mut rows = Rows::new(alloc);
     rows.push(account(alloc, 0, 0)?)?;
@@ -306,7 +307,7 @@ fn outcome(alloc: Global, case: &Case) -> Result<Outcome, NoMemory> {
     })
 }
 
-// Their texts
+// Texts of outcomes
 
 fn text(alloc: Global, case: &Case) -> Result<List<u8>, NoMemory> {
     let tables = tables(alloc, case.tables)?;

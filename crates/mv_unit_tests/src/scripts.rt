@@ -1,4 +1,4 @@
-//! Two programs in one script, as a person writes them and as they are printed: accounts of a bank, and order entry.
+//! Two programs in one script, as written by hand and as printed: accounts of a bank, and order entry.
 
 /// The script as written.
 pub(crate) const WRITTEN: &str =

@@ -1,4 +1,4 @@
-//! Tokens of short texts, and the faults of those that have none.
+//! The tokens of short texts, and the faults of texts that have none.
 
 use mv_lex::lexer::{LexFault, lex};
 use mv_lex::token::{Kind, Token};

@@ -17,7 +17,7 @@ use std::alloc::Global;
 use std::cmp::Ordering;
 use std::test::Fail;
 
-/// A row, or a key, of numbers.
+/// Returns a row or a key of numbers.
 pub(crate) fn row(alloc: Global, numbers: &[i64]) -> Result<Row, NoMemory> {
     let mut row = List::new(alloc);
     for n in numbers {
@@ -38,7 +38,7 @@ fn are_printable(bytes: &[u8]) -> bool
     bytes.iter().all(|byte| is_printable(*byte))
 }
 
-/// The text of bytes that can be printed, and else of none.
+/// Returns the text of these bytes if they are printable, and else the empty text.
 pub(crate) fn txt(alloc: Global, text: &str) -> Result<Txt, NoMemory> {
     let bytes = text.as_bytes();
     if are_printable(bytes) {
@@ -48,7 +48,7 @@ pub(crate) fn txt(alloc: Global, text: &str) -> Result<Txt, NoMemory> {
     }
 }
 
-/// The rows of one row, under this key.
+/// Returns rows with one row, under this key.
 fn only(alloc: Global, n: i64) -> Result<Rows, NoMemory> {
     let key = row(alloc, &[n])?;
     let row = row(alloc, &[n])?;
@@ -62,7 +62,7 @@ fn place_of(alloc: Global, rows: &Rows, n: i64) -> Result<Result<usize, usize>, 
     Ok(rows.place_of(key.as_slice()))
 }
 
-/// A key, and its place or its gap where the only key is 7.
+/// A key, and its place, or its gap, if the only key is 7.
 const PLACES: &[(i64, Result<usize, usize>)] = &[(6, Err(0)), (7, Ok(0)), (8, Err(1))];
 
 fn found_as_told(alloc: Global, rows: &Rows) -> Result<(), Fail> {
@@ -130,7 +130,8 @@ fn a_shorter_key_stands_first(rt: HostRuntime) -> Result<(), Fail> {
     ensure(rt.alloc(), order == Ordering::Less, "an empty key")
 }
 
-/// The rows of a table whose first column, its key, is 7 and whose second is at least 10, with the third selected.
+/// Returns a predicate for the rows whose first column, the key, is 7 and whose second is at least 10. It selects the
+/// third.
 fn rich(alloc: Global) -> Result<Pred, NoMemory> {
     let mut tests = List::new(alloc);
     tests.push(Test {
@@ -177,7 +178,7 @@ fn matched_as_told(alloc: Global, pred: &Pred) -> Result<(), Fail> {
     Ok(())
 }
 
-/// A row before and after, where there is one, and whether the predicate sees the same.
+/// A row before and after a change, where there is one, and whether the predicate sees the same.
 type Seen = (Option<[i64; 4]>, Option<[i64; 4]>, bool);
 
 const SEEN: &[Seen] = &[
@@ -237,7 +238,7 @@ fn a_predicate_sees_what_it_tests_and_selects(rt: HostRuntime) -> Result<(), Fai
     sees_as_told(rt.alloc(), &pred)
 }
 
-/// A write of column 3 of a row of table 2.
+/// Returns a write of column 3 of a row of table 2.
 fn write(alloc: Global) -> Result<Write, NoMemory> {
     let key = row(alloc, &[7])?;
     let mut items = List::new(alloc);
@@ -252,7 +253,7 @@ fn write(alloc: Global) -> Result<Write, NoMemory> {
     })
 }
 
-/// The table and the column of a write that sets one column.
+/// Returns the table and the column of a write that sets one column.
 fn set_by(write: &Write) -> Option<(u8, u8)> {
     match &write.patch {
         Patch::Set(items) => match items.as_slice() {

@@ -26,7 +26,7 @@ fn database(alloc: Global) -> Result<Database, NoMemory> {
     Ok(tables)
 }
 
-/// The rows that pass one test, of a key column or of another.
+/// Returns the predicate for rows that pass one test, of a key column or of another.
 fn where_is(alloc: Global, column: u8, op: Op, value: i64) -> Result<Pred, NoMemory> {
     let key_place = if column == 0 { Some(0) } else { None };
     let value = Value::Int(value);
@@ -65,7 +65,7 @@ fn has_admitted(pred: &Pred, tables: &Database) -> bool
     }
 }
 
-/// The number in a column.
+/// Returns the number in a column.
 fn number(row: &Row, column: usize) -> Option<i64> {
     match row.as_slice().get(column) {
         Some(Value::Int(number)) => Some(*number),
@@ -73,7 +73,7 @@ fn number(row: &Row, column: usize) -> Option<i64> {
     }
 }
 
-/// How many rows they are, and the last one's number.
+/// Returns how many rows there are, and the number of the last.
 fn last(rows: &[Keyed]) -> (usize, Option<i64>) {
     match rows.last() {
         Some(item) => (rows.len(), number(&item.row, 0)),
@@ -81,7 +81,7 @@ fn last(rows: &[Keyed]) -> (usize, Option<i64>) {
     }
 }
 
-/// A column, how a number has to stand to it, and how many rows are found, with the last one's number.
+/// A column, its comparison with a number, and how many rows are found, with the number of the last.
 type Found = (u8, Op, i64, (usize, Option<i64>));
 
 const FOUND: &[Found] = &[
@@ -120,7 +120,7 @@ fn rows_are_found_by_their_tests(rt: HostRuntime) -> Result<(), Fail> {
     found_as_told(rt.alloc(), &tables)
 }
 
-/// Has the row under this key have this number in its second column, where there is one.
+/// Checks that the row under this key has this number in its second column, or that there is no row.
 fn shows(alloc: Global, view: &mut Plain, table: u8, id: i64, want: Option<i64>) -> Result<(), Fail>
     ensures counted { IfOk result (λ shown. view.new ≡ with_row_call view.old) }
 {
@@ -132,7 +132,7 @@ fn shows(alloc: Global, view: &mut Plain, table: u8, id: i64, want: Option<i64>)
     }
 }
 
-/// Looks four rows up. That the view counts four calls can only be proved: its counts are seen by contracts alone.
+/// Looks up four rows. That the view counts four calls can only be proved: only contracts see its counts.
 fn shows_rows(alloc: Global, view: &mut Plain) -> Result<(), Fail>
     ensures counted { IfOk result (λ shown. view.new ≡ with_row_call (with_row_call (with_row_call (with_row_call view.old)))) }
 {
