@@ -1,4 +1,4 @@
-//! The program: standard input to standard output.
+//! The program. It reads standard input and writes standard output.
 #![tactic(auto)]
 
 use mv_edge::pace::NoPace;
@@ -21,8 +21,8 @@ fn main(rt: HostRuntime) -> ExitCode {
     ExitCode::from(status.code())
 }
 
-/// The command line's words after the program's name. A line with a word that isn't UTF-8 is no command, so it has no
-/// words here. None where no memory was found.
+/// Returns the command line's words after the program's name. A line with a word that isn't UTF-8 is no command, so it
+/// has no words here. `None` if memory runs out.
 fn words(rt: &HostRuntime) -> Option<Vec<String>> {
     let mut words = Vec::new(rt.alloc());
     let arguments = match env::args(rt) {
