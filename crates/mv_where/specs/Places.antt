@@ -11,7 +11,7 @@ is_break b = b == 10
 abbrev pub line_number : List ℕ → ℕ → ℕ
 line_number bytes at = 1 + count_by is_break (take at bytes)
 
--- how many bytes of its line are before a byte: those back to the LF before it, or to the begin of the text
+-- how many bytes of its line come before a byte: those back to the LF before it, or to the start of the text
 abbrev pub column : List ℕ → ℕ → ℕ
 column bytes at = prefix_len is_in_line (reverse (take at bytes))
 

@@ -15,11 +15,11 @@ use mv_values::memory::NoMemory;
 use std::alloc::Global;
 use std::str;
 
-/// No script has more bytes.
+/// The most bytes that a script has.
 const MOST: usize = 16_777_216;
 
-/// The places in a script that the refusal in a text names, each with its line and a caret. Nothing where the text is no
-/// refusal, or one that names no place. `name` is the name of the script's file.
+/// Returns the places in a script that the refusal in a text names, each with its line and a caret. Returns an empty
+/// text if the text isn't a refusal or names no place. `name` is the name of the script's file.
 pub fn answer(alloc: Global, name: &[u8], script: &[u8], text: &[u8]) -> Result<List<u8>, NoMemory>
     ensures { IsFalse (is_refusal text.now) → IfOk result (λ places. places ≡ []) }
 {
@@ -76,7 +76,7 @@ impl Places<'_> {
         }
     }
 
-    /// Shows the token with this number, or the end of the script for one past the last.
+    /// Shows the token with this number, or the end of the script if the number is past the last token.
     fn show_token(&mut self, tokens: &[Token], number: u32) -> Result<(), NoMemory> {
         match tokens.get((number as usize).saturating_sub(1)) {
             Some(token) => self.show(token.at as usize),
@@ -108,7 +108,7 @@ impl Places<'_> {
         Ok(())
     }
 
-    /// Notes the lines of a block that look like the begin of a copy, or like an end with something beside it.
+    /// Notes the lines of a block that look like the start of a copy, or like an end with something beside it.
     fn note_lines(&mut self, block: &Token) -> Result<(), NoMemory> {
         let begin = rows_at(self.script, block);
         let end = (block.at as usize + block.len as usize)
@@ -124,7 +124,7 @@ impl Places<'_> {
         Ok(())
     }
 
-    /// The number of the line of a place, or of the last line where the place is after the end.
+    /// Returns the line number of a place, or that of the last line if the place is past the end.
     fn line_of(&self, at: usize) -> usize {
         line_number(self.script, at.min(self.script.len()))
     }
@@ -141,7 +141,7 @@ impl Places<'_> {
         self.text.append(digits.format(number).as_bytes())
     }
 
-    /// Adds a place, its line, and a caret below it. A place after the end is the end.
+    /// Adds a place, its line, and a caret below it. A place past the end counts as the end.
     fn show(&mut self, at: usize) -> Result<(), NoMemory> {
         let at = at.min(self.script.len());
         let before = column(self.script, at);
@@ -158,7 +158,7 @@ impl Places<'_> {
         self.text.append(b"^\n")
     }
 
-    /// Adds a note that the line at a place is in the block that begins at another.
+    /// Adds a note that the line at a place is in the block that starts at another place.
     fn note(&mut self, at: usize, block: usize) -> Result<(), NoMemory> {
         self.add_line_number(at)?;
         self.text
@@ -168,13 +168,13 @@ impl Places<'_> {
     }
 }
 
-/// Whether a line begins like `COPY x <<`.
+/// Whether a line starts like `COPY x <<`.
 fn looks_like_copy(line: &[u8]) -> bool {
     let line = line.trim_ascii();
     line.len() > 4 && line[..4].eq_ignore_ascii_case(b"copy") && line.ends_with(b"<<")
 }
 
-/// Whether a line has `>>` at its begin or end, and something beside it.
+/// Whether a line has `>>` at its start or end, and something beside it.
 fn looks_like_end(line: &[u8]) -> bool {
     let inner = line.trim_ascii();
     (inner.starts_with(b">>") || inner.ends_with(b">>"))

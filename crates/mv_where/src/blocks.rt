@@ -5,7 +5,7 @@ ghost use Rattle.std.specs.Prelude.{◌≤◌, length};
 use crate::place::first_line;
 use mv_lex::token::{Kind, Token};
 
-/// The bytes of a token, none where it isn't in the script.
+/// Returns the bytes of a token, or none if it isn't in the script.
 pub fn bytes_of<'a>(script: &'a [u8], token: &Token) -> &'a [u8] {
     let from = (token.at as usize).min(script.len());
     let after = &script[from..];
@@ -16,7 +16,7 @@ fn is_word(script: &[u8], token: &Token, word: &[u8]) -> bool {
     token.kind == Kind::Word && bytes_of(script, token).eq_ignore_ascii_case(word)
 }
 
-/// The block of a copy of this table that begins with these tokens, if one does.
+/// Returns the block of a copy of this table, if these tokens start with such a copy.
 pub fn block_of<'a>(script: &[u8], tokens: &'a [Token], table: &[u8]) -> Option<&'a Token> {
     match tokens {
         [copy, name, block, ..] if is_word(script, copy, b"copy") && is_word(script, name, table) =>
@@ -28,7 +28,7 @@ pub fn block_of<'a>(script: &[u8], tokens: &'a [Token], table: &[u8]) -> Option<
     }
 }
 
-/// The place where the rows of a block begin: after the line of its `<<`.
+/// Returns the place where the rows of a block start: after the line of its `<<`.
 pub fn rows_at(script: &[u8], block: &Token) -> usize
     ensures { result ≤ length script.now }
 {
@@ -36,7 +36,7 @@ pub fn rows_at(script: &[u8], block: &Token) -> usize
     ((block.at as usize).min(script.len()) + line.len() + 1).min(script.len())
 }
 
-/// The bracket before a row of the VALUES of this table, whose CREATE TABLE begins with these tokens, if one does. Rows
+/// Returns the bracket before a row of the VALUES of this table, if these tokens start with its CREATE TABLE. Rows
 /// count from 1.
 pub fn values_row<'a>(
     script: &[u8],

@@ -1,4 +1,4 @@
-//! Why nothing more is told.
+//! Why the program fails.
 
 use mv_values::memory::NoMemory;
 

@@ -1,5 +1,5 @@
-//! Tells where in a script a refusal points: `mv3c run < order.sql | where order.sql` passes the text through, and adds the
-//! place that it names, the line and a caret.
+//! Shows where in a script a refusal points: `mv3c run < order.sql | where order.sql` passes the text through, and adds
+//! the place that it names, the line and a caret.
 #![tactic(auto)]
 
 mod answer;
@@ -33,7 +33,7 @@ fn main(rt: HostRuntime) -> ExitCode {
     })
 }
 
-/// The one word after the program's name. None where there is none or more than one, or one that isn't UTF-8.
+/// Returns the only word after the program's name. `None` if there is no word, more than one, or one that isn't UTF-8.
 fn file_name(rt: &HostRuntime) -> Option<String> {
     let mut words = env::args(rt).ok()?.skip(1);
     let name = words.next()?;

@@ -1,4 +1,4 @@
-//! Passes a text on.
+//! Passes a text through.
 
 ghost use Rattle.std.specs.Prelude.{OnOk};
 ghost use Rattle.std.specs.Option.{ForSome};
@@ -11,10 +11,10 @@ use mv_values::list::List;
 use mv_values::memory::NoMemory;
 use std::alloc::Global;
 
-/// How many bytes of a text are kept. A refusal has fewer.
+/// How many bytes of a text are kept. A refusal is shorter.
 const FRONT: usize = 4096;
 
-/// Adds a piece to the front of a text, unless it has enough bytes.
+/// Adds a piece to the front of a text, unless the front has enough bytes.
 fn keep(front: &mut List<u8>, piece: &[u8]) -> Result<(), NoMemory> {
     if front.len() < FRONT {
         front.append(piece)?;
@@ -22,8 +22,8 @@ fn keep(front: &mut List<u8>, piece: &[u8]) -> Result<(), NoMemory> {
     Ok(())
 }
 
-/// Passes all bytes of a source on to a sink, and answers their front, which has at least `FRONT` of them if there are
-/// so many.
+/// Passes all bytes of a source on to a sink, and returns their front. It has at least `FRONT` bytes if there are so
+/// many.
 pub fn pass<S: Source, K: Sink>(
     alloc: Global,
     source: &mut S,

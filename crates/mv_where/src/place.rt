@@ -12,7 +12,7 @@ fn breaks(bytes: &[u8]) -> usize
     bytes.iter().filter(|byte| **byte == b'\n').count()
 }
 
-/// The number of the line of a byte, from 1: one more than the LFs before it.
+/// Returns the number of the line of a byte, from 1: one more than the LFs before it.
 pub fn line_number(bytes: &[u8], at: usize) -> usize
     requires { at ≤ length bytes.now }
     ensures { result ≡ line_number bytes.now at }
@@ -20,7 +20,7 @@ pub fn line_number(bytes: &[u8], at: usize) -> usize
     1 + breaks(&bytes[..at])
 }
 
-/// How many bytes of its line are before a byte.
+/// Returns how many bytes of its line come before a byte.
 pub fn column(bytes: &[u8], at: usize) -> usize
     requires { at ≤ length bytes.now }
     ensures value { result ≡ column bytes.now at }
@@ -40,14 +40,14 @@ fn line_len(bytes: &[u8]) -> usize
     bytes.iter().take_while(|byte| **byte != b'\n').count()
 }
 
-/// The first line, without its LF.
+/// Returns the first line, without its LF.
 pub fn first_line(bytes: &[u8]) -> &[u8]
     ensures { result.now ≡ first_line bytes.now }
 {
     &bytes[..line_len(bytes)]
 }
 
-/// The line of a byte, without its LF.
+/// Returns the line of a byte, without its LF.
 pub fn line_around(bytes: &[u8], at: usize) -> &[u8]
     requires { at ≤ length bytes.now }
     ensures { result.now ≡ line_around bytes.now at }

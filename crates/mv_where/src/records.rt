@@ -11,11 +11,11 @@ enum Inside {
     Field,
     Plain,
     Quoted,
-    /// After a quote in a quoted field, which ends the quotes unless another follows.
+    /// After a quote in a quoted field. It ends the quotes unless another follows.
     Quote,
 }
 
-/// Where a byte leads.
+/// Returns where the next byte is.
 fn step(inside: Inside, byte: u8) -> Inside {
     match (inside, byte) {
         (Inside::Quoted, b'"') => Inside::Quote,
@@ -28,7 +28,7 @@ fn step(inside: Inside, byte: u8) -> Inside {
     }
 }
 
-/// The place in a block of the record with a number, counted from 1, where it has so many. Empty lines are no records.
+/// Returns the place in a block of the record with a number, from 1, if there are so many. Empty lines aren't records.
 pub fn record_at(block: &[u8], row: u32) -> Option<usize>
     ensures { IfSome result (λ at. at < length block.now) }
 {

@@ -3,7 +3,7 @@
 ghost use Rattle.std.specs.Prelude.{◌≡◌};
 ghost use Rattle.mv_where.specs.Refusal.{is_refusal};
 
-/// What a refusal names in a script. Bytes count from 0, tokens, rows and columns from 1.
+/// What a refusal names in a script. Bytes count from 0; tokens, rows and columns count from 1.
 #[derive(Clone, Copy)]
 pub enum Target<'a> {
     Byte(u32),
@@ -13,14 +13,14 @@ pub enum Target<'a> {
     OpenBlock,
 }
 
-/// Whether a text begins as a refusal does.
+/// Whether a text starts as a refusal does.
 pub fn is_refusal(text: &[u8]) -> bool
     ensures { result ≡ is_refusal text.now }
 {
     text.starts_with(b"refused ")
 }
 
-/// What the line of a refusal names. None where it names nothing, or isn't such a line.
+/// Returns what the line of a refusal names. `None` if it names nothing or isn't such a line.
 pub fn target_of(line: &str) -> Option<Target<'_>> {
     let (number, what) = line.strip_prefix("refused ")?.split_once(' ')?;
     match number {
@@ -39,7 +39,7 @@ fn number_in(digits: &str) -> Option<u32> {
     digits.parse::<u32>().ok()
 }
 
-/// The row that is named as `table <name> row <r>`, which ` column <c>` may follow.
+/// Returns the row that is named as `table <name> row <r>`, which ` column <c>` may follow.
 fn row_of(what: &str) -> Option<Target<'_>> {
     let (table, rest) = what.strip_prefix("table ")?.split_once(" row ")?;
     let digits = match rest.split_once(" column ") {
