@@ -3,7 +3,7 @@ use Rattle.std.specs.Prelude.{ℕ, List, map, pos, slice_index_or}
 use Rattle.mv_values.specs.declared.value.Value.{Value}
 use Rattle.mv_values.specs.declared.value.Value.TheVariants.{Int}
 
--- the value of a column, 0 where the row has no such column
+-- the value of a column, or 0 if the row has no such column
 abbrev pub column_of : List Value → ℕ → Value
 column_of row c = slice_index_or row c (Int (pos 0))
 

@@ -1,4 +1,4 @@
--- The rows of a table, by key. Rows are kept in key order: this project's own rule.
+-- The rows of a table, sorted by key. Rows are kept in key order: this project's own rule.
 use Rattle.std.specs.Prelude.{◌≡◌, ◌≤◌, ℕ, zero, suc, List, [], ◌∷◌, AllPairs, length, slice_get, Some}
 use Rattle.std.specs.List.Sorted.{IsPartitionPoint}
 use Rattle.std.specs.declared.cmp.Ordering.TheVariants.{Less, Greater}
@@ -18,15 +18,15 @@ IsAbove key item = key_order item.key key ≡ Greater
 abbrev pub IsRising : List Keyed → Type 0
 IsRising rows = AllPairs (λ a b. IsBelow b.key a) rows
 
--- the row at the place has the key
+-- the row at this index has the key
 abbrev pub IsPlaceOf : List Keyed → List Value → ℕ → Type 0
 IsPlaceOf rows key at = (item : Keyed) × (slice_get rows at ≡ Some item) × (item.key ≡ key)
 
--- the keys before the place are less, and the others greater
+-- the keys before this index are less, and those from it on are greater
 abbrev pub IsGapFor : List Keyed → List Value → ℕ → Type 0
 IsGapFor rows key at = (at ≤ length rows) × IsPartitionPoint (IsBelow key) (IsAbove key) rows at
 
--- the rows with another row at the place, under the same key
+-- the rows with another row at this index; its key stays the same
 abbrev pub with_row : List Keyed → ℕ → List Value → List Keyed
 with_row [] at row = []
 with_row (item ∷ items) zero row = record item { row = row } ∷ items

@@ -1,5 +1,5 @@
--- What patches make of rows, and writes of a database. That a version is a patch is the paper's (Dashti, Basil John, Shaikhha and
--- Koch, SIGMOD 2017); its three kinds are this project's own.
+-- The effect of patches on rows, and of writes on a database. That a version is a patch is the paper's (Dashti, Basil
+-- John, Shaikhha and Koch, SIGMOD 2017). Its three kinds are this project's own.
 use Rattle.std.specs.Prelude.{List, [], ◌∷◌, ◌++◌, Option, Some, None, slice_set, if◌then◌else◌}
 use Rattle.std.specs.List.{filter}
 use Rattle.std.specs.Option.{option_map}
@@ -19,17 +19,17 @@ use Rattle.mv_values.specs.Tables.{rows_at}
 
 -- One row
 
--- the row under a key
+-- the row with this key, if there is one
 abbrev pub row_of : List Keyed → List Value → Option (List Value)
 row_of [] key = None
 row_of (item ∷ items) key = if is_eq (key_order item.key key) then Some item.row else row_of items key
 
--- a row with columns set, in order
+-- a row after these assignments, in order
 abbrev pub with_columns : List Assign → List Value → List Value
 with_columns [] row = row
 with_columns (a ∷ as') row = with_columns as' (slice_set row a.column a.value)
 
--- the row behind a patch of a row, or of none
+-- the row after a patch; `None` means that there is no row
 abbrev pub patched : Patch → Option (List Value) → Option (List Value)
 patched (Insert row) was = Some row
 patched (Set items) was = option_map (with_columns items) was
@@ -37,7 +37,7 @@ patched Delete was = None
 
 -- The rows of a table
 
--- a row, or none, under a key
+-- the rows with this key: one or none
 abbrev pub standing : List Value → Option (List Value) → List Keyed
 standing key None = []
 standing key (Some row) = record { key = key; row = row } ∷ []
@@ -47,26 +47,26 @@ placed_by Less key row item items later = item ∷ later
 placed_by Equal key row item items later = standing key row ++ items
 placed_by Greater key row item items later = standing key row ++ item ∷ items
 
--- the rows with this one under the key, in its place by key, or with none there
+-- the rows with this row under the key, in key order; `None` means that no row has the key
 abbrev pub placed : List Value → Option (List Value) → List Keyed → List Keyed
 placed key row [] = standing key row
 placed key row (item ∷ items) = placed_by (key_order item.key key) key row item items (placed key row items)
 
--- the rows behind a patch of the one under a key
+-- the rows after a patch of the one with this key
 abbrev pub patched_rows : List Value → Patch → List Keyed → List Keyed
 patched_rows key patch rows = placed key (patched patch (row_of rows key)) rows
 
 -- A database
 
--- the database behind a write
+-- the database after a write
 abbrev pub written : Write → List (List Keyed) → List (List Keyed)
 written w db = slice_set db w.table (patched_rows w.key w.patch (rows_at db w.table))
 
--- the database behind writes, one after another
+-- the database after these writes, in order
 abbrev pub applied : List Write → List (List Keyed) → List (List Keyed)
 applied [] db = db
 applied (w ∷ ws) db = applied ws (written w db)
 
--- the rows that a predicate finds, in key order
+-- the rows that a predicate matches, in key order
 abbrev pub found_by : Pred → List (List Keyed) → List Keyed
 found_by pred db = filter (λ item. matches pred item.row) (rows_at db pred.table)

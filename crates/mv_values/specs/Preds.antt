@@ -1,4 +1,4 @@
--- Predicates on rows: which rows and keys they admit, and what they see of a row. The rule that a predicate is judged
+-- Predicates on rows: which rows and keys they match, and what they see of a row. The rule that a predicate is judged
 -- by the columns that it tests and selects is this project's own.
 use Rattle.std.specs.Prelude.{ℕ, Bool, true, ◌||◌, ◌==◌, List, Option, Some, None, if◌then◌else◌}
 use Rattle.std.specs.List.{list_all, list_any}
@@ -10,19 +10,19 @@ use Rattle.mv_values.specs.Comparing.{op_holds}
 use Rattle.mv_values.specs.Order.{value_order}
 use Rattle.mv_values.specs.Columns.{column_of, columns_of}
 
--- the test holds of a value
+-- whether a value passes the test
 abbrev pub allows : Test → Value → Bool
 allows test v = op_holds test.op (value_order v test.value)
 
--- the test holds of its column in a row
+-- whether a row passes the test
 abbrev pub passes : List Value → Test → Bool
 passes row test = allows test (column_of row test.column)
 
--- every test holds of the row
+-- whether a row passes every test
 abbrev pub matches : Pred → List Value → Bool
 matches pred row = list_all (passes row) pred.tests
 
--- the test holds of the value at its place in a key; a test on no key column says nothing of a key
+-- whether the value at an index of the key passes the test; every key passes a test of a column outside the key
 abbrev pub holds_at : Option ℕ → Test → List Value → Bool
 holds_at None test key = true
 holds_at (Some place) test key = allows test (column_of key place)
@@ -30,19 +30,19 @@ holds_at (Some place) test key = allows test (column_of key place)
 abbrev pub agrees : List Value → Test → Bool
 agrees key test = holds_at test.key_place test key
 
--- every test on a key column holds of the key
+-- whether the key passes every test of a key column
 abbrev pub admits : Pred → List Value → Bool
 admits pred key = list_all (agrees key) pred.tests
 
--- the row, where it is there and passes every test
+-- the row, if there is one and it passes every test
 abbrev pub matched : Pred → Option (List Value) → Option (List Value)
 matched pred None = None
 matched pred (Some row) = if matches pred row then Some row else None
 
--- what the predicate sees of a row: nothing of one that is absent or fails a test, else the columns that it selects
+-- what the predicate sees of a row: the selected columns, or nothing if the row is absent or fails a test
 abbrev pub sees : Pred → Option (List Value) → Option (List Value)
 sees pred row = option_map (λ r. columns_of r pred.columns) (matched pred row)
 
--- the predicate selects or tests the column
+-- whether the predicate selects or tests the column
 abbrev pub names : Pred → ℕ → Bool
 names pred c = list_any (λ d. d == c) pred.columns || list_any (λ t. t.column == c) pred.tests

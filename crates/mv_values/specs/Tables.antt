@@ -1,11 +1,11 @@
--- The tables of a program: their keys, columns and rows by number. This project's own.
+-- The key, the columns and the rows of each table of a program, by table number. This project's own.
 use Rattle.std.specs.Prelude.{◌≡◌, ℕ, List, [], Option, Some, None, All, slice_get, slice_index_or}
 use Rattle.mv_values.specs.declared.schema.Column.{Column}
 use Rattle.mv_values.specs.declared.schema.TableInfo.{TableInfo}
 use Rattle.mv_values.specs.declared.rows.Keyed.{Keyed}
 use Rattle.mv_values.specs.Columns.{columns_of}
 
--- the key columns of a table, none where there is no such table
+-- the key columns of a table; none if there is no such table
 abbrev pub key_in : Option TableInfo → List ℕ
 key_in None = []
 key_in (Some table) = table.key
@@ -25,6 +25,6 @@ columns_at tables t = columns_in (slice_get tables t)
 abbrev pub rows_at : List (List Keyed) → ℕ → List Keyed
 rows_at db t = slice_index_or db t []
 
--- each row stands under its own values of the key columns
+-- the key of each row is its values in the key columns
 abbrev pub KeysStand : List TableInfo → List (List Keyed) → Type 0
 KeysStand tables db = (t : ℕ) → All (λ item. item.key ≡ columns_of item.row (key_columns tables t)) (rows_at db t)

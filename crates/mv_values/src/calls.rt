@@ -1,4 +1,4 @@
-//! Calls of procedures, and what they answer.
+//! Calls of procedures, and their replies.
 
 ghost use Rattle.std.specs.Prelude.{◌≡◌, IfOk};
 
@@ -9,14 +9,14 @@ use crate::txt::Txt;
 use crate::value::{Row, Value};
 use std::alloc::Global;
 
-/// What a call is given for a parameter: a value, or the rows of a ROWS parameter.
+/// An argument of a call: a value, or the rows for a ROWS parameter.
 #[derive(Drop)]
 pub enum Argument {
     One(Value),
     Many(List<Row>),
 }
 
-/// A call of a procedure, named by its number in the order of the script, from 0.
+/// A call of a procedure. Procedures are numbered from 0, in the order of the script.
 #[derive(Drop)]
 pub struct Call {
     pub procedure: u16,
@@ -26,27 +26,28 @@ pub struct Call {
 /// Why a call was rolled back.
 #[derive(Drop)]
 pub enum End {
-    /// Its own ROLLBACK, with its reason.
+    /// It executed ROLLBACK, with this reason.
     Own(Txt),
-    /// A row with the key was there.
+    /// A row with the same key already existed.
     Duplicate,
-    /// A number outside 64 bits.
+    /// A number didn't fit in 64 bits.
     Overflow,
-    /// A division by zero.
+    /// A divisor was zero.
     ZeroDivisor,
-    /// A text longer than its place.
+    /// A text was too long for its destination.
     TooLong,
 }
 
-/// What a call answers: its lines and no end where it went through, no lines and its end where it was rolled back.
+/// The reply to a call. A committed call has the lines that it printed, and no `end`. A call that was rolled back has
+/// an `end`, and no lines.
 #[derive(Drop)]
 pub struct Reply {
     pub lines: List<Txt>,
     pub end: Option<End>,
 }
 
-/// How calls are run: the greatest number of repairs and moves before a call is decided in one step, from 0 to 100,
-/// and how many commits a start may lie behind, from 1, where that is limited.
+/// How calls are executed. `rounds` is the most repairs and moves before a call is decided in one step, from 0 to 100.
+/// `horizon` is how many commits a start may lie in the past, at least 1, or `None` for no limit.
 #[derive(Clone, Copy)]
 pub struct Options {
     pub rounds: u32,

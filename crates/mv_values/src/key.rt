@@ -9,7 +9,7 @@ use crate::memory::NoMemory;
 use crate::value::{Key, Value};
 use std::alloc::Global;
 
-/// A copy of the value of a column, or of 0 where the row has no such column.
+/// Returns a copy of a column's value, or 0 if the row has no such column.
 fn value_at(alloc: Global, row: &[Value], column: u8) -> Result<Value, NoMemory>
     ensures { IfOk result (λ v. v ≡ column_of row.now column) }
 {
@@ -19,7 +19,8 @@ fn value_at(alloc: Global, row: &[Value], column: u8) -> Result<Value, NoMemory>
     }
 }
 
-/// The key of a row: copies of its values in the key columns, in their order.
+/// Returns the key of a row: copies of its values in the key columns, in their order. A column that the row lacks
+/// counts as 0. Fails if memory runs out.
 pub fn key_of(alloc: Global, row: &[Value], columns: &[u8]) -> Result<Key, NoMemory>
     ensures { IfOk result (λ key. key ≡ columns_of row.now columns.now) }
 {

@@ -1,4 +1,4 @@
-//! A list, that contracts see as its items.
+//! A list. Contracts see only its items.
 
 ghost use Rattle.std.specs.Prelude.{◌≡◌, [], ◌∷◌, ◌++◌, ◌<◌, ◌≤◌, ◌+◌, ◌^◌, length, IfOk, OnOk, OnErr, slice_get, slice_set, Some, take, option_to_list, IsSome, ◌↔◌};
 ghost use Rattle.std.specs.List.{insert};
@@ -9,7 +9,7 @@ use std::alloc::Global;
 use std::marker::Model;
 use std::mem;
 
-/// Items in order. Contracts see the items alone, so two lists of equal items are equal.
+/// Items in order. Contracts see only the items, so two lists with equal items are equal.
 #[derive(Drop)]
 pub struct List<T> {
     items: Vec<T>,
@@ -27,7 +27,7 @@ impl<T> Model for List<T> {
 }
 
 impl<T> List<T> {
-    /// The empty list. It takes no memory.
+    /// Returns an empty list. It allocates nothing.
     pub fn new(alloc: Global) -> List<T>
         ensures { result ≡ [] }
     {
@@ -36,21 +36,21 @@ impl<T> List<T> {
         }
     }
 
-    /// How many items there are.
+    /// Returns the number of items.
     pub fn len(&self) -> usize
         ensures { result ≡ length self.now }
     {
         self.items.len()
     }
 
-    /// Lends the items.
+    /// Borrows the items as a slice.
     pub fn as_slice(&self) -> &[T]
         ensures { result.now ≡ self.now }
     {
         self.items.as_slice()
     }
 
-    /// Puts an item in the place of one, and hands that one out.
+    /// Replaces an item and returns the old one.
     pub fn replace(&mut self, at: usize, item: T) -> T
         requires { at < length self.old }
         ensures items { self.new ≡ slice_set self.old at item }
@@ -59,7 +59,7 @@ impl<T> List<T> {
         mem::replace(&mut self.items[at], item)
     }
 
-    /// Takes the last item off.
+    /// Removes the last item and returns it. Returns `None` if the list is empty.
     pub fn pop(&mut self) -> Option<T>
         ensures items { self.old ≡ self.new ++ option_to_list result }
         ensures found { IsSome result ↔ (0 < length self.old) }
@@ -69,7 +69,7 @@ impl<T> List<T> {
 }
 
 impl<T: Drop> List<T> {
-    /// Adds an item at the end.
+    /// Appends an item. Fails if memory runs out, and then leaves the list unchanged.
     pub fn push(&mut self, item: T) -> Result<(), NoMemory>
         ensures ok { OnOk result (self.new ≡ self.old ++ item ∷ []) }
         ensures err { OnErr result (self.new ≡ self.old) }
@@ -78,7 +78,8 @@ impl<T: Drop> List<T> {
         Ok(())
     }
 
-    /// Puts an item at a place, before the one that stands there.
+    /// Inserts an item before the one at the index, or at the end. Fails if memory runs out, and then leaves the list
+    /// unchanged. The cost is linear in the length of the list.
     pub fn insert(&mut self, at: usize, item: T) -> Result<(), NoMemory>
         requires { at ≤ length self.old }
         ensures ok { OnOk result (self.new ≡ insert self.old at item) }
@@ -88,7 +89,7 @@ impl<T: Drop> List<T> {
         Ok(())
     }
 
-    /// Puts an item in the place of one.
+    /// Replaces an item.
     pub fn set(&mut self, at: usize, item: T)
         requires { at < length self.old }
         ensures { self.new ≡ slice_set self.old at item }
@@ -96,7 +97,7 @@ impl<T: Drop> List<T> {
         self.items[at] = item;
     }
 
-    /// Keeps the first `len` items.
+    /// Keeps the first `len` items and drops the others. A shorter list stays as it is.
     pub fn truncate(&mut self, len: usize)
         ensures { self.new ≡ take len self.old }
     {
@@ -105,7 +106,7 @@ impl<T: Drop> List<T> {
 }
 
 impl<T: Copy> List<T> {
-    /// Adds copies of the items at the end.
+    /// Appends copies of the items. Fails if memory runs out, and then leaves the list unchanged.
     pub fn append(&mut self, items: &[T]) -> Result<(), NoMemory>
         ensures ok { OnOk result (self.new ≡ self.old ++ items.now) }
         ensures err { OnErr result (self.new ≡ self.old) }
@@ -122,7 +123,7 @@ impl<T: Copied> Copied for List<T> {
     }
 }
 
-/// Copies of the items.
+/// Returns copies of the items. Fails if memory runs out.
 pub(crate) fn copy_all<T: Copied>(alloc: Global, items: &[T]) -> Result<Vec<T>, NoMemory>
     ensures { IfOk result (λ all. all.items ≡ items.now) }
 {

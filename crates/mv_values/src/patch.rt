@@ -1,4 +1,4 @@
-//! Changes of rows.
+//! Changes to rows.
 
 ghost use Rattle.std.specs.Prelude.{◌≡◌, IfOk};
 
@@ -8,14 +8,14 @@ use crate::memory::NoMemory;
 use crate::value::{Key, Row, Value};
 use std::alloc::Global;
 
-/// A column with a new value.
+/// A column and its new value.
 #[derive(Drop)]
 pub struct Assign {
     pub column: u8,
     pub value: Value,
 }
 
-/// A change of one row: a whole new row, new values of some columns, or that the row is no more.
+/// A change to one row: a whole new row, new values for some columns, or its deletion.
 #[derive(Drop)]
 pub enum Patch {
     Insert(Row),
@@ -23,7 +23,7 @@ pub enum Patch {
     Delete,
 }
 
-/// A change of the row under a key of a table.
+/// A change to the row with this key in a table.
 #[derive(Drop)]
 pub struct Write {
     pub table: u8,

@@ -13,7 +13,8 @@ use crate::op::Op;
 use crate::value::{Row, Value};
 use std::alloc::Global;
 
-/// A test of one column against a value. `key_place` is the column's place in the key, from 0, where it is a key column.
+/// A test of one column against a value. `key_place` is the column's index in the key, from 0, or `None` if the column
+/// isn't in the key.
 #[derive(Drop)]
 pub struct Test {
     pub column: u8,
@@ -22,7 +23,7 @@ pub struct Test {
     pub value: Value,
 }
 
-/// A predicate: the rows of a table that pass every test, and the columns that it selects of them.
+/// A predicate. It matches the rows of a table that pass every test, and selects some of their columns.
 #[derive(Drop)]
 pub struct Pred {
     pub table: u8,
@@ -31,7 +32,7 @@ pub struct Pred {
 }
 
 impl Test {
-    /// Whether it holds of a value of its column.
+    /// Whether a value of its column passes the test.
     pub fn allows(&self, value: &Value) -> bool
         ensures { result ≡ allows self.now value.now }
     {
@@ -39,7 +40,7 @@ impl Test {
     }
 }
 
-/// Whether the test holds of its column in a row. A column that isn't there counts as 0.
+/// Whether a row passes the test. A column that the row lacks counts as 0.
 fn passes(test: &Test, row: &[Value]) -> bool
     ensures { result ≡ passes row.now test.now }
 {
@@ -49,7 +50,7 @@ fn passes(test: &Test, row: &[Value]) -> bool
     }
 }
 
-/// Whether the test, where it is one on a key column, holds of the key.
+/// Whether a key passes the test. Every key passes a test of a column outside the key.
 fn agrees(test: &Test, key: &[Value]) -> bool
     ensures { result ≡ agrees key.now test.now }
 {
@@ -75,7 +76,7 @@ fn is_same_in(column: u8, a: &[Value], b: &[Value]) -> bool
 }
 
 impl Pred {
-    /// Whether the row passes every test. It takes time in the number of tests.
+    /// Whether the row passes every test. The cost is linear in the number of tests.
     pub fn matches(&self, row: &Row) -> bool
         ensures { result ≡ matches self.now row.now }
     {
@@ -83,7 +84,7 @@ impl Pred {
         self.tests.as_slice().iter().all(|test| passes(test, row))
     }
 
-    /// Whether every test on a key column holds of the key.
+    /// Whether the key passes every test of a key column. The cost is linear in the number of tests.
     pub fn admits(&self, key: &Row) -> bool
         ensures { result ≡ admits self.now key.now }
     {
@@ -91,7 +92,7 @@ impl Pred {
         self.tests.as_slice().iter().all(|test| agrees(test, key))
     }
 
-    /// The row, where the predicate sees it at all.
+    /// Returns the row if there is one and it passes every test.
     fn seen<'a>(&self, row: Option<&'a Row>) -> Option<&'a Row>
         ensures { option_copied result ≡ matched self.now (option_copied row.entry) }
     {
@@ -101,7 +102,8 @@ impl Pred {
         }
     }
 
-    /// Whether it sees the same of a row before a change and after it: of both nothing, or the same selected columns.
+    /// Whether it sees the same of a row before and after a change: either both match and have the same values in the
+    /// selected columns, or neither matches.
     pub fn same(&self, before: Option<&Row>, after: Option<&Row>) -> bool
         ensures { IsTrue result ↔ (sees self.now (option_copied before.entry) ≡ sees self.now (option_copied after.entry)) }
     {
@@ -112,7 +114,7 @@ impl Pred {
         }
     }
 
-    /// Whether two rows have the same values in the columns that it selects.
+    /// Whether two rows have the same values in the selected columns.
     fn selects_same(&self, a: &[Value], b: &[Value]) -> bool
         ensures { IsTrue result ↔ (columns_of a.now self.now.columns ≡ columns_of b.now self.now.columns) }
     {

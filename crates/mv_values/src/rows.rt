@@ -1,4 +1,4 @@
-//! The rows of a table, by key.
+//! The rows of a table, sorted by key.
 
 ghost use Rattle.std.specs.Prelude.{◌≡◌, [], ◌∷◌, ◌++◌, ◌<◌, ◌≤◌, All, IfOk, OnOk, OnErr, MatchResult, length, slice_get, Some};
 ghost use Rattle.std.specs.List.{insert, remove};
@@ -29,7 +29,7 @@ impl Copied for Keyed {
     }
 }
 
-/// The rows of a table. Their keys rise, so no two are the same.
+/// The rows of a table, in ascending order of their keys. No two rows have the same key.
 #[derive(Drop)]
 pub struct Rows {
     items: Vec<Keyed>,
@@ -47,11 +47,11 @@ impl Model for Rows {
     ghost invariant = { λ r. IsRising r.items.items };
 }
 
-/// A database: the rows of each table, in the order of the script.
+/// A database: the rows of each table. Tables are in the order in which the script creates them.
 pub type Database = List<Rows>;
 
 impl Rows {
-    /// No rows. It takes no memory.
+    /// Returns an empty set of rows. It allocates nothing.
     pub fn new(alloc: Global) -> Rows
         ensures { result ≡ [] }
     {
@@ -60,7 +60,7 @@ impl Rows {
         }
     }
 
-    /// Lends the rows.
+    /// Borrows the rows as a slice, in key order.
     pub fn as_slice(&self) -> &[Keyed]
         ensures items { result.now ≡ self.now }
         ensures rising { IsRising self.now }
@@ -68,7 +68,7 @@ impl Rows {
         self.items.as_slice()
     }
 
-    /// Hands the rows out.
+    /// Returns the rows by value, in key order.
     pub fn into_items(self) -> Vec<Keyed>
         ensures items { result.items ≡ self }
         ensures rising { IsRising self }
@@ -76,7 +76,7 @@ impl Rows {
         self.items
     }
 
-    /// Adds a row at the end.
+    /// Appends a row. Its key must be greater than all others. Fails if memory runs out, and then changes nothing.
     pub fn push(&mut self, item: Keyed) -> Result<(), NoMemory>
         requires { All (IsBelow item.key) self.old }
         ensures ok { OnOk result (self.new ≡ self.old ++ item ∷ []) }
@@ -86,8 +86,8 @@ impl Rows {
         Ok(())
     }
 
-    /// The place of the row with the key, or the place at which it would stand. It costs the logarithm of the
-    /// number of rows.
+    /// Searches for a key. Returns `Ok` with the index of its row, or `Err` with the index at which its row would be
+    /// inserted. The cost is logarithmic in the number of rows.
     pub fn place_of(&self, key: &[Value]) -> Result<usize, usize>
         ensures rising { IsRising self.now }
         ensures place { MatchResult result (IsPlaceOf self.now key.now) (IsGapFor self.now key.now) }
@@ -99,7 +99,7 @@ impl Rows {
         )
     }
 
-    /// Puts a row in the place of one, under the same key, and hands that one out.
+    /// Replaces a row and returns the old one. The key stays the same.
     pub fn replace_row(&mut self, at: usize, row: Row) -> Row
         requires { at < length self.old }
         ensures rows { self.new ≡ with_row self.old at row }
@@ -108,7 +108,8 @@ impl Rows {
         mem::replace(&mut self.items[at].row, row)
     }
 
-    /// Puts a row at a place, before the one that stands there. With it the keys have to rise.
+    /// Inserts a row before the one at the index. The keys must still be in ascending order. Fails if memory runs out,
+    /// and then changes nothing. The cost is linear in the number of rows.
     pub fn insert(&mut self, at: usize, item: Keyed) -> Result<(), NoMemory>
         requires within { at ≤ length self.old }
         requires rising { IsRising (insert self.old at item) }
@@ -119,7 +120,7 @@ impl Rows {
         Ok(())
     }
 
-    /// Takes a row out.
+    /// Removes a row and returns it. The cost is linear in the number of rows after it.
     pub fn remove(&mut self, at: usize) -> Keyed
         requires { at < length self.old }
         ensures rows { self.new ≡ remove self.old at }
@@ -128,7 +129,7 @@ impl Rows {
         self.items.remove(at)
     }
 
-    /// Puts a row in the place of one, under the same key.
+    /// Replaces a row. The key stays the same.
     pub fn set_row(&mut self, at: usize, row: Row)
         requires { at < length self.old }
         ensures { self.new ≡ with_row self.old at row }
