@@ -1,7 +1,7 @@
--- The bytes of a script, by class. All of this is the language's own.
+-- The classes of bytes in a script. All of this is the language's own.
 use Rattle.std.specs.Prelude.{ℕ, Bool, not, ◌&&◌, ◌||◌, ◌==◌, nat_le}
 
--- the byte is one from low to high
+-- the byte is from `low` to `high`, both included
 abbrev pub is_from : ℕ → ℕ → ℕ → Bool
 is_from low high b = nat_le low b && nat_le b high
 
@@ -9,15 +9,15 @@ is_from low high b = nat_le low b && nat_le b high
 abbrev pub is_blank : ℕ → Bool
 is_blank b = b == 9 || b == 10 || b == 13 || b == 32
 
--- a byte that a line may have: any but LF
+-- a byte that a line may contain: any but LF
 abbrev pub is_in_line : ℕ → Bool
 is_in_line b = not (b == 10)
 
--- a byte that a text may have
+-- a byte that a text may contain
 abbrev pub is_printable : ℕ → Bool
 is_printable b = is_from 32 126 b
 
--- a byte that a script may have
+-- a byte that a script may contain
 abbrev pub is_allowed : ℕ → Bool
 is_allowed b = is_printable b || is_blank b
 
@@ -37,6 +37,6 @@ continues_word b = begins_word b || is_digit b
 abbrev pub is_short_symbol : ℕ → Bool
 is_short_symbol b = is_from 40 47 b || is_from 59 62 b || b == 37
 
--- one of <> <= >= and two bars
+-- one of <> <= >= or two bars
 abbrev pub is_long_symbol : ℕ → ℕ → Bool
 is_long_symbol a b = (a == 60 && (b == 62 || b == 61)) || (a == 62 && b == 61) || (a == 124 && b == 124)

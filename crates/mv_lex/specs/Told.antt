@@ -1,11 +1,11 @@
--- What the lexer tells, whichever it answers.
+-- What each result of the lexer says of the bytes.
 use Rattle.std.specs.Prelude.{List, ℕ, Result, Ok, Err}
 use Rattle.mv_lex.specs.declared.token.Token.{Token}
 use Rattle.mv_lex.specs.declared.lexer.LexFault.{LexFault}
 use Rattle.mv_lex.specs.declared.lexer.LexFault.TheVariants.{BadByte, BadToken, NoMemory}
 use Rattle.mv_lex.specs.Tokens.{AreAllowed, AreTokens, IsBadByte, IsBadToken}
 
--- the answer says what is so of the bytes; want of memory is met only where each byte is allowed
+-- the result is correct for the bytes; memory runs out only if every byte is allowed
 abbrev pub Tells : List ℕ → Result (List Token) LexFault → Type 0
 Tells bytes (Ok tokens) = AreTokens bytes tokens
 Tells bytes (Err (BadByte place)) = IsBadByte bytes place

@@ -14,12 +14,12 @@ use mv_values::list::List;
 use mv_values::memory::NoMemory;
 use std::alloc::Global;
 
-/// Why bytes are no tokens. Places count from 0.
+/// Why bytes can't be split into tokens. Positions count from 0.
 #[derive(Clone, Copy, Debug, PartialEq, Eq)]
 pub enum LexFault {
-    /// The first byte that is not 9, 10, 13 or from 32 to 126.
+    /// The byte at this position is the first that isn't 9, 10, 13 or from 32 to 126.
     BadByte { at: u32 },
-    /// All bytes are allowed. The first place where no token stands.
+    /// All bytes are allowed, but no token begins at this position, the first such.
     BadToken { at: u32 },
     NoMemory,
 }
@@ -35,7 +35,7 @@ impl From<NoMemory> for LexFault {
     }
 }
 
-/// How many bytes at the front are such as a script may have.
+/// Counts the bytes at the front that a script may contain.
 fn allowed_run(bytes: &[u8]) -> usize
     ensures { result ≡ prefix_len is_allowed bytes.now }
 {
@@ -45,7 +45,7 @@ fn allowed_run(bytes: &[u8]) -> usize
         .count()
 }
 
-/// The tokens of a script, or why there are none.
+/// Splits a script into tokens.
 fn read(alloc: Global, bytes: &[u8]) -> Result<List<Token>, LexFault>
     requires { length bytes.now ≤ 2 ^ 24 }
     ensures { Tells bytes.now result }
@@ -73,20 +73,22 @@ fn read(alloc: Global, bytes: &[u8]) -> Result<List<Token>, LexFault>
     Ok(tokens)
 }
 
-/// The tokens of a script, at each place the longest that fits, between blanks and comments.
+/// Splits a script into tokens. Blanks and comments may come between them, and each token is the longest that fits.
+/// The script may have at most 2^24 bytes. Fails if a byte isn't allowed, if at some position no token begins, or if
+/// memory runs out.
 pub fn lex(alloc: Global, bytes: &[u8]) -> Result<List<Token>, LexFault>
     requires { length bytes.now ≤ 2 ^ 24 }
-    // What is answered are the tokens of the bytes.
+    // The result is the tokens of the bytes.
     ensures found { IfOk result (λ tokens. AreTokens bytes.now tokens) }
-    // Where the bytes have tokens, these are answered.
+    // If the bytes have tokens, the result is these tokens, unless memory runs out.
     ensures only { (tokens : Seq Token) → AreTokens bytes.now tokens → MatchResult result (λ answer. answer ≡ tokens) (λ fault. fault ≡ LexFault.NoMemory) }
-    // Each token lies in the bytes, and is spelled as its kind.
+    // Each token lies within the bytes and is spelled as its kind requires.
     ensures spelled { IfOk result (λ tokens. All (IsSpelledIn bytes.now) tokens) }
-    // It is told exactly where a byte is one that no script has, at the first such.
+    // `BadByte` is returned if and only if a byte isn't allowed. It has the position of the first one.
     ensures bad_byte { (place : ℕ) → (result ≡ Err (LexFault.BadByte place)) ↔ IsBadByte bytes.now place }
-    // What is told is the first place without a token.
+    // `BadToken` has the first position at which no token begins.
     ensures bad_token { (place : ℕ) → result ≡ Err (LexFault.BadToken place) → IsBadToken bytes.now place }
-    // Where the bytes have a place without a token, it is told.
+    // If there is such a position, `BadToken` is returned, unless memory runs out.
     ensures bad_token_told { (place : ℕ) → IsBadToken bytes.now place → (result ≡ Err (LexFault.BadToken place)) ⊎ (result ≡ Err LexFault.NoMemory) }
 {
     read(alloc, bytes)

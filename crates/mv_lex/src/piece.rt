@@ -1,4 +1,4 @@
-//! The piece of a script that stands at the front of its bytes.
+//! Reading the first piece of some bytes: a blank, a comment or a token.
 
 ghost use Rattle.std.specs.Prelude.{◌≡◌, ◌≤◌, ◌<◌, length, true, false, IfSome, if◌then◌else◌, Option, Some, None};
 ghost use Rattle.std.specs.List.{prefix_len};
@@ -11,7 +11,7 @@ use crate::classes::{
 };
 use crate::token::Kind;
 
-/// What stands at the front, and how many bytes it takes.
+/// The first piece and its length in bytes.
 #[derive(Clone, Copy)]
 pub(crate) enum Piece {
     /// A blank or a comment.
@@ -20,7 +20,7 @@ pub(crate) enum Piece {
     Nothing,
 }
 
-/// How many bytes at the front go on a word.
+/// Counts the bytes at the front that continue a word.
 fn word_run(bytes: &[u8]) -> usize
     ensures len { result ≡ prefix_len class.continues_word bytes.now }
     ensures within { result ≤ length bytes.now }
@@ -31,7 +31,7 @@ fn word_run(bytes: &[u8]) -> usize
         .count()
 }
 
-/// How many digits stand at the front.
+/// Counts the digits at the front.
 fn digit_run(bytes: &[u8]) -> usize
     ensures len { result ≡ prefix_len class.is_digit bytes.now }
     ensures within { result ≤ length bytes.now }
@@ -39,7 +39,7 @@ fn digit_run(bytes: &[u8]) -> usize
     bytes.iter().take_while(|byte| is_digit(**byte)).count()
 }
 
-/// How many blanks but LF stand at the front.
+/// Counts the blanks at the front, up to the first LF.
 fn blank_run(bytes: &[u8]) -> usize
     ensures len { result ≡ prefix_len is_inner_blank bytes.now }
     ensures within { result ≤ length bytes.now }
@@ -50,7 +50,7 @@ fn blank_run(bytes: &[u8]) -> usize
         .count()
 }
 
-/// How many bytes of the line are left.
+/// Counts the bytes before the end of the line.
 fn line_run(bytes: &[u8]) -> usize
     ensures len { result ≡ prefix_len class.is_in_line bytes.now }
     ensures within { result ≤ length bytes.now }
@@ -58,7 +58,7 @@ fn line_run(bytes: &[u8]) -> usize
     bytes.iter().take_while(|byte| **byte != b'\n').count()
 }
 
-/// How long the word at the front is.
+/// Returns the length of the word at the front, if there is one.
 fn word_len(bytes: &[u8]) -> Option<usize>
     ensures len { result ≡ reading.word_len bytes.now }
     ensures within { IfSome result (λ len. len ≤ length bytes.now) }
@@ -69,7 +69,7 @@ fn word_len(bytes: &[u8]) -> Option<usize>
     }
 }
 
-/// How long the symbol at the front is. `<<` and `--` are none.
+/// Returns the length of the symbol at the front, if there is one. `<<` and `--` aren't symbols.
 fn symbol_len(bytes: &[u8]) -> Option<usize>
     ensures { result ≡ reading.symbol_len bytes.now }
 {
@@ -81,7 +81,7 @@ fn symbol_len(bytes: &[u8]) -> Option<usize>
     }
 }
 
-/// How far the text goes on behind its opening quote, up to the last quote that can close it.
+/// Returns the length of a text after its opening quote, up to the last quote that can close it.
 fn text_len(bytes: &[u8]) -> Option<usize>
     ensures len { result ≡ reading.text_len false bytes.now }
     ensures within { IfSome result (λ len. len ≤ length bytes.now) }
@@ -101,7 +101,7 @@ fn text_len(bytes: &[u8]) -> Option<usize>
     end
 }
 
-/// How long the line at the front is, if it closes a block. `fresh` says that a line begins there.
+/// Returns the length of the first line if it closes a block. `fresh` says whether a line begins here.
 fn closing_len(fresh: bool, bytes: &[u8]) -> Option<usize>
     ensures len { result ≡ (if fresh then reading.closing_len bytes.now else None) }
     ensures within { IfSome result (λ len. len ≤ length bytes.now) }
@@ -115,7 +115,7 @@ fn closing_len(fresh: bool, bytes: &[u8]) -> Option<usize>
     }
 }
 
-/// How far the lines at the front go, up to the end of the first one that closes a block.
+/// Returns the length of the lines up to the end of the first one that closes a block.
 fn block_len(bytes: &[u8]) -> Option<usize>
     ensures len { result ≡ reading.block_len true bytes.now }
     ensures within { IfSome result (λ len. len ≤ length bytes.now) }
@@ -130,7 +130,7 @@ fn block_len(bytes: &[u8]) -> Option<usize>
     None
 }
 
-/// The block that goes on so behind its `<<`, and how far it goes.
+/// Returns the kind of a block and its length after `<<`, if there is one.
 fn block(bytes: &[u8]) -> Option<(Kind, usize)>
     ensures block { result ≡ reading.block_of bytes.now }
     ensures within { IfSome result (λ found. found.1 ≤ length bytes.now) }
@@ -146,7 +146,7 @@ fn block(bytes: &[u8]) -> Option<(Kind, usize)>
     }
 }
 
-/// The token at the front, the longest that fits, and how many bytes it has.
+/// Returns the kind and the length of the longest token at the front, if there is one.
 #[tactic(auto, unfolding(crate::specs::Reading::token_of))]
 fn first_token(bytes: &[u8]) -> Option<(Kind, usize)>
     ensures token { result ≡ reading.token_of bytes.now }
@@ -162,7 +162,7 @@ fn first_token(bytes: &[u8]) -> Option<(Kind, usize)>
     }
 }
 
-/// How long the blank or the comment at the front is.
+/// Returns the length of the blank or the comment at the front, if there is one.
 fn gap_len(bytes: &[u8]) -> Option<usize>
     ensures { result ≡ reading.gap_len bytes.now }
 {
@@ -173,7 +173,7 @@ fn gap_len(bytes: &[u8]) -> Option<usize>
     }
 }
 
-/// The piece at the front.
+/// Returns the piece at the front.
 pub(crate) fn first_piece(bytes: &[u8]) -> Piece
     ensures piece { result ≡ reading.piece_of bytes.now }
     ensures within { reading.IsWithin result (length bytes.now) }

@@ -1,6 +1,6 @@
 //! Tokens.
 
-/// What a token is.
+/// The kind of a token.
 #[derive(Clone, Copy, PartialEq, Eq)]
 pub enum Kind {
     Word,
@@ -8,13 +8,13 @@ pub enum Kind {
     Text,
     Variable,
     Symbol,
-    /// A block whose end is there.
+    /// A block with a closing line.
     Block,
-    /// A block that goes to the end of the input.
+    /// A block without a closing line. It extends to the end of the input.
     OpenBlock,
 }
 
-/// A token: its kind, the place of its first byte, from 0, and how many bytes it has.
+/// A token: its kind, the position of its first byte, from 0, and its length in bytes.
 #[derive(Clone, Copy, PartialEq, Eq)]
 pub struct Token {
     pub kind: Kind,
