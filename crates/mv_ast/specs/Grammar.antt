@@ -40,7 +40,7 @@ use Rattle.mv_ast.specs.Parts.{Part, give, one, both, either, left, expression, 
 use Rattle.mv_ast.specs.Texts.{spelling, lower, number, unquoted, first_line, last_line}
 
 infixl 50 ◌⊛◌ ◌◂◌ ◌▸◌
--- a sequence: a function and then its next argument; a part and what only stands behind it; what only stands before a part
+-- sequences: a function and its next argument; a part before one whose value is dropped; a part after such a one
 abbrev pub ◌⊛◌ : {A B : Type 0} → Part (A → B) → Part A → Part B
 p ⊛ q = both (λ f a. f a) p q
 
@@ -54,7 +54,7 @@ p ▸ q = both (λ a b. b) p q
 abbrev pub place : Terminal → Part ℕ
 place t = give (λ (l : Lexeme). l.number) ⊛ one t
 
--- { p }, p { , p }, [ p ] and a list that may be left out
+-- { p }, p { , p }, [ p ] and an optional list
 abbrev pub added : {A : Type 0} → List A → A → List A
 added vs v = vs ++ v ∷ []
 
@@ -76,12 +76,12 @@ optional p = either (give Some ⊛ p) (give None)
 abbrev pub or_none : {A : Type 0} → Part (List A) → Part (List A)
 or_none p = either p (give [])
 
--- what stands in parentheses
+-- a part in parentheses
 abbrev pub in_parens : {A : Type 0} → Part A → Part A
 in_parens p = one word.Open ▸ p ◂ one word.Close
 
 module _ (bytes : List ℕ) where
-  -- names, variables, numbers and texts, as the tree has them
+  -- names, variables, numbers and texts, as they are in the tree
   abbrev pub name_of : Lexeme → Name
   name_of l = record { text = lower (spelling bytes l); token = l.number }
 
@@ -200,8 +200,7 @@ module _ (bytes : List ℕ) where
   op = either (one word.Equal ▸ give Eq) (either (one word.NotEqual ▸ give Ne) (either (one word.Less ▸ give Lt)
       (either (one word.LessOrEqual ▸ give Le) (either (one word.Greater ▸ give Gt) (one word.GreaterOrEqual ▸ give Ge)))))
 
-  -- an expression of a token, and of one or two others
-  -- an operator and what it is put before: the last is the innermost
+  -- the alternatives of a primary expression
   abbrev pub const_number : Lexeme → Expr
   const_number l = leaf l.number (Const (value.Int (pos (number_of l))))
 
@@ -226,7 +225,8 @@ module _ (bytes : List ℕ) where
   unfoldable pub text_of_call : Part Expr
   text_of_call = give (prefixed TextOf) ⊛ place word.TextOf ⊛ in_parens expression
 
-  -- prim = Number | Text | Variable | Variable . name | name | ( expr ) | LEFT ( expr , expr ) | TEXTOF ( expr ) | CONTAINS ( expr , expr )
+  -- prim = Number | Text | Variable | Variable . name | name | ( expr )
+  --     | LEFT ( expr , expr ) | TEXTOF ( expr ) | CONTAINS ( expr , expr )
   unfoldable pub prim : Part Expr
   prim = either (give const_number ⊛ one word.Number) (either (give const_text ⊛ one word.Quoted) (either variable_expr
       (either (give column_named ⊛ name) (either in_parentheses (either left_call (either text_of_call contains_call))))))
@@ -310,7 +310,9 @@ module _ (bytes : List ℕ) where
   unfoldable pub loop_body : Part (List Stmt)
   loop_body = one word.Do ▸ many statement ◂ one word.End ◂ one word.For ◂ one word.Semicolon
 
-  -- FOR Variable IN SELECT names FROM name [ where ] [ order ] body, with DISTINCT without order, and FOR Variable IN Variable body
+  -- FOR Variable IN SELECT names FROM name [ where ] [ order ] body
+  -- FOR Variable IN SELECT DISTINCT names FROM name [ where ] body
+  -- FOR Variable IN Variable body
   unfoldable pub for_plain : Part (ℕ → Name → Stmt)
   for_plain = give for_plain_of ⊛ commas name ◂ one word.From ⊛ name ⊛ conds ⊛ sorts ⊛ loop_body
 
@@ -356,7 +358,7 @@ module _ (bytes : List ℕ) where
   unfoldable pub stmt : Part Stmt
   stmt = either assign (either select (either for_each (either branch (either insert (either update (either delete (either print rollback)))))))
 
-  -- what may stand inside, so many levels further in
+  -- nested expressions and statements, up to this many levels deep
   unfoldable pub inner : ℕ → Inner
   inner zero = record { is_expression = λ ts v. ⊥; is_statement = λ ts v. ⊥; begins_expression = λ ts. ts ≡ []; begins_statement = λ ts. ts ≡ [] }
   inner (suc d) = record {

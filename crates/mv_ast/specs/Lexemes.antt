@@ -14,7 +14,7 @@ use Rattle.mv_ast.specs.Texts.{lower}
 use Rattle.mv_ast.specs.Grammar.{script, inner}
 use Rattle.mv_ast.specs.Limits.{at_token, first_early, first_late}
 
--- the keywords, which are no names
+-- the keywords; none of them is a name
 unfoldable pub keywords : List (List ℕ × Terminal)
 keywords =
     (codes "and", word.And) ∷
@@ -92,12 +92,12 @@ symbols =
     (codes "||", word.Bars) ∷
     []
 
--- what a text stands for by a table, or else this
+-- the terminal that a table lists for a text, or else `other`
 unfoldable pub listed : List (List ℕ × Terminal) → Terminal → List ℕ → Terminal
 listed [] other text = other
 listed (w ∷ ws) other text = if pointwise ◌==◌ w.0 text then w.1 else listed ws other text
 
--- what the grammar sees of a token with these bytes
+-- the terminal of a token of this kind with these bytes
 abbrev pub kind_of : Kind → List ℕ → Terminal
 kind_of token.Word text = listed keywords word.Name (lower text)
 kind_of token.Number text = word.Number
@@ -110,7 +110,7 @@ kind_of token.OpenBlock text = word.OpenBlock
 abbrev pub lexeme_of : ℕ → List ℕ → Token → Lexeme
 lexeme_of number bytes t = record { number = number; kind = kind_of t.kind (slice_range bytes t.at (t.at + t.len)); at = t.at; len = t.len }
 
--- the tokens, counted from a number on
+-- the tokens, numbered from this number on
 abbrev pub lexemes_from : ℕ → List ℕ → List Token → List Lexeme
 lexemes_from number bytes [] = []
 lexemes_from number bytes (t ∷ ts) = lexeme_of number bytes t ∷ lexemes_from (number + 1) bytes ts
@@ -118,7 +118,7 @@ lexemes_from number bytes (t ∷ ts) = lexeme_of number bytes t ∷ lexemes_from
 abbrev pub lexemes : List ℕ → List Token → List Lexeme
 lexemes bytes tokens = lexemes_from 1 bytes tokens
 
--- The tokens are a script by the grammar, limits aside, with what stands inside to any number of levels.
+-- The tokens are a script by the grammar, limits aside. Expressions and statements may be nested to any depth.
 abbrev pub IsByGrammar : List ℕ → List Token → Script → Type 0
 IsByGrammar bytes tokens s = (levels : ℕ) × Is (inner bytes levels) (script bytes) (lexemes bytes tokens) s
 
@@ -128,17 +128,20 @@ pub record IsScript (bytes : List ℕ) (tokens : List Token) (s : Script) : Type
   pub early : first_early (lexemes bytes tokens) ≡ None
   pub late : first_late bytes (lexemes bytes tokens) s ≡ None
 
--- This limit is the one to tell, at this token: depth or stretch where they are passed first, and else another limit that a script by the grammar passes first.
+-- This limit is reported, at this token. If depth or stretch is passed, it is the first of them. Otherwise the tokens
+-- are a script by the grammar, and it is the first of the other limits that the script passes.
 abbrev pub PassesLimit : List ℕ → List Token → Which → ℕ → Type 0
 PassesLimit bytes tokens which token =
     (first_early (lexemes bytes tokens) ≡ Some (at_token which token))
     ⊎ ((first_early (lexemes bytes tokens) ≡ None) × (s : Script) × IsByGrammar bytes tokens s × (first_late bytes (lexemes bytes tokens) s ≡ Some (at_token which token)))
 
--- The first so many tokens begin a script, limits aside.
+-- The first `n` tokens begin a script, limits aside.
 abbrev pub BeginScript : List ℕ → List Token → ℕ → Type 0
 BeginScript bytes tokens n = (levels : ℕ) × Begins (inner bytes levels) (script bytes) (take n (lexemes bytes tokens))
 
--- The first token, counted from 1, with which no script goes on, where depth and stretch aren't passed: the tokens before it begin a script, with it they don't; it is one past the last where all tokens begin a script and are none.
+-- This is the first token, counted from 1, that can't continue a script. Depth and stretch aren't passed. The tokens
+-- before it begin a script, and with it they don't. If all tokens together begin a script but aren't one, it is one
+-- past the last.
 pub record CannotStand (bytes : List ℕ) (tokens : List Token) (t : ℕ) : Type 0 where
   pub early : first_early (lexemes bytes tokens) ≡ None
   pub counted : (1 ≤ t) × (t ≤ length tokens + 1)

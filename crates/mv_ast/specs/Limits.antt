@@ -36,17 +36,17 @@ use Rattle.mv_ast.specs.Texts.{spelling, number_from, unquoted, greatest}
 abbrev pub at_token : Which → ℕ → Passed
 at_token which token = record { which = which; token = token }
 
--- A front of the tokens is written with its last token first.
+-- A prefix of the tokens is a list with its last token first.
 abbrev pub is_end : Terminal → Bool
 is_end word.End = true
 is_end t = false
 
--- whether a front ends with END
+-- whether a prefix ends with END
 abbrev pub is_behind_end : List Lexeme → Bool
 is_behind_end [] = false
 is_behind_end (l ∷ before) = is_end l.kind
 
--- `(`, BEGIN, and an IF or a FOR that isn't directly behind END stand one level further in
+-- `(` and BEGIN open a level, and so do IF and FOR unless they directly follow END
 abbrev pub is_opening : Terminal → Bool → Bool
 is_opening word.Open behind_end = true
 is_opening word.Begin behind_end = true
@@ -54,7 +54,7 @@ is_opening word.If behind_end = not behind_end
 is_opening word.For behind_end = not behind_end
 is_opening t behind_end = false
 
--- `)` and END stand one level further out
+-- `)` and END close a level
 abbrev pub is_closing : Terminal → Bool
 is_closing word.Close = true
 is_closing word.End = true
@@ -63,7 +63,7 @@ is_closing t = false
 abbrev pub deeper : Terminal → Bool → ℕ → ℕ
 deeper t behind_end n = if is_opening t behind_end then n + 1 else (if is_closing t then n - 1 else n)
 
--- how deep a front ends
+-- the nesting depth at the end of a prefix
 abbrev pub depth : List Lexeme → ℕ
 depth [] = 0
 depth (l ∷ before) = deeper l.kind (is_behind_end before) (depth before)
@@ -76,12 +76,12 @@ is_stop word.Block = true
 is_stop word.OpenBlock = true
 is_stop t = false
 
--- how many tokens stand at the end of a front without one that ends a stretch
+-- the number of tokens in a prefix after the last one that ends a stretch
 abbrev pub stretch : List Lexeme → ℕ
 stretch [] = 0
 stretch (l ∷ before) = if is_stop l.kind then 0 else stretch before + 1
 
--- the limit that is passed at the last token of a front, if one is
+-- the limit that is passed at the last token of a prefix, if there is one
 abbrev pub over : ℕ → List Lexeme → Option Passed
 over token front = if nat_lt 32 (depth front) then Some (at_token limit.Depth token) else (if nat_lt 1000 (stretch front) then Some (at_token limit.Stretch token) else None)
 
@@ -89,7 +89,7 @@ abbrev pub or_else : Option Passed → Option Passed → Option Passed
 or_else None other = other
 or_else (Some p) other = Some p
 
--- where tokens behind a front first pass depth or stretch
+-- where the tokens after a prefix first pass depth or stretch
 unfoldable pub first_behind : List Lexeme → List Lexeme → Option Passed
 first_behind before [] = None
 first_behind before (l ∷ ls) = or_else (over l.number (l ∷ before)) (first_behind (l ∷ before) ls)
@@ -98,7 +98,7 @@ first_behind before (l ∷ ls) = or_else (over l.number (l ∷ before)) (first_b
 abbrev pub first_early : List Lexeme → Option Passed
 first_early lexemes = first_behind [] lexemes
 
--- the place of a limit among the limits
+-- the rank of a limit: its index among the limits
 abbrev pub rank : Which → ℕ
 rank limit.Depth = 0
 rank limit.Stretch = 1
@@ -115,7 +115,7 @@ rank limit.Statements = 11
 rank limit.Calls = 12
 rank limit.Rows = 13
 
--- the earlier token comes first, and at one token the limit that stands first among the limits
+-- the earlier token comes first; at the same token, the limit of lower rank
 abbrev pub is_sooner : Passed → Passed → Bool
 is_sooner p q = nat_lt p.token q.token || ((p.token == q.token) && nat_lt (rank p.which) (rank q.which))
 
@@ -123,16 +123,16 @@ abbrev pub sooner : Option Passed → Passed → Option Passed
 sooner None p = Some p
 sooner (Some q) p = if is_sooner p q then Some p else Some q
 
--- what comes first, here or there
+-- whichever comes first: `best`, or one of a list
 unfoldable pub soonest : Option Passed → List Passed → Option Passed
 soonest best [] = best
 soonest best (p ∷ ps) = soonest (sooner best p) ps
 
--- a list of more items than this passes its limit at the first item behind these
+-- a list with more than `most` items passes its limit at the first item after these
 abbrev pub too_many : {A : Type 0} → Which → ℕ → (A → ℕ) → List A → List Passed
 too_many which most token items = option_to_list (option_map (λ x. at_token which (token x)) (slice_get items most))
 
--- lists joined in order
+-- the concatenation of lists
 abbrev pub together : {A : Type 0} → List (List A) → List A
 together [] = []
 together (xs ∷ xss) = xs ++ together xss
@@ -141,8 +141,8 @@ abbrev pub when : Bool → Passed → List Passed
 when true p = p ∷ []
 when false p = []
 
--- A token's own limits.
--- 64 bytes in a name, the greatest INT, and 4,000 bytes in a text
+-- The limits of a single token.
+-- a name has at most 64 bytes, a number is at most the greatest INT, and a text has at most 4,000 bytes
 abbrev pub own_passes : Terminal → List ℕ → ℕ → List Passed
 own_passes word.Name text token = when (nat_lt 64 (length text)) (at_token limit.Name token)
 own_passes word.Variable text token = when (nat_lt 65 (length text)) (at_token limit.Name token)
@@ -150,7 +150,7 @@ own_passes word.Number text token = when (nat_lt greatest (number_from 0 text)) 
 own_passes word.Quoted text token = when (nat_lt 4000 (length (unquoted text))) (at_token limit.Text token)
 own_passes t text token = []
 
--- TEXT ( and a number
+-- the tokens are TEXT, `(` and a number
 abbrev pub is_size_of : Terminal → Terminal → Terminal → Bool
 is_size_of word.Text word.Open word.Number = true
 is_size_of a b c = false
@@ -163,12 +163,12 @@ abbrev pub size_passes : List ℕ → List Lexeme → List Passed
 size_passes bytes (a ∷ b ∷ c ∷ ls) = when (is_size_of a.kind b.kind c.kind && not (is_size (number_from 0 (spelling bytes c)))) (at_token limit.Text c.number)
 size_passes bytes ls = []
 
--- all that the tokens pass of themselves
+-- all limits that single tokens pass
 unfoldable pub token_passes : List ℕ → List Lexeme → List Passed
 token_passes bytes [] = []
 token_passes bytes (l ∷ ls) = (own_passes l.kind (spelling bytes l) l.number ++ size_passes bytes (l ∷ ls)) ++ token_passes bytes ls
 
--- The tokens of the items of a list. The DECLARE of a variable stands directly before its name.
+-- The first token of each item of a list. The DECLARE of a variable comes directly before its name.
 abbrev pub name_token : Name → ℕ
 name_token n = n.token
 
@@ -199,14 +199,14 @@ set_token i = i.column.token
 abbrev pub item_token : Item → ℕ
 item_token i = i.token
 
--- 32 columns of a table, a ROWS parameter, a list of a statement and a literal row
+-- a table, a ROWS parameter, a list of a statement and a literal row have at most 32 columns
 abbrev pub columns_most : ℕ
 columns_most = 32
 
 abbrev pub row_passes : LitRow → List Passed
 row_passes r = too_many limit.Columns columns_most literal_token r.values
 
--- a table has 32 columns and 8 key columns; its rows aren't counted
+-- a table has at most 32 columns and 8 key columns; its rows aren't counted
 abbrev pub table_passes : TableDef → List Passed
 table_passes t = too_many limit.Columns columns_most column_token t.columns ++ (too_many limit.Key 8 name_token t.key ++ together (map row_passes t.rows))
 
@@ -217,7 +217,7 @@ kind_passes (parameter.Many columns) = too_many limit.Columns columns_most colum
 abbrev pub param_passes : Param → List Passed
 param_passes p = kind_passes p.kind
 
--- a ROWS argument has 1,000 rows
+-- a ROWS argument has at most 1,000 rows
 abbrev pub argument_passes : Arg → List Passed
 argument_passes (argument.One l) = []
 argument_passes (argument.Many rows) = too_many limit.Rows 1000 row_token rows.rows ++ together (map row_passes rows.rows)
@@ -225,7 +225,7 @@ argument_passes (argument.Many rows) = too_many limit.Rows 1000 row_token rows.r
 abbrev pub call_passes : CallDef → List Passed
 call_passes c = together (map argument_passes c.arguments)
 
--- the lists of a statement and of those inside it
+-- the limits that the lists of a statement pass, those of nested statements included
 abbrev pub statement_step : Stmt-F (List Passed) → List Passed
 statement_step (Assign token to right) = []
 statement_step (Select token columns to table conds sorts offset) =
@@ -244,7 +244,7 @@ statement_step (Rollback token reason) = []
 abbrev pub statement_passes : Stmt → List Passed
 statement_passes = fold-Stmt (List Passed) statement_step
 
--- the first tokens of a statement and of those inside it, in the order of the text
+-- the first tokens of a statement and of those nested in it, in the order of the text
 abbrev pub tokens_step : Stmt-F (List ℕ) → List ℕ
 tokens_step (Assign token to right) = token ∷ []
 tokens_step (Select token columns to table conds sorts offset) = token ∷ []
@@ -261,7 +261,7 @@ tokens_step (Rollback token reason) = token ∷ []
 abbrev pub statement_tokens : Stmt → List ℕ
 statement_tokens = fold-Stmt (List ℕ) tokens_step
 
--- a procedure has 16 parameters, 64 declared variables and 1,000 statements, those inside others too
+-- a procedure has at most 16 parameters, 64 declared variables and 1,000 statements, nested ones included
 abbrev pub procedure_passes : ProcDef → List Passed
 procedure_passes p = too_many limit.Parameters 16 param_token p.params ++ (too_many limit.Variables 64 declared_token p.vars
     ++ (together (map param_passes p.params) ++ (together (map statement_passes p.body) ++ too_many limit.Statements 1000 (λ t. t) (together (map statement_tokens p.body)))))
@@ -276,7 +276,7 @@ item_passes (Journal s) = []
 abbrev pub passes_in : Item → List Passed
 passes_in i = item_passes i.kind
 
--- whether this limit counts such items
+-- whether the limit counts items of this kind
 abbrev pub is_counted : Which → ItemKind → Bool
 is_counted limit.Tables (Table t) = true
 is_counted limit.Procedures (Proc p) = true
@@ -286,11 +286,11 @@ is_counted which kind = false
 abbrev pub too_many_items : Which → ℕ → List Item → List Passed
 too_many_items which most items = too_many which most item_token (filter (λ i. is_counted which i.kind) items)
 
--- a script has 64 tables, 256 procedures and 1,000,000 calls
+-- a script has at most 64 tables, 256 procedures and 1,000,000 calls
 abbrev pub script_passes : Script → List Passed
 script_passes s = too_many_items limit.Tables 64 s.items ++ (too_many_items limit.Procedures 256 s.items
     ++ (too_many_items limit.Calls 1000000 s.items ++ together (map passes_in s.items)))
 
--- which limit a script passes first, but for depth and stretch
+-- the limit that a script passes first, other than depth and stretch
 abbrev pub first_late : List ℕ → List Lexeme → Script → Option Passed
 first_late bytes lexemes script = soonest None (token_passes bytes lexemes ++ script_passes script)

@@ -1,4 +1,4 @@
--- What the bytes of a token stand for.
+-- The value of a token, from its bytes.
 use Rattle.std.specs.Prelude.{ℕ, ◌+◌, ◌-◌, ◌*◌, min, ◌==◌, List, [], ◌∷◌, length, map, slice_range, if◌then◌else◌, Option, Some, None}
 use Rattle.std.specs.List.{ends_with, position}
 use Rattle.std.specs.Char.{to_ascii_lowercase}
@@ -8,7 +8,7 @@ use Rattle.mv_ast.specs.declared.lexeme.Lexeme.{Lexeme}
 abbrev pub spelling : List ℕ → Lexeme → List ℕ
 spelling bytes l = slice_range bytes l.at (l.at + l.len)
 
--- names and keywords ignore case
+-- a text in lower case: names and keywords ignore case
 abbrev pub lower : List ℕ → List ℕ
 lower text = map to_ascii_lowercase text
 
@@ -16,26 +16,26 @@ lower text = map to_ascii_lowercase text
 abbrev pub greatest : ℕ
 greatest = 9223372036854775807
 
--- the number that digits are, after digits that are this number
+-- the value of digits that follow digits of value `n`
 unfoldable pub number_from : ℕ → List ℕ → ℕ
 number_from n [] = n
 number_from n (d ∷ ds) = number_from (10 * n + (d - 48)) ds
 
--- the value of digits; one above the greatest INT is read as that
+-- the value of digits, but at most the greatest INT
 abbrev pub number : List ℕ → ℕ
 number digits = min (number_from 0 digits) greatest
 
--- two quotes within a text stand for one
+-- a text with each doubled quote replaced by one
 unfoldable pub undoubled : List ℕ → List ℕ
 undoubled [] = []
 undoubled (b ∷ []) = b ∷ []
 undoubled (a ∷ b ∷ bs) = if a == 39 then a ∷ undoubled bs else a ∷ undoubled (b ∷ bs)
 
--- what stands between the quotes of a text
+-- the value of a text: what is between its quotes, each doubled quote replaced by one
 abbrev pub unquoted : List ℕ → List ℕ
 unquoted text = undoubled (slice_range text 1 (length text - 1))
 
--- how many bytes stand up to the first LF, with it
+-- the length of the first line, with its LF
 abbrev pub line_end : Option ℕ → ℕ → ℕ
 line_end None len = len
 line_end (Some at) len = at + 1
@@ -43,6 +43,6 @@ line_end (Some at) len = at + 1
 abbrev pub first_line : List ℕ → ℕ
 first_line text = line_end (position (λ b. b == 10) text) (length text)
 
--- how many bytes the line `>>` has that ends a block, with its LF and a CR before that
+-- the length of the line `>>` that closes a block, with its CR and LF if it has them
 abbrev pub last_line : List ℕ → ℕ
 last_line text = if ends_with ◌==◌ text (13 ∷ 10 ∷ []) then 4 else (if ends_with ◌==◌ text (10 ∷ []) then 3 else 2)

@@ -1,4 +1,4 @@
--- How the parts of a script are put together to its tree.
+-- How the tree of a script is built from its parts.
 use Rattle.std.specs.Prelude.{List, [], ◌∷◌, ℕ, Bool, true, false, Option, Some, None}
 use Rattle.mv_values.specs.declared.schema.ColType.{ColType}
 use Rattle.mv_values.specs.declared.op.Op.{Op}

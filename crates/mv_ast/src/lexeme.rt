@@ -1,6 +1,6 @@
 //! Tokens as the grammar sees them.
 
-/// What the grammar sees of a token: which keyword, which symbol, or of which kind it is.
+/// The terminal of the grammar that a token is: a keyword, a symbol, or another kind of token.
 #[derive(Clone, Copy, PartialEq, Eq)]
 pub enum Terminal {
     Name,
@@ -79,8 +79,8 @@ pub enum Terminal {
     Bars,
 }
 
-/// A token as the grammar sees it: its number, counted from 1, what it is, the place of its first
-/// byte, and how many bytes it has.
+/// A token as the grammar sees it: its number, counted from 1, its terminal, the position of its first byte, from 0,
+/// and its length in bytes.
 #[derive(Clone, Copy)]
 pub struct Lexeme {
     pub number: u32,

@@ -1,4 +1,4 @@
-//! The tree. Tokens count from 1, and each `token` is the number of the first token of its part.
+//! The syntax tree. Tokens are numbered from 1. Each `token` is the number of the first token of its part.
 
 use mv_values::boxed::Boxed;
 use mv_values::list::List;
@@ -14,7 +14,7 @@ pub struct Name {
     pub token: u32,
 }
 
-/// The bytes of a block: where they begin, how many there are, and whether a line `>>` ends them.
+/// The bytes of a block: the position of the first one, how many there are, and whether a line `>>` closes the block.
 #[derive(Clone, Copy)]
 pub struct Span {
     pub token: u32,
@@ -63,7 +63,7 @@ pub struct ColDef {
     pub kind: ColType,
 }
 
-/// A literal. The `-` of a negative number is its first token.
+/// A literal. The first token of a negative number is its `-`.
 #[derive(Drop)]
 pub struct Lit {
     pub value: Value,
@@ -120,7 +120,7 @@ pub struct LitRows {
     pub rows: List<LitRow>,
 }
 
-/// A test of WHERE.
+/// A test in a WHERE clause.
 #[derive(Drop)]
 pub struct Cond {
     pub column: Name,
@@ -233,7 +233,7 @@ pub struct Expr {
 pub enum ExprKind {
     Const(Value),
     Var(Name),
-    /// A column of a loop's row: the loop's name and the column's.
+    /// A column of the current row of a loop: the name of the loop's variable, and the name of the column.
     Field(Name, Name),
     Col(Name),
     One(OneOp, Boxed<Expr>),
