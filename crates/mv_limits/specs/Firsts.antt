@@ -3,7 +3,7 @@ use Rattle.std.specs.Prelude.{◌≡◌, false, List, [], ◌∷◌, Option, Som
 use Rattle.mv_ast.specs.declared.limit.Passed.{Passed}
 use Rattle.mv_ast.specs.Limits.{is_sooner}
 
--- it is one of these
+-- this limit is one of these
 abbrev pub IsIn : Passed → List Passed → Type 0
 IsIn p [] = ⊥
 IsIn p (q ∷ qs) = (p ≡ q) ⊎ IsIn p qs

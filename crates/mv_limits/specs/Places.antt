@@ -1,11 +1,11 @@
--- Looking for a token at a place of a list.
+-- The search for the token at an index of a list.
 use Rattle.std.specs.Prelude.{ℕ, zero, suc, List, [], ◌∷◌, Option, Some, None}
 use Rattle.mv_limits.specs.declared.place.Place.{Place}
 
 abbrev pub place_of : ℕ → Option ℕ → Place
 place_of left found = record { left = left; found = found }
 
--- one token further: it is the one looked for where none is left before it
+-- after one more token: it is the wanted one if none is left before it
 abbrev pub step_from : ℕ → Option ℕ → ℕ → Place
 step_from left (Some t) token = place_of left (Some t)
 step_from zero None token = place_of zero (Some token)
@@ -14,7 +14,7 @@ step_from (suc left) None token = place_of left None
 abbrev pub step : Place → ℕ → Place
 step p token = step_from p.left p.found token
 
--- so many tokens further
+-- after these tokens
 unfoldable pub seek : Place → List ℕ → Place
 seek p [] = p
 seek p (t ∷ ts) = seek (step p t) ts

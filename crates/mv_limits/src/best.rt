@@ -6,7 +6,7 @@ ghost use Rattle.mv_ast.specs.Limits.{rank, is_sooner, sooner, soonest, when, at
 use mv_ast::limit::{Passed, Which};
 use mv_ast::tree::{ColDef, Expr, Lit, LitRow, Name, Param, SetItem, Sort, VarDef};
 
-/// The place of a limit among the limits.
+/// Returns the index of a limit in `Which`.
 fn rank(which: Which) -> u8
     ensures { result ≡ rank which }
 {
@@ -19,7 +19,7 @@ fn is_sooner(pass: Passed, other: Passed) -> bool
     pass.token < other.token || (pass.token == other.token && rank(pass.which) < rank(other.which))
 }
 
-/// The one of the two that comes first.
+/// Returns whichever of the two comes first.
 pub(crate) fn sooner(best: Option<Passed>, pass: Passed) -> Option<Passed>
     ensures { result ≡ sooner best pass }
 {
@@ -35,7 +35,7 @@ pub(crate) fn sooner(best: Option<Passed>, pass: Passed) -> Option<Passed>
     }
 }
 
-/// The same, where the limit is passed at all.
+/// Returns whichever of the two comes first. The limit counts only if `is_passed`.
 #[tactic(auto, unfolding(mv_ast::specs::Limits::soonest))]
 pub(crate) fn sooner_when(
     best: Option<Passed>,
@@ -52,7 +52,7 @@ pub(crate) fn sooner_when(
     }
 }
 
-/// What has a token at which it is counted.
+/// An item that is counted at one of its tokens.
 pub(crate) trait Placed {
     ghost place: { Self → ℕ };
 
@@ -60,7 +60,7 @@ pub(crate) trait Placed {
         ensures { result ≡ place self.now };
 }
 
-/// What comes first, with this limit where there are more than `most` items.
+/// Returns whichever comes first: `best`, or this limit if there are more than `most` items.
 #[tactic(auto, unfolding(mv_ast::specs::Limits::soonest))]
 pub(crate) fn too_many<T: Placed>(
     best: Option<Passed>,

@@ -1,4 +1,4 @@
-//! Depth and stretch, which are told from the tokens before the grammar.
+//! Depth and stretch. They are checked on the tokens, before the grammar.
 
 ghost use Rattle.std.specs.Prelude.{◌≡◌, ◌≤◌, ◌+◌, if◌then◌else◌};
 ghost use Rattle.mv_ast.specs.Limits.{is_end, is_opening, is_closing, is_stop, deeper, first_early};
@@ -6,13 +6,13 @@ ghost use Rattle.mv_ast.specs.Limits.{is_end, is_opening, is_closing, is_stop, d
 use mv_ast::lexeme::{Lexeme, Terminal};
 use mv_ast::limit::{Passed, Which};
 
-/// How deep parentheses, IF, FOR and BEGIN may stand in one another.
+/// The greatest nesting depth of parentheses, IF, FOR and BEGIN.
 const DEPTH: u32 = 32;
 
-/// How many tokens may stand in a row without `;`, `,` or a block.
+/// The most successive tokens without `;`, `,` or a block.
 const STRETCH: u32 = 1000;
 
-/// What is counted up to a token, and whether that token is END.
+/// The counts after a token, and whether that token is END.
 #[derive(Clone, Copy)]
 struct Counts {
     depth: u32,
@@ -71,7 +71,7 @@ fn deeper(kind: Terminal, behind_end: bool, depth: u32) -> u32
 }
 
 impl Counts {
-    /// The counts with one token more.
+    /// Returns the counts after one more token.
     fn after(self, kind: Terminal) -> Counts
         requires depth { self.depth ≤ 32 }
         requires stretch { self.stretch ≤ 1000 }
@@ -87,7 +87,8 @@ impl Counts {
     }
 }
 
-/// The first token at which depth or stretch is passed. At one token depth counts.
+/// Returns the first token at which depth or stretch is passed. If both are passed there, depth counts. The cost is
+/// linear in the number of tokens.
 pub fn first_early(lexemes: &[Lexeme]) -> Option<Passed>
     ensures { result ≡ first_early lexemes.now }
 {

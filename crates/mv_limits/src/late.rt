@@ -1,4 +1,4 @@
-//! The limits of a script that the grammar takes: all but depth and stretch.
+//! The limits that are checked on a script by the grammar: all but depth and stretch.
 
 ghost use Rattle.std.specs.Prelude.{◌≡◌, map};
 ghost use Rattle.mv_ast.specs.Limits.{soonest, together, is_counted, too_many_items, procedure_passes, passes_in, script_passes, first_late};
@@ -23,7 +23,7 @@ const PARAMETERS: usize = 16;
 
 const VARIABLES: usize = 64;
 
-/// What comes first, with the limits of a procedure.
+/// Returns whichever comes first: `best`, or a limit passed in the procedure.
 #[tactic(auto, using(crate::proofs::Joining::soonest_joined))]
 fn in_procedure(best: Option<Passed>, procedure: &ProcDef) -> Option<Passed>
     ensures { result ≡ soonest best (procedure_passes procedure.now) }
@@ -35,7 +35,7 @@ fn in_procedure(best: Option<Passed>, procedure: &ProcDef) -> Option<Passed>
     in_body(best, procedure.body.as_slice())
 }
 
-/// Whether this limit counts such items.
+/// Whether the limit counts items of this kind.
 fn is_counted(which: Which, kind: &ItemKind) -> bool
     ensures { result ≡ is_counted which kind.now }
 {
@@ -47,7 +47,7 @@ fn is_counted(which: Which, kind: &ItemKind) -> bool
     }
 }
 
-/// What comes first, with this limit where more than `most` items are counted by it.
+/// Returns whichever comes first: `best`, or this limit if it counts more than `most` of the items.
 fn too_many_items(best: Option<Passed>, which: Which, most: usize, items: &[Item]) -> Option<Passed>
     ensures { result ≡ soonest best (too_many_items which most items.now) }
 {
@@ -65,7 +65,7 @@ fn too_many_items(best: Option<Passed>, which: Which, most: usize, items: &[Item
     best
 }
 
-/// What comes first, with the limits within an item.
+/// Returns whichever comes first: `best`, or a limit passed within the item.
 #[tactic(auto, unfolding(mv_ast::specs::Limits::soonest))]
 fn in_item(best: Option<Passed>, item: &Item) -> Option<Passed>
     ensures { result ≡ soonest best (passes_in item.now) }
@@ -78,7 +78,7 @@ fn in_item(best: Option<Passed>, item: &Item) -> Option<Passed>
     }
 }
 
-/// What comes first, with the limits within items.
+/// Returns whichever comes first: `best`, or a limit passed within one of the items.
 fn in_items(best: Option<Passed>, items: &[Item]) -> Option<Passed>
     ensures { result ≡ soonest best (together (map passes_in items.now)) }
 {
@@ -89,9 +89,9 @@ fn in_items(best: Option<Passed>, items: &[Item]) -> Option<Passed>
     best
 }
 
-/// The first token at which a limit other than depth and stretch is passed, in a script with this
-/// tree, these tokens and these bytes. At one token the limit counts that stands first in `Which`.
-/// It takes time in the number of bytes, and no memory.
+/// Returns the first token at which a limit other than depth and stretch is passed, in a script with this tree, these
+/// tokens and these bytes. If several limits are passed there, the first in `Which` counts. The cost is linear in the
+/// number of bytes. It allocates nothing.
 #[tactic(auto, using(crate::proofs::Joining::soonest_joined))]
 pub fn first_late(bytes: &[u8], lexemes: &[Lexeme], script: &Script) -> Option<Passed>
     ensures { result ≡ first_late bytes.now lexemes.now script.now }

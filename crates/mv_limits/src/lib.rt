@@ -1,4 +1,4 @@
-//! Where scripts pass the limits of the language.
+//! Checks where a script passes a limit of the language.
 #![tactic(auto)]
 
 mod best;

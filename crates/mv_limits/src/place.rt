@@ -1,6 +1,6 @@
-//! Looking for the token at a place of a list.
+//! The search for the token at an index of a list.
 
-/// How many tokens are left before the one looked for, and that one, once it is found.
+/// How many tokens are left before the wanted one, and the wanted one once it is found.
 #[derive(Clone, Copy)]
 pub(crate) struct Place {
     pub(crate) left: usize,

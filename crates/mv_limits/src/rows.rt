@@ -14,7 +14,7 @@ const KEY: usize = 8;
 /// The most rows of one ROWS argument.
 const ROWS: usize = 1000;
 
-/// What comes first, with the limits of literal rows.
+/// Returns whichever comes first: `best`, or a limit passed in the literal rows.
 fn in_rows(best: Option<Passed>, rows: &[LitRow]) -> Option<Passed>
     ensures { result ≡ soonest best (together (map row_passes rows.now)) }
 {
@@ -25,7 +25,7 @@ fn in_rows(best: Option<Passed>, rows: &[LitRow]) -> Option<Passed>
     best
 }
 
-/// What comes first, with the limits of a table.
+/// Returns whichever comes first: `best`, or a limit passed in the table.
 #[tactic(auto, using(crate::proofs::Joining::soonest_joined))]
 pub(crate) fn in_table(best: Option<Passed>, table: &TableDef) -> Option<Passed>
     ensures { result ≡ soonest best (table_passes table.now) }
@@ -35,7 +35,7 @@ pub(crate) fn in_table(best: Option<Passed>, table: &TableDef) -> Option<Passed>
     in_rows(best, table.rows.as_slice())
 }
 
-/// What comes first, with the limits of a parameter.
+/// Returns whichever comes first: `best`, or a limit passed in the parameter.
 #[tactic(auto, unfolding(mv_ast::specs::Limits::soonest))]
 fn in_param(best: Option<Passed>, param: &Param) -> Option<Passed>
     ensures { result ≡ soonest best (param_passes param.now) }
@@ -46,7 +46,7 @@ fn in_param(best: Option<Passed>, param: &Param) -> Option<Passed>
     }
 }
 
-/// What comes first, with the limits of parameters.
+/// Returns whichever comes first: `best`, or a limit passed in the parameters.
 pub(crate) fn in_params(best: Option<Passed>, params: &[Param]) -> Option<Passed>
     ensures { result ≡ soonest best (together (map param_passes params.now)) }
 {
@@ -57,7 +57,7 @@ pub(crate) fn in_params(best: Option<Passed>, params: &[Param]) -> Option<Passed
     best
 }
 
-/// What comes first, with the limits of an argument.
+/// Returns whichever comes first: `best`, or a limit passed in the argument.
 #[tactic(auto, using(crate::proofs::Joining::soonest_joined), unfolding(mv_ast::specs::Limits::soonest))]
 fn in_argument(best: Option<Passed>, argument: &Arg) -> Option<Passed>
     ensures { result ≡ soonest best (argument_passes argument.now) }
@@ -72,7 +72,7 @@ fn in_argument(best: Option<Passed>, argument: &Arg) -> Option<Passed>
     }
 }
 
-/// What comes first, with the limits of arguments.
+/// Returns whichever comes first: `best`, or a limit passed in the arguments.
 pub(crate) fn in_arguments(best: Option<Passed>, arguments: &[Arg]) -> Option<Passed>
     ensures { result ≡ soonest best (together (map argument_passes arguments.now)) }
 {

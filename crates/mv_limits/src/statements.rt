@@ -12,18 +12,17 @@ use mv_ast::tree::{Name, Sort, Stmt};
 /// The most items in a list of a statement, a table, a ROWS parameter or a literal row.
 pub(crate) const COLUMNS: usize = 32;
 
-/// The most statements of a procedure, with those inside others.
+/// The most statements of a procedure, nested ones included.
 const STATEMENTS: usize = 1000;
 
-/// What a walk through statements has come to: which limit of their lists comes first, and the
-/// statement looked for.
+/// The state of a walk through statements: the first limit passed so far, and the search for a statement.
 #[derive(Clone, Copy)]
 struct Walk {
     best: Option<Passed>,
     place: Place,
 }
 
-/// One token further.
+/// Returns the search after one more token.
 fn behind(place: Place, token: u32) -> Place
     ensures { result ≡ step place token }
 {
@@ -40,7 +39,7 @@ fn behind(place: Place, token: u32) -> Place
     }
 }
 
-/// What comes first, with the lists of a SELECT.
+/// Returns whichever comes first: `best`, or a limit passed by a list of the SELECT.
 #[tactic(auto, using(crate::proofs::Joining::soonest_joined))]
 fn in_select(best: Option<Passed>, columns: &[Name], to: &[Name], sorts: &[Sort]) -> Option<Passed>
     ensures { result ≡ soonest best (too_many Which.Columns columns_most name_token columns.now ++ (too_many Which.Columns columns_most name_token to.now ++ too_many Which.Columns columns_most sort_token sorts.now)) }
@@ -50,7 +49,7 @@ fn in_select(best: Option<Passed>, columns: &[Name], to: &[Name], sorts: &[Sort]
     too_many(best, Which::Columns, COLUMNS, sorts)
 }
 
-/// What comes first, with the lists of a FOR over a SELECT.
+/// Returns whichever comes first: `best`, or a limit passed by a list of the FOR over a SELECT.
 #[tactic(auto, using(crate::proofs::Joining::soonest_joined))]
 fn in_loop(best: Option<Passed>, columns: &[Name], sorts: &[Sort]) -> Option<Passed>
     ensures { result ≡ soonest best (too_many Which.Columns columns_most name_token columns.now ++ too_many Which.Columns columns_most sort_token sorts.now) }
@@ -59,7 +58,7 @@ fn in_loop(best: Option<Passed>, columns: &[Name], sorts: &[Sort]) -> Option<Pas
     too_many(best, Which::Columns, COLUMNS, sorts)
 }
 
-/// Walks through statements, one after another.
+/// Walks through statements and those nested in them.
 #[cycle(statements)]
 #[tactic(auto, using(crate::proofs::Joining::soonest_joined, crate::proofs::Joining::seek_joined))]
 fn in_statements(walk: Walk, statements: &[Stmt]) -> Walk
@@ -73,7 +72,7 @@ fn in_statements(walk: Walk, statements: &[Stmt]) -> Walk
     walk
 }
 
-/// Walks through a statement and those inside it.
+/// Walks through a statement and those nested in it.
 #[cycle(statements)]
 #[tactic(auto, using(crate::proofs::Joining::soonest_joined, crate::proofs::Joining::seek_joined), unfolding(mv_ast::specs::Limits::soonest, crate::specs::Places::seek))]
 fn in_statement(walk: Walk, statement: &Stmt) -> Walk
@@ -130,7 +129,7 @@ fn in_statement(walk: Walk, statement: &Stmt) -> Walk
     }
 }
 
-/// What comes first, with the lists of statements and their number.
+/// Returns whichever comes first: `best`, or a limit passed by the lists of the statements or by their number.
 #[tactic(auto, using(crate::proofs::Joining::soonest_joined))]
 pub(crate) fn in_body(best: Option<Passed>, body: &[Stmt]) -> Option<Passed>
     ensures { result ≡ soonest best (together (map statement_passes body.now) ++ too_many Which.Statements 1000 (λ t. t) (together (map statement_tokens body.now))) }

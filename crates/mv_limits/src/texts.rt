@@ -8,7 +8,7 @@ use mv_ast::lexeme::Lexeme;
 /// The greatest INT.
 pub(crate) const GREATEST: u64 = 9_223_372_036_854_775_807;
 
-/// The bytes of a token, as far as there are any.
+/// Returns the bytes of a token, cut off at the end of `bytes`.
 pub(crate) fn spelling<'a>(bytes: &'a [u8], lexeme: &Lexeme) -> &'a [u8]
     ensures { result.now ≡ spelling bytes.now lexeme.now }
 {
@@ -17,7 +17,7 @@ pub(crate) fn spelling<'a>(bytes: &'a [u8], lexeme: &Lexeme) -> &'a [u8]
     &bytes[start..end]
 }
 
-/// The value of digits, or one above the greatest INT where it is no INT.
+/// Returns the value of digits, but at most one more than the greatest INT.
 #[tactic(auto, using(crate::proofs::TextLaws::value_turn, crate::proofs::TextLaws::value_end))]
 pub(crate) fn value(digits: &[u8]) -> u64
     ensures { result ≡ min (number_from 0 digits.now) (greatest + 1) }
@@ -33,7 +33,7 @@ pub(crate) fn value(digits: &[u8]) -> u64
     value
 }
 
-/// The text without its first and its last byte.
+/// Returns the text without its first and last bytes.
 fn between(text: &[u8]) -> &[u8]
     ensures { result.now ≡ slice_range text.now 1 (length text.now - 1) }
 {
@@ -43,7 +43,7 @@ fn between(text: &[u8]) -> &[u8]
     &text[1..text.len() - 1]
 }
 
-/// How many bytes stand for a text of which two quotes are one.
+/// Returns the length of the text after each doubled quote is replaced by one.
 fn undoubled_len(text: &[u8]) -> usize
     ensures { result ≡ length (undoubled text.now) }
 {
@@ -56,7 +56,7 @@ fn undoubled_len(text: &[u8]) -> usize
     count
 }
 
-/// The place behind the letter at a place.
+/// Returns the index after the letter at an index. A doubled quote is one letter.
 #[tactic(auto, using(crate::proofs::TextLaws::letter_twice, crate::proofs::TextLaws::letter_once, crate::proofs::TextLaws::letter_last))]
 fn behind_letter(text: &[u8], at: usize) -> usize
     requires { at < length text.now }
@@ -71,7 +71,7 @@ fn behind_letter(text: &[u8], at: usize) -> usize
     }
 }
 
-/// How many bytes the value of a text has.
+/// Returns the length in bytes of the value of a text.
 pub(crate) fn unquoted_len(text: &[u8]) -> usize
     ensures { result ≡ length (unquoted text.now) }
 {

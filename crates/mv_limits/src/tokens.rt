@@ -1,4 +1,4 @@
-//! Limits that a token passes of itself.
+//! Limits of single tokens.
 
 ghost use Rattle.std.specs.Prelude.{◌≡◌, ◌++◌};
 ghost use Rattle.mv_ast.specs.Texts.{number_from};
@@ -15,7 +15,7 @@ const NAME: usize = 64;
 /// The most bytes of a text.
 const TEXT: usize = 4000;
 
-/// What comes first, with the limits of one token of this kind and these bytes.
+/// Returns whichever comes first: `best`, or a limit that the token of this kind with these bytes passes.
 #[tactic(auto, unfolding(mv_ast::specs::Limits::soonest))]
 fn in_token(best: Option<Passed>, kind: Terminal, text: &[u8], token: u32) -> Option<Passed>
     ensures { result ≡ soonest best (own_passes kind text.now token) }
@@ -39,7 +39,7 @@ fn is_size_of(first: Terminal, second: Terminal, third: Terminal) -> bool
     }
 }
 
-/// Whether the digits are a number from 1 to the most bytes of a text.
+/// Whether the digits are a number from 1 to `TEXT`.
 fn is_size(digits: &[u8]) -> bool
     ensures { result ≡ is_size (number_from 0 digits.now) }
 {
@@ -47,7 +47,7 @@ fn is_size(digits: &[u8]) -> bool
     0 < size && size <= TEXT as u64
 }
 
-/// What comes first, with the limit of TEXT ( n ) where the tokens begin with it.
+/// Returns whichever comes first: `best`, or the limit of n if the tokens begin with TEXT ( n ).
 #[tactic(auto, unfolding(mv_ast::specs::Limits::soonest))]
 fn in_size(best: Option<Passed>, bytes: &[u8], lexemes: &[Lexeme]) -> Option<Passed>
     ensures { result ≡ soonest best (size_passes bytes.now lexemes.now) }
@@ -62,7 +62,7 @@ fn in_size(best: Option<Passed>, bytes: &[u8], lexemes: &[Lexeme]) -> Option<Pas
     }
 }
 
-/// What comes first of the limits that tokens pass of themselves.
+/// Returns the first of the limits that single tokens pass.
 pub(crate) fn in_tokens(bytes: &[u8], lexemes: &[Lexeme]) -> Option<Passed>
     ensures { result ≡ soonest None (token_passes bytes.now lexemes.now) }
 {
