@@ -1,19 +1,19 @@
--- What a read or a write does to the bytes that are left or written, where these are told, and to a count of faults.
+-- The effect of a read or a write on the bytes that are left or written, if these are told, and on a count of faults.
 use Rattle.std.specs.Prelude.{◌≡◌, ◌<◌, ◌+◌, ◌-◌, ◌^◌, ◌⊎◌, ◌++◌, ◌∷◌, [], ℕ, List, Option, Some, None, min}
 
--- where a count stands still
+-- the greatest value of a count, at which it stops
 abbrev pub greatest_count : ℕ
 greatest_count = 2 ^ 64 - 1
 
--- a count with one more
+-- a count after one more
 abbrev pub one_more : ℕ → ℕ
 one_more count = min (count + 1) greatest_count
 
--- a count rose; one that had come to its end counts as risen
+-- a count rose; one that was at its greatest value counts as risen
 abbrev pub Rose : ℕ → ℕ → Type 0
 Rose before after = (before < after) ⊎ (before ≡ greatest_count)
 
--- these bytes were the next of those that were left; nothing is claimed where they are not told
+-- these bytes were the next of those that were left; nothing is claimed if the bytes aren't told
 abbrev pub Reads : Option (List ℕ) → Option (List ℕ) → List ℕ → Type 0
 Reads None after got = Unit {0}
 Reads (Some all) after got = (rest : List ℕ) × (after ≡ Some rest) × (all ≡ got ++ rest)
@@ -23,12 +23,12 @@ abbrev pub IsAtEnd : Option (List ℕ) → Type 0
 IsAtEnd None = Unit {0}
 IsAtEnd (Some all) = all ≡ []
 
--- these bytes were written behind those that were there
+-- these bytes were written after those that were there
 abbrev pub Writes : Option (List ℕ) → Option (List ℕ) → List ℕ → Type 0
 Writes None after piece = Unit {0}
 Writes (Some all) after piece = after ≡ Some (all ++ piece)
 
--- a front of these bytes was written, and not all of them
+-- a proper prefix of these bytes was written
 abbrev pub WritesFront : Option (List ℕ) → Option (List ℕ) → List ℕ → Type 0
 WritesFront None after piece = Unit {0}
 WritesFront (Some all) after piece =

@@ -1,4 +1,4 @@
--- What clauses see of a source and of a sink in memory.
+-- What contracts see of a source and of a sink in memory.
 use Rattle.std.specs.Prelude.{◌≡◌, ◌<◌, ℕ, List, length}
 use Rattle.mv_edge.specs.declared.fault_plan.FaultPlan.{FaultPlan}
 
@@ -13,6 +13,6 @@ pub record SinkState : Type 0 where
   pub room : ℕ
   pub plan : FaultPlan
 
--- the piece has bytes, and the sink has room for none
+-- the piece isn't empty, and the sink has no room
 abbrev pub IsTooFull : SinkState → List ℕ → Type 0
 IsTooFull sink piece = (0 < length piece) × (sink.room ≡ 0)

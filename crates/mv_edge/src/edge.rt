@@ -1,4 +1,4 @@
-//! Sources and sinks.
+//! Sources and sinks of bytes.
 
 ghost use Rattle.std.specs.Prelude.{◌≡◌, ◌<◌, ◌≤◌, ℕ, List, Option, length, take, IfOk, OnOk, OnErr};
 ghost use Rattle.mv_edge.specs.Edge.{Rose, greatest_count, Reads, IsAtEnd, Writes};
@@ -7,16 +7,16 @@ ghost use Rattle.mv_edge.specs.Edge.{Rose, greatest_count, Reads, IsAtEnd, Write
 #[derive(Clone, Copy, PartialEq, Eq)]
 pub struct Failed;
 
-/// Bytes that are read one piece after another.
+/// A source of bytes, read piece by piece.
 pub trait Source {
-    /// The bytes that are left, where the source tells them.
+    /// The bytes that are left, or `None` if the source doesn't tell them.
     ghost left: { Self → Option (List ℕ) };
 
-    /// How often it has failed. The count never falls, and stands still at the greatest `u64`.
+    /// The number of failures so far. It never falls, and stops at the greatest `u64`.
     ghost faults: { Self → ℕ };
 
-    /// Reads the next bytes into the front of a buffer, and answers how many they are. It takes no memory. None of a
-    /// buffer that isn't empty means the end. It fails exactly where the count of faults rises.
+    /// Reads the next bytes into the front of the buffer and returns their number. If the buffer isn't empty, 0 means
+    /// the end. Fails if and only if the count of faults rises. It allocates nothing.
     fn read(&mut self, buffer: &mut [u8]) -> Result<usize, Failed>
         ensures within { IfOk result (λ n. n ≤ length buffer.old) }
         ensures bytes { IfOk result (λ n. 0 < length buffer.old → Reads (left self.old) (left self.new) (take n buffer.new)) }
@@ -27,16 +27,16 @@ pub trait Source {
         ensures stays { faults self.old ≡ greatest_count → faults self.new ≡ greatest_count };
 }
 
-/// What takes bytes, one piece after another.
+/// A sink of bytes, written piece by piece.
 pub trait Sink {
-    /// The bytes that were written, where the sink tells them.
+    /// The bytes written so far, or `None` if the sink doesn't tell them.
     ghost written: { Self → Option (List ℕ) };
 
-    /// How often it has failed. The count never falls, and stands still at the greatest `u64`.
+    /// The number of failures so far. It never falls, and stops at the greatest `u64`.
     ghost faults: { Self → ℕ };
 
-    /// Writes a front of a piece, at least a byte of one that isn't empty, and answers how many bytes it wrote. It takes
-    /// no memory. It fails exactly where the count of faults rises, and then it wrote nothing.
+    /// Writes a prefix of the piece and returns its length, which is at least 1 unless the piece is empty. Fails if and
+    /// only if the count of faults rises, and then writes nothing. It allocates nothing.
     fn write(&mut self, piece: &[u8]) -> Result<usize, Failed>
         ensures within { IfOk result (λ n. n ≤ length piece.now) }
         ensures some { IfOk result (λ n. 0 < length piece.now → 0 < n) }

@@ -1,4 +1,4 @@
-//! Which calls fail, for sources and sinks in memory.
+//! Plans of failing calls, for sources and sinks in memory.
 
 ghost use Rattle.std.specs.Prelude.{◌≡◌, ◌≤◌, ◌↔◌, Contains, IsTrue, IsErr, OnOk, OnErr};
 ghost use Rattle.mv_edge.specs.Edge.{Rose, one_more};
@@ -6,7 +6,8 @@ ghost use Rattle.mv_edge.specs.Edge.{Rose, one_more};
 use crate::edge::Failed;
 use mv_values::list::List;
 
-/// The numbers of the calls that fail, from 0, and how many calls and faults there were.
+/// The numbers of the calls that fail, counted from 0, and how many calls and faults there were so far. Both counts
+/// stop at the greatest `u64`.
 #[derive(Drop)]
 pub struct FaultPlan {
     pub failing: List<u64>,
@@ -15,7 +16,7 @@ pub struct FaultPlan {
 }
 
 impl FaultPlan {
-    /// No call was made yet.
+    /// Returns a plan before its first call.
     pub fn new(failing: List<u64>) -> FaultPlan
         ensures failing { result.failing ≡ failing }
         ensures calls { result.calls ≡ 0 }
@@ -28,7 +29,8 @@ impl FaultPlan {
         }
     }
 
-    /// Counts a call. It fails, and the fault is counted, exactly where the number of the call is one of those that fail.
+    /// Counts a call. Fails, and counts a fault, if and only if `failing` contains the number of the call. The cost is
+    /// linear in the length of that list.
     pub fn call(&mut self) -> Result<(), Failed>
         ensures fails { IsErr result ↔ Contains self.old.failing self.old.calls }
         ensures calls { self.new.calls ≡ one_more self.old.calls }
@@ -47,7 +49,7 @@ impl FaultPlan {
         }
     }
 
-    /// Counts a fault.
+    /// Counts a fault and returns it.
     pub fn fault(&mut self) -> Failed
         ensures fault { self.new ≡ record self.old { faults = one_more self.old.faults } }
         ensures rises { Rose self.old.faults self.new.faults }

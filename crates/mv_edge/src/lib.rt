@@ -1,4 +1,4 @@
-//! What the program is given and gives: sources of bytes, sinks of bytes, and a pace.
+//! The input and output of the program: sources of bytes, sinks of bytes, and a pace.
 #![tactic(auto)]
 
 pub mod edge;

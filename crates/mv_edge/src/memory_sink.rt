@@ -1,4 +1,4 @@
-//! A sink in memory, that fails where it is told to and where its room is full.
+//! A sink in memory. It fails at listed calls and when it is full.
 
 ghost use Rattle.std.specs.Prelude.{◌≡◌, ◌<◌, ◌≤◌, ◌+◌, ◌↔◌, ◌⊎◌, Some, Contains, take, [], length, min, IfOk, OnOk, OnErr, IsErr};
 ghost use Rattle.mv_edge.specs.Edge.{Rose, greatest_count, one_more, Writes};
@@ -11,8 +11,8 @@ use mv_values::memory::NoMemory;
 use std::alloc::Global;
 use std::marker::Model;
 
-/// Room for bytes in memory. The calls whose numbers are listed fail, and so does one with a piece for which there is
-/// no room at all.
+/// A sink in memory with room for a fixed number of bytes. The listed calls fail. So does a write of a piece that isn't
+/// empty while there is no room.
 #[derive(Drop)]
 pub struct MemorySink {
     bytes: Vec<u8>,
@@ -32,7 +32,8 @@ impl Model for MemorySink {
 }
 
 impl MemorySink {
-    /// A sink with room for so many bytes. The calls whose numbers, from 0, stand in `failing` will fail.
+    /// Returns an empty sink with room for `room` bytes. The calls whose numbers, from 0, are in `failing` will fail.
+    /// Fails if memory runs out.
     pub fn new(alloc: Global, room: usize, failing: List<u64>) -> Result<MemorySink, NoMemory>
         ensures written { IfOk result (λ k. k.written ≡ []) }
         ensures room { IfOk result (λ k. k.room ≡ room) }
@@ -48,7 +49,7 @@ impl MemorySink {
         })
     }
 
-    /// Lends the bytes that were written.
+    /// Borrows the bytes written so far.
     pub fn written(&self) -> &[u8]
         ensures { result.now ≡ self.now.written }
     {
@@ -61,8 +62,8 @@ impl Sink for MemorySink {
 
     ghost faults = { λ k. k.plan.faults };
 
-    /// Writes as much of the piece as there is room for. It takes no memory. It fails exactly at a call whose number is
-    /// listed, and at a piece that isn't empty while the room is full.
+    /// Writes as much of the piece as there is room for and returns how much. Fails if and only if the number of the
+    /// call is listed, or there is no room and the piece isn't empty. It allocates nothing.
     fn write(&mut self, piece: &[u8]) -> Result<usize, Failed>
         ensures within { IfOk result (λ n. n ≤ length piece.now) }
         ensures some { IfOk result (λ n. 0 < length piece.now → 0 < n) }

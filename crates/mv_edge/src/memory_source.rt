@@ -1,4 +1,4 @@
-//! A source in memory, that fails where it is told to.
+//! A source in memory. It fails at listed calls.
 
 ghost use Rattle.std.specs.Prelude.{◌≡◌, ◌<◌, ◌≤◌, ◌↔◌, Some, Contains, take, length, min, IfOk, OnOk, OnErr, IsErr};
 ghost use Rattle.mv_edge.specs.Edge.{Rose, greatest_count, one_more, Reads, IsAtEnd};
@@ -8,7 +8,7 @@ use crate::fault_plan::FaultPlan;
 use mv_values::list::List;
 use std::marker::Model;
 
-/// Bytes in memory. The calls whose numbers are listed fail.
+/// A source of bytes in memory. The listed calls fail.
 #[derive(Drop)]
 pub struct MemorySource {
     bytes: List<u8>,
@@ -28,7 +28,8 @@ impl Model for MemorySource {
 }
 
 impl MemorySource {
-    /// A source of these bytes. The calls whose numbers, from 0, stand in `failing` will fail. It takes no memory.
+    /// Returns a source of these bytes. The calls whose numbers, from 0, are in `failing` will fail. It allocates
+    /// nothing.
     pub fn new(bytes: List<u8>, failing: List<u64>) -> MemorySource
         ensures left { result.left ≡ bytes }
         ensures failing { result.plan.failing ≡ failing }
@@ -48,8 +49,8 @@ impl Source for MemorySource {
 
     ghost faults = { λ s. s.plan.faults };
 
-    /// Fills as much of the buffer as there are bytes. It fails exactly at a call whose number is listed, and then reads
-    /// nothing.
+    /// Reads as many bytes as are left and fit in the buffer, and returns their number. Fails if and only if the number
+    /// of the call is listed, and then reads nothing.
     fn read(&mut self, buffer: &mut [u8]) -> Result<usize, Failed>
         ensures within { IfOk result (λ n. n ≤ length buffer.old) }
         ensures bytes { IfOk result (λ n. 0 < length buffer.old → Reads (Some self.old.left) (Some self.new.left) (take n buffer.new)) }

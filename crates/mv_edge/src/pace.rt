@@ -1,8 +1,8 @@
-//! What is called between events.
+//! Callbacks between events.
 
 use std::sync::Wait;
 
-/// Where a worker stands.
+/// The stage that a worker has reached.
 #[derive(Clone, Copy)]
 pub enum Moment {
     /// After a begin.
@@ -15,7 +15,7 @@ pub enum Moment {
     Answered,
 }
 
-/// A worker, the call that it works on, and where it stands.
+/// A worker, the call that it executes, and the stage that it has reached.
 #[derive(Clone, Copy)]
 pub struct Point {
     pub worker: u32,
@@ -23,12 +23,12 @@ pub struct Point {
     pub moment: Moment,
 }
 
-/// What is called between events, while no lock is held. It is given nothing of the engine, and may wait.
+/// A callback between events. No lock is held while it runs. It has no access to the engine, and may wait.
 pub trait Pace: Sync {
     fn at<R: Wait>(&self, rt: &R, point: Point);
 }
 
-/// It does nothing.
+/// A pace that does nothing.
 pub struct NoPace;
 
 impl Pace for NoPace {

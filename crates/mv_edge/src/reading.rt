@@ -1,4 +1,4 @@
-//! Reading to the end.
+//! Reading a source to its end.
 
 ghost use Rattle.std.specs.Prelude.{◌≡◌, ◌≤◌, Some, take, drop, IfOk, OnOk, IsErrOf};
 ghost use Rattle.std.specs.Option.{ForSome};
@@ -9,13 +9,13 @@ use mv_values::list::List;
 use mv_values::memory::NoMemory;
 use std::alloc::Global;
 
-/// No more bytes than this are read: one more than the longest input that is taken.
+/// The most bytes that are read: one more than the longest input that is accepted.
 pub const MOST: usize = 16_777_217;
 
-/// How many bytes are asked for at once.
+/// The most bytes that are read at once.
 const PIECE: usize = 4096;
 
-/// Why a source wasn't read.
+/// Why reading a source failed.
 #[derive(Clone, Copy, PartialEq, Eq)]
 pub enum ReadFault {
     NoMemory,
@@ -44,8 +44,8 @@ impl From<NoMemory> for ReadFault {
     }
 }
 
-/// The bytes that are left in a source, up to the first `MOST`. What comes after these stays in the source. `Failed`
-/// comes exactly where the source's count of faults rises.
+/// Reads the bytes that are left in a source, at most `MOST`. The bytes after these stay in the source. Fails with
+/// `NoMemory` if memory runs out, and with `Failed` if and only if the source's count of faults rises.
 pub fn read_all<S: Source>(alloc: Global, source: &mut S) -> Result<List<u8>, ReadFault>
     ensures bytes { IfOk result (λ bytes. ForSome (S.left source.old) (λ all. bytes ≡ take MOST all)) }
     ensures rest { OnOk result (ForSome (S.left source.old) (λ all. S.left source.new ≡ Some (drop MOST all))) }

@@ -1,11 +1,11 @@
-//! Standard input and output. What they give and take is trusted: no proof speaks of it.
+//! Standard input and output. The bytes that they read and write are trusted: no proof covers them.
 
 ghost use Rattle.std.specs.Prelude.{◌≡◌, None};
 
 use crate::edge::{Failed, Sink, Source};
 use std::io::{Read, Stdin, Stdout, Write};
 
-/// Standard input. It counts its faults, and tells nothing of its bytes.
+/// Standard input. It counts its faults. Contracts don't see its bytes.
 #[derive(Drop)]
 pub struct StdSource {
     input: Stdin,
@@ -13,7 +13,7 @@ pub struct StdSource {
 }
 
 impl StdSource {
-    /// A source of standard input, with no faults yet.
+    /// Returns a source that reads standard input, with no faults so far.
     pub fn new(input: Stdin) -> StdSource
         ensures { ⟦<StdSource as Source>⟧.faults result ≡ 0 }
     {
@@ -37,7 +37,7 @@ impl Source for StdSource {
     }
 }
 
-/// Standard output. It counts its faults, and tells nothing of its bytes. A write that takes nothing of a piece that
+/// Standard output. It counts its faults. Contracts don't see its bytes. A write that accepts no byte of a piece that
 /// isn't empty is a fault.
 #[derive(Drop)]
 pub struct StdSink {
@@ -46,7 +46,7 @@ pub struct StdSink {
 }
 
 impl StdSink {
-    /// A sink of standard output, with no faults yet.
+    /// Returns a sink that writes standard output, with no faults so far.
     pub fn new(output: Stdout) -> StdSink
         ensures { ⟦<StdSink as Sink>⟧.faults result ≡ 0 }
     {

@@ -1,12 +1,12 @@
-//! Writing all of a text.
+//! Writing all of some bytes.
 
 ghost use Rattle.std.specs.Prelude.{◌≡◌, ◌≤◌, OnOk, OnErr};
 ghost use Rattle.mv_edge.specs.Edge.{Rose, Writes, WritesFront};
 
 use crate::edge::{Failed, Sink};
 
-/// Writes all the bytes, or fails after a proper front of them. It takes no memory, and fails exactly where the sink's
-/// count of faults rises.
+/// Writes all the bytes. Fails if and only if the sink's count of faults rises, and then has written a proper prefix of
+/// the bytes. It allocates nothing.
 pub fn write_all<K: Sink>(sink: &mut K, bytes: &[u8]) -> Result<(), Failed>
     ensures all { OnOk result (Writes (K.written sink.old) (K.written sink.new) bytes.now) }
     ensures quiet { OnOk result (K.faults sink.new ≡ K.faults sink.old) }
