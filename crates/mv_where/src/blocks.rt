@@ -6,7 +6,7 @@ use crate::place::first_line;
 use mv_lex::token::{Kind, Token};
 
 /// Returns the bytes of a token, or none if it isn't in the script.
-pub fn bytes_of<'a>(script: &'a [u8], token: &Token) -> &'a [u8] {
+pub(crate) fn bytes_of<'a>(script: &'a [u8], token: &Token) -> &'a [u8] {
     let from = (token.at as usize).min(script.len());
     let after = &script[from..];
     &after[..(token.len as usize).min(after.len())]
@@ -17,7 +17,7 @@ fn is_word(script: &[u8], token: &Token, word: &[u8]) -> bool {
 }
 
 /// Returns the block of a copy of this table, if these tokens start with such a copy.
-pub fn block_of<'a>(script: &[u8], tokens: &'a [Token], table: &[u8]) -> Option<&'a Token> {
+pub(crate) fn block_of<'a>(script: &[u8], tokens: &'a [Token], table: &[u8]) -> Option<&'a Token> {
     match tokens {
         [copy, name, block, ..] if is_word(script, copy, b"copy") && is_word(script, name, table) =>
             match block.kind {
@@ -29,7 +29,7 @@ pub fn block_of<'a>(script: &[u8], tokens: &'a [Token], table: &[u8]) -> Option<
 }
 
 /// Returns the place where the rows of a block start: after the line of its `<<`.
-pub fn rows_at(script: &[u8], block: &Token) -> usize
+pub(crate) fn rows_at(script: &[u8], block: &Token) -> usize
     ensures { result ≤ length script.now }
 {
     let line = first_line(bytes_of(script, block));
@@ -38,7 +38,7 @@ pub fn rows_at(script: &[u8], block: &Token) -> usize
 
 /// Returns the bracket before a row of the VALUES of this table, if these tokens start with its CREATE TABLE. Rows
 /// count from 1.
-pub fn values_row<'a>(
+pub(crate) fn values_row<'a>(
     script: &[u8],
     tokens: &'a [Token],
     table: &[u8],

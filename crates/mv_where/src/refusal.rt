@@ -21,7 +21,7 @@ pub fn is_refusal(text: &[u8]) -> bool
 }
 
 /// Returns what the line of a refusal names. `None` if it names nothing or isn't such a line.
-pub fn target_of(line: &str) -> Option<Target<'_>> {
+pub(crate) fn target_of(line: &str) -> Option<Target<'_>> {
     let (number, what) = line.strip_prefix("refused ")?.split_once(' ')?;
     match number {
         "2" => Some(Target::Byte(number_in(what.strip_prefix("byte ")?)?)),
