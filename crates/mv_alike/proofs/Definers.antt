@@ -1,5 +1,5 @@
 -- What is read is the same in two runs where its definers have the same paths and are kept.
-use Rattle.std.proofs.Common.{◌≡◌, ◌⊎◌, inl, inr, ◌<◌, ◌≤◌, ℕ, zero, suc, ◌+◌, ◌==◌, Bool, true, false, cond, not, List, [], ◌∷◌, ◌++◌, Option, Some, None, map, length, slice_index_or, if◌then◌else◌, refl, sym, ap, subst, ◌∙◌, arith}
+use Rattle.std.proofs.Common.{◌≡◌, ◌⊎◌, inl, inr, ◌<◌, ◌≤◌, ℕ, zero, suc, ◌+◌, ◌==◌, Bool, true, false, List, [], ◌∷◌, ◌++◌, Option, Some, None, map, length, slice_index_or, if◌then◌else◌, refl, sym, ap, subst, ◌∙◌, arith}
 use Rattle.std.specs.Prelude.{◌&&◌, ◌||◌, ◌-◌, slice_get, nat_le}
 use Rattle.std.proofs.lemmas.Bool.Decides.{eqb_tells, nat_tests}
 use Rattle.std.specs.List.{filter, list_any}
@@ -15,9 +15,10 @@ use Rattle.mv_recorded.specs.Reading.{Loop, each_once, last_place, loop_of, sets
 use Rattle.mv_recorded.specs.Recorded.{Site}
 use Rattle.mv_record.specs.declared.effect.Effect.{Effect}
 use Rattle.mv_history.specs.Kept.{Path, Placed, among, path_at, is_kept, same_path, reads_stay}
-use Rattle.mv_alike.specs.Inversion.{Each, Within, Ground, Here, LoopsHold, sets_in, rows_of, row_in}
-use Rattle.mv_alike.proofs.Held.{get_same, get_other, slots_alike, slots_both, OwnSlots}
-use Rattle.mv_alike.proofs.Congruent.{contents}
+use Rattle.mv_recorded.specs.Own.{Each, Within, Ground, Here, LoopsHold, sets_in, rows_of, row_in}
+use Rattle.mv_recorded.proofs.Slots.{get_same, get_other, kept_within, once_within}
+use Rattle.mv_recorded.proofs.Held.{slots_alike, slots_both, OwnSlots}
+use Rattle.mv_record.specs.Effects.{effect_in}
 use Rattle.mv_alike.proofs.Placing.{path_is, its}
 
 -- Which record last set a variable
@@ -183,7 +184,7 @@ no_loop base x (l ∷ ls) h lt = ap (λ b. if b then Some l.number else loop_of 
 
 -- those that are kept are the same in both
 abbrev pub KeptSame : List Path → List Placed → List Placed → Type 0
-KeptSame kept os ns = (d e : ℕ) (a b : Placed) → slice_get os d ≡ Some a → slice_get ns e ≡ Some b → a.path ≡ b.path → among kept b.path ≡ true → contents a.it ≡ contents b.it
+KeptSame kept os ns = (d e : ℕ) (a b : Placed) → slice_get os d ≡ Some a → slice_get ns e ≡ Some b → a.path ≡ b.path → among kept b.path ≡ true → effect_in a.it ≡ effect_in b.it
 
 its_get : (ps : List Placed) (d : ℕ) (r : Record) → slice_get (its ps) d ≡ Some r → (a : Placed) × (slice_get ps d ≡ Some a) × (a.it ≡ r)
 its_get [] d r h = cc
@@ -211,7 +212,7 @@ abbrev Stay : List Path → List Placed → List Placed → Option ℕ → Optio
 Stay kept os ns d e = (same_path (path_at os d) (path_at ns e) ≡ true) × (is_kept kept (path_at ns e) ≡ true)
 
 definers_same : (kept : List Path) (fo more ns : List Placed) (d e : ℕ) (a b : Record) → KeptSame kept (fo ++ more) ns → slice_get (its fo) d ≡ Some a → slice_get (its ns) e ≡ Some b → Stay kept (fo ++ more) ns (Some d) (Some e)
-    → contents a ≡ contents b
+    → effect_in a ≡ effect_in b
 definers_same kept fo more ns d e a b same h k stay =
     let p = its_get fo d a h in
     let q = its_get ns e b k in
@@ -219,7 +220,7 @@ definers_same kept fo more ns d e a b same h k stay =
     let left : path_at (fo ++ more) (Some d) ≡ Some p.0.path = ap path_of at in
     let right : path_at ns (Some e) ≡ Some q.0.path = ap path_of q.1 in
     let m = paths_match kept p.0.path q.0.path (sym (ap (λ o. same_path o (path_at ns (Some e))) left ∙ ap (same_path (Some p.0.path)) right) ∙ stay.0) (sym (ap (is_kept kept) right) ∙ stay.1) in
-    sym (ap contents p.2) ∙ (same d e p.0 q.0 at q.1 m.0 m.1 ∙ ap contents q.2)
+    sym (ap effect_in p.2) ∙ (same d e p.0 q.0 at q.1 m.0 m.1 ∙ ap effect_in q.2)
 
 -- a variable holds the same in both
 pub held_same : (g : Ground) (new : List (List _)) (kept : List Path) (fo more ns : List Placed) (site other : Site) (rs : List ℕ) (st nst : State) (x : ℕ) → g.params ≤ g.base
@@ -299,25 +300,6 @@ reads_at kept os ns f g (y ∷ ys) h x w =
     by : same_path (path_at os (f y)) (path_at ns (g y)) ≡ true → is_kept kept (path_at ns (g y)) ≡ true → (Within x ys → Stay kept os ns (f x) (g x)) → (x ≡ y) ⊎ Within x ys → Stay kept os ns (f x) (g x)
     by p q go (inl at) = subst (λ z. Stay kept os ns (f z) (g z)) (sym at) (p, q)
     by p q go (inr v) = go v
-
-kept_within : (x : ℕ) (p : ℕ → Bool) (xs : List ℕ) → p x ≡ true → Within x xs → Within x (filter p xs)
-kept_within x p [] is h = absurd h
-kept_within x p (y ∷ ys) is h = by (p y) refl h (kept_within x p ys is)
-  where
-    by : (b : Bool) → p y ≡ b → (x ≡ y) ⊎ Within x ys → (Within x ys → Within x (filter p ys)) → Within x (cond b (y ∷ filter p ys) (filter p ys))
-    by true e (inl same) rest = inl same
-    by true e (inr k) rest = inr (rest k)
-    by false e (inl same) rest = let clash : p x ≡ false = ap p same ∙ e in cc
-    by false e (inr k) rest = rest k
-
-once_within : (x : ℕ) (xs : List ℕ) → Within x xs → Within x (each_once xs)
-once_within x [] h = absurd h
-once_within x (y ∷ ys) (inl same) = inl same
-once_within x (y ∷ ys) (inr h) = by (x == y) refl (once_within x ys h)
-  where
-    by : (b : Bool) → (x == y) ≡ b → Within x (each_once ys) → (x ≡ y) ⊎ Within x (filter (λ m. not (m == y)) (each_once ys))
-    by true e k = inl (grind (arith, eqb_tells))
-    by false e k = inr (kept_within x (λ m. not (m == y)) (each_once ys) (ap not e) k)
 
 -- the definers of what is read stay
 pub stay_of : (kept : List Path) (os ns : List Placed) (params : ℕ) (loops others : List Loop) (before behind : List Record) (xs : List ℕ)

@@ -21,12 +21,14 @@ use Rattle.mv_record.specs.Admitting.{Admitted}
 use Rattle.mv_record.proofs.Rising.{Above, Rises, rises_from, same_rows, found_stands}
 use Rattle.mv_record.proofs.Patching.{row_of-found, rising_found, row_applied}
 use Rattle.mv_recorded.specs.Asking.{KnowsKey}
+use Rattle.mv_record.specs.Databases.{IsDatabaseOf}
+use Rattle.mv_recorded.specs.Own.{Each}
+use Rattle.mv_recorded.specs.Alike.{Alike, SeenAlike}
 use Rattle.mv_recorded.proofs.Matching.{admitted}
+use Rattle.mv_recorded.proofs.Alike.{same_columns}
+use Rattle.mv_recorded.proofs.Congruent.{all_wide}
 use Rattle.mv_history.specs.declared.change.Change.{Change}
 use Rattle.mv_history.specs.Changes.{Covers}
-use Rattle.mv_alike.specs.Inversion.{Each, Fits}
-use Rattle.mv_alike.proofs.Alike.{Alike, same_columns}
-use Rattle.mv_alike.proofs.Congruent.{SeenAlike}
 use Rattle.mv_alike.proofs.Seeing.{LongAlike, Merged, hits_by, key_seen}
 
 -- Rows as they are seen
@@ -126,13 +128,13 @@ past [] n h = refl
 past (x ∷ xs) zero h = absurd (omega (arith, h))
 past (x ∷ xs) (suc n) h = past xs n (omega (arith, h))
 
-pub seen_alike : (tables : List TableInfo) (p : Pred) (db new : List (List Keyed)) (vs ws : List Write) (changes : List Change) → Places tables p → Fits tables db → Fits tables new → Fits tables (applied vs db) → Fits tables (applied ws new)
+pub seen_alike : (tables : List TableInfo) (p : Pred) (db new : List (List Keyed)) (vs ws : List Write) (changes : List Change) → Places tables p → IsDatabaseOf tables db → IsDatabaseOf tables new → IsDatabaseOf tables (applied vs db) → IsDatabaseOf tables (applied ws new)
     → Covers changes db new → Merged p vs ws → Each (λ c. hits_by vs c p ≡ false) changes → SeenAlike p (applied vs db) (applied ws new)
 seen_alike tables p db new vs ws changes places f g fv gw covers merged unhit = by (nat_lt p.table (length tables)) refl
   where
     by : (b : Bool) → nat_lt p.table (length tables) ≡ b → SeenAlike p (applied vs db) (applied ws new)
     by false e =
-        let none : (d : List (List Keyed)) → Fits tables d → rows_at d p.table ≡ [] = λ d fits. past d p.table (let le : length tables ≤ p.table = grind (arith, nat_tests) in omega (arith, le, fits.size)) in
+        let none : (d : List (List Keyed)) → IsDatabaseOf tables d → rows_at d p.table ≡ [] = λ d fits. past d p.table (let le : length tables ≤ p.table = grind (arith, nat_tests) in omega (arith, le, fits.size)) in
         subst (λ l. Alike p.columns l (found_by p (applied ws new))) (sym (ap (λ l. filter (λ (item : Keyed). matches p item.row) l) (none (applied vs db) fv)))
         (subst (λ l. Alike p.columns [] l) (sym (ap (λ l. filter (λ (item : Keyed). matches p item.row) l) (none (applied ws new) gw))) tt)
     by true e = found_alike p (applied vs db) (applied ws new) fv.rising gw.rising (λ key. under key (admits p key) refl)
@@ -150,5 +152,5 @@ seen_alike tables p db new vs ws changes places f g fv gw covers merged unhit = 
         under key true adm =
             ap (sees p) (row_applied vs db p.table key (omega (arith, lt, f.size)) f.rising)
             ∙ (key_seen p key vs ws changes (row_of (rows_at db p.table) key) (row_of (rows_at new p.table) key) adm merged unhit (covers p.table key)
-            (long_alike (length (columns_at tables p.table)) (row_of (rows_at db p.table) key) (row_of (rows_at new p.table) key) (wide_row _ (rows_at db p.table) key (f.wide p.table)) (wide_row _ (rows_at new p.table) key (g.wide p.table)))
+            (long_alike (length (columns_at tables p.table)) (row_of (rows_at db p.table) key) (row_of (rows_at new p.table) key) (wide_row _ (rows_at db p.table) key (all_wide tables db p.table f.rows)) (wide_row _ (rows_at new p.table) key (all_wide tables new p.table g.rows)))
             ∙ sym (ap (sees p) (row_applied ws new p.table key (omega (arith, lt, g.size)) g.rising)))

@@ -13,8 +13,9 @@ use Rattle.mv_record.specs.Runs.{writes_in}
 use Rattle.mv_record.specs.declared.effect.Effect.{Effect}
 use Rattle.mv_history.specs.Hits.{touches_predicate}
 use Rattle.mv_history.specs.Kept.{Path, Placed, zip_paths, with_paths, is_path, among, other_writes}
-use Rattle.mv_alike.specs.Inversion.{Each}
-use Rattle.mv_alike.proofs.Congruent.{contents}
+use Rattle.mv_recorded.specs.Own.{Each}
+use Rattle.mv_record.specs.Effects.{effect_in}
+use Rattle.mv_alike.specs.Laws.{AreAlike}
 use Rattle.mv_alike.proofs.Definers.{KeptSame}
 use Rattle.mv_alike.proofs.Placing.{path_is, path_self, its}
 use Rattle.mv_alike.proofs.Seeing.{Merged, done, both, old, new}
@@ -55,7 +56,7 @@ by_bool false h = refl
 later_apart : (a b : Path) → IsEarlierPath a b → is_path b a ≡ false
 later_apart a b h = by_bool (is_path b a) (λ e. not_itself a b (sym (path_is b a e)) h)
 
-each_get : (P : Placed → Type 0) (xs : List Placed) (d : ℕ) (a : Placed) → Each P xs → slice_get xs d ≡ Some a → P a
+pub each_get : (P : Placed → Type 0) (xs : List Placed) (d : ℕ) (a : Placed) → Each P xs → slice_get xs d ≡ Some a → P a
 each_get P [] d a h is = cc
 each_get P (x ∷ xs) zero a h is = let same : x ≡ a = cc in subst P same h.0
 each_get P (x ∷ xs) (suc d) a h is = each_get P xs d a h.1 is
@@ -74,21 +75,26 @@ distinct (x ∷ xs) (suc i) (suc j) a b h p q same = distinct xs i j a b h.1 p q
 
 -- Side by side
 
-pub data Aligned (kept : List Path) : List Placed → List Placed → Type 0 where
-  ends : Aligned kept [] []
-  stay : (a b : Placed) (xs ys : List Placed) → a.path ≡ b.path → among kept b.path ≡ true → contents a.it ≡ contents b.it → Aligned kept xs ys → Aligned kept (a ∷ xs) (b ∷ ys)
-  gone : (a : Placed) (xs ys : List Placed) → among kept a.path ≡ false → Aligned kept xs ys → Aligned kept (a ∷ xs) ys
-  come : (b : Placed) (xs ys : List Placed) → among kept b.path ≡ false → Aligned kept xs ys → Aligned kept xs (b ∷ ys)
+-- the two whole runs
+pub record Sides : Type 0 where
+  pub old : List Placed
+  pub new : List Placed
 
-pub aligned_join : (kept : List Path) (xs ys us vs : List Placed) → Aligned kept xs ys → Aligned kept us vs → Aligned kept (xs ++ us) (ys ++ vs)
-aligned_join kept _ _ us vs ends k = k
-aligned_join kept _ _ us vs (stay a b xs ys p q r h) k = stay a b (xs ++ us) (ys ++ vs) p q r (aligned_join kept xs ys us vs h k)
-aligned_join kept _ _ us vs (gone a xs ys p h) k = gone a (xs ++ us) (ys ++ vs) p (aligned_join kept xs ys us vs h k)
-aligned_join kept _ _ us vs (come b xs ys p h) k = come b (xs ++ us) (ys ++ vs) p (aligned_join kept xs ys us vs h k)
+pub data Aligned (u : Sides) (kept : List Path) : List Placed → List Placed → Type 0 where
+  ends : Aligned u kept [] []
+  stay : (a b : Placed) (xs ys : List Placed) → a.path ≡ b.path → among kept b.path ≡ true → AreAlike u.old u.new a.it b.it → Aligned u kept xs ys → Aligned u kept (a ∷ xs) (b ∷ ys)
+  gone : (a : Placed) (xs ys : List Placed) → among kept a.path ≡ false → Aligned u kept xs ys → Aligned u kept (a ∷ xs) ys
+  come : (b : Placed) (xs ys : List Placed) → among kept b.path ≡ false → Aligned u kept xs ys → Aligned u kept xs (b ∷ ys)
 
-pub all_gone : (kept : List Path) (xs : List Placed) → Each (λ (a : Placed). among kept a.path ≡ false) xs → Aligned kept xs []
-all_gone kept [] h = ends
-all_gone kept (x ∷ xs) h = gone x xs [] h.0 (all_gone kept xs h.1)
+pub aligned_join : (u : Sides) (kept : List Path) (xs ys us vs : List Placed) → Aligned u kept xs ys → Aligned u kept us vs → Aligned u kept (xs ++ us) (ys ++ vs)
+aligned_join u kept _ _ us vs ends k = k
+aligned_join u kept _ _ us vs (stay a b xs ys p q r h) k = stay a b (xs ++ us) (ys ++ vs) p q r (aligned_join u kept xs ys us vs h k)
+aligned_join u kept _ _ us vs (gone a xs ys p h) k = gone a (xs ++ us) (ys ++ vs) p (aligned_join u kept xs ys us vs h k)
+aligned_join u kept _ _ us vs (come b xs ys p h) k = come b (xs ++ us) (ys ++ vs) p (aligned_join u kept xs ys us vs h k)
+
+pub all_gone : (u : Sides) (kept : List Path) (xs : List Placed) → Each (λ (a : Placed). among kept a.path ≡ false) xs → Aligned u kept xs []
+all_gone u kept [] h = ends
+all_gone u kept (x ∷ xs) h = gone x xs [] h.0 (all_gone u kept xs h.1)
 
 -- one path more is kept, which none of them has
 among_more : (kept : List Path) (p q : Path) → among (kept ++ p ∷ []) q ≡ (among kept q || is_path q p)
@@ -116,41 +122,41 @@ among_new kept p = among_more kept p p ∙ (ap (λ b. among kept p || b) (path_s
     by true = refl
     by false = refl
 
-pub aligned_more : (kept : List Path) (p : Path) (xs ys : List Placed) → Each (λ (a : Placed). is_path a.path p ≡ false) xs → Each (λ (b : Placed). is_path b.path p ≡ false) ys → Aligned kept xs ys → Aligned (kept ++ p ∷ []) xs ys
-aligned_more kept p _ _ h k ends = ends
-aligned_more kept p _ _ h k (stay a b xs ys s q r m) = stay a b xs ys s (among_still kept p b.path q) r (aligned_more kept p xs ys h.1 k.1 m)
-aligned_more kept p _ _ h k (gone a xs ys q m) = gone a xs ys (among_not kept p a.path q h.0) (aligned_more kept p xs ys h.1 k m)
-aligned_more kept p _ _ h k (come b xs ys q m) = come b xs ys (among_not kept p b.path q k.0) (aligned_more kept p xs ys h k.1 m)
+pub aligned_more : (u : Sides) (kept : List Path) (p : Path) (xs ys : List Placed) → Each (λ (a : Placed). is_path a.path p ≡ false) xs → Each (λ (b : Placed). is_path b.path p ≡ false) ys → Aligned u kept xs ys → Aligned u (kept ++ p ∷ []) xs ys
+aligned_more u kept p _ _ h k ends = ends
+aligned_more u kept p _ _ h k (stay a b xs ys s q r m) = stay a b xs ys s (among_still kept p b.path q) r (aligned_more u kept p xs ys h.1 k.1 m)
+aligned_more u kept p _ _ h k (gone a xs ys q m) = gone a xs ys (among_not kept p a.path q h.0) (aligned_more u kept p xs ys h.1 k m)
+aligned_more u kept p _ _ h k (come b xs ys q m) = come b xs ys (among_not kept p b.path q k.0) (aligned_more u kept p xs ys h k.1 m)
 
 -- the record of the old run for one that is kept
-pub record Partner (xs : List Placed) (b : Placed) : Type 0 where
+pub record Partner (u : Sides) (xs : List Placed) (b : Placed) : Type 0 where
   pub d : ℕ
   pub a : Placed
   pub there : slice_get xs d ≡ Some a
   pub same : a.path ≡ b.path
-  pub tells : contents a.it ≡ contents b.it
+  pub alike : AreAlike u.old u.new a.it b.it
 
 clash : (b : Bool) → b ≡ true → b ≡ false → ⊥
 clash b h k = cc
 
-pub partner : (kept : List Path) (xs ys : List Placed) (e : ℕ) (b : Placed) → Aligned kept xs ys → slice_get ys e ≡ Some b → among kept b.path ≡ true → Partner xs b
-partner kept _ _ e b ends is k = cc
-partner kept _ _ zero b (stay a c xs ys s q r m) is k = let at : c ≡ b = cc in record { d = 0; a = a; there = refl; same = s ∙ ap (λ (z : Placed). z.path) at; tells = r ∙ ap (λ (z : Placed). contents z.it) at }
-partner kept _ _ (suc e) b (stay a c xs ys s q r m) is k = let it : Partner xs b = partner kept xs ys e b m is k in record { d = suc it.d; a = it.a; there = it.there; same = it.same; tells = it.tells }
-partner kept _ _ e b (gone a xs ys q m) is k = let it : Partner xs b = partner kept xs ys e b m is k in record { d = suc it.d; a = it.a; there = it.there; same = it.same; tells = it.tells }
-partner kept _ _ zero b (come c xs ys q m) is k = let at : c ≡ b = cc in absurd (clash (among kept b.path) k (subst (λ (z : Placed). among kept z.path ≡ false) at q))
-partner kept _ _ (suc e) b (come c xs ys q m) is k = partner kept xs ys e b m is k
+pub partner : (u : Sides) (kept : List Path) (xs ys : List Placed) (e : ℕ) (b : Placed) → Aligned u kept xs ys → slice_get ys e ≡ Some b → among kept b.path ≡ true → Partner u xs b
+partner u kept _ _ e b ends is k = cc
+partner u kept _ _ zero b (stay a c xs ys s q r m) is k = let at : c ≡ b = cc in record { d = 0; a = a; there = refl; same = s ∙ ap (λ (z : Placed). z.path) at; alike = subst (λ (z : Placed). AreAlike u.old u.new a.it z.it) at r }
+partner u kept _ _ (suc e) b (stay a c xs ys s q r m) is k = let it : Partner u xs b = partner u kept xs ys e b m is k in record { d = suc it.d; a = it.a; there = it.there; same = it.same; alike = it.alike }
+partner u kept _ _ e b (gone a xs ys q m) is k = let it : Partner u xs b = partner u kept xs ys e b m is k in record { d = suc it.d; a = it.a; there = it.there; same = it.same; alike = it.alike }
+partner u kept _ _ zero b (come c xs ys q m) is k = let at : c ≡ b = cc in absurd (clash (among kept b.path) k (subst (λ (z : Placed). among kept z.path ≡ false) at q))
+partner u kept _ _ (suc e) b (come c xs ys q m) is k = partner u kept xs ys e b m is k
 
-get_more : (xs more : List Placed) (d : ℕ) (a : Placed) → slice_get xs d ≡ Some a → slice_get (xs ++ more) d ≡ Some a
+pub get_more : (xs more : List Placed) (d : ℕ) (a : Placed) → slice_get xs d ≡ Some a → slice_get (xs ++ more) d ≡ Some a
 get_more [] more d a h = cc
 get_more (x ∷ xs) more zero a h = h
 get_more (x ∷ xs) more (suc d) a h = get_more xs more d a h
 
-pub kept_same : (kept : List Path) (xs more ys : List Placed) → Climbs (xs ++ more) → Aligned kept xs ys → KeptSame kept (xs ++ more) ys
-kept_same kept xs more ys climbs h d e a b is are same k =
-    let it : Partner xs b = partner kept xs ys e b h are k in
+pub kept_same : (u : Sides) (kept : List Path) (xs more ys : List Placed) → Climbs (xs ++ more) → Aligned u kept xs ys → KeptSame kept (xs ++ more) ys
+kept_same u kept xs more ys climbs h d e a b is are same k =
+    let it : Partner u xs b = partner u kept xs ys e b h are k in
     let one : it.a ≡ a = distinct (xs ++ more) it.d d it.a a climbs (get_more xs more it.d it.a it.there) is (it.same ∙ sym same) in
-    ap (λ (z : Placed). contents z.it) (sym one) ∙ it.tells
+    ap (λ (z : Placed). effect_in z.it) (sym one) ∙ it.alike.effect
 
 -- Writes
 
@@ -169,21 +175,21 @@ merged_new : (p : Pred) (ws us vs : List Write) → NoTouch p ws → Merged p us
 merged_new p [] us vs n h = h
 merged_new p (w ∷ ws) us vs n h = new w us (ws ++ vs) n.0 (merged_new p ws us vs n.1 h)
 
-touch_parts : (p : Pred) (vs ws : List Write) → NoTouch p (vs ++ ws) → NoTouch p vs × NoTouch p ws
+pub touch_parts : (p : Pred) (vs ws : List Write) → NoTouch p (vs ++ ws) → NoTouch p vs × NoTouch p ws
 touch_parts p [] ws h = (tt, h)
 touch_parts p (v ∷ vs) ws h = let rest = touch_parts p vs ws h.1 in ((h.0, rest.0), rest.1)
 
-pub merged_of : (p : Pred) (kept : List Path) (xs ys : List Placed) → Aligned kept xs ys → NoTouch p (other_writes kept xs) → NoTouch p (other_writes kept ys) → Merged p (writes_in (its xs)) (writes_in (its ys))
-merged_of p kept _ _ ends h k = done
-merged_of p kept _ _ (stay a b xs ys s q r m) h k =
+pub merged_of : (p : Pred) (u : Sides) (kept : List Path) (xs ys : List Placed) → Aligned u kept xs ys → NoTouch p (other_writes kept xs) → NoTouch p (other_writes kept ys) → Merged p (writes_in (its xs)) (writes_in (its ys))
+merged_of p u kept _ _ ends h k = done
+merged_of p u kept _ _ (stay a b xs ys s q r m) h k =
     let at : among kept a.path ≡ true = ap (among kept) s ∙ q in
     let hs : NoTouch p (other_writes kept xs) = subst (λ t. NoTouch p ((if t then [] else a.it.writes) ++ other_writes kept xs)) at h in
     let ks : NoTouch p (other_writes kept ys) = subst (λ t. NoTouch p ((if t then [] else b.it.writes) ++ other_writes kept ys)) q k in
-    subst (λ ws. Merged p (a.it.writes ++ writes_in (its xs)) (ws ++ writes_in (its ys))) (ap (λ (e : Effect). e.writes) r)
-    (merged_both p a.it.writes (writes_in (its xs)) (writes_in (its ys)) (merged_of p kept xs ys m hs ks))
-merged_of p kept _ _ (gone a xs ys q m) h k =
+    subst (λ ws. Merged p (a.it.writes ++ writes_in (its xs)) (ws ++ writes_in (its ys))) (ap (λ (e : Effect). e.writes) r.effect)
+    (merged_both p a.it.writes (writes_in (its xs)) (writes_in (its ys)) (merged_of p u kept xs ys m hs ks))
+merged_of p u kept _ _ (gone a xs ys q m) h k =
     let hs = touch_parts p a.it.writes (other_writes kept xs) (subst (λ t. NoTouch p ((if t then [] else a.it.writes) ++ other_writes kept xs)) q h) in
-    merged_old p a.it.writes (writes_in (its xs)) (writes_in (its ys)) hs.0 (merged_of p kept xs ys m hs.1 k)
-merged_of p kept _ _ (come b xs ys q m) h k =
+    merged_old p a.it.writes (writes_in (its xs)) (writes_in (its ys)) hs.0 (merged_of p u kept xs ys m hs.1 k)
+merged_of p u kept _ _ (come b xs ys q m) h k =
     let ks = touch_parts p b.it.writes (other_writes kept ys) (subst (λ t. NoTouch p ((if t then [] else b.it.writes) ++ other_writes kept ys)) q k) in
-    merged_new p b.it.writes (writes_in (its xs)) (writes_in (its ys)) ks.0 (merged_of p kept xs ys m h ks.1)
+    merged_new p b.it.writes (writes_in (its xs)) (writes_in (its ys)) ks.0 (merged_of p u kept xs ys m h ks.1)

@@ -24,19 +24,34 @@ use Rattle.mv_record.specs.Runs.{writes_in}
 use Rattle.mv_recorded.specs.Asking.{on, asked, pred_of, preds_of, test_of, same_key}
 use Rattle.mv_recorded.specs.Reading.{variables, expressions, reads_of}
 use Rattle.mv_recorded.specs.Recorded.{Site, own_record}
+use Rattle.mv_record.specs.Databases.{IsDatabaseOf}
+use Rattle.mv_record.specs.Effects.{effect_in}
+use Rattle.mv_recorded.specs.Alike.{Agree, OverAgrees, SeenAlike}
+use Rattle.mv_recorded.specs.Own.{Bare, Stated, Each, Within, Suits, Ground, Here, StandsAt, IsOwn, OverSuits}
+use Rattle.mv_recorded.proofs.Congruent.{congruent}
 use Rattle.mv_recorded.proofs.Matching.{places_of}
 use Rattle.mv_history.specs.declared.change.Change.{Change}
 use Rattle.mv_history.specs.Changes.{Covers}
 use Rattle.mv_history.specs.Hits.{hits_predicate, hits, touches_predicate, touches}
 use Rattle.mv_history.specs.Kept.{Path, Placed, reads_stay}
-use Rattle.mv_alike.specs.Inversion.{Bare, Stated, Each, Within, Suits, Fits, Ground, Here, StandsAt, IsOwn, OverSuits}
-use Rattle.mv_alike.proofs.Values.{Agree}
-use Rattle.mv_alike.proofs.Congruent.{contents, congruent, OverAgrees, SeenAlike}
 use Rattle.mv_alike.proofs.Seeing.{Merged, hits_by}
 use Rattle.mv_alike.proofs.Finding.{Places, seen_alike}
 use Rattle.mv_alike.proofs.Placing.{its}
 use Rattle.mv_alike.proofs.Definers.{KeptSame, held_same, stay_of}
 use Rattle.mv_alike.proofs.Keeping.{NoTouch}
+
+-- Databases
+
+-- behind each front of some records, before which others came, there is a database of the tables
+abbrev pub Lasting : List TableInfo → Tables → List Record → List Record → Type 0
+Lasting tables db before rs = (front rest : List Record) → rs ≡ front ++ rest → IsDatabaseOf tables (applied (writes_in (before ++ front)) db)
+
+-- before a run and behind a front of it
+abbrev pub Bases : List TableInfo → Tables → List Record → Type 0
+Bases tables db front = IsDatabaseOf tables db × IsDatabaseOf tables (applied (writes_in front) db)
+
+pub front_lasts : (tables : List TableInfo) (db : Tables) (rs front rest : List Record) → rs ≡ front ++ rest → Lasting tables db [] rs → Bases tables db front
+front_lasts tables db rs front rest is h = (h [] rs refl, h front rest is)
 
 -- Predicates have the places of their tests
 
@@ -145,13 +160,13 @@ over_agrees g (Print es) e f h k = tt
 over_agrees g (Rollback reason) e f h k = tt
 
 -- the same record, in the state before it in both runs
-pub own_same : (g : Ground) (new : Tables) (changes : List Change) (kept : List Path) (fo more fn : List Placed) (or nr : Record) → g.params ≤ g.base → Fits g.tables g.db → Fits g.tables new → Covers changes g.db new
+pub own_same : (g : Ground) (new : Tables) (changes : List Change) (kept : List Path) (fo more fn : List Placed) (or nr : Record) → g.params ≤ g.base → Bases g.tables g.db (its fo) → Bases g.tables new (its fn) → Covers changes g.db new
     → IsOwn g (its fo) or → (b : IsOwn (record g { db = new }) (its fn) nr) → (s : Stated) (n : ℕ) (site : Site) (st : State) → StandsAt g.text n (s ∷ []) → Suits g.tables g.params g.base s → Here g site s.rows (its fo) st
     → or ≡ own_record g.tables g.params s.it n site (its fo) st → s ≡ b.s → site.turns ≡ b.site.turns
     → KeptSame kept (fo ++ more) fn → reads_stay kept (fo ++ more) or.reads fn nr.reads ≡ true
     → Each (λ p. Each (λ c. hits_by (writes_in (its fo)) c p ≡ false) changes × Merged p (writes_in (its fo)) (writes_in (its fn))) or.preds
-    → contents or ≡ contents nr
-own_same g new changes kept fo more fn or nr below fits nfits covers a b s n site st stands suits here is same turns kept' stay free =
+    → effect_in or ≡ effect_in nr
+own_same g new changes kept fo more fn or nr below bases nbases covers a b s n site st stands suits here is same turns kept' stay free =
     let k : Ground = record g { db = new } in
     let other : Here k b.site s.rows (its fn) b.st = subst (λ (t : Stated). Here k b.site t.rows (its fn) b.st) (sym same) b.here in
     let are : nr ≡ own_record g.tables g.params s.it b.n b.site (its fn) b.st = b.is ∙ ap (λ (t : Stated). own_record g.tables g.params t.it b.n b.site (its fn) b.st) (sym same) in
@@ -164,19 +179,19 @@ own_same g new changes kept fo more fn or nr below fits nfits covers a b s n sit
     λ x lt. held_same g new kept fo more fn site b.site s.rows st b.st x below here other turns kept' (inl (omega (arith, lt, below))) (λ le. absurd (omega (arith, lt, le))) in
     let seen : Each (λ p. SeenAlike p st.tables b.st.tables) (preds_of g.tables s.it st) =
     seen_all (preds_of g.tables s.it st) (places_preds g.tables s.it st) (subst (Each (λ p. Each (λ c. hits_by (writes_in (its fo)) c p ≡ false) changes × Merged p (writes_in (its fo)) (writes_in (its fn)))) (ap (λ (r : Record). r.preds) is) free) other in
-    ap contents is ∙ (congruent g.tables g.params s.it n b.n site b.site (its fo) (its fn) st b.st suits.columns suits.items (record {
+    ap effect_in is ∙ (congruent g.tables s.it st b.st suits.columns suits.items (record {
       reads = reads;
       found = here.told.found ∙ sym other.told.found;
       over = over_agrees g s.it st.env b.st.env suits.over low;
       seen = seen;
-      fits = (here.told.fits, other.told.fits);
-    }) ∙ sym (ap contents are))
+      databases = (subst (IsDatabaseOf g.tables) (sym here.told.tables) bases.1, subst (IsDatabaseOf g.tables) (sym other.told.tables) nbases.1);
+    }) ∙ sym (ap effect_in are))
   where
     seen_all : (ps : List Pred) → Each (Places g.tables) ps → Each (λ p. Each (λ c. hits_by (writes_in (its fo)) c p ≡ false) changes × Merged p (writes_in (its fo)) (writes_in (its fn))) ps
         → Here (record g { db = new }) b.site s.rows (its fn) b.st → Each (λ p. SeenAlike p st.tables b.st.tables) ps
     seen_all [] h k other = tt
     seen_all (p ∷ ps) h k other = (
       subst (λ t. SeenAlike p t b.st.tables) (sym here.told.tables) (subst (λ t. SeenAlike p (applied (writes_in (its fo)) g.db) t) (sym other.told.tables)
-          (seen_alike g.tables p g.db new (writes_in (its fo)) (writes_in (its fn)) changes h.0 fits nfits (subst (Fits g.tables) here.told.tables here.told.fits) (subst (Fits g.tables) other.told.tables other.told.fits) covers k.0.1 k.0.0)),
+          (seen_alike g.tables p g.db new (writes_in (its fo)) (writes_in (its fn)) changes h.0 bases.0 nbases.0 bases.1 nbases.1 covers k.0.1 k.0.0)),
       seen_all ps h.1 k.1 other,
     )

@@ -1,9 +1,3 @@
-pub mod Held
-pub mod Widths
-pub mod Inverting
-pub mod Values
-pub mod Alike
-pub mod Congruent
 pub mod Seeing
 pub mod Finding
 pub mod Placing
@@ -13,4 +7,3 @@ pub mod Lasting
 pub mod Walking
 pub mod Meant
 pub mod Unhit
-pub mod Wellness

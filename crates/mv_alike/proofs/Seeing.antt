@@ -25,7 +25,7 @@ use Rattle.mv_record.specs.Writes.{is_on, writes_on, patched_by}
 use Rattle.mv_history.specs.declared.change.Change.{Change}
 use Rattle.mv_history.specs.Changes.{is_of, Leads, is_same}
 use Rattle.mv_history.specs.Hits.{named_columns, is_alike, reaches, touches_predicate}
-use Rattle.mv_alike.specs.Inversion.{Each}
+use Rattle.mv_recorded.specs.Own.{Each}
 
 both_true : (a b : Bool) → (a && b) ≡ true → (a ≡ true) × (b ≡ true)
 both_true true b h = (refl, h)

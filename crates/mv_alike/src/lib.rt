@@ -1,5 +1,5 @@
-//! What two full runs of one call have in common: where no change hits the old run the new one is equal, and what a repair
-//! keeps is alike in both. Nothing here is executed.
+//! What two full runs of one call have in common: if no change hits the old run, the new one is equal; and the records
+//! that a repair keeps are alike in both. Nothing here is executed.
 #![tactic(auto)]
 
 pub mod laws;

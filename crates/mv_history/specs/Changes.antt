@@ -1,6 +1,6 @@
--- What lies between two databases: the keys whose rows differ, with both rows. That a call is validated against the changes of the
--- commits after its start is the paper's (Dashti, Basil John, Shaikhha and Koch, SIGMOD 2017); that a change is made of two tables
--- alone, whatever was written in between, is this project's own.
+-- The changes between two databases: the keys whose rows differ, with both rows. That a call is validated against the
+-- changes of the commits after its start is the paper's (Dashti, Basil John, Shaikhha and Koch, SIGMOD 2017). That a
+-- change is computed from two tables alone, whatever was written between them, is this project's own.
 use Rattle.std.specs.Prelude.{◌≡◌, ℕ, ◌+◌, ◌==◌, Bool, true, false, ◌&&◌, List, [], ◌∷◌, ◌++◌, Option, Some, None, if◌then◌else◌}
 use Rattle.std.specs.List.{filter, flat_map}
 use Rattle.std.specs.Option.{is_some}
@@ -12,32 +12,32 @@ use Rattle.mv_values.specs.Patching.{row_of}
 use Rattle.mv_values.specs.Tables.{rows_at}
 use Rattle.mv_history.specs.declared.change.Change.{Change}
 
--- Made of two databases
+-- Between two databases
 
--- both are nothing, or the same values
+-- both rows are absent, or they have the same values
 abbrev pub is_same : Option (List Value) → Option (List Value) → Bool
 is_same None None = true
 is_same (Some a) (Some b) = is_eq (key_order a b)
 is_same None (Some b) = false
 is_same (Some a) None = false
 
--- the change of one key: none where its row stays
+-- the change of one key: none if its row stays the same
 abbrev pub change_of : ℕ → List Value → Option (List Value) → Option (List Value) → List Change
 change_of t key before after = if is_same before after then [] else record { table = t; key = key; before = before; after = after } ∷ []
 
--- the change of a row that was there
+-- the change of a row of the old table
 abbrev pub change_from : ℕ → List Keyed → Keyed → List Change
 change_from t new item = change_of t item.key (Some item.row) (row_of new item.key)
 
--- the change of a row that is there, where its key had none before
+-- the change of a row of the new table: none if its key had a row before
 abbrev pub change_to : ℕ → List Keyed → Keyed → List Change
 change_to t old item = if is_some (row_of old item.key) then [] else change_of t item.key None (Some item.row)
 
--- the changes of a table: those of its old rows, and then its new keys
+-- the changes of a table: first those of its old rows, then those of its new keys
 abbrev pub changes_of : ℕ → List Keyed → List Keyed → List Change
 changes_of t old new = flat_map (change_from t new) old ++ flat_map (change_to t old) new
 
--- those of tables, the first of which has this number
+-- the changes of tables, the first of which has this number
 abbrev pub changes_upwards : ℕ → List (List Keyed) → List (List Keyed) → List Change
 changes_upwards t [] new = []
 changes_upwards t (o ∷ os) [] = []
@@ -49,15 +49,15 @@ changes_between old new = changes_upwards 0 old new
 
 -- Lists of changes
 
--- the change is of this key of this table
+-- whether the change is of this key of this table
 abbrev pub is_of : ℕ → List Value → Change → Bool
 is_of t key c = (c.table == t) && is_eq (key_order c.key key)
 
--- the changes of one key lead from one row to another, one after another
+-- the changes of one key lead from one row to another, each from the row after the one before it
 abbrev pub Leads : List Change → Option (List Value) → Option (List Value) → Type 0
 Leads [] before after = before ≡ after
 Leads (c ∷ cs) before after = (c.before ≡ before) × Leads cs c.after after
 
--- the changes cover what lies between two databases: those of each key lead from its old row to its new one
+-- the changes cover the step from one database to another: those of each key lead from its old row to its new one
 abbrev pub Covers : List Change → List (List Keyed) → List (List Keyed) → Type 0
 Covers changes old new = (t : ℕ) (key : List Value) → Leads (filter (is_of t key) changes) (row_of (rows_at old t) key) (row_of (rows_at new t) key)

@@ -1,5 +1,6 @@
--- What a repair keeps. Two full runs of one call are compared, an old one and one on a later database. That a repair executes only what
--- hangs on a change is the paper's (Dashti, Basil John, Shaikhha and Koch, SIGMOD 2017); the rule by records is this project's own.
+-- What a repair keeps. The rule compares two full runs of one call, the old one and one on a later database. That a
+-- repair executes only what depends on a change is the paper's (Dashti, Basil John, Shaikhha and Koch, SIGMOD 2017).
+-- The rule by records is this project's own.
 use Rattle.std.specs.Prelude.{ℕ, Bool, true, false, not, ◌&&◌, List, [], ◌∷◌, ◌++◌, Option, Some, None, map, length, ◌-◌, slice_get, if◌then◌else◌}
 use Rattle.std.specs.List.{list_any, flat_map}
 use Rattle.std.specs.Option.{option_map, option_and_then}
@@ -31,7 +32,7 @@ zip_paths (p ∷ ps) (r ∷ rs) = record { path = p; it = r } ∷ zip_paths ps r
 abbrev pub with_paths : List Record → List Placed
 with_paths rs = zip_paths (paths rs) rs
 
--- the record after the first ones of a run, with its path
+-- the record after these first records of a run, with its path
 abbrev pub next_placed : List Record → Record → Placed
 next_placed rs r = record { path = path (nest_of (nests_behind [] rs) r); it = r }
 
@@ -41,21 +42,21 @@ is_path a b = is_eq (slice_cmp nat_cmp a b)
 abbrev pub among : List Path → Path → Bool
 among kept p = list_any (is_path p) kept
 
--- the record of a path
+-- the record with a path
 abbrev pub at : Path → List Placed → Option Placed
 at p [] = None
 at p (r ∷ rs) = if is_path r.path p then Some r else at p rs
 
--- those before the record of a path
+-- the records before the one with a path
 abbrev pub front : Path → List Placed → List Placed
 front p [] = []
 front p (r ∷ rs) = if is_path r.path p then [] else r ∷ front p rs
 
--- the path of the record with a number
+-- the path of the record with this number, if there is one
 abbrev pub path_at : List Placed → Option ℕ → Option Path
 path_at rs number = option_map (λ r. r.path) (option_and_then (slice_get rs) number)
 
--- there is none, or it is kept
+-- there is no path, or it is kept
 abbrev pub is_kept : List Path → Option Path → Bool
 is_kept kept None = true
 is_kept kept (Some p) = among kept p
@@ -68,7 +69,7 @@ same_path (Some p) None = false
 
 -- Kept
 
--- each variable that is read has in both runs a definer of the same path, and that one is kept, or in both its default
+-- each variable that is read has in both runs a definer with the same path, which is kept, or in both its default
 abbrev pub reads_stay : List Path → List Placed → List Read → List Placed → List Read → Bool
 reads_stay kept os [] ns [] = true
 reads_stay kept os (a ∷ as') ns (b ∷ bs) =
@@ -76,16 +77,17 @@ reads_stay kept os (a ∷ as') ns (b ∷ bs) =
 reads_stay kept os [] ns (b ∷ bs) = false
 reads_stay kept os (a ∷ as') ns [] = false
 
--- what those records wrote that aren't kept
+-- the writes of the records that aren't kept
 abbrev pub other_writes : List Path → List Placed → List Write
 other_writes kept rs = flat_map (λ r. if among kept r.path then [] else r.it.writes) rs
 
--- no write of an earlier record of the old run or the new one, that isn't kept, touches the record
+-- no write touches the record that an earlier record of either run made and that isn't kept
 abbrev pub is_untouched : List Path → List Placed → List Placed → Record → Bool
 is_untouched kept before ns o = not (list_any (touches o) (other_writes kept before ++ other_writes kept ns))
 
--- a record of the new run stays: the old run has one at its path, its controller is kept, its reads stay, no change hits the old record, and
--- no other write touches it. `before` are the old run's records before that one, `ns` the new run's before this one.
+-- a record of the new run stays: the old run has a record with its path, its controller is kept, its reads stay, no
+-- change hits the old record, and no other write touches it. `before` are the old run's records before that one, `ns`
+-- the new run's records before this one.
 abbrev pub stays_with : List Change → List Path → List Placed → List Placed → List Placed → Record → Option Placed → Bool
 stays_with changes kept os before ns r None = false
 stays_with changes kept os before ns r (Some o) =
@@ -95,7 +97,7 @@ stays_with changes kept os before ns r (Some o) =
 abbrev pub stays : List Change → List Path → List Placed → List Placed → Placed → Bool
 stays changes kept os ns r = stays_with changes kept os (front r.path os) ns r.it (at r.path os)
 
--- the paths that are kept, after going through the rest of the new run in program order; `ns` are its records before the rest
+-- the paths that are kept after the rest of the new run, in program order; `ns` are its records before the rest
 abbrev pub keep : List Change → List Placed → List Path → List Placed → List Placed → List Path
 keep changes os kept ns [] = kept
 keep changes os kept ns (r ∷ rs) =
@@ -105,6 +107,6 @@ keep changes os kept ns (r ∷ rs) =
 abbrev pub kept_paths : List Record → List Record → List Change → List Path
 kept_paths old new changes = keep changes (with_paths old) [] [] (with_paths new)
 
--- Executed: how many records of the new run a repair executes
+-- Executed: the number of records of the new run that a repair executes
 abbrev pub executions : List Record → List Record → List Change → ℕ
 executions old new changes = length new - length (kept_paths old new changes)

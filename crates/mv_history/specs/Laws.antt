@@ -1,4 +1,4 @@
--- What holds of changes and of paths, whatever run they come from.
+-- The laws of changes and of paths, whatever run they come from. This project's own.
 use Rattle.std.specs.Prelude.{◌≡◌, ℕ, true, List, [], ◌∷◌, ◌++◌, None, length}
 use Rattle.std.specs.List.{flat_map}
 use Rattle.mv_values.specs.declared.rows.Keyed.{Keyed}
@@ -9,18 +9,18 @@ use Rattle.mv_history.specs.Changes.{changes_between, Covers}
 use Rattle.mv_history.specs.Hits.{first_hit, is_unhit}
 use Rattle.mv_history.specs.Kept.{Placed, with_paths, next_placed}
 
--- the changes between two databases whose keys rise cover what lies between them
+-- the changes between two databases whose keys rise cover the step from one to the other
 abbrev pub ChangesCover : Type 0
 ChangesCover = (old new : List (List Keyed)) → AreRising old → AreRising new → length old ≡ length new → Covers (changes_between old new) old new
 
--- changes that cover one step and the next cover both
+-- changes that cover two steps one after the other cover both together
 abbrev pub ChangesJoin : Type 0
 ChangesJoin = (cs ds : List Change) (old mid new : List (List Keyed)) → Covers cs old mid → Covers ds mid new → Covers (cs ++ ds) old new
 
--- where validation finds no hit, no change of any of the commits hits a record
+-- if validation finds no hit, no change of any commit hits a record
 abbrev pub NoHitIsUnhit : Type 0
 NoHitIsUnhit = (number : ℕ) (commits : List (List Change)) (records : List Record) → first_hit number commits [] records ≡ None → is_unhit (flat_map (λ changes. changes) commits) [] records ≡ true
 
--- the paths of the first records of a run don't hang on those after them
+-- the paths of the first records of a run don't depend on the records after them
 abbrev pub FrontKeepsPaths : Type 0
 FrontKeepsPaths = (front : List Record) (r : Record) (behind : List Record) → (more : List Placed) × (with_paths (front ++ r ∷ behind) ≡ with_paths front ++ next_placed front r ∷ more)

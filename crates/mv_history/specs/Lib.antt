@@ -2,5 +2,4 @@ pub mod Changes
 pub mod Hits
 pub mod Kept
 pub mod Laws
-pub mod Samples
 pub mod Examples

@@ -1,9 +1,9 @@
-//! What lies between two databases, and what of it hits a call.
+//! Changes between databases, and the hits that validation finds.
 
 use mv_values::value::{Key, Row};
 
-/// A key of a table whose row a commit changed: its row before the commit and its row after it. At least one of them is
-/// there, and they differ.
+/// A key whose row a commit changed, with the row before and the row after the commit. The two rows differ. At most one
+/// is absent.
 #[derive(Drop)]
 pub struct Change {
     pub table: u8,
@@ -12,7 +12,7 @@ pub struct Change {
     pub after: Option<Row>,
 }
 
-/// What validation finds: the number of the least record that is hit, and the number of the least commit that hits it.
+/// What validation finds: the number of the first record that is hit, and of the first commit that hits it.
 #[derive(Clone, Copy)]
 pub struct Hit {
     pub number: usize,

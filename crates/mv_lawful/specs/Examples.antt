@@ -1,6 +1,7 @@
--- Journals of small calls, worked out by hand. The calls are those of the bank's procedures: `add` adds to an account and prints the sum,
--- `transfer` moves money and takes a fee into account 0, `put` inserts an account, `rich` counts those with 100 or more, `tell` prints
--- whether account 1 has more than 100, and account 2.
+-- Journals of small calls, worked out by hand. The calls are of a bank's procedures: `add` adds to an account and
+-- prints the sum, `transfer` moves money and takes a fee into account 0, `put` inserts an account, `rich` counts the
+-- accounts with 100 or more, `tell` prints whether account 1 has more than 100, and the balance of account 2. This
+-- project's own.
 use Rattle.std.specs.Prelude.{◌≡◌, ℕ, zero, suc, pos, ◌+◌, ◌-◌, nat_lt, not, List, [], ◌∷◌, ◌++◌, Option, Some, None, ℤ, map, length, codes, decimal, if◌then◌else◌}
 use Rattle.std.specs.List.{filter}
 use Rattle.std.specs.Option.{is_some}
@@ -17,7 +18,7 @@ use Rattle.mv_values.specs.Tables.{rows_at}
 use Rattle.mv_record.specs.declared.record.Record.{Record}
 use Rattle.mv_record.specs.declared.record.Read.{Read}
 use Rattle.mv_record.specs.Runs.{Tables, Run, writes_in, lines_in, end_in}
-use Rattle.mv_history.specs.Samples.{key, account, asks, test, writes_column, writes_balance, reads, reads_default, sets, blank, look, change, print}
+use Rattle.mv_record.specs.Samples.{key, account, asks, test, writes_column, writes_balance, reads, reads_default, sets, blank, look, change, print}
 use Rattle.mv_journal.specs.declared.event.Event.{Event}
 use Rattle.mv_journal.specs.declared.event.Event.TheVariants.{B, S, A, M, C, X, G}
 use Rattle.mv_journal.specs.declared.outcome.Mark.TheVariants.{Plain, Exclusive, Moved}
@@ -96,7 +97,7 @@ rich db = run_of (
     record (blank 1) { preds = record { table = 0; tests = test 1 Ge 100 ∷ []; columns = [] } ∷ []; sets = sets 0 (count_rich db) ∷ sets 1 1 ∷ [] }
     ∷ print 2 (reads 0 0 ∷ []) (decimal (count_rich db)) ∷ []) db
 
--- what `tell` does after its IF, where x was set by these and z is read by the record of this number
+-- what `tell` executes after its IF; these reads define x, and the record of this number reads z
 abbrev pub rest_of_tell : List Read → ℕ → ℕ → Tables → List Record
 rest_of_tell definer x z db = look 4 2 2 3 (balance db 2) ∷ print 5 definer (decimal x) ∷ print 6 (reads 2 z ∷ []) (decimal (balance db 2)) ∷ []
 
@@ -115,7 +116,7 @@ run_in (run ∷ runs) (suc c) db = run_in runs c db
 abbrev pub work : Tables → List (Tables → Run) → ℕ → Option ℕ → Work
 work db runs rounds horizon = record { run = run_in runs; count = length runs; opening = db; options = record { rounds = rounds; horizon = horizon } }
 
--- of five accounts, with three rounds and no horizon
+-- work on five accounts, with three rounds and no horizon
 abbrev pub bank : List (Tables → Run) → Work
 bank runs = work five runs 3 None
 
@@ -141,7 +142,7 @@ repaired_second = B 0 ∷ B 1 ∷ C 0 ∷ A 1 ∷ C 1 ∷ []
 
 -- Repairs
 
--- transfers between other accounts: only the fee is taken again. The fee's UPDATE is hit.
+-- transfers between other accounts: the change hits the UPDATE of the fee, and only that is executed again
 abbrev pub OnlyTheFee : Type 0
 OnlyTheFee =
     let w : Work = bank (transfer 1 2 10 ∷ transfer 3 4 10 ∷ []) in
@@ -149,7 +150,7 @@ OnlyTheFee =
     × Answers w repaired_second (says [] ∷ says [] ∷ []) ((account 0 2 ∷ account 1 90 ∷ account 2 110 ∷ account 3 90 ∷ account 4 110 ∷ []) ∷ [])
     × (hit_of w (0 ∷ []) 0 1 ≡ Some (record { number = 4; commit = 1 }))
 
--- both add to one account: all is done again. The SELECT is hit.
+-- both add to one account: the change hits the SELECT, and all is executed again
 abbrev pub AllAgain : Type 0
 AllAgain =
     let w : Work = bank (add 1 5 ∷ add 1 7 ∷ []) in
@@ -157,26 +158,26 @@ AllAgain =
     × Answers w repaired_second (says (105 ∷ []) ∷ says (112 ∷ []) ∷ []) ((account 0 0 ∷ account 1 112 ∷ account 2 100 ∷ account 3 100 ∷ account 4 100 ∷ []) ∷ [])
     × (hit_of w (0 ∷ []) 0 1 ≡ Some (record { number = 0; commit = 1 }))
 
--- to add nothing is no change, so it hits nothing
+-- adding zero changes no row, so it hits nothing
 abbrev pub NothingAdded : Type 0
 NothingAdded =
     let w : Work = bank (add 1 0 ∷ add 1 7 ∷ []) in
     Comes w (B 0 ∷ B 1 ∷ C 0 ∷ C 1 ∷ []) (line 0 (plain 0 4 ∷ []) ∷ line 1 (plain 0 4 ∷ []) ∷ []) × (hit_of w (0 ∷ []) 0 1 ≡ None)
 
--- a row that comes into a count hits it
+-- a row that a COUNT didn't find before hits it
 abbrev pub NewRowCounts : Type 0
 NewRowCounts =
     let w : Work = bank (put 7 100 ∷ rich ∷ []) in
     Comes w repaired_second (line 0 (plain 0 1 ∷ []) ∷ line 1 (plain 0 2 ∷ plain 1 2 ∷ []) ∷ [])
     × ((outcome_of w repaired_second).replies ≡ says [] ∷ says (5 ∷ []) ∷ []) × (hit_of w (0 ∷ []) 0 1 ≡ Some (record { number = 0; commit = 1 }))
 
--- the reader of x has a definer that the old run didn't have; the SELECT of account 2 and its PRINT are kept
+-- the PRINT of x has a definer that the old run didn't have; the SELECT of account 2 and its PRINT are kept
 abbrev pub NewDefiner : Type 0
 NewDefiner =
     let w : Work = bank (add 1 5 ∷ tell ∷ []) in
     Comes w repaired_second (line 0 (plain 0 4 ∷ []) ∷ line 1 (plain 0 5 ∷ plain 1 4 ∷ []) ∷ []) × ((outcome_of w repaired_second).replies ≡ says (105 ∷ []) ∷ says (1 ∷ 100 ∷ []) ∷ [])
 
--- a call that would roll back goes through on the later table; in the other order it is rolled back
+-- a call that would roll back goes through on the later table; in the other order it rolls back
 abbrev pub OtherBranch : Type 0
 OtherBranch =
     let w : Work = bank (transfer 1 2 150 ∷ add 1 60 ∷ []) in
@@ -187,13 +188,13 @@ OtherBranch =
     × Comes w turns (line 0 (plain 0 3 ∷ []) ∷ line 1 (plain 1 4 ∷ []) ∷ [])
     × ((outcome_of w turns).replies ≡ record { lines = []; end = Some (Own (codes "no funds")) } ∷ says (160 ∷ []) ∷ [])
 
--- two calls put one key: the later one ends
+-- two calls insert one key: the later one ends
 abbrev pub SameKey : Type 0
 SameKey =
     let w : Work = bank (put 7 1 ∷ put 7 2 ∷ []) in
     Comes w repaired_second (line 0 (plain 0 1 ∷ []) ∷ line 1 (plain 0 1 ∷ plain 1 1 ∷ []) ∷ []) × ((outcome_of w repaired_second).replies ≡ says [] ∷ record { lines = []; end = Some Duplicate } ∷ [])
 
--- Two columns of one row. No predicate sees the change by itself; the call's own write of the key makes it count.
+-- two columns of one row: no predicate sees the change by itself; the call's own write of the key makes it a hit
 
 abbrev pub triple : ℕ → ℕ → Tables
 triple d e = (record { key = key 1; row = Int (pos 1) ∷ Int (pos d) ∷ Int (pos e) ∷ [] } ∷ []) ∷ []
@@ -234,7 +235,8 @@ OwnWriteCounts =
 abbrev pub write_and_look : Tables → Run
 write_and_look db = run_of (change 1 1 1 (balance db 1 + 1) ∷ look 2 1 0 1 (balance db 1 + 1) ∷ look 3 2 0 1 (balance db 2) ∷ []) db
 
--- a kept write doesn't touch: what reads after it stays, and only the SELECT of the other account is done again
+-- a kept write touches nothing: the records that read after it stay, and only the SELECT of the other account is
+-- executed again
 abbrev pub KeptWriteStays : Type 0
 KeptWriteStays =
     let w : Work = bank (add 2 5 ∷ write_and_look ∷ []) in
@@ -242,7 +244,7 @@ KeptWriteStays =
 
 -- One step, moves, low
 
--- with no rounds the repair commits in the same step, and with one it may not
+-- with no rounds the repair commits in the same step; with one round it must not
 abbrev pub InOneStep : Type 0
 InOneStep =
     let runs : List (Tables → Run) = transfer 1 2 10 ∷ transfer 3 4 10 ∷ [] in
@@ -260,7 +262,7 @@ FirstFaults =
     × (wrong_with w (B 0 ∷ C 0 ∷ []) ≡ Some (Open 1))
     × (wrong_with w [] ≡ Some (Open 0))
 
--- a stale call is moved, and neither goes on nor is repaired
+-- a stale call is moved; it may neither go on nor be repaired
 abbrev pub StaleMoves : Type 0
 StaleMoves =
     let w : Work = work five (add 1 5 ∷ add 2 5 ∷ add 3 5 ∷ []) 3 (Some 1) in

@@ -4,3 +4,4 @@ pub mod Writes
 pub mod Admitting
 pub mod Effects
 pub mod Databases
+pub mod Samples

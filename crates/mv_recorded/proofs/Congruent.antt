@@ -304,7 +304,7 @@ row_wide table (r ∷ rs) h =
     let long : length r.row ≡ length (types_of table) = AllZip-long IsOf (types_of table) r.row (All-head (HasRow table) r rs h) in
     (omega (arith, long, length-map table.columns (λ (c : Column). c.kind)), row_wide table rs (All-tail (HasRow table) r rs h))
 
-all_wide : (tables : List TableInfo) (db : List (List Keyed)) (t : ℕ) → AreTyped tables db → Each (λ (item : Keyed). length item.row ≡ length (columns_at tables t)) (rows_at db t)
+pub all_wide : (tables : List TableInfo) (db : List (List Keyed)) (t : ℕ) → AreTyped tables db → Each (λ (item : Keyed). length item.row ≡ length (columns_at tables t)) (rows_at db t)
 all_wide [] [] t h = tt
 all_wide [] (rows ∷ db) t h = absurd h
 all_wide (table ∷ tables) [] t h = absurd h

@@ -10,7 +10,8 @@ use Rattle.mv_catalog.specs.declared.resolved.RStmt.TheOpen.{Rollback}
 use Rattle.mv_alone.specs.declared.state.State.{State}
 use Rattle.mv_alone.specs.declared.state.Held.{Held}
 use Rattle.mv_alone.specs.declared.state.Held.TheVariants.{Scalar, Turns, Turn}
-use Rattle.mv_recorded.specs.Examples.{var, col, field, constant, acc, account, add_amount, set_balance, tell_balance, read_balance, add_read, add_sum, add_write, add_line, AddsFive, greatest, add_overflow, AddOverflows, raise_balance, UpdateOverflows, tell_found, look_read, look_line, LooksInVain, no_funds, look_at_funds, take_amount, give_amount, take_fee, read_first, looked, rolled_back, taken, given, fee_taken, Transfers, TransferRollsBack, add_line_amount, over_lines, lines, loop_record, first_turn, AddsUp}
+use Rattle.mv_record.specs.Samples.{account}
+use Rattle.mv_recorded.specs.Examples.{var, col, field, constant, acc, add_amount, set_balance, tell_balance, read_balance, add_read, add_sum, add_write, add_line, AddsFive, greatest, add_overflow, AddOverflows, raise_balance, UpdateOverflows, tell_found, look_read, look_line, LooksInVain, no_funds, look_at_funds, take_amount, give_amount, take_fee, read_first, looked, rolled_back, taken, given, fee_taken, Transfers, TransferRollsBack, add_line_amount, over_lines, lines, loop_record, first_turn, AddsUp}
 use Rattle.mv_recorded.specs.Recorded.{Site, told, outside, within, within_loop, in_turn}
 use Rattle.mv_recorded.proofs.Unrolled.{value_var, value_two, value_col, value_field, value_constant, variables_var, variables_two, variables_col, variables_field, variables_constant, columns_var, columns_two, columns_col, columns_constant, told_first, tell_is, does_is, size_is}
 

@@ -9,6 +9,7 @@ use Rattle.mv_alone.specs.declared.state.Held.TheVariants.{Scalar}
 use Rattle.mv_alone.specs.Env.{unset, put_at, scalar_in, scalar_at, truth, with_value, with_values, with_found}
 use Rattle.mv_record.specs.declared.record.Slot.{Slot}
 use Rattle.mv_recorded.specs.Effect.{with_slots}
+use Rattle.mv_recorded.specs.Own.{Within}
 use Rattle.mv_recorded.specs.Reading.{each_once}
 
 -- Places
@@ -101,10 +102,6 @@ values_set env (x ∷ xs) (v ∷ vs) le = (stays_through (with_value env x v) x 
 
 -- Lists of variables
 
-abbrev pub Within : ℕ → List ℕ → Type 0
-Within x [] = ⊥
-Within x (y ∷ ys) = (x ≡ y) ⊎ Within x ys
-
 abbrev pub AllWithin : List ℕ → List ℕ → Type 0
 AllWithin [] ys = Unit {0}
 AllWithin (x ∷ xs) ys = Within x ys × AllWithin xs ys
@@ -143,7 +140,7 @@ nothing_new env (x ∷ xs) h = ap (with_slots (slots_in env xs)) h.0 ∙ nothing
 
 -- Each once
 
-kept_within : (x : ℕ) (p : ℕ → Bool) (xs : List ℕ) → p x ≡ true → Within x xs → Within x (filter p xs)
+pub kept_within : (x : ℕ) (p : ℕ → Bool) (xs : List ℕ) → p x ≡ true → Within x xs → Within x (filter p xs)
 kept_within x p [] is h = absurd h
 kept_within x p (y ∷ ys) is h = by_test (p y) refl h (kept_within x p ys is)
   where

@@ -7,7 +7,8 @@ use Rattle.mv_catalog.specs.declared.resolved.RStmt.{RStmt, roll-RStmt}
 use Rattle.mv_alone.specs.declared.state.State.{State}
 use Rattle.mv_alone.specs.declared.state.Held.{Held}
 use Rattle.mv_alone.specs.declared.state.Held.TheVariants.{Scalar, Turn}
-use Rattle.mv_recorded.specs.Examples.{var, constant, acc, account, delete_found, over_accounts, sum_up_balances, open_account, for_record, deleted, sum_record, opened, Closes, read_twice, ReadsTwice, delete_wrong, DividesByZero}
+use Rattle.mv_record.specs.Samples.{account}
+use Rattle.mv_recorded.specs.Examples.{var, constant, acc, delete_found, over_accounts, sum_up_balances, open_account, for_record, deleted, sum_record, opened, Closes, read_twice, ReadsTwice, delete_wrong, DividesByZero}
 use Rattle.mv_recorded.specs.Recorded.{Site, told, outside, within_loop, in_turn}
 use Rattle.mv_recorded.proofs.Unrolled.{value_var, value_two, value_field, value_constant, variables_var, variables_two, variables_field, variables_constant, told_first, tell_is, does_is, size_is}
 

@@ -4,9 +4,7 @@ use Rattle.mv_values.specs.declared.value.Value.{Value}
 use Rattle.mv_values.specs.declared.value.Value.TheVariants.{Int, Text}
 use Rattle.mv_values.specs.declared.op.Op.TheVariants.{Eq, Lt, Ge}
 use Rattle.mv_values.specs.declared.rows.Keyed.{Keyed}
-use Rattle.mv_values.specs.declared.pred.Pred.{Pred}
 use Rattle.mv_values.specs.declared.patch.Patch.TheVariants as patch
-use Rattle.mv_values.specs.declared.patch.Write.{Write}
 use Rattle.mv_values.specs.declared.calls.Call.{Call}
 use Rattle.mv_values.specs.declared.calls.Argument.{Argument}
 use Rattle.mv_values.specs.declared.calls.Argument.TheVariants.{One, Many}
@@ -26,9 +24,8 @@ use Rattle.mv_catalog.specs.declared.resolved.ProcInfo.{ProcInfo}
 use Rattle.mv_catalog.specs.declared.resolved.RStmt.{RStmt, roll-RStmt}
 use Rattle.mv_catalog.specs.declared.resolved.RStmt.TheOpen.{RStmt-F, Assign, Select, Total, ForSelect, ForRows, Branch, Insert, Update, Delete, Print, Rollback}
 use Rattle.mv_record.specs.declared.record.Record.{Record}
-use Rattle.mv_record.specs.declared.record.Read.{Read}
-use Rattle.mv_record.specs.declared.record.Slot.{Slot}
 use Rattle.mv_record.specs.Paths.{paths}
+use Rattle.mv_record.specs.Samples.{account, asks, writes_balance, reads, reads_default, sets, blank}
 use Rattle.mv_recorded.specs.Recorded.{recorded}
 
 -- Expressions
@@ -61,9 +58,6 @@ acc = record {
   key = 0 ∷ [];
 } ∷ []
 
-abbrev pub account : ℕ → ℕ → Keyed
-account a b = record { key = Int (pos a) ∷ []; row = Int (pos a) ∷ Int (pos b) ∷ Text [] ∷ [] }
-
 -- two accounts besides the one for fees
 abbrev pub bank : List (List Keyed)
 bank = (account 0 0 ∷ account 1 100 ∷ account 2 100 ∷ []) ∷ []
@@ -72,26 +66,7 @@ bank = (account 0 0 ∷ account 1 100 ∷ account 2 100 ∷ []) ∷ []
 abbrev pub of_account : RExpr → List RCond
 of_account x = record { column = 0; op = Eq; right = x } ∷ []
 
--- the query for account `a` that selects these columns
-abbrev pub asks : ℕ → List ℕ → List Pred
-asks a cs = record { table = 0; tests = record { column = 0; key_place = Some 0; op = Eq; value = Int (pos a) } ∷ []; columns = cs } ∷ []
-
-abbrev pub writes_balance : ℕ → ℕ → List Write
-writes_balance a b = record { table = 0; key = Int (pos a) ∷ []; patch = patch.Set (record { column = 1; value = Int (pos b) } ∷ []) } ∷ []
-
 -- Records
-
-abbrev pub reads : ℕ → ℕ → Read
-reads x number = record { slot = x; definer = Some number }
-
-abbrev pub reads_default : ℕ → Read
-reads_default x = record { slot = x; definer = None }
-
-abbrev pub sets : ℕ → ℕ → Slot
-sets x n = record { slot = x; value = Int (pos n) }
-
-abbrev pub blank : ℕ → Record
-blank n = record { spot = record { statement = n; turns = [] }; parent = None; reads = []; preds = []; sets = []; rows = []; writes = []; line = None; end = None }
 
 abbrev pub call_of : List Argument → Call
 call_of arguments = record { procedure = 0; arguments = arguments }

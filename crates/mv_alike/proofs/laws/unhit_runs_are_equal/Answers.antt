@@ -1,4 +1,4 @@
-use Rattle.std.proofs.Common.{true, ◌≡◌, List, [], subst, sym}
+use Rattle.std.proofs.Common.{true, ◌≡◌, List, [], subst}
 use Rattle.mv_values.specs.declared.schema.TableInfo.{TableInfo}
 use Rattle.mv_values.specs.declared.calls.Call.{Call}
 use Rattle.mv_catalog.specs.declared.resolved.ProcInfo.{ProcInfo}
@@ -11,16 +11,15 @@ use Rattle.mv_history.specs.declared.change.Change.{Change}
 use Rattle.mv_history.specs.Hits.{is_unhit}
 use Rattle.mv_alike.specs.Laws.{AreRuns, RunsAsBefore}
 use Rattle.mv_alike.proofs.Unhit.{unhit_same}
-use Rattle.mv_alike.proofs.Wellness.{procedure_suits}
 use Rattle.mv_alike.proofs.laws.unhit_runs_are_equal.Goals as goal
 
 as_before : (tables : List TableInfo) (proc : ProcInfo) (call : Call) (db new : Tables) (changes : List Change) → AreRuns tables proc call db new changes
     → is_unhit changes [] (recorded tables proc call db) ≡ true → RunsAsBefore tables proc call db new
 as_before tables proc call db new changes r unhit =
-    let same = unhit_same tables proc call db new changes (procedure_suits tables proc call r.procedure r.arguments) r.old_fits r.new_fits r.covers unhit in
+    let same = unhit_same tables proc call db new changes r unhit in
     record {
       records = same;
-      tells = subst (λ (rs : List Record). TellsAll new (record (meaning tables proc call new) { records = rs })) same (meaning_tells tables proc call new r.new_fits.rising);
+      tells = subst (λ (rs : List Record). TellsAll new (record (meaning tables proc call new) { records = rs })) same (meaning_tells tables proc call new r.new_is.rising);
     }
 
 pub returns : goal.returns

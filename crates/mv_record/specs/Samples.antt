@@ -1,4 +1,5 @@
--- Small records of a bank's procedures, for worked examples. An account has a number, which is its key, a balance and a note.
+-- Small records of a bank's procedures, for worked examples. An account has a number, which is its key, a balance and a
+-- note. This project's own.
 use Rattle.std.specs.Prelude.{ℕ, pos, List, [], ◌∷◌, Some, None}
 use Rattle.mv_values.specs.declared.value.Value.{Value}
 use Rattle.mv_values.specs.declared.value.Value.TheVariants.{Int, Text}
@@ -23,7 +24,7 @@ account a b = record { key = key a; row = Int (pos a) ∷ Int (pos b) ∷ Text [
 abbrev pub asks : ℕ → List ℕ → List Pred
 asks a columns = record { table = 0; tests = record { column = 0; key_place = Some 0; op = Eq; value = Int (pos a) } ∷ []; columns = columns } ∷ []
 
--- a test of a column that is not in the key
+-- a test of a column that isn't in the key
 abbrev pub test : ℕ → Op → ℕ → Test
 test column op value = record { column = column; key_place = None; op = op; value = Int (pos value) }
 
@@ -34,7 +35,7 @@ writes_column a column value = record { table = 0; key = key a; patch = patch.Se
 abbrev pub writes_balance : ℕ → ℕ → List Write
 writes_balance a b = writes_column a 1 b
 
--- a variable that is read, and the record that last set it
+-- a read of a variable, and the record that last set it
 abbrev pub reads : ℕ → ℕ → Read
 reads x number = record { slot = x; definer = Some number }
 
@@ -44,7 +45,7 @@ reads_default x = record { slot = x; definer = None }
 abbrev pub sets : ℕ → ℕ → Slot
 sets x n = record { slot = x; value = Int (pos n) }
 
--- the record of a statement of this number outside any loop
+-- the record of the statement with this number, outside any loop
 abbrev pub blank : ℕ → Record
 blank n = record { spot = record { statement = n; turns = [] }; parent = None; reads = []; preds = []; sets = []; rows = []; writes = []; line = None; end = None }
 
