@@ -4,6 +4,7 @@ use Rattle.std.specs.Prelude.{◌==◌, ◌||◌, ◌&&◌, ◌⊎◌, nat_lt, s
 use Rattle.std.specs.List.{list_any}
 use Rattle.std.specs.Option.{option_map}
 use Rattle.std.proofs.lemmas.Bool.Decides.{eqb_tells}
+use Rattle.std.proofs.lemmas.List.Elements.{All-nil, All-cons}
 use Rattle.std.proofs.lemmas.List.Kept.{AllPairs-cons}
 use Rattle.std.proofs.lemmas.Option.{slice_get-get_or, slice_get_within}
 use Rattle.mv_journal.specs.declared.event.Event.{Event}
@@ -15,7 +16,7 @@ use Rattle.mv_lawful.specs.declared.fault.Fault.TheVariants.{Order}
 use Rattle.mv_lawful.specs.declared.fault.Wrong.TheVariants.{Open}
 use Rattle.mv_lawful.specs.Work.{Work}
 use Rattle.mv_lawful.specs.Lawful.{Turn, Live, Course, beginning, change_live, begin, again, finish, unless, of_live, refusal, after, reach, course_of, first_open, open_call, wrong_from, Lawful}
-use Rattle.mv_lawful.specs.Laws.{first_start, IsSerial}
+use Rattle.mv_lawful.specs.Laws.{first_start, IsSerial, IsOfCalls}
 use Rattle.mv_lawful.proofs.Repairs.{first_allowed}
 
 -- Numbers in a list
@@ -351,14 +352,55 @@ serial_of w s h = record {
         by true e = yes' e
         by false e = absurd (true_false (stands c s.order) k (o.within c (past e)))
 
+-- before any event
+at_beginning : (w : Work) → OrderlyAt w beginning
+at_beginning w = record {
+  count = omega arith;
+  once = tt;
+  done = λ c l is. cc;
+  within = λ c past. refl;
+  starts = λ c l is. cc;
+  after_begin = λ k c l at is. cc;
+}
+
 pub lawful_is_serial : (w : Work) (es : List Event) → Lawful w es → IsSerial w (course_of w es)
 lawful_is_serial w es h =
-    let start : OrderlyAt w beginning = record {
-      count = omega arith;
-      once = tt;
-      done = λ c l is. cc;
-      within = λ c past. refl;
-      starts = λ c l is. cc;
-      after_begin = λ k c l at is. cc;
-    } in
-    serial_of w (course_of w es) (ended_from w 1 beginning es h start)
+    serial_of w (course_of w es) (ended_from w 1 beginning es h (at_beginning w))
+
+-- Which calls are named
+
+live_below : (w : Work) (s : Course) (c : ℕ) (f : Live → Option Fault) → OrderlyAt w s → of_live (slice_get s.calls c) f ≡ None → c < w.count
+live_below w s c f o h =
+    let a = live_at s.calls c f h in
+    let within : c < length s.calls = slice_get_within s.calls c a.l a.is in
+    let count = o.count in
+    omega (arith, within, count)
+
+next_below : (w : Work) (n c : ℕ) → unless ((c == n) && nat_lt c w.count) Order None ≡ None → c < w.count
+next_below w n c h = by (c == n) (nat_lt c w.count) refl h
+  where
+    less : nat_lt c w.count ≡ true → c < w.count
+    less h = grind (arith, h)
+
+    by : (a b : Bool) → nat_lt c w.count ≡ b → unless (a && b) Order None ≡ None → c < w.count
+    by true true k h = less k
+    by true false k h = cc
+    by false b k h = cc
+
+is_of_calls : (w : Work) (s : Course) (e : Event) → refusal w s e ≡ None → OrderlyAt w s → IsOfCalls w.count e
+is_of_calls w s (B c) h o = next_below w (length s.calls) c h
+is_of_calls w s (S c) h o = live_below w s c _ o h
+is_of_calls w s (A c) h o = live_below w s c _ o h
+is_of_calls w s (M c) h o = live_below w s c _ o h
+is_of_calls w s (C c) h o = live_below w s c _ o h
+is_of_calls w s (X c) h o = live_below w s c _ o h
+is_of_calls w s G h o = tt
+
+named_from : (w : Work) (n : ℕ) (s : Course) (es : List Event) → wrong_from w n s es ≡ None → OrderlyAt w s → All (IsOfCalls w.count) es
+named_from w n s [] h o = All-nil (IsOfCalls w.count)
+named_from w n s (e ∷ es) h o =
+    let parts = first_allowed n (refusal w s e) (wrong_from w (n + 1) (after w s e) es) h in
+    All-cons (IsOfCalls w.count) e es (is_of_calls w s e parts.0 o) (named_from w (n + 1) (after w s e) es parts.1 (orderly_after w s e parts.0 o))
+
+pub lawful_names_calls : (w : Work) (es : List Event) → Lawful w es → All (IsOfCalls w.count) es
+lawful_names_calls w es h = named_from w 1 beginning es h (at_beginning w)

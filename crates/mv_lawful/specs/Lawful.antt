@@ -1,5 +1,6 @@
--- The law of journals: which events are allowed, and what they do. That a call is validated and repaired in place of being aborted is
--- the paper's (Dashti, Basil John, Shaikhha and Koch, SIGMOD 2017); the events and their law are this project's own.
+-- The law of journals: which events are allowed, and what they do. That a call is validated and repaired instead of
+-- aborted is the paper's (Dashti, Basil John, Shaikhha and Koch, SIGMOD 2017). The events and their law are this
+-- project's own.
 use Rattle.std.specs.Prelude.{◌≡◌, ℕ, ◌+◌, ◌-◌, ◌==◌, nat_lt, min, max, Bool, true, false, not, ◌&&◌, List, [], ◌∷◌, ◌++◌, Option, Some, None, length, slice_get, slice_set, if◌then◌else◌}
 use Rattle.std.specs.Option.{option_map, is_some}
 use Rattle.mv_journal.specs.declared.event.Event.{Event}
@@ -12,21 +13,22 @@ use Rattle.mv_lawful.specs.declared.fault.Wrong.{Wrong}
 use Rattle.mv_lawful.specs.declared.fault.Wrong.TheVariants.{Refused, Open}
 use Rattle.mv_lawful.specs.Work.{Work, records_at, hit_of}
 
--- What events come to
+-- The state after events
 
--- a round of a call: how many commits there were when it began, and how it came about
+-- a round of a call: its start, which is the number of commits before it, and how it came about
 pub record Turn : Type 0 where
   pub start : ℕ
   pub mark : Mark
 
--- a call that has begun: its start, its rounds, how many of its statements the journal names, and whether it has committed
+-- a call that has begun: its start, its rounds, the number of its S events, and whether it has committed
 pub record Live : Type 0 where
   pub start : ℕ
   pub turns : List Turn
   pub steps : ℕ
   pub done : Bool
 
--- the calls that have committed, in order; those that have begun, by number, so that the next call's number is how many these are; and low
+-- the calls that have committed, in order; the calls that have begun, by number; and low. The number of calls that have
+-- begun is the number of the next call
 pub record Course : Type 0 where
   pub order : List ℕ
   pub calls : List Live
@@ -35,34 +37,34 @@ pub record Course : Type 0 where
 abbrev pub beginning : Course
 beginning = record { order = []; calls = []; low = 0 }
 
--- What is refused
+-- Refusals
 
--- how many repairs and moves a call has had
+-- the number of repairs and moves of a call
 abbrev pub used : Live → ℕ
 used l = length l.turns - 1
 
--- its start is below low
+-- whether the start of the call is below low
 abbrev pub is_stale : Course → Live → Bool
 is_stale s l = nat_lt l.start s.low
 
--- a record of its full run at its start is hit by a commit after it
+-- whether a commit after its start hits a record of its full run
 abbrev pub is_hit : Work → Course → ℕ → Live → Bool
 is_hit w s c l = is_some (hit_of w s.order l.start c)
 
--- it is in its first round, which has a statement left
+-- whether it is in its first round, which has a statement left
 abbrev pub has_step : Work → Course → ℕ → Live → Bool
 has_step w s c l = (used l == 0) && nat_lt l.steps (length (records_at w s.order l.start c))
 
--- a repair is left to it
+-- whether it may be repaired once more
 abbrev pub has_round : Work → Live → Bool
 has_round w l = nat_lt (used l) w.options.rounds
 
--- the fault where the condition isn't met, else what comes later
+-- the fault if the condition doesn't hold, else the later one
 abbrev pub unless : Bool → Fault → Option Fault → Option Fault
 unless true f later = later
 unless false f later = Some f
 
--- of a call that hasn't begun, or has committed, it is the order that is wrong
+-- an event of a call that isn't live is out of order
 abbrev pub of_live : Option Live → (Live → Option Fault) → Option Fault
 of_live None f = Some Order
 of_live (Some l) f = unless (not l.done) Order (f l)
@@ -70,7 +72,7 @@ of_live (Some l) f = unless (not l.done) Order (f l)
 abbrev pub of_call : Course → ℕ → (Live → Option Fault) → Option Fault
 of_call s c f = of_live (slice_get s.calls c) f
 
--- why an event is refused, if it is; the reasons stand in the order in which they are tried
+-- why an event is refused, if it is; the reasons are tried in this order
 abbrev pub refusal : Work → Course → Event → Option Fault
 refusal w s (B c) = unless ((c == length s.calls) && nat_lt c w.count) Order None
 refusal w s (S c) = of_call s c (λ l. unless (has_step w s c l) Order (unless (not (is_stale s l)) Stale None))
@@ -80,13 +82,13 @@ refusal w s (C c) = of_call s c (λ l. unless (not (is_stale s l)) Stale (unless
 refusal w s (X c) = of_call s c (λ l. unless (not (is_stale s l)) Stale (unless (is_hit w s c l) Idle (unless (not (has_round w l)) Rounds None)))
 refusal w s G = None
 
--- What is done
+-- Effects of events
 
 abbrev pub change_live : Option Live → (Live → Live) → List Live → ℕ → List Live
 change_live None f ls c = ls
 change_live (Some l) f ls c = slice_set ls c (f l)
 
--- a call is changed
+-- changes a call
 abbrev pub with_call : Course → ℕ → (Live → Live) → Course
 with_call s c f = record s { calls = change_live (slice_get s.calls c) f s.calls c }
 
@@ -94,7 +96,7 @@ with_call s c f = record s { calls = change_live (slice_get s.calls c) f s.calls
 abbrev pub begin : ℕ → Live
 begin n = record { start = n; turns = record { start = n; mark = Plain } ∷ []; steps = 0; done = false }
 
--- a round more, that begins after n commits
+-- adds a round that begins after n commits
 abbrev pub again : ℕ → Mark → Live → Live
 again n mark l = record l { start = n; turns = l.turns ++ record { start = n; mark = mark } ∷ [] }
 
@@ -104,12 +106,12 @@ finish l = record l { done = true }
 abbrev pub commit : Course → ℕ → Course
 commit s c = record s { order = s.order ++ c ∷ [] }
 
--- Low: the oldest start of a live call, or n with none
+-- Low: the oldest start of a live call, or n if no call is live
 abbrev pub oldest : ℕ → List Live → ℕ
 oldest n [] = n
 oldest n (l ∷ ls) = if l.done then oldest n ls else min l.start (oldest n ls)
 
--- with a horizon no start counts that lies further back
+-- with a horizon, no start further back counts
 abbrev pub floor : ℕ → Option ℕ → ℕ
 floor n None = 0
 floor n (Some horizon) = n - horizon
@@ -119,7 +121,7 @@ next_low w s =
     let n : ℕ = length s.order in
     max s.low (max (oldest n s.calls) (floor n w.options.horizon))
 
--- what an event that isn't refused does
+-- the effect of an event that isn't refused
 abbrev pub after : Work → Course → Event → Course
 after w s (B c) = record s { calls = s.calls ++ begin (length s.order) ∷ [] }
 after w s (S c) = with_call s c (λ l. record l { steps = l.steps + 1 })
@@ -131,7 +133,7 @@ after w s G = record s { low = next_low w s }
 
 -- Whole journals
 
--- what events come to of which none is refused
+-- the state after events that aren't refused
 abbrev pub reach : Work → Course → List Event → Course
 reach w s [] = s
 reach w s (e ∷ es) = reach w (after w s e) es
@@ -139,12 +141,12 @@ reach w s (e ∷ es) = reach w (after w s e) es
 abbrev pub course_of : Work → List Event → Course
 course_of w es = reach w beginning es
 
--- none of the events is refused
+-- no event is refused
 abbrev pub AllAllowed : Work → Course → List Event → Type 0
 AllAllowed w s [] = Unit {0}
 AllAllowed w s (e ∷ es) = (refusal w s e ≡ None) × AllAllowed w (after w s e) es
 
--- the least call, from this number on, that hasn't committed
+-- the first call, from this number on, that hasn't committed
 abbrev pub first_open : ℕ → List Live → ℕ
 first_open c [] = c
 first_open c (l ∷ ls) = if l.done then first_open (c + 1) ls else c
@@ -158,7 +160,7 @@ abbrev pub or_refused : ℕ → Option Fault → Option Wrong → Option Wrong
 or_refused n (Some f) later = Some (Refused n f)
 or_refused n None later = later
 
--- what is wrong first with the rest of a journal, whose first event has this number
+-- the first fault of the rest of a journal, whose first event has this number
 abbrev pub wrong_from : Work → ℕ → Course → List Event → Option Wrong
 wrong_from w n s [] = option_map Open (open_call w s)
 wrong_from w n s (e ∷ es) = or_refused n (refusal w s e) (wrong_from w (n + 1) (after w s e) es)

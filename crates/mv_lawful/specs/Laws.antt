@@ -1,7 +1,8 @@
--- What holds of journals.
+-- The laws of journals. This project's own.
 use Rattle.std.specs.Prelude.{◌≡◌, ◌≤◌, ◌<◌, ℕ, false, List, [], ◌∷◌, Some, None, length, slice_get}
 use Rattle.std.specs.List.{All, AllPairs, Contains, filter}
 use Rattle.mv_journal.specs.declared.event.Event.{Event}
+use Rattle.mv_journal.specs.declared.event.Event.TheVariants.{B, S, A, M, C, X, G}
 use Rattle.mv_lawful.specs.Work.{Work}
 use Rattle.mv_lawful.specs.Lawful.{Turn, Live, Course, Lawful, after, course_of, is_stale}
 use Rattle.mv_lawful.specs.Rounds.{is_repair, IsBounded}
@@ -21,7 +22,7 @@ NoneIsStale =
 
 -- Rounds
 
--- a lawful journal repairs a call, without committing it in the same step, at most as many times as there are rounds
+-- a lawful journal has at most as many A events of a call as there are rounds
 abbrev pub RepairsAreFew : Type 0
 RepairsAreFew = (w : Work) (es : List Event) → Lawful w es → (c : ℕ) → length (filter (is_repair c) es) ≤ w.options.rounds
 
@@ -31,7 +32,8 @@ abbrev pub first_start : List Turn → ℕ
 first_start [] = 0
 first_start (t ∷ ts) = t.start
 
--- each call stands once in the order of commits, and no other; its begin counts no more commits than come before its own
+-- the order of commits has each call exactly once, and no other; no call has a greater start than the number of commits
+-- before its own
 pub record IsSerial (w : Work) (s : Course) : Type 0 where
   pub calls : All (λ c. c < w.count) s.order
   pub once : AllPairs (λ a b. a ≡ b → ⊥) s.order
@@ -41,12 +43,26 @@ pub record IsSerial (w : Work) (s : Course) : Type 0 where
 abbrev pub LawfulIsSerial : Type 0
 LawfulIsSerial = (w : Work) (es : List Event) → Lawful w es → IsSerial w (course_of w es)
 
--- the journal of one worker
+-- the event is of one of the first n calls, or of no call
+abbrev pub IsOfCalls : ℕ → Event → Type 0
+IsOfCalls n (B c) = c < n
+IsOfCalls n (S c) = c < n
+IsOfCalls n (A c) = c < n
+IsOfCalls n (M c) = c < n
+IsOfCalls n (C c) = c < n
+IsOfCalls n (X c) = c < n
+IsOfCalls n G = Unit {0}
+
+-- the events of a lawful journal are of calls that exist
+abbrev pub LawfulNamesCalls : Type 0
+LawfulNamesCalls = (w : Work) (es : List Event) → Lawful w es → All (IsOfCalls w.count) es
+
+-- a lawful and bounded journal that commits the calls in call order
 pub record IsInTurn (w : Work) (es : List Event) : Type 0 where
   pub lawful : Lawful w es
   pub bounded : IsBounded w es
   pub order : (course_of w es).order ≡ numbers w.count
 
--- to run the calls one after another is lawful, whatever they do
+-- the journal of one worker is such a journal, whatever the calls do
 abbrev pub InTurnIsLawful : Type 0
 InTurnIsLawful = (w : Work) → IsInTurn w (in_turn w.count)

@@ -1,4 +1,4 @@
--- What a journal comes to: replies, commits with their rounds, events and last tables.
+-- The outcome of a journal: replies, commits with their rounds, events and last tables. This project's own.
 use Rattle.std.specs.Prelude.{ℕ, zero, suc, ◌==◌, List, [], ◌∷◌, ◌++◌, Option, Some, None, map, length, slice_get}
 use Rattle.std.specs.List.{position, flat_map}
 use Rattle.mv_values.specs.declared.calls.Reply.{Reply}
@@ -10,12 +10,12 @@ use Rattle.mv_lawful.specs.Work.{Work, table_at}
 use Rattle.mv_lawful.specs.Lawful.{Turn, Live, Course, course_of}
 use Rattle.mv_lawful.specs.Rounds.{rounds_of}
 
--- the reply of a call that runs alone after so many commits; a call that isn't there says nothing
+-- the reply of a call that runs alone after so many commits; a call that hasn't committed has an empty one
 abbrev pub reply_after : Work → List ℕ → ℕ → Option ℕ → Reply
 reply_after w order c None = record { lines = []; end = None }
 reply_after w order c (Some k) = (w.run c (table_at w order k)).reply
 
--- Reply: what a call of the order answers, alone after those before it
+-- Reply: the reply of a call of the order, alone after the calls before it
 abbrev pub reply_in : Work → List ℕ → ℕ → Reply
 reply_in w order c = reply_after w order c (position (λ d. d == c) order)
 
@@ -23,7 +23,7 @@ abbrev pub turns_of : Option Live → List Turn
 turns_of None = []
 turns_of (Some l) = l.turns
 
--- a commit: its call and the call's rounds
+-- a commit: its call, and the call's rounds
 abbrev pub history_line : Work → Course → ℕ → HistoryLine
 history_line w s c = record { call = c; rounds = rounds_of w s.order c (turns_of (slice_get s.calls c)) }
 
@@ -40,7 +40,7 @@ outcome_at w s es = record {
   tables = table_at w s.order (length s.order);
 }
 
--- what a journal comes to
+-- the outcome of a journal
 abbrev pub outcome_of : Work → List Event → Outcome
 outcome_of w es = outcome_at w (course_of w es) es
 

@@ -1,4 +1,4 @@
--- How many records each round of a call executes, and how many rounds a call may have.
+-- The number of records that each round of a call executes, and the bounds on its rounds. This project's own.
 use Rattle.std.specs.Prelude.{◌≤◌, ◌<◌, ℕ, ◌+◌, ◌==◌, Bool, false, List, [], ◌∷◌, Option, Some, None, length, slice_get}
 use Rattle.std.specs.List.{filter}
 use Rattle.std.specs.Option.{ForSome}
@@ -13,15 +13,16 @@ use Rattle.mv_lawful.specs.Lawful.{Turn, Course, after, beginning}
 
 -- Runs
 
--- how many records a full run of a call at a start leaves
+-- the number of records of a full run of a call at a start
 abbrev pub whole_run : Work → List ℕ → ℕ → ℕ → ℕ
 whole_run w order c start = length (records_at w order start c)
 
--- how many a repair from an old start to a new one executes
+-- the number of records that a repair from an old start to a new one executes
 abbrev pub repair_run : Work → List ℕ → ℕ → ℕ → ℕ → ℕ
 repair_run w order c old new = executions (records_at w order old c) (records_at w order new c) (changes_up_to w order old new)
 
--- the number of a round, after one that began at the old start: a repair executes what isn't kept, a moved call runs whole
+-- the number of records of a round after one that began at the old start: a repair executes those that aren't kept, a
+-- moved call all
 abbrev pub later_run : Work → List ℕ → ℕ → ℕ → ℕ → Mark → ℕ
 later_run w order c old start Plain = repair_run w order c old start
 later_run w order c old start Exclusive = repair_run w order c old start
@@ -44,14 +45,14 @@ abbrev pub later_rounds : Work → List ℕ → ℕ → ℕ → List Turn → Li
 later_rounds w order c old [] = []
 later_rounds w order c old (t ∷ ts) = round t (unless_moved (later_run w order c old t.start t.mark) ts) ∷ later_rounds w order c t.start ts
 
--- Runs: the rounds of a call with their numbers. The first runs whole.
+-- Runs: the rounds of a call with their numbers. The first one is a full run.
 abbrev pub rounds_of : Work → List ℕ → ℕ → List Turn → List Round
 rounds_of w order c [] = []
 rounds_of w order c (t ∷ ts) = round t (unless_moved (whole_run w order c t.start) ts) ∷ later_rounds w order c t.start ts
 
--- How many rounds there may be
+-- Bounds
 
--- the event is a repair or a move of the call
+-- whether the event is a repair or a move of the call
 abbrev pub is_round : ℕ → Event → Bool
 is_round c (A d) = d == c
 is_round c (M d) = d == c
@@ -70,16 +71,16 @@ is_repair c (C d) = false
 is_repair c (X d) = false
 is_repair c G = false
 
--- each call is repaired and moved at most once more than there are rounds
+-- a call has at most one repair or move more than there are rounds
 abbrev pub AreFew : Work → List Event → Type 0
 AreFew w es = (c : ℕ) → length (filter (is_round c) es) ≤ w.options.rounds + 1
 
--- more commits than the horizon were made after the start
+-- more commits than the horizon have been made since the start
 abbrev pub IsPast : Option ℕ → ℕ → ℕ → Type 0
 IsPast None start n = ⊥
 IsPast (Some horizon) start n = start + horizon < n
 
--- a call moves only where a horizon is given and its start lies further back
+-- a call moves only if a horizon is given and its start is further back
 abbrev pub MayMove : Work → Course → Event → Type 0
 MayMove w s (M c) = ForSome (slice_get s.calls c) (λ l. IsPast w.options.horizon l.start (length s.order))
 MayMove w s (B c) = Unit {0}
@@ -93,7 +94,7 @@ abbrev pub MovesLate : Work → Course → List Event → Type 0
 MovesLate w s [] = Unit {0}
 MovesLate w s (e ∷ es) = MayMove w s e × MovesLate w (after w s e) es
 
--- what a run's journal meets beside the law: few rounds, and moves of old calls alone
+-- the journal of a run has few rounds, and only calls with old starts move
 pub record IsBounded (w : Work) (es : List Event) : Type 0 where
   pub few : AreFew w es
   pub late : MovesLate w beginning es

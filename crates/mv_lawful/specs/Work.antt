@@ -1,5 +1,5 @@
--- What calls do, whatever their procedures are, and what an order of commits comes to: the database after each commit, its changes, and
--- the records of a call at any start.
+-- What calls do, whatever their procedures are, and what follows from an order of commits: the database after each
+-- commit, the changes of each commit, and the records of a call at any start. This project's own.
 use Rattle.std.specs.Prelude.{ℕ, ◌+◌, ◌-◌, List, [], ◌∷◌, Option, take, drop}
 use Rattle.std.specs.List.{flat_map}
 use Rattle.mv_values.specs.declared.calls.Options.{Options}
@@ -10,14 +10,14 @@ use Rattle.mv_history.specs.declared.change.Hit.{Hit}
 use Rattle.mv_history.specs.Changes.{changes_between}
 use Rattle.mv_history.specs.Hits.{first_hit}
 
--- what is to be done: how a call of each number runs on a database, how many calls there are, the opening database, and the options
+-- the run of each call on each database, the number of calls, the opening database, and the options
 pub record Work : Type 0 where
   pub run : ℕ → Tables → Run
   pub count : ℕ
   pub opening : Tables
   pub options : Options
 
--- the database after calls, one after another
+-- the database after these calls, executed one after another
 abbrev pub tables_after : Work → Tables → List ℕ → Tables
 tables_after w db [] = db
 tables_after w db (c ∷ cs) = tables_after w (w.run c db).tables cs
@@ -26,23 +26,23 @@ tables_after w db (c ∷ cs) = tables_after w (w.run c db).tables cs
 abbrev pub table_at : Work → List ℕ → ℕ → Tables
 table_at w order k = tables_after w w.opening (take k order)
 
--- the records of a full run of a call on the database after so many commits
+-- the records of a full run of a call that starts after so many commits
 abbrev pub records_at : Work → List ℕ → ℕ → ℕ → List Record
 records_at w order start c = (w.run c (table_at w order start)).records
 
--- Change(k) for each commit of calls, one after another
+-- Change(k): the changes of each commit, for calls executed one after another
 abbrev pub changes_after : Work → Tables → List ℕ → List (List Change)
 changes_after w db [] = []
 changes_after w db (c ∷ cs) = changes_between db (w.run c db).tables ∷ changes_after w (w.run c db).tables cs
 
--- Change(k) for each k above the start
+-- the changes of each commit after the start
 abbrev pub since : Work → List ℕ → ℕ → List (List Change)
 since w order start = drop start (changes_after w w.opening order)
 
--- Change(k) for each k above an old start, up to a new one, in one list
+-- the changes of all commits after an old start, up to a new one, in one list
 abbrev pub changes_up_to : Work → List ℕ → ℕ → ℕ → List Change
 changes_up_to w order old new = flat_map (λ changes. changes) (take (new - old) (since w order old))
 
--- the first hit of a full run of a call at its start, by the commits after it
+-- the first hit of a full run of a call, by the commits after its start
 abbrev pub hit_of : Work → List ℕ → ℕ → ℕ → Option Hit
 hit_of w order start c = first_hit (start + 1) (since w order start) [] (records_at w order start c)

@@ -1,26 +1,26 @@
-//! What is wrong with a journal.
+//! Faults of a journal.
 
 /// Why an event is refused.
 #[derive(Clone, Copy)]
 pub enum Fault {
-    /// A begin of another call than the next, an event of a call that isn't live, or a statement after a repair or a
-    /// move of its call, or where its first run has none left.
+    /// A B event of another call than the next one, an event of a call that isn't live, or an S event after a repair or
+    /// a move of its call, or if its first run has no statement left.
     Order,
     /// The call's start is below low.
     Stale,
-    /// A commit of a call of which a record is hit.
+    /// A C event of a call with a record that is hit.
     Conflict,
-    /// A repair of a call of which no record is hit.
+    /// An A or X event of a call with no record that is hit.
     Idle,
-    /// A repair where no round is left, or one that commits in the same step where a round is left.
+    /// An A event if no round is left, or an X event if a round is left.
     Rounds,
 }
 
-/// What is wrong with a journal first.
+/// The first fault of a journal.
 #[derive(Clone, Copy)]
 pub enum Wrong {
-    /// The event of this number, counted from 1, is refused.
+    /// The event with this number, counted from 1, is refused.
     Refused { n: u32, fault: Fault },
-    /// All events are allowed, and this is the least call that hasn't committed.
+    /// All events are allowed, and this is the first call that hasn't committed.
     Open { call: u32 },
 }

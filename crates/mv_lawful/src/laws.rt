@@ -1,16 +1,21 @@
-//! What holds of journals.
+//! The laws of journals.
 
 ghost use Rattle.mv_lawful.specs.Examples.{OnlyTheFee, AllAgain, NothingAdded, NewRowCounts, OwnWriteCounts, NewDefiner, OtherBranch, SameKey, KeptWriteStays, InOneStep, FirstFaults, StaleMoves, OldestStart};
-ghost use Rattle.mv_lawful.specs.Laws.{LowNeverFalls, NoneIsStale, RepairsAreFew, LawfulIsSerial, InTurnIsLawful};
+ghost use Rattle.mv_lawful.specs.Laws.{LowNeverFalls, NoneIsStale, RepairsAreFew, LawfulIsSerial, LawfulNamesCalls, InTurnIsLawful};
 
-/// Each call of a lawful journal stands once in the order of commits, and no other does. A call's begin counts no more
-/// commits than come before its own, so a call that committed before another began stands before it.
+/// A lawful journal commits each call exactly once. No call has a greater start than the number of commits before its
+/// own, so a call that committed before another began is before it in the order of commits.
 pub fn lawful_is_serial()
     ensures { LawfulIsSerial }
 {}
 
-/// The journal in which each call begins and commits before the next begins is lawful, whatever the calls do, and its
-/// commits are in call order.
+/// Each event of a lawful journal, collections aside, is of a call that exists.
+pub fn lawful_names_calls()
+    ensures { LawfulNamesCalls }
+{}
+
+/// The journal of one worker, in which each call begins and commits before the next begins, is lawful, whatever the
+/// calls do. It commits them in call order.
 pub fn in_turn_is_lawful()
     ensures { InTurnIsLawful }
 {}
@@ -25,13 +30,13 @@ pub fn none_is_stale()
     ensures { NoneIsStale }
 {}
 
-/// A lawful journal repairs a call, without committing it in the same step, at most as many times as there are rounds.
+/// A lawful journal has at most as many A events of a call as there are rounds.
 pub fn repairs_are_few()
     ensures { RepairsAreFew }
 {}
 
-/// Journals worked out by hand: what each round executes, which record is hit by which commit, and which journal is
-/// refused where.
+/// Examples of journals, worked out by hand: how many records each round executes, which commit hits which record, and
+/// which event is refused why.
 pub fn worked_examples()
     ensures fee { OnlyTheFee }
     ensures all { AllAgain }

@@ -1,5 +1,4 @@
-//! Journals: which event is allowed where, what the events come to, and what a lawful journal has. Nothing here is
-//! executed.
+//! The law of journals: which event is allowed where, and the outcome of a journal. Nothing here is executed.
 #![tactic(auto)]
 
 pub mod fault;
