@@ -3,3 +3,5 @@ pub mod Spanning
 pub mod Parting
 pub mod Storing
 pub mod Covering
+pub mod Changing
+pub mod Picking

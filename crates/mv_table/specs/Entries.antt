@@ -33,6 +33,11 @@ module _ {T : Type 0} where
   abbrev pub KeysRise : List (List Value × T) → Type 0
   KeysRise es = AllPairs (λ a b. key_order a.0 b.0 ≡ Less) es
 
+-- what f leaves of the item under each key
+abbrev pub picked : {A B : Type 0} → (A → Option B) → List (List Value × A) → List (List Value × B)
+picked f [] = []
+picked f (e ∷ es) = alone_at e.0 (f e.1) ++ picked f es
+
 -- the rows of a table, as the entries of a map
 abbrev pub stored : List (List Value × List Value) → List Keyed
 stored es = map (λ e. record { key = e.0; row = e.1 }) es

@@ -1,12 +1,13 @@
 //! A map by key, in key order.
 
-ghost use Rattle.std.specs.Prelude.{◌≡◌, [], length, None, Some, OnOk, OnErr, IfOk, IfErr, List, if◌then◌else◌};
+ghost use Rattle.std.specs.Prelude.{◌≡◌, [], length, None, Some, OnOk, OnErr, IfOk, IfErr, IfSome, List, Option, if◌then◌else◌};
+ghost use Rattle.std.specs.Borrow.{sem};
 ghost use Rattle.std.specs.List.{filter};
-ghost use Rattle.std.specs.Option.{option_copied};
+ghost use Rattle.std.specs.Option.{option_copied, option_copied_mut};
 ghost use Rattle.std.specs.Ordering.{is_eq};
 ghost use Rattle.mv_values.specs.declared.value.Value.{Value};
 ghost use Rattle.mv_values.specs.Order.{key_order};
-ghost use Rattle.mv_table.specs.Entries.{item_of, with_item, KeysRise};
+ghost use Rattle.mv_table.specs.Entries.{item_of, with_item, picked, KeysRise};
 ghost use Rattle.mv_table.specs.Spans.{is_within, IsForward};
 
 use crate::span::Span;
@@ -18,6 +19,20 @@ use std::collections::btree_map::{IntoIter, Iter, Range};
 use std::marker::Model;
 use std::mem;
 use std::ops::Bound;
+
+/// What changes the items of a map in place, and leaves some of them out.
+pub trait Change<T> {
+    /// What is left of an item.
+    ghost left: { Self → T → Option T };
+
+    /// What the change tells of an item.
+    ghost told: { Self → T → Type 0 };
+
+    /// Changes an item, and answers whether it stays. It takes no memory.
+    fn change(&self, item: &mut T) -> bool
+        ensures left { (if result then Some item.new else None) ≡ left self.now item.old }
+        ensures told { told self.now item.old };
+}
 
 /// Items by key. Contracts see the entries in key order.
 #[derive(Drop)]
@@ -82,10 +97,21 @@ impl<T> KeyMap<T> {
 }
 
 impl<T> KeyMap<T> {
+    ghost use Rattle.mv_table.specs.Lending.{LendsItem};
+
+    /// Lends the item under a key, to be changed in place. It costs the logarithm of the number of items, and takes no memory.
+    pub fn get_mut(&mut self, key: &Key) -> Option<&mut T>
+        ensures* lends { sem 𝓛 (LendsItem T.row self.entry key.now result) }
+        ensures item { option_copied_mut result ≡ item_of self.old key.now }
+    {
+        self.entries.get_mut(key)
+    }
+
     /// Puts an item in the place of the one under a key, which is handed out; where there is none, nothing changes. It
     /// costs the logarithm of the number of items, and takes no memory.
     pub fn replace(&mut self, key: &Key, item: T) -> Result<T, T>
         ensures items { OnOk result (self.new ≡ with_item key.now (Some item) self.old) }
+        ensures at { OnOk result ((other : List Value) → item_of self.new other ≡ (if is_eq (key_order key.now other) then Some item else item_of self.old other)) }
         ensures was { IfOk result (λ was. item_of self.old key.now ≡ Some was) }
         ensures none { IfErr result (λ back. (back ≡ item) × (item_of self.old key.now ≡ None)) }
         ensures same { OnErr result (self.new ≡ self.old) }
@@ -104,6 +130,7 @@ impl<T: Drop> KeyMap<T> {
         ensures ok { OnOk result (self.new ≡ with_item key (Some item) self.old) }
         ensures at { OnOk result ((other : List Value) → item_of self.new other ≡ (if is_eq (key_order key other) then Some item else item_of self.old other)) }
         ensures was { IfOk result (λ was. was ≡ item_of self.old key) }
+        ensures rising { KeysRise self.new }
         ensures err { OnErr result (self.new ≡ self.old) }
     {
         let was = self.entries.insert(key, item)?;
@@ -118,6 +145,15 @@ impl<T: Drop> KeyMap<T> {
     {
         let _len = self.entries.len();
         self.entries.remove(key)
+    }
+
+    /// Changes every item in place, and takes those out that don't stay. It takes no memory.
+    pub fn change_all<C: Change<T>>(&mut self, change: &C)
+        ensures items { self.new ≡ picked (C.left change.now) self.old }
+        ensures told { (key : List Value) → IfSome (item_of self.old key) (C.told change.now) }
+        ensures rising { KeysRise self.new }
+    {
+        self.entries.retain(|_key, item| change.change(item));
     }
 
     /// Hands the entries out, in key order.

@@ -1,6 +1,9 @@
-use Rattle.std.proofs.Common.{◌≡◌, refl, sym, ap, ◌∙◌, subst, Some, None}
+use Rattle.std.proofs.Common.{◌≡◌, refl, sym, ap, ◌∙◌, subst, cond, Some, None}
+use Rattle.std.specs.Option.{IsSome}
+use Rattle.std.specs.Ordering.{is_eq}
+use Rattle.mv_values.specs.Order.{key_order}
 use Rattle.mv_table.specs.Entries.{item_of, with_item}
-use Rattle.mv_table.proofs.Entries.{entries_looked_up, entries_rise}
+use Rattle.mv_table.proofs.Entries.{entries_looked_up, entries_updated, entries_rise}
 use Rattle.mv_table.proofs.Storing.{value_set}
 use Rattle.mv_table.proofs.key_map.KeyMap.replace.Goals as goal
 
@@ -20,3 +23,13 @@ pub returns-clause-was : goal.returns-clause-was
 returns-clause-was g c =
     subst (λ es. item_of es c.args.key.now ≡ Some c.replace.result) c.self.view_is
     (sym (entries_looked_up c.args.key.now c.self.inside.entries.entries) ∙ (sym c.in-Some.ensures.value ∙ ap Some (sym c.replace.ensures.value)))
+
+pub returns-clause-at : goal.returns-clause-at
+returns-clause-at g c = λ other.
+    let key = c.args.key.now in
+    let old = c.self.inside.entries.entries in
+    let new = c.get_mut.follows.lender c.replace.new.dest in
+    let held = c.get_mut.follows.holds c.replace.new.dest in
+    subst (λ es. item_of new.entries other ≡ cond (is_eq (key_order key other)) (Some c.args.item) (item_of es other)) c.self.view_is
+    (entries_updated key other (Some c.replace.new.dest) old new.entries ((held.3 (subst IsSome c.in-Some.ensures.value refl)).0 other)
+    ∙ ap (λ x. cond (is_eq (key_order key other)) (Some x) (item_of old other)) c.replace.ensures.after)
