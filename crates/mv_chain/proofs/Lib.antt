@@ -3,3 +3,4 @@ pub mod Versions
 pub mod Places
 pub mod Values
 pub mod Stamps
+pub mod Blank

@@ -80,7 +80,7 @@ last_after m row (d ∷ ds) c next h =
     let within : nat_le d.number m ≡ true = search (rules, le) in
     rw within (last_after m d.row ds c (All-tail (λ e. e.number < c.number) d ds next) h)
 
-all_read : (m : ℕ) (row : Option (List Value)) (cs : List Commit) → All (λ c. c.number ≤ m) cs → row_after m row cs ≡ newest_of row cs
+pub all_read : (m : ℕ) (row : Option (List Value)) (cs : List Commit) → All (λ c. c.number ≤ m) cs → row_after m row cs ≡ newest_of row cs
 all_read m row [] h = refl
 all_read m row (c ∷ cs) h =
     let le : c.number ≤ m = All-head (λ d. d.number ≤ m) c cs h in

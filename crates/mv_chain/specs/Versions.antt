@@ -1,6 +1,7 @@
 -- The versions of a row: what commits left of it, and the patches of calls that have not committed. That versions are patches of
 -- columns, and that a patch sees the row as of its commit, is this project's own rule.
-use Rattle.std.specs.Prelude.{◌<◌, ◌==◌, ◌++◌, ◌∷◌, ℕ, not, nat_le, nat_lt, if◌then◌else◌, List, [], All, Option, Some, None}
+use Rattle.std.specs.Prelude.{◌<◌, ◌==◌, ◌++◌, ◌&&◌, ◌∷◌, ℕ, Bool, not, length, nat_le, nat_lt, if◌then◌else◌, List, [], All, Option, Some, None}
+use Rattle.std.specs.Option.{is_some}
 use Rattle.std.specs.List.{filter}
 use Rattle.mv_values.specs.declared.value.Value.{Value}
 use Rattle.mv_values.specs.declared.patch.Patch.{Patch}
@@ -18,6 +19,14 @@ pub record Versions : Type 0 where
   pub base : Option (List Value)
   pub commits : List Commit
   pub own : List Pending
+
+-- no row, no commits and no patches
+abbrev pub blank : Versions
+blank = record { base = None; commits = []; own = [] }
+
+-- the versions are blank
+abbrev pub is_blank : Versions → Bool
+is_blank v = (length v.commits == 0) && (length v.own == 0) && not (is_some v.base)
 
 -- Rows
 

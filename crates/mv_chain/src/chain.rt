@@ -1,10 +1,10 @@
 //! The versions of a row.
 
-ghost use Rattle.std.specs.Prelude.{◌≡◌, ◌↔◌, IsTrue, ◌<◌, ◌≤◌, ◌++◌, ◌∷◌, ℕ, [], IfOk, OnOk, OnErr, OnSome, IfSome, length, slice_get};
+ghost use Rattle.std.specs.Prelude.{◌≡◌, ◌↔◌, ◌==◌, ◌&&◌, not, IsTrue, ◌<◌, ◌≤◌, ◌++◌, ◌∷◌, ℕ, [], IfOk, OnOk, OnErr, OnSome, IfSome, length, slice_get};
 ghost use Rattle.std.specs.Vec.{vec_capacity};
 ghost use Rattle.std.specs.Option.{is_some, option_and_then, option_copied};
 ghost use Rattle.mv_values.specs.Preds.{matched};
-ghost use Rattle.mv_chain.specs.Versions.{row_at, newest, IsNext, own_of, without, with_own, stamped, collected};
+ghost use Rattle.mv_chain.specs.Versions.{row_at, newest, IsNext, own_of, without, with_own, stamped, collected, is_blank};
 
 use crate::commit::do_patch;
 use crate::compose::compose;
@@ -109,6 +109,24 @@ impl Chain {
         value_before(&self.undos[first..], self.row.as_ref(), column)
     }
 
+    /// Whether a call has a patch that is not committed.
+    pub fn has_own(&self, call: u32) -> bool
+        ensures { result ≡ is_some (own_of call self.now.own) }
+    {
+        place_of(self.own.as_slice(), call).is_some()
+    }
+
+    /// Whether there is no row at any number, and no patch.
+    pub fn is_blank(&self) -> bool
+        ensures { result ≡ is_blank self.now }
+    {
+        are_blank(
+            self.undos.as_slice(),
+            self.own.as_slice(),
+            self.row.as_ref(),
+        )
+    }
+
     /// Adds a patch of a call, after the call's own, and makes room for its stamp. Where no memory is found the versions are as before.
     pub fn put(&mut self, call: u32, patch: Patch) -> Result<(), NoMemory>
         ensures ok { OnOk result (self.new ≡ record self.old { own = with_own call patch self.old.own }) }
@@ -170,6 +188,13 @@ impl Chain {
         self.undos.rotate_left(gone);
         self.undos.truncate(left);
     }
+}
+
+/// Whether there are no commits, no patches and no row.
+fn are_blank(undos: &[Undo], own: &[Pending], row: Option<&Row>) -> bool
+    ensures { result ≡ ((length undos.now == 0) && (length own.now == 0) && not (is_some row.entry)) }
+{
+    undos.is_empty() && own.is_empty() && row.is_none()
 }
 
 /// A copy of a row, where there is one.

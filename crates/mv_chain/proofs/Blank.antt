@@ -1,0 +1,35 @@
+-- Versions without rows and patches.
+use Rattle.std.proofs.Common.{◌≡◌, ◌∷◌, ℕ, true, false, List, [], length, Option, Some, None, refl, ap, sym, arith}
+use Rattle.std.specs.Prelude.{◌==◌, ◌&&◌, not}
+use Rattle.std.specs.List.{position}
+use Rattle.std.specs.Option.{is_some}
+use Rattle.mv_values.specs.declared.value.Value.{Value}
+use Rattle.mv_chain.specs.declared.undo.Undo.{Undo}
+use Rattle.mv_chain.specs.declared.pending.Pending.{Pending}
+use Rattle.mv_chain.specs.Versions.{Versions, Commit, blank, is_blank, own_of}
+use Rattle.std.proofs.lemmas.Bool.{ne_eqb}
+use Rattle.mv_chain.specs.Undoing.{before, commits_of}
+use Rattle.mv_chain.proofs.Versions.{shown}
+use Rattle.mv_chain.proofs.Places.{absent, at_spot, none_there, there}
+
+nonzero : {A : Type 0} (x : A) (xs : List A) → (length (x ∷ xs) == 0) ≡ false
+nonzero x xs = ne_eqb (length (x ∷ xs)) 0 (λ e. absurd (omega (arith, e)))
+
+pub blank_is : (us : List Undo) (now : Option (List Value)) (own : List Pending) → (length us == 0) && (length own == 0) && not (is_some now) ≡ is_blank (shown us now own)
+blank_is [] now own = refl
+blank_is (u ∷ us) now own = rw (nonzero u us, nonzero (record { number = u.commit; row = before us now }) (commits_of us now)) refl
+
+-- versions that are blank have nothing
+pub blank_only : (v : Versions) → is_blank v ≡ true → v ≡ blank
+blank_only v h = by v.base v.commits v.own h
+  where
+    by : (base : Option (List Value)) (commits : List Commit) (own : List Pending) → is_blank (record { base = base; commits = commits; own = own }) ≡ true → ◌≡◌ {A = Versions} (record { base = base; commits = commits; own = own }) blank
+    by None [] [] e = refl
+    by (Some row) [] [] e = cc
+    by base [] (p ∷ ps) e = let f : false ≡ true = rw (nonzero p ps) at e in cc
+    by base (c ∷ cs) own e = let f : false ≡ true = rw (nonzero c cs) at e in cc
+
+pub has_is : (call : ℕ) (ps : List Pending) (o : Option ℕ) → o ≡ position (λ p. p.call == call) ps → is_some o ≡ is_some (own_of call ps)
+has_is call ps None h = sym (ap is_some (none_there call ps (absent call ps (sym h))))
+has_is call [] (Some at) h = cc
+has_is call (p ∷ ps) (Some at) h = sym (ap is_some (there call (p ∷ ps) at p (at_spot call at (p ∷ ps) (sym h))))
