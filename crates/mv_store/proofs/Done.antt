@@ -1,0 +1,225 @@
+-- What is done at spots, one after another.
+use Rattle.std.proofs.Common.{◌≡◌, ◌<◌, ◌≤◌, ◌+◌, ◌++◌, ◌==◌, ◌&&◌, ℕ, zero, suc, Bool, true, false, cond, inl, inr, List, [], ◌∷◌, Option, Some, None, length, take, slice_index_or, slice_set, refl, sym, ap, subst, ◌∙◌, arith}
+use Rattle.std.specs.Prelude.{OnSome, ◌||◌}
+use Rattle.std.specs.List.{list_any}
+use Rattle.std.specs.Option.{is_some}
+use Rattle.std.specs.Ordering.{is_eq}
+use Rattle.std.specs.declared.cmp.Ordering.{Ordering}
+use Rattle.std.specs.declared.cmp.Ordering.TheVariants.{Less, Equal, Greater}
+use Rattle.std.proofs.lemmas.Bool.{cases_Bool, eqb-true, eq-eqb}
+use Rattle.std.proofs.lemmas.List.{take_more, get_or-set_same, get_or-set_other, length-set}
+use Rattle.mv_values.specs.declared.value.Value.{Value}
+use Rattle.mv_values.specs.declared.patch.Patch.{Patch}
+use Rattle.mv_values.specs.Order.{key_order}
+use Rattle.mv_values.proofs.KeyOrder.{exact_keys}
+use Rattle.mv_table.specs.Entries.{item_of, KeysRise}
+use Rattle.mv_table.specs.Lending.{HasItem}
+use Rattle.mv_chain.specs.declared.pending.Pending.{Pending}
+use Rattle.mv_chain.specs.Versions.{Versions, blank, IsNext, own_of, without, stamped, stamped_by}
+use Rattle.mv_chain.proofs.Stamps.{is_dropped, others_are_kept}
+use Rattle.mv_store.specs.Stored.{Entries}
+use Rattle.mv_store.specs.declared.spots.Spot.{Spot}
+use Rattle.mv_store.specs.declared.spots.Spots.{Spots}
+use Rattle.mv_store.specs.declared.fate.Fate.{Fate}
+use Rattle.mv_store.specs.declared.fate.Fate.TheVariants.{Commit, Gone}
+use Rattle.mv_store.specs.Kept.{versions_in, versions_of, entries_at, versions_at, AllRise, IsChanged, AreChanged, AllChanged, is_spot, HasSpot, spots_of, IsCovered, settled, MaySettle, done_at, AreDone}
+
+some_none : {A : Type 0} {a : A} → ◌≡◌ {A = Option A} (Some a) None → ⊥
+some_none e = cc
+
+pub no_truth : false ≡ true → ⊥
+no_truth e = cc
+
+pub differ : (a b : ℕ) → a ≡ b → (a == b) ≡ false → ⊥
+differ a b same h = no_truth (sym h ∙ eq-eqb a b same)
+
+equal_only : (o : Ordering) → is_eq o ≡ true → o ≡ Equal
+equal_only Less e = cc
+equal_only Equal e = refl
+equal_only Greater e = cc
+
+pub same_keys : (a b : List Value) → is_eq (key_order a b) ≡ true → a ≡ b
+same_keys a b e = exact_keys a b (equal_only (key_order a b) e)
+
+past : (tables : List Entries) (t : ℕ) → length tables ≤ t → entries_at tables t ≡ []
+past [] t h = refl
+past (x ∷ xs) zero h = absurd (omega (arith, h))
+past (x ∷ xs) (suc t) h = past xs t (omega (arith, h))
+
+-- One key of a table
+
+at_key : (b : Bool) (f : Versions → Versions) (o p : Option Versions) (w : Versions) → (b ≡ true → w ≡ f (versions_in p)) → o ≡ cond b (Some w) p → versions_in o ≡ cond b (f (versions_in p)) (versions_in p)
+at_key true f o p w h is = ap versions_in is ∙ h refl
+at_key false f o p w h is = ap versions_in is
+
+-- the item under a key was changed in place
+pub changed_there : (key : List Value) (f : Versions → Versions) (was w : Versions) (old new : Entries) → item_of old key ≡ Some was → w ≡ f was → HasItem key w old new → IsChanged key f old new
+changed_there key f was w old new there is h = record {
+  at = λ other. at_key (is_eq (key_order key other)) f (item_of new other) (item_of old other) w (λ e. is ∙ ap (λ o. f (versions_in o)) (sym there ∙ ap (item_of old) (same_keys key other e))) (h.at other);
+  rising = λ r. h.rising;
+}
+
+-- where nothing is under a key, nothing changes that leaves blank versions blank
+pub changed_nowhere : (key : List Value) (f : Versions → Versions) (old new : Entries) → item_of old key ≡ None → f blank ≡ blank → new ≡ old → IsChanged key f old new
+changed_nowhere key f old new none h is = record {
+  at = λ other. ap (λ es. versions_of es other) is ∙ by other (is_eq (key_order key other)) (λ e. ap (item_of old) (sym (same_keys key other e)) ∙ none);
+  rising = λ r. subst KeysRise (sym is) r;
+}
+  where
+    by : (other : List Value) (b : Bool) → (b ≡ true → item_of old other ≡ None) → versions_of old other ≡ cond b (f (versions_of old other)) (versions_of old other)
+    by other true n = let gone = n refl in ap versions_in gone ∙ (sym h ∙ ap (λ o. f (versions_in o)) (sym gone))
+    by other false n = refl
+
+-- nothing was changed
+pub changed_not : (key : List Value) (old new : Entries) → new ≡ old → IsChanged key (λ v. v) old new
+changed_not key old new is = record { at = λ other. ap (λ es. versions_of es other) is ∙ by (is_eq (key_order key other)) (versions_of old other); rising = λ r. subst KeysRise (sym is) r }
+  where
+    by : (b : Bool) (v : Versions) → v ≡ cond b v v
+    by true v = refl
+    by false v = refl
+
+-- an item was put under a key where there was none
+pub changed_new : (key : List Value) (f : Versions → Versions) (w : Versions) (old new : Entries) → item_of old key ≡ None → w ≡ f blank → ((other : List Value) → item_of new other ≡ cond (is_eq (key_order key other)) (Some w) (item_of old other)) → KeysRise new → IsChanged key f old new
+changed_new key f w old new none is at rising = record {
+  at = λ other. at_key (is_eq (key_order key other)) f (item_of new other) (item_of old other) w (λ e. is ∙ ap (λ o. f (versions_in o)) (sym none ∙ ap (item_of old) (same_keys key other e))) (at other);
+  rising = λ r. rising;
+}
+
+-- Tables
+
+pub rises_set : (old : List Entries) (t : ℕ) (es : Entries) → (KeysRise (entries_at old t) → KeysRise es) → AllRise old → AllRise (slice_set old t es)
+rises_set [] t es h r u = r u
+rises_set (x ∷ xs) zero es h r zero = h (r 0)
+rises_set (x ∷ xs) zero es h r (suc u) = r (suc u)
+rises_set (x ∷ xs) (suc t) es h r zero = r 0
+rises_set (x ∷ xs) (suc t) es h r (suc u) = rises_set xs t es h (λ v. r (suc v)) u
+
+-- one table was changed at one key
+pub tables_changed : (t : ℕ) (key : List Value) (f : Versions → Versions) (old new : List Entries) (es : Entries) → t < length old → IsChanged key f (entries_at old t) es → new ≡ slice_set old t es → AreChanged t key f old new
+tables_changed t key f old new es lt h is = record {
+  size = ap length is ∙ length-set old t es;
+  at = λ u other. ap (λ ts. versions_at ts u other) is ∙ elim (cases_Bool (t == u)) [
+    | inl e ↦ let same : t ≡ u = eqb-true t u e in
+        rw e (subst (λ v. versions_at (slice_set old t es) v other ≡ cond (is_eq (key_order key other)) (f (versions_at old v other)) (versions_at old v other)) same
+        (ap (λ l. versions_of l other) (get_or-set_same old t es [] lt) ∙ h.at other))
+    | inr e ↦ rw e (ap (λ l. versions_of l other) (get_or-set_other old t u es [] (λ same. differ t u (sym same) e)))
+  ];
+  rising = λ r. subst AllRise (sym is) (rises_set old t es h.rising r);
+}
+
+-- where a table isn't there, nothing changes
+pub tables_unchanged : (t : ℕ) (key : List Value) (f : Versions → Versions) (old : List Entries) → length old ≤ t → f blank ≡ blank → AreChanged t key f old old
+tables_unchanged t key f old le h = record { size = refl; at = λ u other. by u other (t == u) refl; rising = λ r. r }
+  where
+    both : (b : Bool) (v : Versions) → v ≡ blank → v ≡ cond b (f v) v
+    both true v e = e ∙ (sym h ∙ ap f (sym e))
+    both false v e = refl
+
+    by : (u : ℕ) (other : List Value) (b : Bool) → (t == u) ≡ b → versions_at old u other ≡ cond (b && is_eq (key_order key other)) (f (versions_at old u other)) (versions_at old u other)
+    by u other true e =
+        let gone : entries_at old u ≡ [] = past old u (omega (arith, le, eqb-true t u e)) in
+        let none : versions_at old u other ≡ blank = ap (λ es. versions_of es other) gone in
+        both (is_eq (key_order key other)) (versions_at old u other) none
+    by u other false e = refl
+
+-- Spots
+
+-- nothing is done where it changes nothing
+pub done_fixed : (f : Versions → Versions) (ss : List Spot) (t : ℕ) (key : List Value) (v : Versions) → f v ≡ v → done_at f ss t key v ≡ v
+done_fixed f [] t key v h = refl
+done_fixed f (s ∷ ss) t key v h = ap (done_at f ss t key) (by (is_spot t key s)) ∙ done_fixed f ss t key v h
+  where
+    by : (b : Bool) → cond b (f v) v ≡ v
+    by true = h
+    by false = refl
+
+-- what is done again changes nothing
+pub done_hit : (f : Versions → Versions) (ss : List Spot) (t : ℕ) (key : List Value) (v : Versions) → f (f v) ≡ f v → HasSpot t key ss → done_at f ss t key v ≡ f v
+done_hit f [] t key v h there = absurd (no_truth there)
+done_hit f (s ∷ ss) t key v h there = by (is_spot t key s) there (done_hit f ss t key v h)
+  where
+    by : (b : Bool) → b || list_any (is_spot t key) ss ≡ true → (HasSpot t key ss → done_at f ss t key v ≡ f v) → done_at f ss t key (cond b (f v) v) ≡ f v
+    by true e more = done_fixed f ss t key (f v) h
+    by false e more = more e
+
+pub done_more : (f : Versions → Versions) (ss : List Spot) (s : Spot) (t : ℕ) (key : List Value) (v : Versions) → done_at f (ss ++ s ∷ []) t key v ≡ cond (is_spot t key s) (f (done_at f ss t key v)) (done_at f ss t key v)
+done_more f [] s t key v = refl
+done_more f (x ∷ ss) s t key v = done_more f ss s t key (cond (is_spot t key x) (f v) v)
+
+-- Fates
+
+without_none : (call : ℕ) (ps : List Pending) → own_of call ps ≡ None → without call ps ≡ ps
+without_none call [] h = refl
+without_none call (p ∷ ps) h = elim (cases_Bool (p.call == call)) [
+  | inl t ↦ let some : Some p.patch ≡ None = rw t at h in absurd (some_none some)
+  | inr f ↦ let rest : own_of call ps ≡ None = rw f at h in rw f (ap (λ l. p ∷ l) (without_none call ps rest))
+]
+
+pub settled_gone : (fate : Fate) (call : ℕ) (v : Versions) → own_of call (settled fate call v).own ≡ None
+settled_gone (Commit n) call v = by (own_of call v.own) refl
+  where
+    by : (o : Option Patch) → own_of call v.own ≡ o → own_of call (stamped_by o call n v).own ≡ None
+    by None e = e
+    by (Some patch) e = is_dropped call v.own
+settled_gone Gone call v = is_dropped call v.own
+
+pub settled_stays : (fate : Fate) (call : ℕ) (v : Versions) → own_of call v.own ≡ None → settled fate call v ≡ v
+settled_stays (Commit n) call v h = ap (λ o. stamped_by o call n v) h
+settled_stays Gone call v h = ap (λ ps. record v { own = ps }) (without_none call v.own h)
+
+pub settled_twice : (fate : Fate) (call : ℕ) (v : Versions) → settled fate call (settled fate call v) ≡ settled fate call v
+settled_twice fate call v = settled_stays fate call (settled fate call v) (settled_gone fate call v)
+
+pub settled_others : (fate : Fate) (call other : ℕ) (v : Versions) → (call ≡ other → ⊥) → own_of other (settled fate call v).own ≡ own_of other v.own
+settled_others (Commit n) call other v h = by (own_of call v.own)
+  where
+    by : (o : Option Patch) → own_of other (stamped_by o call n v).own ≡ own_of other v.own
+    by None = refl
+    by (Some patch) = others_are_kept call other v.own h
+settled_others Gone call other v h = others_are_kept call other v.own h
+
+pub settled_blank : (fate : Fate) (call : ℕ) → settled fate call blank ≡ blank
+settled_blank (Commit n) call = refl
+settled_blank Gone call = refl
+
+may_again : (fate : Fate) (call : ℕ) (v : Versions) → MaySettle fate call (settled fate call v)
+may_again (Commit n) call v = subst (λ o. OnSome o (IsNext n (stamped call n v))) (sym (settled_gone (Commit n) call v)) tt
+may_again Gone call v = tt
+
+pub may_done : (fate : Fate) (call : ℕ) (ss : List Spot) (t : ℕ) (key : List Value) (v : Versions) → MaySettle fate call v → MaySettle fate call (done_at (settled fate call) ss t key v)
+may_done fate call [] t key v h = h
+may_done fate call (s ∷ ss) t key v h = may_done fate call ss t key (cond (is_spot t key s) (settled fate call v) v) (by (is_spot t key s))
+  where
+    by : (b : Bool) → MaySettle fate call (cond b (settled fate call v) v)
+    by true = may_again fate call v
+    by false = h
+
+-- The loop over spots
+
+pub done_none : (f : Versions → Versions) (old : List Entries) → AreDone f [] old old
+done_none f old = record { size = refl; at = λ u key. refl; rising = λ r. r }
+
+pub done_one : (f : Versions → Versions) (ss : List Spot) (i : ℕ) (s : Spot) (old now new : List Entries) → i < length ss → s ≡ slice_index_or ss i s → AreDone f (take i ss) old now → AreChanged s.table s.key f now new → AreDone f (take (i + 1) ss) old new
+done_one f ss i s old now new lt is done change = record {
+  size = change.size ∙ done.size;
+  at = λ u key.
+      change.at u key
+      ∙ (ap (λ v. cond (is_spot u key s) (f v) v) (done.at u key)
+      ∙ (sym (done_more f (take i ss) s u key (versions_at old u key)) ∙ ap (λ l. done_at f l u key (versions_at old u key)) (ap (λ x. take i ss ++ x ∷ []) is ∙ sym (take_more ss i s lt))));
+  rising = λ r. change.rising (done.rising r);
+}
+
+-- all that a call has written is settled, where it was noted
+pub all_settled : (fate : Fate) (call : ℕ) (spots : Spots) (ss : List Spot) (old new : List Entries) → IsCovered old spots → ss ≡ spots_of spots call → AreDone (settled fate call) ss old new → AllChanged (settled fate call) old new
+all_settled fate call spots ss old new covered is done = record {
+  size = done.size;
+  at = λ u key. done.at u key ∙ by u key (own_of call (versions_at old u key).own) refl;
+  rising = done.rising;
+}
+  where
+    by : (u : ℕ) (key : List Value) (o : Option Patch) → own_of call (versions_at old u key).own ≡ o → done_at (settled fate call) ss u key (versions_at old u key) ≡ settled fate call (versions_at old u key)
+    by u key None e =
+        let stays = settled_stays fate call (versions_at old u key) e in
+        done_fixed (settled fate call) ss u key (versions_at old u key) stays ∙ sym stays
+    by u key (Some patch) e =
+        done_hit (settled fate call) ss u key (versions_at old u key) (settled_twice fate call (versions_at old u key)) (subst (HasSpot u key) (sym is) (covered call u key (ap is_some e)))

@@ -1,0 +1,10 @@
+pub mod Keys
+pub mod Own
+pub mod Done
+pub mod Laws
+pub mod Found
+pub mod Opening
+pub mod Collecting
+pub mod Rows
+pub mod Noted
+pub mod Views

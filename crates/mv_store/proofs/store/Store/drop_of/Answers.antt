@@ -1,0 +1,21 @@
+use Rattle.std.proofs.Common.{refl, subst}
+use Rattle.mv_store.specs.Stored.{Versioned}
+use Rattle.mv_store.specs.Changes.{HasDropped}
+use Rattle.mv_store.specs.Kept.{AllChanged, settled}
+use Rattle.mv_store.specs.declared.fate.Fate.TheVariants.{Gone}
+use Rattle.mv_store.proofs.Done.{all_settled}
+use Rattle.mv_store.proofs.Laws.{all_dropped, dropped_kept}
+use Rattle.mv_store.proofs.store.Store.drop_of.Goals as goal
+
+changed : (c : goal.After-settle_noted) → AllChanged (settled Gone c.args.call) c.self.inside.tables.items c.settle_noted.new.tables.items
+changed c = all_settled Gone c.args.call c.self.inside.spots _ c.self.inside.tables.items c.settle_noted.new.tables.items c.self.invariant.covered c.take-noted.ensures.spots c.settle_noted.ensures
+
+pub invariant_of-self : goal.invariant_of-self
+invariant_of-self c =
+    dropped_kept c.args.call c.self.inside.last c.self.inside.tables.items c.settle_noted.new.tables.items c.self.inside.spots c.take-noted.new.self c.self.invariant (changed c) c.take-noted.ensures.others
+
+pub returns : goal.returns
+returns c =
+    let old : Versioned = record { tables = c.self.inside.tables.items; last = c.self.inside.last; low = c.self.inside.low } in
+    let new : Versioned = record { tables = c.settle_noted.new.tables.items; last = c.self.inside.last; low = c.self.inside.low } in
+    subst (λ v. HasDropped c.args.call v new) c.self.view_is (all_dropped c.args.call old new c.self.invariant.rising (changed c) refl refl)

@@ -1,0 +1,198 @@
+//! A database in versions.
+
+ghost use Rattle.std.specs.Prelude.{◌≡◌, ◌<◌, ◌≤◌, ℕ, [], ◌∷◌, IfOk, IfErr, OnOk, OnErr, Err};
+ghost use Rattle.mv_values.specs.Patching.{found_by, row_of};
+ghost use Rattle.mv_values.specs.Tables.{rows_at};
+ghost use Rattle.mv_record.specs.Admitting.{Admitted};
+ghost use Rattle.mv_view.specs.declared.view.Refused.TheVariants.{Stale, NoMemory as Wanting};
+ghost use Rattle.mv_store.specs.Stored.{database_at, own_writes, IsLike};
+ghost use Rattle.mv_store.specs.Changes.{IsAsBefore, HasPut, HasDropped, HasStamped, HasRaised};
+
+use crate::collect::collect_all;
+use crate::fate::Fate;
+use crate::find::{find, find_row};
+use crate::open::open_all;
+use crate::settle::settle_noted;
+use crate::spots::Spots;
+use crate::write::put_write;
+use mv_chain::chain::Chain;
+use mv_table::key_map::KeyMap;
+use mv_values::memory::NoMemory;
+use mv_values::patch::Write;
+use mv_values::pred::Pred;
+use mv_values::rows::{Database, Rows};
+use mv_values::value::{Key, Row};
+use mv_view::view::Refused;
+use std::alloc::Global;
+use std::marker::Model;
+
+/// The tables of a database as they were after each commit from `low` on, and what calls have written without committing.
+#[derive(Drop)]
+pub struct Store {
+    tables: Vec<KeyMap<Chain>>,
+    spots: Spots,
+    last: u32,
+    low: u32,
+}
+
+impl Model for Store {
+    ghost use Rattle.mv_store.specs.Stored.{Versioned};
+    ghost use Rattle.mv_store.specs.Kept.{IsKept};
+
+    ghost Value = { Versioned };
+
+    ghost view = { λ s. record { tables = s.tables.items; last = s.last; low = s.low } };
+
+    ghost invariant = { λ s. IsKept s.tables.items s.spots s.last };
+}
+
+impl Store {
+    /// A store of this database, before any commit.
+    pub fn new(alloc: Global, opening: &Database) -> Result<Store, NoMemory>
+        ensures database { IfOk result (λ store. (n : ℕ) → database_at store n ≡ opening.now) }
+        ensures own { IfOk result (λ store. (call : ℕ) → own_writes store call ≡ []) }
+        ensures last { IfOk result (λ store. store.last ≡ 0) }
+        ensures low { IfOk result (λ store. store.low ≡ 0) }
+    {
+        let tables = open_all(alloc, opening)?;
+        Ok(Store {
+            tables,
+            spots: Spots::new(alloc),
+            last: 0,
+            low: 0,
+        })
+    }
+
+    /// The number of the last commit.
+    pub fn last(&self) -> u32
+        ensures last { result ≡ self.now.last }
+        ensures like { (n : ℕ) → IsLike self.now (database_at self.now n) }
+    {
+        self.last
+    }
+
+    /// The number from which on the tables can be read.
+    pub fn low(&self) -> u32
+        ensures { result ≡ self.now.low }
+    {
+        self.low
+    }
+
+    /// Copies of the rows that the predicate matches after n commits, in key order. Each such row has to stand under a key that the
+    /// predicate admits. Stale exactly where n is below the store's low. It looks at the keys in the span that the predicate's tests
+    /// leave, and copies the rows that match.
+    pub fn rows_at(&self, alloc: Global, n: u32, pred: &Pred) -> Result<Rows, Refused>
+        requires { Admitted pred.now (rows_at (database_at self.now n) pred.now.table) }
+        ensures found { IfOk result (λ rows. rows ≡ found_by pred.now (database_at self.now n)) }
+        ensures stale { n < self.now.low → result ≡ Err (Stale n self.now.low) }
+        ensures fresh { self.now.low ≤ n → IfErr result (λ e. e ≡ Wanting) }
+    {
+        if n < self.low {
+            return Err(Refused::Stale {
+                start: n,
+                low: self.low,
+            });
+        }
+        let found = self.find(alloc, n, pred)?;
+        Ok(found)
+    }
+
+    /// A copy of the row under a key of a table after n commits, where there is one. Stale exactly where n is below the store's low. It
+    /// costs the logarithm of the number of rows, the size of the row, and the patches of the later commits of it.
+    pub fn row_at(
+        &self,
+        alloc: Global,
+        n: u32,
+        table: u8,
+        key: &Key,
+    ) -> Result<Option<Row>, Refused>
+        ensures found { IfOk result (λ row. row ≡ row_of (rows_at (database_at self.now n) table) key.now) }
+        ensures stale { n < self.now.low → result ≡ Err (Stale n self.now.low) }
+        ensures fresh { self.now.low ≤ n → IfErr result (λ e. e ≡ Wanting) }
+    {
+        if n < self.low {
+            return Err(Refused::Stale {
+                start: n,
+                low: self.low,
+            });
+        }
+        let row = self.find_row(alloc, n, table, key)?;
+        Ok(row)
+    }
+
+    fn find(&self, alloc: Global, n: u32, pred: &Pred) -> Result<Rows, NoMemory>
+        requires { Admitted pred.now (rows_at (database_at self.now n) pred.now.table) }
+        ensures { IfOk result (λ rows. rows ≡ found_by pred.now (database_at self.now n)) }
+    {
+        match self.tables.get(pred.table as usize) {
+            Some(table) => find(alloc, table, n, pred),
+            None => Ok(Rows::new(alloc)),
+        }
+    }
+
+    fn find_row(&self, alloc: Global, n: u32, table: u8, key: &Key) -> Result<Option<Row>, NoMemory>
+        ensures { IfOk result (λ row. row ≡ row_of (rows_at (database_at self.now n) table) key.now) }
+    {
+        match self.tables.get(table as usize) {
+            Some(table) => find_row(alloc, table, n, key),
+            None => Ok(None),
+        }
+    }
+
+    /// Puts a write of a call, after the call's own. Nothing reads it until it is stamped. A write to a table that isn't there is left
+    /// out. Where no memory is found the store is as before. It costs the logarithm of the number of rows.
+    pub fn put(&mut self, alloc: Global, call: u32, write: &Write) -> Result<(), NoMemory>
+        ensures ok { OnOk result (HasPut call (write.now ∷ []) self.old self.new) }
+        ensures err { OnErr result (IsAsBefore self.old self.new) }
+    {
+        let at = write.table as usize;
+        if at >= self.tables.len() {
+            return Ok(());
+        }
+        put_write(alloc, &mut self.tables[at], &mut self.spots, call, write)
+    }
+
+    /// Puts writes of a call, in order, after the call's own. Where no memory is found the call has no writes at all, and all else is
+    /// as before.
+    pub fn put_all(&mut self, alloc: Global, call: u32, writes: &[Write]) -> Result<(), NoMemory>
+        ensures ok { OnOk result (HasPut call writes.now self.old self.new) }
+        ensures err { OnErr result (HasDropped call self.old self.new) }
+    {
+        for write in writes {
+            if self.put(alloc, call, write).is_err() {
+                self.drop_of(call);
+                return Err(NoMemory);
+            }
+        }
+        Ok(())
+    }
+
+    /// Makes what a call has written commit n, which has to be above the last commit. It takes no memory, and costs the logarithm of the
+    /// number of rows for each key that the call has written.
+    pub fn stamp(&mut self, call: u32, n: u32)
+        requires { self.old.last < n }
+        ensures { HasStamped call n self.old self.new }
+    {
+        let noted = self.spots.take(call);
+        settle_noted(&mut self.tables, noted, call, Fate::Commit(n));
+        self.last = n;
+    }
+
+    /// Drops what a call has written without committing. It takes no memory, and costs what `stamp` does.
+    pub fn drop_of(&mut self, call: u32)
+        ensures { HasDropped call self.old self.new }
+    {
+        let noted = self.spots.take(call);
+        settle_noted(&mut self.tables, noted, call, Fate::Gone);
+    }
+
+    /// Forgets the tables before commit `low`, which isn't below that of an earlier call. Reads from `low` on stay as they were, and so
+    /// do writes that are not committed. It takes no memory, and costs the number of rows and of the commits that it forgets.
+    pub fn raise(&mut self, low: u32)
+        requires { self.old.low ≤ low }
+        ensures { HasRaised low self.old self.new }
+    {
+        collect_all(&mut self.tables, low);
+        self.low = low;
+    }
+}

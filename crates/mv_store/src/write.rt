@@ -1,0 +1,70 @@
+//! Puts writes of calls.
+
+ghost use Rattle.std.specs.Prelude.{◌≡◌, false, OnOk, OnErr};
+ghost use Rattle.std.specs.Option.{is_some};
+ghost use Rattle.mv_chain.specs.Versions.{own_of};
+ghost use Rattle.mv_store.specs.Kept.{versions_of, spots_of, with_patch, IsChanged, HasSpot, KeepsSpots};
+
+use crate::spots::{Spot, Spots};
+use mv_chain::chain::Chain;
+use mv_table::key_map::KeyMap;
+use mv_values::copied::Copied;
+use mv_values::memory::NoMemory;
+use mv_values::patch::Write;
+use std::alloc::Global;
+
+/// Notes the key of a write.
+fn note(alloc: Global, spots: &mut Spots, call: u32, write: &Write) -> Result<(), NoMemory>
+    ensures kept { KeepsSpots spots.old spots.new }
+    ensures noted { OnOk result (HasSpot write.now.table write.now.key (spots_of spots.new call)) }
+{
+    let key = write.key.copy(alloc)?;
+    let spot = Spot {
+        table: write.table,
+        key,
+    };
+    spots.note(alloc, call, spot)
+}
+
+/// Puts the patch of a write, and notes its key where the call had no patch.
+fn put_patch(
+    alloc: Global,
+    chain: &mut Chain,
+    spots: &mut Spots,
+    call: u32,
+    write: &Write,
+) -> Result<(), NoMemory>
+    ensures ok { OnOk result (chain.new ≡ with_patch call write.now.patch chain.old) }
+    ensures err { OnErr result (chain.new ≡ chain.old) }
+    ensures kept { KeepsSpots spots.old spots.new }
+    ensures noted { OnOk result (is_some (own_of call chain.old.own) ≡ false → HasSpot write.now.table write.now.key (spots_of spots.new call)) }
+{
+    let patch = write.patch.copy(alloc)?;
+    if !chain.has_own(call) {
+        note(alloc, spots, call, write)?;
+    }
+    chain.put(call, patch)
+}
+
+/// Puts a write into its table. It costs the logarithm of the number of rows. Where no memory is found the versions are as before.
+pub(crate) fn put_write(
+    alloc: Global,
+    table: &mut KeyMap<Chain>,
+    spots: &mut Spots,
+    call: u32,
+    write: &Write,
+) -> Result<(), NoMemory>
+    ensures ok { OnOk result (IsChanged write.now.key (with_patch call write.now.patch) table.old table.new) }
+    ensures err { OnErr result (IsChanged write.now.key (λ v. v) table.old table.new) }
+    ensures kept { KeepsSpots spots.old spots.new }
+    ensures noted { OnOk result (is_some (own_of call (versions_of table.old write.now.key).own) ≡ false → HasSpot write.now.table write.now.key (spots_of spots.new call)) }
+{
+    if let Some(chain) = table.get_mut(&write.key) {
+        return put_patch(alloc, chain, spots, call, write);
+    }
+    let mut chain = Chain::new(alloc, None);
+    put_patch(alloc, &mut chain, spots, call, write)?;
+    let key = write.key.copy(alloc)?;
+    table.put(key, chain)?;
+    Ok(())
+}
