@@ -1,0 +1,4 @@
+pub mod Scripts
+pub mod Knowing
+pub mod Rule
+pub mod Names
