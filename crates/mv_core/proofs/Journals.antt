@@ -1,0 +1,379 @@
+-- What holds of the calls and commits of a journal of which no event is refused.
+use Rattle.std.proofs.Common.{◌≡◌, ◌⊎◌, inl, inr, ℕ, zero, suc, ◌+◌, ◌<◌, ◌≤◌, Bool, true, false, not, cond, List, [], ◌∷◌, ◌++◌, Option, Some, None, length, slice_set, if◌then◌else◌, refl, sym, ap, subst, ◌∙◌, arith, length-append, rules}
+use Rattle.std.specs.Prelude.{◌==◌, ◌&&◌, nat_lt, slice_get}
+use Rattle.std.specs.List.{position, position_or_len}
+use Rattle.std.specs.Option.{option_map}
+use Rattle.std.proofs.lemmas.Bool.Decides.{eqb_tells}
+use Rattle.mv_journal.specs.declared.event.Event.{Event}
+use Rattle.mv_journal.specs.declared.event.Event.TheVariants.{B, S, A, M, C, X, G}
+use Rattle.mv_journal.specs.declared.outcome.Mark.{Mark}
+use Rattle.mv_journal.specs.declared.outcome.Mark.TheVariants.{Plain, Exclusive, Moved}
+use Rattle.mv_lawful.specs.declared.fault.Fault.{Fault}
+use Rattle.mv_lawful.specs.declared.fault.Fault.TheVariants.{Order}
+use Rattle.mv_lawful.specs.declared.fault.Wrong.TheVariants.{Open}
+use Rattle.mv_lawful.specs.Work.{Work}
+use Rattle.mv_lawful.specs.Lawful.{Turn, Live, Course, beginning, change_live, with_call, begin, again, finish, unless, of_live, refusal, after, reach, course_of, first_open, open_call, or_refused, wrong_from, AllAllowed}
+use Rattle.mv_core.specs.Calls.{IsLive}
+use Rattle.mv_core.proofs.Numbers.{Within, within_more, within_end}
+
+-- Lists
+
+pub get_last : {A : Type 0} (xs : List A) (y : A) (c : ℕ) (x : A) → slice_get (xs ++ y ∷ []) c ≡ Some x → (slice_get xs c ≡ Some x) ⊎ ((c ≡ length xs) × (y ≡ x))
+get_last [] y zero x is = let same : y ≡ x = search (rules, is) in inr (refl, same)
+get_last [] y (suc c) x is = absurd (search (rules, is))
+get_last (z ∷ xs) y zero x is = inl is
+get_last (z ∷ xs) y (suc c) x is = by (get_last xs y c x is) where
+  by : (slice_get xs c ≡ Some x) ⊎ ((c ≡ length xs) × (y ≡ x)) → (slice_get xs c ≡ Some x) ⊎ ((suc c ≡ suc (length xs)) × (y ≡ x))
+  by (inl h) = inl h
+  by (inr h) = inr (ap suc h.0, h.1)
+
+pub get_front : {A : Type 0} (xs : List A) (y : A) (c : ℕ) (x : A) → slice_get xs c ≡ Some x → slice_get (xs ++ y ∷ []) c ≡ Some x
+get_front [] y c x is = absurd (search (rules, is))
+get_front (z ∷ xs) y zero x is = is
+get_front (z ∷ xs) y (suc c) x is = get_front xs y c x is
+
+pub get_set : {A : Type 0} (xs : List A) (c d : ℕ) (m x : A) → slice_get (slice_set xs c m) d ≡ Some x → ((d ≡ c) × (m ≡ x)) ⊎ ((d ≡ c → ⊥) × (slice_get xs d ≡ Some x))
+get_set [] c d m x is = absurd (search (rules, is))
+get_set (y ∷ xs) zero zero m x is = let same : m ≡ x = search (rules, is) in inl (refl, same)
+get_set (y ∷ xs) zero (suc d) m x is = inr ((λ e. omega (arith, e)), is)
+get_set (y ∷ xs) (suc c) zero m x is = inr ((λ e. omega (arith, e)), is)
+get_set (y ∷ xs) (suc c) (suc d) m x is = by (get_set xs c d m x is) where
+  by : ((d ≡ c) × (m ≡ x)) ⊎ ((d ≡ c → ⊥) × (slice_get xs d ≡ Some x)) → ((suc d ≡ suc c) × (m ≡ x)) ⊎ ((suc d ≡ suc c → ⊥) × (slice_get xs d ≡ Some x))
+  by (inl h) = inl (ap suc h.0, h.1)
+  by (inr h) = inr ((λ e. h.0 (omega (arith, e))), h.1)
+
+pub set_there : {A : Type 0} (xs : List A) (c : ℕ) (m x : A) → slice_get xs c ≡ Some x → slice_get (slice_set xs c m) c ≡ Some m
+set_there [] c m x is = absurd (search (rules, is))
+set_there (y ∷ xs) zero m x is = refl
+set_there (y ∷ xs) (suc c) m x is = set_there xs c m x is
+
+pub set_apart : {A : Type 0} (xs : List A) (c d : ℕ) (m : A) → (d ≡ c → ⊥) → slice_get (slice_set xs c m) d ≡ slice_get xs d
+set_apart [] c d m ne = refl
+set_apart (y ∷ xs) zero zero m ne = absurd (ne refl)
+set_apart (y ∷ xs) zero (suc d) m ne = refl
+set_apart (y ∷ xs) (suc c) zero m ne = refl
+set_apart (y ∷ xs) (suc c) (suc d) m ne = set_apart xs c d m (λ e. ne (ap suc e))
+
+pub same_long : {A : Type 0} (xs : List A) (c : ℕ) (m : A) → length (slice_set xs c m) ≡ length xs
+same_long [] c m = refl
+same_long (y ∷ xs) zero m = refl
+same_long (y ∷ xs) (suc c) m = ap suc (same_long xs c m)
+
+-- Events of a live call
+
+pub live_at : (s : Course) (c : ℕ) (f : Live → Option Fault) → of_live (slice_get s.calls c) f ≡ None → (l : Live) × IsLive s c l × (f l ≡ None)
+live_at s c f h = by (slice_get s.calls c) refl h where
+  going : (l : Live) (b : Bool) → l.done ≡ b → slice_get s.calls c ≡ Some l → unless (not b) Order (f l) ≡ None → (l : Live) × IsLive s c l × (f l ≡ None)
+  going l true is at k = absurd (search (rules, k))
+  going l false is at k = (l, record { at = at; live = is }, k)
+
+  by : (o : Option Live) → slice_get s.calls c ≡ o → of_live o f ≡ None → (l : Live) × IsLive s c l × (f l ≡ None)
+  by None at k = absurd (search (rules, k))
+  by (Some l) at k = going l l.done refl at k
+
+pub changed_at : (ls : List Live) (c : ℕ) (f : Live → Live) (l : Live) → slice_get ls c ≡ Some l → change_live (slice_get ls c) f ls c ≡ slice_set ls c (f l)
+changed_at ls c f l at = ap (λ o. change_live o f ls c) at
+
+-- How many have committed
+
+abbrev pub done_in : List Live → ℕ
+done_in [] = 0
+done_in (l ∷ ls) = if l.done then suc (done_in ls) else done_in ls
+
+pub done_within : (ls : List Live) → done_in ls ≤ length ls
+done_within [] = omega arith
+done_within (l ∷ ls) = by l.done (done_within ls) where
+  by : (b : Bool) → done_in ls ≤ length ls → (if b then suc (done_in ls) else done_in ls) ≤ suc (length ls)
+  by true le = omega (arith, le)
+  by false le = omega (arith, le)
+
+pub done_below : (ls : List Live) (c : ℕ) (l : Live) → slice_get ls c ≡ Some l → l.done ≡ false → done_in ls < length ls
+done_below [] c l e d = absurd (search (rules, e))
+done_below (x ∷ ls) zero l e d =
+    let same : x ≡ l = search (rules, e) in
+    let le : done_in ls ≤ length ls = done_within ls in
+    let is : done_in (x ∷ ls) ≡ done_in ls = rw (ap (λ (k : Live). k.done) same ∙ d) refl in
+    omega (arith, le, is)
+done_below (x ∷ ls) (suc c) l e d = by x.done (done_below ls c l e d) where
+  by : (b : Bool) → done_in ls < length ls → (if b then suc (done_in ls) else done_in ls) < suc (length ls)
+  by true lt = omega (arith, lt)
+  by false lt = omega (arith, lt)
+
+done_begun : (ls : List Live) (n : ℕ) → done_in (ls ++ begin n ∷ []) ≡ done_in ls
+done_begun [] n = refl
+done_begun (l ∷ ls) n = ap (λ k. if l.done then suc k else k) (done_begun ls n)
+
+done_kept : (ls : List Live) (c : ℕ) (l m : Live) → slice_get ls c ≡ Some l → m.done ≡ l.done → done_in (slice_set ls c m) ≡ done_in ls
+done_kept [] c l m e d = absurd (search (rules, e))
+done_kept (x ∷ ls) zero l m e d =
+    let same : x ≡ l = search (rules, e) in
+    ap (λ b. if b then suc (done_in ls) else done_in ls) (d ∙ sym (ap (λ (k : Live). k.done) same))
+done_kept (x ∷ ls) (suc c) l m e d = ap (λ k. if x.done then suc k else k) (done_kept ls c l m e d)
+
+done_more : (ls : List Live) (c : ℕ) (l m : Live) → slice_get ls c ≡ Some l → l.done ≡ false → m.done ≡ true → done_in (slice_set ls c m) ≡ suc (done_in ls)
+done_more [] c l m e f t = absurd (search (rules, e))
+done_more (x ∷ ls) zero l m e f t =
+    let same : x ≡ l = search (rules, e) in
+    rw (t, ap (λ (k : Live). k.done) same ∙ f) refl
+done_more (x ∷ ls) (suc c) l m e f t = by x.done (done_more ls c l m e f t) where
+  by : (b : Bool) → done_in (slice_set ls c m) ≡ suc (done_in ls) → (if b then suc (done_in (slice_set ls c m)) else done_in (slice_set ls c m)) ≡ suc (if b then suc (done_in ls) else done_in ls)
+  by true is = ap suc is
+  by false is = is
+
+-- What events keep
+
+-- of one call, after so many events: its rounds began after no more commits than there are, and it has no more steps
+-- than there are events
+pub record CallFacts (commits events : ℕ) (l : Live) : Type 0 where
+  pub first : Turn
+  pub rest : List Turn
+  pub turns : l.turns ≡ first ∷ rest
+  pub within : Within commits l.turns
+  pub start : l.start ≤ commits
+  pub steps : l.steps ≤ events
+
+pub record Facts (w : Work) (events : ℕ) (s : Course) : Type 0 where
+  pub count : length s.calls ≤ w.count
+  pub done : done_in s.calls ≡ length s.order
+  pub each : (c : ℕ) (l : Live) → slice_get s.calls c ≡ Some l → CallFacts (length s.order) events l
+  pub back : (k c : ℕ) → slice_get s.order k ≡ Some c → (l : Live) × (slice_get s.calls c ≡ Some l) × (l.done ≡ true)
+
+call_more : (n m e f : ℕ) (l : Live) → n ≤ m → e ≤ f → CallFacts n e l → CallFacts m f l
+call_more n m e f l le lf h = record {
+  first = h.first;
+  rest = h.rest;
+  turns = h.turns;
+  within = within_more n m l.turns le h.within;
+  start = let a = h.start in omega (arith, a, le);
+  steps = let a = h.steps in omega (arith, a, lf);
+}
+
+call_again : (n e m : ℕ) (mark : Mark) (l : Live) → m ≤ n → CallFacts n e l → CallFacts n e (again m mark l)
+call_again n e m mark l le h = record {
+  first = h.first;
+  rest = h.rest ++ record { start = m; mark = mark } ∷ [];
+  turns = ap (λ ts. ts ++ record { start = m; mark = mark } ∷ []) h.turns;
+  within = within_end n l.turns (record { start = m; mark = mark }) h.within le;
+  start = le;
+  steps = h.steps;
+}
+
+-- one live call changes and stays live
+changed : (w : Work) (e : ℕ) (s : Course) (c : ℕ) (l m : Live) → Facts w e s → IsLive s c l → m.done ≡ false → CallFacts (length s.order) (e + 1) m → Facts w (e + 1) (record s { calls = slice_set s.calls c m })
+changed w e s c l m k live still fresh = record {
+  count = let n = same_long s.calls c m in let h = k.count in omega (arith, n, h);
+  done = done_kept s.calls c l m live.at (still ∙ sym live.live) ∙ k.done;
+  each = λ d x at. by d x (get_set s.calls c d m x at);
+  back = λ i d at. back i d (k.back i d at);
+} where
+  by : (d : ℕ) (x : Live) → ((d ≡ c) × (m ≡ x)) ⊎ ((d ≡ c → ⊥) × (slice_get s.calls d ≡ Some x)) → CallFacts (length s.order) (e + 1) x
+  by d x (inl h) = subst (CallFacts (length s.order) (e + 1)) h.1 fresh
+  by d x (inr h) = call_more (length s.order) (length s.order) e (e + 1) x (omega arith) (omega arith) (k.each d x h.1)
+
+  back : (i d : ℕ) → (x : Live) × (slice_get s.calls d ≡ Some x) × (x.done ≡ true) → (x : Live) × (slice_get (slice_set s.calls c m) d ≡ Some x) × (x.done ≡ true)
+  back i d h = (h.0, set_apart s.calls c d m other ∙ h.1, h.2) where
+    other : d ≡ c → ⊥
+    other is =
+        let same : Some h.0 ≡ Some l = sym h.1 ∙ (ap (slice_get s.calls) is ∙ live.at) in
+        let one : h.0 ≡ l = search (rules, same) in
+        let both : true ≡ false = sym h.2 ∙ (ap (λ (x : Live). x.done) one ∙ live.live) in
+        search (rules, both)
+
+-- one live call commits
+committed : (w : Work) (e : ℕ) (s : Course) (c : ℕ) (l m : Live) → Facts w e s → IsLive s c l → m.done ≡ true → CallFacts (length s.order) (e + 1) m
+    → Facts w (e + 1) (record s { order = s.order ++ c ∷ []; calls = slice_set s.calls c m })
+committed w e s c l m k live ended fresh = record {
+  count = let n = same_long s.calls c m in let h = k.count in omega (arith, n, h);
+  done = done_more s.calls c l m live.at live.live ended ∙ (ap suc k.done ∙ one_more);
+  each = λ d x at. by d x (get_set s.calls c d m x at);
+  back = λ i d at. back i d (get_last s.order c i d at);
+} where
+  longer : length (s.order ++ c ∷ []) ≡ length s.order + 1
+  longer = length-append s.order (c ∷ [])
+
+  one_more : suc (length s.order) ≡ length (s.order ++ c ∷ [])
+  one_more = omega (arith, longer)
+
+  by : (d : ℕ) (x : Live) → ((d ≡ c) × (m ≡ x)) ⊎ ((d ≡ c → ⊥) × (slice_get s.calls d ≡ Some x)) → CallFacts (length (s.order ++ c ∷ [])) (e + 1) x
+  by d x (inl h) = subst (CallFacts (length (s.order ++ c ∷ [])) (e + 1)) h.1 (call_more (length s.order) (length (s.order ++ c ∷ [])) (e + 1) (e + 1) m (omega (arith, longer)) (omega arith) fresh)
+  by d x (inr h) = call_more (length s.order) (length (s.order ++ c ∷ [])) e (e + 1) x (omega (arith, longer)) (omega arith) (k.each d x h.1)
+
+  here : (d : ℕ) → d ≡ c → (x : Live) × (slice_get (slice_set s.calls c m) d ≡ Some x) × (x.done ≡ true)
+  here d is = (m, subst (λ n. slice_get (slice_set s.calls c m) n ≡ Some m) (sym is) (set_there s.calls c m l live.at), ended)
+
+  back : (i d : ℕ) → (slice_get s.order i ≡ Some d) ⊎ ((i ≡ length s.order) × (c ≡ d)) → (x : Live) × (slice_get (slice_set s.calls c m) d ≡ Some x) × (x.done ≡ true)
+  back i d (inr h) = here d (sym h.1)
+  back i d (inl at) =
+      let h = k.back i d at in
+      let other : d ≡ c → ⊥ = λ is.
+      let same : Some h.0 ≡ Some l = sym h.1 ∙ (ap (slice_get s.calls) is ∙ live.at) in
+      let one : h.0 ≡ l = search (rules, same) in
+      let both : true ≡ false = sym h.2 ∙ (ap (λ (x : Live). x.done) one ∙ live.live) in
+      search (rules, both) in
+      (h.0, set_apart s.calls c d m other ∙ h.1, h.2)
+
+-- a call begins
+begun : (w : Work) (e : ℕ) (s : Course) → Facts w e s → length s.calls < w.count → Facts w (e + 1) (record s { calls = s.calls ++ begin (length s.order) ∷ [] })
+begun w e s k room = record {
+  count = let n = length-append s.calls (begin (length s.order) ∷ []) in omega (arith, n, room);
+  done = done_begun s.calls (length s.order) ∙ k.done;
+  each = λ d x at. by d x (get_last s.calls (begin (length s.order)) d x at);
+  back = λ i d at. let h = k.back i d at in (h.0, get_front s.calls (begin (length s.order)) d h.0 h.1, h.2);
+} where
+  fresh : CallFacts (length s.order) (e + 1) (begin (length s.order))
+  fresh = record { first = record { start = length s.order; mark = Plain }; rest = []; turns = refl; within = ((omega arith), tt); start = omega arith; steps = omega arith }
+
+  by : (d : ℕ) (x : Live) → (slice_get s.calls d ≡ Some x) ⊎ ((d ≡ length s.calls) × (begin (length s.order) ≡ x)) → CallFacts (length s.order) (e + 1) x
+  by d x (inl h) = call_more (length s.order) (length s.order) e (e + 1) x (omega arith) (omega arith) (k.each d x h)
+  by d x (inr h) = subst (CallFacts (length s.order) (e + 1)) h.1 fresh
+
+pub room_of : (w : Work) (n c : ℕ) → unless ((c == n) && nat_lt c w.count) Order None ≡ None → (c ≡ n) × (n < w.count)
+room_of w n c h = by (c == n) (nat_lt c w.count) refl refl h where
+  same : (c == n) ≡ true → c ≡ n
+  same h = grind (arith, eqb_tells, h)
+
+  less : nat_lt c w.count ≡ true → c < w.count
+  less h = grind (arith, h)
+
+  by : (a b : Bool) → (c == n) ≡ a → nat_lt c w.count ≡ b → unless (a && b) Order None ≡ None → (c ≡ n) × (n < w.count)
+  by true true e k h = (same e, subst (λ x. x < w.count) (same e) (less k))
+  by true false e k h = absurd (search (rules, h))
+  by false b e k h = absurd (search (rules, h))
+
+facts_on : (w : Work) (e : ℕ) (s : Course) (c : ℕ) (f : Live → Live) (l : Live) → slice_get s.calls c ≡ Some l → Facts w e (record s { calls = slice_set s.calls c (f l) }) → Facts w e (with_call s c f)
+facts_on w e s c f l at k = subst (λ ls. Facts w e (record s { calls = ls })) (sym (changed_at s.calls c f l at)) k
+
+pub facts_after : (w : Work) (e : ℕ) (s : Course) (v : Event) → refusal w s v ≡ None → Facts w e s → Facts w (e + 1) (after w s v)
+facts_after w e s (B c) h k = let r = room_of w (length s.calls) c h in begun w e s k r.1
+facts_after w e s (S c) h k =
+    let a = live_at s c _ h in
+    let m : Live = record a.0 { steps = a.0.steps + 1 } in
+    let f = k.each c a.0 a.1.at in
+    facts_on w (e + 1) s c (λ l. record l { steps = l.steps + 1 }) a.0 a.1.at (changed w e s c a.0 m k a.1 a.1.live (record { first = f.first; rest = f.rest; turns = f.turns; within = f.within; start = f.start; steps = let b = f.steps in omega (arith, b) }))
+facts_after w e s (A c) h k =
+    let a = live_at s c _ h in
+    facts_on w (e + 1) s c (again (length s.order) Plain) a.0 a.1.at (changed w e s c a.0 (again (length s.order) Plain a.0) k a.1 a.1.live
+    (call_again (length s.order) (e + 1) (length s.order) Plain a.0 (omega arith) (call_more (length s.order) (length s.order) e (e + 1) a.0 (omega arith) (omega arith) (k.each c a.0 a.1.at))))
+facts_after w e s (M c) h k =
+    let a = live_at s c _ h in
+    facts_on w (e + 1) s c (again (length s.order) Moved) a.0 a.1.at (changed w e s c a.0 (again (length s.order) Moved a.0) k a.1 a.1.live
+    (call_again (length s.order) (e + 1) (length s.order) Moved a.0 (omega arith) (call_more (length s.order) (length s.order) e (e + 1) a.0 (omega arith) (omega arith) (k.each c a.0 a.1.at))))
+facts_after w e s (C c) h k =
+    let a = live_at s c _ h in
+    facts_on w (e + 1) (record s { order = s.order ++ c ∷ [] }) c finish a.0 a.1.at (committed w e s c a.0 (finish a.0) k a.1 refl
+    (let f = k.each c a.0 a.1.at in record { first = f.first; rest = f.rest; turns = f.turns; within = f.within; start = f.start; steps = let b = f.steps in omega (arith, b) }))
+facts_after w e s (X c) h k =
+    let a = live_at s c _ h in
+    facts_on w (e + 1) (record s { order = s.order ++ c ∷ [] }) c (λ l. finish (again (length s.order) Exclusive l)) a.0 a.1.at (committed w e s c a.0 (finish (again (length s.order) Exclusive a.0)) k a.1 refl
+    (let f = call_again (length s.order) (e + 1) (length s.order) Exclusive a.0 (omega arith) (call_more (length s.order) (length s.order) e (e + 1) a.0 (omega arith) (omega arith) (k.each c a.0 a.1.at)) in
+    record { first = f.first; rest = f.rest; turns = f.turns; within = f.within; start = f.start; steps = f.steps }))
+facts_after w e s G h k = record { count = k.count; done = k.done; each = λ c l at. call_more (length s.order) (length s.order) e (e + 1) l (omega arith) (omega arith) (k.each c l at); back = k.back }
+
+-- Whole journals
+
+pub reach_more : (w : Work) (s : Course) (es : List Event) (e : Event) → reach w s (es ++ e ∷ []) ≡ after w (reach w s es) e
+reach_more w s [] e = refl
+reach_more w s (x ∷ es) e = reach_more w (after w s x) es e
+
+pub allowed_more : (w : Work) (s : Course) (es : List Event) (e : Event) → AllAllowed w s es → refusal w (reach w s es) e ≡ None → AllAllowed w s (es ++ e ∷ [])
+allowed_more w s [] e all this = (this, tt)
+allowed_more w s (x ∷ es) e all this = (all.0, allowed_more w (after w s x) es e all.1 this)
+
+facts_reach : (w : Work) (n : ℕ) (s : Course) (es : List Event) → AllAllowed w s es → Facts w n s → Facts w (n + length es) (reach w s es)
+facts_reach w n s [] h k = subst (λ m. Facts w m s) (sym more) k where
+  more : n + 0 ≡ n
+  more = omega arith
+facts_reach w n s (e ∷ es) h k = subst (λ m. Facts w m (reach w (after w s e) es)) (sym more) (facts_reach w (n + 1) (after w s e) es h.1 (facts_after w n s e h.0 k)) where
+  more : n + suc (length es) ≡ n + 1 + length es
+  more = omega arith
+
+pub facts_of : (w : Work) (es : List Event) → AllAllowed w beginning es → Facts w (length es) (course_of w es)
+facts_of w es h = subst (λ m. Facts w m (course_of w es)) none (facts_reach w 0 beginning es h start) where
+  none : 0 + length es ≡ length es
+  none = omega arith
+
+  start : Facts w 0 beginning
+  start = record { count = omega arith; done = refl; each = λ c l at. absurd (search (rules, at)); back = λ k c at. absurd (search (rules, at)) }
+
+-- The end
+
+pub only_open : (w : Work) (n : ℕ) (s : Course) (es : List Event) → AllAllowed w s es → wrong_from w n s es ≡ option_map Open (open_call w (reach w s es))
+only_open w n s [] h = refl
+only_open w n s (e ∷ es) h = ap (λ o. or_refused n o (wrong_from w (n + 1) (after w s e) es)) h.0 ∙ only_open w (n + 1) (after w s e) es h.1
+
+open_done : (n : ℕ) (ls : List Live) (i : ℕ) → n + i < first_open n ls → (l : Live) × (slice_get ls i ≡ Some l) × (l.done ≡ true)
+open_done n [] i h = absurd (omega (arith, h))
+open_done n (l ∷ ls) i h = by l.done i refl h (open_done (n + 1) ls) where
+  by : (b : Bool) (i : ℕ) → l.done ≡ b → n + i < (if b then first_open (n + 1) ls else n) → ((j : ℕ) → (n + 1) + j < first_open (n + 1) ls → (m : Live) × (slice_get ls j ≡ Some m) × (m.done ≡ true))
+      → (m : Live) × (slice_get (l ∷ ls) i ≡ Some m) × (m.done ≡ true)
+  by true zero e h go = (l, refl, e)
+  by true (suc j) e h go = go j (omega (arith, h))
+  by false i e h go = absurd (omega (arith, h))
+
+-- no call is open: each has committed
+pub all_done : (w : Work) (s : Course) → open_call w s ≡ None → (c : ℕ) → c < w.count → (l : Live) × (slice_get s.calls c ≡ Some l) × (l.done ≡ true)
+all_done w s h c less = open_done 0 s.calls c (below (first_open 0 s.calls) (shut (first_open 0 s.calls) h)) where
+  shut : (n : ℕ) → (if nat_lt n w.count then Some n else None) ≡ None → nat_lt n w.count ≡ false
+  shut n k = by (nat_lt n w.count) k where
+    by : (b : Bool) → (if b then Some n else None) ≡ None → b ≡ false
+    by true k = absurd (search (rules, k))
+    by false k = refl
+
+  below : (n : ℕ) → nat_lt n w.count ≡ false → 0 + c < n
+  below n k = grind (arith, k, less)
+
+-- Places in the order
+
+-- a live call isn't there
+pub live_apart : (w : Work) (e : ℕ) (s : Course) (c : ℕ) (l : Live) → Facts w e s → IsLive s c l → (k : ℕ) → slice_get s.order k ≡ Some c → ⊥
+live_apart w e s c l f live k at =
+    let h = f.back k c at in
+    let same : Some h.0 ≡ Some l = sym h.1 ∙ live.at in
+    let one : h.0 ≡ l = search (rules, same) in
+    let both : true ≡ false = sym h.2 ∙ (ap (λ (x : Live). x.done) one ∙ live.live) in
+    search (rules, both)
+
+same_number : (a b : ℕ) → (a == b) ≡ true → a ≡ b
+same_number a b h = grind (arith, eqb_tells, h)
+
+number_itself : (a : ℕ) → (a == a) ≡ true
+number_itself a = grind (arith, eqb_tells)
+
+abbrev place : List ℕ → ℕ → ℕ
+place cs c = position_or_len (λ d. d == c) cs
+
+last_place : (cs : List ℕ) (c : ℕ) → ((k : ℕ) → slice_get cs k ≡ Some c → ⊥) → place (cs ++ c ∷ []) c ≡ length cs
+last_place [] c none = ap (λ b. cond (not b) 1 0) (number_itself c)
+last_place (x ∷ cs) c none = by (x == c) refl (last_place cs c (λ k at. none (suc k) at)) where
+  by : (b : Bool) → (x == c) ≡ b → place (cs ++ c ∷ []) c ≡ length cs → cond (not b) (1 + place (cs ++ c ∷ []) c) 0 ≡ suc (length cs)
+  by true e h = absurd (none 0 (ap Some (same_number x c e)))
+  by false e h = omega (arith, h)
+
+same_place : (cs : List ℕ) (c d : ℕ) → place cs c < length cs → place (cs ++ d ∷ []) c ≡ place cs c
+same_place [] c d lt = absurd (omega (arith, lt))
+same_place (x ∷ cs) c d lt = by (x == c) lt (same_place cs c d) where
+  by : (b : Bool) → cond (not b) (1 + place cs c) 0 < suc (length cs) → (place cs c < length cs → place (cs ++ d ∷ []) c ≡ place cs c) → cond (not b) (1 + place (cs ++ d ∷ []) c) 0 ≡ cond (not b) (1 + place cs c) 0
+  by true h go = refl
+  by false h go = ap (λ n. 1 + n) (go (omega (arith, h)))
+
+at_place : (cs : List ℕ) (c k : ℕ) → position (λ d. d == c) cs ≡ Some k → (place cs c ≡ k) × (place cs c < length cs)
+at_place cs c k is = by (nat_lt (place cs c) (length cs)) refl is where
+  less : nat_lt (place cs c) (length cs) ≡ true → place cs c < length cs
+  less h = grind (arith, h)
+
+  by : (b : Bool) → nat_lt (place cs c) (length cs) ≡ b → cond b (Some (place cs c)) None ≡ Some k → (place cs c ≡ k) × (place cs c < length cs)
+  by true e h = (search (rules, h), less e)
+  by false e h = absurd (search (rules, h))
+
+found_at : (cs : List ℕ) (c k : ℕ) → place cs c ≡ k → k < length cs → position (λ d. d == c) cs ≡ Some k
+found_at cs c k is lt = ap (λ b. cond b (Some (place cs c)) None) within ∙ ap Some is where
+  within : nat_lt (place cs c) (length cs) ≡ true
+  within = grind (arith, is, lt)
+
+pub found_last : (cs : List ℕ) (c : ℕ) → ((k : ℕ) → slice_get cs k ≡ Some c → ⊥) → position (λ d. d == c) (cs ++ c ∷ []) ≡ Some (length cs)
+found_last cs c none = found_at (cs ++ c ∷ []) c (length cs) (last_place cs c none) (let n = length-append cs (c ∷ []) in omega (arith, n))
+
+pub found_stays : (cs : List ℕ) (c d k : ℕ) → position (λ x. x == c) cs ≡ Some k → position (λ x. x == c) (cs ++ d ∷ []) ≡ Some k
+found_stays cs c d k is =
+    let p = at_place cs c k is in
+    found_at (cs ++ d ∷ []) c k (same_place cs c d p.1 ∙ p.0) (let n = length-append cs (d ∷ []) in let a = p.0 in let b = p.1 in omega (arith, n, a, b))

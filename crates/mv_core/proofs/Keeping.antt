@@ -1,0 +1,520 @@
+-- What events leave of a book.
+use Rattle.std.proofs.Common.{◌≡◌, ◌≢◌, ◌⊎◌, inl, inr, ℕ, zero, suc, ◌+◌, ◌<◌, ◌≤◌, ◌^◌, false, List, [], ◌∷◌, ◌++◌, Option, Some, None, map, get_or, length, slice_set, is_some, refl, sym, ap, subst, ◌∙◌, arith, eq-eqb, length-append, rules}
+use Rattle.std.specs.Prelude.{slice_get, All, IsSome}
+use Rattle.std.specs.Option.{option_map}
+use Rattle.std.proofs.lemmas.List.{map-append, length-map}
+use Rattle.std.proofs.lemmas.Option.{slice_get-map, slice_get_within, slice_get_read}
+use Rattle.mv_values.specs.declared.calls.Reply.{Reply}
+use Rattle.mv_journal.specs.declared.event.Event.{Event}
+use Rattle.mv_journal.specs.declared.event.Event.TheVariants.{B, S}
+use Rattle.mv_journal.specs.declared.outcome.Mark.{Mark}
+use Rattle.mv_journal.specs.declared.outcome.Mark.TheVariants.{Plain, Exclusive, Moved}
+use Rattle.mv_journal.specs.declared.outcome.Round.{Round}
+use Rattle.mv_lawful.specs.Work.{Work, table_at}
+use Rattle.mv_lawful.specs.Lawful.{Turn, Live, Course, beginning, begin, again, finish, with_call, change_live, refusal, after, reach, AllAllowed}
+use Rattle.mv_lawful.specs.Rounds.{rounds_of}
+use Rattle.mv_lawful.specs.Outcomes.{turns_of}
+use Rattle.mv_core.specs.declared.script.Script.{Script}
+use Rattle.mv_core.specs.declared.progress.Progress.{Progress}
+use Rattle.mv_core.specs.declared.book.Book.TheInside.{Inside}
+use Rattle.mv_core.specs.contracts.book.Book.{the_view}
+use Rattle.mv_core.specs.Rooms.{Filled}
+use Rattle.mv_core.specs.Scripts.{work_of}
+use Rattle.mv_core.specs.Calls.{turn_of, turns_in, live_of, IsLive, IsLiveCall, numbered, last_number, closed, unknown, due_number, committed, with_own, AreRounds, IsReply, TellsBy, TellsCall, IsFresh}
+use Rattle.mv_core.specs.Books.{Booked, IsKept, IsSame, work_in, kept_rounds, Made, HasRoom, HasRounds, IsSettled, IsOwnBy, round_event, commit_event}
+use Rattle.mv_core.proofs.Numbers.{turns_numbered, turns_closed, last_numbered, Within, table_stays, rounds_stay, rounds_begin, closes, settled, settles, rounds_end}
+use Rattle.mv_core.specs.Lives.{live_numbers, without}
+use Rattle.mv_core.proofs.Lives.{live_kept, live_gone, live_begun, live_below}
+use Rattle.mv_core.proofs.Journals.{get_last, get_set, set_there, facts_of, Facts, CallFacts, live_at, changed_at, done_in, done_within, done_below, reach_more, allowed_more, live_apart, found_last, found_stays}
+
+abbrev pub the_course : List ℕ → ℕ → List Live → Course
+the_course order low ls = record { order = order; calls = ls; low = low }
+
+pub facts : (s : Script) (course : Course) (ps : List Progress) (journal : List Event) → IsKept s course ps journal → Facts (work_of s) (length journal) course
+facts s course ps journal k = subst (Facts (work_of s) (length journal)) (sym k.reaches) (facts_of (work_of s) journal k.allowed)
+
+-- A call
+
+live_here : (ps : List Progress) (c : ℕ) (p : Progress) → slice_get ps c ≡ Some p → slice_get (map live_of ps) c ≡ Some (live_of p)
+live_here ps c p at = slice_get-map live_of ps c ∙ ap (option_map live_of) at
+
+-- what is told of a call stays when another one commits
+grows_by : (w : Work) (order : List ℕ) (d c : ℕ) (kept : List Round) (o : Option Reply) → Within (length order) (turns_in kept) → TellsBy w order c kept o → TellsBy w (order ++ d ∷ []) c kept o
+grows_by w order d c kept None h are = subst (AreRounds kept) (sym (rounds_stay w order d c (turns_in kept) h)) are
+grows_by w order d c kept (Some reply) h t = (t.0 ∙ sym (rounds_stay w order d c (turns_in kept) h), reply_grows t.1) where
+  reply_grows : IsReply w order c reply → IsReply w (order ++ d ∷ []) c reply
+  reply_grows r =
+      let n = length-append order (d ∷ []) in
+      let lt = r.2 in
+      (r.0, found_stays order c d r.0 r.1, omega (arith, n, lt), r.3 ∙ ap (λ db. (w.run c db).reply) (sym (table_stays w order d r.0 (omega (arith, lt)))))
+
+-- Events
+
+pub kept_event : (s : Script) (course new : Course) (ps qs : List Progress) (journal longer : List Event) (e : Event)
+    → IsKept s course ps journal → refusal (work_of s) course e ≡ None → new ≡ after (work_of s) course e → longer ≡ journal ++ e ∷ []
+    → ((c : ℕ) (p : Progress) → slice_get qs c ≡ Some p → TellsCall (work_of s) new.order c p)
+    → IsKept s new qs longer
+kept_event s course new ps qs journal longer e k free is adds tells = record {
+  few = k.few;
+  allowed = subst (λ (es : List Event). AllAllowed (work_of s) beginning es) (sym adds) (allowed_more (work_of s) beginning journal e k.allowed (subst (λ (x : Course). refusal (work_of s) x e ≡ None) k.reaches free));
+  reaches = is ∙ (ap (λ x. after (work_of s) x e) k.reaches ∙ (sym (reach_more (work_of s) beginning journal e) ∙ ap (reach (work_of s) beginning) (sym adds)));
+  tells = tells;
+}
+
+pub set_map : (ps : List Progress) (c : ℕ) (q : Progress) → map live_of (slice_set ps c q) ≡ slice_set (map live_of ps) c (live_of q)
+set_map [] c q = refl
+set_map (x ∷ ps) zero q = refl
+set_map (x ∷ ps) (suc c) q = ap (λ ls. live_of x ∷ ls) (set_map ps c q)
+
+-- a call that is changed
+pub map_changed : (f : Live → Live) (ps : List Progress) (c : ℕ) (p q : Progress) → slice_get ps c ≡ Some p → live_of q ≡ f (live_of p)
+    → map live_of (slice_set ps c q) ≡ change_live (slice_get (map live_of ps) c) f (map live_of ps) c
+map_changed f ps c p q at is =
+    set_map ps c q ∙ (ap (slice_set (map live_of ps) c) is ∙ sym (changed_at (map live_of ps) c f (live_of p) (live_here ps c p at)))
+
+-- an event that changes one call and is no commit
+pub kept_one : (s : Script) (order : List ℕ) (low c : ℕ) (ps : List Progress) (journal longer : List Event) (e : Event) (f : Live → Live) (p q : Progress)
+    → IsKept s (the_course order low (map live_of ps)) ps journal → refusal (work_of s) (the_course order low (map live_of ps)) e ≡ None
+    → after (work_of s) (the_course order low (map live_of ps)) e ≡ with_call (the_course order low (map live_of ps)) c f
+    → longer ≡ journal ++ e ∷ [] → slice_get ps c ≡ Some p → live_of q ≡ f (live_of p) → TellsCall (work_of s) order c q
+    → IsKept s (the_course order low (map live_of (slice_set ps c q))) (slice_set ps c q) longer
+kept_one s order low c ps journal longer e f p q k free is adds at new tells =
+    kept_event s _ _ ps (slice_set ps c q) journal longer e k free (ap (the_course order low) (map_changed f ps c p q at new) ∙ sym is) adds
+    (λ d x there. by d x (get_set ps c d q x there)) where
+      by : (d : ℕ) (x : Progress) → ((d ≡ c) × (q ≡ x)) ⊎ ((d ≡ c → ⊥) × (slice_get ps d ≡ Some x)) → TellsCall (work_of s) order d x
+      by d x (inl h) = subst (λ n. TellsCall (work_of s) order n x) (sym h.0) (subst (TellsCall (work_of s) order c) h.1 tells)
+      by d x (inr h) = k.tells d x h.1
+
+-- the next call begins
+pub kept_begun : (s : Script) (order : List ℕ) (low n : ℕ) (ps : List Progress) (journal longer : List Event) (q : Progress)
+    → IsKept s (the_course order low (map live_of ps)) ps journal → length ps < length s.calls → n ≡ length ps → IsFresh (length order) q → longer ≡ journal ++ B n ∷ []
+    → (refusal (work_of s) (the_course order low (map live_of ps)) (B n) ≡ None) × IsKept s (the_course order low (map live_of (ps ++ q ∷ []))) (ps ++ q ∷ []) longer
+kept_begun s order low n ps journal longer q k lt is fresh adds = (free, kept_event s _ _ ps (ps ++ q ∷ []) journal longer (B n) k free (ap (the_course order low) calls) adds (λ d x at. by d x (get_last ps q d x at))) where
+  long : length (map live_of ps) ≡ length ps
+  long = length-map ps live_of
+
+  below : n < length s.calls
+  below = omega (arith, is, lt)
+
+  free : refusal (work_of s) (the_course order low (map live_of ps)) (B n) ≡ None
+  free = search (rules, eq-eqb n (length (map live_of ps)) (is ∙ sym long), below)
+
+  calls : map live_of (ps ++ q ∷ []) ≡ map live_of ps ++ begin (length order) ∷ []
+  calls = map-append live_of ps (q ∷ []) ∙ ap (λ l. map live_of ps ++ l ∷ []) fresh.live
+
+  tells : (d : ℕ) → TellsCall (work_of s) order d q
+  tells d = subst (λ (rs : List Round). TellsBy (work_of s) order d rs q.reply) (sym fresh.rounds) (subst (TellsBy (work_of s) order d (unknown (length order) Plain ∷ [])) (sym fresh.reply) (inr refl))
+
+  by : (d : ℕ) (x : Progress) → (slice_get ps d ≡ Some x) ⊎ ((d ≡ length ps) × (q ≡ x)) → TellsCall (work_of s) order d x
+  by d x (inl h) = k.tells d x h
+  by d x (inr h) = subst (TellsCall (work_of s) order d) h.1 (tells d)
+
+-- no event, and nothing that is told is changed
+pub kept_same : (s : Script) (order orders : List ℕ) (low c : ℕ) (ps : List Progress) (journal same : List Event) (p q : Progress)
+    → IsKept s (the_course order low (map live_of ps)) ps journal → orders ≡ order → same ≡ journal → slice_get ps c ≡ Some p → live_of q ≡ live_of p → TellsCall (work_of s) order c q
+    → IsKept s (the_course orders low (map live_of (slice_set ps c q))) (slice_set ps c q) same
+kept_same s order orders low c ps journal same p q k o j at new tells =
+    subst (λ (x : List ℕ). IsKept s (the_course x low (map live_of (slice_set ps c q))) (slice_set ps c q) same) (sym o)
+    (subst (λ (x : List Event). IsKept s (the_course order low (map live_of (slice_set ps c q))) (slice_set ps c q) x) (sym j) (record {
+      few = k.few;
+      allowed = k.allowed;
+      reaches = ap (the_course order low) (set_back ps c p q at new) ∙ k.reaches;
+      tells = λ d x there. by d x (get_set ps c d q x there);
+    })) where
+      set_back : (ps : List Progress) (c : ℕ) (p q : Progress) → slice_get ps c ≡ Some p → live_of q ≡ live_of p → map live_of (slice_set ps c q) ≡ map live_of ps
+      set_back [] c p q at new = refl
+      set_back (x ∷ ps) zero p q at new = let one : x ≡ p = search (rules, at) in ap (λ l. l ∷ map live_of ps) (new ∙ ap live_of (sym one))
+      set_back (x ∷ ps) (suc c) p q at new = ap (λ ls. live_of x ∷ ls) (set_back ps c p q at new)
+
+      by : (d : ℕ) (x : Progress) → ((d ≡ c) × (q ≡ x)) ⊎ ((d ≡ c → ⊥) × (slice_get ps d ≡ Some x)) → TellsCall (work_of s) order d x
+      by d x (inl h) = subst (λ n. TellsCall (work_of s) order n x) (sym h.0) (subst (TellsCall (work_of s) order c) h.1 tells)
+      by d x (inr h) = k.tells d x h.1
+
+-- a call commits
+pub kept_commit : (s : Script) (order orders : List ℕ) (low c : ℕ) (ps : List Progress) (journal longer : List Event) (e : Event) (f : Live → Live) (p q : Progress) (reply : Reply)
+    → IsKept s (the_course order low (map live_of ps)) ps journal → refusal (work_of s) (the_course order low (map live_of ps)) e ≡ None
+    → after (work_of s) (the_course order low (map live_of ps)) e ≡ with_call (the_course (order ++ c ∷ []) low (map live_of ps)) c f
+    → orders ≡ order ++ c ∷ [] → longer ≡ journal ++ e ∷ [] → slice_get ps c ≡ Some p → p.reply ≡ None → live_of q ≡ f (live_of p)
+    → q.reply ≡ Some reply → q.rounds.items ≡ rounds_of (work_of s) (order ++ c ∷ []) c (turns_in q.rounds.items)
+    → reply ≡ ((work_of s).run c (table_at (work_of s) order (length order))).reply
+    → IsKept s (the_course orders low (map live_of (slice_set ps c q))) (slice_set ps c q) longer
+kept_commit s order orders low c ps journal longer e f p q reply k free is more adds at live new answered rounds told =
+    subst (λ (x : List ℕ). IsKept s (the_course x low (map live_of (slice_set ps c q))) (slice_set ps c q) longer) (sym more)
+    (kept_event s _ _ ps (slice_set ps c q) journal longer e k free (ap (the_course (order ++ c ∷ []) low) (map_changed f ps c p q at new) ∙ sym is) adds
+    (λ d x there. by d x (get_set ps c d q x there))) where
+      known : Facts (work_of s) (length journal) (the_course order low (map live_of ps))
+      known = facts s _ ps journal k
+
+      going : IsLive (the_course order low (map live_of ps)) c (live_of p)
+      going = record { at = live_here ps c p at; live = ap is_some live }
+
+      longer_order : length (order ++ c ∷ []) ≡ length order + 1
+      longer_order = length-append order (c ∷ [])
+
+      is_reply : IsReply (work_of s) (order ++ c ∷ []) c reply
+      is_reply = (
+        length order,
+        found_last order c (live_apart (work_of s) (length journal) (the_course order low (map live_of ps)) c (live_of p) known going),
+        omega (arith, longer_order),
+        told ∙ ap (λ db. ((work_of s).run c db).reply) (sym (table_stays (work_of s) order c (length order) (omega arith))),
+      )
+
+      tells : TellsCall (work_of s) (order ++ c ∷ []) c q
+      tells = subst (TellsBy (work_of s) (order ++ c ∷ []) c q.rounds.items) (sym answered) (rounds, is_reply)
+
+      by : (d : ℕ) (x : Progress) → ((d ≡ c) × (q ≡ x)) ⊎ ((d ≡ c → ⊥) × (slice_get ps d ≡ Some x)) → TellsCall (work_of s) (order ++ c ∷ []) d x
+      by d x (inl h) = subst (λ n. TellsCall (work_of s) (order ++ c ∷ []) n x) (sym h.0) (subst (TellsCall (work_of s) (order ++ c ∷ []) c) h.1 tells)
+      by d x (inr h) = grows_by (work_of s) order c d x.rounds.items x.reply (known.each d (live_of x) (live_here ps d x h.1)).within (k.tells d x h.1)
+
+-- Inside
+
+abbrev pub IsInside : Inside → Type 0
+IsInside i = IsKept i.script (the_course i.order.items i.low (map live_of i.calls.items)) i.calls.items i.journal.items
+
+pub few_inside : (i : Inside) → IsInside i → length i.order.items < 2 ^ 32
+few_inside i k =
+    let f : Facts (work_of i.script) (length i.journal.items) (the_course i.order.items i.low (map live_of i.calls.items)) = facts i.script _ i.calls.items i.journal.items k in
+    let le : done_in (map live_of i.calls.items) ≤ length (map live_of i.calls.items) = done_within _ in
+    omega (arith, le, k.few, f.count, f.done)
+
+-- a live call, as it is kept
+pub record Here (ps : List Progress) (c : ℕ) (l : Live) (p : Progress) : Type 0 where
+  pub at : slice_get ps c ≡ Some p
+  pub is : live_of p ≡ l
+  pub going : p.reply ≡ None
+
+none_of : {A : Type 0} (o : Option A) → is_some o ≡ false → o ≡ None
+none_of None h = refl
+none_of (Some x) h = absurd (search (rules, h))
+
+pub map_get : {A B : Type 0} (f : A → B) (xs : List A) (c : ℕ) (y : B) → slice_get (map f xs) c ≡ Some y → (x : A) × (slice_get xs c ≡ Some x) × (f x ≡ y)
+map_get f [] c y at = absurd (search (rules, at))
+map_get f (x ∷ xs) zero y at = (x, refl, search (rules, at))
+map_get f (x ∷ xs) (suc c) y at = map_get f xs c y at
+
+pub at_call : (i : Inside) (old : Booked) (c : ℕ) (l : Live) → the_view i ≡ old → IsLive old.course c l → (p : Progress) × Here i.calls.items c l p
+at_call i old c l is live =
+    let here : IsLive (the_view i).course c l = subst (λ (b : Booked). IsLive b.course c l) (sym is) live in
+    let h = map_get live_of i.calls.items c l here.at in
+    (h.0, record { at = h.1; is = h.2; going = none_of h.0.reply (ap (λ (x : Live). x.done) h.2 ∙ here.live) })
+
+pub here_at : (i : Inside) (old : Booked) (c : ℕ) (x : Progress) → the_view i ≡ old → IsLiveCall old.course c → x ≡ get_or i.calls.items c x → (l : Live) × IsLive old.course c l × Here i.calls.items c l x
+here_at i old c x is live read =
+    let h = at_call i old c live.0 is live.1 in
+    let lt : c < length i.calls.items = slice_get_within i.calls.items c h.0 h.1.at in
+    let at : slice_get i.calls.items c ≡ Some x = slice_get_read i.calls.items (length i.calls.items) c x refl lt read in
+    let both : Some h.0 ≡ Some x = sym h.1.at ∙ at in
+    let one : h.0 ≡ x = search (rules, both) in
+    (live.0, live.1, record { at = at; is = subst (λ (p : Progress). live_of p ≡ live.0) one h.1.is; going = subst (λ (p : Progress). p.reply ≡ None) one h.1.going })
+
+pub within : (i : Inside) (old : Booked) (c : ℕ) → the_view i ≡ old → IsLiveCall old.course c → c < length i.calls.items
+within i old c is live = let h = at_call i old c live.0 is live.1 in slice_get_within i.calls.items c h.0 h.1.at
+
+pub step_live : (old : Booked) (c : ℕ) → refusal (work_in old) old.course (S c) ≡ None → IsLiveCall old.course c
+step_live old c e = let a = live_at old.course c _ e in (a.0, a.1)
+
+pub round_live : (old : Booked) (m : Mark) (c : ℕ) → refusal (work_in old) old.course (round_event m c) ≡ None → IsLiveCall old.course c
+round_live old Plain c e = let a = live_at old.course c _ e in (a.0, a.1)
+round_live old Moved c e = let a = live_at old.course c _ e in (a.0, a.1)
+round_live old Exclusive c e = let a = live_at old.course c _ e in (a.0, a.1)
+
+pub commit_live : (old : Booked) (own : Option ℕ) (c : ℕ) → refusal (work_in old) old.course (commit_event own c) ≡ None → IsLiveCall old.course c
+commit_live old None c e = let a = live_at old.course c _ e in (a.0, a.1)
+commit_live old (Some k) c e = let a = live_at old.course c _ e in (a.0, a.1)
+
+-- a commit more finds a number
+pub number_fits : (i : Inside) (old : Booked) (c : ℕ) → the_view i ≡ old → IsInside i → IsLiveCall old.course c → length i.order.items + 1 < 2 ^ 32
+number_fits i old c is k live =
+    let h = at_call i old c live.0 is live.1 in
+    let f : Facts (work_of i.script) (length i.journal.items) (the_course i.order.items i.low (map live_of i.calls.items)) = facts i.script _ i.calls.items i.journal.items k in
+    let lt : done_in (map live_of i.calls.items) < length (map live_of i.calls.items) = done_below _ c (live_of h.0) (live_here i.calls.items c h.0 h.1.at) (ap is_some h.1.going) in
+    omega (arith, lt, k.few, f.count, f.done)
+
+pub steps_fit : (i : Inside) (c : ℕ) (p : Progress) → IsInside i → slice_get i.calls.items c ≡ Some p → p.steps ≤ length i.journal.items
+steps_fit i c p k at = let f = facts i.script _ i.calls.items i.journal.items k in (f.each c (live_of p) (live_here i.calls.items c p at)).steps
+
+pub start_past : (i : Inside) (c : ℕ) (p : Progress) → IsInside i → slice_get i.calls.items c ≡ Some p → p.start ≤ length i.order.items
+start_past i c p k at = let f = facts i.script _ i.calls.items i.journal.items k in (f.each c (live_of p) (live_here i.calls.items c p at)).start
+
+-- Contracts of events
+
+pub made_on : (e : Event) (view old new : Booked) → view ≡ old → refusal (work_in old) old.course e ≡ None → new.course ≡ after (work_in view) view.course e
+    → new.journal ≡ view.journal ++ e ∷ [] → new.script ≡ view.script → Made e old new
+made_on e view old new is free course journal script = record {
+  allowed = free;
+  course = course ∙ ap (λ (b : Booked). after (work_in b) b.course e) is;
+  journal = journal ∙ ap (λ (b : Booked). b.journal ++ e ∷ []) is;
+  script = script ∙ ap (λ (b : Booked). b.script) is;
+}
+
+pub free_on : (e : Event) (view old : Booked) → view ≡ old → refusal (work_in old) old.course e ≡ None → refusal (work_in view) view.course e ≡ None
+free_on e view old is free = subst (λ (b : Booked). refusal (work_in b) b.course e ≡ None) (sym is) free
+
+-- Room
+
+abbrev pub room_for : List Progress → List (Filled Round)
+room_for ps = map (λ (p : Progress). p.rounds) ps
+
+rooms_left : (ps : List Progress) (c x n m : ℕ) (p q : Progress) → slice_get ps c ≡ Some p → n + p.rounds.room ≤ m + q.rounds.room
+    → ((f : Filled Round) → slice_get (room_for ps) x ≡ Some f → m ≤ f.room) → n ≤ m
+    → (f : Filled Round) → slice_get (room_for (slice_set ps c q)) x ≡ Some f → n ≤ f.room
+rooms_left ps c x n m p q at le has less f there = by (get_set ps c x q h.0 h.1) where
+  h : (y : Progress) × (slice_get (slice_set ps c q) x ≡ Some y) × (y.rounds ≡ f)
+  h = map_get (λ (y : Progress). y.rounds) (slice_set ps c q) x f there
+
+  had : (y : Progress) → slice_get ps x ≡ Some y → m ≤ y.rounds.room
+  had y is = has y.rounds (slice_get-map (λ (z : Progress). z.rounds) ps x ∙ ap (option_map (λ (z : Progress). z.rounds)) is)
+
+  room_is : h.0.rounds.room ≡ f.room
+  room_is = ap (λ (g : Filled Round). g.room) h.2
+
+  by : ((x ≡ c) × (q ≡ h.0)) ⊎ ((x ≡ c → ⊥) × (slice_get ps x ≡ Some h.0)) → n ≤ f.room
+  by (inl e) =
+      let a : m ≤ p.rounds.room = had p (ap (slice_get ps) e.0 ∙ at) in
+      let b : q.rounds.room ≡ h.0.rounds.room = ap (λ (y : Progress). y.rounds.room) e.1 in
+      let r = room_is in
+      omega (arith, a, b, r, le)
+  by (inr e) = let a : m ≤ h.0.rounds.room = had h.0 e.1 in let r = room_is in omega (arith, a, r, less)
+
+pub room_left : (view old : Booked) (room : ℕ) (ps : List Progress) (c x n m : ℕ) (p q : Progress) → view ≡ old → view.rounds ≡ room_for ps → slice_get ps c ≡ Some p
+    → n ≤ m → n + view.room ≤ m + room → n + p.rounds.room ≤ m + q.rounds.room → HasRoom old x m
+    → (n ≤ room) × ((f : Filled Round) → slice_get (room_for (slice_set ps c q)) x ≡ Some f → n ≤ f.room)
+room_left view old room ps c x n m p q is rounds at less all one has =
+    let here : HasRoom view x m = subst (λ (b : Booked). HasRoom b x m) (sym is) has in
+    let a : m ≤ view.room = here.0 in
+    (omega (arith, a, all), λ f there. rooms_left ps c x n m p q at one (λ g is'. here.1 g (ap (λ fs. slice_get fs x) rounds ∙ is')) less f there)
+
+-- every call has begun
+pub all_begun : (i : Inside) (old : Booked) → the_view i ≡ old → IsInside i → length i.script.calls ≤ length i.calls.items → (length old.course.calls ≡ length old.script.calls) × IsSame old old
+all_begun i old is k le =
+    let f : Facts (work_of i.script) (length i.journal.items) (the_course i.order.items i.low (map live_of i.calls.items)) = facts i.script _ i.calls.items i.journal.items k in
+    let long : length (map live_of i.calls.items) ≡ length i.calls.items = length-map i.calls.items live_of in
+    let here : length (the_view i).course.calls ≡ length (the_view i).script.calls = omega (arith, f.count, long, le) in
+    (subst (λ (b : Booked). length b.course.calls ≡ length b.script.calls) is here, record { script = refl; course = refl; rounds = refl; journal = refl })
+
+-- A repair or a move
+
+pub live_made : (a b : Live) → a.start ≡ b.start → a.turns ≡ b.turns → a.steps ≡ b.steps → a.done ≡ b.done → a ≡ b
+live_made a b start turns steps done =
+    ap (λ n. record { start = n; turns = a.turns; steps = a.steps; done = a.done }) start
+    ∙ (ap (λ ts. record { start = b.start; turns = ts; steps = a.steps; done = a.done }) turns
+    ∙ (ap (λ n. record { start = b.start; turns = b.turns; steps = n; done = a.done }) steps
+    ∙ ap (λ d. record { start = b.start; turns = b.turns; steps = b.steps; done = d }) done))
+
+pub restart_after : (w : Work) (s : Course) (m : Mark) (c : ℕ) → m ≢ Exclusive → after w s (round_event m c) ≡ with_call s c (again (length s.order) m)
+restart_after w s Plain c ne = refl
+restart_after w s Moved c ne = refl
+restart_after w s Exclusive c ne = absurd (ne refl)
+
+some_settled : (kept all : List Round) → AreRounds kept all → IsSome (last_number kept) → kept ≡ all
+some_settled kept all are has = by (last_number kept) refl has where
+  by : (o : Option ℕ) → last_number kept ≡ o → IsSome o → kept ≡ all
+  by None is h = absurd (search (rules, h))
+  by (Some k) is h = settled kept all k are is
+
+pub restarted : (n : ℕ) (m : Mark) (p q : Progress) → q.start ≡ n → q.steps ≡ p.steps → q.rounds.items ≡ closed m p.rounds.items ++ unknown n m ∷ [] → q.reply ≡ p.reply → live_of q ≡ again n m (live_of p)
+restarted n m p q start steps rounds reply = live_made (live_of q) (again n m (live_of p)) start turns steps (ap is_some reply) where
+  turns : turns_in q.rounds.items ≡ turns_in p.rounds.items ++ record { start = n; mark = m } ∷ []
+  turns = ap turns_in rounds ∙ (map-append turn_of (closed m p.rounds.items) (unknown n m ∷ []) ∙ ap (λ ts. ts ++ record { start = n; mark = m } ∷ []) (turns_closed m p.rounds.items))
+
+pub kept_restart : (s : Script) (order : List ℕ) (low c : ℕ) (ps : List Progress) (journal longer : List Event) (m : Mark) (p q : Progress)
+    → IsKept s (the_course order low (map live_of ps)) ps journal → m ≢ Exclusive → refusal (work_of s) (the_course order low (map live_of ps)) (round_event m c) ≡ None
+    → (m ≡ Plain → IsSome (last_number p.rounds.items)) → slice_get ps c ≡ Some p → p.reply ≡ None
+    → q.start ≡ length order → q.steps ≡ p.steps → q.rounds.items ≡ closed m p.rounds.items ++ unknown (length order) m ∷ [] → q.reply ≡ p.reply
+    → longer ≡ journal ++ round_event m c ∷ []
+    → IsKept s (the_course order low (map live_of (slice_set ps c q))) (slice_set ps c q) longer
+kept_restart s order low c ps journal longer m p q k ne free has at silent start steps rounds reply adds =
+    kept_one s order low c ps journal longer (round_event m c) (again (length order) m) p q k free (restart_after (work_of s) (the_course order low (map live_of ps)) m c ne) adds at new
+    (subst (TellsBy (work_of s) order c q.rounds.items) (sym (reply ∙ silent)) (inr known)) where
+      new : live_of q ≡ again (length order) m (live_of p)
+      new = restarted (length order) m p q start steps rounds reply
+
+      own : CallFacts (length order) (length journal) (live_of p)
+      own = (facts s _ ps journal k).each c (live_of p) (live_here ps c p at)
+
+      all : List Round
+      all = rounds_of (work_of s) order c (turns_in p.rounds.items)
+
+      are : AreRounds p.rounds.items all
+      are = subst (TellsBy (work_of s) order c p.rounds.items) silent (k.tells c p at)
+
+      enough : (n : Mark) → m ≡ n → (m ≡ Moved) ⊎ (p.rounds.items ≡ all)
+      enough Plain is = inr (some_settled p.rounds.items all are (has is))
+      enough Moved is = inl is
+      enough Exclusive is = absurd (ne is)
+
+      known : q.rounds.items ≡ numbered None (rounds_of (work_of s) order c (turns_in q.rounds.items))
+      known =
+          rounds ∙ (ap (λ rs. rs ++ unknown (length order) m ∷ []) (closes m p.rounds.items all are (enough m refl))
+          ∙ (ap (λ ts. closed m (rounds_of (work_of s) order c ts) ++ unknown (length order) m ∷ []) own.turns
+          ∙ (sym (rounds_begin (work_of s) order c (length order) m own.first own.rest)
+          ∙ ap (λ ts. numbered None (rounds_of (work_of s) order c ts)) (ap (λ ts. ts ++ record { start = length order; mark = m } ∷ []) (sym own.turns) ∙ sym (ap (λ (l : Live). l.turns) new)))))
+
+-- A number
+
+due_here : (w : Work) (order : List ℕ) (low c : ℕ) (ps : List Progress) (p : Progress) → slice_get ps c ≡ Some p
+    → due_number w (the_course order low (map live_of ps)) c ≡ last_number (rounds_of w order c (turns_in p.rounds.items))
+due_here w order low c ps p at = ap (λ o. last_number (rounds_of w order c (turns_of o))) (live_here ps c p at)
+
+pub settled_live : (n : Option ℕ) (p q : Progress) → q.start ≡ p.start → q.steps ≡ p.steps → q.rounds.items ≡ numbered n p.rounds.items → q.reply ≡ p.reply → live_of q ≡ live_of p
+settled_live n p q start steps rounds reply = live_made (live_of q) (live_of p) start (ap turns_in rounds ∙ turns_numbered n p.rounds.items) steps (ap is_some reply)
+
+pub kept_settled : (s : Script) (order : List ℕ) (low c : ℕ) (ps : List Progress) (journal : List Event) (n : ℕ) (p q : Progress)
+    → IsKept s (the_course order low (map live_of ps)) ps journal → slice_get ps c ≡ Some p → p.reply ≡ None
+    → due_number (work_of s) (the_course order low (map live_of ps)) c ≡ Some n
+    → q.start ≡ p.start → q.steps ≡ p.steps → q.rounds.items ≡ numbered (Some n) p.rounds.items → q.reply ≡ p.reply
+    → IsKept s (the_course order low (map live_of (slice_set ps c q))) (slice_set ps c q) journal
+kept_settled s order low c ps journal n p q k at silent due start steps rounds reply =
+    kept_same s order order low c ps journal journal p q k refl refl at (settled_live (Some n) p q start steps rounds reply)
+    (subst (TellsBy (work_of s) order c q.rounds.items) (sym (reply ∙ silent)) (inl known)) where
+      are : AreRounds p.rounds.items (rounds_of (work_of s) order c (turns_in p.rounds.items))
+      are = subst (TellsBy (work_of s) order c p.rounds.items) silent (k.tells c p at)
+
+      known : q.rounds.items ≡ rounds_of (work_of s) order c (turns_in q.rounds.items)
+      known =
+          rounds ∙ (settles p.rounds.items (rounds_of (work_of s) order c (turns_in p.rounds.items)) (Some n) are (sym (due_here (work_of s) order low c ps p at) ∙ due)
+          ∙ ap (rounds_of (work_of s) order c) (sym (ap turns_in rounds ∙ turns_numbered (Some n) p.rounds.items)))
+
+-- the number is known afterwards
+pub number_known : (s : Script) (order : List ℕ) (low c : ℕ) (ps : List Progress) (journal : List Event) (n : ℕ) (p q : Progress)
+    → IsKept s (the_course order low (map live_of ps)) ps journal → slice_get ps c ≡ Some p → q.rounds.items ≡ numbered (Some n) p.rounds.items
+    → (rs : List Round) → option_map kept_rounds (slice_get (room_for (slice_set ps c q)) c) ≡ Some rs → IsSome (last_number rs)
+number_known s order low c ps journal n p q k at rounds rs is = subst IsSome (sym last) (search rules) where
+  own : CallFacts (length order) (length journal) (live_of p)
+  own = (facts s _ ps journal k).each c (live_of p) (live_here ps c p at)
+
+  there : slice_get (room_for (slice_set ps c q)) c ≡ Some q.rounds
+  there = slice_get-map (λ (y : Progress). y.rounds) (slice_set ps c q) c ∙ ap (option_map (λ (y : Progress). y.rounds)) (set_there ps c q p at)
+
+  same : Some q.rounds.items ≡ Some rs
+  same = ap (option_map kept_rounds) (sym there) ∙ is
+
+  numbered_some : (xs : List Round) (t : Turn) (ts : List Turn) → turns_in xs ≡ t ∷ ts → last_number (numbered (Some n) xs) ≡ Some n
+  numbered_some [] t ts e = absurd (search (rules, e))
+  numbered_some (x ∷ xs) t ts e = last_numbered (Some n) x xs
+
+  one : q.rounds.items ≡ rs
+  one = search (rules, same)
+
+  last : last_number rs ≡ Some n
+  last = ap last_number (sym one ∙ rounds) ∙ numbered_some p.rounds.items own.first own.rest own.turns
+
+-- A commit
+
+pub commit_after : (w : Work) (order : List ℕ) (low : ℕ) (ls : List Live) (own : Option ℕ) (c : ℕ)
+    → after w (the_course order low ls) (commit_event own c) ≡ with_call (the_course (order ++ c ∷ []) low ls) c (committed (length order) own)
+commit_after w order low ls None c = refl
+commit_after w order low ls (Some k) c = refl
+
+-- the rounds of a call that commits are Runs'
+pub rounds_committed : (s : Script) (order : List ℕ) (low c : ℕ) (ps : List Progress) (journal : List Event) (own : Option ℕ) (p : Progress)
+    → IsKept s (the_course order low (map live_of ps)) ps journal → slice_get ps c ≡ Some p → p.reply ≡ None → IsSome (last_number p.rounds.items)
+    → IsOwnBy own (work_of s) (the_course order low (map live_of ps)) c
+    → with_own (length order) own p.rounds.items ≡ rounds_of (work_of s) (order ++ c ∷ []) c (turns_in (with_own (length order) own p.rounds.items))
+rounds_committed s order low c ps journal own p k at silent has number = by own number where
+  known : CallFacts (length order) (length journal) (live_of p)
+  known = (facts s _ ps journal k).each c (live_of p) (live_here ps c p at)
+
+  longer : List ℕ
+  longer = order ++ c ∷ []
+
+  are : AreRounds p.rounds.items (rounds_of (work_of s) order c (turns_in p.rounds.items))
+  are = subst (TellsBy (work_of s) order c p.rounds.items) silent (k.tells c p at)
+
+  full : p.rounds.items ≡ rounds_of (work_of s) longer c (turns_in p.rounds.items)
+  full = some_settled p.rounds.items (rounds_of (work_of s) order c (turns_in p.rounds.items)) are has ∙ sym (rounds_stay (work_of s) order c c (turns_in p.rounds.items) known.within)
+
+  by : (own : Option ℕ) → IsOwnBy own (work_of s) (the_course order low (map live_of ps)) c
+      → with_own (length order) own p.rounds.items ≡ rounds_of (work_of s) longer c (turns_in (with_own (length order) own p.rounds.items))
+  by None number = full
+  by (Some n) number = left ∙ (sym more ∙ ap (rounds_of (work_of s) longer c) (ap (λ ts. ts ++ record { start = length order; mark = Exclusive } ∷ []) (sym known.turns) ∙ sym turns)) where
+    turns : turns_in (p.rounds.items ++ record { start = length order; count = Some n; mark = Exclusive } ∷ []) ≡ turns_in p.rounds.items ++ record { start = length order; mark = Exclusive } ∷ []
+    turns = map-append turn_of p.rounds.items (record { start = length order; count = Some n; mark = Exclusive } ∷ [])
+
+    f : Live → Live
+    f l = finish (again (length order) Exclusive l)
+
+    there : slice_get (change_live (slice_get (map live_of ps) c) f (map live_of ps) c) c ≡ Some (f (live_of p))
+    there = ap (λ ls. slice_get ls c) (changed_at (map live_of ps) c f (live_of p) (live_here ps c p at)) ∙ set_there (map live_of ps) c (f (live_of p)) (live_of p) (live_here ps c p at)
+
+    due : last_number (rounds_of (work_of s) longer c ((known.first ∷ known.rest) ++ record { start = length order; mark = Exclusive } ∷ [])) ≡ Some n
+    due = sym (ap (λ o. last_number (rounds_of (work_of s) longer c (turns_of o))) there ∙ ap (λ ts. last_number (rounds_of (work_of s) longer c (ts ++ record { start = length order; mark = Exclusive } ∷ []))) known.turns) ∙ number
+
+    more : rounds_of (work_of s) longer c ((known.first ∷ known.rest) ++ record { start = length order; mark = Exclusive } ∷ []) ≡ rounds_of (work_of s) longer c (known.first ∷ known.rest) ++ record { start = length order; count = Some n; mark = Exclusive } ∷ []
+    more = rounds_end (work_of s) longer c (length order) n known.first known.rest due
+
+    left : p.rounds.items ++ record { start = length order; count = Some n; mark = Exclusive } ∷ [] ≡ rounds_of (work_of s) longer c (known.first ∷ known.rest) ++ record { start = length order; count = Some n; mark = Exclusive } ∷ []
+    left = ap (λ rs. rs ++ record { start = length order; count = Some n; mark = Exclusive } ∷ []) (full ∙ ap (rounds_of (work_of s) longer c) known.turns)
+
+-- What is as before
+
+pub same_calls : (ps : List Progress) (c : ℕ) (p q : Progress) → slice_get ps c ≡ Some p → live_of q ≡ live_of p → map live_of (slice_set ps c q) ≡ map live_of ps
+same_calls [] c p q at new = refl
+same_calls (x ∷ ps) zero p q at new = let one : x ≡ p = search (rules, at) in ap (λ l. l ∷ map live_of ps) (new ∙ ap live_of (sym one))
+same_calls (x ∷ ps) (suc c) p q at new = ap (λ ls. live_of x ∷ ls) (same_calls ps c p q at new)
+
+pub same_rounds : (ps : List Progress) (c : ℕ) (p q : Progress) → slice_get ps c ≡ Some p → q.rounds.items ≡ p.rounds.items → map kept_rounds (room_for (slice_set ps c q)) ≡ map kept_rounds (room_for ps)
+same_rounds [] c p q at new = refl
+same_rounds (x ∷ ps) zero p q at new = let one : x ≡ p = search (rules, at) in ap (λ (rs : List Round). rs ∷ map kept_rounds (room_for ps)) (new ∙ ap (λ (y : Progress). y.rounds.items) (sym one))
+same_rounds (x ∷ ps) (suc c) p q at new = ap (λ (rs : List (List Round)). x.rounds.items ∷ rs) (same_rounds ps c p q at new)
+
+pub kept_same_told : (s : Script) (order orders : List ℕ) (low c : ℕ) (ps : List Progress) (journal same : List Event) (p q : Progress)
+    → IsKept s (the_course order low (map live_of ps)) ps journal → orders ≡ order → same ≡ journal → slice_get ps c ≡ Some p → live_of q ≡ live_of p → q.rounds.items ≡ p.rounds.items → q.reply ≡ p.reply
+    → IsKept s (the_course orders low (map live_of (slice_set ps c q))) (slice_set ps c q) same
+kept_same_told s order orders low c ps journal same p q k o j at new rounds reply =
+    kept_same s order orders low c ps journal same p q k o j at new
+    (subst (TellsBy (work_of s) order c q.rounds.items) (sym reply) (subst (λ (rs : List Round). TellsBy (work_of s) order c rs p.reply) (sym rounds) (k.tells c p at)))
+
+pub room_set : (ps : List Progress) (c n : ℕ) (p q : Progress) → slice_get ps c ≡ Some p → n ≤ q.rounds.room → (f : Filled Round) → slice_get (room_for (slice_set ps c q)) c ≡ Some f → n ≤ f.room
+room_set ps c n p q at enough f there =
+    let here : slice_get (room_for (slice_set ps c q)) c ≡ Some q.rounds = slice_get-map (λ (y : Progress). y.rounds) (slice_set ps c q) c ∙ ap (option_map (λ (y : Progress). y.rounds)) (set_there ps c q p at) in
+    let both : Some q.rounds ≡ Some f = sym here ∙ there in
+    let one : q.rounds ≡ f = search (rules, both) in
+    subst (λ (g : Filled Round). n ≤ g.room) one enough
+
+-- What is said of the view, inside
+
+in_room : (ps : List Progress) (c : ℕ) (p : Progress) → slice_get ps c ≡ Some p → slice_get (room_for ps) c ≡ Some p.rounds
+in_room ps c p at = slice_get-map (λ (y : Progress). y.rounds) ps c ∙ ap (option_map (λ (y : Progress). y.rounds)) at
+
+pub room_here : (i : Inside) (old : Booked) (c n : ℕ) (p : Progress) → the_view i ≡ old → slice_get i.calls.items c ≡ Some p → HasRoom old c n → n ≤ p.rounds.room
+room_here i old c n p is at has =
+    let here : HasRoom (the_view i) c n = subst (λ (b : Booked). HasRoom b c n) (sym is) has in
+    here.1 p.rounds (in_room i.calls.items c p at)
+
+pub settled_here : (i : Inside) (old : Booked) (c : ℕ) (p : Progress) → the_view i ≡ old → slice_get i.calls.items c ≡ Some p → IsSettled old c → IsSome (last_number p.rounds.items)
+settled_here i old c p is at has =
+    let here : IsSettled (the_view i) c = subst (λ (b : Booked). IsSettled b c) (sym is) has in
+    here p.rounds.items (ap (option_map kept_rounds) (in_room i.calls.items c p at))
+
+pub rounds_told : (i : Inside) (old : Booked) (c : ℕ) (p : Progress) → the_view i ≡ old → IsInside i → slice_get i.calls.items c ≡ Some p → p.reply ≡ None → HasRounds old c p.rounds.items
+rounds_told i old c p is k at silent = subst (λ (b : Booked). HasRounds b c p.rounds.items) is (record {
+  live = live_of p;
+  is_live = record { at = live_here i.calls.items c p at; live = ap is_some silent };
+  turns = refl;
+  rounds = subst (TellsBy (work_of i.script) i.order.items c p.rounds.items) silent (k.tells c p at);
+})
+
+pub room_same : (view old : Booked) (room x n m : ℕ) → view ≡ old → n ≤ m → n + view.room ≤ m + room → HasRoom old x m
+    → (n ≤ room) × ((f : Filled Round) → slice_get view.rounds x ≡ Some f → n ≤ f.room)
+room_same view old room x n m is less all has =
+    let here : HasRoom view x m = subst (λ (b : Booked). HasRoom b x m) (sym is) has in
+    let a : m ≤ view.room = here.0 in
+    (omega (arith, a, all), λ f there. let b : m ≤ f.room = here.1 f there in omega (arith, b, less))
+
+-- Which calls are live
+
+pub live_stays : (ps : List Progress) (c : ℕ) (p q : Progress) → slice_get ps c ≡ Some p → q.reply ≡ p.reply → live_numbers (map live_of (slice_set ps c q)) ≡ live_numbers (map live_of ps)
+live_stays ps c p q at same = ap live_numbers (set_map ps c q) ∙ live_kept 0 c (live_of p) (live_of q) (map live_of ps) (live_here ps c p at) (ap is_some same)
+
+pub live_leaves : (ps : List Progress) (c : ℕ) (p q : Progress) (reply : Reply) → slice_get ps c ≡ Some p → p.reply ≡ None → q.reply ≡ Some reply
+    → live_numbers (map live_of (slice_set ps c q)) ≡ without c (live_numbers (map live_of ps))
+live_leaves ps c p q reply at silent answered = ap live_numbers (set_map ps c q) ∙ live_gone c (live_of p) (live_of q) (map live_of ps) (live_here ps c p at) (ap is_some silent) (ap is_some answered)
+
+pub live_comes : (ps : List Progress) (n : ℕ) (q : Progress) → IsFresh n q → live_numbers (map live_of (ps ++ q ∷ [])) ≡ live_numbers (map live_of ps) ++ length ps ∷ []
+live_comes ps n q fresh =
+    ap live_numbers (map-append live_of ps (q ∷ []) ∙ ap (λ l. map live_of ps ++ l ∷ []) fresh.live)
+    ∙ live_begun n (length ps) (map live_of ps) (sym (length-map ps live_of))
+
+pub live_within : (ps : List Progress) → All (λ d. d < length ps) (live_numbers (map live_of ps))
+live_within ps = subst (λ n. All (λ d. d < n) (live_numbers (map live_of ps))) (length-map ps live_of) (live_below (map live_of ps))

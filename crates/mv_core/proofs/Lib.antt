@@ -1,0 +1,7 @@
+pub mod Numbers
+pub mod Journals
+pub mod Lives
+pub mod Keeping
+pub mod Lows
+pub mod Ending
+pub mod Driving

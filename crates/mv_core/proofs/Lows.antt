@@ -1,0 +1,35 @@
+-- Low.
+use Rattle.std.proofs.Common.{◌≡◌, ℕ, List, [], ◌∷◌, ◌++◌, map, length, max, refl, sym, ap, ◌∙◌}
+use Rattle.mv_journal.specs.declared.event.Event.{Event}
+use Rattle.mv_journal.specs.declared.event.Event.TheVariants.{G}
+use Rattle.mv_lawful.specs.Lawful.{next_low, floor}
+use Rattle.mv_lawful.specs.Lawful.{oldest as oldest_of}
+use Rattle.mv_core.specs.declared.script.Script.{Script}
+use Rattle.mv_core.specs.declared.progress.Progress.{Progress}
+use Rattle.mv_core.specs.Scripts.{work_of}
+use Rattle.mv_core.specs.Calls.{live_of}
+use Rattle.mv_core.specs.Lives.{live_numbers, least_start}
+use Rattle.mv_core.specs.Books.{Booked, IsKept, work_in}
+use Rattle.mv_core.specs.declared.book.Book.TheInside.{Inside}
+use Rattle.mv_core.specs.contracts.book.Book.{the_view}
+use Rattle.mv_core.proofs.Lives.{oldest_is}
+use Rattle.mv_core.proofs.Keeping.{the_course, kept_event}
+
+pub kept_low : (s : Script) (order : List ℕ) (low next : ℕ) (ps : List Progress) (journal longer : List Event)
+    → IsKept s (the_course order low (map live_of ps)) ps journal → next ≡ next_low (work_of s) (the_course order low (map live_of ps)) → longer ≡ journal ++ G ∷ []
+    → IsKept s (the_course order next (map live_of ps)) ps longer
+kept_low s order low next ps journal longer k is adds = kept_event s _ _ ps ps journal longer G k refl (ap (λ n. the_course order n (map live_of ps)) is) adds k.tells
+
+-- what a collection finds by the live calls alone
+pub low_told : (i : Inside) (old : Booked) (n o f m k : ℕ) → the_view i ≡ old → i.live ≡ live_numbers (map live_of i.calls.items) → n ≡ length old.course.order
+    → o ≡ least_start n (map live_of i.calls.items) i.live → f ≡ floor n i.script.options.horizon → m ≡ max o f → k ≡ max i.low m → k ≡ next_low (work_in old) old.course
+low_told i old n o f m k is live count oldest past most all =
+    all ∙ (ap (max i.low) (most ∙ (ap (λ x. max x f) (oldest ∙ here) ∙ ap (max (old_oldest n)) past))
+    ∙ (ap (λ x. max i.low (max (old_oldest x) (floor x i.script.options.horizon))) count
+    ∙ (ap (λ (b : Booked). max i.low (max (old_oldest (length b.course.order)) (floor (length b.course.order) i.script.options.horizon))) (sym is)
+    ∙ ap (λ (b : Booked). next_low (work_in b) b.course) is))) where
+      old_oldest : ℕ → ℕ
+      old_oldest x = oldest_of x (map live_of i.calls.items)
+
+      here : least_start n (map live_of i.calls.items) i.live ≡ old_oldest n
+      here = ap (least_start n (map live_of i.calls.items)) live ∙ sym (oldest_is n (map live_of i.calls.items))

@@ -1,0 +1,136 @@
+-- What a book says, and what its calls make of it. Which events are allowed is the law of journals. This project's own.
+use Rattle.std.specs.Prelude.{◌≡◌, ◌<◌, ◌≤◌, ◌+◌, ◌^◌, ℕ, List, [], ◌∷◌, ◌++◌, Option, Some, None, Result, Ok, Err, length, map, slice_get, IsSome}
+use Rattle.std.specs.Option.{ForSome, option_map}
+use Rattle.mv_values.specs.declared.memory.NoMemory.{NoMemory}
+use Rattle.mv_record.specs.Runs.{Tables, Run}
+use Rattle.mv_journal.specs.declared.event.Event.{Event}
+use Rattle.mv_journal.specs.declared.event.Event.TheVariants.{B, A, M, C, X}
+use Rattle.mv_journal.specs.declared.outcome.Mark.{Mark}
+use Rattle.mv_journal.specs.declared.outcome.Mark.TheVariants.{Plain, Exclusive, Moved}
+use Rattle.mv_journal.specs.declared.outcome.Round.{Round}
+use Rattle.mv_lawful.specs.Work.{Work, table_at}
+use Rattle.mv_lawful.specs.Lawful.{Live, Course, beginning, refusal, after, course_of, AllAllowed}
+use Rattle.mv_lawful.specs.Rounds.{rounds_of}
+use Rattle.mv_exec.specs.declared.task.Task.{Task}
+use Rattle.mv_core.specs.declared.script.Script.{Script}
+use Rattle.mv_core.specs.declared.progress.Progress.{Progress}
+use Rattle.mv_core.specs.declared.book.Begun.{Begun}
+use Rattle.mv_core.specs.Rooms.{Filled}
+use Rattle.mv_core.specs.Scripts.{work_of}
+use Rattle.mv_core.specs.Lives.{live_numbers}
+use Rattle.mv_core.specs.Calls.{IsLive, AreRounds, TellsCall, turns_in, last_number, due_number}
+
+-- A book
+
+-- what contracts see of a book: its script, what its events have come to, the rounds of each call that has begun, its
+-- events, and for how many more of them there is room
+pub record Booked : Type 0 where
+  pub script : Script
+  pub course : Course
+  pub rounds : List (Filled Round)
+  pub journal : List Event
+  pub room : ℕ
+
+-- its work, in the words of the law of journals
+abbrev pub work_in : Booked → Work
+work_in b = work_of b.script
+
+abbrev pub kept_rounds : Filled Round → List Round
+kept_rounds f = f.items
+
+-- the rounds of a call, as far as it has begun
+abbrev pub rounds_at : Booked → ℕ → Option (List Round)
+rounds_at b c = option_map kept_rounds (slice_get b.rounds c)
+
+-- the number of a call's last round is known
+abbrev pub IsSettled : Booked → ℕ → Type 0
+IsSettled b c = ForSome (rounds_at b c) (λ rs. IsSome (last_number rs))
+
+-- no event of the journal is refused, the course is what they come to, and each call has its rounds and its reply
+pub record IsKept (s : Script) (course : Course) (calls : List Progress) (journal : List Event) : Type 0 where
+  pub few : length s.calls < 2 ^ 32
+  pub allowed : AllAllowed (work_of s) beginning journal
+  pub reaches : course ≡ course_of (work_of s) journal
+  pub tells : (c : ℕ) (p : Progress) → slice_get calls c ≡ Some p → TellsCall (work_of s) course.order c p
+
+-- that, and the numbers of the live calls
+pub record IsBook (s : Script) (course : Course) (calls : List Progress) (journal : List Event) (numbers : List ℕ) : Type 0 where
+  pub kept : IsKept s course calls journal
+  pub live : numbers ≡ live_numbers course.calls
+
+-- the database after all commits
+abbrev pub last_tables : Booked → Tables
+last_tables b = table_at (work_in b) b.course.order (length b.course.order)
+
+-- a full run of a call on it
+abbrev pub last_run : Booked → ℕ → Run
+last_run b c = (work_in b).run c (last_tables b)
+
+-- Events
+
+-- the event was allowed, and was made
+pub record Made (e : Event) (old new : Booked) : Type 0 where
+  pub allowed : refusal (work_in old) old.course e ≡ None
+  pub course : new.course ≡ after (work_in old) old.course e
+  pub journal : new.journal ≡ old.journal ++ e ∷ []
+  pub script : new.script ≡ old.script
+
+-- no event was made, and all that is known is as before
+pub record IsSame (old new : Booked) : Type 0 where
+  pub script : new.script ≡ old.script
+  pub course : new.course ≡ old.course
+  pub rounds : map kept_rounds new.rounds ≡ map kept_rounds old.rounds
+  pub journal : new.journal ≡ old.journal
+
+-- the next call began, after all commits; or every call has begun
+abbrev pub HasBegun : Result (Option Begun) NoMemory → Booked → Booked → Type 0
+HasBegun (Ok (Some b)) old new = Made (B b.call) old new × (b.start ≡ length old.course.order)
+HasBegun (Ok None) old new = (length old.course.calls ≡ length old.script.calls) × IsSame old new
+HasBegun (Err e) old new = IsSame old new
+
+-- a repair or a move
+abbrev pub round_event : Mark → ℕ → Event
+round_event Plain c = A c
+round_event Moved c = M c
+round_event Exclusive c = X c
+
+-- the number of a commit's own round: what the task of a repair executed that commits in the same step
+abbrev pub own_number : Option Task → Option ℕ
+own_number None = None
+own_number (Some task) = Some task.executed
+
+-- a commit, with a round of its own or without
+abbrev pub commit_event : Option ℕ → ℕ → Event
+commit_event None c = C c
+commit_event (Some k) c = X c
+
+-- the number of a commit's own round is that of Runs
+abbrev pub IsOwnBy : Option ℕ → Work → Course → ℕ → Type 0
+IsOwnBy None w s c = Unit {0}
+IsOwnBy (Some k) w s c = due_number w (after w s (X c)) c ≡ Some k
+
+abbrev pub IsOwnNumber : Option ℕ → Booked → ℕ → Type 0
+IsOwnNumber own b c = IsOwnBy own (work_in b) b.course c
+
+-- Room
+
+-- there is room for so many events, and for so many rounds of a call
+abbrev pub HasRoom : Booked → ℕ → ℕ → Type 0
+HasRoom b c n = (n ≤ b.room) × ForSome (slice_get b.rounds c) (λ r. n ≤ r.room)
+
+-- an event used the room of one
+abbrev pub UsesOne : Booked → Booked → Type 0
+UsesOne old new = (c n : ℕ) → HasRoom old c (n + 1) → HasRoom new c n
+
+-- and none of it
+abbrev pub KeepsRoom : Booked → Booked → Type 0
+KeepsRoom old new = (c n : ℕ) → HasRoom old c n → HasRoom new c n
+
+-- What is told
+
+-- the rounds of a live call, with their numbers but for that of the last, which may not be known yet
+pub record HasRounds (b : Booked) (c : ℕ) (rs : List Round) : Type 0 where
+  pub live : Live
+  pub is_live : IsLive b.course c live
+  pub turns : turns_in rs ≡ live.turns
+  pub rounds : AreRounds rs (rounds_of (work_in b) b.course.order c live.turns)

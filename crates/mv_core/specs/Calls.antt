@@ -1,0 +1,112 @@
+-- What is kept of a call that has begun: its rounds with their numbers, and its reply. This project's own.
+use Rattle.std.specs.Prelude.{◌≡◌, ◌⊎◌, ◌<◌, ℕ, ◌==◌, false, List, [], ◌∷◌, ◌++◌, Option, Some, None, map, length, slice_get, option_to_list}
+use Rattle.std.specs.List.{position, flat_map}
+use Rattle.std.specs.Option.{is_some}
+use Rattle.mv_values.specs.declared.calls.Reply.{Reply}
+use Rattle.mv_journal.specs.declared.outcome.Mark.{Mark}
+use Rattle.mv_journal.specs.declared.outcome.Mark.TheVariants.{Plain, Exclusive, Moved}
+use Rattle.mv_journal.specs.declared.outcome.Round.{Round}
+use Rattle.mv_journal.specs.declared.outcome.HistoryLine.{HistoryLine}
+use Rattle.mv_lawful.specs.Work.{Work, table_at}
+use Rattle.mv_lawful.specs.Lawful.{Turn, Live, Course, begin, again, finish}
+use Rattle.mv_lawful.specs.Rounds.{rounds_of}
+use Rattle.mv_lawful.specs.Outcomes.{turns_of}
+use Rattle.mv_core.specs.declared.progress.Progress.{Progress}
+
+-- a round without its number
+abbrev pub turn_of : Round → Turn
+turn_of r = record { start = r.start; mark = r.mark }
+
+abbrev pub turns_in : List Round → List Turn
+turns_in rs = map turn_of rs
+
+-- what the law of journals sees of it
+abbrev pub live_of : Progress → Live
+live_of p = record { start = p.start; turns = turns_in p.rounds.items; steps = p.steps; done = is_some p.reply }
+
+-- the call is live
+pub record IsLive (s : Course) (c : ℕ) (l : Live) : Type 0 where
+  pub at : slice_get s.calls c ≡ Some l
+  pub live : l.done ≡ false
+
+abbrev pub IsLiveCall : Course → ℕ → Type 0
+IsLiveCall s c = (l : Live) × IsLive s c l
+
+-- Numbers
+
+-- rounds, the last of which has this number
+abbrev pub numbered : Option ℕ → List Round → List Round
+numbered n [] = []
+numbered n (r ∷ []) = record r { count = n } ∷ []
+numbered n (r ∷ s ∷ rs) = r ∷ numbered n (s ∷ rs)
+
+-- the number of the last round
+abbrev pub last_number : List Round → Option ℕ
+last_number [] = None
+last_number (r ∷ []) = r.count
+last_number (r ∷ s ∷ rs) = last_number (s ∷ rs)
+
+-- the number that Runs gives the last round of a call
+abbrev pub due_number : Work → Course → ℕ → Option ℕ
+due_number w s c = last_number (rounds_of w s.order c (turns_of (slice_get s.calls c)))
+
+-- what is kept of a live call's rounds: what Runs says, but the number of the last one may not be known yet
+abbrev pub AreRounds : List Round → List Round → Type 0
+AreRounds kept all = (kept ≡ all) ⊎ (kept ≡ numbered None all)
+
+-- rounds after which one of this mark comes: a move takes the number of the one before it
+abbrev pub closed : Mark → List Round → List Round
+closed Plain rs = rs
+closed Exclusive rs = rs
+closed Moved rs = numbered None rs
+
+-- a round that begins after n commits, without its number
+abbrev pub unknown : ℕ → Mark → Round
+unknown n mark = record { start = n; count = None; mark = mark }
+
+-- Replies
+
+-- the reply of a call of the order, alone after those before it
+abbrev pub IsReply : Work → List ℕ → ℕ → Reply → Type 0
+IsReply w order c reply = (k : ℕ) × (position (λ d. d == c) order ≡ Some k) × (k < length order) × (reply ≡ (w.run c (table_at w order k)).reply)
+
+-- Both
+
+abbrev pub TellsBy : Work → List ℕ → ℕ → List Round → Option Reply → Type 0
+TellsBy w order c kept None = AreRounds kept (rounds_of w order c (turns_in kept))
+TellsBy w order c kept (Some reply) = (kept ≡ rounds_of w order c (turns_in kept)) × IsReply w order c reply
+
+-- it has the rounds that Runs says, and the reply of a call that has committed
+abbrev pub TellsCall : Work → List ℕ → ℕ → Progress → Type 0
+TellsCall w order c p = TellsBy w order c p.rounds.items p.reply
+
+-- it began after so many commits, and has done nothing
+pub record IsFresh (n : ℕ) (p : Progress) : Type 0 where
+  pub live : live_of p ≡ begin n
+  pub rounds : p.rounds.items ≡ unknown n Plain ∷ []
+  pub reply : p.reply ≡ None
+
+-- A commit
+
+-- the call has committed, in a round of its own where that has a number
+abbrev pub committed : ℕ → Option ℕ → Live → Live
+committed n None l = finish l
+committed n (Some k) l = finish (again n Exclusive l)
+
+abbrev pub with_own : ℕ → Option ℕ → List Round → List Round
+with_own n None rs = rs
+with_own n (Some k) rs = rs ++ record { start = n; count = Some k; mark = Exclusive } ∷ []
+
+-- What a history is made of
+
+abbrev pub rounds_by : Option Progress → List Round
+rounds_by None = []
+rounds_by (Some p) = p.rounds.items
+
+-- the commit of a call, with the rounds that are kept of it
+abbrev pub line_of : List Progress → ℕ → HistoryLine
+line_of ps c = record { call = c; rounds = rounds_by (slice_get ps c) }
+
+-- the replies of those that have committed
+abbrev pub replies_in : List Progress → List Reply
+replies_in ps = flat_map (λ p. option_to_list p.reply) ps

@@ -1,0 +1,6 @@
+pub mod Rooms
+pub mod Scripts
+pub mod Lives
+pub mod Calls
+pub mod Books
+pub mod Drives

@@ -1,0 +1,30 @@
+-- The numbers of live calls. This project's own.
+use Rattle.std.specs.Prelude.{ℕ, ◌+◌, min, List, [], ◌∷◌, Option, Some, None, slice_get, if◌then◌else◌}
+use Rattle.std.specs.Set.{remove_key}
+use Rattle.std.specs.Ordering.{is_eq, nat_cmp}
+use Rattle.mv_lawful.specs.Lawful.{Live}
+
+-- those of the calls that are live, where the first call has this number
+abbrev pub live_from : ℕ → List Live → List ℕ
+live_from c [] = []
+live_from c (l ∷ ls) = if l.done then live_from (c + 1) ls else c ∷ live_from (c + 1) ls
+
+abbrev pub live_numbers : List Live → List ℕ
+live_numbers ls = live_from 0 ls
+
+-- without a number
+abbrev pub without : ℕ → List ℕ → List ℕ
+without c cs = remove_key (λ d. is_eq (nat_cmp c d)) cs
+
+abbrev pub start_by : Option Live → ℕ
+start_by None = 0
+start_by (Some l) = l.start
+
+-- the start of a call
+abbrev pub start_in : List Live → ℕ → ℕ
+start_in ls c = start_by (slice_get ls c)
+
+-- the least start of these calls, or n
+abbrev pub least_start : ℕ → List Live → List ℕ → ℕ
+least_start n ls [] = n
+least_start n ls (c ∷ cs) = min (start_in ls c) (least_start n ls cs)

@@ -1,0 +1,336 @@
+//! The history of a run: its events, and what they have come to.
+
+ghost use Rattle.std.specs.Prelude.{◌≡◌, ◌<◌, ◌≤◌, ◌+◌, ◌^◌, ◌≢◌, [], ℕ, None, Some, drop, length, IfOk, IfSome, IfNone, OnOk};
+ghost use Rattle.std.specs.Option.{option_copied};
+ghost use Rattle.mv_lawful.specs.Lawful.{Live, Lawful, beginning, course_of, open_call, refusal, floor, next_low, AllAllowed};
+ghost use Rattle.mv_lawful.specs.Outcomes.{outcome_of};
+ghost use Rattle.mv_core.specs.Calls.{IsLive, IsLiveCall, due_number};
+ghost use Rattle.mv_core.specs.Books.{work_in, IsSettled, last_run, last_tables, Made, IsSame, HasBegun, round_event, commit_event, own_number, IsOwnNumber, HasRoom, UsesOne, KeepsRoom, HasRounds};
+ghost use Rattle.mv_journal.specs.declared.event.Event.TheVariants.{S, G};
+ghost use Rattle.mv_journal.specs.declared.outcome.Mark.TheVariants.{Plain, Exclusive};
+
+use crate::live::LiveCalls;
+use crate::progress::{Progress, history_of, live_at, replies_of};
+use crate::roomy::Roomy;
+use crate::script::Script;
+use mv_exec::task::Task;
+use mv_journal::event::Event;
+use mv_journal::outcome::{Mark, Outcome, Round};
+use mv_values::calls::Reply;
+use mv_values::list::List;
+use mv_values::memory::NoMemory;
+use mv_values::rows::Database;
+use std::alloc::Global;
+use std::marker::Model;
+
+/// A call that began, and how many commits there were then.
+#[derive(Clone, Copy)]
+pub struct Begun {
+    pub call: u32,
+    pub start: u32,
+}
+
+/// The history of a run: what is run, the events, and what they have come to. It has no tables and no running calls.
+/// Each of its events is one that the law of journals allows.
+#[derive(Drop)]
+pub struct Book {
+    script: Script,
+    /// The calls that have committed, in order.
+    order: Roomy<u32>,
+    /// Those that have begun, by number.
+    calls: Vec<Progress>,
+    live: LiveCalls,
+    low: u32,
+    journal: Roomy<Event>,
+}
+
+impl Model for Book {
+    ghost use Rattle.std.specs.Prelude.{map, min};
+    ghost use Rattle.std.specs.Coded.{codes};
+    ghost use Rattle.mv_catalog.specs.contracts.resolved.RStmt as statement;
+    ghost use Rattle.mv_core.specs.Calls.{live_of};
+    ghost use Rattle.mv_core.specs.Books.{Booked, IsBook};
+
+    ghost Value = { Booked };
+
+    ghost coded = { Prim.hlevel (codes, statement.the_row.coded) };
+
+    ghost view = { λ b. record {
+      script = b.script;
+      course = record { order = b.order.items; calls = map live_of b.calls.items; low = b.low };
+      rounds = map (λ p. p.rounds) b.calls.items;
+      journal = b.journal.items;
+      room = min b.order.room b.journal.room;
+    } };
+
+    ghost invariant = { λ b. IsBook b.script (record { order = b.order.items; calls = map live_of b.calls.items; low = b.low }) b.calls.items b.journal.items b.live };
+}
+
+impl Book {
+    /// A history without events. It takes no memory.
+    pub fn new(alloc: Global, script: Script) -> Book
+        requires { length script.calls < 2 ^ 32 }
+        ensures script { result.script ≡ script }
+        ensures course { result.course ≡ beginning }
+        ensures journal { result.journal ≡ [] }
+    {
+        Book {
+            script,
+            order: Roomy::new(alloc),
+            calls: Vec::new(alloc),
+            live: LiveCalls::new(alloc),
+            low: 0,
+            journal: Roomy::new(alloc),
+        }
+    }
+
+    /// Lends what is run.
+    pub fn script(&self) -> &Script
+        ensures { result.now ≡ self.now.script }
+    {
+        &self.script
+    }
+
+    /// Lends the events. The law of journals allows each of them after those before it, and they have come to what the
+    /// history tells.
+    pub fn journal(&self) -> &[Event]
+        ensures events { result.now ≡ self.now.journal }
+        ensures allowed { AllAllowed (work_in self.now) beginning self.now.journal }
+        ensures reaches { self.now.course ≡ course_of (work_in self.now) self.now.journal }
+    {
+        self.journal.as_slice()
+    }
+
+    /// The call that begins next, none where each has begun.
+    pub fn next_call(&self) -> Option<u32>
+        ensures next { IfSome result (λ call. (call ≡ length self.now.course.calls) × (call < length self.now.script.calls)) }
+        ensures none { IfNone result (length self.now.course.calls ≡ length self.now.script.calls) }
+    {
+        let call = self.calls.len();
+        if call < self.script.calls.len() {
+            Some(call as u32)
+        } else {
+            None
+        }
+    }
+
+    /// The next call begins, after all commits. Returns `None` exactly where each call has begun.
+    pub fn begin(&mut self, alloc: Global) -> Result<Option<Begun>, NoMemory>
+        ensures { HasBegun result self.old self.new }
+    {
+        if self.calls.len() >= self.script.calls.len() {
+            return Ok(None);
+        }
+        let call = self.calls.len() as u32;
+        let start = self.order.len() as u32;
+        let progress = Progress::new(alloc, start)?;
+        self.journal.reserve(1)?;
+        self.calls.reserve(1)?;
+        self.live.push(call)?;
+        if self.calls.push(progress).is_err() {
+            unreachable!();
+        }
+        self.journal.put(Event::B(call));
+        Ok(Some(Begun { call, start }))
+    }
+
+    /// A call executes a statement.
+    pub fn ran(&mut self, call: u32)
+        requires allowed { refusal (work_in self.old) self.old.course (S call) ≡ None }
+        requires room { 0 < self.old.room }
+        ensures made { Made (S call) self.old self.new }
+        ensures room { UsesOne self.old self.new }
+    {
+        self.journal.put(Event::S(call));
+        self.calls[call as usize].steps += 1;
+    }
+
+    /// A call is repaired, by `Plain`, or moved, by `Moved`. It starts anew after all commits. Returns its new start. A
+    /// repair needs the number of the round before it. After a move that round has none.
+    pub fn restart(&mut self, call: u32, mark: Mark) -> u32
+        requires mark { mark ≢ Exclusive }
+        requires allowed { refusal (work_in self.old) self.old.course (round_event mark call) ≡ None }
+        requires settled { mark ≡ Plain → IsSettled self.old call }
+        requires room { HasRoom self.old call 1 }
+        ensures made { Made (round_event mark call) self.old self.new }
+        ensures start { result ≡ length self.old.course.order }
+        ensures room { UsesOne self.old self.new }
+    {
+        let start = self.order.len() as u32;
+        self.calls[call as usize].restart(start, mark);
+        self.journal.put(round_event(mark, call));
+        start
+    }
+
+    /// Gives a call's last round its number: how many records its task executed.
+    pub fn settle(&mut self, call: u32, task: &Task)
+        requires live { IsLiveCall self.old.course call }
+        requires number { due_number (work_in self.old) self.old.course call ≡ Some task.now.executed }
+        ensures settled { IsSettled self.new call }
+        ensures course { self.new.course ≡ self.old.course }
+        ensures journal { self.new.journal ≡ self.old.journal }
+        ensures script { self.new.script ≡ self.old.script }
+        ensures room { KeepsRoom self.old self.new }
+    {
+        self.calls[call as usize].settle(task.executed());
+    }
+
+    /// A call commits with this reply. Where a task is given, it was repaired in the same step, in a round of its own.
+    /// Returns the number of the commit.
+    pub fn commit(&mut self, call: u32, reply: Reply, exclusive: Option<&Task>) -> u32
+        requires allowed { refusal (work_in self.old) self.old.course (commit_event (own_number (option_copied exclusive)) call) ≡ None }
+        requires reply { reply ≡ (last_run self.old call).reply }
+        requires settled { IsSettled self.old call }
+        requires number { IsOwnNumber (own_number (option_copied exclusive)) self.old call }
+        requires room { HasRoom self.old call 1 }
+        ensures made { Made (commit_event (own_number (option_copied exclusive.entry)) call) self.old self.new }
+        ensures number { result ≡ length self.old.course.order + 1 }
+        ensures room { UsesOne self.old self.new }
+    {
+        let start = self.order.len() as u32;
+        let own = own_number(exclusive);
+        self.calls[call as usize].commit(start, reply, own);
+        self.live.remove(call);
+        self.order.put(call);
+        self.journal.put(commit_event(own, call));
+        start + 1
+    }
+
+    /// What low becomes by a collection.
+    fn next_low(&self) -> u32
+        ensures { result ≡ next_low (work_in self.now) self.now.course }
+    {
+        let n = self.commits();
+        let oldest = self.live.oldest_start(self.calls.as_slice(), n);
+        let floor = floor_of(n, self.script.options.horizon);
+        self.low.max(oldest.max(floor))
+    }
+
+    /// Old versions are collected. Returns the new low: the tables before that commit are no longer needed. It costs
+    /// the number of live calls.
+    pub fn collect(&mut self) -> u32
+        requires room { 0 < self.old.room }
+        ensures made { Made G self.old self.new }
+        ensures low { result ≡ self.new.course.low }
+        ensures room { UsesOne self.old self.new }
+    {
+        let low = self.next_low();
+        self.low = low;
+        self.journal.put(Event::G);
+        low
+    }
+
+    /// Makes room for two events and for two rounds of a call.
+    pub fn reserve(&mut self, call: u32) -> Result<(), NoMemory>
+        requires live { IsLiveCall self.old.course call }
+        ensures same { IsSame self.old self.new }
+        ensures room { OnOk result (HasRoom self.new call 2) }
+    {
+        self.order.reserve(2)?;
+        self.journal.reserve(2)?;
+        self.calls[call as usize].reserve()
+    }
+
+    /// Lends the rounds of a live call, none of one that hasn't begun or has committed. The last of them has the call's
+    /// start, and may not have its number yet.
+    pub fn rounds(&self, call: u32) -> Option<&[Round]>
+        ensures live { IfSome result (λ rounds. HasRounds self.now call rounds.now) }
+        ensures none { IfNone result (IsLiveCall self.now.course call → ⊥) }
+    {
+        let progress = live_at(self.calls.as_slice(), call)?;
+        Some(progress.rounds.as_slice())
+    }
+
+    /// How many statements of a live call the journal names.
+    pub fn steps(&self, call: u32) -> usize
+        requires { IsLiveCall self.now.course call }
+        ensures { (l : Live) → IsLive self.now.course call l → result ≡ l.steps }
+    {
+        self.calls[call as usize].steps
+    }
+
+    /// How many commits there were when the last round of a live call began.
+    pub fn start(&self, call: u32) -> u32
+        requires { IsLiveCall self.now.course call }
+        ensures value { (l : Live) → IsLive self.now.course call l → result ≡ l.start }
+        ensures past { result ≤ length self.now.course.order }
+    {
+        self.calls[call as usize].start
+    }
+
+    /// How many commits there are.
+    pub fn commits(&self) -> u32
+        ensures { result ≡ length self.now.course.order }
+    {
+        self.order.len() as u32
+    }
+
+    /// Lends the calls that have committed since the start of a live call, in order.
+    pub fn since(&self, call: u32) -> &[u32]
+        requires { IsLiveCall self.now.course call }
+        ensures { (l : Live) → IsLive self.now.course call l → result.now ≡ drop l.start self.now.course.order }
+    {
+        &self.order.as_slice()[self.start(call) as usize..]
+    }
+
+    /// What the run comes to: the replies by call, the commits with their rounds, the events, and these tables, which
+    /// are those after all commits. The history is given up. Its journal is lawful.
+    pub fn outcome(self, alloc: Global, tables: Database) -> Result<Outcome, NoMemory>
+        requires ended { open_call (work_in self) self.course ≡ None }
+        requires tables { tables ≡ last_tables self }
+        ensures outcome { IfOk result (λ outcome. outcome ≡ outcome_of (work_in self) self.journal) }
+        ensures lawful { Lawful (work_in self) self.journal }
+    {
+        let history = history_of(alloc, self.calls.as_slice(), self.order.as_slice())?;
+        let mut journal = List::new(alloc);
+        journal.append(self.journal.as_slice())?;
+        let replies = replies_of(alloc, self.calls)?;
+        Ok(Outcome {
+            replies,
+            history,
+            journal,
+            tables,
+        })
+    }
+}
+
+/// The event of a repair or a move.
+fn round_event(mark: Mark, call: u32) -> Event
+    ensures { result ≡ round_event mark call }
+{
+    match mark {
+        Mark::Plain => Event::A(call),
+        Mark::Moved => Event::M(call),
+        Mark::Exclusive => Event::X(call),
+    }
+}
+
+/// The event of a commit, with a round of its own or without.
+fn commit_event(own: Option<usize>, call: u32) -> Event
+    ensures { result ≡ commit_event own call }
+{
+    match own {
+        None => Event::C(call),
+        Some(_) => Event::X(call),
+    }
+}
+
+/// How many records the task executed, where there is one.
+fn own_number(exclusive: Option<&Task>) -> Option<usize>
+    ensures { result ≡ own_number (option_copied exclusive.entry) }
+{
+    match exclusive {
+        None => None,
+        Some(task) => Some(task.executed()),
+    }
+}
+
+/// How far back starts count where there is a horizon, and 0 where there is none.
+fn floor_of(n: u32, horizon: Option<u32>) -> u32
+    ensures { result ≡ floor n horizon }
+{
+    match horizon {
+        None => 0,
+        Some(horizon) => n.saturating_sub(horizon),
+    }
+}

@@ -1,0 +1,74 @@
+//! Lists of events.
+
+ghost use Rattle.std.specs.Prelude.{◌≡◌, ◌<◌, ◌^◌, length};
+ghost use Rattle.mv_lawful.specs.Lawful.{open_call};
+ghost use Rattle.mv_core.specs.Books.{Booked, work_in};
+ghost use Rattle.mv_core.specs.Drives.{Rule, HasTaken, Driven, fault_at};
+
+use mv_journal::event::Event;
+use mv_lawful::fault::Fault;
+
+/// Why an event isn't made.
+#[derive(Clone, Copy)]
+pub enum Refusal {
+    /// The law of journals refuses it.
+    Refused(Fault),
+    /// Memory ran out.
+    NoMemory,
+}
+
+/// Why not all events of a list are made, or why they leave a call open.
+#[derive(Clone, Copy)]
+pub enum DriveFault {
+    /// The event of this number, counted from 1, is refused.
+    Refused { n: u32, fault: Fault },
+    /// All events are made, and this is the least call that hasn't committed.
+    Open { call: u32 },
+    /// Memory ran out.
+    NoMemory,
+}
+
+/// What takes events.
+pub trait Events {
+    ghost booked: { Self → Booked };
+
+    /// Why an event is refused, if it is.
+    ghost rule: { Rule };
+
+    /// Makes an event, or refuses it and stays as it is.
+    fn event(&mut self, event: Event) -> Result<(), Refusal>
+        ensures { HasTaken rule event (booked self.old) (booked self.new) result };
+
+    /// The least call that hasn't committed.
+    fn open_call(&self) -> Option<u32>
+        ensures { result ≡ open_call (work_in (booked self.now)) (booked self.now).course };
+}
+
+/// What is wrong with the event of this number.
+fn fault_at(refusal: Refusal, n: u32) -> DriveFault
+    ensures { result ≡ fault_at n refusal }
+{
+    match refusal {
+        Refusal::Refused(fault) => DriveFault::Refused { n, fault },
+        Refusal::NoMemory => DriveFault::NoMemory,
+    }
+}
+
+/// Makes events, one after another, up to the first that is refused. After a fault the history is that before the
+/// refused event.
+pub fn drive<E: Events>(history: &mut E, events: &[Event]) -> Result<(), DriveFault>
+    requires { length events.now < 2 ^ 32 }
+    ensures { Driven E.rule events.now (E.booked history.old) (E.booked history.new) result }
+{
+    let mut n: u32 = 0;
+    for event in events {
+        n += 1;
+        if let Err(refusal) = history.event(*event) {
+            return Err(fault_at(refusal, n));
+        }
+    }
+    match history.open_call() {
+        Some(call) => Err(DriveFault::Open { call }),
+        None => Ok(()),
+    }
+}

@@ -1,0 +1,9 @@
+//! The history of a run, event by event.
+#![tactic(auto)]
+
+pub mod book;
+pub mod drive;
+mod live;
+mod progress;
+mod roomy;
+pub mod script;

@@ -1,0 +1,161 @@
+//! A call that has begun.
+
+ghost use Rattle.std.specs.Prelude.{◌≡◌, ◌<◌, ◌≤◌, ◌+◌, ◌++◌, ◌∷◌, [], None, Some, All, IfOk, IfSome, IfNone, OnOk, length, map, slice_get};
+ghost use Rattle.mv_core.specs.Calls.{live_of, numbered, closed, unknown, committed, with_own, line_of, replies_in, IsFresh};
+
+use crate::roomy::Roomy;
+use mv_journal::outcome::{HistoryLine, Mark, Round};
+use mv_values::calls::Reply;
+use mv_values::list::List;
+use mv_values::memory::NoMemory;
+use std::alloc::Global;
+
+/// A call that has begun.
+#[derive(Drop)]
+pub(crate) struct Progress {
+    /// How many commits there were when its last round began.
+    pub(crate) start: u32,
+    pub(crate) rounds: Roomy<Round>,
+    /// How many of its statements the journal names.
+    pub(crate) steps: usize,
+    /// What it answered, once it has committed.
+    pub(crate) reply: Option<Reply>,
+}
+
+impl Progress {
+    /// A call that begins after so many commits.
+    pub(crate) fn new(alloc: Global, start: u32) -> Result<Progress, NoMemory>
+        ensures { IfOk result (IsFresh start) }
+    {
+        let mut rounds = Roomy::new(alloc);
+        rounds.reserve(1)?;
+        rounds.put(Round {
+            start,
+            count: None,
+            mark: Mark::Plain,
+        });
+        Ok(Progress {
+            start,
+            rounds,
+            steps: 0,
+            reply: None,
+        })
+    }
+
+    /// Makes room for two rounds.
+    pub(crate) fn reserve(&mut self) -> Result<(), NoMemory>
+        ensures live { live_of self.new ≡ live_of self.old }
+        ensures rounds { self.new.rounds.items ≡ self.old.rounds.items }
+        ensures reply { self.new.reply ≡ self.old.reply }
+        ensures room { OnOk result (2 ≤ self.new.rounds.room) }
+    {
+        self.rounds.reserve(2)
+    }
+
+    /// Gives the last round its number.
+    pub(crate) fn settle(&mut self, count: usize)
+        ensures start { self.new.start ≡ self.old.start }
+        ensures steps { self.new.steps ≡ self.old.steps }
+        ensures rounds { self.new.rounds.items ≡ numbered (Some count) self.old.rounds.items }
+        ensures reply { self.new.reply ≡ self.old.reply }
+        ensures room { self.new.rounds.room ≡ self.old.rounds.room }
+    {
+        self.rounds.number_last(Some(count));
+    }
+
+    /// Adds a round that begins after so many commits. A move takes the number of the one before it.
+    pub(crate) fn restart(&mut self, start: u32, mark: Mark)
+        requires { 0 < self.old.rounds.room }
+        ensures start { self.new.start ≡ start }
+        ensures steps { self.new.steps ≡ self.old.steps }
+        ensures rounds { self.new.rounds.items ≡ closed mark self.old.rounds.items ++ unknown start mark ∷ [] }
+        ensures reply { self.new.reply ≡ self.old.reply }
+        ensures room { self.old.rounds.room ≤ self.new.rounds.room + 1 }
+    {
+        if let Mark::Moved = mark {
+            self.rounds.number_last(None);
+        }
+        self.start = start;
+        self.rounds.put(Round {
+            start,
+            count: None,
+            mark,
+        });
+    }
+
+    /// The call commits with this reply, after so many commits, in a round of its own where that has a number.
+    pub(crate) fn commit(&mut self, start: u32, reply: Reply, own: Option<usize>)
+        requires { 0 < self.old.rounds.room }
+        ensures live { live_of self.new ≡ committed start own (live_of self.old) }
+        ensures rounds { self.new.rounds.items ≡ with_own start own self.old.rounds.items }
+        ensures reply { self.new.reply ≡ Some reply }
+        ensures room { self.old.rounds.room ≤ self.new.rounds.room + 1 }
+    {
+        if let Some(count) = own {
+            self.start = start;
+            self.rounds.put(Round {
+                start,
+                count: Some(count),
+                mark: Mark::Exclusive,
+            });
+        }
+        self.reply = Some(reply);
+    }
+
+    /// A copy of its rounds.
+    fn copy_rounds(&self, alloc: Global) -> Result<List<Round>, NoMemory>
+        ensures { IfOk result (λ rounds. rounds ≡ self.now.rounds.items) }
+    {
+        let mut rounds = List::new(alloc);
+        rounds.append(self.rounds.as_slice())?;
+        Ok(rounds)
+    }
+}
+
+/// The commits of these calls, in order.
+pub(crate) fn history_of(
+    alloc: Global,
+    calls: &[Progress],
+    order: &[u32],
+) -> Result<List<HistoryLine>, NoMemory>
+    requires { All (λ c. c < length calls.now) order.now }
+    ensures { IfOk result (λ history. history ≡ map (line_of calls.now) order.now) }
+{
+    let mut history = List::new(alloc);
+    for call in order {
+        let rounds = calls[*call as usize].copy_rounds(alloc)?;
+        history.push(HistoryLine {
+            call: *call,
+            rounds,
+        })?;
+    }
+    Ok(history)
+}
+
+/// The replies of those that have committed.
+pub(crate) fn replies_of(alloc: Global, calls: Vec<Progress>) -> Result<List<Reply>, NoMemory>
+    ensures { IfOk result (λ replies. replies ≡ replies_in calls.items) }
+{
+    let mut replies = List::new(alloc);
+    for call in calls {
+        let Progress { reply, .. } = call;
+        if let Some(reply) = reply {
+            replies.push(reply)?;
+        }
+    }
+    Ok(replies)
+}
+
+/// The call of a number, where it is live.
+pub(crate) fn live_at(calls: &[Progress], call: u32) -> Option<&Progress>
+    ensures found { IfSome result (λ p. (slice_get calls.now call ≡ Some p.now) × (p.now.reply ≡ None)) }
+    ensures none { IfNone result ((p : Progress) → slice_get calls.now call ≡ Some p → p.reply ≡ None → ⊥) }
+{
+    match calls.get(call as usize) {
+        Some(progress) => match progress.reply {
+            None => Some(progress),
+            Some(_) => None,
+        },
+        None => None,
+    }
+}
