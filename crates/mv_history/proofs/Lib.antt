@@ -1,3 +1,5 @@
 pub mod Joining
+pub mod Listing
 pub mod Covering
 pub mod Judging
+pub mod Alike

@@ -1,14 +1,15 @@
 -- The changes between two databases: the keys whose rows differ, with both rows. That a call is validated against the
 -- changes of the commits after its start is the paper's (Dashti, Basil John, Shaikhha and Koch, SIGMOD 2017). That a
 -- change is computed from two tables alone, whatever was written between them, is this project's own.
-use Rattle.std.specs.Prelude.{◌≡◌, ℕ, ◌+◌, ◌==◌, Bool, true, false, ◌&&◌, List, [], ◌∷◌, ◌++◌, Option, Some, None, if◌then◌else◌}
+use Rattle.std.specs.Prelude.{◌≡◌, ℕ, ◌+◌, ◌==◌, Bool, true, false, ◌&&◌, List, [], ◌∷◌, ◌++◌, Option, Some, None, pos, AllPairs, if◌then◌else◌}
 use Rattle.std.specs.List.{filter, flat_map}
-use Rattle.std.specs.Option.{is_some}
 use Rattle.std.specs.Ordering.{is_eq}
+use Rattle.std.specs.declared.cmp.Ordering.TheVariants.{Less}
 use Rattle.mv_values.specs.declared.value.Value.{Value}
+use Rattle.mv_values.specs.declared.value.Value.TheVariants.{Int}
 use Rattle.mv_values.specs.declared.rows.Keyed.{Keyed}
 use Rattle.mv_values.specs.Order.{key_order}
-use Rattle.mv_values.specs.Patching.{row_of}
+use Rattle.mv_values.specs.Patching.{row_of, placed}
 use Rattle.mv_values.specs.Tables.{rows_at}
 use Rattle.mv_history.specs.declared.change.Change.{Change}
 
@@ -25,17 +26,14 @@ is_same (Some a) None = false
 abbrev pub change_of : ℕ → List Value → Option (List Value) → Option (List Value) → List Change
 change_of t key before after = if is_same before after then [] else record { table = t; key = key; before = before; after = after } ∷ []
 
--- the change of a row of the old table
-abbrev pub change_from : ℕ → List Keyed → Keyed → List Change
-change_from t new item = change_of t item.key (Some item.row) (row_of new item.key)
+-- the rows of two tables, one under each key, in key order
+abbrev pub united : List Keyed → List Keyed → List Keyed
+united [] new = new
+united (item ∷ items) new = placed item.key (Some item.row) (united items new)
 
--- the change of a row of the new table: none if its key had a row before
-abbrev pub change_to : ℕ → List Keyed → Keyed → List Change
-change_to t old item = if is_some (row_of old item.key) then [] else change_of t item.key None (Some item.row)
-
--- the changes of a table: first those of its old rows, then those of its new keys
+-- the changes of a table: of each key that it has before or after, in key order
 abbrev pub changes_of : ℕ → List Keyed → List Keyed → List Change
-changes_of t old new = flat_map (change_from t new) old ++ flat_map (change_to t old) new
+changes_of t old new = flat_map (λ item. change_of t item.key (row_of old item.key) (row_of new item.key)) (united old new)
 
 -- the changes of tables, the first of which has this number
 abbrev pub changes_upwards : ℕ → List (List Keyed) → List (List Keyed) → List Change
@@ -61,3 +59,16 @@ Leads (c ∷ cs) before after = (c.before ≡ before) × Leads cs c.after after
 -- the changes cover the step from one database to another: those of each key lead from its old row to its new one
 abbrev pub Covers : List Change → List (List Keyed) → List (List Keyed) → Type 0
 Covers changes old new = (t : ℕ) (key : List Value) → Leads (filter (is_of t key) changes) (row_of (rows_at old t) key) (row_of (rows_at new t) key)
+
+-- the table and the key of a change in one
+abbrev pub place : Change → List Value
+place c = Int (pos c.table) ∷ c.key
+
+-- the changes are in the order of their tables and keys, each key once
+abbrev pub InOrder : List Change → Type 0
+InOrder changes = AllPairs (λ a b. key_order (place a) (place b) ≡ Less) changes
+
+-- the changes list what lies between two databases: in order, and of each key its own change, if there is one
+pub record ListsChanges (changes : List Change) (old new : List (List Keyed)) : Type 0 where
+  pub order : InOrder changes
+  pub each : (t : ℕ) (key : List Value) → filter (is_of t key) changes ≡ change_of t key (row_of (rows_at old t) key) (row_of (rows_at new t) key)

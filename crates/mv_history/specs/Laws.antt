@@ -5,13 +5,25 @@ use Rattle.mv_values.specs.declared.rows.Keyed.{Keyed}
 use Rattle.mv_record.specs.declared.record.Record.{Record}
 use Rattle.mv_record.specs.Writes.{AreRising}
 use Rattle.mv_history.specs.declared.change.Change.{Change}
-use Rattle.mv_history.specs.Changes.{changes_between, Covers}
+use Rattle.mv_history.specs.Changes.{changes_between, Covers, ListsChanges}
 use Rattle.mv_history.specs.Hits.{first_hit, is_unhit}
 use Rattle.mv_history.specs.Kept.{Placed, with_paths, next_placed}
 
+-- a statement of two databases with the same number of tables, whose keys rise
+abbrev pub OfRising : (List (List Keyed) → List (List Keyed) → Type 0) → Type 0
+OfRising P = (old new : List (List Keyed)) → AreRising old → AreRising new → length old ≡ length new → P old new
+
 -- the changes between two databases whose keys rise cover the step from one to the other
 abbrev pub ChangesCover : Type 0
-ChangesCover = (old new : List (List Keyed)) → AreRising old → AreRising new → length old ≡ length new → Covers (changes_between old new) old new
+ChangesCover = OfRising (λ old new. Covers (changes_between old new) old new)
+
+-- the changes between two databases are listed in order, each key once
+abbrev pub ChangesAreListed : Type 0
+ChangesAreListed = OfRising (λ old new. ListsChanges (changes_between old new) old new)
+
+-- no other list has them in order, each key once
+abbrev pub OnlyTheseAreListed : Type 0
+OnlyTheseAreListed = OfRising (λ old new. (changes : List Change) → ListsChanges changes old new → changes ≡ changes_between old new)
 
 -- changes that cover two steps one after the other cover both together
 abbrev pub ChangesJoin : Type 0

@@ -1,6 +1,11 @@
 //! Changes between databases, and the hits that validation finds.
 
+ghost use Rattle.std.specs.Prelude.{◌≡◌, IfOk};
+
+use mv_values::copied::Copied;
+use mv_values::memory::NoMemory;
 use mv_values::value::{Key, Row};
+use std::alloc::Global;
 
 /// A key whose row a commit changed, with the row before and the row after the commit. The two rows differ. At most one
 /// is absent.
@@ -17,4 +22,28 @@ pub struct Change {
 pub struct Hit {
     pub number: usize,
     pub commit: u32,
+}
+
+/// Returns a copy of the row, if any.
+fn copy_row(row: &Option<Row>, alloc: Global) -> Result<Option<Row>, NoMemory>
+    ensures { IfOk result (λ copy. copy ≡ row.now) }
+{
+    match row {
+        None => Ok(None),
+        Some(row) => Ok(Some(row.copy(alloc)?)),
+    }
+}
+
+impl Copied for Change {
+    fn copy(&self, alloc: Global) -> Result<Change, NoMemory> {
+        let key = self.key.copy(alloc)?;
+        let before = copy_row(&self.before, alloc)?;
+        let after = copy_row(&self.after, alloc)?;
+        Ok(Change {
+            table: self.table,
+            key,
+            before,
+            after,
+        })
+    }
 }

@@ -1,0 +1,4 @@
+pub mod Commits
+pub mod Hitting
+pub mod Tables
+pub mod Drafting

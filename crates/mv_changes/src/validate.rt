@@ -1,0 +1,57 @@
+//! Validation: the first record of a call that a commit after its start hits.
+
+ghost use Rattle.std.specs.Prelude.{◌≡◌, ◌<◌, ℕ, [], length, IfSome};
+ghost use Rattle.mv_history.specs.Hits.{first_hit};
+ghost use Rattle.mv_changes.specs.Commits.{changes_in, AreNumbered, HasWritesOf};
+ghost use Rattle.mv_changes.specs.Hitting.{first_record, records_before};
+
+use crate::changes::Changes;
+use crate::hit::any_hit;
+use crate::recent::Committed;
+use mv_history::change::Hit;
+use mv_record::record::Record;
+use mv_undo::undo::Undo;
+
+/// Returns the number of the first record that one of a commit's changes hits.
+fn first_record(records: &[Record], undo: &Undo, changes: &Changes) -> Option<usize>
+    requires { HasWritesOf undo.now records.now }
+    ensures first { result ≡ first_record changes.now [] records.now }
+    ensures within { IfSome result (λ number. number < length records.now) }
+{
+    for number in 0..records.len() {
+        if any_hit(&records[number], number, undo, changes) {
+            return Some(number);
+        }
+    }
+    None
+}
+
+/// Returns the records before the one that is hit, or all of them.
+fn before<'a>(records: &'a [Record], hit: Option<Hit>) -> &'a [Record]
+    requires { IfSome hit (λ h. h.number < length records.now) }
+    ensures { result.now ≡ records_before hit records.now }
+{
+    match hit {
+        Some(hit) => &records[..hit.number],
+        None => records,
+    }
+}
+
+/// Validates the records of a call against the commits after its start: returns the least record that a change hits, and
+/// the least commit that hits it. `undo` has the writes of the records. Allocates nothing. Costs for each commit and each
+/// predicate of the records a search in the commit's changes, and a trial of the predicate on each of those of its table.
+pub fn validate(records: &[Record], undo: &Undo, since: &[Committed]) -> Option<Hit>
+    requires { HasWritesOf undo.now records.now }
+    ensures { (number : ℕ) → AreNumbered number since.now → result ≡ first_hit number (changes_in since.now) [] records.now }
+{
+    let mut first: Option<Hit> = None;
+    for committed in since {
+        if let Some(number) = first_record(before(records, first), undo, &committed.changes) {
+            first = Some(Hit {
+                number,
+                commit: committed.commit,
+            });
+        }
+    }
+    first
+}
