@@ -96,17 +96,17 @@ cut_out t cs from to low high first last =
     none_pass (of t) (take from cs) (λ k d lt.
     let front : k < from = omega (arith, lt, length-take from cs) in
     let is : slice_index_or (take from cs) k d ≡ slice_index_or cs k d = get_or-take from cs k d front in
-    rw is (under t _ (first.0 k d (omega arith) front))) in
+    rw is (under t (slice_index_or cs k d) (first.0 k d (omega arith) front))) in
     let after : filter (of t) (drop to cs) ≡ [] =
     none_pass (of t) (drop to cs) (λ k d lt.
     let behind : to + k < length cs = omega (arith, lt, length-drop to cs) in
     let is : slice_index_or (drop to cs) k d ≡ slice_index_or cs (to + k) d = get_or-drop to cs k d in
-    rw is (over t _ (last.1 (to + k) d (omega arith) behind))) in
+    rw is (over t (slice_index_or cs (to + k) d) (last.1 (to + k) d (omega arith) behind))) in
     let inner : filter (of t) mid ≡ mid =
     all_pass (of t) mid (λ k d lt.
     let short : k < to - from = omega (arith, lt, length-take (to - from) rest) in
     let is : slice_index_or mid k d ≡ slice_index_or cs (from + k) d = get_or-take (to - from) rest k d short ∙ get_or-drop from cs k d in
-    rw is (inside t _ (first.1 (from + k) d (omega arith) (omega (arith, short, high))) (last.0 (from + k) d (omega arith) (omega (arith, short))))) in
+    rw is (inside t (slice_index_or cs (from + k) d) (first.1 (from + k) d (omega arith) (omega (arith, short, high))) (last.0 (from + k) d (omega arith) (omega (arith, short))))) in
     sym inner
     ∙ (sym (append-nil (filter (of t) mid))
     ∙ (ap (λ l. filter (of t) mid ++ l) (sym (ap (filter (of t)) back ∙ after))

@@ -1,11 +1,14 @@
 -- How the changes of a commit are made of its writes.
-use Rattle.std.proofs.Common.{◌≡◌, ℕ, ◌+◌, ◌<◌, ◌≤◌, Bool, true, false, cond, List, [], ◌∷◌, ◌++◌, Option, Some, None, Result, Ok, Err, length, if◌then◌else◌, refl, sym, ap, subst, ◌∙◌, inl, inr, arith, append_assoc, append-nil}
+use Rattle.std.proofs.Common.{◌≡◌, ℕ, ◌+◌, ◌<◌, ◌≤◌, Bool, true, false, cond, List, [], ◌∷◌, ◌++◌, Option, Some, None, zero, suc, length, if◌then◌else◌, refl, sym, ap, subst, ◌∙◌, arith, append_assoc, append-nil, length-append, slice_index_or, take, drop, take-append-drop}
 use Rattle.std.specs.Prelude.{◌==◌, ◌&&◌, ◌||◌, nat_lt, pos, All}
 use Rattle.std.specs.List.{filter, list_any, AllByRecursion}
 use Rattle.std.specs.Ordering.{is_eq}
 use Rattle.std.specs.declared.cmp.Ordering.{Ordering}
 use Rattle.std.specs.declared.cmp.Ordering.TheVariants.{Less, Equal, Greater}
-use Rattle.std.proofs.lemmas.Bool.{cases_lt}
+use Rattle.std.proofs.Math.ListN.{get_or-append}
+use Rattle.std.proofs.lemmas.Grind.{flat_map-append}
+use Rattle.std.proofs.lemmas.List.{take_more}
+use Rattle.std.proofs.Math.Seq.{get_or-append_seam}
 use Rattle.std.proofs.lemmas.Bool.Decides.{eqb_tells, nat_tests}
 use Rattle.std.proofs.lemmas.List.Elements.{filter-append, All-from_recursion, recursion_from_All, All-nil}
 use Rattle.std.proofs.lemmas.List.Folds.{list_any-append}
@@ -17,6 +20,8 @@ use Rattle.mv_values.specs.Order.{key_order}
 use Rattle.mv_values.specs.Patching.{row_of, patched, written, applied}
 use Rattle.mv_values.specs.Tables.{rows_at}
 use Rattle.mv_values.proofs.KeyOrder.{exact_keys}
+use Rattle.mv_record.specs.declared.record.Record.{Record}
+use Rattle.mv_record.specs.Runs.{writes_in}
 use Rattle.mv_record.specs.Writes.{AreRising, is_on, writes_on, patched_by}
 use Rattle.mv_record.proofs.Patching.{row_applied, rising_applied, length_applied, length_written, written_nowhere}
 use Rattle.mv_record.proofs.Rising.{same_key}
@@ -152,6 +157,10 @@ draft_none db = record {
   each = λ t key. sym (ap (λ b. drafted b t key db db) (and_no (nat_lt t (length db))));
 }
 
+-- a key's change from a database to a row
+abbrev change_to : Tables → Write → Option (List Value) → Change
+change_to db w after = record { table = w.table; key = w.key; before = row_of (rows_at db w.table) w.key; after = after }
+
 -- the change of a write's key after it
 change_now : (ws : List Write) (w : Write) (db : Tables) (was : Option Change) → w.table < length db → AreRising db
     → was ≡ drafted (nat_lt w.table (length db) && touches w.table w.key ws) w.table w.key db (applied ws db)
@@ -160,17 +169,14 @@ change_now : (ws : List Write) (w : Write) (db : Tables) (was : Option Change) �
 change_now ws w db was lt rising is =
     by (touches w.table w.key ws) refl (is ∙ ap (λ b. drafted (b && touches w.table w.key ws) w.table w.key db (applied ws db)) (is_less w.table (length db) lt))
   where
-    abbrev now : Option (List Value) → Change
-    now after = record { table = w.table; key = w.key; before = row_of (rows_at db w.table) w.key; after = after }
-
     after_is : patched w.patch (row_of (rows_at (applied ws db) w.table) w.key) ≡ row_of (rows_at (applied (ws ++ w ∷ []) db) w.table) w.key
     after_is = sym (row_more ws w db w.table w.key true lt rising (on_itself w))
 
-    by : (b : Bool) → touches w.table w.key ws ≡ b → was ≡ drafted b w.table w.key db (applied ws db) → changed_by w was (row_of (rows_at db w.table) w.key) ≡ now (row_of (rows_at (applied (ws ++ w ∷ []) db) w.table) w.key)
-    by true e k = ap (λ o. changed_by w o (row_of (rows_at db w.table) w.key)) k ∙ ap now after_is
+    by : (b : Bool) → touches w.table w.key ws ≡ b → was ≡ drafted b w.table w.key db (applied ws db) → changed_by w was (row_of (rows_at db w.table) w.key) ≡ change_to db w (row_of (rows_at (applied (ws ++ w ∷ []) db) w.table) w.key)
+    by true e k = ap (λ o. changed_by w o (row_of (rows_at db w.table) w.key)) k ∙ ap (change_to db w) after_is
     by false e k =
         ap (λ o. changed_by w o (row_of (rows_at db w.table) w.key)) k
-        ∙ (ap (λ r. now (patched w.patch r)) (sym (unwritten ws db w.table w.key lt rising e)) ∙ ap now after_is)
+        ∙ (ap (λ r. change_to db w (patched w.patch r)) (sym (unwritten ws db w.table w.key lt rising e)) ∙ ap (change_to db w) after_is)
 
 -- the change of another key
 other_now : (ws : List Write) (w : Write) (db : Tables) (t : ℕ) (key : List Value) → AreRising db → is_on t key w ≡ false
@@ -183,9 +189,7 @@ other_now ws w db t key rising h =
     or_no false = refl
 
     by : (b : Bool) → nat_lt t (length db) ≡ b → drafted (b && touches t key ws) t key db (applied ws db) ≡ drafted (b && touches t key ws) t key db (applied (ws ++ w ∷ []) db)
-    by true e =
-        let row = row_more ws w db t key false (less_than t (length db) e) rising h in
-        at (touches t key ws)
+    by true e = at (touches t key ws)
       where
         at : (x : Bool) → drafted x t key db (applied ws db) ≡ drafted x t key db (applied (ws ++ w ∷ []) db)
         at true = ap (λ r. Some (record { table = t; key = key; before = row_of (rows_at db t) key; after = r })) (sym (row_more ws w db t key false (less_than t (length db) e) rising h))
@@ -254,12 +258,12 @@ RiseBy (e ∷ es) = AboveKey e.0 es × RiseBy es
 
 above_from : (key : List Value) (es : List Entry) → All (λ e. key_order key e.0 ≡ Less) es → AboveKey key es
 above_from key [] h = tt
-above_from key (e ∷ es) h = (h 0 e (omega arith), above_from key es (λ k d lt. h (k + 1) d (omega (arith, lt))))
+above_from key (e ∷ es) h = (h 0 e (omega arith), above_from key es (λ k d lt. h (suc k) d (omega (arith, lt))))
 
 rise_from : (es : List Entry) → KeysRise es → RiseBy es
 rise_from [] h = tt
 rise_from (e ∷ es) h =
-    (above_from e.0 es (λ j d lt. h 0 (j + 1) d (omega arith) (omega (arith, lt))), rise_from es (λ i j d lt within. h (i + 1) (j + 1) d (omega (arith, lt)) (omega (arith, within))))
+    (above_from e.0 es (λ j d lt. h 0 (suc j) d (omega arith) (omega (arith, lt))), rise_from es (λ i j d lt within. h (suc i) (suc j) d (omega (arith, lt)) (omega (arith, within))))
 
 abbrev kept : Entry → List Change
 kept e = if is_same e.1.before e.1.after then [] else e.1 ∷ []
@@ -338,11 +342,8 @@ listed_at t key (e ∷ es) h all = filter-append (is_of t key) (kept e) (differi
 
 no_table : (db : Tables) (t : ℕ) → length db ≤ t → rows_at db t ≡ []
 no_table [] t h = refl
-no_table (d ∷ db) t h = by t h
-  where
-    by : (t : ℕ) → length (d ∷ db) ≤ t → rows_at (d ∷ db) t ≡ []
-    by 0 h = absurd (omega (arith, h))
-    by (suc t) h = no_table db t (omega (arith, h))
+no_table (d ∷ db) zero h = absurd (omega (arith, h))
+no_table (d ∷ db) (suc t) h = no_table db t (omega (arith, h))
 
 same_change : (t : ℕ) (key : List Value) (a b : Option (List Value)) → a ≡ b → [] ≡ change_of t key a b
 same_change t key a b h = sym (ap (λ x. change_of t key x b) h ∙ ap (λ s. if s then [] else record { table = t; key = key; before = b; after = b } ∷ []) (same_itself b))
@@ -372,3 +373,35 @@ draft_is es ws db rise rising draft =
 -- what differs is in order
 pub differing_in_order : (es : List Entry) → KeysRise es → All HasPlace es → InOrder (differing es)
 differing_in_order es rise places = in_order (differing es) (differing_ordered es (rise_from es rise) (recursion_from_All HasPlace es places))
+
+-- those listed before a change are of lower places
+pub listed_before : (front : List Change) (c : Change) (rest : List Change) → InOrder (front ++ c ∷ rest) → All (λ x. key_order (place x) (place c) ≡ Less) front
+listed_before front c rest order k d lt =
+    let size : length (front ++ c ∷ rest) ≡ length front + length (c ∷ rest) = length-append front (c ∷ rest) in
+    let low = order k (length front) d lt (omega (arith, size)) in
+    subst (λ (x : Change). key_order (place x) (place c) ≡ Less) (get_or-append front (c ∷ rest) d k lt)
+    (subst (λ (x : Change). key_order (place (slice_index_or (front ++ c ∷ rest) k d)) (place x) ≡ Less) (get_or-append_seam front c rest d) low)
+
+-- an entry more is listed
+pub one_listed : (front : List Change) (key : List Value) (c : Change) (rest es : List Entry) (all : List Change) → is_same c.before c.after ≡ false → es ≡ (key, c) ∷ rest → front ++ differing es ≡ all → front ++ c ∷ differing rest ≡ all
+one_listed front key c rest es all h is whole =
+    ap (λ b. front ++ ((if b then [] else c ∷ []) ++ differing rest)) (sym h) ∙ (ap (λ l. front ++ differing l) (sym is) ∙ whole)
+
+-- Over the writes of records
+
+pub draft_taken : (es : List Entry) (ws vs : List Write) (i : ℕ) (w : Write) (db : Tables) → i < length vs → w ≡ slice_index_or vs i w → IsDraft es ((ws ++ take i vs) ++ w ∷ []) db → IsDraft es (ws ++ take (i + 1) vs) db
+draft_taken es ws vs i w db lt is h =
+    subst (λ l. IsDraft es l db) (append_assoc ws (take i vs) (w ∷ []) ∙ ap (λ l. ws ++ l) (ap (λ x. take i vs ++ x ∷ []) is ∙ sym (take_more vs i w lt))) h
+
+pub writes_taken : (rs : List Record) (i : ℕ) (r : Record) → i < length rs → r ≡ slice_index_or rs i r → writes_in (take (i + 1) rs) ≡ writes_in (take i rs) ++ r.writes
+writes_taken rs i r lt is =
+    ap writes_in (take_more rs i r lt ∙ ap (λ (x : Record). take i rs ++ x ∷ []) (sym is))
+    ∙ (flat_map-append (λ (r : Record). r.writes) (take i rs) (r ∷ []) ∙ ap (λ l. writes_in (take i rs) ++ l) (append-nil r.writes))
+
+pub writes_fit : (rs : List Record) (i : ℕ) (r : Record) → i < length rs → r ≡ slice_index_or rs i r → length (writes_in (take i rs)) + length r.writes ≤ length (writes_in rs)
+writes_fit rs i r lt is =
+    let whole : writes_in rs ≡ writes_in (take (i + 1) rs) ++ writes_in (drop (i + 1) rs) =
+    ap writes_in (sym (take-append-drop (i + 1) rs)) ∙ flat_map-append (λ (r : Record). r.writes) (take (i + 1) rs) (drop (i + 1) rs) in
+    let one = ap length (writes_taken rs i r lt is) ∙ length-append (writes_in (take i rs)) r.writes in
+    let all = ap length whole ∙ length-append (writes_in (take (i + 1) rs)) (writes_in (drop (i + 1) rs)) in
+    omega (arith, one, all)

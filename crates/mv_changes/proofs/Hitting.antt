@@ -16,7 +16,7 @@ use Rattle.mv_history.specs.Changes.{is_same}
 use Rattle.mv_history.specs.Hits.{is_alike, hits_predicate, hits, any_hits}
 use Rattle.mv_history.proofs.Listing.{same_is, same_itself}
 use Rattle.mv_history.proofs.Alike.{alike_sees}
-use Rattle.mv_changes.specs.Hitting.{hits_pred, hits_any, some_hits}
+use Rattle.mv_changes.specs.Hitting.{hits_pred}
 
 same_table : (a b : ℕ) → (a == b) ≡ (b == a)
 same_table a b = by (a == b) refl (b == a) refl
@@ -27,13 +27,16 @@ same_table a b = by (a == b) refl (b == a) refl
     by true e false f = absurd (grind (arith, eqb_tells))
     by false e true f = absurd (grind (arith, eqb_tells))
 
+false_is : IsTrue false → ⊥
+false_is h = cc
+
 -- a test that tells whether two rows are the same
 pub tells_same : (b : Bool) (x y : Option (List Value)) → IsTrue b ↔ (x ≡ y) → b ≡ is_same x y
-tells_same true x y h = sym (ap (λ z. is_same z y) (h.0 tt) ∙ same_itself y)
+tells_same true x y h = sym (ap (λ z. is_same z y) (h.0 refl) ∙ same_itself y)
 tells_same false x y h = by (is_same x y) refl
   where
     by : (s : Bool) → is_same x y ≡ s → false ≡ s
-    by true e = absurd (h.1 (same_is x y e))
+    by true e = absurd (false_is (h.1 (same_is x y e)))
     by false e = refl
 
 -- what a predicate names and doesn't differ, it sees alike
@@ -68,6 +71,14 @@ seen_hits ws c p s = by (touches c.table c.key ws) (admits p c.key) (is_alike p 
     by false false l e false f = refl
     by false a l e true f = cc
 
+-- a change hits a record
+abbrev pub hits_any : List Write → Change → Record → Bool
+hits_any ws c r = list_any (λ p. (p.table == c.table) && hits_pred ws c p) r.preds
+
+-- one of the changes hits a record
+abbrev pub some_hits : List Write → List Change → Record → Bool
+some_hits ws changes r = list_any (λ c. hits_any ws c r) changes
+
 -- Over lists
 
 module _ {X : Type 0} where
@@ -99,14 +110,8 @@ module _ {X : Type 0} where
   any_alike p q [] h = refl
   any_alike p q (x ∷ xs) h = ap (λ b. b || list_any p xs) (h x) ∙ ap (λ b. q x || b) (any_alike p q xs h)
 
-  pub any_here : (p : X → Bool) (x : X) (xs : List X) → p x ≡ true → true ≡ list_any p (x ∷ xs)
-  any_here p x xs h = rw h refl
-
-  pub any_later : (p : X → Bool) (x : X) (xs : List X) → p x ≡ false → list_any p xs ≡ list_any p (x ∷ xs)
-  any_later p x xs h = rw h refl
-
 -- a predicate on the changes of its own table alone
-pub own_table : (ws : List Write) (changes : List Change) (r : Record) → list_any (λ p. list_any (λ c. hits_pred ws c p) (filter (λ c. c.table == p.table) changes)) r.preds ≡ some_hits ws changes r
+own_table : (ws : List Write) (changes : List Change) (r : Record) → list_any (λ p. list_any (λ c. hits_pred ws c p) (filter (λ c. c.table == p.table) changes)) r.preds ≡ some_hits ws changes r
 own_table ws changes r =
     any_alike (λ p. list_any (λ c. hits_pred ws c p) (filter (λ c. c.table == p.table) changes)) (λ p. list_any (λ c. (p.table == c.table) && hits_pred ws c p) changes) r.preds (λ p.
     any_kept (λ c. c.table == p.table) (λ c. hits_pred ws c p) changes
@@ -114,9 +119,16 @@ own_table ws changes r =
     ∙ any_swap (λ (p : Pred) (c : Change). (p.table == c.table) && hits_pred ws c p) r.preds changes
 
 -- the same by the records before
-pub hits_by_records : (before : List Record) (c : Change) (r : Record) → hits_any (writes_in before) c r ≡ hits before r c
+hits_by_records : (before : List Record) (c : Change) (r : Record) → hits_any (writes_in before) c r ≡ hits before r c
 hits_by_records before c r =
     any_alike (λ (p : Pred). (p.table == c.table) && hits_pred (writes_in before) c p) (hits_predicate before c) r.preds (λ p. ap (λ b. b && hits_pred (writes_in before) c p) (same_table p.table c.table))
 
-pub some_by_records : (before : List Record) (changes : List Change) (r : Record) → some_hits (writes_in before) changes r ≡ any_hits changes before r
+some_by_records : (before : List Record) (changes : List Change) (r : Record) → some_hits (writes_in before) changes r ≡ any_hits changes before r
 some_by_records before changes r = any_alike (λ c. hits_any (writes_in before) c r) (hits before r) changes (λ c. hits_by_records before c r)
+
+pub record_hit : (ws : List Write) (before : List Record) (c : Change) (r : Record) → ws ≡ writes_in before → hits_any ws c r ≡ hits before r c
+record_hit ws before c r h = ap (λ l. hits_any l c r) h ∙ hits_by_records before c r
+
+pub record_hit_by_some : (ws : List Write) (before : List Record) (changes : List Change) (r : Record) → ws ≡ writes_in before
+    → list_any (λ p. list_any (λ c. hits_pred ws c p) (filter (λ c. c.table == p.table) changes)) r.preds ≡ any_hits changes before r
+record_hit_by_some ws before changes r h = own_table ws changes r ∙ (ap (λ l. some_hits l changes r) h ∙ some_by_records before changes r)

@@ -1,6 +1,7 @@
 pub mod Cutting
 pub mod Comparing
 pub mod Hitting
-pub mod Judging
 pub mod Numbering
+pub mod Judging
 pub mod Drafting
+pub mod Asking

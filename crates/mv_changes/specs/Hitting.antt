@@ -1,6 +1,5 @@
 -- Hits by the own writes before a record, and the first record that one commit hits.
-use Rattle.std.specs.Prelude.{ℕ, ◌==◌, Bool, true, not, ◌&&◌, List, [], ◌∷◌, ◌++◌, Option, Some, None, length, take, if◌then◌else◌}
-use Rattle.std.specs.List.{list_any}
+use Rattle.std.specs.Prelude.{ℕ, Bool, not, ◌&&◌, List, [], ◌∷◌, ◌++◌, Option, Some, None, length, take, if◌then◌else◌}
 use Rattle.mv_values.specs.declared.pred.Pred.{Pred}
 use Rattle.mv_values.specs.declared.patch.Write.{Write}
 use Rattle.mv_values.specs.Preds.{admits, sees}
@@ -14,14 +13,6 @@ use Rattle.mv_history.specs.Hits.{is_alike, any_hits}
 -- a change of the predicate's table hits it
 abbrev pub hits_pred : List Write → Change → Pred → Bool
 hits_pred ws c p = if touches c.table c.key ws then admits p c.key && not (is_alike p c.before c.after) else not (is_same (sees p c.before) (sees p c.after))
-
--- a change hits a record
-abbrev pub hits_any : List Write → Change → Record → Bool
-hits_any ws c r = list_any (λ p. (p.table == c.table) && hits_pred ws c p) r.preds
-
--- one of the changes hits a record
-abbrev pub some_hits : List Write → List Change → Record → Bool
-some_hits ws changes r = list_any (λ c. hits_any ws c r) changes
 
 -- the first of the rest of a call's records that one of the changes hits
 abbrev pub first_record : List Change → List Record → List Record → Option ℕ

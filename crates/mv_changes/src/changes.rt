@@ -40,7 +40,7 @@ fn count_below(items: &[Change], table: u16) -> usize
 {
     items.partition_point(
         |change: &Change| -> bool
-            ensures { result ≡ is_below table.entry change.now }
+            ensures { result ≡ is_below table change.now }
         { (change.table as u16) < table },
     )
 }

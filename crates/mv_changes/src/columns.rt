@@ -2,7 +2,6 @@
 
 ghost use Rattle.std.specs.Prelude.{◌≡◌};
 ghost use Rattle.std.specs.List.{list_all};
-ghost use Rattle.std.specs.Option.{option_copied};
 ghost use Rattle.std.specs.Ordering.{is_eq};
 ghost use Rattle.mv_values.specs.Columns.{column_of, columns_of};
 ghost use Rattle.mv_values.specs.Order.{value_order, key_order};
@@ -52,8 +51,8 @@ fn names_same(pred: &Pred, a: &[Value], b: &[Value]) -> bool
 
 /// Whether both rows are absent, or both are there and have the same values in the columns that the predicate selects or
 /// tests.
-pub(crate) fn are_alike(pred: &Pred, before: Option<&Row>, after: Option<&Row>) -> bool
-    ensures { result ≡ is_alike pred.now (option_copied before.entry) (option_copied after.entry) }
+pub(crate) fn are_alike(pred: &Pred, before: &Option<Row>, after: &Option<Row>) -> bool
+    ensures { result ≡ is_alike pred.now before.now after.now }
 {
     match (before, after) {
         (Some(before), Some(after)) => names_same(pred, before.as_slice(), after.as_slice()),

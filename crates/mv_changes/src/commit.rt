@@ -1,6 +1,6 @@
 //! The changes that a call makes when it commits.
 
-ghost use Rattle.std.specs.Prelude.{◌≡◌, ◌<◌, ◌∷◌, ◌++◌, [], List, All, length, pos, IfOk, OnOk};
+ghost use Rattle.std.specs.Prelude.{◌≡◌, ◌∷◌, ◌++◌, [], List, All, length, pos, IfOk, OnOk};
 ghost use Rattle.mv_values.specs.declared.value.Value.TheVariants.{Int};
 ghost use Rattle.mv_values.specs.Patching.{applied, row_of};
 ghost use Rattle.mv_values.specs.Tables.{rows_at};
@@ -17,7 +17,6 @@ use mv_record::applying::patch_row;
 use mv_record::record::Record;
 use mv_table::key_map::KeyMap;
 use mv_values::copied::Copied;
-use mv_values::list::List;
 use mv_values::memory::NoMemory;
 use mv_values::patch::Write;
 use mv_values::value::{Key, Row, Value, compare_keys};
@@ -28,11 +27,8 @@ use std::alloc::Global;
 fn place_of(alloc: Global, table: u8, key: &Key) -> Result<Key, NoMemory>
     ensures { IfOk result (λ place. place ≡ Int (pos table) ∷ key.now) }
 {
-    let mut place = List::new(alloc);
-    place.push(Value::Int(table as i64))?;
-    for value in key.as_slice() {
-        place.push(value.copy(alloc)?)?;
-    }
+    let mut place = key.copy(alloc)?;
+    place.insert(0, Value::Int(table as i64))?;
     Ok(place)
 }
 
@@ -81,18 +77,22 @@ fn change_by<V: View>(
     }
 }
 
-/// Adds a write to the changes.
+/// Adds a write to the changes, unless it is to a table that the database lacks.
 fn add_write<V: View>(
     alloc: Global,
+    tables: usize,
     changes: &mut KeyMap<Change>,
     write: &Write,
     view: &mut V,
 ) -> Result<(), Refused>
-    requires table { write.now.table < length (V.sight view.old).database }
+    requires tables { tables ≡ length (V.sight view.old).database }
     requires rising { AreRising (V.sight view.old).database }
     ensures ok { OnOk result ((ws : List Write) → IsDraft changes.old ws (V.sight view.old).database → IsDraft changes.new (ws ++ write.now ∷ []) (V.sight view.old).database) }
     ensures asks { HasAsked 1 (V.sight view.old) (V.sight view.new) result }
 {
+    if write.table as usize >= tables {
+        return Ok(());
+    }
     let place = place_of(alloc, write.table, &write.key)?;
     let was = changes.take(&place);
     let change = change_by(alloc, was, write, view)?;
@@ -100,7 +100,7 @@ fn add_write<V: View>(
     Ok(())
 }
 
-/// Adds writes to the changes, but for those of tables that the database lacks.
+/// Adds writes to the changes.
 fn add_writes<V: View>(
     alloc: Global,
     tables: usize,
@@ -114,9 +114,7 @@ fn add_writes<V: View>(
     ensures asks { HasAsked (length writes.now) (V.sight view.old) (V.sight view.new) result }
 {
     for write in writes {
-        if (write.table as usize) < tables {
-            add_write(alloc, changes, write, view)?;
-        }
+        add_write(alloc, tables, changes, write, view)?;
     }
     Ok(())
 }
@@ -135,8 +133,8 @@ fn is_same(before: &Option<Row>, after: &Option<Row>) -> bool
 /// Returns what differs.
 fn differing(alloc: Global, changes: KeyMap<Change>) -> Result<Changes, NoMemory>
     requires { All (λ e. e.0 ≡ place e.1) changes }
-    ensures { IfOk result (λ listed. listed ≡ differing changes) }
-    ensures rising { KeysRise changes }
+    ensures listed { IfOk result (λ listed. listed ≡ differing changes) }
+    ensures rising { OnOk result (KeysRise changes) }
 {
     let mut listed = Changes::new(alloc);
     for (_place, change) in changes.into_entries() {

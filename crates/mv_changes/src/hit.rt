@@ -1,12 +1,14 @@
 //! Whether a change hits a record.
 
-ghost use Rattle.std.specs.Prelude.{◌≡◌, All, List};
-ghost use Rattle.std.specs.List.{list_any};
+ghost use Rattle.std.specs.Prelude.{◌≡◌, ◌==◌, ◌&&◌, ◌||◌, not, List};
+ghost use Rattle.std.specs.List.{list_any, filter};
+ghost use Rattle.mv_values.specs.Preds.{admits, sees};
 ghost use Rattle.mv_record.specs.declared.record.Record.{Record};
 ghost use Rattle.mv_record.specs.Runs.{writes_in};
-ghost use Rattle.mv_history.specs.Hits.{hits};
-ghost use Rattle.mv_undo.specs.Owning.{earlier};
-ghost use Rattle.mv_changes.specs.Hitting.{hits_pred, some_hits};
+ghost use Rattle.mv_undo.specs.Owning.{earlier, touches};
+ghost use Rattle.mv_history.specs.Changes.{is_same};
+ghost use Rattle.mv_history.specs.Hits.{is_alike, hits, any_hits};
+ghost use Rattle.mv_changes.specs.Hitting.{hits_pred};
 
 use crate::changes::Changes;
 use crate::columns::are_alike;
@@ -15,34 +17,62 @@ use mv_record::record::Record;
 use mv_undo::undo::Undo;
 use mv_values::pred::Pred;
 
-/// Whether a change of the predicate's table hits the predicate of the record with this number. Its own writes are looked
-/// up only if the predicate names a column that differs and doesn't see it.
+/// Whether the predicate sees the same of the row before the change and after it.
+fn sees_same(pred: &Pred, change: &Change) -> bool
+    ensures { result ≡ is_same (sees pred.now change.now.before) (sees pred.now change.now.after) }
+{
+    pred.same(change.before.as_ref(), change.after.as_ref())
+}
+
+/// Whether a record below `number` wrote the key of the change.
+fn has_written(number: usize, undo: &Undo, change: &Change) -> bool
+    ensures { result ≡ touches change.now.table change.now.key (earlier number undo.now) }
+{
+    undo.touched(number, change.table, &change.key)
+}
+
+/// Whether a change that the predicate doesn't see hits it: it differs in a column that the predicate names, of a key that
+/// the predicate admits and an earlier record wrote.
+fn hits_unseen(pred: &Pred, number: usize, undo: &Undo, change: &Change) -> bool
+    ensures { result ≡ (admits pred.now change.now.key && (not (is_alike pred.now change.now.before change.now.after) && touches change.now.table change.now.key (earlier number undo.now))) }
+{
+    pred.admits(&change.key)
+        && (!are_alike(pred, &change.before, &change.after) && has_written(number, undo, change))
+}
+
+/// Whether a change that the predicate sees hits it.
+fn hits_seen(pred: &Pred, number: usize, undo: &Undo, change: &Change) -> bool
+    ensures { result ≡ (admits pred.now change.now.key || not (touches change.now.table change.now.key (earlier number undo.now))) }
+{
+    pred.admits(&change.key) || !has_written(number, undo, change)
+}
+
+/// Whether a change of the predicate's table hits the predicate of the record with this number. Looks the own writes up
+/// only for a change that the predicate doesn't see although it names a column that differs.
 fn differs(pred: &Pred, number: usize, undo: &Undo, change: &Change) -> bool
-    requires { change.now.table ≡ pred.now.table }
     ensures { result ≡ hits_pred (earlier number undo.now) change.now pred.now }
 {
-    let admitted = pred.admits(&change.key);
-    let (before, after) = (change.before.as_ref(), change.after.as_ref());
-    if pred.same(before, after) {
-        admitted
-            && !are_alike(pred, before, after)
-            && undo.touched(number, change.table, &change.key)
+    if sees_same(pred, change) {
+        hits_unseen(pred, number, undo, change)
     } else {
-        admitted || !undo.touched(number, change.table, &change.key)
+        hits_seen(pred, number, undo, change)
     }
 }
 
-/// Whether one of these changes of the predicate's table hits the predicate.
-fn some_differs(pred: &Pred, number: usize, undo: &Undo, changes: &[Change]) -> bool
-    requires { All (λ c. c.table ≡ pred.now.table) changes.now }
-    ensures { result ≡ list_any (λ c. hits_pred (earlier number undo.now) c pred.now) changes.now }
+/// Whether a change hits the predicate.
+fn hits_table(pred: &Pred, number: usize, undo: &Undo, change: &Change) -> bool
+    ensures { result ≡ ((pred.now.table == change.now.table) && hits_pred (earlier number undo.now) change.now pred.now) }
 {
-    for change in changes {
-        if differs(pred, number, undo, change) {
-            return true;
-        }
-    }
-    false
+    pred.table == change.table && differs(pred, number, undo, change)
+}
+
+/// Whether a change hits one of these predicates.
+fn hits_one(preds: &[Pred], number: usize, undo: &Undo, change: &Change) -> bool
+    ensures { result ≡ list_any (λ p. (p.table == change.now.table) && hits_pred (earlier number undo.now) change.now p) preds.now }
+{
+    preds
+        .iter()
+        .any(|pred| hits_table(pred, number, undo, change))
 }
 
 /// Whether a change hits the record with this number. `undo` has the writes of the call's records. A change hits if one of
@@ -53,23 +83,37 @@ fn some_differs(pred: &Pred, number: usize, undo: &Undo, changes: &[Change]) -> 
 pub fn hit(record: &Record, number: usize, undo: &Undo, change: &Change) -> bool
     ensures { (before : List Record) → earlier number undo.now ≡ writes_in before → result ≡ hits before record.now change.now }
 {
-    for pred in record.preds.as_slice() {
-        if pred.table == change.table && differs(pred, number, undo, change) {
-            return true;
-        }
-    }
-    false
+    hits_one(record.preds.as_slice(), number, undo, change)
 }
 
-/// Whether one of a commit's changes hits the record with this number. Each predicate is tried on the changes of its own
-/// table alone.
-pub(crate) fn any_hit(record: &Record, number: usize, undo: &Undo, changes: &Changes) -> bool
-    ensures { result ≡ some_hits (earlier number undo.now) changes.now record.now }
+/// Whether one of these changes of the predicate's table hits it.
+fn one_hits(pred: &Pred, number: usize, undo: &Undo, changes: &[Change]) -> bool
+    ensures { result ≡ list_any (λ c. hits_pred (earlier number undo.now) c pred.now) changes.now }
 {
-    for pred in record.preds.as_slice() {
-        if some_differs(pred, number, undo, changes.of_table(pred.table)) {
-            return true;
-        }
-    }
-    false
+    changes
+        .iter()
+        .any(|change| differs(pred, number, undo, change))
+}
+
+/// Whether one of a commit's changes hits the predicate. Tries those of its table alone.
+fn commit_hits(pred: &Pred, number: usize, undo: &Undo, changes: &Changes) -> bool
+    ensures { result ≡ list_any (λ c. hits_pred (earlier number undo.now) c pred.now) (filter (λ c. c.table == pred.now.table) changes.now) }
+{
+    one_hits(pred, number, undo, changes.of_table(pred.table))
+}
+
+/// Whether one of a commit's changes hits one of these predicates.
+fn commit_hits_one(preds: &[Pred], number: usize, undo: &Undo, changes: &Changes) -> bool
+    ensures { result ≡ list_any (λ p. list_any (λ c. hits_pred (earlier number undo.now) c p) (filter (λ c. c.table == p.table) changes.now)) preds.now }
+{
+    preds
+        .iter()
+        .any(|pred| commit_hits(pred, number, undo, changes))
+}
+
+/// Whether one of a commit's changes hits the record with this number.
+pub(crate) fn any_hit(record: &Record, number: usize, undo: &Undo, changes: &Changes) -> bool
+    ensures { (before : List Record) → earlier number undo.now ≡ writes_in before → result ≡ any_hits changes.now before record.now }
+{
+    commit_hits_one(record.preds.as_slice(), number, undo, changes)
 }

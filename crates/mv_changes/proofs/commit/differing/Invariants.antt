@@ -1,0 +1,12 @@
+use Rattle.std.proofs.Common.{◌≡◌, ◌++◌}
+use Rattle.mv_history.specs.Changes.{InOrder}
+use Rattle.mv_changes.specs.Drafting.{differing}
+use Rattle.mv_changes.proofs.commit.differing.Given as goal
+
+abbrev pub invariant-loop-place : goal.invariant-loop-place
+invariant-loop-place l = record {
+  can : (goal.iterator-loop-place).can_next l._place-iterator;
+  ends : (goal.iterator-loop-place).is_finite l._place-iterator;
+  whole : l.listed ++ differing l._place-iterator ≡ differing l.fn.changes;
+  order : InOrder (differing l.fn.changes);
+}

@@ -1,0 +1,8 @@
+use Rattle.std.proofs.Common.{ap, ◌∙◌}
+use Rattle.std.specs.List.{list_any}
+use Rattle.mv_undo.specs.Owning.{earlier}
+use Rattle.mv_changes.specs.Hitting.{hits_pred}
+use Rattle.mv_changes.proofs.hit.commit_hits.Goals as goal
+
+pub returns : goal.returns
+returns c = c.one_hits.ensures ∙ ap (list_any (λ x. hits_pred (earlier c.args.number c.args.undo.now) x c.args.pred.now)) c.of_table.ensures
