@@ -1,5 +1,5 @@
 -- What a view was asked for, one call after another.
-use Rattle.std.proofs.Common.{◌≡◌, ℕ, ◌+◌, ◌≤◌, Result, Ok, Err, refl, ap, subst, ◌∙◌, arith}
+use Rattle.std.proofs.Common.{◌≡◌, ℕ, ◌+◌, ◌≤◌, Result, Ok, Err, ap, subst, ◌∙◌, arith}
 use Rattle.mv_view.specs.declared.view.Refused.{Refused}
 use Rattle.mv_view.specs.declared.view.Refused.TheVariants.{NoMemory, Stale}
 use Rattle.mv_view.specs.Viewing.{Sight, answered, IsStale, MayAnswer}

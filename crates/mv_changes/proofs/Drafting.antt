@@ -1,7 +1,7 @@
 -- How the changes of a commit are made of its writes.
 use Rattle.std.proofs.Common.{◌≡◌, ℕ, ◌+◌, ◌<◌, ◌≤◌, Bool, true, false, cond, List, [], ◌∷◌, ◌++◌, Option, Some, None, zero, suc, length, if◌then◌else◌, refl, sym, ap, subst, ◌∙◌, arith, append_assoc, append-nil, length-append, slice_index_or, take, drop, take-append-drop}
 use Rattle.std.specs.Prelude.{◌==◌, ◌&&◌, ◌||◌, nat_lt, pos, All}
-use Rattle.std.specs.List.{filter, list_any, AllByRecursion}
+use Rattle.std.specs.List.{filter, AllByRecursion}
 use Rattle.std.specs.Ordering.{is_eq}
 use Rattle.std.specs.declared.cmp.Ordering.{Ordering}
 use Rattle.std.specs.declared.cmp.Ordering.TheVariants.{Less, Equal, Greater}
@@ -23,14 +23,14 @@ use Rattle.mv_values.proofs.KeyOrder.{exact_keys}
 use Rattle.mv_record.specs.declared.record.Record.{Record}
 use Rattle.mv_record.specs.Runs.{writes_in}
 use Rattle.mv_record.specs.Writes.{AreRising, is_on, writes_on, patched_by}
-use Rattle.mv_record.proofs.Patching.{row_applied, rising_applied, length_applied, length_written, written_nowhere}
+use Rattle.mv_record.proofs.Patching.{row_applied, rising_applied, length_applied}
 use Rattle.mv_record.proofs.Rising.{same_key}
-use Rattle.mv_table.specs.Entries.{item_of, alone_at, put_by, with_item, KeysRise}
+use Rattle.mv_table.specs.Entries.{item_of, put_by, with_item, KeysRise}
 use Rattle.mv_undo.specs.Owning.{touches}
 use Rattle.mv_history.specs.declared.change.Change.{Change}
 use Rattle.mv_history.specs.Changes.{is_same, change_of, changes_between, is_of, place, InOrder, ListsChanges}
 use Rattle.mv_history.proofs.Listing.{tied, same_itself, After, Ordered, in_order, none_after, place_of, only_these}
-use Rattle.mv_changes.specs.Drafting.{changed, changed_more, changed_by, drafted, IsDraft, differing}
+use Rattle.mv_changes.specs.Drafting.{changed_by, drafted, IsDraft, differing}
 
 abbrev Tables : Type 0
 Tables = List (List Keyed)
@@ -364,7 +364,7 @@ lists_draft es ws db rise rising draft = record {
     by t key false e w f =
         let far : length db ≤ t = grind (arith, nat_tests) in
         rw e (same_change t key (row_of (rows_at db t) key) (row_of (rows_at (applied ws db) t) key)
-            (ap (λ l. row_of l key) (no_table db t far ∙ sym (no_table (applied ws db) t (omega (arith, far, length_applied ws db))))))
+        (ap (λ l. row_of l key) (no_table db t far ∙ sym (no_table (applied ws db) t (omega (arith, far, length_applied ws db))))))
 
 pub draft_is : (es : List Entry) (ws : List Write) (db : Tables) → KeysRise es → AreRising db → IsDraft es ws db → differing es ≡ changes_between db (applied ws db)
 draft_is es ws db rise rising draft =

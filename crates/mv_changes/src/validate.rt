@@ -1,13 +1,13 @@
 //! Validation: the first record of a call that a commit after its start hits.
 
-ghost use Rattle.std.specs.Prelude.{◌≡◌, ◌<◌, ℕ, [], length, IfSome};
+ghost use Rattle.std.specs.Prelude.{◌≡◌, ◌<◌, ◌≤◌, ◌+◌, ◌-◌, ℕ, [], drop, length, IfSome};
 ghost use Rattle.mv_history.specs.Hits.{first_hit};
 ghost use Rattle.mv_changes.specs.Commits.{changes_in, AreNumbered, HasWritesOf};
 ghost use Rattle.mv_changes.specs.Hitting.{first_record, records_before};
 
 use crate::changes::Changes;
 use crate::hit::any_hit;
-use crate::recent::Committed;
+use crate::recent::{Committed, Recent};
 use mv_history::change::Hit;
 use mv_record::record::Record;
 use mv_undo::undo::Undo;
@@ -54,4 +54,17 @@ pub fn validate(records: &[Record], undo: &Undo, since: &[Committed]) -> Option<
         }
     }
     first
+}
+
+impl Recent {
+    /// Validates the records of a call that started after `start` commits: returns the least record that a change of a
+    /// later commit hits, and the least commit that hits it. `undo` has the writes of the records. `start` may not be
+    /// below the `low` of the last `trim`. Allocates nothing. Costs what `validate` does for these commits.
+    pub fn first_hit(&self, start: u32, records: &[Record], undo: &Undo) -> Option<Hit>
+        requires start { self.now.low ≤ start }
+        requires writes { HasWritesOf undo.now records.now }
+        ensures { result ≡ first_hit (start + 1) (drop (start - self.now.low) self.now.commits) [] records.now }
+    {
+        validate(records, undo, self.since(start))
+    }
 }

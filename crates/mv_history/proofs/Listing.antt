@@ -1,8 +1,8 @@
 -- The changes between two databases, in the order of tables and keys.
-use Rattle.std.proofs.Common.{◌≡◌, ◌<◌, ◌≤◌, ℕ, zero, suc, ◌+◌, Bool, true, false, List, [], ◌∷◌, ◌++◌, Option, Some, None, All, length, if◌then◌else◌, refl, sym, ap, subst, ◌∙◌, arith, append-nil, append_assoc}
-use Rattle.std.specs.Prelude.{◌==◌, ◌&&◌, nat_lt, pos, AllPairs, slice_index_or}
+use Rattle.std.proofs.Common.{◌≡◌, ◌<◌, ℕ, zero, suc, ◌+◌, Bool, true, false, List, [], ◌∷◌, ◌++◌, Option, Some, None, All, length, if◌then◌else◌, refl, sym, ap, subst, ◌∙◌, arith, append-nil, append_assoc}
+use Rattle.std.specs.Prelude.{◌==◌, ◌&&◌, nat_lt, pos}
 use Rattle.std.specs.List.{filter, flat_map}
-use Rattle.std.specs.Ordering.{is_eq, ordering_reverse, ordering_then, int_cmp}
+use Rattle.std.specs.Ordering.{is_eq, ordering_then}
 use Rattle.std.specs.declared.cmp.Ordering.{Ordering}
 use Rattle.std.specs.declared.cmp.Ordering.TheVariants.{Less, Equal, Greater}
 use Rattle.std.proofs.lemmas.Bool.Decides.{eqb_tells, nat_tests}
@@ -259,7 +259,7 @@ rows_ordered t o n [] cs h above k = k
 rows_ordered t o n (x ∷ xs) cs h above k =
     subst Ordered (sym (append_assoc (change_at t o n x) (flat_map (change_at t o n) xs) cs))
     (one_first t x.key (row_of o x.key) (row_of n x.key) (flat_map (change_at t o n) xs ++ cs)
-        (after_append (Int (pos t) ∷ x.key) (flat_map (change_at t o n) xs) cs (rows_after t o n x.key xs h.0) (above x.key)) (rows_ordered t o n xs cs h.1 above k))
+    (after_append (Int (pos t) ∷ x.key) (flat_map (change_at t o n) xs) cs (rows_after t o n x.key xs h.0) (above x.key)) (rows_ordered t o n xs cs h.1 above k))
 
 upwards_ordered : (u : ℕ) (os ns : List (List Keyed)) → length os ≡ length ns → ((i : ℕ) → Rises (rows_at ns i)) → Ordered (changes_upwards u os ns)
 upwards_ordered u [] [] len g = tt

@@ -1,4 +1,4 @@
-use Rattle.std.proofs.Common.{◌≤◌, ◌+◌, ◌++◌, ◌∷◌, [], List, Ok, take, subst, sym, arith}
+use Rattle.std.proofs.Common.{◌+◌, ◌++◌, ◌∷◌, [], List, Ok, take, subst, arith}
 use Rattle.std.proofs.lemmas.List.{take_all}
 use Rattle.mv_values.specs.declared.patch.Write.{Write}
 use Rattle.mv_changes.specs.Drafting.{IsDraft}

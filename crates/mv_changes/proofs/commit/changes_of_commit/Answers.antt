@@ -1,9 +1,9 @@
-use Rattle.std.proofs.Common.{◌≤◌, ◌+◌, ◌++◌, List, Ok, Err, length, take, ap, subst, sym, ◌∙◌, arith, length-append}
+use Rattle.std.proofs.Common.{◌+◌, ◌++◌, List, Ok, Err, length, take, ap, subst, sym, ◌∙◌, arith, length-append}
 use Rattle.std.proofs.lemmas.List.{take_all}
 use Rattle.std.proofs.lemmas.Result.{err_from_is_err_and}
 use Rattle.mv_values.specs.declared.patch.Write.{Write}
 use Rattle.mv_record.specs.Runs.{writes_in}
-use Rattle.mv_changes.specs.Drafting.{IsDraft, HasAsked}
+use Rattle.mv_changes.specs.Drafting.{IsDraft}
 use Rattle.mv_changes.proofs.Asking.{asked_then, asked_err, asked_same}
 use Rattle.mv_changes.proofs.Drafting.{draft_is, writes_taken, writes_fit}
 use Rattle.mv_changes.proofs.commit.changes_of_commit.Goals as goal
@@ -20,7 +20,7 @@ returns-in_err-add_writes-clause-asks g c =
     let p = err_from_is_err_and c.from_residual.result c.from_residual.ensures.1 in
     rw (p.1, p.2)
     (asked_then (length (writes_in (take i rs))) (length c.as_slice.result.now) (length (writes_in rs)) (sight c.args.view.now) (sight c.loop-record.view) (sight c.add_writes.new.view) tt (Err refused) c.loop-record.invariant.asked
-        (asked_err (length c.as_slice.result.now) (sight c.loop-record.view) (sight c.add_writes.new.view) refused c.in_err-add_writes.ensures.asks) (omega (arith, fits, long)))
+    (asked_err (length c.as_slice.result.now) (sight c.loop-record.view) (sight c.add_writes.new.view) refused c.in_err-add_writes.ensures.asks) (omega (arith, fits, long)))
 
 pub loop-record-preserved : goal.loop-record-preserved
 loop-record-preserved g c =

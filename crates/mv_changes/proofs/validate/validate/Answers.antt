@@ -1,7 +1,7 @@
-use Rattle.std.proofs.Common.{◌≡◌, ◌<◌, [], ℕ, length, ap, sym, subst, ◌∙◌}
+use Rattle.std.proofs.Common.{◌≡◌, ◌<◌, [], length, ap, sym, subst, ◌∙◌}
 use Rattle.std.specs.Prelude.{IfSome}
 use Rattle.mv_changes.specs.Hitting.{first_record, records_before}
-use Rattle.mv_changes.proofs.Judging.{earlier_hit, front_writes, commit_tried, none_yet, earlier_within}
+use Rattle.mv_changes.proofs.Judging.{earlier_hit, commit_tried, none_yet, earlier_within}
 use Rattle.mv_changes.proofs.validate.validate.Goals.{in-Some, in_default}
 use Rattle.mv_changes.proofs.validate.validate.Goals as goal
 

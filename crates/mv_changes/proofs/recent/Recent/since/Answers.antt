@@ -1,4 +1,4 @@
-use Rattle.std.proofs.Common.{◌≤◌, ◌+◌, ◌-◌, length, drop, ap, ◌∙◌, sym, subst, arith}
+use Rattle.std.proofs.Common.{◌+◌, ◌-◌, length, drop, ap, ◌∙◌, sym, subst, arith}
 use Rattle.std.specs.Vec.{vec_capacity}
 use Rattle.mv_changes.specs.Commits.{changes_in, AreNumbered}
 use Rattle.mv_changes.proofs.Numbering.{kept_since, numbered_since, low_of}
