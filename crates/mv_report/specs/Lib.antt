@@ -1,3 +1,4 @@
 pub mod Text
 pub mod Serial
 pub mod Graphs
+pub mod Shown

@@ -3,6 +3,7 @@
 
 mod history;
 mod journal;
+pub mod laws;
 mod number;
 pub mod render;
 pub mod render_graphs;
