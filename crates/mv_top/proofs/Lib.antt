@@ -1,5 +1,5 @@
 pub mod Numbers
-pub mod InTurn
 pub mod Serials
 pub mod Outcomes
 pub mod Answering
+pub mod Texts

@@ -7,7 +7,7 @@ use Rattle.mv_catalog.specs.declared.resolved.Program.{Program}
 use Rattle.mv_accept.specs.declared.refusal.Refusal.{Refusal}
 use Rattle.mv_accept.specs.Accepting.{Accepts, Refuses}
 use Rattle.mv_accept.specs.Refusals.{number_of, line_of}
-use Rattle.mv_top.specs.History.{text, in_turn}
+use Rattle.mv_top.specs.History.{usual, text, in_turn, IsRunText}
 use Rattle.mv_top.specs.Serial.{serial}
 use Rattle.mv_top.specs.Graphs.{graphs}
 use Rattle.mv_top.specs.declared.status.Command.{Command}
@@ -17,10 +17,10 @@ use Rattle.mv_top.specs.declared.status.Status.TheVariants.{Done, Refused, Usage
 use Rattle.mv_top.specs.declared.status.Fault.{Fault}
 use Rattle.mv_top.specs.declared.status.Fault.TheVariants as fault
 
--- the command may write this text for the program: that of a run by one worker, of the calls alone in call order, or of
--- the graphs of the procedures
+-- the command may write this text for the program: that of a run, which one worker makes, of the calls alone in call
+-- order, or of the graphs of the procedures
 abbrev pub IsTextOf : Command → Program → List ℕ → Type 0
-IsTextOf Run program answer = answer ≡ text program (in_turn program)
+IsTextOf Run program answer = IsRunText program usual answer × (answer ≡ text program usual (in_turn program))
 IsTextOf Serial program answer = answer ≡ serial program
 IsTextOf Graph program answer = answer ≡ graphs program
 

@@ -3,6 +3,7 @@
 
 pub mod answer;
 mod graphs;
+pub mod laws;
 mod serial;
 pub mod status;
 pub mod top;

@@ -5,7 +5,8 @@ ghost use Rattle.std.specs.List.{flat_map};
 ghost use Rattle.mv_record.specs.Databases.{IsProgram};
 ghost use Rattle.mv_accept.specs.Accepting.{most_calls};
 ghost use Rattle.mv_alone.specs.TableAfter.{first_numbers};
-ghost use Rattle.mv_top.specs.History.{outcome_of, in_turn, turn};
+ghost use Rattle.mv_lawful.specs.Outcomes.{outcome_of, turn};
+ghost use Rattle.mv_top.specs.History.{usual, work_of, in_turn};
 ghost use Rattle.mv_top.specs.Turns.{turn_line, turn_lines};
 
 use mv_catalog::resolved::Program;
@@ -56,7 +57,7 @@ fn journal_of(alloc: Global, calls: u32) -> Result<List<Event>, NoMemory>
 pub(crate) fn run_in_turn(alloc: Global, program: &Program) -> Result<Outcome, NoMemory>
     requires whole { IsProgram program.now }
     requires few { length program.now.resolved.calls ≤ most_calls }
-    ensures { IfOk result (λ outcome. outcome ≡ outcome_of program.now (in_turn program.now)) }
+    ensures { IfOk result (λ outcome. outcome ≡ outcome_of (work_of program.now usual) (in_turn program.now)) }
 {
     let Ran {
         replies,

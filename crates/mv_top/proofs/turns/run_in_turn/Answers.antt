@@ -1,7 +1,7 @@
-use Rattle.std.proofs.Common.{◌≡◌, ap, ◌∙◌, length, List, ℕ}
+use Rattle.std.proofs.Common.{ap, ◌∙◌, length, List, ℕ}
 use Rattle.std.specs.List.{flat_map}
 use Rattle.mv_alone.specs.TableAfter.{first_numbers}
-use Rattle.mv_top.specs.History.{turn}
+use Rattle.mv_lawful.specs.Outcomes.{turn}
 use Rattle.mv_top.specs.Turns.{turn_lines}
 use Rattle.mv_top.proofs.Outcomes.{outcome_is}
 use Rattle.mv_top.proofs.turns.run_in_turn.Goals as goal

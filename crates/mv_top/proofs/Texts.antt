@@ -1,0 +1,146 @@
+-- What one worker writes is the text of a run, and a text fixes its journal.
+use Rattle.std.proofs.Common.{◌≡◌, ◌≤◌, ℕ, List, [], ◌∷◌, ◌++◌, Option, Some, None, Result, Ok, Err, All, IfOk, refl, sym, ap, ◌∙◌, arith, length}
+use Rattle.std.specs.Prelude.{slice_get, ◌==◌}
+use Rattle.std.specs.List.{position}
+use Rattle.std.proofs.lemmas.List.Elements.{All-nil, All-push, All-map, All-weaker}
+use Rattle.mv_values.specs.declared.schema.TableInfo.{TableInfo}
+use Rattle.mv_values.specs.declared.calls.Call.{Call}
+use Rattle.mv_values.specs.declared.calls.End.{End}
+use Rattle.mv_values.specs.declared.calls.Options.{Options}
+use Rattle.mv_values.specs.declared.calls.Reply.{Reply}
+use Rattle.mv_values.specs.Tables.{key_columns, columns_at, rows_at}
+use Rattle.mv_catalog.specs.declared.resolved.Program.{Program}
+use Rattle.mv_catalog.specs.declared.resolved.ProcInfo.{ProcInfo}
+use Rattle.mv_catalog.specs.declared.resolved.RStmt.TheOpen.{RStmt-F, Assign, Select, Total, ForSelect, ForRows, Branch, Insert, Update, Delete, Print, Rollback}
+use Rattle.mv_accept.specs.Accepting.{most_calls}
+use Rattle.mv_alone.specs.declared.state.Env.{Env}
+use Rattle.mv_alone.specs.declared.state.State.{State}
+use Rattle.mv_alone.specs.Outcome.{then_do}
+use Rattle.mv_alone.specs.Value.{value_of, values_of}
+use Rattle.mv_alone.specs.Rows.{checks_of, aggregate}
+use Rattle.mv_alone.specs.Changes.{new_row, put_row, keyed, updated, set_row}
+use Rattle.mv_alone.specs.Line.{line_of}
+use Rattle.mv_alone.specs.Alone.{alone, matches, offset_of}
+use Rattle.mv_alone.specs.TableAfter.{Tables, begun, outcome, outcome_at, outcome_in, reply_in as reply_from}
+use Rattle.mv_record.specs.declared.record.Record.{Record}
+use Rattle.mv_recorded.specs.Doing.{itself, fixed_rows}
+use Rattle.mv_recorded.specs.Recorded.{own_record, recorded, outside}
+use Rattle.mv_recorded.proofs.Following.{Claim, IsLaw, told_follows}
+use Rattle.mv_journal.specs.declared.event.Event.{Event}
+use Rattle.mv_journal.specs.declared.event.Event.TheVariants.{B, S, A, M, C, X, G}
+use Rattle.mv_journal.specs.declared.outcome.Outcome.{Outcome}
+use Rattle.mv_journal.specs.Events.{IsInRange}
+use Rattle.mv_lawful.specs.Work.{Work}
+use Rattle.mv_lawful.specs.Lawful.{Lawful, course_of}
+use Rattle.mv_lawful.specs.Laws.{IsOfCalls}
+use Rattle.mv_lawful.specs.Outcomes.{numbers, reply_in, reply_after, outcome_of}
+use Rattle.mv_lawful.proofs.Serial.{lawful_names_calls}
+use Rattle.mv_lawful.proofs.Turns.{in_turn_is_lawful}
+use Rattle.mv_report.specs.Shown.{IsPrinted, IsPlain}
+use Rattle.mv_report.specs.Text.{text_of}
+use Rattle.mv_report.proofs.Fixing.{text_fixes}
+use Rattle.mv_top.specs.History.{usual, work_of, text, in_turn, IsRunText, TextFixesJournal}
+
+-- One worker
+
+is_run : (p : Program) (bytes : List ℕ) → bytes ≡ text p usual (in_turn p) → IsRunText p usual bytes × (bytes ≡ text p usual (in_turn p))
+is_run p bytes is = let it = in_turn_is_lawful (work_of p usual) in (record { journal = in_turn p; lawful = it.lawful; bounded = it.bounded; text_is = is }, is)
+
+-- so is the text of what one worker leaves
+pub text_runs : {E : Type 0} (p : Program) (result : Result (List ℕ) E) (left : Outcome) → left ≡ outcome_of (work_of p usual) (in_turn p)
+    → IfOk result (λ bytes. bytes ≡ text_of p.resolved.tables left) → IfOk result (λ bytes. IsRunText p usual bytes × (bytes ≡ text p usual (in_turn p)))
+text_runs p (Ok bytes) left is h = is_run p bytes (h ∙ ap (text_of p.resolved.tables) is)
+text_runs p (Err e) left is h = tt
+
+-- The lines of replies
+
+-- the lines of the state are PRINT's if those before were
+abbrev Prints : Claim
+Prints st rs (Ok next) = All IsPrinted st.lines → All IsPrinted next.lines
+Prints st rs (Err e) = Unit {0}
+
+prints_more : (st next : State) (rs ss : List Record) (out : Result State End) → Prints st rs (Ok next) → Prints next ss out → Prints st (rs ++ ss) out
+prints_more st next rs ss (Ok last) h k = λ p. k (h p)
+prints_more st next rs ss (Err e) h k = tt
+
+prints_inside : (st : State) (env : Env) (rs : List Record) (out : Result State End) → Prints (record st { env = env }) rs out → Prints st rs out
+prints_inside st env rs (Ok next) h = h
+prints_inside st env rs (Err e) h = tt
+
+then_prints : {X : Type 0} (r : Result X End) (go : X → Result State End) (st : State) (rs : List Record) → ((x : X) → Prints st rs (go x)) → Prints st rs (then_do r go)
+then_prints (Ok x) go st rs h = h x
+then_prints (Err e) go st rs h = tt
+
+prints_own : {Y : Type 0} (tables : List TableInfo) (y : RStmt-F Y) (st : State) (rs : List Record) → Prints st rs (itself tables y st)
+prints_own tables (Assign x e) st rs = then_prints (value_of e st.env []) _ st rs (λ v h. h)
+prints_own tables (Select cs xs t conds sorts offset) st rs = then_prints (checks_of conds st.env) _ st rs (λ checks. then_prints (offset_of offset st.env) _ st rs (λ at h. h))
+prints_own tables (Total agg x t conds) st rs = then_prints (checks_of conds st.env) _ st rs (λ checks. then_prints (aggregate agg (matches t checks st)) _ st rs (λ v h. h))
+prints_own {Y} tables (ForSelect x once cs t conds sorts body) st rs = then_prints (fixed_rows {X = Y} (ForSelect x once cs t conds sorts body) st) _ st rs (λ rows h. h)
+prints_own tables (ForRows x y body) st rs = λ h. h
+prints_own tables (Branch e ys ns) st rs = then_prints (value_of e st.env []) _ st rs (λ v h. h)
+prints_own tables (Insert t es) st rs =
+    then_prints (new_row (columns_at tables t) es st.env) _ st rs (λ row. then_prints (put_row (keyed (key_columns tables t) row) (rows_at st.tables t)) _ st rs (λ rows h. h))
+prints_own tables (Update t items conds) st rs =
+    then_prints (checks_of conds st.env) _ st rs (λ checks.
+    then_prints (updated (λ row. set_row (columns_at tables t) (key_columns tables t) st.env row items row) checks (rows_at st.tables t)) _ st rs (λ rows h. h))
+prints_own tables (Delete t conds) st rs = then_prints (checks_of conds st.env) _ st rs (λ checks h. h)
+prints_own tables (Print es) st rs = then_prints (values_of es st.env) _ st rs (λ vs h. All-push IsPrinted st.lines (line_of vs) h (vs, refl))
+prints_own tables (Rollback reason) st rs = tt
+
+prints_law : IsLaw Prints
+prints_law = record {
+  none = λ st h. h;
+  more = prints_more;
+  enters = prints_inside;
+  own = λ tables params y n site before st. prints_own tables y st (own_record tables params y n site before st ∷ []);
+}
+
+-- a call prints such lines alone
+reply_prints : (p : Program) (c : ℕ) (db : Tables) → All IsPrinted (reply_from (outcome p c db)).lines
+reply_prints p c db = by_call (slice_get p.resolved.calls c)
+  where
+    ended : (proc : ProcInfo) (call : Call) (rs : List Record) (out : Result State End) → Prints (begun proc call db) rs out → All IsPrinted (reply_from out).lines
+    ended proc call rs (Ok next) h = h (All-nil IsPrinted)
+    ended proc call rs (Err e) h = All-nil IsPrinted
+
+    by_proc : (o : Option ProcInfo) (call : Call) → All IsPrinted (reply_from (outcome_in p o call db)).lines
+    by_proc None call = All-nil IsPrinted
+    by_proc (Some proc) call =
+        ended proc call (recorded p.resolved.tables proc call db) (alone p.resolved.tables proc.body (begun proc call db))
+        (told_follows Prints prints_law p.resolved.tables (length call.arguments) proc.body 1 outside [] (begun proc call db))
+
+    by_call : (o : Option Call) → All IsPrinted (reply_from (outcome_at p o db)).lines
+    by_call None = All-nil IsPrinted
+    by_call (Some call) = by_proc (slice_get p.resolved.procedures call.procedure) call
+
+-- Journals
+
+in_range : (n : ℕ) (e : Event) → n ≤ most_calls → IsOfCalls n e → IsInRange e
+in_range n (B c) few h = omega (arith, few, h)
+in_range n (S c) few h = omega (arith, few, h)
+in_range n (A c) few h = omega (arith, few, h)
+in_range n (M c) few h = omega (arith, few, h)
+in_range n (C c) few h = omega (arith, few, h)
+in_range n (X c) few h = omega (arith, few, h)
+in_range n G few h = tt
+
+is_plain : (p : Program) (options : Options) (journal : List Event) → length p.resolved.calls ≤ most_calls → Lawful (work_of p options) journal → IsPlain (outcome_of (work_of p options) journal)
+is_plain p options journal few lawful = record {
+  lines = All-map (λ (reply : Reply). All IsPrinted reply.lines) (reply_in w order) (numbers w.count) (λ k d lt. by_place _ (position (λ d. d == _) order));
+  calls = All-weaker (IsOfCalls w.count) IsInRange (λ e. in_range w.count e few) journal (lawful_names_calls w journal lawful);
+}
+  where
+    w : Work
+    w = work_of p options
+
+    order : List ℕ
+    order = (course_of w journal).order
+
+    by_place : (c : ℕ) (o : Option ℕ) → All IsPrinted (reply_after w order c o).lines
+    by_place c None = All-nil IsPrinted
+    by_place c (Some k) = reply_prints p c _
+
+pub text_fixes_journal : TextFixesJournal
+text_fixes_journal bytes one other a b =
+    text_fixes a.program.resolved.tables b.program.resolved.tables (outcome_of (work_of a.program a.options) one) (outcome_of (work_of b.program b.options) other)
+    (is_plain a.program a.options one a.few a.lawful) (is_plain b.program b.options other b.few b.lawful) (sym a.text_is ∙ b.text_is)
