@@ -1,13 +1,12 @@
 -- From the bytes that were read to the bytes that were left, and from an answer to what was written.
-use Rattle.std.proofs.Common.{◌≡◌, ◌⊎◌, inl, inr, ◌<◌, ◌≤◌, ◌+◌, ◌^◌, ℕ, List, length, take, Option, Some, refl, sym, ap, subst, ◌∙◌, arith}
+use Rattle.std.proofs.Common.{◌≡◌, inl, inr, ◌<◌, ◌≤◌, ℕ, List, length, take, Option, refl, sym, ap, subst, ◌∙◌, arith}
 use Rattle.std.proofs.lemmas.List.{take_all, length-take-le}
 use Rattle.std.proofs.lemmas.Bool.{cases_lt}
 use Rattle.std.specs.Option.{ForSome}
-use Rattle.mv_edge.specs.Edge.{Rose, Writes, WritesFront}
+use Rattle.mv_edge.specs.Edge.{Rose}
 use Rattle.mv_edge.specs.declared.reading.TheConstants.{MOST}
 use Rattle.mv_catalog.specs.declared.resolved.Program.{Program}
 use Rattle.mv_accept.specs.declared.refusal.Refusal.{Refusal}
-use Rattle.mv_accept.specs.declared.refusal.Refusal.TheVariants as why
 use Rattle.mv_accept.specs.Accepting.{most_bytes, Accepts, Refuses}
 use Rattle.mv_accept.proofs.Sizes.{accepted_are_few, too_many_are_told, too_many_are_refused}
 use Rattle.mv_top.specs.declared.status.Command.{Command}
@@ -16,7 +15,7 @@ use Rattle.mv_top.specs.declared.status.Fault.{Fault}
 use Rattle.mv_top.specs.declared.status.Fault.TheVariants as fault
 use Rattle.mv_top.specs.declared.status.Status.{Status}
 use Rattle.mv_top.specs.declared.status.Status.TheVariants.{Done, Refused, Usage, NoMemory, ReadFault, WriteFault}
-use Rattle.mv_top.specs.Answers.{IsTextFor, IsRefusal, HasCause, IsToldBy, IsAnswer, usage, refused, done, IsAnswered, Puts, Wrote, WroteOr, StandFor, IsRefusedBy, name_of, line}
+use Rattle.mv_top.specs.Answers.{IsTextFor, IsRefusal, HasCause, IsToldBy, IsAnswer, refused, done, IsAnswered, Puts, Wrote, WroteOr, StandFor, IsRefusedBy, name_of}
 
 -- bytes that aren't too many were all that were left
 pub whole : (all bytes : List ℕ) → bytes ≡ take MOST all → length bytes ≤ most_bytes → bytes ≡ all

@@ -1,4 +1,4 @@
-use Rattle.std.proofs.Common.{◌≡◌, ◌∙◌, ap, sym, subst, inl, inr}
+use Rattle.std.proofs.Common.{◌≡◌, subst, inl, inr}
 use Rattle.mv_catalog.specs.declared.resolved.Program.{Program}
 use Rattle.mv_accept.specs.declared.refusal.Refusal.{Refusal}
 use Rattle.mv_accept.specs.declared.accept.NotAccepted.{NotAccepted}

@@ -1,7 +1,5 @@
-use Rattle.std.proofs.Common.{◌≡◌, ◌≤◌, ◌^◌, List, ℕ, length, ap, sym, subst, ◌∙◌, arith}
-use Rattle.std.proofs.lemmas.Grind.{common_steps}
-use Rattle.std.specs.Prelude.{Ok}
-use Rattle.mv_alone.specs.TableAfter.{first_numbers, call_order, IsOrder}
+use Rattle.std.proofs.Common.{ap, sym, subst, ◌∙◌}
+use Rattle.mv_alone.specs.TableAfter.{first_numbers, IsOrder}
 use Rattle.mv_top.proofs.Serials.{is_order, text_is}
 use Rattle.mv_top.proofs.serial.serial_text.Goals as goal
 

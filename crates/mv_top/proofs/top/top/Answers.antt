@@ -1,10 +1,9 @@
-use Rattle.std.proofs.Common.{refl, subst, ap, sym, ◌∙◌, ◌≡◌, List, ℕ}
+use Rattle.std.proofs.Common.{subst, sym, ◌≡◌, List, ℕ}
 use Rattle.mv_accept.specs.Accepting.{Accepts, Refuses}
 use Rattle.mv_accept.specs.Refusals.{line_of}
 use Rattle.mv_top.specs.declared.status.Command.{Command}
-use Rattle.mv_top.specs.declared.status.Status.{Status}
 use Rattle.mv_top.specs.declared.status.Status.TheVariants.{Done, Refused, Usage}
-use Rattle.mv_top.specs.Answers.{IsAnswered, IsTextOf, Puts, usage, words_of, line, usage_line, WroteOr}
+use Rattle.mv_top.specs.Answers.{IsAnswered, IsTextOf, Puts, usage, words_of, line, usage_line}
 use Rattle.mv_top.proofs.Answering.{wrote_by, put_by, quiet_by, answer_of_left, accepted_of_read, cause_of_read, same_command}
 use Rattle.mv_top.proofs.top.top.Goals as goal
 
