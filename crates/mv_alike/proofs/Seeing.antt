@@ -2,12 +2,10 @@
 use Rattle.std.proofs.Common.{◌≡◌, ℕ, zero, suc, ◌==◌, Bool, true, false, cond, not, List, [], ◌∷◌, ◌++◌, Option, Some, None, map, length, slice_set, if◌then◌else◌, refl, sym, ap, subst, ◌∙◌, arith}
 use Rattle.std.specs.Prelude.{◌&&◌, ◌||◌, pos}
 use Rattle.std.proofs.lemmas.Bool.Decides.{eqb_tells}
+use Rattle.std.proofs.lemmas.Cmp.{tied_itself}
 use Rattle.std.proofs.lemmas.List.{get_or-set_other, length-set}
-use Rattle.std.specs.List.{filter, list_any, list_all}
-use Rattle.std.specs.Option.{option_map}
+use Rattle.std.specs.List.{filter, list_any}
 use Rattle.std.specs.Ordering.{is_eq}
-use Rattle.std.specs.declared.cmp.Ordering.{Ordering}
-use Rattle.std.specs.declared.cmp.Ordering.TheVariants.{Less, Equal, Greater}
 use Rattle.mv_values.specs.declared.value.Value.{Value}
 use Rattle.mv_values.specs.declared.value.Value.TheVariants.{Int}
 use Rattle.mv_values.specs.declared.pred.Pred.{Pred}
@@ -19,9 +17,11 @@ use Rattle.mv_values.specs.declared.patch.Write.{Write}
 use Rattle.mv_values.specs.Columns.{column_of, columns_of}
 use Rattle.mv_values.specs.Order.{key_order}
 use Rattle.mv_values.specs.Patching.{with_columns, patched}
-use Rattle.mv_values.specs.Preds.{passes, allows, matches, admits, names, sees}
-use Rattle.mv_values.proofs.KeyOrder.{exact_keys}
+use Rattle.mv_values.specs.Preds.{admits, names, sees}
+use Rattle.mv_values.proofs.KeyOrder.{key_order_total}
 use Rattle.mv_record.specs.Writes.{is_on, writes_on, patched_by}
+use Rattle.mv_history.proofs.Alike.{alike_sees}
+use Rattle.mv_history.proofs.Listing.{tied}
 use Rattle.mv_history.specs.declared.change.Change.{Change}
 use Rattle.mv_history.specs.Changes.{is_of, Leads, is_same}
 use Rattle.mv_history.specs.Hits.{named_columns, is_alike, reaches, touches_predicate}
@@ -30,14 +30,6 @@ use Rattle.mv_recorded.specs.Own.{Each}
 both_true : (a b : Bool) → (a && b) ≡ true → (a ≡ true) × (b ≡ true)
 both_true true b h = (refl, h)
 both_true false b h = cc
-
-tied : (a b : List Value) → is_eq (key_order a b) ≡ true → a ≡ b
-tied a b h = by (key_order a b) refl h
-  where
-    by : (o : Ordering) → key_order a b ≡ o → is_eq o ≡ true → a ≡ b
-    by Less e k = cc
-    by Equal e k = exact_keys a b e
-    by Greater e k = cc
 
 -- One row
 
@@ -146,31 +138,11 @@ alike_turned p (Some a) (Some b) h = (sym h.0, sym h.1)
 alike_turned p None (Some b) h = absurd h.0
 alike_turned p (Some a) None h = absurd h.0
 
-columns_parts : (a b : List Value) (cs ds : List ℕ) → columns_of a (cs ++ ds) ≡ columns_of b (cs ++ ds) → (columns_of a cs ≡ columns_of b cs) × (columns_of a ds ≡ columns_of b ds)
-columns_parts a b [] ds h = (refl, h)
-columns_parts a b (c ∷ cs) ds h =
-    let first : column_of a c ≡ column_of b c = cc in
-    let rest : columns_of a (cs ++ ds) ≡ columns_of b (cs ++ ds) = cc in
-    let more = columns_parts a b cs ds rest in
-    (ap (λ v. v ∷ columns_of a cs) first ∙ ap (λ l. column_of b c ∷ l) more.0, more.1)
-
-tests_same : (a b : List Value) (tests : List Test) → columns_of a (map (λ t. t.column) tests) ≡ columns_of b (map (λ t. t.column) tests) → list_all (passes a) tests ≡ list_all (passes b) tests
-tests_same a b [] h = refl
-tests_same a b (t ∷ ts) h =
-    let first : column_of a t.column ≡ column_of b t.column = cc in
-    let rest : columns_of a (map (λ t. t.column) ts) ≡ columns_of b (map (λ t. t.column) ts) = cc in
-    ap (λ v. allows t v && list_all (passes a) ts) first ∙ ap (λ x. allows t (column_of b t.column) && x) (tests_same a b ts rest)
-
 -- such rows are seen alike
 pub sees_alike : (p : Pred) (a b : Option (List Value)) → ColsAlike p a b → sees p a ≡ sees p b
 sees_alike p None None h = refl
 sees_alike p (Some a) (Some b) h =
-    let both = columns_parts a b p.columns (map (λ t. t.column) p.tests) h in
-    ap (λ t. option_map (λ r. columns_of r p.columns) (if t then Some a else None)) (tests_same a b p.tests both.1) ∙ by (matches p b) both.0
-  where
-    by : (t : Bool) → columns_of a p.columns ≡ columns_of b p.columns → option_map (λ r. columns_of r p.columns) (if t then Some a else None) ≡ option_map (λ r. columns_of r p.columns) (if t then Some b else None)
-    by true e = ap Some e
-    by false e = refl
+    alike_sees p (Some a) (Some b) (subst (λ l. is_eq (key_order (columns_of a (named_columns p)) l) ≡ true) h (ap is_eq (tied_itself key_order_total (columns_of a (named_columns p)))))
 sees_alike p None (Some b) h = absurd h
 sees_alike p (Some a) None h = absurd h
 
