@@ -17,7 +17,8 @@ use Rattle.mv_report.specs.Shown.{shown}
 abbrev pub usual : Options
 usual = record { rounds = 3; horizon = None }
 
--- the work of a program: a call leaves the records of its full run, and the reply and the database of the whole-table machine
+-- the work of a program: a call leaves the records of its full run, and the reply and the database of the whole-table
+-- machine
 abbrev pub work_of : Program → Options → Work
 work_of p options = record {
   run = λ c db. record { records = records p c db; reply = reply_in (outcome p c db); tables = tables_left db (outcome p c db) };
