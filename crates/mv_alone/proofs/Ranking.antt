@@ -1,5 +1,5 @@
 -- A stable sort gives the rows in ORDER BY order.
-use Rattle.std.proofs.Common.{◌≡◌, ℕ, zero, suc, Bool, true, false, cond, ◌&&◌, not, List, [], ◌∷◌, All, AllPairs, map, filter, slice_index_or, refl, sym, ap, subst, ◌∙◌, arith, Bor, if◌then◌else◌}
+use Rattle.std.proofs.Common.{◌≡◌, ℕ, zero, suc, Bool, true, false, cond, ◌&&◌, not, List, [], ◌∷◌, All, AllPairs, map, filter, slice_index_or, refl, sym, ap, subst, ◌∙◌, arith, if◌then◌else◌}
 use Rattle.std.proofs.lemmas.Cmp.{tied_itself, upto, on_total, then_total, back_total}
 use Rattle.std.proofs.lemmas.List.Elements.{All-cons, All-nil, All-head, All-tail, All-filter}
 use Rattle.std.proofs.lemmas.List.Kept.{AllPairs-cons}
@@ -224,20 +224,17 @@ sort_order_total (s ∷ ss) =
     (λ a b. then_same (let up = value_order (column_of a.row s.column) (column_of b.row s.column) in if s.descending then ordering_reverse up else up) (sort_order ss a b))
     (then_total (directed s.column s.descending) (sort_order_total ss))
 
--- rows seen through references, put in order by a stable sort
-pub ordered_is : (sorts : List RSort) (xs ys : List (Bor Keyed)) → IsSortedBy (λ (a b : Bor Keyed). is_lt (sort_order sorts a.now b.now)) ys → IsStableBy (λ (a b : Bor Keyed). is_lt (sort_order sorts a.now b.now)) xs ys
-    → map (λ (r : Bor Keyed). r.now) ys ≡ ordered sorts (map (λ (r : Bor Keyed). r.now) xs)
-ordered_is sorts xs ys up stable =
-    ap (map (λ (r : Bor Keyed). r.now)) (sort_is {order = λ (a b : Bor Keyed). sort_order sorts a.now b.now} (on_total (λ (r : Bor Keyed). r.now) (sort_order_total sorts)) xs ys up stable)
-    ∙ sorted_seen (λ (r : Bor Keyed). r.now) (sort_order sorts) xs
+-- things seen as rows, put in order by a stable sort
+pub ordered_is : {A : Type 0} (seen : A → Keyed) (sorts : List RSort) (xs ys : List A) → IsSortedBy (λ (a b : A). is_lt (sort_order sorts (seen a) (seen b))) ys
+    → IsStableBy (λ (a b : A). is_lt (sort_order sorts (seen a) (seen b))) xs ys → map seen ys ≡ ordered sorts (map seen xs)
+ordered_is {A} seen sorts xs ys up stable =
+    ap (map seen) (sort_is {order = λ (a b : A). sort_order sorts (seen a) (seen b)} (on_total seen (sort_order_total sorts)) xs ys up stable) ∙ sorted_seen seen (sort_order sorts) xs
 
--- rows seen through references, put in the order of some columns by a stable sort
-pub projected_is : (cs : List ℕ) (xs ys : List (Bor Keyed)) → IsSortedBy (λ (a b : Bor Keyed). is_lt (key_order (columns_of a.now.row cs) (columns_of b.now.row cs))) ys
-    → IsStableBy (λ (a b : Bor Keyed). is_lt (key_order (columns_of a.now.row cs) (columns_of b.now.row cs))) xs ys
-    → projected cs (map (λ (r : Bor Keyed). r.now) ys) ≡ sorted key_order (projected cs (map (λ (r : Bor Keyed). r.now) xs))
-projected_is cs xs ys up stable =
-    let seen : Keyed → List Value = λ item. columns_of item.row cs in
-    ap (λ (l : List (Bor Keyed)). projected cs (map (λ (r : Bor Keyed). r.now) l))
-    (sort_is {order = λ (a b : Bor Keyed). key_order (columns_of a.now.row cs) (columns_of b.now.row cs)} (on_total (λ (r : Bor Keyed). columns_of r.now.row cs) key_order_total) xs ys up stable)
-    ∙ (ap (map seen) (sorted_seen (λ (r : Bor Keyed). r.now) (λ a b. key_order (columns_of a.row cs) (columns_of b.row cs)) xs)
-    ∙ sorted_seen seen key_order (map (λ (r : Bor Keyed). r.now) xs))
+-- the same in the order of some columns
+pub projected_is : {A : Type 0} (seen : A → Keyed) (cs : List ℕ) (xs ys : List A) → IsSortedBy (λ (a b : A). is_lt (key_order (columns_of (seen a).row cs) (columns_of (seen b).row cs))) ys
+    → IsStableBy (λ (a b : A). is_lt (key_order (columns_of (seen a).row cs) (columns_of (seen b).row cs))) xs ys → projected cs (map seen ys) ≡ sorted key_order (projected cs (map seen xs))
+projected_is {A} seen cs xs ys up stable =
+    let values : Keyed → List Value = λ item. columns_of item.row cs in
+    ap (λ (l : List A). projected cs (map seen l))
+    (sort_is {order = λ (a b : A). key_order (columns_of (seen a).row cs) (columns_of (seen b).row cs)} (on_total (λ (a : A). columns_of (seen a).row cs) key_order_total) xs ys up stable)
+    ∙ (ap (map values) (sorted_seen seen (λ a b. key_order (columns_of a.row cs) (columns_of b.row cs)) xs) ∙ sorted_seen values key_order (map seen xs))

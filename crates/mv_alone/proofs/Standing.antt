@@ -27,7 +27,7 @@ use Rattle.mv_alone.specs.Value.{value_of}
 use Rattle.mv_alone.specs.Rows.{meets, fit, checks_of, is_some_row}
 use Rattle.mv_alone.specs.Changes.{with_column, set_row, updated, without, put_row_by, put_row, new_row, keyed}
 use Rattle.mv_alone.specs.Alone.{matches, with_rows, insert, update, delete}
-use Rattle.mv_alone.specs.Spans.{StandUnder}
+use Rattle.mv_alone.specs.Own.{StandUnder}
 
 abbrev Tables : Type 0
 Tables = List (List Keyed)

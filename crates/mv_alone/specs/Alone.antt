@@ -1,5 +1,5 @@
 -- The whole-table machine: what statements do to the variables, the database and the lines of a call that runs alone.
--- It knows nothing of versions, snapshots, predicates, records or repairs.
+-- It knows nothing of versions, snapshots, predicates, records or repairs. This project's own.
 use Rattle.std.specs.Prelude.{ℕ, pos, Bool, true, false, List, [], ◌∷◌, ◌++◌, Option, Some, None, Result, Ok, Err, map, slice_set, if◌then◌else◌}
 use Rattle.mv_values.specs.declared.value.Value.{Value}
 use Rattle.mv_values.specs.declared.value.Value.TheVariants.{Int}

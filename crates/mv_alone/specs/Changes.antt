@@ -1,4 +1,4 @@
--- What UPDATE, DELETE and INSERT make of the rows of a table.
+-- What UPDATE, DELETE and INSERT make of the rows of a table. This project's own.
 use Rattle.std.specs.Prelude.{◌≡◌, ℕ, not, List, [], ◌∷◌, Result, Ok, Err, slice_set, if◌then◌else◌, ◌==◌}
 use Rattle.std.specs.List.{filter, list_any}
 use Rattle.std.specs.declared.cmp.Ordering.{Ordering}
@@ -29,7 +29,7 @@ set_row columns keys env was [] row = Ok row
 set_row columns keys env was (i ∷ is) row =
     then_do (value_of i.right env was) (λ v. then_do (fit columns i.column v) (λ w. set_row columns keys env was is (with_column keys i.column w row)))
 
--- the rows with each matching one made anew, in key order up to the first fault
+-- the rows after each matching one is made anew, in key order up to the first fault
 abbrev pub updated : (List Value → Result (List Value) End) → List Check → List Keyed → Result (List Keyed) End
 updated new checks [] = Ok []
 updated new checks (item ∷ items) =
@@ -60,6 +60,6 @@ put_row new (item ∷ items) = put_row_by (key_order new.key item.key) new item 
 abbrev pub keyed : List ℕ → List Value → Keyed
 keyed keys row = record { key = columns_of row keys; row = row }
 
--- the rows of all tables but one stay
+-- the rows of all tables but one don't change
 abbrev pub OthersStay : ℕ → List (List Keyed) → List (List Keyed) → Type 0
 OthersStay t old new = (u : ℕ) → (u ≡ t → ⊥) → rows_at new u ≡ rows_at old u

@@ -1,4 +1,4 @@
--- What the variables of a call hold.
+-- The variables of a call. This project's own.
 use Rattle.std.specs.Prelude.{ℕ, zero, suc, pos, Bool, List, [], ◌∷◌, slice_index_or, if◌then◌else◌}
 use Rattle.mv_values.specs.declared.value.Value.{Value}
 use Rattle.mv_values.specs.declared.value.Value.TheVariants.{Int}
@@ -40,7 +40,7 @@ turn_at env x = turn_in (held_at env x)
 abbrev pub turns_at : Env → ℕ → List (List Value)
 turns_at env x = turns_in (held_at env x)
 
--- the list with this at the place, made longer where it ends before
+-- the list with this at the index; a shorter list is filled up with unset variables
 abbrev pub put_at : List Held → ℕ → Held → List Held
 put_at [] zero h = h ∷ []
 put_at [] (suc x) h = unset ∷ put_at [] x h

@@ -6,5 +6,5 @@ pub mod Changes
 pub mod Line
 pub mod Alone
 pub mod TableAfter
-pub mod Spans
+pub mod Own
 pub mod Once

@@ -1,4 +1,4 @@
--- The line that PRINT adds.
+-- The line that PRINT adds. This project's own.
 use Rattle.std.specs.Prelude.{ℕ, List, [], ◌∷◌, ◌++◌, if◌then◌else◌, ◌==◌}
 use Rattle.std.specs.Fmt.{signed_decimal}
 use Rattle.mv_values.specs.declared.value.Value.{Value}

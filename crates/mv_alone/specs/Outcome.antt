@@ -1,4 +1,4 @@
--- Going on with a value, or stopping.
+-- Results that stop what comes after them. This project's own.
 use Rattle.std.specs.Prelude.{◌≡◌, Result, Ok, Err}
 use Rattle.mv_values.specs.declared.calls.End.{End}
 use Rattle.mv_alone.specs.declared.state.Stop.{Stop}
@@ -19,7 +19,7 @@ abbrev pub Gives : {A : Type 0} → Result A Stop → Result A End → Type 0
 Gives (Ok x) meant = meant ≡ Ok x
 Gives (Err s) meant = Fails s meant
 
--- the same of a function that changes a state in its place
+-- the same for a function that changes a state in place
 abbrev pub Leaves : {A : Type 0} → Result (Unit {0}) Stop → A → Result A End → Type 0
 Leaves (Ok x) new meant = meant ≡ Ok new
 Leaves (Err s) new meant = Fails s meant

@@ -1,4 +1,4 @@
--- The rows of a table: which ones match, in what order they stand, what they add up to, and what becomes of them.
+-- The rows of a table: which ones match, their order, and their aggregates. This project's own.
 use Rattle.std.specs.Prelude.{ℕ, ℤ, pos, negsuc, ◌+ℤ◌, Bool, true, false, ◌&&◌, List, [], ◌∷◌, Option, Some, None, Result, Ok, Err, map, length, slice_get, if◌then◌else◌, nat_le}
 use Rattle.std.specs.List.{filter}
 use Rattle.std.specs.Ordering.{is_gt, is_le, ordering_reverse}
@@ -24,7 +24,7 @@ use Rattle.mv_alone.specs.declared.state.Env.{Env}
 use Rattle.mv_alone.specs.Outcome.{then_do}
 use Rattle.mv_alone.specs.Value.{value_of, number, fitted}
 
--- the tests of WHERE with their right sides evaluated in order, before any row is looked at
+-- the tests of WHERE with their right sides evaluated in order, before any row is read
 abbrev pub checks_of : List RCond → Env → Result (List Check) End
 checks_of [] env = Ok []
 checks_of (c ∷ cs) env = then_do (value_of c.right env []) (λ v. then_do (checks_of cs env) (λ checks. Ok (record { column = c.column; op = c.op; value = v } ∷ checks)))
@@ -46,20 +46,20 @@ abbrev pub is_some_row : List Keyed → Bool
 is_some_row [] = false
 is_some_row (item ∷ items) = true
 
--- goes on to the next order where the first one ties
+-- the first order, or the other one if the first is a tie
 abbrev pub then_by : Ordering → Ordering → Ordering
 then_by Less other = Less
 then_by Equal other = other
 then_by Greater other = Greater
 
--- how a row stands to another by ORDER BY, ties by key
+-- compares two rows by ORDER BY, and rows that tie by key
 abbrev pub sort_order : List RSort → Keyed → Keyed → Ordering
 sort_order [] a b = key_order a.key b.key
 sort_order (s ∷ ss) a b =
     let up = value_order (column_of a.row s.column) (column_of b.row s.column) in
     then_by (if s.descending then ordering_reverse up else up) (sort_order ss a b)
 
--- puts a thing before the first that isn't less
+-- inserts an item before the first one that isn't less
 abbrev pub put_in : {A : Type 0} → (A → A → Ordering) → A → List A → List A
 put_in order x [] = x ∷ []
 put_in order x (y ∷ ys) = if is_gt (order x y) then y ∷ put_in order x ys else x ∷ y ∷ ys
@@ -73,18 +73,18 @@ sorted order (x ∷ xs) = put_in order x (sorted order xs)
 abbrev pub ordered : List RSort → List Keyed → List Keyed
 ordered sorts rows = sorted (sort_order sorts) rows
 
--- the row at a place from 0 on, none at a negative one
+-- the row at an index from 0 on, none if the index is negative
 abbrev pub item_at : List Keyed → ℤ → Option Keyed
 item_at rows (pos n) = slice_get rows n
 item_at rows (negsuc n) = None
 
--- the place of x by how it stands to y
+-- where x belongs, by how it compares with y
 abbrev pub put_by : Ordering → List Value → List Value → List (List Value) → List (List Value) → List (List Value)
 put_by Less x y ys later = x ∷ y ∷ ys
 put_by Equal x y ys later = y ∷ ys
 put_by Greater x y ys later = y ∷ later
 
--- puts a row into its place, unless it is there
+-- inserts a row in order, unless it is there
 abbrev pub put_once : List Value → List (List Value) → List (List Value)
 put_once x [] = x ∷ []
 put_once x (y ∷ ys) = put_by (key_order x y) x y ys (put_once x ys)
@@ -107,7 +107,7 @@ abbrev pub sum_of : List Value → ℤ
 sum_of [] = pos 0
 sum_of (v ∷ vs) = number v +ℤ sum_of vs
 
--- the lesser of a value and what is there
+-- the lesser of a value and another one, if there is one
 abbrev pub lesser : Value → Option Value → Value
 lesser v None = v
 lesser v (Some w) = if is_le (value_order v w) then v else w
@@ -128,7 +128,7 @@ greatest (v ∷ vs) = Some (greater v (greatest vs))
 abbrev pub total : ℤ → Result (Option Value) End
 total z = then_do (fitted z) (λ v. Ok (Some v))
 
--- what an aggregate gives: MIN and MAX give nothing for no rows
+-- the value of an aggregate; MIN and MAX of no rows have none
 abbrev pub aggregate : RAgg → List Keyed → Result (Option Value) End
 aggregate CountAll rows = total (pos (length rows))
 aggregate (CountDistinct c) rows = total (pos (length (distinct (projected (c ∷ []) rows))))
@@ -136,7 +136,7 @@ aggregate (Sum c) rows = total (sum_of (column c rows))
 aggregate (Min c) rows = Ok (least (column c rows))
 aggregate (Max c) rows = Ok (greatest (column c rows))
 
--- whether the value isn't longer than its column
+-- whether a column of this type can hold the value
 abbrev pub fits_kind : ColType → Value → Bool
 fits_kind kind.Int v = true
 fits_kind (kind.Text n) (Int z) = true

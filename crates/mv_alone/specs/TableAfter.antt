@@ -1,4 +1,4 @@
--- Calls that run alone, one after another: their replies, and the database after each of them.
+-- Calls that run alone, one after another: their replies, and the database after each of them. This project's own.
 use Rattle.std.specs.Prelude.{◌≡◌, ℕ, zero, suc, ◌+◌, ◌<◌, List, [], ◌∷◌, ◌++◌, Option, Some, None, Result, Ok, Err, All, AllPairs, map, length, slice_get, slice_index}
 use Rattle.mv_values.specs.declared.rows.Keyed.{Keyed}
 use Rattle.mv_values.specs.declared.calls.Argument.{Argument}
@@ -45,7 +45,7 @@ outcome_at p (Some call) db = outcome_in p (slice_get p.resolved.procedures call
 abbrev pub outcome : Program → ℕ → Tables → Result State End
 outcome p c db = outcome_at p (slice_get p.resolved.calls c) db
 
--- the database after an outcome: as before, where the call was rolled back
+-- the database after an outcome; it is unchanged if the call was rolled back
 abbrev pub tables_left : Tables → Result State End → Tables
 tables_left db (Ok st) = st.tables
 tables_left db (Err e) = db
@@ -78,7 +78,7 @@ first_numbers (suc n) = first_numbers n ++ n ∷ []
 abbrev pub call_order : Program → List ℕ
 call_order p = first_numbers (length p.resolved.calls)
 
--- the order names calls of the program, none twice
+-- the order has calls of the program, each at most once
 abbrev pub IsOrder : Program → List ℕ → Type 0
 IsOrder p order = All (λ c. c < length p.resolved.calls) order × AllPairs (λ a b. a ≡ b → ⊥) order
 
@@ -92,6 +92,6 @@ StoppedUnchanged p order replies =
     (k : ℕ) → k < length order → (r : Reply) (e : End) → slice_get replies (slice_index order k) ≡ Some r → r.end ≡ Some e
     → (r.lines ≡ []) × (table_after p order (suc k) ≡ table_after p order k)
 
--- a call that doesn't stand in the order has a reply of no lines
+-- a call that isn't in the order has a reply without lines
 abbrev pub OthersSilent : Program → List ℕ → List Reply → Type 0
 OthersSilent p order replies = (c : ℕ) → c < length p.resolved.calls → All (λ d. d ≡ c → ⊥) order → slice_get replies c ≡ Some no_reply

@@ -1,4 +1,4 @@
--- The value of an expression: numbers are exact in 64 bits, texts have at most 4,000 bytes.
+-- The value of an expression: numbers are exact in 64 bits, texts have at most 4,000 bytes. This project's own.
 use Rattle.std.specs.Prelude.{ℕ, ℤ, pos, negsuc, ◌+ℤ◌, ◌-ℤ◌, ◌*ℤ◌, neg_ℤ, int_div, int_rem, int_lt, int_le, ◌-◌, ◌^◌, Bool, true, not, ◌&&◌, ◌||◌, List, [], ◌∷◌, ◌++◌, Result, Ok, Err, length, take, nat_le, if◌then◌else◌}
 use Rattle.std.specs.Ordering.{int_eq}
 use Rattle.std.specs.Fmt.{signed_decimal}
@@ -34,7 +34,7 @@ text (Text t) = t
 abbrev pub is_so : Value → Bool
 is_so v = not (int_eq (number v) (pos 0))
 
--- a number that fits 64 bits, or an overflow
+-- a number that fits in 64 bits, or an overflow
 abbrev pub fitted : ℤ → Result Value End
 fitted z = if int_le (negsuc (2 ^ 63 - 1)) z && int_lt z (pos (2 ^ 63)) then Ok (Int z) else Err Overflow
 
@@ -42,7 +42,7 @@ fitted z = if int_le (negsuc (2 ^ 63 - 1)) z && int_lt z (pos (2 ^ 63)) then Ok 
 abbrev pub quotient : ℤ → ℤ → Result Value End
 quotient a b = if int_eq b (pos 0) then Err ZeroDivisor else fitted (int_div a b)
 
--- what the quotient leaves, with the sign of the left side
+-- the remainder, with the sign of the left side
 abbrev pub remainder : ℤ → ℤ → Result Value End
 remainder a b = if int_eq b (pos 0) then Err ZeroDivisor else Ok (Int (int_rem a b))
 
@@ -50,16 +50,16 @@ remainder a b = if int_eq b (pos 0) then Err ZeroDivisor else Ok (Int (int_rem a
 abbrev pub joined : List ℕ → Result Value End
 joined t = if nat_le (length t) 4000 then Ok (Text t) else Err TooLong
 
--- the first n bytes, none where n is negative
+-- the first n bytes, none if n is negative
 abbrev pub left_of : List ℕ → ℤ → List ℕ
 left_of t (pos n) = take n t
 left_of t (negsuc n) = []
 
--- u stands at the front of t
+-- t begins with u
 abbrev pub begins : List ℕ → List ℕ → Bool
 begins t u = bytes_eq (take (length u) t) u
 
--- u stands somewhere in t
+-- t contains u
 abbrev pub contains : List ℕ → List ℕ → Bool
 contains [] u = begins [] u
 contains (b ∷ t) u = begins (b ∷ t) u || contains t u
@@ -83,17 +83,17 @@ both_of Or v w = Ok (truth (is_so v || is_so w))
 both_of Left v w = Ok (Text (left_of (text v) (number w)))
 both_of Contains v w = Ok (truth (contains (text v) (text w)))
 
--- AND and OR need the right side only where it decides
+-- AND and OR need the right side only if it decides
 abbrev pub needs_right : TwoOp → Value → Bool
 needs_right And v = is_so v
 needs_right Or v = not (is_so v)
 needs_right op v = true
 
--- from left to right; where the right side isn't needed, the left one is the answer
+-- from left to right; if the right side isn't needed, the left one is the answer
 abbrev pub two_of : TwoOp → Result Value End → Result Value End → Result Value End
 two_of op a b = then_do a (λ v. if needs_right op v then then_do b (λ w. both_of op v w) else Ok (truth (is_so v)))
 
--- what an expression gives for the variables and the row of an UPDATE
+-- the value of an expression for the variables and the row of an UPDATE
 abbrev pub Meaning : Type 0
 Meaning = Env → List Value → Result Value End
 

@@ -13,7 +13,7 @@ use mv_values::memory::NoMemory;
 use mv_values::value::Value;
 use std::alloc::Global;
 
-/// What a variable holds that is given an argument.
+/// Returns what a variable holds after it is given the argument.
 fn held(alloc: Global, argument: &Argument) -> Result<Held, NoMemory>
     ensures { IfOk result (λ h. h ≡ argument_held argument.now) }
 {
@@ -23,7 +23,7 @@ fn held(alloc: Global, argument: &Argument) -> Result<Held, NoMemory>
     }
 }
 
-/// What the variables of the parameters hold.
+/// Returns what the variables of the parameters hold.
 fn given(alloc: Global, arguments: &[Argument]) -> Result<List<Held>, NoMemory>
     ensures { IfOk result (λ all. all ≡ map argument_held arguments.now) }
 {
@@ -34,7 +34,7 @@ fn given(alloc: Global, arguments: &[Argument]) -> Result<List<Held>, NoMemory>
     Ok(all)
 }
 
-/// Adds what the declared variables hold, which begin with these values.
+/// Adds the declared variables, which begin with these values.
 fn add_declared(alloc: Global, all: &mut List<Held>, values: &[Value]) -> Result<(), NoMemory>
     ensures { OnOk result (all.new ≡ all.old ++ map Scalar values.now) }
 {
@@ -44,8 +44,8 @@ fn add_declared(alloc: Global, all: &mut List<Held>, values: &[Value]) -> Result
     Ok(())
 }
 
-/// The variables that a call begins with: its arguments, then the declared variables with their values, then `:found`
-/// with 0. All of them are copied.
+/// Returns the variables that a call begins with: its arguments, then the declared variables, then `:found` with 0.
+/// Copies all values. Fails if memory runs out.
 pub fn variables_for(alloc: Global, procedure: &ProcInfo, call: &Call) -> Result<Env, NoMemory>
     ensures { IfOk result (λ env. env ≡ entered procedure.now call.now) }
 {

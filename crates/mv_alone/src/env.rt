@@ -1,4 +1,4 @@
-//! What the variables of a call hold.
+//! The variables of a call.
 
 ghost use Rattle.std.specs.Prelude.{◌≡◌, IfOk, OnErr, OnOk, length, take};
 ghost use Rattle.mv_values.specs.Columns.{column_of, columns_of};
@@ -11,14 +11,14 @@ use mv_values::memory::NoMemory;
 use mv_values::value::{Row, Value};
 use std::alloc::Global;
 
-/// 1 or 0.
+/// Returns 1 for true and 0 for false.
 pub(crate) fn truth_of(b: bool) -> Value
     ensures { result ≡ truth b }
 {
     Value::Int(if b { 1 } else { 0 })
 }
 
-/// A copy of the value of a variable, or of 0 where it holds rows.
+/// Returns a copy of the value of a variable, or 0 if the variable holds rows.
 pub(crate) fn scalar(alloc: Global, env: &Env, x: u16) -> Result<Value, NoMemory>
     ensures { IfOk result (λ v. v ≡ scalar_at env.now x) }
 {
@@ -28,7 +28,7 @@ pub(crate) fn scalar(alloc: Global, env: &Env, x: u16) -> Result<Value, NoMemory
     }
 }
 
-/// The row that a loop has at its turn, of no columns where the variable holds no row.
+/// Borrows the current row of a loop; empty if the variable holds no row.
 pub fn turn(env: &Env, x: u16) -> &[Value]
     ensures { result.now ≡ turn_at env.now x }
 {
@@ -38,7 +38,7 @@ pub fn turn(env: &Env, x: u16) -> &[Value]
     }
 }
 
-/// A copy of the rows of a ROWS parameter, no rows where the variable holds none.
+/// Returns a copy of the rows of a ROWS parameter; empty if the variable holds no rows. Fails if memory runs out.
 pub fn copied_turns(alloc: Global, env: &Env, x: u16) -> Result<List<Row>, NoMemory>
     ensures { IfOk result (λ rows. rows ≡ turns_at env.now x) }
 {
@@ -48,7 +48,7 @@ pub fn copied_turns(alloc: Global, env: &Env, x: u16) -> Result<List<Row>, NoMem
     }
 }
 
-/// A copy of the value of a column of a row, or of 0 where the row has no such column.
+/// Returns a copy of the value of a column, or 0 if the row has no such column. Fails if memory runs out.
 pub fn column_value(alloc: Global, row: &[Value], c: u16) -> Result<Value, NoMemory>
     ensures { IfOk result (λ v. v ≡ column_of row.now c) }
 {
@@ -70,7 +70,8 @@ fn add_unset(held: &mut List<Held>, len: usize) -> Result<(), NoMemory>
     Ok(())
 }
 
-/// Adds unset variables where there are fewer than this. After NoMemory the variables are as before.
+/// Adds unset variables until there are at least this many. If memory runs out, it fails and the variables are
+/// unchanged.
 pub fn pad(held: &mut List<Held>, len: usize) -> Result<(), NoMemory>
     ensures ok { OnOk result (held.new ≡ padded len held.old) }
     ensures err { OnErr result (held.new ≡ held.old) }
@@ -85,8 +86,8 @@ pub fn pad(held: &mut List<Held>, len: usize) -> Result<(), NoMemory>
     }
 }
 
-/// Sets what a variable holds. It takes memory only where there was no such variable yet. After NoMemory the variables
-/// are as before.
+/// Sets what a variable holds. Allocates only if there is no such variable yet. If memory runs out, it fails and the
+/// variables are unchanged.
 #[tactic(auto, using(crate::proofs::Putting::put_padded, crate::proofs::Putting::padded_long))]
 pub fn set_held(env: &mut Env, x: usize, what: Held) -> Result<(), NoMemory>
     ensures ok { OnOk result (env.new ≡ with_held env.old x what) }
@@ -100,7 +101,7 @@ pub fn set_held(env: &mut Env, x: usize, what: Held) -> Result<(), NoMemory>
     Ok(())
 }
 
-/// Sets a variable to a value. After NoMemory the variables are as before.
+/// Sets a variable to a value. If memory runs out, it fails and the variables are unchanged.
 pub fn set_value(env: &mut Env, x: u16, value: Value) -> Result<(), NoMemory>
     ensures ok { OnOk result (env.new ≡ with_value env.old x value) }
     ensures err { OnErr result (env.new ≡ env.old) }
@@ -108,7 +109,7 @@ pub fn set_value(env: &mut Env, x: u16, value: Value) -> Result<(), NoMemory>
     set_held(env, x as usize, Held::Scalar(value))
 }
 
-/// Sets `:found`. After NoMemory the variables are as before.
+/// Sets `:found`. If memory runs out, it fails and the variables are unchanged.
 pub fn set_found(env: &mut Env, found: bool) -> Result<(), NoMemory>
     ensures ok { OnOk result (env.new ≡ with_found env.old found) }
     ensures err { OnErr result (env.new ≡ env.old) }
@@ -116,7 +117,8 @@ pub fn set_found(env: &mut Env, found: bool) -> Result<(), NoMemory>
     set_held(env, env.found, Held::Scalar(truth_of(found)))
 }
 
-/// Sets variables to copies of the columns of a row, in order, as many as there are of both.
+/// Sets each variable to a copy of the column at the same place, up to the end of the shorter list. Fails if memory
+/// runs out; then some of the variables may be set.
 #[tactic(auto, using(crate::proofs::Putting::values_end))]
 pub fn set_columns(
     alloc: Global,

@@ -1,4 +1,4 @@
-//! The value of an expression.
+//! Evaluates expressions.
 
 ghost use Rattle.std.specs.Prelude.{◌≡◌, ◌++◌, ◌+ℤ◌, ◌-ℤ◌, ◌*ℤ◌, neg_ℤ, IfOk, All};
 ghost use Rattle.mv_values.specs.declared.value.Value.TheVariants.{Text};
@@ -21,7 +21,7 @@ use mv_values::txt::Txt;
 use mv_values::value::{Row, Value};
 use std::alloc::Global;
 
-/// The number of an INT, 0 of a TEXT.
+/// Returns the number of an INT, and 0 for a TEXT.
 pub fn number_in(v: &Value) -> i64
     ensures { result ≡ number v.now }
 {
@@ -31,7 +31,7 @@ pub fn number_in(v: &Value) -> i64
     }
 }
 
-/// The bytes of a TEXT, none of an INT.
+/// Returns the bytes of a TEXT, and none for an INT.
 fn text_in(v: &Value) -> &[u8]
     ensures bytes { result.now ≡ text v.now }
     ensures printable { All IsPrintable (text v.now) }
@@ -42,7 +42,7 @@ fn text_in(v: &Value) -> &[u8]
     }
 }
 
-/// Whether it is an INT other than 0.
+/// Whether the value is an INT other than 0.
 pub fn holds(v: &Value) -> bool
     ensures { result ≡ is_so v.now }
 {
@@ -120,7 +120,7 @@ fn join(alloc: Global, s: &[u8], t: &[u8]) -> Result<Value, Stop>
     Ok(Value::Text(all))
 }
 
-/// The first bytes of a text.
+/// Returns the first bytes of a text.
 fn front(t: &[u8], n: i64) -> &[u8]
     ensures { result.now ≡ left_of t.now n }
 {
@@ -148,7 +148,7 @@ fn is_in(u: &[u8], t: &[u8]) -> bool
     memmem::find(t, u).is_some()
 }
 
-/// The decimal digits of a number, with `-` for a negative one.
+/// Returns the decimal digits of a number, after `-` if it is negative.
 pub(crate) fn digits(alloc: Global, n: i64) -> Result<Txt, NoMemory>
     ensures { IfOk result (λ t. t ≡ signed_decimal n) }
 {
@@ -189,7 +189,7 @@ fn both(alloc: Global, op: TwoOp, v: &Value, w: &Value) -> Result<Value, Stop>
     }
 }
 
-/// Whether AND or OR needs its right side.
+/// Whether AND or OR has to evaluate its right side.
 fn needs(op: TwoOp, v: &Value) -> bool
     ensures { result ≡ needs_right op v.now }
 {
@@ -200,8 +200,9 @@ fn needs(op: TwoOp, v: &Value) -> bool
     }
 }
 
-/// The value of an expression, for these variables and the row of an UPDATE. Stopped by `Overflow` where 64 bits don't
-/// hold a number, by `ZeroDivisor`, by `TooLong` where a text would have more than 4,000 bytes, and by `Memory`.
+/// Evaluates an expression over these variables and the row of an UPDATE. Ends the call with `Overflow` if a number
+/// doesn't fit in 64 bits, with `ZeroDivisor` if a divisor is 0, and with `TooLong` if a text has more than 4,000
+/// bytes. Fails with `Memory` if memory runs out.
 pub fn value(alloc: Global, e: &RExpr, env: &Env, row: &[Value]) -> Result<Value, Stop>
     ensures { Gives result (value_of e.now env.now row.now) }
 {
@@ -225,7 +226,7 @@ pub fn value(alloc: Global, e: &RExpr, env: &Env, row: &[Value]) -> Result<Value
     }
 }
 
-/// The values of expressions, in order. Stopped where one of them is, by the first.
+/// Evaluates expressions, in order, up to the first fault.
 pub fn values(alloc: Global, exprs: &[RExpr], env: &Env) -> Result<Row, Stop>
     ensures { Gives result (values_of exprs.now env.now) }
 {
@@ -236,7 +237,7 @@ pub fn values(alloc: Global, exprs: &[RExpr], env: &Env) -> Result<Row, Stop>
     Ok(all)
 }
 
-/// The value of OFFSET, 0 where none is written. Stopped where its expression is.
+/// Evaluates OFFSET, which is 0 if it isn't written. Its faults are those of its expression.
 pub fn offset(alloc: Global, offset: &Option<RExpr>, env: &Env) -> Result<Value, Stop>
     ensures { Gives result (offset_of offset.now env.now) }
 {

@@ -1,35 +1,32 @@
-//! Finds the rows that match.
+//! Finds the rows of a table that match.
 
-ghost use Rattle.std.specs.Prelude.{◌≡◌, ◌≤◌, ◌<◌, length, slice_range, IfOk};
-ghost use Rattle.std.specs.Option.{option_copied};
-ghost use Rattle.std.specs.Ordering.{is_lt, is_le};
+ghost use Rattle.std.specs.Prelude.{◌≡◌, ◌<◌, true, List, map, length, slice_index_or, IfOk, IfSome};
+ghost use Rattle.mv_values.specs.declared.value.Value.{Value};
 ghost use Rattle.mv_values.specs.Order.{value_order};
-ghost use Rattle.mv_values.specs.Columns.{column_of};
+ghost use Rattle.mv_values.specs.Columns.{column_of, columns_of};
 ghost use Rattle.mv_values.specs.Keys.{IsRising};
 ghost use Rattle.mv_values.specs.Tables.{rows_at, columns_at, key_columns, KeysStand};
+ghost use Rattle.mv_table.specs.Entries.{seen};
+ghost use Rattle.mv_table.specs.Spans.{Admits};
 ghost use Rattle.mv_alone.specs.Outcome.{Gives};
-ghost use Rattle.mv_alone.specs.Rows.{checks_of, passes, meets, matching, is_some_row};
-ghost use Rattle.mv_alone.specs.Spans.{HoldsMatches, StandUnder, given, front_of, front_order};
+ghost use Rattle.mv_alone.specs.Rows.{checks_of, meets, matching};
+ghost use Rattle.mv_alone.specs.Own.{StandUnder};
 
 use crate::expr::value;
 use crate::state::{Check, Env, Stop};
 use mv_catalog::resolved::RCond;
+use mv_table::span::Span;
+use mv_table::table::{Entry, Table, Tables};
+use mv_values::copied::Copied;
 use mv_values::list::List;
-use mv_values::op::Op;
-use mv_values::rows::{Database, Keyed};
+use mv_values::memory::NoMemory;
+use mv_values::pred::Test;
 use mv_values::schema::{Column, TableInfo};
 use mv_values::value::Value;
 use std::alloc::Global;
 use std::cmp::Ordering;
 
-/// A part of a table: the places from `from` up to `to`.
-#[derive(Clone, Copy)]
-pub struct Span {
-    pub from: usize,
-    pub to: usize,
-}
-
-/// The columns of a table, none where there is no such table.
+/// Borrows the columns of a table; empty if there is no such table.
 pub fn columns_in(tables: &[TableInfo], table: u16) -> &[Column]
     ensures { result.now ≡ columns_at tables.now table }
 {
@@ -39,7 +36,7 @@ pub fn columns_in(tables: &[TableInfo], table: u16) -> &[Column]
     }
 }
 
-/// The places of the key columns of a table, none where there is no such table.
+/// Borrows the numbers of the key columns of a table; empty if there is no such table.
 pub fn key_in(tables: &[TableInfo], table: u16) -> &[u8]
     ensures { result.now ≡ key_columns tables.now table }
 {
@@ -49,18 +46,7 @@ pub fn key_in(tables: &[TableInfo], table: u16) -> &[u8]
     }
 }
 
-/// The rows of a table, none where there is no such table. Their keys rise.
-pub fn rows_in(tables: &Database, table: u16) -> &[Keyed]
-    ensures items { result.now ≡ rows_at tables.now table }
-    ensures rising { IsRising (rows_at tables.now table) }
-{
-    match tables.as_slice().get(table as usize) {
-        Some(rows) => rows.as_slice(),
-        None => &[],
-    }
-}
-
-/// The tests of WHERE with their right sides evaluated. Stopped where one of these is, by the first.
+/// Returns the tests of WHERE with their right sides evaluated, in order, up to the first fault.
 pub fn checks_from(alloc: Global, conds: &[RCond], env: &Env) -> Result<List<Check>, Stop>
     ensures { Gives result (checks_of conds.now env.now) }
 {
@@ -76,7 +62,7 @@ pub fn checks_from(alloc: Global, conds: &[RCond], env: &Env) -> Result<List<Che
     Ok(checks)
 }
 
-/// How the value of a column stands to another.
+/// Compares the value of a column with another value.
 pub(crate) fn order_of(row: &[Value], c: u16, other: &Value) -> Ordering
     ensures { result ≡ value_order (column_of row.now c) other.now }
 {
@@ -87,7 +73,7 @@ pub(crate) fn order_of(row: &[Value], c: u16, other: &Value) -> Ordering
 }
 
 /// Whether the row passes every test.
-pub fn is_match(checks: &[Check], row: &[Value]) -> bool
+fn is_match(checks: &[Check], row: &[Value]) -> bool
     ensures { result ≡ meets checks.now row.now }
 {
     for check in checks {
@@ -98,99 +84,79 @@ pub fn is_match(checks: &[Check], row: &[Value]) -> bool
     true
 }
 
-/// Whether any of the rows passes every test.
-pub fn has_match(checks: &[Check], rows: &[Keyed]) -> bool
-    ensures { result ≡ is_some_row (matching checks.now rows.now) }
+/// Returns the place of a column in the key, if it is a key column.
+fn place_in_key(keys: &[u8], column: u16) -> Option<u8>
+    ensures { IfSome result (λ place. (place < length keys.now) × (slice_index_or keys.now place 0 ≡ column)) }
 {
-    for item in rows {
-        if is_match(checks, item.row.as_slice()) {
-            return true;
-        }
-    }
-    false
-}
-
-/// The value that the tests give a column by `=`.
-fn given_by(checks: &[Check], c: u8) -> Option<&Value>
-    ensures { option_copied result ≡ given checks.now c }
-{
-    for check in checks {
-        if check.column == c as u16 && check.op == Op::Eq {
-            return Some(&check.value);
+    for place in 0..u8::MAX {
+        let Some(key) = keys.get(place as usize) else {
+            return None;
+        };
+        if *key as u16 == column {
+            return Some(place);
         }
     }
     None
 }
 
-/// How a key stands to the values that the tests give its first columns by `=`.
-fn order_to_front(keys: &[u8], checks: &[Check], key: &[Value]) -> Ordering
-    ensures { result ≡ front_order key.now (front_of checks.now keys.now) }
+/// Returns those of the tests that are on key columns, as tests of the key.
+fn key_tests(alloc: Global, keys: &[u8], checks: &[Check]) -> Result<List<Test>, NoMemory>
+    ensures { IfOk result (λ tests. (row : List Value) → meets checks.now row ≡ true → Admits tests (columns_of row keys.now)) }
 {
-    for (i, c) in keys.iter().enumerate() {
-        let Some(v) = given_by(checks, *c) else {
-            return Ordering::Equal;
+    let mut tests = List::new(alloc);
+    for check in checks {
+        let Some(place) = place_in_key(keys, check.column) else {
+            continue;
         };
-        let Some(w) = key.get(i) else {
-            return Ordering::Less;
-        };
-        let order = w.order(v);
-        if order.is_ne() {
-            return order;
-        }
+        tests.push(Test {
+            column: place,
+            key_place: Some(place),
+            op: check.op,
+            value: check.value.copy(alloc)?,
+        })?;
     }
-    Ordering::Equal
+    Ok(tests)
 }
 
-/// A part of the rows that has every matching one: where the tests give values for the whole key or its first columns
-/// by `=`, the rows with these values. It costs the logarithm of the number of rows.
-fn span_of(keys: &[u8], checks: &[Check], rows: &[Keyed]) -> Span
-    requires rising { IsRising rows.now }
-    requires stand { StandUnder keys.now rows.now }
-    ensures { HoldsMatches checks.now rows.now result }
+/// Borrows the rows of a table that match. Each row has to be under its own key.
+fn matches_of<'a>(
+    alloc: Global,
+    keys: &[u8],
+    table: &'a Table,
+    checks: &[Check],
+) -> Result<Vec<Entry<'a>>, NoMemory>
+    requires { StandUnder keys.now table.now }
+    ensures rows { IfOk result (λ found. map seen found.items ≡ matching checks.now table.now) }
+    ensures rising { IfOk result (λ found. IsRising (map seen found.items)) }
+    ensures all { IfOk result (λ found. IsRising table.now) }
 {
-    let from = rows.partition_point(
-        |item: &Keyed| -> bool
-            ensures { result ≡ is_lt (front_order item.now.key (front_of checks.entry.now keys.entry.now)) }
-        { order_to_front(keys, checks, item.key.as_slice()).is_lt() },
+    let tests = key_tests(alloc, keys, checks)?;
+    let span = Span::of(alloc, tests.as_slice())?;
+    let mut found = table.part(alloc, &span)?;
+    found.retain(
+        |entry: &Entry<'_>| -> bool
+            ensures { result ≡ meets checks.entry.now (seen entry.now).row }
+        { is_match(checks, entry.row.as_slice()) },
     );
-    let to = rows.partition_point(
-        |item: &Keyed| -> bool
-            ensures { result ≡ is_le (front_order item.now.key (front_of checks.entry.now keys.entry.now)) }
-        { order_to_front(keys, checks, item.key.as_slice()).is_le() },
-    );
-    Span { from, to }
+    Ok(found)
 }
 
-/// The rows of a part.
-fn part(rows: &[Keyed], span: Span) -> &[Keyed]
-    requires order { span.from ≤ span.to }
-    requires within { span.to ≤ length rows.now }
-    ensures { result.now ≡ slice_range rows.now span.from span.to }
-{
-    &rows[span.from..span.to]
-}
-
-/// A part of a table that has every matching row. It costs the logarithm of the number of rows.
-pub fn span_in(infos: &[TableInfo], tables: &Database, table: u16, checks: &[Check]) -> Span
-    requires { KeysStand infos.now tables.now }
-    ensures { HoldsMatches checks.now (rows_at tables.now table) result }
-{
-    span_of(key_in(infos, table), checks, rows_in(tables, table))
-}
-
-/// The rows of a table among which every matching one stands. It costs the logarithm of the number of rows.
-pub fn near_matches<'a>(
+/// Borrows the rows of a table that match, in key order; none if there is no such table. Visits only the rows in the
+/// span of keys that the tests leave, which it finds in logarithmic time, and copies no row. Fails if memory runs out.
+pub fn matches_in<'a>(
+    alloc: Global,
     infos: &[TableInfo],
-    tables: &'a Database,
+    tables: &'a Tables,
     table: u16,
     checks: &[Check],
-) -> &'a [Keyed]
+) -> Result<Vec<Entry<'a>>, NoMemory>
     requires { KeysStand infos.now tables.now }
-    ensures matches { matching checks.now result.now ≡ matching checks.now (rows_at tables.now table) }
-    ensures rising { IsRising result.now }
+    ensures rows { IfOk result (λ found. map seen found.items ≡ matching checks.now (rows_at tables.now table)) }
+    ensures rising { IfOk result (λ found. IsRising (map seen found.items)) }
+    ensures all { IfOk result (λ found. IsRising (rows_at tables.now table)) }
 {
-    part(
-        rows_in(tables, table),
-        span_in(infos, tables, table, checks),
-    )
+    match tables.as_slice().get(table as usize) {
+        Some(rows) => matches_of(alloc, key_in(infos, table), rows, checks),
+        None => Ok(Vec::new(alloc)),
+    }
 }

@@ -1,4 +1,5 @@
-//! What a call means when it runs alone, and the parts of that: values, variables, rows that match, are chosen or made.
+//! The meaning of a call that runs alone, and the functions that evaluate its parts: expressions, variables, the rows
+//! that match, and the rows that are made.
 #![tactic(auto)]
 
 pub mod enter;

@@ -37,7 +37,8 @@ fn add_value(alloc: Global, line: &mut Txt, value: &Value) -> Result<(), NoMemor
     }
 }
 
-/// The values joined by commas, texts in single quotes with each quote doubled.
+/// Returns the values joined by commas. A text is in single quotes, and each quote in it is doubled. Fails if memory
+/// runs out.
 pub fn line_from(alloc: Global, values: &[Value]) -> Result<Txt, NoMemory>
     ensures { IfOk result (λ t. t ≡ line_of values.now) }
 {

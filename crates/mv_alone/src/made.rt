@@ -1,4 +1,4 @@
-//! The rows that UPDATE and INSERT make.
+//! Makes the rows of UPDATE and INSERT.
 
 ghost use Rattle.std.specs.Prelude.{◌≡◌, IfOk, ◌==◌};
 ghost use Rattle.std.specs.List.{list_any};
@@ -19,7 +19,7 @@ use mv_values::schema::{ColType, Column};
 use mv_values::value::{Row, Value};
 use std::alloc::Global;
 
-/// The value of a column of this type, or an end where it is too long.
+/// Returns the value if a column of this type can hold it, and ends the call with `TooLong` otherwise.
 fn fit_to(kind: ColType, v: Value) -> Result<Value, Stop>
     ensures { Gives result (fit_kind kind v) }
 {
@@ -39,7 +39,7 @@ fn is_fit(kind: ColType, v: &Value) -> bool
     }
 }
 
-/// The value of the column at a place, or an end where it is too long.
+/// Returns the value if the column can hold it, and ends the call with `TooLong` otherwise.
 fn fit_at(columns: &[Column], c: u16, v: Value) -> Result<Value, Stop>
     ensures { Gives result (fit columns.now c v) }
 {
@@ -65,8 +65,9 @@ fn set_column(keys: &[u8], row: &mut Row, c: u16, v: Value)
     }
 }
 
-/// A row after the items of SET, whose right sides all see the row as it was; key columns stay as they are. Stopped by
-/// the end that a right side gives, by `TooLong` where a text is longer than its column allows, and by `Memory`.
+/// Returns the row after the items of SET. All right sides see the row as it was, and key columns don't change. Ends
+/// the call with the first fault of a right side, or with `TooLong` if a text doesn't fit its column. Fails with
+/// `Memory` if memory runs out.
 pub fn row_after_set(
     alloc: Global,
     columns: &[Column],
@@ -86,8 +87,8 @@ pub fn row_after_set(
     Ok(new)
 }
 
-/// The row that INSERT makes: a value for each column, in their order. Stopped by the end that a value's expression
-/// gives, by `TooLong` where a text is longer than its column allows, and by `Memory`.
+/// Returns the row that INSERT makes, with a value for each column in order. Ends the call with the first fault of an
+/// expression, or with `TooLong` if a text doesn't fit its column. Fails with `Memory` if memory runs out.
 pub fn made_row(alloc: Global, columns: &[Column], exprs: &[RExpr], env: &Env) -> Result<Row, Stop>
     ensures { Gives result (new_row columns.now exprs.now env.now) }
 {
@@ -102,7 +103,7 @@ pub fn made_row(alloc: Global, columns: &[Column], exprs: &[RExpr], env: &Env) -
     Ok(row)
 }
 
-/// A row under its key, the values of its key columns, which are copied.
+/// Returns the row with its key, which is a copy of its key columns. Fails if memory runs out.
 pub fn under_key(alloc: Global, keys: &[u8], row: Row) -> Result<Keyed, NoMemory>
     ensures { IfOk result (λ item. item ≡ keyed keys.now row) }
 {

@@ -1,14 +1,14 @@
-//! What a running call works on.
+//! The state of a running call.
 
+use mv_table::table::Tables;
 use mv_values::calls::End;
 use mv_values::list::List;
 use mv_values::memory::NoMemory;
 use mv_values::op::Op;
-use mv_values::rows::Database;
 use mv_values::txt::Txt;
 use mv_values::value::{Row, Value};
 
-/// What a variable holds: a value, the row of a loop's turn, or the rows of a ROWS parameter.
+/// What a variable holds: a value, the current row of a loop, or the rows of a ROWS parameter.
 #[derive(Drop)]
 pub enum Held {
     Scalar(Value),
@@ -16,22 +16,22 @@ pub enum Held {
     Turns(List<Row>),
 }
 
-/// The variables of a call, by number, and the number of `:found`.
+/// The variables of a call, by number. `found` is the number of `:found`.
 #[derive(Drop)]
 pub struct Env {
     pub held: List<Held>,
     pub found: usize,
 }
 
-/// A call on its way: its variables, the database, and the lines that it has printed.
+/// A running call: its variables, the tables, and the lines that it has printed.
 #[derive(Drop)]
 pub struct State {
     pub env: Env,
-    pub tables: Database,
+    pub tables: Tables,
     pub lines: List<Txt>,
 }
 
-/// A test of WHERE whose right side has been evaluated.
+/// A test of WHERE with its right side evaluated.
 #[derive(Drop)]
 pub struct Check {
     pub column: u16,
@@ -39,7 +39,7 @@ pub struct Check {
     pub value: Value,
 }
 
-/// Why statements went no further: no memory was found, or the call was rolled back.
+/// Why statements stopped: memory ran out, or the call was rolled back.
 #[derive(Drop)]
 pub enum Stop {
     Memory,

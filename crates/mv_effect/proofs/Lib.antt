@@ -5,3 +5,4 @@ pub mod Asked
 pub mod Few
 pub mod Ends
 pub mod WellNamed
+pub mod AllRows

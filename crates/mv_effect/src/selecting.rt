@@ -22,7 +22,6 @@ use crate::looking::seen;
 use crate::plainly::has_turn;
 use crate::setting::{found_alone, taken_slots, total_slots};
 use mv_alone::expr::{number_in, offset};
-use mv_alone::find::has_match;
 use mv_alone::fixing::fixed_rows;
 use mv_alone::order::chosen_row;
 use mv_alone::state::Env;
@@ -80,7 +79,7 @@ fn chosen(
     ensures { IfOk result (λ e. e ≡ taking asked.0 columns.now to.now (item_at (ordered sorts.now (matching [] rows.now)) asked.1) env.now) }
 {
     let (pred, at) = asked;
-    let item = chosen_row(alloc, &[], sorts, rows, at)?;
+    let item = chosen_row(alloc, sorts, rows, at)?;
     let sets = taken_slots(alloc, env, columns, to, item)?;
     setting(alloc, pred, sets)
 }
@@ -145,8 +144,8 @@ fn added(
     requires { env.now.found < 2 ^ 16 }
     ensures { IfOk result (λ e. e ≡ asked_then pred (aggregate agg (matching [] rows.now)) (λ total. totalling pred to total (is_some_row (matching [] rows.now)) env.now)) }
 {
-    match aggregate_of(alloc, agg, &[], rows) {
-        Ok(total) => totalled(alloc, env, to, pred, total, has_match(&[], rows)),
+    match aggregate_of(alloc, agg, rows) {
+        Ok(total) => totalled(alloc, env, to, pred, total, !rows.is_empty()),
         Err(stop) => ended_by(alloc, one(alloc, pred)?, stop),
     }
 }
@@ -206,7 +205,7 @@ fn gone_through(
     requires found { env.now.found < 2 ^ 16 }
     ensures { IfOk result (λ e. e ≡ going pred (fixed once columns.now sorts.now (matching [] rows.now)) env.now) }
 {
-    let turns = fixed_rows(alloc, once, columns, sorts, &[], rows)?;
+    let turns = fixed_rows(alloc, once, columns, sorts, rows)?;
     turning(alloc, env, pred, turns)
 }
 

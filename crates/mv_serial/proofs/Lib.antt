@@ -1,9 +1,8 @@
-pub mod Undone
-pub mod Updating
+pub mod Changing
 pub mod Tabling
+pub mod Renewing
+pub mod Moving
 pub mod InTurn
-pub mod Placing
-pub mod Removing
 pub mod Standing
 pub mod Lawful
 pub mod Calling

@@ -12,9 +12,9 @@ use Rattle.mv_alone.specs.declared.state.Check.{Check}
 use Rattle.mv_alone.specs.declared.state.State.{State}
 use Rattle.mv_alone.specs.Rows.{meets}
 use Rattle.mv_alone.specs.Changes.{set_row, without, put_row}
-use Rattle.mv_alone.specs.Spans.{StandUnder}
+use Rattle.mv_alone.specs.Own.{StandUnder}
 use Rattle.mv_alone.proofs.Standing.{stand_set, set_row_keeps, updated_stand, put_stands}
-use Rattle.mv_serial.proofs.Undone.{Tables}
+use Rattle.mv_serial.proofs.Changing.{Tables}
 use Rattle.mv_serial.proofs.Tabling.{table_with, updated_at}
 
 abbrev Stands : List ℕ → Keyed → Type 0

@@ -1,5 +1,5 @@
 -- One statement or one row further in a list of them.
-use Rattle.std.proofs.Common.{◌≡◌, ◌<◌, ℕ, suc, ◌+◌, List, ◌∷◌, Ok, ap, sym, ◌∙◌, length, drop, get_or, add-one}
+use Rattle.std.proofs.Common.{◌≡◌, ◌<◌, ℕ, suc, ◌+◌, List, ◌∷◌, Ok, Err, ap, sym, ◌∙◌, length, drop, get_or, add-one}
 use Rattle.std.specs.Prelude.{Result}
 use Rattle.std.proofs.Math.Seq.{drop-cons}
 use Rattle.mv_values.specs.declared.calls.End.{End}
@@ -8,7 +8,9 @@ use Rattle.mv_values.specs.declared.schema.TableInfo.{TableInfo}
 use Rattle.mv_catalog.specs.declared.resolved.RStmt.{RStmt}
 use Rattle.mv_alone.specs.declared.state.State.{State}
 use Rattle.mv_alone.specs.declared.state.Held.TheVariants.{Turn}
-use Rattle.mv_alone.specs.Outcome.{then_do}
+use Rattle.mv_alone.specs.declared.state.Stop.{Stop}
+use Rattle.mv_alone.specs.declared.state.Stop.TheVariants.{Memory, Ended}
+use Rattle.mv_alone.specs.Outcome.{then_do, Fails}
 use Rattle.mv_alone.specs.Env.{with_held}
 use Rattle.mv_alone.specs.Alone.{Does, does, alone, each_turn}
 
@@ -24,3 +26,14 @@ pub next_turn : (x : ℕ) (body : Does) (rows : List (List Value)) (k : ℕ) (ro
     → body (record st { env = with_held st.env x (Turn row) }) ≡ Ok next → each_turn x body (drop k rows) st ≡ all → each_turn x body (drop (k + 1) rows) next ≡ all
 next_turn x body rows k row st next all h is e i =
     sym (ap (λ r. then_do r (each_turn x body (drop (k + 1) rows))) e) ∙ (ap (λ r. each_turn x body r st) (sym (from_place rows k row h is)) ∙ i)
+
+-- a loop over rows that are fixed first
+pub fixed_first : {A B C : Type 0} (r : Result A End) (f : A → B) (go : B → Result C End) (b : B) → then_do r (λ a. Ok (f a)) ≡ Ok b → then_do r (λ a. go (f a)) ≡ go b
+fixed_first {A} {B} {C} (Ok a) f go b h = let same : f a ≡ b = cc in ap go same
+fixed_first {A} {B} {C} (Err e) f go b h = cc
+
+pub fixed_fails : {A B C : Type 0} (r : Result A End) (f : A → B) (go : B → Result C End) (s : Stop) → Fails s (then_do r (λ a. Ok (f a))) → Fails s (then_do r (λ a. go (f a)))
+fixed_fails (Ok a) f go Memory h = tt
+fixed_fails (Ok a) f go (Ended e) h = cc
+fixed_fails (Err e) f go Memory h = tt
+fixed_fails (Err e) f go (Ended d) h = let same : e ≡ d = cc in ap Err same

@@ -4,16 +4,17 @@ ghost use Rattle.std.specs.Prelude.{◌≡◌, [], Some, IfOk, length, replicate
 ghost use Rattle.mv_alone.specs.Alone.{alone};
 ghost use Rattle.mv_values.specs.Tables.{KeysStand};
 ghost use Rattle.mv_record.specs.Databases.{IsProgram};
-ghost use Rattle.mv_serial.specs.Undoing.{undone, CanUndo};
+ghost use Rattle.mv_serial.specs.Changing.{changed_by};
 ghost use Rattle.mv_alone.specs.TableAfter.{no_reply, outcome, begun, tables_left, reply_in, table_after, IsOrder, RepliesOf, OthersSilent, StoppedUnchanged};
 
+use crate::change::{Change, undo_all};
 use crate::statements::run_all;
-use crate::undo::{Undo, undo_all};
+use crate::tables::{database_of, tables_of};
 use mv_alone::enter::variables_for;
 use mv_alone::state::{State, Stop};
 use mv_catalog::resolved::{ProcInfo, Program};
+use mv_table::table::Tables;
 use mv_values::calls::{Call, End, Reply};
-use mv_values::copied::Copied;
 use mv_values::list::List;
 use mv_values::memory::NoMemory;
 use mv_values::rows::Database;
@@ -26,22 +27,21 @@ pub struct Serial {
     pub tables: Database,
 }
 
-/// The result of one call: the database after it, and its reply.
+/// The result of one call: the tables after it, and its reply.
 #[derive(Drop)]
 struct Left {
-    tables: Database,
+    tables: Tables,
     reply: Reply,
 }
 
 /// Returns the result of a call that is rolled back: its changes are undone, and its reply has no lines.
 fn rolled_back(
     alloc: Global,
-    tables: Database,
-    undo: List<Undo>,
+    tables: Tables,
+    undo: List<Change>,
     end: End,
 ) -> Result<Left, NoMemory>
-    requires { CanUndo undo tables }
-    ensures tables { IfOk result (λ l. l.tables ≡ undone undo tables) }
+    ensures tables { IfOk result (λ l. l.tables ≡ changed_by undo tables) }
     ensures reply { IfOk result (λ l. l.reply ≡ record { lines = []; end = Some end }) }
 {
     let (mut tables, mut undo) = (tables, undo);
@@ -59,7 +59,7 @@ fn run_procedure(
     program: &Program,
     procedure: &ProcInfo,
     call: &Call,
-    tables: Database,
+    tables: Tables,
 ) -> Result<Left, NoMemory>
     requires { KeysStand program.now.resolved.tables tables }
     ensures tables { IfOk result (λ l. l.tables ≡ tables_left tables (alone program.now.resolved.tables procedure.now.body (begun procedure.now call.now tables))) }
@@ -89,7 +89,7 @@ fn run_procedure(
 }
 
 /// Returns the result of a call that does nothing.
-fn unchanged(alloc: Global, tables: Database) -> Left
+fn unchanged(alloc: Global, tables: Tables) -> Left
     ensures tables { result.tables ≡ tables }
     ensures reply { result.reply ≡ no_reply }
 {
@@ -105,7 +105,7 @@ fn run_call(
     alloc: Global,
     program: &Program,
     number: usize,
-    tables: Database,
+    tables: Tables,
 ) -> Result<Left, NoMemory>
     requires { KeysStand program.now.resolved.tables tables }
     ensures tables { IfOk result (λ l. l.tables ≡ tables_left tables (outcome program.now number tables)) }
@@ -146,7 +146,7 @@ pub fn run_alone(alloc: Global, program: &Program, order: &[u32]) -> Result<Seri
     ensures others { IfOk result (λ s. OthersSilent program.now order.now s.replies) }
     ensures stopped { IfOk result (λ s. StoppedUnchanged program.now order.now s.replies) }
 {
-    let mut tables = program.opening.copy(alloc)?;
+    let mut tables = tables_of(alloc, &program.opening)?;
     let mut replies = silent(alloc, program.resolved.calls.len())?;
     for i in 0..order.len() {
         let number = order[i] as usize;
@@ -157,5 +157,6 @@ pub fn run_alone(alloc: Global, program: &Program, order: &[u32]) -> Result<Seri
         tables = after;
         replies.set(number, reply);
     }
+    let tables = database_of(alloc, tables)?;
     Ok(Serial { replies, tables })
 }

@@ -1,46 +1,141 @@
-//! Executes UPDATE on the rows of a table.
+//! Changes of rows, and how to undo them.
 
-ghost use Rattle.std.specs.Prelude.{◌≡◌, Ok, slice_set};
+ghost use Rattle.std.specs.Prelude.{◌≡◌, [], Some, slice_set, IfOk, OnOk};
+ghost use Rattle.mv_values.specs.Keys.{IsRising};
+ghost use Rattle.mv_values.specs.Patching.{row_of, placed};
 ghost use Rattle.mv_values.specs.Tables.{rows_at};
-ghost use Rattle.mv_alone.specs.Outcome.{Leaves, then_do};
-ghost use Rattle.mv_alone.specs.Changes.{set_row, updated};
-ghost use Rattle.mv_alone.specs.Spans.{HoldsMatches};
-ghost use Rattle.mv_serial.specs.Undoing.{StaysUndoable};
+ghost use Rattle.mv_serial.specs.Changing.{changed, changed_by, KeepsUndo};
 
-use crate::undo::{Undo, change_row};
-use mv_alone::find::{Span, is_match, rows_in};
-use mv_alone::made::row_after_set;
-use mv_alone::state::{Check, Env, Stop};
-use mv_catalog::resolved::RSetItem;
+use mv_table::table::{Table, Tables};
+use mv_values::copied::Copied;
 use mv_values::list::List;
-use mv_values::rows::Database;
-use mv_values::schema::Column;
+use mv_values::memory::NoMemory;
+use mv_values::rows::Keyed;
+use mv_values::value::{Key, Row};
 use std::alloc::Global;
 
-/// Replaces each matching row by its new version.
-pub(crate) fn update_rows(
-    alloc: Global,
-    columns: &[Column],
-    keys: &[u8],
-    env: &Env,
-    items: &[RSetItem],
-    checks: &[Check],
-    table: u16,
-    span: Span,
-    tables: &mut Database,
-    undo: &mut List<Undo>,
-) -> Result<(), Stop>
-    requires { HoldsMatches checks.now (rows_at tables.old table) span }
-    ensures rows { Leaves result tables.new (then_do (updated (λ row. set_row columns.now keys.now env.now row items.now row) checks.now (rows_at tables.old table)) (λ rows. Ok (slice_set tables.old table rows))) }
-    ensures undo { StaysUndoable result undo.old tables.old undo.new tables.new }
+/// A change of a table: the row that is put under a key, or none to remove the row there.
+#[derive(Drop)]
+pub(crate) struct Change {
+    pub table: u16,
+    pub key: Key,
+    pub row: Option<Row>,
+}
+
+/// Takes a table out, and leaves an empty one.
+fn take_table(alloc: Global, tables: &mut Tables, table: u16) -> Table
+    ensures rows { result ≡ rows_at tables.old table }
+    ensures left { tables.new ≡ slice_set tables.old table [] }
 {
-    for at in span.from..span.to {
-        let item = &rows_in(tables, table)[at];
-        if !is_match(checks, item.row.as_slice()) {
-            continue;
+    if (table as usize) < tables.len() {
+        tables.replace(table as usize, Table::new(alloc))
+    } else {
+        Table::new(alloc)
+    }
+}
+
+/// Puts a table back.
+fn put_table(tables: &mut Tables, table: u16, rows: Table)
+    ensures { tables.new ≡ slice_set tables.old table rows }
+{
+    if (table as usize) < tables.len() {
+        tables.set(table as usize, rows);
+    }
+}
+
+/// Puts a row under a key, and returns the one that was there. Copies the key only if there was none.
+fn put_row(alloc: Global, rows: &mut Table, key: &Key, row: Row) -> Result<Option<Row>, NoMemory>
+    ensures rows { OnOk result (rows.new ≡ placed key.now (Some row) rows.old) }
+    ensures was { IfOk result (λ was. was ≡ row_of rows.old key.now) }
+{
+    match rows.replace(key, row) {
+        Ok(was) => Ok(Some(was)),
+        Err(row) => {
+            let key = key.copy(alloc)?;
+            rows.put(key, row)
         }
-        let row = row_after_set(alloc, columns, keys, env, &item.row, items)?;
-        change_row(alloc, tables, undo, table, at, row)?;
+    }
+}
+
+/// Puts a row under a key, or removes the one there, and returns what was there.
+fn set_row(
+    alloc: Global,
+    rows: &mut Table,
+    key: &Key,
+    row: Option<Row>,
+) -> Result<Option<Row>, NoMemory>
+    ensures rising { IsRising rows.old }
+    ensures rows { OnOk result (rows.new ≡ placed key.now row rows.old) }
+    ensures was { IfOk result (λ was. was ≡ row_of rows.old key.now) }
+{
+    let _len = rows.len();
+    match row {
+        Some(row) => put_row(alloc, rows, key, row),
+        None => Ok(rows.take(key)),
+    }
+}
+
+/// Makes a change, and returns the one that undoes it. Takes logarithmic time.
+fn make(alloc: Global, tables: &mut Tables, change: Change) -> Result<Change, NoMemory>
+    ensures tables { OnOk result (tables.new ≡ changed change tables.old) }
+    ensures back { IfOk result (λ back. changed back tables.new ≡ tables.old) }
+{
+    let Change { table, key, row } = change;
+    let mut rows = take_table(alloc, tables, table);
+    let row = set_row(alloc, &mut rows, &key, row)?;
+    put_table(tables, table, rows);
+    Ok(Change { table, key, row })
+}
+
+/// Puts a row under its key, and returns the change that undoes this, which has the row that was there. Takes
+/// logarithmic time.
+pub(crate) fn add(
+    alloc: Global,
+    tables: &mut Tables,
+    table: u16,
+    item: Keyed,
+) -> Result<Change, NoMemory>
+    ensures rising { IsRising (rows_at tables.old table) }
+    ensures tables { OnOk result (tables.new ≡ slice_set tables.old table (placed item.key (Some item.row) (rows_at tables.old table))) }
+    ensures was { IfOk result (λ back. back.row ≡ row_of (rows_at tables.old table) item.key) }
+    ensures back { IfOk result (λ back. changed back tables.new ≡ tables.old) }
+{
+    let Keyed { key, row } = item;
+    let mut rows = take_table(alloc, tables, table);
+    let _len = rows.len();
+    let row = rows.put(key.copy(alloc)?, row)?;
+    put_table(tables, table, rows);
+    Ok(Change { table, key, row })
+}
+
+/// Makes all changes, from the last to the first, and remembers how to undo each.
+pub(crate) fn make_all(
+    alloc: Global,
+    tables: &mut Tables,
+    undo: &mut List<Change>,
+    changes: List<Change>,
+) -> Result<(), NoMemory>
+    ensures tables { OnOk result (tables.new ≡ changed_by changes tables.old) }
+    ensures undo { OnOk result (KeepsUndo undo.old tables.old undo.new tables.new) }
+{
+    let mut changes = changes;
+    while let Some(change) = changes.pop() {
+        let back = make(alloc, tables, change)?;
+        undo.push(back)?;
+    }
+    Ok(())
+}
+
+/// Undoes all changes, from the last to the first.
+pub(crate) fn undo_all(
+    alloc: Global,
+    tables: &mut Tables,
+    undo: &mut List<Change>,
+) -> Result<(), NoMemory>
+    ensures { OnOk result (tables.new ≡ changed_by undo.old tables.old) }
+{
+    while let Some(change) = undo.pop() {
+        let _back = make(alloc, tables, change)?;
     }
     Ok(())
 }

@@ -1,47 +1,56 @@
 //! Executes DELETE.
 
-ghost use Rattle.std.specs.Prelude.{◌≡◌, slice_set, OnOk};
+ghost use Rattle.std.specs.Prelude.{◌≡◌, map, IfOk, OnOk};
+ghost use Rattle.mv_values.specs.Keys.{IsRising};
 ghost use Rattle.mv_values.specs.Tables.{rows_at, KeysStand};
+ghost use Rattle.mv_table.specs.Entries.{seen};
 ghost use Rattle.mv_alone.specs.Outcome.{Leaves};
-ghost use Rattle.mv_alone.specs.Changes.{without, OthersStay};
+ghost use Rattle.mv_alone.specs.Rows.{matching};
+ghost use Rattle.mv_alone.specs.Changes.{OthersStay};
 ghost use Rattle.mv_alone.specs.Alone.{delete};
-ghost use Rattle.mv_alone.specs.Spans.{HoldsMatches};
-ghost use Rattle.mv_serial.specs.Undoing.{KeepsUndo, StaysUndoable};
+ghost use Rattle.mv_serial.specs.Changing.{removals, StaysUndoable};
 
-use crate::undo::{Undo, remove_row};
+use crate::change::{Change, make_all};
 use mv_alone::env::set_found;
-use mv_alone::find::{Span, checks_from, has_match, is_match, near_matches, rows_in, span_in};
+use mv_alone::find::{checks_from, matches_in};
 use mv_alone::state::{Check, State, Stop};
 use mv_catalog::resolved::RCond;
+use mv_table::table::{Entry, Tables};
+use mv_values::copied::Copied;
 use mv_values::list::List;
 use mv_values::memory::NoMemory;
-use mv_values::rows::Database;
 use mv_values::schema::TableInfo;
 use std::alloc::Global;
 
-/// Removes each matching row. The last one goes first, so that the places before it stay valid.
-fn delete_rows(
-    alloc: Global,
-    checks: &[Check],
-    table: u16,
-    span: Span,
-    tables: &mut Database,
-    undo: &mut List<Undo>,
-) -> Result<(), NoMemory>
-    requires { HoldsMatches checks.now (rows_at tables.old table) span }
-    ensures rows { OnOk result (tables.new ≡ slice_set tables.old table (without checks.now (rows_at tables.old table))) }
-    ensures undo { OnOk result (KeepsUndo undo.old tables.old undo.new tables.new) }
+/// Returns the changes that remove each of the rows.
+fn removals_of(alloc: Global, table: u16, rows: &[Entry<'_>]) -> Result<List<Change>, NoMemory>
+    ensures { IfOk result (λ changes. changes ≡ removals table (map seen rows.now)) }
 {
-    let mut at = span.to;
-    while at > span.from {
-        at -= 1;
-        let item = &rows_in(tables, table)[at];
-        if !is_match(checks, item.row.as_slice()) {
-            continue;
-        }
-        remove_row(alloc, tables, undo, table, at)?;
+    let mut changes = List::new(alloc);
+    for entry in rows {
+        changes.push(Change {
+            table,
+            key: entry.key.copy(alloc)?,
+            row: None,
+        })?;
     }
-    Ok(())
+    Ok(changes)
+}
+
+/// Returns the changes that remove each matching row.
+fn removals_in(
+    alloc: Global,
+    infos: &[TableInfo],
+    tables: &Tables,
+    table: u16,
+    checks: &[Check],
+) -> Result<List<Change>, NoMemory>
+    requires { KeysStand infos.now tables.now }
+    ensures changes { IfOk result (λ changes. changes ≡ removals table (matching checks.now (rows_at tables.now table))) }
+    ensures rising { IfOk result (λ changes. IsRising (rows_at tables.now table)) }
+{
+    let found = matches_in(alloc, infos, tables, table, checks)?;
+    removals_of(alloc, table, found.as_slice())
 }
 
 /// Executes DELETE.
@@ -51,7 +60,7 @@ pub(crate) fn run_delete(
     table: u16,
     conds: &[RCond],
     state: &mut State,
-    undo: &mut List<Undo>,
+    undo: &mut List<Change>,
 ) -> Result<(), Stop>
     requires { KeysStand infos.now state.old.tables }
     ensures does { Leaves result state.new (delete table conds.now state.old) }
@@ -60,17 +69,9 @@ pub(crate) fn run_delete(
     ensures undo { StaysUndoable result undo.old state.old.tables undo.new state.new.tables }
 {
     let checks = checks_from(alloc, conds, &state.env)?;
-    let near = near_matches(infos, &state.tables, table, checks.as_slice());
-    let found = has_match(checks.as_slice(), near);
-    let span = span_in(infos, &state.tables, table, checks.as_slice());
-    delete_rows(
-        alloc,
-        checks.as_slice(),
-        table,
-        span,
-        &mut state.tables,
-        undo,
-    )?;
+    let changes = removals_in(alloc, infos, &state.tables, table, checks.as_slice())?;
+    let found = changes.len() > 0;
+    make_all(alloc, &mut state.tables, undo, changes)?;
     set_found(&mut state.env, found)?;
     Ok(())
 }

@@ -7,5 +7,6 @@ mod deleting;
 mod inserting;
 mod run;
 mod statements;
+mod tables;
 mod totals;
-mod undo;
+mod updating;

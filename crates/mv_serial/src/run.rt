@@ -1,22 +1,17 @@
 //! Executes statements that hold no others.
 
-ghost use Rattle.std.specs.Prelude.{◌≡◌, OnOk};
+ghost use Rattle.std.specs.Prelude.{◌≡◌};
 ghost use Rattle.mv_values.specs.Tables.{KeysStand};
 ghost use Rattle.mv_alone.specs.Outcome.{Leaves};
-ghost use Rattle.mv_alone.specs.Alone.{assign, select, update, print};
-ghost use Rattle.mv_alone.specs.Changes.{OthersStay};
-ghost use Rattle.mv_serial.specs.Undoing.{StaysUndoable};
+ghost use Rattle.mv_alone.specs.Alone.{assign, select, print};
 
-use crate::change::update_rows;
-use crate::undo::Undo;
 use mv_alone::env::{set_columns, set_found, set_value};
 use mv_alone::expr::{number_in, offset, value, values};
-use mv_alone::find::{checks_from, columns_in, has_match, key_in, near_matches, span_in};
+use mv_alone::find::{checks_from, matches_in};
 use mv_alone::line::line_from;
 use mv_alone::order::chosen_row;
 use mv_alone::state::{State, Stop};
-use mv_catalog::resolved::{RCond, RExpr, RSetItem, RSort};
-use mv_values::list::List;
+use mv_catalog::resolved::{RCond, RExpr, RSort};
 use mv_values::schema::TableInfo;
 use std::alloc::Global;
 
@@ -53,8 +48,8 @@ pub(crate) fn run_select(
 {
     let checks = checks_from(alloc, conds, &state.env)?;
     let at = offset(alloc, skip, &state.env)?;
-    let near = near_matches(infos, &state.tables, table, checks.as_slice());
-    let found = chosen_row(alloc, checks.as_slice(), sorts, near, number_in(&at))?;
+    let near = matches_in(alloc, infos, &state.tables, table, checks.as_slice())?;
+    let found = chosen_row(alloc, sorts, near.as_slice(), number_in(&at))?;
     match found {
         None => set_found(&mut state.env, false)?,
         Some(item) => {
@@ -72,41 +67,5 @@ pub(crate) fn run_print(alloc: Global, exprs: &[RExpr], state: &mut State) -> Re
 {
     let values = values(alloc, exprs, &state.env)?;
     state.lines.push(line_from(alloc, values.as_slice())?)?;
-    Ok(())
-}
-
-/// Executes UPDATE.
-pub(crate) fn run_update(
-    alloc: Global,
-    tables: &[TableInfo],
-    table: u16,
-    items: &[RSetItem],
-    conds: &[RCond],
-    state: &mut State,
-    undo: &mut List<Undo>,
-) -> Result<(), Stop>
-    requires { KeysStand tables.now state.old.tables }
-    ensures does { Leaves result state.new (update tables.now table items.now conds.now state.old) }
-    ensures keys { OnOk result (KeysStand tables.now state.new.tables) }
-    ensures others { OnOk result (OthersStay table state.old.tables state.new.tables) }
-    ensures undo { StaysUndoable result undo.old state.old.tables undo.new state.new.tables }
-{
-    let checks = checks_from(alloc, conds, &state.env)?;
-    let near = near_matches(tables, &state.tables, table, checks.as_slice());
-    let found = has_match(checks.as_slice(), near);
-    let span = span_in(tables, &state.tables, table, checks.as_slice());
-    update_rows(
-        alloc,
-        columns_in(tables, table),
-        key_in(tables, table),
-        &state.env,
-        items,
-        checks.as_slice(),
-        table,
-        span,
-        &mut state.tables,
-        undo,
-    )?;
-    set_found(&mut state.env, found)?;
     Ok(())
 }

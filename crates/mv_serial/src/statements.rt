@@ -1,21 +1,23 @@
 //! Executes statements one after another, and those that hold others.
 
 ghost use Rattle.std.specs.Prelude.{◌≡◌, ◌++◌, [], drop, Ok, OnOk};
-ghost use Rattle.mv_values.specs.Tables.{KeysStand};
+ghost use Rattle.mv_values.specs.Tables.{rows_at, KeysStand};
+ghost use Rattle.mv_alone.specs.Rows.{checks_of, matching};
 ghost use Rattle.mv_alone.specs.Outcome.{Gives, Leaves, then_do};
 ghost use Rattle.mv_alone.specs.Value.{value_of, is_so};
 ghost use Rattle.mv_alone.specs.Env.{with_found};
-ghost use Rattle.mv_alone.specs.Alone.{alone, does, is_turn, loop_over, for_rows, for_select};
-ghost use Rattle.mv_serial.specs.Undoing.{StaysUndoable};
+ghost use Rattle.mv_alone.specs.Alone.{alone, does, fixed, is_turn, loop_over, for_rows, for_select};
+ghost use Rattle.mv_serial.specs.Changing.{StaysUndoable};
 
+use crate::change::Change;
 use crate::deleting::run_delete;
 use crate::inserting::run_insert;
-use crate::run::{run_assign, run_print, run_select, run_update};
+use crate::run::{run_assign, run_print, run_select};
 use crate::totals::run_total;
-use crate::undo::Undo;
+use crate::updating::run_update;
 use mv_alone::env::{copied_turns, set_found, set_held};
 use mv_alone::expr::{holds, value};
-use mv_alone::find::{checks_from, near_matches};
+use mv_alone::find::{checks_from, matches_in};
 use mv_alone::fixing::fixed_rows;
 use mv_alone::state::{Env, Held, State, Stop};
 use mv_catalog::resolved::{RCond, RExpr, RSort, RStmt};
@@ -49,7 +51,7 @@ pub(crate) fn run_all(
     tables: &[TableInfo],
     statements: &[RStmt],
     state: &mut State,
-    undo: &mut List<Undo>,
+    undo: &mut List<Change>,
 ) -> Result<(), Stop>
     requires { KeysStand tables.now state.old.tables }
     ensures does { Leaves result state.new (alone tables.now statements.now state.old) }
@@ -69,7 +71,7 @@ fn run_one(
     tables: &[TableInfo],
     statement: &RStmt,
     state: &mut State,
-    undo: &mut List<Undo>,
+    undo: &mut List<Change>,
 ) -> Result<(), Stop>
     requires { KeysStand tables.now state.old.tables }
     ensures does { Leaves result state.new (does tables.now statement.now state.old) }
@@ -159,6 +161,25 @@ fn run_one(
     }
 }
 
+/// Returns the rows of a FOR over SELECT, fixed before its first turn.
+fn turns_of(
+    alloc: Global,
+    tables: &[TableInfo],
+    once: bool,
+    columns: &[u16],
+    table: u16,
+    conds: &[RCond],
+    sorts: &[RSort],
+    state: &State,
+) -> Result<List<Row>, Stop>
+    requires { KeysStand tables.now state.now.tables }
+    ensures { Gives result (then_do (checks_of conds.now state.now.env) (λ checks. Ok (fixed once columns.now sorts.now (matching checks (rows_at state.now.tables table))))) }
+{
+    let checks = checks_from(alloc, conds, &state.env)?;
+    let found = matches_in(alloc, tables, &state.tables, table, checks.as_slice())?;
+    Ok(fixed_rows(alloc, once, columns, sorts, found.as_slice())?)
+}
+
 /// Executes FOR over SELECT.
 #[cycle(statements)]
 fn run_turns(
@@ -172,22 +193,14 @@ fn run_turns(
     sorts: &[RSort],
     body: &[RStmt],
     state: &mut State,
-    undo: &mut List<Undo>,
+    undo: &mut List<Change>,
 ) -> Result<(), Stop>
     requires { KeysStand tables.now state.old.tables }
     ensures does { Leaves result state.new (for_select row once columns.now table conds.now sorts.now (alone tables.now body.now) state.old) }
     ensures keys { OnOk result (KeysStand tables.now state.new.tables) }
     ensures undo { StaysUndoable result undo.old state.old.tables undo.new state.new.tables }
 {
-    let checks = checks_from(alloc, conds, &state.env)?;
-    let rows = fixed_rows(
-        alloc,
-        once,
-        columns,
-        sorts,
-        checks.as_slice(),
-        near_matches(tables, &state.tables, table, checks.as_slice()),
-    )?;
+    let rows = turns_of(alloc, tables, once, columns, table, conds, sorts, state)?;
     run_loop(alloc, tables, row, body, rows.as_slice(), state, undo)
 }
 
@@ -200,7 +213,7 @@ fn run_rows(
     parameter: u16,
     body: &[RStmt],
     state: &mut State,
-    undo: &mut List<Undo>,
+    undo: &mut List<Change>,
 ) -> Result<(), Stop>
     requires { KeysStand tables.now state.old.tables }
     ensures does { Leaves result state.new (for_rows row parameter (alone tables.now body.now) state.old) }
@@ -220,7 +233,7 @@ fn run_loop(
     body: &[RStmt],
     rows: &[Row],
     state: &mut State,
-    undo: &mut List<Undo>,
+    undo: &mut List<Change>,
 ) -> Result<(), Stop>
     requires { KeysStand tables.now state.old.tables }
     ensures does { Leaves result state.new (loop_over row (alone tables.now body.now) rows.now state.old) }

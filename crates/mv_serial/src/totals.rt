@@ -1,17 +1,33 @@
 //! Executes SELECT with an aggregate.
 
-ghost use Rattle.std.specs.Prelude.{◌≡◌};
+ghost use Rattle.std.specs.Prelude.{◌≡◌, OnOk};
 ghost use Rattle.mv_values.specs.Tables.{KeysStand};
 ghost use Rattle.mv_alone.specs.Outcome.{Leaves};
-ghost use Rattle.mv_alone.specs.Alone.{sum_up};
+ghost use Rattle.mv_alone.specs.Alone.{sum_up, totalled};
+ghost use Rattle.mv_alone.specs.Env.{with_found};
 
 use mv_alone::env::{set_found, set_value};
-use mv_alone::find::{checks_from, has_match, near_matches};
-use mv_alone::state::{State, Stop};
+use mv_alone::find::{checks_from, matches_in};
+use mv_alone::state::{Env, State, Stop};
 use mv_alone::totals::aggregate_of;
 use mv_catalog::resolved::{RAgg, RCond};
+use mv_values::memory::NoMemory;
 use mv_values::schema::TableInfo;
+use mv_values::value::Value;
 use std::alloc::Global;
+
+/// Stores a total, where there is one, and `:found`.
+fn store_total(env: &mut Env, to: u16, total: Option<Value>, found: bool) -> Result<(), NoMemory>
+    ensures { OnOk result (env.new ≡ with_found (totalled to total env.old) found) }
+{
+    match total {
+        None => set_found(env, found),
+        Some(v) => {
+            set_value(env, to, v)?;
+            set_found(env, found)
+        }
+    }
+}
 
 /// Executes SELECT with an aggregate.
 pub(crate) fn run_total(
@@ -28,15 +44,10 @@ pub(crate) fn run_total(
     ensures does { Leaves result state.new (sum_up agg to table conds.now state.old) }
 {
     let checks = checks_from(alloc, conds, &state.env)?;
-    let near = near_matches(infos, &state.tables, table, checks.as_slice());
-    let found = has_match(checks.as_slice(), near);
-    let value = aggregate_of(alloc, agg, checks.as_slice(), near)?;
-    match value {
-        None => set_found(&mut state.env, found)?,
-        Some(v) => {
-            set_value(&mut state.env, to, v)?;
-            set_found(&mut state.env, found)?;
-        }
-    }
+    let matches = matches_in(alloc, infos, &state.tables, table, checks.as_slice())?;
+    let rows = matches.as_slice();
+    let found = rows.len() > 0;
+    let value = aggregate_of(alloc, agg, rows)?;
+    store_total(&mut state.env, to, value, found)?;
     Ok(())
 }

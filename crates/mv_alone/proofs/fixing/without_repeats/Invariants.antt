@@ -6,6 +6,6 @@ use Rattle.mv_alone.specs.Once.{once_each}
 use Rattle.mv_alone.proofs.fixing.without_repeats.Given as goal
 
 abbrev pub invariant-loop-item : goal.invariant-loop-item
-invariant-loop-item l =
-    l.all ++ once_each (option_map (λ i. columns_of i.row l.columns) (option_copied l.before)) (projected l.columns (map (λ r. r.now) (drop l.item-index l.items)))
-    ≡ once_each None (projected l.columns (map (λ r. r.now) l.items))
+invariant-loop-item g l =
+    l.all ++ once_each (option_map (λ i. columns_of (g.R.Stored.keyed i).row l.columns) (option_copied l.before)) (projected l.columns (map (λ r. g.R.Stored.keyed r.now) (drop l.item-index l.items)))
+    ≡ once_each None (projected l.columns (map (λ r. g.R.Stored.keyed r.now) l.items))

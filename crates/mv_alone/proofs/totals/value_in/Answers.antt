@@ -2,4 +2,4 @@ use Rattle.std.proofs.Common.{refl}
 use Rattle.mv_alone.proofs.totals.value_in.Goals as goal
 
 pub returns-in-None : goal.returns-in-None
-returns-in-None c = rw c.in-None.is refl
+returns-in-None g c = rw c.in-None.is refl

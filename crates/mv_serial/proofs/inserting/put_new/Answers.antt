@@ -1,19 +1,19 @@
-use Rattle.std.proofs.Common.{Ok, slice_set, sym, ap, ◌∙◌}
-use Rattle.mv_values.specs.Tables.{rows_at}
-use Rattle.mv_alone.specs.Outcome.{then_do}
-use Rattle.mv_serial.proofs.Placing.{put_gap, put_there, rising_insert}
+use Rattle.mv_serial.proofs.Changing.{keeps}
+use Rattle.mv_serial.proofs.Renewing.{puts, puts_row, puts_none}
 use Rattle.mv_serial.proofs.inserting.put_new.Goals as goal
 
-pub add_row-requires-clause-rising : goal.add_row-requires-clause-rising
-add_row-requires-clause-rising c = rising_insert (rows_at c.args.tables.now c.args.table) c.args.item c.in-Err.at c.place_in.ensures.rising (rw c.as_slice.ensures at c.in-Err.ensures.place)
+pub returns-clause-rows : goal.returns-clause-rows
+returns-clause-rows c =
+    puts_row c.in_ok-back.back.row c.args.item c.args.tables.now c.add.new.tables c.args.table c.if-not-is_new.ensures
+    (puts c.in_ok-back.back.row c.args.item c.args.tables.now c.add.new.tables c.args.table c.in_ok-back.ensures.rising c.in_ok-back.ensures.was c.in_ok-back.ensures.tables)
 
-pub returns-in-Ok-clause-rows : goal.returns-in-Ok-clause-rows
-returns-in-Ok-clause-rows c =
-    ap (λ r. then_do r (λ rows. Ok (slice_set c.args.tables.now c.args.table rows)))
-    (put_there (rows_at c.args.tables.now c.args.table) c.args.item c.in-Ok.field-0 c.place_in.ensures.rising (rw c.as_slice.ensures at c.in-Ok.ensures.place))
+pub returns-clause-undo : goal.returns-clause-undo
+returns-clause-undo c = rw c.in_ok-push.ensures.ok (keeps c.args.undo.now c.in_ok-back.back c.args.tables.now c.add.new.tables c.in_ok-back.ensures.back)
 
-pub returns-in_ok-add_row-in-Err-clause-rows : goal.returns-in_ok-add_row-in-Err-clause-rows
-returns-in_ok-add_row-in-Err-clause-rows c =
-    ap (λ r. then_do r (λ rows. Ok (slice_set c.args.tables.now c.args.table rows)))
-    (put_gap (rows_at c.args.tables.now c.args.table) c.args.item c.in-Err.at (rw c.as_slice.ensures at c.in-Err.ensures.place))
-    ∙ ap Ok (sym c.in_ok-add_row-in-Err.ensures.tables)
+pub returns-then-not-is_new-clause-rows : goal.returns-then-not-is_new-clause-rows
+returns-then-not-is_new-clause-rows c =
+    puts_none c.in_ok-back.back.row c.args.item c.args.tables.now c.add.new.tables c.args.table c.if-not-is_new.ensures
+    (puts c.in_ok-back.back.row c.args.item c.args.tables.now c.add.new.tables c.args.table c.in_ok-back.ensures.rising c.in_ok-back.ensures.was c.in_ok-back.ensures.tables)
+
+pub returns-then-not-is_new-clause-undo : goal.returns-then-not-is_new-clause-undo
+returns-then-not-is_new-clause-undo c = rw c.in_ok-push.ensures.ok (keeps c.args.undo.now c.in_ok-back.back c.args.tables.now c.add.new.tables c.in_ok-back.ensures.back)

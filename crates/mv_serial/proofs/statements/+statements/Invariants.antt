@@ -1,7 +1,7 @@
 use Rattle.std.proofs.Common.{◌≡◌, drop}
 use Rattle.mv_values.specs.Tables.{KeysStand}
 use Rattle.mv_alone.specs.Alone.{alone, each_turn, loop_over}
-use Rattle.mv_serial.specs.Undoing.{KeepsUndo}
+use Rattle.mv_serial.specs.Changing.{KeepsUndo}
 use Rattle.mv_serial.proofs.statements.+statements.Given as goal
 
 abbrev pub invariant-run_all-loop-statement : goal.invariant-run_all-loop-statement

@@ -1,0 +1,24 @@
+use Rattle.std.proofs.Common.{rules, ◌≡◌, map, ap, sym, subst, ◌∙◌}
+use Rattle.std.specs.List.{filter}
+use Rattle.std.proofs.lemmas.Fn.{filter_same}
+use Rattle.std.proofs.lemmas.List.Kept.{AllPairs-filter}
+use Rattle.mv_values.specs.Keys.{IsRising, IsBelow}
+use Rattle.mv_table.specs.Entries.{seen}
+use Rattle.mv_alone.specs.Rows.{meets, matching}
+use Rattle.mv_alone.proofs.Spanning.{span_matches, filter_seen}
+use Rattle.mv_alone.proofs.find.matches_of.Goals as goal
+
+pub returns-clause-rows : goal.returns-clause-rows
+returns-clause-rows c =
+    let checks = c.args.checks.now in
+    let found = c.in_ok-found.found.items in
+    let covers = rw c.as_slice.ensures at c.in_ok-span.ensures.covers in
+    let kept : c.retain.new.self.items ≡ filter (λ e. meets checks (seen e).row) found = filter_same _ (λ e. meets checks (seen e).row) _ (λ x b f r. search rules) _ _ c.retain.ensures.filtered in
+    ap (λ es. map seen es) kept
+    ∙ (filter_seen seen (λ item. meets checks item.row) found
+    ∙ (ap (matching checks) c.in_ok-found.ensures.rows ∙ span_matches c.args.keys.now checks c.in_ok-tests.tests c.in_ok-span.span c.args.table.now c.requires c.in_ok-tests.ensures covers))
+
+pub returns-clause-rising : goal.returns-clause-rising
+returns-clause-rising c =
+    let checks = c.args.checks.now in
+    subst IsRising (sym (returns-clause-rows c)) (AllPairs-filter (λ a b. IsBelow b.key a) (λ item. meets checks item.row) c.args.table.now c.in_ok-found.ensures.rising)

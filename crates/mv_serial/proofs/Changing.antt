@@ -1,0 +1,72 @@
+-- Changes of tables, and those that take changes back.
+use Rattle.std.proofs.Common.{◌≡◌, ◌<◌, ◌≤◌, ℕ, zero, suc, Bool, true, false, List, [], ◌∷◌, ◌++◌, Option, length, slice_set, refl, sym, ap, subst, ◌∙◌, inl, inr, arith}
+use Rattle.std.specs.Ordering.{is_eq}
+use Rattle.std.specs.declared.cmp.Ordering.{Ordering}
+use Rattle.std.specs.declared.cmp.Ordering.TheVariants.{Less, Equal, Greater}
+use Rattle.std.proofs.lemmas.Bool.{cases_lt}
+use Rattle.std.proofs.lemmas.List.{set-set, get_or-set_same, set-get_or}
+use Rattle.mv_values.specs.declared.value.Value.{Value}
+use Rattle.mv_values.specs.declared.rows.Keyed.{Keyed}
+use Rattle.mv_values.specs.Keys.{IsRising}
+use Rattle.mv_values.specs.Order.{key_order}
+use Rattle.mv_values.specs.Patching.{row_of, placed}
+use Rattle.mv_values.specs.Tables.{rows_at}
+use Rattle.mv_values.proofs.KeyOrder.{exact_keys}
+use Rattle.mv_record.proofs.Patching.{rows_same, row_of-placed_same, placed_other, rising_placed}
+use Rattle.mv_serial.specs.declared.change.Change.{Change}
+use Rattle.mv_serial.specs.Changing.{changed, changed_by, KeepsUndo}
+
+abbrev pub Tables : Type 0
+Tables = List (List Keyed)
+
+-- a table that was taken out, put back
+pub put_back : (db : Tables) (t : ℕ) (rows : List Keyed) → slice_set (slice_set db t []) t rows ≡ slice_set db t rows
+put_back db t rows = set-set db t [] rows
+
+equal_is : (o : Ordering) → is_eq o ≡ true → o ≡ Equal
+equal_is Less h = cc
+equal_is Equal h = refl
+equal_is Greater h = cc
+
+-- what was under a key, put there again
+placed_back : (rows : List Keyed) (key : List Value) (row : Option (List Value)) → IsRising rows → placed key (row_of rows key) (placed key row rows) ≡ rows
+placed_back rows key row rising =
+    rows_same (placed key (row_of rows key) (placed key row rows)) rows (rising_placed key (row_of rows key) (placed key row rows) (rising_placed key row rows rising)) rising (λ other. by other (is_eq (key_order key other)) refl)
+  where
+    by : (other : List Value) (b : Bool) → is_eq (key_order key other) ≡ b → row_of (placed key (row_of rows key) (placed key row rows)) other ≡ row_of rows other
+    by other true e =
+        let same : key ≡ other = exact_keys key other (equal_is (key_order key other) e) in
+        subst (λ k. row_of (placed key (row_of rows key) (placed key row rows)) k ≡ row_of rows k) same
+        (row_of-placed_same key (row_of rows key) (placed key row rows) (rising_placed key row rows rising))
+    by other false e = placed_other key (row_of rows key) (placed key row rows) other e ∙ placed_other key row rows other e
+
+set_past : (db : Tables) (t : ℕ) (rows : List Keyed) → length db ≤ t → slice_set db t rows ≡ db
+set_past [] t rows le = refl
+set_past (r ∷ db) zero rows le = absurd (omega (arith, le))
+set_past (r ∷ db) (suc t) rows le = ap (λ d. r ∷ d) (set_past db t rows (omega (arith, le)))
+
+-- a key changed in a table that was set
+pub changed_again : (db : Tables) (t : ℕ) (rows : List Keyed) (key : List Value) (row : Option (List Value)) → slice_set (slice_set db t rows) t (placed key row (rows_at (slice_set db t rows) t)) ≡ slice_set db t (placed key row rows)
+changed_again db t rows key row =
+    elim (cases_lt t (length db)) [
+      | inl within ↦ ap (λ rs. slice_set (slice_set db t rows) t (placed key row rs)) (get_or-set_same db t rows [] within) ∙ set-set db t rows (placed key row rows)
+      | inr past ↦ ap (λ (d : Tables). slice_set d t (placed key row (rows_at d t))) (set_past db t rows past) ∙ (set_past db t (placed key row (rows_at db t)) past ∙ sym (set_past db t (placed key row rows) past))
+    ]
+
+-- a change is taken back by the row that was there
+pub taken_back : (t : ℕ) (key : List Value) (row was : Option (List Value)) (db new : Tables) → IsRising (rows_at db t) → new ≡ slice_set db t (placed key row (rows_at db t)) → was ≡ row_of (rows_at db t) key
+    → changed (record { table = t; key = key; row = was }) new ≡ db
+taken_back t key row was db new rising is before =
+    ap (λ (d : Tables). slice_set d t (placed key was (rows_at d t))) is
+    ∙ (changed_again db t (placed key row (rows_at db t)) key was
+    ∙ (ap (λ w. slice_set db t (placed key w (placed key row (rows_at db t)))) before
+    ∙ (ap (slice_set db t) (placed_back (rows_at db t) key row rising) ∙ set-get_or db t [])))
+
+-- the last of changes is made first
+pub changed_last : (cs : List Change) (c : Change) (db : Tables) → changed_by (cs ++ c ∷ []) db ≡ changed_by cs (changed c db)
+changed_last [] c db = refl
+changed_last (d ∷ cs) c db = ap (changed d) (changed_last cs c db)
+
+-- a change that takes back what was done is remembered
+pub keeps : (us : List Change) (u : Change) (db new : Tables) → changed u new ≡ db → KeepsUndo us db (us ++ u ∷ []) new
+keeps us u db new back = changed_last us u new ∙ ap (changed_by us) back

@@ -1,0 +1,96 @@
+//! Executes UPDATE.
+
+ghost use Rattle.std.specs.Prelude.{◌≡◌, map, IfOk, OnOk};
+ghost use Rattle.mv_values.specs.Keys.{IsRising};
+ghost use Rattle.mv_values.specs.Tables.{rows_at, columns_at, key_columns, KeysStand};
+ghost use Rattle.mv_table.specs.Entries.{seen};
+ghost use Rattle.mv_alone.specs.Outcome.{Gives, Leaves};
+ghost use Rattle.mv_alone.specs.Rows.{matching};
+ghost use Rattle.mv_alone.specs.Changes.{set_row, OthersStay};
+ghost use Rattle.mv_alone.specs.Alone.{update};
+ghost use Rattle.mv_serial.specs.Changing.{renewals, StaysUndoable};
+
+use crate::change::{Change, make_all};
+use mv_alone::env::set_found;
+use mv_alone::find::{checks_from, columns_in, key_in, matches_in};
+use mv_alone::made::row_after_set;
+use mv_alone::state::{Check, Env, State, Stop};
+use mv_catalog::resolved::{RCond, RSetItem};
+use mv_table::table::Entry;
+use mv_values::copied::Copied;
+use mv_values::list::List;
+use mv_values::schema::{Column, TableInfo};
+use std::alloc::Global;
+
+/// Returns the changes that make each of the rows anew, up to the first fault.
+fn renewals_of(
+    alloc: Global,
+    columns: &[Column],
+    keys: &[u8],
+    env: &Env,
+    items: &[RSetItem],
+    table: u16,
+    rows: &[Entry<'_>],
+) -> Result<List<Change>, Stop>
+    ensures { Gives result (renewals table (λ row. set_row columns.now keys.now env.now row items.now row) (map seen rows.now)) }
+{
+    let mut changes = List::new(alloc);
+    for entry in rows {
+        let row = row_after_set(alloc, columns, keys, env, entry.row, items)?;
+        changes.push(Change {
+            table,
+            key: entry.key.copy(alloc)?,
+            row: Some(row),
+        })?;
+    }
+    Ok(changes)
+}
+
+/// Returns the changes that make each matching row anew, up to the first fault.
+fn renewals_in(
+    alloc: Global,
+    tables: &[TableInfo],
+    table: u16,
+    items: &[RSetItem],
+    checks: &[Check],
+    state: &State,
+) -> Result<List<Change>, Stop>
+    requires { KeysStand tables.now state.now.tables }
+    ensures changes { Gives result (renewals table (λ row. set_row (columns_at tables.now table) (key_columns tables.now table) state.now.env row items.now row) (matching checks.now (rows_at state.now.tables table))) }
+    ensures rising { IfOk result (λ changes. IsRising (rows_at state.now.tables table)) }
+{
+    let found = matches_in(alloc, tables, &state.tables, table, checks)?;
+    renewals_of(
+        alloc,
+        columns_in(tables, table),
+        key_in(tables, table),
+        &state.env,
+        items,
+        table,
+        found.as_slice(),
+    )
+}
+
+/// Executes UPDATE. Makes all new rows before it changes one.
+pub(crate) fn run_update(
+    alloc: Global,
+    tables: &[TableInfo],
+    table: u16,
+    items: &[RSetItem],
+    conds: &[RCond],
+    state: &mut State,
+    undo: &mut List<Change>,
+) -> Result<(), Stop>
+    requires { KeysStand tables.now state.old.tables }
+    ensures does { Leaves result state.new (update tables.now table items.now conds.now state.old) }
+    ensures keys { OnOk result (KeysStand tables.now state.new.tables) }
+    ensures others { OnOk result (OthersStay table state.old.tables state.new.tables) }
+    ensures undo { StaysUndoable result undo.old state.old.tables undo.new state.new.tables }
+{
+    let checks = checks_from(alloc, conds, &state.env)?;
+    let changes = renewals_in(alloc, tables, table, items, checks.as_slice(), state)?;
+    let found = changes.len() > 0;
+    make_all(alloc, &mut state.tables, undo, changes)?;
+    set_found(&mut state.env, found)?;
+    Ok(())
+}
