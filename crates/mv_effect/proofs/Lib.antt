@@ -6,3 +6,4 @@ pub mod Few
 pub mod Ends
 pub mod WellNamed
 pub mod AllRows
+pub mod Different

@@ -2,3 +2,4 @@ pub mod Stops
 pub mod Targets
 pub mod Naming
 pub mod Looking
+pub mod Choosing

@@ -1,17 +1,20 @@
 //! Statements that read no table.
 
-ghost use Rattle.std.specs.Prelude.{◌≡◌, ◌<◌, ◌^◌, ℕ, IfOk};
+ghost use Rattle.std.specs.Prelude.{◌≡◌, ◌<◌, ◌^◌, ℕ, List, [], Ok, IfOk};
+ghost use Rattle.mv_values.specs.declared.value.Value.{Value};
 ghost use Rattle.mv_catalog.specs.declared.resolved.RStmt.{RStmt};
 ghost use Rattle.mv_catalog.specs.declared.resolved.RStmt.TheOpen as layer;
 ghost use Rattle.mv_alone.specs.Alone.{is_turn};
+ghost use Rattle.mv_alone.specs.Value.{value_of, is_so};
 ghost use Rattle.mv_view.specs.Viewing.{Sight, MayAnswer};
 ghost use Rattle.mv_recorded.specs.Effects.{IsEffectAnywhere};
 ghost use Rattle.mv_effect.specs.Looking.{PassesOn};
 
 use crate::effect::{ended, nothing, stopped};
 use crate::setting::found_alone;
+use crate::statement::Choice;
 use mv_alone::env::copied_turns;
-use mv_alone::expr::{value, values};
+use mv_alone::expr::{holds, value, values};
 use mv_alone::line::line_from;
 use mv_alone::state::Env;
 use mv_catalog::resolved::RExpr;
@@ -39,6 +42,21 @@ pub(crate) fn assign(alloc: Global, to: u16, right: &RExpr, env: &Env) -> Result
     let mut effect = nothing(alloc);
     effect.sets.push(Slot { slot: to, value })?;
     Ok(effect)
+}
+
+/// Returns the effect of IF, which is none of its own, and whether its condition holds. The call ends if the condition is
+/// stopped.
+pub(crate) fn decide(alloc: Global, test: &RExpr, env: &Env) -> Result<Choice, Refused>
+    ensures effect { IfOk result (λ c. (ys ns : List RStmt) → IsEffectAnywhere (layer.Branch test.now ys ns) env.now c.effect) }
+    ensures branch { IfOk result (λ c. (v : Value) → value_of test.now env.now [] ≡ Ok v → c.holds ≡ is_so v) }
+    ensures refused { (sight : Sight) → MayAnswer sight sight result }
+    ensures stale { (sight : Sight) → PassesOn sight sight result }
+{
+    let (effect, holds) = match value(alloc, test, env, &[]) {
+        Ok(value) => (nothing(alloc), holds(&value)),
+        Err(stop) => (stopped(alloc, List::new(alloc), stop)?, false),
+    };
+    Ok(Choice { effect, holds })
 }
 
 /// Returns the effect of IF: none of its own. The call ends if the condition is stopped.

@@ -9,12 +9,13 @@ ghost use Rattle.mv_undo.specs.Owning.{earlier};
 ghost use Rattle.mv_view.specs.Viewing.{MayAnswer};
 ghost use Rattle.mv_recorded.specs.Effects.{IsEffect};
 ghost use Rattle.mv_record.specs.Databases.{IsDatabaseOf};
+ghost use Rattle.mv_effect.specs.Choosing.{Chooses};
 ghost use Rattle.mv_effect.specs.Looking.{IsSameView, PassesOn, different, AskedAtMost, AskedFor};
 ghost use Rattle.mv_effect.specs.Naming.{NamesColumns};
 
 use crate::changing::{delete, insert, update};
 use crate::here::Here;
-use crate::plainly::{assign, branch, for_rows, print, rollback};
+use crate::plainly::{assign, branch, decide, for_rows, print, rollback};
 use crate::selecting::{for_select, select, total};
 use mv_alone::state::Env;
 use mv_catalog::resolved::RStmt;
@@ -24,14 +25,15 @@ use mv_values::schema::TableInfo;
 use mv_view::view::{Refused, View};
 use std::alloc::Global;
 
-/// Returns the effect of a statement, given the variables before it, over the view and the own writes of records with
-/// smaller numbers. An IF only evaluates its condition, and a FOR only fixes its rows.
-///
-/// The view is asked once for the rows of the table that the statement reads, and at most once for each key that these
-/// writes are on.
-///
-/// Fails with `NoMemory` if memory runs out, and with `Stale` if the view answers `Stale`.
-pub fn effect<V: View>(
+/// The effect of a statement. Of an IF it also has whether the condition holds.
+#[derive(Drop)]
+pub struct Choice {
+    pub effect: Effect,
+    pub holds: bool,
+}
+
+/// Returns the effect of a statement, without the choice of an IF.
+fn own_effect<V: View>(
     alloc: Global,
     tables: &[TableInfo],
     statement: &RStmt,
@@ -121,4 +123,44 @@ pub fn effect<V: View>(
         RStmt::Print { values } => print(alloc, values.as_slice(), env),
         RStmt::Rollback { reason } => rollback(alloc, reason),
     }
+}
+
+/// Returns the effect of a statement, given the variables before it, over the view and the own writes of records with
+/// smaller numbers. An IF only evaluates its condition, once, and a FOR only fixes its rows.
+///
+/// The view is asked once for the rows of the table that the statement reads, and at most once for each key that these
+/// writes are on.
+///
+/// Fails with `NoMemory` if memory runs out, and with `Stale` if the view answers `Stale`.
+pub fn effect<V: View>(
+    alloc: Global,
+    tables: &[TableInfo],
+    statement: &RStmt,
+    env: &Env,
+    undo: &Undo,
+    number: usize,
+    view: &mut V,
+) -> Result<Choice, Refused>
+    requires few { length tables.now ≤ 64 }
+    requires tables { All IsTable tables.now }
+    requires names { NamesColumns tables.now (out-RStmt statement.now) }
+    requires found { env.now.found < 2 ^ 16 }
+    requires database { IsDatabaseOf tables.now (V.sight view.old).database }
+    requires behind { KeysStand tables.now (applied (earlier number undo.now) (V.sight view.old).database) }
+    ensures effect { IfOk result (λ c. IsEffect tables.now (out-RStmt statement.now) env.now (applied (earlier number undo.now) (V.sight view.old).database) c.effect) }
+    ensures branch { IfOk result (λ c. Chooses env.now c.holds (out-RStmt statement.now)) }
+    ensures refused { MayAnswer (V.sight view.old) (V.sight view.new) result }
+    ensures stale { PassesOn (V.sight view.old) (V.sight view.new) result }
+    ensures same { IsSameView (V.sight view.old) (V.sight view.new) }
+    ensures bounded { AskedAtMost 1 (different (earlier number undo.now)) (V.sight view.old) (V.sight view.new) }
+    ensures looks { IfOk result (λ c. AskedFor c.effect.preds (earlier number undo.now) (V.sight view.old) (V.sight view.new)) }
+{
+    if let RStmt::Branch { test, .. } = statement {
+        return decide(alloc, test, env);
+    }
+    let effect = own_effect(alloc, tables, statement, env, undo, number, view)?;
+    Ok(Choice {
+        effect,
+        holds: false,
+    })
 }

@@ -24,11 +24,12 @@ use Rattle.mv_recorded.specs.Effect.{with_slots, behind, EndsOnly, TellsEffect, 
 use Rattle.mv_recorded.proofs.Effects.{effect_known}
 use Rattle.mv_exec.specs.declared.places.Holder.{Holder}
 use Rattle.mv_exec.specs.declared.places.Holder.TheVariants as by
+use Rattle.mv_effect.specs.Choosing.{Chooses}
 use Rattle.mv_exec.specs.declared.places.Place.{Place}
 use Rattle.mv_exec.specs.declared.task.Task.{Task}
 use Rattle.mv_exec.specs.Left.{Job, run, left, inside}
-use Rattle.mv_exec.specs.Places.{block_of, passed, holding, site_in, site_of, some_run, some_turns, turns_of, rows_in, jobs_here, jobs_of, jobs_left}
-use Rattle.mv_exec.specs.Moves.{inner_places, Chooses, walked, moved_on}
+use Rattle.mv_exec.specs.Places.{block_of, passed, holding, site_in, site_of, some_run, some_turns, turns_of, rows_in, jobs_here, jobs_of, jobs_left, StandsAt}
+use Rattle.mv_exec.specs.Moves.{inner_places, walked, moved_on}
 use Rattle.mv_exec.specs.Tasks.{places_of, state_of, left_of, IsTask, IsHeldBefore, AreHeldBefore}
 use Rattle.mv_exec.proofs.Leaving.{statement_first}
 use Rattle.mv_exec.proofs.Placing.{jobs_more, holding_more, site_more}
@@ -86,11 +87,6 @@ state_more rs r was env db =
 
 -- The next statement
 
--- a statement stands at the innermost place
-pub record StandsAt (proc : ProcInfo) (ps outer : List Place) (p : Place) (s : RStmt) : Type 0 where
-  pub are : ps ≡ outer ++ p ∷ []
-  pub stands : slice_get (block_of proc (holding proc None outer) p) p.at ≡ Some s
-
 first_is : (tables : List TableInfo) (params : ℕ) (y : RStmt-F RStmt) (s : RStmt) (site : Site) (n : ℕ) (ss : List RStmt) (js : List Job) (before : List Record) (st : State)
     → roll-RStmt y ≡ s
     → left tables params (run site n (s ∷ ss) ∷ js) before st
@@ -108,7 +104,7 @@ within_list [] n x h = cc
 within_list (y ∷ xs) zero x h = omega arith
 within_list (y ∷ xs) (suc n) x h = let k : n < length xs = within_list xs n x h in omega arith
 
-from_first : {A : Type 0} (xs : List A) (n : ℕ) (x : A) → slice_get xs n ≡ Some x → drop n xs ≡ x ∷ drop (n + 1) xs
+pub from_first : {A : Type 0} (xs : List A) (n : ℕ) (x : A) → slice_get xs n ≡ Some x → drop n xs ≡ x ∷ drop (n + 1) xs
 from_first xs n x h =
     let f : FirstOf _ xs n = first_of xs n (is_below n (length xs) (within_list xs n x h)) in
     f.rest ∙ ap (λ (y : _). y ∷ drop (n + 1) xs) (some_is f.it x (slice_get xs n) f.there h)

@@ -11,6 +11,7 @@ use Rattle.mv_record.specs.declared.record.Record.{Record}
 use Rattle.mv_recorded.specs.Recorded.{outside, recorded}
 use Rattle.mv_undo.specs.declared.owned.Owned.{Owned}
 use Rattle.mv_undo.specs.Owning.{before}
+use Rattle.mv_graph.proofs.Texts.{whole_text}
 use Rattle.mv_exec.specs.declared.places.Place.{Place}
 use Rattle.mv_exec.specs.declared.task.Task.{Task}
 use Rattle.mv_exec.specs.Left.{left}
@@ -27,7 +28,7 @@ filled proc (s ∷ ss) e = (subst (λ (ss : List RStmt). 0 < length ss) (sym e) 
 
 numbered : (proc : ProcInfo) (body : List RStmt) → AreNumbered proc None (standing (none_in body) (first_place ∷ []))
 numbered proc [] = tt
-numbered proc (s ∷ ss) = ((omega arith, omega arith), tt)
+numbered proc (s ∷ ss) = ((whole_text proc, whole_text proc), tt)
 
 ends : (proc : ProcInfo) (body : List RStmt) → proc.body ≡ body → EndsLeft proc [] (standing (none_in body) (first_place ∷ []))
 ends proc [] e outer p h = absurd (no_last outer p (sym h))

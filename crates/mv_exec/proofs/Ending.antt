@@ -7,10 +7,10 @@ use Rattle.mv_alone.specs.declared.state.Env.{Env}
 use Rattle.mv_alone.specs.TableAfter.{Tables}
 use Rattle.mv_exec.specs.declared.places.Place.{Place}
 use Rattle.mv_exec.specs.declared.task.Task.{Task}
-use Rattle.mv_exec.specs.Places.{block_of, holding, next_turn}
+use Rattle.mv_exec.specs.Places.{block_of, holding, next_turn, StandsAt}
 use Rattle.mv_exec.specs.Tasks.{places_of, left_of, beginning, IsTask, StandsAsBefore, TellsEnd}
-use Rattle.mv_exec.proofs.Turning.{FirstOf, first_of, IsDue, standing_live, after_turn, turned_before, turned_ready}
-use Rattle.mv_exec.proofs.Adding.{StandsAt, left_next}
+use Rattle.mv_exec.proofs.Turning.{FirstOf, first_of, IsDue, standing_live, after_turn, turned_before, turned_first}
+use Rattle.mv_exec.proofs.Adding.{left_next}
 
 -- a statement that stands at the innermost place is left
 stands_left : (proc : ProcInfo) (tables : List TableInfo) (task : Task) (db : Tables) (outer : List Place) (p : Place) (s : RStmt) → StandsAt proc (places_of task) outer p s
@@ -28,7 +28,7 @@ either_left proc tables task db outer p t are none false e =
     let first : Option Env = Some (beginning task) in
     let before : StandsAsBefore proc task (after_turn task first outer p) = turned_before proc task first outer p t due refl in
     let block : List RStmt = block_of proc (holding proc None outer) (next_turn p) in
-    let f : FirstOf RStmt block 0 = first_of block 0 (turned_ready proc task outer p t due outer (next_turn p) refl) in
+    let f : FirstOf RStmt block 0 = first_of block 0 (turned_first proc task outer p t due) in
     stands_left proc tables (after_turn task first outer p) db outer (next_turn p) f.it (record { are = refl; stands = f.there }) (before.left tables db ∙ none)
 
 last_of : (ps : List Place) → 0 < length ps → (outer : List Place) × ((p : Place) × (ps ≡ outer ++ p ∷ []))

@@ -33,14 +33,14 @@ use Rattle.mv_exec.specs.declared.task.Ahead.{Ahead}
 use Rattle.mv_exec.specs.declared.task.Task.{Task}
 use Rattle.mv_exec.specs.Keeping.{owned, all_owned}
 use Rattle.mv_exec.specs.Left.{run, left, inside}
-use Rattle.mv_exec.specs.Places.{block_of, holding, site_in, site_of, turns_of, jobs_left}
+use Rattle.mv_exec.specs.Places.{block_of, holding, site_in, site_of, turns_of, jobs_left, StandsAt}
 use Rattle.mv_exec.specs.Tasks.{places_of, state_of, left_of, IsTask}
 use Rattle.mv_exec.specs.Ahead.{ForeseesLeft, ahead_in}
 use Rattle.mv_exec.specs.Steps.{HasAdded, HasExecuted, record_of}
 use Rattle.mv_exec.specs.Running.{Foresees}
 use Rattle.mv_exec.proofs.Defining.{before_owned}
 use Rattle.mv_exec.proofs.Stepping.{one_more, owned_earlier}
-use Rattle.mv_exec.proofs.Adding.{StandsAt, left_next, applied_both, writes_more}
+use Rattle.mv_exec.proofs.Adding.{left_next, applied_both, writes_more}
 
 -- its own writes
 

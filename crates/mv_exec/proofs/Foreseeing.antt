@@ -1,22 +1,26 @@
--- What is ahead is what the next record has.
-use Rattle.std.proofs.Common.{◌≡◌, ℕ, false, nat_lt, List, [], ◌∷◌, ◌++◌, Option, Some, None, map, length, slice_get, refl, sym, ap, subst, ◌∙◌}
+-- What is ahead is what the next record has, and how a call comes to the place at which it goes on.
+use Rattle.std.proofs.Common.{◌≡◌, ℕ, Bool, true, false, not, List, [], ◌∷◌, ◌++◌, Option, Some, None, map, length, refl, sym, ap, subst, ◌∙◌}
 use Rattle.std.specs.Option.{option_or}
+use Rattle.mv_values.specs.declared.schema.TableInfo.{TableInfo}
 use Rattle.mv_catalog.specs.declared.resolved.ProcInfo.{ProcInfo}
 use Rattle.mv_catalog.specs.declared.resolved.RStmt.{RStmt, out-RStmt}
 use Rattle.mv_catalog.specs.declared.resolved.RStmt.TheOpen.{RStmt-F}
 use Rattle.mv_alone.specs.declared.state.Env.{Env}
+use Rattle.mv_alone.specs.TableAfter.{Tables}
 use Rattle.mv_record.specs.declared.record.Record.{Record}
 use Rattle.mv_recorded.specs.Reading.{Loop, loop_of, last_place, sets_variable, reads_of, expressions, read_variables}
 use Rattle.mv_recorded.specs.Recorded.{Site, outside}
+use Rattle.mv_graph.specs.declared.graph.Node.{Node}
+use Rattle.mv_graph.specs.Nodes.{TellsOf}
 use Rattle.mv_exec.specs.declared.places.Place.{Place}
 use Rattle.mv_exec.specs.declared.task.Task.{Task}
-use Rattle.mv_exec.specs.Places.{block_of, holding, site_in, site_of, IsReady, AreNumbered, next_turn, turned}
-use Rattle.mv_exec.specs.Tasks.{standing, places_of, left_of, definer_in, beginning, IsTask, StandsAsBefore}
+use Rattle.mv_exec.specs.Env.{begun_with}
+use Rattle.mv_exec.specs.Places.{site_in, site_of, next_turn, place_due, turned, StandsAt, IsAt}
+use Rattle.mv_exec.specs.Tasks.{places_of, left_of, definer_in, beginning, in_turn_at, settled, IsTask, StandsAsBefore}
 use Rattle.mv_exec.specs.Running.{Foresees}
-use Rattle.mv_exec.specs.Ahead.{IsAhead, ahead_at, ForeseesLeft}
-use Rattle.mv_exec.proofs.Placing.{site_more}
-use Rattle.mv_exec.proofs.Turning.{IsDue, standing_live, after_turn, turned_task, turned_before, turned_ready}
-use Rattle.mv_exec.proofs.Adding.{StandsAt, left_next}
+use Rattle.mv_exec.specs.Ahead.{GoesOn, ahead_at, ForeseesLeft}
+use Rattle.mv_exec.proofs.Turning.{IsDue, standing_live, after_turn, turned_task, turned_before, begun_kept}
+use Rattle.mv_exec.proofs.Adding.{left_next}
 
 map_same : {A B : Type 0} (f g : A → B) → ((a : A) → f a ≡ g a) → (xs : List A) → map f xs ≡ map g xs
 map_same f g h [] = refl
@@ -31,42 +35,106 @@ reads_same params loops records definers y h =
     (λ x. record { slot = x; definer = option_or (loop_of x loops) (definer_in definers x) })
     (λ x. ap (λ d. record { slot = x; definer = option_or (loop_of x loops) d }) (sym (h x))) (read_variables params (expressions y))
 
--- at a place that is ahead
-pub foresees : (proc : ProcInfo) (task : Task) (places outer : List Place) (p : Place) (s : RStmt) → IsTask proc task → task.ended ≡ false → IsAhead proc task places
-    → places ≡ outer ++ p ∷ [] → slice_get (block_of proc (holding proc None outer) p) p.at ≡ Some s
-    → ForeseesLeft proc task (Some (ahead_at task.parameters task.definers (site_of outside places) p.number (out-RStmt s)))
-foresees proc task places outer p s t live ahead are stands tables db =
-    let then : Task = record task { env = ahead.env; places = places } in
-    let at : StandsAt proc (places_of then) outer p s = record { are = ap (λ b. standing b places) live ∙ are; stands = stands } in
-    let site : site_of outside places ≡ site_in p.holder (site_of outside outer) = ap (site_of outside) are ∙ site_more outside outer p in
-    subst (Foresees (Some (ahead_at task.parameters task.definers (site_of outside places) p.number (out-RStmt s)))) (sym (left_next proc tables then db outer p s at) ∙ ahead.left tables db)
-    (subst (λ (i : Site). ((record { statement = p.number; turns = (site_in p.holder (site_of outside outer)).turns }) ≡ (ahead_at task.parameters task.definers i p.number (out-RStmt s)).spot)
-    × ((site_in p.holder (site_of outside outer)).parent ≡ i.parent)
-    × (reads_of task.parameters (site_in p.holder (site_of outside outer)).loops task.records (expressions (out-RStmt s)) ≡ (ahead_at task.parameters task.definers i p.number (out-RStmt s)).reads)) (sym site)
-    (refl, refl, reads_same task.parameters (site_in p.holder (site_of outside outer)).loops task.records task.definers (out-RStmt s) t.definers))
+-- at the place at which a call goes on, whatever its variables are there
+foresees_at : (proc : ProcInfo) (task : Task) (env : Env) (first : Option Env) (ps : List Place) (ended : Bool) (outer : List Place) (p : Place) (s : RStmt) (xs : List ℕ) → IsTask proc task
+    → let then : Task = record task { env = env; first = first; places = ps; ended = ended } in
+    ((tables : List TableInfo) (db : Tables) → left_of proc tables then db ≡ left_of proc tables task db) → StandsAt proc (places_of then) outer p s
+    → xs ≡ read_variables task.parameters (expressions (out-RStmt s)) → ForeseesLeft proc task (Some (ahead_at task.definers (site_in p.holder (site_of outside outer)) p.number xs))
+foresees_at proc task env first ps ended outer p s xs t left at are tables db =
+    let then : Task = record task { env = env; first = first; places = ps; ended = ended } in
+    let site : Site = site_in p.holder (site_of outside outer) in
+    subst (Foresees (Some (ahead_at task.definers site p.number xs))) (sym (left_next proc tables then db outer p s at) ∙ left tables db)
+    (refl, refl, reads_same task.parameters site.loops task.records task.definers (out-RStmt s) t.definers
+    ∙ ap (map (λ x. record { slot = x; definer = option_or (loop_of x site.loops) (definer_in task.definers x) })) (sym are))
 
--- The places that are ahead
+-- the turn that is due
+pub due_turn : (proc : ProcInfo) (task : Task) (place : Place) (s : RStmt) (turn : Bool) → task.ended ≡ false → (go : GoesOn proc task place s turn) → turn ≡ true → IsDue proc (places_of task) go.outer go.last
+due_turn proc task place s turn live go e = record { are = standing_live task.ended task.places live ∙ go.are; none = go.due ∙ ap not e }
 
-pub ahead_same : (proc : ProcInfo) (task : Task) (ps qs : List Place) → IsTask proc task → task.ended ≡ false → ps ≡ task.places → qs ≡ ps → IsReady proc qs → IsAhead proc task ps
-ahead_same proc task ps qs t live are same ready = record {
-  ready = subst (IsReady proc) same ready;
-  numbers = subst (AreNumbered proc None) (standing_live task.ended task.places live ∙ sym are) t.numbers;
-  env = task.env;
-  left = λ tables db. ap (λ rs. left_of proc tables (record task { places = rs }) db) are;
+pub in_turn : (proc : ProcInfo) (task : Task) (place : Place) (s : RStmt) (turn : Bool) (go : GoesOn proc task place s turn) → turn ≡ true → next_turn go.last ≡ place
+in_turn proc task place s turn go e = sym (go.is ∙ ap (λ b. place_due b go.last) e)
+
+pub stands_here : (proc : ProcInfo) (task : Task) (place : Place) (s : RStmt) (turn : Bool) → task.ended ≡ false → (go : GoesOn proc task place s turn) → turn ≡ false → StandsAt proc (places_of task) go.outer place s
+stands_here proc task place s turn live go e = record {
+  are = standing_live task.ended task.places live ∙ (go.are ∙ ap (λ q. go.outer ++ q ∷ []) (sym (go.is ∙ ap (λ b. place_due b go.last) e)));
+  stands = go.stands;
 }
 
-pub ahead_turned : (proc : ProcInfo) (task : Task) (ps qs outer : List Place) (p : Place) → IsTask proc task → task.ended ≡ false → qs ≡ task.places
-    → qs ≡ outer ++ p ∷ [] → nat_lt p.at (length (block_of proc (holding proc None outer) p)) ≡ false → ps ≡ outer ++ next_turn p ∷ [] → IsAhead proc task ps
-ahead_turned proc task ps qs outer p t live same are none new =
-    let due : IsDue proc (places_of task) outer p = record { are = standing_live task.ended task.places live ∙ (sym same ∙ are); none = none } in
-    let f : Option Env = Some (beginning task) in
-    let before : StandsAsBefore proc task (after_turn task f outer p) = turned_before proc task f outer p t due refl in
-    record {
-      ready = subst (IsReady proc) (sym new) (turned_ready proc task outer p t due);
-      numbers = subst (AreNumbered proc None) (sym new) (let then : IsTask proc (after_turn task f outer p) = turned_task proc task f outer p t due in then.numbers);
-      env = turned task.records p.holder task.env;
-      left = λ tables db.
-          ap (λ rs. left_of proc tables (record task { env = turned task.records p.holder task.env; places = rs }) db) new
-          ∙ (ap (λ b. left_of proc tables (record task { env = turned task.records p.holder task.env; places = outer ++ next_turn p ∷ []; ended = b }) db) live
-          ∙ before.left tables db);
-    }
+-- what is ahead is as the node of the statement tells
+pub foresees : (proc : ProcInfo) (task : Task) (place : Place) (s : RStmt) (turn : Bool) (node : Node) → IsTask proc task → task.ended ≡ false → task.parameters ≡ length proc.params
+    → (go : GoesOn proc task place s turn) → TellsOf proc s node → ForeseesLeft proc task (Some (ahead_at task.definers (site_in place.holder (site_of outside go.outer)) place.number node.reads))
+foresees proc task place s turn node t live params go tells = by turn refl
+  where
+    reads : node.reads ≡ read_variables task.parameters (expressions (out-RStmt s))
+    reads = tells.reads ∙ ap (λ n. read_variables n (expressions (out-RStmt s))) (sym params)
+
+    by : (b : Bool) → turn ≡ b → ForeseesLeft proc task (Some (ahead_at task.definers (site_in place.holder (site_of outside go.outer)) place.number node.reads))
+    by true e =
+        let due : IsDue proc (places_of task) go.outer go.last = due_turn proc task place s turn live go e in
+        let first : Option Env = Some (beginning task) in
+        let before : StandsAsBefore proc task (after_turn task first go.outer go.last) = turned_before proc task first go.outer go.last t due refl in
+        foresees_at proc task (turned task.records go.last.holder task.env) first (go.outer ++ next_turn go.last ∷ []) false go.outer place s node.reads t before.left
+        (record { are = ap (λ q. go.outer ++ q ∷ []) (in_turn proc task place s turn go e); stands = go.stands }) reads
+    by false e =
+        foresees_at proc task task.env task.first task.places task.ended go.outer place s node.reads t (λ tables db. refl) (stands_here proc task place s turn live go e) reads
+
+-- The place at which a call goes on
+
+-- the same call, come to this place and statement
+pub record IsCome (proc : ProcInfo) (old new : Task) (place : Place) (s : RStmt) : Type 0 where
+  pub whole : IsTask proc new
+  pub same : StandsAsBefore proc old new
+  pub at : IsAt proc (places_of new) place s
+
+-- a call that keeps its beginning
+pub kept_task : (proc : ProcInfo) (task : Task) (first : Option Env) → IsTask proc task → IsTask proc (record task { first = first })
+kept_task proc task first t = record {
+  filled = t.filled;
+  numbers = t.numbers;
+  ends = t.ends;
+  holders = t.holders;
+  some = t.some;
+  empty = t.empty;
+  undo = t.undo;
+  definers = t.definers;
+  counted = t.counted;
+}
+
+pub kept_before : (proc : ProcInfo) (task : Task) (first : Option Env) → first ≡ Some (begun_with task.first task.env) → StandsAsBefore proc task (record task { first = first })
+kept_before proc task first kept = record {
+  parameters = refl;
+  records = refl;
+  executed = refl;
+  undo = refl;
+  beginning = begun_kept first task.first task.env task.env kept;
+  left = λ tables db. refl;
+}
+
+turned_come : (proc : ProcInfo) (task : Task) (first : Option Env) (place : Place) (s : RStmt) (go : GoesOn proc task place s true) → IsTask proc task → task.ended ≡ false
+    → first ≡ Some (begun_with task.first task.env) → IsCome proc task (in_turn_at (record task { first = first }) go.outer go.last place) place s
+turned_come proc task first place s go t live kept =
+    let due : IsDue proc (places_of task) go.outer go.last = due_turn proc task place s true live go refl in
+    let last : Place = go.last in
+    let then : Task = after_turn task first go.outer last in
+    let is : in_turn_at (record task { first = first }) go.outer last place ≡ then =
+    ap (λ q. record task { env = turned task.records last.holder task.env; first = first; places = go.outer ++ q ∷ [] }) (sym (in_turn proc task place s true go refl))
+    ∙ ap (λ b. record then { ended = b }) live in
+    subst (λ u. IsCome proc task u place s) (sym is)
+    (record {
+      whole = turned_task proc task first go.outer last t due;
+      same = turned_before proc task first go.outer last t due (begun_kept first task.first task.env (turned task.records last.holder task.env) kept);
+      at = (go.outer, record { are = ap (λ q. go.outer ++ q ∷ []) (in_turn proc task place s true go refl); stands = go.stands });
+    })
+
+here_come : (proc : ProcInfo) (task : Task) (first : Option Env) (place : Place) (s : RStmt) (go : GoesOn proc task place s false) → IsTask proc task → task.ended ≡ false
+    → first ≡ Some (begun_with task.first task.env) → IsCome proc task (record task { first = first }) place s
+here_come proc task first place s go t live kept = record {
+  whole = kept_task proc task first t;
+  same = kept_before proc task first kept;
+  at = (go.outer, stands_here proc task place s false live go refl);
+}
+
+pub come : (proc : ProcInfo) (task : Task) (first : Option Env) (place : Place) (s : RStmt) (turn : Bool) (new : Task) → IsTask proc task → task.ended ≡ false → (go : GoesOn proc task place s turn)
+    → first ≡ Some (begun_with task.first task.env) → new ≡ settled (record task { first = first }) go.outer go.last place turn → IsCome proc task new place s
+come proc task first place s true new t live go kept is = subst (λ u. IsCome proc task u place s) (sym is) (turned_come proc task first place s go t live kept)
+come proc task first place s false new t live go kept is = subst (λ u. IsCome proc task u place s) (sym is) (here_come proc task first place s go t live kept)

@@ -40,12 +40,12 @@ same_leaves g call db old new rest is h = h ∙ ap (λ rs. rs ++ rest) is
 -- The same call
 
 -- a call that has done nothing
-pub begins : (g : Graph) (call : Call) (task : Task) → length call.arguments ≤ 16 → IsTask g.procedure task → BeginsCall task g.procedure call → task.env.found ≡ (entered g.procedure call).found → task.records ≡ []
+pub begins : (g : Graph) (call : Call) (task : Task) → length call.arguments ≡ length g.procedure.params → IsTask g.procedure task → BeginsCall task g.procedure call → task.env.found ≡ (entered g.procedure call).found → task.records ≡ []
     → ((tables : List TableInfo) (db : Tables) → run_of g.procedure tables task db ≡ recorded tables g.procedure call db) → IsTaskOf g call task
-begins g call task few whole start found none run = record {
+begins g call task fits whole start found none run = record {
   whole = whole;
   begins = start;
-  few = few;
+  fits = fits;
   found = found;
   left = λ db rest rise h.
       let all : left_of g.procedure g.tables task db ≡ recorded g.tables g.procedure call db = sym (ap (λ rs. rs ++ left_of g.procedure g.tables task db) none) ∙ run g.tables db in
@@ -62,7 +62,7 @@ pub stays : (g : Graph) (call : Call) (old new : Task) → IsTask g.procedure ne
 stays g call old new whole before found is = record {
   whole = whole;
   begins = (before.beginning ∙ is.begins.0, before.parameters ∙ is.begins.1);
-  few = is.few;
+  fits = is.fits;
   found = found ∙ is.found;
   left = λ db rest rise h. before.left g.tables db ∙ is.left db rest rise (same_leaves g call db old new rest before.records h);
   keys = λ db rest base h.
@@ -82,7 +82,7 @@ pub grows : (g : Graph) (call : Call) (old new : Task) (r : Record) → IsTask g
 grows g call old new r whole added found is = record {
   whole = whole;
   begins = (added.beginning ∙ is.begins.0, added.parameters ∙ is.begins.1);
-  few = is.few;
+  fits = is.fits;
   found = found ∙ is.found;
   left = λ db rest rise h. added.left g.tables db rest rise (is.left db (r ∷ rest) rise (less_leaves g call db old new (r ∷ []) rest added.records h));
   keys = λ db rest base h.
@@ -227,4 +227,8 @@ shorter g old new db before after rise same was on ran =
 pub small_found : (g : Graph) (call : Call) (task : Task) → IsSound g → IsTaskOf g call task → task.env.found < 2 ^ 16
 small_found g call task sound is =
     let found : task.env.found ≡ length call.arguments + length g.procedure.defaults = is.found in
-    omega (arith, found, is.few, sound.procedure.declared)
+    omega (arith, found, is.fits, sound.procedure.few, sound.procedure.declared)
+
+-- the variables that a call doesn't count among its reads are the parameters of its procedure
+pub params_of : (g : Graph) (call : Call) (task : Task) → IsTaskOf g call task → task.parameters ≡ length g.procedure.params
+params_of g call task is = is.begins.1 ∙ is.fits

@@ -17,10 +17,11 @@ use Rattle.mv_recorded.specs.Asking.{on}
 use Rattle.mv_recorded.specs.Doing.{fixed_rows, itself, before_turns}
 use Rattle.mv_recorded.specs.Recorded.{Site, outside, within, within_loop, in_turn}
 use Rattle.mv_exec.specs.declared.places.Holder.TheVariants as by
+use Rattle.mv_effect.specs.Choosing.{Chooses}
 use Rattle.mv_exec.specs.declared.places.Place.{Place}
 use Rattle.mv_exec.specs.Left.{Job, run, turns, left, inside}
 use Rattle.mv_exec.specs.Places.{body_in, branch_in, held, holding, site_of, some_run, some_turns, rows_at, jobs_left}
-use Rattle.mv_exec.specs.Moves.{entered, looped, inner_places, Chooses, run_through, through, walked}
+use Rattle.mv_exec.specs.Moves.{entered, looped, inner_places, run_through, through, walked}
 use Rattle.mv_exec.proofs.Leaving.{turn_begins, run_ends, turns_end}
 use Rattle.mv_exec.proofs.Placing.{jobs_more}
 use Rattle.mv_exec.proofs.Going.{same_run, same_turns}

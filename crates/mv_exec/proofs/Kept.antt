@@ -23,9 +23,9 @@ use Rattle.mv_recorded.proofs.Standing.{itself_stands}
 use Rattle.mv_exec.specs.declared.places.Place.{Place}
 use Rattle.mv_exec.specs.declared.task.Task.{Task}
 use Rattle.mv_exec.specs.Left.{run, left, inside}
-use Rattle.mv_exec.specs.Places.{block_of, holding, site_in, site_of, turns_of, jobs_left}
+use Rattle.mv_exec.specs.Places.{block_of, holding, site_in, site_of, turns_of, jobs_left, StandsAt}
 use Rattle.mv_exec.specs.Tasks.{places_of, state_of, left_of}
-use Rattle.mv_exec.proofs.Adding.{StandsAt, left_next, first_same, applied_both, writes_more}
+use Rattle.mv_exec.proofs.Adding.{left_next, first_same, applied_both, writes_more}
 
 -- a record that tells the effect of its statement does
 keys_told : (tables : List TableInfo) (y : RStmt-F RStmt) (r : Record) (st : State) (out : Result State End) → itself tables y st ≡ out → KeysStand tables st.tables → TellsEffect r st out

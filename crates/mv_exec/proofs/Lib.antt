@@ -5,7 +5,6 @@ pub mod Turning
 pub mod Inside
 pub mod Adding
 pub mod Changing
-pub mod Fresh
 pub mod Beginning
 pub mod Foreseeing
 pub mod Defining
@@ -21,3 +20,4 @@ pub mod Ending
 pub mod Kept
 pub mod Counting
 pub mod Fronts
+pub mod Positioning

@@ -23,13 +23,14 @@ use Rattle.mv_undo.specs.declared.owned.Owned.{Owned}
 use Rattle.mv_undo.specs.Owning.{before}
 use Rattle.mv_exec.specs.declared.places.Holder.{Holder}
 use Rattle.mv_exec.specs.declared.places.Holder.TheVariants as by
+use Rattle.mv_effect.specs.Choosing.{Chooses}
 use Rattle.mv_exec.specs.declared.places.Place.{Place}
 use Rattle.mv_exec.specs.declared.task.Task.{Task}
 use Rattle.mv_exec.specs.Left.{left}
 use Rattle.mv_exec.specs.Env.{begun_with}
 use Rattle.mv_exec.specs.Keeping.{all_owned, owned, widened, define, slot_room}
-use Rattle.mv_exec.specs.Moves.{entered, looped, inner_places, moved_on, Chooses, walked}
-use Rattle.mv_exec.specs.Places.{body_in, branch_in, held, holding, AreFilled, IsNumbered, AreNumbered}
+use Rattle.mv_exec.specs.Moves.{entered, looped, inner_places, moved_on, walked}
+use Rattle.mv_exec.specs.Places.{body_in, branch_in, held, holding, AreFilled, IsNumbered, AreNumbered, StandsAt}
 use Rattle.mv_exec.specs.Tasks.{none_in, places_of, beginning, state_of, left_of, definer_in, IsTask, IsHeldBefore, AreHeldBefore, IsTrimmed}
 use Rattle.mv_exec.specs.Steps.{held_with, with_record, HasFronts, IsWidened, HasAdded}
 use Rattle.mv_exec.proofs.Ending.{ends_exactly}
@@ -40,7 +41,7 @@ use Rattle.mv_exec.proofs.Turning.{filled_last, filled_outer, filled_more, held_
 use Rattle.mv_exec.proofs.Trimming.{every_front, filled_front, held_front}
 use Rattle.mv_exec.proofs.Numbering.{numbered_on}
 use Rattle.mv_exec.proofs.Defining.{define_at, widened_same, widened_long, last_more, owned_more, owned_below, before_owned}
-use Rattle.mv_exec.proofs.Adding.{StandsAt, get_last, held_statement, goes_on, ends_all}
+use Rattle.mv_exec.proofs.Adding.{get_last, held_statement, goes_on, ends_all}
 
 -- Lists
 
@@ -178,7 +179,7 @@ going_kept proc task r env outer p s b t at = record {
 trimmed_task : (proc : ProcInfo) (mid new : Task) → IsKept proc mid → IsTrimmed proc mid new → IsTask proc new
 trimmed_task proc mid new k t = subst (IsTask proc) (sym t.rest) (record {
   filled = subst (AreFilled proc None) (sym t.front) (filled_front proc None t.stay mid.places k.filled);
-  numbers = subst (AreNumbered proc None) (sym t.front) (every_front (IsNumbered (size_of proc.body)) proc None t.stay mid.places k.numbers);
+  numbers = subst (AreNumbered proc None) (sym t.front) (every_front (IsNumbered proc) proc None t.stay mid.places k.numbers);
   ends = t.ends;
   holders = subst (AreHeldBefore (length mid.records)) (sym t.front) (held_front (length mid.records) t.stay mid.places k.holders);
   some = t.some k.some;

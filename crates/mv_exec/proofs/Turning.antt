@@ -18,7 +18,7 @@ use Rattle.mv_exec.specs.declared.places.Place.{Place}
 use Rattle.mv_exec.specs.declared.task.Task.{Task}
 use Rattle.mv_exec.specs.Left.{Job, run, turns, left}
 use Rattle.mv_exec.specs.Env.{begun_with}
-use Rattle.mv_exec.specs.Places.{held, block_of, passed, holding, site_in, site_of, some_run, some_turns, turns_of, rows_at, jobs_left, has_turn, is_left, EndsLeft, Every, IsFilled, AreFilled, IsNumbered, AreNumbered, IsReady, in_next_turn, next_turn, with_turn, turned}
+use Rattle.mv_exec.specs.Places.{held, block_of, passed, holding, site_in, site_of, some_run, some_turns, turns_of, rows_at, jobs_left, has_turn, is_left, EndsLeft, Every, IsFilled, AreFilled, IsNumbered, AreNumbered, in_next_turn, next_turn, with_turn, turned}
 use Rattle.mv_exec.specs.Tasks.{standing, places_of, beginning, state_of, IsTask, StandsAsBefore, IsHeldBefore, AreHeldBefore}
 use Rattle.mv_exec.proofs.Leaving.{turn_begins}
 use Rattle.mv_exec.proofs.Placing.{same_last, none_past, jobs_more}
@@ -102,7 +102,7 @@ one_left : (a b : Bool) → a ≡ true → a || b ≡ true
 one_left a b e = rw e refl
 
 -- where the next turn stands in the same list
-same_block : (proc : ProcInfo) (s : Option RStmt) (h : Holder) → held proc (in_next_turn h) s ≡ held proc h s
+pub same_block : (proc : ProcInfo) (s : Option RStmt) (h : Holder) → held proc (in_next_turn h) s ≡ held proc h s
 same_block proc s by.Procedure = refl
 same_block proc s (by.Branch number b) = refl
 same_block proc None (by.Loop number x k) = refl
@@ -159,10 +159,9 @@ next_filled proc old outer p t due =
 
 next_numbered : (proc : ProcInfo) (outer : List Place) (p : Place) → AreNumbered proc None (outer ++ p ∷ []) → AreNumbered proc None (outer ++ next_turn p ∷ [])
 next_numbered proc outer p h =
-    let most : ℕ = size_of proc.body in
-    let last : IsNumbered most (block_of proc (holding proc None outer) p) p = every_last (IsNumbered most) proc None outer p h in
-    every_more (IsNumbered most) proc None outer (next_turn p) (every_outer (IsNumbered most) proc None outer p h)
-    (subst (λ bl. IsNumbered most bl (next_turn p)) (sym (same_block proc (holding proc None outer) p.holder)) (last.0, last.0))
+    let last : IsNumbered proc (block_of proc (holding proc None outer) p) p = every_last (IsNumbered proc) proc None outer p h in
+    every_more (IsNumbered proc) proc None outer (next_turn p) (every_outer (IsNumbered proc) proc None outer p h)
+    (subst (λ bl. IsNumbered proc bl (next_turn p)) (sym (same_block proc (holding proc None outer) p.holder)) (last.0, last.0))
 
 pub turned_task : (proc : ProcInfo) (old : Task) (f : Option Env) (outer : List Place) (p : Place) → IsTask proc old → IsDue proc (places_of old) outer p → IsTask proc (after_turn old f outer p)
 turned_task proc old f outer p t due =
@@ -184,11 +183,10 @@ turned_task proc old f outer p t due =
       counted = t.counted;
     }
 
-pub turned_ready : (proc : ProcInfo) (old : Task) (outer : List Place) (p : Place) → IsTask proc old → IsDue proc (places_of old) outer p → IsReady proc (outer ++ next_turn p ∷ [])
-turned_ready proc old outer p t due o q e =
-    let h : (outer ≡ o) × (next_turn p ≡ q) = same_last outer o (next_turn p) q e in
-    subst (λ r. nat_lt r.at (length (block_of proc (holding proc None o) r)) ≡ true) h.1
-    (subst (λ os. nat_lt 0 (length (block_of proc (holding proc None os) (next_turn p))) ≡ true) h.0 (is_below 0 _ (next_filled proc old outer p t due)))
+-- a statement is there
+pub turned_first : (proc : ProcInfo) (old : Task) (outer : List Place) (p : Place) → IsTask proc old → IsDue proc (places_of old) outer p
+    → nat_lt 0 (length (block_of proc (holding proc None outer) (next_turn p))) ≡ true
+turned_first proc old outer p t due = is_below 0 _ (next_filled proc old outer p t due)
 
 pub turned_before : (proc : ProcInfo) (old : Task) (f : Option Env) (outer : List Place) (p : Place) → IsTask proc old → IsDue proc (places_of old) outer p
     → begun_with f (turned old.records p.holder old.env) ≡ beginning old → StandsAsBefore proc old (after_turn old f outer p)
@@ -214,16 +212,6 @@ turned_before proc old f outer p t due first = record {
       (sym (same_block proc s p.holder))
       ∙ ap (λ is. left tables old.parameters is old.records next) (sym (jobs_more proc old.records None outside outer (next_turn p)))))));
 }
-
--- the same of a task that is equal to it
-abbrev pub with_parts : Task → Option Env → Env → List Place → Task
-with_parts old f env places = record old { env = env; first = f; places = places }
-
-pub settled : (P : Task → Type 0) (old : Task) (f : Option Env) (env : Env) (places outer : List Place) (p : Place) → old.ended ≡ false
-    → env ≡ turned old.records p.holder old.env → places ≡ outer ++ next_turn p ∷ [] → P (after_turn old f outer p) → P (with_parts old f env places)
-settled P old f env places outer p live e q h =
-    subst (λ v. P (with_parts old f v places)) (sym e) (subst (λ ps. P (with_parts old f (turned old.records p.holder old.env) ps)) (sym q)
-    (subst (λ b. P (let t : Task = after_turn old f outer p in record t { ended = b })) (sym live) h))
 
 pub standing_live : (b : Bool) (ps : List Place) → b ≡ false → standing b ps ≡ ps
 standing_live b ps e = ap (λ c. standing c ps) e

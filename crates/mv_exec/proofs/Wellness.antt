@@ -9,12 +9,12 @@ use Rattle.mv_catalog.specs.declared.resolved.ProcInfo.{ProcInfo}
 use Rattle.mv_catalog.specs.declared.resolved.RStmt.{RStmt, out-RStmt, roll-out-RStmt}
 use Rattle.mv_catalog.specs.declared.resolved.RStmt.TheOpen.{RStmt-F, ForSelect, ForRows, Branch}
 use Rattle.mv_catalog.proofs.Typed.{well_by}
+use Rattle.mv_recorded.specs.Effect.{HasColumns}
 use Rattle.mv_recorded.proofs.Effects.{columns_there}
 use Rattle.mv_exec.specs.declared.places.Holder.{Holder}
 use Rattle.mv_exec.specs.declared.places.Holder.TheVariants as by
 use Rattle.mv_exec.specs.declared.places.Place.{Place}
-use Rattle.mv_exec.specs.Places.{body_in, branch_in, held, block_of, passed, holding}
-use Rattle.mv_exec.specs.Steps.{NextHasColumns, IsOfProgram}
+use Rattle.mv_exec.specs.Places.{body_in, branch_in, held, block_of, passed, holding, IsAt}
 
 -- for some variables
 abbrev AllWell : List TableInfo → List RStmt → Type 0
@@ -62,8 +62,8 @@ well_at tables proc outer p s is stands =
     let block : AllWell tables (block_of proc (holding proc None outer) p) = held_well tables proc p.holder (holding proc None outer) w (holding_well tables proc None outer w tt) in
     subst (SomeWell tables) stands (get_well tables (block_of proc (holding proc None outer) p) p.at block.0 block.1)
 
--- the statements of a procedure of a program have a column for each target
-pub columns_next : (proc : ProcInfo) (ps : List Place) → IsOfProgram proc → NextHasColumns proc ps
-columns_next proc ps is outer p s are stands =
-    let well : (vars : Vars) × IsWell is.0 s vars = well_at is.0 proc outer p s is.1 stands in
-    columns_there is.0 (λ s. s) (IsWell is.0) (out-RStmt s) well.0 (well_by is.0 (out-RStmt s) s well.0 (roll-out-RStmt s) well.1)
+-- it has a column for each target
+pub columns_at : (tables : List TableInfo) (proc : ProcInfo) (ps : List Place) (p : Place) (s : RStmt) → IsProcedure tables proc → IsAt proc ps p s → HasColumns (out-RStmt s)
+columns_at tables proc ps p s is at =
+    let well : (vars : Vars) × IsWell tables s vars = well_at tables proc at.0 p s is at.1.stands in
+    columns_there tables (λ s. s) (IsWell tables) (out-RStmt s) well.0 (well_by tables (out-RStmt s) s well.0 (roll-out-RStmt s) well.1)

@@ -6,5 +6,4 @@ pub mod Tasks
 pub mod Moves
 pub mod Running
 pub mod Ahead
-pub mod Fresh
 pub mod Steps

@@ -1,5 +1,5 @@
 -- Where a record leads a running call. This project's own.
-use Rattle.std.specs.Prelude.{◌≡◌, ℕ, ◌+◌, Bool, List, [], ◌∷◌, Ok, length, if◌then◌else◌}
+use Rattle.std.specs.Prelude.{ℕ, ◌+◌, Bool, List, [], ◌∷◌, length, if◌then◌else◌}
 use Rattle.mv_values.specs.declared.value.Value.{Value}
 use Rattle.mv_catalog.specs.Statements.{size_of}
 use Rattle.mv_catalog.specs.declared.resolved.RStmt.{RStmt}
@@ -7,7 +7,6 @@ use Rattle.mv_catalog.specs.declared.resolved.RStmt.TheOpen.{RStmt-F, ForSelect,
 use Rattle.mv_alone.specs.declared.state.Env.{Env}
 use Rattle.mv_alone.specs.declared.state.Held.TheVariants.{Turn}
 use Rattle.mv_alone.specs.Env.{with_held}
-use Rattle.mv_alone.specs.Value.{value_of, is_so}
 use Rattle.mv_exec.specs.declared.places.Holder.{Holder}
 use Rattle.mv_exec.specs.declared.places.Holder.TheVariants as by
 use Rattle.mv_exec.specs.declared.places.Place.{Place}
@@ -32,11 +31,6 @@ inner_places number n b s = []
 -- the place behind a statement of this size
 abbrev pub moved_on : ℕ → Place → Place
 moved_on size p = record p { at = p.at + 1; number = p.number + size }
-
--- an IF chooses this branch, unless its condition faults
-abbrev pub Chooses : Env → Bool → RStmt-F RStmt → Type 0
-Chooses env b (Branch e ys ns) = (v : Value) → value_of e env [] ≡ Ok v → b ≡ is_so v
-Chooses env b s = Unit {0}
 
 -- the variables after turns of an empty body, which only set the loop's row
 abbrev pub run_through : ℕ → List (List Value) → Env → Env

@@ -1,7 +1,6 @@
 -- Where a running call stands in its procedure, and what it will still run from there. This project's own.
 use Rattle.std.specs.Prelude.{◌≡◌, ◌≤◌, ◌<◌, ℕ, ◌+◌, ◌-◌, Bool, true, false, ◌||◌, nat_lt, List, [], ◌∷◌, ◌++◌, Option, Some, None, length, take, drop, slice_get}
 use Rattle.mv_values.specs.declared.value.Value.{Value}
-use Rattle.mv_catalog.specs.Statements.{size_of}
 use Rattle.mv_catalog.specs.declared.resolved.ProcInfo.{ProcInfo}
 use Rattle.mv_catalog.specs.declared.resolved.RStmt.{RStmt, out-RStmt}
 use Rattle.mv_catalog.specs.declared.resolved.RStmt.TheOpen.{RStmt-F, ForSelect, ForRows, Branch}
@@ -13,6 +12,7 @@ use Rattle.mv_recorded.specs.Recorded.{Site, outside, within, within_loop, in_tu
 use Rattle.mv_exec.specs.declared.places.Holder.{Holder}
 use Rattle.mv_exec.specs.declared.places.Holder.TheVariants as by
 use Rattle.mv_exec.specs.declared.places.Place.{Place}
+use Rattle.mv_graph.specs.Nodes.{HasText}
 use Rattle.mv_exec.specs.Left.{Job, run, turns}
 
 -- Lists of statements
@@ -133,16 +133,20 @@ IsFilled block p = 0 < length block
 abbrev pub AreFilled : ProcInfo → Option RStmt → List Place → Type 0
 AreFilled = Every IsFilled
 
--- the statements of its list, and those from it on, have numbers in the text up to the most
-abbrev pub IsNumbered : ℕ → List RStmt → Place → Type 0
-IsNumbered most block p = (p.first + size_of block ≤ most + 1) × (p.number + size_of (drop p.at block) ≤ most + 1)
+-- the text has the statements of its list, and those from it on, at its numbers
+abbrev pub IsNumbered : ProcInfo → List RStmt → Place → Type 0
+IsNumbered proc block p = HasText proc p.first block × HasText proc p.number (drop p.at block)
 
 abbrev pub AreNumbered : ProcInfo → Option RStmt → List Place → Type 0
-AreNumbered proc = Every (IsNumbered (size_of proc.body)) proc
+AreNumbered proc = Every (IsNumbered proc) proc
 
--- a statement stands at the innermost place
-abbrev pub IsReady : ProcInfo → List Place → Type 0
-IsReady proc ps = (outer : List Place) (p : Place) → ps ≡ outer ++ p ∷ [] → nat_lt p.at (length (block_of proc (holding proc None outer) p)) ≡ true
+-- this is the innermost place, after those outside it, and it is before this statement
+pub record StandsAt (proc : ProcInfo) (ps outer : List Place) (p : Place) (s : RStmt) : Type 0 where
+  pub are : ps ≡ outer ++ p ∷ []
+  pub stands : slice_get (block_of proc (holding proc None outer) p) p.at ≡ Some s
+
+abbrev pub IsAt : ProcInfo → List Place → Place → RStmt → Type 0
+IsAt proc ps p s = (outer : List Place) × StandsAt proc ps outer p s
 
 -- Turns
 
@@ -154,6 +158,11 @@ in_next_turn (by.Loop number x k) = by.Loop number x (k + 1)
 -- the place before the first statement of the next turn
 abbrev pub next_turn : Place → Place
 next_turn p = record { holder = in_next_turn p.holder; first = p.first; at = 0; number = p.first }
+
+-- the place itself, or where a turn is due that in the turn
+abbrev pub place_due : Bool → Place → Place
+place_due true p = next_turn p
+place_due false p = p
 
 abbrev pub with_turn : ℕ → Option (List Value) → Env → Env
 with_turn x None env = env

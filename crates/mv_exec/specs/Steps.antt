@@ -22,17 +22,6 @@ use Rattle.mv_exec.specs.Keeping.{owned, widened, define, slot_room}
 use Rattle.mv_exec.specs.Places.{block_of, holding}
 use Rattle.mv_exec.specs.Tasks.{beginning, left_of, definer_in}
 
--- The next statement
-
--- the statement at the innermost place has a column for each target
-abbrev pub NextHasColumns : ProcInfo → List Place → Type 0
-NextHasColumns proc ps =
-    (outer : List Place) (p : Place) (s : RStmt) → ps ≡ outer ++ p ∷ [] → slice_get (block_of proc (holding proc None outer) p) p.at ≡ Some s → HasColumns (out-RStmt s)
-
--- the procedure is one of a program, whatever its tables are
-abbrev pub IsOfProgram : ProcInfo → Type 0
-IsOfProgram proc = (tables : List TableInfo) × IsProcedure tables proc
-
 -- What a record makes of a call
 
 -- the call that has a record and its writes, before it is noted whose the variables are and where the call now stands

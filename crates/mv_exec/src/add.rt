@@ -1,40 +1,33 @@
 //! Adds a record to a running call.
 
-ghost use Rattle.std.specs.Prelude.{◌≡◌, ◌<◌, ◌≤◌, ◌+◌, ◌++◌, ◌∷◌, [], false, true, All, None, Some, List, length, slice_get, option_to_list, max, MatchOption, IfOk, OnOk, OnErr, IsSome};
+ghost use Rattle.std.specs.Prelude.{◌≡◌, ◌<◌, ◌≤◌, ◌+◌, ◌++◌, ◌∷◌, [], false, true, All, Some, List, length, slice_get, option_to_list, max, IfOk, OnOk, OnErr, IsSome};
 ghost use Rattle.mv_catalog.specs.Statements.{size_of};
 ghost use Rattle.mv_record.specs.declared.record.Record.{Record};
 ghost use Rattle.mv_exec.specs.declared.places.Place.{Place};
 ghost use Rattle.mv_exec.specs.Env.{changed};
 ghost use Rattle.mv_exec.specs.Keeping.{define, slot_room};
-ghost use Rattle.mv_exec.specs.Places.{block_of, holding, IsReady};
-ghost use Rattle.mv_exec.specs.Steps.{NextHasColumns, HasAdded, HasFronts, IsWidened, held_with};
+ghost use Rattle.mv_catalog.specs.declared.resolved.RStmt.{out-RStmt};
+ghost use Rattle.mv_recorded.specs.Effect.{HasColumns};
+ghost use Rattle.mv_graph.specs.Nodes.{IsGraph, TellsOf};
+ghost use Rattle.mv_effect.specs.Choosing.{Chooses};
+ghost use Rattle.mv_exec.specs.Places.{IsAt};
+ghost use Rattle.mv_exec.specs.Steps.{HasAdded, HasFronts, IsWidened, held_with};
 ghost use Rattle.mv_exec.specs.Running.{stepped};
 ghost use Rattle.mv_exec.specs.Tasks.{places_of, IsTask, StandsAsBefore, IsTrimmed};
 
 use crate::changes::{Change, make_changes};
 use crate::keeping::{push_writes, set_definers, widen};
-use crate::places::{Place, block, holder_of, innermost};
-use crate::settle::trim;
-use crate::step::{Step, Stepped, answer, step_of};
+use crate::moves::{inner_place, place_after};
+use crate::places::{Place, staying};
+use crate::position::Position;
+use crate::step::{Stepped, answer, changes_for};
 use crate::task::Task;
-use mv_catalog::resolved::{ProcInfo, RStmt};
+use mv_catalog::resolved::ProcInfo;
+use mv_graph::graph::Graph;
 use mv_record::record::{Record, Slot};
 use mv_values::list::List;
 use mv_values::memory::NoMemory;
 use std::alloc::Global;
-
-/// The innermost place with the statement that stands there, none where no statement does.
-pub(crate) fn next_statement<'p>(
-    procedure: &'p ProcInfo,
-    places: &[Place],
-) -> Option<(Place, &'p RStmt)>
-    ensures { MatchOption result (0 < length places.now → IsReady procedure.now places.now → ⊥) (λ r. (outer : List Place) × (places.now ≡ outer ++ r.0 ∷ []) × (slice_get (block_of procedure.now (holding procedure.now None outer) r.0) r.0.at ≡ Some r.1.now)) }
-{
-    let (outer, place) = innermost(places)?;
-    let block = block(procedure, place.holder, holder_of(procedure, outer));
-    let statement = block.get(place.at)?;
-    Some((place, statement))
-}
 
 /// How many variables these need, where some need this many.
 fn room_with(most: usize, slot: &Slot) -> usize
@@ -128,8 +121,20 @@ fn put_place(places: &mut List<Place>, at: usize, place: Place)
     }
 }
 
+/// Drops the places at which nothing is left. The call has ended if none stays.
+fn trim(procedure: &ProcInfo, task: &mut Task)
+    ensures { task.old.ended ≡ false → IsTrimmed procedure.now task.old task.new }
+{
+    let stay = staying(procedure, task.records.as_slice(), task.places.as_slice());
+    if stay == 0 {
+        task.ended = true;
+    } else {
+        task.places.truncate(stay);
+    }
+}
+
 /// Ends a call, or drops the places at which nothing is left.
-fn finish(procedure: &ProcInfo, task: &mut Task, ends: bool) -> Stepped
+fn end_or_trim(procedure: &ProcInfo, task: &mut Task, ends: bool) -> Stepped
     requires { task.old.ended ≡ false }
     ensures ends { ends ≡ true → task.new ≡ record task.old { ended = true } }
     ensures trims { ends ≡ false → IsTrimmed procedure.now task.old task.new }
@@ -143,41 +148,43 @@ fn finish(procedure: &ProcInfo, task: &mut Task, ends: bool) -> Stepped
     answer(task.ended)
 }
 
-/// Adds a record to a call that has come to a statement. Says whether the call has ended. After NoMemory the call is as
-/// before.
+/// Adds a record to a call that has come to a statement, where an IF chooses this branch. Says whether the call has ended.
+/// After NoMemory the call is as before.
 pub(crate) fn add(
     alloc: Global,
-    procedure: &ProcInfo,
+    graph: &Graph,
     task: &mut Task,
     given: Record,
+    position: Position<'_>,
+    yes: bool,
 ) -> Result<Stepped, NoMemory>
-    requires task { IsTask procedure.now task.old }
+    requires nodes { IsGraph graph.now }
+    requires task { IsTask graph.now.procedure task.old }
     requires live { task.old.ended ≡ false }
-    requires ready { IsReady procedure.now (places_of task.old) }
+    requires at { IsAt graph.now.procedure (places_of task.old) position.place position.statement.now }
+    requires node { TellsOf graph.now.procedure position.statement.now position.node.now }
+    requires branch { Chooses task.old.env yes (out-RStmt position.statement.now) }
     requires kept { IsSome task.old.first }
-    requires columns { NextHasColumns procedure.now (places_of task.old) }
-    requires short { size_of procedure.now.body ≤ 1000 }
-    ensures task { IsTask procedure.now task.new }
-    ensures added { OnOk result (HasAdded procedure.now task.old given task.new) }
+    requires columns { HasColumns (out-RStmt position.statement.now) }
+    requires short { size_of graph.now.procedure.body ≤ 1000 }
+    ensures task { IsTask graph.now.procedure task.new }
+    ensures added { OnOk result (HasAdded graph.now.procedure task.old given task.new) }
     ensures executed { OnOk result (task.new.executed ≡ task.old.executed) }
     ensures tells { IfOk result (λ s. s ≡ stepped task.new.ended) }
     ensures found { task.new.env.found ≡ task.old.env.found }
-    ensures err { OnErr result (StandsAsBefore procedure.now task.old task.new) }
+    ensures err { OnErr result (StandsAsBefore graph.now.procedure task.old task.new) }
 {
-    let Some((place, statement)) = next_statement(procedure, task.places.as_slice()) else {
-        unreachable!();
-    };
     let number = task.records.len();
     let depth = task.places.len();
     let ends = given.end.is_some();
-    let step = step_of(alloc, statement, place, number, &task.env, &given)?;
-    let Step {
-        changes,
-        behind,
-        inner,
-    } = step;
+    let changes = changes_for(alloc, position.statement, &given)?;
+    let inner = inner_place(graph, position, number, yes);
     hold(alloc, task, given, changes, inner)?;
     note_sets(&mut task.definers, task.records.as_slice(), number);
-    put_place(&mut task.places, depth.saturating_sub(1), behind);
-    Ok(finish(procedure, task, ends))
+    put_place(
+        &mut task.places,
+        depth.saturating_sub(1),
+        place_after(position),
+    );
+    Ok(end_or_trim(&graph.procedure, task, ends))
 }

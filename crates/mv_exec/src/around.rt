@@ -21,8 +21,8 @@ fn parent_in(holder: Holder, parent: Option<usize>) -> Option<usize>
     }
 }
 
-/// The number of the record that holds the statements of the innermost place.
-pub(crate) fn parent_of(places: &[Place]) -> Option<usize>
+/// Returns the number of the record that holds the statements of the innermost place.
+fn parent_of(places: &[Place]) -> Option<usize>
     ensures { result ≡ (site_of outside places.now).parent }
 {
     let mut parent = None;
@@ -30,6 +30,17 @@ pub(crate) fn parent_of(places: &[Place]) -> Option<usize>
         parent = parent_in(place.holder, parent);
     }
     parent
+}
+
+/// Returns the number of the record that holds the statements of a place with this holder, inside these places.
+pub(crate) fn parent_at(places: &[Place], holder: Holder) -> Option<usize>
+    ensures { result ≡ (site_in holder (site_of outside places.now)).parent }
+{
+    match holder {
+        Holder::Procedure => parent_of(places),
+        Holder::Branch { record, .. } => Some(record),
+        Holder::Loop { record, .. } => Some(record),
+    }
 }
 
 /// The record of the FOR whose row a variable is, in the holder, where it is this outside the holder.
@@ -47,8 +58,8 @@ fn loop_in(holder: Holder, variable: u16, found: Option<usize>) -> Option<usize>
     }
 }
 
-/// The record of the FOR around the innermost place whose row a variable is.
-pub(crate) fn loop_around(places: &[Place], variable: u16) -> Option<usize>
+/// Returns the record of the FOR around the innermost place whose row a variable is.
+fn loop_around(places: &[Place], variable: u16) -> Option<usize>
     ensures { result ≡ loop_of variable (site_of outside places.now).loops }
 {
     let mut found = None;
@@ -56,6 +67,13 @@ pub(crate) fn loop_around(places: &[Place], variable: u16) -> Option<usize>
         found = loop_in(place.holder, variable, found);
     }
     found
+}
+
+/// Returns the record of the FOR whose row a variable is, around a place with this holder inside these places.
+pub(crate) fn loop_at(places: &[Place], holder: Holder, variable: u16) -> Option<usize>
+    ensures { result ≡ loop_of variable (site_in holder (site_of outside places.now)).loops }
+{
+    loop_in(holder, variable, loop_around(places, variable))
 }
 
 /// Adds the turn of a holder that is a loop.
@@ -68,8 +86,21 @@ fn add_turn(turns: &mut List<usize>, holder: Holder) -> Result<(), NoMemory>
     }
 }
 
-/// The turns of the loops around the innermost place, from the outside in.
-pub(crate) fn turns_around(alloc: Global, places: &[Place]) -> Result<List<usize>, NoMemory>
+/// Returns the turns of the loops around a place with this holder inside these places, from the outside in.
+pub(crate) fn turns_at(
+    alloc: Global,
+    places: &[Place],
+    holder: Holder,
+) -> Result<List<usize>, NoMemory>
+    ensures { IfOk result (λ turns. turns ≡ (site_in holder (site_of outside places.now)).turns) }
+{
+    let mut turns = turns_around(alloc, places)?;
+    add_turn(&mut turns, holder)?;
+    Ok(turns)
+}
+
+/// Returns the turns of the loops around the innermost place, from the outside in.
+fn turns_around(alloc: Global, places: &[Place]) -> Result<List<usize>, NoMemory>
     ensures { IfOk result (λ turns. turns ≡ (site_of outside places.now).turns) }
 {
     let mut turns = List::new(alloc);

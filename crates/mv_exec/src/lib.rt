@@ -2,17 +2,16 @@
 #![tactic(auto)]
 
 mod add;
+mod ahead;
 mod around;
 mod changes;
 mod env;
 mod execute;
 mod keeping;
 mod moves;
-mod peek;
 pub mod places;
-mod reading;
+mod position;
 pub mod running;
-mod settle;
-mod sizes;
 pub mod step;
 pub mod task;
+mod turns;

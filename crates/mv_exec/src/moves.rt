@@ -1,21 +1,24 @@
 //! Where a record leads a running call.
 
-ghost use Rattle.std.specs.Prelude.{◌≡◌, ◌<◌, ◌^◌, ◌+◌, IfOk, option_to_list};
-ghost use Rattle.mv_catalog.specs.declared.resolved.RStmt.{out-RStmt};
-ghost use Rattle.mv_catalog.specs.Statements.{size};
-ghost use Rattle.mv_exec.specs.Moves.{Chooses, entered, looped, inner_places, moved_on};
+ghost use Rattle.std.specs.Prelude.{◌≡◌, ◌<◌, ◌≤◌, ◌^◌, ◌+◌, ◌∷◌, List, IfOk, option_to_list};
+ghost use Rattle.mv_catalog.specs.declared.resolved.RStmt.{RStmt, out-RStmt};
+ghost use Rattle.mv_catalog.specs.Statements.{size, size_of};
+ghost use Rattle.mv_graph.specs.Nodes.{IsGraph, HasText};
+ghost use Rattle.mv_effect.specs.Choosing.{Chooses};
+ghost use Rattle.mv_exec.specs.Moves.{entered, looped, inner_places, moved_on};
 ghost use Rattle.mv_exec.specs.declared.places.Holder.TheVariants.{Branch};
 
 use crate::places::{Holder, Place};
-use crate::sizes::{list_size, statement_size};
+use crate::position::{Position, node_at};
 use mv_alone::expr::{holds, value};
 use mv_alone::state::{Env, Stop};
 use mv_catalog::resolved::RStmt;
+use mv_graph::graph::Graph;
 use mv_values::memory::NoMemory;
 use std::alloc::Global;
 
-/// Whether an IF chooses its first branch.
-pub(crate) fn chooses(alloc: Global, statement: &RStmt, env: &Env) -> Result<bool, NoMemory>
+/// Evaluates the condition of an IF. Returns whether it chooses its first branch.
+pub(crate) fn branch(alloc: Global, statement: &RStmt, env: &Env) -> Result<bool, NoMemory>
     ensures { IfOk result (λ b. Chooses env.now b (out-RStmt statement.now)) }
 {
     let RStmt::Branch { test, .. } = statement else {
@@ -62,40 +65,71 @@ fn loop_place(record: usize, row: u16, first: usize, body: &[RStmt]) -> Option<P
     })
 }
 
-/// The place inside a statement whose record and which itself have these numbers, where an IF chooses this branch.
+/// Returns how many statements the one with this number is, with those that it holds.
+fn size_at(graph: &Graph, number: usize) -> usize
+    requires { IsGraph graph.now }
+    ensures { (s : RStmt) (ss : List RStmt) → HasText graph.now.procedure number (s ∷ ss) → result ≡ size s }
+{
+    match node_at(graph, number) {
+        Some(node) => node.size as usize,
+        None => 0,
+    }
+}
+
+/// Returns the number of the statement after these, of which the first has this number.
+fn number_after(graph: &Graph, first: usize, statements: &[RStmt]) -> usize
+    requires nodes { IsGraph graph.now }
+    requires text { HasText graph.now.procedure first statements.now }
+    requires short { size_of graph.now.procedure.body ≤ 1000 }
+    ensures { result ≡ first + size_of statements.now }
+{
+    let mut number = first;
+    for _ in statements {
+        number += size_at(graph, number);
+    }
+    number
+}
+
+/// Returns the place inside a statement whose record has this number, where an IF chooses this branch.
 pub(crate) fn inner_place(
-    statement: &RStmt,
+    graph: &Graph,
+    position: Position<'_>,
     record: usize,
-    number: usize,
     yes: bool,
 ) -> Option<Place>
-    requires { number + size statement.now < 2 ^ 16 }
-    ensures { option_to_list result ≡ inner_places «record» number yes (out-RStmt statement.now) }
+    requires nodes { IsGraph graph.now }
+    requires text { (rest : List RStmt) × HasText graph.now.procedure position.place.number (position.statement.now ∷ rest) }
+    requires short { size_of graph.now.procedure.body ≤ 1000 }
+    ensures { option_to_list result ≡ inner_places «record» position.entry.place.number yes (out-RStmt position.entry.statement.now) }
 {
-    match statement {
-        RStmt::ForSelect { row, body, .. } => loop_place(record, *row, number + 1, body.as_slice()),
-        RStmt::ForRows { row, body, .. } => loop_place(record, *row, number + 1, body.as_slice()),
-        RStmt::Branch { yes: taken, no, .. } => {
+    let first = position.place.number + 1;
+    match position.statement {
+        RStmt::ForSelect { row, body, .. } => loop_place(record, *row, first, body.as_slice()),
+        RStmt::ForRows { row, body, .. } => loop_place(record, *row, first, body.as_slice()),
+        RStmt::Branch {
+            yes: chosen, no, ..
+        } => {
             if yes {
-                return branch_place(record, yes, number + 1, taken.as_slice());
+                return branch_place(record, yes, first, chosen.as_slice());
             }
-            let first = number + 1 + list_size(taken.as_slice());
+            let first = number_after(graph, first, chosen.as_slice());
             branch_place(record, yes, first, no.as_slice())
         }
         _ => None,
     }
 }
 
-/// The place behind a statement.
-pub(crate) fn place_behind(statement: &RStmt, place: Place) -> Place
-    requires number { place.number + size statement.now < 2 ^ 16 }
-    requires at { place.at < 2 ^ 16 }
-    ensures { result ≡ moved_on (size statement.now) place }
+/// Returns the place after a statement.
+pub(crate) fn place_after(position: Position<'_>) -> Place
+    requires number { position.place.number + position.node.now.size < 2 ^ 17 }
+    requires at { position.place.at < 2 ^ 16 }
+    ensures { result ≡ moved_on position.entry.node.now.size position.entry.place }
 {
+    let place = position.place;
     Place {
         holder: place.holder,
         first: place.first,
         at: place.at + 1,
-        number: place.number + statement_size(statement),
+        number: place.number + position.node.size as usize,
     }
 }

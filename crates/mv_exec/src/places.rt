@@ -1,9 +1,10 @@
 //! Where a running call stands in its procedure.
 
-ghost use Rattle.std.specs.Prelude.{◌≡◌, ◌-◌, ◌++◌, ◌∷◌, [], None, Some, nat_lt, length, slice_get, MatchOption, IfOk};
+ghost use Rattle.std.specs.Prelude.{◌≡◌, ◌-◌, ◌++◌, ◌∷◌, [], None, Some, nat_lt, length, slice_get, List, MatchOption, IfOk};
 ghost use Rattle.std.specs.Option.{option_copied};
 ghost use Rattle.mv_recorded.specs.Reading.{loop_of};
 ghost use Rattle.mv_recorded.specs.Recorded.{outside};
+ghost use Rattle.mv_exec.specs.declared.places.Place.{Place};
 ghost use Rattle.mv_exec.specs.Places.{branch_of, body_of, held, passed, holding, has_turn, is_left, rows_at, StaysTo, site_of};
 
 use mv_catalog::resolved::{ProcInfo, RStmt};
@@ -128,7 +129,7 @@ fn has_next_turn(records: &[Record], holder: Holder) -> bool
 }
 
 /// Whether a statement is left in this list from a place on.
-fn is_before_end(block: &[RStmt], at: usize) -> bool
+pub(crate) fn is_before_end(block: &[RStmt], at: usize) -> bool
     ensures { result ≡ nat_lt at (length block.now) }
 {
     at < block.len()
@@ -155,6 +156,16 @@ pub(crate) fn staying(procedure: &ProcInfo, records: &[Record], places: &[Place]
         statement = statement_before(block, *place);
     }
     stay
+}
+
+/// Returns the places around the innermost one.
+pub(crate) fn outer(places: &[Place]) -> &[Place]
+    ensures { (outer : List Place) (p : Place) → places.now ≡ outer ++ p ∷ [] → result.now ≡ outer }
+{
+    match places {
+        [] => &[],
+        [outer @ .., _] => outer,
+    }
 }
 
 /// The innermost place, and those around it.

@@ -12,7 +12,8 @@ ghost use Rattle.mv_exec.specs.Running.{IsRunning, IsRunningOn, IsSameCall, IsTa
 
 use crate::add::add;
 use crate::execute::execute;
-use crate::peek::come_to;
+use crate::ahead::{come_to, foresee};
+use crate::moves::branch;
 use crate::step::Stepped;
 use crate::task::{Ahead, Task};
 use mv_graph::graph::Graph;
@@ -26,7 +27,7 @@ impl Task {
     /// A call before its first statement. Its arguments are copied.
     pub fn new(alloc: Global, graph: &Graph, call: &Call) -> Result<Task, NoMemory>
         requires sound { IsSound graph.now }
-        requires few { length call.now.arguments ≤ 16 }
+        requires arguments { length call.now.arguments ≡ length graph.now.procedure.params }
         ensures call { IfOk result (IsTaskOf graph.now call.now) }
         ensures records { IfOk result (λ task. task.records ≡ []) }
         ensures executed { IfOk result (λ task. task.executed ≡ 0) }
@@ -43,7 +44,7 @@ pub fn peek(alloc: Global, graph: &Graph, task: &Task) -> Result<Option<Ahead>, 
     requires running { IsRunning graph.now task.now }
     ensures { IfOk result (IsNext graph.now task.now) }
 {
-    let ahead = crate::peek::peek(alloc, &graph.procedure, task)?;
+    let ahead = foresee(alloc, graph, task)?;
     Ok(ahead)
 }
 
@@ -82,8 +83,9 @@ pub fn adopt(
     ensures tells { IfOk result (λ it. it ≡ stepped task.new.ended) }
     ensures err { OnErr result (IsUnchanged task.old task.new) }
 {
-    let ahead = come_to(alloc, &graph.procedure, task)?;
-    add(alloc, &graph.procedure, task, placed(ahead, given))
+    let (ahead, position) = come_to(alloc, graph, task)?;
+    let yes = branch(alloc, position.statement, &task.env)?;
+    add(alloc, graph, task, placed(ahead, given), position, yes)
 }
 
 /// Executes the next statement, read over the view and the call's own writes, and adds its record. An IF only evaluates
@@ -115,15 +117,8 @@ pub fn next<V: View>(
     if task.ended {
         return Ok(Stepped::Ended);
     }
-    let ahead = come_to(alloc, &graph.procedure, task)?;
-    execute(
-        alloc,
-        graph.tables.as_slice(),
-        &graph.procedure,
-        task,
-        ahead,
-        view,
-    )
+    let (ahead, position) = come_to(alloc, graph, task)?;
+    execute(alloc, graph, task, ahead, position, view)
 }
 
 /// Executes what is left of a call over a view, to its end. After a refusal the call has some more records: `finish` can

@@ -1,19 +1,16 @@
 //! What a record makes of a running call.
 
-ghost use Rattle.std.specs.Prelude.{◌≡◌, ◌<◌, ◌+◌, ◌^◌, Bool, List, [], ◌∷◌, ◌++◌, option_to_list, IfOk, OnOk, MatchOption};
+ghost use Rattle.std.specs.Prelude.{◌≡◌, List, [], ◌∷◌, ◌++◌, IfOk, OnOk, MatchOption};
 ghost use Rattle.mv_values.specs.declared.value.Value.{Value};
 ghost use Rattle.mv_alone.specs.declared.state.Env.{Env};
-ghost use Rattle.mv_catalog.specs.Statements.{size};
 ghost use Rattle.mv_catalog.specs.declared.resolved.RStmt.{out-RStmt};
 ghost use Rattle.mv_recorded.specs.Effect.{with_slots};
 ghost use Rattle.mv_exec.specs.Env.{changed};
-ghost use Rattle.mv_exec.specs.Moves.{Chooses, inner_places, moved_on, run_through, walked};
+ghost use Rattle.mv_exec.specs.Moves.{run_through, walked};
 ghost use Rattle.mv_exec.specs.Running.{stepped};
 
 use crate::changes::{Change, changes_of, row_of_empty};
-use crate::moves::{chooses, inner_place, place_behind};
-use crate::places::Place;
-use mv_alone::state::{Env, Held};
+use mv_alone::state::Held;
 use mv_catalog::resolved::RStmt;
 use mv_record::record::Record;
 use mv_values::copied::Copied;
@@ -33,15 +30,6 @@ pub(crate) fn answer(ended: bool) -> Stepped
     ensures { result ≡ stepped ended }
 {
     if ended { Stepped::Ended } else { Stepped::Ran }
-}
-
-/// What a record makes of a call: what it changes of the variables, the place behind its statement, and the place inside
-/// it.
-#[derive(Drop)]
-pub(crate) struct Step {
-    pub(crate) changes: Vec<Change>,
-    pub(crate) behind: Place,
-    pub(crate) inner: Option<Place>,
 }
 
 /// The last row.
@@ -98,44 +86,4 @@ pub(crate) fn changes_for(
     let mut changes = changes_of(alloc, given.sets.as_slice())?;
     add_turns(alloc, &mut changes, statement, given.rows.as_slice())?;
     Ok(changes)
-}
-
-/// The place inside a statement, where its condition is evaluated with these variables.
-fn place_inside(
-    alloc: Global,
-    statement: &RStmt,
-    number: usize,
-    place: Place,
-    env: &Env,
-) -> Result<Option<Place>, NoMemory>
-    requires { place.number + size statement.now < 2 ^ 16 }
-    ensures { IfOk result (λ inner. (b : Bool) × Chooses env.now b (out-RStmt statement.now) × (option_to_list inner ≡ inner_places number place.number b (out-RStmt statement.now))) }
-{
-    let yes = chooses(alloc, statement, env)?;
-    Ok(inner_place(statement, number, place.number, yes))
-}
-
-/// What the record of this number, of the statement at a place, makes of a call with these variables.
-pub(crate) fn step_of(
-    alloc: Global,
-    statement: &RStmt,
-    place: Place,
-    number: usize,
-    env: &Env,
-    given: &Record,
-) -> Result<Step, NoMemory>
-    requires number { place.number + size statement.now < 2 ^ 16 }
-    requires at { place.at < 2 ^ 16 }
-    ensures changes { IfOk result (λ s. (e : Env) → changed s.changes.items e ≡ walked (out-RStmt statement.now) given.now.rows (with_slots given.now.sets e)) }
-    ensures behind { IfOk result (λ s. s.behind ≡ moved_on (size statement.now) place) }
-    ensures inner { IfOk result (λ s. (b : Bool) × Chooses env.now b (out-RStmt statement.now) × (option_to_list s.inner ≡ inner_places number place.number b (out-RStmt statement.now))) }
-{
-    let changes = changes_for(alloc, statement, given)?;
-    let behind = place_behind(statement, place);
-    let inner = place_inside(alloc, statement, number, place, env)?;
-    Ok(Step {
-        changes,
-        behind,
-        inner,
-    })
 }

@@ -120,7 +120,7 @@ fn go_back(places: &mut List<Place>)
 
 impl Task {
     /// A call of a procedure before its first statement. Its arguments are copied.
-    #[tactic(auto, using(crate::proofs::Beginning::new_task, crate::proofs::Beginning::new_begins, crate::proofs::Beginning::new_run))]
+    #[tactic(auto, using(crate::proofs::Beginning::new_begins, crate::proofs::Beginning::new_run))]
     pub(crate) fn of(alloc: Global, procedure: &ProcInfo, call: &Call) -> Result<Task, NoMemory>
         ensures task { IfOk result (λ t. IsTask procedure.now t) }
         ensures records { IfOk result (λ t. t.records ≡ []) }

@@ -4,7 +4,7 @@ use Rattle.std.specs.Prelude.{◌≡◌, ◌≤◌, ℕ, ◌+◌, List, [], ◌�
 use Rattle.mv_catalog.specs.Statements.{size, total_size}
 use Rattle.mv_catalog.specs.Text.{IsTable, IsProcedure}
 use Rattle.mv_catalog.specs.declared.resolved.ProcInfo.{ProcInfo}
-use Rattle.mv_catalog.specs.declared.resolved.RStmt.{RStmt}
+use Rattle.mv_catalog.specs.declared.resolved.RStmt.{RStmt, out-RStmt}
 use Rattle.mv_catalog.specs.declared.resolved.RStmt.TheOpen.{RStmt-F, Assign, Select, Total, ForSelect, ForRows, Branch, Insert, Update, Delete, Print, Rollback}
 use Rattle.mv_catalog.specs.declared.resolved.RStmt.TheFolds.{fold-RStmt, map-RStmt}
 use Rattle.mv_record.specs.Runs.{Meaning}
@@ -137,6 +137,22 @@ nodes_in proc =
     let params : ℕ = length proc.params in
     body_nodes params (params + length proc.defaults) proc.body 1 None []
 
+-- The text of a procedure
+
+-- it has these statements one after another, of which the first has this number: their nodes lie between others
+pub record HasText (proc : ProcInfo) (n : ℕ) (ss : List RStmt) : Type 0 where
+  pub front : List Node
+  pub holder : Option ℕ
+  pub loops : List ℕ
+  pub back : List Node
+  pub nodes : nodes_in proc ≡ front ++ (body_nodes (length proc.params) (length proc.params + length proc.defaults) ss n holder loops ++ back)
+  pub number : length front + 1 ≡ n
+
+-- the node has what a statement reads, and how large it is
+pub record TellsOf (proc : ProcInfo) (s : RStmt) (node : Node) : Type 0 where
+  pub reads : node.reads ≡ read_variables (length proc.params) (expressions (out-RStmt s))
+  pub size : node.size ≡ size s
+
 -- Graphs
 
 -- its nodes are those of its procedure
@@ -147,11 +163,12 @@ IsGraph g = g.nodes ≡ nodes_in g.procedure
 abbrev pub meaning_of : Graph → Meaning
 meaning_of g = meaning g.tables g.procedure
 
--- its tables and its procedure fit together, as those of a program do
+-- its tables and its procedure fit together, as those of a program do, and its nodes are those of its procedure
 pub record IsSound (g : Graph) : Type 0 where
   pub few : length g.tables ≤ 64
   pub tables : All IsTable g.tables
   pub procedure : IsProcedure g.tables g.procedure
+  pub nodes : IsGraph g
 
 -- The limits of a script
 

@@ -64,7 +64,6 @@ not_none (y ∷ xs) (suc n) lt h = not_none xs n (omega (arith, lt)) h
 -- what the call of a number does is what its graph says of it
 pub record GoesBy (p : Program) (n : ℕ) (call : Call) (g : Graph) : Type 0 where
   pub sound : IsSound g
-  pub few : length call.arguments ≤ 16
   pub suits : AllZip Suits g.procedure.params call.arguments
   pub tables : g.tables ≡ p.resolved.tables
   pub outcome : (db : Tables) → outcome p n db ≡ alone g.tables g.procedure.body (begun g.procedure call db)
@@ -78,8 +77,7 @@ goes : (p : Program) (n : ℕ) (call : Call) (proc : ProcInfo) → FitsText p.re
 goes p n call proc fits h k suits =
     let whole : IsProcedure p.resolved.tables proc = holds_at (IsProcedure p.resolved.tables) p.resolved.procedures call.procedure proc fits.procedures k in
     record {
-      sound = record { few = fits.few; tables = fits.tables; procedure = whole };
-      few = omega (arith, AllZip-long Suits proc.params call.arguments suits, whole.few);
+      sound = record { few = fits.few; tables = fits.tables; procedure = whole; nodes = refl };
       suits = suits;
       tables = refl;
       outcome = λ db. ap (λ o. outcome_at p o db) h ∙ ap (λ o. outcome_in p o call db) k;

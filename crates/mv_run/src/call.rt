@@ -1,6 +1,6 @@
 //! Executes one call over the database that the calls before it left.
 
-ghost use Rattle.std.specs.Prelude.{◌≡◌, ◌≤◌, length, IfOk, OnOk};
+ghost use Rattle.std.specs.Prelude.{◌≡◌, length, IfOk, OnOk};
 ghost use Rattle.std.specs.List.{AllZip};
 ghost use Rattle.mv_catalog.specs.Text.{Suits};
 ghost use Rattle.mv_record.specs.Databases.{IsDatabaseOf};
@@ -27,7 +27,7 @@ pub(crate) struct Answer {
 /// Executes a call to its end over a database, which stays unchanged.
 fn execute(alloc: Global, graph: &Graph, call: &Call, database: &Database) -> Result<Task, NoMemory>
     requires sound { IsSound graph.now }
-    requires few { length call.now.arguments ≤ 16 }
+    requires arguments { length call.now.arguments ≡ length graph.now.procedure.params }
     requires database { IsDatabaseOf graph.now.tables database.now }
     ensures records { IfOk result (λ task. task.records ≡ (meaning_of graph.now call.now database.now).records) }
 {
@@ -49,7 +49,6 @@ pub(crate) fn run_call(
     database: &mut Database,
 ) -> Result<Answer, NoMemory>
     requires sound { IsSound graph.now }
-    requires few { length call.now.arguments ≤ 16 }
     requires suits { AllZip Suits graph.now.procedure.params call.now.arguments }
     requires database { IsDatabaseOf graph.now.tables database.old }
     ensures reply { IfOk result (λ answer. answer.reply ≡ (meaning_of graph.now call.now database.old).reply) }

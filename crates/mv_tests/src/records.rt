@@ -375,8 +375,8 @@ fn begun(alloc: Global, graph: &Graph, call: &Call) -> Result<Task, Fail>
     ensures call { IfOk result (IsTaskOf graph.now call.now) }
     ensures running { IfOk result (λ task. (db : Tables) → IsRunningOn graph.now db task) }
 {
-    if call.arguments.len() > 16 {
-        return Err("too many arguments".into());
+    if call.arguments.len() != graph.procedure.params.len() {
+        return Err("another number of arguments".into());
     }
     let task = Task::new(alloc, graph, call)?;
     Ok(task)
@@ -417,8 +417,8 @@ fn walks(
     requires sound { IsSound graph.now }
     requires database { IsDatabaseOf graph.now.tables database.now }
 {
-    if call.arguments.len() > 16 {
-        return Err("too many arguments".into());
+    if call.arguments.len() != graph.procedure.params.len() {
+        return Err("another number of arguments".into());
     }
     let task = run_and_walk(alloc, graph, call, database, first).or(Err("no end"))?;
     has_left(alloc, &task, executed_by_walk(len, first), want)

@@ -120,7 +120,7 @@ pub(crate) fn run_and_walk(
     first: usize,
 ) -> Result<Task, Refused>
     requires sound { IsSound graph.now }
-    requires few { length call.now.arguments ≤ 16 }
+    requires arguments { length call.now.arguments ≡ length graph.now.procedure.params }
     requires database { IsDatabaseOf graph.now.tables database.now }
     ensures records { IfOk result (λ task. task.records ≡ (meaning_of graph.now call.now database.now).records) }
     ensures ended { IfOk result (λ task. task.ended ≡ true) }

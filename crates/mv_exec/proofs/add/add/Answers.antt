@@ -4,79 +4,72 @@ use Rattle.mv_record.specs.declared.record.Record.{Record}
 use Rattle.mv_undo.specs.declared.owned.Owned.{Owned}
 use Rattle.mv_exec.specs.declared.task.Task.{Task}
 use Rattle.mv_exec.specs.Env.{changed}
-use Rattle.mv_exec.specs.Moves.{inner_places}
+use Rattle.mv_exec.specs.Moves.{inner_places, moved_on}
+use Rattle.mv_exec.specs.Places.{StandsAt}
 use Rattle.mv_exec.specs.Tasks.{places_of}
-use Rattle.mv_exec.proofs.Adding.{StandsAt}
-use Rattle.mv_exec.proofs.Numbering.{small_next}
+use Rattle.mv_exec.proofs.Numbering.{small_next, text_next}
 use Rattle.mv_exec.proofs.Turning.{standing_live}
 use Rattle.mv_exec.proofs.Stepping.{owned_earlier, behind_record, parts_behind, IsPast, past_task, past_added, past_found, past_executed}
 use Rattle.mv_exec.proofs.add.add.Goals as goal
-use Rattle.mv_exec.proofs.add.add.Goals.{After-finish}
+use Rattle.mv_exec.proofs.add.add.Goals.{After-end_or_trim}
 
-pub step_of-requires-clause-number : goal.step_of-requires-clause-number
-step_of-requires-clause-number c =
-    let at : StandsAt c.args.procedure.now (places_of c.args.task.now) c.in-Some.ensures.0 c.in-Some.place c.in-Some.statement.now = record {
-      are = standing_live c.args.task.now.ended c.args.task.now.places c.requires.live ∙ (sym c.as_slice.ensures ∙ c.in-Some.ensures.1);
-      stands = c.in-Some.ensures.2;
-    } in
-    (small_next c.args.procedure.now (places_of c.args.task.now) c.in-Some.ensures.0 c.in-Some.place c.in-Some.statement.now c.requires.task.numbers at c.requires.short).0
+pub inner_place-inner-requires-clause-text : goal.inner_place-inner-requires-clause-text
+inner_place-inner-requires-clause-text c =
+    (_, text_next c.args.graph.now.procedure (places_of c.args.task.now) c.requires.at.0 c.args.position.place c.args.position.statement.now c.requires.task.numbers c.requires.at.1)
 
-pub step_of-requires-clause-at : goal.step_of-requires-clause-at
-step_of-requires-clause-at c =
-    let at : StandsAt c.args.procedure.now (places_of c.args.task.now) c.in-Some.ensures.0 c.in-Some.place c.in-Some.statement.now = record {
-      are = standing_live c.args.task.now.ended c.args.task.now.places c.requires.live ∙ (sym c.as_slice.ensures ∙ c.in-Some.ensures.1);
-      stands = c.in-Some.ensures.2;
-    } in
-    (small_next c.args.procedure.now (places_of c.args.task.now) c.in-Some.ensures.0 c.in-Some.place c.in-Some.statement.now c.requires.task.numbers at c.requires.short).1
+pub place_after-requires-clause-number : goal.place_after-requires-clause-number
+place_after-requires-clause-number c =
+    let small = small_next c.args.graph.now.procedure (places_of c.args.task.now) c.requires.at.0 c.args.position.place c.args.position.statement.now c.requires.task.numbers c.requires.at.1 c.requires.short in
+    omega (arith, small.0, c.requires.node.size)
+
+pub place_after-requires-clause-at : goal.place_after-requires-clause-at
+place_after-requires-clause-at c =
+    (small_next c.args.graph.now.procedure (places_of c.args.task.now) c.requires.at.0 c.args.position.place c.args.position.statement.now c.requires.task.numbers c.requires.at.1 c.requires.short).1
 
 pub hold-requires : goal.hold-requires
 hold-requires c =
     subst (All (λ (o : Owned). o.number < length c.args.task.now.records)) (sym c.requires.task.undo) (owned_earlier c.args.task.now.records)
 
-stands : (c : After-finish) → StandsAt c.args.procedure.now (places_of c.args.task.now) c.in-Some.ensures.0 c.in-Some.place c.in-Some.statement.now
-stands c = record {
-  are = standing_live c.args.task.now.ended c.args.task.now.places c.requires.live ∙ (sym c.as_slice.ensures ∙ c.in-Some.ensures.1);
-  stands = c.in-Some.ensures.2;
-}
+are : (c : After-end_or_trim) → c.args.task.now.places ≡ c.requires.at.0 ++ c.args.position.place ∷ []
+are c = sym (standing_live c.args.task.now.ended c.args.task.now.places c.requires.live) ∙ c.requires.at.1.are
 
-are : (c : After-finish) → c.args.task.now.places ≡ c.in-Some.ensures.0 ++ c.in-Some.place ∷ []
-are c = sym c.as_slice.ensures ∙ c.in-Some.ensures.1
-
-parts : (c : After-finish)
+parts : (c : After-end_or_trim)
     → (let t : Task = c.hold.new.task in record t { definers = c.note_sets.new.definers; places = c.put_place.new.places })
-    ≡ behind_record c.args.task.now c.args.given c.in-Some.ensures.0 c.in-Some.place c.in-Some.statement.now c.in_ok-step.ensures.inner.0
+    ≡ behind_record c.args.task.now c.args.given c.requires.at.0 c.args.position.place c.args.position.statement.now c.args.yes
 parts c =
-    parts_behind c.args.procedure.now c.args.task.now c.args.given c.in-Some.ensures.0 c.in-Some.place c.in-Some.statement.now c.in_ok-step.ensures.inner.0 c.hold.new.task
-    (changed c.in_ok-step.step.changes.items c.args.task.now.env) (option_to_list c.in_ok-step.step.inner) c.in_ok-step.step.behind c.len-number.result c.saturating_sub.result
+    parts_behind c.args.graph.now.procedure c.args.task.now c.args.given c.requires.at.0 c.args.position.place c.args.position.statement.now c.args.yes c.hold.new.task
+    (changed c.in_ok-changes.changes.items c.args.task.now.env) (option_to_list c.inner_place-inner.result) c.place_after.result c.len-number.result c.saturating_sub.result
     c.note_sets.new.definers c.put_place.new.places
-    c.in_ok-hold.ensures.ok (c.in_ok-step.ensures.changes c.args.task.now.env) (are c)
-    (c.in_ok-step.ensures.inner.2 ∙ ap (λ n. inner_places n c.in-Some.place.number c.in_ok-step.ensures.inner.0 (out-RStmt c.in-Some.statement.now)) c.len-number.ensures)
-    c.in_ok-step.ensures.behind c.len-number.ensures
-    (let l : length c.args.task.now.places ≡ length (c.in-Some.ensures.0 ++ c.in-Some.place ∷ []) = ap length (are c) in
-    omega (arith, l, c.saturating_sub.ensures, c.len-depth.ensures, length-append c.in-Some.ensures.0 (c.in-Some.place ∷ [])))
-    c.put_place.ensures (λ q e. c.note_sets.ensures q (ap (λ (rs : List Record). slice_get rs c.len-number.result) c.as_slice-2.ensures ∙ e))
+    c.in_ok-hold.ensures.ok (c.in_ok-changes.ensures c.args.task.now.env) (are c)
+    (c.inner_place-inner.ensures ∙ ap (λ n. inner_places n c.args.position.place.number c.args.yes (out-RStmt c.args.position.statement.now)) c.len-number.ensures)
+    (c.place_after.ensures ∙ ap (λ n. moved_on n c.args.position.place) c.requires.node.size) c.len-number.ensures
+    (let l : length c.args.task.now.places ≡ length (c.requires.at.0 ++ c.args.position.place ∷ []) = ap length (are c) in
+    omega (arith, l, c.saturating_sub.ensures, c.len-depth.ensures, length-append c.requires.at.0 (c.args.position.place ∷ [])))
+    c.put_place.ensures (λ q e. c.note_sets.ensures q (ap (λ (rs : List Record). slice_get rs c.len-number.result) c.as_slice.ensures ∙ e))
 
-past : (c : After-finish)
-    → IsPast c.args.procedure.now c.args.task.now c.args.given c.in-Some.ensures.0 c.in-Some.place c.in-Some.statement.now c.in_ok-step.ensures.inner.0
-    (let t : Task = c.hold.new.task in record t { definers = c.note_sets.new.definers; places = c.put_place.new.places }) c.finish.new.task c.is_some-ends.result
+past : (c : After-end_or_trim)
+    → IsPast c.args.graph.now.procedure c.args.task.now c.args.given c.requires.at.0 c.args.position.place c.args.position.statement.now c.args.yes
+    (let t : Task = c.hold.new.task in record t { definers = c.note_sets.new.definers; places = c.put_place.new.places }) c.end_or_trim.new.task c.is_some-ends.result
 past c = record {
-  stands = stands c;
+  stands = c.requires.at.1;
   is = parts c;
-  ended = c.finish.ensures.ends;
-  trimmed = c.finish.ensures.trims;
+  ended = c.end_or_trim.ensures.ends;
+  trimmed = c.end_or_trim.ensures.trims;
 }
 
 pub returns-clause-task : goal.returns-clause-task
-returns-clause-task c = past_task c.args.procedure.now c.args.task.now c.args.given c.in-Some.ensures.0 c.in-Some.place c.in-Some.statement.now c.in_ok-step.ensures.inner.0 _ c.finish.new.task c.is_some-ends.result c.requires.task (past c)
+returns-clause-task c =
+    past_task c.args.graph.now.procedure c.args.task.now c.args.given c.requires.at.0 c.args.position.place c.args.position.statement.now c.args.yes _ c.end_or_trim.new.task c.is_some-ends.result c.requires.task (past c)
 
 pub returns-clause-added : goal.returns-clause-added
 returns-clause-added c =
-    past_added c.args.procedure.now c.args.task.now c.args.given c.in-Some.ensures.0 c.in-Some.place c.in-Some.statement.now c.in_ok-step.ensures.inner.0 _ c.finish.new.task c.args.given.end c.is_some-ends.result
-    c.requires.task c.requires.kept c.in_ok-step.ensures.inner.1
-    (c.requires.columns c.in-Some.ensures.0 c.in-Some.place c.in-Some.statement.now (stands c).are c.in-Some.ensures.2) refl c.is_some-ends.ensures (past c)
+    past_added c.args.graph.now.procedure c.args.task.now c.args.given c.requires.at.0 c.args.position.place c.args.position.statement.now c.args.yes _ c.end_or_trim.new.task c.args.given.end c.is_some-ends.result
+    c.requires.task c.requires.kept c.requires.branch c.requires.columns refl c.is_some-ends.ensures (past c)
 
 pub returns-clause-executed : goal.returns-clause-executed
-returns-clause-executed c = past_executed c.args.procedure.now c.args.task.now c.args.given c.in-Some.ensures.0 c.in-Some.place c.in-Some.statement.now c.in_ok-step.ensures.inner.0 _ c.finish.new.task c.is_some-ends.result (past c)
+returns-clause-executed c =
+    past_executed c.args.graph.now.procedure c.args.task.now c.args.given c.requires.at.0 c.args.position.place c.args.position.statement.now c.args.yes _ c.end_or_trim.new.task c.is_some-ends.result (past c)
 
 pub returns-clause-found : goal.returns-clause-found
-returns-clause-found c = past_found c.args.procedure.now c.args.task.now c.args.given c.in-Some.ensures.0 c.in-Some.place c.in-Some.statement.now c.in_ok-step.ensures.inner.0 _ c.finish.new.task c.is_some-ends.result (past c)
+returns-clause-found c =
+    past_found c.args.graph.now.procedure c.args.task.now c.args.given c.requires.at.0 c.args.position.place c.args.position.statement.now c.args.yes _ c.end_or_trim.new.task c.is_some-ends.result (past c)

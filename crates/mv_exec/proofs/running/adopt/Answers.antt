@@ -5,16 +5,19 @@ use Rattle.mv_exec.specs.Running.{IsTaskOf, IsSameCall, IsUnchanged, HasAdopted,
 use Rattle.mv_exec.specs.Steps.{HasAdded}
 use Rattle.mv_exec.specs.Tasks.{places_of, StandsAsBefore}
 use Rattle.mv_exec.proofs.Adopting.{added_before, before_both}
-use Rattle.mv_exec.proofs.Fronts.{both, on_err, either, stays, grows, unchanged, adopted, goes_on}
-use Rattle.mv_exec.proofs.Wellness.{columns_next}
+use Rattle.mv_exec.proofs.Fronts.{both, on_err, either, stays, grows, unchanged, adopted, goes_on, params_of}
+use Rattle.mv_exec.proofs.Wellness.{columns_at}
 use Rattle.mv_exec.proofs.running.adopt.Goals as goal
 use Rattle.mv_exec.proofs.running.adopt.Goals.{After-add, After-come_to}
 
 pub come_to-requires-clause-task : goal.come_to-requires-clause-task
 come_to-requires-clause-task c = c.requires.running.1.whole
 
+pub come_to-requires-clause-params : goal.come_to-requires-clause-params
+come_to-requires-clause-params c = params_of c.args.graph.now c.requires.running.0 c.args.task.now c.requires.running.1
+
 pub add-requires-clause-columns : goal.add-requires-clause-columns
-add-requires-clause-columns c = columns_next c.args.graph.now.procedure (places_of c.come_to.new.task) (c.args.graph.now.tables, c.requires.sound.procedure)
+add-requires-clause-columns c = columns_at c.args.graph.now.tables c.args.graph.now.procedure (places_of c.come_to.new.task) _ _ c.requires.sound.procedure c.in_ok-ahead.ensures.at
 
 came : (c : After-add) → IsSameCall c.args.graph.now c.args.task.now c.come_to.new.task
 came c call is = stays c.args.graph.now call c.args.task.now c.come_to.new.task c.come_to.ensures.task c.come_to.ensures.same c.come_to.ensures.found is

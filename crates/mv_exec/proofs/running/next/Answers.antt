@@ -1,7 +1,6 @@
 use Rattle.std.proofs.Common.{◌≡◌, ◌<◌, ◌^◌, ◌+◌, false, List, OnOk, refl, sym, ap, subst, ◌∙◌}
 use Rattle.std.proofs.lemmas.Result.{err_from_is_err_and}
 use Rattle.mv_values.specs.declared.patch.Write.{Write}
-use Rattle.mv_values.specs.declared.schema.TableInfo.{TableInfo}
 use Rattle.mv_values.specs.Patching.{applied}
 use Rattle.mv_values.specs.Tables.{KeysStand}
 use Rattle.mv_record.specs.declared.record.Record.{Record}
@@ -12,12 +11,15 @@ use Rattle.mv_exec.specs.Steps.{HasExecuted}
 use Rattle.mv_exec.specs.Tasks.{StandsAsBefore}
 use Rattle.mv_exec.proofs.Adopting.{before_both}
 use Rattle.mv_exec.proofs.Executing.{own_writes}
-use Rattle.mv_exec.proofs.Fronts.{both, on_err, if_err, either, stays, stays_on, grows, unchanged, executed_before, executed_on, has_run, small_found}
+use Rattle.mv_exec.proofs.Fronts.{both, on_err, if_err, either, stays, stays_on, grows, unchanged, executed_before, executed_on, has_run, small_found, params_of}
 use Rattle.mv_exec.proofs.running.next.Goals as goal
 use Rattle.mv_exec.proofs.running.next.Goals.{After-execute}
 
 pub come_to-requires-clause-task : goal.come_to-requires-clause-task
 come_to-requires-clause-task g c = c.requires.running.is.whole
+
+pub come_to-requires-clause-params : goal.come_to-requires-clause-params
+come_to-requires-clause-params g c = params_of c.args.graph.now c.requires.running.call c.args.task.now c.requires.running.is
 
 pub execute-requires-clause-found : goal.execute-requires-clause-found
 execute-requires-clause-found g c =
@@ -25,9 +27,8 @@ execute-requires-clause-found g c =
 
 pub execute-requires-clause-keys : goal.execute-requires-clause-keys
 execute-requires-clause-keys g c =
-    subst (λ (ts : List TableInfo). KeysStand ts (applied (writes_in c.come_to.new.task.records) (g.V.View.sight c.args.view.now).database)) (sym c.as_slice.ensures)
-    (subst (λ (rs : List Record). KeysStand c.args.graph.now.tables (applied (writes_in rs) (g.V.View.sight c.args.view.now).database)) (sym c.come_to.ensures.same.records)
-    (c.requires.running.is.keys (g.V.View.sight c.args.view.now).database c.requires.running.rest c.requires.database c.requires.running.leaves))
+    subst (λ (rs : List Record). KeysStand c.args.graph.now.tables (applied (writes_in rs) (g.V.View.sight c.args.view.now).database)) (sym c.come_to.ensures.same.records)
+    (c.requires.running.is.keys (g.V.View.sight c.args.view.now).database c.requires.running.rest c.requires.database c.requires.running.leaves)
 
 came : (g : _) (c : After-execute g) → IsSameCall c.args.graph.now c.args.task.now c.come_to.new.task
 came g c call is = stays c.args.graph.now call c.args.task.now c.come_to.new.task c.come_to.ensures.task c.come_to.ensures.same c.come_to.ensures.found is
@@ -35,8 +36,7 @@ came g c call is = stays c.args.graph.now call c.args.task.now c.come_to.new.tas
 executed : (g : _) (c : After-execute g)
     → OnOk c.execute.result (HasExecuted c.args.graph.now.tables c.args.graph.now.procedure c.come_to.new.task c.execute.new.task (g.V.View.sight c.args.view.now) (g.V.View.sight c.execute.new.view))
 executed g c =
-    subst (λ (ts : List TableInfo). OnOk c.execute.result (HasExecuted ts c.args.graph.now.procedure c.come_to.new.task c.execute.new.task (g.V.View.sight c.args.view.now) (g.V.View.sight c.execute.new.view)))
-    c.as_slice.ensures c.execute.ensures.executed
+    c.execute.ensures.executed
 
 same : (g : _) (c : After-execute g) → IsSameCall c.args.graph.now c.args.task.now c.execute.new.task
 same g c call is =

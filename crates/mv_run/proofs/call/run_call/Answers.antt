@@ -3,6 +3,9 @@ use Rattle.mv_record.specs.Databases.{IsDatabaseOf}
 use Rattle.mv_run.proofs.Calling.{told_reply, told_tables, left_database}
 use Rattle.mv_run.proofs.call.run_call.Goals as goal
 
+pub execute-task-requires-clause-arguments : goal.execute-task-requires-clause-arguments
+execute-task-requires-clause-arguments c = sym (AllZip-long Suits c.args.graph.now.procedure.params c.args.call.now.arguments c.requires.suits)
+
 pub returns-clause-reply : goal.returns-clause-reply
 returns-clause-reply c =
     c.in_ok-reply.ensures ∙ told_reply c.args.graph.now c.args.call.now c.args.database.now c.records-records.result.now c.requires.database.rising (c.records-records.ensures ∙ c.in_ok-task.ensures.records)

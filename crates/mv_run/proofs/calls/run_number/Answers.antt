@@ -21,12 +21,6 @@ run_call-requires-clause-sound c =
     (subst (λ (gs : List Graph). slice_get gs c.in-Some.call.now.procedure ≡ Some c.in-Some-graph_for.graph.now) c.requires.graphs (sym c.in-Some-graph_for.ensures)) in
     g.sound
 
-pub run_call-requires-clause-few : goal.run_call-requires-clause-few
-run_call-requires-clause-few c =
-    let g = goes_by c.args.program.now c.args.number c.in-Some.call.now c.in-Some-graph_for.graph.now c.requires.whole (sym c.in-Some.ensures)
-    (subst (λ (gs : List Graph). slice_get gs c.in-Some.call.now.procedure ≡ Some c.in-Some-graph_for.graph.now) c.requires.graphs (sym c.in-Some-graph_for.ensures)) in
-    g.few
-
 pub run_call-requires-clause-suits : goal.run_call-requires-clause-suits
 run_call-requires-clause-suits c =
     let g = goes_by c.args.program.now c.args.number c.in-Some.call.now c.in-Some-graph_for.graph.now c.requires.whole (sym c.in-Some.ensures)

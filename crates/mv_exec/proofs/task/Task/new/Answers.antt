@@ -6,12 +6,12 @@ use Rattle.mv_exec.proofs.task.Task.new.Goals as goal
 
 pub returns-clause-call : goal.returns-clause-call
 returns-clause-call c =
-    begins c.args.graph.now c.args.call.now c.in_ok-task.task c.requires.few c.in_ok-task.ensures.task c.in_ok-task.ensures.begins (ap (λ (e : Env). e.found) c.in_ok-task.ensures.env)
+    begins c.args.graph.now c.args.call.now c.in_ok-task.task c.requires.arguments c.in_ok-task.ensures.task c.in_ok-task.ensures.begins (ap (λ (e : Env). e.found) c.in_ok-task.ensures.env)
     c.in_ok-task.ensures.records c.in_ok-task.ensures.run
 
 pub returns-clause-running : goal.returns-clause-running
 returns-clause-running c =
     let is : IsTaskOf c.args.graph.now c.args.call.now c.in_ok-task.task =
-    begins c.args.graph.now c.args.call.now c.in_ok-task.task c.requires.few c.in_ok-task.ensures.task c.in_ok-task.ensures.begins (ap (λ (e : Env). e.found) c.in_ok-task.ensures.env)
+    begins c.args.graph.now c.args.call.now c.in_ok-task.task c.requires.arguments c.in_ok-task.ensures.task c.in_ok-task.ensures.begins (ap (λ (e : Env). e.found) c.in_ok-task.ensures.env)
     c.in_ok-task.ensures.records c.in_ok-task.ensures.run in
     begins_on c.args.graph.now c.args.call.now c.in_ok-task.task is c.in_ok-task.ensures.records

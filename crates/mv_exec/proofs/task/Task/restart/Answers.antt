@@ -15,7 +15,7 @@ returns-clause-call c = λ graph call is.
     let empty = c.args.self.now.empty in
     restarted (IsTaskOf graph call) c.args.self.now.parameters env env c.take_back.new.first c.replace.new.dest c.drop_from.new.self c.truncate.new.self c.go_back.new.places empty
     refl c.take_back.ensures.none (c.replace.ensures.after ∙ c.new.ensures) (c.drop_from.ensures ∙ none_before c.args.self.now.undo) c.truncate.ensures (c.go_back.ensures is.whole.some)
-    (begins graph call (unbegun c.args.self.now.parameters env None empty) is.few
+    (begins graph call (unbegun c.args.self.now.parameters env None empty) is.fits
     (unbegun_task graph.procedure c.args.self.now.parameters env None empty is.whole.empty)
     (c.take_back.ensures.env ∙ is.begins.0, is.begins.1)
     (ap (λ (e : Env). e.found) (c.take_back.ensures.env ∙ is.begins.0)) refl

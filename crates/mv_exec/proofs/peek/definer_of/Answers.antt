@@ -1,4 +1,0 @@
-use Rattle.mv_exec.proofs.peek.definer_of.Goals as goal
-
-pub returns-in-None : goal.returns-in-None
-returns-in-None c = rw (← c.in-None.ensures) c.last_definer.ensures

@@ -1,7 +1,0 @@
-use Rattle.std.proofs.Common.{◌≡◌, ◌++◌, drop}
-use Rattle.std.specs.List.{flat_map}
-use Rattle.mv_recorded.specs.Reading.{variables, rights}
-use Rattle.mv_exec.proofs.reading.add_in_tests.Given as goal
-
-abbrev pub invariant-loop-cond : goal.invariant-loop-cond
-invariant-loop-cond l = l.all ++ flat_map variables (rights (drop l.cond-index l.conds)) ≡ l.fn.all ++ flat_map variables (rights l.conds)

@@ -1,0 +1,81 @@
+//! The turns of loops.
+
+ghost use Rattle.std.specs.Prelude.{◌≡◌, ◌++◌, ◌∷◌, [], List, OnOk, OnErr};
+ghost use Rattle.mv_exec.specs.Places.{turned};
+ghost use Rattle.mv_exec.specs.Tasks.{in_turn_at, settled};
+ghost use Rattle.mv_exec.specs.declared.places.Place.{Place};
+
+use crate::places::{Holder, Place, innermost, rows_of};
+use crate::task::Task;
+use mv_alone::env::set_held;
+use mv_alone::state::{Env, Held};
+use mv_record::record::Record;
+use mv_values::copied::Copied;
+use mv_values::list::List;
+use mv_values::memory::NoMemory;
+use std::alloc::Global;
+
+/// Sets the row of a loop to that of the next turn. After NoMemory the variables are as before.
+fn set_row(
+    alloc: Global,
+    env: &mut Env,
+    records: &[Record],
+    holder: Holder,
+) -> Result<(), NoMemory>
+    ensures ok { OnOk result (env.new ≡ turned records.now holder env.old) }
+    ensures err { OnErr result (env.new ≡ env.old) }
+{
+    let Holder::Loop { record, row, turn } = holder else {
+        return Ok(());
+    };
+    let Some(values) = rows_of(records, record).get(turn) else {
+        return Ok(());
+    };
+    set_held(env, row as usize, Held::Turn(values.copy(alloc)?))
+}
+
+/// Puts a place in the place of the innermost one.
+fn set_innermost(places: &mut List<Place>, place: Place)
+    ensures { (outer : List Place) (p : Place) → places.old ≡ outer ++ p ∷ [] → places.new ≡ outer ++ place ∷ [] }
+{
+    if let Some(last) = places.len().checked_sub(1) {
+        places.set(last, place);
+    }
+}
+
+/// Begins the next turn of the loop at the innermost place: sets the loop's row, and puts the call at the place in that
+/// turn. After NoMemory the call is as before.
+fn begin_turn(alloc: Global, task: &mut Task, place: Place) -> Result<(), NoMemory>
+    ensures ok { OnOk result ((outer : List Place) (p : Place) → task.old.places ≡ outer ++ p ∷ [] → task.new ≡ in_turn_at task.old outer p place) }
+    ensures err { OnErr result (task.new ≡ task.old) }
+{
+    let Some((_, last)) = innermost(task.places.as_slice()) else {
+        return Ok(());
+    };
+    set_row(
+        alloc,
+        &mut task.env,
+        task.records.as_slice(),
+        last.holder,
+    )?;
+    set_innermost(&mut task.places, place);
+    Ok(())
+}
+
+/// Puts a call at the place at which it goes on. If a turn begins there, the loop's row is set. After NoMemory the call
+/// is as before.
+pub(crate) fn settle(
+    alloc: Global,
+    task: &mut Task,
+    place: Place,
+    turn: bool,
+) -> Result<(), NoMemory>
+    ensures ok { OnOk result ((outer : List Place) (p : Place) → task.old.places ≡ outer ++ p ∷ [] → task.new ≡ settled task.old outer p place turn) }
+    ensures err { OnErr result (task.new ≡ task.old) }
+{
+    if turn {
+        begin_turn(alloc, task, place)
+    } else {
+        Ok(())
+    }
+}
