@@ -38,14 +38,28 @@ pub fn read_journal(alloc: Global, bytes: &[u8]) -> Result<List<Event>, LineFaul
     Ok(events)
 }
 
-/// Adds a line for each event at the end of a text. What it adds reads back as the same events. Where no memory is found the text may
-/// end with a part of it.
+/// Adds a line for each event at the end of a text. What it adds reads back as the same events. Where no memory is found the text is as
+/// before.
 pub fn write_journal(events: &List<Event>, text: &mut List<u8>) -> Result<(), NoMemory>
+    ensures ok { OnOk result (text.new ≡ text.old ++ events_text events.now) }
+    ensures err { OnErr result (text.new ≡ text.old) }
+    ensures back { OnOk result (AreEventLines (lines (events_text events.now)) events.now) }
+{
+    let len = text.len();
+    let written = write_lines(events.as_slice(), text);
+    if written.is_err() {
+        text.truncate(len);
+    }
+    written
+}
+
+/// Adds a line for each event at the end of a text. Where no memory is found the text may end with a part of them.
+fn write_lines(events: &[Event], text: &mut List<u8>) -> Result<(), NoMemory>
     ensures ok { OnOk result (text.new ≡ text.old ++ events_text events.now) }
     ensures err { OnErr result (take (length text.old) text.new ≡ text.old) }
     ensures back { OnOk result (AreEventLines (lines (events_text events.now)) events.now) }
 {
-    for event in events.as_slice() {
+    for event in events {
         write_event(*event, text)?;
         text.push(b'\n')?;
     }
