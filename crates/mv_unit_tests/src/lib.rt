@@ -25,6 +25,8 @@ mod reports;
 #[cfg(test)]
 mod scripts;
 #[cfg(test)]
+mod stores;
+#[cfg(test)]
 mod tokens;
 #[cfg(test)]
 mod values;
