@@ -9,7 +9,7 @@ use Rattle.mv_catalog.specs.declared.resolved.RStmt.TheOpen as open'
 use Rattle.mv_catalog.specs.declared.resolved.RStmt.TheVariants.{Branch, rolls-Branch}
 use Rattle.mv_catalog.specs.declared.resolved.RExpr.{RExpr}
 use Rattle.mv_graph.specs.declared.graph.Node.{Node}
-use Rattle.mv_graph.specs.Nodes.{own_node, nodes_of, held_nodes, body_nodes}
+use Rattle.mv_graph.specs.Nodes.{own_node, nodes_of, nodes_inside, body_nodes}
 use Rattle.mv_graph.proofs.Sizes.{nodes_count, body_counts, nodes_out}
 
 -- a fact for an answer, from another
@@ -32,25 +32,25 @@ branches params found nodes first second ys ns holder loops one two =
 pub both_branches : (params found : ℕ) (nodes first second : List Node) (s : RStmt) (test : RExpr) (ys ns ys' ns' : List RStmt) (number : ℕ) (loops : List ℕ)
     → s ≡ Branch test ys ns → ys' ≡ ys → ns' ≡ ns → number ≡ length nodes
     → first ≡ nodes ++ body_nodes params found ys' (length nodes + 1) (Some number) loops → second ≡ first ++ body_nodes params found ns' (length first + 1) (Some number) loops
-    → second ≡ nodes ++ held_nodes params found (out-RStmt s) (length nodes) loops
+    → second ≡ nodes ++ nodes_inside params found (out-RStmt s) (length nodes) loops
 both_branches params found nodes first second s test ys ns ys' ns' number loops is yes_is no_is at one two =
     branches params found nodes first second ys ns (Some (length nodes)) loops
     (one ∙ (ap (λ l. nodes ++ body_nodes params found l (length nodes + 1) (Some number) loops) yes_is ∙ ap (λ k. nodes ++ body_nodes params found ys (length nodes + 1) (Some k) loops) at))
     (two ∙ (ap (λ l. first ++ body_nodes params found l (length first + 1) (Some number) loops) no_is ∙ ap (λ k. first ++ body_nodes params found ns (length first + 1) (Some k) loops) at))
-    ∙ sym (ap (λ t. nodes ++ held_nodes params found t (length nodes) loops) (ap out-RStmt is ∙ (ap out-RStmt (sym (rolls-Branch test ys ns)) ∙ out-roll-RStmt (open'.Branch test ys ns))))
+    ∙ sym (ap (λ t. nodes ++ nodes_inside params found t (length nodes) loops) (ap out-RStmt is ∙ (ap out-RStmt (sym (rolls-Branch test ys ns)) ∙ out-roll-RStmt (open'.Branch test ys ns))))
 
 -- a statement's own node, and behind it those of what it holds
 pub own_first : (params found : ℕ) (nodes pushed new : List Node) (node : Node) (s : RStmt) (holder : Option ℕ) (loops : List ℕ)
     → node ≡ own_node params found (out-RStmt s) holder loops (size s) → pushed ≡ nodes ++ node ∷ []
-    → new ≡ pushed ++ held_nodes params found (out-RStmt s) (length pushed) loops
+    → new ≡ pushed ++ nodes_inside params found (out-RStmt s) (length pushed) loops
     → new ≡ nodes ++ nodes_of params found s (length nodes + 1) holder loops
 own_first params found nodes pushed new node s holder loops own push held =
     let at : length pushed ≡ length nodes + 1 = ap length push ∙ length-append nodes (node ∷ []) in
     held
-    ∙ (ap (λ k. pushed ++ held_nodes params found (out-RStmt s) k loops) at
-    ∙ (ap (λ l. l ++ held_nodes params found (out-RStmt s) (length nodes + 1) loops) push
-    ∙ (append_assoc nodes (node ∷ []) (held_nodes params found (out-RStmt s) (length nodes + 1) loops)
-    ∙ (ap (λ k. nodes ++ (k ∷ held_nodes params found (out-RStmt s) (length nodes + 1) loops)) own
+    ∙ (ap (λ k. pushed ++ nodes_inside params found (out-RStmt s) k loops) at
+    ∙ (ap (λ l. l ++ nodes_inside params found (out-RStmt s) (length nodes + 1) loops) push
+    ∙ (append_assoc nodes (node ∷ []) (nodes_inside params found (out-RStmt s) (length nodes + 1) loops)
+    ∙ (ap (λ k. nodes ++ (k ∷ nodes_inside params found (out-RStmt s) (length nodes + 1) loops)) own
     ∙ ap (λ l. nodes ++ l) (sym (nodes_out params found s (length nodes + 1) holder loops))))))
 
 -- one statement more

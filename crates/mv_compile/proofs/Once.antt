@@ -46,8 +46,8 @@ there all n m h = by (m == n) refl
         ap not (ap (is_in all) same ∙ h)
 
 -- of a number and others than it
-taken : (all : List ℕ) (n : ℕ) (ms : List ℕ) → with_new all n ++ new_to (with_new all n) ms ≡ all ++ new_to all (n ∷ filter (λ m. not (m == n)) ms)
-taken all n ms = by (is_in all n) refl
+first_number : (all : List ℕ) (n : ℕ) (ms : List ℕ) → with_new all n ++ new_to (with_new all n) ms ≡ all ++ new_to all (n ∷ filter (λ m. not (m == n)) ms)
+first_number all n ms = by (is_in all n) refl
   where
     by : (b : Bool) → is_in all n ≡ b → cond b all (all ++ n ∷ []) ++ new_to (cond b all (all ++ n ∷ [])) ms ≡ all ++ new_to all (n ∷ filter (λ m. not (m == n)) ms)
     by true e = rw e (ap (λ l. all ++ l) (sym (filter_twice (λ m. not (is_in all m)) (λ m. not (m == n)) (λ m. not (is_in all m)) ms (λ m. there all n m e))))
@@ -55,8 +55,8 @@ taken all n ms = by (is_in all n) refl
         let rest = filter_twice (λ m. not (is_in all m)) (λ m. not (m == n)) (λ m. not (is_in (all ++ n ∷ []) m)) ms (others all n) in
         rw e (append_assoc all (n ∷ []) (new_to (all ++ n ∷ []) ms) ∙ ap (λ l. all ++ (n ∷ l)) (sym rest))
 
-pub one_taken : (all ns : List ℕ) (i : ℕ) (d : ℕ) → i < length ns → with_new all (slice_index_or ns i d) ++ new_to (with_new all (slice_index_or ns i d)) (each_once (drop (i + 1) ns)) ≡ all ++ new_to all (each_once (drop i ns))
-one_taken all ns i d lt =
+pub one_number_more : (all ns : List ℕ) (i : ℕ) (d : ℕ) → i < length ns → with_new all (slice_index_or ns i d) ++ new_to (with_new all (slice_index_or ns i d)) (each_once (drop (i + 1) ns)) ≡ all ++ new_to all (each_once (drop i ns))
+one_number_more all ns i d lt =
     let next : suc i ≡ i + 1 = omega arith in
-    taken all (slice_index_or ns i d) (each_once (drop (i + 1) ns))
+    first_number all (slice_index_or ns i d) (each_once (drop (i + 1) ns))
     ∙ sym (ap (λ l. all ++ new_to all (each_once l)) (drop-cons ns i d lt ∙ ap (λ k. slice_index_or ns i d ∷ drop k ns) next))

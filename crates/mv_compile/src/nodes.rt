@@ -3,7 +3,7 @@
 ghost use Rattle.std.specs.Prelude.{◌≡◌, ◌<◌, ◌≤◌, ◌+◌, ◌^◌, ◌++◌, ◌∷◌, [], IfOk, OnOk, Some, length, map};
 ghost use Rattle.mv_catalog.specs.Statements.{size, total_size};
 ghost use Rattle.mv_catalog.specs.declared.resolved.RStmt.{out-RStmt};
-ghost use Rattle.mv_graph.specs.Nodes.{own_node, nodes_of, held_nodes, body_nodes};
+ghost use Rattle.mv_graph.specs.Nodes.{own_node, nodes_of, nodes_inside, body_nodes};
 
 use crate::reads::{asks, changes, keyword, reads, sets};
 use crate::sizes::size_of;
@@ -103,7 +103,7 @@ fn add_held(
     loops: &List<u16>,
 ) -> Result<(), NoMemory>
     requires room { length nodes.old + size statement.now ≤ 2 ^ 16 }
-    ensures { OnOk result (nodes.new ≡ nodes.old ++ held_nodes slots.params slots.found (out-RStmt statement.now) (length nodes.old) loops.now) }
+    ensures { OnOk result (nodes.new ≡ nodes.old ++ nodes_inside slots.params slots.found (out-RStmt statement.now) (length nodes.old) loops.now) }
 {
     match statement {
         RStmt::ForSelect { body, .. } => add_turns(alloc, nodes, slots, body.as_slice(), loops),

@@ -28,8 +28,8 @@ use Rattle.mv_effect.specs.Choosing.{Chooses}
 use Rattle.mv_exec.specs.declared.places.Place.{Place}
 use Rattle.mv_exec.specs.declared.task.Task.{Task}
 use Rattle.mv_exec.specs.Left.{Job, run, left, inside}
-use Rattle.mv_exec.specs.Places.{block_of, passed, holding, site_in, site_of, some_run, some_turns, turns_of, rows_in, jobs_here, jobs_of, jobs_left, StandsAt}
-use Rattle.mv_exec.specs.Moves.{inner_places, walked, moved_on}
+use Rattle.mv_exec.specs.Places.{block_of, statement_before, holder_of, site_in, site_of, some_run, some_turns, turns_of, rows_in, jobs_here, jobs_of, jobs_left, StandsAt}
+use Rattle.mv_exec.specs.Moves.{inner_places, walked, place_after}
 use Rattle.mv_exec.specs.Tasks.{places_of, state_of, left_of, IsTask, IsHeldBefore, AreHeldBefore}
 use Rattle.mv_exec.proofs.Leaving.{statement_first}
 use Rattle.mv_exec.proofs.Placing.{jobs_more, holding_more, site_more}
@@ -60,8 +60,8 @@ same_jobs : (proc : ProcInfo) (rs : List Record) (r : Record) (s : Option RStmt)
     → jobs_of proc (rs ++ r ∷ []) s site ps ≡ jobs_of proc rs s site ps
 same_jobs proc rs r s site [] h = refl
 same_jobs proc rs r s site (p ∷ ps) h =
-    ap (λ js. js ++ jobs_here (rs ++ r ∷ []) (block_of proc s p) site p) (same_jobs proc rs r (passed proc s p) (site_in p.holder site) ps h.1)
-    ∙ ap (λ ts. jobs_of proc rs (passed proc s p) (site_in p.holder site) ps ++ (some_run (site_in p.holder site) p.number (drop p.at (block_of proc s p)) ++ ts))
+    ap (λ js. js ++ jobs_here (rs ++ r ∷ []) (block_of proc s p) site p) (same_jobs proc rs r (statement_before proc s p) (site_in p.holder site) ps h.1)
+    ∙ ap (λ ts. jobs_of proc rs (statement_before proc s p) (site_in p.holder site) ps ++ (some_run (site_in p.holder site) p.number (drop p.at (block_of proc s p)) ++ ts))
     (same_turns_of rs r site (block_of proc s p) p.first p.holder h.0)
 
 -- The state behind a record
@@ -116,10 +116,10 @@ pub left_next : (proc : ProcInfo) (tables : List TableInfo) (task : Task) (db : 
     let own : Record = own_record tables task.parameters (out-RStmt s) p.number (site_in p.holder site) task.records st in
     left_of proc tables task db
     ≡ own ∷ on (itself tables (out-RStmt s) st) (left tables task.parameters
-    (inside (length task.records) (out-RStmt s) p.number (site_in p.holder site) st ++ run (site_in p.holder site) (p.number + size s) (drop (p.at + 1) (block_of proc (holding proc None outer) p))
-    ∷ (turns_of task.records site (block_of proc (holding proc None outer) p) p.first p.holder ++ jobs_left proc task.records outer)) (task.records ++ own ∷ []))
+    (inside (length task.records) (out-RStmt s) p.number (site_in p.holder site) st ++ run (site_in p.holder site) (p.number + size s) (drop (p.at + 1) (block_of proc (holder_of proc None outer) p))
+    ∷ (turns_of task.records site (block_of proc (holder_of proc None outer) p) p.first p.holder ++ jobs_left proc task.records outer)) (task.records ++ own ∷ []))
 left_next proc tables task db outer p s at =
-    let block : List RStmt = block_of proc (holding proc None outer) p in
+    let block : List RStmt = block_of proc (holder_of proc None outer) p in
     let site : Site = site_of outside outer in
     let st : State = state_of task db in
     let ts : List Job = turns_of task.records site block p.first p.holder in
@@ -132,23 +132,23 @@ left_next proc tables task db outer p s at =
 -- Where a record has been added
 
 -- the statement that the innermost place has passed
-pub held_statement : (proc : ProcInfo) (ps outer : List Place) (p : Place) (s : RStmt) (m : ℕ) → StandsAt proc ps outer p s → holding proc None (outer ++ moved_on m p ∷ []) ≡ Some s
+pub held_statement : (proc : ProcInfo) (ps outer : List Place) (p : Place) (s : RStmt) (m : ℕ) → StandsAt proc ps outer p s → holder_of proc None (outer ++ place_after m p ∷ []) ≡ Some s
 held_statement proc ps outer p s m at =
-    holding_more proc None outer (moved_on m p)
-    ∙ (ap (slice_get (block_of proc (holding proc None outer) p)) (let e : p.at + 1 - 1 ≡ p.at = omega arith in e) ∙ at.stands)
+    holding_more proc None outer (place_after m p)
+    ∙ (ap (slice_get (block_of proc (holder_of proc None outer) p)) (let e : p.at + 1 - 1 ≡ p.at = omega arith in e) ∙ at.stands)
 
 new_jobs : (proc : ProcInfo) (task : Task) (r : Record) (outer : List Place) (p : Place) (s : RStmt) (b : Bool) → IsTask proc task → StandsAt proc (places_of task) outer p s
     → let site : Site = site_of outside outer in
-    let block : List RStmt = block_of proc (holding proc None outer) p in
-    jobs_left proc (task.records ++ r ∷ []) ((outer ++ moved_on (size s) p ∷ []) ++ inner_places (length task.records) p.number b (out-RStmt s))
+    let block : List RStmt = block_of proc (holder_of proc None outer) p in
+    jobs_left proc (task.records ++ r ∷ []) ((outer ++ place_after (size s) p ∷ []) ++ inner_places (length task.records) p.number b (out-RStmt s))
     ≡ inner_jobs (length task.records) p.number b (site_in p.holder site) r.rows (out-RStmt s)
     ++ (some_run (site_in p.holder site) (p.number + size s) (drop (p.at + 1) block) ++ (turns_of task.records site block p.first p.holder ++ jobs_left proc task.records outer))
 new_jobs proc task r outer p s b t at =
     let rs : List Record = task.records ++ r ∷ [] in
     let number : ℕ = length task.records in
-    let q : Place = moved_on (size s) p in
+    let q : Place = place_after (size s) p in
     let site : Site = site_of outside outer in
-    let block : List RStmt = block_of proc (holding proc None outer) p in
+    let block : List RStmt = block_of proc (holder_of proc None outer) p in
     let runs : List Job = some_run (site_in p.holder site) (p.number + size s) (drop (p.at + 1) block) in
     let holders : AreHeldBefore number (outer ++ p ∷ []) = subst (AreHeldBefore number) at.are t.holders in
     inner_left proc rs (outer ++ q ∷ []) s (out-RStmt s) number p.number b (held_statement proc (places_of task) outer p s (size s) at) refl
@@ -163,7 +163,7 @@ new_jobs proc task r outer p s b t at =
 -- what is left behind a record that doesn't end the call
 abbrev Goes : ProcInfo → List TableInfo → Task → Tables → Record → List Record → List Place → Place → RStmt → Bool → Type 0
 Goes proc tables task db r tail outer p s b =
-    left tables task.parameters (jobs_left proc (task.records ++ r ∷ []) ((outer ++ moved_on (size s) p ∷ []) ++ inner_places (length task.records) p.number b (out-RStmt s)))
+    left tables task.parameters (jobs_left proc (task.records ++ r ∷ []) ((outer ++ place_after (size s) p ∷ []) ++ inner_places (length task.records) p.number b (out-RStmt s)))
     (task.records ++ r ∷ []) (state_with (task.records ++ r ∷ []) (walked (out-RStmt s) r.rows (with_slots r.sets task.env)) db) ≡ tail
 
 -- two lists with one first record
@@ -177,8 +177,8 @@ own_goes : (proc : ProcInfo) (tables : List TableInfo) (task : Task) (db : Table
     let own : Record = own_record tables task.parameters (out-RStmt s) p.number site task.records st in
     itself tables (out-RStmt s) st ≡ Ok next → next ≡ behind own st
     → on (itself tables (out-RStmt s) st) (left tables task.parameters
-    (inside (length task.records) (out-RStmt s) p.number site st ++ run site (p.number + size s) (drop (p.at + 1) (block_of proc (holding proc None outer) p))
-    ∷ (turns_of task.records (site_of outside outer) (block_of proc (holding proc None outer) p) p.first p.holder ++ jobs_left proc task.records outer)) (task.records ++ own ∷ [])) ≡ tail
+    (inside (length task.records) (out-RStmt s) p.number site st ++ run site (p.number + size s) (drop (p.at + 1) (block_of proc (holder_of proc None outer) p))
+    ∷ (turns_of task.records (site_of outside outer) (block_of proc (holder_of proc None outer) p) p.first p.holder ++ jobs_left proc task.records outer)) (task.records ++ own ∷ [])) ≡ tail
     → Goes proc tables task db own tail outer p s b
 own_goes proc tables task db tail outer p s b next t at chosen ok is tails =
     let params : ℕ = task.parameters in
@@ -188,7 +188,7 @@ own_goes proc tables task db tail outer p s b next t at chosen ok is tails =
     let st : State = state_of task db in
     let own : Record = own_record tables params y p.number site task.records st in
     let rs : List Record = task.records ++ own ∷ [] in
-    let block : List RStmt = block_of proc (holding proc None outer) p in
+    let block : List RStmt = block_of proc (holder_of proc None outer) p in
     let rest : List RStmt = drop (p.at + 1) block in
     let more : List Job = turns_of task.records (site_of outside outer) block p.first p.holder ++ jobs_left proc task.records outer in
     let inner : List Job = inner_jobs number p.number b site own.rows y in
@@ -221,8 +221,8 @@ goes_on proc tables task db r tail outer p s b t at chosen has rise leaves ends 
 
     more : List Record
     more = on (itself tables y st) (left tables task.parameters
-        (inside (length task.records) y p.number site st ++ run site (p.number + size s) (drop (p.at + 1) (block_of proc (holding proc None outer) p))
-        ∷ (turns_of task.records (site_of outside outer) (block_of proc (holding proc None outer) p) p.first p.holder ++ jobs_left proc task.records outer)) (task.records ++ own ∷ []))
+        (inside (length task.records) y p.number site st ++ run site (p.number + size s) (drop (p.at + 1) (block_of proc (holder_of proc None outer) p))
+        ∷ (turns_of task.records (site_of outside outer) (block_of proc (holder_of proc None outer) p) p.first p.holder ++ jobs_left proc task.records outer)) (task.records ++ own ∷ []))
 
     both : (own ≡ r) × (more ≡ tail)
     both = first_same own r more tail (sym (left_next proc tables task db outer p s at) ∙ leaves)
@@ -255,8 +255,8 @@ ends_all proc tables task db r tail outer p s e at leaves ends = by (itself tabl
 
     rest : State → List Record
     rest = left tables task.parameters
-        (inside (length task.records) (out-RStmt s) p.number site st ++ run site (p.number + size s) (drop (p.at + 1) (block_of proc (holding proc None outer) p))
-        ∷ (turns_of task.records (site_of outside outer) (block_of proc (holding proc None outer) p) p.first p.holder ++ jobs_left proc task.records outer)) (task.records ++ own ∷ [])
+        (inside (length task.records) (out-RStmt s) p.number site st ++ run site (p.number + size s) (drop (p.at + 1) (block_of proc (holder_of proc None outer) p))
+        ∷ (turns_of task.records (site_of outside outer) (block_of proc (holder_of proc None outer) p) p.first p.holder ++ jobs_left proc task.records outer)) (task.records ++ own ∷ [])
 
     both : (own ≡ r) × (on (itself tables (out-RStmt s) st) rest ≡ tail)
     both = first_same own r (on (itself tables (out-RStmt s) st) rest) tail (sym (left_next proc tables task db outer p s at) ∙ leaves)

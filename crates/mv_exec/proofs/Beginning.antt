@@ -15,7 +15,7 @@ use Rattle.mv_graph.proofs.Texts.{whole_text}
 use Rattle.mv_exec.specs.declared.places.Place.{Place}
 use Rattle.mv_exec.specs.declared.task.Task.{Task}
 use Rattle.mv_exec.specs.Left.{left}
-use Rattle.mv_exec.specs.Places.{block_of, holding, some_run, jobs_left, is_left, AreFilled, AreNumbered, EndsLeft}
+use Rattle.mv_exec.specs.Places.{block_of, holder_of, some_run, jobs_left, is_left, AreFilled, AreNumbered, EndsLeft}
 use Rattle.mv_exec.specs.Tasks.{standing, first_place, none_in, run_of, IsTask, AreHeldBefore, BeginsCall, unbegun}
 use Rattle.mv_exec.proofs.Leaving.{all_left}
 use Rattle.mv_exec.proofs.Going.{same_run}
@@ -34,7 +34,7 @@ ends : (proc : ProcInfo) (body : List RStmt) → proc.body ≡ body → EndsLeft
 ends proc [] e outer p h = absurd (no_last outer p (sym h))
 ends proc (s ∷ ss) e outer p h =
     let k : ([] ≡ outer) × (first_place ≡ p) = same_last [] outer first_place p h in
-    subst (λ q. is_left [] (block_of proc (holding proc None outer) q) q ≡ true) k.1
+    subst (λ q. is_left [] (block_of proc (holder_of proc None outer) q) q ≡ true) k.1
     (ap (λ (bl : List RStmt). is_left [] bl first_place) e ∙ ap (λ b. b || false) (is_below 0 (length (s ∷ ss)) (omega arith)))
 
 holders : (b : Bool) → AreHeldBefore 0 (standing b (first_place ∷ []))

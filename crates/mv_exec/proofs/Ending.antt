@@ -7,7 +7,7 @@ use Rattle.mv_alone.specs.declared.state.Env.{Env}
 use Rattle.mv_alone.specs.TableAfter.{Tables}
 use Rattle.mv_exec.specs.declared.places.Place.{Place}
 use Rattle.mv_exec.specs.declared.task.Task.{Task}
-use Rattle.mv_exec.specs.Places.{block_of, holding, next_turn, StandsAt}
+use Rattle.mv_exec.specs.Places.{block_of, holder_of, next_turn, StandsAt}
 use Rattle.mv_exec.specs.Tasks.{places_of, left_of, beginning, IsTask, StandsAsBefore, TellsEnd}
 use Rattle.mv_exec.proofs.Turning.{FirstOf, first_of, IsDue, standing_live, after_turn, turned_before, turned_first}
 use Rattle.mv_exec.proofs.Adding.{left_next}
@@ -19,15 +19,15 @@ stands_left proc tables task db outer p s at none = let e = sym (left_next proc 
 
 -- at the innermost place a statement stands, or a turn is due
 either_left : (proc : ProcInfo) (tables : List TableInfo) (task : Task) (db : Tables) (outer : List Place) (p : Place) → IsTask proc task → places_of task ≡ outer ++ p ∷ []
-    → left_of proc tables task db ≡ [] → (b : Bool) → nat_lt p.at (length (block_of proc (holding proc None outer) p)) ≡ b → ⊥
+    → left_of proc tables task db ≡ [] → (b : Bool) → nat_lt p.at (length (block_of proc (holder_of proc None outer) p)) ≡ b → ⊥
 either_left proc tables task db outer p t are none true e =
-    let f : FirstOf RStmt (block_of proc (holding proc None outer) p) p.at = first_of (block_of proc (holding proc None outer) p) p.at e in
+    let f : FirstOf RStmt (block_of proc (holder_of proc None outer) p) p.at = first_of (block_of proc (holder_of proc None outer) p) p.at e in
     stands_left proc tables task db outer p f.it (record { are = are; stands = f.there }) none
 either_left proc tables task db outer p t are none false e =
     let due : IsDue proc (places_of task) outer p = record { are = are; none = e } in
     let first : Option Env = Some (beginning task) in
     let before : StandsAsBefore proc task (after_turn task first outer p) = turned_before proc task first outer p t due refl in
-    let block : List RStmt = block_of proc (holding proc None outer) (next_turn p) in
+    let block : List RStmt = block_of proc (holder_of proc None outer) (next_turn p) in
     let f : FirstOf RStmt block 0 = first_of block 0 (turned_first proc task outer p t due) in
     stands_left proc tables (after_turn task first outer p) db outer (next_turn p) f.it (record { are = refl; stands = f.there }) (before.left tables db ∙ none)
 
@@ -43,7 +43,7 @@ some_left : (proc : ProcInfo) (tables : List TableInfo) (task : Task) (db : Tabl
 some_left proc tables task db t none true e = refl
 some_left proc tables task db t none false e =
     let l : (outer : List Place) × ((p : Place) × (task.places ≡ outer ++ p ∷ [])) = last_of task.places t.some in
-    absurd (either_left proc tables task db l.0 l.1.0 t (standing_live task.ended task.places e ∙ l.1.1) none (nat_lt l.1.0.at (length (block_of proc (holding proc None l.0) l.1.0))) refl)
+    absurd (either_left proc tables task db l.0 l.1.0 t (standing_live task.ended task.places e ∙ l.1.1) none (nat_lt l.1.0.at (length (block_of proc (holder_of proc None l.0) l.1.0))) refl)
 
 pub ends_exactly : (proc : ProcInfo) (task : Task) → IsTask proc task → TellsEnd proc task task.ended
 ends_exactly proc task t tables db = (none_left proc tables task db, λ none. some_left proc tables task db t none task.ended refl)

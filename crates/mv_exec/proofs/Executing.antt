@@ -33,7 +33,7 @@ use Rattle.mv_exec.specs.declared.task.Ahead.{Ahead}
 use Rattle.mv_exec.specs.declared.task.Task.{Task}
 use Rattle.mv_exec.specs.Keeping.{owned, all_owned}
 use Rattle.mv_exec.specs.Left.{run, left, inside}
-use Rattle.mv_exec.specs.Places.{block_of, holding, site_in, site_of, turns_of, jobs_left, StandsAt}
+use Rattle.mv_exec.specs.Places.{block_of, holder_of, site_in, site_of, turns_of, jobs_left, StandsAt}
 use Rattle.mv_exec.specs.Tasks.{places_of, state_of, left_of, IsTask}
 use Rattle.mv_exec.specs.Ahead.{ForeseesLeft, ahead_in}
 use Rattle.mv_exec.specs.Steps.{HasAdded, HasExecuted, record_of}
@@ -88,8 +88,8 @@ effect_next proc tables task db outer p s ahead e t at next effect =
     let site : Site = site_in p.holder (site_of outside outer) in
     let own : Record = own_record tables task.parameters (out-RStmt s) p.number site task.records st in
     let rest : List Record = on (itself tables (out-RStmt s) st) (left tables task.parameters
-    (inside (length task.records) (out-RStmt s) p.number site st ++ run site (p.number + size s) (drop (p.at + 1) (block_of proc (holding proc None outer) p))
-    ∷ (turns_of task.records (site_of outside outer) (block_of proc (holding proc None outer) p) p.first p.holder ++ jobs_left proc task.records outer)) (task.records ++ own ∷ [])) in
+    (inside (length task.records) (out-RStmt s) p.number site st ++ run site (p.number + size s) (drop (p.at + 1) (block_of proc (holder_of proc None outer) p))
+    ∷ (turns_of task.records (site_of outside outer) (block_of proc (holder_of proc None outer) p) p.first p.holder ++ jobs_left proc task.records outer)) (task.records ++ own ∷ [])) in
     let leaves : left_of proc tables task db ≡ own ∷ rest = left_next proc tables task db outer p s at in
     let foreseen : Foresees (Some ahead) (own ∷ rest) = subst (Foresees (Some ahead)) leaves (next tables db) in
     let is : e ≡ effect_of tables (out-RStmt s) st = subst (λ ws. IsEffect tables (out-RStmt s) task.env (applied ws db) e) (own_writes proc task t) effect st.lines in

@@ -15,7 +15,7 @@ use Rattle.mv_graph.specs.Nodes.{TellsOf}
 use Rattle.mv_exec.specs.declared.places.Place.{Place}
 use Rattle.mv_exec.specs.declared.task.Task.{Task}
 use Rattle.mv_exec.specs.Env.{begun_with}
-use Rattle.mv_exec.specs.Places.{site_in, site_of, next_turn, place_due, turned, StandsAt, IsAt}
+use Rattle.mv_exec.specs.Places.{site_in, site_of, next_turn, place_due, with_next_row, StandsAt, IsAt}
 use Rattle.mv_exec.specs.Tasks.{places_of, left_of, definer_in, beginning, in_turn_at, settled, IsTask, StandsAsBefore}
 use Rattle.mv_exec.specs.Running.{Foresees}
 use Rattle.mv_exec.specs.Ahead.{GoesOn, ahead_at, ForeseesLeft}
@@ -43,9 +43,12 @@ foresees_at : (proc : ProcInfo) (task : Task) (env : Env) (first : Option Env) (
 foresees_at proc task env first ps ended outer p s xs t left at are tables db =
     let then : Task = record task { env = env; first = first; places = ps; ended = ended } in
     let site : Site = site_in p.holder (site_of outside outer) in
-    subst (Foresees (Some (ahead_at task.definers site p.number xs))) (sym (left_next proc tables then db outer p s at) ∙ left tables db)
-    (refl, refl, reads_same task.parameters site.loops task.records task.definers (out-RStmt s) t.definers
-    ∙ ap (map (λ x. record { slot = x; definer = option_or (loop_of x site.loops) (definer_in task.definers x) })) (sym are))
+    subst (Foresees (Some (ahead_at task.definers site p.number xs))) (sym (left_next proc tables then db outer p s at) ∙ left tables db) (
+      refl,
+      refl,
+      reads_same task.parameters site.loops task.records task.definers (out-RStmt s) t.definers
+          ∙ ap (map (λ x. record { slot = x; definer = option_or (loop_of x site.loops) (definer_in task.definers x) })) (sym are),
+    )
 
 -- the turn that is due
 pub due_turn : (proc : ProcInfo) (task : Task) (place : Place) (s : RStmt) (turn : Bool) → task.ended ≡ false → (go : GoesOn proc task place s turn) → turn ≡ true → IsDue proc (places_of task) go.outer go.last
@@ -73,7 +76,7 @@ foresees proc task place s turn node t live params go tells = by turn refl
         let due : IsDue proc (places_of task) go.outer go.last = due_turn proc task place s turn live go e in
         let first : Option Env = Some (beginning task) in
         let before : StandsAsBefore proc task (after_turn task first go.outer go.last) = turned_before proc task first go.outer go.last t due refl in
-        foresees_at proc task (turned task.records go.last.holder task.env) first (go.outer ++ next_turn go.last ∷ []) false go.outer place s node.reads t before.left
+        foresees_at proc task (with_next_row task.records go.last.holder task.env) first (go.outer ++ next_turn go.last ∷ []) false go.outer place s node.reads t before.left
         (record { are = ap (λ q. go.outer ++ q ∷ []) (in_turn proc task place s turn go e); stands = go.stands }) reads
     by false e =
         foresees_at proc task task.env task.first task.places task.ended go.outer place s node.reads t (λ tables db. refl) (stands_here proc task place s turn live go e) reads
@@ -117,12 +120,12 @@ turned_come proc task first place s go t live kept =
     let last : Place = go.last in
     let then : Task = after_turn task first go.outer last in
     let is : in_turn_at (record task { first = first }) go.outer last place ≡ then =
-    ap (λ q. record task { env = turned task.records last.holder task.env; first = first; places = go.outer ++ q ∷ [] }) (sym (in_turn proc task place s true go refl))
+    ap (λ q. record task { env = with_next_row task.records last.holder task.env; first = first; places = go.outer ++ q ∷ [] }) (sym (in_turn proc task place s true go refl))
     ∙ ap (λ b. record then { ended = b }) live in
     subst (λ u. IsCome proc task u place s) (sym is)
     (record {
       whole = turned_task proc task first go.outer last t due;
-      same = turned_before proc task first go.outer last t due (begun_kept first task.first task.env (turned task.records last.holder task.env) kept);
+      same = turned_before proc task first go.outer last t due (begun_kept first task.first task.env (with_next_row task.records last.holder task.env) kept);
       at = (go.outer, record { are = ap (λ q. go.outer ++ q ∷ []) (in_turn proc task place s true go refl); stands = go.stands });
     })
 

@@ -20,8 +20,8 @@ use Rattle.mv_exec.specs.declared.places.Holder.TheVariants as by
 use Rattle.mv_effect.specs.Choosing.{Chooses}
 use Rattle.mv_exec.specs.declared.places.Place.{Place}
 use Rattle.mv_exec.specs.Left.{Job, run, turns, left, inside}
-use Rattle.mv_exec.specs.Places.{body_in, branch_in, held, holding, site_of, some_run, some_turns, rows_at, jobs_left}
-use Rattle.mv_exec.specs.Moves.{entered, looped, inner_places, run_through, through, walked}
+use Rattle.mv_exec.specs.Places.{body_in, branch_in, block_in, holder_of, site_of, some_run, some_turns, rows_at, jobs_left}
+use Rattle.mv_exec.specs.Moves.{branch_place, loop_place, inner_places, run_through, through, walked}
 use Rattle.mv_exec.proofs.Leaving.{turn_begins, run_ends, turns_end}
 use Rattle.mv_exec.proofs.Placing.{jobs_more}
 use Rattle.mv_exec.proofs.Going.{same_run, same_turns}
@@ -101,16 +101,16 @@ all_dropped [] = refl
 all_dropped (x ∷ xs) = all_dropped xs
 
 entered_jobs : (proc : ProcInfo) (rs : List Record) (os : List Place) (number : ℕ) (b : Bool) (first : ℕ) (block : List RStmt)
-    → held proc (by.Branch number b) (holding proc None os) ≡ block
-    → jobs_left proc rs (os ++ entered (by.Branch number b) first block) ≡ some_run (within number (site_of outside os)) first block ++ jobs_left proc rs os
+    → block_in proc (by.Branch number b) (holder_of proc None os) ≡ block
+    → jobs_left proc rs (os ++ branch_place (by.Branch number b) first block) ≡ some_run (within number (site_of outside os)) first block ++ jobs_left proc rs os
 entered_jobs proc rs os number b first [] e = ap (jobs_left proc rs) (append-nil os)
 entered_jobs proc rs os number b first (s ∷ ss) e =
     jobs_more proc rs None outside os (record { holder = by.Branch number b; first = first; at = 0; number = first })
     ∙ ap (λ bl. (some_run (within number (site_of outside os)) first bl ++ []) ++ jobs_left proc rs os) e
 
 looped_jobs : (proc : ProcInfo) (rs : List Record) (os : List Place) (number x first : ℕ) (body : List RStmt)
-    → held proc (by.Loop number x 0) (holding proc None os) ≡ body
-    → jobs_left proc rs (os ++ looped number x first body) ≡ over (within_loop x number (site_of outside os)) first x body (rows_at rs number) ++ jobs_left proc rs os
+    → block_in proc (by.Loop number x 0) (holder_of proc None os) ≡ body
+    → jobs_left proc rs (os ++ loop_place number x first body) ≡ over (within_loop x number (site_of outside os)) first x body (rows_at rs number) ++ jobs_left proc rs os
 looped_jobs proc rs os number x first [] e = ap (jobs_left proc rs) (append-nil os)
 looped_jobs proc rs os number x first (s ∷ ss) e =
     let loop : Site = within_loop x number (site_of outside os) in
@@ -120,19 +120,19 @@ looped_jobs proc rs os number x first (s ∷ ss) e =
 
 -- a place inside a statement is left what the statement holds
 pub inner_left : (proc : ProcInfo) (rs : List Record) (os : List Place) (s : RStmt) (y : RStmt-F RStmt) (number n : ℕ) (b : Bool)
-    → holding proc None os ≡ Some s → out-RStmt s ≡ y
+    → holder_of proc None os ≡ Some s → out-RStmt s ≡ y
     → jobs_left proc rs (os ++ inner_places number n b y) ≡ inner_jobs number n b (site_of outside os) (rows_at rs number) y ++ jobs_left proc rs os
 inner_left proc rs os s (Assign x e) number n b at is = ap (jobs_left proc rs) (append-nil os)
 inner_left proc rs os s (Select cs xs t conds sorts offset) number n b at is = ap (jobs_left proc rs) (append-nil os)
 inner_left proc rs os s (Total agg x t conds) number n b at is = ap (jobs_left proc rs) (append-nil os)
 inner_left proc rs os s (ForSelect x once cs t conds sorts body) number n b at is =
-    looped_jobs proc rs os number x (n + 1) body (ap (held proc (by.Loop number x 0)) at ∙ ap body_in is)
+    looped_jobs proc rs os number x (n + 1) body (ap (block_in proc (by.Loop number x 0)) at ∙ ap body_in is)
 inner_left proc rs os s (ForRows x y body) number n b at is =
-    looped_jobs proc rs os number x (n + 1) body (ap (held proc (by.Loop number x 0)) at ∙ ap body_in is)
+    looped_jobs proc rs os number x (n + 1) body (ap (block_in proc (by.Loop number x 0)) at ∙ ap body_in is)
 inner_left proc rs os s (Branch e ys ns) number n true at is =
-    entered_jobs proc rs os number true (n + 1) ys (ap (held proc (by.Branch number true)) at ∙ ap (branch_in true) is)
+    entered_jobs proc rs os number true (n + 1) ys (ap (block_in proc (by.Branch number true)) at ∙ ap (branch_in true) is)
 inner_left proc rs os s (Branch e ys ns) number n false at is =
-    entered_jobs proc rs os number false (n + 1 + size_of ys) ns (ap (held proc (by.Branch number false)) at ∙ ap (branch_in false) is)
+    entered_jobs proc rs os number false (n + 1 + size_of ys) ns (ap (block_in proc (by.Branch number false)) at ∙ ap (branch_in false) is)
 inner_left proc rs os s (Insert t es) number n b at is = ap (jobs_left proc rs) (append-nil os)
 inner_left proc rs os s (Update t items conds) number n b at is = ap (jobs_left proc rs) (append-nil os)
 inner_left proc rs os s (Delete t conds) number n b at is = ap (jobs_left proc rs) (append-nil os)

@@ -9,8 +9,8 @@ use Rattle.mv_graph.proofs.Sizes.{some_size}
 use Rattle.mv_graph.proofs.Texts.{no_text, text_after, select_text, rows_text, yes_text, no_branch_text, text_fits}
 use Rattle.mv_exec.specs.declared.places.Holder.TheVariants as by
 use Rattle.mv_exec.specs.declared.places.Place.{Place}
-use Rattle.mv_exec.specs.Places.{body_in, branch_in, held, block_of, holding, IsNumbered, AreNumbered, StandsAt}
-use Rattle.mv_exec.specs.Moves.{entered, looped, inner_places, moved_on}
+use Rattle.mv_exec.specs.Places.{body_in, branch_in, block_in, block_of, holder_of, IsNumbered, AreNumbered, StandsAt}
+use Rattle.mv_exec.specs.Moves.{branch_place, loop_place, inner_places, place_after}
 use Rattle.mv_exec.proofs.Turning.{every_last, every_outer, every_more}
 use Rattle.mv_exec.proofs.Adding.{within_list, from_first, held_statement}
 
@@ -18,11 +18,11 @@ use Rattle.mv_exec.proofs.Adding.{within_list, from_first, held_statement}
 text_at : (proc : ProcInfo) (block : List RStmt) (p : Place) (s : RStmt) → IsNumbered proc block p → slice_get block p.at ≡ Some s → HasText proc p.number (s ∷ drop (p.at + 1) block)
 text_at proc block p s h at = subst (HasText proc p.number) (from_first block p.at s at) h.1
 
-numbered_after : (proc : ProcInfo) (block : List RStmt) (p : Place) (s : RStmt) → IsNumbered proc block p → slice_get block p.at ≡ Some s → IsNumbered proc block (moved_on (size s) p)
+numbered_after : (proc : ProcInfo) (block : List RStmt) (p : Place) (s : RStmt) → IsNumbered proc block p → slice_get block p.at ≡ Some s → IsNumbered proc block (place_after (size s) p)
 numbered_after proc block p s h at = (h.0, text_after proc p.number s (drop (p.at + 1) block) (text_at proc block p s h at))
 
 entered_numbered : (proc : ProcInfo) (os : List Place) (number : ℕ) (b : Bool) (first : ℕ) (block : List RStmt) → AreNumbered proc None os
-    → held proc (by.Branch number b) (holding proc None os) ≡ block → HasText proc first block → AreNumbered proc None (os ++ entered (by.Branch number b) first block)
+    → block_in proc (by.Branch number b) (holder_of proc None os) ≡ block → HasText proc first block → AreNumbered proc None (os ++ branch_place (by.Branch number b) first block)
 entered_numbered proc os number b first [] h e text = subst (AreNumbered proc None) (sym (append-nil os)) h
 entered_numbered proc os number b first (s ∷ ss) h e text =
     let p : Place = record { holder = by.Branch number b; first = first; at = 0; number = first } in
@@ -33,7 +33,7 @@ all_dropped [] = refl
 all_dropped (s ∷ ss) = all_dropped ss
 
 looped_numbered : (proc : ProcInfo) (os : List Place) (number x first : ℕ) (body : List RStmt) → AreNumbered proc None os
-    → held proc (by.Loop number x 0) (holding proc None os) ≡ body → HasText proc first body → AreNumbered proc None (os ++ looped number x first body)
+    → block_in proc (by.Loop number x 0) (holder_of proc None os) ≡ body → HasText proc first body → AreNumbered proc None (os ++ loop_place number x first body)
 looped_numbered proc os number x first [] h e text = subst (AreNumbered proc None) (sym (append-nil os)) h
 looped_numbered proc os number x first (s ∷ ss) h e text =
     let p : Place = record { holder = by.Loop number x 0; first = first; at = length (s ∷ ss); number = first } in
@@ -41,15 +41,15 @@ looped_numbered proc os number x first (s ∷ ss) h e text =
     (subst (λ bl. IsNumbered proc bl p) (sym e) (text, subst (HasText proc first) (sym (all_dropped (s ∷ ss))) (no_text proc first (s ∷ ss) text)))
 
 numbered_inside : (proc : ProcInfo) (os : List Place) (s : RStmt) (y : RStmt-F RStmt) (number n : ℕ) (b : Bool) (ss : List RStmt) → AreNumbered proc None os
-    → holding proc None os ≡ Some s → out-RStmt s ≡ y → HasText proc n (s ∷ ss) → AreNumbered proc None (os ++ inner_places number n b y)
+    → holder_of proc None os ≡ Some s → out-RStmt s ≡ y → HasText proc n (s ∷ ss) → AreNumbered proc None (os ++ inner_places number n b y)
 numbered_inside proc os s (ForSelect x once cs t conds sorts body) number n b ss h at is text =
-    looped_numbered proc os number x (n + 1) body h (ap (held proc (by.Loop number x 0)) at ∙ ap body_in is) (select_text proc n s ss x once cs t conds sorts body is text)
+    looped_numbered proc os number x (n + 1) body h (ap (block_in proc (by.Loop number x 0)) at ∙ ap body_in is) (select_text proc n s ss x once cs t conds sorts body is text)
 numbered_inside proc os s (ForRows x y body) number n b ss h at is text =
-    looped_numbered proc os number x (n + 1) body h (ap (held proc (by.Loop number x 0)) at ∙ ap body_in is) (rows_text proc n s ss x y body is text)
+    looped_numbered proc os number x (n + 1) body h (ap (block_in proc (by.Loop number x 0)) at ∙ ap body_in is) (rows_text proc n s ss x y body is text)
 numbered_inside proc os s (Branch e ys ns) number n true ss h at is text =
-    entered_numbered proc os number true (n + 1) ys h (ap (held proc (by.Branch number true)) at ∙ ap (branch_in true) is) (yes_text proc n s ss e ys ns is text)
+    entered_numbered proc os number true (n + 1) ys h (ap (block_in proc (by.Branch number true)) at ∙ ap (branch_in true) is) (yes_text proc n s ss e ys ns is text)
 numbered_inside proc os s (Branch e ys ns) number n false ss h at is text =
-    entered_numbered proc os number false (n + 1 + size_of ys) ns h (ap (held proc (by.Branch number false)) at ∙ ap (branch_in false) is) (no_branch_text proc n s ss e ys ns is text)
+    entered_numbered proc os number false (n + 1 + size_of ys) ns h (ap (block_in proc (by.Branch number false)) at ∙ ap (branch_in false) is) (no_branch_text proc n s ss e ys ns is text)
 numbered_inside proc os s (Assign x e) number n b ss h at is text = subst (AreNumbered proc None) (sym (append-nil os)) h
 numbered_inside proc os s (Select cs xs t conds sorts offset) number n b ss h at is text = subst (AreNumbered proc None) (sym (append-nil os)) h
 numbered_inside proc os s (Total agg x t conds) number n b ss h at is text = subst (AreNumbered proc None) (sym (append-nil os)) h
@@ -61,19 +61,19 @@ numbered_inside proc os s (Rollback reason) number n b ss h at is text = subst (
 
 -- the text of the next statement, and of those after it in its list
 pub text_next : (proc : ProcInfo) (ps outer : List Place) (p : Place) (s : RStmt) → AreNumbered proc None ps → StandsAt proc ps outer p s
-    → HasText proc p.number (s ∷ drop (p.at + 1) (block_of proc (holding proc None outer) p))
+    → HasText proc p.number (s ∷ drop (p.at + 1) (block_of proc (holder_of proc None outer) p))
 text_next proc ps outer p s h at =
-    text_at proc (block_of proc (holding proc None outer) p) p s (every_last (IsNumbered proc) proc None outer p (subst (AreNumbered proc None) at.are h)) at.stands
+    text_at proc (block_of proc (holder_of proc None outer) p) p s (every_last (IsNumbered proc) proc None outer p (subst (AreNumbered proc None) at.are h)) at.stands
 
 -- after a statement and inside it
 pub numbered_on : (proc : ProcInfo) (ps outer : List Place) (p : Place) (s : RStmt) (number : ℕ) (b : Bool) → AreNumbered proc None ps → StandsAt proc ps outer p s
-    → AreNumbered proc None ((outer ++ moved_on (size s) p ∷ []) ++ inner_places number p.number b (out-RStmt s))
+    → AreNumbered proc None ((outer ++ place_after (size s) p ∷ []) ++ inner_places number p.number b (out-RStmt s))
 numbered_on proc ps outer p s number b h at =
-    let block : List RStmt = block_of proc (holding proc None outer) p in
+    let block : List RStmt = block_of proc (holder_of proc None outer) p in
     let here : AreNumbered proc None (outer ++ p ∷ []) = subst (AreNumbered proc None) at.are h in
     let last : IsNumbered proc block p = every_last (IsNumbered proc) proc None outer p here in
-    numbered_inside proc (outer ++ moved_on (size s) p ∷ []) s (out-RStmt s) number p.number b (drop (p.at + 1) block)
-    (every_more (IsNumbered proc) proc None outer (moved_on (size s) p) (every_outer (IsNumbered proc) proc None outer p here) (numbered_after proc block p s last at.stands))
+    numbered_inside proc (outer ++ place_after (size s) p ∷ []) s (out-RStmt s) number p.number b (drop (p.at + 1) block)
+    (every_more (IsNumbered proc) proc None outer (place_after (size s) p) (every_outer (IsNumbered proc) proc None outer p here) (numbered_after proc block p s last at.stands))
     (held_statement proc ps outer p s (size s) at) refl (text_at proc block p s last at.stands)
 
 long_enough : (block : List RStmt) → length block ≤ size_of block
@@ -84,8 +84,9 @@ long_enough (s ∷ block) = omega (arith, some_size s, long_enough block)
 pub small_next : (proc : ProcInfo) (ps outer : List Place) (p : Place) (s : RStmt) → AreNumbered proc None ps → StandsAt proc ps outer p s → size_of proc.body ≤ 1000
     → (p.number + size s < 2 ^ 16) × (p.at < 2 ^ 16)
 small_next proc ps outer p s h at short =
-    let block : List RStmt = block_of proc (holding proc None outer) p in
+    let block : List RStmt = block_of proc (holder_of proc None outer) p in
     let last : IsNumbered proc block p = every_last (IsNumbered proc) proc None outer p (subst (AreNumbered proc None) at.are h) in
-    let rest : List RStmt = drop (p.at + 1) block in
-    (omega (arith, text_fits proc p.number (s ∷ rest) (text_at proc block p s last at.stands), short),
-    omega (arith, text_fits proc p.first block last.0, long_enough block, within_list block p.at s at.stands, short))
+    let rest : List RStmt = drop (p.at + 1) block in (
+      omega (arith, text_fits proc p.number (s ∷ rest) (text_at proc block p s last at.stands), short),
+      omega (arith, text_fits proc p.first block last.0, long_enough block, within_list block p.at s at.stands, short),
+    )

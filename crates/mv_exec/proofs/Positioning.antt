@@ -13,7 +13,7 @@ use Rattle.mv_graph.proofs.Texts.{NodeAt, node_of_text, text_after, yes_text, te
 use Rattle.mv_record.specs.declared.record.Record.{Record}
 use Rattle.mv_exec.specs.declared.places.Place.{Place}
 use Rattle.mv_exec.specs.declared.task.Task.{Task}
-use Rattle.mv_exec.specs.Places.{block_of, holding, held, has_turn, next_turn, in_next_turn, place_due, StandsAt, IsAt, AreFilled, AreNumbered}
+use Rattle.mv_exec.specs.Places.{block_of, holder_of, block_in, has_turn, next_turn, in_next_turn, place_due, StandsAt, IsAt, AreFilled, AreNumbered}
 use Rattle.mv_exec.specs.Tasks.{places_of, beginning, IsTask}
 use Rattle.mv_exec.specs.Ahead.{GoesOn}
 use Rattle.mv_exec.proofs.Turning.{IsDue, FirstOf, first_of, is_below, standing_live, turn_owed, turned_task, same_block, filled_last}
@@ -34,18 +34,18 @@ so false e = cc
 
 -- a turn that is due is there
 pub turn_there : (proc : ProcInfo) (task : Task) (rs : List Record) (ps outer : List Place) (last : Place) (block : List RStmt) (b : Bool) → IsTask proc task → task.ended ≡ false → ps ≡ task.places
-    → rs ≡ task.records → ps ≡ outer ++ last ∷ [] → block ≡ block_of proc (holding proc None outer) last → b ≡ nat_lt last.at (length block) → not b ≡ true → has_turn rs last.holder ≡ true
+    → rs ≡ task.records → ps ≡ outer ++ last ∷ [] → block ≡ block_of proc (holder_of proc None outer) last → b ≡ nat_lt last.at (length block) → not b ≡ true → has_turn rs last.holder ≡ true
 turn_there proc task rs ps outer last block b t live same records are is at due =
     turn_owed proc task rs ps outer last t live same records are
     (ap (λ (bl : List RStmt). nat_lt last.at (length bl)) (sym is) ∙ (sym at ∙ not_so b due))
 
 filled_here : (proc : ProcInfo) (task : Task) (outer : List Place) (last : Place) → IsTask proc task → task.ended ≡ false → task.places ≡ outer ++ last ∷ []
-    → 0 < length (block_of proc (holding proc None outer) last)
+    → 0 < length (block_of proc (holder_of proc None outer) last)
 filled_here proc task outer last t live are = filled_last proc None outer last (subst (AreFilled proc None) (standing_live task.ended task.places live ∙ are) t.filled)
 
 -- a statement is at the place
 within_block : (proc : ProcInfo) (task : Task) (outer : List Place) (last place : Place) (block : List RStmt) (b turn : Bool) → IsTask proc task → task.ended ≡ false → task.places ≡ outer ++ last ∷ []
-    → block ≡ block_of proc (holding proc None outer) last → b ≡ nat_lt last.at (length block) → turn ≡ not b → place ≡ place_due turn last → nat_lt place.at (length block) ≡ true
+    → block ≡ block_of proc (holder_of proc None outer) last → b ≡ nat_lt last.at (length block) → turn ≡ not b → place ≡ place_due turn last → nat_lt place.at (length block) ≡ true
 within_block proc task outer last place block b true t live are is at due where_is =
     ap (λ (p : Place). nat_lt p.at (length block)) where_is
     ∙ is_below 0 (length block) (subst (λ (bl : List RStmt). 0 < length bl) (sym is) (filled_here proc task outer last t live are))
@@ -53,7 +53,7 @@ within_block proc task outer last place block b false t live are is at due where
     ap (λ (p : Place). nat_lt p.at (length block)) where_is ∙ (sym at ∙ so b (sym due))
 
 pub none_there : (proc : ProcInfo) (task : Task) (ps outer : List Place) (last place : Place) (block : List RStmt) (b turn : Bool) → IsTask proc task → task.ended ≡ false → ps ≡ task.places
-    → ps ≡ outer ++ last ∷ [] → block ≡ block_of proc (holding proc None outer) last → b ≡ nat_lt last.at (length block) → turn ≡ not b → place ≡ place_due turn last
+    → ps ≡ outer ++ last ∷ [] → block ≡ block_of proc (holder_of proc None outer) last → b ≡ nat_lt last.at (length block) → turn ≡ not b → place ≡ place_due turn last
     → slice_get block place.at ≡ None → ⊥
 none_there proc task ps outer last place block b turn t live same are is at due where_is none =
     let f : FirstOf RStmt block place.at = first_of block place.at (within_block proc task outer last place block b turn t live (sym same ∙ are) is at due where_is) in
@@ -61,16 +61,16 @@ none_there proc task ps outer last place block b turn t live same are is at due 
     cc
 
 due_block : (proc : ProcInfo) (outer : List Place) (last place : Place) (turn : Bool) → place ≡ place_due turn last
-    → block_of proc (holding proc None outer) place ≡ block_of proc (holding proc None outer) last
-due_block proc outer last place true e = ap (block_of proc (holding proc None outer)) e ∙ same_block proc (holding proc None outer) last.holder
-due_block proc outer last place false e = ap (block_of proc (holding proc None outer)) e
+    → block_of proc (holder_of proc None outer) place ≡ block_of proc (holder_of proc None outer) last
+due_block proc outer last place true e = ap (block_of proc (holder_of proc None outer)) e ∙ same_block proc (holder_of proc None outer) last.holder
+due_block proc outer last place false e = ap (block_of proc (holder_of proc None outer)) e
 
 twice_not : (b c : Bool) → c ≡ not b → b ≡ not c
 twice_not true c e = sym (ap not e)
 twice_not false c e = sym (ap not e)
 
 pub goes_on : (proc : ProcInfo) (task : Task) (ps outer : List Place) (last place : Place) (block : List RStmt) (s : RStmt) (b turn : Bool) → ps ≡ task.places → ps ≡ outer ++ last ∷ []
-    → block ≡ block_of proc (holding proc None outer) last → b ≡ nat_lt last.at (length block) → turn ≡ not b → place ≡ place_due turn last → Some s ≡ slice_get block place.at
+    → block ≡ block_of proc (holder_of proc None outer) last → b ≡ nat_lt last.at (length block) → turn ≡ not b → place ≡ place_due turn last → Some s ≡ slice_get block place.at
     → GoesOn proc task place s turn
 goes_on proc task ps outer last place block s b turn same are is at due where_is found = record {
   outer = outer;
@@ -84,10 +84,10 @@ goes_on proc task ps outer last place block s b turn same are is at due where_is
 -- The node of the statement
 
 pub text_there : (proc : ProcInfo) (task : Task) (place : Place) (s : RStmt) (turn : Bool) → IsTask proc task → task.ended ≡ false → (go : GoesOn proc task place s turn)
-    → HasText proc place.number (s ∷ drop (place.at + 1) (block_of proc (holding proc None go.outer) place))
+    → HasText proc place.number (s ∷ drop (place.at + 1) (block_of proc (holder_of proc None go.outer) place))
 text_there proc task place s turn t live go = by turn refl
   where
-    by : (b : Bool) → turn ≡ b → HasText proc place.number (s ∷ drop (place.at + 1) (block_of proc (holding proc None go.outer) place))
+    by : (b : Bool) → turn ≡ b → HasText proc place.number (s ∷ drop (place.at + 1) (block_of proc (holder_of proc None go.outer) place))
     by true e =
         let then : IsTask proc _ = turned_task proc task (Some (beginning task)) go.outer go.last t (due_turn proc task place s turn live go e) in
         text_next proc (go.outer ++ next_turn go.last ∷ []) go.outer place s then.numbers
@@ -96,7 +96,7 @@ text_there proc task place s turn t live go = by turn refl
 
 node_there : (g : Graph) (task : Task) (place : Place) (s : RStmt) (turn : Bool) → IsTask g.procedure task → task.ended ≡ false → GoesOn g.procedure task place s turn → NodeAt g.procedure place.number s
 node_there g task place s turn t live go =
-    node_of_text g.procedure place.number s (drop (place.at + 1) (block_of g.procedure (holding g.procedure None go.outer) place)) (text_there g.procedure task place s turn t live go)
+    node_of_text g.procedure place.number s (drop (place.at + 1) (block_of g.procedure (holder_of g.procedure None go.outer) place)) (text_there g.procedure task place s turn t live go)
 
 pub some_node : (g : Graph) (task : Task) (place : Place) (s : RStmt) (turn : Bool) → IsGraph g → IsTask g.procedure task → task.ended ≡ false → GoesOn g.procedure task place s turn
     → None ≡ slice_get g.nodes (place.number - 1) → ⊥
@@ -117,7 +117,7 @@ node_tells g task place s turn node is t live go found =
 pub small_here : (proc : ProcInfo) (task : Task) (place : Place) (s : RStmt) (turn : Bool) → IsTask proc task → task.ended ≡ false → GoesOn proc task place s turn → size_of proc.body ≤ 1000
     → place.number < 2 ^ 16
 small_here proc task place s turn t live go short =
-    omega (arith, text_fits proc place.number (s ∷ drop (place.at + 1) (block_of proc (holding proc None go.outer) place)) (text_there proc task place s turn t live go), short)
+    omega (arith, text_fits proc place.number (s ∷ drop (place.at + 1) (block_of proc (holder_of proc None go.outer) place)) (text_there proc task place s turn t live go), short)
 
 -- The size of a statement of the text
 

@@ -29,10 +29,10 @@ use Rattle.mv_exec.specs.declared.task.Task.{Task}
 use Rattle.mv_exec.specs.Left.{left}
 use Rattle.mv_exec.specs.Env.{begun_with}
 use Rattle.mv_exec.specs.Keeping.{all_owned, owned, widened, define, slot_room}
-use Rattle.mv_exec.specs.Moves.{entered, looped, inner_places, moved_on, walked}
-use Rattle.mv_exec.specs.Places.{body_in, branch_in, held, holding, AreFilled, IsNumbered, AreNumbered, StandsAt}
+use Rattle.mv_exec.specs.Moves.{branch_place, loop_place, inner_places, place_after, walked}
+use Rattle.mv_exec.specs.Places.{body_in, branch_in, block_in, holder_of, AreFilled, IsNumbered, AreNumbered, StandsAt}
 use Rattle.mv_exec.specs.Tasks.{none_in, places_of, beginning, state_of, left_of, definer_in, IsTask, IsHeldBefore, AreHeldBefore, IsTrimmed}
-use Rattle.mv_exec.specs.Steps.{held_with, with_record, HasFronts, IsWidened, HasAdded}
+use Rattle.mv_exec.specs.Steps.{with_writes, with_record, HasFronts, IsWidened, HasAdded}
 use Rattle.mv_exec.proofs.Ending.{ends_exactly}
 use Rattle.mv_exec.proofs.Found.{record_found}
 use Rattle.mv_exec.proofs.Kept.{keys_after}
@@ -54,30 +54,30 @@ set_between (z ∷ zs) ys x y = ap (λ l. z ∷ l) (set_between zs ys x y)
 
 -- the places behind a statement: the one behind it, and the one inside it
 abbrev pub going : ℕ → List Place → Place → RStmt → Bool → List Place
-going number outer p s b = (outer ++ moved_on (size s) p ∷ []) ++ inner_places number p.number b (out-RStmt s)
+going number outer p s b = (outer ++ place_after (size s) p ∷ []) ++ inner_places number p.number b (out-RStmt s)
 
-entered_filled : (proc : ProcInfo) (os : List Place) (number : ℕ) (b : Bool) (first : ℕ) (block : List RStmt) → held proc (by.Branch number b) (holding proc None os) ≡ block
-    → AreFilled proc None os → AreFilled proc None (os ++ entered (by.Branch number b) first block)
+entered_filled : (proc : ProcInfo) (os : List Place) (number : ℕ) (b : Bool) (first : ℕ) (block : List RStmt) → block_in proc (by.Branch number b) (holder_of proc None os) ≡ block
+    → AreFilled proc None os → AreFilled proc None (os ++ branch_place (by.Branch number b) first block)
 entered_filled proc os number b first [] e h = subst (AreFilled proc None) (sym (append-nil os)) h
 entered_filled proc os number b first (s ∷ ss) e h =
     filled_more proc None os (record { holder = by.Branch number b; first = first; at = 0; number = first }) h (subst (λ (bl : List RStmt). 0 < length bl) (sym e) (omega arith))
 
-looped_filled : (proc : ProcInfo) (os : List Place) (number x first : ℕ) (body : List RStmt) → held proc (by.Loop number x 0) (holding proc None os) ≡ body
-    → AreFilled proc None os → AreFilled proc None (os ++ looped number x first body)
+looped_filled : (proc : ProcInfo) (os : List Place) (number x first : ℕ) (body : List RStmt) → block_in proc (by.Loop number x 0) (holder_of proc None os) ≡ body
+    → AreFilled proc None os → AreFilled proc None (os ++ loop_place number x first body)
 looped_filled proc os number x first [] e h = subst (AreFilled proc None) (sym (append-nil os)) h
 looped_filled proc os number x first (s ∷ ss) e h =
     filled_more proc None os (record { holder = by.Loop number x 0; first = first; at = length (s ∷ ss); number = first }) h (subst (λ (bl : List RStmt). 0 < length bl) (sym e) (omega arith))
 
 -- a place inside a statement lies in a list that isn't empty
-inner_filled : (proc : ProcInfo) (os : List Place) (s : RStmt) (y : RStmt-F RStmt) (number n : ℕ) (b : Bool) → holding proc None os ≡ Some s → out-RStmt s ≡ y
+inner_filled : (proc : ProcInfo) (os : List Place) (s : RStmt) (y : RStmt-F RStmt) (number n : ℕ) (b : Bool) → holder_of proc None os ≡ Some s → out-RStmt s ≡ y
     → AreFilled proc None os → AreFilled proc None (os ++ inner_places number n b y)
 inner_filled proc os s (Assign x e) number n b at is h = subst (AreFilled proc None) (sym (append-nil os)) h
 inner_filled proc os s (Select cs xs t conds sorts offset) number n b at is h = subst (AreFilled proc None) (sym (append-nil os)) h
 inner_filled proc os s (Total agg x t conds) number n b at is h = subst (AreFilled proc None) (sym (append-nil os)) h
-inner_filled proc os s (ForSelect x once cs t conds sorts body) number n b at is h = looped_filled proc os number x (n + 1) body (ap (held proc (by.Loop number x 0)) at ∙ ap body_in is) h
-inner_filled proc os s (ForRows x y body) number n b at is h = looped_filled proc os number x (n + 1) body (ap (held proc (by.Loop number x 0)) at ∙ ap body_in is) h
-inner_filled proc os s (Branch e ys ns) number n true at is h = entered_filled proc os number true (n + 1) ys (ap (held proc (by.Branch number true)) at ∙ ap (branch_in true) is) h
-inner_filled proc os s (Branch e ys ns) number n false at is h = entered_filled proc os number false (n + 1 + size_of ys) ns (ap (held proc (by.Branch number false)) at ∙ ap (branch_in false) is) h
+inner_filled proc os s (ForSelect x once cs t conds sorts body) number n b at is h = looped_filled proc os number x (n + 1) body (ap (block_in proc (by.Loop number x 0)) at ∙ ap body_in is) h
+inner_filled proc os s (ForRows x y body) number n b at is h = looped_filled proc os number x (n + 1) body (ap (block_in proc (by.Loop number x 0)) at ∙ ap body_in is) h
+inner_filled proc os s (Branch e ys ns) number n true at is h = entered_filled proc os number true (n + 1) ys (ap (block_in proc (by.Branch number true)) at ∙ ap (branch_in true) is) h
+inner_filled proc os s (Branch e ys ns) number n false at is h = entered_filled proc os number false (n + 1 + size_of ys) ns (ap (block_in proc (by.Branch number false)) at ∙ ap (branch_in false) is) h
 inner_filled proc os s (Insert t es) number n b at is h = subst (AreFilled proc None) (sym (append-nil os)) h
 inner_filled proc os s (Update t items conds) number n b at is h = subst (AreFilled proc None) (sym (append-nil os)) h
 inner_filled proc os s (Delete t conds) number n b at is h = subst (AreFilled proc None) (sym (append-nil os)) h
@@ -93,11 +93,11 @@ held_later : (n : ℕ) (ps : List Place) → AreHeldBefore n ps → AreHeldBefor
 held_later n [] h = tt
 held_later n (p ∷ ps) h = (holder_later n p.holder h.0, held_later n ps h.1)
 
-entered_held : (n : ℕ) (os : List Place) (b : Bool) (first : ℕ) (block : List RStmt) → AreHeldBefore (n + 1) os → AreHeldBefore (n + 1) (os ++ entered (by.Branch n b) first block)
+entered_held : (n : ℕ) (os : List Place) (b : Bool) (first : ℕ) (block : List RStmt) → AreHeldBefore (n + 1) os → AreHeldBefore (n + 1) (os ++ branch_place (by.Branch n b) first block)
 entered_held n os b first [] h = subst (AreHeldBefore (n + 1)) (sym (append-nil os)) h
 entered_held n os b first (s ∷ ss) h = held_more (n + 1) os (record { holder = by.Branch n b; first = first; at = 0; number = first }) h (omega arith)
 
-looped_held : (n : ℕ) (os : List Place) (x first : ℕ) (body : List RStmt) → AreHeldBefore (n + 1) os → AreHeldBefore (n + 1) (os ++ looped n x first body)
+looped_held : (n : ℕ) (os : List Place) (x first : ℕ) (body : List RStmt) → AreHeldBefore (n + 1) os → AreHeldBefore (n + 1) (os ++ loop_place n x first body)
 looped_held n os x first [] h = subst (AreHeldBefore (n + 1)) (sym (append-nil os)) h
 looped_held n os x first (s ∷ ss) h = held_more (n + 1) os (record { holder = by.Loop n x 0; first = first; at = length (s ∷ ss); number = first }) h (omega arith)
 
@@ -119,14 +119,14 @@ inner_held n os m b (Rollback reason) h = subst (AreHeldBefore (n + 1)) (sym (ap
 going_filled : (proc : ProcInfo) (number : ℕ) (ps outer : List Place) (p : Place) (s : RStmt) (b : Bool) → StandsAt proc ps outer p s → AreFilled proc None ps → AreFilled proc None (going number outer p s b)
 going_filled proc number ps outer p s b at h =
     let were : AreFilled proc None (outer ++ p ∷ []) = subst (AreFilled proc None) at.are h in
-    inner_filled proc (outer ++ moved_on (size s) p ∷ []) s (out-RStmt s) number p.number b (held_statement proc ps outer p s (size s) at) refl
-    (filled_more proc None outer (moved_on (size s) p) (filled_outer proc None outer p were) (filled_last proc None outer p were))
+    inner_filled proc (outer ++ place_after (size s) p ∷ []) s (out-RStmt s) number p.number b (held_statement proc ps outer p s (size s) at) refl
+    (filled_more proc None outer (place_after (size s) p) (filled_outer proc None outer p were) (filled_last proc None outer p were))
 
 going_held : (proc : ProcInfo) (number : ℕ) (ps outer : List Place) (p : Place) (s : RStmt) (b : Bool) → StandsAt proc ps outer p s → AreHeldBefore number ps → AreHeldBefore (number + 1) (going number outer p s b)
 going_held proc number ps outer p s b at h =
     let were : AreHeldBefore (number + 1) (outer ++ p ∷ []) = held_later number (outer ++ p ∷ []) (subst (AreHeldBefore number) at.are h) in
-    inner_held number (outer ++ moved_on (size s) p ∷ []) p.number b (out-RStmt s)
-    (held_more (number + 1) outer (moved_on (size s) p) (held_outer (number + 1) outer p were) (held_last (number + 1) outer p were))
+    inner_held number (outer ++ place_after (size s) p ∷ []) p.number b (out-RStmt s)
+    (held_more (number + 1) outer (place_after (size s) p) (held_outer (number + 1) outer p were) (held_last (number + 1) outer p were))
 
 going_some : (number : ℕ) (outer : List Place) (p : Place) (s : RStmt) (b : Bool) → 0 < length (going number outer p s b)
 going_some number [] p s b = omega arith
@@ -300,21 +300,21 @@ past_executed proc task r outer p s b mid new ends past = by ends refl
 -- the parts of the call, one after another, make the call behind the record
 pub parts_behind : (proc : ProcInfo) (task : Task) (r : Record) (outer : List Place) (p : Place) (s : RStmt) (b : Bool) (held : Task) (env : Env) (inner : List Place) (behind : Place) (n at : ℕ)
     (definers : List (Option ℕ)) (places : List Place)
-    → held ≡ held_with task r env (task.places ++ inner) → env ≡ walked (out-RStmt s) r.rows (with_slots r.sets task.env) → task.places ≡ outer ++ p ∷ []
-    → inner ≡ inner_places (length task.records) p.number b (out-RStmt s) → behind ≡ moved_on (size s) p → n ≡ length task.records → at ≡ length outer
+    → held ≡ with_writes task r env (task.places ++ inner) → env ≡ walked (out-RStmt s) r.rows (with_slots r.sets task.env) → task.places ≡ outer ++ p ∷ []
+    → inner ≡ inner_places (length task.records) p.number b (out-RStmt s) → behind ≡ place_after (size s) p → n ≡ length task.records → at ≡ length outer
     → ((o i : List Place) (q : Place) → held.places ≡ (o ++ q ∷ []) ++ i → at ≡ length o → places ≡ (o ++ behind ∷ []) ++ i)
     → ((q : Record) → slice_get held.records n ≡ Some q → definers ≡ define held.definers q.sets n)
     → record held { definers = definers; places = places } ≡ behind_record task r outer p s b
 parts_behind proc task r outer p s b held env inner behind n at definers places h ran are inside moved num top put note =
     let was : held.places ≡ (outer ++ p ∷ []) ++ inner = ap (λ (u : Task). u.places) h ∙ ap (λ ps. ps ++ inner) are in
     let put_is : places ≡ going (length task.records) outer p s b =
-    put outer inner p was top ∙ (ap (λ q. (outer ++ q ∷ []) ++ inner) moved ∙ ap (λ is. (outer ++ moved_on (size s) p ∷ []) ++ is) inside) in
+    put outer inner p was top ∙ (ap (λ q. (outer ++ q ∷ []) ++ inner) moved ∙ ap (λ is. (outer ++ place_after (size s) p ∷ []) ++ is) inside) in
     let last : slice_get held.records n ≡ Some r = ap (λ (u : Task). slice_get u.records n) h ∙ (ap (slice_get (task.records ++ r ∷ [])) num ∙ get_last task.records r) in
     let noted : definers ≡ define (widened (slot_room r.sets) task.definers) r.sets (length task.records) =
     note r last ∙ (ap (λ (u : Task). define u.definers r.sets n) h ∙ ap (define (widened (slot_room r.sets) task.definers) r.sets) num) in
     ap (λ (u : Task). record u { definers = definers; places = places }) h
-    ∙ (ap (λ e. let u : Task = held_with task r e places in record u { definers = definers }) ran
-    ∙ (ap (λ ds. let u : Task = held_with task r (walked (out-RStmt s) r.rows (with_slots r.sets task.env)) places in record u { definers = ds }) noted
+    ∙ (ap (λ e. let u : Task = with_writes task r e places in record u { definers = definers }) ran
+    ∙ (ap (λ ds. let u : Task = with_writes task r (walked (out-RStmt s) r.rows (with_slots r.sets task.env)) places in record u { definers = ds }) noted
     ∙ ap (with_record task r (walked (out-RStmt s) r.rows (with_slots r.sets task.env))) put_is))
 
 -- The call where memory ran out

@@ -18,7 +18,7 @@ use Rattle.mv_exec.specs.declared.places.Place.{Place}
 use Rattle.mv_exec.specs.declared.task.Task.{Task}
 use Rattle.mv_exec.specs.Left.{Job, run, turns, left}
 use Rattle.mv_exec.specs.Env.{begun_with}
-use Rattle.mv_exec.specs.Places.{held, block_of, passed, holding, site_in, site_of, some_run, some_turns, turns_of, rows_at, jobs_left, has_turn, is_left, EndsLeft, Every, IsFilled, AreFilled, IsNumbered, AreNumbered, in_next_turn, next_turn, with_turn, turned}
+use Rattle.mv_exec.specs.Places.{block_in, block_of, statement_before, holder_of, site_in, site_of, some_run, some_turns, turns_of, rows_at, jobs_left, has_turn, is_left, EndsLeft, Every, IsFilled, AreFilled, IsNumbered, AreNumbered, in_next_turn, next_turn, with_turn, with_next_row}
 use Rattle.mv_exec.specs.Tasks.{standing, places_of, beginning, state_of, IsTask, StandsAsBefore, IsHeldBefore, AreHeldBefore}
 use Rattle.mv_exec.proofs.Leaving.{turn_begins}
 use Rattle.mv_exec.proofs.Placing.{same_last, none_past, jobs_more}
@@ -59,26 +59,26 @@ set_last xs x y = subst (λ n. slice_set (xs ++ x ∷ []) n y ≡ xs ++ y ∷ []
 
 -- Places
 
-pub every_last : (P : List RStmt → Place → Type 0) (proc : ProcInfo) (s : Option RStmt) (outer : List Place) (p : Place) → Every P proc s (outer ++ p ∷ []) → P (block_of proc (holding proc s outer) p) p
+pub every_last : (P : List RStmt → Place → Type 0) (proc : ProcInfo) (s : Option RStmt) (outer : List Place) (p : Place) → Every P proc s (outer ++ p ∷ []) → P (block_of proc (holder_of proc s outer) p) p
 every_last P proc s [] p h = h.0
-every_last P proc s (q ∷ outer) p h = every_last P proc (passed proc s q) outer p h.1
+every_last P proc s (q ∷ outer) p h = every_last P proc (statement_before proc s q) outer p h.1
 
 pub every_outer : (P : List RStmt → Place → Type 0) (proc : ProcInfo) (s : Option RStmt) (outer : List Place) (p : Place) → Every P proc s (outer ++ p ∷ []) → Every P proc s outer
 every_outer P proc s [] p h = tt
-every_outer P proc s (q ∷ outer) p h = (h.0, every_outer P proc (passed proc s q) outer p h.1)
+every_outer P proc s (q ∷ outer) p h = (h.0, every_outer P proc (statement_before proc s q) outer p h.1)
 
-pub every_more : (P : List RStmt → Place → Type 0) (proc : ProcInfo) (s : Option RStmt) (outer : List Place) (p : Place) → Every P proc s outer → P (block_of proc (holding proc s outer) p) p
+pub every_more : (P : List RStmt → Place → Type 0) (proc : ProcInfo) (s : Option RStmt) (outer : List Place) (p : Place) → Every P proc s outer → P (block_of proc (holder_of proc s outer) p) p
     → Every P proc s (outer ++ p ∷ [])
 every_more P proc s [] p h k = (k, tt)
-every_more P proc s (q ∷ outer) p h k = (h.0, every_more P proc (passed proc s q) outer p h.1 k)
+every_more P proc s (q ∷ outer) p h k = (h.0, every_more P proc (statement_before proc s q) outer p h.1 k)
 
-pub filled_last : (proc : ProcInfo) (s : Option RStmt) (outer : List Place) (p : Place) → AreFilled proc s (outer ++ p ∷ []) → 0 < length (block_of proc (holding proc s outer) p)
+pub filled_last : (proc : ProcInfo) (s : Option RStmt) (outer : List Place) (p : Place) → AreFilled proc s (outer ++ p ∷ []) → 0 < length (block_of proc (holder_of proc s outer) p)
 filled_last = every_last IsFilled
 
 pub filled_outer : (proc : ProcInfo) (s : Option RStmt) (outer : List Place) (p : Place) → AreFilled proc s (outer ++ p ∷ []) → AreFilled proc s outer
 filled_outer = every_outer IsFilled
 
-pub filled_more : (proc : ProcInfo) (s : Option RStmt) (outer : List Place) (p : Place) → AreFilled proc s outer → 0 < length (block_of proc (holding proc s outer) p) → AreFilled proc s (outer ++ p ∷ [])
+pub filled_more : (proc : ProcInfo) (s : Option RStmt) (outer : List Place) (p : Place) → AreFilled proc s outer → 0 < length (block_of proc (holder_of proc s outer) p) → AreFilled proc s (outer ++ p ∷ [])
 filled_more = every_more IsFilled
 
 pub held_last : (n : ℕ) (outer : List Place) (p : Place) → AreHeldBefore n (outer ++ p ∷ []) → IsHeldBefore n p.holder
@@ -102,7 +102,7 @@ one_left : (a b : Bool) → a ≡ true → a || b ≡ true
 one_left a b e = rw e refl
 
 -- where the next turn stands in the same list
-pub same_block : (proc : ProcInfo) (s : Option RStmt) (h : Holder) → held proc (in_next_turn h) s ≡ held proc h s
+pub same_block : (proc : ProcInfo) (s : Option RStmt) (h : Holder) → block_in proc (in_next_turn h) s ≡ block_in proc h s
 same_block proc s by.Procedure = refl
 same_block proc s (by.Branch number b) = refl
 same_block proc None (by.Loop number x k) = refl
@@ -123,7 +123,7 @@ runs_block site n (s ∷ ss) more js h = refl
 turn_by : (tables : List TableInfo) (params : ℕ) (rs : List Record) (block : List RStmt) (site : Site) (h : Holder) (start at number : ℕ) (js : List Job)
     → 0 < length block → drop at block ≡ [] → has_turn rs h ≡ true → (before : List Record) (st : State)
     → left tables params ((some_run (site_in h site) number (drop at block) ++ turns_of rs site block start h) ++ js) before st
-    ≡ left tables params ((some_run (site_in (in_next_turn h) site) start block ++ turns_of rs site block start (in_next_turn h)) ++ js) before (record st { env = turned rs h st.env })
+    ≡ left tables params ((some_run (site_in (in_next_turn h) site) start block ++ turns_of rs site block start (in_next_turn h)) ++ js) before (record st { env = with_next_row rs h st.env })
 turn_by tables params rs block site by.Procedure start at number js some none turn before st = cc
 turn_by tables params rs block site (by.Branch n b) start at number js some none turn before st = cc
 turn_by tables params rs block site (by.Loop n x k) start at number js some none turn before st =
@@ -143,37 +143,37 @@ turn_by tables params rs block site (by.Loop n x k) start at number js some none
 -- where a turn is due at the innermost place
 pub record IsDue (proc : ProcInfo) (ps : List Place) (outer : List Place) (p : Place) : Type 0 where
   pub are : ps ≡ outer ++ p ∷ []
-  pub none : nat_lt p.at (length (block_of proc (holding proc None outer) p)) ≡ false
+  pub none : nat_lt p.at (length (block_of proc (holder_of proc None outer) p)) ≡ false
 
 pub turn_due : (proc : ProcInfo) (rs : List Record) (ps outer : List Place) (p : Place) → IsDue proc ps outer p → EndsLeft proc rs ps → has_turn rs p.holder ≡ true
 turn_due proc rs ps outer p due ends =
-    either_left (nat_lt p.at (length (block_of proc (holding proc None outer) p))) (has_turn rs p.holder) (ends outer p due.are) due.none
+    either_left (nat_lt p.at (length (block_of proc (holder_of proc None outer) p))) (has_turn rs p.holder) (ends outer p due.are) due.none
 
 -- the task in the next turn
 abbrev pub after_turn : Task → Option Env → List Place → Place → Task
-after_turn old f outer p = record old { env = turned old.records p.holder old.env; first = f; places = outer ++ next_turn p ∷ []; ended = false }
+after_turn old f outer p = record old { env = with_next_row old.records p.holder old.env; first = f; places = outer ++ next_turn p ∷ []; ended = false }
 
-next_filled : (proc : ProcInfo) (old : Task) (outer : List Place) (p : Place) → IsTask proc old → IsDue proc (places_of old) outer p → 0 < length (block_of proc (holding proc None outer) (next_turn p))
+next_filled : (proc : ProcInfo) (old : Task) (outer : List Place) (p : Place) → IsTask proc old → IsDue proc (places_of old) outer p → 0 < length (block_of proc (holder_of proc None outer) (next_turn p))
 next_filled proc old outer p t due =
-    subst (λ (bl : List RStmt). 0 < length bl) (sym (same_block proc (holding proc None outer) p.holder)) (filled_last proc None outer p (subst (AreFilled proc None) due.are t.filled))
+    subst (λ (bl : List RStmt). 0 < length bl) (sym (same_block proc (holder_of proc None outer) p.holder)) (filled_last proc None outer p (subst (AreFilled proc None) due.are t.filled))
 
 next_numbered : (proc : ProcInfo) (outer : List Place) (p : Place) → AreNumbered proc None (outer ++ p ∷ []) → AreNumbered proc None (outer ++ next_turn p ∷ [])
 next_numbered proc outer p h =
-    let last : IsNumbered proc (block_of proc (holding proc None outer) p) p = every_last (IsNumbered proc) proc None outer p h in
+    let last : IsNumbered proc (block_of proc (holder_of proc None outer) p) p = every_last (IsNumbered proc) proc None outer p h in
     every_more (IsNumbered proc) proc None outer (next_turn p) (every_outer (IsNumbered proc) proc None outer p h)
-    (subst (λ bl. IsNumbered proc bl (next_turn p)) (sym (same_block proc (holding proc None outer) p.holder)) (last.0, last.0))
+    (subst (λ bl. IsNumbered proc bl (next_turn p)) (sym (same_block proc (holder_of proc None outer) p.holder)) (last.0, last.0))
 
 pub turned_task : (proc : ProcInfo) (old : Task) (f : Option Env) (outer : List Place) (p : Place) → IsTask proc old → IsDue proc (places_of old) outer p → IsTask proc (after_turn old f outer p)
 turned_task proc old f outer p t due =
-    let filled : 0 < length (block_of proc (holding proc None outer) (next_turn p)) = next_filled proc old outer p t due in
+    let filled : 0 < length (block_of proc (holder_of proc None outer) (next_turn p)) = next_filled proc old outer p t due in
     record {
       filled = filled_more proc None outer (next_turn p) (filled_outer proc None outer p (subst (AreFilled proc None) due.are t.filled)) filled;
       numbers = next_numbered proc outer p (subst (AreNumbered proc None) due.are t.numbers);
       ends = λ o q e.
           let h : (outer ≡ o) × (next_turn p ≡ q) = same_last outer o (next_turn p) q e in
-          subst (λ r. is_left old.records (block_of proc (holding proc None o) r) r ≡ true) h.1
-          (subst (λ os. is_left old.records (block_of proc (holding proc None os) (next_turn p)) (next_turn p) ≡ true) h.0
-          (one_left (nat_lt 0 (length (block_of proc (holding proc None outer) (next_turn p)))) (has_turn old.records (in_next_turn p.holder)) (is_below 0 _ filled)));
+          subst (λ r. is_left old.records (block_of proc (holder_of proc None o) r) r ≡ true) h.1
+          (subst (λ os. is_left old.records (block_of proc (holder_of proc None os) (next_turn p)) (next_turn p) ≡ true) h.0
+          (one_left (nat_lt 0 (length (block_of proc (holder_of proc None outer) (next_turn p)))) (has_turn old.records (in_next_turn p.holder)) (is_below 0 _ filled)));
       holders = held_more (length old.records) outer (next_turn p) (held_outer (length old.records) outer p (subst (AreHeldBefore (length old.records)) due.are t.holders))
           (same_holder (length old.records) p.holder (held_last (length old.records) outer p (subst (AreHeldBefore (length old.records)) due.are t.holders)));
       some = omega (arith, length-append outer (next_turn p ∷ []));
@@ -185,11 +185,11 @@ turned_task proc old f outer p t due =
 
 -- a statement is there
 pub turned_first : (proc : ProcInfo) (old : Task) (outer : List Place) (p : Place) → IsTask proc old → IsDue proc (places_of old) outer p
-    → nat_lt 0 (length (block_of proc (holding proc None outer) (next_turn p))) ≡ true
+    → nat_lt 0 (length (block_of proc (holder_of proc None outer) (next_turn p))) ≡ true
 turned_first proc old outer p t due = is_below 0 _ (next_filled proc old outer p t due)
 
 pub turned_before : (proc : ProcInfo) (old : Task) (f : Option Env) (outer : List Place) (p : Place) → IsTask proc old → IsDue proc (places_of old) outer p
-    → begun_with f (turned old.records p.holder old.env) ≡ beginning old → StandsAsBefore proc old (after_turn old f outer p)
+    → begun_with f (with_next_row old.records p.holder old.env) ≡ beginning old → StandsAsBefore proc old (after_turn old f outer p)
 turned_before proc old f outer p t due first = record {
   parameters = refl;
   records = refl;
@@ -197,12 +197,12 @@ turned_before proc old f outer p t due first = record {
   undo = refl;
   beginning = first;
   left = λ tables db.
-      let s : Option RStmt = holding proc None outer in
+      let s : Option RStmt = holder_of proc None outer in
       let site : Site = site_of outside outer in
       let block : List RStmt = block_of proc s p in
       let js : List Job = jobs_left proc old.records outer in
       let st : State = state_of old db in
-      let next : State = record st { env = turned old.records p.holder st.env } in
+      let next : State = record st { env = with_next_row old.records p.holder st.env } in
       sym
       (ap (λ ps. left tables old.parameters (jobs_left proc old.records ps) old.records st) due.are
       ∙ (ap (λ is. left tables old.parameters is old.records st) (jobs_more proc old.records None outside outer p)
@@ -221,7 +221,7 @@ begun_kept f g was now e = ap (λ o. begun_with o now) e
 
 -- where no statement is left at the innermost place a turn is
 pub turn_owed : (proc : ProcInfo) (task : Task) (rs : List Record) (ps outer : List Place) (p : Place) → IsTask proc task → task.ended ≡ false → ps ≡ task.places → rs ≡ task.records
-    → ps ≡ outer ++ p ∷ [] → nat_lt p.at (length (block_of proc (holding proc None outer) p)) ≡ false → has_turn rs p.holder ≡ true
+    → ps ≡ outer ++ p ∷ [] → nat_lt p.at (length (block_of proc (holder_of proc None outer) p)) ≡ false → has_turn rs p.holder ≡ true
 turn_owed proc task rs ps outer p t live same records are none =
     subst (λ qs. has_turn qs p.holder ≡ true) (sym records)
     (turn_due proc task.records (places_of task) outer p (record { are = standing_live task.ended task.places live ∙ (sym same ∙ are); none = none }) t.ends)

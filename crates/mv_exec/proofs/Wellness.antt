@@ -14,7 +14,7 @@ use Rattle.mv_recorded.proofs.Effects.{columns_there}
 use Rattle.mv_exec.specs.declared.places.Holder.{Holder}
 use Rattle.mv_exec.specs.declared.places.Holder.TheVariants as by
 use Rattle.mv_exec.specs.declared.places.Place.{Place}
-use Rattle.mv_exec.specs.Places.{body_in, branch_in, held, block_of, passed, holding, IsAt}
+use Rattle.mv_exec.specs.Places.{body_in, branch_in, block_in, block_of, statement_before, holder_of, IsAt}
 
 -- for some variables
 abbrev AllWell : List TableInfo → List RStmt → Type 0
@@ -36,7 +36,7 @@ body_well tables (ForSelect x once cs t conds sorts body) vars h = (with_turn va
 body_well tables (ForRows x y body) vars h = (with_turn vars x h.0, h.3)
 body_well tables y vars h = (vars, tt)
 
-held_well : (tables : List TableInfo) (proc : ProcInfo) (h : Holder) (o : Option RStmt) → AllWell tables proc.body → SomeWell tables o → AllWell tables (held proc h o)
+held_well : (tables : List TableInfo) (proc : ProcInfo) (h : Holder) (o : Option RStmt) → AllWell tables proc.body → SomeWell tables o → AllWell tables (block_in proc h o)
 held_well tables proc by.Procedure o w k = w
 held_well tables proc (by.Branch number b) None w k = (λ x. None, tt)
 held_well tables proc (by.Branch number b) (Some s) w k = branch_well tables b (out-RStmt s) k.0 (well_by tables (out-RStmt s) s k.0 (roll-out-RStmt s) k.1)
@@ -48,19 +48,19 @@ get_well tables [] n vars h = tt
 get_well tables (s ∷ ss) zero vars h = (vars, h.0)
 get_well tables (s ∷ ss) (suc n) vars h = get_well tables ss n vars h.1
 
-holding_well : (tables : List TableInfo) (proc : ProcInfo) (o : Option RStmt) (ps : List Place) → AllWell tables proc.body → SomeWell tables o → SomeWell tables (holding proc o ps)
+holding_well : (tables : List TableInfo) (proc : ProcInfo) (o : Option RStmt) (ps : List Place) → AllWell tables proc.body → SomeWell tables o → SomeWell tables (holder_of proc o ps)
 holding_well tables proc o [] w k = k
 holding_well tables proc o (p ∷ ps) w k =
     let block : AllWell tables (block_of proc o p) = held_well tables proc p.holder o w k in
-    holding_well tables proc (passed proc o p) ps w (get_well tables (block_of proc o p) (p.at - 1) block.0 block.1)
+    holding_well tables proc (statement_before proc o p) ps w (get_well tables (block_of proc o p) (p.at - 1) block.0 block.1)
 
 -- the statement at a place
 pub well_at : (tables : List TableInfo) (proc : ProcInfo) (outer : List Place) (p : Place) (s : RStmt) → IsProcedure tables proc
-    → slice_get (block_of proc (holding proc None outer) p) p.at ≡ Some s → (vars : Vars) × IsWell tables s vars
+    → slice_get (block_of proc (holder_of proc None outer) p) p.at ≡ Some s → (vars : Vars) × IsWell tables s vars
 well_at tables proc outer p s is stands =
     let w : AllWell tables proc.body = (vars_of proc, is.body) in
-    let block : AllWell tables (block_of proc (holding proc None outer) p) = held_well tables proc p.holder (holding proc None outer) w (holding_well tables proc None outer w tt) in
-    subst (SomeWell tables) stands (get_well tables (block_of proc (holding proc None outer) p) p.at block.0 block.1)
+    let block : AllWell tables (block_of proc (holder_of proc None outer) p) = held_well tables proc p.holder (holder_of proc None outer) w (holding_well tables proc None outer w tt) in
+    subst (SomeWell tables) stands (get_well tables (block_of proc (holder_of proc None outer) p) p.at block.0 block.1)
 
 -- it has a column for each target
 pub columns_at : (tables : List TableInfo) (proc : ProcInfo) (ps : List Place) (p : Place) (s : RStmt) → IsProcedure tables proc → IsAt proc ps p s → HasColumns (out-RStmt s)

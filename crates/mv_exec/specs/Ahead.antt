@@ -11,7 +11,7 @@ use Rattle.mv_recorded.specs.Recorded.{Site}
 use Rattle.mv_exec.specs.declared.places.Place.{Place}
 use Rattle.mv_exec.specs.declared.task.Ahead.{Ahead}
 use Rattle.mv_exec.specs.declared.task.Task.{Task}
-use Rattle.mv_exec.specs.Places.{block_of, holding, place_due}
+use Rattle.mv_exec.specs.Places.{block_of, holder_of, place_due}
 use Rattle.mv_exec.specs.Tasks.{left_of, definer_in}
 use Rattle.mv_exec.specs.Running.{Foresees}
 
@@ -20,9 +20,9 @@ pub record GoesOn (proc : ProcInfo) (task : Task) (place : Place) (s : RStmt) (t
   pub outer : List Place
   pub last : Place
   pub are : task.places ≡ outer ++ last ∷ []
-  pub due : nat_lt last.at (length (block_of proc (holding proc None outer) last)) ≡ not turn
+  pub due : nat_lt last.at (length (block_of proc (holder_of proc None outer) last)) ≡ not turn
   pub is : place ≡ place_due turn last
-  pub stands : slice_get (block_of proc (holding proc None outer) place) place.at ≡ Some s
+  pub stands : slice_get (block_of proc (holder_of proc None outer) place) place.at ≡ Some s
 
 -- what the record of a statement has before it is executed: the statement is at a site, has a number, and reads these variables
 abbrev pub ahead_at : List (Option ℕ) → Site → ℕ → List ℕ → Ahead

@@ -12,25 +12,25 @@ use Rattle.mv_exec.specs.declared.places.Holder.TheVariants as by
 use Rattle.mv_exec.specs.declared.places.Place.{Place}
 
 -- before the first statement of a list that isn't empty
-abbrev pub entered : Holder → ℕ → List RStmt → List Place
-entered h first [] = []
-entered h first (s ∷ ss) = record { holder = h; first = first; at = 0; number = first } ∷ []
+abbrev pub branch_place : Holder → ℕ → List RStmt → List Place
+branch_place h first [] = []
+branch_place h first (s ∷ ss) = record { holder = h; first = first; at = 0; number = first } ∷ []
 
 -- before the first turn of a loop whose body isn't empty
-abbrev pub looped : ℕ → ℕ → ℕ → List RStmt → List Place
-looped number x first [] = []
-looped number x first (s ∷ ss) = record { holder = by.Loop number x 0; first = first; at = length (s ∷ ss); number = first } ∷ []
+abbrev pub loop_place : ℕ → ℕ → ℕ → List RStmt → List Place
+loop_place number x first [] = []
+loop_place number x first (s ∷ ss) = record { holder = by.Loop number x 0; first = first; at = length (s ∷ ss); number = first } ∷ []
 
 -- the place inside a statement: its record and it itself have these numbers, and an IF chooses this branch
 abbrev pub inner_places : ℕ → ℕ → Bool → RStmt-F RStmt → List Place
-inner_places number n b (Branch e ys ns) = if b then entered (by.Branch number b) (n + 1) ys else entered (by.Branch number b) (n + 1 + size_of ys) ns
-inner_places number n b (ForSelect x once cs t conds sorts body) = looped number x (n + 1) body
-inner_places number n b (ForRows x y body) = looped number x (n + 1) body
+inner_places number n b (Branch e ys ns) = if b then branch_place (by.Branch number b) (n + 1) ys else branch_place (by.Branch number b) (n + 1 + size_of ys) ns
+inner_places number n b (ForSelect x once cs t conds sorts body) = loop_place number x (n + 1) body
+inner_places number n b (ForRows x y body) = loop_place number x (n + 1) body
 inner_places number n b s = []
 
 -- the place behind a statement of this size
-abbrev pub moved_on : ℕ → Place → Place
-moved_on size p = record p { at = p.at + 1; number = p.number + size }
+abbrev pub place_after : ℕ → Place → Place
+place_after size p = record p { at = p.at + 1; number = p.number + size }
 
 -- the variables after turns of an empty body, which only set the loop's row
 abbrev pub run_through : ℕ → List (List Value) → Env → Env

@@ -35,24 +35,24 @@ abbrev pub body_of : RStmt → List RStmt
 body_of s = body_in (out-RStmt s)
 
 -- the list that the holder names: the procedure's body, or a list of the statement that holds it
-abbrev pub held : ProcInfo → Holder → Option RStmt → List RStmt
-held proc by.Procedure s = proc.body
-held proc (by.Branch number b) None = []
-held proc (by.Branch number b) (Some s) = branch_of b s
-held proc (by.Loop number x k) None = []
-held proc (by.Loop number x k) (Some s) = body_of s
+abbrev pub block_in : ProcInfo → Holder → Option RStmt → List RStmt
+block_in proc by.Procedure s = proc.body
+block_in proc (by.Branch number b) None = []
+block_in proc (by.Branch number b) (Some s) = branch_of b s
+block_in proc (by.Loop number x k) None = []
+block_in proc (by.Loop number x k) (Some s) = body_of s
 
 -- the list of a place that this statement holds, and the statement before the place, which holds the next place
 abbrev pub block_of : ProcInfo → Option RStmt → Place → List RStmt
-block_of proc s p = held proc p.holder s
+block_of proc s p = block_in proc p.holder s
 
-abbrev pub passed : ProcInfo → Option RStmt → Place → Option RStmt
-passed proc s p = slice_get (block_of proc s p) (p.at - 1)
+abbrev pub statement_before : ProcInfo → Option RStmt → Place → Option RStmt
+statement_before proc s p = slice_get (block_of proc s p) (p.at - 1)
 
 -- the statement that holds what lies behind places, of which this statement holds the first
-abbrev pub holding : ProcInfo → Option RStmt → List Place → Option RStmt
-holding proc s [] = s
-holding proc s (p ∷ ps) = holding proc (passed proc s p) ps
+abbrev pub holder_of : ProcInfo → Option RStmt → List Place → Option RStmt
+holder_of proc s [] = s
+holder_of proc s (p ∷ ps) = holder_of proc (statement_before proc s p) ps
 
 -- Sites
 
@@ -96,7 +96,7 @@ jobs_here rs block site p = some_run (site_in p.holder site) p.number (drop p.at
 -- what is left at places, of which each lies in the statement that the one before has passed: the inner ones come first
 abbrev pub jobs_of : ProcInfo → List Record → Option RStmt → Site → List Place → List Job
 jobs_of proc rs s site [] = []
-jobs_of proc rs s site (p ∷ ps) = jobs_of proc rs (passed proc s p) (site_in p.holder site) ps ++ jobs_here rs (block_of proc s p) site p
+jobs_of proc rs s site (p ∷ ps) = jobs_of proc rs (statement_before proc s p) (site_in p.holder site) ps ++ jobs_here rs (block_of proc s p) site p
 
 abbrev pub jobs_left : ProcInfo → List Record → List Place → List Job
 jobs_left proc rs ps = jobs_of proc rs None outside ps
@@ -113,7 +113,7 @@ is_left rs block p = nat_lt p.at (length block) || has_turn rs p.holder
 
 -- something is left at the innermost place
 abbrev pub EndsLeft : ProcInfo → List Record → List Place → Type 0
-EndsLeft proc rs ps = (outer : List Place) (p : Place) → ps ≡ outer ++ p ∷ [] → is_left rs (block_of proc (holding proc None outer) p) p ≡ true
+EndsLeft proc rs ps = (outer : List Place) (p : Place) → ps ≡ outer ++ p ∷ [] → is_left rs (block_of proc (holder_of proc None outer) p) p ≡ true
 
 -- of the first i places this many stay: behind them nothing is left
 pub record StaysTo (proc : ProcInfo) (rs : List Record) (ps : List Place) (i stay : ℕ) : Type 0 where
@@ -124,7 +124,7 @@ pub record StaysTo (proc : ProcInfo) (rs : List Record) (ps : List Place) (i sta
 -- this is said of each place and the list in which it lies
 abbrev pub Every : (List RStmt → Place → Type 0) → ProcInfo → Option RStmt → List Place → Type 0
 Every P proc s [] = Unit {0}
-Every P proc s (p ∷ ps) = P (block_of proc s p) p × Every P proc (passed proc s p) ps
+Every P proc s (p ∷ ps) = P (block_of proc s p) p × Every P proc (statement_before proc s p) ps
 
 -- each place lies in a list that isn't empty
 abbrev pub IsFilled : List RStmt → Place → Type 0
@@ -143,7 +143,7 @@ AreNumbered proc = Every (IsNumbered proc) proc
 -- this is the innermost place, after those outside it, and it is before this statement
 pub record StandsAt (proc : ProcInfo) (ps outer : List Place) (p : Place) (s : RStmt) : Type 0 where
   pub are : ps ≡ outer ++ p ∷ []
-  pub stands : slice_get (block_of proc (holding proc None outer) p) p.at ≡ Some s
+  pub stands : slice_get (block_of proc (holder_of proc None outer) p) p.at ≡ Some s
 
 abbrev pub IsAt : ProcInfo → List Place → Place → RStmt → Type 0
 IsAt proc ps p s = (outer : List Place) × StandsAt proc ps outer p s
@@ -169,7 +169,7 @@ with_turn x None env = env
 with_turn x (Some row) env = with_held env x (Turn row)
 
 -- the variables in the next turn
-abbrev pub turned : List Record → Holder → Env → Env
-turned rs by.Procedure env = env
-turned rs (by.Branch number b) env = env
-turned rs (by.Loop number x k) env = with_turn x (slice_get (rows_at rs number) k) env
+abbrev pub with_next_row : List Record → Holder → Env → Env
+with_next_row rs by.Procedure env = env
+with_next_row rs (by.Branch number b) env = env
+with_next_row rs (by.Loop number x k) env = with_turn x (slice_get (rows_at rs number) k) env

@@ -19,14 +19,14 @@ use Rattle.mv_exec.specs.declared.places.Place.{Place}
 use Rattle.mv_exec.specs.declared.task.Ahead.{Ahead}
 use Rattle.mv_exec.specs.declared.task.Task.{Task}
 use Rattle.mv_exec.specs.Keeping.{owned, widened, define, slot_room}
-use Rattle.mv_exec.specs.Places.{block_of, holding}
+use Rattle.mv_exec.specs.Places.{block_of, holder_of}
 use Rattle.mv_exec.specs.Tasks.{beginning, left_of, definer_in}
 
 -- What a record makes of a call
 
 -- the call that has a record and its writes, before it is noted whose the variables are and where the call now stands
-abbrev pub held_with : Task → Record → Env → List Place → Task
-held_with task r env places = record task {
+abbrev pub with_writes : Task → Record → Env → List Place → Task
+with_writes task r env places = record task {
   env = env;
   records = task.records ++ r ∷ [];
   undo = task.undo ++ owned (length task.records) r.writes;
@@ -37,7 +37,7 @@ held_with task r env places = record task {
 -- the call with a record more, with these variables and at these places
 abbrev pub with_record : Task → Record → Env → List Place → Task
 with_record task r env places =
-    let held : Task = held_with task r env places in
+    let held : Task = with_writes task r env places in
     record held { definers = define held.definers r.sets (length task.records) }
 
 -- some items were added to the records and the places, and nothing else changed

@@ -18,7 +18,7 @@ use Rattle.mv_exec.specs.declared.task.Task.{Task}
 use Rattle.mv_exec.specs.Left.{left}
 use Rattle.mv_exec.specs.Env.{begun_with}
 use Rattle.mv_exec.specs.Keeping.{all_owned}
-use Rattle.mv_exec.specs.Places.{jobs_left, AreFilled, AreNumbered, EndsLeft, turned}
+use Rattle.mv_exec.specs.Places.{jobs_left, AreFilled, AreNumbered, EndsLeft, with_next_row}
 
 -- the variables with which the call began
 abbrev pub beginning : Task → Env
@@ -98,7 +98,7 @@ pub record StandsAsBefore (proc : ProcInfo) (old new : Task) : Type 0 where
 
 -- the call in the next turn: with the loop's row, and at this place inside these
 abbrev pub in_turn_at : Task → List Place → Place → Place → Task
-in_turn_at task outer last place = record task { env = turned task.records last.holder task.env; places = outer ++ place ∷ [] }
+in_turn_at task outer last place = record task { env = with_next_row task.records last.holder task.env; places = outer ++ place ∷ [] }
 
 -- the call at this place inside these: where a turn is due, in that turn
 abbrev pub settled : Task → List Place → Place → Place → Bool → Task

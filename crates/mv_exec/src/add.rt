@@ -11,17 +11,18 @@ ghost use Rattle.mv_recorded.specs.Effect.{HasColumns};
 ghost use Rattle.mv_graph.specs.Nodes.{IsGraph, TellsOf};
 ghost use Rattle.mv_effect.specs.Choosing.{Chooses};
 ghost use Rattle.mv_exec.specs.Places.{IsAt};
-ghost use Rattle.mv_exec.specs.Steps.{HasAdded, HasFronts, IsWidened, held_with};
+ghost use Rattle.mv_exec.specs.Steps.{HasAdded, HasFronts, IsWidened, with_writes};
 ghost use Rattle.mv_exec.specs.Running.{stepped};
 ghost use Rattle.mv_exec.specs.Tasks.{places_of, IsTask, StandsAsBefore, IsTrimmed};
 
 use crate::changes::{Change, make_changes};
 use crate::keeping::{push_writes, set_definers, widen};
 use crate::moves::{inner_place, place_after};
-use crate::places::{Place, staying};
+use crate::places::Place;
 use crate::position::Position;
 use crate::step::{Stepped, answer, changes_for};
 use crate::task::Task;
+use crate::trim::trim;
 use mv_catalog::resolved::ProcInfo;
 use mv_graph::graph::Graph;
 use mv_record::record::{Record, Slot};
@@ -77,7 +78,7 @@ fn push_rest(
 
 /// Adds a record, its writes and the place inside its statement, and changes variables. After NoMemory nothing has
 /// changed but the room for definers.
-fn hold(
+fn push_record(
     alloc: Global,
     task: &mut Task,
     given: Record,
@@ -85,7 +86,7 @@ fn hold(
     inner: Option<Place>,
 ) -> Result<(), NoMemory>
     requires { All (λ o. o.number < length task.old.records) task.old.undo }
-    ensures ok { OnOk result (task.new ≡ held_with task.old given (changed changes.items task.old.env) (task.old.places ++ option_to_list inner)) }
+    ensures ok { OnOk result (task.new ≡ with_writes task.old given (changed changes.items task.old.env) (task.old.places ++ option_to_list inner)) }
     ensures err { OnErr result (IsWidened task.old task.new) }
 {
     let number = task.records.len();
@@ -118,18 +119,6 @@ fn put_place(places: &mut List<Place>, at: usize, place: Place)
 {
     if at < places.len() {
         places.set(at, place);
-    }
-}
-
-/// Drops the places at which nothing is left. The call has ended if none stays.
-fn trim(procedure: &ProcInfo, task: &mut Task)
-    ensures { task.old.ended ≡ false → IsTrimmed procedure.now task.old task.new }
-{
-    let stay = staying(procedure, task.records.as_slice(), task.places.as_slice());
-    if stay == 0 {
-        task.ended = true;
-    } else {
-        task.places.truncate(stay);
     }
 }
 
@@ -179,7 +168,7 @@ pub(crate) fn add(
     let ends = given.end.is_some();
     let changes = changes_for(alloc, position.statement, &given)?;
     let inner = inner_place(graph, position, number, yes);
-    hold(alloc, task, given, changes, inner)?;
+    push_record(alloc, task, given, changes, inner)?;
     note_sets(&mut task.definers, task.records.as_slice(), number);
     put_place(
         &mut task.places,

@@ -120,11 +120,7 @@ fn ahead_of(
 }
 
 /// Returns the place, controller and definers of the next record, none where no statement is left.
-pub(crate) fn foresee(
-    alloc: Global,
-    graph: &Graph,
-    task: &Task,
-) -> Result<Option<Ahead>, NoMemory>
+pub(crate) fn foresee(alloc: Global, graph: &Graph, task: &Task) -> Result<Option<Ahead>, NoMemory>
     requires nodes { IsGraph graph.now }
     requires task { IsTask graph.now.procedure task.now }
     requires params { task.now.parameters ≡ length graph.now.procedure.params }

@@ -27,7 +27,7 @@ use mv_view::view::{Refused, View};
 use std::alloc::Global;
 
 /// The record of an effect at the place that is ahead, with its controller and definers.
-fn recorded(ahead: Ahead, effect: Effect) -> Record
+fn record_of(ahead: Ahead, effect: Effect) -> Record
     ensures { result ≡ record_of ahead effect }
 {
     Record {
@@ -84,7 +84,7 @@ pub(crate) fn execute<V: View>(
         number,
         view,
     )?;
-    let record = recorded(ahead, effect);
+    let record = record_of(ahead, effect);
     let stepped = add(alloc, graph, task, record, position, holds)?;
     task.executed += task.records.len() - number;
     Ok(stepped)

@@ -14,4 +14,5 @@ mod position;
 pub mod running;
 pub mod step;
 pub mod task;
+mod trim;
 mod turns;

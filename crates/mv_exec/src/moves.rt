@@ -5,7 +5,7 @@ ghost use Rattle.mv_catalog.specs.declared.resolved.RStmt.{RStmt, out-RStmt};
 ghost use Rattle.mv_catalog.specs.Statements.{size, size_of};
 ghost use Rattle.mv_graph.specs.Nodes.{IsGraph, HasText};
 ghost use Rattle.mv_effect.specs.Choosing.{Chooses};
-ghost use Rattle.mv_exec.specs.Moves.{entered, looped, inner_places, moved_on};
+ghost use Rattle.mv_exec.specs.Moves.{branch_place, loop_place, inner_places, place_after};
 ghost use Rattle.mv_exec.specs.declared.places.Holder.TheVariants.{Branch};
 
 use crate::places::{Holder, Place};
@@ -33,7 +33,7 @@ pub(crate) fn branch(alloc: Global, statement: &RStmt, env: &Env) -> Result<bool
 
 /// The place before the first statement of a branch, none where it has no statements.
 fn branch_place(record: usize, yes: bool, first: usize, block: &[RStmt]) -> Option<Place>
-    ensures { option_to_list result ≡ entered (Branch «record» yes) first block.now }
+    ensures { option_to_list result ≡ branch_place (Branch «record» yes) first block.now }
 {
     if block.is_empty() {
         return None;
@@ -48,7 +48,7 @@ fn branch_place(record: usize, yes: bool, first: usize, block: &[RStmt]) -> Opti
 
 /// The place before the first turn of a loop, none where its body has no statements.
 fn loop_place(record: usize, row: u16, first: usize, body: &[RStmt]) -> Option<Place>
-    ensures { option_to_list result ≡ looped «record» row first body.now }
+    ensures { option_to_list result ≡ loop_place «record» row first body.now }
 {
     if body.is_empty() {
         return None;
@@ -107,7 +107,9 @@ pub(crate) fn inner_place(
         RStmt::ForSelect { row, body, .. } => loop_place(record, *row, first, body.as_slice()),
         RStmt::ForRows { row, body, .. } => loop_place(record, *row, first, body.as_slice()),
         RStmt::Branch {
-            yes: chosen, no, ..
+            yes: chosen,
+            no,
+            ..
         } => {
             if yes {
                 return branch_place(record, yes, first, chosen.as_slice());
@@ -123,7 +125,7 @@ pub(crate) fn inner_place(
 pub(crate) fn place_after(position: Position<'_>) -> Place
     requires number { position.place.number + position.node.now.size < 2 ^ 17 }
     requires at { position.place.at < 2 ^ 16 }
-    ensures { result ≡ moved_on position.entry.node.now.size position.entry.place }
+    ensures { result ≡ place_after position.entry.node.now.size position.entry.place }
 {
     let place = position.place;
     Place {

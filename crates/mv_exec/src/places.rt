@@ -5,7 +5,7 @@ ghost use Rattle.std.specs.Option.{option_copied};
 ghost use Rattle.mv_recorded.specs.Reading.{loop_of};
 ghost use Rattle.mv_recorded.specs.Recorded.{outside};
 ghost use Rattle.mv_exec.specs.declared.places.Place.{Place};
-ghost use Rattle.mv_exec.specs.Places.{branch_of, body_of, held, passed, holding, has_turn, is_left, rows_at, StaysTo, site_of};
+ghost use Rattle.mv_exec.specs.Places.{branch_of, body_of, block_in, statement_before, holder_of, has_turn, is_left, rows_at, StaysTo, site_of};
 
 use mv_catalog::resolved::{ProcInfo, RStmt};
 use mv_record::record::Record;
@@ -72,7 +72,7 @@ pub(crate) fn block<'p>(
     holder: Holder,
     statement: Option<&'p RStmt>,
 ) -> &'p [RStmt]
-    ensures { result.now ≡ held procedure.now holder (option_copied statement.entry) }
+    ensures { result.now ≡ block_in procedure.now holder (option_copied statement.entry) }
 {
     match (holder, statement) {
         (Holder::Procedure, _) => procedure.body.as_slice(),
@@ -98,7 +98,7 @@ fn statement_before(block: &[RStmt], place: Place) -> Option<&RStmt>
 
 /// The statement that holds what lies behind the places.
 pub(crate) fn holder_of<'p>(procedure: &'p ProcInfo, places: &[Place]) -> Option<&'p RStmt>
-    ensures { option_copied result ≡ holding procedure.now None places.now }
+    ensures { option_copied result ≡ holder_of procedure.now None places.now }
 {
     let mut statement = None;
     for place in places {

@@ -7,7 +7,9 @@ ghost use Rattle.mv_exec.specs.Ahead.{GoesOn};
 ghost use Rattle.mv_exec.specs.Places.{has_turn, next_turn, place_due};
 ghost use Rattle.mv_exec.specs.Tasks.{IsTask};
 
-use crate::places::{Holder, Place, block, holder_of, innermost, is_before_end, rows_of, statement_at};
+use crate::places::{
+    Holder, Place, block, holder_of, innermost, is_before_end, rows_of, statement_at,
+};
 use crate::task::Task;
 use mv_catalog::resolved::{ProcInfo, RStmt};
 use mv_graph::graph::{Graph, Node};

@@ -11,8 +11,8 @@ ghost use Rattle.mv_effect.specs.Looking.{AskedAtMost, IsSameView, PassesOn, dif
 ghost use Rattle.mv_exec.specs.Running.{IsRunning, IsRunningOn, IsSameCall, IsTaskOf, IsUnchanged, IsNext, GoesOnWith, HasAdopted, HasRun, HasRunTo, refusals, stepped, EndsExactly, KeysKept};
 
 use crate::add::add;
-use crate::execute::execute;
 use crate::ahead::{come_to, foresee};
+use crate::execute::execute;
 use crate::moves::branch;
 use crate::step::Stepped;
 use crate::task::{Ahead, Task};
@@ -49,7 +49,7 @@ pub fn peek(alloc: Global, graph: &Graph, task: &Task) -> Result<Option<Ahead>, 
 }
 
 /// The given record at the place that is ahead, with its controller and definers.
-fn placed(ahead: Ahead, given: Record) -> Record
+fn record_at(ahead: Ahead, given: Record) -> Record
     ensures { result ≡ record given { spot = ahead.spot; parent = ahead.parent; reads = ahead.reads } }
 {
     Record {
@@ -85,7 +85,7 @@ pub fn adopt(
 {
     let (ahead, position) = come_to(alloc, graph, task)?;
     let yes = branch(alloc, position.statement, &task.env)?;
-    add(alloc, graph, task, placed(ahead, given), position, yes)
+    add(alloc, graph, task, record_at(ahead, given), position, yes)
 }
 
 /// Executes the next statement, read over the view and the call's own writes, and adds its record. An IF only evaluates

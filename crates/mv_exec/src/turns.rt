@@ -1,7 +1,7 @@
 //! The turns of loops.
 
 ghost use Rattle.std.specs.Prelude.{◌≡◌, ◌++◌, ◌∷◌, [], List, OnOk, OnErr};
-ghost use Rattle.mv_exec.specs.Places.{turned};
+ghost use Rattle.mv_exec.specs.Places.{with_next_row};
 ghost use Rattle.mv_exec.specs.Tasks.{in_turn_at, settled};
 ghost use Rattle.mv_exec.specs.declared.places.Place.{Place};
 
@@ -16,13 +16,8 @@ use mv_values::memory::NoMemory;
 use std::alloc::Global;
 
 /// Sets the row of a loop to that of the next turn. After NoMemory the variables are as before.
-fn set_row(
-    alloc: Global,
-    env: &mut Env,
-    records: &[Record],
-    holder: Holder,
-) -> Result<(), NoMemory>
-    ensures ok { OnOk result (env.new ≡ turned records.now holder env.old) }
+fn set_row(alloc: Global, env: &mut Env, records: &[Record], holder: Holder) -> Result<(), NoMemory>
+    ensures ok { OnOk result (env.new ≡ with_next_row records.now holder env.old) }
     ensures err { OnErr result (env.new ≡ env.old) }
 {
     let Holder::Loop { record, row, turn } = holder else {
@@ -52,12 +47,7 @@ fn begin_turn(alloc: Global, task: &mut Task, place: Place) -> Result<(), NoMemo
     let Some((_, last)) = innermost(task.places.as_slice()) else {
         return Ok(());
     };
-    set_row(
-        alloc,
-        &mut task.env,
-        task.records.as_slice(),
-        last.holder,
-    )?;
+    set_row(alloc, &mut task.env, task.records.as_slice(), last.holder)?;
     set_innermost(&mut task.places, place);
     Ok(())
 }

@@ -5,7 +5,7 @@ use Rattle.mv_catalog.specs.declared.resolved.RStmt.TheOpen as open'
 use Rattle.mv_catalog.specs.declared.resolved.RStmt.{RStmt, roll-RStmt, out-RStmt, roll-out-RStmt}
 use Rattle.mv_catalog.specs.declared.resolved.RStmt.TheFolds.{fold-roll-RStmt, map-RStmt, ind-RStmt}
 use Rattle.mv_graph.specs.declared.graph.Node.{Node}
-use Rattle.mv_graph.specs.Nodes.{Nodes, all_nodes, inner_nodes, own_node, node_step, nodes_of, held_nodes, body_nodes}
+use Rattle.mv_graph.specs.Nodes.{Nodes, all_nodes, inner_nodes, own_node, node_step, nodes_of, nodes_inside, body_nodes}
 
 abbrev pub Counts : ℕ → ℕ → RStmt → Type 0
 Counts params found s = (n : ℕ) (holder : Option ℕ) (loops : List ℕ) → length (nodes_of params found s n holder loops) ≡ size s
@@ -74,9 +74,9 @@ own_same params found (open'.Rollback reason) holder loops whole = refl
 
 -- a statement's own node, and behind it those of what it holds
 pub nodes_out : (params found : ℕ) (s : RStmt) (n : ℕ) (holder : Option ℕ) (loops : List ℕ)
-    → nodes_of params found s n holder loops ≡ own_node params found (out-RStmt s) holder loops (size s) ∷ held_nodes params found (out-RStmt s) n loops
+    → nodes_of params found s n holder loops ≡ own_node params found (out-RStmt s) holder loops (size s) ∷ nodes_inside params found (out-RStmt s) n loops
 nodes_out params found s n holder loops =
-    let held : List Node = held_nodes params found (out-RStmt s) n loops in
+    let held : List Node = nodes_inside params found (out-RStmt s) n loops in
     let out : nodes_of params found s n holder loops ≡ own_node params found (map-RStmt RStmt Nodes (nodes_of params found) (out-RStmt s)) holder loops (1 + length held) ∷ held =
     ap (λ t. nodes_of params found t n holder loops) (sym (roll-out-RStmt s)) ∙ ap (λ f. f n holder loops) (fold-roll-RStmt Nodes (node_step params found) (out-RStmt s)) in
     let whole : 1 + length held ≡ size s = omega (arith, ap length out, nodes_count params found s n holder loops) in

@@ -5,7 +5,7 @@ use Rattle.mv_catalog.specs.declared.resolved.ProcInfo.{ProcInfo}
 use Rattle.mv_catalog.specs.declared.resolved.RStmt.{RStmt, out-RStmt}
 use Rattle.mv_catalog.specs.declared.resolved.RStmt.TheOpen.{RStmt-F, ForSelect, ForRows, Branch}
 use Rattle.mv_graph.specs.declared.graph.Node.{Node}
-use Rattle.mv_graph.specs.Nodes.{Nodes, own_node, nodes_of, held_nodes, body_nodes, nodes_in, HasText, TellsOf}
+use Rattle.mv_graph.specs.Nodes.{Nodes, own_node, nodes_of, nodes_inside, body_nodes, nodes_in, HasText, TellsOf}
 use Rattle.mv_graph.proofs.Sizes.{nodes_count, body_counts, nodes_out}
 
 -- the nodes of statements of the procedure
@@ -16,7 +16,7 @@ abbrev text_nodes : ProcInfo → List RStmt → Nodes
 text_nodes proc = body_nodes (length proc.params) (length proc.params + length proc.defaults)
 
 abbrev inner_text : ProcInfo → RStmt-F RStmt → ℕ → List ℕ → List Node
-inner_text proc = held_nodes (length proc.params) (length proc.params + length proc.defaults)
+inner_text proc = nodes_inside (length proc.params) (length proc.params + length proc.defaults)
 
 -- the whole text
 pub whole_text : (proc : ProcInfo) → HasText proc 1 proc.body

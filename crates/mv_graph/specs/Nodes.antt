@@ -124,8 +124,8 @@ abbrev pub nodes_of : ℕ → ℕ → RStmt → Nodes
 nodes_of params found = fold-RStmt Nodes (node_step params found)
 
 -- the nodes of what a statement with this number holds
-abbrev pub held_nodes : ℕ → ℕ → RStmt-F RStmt → ℕ → List ℕ → List Node
-held_nodes params found s n loops = inner_nodes (map-RStmt RStmt Nodes (nodes_of params found) s) n loops
+abbrev pub nodes_inside : ℕ → ℕ → RStmt-F RStmt → ℕ → List ℕ → List Node
+nodes_inside params found s n loops = inner_nodes (map-RStmt RStmt Nodes (nodes_of params found) s) n loops
 
 -- the nodes of statements in order
 abbrev pub body_nodes : ℕ → ℕ → List RStmt → Nodes

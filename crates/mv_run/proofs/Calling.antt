@@ -19,16 +19,16 @@ use Rattle.mv_graph.specs.declared.graph.Graph.{Graph}
 use Rattle.mv_graph.specs.Nodes.{IsSound, meaning_of}
 use Rattle.mv_compile.specs.Compiled.{graph_of, graphs_of}
 use Rattle.mv_record.specs.Databases.{IsDatabaseOf}
-use Rattle.mv_run.specs.Told.{reply_told, tables_told}
+use Rattle.mv_run.specs.Results.{reply_of, tables_of}
 use Rattle.mv_run.proofs.Telling.{reply_is_told, tables_are_told}
 
 -- the records of a full run tell its reply
-pub told_reply : (g : Graph) (call : Call) (db : Tables) (rs : List Record) → AreRising db → rs ≡ (meaning_of g call db).records → reply_told rs ≡ (meaning_of g call db).reply
-told_reply g call db rs rise is = ap reply_told is ∙ sym (reply_is_told db (meaning_of g call db) (meaning_tells g.tables g.procedure call db rise))
+pub told_reply : (g : Graph) (call : Call) (db : Tables) (rs : List Record) → AreRising db → rs ≡ (meaning_of g call db).records → reply_of rs ≡ (meaning_of g call db).reply
+told_reply g call db rs rise is = ap reply_of is ∙ sym (reply_is_told db (meaning_of g call db) (meaning_tells g.tables g.procedure call db rise))
 
 -- and the database behind it
-pub told_tables : (g : Graph) (call : Call) (db : Tables) (rs : List Record) → AreRising db → rs ≡ (meaning_of g call db).records → tables_told rs db ≡ (meaning_of g call db).tables
-told_tables g call db rs rise is = ap (λ qs. tables_told qs db) is ∙ sym (tables_are_told db (meaning_of g call db) (meaning_tells g.tables g.procedure call db rise))
+pub told_tables : (g : Graph) (call : Call) (db : Tables) (rs : List Record) → AreRising db → rs ≡ (meaning_of g call db).records → tables_of rs db ≡ (meaning_of g call db).tables
+told_tables g call db rs rise is = ap (λ qs. tables_of qs db) is ∙ sym (tables_are_told db (meaning_of g call db) (meaning_tells g.tables g.procedure call db rise))
 
 -- which is one of the same tables
 pub left_database : (g : Graph) (call : Call) (db : Tables) → IsSound g → AllZip Suits g.procedure.params call.arguments → IsDatabaseOf g.tables db → IsDatabaseOf g.tables (meaning_of g call db).tables

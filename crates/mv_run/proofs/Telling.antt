@@ -8,7 +8,7 @@ use Rattle.mv_values.specs.declared.patch.Write.{Write}
 use Rattle.mv_values.specs.Patching.{written, applied}
 use Rattle.mv_record.specs.declared.record.Record.{Record}
 use Rattle.mv_record.specs.Runs.{Tables, Run, end_in, writes_in, StopsWith, Tells, TellsAll}
-use Rattle.mv_run.specs.Told.{reply_with, reply_told, tables_with, tables_told}
+use Rattle.mv_run.specs.Results.{reply_with, reply_of, tables_with, tables_of}
 
 applied_both : (vs ws : List Write) (db : Tables) → applied (vs ++ ws) db ≡ applied ws (applied vs db)
 applied_both [] ws db = refl
@@ -41,17 +41,17 @@ reply_made reply None rs e l = let same : reply ≡ record { lines = reply.lines
 reply_made reply (Some x) rs e l = let same : reply ≡ record { lines = reply.lines; end = reply.end } = refl in same ∙ (ap (λ o. record { lines = reply.lines; end = o }) e ∙ ap (λ ls. record { lines = ls; end = Some x }) l)
 
 -- the records of a run tell its reply
-pub reply_is_told : (db : Tables) (run : Run) → TellsAll db run → run.reply ≡ reply_told run.records
+pub reply_is_told : (db : Tables) (run : Run) → TellsAll db run → run.reply ≡ reply_of run.records
 reply_is_told db run h = by run.reply.end refl h
   where
-    by : (o : Option End) → run.reply.end ≡ o → Tells o db run → run.reply ≡ reply_told run.records
+    by : (o : Option End) → run.reply.end ≡ o → Tells o db run → run.reply ≡ reply_of run.records
     by None is t = reply_made run.reply None run.records is t.lines ∙ sym (ap (λ o. reply_with o run.records) t.goes_on)
     by (Some e) is t = reply_made run.reply (Some e) run.records is t.lines ∙ sym (ap (λ o. reply_with o run.records) (stopped run.records e t.stops))
 
 -- and the database after it
-pub tables_are_told : (db : Tables) (run : Run) → TellsAll db run → run.tables ≡ tables_told run.records db
+pub tables_are_told : (db : Tables) (run : Run) → TellsAll db run → run.tables ≡ tables_of run.records db
 tables_are_told db run h = by run.reply.end h
   where
-    by : (o : Option End) → Tells o db run → run.tables ≡ tables_told run.records db
+    by : (o : Option End) → Tells o db run → run.tables ≡ tables_of run.records db
     by None t = t.tables ∙ sym (ap (λ o. tables_with o run.records db) t.goes_on)
     by (Some e) t = t.tables ∙ sym (ap (λ o. tables_with o run.records db) (stopped run.records e t.stops))

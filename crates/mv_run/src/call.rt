@@ -6,7 +6,7 @@ ghost use Rattle.mv_catalog.specs.Text.{Suits};
 ghost use Rattle.mv_record.specs.Databases.{IsDatabaseOf};
 ghost use Rattle.mv_graph.specs.Nodes.{IsSound, meaning_of};
 
-use crate::told::{commit, reply_of};
+use crate::results::{commit, reply_of};
 use mv_exec::running::finish;
 use mv_exec::task::Task;
 use mv_graph::graph::Graph;

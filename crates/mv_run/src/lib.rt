@@ -3,4 +3,4 @@
 
 mod call;
 pub mod calls;
-mod told;
+mod results;

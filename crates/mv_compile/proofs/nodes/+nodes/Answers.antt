@@ -1,6 +1,6 @@
 use Rattle.std.proofs.Common.{◌≡◌, ◌∙◌, rules, arith, ap, Some, ◌++◌, ◌+◌, length}
 use Rattle.mv_catalog.specs.declared.resolved.RStmt.{out-RStmt}
-use Rattle.mv_graph.specs.Nodes.{nodes_of, held_nodes}
+use Rattle.mv_graph.specs.Nodes.{nodes_of, nodes_inside}
 use Rattle.mv_compile.proofs.Adding.{on_ok, both_branches, own_first, one_more, one_more_counted}
 use Rattle.mv_compile.proofs.nodes.+nodes.Goals as goal
 

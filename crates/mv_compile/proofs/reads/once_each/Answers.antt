@@ -1,6 +1,6 @@
 use Rattle.std.proofs.Common.{◌≡◌, ◌∙◌, ap, ◌++◌, ◌+◌, drop}
 use Rattle.mv_recorded.specs.Reading.{each_once}
-use Rattle.mv_compile.proofs.Once.{new_to, all_new, one_taken}
+use Rattle.mv_compile.proofs.Once.{new_to, all_new, one_number_more}
 use Rattle.mv_compile.proofs.reads.once_each.Goals as goal
 
 pub loop-number-init : goal.loop-number-init
@@ -11,4 +11,4 @@ loop-number-preserved c =
     let numbers = c.args.numbers.now in
     let i = c.loop-number.number-index in
     ap (λ l. l ++ new_to l (each_once (drop (i + 1) numbers))) c.in_ok-add_new.ensures
-    ∙ (one_taken c.loop-number.all numbers i 0 c.loop-number-test.true ∙ c.loop-number.invariant)
+    ∙ (one_number_more c.loop-number.all numbers i 0 c.loop-number-test.true ∙ c.loop-number.invariant)

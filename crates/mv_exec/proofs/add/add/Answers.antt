@@ -4,7 +4,7 @@ use Rattle.mv_record.specs.declared.record.Record.{Record}
 use Rattle.mv_undo.specs.declared.owned.Owned.{Owned}
 use Rattle.mv_exec.specs.declared.task.Task.{Task}
 use Rattle.mv_exec.specs.Env.{changed}
-use Rattle.mv_exec.specs.Moves.{inner_places, moved_on}
+use Rattle.mv_exec.specs.Moves.{inner_places, place_after}
 use Rattle.mv_exec.specs.Places.{StandsAt}
 use Rattle.mv_exec.specs.Tasks.{places_of}
 use Rattle.mv_exec.proofs.Numbering.{small_next, text_next}
@@ -26,30 +26,30 @@ pub place_after-requires-clause-at : goal.place_after-requires-clause-at
 place_after-requires-clause-at c =
     (small_next c.args.graph.now.procedure (places_of c.args.task.now) c.requires.at.0 c.args.position.place c.args.position.statement.now c.requires.task.numbers c.requires.at.1 c.requires.short).1
 
-pub hold-requires : goal.hold-requires
-hold-requires c =
+pub push_record-requires : goal.push_record-requires
+push_record-requires c =
     subst (All (λ (o : Owned). o.number < length c.args.task.now.records)) (sym c.requires.task.undo) (owned_earlier c.args.task.now.records)
 
 are : (c : After-end_or_trim) → c.args.task.now.places ≡ c.requires.at.0 ++ c.args.position.place ∷ []
 are c = sym (standing_live c.args.task.now.ended c.args.task.now.places c.requires.live) ∙ c.requires.at.1.are
 
 parts : (c : After-end_or_trim)
-    → (let t : Task = c.hold.new.task in record t { definers = c.note_sets.new.definers; places = c.put_place.new.places })
+    → (let t : Task = c.push_record.new.task in record t { definers = c.note_sets.new.definers; places = c.put_place.new.places })
     ≡ behind_record c.args.task.now c.args.given c.requires.at.0 c.args.position.place c.args.position.statement.now c.args.yes
 parts c =
-    parts_behind c.args.graph.now.procedure c.args.task.now c.args.given c.requires.at.0 c.args.position.place c.args.position.statement.now c.args.yes c.hold.new.task
+    parts_behind c.args.graph.now.procedure c.args.task.now c.args.given c.requires.at.0 c.args.position.place c.args.position.statement.now c.args.yes c.push_record.new.task
     (changed c.in_ok-changes.changes.items c.args.task.now.env) (option_to_list c.inner_place-inner.result) c.place_after.result c.len-number.result c.saturating_sub.result
     c.note_sets.new.definers c.put_place.new.places
-    c.in_ok-hold.ensures.ok (c.in_ok-changes.ensures c.args.task.now.env) (are c)
+    c.in_ok-push_record.ensures.ok (c.in_ok-changes.ensures c.args.task.now.env) (are c)
     (c.inner_place-inner.ensures ∙ ap (λ n. inner_places n c.args.position.place.number c.args.yes (out-RStmt c.args.position.statement.now)) c.len-number.ensures)
-    (c.place_after.ensures ∙ ap (λ n. moved_on n c.args.position.place) c.requires.node.size) c.len-number.ensures
+    (c.place_after.ensures ∙ ap (λ n. place_after n c.args.position.place) c.requires.node.size) c.len-number.ensures
     (let l : length c.args.task.now.places ≡ length (c.requires.at.0 ++ c.args.position.place ∷ []) = ap length (are c) in
     omega (arith, l, c.saturating_sub.ensures, c.len-depth.ensures, length-append c.requires.at.0 (c.args.position.place ∷ [])))
     c.put_place.ensures (λ q e. c.note_sets.ensures q (ap (λ (rs : List Record). slice_get rs c.len-number.result) c.as_slice.ensures ∙ e))
 
 past : (c : After-end_or_trim)
     → IsPast c.args.graph.now.procedure c.args.task.now c.args.given c.requires.at.0 c.args.position.place c.args.position.statement.now c.args.yes
-    (let t : Task = c.hold.new.task in record t { definers = c.note_sets.new.definers; places = c.put_place.new.places }) c.end_or_trim.new.task c.is_some-ends.result
+    (let t : Task = c.push_record.new.task in record t { definers = c.note_sets.new.definers; places = c.put_place.new.places }) c.end_or_trim.new.task c.is_some-ends.result
 past c = record {
   stands = c.requires.at.1;
   is = parts c;

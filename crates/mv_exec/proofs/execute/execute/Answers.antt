@@ -31,7 +31,7 @@ add-requires-clause-columns g c =
 pub returns-clause-executed : goal.returns-clause-executed
 returns-clause-executed g c =
     executed_next c.args.graph.now.procedure c.args.graph.now.tables c.args.task.now c.add.new.task (g.V.View.sight c.args.view.now) (g.V.View.sight c.effect.new.view) _
-    c.requires.at.0 c.args.position.place c.args.position.statement.now c.args.ahead c.in_ok-effect.field-0.effect c.recorded-record.result c.requires.task c.requires.at.1
+    c.requires.at.0 c.args.position.place c.args.position.statement.now c.args.ahead c.in_ok-effect.field-0.effect c.record_of-record.result c.requires.task c.requires.at.1
     (columns_at c.args.graph.now.tables c.args.graph.now.procedure (places_of c.args.task.now) c.args.position.place c.args.position.statement.now c.requires.sound.procedure c.requires.at)
     c.requires.database.rising c.requires.next
     (subst (λ (ts : List TableInfo). IsEffect ts (out-RStmt c.args.position.statement.now) c.args.task.now.env (applied (earlier (length c.args.task.now.records) c.args.task.now.undo) (g.V.View.sight c.args.view.now).database) c.in_ok-effect.field-0.effect)
@@ -39,8 +39,8 @@ returns-clause-executed g c =
     (subst (λ n. IsEffect c.as_slice.result.now (out-RStmt c.args.position.statement.now) c.args.task.now.env (applied (earlier n c.args.task.now.undo) (g.V.View.sight c.args.view.now).database) c.in_ok-effect.field-0.effect)
     c.len-number.ensures c.in_ok-effect.ensures.effect))
     (subst (λ n. AskedFor c.in_ok-effect.field-0.effect.preds (earlier n c.args.task.now.undo) (g.V.View.sight c.args.view.now) (g.V.View.sight c.effect.new.view)) c.len-number.ensures c.in_ok-effect.ensures.looks)
-    c.recorded-record.ensures c.in_ok-stepped.ensures.added
+    c.record_of-record.ensures c.in_ok-stepped.ensures.added
 
 pub returns-clause-counted : goal.returns-clause-counted
 returns-clause-counted g c =
-    counts_one c.args.graph.now.procedure c.args.task.now c.recorded-record.result c.add.new.task c.len.result c.len-number.result c.in_ok-stepped.ensures.added c.in_ok-stepped.ensures.executed c.len.ensures c.len-number.ensures
+    counts_one c.args.graph.now.procedure c.args.task.now c.record_of-record.result c.add.new.task c.len.result c.len-number.result c.in_ok-stepped.ensures.added c.in_ok-stepped.ensures.executed c.len.ensures c.len-number.ensures

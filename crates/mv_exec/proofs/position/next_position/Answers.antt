@@ -1,6 +1,6 @@
 use Rattle.std.proofs.Common.{◌≡◌, None, Some, not, refl, sym, ap, ◌∙◌}
 use Rattle.mv_exec.specs.Ahead.{GoesOn}
-use Rattle.mv_exec.specs.Places.{held, block_of, holding}
+use Rattle.mv_exec.specs.Places.{block_in, block_of, holder_of}
 use Rattle.mv_exec.proofs.Positioning.{some_place, turn_there, none_there, goes_on, some_node, node_tells}
 use Rattle.mv_exec.proofs.position.next_position.Goals as goal
 use Rattle.mv_exec.proofs.position.next_position.Goals.{After-node_at, After-place_due-place}
@@ -11,20 +11,20 @@ unreachable-requires c = some_place c.args.graph.now.procedure c.args.task.now c
 pub place_due-place-requires : goal.place_due-place-requires
 place_due-place-requires c = λ due.
     turn_there c.args.graph.now.procedure c.args.task.now c.as_slice-2.result.now c.as_slice.result.now c.in-Some.outer.now c.in-Some.last c.block-block.result.now c.is_before_end-turn.result
-    c.requires.task c.requires.live c.as_slice.ensures c.as_slice-2.ensures c.in-Some.ensures (c.block-block.ensures ∙ ap (held c.args.graph.now.procedure c.in-Some.last.holder) c.holder_of.ensures)
+    c.requires.task c.requires.live c.as_slice.ensures c.as_slice-2.ensures c.in-Some.ensures (c.block-block.ensures ∙ ap (block_in c.args.graph.now.procedure c.in-Some.last.holder) c.holder_of.ensures)
     c.is_before_end-turn.ensures due
 
 pub unreachable-requires-in_default-statement_at : goal.unreachable-requires-in_default-statement_at
 unreachable-requires-in_default-statement_at c =
     none_there c.args.graph.now.procedure c.args.task.now c.as_slice.result.now c.in-Some.outer.now c.in-Some.last c.place_due-place.result c.block-block.result.now c.is_before_end-turn.result
-    (not c.is_before_end-turn.result) c.requires.task c.requires.live c.as_slice.ensures c.in-Some.ensures (c.block-block.ensures ∙ ap (held c.args.graph.now.procedure c.in-Some.last.holder) c.holder_of.ensures)
+    (not c.is_before_end-turn.result) c.requires.task c.requires.live c.as_slice.ensures c.in-Some.ensures (c.block-block.ensures ∙ ap (block_in c.args.graph.now.procedure c.in-Some.last.holder) c.holder_of.ensures)
     c.is_before_end-turn.ensures refl c.place_due-place.ensures (sym c.in_default-statement_at.ensures)
 
 go : (c : After-node_at) → GoesOn c.args.graph.now.procedure c.args.task.now c.place_due-place.result c.in-Some-statement_at.statement.now (not c.is_before_end-turn.result)
 go c =
     goes_on c.args.graph.now.procedure c.args.task.now c.as_slice.result.now c.in-Some.outer.now c.in-Some.last c.place_due-place.result c.block-block.result.now c.in-Some-statement_at.statement.now
     c.is_before_end-turn.result (not c.is_before_end-turn.result) c.as_slice.ensures c.in-Some.ensures
-    (c.block-block.ensures ∙ ap (held c.args.graph.now.procedure c.in-Some.last.holder) c.holder_of.ensures) c.is_before_end-turn.ensures refl c.place_due-place.ensures c.in-Some-statement_at.ensures
+    (c.block-block.ensures ∙ ap (block_in c.args.graph.now.procedure c.in-Some.last.holder) c.holder_of.ensures) c.is_before_end-turn.ensures refl c.place_due-place.ensures c.in-Some-statement_at.ensures
 
 pub unreachable-requires-in_default-node_at : goal.unreachable-requires-in_default-node_at
 unreachable-requires-in_default-node_at c =

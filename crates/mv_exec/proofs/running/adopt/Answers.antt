@@ -24,9 +24,9 @@ came c call is = stays c.args.graph.now call c.args.task.now c.come_to.new.task 
 
 same : (c : After-add) → IsSameCall c.args.graph.now c.args.task.now c.add.new.task
 same c call is =
-    either c.add.result (HasAdded c.args.graph.now.procedure c.come_to.new.task c.placed.result c.add.new.task) (StandsAsBefore c.args.graph.now.procedure c.come_to.new.task c.add.new.task)
+    either c.add.result (HasAdded c.args.graph.now.procedure c.come_to.new.task c.record_at.result c.add.new.task) (StandsAsBefore c.args.graph.now.procedure c.come_to.new.task c.add.new.task)
     (IsTaskOf c.args.graph.now call c.add.new.task) c.add.ensures.added c.add.ensures.err
-    (λ added. grows c.args.graph.now call c.come_to.new.task c.add.new.task c.placed.result c.add.ensures.task added c.add.ensures.found (came c call is))
+    (λ added. grows c.args.graph.now call c.come_to.new.task c.add.new.task c.record_at.result c.add.ensures.task added c.add.ensures.found (came c call is))
     (λ before. stays c.args.graph.now call c.come_to.new.task c.add.new.task c.add.ensures.task before c.add.ensures.found (came c call is))
 
 pub returns-clause-call : goal.returns-clause-call
@@ -35,20 +35,20 @@ returns-clause-call c = same c
 pub returns-clause-running : goal.returns-clause-running
 returns-clause-running c = (c.requires.running.0, same c c.requires.running.0 c.requires.running.1)
 
-has : (c : After-add) → HasAdded c.args.graph.now.procedure c.come_to.new.task c.placed.result c.add.new.task → c.add.new.task.executed ≡ c.come_to.new.task.executed
+has : (c : After-add) → HasAdded c.args.graph.now.procedure c.come_to.new.task c.record_at.result c.add.new.task → c.add.new.task.executed ≡ c.come_to.new.task.executed
     → HasAdopted c.args.graph.now c.args.task.now c.args.given c.add.new.task
 has c added executed =
-    adopted c.args.graph.now c.args.task.now c.add.new.task c.in_ok-ahead.ahead c.args.given c.placed.result c.in_ok-ahead.ensures.next c.placed.ensures
-    (added_before c.args.graph.now.procedure c.args.task.now c.come_to.new.task c.placed.result c.add.new.task c.come_to.ensures.same added) (executed ∙ c.come_to.ensures.same.executed)
+    adopted c.args.graph.now c.args.task.now c.add.new.task c.in_ok-ahead.ahead c.args.given c.record_at.result c.in_ok-ahead.ensures.next c.record_at.ensures
+    (added_before c.args.graph.now.procedure c.args.task.now c.come_to.new.task c.record_at.result c.add.new.task c.come_to.ensures.same added) (executed ∙ c.come_to.ensures.same.executed)
 
 pub returns-clause-adopted : goal.returns-clause-adopted
 returns-clause-adopted c =
-    both c.add.result (HasAdded c.args.graph.now.procedure c.come_to.new.task c.placed.result c.add.new.task) (c.add.new.task.executed ≡ c.come_to.new.task.executed)
+    both c.add.result (HasAdded c.args.graph.now.procedure c.come_to.new.task c.record_at.result c.add.new.task) (c.add.new.task.executed ≡ c.come_to.new.task.executed)
     (HasAdopted c.args.graph.now c.args.task.now c.args.given c.add.new.task) (has c) c.add.ensures.added c.add.ensures.executed
 
 pub returns-clause-goes_on : goal.returns-clause-goes_on
 returns-clause-goes_on c =
-    both c.add.result (HasAdded c.args.graph.now.procedure c.come_to.new.task c.placed.result c.add.new.task) (c.add.new.task.executed ≡ c.come_to.new.task.executed)
+    both c.add.result (HasAdded c.args.graph.now.procedure c.come_to.new.task c.record_at.result c.add.new.task) (c.add.new.task.executed ≡ c.come_to.new.task.executed)
     (GoesOnWith c.args.graph.now c.args.task.now c.args.given c.add.new.task)
     (λ added executed. goes_on c.args.graph.now c.args.task.now c.add.new.task c.args.given (has c added executed)) c.add.ensures.added c.add.ensures.executed
 

@@ -1,7 +1,7 @@
 use Rattle.std.proofs.Common.{◌<◌, All, ap, ◌∙◌, take, subst, sym}
 use Rattle.mv_undo.specs.declared.owned.Owned.{Owned}
 use Rattle.mv_exec.proofs.Stepping.{undone}
-use Rattle.mv_exec.proofs.add.hold.Goals as goal
+use Rattle.mv_exec.proofs.add.push_record.Goals as goal
 
 pub returns-in-Err-clause-err : goal.returns-in-Err-clause-err
 returns-in-Err-clause-err c =

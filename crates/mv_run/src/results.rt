@@ -4,7 +4,7 @@ ghost use Rattle.std.specs.Prelude.{◌≡◌, IfOk, OnOk};
 ghost use Rattle.std.specs.Option.{option_copied};
 ghost use Rattle.mv_values.specs.Patching.{applied};
 ghost use Rattle.mv_record.specs.Runs.{end_in, lines_in, writes_in};
-ghost use Rattle.mv_run.specs.Told.{reply_told, tables_told};
+ghost use Rattle.mv_run.specs.Results.{reply_of, tables_of};
 
 use mv_record::applying::apply_all;
 use mv_record::record::Record;
@@ -43,7 +43,7 @@ fn lines_of(alloc: Global, records: &[Record]) -> Result<List<Txt>, NoMemory>
 
 /// Returns the reply of a call with these records: their lines, or only its end.
 pub(crate) fn reply_of(alloc: Global, records: &[Record]) -> Result<Reply, NoMemory>
-    ensures { IfOk result (λ reply. reply ≡ reply_told records.now) }
+    ensures { IfOk result (λ reply. reply ≡ reply_of records.now) }
 {
     match end_of(records) {
         Some(end) => Ok(Reply {
@@ -74,7 +74,7 @@ pub(crate) fn commit(
     database: &mut Database,
     records: &[Record],
 ) -> Result<(), NoMemory>
-    ensures { OnOk result (database.new ≡ tables_told records.now database.old) }
+    ensures { OnOk result (database.new ≡ tables_of records.now database.old) }
 {
     match end_of(records) {
         Some(_) => Ok(()),

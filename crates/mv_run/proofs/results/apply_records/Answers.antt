@@ -2,7 +2,7 @@ use Rattle.std.proofs.Common.{sym, ap, ◌∙◌, drop, ◌+◌}
 use Rattle.mv_values.specs.Patching.{applied}
 use Rattle.mv_record.specs.Runs.{writes_in}
 use Rattle.mv_run.proofs.Telling.{applied_behind}
-use Rattle.mv_run.proofs.told.apply_records.Goals as goal
+use Rattle.mv_run.proofs.results.apply_records.Goals as goal
 
 pub loop-record-preserved : goal.loop-record-preserved
 loop-record-preserved c =

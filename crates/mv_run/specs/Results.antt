@@ -11,13 +11,13 @@ reply_with None rs = record { lines = lines_in rs; end = None }
 reply_with (Some e) rs = record { lines = []; end = Some e }
 
 -- the lines of the records. If a record has an end, that end and no lines
-abbrev pub reply_told : List Record → Reply
-reply_told rs = reply_with (end_in rs) rs
+abbrev pub reply_of : List Record → Reply
+reply_of rs = reply_with (end_in rs) rs
 
 abbrev pub tables_with : Option End → List Record → Tables → Tables
 tables_with None rs db = applied (writes_in rs) db
 tables_with (Some e) rs db = db
 
 -- the database with the changes of the records. If a record has an end, the database as before
-abbrev pub tables_told : List Record → Tables → Tables
-tables_told rs db = tables_with (end_in rs) rs db
+abbrev pub tables_of : List Record → Tables → Tables
+tables_of rs db = tables_with (end_in rs) rs db
