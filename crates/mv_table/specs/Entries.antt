@@ -1,4 +1,4 @@
--- The entries of a map by key, in key order.
+-- Defines the entries of a map by key, in key order.
 use Rattle.std.specs.Prelude.{◌≡◌, List, [], ◌∷◌, ◌++◌, Option, Some, None, AllPairs, if◌then◌else◌, map}
 use Rattle.std.specs.Ordering.{is_eq}
 use Rattle.std.specs.declared.cmp.Ordering.{Ordering}
@@ -42,6 +42,6 @@ picked f (e ∷ es) = alone_at e.0 (f e.1) ++ picked f es
 abbrev pub stored : List (List Value × List Value) → List Keyed
 stored es = map (λ e. record { key = e.0; row = e.1 }) es
 
--- the row that an entry of a table lends, with its key
+-- the row that an entry of a table borrows, with its key
 abbrev pub seen : Entry → Keyed
 seen e = record { key = e.key.now; row = e.row.now }

@@ -1,4 +1,4 @@
--- Spans of keys, and which one tests leave. The rule is this project's own.
+-- Defines spans of keys, and which span covers tests. The rule is this project's own.
 use Rattle.std.specs.Prelude.{◌≡◌, ◌<◌, ℕ, Bool, true, false, not, ◌&&◌, ◌==◌, List, Option, Some, None, length, pos, slice_index_or}
 use Rattle.std.specs.List.{list_all, filter, All}
 use Rattle.std.specs.Ordering.{is_le, is_gt}
@@ -40,11 +40,11 @@ Admits tests key = list_all (agrees key) tests ≡ true
 abbrev pub Covers : List Test → Span → Type 0
 Covers tests span = (key : List Value) → Admits tests key → is_within span key ≡ true
 
--- a test of rows that looks no further than keys that the tests admit finds in a part what it finds in all rows
+-- a predicate that holds only of rows whose keys the tests admit selects the same rows from the part as from all rows
 abbrev pub FindsAll : List Test → List Keyed → List Keyed → Type 0
 FindsAll tests rows part = (p : Keyed → Bool) → All (λ item. p item ≡ true → Admits tests item.key) rows → filter p part ≡ filter p rows
 
--- a key has these values in its first columns, where one that it doesn't have counts as 0
+-- a key has these values in its first columns; a missing column counts as 0
 abbrev pub Agrees : List Value → List Value → Type 0
 Agrees key front = (i : ℕ) → i < length front → column_of key i ≡ slice_index_or front i (Int (pos 0))
 

@@ -20,15 +20,15 @@ use std::marker::Model;
 use std::mem;
 use std::ops::Bound;
 
-/// What changes the items of a map in place, and leaves some of them out.
+/// A function that changes the items of a map in place, and decides which of them stay.
 pub trait Change<T> {
     /// What is left of an item.
     ghost left: { Self → T → Option T };
 
-    /// What the change tells of an item.
+    /// What holds of an item that was changed.
     ghost told: { Self → T → Type 0 };
 
-    /// Changes an item, and answers whether it stays. It takes no memory.
+    /// Changes an item, and returns whether it stays. It allocates no memory.
     fn change(&self, item: &mut T) -> bool
         ensures left { (if result then Some item.new else None) ≡ left self.now item.old }
         ensures told { told self.now item.old };
@@ -50,7 +50,7 @@ impl<T> Model for KeyMap<T> {
 }
 
 impl<T> KeyMap<T> {
-    /// No items. It takes no memory.
+    /// Returns a map without items. It allocates no memory.
     pub fn new(alloc: Global) -> KeyMap<T>
         ensures { result ≡ [] }
     {
@@ -59,7 +59,7 @@ impl<T> KeyMap<T> {
         }
     }
 
-    /// How many items there are.
+    /// Returns the number of items.
     pub fn len(&self) -> usize
         ensures len { result ≡ length self.now }
         ensures rising { KeysRise self.now }
@@ -67,14 +67,14 @@ impl<T> KeyMap<T> {
         self.entries.len()
     }
 
-    /// The item under a key. It costs the logarithm of the number of items.
+    /// Returns the item under a key. Takes time logarithmic in the number of items.
     pub fn get(&self, key: &Key) -> Option<&T>
         ensures { option_copied result ≡ item_of self.now key.now }
     {
         self.entries.get(key)
     }
 
-    /// The entries, in key order.
+    /// Iterates over the entries, in key order.
     pub fn iter(&self) -> Iter<'_, Key, T>
         ensures items { result ≡ self.now }
         ensures rising { KeysRise self.now }
@@ -82,7 +82,8 @@ impl<T> KeyMap<T> {
         self.entries.iter()
     }
 
-    /// The entries whose keys are in the span, in key order. It costs the logarithm of the number of items.
+    /// Iterates over the entries whose keys are in the span, in key order. It finds the first one in time logarithmic
+    /// in the number of items.
     pub fn range(&self, span: &Span) -> Range<'_, Key, T>
         requires { IsForward span.now }
         ensures items { result ≡ filter (λ e. is_within span.now e.0) self.now }
@@ -99,7 +100,8 @@ impl<T> KeyMap<T> {
 impl<T> KeyMap<T> {
     ghost use Rattle.mv_table.specs.Lending.{LendsItem};
 
-    /// Lends the item under a key, to be changed in place. It costs the logarithm of the number of items, and takes no memory.
+    /// Returns a mutable reference to the item under a key. Takes time logarithmic in the number of items, and
+    /// allocates no memory.
     pub fn get_mut(&mut self, key: &Key) -> Option<&mut T>
         ensures* lends { sem 𝓛 (LendsItem T.row self.entry key.now result) }
         ensures item { option_copied_mut result ≡ item_of self.old key.now }
@@ -107,8 +109,8 @@ impl<T> KeyMap<T> {
         self.entries.get_mut(key)
     }
 
-    /// Puts an item in the place of the one under a key, which is handed out; where there is none, nothing changes. It
-    /// costs the logarithm of the number of items, and takes no memory.
+    /// Replaces the item under a key, and returns the old one. If there is none, the map is unchanged and the given
+    /// item is returned as the error. Takes time logarithmic in the number of items, and allocates no memory.
     pub fn replace(&mut self, key: &Key, item: T) -> Result<T, T>
         ensures items { OnOk result (self.new ≡ with_item key.now (Some item) self.old) }
         ensures at { OnOk result ((other : List Value) → item_of self.new other ≡ (if is_eq (key_order key.now other) then Some item else item_of self.old other)) }
@@ -124,8 +126,8 @@ impl<T> KeyMap<T> {
 }
 
 impl<T: Drop> KeyMap<T> {
-    /// Puts an item under a key, in the place of one that stands there, which is handed out. It costs the logarithm of
-    /// the number of items.
+    /// Puts an item under a key, and returns the old one if there was one. Takes time logarithmic in the number of
+    /// items. If memory runs out, the map is unchanged.
     pub fn put(&mut self, key: Key, item: T) -> Result<Option<T>, NoMemory>
         ensures ok { OnOk result (self.new ≡ with_item key (Some item) self.old) }
         ensures at { OnOk result ((other : List Value) → item_of self.new other ≡ (if is_eq (key_order key other) then Some item else item_of self.old other)) }
@@ -137,7 +139,8 @@ impl<T: Drop> KeyMap<T> {
         Ok(was)
     }
 
-    /// Takes the item under a key out. It costs the logarithm of the number of items, and takes no memory.
+    /// Removes the item under a key and returns it. Takes time logarithmic in the number of items, and allocates no
+    /// memory.
     pub fn take(&mut self, key: &Key) -> Option<T>
         ensures items { self.new ≡ with_item key.now None self.old }
         ensures at { (other : List Value) → item_of self.new other ≡ (if is_eq (key_order key.now other) then None else item_of self.old other) }
@@ -147,7 +150,7 @@ impl<T: Drop> KeyMap<T> {
         self.entries.remove(key)
     }
 
-    /// Changes every item in place, and takes those out that don't stay. It takes no memory.
+    /// Changes every item in place, and removes those that don't stay. It allocates no memory.
     pub fn change_all<C: Change<T>>(&mut self, change: &C)
         ensures items { self.new ≡ picked (C.left change.now) self.old }
         ensures told { (key : List Value) → IfSome (item_of self.old key) (C.told change.now) }
@@ -156,7 +159,7 @@ impl<T: Drop> KeyMap<T> {
         self.entries.retain(|_key, item| change.change(item));
     }
 
-    /// Hands the entries out, in key order.
+    /// Turns the map into an iterator over its entries, in key order.
     pub fn into_entries(self) -> IntoIter<Key, T, Global>
         ensures items { result ≡ self }
         ensures rising { KeysRise self }

@@ -1,4 +1,4 @@
-//! Maps and tables by key: stored rows in key order, and the span of keys that tests leave to look at.
+//! Maps and tables by key: stored rows in key order, and the span of keys that can satisfy tests.
 #![tactic(auto)]
 
 pub mod key_map;

@@ -1,4 +1,4 @@
-//! The span of keys that tests leave to look at.
+//! The span of keys that can satisfy tests.
 
 ghost use Rattle.std.specs.Prelude.{◌≡◌, not, ◌++◌, ◌∷◌, [], ◌≤◌, true, false, pos, List, length, slice_range, IfOk, IfSome};
 ghost use Rattle.std.specs.List.{filter, All};
@@ -25,14 +25,14 @@ use mv_values::txt::Txt;
 use mv_values::value::{Key, Value, compare_keys};
 use std::alloc::Global;
 
-/// The keys from `low` on and below `high`, or all of them from `low` on.
+/// The keys from `low` on and below `high`. Without `high` the span has no end.
 #[derive(Drop)]
 pub struct Span {
     pub low: Key,
     pub high: Option<Key>,
 }
 
-/// From which side a test bounds a value: `=` from both.
+/// The side from which a test bounds a value. `=` bounds it from both.
 #[derive(Clone, Copy)]
 enum Side {
     Both,
@@ -56,7 +56,7 @@ impl Side {
     }
 }
 
-/// Whether it is this place of the key.
+/// Whether a test's place in the key is this one.
 fn is_place(key_place: Option<u8>, place: usize) -> bool
     ensures { result ≡ is_place key_place place }
 {
@@ -66,7 +66,7 @@ fn is_place(key_place: Option<u8>, place: usize) -> bool
     }
 }
 
-/// The first test on a place of the key that bounds its value from this side.
+/// Returns the first test on a place of the key that bounds its value from this side.
 fn test_at(tests: &[Test], place: usize, side: Side) -> Option<&Test>
     ensures side { IfSome result (λ test. bounds side test.now.op ≡ true) }
     ensures holds { IfSome result (λ test. HoldsAt tests.now place test.now) }
@@ -79,7 +79,7 @@ fn test_at(tests: &[Test], place: usize, side: Side) -> Option<&Test>
     None
 }
 
-/// The values that the tests give the first columns of the key by `=`.
+/// Returns the values that `=` gives the first columns of the key.
 fn first_values(alloc: Global, tests: &[Test]) -> Result<List<Value>, NoMemory>
     ensures { IfOk result (λ front. (key : List Value) → Admits tests.now key → Agrees key front) }
 {
@@ -93,7 +93,7 @@ fn first_values(alloc: Global, tests: &[Test]) -> Result<List<Value>, NoMemory>
     Ok(front)
 }
 
-/// A value above this one and all below it.
+/// Returns a value above this one.
 fn value_above(alloc: Global, value: &Value) -> Result<Value, NoMemory>
     ensures { IfOk result (λ above. (v : Value) → is_le (value_order v value.now) ≡ true → value_order v above ≡ Less) }
 {
@@ -110,7 +110,7 @@ fn value_above(alloc: Global, value: &Value) -> Result<Value, NoMemory>
     }
 }
 
-/// The least value that a test leaves. Of a text it is too low by the text itself, where the test is `>`.
+/// Returns a lower bound of the values that pass a test. For `>` on a text it is the text itself.
 fn least_of(alloc: Global, test: &Test) -> Result<Value, NoMemory>
     requires { bounds Low test.now.op ≡ true }
     ensures { IfOk result (λ least. (v : Value) → allows test.now v ≡ true → is_lt (value_order v least) ≡ false) }
@@ -121,7 +121,7 @@ fn least_of(alloc: Global, test: &Test) -> Result<Value, NoMemory>
     }
 }
 
-/// A value above all that a test leaves.
+/// Returns a value above all those that pass a test.
 fn end_of(alloc: Global, test: &Test) -> Result<Value, NoMemory>
     requires { bounds High test.now.op ≡ true }
     ensures { IfOk result (λ end'. (v : Value) → allows test.now v ≡ true → value_order v end' ≡ Less) }
@@ -133,7 +133,7 @@ fn end_of(alloc: Global, test: &Test) -> Result<Value, NoMemory>
     }
 }
 
-/// Copies of these values.
+/// Copies these values.
 fn copies(alloc: Global, values: &[Value]) -> Result<Key, NoMemory>
     ensures { IfOk result (λ key. key ≡ values.now) }
 {
@@ -144,7 +144,7 @@ fn copies(alloc: Global, values: &[Value]) -> Result<Key, NoMemory>
     Ok(key)
 }
 
-/// Copies of these values, and one more behind them.
+/// Copies these values, and adds one more at the end.
 fn key_with(alloc: Global, front: &[Value], last: Value) -> Result<Key, NoMemory>
     ensures { IfOk result (λ key. key ≡ front.now ++ last ∷ []) }
 {
@@ -153,7 +153,7 @@ fn key_with(alloc: Global, front: &[Value], last: Value) -> Result<Key, NoMemory
     Ok(key)
 }
 
-/// A key above all that begin with these values, where there is a value.
+/// Returns a key above all that begin with these values, or none if there are no values.
 fn key_above(alloc: Global, front: &[Value]) -> Result<Option<Key>, NoMemory>
     ensures { IfOk result (λ high. (key : List Value) → Agrees key front.now → is_past high key ≡ false) }
 {
@@ -166,7 +166,7 @@ fn key_above(alloc: Global, front: &[Value]) -> Result<Option<Key>, NoMemory>
     }
 }
 
-/// A key above all that the tests admit, where the tests bound one from above.
+/// Returns a key above all that the tests admit, or none if the tests set no upper bound.
 fn high_end(alloc: Global, tests: &[Test], front: &[Value]) -> Result<Option<Key>, NoMemory>
     ensures { IfOk result (λ high. (key : List Value) → Admits tests.now key → Agrees key front.now → is_past high key ≡ false) }
 {
@@ -179,7 +179,7 @@ fn high_end(alloc: Global, tests: &[Test], front: &[Value]) -> Result<Option<Key
     }
 }
 
-/// Drops numbers 0 from the end: a key may end before them, since a column that it doesn't have counts as 0.
+/// Drops zeros from the end. A key may end before them, since a missing column counts as 0.
 fn without_last_zeros(front: List<Value>) -> List<Value>
     ensures { (key : List Value) → Agrees key front → is_le (key_order result key) ≡ true }
 {
@@ -194,7 +194,7 @@ fn without_last_zeros(front: List<Value>) -> List<Value>
     front
 }
 
-/// The least value above 0 that the tests leave at a place of the key, where they bound it so.
+/// Returns a lower bound above 0 of the values that the tests admit at a place of the key, if they set one.
 fn least_at(alloc: Global, tests: &[Test], place: usize) -> Result<Option<Value>, NoMemory>
     ensures least { IfOk result (λ least. IfSome least (λ v. (key : List Value) → Admits tests.now key → is_lt (value_order (column_of key place) v) ≡ false)) }
     ensures above { IfOk result (λ least. IfSome least (λ v. value_order (Int (pos 0)) v ≡ Less)) }
@@ -210,7 +210,7 @@ fn least_at(alloc: Global, tests: &[Test], place: usize) -> Result<Option<Value>
     }
 }
 
-/// A key that is above none that the tests admit.
+/// Returns a key that isn't above any that the tests admit.
 fn low_end(alloc: Global, tests: &[Test], front: List<Value>) -> Result<Key, NoMemory>
     ensures { IfOk result (λ low. (key : List Value) → Admits tests.now key → Agrees key front → is_le (key_order low key) ≡ true) }
 {
@@ -225,7 +225,7 @@ fn low_end(alloc: Global, tests: &[Test], front: List<Value>) -> Result<Key, NoM
 }
 
 impl Span {
-    /// The span from one key to another, or no key at all where the first is above the second.
+    /// Returns the span from one key to another. It is empty if the first is above the second.
     fn between(alloc: Global, low: Key, high: Option<Key>) -> Result<Span, NoMemory>
         ensures forward { IfOk result IsForward }
         ensures same { IfOk result (λ span. (key : List Value) → is_le (key_order low key) ≡ true → is_past high key ≡ false → is_within span key ≡ true) }
@@ -239,9 +239,9 @@ impl Span {
         Ok(Span { low, high })
     }
 
-    /// The keys that these tests leave to look at: those with the values that `=` gives the first columns of the key,
-    /// and on the key column after these within what `<`, `<=`, `>` and `>=` leave. Each key that the tests admit is
-    /// among them. It costs the size of these values, and the number of tests for each.
+    /// Returns a span that contains each key that the tests admit. `=` fixes the first columns of the key. `<`, `<=`,
+    /// `>` and `>=` bound the key column after these. Takes time linear in the size of these values, and in the number
+    /// of tests for each.
     pub fn of(alloc: Global, tests: &[Test]) -> Result<Span, NoMemory>
         ensures covers { IfOk result (Covers tests.now) }
         ensures forward { IfOk result IsForward }
@@ -262,7 +262,8 @@ impl Span {
         }
     }
 
-    /// The rows whose keys are in the span. It costs the logarithm of the number of rows.
+    /// Returns the rows whose keys are in the span. The rows must be in key order. Takes time logarithmic in their
+    /// number.
     pub fn part<'a>(&self, rows: &'a [Keyed]) -> &'a [Keyed]
         requires forward { IsForward self.now }
         requires rising { IsRising rows.now }
@@ -283,7 +284,7 @@ impl Span {
     }
 }
 
-/// The rows from one place up to another.
+/// Returns the rows from one place up to another.
 fn part(rows: &[Keyed], from: usize, to: usize) -> &[Keyed]
     requires order { from ≤ to }
     requires within { to ≤ length rows.now }

@@ -18,14 +18,14 @@ use mv_values::value::{Key, Row};
 use std::alloc::Global;
 use std::marker::Model;
 
-/// A row of a table with its key, both lent.
+/// A row of a table with its key, both borrowed.
 #[derive(Clone, Copy)]
 pub struct Entry<'a> {
     pub key: &'a Key,
     pub row: &'a Row,
 }
 
-/// What is seen as a row with its key.
+/// A value that can be read as a row with its key.
 pub trait Stored {
     ghost use Rattle.mv_values.specs.declared.rows.Keyed.{Keyed};
 
@@ -85,7 +85,7 @@ impl Model for Table {
 pub type Tables = List<Table>;
 
 impl Table {
-    /// No rows. It takes no memory.
+    /// Returns a table without rows. It allocates no memory.
     pub fn new(alloc: Global) -> Table
         ensures { result ≡ [] }
     {
@@ -94,7 +94,7 @@ impl Table {
         }
     }
 
-    /// How many rows there are.
+    /// Returns the number of rows.
     pub fn len(&self) -> usize
         ensures len { result ≡ length self.now }
         ensures rising { IsRising self.now }
@@ -102,15 +102,15 @@ impl Table {
         self.rows.len()
     }
 
-    /// The row under a key. It costs the logarithm of the number of rows.
+    /// Returns the row under a key. Takes time logarithmic in the number of rows.
     pub fn get(&self, key: &Key) -> Option<&Row>
         ensures { option_copied result ≡ row_of self.now key.now }
     {
         self.rows.get(key)
     }
 
-    /// Puts a row under a key, in the place of one that stands there, which is handed out. It costs the logarithm of
-    /// the number of rows, and moves none.
+    /// Puts a row under a key, and returns the old one if there was one. Takes time logarithmic in the number of rows,
+    /// and moves none of them. If memory runs out, the table is unchanged.
     pub fn put(&mut self, key: Key, row: Row) -> Result<Option<Row>, NoMemory>
         ensures ok { OnOk result (self.new ≡ placed key (Some row) self.old) }
         ensures was { IfOk result (λ was. was ≡ row_of self.old key) }
@@ -120,8 +120,8 @@ impl Table {
         Ok(was)
     }
 
-    /// Puts a row in the place of the one under a key, which is handed out; where there is none, nothing changes. It
-    /// costs the logarithm of the number of rows, and takes no memory.
+    /// Replaces the row under a key, and returns the old one. If there is none, the table is unchanged and the given
+    /// row is returned as the error. Takes time logarithmic in the number of rows, and allocates no memory.
     pub fn replace(&mut self, key: &Key, row: Row) -> Result<Row, Row>
         ensures rows { OnOk result (self.new ≡ placed key.now (Some row) self.old) }
         ensures was { IfOk result (λ was. row_of self.old key.now ≡ Some was) }
@@ -131,7 +131,8 @@ impl Table {
         self.rows.replace(key, row)
     }
 
-    /// Takes the row under a key out. It costs the logarithm of the number of rows, moves none and takes no memory.
+    /// Removes the row under a key and returns it. Takes time logarithmic in the number of rows, moves none of them and
+    /// allocates no memory.
     pub fn take(&mut self, key: &Key) -> Option<Row>
         ensures rows { self.new ≡ placed key.now None self.old }
         ensures was { result ≡ row_of self.old key.now }
@@ -139,7 +140,8 @@ impl Table {
         self.rows.take(key)
     }
 
-    /// The rows whose keys are in the span, in key order. It costs the logarithm of the number of rows, and these rows.
+    /// Returns the rows whose keys are in the span, in key order. Takes time logarithmic in the number of rows, and
+    /// linear in the number of rows returned.
     pub fn part(&self, alloc: Global, span: &Span) -> Result<Vec<Entry<'_>>, NoMemory>
         requires { IsForward span.now }
         ensures rows { IfOk result (λ part. map seen part.items ≡ filter (λ item. is_within span.now item.key) self.now) }
@@ -152,7 +154,7 @@ impl Table {
         Ok(part)
     }
 
-    /// A table of copies of rows. It costs the logarithm of the number of rows for each.
+    /// Copies rows into a new table. Takes time logarithmic in the number of rows for each row.
     pub fn of(alloc: Global, rows: &Rows) -> Result<Table, NoMemory>
         ensures { IfOk result (λ table. table ≡ rows.now) }
     {
@@ -164,7 +166,7 @@ impl Table {
         Ok(table)
     }
 
-    /// The rows as a list.
+    /// Turns the table into a list of its rows.
     pub fn into_rows(self, alloc: Global) -> Result<Rows, NoMemory>
         ensures { IfOk result (λ rows. rows ≡ self) }
     {
