@@ -1,4 +1,4 @@
--- How versions are kept: the newest row, and for each commit what takes it back.
+-- Defines how versions are stored: the newest row, and for each commit what undoes it.
 use Rattle.std.specs.Prelude.{◌==◌, ◌<◌, ⊤, ℕ, List, [], ◌∷◌, Option, Some, None, slice_set, nat_le, if◌then◌else◌}
 use Rattle.std.specs.Option.{option_map}
 use Rattle.mv_values.specs.declared.value.Value.{Value}
@@ -18,7 +18,7 @@ abbrev pub item_on : ℕ → List Assign → Option Value
 item_on c [] = None
 item_on c (a ∷ as') = if a.column == c then Some a.value else item_on c as'
 
--- the row before a patch was done, from what takes it back
+-- the row before a patch, given what undoes the patch
 abbrev pub undone : Patch → Option (List Value) → Option (List Value)
 undone (Insert row) now = Some row
 undone (Set items) now = option_map (set_back items) now
@@ -29,7 +29,7 @@ abbrev pub before : List Undo → Option (List Value) → Option (List Value)
 before [] now = now
 before (u ∷ us) now = undone u.patch (before us now)
 
--- each of these commits with the row that it left
+-- each of these commits with the row after it
 abbrev pub commits_of : List Undo → Option (List Value) → List Commit
 commits_of [] now = []
 commits_of (u ∷ us) now = record { number = u.commit; row = before us now } ∷ commits_of us now

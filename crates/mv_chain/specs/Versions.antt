@@ -1,5 +1,5 @@
--- The versions of a row: what commits left of it, and the patches of calls that have not committed. That versions are patches of
--- columns, and that a patch sees the row as of its commit, is this project's own rule.
+-- Defines the versions of a row: the row after each commit, and the patches of calls that have not committed. That
+-- versions are patches of columns, and that a patch sees the row as of its commit, is this project's own rule.
 use Rattle.std.specs.Prelude.{◌<◌, ◌==◌, ◌++◌, ◌&&◌, ◌∷◌, ℕ, Bool, not, length, nat_le, nat_lt, if◌then◌else◌, List, [], All, Option, Some, None}
 use Rattle.std.specs.Option.{is_some}
 use Rattle.std.specs.List.{filter}
@@ -9,12 +9,13 @@ use Rattle.mv_values.specs.declared.patch.Patch.TheVariants.{Insert, Set, Delete
 use Rattle.mv_values.specs.Patching.{with_columns, patched}
 use Rattle.mv_chain.specs.declared.pending.Pending.{Pending}
 
--- a commit, and the row that it left
+-- a commit, and the row after it
 pub record Commit : Type 0 where
   pub number : ℕ
   pub row : Option (List Value)
 
--- the row before all commits that are kept, those commits by rising number, and at most one patch for each call that has not committed
+-- the row before all stored commits, those commits by rising number, and at most one patch for each call that has not
+-- committed
 pub record Versions : Type 0 where
   pub base : Option (List Value)
   pub commits : List Commit
@@ -30,7 +31,7 @@ is_blank v = (length v.commits == 0) && (length v.own == 0) && not (is_some v.ba
 
 -- Rows
 
--- the row that the last commit up to n left
+-- the row after the last commit up to n
 abbrev pub row_after : ℕ → Option (List Value) → List Commit → Option (List Value)
 row_after n row [] = row
 row_after n row (c ∷ cs) = if nat_le c.number n then row_after n c.row cs else row
@@ -39,7 +40,7 @@ row_after n row (c ∷ cs) = if nat_le c.number n then row_after n c.row cs else
 abbrev pub row_at : Versions → ℕ → Option (List Value)
 row_at v n = row_after n v.base v.commits
 
--- the row that the last commit left
+-- the row after the last commit
 abbrev pub newest_of : Option (List Value) → List Commit → Option (List Value)
 newest_of row [] = row
 newest_of row (c ∷ cs) = newest_of c.row cs
@@ -57,7 +58,7 @@ abbrev pub own_of : ℕ → List Pending → Option Patch
 own_of call [] = None
 own_of call (p ∷ ps) = if p.call == call then Some p.patch else own_of call ps
 
--- a row with a call's patch done, where it has one
+-- a row with a call's patch applied, if it has one
 abbrev pub patched_by_own : Option Patch → Option (List Value) → Option (List Value)
 patched_by_own None row = row
 patched_by_own (Some patch) row = patched patch row
@@ -73,14 +74,14 @@ joined (Set earlier) (Set items) = Set (earlier ++ items)
 joined Delete (Set items) = Delete
 joined first Delete = Delete
 
--- with a patch more of a call, after the call's own
+-- one more patch of a call, applied after the call's own
 abbrev pub with_own : ℕ → Patch → List Pending → List Pending
 with_own call patch [] = record { call = call; patch = patch } ∷ []
 with_own call patch (p ∷ ps) = if p.call == call then record p { patch = joined p.patch patch } ∷ ps else p ∷ with_own call patch ps
 
 -- Calls of chains
 
--- the call's patch is commit n, where it has one
+-- the call's patch becomes commit n, if it has one
 abbrev pub stamped_by : Option Patch → ℕ → ℕ → Versions → Versions
 stamped_by None call n v = v
 stamped_by (Some patch) call n v = record v { commits = v.commits ++ record { number = n; row = patched patch (newest v) } ∷ []; own = without call v.own }
@@ -88,6 +89,6 @@ stamped_by (Some patch) call n v = record v { commits = v.commits ++ record { nu
 abbrev pub stamped : ℕ → ℕ → Versions → Versions
 stamped call n v = stamped_by (own_of call v.own) call n v
 
--- the row after low commits is the base, and the later commits are left
+-- the row after commit low becomes the base, and only the later commits stay
 abbrev pub collected : ℕ → Versions → Versions
 collected low v = record v { base = row_at v low; commits = filter (λ c. nat_lt low c.number) v.commits }

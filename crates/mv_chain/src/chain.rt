@@ -19,8 +19,8 @@ use std::alloc::Global;
 use std::marker::Model;
 use std::mem;
 
-/// The versions of a row: the row after each commit since the last collection, and the patches of calls that have not committed. One
-/// without old versions takes its row and the room of two empty lists.
+/// The versions of a row: the row after each commit since the last collection, and the patches of calls that have not
+/// committed. A chain without old versions takes the memory of its row and of two empty lists.
 #[derive(Drop)]
 pub struct Chain {
     row: Option<Row>,
@@ -42,7 +42,7 @@ impl Model for Chain {
 }
 
 impl Chain {
-    /// The versions of a row, or of none, before any commit. It takes no memory.
+    /// Returns the versions of a row, or of none, before any commit. It allocates no memory.
     pub fn new(alloc: Global, base: Option<Row>) -> Chain
         ensures { result ≡ record { base = base; commits = []; own = [] } }
     {
@@ -53,15 +53,15 @@ impl Chain {
         }
     }
 
-    /// The row that the last commit left, where there is one.
+    /// Returns the row after the last commit, if there is one.
     pub fn newest(&self) -> Option<&Row>
         ensures { option_copied result ≡ newest self.now }
     {
         self.row.as_ref()
     }
 
-    /// A copy of the row after n commits, where there is one. It costs the size of the row, the logarithm of the number of commits,
-    /// and the patches of those after n.
+    /// Returns a copy of the row after commit n, if there is one. Takes time linear in the size of the row and of the
+    /// patches after n, and logarithmic in the number of commits.
     pub fn row_at(&self, alloc: Global, n: u32) -> Result<Option<Row>, NoMemory>
         ensures { IfOk result (λ row. row ≡ row_at self.now n) }
     {
@@ -75,8 +75,8 @@ impl Chain {
         Ok(row)
     }
 
-    /// A copy of the row after n commits, where there is one and the predicate matches it. At the newest number it copies no other
-    /// row; else it costs what `row_at` does.
+    /// Returns a copy of the row after commit n, if there is one and the predicate matches it. At the newest number it
+    /// copies the row only if it matches. Otherwise it takes as long as `row_at`.
     pub fn found_at(&self, alloc: Global, n: u32, pred: &Pred) -> Result<Option<Row>, NoMemory>
         ensures { IfOk result (λ row. row ≡ matched pred.now (row_at self.now n)) }
     {
@@ -87,8 +87,8 @@ impl Chain {
         Ok(only_match(row, pred))
     }
 
-    /// Whether there is a row after n commits. It costs the logarithm of the number of commits, and those after n up to the first that
-    /// inserts or deletes.
+    /// Whether there is a row after commit n. Takes time logarithmic in the number of commits, and linear in the number
+    /// of those after n.
     pub fn exists_at(&self, n: u32) -> bool
         ensures { result ≡ is_some (row_at self.now n) }
     {
@@ -96,8 +96,8 @@ impl Chain {
         stood_before(&self.undos[first..], self.row.as_ref())
     }
 
-    /// Lends the value of a column after n commits, where there is a row. It costs the logarithm of the number of commits, and those
-    /// after n up to the first that sets the column.
+    /// Returns the value of a column after commit n, if there is a row. Takes time logarithmic in the number of
+    /// commits, and linear in the number and size of the patches after n, up to the first that sets the column.
     pub fn value_at(&self, n: u32, column: u8) -> Option<&Value>
         requires { IfSome (row_at self.now n) (λ row. column < length row) }
         ensures { option_copied result ≡ option_and_then (λ row. slice_get row column) (row_at self.now n) }
@@ -142,14 +142,15 @@ impl Chain {
         }
     }
 
-    /// Whether all commits have smaller numbers, so that n can be stamped. It takes constant time.
+    /// Whether all commits have numbers below n, so that `stamp` accepts n. Takes constant time.
     pub fn is_next(&self, n: u32) -> bool
         ensures { IsTrue result ↔ IsNext n self.now }
     {
         are_below(self.undos.as_slice(), n)
     }
 
-    /// Makes a call's patch commit n, where it has one; the number has to be above those of all commits. It takes no memory.
+    /// Turns a call's patch into commit n, if it has one. The number n must be above those of all commits. It allocates
+    /// no memory.
     pub fn stamp(&mut self, call: u32, n: u32)
         requires { OnSome (own_of call self.old.own) (IsNext n self.old) }
         ensures { self.new ≡ stamped call n self.old }
@@ -170,15 +171,15 @@ impl Chain {
         forget(&mut self.own, call);
     }
 
-    /// Drops a call's patch. It takes no memory.
+    /// Drops a call's patch. It allocates no memory.
     pub fn drop_of(&mut self, call: u32)
         ensures { self.new ≡ record self.old { own = without call self.old.own } }
     {
         forget(&mut self.own, call);
     }
 
-    /// Forgets the rows before commit `low`. Reads from `low` on stay as they were, and so do the patches that are not committed. It
-    /// takes no memory.
+    /// Drops the rows before commit `low`. Reads from `low` on and uncommitted patches are unaffected. It allocates no
+    /// memory.
     pub fn collect(&mut self, low: u32)
         ensures versions { self.new ≡ collected low self.old }
         ensures reads { (n : ℕ) → low ≤ n → row_at self.new n ≡ row_at self.old n }
@@ -197,7 +198,7 @@ fn are_blank(undos: &[Undo], own: &[Pending], row: Option<&Row>) -> bool
     undos.is_empty() && own.is_empty() && row.is_none()
 }
 
-/// A copy of a row, where there is one.
+/// Copies a row, if there is one.
 fn copy_of(alloc: Global, row: Option<&Row>) -> Result<Option<Row>, NoMemory>
     ensures { IfOk result (λ copy. copy ≡ option_copied row.entry) }
 {
@@ -207,7 +208,7 @@ fn copy_of(alloc: Global, row: Option<&Row>) -> Result<Option<Row>, NoMemory>
     }
 }
 
-/// A copy of a row, where there is one and the predicate matches it.
+/// Copies a row, if there is one and the predicate matches it.
 fn copy_of_match(alloc: Global, row: Option<&Row>, pred: &Pred) -> Result<Option<Row>, NoMemory>
     ensures { IfOk result (λ copy. copy ≡ matched pred.now (option_copied row.entry)) }
 {
@@ -217,7 +218,7 @@ fn copy_of_match(alloc: Global, row: Option<&Row>, pred: &Pred) -> Result<Option
     }
 }
 
-/// A row, where there is one and the predicate matches it.
+/// Returns the row, if there is one and the predicate matches it.
 fn only_match(row: Option<Row>, pred: &Pred) -> Option<Row>
     ensures { result ≡ matched pred.now row }
 {
@@ -227,7 +228,7 @@ fn only_match(row: Option<Row>, pred: &Pred) -> Option<Row>
     if pred.matches(&row) { Some(row) } else { None }
 }
 
-/// Adds an entry at the end, where there is room.
+/// Appends an entry. There must be room for it.
 fn push_within(undos: &mut Vec<Undo>, entry: Undo)
     requires { length undos.old.items < vec_capacity undos.old }
     ensures items { undos.new.items ≡ undos.old.items ++ entry ∷ [] }

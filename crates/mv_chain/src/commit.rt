@@ -1,4 +1,4 @@
-//! Does patches without taking memory, and keeps what takes them back.
+//! Applies patches in place, and keeps what undoes them.
 
 ghost use Rattle.std.specs.Prelude.{◌≡◌, ◌<◌, ◌++◌, Option, Some, List, OnOk, OnErr, length, slice_set, slice_index_or, option_map};
 ghost use Rattle.mv_values.specs.declared.patch.Assign.{Assign};
@@ -11,14 +11,14 @@ use mv_values::memory::NoMemory;
 use mv_values::patch::{Assign, Patch};
 use mv_values::value::{Row, Value};
 
-/// A row after a patch, and the patch that takes it back.
+/// A row after a patch, and the patch that undoes it.
 #[derive(Drop)]
 pub(crate) struct Done {
     pub(crate) row: Option<Row>,
     pub(crate) undo: Patch,
 }
 
-/// What stands for an item that is moved.
+/// Returns an item that fills the place of one that was moved out.
 fn placeholder() -> Assign {
     Assign {
         column: 0,
@@ -26,7 +26,7 @@ fn placeholder() -> Assign {
     }
 }
 
-/// Puts a value into a column, and hands the column's own one out. Where the row has no such column the value comes back.
+/// Replaces the value of a column and returns the old one. If the row has no such column, returns the given value.
 fn swap_column(row: &mut Row, column: u8, value: Value) -> Value
     ensures row { row.new ≡ slice_set row.old column value }
     ensures was { result ≡ slice_index_or row.old column value }
@@ -48,7 +48,7 @@ fn exchange(row: &mut Row, items: &mut Listed<Assign>, at: usize)
     items.set(at, Assign { column, value });
 }
 
-/// Sets columns of a row, in order, and leaves in the items what sets them back. It takes no memory.
+/// Sets columns of a row, in order. The items then hold what undoes this. It allocates no memory.
 pub(crate) fn set_columns(row: &mut Row, items: &mut Listed<Assign>)
     ensures row { row.new ≡ with_columns items.old row.old }
     ensures back { set_back items.new row.new ≡ row.old }
@@ -58,7 +58,7 @@ pub(crate) fn set_columns(row: &mut Row, items: &mut Listed<Assign>)
     }
 }
 
-/// The patch that brings a row back, or none.
+/// Returns the patch that restores a row, or its absence.
 fn bringing_back(row: Option<Row>) -> Patch
     ensures { (now : Option (List Value)) → undone result now ≡ row }
 {
@@ -68,7 +68,7 @@ fn bringing_back(row: Option<Row>) -> Patch
     }
 }
 
-/// Does a patch on a row, or on none. It takes no memory.
+/// Applies a patch to a row, or to none. It allocates no memory.
 pub(crate) fn do_patch(row: Option<Row>, patch: Patch) -> Done
     ensures row { result.row ≡ patched patch row }
     ensures back { undone result.undo result.row ≡ row }
@@ -105,7 +105,7 @@ fn done_on_columns(row: Option<Row>, items: Listed<Assign>) -> Done
     }
 }
 
-/// Adds items at the end. Where no memory is found the list is as before.
+/// Appends items to a list. If memory runs out, the list is unchanged.
 pub(crate) fn add_items(items: &mut Listed<Assign>, more: Listed<Assign>) -> Result<(), NoMemory>
     ensures ok { OnOk result (items.new ≡ items.old ++ more) }
     ensures err { OnErr result (items.new ≡ items.old) }

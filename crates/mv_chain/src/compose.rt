@@ -1,4 +1,4 @@
-//! Two patches as one.
+//! Joins two patches into one.
 
 ghost use Rattle.std.specs.Prelude.{◌≡◌, OnOk, OnErr};
 ghost use Rattle.mv_chain.specs.Versions.{joined};
@@ -7,7 +7,8 @@ use crate::commit::{add_items, set_columns};
 use mv_values::memory::NoMemory;
 use mv_values::patch::Patch;
 
-/// Has a patch do what it does and then what a second one does. Where no memory is found it is as before.
+/// Makes a patch do the work of both: first its own, then that of a second one. If memory runs out, the patch is
+/// unchanged.
 pub(crate) fn compose(first: &mut Patch, second: Patch) -> Result<(), NoMemory>
     ensures ok { OnOk result (first.new ≡ joined first.old second) }
     ensures err { OnErr result (first.new ≡ first.old) }

@@ -1,8 +1,8 @@
 //! The versions of a row.
 //!
-//! A chain keeps its newest row whole, and for each commit since the last collection what takes that commit back: the old values of
-//! the columns that it set, or the old row where it inserted or deleted. A read at the newest number takes the row as it stands. An
-//! older read takes back the commits after its number, and looks at no other.
+//! A chain stores its newest row whole. For each commit since the last collection it also stores what undoes that
+//! commit: the old values of the columns that it set, or the old row if it inserted or deleted. A read at the newest
+//! number returns the newest row. An older read undoes the commits after its number, and looks at no others.
 #![tactic(auto)]
 
 pub mod chain;

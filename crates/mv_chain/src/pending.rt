@@ -13,7 +13,7 @@ pub struct Pending {
     pub patch: Patch,
 }
 
-/// The place of a call's patch.
+/// Returns the place of a call's patch in the list.
 pub(crate) fn place_of(own: &[Pending], call: u32) -> Option<usize>
     ensures value { result ≡ position (λ p. p.call == call) own.now }
     ensures within { IfSome result (λ at. at < length own.now) }

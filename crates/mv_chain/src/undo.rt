@@ -1,4 +1,4 @@
-//! What takes commits back.
+//! Undoes commits.
 
 ghost use Rattle.std.specs.Prelude.{◌≡◌, ◌↔◌, ◌≤◌, ◌<◌, IsTrue, IfOk, All, List, Option, Some, drop, length, slice_get};
 ghost use Rattle.std.specs.Option.{is_some, option_copied};
@@ -11,14 +11,14 @@ use mv_values::patch::{Assign, Patch};
 use mv_values::value::{Row, Value};
 use std::alloc::Global;
 
-/// A commit's number, and the patch that takes it back. The items of a `Set` are done from the last to the first.
+/// A commit's number, and the patch that undoes it. The items of a `Set` are applied from the last to the first.
 #[derive(Drop)]
 pub struct Undo {
     pub commit: u32,
     pub patch: Patch,
 }
 
-/// The place of the first commit after n. It costs the logarithm of their number.
+/// Returns the place of the first commit after n. Takes time logarithmic in the number of commits.
 pub(crate) fn place_after(undos: &[Undo], n: u32) -> usize
     requires { Rises undos.now }
     ensures later { drop result undos.now ≡ later n undos.now }
@@ -27,7 +27,7 @@ pub(crate) fn place_after(undos: &[Undo], n: u32) -> usize
     undos.partition_point(|undo| undo.commit <= n)
 }
 
-/// Whether all commits have smaller numbers.
+/// Whether all commits have numbers below n.
 pub(crate) fn are_below(undos: &[Undo], n: u32) -> bool
     requires { Rises undos.now }
     ensures { (now : Option (List Val)) → IsTrue result ↔ All (λ c. c.number < n) (commits_of undos.now now) }
@@ -35,7 +35,7 @@ pub(crate) fn are_below(undos: &[Undo], n: u32) -> bool
     undos.is_empty() || undos[undos.len() - 1].commit < n
 }
 
-/// A row with columns set, from the last item to the first.
+/// Sets columns of a row, from the last item to the first.
 fn set_back(alloc: Global, row: Row, items: &[Assign]) -> Result<Row, NoMemory>
     ensures { IfOk result (λ new. new ≡ set_back items.now row) }
 {
@@ -51,7 +51,7 @@ fn set_back(alloc: Global, row: Row, items: &[Assign]) -> Result<Row, NoMemory>
     Ok(new)
 }
 
-/// The row before a commit, from the row after it. It costs the size of the patch.
+/// Returns the row before a commit, given the row after it. Takes time linear in the size of the patch.
 pub(crate) fn take_back(
     alloc: Global,
     row: Option<Row>,
@@ -83,7 +83,7 @@ pub(crate) fn stood_before(undos: &[Undo], now: Option<&Row>) -> bool
     now.is_some()
 }
 
-/// The value that the first item on a column has.
+/// Returns the value of the first item on a column.
 fn item_on(items: &[Assign], column: u8) -> Option<&Value>
     ensures { option_copied result ≡ item_on column items.now }
 {
@@ -95,15 +95,15 @@ fn item_on(items: &[Assign], column: u8) -> Option<&Value>
     None
 }
 
-/// The value of a column, where the row has it.
+/// Returns the value of a column, if the row has it.
 fn column_of(row: &Row, column: u8) -> Option<&Value>
     ensures { option_copied result ≡ slice_get row.now column }
 {
     row.as_slice().get(column as usize)
 }
 
-/// The value of a column before these commits, of a row that has the column. It stops at the first of them that set the column or
-/// deleted the row.
+/// Returns the value that a column had before these commits, if the row has the column. It stops at the first commit
+/// that set the column or deleted the row.
 pub(crate) fn value_before<'a>(
     undos: &'a [Undo],
     now: Option<&'a Row>,
