@@ -1,10 +1,10 @@
--- How events are written.
+-- Defines how events are written.
 use Rattle.std.specs.Prelude.{ℕ, ◌<◌, ◌^◌, List, [], ◌∷◌, ◌++◌, decimal, codes}
 use Rattle.std.specs.List.{flat_map}
 use Rattle.mv_journal.specs.declared.event.Event.{Event}
 use Rattle.mv_journal.specs.declared.event.Event.TheVariants.{B, S, A, M, C, X, G}
 
--- its letter, and but for a collection a space and the number of its call
+-- its letter, and except for a collection a space and the number of its call
 abbrev pub event_text : Event → List ℕ
 event_text (B call) = codes "B " ++ decimal call
 event_text (S call) = codes "S " ++ decimal call
@@ -18,7 +18,7 @@ event_text G = codes "G"
 abbrev pub events_text : List Event → List ℕ
 events_text events = flat_map (λ event. event_text event ++ 10 ∷ []) events
 
--- the number of its call has 32 bits
+-- the number of its call fits in 32 bits
 abbrev pub IsInRange : Event → Type 0
 IsInRange (B call) = call < 2 ^ 32
 IsInRange (S call) = call < 2 ^ 32

@@ -1,5 +1,5 @@
--- Which lines are events. The form is this project's own: a letter, and but for a collection one space and decimal digits, whose
--- number is the call's. Zeros may lead.
+-- Defines which lines are events. The form is this project's own: a letter, and except for a collection one space and
+-- the number of the call in decimal digits. Leading zeros are allowed.
 use Rattle.std.specs.Prelude.{◌≡◌, ◌+◌, ◌^◌, ◌<◌, ℕ, List, [], ◌∷◌, ◌++◌, length, codes}
 use Rattle.std.specs.Str.Parse.{IsNumeral, digits_value}
 use Rattle.mv_journal.specs.declared.event.Event.{Event}
@@ -7,11 +7,11 @@ use Rattle.mv_journal.specs.declared.event.Event.TheVariants.{B, S, A, M, C, X, 
 use Rattle.mv_journal.specs.declared.fault.LineFault.{LineFault}
 use Rattle.mv_journal.specs.declared.fault.LineFault.TheVariants.{Line, NoMemory}
 
--- decimal digits, at least one, whose number is this one of 32 bits
+-- decimal digits, at least one, for this number, which fits in 32 bits
 abbrev pub IsNumber : List ℕ → ℕ → Type 0
 IsNumber digits n = IsNumeral 10 digits × (digits_value 10 digits ≡ n) × (n < 2 ^ 32)
 
--- a front, and behind it the number of the call
+-- a prefix, and after it the number of the call
 abbrev pub IsNamed : List ℕ → ℕ → List ℕ → Type 0
 IsNamed front call line = (digits : List ℕ) × (line ≡ front ++ digits) × IsNumber digits call
 
@@ -32,7 +32,7 @@ AreEventLines [] (event ∷ events) = ⊥
 AreEventLines (line ∷ more) [] = ⊥
 AreEventLines (line ∷ more) (event ∷ events) = IsEventLine line event × AreEventLines more events
 
--- the line with this number is the first that is no event; lines count from 1
+-- the line with this number is the first that isn't an event; lines are counted from 1
 pub record IsFirstBad (all : List (List ℕ)) (number : ℕ) : Type 0 where
   pub front : List (List ℕ)
   pub events : List Event

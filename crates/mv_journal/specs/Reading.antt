@@ -1,4 +1,4 @@
--- The event that a line is, if it is one.
+-- Defines the event on a line, if the line is one.
 use Rattle.std.specs.Prelude.{◌^◌, ◌==◌, ◌&&◌, ℕ, Bool, if◌then◌else◌, List, [], ◌∷◌, Option, Some, None, length, nat_lt}
 use Rattle.std.specs.Option.{option_and_then}
 use Rattle.std.specs.Str.{all_ascii_digits}
@@ -6,7 +6,7 @@ use Rattle.std.specs.Str.Parse.{digits_value}
 use Rattle.mv_journal.specs.declared.event.Event.{Event}
 use Rattle.mv_journal.specs.declared.event.Event.TheVariants.{B, S, A, M, C, X, G}
 
--- decimal digits, at least one, and their number has 32 bits
+-- decimal digits, at least one, whose number fits in 32 bits
 abbrev pub is_number : List ℕ → Bool
 is_number digits = all_ascii_digits digits && (nat_lt 0 (length digits) && nat_lt (digits_value 10 digits) (2 ^ 32))
 

@@ -7,16 +7,16 @@ use itoa::Buffer;
 use mv_values::list::List;
 use mv_values::memory::NoMemory;
 
-/// An event. All but a collection name a call by its number.
+/// An event of a run. Each one except a collection names a call by its number.
 #[derive(Clone, Copy)]
 pub enum Event {
     /// A call begins.
     B(u32),
     /// A call runs a statement.
     S(u32),
-    /// A call is repaired at a new start.
+    /// A call is repaired from a new start.
     A(u32),
-    /// A call moves to a new start and runs whole.
+    /// A call moves to a new start and is executed again in full.
     M(u32),
     /// A call commits.
     C(u32),
@@ -26,8 +26,8 @@ pub enum Event {
     G,
 }
 
-/// Adds the text of an event at the end: its letter, and but for a collection a space and the number of its call. Where
-/// no memory is found the text may end with a part of it.
+/// Appends the text of an event: its letter, and except for a collection a space and the number of its call. If memory
+/// runs out, the text may end with a part of it.
 pub fn write_event(event: Event, text: &mut List<u8>) -> Result<(), NoMemory>
     ensures ok { OnOk result (text.new ≡ text.old ++ event_text event) }
     ensures err { OnErr result (take (length text.old) text.new ≡ text.old) }

@@ -1,13 +1,13 @@
-//! Why bytes are no journal.
+//! The reasons why a journal can't be read.
 
 use mv_values::memory::NoMemory;
 
-/// Why bytes are no journal.
+/// The reasons why a journal can't be read.
 #[derive(Clone, Copy)]
 pub enum LineFault {
-    /// The line is no event, and all before it are. Lines count from 1.
+    /// The line isn't an event, and all lines before it are. Lines are counted from 1.
     Line { n: u32 },
-    /// No memory was found.
+    /// Memory ran out.
     NoMemory,
 }
 

@@ -1,4 +1,4 @@
-//! Reads and writes a journal: a line for each event.
+//! Reads and writes a journal, which has one line for each event.
 
 ghost use Rattle.std.specs.Prelude.{◌≡◌, ◌⊎◌, ◌<◌, ◌^◌, ◌++◌, ℕ, List as Seq, length, take, OnOk, OnErr, IfOk, IfErr, Ok, Err};
 ghost use Rattle.std.specs.Str.Lines.{lines};
@@ -14,8 +14,9 @@ use mv_values::list::List;
 use mv_values::memory::NoMemory;
 use std::alloc::Global;
 
-/// The events of a journal, one on each line. A CR before an LF is dropped, and the last line may lack its LF. Or the first line that
-/// is no event. It costs the length of the bytes.
+/// Parses a journal with one event on each line. A CR before an LF is dropped, and the last line may lack its LF. Fails
+/// with `Line` at the first line that isn't an event, and with `NoMemory` if memory runs out. Takes time linear in the
+/// length of the bytes.
 pub fn read_journal(alloc: Global, bytes: &[u8]) -> Result<List<Event>, LineFault>
     requires { length bytes.now < 2 ^ 32 }
     ensures events { IfOk result (AreEventLines (lines bytes.now)) }

@@ -11,14 +11,14 @@ ghost use Rattle.mv_journal.specs.declared.event.Event.{Event};
 use crate::event::Event;
 use std::str;
 
-/// The first line of some bytes, without the LF or CR LF that ends it, and the bytes after it.
+/// The first line of a text, without the LF or CR LF that ends it, and the bytes after it.
 #[derive(Drop)]
 pub(crate) struct FirstLine<'a> {
     pub(crate) line: &'a [u8],
     pub(crate) after: &'a [u8],
 }
 
-/// Takes the first line off. The last line may lack its LF.
+/// Splits off the first line. The last line may lack its LF.
 pub(crate) fn first_line(bytes: &[u8]) -> FirstLine<'_>
     requires { 0 < length bytes.now }
     ensures lines { lines bytes.now ≡ result.line.now ∷ lines result.after.now }
@@ -36,7 +36,7 @@ pub(crate) fn first_line(bytes: &[u8]) -> FirstLine<'_>
     }
 }
 
-/// The place of the first LF.
+/// Returns the place of the first LF.
 fn end_of_line(bytes: &[u8]) -> Option<usize>
     ensures value { result ≡ position (λ b. b == 10) bytes.now }
     ensures within { IfSome result (λ at. at < length bytes.now) }
@@ -44,7 +44,7 @@ fn end_of_line(bytes: &[u8]) -> Option<usize>
     bytes.iter().position(|b| *b == b'\n')
 }
 
-/// A line without the one CR at its end, if it has one.
+/// Strips one CR from the end of a line, if there is one.
 fn without_return(line: &[u8]) -> &[u8]
     ensures { result.now ≡ strip_carriage_return line.now }
 {
@@ -54,8 +54,8 @@ fn without_return(line: &[u8]) -> &[u8]
     }
 }
 
-/// The event that a line is, if it is one: a letter, and but for a collection one space and decimal digits up to 4294967295. Zeros
-/// may lead. It costs the length of the line.
+/// Parses a line as an event, or returns none if it isn't one. An event is a letter, and except for a collection one
+/// space and a decimal number up to 4294967295. Leading zeros are allowed. Takes time linear in the length of the line.
 pub fn read_event(line: &[u8]) -> Option<Event>
     ensures value { result ≡ event_in line.now }
     ensures event { (event : Event) → (result ≡ Some event) ↔ IsEventLine line.now event }
@@ -67,7 +67,7 @@ pub fn read_event(line: &[u8]) -> Option<Event>
     }
 }
 
-/// The event with a letter, and the number of its call.
+/// Returns the event with this letter and the number of its call, if there is one.
 fn named(letter: u8, call: u32) -> Option<Event>
     ensures { result ≡ named letter call }
 {
@@ -82,7 +82,7 @@ fn named(letter: u8, call: u32) -> Option<Event>
     }
 }
 
-/// The number that decimal digits are, where it has 32 bits.
+/// Parses decimal digits as a number, or returns none if it doesn't fit in 32 bits.
 fn number_of(digits: &[u8]) -> Option<u32>
     ensures { result ≡ number_in digits.now }
 {

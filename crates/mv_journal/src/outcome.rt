@@ -1,22 +1,23 @@
-//! What a run comes to.
+//! The outcome of a run.
 
 use crate::event::Event;
 use mv_values::calls::Reply;
 use mv_values::list::List;
 use mv_values::rows::Database;
 
-/// How a round of a call came about.
+/// The kind of a round of a call.
 #[derive(Clone, Copy)]
 pub enum Mark {
-    /// It is the first, or a repair.
+    /// The first round, or a repair.
     Plain,
-    /// It is a repair that committed in the same step.
+    /// A repair that committed in the same step.
     Exclusive,
-    /// It is a whole run after a move.
+    /// A full execution after a move.
     Moved,
 }
 
-/// A round of a call: its start, and how many records it executed, which isn't known where a move ended it.
+/// A round of a call: its start, and the number of records that it executed. That number is unknown if a move ended the
+/// round.
 #[derive(Clone, Copy)]
 pub struct Round {
     pub start: u32,
@@ -31,7 +32,7 @@ pub struct HistoryLine {
     pub rounds: List<Round>,
 }
 
-/// What a run comes to: the replies by call number, the commits in their order, the events, and the last tables.
+/// The outcome of a run: the replies by call number, the commits in their order, the events, and the final tables.
 #[derive(Drop)]
 pub struct Outcome {
     pub replies: List<Reply>,
