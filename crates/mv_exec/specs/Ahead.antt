@@ -1,4 +1,4 @@
--- What is known of the next record before its statement is executed.
+-- Defines what is known of the next record before its statement is executed.
 use Rattle.std.specs.Prelude.{◌≡◌, ℕ, Bool, not, nat_lt, List, [], ◌∷◌, ◌++◌, Option, Some, None, map, length, slice_get}
 use Rattle.std.specs.Option.{option_or}
 use Rattle.mv_values.specs.declared.schema.TableInfo.{TableInfo}
@@ -15,7 +15,7 @@ use Rattle.mv_exec.specs.Places.{block_of, holder_of, place_due}
 use Rattle.mv_exec.specs.Tasks.{left_of, definer_in}
 use Rattle.mv_exec.specs.Running.{Foresees}
 
--- a call goes on at this place, before this statement. Where a turn is due it is the place in that turn.
+-- a call continues at this place, before this statement. If a turn is due, it is the place in that turn.
 pub record GoesOn (proc : ProcInfo) (task : Task) (place : Place) (s : RStmt) (turn : Bool) : Type 0 where
   pub outer : List Place
   pub last : Place
@@ -32,7 +32,7 @@ ahead_at definers site n xs = record {
   reads = map (λ x. record { slot = x; definer = option_or (loop_of x site.loops) (definer_in definers x) }) xs;
 }
 
--- the same of what is left of the task, on whatever database
+-- this is ahead of the task, on any database
 abbrev pub ForeseesLeft : ProcInfo → Task → Option Ahead → Type 0
 ForeseesLeft proc task ahead = (tables : List TableInfo) (db : Tables) → Foresees ahead (left_of proc tables task db)
 

@@ -1,4 +1,4 @@
--- The variables of a running call, and those that it began with.
+-- Defines the variables of a running call, and its initial ones.
 use Rattle.std.specs.Prelude.{ℕ, ◌+◌, max, List, [], ◌∷◌, Option, Some, None}
 use Rattle.mv_alone.specs.declared.state.Env.{Env}
 use Rattle.mv_alone.specs.declared.state.Held.TheVariants.{Scalar}
@@ -6,7 +6,7 @@ use Rattle.mv_alone.specs.Env.{with_held}
 use Rattle.mv_record.specs.declared.record.Slot.{Slot}
 use Rattle.mv_exec.specs.declared.changes.Change.{Change}
 
--- the variables that a call began with: those that were kept, or the ones that it has
+-- the initial variables of a call: those that were kept, or else its current ones
 abbrev pub begun_with : Option Env → Env → Env
 begun_with None env = env
 begun_with (Some first) env = first

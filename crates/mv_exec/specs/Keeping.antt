@@ -1,20 +1,20 @@
--- What a call keeps of its records beside them.
+-- Defines what a call derives from its records.
 use Rattle.std.specs.Prelude.{◌≡◌, ℕ, zero, suc, ◌+◌, max, List, [], ◌∷◌, ◌++◌, Option, Some, None, map, slice_set}
 use Rattle.mv_values.specs.declared.patch.Write.{Write}
 use Rattle.mv_record.specs.declared.record.Record.{Record}
 use Rattle.mv_record.specs.declared.record.Slot.{Slot}
 use Rattle.mv_undo.specs.declared.owned.Owned.{Owned}
 
--- the writes of a record of this number
+-- the writes of a record with this number
 abbrev pub owned : ℕ → List Write → List Owned
 owned number ws = map (λ w. record { number = number; write = w }) ws
 
--- those of records, of which the first has this number
+-- the writes of records, of which the first has this number
 abbrev pub all_owned : ℕ → List Record → List Owned
 all_owned n [] = []
 all_owned n (r ∷ rs) = owned n r.writes ++ all_owned (n + 1) rs
 
--- nothing but writes of a record of this number were added
+-- only writes of a record with this number were added
 abbrev pub HasMore : ℕ → List Owned → List Owned → Type 0
 HasMore number old new = (ws : List Write) × (new ≡ old ++ owned number ws)
 
@@ -24,7 +24,7 @@ widened zero ds = ds
 widened (suc n) [] = None ∷ widened n []
 widened (suc n) (d ∷ ds) = d ∷ widened n ds
 
--- the record of this number has set these variables
+-- the record with this number has set these variables
 abbrev pub define : List (Option ℕ) → List Slot → ℕ → List (Option ℕ)
 define ds [] number = ds
 define ds (s ∷ ss) number = define (slice_set ds s.slot (Some number)) ss number

@@ -1,4 +1,4 @@
--- What is left of a run from a place in it on: the records that it will still leave. This project's own.
+-- Defines what is left of a run from a place on: the records that it will still add. This project's own.
 use Rattle.std.specs.Prelude.{ℕ, ◌+◌, List, [], ◌∷◌, ◌++◌, if◌then◌else◌}
 use Rattle.mv_catalog.specs.Statements.{size_of}
 use Rattle.mv_values.specs.declared.value.Value.{Value}
@@ -19,24 +19,25 @@ pub data Job : Type 0 where
   run : Site → ℕ → List RStmt → Job
   turns : Site → ℕ → ℕ → List RStmt → List (List Value) → ℕ → Job
 
--- what it does to the state
+-- how a job changes the state
 abbrev pub does_job : List TableInfo → Job → Does
 does_job tables (run site n ss) = alone tables ss
 does_job tables (turns site n x body rows k) = each_turn x (alone tables body) rows
 
--- the records that it leaves behind others
+-- the records that a job adds after others
 abbrev pub tells_job : List TableInfo → ℕ → Job → List Record → State → List Record
 tells_job tables params (run site n ss) before st = told tables params ss n site before st
 tells_job tables params (turns site n x body rows k) before st = tell_turns x (alone tables body) (told tables params body) rows k n site before st
 
--- the records that these leave, one after another
+-- the records that these jobs add, one after another
 abbrev pub left : List TableInfo → ℕ → List Job → List Record → State → List Record
 left tables params [] before st = []
 left tables params (j ∷ js) before st =
     let these : List Record = tells_job tables params j before st in
     these ++ on (does_job tables j st) (left tables params js (before ++ these))
 
--- what a statement holds, where its own record has this number, from the state before it: the branch that it takes, or all its turns
+-- the jobs inside a statement whose record has this number, from the state before it: the branch that it takes, or all
+-- its turns
 abbrev pub inside : ℕ → RStmt-F RStmt → ℕ → Site → State → List Job
 inside number (ForSelect x once cs t conds sorts body) n site st =
     on (fixed_rows (ForSelect x once cs t conds sorts body) st) (λ rows. turns (within_loop x number site) (n + 1) x body rows 1 ∷ [])

@@ -1,4 +1,4 @@
--- Where a record leads a running call. This project's own.
+-- Defines where a running call continues after a record. This project's own.
 use Rattle.std.specs.Prelude.{ℕ, ◌+◌, Bool, List, [], ◌∷◌, length, if◌then◌else◌}
 use Rattle.mv_values.specs.declared.value.Value.{Value}
 use Rattle.mv_catalog.specs.Statements.{size_of}
@@ -21,14 +21,14 @@ abbrev pub loop_place : ℕ → ℕ → ℕ → List RStmt → List Place
 loop_place number x first [] = []
 loop_place number x first (s ∷ ss) = record { holder = by.Loop number x 0; first = first; at = length (s ∷ ss); number = first } ∷ []
 
--- the place inside a statement: its record and it itself have these numbers, and an IF chooses this branch
+-- the place inside a statement; the numbers are those of its record and of the statement, and an IF takes this branch
 abbrev pub inner_places : ℕ → ℕ → Bool → RStmt-F RStmt → List Place
 inner_places number n b (Branch e ys ns) = if b then branch_place (by.Branch number b) (n + 1) ys else branch_place (by.Branch number b) (n + 1 + size_of ys) ns
 inner_places number n b (ForSelect x once cs t conds sorts body) = loop_place number x (n + 1) body
 inner_places number n b (ForRows x y body) = loop_place number x (n + 1) body
 inner_places number n b s = []
 
--- the place behind a statement of this size
+-- the place after a statement of this size
 abbrev pub place_after : ℕ → Place → Place
 place_after size p = record p { at = p.at + 1; number = p.number + size }
 
@@ -41,7 +41,7 @@ abbrev pub through : ℕ → List RStmt → List (List Value) → Env → Env
 through x [] rows env = run_through x rows env
 through x (s ∷ ss) rows env = env
 
--- where a loop's body is empty its turns are over at once
+-- a loop with an empty body runs all its turns at once
 abbrev pub walked : RStmt-F RStmt → List (List Value) → Env → Env
 walked (ForSelect x once cs t conds sorts body) rows env = through x body rows env
 walked (ForRows x y body) rows env = through x body rows env

@@ -1,4 +1,4 @@
--- Where a running call stands in its procedure, and what it will still run from there. This project's own.
+-- Defines the position of a running call in its procedure, and what is left from there. This project's own.
 use Rattle.std.specs.Prelude.{◌≡◌, ◌≤◌, ◌<◌, ℕ, ◌+◌, ◌-◌, Bool, true, false, ◌||◌, nat_lt, List, [], ◌∷◌, ◌++◌, Option, Some, None, length, take, drop, slice_get}
 use Rattle.mv_values.specs.declared.value.Value.{Value}
 use Rattle.mv_catalog.specs.declared.resolved.ProcInfo.{ProcInfo}
@@ -49,7 +49,7 @@ block_of proc s p = block_in proc p.holder s
 abbrev pub statement_before : ProcInfo → Option RStmt → Place → Option RStmt
 statement_before proc s p = slice_get (block_of proc s p) (p.at - 1)
 
--- the statement that holds what lies behind places, of which this statement holds the first
+-- the statement that holds what lies inside the innermost place, if this statement holds the first place
 abbrev pub holder_of : ProcInfo → Option RStmt → List Place → Option RStmt
 holder_of proc s [] = s
 holder_of proc s (p ∷ ps) = holder_of proc (statement_before proc s p) ps
@@ -89,7 +89,7 @@ turns_of rs site block first by.Procedure = []
 turns_of rs site block first (by.Branch number b) = []
 turns_of rs site block first (by.Loop number x k) = some_turns (within_loop x number site) first x block (drop k (rows_at rs number)) (k + 1)
 
--- what is left at a place in this list: the statements from it on, and the turns behind this one
+-- what is left at a place in this list: the statements from it on, and the turns after this one
 abbrev pub jobs_here : List Record → List RStmt → Site → Place → List Job
 jobs_here rs block site p = some_run (site_in p.holder site) p.number (drop p.at block) ++ turns_of rs site block p.first p.holder
 
@@ -101,13 +101,13 @@ jobs_of proc rs s site (p ∷ ps) = jobs_of proc rs (statement_before proc s p) 
 abbrev pub jobs_left : ProcInfo → List Record → List Place → List Job
 jobs_left proc rs ps = jobs_of proc rs None outside ps
 
--- there is a turn behind this one
+-- there is a turn after this one
 abbrev pub has_turn : List Record → Holder → Bool
 has_turn rs by.Procedure = false
 has_turn rs (by.Branch number b) = false
 has_turn rs (by.Loop number x k) = nat_lt k (length (rows_at rs number))
 
--- there is a statement at the place or behind it, or a turn
+-- there is a statement at the place or after it, or a turn
 abbrev pub is_left : List Record → List RStmt → Place → Bool
 is_left rs block p = nat_lt p.at (length block) || has_turn rs p.holder
 
@@ -115,13 +115,13 @@ is_left rs block p = nat_lt p.at (length block) || has_turn rs p.holder
 abbrev pub EndsLeft : ProcInfo → List Record → List Place → Type 0
 EndsLeft proc rs ps = (outer : List Place) (p : Place) → ps ≡ outer ++ p ∷ [] → is_left rs (block_of proc (holder_of proc None outer) p) p ≡ true
 
--- of the first i places this many stay: behind them nothing is left
+-- of the first i places this many stay: nothing is left inside them
 pub record StaysTo (proc : ProcInfo) (rs : List Record) (ps : List Place) (i stay : ℕ) : Type 0 where
   pub within : stay ≤ i
   pub same : jobs_left proc rs (take stay ps) ≡ jobs_left proc rs (take i ps)
   pub ends : EndsLeft proc rs (take stay ps)
 
--- this is said of each place and the list in which it lies
+-- the property holds of each place and the list in which it lies
 abbrev pub Every : (List RStmt → Place → Type 0) → ProcInfo → Option RStmt → List Place → Type 0
 Every P proc s [] = Unit {0}
 Every P proc s (p ∷ ps) = P (block_of proc s p) p × Every P proc (statement_before proc s p) ps
@@ -159,7 +159,7 @@ in_next_turn (by.Loop number x k) = by.Loop number x (k + 1)
 abbrev pub next_turn : Place → Place
 next_turn p = record { holder = in_next_turn p.holder; first = p.first; at = 0; number = p.first }
 
--- the place itself, or where a turn is due that in the turn
+-- the place itself, or if a turn is due the place in that turn
 abbrev pub place_due : Bool → Place → Place
 place_due true p = next_turn p
 place_due false p = p

@@ -1,4 +1,4 @@
--- Running calls: all that public contracts say of them. This project's own.
+-- Defines all that public contracts say of running calls. This project's own.
 use Rattle.std.specs.Prelude.{◌≡◌, ◌↔◌, ◌≤◌, ◌+◌, ◌*◌, ℕ, Bool, true, false, List, [], ◌∷◌, ◌++◌, Option, Some, None, Result, Ok, Err, length}
 use Rattle.mv_values.specs.declared.calls.Call.{Call}
 use Rattle.mv_values.specs.Patching.{applied}
@@ -20,11 +20,11 @@ use Rattle.mv_exec.specs.Tasks.{IsTask, BeginsCall, left_of}
 
 -- What a running call is
 
--- the full run of the call on a database leaves these records after those that the task has
+-- the full run of the call on a database adds these records after those of the task
 abbrev pub Leaves : Graph → Call → Tables → Task → List Record → Type 0
 Leaves g call db task rest = (meaning_of g call db).records ≡ task.records ++ rest
 
--- the task is this call of the graph, on its way. What it keeps beside its records is its own affair: no other crate looks inside.
+-- the task is this call of the graph, at some point of its run. What it keeps beside its records is private.
 pub record IsTaskOf (g : Graph) (call : Call) (task : Task) : Type 0 where
   pub whole : IsTask g.procedure task
   pub begins : BeginsCall task g.procedure call
@@ -48,26 +48,26 @@ pub record IsRunningOn (g : Graph) (db : Tables) (task : Task) : Type 0 where
 abbrev pub IsSameCall : Graph → Task → Task → Type 0
 IsSameCall g old new = (call : Call) → IsTaskOf g call old → IsTaskOf g call new
 
--- the task shows what it showed before
+-- what is public of the task is unchanged
 pub record IsUnchanged (old new : Task) : Type 0 where
   pub records : new.records ≡ old.records
   pub executed : new.executed ≡ old.executed
   pub ended : new.ended ≡ old.ended
 
--- `Ended` of a task that has ended, `Ran` of one that hasn't
+-- `Ended` if the task has ended, `Ran` otherwise
 abbrev pub stepped : Bool → Stepped
 stepped true = Ended
 stepped false = Ran
 
 -- The next record
 
--- the first of these records has this place, controller and definers; where nothing is ahead there is none
+-- the first of these records has this place, controller and definers; if nothing is ahead, there are no records
 abbrev pub Foresees : Option Ahead → List Record → Type 0
 Foresees None rs = rs ≡ []
 Foresees (Some ahead) [] = ⊥
 Foresees (Some ahead) (r ∷ rs) = (r.spot ≡ ahead.spot) × (r.parent ≡ ahead.parent) × (r.reads ≡ ahead.reads)
 
--- this is ahead of the call, on whatever database its records are the first ones of its full run
+-- this is ahead of the call, on each database where its records are the first ones of its full run
 abbrev pub IsNext : Graph → Task → Option Ahead → Type 0
 IsNext g task ahead = (call : Call) (db : Tables) (rest : List Record) → IsTaskOf g call task → AreRising db → Leaves g call db task rest → Foresees ahead rest
 
@@ -83,25 +83,26 @@ pub record HasAdopted (g : Graph) (old : Task) (given : Record) (new : Task) : T
   pub place : IsNext g old (Some (record { spot = next.spot; parent = next.parent; reads = next.reads }))
   pub executed : new.executed ≡ old.executed
 
--- where a full run of the call goes on with a record of this content, the rest of that run is left
+-- if a full run of the call continues with a record of this content, the rest of that run is left
 abbrev pub GoesOnWith : Graph → Task → Record → Task → Type 0
 GoesOnWith g old given new =
     (call : Call) (db : Tables) (r : Record) (rest : List Record) → IsTaskOf g call old → AreRising db → Leaves g call db old (r ∷ rest) → HasContent given r → Leaves g call db new rest
 
--- a record was added by executing its statement; the view was asked for its predicates over the own writes of the records before it
+-- a record was added by executing its statement; the view was queried for its predicates, over the writes of the
+-- records before it
 pub record HasRun (old new : Task) (before after : Sight) : Type 0 where
   pub next : Record
   pub records : new.records ≡ old.records ++ next ∷ []
   pub executed : new.executed ≡ old.executed + 1
   pub asked : AskedFor next.preds (writes_in old.records) before after
 
--- 1 where it was refused
+-- 1 if it was refused, else 0
 abbrev pub refusals : {A E : Type 0} → Result A E → ℕ
 refusals (Ok x) = 0
 refusals (Err e) = 1
 
--- records were added by executing their statements, after which so many more were tried in vain; for each of them the view was asked for
--- rows once, and once for each key that the call has written
+-- records were added by executing their statements, and then this many more were tried and refused; for each the view
+-- was asked for rows once, and once for each key that the call has written
 pub record HasRunTo (old new : Task) (vain : ℕ) (before after : Sight) : Type 0 where
   pub more : List Record
   pub records : new.records ≡ old.records ++ more
@@ -110,7 +111,8 @@ pub record HasRunTo (old new : Task) (vain : ℕ) (before after : Sight) : Type 
 
 -- Laws
 
--- a call has ended exactly where its full run leaves nothing more, on whatever database its records are the first ones of that run
+-- a call has ended exactly if its full run adds nothing more, on each database where its records are the first ones of
+-- that run
 abbrev pub EndsExactly : Type 0
 EndsExactly = (g : Graph) (call : Call) (db : Tables) (task : Task) (rest : List Record) → IsTaskOf g call task → AreRising db → Leaves g call db task rest → (task.ended ≡ true) ↔ (rest ≡ [])
 

@@ -1,4 +1,4 @@
--- One record more in a running call. This project's own.
+-- Defines how a running call gets one more record. This project's own.
 use Rattle.std.specs.Prelude.{◌≡◌, ℕ, List, [], ◌∷◌, ◌++◌, Some, None, length, take, slice_get}
 use Rattle.mv_values.specs.declared.schema.TableInfo.{TableInfo}
 use Rattle.mv_values.specs.Patching.{applied}
@@ -22,9 +22,9 @@ use Rattle.mv_exec.specs.Keeping.{owned, widened, define, slot_room}
 use Rattle.mv_exec.specs.Places.{block_of, holder_of}
 use Rattle.mv_exec.specs.Tasks.{beginning, left_of, definer_in}
 
--- What a record makes of a call
+-- The effect of a record on a call
 
--- the call that has a record and its writes, before it is noted whose the variables are and where the call now stands
+-- the call with a record and its writes, before its definers and position are updated
 abbrev pub with_writes : Task → Record → Env → List Place → Task
 with_writes task r env places = record task {
   env = env;
@@ -34,7 +34,7 @@ with_writes task r env places = record task {
   places = places;
 }
 
--- the call with a record more, with these variables and at these places
+-- the call with one more record, with these variables and at these places
 abbrev pub with_record : Task → Record → Env → List Place → Task
 with_record task r env places =
     let held : Task = with_writes task r env places in
@@ -53,7 +53,7 @@ pub record IsWidened (old new : Task) : Type 0 where
 
 -- The call after it
 
--- the record was added: where it was the next one, what comes after it is left, and it leaves each row under its own key
+-- the record was added: if it was the next one, what comes after it is left, and each row stays under its own key
 pub record HasAdded (proc : ProcInfo) (old : Task) (r : Record) (new : Task) : Type 0 where
   pub parameters : new.parameters ≡ old.parameters
   pub records : new.records ≡ old.records ++ r ∷ []
@@ -62,7 +62,7 @@ pub record HasAdded (proc : ProcInfo) (old : Task) (r : Record) (new : Task) : T
   pub keys : (tables : List TableInfo) (db : Tables) (tail : List Record) → AreRising db → left_of proc tables old db ≡ r ∷ tail
       → KeysStand tables (applied (writes_in old.records) db) → KeysStand tables (applied (writes_in new.records) db)
 
--- the record of an effect where this is ahead
+-- the record of an effect, given what is ahead
 abbrev pub record_of : Ahead → Effect → Record
 record_of ahead e = record {
   spot = ahead.spot;
@@ -76,7 +76,8 @@ record_of ahead e = record {
   end = e.end;
 }
 
--- the next record of the run on a view's database was added; the view was asked for its predicates over the own writes of earlier ones
+-- the next record of the run on a view's database was added; the view was queried for its predicates, over the writes
+-- of earlier records
 pub record HasExecuted (tables : List TableInfo) (proc : ProcInfo) (old new : Task) (before after : Sight) : Type 0 where
   pub next : Record
   pub added : HasAdded proc old next new

@@ -1,4 +1,4 @@
--- A running call: what it has done, and what it will still do. This project's own.
+-- Defines what a running call has executed, and what it will still execute. This project's own.
 use Rattle.std.specs.Prelude.{◌≡◌, ◌↔◌, ◌<◌, ◌≤◌, ℕ, Bool, true, false, List, [], ◌∷◌, ◌++◌, Option, Some, None, length, take, slice_get}
 use Rattle.mv_values.specs.declared.calls.Call.{Call}
 use Rattle.mv_values.specs.declared.schema.TableInfo.{TableInfo}
@@ -24,11 +24,11 @@ use Rattle.mv_exec.specs.Places.{jobs_left, AreFilled, AreNumbered, EndsLeft, wi
 abbrev pub beginning : Task → Env
 beginning task = begun_with task.first task.env
 
--- it began as a call of the procedure begins
+-- its initial state is that of a call of the procedure
 abbrev pub BeginsCall : Task → ProcInfo → Call → Type 0
 BeginsCall task proc call = (beginning task ≡ entered proc call) × (task.parameters ≡ length call.arguments)
 
--- the state behind its records, where the call began on this database
+-- the state after its records, if the call began on this database
 abbrev pub state_of : Task → Tables → State
 state_of task db = record { env = task.env; tables = applied (writes_in task.records) db; lines = lines_in task.records }
 
@@ -40,7 +40,7 @@ abbrev pub none_in : List RStmt → Bool
 none_in [] = true
 none_in (s ∷ ss) = false
 
--- where it stands: nowhere once it has ended
+-- the position of a call: no place after it has ended
 abbrev pub standing : Bool → List Place → List Place
 standing true ps = []
 standing false ps = ps
@@ -48,17 +48,17 @@ standing false ps = ps
 abbrev pub places_of : Task → List Place
 places_of task = standing task.ended task.places
 
--- the records that it will still leave on a database
+-- the records that it will still add on a database
 abbrev pub left_of : ProcInfo → List TableInfo → Task → Tables → List Record
 left_of proc tables task db = left tables task.parameters (jobs_left proc task.records (places_of task)) task.records (state_of task db)
 
--- all its records on a database: those that it has, and those that it will leave
+-- all its records on a database: those that it has, and those that it will still add
 abbrev pub run_of : ProcInfo → List TableInfo → Task → Tables → List Record
 run_of proc tables task db = task.records ++ left_of proc tables task db
 
--- What its parts keep to one another
+-- How its parts agree
 
--- the number in a list of numbers, none behind its end
+-- the number in a list of numbers, none past its end
 abbrev pub number_in : Option (Option ℕ) → Option ℕ
 number_in None = None
 number_in (Some o) = o
@@ -87,7 +87,7 @@ pub record IsTask (proc : ProcInfo) (task : Task) : Type 0 where
   pub definers : (x : ℕ) → definer_in task.definers x ≡ last_place (sets_variable x) 0 task.records
   pub counted : task.executed ≤ length task.records
 
--- a call that stands as before: it has what it had, and will still leave the same
+-- a call at an equal position: it has the same records, and will still add the same
 pub record StandsAsBefore (proc : ProcInfo) (old new : Task) : Type 0 where
   pub parameters : new.parameters ≡ old.parameters
   pub records : new.records ≡ old.records
@@ -100,21 +100,21 @@ pub record StandsAsBefore (proc : ProcInfo) (old new : Task) : Type 0 where
 abbrev pub in_turn_at : Task → List Place → Place → Place → Task
 in_turn_at task outer last place = record task { env = with_next_row task.records last.holder task.env; places = outer ++ place ∷ [] }
 
--- the call at this place inside these: where a turn is due, in that turn
+-- the call at this place inside these; if a turn is due, in that turn
 abbrev pub settled : Task → List Place → Place → Place → Bool → Task
 settled task outer last place true = in_turn_at task outer last place
 settled task outer last place false = task
 
--- a call that has these parameters and variables, and has done nothing
+-- a call that has these parameters and variables, and has executed nothing
 abbrev pub unbegun : ℕ → Env → Option Env → Bool → Task
 unbegun params env first empty =
     record { parameters = params; env = env; first = first; records = []; executed = 0; undo = []; definers = []; places = first_place ∷ []; ended = empty; empty = empty }
 
--- it is so exactly where no record is left, on any database
+-- the flag is true exactly if no record is left, on any database
 abbrev pub TellsEnd : ProcInfo → Task → Bool → Type 0
 TellsEnd proc task b = (tables : List TableInfo) (db : Tables) → (b ≡ true) ↔ (left_of proc tables task db ≡ [])
 
--- only the front of its places has stayed, at whose innermost one something is left; nothing was left behind them
+-- only the outer places stayed; something is left at the innermost of these, and nothing was left inside it
 pub record IsTrimmed (proc : ProcInfo) (old new : Task) : Type 0 where
   pub rest : new ≡ record old { places = new.places; ended = new.ended }
   pub stay : ℕ

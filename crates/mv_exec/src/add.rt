@@ -30,7 +30,7 @@ use mv_values::list::List;
 use mv_values::memory::NoMemory;
 use std::alloc::Global;
 
-/// How many variables these need, where some need this many.
+/// Returns the number of variables that a slot and those before it need.
 fn room_with(most: usize, slot: &Slot) -> usize
     ensures { result ≡ max most (slot.now.slot + 1) }
 {
@@ -38,7 +38,7 @@ fn room_with(most: usize, slot: &Slot) -> usize
     if needed > most { needed } else { most }
 }
 
-/// How many variables these need.
+/// Returns the number of variables that these slots need.
 #[tactic(auto, using(crate::proofs::Changing::room_next))]
 fn room_for(slots: &[Slot]) -> usize
     ensures { result ≡ slot_room slots.now }
@@ -50,7 +50,7 @@ fn room_for(slots: &[Slot]) -> usize
     most
 }
 
-/// Adds a place where there is one.
+/// Adds a place, if there is one.
 fn push_place(places: &mut List<Place>, inner: Option<Place>) -> Result<(), NoMemory>
     ensures ok { OnOk result (places.new ≡ places.old ++ option_to_list inner) }
     ensures err { OnErr result (places.new ≡ places.old) }
@@ -61,7 +61,7 @@ fn push_place(places: &mut List<Place>, inner: Option<Place>) -> Result<(), NoMe
     }
 }
 
-/// Adds a place and a record, and changes variables. After NoMemory some were added.
+/// Adds a place and a record, and changes variables. On `NoMemory` some of this may be done.
 fn push_rest(
     task: &mut Task,
     given: Record,
@@ -76,8 +76,8 @@ fn push_rest(
     make_changes(&mut task.env, changes)
 }
 
-/// Adds a record, its writes and the place inside its statement, and changes variables. After NoMemory nothing has
-/// changed but the room for definers.
+/// Adds a record, its writes and the place inside its statement, and changes variables. On `NoMemory` only the room for
+/// definers may have changed.
 fn push_record(
     alloc: Global,
     task: &mut Task,
@@ -104,7 +104,7 @@ fn push_record(
     }
 }
 
-/// Notes that the record of this number has set its variables.
+/// Notes that the record with this number has set its variables.
 fn note_sets(definers: &mut List<Option<usize>>, records: &[Record], number: usize)
     ensures { (r : Record) → slice_get records.now number ≡ Some r → definers.new ≡ define definers.old r.sets number }
 {
@@ -113,7 +113,7 @@ fn note_sets(definers: &mut List<Option<usize>>, records: &[Record], number: usi
     }
 }
 
-/// Puts a place in the place of the one that has these around it.
+/// Replaces the place at this index.
 fn put_place(places: &mut List<Place>, at: usize, place: Place)
     ensures { (outer inner : List Place) (p : Place) → places.old ≡ (outer ++ p ∷ []) ++ inner → at ≡ length outer → places.new ≡ (outer ++ place ∷ []) ++ inner }
 {
@@ -137,8 +137,8 @@ fn end_or_trim(procedure: &ProcInfo, task: &mut Task, ends: bool) -> Stepped
     answer(task.ended)
 }
 
-/// Adds a record to a call that has come to a statement, where an IF chooses this branch. Says whether the call has ended.
-/// After NoMemory the call is as before.
+/// Adds the record of a call's next statement. An IF takes the given branch. Returns whether the call has ended. On
+/// `NoMemory` the call is unchanged.
 pub(crate) fn add(
     alloc: Global,
     graph: &Graph,

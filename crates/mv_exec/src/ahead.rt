@@ -33,7 +33,7 @@ fn last_definer(definers: &[Option<usize>], variable: u16) -> Option<usize>
     }
 }
 
-/// Returns the number of the record that last set a variable: of a loop's row the FOR's.
+/// Returns the number of the record that last set a variable. For a loop's row it is the record of the FOR.
 fn definer_of(
     places: &[Place],
     holder: Holder,
@@ -69,7 +69,8 @@ fn with_definers(
     Ok(reads)
 }
 
-/// Returns what is ahead of a call that goes on at a place in these, before a statement that reads these variables.
+/// Returns what is ahead of a call that continues at a place inside these, before a statement that reads these
+/// variables.
 fn ahead_at(
     alloc: Global,
     task: &Task,
@@ -93,7 +94,7 @@ fn ahead_at(
     })
 }
 
-/// Returns the place, controller and definers of the record of the statement at which a call goes on.
+/// Returns the place, controller and definers of the record of a call's next statement.
 fn ahead_of(
     alloc: Global,
     graph: &Graph,
@@ -119,7 +120,7 @@ fn ahead_of(
     Ok(ahead)
 }
 
-/// Returns the place, controller and definers of the next record, none where no statement is left.
+/// Returns the place, controller and definers of the next record, or none if no statement is left.
 pub(crate) fn foresee(alloc: Global, graph: &Graph, task: &Task) -> Result<Option<Ahead>, NoMemory>
     requires nodes { IsGraph graph.now }
     requires task { IsTask graph.now.procedure task.now }
@@ -135,8 +136,9 @@ pub(crate) fn foresee(alloc: Global, graph: &Graph, task: &Task) -> Result<Optio
     Ok(Some(ahead))
 }
 
-/// Comes to the next statement: its place becomes the innermost one, and if a loop's turn begins with it, the row of the
-/// loop is set. Returns what is ahead, and where the call goes on. After NoMemory the call is as before.
+/// Moves a call to its next statement. The place of the statement becomes the innermost one. If a loop's turn begins
+/// with it, the row of the loop is set. Returns what is ahead, and where the call continues. On `NoMemory` the call is
+/// unchanged.
 pub(crate) fn come_to<'g>(
     alloc: Global,
     graph: &'g Graph,

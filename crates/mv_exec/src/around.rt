@@ -10,7 +10,7 @@ use mv_values::list::List;
 use mv_values::memory::NoMemory;
 use std::alloc::Global;
 
-/// The record that holds what the holder holds, where this one holds the holder.
+/// Returns the record that holds the holder's statements, given the record around the holder.
 fn parent_in(holder: Holder, parent: Option<usize>) -> Option<usize>
     ensures { (site : Site) → parent ≡ site.parent → result ≡ (site_in holder site).parent }
 {
@@ -43,7 +43,7 @@ pub(crate) fn parent_at(places: &[Place], holder: Holder) -> Option<usize>
     }
 }
 
-/// The record of the FOR whose row a variable is, in the holder, where it is this outside the holder.
+/// Returns the record of the FOR whose row a variable is, given the one found outside the holder.
 fn loop_in(holder: Holder, variable: u16, found: Option<usize>) -> Option<usize>
     ensures { (site : Site) → found ≡ loop_of variable site.loops → result ≡ loop_of variable (site_in holder site).loops }
 {
@@ -76,7 +76,7 @@ pub(crate) fn loop_at(places: &[Place], holder: Holder, variable: u16) -> Option
     loop_in(holder, variable, loop_around(places, variable))
 }
 
-/// Adds the turn of a holder that is a loop.
+/// Adds the turn of a holder if it is a loop.
 fn add_turn(turns: &mut List<usize>, holder: Holder) -> Result<(), NoMemory>
     ensures { OnOk result ((site : Site) → turns.old ≡ site.turns → turns.new ≡ (site_in holder site).turns) }
 {

@@ -1,4 +1,4 @@
-//! What a record changes of the variables.
+//! The changes that a record makes to the variables.
 
 ghost use Rattle.std.specs.Prelude.{◌≡◌, ◌≤◌, [], map, length, IfOk, OnOk, OnErr, MatchOption, option_to_list, List};
 ghost use Rattle.mv_values.specs.declared.value.Value.{Value};
@@ -17,14 +17,14 @@ use mv_values::memory::NoMemory;
 use mv_values::value::Row;
 use std::alloc::Global;
 
-/// A variable, with what it is set to.
+/// A variable, and its new value.
 #[derive(Drop)]
 pub struct Change {
     pub slot: u16,
     pub held: Held,
 }
 
-/// How many variables the changes need.
+/// Returns the number of variables that the changes need.
 #[tactic(auto, using(crate::proofs::Changing::room_next))]
 fn room_for(changes: &[Change]) -> usize
     ensures { result ≡ room changes.now }
@@ -50,7 +50,7 @@ fn set_all(env: &mut Env, changes: Vec<Change>)
     }
 }
 
-/// Makes changes, in order. After NoMemory the variables are as before.
+/// Makes changes, in order. On `NoMemory` the variables are unchanged.
 #[tactic(auto, using(crate::proofs::Changing::padded_changed, mv_alone::proofs::Putting::padded_long))]
 pub(crate) fn make_changes(env: &mut Env, changes: Vec<Change>) -> Result<(), NoMemory>
     ensures ok { OnOk result (env.new ≡ changed changes.items env.old) }
@@ -61,7 +61,7 @@ pub(crate) fn make_changes(env: &mut Env, changes: Vec<Change>) -> Result<(), No
     Ok(())
 }
 
-/// The changes that slots tell of.
+/// Returns the changes that slots describe.
 pub(crate) fn changes_of(alloc: Global, slots: &[Slot]) -> Result<Vec<Change>, NoMemory>
     ensures { IfOk result (λ cs. cs.items ≡ map of_slot slots.now) }
 {
@@ -76,7 +76,7 @@ pub(crate) fn changes_of(alloc: Global, slots: &[Slot]) -> Result<Vec<Change>, N
     Ok(changes)
 }
 
-/// The variable of the row of a loop whose body is empty.
+/// Returns the row variable of a loop with an empty body.
 pub(crate) fn row_of_empty(statement: &RStmt) -> Option<u16>
     ensures { MatchOption result ((rows : List (List Value)) (env : Env) → walked (out-RStmt statement.now) rows env ≡ env) (λ x. (rows : List (List Value)) (env : Env) → walked (out-RStmt statement.now) rows env ≡ run_through x rows env) }
 {

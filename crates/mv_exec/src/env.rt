@@ -9,7 +9,7 @@ use mv_values::list::List;
 use mv_values::memory::NoMemory;
 use std::alloc::Global;
 
-/// A copy of what a variable holds.
+/// Copies what a variable holds.
 fn copy_held(alloc: Global, held: &Held) -> Result<Held, NoMemory>
     ensures { IfOk result (λ it. it ≡ held.now) }
 {
@@ -20,7 +20,7 @@ fn copy_held(alloc: Global, held: &Held) -> Result<Held, NoMemory>
     }
 }
 
-/// A copy of variables.
+/// Copies variables.
 pub(crate) fn copy_env(alloc: Global, env: &Env) -> Result<Env, NoMemory>
     ensures { IfOk result (λ it. it ≡ env.now) }
 {
@@ -34,7 +34,7 @@ pub(crate) fn copy_env(alloc: Global, env: &Env) -> Result<Env, NoMemory>
     })
 }
 
-/// Keeps a copy of the variables that a call began with, where none is kept.
+/// Keeps a copy of the initial variables of a call, unless there already is one.
 pub(crate) fn keep_beginning(
     alloc: Global,
     first: &mut Option<Env>,

@@ -26,7 +26,7 @@ use mv_record::record::Record;
 use mv_view::view::{Refused, View};
 use std::alloc::Global;
 
-/// The record of an effect at the place that is ahead, with its controller and definers.
+/// Returns the record of an effect, with the place, controller and definers that are ahead.
 fn record_of(ahead: Ahead, effect: Effect) -> Record
     ensures { result ≡ record_of ahead effect }
 {
@@ -43,8 +43,8 @@ fn record_of(ahead: Ahead, effect: Effect) -> Record
     }
 }
 
-/// Executes the statement that a call has come to, and adds its record. Says whether the call has ended. After a refusal
-/// the call is as before.
+/// Executes the next statement of a call, and adds its record. Returns whether the call has ended. On an error the call
+/// is unchanged.
 pub(crate) fn execute<V: View>(
     alloc: Global,
     graph: &Graph,

@@ -1,4 +1,4 @@
-//! What a call keeps of its records beside them: its own writes, and who last set each variable.
+//! What a call derives from its records: its own writes, and which record last set each variable.
 
 ghost use Rattle.std.specs.Prelude.{◌≡◌, ◌<◌, ◌≤◌, ◌++◌, All, ℕ, Some, slice_set, OnOk, OnErr};
 ghost use Rattle.mv_exec.specs.Keeping.{owned, HasMore, define, widened};
@@ -30,8 +30,8 @@ fn add_writes(
     Ok(())
 }
 
-/// Adds copies of writes with the number of their record, which is larger than those of the writes before. After
-/// NoMemory the writes are as before.
+/// Adds copies of writes with the number of their record. It must be larger than those of the writes before. On
+/// `NoMemory` the writes are unchanged.
 pub(crate) fn push_writes(
     alloc: Global,
     undo: &mut Undo,
@@ -51,7 +51,7 @@ pub(crate) fn push_writes(
     }
 }
 
-/// Makes the list of definers longer where it has fewer than this. Who last set each variable stays.
+/// Extends the list of definers to at least this length. The definer of each variable is unchanged.
 #[tactic(auto, using(crate::proofs::Defining::widen_longer, crate::proofs::Defining::widened_full, crate::proofs::Defining::none_behind))]
 pub(crate) fn widen(definers: &mut List<Option<usize>>, len: usize) -> Result<(), NoMemory>
     ensures ok { OnOk result (definers.new ≡ widened len definers.old) }
@@ -63,7 +63,7 @@ pub(crate) fn widen(definers: &mut List<Option<usize>>, len: usize) -> Result<()
     Ok(())
 }
 
-/// Sets who last set a variable. One behind the end of the list is left out.
+/// Records which record last set a variable. A variable past the end of the list is ignored.
 fn set_definer(definers: &mut List<Option<usize>>, variable: u16, number: usize)
     ensures { definers.new ≡ slice_set definers.old variable (Some number) }
 {
@@ -72,7 +72,7 @@ fn set_definer(definers: &mut List<Option<usize>>, variable: u16, number: usize)
     }
 }
 
-/// Sets who last set these variables. A variable behind the end of the list is left out.
+/// Records which record last set these variables. A variable past the end of the list is ignored.
 pub(crate) fn set_definers(definers: &mut List<Option<usize>>, sets: &[Slot], number: usize)
     ensures { definers.new ≡ define definers.old sets.now number }
 {

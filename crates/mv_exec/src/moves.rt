@@ -1,4 +1,4 @@
-//! Where a record leads a running call.
+//! Where a running call continues after a record.
 
 ghost use Rattle.std.specs.Prelude.{◌≡◌, ◌<◌, ◌≤◌, ◌^◌, ◌+◌, ◌∷◌, List, IfOk, option_to_list};
 ghost use Rattle.mv_catalog.specs.declared.resolved.RStmt.{RStmt, out-RStmt};
@@ -31,7 +31,7 @@ pub(crate) fn branch(alloc: Global, statement: &RStmt, env: &Env) -> Result<bool
     }
 }
 
-/// The place before the first statement of a branch, none where it has no statements.
+/// Returns the place before the first statement of a branch, or none if it has no statements.
 fn branch_place(record: usize, yes: bool, first: usize, block: &[RStmt]) -> Option<Place>
     ensures { option_to_list result ≡ branch_place (Branch «record» yes) first block.now }
 {
@@ -46,7 +46,7 @@ fn branch_place(record: usize, yes: bool, first: usize, block: &[RStmt]) -> Opti
     })
 }
 
-/// The place before the first turn of a loop, none where its body has no statements.
+/// Returns the place before the first turn of a loop, or none if its body has no statements.
 fn loop_place(record: usize, row: u16, first: usize, body: &[RStmt]) -> Option<Place>
     ensures { option_to_list result ≡ loop_place «record» row first body.now }
 {
@@ -65,7 +65,7 @@ fn loop_place(record: usize, row: u16, first: usize, body: &[RStmt]) -> Option<P
     })
 }
 
-/// Returns how many statements the one with this number is, with those that it holds.
+/// Counts the statement with this number, nested ones included.
 fn size_at(graph: &Graph, number: usize) -> usize
     requires { IsGraph graph.now }
     ensures { (s : RStmt) (ss : List RStmt) → HasText graph.now.procedure number (s ∷ ss) → result ≡ size s }
@@ -90,7 +90,7 @@ fn number_after(graph: &Graph, first: usize, statements: &[RStmt]) -> usize
     number
 }
 
-/// Returns the place inside a statement whose record has this number, where an IF chooses this branch.
+/// Returns the place inside a statement whose record has this number. An IF takes the given branch.
 pub(crate) fn inner_place(
     graph: &Graph,
     position: Position<'_>,

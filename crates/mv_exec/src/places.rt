@@ -1,4 +1,4 @@
-//! Where a running call stands in its procedure.
+//! The position of a running call in its procedure.
 
 ghost use Rattle.std.specs.Prelude.{◌≡◌, ◌-◌, ◌++◌, ◌∷◌, [], None, Some, nat_lt, length, slice_get, List, MatchOption, IfOk};
 ghost use Rattle.std.specs.Option.{option_copied};
@@ -15,8 +15,8 @@ use mv_values::value::Row;
 use std::alloc::Global;
 
 /// What holds a list of statements: the procedure, a branch of an IF, or a FOR. `record` is the number of the record of
-/// the IF or FOR, `row` the variable of a loop's row, and `turn` the number of its turn, counted from 1, and 0 before
-/// the first.
+/// the IF or FOR. `row` is the variable of a loop's row. `turn` is the number of the loop's turn, counted from 1. It is
+/// 0 before the first turn.
 #[derive(Clone, Copy)]
 pub enum Holder {
     Procedure,
@@ -31,8 +31,8 @@ pub enum Holder {
     },
 }
 
-/// A place in a list of statements: before the statement `at`, counted from 0, that has this number in the text of the
-/// procedure. The list's first statement has the number `first`.
+/// A place in a list of statements. It is before the statement `at`, counted from 0, which has this number in the text
+/// of the procedure. The list's first statement has the number `first`.
 #[derive(Clone, Copy)]
 pub struct Place {
     pub holder: Holder,
@@ -41,7 +41,7 @@ pub struct Place {
     pub number: usize,
 }
 
-/// The branch of an IF, no statements of any other statement.
+/// Returns a branch of an IF. For any other statement it is empty.
 pub(crate) fn branch(statement: &RStmt, yes: bool) -> &[RStmt]
     ensures { result.now ≡ branch_of yes statement.now }
 {
@@ -55,7 +55,7 @@ pub(crate) fn branch(statement: &RStmt, yes: bool) -> &[RStmt]
     }
 }
 
-/// The body of a FOR, no statements of any other statement.
+/// Returns the body of a FOR. For any other statement it is empty.
 pub(crate) fn body(statement: &RStmt) -> &[RStmt]
     ensures { result.now ≡ body_of statement.now }
 {
@@ -66,7 +66,8 @@ pub(crate) fn body(statement: &RStmt) -> &[RStmt]
     }
 }
 
-/// The list of statements that a holder names: the procedure's body, or a list of the statement that holds it.
+/// Returns the list of statements that a holder names: the procedure's body, or a list inside the statement that holds
+/// it.
 pub(crate) fn block<'p>(
     procedure: &'p ProcInfo,
     holder: Holder,
@@ -82,21 +83,21 @@ pub(crate) fn block<'p>(
     }
 }
 
-/// The statement at a place in this list, counted from 0.
+/// Returns the statement at a place in this list, counted from 0.
 pub(crate) fn statement_at(block: &[RStmt], at: usize) -> Option<&RStmt>
     ensures { option_copied result ≡ slice_get block.now at }
 {
     block.get(at)
 }
 
-/// The statement before a place in this list.
+/// Returns the statement before a place in this list.
 fn statement_before(block: &[RStmt], place: Place) -> Option<&RStmt>
     ensures { option_copied result ≡ slice_get block.now (place.at - 1) }
 {
     statement_at(block, place.at.saturating_sub(1))
 }
 
-/// The statement that holds what lies behind the places.
+/// Returns the statement that holds what lies inside the innermost place.
 pub(crate) fn holder_of<'p>(procedure: &'p ProcInfo, places: &[Place]) -> Option<&'p RStmt>
     ensures { option_copied result ≡ holder_of procedure.now None places.now }
 {
@@ -108,7 +109,7 @@ pub(crate) fn holder_of<'p>(procedure: &'p ProcInfo, places: &[Place]) -> Option
     statement
 }
 
-/// The rows of the loop whose FOR's record has this number.
+/// Returns the rows of the loop whose FOR's record has this number.
 pub(crate) fn rows_of(records: &[Record], number: usize) -> &[Row]
     ensures { result.now ≡ rows_at records.now number }
 {
@@ -118,7 +119,7 @@ pub(crate) fn rows_of(records: &[Record], number: usize) -> &[Row]
     }
 }
 
-/// Whether a loop has a turn behind this one.
+/// Whether a loop has a turn after this one.
 fn has_next_turn(records: &[Record], holder: Holder) -> bool
     ensures { result ≡ has_turn records.now holder }
 {
@@ -142,7 +143,7 @@ fn has_left(records: &[Record], block: &[RStmt], place: Place) -> bool
     is_before_end(block, place.at) || has_next_turn(records, place.holder)
 }
 
-/// How many of the places stay: nothing is left at those behind them.
+/// Returns the number of places that stay. Nothing is left at the places inside them.
 pub(crate) fn staying(procedure: &ProcInfo, records: &[Record], places: &[Place]) -> usize
     ensures { StaysTo procedure.now records.now places.now (length places.now) result }
 {
@@ -168,7 +169,7 @@ pub(crate) fn outer(places: &[Place]) -> &[Place]
     }
 }
 
-/// The innermost place, and those around it.
+/// Returns the innermost place, after those around it.
 pub(crate) fn innermost(places: &[Place]) -> Option<(&[Place], Place)>
     ensures { MatchOption result (places.now ≡ []) (λ r. places.now ≡ r.0.now ++ r.1 ∷ []) }
 {

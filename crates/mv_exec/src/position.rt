@@ -1,4 +1,4 @@
-//! Where a running call goes on.
+//! The next statement of a running call.
 
 ghost use Rattle.std.specs.Prelude.{◌≡◌, ◌-◌, true, false, slice_get};
 ghost use Rattle.std.specs.Option.{option_copied};

@@ -24,7 +24,7 @@ use mv_view::view::{Refused, View};
 use std::alloc::Global;
 
 impl Task {
-    /// A call before its first statement. Its arguments are copied.
+    /// Returns a call before its first statement. It copies the arguments.
     pub fn new(alloc: Global, graph: &Graph, call: &Call) -> Result<Task, NoMemory>
         requires sound { IsSound graph.now }
         requires arguments { length call.now.arguments ≡ length graph.now.procedure.params }
@@ -38,7 +38,8 @@ impl Task {
     }
 }
 
-/// The place, controller and definers of the next record, none where no statement is left.
+/// Returns the place, controller and definers of the next record, or none if no statement is left. Fails with
+/// `NoMemory` if memory runs out.
 pub fn peek(alloc: Global, graph: &Graph, task: &Task) -> Result<Option<Ahead>, NoMemory>
     requires sound { IsSound graph.now }
     requires running { IsRunning graph.now task.now }
@@ -48,7 +49,7 @@ pub fn peek(alloc: Global, graph: &Graph, task: &Task) -> Result<Option<Ahead>, 
     Ok(ahead)
 }
 
-/// The given record at the place that is ahead, with its controller and definers.
+/// Returns the given record, with the place, controller and definers that are ahead.
 fn record_at(ahead: Ahead, given: Record) -> Record
     ensures { result ≡ record given { spot = ahead.spot; parent = ahead.parent; reads = ahead.reads } }
 {
@@ -65,8 +66,9 @@ fn record_at(ahead: Ahead, given: Record) -> Record
     }
 }
 
-/// Adds a given record for the next statement, which isn't executed: it gets that statement's place, controller and
-/// definers, and all else of it is taken as it is. Says whether the call has ended. After NoMemory the call is as before.
+/// Adds a given record for the next statement, without executing it. The record gets that statement's place, controller
+/// and definers, and is otherwise added as it is. Returns whether the call has ended. On `NoMemory` the call is
+/// unchanged.
 pub fn adopt(
     alloc: Global,
     graph: &Graph,
@@ -88,11 +90,11 @@ pub fn adopt(
     add(alloc, graph, task, record_at(ahead, given), position, yes)
 }
 
-/// Executes the next statement, read over the view and the call's own writes, and adds its record. An IF only evaluates
-/// its condition, and a FOR only fixes its rows: what they hold comes next. Says whether the call has ended. One that had
-/// ended before stays as it is, and asks nothing of the view. After a refusal the call is as before.
+/// Executes the next statement over the view and the call's own writes, and adds its record. An IF only evaluates its
+/// condition, and a FOR only fixes its rows. The statements inside them come next. Returns whether the call has ended.
+/// A call that had already ended is unchanged, and doesn't query the view. On an error the call is unchanged.
 ///
-/// `NoMemory` where no memory was found, `Stale` where the view answered so.
+/// Fails with `NoMemory` if memory runs out, and with `Stale` if the view reports it.
 pub fn next<V: View>(
     alloc: Global,
     graph: &Graph,
@@ -121,10 +123,10 @@ pub fn next<V: View>(
     execute(alloc, graph, task, ahead, position, view)
 }
 
-/// Executes what is left of a call over a view, to its end. After a refusal the call has some more records: `finish` can
-/// go on, and `restart` begin anew.
+/// Executes the rest of a call over a view. On an error the call keeps the records added so far. `finish` can then
+/// continue it, and `restart` can begin it again.
 ///
-/// `NoMemory` where no memory was found, `Stale` where the view answered so.
+/// Fails with `NoMemory` if memory runs out, and with `Stale` if the view reports it.
 pub fn finish<V: View>(
     alloc: Global,
     graph: &Graph,
@@ -149,13 +151,13 @@ pub fn finish<V: View>(
     Ok(())
 }
 
-/// A call has ended exactly where no more records are left of it.
+/// A call has ended exactly if no more records are left of it.
 #[tactic(auto, using(crate::proofs::Fronts::ends_exactly))]
 pub fn calls_end_exactly()
     ensures { EndsExactly }
 {}
 
-/// What the first records of a call change leaves each row under its own key.
+/// The writes of a call's first records leave each row under its own key.
 #[tactic(auto, using(crate::proofs::Fronts::keys_kept))]
 pub fn keys_are_kept()
     ensures { KeysKept }

@@ -1,4 +1,4 @@
-//! What a record makes of a running call.
+//! The effect of a record on a running call.
 
 ghost use Rattle.std.specs.Prelude.{◌≡◌, List, [], ◌∷◌, ◌++◌, IfOk, OnOk, MatchOption};
 ghost use Rattle.mv_values.specs.declared.value.Value.{Value};
@@ -18,21 +18,21 @@ use mv_values::memory::NoMemory;
 use mv_values::value::Row;
 use std::alloc::Global;
 
-/// Whether statements are left behind the record that was added: `Ended` where none is.
+/// Whether statements are left after the record that was added. `Ended` means that none is.
 #[derive(Clone, Copy, PartialEq, Eq)]
 pub enum Stepped {
     Ran,
     Ended,
 }
 
-/// What a call answers that has ended or not.
+/// Returns `Ended` if the call has ended, and `Ran` otherwise.
 pub(crate) fn answer(ended: bool) -> Stepped
     ensures { result ≡ stepped ended }
 {
     if ended { Stepped::Ended } else { Stepped::Ran }
 }
 
-/// The last row.
+/// Returns the last row.
 fn last_of(rows: &[Row]) -> Option<&Row>
     ensures { MatchOption result (rows.now ≡ []) (λ last. (front : List (List Value)) × (rows.now ≡ front ++ last.now ∷ [])) }
 {
@@ -42,7 +42,7 @@ fn last_of(rows: &[Row]) -> Option<&Row>
     }
 }
 
-/// Adds what the turns of a loop over an empty body change: its row is the last one.
+/// Adds the changes of a loop with an empty body. The loop's row becomes the last one.
 #[tactic(auto, using(crate::proofs::Walking::walked_last))]
 fn add_last_row(
     alloc: Global,
@@ -59,7 +59,7 @@ fn add_last_row(
     Ok(())
 }
 
-/// Adds what the turns over an empty body change, where the statement is a loop over one.
+/// Adds the changes of a loop with an empty body, if the statement is one.
 fn add_turns(
     alloc: Global,
     changes: &mut Vec<Change>,
@@ -74,7 +74,7 @@ fn add_turns(
     }
 }
 
-/// What the record of a statement changes of the variables.
+/// Returns the variables that the record of a statement changes.
 #[tactic(auto, using(crate::proofs::Changing::slots_changed))]
 pub(crate) fn changes_for(
     alloc: Global,

@@ -24,7 +24,7 @@ use mv_values::memory::NoMemory;
 use std::alloc::Global;
 use std::mem;
 
-/// The place, controller and definers of a record that isn't there yet.
+/// The place, controller and definers of a record that hasn't been added yet.
 #[derive(Drop)]
 pub struct Ahead {
     pub spot: Spot,
@@ -33,22 +33,22 @@ pub struct Ahead {
     pub reads: List<Read>,
 }
 
-/// A running call: its records so far, its own writes, and where it stands.
+/// A running call: its records so far, its own writes, and its position.
 #[derive(Drop)]
 pub struct Task {
-    /// How many of the variables are parameters.
+    /// The number of variables that are parameters.
     pub(crate) parameters: usize,
     pub(crate) env: Env,
-    /// The variables that the call began with, kept from its first statement on.
+    /// The initial variables of the call, kept from its first statement on.
     pub(crate) first: Option<Env>,
     pub(crate) records: List<Record>,
-    /// How many of the records were added by executing a statement.
+    /// The number of records that were added by executing a statement.
     pub(crate) executed: usize,
     pub(crate) undo: Undo,
     /// For each variable the number of the record that last set it.
     pub(crate) definers: List<Option<usize>>,
-    /// Where the call stands, from the outside in. Behind each place but the last the next one lies in the statement
-    /// before it.
+    /// The position of the call, from the outside in. Each place but the first lies in the statement just before the
+    /// place around it.
     pub(crate) places: List<Place>,
     /// Whether no statement is left.
     pub(crate) ended: bool,
@@ -56,7 +56,7 @@ pub struct Task {
     pub(crate) empty: bool,
 }
 
-/// Before the first statement of a procedure.
+/// Returns the place before the first statement of a procedure.
 fn before_all() -> Place
     ensures { result ≡ first_place }
 {
@@ -68,7 +68,7 @@ fn before_all() -> Place
     }
 }
 
-/// Whether there are no statements.
+/// Whether a list of statements is empty.
 fn is_empty(block: &[RStmt]) -> bool
     ensures { result ≡ none_in block.now }
 {
@@ -78,7 +78,7 @@ fn is_empty(block: &[RStmt]) -> bool
     }
 }
 
-/// A call that has done nothing.
+/// Returns a call that has executed nothing.
 fn unbegun(alloc: Global, parameters: usize, env: Env, places: List<Place>, empty: bool) -> Task
     requires { places ≡ first_place ∷ [] }
     ensures { result ≡ not_begun parameters env None empty }
@@ -97,7 +97,7 @@ fn unbegun(alloc: Global, parameters: usize, env: Env, places: List<Place>, empt
     }
 }
 
-/// Puts the variables back that were kept.
+/// Restores the initial variables, if they were kept.
 fn take_back(env: &mut Env, first: &mut Option<Env>)
     ensures env { env.new ≡ begun_with first.old env.old }
     ensures none { first.new ≡ None }
@@ -107,7 +107,7 @@ fn take_back(env: &mut Env, first: &mut Option<Env>)
     }
 }
 
-/// Leaves the place before the first statement of the procedure alone.
+/// Drops all places except the one before the first statement of the procedure.
 #[tactic(auto, using(crate::proofs::Beginning::only_first))]
 fn go_back(places: &mut List<Place>)
     ensures { 0 < length places.old → places.new ≡ first_place ∷ [] }
@@ -119,7 +119,7 @@ fn go_back(places: &mut List<Place>)
 }
 
 impl Task {
-    /// A call of a procedure before its first statement. Its arguments are copied.
+    /// Returns a call of a procedure before its first statement. It copies the arguments.
     #[tactic(auto, using(crate::proofs::Beginning::new_begins, crate::proofs::Beginning::new_run))]
     pub(crate) fn of(alloc: Global, procedure: &ProcInfo, call: &Call) -> Result<Task, NoMemory>
         ensures task { IfOk result (λ t. IsTask procedure.now t) }
@@ -138,14 +138,14 @@ impl Task {
         Ok(task)
     }
 
-    /// Lends the records so far.
+    /// Returns the records so far.
     pub fn records(&self) -> &[Record]
         ensures { result.now ≡ self.now.records }
     {
         self.records.as_slice()
     }
 
-    /// How many of the records were added by executing a statement.
+    /// The number of records that were added by executing a statement.
     pub fn executed(&self) -> usize
         ensures { result ≡ self.now.executed }
     {
@@ -159,14 +159,14 @@ impl Task {
         self.ended
     }
 
-    /// Lends the call's own writes, with the numbers of their records.
+    /// Returns the call's own writes, with the numbers of their records.
     pub fn undo(&self) -> &Undo
         ensures { result.now ≡ self.now.undo }
     {
         &self.undo
     }
 
-    /// Hands the records out, and leaves the same call before its first statement. It takes no memory.
+    /// Returns the records, and puts the call back before its first statement. It allocates no memory.
     pub fn restart(&mut self, alloc: Global) -> List<Record>
         ensures back { result ≡ self.old.records }
         ensures records { self.new.records ≡ [] }

@@ -15,7 +15,7 @@ use mv_values::list::List;
 use mv_values::memory::NoMemory;
 use std::alloc::Global;
 
-/// Sets the row of a loop to that of the next turn. After NoMemory the variables are as before.
+/// Sets the row of a loop to that of the next turn. On `NoMemory` the variables are unchanged.
 fn set_row(alloc: Global, env: &mut Env, records: &[Record], holder: Holder) -> Result<(), NoMemory>
     ensures ok { OnOk result (env.new ≡ with_next_row records.now holder env.old) }
     ensures err { OnErr result (env.new ≡ env.old) }
@@ -29,7 +29,7 @@ fn set_row(alloc: Global, env: &mut Env, records: &[Record], holder: Holder) -> 
     set_held(env, row as usize, Held::Turn(values.copy(alloc)?))
 }
 
-/// Puts a place in the place of the innermost one.
+/// Replaces the innermost place.
 fn set_innermost(places: &mut List<Place>, place: Place)
     ensures { (outer : List Place) (p : Place) → places.old ≡ outer ++ p ∷ [] → places.new ≡ outer ++ place ∷ [] }
 {
@@ -38,8 +38,8 @@ fn set_innermost(places: &mut List<Place>, place: Place)
     }
 }
 
-/// Begins the next turn of the loop at the innermost place: sets the loop's row, and puts the call at the place in that
-/// turn. After NoMemory the call is as before.
+/// Begins the next turn of the loop at the innermost place. It sets the loop's row, and moves the call to the place in
+/// that turn. On `NoMemory` the call is unchanged.
 fn begin_turn(alloc: Global, task: &mut Task, place: Place) -> Result<(), NoMemory>
     ensures ok { OnOk result ((outer : List Place) (p : Place) → task.old.places ≡ outer ++ p ∷ [] → task.new ≡ in_turn_at task.old outer p place) }
     ensures err { OnErr result (task.new ≡ task.old) }
@@ -52,8 +52,8 @@ fn begin_turn(alloc: Global, task: &mut Task, place: Place) -> Result<(), NoMemo
     Ok(())
 }
 
-/// Puts a call at the place at which it goes on. If a turn begins there, the loop's row is set. After NoMemory the call
-/// is as before.
+/// Moves a call to the place at which it continues. If a turn begins there, the loop's row is set. On `NoMemory` the
+/// call is unchanged.
 pub(crate) fn settle(
     alloc: Global,
     task: &mut Task,
