@@ -67,7 +67,7 @@ pub(crate) fn node_at(graph: &Graph, number: usize) -> Option<&Node>
     graph.nodes.as_slice().get(number.saturating_sub(1))
 }
 
-/// Returns where a call goes on. Takes time proportional to the depth of the statement.
+/// Returns where a call continues. Takes time proportional to the depth of the statement.
 pub(crate) fn next_position<'g>(graph: &'g Graph, task: &Task) -> Position<'g>
     requires nodes { IsGraph graph.now }
     requires task { IsTask graph.now.procedure task.now }

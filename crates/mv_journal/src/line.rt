@@ -82,7 +82,7 @@ fn named(letter: u8, call: u32) -> Option<Event>
     }
 }
 
-/// Parses decimal digits as a number, or returns none if it doesn't fit in 32 bits.
+/// Parses decimal digits as a number of 32 bits, or returns none if they aren't one.
 fn number_of(digits: &[u8]) -> Option<u32>
     ensures { result ≡ number_in digits.now }
 {

@@ -1,4 +1,4 @@
--- How a store is kept: key by key. This project's own.
+-- Defines how a store is kept, key by key. This project's own.
 use Rattle.std.specs.Prelude.{◌≡◌, ◌+◌, ◌<◌, ◌≤◌, ◌==◌, ◌&&◌, ◌∷◌, ⊤, ℕ, Bool, true, List, [], Option, Some, None, OnSome, length, slice_index_or, if◌then◌else◌}
 use Rattle.std.specs.List.{list_any}
 use Rattle.std.specs.Option.{is_some}
@@ -17,7 +17,7 @@ use Rattle.mv_store.specs.declared.fate.Fate.TheVariants.{Commit, Gone}
 
 -- Versions under a key
 
--- an item's versions, blank ones where there is none
+-- an item's versions, blank ones if there is no item
 abbrev pub versions_in : Option Versions → Versions
 versions_in None = blank
 versions_in (Some v) = v
@@ -36,7 +36,7 @@ versions_at tables t key = versions_of (entries_at tables t) key
 abbrev pub AllRise : List Entries → Type 0
 AllRise tables = (t : ℕ) → KeysRise (entries_at tables t)
 
--- the versions under a key of a table were changed by f, and all others are as they were
+-- the versions under a key of a table were changed by f, and all others are unchanged
 pub record IsChanged (key : List Value) (f : Versions → Versions) (old new : Entries) : Type 0 where
   pub at : (other : List Value) → versions_of new other ≡ (if is_eq (key_order key other) then f (versions_of old other) else versions_of old other)
   pub rising : KeysRise old → KeysRise new
@@ -70,7 +70,7 @@ is_spot t key spot = (spot.table == t) && is_eq (key_order spot.key key)
 abbrev pub HasSpot : ℕ → List Value → List Spot → Type 0
 HasSpot t key spots = list_any (is_spot t key) spots ≡ true
 
--- what was noted is noted still
+-- all noted keys are still noted
 abbrev pub KeepsSpots : Spots → Spots → Type 0
 KeepsSpots old new = (call t : ℕ) (key : List Value) → HasSpot t key (spots_of old call) → HasSpot t key (spots_of new call)
 
@@ -82,7 +82,7 @@ IsCovered tables spots = (call t : ℕ) (key : List Value) → is_some (own_of c
 abbrev pub AreUpTo : ℕ → List Entries → Type 0
 AreUpTo last tables = (t : ℕ) (key : List Value) → IsNext (last + 1) (versions_at tables t key)
 
--- what holds of the parts of a store
+-- the invariant of the parts of a store
 pub record IsKept (tables : List Entries) (spots : Spots) (last : ℕ) : Type 0 where
   pub rising : AllRise tables
   pub numbers : AreUpTo last tables
@@ -90,16 +90,16 @@ pub record IsKept (tables : List Entries) (spots : Spots) (last : ℕ) : Type 0 
 
 -- Changes
 
--- with a patch more of a call
+-- one more patch of a call
 abbrev pub with_patch : ℕ → Patch → Versions → Versions
 with_patch call patch v = record v { own = with_own call patch v.own }
 
--- the call's patch is a commit, or gone
+-- the call's patch becomes a commit, or is dropped
 abbrev pub settled : Fate → ℕ → Versions → Versions
 settled (Commit n) call v = stamped call n v
 settled Gone call v = record v { own = without call v.own }
 
--- the number of a commit is above those of all others, where there is a patch to commit
+-- the number of a commit is above those of all others, if there is a patch to commit
 abbrev pub MaySettle : Fate → ℕ → Versions → Type 0
 MaySettle (Commit n) call v = OnSome (own_of call v.own) (IsNext n v)
 MaySettle Gone call v = ⊤
@@ -114,11 +114,11 @@ pub record AreDone (f : Versions → Versions) (spots : List Spot) (old new : Li
   pub at : (u : ℕ) (key : List Value) → versions_at new u key ≡ done_at f spots u key (versions_at old u key)
   pub rising : AllRise old → AllRise new
 
--- what is left of collected versions: nothing of blank ones
+-- what is left of collected versions: none if they are blank
 abbrev pub left_of : ℕ → Versions → Option Versions
 left_of low v = if is_blank (collected low v) then None else Some (collected low v)
 
--- from low on each row is as before
+-- each row from low on is unchanged
 abbrev pub ReadsStay : ℕ → Versions → Type 0
 ReadsStay low v = (n : ℕ) → low ≤ n → row_at (collected low v) n ≡ row_at v n
 

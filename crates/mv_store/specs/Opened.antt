@@ -1,4 +1,4 @@
--- The versions that a database begins with.
+-- The initial versions of a database.
 use Rattle.std.specs.Prelude.{List, [], Some, map}
 use Rattle.mv_values.specs.declared.rows.Keyed.{Keyed}
 use Rattle.mv_store.specs.Stored.{Entries}

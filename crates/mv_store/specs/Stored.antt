@@ -1,6 +1,6 @@
--- Tables that are kept in versions: what they hold after each commit, and what calls have written without committing. That the rows of
--- a table are kept in versions is the paper's (Dashti, Basil John, Shaikhha and Koch, SIGMOD 2017); how the writes of a call become a
--- commit is this project's own.
+-- Defines tables stored in versions: their rows after each commit, and the uncommitted writes of calls. That the rows
+-- of a table are kept in versions is the paper's (Dashti, Basil John, Shaikhha and Koch, SIGMOD 2017); how the writes
+-- of a call become a commit is this project's own.
 use Rattle.std.specs.Prelude.{◌≡◌, ◌+◌, ◌++◌, ◌∷◌, ℕ, List, [], Option, length, map}
 use Rattle.mv_values.specs.declared.value.Value.{Value}
 use Rattle.mv_values.specs.declared.rows.Keyed.{Keyed}
@@ -14,7 +14,7 @@ use Rattle.mv_record.specs.Writes.{AreRising}
 abbrev pub Entries : Type 0
 Entries = List (List Value × Versions)
 
--- the versions of each table, the number of the last commit, and the number from which on rows are kept
+-- the versions of each table, the number of the last commit, and the least number at which rows are kept
 pub record Versioned : Type 0 where
   pub tables : List Entries
   pub last : ℕ
@@ -24,11 +24,11 @@ pub record Versioned : Type 0 where
 abbrev pub held : {B : Type 0} → (Versions → Option B) → List Entries → List (List (List Value × B))
 held f tables = map (picked f) tables
 
--- the rows of a table after n commits
+-- the rows of a table after commit n
 abbrev pub table_at : ℕ → Entries → List Keyed
 table_at n es = stored (picked (λ v. row_at v n) es)
 
--- the tables after n commits
+-- the tables after commit n
 abbrev pub database_at : Versioned → ℕ → List (List Keyed)
 database_at s n = map (table_at n) s.tables
 
@@ -36,20 +36,20 @@ database_at s n = map (table_at n) s.tables
 abbrev pub newest : Versioned → List (List Keyed)
 newest s = database_at s s.last
 
--- the patches of a table as writes, where the table has this number
+-- the patches of the table with this number, as writes
 abbrev pub writes_to : ℕ → List (List Value × Patch) → List Write
 writes_to t es = map (λ e. record { table = t; key = e.0; patch = e.1 }) es
 
--- the same of each table, where the first has this number
+-- the patches of each table as writes; the first table has this number
 abbrev pub writes_from : ℕ → List (List (List Value × Patch)) → List Write
 writes_from t [] = []
 writes_from t (es ∷ tables) = writes_to t es ++ writes_from (t + 1) tables
 
--- the writes of a call that are not committed: one for each key, by table and key
+-- the uncommitted writes of a call: one for each key, by table and key
 abbrev pub own_writes : Versioned → ℕ → List Write
 own_writes s call = writes_from 0 (held (λ v. own_of call v.own) s.tables)
 
--- a database of as many tables, the keys of each rising
+-- a database with as many tables, each with rising keys
 pub record IsLike (s : Versioned) (db : List (List Keyed)) : Type 0 where
   pub size : length db ≡ length s.tables
   pub rising : AreRising db

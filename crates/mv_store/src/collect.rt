@@ -1,4 +1,4 @@
-//! Forgets old versions.
+//! Drops old versions.
 
 ghost use Rattle.std.specs.Prelude.{◌≡◌, length};
 ghost use Rattle.mv_store.specs.Kept.{left_of, AllRise, AreCollected, ReadsStay};
@@ -6,7 +6,7 @@ ghost use Rattle.mv_store.specs.Kept.{left_of, AllRise, AreCollected, ReadsStay}
 use mv_chain::chain::Chain;
 use mv_table::key_map::{Change, KeyMap};
 
-/// Forgets the rows before a commit.
+/// Drops the rows before a commit.
 #[derive(Clone, Copy)]
 struct Collecting {
     low: u32,
@@ -23,8 +23,8 @@ impl Change<Chain> for Collecting {
     }
 }
 
-/// Forgets the rows of all tables before commit `low`, and drops the keys that have no versions left. It takes no memory, and costs the
-/// number of rows and of the commits that it forgets.
+/// Drops the rows of all tables before commit `low`, and the keys that have no versions left. It allocates no memory.
+/// Takes time linear in the number of rows and of the commits that it drops.
 pub(crate) fn collect_all(tables: &mut Vec<KeyMap<Chain>>, low: u32)
     requires { AllRise tables.old.items }
     ensures { AreCollected low (length tables.old.items) tables.old.items tables.new.items }

@@ -1,4 +1,4 @@
-//! Finds rows after a number of commits.
+//! Finds rows as of a commit.
 
 ghost use Rattle.std.specs.Prelude.{◌≡◌, IfOk};
 ghost use Rattle.mv_values.specs.Patching.{row_of};
@@ -17,8 +17,8 @@ use mv_values::rows::{Keyed, Rows};
 use mv_values::value::{Key, Row};
 use std::alloc::Global;
 
-/// Copies of the rows of a table that the predicate matches, after n commits. It looks at the keys in the span that the tests leave,
-/// which it finds in the logarithm of the number of rows, and copies the rows that match.
+/// Returns copies of the rows of a table that the predicate matches after commit n. It visits only the keys in the span
+/// of the tests, and finds the first one in time logarithmic in the number of rows.
 pub(crate) fn find(
     alloc: Global,
     table: &KeyMap<Chain>,
@@ -39,8 +39,8 @@ pub(crate) fn find(
     Ok(rows)
 }
 
-/// A copy of the row under the key after n commits, where there is one. It costs the logarithm of the number of rows, and what the
-/// chain's look-up costs.
+/// Returns a copy of the row under the key after commit n, if there is one. Takes time logarithmic in the number of
+/// rows, and the time of the chain's look-up.
 pub(crate) fn find_row(
     alloc: Global,
     table: &KeyMap<Chain>,

@@ -1,7 +1,7 @@
-//! Tables that are kept in versions.
+//! Tables stored in versions.
 //!
-//! A store keeps a chain of versions under each key of each table, and notes for each call the keys that it has written. So a commit
-//! looks up the keys that its call wrote, and no others.
+//! A store has a chain of versions under each key of each table. For each call it notes the keys that the call has
+//! written. So a commit looks up only the keys that its call wrote.
 #![tactic(auto)]
 
 mod collect;

@@ -1,4 +1,4 @@
-//! The versions that a database begins with.
+//! The initial versions of a database.
 
 ghost use Rattle.std.specs.Prelude.{◌≡◌, IfOk, map};
 ghost use Rattle.mv_table.specs.Entries.{KeysRise};
@@ -12,7 +12,7 @@ use mv_values::memory::NoMemory;
 use mv_values::rows::{Database, Rows};
 use std::alloc::Global;
 
-/// The rows of a table as versions before any commit.
+/// Returns the rows of a table as versions before any commit.
 fn open_table(alloc: Global, rows: &Rows) -> Result<KeyMap<Chain>, NoMemory>
     ensures opened { IfOk result (λ table. table ≡ opened rows.now) }
     ensures rising { IfOk result (λ table. KeysRise table) }
@@ -26,7 +26,7 @@ fn open_table(alloc: Global, rows: &Rows) -> Result<KeyMap<Chain>, NoMemory>
     Ok(table)
 }
 
-/// The tables of a database as versions before any commit.
+/// Returns the tables of a database as versions before any commit.
 pub(crate) fn open_all(alloc: Global, opening: &Database) -> Result<Vec<KeyMap<Chain>>, NoMemory>
     ensures opened { IfOk result (λ tables. tables.items ≡ map opened opening.now) }
     ensures rising { IfOk result (λ tables. AllRise tables.items) }

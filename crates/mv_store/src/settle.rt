@@ -42,8 +42,8 @@ fn settle_all(tables: &mut Vec<KeyMap<Chain>>, spots: &[Spot], call: u32, fate: 
     }
 }
 
-/// Settles the patches at the spots that are noted for a call, where some are. It takes no memory, and costs the logarithm of the number
-/// of rows for each.
+/// Settles the patches at the spots that are noted for a call. It allocates no memory. Takes time logarithmic in the
+/// number of rows for each spot.
 pub(crate) fn settle_noted(
     tables: &mut Vec<KeyMap<Chain>>,
     noted: Option<List<Spot>>,

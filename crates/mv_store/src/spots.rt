@@ -17,14 +17,14 @@ pub(crate) struct Spot {
     pub(crate) key: Key,
 }
 
-/// The keys that each call has written without committing.
+/// The keys of each call's uncommitted writes.
 #[derive(Drop)]
 pub(crate) struct Spots {
     by_call: BTreeMap<u32, List<Spot>>,
 }
 
 impl Spots {
-    /// No keys. It takes no memory.
+    /// Returns an empty set of keys. It allocates no memory.
     pub(crate) fn new(alloc: Global) -> Spots
         ensures { (call : ℕ) → spots_of result call ≡ [] }
     {
@@ -33,7 +33,7 @@ impl Spots {
         }
     }
 
-    /// Notes a key for a call. It costs the logarithm of the number of calls.
+    /// Notes a key for a call. Takes time logarithmic in the number of calls.
     pub(crate) fn note(&mut self, alloc: Global, call: u32, spot: Spot) -> Result<(), NoMemory>
         ensures kept { KeepsSpots self.old self.new }
         ensures noted { OnOk result (HasSpot spot.table spot.key (spots_of self.new call)) }
@@ -47,7 +47,8 @@ impl Spots {
         Ok(())
     }
 
-    /// Hands the keys of a call out. It takes no memory, and costs the logarithm of the number of calls.
+    /// Removes the keys of a call and returns them. It allocates no memory. Takes time logarithmic in the number of
+    /// calls.
     pub(crate) fn take(&mut self, call: u32) -> Option<List<Spot>>
         ensures spots { spots_in result ≡ spots_of self.old call }
         ensures others { (other : ℕ) → spots_of self.new other ≡ (if call == other then [] else spots_of self.old other) }

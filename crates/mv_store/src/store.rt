@@ -1,4 +1,4 @@
-//! A database in versions.
+//! A database with its versions.
 
 ghost use Rattle.std.specs.Prelude.{◌≡◌, ◌<◌, ◌≤◌, ℕ, [], ◌∷◌, IfOk, IfErr, OnOk, OnErr, Err};
 ghost use Rattle.mv_values.specs.Patching.{found_by, row_of};
@@ -26,7 +26,7 @@ use mv_view::view::Refused;
 use std::alloc::Global;
 use std::marker::Model;
 
-/// The tables of a database as they were after each commit from `low` on, and what calls have written without committing.
+/// The tables of a database after each commit from `low` on, and the uncommitted writes of calls.
 #[derive(Drop)]
 pub struct Store {
     tables: Vec<KeyMap<Chain>>,
@@ -47,7 +47,7 @@ impl Model for Store {
 }
 
 impl Store {
-    /// A store of this database, before any commit.
+    /// Returns a store of this database, before any commit. It copies the rows.
     pub fn new(alloc: Global, opening: &Database) -> Result<Store, NoMemory>
         ensures database { IfOk result (λ store. (n : ℕ) → database_at store n ≡ opening.now) }
         ensures own { IfOk result (λ store. (call : ℕ) → own_writes store call ≡ []) }
@@ -63,7 +63,7 @@ impl Store {
         })
     }
 
-    /// The number of the last commit.
+    /// Returns the number of the last commit.
     pub fn last(&self) -> u32
         ensures last { result ≡ self.now.last }
         ensures like { (n : ℕ) → IsLike self.now (database_at self.now n) }
@@ -71,16 +71,17 @@ impl Store {
         self.last
     }
 
-    /// The number from which on the tables can be read.
+    /// Returns the least number at which the tables can be read.
     pub fn low(&self) -> u32
         ensures { result ≡ self.now.low }
     {
         self.low
     }
 
-    /// Copies of the rows that the predicate matches after n commits, in key order. Each such row has to stand under a key that the
-    /// predicate admits. Stale exactly where n is below the store's low. It looks at the keys in the span that the predicate's tests
-    /// leave, and copies the rows that match.
+    /// Returns copies of the rows that the predicate matches after commit n, in key order. Each such row must be under
+    /// a key that the predicate admits. Fails with `Stale` exactly if n is below the store's low, and with `NoMemory`
+    /// if memory runs out. It visits only the keys in the span of the predicate's tests, and copies only the rows that
+    /// match.
     pub fn rows_at(&self, alloc: Global, n: u32, pred: &Pred) -> Result<Rows, Refused>
         requires { Admitted pred.now (rows_at (database_at self.now n) pred.now.table) }
         ensures found { IfOk result (λ rows. rows ≡ found_by pred.now (database_at self.now n)) }
@@ -97,8 +98,9 @@ impl Store {
         Ok(found)
     }
 
-    /// A copy of the row under a key of a table after n commits, where there is one. Stale exactly where n is below the store's low. It
-    /// costs the logarithm of the number of rows, the size of the row, and the patches of the later commits of it.
+    /// Returns a copy of the row under a key of a table after commit n, if there is one. Fails with `Stale` exactly if
+    /// n is below the store's low, and with `NoMemory` if memory runs out. Takes time logarithmic in the number of
+    /// rows, and linear in the size of the row and of its later patches.
     pub fn row_at(
         &self,
         alloc: Global,
@@ -139,8 +141,9 @@ impl Store {
         }
     }
 
-    /// Puts a write of a call, after the call's own. Nothing reads it until it is stamped. A write to a table that isn't there is left
-    /// out. Where no memory is found the store is as before. It costs the logarithm of the number of rows.
+    /// Adds a write of a call, after the call's earlier ones. No read sees it until it is stamped. A write to a table
+    /// that doesn't exist is ignored. If memory runs out, the store is unchanged. Takes time logarithmic in the number
+    /// of rows.
     pub fn put(&mut self, alloc: Global, call: u32, write: &Write) -> Result<(), NoMemory>
         ensures ok { OnOk result (HasPut call (write.now ∷ []) self.old self.new) }
         ensures err { OnErr result (IsAsBefore self.old self.new) }
@@ -152,8 +155,8 @@ impl Store {
         put_write(alloc, &mut self.tables[at], &mut self.spots, call, write)
     }
 
-    /// Puts writes of a call, in order, after the call's own. Where no memory is found the call has no writes at all, and all else is
-    /// as before.
+    /// Adds writes of a call, in order, after the call's earlier ones. If memory runs out, all writes of the call are
+    /// dropped, and everything else is unchanged.
     pub fn put_all(&mut self, alloc: Global, call: u32, writes: &[Write]) -> Result<(), NoMemory>
         ensures ok { OnOk result (HasPut call writes.now self.old self.new) }
         ensures err { OnErr result (HasDropped call self.old self.new) }
@@ -167,8 +170,8 @@ impl Store {
         Ok(())
     }
 
-    /// Makes what a call has written commit n, which has to be above the last commit. It takes no memory, and costs the logarithm of the
-    /// number of rows for each key that the call has written.
+    /// Turns the writes of a call into commit n. The number n must be above that of the last commit. It allocates no
+    /// memory. Takes time logarithmic in the number of rows for each key that the call has written.
     pub fn stamp(&mut self, call: u32, n: u32)
         requires { self.old.last < n }
         ensures { HasStamped call n self.old self.new }
@@ -178,7 +181,7 @@ impl Store {
         self.last = n;
     }
 
-    /// Drops what a call has written without committing. It takes no memory, and costs what `stamp` does.
+    /// Drops the uncommitted writes of a call. It allocates no memory, and takes as long as `stamp`.
     pub fn drop_of(&mut self, call: u32)
         ensures { HasDropped call self.old self.new }
     {
@@ -186,8 +189,9 @@ impl Store {
         settle_noted(&mut self.tables, noted, call, Fate::Gone);
     }
 
-    /// Forgets the tables before commit `low`, which isn't below that of an earlier call. Reads from `low` on stay as they were, and so
-    /// do writes that are not committed. It takes no memory, and costs the number of rows and of the commits that it forgets.
+    /// Drops the tables before commit `low`. The number must not be below that of an earlier call. Reads from `low` on
+    /// and uncommitted writes are unaffected. It allocates no memory. Takes time linear in the number of rows and of
+    /// the commits that it drops.
     pub fn raise(&mut self, low: u32)
         requires { self.old.low ≤ low }
         ensures { HasRaised low self.old self.new }

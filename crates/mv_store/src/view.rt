@@ -18,7 +18,8 @@ use mv_view::view::{Refused, View};
 use std::alloc::Global;
 use std::marker::Model;
 
-/// A view of the tables of a store after some number of commits. It answers Stale exactly where that number is below the store's low.
+/// A view of the tables of a store after a commit. It returns `Stale` exactly if the number of the commit is below the
+/// store's low.
 #[derive(Drop)]
 pub struct StoreView<'a> {
     store: &'a Store,
@@ -40,7 +41,7 @@ impl<'a> Model for StoreView<'a> {
 }
 
 impl<'a> StoreView<'a> {
-    /// A view of the tables after n commits, that was given no calls yet. It takes no memory.
+    /// Returns a view of the tables after commit n, before any query. It allocates no memory.
     pub fn new(store: &'a Store, n: u32) -> StoreView<'a>
         ensures { result ≡ record { database = database_at store.now n; start = n; may_be_stale = nat_lt n store.now.low; stale_answers = 0; last_low = 0; rows_calls = 0; row_calls = 0 } }
     {
@@ -54,7 +55,7 @@ impl<'a> StoreView<'a> {
         }
     }
 
-    /// Counts a refusal that is Stale, and keeps its low.
+    /// Counts an error that is `Stale`, and keeps its low.
     fn count(&mut self, refused: Refused)
         ensures rows { self.new ≡ answered {A = Seq Keyed} (Err refused) self.old }
         ensures row { self.new ≡ answered {A = Opt (Seq Value)} (Err refused) self.old }

@@ -1,4 +1,4 @@
-//! Puts writes of calls.
+//! Adds writes of calls.
 
 ghost use Rattle.std.specs.Prelude.{◌≡◌, false, OnOk, OnErr};
 ghost use Rattle.std.specs.Option.{is_some};
@@ -26,7 +26,7 @@ fn note(alloc: Global, spots: &mut Spots, call: u32, write: &Write) -> Result<()
     spots.note(alloc, call, spot)
 }
 
-/// Puts the patch of a write, and notes its key where the call had no patch.
+/// Adds the patch of a write, and notes its key if the call had no patch there.
 fn put_patch(
     alloc: Global,
     chain: &mut Chain,
@@ -46,7 +46,8 @@ fn put_patch(
     chain.put(call, patch)
 }
 
-/// Puts a write into its table. It costs the logarithm of the number of rows. Where no memory is found the versions are as before.
+/// Adds a write to its table. Takes time logarithmic in the number of rows. If memory runs out, the versions are
+/// unchanged.
 pub(crate) fn put_write(
     alloc: Global,
     table: &mut KeyMap<Chain>,
