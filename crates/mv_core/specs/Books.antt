@@ -1,4 +1,5 @@
--- What a book says, and what its calls make of it. Which events are allowed is the law of journals. This project's own.
+-- Defines the contents of a book, and how events change it. The law of journals says which events are allowed. This
+-- project's own.
 use Rattle.std.specs.Prelude.{◌≡◌, ◌<◌, ◌≤◌, ◌+◌, ◌^◌, ℕ, List, [], ◌∷◌, ◌++◌, Option, Some, None, Result, Ok, Err, length, map, slice_get, IsSome}
 use Rattle.std.specs.Option.{ForSome, option_map}
 use Rattle.mv_values.specs.declared.memory.NoMemory.{NoMemory}
@@ -22,8 +23,8 @@ use Rattle.mv_core.specs.Calls.{IsLive, AreRounds, TellsCall, turns_in, last_num
 
 -- A book
 
--- what contracts see of a book: its script, what its events have come to, the rounds of each call that has begun, its
--- events, and for how many more of them there is room
+-- what contracts see of a book: its script, the outcome of its events, the rounds of each call that has begun, its
+-- events, and the room for more events
 pub record Booked : Type 0 where
   pub script : Script
   pub course : Course
@@ -75,7 +76,7 @@ pub record Made (e : Event) (old new : Booked) : Type 0 where
   pub journal : new.journal ≡ old.journal ++ e ∷ []
   pub script : new.script ≡ old.script
 
--- no event was made, and all that is known is as before
+-- no event was made, and nothing else changed
 pub record IsSame (old new : Booked) : Type 0 where
   pub script : new.script ≡ old.script
   pub course : new.course ≡ old.course
@@ -94,7 +95,7 @@ round_event Plain c = A c
 round_event Moved c = M c
 round_event Exclusive c = X c
 
--- the number of a commit's own round: what the task of a repair executed that commits in the same step
+-- the number of a commit's own round: that of the records executed by the repair in the same step
 abbrev pub own_number : Option Task → Option ℕ
 own_number None = None
 own_number (Some task) = Some task.executed
@@ -114,21 +115,21 @@ IsOwnNumber own b c = IsOwnBy own (work_in b) b.course c
 
 -- Room
 
--- there is room for so many events, and for so many rounds of a call
+-- there is room for this many events, and for as many rounds of a call
 abbrev pub HasRoom : Booked → ℕ → ℕ → Type 0
 HasRoom b c n = (n ≤ b.room) × ForSome (slice_get b.rounds c) (λ r. n ≤ r.room)
 
--- an event used the room of one
+-- one event's room was used
 abbrev pub UsesOne : Booked → Booked → Type 0
 UsesOne old new = (c n : ℕ) → HasRoom old c (n + 1) → HasRoom new c n
 
--- and none of it
+-- no room was used
 abbrev pub KeepsRoom : Booked → Booked → Type 0
 KeepsRoom old new = (c n : ℕ) → HasRoom old c n → HasRoom new c n
 
 -- What is told
 
--- the rounds of a live call, with their numbers but for that of the last, which may not be known yet
+-- the rounds of a live call with their numbers; the last one may not have its number yet
 pub record HasRounds (b : Booked) (c : ℕ) (rs : List Round) : Type 0 where
   pub live : Live
   pub is_live : IsLive b.course c live

@@ -1,4 +1,4 @@
--- What is kept of a call that has begun: its rounds with their numbers, and its reply. This project's own.
+-- Defines what is kept of a call that has begun: its rounds with their numbers, and its reply. This project's own.
 use Rattle.std.specs.Prelude.{◌≡◌, ◌⊎◌, ◌<◌, ℕ, ◌==◌, false, List, [], ◌∷◌, ◌++◌, Option, Some, None, map, length, slice_get, option_to_list}
 use Rattle.std.specs.List.{position, flat_map}
 use Rattle.std.specs.Option.{is_some}
@@ -50,11 +50,11 @@ last_number (r ∷ s ∷ rs) = last_number (s ∷ rs)
 abbrev pub due_number : Work → Course → ℕ → Option ℕ
 due_number w s c = last_number (rounds_of w s.order c (turns_of (slice_get s.calls c)))
 
--- what is kept of a live call's rounds: what Runs says, but the number of the last one may not be known yet
+-- the rounds kept of a live call: those of Runs, but the last one may not have its number yet
 abbrev pub AreRounds : List Round → List Round → Type 0
 AreRounds kept all = (kept ≡ all) ⊎ (kept ≡ numbered None all)
 
--- rounds after which one of this mark comes: a move takes the number of the one before it
+-- rounds before one with this mark: a move clears the number of the round before it
 abbrev pub closed : Mark → List Round → List Round
 closed Plain rs = rs
 closed Exclusive rs = rs
@@ -80,7 +80,7 @@ TellsBy w order c kept (Some reply) = (kept ≡ rounds_of w order c (turns_in ke
 abbrev pub TellsCall : Work → List ℕ → ℕ → Progress → Type 0
 TellsCall w order c p = TellsBy w order c p.rounds.items p.reply
 
--- it began after so many commits, and has done nothing
+-- it began after this many commits, and has executed nothing
 pub record IsFresh (n : ℕ) (p : Progress) : Type 0 where
   pub live : live_of p ≡ begin n
   pub rounds : p.rounds.items ≡ unknown n Plain ∷ []
@@ -88,7 +88,7 @@ pub record IsFresh (n : ℕ) (p : Progress) : Type 0 where
 
 -- A commit
 
--- the call has committed, in a round of its own where that has a number
+-- the call has committed; if a number is given, in a round of its own
 abbrev pub committed : ℕ → Option ℕ → Live → Live
 committed n None l = finish l
 committed n (Some k) l = finish (again n Exclusive l)

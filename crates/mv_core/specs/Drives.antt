@@ -1,4 +1,4 @@
--- What becomes of events that are given one after another. This project's own.
+-- Defines the result of a list of events. This project's own.
 use Rattle.std.specs.Prelude.{◌≡◌, ℕ, ◌+◌, ◌-◌, ◌==◌, List, [], ◌∷◌, ◌++◌, Option, Some, None, Result, Ok, Err, take, length, not}
 use Rattle.std.specs.Option.{option_map}
 use Rattle.mv_journal.specs.declared.event.Event.{Event}
@@ -31,7 +31,7 @@ refusal_alone w s (M c) = refusal w s (M c)
 refusal_alone w s (X c) = refusal w s (X c)
 refusal_alone w s G = refusal w s G
 
--- what is wrong first with the rest of a journal by a rule, where its first event has this number
+-- the first fault in the rest of a journal by a rule; its first event has this number
 abbrev pub wrong_by : Rule → Work → ℕ → Course → List Event → Option Wrong
 wrong_by rule w n s [] = option_map wrong.Open (open_call w s)
 wrong_by rule w n s (e ∷ es) = or_refused n (rule w s e) (wrong_by rule w (n + 1) (after w s e) es)
@@ -45,7 +45,7 @@ pub record HasMade (es : List Event) (old new : Booked) : Type 0 where
   pub journal : new.journal ≡ old.journal ++ es
   pub script : new.script ≡ old.script
 
--- an event was made exactly where the rule allows it; else nothing happened, and the refusal is the rule's
+-- an event was made exactly if the rule allows it; otherwise nothing changed, and the refusal is the rule's
 abbrev pub HasTaken : Rule → Event → Booked → Booked → Result (Unit {0}) Refusal → Type 0
 HasTaken rule e old new (Ok x) = (rule (work_in old) old.course e ≡ None) × Made e old new
 HasTaken rule e old new (Err (Refused f)) = (rule (work_in old) old.course e ≡ Some f) × HasMade [] old new
@@ -60,13 +60,13 @@ fault_at n NoMemory = fault.NoMemory
 abbrev pub HasMadeFront : List Event → Booked → Booked → Type 0
 HasMadeFront es old new = (front rest : List Event) × (es ≡ front ++ rest) × HasMade front old new
 
--- this is what is wrong with them first, and all before it were made
+-- this is their first fault, and all events before it were made
 abbrev pub Stops : Rule → List Event → Booked → Booked → DriveFault → Type 0
 Stops rule es old new (fault.Refused n f) = (wrong_by rule (work_in old) 1 old.course es ≡ Some (wrong.Refused n f)) × HasMade (take (n - 1) es) old new
 Stops rule es old new (fault.Open c) = (wrong_by rule (work_in old) 1 old.course es ≡ Some (wrong.Open c)) × HasMade es old new
 Stops rule es old new fault.NoMemory = HasMadeFront es old new
 
--- Ok exactly where nothing is wrong with them, and then all were made; else the first that is wrong
+-- Ok exactly if they have no fault, and then all were made; otherwise the first fault
 abbrev pub Driven : Rule → List Event → Booked → Booked → Result (Unit {0}) DriveFault → Type 0
 Driven rule es old new (Ok x) = (wrong_by rule (work_in old) 1 old.course es ≡ None) × HasMade es old new
 Driven rule es old new (Err f) = Stops rule es old new f

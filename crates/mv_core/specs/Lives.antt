@@ -1,10 +1,10 @@
--- The numbers of live calls. This project's own.
+-- Defines the numbers of live calls. This project's own.
 use Rattle.std.specs.Prelude.{ℕ, ◌+◌, min, List, [], ◌∷◌, Option, Some, None, slice_get, if◌then◌else◌}
 use Rattle.std.specs.Set.{remove_key}
 use Rattle.std.specs.Ordering.{is_eq, nat_cmp}
 use Rattle.mv_lawful.specs.Lawful.{Live}
 
--- those of the calls that are live, where the first call has this number
+-- the numbers of the live calls; the first call has this number
 abbrev pub live_from : ℕ → List Live → List ℕ
 live_from c [] = []
 live_from c (l ∷ ls) = if l.done then live_from (c + 1) ls else c ∷ live_from (c + 1) ls

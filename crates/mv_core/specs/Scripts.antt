@@ -1,4 +1,4 @@
--- What the calls of a script do, by the graphs of their procedures. This project's own.
+-- Defines how the calls of a script run, by the graphs of their procedures. This project's own.
 use Rattle.std.specs.Prelude.{◌≡◌, ◌≤◌, ◌<◌, ◌^◌, ℕ, List, [], Option, Some, None, length, slice_get}
 use Rattle.std.specs.List.{AllZip}
 use Rattle.mv_values.specs.declared.calls.Call.{Call}
@@ -17,12 +17,12 @@ use Rattle.mv_core.specs.declared.script.Script.{Script}
 abbrev pub idle : Tables → Run
 idle db = record { records = []; reply = record { lines = []; end = None }; tables = db }
 
--- nothing is executed of a call whose procedure isn't there
+-- a call whose procedure doesn't exist executes nothing
 abbrev pub run_by : Option Graph → Call → Tables → Run
 run_by None call db = idle db
 run_by (Some g) call db = meaning_of g call db
 
--- nor of a call that isn't there
+-- a call that doesn't exist executes nothing
 abbrev pub run_in : List Graph → Option Call → Tables → Run
 run_in graphs None db = idle db
 run_in graphs (Some call) db = run_by (slice_get graphs call.procedure) call db

@@ -1,4 +1,4 @@
-//! The history of a run: its events, and what they have come to.
+//! The history of a run: its events, and their outcome so far.
 
 ghost use Rattle.std.specs.Prelude.{◌≡◌, ◌<◌, ◌≤◌, ◌+◌, ◌^◌, ◌≢◌, [], ℕ, None, Some, drop, length, IfOk, IfSome, IfNone, OnOk};
 ghost use Rattle.std.specs.Option.{option_copied};
@@ -23,21 +23,21 @@ use mv_values::rows::Database;
 use std::alloc::Global;
 use std::marker::Model;
 
-/// A call that began, and how many commits there were then.
+/// A call that began, and the number of commits before it.
 #[derive(Clone, Copy)]
 pub struct Begun {
     pub call: u32,
     pub start: u32,
 }
 
-/// The history of a run: what is run, the events, and what they have come to. It has no tables and no running calls.
-/// Each of its events is one that the law of journals allows.
+/// The history of a run: its script, the events, and their outcome so far. It contains no tables and no running calls.
+/// The law of journals allows each of its events.
 #[derive(Drop)]
 pub struct Book {
     script: Script,
     /// The calls that have committed, in order.
     order: Roomy<u32>,
-    /// Those that have begun, by number.
+    /// The calls that have begun, by number.
     calls: Vec<Progress>,
     live: LiveCalls,
     low: u32,
@@ -67,7 +67,7 @@ impl Model for Book {
 }
 
 impl Book {
-    /// A history without events. It takes no memory.
+    /// Returns a history without events. It allocates no memory.
     pub fn new(alloc: Global, script: Script) -> Book
         requires { length script.calls < 2 ^ 32 }
         ensures script { result.script ≡ script }
@@ -84,15 +84,14 @@ impl Book {
         }
     }
 
-    /// Lends what is run.
+    /// Returns the script.
     pub fn script(&self) -> &Script
         ensures { result.now ≡ self.now.script }
     {
         &self.script
     }
 
-    /// Lends the events. The law of journals allows each of them after those before it, and they have come to what the
-    /// history tells.
+    /// Returns the events. The law of journals allows each of them after those before it.
     pub fn journal(&self) -> &[Event]
         ensures events { result.now ≡ self.now.journal }
         ensures allowed { AllAllowed (work_in self.now) beginning self.now.journal }
@@ -101,7 +100,7 @@ impl Book {
         self.journal.as_slice()
     }
 
-    /// The call that begins next, none where each has begun.
+    /// Returns the call that begins next, or none if each has begun.
     pub fn next_call(&self) -> Option<u32>
         ensures next { IfSome result (λ call. (call ≡ length self.now.course.calls) × (call < length self.now.script.calls)) }
         ensures none { IfNone result (length self.now.course.calls ≡ length self.now.script.calls) }
@@ -114,7 +113,8 @@ impl Book {
         }
     }
 
-    /// The next call begins, after all commits. Returns `None` exactly where each call has begun.
+    /// Begins the next call, after all commits. Returns `None` exactly if each call has begun. Fails with `NoMemory` if
+    /// memory runs out.
     pub fn begin(&mut self, alloc: Global) -> Result<Option<Begun>, NoMemory>
         ensures { HasBegun result self.old self.new }
     {
@@ -134,7 +134,7 @@ impl Book {
         Ok(Some(Begun { call, start }))
     }
 
-    /// A call executes a statement.
+    /// Adds the event that a call executes a statement.
     pub fn ran(&mut self, call: u32)
         requires allowed { refusal (work_in self.old) self.old.course (S call) ≡ None }
         requires room { 0 < self.old.room }
@@ -145,8 +145,8 @@ impl Book {
         self.calls[call as usize].steps += 1;
     }
 
-    /// A call is repaired, by `Plain`, or moved, by `Moved`. It starts anew after all commits. Returns its new start. A
-    /// repair needs the number of the round before it. After a move that round has none.
+    /// Repairs a call for `Plain`, or moves it for `Moved`. The call starts anew after all commits. Returns its new
+    /// start. A repair needs the number of the round before it. After a move that round has none.
     pub fn restart(&mut self, call: u32, mark: Mark) -> u32
         requires mark { mark ≢ Exclusive }
         requires allowed { refusal (work_in self.old) self.old.course (round_event mark call) ≡ None }
@@ -162,7 +162,7 @@ impl Book {
         start
     }
 
-    /// Gives a call's last round its number: how many records its task executed.
+    /// Sets the number of a call's last round: the number of records that its task executed.
     pub fn settle(&mut self, call: u32, task: &Task)
         requires live { IsLiveCall self.old.course call }
         requires number { due_number (work_in self.old) self.old.course call ≡ Some task.now.executed }
@@ -175,8 +175,8 @@ impl Book {
         self.calls[call as usize].settle(task.executed());
     }
 
-    /// A call commits with this reply. Where a task is given, it was repaired in the same step, in a round of its own.
-    /// Returns the number of the commit.
+    /// Commits a call with this reply. If a task is given, the call was repaired in the same step, in a round of its
+    /// own. Returns the number of the commit.
     pub fn commit(&mut self, call: u32, reply: Reply, exclusive: Option<&Task>) -> u32
         requires allowed { refusal (work_in self.old) self.old.course (commit_event (own_number (option_copied exclusive)) call) ≡ None }
         requires reply { reply ≡ (last_run self.old call).reply }
@@ -196,7 +196,7 @@ impl Book {
         start + 1
     }
 
-    /// What low becomes by a collection.
+    /// Returns the low after a collection.
     fn next_low(&self) -> u32
         ensures { result ≡ next_low (work_in self.now) self.now.course }
     {
@@ -206,8 +206,8 @@ impl Book {
         self.low.max(oldest.max(floor))
     }
 
-    /// Old versions are collected. Returns the new low: the tables before that commit are no longer needed. It costs
-    /// the number of live calls.
+    /// Collects old versions. Returns the new low: the tables before that commit are no longer needed. Takes time
+    /// linear in the number of live calls.
     pub fn collect(&mut self) -> u32
         requires room { 0 < self.old.room }
         ensures made { Made G self.old self.new }
@@ -231,8 +231,8 @@ impl Book {
         self.calls[call as usize].reserve()
     }
 
-    /// Lends the rounds of a live call, none of one that hasn't begun or has committed. The last of them has the call's
-    /// start, and may not have its number yet.
+    /// Returns the rounds of a live call. Returns `None` for a call that hasn't begun or has committed. The last round
+    /// has the call's start, and may not have its number yet.
     pub fn rounds(&self, call: u32) -> Option<&[Round]>
         ensures live { IfSome result (λ rounds. HasRounds self.now call rounds.now) }
         ensures none { IfNone result (IsLiveCall self.now.course call → ⊥) }
@@ -241,7 +241,7 @@ impl Book {
         Some(progress.rounds.as_slice())
     }
 
-    /// How many statements of a live call the journal names.
+    /// Returns the number of statements of a live call in the journal.
     pub fn steps(&self, call: u32) -> usize
         requires { IsLiveCall self.now.course call }
         ensures { (l : Live) → IsLive self.now.course call l → result ≡ l.steps }
@@ -249,7 +249,7 @@ impl Book {
         self.calls[call as usize].steps
     }
 
-    /// How many commits there were when the last round of a live call began.
+    /// Returns the number of commits before the last round of a live call.
     pub fn start(&self, call: u32) -> u32
         requires { IsLiveCall self.now.course call }
         ensures value { (l : Live) → IsLive self.now.course call l → result ≡ l.start }
@@ -258,14 +258,14 @@ impl Book {
         self.calls[call as usize].start
     }
 
-    /// How many commits there are.
+    /// Returns the number of commits.
     pub fn commits(&self) -> u32
         ensures { result ≡ length self.now.course.order }
     {
         self.order.len() as u32
     }
 
-    /// Lends the calls that have committed since the start of a live call, in order.
+    /// Returns the calls that have committed since the start of a live call, in order.
     pub fn since(&self, call: u32) -> &[u32]
         requires { IsLiveCall self.now.course call }
         ensures { (l : Live) → IsLive self.now.course call l → result.now ≡ drop l.start self.now.course.order }
@@ -273,8 +273,8 @@ impl Book {
         &self.order.as_slice()[self.start(call) as usize..]
     }
 
-    /// What the run comes to: the replies by call, the commits with their rounds, the events, and these tables, which
-    /// are those after all commits. The history is given up. Its journal is lawful.
+    /// Turns the history into the outcome of the run: the replies by call, the commits with their rounds, the events,
+    /// and these tables, which are those after all commits. Its journal is lawful.
     pub fn outcome(self, alloc: Global, tables: Database) -> Result<Outcome, NoMemory>
         requires ended { open_call (work_in self) self.course ≡ None }
         requires tables { tables ≡ last_tables self }
@@ -294,7 +294,7 @@ impl Book {
     }
 }
 
-/// The event of a repair or a move.
+/// Returns the event of a repair or a move.
 fn round_event(mark: Mark, call: u32) -> Event
     ensures { result ≡ round_event mark call }
 {
@@ -305,7 +305,7 @@ fn round_event(mark: Mark, call: u32) -> Event
     }
 }
 
-/// The event of a commit, with a round of its own or without.
+/// Returns the event of a commit, with or without a round of its own.
 fn commit_event(own: Option<usize>, call: u32) -> Event
     ensures { result ≡ commit_event own call }
 {
@@ -315,7 +315,7 @@ fn commit_event(own: Option<usize>, call: u32) -> Event
     }
 }
 
-/// How many records the task executed, where there is one.
+/// Returns the number of records that the task executed, if there is one.
 fn own_number(exclusive: Option<&Task>) -> Option<usize>
     ensures { result ≡ own_number (option_copied exclusive.entry) }
 {
@@ -325,7 +325,7 @@ fn own_number(exclusive: Option<&Task>) -> Option<usize>
     }
 }
 
-/// How far back starts count where there is a horizon, and 0 where there is none.
+/// Returns the least start that counts if there is a horizon, and 0 otherwise.
 fn floor_of(n: u32, horizon: Option<u32>) -> u32
     ensures { result ≡ floor n horizon }
 {

@@ -8,7 +8,7 @@ ghost use Rattle.mv_core.specs.Drives.{Rule, HasTaken, Driven, fault_at};
 use mv_journal::event::Event;
 use mv_lawful::fault::Fault;
 
-/// Why an event isn't made.
+/// The reasons why an event isn't made.
 #[derive(Clone, Copy)]
 pub enum Refusal {
     /// The law of journals refuses it.
@@ -17,34 +17,34 @@ pub enum Refusal {
     NoMemory,
 }
 
-/// Why not all events of a list are made, or why they leave a call open.
+/// The reasons why a list of events fails: an event isn't made, or a call is left open.
 #[derive(Clone, Copy)]
 pub enum DriveFault {
-    /// The event of this number, counted from 1, is refused.
+    /// The event with this number, counted from 1, is refused.
     Refused { n: u32, fault: Fault },
-    /// All events are made, and this is the least call that hasn't committed.
+    /// All events are made, but this call hasn't committed. It is the least such call.
     Open { call: u32 },
     /// Memory ran out.
     NoMemory,
 }
 
-/// What takes events.
+/// A history to which events can be added.
 pub trait Events {
     ghost booked: { Self → Booked };
 
     /// Why an event is refused, if it is.
     ghost rule: { Rule };
 
-    /// Makes an event, or refuses it and stays as it is.
+    /// Makes an event. If it is refused, the history is unchanged.
     fn event(&mut self, event: Event) -> Result<(), Refusal>
         ensures { HasTaken rule event (booked self.old) (booked self.new) result };
 
-    /// The least call that hasn't committed.
+    /// Returns the least call that hasn't committed.
     fn open_call(&self) -> Option<u32>
         ensures { result ≡ open_call (work_in (booked self.now)) (booked self.now).course };
 }
 
-/// What is wrong with the event of this number.
+/// Returns the fault of the event with this number.
 fn fault_at(refusal: Refusal, n: u32) -> DriveFault
     ensures { result ≡ fault_at n refusal }
 {
@@ -54,8 +54,8 @@ fn fault_at(refusal: Refusal, n: u32) -> DriveFault
     }
 }
 
-/// Makes events, one after another, up to the first that is refused. After a fault the history is that before the
-/// refused event.
+/// Makes events one after another, up to the first that is refused. On an error the history is that before the refused
+/// event.
 pub fn drive<E: Events>(history: &mut E, events: &[Event]) -> Result<(), DriveFault>
     requires { length events.now < 2 ^ 32 }
     ensures { Driven E.rule events.now (E.booked history.old) (E.booked history.new) result }

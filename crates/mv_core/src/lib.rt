@@ -1,4 +1,4 @@
-//! The history of a run, event by event.
+//! The history of a run, built event by event.
 #![tactic(auto)]
 
 pub mod book;

@@ -25,7 +25,7 @@ impl Model for LiveCalls {
 }
 
 impl LiveCalls {
-    /// None. It takes no memory.
+    /// Returns an empty set. It allocates no memory.
     pub(crate) fn new(alloc: Global) -> LiveCalls
         ensures { result ≡ [] }
     {
@@ -34,7 +34,7 @@ impl LiveCalls {
         }
     }
 
-    /// Adds a call that comes after all of them.
+    /// Adds a call. Its number must be above those of all others.
     pub(crate) fn push(&mut self, call: u32) -> Result<(), NoMemory>
         requires { All (λ c. c < call) self.old }
         ensures ok { OnOk result (self.new ≡ self.old ++ call ∷ []) }
@@ -44,14 +44,14 @@ impl LiveCalls {
         Ok(())
     }
 
-    /// Takes a call out. It takes no memory.
+    /// Removes a call. It allocates no memory.
     pub(crate) fn remove(&mut self, call: u32)
         ensures { self.new ≡ without call self.old }
     {
         self.numbers.remove(&call);
     }
 
-    /// The least start of these calls, or n.
+    /// Returns the least start of these calls, or n.
     pub(crate) fn oldest_start(&self, calls: &[Progress], n: u32) -> u32
         requires { All (λ c. c < length calls.now) self.now }
         ensures { result ≡ least_start n (map live_of calls.now) self.now }

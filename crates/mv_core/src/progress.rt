@@ -13,17 +13,17 @@ use std::alloc::Global;
 /// A call that has begun.
 #[derive(Drop)]
 pub(crate) struct Progress {
-    /// How many commits there were when its last round began.
+    /// The number of commits before its last round.
     pub(crate) start: u32,
     pub(crate) rounds: Roomy<Round>,
-    /// How many of its statements the journal names.
+    /// The number of its statements in the journal.
     pub(crate) steps: usize,
-    /// What it answered, once it has committed.
+    /// Its reply, after it has committed.
     pub(crate) reply: Option<Reply>,
 }
 
 impl Progress {
-    /// A call that begins after so many commits.
+    /// Returns a call that begins after this many commits.
     pub(crate) fn new(alloc: Global, start: u32) -> Result<Progress, NoMemory>
         ensures { IfOk result (IsFresh start) }
     {
@@ -52,7 +52,7 @@ impl Progress {
         self.rounds.reserve(2)
     }
 
-    /// Gives the last round its number.
+    /// Sets the number of the last round.
     pub(crate) fn settle(&mut self, count: usize)
         ensures start { self.new.start ≡ self.old.start }
         ensures steps { self.new.steps ≡ self.old.steps }
@@ -63,7 +63,7 @@ impl Progress {
         self.rounds.number_last(Some(count));
     }
 
-    /// Adds a round that begins after so many commits. A move takes the number of the one before it.
+    /// Adds a round that begins after this many commits. A move clears the number of the round before it.
     pub(crate) fn restart(&mut self, start: u32, mark: Mark)
         requires { 0 < self.old.rounds.room }
         ensures start { self.new.start ≡ start }
@@ -83,7 +83,8 @@ impl Progress {
         });
     }
 
-    /// The call commits with this reply, after so many commits, in a round of its own where that has a number.
+    /// Commits the call with this reply, after this many commits. If a number is given, it commits in a round of its
+    /// own.
     pub(crate) fn commit(&mut self, start: u32, reply: Reply, own: Option<usize>)
         requires { 0 < self.old.rounds.room }
         ensures live { live_of self.new ≡ committed start own (live_of self.old) }
@@ -102,7 +103,7 @@ impl Progress {
         self.reply = Some(reply);
     }
 
-    /// A copy of its rounds.
+    /// Copies its rounds.
     fn copy_rounds(&self, alloc: Global) -> Result<List<Round>, NoMemory>
         ensures { IfOk result (λ rounds. rounds ≡ self.now.rounds.items) }
     {
@@ -112,7 +113,7 @@ impl Progress {
     }
 }
 
-/// The commits of these calls, in order.
+/// Returns the commits of these calls, in order.
 pub(crate) fn history_of(
     alloc: Global,
     calls: &[Progress],
@@ -132,7 +133,7 @@ pub(crate) fn history_of(
     Ok(history)
 }
 
-/// The replies of those that have committed.
+/// Returns the replies of the calls that have committed.
 pub(crate) fn replies_of(alloc: Global, calls: Vec<Progress>) -> Result<List<Reply>, NoMemory>
     ensures { IfOk result (λ replies. replies ≡ replies_in calls.items) }
 {
@@ -146,7 +147,7 @@ pub(crate) fn replies_of(alloc: Global, calls: Vec<Progress>) -> Result<List<Rep
     Ok(replies)
 }
 
-/// The call of a number, where it is live.
+/// Returns the call with this number, if it is live.
 pub(crate) fn live_at(calls: &[Progress], call: u32) -> Option<&Progress>
     ensures found { IfSome result (λ p. (slice_get calls.now call ≡ Some p.now) × (p.now.reply ≡ None)) }
     ensures none { IfNone result ((p : Progress) → slice_get calls.now call ≡ Some p → p.reply ≡ None → ⊥) }

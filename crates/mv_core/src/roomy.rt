@@ -1,4 +1,4 @@
-//! A list with room.
+//! A list with reserved room.
 
 ghost use Rattle.std.specs.Prelude.{◌≡◌, ◌++◌, ◌∷◌, ◌+◌, ◌<◌, ◌≤◌, ◌^◌, [], length, OnOk};
 ghost use Rattle.mv_core.specs.Calls.{numbered};
@@ -8,7 +8,7 @@ use mv_values::memory::NoMemory;
 use std::alloc::Global;
 use std::marker::Model;
 
-/// Items in order. Contracts see the items, and for how many more there is room.
+/// Items in order. Contracts see the items, and the room for more.
 #[derive(Drop)]
 pub(crate) struct Roomy<T> {
     items: Vec<T>,
@@ -25,7 +25,7 @@ impl<T> Model for Roomy<T> {
 }
 
 impl<T> Roomy<T> {
-    /// No items, and no room. It takes no memory.
+    /// Returns a list without items and room. It allocates no memory.
     pub(crate) fn new(alloc: Global) -> Roomy<T>
         ensures { result.items ≡ [] }
     {
@@ -34,14 +34,14 @@ impl<T> Roomy<T> {
         }
     }
 
-    /// How many items there are.
+    /// Returns the number of items.
     pub(crate) fn len(&self) -> usize
         ensures { result ≡ length self.now.items }
     {
         self.items.len()
     }
 
-    /// Lends the items.
+    /// Returns the items.
     pub(crate) fn as_slice(&self) -> &[T]
         ensures { result.now ≡ self.now.items }
     {
@@ -50,7 +50,7 @@ impl<T> Roomy<T> {
 }
 
 impl<T: Drop> Roomy<T> {
-    /// Makes room for so many more items.
+    /// Makes room for this many more items.
     pub(crate) fn reserve(&mut self, more: usize) -> Result<(), NoMemory>
         ensures items { self.new.items ≡ self.old.items }
         ensures room { OnOk result (more ≤ self.new.room) }
@@ -60,7 +60,7 @@ impl<T: Drop> Roomy<T> {
         Ok(())
     }
 
-    /// Adds an item at the end. It takes no memory.
+    /// Appends an item. It allocates no memory.
     pub(crate) fn put(&mut self, item: T)
         requires { 0 < self.old.room }
         ensures items { self.new.items ≡ self.old.items ++ item ∷ [] }
@@ -74,7 +74,7 @@ impl<T: Drop> Roomy<T> {
 }
 
 impl Roomy<Round> {
-    /// Gives the last round a number, or takes it.
+    /// Sets the number of the last round, or clears it.
     pub(crate) fn number_last(&mut self, count: Option<usize>)
         ensures items { self.new.items ≡ numbered count self.old.items }
         ensures room { self.new.room ≡ self.old.room }
