@@ -6,7 +6,7 @@ use lib.Dec.{eqb}
 use mathlib.Core.List.{IsPrefix}
 use Rattle.mv_seats.specs.Scripts.{Script}
 
--- what a pass is for: any reader, the gate, one shard, or nothing once another has taken it in
+-- the role of a pass: any reader, the gate, one shard, or nothing after another pass has taken it in
 pub data Role : Type 0 where
   Plain : Role
   Gate : Role
@@ -21,7 +21,7 @@ pub record Knows : Type 0 where
   pub seen : List ℕ
   -- the shards whose role the gate's pass has handed out; of another pass, none
   pub handed : List ℕ
-  -- a mark of each shard, which is at most the one on the board; one that isn't here is 0
+  -- a mark of each shard, at most the one on the board; a missing mark is 0
   pub marks : List ℕ
   -- the marks that it knew before it last met a pass, until it next loads or raises a mark
   pub mine : List ℕ

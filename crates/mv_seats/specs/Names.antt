@@ -1,4 +1,4 @@
--- What a name stands for before it is picked.
+-- Defines the meaning of a name before it is picked.
 use Rattle.std.specs.Prelude.{[], None}
 use Rattle.atomic_table.specs.Seated.{TableId}
 use Rattle.mv_seats.specs.Scripts.{Script}

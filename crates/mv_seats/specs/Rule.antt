@@ -71,7 +71,7 @@ word_of q = q + 1
 abbrev pub IsAt : State ℕ View → ℕ → View → Type 0
 IsAt s seat v = (get_elem? s.views seat ≡ some v) × (v.knows.role ≢ Spent)
 
--- it is so of each seat and its view, unless that is spent
+-- the property holds of each seat and its view, unless the view is spent
 abbrev pub Each : State ℕ View → (ℕ → View → Type 0) → Type 0
 Each s Fact = (seat : ℕ) (v : View) → IsAt s seat v → Fact seat v
 

@@ -1,4 +1,4 @@
-//! The board, and the name under which its passes are of one making.
+//! The board, and the name that ties its passes to it.
 
 ghost use Rattle.std.specs.Prelude.{◌≡◌, ◌<◌, ◌≤◌, IfOk, length};
 ghost use Rattle.mv_seats.specs.Knowing.{gate_pass};
@@ -17,8 +17,7 @@ use mv_values::rows::Database;
 use std::alloc::Global;
 use std::marker::{Brand, Model, PhantomData};
 
-/// Names one board and its script. Boards, passes and what holds them are of one making if this parameter of theirs is
-/// the same type.
+/// Names one board and its script. Boards, passes and their holders belong together if this parameter is the same type.
 pub trait Making {
     ghost use Rattle.atomic_table.specs.Seated.{TableId};
     ghost use Rattle.mv_seats.specs.Scripts.{Script};
@@ -36,7 +35,7 @@ impl Making for Brand {
     ghost script = { no_script };
 }
 
-/// A board that has no name yet, with the pass of its gate.
+/// A board without a name, with the pass of its gate.
 #[derive(Drop)]
 pub struct Blank {
     table: Table<u8, View, Script, Law, Global>,
@@ -58,7 +57,7 @@ impl Model for Blank {
     ghost invariant = { λ b. IsFirst b.table.shared.table_id b.table.shared.key b.seat };
 }
 
-/// The count of commits, and a mark of each shard: how many commits its chains hold. All threads share it.
+/// The count of commits, and a mark of each shard: the number of commits that its chains hold. All threads share it.
 #[derive(Drop)]
 pub struct Board<N: Making> {
     pub(crate) table: Table<u8, View, Script, Law, Global>,
@@ -90,8 +89,8 @@ impl Blank {
     }
 
     /// Returns the board under its name, and the gate's pass, which has seen no commit and has every shard's role. `N`
-    /// names this board and its script: the caller is generic in `N` and is called with `Brand`, for which its own caller
-    /// picks this blank's board and script. It takes no memory.
+    /// names this board and its script: the caller is generic in `N` and is called with `Brand`, for which its own
+    /// caller picks this blank's board and script. It allocates no memory.
     pub fn open<N: Making>(self) -> (Board<N>, Pass<N>)
         requires board { self.board ≡ N.board }
         requires script { self.script ≡ N.script }

@@ -15,7 +15,7 @@ use mv_values::memory::NoMemory;
 use std::marker::{Brand, Model, PhantomData};
 
 /// What its holder knows of the history: the calls of the first commits, as far as it has seen them, and a mark of each
-/// shard. It takes no memory. Each method is one atomic step on the board, `meet` two.
+/// shard. It allocates no memory. Each method is one atomic step on the board, except `meet`, which is two.
 #[derive(Drop)]
 pub struct Pass<N: Making> {
     seat: Seat<u8, View>,
@@ -44,7 +44,7 @@ impl<N: Making> Pass<N> {
         }
     }
 
-    /// Splits off a plain pass that knows as much. A pass takes no memory, so the answer is always `Ok`.
+    /// Splits off a plain pass that knows as much. A pass takes no memory, so the result is always `Ok`.
     pub fn note(&mut self, board: &Board<N>) -> Result<Pass<N>, NoMemory>
         ensures same { self.new ≡ self.old }
         ensures note { result ≡ Ok (plain self.old) }
@@ -75,8 +75,9 @@ impl<N: Making> Pass<N> {
         Pass::of(seat)
     }
 
-    /// Takes in another pass, which must be plain, and loads the count. Of their two lists the longer stays, and both
-    /// begin it. The gate's pass keeps its own list, which the other list begins. Of each mark the greater stays.
+    /// Merges another pass into this one, and loads the count. The other pass must be plain. The longer of their two
+    /// lists stays, and the other is a prefix of it. The gate's pass keeps its own list, and the other list is a prefix
+    /// of it. The greater of each mark stays.
     pub fn meet(&mut self, board: &Board<N>, other: Pass<N>)
         requires { other.role ≡ Plain }
         ensures met { self.new ≡ met self.old other }

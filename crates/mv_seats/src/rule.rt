@@ -7,7 +7,7 @@ use crate::view::View;
 use atomic_table::{Join, Play, Split, TableRule};
 use std::marker::{Brand, PhantomData};
 
-/// What holds of the board between any two steps.
+/// The invariant of the board between any two steps.
 pub struct Law;
 
 impl TableRule<u8, View, Script> for Law {

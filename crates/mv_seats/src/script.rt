@@ -1,4 +1,4 @@
-//! What a board is about.
+//! The script of a board.
 
 ghost use Rattle.std.specs.Prelude.{◌≡◌};
 
@@ -9,8 +9,8 @@ use mv_values::rows::Database;
 use std::marker::Model;
 use std::snapshot::Snapshot;
 
-/// What a board and its passes are about. Graphs, calls and the opening database are there for contracts alone, and take
-/// no memory.
+/// The script of a board and its passes. Graphs, calls and the opening database are only for contracts, and take no
+/// memory.
 #[derive(Drop)]
 pub struct Script {
     graphs: Snapshot<List<Graph>>,

@@ -2,7 +2,7 @@
 
 use std::marker::{Model, PhantomData};
 
-/// What a seat of the board knows. It is there for contracts alone: no value of it is made.
+/// What a seat of the board knows. It is only for contracts: no value of it is made.
 pub struct View {
     nothing: PhantomData<()>,
 }
