@@ -1,5 +1,5 @@
--- The changes of commits, as validation takes them. That a call is validated against the commits after its start is the paper's (Dashti,
--- Basil John, Shaikhha and Koch, SIGMOD 2017).
+-- Defines the changes of commits for validation. That a call is validated against the commits after its start is the
+-- paper's (Dashti, Basil John, Shaikhha and Koch, SIGMOD 2017).
 use Rattle.std.specs.Prelude.{◌≡◌, ◌≤◌, ◌+◌, ℕ, List, [], ◌∷◌, map, take, length}
 use Rattle.mv_record.specs.declared.record.Record.{Record}
 use Rattle.mv_record.specs.Runs.{writes_in}
@@ -12,12 +12,12 @@ use Rattle.mv_changes.specs.declared.recent.Committed.{Committed}
 abbrev pub changes_in : List Committed → List (List Change)
 changes_in commits = map (λ c. c.changes) commits
 
--- the commits have numbers one after another, from this one on
+-- the commits have consecutive numbers, from this one on
 abbrev pub AreNumbered : ℕ → List Committed → Type 0
 AreNumbered number [] = Unit {0}
 AreNumbered number (c ∷ cs) = (c.commit ≡ number) × AreNumbered (number + 1) cs
 
--- the commits after the first `low`, each by its changes, and for how many more there is room
+-- the commits after the first `low`, each by its changes, and the room for more
 pub record Window : Type 0 where
   pub low : ℕ
   pub commits : List (List Change)

@@ -1,5 +1,5 @@
--- How the changes of a commit are made of its writes: under each key that was written, with its table in front, its row before the writes
--- and after them.
+-- Defines the changes of a commit by its writes. Each written key, with its table in front, has its row before and
+-- after the writes.
 use Rattle.std.specs.Prelude.{◌≡◌, ◌≤◌, ◌+◌, ℕ, Bool, ◌&&◌, nat_lt, pos, List, [], ◌∷◌, Option, Some, None, Result, All, length, if◌then◌else◌}
 use Rattle.std.specs.List.{flat_map}
 use Rattle.mv_values.specs.declared.value.Value.{Value}
@@ -19,7 +19,7 @@ use Rattle.mv_history.specs.Changes.{is_same, place}
 abbrev pub changed : Write → Option (List Value) → Change
 changed w before = record { table = w.table; key = w.key; before = before; after = patched w.patch before }
 
--- the change of a key with a write more
+-- the change of a key with one more write
 abbrev pub changed_more : Write → Change → Change
 changed_more w c = record c { after = patched w.patch c.after }
 
@@ -37,11 +37,11 @@ pub record IsDraft (es : List (List Value × Change)) (ws : List Write) (db : Li
   pub places : All (λ e. e.0 ≡ place e.1) es
   pub each : (t : ℕ) (key : List Value) → item_of es (Int (pos t) ∷ key) ≡ drafted (nat_lt t (length db) && touches t key ws) t key db (applied ws db)
 
--- what differs after the writes
+-- the changes whose rows differ after the writes
 abbrev pub differing : List (List Value × Change) → List Change
 differing es = flat_map (λ e. if is_same e.1.before e.1.after then [] else e.1 ∷ []) es
 
--- the view was asked for no more than so many rows by their keys, and a `Stale` is its own
+-- the view was asked for at most this many rows by their keys, and a `Stale` comes from the view
 pub record HasAsked {A : Type 0} (count : ℕ) (before after : Sight) (result : Result A Refused) : Type 0 where
   pub sight : after ≡ answered result (record before { row_calls = after.row_calls })
   pub few : after.row_calls ≤ before.row_calls + count

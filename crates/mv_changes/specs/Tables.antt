@@ -1,4 +1,4 @@
--- The changes of a table among changes in order.
+-- Defines the changes of a table among changes in order.
 use Rattle.std.specs.Prelude.{◌≡◌, ℕ, Bool, true, false, nat_lt, List}
 use Rattle.std.specs.List.Sorted.{IsPartitionPoint}
 use Rattle.mv_history.specs.declared.change.Change.{Change}

@@ -48,7 +48,7 @@ fn first_change<V: View>(alloc: Global, write: &Write, view: &mut V) -> Result<C
     })
 }
 
-/// Returns the change with a write more.
+/// Returns the change with one more write.
 fn next_change(alloc: Global, change: Change, write: &Write) -> Result<Change, NoMemory>
     ensures { IfOk result (λ next. next ≡ changed_more write.now change) }
 {
@@ -119,7 +119,7 @@ fn add_writes<V: View>(
     Ok(())
 }
 
-/// Whether the row is as it was.
+/// Whether the row is unchanged.
 fn is_same(before: &Option<Row>, after: &Option<Row>) -> bool
     ensures { result ≡ is_same before.now after.now }
 {
@@ -130,7 +130,7 @@ fn is_same(before: &Option<Row>, after: &Option<Row>) -> bool
     }
 }
 
-/// Returns what differs.
+/// Returns the changes whose rows differ.
 fn differing(alloc: Global, changes: KeyMap<Change>) -> Result<Changes, NoMemory>
     requires { All (λ e. e.0 ≡ place e.1) changes }
     ensures listed { IfOk result (λ listed. listed ≡ differing changes) }
@@ -145,9 +145,10 @@ fn differing(alloc: Global, changes: KeyMap<Change>) -> Result<Changes, NoMemory
     Ok(listed)
 }
 
-/// Returns the changes that the writes of a call's records make to the view's database, which has so many tables: of each
-/// key that they write, its row before them and after them, if these differ. Fails if memory runs out, or with `Stale` if
-/// the view does. Costs one look-up in the view for each key written, and for each write the logarithm of their number.
+/// Returns the changes that the writes of a call's records make to the view's database, which has this many tables. A
+/// change has the row of a written key before and after the writes, if these differ. Fails if memory runs out, or with
+/// `Stale` if the view does. Costs one look-up in the view for each key written, and for each write the logarithm of
+/// their number.
 pub fn changes_of_commit<V: View>(
     alloc: Global,
     tables: usize,

@@ -26,9 +26,9 @@ impl Copied for Committed {
     }
 }
 
-/// The changes of the commits after number `low`, which `trim` raises. Contracts see `low`, the changes of each commit after
-/// it, in order, and for how many more commits there is room. The first item is commit `dropped + 1`; the commits up to
-/// `low` are dropped once they are half of all that is kept.
+/// The changes of the commits after number `low`, which `trim` raises. Contracts see `low`, the changes of each commit
+/// after it, in order, and the room for more commits. The first item is commit `dropped + 1`; the commits up to `low`
+/// are dropped when they are half of all stored commits.
 #[derive(Drop)]
 pub struct Recent {
     items: Vec<Committed>,
@@ -82,7 +82,7 @@ impl Recent {
         }
     }
 
-    /// Makes room for so many commits more. Fails if memory runs out.
+    /// Makes room for this many more commits. Fails if memory runs out.
     pub fn reserve(&mut self, more: usize) -> Result<(), NoMemory>
         ensures low { self.new.low ≡ self.old.low }
         ensures commits { self.new.commits ≡ self.old.commits }
@@ -93,8 +93,8 @@ impl Recent {
         Ok(())
     }
 
-    /// Adds a commit, which must have the next number. Fails if memory runs out, never where there is room; nothing is then
-    /// added. Costs constant time.
+    /// Adds a commit, which must have the next number. Fails if memory runs out, and then adds nothing. It never fails
+    /// if there is room. Costs constant time.
     pub fn push(&mut self, commit: u32, changes: Changes) -> Result<(), NoMemory>
         requires { commit ≡ self.old.low + length self.old.commits + 1 }
         ensures low { self.new.low ≡ self.old.low }
