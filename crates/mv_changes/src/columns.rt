@@ -49,8 +49,8 @@ fn names_same(pred: &Pred, a: &[Value], b: &[Value]) -> bool
     selects_same(pred, a, b) && tests_same(pred, a, b)
 }
 
-/// Whether both rows are absent, or both are there and have the same values in the columns that the predicate selects or
-/// tests.
+/// Whether both rows are absent, or both are there and have the same values in the columns that the predicate selects
+/// or tests.
 pub(crate) fn are_alike(pred: &Pred, before: &Option<Row>, after: &Option<Row>) -> bool
     ensures { result ≡ is_alike pred.now before.now after.now }
 {

@@ -31,8 +31,8 @@ fn has_written(number: usize, undo: &Undo, change: &Change) -> bool
     undo.touched(number, change.table, &change.key)
 }
 
-/// Whether a change that the predicate doesn't see hits it: it differs in a column that the predicate names, of a key that
-/// the predicate admits and an earlier record wrote.
+/// Whether a change that the predicate doesn't see hits it: it differs in a column that the predicate names, of a key
+/// that the predicate admits and an earlier record wrote.
 fn hits_unseen(pred: &Pred, number: usize, undo: &Undo, change: &Change) -> bool
     ensures { result ≡ (admits pred.now change.now.key && (not (is_alike pred.now change.now.before change.now.after) && touches change.now.table change.now.key (earlier number undo.now))) }
 {
@@ -75,11 +75,11 @@ fn hits_one(preds: &[Pred], number: usize, undo: &Undo, change: &Change) -> bool
         .any(|pred| hits_table(pred, number, undo, change))
 }
 
-/// Whether a change hits the record with this number. `undo` has the writes of the call's records. A change hits if one of
-/// the record's predicates sees something else of the row after it: whether the row passes the tests, or a column that is
-/// selected. Of a key that an earlier record of the call wrote, every column that the predicate tests or selects counts,
-/// if the predicate admits the key. Allocates nothing. Costs the tests and columns of the record's predicates, and at most
-/// a look-up in the own writes for each.
+/// Whether a change hits the record with this number. `undo` has the writes of the call's records. A change hits if one
+/// of the record's predicates sees something else of the row after it: whether the row passes the tests, or a column
+/// that is selected. Of a key that an earlier record of the call wrote, every column that the predicate tests or
+/// selects counts, if the predicate admits the key. Allocates nothing. Costs the tests and columns of the record's
+/// predicates, and at most a look-up in the own writes for each.
 pub fn hit(record: &Record, number: usize, undo: &Undo, change: &Change) -> bool
     ensures { (before : List Record) → earlier number undo.now ≡ writes_in before → result ≡ hits before record.now change.now }
 {

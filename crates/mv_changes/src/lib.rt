@@ -1,4 +1,5 @@
-//! The changes of commits: how they are made at a commit, kept since the oldest live start, and tried on a call's records.
+//! The changes of commits: how they are made at a commit, kept since the oldest live start, and tried on a call's
+//! records.
 #![tactic(auto)]
 
 pub mod changes;

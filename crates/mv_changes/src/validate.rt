@@ -37,9 +37,10 @@ fn before<'a>(records: &'a [Record], hit: Option<Hit>) -> &'a [Record]
     }
 }
 
-/// Validates the records of a call against the commits after its start: returns the least record that a change hits, and
-/// the least commit that hits it. `undo` has the writes of the records. Allocates nothing. Costs for each commit and each
-/// predicate of the records a search in the commit's changes, and a trial of the predicate on each of those of its table.
+/// Validates the records of a call against the commits after its start: returns the least record that a change hits,
+/// and the least commit that hits it. `undo` has the writes of the records. Allocates nothing. Costs for each commit
+/// and each predicate of the records a search in the commit's changes, and a trial of the predicate on each of those of
+/// its table.
 pub fn validate(records: &[Record], undo: &Undo, since: &[Committed]) -> Option<Hit>
     requires { HasWritesOf undo.now records.now }
     ensures { (number : ℕ) → AreNumbered number since.now → result ≡ first_hit number (changes_in since.now) [] records.now }

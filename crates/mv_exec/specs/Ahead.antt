@@ -24,7 +24,8 @@ pub record GoesOn (proc : ProcInfo) (task : Task) (place : Place) (s : RStmt) (t
   pub is : place ≡ place_due turn last
   pub stands : slice_get (block_of proc (holder_of proc None outer) place) place.at ≡ Some s
 
--- what the record of a statement has before it is executed: the statement is at a site, has a number, and reads these variables
+-- what the record of a statement has before it is executed: the statement is at a site, has a number, and reads these
+-- variables
 abbrev pub ahead_at : List (Option ℕ) → Site → ℕ → List ℕ → Ahead
 ahead_at definers site n xs = record {
   spot = record { statement = n; turns = site.turns };

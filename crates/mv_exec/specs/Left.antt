@@ -13,8 +13,8 @@ use Rattle.mv_recorded.specs.Asking.{on}
 use Rattle.mv_recorded.specs.Doing.{fixed_rows}
 use Rattle.mv_recorded.specs.Recorded.{Site, told, tell_turns, within, within_loop}
 
--- a part of what is left: statements one after another, of which the first has this number in the text; or turns of a loop, of which
--- the first has this number
+-- a part of what is left: statements one after another, of which the first has this number in the text; or turns of a
+-- loop, of which the first has this number
 pub data Job : Type 0 where
   run : Site → ℕ → List RStmt → Job
   turns : Site → ℕ → ℕ → List RStmt → List (List Value) → ℕ → Job

@@ -75,7 +75,8 @@ IsNext g task ahead = (call : Call) (db : Tables) (rest : List Record) → IsTas
 abbrev pub HasContent : Record → Record → Type 0
 HasContent given r = r ≡ record given { spot = r.spot; parent = r.parent; reads = r.reads }
 
--- a record with the content of the given one was added, and nothing was executed; its place, controller and definers are those ahead
+-- a record with the content of the given one was added, and nothing was executed; its place, controller and definers
+-- are those ahead
 pub record HasAdopted (g : Graph) (old : Task) (given : Record) (new : Task) : Type 0 where
   pub next : Record
   pub records : new.records ≡ old.records ++ next ∷ []

@@ -1,5 +1,5 @@
--- What a pass knows of the history and of the marks, and what it knows after a step. A mark says how many commits the chains of a
--- shard hold. This project's own.
+-- What a pass knows of the history and of the marks, and what it knows after a step. A mark says how many commits the
+-- chains of a shard hold. This project's own.
 use Rattle.std.specs.Prelude.{◌≡◌, ◌<◌, ◌≤◌, ◌++◌, ◌∷◌, ℕ, zero, suc, max, not, Bool, true, false, cond, nat_lt, List, [], length, slice_index}
 use Rattle.std.specs.List.{list_any, IsDistinct}
 use lib.Dec.{eqb}

@@ -1,5 +1,5 @@
--- The rule over the board: what holds of its words and of all seats between any two steps, and what each step tells the seat that
--- makes it. This project's own.
+-- The rule over the board: what holds of its words and of all seats between any two steps, and what each step tells the
+-- seat that makes it. This project's own.
 use Rattle.std.specs.Prelude.{◌≡◌, ◌≢◌, ◌≤◌, ◌+◌, ◌-◌, ℕ, true, List, [], length, slice_index}
 use mathlib.Core.Option.{some}
 use mathlib.Core.List.{IsPrefix}
@@ -13,8 +13,8 @@ use Rattle.mv_seats.specs.Knowing.{Gate, Spent, Knows, has_role, gate_pass, plai
 
 -- Views
 
--- what a seat knows: beside what its pass knows, the script, and what two passes had seen before they met, until the next load of the
--- count
+-- what a seat knows: beside what its pass knows, the script, and what two passes had seen before they met, until the
+-- next load of the count
 pub record View : Type 0 where
   pub script : Script
   pub knows : Knows

@@ -138,8 +138,8 @@ impl<N: Making> Pass<N> {
             .load::<Loading>(&mut self.seat, shard as usize + 1) as u32
     }
 
-    /// Raises the mark of a shard, whose role the pass must have. The mark must not fall, and the pass must have seen as
-    /// many commits.
+    /// Raises the mark of a shard, whose role the pass must have. The mark must not fall, and the pass must have seen
+    /// as many commits.
     pub fn install(&mut self, board: &Board<N>, shard: u32, upto: u32)
         requires there { shard < N.script.shards }
         requires own { has_role self.old shard ≡ true }
