@@ -74,7 +74,7 @@ joined (Set earlier) (Set items) = Set (earlier ++ items)
 joined Delete (Set items) = Delete
 joined first Delete = Delete
 
--- one more patch of a call, applied after the call's own
+-- with a patch more of a call, after the call's own
 abbrev pub with_own : ℕ → Patch → List Pending → List Pending
 with_own call patch [] = record { call = call; patch = patch } ∷ []
 with_own call patch (p ∷ ps) = if p.call == call then record p { patch = joined p.patch patch } ∷ ps else p ∷ with_own call patch ps
