@@ -6,8 +6,8 @@ use Rattle.mv_recorded.specs.Effects.{going}
 use Rattle.mv_effect.proofs.AllRows.{all_rows}
 use Rattle.mv_effect.proofs.selecting.gone_through.Goals as goal
 
-pub fixed_rows-turns-requires : goal.fixed_rows-turns-requires
-fixed_rows-turns-requires c = subst IsRising (sym (map-id c.args.rows.now)) c.requires.rising
+pub fixed_rows-requires : goal.fixed_rows-requires
+fixed_rows-requires c = subst IsRising (sym (map-id c.args.rows.now)) c.requires.rising
 
 pub returns : goal.returns
 returns c =
