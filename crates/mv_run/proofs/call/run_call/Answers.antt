@@ -1,10 +1,12 @@
 use Rattle.std.proofs.Common.{length, sym, subst, ap, arith, ◌∙◌}
+use Rattle.std.proofs.lemmas.Slice.Zip.{AllZip-long}
+use Rattle.mv_catalog.specs.Text.{Suits}
 use Rattle.mv_record.specs.Databases.{IsDatabaseOf}
 use Rattle.mv_run.proofs.Calling.{told_reply, told_tables, left_database}
 use Rattle.mv_run.proofs.call.run_call.Goals as goal
 
-pub execute-task-requires-clause-arguments : goal.execute-task-requires-clause-arguments
-execute-task-requires-clause-arguments c = sym (AllZip-long Suits c.args.graph.now.procedure.params c.args.call.now.arguments c.requires.suits)
+pub execute-requires-clause-arguments : goal.execute-requires-clause-arguments
+execute-requires-clause-arguments c = AllZip-long Suits c.args.graph.now.procedure.params c.args.call.now.arguments c.requires.suits
 
 pub returns-clause-reply : goal.returns-clause-reply
 returns-clause-reply c =
