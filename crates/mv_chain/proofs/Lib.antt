@@ -4,3 +4,4 @@ pub mod Places
 pub mod Values
 pub mod Stamps
 pub mod Blank
+pub mod Compact

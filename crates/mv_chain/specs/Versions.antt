@@ -2,8 +2,9 @@
 -- versions are patches of columns, and that a patch sees the row as of its commit, is this project's own rule.
 use Rattle.std.specs.Prelude.{◌<◌, ◌==◌, ◌++◌, ◌&&◌, ◌∷◌, ℕ, Bool, not, length, nat_le, nat_lt, if◌then◌else◌, List, [], All, Option, Some, None}
 use Rattle.std.specs.Option.{is_some}
-use Rattle.std.specs.List.{filter}
+use Rattle.std.specs.List.{filter, list_any}
 use Rattle.mv_values.specs.declared.value.Value.{Value}
+use Rattle.mv_values.specs.declared.patch.Assign.{Assign}
 use Rattle.mv_values.specs.declared.patch.Patch.{Patch}
 use Rattle.mv_values.specs.declared.patch.Patch.TheVariants.{Insert, Set, Delete}
 use Rattle.mv_values.specs.Patching.{with_columns, patched}
@@ -66,11 +67,20 @@ patched_by_own (Some patch) row = patched patch row
 abbrev pub without : ℕ → List Pending → List Pending
 without call ps = filter (λ p. not (p.call == call)) ps
 
+-- one of the items sets the column
+abbrev pub is_set : ℕ → List Assign → Bool
+is_set c items = list_any (λ a. a.column == c) items
+
+-- the items but for those whose column a later one sets
+abbrev pub compact : List Assign → List Assign
+compact [] = []
+compact (a ∷ as') = if is_set a.column as' then compact as' else a ∷ compact as'
+
 -- one patch, that does what the first does and then what the second does
 abbrev pub joined : Patch → Patch → Patch
 joined first (Insert row) = Insert row
 joined (Insert row) (Set items) = Insert (with_columns items row)
-joined (Set earlier) (Set items) = Set (earlier ++ items)
+joined (Set earlier) (Set items) = Set (compact (earlier ++ items))
 joined Delete (Set items) = Delete
 joined first Delete = Delete
 

@@ -1,10 +1,12 @@
 //! Applies patches in place, and keeps what undoes them.
 
-ghost use Rattle.std.specs.Prelude.{◌≡◌, ◌<◌, ◌++◌, Option, Some, List, OnOk, OnErr, length, slice_set, slice_index_or, option_map};
+ghost use Rattle.std.specs.Prelude.{◌≡◌, ◌<◌, ◌≤◌, ◌+◌, ◌++◌, drop, Option, Some, List, OnOk, OnErr, length, slice_set, slice_index_or, option_map};
 ghost use Rattle.mv_values.specs.declared.patch.Assign.{Assign};
 ghost use Rattle.mv_values.specs.declared.value.Value.{Value};
 ghost use Rattle.mv_values.specs.Patching.{with_columns, patched};
 ghost use Rattle.mv_chain.specs.Undoing.{set_back, undone};
+ghost use Rattle.mv_chain.specs.Versions.{is_set, compact};
+ghost use Rattle.mv_chain.specs.Keeping.{HasKept, IsCompacted};
 
 use mv_values::list::List as Listed;
 use mv_values::memory::NoMemory;
@@ -106,7 +108,7 @@ fn done_on_columns(row: Option<Row>, items: Listed<Assign>) -> Done
 }
 
 /// Appends items to a list. If memory runs out, the list is unchanged.
-pub(crate) fn add_items(items: &mut Listed<Assign>, more: Listed<Assign>) -> Result<(), NoMemory>
+fn add_items(items: &mut Listed<Assign>, more: Listed<Assign>) -> Result<(), NoMemory>
     ensures ok { OnOk result (items.new ≡ items.old ++ more) }
     ensures err { OnErr result (items.new ≡ items.old) }
 {
@@ -119,5 +121,64 @@ pub(crate) fn add_items(items: &mut Listed<Assign>, more: Listed<Assign>) -> Res
             return Err(NoMemory);
         }
     }
+    Ok(())
+}
+
+/// Returns whether one of the items sets the column.
+fn is_set(items: &[Assign], column: u8) -> bool
+    ensures { result ≡ is_set column items.now }
+{
+    items.iter().any(|item| item.column == column)
+}
+
+/// Returns whether a later item sets the column of the one at a place.
+fn is_set_later(items: &[Assign], at: usize) -> bool
+    requires { at < length items.now }
+    ensures { (d : Assign) → result ≡ is_set (slice_index_or items.now at d).column (drop (at + 1) items.now) }
+{
+    is_set(&items[at + 1..], items[at].column)
+}
+
+/// Moves an item to an earlier place, or leaves it there.
+fn keep(items: &mut Listed<Assign>, to: usize, at: usize)
+    requires order { to ≤ at }
+    requires within { at < length items.old }
+    ensures { (d : Assign) → HasKept to at d items.old items.new }
+{
+    let item = items.replace(at, placeholder());
+    items.set(to, item);
+}
+
+/// Keeps the item at a place, unless a later one sets its column. Returns how many items are kept then.
+fn keep_last(items: &mut Listed<Assign>, kept: usize, at: usize) -> usize
+    requires order { kept ≤ at }
+    requires within { at < length items.old }
+    ensures { (all : List Assign) → IsCompacted all kept at items.old → IsCompacted all result (at + 1) items.new }
+{
+    if is_set_later(items.as_slice(), at) {
+        return kept;
+    }
+    keep(items, kept, at);
+    kept + 1
+}
+
+/// Drops the items whose column a later one sets. It allocates no memory.
+fn compact(items: &mut Listed<Assign>)
+    ensures { items.new ≡ compact items.old }
+{
+    let mut kept = 0;
+    for at in 0..items.len() {
+        kept = keep_last(items, kept, at);
+    }
+    items.truncate(kept);
+}
+
+/// Appends items to a list, and keeps the last one of each column. If memory runs out, the list is unchanged.
+pub(crate) fn set_more(items: &mut Listed<Assign>, more: Listed<Assign>) -> Result<(), NoMemory>
+    ensures ok { OnOk result (items.new ≡ compact (items.old ++ more)) }
+    ensures err { OnErr result (items.new ≡ items.old) }
+{
+    add_items(items, more)?;
+    compact(items);
     Ok(())
 }

@@ -3,7 +3,7 @@
 ghost use Rattle.std.specs.Prelude.{◌≡◌, OnOk, OnErr};
 ghost use Rattle.mv_chain.specs.Versions.{joined};
 
-use crate::commit::{add_items, set_columns};
+use crate::commit::{set_columns, set_more};
 use mv_values::memory::NoMemory;
 use mv_values::patch::Patch;
 
@@ -20,7 +20,7 @@ pub(crate) fn compose(first: &mut Patch, second: Patch) -> Result<(), NoMemory>
                 set_columns(row, &mut items);
                 Ok(())
             }
-            Patch::Set(own) => add_items(own, items),
+            Patch::Set(own) => set_more(own, items),
             Patch::Delete => Ok(()),
         },
         whole => {

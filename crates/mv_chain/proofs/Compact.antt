@@ -1,0 +1,121 @@
+-- Items without those whose column a later one sets.
+use Rattle.std.proofs.Common.{◌≡◌, ◌∷◌, ◌++◌, ◌+◌, ◌<◌, ◌≤◌, ◌==◌, ℕ, zero, suc, true, false, cond, inl, inr, List, [], length, take, drop, get_or, refl, ap, sym, subst, ◌∙◌, arith, append_assoc, append-nil, drop-cons}
+use Rattle.std.specs.Prelude.{slice_set, slice_get, Some}
+use Rattle.std.proofs.lemmas.Bool.{cases_Bool, eqb-true, eq-eqb}
+use Rattle.std.proofs.lemmas.List.{take_more_set, drop-set-lt, drop_all, length-set}
+use Rattle.mv_values.specs.declared.value.Value.{Value}
+use Rattle.mv_values.specs.declared.patch.Assign.{Assign}
+use Rattle.mv_values.specs.Patching.{with_columns}
+use Rattle.mv_chain.specs.Versions.{is_set, compact}
+use Rattle.mv_chain.specs.Keeping.{HasKept, IsCompacted}
+use Rattle.mv_chain.proofs.Columns.{get_is}
+
+-- Meaning
+
+set_again : (row : List Value) (c : ℕ) (v w : Value) → slice_set (slice_set row c v) c w ≡ slice_set row c w
+set_again [] c v w = refl
+set_again (x ∷ xs) zero v w = refl
+set_again (x ∷ xs) (suc c) v w = ap (λ l. x ∷ l) (set_again xs c v w)
+
+set_apart : (row : List Value) (c d : ℕ) (v w : Value) → (c ≡ d → ⊥) → slice_set (slice_set row c v) d w ≡ slice_set (slice_set row d w) c v
+set_apart [] c d v w h = refl
+set_apart (x ∷ xs) zero zero v w h = absurd (h refl)
+set_apart (x ∷ xs) zero (suc d) v w h = refl
+set_apart (x ∷ xs) (suc c) zero v w h = refl
+set_apart (x ∷ xs) (suc c) (suc d) v w h = ap (λ l. x ∷ l) (set_apart xs c d v w (λ e. h (ap suc e)))
+
+no_truth : false ≡ true → ⊥
+no_truth e = cc
+
+overwritten : (c : ℕ) (v : Value) (items : List Assign) (row : List Value) → is_set c items ≡ true → with_columns items (slice_set row c v) ≡ with_columns items row
+overwritten c v [] row h = absurd (no_truth h)
+overwritten c v (b ∷ bs) row h = elim (cases_Bool (b.column == c)) [
+  | inl t ↦
+      let same : b.column ≡ c = eqb-true b.column c t in
+      ap (with_columns bs) (subst (λ x. slice_set (slice_set row x v) b.column b.value ≡ slice_set row b.column b.value) same (set_again row b.column v b.value))
+  | inr f ↦
+      let rest : is_set c bs ≡ true = rw f at h in
+      ap (with_columns bs) (set_apart row c b.column v b.value (λ e. differ b.column c (sym e) f)) ∙ overwritten c v bs (slice_set row b.column b.value) rest
+]
+  where
+    differ : (a b : ℕ) → a ≡ b → (a == b) ≡ false → ⊥
+    differ a b e f = no_truth (sym f ∙ eq-eqb a b e)
+
+pub compact_is : (items : List Assign) (row : List Value) → with_columns (compact items) row ≡ with_columns items row
+compact_is [] row = refl
+compact_is (a ∷ as') row = elim (cases_Bool (is_set a.column as')) [
+  | inl t ↦ rw t (compact_is as' row ∙ sym (overwritten a.column a.value as' row t))
+  | inr f ↦ rw f (compact_is as' (slice_set row a.column a.value))
+]
+
+-- Moves
+
+take_before : (xs : List Assign) (k i : ℕ) (y : Assign) → k ≤ i → take k (slice_set xs i y) ≡ take k xs
+take_before [] k i y h = refl
+take_before (x ∷ xs) zero i y h = refl
+take_before (x ∷ xs) (suc k) zero y h = absurd (omega (arith, h))
+take_before (x ∷ xs) (suc k) (suc i) y h = ap (λ l. x ∷ l) (take_before xs k i y (omega (arith, h)))
+
+pub has_kept : (to at : ℕ) (d item hole : Assign) (old mid new : List Assign) → to ≤ at → at < length old → slice_get old at ≡ Some item → mid ≡ slice_set old at hole → new ≡ slice_set mid to item → HasKept to at d old new
+has_kept to at d item hole old mid new order within is first second = record {
+  many = ap length second ∙ (length-set mid to item ∙ (ap length first ∙ length-set old at hole));
+  taken =
+      ap (take (to + 1)) second
+      ∙ (take_more_set mid to item (omega (arith, order, within, ap length first ∙ length-set old at hole))
+      ∙ (ap (λ l. take to l ++ item ∷ []) first
+      ∙ (ap (λ l. l ++ item ∷ []) (take_before old to at hole order) ∙ ap (λ x. take to old ++ x ∷ []) (sym (get_is old at item d is)))));
+  rest =
+      ap (drop (at + 1)) second
+      ∙ (drop-set-lt (at + 1) mid to item (omega (arith, order)) ∙ (ap (drop (at + 1)) first ∙ drop-set-lt (at + 1) old at hole (omega arith)));
+}
+
+-- The loop
+
+pub none_compacted : (old : List Assign) → IsCompacted old 0 0 old
+none_compacted old = record { many = refl; few = omega arith; are = refl; rest = refl }
+
+drop_at : (xs : List Assign) (at : ℕ) (d : Assign) → at < length xs → drop at xs ≡ get_or xs at d ∷ drop (at + 1) xs
+drop_at xs at d lt = let next : suc at ≡ at + 1 = omega arith in drop-cons xs at d lt ∙ ap (λ n. get_or xs at d ∷ drop n xs) next
+
+same_parts : (a b : Assign) (xs ys : List Assign) → a ∷ xs ≡ b ∷ ys → (a ≡ b) × (xs ≡ ys)
+same_parts a b xs ys e = (cc, cc)
+
+-- the item at the place, and those after it, are as they were
+at_place : (old : List Assign) (kept at : ℕ) (now : List Assign) (d : Assign) → IsCompacted old kept at now → at < length old → (get_or now at d ≡ get_or old at d) × (drop (at + 1) now ≡ drop (at + 1) old)
+at_place old kept at now d h lt =
+    same_parts (get_or now at d) (get_or old at d) (drop (at + 1) now) (drop (at + 1) old)
+    (sym (drop_at now at d (omega (arith, lt, h.many))) ∙ (h.rest ∙ drop_at old at d lt))
+
+pub one_dropped : (old : List Assign) (kept at : ℕ) (now : List Assign) (d : Assign) → IsCompacted old kept at now → at < length old → is_set (get_or now at d).column (drop (at + 1) now) ≡ true → IsCompacted old kept (at + 1) now
+one_dropped old kept at now d h lt set =
+    let same = at_place old kept at now d h lt in
+    let later : is_set (get_or old at d).column (drop (at + 1) old) ≡ true = sym (ap (λ (a : Assign). is_set a.column (drop (at + 1) now)) same.0 ∙ ap (is_set (get_or old at d).column) same.1) ∙ set in
+    record {
+      many = h.many;
+      few = omega (arith, h.few);
+      are = ap (λ l. take kept now ++ l) (sym (ap compact (drop_at old at d lt) ∙ ap (λ b. cond b (compact (drop (at + 1) old)) (get_or old at d ∷ compact (drop (at + 1) old))) later)) ∙ h.are;
+      rest = same.1;
+    }
+
+pub one_kept : (old : List Assign) (kept at : ℕ) (now new : List Assign) (d : Assign) → IsCompacted old kept at now → at < length old → is_set (get_or now at d).column (drop (at + 1) now) ≡ false → HasKept kept at d now new → IsCompacted old (kept + 1) (at + 1) new
+one_kept old kept at now new d h lt set move =
+    let same = at_place old kept at now d h lt in
+    let later : is_set (get_or old at d).column (drop (at + 1) old) ≡ false = sym (ap (λ (a : Assign). is_set a.column (drop (at + 1) now)) same.0 ∙ ap (is_set (get_or old at d).column) same.1) ∙ set in
+    record {
+      many = move.many ∙ h.many;
+      few = omega (arith, h.few);
+      are =
+          ap (λ l. l ++ compact (drop (at + 1) old)) (move.taken ∙ ap (λ a. take kept now ++ a ∷ []) same.0)
+          ∙ (append_assoc (take kept now) (get_or old at d ∷ []) (compact (drop (at + 1) old))
+          ∙ (ap (λ l. take kept now ++ l) (sym (ap compact (drop_at old at d lt) ∙ ap (λ b. cond b (compact (drop (at + 1) old)) (get_or old at d ∷ compact (drop (at + 1) old))) later)) ∙ h.are));
+      rest = move.rest ∙ same.1;
+    }
+
+pub all_compacted : (old : List Assign) (kept at : ℕ) (now new : List Assign) → IsCompacted old kept at now → length old ≤ at → new ≡ take kept now → new ≡ compact old
+all_compacted old kept at now new h all is = is ∙ (sym (append-nil (take kept now)) ∙ (ap (λ l. take kept now ++ compact l) (sym (drop_all at old all)) ∙ h.are))
+
+pub kept_one : (all : List Assign) (kept at : ℕ) (now new : List Assign) (d : Assign) → IsCompacted all kept at now → at < length now → is_set (get_or now at d).column (drop (at + 1) now) ≡ false → HasKept kept at d now new → IsCompacted all (kept + 1) (at + 1) new
+kept_one all kept at now new d h lt set move = one_kept all kept at now new d h (omega (arith, lt, h.many)) set move
+
+pub dropped_one : (all : List Assign) (kept at : ℕ) (now : List Assign) (d : Assign) → IsCompacted all kept at now → at < length now → is_set (get_or now at d).column (drop (at + 1) now) ≡ true → IsCompacted all kept (at + 1) now
+dropped_one all kept at now d h lt set = one_dropped all kept at now d h (omega (arith, lt, h.many)) set
