@@ -49,11 +49,11 @@ abbrev pub done_calls : ℕ → List Live
 done_calls zero = []
 done_calls (suc n) = done_calls n ++ finish (begin n) ∷ []
 
-length_calls : (n : ℕ) → length (done_calls n) ≡ n
+pub length_calls : (n : ℕ) → length (done_calls n) ≡ n
 length_calls zero = refl
 length_calls (suc n) = let l = length-append (done_calls n) (finish (begin n) ∷ []) in let k = length_calls n in omega (arith, l, k)
 
-at_end : (ls : List Live) (l : Live) (k : ℕ) → length ls ≡ k → slice_get (ls ++ l ∷ []) k ≡ Some l
+pub at_end : (ls : List Live) (l : Live) (k : ℕ) → length ls ≡ k → slice_get (ls ++ l ∷ []) k ≡ Some l
 at_end [] l zero h = refl
 at_end [] l (suc k) h = absurd (omega (arith, h))
 at_end (x ∷ ls) l zero h = absurd (omega (arith, h))
@@ -161,15 +161,15 @@ commit_done w n =
     let ls : List Live = done_calls n ++ begin n ∷ [] in
     ap (course (numbers n ++ n ∷ [])) (ap (λ o. change_live o finish ls n) (at_end (done_calls n) (begin n) n (length_calls n)) ∙ set_end (done_calls n) (begin n) (finish (begin n)) n (length_calls n))
 
-turn_free : (w : Work) (n : ℕ) → n < w.count → AllAllowed w (turned n) (turn n)
+pub turn_free : (w : Work) (n : ℕ) → n < w.count → AllAllowed w (turned n) (turn n)
 turn_free w n less = (begin_free w n less, (subst (λ k. refusal w (one_live n k) (C n) ≡ None) (sym (length_numbers n)) (commit_free w n), tt))
 
-turn_done : (w : Work) (n : ℕ) → reach w (turned n) (turn n) ≡ turned (suc n)
+pub turn_done : (w : Work) (n : ℕ) → reach w (turned n) (turn n) ≡ turned (suc n)
 turn_done w n = subst (λ k. after w (one_live n k) (C n) ≡ turned (suc n)) (sym (length_numbers n)) (commit_done w n)
 
 -- All turns
 
-turns_more : (n : ℕ) → in_turn (suc n) ≡ in_turn n ++ turn n
+pub turns_more : (n : ℕ) → in_turn (suc n) ≡ in_turn n ++ turn n
 turns_more n = flat_map-append turn (numbers n) (n ∷ []) ∙ ap (λ l. in_turn n ++ l) (append-nil (turn n))
 
 pub turns_reach : (w : Work) (n : ℕ) → reach w beginning (in_turn n) ≡ turned n
@@ -190,7 +190,7 @@ no_rounds : (c n : ℕ) → filter (is_round c) (in_turn n) ≡ []
 no_rounds c zero = refl
 no_rounds c (suc n) = ap (filter (is_round c)) (turns_more n) ∙ (filter-append (is_round c) (in_turn n) (turn n) ∙ ap (λ l. l ++ []) (no_rounds c n))
 
-closed : (w : Work) (n : ℕ) → n ≡ w.count → option_map Open (open_call w (turned n)) ≡ None
+pub closed : (w : Work) (n : ℕ) → n ≡ w.count → option_map Open (open_call w (turned n)) ≡ None
 closed w n is = ap (λ c. option_map Open (if nat_lt c w.count then Some c else None)) (none_open 0 (done_calls n) (all_done n))
     ∙ ap (λ b. option_map Open (if b then Some (0 + length (done_calls n)) else None)) past
   where
