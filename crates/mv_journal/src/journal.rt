@@ -1,6 +1,6 @@
 //! Reads and writes a journal, which has one line for each event.
 
-ghost use Rattle.std.specs.Prelude.{◌≡◌, ◌⊎◌, ◌<◌, ◌^◌, ◌++◌, ℕ, List as Seq, length, take, OnOk, OnErr, IfOk, IfErr, Ok, Err};
+ghost use Rattle.std.specs.Prelude.{◌≡◌, ◌⊎◌, ◌<◌, ◌≤◌, ◌^◌, ◌++◌, ℕ, List as Seq, length, take, OnOk, OnErr, IfOk, IfErr, Ok, Err};
 ghost use Rattle.std.specs.Str.Lines.{lines};
 ghost use Rattle.mv_journal.specs.declared.event.Event.{Event};
 ghost use Rattle.mv_journal.specs.declared.fault.LineFault.TheVariants as fault;
@@ -20,6 +20,7 @@ use std::alloc::Global;
 pub fn read_journal(alloc: Global, bytes: &[u8]) -> Result<List<Event>, LineFault>
     requires { length bytes.now < 2 ^ 32 }
     ensures events { IfOk result (AreEventLines (lines bytes.now)) }
+    ensures few { IfOk result (λ events. length events ≤ length bytes.now) }
     ensures only { (events : Seq Event) → AreEventLines (lines bytes.now) events → (result ≡ Ok events) ⊎ (result ≡ Err fault.NoMemory) }
     ensures fault { IfErr result (TellsFault (lines bytes.now)) }
     ensures told { (n : ℕ) → IsFirstBad (lines bytes.now) n → (result ≡ Err (fault.Line n)) ⊎ (result ≡ Err fault.NoMemory) }

@@ -34,7 +34,7 @@ moves_join : (w : Work) (s : Course) (es fs : List Event) → MovesLate w s es �
 moves_join w s [] fs h k = k
 moves_join w s (e ∷ es) fs h k = (h.0, moves_join w (after w s e) es fs h.1 k)
 
-only_open : (w : Work) (n : ℕ) (s : Course) (es : List Event) → AllAllowed w s es → wrong_from w n s es ≡ option_map Open (open_call w (reach w s es))
+pub only_open : (w : Work) (n : ℕ) (s : Course) (es : List Event) → AllAllowed w s es → wrong_from w n s es ≡ option_map Open (open_call w (reach w s es))
 only_open w n s [] h = refl
 only_open w n s (e ∷ es) h = ap (λ o. or_refused n o (wrong_from w (n + 1) (after w s e) es)) h.0 ∙ only_open w (n + 1) (after w s e) es h.1
 
