@@ -1,5 +1,5 @@
 -- The writes of a running call, each with the number of its record.
-use Rattle.std.specs.Prelude.{◌≡◌, ◌≤◌, ℕ, Bool, ◌&&◌, ◌==◌, nat_lt, List, map, AllPairs}
+use Rattle.std.specs.Prelude.{◌≡◌, ◌≤◌, ℕ, Bool, ◌&&◌, ◌==◌, nat_lt, List, map, AllPairs, length, take}
 use Rattle.std.specs.List.{filter, list_any}
 use Rattle.std.specs.Ordering.{is_eq}
 use Rattle.std.specs.declared.cmp.Ordering.TheVariants.{Less}
@@ -8,6 +8,8 @@ use Rattle.mv_values.specs.declared.patch.Write.{Write}
 use Rattle.mv_values.specs.declared.pred.Pred.{Pred}
 use Rattle.mv_values.specs.Order.{key_order}
 use Rattle.mv_values.specs.Preds.{admits}
+use Rattle.mv_record.specs.declared.record.Record.{Record}
+use Rattle.mv_record.specs.Runs.{writes_in}
 use Rattle.mv_record.specs.Writes.{is_on}
 use Rattle.mv_undo.specs.declared.owned.Owned.{Owned}
 
@@ -22,6 +24,10 @@ before number all = filter (λ o. nat_lt o.number number) all
 -- the writes of records with smaller numbers
 abbrev pub earlier : ℕ → List Owned → List Write
 earlier number all = map (λ o. o.write) (before number all)
+
+-- these are the writes of a call with these records: before each record they are those of the records before it
+abbrev pub HasWritesOf : List Owned → List Record → Type 0
+HasWritesOf undo records = (number : ℕ) → number ≤ length records → earlier number undo ≡ writes_in (take number records)
 
 -- a write to this key of this table, by a record with a smaller number
 abbrev pub is_earlier_on : ℕ → ℕ → List Value → Owned → Bool
