@@ -1,5 +1,5 @@
 -- Which branch an IF chooses.
-use Rattle.std.specs.Prelude.{◌≡◌, Bool, List, [], Ok}
+use Rattle.std.specs.Prelude.{◌≡◌, Bool, [], Ok}
 use Rattle.mv_values.specs.declared.value.Value.{Value}
 use Rattle.mv_catalog.specs.declared.resolved.RStmt.TheOpen.{RStmt-F, Branch}
 use Rattle.mv_alone.specs.declared.state.Env.{Env}

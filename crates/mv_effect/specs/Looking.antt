@@ -1,17 +1,20 @@
 -- What a statement may be executed on, and how it uses its view.
-use Rattle.std.specs.Prelude.{◌≡◌, ◌≤◌, ◌+◌, ◌*◌, ℕ, suc, List, [], ◌∷◌, length, Result, Ok, Err, All, if◌then◌else◌}
+use Rattle.std.specs.Prelude.{◌≡◌, ◌≤◌, ◌<◌, ◌+◌, ◌*◌, ◌^◌, ℕ, suc, List, [], ◌∷◌, length, Result, Ok, Err, All, if◌then◌else◌}
 use Rattle.mv_values.specs.declared.rows.Keyed.{Keyed}
 use Rattle.mv_values.specs.declared.pred.Pred.{Pred}
 use Rattle.mv_values.specs.declared.patch.Write.{Write}
 use Rattle.mv_values.specs.declared.schema.TableInfo.{TableInfo}
 use Rattle.mv_values.specs.Patching.{applied}
 use Rattle.mv_values.specs.Tables.{KeysStand}
+use Rattle.mv_catalog.specs.declared.resolved.RStmt.{RStmt, out-RStmt}
 use Rattle.mv_catalog.specs.Text.{IsTable}
+use Rattle.mv_alone.specs.declared.state.Env.{Env}
 use Rattle.mv_record.specs.Databases.{IsDatabaseOf}
 use Rattle.mv_undo.specs.Owning.{touches}
 use Rattle.mv_view.specs.Viewing.{Sight, one_more}
 use Rattle.mv_view.specs.declared.view.Refused.{Refused}
 use Rattle.mv_view.specs.declared.view.Refused.TheVariants.{NoMemory, Stale}
+use Rattle.mv_effect.specs.Naming.{NamesColumns}
 
 -- the tables of a program, and a database of them before these writes and after them
 pub record Stands (tables : List TableInfo) (ws : List Write) (db : List (List Keyed)) : Type 0 where
@@ -19,6 +22,12 @@ pub record Stands (tables : List TableInfo) (ws : List Write) (db : List (List K
   pub each : All IsTable tables
   pub database : IsDatabaseOf tables db
   pub behind : KeysStand tables (applied ws db)
+
+-- a statement may be executed with these variables, after these writes to a database
+pub record IsExecutable (tables : List TableInfo) (s : RStmt) (env : Env) (ws : List Write) (db : List (List Keyed)) : Type 0 where
+  pub stands : Stands tables ws db
+  pub names : NamesColumns tables (out-RStmt s)
+  pub found : env.found < 2 ^ 16
 
 -- how many different keys the writes are on
 abbrev pub different : List Write → ℕ

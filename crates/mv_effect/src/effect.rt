@@ -38,7 +38,7 @@ pub(crate) fn one(alloc: Global, pred: Pred) -> Result<List<Pred>, NoMemory>
 }
 
 /// Returns the effect of a statement that only asks this.
-pub(crate) fn asking(alloc: Global, pred: Pred) -> Result<Effect, NoMemory>
+pub(crate) fn query_effect(alloc: Global, pred: Pred) -> Result<Effect, NoMemory>
     ensures { IfOk result (λ e. e ≡ only_asks pred) }
 {
     let mut effect = nothing(alloc);
@@ -47,7 +47,7 @@ pub(crate) fn asking(alloc: Global, pred: Pred) -> Result<Effect, NoMemory>
 }
 
 /// Returns the effect of a statement that asks this and ends the call.
-pub(crate) fn ended(alloc: Global, preds: List<Pred>, end: End) -> Effect
+pub(crate) fn end_effect(alloc: Global, preds: List<Pred>, end: End) -> Effect
     ensures { result ≡ only_end preds end }
 {
     Effect {
@@ -61,31 +61,31 @@ pub(crate) fn ended(alloc: Global, preds: List<Pred>, end: End) -> Effect
 }
 
 /// Returns the effect of a statement that asks this and sets these variables.
-pub(crate) fn setting(alloc: Global, pred: Pred, sets: List<Slot>) -> Result<Effect, NoMemory>
+pub(crate) fn set_effect(alloc: Global, pred: Pred, sets: List<Slot>) -> Result<Effect, NoMemory>
     ensures { IfOk result (λ e. e ≡ record (only_asks pred) { sets = sets }) }
 {
-    let mut effect = asking(alloc, pred)?;
+    let mut effect = query_effect(alloc, pred)?;
     effect.sets = sets;
     Ok(effect)
 }
 
 /// Returns the effect of a statement that was stopped after it asked this. Fails if it was stopped because memory ran
 /// out.
-pub(crate) fn ended_by(alloc: Global, preds: List<Pred>, stop: Stop) -> Result<Effect, NoMemory>
+pub(crate) fn stop_effect(alloc: Global, preds: List<Pred>, stop: Stop) -> Result<Effect, NoMemory>
     ensures { IfOk result (EndsBy stop preds) }
 {
     match stop {
         Stop::Memory => Err(NoMemory),
-        Stop::Ended(end) => Ok(ended(alloc, preds, end)),
+        Stop::Ended(end) => Ok(end_effect(alloc, preds, end)),
     }
 }
 
 /// Returns the result of a statement that was stopped after it asked this.
-pub(crate) fn stopped(alloc: Global, preds: List<Pred>, stop: Stop) -> Result<Effect, Refused>
+pub(crate) fn stop_result(alloc: Global, preds: List<Pred>, stop: Stop) -> Result<Effect, Refused>
     ensures { IsStopped preds stop result }
 {
     match stop {
         Stop::Memory => Err(Refused::NoMemory),
-        Stop::Ended(end) => Ok(ended(alloc, preds, end)),
+        Stop::Ended(end) => Ok(end_effect(alloc, preds, end)),
     }
 }

@@ -1,13 +1,13 @@
 //! The effect of one statement, over a view of the database and the call's own writes.
 #![tactic(auto)]
 
-mod asking;
-mod changing;
+mod changes;
+mod context;
 mod effect;
-mod here;
-mod looking;
 mod numbers;
-mod plainly;
-mod selecting;
-mod setting;
+mod predicates;
+mod queries;
+mod rows;
+mod slots;
 pub mod statement;
+mod tableless;

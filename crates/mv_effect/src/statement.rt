@@ -1,22 +1,18 @@
 //! The effect of one statement.
 
-ghost use Rattle.std.specs.Prelude.{◌<◌, ◌≤◌, ◌^◌, IfOk, All, length};
+ghost use Rattle.std.specs.Prelude.{IfOk};
 ghost use Rattle.mv_values.specs.Patching.{applied};
-ghost use Rattle.mv_values.specs.Tables.{KeysStand};
 ghost use Rattle.mv_catalog.specs.declared.resolved.RStmt.{out-RStmt};
-ghost use Rattle.mv_catalog.specs.Text.{IsTable};
 ghost use Rattle.mv_undo.specs.Owning.{earlier};
 ghost use Rattle.mv_view.specs.Viewing.{MayAnswer};
 ghost use Rattle.mv_recorded.specs.Effects.{IsEffect};
-ghost use Rattle.mv_record.specs.Databases.{IsDatabaseOf};
 ghost use Rattle.mv_effect.specs.Choosing.{Chooses};
-ghost use Rattle.mv_effect.specs.Looking.{IsSameView, PassesOn, different, AskedAtMost, AskedFor};
-ghost use Rattle.mv_effect.specs.Naming.{NamesColumns};
+ghost use Rattle.mv_effect.specs.Looking.{IsExecutable, IsSameView, PassesOn, different, AskedAtMost, AskedFor};
 
-use crate::changing::{delete, insert, update};
-use crate::here::Here;
-use crate::plainly::{assign, branch, decide, for_rows, print, rollback};
-use crate::selecting::{for_select, select, total};
+use crate::changes::{delete, insert, update};
+use crate::context::Context;
+use crate::queries::{for_select, select, total};
+use crate::tableless::{assign, branch, decide, for_rows, print, rollback};
 use mv_alone::state::Env;
 use mv_catalog::resolved::RStmt;
 use mv_record::effect::Effect;
@@ -42,12 +38,7 @@ fn own_effect<V: View>(
     number: usize,
     view: &mut V,
 ) -> Result<Effect, Refused>
-    requires few { length tables.now ≤ 64 }
-    requires tables { All IsTable tables.now }
-    requires names { NamesColumns tables.now (out-RStmt statement.now) }
-    requires found { env.now.found < 2 ^ 16 }
-    requires database { IsDatabaseOf tables.now (V.sight view.old).database }
-    requires behind { KeysStand tables.now (applied (earlier number undo.now) (V.sight view.old).database) }
+    requires { IsExecutable tables.now statement.now env.now (earlier number undo.now) (V.sight view.old).database }
     ensures effect { IfOk result (IsEffect tables.now (out-RStmt statement.now) env.now (applied (earlier number undo.now) (V.sight view.old).database)) }
     ensures refused { MayAnswer (V.sight view.old) (V.sight view.new) result }
     ensures stale { PassesOn (V.sight view.old) (V.sight view.new) result }
@@ -55,7 +46,7 @@ fn own_effect<V: View>(
     ensures bounded { AskedAtMost 1 (different (earlier number undo.now)) (V.sight view.old) (V.sight view.new) }
     ensures looks { IfOk result (λ e. AskedFor e.preds (earlier number undo.now) (V.sight view.old) (V.sight view.new)) }
 {
-    let here = Here {
+    let context = Context {
         tables,
         env,
         undo,
@@ -72,7 +63,7 @@ fn own_effect<V: View>(
             offset,
         } => select(
             alloc,
-            &here,
+            &context,
             columns.as_slice(),
             to.as_slice(),
             *table,
@@ -86,7 +77,7 @@ fn own_effect<V: View>(
             to,
             table,
             conds,
-        } => total(alloc, &here, *agg, *to, *table, conds.as_slice(), view),
+        } => total(alloc, &context, *agg, *to, *table, conds.as_slice(), view),
         RStmt::ForSelect {
             distinct,
             columns,
@@ -96,7 +87,7 @@ fn own_effect<V: View>(
             ..
         } => for_select(
             alloc,
-            &here,
+            &context,
             *distinct,
             columns.as_slice(),
             *table,
@@ -106,20 +97,20 @@ fn own_effect<V: View>(
         ),
         RStmt::ForRows { rows, .. } => for_rows(alloc, *rows, env),
         RStmt::Branch { test, .. } => branch(alloc, test, env),
-        RStmt::Insert { table, values } => insert(alloc, &here, *table, values.as_slice(), view),
+        RStmt::Insert { table, values } => insert(alloc, &context, *table, values.as_slice(), view),
         RStmt::Update {
             table,
             items,
             conds,
         } => update(
             alloc,
-            &here,
+            &context,
             *table,
             items.as_slice(),
             conds.as_slice(),
             view,
         ),
-        RStmt::Delete { table, conds } => delete(alloc, &here, *table, conds.as_slice(), view),
+        RStmt::Delete { table, conds } => delete(alloc, &context, *table, conds.as_slice(), view),
         RStmt::Print { values } => print(alloc, values.as_slice(), env),
         RStmt::Rollback { reason } => rollback(alloc, reason),
     }
@@ -141,12 +132,7 @@ pub fn effect<V: View>(
     number: usize,
     view: &mut V,
 ) -> Result<Choice, Refused>
-    requires few { length tables.now ≤ 64 }
-    requires tables { All IsTable tables.now }
-    requires names { NamesColumns tables.now (out-RStmt statement.now) }
-    requires found { env.now.found < 2 ^ 16 }
-    requires database { IsDatabaseOf tables.now (V.sight view.old).database }
-    requires behind { KeysStand tables.now (applied (earlier number undo.now) (V.sight view.old).database) }
+    requires { IsExecutable tables.now statement.now env.now (earlier number undo.now) (V.sight view.old).database }
     ensures effect { IfOk result (λ c. IsEffect tables.now (out-RStmt statement.now) env.now (applied (earlier number undo.now) (V.sight view.old).database) c.effect) }
     ensures branch { IfOk result (λ c. Chooses env.now c.holds (out-RStmt statement.now)) }
     ensures refused { MayAnswer (V.sight view.old) (V.sight view.new) result }

@@ -1,28 +1,31 @@
 use Rattle.std.proofs.Common.{List, length, sym, subst}
 use Rattle.mv_values.specs.declared.schema.TableInfo.{TableInfo}
 use Rattle.mv_values.specs.Patching.{applied}
-use Rattle.mv_values.specs.Tables.{KeysStand}
 use Rattle.mv_catalog.specs.declared.resolved.RStmt.{out-RStmt}
 use Rattle.mv_undo.specs.Owning.{earlier}
 use Rattle.mv_recorded.specs.Effects.{IsEffect}
-use Rattle.mv_effect.specs.Looking.{AskedFor}
-use Rattle.mv_effect.specs.Naming.{NamesColumns}
+use Rattle.mv_effect.specs.Looking.{AskedFor, IsExecutable}
 use Rattle.mv_effect.proofs.WellNamed.{well_named}
 use Rattle.mv_exec.specs.Tasks.{places_of}
 use Rattle.mv_exec.proofs.Executing.{counts_one, keys_before, executed_next}
 use Rattle.mv_exec.proofs.Wellness.{well_at, columns_at}
 use Rattle.mv_exec.proofs.execute.execute.Goals as goal
 
-pub effect-requires-clause-names : goal.effect-requires-clause-names
-effect-requires-clause-names g c =
+pub effect-requires : goal.effect-requires
+effect-requires g c =
     let well = well_at c.args.graph.now.tables c.args.graph.now.procedure c.requires.at.0 c.args.position.place c.args.position.statement.now c.requires.sound.procedure c.requires.at.1.stands in
-    subst (λ (ts : List TableInfo). NamesColumns ts (out-RStmt c.args.position.statement.now)) (sym c.as_slice.ensures) (well_named c.args.graph.now.tables c.args.position.statement.now well.0 well.1)
-
-pub effect-requires-clause-behind : goal.effect-requires-clause-behind
-effect-requires-clause-behind g c =
-    subst (λ (ts : List TableInfo). KeysStand ts (applied (earlier c.len-number.result c.args.task.now.undo) (g.V.View.sight c.args.view.now).database)) (sym c.as_slice.ensures)
-    (subst (λ n. KeysStand c.args.graph.now.tables (applied (earlier n c.args.task.now.undo) (g.V.View.sight c.args.view.now).database)) (sym c.len-number.ensures)
-    (keys_before c.args.graph.now.procedure c.args.graph.now.tables c.args.task.now (g.V.View.sight c.args.view.now).database c.requires.task c.requires.keys))
+    subst (λ (ts : List TableInfo). IsExecutable ts c.args.position.statement.now c.args.task.now.env (earlier c.len-number.result c.args.task.now.undo) (g.V.View.sight c.args.view.now).database) (sym c.as_slice.ensures)
+    (subst (λ n. IsExecutable c.args.graph.now.tables c.args.position.statement.now c.args.task.now.env (earlier n c.args.task.now.undo) (g.V.View.sight c.args.view.now).database) (sym c.len-number.ensures)
+    (record {
+      stands = record {
+        few = c.requires.sound.few;
+        each = c.requires.sound.tables;
+        database = c.requires.database;
+        behind = keys_before c.args.graph.now.procedure c.args.graph.now.tables c.args.task.now (g.V.View.sight c.args.view.now).database c.requires.task c.requires.keys;
+      };
+      names = well_named c.args.graph.now.tables c.args.position.statement.now well.0 well.1;
+      found = c.requires.found;
+    }))
 
 pub add-requires-clause-columns : goal.add-requires-clause-columns
 add-requires-clause-columns g c =

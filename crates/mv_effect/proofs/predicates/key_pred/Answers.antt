@@ -1,0 +1,20 @@
+use Rattle.std.proofs.Common.{◌≤◌, ◌<◌, length, Ok, ap, sym, subst, ◌∙◌, arith}
+use Rattle.std.specs.List.{All}
+use Rattle.mv_values.specs.Tables.{key_columns}
+use Rattle.mv_recorded.specs.Asking.{same_key}
+use Rattle.mv_effect.proofs.Few.{key_few}
+use Rattle.mv_recorded.proofs.Matching.{Placed, places_of}
+use Rattle.mv_effect.proofs.predicates.key_pred.Goals as goal
+
+pub key_tests-requires : goal.key_tests-requires
+key_tests-requires c =
+    let few = subst (λ ks. length ks ≤ 32) (sym c.key_in.ensures) (key_few c.args.tables.now c.args.table c.requires.each) in
+    omega (arith, few)
+
+pub returns-clause-knows : goal.returns-clause-knows
+returns-clause-knows c =
+    let same = c.key_in.ensures ∙ ap (key_columns c.args.tables.now) (sym c.narrow.ensures) in
+    record {
+      table = subst (λ t. t < length c.args.tables.now) (sym c.narrow.ensures) c.requires.table;
+      places = subst (λ ks. All (Placed ks) c.in_ok-tests.tests) same (places_of c.key_in.result.now (Ok (same_key c.key_in.result.now c.args.row.now)) c.in_ok-tests.tests (ap (λ l. Ok l) (sym c.in_ok-tests.ensures)));
+    }

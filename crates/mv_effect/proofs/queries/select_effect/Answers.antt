@@ -1,0 +1,22 @@
+use Rattle.std.proofs.Common.{rules, ◌≡◌, [], Option, IfOk, to_z, of_z, sym, ap, subst, ◌∙◌}
+use mir.Syntax.{w64}
+use Rattle.std.specs.Option.{option_copied}
+use Rattle.std.proofs.lemmas.Iterator.Adapters.{option_map_id}
+use Rattle.std.proofs.lemmas.List.{map-id}
+use Rattle.mv_values.specs.declared.rows.Keyed.{Keyed}
+use Rattle.mv_values.specs.Keys.{IsRising}
+use Rattle.mv_alone.specs.Rows.{item_at, matching, ordered}
+use Rattle.mv_recorded.specs.Effects.{taking}
+use Rattle.mv_effect.proofs.AllRows.{all_rows}
+use Rattle.mv_effect.proofs.queries.select_effect.Goals as goal
+
+pub chosen_row-requires : goal.chosen_row-requires
+chosen_row-requires c = subst IsRising (sym (map-id c.args.rows.now)) c.requires.rising
+
+pub returns : goal.returns
+returns c =
+    let at : to_z w64 (of_z w64 c.args.asked.1) ≡ c.args.asked.1 = search rules in
+    let is =
+    sym (option_map_id (option_copied c.in_ok-item.item))
+    ∙ (c.in_ok-item.ensures ∙ (ap (λ rows. item_at (ordered c.args.sorts.now rows) (to_z w64 (of_z w64 c.args.asked.1))) (all_rows c.args.rows.now) ∙ ap (item_at (ordered c.args.sorts.now (matching [] c.args.rows.now))) at)) in
+    subst (λ (o : Option Keyed). IfOk c.set_effect.result (λ e. e ≡ taking c.args.asked.0 c.args.columns.now c.args.to.now o c.args.env.now)) is (rw c.in_ok-sets.ensures at c.set_effect.ensures)

@@ -1,0 +1,27 @@
+use Rattle.std.proofs.Common.{sym, length, subst, ◌≤◌}
+use Rattle.mv_undo.specs.Owning.{earlier}
+use Rattle.mv_effect.specs.Looking.{different}
+use Rattle.mv_effect.proofs.Asked.{asked_look}
+use Rattle.mv_effect.proofs.Few.{sought_few}
+use Rattle.mv_effect.proofs.rows.look.Goals as goal
+
+pub returns-clause-looks : goal.returns-clause-looks
+returns-clause-looks g c =
+    let ws = earlier c.args.number c.args.undo.now in
+    asked_look (g.V.View.sight c.args.view.now) (g.V.View.sight c.rows.new.self) (g.V.View.sight c.rows_under.new.view) (length c.as_slice.result.now) (different ws)
+    c.in_ok-rows.ensures.counts c.in_ok-own.ensures.looks
+    (subst (λ ks. length ks ≤ different ws) (sym c.as_slice.ensures) (sought_few c.args.pred.now ws c.in_ok-keys.keys c.in_ok-keys.ensures))
+
+pub returns-in_err-own-clause-looks : goal.returns-in_err-own-clause-looks
+returns-in_err-own-clause-looks g c =
+    let ws = earlier c.args.number c.args.undo.now in
+    asked_look (g.V.View.sight c.args.view.now) (g.V.View.sight c.rows.new.self) (g.V.View.sight c.rows_under.new.view) (length c.as_slice.result.now) (different ws)
+    c.in_ok-rows.ensures.counts c.in_err-own.ensures.looks
+    (subst (λ ks. length ks ≤ different ws) (sym c.as_slice.ensures) (sought_few c.args.pred.now ws c.in_ok-keys.keys c.in_ok-keys.ensures))
+
+pub returns-in_err-rows-2-clause-looks : goal.returns-in_err-rows-2-clause-looks
+returns-in_err-rows-2-clause-looks g c =
+    let ws = earlier c.args.number c.args.undo.now in
+    asked_look (g.V.View.sight c.args.view.now) (g.V.View.sight c.rows.new.self) (g.V.View.sight c.rows_under.new.view) (length c.as_slice.result.now) (different ws)
+    c.in_ok-rows.ensures.counts c.in_ok-own.ensures.looks
+    (subst (λ ks. length ks ≤ different ws) (sym c.as_slice.ensures) (sought_few c.args.pred.now ws c.in_ok-keys.keys c.in_ok-keys.ensures))

@@ -1,0 +1,34 @@
+use Rattle.std.proofs.Common.{◌<◌, subst, sym}
+use Rattle.mv_undo.specs.Owning.{earlier}
+use Rattle.mv_values.specs.Patching.{applied}
+use Rattle.mv_recorded.proofs.Matching.{admitted}
+use Rattle.mv_effect.proofs.rows.visible_rows.Goals as goal
+
+pub look-requires-clause-table : goal.look-requires-clause-table
+look-requires-clause-table g c = subst (λ n. c.args.pred.now.table < n) (sym c.requires.stands.database.size) c.requires.knows.table
+
+pub look-requires-clause-before : goal.look-requires-clause-before
+look-requires-clause-before g c =
+    admitted c.args.context.now.tables.now c.args.pred.now (g.V.View.sight c.args.view.now).database c.requires.knows c.requires.stands.database.keys
+
+pub look-requires-clause-behind : goal.look-requires-clause-behind
+look-requires-clause-behind g c =
+    admitted c.args.context.now.tables.now c.args.pred.now (applied (earlier c.args.context.now.number c.args.context.now.undo.now) (g.V.View.sight c.args.view.now).database) c.requires.knows c.requires.stands.behind
+
+pub look-requires-clause-rising : goal.look-requires-clause-rising
+look-requires-clause-rising g c = c.requires.stands.database.rising
+
+pub returns-clause-found : goal.returns-clause-found
+returns-clause-found g c = c.look.ensures.found
+
+pub returns-clause-refused : goal.returns-clause-refused
+returns-clause-refused g c = c.look.ensures.refused
+
+pub returns-clause-stale : goal.returns-clause-stale
+returns-clause-stale g c = c.look.ensures.stale
+
+pub returns-clause-same : goal.returns-clause-same
+returns-clause-same g c = c.look.ensures.same
+
+pub returns-clause-looks : goal.returns-clause-looks
+returns-clause-looks g c = c.look.ensures.looks

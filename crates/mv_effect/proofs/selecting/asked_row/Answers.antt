@@ -1,9 +1,0 @@
-use Rattle.mv_recorded.specs.Asking.{with_sorts}
-use Rattle.mv_recorded.specs.Effects.{asks}
-use Rattle.mv_effect.proofs.Ends.{row_unasked}
-use Rattle.mv_effect.proofs.selecting.asked_row.Goals as goal
-
-pub returns-in_ok-ended_by-in-Err-offset-clause-asks : goal.returns-in_ok-ended_by-in-Err-offset-clause-asks
-returns-in_ok-ended_by-in-Err-offset-clause-asks c =
-    row_unasked (asks c.args.here.now.tables.now c.args.table c.args.conds.now (with_sorts c.args.columns.now c.args.sorts.now) c.args.here.now.env.now) c.in-Ok.pred c.args.at.now c.args.here.now.env.now
-    c.in-Err-offset.stop c.new-in-Err-offset.result c.in_ok-ended_by-in-Err-offset.field-0 c.in-Ok.ensures.asks c.in-Err-offset.ensures c.new-in-Err-offset.ensures c.in_ok-ended_by-in-Err-offset.ensures

@@ -1,0 +1,273 @@
+//! Statements that read a table and change none.
+
+ghost use Rattle.std.specs.Prelude.{◌≡◌, ◌<◌, ◌≤◌, ◌^◌, ℕ, IfOk, List, [], All, length};
+ghost use Rattle.mv_values.specs.Keys.{IsRising};
+ghost use Rattle.mv_values.specs.Patching.{applied};
+ghost use Rattle.mv_catalog.specs.declared.resolved.RStmt.{RStmt};
+ghost use Rattle.mv_catalog.specs.declared.resolved.RStmt.TheOpen as layer;
+ghost use Rattle.mv_catalog.specs.Text.{IsTable};
+ghost use Rattle.mv_alone.specs.Alone.{fixed};
+ghost use Rattle.mv_alone.specs.Rows.{aggregate, is_some_row, item_at, matching, ordered};
+ghost use Rattle.mv_recorded.specs.Asking.{column_in, with_sorts, KnowsKey};
+ghost use Rattle.mv_undo.specs.Owning.{earlier};
+ghost use Rattle.mv_view.specs.Viewing.{MayAnswer};
+ghost use Rattle.mv_recorded.specs.Effects.{IsEffect, asks, asked_by, asked_then, row_number, going, taking, totalling};
+ghost use Rattle.mv_effect.specs.Looking.{Stands, IsSameView, PassesOn, different, AskedAtMost, AskedFor};
+ghost use Rattle.mv_effect.specs.Naming.{Tests, AreColumns};
+
+use crate::context::Context;
+use crate::effect::{one, set_effect, stop_effect, stop_result};
+use crate::predicates::{aggregate_pred, select_pred};
+use crate::rows::visible_rows;
+use crate::slots::{found_alone, select_slots, total_slots};
+use crate::tableless::has_turn;
+use mv_alone::expr::{number_in, offset};
+use mv_alone::fixing::fixed_rows;
+use mv_alone::order::chosen_row;
+use mv_alone::state::Env;
+use mv_alone::totals::aggregate_of;
+use mv_catalog::resolved::{RAgg, RCond, RExpr, RSort};
+use mv_record::effect::Effect;
+use mv_values::list::List;
+use mv_values::memory::NoMemory;
+use mv_values::pred::Pred;
+use mv_values::rows::Keyed;
+use mv_values::value::{Row, Value};
+use mv_view::view::{Refused, View};
+use std::alloc::Global;
+
+/// Returns what a SELECT asks and the number of its row. If a right side of WHERE or OFFSET is stopped, returns the
+/// effect.
+fn row_query(
+    alloc: Global,
+    context: &Context<'_>,
+    columns: &[u16],
+    table: u16,
+    conds: &[RCond],
+    sorts: &[RSort],
+    at: &Option<RExpr>,
+) -> Result<Result<(Pred, i64), Effect>, NoMemory>
+    requires few { length context.now.tables.now ≤ 64 }
+    requires each { All IsTable context.now.tables.now }
+    requires tests { Tests context.now.tables.now table conds.now }
+    requires columns { AreColumns context.now.tables.now table (with_sorts columns.now sorts.now) }
+    ensures asks { IfOk result (λ asked. asked ≡ asked_by (asks context.now.tables.now table conds.now (with_sorts columns.now sorts.now) context.now.env.now) (row_number at.now context.now.env.now)) }
+    ensures knows { IfOk result (λ asked. IfOk asked (λ r. KnowsKey context.now.tables.now r.0)) }
+{
+    let pred = match select_pred(
+        alloc,
+        context.tables,
+        columns,
+        table,
+        conds,
+        sorts,
+        context.env,
+    ) {
+        Ok(pred) => pred,
+        Err(stop) => return Ok(Err(stop_effect(alloc, List::new(alloc), stop)?)),
+    };
+    match offset(alloc, at, context.env) {
+        Ok(at) => Ok(Ok((pred, number_in(&at)))),
+        Err(stop) => Ok(Err(stop_effect(alloc, List::new(alloc), stop)?)),
+    }
+}
+
+/// Returns the effect of a SELECT that asked this, takes the row with this number and found these rows.
+fn select_effect(
+    alloc: Global,
+    env: &Env,
+    columns: &[u16],
+    to: &[u16],
+    sorts: &[RSort],
+    asked: (Pred, i64),
+    rows: &[Keyed],
+) -> Result<Effect, NoMemory>
+    requires rising { IsRising rows.now }
+    requires found { env.now.found < 2 ^ 16 }
+    ensures { IfOk result (λ e. e ≡ taking asked.0 columns.now to.now (item_at (ordered sorts.now (matching [] rows.now)) asked.1) env.now) }
+{
+    let (pred, at) = asked;
+    let item = chosen_row(alloc, sorts, rows, at)?;
+    let sets = select_slots(alloc, env, columns, to, item)?;
+    set_effect(alloc, pred, sets)
+}
+
+/// Returns the effect of SELECT INTO: it sets its targets to the columns of the chosen row, if there is one, and sets
+/// `:found`. The call ends if a right side of WHERE or OFFSET is stopped.
+pub(crate) fn select<V: View>(
+    alloc: Global,
+    context: &Context<'_>,
+    columns: &[u16],
+    to: &[u16],
+    table: u16,
+    conds: &[RCond],
+    sorts: &[RSort],
+    at: &Option<RExpr>,
+    view: &mut V,
+) -> Result<Effect, Refused>
+    requires stands { Stands context.now.tables.now (earlier context.now.number context.now.undo.now) (V.sight view.old).database }
+    requires found { context.now.env.now.found < 2 ^ 16 }
+    requires tests { Tests context.now.tables.now table conds.now }
+    requires columns { AreColumns context.now.tables.now table (with_sorts columns.now sorts.now) }
+    ensures effect { IfOk result (IsEffect context.now.tables.now (layer.Select columns.now to.now table conds.now sorts.now at.now) context.now.env.now (applied (earlier context.now.number context.now.undo.now) (V.sight view.old).database)) }
+    ensures refused { MayAnswer (V.sight view.old) (V.sight view.new) result }
+    ensures stale { PassesOn (V.sight view.old) (V.sight view.new) result }
+    ensures same { IsSameView (V.sight view.old) (V.sight view.new) }
+    ensures bounded { AskedAtMost 1 (different (earlier context.now.number context.now.undo.now)) (V.sight view.old) (V.sight view.new) }
+    ensures looks { IfOk result (λ e. AskedFor e.preds (earlier context.now.number context.now.undo.now) (V.sight view.old) (V.sight view.new)) }
+{
+    let asked = match row_query(alloc, context, columns, table, conds, sorts, at)? {
+        Ok(asked) => asked,
+        Err(end) => return Ok(end),
+    };
+    let rows = visible_rows(alloc, context, &asked.0, view)?;
+    Ok(select_effect(
+        alloc,
+        context.env,
+        columns,
+        to,
+        sorts,
+        asked,
+        rows.as_slice(),
+    )?)
+}
+
+/// Returns the effect of an aggregate that asked this and yields this.
+fn total_effect(
+    alloc: Global,
+    env: &Env,
+    to: u16,
+    pred: Pred,
+    total: Option<Value>,
+    found: bool,
+) -> Result<Effect, NoMemory>
+    requires { env.now.found < 2 ^ 16 }
+    ensures { IfOk result (λ e. e ≡ totalling pred to total found env.now) }
+{
+    let sets = total_slots(alloc, env, to, total, found)?;
+    set_effect(alloc, pred, sets)
+}
+
+/// Returns the effect of an aggregate that asked this and found these rows.
+fn aggregate_effect(
+    alloc: Global,
+    env: &Env,
+    agg: RAgg,
+    to: u16,
+    pred: Pred,
+    rows: &[Keyed],
+) -> Result<Effect, NoMemory>
+    requires { env.now.found < 2 ^ 16 }
+    ensures { IfOk result (λ e. e ≡ asked_then pred (aggregate agg (matching [] rows.now)) (λ total. totalling pred to total (is_some_row (matching [] rows.now)) env.now)) }
+{
+    match aggregate_of(alloc, agg, rows) {
+        Ok(total) => total_effect(alloc, env, to, pred, total, !rows.is_empty()),
+        Err(stop) => stop_effect(alloc, one(alloc, pred)?, stop),
+    }
+}
+
+/// Returns the effect of SELECT with an aggregate: it sets its target, if there is a total, and sets `:found`. The call
+/// ends if a right side of WHERE is stopped, or if a sum is out of range.
+pub(crate) fn total<V: View>(
+    alloc: Global,
+    context: &Context<'_>,
+    agg: RAgg,
+    to: u16,
+    table: u16,
+    conds: &[RCond],
+    view: &mut V,
+) -> Result<Effect, Refused>
+    requires stands { Stands context.now.tables.now (earlier context.now.number context.now.undo.now) (V.sight view.old).database }
+    requires found { context.now.env.now.found < 2 ^ 16 }
+    requires tests { Tests context.now.tables.now table conds.now }
+    requires columns { AreColumns context.now.tables.now table (column_in agg) }
+    ensures effect { IfOk result (IsEffect context.now.tables.now (layer.Total agg to table conds.now) context.now.env.now (applied (earlier context.now.number context.now.undo.now) (V.sight view.old).database)) }
+    ensures refused { MayAnswer (V.sight view.old) (V.sight view.new) result }
+    ensures stale { PassesOn (V.sight view.old) (V.sight view.new) result }
+    ensures same { IsSameView (V.sight view.old) (V.sight view.new) }
+    ensures bounded { AskedAtMost 1 (different (earlier context.now.number context.now.undo.now)) (V.sight view.old) (V.sight view.new) }
+    ensures looks { IfOk result (λ e. AskedFor e.preds (earlier context.now.number context.now.undo.now) (V.sight view.old) (V.sight view.new)) }
+{
+    let pred = match aggregate_pred(alloc, context.tables, agg, table, conds, context.env) {
+        Ok(pred) => pred,
+        Err(stop) => return stop_result(alloc, List::new(alloc), stop),
+    };
+    let rows = visible_rows(alloc, context, &pred, view)?;
+    Ok(aggregate_effect(alloc, context.env, agg, to, pred, rows.as_slice())?)
+}
+
+/// Returns the effect of a FOR that asked this and has these turns.
+fn turns_effect(alloc: Global, env: &Env, pred: Pred, turns: List<Row>) -> Result<Effect, NoMemory>
+    requires { env.now.found < 2 ^ 16 }
+    ensures { IfOk result (λ e. e ≡ going pred turns env.now) }
+{
+    let sets = found_alone(alloc, env, has_turn(&turns))?;
+    let mut effect = set_effect(alloc, pred, sets)?;
+    effect.rows = turns;
+    Ok(effect)
+}
+
+/// Returns the effect of a FOR that asked this and found these rows.
+fn loop_effect(
+    alloc: Global,
+    env: &Env,
+    once: bool,
+    columns: &[u16],
+    sorts: &[RSort],
+    pred: Pred,
+    rows: &[Keyed],
+) -> Result<Effect, NoMemory>
+    requires rising { IsRising rows.now }
+    requires found { env.now.found < 2 ^ 16 }
+    ensures { IfOk result (λ e. e ≡ going pred (fixed once columns.now sorts.now (matching [] rows.now)) env.now) }
+{
+    let turns = fixed_rows(alloc, once, columns, sorts, rows)?;
+    turns_effect(alloc, env, pred, turns)
+}
+
+/// Returns the effect of FOR over SELECT: it fixes its rows, and sets `:found` to whether there are any. The call ends
+/// if a right side of WHERE is stopped.
+pub(crate) fn for_select<V: View>(
+    alloc: Global,
+    context: &Context<'_>,
+    once: bool,
+    columns: &[u16],
+    table: u16,
+    conds: &[RCond],
+    sorts: &[RSort],
+    view: &mut V,
+) -> Result<Effect, Refused>
+    requires stands { Stands context.now.tables.now (earlier context.now.number context.now.undo.now) (V.sight view.old).database }
+    requires found { context.now.env.now.found < 2 ^ 16 }
+    requires tests { Tests context.now.tables.now table conds.now }
+    requires columns { AreColumns context.now.tables.now table (with_sorts columns.now sorts.now) }
+    ensures effect { IfOk result (λ e. (row : ℕ) (body : List RStmt) → IsEffect context.now.tables.now (layer.ForSelect row once columns.now table conds.now sorts.now body) context.now.env.now (applied (earlier context.now.number context.now.undo.now) (V.sight view.old).database) e) }
+    ensures refused { MayAnswer (V.sight view.old) (V.sight view.new) result }
+    ensures stale { PassesOn (V.sight view.old) (V.sight view.new) result }
+    ensures same { IsSameView (V.sight view.old) (V.sight view.new) }
+    ensures bounded { AskedAtMost 1 (different (earlier context.now.number context.now.undo.now)) (V.sight view.old) (V.sight view.new) }
+    ensures looks { IfOk result (λ e. AskedFor e.preds (earlier context.now.number context.now.undo.now) (V.sight view.old) (V.sight view.new)) }
+{
+    let pred = match select_pred(
+        alloc,
+        context.tables,
+        columns,
+        table,
+        conds,
+        sorts,
+        context.env,
+    ) {
+        Ok(pred) => pred,
+        Err(stop) => return stop_result(alloc, List::new(alloc), stop),
+    };
+    let rows = visible_rows(alloc, context, &pred, view)?;
+    Ok(loop_effect(
+        alloc,
+        context.env,
+        once,
+        columns,
+        sorts,
+        pred,
+        rows.as_slice(),
+    )?)
+}

@@ -1,0 +1,114 @@
+//! The rows that a statement sees: those of a view, after the call's own writes.
+
+ghost use Rattle.std.specs.Prelude.{◌≡◌, ◌<◌, None, IfOk, OnOk, length, if◌then◌else◌, List};
+ghost use Rattle.mv_values.specs.declared.value.Value.{Value};
+ghost use Rattle.mv_values.specs.Patching.{row_of, placed, applied, found_by};
+ghost use Rattle.mv_values.specs.Tables.{rows_at};
+ghost use Rattle.mv_alone.specs.Rows.{is_some_row};
+ghost use Rattle.mv_record.specs.Admitting.{Admitted};
+ghost use Rattle.mv_record.specs.Writes.{AreRising};
+ghost use Rattle.mv_undo.specs.Owning.{earlier, is_among};
+ghost use Rattle.mv_view.specs.Viewing.{MayAnswer, answered, with_row_call};
+ghost use Rattle.mv_effect.specs.Looking.{different, Stands, IsSameView, PassesOn, AskedAtMost};
+ghost use Rattle.mv_recorded.specs.Asking.{KnowsKey};
+
+use crate::context::Context;
+use mv_record::applying::put_row;
+use mv_undo::undo::Undo;
+use mv_values::pred::Pred;
+use mv_values::rows::Rows;
+use mv_values::value::Key;
+use mv_view::view::{Refused, View};
+use std::alloc::Global;
+
+/// Adds the view's row under a key of a table to other rows. Asks the view for it once.
+fn add_row<V: View>(
+    alloc: Global,
+    table: u8,
+    key: &Key,
+    own: &mut Rows,
+    view: &mut V,
+) -> Result<(), Refused>
+    ensures found { OnOk result (own.new ≡ placed key.now (row_of (rows_at (V.sight view.old).database table) key.now) own.old) }
+    ensures counts { V.sight view.new ≡ answered result (with_row_call (V.sight view.old)) }
+    ensures stale { MayAnswer (V.sight view.old) (V.sight view.new) result }
+{
+    let row = view.row(alloc, table, key)?;
+    put_row(alloc, own, key, row)?;
+    Ok(())
+}
+
+/// Returns the view's rows under these keys of a table. Asks the view once for each key.
+fn rows_under<V: View>(
+    alloc: Global,
+    table: u8,
+    keys: &[Key],
+    view: &mut V,
+) -> Result<Rows, Refused>
+    ensures found { IfOk result (λ own. (key : List Value) → row_of own key ≡ (if is_among keys.now key then row_of (rows_at (V.sight view.old).database table) key else None)) }
+    ensures refused { MayAnswer (V.sight view.old) (V.sight view.new) result }
+    ensures stale { PassesOn (V.sight view.old) (V.sight view.new) result }
+    ensures same { IsSameView (V.sight view.old) (V.sight view.new) }
+    ensures looks { AskedAtMost 0 (length keys.now) (V.sight view.old) (V.sight view.new) }
+{
+    let mut own = Rows::new(alloc);
+    for key in keys {
+        add_row(alloc, table, key, &mut own, view)?;
+    }
+    Ok(own)
+}
+
+/// Returns the predicate's rows after the own writes of records with smaller numbers, in key order. Asks the view once
+/// for its rows, and once for each key that these records wrote and the predicate admits.
+fn look<V: View>(
+    alloc: Global,
+    pred: &Pred,
+    undo: &Undo,
+    number: usize,
+    view: &mut V,
+) -> Result<Rows, Refused>
+    requires rising { AreRising (V.sight view.old).database }
+    requires table { pred.now.table < length (V.sight view.old).database }
+    requires before { Admitted pred.now (rows_at (V.sight view.old).database pred.now.table) }
+    requires behind { Admitted pred.now (rows_at (applied (earlier number undo.now) (V.sight view.old).database) pred.now.table) }
+    ensures found { IfOk result (λ rows. rows ≡ found_by pred.now (applied (earlier number undo.now) (V.sight view.old).database)) }
+    ensures refused { MayAnswer (V.sight view.old) (V.sight view.new) result }
+    ensures stale { PassesOn (V.sight view.old) (V.sight view.new) result }
+    ensures same { IsSameView (V.sight view.old) (V.sight view.new) }
+    ensures looks { AskedAtMost 1 (different (earlier number undo.now)) (V.sight view.old) (V.sight view.new) }
+{
+    let rows = view.rows(alloc, pred)?;
+    let keys = undo.keys(alloc, number, pred)?;
+    let own = rows_under(alloc, pred.table, keys.as_slice(), view)?;
+    let rows = undo.overlay(alloc, number, pred, rows, own)?;
+    Ok(rows)
+}
+
+/// Returns the predicate's rows after the call's own writes that the statement sees, in key order. Asks the view once
+/// for its rows, and once for each key that these writes are on and the predicate admits.
+pub(crate) fn visible_rows<V: View>(
+    alloc: Global,
+    context: &Context<'_>,
+    pred: &Pred,
+    view: &mut V,
+) -> Result<Rows, Refused>
+    requires stands { Stands context.now.tables.now (earlier context.now.number context.now.undo.now) (V.sight view.old).database }
+    requires knows { KnowsKey context.now.tables.now pred.now }
+    ensures found { IfOk result (λ rows. rows ≡ found_by pred.now (applied (earlier context.now.number context.now.undo.now) (V.sight view.old).database)) }
+    ensures refused { MayAnswer (V.sight view.old) (V.sight view.new) result }
+    ensures stale { PassesOn (V.sight view.old) (V.sight view.new) result }
+    ensures same { IsSameView (V.sight view.old) (V.sight view.new) }
+    ensures looks { AskedAtMost 1 (different (earlier context.now.number context.now.undo.now)) (V.sight view.old) (V.sight view.new) }
+{
+    look(alloc, pred, context.undo, context.number, view)
+}
+
+/// Whether there are any rows.
+pub(crate) fn is_any(rows: &Rows) -> bool
+    ensures { result ≡ is_some_row rows.now }
+{
+    match rows.as_slice().first() {
+        None => false,
+        Some(_) => true,
+    }
+}
