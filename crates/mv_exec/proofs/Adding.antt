@@ -29,7 +29,7 @@ use Rattle.mv_exec.specs.declared.places.Place.{Place}
 use Rattle.mv_exec.specs.declared.task.Task.{Task}
 use Rattle.mv_exec.specs.Left.{Job, run, left, inside}
 use Rattle.mv_exec.specs.Places.{block_of, statement_before, holder_of, site_in, site_of, some_run, some_turns, turns_of, rows_in, jobs_here, jobs_of, jobs_left, StandsAt}
-use Rattle.mv_exec.specs.Moves.{inner_places, walked, place_after}
+use Rattle.mv_exec.specs.Moves.{inner_places, after_empty_loop, place_after}
 use Rattle.mv_exec.specs.Tasks.{places_of, state_of, left_of, IsTask, IsHeldBefore, AreHeldBefore}
 use Rattle.mv_exec.proofs.Leaving.{statement_first}
 use Rattle.mv_exec.proofs.Placing.{jobs_more, holding_more, site_more}
@@ -164,7 +164,7 @@ new_jobs proc task r outer p s b t at =
 abbrev Goes : ProcInfo → List TableInfo → Task → Tables → Record → List Record → List Place → Place → RStmt → Bool → Type 0
 Goes proc tables task db r tail outer p s b =
     left tables task.parameters (jobs_left proc (task.records ++ r ∷ []) ((outer ++ place_after (size s) p ∷ []) ++ inner_places (length task.records) p.number b (out-RStmt s)))
-    (task.records ++ r ∷ []) (state_with (task.records ++ r ∷ []) (walked (out-RStmt s) r.rows (with_slots r.sets task.env)) db) ≡ tail
+    (task.records ++ r ∷ []) (state_with (task.records ++ r ∷ []) (after_empty_loop (out-RStmt s) r.rows (with_slots r.sets task.env)) db) ≡ tail
 
 -- two lists with one first record
 pub first_same : (r q : Record) (rs qs : List Record) → r ∷ rs ≡ q ∷ qs → (r ≡ q) × (rs ≡ qs)
@@ -193,9 +193,9 @@ own_goes proc tables task db tail outer p s b next t at chosen ok is tails =
     let more : List Job = turns_of task.records (site_of outside outer) block p.first p.holder ++ jobs_left proc task.records outer in
     let inner : List Job = inner_jobs number p.number b site own.rows y in
     let to : State = behind own st in
-    let walk : State = record to { env = walked y own.rows to.env } in
-    ap (λ js. left tables params js rs (state_with rs (walked y own.rows (with_slots own.sets task.env)) db)) (new_jobs proc task own outer p s b t at)
-    ∙ (ap (left tables params (inner ++ (some_run site (p.number + size s) rest ++ more)) rs) (sym (state_more task.records own task.env (walked y own.rows (with_slots own.sets task.env)) db))
+    let walk : State = record to { env = after_empty_loop y own.rows to.env } in
+    ap (λ js. left tables params js rs (state_with rs (after_empty_loop y own.rows (with_slots own.sets task.env)) db)) (new_jobs proc task own outer p s b t at)
+    ∙ (ap (left tables params (inner ++ (some_run site (p.number + size s) rest ++ more)) rs) (sym (state_more task.records own task.env (after_empty_loop y own.rows (with_slots own.sets task.env)) db))
     ∙ (sym (same_all_behind tables params inner (run site (p.number + size s) rest ∷ more) (some_run site (p.number + size s) rest ++ more) (same_run tables params site (p.number + size s) rest more) rs walk)
     ∙ (sym (inside_left tables params y number p.number site b (run site (p.number + size s) rest ∷ more) rs st next to ok chosen)
     ∙ (ap (left tables params (inside number y p.number site st ++ run site (p.number + size s) rest ∷ more) rs) (sym is)

@@ -7,7 +7,7 @@ use Rattle.mv_alone.proofs.Putting.{pad_full, put_padded}
 use Rattle.mv_record.specs.declared.record.Slot.{Slot}
 use Rattle.mv_recorded.specs.Effect.{with_slots}
 use Rattle.mv_exec.specs.declared.changes.Change.{Change}
-use Rattle.mv_exec.specs.Env.{changed, room, of_slot}
+use Rattle.mv_exec.specs.Env.{with_changes, room, of_slot}
 
 pub room_next : (most needed r : ℕ) → max most (max needed r) ≡ max (max most needed) r
 room_next most needed r = omega arith
@@ -38,28 +38,28 @@ put_long [] (suc x) h = let k : max (x + 1) 0 ≤ length (put_at [] x h) = put_l
 put_long (g ∷ gs) zero h = omega arith
 put_long (g ∷ gs) (suc x) h = let k : max (x + 1) (length gs) ≤ length (put_at gs x h) = put_long gs x h in omega arith
 
-changed_padded : (cs : List Change) (n : ℕ) (env : Env) → changed cs (record env { held = padded n env.held }) ≡ (let e : Env = changed cs env in record e { held = padded n e.held })
-changed_padded [] n env = refl
-changed_padded (c ∷ cs) n env =
-    ap (λ hs. changed cs (record env { held = hs })) (put_padded_in n env.held c.slot c.held) ∙ changed_padded cs n (with_held env c.slot c.held)
+changes_padded : (cs : List Change) (n : ℕ) (env : Env) → with_changes cs (record env { held = padded n env.held }) ≡ (let e : Env = with_changes cs env in record e { held = padded n e.held })
+changes_padded [] n env = refl
+changes_padded (c ∷ cs) n env =
+    ap (λ hs. with_changes cs (record env { held = hs })) (put_padded_in n env.held c.slot c.held) ∙ changes_padded cs n (with_held env c.slot c.held)
 
-changed_long : (cs : List Change) (env : Env) → max (room cs) (length env.held) ≤ length (changed cs env).held
-changed_long [] env = omega arith
-changed_long (c ∷ cs) env =
-    let k : max (room cs) (length (put_at env.held c.slot c.held)) ≤ length (changed cs (with_held env c.slot c.held)).held = changed_long cs (with_held env c.slot c.held) in
+changes_long : (cs : List Change) (env : Env) → max (room cs) (length env.held) ≤ length (with_changes cs env).held
+changes_long [] env = omega arith
+changes_long (c ∷ cs) env =
+    let k : max (room cs) (length (put_at env.held c.slot c.held)) ≤ length (with_changes cs (with_held env c.slot c.held)).held = changes_long cs (with_held env c.slot c.held) in
     let l : max (c.slot + 1) (length env.held) ≤ length (put_at env.held c.slot c.held) = put_long env.held c.slot c.held in
     omega arith
 
-pub padded_changed : (cs : List Change) (env : Env) → changed cs (record env { held = padded (room cs) env.held }) ≡ changed cs env
-padded_changed cs env =
-    let e : Env = changed cs env in
-    let k : max (room cs) (length env.held) ≤ length (changed cs env).held = changed_long cs env in
-    changed_padded cs (room cs) env ∙ ap (λ hs. record e { held = hs }) (pad_full (room cs) e.held (omega arith))
+pub padded_changes : (cs : List Change) (env : Env) → with_changes cs (record env { held = padded (room cs) env.held }) ≡ with_changes cs env
+padded_changes cs env =
+    let e : Env = with_changes cs env in
+    let k : max (room cs) (length env.held) ≤ length (with_changes cs env).held = changes_long cs env in
+    changes_padded cs (room cs) env ∙ ap (λ hs. record e { held = hs }) (pad_full (room cs) e.held (omega arith))
 
 -- what slots tell of
-pub slots_changed : (ss : List Slot) (env : Env) → changed (map of_slot ss) env ≡ with_slots ss env
-slots_changed [] env = refl
-slots_changed (s ∷ ss) env = slots_changed ss (with_held env s.slot (of_slot s).held)
+pub slots_changes : (ss : List Slot) (env : Env) → with_changes (map of_slot ss) env ≡ with_slots ss env
+slots_changes [] env = refl
+slots_changes (s ∷ ss) env = slots_changes ss (with_held env s.slot (of_slot s).held)
 
 -- A step through changes
 
@@ -72,10 +72,10 @@ room_all : (env : Env) (cs rest : List Change) (c : Change) → cs ≡ c ∷ res
 room_all env cs rest c e le = subst (λ ds. room ds ≤ length env.held) e le
 
 pub set_step : (env : Env) (new : List Held) (cs rest : List Change) (c : Change) → cs ≡ c ∷ rest → room cs ≤ length env.held → new ≡ slice_set env.held c.slot c.held
-    → changed rest (record env { held = new }) ≡ changed cs env
+    → with_changes rest (record env { held = new }) ≡ with_changes cs env
 set_step env new cs rest c e le is =
-    ap (λ hs. changed rest (record env { held = hs })) is
-    ∙ (ap (changed rest) (set_next env c.slot c.held (room_here c.slot (room rest) (length env.held) (room_all env cs rest c e le))) ∙ ap (λ ds. changed ds env) (sym e))
+    ap (λ hs. with_changes rest (record env { held = hs })) is
+    ∙ (ap (with_changes rest) (set_next env c.slot c.held (room_here c.slot (room rest) (length env.held) (room_all env cs rest c e le))) ∙ ap (λ ds. with_changes ds env) (sym e))
 
 pub room_step : (env : Env) (new : List Held) (cs rest : List Change) (c : Change) → cs ≡ c ∷ rest → room cs ≤ length env.held → new ≡ slice_set env.held c.slot c.held → room rest ≤ length new
 room_step env new cs rest c e le is =

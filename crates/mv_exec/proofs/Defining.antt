@@ -11,20 +11,20 @@ use Rattle.mv_undo.specs.Owning.{before}
 use Rattle.mv_record.specs.declared.record.Record.{Record}
 use Rattle.mv_record.specs.declared.record.Slot.{Slot}
 use Rattle.mv_recorded.specs.Reading.{last_place}
-use Rattle.mv_exec.specs.Keeping.{owned, all_owned, widened, define, slot_room}
+use Rattle.mv_exec.specs.Keeping.{undo_of, undo_of_all, with_room, define, slot_room}
 use Rattle.mv_exec.specs.Tasks.{definer_in}
 
 -- Longer lists
 
-pub widen_longer : (n : ℕ) (ds : List (Option ℕ)) → length ds < n → widened n (ds ++ None ∷ []) ≡ widened n ds
+pub widen_longer : (n : ℕ) (ds : List (Option ℕ)) → length ds < n → with_room n (ds ++ None ∷ []) ≡ with_room n ds
 widen_longer zero ds lt = absurd (omega (arith, lt))
 widen_longer (suc n) [] lt = refl
 widen_longer (suc n) (d ∷ ds) lt = ap (λ l. d ∷ l) (widen_longer n ds (omega (arith, lt)))
 
-pub widened_full : (n : ℕ) (ds : List (Option ℕ)) → n ≤ length ds → widened n ds ≡ ds
-widened_full zero ds le = refl
-widened_full (suc n) [] le = absurd (omega (arith, le))
-widened_full (suc n) (d ∷ ds) le = ap (λ l. d ∷ l) (widened_full n ds (omega (arith, le)))
+pub room_full : (n : ℕ) (ds : List (Option ℕ)) → n ≤ length ds → with_room n ds ≡ ds
+room_full zero ds le = refl
+room_full (suc n) [] le = absurd (omega (arith, le))
+room_full (suc n) (d ∷ ds) le = ap (λ l. d ∷ l) (room_full n ds (omega (arith, le)))
 
 pub none_behind : (ds : List (Option ℕ)) (x : ℕ) → definer_in (ds ++ None ∷ []) x ≡ definer_in ds x
 none_behind [] zero = refl
@@ -34,12 +34,12 @@ none_behind (d ∷ ds) (suc x) = none_behind ds x
 
 -- Writes
 
-owned_most : (number : ℕ) (ws : List Write) → All (λ o. o.number ≤ number) (owned number ws)
-owned_most number [] = All-nil (λ o. o.number ≤ number)
-owned_most number (w ∷ ws) = All-cons (λ o. o.number ≤ number) (record { number = number; write = w }) (owned number ws) (omega arith) (owned_most number ws)
+undo_most : (number : ℕ) (ws : List Write) → All (λ o. o.number ≤ number) (undo_of number ws)
+undo_most number [] = All-nil (λ o. o.number ≤ number)
+undo_most number (w ∷ ws) = All-cons (λ o. o.number ≤ number) (record { number = number; write = w }) (undo_of number ws) (omega arith) (undo_most number ws)
 
-pub most_behind : (number : ℕ) (old : List Owned) (ws : List Write) → All (λ o. o.number ≤ number) old → All (λ o. o.number ≤ number) (old ++ owned number ws)
-most_behind number old ws h = All-append (λ o. o.number ≤ number) old (owned number ws) h (owned_most number ws)
+pub most_behind : (number : ℕ) (old : List Owned) (ws : List Write) → All (λ o. o.number ≤ number) old → All (λ o. o.number ≤ number) (old ++ undo_of number ws)
+most_behind number old ws h = All-append (λ o. o.number ≤ number) old (undo_of number ws) h (undo_most number ws)
 
 pub below_most : (number : ℕ) (old : List Owned) → All (λ o. o.number < number) old → All (λ o. o.number ≤ number) old
 below_most number old h = All-weaker (λ (o : Owned). o.number < number) (λ o. o.number ≤ number) (λ o lt. omega (arith, lt)) old h
@@ -50,29 +50,29 @@ below_yes n m h = grind (arith, nat_tests)
 below_itself : (n : ℕ) → nat_lt n n ≡ false
 below_itself n = grind (arith, nat_tests)
 
-none_owned : (number : ℕ) (ws : List Write) → before number (owned number ws) ≡ []
-none_owned number [] = refl
-none_owned number (w ∷ ws) = ap (λ b. let o : Owned = record { number = number; write = w } in if b then o ∷ before number (owned number ws) else before number (owned number ws)) (below_itself number) ∙ none_owned number ws
+none_before_own : (number : ℕ) (ws : List Write) → before number (undo_of number ws) ≡ []
+none_before_own number [] = refl
+none_before_own number (w ∷ ws) = ap (λ b. let o : Owned = record { number = number; write = w } in if b then o ∷ before number (undo_of number ws) else before number (undo_of number ws)) (below_itself number) ∙ none_before_own number ws
 
-pub before_owned : (number : ℕ) (old : List Owned) (ws : List Write) → All (λ o. o.number < number) old → before number (old ++ owned number ws) ≡ old
-before_owned number [] ws h = none_owned number ws
-before_owned number (o ∷ old) ws h =
-    ap (λ b. if b then o ∷ before number (old ++ owned number ws) else before number (old ++ owned number ws)) (below_yes o.number number (All-head (λ (o : Owned). o.number < number) o old h))
-    ∙ ap (λ os. o ∷ os) (before_owned number old ws (All-tail (λ (o : Owned). o.number < number) o old h))
+pub before_undo : (number : ℕ) (old : List Owned) (ws : List Write) → All (λ o. o.number < number) old → before number (old ++ undo_of number ws) ≡ old
+before_undo number [] ws h = none_before_own number ws
+before_undo number (o ∷ old) ws h =
+    ap (λ b. if b then o ∷ before number (old ++ undo_of number ws) else before number (old ++ undo_of number ws)) (below_yes o.number number (All-head (λ (o : Owned). o.number < number) o old h))
+    ∙ ap (λ os. o ∷ os) (before_undo number old ws (All-tail (λ (o : Owned). o.number < number) o old h))
 
 -- Definers
 
-pub widened_same : (n : ℕ) (ds : List (Option ℕ)) (x : ℕ) → definer_in (widened n ds) x ≡ definer_in ds x
-widened_same zero ds x = refl
-widened_same (suc n) [] zero = refl
-widened_same (suc n) [] (suc x) = widened_same n [] x
-widened_same (suc n) (d ∷ ds) zero = refl
-widened_same (suc n) (d ∷ ds) (suc x) = widened_same n ds x
+pub room_same : (n : ℕ) (ds : List (Option ℕ)) (x : ℕ) → definer_in (with_room n ds) x ≡ definer_in ds x
+room_same zero ds x = refl
+room_same (suc n) [] zero = refl
+room_same (suc n) [] (suc x) = room_same n [] x
+room_same (suc n) (d ∷ ds) zero = refl
+room_same (suc n) (d ∷ ds) (suc x) = room_same n ds x
 
-pub widened_long : (n : ℕ) (ds : List (Option ℕ)) → n ≤ length (widened n ds)
-widened_long zero ds = omega arith
-widened_long (suc n) [] = let h : n ≤ length (widened n []) = widened_long n [] in omega arith
-widened_long (suc n) (d ∷ ds) = let h : n ≤ length (widened n ds) = widened_long n ds in omega arith
+pub room_long : (n : ℕ) (ds : List (Option ℕ)) → n ≤ length (with_room n ds)
+room_long zero ds = omega arith
+room_long (suc n) [] = let h : n ≤ length (with_room n []) = room_long n [] in omega arith
+room_long (suc n) (d ∷ ds) = let h : n ≤ length (with_room n ds) = room_long n ds in omega arith
 
 set_length : (ds : List (Option ℕ)) (k : ℕ) (o : Option ℕ) → length (slice_set ds k o) ≡ length ds
 set_length [] k o = refl
@@ -128,16 +128,16 @@ last_more test n (q ∷ rs) r =
     by true = ap Some (let e : n + 1 + length rs ≡ n + length (q ∷ rs) = omega arith in e)
     by false = refl
 
-pub owned_more : (n : ℕ) (rs : List Record) (r : Record) → all_owned n (rs ++ r ∷ []) ≡ all_owned n rs ++ owned (n + length rs) r.writes
-owned_more n [] r = append-nil (owned n r.writes) ∙ ap (λ m. owned m r.writes) (let e : n ≡ n + 0 = omega arith in e)
-owned_more n (q ∷ rs) r =
-    ap (λ os. owned n q.writes ++ os) (owned_more (n + 1) rs r)
-    ∙ (sym (append_assoc (owned n q.writes) (all_owned (n + 1) rs) (owned (n + 1 + length rs) r.writes))
-    ∙ ap (λ m. (owned n q.writes ++ all_owned (n + 1) rs) ++ owned m r.writes) (let e : n + 1 + length rs ≡ n + length (q ∷ rs) = omega arith in e))
+pub undo_more : (n : ℕ) (rs : List Record) (r : Record) → undo_of_all n (rs ++ r ∷ []) ≡ undo_of_all n rs ++ undo_of (n + length rs) r.writes
+undo_more n [] r = append-nil (undo_of n r.writes) ∙ ap (λ m. undo_of m r.writes) (let e : n ≡ n + 0 = omega arith in e)
+undo_more n (q ∷ rs) r =
+    ap (λ os. undo_of n q.writes ++ os) (undo_more (n + 1) rs r)
+    ∙ (sym (append_assoc (undo_of n q.writes) (undo_of_all (n + 1) rs) (undo_of (n + 1 + length rs) r.writes))
+    ∙ ap (λ m. (undo_of n q.writes ++ undo_of_all (n + 1) rs) ++ undo_of m r.writes) (let e : n + 1 + length rs ≡ n + length (q ∷ rs) = omega arith in e))
 
-pub owned_below : (n : ℕ) (rs : List Record) → All (λ o. o.number < n + length rs) (all_owned n rs)
-owned_below n [] = All-nil (λ (o : Owned). o.number < n + 0)
-owned_below n (r ∷ rs) =
-    All-append (λ (o : Owned). o.number < n + length (r ∷ rs)) (owned n r.writes) (all_owned (n + 1) rs)
-    (All-weaker (λ (o : Owned). o.number ≤ n) (λ o. o.number < n + length (r ∷ rs)) (λ o le. omega (arith, le)) (owned n r.writes) (owned_most n r.writes))
-    (All-weaker (λ (o : Owned). o.number < n + 1 + length rs) (λ o. o.number < n + length (r ∷ rs)) (λ o lt. omega (arith, lt)) (all_owned (n + 1) rs) (owned_below (n + 1) rs))
+pub undo_below : (n : ℕ) (rs : List Record) → All (λ o. o.number < n + length rs) (undo_of_all n rs)
+undo_below n [] = All-nil (λ (o : Owned). o.number < n + 0)
+undo_below n (r ∷ rs) =
+    All-append (λ (o : Owned). o.number < n + length (r ∷ rs)) (undo_of n r.writes) (undo_of_all (n + 1) rs)
+    (All-weaker (λ (o : Owned). o.number ≤ n) (λ o. o.number < n + length (r ∷ rs)) (λ o le. omega (arith, le)) (undo_of n r.writes) (undo_most n r.writes))
+    (All-weaker (λ (o : Owned). o.number < n + 1 + length rs) (λ o. o.number < n + length (r ∷ rs)) (λ o lt. omega (arith, lt)) (undo_of_all (n + 1) rs) (undo_below (n + 1) rs))

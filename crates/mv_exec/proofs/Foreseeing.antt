@@ -14,12 +14,12 @@ use Rattle.mv_graph.specs.declared.graph.Node.{Node}
 use Rattle.mv_graph.specs.Nodes.{TellsOf}
 use Rattle.mv_exec.specs.declared.places.Place.{Place}
 use Rattle.mv_exec.specs.declared.task.Task.{Task}
-use Rattle.mv_exec.specs.Env.{begun_with}
+use Rattle.mv_exec.specs.Env.{initial_env}
 use Rattle.mv_exec.specs.Places.{site_in, site_of, next_turn, place_due, with_next_row, StandsAt, IsAt}
-use Rattle.mv_exec.specs.Tasks.{places_of, left_of, definer_in, beginning, in_turn_at, settled, IsTask, StandsAsBefore}
+use Rattle.mv_exec.specs.Tasks.{places_of, left_of, definer_in, beginning, in_turn_at, task_at, IsTask, StandsAsBefore}
 use Rattle.mv_exec.specs.Running.{Foresees}
 use Rattle.mv_exec.specs.Ahead.{GoesOn, ahead_at, ForeseesLeft}
-use Rattle.mv_exec.proofs.Turning.{IsDue, standing_live, after_turn, turned_task, turned_before, begun_kept}
+use Rattle.mv_exec.proofs.Turning.{IsDue, standing_live, after_turn, turned_task, turned_before, initial_kept}
 use Rattle.mv_exec.proofs.Adding.{left_next}
 
 map_same : {A B : Type 0} (f g : A → B) → ((a : A) → f a ≡ g a) → (xs : List A) → map f xs ≡ map g xs
@@ -103,18 +103,18 @@ kept_task proc task first t = record {
   counted = t.counted;
 }
 
-pub kept_before : (proc : ProcInfo) (task : Task) (first : Option Env) → first ≡ Some (begun_with task.first task.env) → StandsAsBefore proc task (record task { first = first })
+pub kept_before : (proc : ProcInfo) (task : Task) (first : Option Env) → first ≡ Some (initial_env task.first task.env) → StandsAsBefore proc task (record task { first = first })
 kept_before proc task first kept = record {
   parameters = refl;
   records = refl;
   executed = refl;
   undo = refl;
-  beginning = begun_kept first task.first task.env task.env kept;
+  beginning = initial_kept first task.first task.env task.env kept;
   left = λ tables db. refl;
 }
 
 turned_come : (proc : ProcInfo) (task : Task) (first : Option Env) (place : Place) (s : RStmt) (go : GoesOn proc task place s true) → IsTask proc task → task.ended ≡ false
-    → first ≡ Some (begun_with task.first task.env) → IsCome proc task (in_turn_at (record task { first = first }) go.outer go.last place) place s
+    → first ≡ Some (initial_env task.first task.env) → IsCome proc task (in_turn_at (record task { first = first }) go.outer go.last place) place s
 turned_come proc task first place s go t live kept =
     let due : IsDue proc (places_of task) go.outer go.last = due_turn proc task place s true live go refl in
     let last : Place = go.last in
@@ -125,12 +125,12 @@ turned_come proc task first place s go t live kept =
     subst (λ u. IsCome proc task u place s) (sym is)
     (record {
       whole = turned_task proc task first go.outer last t due;
-      same = turned_before proc task first go.outer last t due (begun_kept first task.first task.env (with_next_row task.records last.holder task.env) kept);
+      same = turned_before proc task first go.outer last t due (initial_kept first task.first task.env (with_next_row task.records last.holder task.env) kept);
       at = (go.outer, record { are = ap (λ q. go.outer ++ q ∷ []) (in_turn proc task place s true go refl); stands = go.stands });
     })
 
 here_come : (proc : ProcInfo) (task : Task) (first : Option Env) (place : Place) (s : RStmt) (go : GoesOn proc task place s false) → IsTask proc task → task.ended ≡ false
-    → first ≡ Some (begun_with task.first task.env) → IsCome proc task (record task { first = first }) place s
+    → first ≡ Some (initial_env task.first task.env) → IsCome proc task (record task { first = first }) place s
 here_come proc task first place s go t live kept = record {
   whole = kept_task proc task first t;
   same = kept_before proc task first kept;
@@ -138,6 +138,6 @@ here_come proc task first place s go t live kept = record {
 }
 
 pub come : (proc : ProcInfo) (task : Task) (first : Option Env) (place : Place) (s : RStmt) (turn : Bool) (new : Task) → IsTask proc task → task.ended ≡ false → (go : GoesOn proc task place s turn)
-    → first ≡ Some (begun_with task.first task.env) → new ≡ settled (record task { first = first }) go.outer go.last place turn → IsCome proc task new place s
+    → first ≡ Some (initial_env task.first task.env) → new ≡ task_at (record task { first = first }) go.outer go.last place turn → IsCome proc task new place s
 come proc task first place s true new t live go kept is = subst (λ u. IsCome proc task u place s) (sym is) (turned_come proc task first place s go t live kept)
 come proc task first place s false new t live go kept is = subst (λ u. IsCome proc task u place s) (sym is) (here_come proc task first place s go t live kept)

@@ -21,7 +21,7 @@ use Rattle.mv_effect.specs.Choosing.{Chooses}
 use Rattle.mv_exec.specs.declared.places.Place.{Place}
 use Rattle.mv_exec.specs.Left.{Job, run, turns, left, inside}
 use Rattle.mv_exec.specs.Places.{body_in, branch_in, block_in, holder_of, site_of, some_run, some_turns, rows_at, jobs_left}
-use Rattle.mv_exec.specs.Moves.{branch_place, loop_place, inner_places, run_through, through, walked}
+use Rattle.mv_exec.specs.Moves.{branch_place, loop_place, inner_places, after_turns, after_empty_body, after_empty_loop}
 use Rattle.mv_exec.proofs.Leaving.{turn_begins, run_ends, turns_end}
 use Rattle.mv_exec.proofs.Placing.{jobs_more}
 use Rattle.mv_exec.proofs.Going.{same_run, same_turns}
@@ -41,7 +41,7 @@ inner_jobs number n b site rows s = []
 -- Turns of an empty body
 
 no_body : (tables : List TableInfo) (params : ℕ) (site : Site) (n x : ℕ) (rows : List (List Value)) (k : ℕ) (js : List Job) (before : List Record) (st : State)
-    → left tables params (turns site n x [] rows k ∷ js) before st ≡ left tables params js before (record st { env = run_through x rows st.env })
+    → left tables params (turns site n x [] rows k ∷ js) before st ≡ left tables params js before (record st { env = after_turns x rows st.env })
 no_body tables params site n x [] k js before st = turns_end tables params site n x [] k js before st
 no_body tables params site n x (row ∷ rows) k js before st =
     let next : State = record st { env = with_held st.env x (Turn row) } in
@@ -50,7 +50,7 @@ no_body tables params site n x (row ∷ rows) k js before st =
     ∙ no_body tables params site n x rows (k + 1) js before next)
 
 all_turns : (tables : List TableInfo) (params : ℕ) (site : Site) (n x : ℕ) (body : List RStmt) (rows : List (List Value)) (js : List Job) (before : List Record) (st : State)
-    → left tables params (turns site n x body rows 1 ∷ js) before st ≡ left tables params (over site n x body rows ++ js) before (record st { env = through x body rows st.env })
+    → left tables params (turns site n x body rows 1 ∷ js) before st ≡ left tables params (over site n x body rows ++ js) before (record st { env = after_empty_body x body rows st.env })
 all_turns tables params site n x [] rows js before st = no_body tables params site n x rows 1 js before st
 all_turns tables params site n x (s ∷ ss) rows js before st = same_turns tables params site n x (s ∷ ss) rows 1 js before st
 
@@ -72,7 +72,7 @@ value_ok (Err e) st next h = cc
 pub inside_left : (tables : List TableInfo) (params : ℕ) (y : RStmt-F RStmt) (number n : ℕ) (site : Site) (b : Bool) (js : List Job) (before : List Record) (st next to : State)
     → itself tables y st ≡ Ok next → Chooses st.env b y
     → left tables params (inside number y n site st ++ js) before to
-    ≡ left tables params (inner_jobs number n b site (on (fixed_rows y st) (λ rows. rows)) y ++ js) before (record to { env = walked y (on (fixed_rows y st) (λ rows. rows)) to.env })
+    ≡ left tables params (inner_jobs number n b site (on (fixed_rows y st) (λ rows. rows)) y ++ js) before (record to { env = after_empty_loop y (on (fixed_rows y st) (λ rows. rows)) to.env })
 inside_left tables params (Assign x e) number n site b js before st next to h c = refl
 inside_left tables params (Select cs xs t conds sorts offset) number n site b js before st next to h c = refl
 inside_left tables params (Total agg x t conds) number n site b js before st next to h c = refl

@@ -27,9 +27,9 @@ use Rattle.mv_effect.specs.Choosing.{Chooses}
 use Rattle.mv_exec.specs.declared.places.Place.{Place}
 use Rattle.mv_exec.specs.declared.task.Task.{Task}
 use Rattle.mv_exec.specs.Left.{left}
-use Rattle.mv_exec.specs.Env.{begun_with}
-use Rattle.mv_exec.specs.Keeping.{all_owned, owned, widened, define, slot_room}
-use Rattle.mv_exec.specs.Moves.{branch_place, loop_place, inner_places, place_after, walked}
+use Rattle.mv_exec.specs.Env.{initial_env}
+use Rattle.mv_exec.specs.Keeping.{undo_of_all, undo_of, with_room, define, slot_room}
+use Rattle.mv_exec.specs.Moves.{branch_place, loop_place, inner_places, place_after, after_empty_loop}
 use Rattle.mv_exec.specs.Places.{body_in, branch_in, block_in, holder_of, AreFilled, IsNumbered, AreNumbered, StandsAt}
 use Rattle.mv_exec.specs.Tasks.{none_in, places_of, beginning, state_of, left_of, definer_in, IsTask, IsHeldBefore, AreHeldBefore, IsTrimmed}
 use Rattle.mv_exec.specs.Steps.{with_writes, with_record, HasFronts, IsWidened, HasAdded}
@@ -40,7 +40,7 @@ use Rattle.mv_exec.proofs.Placing.{no_last}
 use Rattle.mv_exec.proofs.Turning.{filled_last, filled_outer, filled_more, held_last, held_outer, held_more}
 use Rattle.mv_exec.proofs.Trimming.{every_front, filled_front, held_front}
 use Rattle.mv_exec.proofs.Numbering.{numbered_on}
-use Rattle.mv_exec.proofs.Defining.{define_at, widened_same, widened_long, last_more, owned_more, owned_below, before_owned}
+use Rattle.mv_exec.proofs.Defining.{define_at, room_same, room_long, last_more, undo_more, undo_below, before_undo}
 use Rattle.mv_exec.proofs.Adding.{get_last, held_statement, goes_on, ends_all}
 
 -- Lists
@@ -141,25 +141,25 @@ pub record IsKept (proc : ProcInfo) (task : Task) : Type 0 where
   pub holders : AreHeldBefore (length task.records) task.places
   pub some : 0 < length task.places
   pub empty : task.empty ≡ none_in proc.body
-  pub undo : task.undo ≡ all_owned 0 task.records
+  pub undo : task.undo ≡ undo_of_all 0 task.records
   pub definers : (x : ℕ) → definer_in task.definers x ≡ last_place (sets_variable x) 0 task.records
   pub counted : task.executed ≤ length task.records
 
 pub one_more : (rs : List Record) (r : Record) → length (rs ++ r ∷ []) ≡ length rs + 1
 one_more rs r = omega (arith, length-append rs (r ∷ []))
 
-owned_then : (rs : List Record) (r : Record) → all_owned 0 (rs ++ r ∷ []) ≡ all_owned 0 rs ++ owned (length rs) r.writes
-owned_then rs r = owned_more 0 rs r ∙ ap (λ n. all_owned 0 rs ++ owned n r.writes) (let e : 0 + length rs ≡ length rs = omega arith in e)
+undo_then : (rs : List Record) (r : Record) → undo_of_all 0 (rs ++ r ∷ []) ≡ undo_of_all 0 rs ++ undo_of (length rs) r.writes
+undo_then rs r = undo_more 0 rs r ∙ ap (λ n. undo_of_all 0 rs ++ undo_of n r.writes) (let e : 0 + length rs ≡ length rs = omega arith in e)
 
 -- its own writes are those of its records, of earlier numbers
-pub owned_earlier : (rs : List Record) → All (λ o. o.number < length rs) (all_owned 0 rs)
-owned_earlier rs = subst (λ n. All (λ (o : Owned). o.number < n) (all_owned 0 rs)) (let e : 0 + length rs ≡ length rs = omega arith in e) (owned_below 0 rs)
+pub undo_earlier : (rs : List Record) → All (λ o. o.number < length rs) (undo_of_all 0 rs)
+undo_earlier rs = subst (λ n. All (λ (o : Owned). o.number < n) (undo_of_all 0 rs)) (let e : 0 + length rs ≡ length rs = omega arith in e) (undo_below 0 rs)
 
 definers_then : (ds : List (Option ℕ)) (rs : List Record) (r : Record) → ((x : ℕ) → definer_in ds x ≡ last_place (sets_variable x) 0 rs)
-    → (x : ℕ) → definer_in (define (widened (slot_room r.sets) ds) r.sets (length rs)) x ≡ last_place (sets_variable x) 0 (rs ++ r ∷ [])
+    → (x : ℕ) → definer_in (define (with_room (slot_room r.sets) ds) r.sets (length rs)) x ≡ last_place (sets_variable x) 0 (rs ++ r ∷ [])
 definers_then ds rs r h x =
-    define_at (widened (slot_room r.sets) ds) r.sets (length rs) x (widened_long (slot_room r.sets) ds)
-    ∙ (ap (λ d. if list_any (λ (s : Slot). s.slot == x) r.sets then Some (length rs) else d) (widened_same (slot_room r.sets) ds x ∙ h x)
+    define_at (with_room (slot_room r.sets) ds) r.sets (length rs) x (room_long (slot_room r.sets) ds)
+    ∙ (ap (λ d. if list_any (λ (s : Slot). s.slot == x) r.sets then Some (length rs) else d) (room_same (slot_room r.sets) ds x ∙ h x)
     ∙ (ap (λ n. if list_any (λ (s : Slot). s.slot == x) r.sets then Some n else last_place (sets_variable x) 0 rs) (let e : length rs ≡ 0 + length rs = omega arith in e)
     ∙ sym (last_more (sets_variable x) 0 rs r)))
 
@@ -171,7 +171,7 @@ going_kept proc task r env outer p s b t at = record {
   holders = subst (λ n. AreHeldBefore n (going (length task.records) outer p s b)) (sym (one_more task.records r)) (going_held proc (length task.records) (places_of task) outer p s b at t.holders);
   some = going_some (length task.records) outer p s b;
   empty = t.empty;
-  undo = ap (λ os. os ++ owned (length task.records) r.writes) t.undo ∙ sym (owned_then task.records r);
+  undo = ap (λ os. os ++ undo_of (length task.records) r.writes) t.undo ∙ sym (undo_then task.records r);
   definers = definers_then task.definers task.records r t.definers;
   counted = omega (arith, t.counted, one_more task.records r);
 }
@@ -204,13 +204,13 @@ ended_task proc mid k = record {
 
 -- What is left
 
-begun_same : (first : Option Env) (a b : Env) → IsSome first → begun_with first a ≡ begun_with first b
-begun_same None a b h = cc
-begun_same (Some e) a b h = refl
+initial_same : (first : Option Env) (a b : Env) → IsSome first → initial_env first a ≡ initial_env first b
+initial_same None a b h = cc
+initial_same (Some e) a b h = refl
 
 -- the call behind a record, before places are dropped
 abbrev pub behind_record : Task → Record → List Place → Place → RStmt → Bool → Task
-behind_record task r outer p s b = with_record task r (walked (out-RStmt s) r.rows (with_slots r.sets task.env)) (going (length task.records) outer p s b)
+behind_record task r outer p s b = with_record task r (after_empty_loop (out-RStmt s) r.rows (with_slots r.sets task.env)) (going (length task.records) outer p s b)
 
 trimmed_added : (proc : ProcInfo) (task : Task) (r : Record) (outer : List Place) (p : Place) (s : RStmt) (b : Bool) (new : Task)
     → IsTask proc task → IsSome task.first → StandsAt proc (places_of task) outer p s → Chooses task.env b (out-RStmt s) → HasColumns (out-RStmt s) → r.end ≡ None
@@ -220,7 +220,7 @@ trimmed_added proc task r outer p s b new t kept at chosen has ends trim =
     record {
       parameters = ap (λ (u : Task). u.parameters) trim.rest;
       records = ap (λ (u : Task). u.records) trim.rest;
-      beginning = ap beginning trim.rest ∙ begun_same task.first mid.env task.env kept;
+      beginning = ap beginning trim.rest ∙ initial_same task.first mid.env task.env kept;
       left = λ tables db tail rise leaves.
           ap (λ u. left_of proc tables u db) trim.rest
           ∙ (ap (λ js. left tables task.parameters js mid.records (state_of mid db)) trim.left
@@ -236,7 +236,7 @@ ended_added : (proc : ProcInfo) (task : Task) (r : Record) (outer : List Place) 
 ended_added proc task r outer p s b e kept at has ends = record {
   parameters = refl;
   records = refl;
-  beginning = begun_same task.first (walked (out-RStmt s) r.rows (with_slots r.sets task.env)) task.env kept;
+  beginning = initial_same task.first (after_empty_loop (out-RStmt s) r.rows (with_slots r.sets task.env)) task.env kept;
   left = λ tables db tail rise leaves. sym (ends_all proc tables task db r tail outer p s e at leaves ends);
   keys = λ tables db tail rise leaves keys. keys_after proc tables task db r tail outer p s at has rise leaves keys;
 }
@@ -261,7 +261,7 @@ pub past_task : (proc : ProcInfo) (task : Task) (r : Record) (outer : List Place
 past_task proc task r outer p s b mid new ends t past = by ends refl
   where
     kept : IsKept proc mid
-    kept = subst (IsKept proc) (sym past.is) (going_kept proc task r (walked (out-RStmt s) r.rows (with_slots r.sets task.env)) outer p s b t past.stands)
+    kept = subst (IsKept proc) (sym past.is) (going_kept proc task r (after_empty_loop (out-RStmt s) r.rows (with_slots r.sets task.env)) outer p s b t past.stands)
 
     by : (e : Bool) → ends ≡ e → IsTask proc new
     by true e = subst (IsTask proc) (sym (past.ended e)) (ended_task proc mid kept)
@@ -300,7 +300,7 @@ past_executed proc task r outer p s b mid new ends past = by ends refl
 -- the parts of the call, one after another, make the call behind the record
 pub parts_behind : (proc : ProcInfo) (task : Task) (r : Record) (outer : List Place) (p : Place) (s : RStmt) (b : Bool) (held : Task) (env : Env) (inner : List Place) (behind : Place) (n at : ℕ)
     (definers : List (Option ℕ)) (places : List Place)
-    → held ≡ with_writes task r env (task.places ++ inner) → env ≡ walked (out-RStmt s) r.rows (with_slots r.sets task.env) → task.places ≡ outer ++ p ∷ []
+    → held ≡ with_writes task r env (task.places ++ inner) → env ≡ after_empty_loop (out-RStmt s) r.rows (with_slots r.sets task.env) → task.places ≡ outer ++ p ∷ []
     → inner ≡ inner_places (length task.records) p.number b (out-RStmt s) → behind ≡ place_after (size s) p → n ≡ length task.records → at ≡ length outer
     → ((o i : List Place) (q : Place) → held.places ≡ (o ++ q ∷ []) ++ i → at ≡ length o → places ≡ (o ++ behind ∷ []) ++ i)
     → ((q : Record) → slice_get held.records n ≡ Some q → definers ≡ define held.definers q.sets n)
@@ -310,12 +310,12 @@ parts_behind proc task r outer p s b held env inner behind n at definers places 
     let put_is : places ≡ going (length task.records) outer p s b =
     put outer inner p was top ∙ (ap (λ q. (outer ++ q ∷ []) ++ inner) moved ∙ ap (λ is. (outer ++ place_after (size s) p ∷ []) ++ is) inside) in
     let last : slice_get held.records n ≡ Some r = ap (λ (u : Task). slice_get u.records n) h ∙ (ap (slice_get (task.records ++ r ∷ [])) num ∙ get_last task.records r) in
-    let noted : definers ≡ define (widened (slot_room r.sets) task.definers) r.sets (length task.records) =
-    note r last ∙ (ap (λ (u : Task). define u.definers r.sets n) h ∙ ap (define (widened (slot_room r.sets) task.definers) r.sets) num) in
+    let noted : definers ≡ define (with_room (slot_room r.sets) task.definers) r.sets (length task.records) =
+    note r last ∙ (ap (λ (u : Task). define u.definers r.sets n) h ∙ ap (define (with_room (slot_room r.sets) task.definers) r.sets) num) in
     ap (λ (u : Task). record u { definers = definers; places = places }) h
     ∙ (ap (λ e. let u : Task = with_writes task r e places in record u { definers = definers }) ran
-    ∙ (ap (λ ds. let u : Task = with_writes task r (walked (out-RStmt s) r.rows (with_slots r.sets task.env)) places in record u { definers = ds }) noted
-    ∙ ap (with_record task r (walked (out-RStmt s) r.rows (with_slots r.sets task.env))) put_is))
+    ∙ (ap (λ ds. let u : Task = with_writes task r (after_empty_loop (out-RStmt s) r.rows (with_slots r.sets task.env)) places in record u { definers = ds }) noted
+    ∙ ap (with_record task r (after_empty_loop (out-RStmt s) r.rows (with_slots r.sets task.env))) put_is))
 
 -- The call where memory ran out
 
@@ -323,10 +323,10 @@ parts_behind proc task r outer p s b held env inner behind n at definers places 
 pub undone : (old : Task) (definers : List (Option ℕ)) (undo after : List Owned) (new : Task) (records : List Record) (places : List Place) (number : ℕ) (ws : List Write)
     → HasFronts (record old { definers = definers; undo = undo }) new → ((x : ℕ) → definer_in definers x ≡ definer_in old.definers x)
     → records ≡ take (length old.records) new.records → places ≡ take (length old.places) new.places
-    → All (λ o. o.number < number) old.undo → undo ≡ old.undo ++ owned number ws → after ≡ before number new.undo
+    → All (λ o. o.number < number) old.undo → undo ≡ old.undo ++ undo_of number ws → after ≡ before number new.undo
     → IsWidened old (record new { records = records; places = places; undo = after })
 undone old definers undo after new records places number ws f same rs ps all more less =
-    let dropped : after ≡ old.undo = less ∙ (ap (λ (u : Task). before number u.undo) f.rest ∙ (ap (before number) more ∙ before_owned number old.undo ws all)) in
+    let dropped : after ≡ old.undo = less ∙ (ap (λ (u : Task). before number u.undo) f.rest ∙ (ap (before number) more ∙ before_undo number old.undo ws all)) in
     record {
       rest =
           ap (λ (u : Task). record u { records = records; places = places; undo = after }) f.rest

@@ -17,7 +17,7 @@ use Rattle.mv_exec.specs.declared.places.Holder.TheVariants as by
 use Rattle.mv_exec.specs.declared.places.Place.{Place}
 use Rattle.mv_exec.specs.declared.task.Task.{Task}
 use Rattle.mv_exec.specs.Left.{Job, run, turns, left}
-use Rattle.mv_exec.specs.Env.{begun_with}
+use Rattle.mv_exec.specs.Env.{initial_env}
 use Rattle.mv_exec.specs.Places.{block_in, block_of, statement_before, holder_of, site_in, site_of, some_run, some_turns, turns_of, rows_at, jobs_left, has_turn, is_left, EndsLeft, Every, IsFilled, AreFilled, IsNumbered, AreNumbered, in_next_turn, next_turn, with_turn, with_next_row}
 use Rattle.mv_exec.specs.Tasks.{standing, places_of, beginning, state_of, IsTask, StandsAsBefore, IsHeldBefore, AreHeldBefore}
 use Rattle.mv_exec.proofs.Leaving.{turn_begins}
@@ -189,7 +189,7 @@ pub turned_first : (proc : ProcInfo) (old : Task) (outer : List Place) (p : Plac
 turned_first proc old outer p t due = is_below 0 _ (next_filled proc old outer p t due)
 
 pub turned_before : (proc : ProcInfo) (old : Task) (f : Option Env) (outer : List Place) (p : Place) → IsTask proc old → IsDue proc (places_of old) outer p
-    → begun_with f (with_next_row old.records p.holder old.env) ≡ beginning old → StandsAsBefore proc old (after_turn old f outer p)
+    → initial_env f (with_next_row old.records p.holder old.env) ≡ beginning old → StandsAsBefore proc old (after_turn old f outer p)
 turned_before proc old f outer p t due first = record {
   parameters = refl;
   records = refl;
@@ -216,8 +216,8 @@ turned_before proc old f outer p t due first = record {
 pub standing_live : (b : Bool) (ps : List Place) → b ≡ false → standing b ps ≡ ps
 standing_live b ps e = ap (λ c. standing c ps) e
 
-pub begun_kept : (f g : Option Env) (was now : Env) → f ≡ Some (begun_with g was) → begun_with f now ≡ begun_with g was
-begun_kept f g was now e = ap (λ o. begun_with o now) e
+pub initial_kept : (f g : Option Env) (was now : Env) → f ≡ Some (initial_env g was) → initial_env f now ≡ initial_env g was
+initial_kept f g was now e = ap (λ o. initial_env o now) e
 
 -- where no statement is left at the innermost place a turn is
 pub turn_owed : (proc : ProcInfo) (task : Task) (rs : List Record) (ps outer : List Place) (p : Place) → IsTask proc task → task.ended ≡ false → ps ≡ task.places → rs ≡ task.records

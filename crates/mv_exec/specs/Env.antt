@@ -7,14 +7,14 @@ use Rattle.mv_record.specs.declared.record.Slot.{Slot}
 use Rattle.mv_exec.specs.declared.changes.Change.{Change}
 
 -- the initial variables of a call: those that were kept, or else its current ones
-abbrev pub begun_with : Option Env → Env → Env
-begun_with None env = env
-begun_with (Some first) env = first
+abbrev pub initial_env : Option Env → Env → Env
+initial_env None env = env
+initial_env (Some first) env = first
 
 -- variables set, in order
-abbrev pub changed : List Change → Env → Env
-changed [] env = env
-changed (c ∷ cs) env = changed cs (with_held env c.slot c.held)
+abbrev pub with_changes : List Change → Env → Env
+with_changes [] env = env
+with_changes (c ∷ cs) env = with_changes cs (with_held env c.slot c.held)
 
 -- as many variables as changes need
 abbrev pub room : List Change → ℕ

@@ -6,23 +6,23 @@ use Rattle.mv_record.specs.declared.record.Slot.{Slot}
 use Rattle.mv_undo.specs.declared.owned.Owned.{Owned}
 
 -- the writes of a record with this number
-abbrev pub owned : ℕ → List Write → List Owned
-owned number ws = map (λ w. record { number = number; write = w }) ws
+abbrev pub undo_of : ℕ → List Write → List Owned
+undo_of number ws = map (λ w. record { number = number; write = w }) ws
 
 -- the writes of records, of which the first has this number
-abbrev pub all_owned : ℕ → List Record → List Owned
-all_owned n [] = []
-all_owned n (r ∷ rs) = owned n r.writes ++ all_owned (n + 1) rs
+abbrev pub undo_of_all : ℕ → List Record → List Owned
+undo_of_all n [] = []
+undo_of_all n (r ∷ rs) = undo_of n r.writes ++ undo_of_all (n + 1) rs
 
 -- only writes of a record with this number were added
 abbrev pub HasMore : ℕ → List Owned → List Owned → Type 0
-HasMore number old new = (ws : List Write) × (new ≡ old ++ owned number ws)
+HasMore number old new = (ws : List Write) × (new ≡ old ++ undo_of number ws)
 
 -- the list with at least this many numbers
-abbrev pub widened : ℕ → List (Option ℕ) → List (Option ℕ)
-widened zero ds = ds
-widened (suc n) [] = None ∷ widened n []
-widened (suc n) (d ∷ ds) = d ∷ widened n ds
+abbrev pub with_room : ℕ → List (Option ℕ) → List (Option ℕ)
+with_room zero ds = ds
+with_room (suc n) [] = None ∷ with_room n []
+with_room (suc n) (d ∷ ds) = d ∷ with_room n ds
 
 -- the record with this number has set these variables
 abbrev pub define : List (Option ℕ) → List Slot → ℕ → List (Option ℕ)

@@ -33,16 +33,16 @@ abbrev pub place_after : ℕ → Place → Place
 place_after size p = record p { at = p.at + 1; number = p.number + size }
 
 -- the variables after turns of an empty body, which only set the loop's row
-abbrev pub run_through : ℕ → List (List Value) → Env → Env
-run_through x [] env = env
-run_through x (row ∷ rows) env = run_through x rows (with_held env x (Turn row))
+abbrev pub after_turns : ℕ → List (List Value) → Env → Env
+after_turns x [] env = env
+after_turns x (row ∷ rows) env = after_turns x rows (with_held env x (Turn row))
 
-abbrev pub through : ℕ → List RStmt → List (List Value) → Env → Env
-through x [] rows env = run_through x rows env
-through x (s ∷ ss) rows env = env
+abbrev pub after_empty_body : ℕ → List RStmt → List (List Value) → Env → Env
+after_empty_body x [] rows env = after_turns x rows env
+after_empty_body x (s ∷ ss) rows env = env
 
 -- a loop with an empty body runs all its turns at once
-abbrev pub walked : RStmt-F RStmt → List (List Value) → Env → Env
-walked (ForSelect x once cs t conds sorts body) rows env = through x body rows env
-walked (ForRows x y body) rows env = through x body rows env
-walked s rows env = env
+abbrev pub after_empty_loop : RStmt-F RStmt → List (List Value) → Env → Env
+after_empty_loop (ForSelect x once cs t conds sorts body) rows env = after_empty_body x body rows env
+after_empty_loop (ForRows x y body) rows env = after_empty_body x body rows env
+after_empty_loop s rows env = env

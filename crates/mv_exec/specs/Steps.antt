@@ -18,7 +18,7 @@ use Rattle.mv_effect.specs.Looking.{AskedFor}
 use Rattle.mv_exec.specs.declared.places.Place.{Place}
 use Rattle.mv_exec.specs.declared.task.Ahead.{Ahead}
 use Rattle.mv_exec.specs.declared.task.Task.{Task}
-use Rattle.mv_exec.specs.Keeping.{owned, widened, define, slot_room}
+use Rattle.mv_exec.specs.Keeping.{undo_of, with_room, define, slot_room}
 use Rattle.mv_exec.specs.Places.{block_of, holder_of}
 use Rattle.mv_exec.specs.Tasks.{beginning, left_of, definer_in}
 
@@ -29,8 +29,8 @@ abbrev pub with_writes : Task → Record → Env → List Place → Task
 with_writes task r env places = record task {
   env = env;
   records = task.records ++ r ∷ [];
-  undo = task.undo ++ owned (length task.records) r.writes;
-  definers = widened (slot_room r.sets) task.definers;
+  undo = task.undo ++ undo_of (length task.records) r.writes;
+  definers = with_room (slot_room r.sets) task.definers;
   places = places;
 }
 

@@ -16,13 +16,13 @@ use Rattle.mv_exec.specs.declared.places.Holder.TheVariants as by
 use Rattle.mv_exec.specs.declared.places.Place.{Place}
 use Rattle.mv_exec.specs.declared.task.Task.{Task}
 use Rattle.mv_exec.specs.Left.{left}
-use Rattle.mv_exec.specs.Env.{begun_with}
-use Rattle.mv_exec.specs.Keeping.{all_owned}
+use Rattle.mv_exec.specs.Env.{initial_env}
+use Rattle.mv_exec.specs.Keeping.{undo_of_all}
 use Rattle.mv_exec.specs.Places.{jobs_left, AreFilled, AreNumbered, EndsLeft, with_next_row}
 
 -- the variables with which the call began
 abbrev pub beginning : Task → Env
-beginning task = begun_with task.first task.env
+beginning task = initial_env task.first task.env
 
 -- its initial state is that of a call of the procedure
 abbrev pub BeginsCall : Task → ProcInfo → Call → Type 0
@@ -83,7 +83,7 @@ pub record IsTask (proc : ProcInfo) (task : Task) : Type 0 where
   pub holders : AreHeldBefore (length task.records) (places_of task)
   pub some : 0 < length task.places
   pub empty : task.empty ≡ none_in proc.body
-  pub undo : task.undo ≡ all_owned 0 task.records
+  pub undo : task.undo ≡ undo_of_all 0 task.records
   pub definers : (x : ℕ) → definer_in task.definers x ≡ last_place (sets_variable x) 0 task.records
   pub counted : task.executed ≤ length task.records
 
@@ -101,13 +101,13 @@ abbrev pub in_turn_at : Task → List Place → Place → Place → Task
 in_turn_at task outer last place = record task { env = with_next_row task.records last.holder task.env; places = outer ++ place ∷ [] }
 
 -- the call at this place inside these; if a turn is due, in that turn
-abbrev pub settled : Task → List Place → Place → Place → Bool → Task
-settled task outer last place true = in_turn_at task outer last place
-settled task outer last place false = task
+abbrev pub task_at : Task → List Place → Place → Place → Bool → Task
+task_at task outer last place true = in_turn_at task outer last place
+task_at task outer last place false = task
 
 -- a call that has these parameters and variables, and has executed nothing
-abbrev pub unbegun : ℕ → Env → Option Env → Bool → Task
-unbegun params env first empty =
+abbrev pub fresh_task : ℕ → Env → Option Env → Bool → Task
+fresh_task params env first empty =
     record { parameters = params; env = env; first = first; records = []; executed = 0; undo = []; definers = []; places = first_place ∷ []; ended = empty; empty = empty }
 
 -- the flag is true exactly if no record is left, on any database

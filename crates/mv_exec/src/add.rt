@@ -4,7 +4,7 @@ ghost use Rattle.std.specs.Prelude.{◌≡◌, ◌<◌, ◌≤◌, ◌+◌, ◌+
 ghost use Rattle.mv_catalog.specs.Statements.{size_of};
 ghost use Rattle.mv_record.specs.declared.record.Record.{Record};
 ghost use Rattle.mv_exec.specs.declared.places.Place.{Place};
-ghost use Rattle.mv_exec.specs.Env.{changed};
+ghost use Rattle.mv_exec.specs.Env.{with_changes};
 ghost use Rattle.mv_exec.specs.Keeping.{define, slot_room};
 ghost use Rattle.mv_catalog.specs.declared.resolved.RStmt.{out-RStmt};
 ghost use Rattle.mv_recorded.specs.Effect.{HasColumns};
@@ -68,7 +68,7 @@ fn push_rest(
     changes: Vec<Change>,
     inner: Option<Place>,
 ) -> Result<(), NoMemory>
-    ensures ok { OnOk result (task.new ≡ record task.old { env = changed changes.items task.old.env; records = task.old.records ++ given ∷ []; places = task.old.places ++ option_to_list inner }) }
+    ensures ok { OnOk result (task.new ≡ record task.old { env = with_changes changes.items task.old.env; records = task.old.records ++ given ∷ []; places = task.old.places ++ option_to_list inner }) }
     ensures err { OnErr result (HasFronts task.old task.new) }
 {
     push_place(&mut task.places, inner)?;
@@ -86,7 +86,7 @@ fn push_record(
     inner: Option<Place>,
 ) -> Result<(), NoMemory>
     requires { All (λ o. o.number < length task.old.records) task.old.undo }
-    ensures ok { OnOk result (task.new ≡ with_writes task.old given (changed changes.items task.old.env) (task.old.places ++ option_to_list inner)) }
+    ensures ok { OnOk result (task.new ≡ with_writes task.old given (with_changes changes.items task.old.env) (task.old.places ++ option_to_list inner)) }
     ensures err { OnErr result (IsWidened task.old task.new) }
 {
     let number = task.records.len();

@@ -5,8 +5,8 @@ ghost use Rattle.mv_values.specs.declared.value.Value.{Value};
 ghost use Rattle.mv_catalog.specs.declared.resolved.RStmt.{out-RStmt};
 ghost use Rattle.mv_alone.specs.declared.state.Env.{Env};
 ghost use Rattle.mv_recorded.specs.Effect.{with_slots};
-ghost use Rattle.mv_exec.specs.Env.{changed, room, of_slot};
-ghost use Rattle.mv_exec.specs.Moves.{walked, run_through};
+ghost use Rattle.mv_exec.specs.Env.{with_changes, room, of_slot};
+ghost use Rattle.mv_exec.specs.Moves.{after_empty_loop, after_turns};
 
 use mv_alone::env::pad;
 use mv_alone::state::{Env, Held};
@@ -43,7 +43,7 @@ fn room_for(changes: &[Change]) -> usize
 #[tactic(auto, using(crate::proofs::Changing::room_here))]
 fn set_all(env: &mut Env, changes: Vec<Change>)
     requires { room changes.items ≤ length env.old.held }
-    ensures { env.new ≡ changed changes.items env.old }
+    ensures { env.new ≡ with_changes changes.items env.old }
 {
     for change in changes {
         env.held.set(change.slot as usize, change.held);
@@ -51,9 +51,9 @@ fn set_all(env: &mut Env, changes: Vec<Change>)
 }
 
 /// Makes changes, in order. On `NoMemory` the variables are unchanged.
-#[tactic(auto, using(crate::proofs::Changing::padded_changed, mv_alone::proofs::Putting::padded_long))]
+#[tactic(auto, using(crate::proofs::Changing::padded_changes, mv_alone::proofs::Putting::padded_long))]
 pub(crate) fn make_changes(env: &mut Env, changes: Vec<Change>) -> Result<(), NoMemory>
-    ensures ok { OnOk result (env.new ≡ changed changes.items env.old) }
+    ensures ok { OnOk result (env.new ≡ with_changes changes.items env.old) }
     ensures err { OnErr result (env.new ≡ env.old) }
 {
     pad(&mut env.held, room_for(&changes))?;
@@ -78,7 +78,7 @@ pub(crate) fn changes_of(alloc: Global, slots: &[Slot]) -> Result<Vec<Change>, N
 
 /// Returns the row variable of a loop with an empty body.
 pub(crate) fn row_of_empty(statement: &RStmt) -> Option<u16>
-    ensures { MatchOption result ((rows : List (List Value)) (env : Env) → walked (out-RStmt statement.now) rows env ≡ env) (λ x. (rows : List (List Value)) (env : Env) → walked (out-RStmt statement.now) rows env ≡ run_through x rows env) }
+    ensures { MatchOption result ((rows : List (List Value)) (env : Env) → after_empty_loop (out-RStmt statement.now) rows env ≡ env) (λ x. (rows : List (List Value)) (env : Env) → after_empty_loop (out-RStmt statement.now) rows env ≡ after_turns x rows env) }
 {
     match statement {
         RStmt::ForSelect { row, body, .. } => match body.as_slice() {

@@ -1,7 +1,7 @@
 //! The variables of a running call.
 
 ghost use Rattle.std.specs.Prelude.{◌≡◌, Some, IfOk, OnOk, OnErr};
-ghost use Rattle.mv_exec.specs.Env.{begun_with};
+ghost use Rattle.mv_exec.specs.Env.{initial_env};
 
 use mv_alone::state::{Env, Held};
 use mv_values::copied::Copied;
@@ -40,7 +40,7 @@ pub(crate) fn keep_beginning(
     first: &mut Option<Env>,
     env: &Env,
 ) -> Result<(), NoMemory>
-    ensures ok { OnOk result (first.new ≡ Some (begun_with first.old env.now)) }
+    ensures ok { OnOk result (first.new ≡ Some (initial_env first.old env.now)) }
     ensures err { OnErr result (first.new ≡ first.old) }
 {
     if first.is_none() {

@@ -1,7 +1,7 @@
 //! What a call derives from its records: its own writes, and which record last set each variable.
 
 ghost use Rattle.std.specs.Prelude.{◌≡◌, ◌<◌, ◌≤◌, ◌++◌, All, ℕ, Some, slice_set, OnOk, OnErr};
-ghost use Rattle.mv_exec.specs.Keeping.{owned, HasMore, define, widened};
+ghost use Rattle.mv_exec.specs.Keeping.{undo_of, HasMore, define, with_room};
 ghost use Rattle.mv_exec.specs.Tasks.{definer_in};
 
 use mv_record::record::Slot;
@@ -20,7 +20,7 @@ fn add_writes(
     writes: &[Write],
 ) -> Result<(), NoMemory>
     requires { All (λ o. o.number ≤ number) undo.old }
-    ensures ok { OnOk result (undo.new ≡ undo.old ++ owned number writes.now) }
+    ensures ok { OnOk result (undo.new ≡ undo.old ++ undo_of number writes.now) }
     ensures err { OnErr result (HasMore number undo.old undo.new) }
 {
     for write in writes {
@@ -39,7 +39,7 @@ pub(crate) fn push_writes(
     writes: &[Write],
 ) -> Result<(), NoMemory>
     requires { All (λ o. o.number < number) undo.old }
-    ensures ok { OnOk result (undo.new ≡ undo.old ++ owned number writes.now) }
+    ensures ok { OnOk result (undo.new ≡ undo.old ++ undo_of number writes.now) }
     ensures err { OnErr result (undo.new ≡ undo.old) }
 {
     match add_writes(alloc, undo, number, writes) {
@@ -52,9 +52,9 @@ pub(crate) fn push_writes(
 }
 
 /// Extends the list of definers to at least this length. The definer of each variable is unchanged.
-#[tactic(auto, using(crate::proofs::Defining::widen_longer, crate::proofs::Defining::widened_full, crate::proofs::Defining::none_behind))]
+#[tactic(auto, using(crate::proofs::Defining::widen_longer, crate::proofs::Defining::room_full, crate::proofs::Defining::none_behind))]
 pub(crate) fn widen(definers: &mut List<Option<usize>>, len: usize) -> Result<(), NoMemory>
-    ensures ok { OnOk result (definers.new ≡ widened len definers.old) }
+    ensures ok { OnOk result (definers.new ≡ with_room len definers.old) }
     ensures same { (x : ℕ) → definer_in definers.new x ≡ definer_in definers.old x }
 {
     while definers.len() < len {

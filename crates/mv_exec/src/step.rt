@@ -5,8 +5,8 @@ ghost use Rattle.mv_values.specs.declared.value.Value.{Value};
 ghost use Rattle.mv_alone.specs.declared.state.Env.{Env};
 ghost use Rattle.mv_catalog.specs.declared.resolved.RStmt.{out-RStmt};
 ghost use Rattle.mv_recorded.specs.Effect.{with_slots};
-ghost use Rattle.mv_exec.specs.Env.{changed};
-ghost use Rattle.mv_exec.specs.Moves.{run_through, walked};
+ghost use Rattle.mv_exec.specs.Env.{with_changes};
+ghost use Rattle.mv_exec.specs.Moves.{after_turns, after_empty_loop};
 ghost use Rattle.mv_exec.specs.Running.{stepped};
 
 use crate::changes::{Change, changes_of, row_of_empty};
@@ -43,14 +43,14 @@ fn last_of(rows: &[Row]) -> Option<&Row>
 }
 
 /// Adds the changes of a loop with an empty body. The loop's row becomes the last one.
-#[tactic(auto, using(crate::proofs::Walking::walked_last))]
+#[tactic(auto, using(crate::proofs::Walking::last_turn))]
 fn add_last_row(
     alloc: Global,
     changes: &mut Vec<Change>,
     row: u16,
     rows: &[Row],
 ) -> Result<(), NoMemory>
-    ensures { OnOk result ((e : Env) → changed changes.new.items e ≡ run_through row rows.now (changed changes.old.items e)) }
+    ensures { OnOk result ((e : Env) → with_changes changes.new.items e ≡ after_turns row rows.now (with_changes changes.old.items e)) }
 {
     if let Some(last) = last_of(rows) {
         let held = Held::Turn(last.copy(alloc)?);
@@ -66,7 +66,7 @@ fn add_turns(
     statement: &RStmt,
     rows: &[Row],
 ) -> Result<(), NoMemory>
-    ensures { OnOk result ((e : Env) → changed changes.new.items e ≡ walked (out-RStmt statement.now) rows.now (changed changes.old.items e)) }
+    ensures { OnOk result ((e : Env) → with_changes changes.new.items e ≡ after_empty_loop (out-RStmt statement.now) rows.now (with_changes changes.old.items e)) }
 {
     match row_of_empty(statement) {
         Some(row) => add_last_row(alloc, changes, row, rows),
@@ -75,13 +75,13 @@ fn add_turns(
 }
 
 /// Returns the variables that the record of a statement changes.
-#[tactic(auto, using(crate::proofs::Changing::slots_changed))]
+#[tactic(auto, using(crate::proofs::Changing::slots_changes))]
 pub(crate) fn changes_for(
     alloc: Global,
     statement: &RStmt,
     given: &Record,
 ) -> Result<Vec<Change>, NoMemory>
-    ensures { IfOk result (λ cs. (e : Env) → changed cs.items e ≡ walked (out-RStmt statement.now) given.now.rows (with_slots given.now.sets e)) }
+    ensures { IfOk result (λ cs. (e : Env) → with_changes cs.items e ≡ after_empty_loop (out-RStmt statement.now) given.now.rows (with_slots given.now.sets e)) }
 {
     let mut changes = changes_of(alloc, given.sets.as_slice())?;
     add_turns(alloc, &mut changes, statement, given.rows.as_slice())?;

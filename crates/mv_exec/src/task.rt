@@ -8,9 +8,9 @@ ghost use Rattle.mv_catalog.specs.declared.resolved.RStmt.{RStmt};
 ghost use Rattle.mv_alone.specs.TableAfter.{Tables, entered};
 ghost use Rattle.mv_recorded.specs.Recorded.{recorded};
 ghost use Rattle.mv_graph.specs.declared.graph.Graph.{Graph};
-ghost use Rattle.mv_exec.specs.Env.{begun_with};
+ghost use Rattle.mv_exec.specs.Env.{initial_env};
 ghost use Rattle.mv_exec.specs.Running.{IsRunning, IsRunningOn, IsTaskOf};
-ghost use Rattle.mv_exec.specs.Tasks.{first_place, none_in, run_of, IsTask, BeginsCall, unbegun as not_begun};
+ghost use Rattle.mv_exec.specs.Tasks.{first_place, none_in, run_of, IsTask, BeginsCall, fresh_task as fresh};
 
 use crate::places::{Holder, Place};
 use mv_alone::enter::variables_for;
@@ -79,9 +79,9 @@ fn is_empty(block: &[RStmt]) -> bool
 }
 
 /// Returns a call that has executed nothing.
-fn unbegun(alloc: Global, parameters: usize, env: Env, places: List<Place>, empty: bool) -> Task
+fn fresh_task(alloc: Global, parameters: usize, env: Env, places: List<Place>, empty: bool) -> Task
     requires { places ≡ first_place ∷ [] }
-    ensures { result ≡ not_begun parameters env None empty }
+    ensures { result ≡ fresh parameters env None empty }
 {
     Task {
         parameters,
@@ -99,7 +99,7 @@ fn unbegun(alloc: Global, parameters: usize, env: Env, places: List<Place>, empt
 
 /// Restores the initial variables, if they were kept.
 fn take_back(env: &mut Env, first: &mut Option<Env>)
-    ensures env { env.new ≡ begun_with first.old env.old }
+    ensures env { env.new ≡ initial_env first.old env.old }
     ensures none { first.new ≡ None }
 {
     if let Some(kept) = first.take() {
@@ -134,7 +134,7 @@ impl Task {
         let mut places = List::new(alloc);
         places.push(before_all())?;
         let parameters = call.arguments.len();
-        let task = unbegun(alloc, parameters, env, places, empty);
+        let task = fresh_task(alloc, parameters, env, places, empty);
         Ok(task)
     }
 

@@ -2,7 +2,7 @@
 
 ghost use Rattle.std.specs.Prelude.{◌≡◌, ◌++◌, ◌∷◌, [], List, OnOk, OnErr};
 ghost use Rattle.mv_exec.specs.Places.{with_next_row};
-ghost use Rattle.mv_exec.specs.Tasks.{in_turn_at, settled};
+ghost use Rattle.mv_exec.specs.Tasks.{in_turn_at, task_at};
 ghost use Rattle.mv_exec.specs.declared.places.Place.{Place};
 
 use crate::places::{Holder, Place, innermost, rows_of};
@@ -60,7 +60,7 @@ pub(crate) fn settle(
     place: Place,
     turn: bool,
 ) -> Result<(), NoMemory>
-    ensures ok { OnOk result ((outer : List Place) (p : Place) → task.old.places ≡ outer ++ p ∷ [] → task.new ≡ settled task.old outer p place turn) }
+    ensures ok { OnOk result ((outer : List Place) (p : Place) → task.old.places ≡ outer ++ p ∷ [] → task.new ≡ task_at task.old outer p place turn) }
     ensures err { OnErr result (task.new ≡ task.old) }
 {
     if turn {

@@ -3,13 +3,13 @@ use Rattle.mv_catalog.specs.declared.resolved.RStmt.{out-RStmt}
 use Rattle.mv_record.specs.declared.record.Record.{Record}
 use Rattle.mv_undo.specs.declared.owned.Owned.{Owned}
 use Rattle.mv_exec.specs.declared.task.Task.{Task}
-use Rattle.mv_exec.specs.Env.{changed}
+use Rattle.mv_exec.specs.Env.{with_changes}
 use Rattle.mv_exec.specs.Moves.{inner_places, place_after}
 use Rattle.mv_exec.specs.Places.{StandsAt}
 use Rattle.mv_exec.specs.Tasks.{places_of}
 use Rattle.mv_exec.proofs.Numbering.{small_next, text_next}
 use Rattle.mv_exec.proofs.Turning.{standing_live}
-use Rattle.mv_exec.proofs.Stepping.{owned_earlier, behind_record, parts_behind, IsPast, past_task, past_added, past_found, past_executed}
+use Rattle.mv_exec.proofs.Stepping.{undo_earlier, behind_record, parts_behind, IsPast, past_task, past_added, past_found, past_executed}
 use Rattle.mv_exec.proofs.add.add.Goals as goal
 use Rattle.mv_exec.proofs.add.add.Goals.{After-end_or_trim}
 
@@ -28,7 +28,7 @@ place_after-requires-clause-at c =
 
 pub push_record-requires : goal.push_record-requires
 push_record-requires c =
-    subst (All (λ (o : Owned). o.number < length c.args.task.now.records)) (sym c.requires.task.undo) (owned_earlier c.args.task.now.records)
+    subst (All (λ (o : Owned). o.number < length c.args.task.now.records)) (sym c.requires.task.undo) (undo_earlier c.args.task.now.records)
 
 are : (c : After-end_or_trim) → c.args.task.now.places ≡ c.requires.at.0 ++ c.args.position.place ∷ []
 are c = sym (standing_live c.args.task.now.ended c.args.task.now.places c.requires.live) ∙ c.requires.at.1.are
@@ -38,7 +38,7 @@ parts : (c : After-end_or_trim)
     ≡ behind_record c.args.task.now c.args.given c.requires.at.0 c.args.position.place c.args.position.statement.now c.args.yes
 parts c =
     parts_behind c.args.graph.now.procedure c.args.task.now c.args.given c.requires.at.0 c.args.position.place c.args.position.statement.now c.args.yes c.push_record.new.task
-    (changed c.in_ok-changes.changes.items c.args.task.now.env) (option_to_list c.inner_place-inner.result) c.place_after.result c.len-number.result c.saturating_sub.result
+    (with_changes c.in_ok-changes.changes.items c.args.task.now.env) (option_to_list c.inner_place-inner.result) c.place_after.result c.len-number.result c.saturating_sub.result
     c.note_sets.new.definers c.put_place.new.places
     c.in_ok-push_record.ensures.ok (c.in_ok-changes.ensures c.args.task.now.env) (are c)
     (c.inner_place-inner.ensures ∙ ap (λ n. inner_places n c.args.position.place.number c.args.yes (out-RStmt c.args.position.statement.now)) c.len-number.ensures)

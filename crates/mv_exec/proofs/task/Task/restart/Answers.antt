@@ -4,8 +4,8 @@ use Rattle.mv_alone.specs.declared.state.Env.{Env}
 use Rattle.mv_graph.specs.declared.graph.Graph.{Graph}
 use Rattle.mv_exec.specs.declared.task.Task.{Task}
 use Rattle.mv_exec.specs.Running.{IsTaskOf}
-use Rattle.mv_exec.specs.Tasks.{unbegun}
-use Rattle.mv_exec.proofs.Beginning.{unbegun_task, unbegun_run, restarted, none_before}
+use Rattle.mv_exec.specs.Tasks.{fresh_task}
+use Rattle.mv_exec.proofs.Beginning.{fresh_is_task, fresh_run, restarted, none_before}
 use Rattle.mv_exec.proofs.Fronts.{begins, begins_on}
 use Rattle.mv_exec.proofs.task.Task.restart.Goals as goal
 
@@ -15,11 +15,11 @@ returns-clause-call c = λ graph call is.
     let empty = c.args.self.now.empty in
     restarted (IsTaskOf graph call) c.args.self.now.parameters env env c.take_back.new.first c.replace.new.dest c.drop_from.new.self c.truncate.new.self c.go_back.new.places empty
     refl c.take_back.ensures.none (c.replace.ensures.after ∙ c.new.ensures) (c.drop_from.ensures ∙ none_before c.args.self.now.undo) c.truncate.ensures (c.go_back.ensures is.whole.some)
-    (begins graph call (unbegun c.args.self.now.parameters env None empty) is.fits
-    (unbegun_task graph.procedure c.args.self.now.parameters env None empty is.whole.empty)
+    (begins graph call (fresh_task c.args.self.now.parameters env None empty) is.fits
+    (fresh_is_task graph.procedure c.args.self.now.parameters env None empty is.whole.empty)
     (c.take_back.ensures.env ∙ is.begins.0, is.begins.1)
     (ap (λ (e : Env). e.found) (c.take_back.ensures.env ∙ is.begins.0)) refl
-    (λ tables db. unbegun_run graph.procedure tables call db c.args.self.now.parameters env None empty is.whole.empty (c.take_back.ensures.env ∙ is.begins.0) is.begins.1))
+    (λ tables db. fresh_run graph.procedure tables call db c.args.self.now.parameters env None empty is.whole.empty (c.take_back.ensures.env ∙ is.begins.0) is.begins.1))
 
 pub returns-clause-running : goal.returns-clause-running
 returns-clause-running c = λ graph db is. begins_on graph is.0 _ (returns-clause-call c graph is.0 is.1) (c.replace.ensures.after ∙ c.new.ensures) db
