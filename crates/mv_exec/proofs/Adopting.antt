@@ -15,7 +15,7 @@ use Rattle.mv_exec.proofs.Stepping.{some_left}
 pub some_ahead : (proc : ProcInfo) (task : Task) → IsTask proc task → task.ended ≡ false → ForeseesLeft proc task None → ⊥
 some_ahead proc task t live none = some_left proc task t live [] [] (none [] [])
 
-none_ended : (proc : ProcInfo) (task : Task) → task.ended ≡ true → ForeseesLeft proc task None
+pub none_ended : (proc : ProcInfo) (task : Task) → task.ended ≡ true → ForeseesLeft proc task None
 none_ended proc task e tables db = subst (λ b. left_of proc tables (record task { ended = b }) db ≡ []) (sym e) refl
 
 -- a call that stands as before one that hasn't ended hasn't either

@@ -1,6 +1,5 @@
 -- A call before its first statement.
-use Rattle.std.proofs.Common.{◌≡◌, ℕ, ◌<◌, Bool, true, false, ◌||◌, nat_lt, List, [], ◌∷◌, ◌++◌, Option, None, length, take, slice_set, if◌then◌else◌, refl, sym, ap, subst, ◌∙◌, arith}
-use Rattle.std.proofs.lemmas.Bool.Decides.{nat_tests}
+use Rattle.std.proofs.Common.{◌≡◌, ℕ, ◌<◌, Bool, true, false, ◌||◌, List, [], ◌∷◌, ◌++◌, Option, None, length, take, slice_set, if◌then◌else◌, refl, sym, ap, subst, ◌∙◌, arith}
 use Rattle.mv_values.specs.declared.calls.Call.{Call}
 use Rattle.mv_values.specs.declared.schema.TableInfo.{TableInfo}
 use Rattle.mv_catalog.specs.declared.resolved.ProcInfo.{ProcInfo}
@@ -17,6 +16,7 @@ use Rattle.mv_exec.specs.declared.task.Task.{Task}
 use Rattle.mv_exec.specs.Left.{left}
 use Rattle.mv_exec.specs.Places.{block_of, holder_of, some_run, jobs_left, is_left, AreFilled, AreNumbered, EndsLeft}
 use Rattle.mv_exec.specs.Tasks.{standing, first_place, none_in, run_of, IsTask, AreHeldBefore, BeginsCall, fresh_task}
+use Rattle.mv_exec.proofs.Defining.{below_no}
 use Rattle.mv_exec.proofs.Leaving.{all_left}
 use Rattle.mv_exec.proofs.Going.{same_run}
 use Rattle.mv_exec.proofs.Placing.{no_last, same_last}
@@ -70,12 +70,9 @@ fresh_run proc tables call db params env first empty e v n =
     ∙ (sym (same_run tables (length call.arguments) outside 1 proc.body [] [] (begun proc call db)) ∙ all_left tables proc call db))))
 
 -- no write was made by a record before the first
-below_zero : (n : ℕ) → nat_lt n 0 ≡ false
-below_zero n = grind (arith, nat_tests)
-
 pub none_before : (all : List Owned) → before 0 all ≡ []
 none_before [] = refl
-none_before (o ∷ all) = ap (λ b. if b then o ∷ before 0 all else before 0 all) (below_zero o.number) ∙ none_before all
+none_before (o ∷ all) = ap (λ b. if b then o ∷ before 0 all else before 0 all) (below_no o.number 0 (omega arith)) ∙ none_before all
 
 pub only_first : (ps : List Place) → 0 < length ps → slice_set (take 1 ps) 0 first_place ≡ first_place ∷ []
 only_first [] lt = absurd (omega (arith, lt))

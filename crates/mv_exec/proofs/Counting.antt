@@ -1,6 +1,5 @@
 -- How often a run asks its view.
 use Rattle.std.proofs.Common.{◌≡◌, ◌≤◌, ℕ, ◌+◌, ◌*◌, List, [], ◌∷◌, ◌++◌, length, refl, sym, ap, subst, ◌∙◌, arith, append_assoc, length-append, mul-le-mul_left, add-mul, one-mul}
-use Rattle.mv_values.specs.declared.patch.Write.{Write}
 use Rattle.mv_record.specs.declared.record.Record.{Record}
 use Rattle.mv_record.specs.Runs.{writes_in}
 use Rattle.mv_view.specs.Viewing.{Sight}

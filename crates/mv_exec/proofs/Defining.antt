@@ -44,15 +44,15 @@ most_behind number old ws h = All-append (λ o. o.number ≤ number) old (undo_o
 pub below_most : (number : ℕ) (old : List Owned) → All (λ o. o.number < number) old → All (λ o. o.number ≤ number) old
 below_most number old h = All-weaker (λ (o : Owned). o.number < number) (λ o. o.number ≤ number) (λ o lt. omega (arith, lt)) old h
 
-below_yes : (n m : ℕ) → n < m → nat_lt n m ≡ true
+pub below_yes : (n m : ℕ) → n < m → nat_lt n m ≡ true
 below_yes n m h = grind (arith, nat_tests)
 
-below_itself : (n : ℕ) → nat_lt n n ≡ false
-below_itself n = grind (arith, nat_tests)
+pub below_no : (n m : ℕ) → m ≤ n → nat_lt n m ≡ false
+below_no n m h = grind (arith, nat_tests)
 
 none_before_own : (number : ℕ) (ws : List Write) → before number (undo_of number ws) ≡ []
 none_before_own number [] = refl
-none_before_own number (w ∷ ws) = ap (λ b. let o : Owned = record { number = number; write = w } in if b then o ∷ before number (undo_of number ws) else before number (undo_of number ws)) (below_itself number) ∙ none_before_own number ws
+none_before_own number (w ∷ ws) = ap (λ b. let o : Owned = record { number = number; write = w } in if b then o ∷ before number (undo_of number ws) else before number (undo_of number ws)) (below_no number number (omega arith)) ∙ none_before_own number ws
 
 pub before_undo : (number : ℕ) (old : List Owned) (ws : List Write) → All (λ o. o.number < number) old → before number (old ++ undo_of number ws) ≡ old
 before_undo number [] ws h = none_before_own number ws

@@ -1,29 +1,20 @@
 -- The record of a statement that is executed is the next one.
-use Rattle.std.proofs.Common.{◌≡◌, ℕ, ◌+◌, ◌-◌, ◌<◌, List, [], ◌∷◌, ◌++◌, Some, None, Result, Ok, Err, All, map, length, drop, refl, sym, ap, subst, ◌∙◌, arith, append-nil}
-use Rattle.std.proofs.lemmas.List.{map-append}
-use Rattle.mv_values.specs.declared.patch.Write.{Write}
+use Rattle.std.proofs.Common.{◌≡◌, ℕ, ◌+◌, ◌-◌, List, [], ◌∷◌, ◌++◌, Some, None, length, drop, sym, ap, subst, ◌∙◌, arith}
 use Rattle.mv_values.specs.declared.schema.TableInfo.{TableInfo}
 use Rattle.mv_values.specs.Patching.{applied}
-use Rattle.mv_values.specs.Tables.{KeysStand}
 use Rattle.mv_catalog.specs.declared.resolved.ProcInfo.{ProcInfo}
 use Rattle.mv_catalog.specs.declared.resolved.RStmt.{RStmt, out-RStmt}
-use Rattle.mv_catalog.specs.declared.resolved.RStmt.TheOpen.{RStmt-F}
 use Rattle.mv_catalog.specs.Statements.{size}
-use Rattle.mv_values.specs.declared.calls.End.{End}
 use Rattle.mv_alone.specs.declared.state.State.{State}
 use Rattle.mv_alone.specs.TableAfter.{Tables}
 use Rattle.mv_record.specs.declared.record.Record.{Record}
 use Rattle.mv_record.specs.Runs.{writes_in}
 use Rattle.mv_record.specs.Writes.{AreRising}
-use Rattle.mv_record.proofs.Patching.{rising_applied}
 use Rattle.mv_recorded.specs.Asking.{on}
 use Rattle.mv_recorded.specs.Doing.{itself, effect_of}
-use Rattle.mv_recorded.specs.Effect.{TellsEffect, HasColumns}
+use Rattle.mv_recorded.specs.Effect.{HasColumns}
 use Rattle.mv_recorded.specs.Recorded.{Site, own_record, outside}
-use Rattle.mv_recorded.proofs.Effects.{effect_known}
-use Rattle.mv_recorded.proofs.Standing.{itself_stands}
-use Rattle.mv_undo.specs.declared.owned.Owned.{Owned}
-use Rattle.mv_undo.specs.Owning.{before, earlier}
+use Rattle.mv_undo.specs.Owning.{earlier}
 use Rattle.mv_view.specs.Viewing.{Sight}
 use Rattle.mv_record.specs.declared.effect.Effect.{Effect}
 use Rattle.mv_recorded.specs.Effects.{IsEffect}
@@ -31,42 +22,15 @@ use Rattle.mv_effect.specs.Looking.{AskedFor}
 use Rattle.mv_exec.specs.declared.places.Place.{Place}
 use Rattle.mv_exec.specs.declared.task.Ahead.{Ahead}
 use Rattle.mv_exec.specs.declared.task.Task.{Task}
-use Rattle.mv_exec.specs.Keeping.{undo_of, undo_of_all}
 use Rattle.mv_exec.specs.Left.{run, left, inside}
 use Rattle.mv_exec.specs.Places.{block_of, holder_of, site_in, site_of, turns_of, jobs_left, StandsAt}
 use Rattle.mv_exec.specs.Tasks.{places_of, state_of, left_of, IsTask}
 use Rattle.mv_exec.specs.Ahead.{ForeseesLeft, ahead_in}
 use Rattle.mv_exec.specs.Steps.{HasAdded, HasExecuted, record_of}
 use Rattle.mv_exec.specs.Running.{Foresees}
-use Rattle.mv_exec.proofs.Defining.{before_undo}
-use Rattle.mv_exec.proofs.Stepping.{one_more, undo_earlier}
-use Rattle.mv_exec.proofs.Adding.{left_next, applied_both, writes_more}
-
--- its own writes
-
-all_before : (number : ℕ) (all : List Owned) → All (λ o. o.number < number) all → before number all ≡ all
-all_before number all h = ap (before number) (sym (append-nil all)) ∙ before_undo number all [] h
-
-owned_writes : (n : ℕ) (ws : List Write) → map (λ (o : Owned). o.write) (undo_of n ws) ≡ ws
-owned_writes n [] = refl
-owned_writes n (w ∷ ws) = ap (λ l. w ∷ l) (owned_writes n ws)
-
-all_writes : (n : ℕ) (rs : List Record) → map (λ (o : Owned). o.write) (undo_of_all n rs) ≡ writes_in rs
-all_writes n [] = refl
-all_writes n (r ∷ rs) =
-    map-append (λ (o : Owned). o.write) (undo_of n r.writes) (undo_of_all (n + 1) rs)
-    ∙ (ap (λ ws. ws ++ map (λ (o : Owned). o.write) (undo_of_all (n + 1) rs)) (owned_writes n r.writes) ∙ ap (λ ws. r.writes ++ ws) (all_writes (n + 1) rs))
-
--- the earlier own writes of the next statement are those of all records
-pub own_writes : (proc : ProcInfo) (task : Task) → IsTask proc task → earlier (length task.records) task.undo ≡ writes_in task.records
-own_writes proc task t =
-    ap (earlier (length task.records)) t.undo
-    ∙ (ap (map (λ (o : Owned). o.write)) (all_before (length task.records) (undo_of_all 0 task.records) (undo_earlier task.records)) ∙ all_writes 0 task.records)
-
--- behind them the keys stand
-pub keys_before : (proc : ProcInfo) (tables : List TableInfo) (task : Task) (db : Tables) → IsTask proc task → KeysStand tables (applied (writes_in task.records) db)
-    → KeysStand tables (applied (earlier (length task.records) task.undo) db)
-keys_before proc tables task db t h = subst (λ ws. KeysStand tables (applied ws db)) (sym (own_writes proc task t)) h
+use Rattle.mv_exec.proofs.Stepping.{one_more}
+use Rattle.mv_exec.proofs.Adding.{left_next}
+use Rattle.mv_exec.proofs.Writing.{own_writes}
 
 -- The record
 

@@ -1,5 +1,5 @@
 -- Running calls keep what they leave.
-use Rattle.std.proofs.Common.{◌≡◌, ◌↔◌, ◌≤◌, ◌<◌, ◌^◌, ◌+◌, ℕ, false, true, Bool, List, [], ◌∷◌, ◌++◌, Some, None, Option, Result, Ok, Err, OnOk, OnErr, length, refl, sym, ap, subst, ◌∙◌, arith, append_assoc, append-nil, length-append}
+use Rattle.std.proofs.Common.{◌≡◌, ◌↔◌, ◌<◌, ◌^◌, ◌+◌, false, true, Bool, List, [], ◌∷◌, ◌++◌, Some, None, Option, Result, Ok, Err, OnOk, OnErr, length, refl, sym, ap, subst, ◌∙◌, arith, append_assoc, append-nil, rules}
 use Rattle.mv_values.specs.declared.calls.Call.{Call}
 use Rattle.mv_values.specs.declared.schema.TableInfo.{TableInfo}
 use Rattle.mv_values.specs.Patching.{applied}
@@ -12,18 +12,18 @@ use Rattle.mv_record.specs.Runs.{writes_in}
 use Rattle.mv_record.specs.Writes.{AreRising}
 use Rattle.mv_recorded.specs.Recorded.{recorded, told, outside}
 use Rattle.mv_view.specs.Viewing.{Sight}
-use Rattle.mv_record.specs.Databases.{IsDatabaseOf}
 use Rattle.mv_effect.specs.Looking.{AskedFor}
 use Rattle.mv_graph.specs.declared.graph.Graph.{Graph}
 use Rattle.mv_graph.specs.Nodes.{IsSound, meaning_of}
 use Rattle.mv_exec.specs.declared.task.Ahead.{Ahead}
 use Rattle.mv_exec.specs.declared.task.Task.{Task}
-use Rattle.mv_exec.specs.Tasks.{left_of, run_of, beginning, IsTask, StandsAsBefore, BeginsCall, TellsEnd}
-use Rattle.mv_exec.specs.Running.{Leaves, IsTaskOf, IsRunning, IsRunningOn, IsSameCall, IsUnchanged, Foresees, IsNext, HasContent, HasAdopted, GoesOnWith, HasRun, EndsExactly, KeysKept}
+use Rattle.mv_exec.specs.Tasks.{left_of, run_of, IsTask, StandsAsBefore, BeginsCall, TellsEnd}
+use Rattle.mv_exec.specs.Running.{Leaves, IsTaskOf, IsTaskOn, IsRunningOn, IsSameCall, IsSameCallOn, IsUnchanged, Foresees, IsNext, HasContent, HasAdopted, GoesOnWith, HasRun, EndsExactly, KeysKept}
 use Rattle.mv_exec.specs.Ahead.{ForeseesLeft}
 use Rattle.mv_exec.specs.Steps.{HasAdded, HasExecuted}
-use Rattle.mv_exec.proofs.Adopting.{added_before, before_both}
+use Rattle.mv_exec.proofs.Adopting.{added_before, none_ended, some_ahead}
 use Rattle.mv_exec.proofs.Ending as ending
+use Rattle.mv_exec.proofs.Writing.{has_writes}
 
 -- Records after those of a task
 
@@ -50,12 +50,13 @@ begins g call task fits whole start found none run = record {
   left = λ db rest rise h.
       let all : left_of g.procedure g.tables task db ≡ recorded g.tables g.procedure call db = sym (ap (λ rs. rs ++ left_of g.procedure g.tables task db) none) ∙ run g.tables db in
       all ∙ (h ∙ ap (λ rs. rs ++ rest) none);
+  writes = has_writes g.procedure task whole;
   keys = λ db rest base h. subst (λ (rs : List Record). KeysStand g.tables (applied (writes_in rs) db)) (sym none) base.keys;
 }
 
 -- on each database it leaves its whole full run
-pub begins_on : (g : Graph) (call : Call) (task : Task) → IsTaskOf g call task → task.records ≡ [] → (db : Tables) → IsRunningOn g db task
-begins_on g call task is none db = record { call = call; is = is; rest = (meaning_of g call db).records; leaves = ap (λ rs. rs ++ (meaning_of g call db).records) (sym none) }
+pub begins_on : (g : Graph) (call : Call) (task : Task) → IsTaskOf g call task → task.records ≡ [] → (db : Tables) → IsTaskOn g call db task
+begins_on g call task is none db = record { is = is; rest = (meaning_of g call db).records; leaves = ap (λ rs. rs ++ (meaning_of g call db).records) (sym none) }
 
 -- a call that stands as before
 pub stays : (g : Graph) (call : Call) (old new : Task) → IsTask g.procedure new → StandsAsBefore g.procedure old new → new.env.found ≡ old.env.found → IsTaskOf g call old → IsTaskOf g call new
@@ -65,17 +66,16 @@ stays g call old new whole before found is = record {
   fits = is.fits;
   found = found ∙ is.found;
   left = λ db rest rise h. before.left g.tables db ∙ is.left db rest rise (same_leaves g call db old new rest before.records h);
+  writes = has_writes g.procedure new whole;
   keys = λ db rest base h.
       subst (λ (rs : List Record). KeysStand g.tables (applied (writes_in rs) db)) (sym before.records) (is.keys db rest base (same_leaves g call db old new rest before.records h));
 }
 
-pub stays_on : (g : Graph) (db : Tables) (old new : Task) → IsSameCall g old new → new.records ≡ old.records → IsRunningOn g db old → IsRunningOn g db new
-stays_on g db old new same records on = record {
-  call = on.call;
-  is = same on.call on.is;
-  rest = on.rest;
-  leaves = same_leaves g on.call db new old on.rest (sym records) on.leaves;
-}
+pub stays_on : (g : Graph) (db : Tables) (old new : Task) → IsSameCall g old new → new.records ≡ old.records → IsSameCallOn g db old new
+stays_on g db old new same records call on = record { is = same call on.is; rest = on.rest; leaves = same_leaves g call db new old on.rest (sym records) on.leaves }
+
+pub running_on : (g : Graph) (db : Tables) (old new : Task) → IsSameCallOn g db old new → IsRunningOn g db old → IsRunningOn g db new
+running_on g db old new same on = (on.0, same on.0 on.1)
 
 -- a call with one record more
 pub grows : (g : Graph) (call : Call) (old new : Task) (r : Record) → IsTask g.procedure new → HasAdded g.procedure old r new → new.env.found ≡ old.env.found → IsTaskOf g call old → IsTaskOf g call new
@@ -85,6 +85,7 @@ grows g call old new r whole added found is = record {
   fits = is.fits;
   found = found ∙ is.found;
   left = λ db rest rise h. added.left g.tables db rest rise (is.left db (r ∷ rest) rise (less_leaves g call db old new (r ∷ []) rest added.records h));
+  writes = has_writes g.procedure new whole;
   keys = λ db rest base h.
       let before : Leaves g call db old (r ∷ rest) = less_leaves g call db old new (r ∷ []) rest added.records h in
       added.keys g.tables db rest base.rising (is.left db (r ∷ rest) base.rising before) (is.keys db (r ∷ rest) base before);
@@ -105,18 +106,27 @@ ends_exactly g call db task rest is rise leaves =
     (λ e. sym left ∙ (exact g.tables db).0 e, λ none. (exact g.tables db).1 (left ∙ none))
 
 pub keys_kept : KeysKept
-keys_kept g db task base on = on.is.keys db on.rest base on.leaves
+keys_kept g db task base on = on.1.is.keys db on.1.rest base on.1.leaves
 
 -- a call that has ended has all records of its full run
 pub finished : (g : Graph) (db : Tables) (task : Task) → AreRising db → IsRunningOn g db task → task.ended ≡ true → (call : Call) → IsTaskOf g call task → task.records ≡ (meaning_of g call db).records
 finished g db task rise on ended call is =
-    let none : on.rest ≡ [] = (ends_exactly g on.call db task on.rest on.is rise on.leaves).0 ended in
-    sym (append-nil task.records) ∙ (ap (λ rs. task.records ++ rs) (sym none) ∙ (sym on.leaves ∙ one_run g on.call call task db on.is is))
+    let none : on.1.rest ≡ [] = (ends_exactly g on.0 db task on.1.rest on.1.is rise on.1.leaves).0 ended in
+    sym (append-nil task.records) ∙ (ap (λ rs. task.records ++ rs) (sym none) ∙ (sym on.1.leaves ∙ one_run g on.0 call task db on.1.is is))
 
 -- What is ahead
 
 pub foresees : (g : Graph) (task : Task) (ahead : Option Ahead) → ForeseesLeft g.procedure task ahead → IsNext g task ahead
 foresees g task ahead h call db rest is rise leaves = subst (Foresees ahead) (is.left db rest rise leaves) (h g.tables db)
+
+-- nothing is ahead exactly of a call that has ended
+pub none_ahead : (proc : ProcInfo) (task : Task) (ahead : Option Ahead) → IsTask proc task → ForeseesLeft proc task ahead → (task.ended ≡ true) ↔ (ahead ≡ None)
+none_ahead proc task None t h = (λ ended. refl, λ none. by task.ended refl)
+  where
+    by : (b : Bool) → task.ended ≡ b → task.ended ≡ true
+    by true e = e
+    by false e = absurd (some_ahead proc task t e h)
+none_ahead proc task (Some ahead) t h = (λ ended. absurd (subst (Foresees (Some ahead)) (none_ended proc task ended [] []) (h [] [])), λ none. absurd (search (rules, none)))
 
 -- What an answer tells
 
@@ -158,7 +168,7 @@ same_end proc old new t u same = by old.ended refl new.ended refl
     by false e true f = f ∙ sym ((was [] []).1 (sym (same.left [] []) ∙ (is [] []).0 f))
 
 pub unchanged : (proc : ProcInfo) (old new : Task) → IsTask proc old → IsTask proc new → StandsAsBefore proc old new → IsUnchanged old new
-unchanged proc old new t u same = record { records = same.records; executed = same.executed; ended = same_end proc old new t u same }
+unchanged proc old new t u same = record { records = same.records; executed = same.executed; ended = same_end proc old new t u same; undo = same.undo }
 
 -- a record that was added after the call came to its statement
 pub executed_before : (proc : ProcInfo) (tables : List TableInfo) (old mid new : Task) (before after : Sight) → StandsAsBefore proc old mid → HasExecuted tables proc mid new before after
@@ -199,27 +209,25 @@ adopted g old new ahead given r next is added executed =
 -- A record that is executed
 
 pub executed_on : (g : Graph) (old new : Task) (before after : Sight) → AreRising before.database → IsSameCall g old new → HasExecuted g.tables g.procedure old new before after
-    → IsRunningOn g before.database old → IsRunningOn g before.database new
-executed_on g old new before after rise same it on =
+    → IsSameCallOn g before.database old new
+executed_on g old new before after rise same it call on =
     let left : on.rest ≡ it.next ∷ left_of g.procedure g.tables new before.database = sym (on.is.left before.database on.rest rise on.leaves) ∙ it.left in
     record {
-      call = on.call;
-      is = same on.call on.is;
+      is = same call on.is;
       rest = left_of g.procedure g.tables new before.database;
-      leaves = more_leaves g on.call before.database old new (it.next ∷ []) (left_of g.procedure g.tables new before.database) it.added.records (subst (Leaves g on.call before.database old) left on.leaves);
+      leaves = more_leaves g call before.database old new (it.next ∷ []) (left_of g.procedure g.tables new before.database) it.added.records (subst (Leaves g call before.database old) left on.leaves);
     }
 
 pub has_run : (g : Graph) (old new : Task) (before after : Sight) → HasExecuted g.tables g.procedure old new before after → new.executed ≡ old.executed + 1 → HasRun old new before after
 has_run g old new before after it counted = record { next = it.next; records = it.added.records; executed = counted; asked = it.asked }
 
 -- less is left than before
-pub shorter : (g : Graph) (old new : Task) (db : Tables) (before after : Sight) → AreRising db → IsSameCall g old new → IsRunningOn g db old → IsRunningOn g db new → HasRun old new before after
+pub shorter : (g : Graph) (old new : Task) (db : Tables) (before after : Sight) → AreRising db → IsSameCallOn g db old new → IsRunningOn g db old → HasRun old new before after
     → length (left_of g.procedure g.tables new db) < length (left_of g.procedure g.tables old db)
-shorter g old new db before after rise same was on ran =
-    let is : IsTaskOf g was.call new = same was.call was.is in
-    let here : Leaves g was.call db new on.rest = one_run g was.call on.call new db is on.is ∙ on.leaves in
-    let left : left_of g.procedure g.tables new db ≡ on.rest = is.left db on.rest rise here in
-    let before : left_of g.procedure g.tables old db ≡ ran.next ∷ on.rest = was.is.left db (ran.next ∷ on.rest) rise (less_leaves g was.call db old new (ran.next ∷ []) on.rest ran.records here) in
+shorter g old new db before after rise same was ran =
+    let on : IsTaskOn g was.0 db new = same was.0 was.1 in
+    let left : left_of g.procedure g.tables new db ≡ on.rest = on.is.left db on.rest rise on.leaves in
+    let before : left_of g.procedure g.tables old db ≡ ran.next ∷ on.rest = was.1.is.left db (ran.next ∷ on.rest) rise (less_leaves g was.0 db old new (ran.next ∷ []) on.rest ran.records on.leaves) in
     omega (arith, ap length left, ap length before)
 
 -- How large its numbers are

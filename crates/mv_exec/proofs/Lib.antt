@@ -10,6 +10,7 @@ pub mod Foreseeing
 pub mod Defining
 pub mod Trimming
 pub mod Walking
+pub mod Writing
 pub mod Stepping
 pub mod Wellness
 pub mod Found

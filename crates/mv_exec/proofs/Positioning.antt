@@ -1,5 +1,5 @@
 -- Where a call goes on there is a statement, which has a node.
-use Rattle.std.proofs.Common.{◌≡◌, ℕ, zero, suc, ◌+◌, ◌-◌, ◌<◌, ◌≤◌, ◌^◌, Bool, true, false, not, nat_lt, List, [], ◌∷◌, ◌++◌, Option, Some, None, length, drop, slice_get, refl, sym, ap, subst, ◌∙◌, arith}
+use Rattle.std.proofs.Common.{◌≡◌, ℕ, ◌+◌, ◌-◌, ◌<◌, ◌≤◌, ◌^◌, Bool, true, false, not, nat_lt, List, [], ◌∷◌, ◌++◌, Some, None, length, drop, slice_get, refl, sym, ap, subst, ◌∙◌, arith}
 use Rattle.mv_catalog.specs.Statements.{size, size_of}
 use Rattle.mv_catalog.specs.declared.resolved.ProcInfo.{ProcInfo}
 use Rattle.mv_catalog.specs.declared.resolved.RExpr.{RExpr}
@@ -8,16 +8,16 @@ use Rattle.mv_catalog.specs.declared.resolved.RStmt.TheOpen as open'
 use Rattle.mv_catalog.specs.declared.resolved.RStmt.TheVariants.{Branch, rolls-Branch}
 use Rattle.mv_graph.specs.declared.graph.Graph.{Graph}
 use Rattle.mv_graph.specs.declared.graph.Node.{Node}
-use Rattle.mv_graph.specs.Nodes.{nodes_in, IsGraph, HasText, TellsOf}
+use Rattle.mv_graph.specs.Nodes.{IsGraph, HasText, TellsOf}
 use Rattle.mv_graph.proofs.Texts.{NodeAt, node_of_text, text_after, yes_text, text_fits}
 use Rattle.mv_record.specs.declared.record.Record.{Record}
 use Rattle.mv_exec.specs.declared.places.Place.{Place}
 use Rattle.mv_exec.specs.declared.task.Task.{Task}
-use Rattle.mv_exec.specs.Places.{block_of, holder_of, block_in, has_turn, next_turn, in_next_turn, place_due, StandsAt, IsAt, AreFilled, AreNumbered}
+use Rattle.mv_exec.specs.Places.{block_of, holder_of, has_turn, next_turn, place_due, AreFilled}
 use Rattle.mv_exec.specs.Tasks.{places_of, beginning, IsTask}
 use Rattle.mv_exec.specs.Ahead.{GoesOn}
-use Rattle.mv_exec.proofs.Turning.{IsDue, FirstOf, first_of, is_below, standing_live, turn_owed, turned_task, same_block, filled_last}
-use Rattle.mv_exec.proofs.Numbering.{text_next, small_next}
+use Rattle.mv_exec.proofs.Turning.{FirstOf, first_of, is_below, standing_live, turn_owed, turned_task, same_block, filled_last}
+use Rattle.mv_exec.proofs.Numbering.{text_next}
 use Rattle.mv_exec.proofs.Foreseeing.{due_turn, in_turn, stands_here}
 
 -- a call that hasn't ended is somewhere

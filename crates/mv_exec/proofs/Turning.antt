@@ -3,7 +3,6 @@ use Rattle.std.proofs.Common.{◌≡◌, ℕ, zero, suc, ◌+◌, ◌-◌, ◌<�
 use Rattle.std.proofs.lemmas.Bool.Decides.{nat_tests}
 use Rattle.mv_values.specs.declared.value.Value.{Value}
 use Rattle.mv_values.specs.declared.schema.TableInfo.{TableInfo}
-use Rattle.mv_catalog.specs.Statements.{size_of}
 use Rattle.mv_catalog.specs.declared.resolved.ProcInfo.{ProcInfo}
 use Rattle.mv_catalog.specs.declared.resolved.RStmt.{RStmt}
 use Rattle.mv_alone.specs.declared.state.Env.{Env}

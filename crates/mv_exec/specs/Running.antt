@@ -1,5 +1,5 @@
 -- Defines all that public contracts say of running calls. This project's own.
-use Rattle.std.specs.Prelude.{◌≡◌, ◌↔◌, ◌≤◌, ◌+◌, ◌*◌, ℕ, Bool, true, false, List, [], ◌∷◌, ◌++◌, Option, Some, None, Result, Ok, Err, length}
+use Rattle.std.specs.Prelude.{◌≡◌, ◌↔◌, ◌+◌, ◌*◌, ℕ, Bool, true, false, List, [], ◌∷◌, ◌++◌, Option, Some, None, Result, Ok, Err, length}
 use Rattle.mv_values.specs.declared.calls.Call.{Call}
 use Rattle.mv_values.specs.Patching.{applied}
 use Rattle.mv_values.specs.Tables.{KeysStand}
@@ -7,11 +7,12 @@ use Rattle.mv_alone.specs.TableAfter.{Tables, entered}
 use Rattle.mv_record.specs.declared.record.Record.{Record}
 use Rattle.mv_record.specs.Runs.{writes_in}
 use Rattle.mv_record.specs.Writes.{AreRising}
+use Rattle.mv_undo.specs.Owning.{HasWritesOf}
 use Rattle.mv_view.specs.Viewing.{Sight}
 use Rattle.mv_record.specs.Databases.{IsDatabaseOf}
 use Rattle.mv_effect.specs.Looking.{AskedAtMost, AskedFor, different}
 use Rattle.mv_graph.specs.declared.graph.Graph.{Graph}
-use Rattle.mv_graph.specs.Nodes.{IsSound, meaning_of}
+use Rattle.mv_graph.specs.Nodes.{meaning_of}
 use Rattle.mv_exec.specs.declared.step.Stepped.{Stepped}
 use Rattle.mv_exec.specs.declared.step.Stepped.TheVariants.{Ran, Ended}
 use Rattle.mv_exec.specs.declared.task.Ahead.{Ahead}
@@ -24,35 +25,45 @@ use Rattle.mv_exec.specs.Tasks.{IsTask, BeginsCall, left_of}
 abbrev pub Leaves : Graph → Call → Tables → Task → List Record → Type 0
 Leaves g call db task rest = (meaning_of g call db).records ≡ task.records ++ rest
 
--- the task is this call of the graph, at some point of its run. What it keeps beside its records is private.
+-- the task is this call of the graph, at some point of its run. What it keeps beside its records and its own writes is
+-- private.
 pub record IsTaskOf (g : Graph) (call : Call) (task : Task) : Type 0 where
   pub whole : IsTask g.procedure task
   pub begins : BeginsCall task g.procedure call
   pub fits : length call.arguments ≡ length g.procedure.params
   pub found : task.env.found ≡ (entered g.procedure call).found
   pub left : (db : Tables) (rest : List Record) → AreRising db → Leaves g call db task rest → left_of g.procedure g.tables task db ≡ rest
+  pub writes : HasWritesOf task.undo task.records
   pub keys : (db : Tables) (rest : List Record) → IsDatabaseOf g.tables db → Leaves g call db task rest → KeysStand g.tables (applied (writes_in task.records) db)
+
+-- the task is this call of the graph, and its records are the first ones of its full run on a database
+pub record IsTaskOn (g : Graph) (call : Call) (db : Tables) (task : Task) : Type 0 where
+  pub is : IsTaskOf g call task
+  pub rest : List Record
+  pub leaves : Leaves g call db task rest
 
 -- it is a running call of the graph
 abbrev pub IsRunning : Graph → Task → Type 0
 IsRunning g task = (call : Call) × IsTaskOf g call task
 
 -- it is a running call of the graph whose records are the first ones of its full run on a database
-pub record IsRunningOn (g : Graph) (db : Tables) (task : Task) : Type 0 where
-  pub call : Call
-  pub is : IsTaskOf g call task
-  pub rest : List Record
-  pub leaves : Leaves g call db task rest
+abbrev pub IsRunningOn : Graph → Tables → Task → Type 0
+IsRunningOn g db task = (call : Call) × IsTaskOn g call db task
 
 -- it is the same call as before
 abbrev pub IsSameCall : Graph → Task → Task → Type 0
 IsSameCall g old new = (call : Call) → IsTaskOf g call old → IsTaskOf g call new
+
+-- it is the same call as before, and on this database its records still are the first ones of its full run
+abbrev pub IsSameCallOn : Graph → Tables → Task → Task → Type 0
+IsSameCallOn g db old new = (call : Call) → IsTaskOn g call db old → IsTaskOn g call db new
 
 -- what is public of the task is unchanged
 pub record IsUnchanged (old new : Task) : Type 0 where
   pub records : new.records ≡ old.records
   pub executed : new.executed ≡ old.executed
   pub ended : new.ended ≡ old.ended
+  pub undo : new.undo ≡ old.undo
 
 -- `Ended` if the task has ended, `Ran` otherwise
 abbrev pub stepped : Bool → Stepped

@@ -1,6 +1,6 @@
 //! Running calls of a graph: one statement at a time over a view, or to the end.
 
-ghost use Rattle.std.specs.Prelude.{◌≡◌, ◌≤◌, [], false, true, length, IfOk, OnOk, OnErr};
+ghost use Rattle.std.specs.Prelude.{◌≡◌, ◌↔◌, ◌≤◌, [], None, false, true, length, IfOk, OnOk, OnErr};
 ghost use Rattle.mv_alone.specs.TableAfter.{Tables};
 ghost use Rattle.mv_values.specs.declared.calls.Call.{Call};
 ghost use Rattle.mv_record.specs.Runs.{writes_in};
@@ -8,7 +8,7 @@ ghost use Rattle.mv_graph.specs.Nodes.{IsSound, meaning_of};
 ghost use Rattle.mv_view.specs.Viewing.{MayAnswer};
 ghost use Rattle.mv_record.specs.Databases.{IsDatabaseOf};
 ghost use Rattle.mv_effect.specs.Looking.{AskedAtMost, IsSameView, PassesOn, different};
-ghost use Rattle.mv_exec.specs.Running.{IsRunning, IsRunningOn, IsSameCall, IsTaskOf, IsUnchanged, IsNext, GoesOnWith, HasAdopted, HasRun, HasRunTo, refusals, stepped, EndsExactly, KeysKept};
+ghost use Rattle.mv_exec.specs.Running.{IsRunning, IsRunningOn, IsSameCall, IsSameCallOn, IsTaskOf, IsTaskOn, IsUnchanged, IsNext, GoesOnWith, HasAdopted, HasRun, HasRunTo, refusals, stepped, EndsExactly, KeysKept};
 
 use crate::add::add;
 use crate::ahead::{come_to, foresee};
@@ -29,6 +29,7 @@ impl Task {
         requires sound { IsSound graph.now }
         requires arguments { length call.now.arguments ≡ length graph.now.procedure.params }
         ensures call { IfOk result (IsTaskOf graph.now call.now) }
+        ensures begins { IfOk result (λ task. (db : Tables) → IsTaskOn graph.now call.now db task) }
         ensures records { IfOk result (λ task. task.records ≡ []) }
         ensures executed { IfOk result (λ task. task.executed ≡ 0) }
         ensures running { IfOk result (λ task. (db : Tables) → IsRunningOn graph.now db task) }
@@ -38,12 +39,13 @@ impl Task {
     }
 }
 
-/// Returns the place, controller and definers of the next record, or none if no statement is left. Fails with
+/// Returns the place, controller and definers of the next record, or none exactly if no statement is left. Fails with
 /// `NoMemory` if memory runs out.
 pub fn peek(alloc: Global, graph: &Graph, task: &Task) -> Result<Option<Ahead>, NoMemory>
     requires sound { IsSound graph.now }
     requires running { IsRunning graph.now task.now }
-    ensures { IfOk result (IsNext graph.now task.now) }
+    ensures next { IfOk result (IsNext graph.now task.now) }
+    ensures ended { IfOk result (λ ahead. (task.now.ended ≡ true) ↔ (ahead ≡ None)) }
 {
     let ahead = foresee(alloc, graph, task)?;
     Ok(ahead)
@@ -106,6 +108,7 @@ pub fn next<V: View>(
     requires running { IsRunningOn graph.now (V.sight view.old).database task.old }
     ensures running { IsRunningOn graph.now (V.sight view.old).database task.new }
     ensures call { IsSameCall graph.now task.old task.new }
+    ensures goes_on { IsSameCallOn graph.now (V.sight view.old).database task.old task.new }
     ensures ran { OnOk result (task.old.ended ≡ false → HasRun task.old task.new (V.sight view.old) (V.sight view.new)) }
     ensures rests { task.old.ended ≡ true → IsUnchanged task.old task.new }
     ensures idle { task.old.ended ≡ true → V.sight view.new ≡ V.sight view.old }
@@ -138,6 +141,7 @@ pub fn finish<V: View>(
     requires running { IsRunningOn graph.now (V.sight view.old).database task.old }
     ensures running { IsRunningOn graph.now (V.sight view.old).database task.new }
     ensures call { IsSameCall graph.now task.old task.new }
+    ensures goes_on { IsSameCallOn graph.now (V.sight view.old).database task.old task.new }
     ensures records { OnOk result ((call : Call) → IsTaskOf graph.now call task.old → task.new.records ≡ (meaning_of graph.now call (V.sight view.old).database).records) }
     ensures ended { OnOk result (task.new.ended ≡ true) }
     ensures ran { HasRunTo task.old task.new (refusals result) (V.sight view.old) (V.sight view.new) }

@@ -9,7 +9,7 @@ ghost use Rattle.mv_alone.specs.TableAfter.{Tables, entered};
 ghost use Rattle.mv_recorded.specs.Recorded.{recorded};
 ghost use Rattle.mv_graph.specs.declared.graph.Graph.{Graph};
 ghost use Rattle.mv_exec.specs.Env.{initial_env};
-ghost use Rattle.mv_exec.specs.Running.{IsRunning, IsRunningOn, IsTaskOf};
+ghost use Rattle.mv_exec.specs.Running.{IsRunning, IsRunningOn, IsTaskOf, IsTaskOn};
 ghost use Rattle.mv_exec.specs.Tasks.{first_place, none_in, run_of, IsTask, BeginsCall, fresh_task as fresh};
 
 use crate::places::{Holder, Place};
@@ -172,6 +172,7 @@ impl Task {
         ensures records { self.new.records ≡ [] }
         ensures executed { self.new.executed ≡ 0 }
         ensures call { (graph : Graph) (call : Call) → IsTaskOf graph call self.old → IsTaskOf graph call self.new }
+        ensures begins { (graph : Graph) (call : Call) (db : Tables) → IsTaskOf graph call self.old → IsTaskOn graph call db self.new }
         ensures running { (graph : Graph) (db : Tables) → IsRunning graph self.old → IsRunningOn graph db self.new }
     {
         take_back(&mut self.env, &mut self.first);

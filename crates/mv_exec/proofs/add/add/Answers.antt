@@ -5,7 +5,6 @@ use Rattle.mv_undo.specs.declared.owned.Owned.{Owned}
 use Rattle.mv_exec.specs.declared.task.Task.{Task}
 use Rattle.mv_exec.specs.Env.{with_changes}
 use Rattle.mv_exec.specs.Moves.{inner_places, place_after}
-use Rattle.mv_exec.specs.Places.{StandsAt}
 use Rattle.mv_exec.specs.Tasks.{places_of}
 use Rattle.mv_exec.proofs.Numbering.{small_next, text_next}
 use Rattle.mv_exec.proofs.Turning.{standing_live}

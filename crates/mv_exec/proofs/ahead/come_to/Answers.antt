@@ -1,4 +1,3 @@
-use Rattle.std.proofs.Common.{◌≡◌}
 use Rattle.mv_exec.proofs.Foreseeing.{IsCome, come}
 use Rattle.mv_exec.proofs.ahead.come_to.Goals as goal
 use Rattle.mv_exec.proofs.ahead.come_to.Goals.{In_ok-settle}

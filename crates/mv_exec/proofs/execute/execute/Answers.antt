@@ -7,8 +7,9 @@ use Rattle.mv_recorded.specs.Effects.{IsEffect}
 use Rattle.mv_effect.specs.Looking.{AskedFor, IsExecutable}
 use Rattle.mv_effect.proofs.WellNamed.{well_named}
 use Rattle.mv_exec.specs.Tasks.{places_of}
-use Rattle.mv_exec.proofs.Executing.{counts_one, keys_before, executed_next}
+use Rattle.mv_exec.proofs.Executing.{counts_one, executed_next}
 use Rattle.mv_exec.proofs.Wellness.{well_at, columns_at}
+use Rattle.mv_exec.proofs.Writing.{keys_before}
 use Rattle.mv_exec.proofs.execute.execute.Goals as goal
 
 pub effect-requires : goal.effect-requires

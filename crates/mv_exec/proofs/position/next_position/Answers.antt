@@ -1,9 +1,9 @@
-use Rattle.std.proofs.Common.{◌≡◌, None, Some, not, refl, sym, ap, ◌∙◌}
+use Rattle.std.proofs.Common.{not, refl, sym, ap, ◌∙◌}
 use Rattle.mv_exec.specs.Ahead.{GoesOn}
-use Rattle.mv_exec.specs.Places.{block_in, block_of, holder_of}
+use Rattle.mv_exec.specs.Places.{block_in}
 use Rattle.mv_exec.proofs.Positioning.{some_place, turn_there, none_there, goes_on, some_node, node_tells}
 use Rattle.mv_exec.proofs.position.next_position.Goals as goal
-use Rattle.mv_exec.proofs.position.next_position.Goals.{After-node_at, After-place_due-place}
+use Rattle.mv_exec.proofs.position.next_position.Goals.{After-node_at}
 
 pub unreachable-requires : goal.unreachable-requires
 unreachable-requires c = some_place c.args.graph.now.procedure c.args.task.now c.as_slice.result.now c.requires.task c.as_slice.ensures c.in_default.ensures

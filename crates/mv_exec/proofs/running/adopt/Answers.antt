@@ -1,6 +1,4 @@
-use Rattle.std.proofs.Common.{◌≡◌, sym, ◌∙◌}
-use Rattle.mv_values.specs.declared.calls.Call.{Call}
-use Rattle.mv_exec.specs.declared.task.Task.{Task}
+use Rattle.std.proofs.Common.{◌≡◌, ◌∙◌}
 use Rattle.mv_exec.specs.Running.{IsTaskOf, IsSameCall, IsUnchanged, HasAdopted, GoesOnWith}
 use Rattle.mv_exec.specs.Steps.{HasAdded}
 use Rattle.mv_exec.specs.Tasks.{places_of, StandsAsBefore}
@@ -8,7 +6,7 @@ use Rattle.mv_exec.proofs.Adopting.{added_before, before_both}
 use Rattle.mv_exec.proofs.Fronts.{both, on_err, either, stays, grows, unchanged, adopted, goes_on, params_of}
 use Rattle.mv_exec.proofs.Wellness.{columns_at}
 use Rattle.mv_exec.proofs.running.adopt.Goals as goal
-use Rattle.mv_exec.proofs.running.adopt.Goals.{After-add, After-come_to}
+use Rattle.mv_exec.proofs.running.adopt.Goals.{After-add}
 
 pub come_to-requires-clause-task : goal.come_to-requires-clause-task
 come_to-requires-clause-task c = c.requires.running.1.whole

@@ -1,6 +1,6 @@
 use Rattle.std.proofs.Common.{◌≡◌, false, true, rules, subst, ◌∙◌}
 use Rattle.mv_alone.specs.TableAfter.{Tables}
-use Rattle.mv_exec.specs.Running.{IsRunningOn}
+use Rattle.mv_exec.specs.Running.{IsRunningOn, IsSameCallOn}
 use Rattle.mv_exec.proofs.Counting.{run_on}
 use Rattle.mv_exec.proofs.Fronts.{finished}
 use Rattle.mv_exec.proofs.running.finish.Goals as goal
@@ -11,6 +11,8 @@ loop-alloc-preserved g c =
     record {
       running = subst (λ (db : Tables). IsRunningOn c.args.graph.now db c.next.new.task) c.loop-alloc.invariant.same.database c.next.ensures.running;
       call = λ call is. c.next.ensures.call call (c.loop-alloc.invariant.call call is);
+      goes_on = λ call on.
+          subst (λ (db : Tables). IsSameCallOn c.args.graph.now db c.loop-alloc.task c.next.new.task) c.loop-alloc.invariant.same.database c.next.ensures.goes_on call (c.loop-alloc.invariant.goes_on call on);
       ran = run_on c.args.task.now c.loop-alloc.task c.next.new.task (g.V.View.sight c.args.view.now) (g.V.View.sight c.loop-alloc.view) (g.V.View.sight c.next.new.view)
           c.loop-alloc.invariant.ran (c.in_ok-next.ensures.ran live) c.next.ensures.bounded;
       same = record {

@@ -1,4 +1,4 @@
-use Rattle.mv_exec.proofs.Fronts.{foresees, params_of}
+use Rattle.mv_exec.proofs.Fronts.{foresees, none_ahead, params_of}
 use Rattle.mv_exec.proofs.running.peek.Goals as goal
 
 pub foresee-requires-clause-task : goal.foresee-requires-clause-task
@@ -7,5 +7,8 @@ foresee-requires-clause-task c = c.requires.running.1.whole
 pub foresee-requires-clause-params : goal.foresee-requires-clause-params
 foresee-requires-clause-params c = params_of c.args.graph.now c.requires.running.0 c.args.task.now c.requires.running.1
 
-pub returns : goal.returns
-returns c = foresees c.args.graph.now c.args.task.now c.in_ok-ahead.ahead c.in_ok-ahead.ensures
+pub returns-clause-next : goal.returns-clause-next
+returns-clause-next c = foresees c.args.graph.now c.args.task.now c.in_ok-ahead.ahead c.in_ok-ahead.ensures
+
+pub returns-clause-ended : goal.returns-clause-ended
+returns-clause-ended c = none_ahead c.args.graph.now.procedure c.args.task.now c.in_ok-ahead.ahead c.requires.running.1.whole c.in_ok-ahead.ensures

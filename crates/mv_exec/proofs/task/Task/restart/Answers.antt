@@ -1,8 +1,5 @@
-use Rattle.std.proofs.Common.{◌≡◌, None, [], refl, ap, ◌∙◌}
-use Rattle.mv_values.specs.declared.calls.Call.{Call}
+use Rattle.std.proofs.Common.{None, refl, ap, ◌∙◌}
 use Rattle.mv_alone.specs.declared.state.Env.{Env}
-use Rattle.mv_graph.specs.declared.graph.Graph.{Graph}
-use Rattle.mv_exec.specs.declared.task.Task.{Task}
 use Rattle.mv_exec.specs.Running.{IsTaskOf}
 use Rattle.mv_exec.specs.Tasks.{fresh_task}
 use Rattle.mv_exec.proofs.Beginning.{fresh_is_task, fresh_run, restarted, none_before}
@@ -21,5 +18,8 @@ returns-clause-call c = λ graph call is.
     (ap (λ (e : Env). e.found) (c.take_back.ensures.env ∙ is.begins.0)) refl
     (λ tables db. fresh_run graph.procedure tables call db c.args.self.now.parameters env None empty is.whole.empty (c.take_back.ensures.env ∙ is.begins.0) is.begins.1))
 
+pub returns-clause-begins : goal.returns-clause-begins
+returns-clause-begins c = λ graph call db is. begins_on graph call _ (returns-clause-call c graph call is) (c.replace.ensures.after ∙ c.new.ensures) db
+
 pub returns-clause-running : goal.returns-clause-running
-returns-clause-running c = λ graph db is. begins_on graph is.0 _ (returns-clause-call c graph is.0 is.1) (c.replace.ensures.after ∙ c.new.ensures) db
+returns-clause-running c = λ graph db is. (is.0, returns-clause-begins c graph is.0 db is.1)
