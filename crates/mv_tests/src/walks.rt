@@ -1,15 +1,14 @@
 //! A walk through a call that adopts some of its records and executes the others.
 
-ghost use Rattle.std.specs.Prelude.{◌≡◌, ◌<◌, ◌≤◌, ◌+◌, IfOk, OnOk, false, true, length};
+ghost use Rattle.std.specs.Prelude.{◌≡◌, ◌<◌, ◌+◌, IfOk, OnOk, false, true, length};
 ghost use Rattle.mv_alone.specs.TableAfter.{Tables};
 ghost use Rattle.mv_record.specs.Writes.{AreRising};
 ghost use Rattle.mv_graph.specs.Nodes.{IsSound, meaning_of};
 ghost use Rattle.mv_record.specs.Databases.{IsDatabaseOf};
 ghost use Rattle.mv_effect.specs.Looking.{IsSameView};
-ghost use Rattle.mv_exec.specs.Running.{HasContent, IsRunning, IsRunningOn, IsSameCall};
-ghost use Rattle.mv_tests.specs.Walks.{HasAll};
+ghost use Rattle.mv_exec.specs.Running.{HasContent, IsTaskOf, IsTaskOn};
 
-use mv_exec::running::{adopt, finish, next};
+use mv_exec::running::{adopt, calls_end_exactly, finish, next};
 use mv_exec::task::Task;
 use mv_graph::graph::Graph;
 use mv_record::record::{Record, Spot};
@@ -45,15 +44,15 @@ pub(crate) fn is_adopted(number: usize, first: usize) -> bool {
 fn adopt_next(
     alloc: Global,
     graph: &Graph,
+    call: &Call,
     task: &mut Task,
     given: &[Record],
 ) -> Result<(), NoMemory>
     requires sound { IsSound graph.now }
-    requires running { IsRunning graph.now task.old }
+    requires call { IsTaskOf graph.now call.now task.old }
     requires live { task.old.ended ≡ false }
     requires within { length task.old.records < length given.now }
-    ensures call { IsSameCall graph.now task.old task.new }
-    ensures goes_on { OnOk result ((db : Tables) → AreRising db → IsRunningOn graph.now db task.old → HasAll graph.now db task.old given.now → IsRunningOn graph.now db task.new) }
+    ensures on { OnOk result ((db : Tables) → AreRising db → IsTaskOn graph.now call.now db task.old → given.now ≡ (meaning_of graph.now call.now db).records → IsTaskOn graph.now call.now db task.new) }
     ensures longer { OnOk result (length task.new.records ≡ length task.old.records + 1) }
 {
     let copy = placeless(alloc, &given[task.records().len()])?;
@@ -65,6 +64,7 @@ fn adopt_next(
 fn step<V: View>(
     alloc: Global,
     graph: &Graph,
+    call: &Call,
     task: &mut Task,
     given: &[Record],
     first: usize,
@@ -72,16 +72,16 @@ fn step<V: View>(
 ) -> Result<(), Refused>
     requires sound { IsSound graph.now }
     requires database { IsDatabaseOf graph.now.tables (V.sight view.old).database }
-    requires running { IsRunningOn graph.now (V.sight view.old).database task.old }
+    requires on { IsTaskOn graph.now call.now (V.sight view.old).database task.old }
     requires live { task.old.ended ≡ false }
-    requires given { HasAll graph.now (V.sight view.old).database task.old given.now }
-    ensures running { OnOk result (IsRunningOn graph.now (V.sight view.old).database task.new) }
-    ensures call { IsSameCall graph.now task.old task.new }
+    requires given { given.now ≡ (meaning_of graph.now call.now (V.sight view.old).database).records }
+    ensures on { OnOk result (IsTaskOn graph.now call.now (V.sight view.old).database task.new) }
     ensures same { IsSameView (V.sight view.old) (V.sight view.new) }
     ensures longer { OnOk result (length task.new.records ≡ length task.old.records + 1) }
 {
     if is_adopted(task.records().len(), first) {
-        adopt_next(alloc, graph, task, given)?;
+        calls_end_exactly();
+        adopt_next(alloc, graph, call, task, given)?;
         return Ok(());
     }
     next(alloc, graph, task, view)?;
@@ -93,6 +93,7 @@ fn step<V: View>(
 fn walk<V: View>(
     alloc: Global,
     graph: &Graph,
+    call: &Call,
     task: &mut Task,
     given: &[Record],
     first: usize,
@@ -100,14 +101,15 @@ fn walk<V: View>(
 ) -> Result<(), Refused>
     requires sound { IsSound graph.now }
     requires database { IsDatabaseOf graph.now.tables (V.sight view.old).database }
-    requires running { IsRunningOn graph.now (V.sight view.old).database task.old }
-    requires given { HasAll graph.now (V.sight view.old).database task.old given.now }
+    requires on { IsTaskOn graph.now call.now (V.sight view.old).database task.old }
+    requires given { given.now ≡ (meaning_of graph.now call.now (V.sight view.old).database).records }
     ensures records { OnOk result (task.new.records ≡ given.now) }
     ensures ended { OnOk result (task.new.ended ≡ true) }
 {
     while !task.ended() {
-        step(alloc, graph, task, given, first, view)?;
+        step(alloc, graph, call, task, given, first, view)?;
     }
+    calls_end_exactly();
     Ok(())
 }
 
@@ -132,6 +134,7 @@ pub(crate) fn run_and_walk(
     walk(
         alloc,
         graph,
+        call,
         &mut task,
         records.as_slice(),
         first,

@@ -5,4 +5,4 @@ use Rattle.mv_tests.proofs.walks.walk.Goals as goal
 pub returns-clause-records : goal.returns-clause-records
 returns-clause-records g c =
     let ended : c.loop-alloc.task.ended ≡ true = search rules in
-    has_all c.args.graph.now (g.V.View.sight c.args.view.now).database c.loop-alloc.task c.args.given.now c.requires.database.rising c.loop-alloc.invariant.running ended c.loop-alloc.invariant.given
+    has_all c.calls_end_exactly.ensures c.args.graph.now c.args.call.now (g.V.View.sight c.args.view.now).database c.loop-alloc.task c.args.given.now c.requires.database.rising c.loop-alloc.invariant.on c.requires.given ended

@@ -1,13 +1,11 @@
 use Rattle.std.proofs.Common.{◌-◌, length}
 use Rattle.mv_effect.specs.Looking.{IsSameView}
-use Rattle.mv_exec.specs.Running.{IsRunningOn}
-use Rattle.mv_tests.specs.Walks.{HasAll}
+use Rattle.mv_exec.specs.Running.{IsTaskOn}
 use Rattle.mv_tests.proofs.walks.walk.Given as goal
 
 abbrev pub invariant-loop-alloc : goal.invariant-loop-alloc
 invariant-loop-alloc g l = record {
-  running : IsRunningOn l.graph (g.V.View.sight l.fn.view).database l.task;
-  given : HasAll l.graph (g.V.View.sight l.fn.view).database l.task l.given;
+  on : IsTaskOn l.graph l.call (g.V.View.sight l.fn.view).database l.task;
   same : IsSameView (g.V.View.sight l.fn.view) (g.V.View.sight l.view);
 }
 
