@@ -1,9 +1,11 @@
 -- Low.
-use Rattle.std.proofs.Common.{◌≡◌, ℕ, List, [], ◌∷◌, ◌++◌, map, length, max, refl, sym, ap, ◌∙◌}
+use Rattle.std.proofs.Common.{◌≡◌, ◌≤◌, ℕ, List, [], ◌∷◌, ◌++◌, Option, Some, None, map, length, max, refl, sym, ap, subst, ◌∙◌, arith}
+use Rattle.std.proofs.Math.Nat.{max-le}
 use Rattle.mv_journal.specs.declared.event.Event.{Event}
 use Rattle.mv_journal.specs.declared.event.Event.TheVariants.{G}
 use Rattle.mv_lawful.specs.Lawful.{next_low, floor}
 use Rattle.mv_lawful.specs.Lawful.{oldest as oldest_of}
+use Rattle.mv_lawful.proofs.Lows.{low_never_falls}
 use Rattle.mv_core.specs.declared.script.Script.{Script}
 use Rattle.mv_core.specs.declared.progress.Progress.{Progress}
 use Rattle.mv_core.specs.Scripts.{work_of}
@@ -12,7 +14,7 @@ use Rattle.mv_core.specs.Lives.{live_numbers, least_start}
 use Rattle.mv_core.specs.Books.{Booked, IsKept, work_in}
 use Rattle.mv_core.specs.declared.book.Book.TheInside.{Inside}
 use Rattle.mv_core.specs.contracts.book.Book.{the_view}
-use Rattle.mv_core.proofs.Lives.{oldest_is}
+use Rattle.mv_core.proofs.Lives.{oldest_is, least_past}
 use Rattle.mv_core.proofs.Keeping.{the_course, kept_event}
 
 pub kept_low : (s : Script) (order : List ℕ) (low next : ℕ) (ps : List Progress) (journal longer : List Event)
@@ -33,3 +35,16 @@ low_told i old n o f m k is live count oldest past most all =
 
       here : least_start n (map live_of i.calls.items) i.live ≡ old_oldest n
       here = ap (least_start n (map live_of i.calls.items)) live ∙ sym (oldest_is n (map live_of i.calls.items))
+
+-- low rises, and not past the commits
+pub next_within : (s : Script) (order : List ℕ) (low next : ℕ) (ps : List Progress) → low ≤ length order → next ≡ next_low (work_of s) (the_course order low (map live_of ps)) → (low ≤ next) × (next ≤ length order)
+next_within s order low next ps le is = (
+  subst (λ n. low ≤ n) (sym is) (low_never_falls (work_of s) (the_course order low (map live_of ps)) G),
+  subst (λ n. n ≤ length order) (sym is) (max-le le (max-le oldest (past s.options.horizon))),
+) where
+  oldest : oldest_of (length order) (map live_of ps) ≤ length order
+  oldest = subst (λ n. n ≤ length order) (sym (oldest_is (length order) (map live_of ps))) (least_past (length order) (map live_of ps) (live_numbers (map live_of ps)))
+
+  past : (h : Option ℕ) → floor (length order) h ≤ length order
+  past None = omega arith
+  past (Some h) = omega arith

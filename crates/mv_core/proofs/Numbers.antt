@@ -79,12 +79,12 @@ settles kept all n (inr is) own = ap (λ m. numbered m kept) (sym own) ∙ (ap (
 pub table_stays : (w : Work) (order : List ℕ) (d k : ℕ) → k ≤ length order → table_at w (order ++ d ∷ []) k ≡ table_at w order k
 table_stays w order d k le = ap (tables_after w w.opening) (take-append-le k order (d ∷ []) le)
 
-changes_more : (w : Work) (db : Tables) (cs : List ℕ) (d : ℕ)
+pub changes_more : (w : Work) (db : Tables) (cs : List ℕ) (d : ℕ)
     → changes_after w db (cs ++ d ∷ []) ≡ changes_after w db cs ++ changes_between (tables_after w db cs) (w.run d (tables_after w db cs)).tables ∷ []
 changes_more w db [] d = refl
 changes_more w db (c ∷ cs) d = ap (λ l. changes_between db (w.run c db).tables ∷ l) (changes_more w (w.run c db).tables cs d)
 
-changes_long : (w : Work) (db : Tables) (cs : List ℕ) → length (changes_after w db cs) ≡ length cs
+pub changes_long : (w : Work) (db : Tables) (cs : List ℕ) → length (changes_after w db cs) ≡ length cs
 changes_long w db [] = refl
 changes_long w db (c ∷ cs) = ap suc (changes_long w (w.run c db).tables cs)
 

@@ -1,21 +1,28 @@
 -- Defines the contents of a book, and how events change it. The law of journals says which events are allowed. This
 -- project's own.
-use Rattle.std.specs.Prelude.{◌≡◌, ◌<◌, ◌≤◌, ◌+◌, ◌^◌, ℕ, List, [], ◌∷◌, ◌++◌, Option, Some, None, Result, Ok, Err, length, map, slice_get, IsSome}
+use Rattle.std.specs.Prelude.{◌≡◌, ◌<◌, ◌≤◌, ◌+◌, ◌^◌, ℕ, false, List, [], ◌∷◌, ◌++◌, Option, Some, None, Result, Ok, Err, length, map, slice_get, IsSome}
 use Rattle.std.specs.Option.{ForSome, option_map}
 use Rattle.mv_values.specs.declared.memory.NoMemory.{NoMemory}
+use Rattle.mv_record.specs.declared.record.Record.{Record}
 use Rattle.mv_record.specs.Runs.{Tables, Run}
+use Rattle.mv_history.specs.declared.change.Change.{Change}
+use Rattle.mv_history.specs.Changes.{changes_between}
+use Rattle.mv_changes.specs.Commits.{Window}
 use Rattle.mv_journal.specs.declared.event.Event.{Event}
 use Rattle.mv_journal.specs.declared.event.Event.TheVariants.{B, A, M, C, X}
 use Rattle.mv_journal.specs.declared.outcome.Mark.{Mark}
 use Rattle.mv_journal.specs.declared.outcome.Mark.TheVariants.{Plain, Exclusive, Moved}
 use Rattle.mv_journal.specs.declared.outcome.Round.{Round}
-use Rattle.mv_lawful.specs.Work.{Work, table_at}
-use Rattle.mv_lawful.specs.Lawful.{Live, Course, beginning, refusal, after, course_of, AllAllowed}
+use Rattle.mv_lawful.specs.declared.fault.Fault.TheVariants as fault
+use Rattle.mv_lawful.specs.Work.{Work, table_at, records_at, since, hit_of}
+use Rattle.mv_lawful.specs.Lawful.{Live, Course, beginning, refusal, after, course_of, is_stale, AllAllowed}
 use Rattle.mv_lawful.specs.Rounds.{rounds_of}
 use Rattle.mv_exec.specs.declared.task.Task.{Task}
 use Rattle.mv_core.specs.declared.script.Script.{Script}
 use Rattle.mv_core.specs.declared.progress.Progress.{Progress}
 use Rattle.mv_core.specs.declared.book.Begun.{Begun}
+use Rattle.mv_core.specs.declared.book.Check.{Check}
+use Rattle.mv_core.specs.declared.book.Check.TheVariants.{Free, Hit, Stale}
 use Rattle.mv_core.specs.Rooms.{Filled}
 use Rattle.mv_core.specs.Scripts.{work_of}
 use Rattle.mv_core.specs.Lives.{live_numbers}
@@ -54,10 +61,17 @@ pub record IsKept (s : Script) (course : Course) (calls : List Progress) (journa
   pub reaches : course ≡ course_of (work_of s) journal
   pub tells : (c : ℕ) (p : Progress) → slice_get calls c ≡ Some p → TellsCall (work_of s) course.order c p
 
--- that, and the numbers of the live calls
-pub record IsBook (s : Script) (course : Course) (calls : List Progress) (journal : List Event) (numbers : List ℕ) : Type 0 where
+-- the changes of the commits after low, for the calls of the order executed one after another
+pub record IsRecent (w : Work) (order : List ℕ) (low : ℕ) (window : Window) : Type 0 where
+  pub within : low ≤ length order
+  pub from : window.low ≡ low
+  pub commits : window.commits ≡ since w order low
+
+-- all that, and the numbers of the live calls
+pub record IsBook (s : Script) (course : Course) (calls : List Progress) (journal : List Event) (numbers : List ℕ) (window : Window) : Type 0 where
   pub kept : IsKept s course calls journal
   pub live : numbers ≡ live_numbers course.calls
+  pub recent : IsRecent (work_of s) course.order course.low window
 
 -- the database after all commits
 abbrev pub last_tables : Booked → Tables
@@ -66,6 +80,10 @@ last_tables b = table_at (work_in b) b.course.order (length b.course.order)
 -- a full run of a call on it
 abbrev pub last_run : Booked → ℕ → Run
 last_run b c = (work_in b).run c (last_tables b)
+
+-- the changes of its commit
+abbrev pub last_changes : Booked → ℕ → List Change
+last_changes b c = changes_between (last_tables b) (last_run b c).tables
 
 -- Events
 
@@ -135,3 +153,19 @@ pub record HasRounds (b : Booked) (c : ℕ) (rs : List Round) : Type 0 where
   pub is_live : IsLive b.course c live
   pub turns : turns_in rs ≡ live.turns
   pub rounds : AreRounds rs (rounds_of (work_in b) b.course.order c live.turns)
+
+-- Validation
+
+-- the start of a live call isn't below low
+abbrev pub IsNotStale : Booked → ℕ → Type 0
+IsNotStale b c = (l : Live) → IsLive b.course c l → is_stale b.course l ≡ false
+
+-- the records are those of a full run of a live call at its start
+abbrev pub AreRecordsOf : Booked → ℕ → List Record → Type 0
+AreRecordsOf b c rs = (l : Live) → IsLive b.course c l → rs ≡ records_at (work_in b) b.course.order l.start c
+
+-- the law of journals allows the commit of a live call, or refuses it for this reason
+abbrev pub IsAnswer : Check → Work → Course → ℕ → Live → Type 0
+IsAnswer Free w s c l = refusal w s (C c) ≡ None
+IsAnswer (Hit number commit) w s c l = (refusal w s (C c) ≡ Some fault.Conflict) × (hit_of w s.order l.start c ≡ Some (record { number = number; commit = commit }))
+IsAnswer (Stale start low) w s c l = (refusal w s (C c) ≡ Some fault.Stale) × (start ≡ l.start) × (low ≡ s.low)

@@ -1,11 +1,13 @@
 //! The history of a run: its events, and their outcome so far.
 
-ghost use Rattle.std.specs.Prelude.{◌≡◌, ◌<◌, ◌≤◌, ◌+◌, ◌^◌, ◌≢◌, [], ℕ, None, Some, drop, length, IfOk, IfSome, IfNone, OnOk};
+ghost use Rattle.std.specs.Prelude.{◌≡◌, ◌<◌, ◌≤◌, ◌+◌, ◌++◌, ◌∷◌, ◌^◌, ◌≢◌, [], None, Some, length, IfOk, IfSome, IfNone, OnOk};
 ghost use Rattle.std.specs.Option.{option_copied};
+ghost use Rattle.mv_lawful.specs.Work.{since};
 ghost use Rattle.mv_lawful.specs.Lawful.{Live, Lawful, beginning, course_of, open_call, refusal, floor, next_low, AllAllowed};
 ghost use Rattle.mv_lawful.specs.Outcomes.{outcome_of};
+ghost use Rattle.mv_changes.specs.Commits.{changes_in, AreNumbered, HasWritesOf};
 ghost use Rattle.mv_core.specs.Calls.{IsLive, IsLiveCall, due_number};
-ghost use Rattle.mv_core.specs.Books.{work_in, IsSettled, last_run, last_tables, Made, IsSame, HasBegun, round_event, commit_event, own_number, IsOwnNumber, HasRoom, UsesOne, KeepsRoom, HasRounds};
+ghost use Rattle.mv_core.specs.Books.{work_in, IsSettled, last_run, last_tables, last_changes, Made, IsSame, HasBegun, round_event, commit_event, own_number, IsOwnNumber, HasRoom, UsesOne, KeepsRoom, HasRounds, IsNotStale, AreRecordsOf, IsAnswer};
 ghost use Rattle.mv_journal.specs.declared.event.Event.TheVariants.{S, G};
 ghost use Rattle.mv_journal.specs.declared.outcome.Mark.TheVariants.{Plain, Exclusive};
 
@@ -13,6 +15,8 @@ use crate::live::LiveCalls;
 use crate::progress::{Progress, history_of, live_at, replies_of};
 use crate::roomy::Roomy;
 use crate::script::Script;
+use mv_changes::changes::Changes;
+use mv_changes::recent::{Committed, Recent};
 use mv_exec::task::Task;
 use mv_journal::event::Event;
 use mv_journal::outcome::{Mark, Outcome, Round};
@@ -30,6 +34,17 @@ pub struct Begun {
     pub start: u32,
 }
 
+/// The reasons why a call may commit or not.
+#[derive(Clone, Copy)]
+pub enum Check {
+    /// No commit after its start hits its records. It may commit.
+    Free,
+    /// A commit after its start hits its records: the least record that is hit, and the first commit that hits it.
+    Hit { number: usize, commit: u32 },
+    /// Its start is below low.
+    Stale { start: u32, low: u32 },
+}
+
 /// The history of a run: its script, the events, and their outcome so far. It contains no tables and no running calls.
 /// The law of journals allows each of its events.
 #[derive(Drop)]
@@ -40,6 +55,8 @@ pub struct Book {
     /// The calls that have begun, by number.
     calls: Vec<Progress>,
     live: LiveCalls,
+    /// The changes of the commits after low.
+    recent: Recent,
     low: u32,
     journal: Roomy<Event>,
 }
@@ -60,10 +77,10 @@ impl Model for Book {
       course = record { order = b.order.items; calls = map live_of b.calls.items; low = b.low };
       rounds = map (λ p. p.rounds) b.calls.items;
       journal = b.journal.items;
-      room = min b.order.room b.journal.room;
+      room = min b.order.room (min b.journal.room b.recent.room);
     } };
 
-    ghost invariant = { λ b. IsBook b.script (record { order = b.order.items; calls = map live_of b.calls.items; low = b.low }) b.calls.items b.journal.items b.live };
+    ghost invariant = { λ b. IsBook b.script (record { order = b.order.items; calls = map live_of b.calls.items; low = b.low }) b.calls.items b.journal.items b.live b.recent };
 }
 
 impl Book {
@@ -79,6 +96,7 @@ impl Book {
             order: Roomy::new(alloc),
             calls: Vec::new(alloc),
             live: LiveCalls::new(alloc),
+            recent: Recent::new(alloc),
             low: 0,
             journal: Roomy::new(alloc),
         }
@@ -175,11 +193,18 @@ impl Book {
         self.calls[call as usize].settle(task.executed());
     }
 
-    /// Commits a call with this reply. If a task is given, the call was repaired in the same step, in a round of its
-    /// own. Returns the number of the commit.
-    pub fn commit(&mut self, call: u32, reply: Reply, exclusive: Option<&Task>) -> u32
+    /// Commits a call with this reply and these changes. If a task is given, the call was repaired in the same step, in
+    /// a round of its own. Returns the number of the commit.
+    pub fn commit(
+        &mut self,
+        call: u32,
+        reply: Reply,
+        changes: Changes,
+        exclusive: Option<&Task>,
+    ) -> u32
         requires allowed { refusal (work_in self.old) self.old.course (commit_event (own_number (option_copied exclusive)) call) ≡ None }
         requires reply { reply ≡ (last_run self.old call).reply }
+        requires changes { changes ≡ last_changes self.old call }
         requires settled { IsSettled self.old call }
         requires number { IsOwnNumber (own_number (option_copied exclusive)) self.old call }
         requires room { HasRoom self.old call 1 }
@@ -189,11 +214,13 @@ impl Book {
     {
         let start = self.order.len() as u32;
         let own = own_number(exclusive);
+        let number = start + 1;
         self.calls[call as usize].commit(start, reply, own);
         self.live.remove(call);
         self.order.put(call);
+        remember(&mut self.recent, number, changes);
         self.journal.put(commit_event(own, call));
-        start + 1
+        number
     }
 
     /// Returns the low after a collection.
@@ -206,8 +233,8 @@ impl Book {
         self.low.max(oldest.max(floor))
     }
 
-    /// Collects old versions. Returns the new low: the tables before that commit are no longer needed. Takes time
-    /// linear in the number of live calls.
+    /// Collects old versions. Returns the new low: the tables before that commit are no longer needed, nor the changes
+    /// up to it. Takes time linear in the number of live calls, and over all collections, in the number of commits.
     pub fn collect(&mut self) -> u32
         requires room { 0 < self.old.room }
         ensures made { Made G self.old self.new }
@@ -215,6 +242,7 @@ impl Book {
         ensures room { UsesOne self.old self.new }
     {
         let low = self.next_low();
+        self.recent.trim(low);
         self.low = low;
         self.journal.put(Event::G);
         low
@@ -226,6 +254,7 @@ impl Book {
         ensures same { IsSame self.old self.new }
         ensures room { OnOk result (HasRoom self.new call 2) }
     {
+        self.recent.reserve(2)?;
         self.order.reserve(2)?;
         self.journal.reserve(2)?;
         self.calls[call as usize].reserve()
@@ -265,12 +294,39 @@ impl Book {
         self.order.len() as u32
     }
 
-    /// Returns the calls that have committed since the start of a live call, in order.
-    pub fn since(&self, call: u32) -> &[u32]
-        requires { IsLiveCall self.now.course call }
-        ensures { (l : Live) → IsLive self.now.course call l → result.now ≡ drop l.start self.now.course.order }
+    /// Returns the commits after the start of a live call, with their changes. The call's start may not be below low.
+    pub fn since(&self, call: u32) -> &[Committed]
+        requires live { IsLiveCall self.now.course call }
+        requires fresh { IsNotStale self.now call }
+        ensures changes { (l : Live) → IsLive self.now.course call l → changes_in result.now ≡ since (work_in self.now) self.now.course.order l.start }
+        ensures numbers { (l : Live) → IsLive self.now.course call l → AreNumbered (l.start + 1) result.now }
     {
-        &self.order.as_slice()[self.start(call) as usize..]
+        self.recent.since(self.start(call))
+    }
+
+    /// Validates a live call against the commits after its start. Its task must have executed all its statements at
+    /// that start. Returns `Free` exactly if the law of journals allows its commit. Costs for each predicate of its
+    /// records a trial on each change of its table.
+    pub fn check(&self, call: u32, task: &Task) -> Check
+        requires live { IsLiveCall self.now.course call }
+        requires records { AreRecordsOf self.now call task.now.records }
+        requires writes { HasWritesOf task.now.undo task.now.records }
+        ensures { (l : Live) → IsLive self.now.course call l → IsAnswer result (work_in self.now) self.now.course call l }
+    {
+        let start = self.start(call);
+        if start < self.low {
+            return Check::Stale {
+                start,
+                low: self.low,
+            };
+        }
+        match self.recent.first_hit(start, task.records(), task.undo()) {
+            Some(hit) => Check::Hit {
+                number: hit.number,
+                commit: hit.commit,
+            },
+            None => Check::Free,
+        }
     }
 
     /// Turns the history into the outcome of the run: the replies by call, the commits with their rounds, the events,
@@ -291,6 +347,19 @@ impl Book {
             journal,
             tables,
         })
+    }
+}
+
+/// Adds the changes of a commit. There must be room for it.
+fn remember(recent: &mut Recent, number: u32, changes: Changes)
+    requires next { number ≡ recent.old.low + length recent.old.commits + 1 }
+    requires room { 0 < recent.old.room }
+    ensures low { recent.new.low ≡ recent.old.low }
+    ensures commits { recent.new.commits ≡ recent.old.commits ++ changes ∷ [] }
+    ensures room { recent.old.room ≤ recent.new.room + 1 }
+{
+    if let Err(_) = recent.push(number, changes) {
+        unreachable!();
     }
 }
 

@@ -27,7 +27,8 @@ invariant_of-self-2 c =
     let lt : length c.self.inside.calls.items < length c.self.inside.script.calls = search (rules, c.if-len.false, c.len.ensures, c.len-2.ensures) in
     let fresh : IsFresh (length c.self.inside.order.items) c.in_ok-progress.progress = subst (λ n. IsFresh n c.in_ok-progress.progress) c.len-start.ensures c.in_ok-progress.ensures in
     let live : c.push.new.self ≡ c.self.inside.live ++ length c.self.inside.calls.items ∷ [] = search (rules, c.in_ok-push.ensures.ok, c.len-call.ensures) in
-    subst (λ (ps : List Progress). IsBook c.self.inside.script (the_course c.self.inside.order.items c.self.inside.low (map live_of ps)) ps c.put.new.self.items c.push.new.self) (sym more) (record {
+    subst (λ (ps : List Progress). IsBook c.self.inside.script (the_course c.self.inside.order.items c.self.inside.low (map live_of ps)) ps c.put.new.self.items c.push.new.self c.self.inside.recent) (sym more) (record {
       kept = (kept_begun c.self.inside.script c.self.inside.order.items c.self.inside.low (length c.self.inside.calls.items) c.self.inside.calls.items c.self.inside.journal.items _ c.in_ok-progress.progress c.self.invariant.kept lt refl fresh adds).1;
       live = live ∙ (ap (λ ns. ns ++ length c.self.inside.calls.items ∷ []) c.self.invariant.live ∙ sym (live_comes c.self.inside.calls.items (length c.self.inside.order.items) c.in_ok-progress.progress fresh));
+      recent = c.self.invariant.recent;
     })

@@ -1,21 +1,42 @@
-use Rattle.std.proofs.Common.{arith, ◌≡◌, ◌+◌, ◌∙◌, sym, ap, refl, map}
+use Rattle.std.proofs.Common.{arith, ◌≡◌, ◌≤◌, ◌+◌, ◌∙◌, length, sym, ap, refl, map}
 use Rattle.mv_lawful.specs.Lawful.{next_low}
 use Rattle.mv_core.specs.Scripts.{work_of}
 use Rattle.mv_core.specs.Calls.{live_of}
 use Rattle.mv_core.specs.Books.{Booked, work_in}
 use Rattle.mv_journal.specs.declared.event.Event.TheVariants.{G}
 use Rattle.mv_core.proofs.Keeping.{made_on, the_course, room_same}
-use Rattle.mv_core.proofs.Lows.{kept_low}
+use Rattle.mv_core.proofs.Lows.{kept_low, next_within}
+use Rattle.mv_core.proofs.Recents.{recent_long, recent_trimmed}
 use Rattle.mv_core.proofs.book.Book.collect.Goals as goal
 
 low : (c : goal.After-put) → c.next_low-low.result ≡ next_low (work_of c.self.inside.script) (the_course c.self.inside.order.items c.self.inside.low (map live_of c.self.inside.calls.items))
 low c = c.next_low-low.ensures ∙ ap (λ (b : Booked). next_low (work_in b) b.course) (sym c.self.view_is)
 
+bounds : (c : goal.After-trim-arg-1) → (c.self.inside.low ≤ c.next_low-low.result) × (c.next_low-low.result ≤ length c.self.inside.order.items)
+bounds c =
+    next_within c.self.inside.script c.self.inside.order.items c.self.inside.low c.next_low-low.result c.self.inside.calls.items c.self.invariant.recent.within
+    (c.next_low-low.ensures ∙ ap (λ (b : Booked). next_low (work_in b) b.course) (sym c.self.view_is))
+
+pub trim-requires-clause-rises : goal.trim-requires-clause-rises
+trim-requires-clause-rises c = let from = c.self.invariant.recent.from in let rises = (bounds c).0 in omega (arith, from, rises)
+
+pub trim-requires-clause-within : goal.trim-requires-clause-within
+trim-requires-clause-within c =
+    let long = recent_long (work_of c.self.inside.script) c.self.inside.order.items c.self.inside.low c.self.inside.recent c.self.invariant.recent in
+    let within = (bounds c).1 in
+    omega (arith, long, within)
+
 pub invariant_of-self : goal.invariant_of-self
-invariant_of-self c = record { kept = kept_low c.self.inside.script c.self.inside.order.items c.self.inside.low c.next_low-low.result c.self.inside.calls.items c.self.inside.journal.items _ c.self.invariant.kept (low c) c.put.ensures.items; live = c.self.invariant.live }
+invariant_of-self c = record {
+  kept = kept_low c.self.inside.script c.self.inside.order.items c.self.inside.low c.next_low-low.result c.self.inside.calls.items c.self.inside.journal.items _ c.self.invariant.kept (low c) c.put.ensures.items;
+  live = c.self.invariant.live;
+  recent =
+      let within = next_within c.self.inside.script c.self.inside.order.items c.self.inside.low c.next_low-low.result c.self.inside.calls.items c.self.invariant.recent.within (low c) in
+      recent_trimmed (work_of c.self.inside.script) c.self.inside.order.items c.self.inside.low c.next_low-low.result c.self.inside.recent c.trim.new.self c.self.invariant.recent within.0 within.1 c.trim.ensures.low c.trim.ensures.commits;
+}
 
 pub returns-clause-made : goal.returns-clause-made
 returns-clause-made c = made_on G _ c.args.self.now _ c.self.view_is refl (ap (λ n. the_course c.self.inside.order.items n (map live_of c.self.inside.calls.items)) (low c)) c.put.ensures.items refl
 
 pub returns-clause-room : goal.returns-clause-room
-returns-clause-room c x n has = room_same _ c.args.self.now _ x n (n + 1) c.self.view_is (omega arith) (let r = c.put.ensures.room in omega (arith, r)) has
+returns-clause-room c x n has = room_same _ c.args.self.now _ x n (n + 1) c.self.view_is (omega arith) (let r = c.put.ensures.room in let t = c.trim.ensures.room in omega (arith, r, t)) has

@@ -5,9 +5,10 @@ use Rattle.mv_lawful.specs.Lawful.{Live}
 use Rattle.mv_lawful.specs.Rounds.{rounds_of}
 use Rattle.mv_core.specs.Lives.{without}
 use Rattle.mv_core.specs.Calls.{IsLive, live_of, turns_in, committed, with_own}
-use Rattle.mv_core.specs.Books.{Booked, last_run, commit_event, own_number, IsOwnNumber}
+use Rattle.mv_core.specs.Books.{Booked, last_run, last_changes, commit_event, own_number, IsOwnNumber}
 use Rattle.mv_core.specs.Scripts.{work_of}
 use Rattle.mv_core.proofs.Keeping.{live_leaves, the_course, here_at, Here, few_inside, within, commit_live, number_fits, room_here, settled_here, rounds_committed, kept_commit, commit_after, map_changed, made_on, free_on, room_left}
+use Rattle.mv_core.proofs.Recents.{recent_long, recent_commit}
 use Rattle.mv_core.proofs.book.Book.commit.Goals as goal
 
 pub overflow_cast-start : goal.overflow_cast-start
@@ -25,10 +26,16 @@ commit-requires c = let has : 1 ≤ c.index_mut.result.now.rounds.room = room_he
 here : (c : goal.After-put-2) → (l : Live) × IsLive c.args.self.now.course c.args.call l × Here c.self.inside.calls.items c.args.call l c.index_mut.result.now
 here c = here_at c.self.inside c.args.self.now c.args.call c.index_mut.result.now c.self.view_is (commit_live c.args.self.now (own_number (option_copied c.args.exclusive)) c.args.call c.requires.allowed) c.index_mut.ensures.value
 
-pub overflow_add-result : goal.overflow_add-result
-overflow_add-result c =
+pub overflow_add-number : goal.overflow_add-number
+overflow_add-number c =
     let few : length c.self.inside.order.items + 1 < 2 ^ 32 = number_fits c.self.inside c.args.self.now c.args.call c.self.view_is c.self.invariant.kept (commit_live c.args.self.now (own_number (option_copied c.args.exclusive)) c.args.call c.requires.allowed) in
     search (rules, few, c.len-start.ensures)
+
+pub remember-requires-clause-next : goal.remember-requires-clause-next
+remember-requires-clause-next c =
+    let long = recent_long (work_of c.self.inside.script) c.self.inside.order.items c.self.inside.low c.self.inside.recent c.self.invariant.recent in
+    let start : c.len-start.result ≡ length c.self.inside.order.items = c.len-start.ensures in
+    omega (arith, long, start)
 
 own : (c : goal.After-put-2) → c.own_number-own.result ≡ own_number (option_copied c.args.exclusive)
 own c = c.own_number-own.ensures
@@ -56,6 +63,9 @@ invariant_of-self c = record {
       c.put.ensures.items (search (rules, c.put-2.ensures.items, c.commit_event.ensures, own c)) (here c).2.at (here c).2.going (live c) c.commit.ensures.reply (known c)
       (c.requires.reply ∙ ap (λ (b : Booked). (last_run b c.args.call).reply) (sym c.self.view_is));
   live = c.remove.ensures ∙ (ap (without c.args.call) c.self.invariant.live ∙ sym (live_leaves c.self.inside.calls.items c.args.call c.index_mut.result.now c.commit.new.self c.args.reply (here c).2.at (here c).2.going c.commit.ensures.reply));
+  recent =
+      recent_commit (work_of c.self.inside.script) c.self.inside.order.items _ c.self.inside.low c.args.call c.self.inside.recent c.remember.new.recent c.args.changes c.self.invariant.recent
+      c.put.ensures.items c.remember.ensures.low c.remember.ensures.commits (c.requires.changes ∙ ap (λ (b : Booked). last_changes b c.args.call) (sym c.self.view_is));
 }
 
 pub returns-clause-made : goal.returns-clause-made
@@ -68,4 +78,4 @@ returns-clause-made c =
 
 pub returns-clause-room : goal.returns-clause-room
 returns-clause-room c x n has =
-    room_left _ c.args.self.now _ c.self.inside.calls.items c.args.call x n (n + 1) c.index_mut.result.now c.commit.new.self c.self.view_is refl (here c).2.at (omega arith) (let r = c.put.ensures.room in let q = c.put-2.ensures.room in omega (arith, r, q)) (let r = c.commit.ensures.room in omega (arith, r)) has
+    room_left _ c.args.self.now _ c.self.inside.calls.items c.args.call x n (n + 1) c.index_mut.result.now c.commit.new.self c.self.view_is refl (here c).2.at (omega arith) (let r = c.put.ensures.room in let q = c.put-2.ensures.room in let p = c.remember.ensures.room in omega (arith, r, q, p)) (let r = c.commit.ensures.room in omega (arith, r)) has

@@ -21,6 +21,7 @@ invariant_of-self c = record {
       kept_one _ _ _ c.args.call c.self.inside.calls.items _ _ (S c.args.call) (λ l. record l { steps = l.steps + 1 }) c.index_mut.result.now _ c.self.invariant.kept
       (free_on (S c.args.call) _ c.args.self.now c.self.view_is c.requires.allowed) refl c.put.ensures.items (here c).2.at refl (c.self.invariant.kept.tells c.args.call c.index_mut.result.now (here c).2.at);
   live = c.self.invariant.live ∙ sym (live_stays c.self.inside.calls.items c.args.call c.index_mut.result.now _ (here c).2.at refl);
+  recent = c.self.invariant.recent;
 }
 
 pub returns-clause-made : goal.returns-clause-made

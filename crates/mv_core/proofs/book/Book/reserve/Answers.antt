@@ -3,27 +3,30 @@ use Rattle.std.specs.Prelude.{OnOk}
 use Rattle.mv_values.specs.declared.memory.NoMemory.{NoMemory}
 use Rattle.mv_lawful.specs.Lawful.{Live}
 use Rattle.mv_core.specs.Calls.{live_of}
+use Rattle.mv_core.specs.Scripts.{work_of}
 use Rattle.mv_core.specs.Books.{Booked, kept_rounds}
 use Rattle.mv_core.proofs.Keeping.{live_stays, the_course, here_at, kept_same_told, same_calls, same_rounds, room_set}
+use Rattle.mv_core.proofs.Recents.{recent_same}
 use Rattle.mv_core.proofs.book.Book.reserve.Goals as goal
 
 pub invariant_of-self-2 : goal.invariant_of-self-2
 invariant_of-self-2 c = record {
   kept =
-      kept_same_told c.self.inside.script c.self.inside.order.items _ c.self.inside.low c.args.call c.self.inside.calls.items c.self.inside.journal.items _ c.index_mut.result.now c.reserve-3.new.self
-      c.self.invariant.kept c.reserve.ensures.items c.reserve-2.ensures.items (here_at c.self.inside c.args.self.now c.args.call c.index_mut.result.now c.self.view_is c.requires.live c.index_mut.ensures.value).2.at c.reserve-3.ensures.live c.reserve-3.ensures.rounds c.reserve-3.ensures.reply;
-  live = c.self.invariant.live ∙ sym (live_stays c.self.inside.calls.items c.args.call c.index_mut.result.now c.reserve-3.new.self (here_at c.self.inside c.args.self.now c.args.call c.index_mut.result.now c.self.view_is c.requires.live c.index_mut.ensures.value).2.at c.reserve-3.ensures.reply);
+      kept_same_told c.self.inside.script c.self.inside.order.items _ c.self.inside.low c.args.call c.self.inside.calls.items c.self.inside.journal.items _ c.index_mut.result.now c.reserve-4.new.self
+      c.self.invariant.kept c.reserve-2.ensures.items c.reserve-3.ensures.items (here_at c.self.inside c.args.self.now c.args.call c.index_mut.result.now c.self.view_is c.requires.live c.index_mut.ensures.value).2.at c.reserve-4.ensures.live c.reserve-4.ensures.rounds c.reserve-4.ensures.reply;
+  live = c.self.invariant.live ∙ sym (live_stays c.self.inside.calls.items c.args.call c.index_mut.result.now c.reserve-4.new.self (here_at c.self.inside c.args.self.now c.args.call c.index_mut.result.now c.self.view_is c.requires.live c.index_mut.ensures.value).2.at c.reserve-4.ensures.reply);
+  recent = recent_same (work_of c.self.inside.script) c.self.inside.order.items _ c.self.inside.low c.self.inside.recent _ c.self.invariant.recent c.reserve-2.ensures.items c.reserve.ensures.low c.reserve.ensures.commits;
 }
 
 pub returns-clause-same : goal.returns-clause-same
 returns-clause-same c = record {
   script = ap (λ (b : Booked). b.script) c.self.view_is;
   course =
-      ap (λ (o : List ℕ). the_course o c.self.inside.low (map live_of (slice_set c.self.inside.calls.items c.args.call c.reserve-3.new.self))) c.reserve.ensures.items
-      ∙ (ap (λ (ls : List Live). the_course c.self.inside.order.items c.self.inside.low ls) (same_calls c.self.inside.calls.items c.args.call c.index_mut.result.now c.reserve-3.new.self (here_at c.self.inside c.args.self.now c.args.call c.index_mut.result.now c.self.view_is c.requires.live c.index_mut.ensures.value).2.at c.reserve-3.ensures.live)
+      ap (λ (o : List ℕ). the_course o c.self.inside.low (map live_of (slice_set c.self.inside.calls.items c.args.call c.reserve-4.new.self))) c.reserve-2.ensures.items
+      ∙ (ap (λ (ls : List Live). the_course c.self.inside.order.items c.self.inside.low ls) (same_calls c.self.inside.calls.items c.args.call c.index_mut.result.now c.reserve-4.new.self (here_at c.self.inside c.args.self.now c.args.call c.index_mut.result.now c.self.view_is c.requires.live c.index_mut.ensures.value).2.at c.reserve-4.ensures.live)
       ∙ ap (λ (b : Booked). b.course) c.self.view_is);
-  rounds = same_rounds c.self.inside.calls.items c.args.call c.index_mut.result.now c.reserve-3.new.self (here_at c.self.inside c.args.self.now c.args.call c.index_mut.result.now c.self.view_is c.requires.live c.index_mut.ensures.value).2.at c.reserve-3.ensures.rounds ∙ ap (λ (b : Booked). map kept_rounds b.rounds) c.self.view_is;
-  journal = c.reserve-2.ensures.items ∙ ap (λ (b : Booked). b.journal) c.self.view_is;
+  rounds = same_rounds c.self.inside.calls.items c.args.call c.index_mut.result.now c.reserve-4.new.self (here_at c.self.inside c.args.self.now c.args.call c.index_mut.result.now c.self.view_is c.requires.live c.index_mut.ensures.value).2.at c.reserve-4.ensures.rounds ∙ ap (λ (b : Booked). map kept_rounds b.rounds) c.self.view_is;
+  journal = c.reserve-3.ensures.items ∙ ap (λ (b : Booked). b.journal) c.self.view_is;
 }
 
 on_ok : {P Q : Type 0} (r : Result (Unit {0}) NoMemory) → OnOk r P → (P → Q) → OnOk r Q
@@ -31,7 +34,8 @@ on_ok (Ok x) p f = f p
 on_ok (Err e) p f = tt
 
 pub returns-clause-room : goal.returns-clause-room
-returns-clause-room c = on_ok c.reserve-3.result c.reserve-3.ensures.room (λ enough.
-    let a = c.in_ok-reserve.ensures.room in
-    let b = c.in_ok-reserve-2.ensures.room in
-    (omega (arith, a, b), λ f there. room_set c.self.inside.calls.items c.args.call 2 c.index_mut.result.now c.reserve-3.new.self (here_at c.self.inside c.args.self.now c.args.call c.index_mut.result.now c.self.view_is c.requires.live c.index_mut.ensures.value).2.at enough f there))
+returns-clause-room c = on_ok c.reserve-4.result c.reserve-4.ensures.room (λ enough.
+    let r = c.in_ok-reserve.ensures.ok in
+    let a = c.in_ok-reserve-2.ensures.room in
+    let b = c.in_ok-reserve-3.ensures.room in
+    (omega (arith, r, a, b), λ f there. room_set c.self.inside.calls.items c.args.call 2 c.index_mut.result.now c.reserve-4.new.self (here_at c.self.inside c.args.self.now c.args.call c.index_mut.result.now c.self.view_is c.requires.live c.index_mut.ensures.value).2.at enough f there))

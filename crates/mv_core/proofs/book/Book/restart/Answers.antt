@@ -38,6 +38,7 @@ invariant_of-self c = record {
       (start c) c.restart.ensures.steps (search (rules, c.restart.ensures.rounds, c.len-start.ensures)) c.restart.ensures.reply
       (search (rules, c.put.ensures.items, c.round_event.ensures));
   live = c.self.invariant.live ∙ sym (live_stays c.self.inside.calls.items c.args.call c.index_mut.result.now c.restart.new.self (here c).2.at c.restart.ensures.reply);
+  recent = c.self.invariant.recent;
 }
 
 pub returns-clause-made : goal.returns-clause-made

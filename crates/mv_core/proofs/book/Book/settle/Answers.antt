@@ -13,6 +13,7 @@ invariant_of-self c = record {
       (subst (λ (b : Booked). due_number (work_in b) b.course c.args.call ≡ Some c.executed.result) (sym c.self.view_is) (c.requires.number ∙ ap Some (sym c.executed.ensures)))
       c.settle.ensures.start c.settle.ensures.steps c.settle.ensures.rounds c.settle.ensures.reply;
   live = c.self.invariant.live ∙ sym (live_stays c.self.inside.calls.items c.args.call c.index_mut.result.now c.settle.new.self (here_at c.self.inside c.args.self.now c.args.call c.index_mut.result.now c.self.view_is c.requires.live c.index_mut.ensures.value).2.at c.settle.ensures.reply);
+  recent = c.self.invariant.recent;
 }
 
 pub returns-clause-settled : goal.returns-clause-settled

@@ -1,0 +1,30 @@
+use Rattle.std.proofs.Common.{arith, ◌≡◌, ◌≤◌, ◌<◌, sym, ◌∙◌}
+use Rattle.mv_core.specs.Books.{work_in}
+use Rattle.mv_core.proofs.Recents.{recent_seen, low_seen, answers_free, answers_hit, answers_stale}
+use Rattle.mv_core.proofs.book.Book.check.Goals as goal
+
+pub first_hit-requires-clause-start : goal.first_hit-requires-clause-start
+first_hit-requires-clause-start c =
+    let from = c.self.invariant.recent.from in
+    let not = c.if-start-self.false in
+    omega (arith, from, not)
+
+pub returns-then-start-self : goal.returns-then-start-self
+returns-then-start-self c l live =
+    answers_stale (work_in c.args.self.now) c.args.self.now.course c.args.call c.start-start.result c.self.inside.low l live (c.start-start.ensures.value l live) (low_seen c.self.inside c.args.self.now c.self.view_is) c.if-start-self.true
+
+pub returns-in-Some : goal.returns-in-Some
+returns-in-Some c l live =
+    let start = c.start-start.ensures.value l live in
+    let low = low_seen c.self.inside c.args.self.now c.self.view_is in
+    let not = c.if-start-self.false in
+    answers_hit (work_in c.args.self.now) c.args.self.now.course c.args.call c.start-start.result l c.self.inside.recent c.records.result.now c.in-Some.hit live
+    (recent_seen c.self.inside c.args.self.now c.self.view_is c.self.invariant.recent) start (omega (arith, start, low, not)) (c.records.ensures ∙ c.requires.records l live) (sym c.in-Some.ensures)
+
+pub returns-in-None : goal.returns-in-None
+returns-in-None c l live =
+    let start = c.start-start.ensures.value l live in
+    let low = low_seen c.self.inside c.args.self.now c.self.view_is in
+    let not = c.if-start-self.false in
+    answers_free (work_in c.args.self.now) c.args.self.now.course c.args.call c.start-start.result l c.self.inside.recent c.records.result.now live
+    (recent_seen c.self.inside c.args.self.now c.self.view_is c.self.invariant.recent) start (omega (arith, start, low, not)) (c.records.ensures ∙ c.requires.records l live) (sym c.in-None.ensures)
