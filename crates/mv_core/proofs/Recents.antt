@@ -1,6 +1,5 @@
 -- The changes of the last commits, and what they say of a call.
-use Rattle.std.proofs.Common.{◌≡◌, ℕ, ◌+◌, ◌-◌, ◌<◌, ◌≤◌, Bool, true, false, not, List, [], ◌∷◌, ◌++◌, Option, Some, None, length, take, drop, is_some, refl, sym, ap, subst, ◌∙◌, arith, length-append, rules}
-use Rattle.std.specs.Prelude.{nat_lt}
+use Rattle.std.proofs.Common.{◌≡◌, ℕ, ◌+◌, ◌-◌, ◌<◌, ◌≤◌, Bool, true, false, not, List, [], ◌∷◌, ◌++◌, Option, Some, None, length, drop, is_some, refl, sym, ap, subst, ◌∙◌, arith, length-append, rules}
 use Rattle.std.proofs.lemmas.List.{drop-drop, drop-append-le, length-drop, take_all}
 use Rattle.mv_record.specs.declared.record.Record.{Record}
 use Rattle.mv_history.specs.declared.change.Change.{Change}
@@ -17,7 +16,7 @@ use Rattle.mv_core.specs.declared.book.Check.TheVariants as check
 use Rattle.mv_core.specs.contracts.book.Book.{the_view}
 use Rattle.mv_core.specs.Scripts.{work_of}
 use Rattle.mv_core.specs.Calls.{IsLive}
-use Rattle.mv_core.specs.Books.{Booked, IsRecent, IsNotStale, IsAnswer, work_in}
+use Rattle.mv_core.specs.Books.{Booked, IsRecent, IsAnswer, work_in}
 use Rattle.mv_core.proofs.Numbers.{changes_more, changes_long}
 
 pub recent_since : (w : Work) (order : List ℕ) (low start : ℕ) (r : Window) → IsRecent w order low r → low ≤ start → drop (start - r.low) r.commits ≡ since w order start

@@ -1,4 +1,4 @@
-use Rattle.std.proofs.Common.{arith, ◌≡◌, ◌≤◌, ◌<◌, sym, ◌∙◌}
+use Rattle.std.proofs.Common.{arith, sym, ◌∙◌}
 use Rattle.mv_core.specs.Books.{work_in}
 use Rattle.mv_core.proofs.Recents.{recent_seen, low_seen, answers_free, answers_hit, answers_stale}
 use Rattle.mv_core.proofs.book.Book.check.Goals as goal

@@ -1,4 +1,4 @@
-use Rattle.std.proofs.Common.{arith, ◌≡◌, ◌≤◌, ◌+◌, ap, subst, ◌∙◌}
+use Rattle.std.proofs.Common.{arith, ◌≡◌, ◌+◌, ap, subst, ◌∙◌}
 use Rattle.mv_lawful.specs.Work.{since}
 use Rattle.mv_changes.specs.Commits.{AreNumbered}
 use Rattle.mv_core.specs.Books.{work_in}
