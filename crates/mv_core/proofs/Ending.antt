@@ -12,7 +12,7 @@ use Rattle.mv_journal.specs.declared.outcome.Outcome.{Outcome}
 use Rattle.mv_journal.specs.declared.outcome.Round.{Round}
 use Rattle.mv_lawful.specs.declared.fault.Wrong.TheVariants.{Open}
 use Rattle.mv_lawful.specs.Work.{table_at}
-use Rattle.mv_lawful.specs.Lawful.{Live, Course, beginning, open_call, Lawful}
+use Rattle.mv_lawful.specs.Lawful.{Live, Course, beginning, course_of, open_call, Lawful}
 use Rattle.mv_lawful.specs.Rounds.{rounds_of}
 use Rattle.mv_lawful.specs.Outcomes.{reply_in, reply_after, turns_of, history_line, numbers, outcome_at, outcome_of}
 use Rattle.mv_core.specs.declared.book.Book.TheInside.{Inside}
@@ -107,41 +107,18 @@ order_within i k n c lt =
     let long : length (map live_of i.calls.items) ≡ length i.calls.items = length-map i.calls.items live_of in
     (omega (arith, within, long))
 
-pub comes_to : (i : Inside) (o : Outcome) → IsInside i → open_call (work_of i.script) (the_course i.order.items i.low (map live_of i.calls.items)) ≡ None
-    → o.replies ≡ replies_in i.calls.items → o.history ≡ map (line_of i.calls.items) i.order.items → o.journal ≡ i.journal.items
-    → o.tables ≡ table_at (work_of i.script) i.order.items (length i.order.items)
-    → o ≡ outcome_of (work_of i.script) i.journal.items
-comes_to i o k shut replies history journal tables =
-    made (replies ∙ all_replies) (history ∙ lines_are i.script i.order.items i.order.items i.low i.calls.items ordered) journal tables
-    ∙ ap (λ (c : Course). outcome_at (work_of i.script) c i.journal.items) k.reaches where
-      here : Course
-      here = the_course i.order.items i.low (map live_of i.calls.items)
+done_inside : (i : Inside) → IsInside i → open_call (work_of i.script) (the_course i.order.items i.low (map live_of i.calls.items)) ≡ None → (c : ℕ) → c < length i.calls.items → Done i.script i.order.items i.calls.items c
+done_inside i k shut c lt =
+    let many = all_there i.script i.order.items i.low i.calls.items i.journal.items k shut in
+    let d = all_done (work_of i.script) (the_course i.order.items i.low (map live_of i.calls.items)) shut c (omega (arith, lt, many)) in
+    done_at i.script i.order.items i.low i.calls.items i.journal.items c k d.0 d.1 d.2
 
-      f : Facts (work_of i.script) (length i.journal.items) here
-      f = facts i.script _ i.calls.items i.journal.items k
-
-      many : length i.calls.items ≡ length i.script.calls
-      many = all_there i.script i.order.items i.low i.calls.items i.journal.items k shut
-
-      done : (c : ℕ) → c < length i.calls.items → Done i.script i.order.items i.calls.items c
-      done c lt = let d = all_done (work_of i.script) here shut c (omega (arith, lt, many)) in done_at i.script i.order.items i.low i.calls.items i.journal.items c k d.0 d.1 d.2
-
-      ordered : (n c : ℕ) → slice_get i.order.items n ≡ Some c → Done i.script i.order.items i.calls.items c
-      ordered n c at = let b = f.back n c at in done_at i.script i.order.items i.low i.calls.items i.journal.items c k b.0 b.1 b.2
-
-      all_replies : replies_in i.calls.items ≡ map (reply_in (work_of i.script) i.order.items) (numbers (length i.script.calls))
-      all_replies =
-          ap replies_in (sym (take_all (length i.calls.items) i.calls.items (omega arith)))
-          ∙ (front_replies i.script i.order.items i.calls.items (length i.calls.items) (omega arith) done
-          ∙ ap (λ n. map (reply_in (work_of i.script) i.order.items) (numbers n)) many)
-
-      made : o.replies ≡ map (reply_in (work_of i.script) i.order.items) (numbers (length i.script.calls)) → o.history ≡ map (history_line (work_of i.script) here) i.order.items
-          → o.journal ≡ i.journal.items → o.tables ≡ table_at (work_of i.script) i.order.items (length i.order.items) → o ≡ outcome_at (work_of i.script) here i.journal.items
-      made a b c d =
-          ap (λ x. record { replies = x; history = o.history; journal = o.journal; tables = o.tables }) a
-          ∙ (ap (λ x. record { replies = map (reply_in (work_of i.script) i.order.items) (numbers (length i.script.calls)); history = x; journal = o.journal; tables = o.tables }) b
-          ∙ (ap (λ x. record { replies = map (reply_in (work_of i.script) i.order.items) (numbers (length i.script.calls)); history = map (history_line (work_of i.script) here) i.order.items; journal = x; tables = o.tables }) c
-          ∙ ap (λ x. record { replies = map (reply_in (work_of i.script) i.order.items) (numbers (length i.script.calls)); history = map (history_line (work_of i.script) here) i.order.items; journal = i.journal.items; tables = x }) d))
+replies_inside : (i : Inside) → IsInside i → open_call (work_of i.script) (the_course i.order.items i.low (map live_of i.calls.items)) ≡ None
+    → replies_in i.calls.items ≡ map (reply_in (work_of i.script) i.order.items) (numbers (length i.script.calls))
+replies_inside i k shut =
+    ap replies_in (sym (take_all (length i.calls.items) i.calls.items (omega arith)))
+    ∙ (front_replies i.script i.order.items i.calls.items (length i.calls.items) (omega arith) (done_inside i k shut)
+    ∙ ap (λ n. map (reply_in (work_of i.script) i.order.items) (numbers n)) (all_there i.script i.order.items i.low i.calls.items i.journal.items k shut))
 
 pub ends_lawful : (i : Inside) → IsInside i → open_call (work_of i.script) (the_course i.order.items i.low (map live_of i.calls.items)) ≡ None → Lawful (work_of i.script) i.journal.items
 ends_lawful i k shut =
@@ -161,8 +138,33 @@ pub lawful_of : (i : Inside) (old : Booked) → the_view i ≡ old → IsInside 
 lawful_of i old is k shut =
     subst (λ (b : Booked). Lawful (work_in b) b.journal) is (ends_lawful i k (subst (λ (b : Booked). open_call (work_in b) b.course ≡ None) (sym is) shut))
 
-pub outcome_told : (i : Inside) (old : Booked) (o : Outcome) → the_view i ≡ old → IsInside i → open_call (work_in old) old.course ≡ None
-    → o.replies ≡ replies_in i.calls.items → o.history ≡ map (line_of i.calls.items) i.order.items → o.journal ≡ i.journal.items → o.tables ≡ last_tables old
-    → o ≡ outcome_of (work_in old) old.journal
-outcome_told i old o is k shut replies history journal tables =
-    comes_to i o k (subst (λ (b : Booked). open_call (work_in b) b.course ≡ None) (sym is) shut) replies history journal (tables ∙ ap last_tables (sym is)) ∙ ap (λ (b : Booked). outcome_of (work_in b) b.journal) is
+-- the commits with their rounds
+pub history_told : (i : Inside) (old : Booked) → the_view i ≡ old → IsInside i → map (line_of i.calls.items) i.order.items ≡ map (history_line (work_in old) old.course) old.course.order
+history_told i old is k = lines_are i.script i.order.items i.order.items i.low i.calls.items committed ∙ ap (λ (b : Booked). map (history_line (work_in b) b.course) b.course.order) is where
+  f : Facts (work_of i.script) (length i.journal.items) (the_course i.order.items i.low (map live_of i.calls.items))
+  f = facts i.script _ i.calls.items i.journal.items k
+
+  committed : (n c : ℕ) → slice_get i.order.items n ≡ Some c → Done i.script i.order.items i.calls.items c
+  committed n c at = let b = f.back n c at in done_at i.script i.order.items i.low i.calls.items i.journal.items c k b.0 b.1 b.2
+
+-- the replies, where each call has committed
+pub replies_told : (i : Inside) (old : Booked) → the_view i ≡ old → IsInside i → open_call (work_in old) old.course ≡ None
+    → replies_in i.calls.items ≡ map (reply_in (work_in old) old.course.order) (numbers (work_in old).count)
+replies_told i old is k shut =
+    replies_inside i k (subst (λ (b : Booked). open_call (work_in b) b.course ≡ None) (sym is) shut)
+    ∙ ap (λ (b : Booked). map (reply_in (work_in b) b.course.order) (numbers (work_in b).count)) is
+
+pub outcome_told : (i : Inside) (old : Booked) (o : Outcome) → the_view i ≡ old → IsInside i
+    → o.replies ≡ map (reply_in (work_in old) old.course.order) (numbers (work_in old).count) → o.history ≡ map (history_line (work_in old) old.course) old.course.order
+    → o.journal ≡ old.journal → o.tables ≡ last_tables old → o ≡ outcome_of (work_in old) old.journal
+outcome_told i old o is k replies history journal tables =
+    ap (λ x. record { replies = x; history = o.history; journal = o.journal; tables = o.tables }) replies
+    ∙ (ap (λ x. record { replies = all; history = x; journal = o.journal; tables = o.tables }) history
+    ∙ (ap (λ x. record { replies = all; history = lines; journal = x; tables = o.tables }) journal
+    ∙ (ap (λ x. record { replies = all; history = lines; journal = old.journal; tables = x }) tables
+    ∙ ap (λ (c : Course). outcome_at (work_in old) c old.journal) (subst (λ (b : Booked). b.course ≡ course_of (work_in b) b.journal) is k.reaches)))) where
+      all : List Reply
+      all = map (reply_in (work_in old) old.course.order) (numbers (work_in old).count)
+
+      lines : List HistoryLine
+      lines = map (history_line (work_in old) old.course) old.course.order

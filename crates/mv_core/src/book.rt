@@ -1,10 +1,10 @@
 //! The history of a run: its events, and their outcome so far.
 
-ghost use Rattle.std.specs.Prelude.{◌≡◌, ◌<◌, ◌≤◌, ◌+◌, ◌++◌, ◌∷◌, ◌^◌, ◌≢◌, [], None, Some, length, IfOk, IfSome, IfNone, OnOk};
+ghost use Rattle.std.specs.Prelude.{◌≡◌, ◌<◌, ◌≤◌, ◌+◌, ◌++◌, ◌∷◌, ◌^◌, ◌≢◌, [], None, Some, length, map, IfOk, IfSome, IfNone, OnOk};
 ghost use Rattle.std.specs.Option.{option_copied};
 ghost use Rattle.mv_lawful.specs.Work.{since};
 ghost use Rattle.mv_lawful.specs.Lawful.{Live, Lawful, beginning, course_of, open_call, refusal, floor, next_low, AllAllowed};
-ghost use Rattle.mv_lawful.specs.Outcomes.{outcome_of};
+ghost use Rattle.mv_lawful.specs.Outcomes.{history_line, numbers, outcome_of, reply_in};
 ghost use Rattle.mv_changes.specs.Commits.{changes_in, AreNumbered, HasWritesOf};
 ghost use Rattle.mv_core.specs.Calls.{IsLive, IsLiveCall, due_number};
 ghost use Rattle.mv_core.specs.Books.{work_in, IsSettled, last_run, last_tables, last_changes, Made, IsSame, HasBegun, round_event, commit_event, own_number, IsOwnNumber, HasRoom, UsesOne, KeepsRoom, HasRounds, IsNotStale, AreRecordsOf, IsAnswer};
@@ -19,7 +19,7 @@ use mv_changes::changes::Changes;
 use mv_changes::recent::{Committed, Recent};
 use mv_exec::task::Task;
 use mv_journal::event::Event;
-use mv_journal::outcome::{Mark, Outcome, Round};
+use mv_journal::outcome::{HistoryLine, Mark, Outcome, Round};
 use mv_values::calls::Reply;
 use mv_values::list::List;
 use mv_values::memory::NoMemory;
@@ -141,9 +141,9 @@ impl Book {
         }
         let call = self.calls.len() as u32;
         let start = self.order.len() as u32;
-        let progress = Progress::new(alloc, start)?;
         self.journal.reserve(1)?;
         self.calls.reserve(1)?;
+        let progress = Progress::new(alloc, start)?;
         self.live.push(call)?;
         if self.calls.push(progress).is_err() {
             unreachable!();
@@ -329,6 +329,30 @@ impl Book {
         }
     }
 
+    /// Returns the commits, in order, with the rounds of their calls.
+    fn history(&self, alloc: Global) -> Result<List<HistoryLine>, NoMemory>
+        ensures { IfOk result (λ history. history ≡ map (history_line (work_in self.now) self.now.course) self.now.course.order) }
+    {
+        history_of(alloc, self.calls.as_slice(), self.order.as_slice())
+    }
+
+    /// Returns a copy of the events.
+    fn events(&self, alloc: Global) -> Result<List<Event>, NoMemory>
+        ensures { IfOk result (λ events. events ≡ self.now.journal) }
+    {
+        let mut events = List::new(alloc);
+        events.append(self.journal.as_slice())?;
+        Ok(events)
+    }
+
+    /// Returns the replies, by call.
+    fn replies(self, alloc: Global) -> Result<List<Reply>, NoMemory>
+        requires { open_call (work_in self) self.course ≡ None }
+        ensures { IfOk result (λ replies. replies ≡ map (reply_in (work_in self) self.course.order) (numbers (work_in self).count)) }
+    {
+        replies_of(alloc, self.calls)
+    }
+
     /// Turns the history into the outcome of the run: the replies by call, the commits with their rounds, the events,
     /// and these tables, which are those after all commits. Its journal is lawful.
     pub fn outcome(self, alloc: Global, tables: Database) -> Result<Outcome, NoMemory>
@@ -337,10 +361,9 @@ impl Book {
         ensures outcome { IfOk result (λ outcome. outcome ≡ outcome_of (work_in self) self.journal) }
         ensures lawful { Lawful (work_in self) self.journal }
     {
-        let history = history_of(alloc, self.calls.as_slice(), self.order.as_slice())?;
-        let mut journal = List::new(alloc);
-        journal.append(self.journal.as_slice())?;
-        let replies = replies_of(alloc, self.calls)?;
+        let history = self.history(alloc)?;
+        let journal = self.events(alloc)?;
+        let replies = self.replies(alloc)?;
         Ok(Outcome {
             replies,
             history,
