@@ -329,20 +329,15 @@ impl Book {
         }
     }
 
-    /// Returns the commits, in order, with the rounds of their calls.
-    fn history(&self, alloc: Global) -> Result<List<HistoryLine>, NoMemory>
-        ensures { IfOk result (λ history. history ≡ map (history_line (work_in self.now) self.now.course) self.now.course.order) }
+    /// Returns the commits, in order, with the rounds of their calls, and a copy of the events.
+    fn copies(&self, alloc: Global) -> Result<(List<HistoryLine>, List<Event>), NoMemory>
+        ensures history { IfOk result (λ copies. copies.0 ≡ map (history_line (work_in self.now) self.now.course) self.now.course.order) }
+        ensures events { IfOk result (λ copies. copies.1 ≡ self.now.journal) }
     {
-        history_of(alloc, self.calls.as_slice(), self.order.as_slice())
-    }
-
-    /// Returns a copy of the events.
-    fn events(&self, alloc: Global) -> Result<List<Event>, NoMemory>
-        ensures { IfOk result (λ events. events ≡ self.now.journal) }
-    {
+        let history = history_of(alloc, self.calls.as_slice(), self.order.as_slice())?;
         let mut events = List::new(alloc);
         events.append(self.journal.as_slice())?;
-        Ok(events)
+        Ok((history, events))
     }
 
     /// Returns the replies, by call.
@@ -361,8 +356,7 @@ impl Book {
         ensures outcome { IfOk result (λ outcome. outcome ≡ outcome_of (work_in self) self.journal) }
         ensures lawful { Lawful (work_in self) self.journal }
     {
-        let history = self.history(alloc)?;
-        let journal = self.events(alloc)?;
+        let (history, journal) = self.copies(alloc)?;
         let replies = self.replies(alloc)?;
         Ok(Outcome {
             replies,
