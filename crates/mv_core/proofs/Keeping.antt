@@ -292,6 +292,16 @@ all_begun i old is k le =
     let here : length (the_view i).course.calls ≡ length (the_view i).script.calls = omega (arith, f.count, long, le) in
     (subst (λ (b : Booked). length b.course.calls ≡ length b.script.calls) is here, record { script = refl; course = refl; rounds = refl; journal = refl })
 
+-- the next call has begun
+pub begun_made : (i : Inside) (old new : Booked) (n : ℕ) (ps : List Progress) (q : Progress) → the_view i ≡ old → IsInside i → length i.calls.items < length i.script.calls → n ≡ length i.calls.items
+    → IsFresh (length i.order.items) q → ps ≡ i.calls.items ++ q ∷ [] → new.script ≡ i.script → new.course ≡ the_course i.order.items i.low (map live_of ps) → new.journal ≡ i.journal.items ++ B n ∷ []
+    → Made (B n) old new
+begun_made i old new n ps q is k lt number fresh more script course journal =
+    made_on (B n) (the_view i) old new is (subst (λ (b : Booked). refusal (work_in b) b.course (B n) ≡ None) is free)
+    (course ∙ ap (the_course i.order.items i.low) (ap (map live_of) more ∙ (map-append live_of i.calls.items (q ∷ []) ∙ ap (λ l. map live_of i.calls.items ++ l ∷ []) fresh.live))) journal script where
+      free : refusal (work_of i.script) (the_course i.order.items i.low (map live_of i.calls.items)) (B n) ≡ None
+      free = (kept_begun i.script i.order.items i.low n i.calls.items i.journal.items new.journal q k lt number fresh journal).0
+
 -- A repair or a move
 
 pub live_made : (a b : Live) → a.start ≡ b.start → a.turns ≡ b.turns → a.steps ≡ b.steps → a.done ≡ b.done → a ≡ b

@@ -4,8 +4,8 @@ use Rattle.mv_core.specs.declared.progress.Progress.{Progress}
 use Rattle.std.specs.Prelude.{All}
 use Rattle.mv_core.specs.Lives.{live_numbers}
 use Rattle.mv_core.specs.Calls.{live_of, IsFresh}
-use Rattle.mv_core.specs.Books.{IsBook}
-use Rattle.mv_core.proofs.Keeping.{few_inside, live_within, live_comes, kept_begun, the_course, all_begun}
+use Rattle.mv_core.specs.Books.{Booked, IsBook}
+use Rattle.mv_core.proofs.Keeping.{few_inside, live_within, live_comes, kept_begun, begun_made, the_course, all_begun}
 use Rattle.mv_core.proofs.book.Book.begin.Goals as goal
 
 pub returns-then-len : goal.returns-then-len
@@ -20,15 +20,32 @@ push-requires c =
     subst (All (λ d. d < c.len-call.result)) (sym c.self.invariant.live)
     (subst (λ n. All (λ d. d < n) (live_numbers (map live_of c.self.inside.calls.items))) (sym is) (live_within c.self.inside.calls.items))
 
+more : (c : goal.After-put) → c.push-2.new.self.items ≡ c.self.inside.calls.items ++ c.in_ok-progress.progress ∷ []
+more c = search (rules, c.push-2.ensures.items, c.if-is_err.false, c.is_err.ensures.value, c.reserve-2.ensures.items)
+
+number : (c : goal.After-put) → c.len-call.result ≡ length c.self.inside.calls.items
+number c = search (rules, c.len-call.ensures)
+
+less : (c : goal.After-put) → length c.self.inside.calls.items < length c.self.inside.script.calls
+less c = search (rules, c.if-len.false, c.len.ensures, c.len-2.ensures)
+
+fresh : (c : goal.After-put) → IsFresh (length c.self.inside.order.items) c.in_ok-progress.progress
+fresh c = subst (λ n. IsFresh n c.in_ok-progress.progress) c.len-start.ensures c.in_ok-progress.ensures
+
+adds : (c : goal.After-put) → c.put.new.self.items ≡ c.self.inside.journal.items ++ B c.len-call.result ∷ []
+adds c = search (rules, c.put.ensures.items, c.reserve.ensures.items)
+
 pub invariant_of-self-2 : goal.invariant_of-self-2
 invariant_of-self-2 c =
-    let more : c.push-2.new.self.items ≡ c.self.inside.calls.items ++ c.in_ok-progress.progress ∷ [] = search (rules, c.push-2.ensures.items, c.if-is_err.false, c.is_err.ensures.value, c.reserve-2.ensures.items) in
-    let adds : c.put.new.self.items ≡ c.self.inside.journal.items ++ B (length c.self.inside.calls.items) ∷ [] = search (rules, c.put.ensures.items, c.reserve.ensures.items, c.len-call.ensures) in
-    let lt : length c.self.inside.calls.items < length c.self.inside.script.calls = search (rules, c.if-len.false, c.len.ensures, c.len-2.ensures) in
-    let fresh : IsFresh (length c.self.inside.order.items) c.in_ok-progress.progress = subst (λ n. IsFresh n c.in_ok-progress.progress) c.len-start.ensures c.in_ok-progress.ensures in
     let live : c.push.new.self ≡ c.self.inside.live ++ length c.self.inside.calls.items ∷ [] = search (rules, c.in_ok-push.ensures.ok, c.len-call.ensures) in
-    subst (λ (ps : List Progress). IsBook c.self.inside.script (the_course c.self.inside.order.items c.self.inside.low (map live_of ps)) ps c.put.new.self.items c.push.new.self c.self.inside.recent) (sym more) (record {
-      kept = (kept_begun c.self.inside.script c.self.inside.order.items c.self.inside.low (length c.self.inside.calls.items) c.self.inside.calls.items c.self.inside.journal.items _ c.in_ok-progress.progress c.self.invariant.kept lt refl fresh adds).1;
-      live = live ∙ (ap (λ ns. ns ++ length c.self.inside.calls.items ∷ []) c.self.invariant.live ∙ sym (live_comes c.self.inside.calls.items (length c.self.inside.order.items) c.in_ok-progress.progress fresh));
+    subst (λ (ps : List Progress). IsBook c.self.inside.script (the_course c.self.inside.order.items c.self.inside.low (map live_of ps)) ps c.put.new.self.items c.push.new.self c.self.inside.recent) (sym (more c)) (record {
+      kept = (kept_begun c.self.inside.script c.self.inside.order.items c.self.inside.low c.len-call.result c.self.inside.calls.items c.self.inside.journal.items _ c.in_ok-progress.progress c.self.invariant.kept (less c) (number c) (fresh c) (adds c)).1;
+      live = live ∙ (ap (λ ns. ns ++ length c.self.inside.calls.items ∷ []) c.self.invariant.live ∙ sym (live_comes c.self.inside.calls.items (length c.self.inside.order.items) c.in_ok-progress.progress (fresh c)));
       recent = c.self.invariant.recent;
     })
+
+pub returns : goal.returns
+returns c = (
+  begun_made c.self.inside c.args.self.now _ c.len-call.result c.push-2.new.self.items c.in_ok-progress.progress c.self.view_is c.self.invariant.kept (less c) (number c) (fresh c) (more c) refl refl (adds c),
+  c.len-start.ensures ∙ ap (λ (b : Booked). length b.course.order) c.self.view_is,
+)
