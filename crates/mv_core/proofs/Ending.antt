@@ -11,7 +11,6 @@ use Rattle.mv_journal.specs.declared.outcome.HistoryLine.{HistoryLine}
 use Rattle.mv_journal.specs.declared.outcome.Outcome.{Outcome}
 use Rattle.mv_journal.specs.declared.outcome.Round.{Round}
 use Rattle.mv_lawful.specs.declared.fault.Wrong.TheVariants.{Open}
-use Rattle.mv_lawful.specs.Work.{table_at}
 use Rattle.mv_lawful.specs.Lawful.{Live, Course, beginning, course_of, open_call, Lawful}
 use Rattle.mv_lawful.specs.Rounds.{rounds_of}
 use Rattle.mv_lawful.specs.Outcomes.{reply_in, reply_after, turns_of, history_line, numbers, outcome_at, outcome_of}
