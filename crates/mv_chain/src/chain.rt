@@ -127,8 +127,8 @@ impl Chain {
         )
     }
 
-    /// Adds a patch of a call, after the call's own, and makes room for its stamp. Where no memory is found the versions are as before.
-    /// The call keeps one value for each column that it sets, however often it does.
+    /// Adds a patch of a call, after the call's own, and makes room for its stamp. The call keeps one value for each
+    /// column that it sets, however often it does. If memory runs out, the versions are as before.
     pub fn put(&mut self, call: u32, patch: Patch) -> Result<(), NoMemory>
         ensures ok { OnOk result (self.new ≡ record self.old { own = with_own call patch self.old.own }) }
         ensures err { OnErr result (self.new ≡ self.old) }
