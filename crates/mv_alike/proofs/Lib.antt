@@ -7,3 +7,4 @@ pub mod Lasting
 pub mod Walking
 pub mod Meant
 pub mod Unhit
+pub mod Asked

@@ -1,22 +1,25 @@
 -- The laws of two full runs of one call, on an old database and on a new one. That only what depends on a change is
 -- executed again is the paper's (Dashti, Basil John, Shaikhha and Koch, SIGMOD 2017). The laws by records are this
 -- project's own.
-use Rattle.std.specs.Prelude.{◌≡◌, ℕ, true, [], ◌∷◌, ◌++◌, List, Option, Some, map, slice_get}
+use Rattle.std.specs.Prelude.{◌≡◌, ℕ, true, false, [], ◌∷◌, ◌++◌, List, Option, Some, map, slice_get}
 use Rattle.std.specs.List.{AllZip}
 use Rattle.mv_values.specs.declared.schema.TableInfo.{TableInfo}
 use Rattle.mv_values.specs.declared.calls.Call.{Call}
+use Rattle.mv_values.specs.Patching.{applied}
 use Rattle.mv_catalog.specs.declared.resolved.ProcInfo.{ProcInfo}
 use Rattle.mv_catalog.specs.Text.{IsProcedure, Suits}
 use Rattle.mv_alone.specs.TableAfter.{Tables}
 use Rattle.mv_record.specs.declared.record.Record.{Record}
 use Rattle.mv_record.specs.Databases.{IsDatabaseOf}
 use Rattle.mv_record.specs.Effects.{effect_in}
-use Rattle.mv_record.specs.Runs.{TellsAll}
+use Rattle.mv_record.specs.Runs.{TellsAll, writes_in}
+use Rattle.mv_recorded.specs.Alike.{SeenAlike}
+use Rattle.mv_recorded.specs.Asking.{KnowsKey}
 use Rattle.mv_recorded.specs.Own.{Each}
 use Rattle.mv_recorded.specs.Recorded.{recorded, meaning}
 use Rattle.mv_history.specs.declared.change.Change.{Change}
 use Rattle.mv_history.specs.Changes.{Covers}
-use Rattle.mv_history.specs.Hits.{is_unhit}
+use Rattle.mv_history.specs.Hits.{any_hits, is_unhit}
 use Rattle.mv_history.specs.Kept.{Path, Placed, with_paths, path_at, among, at, stays, kept_paths, keep}
 
 -- the paths of the definers of the variables that a record reads
@@ -56,6 +59,23 @@ OfRuns P = (tables : List TableInfo) (proc : ProcInfo) (call : Call) (db new : T
 pub record RunsAsBefore (tables : List TableInfo) (proc : ProcInfo) (call : Call) (db new : Tables) : Type 0 where
   pub records : (meaning tables proc call new).records ≡ (meaning tables proc call db).records
   pub tells : TellsAll new (record (meaning tables proc call new) { records = (meaning tables proc call db).records })
+
+-- a record of a call on two databases of its tables: `before` are the records before it, whose writes leave databases of
+-- these tables, and the tests of its predicates have the positions of their columns in the keys
+pub record AreAsked (tables : List TableInfo) (before : List Record) (r : Record) (db new : Tables) (changes : List Change) : Type 0 where
+  pub old_is : IsDatabaseOf tables db
+  pub new_is : IsDatabaseOf tables new
+  pub old_after : IsDatabaseOf tables (applied (writes_in before) db)
+  pub new_after : IsDatabaseOf tables (applied (writes_in before) new)
+  pub covers : Covers changes db new
+  pub preds : Each (KnowsKey tables) r.preds
+
+-- if no change hits a record, each of its predicates finds rows with the same keys and the same selected columns on both
+-- databases, after the writes of the records before it
+abbrev pub UnhitPredicatesSeeAlike : Type 0
+UnhitPredicatesSeeAlike =
+    (tables : List TableInfo) (before : List Record) (r : Record) (db new : Tables) (changes : List Change) → AreAsked tables before r db new changes → any_hits changes before r ≡ false
+    → Each (λ p. SeenAlike p (applied (writes_in before) db) (applied (writes_in before) new)) r.preds
 
 -- if no change hits a record of the old run, the new run is as before
 abbrev pub UnhitRunsAreEqual : Type 0

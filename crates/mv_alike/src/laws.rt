@@ -1,6 +1,12 @@
 //! The laws of two full runs of one call, on an old database and on a new one.
 
-ghost use Rattle.mv_alike.specs.Laws.{UnhitRunsAreEqual, KeptRecordsAreAlike, NextRecordIsAlike};
+ghost use Rattle.mv_alike.specs.Laws.{KeptRecordsAreAlike, NextRecordIsAlike, UnhitPredicatesSeeAlike, UnhitRunsAreEqual};
+
+/// If no change hits a record, its predicates find rows with the same keys and the same selected columns on both databases,
+/// each with the writes of its own call before it.
+pub fn unhit_predicates_see_alike()
+    ensures { UnhitPredicatesSeeAlike }
+{}
 
 /// Validation is sound: if no change hits a record of the old run, the new run has equal records, so an equal reply.
 /// Unless they end the call, their writes lead from the new database to the one that the whole-table machine leaves.
