@@ -7,6 +7,8 @@ mod cases;
 #[cfg(test)]
 mod chains;
 #[cfg(test)]
+mod changes;
+#[cfg(test)]
 mod edges;
 #[cfg(test)]
 mod graphs;
