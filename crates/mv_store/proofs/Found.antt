@@ -1,27 +1,24 @@
 -- The rows that a predicate finds after a number of commits.
-use Rattle.std.proofs.Common.{◌≡◌, ◌++◌, ℕ, Bool, true, false, cond, List, [], ◌∷◌, Option, Some, None, refl, sym, ap, ◌∙◌, append_assoc}
+use Rattle.std.proofs.Common.{◌≡◌, ◌++◌, ℕ, Bool, true, false, cond, List, [], ◌∷◌, Option, Some, None, All, refl, sym, ap, subst, ◌∙◌, append_assoc}
 use Rattle.std.specs.List.{filter}
+use Rattle.std.specs.Option.{OnSome}
 use Rattle.mv_values.specs.declared.value.Value.{Value}
 use Rattle.mv_values.specs.declared.rows.Keyed.{Keyed}
 use Rattle.mv_values.specs.declared.pred.Pred.{Pred}
-use Rattle.mv_values.specs.Keys.{IsRising}
+use Rattle.mv_values.specs.Keys.{IsRising, IsBelow}
 use Rattle.mv_values.specs.Preds.{matches, matched}
 use Rattle.mv_table.specs.declared.span.Span.{Span}
 use Rattle.mv_table.specs.Entries.{alone_at, picked, stored, KeysRise}
 use Rattle.mv_table.specs.Spans.{is_within, Covers}
 use Rattle.mv_table.proofs.Covering.{covered}
 use Rattle.mv_table.proofs.Picking.{picked_filter}
-use Rattle.mv_table.proofs.Storing.{stored_filter}
+use Rattle.mv_table.proofs.Storing.{front_below, stored_filter}
 use Rattle.mv_record.specs.Admitting.{Admitted}
 use Rattle.mv_record.proofs.Patching.{rising_filter}
 use Rattle.mv_chain.specs.Versions.{Versions, row_at}
 use Rattle.mv_view.specs.Narrowing.{matching}
-use Rattle.mv_store.specs.Stored.{Entries, table_at}
+use Rattle.mv_store.specs.Stored.{Entries, table_at, found_in}
 use Rattle.mv_store.proofs.Keys.{table_rises}
-
--- the row after n commits, where the predicate matches it
-abbrev pub found_in : ℕ → Pred → Versions → Option (List Value)
-found_in n pred v = matched pred (row_at v n)
 
 matches_found : (n : ℕ) (pred : Pred) (es : Entries) → stored (picked (found_in n pred) es) ≡ matching pred (table_at n es)
 matches_found n pred [] = refl
@@ -48,15 +45,23 @@ found_within n pred span es covers admitted =
 pub found_rises : (n : ℕ) (pred : Pred) (es : Entries) → KeysRise es → IsRising (matching pred (table_at n es))
 found_rises n pred es h = rising_filter (λ item. matches pred item.row) (table_at n es) (table_rises n es h)
 
--- one entry more
+-- One entry more
 
-pub found_one : (n : ℕ) (pred : Pred) (rows : List Keyed) (key : List Value) (v : Versions) (row : List Value) (rest : Entries) (all : List Keyed) → rows ++ stored (picked (found_in n pred) ((key, v) ∷ rest)) ≡ all → found_in n pred v ≡ Some row
-    → rows ++ record { key = key; row = row } ∷ stored (picked (found_in n pred) rest) ≡ all
-found_one n pred rows key v row rest all h is = sym (ap (λ o. rows ++ stored (alone_at key o ++ picked (found_in n pred) rest)) is) ∙ h
+stored_both : (es fs : List (List Value × List Value)) → stored (es ++ fs) ≡ stored es ++ stored fs
+stored_both [] fs = refl
+stored_both (e ∷ es) fs = ap (λ l. record { key = e.0; row = e.1 } ∷ l) (stored_both es fs)
 
-pub found_none : (n : ℕ) (pred : Pred) (rows : List Keyed) (key : List Value) (v : Versions) (rest : Entries) (all : List Keyed) → rows ++ stored (picked (found_in n pred) ((key, v) ∷ rest)) ≡ all → found_in n pred v ≡ None
-    → rows ++ stored (picked (found_in n pred) rest) ≡ all
-found_none n pred rows key v rest all h is = sym (ap (λ o. rows ++ stored (alone_at key o ++ picked (found_in n pred) rest)) is) ∙ h
+pub found_more : (n : ℕ) (pred : Pred) (rows : List Keyed) (key : List Value) (v : Versions) (rest : Entries) (all : List Keyed) → rows ++ stored (picked (found_in n pred) ((key, v) ∷ rest)) ≡ all
+    → (rows ++ stored (alone_at key (found_in n pred v))) ++ stored (picked (found_in n pred) rest) ≡ all
+found_more n pred rows key v rest all h =
+    append_assoc rows (stored (alone_at key (found_in n pred v))) (stored (picked (found_in n pred) rest))
+    ∙ (sym (ap (λ l. rows ++ l) (stored_both (alone_at key (found_in n pred v)) (picked (found_in n pred) rest)))
+    ∙ h)
 
-pub then_rest : (rows : List Keyed) (item : Keyed) (rest all : List Keyed) → rows ++ item ∷ rest ≡ all → (rows ++ item ∷ []) ++ rest ≡ all
-then_rest rows item rest all h = append_assoc rows (item ∷ []) rest ∙ h
+pub found_below : (n : ℕ) (pred : Pred) (rows : List Keyed) (key : List Value) (v : Versions) (rest : Entries) (all : List Keyed) → rows ++ stored (picked (found_in n pred) ((key, v) ∷ rest)) ≡ all → IsRising all
+    → OnSome (found_in n pred v) (All (IsBelow key) rows)
+found_below n pred rows key v rest all h rising = by (found_in n pred v) h
+  where
+    by : (o : Option (List Value)) → rows ++ stored (alone_at key o ++ picked (found_in n pred) rest) ≡ all → OnSome o (All (IsBelow key) rows)
+    by None is = tt
+    by (Some row) is = front_below rows (stored (picked (found_in n pred) rest)) (record { key = key; row = row }) (subst IsRising (sym is) rising)

@@ -1,11 +1,13 @@
 //! Finds rows as of a commit.
 
-ghost use Rattle.std.specs.Prelude.{◌≡◌, IfOk};
+ghost use Rattle.std.specs.Prelude.{◌≡◌, ◌++◌, All, IfOk, OnOk, OnSome};
+ghost use Rattle.mv_values.specs.Keys.{IsBelow};
 ghost use Rattle.mv_values.specs.Patching.{row_of};
-ghost use Rattle.mv_table.specs.Entries.{KeysRise};
+ghost use Rattle.mv_table.specs.Entries.{alone_at, stored, KeysRise};
+ghost use Rattle.mv_table.specs.Spans.{Covers, IsForward};
 ghost use Rattle.mv_record.specs.Admitting.{Admitted};
 ghost use Rattle.mv_view.specs.Narrowing.{matching};
-ghost use Rattle.mv_store.specs.Stored.{table_at};
+ghost use Rattle.mv_store.specs.Stored.{table_at, found_in};
 
 use mv_chain::chain::Chain;
 use mv_table::key_map::KeyMap;
@@ -29,14 +31,46 @@ pub(crate) fn find(
     ensures { IfOk result (λ rows. rows ≡ matching pred.now (table_at n table.now)) }
 {
     let span = Span::of(alloc, pred.tests.as_slice())?;
+    find_within(alloc, table, &span, n, pred)
+}
+
+/// Returns copies of the rows that the predicate matches, given the span of its tests.
+fn find_within(
+    alloc: Global,
+    table: &KeyMap<Chain>,
+    span: &Span,
+    n: u32,
+    pred: &Pred,
+) -> Result<Rows, NoMemory>
+    requires forward { IsForward span.now }
+    requires covers { Covers pred.now.tests span.now }
+    requires admitted { Admitted pred.now (table_at n table.now) }
+    ensures { IfOk result (λ rows. rows ≡ matching pred.now (table_at n table.now)) }
+{
     let mut rows = Rows::new(alloc);
-    for (key, chain) in table.range(&span) {
-        if let Some(row) = chain.found_at(alloc, n, pred)? {
-            let key = key.copy(alloc)?;
-            rows.push(Keyed { key, row })?;
-        }
+    for (key, chain) in table.range(span) {
+        add_match(alloc, &mut rows, key, chain, n, pred)?;
     }
     Ok(rows)
+}
+
+/// Appends a copy of the row after commit n, if the predicate matches it. Its key must then be greater than all others.
+fn add_match(
+    alloc: Global,
+    rows: &mut Rows,
+    key: &Key,
+    chain: &Chain,
+    n: u32,
+    pred: &Pred,
+) -> Result<(), NoMemory>
+    requires { OnSome (found_in n pred.now chain.now) (All (IsBelow key.now) rows.old) }
+    ensures { OnOk result (rows.new ≡ rows.old ++ stored (alone_at key.now (found_in n pred.now chain.now))) }
+{
+    let Some(row) = chain.found_at(alloc, n, pred)? else {
+        return Ok(());
+    };
+    let key = key.copy(alloc)?;
+    rows.push(Keyed { key, row })
 }
 
 /// Returns a copy of the row under the key after commit n, if there is one. Takes time logarithmic in the number of

@@ -1,0 +1,28 @@
+use Rattle.std.proofs.Common.{◌++◌, sym, ap, ◌∙◌}
+use Rattle.mv_table.specs.Entries.{picked, stored}
+use Rattle.mv_view.specs.Narrowing.{matching}
+use Rattle.mv_store.specs.Stored.{found_in, table_at}
+use Rattle.mv_store.proofs.Found.{found_within, found_rises, found_more, found_below}
+use Rattle.mv_store.proofs.find.find_within.Goals as goal
+
+pub loop-key-init : goal.loop-key-init
+loop-key-init c = record {
+  rows = rw c.new-rows.ensures
+      (ap (λ es. stored (picked (found_in c.args.n c.args.pred.now) es)) (c.into_iter-key-iterator.ensures.into_iter_gives ∙ c.range-key-items.ensures.items)
+      ∙ found_within c.args.n c.args.pred.now c.args.span.now c.args.table.now c.requires.covers c.requires.admitted);
+  rising = found_rises c.args.n c.args.pred.now c.args.table.now c.range-key-items.ensures.rising;
+}
+
+pub add_match-requires : goal.add_match-requires
+add_match-requires c =
+    found_below c.args.n c.args.pred.now c.loop-key.rows c.in-Some.key.now c.in-Some.chain.now c.next.new.self (matching c.args.pred.now (table_at c.args.n c.args.table.now))
+    (sym (ap (λ es. c.loop-key.rows ++ stored (picked (found_in c.args.n c.args.pred.now) es)) c.in-Some.ensures.steps) ∙ c.loop-key.invariant.rows) c.loop-key.invariant.rising
+
+pub loop-key-preserved : goal.loop-key-preserved
+loop-key-preserved c = record {
+  rows =
+      ap (λ l. l ++ stored (picked (found_in c.args.n c.args.pred.now) c.next.new.self)) c.in_ok-add_match.ensures
+      ∙ found_more c.args.n c.args.pred.now c.loop-key.rows c.in-Some.key.now c.in-Some.chain.now c.next.new.self (matching c.args.pred.now (table_at c.args.n c.args.table.now))
+      (sym (ap (λ es. c.loop-key.rows ++ stored (picked (found_in c.args.n c.args.pred.now) es)) c.in-Some.ensures.steps) ∙ c.loop-key.invariant.rows);
+  rising = c.loop-key.invariant.rising;
+}
