@@ -65,3 +65,12 @@ found_below n pred rows key v rest all h rising = by (found_in n pred v) h
     by : (o : Option (List Value)) → rows ++ stored (alone_at key o ++ picked (found_in n pred) rest) ≡ all → OnSome o (All (IsBelow key) rows)
     by None is = tt
     by (Some row) is = front_below rows (stored (picked (found_in n pred) rest)) (record { key = key; row = row }) (subst IsRising (sym is) rising)
+
+pub then_rest : (rows : List Keyed) (item : Keyed) (rest all : List Keyed) → rows ++ item ∷ rest ≡ all → (rows ++ item ∷ []) ++ rest ≡ all
+then_rest rows item rest all h = append_assoc rows (item ∷ []) rest ∙ h
+
+-- the same of all rows
+
+pub row_one : (n : ℕ) (rows : List Keyed) (key : List Value) (v : Versions) (row : List Value) (rest : Entries) (all : List Keyed) → rows ++ table_at n ((key, v) ∷ rest) ≡ all → row_at v n ≡ Some row
+    → rows ++ record { key = key; row = row } ∷ table_at n rest ≡ all
+row_one n rows key v row rest all h is = sym (ap (λ o. rows ++ stored (alone_at key o ++ picked (λ w. row_at w n) rest)) is) ∙ h

@@ -1,6 +1,6 @@
 //! Finds rows as of a commit.
 
-ghost use Rattle.std.specs.Prelude.{◌≡◌, ◌++◌, All, IfOk, OnOk, OnSome};
+ghost use Rattle.std.specs.Prelude.{◌≡◌, ◌++◌, All, map, IfOk, OnOk, OnSome};
 ghost use Rattle.mv_values.specs.Keys.{IsBelow};
 ghost use Rattle.mv_values.specs.Patching.{row_of};
 ghost use Rattle.mv_table.specs.Entries.{alone_at, stored, KeysRise};
@@ -15,7 +15,7 @@ use mv_table::span::Span;
 use mv_values::copied::Copied;
 use mv_values::memory::NoMemory;
 use mv_values::pred::Pred;
-use mv_values::rows::{Keyed, Rows};
+use mv_values::rows::{Database, Keyed, Rows};
 use mv_values::value::{Key, Row};
 use std::alloc::Global;
 
@@ -88,4 +88,33 @@ pub(crate) fn find_row(
         Some(chain) => chain.row_at(alloc, n),
         None => Ok(None),
     }
+}
+
+/// Returns copies of all rows of a table after commit n.
+fn all_rows(alloc: Global, table: &KeyMap<Chain>, n: u32) -> Result<Rows, NoMemory>
+    ensures { IfOk result (λ rows. rows ≡ table_at n table.now) }
+{
+    let mut rows = Rows::new(alloc);
+    for (key, chain) in table.iter() {
+        if let Some(row) = chain.row_at(alloc, n)? {
+            let key = key.copy(alloc)?;
+            rows.push(Keyed { key, row })?;
+        }
+    }
+    Ok(rows)
+}
+
+/// Returns copies of all tables after commit n.
+pub(crate) fn copy_tables(
+    alloc: Global,
+    tables: &[KeyMap<Chain>],
+    n: u32,
+) -> Result<Database, NoMemory>
+    ensures { IfOk result (λ database. database ≡ map (table_at n) tables.now) }
+{
+    let mut database = Database::new(alloc);
+    for table in tables {
+        database.push(all_rows(alloc, table, n)?)?;
+    }
+    Ok(database)
 }

@@ -10,7 +10,7 @@ ghost use Rattle.mv_store.specs.Changes.{IsAsBefore, HasPut, HasDropped, HasStam
 
 use crate::collect::collect_all;
 use crate::fate::Fate;
-use crate::find::{find, find_row};
+use crate::find::{copy_tables, find, find_row};
 use crate::open::open_all;
 use crate::settle::settle_noted;
 use crate::spots::Spots;
@@ -120,6 +120,15 @@ impl Store {
         }
         let row = self.find_row(alloc, n, table, key)?;
         Ok(row)
+    }
+
+    /// Returns copies of all tables after commit n, which may not be below the store's low. Fails with `NoMemory` if
+    /// memory runs out. Takes time linear in the number of rows and of their later patches.
+    pub fn tables_at(&self, alloc: Global, n: u32) -> Result<Database, NoMemory>
+        requires { self.now.low ≤ n }
+        ensures { IfOk result (λ tables. tables ≡ database_at self.now n) }
+    {
+        copy_tables(alloc, self.tables.as_slice(), n)
     }
 
     fn find(&self, alloc: Global, n: u32, pred: &Pred) -> Result<Rows, NoMemory>
