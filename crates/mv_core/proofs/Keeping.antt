@@ -1,10 +1,11 @@
 -- What events leave of a book.
-use Rattle.std.proofs.Common.{◌≡◌, ◌≢◌, ◌⊎◌, inl, inr, ℕ, zero, suc, ◌+◌, ◌<◌, ◌≤◌, ◌^◌, false, List, [], ◌∷◌, ◌++◌, Option, Some, None, map, get_or, length, slice_set, is_some, refl, sym, ap, subst, ◌∙◌, arith, eq-eqb, length-append, rules}
-use Rattle.std.specs.Prelude.{slice_get, All, IsSome}
+use Rattle.std.proofs.Common.{◌≡◌, ◌≢◌, ◌⊎◌, inl, inr, ℕ, zero, suc, ◌+◌, ◌<◌, ◌≤◌, ◌^◌, false, List, [], ◌∷◌, ◌++◌, Option, Some, None, Result, Ok, Err, map, get_or, length, slice_set, is_some, refl, sym, ap, subst, ◌∙◌, arith, eq-eqb, length-append, rules}
+use Rattle.std.specs.Prelude.{slice_get, All, IsSome, IsErrAnd}
 use Rattle.std.specs.Option.{option_map}
 use Rattle.std.proofs.lemmas.List.{map-append, length-map}
 use Rattle.std.proofs.lemmas.Option.{slice_get-map, slice_get_within, slice_get_read}
 use Rattle.mv_values.specs.declared.calls.Reply.{Reply}
+use Rattle.mv_values.specs.declared.memory.NoMemory.{NoMemory}
 use Rattle.mv_journal.specs.declared.event.Event.{Event}
 use Rattle.mv_journal.specs.declared.event.Event.TheVariants.{B, S}
 use Rattle.mv_journal.specs.declared.outcome.Mark.{Mark}
@@ -16,12 +17,13 @@ use Rattle.mv_lawful.specs.Rounds.{rounds_of}
 use Rattle.mv_lawful.specs.Outcomes.{turns_of}
 use Rattle.mv_core.specs.declared.script.Script.{Script}
 use Rattle.mv_core.specs.declared.progress.Progress.{Progress}
+use Rattle.mv_core.specs.declared.book.Begun.{Begun}
 use Rattle.mv_core.specs.declared.book.Book.TheInside.{Inside}
 use Rattle.mv_core.specs.contracts.book.Book.{the_view}
 use Rattle.mv_core.specs.Rooms.{Filled}
 use Rattle.mv_core.specs.Scripts.{work_of}
 use Rattle.mv_core.specs.Calls.{turn_of, turns_in, live_of, IsLive, IsLiveCall, numbered, last_number, closed, unknown, due_number, committed, with_own, AreRounds, IsReply, TellsBy, TellsCall, IsFresh}
-use Rattle.mv_core.specs.Books.{Booked, IsKept, IsSame, work_in, kept_rounds, Made, HasRoom, HasRounds, IsSettled, IsOwnBy, round_event, commit_event}
+use Rattle.mv_core.specs.Books.{Booked, IsKept, IsSame, work_in, kept_rounds, Made, HasBegun, HasRoom, HasRounds, IsSettled, IsOwnBy, round_event, commit_event}
 use Rattle.mv_core.proofs.Numbers.{turns_numbered, turns_closed, last_numbered, Within, table_stays, rounds_stay, rounds_begin, closes, settled, settles, rounds_end}
 use Rattle.mv_core.specs.Lives.{live_numbers, without}
 use Rattle.mv_core.proofs.Lives.{live_kept, live_gone, live_begun, live_below}
@@ -291,6 +293,17 @@ all_begun i old is k le =
     let long : length (map live_of i.calls.items) ≡ length i.calls.items = length-map i.calls.items live_of in
     let here : length (the_view i).course.calls ≡ length (the_view i).script.calls = omega (arith, f.count, long, le) in
     (subst (λ (b : Booked). length b.course.calls ≡ length b.script.calls) is here, record { script = refl; course = refl; rounds = refl; journal = refl })
+
+-- no more than room was made
+pub begun_none : (Q : NoMemory → Type 0) (i : Inside) (old new : Booked) (ps : List Progress) (r : Result (Option Begun) NoMemory) → the_view i ≡ old → ps ≡ i.calls.items
+    → new.script ≡ i.script → new.course ≡ the_course i.order.items i.low (map live_of ps) → new.rounds ≡ room_for ps → new.journal ≡ i.journal.items → IsErrAnd r Q → HasBegun r old new
+begun_none Q i old new ps (Ok b) is same script course rounds journal h = absurd h
+begun_none Q i old new ps (Err e) is same script course rounds journal h = record {
+  script = script ∙ ap (λ (b : Booked). b.script) is;
+  course = course ∙ (ap (λ qs. the_course i.order.items i.low (map live_of qs)) same ∙ ap (λ (b : Booked). b.course) is);
+  rounds = ap (map kept_rounds) (rounds ∙ (ap room_for same ∙ ap (λ (b : Booked). b.rounds) is));
+  journal = journal ∙ ap (λ (b : Booked). b.journal) is;
+}
 
 -- the next call has begun
 pub begun_made : (i : Inside) (old new : Booked) (n : ℕ) (ps : List Progress) (q : Progress) → the_view i ≡ old → IsInside i → length i.calls.items < length i.script.calls → n ≡ length i.calls.items

@@ -1,5 +1,5 @@
 -- The changes of the last commits, and what they say of a call.
-use Rattle.std.proofs.Common.{◌≡◌, ℕ, ◌+◌, ◌-◌, ◌<◌, ◌≤◌, Bool, true, false, not, List, [], ◌∷◌, ◌++◌, Option, Some, None, length, drop, is_some, refl, sym, ap, subst, ◌∙◌, arith, length-append, rules}
+use Rattle.std.proofs.Common.{◌≡◌, ℕ, ◌+◌, ◌-◌, ◌<◌, ◌≤◌, Bool, true, false, not, List, [], ◌∷◌, ◌++◌, Option, Some, None, length, drop, is_some, refl, sym, ap, subst, ◌∙◌, arith, length-append}
 use Rattle.std.proofs.lemmas.List.{drop-drop, drop-append-le, length-drop, take_all}
 use Rattle.mv_record.specs.declared.record.Record.{Record}
 use Rattle.mv_history.specs.declared.change.Change.{Change}
@@ -117,11 +117,3 @@ answers_stale w s c n low l live is from lt = (commit_refusal w s c l true (hit_
 
   below : is_stale s l ≡ true
   below = grind (arith, less)
-
--- a call may commit: it isn't stale, and no commit hits it
-pub free_call : (w : Work) (s : Course) (c : ℕ) (l : Live) → IsLive s c l → refusal w s (C c) ≡ None → (s.low ≤ l.start) × (hit_of w s.order l.start c ≡ None)
-free_call w s c l live free = by (is_stale s l) refl (hit_of w s.order l.start c) refl where
-  by : (stale : Bool) → is_stale s l ≡ stale → (hit : Option Hit) → hit_of w s.order l.start c ≡ hit → (s.low ≤ l.start) × (hit_of w s.order l.start c ≡ None)
-  by true is hit found = let none : Some fault.Stale ≡ None = sym (commit_refusal w s c l true hit live is found) ∙ free in absurd (search (rules, none))
-  by false is (Some h) found = let none : Some fault.Conflict ≡ None = sym (commit_refusal w s c l false (Some h) live is found) ∙ free in absurd (search (rules, none))
-  by false is None found = (not_below s l is, found)

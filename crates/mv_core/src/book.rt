@@ -34,14 +34,15 @@ pub struct Begun {
     pub start: u32,
 }
 
-/// The reasons why a call may commit or not.
+/// The result of the validation of a call.
 #[derive(Clone, Copy)]
 pub enum Check {
-    /// No commit after its start hits its records. It may commit.
+    /// No commit after the call's start hits its records. The call may commit.
     Free,
-    /// A commit after its start hits its records: the least record that is hit, and the first commit that hits it.
+    /// A commit after the call's start hits its records. This is the least record that is hit, and the first commit
+    /// that hits it.
     Hit { number: usize, commit: u32 },
-    /// Its start is below low.
+    /// The call's start is below low.
     Stale { start: u32, low: u32 },
 }
 
@@ -305,8 +306,8 @@ impl Book {
     }
 
     /// Validates a live call against the commits after its start. Its task must have executed all its statements at
-    /// that start. Returns `Free` exactly if the law of journals allows its commit. Costs for each predicate of its
-    /// records a trial on each change of its table.
+    /// that start. Returns `Free` exactly if the law of journals allows its commit. It allocates no memory. It tries each
+    /// predicate of the records on each change of the predicate's table.
     pub fn check(&self, call: u32, task: &Task) -> Check
         requires live { IsLiveCall self.now.course call }
         requires records { AreRecordsOf self.now call task.now.records }

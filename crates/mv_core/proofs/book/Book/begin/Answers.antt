@@ -5,11 +5,23 @@ use Rattle.std.specs.Prelude.{All}
 use Rattle.mv_core.specs.Lives.{live_numbers}
 use Rattle.mv_core.specs.Calls.{live_of, IsFresh}
 use Rattle.mv_core.specs.Books.{Booked, IsBook}
-use Rattle.mv_core.proofs.Keeping.{few_inside, live_within, live_comes, kept_begun, begun_made, the_course, all_begun}
+use Rattle.mv_core.proofs.Keeping.{few_inside, live_within, live_comes, kept_begun, begun_none, begun_made, the_course, all_begun}
 use Rattle.mv_core.proofs.book.Book.begin.Goals as goal
 
 pub returns-then-len : goal.returns-then-len
 returns-then-len c = all_begun c.self.inside c.args.self.now c.self.view_is c.self.invariant.kept (search (rules, c.if-len.true, c.len.ensures, c.len-2.ensures))
+
+pub returns-in_err-reserve : goal.returns-in_err-reserve
+returns-in_err-reserve c = begun_none _ c.self.inside c.args.self.now _ c.self.inside.calls.items c.from_residual.result c.self.view_is refl refl refl refl c.reserve.ensures.items c.from_residual.ensures.1
+
+pub returns-in_err-reserve-2 : goal.returns-in_err-reserve-2
+returns-in_err-reserve-2 c = begun_none _ c.self.inside c.args.self.now _ c.reserve-2.new.self.items c.from_residual-in_err-reserve-2.result c.self.view_is c.reserve-2.ensures.items refl refl refl c.reserve.ensures.items c.from_residual-in_err-reserve-2.ensures.1
+
+pub returns-in_err-progress : goal.returns-in_err-progress
+returns-in_err-progress c = begun_none _ c.self.inside c.args.self.now _ c.reserve-2.new.self.items c.from_residual-in_err-progress.result c.self.view_is c.reserve-2.ensures.items refl refl refl c.reserve.ensures.items c.from_residual-in_err-progress.ensures.1
+
+pub returns-in_err-push : goal.returns-in_err-push
+returns-in_err-push c = begun_none _ c.self.inside c.args.self.now _ c.reserve-2.new.self.items c.from_residual-in_err-push.result c.self.view_is c.reserve-2.ensures.items refl refl refl c.reserve.ensures.items c.from_residual-in_err-push.ensures.1
 
 pub overflow_cast-start : goal.overflow_cast-start
 overflow_cast-start c = let few : length c.self.inside.order.items < 2 ^ 32 = few_inside c.self.inside c.self.invariant.kept in search (rules, few, c.len-start.ensures)
