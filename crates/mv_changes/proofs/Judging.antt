@@ -9,7 +9,8 @@ use Rattle.mv_history.specs.declared.change.Change.{Change}
 use Rattle.mv_history.specs.declared.change.Hit.{Hit}
 use Rattle.mv_history.specs.Hits.{any_hits, first_commit, or_later, first_hit}
 use Rattle.mv_changes.specs.declared.recent.Committed.{Committed}
-use Rattle.mv_changes.specs.Commits.{changes_in, AreNumbered, HasWritesOf}
+use Rattle.mv_undo.specs.Owning.{HasWritesOf}
+use Rattle.mv_changes.specs.Commits.{changes_in, AreNumbered}
 use Rattle.mv_changes.specs.Hitting.{first_record, records_before}
 use Rattle.mv_changes.proofs.Numbering.{numbered_at}
 

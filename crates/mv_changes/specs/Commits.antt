@@ -1,11 +1,7 @@
 -- Defines the changes of commits for validation. That a call is validated against the commits after its start is the
 -- paper's (Dashti, Basil John, Shaikhha and Koch, SIGMOD 2017).
-use Rattle.std.specs.Prelude.{◌≡◌, ◌≤◌, ◌+◌, ℕ, List, [], ◌∷◌, map, take, length}
-use Rattle.mv_record.specs.declared.record.Record.{Record}
-use Rattle.mv_record.specs.Runs.{writes_in}
+use Rattle.std.specs.Prelude.{◌≡◌, ◌+◌, ℕ, List, [], ◌∷◌, map}
 use Rattle.mv_history.specs.declared.change.Change.{Change}
-use Rattle.mv_undo.specs.declared.owned.Owned.{Owned}
-use Rattle.mv_undo.specs.Owning.{earlier}
 use Rattle.mv_changes.specs.declared.recent.Committed.{Committed}
 
 -- the changes of each commit
@@ -22,7 +18,3 @@ pub record Window : Type 0 where
   pub low : ℕ
   pub commits : List (List Change)
   pub room : ℕ
-
--- before each record, the own writes are those of the records before it
-abbrev pub HasWritesOf : List Owned → List Record → Type 0
-HasWritesOf undo records = (number : ℕ) → number ≤ length records → earlier number undo ≡ writes_in (take number records)

@@ -2,7 +2,8 @@
 
 ghost use Rattle.std.specs.Prelude.{◌≡◌, ◌<◌, ◌≤◌, ◌+◌, ◌-◌, ℕ, [], drop, length, IfSome};
 ghost use Rattle.mv_history.specs.Hits.{first_hit};
-ghost use Rattle.mv_changes.specs.Commits.{changes_in, AreNumbered, HasWritesOf};
+ghost use Rattle.mv_changes.specs.Commits.{changes_in, AreNumbered};
+ghost use Rattle.mv_undo.specs.Owning.{HasWritesOf};
 ghost use Rattle.mv_changes.specs.Hitting.{first_record, records_before};
 
 use crate::changes::Changes;

@@ -2,7 +2,7 @@
 use Rattle.std.proofs.Common.{◌≡◌, ℕ, zero, suc, List, [], ◌∷◌, ◌++◌, All, take, refl, sym, ap, ◌∙◌, arith}
 use Rattle.mv_record.specs.declared.record.Record.{Record}
 use Rattle.mv_record.specs.Runs.{writes_in}
-use Rattle.mv_changes.specs.Commits.{HasWritesOf}
+use Rattle.mv_undo.specs.Owning.{HasWritesOf}
 
 none : (rs : List Record) (n : ℕ) → All (λ r. r.writes ≡ []) rs → writes_in (take n rs) ≡ []
 none [] zero h = refl
