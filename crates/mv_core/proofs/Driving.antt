@@ -7,10 +7,10 @@ use Rattle.mv_core.specs.declared.drive.DriveFault.TheVariants as fault
 use Rattle.mv_lawful.specs.declared.fault.Wrong.TheVariants as wrong
 use Rattle.mv_core.specs.declared.drive.Refusal.{Refusal}
 use Rattle.mv_core.specs.declared.drive.Refusal.TheVariants.{Refused, NoMemory}
-use Rattle.mv_lawful.specs.Lawful.{Course, refusal, after, or_refused, open_call}
+use Rattle.mv_lawful.specs.Lawful.{Course, refusal, after, or_refused, wrong_from, open_call}
 use Rattle.mv_core.specs.Scripts.{work_of}
-use Rattle.mv_core.specs.Books.{Booked, work_in, Made}
-use Rattle.mv_core.specs.Drives.{Rule, wrong_by, HasMade, HasTaken, Stops, Driven, fault_at}
+use Rattle.mv_core.specs.Books.{Booked, Made}
+use Rattle.mv_core.specs.Drives.{HasMade, HasTaken, Stops, Driven, fault_at}
 use Rattle.mv_core.proofs.Journals.{reach_more, allowed_more}
 
 pub none_made : (old : Booked) → HasMade [] old old
@@ -33,41 +33,41 @@ made_none es old mid new a b = record {
 }
 
 -- what is wrong with all of them is wrong with the rest
-pub record Stands (rule : Rule) (es : List Event) (n : ℕ) (old mid : Booked) : Type 0 where
+pub record Stands (es : List Event) (n : ℕ) (old mid : Booked) : Type 0 where
   pub made : HasMade (take n es) old mid
-  pub same : wrong_by rule (work_of old.script) 1 old.course es ≡ wrong_by rule (work_of old.script) (n + 1) mid.course (drop n es)
+  pub same : wrong_from (work_of old.script) 1 old.course es ≡ wrong_from (work_of old.script) (n + 1) mid.course (drop n es)
 
-pub stands_first : (rule : Rule) (es : List Event) (old : Booked) → Stands rule es 0 old old
-stands_first rule es old = record { made = none_made old; same = refl }
+pub stands_first : (es : List Event) (old : Booked) → Stands es 0 old old
+stands_first es old = record { made = none_made old; same = refl }
 
-pub stands_more : (rule : Rule) (es : List Event) (n : ℕ) (e : Event) (old mid new : Booked) → n < length es → e ≡ get_or es n e → Stands rule es n old mid → rule (work_in mid) mid.course e ≡ None → Made e mid new → Stands rule es (n + 1) old new
-stands_more rule es n e old mid new lt is s free m = record {
+pub stands_more : (es : List Event) (n : ℕ) (e : Event) (old mid new : Booked) → n < length es → e ≡ get_or es n e → Stands es n old mid → Made e mid new → Stands es (n + 1) old new
+stands_more es n e old mid new lt is s m = record {
   made = subst (λ (xs : List Event). HasMade xs old new) (sym (take_more es n e lt ∙ ap (λ x. take n es ++ x ∷ []) (sym is))) (made_more (take n es) e old mid new s.made m);
-  same = s.same ∙ (ap (wrong_by rule (work_of old.script) (n + 1) mid.course) (drop_more es n e lt ∙ ap (λ x. x ∷ drop (n + 1) es) (sym is))
-      ∙ (ap (λ r. or_refused (n + 1) r (wrong_by rule (work_of old.script) (n + 1 + 1) (after (work_of old.script) mid.course e) (drop (n + 1) es))) (subst (λ x. rule (work_of x) mid.course e ≡ None) s.made.script free)
-      ∙ ap (λ c. wrong_by rule (work_of old.script) (n + 1 + 1) c (drop (n + 1) es)) (sym (m.course ∙ ap (λ x. after (work_of x) mid.course e) s.made.script))));
+  same = s.same ∙ (ap (wrong_from (work_of old.script) (n + 1) mid.course) (drop_more es n e lt ∙ ap (λ x. x ∷ drop (n + 1) es) (sym is))
+      ∙ (ap (λ r. or_refused (n + 1) r (wrong_from (work_of old.script) (n + 1 + 1) (after (work_of old.script) mid.course e) (drop (n + 1) es))) (subst (λ x. refusal (work_of x) mid.course e ≡ None) s.made.script m.allowed)
+      ∙ ap (λ c. wrong_from (work_of old.script) (n + 1 + 1) c (drop (n + 1) es)) (sym (m.course ∙ ap (λ x. after (work_of x) mid.course e) s.made.script))));
 }
 
-pub stops_at : (rule : Rule) (es : List Event) (n : ℕ) (e : Event) (old mid new : Booked) (r : Refusal) → n < length es → e ≡ get_or es n e → Stands rule es n old mid → HasTaken rule e mid new (Err r)
-    → Stops rule es old new (fault_at (n + 1) r)
-stops_at rule es n e old mid new (Refused f) lt is s t = (
-  s.same ∙ (ap (wrong_by rule (work_of old.script) (n + 1) mid.course) (drop_more es n e lt ∙ ap (λ x. x ∷ drop (n + 1) es) (sym is))
-      ∙ ap (λ r. or_refused (n + 1) r (wrong_by rule (work_of old.script) (n + 1 + 1) (after (work_of old.script) mid.course e) (drop (n + 1) es))) (subst (λ x. rule (work_of x) mid.course e ≡ Some f) s.made.script t.0)),
+pub stops_at : (es : List Event) (n : ℕ) (e : Event) (old mid new : Booked) (r : Refusal) → n < length es → e ≡ get_or es n e → Stands es n old mid → HasTaken e mid new (Err r)
+    → Stops es old new (fault_at (n + 1) r)
+stops_at es n e old mid new (Refused f) lt is s t = (
+  s.same ∙ (ap (wrong_from (work_of old.script) (n + 1) mid.course) (drop_more es n e lt ∙ ap (λ x. x ∷ drop (n + 1) es) (sym is))
+      ∙ ap (λ r. or_refused (n + 1) r (wrong_from (work_of old.script) (n + 1 + 1) (after (work_of old.script) mid.course e) (drop (n + 1) es))) (subst (λ x. refusal (work_of x) mid.course e ≡ Some f) s.made.script t.0)),
   subst (λ k. HasMade (take k es) old new) (less n) (made_none (take n es) old mid new s.made t.1),
 ) where
   less : (n : ℕ) → n ≡ n + 1 - 1
   less n = omega arith
-stops_at rule es n e old mid new NoMemory lt is s t = (take n es, drop n es, sym (take-append-drop n es), made_none (take n es) old mid new s.made t)
+stops_at es n e old mid new NoMemory lt is s t = (take n es, drop n es, sym (take-append-drop n es), made_none (take n es) old mid new s.made t)
 
-pub ends_well : (rule : Rule) (es : List Event) (n : ℕ) (old mid : Booked) → length es ≤ n → Stands rule es n old mid → open_call (work_of mid.script) mid.course ≡ None → Driven rule es old mid (Ok tt)
-ends_well rule es n old mid le s o = (
-  s.same ∙ (ap (wrong_by rule (work_of old.script) (n + 1) mid.course) (drop_all n es le) ∙ ap (option_map wrong.Open) (subst (λ x. open_call (work_of x) mid.course ≡ None) s.made.script o)),
+pub ends_well : (es : List Event) (n : ℕ) (old mid : Booked) → length es ≤ n → Stands es n old mid → open_call (work_of mid.script) mid.course ≡ None → Driven es old mid (Ok tt)
+ends_well es n old mid le s o = (
+  s.same ∙ (ap (wrong_from (work_of old.script) (n + 1) mid.course) (drop_all n es le) ∙ ap (option_map wrong.Open) (subst (λ x. open_call (work_of x) mid.course ≡ None) s.made.script o)),
   subst (λ (xs : List Event). HasMade xs old mid) (take_all n es le) s.made,
 )
 
-pub ends_open : (rule : Rule) (es : List Event) (n c : ℕ) (old mid : Booked) → length es ≤ n → Stands rule es n old mid → open_call (work_of mid.script) mid.course ≡ Some c → Stops rule es old mid (fault.Open c)
-ends_open rule es n c old mid le s o = (
-  s.same ∙ (ap (wrong_by rule (work_of old.script) (n + 1) mid.course) (drop_all n es le) ∙ ap (λ c. option_map wrong.Open c) (subst (λ x. open_call (work_of x) mid.course ≡ Some c) s.made.script o)),
+pub ends_open : (es : List Event) (n c : ℕ) (old mid : Booked) → length es ≤ n → Stands es n old mid → open_call (work_of mid.script) mid.course ≡ Some c → Stops es old mid (fault.Open c)
+ends_open es n c old mid le s o = (
+  s.same ∙ (ap (wrong_from (work_of old.script) (n + 1) mid.course) (drop_all n es le) ∙ ap (λ c. option_map wrong.Open c) (subst (λ x. open_call (work_of x) mid.course ≡ Some c) s.made.script o)),
   subst (λ (xs : List Event). HasMade xs old mid) (take_all n es le) s.made,
 )
 

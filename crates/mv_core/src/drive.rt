@@ -1,12 +1,15 @@
 //! Lists of events.
 
-ghost use Rattle.std.specs.Prelude.{◌≡◌, ◌<◌, ◌^◌, length};
+ghost use Rattle.std.specs.Prelude.{◌≡◌, ◌<◌, ◌^◌, All, length};
+ghost use Rattle.mv_journal.specs.declared.event.Event.{Event as Ev};
 ghost use Rattle.mv_lawful.specs.Lawful.{open_call};
 ghost use Rattle.mv_core.specs.Books.{Booked, work_in};
-ghost use Rattle.mv_core.specs.Drives.{Rule, HasTaken, Driven, fault_at};
+ghost use Rattle.mv_core.specs.Drives.{HasTaken, Driven, fault_at};
 
 use mv_journal::event::Event;
 use mv_lawful::fault::Fault;
+use mv_values::memory::NoMemory;
+use std::alloc::Global;
 
 /// The reasons why an event isn't made.
 #[derive(Clone, Copy)]
@@ -15,6 +18,17 @@ pub enum Refusal {
     Refused(Fault),
     /// Memory ran out.
     NoMemory,
+}
+
+impl From<NoMemory> for Refusal {
+    ghost use Rattle.std.specs.Prelude.{◌≡◌};
+    ghost use Rattle.mv_core.specs.declared.drive.Refusal.TheVariants as refusal;
+
+    ghost from_gives = { λ _ e. e ≡ refusal.NoMemory };
+
+    fn from(_error: NoMemory) -> Refusal {
+        Refusal::NoMemory
+    }
 }
 
 /// The reasons why a list of events fails: an event isn't made, or a call is left open.
@@ -28,16 +42,29 @@ pub enum DriveFault {
     NoMemory,
 }
 
+impl From<NoMemory> for DriveFault {
+    ghost use Rattle.std.specs.Prelude.{◌≡◌};
+    ghost use Rattle.mv_core.specs.declared.drive.DriveFault.TheVariants as fault;
+
+    ghost from_gives = { λ _ e. e ≡ fault.NoMemory };
+
+    fn from(_error: NoMemory) -> DriveFault {
+        DriveFault::NoMemory
+    }
+}
+
 /// A history to which events can be added.
 pub trait Events {
+    /// The history.
     ghost booked: { Self → Booked };
 
-    /// Why an event is refused, if it is.
-    ghost rule: { Rule };
+    /// The events that can be made.
+    ghost takes: { Ev → Type 0 };
 
     /// Makes an event. If it is refused, the history is unchanged.
-    fn event(&mut self, event: Event) -> Result<(), Refusal>
-        ensures { HasTaken rule event (booked self.old) (booked self.new) result };
+    fn event(&mut self, alloc: Global, event: Event) -> Result<(), Refusal>
+        requires { takes event }
+        ensures { HasTaken event (booked self.old) (booked self.new) result };
 
     /// Returns the least call that hasn't committed.
     fn open_call(&self) -> Option<u32>
@@ -56,14 +83,15 @@ fn fault_at(refusal: Refusal, n: u32) -> DriveFault
 
 /// Makes events one after another, up to the first that is refused. On an error the history is that before the refused
 /// event.
-pub fn drive<E: Events>(history: &mut E, events: &[Event]) -> Result<(), DriveFault>
-    requires { length events.now < 2 ^ 32 }
-    ensures { Driven E.rule events.now (E.booked history.old) (E.booked history.new) result }
+pub fn drive<E: Events>(alloc: Global, history: &mut E, events: &[Event]) -> Result<(), DriveFault>
+    requires few { length events.now < 2 ^ 32 }
+    requires takes { All E.takes events.now }
+    ensures { Driven events.now (E.booked history.old) (E.booked history.new) result }
 {
     let mut n: u32 = 0;
     for event in events {
         n += 1;
-        if let Err(refusal) = history.event(*event) {
+        if let Err(refusal) = history.event(alloc, *event) {
             return Err(fault_at(refusal, n));
         }
     }
