@@ -6,3 +6,10 @@ pub mod Lows
 pub mod Recents
 pub mod Ending
 pub mod Driving
+pub mod Telling
+pub mod Putting
+pub mod Stored
+pub mod Taking
+pub mod Refusing
+pub mod Changed
+pub mod Turning

@@ -4,3 +4,5 @@ pub mod Lives
 pub mod Calls
 pub mod Books
 pub mod Drives
+pub mod Cores
+pub mod Told

@@ -2,8 +2,15 @@
 #![tactic(auto)]
 
 pub mod book;
+mod commit;
 pub mod drive;
+pub mod engine;
+mod events;
 mod live;
 mod progress;
 mod roomy;
+mod running;
+pub mod runs;
 pub mod script;
+mod tasks;
+mod told;

@@ -1,0 +1,113 @@
+-- When an event is refused, and what it leaves.
+use Rattle.std.proofs.Common.{◌≡◌, ℕ, ◌+◌, ◌<◌, Bool, true, false, not, List, [], Option, Some, None, length, drop, get_or, if◌then◌else◌, refl, sym, ap, ◌∙◌, arith, append-nil, eq-eqb, rules}
+use Rattle.std.specs.Prelude.{◌==◌, ◌&&◌, nat_lt}
+use Rattle.std.proofs.lemmas.Bool.Decides.{eqb_tells}
+use Rattle.std.proofs.lemmas.List.{drop_more, length-map}
+use Rattle.std.proofs.lemmas.Option.{slice_get-get_or, slice_get_within}
+use Rattle.mv_record.specs.declared.record.Record.{Record}
+use Rattle.mv_record.specs.Runs.{Tables, Run}
+use Rattle.mv_record.specs.Writes.{AreRising}
+use Rattle.mv_values.specs.declared.calls.Call.{Call}
+use Rattle.mv_graph.specs.declared.graph.Graph.{Graph}
+use Rattle.mv_graph.specs.Nodes.{meaning_of}
+use Rattle.mv_exec.specs.declared.task.Task.{Task}
+use Rattle.mv_exec.specs.Running.{IsTaskOf, Leaves}
+use Rattle.mv_journal.specs.declared.event.Event.TheVariants.{B}
+use Rattle.mv_journal.specs.declared.outcome.Round.{Round}
+use Rattle.mv_lawful.specs.declared.fault.Fault.{Fault}
+use Rattle.mv_lawful.specs.declared.fault.Fault.TheVariants.{Order}
+use Rattle.mv_lawful.specs.Work.{Work, table_at, records_at}
+use Rattle.mv_lawful.specs.Lawful.{Live, Course, used, has_step, unless, of_live, of_call, begin, first_open, open_call}
+use Rattle.mv_core.specs.declared.script.Script.{Script}
+use Rattle.mv_core.specs.Scripts.{work_of, IsScript}
+use Rattle.mv_core.specs.Calls.{IsLive, IsLiveCall, turn_of}
+use Rattle.mv_core.specs.Books.{Booked, work_in, Made, IsSame, HasRounds}
+use Rattle.mv_core.specs.Drives.{HasMade}
+use Rattle.mv_core.specs.Cores.{IsLiveTask, HasTurns}
+use Rattle.mv_core.proofs.Stored.{run_is, table_database}
+use Rattle.mv_core.proofs.Taking.{one_live}
+use Rattle.mv_core.proofs.Journals.{room_of}
+
+-- Refusals
+
+pub live_is : (s : Course) (c : ℕ) (f : Live → Option Fault) (l : Live) → IsLive s c l → of_call s c f ≡ f l
+live_is s c f l live = ap (λ o. of_live o f) live.at ∙ ap (λ b. unless (not b) Order (f l)) live.live
+
+pub same_made : (old new : Booked) → IsSame old new → HasMade [] old new
+same_made old new s = record { allowed = tt; course = s.course; journal = s.journal ∙ sym (append-nil old.journal); script = s.script }
+
+-- A begin
+
+pub both_true : (a b : Bool) → (a && b) ≡ true → (a ≡ true) × (b ≡ true)
+both_true true true h = (refl, refl)
+both_true true false h = absurd (search (rules, h))
+both_true false b h = absurd (search (rules, h))
+
+pub begun_number : (c : ℕ) (old new : Booked) → Made (B c) old new → c ≡ length old.course.calls
+begun_number c old new made = (room_of (work_in old) (length old.course.calls) c made.allowed).0
+
+-- Whether a statement is left
+
+-- what a task's records and its end tell of the full run
+pub step_is : (s : Script) (course : Course) (c : ℕ) (l : Live) (t : Task) (more : Bool) → IsScript s → c < length s.calls → IsLiveTask s course.order c l t → used l ≡ 0
+    → ((g : Graph) (call : Call) (db : Tables) (rest : List Record) → IsTaskOf g call t → AreRising db → Leaves g call db t rest → more ≡ nat_lt l.steps (length (meaning_of g call db).records))
+    → has_step (work_of s) course c l ≡ more
+step_is s course c l t more k lt task first told =
+    let has = k.1.there c lt in
+    let db : Tables = table_at (work_of s) course.order l.start in
+    let way = task.runs has.0 has.1 has.2 in
+    ap (λ b. b && nat_lt l.steps (length (records_at (work_of s) course.order l.start c))) (eq-eqb (used l) 0 first)
+    ∙ (ap (λ (r : Run). nat_lt l.steps (length r.records)) (run_is s c has.0 has.1 db has.2)
+    ∙ sym (told has.1 has.0 db way.rest way.is (table_database k.0 s course.order l.start k.1).rising way.leaves))
+
+pub step_past : (w : Work) (s : Course) (c : ℕ) (l : Live) → (used l ≡ 0 → ⊥) → has_step w s c l ≡ false
+step_past w s c l past = ap (λ b. b && nat_lt l.steps (length (records_at w s.order l.start c))) (apart (used l) past) where
+  apart : (n : ℕ) → (n ≡ 0 → ⊥) → (n == 0) ≡ false
+  apart n h = by (n == 0) refl where
+    same : (n == 0) ≡ true → n ≡ 0
+    same e = grind (arith, eqb_tells, e)
+    by : (b : Bool) → (n == 0) ≡ b → (n == 0) ≡ false
+    by true e = absurd (h (same e))
+    by false e = e
+
+-- a call has as many rounds as turns
+pub used_rounds : (b : Booked) (c : ℕ) (l : Live) (rs : List Round) → HasRounds b c rs → IsLive b.course c l → HasTurns l → length rs ≡ used l + 1
+used_rounds b c l rs h live turns =
+    let one : h.live ≡ l = one_live b.course c h.live l h.is_live live in
+    let many = sym (length-map rs turn_of) ∙ (ap length h.turns ∙ (ap (λ (x : Live). length x.turns) one ∙ ap length turns.turns)) in
+    let all = ap length turns.turns in
+    omega (arith, many, all)
+
+-- The first call that hasn't committed
+
+less_is : (n m : ℕ) → n < m → nat_lt n m ≡ true
+less_is n m lt = grind (arith, lt)
+
+first_at : (w : Work) (s : Course) (k : ℕ) → first_open 0 s.calls ≡ k → k < w.count → Some k ≡ open_call w s
+first_at w s k is lt = sym (ap (λ n. if nat_lt n w.count then Some n else None) is ∙ ap (λ b. if b then Some k else None) (less_is k w.count lt))
+
+-- the first open call from here on, if there is a call here
+open_by : (ls : List Live) (k : ℕ) → k < length ls → first_open k (drop k ls) ≡ (if (get_or ls k (begin 0)).done then first_open (k + 1) (drop (k + 1) ls) else k)
+open_by ls k lt = ap (first_open k) (drop_more ls k (begin 0) lt)
+
+-- all calls before this one have committed, and it is live
+pub open_at : (b : Booked) (k : ℕ) → first_open 0 b.course.calls ≡ first_open k (drop k b.course.calls) → IsLiveCall b.course k → k < length b.script.calls → Some k ≡ open_call (work_in b) b.course
+open_at b k before live lt =
+    first_at (work_in b) b.course k (before ∙ (open_by ls k within ∙ ap (λ x. if x then first_open (k + 1) (drop (k + 1) ls) else k) (ap (λ (l : Live). l.done) one ∙ live.1.live))) lt where
+      ls : List Live
+      ls = b.course.calls
+      within : k < length ls
+      within = slice_get_within ls k live.0 live.1.at
+      both : Some (get_or ls k (begin 0)) ≡ Some live.0
+      both = sym (slice_get-get_or ls k (begin 0) within) ∙ live.1.at
+      one : get_or ls k (begin 0) ≡ live.0
+      one = search (rules, both)
+
+-- it isn't live, so it has committed too
+pub open_next : (s : Course) (k : ℕ) → first_open 0 s.calls ≡ first_open k (drop k s.calls) → (IsLiveCall s k → ⊥) → k < length s.calls → first_open 0 s.calls ≡ first_open (k + 1) (drop (k + 1) s.calls)
+open_next s k before none lt = before ∙ (open_by s.calls k lt ∙ ap (λ x. if x then first_open (k + 1) (drop (k + 1) s.calls) else k) (done l.done refl)) where
+  l : Live
+  l = get_or s.calls k (begin 0)
+  done : (d : Bool) → l.done ≡ d → l.done ≡ true
+  done true e = e
+  done false e = absurd (none (l, record { at = slice_get-get_or s.calls k (begin 0) lt; live = e }))

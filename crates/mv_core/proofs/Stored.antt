@@ -1,0 +1,326 @@
+-- The tables of a history, and what a store keeps of them.
+use Rattle.std.proofs.Common.{◌≡◌, ◌⊎◌, inl, inr, ℕ, zero, suc, ◌+◌, ◌<◌, ◌≤◌, Bool, true, false, not, List, [], ◌∷◌, ◌++◌, Option, Some, None, length, take, drop, is_some, refl, sym, ap, subst, ◌∙◌, arith, length-append, rules}
+use Rattle.std.specs.Prelude.{slice_get, nat_lt}
+use Rattle.std.specs.List.{flat_map}
+use Rattle.std.proofs.lemmas.List.{take_all}
+use Rattle.mv_values.specs.declared.calls.Call.{Call}
+use Rattle.mv_values.specs.declared.schema.TableInfo.{TableInfo}
+use Rattle.mv_values.specs.Patching.{applied}
+use Rattle.mv_record.specs.declared.record.Record.{Record}
+use Rattle.mv_record.specs.Runs.{Tables, Run}
+use Rattle.mv_record.specs.Databases.{IsDatabaseOf}
+use Rattle.mv_record.specs.Writes.{AreRising}
+use Rattle.mv_recorded.proofs.Fronts.{left_is}
+use Rattle.mv_graph.specs.declared.graph.Graph.{Graph}
+use Rattle.mv_graph.specs.Nodes.{meaning_of}
+use Rattle.mv_history.specs.declared.change.Change.{Change}
+use Rattle.mv_history.specs.declared.change.Hit.{Hit}
+use Rattle.mv_history.specs.Changes.{changes_between, Covers}
+use Rattle.mv_history.specs.Hits.{is_unhit}
+use Rattle.mv_history.proofs.Covering.{changes_cover}
+use Rattle.mv_history.proofs.Joining.{covers_join}
+use Rattle.mv_history.proofs.Judging.{no_hit_is_unhit}
+use Rattle.mv_alike.proofs.Unhit.{unhit_same}
+use Rattle.mv_lawful.specs.declared.fault.Fault.TheVariants.{Stale, Conflict}
+use Rattle.mv_lawful.specs.Work.{Work, tables_after, table_at, records_at, changes_after, since, hit_of}
+use Rattle.mv_lawful.specs.Lawful.{Live, Course, unless, refusal, after, is_stale}
+use Rattle.mv_journal.specs.declared.event.Event.{Event}
+use Rattle.mv_journal.specs.declared.event.Event.TheVariants.{C}
+use Rattle.mv_view.specs.Viewing.{Sight}
+use Rattle.mv_store.specs.Stored.{Versioned, database_at, newest, own_writes, IsLike}
+use Rattle.mv_store.specs.Changes.{HasPut, HasDropped, HasStamped}
+use Rattle.mv_core.specs.declared.script.Script.{Script}
+use Rattle.mv_core.specs.Scripts.{work_of, run_in, run_by, IsCallOf, CanRun, IsScriptOf, IsScript}
+use Rattle.mv_core.specs.Told.{reply_told, writes_told}
+use Rattle.mv_core.specs.Calls.{IsLive, IsLiveCall}
+use Rattle.mv_core.specs.Books.{Booked, work_in, last_tables, last_run, last_changes, Made, IsSame, IsNotStale, AreRecordsOf}
+use Rattle.mv_core.specs.Cores.{IsDatabaseIn, IsStored, IsStoreOf}
+use Rattle.mv_core.proofs.Telling.{told_reply, told_tables}
+use Rattle.mv_core.proofs.Numbers.{table_stays}
+use Rattle.mv_core.proofs.Journals.{live_at}
+
+-- Databases
+
+-- a call leaves a database of the same tables
+run_database : (tables : List TableInfo) (s : Script) (c : ℕ) (db : Tables) → IsScriptOf tables s → IsDatabaseOf tables db → IsDatabaseOf tables ((work_of s).run c db).tables
+run_database tables s c db k d = by (slice_get s.calls c) refl where
+  graph : (call : Call) (o : Option Graph) → slice_get s.calls c ≡ Some call → slice_get s.graphs call.procedure ≡ o → IsDatabaseOf tables (run_by o call db).tables
+  graph call None at there = d
+  graph call (Some g) at there =
+      let can : CanRun tables call g = k.runs c call g (record { call_is = at; graph_is = there }) in
+      subst (λ ts. IsDatabaseOf ts (meaning_of g call db).tables) can.over
+          (left_is g.tables g.procedure call db can.sound.procedure can.suits (subst (λ ts. IsDatabaseOf ts db) (sym can.over) d))
+  by : (o : Option Call) → slice_get s.calls c ≡ o → IsDatabaseOf tables (run_in s.graphs o db).tables
+  by None at = d
+  by (Some call) at = graph call (slice_get s.graphs call.procedure) at refl
+
+after_database : (tables : List TableInfo) (s : Script) (cs : List ℕ) (db : Tables) → IsScriptOf tables s → IsDatabaseOf tables db → IsDatabaseOf tables (tables_after (work_of s) db cs)
+after_database tables s [] db k d = d
+after_database tables s (c ∷ cs) db k d = after_database tables s cs ((work_of s).run c db).tables k (run_database tables s c db k d)
+
+pub table_database : (tables : List TableInfo) (s : Script) (order : List ℕ) (n : ℕ) → IsScriptOf tables s → IsDatabaseOf tables (table_at (work_of s) order n)
+table_database tables s order n k = after_database tables s (take n order) s.opening k k.opening
+
+after_more : (w : Work) (db : Tables) (cs : List ℕ) (c : ℕ) → tables_after w db (cs ++ c ∷ []) ≡ (w.run c (tables_after w db cs)).tables
+after_more w db [] c = refl
+after_more w db (x ∷ cs) c = after_more w (w.run x db).tables cs c
+
+pub table_more : (w : Work) (order : List ℕ) (c n : ℕ) → n ≡ length order + 1 → table_at w (order ++ c ∷ []) n ≡ (w.run c (table_at w order (length order))).tables
+table_more w order c n is =
+    let len = length-append order (c ∷ []) in
+    ap (tables_after w w.opening) (take_all n (order ++ c ∷ []) (omega (arith, is, len)))
+    ∙ (after_more w w.opening order c ∙ ap (λ cs. (w.run c (tables_after w w.opening cs)).tables) (sym (take_all (length order) order (omega arith))))
+
+pub database_in : (s : Script) (order : List ℕ) (c n : ℕ) (db : Tables) → IsScript s → db ≡ table_at (work_of s) order n → IsDatabaseIn s c db
+database_in s order c n db k is call g here =
+    subst (λ ts. IsDatabaseOf ts db) (sym (k.1.runs c call g here).over) (subst (IsDatabaseOf k.0) (sym is) (table_database k.0 s order n k.1))
+
+-- A call runs by its graph
+
+pub run_is : (s : Script) (c : ℕ) (call : Call) (g : Graph) (db : Tables) → IsCallOf s c call g → (work_of s).run c db ≡ meaning_of g call db
+run_is s c call g db is = ap (λ o. run_in s.graphs o db) is.call_is ∙ ap (λ o. run_by o call db) is.graph_is
+
+-- What full records tell
+
+pub told_run : (s : Script) (order : List ℕ) (c n : ℕ) (rs : List Record) → IsScript s → c < length s.calls → rs ≡ records_at (work_of s) order n c
+    → (reply_told rs ≡ ((work_of s).run c (table_at (work_of s) order n)).reply) × (applied (writes_told rs) (table_at (work_of s) order n) ≡ ((work_of s).run c (table_at (work_of s) order n)).tables)
+told_run s order c n rs k lt is =
+    let db : Tables = table_at (work_of s) order n in
+    let has = k.1.there c lt in
+    let rise = (table_database k.0 s order n k.1).rising in
+    let run : (work_of s).run c db ≡ meaning_of has.1 has.0 db = run_is s c has.0 has.1 db has.2 in
+    let same : rs ≡ (meaning_of has.1 has.0 db).records = is ∙ ap (λ (r : Run). r.records) run in
+    (told_reply has.1 has.0 db rs rise same ∙ sym (ap (λ (r : Run). r.reply) run), told_tables has.1 has.0 db rs rise same ∙ sym (ap (λ (r : Run). r.tables) run))
+
+-- Records that no commit hits
+
+-- the changes of commits, in one list
+abbrev all_of : List (List Change) → List Change
+all_of commits = flat_map (λ changes. changes) commits
+
+covers_after : (tables : List TableInfo) (s : Script) (cs : List ℕ) (db : Tables) → IsScriptOf tables s → IsDatabaseOf tables db
+    → Covers (all_of (changes_after (work_of s) db cs)) db (tables_after (work_of s) db cs)
+covers_after tables s [] db k d = λ t key. refl
+covers_after tables s (c ∷ cs) db k d =
+    let new : Tables = ((work_of s).run c db).tables in
+    let next : IsDatabaseOf tables new = run_database tables s c db k d in
+    covers_join (changes_between db new) (all_of (changes_after (work_of s) new cs)) db new (tables_after (work_of s) new cs)
+        (changes_cover db new d.rising next.rising (d.size ∙ sym next.size)) (covers_after tables s cs new k next)
+
+-- the changes after the first n commits are those of the commits after them, from the tables that these left
+changes_past : (w : Work) (db : Tables) (cs : List ℕ) (n : ℕ) → drop n (changes_after w db cs) ≡ changes_after w (tables_after w db (take n cs)) (drop n cs)
+changes_past w db [] zero = refl
+changes_past w db [] (suc n) = refl
+changes_past w db (c ∷ cs) zero = refl
+changes_past w db (c ∷ cs) (suc n) = changes_past w (w.run c db).tables cs n
+
+tables_past : (w : Work) (db : Tables) (cs : List ℕ) (n : ℕ) → tables_after w (tables_after w db (take n cs)) (drop n cs) ≡ tables_after w db cs
+tables_past w db [] zero = refl
+tables_past w db [] (suc n) = refl
+tables_past w db (c ∷ cs) zero = refl
+tables_past w db (c ∷ cs) (suc n) = tables_past w (w.run c db).tables cs n
+
+covers_since : (tables : List TableInfo) (s : Script) (order : List ℕ) (start : ℕ) → IsScriptOf tables s
+    → Covers (all_of (since (work_of s) order start)) (table_at (work_of s) order start) (table_at (work_of s) order (length order))
+covers_since tables s order start k =
+    let w : Work = work_of s in
+    let old : Tables = table_at w order start in
+    let end : tables_after w old (drop start order) ≡ table_at w order (length order) = tables_past w s.opening order start ∙ sym (ap (tables_after w s.opening) (take_all (length order) order (omega arith))) in
+    subst (λ (commits : List (List Change)). Covers (all_of commits) old (table_at w order (length order))) (sym (changes_past w s.opening order start))
+    (subst (Covers (all_of (changes_after w old (drop start order))) old) end (covers_after tables s (drop start order) old k (table_database tables s order start k)))
+
+-- a call that no commit after its start hits has the same records after all commits
+pub unhit_records : (s : Script) (order : List ℕ) (c start : ℕ) → IsScript s → c < length s.calls → hit_of (work_of s) order start c ≡ None
+    → records_at (work_of s) order (length order) c ≡ records_at (work_of s) order start c
+unhit_records s order c start k lt none =
+    let w : Work = work_of s in
+    let has = k.1.there c lt in
+    let call : Call = has.0 in
+    let g : Graph = has.1 in
+    let can : CanRun k.0 call g = k.1.runs c call g has.2 in
+    let old : Tables = table_at w order start in
+    let new : Tables = table_at w order (length order) in
+    let at_old : records_at w order start c ≡ (meaning_of g call old).records = ap (λ (r : Run). r.records) (run_is s c call g old has.2) in
+    let at_new : records_at w order (length order) c ≡ (meaning_of g call new).records = ap (λ (r : Run). r.records) (run_is s c call g new has.2) in
+    let unhit = no_hit_is_unhit (start + 1) (since w order start) (records_at w order start c) none in
+    at_new ∙ (unhit_same g.tables g.procedure call old new (all_of (since w order start)) (record {
+      procedure = can.sound.procedure;
+      arguments = can.suits;
+      old_is = subst (λ ts. IsDatabaseOf ts old) (sym can.over) (table_database k.0 s order start k.1);
+      new_is = subst (λ ts. IsDatabaseOf ts new) (sym can.over) (table_database k.0 s order (length order) k.1);
+      covers = covers_since k.0 s order start k.1;
+    }) (subst (λ (rs : List Record). is_unhit (all_of (since w order start)) [] rs ≡ true) at_old unhit) ∙ sym at_old)
+
+-- a call that may commit isn't stale and isn't hit
+pub commit_free : (w : Work) (s : Course) (c : ℕ) (l : Live) → IsLive s c l → refusal w s (C c) ≡ None → (is_stale s l ≡ false) × (hit_of w s.order l.start c ≡ None)
+commit_free w s c l live free = by (live_at s c (λ x. unless (not (is_stale s x)) Stale (unless (not (is_some (hit_of w s.order x.start c))) Conflict None)) free) where
+  parts : (stale : Bool) (hit : Option Hit) → unless (not stale) Stale (unless (not (is_some hit)) Conflict None) ≡ None → (stale ≡ false) × (hit ≡ None)
+  parts false None e = (refl, refl)
+  parts false (Some h) e = absurd (search (rules, e))
+  parts true hit e = absurd (search (rules, e))
+  by : (x : Live) × IsLive s c x × (unless (not (is_stale s x)) Stale (unless (not (is_some (hit_of w s.order x.start c))) Conflict None) ≡ None) → (is_stale s l ≡ false) × (hit_of w s.order l.start c ≡ None)
+  by h =
+      let both : Some h.0 ≡ Some l = sym h.1.at ∙ live.at in
+      let one : h.0 ≡ l = search (rules, both) in
+      subst (λ (x : Live). (is_stale s x ≡ false) × (hit_of w s.order x.start c ≡ None)) one (parts (is_stale s h.0) (hit_of w s.order h.0.start c) h.2)
+
+-- Stores
+
+-- a history with the same order and low
+pub stored_on : (old new : Booked) (store : Versioned) → IsStoreOf old store → new.script ≡ old.script → new.course.order ≡ old.course.order → new.course.low ≡ old.course.low → IsStoreOf new store
+stored_on old new store k script order low =
+    subst (λ (s : Script). IsStored s new.course.order new.course.low store) (sym script)
+    (subst (λ (o : List ℕ). IsStored old.script o new.course.low store) (sym order) (subst (λ n. IsStored old.script old.course.order n store) (sym low) k))
+
+pub stored_same : (old new : Booked) (store : Versioned) → IsStoreOf old store → IsSame old new → IsStoreOf new store
+stored_same old new store k same = stored_on old new store k same.script (ap (λ (s : Course). s.order) same.course) (ap (λ (s : Course). s.low) same.course)
+
+pub stored_made : (e : Event) (old new : Booked) (store : Versioned) → IsStoreOf old store → Made e old new → (after (work_in old) old.course e).order ≡ old.course.order → (after (work_in old) old.course e).low ≡ old.course.low → IsStoreOf new store
+stored_made e old new store k made order low = stored_on old new store k made.script (ap (λ (s : Course). s.order) made.course ∙ order) (ap (λ (s : Course). s.low) made.course ∙ low)
+
+same_or_apart : (a b : ℕ) → (a ≡ b) ⊎ (a ≡ b → ⊥)
+same_or_apart zero zero = inl refl
+same_or_apart zero (suc b) = inr (λ e. omega (arith, e))
+same_or_apart (suc a) zero = inr (λ e. omega (arith, e))
+same_or_apart (suc a) (suc b) = more (same_or_apart a b) where
+  more : (a ≡ b) ⊎ (a ≡ b → ⊥) → (suc a ≡ suc b) ⊎ (suc a ≡ suc b → ⊥)
+  more (inl h) = inl (ap suc h)
+  more (inr h) = inr (λ e. h (omega (arith, e)))
+
+-- the writes of a call were dropped
+pub stored_dropped : (b : Booked) (store new : Versioned) (c : ℕ) → IsStoreOf b store → HasDropped c store new → IsStoreOf b new
+stored_dropped b store new c k drops = record {
+  script = k.script;
+  last = drops.reads.last ∙ k.last;
+  low_is = drops.reads.low ∙ k.low_is;
+  below = k.below;
+  reads = λ n from le. drops.reads.database n ∙ k.reads n from le;
+  own = λ call. by call (same_or_apart c call);
+} where
+  by : (call : ℕ) → (c ≡ call) ⊎ (c ≡ call → ⊥) → own_writes new call ≡ []
+  by call (inl e) = subst (λ d. own_writes new d ≡ []) e drops.own
+  by call (inr ne) = drops.others call ne ∙ k.own call
+
+at_or_before : (n m : ℕ) → n ≤ m + 1 → (n ≤ m) ⊎ (n ≡ m + 1)
+at_or_before zero m le = inl (omega arith)
+at_or_before (suc n) zero le = inr (omega (arith, le))
+at_or_before (suc n) (suc m) le = by (at_or_before n m (omega (arith, le))) where
+  by : (n ≤ m) ⊎ (n ≡ m + 1) → (suc n ≤ suc m) ⊎ (suc n ≡ suc m + 1)
+  by (inl h) = inl (omega (arith, h))
+  by (inr h) = inr (omega (arith, h))
+
+-- a call commits, and its writes were stamped
+pub stored_stamped : (s : Script) (order : List ℕ) (low c n : ℕ) (rs : List Record) (store mid new : Versioned) → IsStored s order low store → c < length s.calls → n ≡ length order + 1
+    → IsLike store (table_at (work_of s) order (length order)) → HasPut c (writes_told rs) store mid → HasStamped c n mid new → rs ≡ records_at (work_of s) order (length order) c
+    → IsStored s (order ++ c ∷ []) low new
+stored_stamped s order low c n rs store mid new k lt is like put stamp full = record {
+  script = k.script;
+  last = let len = longer in let a = stamp.last in omega (arith, len, a, is);
+  low_is = stamp.low ∙ (put.reads.low ∙ k.low_is);
+  below = let len = longer in let b = k.below in omega (arith, len, b);
+  reads = reads;
+  own = λ call. by call (same_or_apart c call);
+} where
+  longer : length (order ++ c ∷ []) ≡ length order + 1
+  longer = length-append order (c ∷ [])
+  db : Tables
+  db = table_at (work_of s) order (length order)
+  read : database_at store (length order) ≡ db
+  read = k.reads (length order) k.below (omega arith)
+  newest_is : newest mid ≡ db
+  newest_is = ap (database_at mid) (put.reads.last ∙ k.last) ∙ (put.reads.database (length order) ∙ read)
+  writes_are : applied (own_writes mid c) db ≡ applied (writes_told rs) db
+  writes_are = put.own db like ∙ ap (λ ws. applied (writes_told rs) (applied ws db)) (k.own c)
+  after_it : database_at new (length order + 1) ≡ ((work_of s).run c db).tables
+  after_it = stamp.after (length order + 1) (omega (arith, is)) ∙ (ap (applied (own_writes mid c)) newest_is ∙ (writes_are ∙ (told_run s order c (length order) rs k.script lt full).1))
+  reads : (m : ℕ) → low ≤ m → m ≤ length (order ++ c ∷ []) → database_at new m ≡ table_at (work_of s) (order ++ c ∷ []) m
+  reads m from le = at_one (at_or_before m (length order) (let len = longer in omega (arith, len, le))) where
+    at_one : (m ≤ length order) ⊎ (m ≡ length order + 1) → database_at new m ≡ table_at (work_of s) (order ++ c ∷ []) m
+    at_one (inl h) = stamp.before m (omega (arith, h, is)) ∙ (put.reads.database m ∙ (k.reads m from h ∙ sym (table_stays (work_of s) order c m h)))
+    at_one (inr h) = ap (database_at new) h ∙ (after_it ∙ (sym (table_more (work_of s) order c (length order + 1) refl) ∙ ap (table_at (work_of s) (order ++ c ∷ [])) (sym h)))
+  by : (call : ℕ) → (c ≡ call) ⊎ (c ≡ call → ⊥) → own_writes new call ≡ []
+  by call (inl e) = subst (λ d. own_writes new d ≡ []) e stamp.own
+  by call (inr ne) = stamp.others call ne ∙ (put.others call ne ∙ k.own call)
+
+pub stored_committed : (c : ℕ) (old new : Booked) (store : Versioned) → IsStored old.script (old.course.order ++ c ∷ []) old.course.low store → Made (C c) old new → IsStoreOf new store
+stored_committed c old new store k made =
+    subst (λ (s : Script). IsStored s new.course.order new.course.low store) (sym made.script)
+    (subst (λ (o : List ℕ). IsStored old.script o new.course.low store) (sym (ap (λ (s : Course). s.order) made.course))
+    (subst (λ n. IsStored old.script (old.course.order ++ c ∷ []) n store) (sym (ap (λ (s : Course). s.low) made.course)) k))
+
+-- Views
+
+-- a view of the tables after n commits
+abbrev pub sight_of : Versioned → ℕ → Sight
+sight_of store n = record { database = database_at store n; start = n; may_be_stale = nat_lt n store.low; stale_answers = 0; last_low = 0; rows_calls = 0; row_calls = 0 }
+
+not_below : (n m : ℕ) → nat_lt n m ≡ false → m ≤ n
+not_below n m e = grind (arith, e)
+
+pub at_least : (n m : ℕ) → m ≤ n → nat_lt n m ≡ false
+at_least n m le = grind (arith, le)
+
+-- the view shows the tables after n commits, and isn't stale
+pub record Shows (s : Script) (order : List ℕ) (n : ℕ) (v : Sight) : Type 0 where
+  pub database : v.database ≡ table_at (work_of s) order n
+  pub fresh : v.may_be_stale ≡ false
+
+shows : (b : Booked) (store : Versioned) (n : ℕ) (v : Sight) → IsStoreOf b store → b.course.low ≤ n → n ≤ length b.course.order → v ≡ sight_of store n → Shows b.script b.course.order n v
+shows b store n v k from past is = record {
+  database = ap (λ (w : Sight). w.database) is ∙ k.reads n from past;
+  fresh = ap (λ (w : Sight). w.may_be_stale) is ∙ (ap (nat_lt n) k.low_is ∙ at_least n b.course.low from);
+}
+
+-- a view at the start of a live call that isn't stale
+pub shows_start : (b : Booked) (store : Versioned) (c start : ℕ) (l : Live) (v : Sight) → IsStoreOf b store → IsNotStale b c → IsLive b.course c l → start ≡ l.start → start ≤ length b.course.order → v ≡ sight_of store start
+    → Shows b.script b.course.order l.start v
+shows_start b store c start l v k fresh live at past is =
+    let from : b.course.low ≤ l.start = not_below l.start b.course.low (fresh l live) in
+    shows b store l.start v k from (omega (arith, at, past)) (is ∙ ap (sight_of store) at)
+
+-- a view of the last tables
+pub shows_last : (b : Booked) (store : Versioned) (n : ℕ) (v : Sight) → IsStoreOf b store → n ≡ length b.course.order → v ≡ sight_of store n → Shows b.script b.course.order (length b.course.order) v
+shows_last b store n v k at is = shows b store (length b.course.order) v k k.below (omega arith) (is ∙ ap (sight_of store) at)
+
+pub database_shown : (b : Booked) (c n : ℕ) (s : Script) (v : Sight) → IsScript b.script → s ≡ b.script → Shows b.script b.course.order n v → IsDatabaseIn s c v.database
+database_shown b c n s v k is shows = subst (λ (x : Script). IsDatabaseIn x c v.database) (sym is) (database_in b.script b.course.order c n v.database k shows.database)
+
+pub rising_shown : (b : Booked) (n : ℕ) (v : Sight) → IsScript b.script → Shows b.script b.course.order n v → AreRising v.database
+rising_shown b n v k shows = subst AreRising (sym shows.database) (table_database k.0 b.script b.course.order n k.1).rising
+
+pub size_shown : (b : Booked) (n : ℕ) (s : Script) (v : Sight) → IsScript b.script → s ≡ b.script → Shows b.script b.course.order n v → length s.opening ≡ length v.database
+size_shown b n s v k is shows =
+    ap (λ (x : Script). length x.opening) is ∙ (k.1.opening.size ∙ (sym (table_database k.0 b.script b.course.order n k.1).size ∙ sym (ap length shows.database)))
+
+-- A commit
+
+-- the records of a call that may commit, run at its start, are those of its full run after all commits
+pub last_records : (b : Booked) (store : Versioned) (c : ℕ) (rs : List Record) → IsStoreOf b store → c < length b.script.calls → IsLiveCall b.course c → AreRecordsOf b c rs → refusal (work_in b) b.course (C c) ≡ None
+    → rs ≡ records_at (work_in b) b.course.order (length b.course.order) c
+last_records b store c rs k lt live are free =
+    are live.0 live.1 ∙ sym (unhit_records b.script b.course.order c live.0.start k.script lt (commit_free (work_in b) b.course c live.0 live.1 free).1)
+
+pub last_reply : (b new : Booked) (store : Versioned) (c : ℕ) (rs : List Record) → IsStoreOf b store → c < length b.script.calls → rs ≡ records_at (work_in b) b.course.order (length b.course.order) c
+    → new.script ≡ b.script → new.course ≡ b.course → reply_told rs ≡ (last_run new c).reply
+last_reply b new store c rs k lt are script course =
+    (told_run b.script b.course.order c (length b.course.order) rs k.script lt are).0
+    ∙ (ap (λ (s : Script). ((work_of s).run c (table_at (work_of s) b.course.order (length b.course.order))).reply) (sym script)
+    ∙ ap (λ (s : Course). ((work_in new).run c (table_at (work_in new) s.order (length s.order))).reply) (sym course))
+
+pub last_made : (b mid new : Booked) (store : Versioned) (c : ℕ) (rs : List Record) (changes : List Change) → IsStoreOf b store → c < length b.script.calls → rs ≡ records_at (work_in b) b.course.order (length b.course.order) c
+    → IsSame b mid → new.script ≡ b.script → new.course ≡ b.course → changes ≡ changes_between (last_tables mid) (applied (writes_told rs) (last_tables mid)) → changes ≡ last_changes new c
+last_made b mid new store c rs changes k lt are same script course is =
+    is
+    ∙ (ap (λ (s : Script). changes_between (table_at (work_of s) mid.course.order (length mid.course.order)) (applied (writes_told rs) (table_at (work_of s) mid.course.order (length mid.course.order)))) same.script
+    ∙ (ap (λ (s : Course). changes_between (table_at (work_in b) s.order (length s.order)) (applied (writes_told rs) (table_at (work_in b) s.order (length s.order)))) same.course
+    ∙ (ap (changes_between (last_tables b)) (told_run b.script b.course.order c (length b.course.order) rs k.script lt are).1
+    ∙ (ap (λ (s : Script). changes_between (table_at (work_of s) b.course.order (length b.course.order)) ((work_of s).run c (table_at (work_of s) b.course.order (length b.course.order))).tables) (sym script)
+    ∙ ap (λ (s : Course). changes_between (table_at (work_in new) s.order (length s.order)) ((work_in new).run c (table_at (work_in new) s.order (length s.order))).tables) (sym course)))))
+
+-- the last tables are like those of the store
+pub like_last : (b : Booked) (store : Versioned) → IsStoreOf b store → ((n : ℕ) → IsLike store (database_at store n)) → IsLike store (last_tables b)
+like_last b store k like = subst (IsLike store) (k.reads (length b.course.order) k.below (omega arith)) (like (length b.course.order))
+
+pub last_same : (old new : Booked) → IsSame old new → last_tables new ≡ last_tables old
+last_same old new same =
+    ap (λ (s : Script). table_at (work_of s) new.course.order (length new.course.order)) same.script ∙ ap (λ (s : Course). table_at (work_in old) s.order (length s.order)) same.course

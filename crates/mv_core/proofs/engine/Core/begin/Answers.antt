@@ -1,0 +1,32 @@
+use Rattle.std.proofs.Common.{◌≡◌, ◌∷◌, [], List, Option, Some, Ok, take, sym, ap, subst, ◌∙◌, refl}
+use Rattle.std.proofs.lemmas.List.{take_at}
+use Rattle.mv_record.specs.Runs.{Tables}
+use Rattle.mv_exec.specs.declared.task.Task.{Task}
+use Rattle.mv_journal.specs.declared.event.Event.TheVariants.{B}
+use Rattle.mv_core.specs.declared.script.Script.{Script}
+use Rattle.mv_core.specs.declared.book.Begun.{Begun}
+use Rattle.mv_core.specs.Books.{Made, HasBegun}
+use Rattle.mv_core.specs.Cores.{RunsOn, IsCore}
+use Rattle.mv_core.proofs.Stored.{stored_made}
+use Rattle.mv_core.proofs.Taking.{begun_on}
+use Rattle.mv_core.proofs.Refusing.{begun_number}
+use Rattle.mv_core.proofs.Changed.{core_same}
+use Rattle.mv_core.proofs.engine.Core.begin.Goals as goal
+
+pub invariant_of-self-in-Ok-Some : goal.invariant_of-self-in-Ok-Some
+invariant_of-self-in-Ok-Some c =
+    let next = c.in-Some.ensures.next in
+    let begun : Made (B c.in-Ok-Some.begun.call) c.self.inside.book c.begin.new.self =
+        (subst (λ (o : Option Begun). HasBegun (Ok o) c.self.inside.book c.begin.new.self) c.in-Ok-Some.field-0-is c.in-Ok-Some.ensures).0 in
+    let made : Made (B c.in-Some.call) c.self.inside.book c.begin.new.self = subst (λ n. Made (B n) c.self.inside.book c.begin.new.self) (begun_number c.in-Ok-Some.begun.call c.self.inside.book c.begin.new.self begun ∙ sym next.0) begun in
+    subst (λ (ts : List (Option Task)). IsCore c.begin.new.self c.self.inside.store ts) (sym c.in_ok-push.ensures.items) (record {
+      stored = stored_made (B c.in-Some.call) c.self.inside.book c.begin.new.self c.self.inside.store c.self.invariant.stored made refl refl;
+      tasks = begun_on c.self.inside.book c.begin.new.self c.self.inside.tasks.items c.in-Some.call c.in_ok-task.task c.self.invariant.tasks made next.0 next.1
+          (subst (λ (s : Script). (db : Tables) → RunsOn s c.in-Some.call db c.in_ok-task.task) c.script.ensures c.in_ok-task.ensures.runs) c.in_ok-task.ensures.records c.in_ok-task.ensures.executed;
+    })
+
+pub invariant_of-self-in-Err : goal.invariant_of-self-in-Err
+invariant_of-self-in-Err c =
+    let back : c.truncate.new.self.items ≡ c.self.inside.tasks.items =
+        c.truncate.ensures.items ∙ (ap (take c.in-Some.call) c.in_ok-push.ensures.items ∙ take_at c.self.inside.tasks.items (Some c.in_ok-task.task ∷ []) c.in-Some.call (c.self.invariant.tasks.count ∙ sym c.in-Some.ensures.next.0)) in
+    subst (λ (ts : List (Option Task)). IsCore c.begin.new.self c.self.inside.store ts) (sym back) (core_same c.self.inside.book c.begin.new.self c.self.inside.store c.self.inside.tasks.items c.self.invariant c.in-Err.ensures)

@@ -1,0 +1,68 @@
+use Rattle.std.proofs.Common.{arith, ◌≡◌, ◌+◌, sym, ap, ◌∙◌, refl}
+use Rattle.std.specs.Prelude.{not}
+use Rattle.mv_journal.specs.declared.event.Event.TheVariants.{S}
+use Rattle.mv_lawful.specs.Lawful.{used}
+use Rattle.mv_exec.specs.Running.{stepped}
+use Rattle.mv_core.specs.Books.{work_in}
+use Rattle.mv_core.proofs.Stored.{stored_made}
+use Rattle.mv_core.proofs.Taking.{task_there, task_read, call_within, tasks_set, stepped_on}
+use Rattle.mv_core.proofs.Changed.{core_same, live_now, step_now, step_used, live_stepped, step_told, made_now}
+use Rattle.mv_core.proofs.engine.Core.step.Goals as goal
+
+pub unreachable-requires : goal.unreachable-requires
+unreachable-requires c =
+    let k = core_same c.self.inside.book c.reserve.new.self c.self.inside.store c.self.inside.tasks.items c.self.invariant c.reserve.ensures.same in
+    task_there c.reserve.new.self.script c.reserve.new.self.course c.self.inside.tasks.items c.args.call c.index_mut.result.now k.tasks
+    (live_now c.self.inside.book c.args.self.now c.reserve.new.self c.args.call c.self.view_is c.requires.live c.reserve.ensures.same) c.index_mut.ensures.value c.in_default.is
+
+pub step_task-requires-clause-number : goal.step_task-requires-clause-number
+step_task-requires-clause-number c =
+    let k = core_same c.self.inside.book c.reserve.new.self c.self.inside.store c.self.inside.tasks.items c.self.invariant c.reserve.ensures.same in
+    call_within c.reserve.new.self.script c.reserve.new.self.course c.self.inside.tasks.items c.args.call k.tasks
+    (live_now c.self.inside.book c.args.self.now c.reserve.new.self c.args.call c.self.view_is c.requires.live c.reserve.ensures.same)
+
+pub step_task-requires-clause-task : goal.step_task-requires-clause-task
+step_task-requires-clause-task c =
+    let k = core_same c.self.inside.book c.reserve.new.self c.self.inside.store c.self.inside.tasks.items c.self.invariant c.reserve.ensures.same in
+    task_read c.reserve.new.self.script c.reserve.new.self.course c.self.inside.tasks.items c.args.call c.index_mut.result.now c.in-Some.task k.tasks c.index_mut.ensures.value c.in-Some.is
+
+pub invariant_of-self-in_err-step_task : goal.invariant_of-self-in_err-step_task
+invariant_of-self-in_err-step_task c =
+    let k = core_same c.self.inside.book c.reserve.new.self c.self.inside.store c.self.inside.tasks.items c.self.invariant c.reserve.ensures.same in
+    record {
+      stored = k.stored;
+      tasks = tasks_set c.reserve.new.self.script c.reserve.new.self.course c.self.inside.tasks.items c.args.call c.step_task.new.task k.tasks
+          (live_now c.self.inside.book c.args.self.now c.reserve.new.self c.args.call c.self.view_is c.requires.live c.reserve.ensures.same) c.in_err-step_task.ensures.task;
+    }
+
+pub steps-requires : goal.steps-requires
+steps-requires c =
+    let live = live_now c.self.inside.book c.args.self.now c.reserve.new.self c.args.call c.self.view_is c.requires.live c.reserve.ensures.same in
+    (record live.0 { steps = live.0.steps + 1 }, live_stepped c.args.call c.reserve.new.self c.ran.new.self live.0 live.1 c.ran.ensures.made)
+
+pub has_more-requires : goal.has_more-requires
+has_more-requires c =
+    let live = live_now c.self.inside.book c.args.self.now c.reserve.new.self c.args.call c.self.view_is c.requires.live c.reserve.ensures.same in
+    let first : used live.0 ≡ 0 = step_used (work_in c.reserve.new.self) c.reserve.new.self.course c.args.call live.0 (step_now c.self.inside.book c.args.self.now c.reserve.new.self c.args.call c.self.view_is c.requires.left c.reserve.ensures.same live.0 live.1) in
+    let le = (c.in_ok-step_task.ensures.ok live.0 live.1).steps first in
+    let is = c.steps.ensures (record live.0 { steps = live.0.steps + 1 }) (live_stepped c.args.call c.reserve.new.self c.ran.new.self live.0 live.1 c.ran.ensures.made) in
+    omega (arith, le, is)
+
+pub invariant_of-self-2 : goal.invariant_of-self-2
+invariant_of-self-2 c =
+    let k = core_same c.self.inside.book c.reserve.new.self c.self.inside.store c.self.inside.tasks.items c.self.invariant c.reserve.ensures.same in
+    let live = live_now c.self.inside.book c.args.self.now c.reserve.new.self c.args.call c.self.view_is c.requires.live c.reserve.ensures.same in
+    record {
+      stored = stored_made (S c.args.call) c.reserve.new.self c.ran.new.self c.self.inside.store k.stored c.ran.ensures.made refl refl;
+      tasks = stepped_on c.reserve.new.self c.ran.new.self c.self.inside.tasks.items c.args.call live.0 c.step_task.new.task k.tasks live.1 c.ran.ensures.made (c.in_ok-step_task.ensures.ok live.0 live.1);
+    }
+
+pub returns : goal.returns
+returns c =
+    let k = core_same c.self.inside.book c.reserve.new.self c.self.inside.store c.self.inside.tasks.items c.self.invariant c.reserve.ensures.same in
+    let live = live_now c.self.inside.book c.args.self.now c.reserve.new.self c.args.call c.self.view_is c.requires.live c.reserve.ensures.same in
+    let first : used live.0 ≡ 0 = step_used (work_in c.reserve.new.self) c.reserve.new.self.course c.args.call live.0 (step_now c.self.inside.book c.args.self.now c.reserve.new.self c.args.call c.self.view_is c.requires.left c.reserve.ensures.same live.0 live.1) in
+    (made_now (S c.args.call) c.self.inside.book c.args.self.now c.reserve.new.self c.ran.new.self c.self.view_is c.reserve.ensures.same c.ran.ensures.made,
+    λ m at. c.stepped_of.ensures ∙ ap (λ b. stepped (not b)) (sym
+    (step_told c.reserve.new.self c.ran.new.self c.self.inside.store c.args.call live.0 c.step_task.new.task c.steps.result c.has_more.result k.stored
+    (call_within c.reserve.new.self.script c.reserve.new.self.course c.self.inside.tasks.items c.args.call k.tasks live) live.1 c.ran.ensures.made (c.in_ok-step_task.ensures.ok live.0 live.1) first c.steps.ensures c.has_more.ensures m at)))

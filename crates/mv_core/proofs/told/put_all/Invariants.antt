@@ -1,0 +1,7 @@
+use Rattle.std.proofs.Common.{take}
+use Rattle.mv_record.specs.Runs.{writes_in}
+use Rattle.mv_store.specs.Changes.{HasPut}
+use Rattle.mv_core.proofs.told.put_all.Given as goal
+
+abbrev pub invariant-loop-record : goal.invariant-loop-record
+invariant-loop-record l = HasPut l.call (writes_in (take l.record-index l.records)) l.fn.store l.store

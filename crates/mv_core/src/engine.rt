@@ -1,0 +1,248 @@
+//! A history with its tables and its running calls.
+
+ghost use Rattle.std.specs.Prelude.{◌≡◌, ◌<◌, ◌≤◌, [], ◌==◌, ◌&&◌, not, nat_lt, length, None, IfOk, IfSome, IfNone, OnOk};
+ghost use Rattle.mv_lawful.specs.Lawful.{Lawful, beginning, course_of, open_call, AllAllowed};
+ghost use Rattle.mv_lawful.specs.Outcomes.{outcome_of};
+ghost use Rattle.mv_exec.specs.Running.{stepped};
+ghost use Rattle.mv_core.specs.Calls.{IsLiveCall};
+ghost use Rattle.mv_core.specs.Scripts.{IsScript};
+ghost use Rattle.mv_core.specs.Books.{work_in, HasRounds};
+ghost use Rattle.mv_core.specs.Cores.{HasStep, MayStep, HasBegunCall, HasStepped, HasTried, HasMovedUp};
+
+use crate::book::{Book, Check};
+use crate::commit::commit_task;
+use crate::running::{has_more, new_task};
+use crate::script::Script;
+use crate::tasks::{finish_task, move_task, step_task};
+use mv_exec::step::Stepped;
+use mv_exec::task::Task;
+use mv_journal::event::Event;
+use mv_journal::outcome::{Mark, Outcome, Round};
+use mv_store::store::Store;
+use mv_values::memory::NoMemory;
+use mv_view::view::Refused;
+use std::alloc::Global;
+use std::marker::Model;
+
+/// What a call's attempt to commit comes to.
+#[derive(Clone, Copy)]
+pub enum Attempt {
+    /// The call has committed. This is the number of the commit.
+    Committed(u32),
+    /// The record of this number is hit, and this is the first commit that hits it.
+    Hit { number: usize, commit: u32 },
+    /// The call's start is below low.
+    Stale { start: u32, low: u32 },
+}
+
+/// A history, its tables after each commit from low on, and its running calls.
+#[derive(Drop)]
+pub struct Core {
+    book: Book,
+    store: Store,
+    /// The tasks of the calls that have begun, by number. A call that has committed has none.
+    tasks: Vec<Option<Task>>,
+}
+
+impl Model for Core {
+    ghost use Rattle.std.specs.Coded.{codes};
+    ghost use Rattle.mv_catalog.specs.contracts.resolved.RStmt as statement;
+    ghost use Rattle.mv_core.specs.Books.{Booked};
+    ghost use Rattle.mv_core.specs.Cores.{IsCore};
+
+    ghost Value = { Booked };
+
+    ghost coded = { Prim.hlevel (codes, statement.the_row.coded) };
+
+    ghost view = { λ c. c.book };
+
+    ghost invariant = { λ c. IsCore c.book c.store c.tasks.items };
+}
+
+impl Core {
+    /// Returns a core without events. It copies the opening database. Fails with `NoMemory` if memory runs out.
+    pub fn new(alloc: Global, script: Script) -> Result<Core, NoMemory>
+        requires { IsScript script }
+        ensures script { IfOk result (λ core. core.script ≡ script) }
+        ensures course { IfOk result (λ core. core.course ≡ beginning) }
+        ensures journal { IfOk result (λ core. core.journal ≡ []) }
+    {
+        let store = Store::new(alloc, &script.opening)?;
+        Ok(Core {
+            book: Book::new(alloc, script),
+            store,
+            tasks: Vec::new(alloc),
+        })
+    }
+
+    /// Begins the next call, after all commits. Returns `None` exactly if each call has begun. Fails with `NoMemory` if
+    /// memory runs out.
+    pub fn begin(&mut self, alloc: Global) -> Result<Option<u32>, NoMemory>
+        ensures { HasBegunCall result self.old self.new }
+    {
+        let Some(call) = self.book.next_call() else {
+            return Ok(None);
+        };
+        let task = new_task(alloc, self.book.script(), call)?;
+        self.tasks.push(Some(task))?;
+        match self.book.begin(alloc) {
+            Ok(Some(begun)) => Ok(Some(begun.call)),
+            Ok(None) => unreachable!(),
+            Err(error) => {
+                self.tasks.truncate(call as usize);
+                Err(error)
+            }
+        }
+    }
+
+    /// Executes the next statement of a live call. It reads the tables at the call's start. The call's first run must
+    /// have a statement left. Returns `Ended` exactly if it then has none. Fails with `Stale` exactly if the start is
+    /// below low, and with `NoMemory` if memory runs out. On an error all is as before.
+    pub fn step(&mut self, alloc: Global, call: u32) -> Result<Stepped, Refused>
+        requires live { IsLiveCall self.old.course call }
+        requires left { HasStep self.old call }
+        ensures { HasStepped call result self.old self.new }
+    {
+        let start = self.book.start(call);
+        let low = self.store.low();
+        if start < low {
+            return Err(Refused::Stale { start, low });
+        }
+        self.book.reserve(call)?;
+        let Some(task) = &mut self.tasks[call as usize] else {
+            unreachable!();
+        };
+        step_task(alloc, &self.book, &self.store, call, task)?;
+        self.book.ran(call);
+        Ok(stepped_of(has_more(task, self.book.steps(call))))
+    }
+
+    /// Tries to commit a live call. First it runs the rest of the call at its start. Returns `Hit` exactly if a commit
+    /// after the start hits a record of the call, and `Stale` exactly if the start is below low. Then nothing is
+    /// committed, as after `NoMemory`, which comes if memory runs out.
+    pub fn attempt(&mut self, alloc: Global, call: u32) -> Result<Attempt, NoMemory>
+        requires { IsLiveCall self.old.course call }
+        ensures { HasTried call result self.old self.new }
+    {
+        let start = self.book.start(call);
+        let low = self.store.low();
+        if start < low {
+            return Ok(Attempt::Stale { start, low });
+        }
+        let Some(task) = &mut self.tasks[call as usize] else {
+            unreachable!();
+        };
+        finish_task(alloc, &self.book, &self.store, call, task)?;
+        match self.book.check(call, task) {
+            Check::Free => {
+                let number = commit_task(alloc, &mut self.book, &mut self.store, call, task)?;
+                self.tasks[call as usize] = None;
+                Ok(Attempt::Committed(number))
+            }
+            Check::Hit { number, commit } => Ok(Attempt::Hit { number, commit }),
+            Check::Stale { start, low } => Ok(Attempt::Stale { start, low }),
+        }
+    }
+
+    /// Moves a live call: it starts anew after all commits, and is run whole. Returns the number of its records. Fails
+    /// with `NoMemory` if memory runs out, and then the call hasn't moved.
+    pub fn move_up(&mut self, alloc: Global, call: u32) -> Result<usize, NoMemory>
+        requires { IsLiveCall self.old.course call }
+        ensures { HasMovedUp call result self.old self.new }
+    {
+        self.book.reserve(call)?;
+        let task = move_task(alloc, &self.book, &self.store, call)?;
+        self.book.restart(call, Mark::Moved);
+        self.book.settle(call, &task);
+        let executed = task.executed();
+        self.tasks[call as usize] = Some(task);
+        Ok(executed)
+    }
+
+    /// Returns the events. The law of journals allows each of them after those before it.
+    pub fn journal(&self) -> &[Event]
+        ensures events { result.now ≡ self.now.journal }
+        ensures allowed { AllAllowed (work_in self.now) beginning self.now.journal }
+        ensures reaches { self.now.course ≡ course_of (work_in self.now) self.now.journal }
+    {
+        self.book.journal()
+    }
+
+    /// Returns the rounds of a live call. Returns `None` for a call that hasn't begun or has committed. The last round
+    /// has the call's start, and may not have its number yet.
+    pub fn rounds(&self, call: u32) -> Option<&[Round]>
+        ensures live { IfSome result (λ rounds. HasRounds self.now call rounds.now) }
+        ensures none { IfNone result (IsLiveCall self.now.course call → ⊥) }
+    {
+        self.book.rounds(call)
+    }
+
+    /// Returns the number of calls that have begun.
+    pub fn begun(&self) -> u32
+        ensures begun { result ≡ length self.now.course.calls }
+        ensures within { result ≤ length self.now.script.calls }
+    {
+        self.tasks.len() as u32
+    }
+
+    /// Returns the call that begins next, or none if each has begun.
+    pub fn next_call(&self) -> Option<u32>
+        ensures next { IfSome result (λ call. (call ≡ length self.now.course.calls) × (call < length self.now.script.calls)) }
+        ensures none { IfNone result (length self.now.course.calls ≡ length self.now.script.calls) }
+    {
+        self.book.next_call()
+    }
+
+    /// Whether this call begins next.
+    pub(crate) fn is_next(&self, call: u32) -> bool
+        ensures { result ≡ ((call == length self.now.course.calls) && nat_lt call (length self.now.script.calls)) }
+    {
+        match self.next_call() {
+            Some(next) => next == call,
+            None => false,
+        }
+    }
+
+    /// Whether the call is live and in its first round, which has a statement left.
+    pub(crate) fn may_step(&self, call: u32) -> bool
+        ensures { MayStep result self.now call }
+    {
+        let Some(rounds) = self.book.rounds(call) else {
+            return false;
+        };
+        let Some(task) = &self.tasks[call as usize] else {
+            unreachable!();
+        };
+        rounds.len() == 1 && has_more(task, self.book.steps(call))
+    }
+
+    /// Returns the least call that hasn't committed. Takes time linear in the number of calls that have begun.
+    pub fn open_call(&self) -> Option<u32>
+        ensures { result ≡ open_call (work_in self.now) self.now.course }
+    {
+        for call in 0..self.begun() {
+            if self.rounds(call).is_some() {
+                return Some(call);
+            }
+        }
+        self.next_call()
+    }
+
+    /// Turns the core into the outcome of its run: the replies by call, the commits with their rounds, the events, and
+    /// the tables after all commits. Each call must have committed. Fails with `NoMemory` if memory runs out.
+    pub fn outcome(self, alloc: Global) -> Result<Outcome, NoMemory>
+        requires { open_call (work_in self) self.course ≡ None }
+        ensures outcome { IfOk result (λ outcome. outcome ≡ outcome_of (work_in self) self.journal) }
+        ensures lawful { OnOk result (Lawful (work_in self) self.journal) }
+    {
+        let tables = self.store.tables_at(alloc, self.store.last())?;
+        self.book.outcome(alloc, tables)
+    }
+}
+
+/// Returns `Ran` if a statement is left.
+fn stepped_of(more: bool) -> Stepped
+    ensures { result ≡ stepped (not more) }
+{
+    if more { Stepped::Ran } else { Stepped::Ended }
+}

@@ -1,0 +1,86 @@
+//! The events of a core.
+
+ghost use Rattle.mv_journal.specs.declared.event.Event.TheVariants.{B, S, M, C};
+ghost use Rattle.mv_core.specs.Drives.{HasTaken, NeedsNoRepair};
+
+use crate::drive::{Events, Refusal};
+use crate::engine::{Attempt, Core};
+use mv_journal::event::Event;
+use mv_lawful::fault::Fault;
+use mv_view::view::Refused;
+use std::alloc::Global;
+
+/// Begins a call, if it is the next one.
+fn begin_event(core: &mut Core, alloc: Global, call: u32) -> Result<(), Refusal>
+    ensures { HasTaken (B call) core.old core.new result }
+{
+    if !core.is_next(call) {
+        return Err(Refusal::Refused(Fault::Order));
+    }
+    core.begin(alloc)?;
+    Ok(())
+}
+
+/// Executes the next statement of a call, if it has one.
+fn step_event(core: &mut Core, alloc: Global, call: u32) -> Result<(), Refusal>
+    ensures { HasTaken (S call) core.old core.new result }
+{
+    if !core.may_step(call) {
+        return Err(Refusal::Refused(Fault::Order));
+    }
+    match core.step(alloc, call) {
+        Ok(_) => Ok(()),
+        Err(Refused::Stale { .. }) => Err(Refusal::Refused(Fault::Stale)),
+        Err(Refused::NoMemory) => Err(Refusal::NoMemory),
+    }
+}
+
+/// Moves a call, if it is live.
+fn move_event(core: &mut Core, alloc: Global, call: u32) -> Result<(), Refusal>
+    ensures { HasTaken (M call) core.old core.new result }
+{
+    if core.rounds(call).is_none() {
+        return Err(Refusal::Refused(Fault::Order));
+    }
+    core.move_up(alloc, call)?;
+    Ok(())
+}
+
+/// Commits a call, if it is live and may commit.
+fn commit_event(core: &mut Core, alloc: Global, call: u32) -> Result<(), Refusal>
+    ensures { HasTaken (C call) core.old core.new result }
+{
+    if core.rounds(call).is_none() {
+        return Err(Refusal::Refused(Fault::Order));
+    }
+    match core.attempt(alloc, call)? {
+        Attempt::Committed(_) => Ok(()),
+        Attempt::Hit { .. } => Err(Refusal::Refused(Fault::Conflict)),
+        Attempt::Stale { .. } => Err(Refusal::Refused(Fault::Stale)),
+    }
+}
+
+impl Events for Core {
+    ghost use Rattle.mv_core.specs.Drives.{NeedsNoRepair};
+
+    ghost booked = { λ core. core };
+
+    ghost takes = { NeedsNoRepair };
+
+    fn event(&mut self, alloc: Global, event: Event) -> Result<(), Refusal>
+        requires { NeedsNoRepair event }
+        ensures { HasTaken event self.old self.new result }
+    {
+        match event {
+            Event::B(call) => begin_event(self, alloc, call),
+            Event::S(call) => step_event(self, alloc, call),
+            Event::M(call) => move_event(self, alloc, call),
+            Event::C(call) => commit_event(self, alloc, call),
+            Event::A(_) | Event::X(_) | Event::G => unreachable!(),
+        }
+    }
+
+    fn open_call(&self) -> Option<u32> {
+        Core::open_call(self)
+    }
+}

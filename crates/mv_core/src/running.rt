@@ -1,0 +1,122 @@
+//! The running calls of a script.
+
+ghost use Rattle.std.specs.Prelude.{◌≡◌, ◌<◌, ◌≤◌, [], ℕ, List, nat_lt, false, length, slice_get, IfOk, OnOk, OnErr};
+ghost use Rattle.std.specs.Option.{option_copied};
+ghost use Rattle.mv_values.specs.declared.calls.Call.{Call};
+ghost use Rattle.mv_record.specs.declared.record.Record.{Record};
+ghost use Rattle.mv_record.specs.Runs.{Tables};
+ghost use Rattle.mv_record.specs.Writes.{AreRising};
+ghost use Rattle.mv_graph.specs.declared.graph.Graph.{Graph};
+ghost use Rattle.mv_graph.specs.Nodes.{meaning_of};
+ghost use Rattle.mv_exec.specs.Running.{IsTaskOf, IsUnchanged, Leaves};
+ghost use Rattle.mv_core.specs.Scripts.{IsScript, work_of};
+ghost use Rattle.mv_core.specs.Cores.{RunsOn, IsDatabaseIn, HasRunOne, CountsAll};
+
+use crate::script::Script;
+use mv_exec::running::{finish, next};
+use mv_exec::task::Task;
+use mv_graph::graph::Graph;
+use mv_store::view::StoreView;
+use mv_values::calls::Call;
+use mv_values::memory::NoMemory;
+use mv_view::view::Refused;
+use std::alloc::Global;
+
+/// Returns the call of a number.
+fn call_at(script: &Script, number: u32) -> Option<&Call>
+    ensures { option_copied result ≡ slice_get script.now.calls number }
+{
+    script.calls.as_slice().get(number as usize)
+}
+
+/// Returns the graph of the procedure that a call names.
+fn graph_for<'g>(script: &'g Script, call: &Call) -> Option<&'g Graph>
+    ensures { option_copied result ≡ slice_get script.now.graphs call.now.procedure }
+{
+    script.graphs.as_slice().get(call.procedure as usize)
+}
+
+/// Returns a call of the script before its first statement.
+pub(crate) fn new_task(alloc: Global, script: &Script, number: u32) -> Result<Task, NoMemory>
+    requires script { IsScript script.now }
+    requires number { number < length script.now.calls }
+    ensures runs { IfOk result (λ task. (db : Tables) → RunsOn script.now number db task) }
+    ensures records { IfOk result (λ task. task.records ≡ []) }
+    ensures executed { IfOk result (λ task. task.executed ≡ 0) }
+{
+    let Some(call) = call_at(script, number) else {
+        unreachable!();
+    };
+    let Some(graph) = graph_for(script, call) else {
+        unreachable!();
+    };
+    Task::new(alloc, graph, call)
+}
+
+/// Executes the next statement of a call of the script, over a view that isn't stale.
+pub(crate) fn run_next(
+    alloc: Global,
+    script: &Script,
+    number: u32,
+    task: &mut Task,
+    view: &mut StoreView<'_>,
+) -> Result<(), NoMemory>
+    requires script { IsScript script.now }
+    requires number { number < length script.now.calls }
+    requires database { IsDatabaseIn script.now number view.old.database }
+    requires runs { RunsOn script.now number view.old.database task.old }
+    requires fresh { view.old.may_be_stale ≡ false }
+    ensures runs { RunsOn script.now number view.old.database task.new }
+    ensures ran { OnOk result (task.old.ended ≡ false → HasRunOne task.old task.new) }
+    ensures err { OnErr result (IsUnchanged task.old task.new) }
+{
+    let Some(call) = call_at(script, number) else {
+        unreachable!();
+    };
+    let Some(graph) = graph_for(script, call) else {
+        unreachable!();
+    };
+    match next(alloc, graph, task, view) {
+        Ok(_) => Ok(()),
+        Err(Refused::NoMemory) => Err(NoMemory),
+        Err(Refused::Stale { .. }) => unreachable!(),
+    }
+}
+
+/// Executes the rest of a call of the script, over a view that isn't stale.
+pub(crate) fn run_all(
+    alloc: Global,
+    script: &Script,
+    number: u32,
+    task: &mut Task,
+    view: &mut StoreView<'_>,
+) -> Result<(), NoMemory>
+    requires script { IsScript script.now }
+    requires number { number < length script.now.calls }
+    requires database { IsDatabaseIn script.now number view.old.database }
+    requires runs { RunsOn script.now number view.old.database task.old }
+    requires fresh { view.old.may_be_stale ≡ false }
+    ensures runs { RunsOn script.now number view.old.database task.new }
+    ensures records { OnOk result (task.new.records ≡ ((work_of script.now).run number view.old.database).records) }
+    ensures counts { CountsAll task.old task.new }
+{
+    let Some(call) = call_at(script, number) else {
+        unreachable!();
+    };
+    let Some(graph) = graph_for(script, call) else {
+        unreachable!();
+    };
+    match finish(alloc, graph, task, view) {
+        Ok(()) => Ok(()),
+        Err(Refused::NoMemory) => Err(NoMemory),
+        Err(Refused::Stale { .. }) => unreachable!(),
+    }
+}
+
+/// Whether a full run of the call has more records than this many. The call must have executed so many.
+pub(crate) fn has_more(task: &Task, steps: usize) -> bool
+    requires { steps ≤ length task.now.records }
+    ensures { (g : Graph) (call : Call) (db : Tables) (rest : List Record) → IsTaskOf g call task.now → AreRising db → Leaves g call db task.now rest → result ≡ nat_lt steps (length (meaning_of g call db).records) }
+{
+    steps < task.records().len() || !task.ended()
+}

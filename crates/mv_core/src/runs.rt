@@ -1,0 +1,57 @@
+//! Whole runs of a script: its calls in turn, or a journal.
+
+ghost use Rattle.std.specs.Prelude.{◌≡◌, ◌<◌, ◌^◌, ◌↔◌, IsTrue, All, length, IfOk};
+ghost use Rattle.mv_lawful.specs.Outcomes.{outcome_of, in_turn};
+ghost use Rattle.mv_core.specs.Scripts.{IsScript, work_of};
+ghost use Rattle.mv_core.specs.Drives.{NeedsNoRepair, HasReplayed};
+
+use crate::drive::{DriveFault, drive};
+use crate::engine::Core;
+use crate::script::Script;
+use mv_journal::event::Event;
+use mv_journal::outcome::Outcome;
+use mv_values::memory::NoMemory;
+use std::alloc::Global;
+
+/// Runs the calls of a script in order: each begins and commits before the next begins. Fails with `NoMemory` if memory
+/// runs out.
+pub fn run_in_turn(alloc: Global, script: Script) -> Result<Outcome, NoMemory>
+    requires { IsScript script }
+    ensures { IfOk result (λ outcome. outcome ≡ outcome_of (work_of script) (in_turn (length script.calls))) }
+{
+    let mut core = Core::new(alloc, script)?;
+    while let Some(call) = core.begin(alloc)? {
+        core.attempt(alloc, call)?;
+    }
+    core.outcome(alloc)
+}
+
+/// Whether an event is no repair and no collection.
+fn needs_no_repair(event: &Event) -> bool
+    ensures { IsTrue result ↔ NeedsNoRepair event.now }
+{
+    match event {
+        Event::B(_) | Event::S(_) | Event::M(_) | Event::C(_) => true,
+        Event::A(_) | Event::X(_) | Event::G => false,
+    }
+}
+
+/// Whether no event is a repair or a collection.
+pub fn need_no_repair(events: &[Event]) -> bool
+    ensures { IsTrue result ↔ All NeedsNoRepair events.now }
+{
+    events.iter().all(|event| needs_no_repair(event))
+}
+
+/// Runs the events of a journal without repairs and collections. Fails exactly if the journal isn't lawful, with its
+/// first fault, and with `NoMemory` if memory runs out.
+pub fn replay(alloc: Global, script: Script, events: &[Event]) -> Result<Outcome, DriveFault>
+    requires script { IsScript script }
+    requires few { length events.now < 2 ^ 32 }
+    requires events { All NeedsNoRepair events.now }
+    ensures { HasReplayed (work_of script) events.now result }
+{
+    let mut core = Core::new(alloc, script)?;
+    drive(alloc, &mut core, events)?;
+    Ok(core.outcome(alloc)?)
+}

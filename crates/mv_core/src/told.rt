@@ -1,0 +1,118 @@
+//! What the records of a call tell: its reply, and what it changes.
+
+ghost use Rattle.std.specs.Prelude.{◌≡◌, false, length, IfOk, OnOk, OnErr};
+ghost use Rattle.std.specs.Option.{option_copied};
+ghost use Rattle.mv_values.specs.Patching.{applied};
+ghost use Rattle.mv_record.specs.Writes.{AreRising};
+ghost use Rattle.mv_history.specs.Changes.{changes_between};
+ghost use Rattle.mv_record.specs.Runs.{end_in, lines_in, writes_in};
+ghost use Rattle.mv_store.specs.Changes.{HasPut, HasDropped};
+ghost use Rattle.mv_core.specs.Told.{reply_told, writes_told};
+
+use mv_changes::changes::Changes;
+use mv_changes::commit::changes_of_commit;
+use mv_record::record::Record;
+use mv_store::store::Store;
+use mv_store::view::StoreView;
+use mv_values::calls::{End, Reply};
+use mv_values::copied::Copied;
+use mv_values::list::List;
+use mv_values::memory::NoMemory;
+use mv_values::txt::Txt;
+use mv_view::view::Refused;
+use std::alloc::Global;
+
+/// Returns the first end that a record has.
+fn end_of(records: &[Record]) -> Option<&End>
+    ensures { option_copied result ≡ end_in records.now }
+{
+    for record in records {
+        if let Some(end) = &record.end {
+            return Some(end);
+        }
+    }
+    None
+}
+
+/// Copies the lines of records.
+fn lines_of(alloc: Global, records: &[Record]) -> Result<List<Txt>, NoMemory>
+    ensures { IfOk result (λ lines. lines ≡ lines_in records.now) }
+{
+    let mut lines = List::new(alloc);
+    for record in records {
+        if let Some(line) = &record.line {
+            lines.push(line.copy(alloc)?)?;
+        }
+    }
+    Ok(lines)
+}
+
+/// Returns the reply of a call with these records: their lines, or the first end alone.
+pub(crate) fn reply_of(alloc: Global, records: &[Record]) -> Result<Reply, NoMemory>
+    ensures { IfOk result (λ reply. reply ≡ reply_told records.now) }
+{
+    match end_of(records) {
+        Some(end) => Ok(Reply {
+            lines: List::new(alloc),
+            end: Some(end.copy(alloc)?),
+        }),
+        None => Ok(Reply {
+            lines: lines_of(alloc, records)?,
+            end: None,
+        }),
+    }
+}
+
+/// Puts the writes of records for a call, one record after another. If memory runs out, the call has no writes.
+fn put_all(alloc: Global, store: &mut Store, call: u32, records: &[Record]) -> Result<(), NoMemory>
+    ensures ok { OnOk result (HasPut call (writes_in records.now) store.old store.new) }
+    ensures err { OnErr result (HasDropped call store.old store.new) }
+{
+    for record in records {
+        store.put_all(alloc, call, record.writes.as_slice())?;
+    }
+    Ok(())
+}
+
+/// Returns the records whose writes count: all, or none if one of them ends the call.
+fn counted(records: &[Record]) -> &[Record]
+    ensures { writes_in result.now ≡ writes_told records.now }
+{
+    match end_of(records) {
+        Some(_) => &[],
+        None => records,
+    }
+}
+
+/// Puts the writes of a call with these records. If memory runs out, the call has no writes.
+pub(crate) fn put_told(
+    alloc: Global,
+    store: &mut Store,
+    call: u32,
+    records: &[Record],
+) -> Result<(), NoMemory>
+    ensures ok { OnOk result (HasPut call (writes_told records.now) store.old store.new) }
+    ensures err { OnErr result (HasDropped call store.old store.new) }
+{
+    put_all(alloc, store, call, counted(records))
+}
+
+/// Returns the changes that a call with these records makes to a view's database, which has this many tables. The view
+/// may not be stale.
+pub(crate) fn changes_told(
+    alloc: Global,
+    tables: usize,
+    records: &[Record],
+    view: &mut StoreView<'_>,
+) -> Result<Changes, NoMemory>
+    requires tables { tables ≡ length view.old.database }
+    requires rising { AreRising view.old.database }
+    requires fresh { view.old.may_be_stale ≡ false }
+    ensures { IfOk result (λ changes. changes ≡ changes_between view.old.database (applied (writes_told records.now) view.old.database)) }
+{
+    match changes_of_commit(alloc, tables, counted(records), view) {
+        Ok(changes) => Ok(changes),
+        Err(Refused::NoMemory) => Err(NoMemory),
+        Err(Refused::Stale { .. }) => unreachable!(),
+    }
+}
