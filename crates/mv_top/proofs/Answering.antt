@@ -1,21 +1,23 @@
 -- From the bytes that were read to the bytes that were left, and from an answer to what was written.
-use Rattle.std.proofs.Common.{◌≡◌, inl, inr, ◌<◌, ◌≤◌, ℕ, List, length, take, Option, refl, sym, ap, subst, ◌∙◌, arith}
+use Rattle.std.proofs.Common.{◌≡◌, inl, inr, ◌<◌, ◌≤◌, ℕ, List, length, get_or, take, Option, refl, sym, ap, subst, ◌∙◌, arith}
 use Rattle.std.proofs.lemmas.List.{take_all, length-take-le}
 use Rattle.std.proofs.lemmas.Bool.{cases_lt}
 use Rattle.std.specs.Option.{ForSome}
 use Rattle.mv_edge.specs.Edge.{Rose}
 use Rattle.mv_edge.specs.declared.reading.TheConstants.{MOST}
 use Rattle.mv_catalog.specs.declared.resolved.Program.{Program}
-use Rattle.mv_accept.specs.declared.refusal.Refusal.{Refusal}
+use Rattle.mv_values.specs.declared.calls.Options.{Options}
+use Rattle.mv_accept.specs.declared.refusal.Refusal.{Refusal as ScriptRefusal}
 use Rattle.mv_accept.specs.Accepting.{most_bytes, Accepts, Refuses}
+use Rattle.mv_top.specs.declared.refusal.Refusal.{Refusal}
 use Rattle.mv_accept.proofs.Sizes.{accepted_are_few, too_many_are_told, too_many_are_refused}
 use Rattle.mv_top.specs.declared.status.Command.{Command}
-use Rattle.mv_top.specs.declared.status.Command.TheVariants.{Run, Serial, Graph}
+use Rattle.mv_top.specs.declared.status.Command.TheVariants.{Run, Replay, Serial, Graph}
 use Rattle.mv_top.specs.declared.status.Fault.{Fault}
 use Rattle.mv_top.specs.declared.status.Fault.TheVariants as fault
 use Rattle.mv_top.specs.declared.status.Status.{Status}
 use Rattle.mv_top.specs.declared.status.Status.TheVariants.{Done, Refused, Usage, NoMemory, ReadFault, WriteFault}
-use Rattle.mv_top.specs.Answers.{IsTextFor, IsRefusal, HasCause, IsToldBy, IsAnswer, refused, done, IsAnswered, Puts, Wrote, WroteOr, StandFor, IsRefusedBy, name_of}
+use Rattle.mv_top.specs.Answers.{IsTextFor, IsRefusal, HasCause, IsToldBy, IsAnswer, refused, done, IsAnswered, Puts, Wrote, WroteOr, StandFor, HasUsual, IsRefusedBy, by_script, by_program, name_of}
 
 -- bytes that aren't too many were all that were left
 pub whole : (all bytes : List ℕ) → bytes ≡ take MOST all → length bytes ≤ most_bytes → bytes ≡ all
@@ -37,30 +39,40 @@ still_too_many : (all bytes : List ℕ) → bytes ≡ take MOST all → most_byt
 still_too_many all bytes e more =
     let cut : length (take MOST all) ≡ MOST = length-take-le MOST all (omega arith) in let same : length bytes ≡ MOST = ap length e ∙ cut in omega arith
 
-pub accepted_of_read : (all bytes : List ℕ) (program : Program) → bytes ≡ take MOST all → Accepts all program → Accepts bytes program
-accepted_of_read all bytes program e accepted =
-    let few : length all ≤ most_bytes = accepted_are_few all program accepted in
-    subst (λ (xs : List ℕ). Accepts xs program) (sym (e ∙ take_all MOST all (omega arith))) accepted
+-- the bytes of an accepted script were all read
+pub all_read : (all bytes : List ℕ) (program : Program) → bytes ≡ take MOST all → Accepts all program → bytes ≡ all
+all_read all bytes program e accepted =
+    let few : length all ≤ most_bytes = accepted_are_few all program accepted in e ∙ take_all MOST all (omega arith)
 
-pub cause_of_read : (all bytes : List ℕ) (refusal : Refusal) → bytes ≡ take MOST all → Refuses all refusal → Refuses bytes refusal
-cause_of_read all bytes refusal e cause =
+script_of_read : (all bytes : List ℕ) (refusal : ScriptRefusal) → bytes ≡ take MOST all → Refuses all refusal → Refuses bytes refusal
+script_of_read all bytes refusal e cause =
     elim (cases_lt most_bytes (length all)) [
       | inl more ↦ subst (Refuses bytes) (sym (too_many_are_told all refusal more cause)) (too_many_are_refused bytes (still_too_many all bytes e more))
       | inr few ↦ subst (λ (xs : List ℕ). Refuses xs refusal) (sym (e ∙ take_all MOST all (omega arith))) cause
     ]
 
-cause_of_left : (all bytes : List ℕ) (refusal : Refusal) → bytes ≡ take MOST all → Refuses bytes refusal → Refuses all refusal
-cause_of_left all bytes refusal e cause =
+script_of_left : (all bytes : List ℕ) (refusal : ScriptRefusal) → bytes ≡ take MOST all → Refuses bytes refusal → Refuses all refusal
+script_of_left all bytes refusal e cause =
     elim (cases_lt most_bytes (length bytes)) [
       | inl more ↦ subst (Refuses all) (sym (too_many_are_told bytes refusal more cause)) (too_many_are_refused all (too_many all bytes e more))
       | inr few ↦ subst (λ (xs : List ℕ). Refuses xs refusal) (whole all bytes e few) cause
     ]
 
+pub cause_of_read : (command : Command) (all bytes : List ℕ) (refusal : Refusal) → bytes ≡ take MOST all → IsRefusedBy command all refusal → IsRefusedBy command bytes refusal
+cause_of_read command all bytes refusal e (by_script r cause) = by_script r (script_of_read all bytes r e cause)
+cause_of_read command all bytes refusal e (by_program p r accepted why) =
+    subst (λ (xs : List ℕ). IsRefusedBy command xs refusal) (sym (all_read all bytes p e accepted)) (by_program p r accepted why)
+
+cause_of_left : (command : Command) (all bytes : List ℕ) (refusal : Refusal) → bytes ≡ take MOST all → IsRefusedBy command bytes refusal → IsRefusedBy command all refusal
+cause_of_left command all bytes refusal e (by_script r cause) = by_script r (script_of_left all bytes r e cause)
+cause_of_left command all bytes refusal e (by_program p r accepted why) =
+    subst (λ (xs : List ℕ). IsRefusedBy command xs refusal) (whole all bytes e (accepted_are_few bytes p accepted)) (by_program p r accepted why)
+
 text_of_left : (command : Command) (all bytes answer : List ℕ) → bytes ≡ take MOST all → IsTextFor command bytes answer → IsTextFor command all answer
 text_of_left command all bytes answer e t = subst (λ (xs : List ℕ). IsTextFor command xs answer) (whole all bytes e (accepted_are_few bytes t.0 t.1)) t
 
 refusal_of_left : (command : Command) (all bytes : List ℕ) (number : ℕ) (what : List ℕ) → bytes ≡ take MOST all → IsRefusal command bytes number what → IsRefusal command all number what
-refusal_of_left command all bytes number what e r = (r.0, cause_of_left all bytes r.0 e r.1, r.2, r.3)
+refusal_of_left command all bytes number what e r = (r.0, cause_of_left command all bytes r.0 e r.1, r.2, r.3)
 
 -- what is answered to the bytes that were read is what is answered to those that were left
 pub answer_of_left : (words : List (List ℕ)) (left : Option (List ℕ)) (command : Command) (bytes : List ℕ) (status : Status) (answer : List ℕ)
@@ -101,17 +113,24 @@ pub has_cause : (command : Command) (bytes : List ℕ) (refusal : Refusal) (f : 
 has_cause command bytes refusal (fault.Refused number what) cause told = (refusal, cause, told.0, told.1)
 has_cause command bytes refusal fault.NoMemory cause told = told
 
-same_name : (a b : Command) → name_of a ≡ name_of b → a ≡ b
-same_name Run Run e = refl
-same_name Serial Serial e = refl
-same_name Graph Graph e = refl
-same_name Run Serial e = cc
-same_name Run Graph e = cc
-same_name Serial Run e = cc
-same_name Serial Graph e = cc
-same_name Graph Run e = cc
-same_name Graph Serial e = cc
+same_name : (a b : Command) → name_of a ≡ name_of b → HasUsual a → HasUsual b → a ≡ b
+same_name Run Run e u v = refl
+same_name Run (Replay o) e u v = absurd (let size = ap length e in omega (arith, size))
+same_name Run Serial e u v = absurd (let size = ap length e in omega (arith, size))
+same_name Run Graph e u v = absurd (let size = ap length e in omega (arith, size))
+same_name (Replay o) Run e u v = absurd (let size = ap length e in omega (arith, size))
+same_name (Replay o) (Replay q) e u v = ap (λ (x : Options). Replay x) (u ∙ sym v)
+same_name (Replay o) Serial e u v = absurd (let first = ap (λ (bytes : List ℕ). get_or bytes 0 0) e in omega (arith, first))
+same_name (Replay o) Graph e u v = absurd (let size = ap length e in omega (arith, size))
+same_name Serial Run e u v = absurd (let size = ap length e in omega (arith, size))
+same_name Serial (Replay o) e u v = absurd (let first = ap (λ (bytes : List ℕ). get_or bytes 0 0) e in omega (arith, first))
+same_name Serial Serial e u v = refl
+same_name Serial Graph e u v = absurd (let size = ap length e in omega (arith, size))
+same_name Graph Run e u v = absurd (let size = ap length e in omega (arith, size))
+same_name Graph (Replay o) e u v = absurd (let size = ap length e in omega (arith, size))
+same_name Graph Serial e u v = absurd (let size = ap length e in omega (arith, size))
+same_name Graph Graph e u v = refl
 
 -- words stand for one command
 pub same_command : (words : List (List ℕ)) (a b : Command) → StandFor words a → StandFor words b → a ≡ b
-same_command words a b x y = same_name a b (let e = sym x ∙ y in cc)
+same_command words a b x y = same_name a b (let e = sym x.0 ∙ y.0 in cc) x.1 y.1

@@ -1,5 +1,8 @@
 pub mod Numbers
 pub mod Serials
-pub mod Outcomes
+pub mod Scripts
+pub mod Judging
+pub mod Turning
+pub mod Driving
 pub mod Answering
 pub mod Texts

@@ -4,33 +4,63 @@ use Rattle.std.specs.Option.{ForSome}
 use Rattle.std.specs.declared.alloc.Global.{Global}
 use Rattle.mv_edge.specs.Edge.{Rose, Writes, WritesFront}
 use Rattle.mv_catalog.specs.declared.resolved.Program.{Program}
-use Rattle.mv_accept.specs.declared.refusal.Refusal.{Refusal}
+use Rattle.mv_values.specs.declared.calls.Options.{Options}
+use Rattle.mv_journal.specs.declared.event.Event.{Event}
+use Rattle.mv_accept.specs.declared.refusal.Refusal.{Refusal as ScriptRefusal}
 use Rattle.mv_accept.specs.Accepting.{Accepts, Refuses}
-use Rattle.mv_accept.specs.Refusals.{number_of, line_of}
+use Rattle.mv_top.specs.declared.refusal.Refusal.{Refusal}
+use Rattle.mv_top.specs.declared.refusal.Refusal.TheVariants.{Script}
+use Rattle.mv_top.specs.Refusals.{number_of, line_of}
 use Rattle.mv_top.specs.History.{usual, text, in_turn, IsRunText}
+use Rattle.mv_top.specs.Journals.{HasLawfulJournal, IsJournalText, RefusesJournal}
 use Rattle.mv_top.specs.Serial.{serial}
 use Rattle.mv_top.specs.Graphs.{graphs}
 use Rattle.mv_top.specs.declared.status.Command.{Command}
-use Rattle.mv_top.specs.declared.status.Command.TheVariants.{Run, Serial, Graph}
+use Rattle.mv_top.specs.declared.status.Command.TheVariants.{Run, Replay, Serial, Graph}
 use Rattle.mv_top.specs.declared.status.Status.{Status}
 use Rattle.mv_top.specs.declared.status.Status.TheVariants.{Done, Refused, Usage, NoMemory, ReadFault, WriteFault}
 use Rattle.mv_top.specs.declared.status.Fault.{Fault}
 use Rattle.mv_top.specs.declared.status.Fault.TheVariants as fault
 
--- the command may write this text for the program: that of a run, which one worker makes, of the calls alone in call
--- order, or of the graphs of the procedures
-abbrev pub IsTextOf : Command → Program → List ℕ → Type 0
-IsTextOf Run program answer = IsRunText program usual answer × (answer ≡ text program usual (in_turn program))
-IsTextOf Serial program answer = answer ≡ serial program
-IsTextOf Graph program answer = answer ≡ graphs program
+-- the text of a run that one worker makes
+abbrev pub IsTurnsText : Program → List ℕ → Type 0
+IsTurnsText program answer = IsRunText program usual answer × (answer ≡ text program usual (in_turn program))
+
+-- for the program of these bytes the command may write this text: that of a run, which one worker makes; that of the
+-- script's own journal; of the calls alone in call order; or of the graphs of the procedures
+abbrev pub IsTextOf : Command → List ℕ → Program → List ℕ → Type 0
+IsTextOf Run bytes program answer = IsTurnsText program answer
+IsTextOf (Replay options) bytes program answer = IsJournalText options bytes program answer
+IsTextOf Serial bytes program answer = answer ≡ serial program
+IsTextOf Graph bytes program answer = answer ≡ graphs program
 
 -- the bytes are accepted, and the command may write this text for their program
 abbrev pub IsTextFor : Command → List ℕ → List ℕ → Type 0
-IsTextFor command bytes answer = (program : Program) × Accepts bytes program × IsTextOf command program answer
+IsTextFor command bytes answer = (program : Program) × Accepts bytes program × IsTextOf command bytes program answer
 
--- the command refuses the bytes with this refusal. Refusals of the script are the same for every command
-abbrev pub IsRefusedBy : Command → List ℕ → Refusal → Type 0
-IsRefusedBy command bytes refusal = Refuses bytes refusal
+-- the command has a text for an accepted program: `replay` if its journal is lawful, the others always
+abbrev pub Takes : Command → List ℕ → Program → Type 0
+Takes Run bytes program = Unit {0}
+Takes (Replay options) bytes program = (events : List Event) × HasLawfulJournal options bytes program events
+Takes Serial bytes program = Unit {0}
+Takes Graph bytes program = Unit {0}
+
+-- the command has a text for the program of these bytes
+abbrev pub TakesBytes : Command → List ℕ → Program → Type 0
+TakesBytes command bytes program = Accepts bytes program × Takes command bytes program
+
+-- why the command refuses an accepted program: `replay` for its journal, the others for nothing
+abbrev pub RefusesProgram : Command → List ℕ → Program → Refusal → Type 0
+RefusesProgram Run bytes program refusal = ⊥
+RefusesProgram (Replay options) bytes program refusal = RefusesJournal options bytes program refusal
+RefusesProgram Serial bytes program refusal = ⊥
+RefusesProgram Graph bytes program refusal = ⊥
+
+-- the command refuses the bytes with this refusal: that of the script, which is the same for every command, or that of
+-- an accepted program
+pub data IsRefusedBy (command : Command) (bytes : List ℕ) : Refusal → Type 0 where
+  by_script : (refusal : ScriptRefusal) → Refuses bytes refusal → IsRefusedBy command bytes (Script refusal)
+  by_program : (program : Program) (refusal : Refusal) → Accepts bytes program → RefusesProgram command bytes program refusal → IsRefusedBy command bytes refusal
 
 -- the number and the line of a refusal with which the command refuses these bytes
 abbrev pub IsRefusal : Command → List ℕ → ℕ → List ℕ → Type 0
@@ -53,12 +83,20 @@ words_of words = map string_bytes words
 -- the word of a command
 abbrev pub name_of : Command → List ℕ
 name_of Run = codes "run"
+name_of (Replay options) = codes "replay"
 name_of Serial = codes "serial"
 name_of Graph = codes "graph"
 
+-- the options of a command that is given none
+abbrev pub HasUsual : Command → Type 0
+HasUsual Run = Unit {0}
+HasUsual (Replay options) = options ≡ usual
+HasUsual Serial = Unit {0}
+HasUsual Graph = Unit {0}
+
 -- the words of a command line name this command
 abbrev pub StandFor : List (List ℕ) → Command → Type 0
-StandFor words command = words ≡ name_of command ∷ []
+StandFor words command = (words ≡ name_of command ∷ []) × HasUsual command
 
 -- the words name no command
 abbrev pub IsNoCommand : List (List ℕ) → Type 0

@@ -1,5 +1,7 @@
 pub mod History
 pub mod Serial
 pub mod Graphs
+pub mod Refusals
+pub mod Journals
+pub mod Refusing
 pub mod Answers
-pub mod Turns

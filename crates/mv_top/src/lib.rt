@@ -3,7 +3,10 @@
 
 pub mod answer;
 mod graphs;
+mod journals;
 pub mod laws;
+pub mod refusal;
+mod script;
 mod serial;
 pub mod status;
 pub mod top;

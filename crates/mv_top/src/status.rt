@@ -2,7 +2,9 @@
 
 ghost use Rattle.std.specs.Prelude.{◌≡◌};
 ghost use Rattle.mv_top.specs.Answers.{code_of};
+ghost use Rattle.mv_top.specs.History.{usual};
 
+use mv_values::calls::Options;
 use mv_values::memory::NoMemory;
 use mv_values::txt::Txt;
 
@@ -37,10 +39,22 @@ impl Status {
 pub enum Command {
     /// Runs the calls of a script, and writes their history.
     Run,
+    /// Makes the events of the script's own journal, and writes their history.
+    Replay(Options),
     /// Runs each call alone, after those before it, by the machine that defines what calls mean.
     Serial,
     /// Runs nothing, and writes which statements of a procedure may depend on which.
     Graph,
+}
+
+/// Returns the options of a command that is given none: three rounds, and no horizon.
+pub(crate) fn usual() -> Options
+    ensures { result ≡ usual }
+{
+    Options {
+        rounds: 3,
+        horizon: None,
+    }
 }
 
 /// Why there is no answer: the input is refused, with the refusal's number and line, or memory ran out.

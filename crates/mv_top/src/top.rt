@@ -4,14 +4,13 @@ ghost use Rattle.std.specs.Prelude.{◌≡◌, ◌⊎◌, ◌↔◌, ℕ, List a
 ghost use Rattle.std.specs.Option.{ForSome};
 ghost use Rattle.mv_edge.specs.Edge.{Rose};
 ghost use Rattle.mv_catalog.specs.declared.resolved.Program.{Program};
-ghost use Rattle.mv_accept.specs.declared.refusal.Refusal.{Refusal as Why};
-ghost use Rattle.mv_accept.specs.Accepting.{Accepts};
-ghost use Rattle.mv_accept.specs.Refusals.{line_of};
+ghost use Rattle.mv_top.specs.declared.refusal.Refusal.{Refusal as Why};
+ghost use Rattle.mv_top.specs.Refusals.{line_of};
 ghost use Rattle.mv_top.specs.declared.status.Command.{Command as Task};
-ghost use Rattle.mv_top.specs.Answers.{IsAnswered, Puts, Wrote, WroteOr, StandFor, IsNoCommand, IsTextOf, IsRefusedBy, words_of, name_of, line, usage_line};
+ghost use Rattle.mv_top.specs.Answers.{IsAnswered, Puts, Wrote, WroteOr, StandFor, TakesBytes, IsNoCommand, IsTextOf, IsRefusedBy, words_of, name_of, HasUsual, line, usage_line};
 
 use crate::answer::answer;
-use crate::status::{Command, Fault, Status};
+use crate::status::{Command, Fault, Status, usual};
 use mv_edge::edge::{Sink, Source};
 use mv_edge::pace::Pace;
 use mv_edge::reading::{MOST, ReadFault, read_all};
@@ -47,10 +46,11 @@ pub fn top<R: Threads + Wait + Sync, S: Source, K: Sink, P: Pace>(
     ensures read { (result ≡ Status.ReadFault → ⊥) → S.faults source.new ≡ S.faults source.old }
     ensures writing { result ≡ Status.WriteFault → Rose (K.faults sink.old) (K.faults sink.new) }
     ensures written { (result ≡ Status.WriteFault → ⊥) → K.faults sink.new ≡ K.faults sink.old }
-    // An accepted script gets a text of the command, unless the source or the sink fails or memory runs out.
-    ensures complete { (command : Task) (all : Seq ℕ) (program : Program) → StandFor (words_of words.now) command → S.left source.old ≡ Some all → Accepts all program
+    // An accepted script, for `replay` one with a lawful journal, gets a text of the command, unless the source or the
+    // sink fails or memory runs out.
+    ensures complete { (command : Task) (all : Seq ℕ) (program : Program) → StandFor (words_of words.now) command → S.left source.old ≡ Some all → TakesBytes command all program
         → (Rose (S.faults source.old) (S.faults source.new) → ⊥) → (Rose (K.faults sink.old) (K.faults sink.new) → ⊥)
-        → WroteOr Status.Done (IsTextOf command program) (K.written sink.old) (K.written sink.new) result }
+        → WroteOr Status.Done (IsTextOf command all program) (K.written sink.old) (K.written sink.new) result }
     // An input with the cause of a refusal gets the refusal's line, unless the source or the sink fails or memory runs
     // out.
     ensures refuses { (command : Task) (all : Seq ℕ) (refusal : Why) → StandFor (words_of words.now) command → S.left source.old ≡ Some all → IsRefusedBy command all refusal
@@ -84,11 +84,14 @@ fn command_of(words: &[String]) -> Option<Command>
 
 /// Returns the command with this name.
 fn command_named(word: &String) -> Option<Command>
-    ensures found { IfSome result (λ command. string_bytes word.now ≡ name_of command) }
+    ensures found { IfSome result (λ command. (string_bytes word.now ≡ name_of command) × HasUsual command) }
     ensures none { IfNone result ((command : Task) → string_bytes word.now ≡ name_of command → ⊥) }
 {
     if is_word(word, "run") {
         return Some(Command::Run);
+    }
+    if is_word(word, "replay") {
+        return Some(Command::Replay(usual()));
     }
     if is_word(word, "serial") {
         return Some(Command::Serial);
@@ -114,7 +117,7 @@ fn answered<R: Threads + Wait + Sync, P: Pace>(
     pace: &P,
 ) -> Result<(Status, List<u8>), NoMemory>
     ensures found { IfOk result (λ answer. IsAnswered command.now bytes.now answer.0 answer.1) }
-    ensures only { (program : Program) → Accepts bytes.now program → IfOk result (λ answer. (answer.0 ≡ Status.Done) × IsTextOf command.now program answer.1) }
+    ensures only { (program : Program) → TakesBytes command.now bytes.now program → IfOk result (λ answer. (answer.0 ≡ Status.Done) × IsTextOf command.now bytes.now program answer.1) }
     ensures told { (refusal : Why) → IsRefusedBy command.now bytes.now refusal → IfOk result (λ answer. (answer.0 ≡ Status.Refused) × (answer.1 ≡ line (line_of refusal))) }
 {
     match answer(rt, alloc, command, bytes, pace) {

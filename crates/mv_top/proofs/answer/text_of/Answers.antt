@@ -1,10 +1,19 @@
-use Rattle.std.proofs.Common.{sym, subst, IfOk}
+use Rattle.std.proofs.Common.{◌≡◌, IfErr, MatchResult, subst, sym}
+use Rattle.mv_top.specs.declared.refusal.Refusal.{Refusal}
+use Rattle.mv_top.specs.declared.refusal.NoText.TheVariants.{NoMemory}
 use Rattle.mv_top.specs.declared.status.Command.{Command}
-use Rattle.mv_top.specs.Answers.{IsTextOf}
-use Rattle.mv_top.proofs.Texts.{text_runs}
+use Rattle.mv_top.specs.declared.status.Command.TheVariants.{Replay}
+use Rattle.mv_top.specs.Refusing.{Tells}
+use Rattle.mv_top.specs.Answers.{Takes, RefusesProgram}
+use Rattle.mv_top.proofs.Judging.{only_of, told_of}
 use Rattle.mv_top.proofs.answer.text_of.Goals as goal
 
-pub returns-in_ok-outcome-in-Run : goal.returns-in_ok-outcome-in-Run
-returns-in_ok-outcome-in-Run c =
-    subst (λ (command : Command). IfOk c.render.result (IsTextOf command c.args.program.now)) (sym c.in-Run.is)
-    (text_runs c.args.program.now c.render.result c.in_ok-outcome-in-Run.outcome c.in_ok-outcome-in-Run.ensures c.render.ensures)
+pub returns-in-Replay-clause-only : goal.returns-in-Replay-clause-only
+returns-in-Replay-clause-only c =
+    subst (λ (k : Command). Takes k c.args.bytes.now c.args.program → IfErr c.journal_text.result (λ f. f ≡ NoMemory)) (sym c.in-Replay.is)
+    (only_of (Replay c.in-Replay.options) c.args.bytes.now c.args.program c.journal_text.result c.journal_text.ensures.refused)
+
+pub returns-in-Replay-clause-told : goal.returns-in-Replay-clause-told
+returns-in-Replay-clause-told c =
+    subst (λ (k : Command). (refusal : Refusal) → RefusesProgram k c.args.bytes.now c.args.program refusal → MatchResult c.journal_text.result (λ answer. ⊥) (Tells refusal)) (sym c.in-Replay.is)
+    (told_of (Replay c.in-Replay.options) c.args.bytes.now c.args.program c.journal_text.result c.journal_text.ensures.text c.journal_text.ensures.refused)

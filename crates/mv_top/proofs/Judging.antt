@@ -1,0 +1,113 @@
+-- A program's journal has one answer: its events are lawful, or there is one refusal.
+use Rattle.std.proofs.Common.{◌≡◌, ℕ, true, false, List, Option, Some, None, Result, Ok, Err, refl, sym, ap, subst, ◌∙◌}
+use Rattle.std.proofs.lemmas.Option.{none-some, same_Some}
+use Rattle.std.specs.Prelude.{IfOk, IfErr, MatchResult}
+use Rattle.mv_values.specs.declared.calls.Options.{Options}
+use Rattle.mv_catalog.specs.declared.resolved.Program.{Program}
+use Rattle.mv_accept.specs.declared.refusal.Refusal.{Refusal as ScriptRefusal}
+use Rattle.mv_accept.specs.Accepting.{Accepts, Refuses}
+use Rattle.mv_journal.specs.declared.event.Event.{Event}
+use Rattle.mv_journal.proofs.Reading.{same_events, same_number, not_both}
+use Rattle.mv_lawful.specs.declared.fault.Wrong.{Wrong}
+use Rattle.mv_lawful.specs.Lawful.{wrong_with}
+use Rattle.mv_top.specs.declared.refusal.Refusal.{Refusal}
+use Rattle.mv_top.specs.declared.refusal.Refusal.TheVariants as why
+use Rattle.mv_top.specs.declared.refusal.NoText.{NoText}
+use Rattle.mv_top.specs.declared.refusal.NoText.TheVariants.{Refused, NoMemory}
+use Rattle.mv_top.specs.declared.status.Command.{Command}
+use Rattle.mv_top.specs.declared.status.Command.TheVariants.{Run, Replay, Serial, Graph}
+use Rattle.mv_top.specs.History.{work_of}
+use Rattle.mv_top.specs.Journals.{journal_lines, are_built, refusal_of, AreBuiltEvents, HasLawfulJournal, IsJournalText, RefusesEvents, line, not_built, RefusesJournal, unread, unlawful}
+use Rattle.mv_top.specs.Refusing.{Causes, Tells}
+use Rattle.mv_top.specs.Answers.{IsTextOf, Takes, RefusesProgram, IsRefusedBy, by_script, by_program}
+
+same_built : (bytes : List ℕ) (p : Program) (es fs : List Event) → AreBuiltEvents bytes p es → AreBuiltEvents bytes p fs → es ≡ fs
+same_built bytes p es fs a b = same_events (journal_lines bytes p) es fs a.journal b.journal
+
+-- events that are built are there to execute
+no_refusal : (bytes : List ℕ) (p : Program) (es : List Event) (r : Refusal) → AreBuiltEvents bytes p es → RefusesEvents bytes p r → ⊥
+no_refusal bytes p es r a (line n bad) = not_both (journal_lines bytes p) es n a.journal bad
+no_refusal bytes p es r a (not_built fs are not) =
+    let same : es ≡ fs = same_events (journal_lines bytes p) es fs a.journal are in
+    let yes : are_built fs ≡ true = subst (λ xs. are_built xs ≡ true) same a.built in cc
+
+same_unread : (bytes : List ℕ) (p : Program) (r q : Refusal) → RefusesEvents bytes p r → RefusesEvents bytes p q → r ≡ q
+same_unread bytes p r q (line n bad) (line m worse) = ap (λ k. why.Line k) (same_number (journal_lines bytes p) n m bad worse)
+same_unread bytes p r q (line n bad) (not_built fs are not) = absurd (not_both (journal_lines bytes p) fs n are bad)
+same_unread bytes p r q (not_built es are not) (line m bad) = absurd (not_both (journal_lines bytes p) es m are bad)
+same_unread bytes p r q (not_built es are not) (not_built fs were nor) = refl
+
+-- a lawful journal isn't refused
+lawful_is_taken : (options : Options) (bytes : List ℕ) (p : Program) (es : List Event) (r : Refusal) → HasLawfulJournal options bytes p es → RefusesJournal options bytes p r → ⊥
+lawful_is_taken options bytes p es r h (unread bad) = no_refusal bytes p es r h.are bad
+lawful_is_taken options bytes p es r h (unlawful fs w are wrong is) =
+    let same : es ≡ fs = same_built bytes p es fs h.are are in
+    none-some w (sym (subst (λ xs. wrong_with (work_of p options) xs ≡ None) same h.lawful) ∙ wrong)
+
+-- a journal has one refusal
+same_refusal : (options : Options) (bytes : List ℕ) (p : Program) (r q : Refusal) → RefusesJournal options bytes p r → RefusesJournal options bytes p q → r ≡ q
+same_refusal options bytes p r q (unread a) (unread b) = same_unread bytes p r q a b
+same_refusal options bytes p r q (unread a) (unlawful fs w are wrong is) = absurd (no_refusal bytes p fs r are a)
+same_refusal options bytes p r q (unlawful es w are wrong is) (unread b) = absurd (no_refusal bytes p es q are b)
+same_refusal options bytes p r q (unlawful es w are wrong is) (unlawful fs v were worse so) =
+    let same : es ≡ fs = same_built bytes p es fs are were in
+    let one : w ≡ v = same_Some w v (sym wrong ∙ (ap (wrong_with (work_of p options)) same ∙ worse)) in
+    is ∙ (ap refusal_of one ∙ sym so)
+
+text_is_taken : (command : Command) (bytes answer : List ℕ) (p : Program) (r : Refusal) → IsTextOf command bytes p answer → RefusesProgram command bytes p r → ⊥
+text_is_taken Run bytes answer p r t bad = bad
+text_is_taken (Replay options) bytes answer p r t bad = lawful_is_taken options bytes p t.events r t.is bad
+text_is_taken Serial bytes answer p r t bad = bad
+text_is_taken Graph bytes answer p r t bad = bad
+
+taken : (command : Command) (bytes : List ℕ) (p : Program) (r : Refusal) → Takes command bytes p → RefusesProgram command bytes p r → ⊥
+taken Run bytes p r t bad = bad
+taken (Replay options) bytes p r t bad = lawful_is_taken options bytes p t.0 r t.1 bad
+taken Serial bytes p r t bad = bad
+taken Graph bytes p r t bad = bad
+
+one_refusal : (command : Command) (bytes : List ℕ) (p : Program) (r q : Refusal) → RefusesProgram command bytes p r → RefusesProgram command bytes p q → r ≡ q
+one_refusal Run bytes p r q a b = absurd a
+one_refusal (Replay options) bytes p r q a b = same_refusal options bytes p r q a b
+one_refusal Serial bytes p r q a b = absurd a
+one_refusal Graph bytes p r q a b = absurd a
+
+-- a command that takes the program has a text, unless memory ran out
+pub only_of : (command : Command) (bytes : List ℕ) (p : Program) (result : Result (List ℕ) NoText) → IfErr result (Causes (RefusesProgram command bytes p))
+    → Takes command bytes p → IfErr result (λ f. f ≡ NoMemory)
+only_of command bytes p (Ok answer) why t = tt
+only_of command bytes p (Err (Refused r)) why t = absurd (taken command bytes p r t why)
+only_of command bytes p (Err NoMemory) why t = refl
+
+-- a refusal that has its cause is told, unless memory ran out
+pub told_of : (command : Command) (bytes : List ℕ) (p : Program) (result : Result (List ℕ) NoText) → IfOk result (IsTextOf command bytes p) → IfErr result (Causes (RefusesProgram command bytes p))
+    → (r : Refusal) → RefusesProgram command bytes p r → MatchResult result (λ answer. ⊥) (Tells r)
+told_of command bytes p (Ok answer) t why r bad = text_is_taken command bytes answer p r t bad
+told_of command bytes p (Err (Refused q)) t why r bad = one_refusal command bytes p q r why bad
+told_of command bytes p (Err NoMemory) t why r bad = tt
+
+-- From a program to its bytes
+
+match_of : {A E : Type 0} (result : Result A E) (P : A → Type 0) (Q : E → Type 0) → IfOk result P → IfErr result Q → MatchResult result P Q
+match_of (Ok x) P Q p q = p
+match_of (Err e) P Q p q = q
+
+pub text_only : (command : Command) (bytes : List ℕ) (p q : Program) (result : Result (List ℕ) NoText) → IfOk result (IsTextOf command bytes p) → (Takes command bytes p → IfErr result (λ f. f ≡ NoMemory))
+    → p ≡ q → Takes command bytes q → MatchResult result (IsTextOf command bytes q) (λ f. f ≡ NoMemory)
+text_only command bytes p q result text only same t =
+    match_of result (IsTextOf command bytes q) (λ f. f ≡ NoMemory) (subst (λ (x : Program). IfOk result (IsTextOf command bytes x)) same text)
+    (only (subst (λ (x : Program). Takes command bytes x) (sym same) t))
+
+pub text_refused : (command : Command) (bytes : List ℕ) (p : Program) (result : Result (List ℕ) NoText) → Accepts bytes p → IfErr result (Causes (RefusesProgram command bytes p)) → IfErr result (Causes (IsRefusedBy command bytes))
+text_refused command bytes p (Ok answer) accepted why = tt
+text_refused command bytes p (Err (Refused r)) accepted why = by_program p r accepted why
+text_refused command bytes p (Err NoMemory) accepted why = tt
+
+pub text_told : (command : Command) (bytes : List ℕ) (p : Program) (result : Result (List ℕ) NoText) → ((r : ScriptRefusal) → Refuses bytes r → ⊥) → ((q : Program) → Accepts bytes q → p ≡ q)
+    → ((r : Refusal) → RefusesProgram command bytes p r → MatchResult result (λ answer. ⊥) (Tells r)) → (r : Refusal) → IsRefusedBy command bytes r → MatchResult result (λ answer. ⊥) (Tells r)
+text_told command bytes p result never same told r (by_script s cause) = absurd (never s cause)
+text_told command bytes p result never same told r (by_program q s accepted why) = told s (subst (λ (x : Program). RefusesProgram command bytes x s) (sym (same q accepted)) why)
+
+pub script_told : (command : Command) (bytes : List ℕ) (it : ScriptRefusal) → ((r : ScriptRefusal) → Refuses bytes r → it ≡ r) → ((q : Program) → Accepts bytes q → ⊥) → (r : Refusal) → IsRefusedBy command bytes r → why.Script it ≡ r
+script_told command bytes it same never r (by_script s cause) = ap (λ x. why.Script x) (same s cause)
+script_told command bytes it same never r (by_program q s accepted cause) = absurd (never q accepted)

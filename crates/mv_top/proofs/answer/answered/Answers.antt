@@ -1,0 +1,12 @@
+use Rattle.std.proofs.Common.{◌≡◌, subst}
+use Rattle.mv_top.specs.declared.refusal.Refusal.{Refusal}
+use Rattle.mv_top.specs.declared.refusal.NoText.{NoText}
+use Rattle.mv_top.specs.Refusing.{Causes, Tells}
+use Rattle.mv_top.specs.Answers.{IsRefusedBy, IsToldBy}
+use Rattle.mv_top.proofs.Answering.{has_cause}
+use Rattle.mv_top.proofs.answer.answered.Goals as goal
+
+pub returns-in-Err-Refused-clause-refused : goal.returns-in-Err-Refused-clause-refused
+returns-in-Err-Refused-clause-refused c =
+    has_cause c.args.command.now c.args.bytes.now c.in-Err-Refused.refusal c.fault_of.result
+    (subst (λ (f : NoText). Causes (IsRefusedBy c.args.command.now c.args.bytes.now) f) c.in-Err-Refused.field-0-is c.in-Err-Refused.ensures.refused) c.fault_of.ensures

@@ -1,0 +1,43 @@
+-- Errors that tell why there is no text.
+use Rattle.std.specs.Prelude.{◌≡◌, ℕ, List, Some}
+use Rattle.mv_values.specs.declared.calls.Options.{Options}
+use Rattle.mv_catalog.specs.declared.resolved.Program.{Program}
+use Rattle.mv_journal.specs.declared.event.Event.{Event}
+use Rattle.mv_lawful.specs.declared.fault.Wrong.{Wrong}
+use Rattle.mv_lawful.specs.Work.{Work}
+use Rattle.mv_lawful.specs.Lawful.{wrong_with}
+use Rattle.mv_core.specs.declared.drive.DriveFault.{DriveFault}
+use Rattle.mv_core.specs.declared.drive.DriveFault.TheVariants as drive
+use Rattle.mv_top.specs.declared.refusal.Refusal.{Refusal}
+use Rattle.mv_top.specs.declared.refusal.Refusal.TheVariants as why
+use Rattle.mv_top.specs.declared.refusal.NoText.{NoText}
+use Rattle.mv_top.specs.declared.refusal.NoText.TheVariants.{Refused, NoMemory}
+use Rattle.mv_top.specs.Journals.{refusal_of, RefusesEvents, RefusesJournal}
+
+-- the refusal has this cause, unless memory ran out
+abbrev pub Causes : (Refusal → Type 0) → NoText → Type 0
+Causes Cause (Refused refusal) = Cause refusal
+Causes Cause NoMemory = Unit {0}
+
+-- it is this refusal, unless memory ran out
+abbrev pub Tells : Refusal → NoText → Type 0
+Tells refusal (Refused told) = told ≡ refusal
+Tells refusal NoMemory = Unit {0}
+
+abbrev pub of_drive : DriveFault → NoText
+of_drive (drive.Refused n fault) = Refused (why.Event n fault)
+of_drive (drive.Open call) = Refused (why.Open call)
+of_drive drive.NoMemory = NoMemory
+
+-- it is the refusal of the first fault of the events
+abbrev pub HasFault : Work → List Event → Refusal → Type 0
+HasFault w events refusal = (wrong : Wrong) × (wrong_with w events ≡ Some wrong) × (refusal ≡ refusal_of wrong)
+
+abbrev pub TellsEvents : List ℕ → Program → NoText → Type 0
+TellsEvents bytes p f = Causes (RefusesEvents bytes p) f
+
+abbrev pub TellsWrong : Work → List Event → NoText → Type 0
+TellsWrong w events f = Causes (HasFault w events) f
+
+abbrev pub TellsJournal : Options → List ℕ → Program → NoText → Type 0
+TellsJournal options bytes p f = Causes (RefusesJournal options bytes p) f

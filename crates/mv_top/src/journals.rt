@@ -1,0 +1,125 @@
+//! The run of a script's own journal.
+
+ghost use Rattle.std.specs.Prelude.{◌≡◌, ◌<◌, ◌≤◌, ◌^◌, true, length, IfOk, IfErr};
+ghost use Rattle.mv_accept.specs.Accepting.{most_calls};
+ghost use Rattle.mv_record.specs.Databases.{IsProgram};
+ghost use Rattle.mv_core.specs.Scripts.{IsScript, work_of};
+ghost use Rattle.mv_lawful.specs.Lawful.{Lawful};
+ghost use Rattle.mv_lawful.specs.Outcomes.{outcome_of};
+ghost use Rattle.mv_top.specs.Journals.{block_in, is_built, are_built, AreBuiltEvents, IsJournalText};
+ghost use Rattle.mv_top.specs.Refusing.{of_drive, TellsEvents, TellsWrong, TellsJournal};
+
+use crate::refusal::{NoText, Refusal};
+use crate::script::{Prepared, prepare};
+use mv_catalog::resolved::{CopyInfo, Program};
+use mv_core::core::Core;
+use mv_core::drive::{DriveFault, drive};
+use mv_core::script::Script;
+use mv_journal::event::Event;
+use mv_journal::fault::LineFault;
+use mv_journal::journal::read_journal;
+use mv_journal::outcome::Outcome;
+use mv_report::render::render;
+use mv_values::calls::Options;
+use mv_values::list::List;
+use mv_values::memory::NoMemory;
+use std::alloc::Global;
+
+/// Returns the bytes of the journal's block. There are none without a journal.
+fn block_in<'b>(bytes: &'b [u8], journal: &Option<CopyInfo>) -> &'b [u8]
+    ensures { result.now ≡ block_in bytes.now journal.now }
+{
+    match journal {
+        None => &[],
+        Some(block) => {
+            let from = (block.at as usize).min(bytes.len());
+            let to = (block.at as usize + block.len as usize).min(bytes.len());
+            &bytes[from..to]
+        }
+    }
+}
+
+/// Whether `replay` can execute the event.
+fn is_built(event: &Event) -> bool
+    ensures { result ≡ is_built event.now }
+{
+    match event {
+        Event::B(_) | Event::S(_) | Event::M(_) | Event::C(_) => true,
+        Event::A(_) | Event::X(_) | Event::G => false,
+    }
+}
+
+/// Whether `replay` can execute all events.
+fn are_built(events: &[Event]) -> bool
+    ensures { result ≡ are_built events.now }
+{
+    events.iter().all(|event| is_built(event))
+}
+
+/// Returns the events of a program's journal, which `replay` can execute.
+fn events_of(alloc: Global, bytes: &[u8], program: &Program) -> Result<List<Event>, NoText>
+    requires { length bytes.now < 2 ^ 32 }
+    ensures events { IfOk result (AreBuiltEvents bytes.now program.now) }
+    ensures few { IfOk result (λ events. length events < 2 ^ 32) }
+    ensures refused { IfErr result (TellsEvents bytes.now program.now) }
+{
+    let block = block_in(bytes, &program.resolved.journal);
+    let events = match read_journal(alloc, block) {
+        Ok(events) => events,
+        Err(LineFault::Line { n }) => return Err(NoText::Refused(Refusal::Line { n })),
+        Err(LineFault::NoMemory) => return Err(NoText::NoMemory),
+    };
+    if are_built(events.as_slice()) {
+        Ok(events)
+    } else {
+        Err(NoText::Refused(Refusal::NotBuilt))
+    }
+}
+
+/// Makes the events of a journal, one after another, and returns their outcome. Costs the work of the calls.
+fn run_journal(alloc: Global, script: Script, events: &[Event]) -> Result<Outcome, NoText>
+    requires script { IsScript script }
+    requires few { length events.now < 2 ^ 32 }
+    requires built { are_built events.now ≡ true }
+    ensures lawful { IfOk result (λ _. Lawful (work_of script) events.now) }
+    ensures outcome { IfOk result (λ outcome. outcome ≡ outcome_of (work_of script) events.now) }
+    ensures wrong { IfErr result (TellsWrong (work_of script) events.now) }
+{
+    let mut core = Core::new(alloc, script)?;
+    match drive(alloc, &mut core, events) {
+        Ok(()) => Ok(core.outcome(alloc)?),
+        Err(fault) => Err(of_drive(fault)),
+    }
+}
+
+/// Returns the refusal of a journal's fault.
+fn of_drive(fault: DriveFault) -> NoText
+    ensures { result ≡ of_drive fault }
+{
+    match fault {
+        DriveFault::Refused { n, fault } => NoText::Refused(Refusal::Event { n, fault }),
+        DriveFault::Open { call } => NoText::Refused(Refusal::Open { call }),
+        DriveFault::NoMemory => NoText::NoMemory,
+    }
+}
+
+/// Returns the text of a program's journal, or why the journal is refused.
+pub(crate) fn journal_text(
+    alloc: Global,
+    options: Options,
+    bytes: &[u8],
+    program: Program,
+) -> Result<List<u8>, NoText>
+    requires whole { IsProgram program }
+    requires few { length program.resolved.calls ≤ most_calls }
+    requires size { length bytes.now < 2 ^ 32 }
+    ensures text { IfOk result (IsJournalText options bytes.now program) }
+    ensures refused { IfErr result (TellsJournal options bytes.now program) }
+{
+    let events = events_of(alloc, bytes, &program)?;
+    let Prepared { script, tables } = prepare(alloc, program, options)?;
+    match run_journal(alloc, script, events.as_slice()) {
+        Ok(outcome) => Ok(render(alloc, &tables, &outcome)?),
+        Err(error) => Err(error),
+    }
+}

@@ -1,0 +1,107 @@
+//! The reasons why a command refuses its input, with a number and a line for each.
+
+ghost use Rattle.std.specs.Prelude.{◌≡◌, ◌++◌, IfOk, codes, decimal};
+ghost use Rattle.mv_top.specs.Refusals.{event_number, number_of, line_of, journal_line};
+
+use mv_accept::refusal::Refusal as ScriptRefusal;
+use mv_lawful::fault::Fault;
+use mv_values::memory::NoMemory;
+use mv_values::txt::Txt;
+use std::alloc::Global;
+
+/// Why a command refuses its input. Lines of a journal are counted from 1.
+#[derive(Drop)]
+pub enum Refusal {
+    /// The script isn't accepted.
+    Script(ScriptRefusal),
+    /// This line of the journal isn't an event, and all lines before it are.
+    Line { n: u32 },
+    /// The event on this line of the journal is refused, and all events before it are allowed.
+    Event { n: u32, fault: Fault },
+    /// The events of the journal are allowed, and this is the first call that hasn't committed at its end.
+    Open { call: u32 },
+    /// The journal has a repair or a collection, which `replay` can't execute yet.
+    NotBuilt,
+}
+
+/// Why there is no text: the input is refused, or memory ran out.
+#[derive(Drop)]
+pub enum NoText {
+    Refused(Refusal),
+    NoMemory,
+}
+
+impl From<NoMemory> for NoText {
+    ghost use Rattle.std.specs.Prelude.{◌≡◌};
+    ghost use Rattle.mv_top.specs.declared.refusal.NoText.TheVariants as failure;
+
+    ghost from_gives = { λ _ e. e ≡ failure.NoMemory };
+
+    fn from(_error: NoMemory) -> NoText {
+        NoText::NoMemory
+    }
+}
+
+impl Refusal {
+    /// Returns the number of the refusal, from 1 to 22.
+    pub fn number(&self) -> u32
+        ensures { result ≡ number_of self.now }
+    {
+        match self {
+            Refusal::Script(refusal) => refusal.number(),
+            Refusal::Line { .. } => 15,
+            Refusal::Event { fault, .. } => event_number(*fault),
+            Refusal::Open { .. } => 21,
+            Refusal::NotBuilt => 22,
+        }
+    }
+
+    /// Returns the line that reports the refusal, without a line end.
+    ///
+    /// # Errors
+    /// `NoMemory` if memory runs out.
+    pub fn line(&self, alloc: Global) -> Result<Txt, NoMemory>
+        ensures { IfOk result (λ line. line ≡ line_of self.now) }
+    {
+        match self {
+            Refusal::Script(refusal) => refusal.line(alloc),
+            Refusal::Line { n } => journal_line(alloc, 15, *n),
+            Refusal::Event { n, fault } => journal_line(alloc, event_number(*fault), *n),
+            Refusal::Open { call } => open_line(alloc, *call),
+            Refusal::NotBuilt => Txt::of(alloc, b"refused 22 not built"),
+        }
+    }
+}
+
+/// Returns the number of the refusal of an event.
+fn event_number(fault: Fault) -> u32
+    ensures { result ≡ event_number fault }
+{
+    match fault {
+        Fault::Order => 16,
+        Fault::Conflict => 17,
+        Fault::Idle => 18,
+        Fault::Rounds => 19,
+        Fault::Stale => 20,
+    }
+}
+
+/// Returns the line of a refusal at a line of the journal.
+fn journal_line(alloc: Global, number: u32, n: u32) -> Result<Txt, NoMemory>
+    ensures { IfOk result (λ line. line ≡ journal_line number n) }
+{
+    let mut line = Txt::of(alloc, b"refused ")?;
+    line.append(number.to_string(alloc)?.as_bytes())?;
+    line.append(b" journal line ")?;
+    line.append(n.to_string(alloc)?.as_bytes())?;
+    Ok(line)
+}
+
+/// Returns the line of `Open`.
+fn open_line(alloc: Global, call: u32) -> Result<Txt, NoMemory>
+    ensures { IfOk result (λ line. line ≡ codes "refused 21 call " ++ decimal call) }
+{
+    let mut line = Txt::of(alloc, b"refused 21 call ")?;
+    line.append(call.to_string(alloc)?.as_bytes())?;
+    Ok(line)
+}

@@ -1,0 +1,50 @@
+//! What a run needs of a program.
+
+ghost use Rattle.std.specs.Prelude.{◌≡◌, ◌≤◌, length, IfOk};
+ghost use Rattle.mv_accept.specs.Accepting.{most_calls};
+ghost use Rattle.mv_record.specs.Databases.{IsProgram};
+ghost use Rattle.mv_core.specs.Scripts.{IsScript, work_of as script_work};
+ghost use Rattle.mv_top.specs.History.{work_of};
+
+use mv_catalog::resolved::{Program, Resolved};
+use mv_compile::compile::compile;
+use mv_core::script::Script;
+use mv_values::calls::Options;
+use mv_values::list::List;
+use mv_values::memory::NoMemory;
+use mv_values::schema::TableInfo;
+use std::alloc::Global;
+
+/// A program as a run needs it: its script, with a graph for each procedure, and its tables, for the report.
+#[derive(Drop)]
+pub(crate) struct Prepared {
+    pub(crate) script: Script,
+    pub(crate) tables: List<TableInfo>,
+}
+
+/// Compiles the procedures of a program. Takes time quadratic in the number of a procedure's statements.
+pub(crate) fn prepare(
+    alloc: Global,
+    program: Program,
+    options: Options,
+) -> Result<Prepared, NoMemory>
+    requires whole { IsProgram program }
+    requires few { length program.resolved.calls ≤ most_calls }
+    ensures script { IfOk result (λ p. IsScript p.script) }
+    ensures work { IfOk result (λ p. script_work p.script ≡ work_of program options) }
+    ensures count { IfOk result (λ p. length p.script.calls ≡ length program.resolved.calls) }
+    ensures tables { IfOk result (λ p. p.tables ≡ program.resolved.tables) }
+{
+    let graphs = compile(alloc, &program.resolved)?;
+    let Program { resolved, opening } = program;
+    let Resolved { tables, calls, .. } = resolved;
+    Ok(Prepared {
+        script: Script {
+            graphs,
+            calls,
+            opening,
+            options,
+        },
+        tables,
+    })
+}
