@@ -1,4 +1,0 @@
-pub mod Telling
-pub mod Numbers
-pub mod InOrder
-pub mod Calling

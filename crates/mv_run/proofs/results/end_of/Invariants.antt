@@ -1,6 +1,0 @@
-use Rattle.std.proofs.Common.{◌≡◌, drop}
-use Rattle.mv_record.specs.Runs.{end_in}
-use Rattle.mv_run.proofs.results.end_of.Given as goal
-
-abbrev pub invariant-loop-record : goal.invariant-loop-record
-invariant-loop-record l = end_in (drop l.record-index l.records) ≡ end_in l.records
