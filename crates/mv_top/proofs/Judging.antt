@@ -1,5 +1,5 @@
 -- A program's journal has one answer: its events are lawful, or there is one refusal.
-use Rattle.std.proofs.Common.{◌≡◌, ℕ, true, false, List, Option, Some, None, Result, Ok, Err, refl, sym, ap, subst, ◌∙◌}
+use Rattle.std.proofs.Common.{◌≡◌, ℕ, All, List, None, Result, Ok, Err, refl, sym, ap, subst, ◌∙◌}
 use Rattle.std.proofs.lemmas.Option.{none-some, same_Some}
 use Rattle.std.specs.Prelude.{IfOk, IfErr, MatchResult}
 use Rattle.mv_values.specs.declared.calls.Options.{Options}
@@ -8,7 +8,6 @@ use Rattle.mv_accept.specs.declared.refusal.Refusal.{Refusal as ScriptRefusal}
 use Rattle.mv_accept.specs.Accepting.{Accepts, Refuses}
 use Rattle.mv_journal.specs.declared.event.Event.{Event}
 use Rattle.mv_journal.proofs.Reading.{same_events, same_number, not_both}
-use Rattle.mv_lawful.specs.declared.fault.Wrong.{Wrong}
 use Rattle.mv_lawful.specs.Lawful.{wrong_with}
 use Rattle.mv_top.specs.declared.refusal.Refusal.{Refusal}
 use Rattle.mv_top.specs.declared.refusal.Refusal.TheVariants as why
@@ -16,8 +15,9 @@ use Rattle.mv_top.specs.declared.refusal.NoText.{NoText}
 use Rattle.mv_top.specs.declared.refusal.NoText.TheVariants.{Refused, NoMemory}
 use Rattle.mv_top.specs.declared.status.Command.{Command}
 use Rattle.mv_top.specs.declared.status.Command.TheVariants.{Run, Replay, Serial, Graph}
+use Rattle.mv_core.specs.Drives.{NeedsNoRepair}
 use Rattle.mv_top.specs.History.{work_of}
-use Rattle.mv_top.specs.Journals.{journal_lines, are_built, refusal_of, AreBuiltEvents, HasLawfulJournal, IsJournalText, RefusesEvents, line, not_built, RefusesJournal, unread, unlawful}
+use Rattle.mv_top.specs.Journals.{journal_lines, refusal_of, AreBuiltEvents, HasLawfulJournal, RefusesEvents, line, not_built, RefusesJournal, unread, unlawful}
 use Rattle.mv_top.specs.Refusing.{Causes, Tells}
 use Rattle.mv_top.specs.Answers.{IsTextOf, Takes, RefusesProgram, IsRefusedBy, by_script, by_program}
 
@@ -27,9 +27,7 @@ same_built bytes p es fs a b = same_events (journal_lines bytes p) es fs a.journ
 -- events that are built are there to execute
 no_refusal : (bytes : List ℕ) (p : Program) (es : List Event) (r : Refusal) → AreBuiltEvents bytes p es → RefusesEvents bytes p r → ⊥
 no_refusal bytes p es r a (line n bad) = not_both (journal_lines bytes p) es n a.journal bad
-no_refusal bytes p es r a (not_built fs are not) =
-    let same : es ≡ fs = same_events (journal_lines bytes p) es fs a.journal are in
-    let yes : are_built fs ≡ true = subst (λ xs. are_built xs ≡ true) same a.built in cc
+no_refusal bytes p es r a (not_built fs are not) = not (subst (λ (xs : List Event). All NeedsNoRepair xs) (same_events (journal_lines bytes p) es fs a.journal are) a.built)
 
 same_unread : (bytes : List ℕ) (p : Program) (r q : Refusal) → RefusesEvents bytes p r → RefusesEvents bytes p q → r ≡ q
 same_unread bytes p r q (line n bad) (line m worse) = ap (λ k. why.Line k) (same_number (journal_lines bytes p) n m bad worse)

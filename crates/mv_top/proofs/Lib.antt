@@ -2,7 +2,6 @@ pub mod Numbers
 pub mod Serials
 pub mod Scripts
 pub mod Judging
-pub mod Turning
 pub mod Driving
 pub mod Answering
 pub mod Texts

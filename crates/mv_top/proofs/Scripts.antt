@@ -1,5 +1,5 @@
 -- A program's script: its calls run by the graphs of their procedures.
-use Rattle.std.proofs.Common.{◌≡◌, ◌≤◌, ◌<◌, ◌^◌, ℕ, zero, suc, List, [], ◌∷◌, Option, Some, None, Result, length, map, slice_get, refl, sym, ap, subst, ◌∙◌, arith}
+use Rattle.std.proofs.Common.{◌≡◌, ◌≤◌, ◌<◌, ℕ, zero, suc, List, [], ◌∷◌, Option, Some, None, length, slice_get, refl, sym, ap, subst, ◌∙◌, arith}
 use Rattle.std.specs.List.{All, AllZip}
 use Rattle.std.proofs.lemmas.Slice.Zip.{AllZip-long}
 use Rattle.std.proofs.lemmas.Option.{slice_get-map}
@@ -7,7 +7,6 @@ use Rattle.std.specs.Option.{option_map}
 use Rattle.std.specs.Prelude.{slice_index_or}
 use Rattle.mv_values.specs.declared.calls.Call.{Call}
 use Rattle.mv_values.specs.declared.calls.Options.{Options}
-use Rattle.mv_values.specs.declared.schema.TableInfo.{TableInfo}
 use Rattle.mv_catalog.specs.declared.resolved.ProcInfo.{ProcInfo}
 use Rattle.mv_catalog.specs.declared.resolved.Program.{Program}
 use Rattle.mv_catalog.specs.Text.{FitsText, IsCall, IsProcedure, Suits}
@@ -17,9 +16,7 @@ use Rattle.mv_record.specs.Runs.{Run}
 use Rattle.mv_record.specs.Databases.{IsProgram}
 use Rattle.mv_recorded.specs.Recorded.{records, records_in, records_at}
 use Rattle.mv_graph.specs.declared.graph.Graph.{Graph}
-use Rattle.mv_graph.specs.Nodes.{IsSound}
 use Rattle.mv_compile.specs.Compiled.{graph_of, graphs_of}
-use Rattle.mv_lawful.specs.Work.{Work}
 use Rattle.mv_core.specs.declared.script.Script.{Script}
 use Rattle.mv_core.specs.Scripts.{run_by, run_in, IsCallOf, CanRun, IsScript, work_of as script_work}
 use Rattle.mv_top.specs.History.{work_of}

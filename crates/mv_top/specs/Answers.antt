@@ -4,7 +4,6 @@ use Rattle.std.specs.Option.{ForSome}
 use Rattle.std.specs.declared.alloc.Global.{Global}
 use Rattle.mv_edge.specs.Edge.{Rose, Writes, WritesFront}
 use Rattle.mv_catalog.specs.declared.resolved.Program.{Program}
-use Rattle.mv_values.specs.declared.calls.Options.{Options}
 use Rattle.mv_journal.specs.declared.event.Event.{Event}
 use Rattle.mv_accept.specs.declared.refusal.Refusal.{Refusal as ScriptRefusal}
 use Rattle.mv_accept.specs.Accepting.{Accepts, Refuses}

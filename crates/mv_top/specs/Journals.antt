@@ -1,17 +1,16 @@
 -- The journal of a script, its text, and why it is refused. The form of a journal and its law are this project's own.
-use Rattle.std.specs.Prelude.{◌≡◌, ℕ, Bool, true, false, List, [], ◌∷◌, Option, Some, None}
-use Rattle.std.specs.List.{list_all}
+use Rattle.std.specs.Prelude.{◌≡◌, ℕ, List, [], Option, Some, None, All}
 use Rattle.std.specs.Str.Lines.{lines}
 use Rattle.mv_values.specs.declared.calls.Options.{Options}
 use Rattle.mv_catalog.specs.declared.resolved.CopyInfo.{CopyInfo}
 use Rattle.mv_catalog.specs.declared.resolved.Program.{Program}
 use Rattle.mv_opening.specs.Opening.{block_of}
 use Rattle.mv_journal.specs.declared.event.Event.{Event}
-use Rattle.mv_journal.specs.declared.event.Event.TheVariants.{B, S, A, M, C, X, G}
 use Rattle.mv_journal.specs.Lines.{AreEventLines, IsFirstBad}
 use Rattle.mv_lawful.specs.declared.fault.Wrong.{Wrong}
 use Rattle.mv_lawful.specs.declared.fault.Wrong.TheVariants as wrong
 use Rattle.mv_lawful.specs.Lawful.{Lawful, wrong_with}
+use Rattle.mv_core.specs.Drives.{NeedsNoRepair}
 use Rattle.mv_top.specs.declared.refusal.Refusal.{Refusal}
 use Rattle.mv_top.specs.declared.refusal.Refusal.TheVariants as why
 use Rattle.mv_top.specs.History.{work_of, text}
@@ -29,23 +28,10 @@ journal_lines bytes p = lines (block_in bytes p.resolved.journal)
 abbrev pub IsJournalOf : List ℕ → Program → List Event → Type 0
 IsJournalOf bytes p events = AreEventLines (journal_lines bytes p) events
 
--- an event that `replay` can execute: repairs and collections can't be yet
-abbrev pub is_built : Event → Bool
-is_built (B c) = true
-is_built (S c) = true
-is_built (A c) = false
-is_built (M c) = true
-is_built (C c) = true
-is_built (X c) = false
-is_built G = false
-
-abbrev pub are_built : List Event → Bool
-are_built events = list_all is_built events
-
--- the events of the journal, which are built
+-- the events of the journal, which `replay` can execute: repairs and collections can't be yet
 pub record AreBuiltEvents (bytes : List ℕ) (p : Program) (events : List Event) : Type 0 where
   pub journal : IsJournalOf bytes p events
-  pub built : are_built events ≡ true
+  pub built : All NeedsNoRepair events
 
 -- that, and the journal is lawful
 pub record HasLawfulJournal (options : Options) (bytes : List ℕ) (p : Program) (events : List Event) : Type 0 where
@@ -66,7 +52,7 @@ refusal_of (wrong.Open call) = why.Open call
 -- why there are no events to execute: a line isn't an event, or an event isn't built
 pub data RefusesEvents (bytes : List ℕ) (p : Program) : Refusal → Type 0 where
   line : (n : ℕ) → IsFirstBad (journal_lines bytes p) n → RefusesEvents bytes p (why.Line n)
-  not_built : (events : List Event) → IsJournalOf bytes p events → are_built events ≡ false → RefusesEvents bytes p why.NotBuilt
+  not_built : (events : List Event) → IsJournalOf bytes p events → (All NeedsNoRepair events → ⊥) → RefusesEvents bytes p why.NotBuilt
 
 -- why the journal is refused: there are no events to execute, or the law of journals refuses them
 pub data RefusesJournal (options : Options) (bytes : List ℕ) (p : Program) (refusal : Refusal) : Type 0 where

@@ -1,19 +1,20 @@
 //! The run of a script's own journal.
 
-ghost use Rattle.std.specs.Prelude.{◌≡◌, ◌<◌, ◌≤◌, ◌^◌, true, length, IfOk, IfErr};
+ghost use Rattle.std.specs.Prelude.{◌≡◌, ◌<◌, ◌≤◌, ◌^◌, All, length, IfOk, IfErr};
 ghost use Rattle.mv_accept.specs.Accepting.{most_calls};
 ghost use Rattle.mv_record.specs.Databases.{IsProgram};
 ghost use Rattle.mv_core.specs.Scripts.{IsScript, work_of};
+ghost use Rattle.mv_core.specs.Drives.{NeedsNoRepair};
 ghost use Rattle.mv_lawful.specs.Lawful.{Lawful};
 ghost use Rattle.mv_lawful.specs.Outcomes.{outcome_of};
-ghost use Rattle.mv_top.specs.Journals.{block_in, is_built, are_built, AreBuiltEvents, IsJournalText};
+ghost use Rattle.mv_top.specs.Journals.{block_in, AreBuiltEvents, IsJournalText};
 ghost use Rattle.mv_top.specs.Refusing.{of_drive, TellsEvents, TellsWrong, TellsJournal};
 
 use crate::refusal::{NoText, Refusal};
 use crate::script::{Prepared, prepare};
 use mv_catalog::resolved::{CopyInfo, Program};
-use mv_core::core::Core;
-use mv_core::drive::{DriveFault, drive};
+use mv_core::drive::DriveFault;
+use mv_core::runs::{need_no_repair, replay};
 use mv_core::script::Script;
 use mv_journal::event::Event;
 use mv_journal::fault::LineFault;
@@ -39,23 +40,6 @@ fn block_in<'b>(bytes: &'b [u8], journal: &Option<CopyInfo>) -> &'b [u8]
     }
 }
 
-/// Whether `replay` can execute the event.
-fn is_built(event: &Event) -> bool
-    ensures { result ≡ is_built event.now }
-{
-    match event {
-        Event::B(_) | Event::S(_) | Event::M(_) | Event::C(_) => true,
-        Event::A(_) | Event::X(_) | Event::G => false,
-    }
-}
-
-/// Whether `replay` can execute all events.
-fn are_built(events: &[Event]) -> bool
-    ensures { result ≡ are_built events.now }
-{
-    events.iter().all(|event| is_built(event))
-}
-
 /// Returns the events of a program's journal, which `replay` can execute.
 fn events_of(alloc: Global, bytes: &[u8], program: &Program) -> Result<List<Event>, NoText>
     requires { length bytes.now < 2 ^ 32 }
@@ -69,7 +53,7 @@ fn events_of(alloc: Global, bytes: &[u8], program: &Program) -> Result<List<Even
         Err(LineFault::Line { n }) => return Err(NoText::Refused(Refusal::Line { n })),
         Err(LineFault::NoMemory) => return Err(NoText::NoMemory),
     };
-    if are_built(events.as_slice()) {
+    if need_no_repair(events.as_slice()) {
         Ok(events)
     } else {
         Err(NoText::Refused(Refusal::NotBuilt))
@@ -80,14 +64,13 @@ fn events_of(alloc: Global, bytes: &[u8], program: &Program) -> Result<List<Even
 fn run_journal(alloc: Global, script: Script, events: &[Event]) -> Result<Outcome, NoText>
     requires script { IsScript script }
     requires few { length events.now < 2 ^ 32 }
-    requires built { are_built events.now ≡ true }
+    requires built { All NeedsNoRepair events.now }
     ensures lawful { IfOk result (λ _. Lawful (work_of script) events.now) }
     ensures outcome { IfOk result (λ outcome. outcome ≡ outcome_of (work_of script) events.now) }
     ensures wrong { IfErr result (TellsWrong (work_of script) events.now) }
 {
-    let mut core = Core::new(alloc, script)?;
-    match drive(alloc, &mut core, events) {
-        Ok(()) => Ok(core.outcome(alloc)?),
+    match replay(alloc, script, events) {
+        Ok(outcome) => Ok(outcome),
         Err(fault) => Err(of_drive(fault)),
     }
 }

@@ -10,4 +10,3 @@ mod script;
 mod serial;
 pub mod status;
 pub mod top;
-mod turns;

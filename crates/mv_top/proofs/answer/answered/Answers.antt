@@ -1,8 +1,7 @@
-use Rattle.std.proofs.Common.{◌≡◌, subst}
-use Rattle.mv_top.specs.declared.refusal.Refusal.{Refusal}
+use Rattle.std.proofs.Common.{subst}
 use Rattle.mv_top.specs.declared.refusal.NoText.{NoText}
-use Rattle.mv_top.specs.Refusing.{Causes, Tells}
-use Rattle.mv_top.specs.Answers.{IsRefusedBy, IsToldBy}
+use Rattle.mv_top.specs.Refusing.{Causes}
+use Rattle.mv_top.specs.Answers.{IsRefusedBy}
 use Rattle.mv_top.proofs.Answering.{has_cause}
 use Rattle.mv_top.proofs.answer.answered.Goals as goal
 

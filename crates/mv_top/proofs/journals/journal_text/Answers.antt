@@ -1,4 +1,4 @@
-use Rattle.std.proofs.Common.{◌≡◌, ◌≤◌, ◌<◌, List, length, ap, subst, sym, arith}
+use Rattle.std.proofs.Common.{List, length, ap, subst, arith}
 use Rattle.mv_journal.specs.declared.event.Event.{Event}
 use Rattle.mv_top.specs.Refusing.{TellsWrong}
 use Rattle.mv_core.specs.Scripts.{work_of}
