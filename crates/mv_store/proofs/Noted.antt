@@ -26,6 +26,6 @@ pub on_err : {A E : Type 0} (r : Result A E) (P Q : Type 0) → (P → Q) → On
 on_err (Ok x) P Q f h = tt
 on_err (Err e) P Q f h = f h
 
-pub on_any : {A E : Type 0} (r : Result A E) (P : Type 0) → P → OnErr r P
-on_any (Ok x) P h = tt
-on_any (Err e) P h = h
+pub on_sure : {A E : Type 0} (r : Result A E) (P : Type 0) → P → OnOk r P
+on_sure (Ok x) P h = h
+on_sure (Err e) P h = tt
