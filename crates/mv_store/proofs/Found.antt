@@ -17,8 +17,12 @@ use Rattle.mv_record.specs.Admitting.{Admitted}
 use Rattle.mv_record.proofs.Patching.{rising_filter}
 use Rattle.mv_chain.specs.Versions.{Versions, row_at}
 use Rattle.mv_view.specs.Narrowing.{matching}
-use Rattle.mv_store.specs.Stored.{Entries, table_at, found_in}
+use Rattle.mv_store.specs.Stored.{Entries, table_at}
 use Rattle.mv_store.proofs.Keys.{table_rises}
+
+-- the row after n commits, where the predicate matches it
+abbrev pub found_in : ℕ → Pred → Versions → Option (List Value)
+found_in n pred v = matched pred (row_at v n)
 
 matches_found : (n : ℕ) (pred : Pred) (es : Entries) → stored (picked (found_in n pred) es) ≡ matching pred (table_at n es)
 matches_found n pred [] = refl
@@ -51,26 +55,17 @@ stored_both : (es fs : List (List Value × List Value)) → stored (es ++ fs) �
 stored_both [] fs = refl
 stored_both (e ∷ es) fs = ap (λ l. record { key = e.0; row = e.1 } ∷ l) (stored_both es fs)
 
-pub found_more : (n : ℕ) (pred : Pred) (rows : List Keyed) (key : List Value) (v : Versions) (rest : Entries) (all : List Keyed) → rows ++ stored (picked (found_in n pred) ((key, v) ∷ rest)) ≡ all
-    → (rows ++ stored (alone_at key (found_in n pred v))) ++ stored (picked (found_in n pred) rest) ≡ all
-found_more n pred rows key v rest all h =
-    append_assoc rows (stored (alone_at key (found_in n pred v))) (stored (picked (found_in n pred) rest))
-    ∙ (sym (ap (λ l. rows ++ l) (stored_both (alone_at key (found_in n pred v)) (picked (found_in n pred) rest)))
-    ∙ h)
+pub rows_more : (f : Versions → Option (List Value)) (rows : List Keyed) (key : List Value) (v : Versions) (row : Option (List Value)) (rest : Entries) (all : List Keyed) → row ≡ f v → rows ++ stored (picked f ((key, v) ∷ rest)) ≡ all
+    → (rows ++ stored (alone_at key row)) ++ stored (picked f rest) ≡ all
+rows_more f rows key v row rest all is h =
+    append_assoc rows (stored (alone_at key row)) (stored (picked f rest))
+    ∙ (sym (ap (λ l. rows ++ l) (stored_both (alone_at key row) (picked f rest)))
+    ∙ (ap (λ o. rows ++ stored (alone_at key o ++ picked f rest)) is ∙ h))
 
-pub found_below : (n : ℕ) (pred : Pred) (rows : List Keyed) (key : List Value) (v : Versions) (rest : Entries) (all : List Keyed) → rows ++ stored (picked (found_in n pred) ((key, v) ∷ rest)) ≡ all → IsRising all
-    → OnSome (found_in n pred v) (All (IsBelow key) rows)
-found_below n pred rows key v rest all h rising = by (found_in n pred v) h
+pub rows_below : (f : Versions → Option (List Value)) (rows : List Keyed) (key : List Value) (v : Versions) (row : Option (List Value)) (rest : Entries) (all : List Keyed) → row ≡ f v → rows ++ stored (picked f ((key, v) ∷ rest)) ≡ all → IsRising all
+    → OnSome row (All (IsBelow key) rows)
+rows_below f rows key v row rest all is h rising = by row (ap (λ o. rows ++ stored (alone_at key o ++ picked f rest)) is ∙ h)
   where
-    by : (o : Option (List Value)) → rows ++ stored (alone_at key o ++ picked (found_in n pred) rest) ≡ all → OnSome o (All (IsBelow key) rows)
-    by None is = tt
-    by (Some row) is = front_below rows (stored (picked (found_in n pred) rest)) (record { key = key; row = row }) (subst IsRising (sym is) rising)
-
-pub then_rest : (rows : List Keyed) (item : Keyed) (rest all : List Keyed) → rows ++ item ∷ rest ≡ all → (rows ++ item ∷ []) ++ rest ≡ all
-then_rest rows item rest all h = append_assoc rows (item ∷ []) rest ∙ h
-
--- the same of all rows
-
-pub row_one : (n : ℕ) (rows : List Keyed) (key : List Value) (v : Versions) (row : List Value) (rest : Entries) (all : List Keyed) → rows ++ table_at n ((key, v) ∷ rest) ≡ all → row_at v n ≡ Some row
-    → rows ++ record { key = key; row = row } ∷ table_at n rest ≡ all
-row_one n rows key v row rest all h is = sym (ap (λ o. rows ++ stored (alone_at key o ++ picked (λ w. row_at w n) rest)) is) ∙ h
+    by : (o : Option (List Value)) → rows ++ stored (alone_at key o ++ picked f rest) ≡ all → OnSome o (All (IsBelow key) rows)
+    by None same = tt
+    by (Some r) same = front_below rows (stored (picked f rest)) (record { key = key; row = r }) (subst IsRising (sym same) rising)

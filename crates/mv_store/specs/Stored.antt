@@ -6,8 +6,6 @@ use Rattle.mv_values.specs.declared.value.Value.{Value}
 use Rattle.mv_values.specs.declared.rows.Keyed.{Keyed}
 use Rattle.mv_values.specs.declared.patch.Patch.{Patch}
 use Rattle.mv_values.specs.declared.patch.Write.{Write}
-use Rattle.mv_values.specs.declared.pred.Pred.{Pred}
-use Rattle.mv_values.specs.Preds.{matched}
 use Rattle.mv_table.specs.Entries.{picked, stored}
 use Rattle.mv_chain.specs.Versions.{Versions, row_at, own_of}
 use Rattle.mv_record.specs.Writes.{AreRising}
@@ -25,10 +23,6 @@ pub record Versioned : Type 0 where
 -- what f picks of the versions under each key
 abbrev pub held : {B : Type 0} → (Versions → Option B) → List Entries → List (List (List Value × B))
 held f tables = map (picked f) tables
-
--- the row after commit n, if the predicate matches it
-abbrev pub found_in : ℕ → Pred → Versions → Option (List Value)
-found_in n pred v = matched pred (row_at v n)
 
 -- the rows of a table after commit n
 abbrev pub table_at : ℕ → Entries → List Keyed

@@ -7,7 +7,7 @@ ghost use Rattle.mv_table.specs.Entries.{alone_at, stored, KeysRise};
 ghost use Rattle.mv_table.specs.Spans.{Covers, IsForward};
 ghost use Rattle.mv_record.specs.Admitting.{Admitted};
 ghost use Rattle.mv_view.specs.Narrowing.{matching};
-ghost use Rattle.mv_store.specs.Stored.{table_at, found_in};
+ghost use Rattle.mv_store.specs.Stored.{table_at};
 
 use mv_chain::chain::Chain;
 use mv_table::key_map::KeyMap;
@@ -49,24 +49,18 @@ fn find_within(
 {
     let mut rows = Rows::new(alloc);
     for (key, chain) in table.range(span) {
-        add_match(alloc, &mut rows, key, chain, n, pred)?;
+        let row = chain.found_at(alloc, n, pred)?;
+        add_row(alloc, &mut rows, key, row)?;
     }
     Ok(rows)
 }
 
-/// Appends a copy of the row after commit n, if the predicate matches it. Its key must then be greater than all others.
-fn add_match(
-    alloc: Global,
-    rows: &mut Rows,
-    key: &Key,
-    chain: &Chain,
-    n: u32,
-    pred: &Pred,
-) -> Result<(), NoMemory>
-    requires { OnSome (found_in n pred.now chain.now) (All (IsBelow key.now) rows.old) }
-    ensures { OnOk result (rows.new ≡ rows.old ++ stored (alone_at key.now (found_in n pred.now chain.now))) }
+/// Appends a row, if there is one, under a copy of its key. The key must then be greater than all others.
+fn add_row(alloc: Global, rows: &mut Rows, key: &Key, row: Option<Row>) -> Result<(), NoMemory>
+    requires { OnSome row (All (IsBelow key.now) rows.old) }
+    ensures { OnOk result (rows.new ≡ rows.old ++ stored (alone_at key.now row)) }
 {
-    let Some(row) = chain.found_at(alloc, n, pred)? else {
+    let Some(row) = row else {
         return Ok(());
     };
     let key = key.copy(alloc)?;
@@ -96,10 +90,8 @@ fn all_rows(alloc: Global, table: &KeyMap<Chain>, n: u32) -> Result<Rows, NoMemo
 {
     let mut rows = Rows::new(alloc);
     for (key, chain) in table.iter() {
-        if let Some(row) = chain.row_at(alloc, n)? {
-            let key = key.copy(alloc)?;
-            rows.push(Keyed { key, row })?;
-        }
+        let row = chain.row_at(alloc, n)?;
+        add_row(alloc, &mut rows, key, row)?;
     }
     Ok(rows)
 }

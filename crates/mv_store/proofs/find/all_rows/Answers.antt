@@ -1,9 +1,7 @@
-use Rattle.std.proofs.Common.{◌++◌, All, sym, ap, subst, ◌∙◌}
-use Rattle.mv_values.specs.declared.rows.Keyed.{Keyed}
-use Rattle.mv_values.specs.Keys.{IsRising, IsBelow}
-use Rattle.mv_table.proofs.Storing.{front_below}
+use Rattle.std.proofs.Common.{◌++◌, sym, ap, ◌∙◌}
+use Rattle.mv_chain.specs.Versions.{row_at}
 use Rattle.mv_store.specs.Stored.{table_at}
-use Rattle.mv_store.proofs.Found.{row_one}
+use Rattle.mv_store.proofs.Found.{rows_more, rows_below}
 use Rattle.mv_store.proofs.Keys.{table_rises}
 use Rattle.mv_store.proofs.find.all_rows.Goals as goal
 
@@ -13,10 +11,16 @@ loop-key-init c = record {
   rising = table_rises c.args.n c.args.table.now c.iter-key-items.ensures.rising;
 }
 
-pub push-requires : goal.push-requires
-push-requires c =
-    let item : Keyed = record { key = c.in-Some.key.now; row = c.in-Some-2.row } in
-    let more = row_one c.args.n c.loop-key.rows c.in-Some.key.now c.in-Some.chain.now c.in-Some-2.row c.next.new.self (table_at c.args.n c.args.table.now)
-    (sym (ap (λ es. c.loop-key.rows ++ table_at c.args.n es) c.in-Some.ensures.steps) ∙ c.loop-key.invariant.rows)
-    (sym c.in_ok-row.ensures ∙ c.in-Some-2.is) in
-    subst (λ k. All (IsBelow k) c.loop-key.rows) (sym c.in_ok-key.ensures) (front_below c.loop-key.rows (table_at c.args.n c.next.new.self) item (subst IsRising (sym more) c.loop-key.invariant.rising))
+pub add_row-requires : goal.add_row-requires
+add_row-requires c =
+    rows_below (λ v. row_at v c.args.n) c.loop-key.rows c.in-Some.key.now c.in-Some.chain.now c.in_ok-row.row c.next.new.self (table_at c.args.n c.args.table.now) c.in_ok-row.ensures
+    (sym (ap (λ es. c.loop-key.rows ++ table_at c.args.n es) c.in-Some.ensures.steps) ∙ c.loop-key.invariant.rows) c.loop-key.invariant.rising
+
+pub loop-key-preserved : goal.loop-key-preserved
+loop-key-preserved c = record {
+  rows =
+      ap (λ l. l ++ table_at c.args.n c.next.new.self) c.in_ok-add_row.ensures
+      ∙ rows_more (λ v. row_at v c.args.n) c.loop-key.rows c.in-Some.key.now c.in-Some.chain.now c.in_ok-row.row c.next.new.self (table_at c.args.n c.args.table.now) c.in_ok-row.ensures
+      (sym (ap (λ es. c.loop-key.rows ++ table_at c.args.n es) c.in-Some.ensures.steps) ∙ c.loop-key.invariant.rows);
+  rising = c.loop-key.invariant.rising;
+}

@@ -2,7 +2,8 @@ use Rattle.std.proofs.Common.{◌≡◌, ◌++◌}
 use Rattle.mv_values.specs.Keys.{IsRising}
 use Rattle.mv_table.specs.Entries.{picked, stored}
 use Rattle.mv_view.specs.Narrowing.{matching}
-use Rattle.mv_store.specs.Stored.{found_in, table_at}
+use Rattle.mv_store.specs.Stored.{table_at}
+use Rattle.mv_store.proofs.Found.{found_in}
 use Rattle.mv_store.proofs.find.find_within.Given as goal
 
 abbrev pub invariant-loop-key : goal.invariant-loop-key
