@@ -1,9 +1,10 @@
 -- Rows under a key.
-use Rattle.std.proofs.Common.{◌≡◌, ◌<◌, ℕ, length, zero, suc, List, [], ◌∷◌, Some, None, slice_index_or, sym, ap, subst, ◌∙◌, arith}
+use Rattle.std.proofs.Common.{◌≡◌, ◌<◌, ◌≤◌, ℕ, length, zero, suc, List, [], ◌∷◌, Some, None, map, slice_index_or, refl, sym, ap, subst, ◌∙◌, arith}
 use Rattle.std.specs.Option.{option_and_then}
 use Rattle.std.proofs.lemmas.List.{get_or_default}
 use Rattle.mv_values.specs.declared.value.Value.{Value}
 use Rattle.mv_values.specs.Patching.{row_of}
+use Rattle.mv_values.specs.Tables.{rows_at}
 use Rattle.mv_table.specs.Entries.{item_of, picked, KeysRise}
 use Rattle.mv_table.proofs.Picking.{picked_item}
 use Rattle.mv_table.proofs.Storing.{stored_row}
@@ -27,3 +28,13 @@ rises_at (x ∷ xs) (suc t) es r lt h = rises_at xs t es (λ u. r (suc u)) (omeg
 
 pub at_place : (tables : List Entries) (t : ℕ) (es : Entries) → t < length tables → es ≡ slice_index_or tables t es → es ≡ entries_at tables t
 at_place tables t es lt h = h ∙ get_or_default tables t es [] lt
+
+pub table_there : (n : ℕ) (tables : List Entries) (t : ℕ) (es : Entries) → t < length tables → es ≡ slice_index_or tables t es → table_at n es ≡ rows_at (map (table_at n) tables) t
+table_there n [] t es lt h = absurd (omega (arith, lt))
+table_there n (x ∷ xs) zero es lt h = ap (table_at n) h
+table_there n (x ∷ xs) (suc t) es lt h = table_there n xs t es (omega (arith, lt)) h
+
+pub no_table : (n : ℕ) (tables : List Entries) (t : ℕ) → length tables ≤ t → rows_at (map (table_at n) tables) t ≡ []
+no_table n [] t le = refl
+no_table n (x ∷ xs) zero le = absurd (omega (arith, le))
+no_table n (x ∷ xs) (suc t) le = no_table n xs t (omega (arith, le))
