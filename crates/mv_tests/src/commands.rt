@@ -8,14 +8,17 @@ use std::sync::Wait;
 use std::test::Fail;
 use std::thread::Threads;
 
-const ADD: &str = "CREATE TABLE acc (id INT, bal INT, note TEXT(20), PRIMARY KEY (id))
+/// The table of accounts, and the procedure `add`.
+pub(crate) const ADD: &str = "CREATE TABLE acc (id INT, bal INT, note TEXT(20), PRIMARY KEY (id))
   VALUES (0, 0, ''), (1, 100, ''), (2, 100, ''), (3, 100, ''), (4, 100, '');
 CREATE PROCEDURE add (:a INT, :x INT) DECLARE :b = 0; BEGIN
   SELECT bal INTO :b FROM acc WHERE id = :a;  SET :b = :b + :x;
   UPDATE acc SET bal = :b WHERE id = :a;  PRINT :b;  END;
 ";
 
-const OTHERS: &str = "CREATE PROCEDURE transfer (:a INT, :c INT, :x INT) DECLARE :b = 0; BEGIN
+/// More procedures on the accounts.
+pub(crate) const OTHERS: &str =
+    "CREATE PROCEDURE transfer (:a INT, :c INT, :x INT) DECLARE :b = 0; BEGIN
   SELECT bal INTO :b FROM acc WHERE id = :a;
   IF :b < :x THEN ROLLBACK 'no funds'; END IF;
   UPDATE acc SET bal = bal - :x WHERE id = :a;
@@ -36,8 +39,8 @@ CREATE PROCEDURE tell () DECLARE :b = 0; DECLARE :x = 0; DECLARE :z = 0; BEGIN
 /// The text of the accounts before any call, and the end line.
 const OPENING: &str = "table acc\n0,0,\n1,100,\n2,100,\n3,100,\n4,100,\nend\n";
 
-/// What a case shows, its calls, and the parts of its text: the replies, the history, the journal, and the accounts
-/// with the end line.
+/// What a case shows, its calls, and the parts of its text: the replies, the history, the journal's lines, and the
+/// accounts with the end line.
 type Run = [&'static str; 6];
 
 const RUNS: &[Run] = &[
@@ -46,7 +49,7 @@ const RUNS: &[Run] = &[
         "CALL add(1, 5);",
         "reply 0 done\n105\n",
         "history\n1 0 starts 0 runs 4\n",
-        "journal\nB 0\nC 0\n",
+        "B 0\nC 0\n",
         "table acc\n0,0,\n1,105,\n2,100,\n3,100,\n4,100,\nend\n",
     ],
     [
@@ -54,7 +57,7 @@ const RUNS: &[Run] = &[
         "CALL add(1, 5); CALL add(1, 7);",
         "reply 0 done\n105\nreply 1 done\n112\n",
         "history\n1 0 starts 0 runs 4\n2 1 starts 1 runs 4\n",
-        "journal\nB 0\nC 0\nB 1\nC 1\n",
+        "B 0\nC 0\nB 1\nC 1\n",
         "table acc\n0,0,\n1,112,\n2,100,\n3,100,\n4,100,\nend\n",
     ],
     [
@@ -62,7 +65,7 @@ const RUNS: &[Run] = &[
         "CALL add(9, 5);",
         "reply 0 done\n5\n",
         "history\n1 0 starts 0 runs 4\n",
-        "journal\nB 0\nC 0\n",
+        "B 0\nC 0\n",
         OPENING,
     ],
     [
@@ -70,7 +73,7 @@ const RUNS: &[Run] = &[
         "CALL add(1, 9223372036854775807);",
         "reply 0 rolled back overflow\n",
         "history\n1 0 starts 0 runs 2\n",
-        "journal\nB 0\nC 0\n",
+        "B 0\nC 0\n",
         OPENING,
     ],
     [
@@ -78,7 +81,7 @@ const RUNS: &[Run] = &[
         "call ADD ( - 1 , 5 ) ; -- no such row\nCALL add(0, -7);",
         "reply 0 done\n5\nreply 1 done\n-7\n",
         "history\n1 0 starts 0 runs 4\n2 1 starts 1 runs 4\n",
-        "journal\nB 0\nC 0\nB 1\nC 1\n",
+        "B 0\nC 0\nB 1\nC 1\n",
         "table acc\n0,-7,\n1,100,\n2,100,\n3,100,\n4,100,\nend\n",
     ],
     [
@@ -86,7 +89,7 @@ const RUNS: &[Run] = &[
         "CALL put(7, 1); CALL put(7, 2);",
         "reply 0 done\nreply 1 rolled back duplicate key\n",
         "history\n1 0 starts 0 runs 1\n2 1 starts 1 runs 1\n",
-        "journal\nB 0\nC 0\nB 1\nC 1\n",
+        "B 0\nC 0\nB 1\nC 1\n",
         "table acc\n0,0,\n1,100,\n2,100,\n3,100,\n4,100,\n7,1,\nend\n",
     ],
     [
@@ -94,7 +97,7 @@ const RUNS: &[Run] = &[
         "CALL transfer(1, 2, 150); CALL tell(); CALL add(1, 1); CALL tell();",
         "reply 0 rolled back 'no funds'\nreply 1 done\n0\n100\nreply 2 done\n101\nreply 3 done\n1\n100\n",
         "history\n1 0 starts 0 runs 3\n2 1 starts 1 runs 5\n3 2 starts 2 runs 4\n4 3 starts 3 runs 6\n",
-        "journal\nB 0\nC 0\nB 1\nC 1\nB 2\nC 2\nB 3\nC 3\n",
+        "B 0\nC 0\nB 1\nC 1\nB 2\nC 2\nB 3\nC 3\n",
         "table acc\n0,0,\n1,101,\n2,100,\n3,100,\n4,100,\nend\n",
     ],
     [
@@ -102,7 +105,7 @@ const RUNS: &[Run] = &[
         "CALL mark(1, 'x'); CALL add(1, 5);",
         "reply 0 done\nreply 1 done\n105\n",
         "history\n1 0 starts 0 runs 1\n2 1 starts 1 runs 4\n",
-        "journal\nB 0\nC 0\nB 1\nC 1\n",
+        "B 0\nC 0\nB 1\nC 1\n",
         "table acc\n0,0,\n1,105,x\n2,100,\n3,100,\n4,100,\nend\n",
     ],
     [
@@ -110,10 +113,10 @@ const RUNS: &[Run] = &[
         "CALL add(1, 0); CALL add(1, 7);",
         "reply 0 done\n100\nreply 1 done\n107\n",
         "history\n1 0 starts 0 runs 4\n2 1 starts 1 runs 4\n",
-        "journal\nB 0\nC 0\nB 1\nC 1\n",
+        "B 0\nC 0\nB 1\nC 1\n",
         "table acc\n0,0,\n1,107,\n2,100,\n3,100,\n4,100,\nend\n",
     ],
-    ["no call", "", "", "history\n", "journal\n", OPENING],
+    ["no call", "", "", "history\n", "", OPENING],
 ];
 
 const SMALL_RUNS: &[(&str, &str)] = &[
@@ -133,14 +136,20 @@ COPY b <<\n3\n>>\nCOPY a <<\n1,7\n>>\nCOPY b <<\n2\n1\n>>\n",
     ),
 ];
 
+/// Checks that `run` gives this text, and `replay` the same text from its journal. `run` passes over the journal.
 fn run_gives<R: Threads + Wait + Sync>(rt: &R, alloc: Global, case: &Run) -> Result<(), Fail> {
-    let input = joined(alloc, &[ADD, OTHERS, case[1]])?;
-    let want = joined(alloc, &case[2..])?;
-    answers(rt, alloc, "run", input.as_str(), want.as_str())
+    let [_, calls, replies, history, journal, accounts] = *case;
+    let input = joined(
+        alloc,
+        &[ADD, OTHERS, calls, "\nJOURNAL <<\n", journal, ">>\n"],
+    )?;
+    let want = joined(alloc, &[replies, history, "journal\n", journal, accounts])?;
+    answers(rt, alloc, "run", input.as_str(), want.as_str())?;
+    answers(rt, alloc, "replay", input.as_str(), want.as_str())
 }
 
 #[test]
-fn runs_give_their_text(rt: HostRuntime) -> Result<(), Fail> {
+fn runs_and_their_journals_give_one_text(rt: HostRuntime) -> Result<(), Fail> {
     for case in RUNS {
         run_gives(&rt, rt.alloc(), case)?;
     }
@@ -331,6 +340,9 @@ const NO_COMMANDS: &[&[&str]] = &[
     &["run", "--"],
     &["run", "--threads"],
     &["run", "serial"],
+    &["Replay"],
+    &["replays"],
+    &["replay", "replay"],
     &["Serial"],
     &["serials"],
     &["serial", ""],
@@ -448,15 +460,18 @@ const REFUSALS: &[(&str, &str)] = &[
     ),
 ];
 
+const COMMANDS: &[&str] = &["run", "replay", "serial", "graph"];
+
 fn refused_by_all<R: Threads + Wait + Sync>(
     rt: &R,
     alloc: Global,
     input: &str,
     want: &str,
 ) -> Result<(), Fail> {
-    refuses(rt, alloc, "run", input, want)?;
-    refuses(rt, alloc, "serial", input, want)?;
-    refuses(rt, alloc, "graph", input, want)
+    for command in COMMANDS {
+        refuses(rt, alloc, command, input, want)?;
+    }
+    Ok(())
 }
 
 #[test]

@@ -1,25 +1,11 @@
 //! Blocks of CSV and rows of VALUES, with the tables that they fill or the line of their first fault, worked out by
 //! hand.
 
-use crate::whole::{answers, joined, refuses};
+use crate::whole::{joined, tells};
 use std::alloc::Global;
 use std::sync::Wait;
 use std::test::Fail;
 use std::thread::Threads;
-
-/// Checks that `serial` answers a script with this text, or refuses it with this line.
-fn check<R: Threads + Wait + Sync>(
-    rt: &R,
-    alloc: Global,
-    script: &str,
-    want: &str,
-) -> Result<(), Fail> {
-    if want.starts_with("refused ") {
-        refuses(rt, alloc, "serial", script, want)
-    } else {
-        answers(rt, alloc, "serial", script, want)
-    }
-}
 
 /// Blocks for a table that has the keys 5 and 6.
 const BLOCKS: &[(&str, &str)] = &[
@@ -112,7 +98,7 @@ fn check_block<R: Threads + Wait + Sync>(
     want: &str,
 ) -> Result<(), Fail> {
     let script = joined(alloc, &[OPENED, block, ">>\n"])?;
-    check(rt, alloc, script.as_str(), want)
+    tells(rt, alloc, "serial", script.as_str(), want)
 }
 
 #[test]
@@ -153,7 +139,7 @@ const TABLES: &[(&str, &str)] = &[
 #[test]
 fn tables_are_written_in_key_order(rt: HostRuntime) -> Result<(), Fail> {
     for (script, want) in TABLES {
-        check(&rt, rt.alloc(), script, want)?;
+        tells(&rt, rt.alloc(), "serial", script, want)?;
     }
     Ok(())
 }

@@ -6,6 +6,8 @@ mod commands;
 #[cfg(test)]
 mod copies;
 #[cfg(test)]
+mod journals;
+#[cfg(test)]
 mod machine;
 #[cfg(test)]
 mod records;

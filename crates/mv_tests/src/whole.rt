@@ -140,3 +140,18 @@ pub(crate) fn refuses<R: Threads + Wait + Sync>(
         (Status::Refused, want),
     )
 }
+
+/// Checks that a command answers an input with this text, or refuses it with this line.
+pub(crate) fn tells<R: Threads + Wait + Sync>(
+    rt: &R,
+    alloc: Global,
+    command: &str,
+    input: &str,
+    want: &str,
+) -> Result<(), Fail> {
+    if want.starts_with("refused ") {
+        refuses(rt, alloc, command, input, want)
+    } else {
+        answers(rt, alloc, command, input, want)
+    }
+}

@@ -1,0 +1,379 @@
+//! Journals of scripts, with the text that `replay` makes of each, or the line with which it refuses it, worked out by
+//! hand.
+
+use crate::commands::{ADD, OTHERS};
+use crate::whole::{ensure, joined, tells};
+use mv_top::answer::replay;
+use mv_top::status::Fault;
+use mv_values::list::List;
+use mv_values::txt::Txt;
+use std::alloc::Global;
+use std::sync::Wait;
+use std::test::Fail;
+use std::thread::Threads;
+
+/// What a case shows, the calls of its script, the script's JOURNAL item, and the text or the line of the refusal.
+type Case = [&'static str; 4];
+
+/// Two calls on one row.
+const PAIR: &str = "CALL add(1, 5); CALL add(1, 7);";
+
+/// The text of two calls on one row, where the second one moves behind the commit of the first one.
+const MOVED: &str = "reply 0 done
+105
+reply 1 done
+112
+history
+1 0 starts 0 runs 4
+2 1 starts 0,1 runs -+4m
+journal
+B 0
+B 1
+C 0
+M 1
+C 1
+table acc
+0,0,
+1,112,
+2,100,
+3,100,
+4,100,
+end
+";
+
+const TEXTS: &[Case] = &[
+    [
+        "no call and no journal",
+        "",
+        "",
+        "history
+journal
+table acc
+0,0,
+1,100,
+2,100,
+3,100,
+4,100,
+end
+",
+    ],
+    [
+        "a call that moves behind the commit of another",
+        PAIR,
+        "JOURNAL <<\nB 0\nB 1\nC 0\nM 1\nC 1\n>>\n",
+        MOVED,
+    ],
+    [
+        "statements before the move",
+        PAIR,
+        "JOURNAL <<\nB 0\nS 0\nS 0\nB 1\nS 1\nS 1\nS 0\nS 0\nC 0\nS 1\nM 1\nC 1\n>>\n",
+        MOVED,
+    ],
+    [
+        "a call that moves twice",
+        PAIR,
+        "JOURNAL <<\nB 0\nB 1\nC 0\nM 1\nM 1\nC 1\n>>\n",
+        "reply 0 done
+105
+reply 1 done
+112
+history
+1 0 starts 0 runs 4
+2 1 starts 0,1,1 runs -+-+4m
+journal
+B 0
+B 1
+C 0
+M 1
+M 1
+C 1
+table acc
+0,0,
+1,112,
+2,100,
+3,100,
+4,100,
+end
+",
+    ],
+    [
+        "calls that commit in another order",
+        "CALL add(1, 5); CALL add(2, 7);",
+        "JOURNAL <<\nB 0\nB 1\nC 1\nC 0\n>>\n",
+        "reply 0 done
+105
+reply 1 done
+107
+history
+1 1 starts 0 runs 4
+2 0 starts 0 runs 4
+journal
+B 0
+B 1
+C 1
+C 0
+table acc
+0,0,
+1,105,
+2,107,
+3,100,
+4,100,
+end
+",
+    ],
+    [
+        "a commit that changes another column of the row",
+        "CALL mark(1, 'x'); CALL add(1, 5);",
+        "JOURNAL <<\nB 0\nB 1\nC 0\nC 1\n>>\n",
+        "reply 0 done
+reply 1 done
+105
+history
+1 0 starts 0 runs 1
+2 1 starts 0 runs 4
+journal
+B 0
+B 1
+C 0
+C 1
+table acc
+0,0,
+1,105,x
+2,100,
+3,100,
+4,100,
+end
+",
+    ],
+    [
+        "a commit that leaves the value as it was",
+        "CALL add(1, 0); CALL add(1, 7);",
+        "JOURNAL <<\nB 0\nB 1\nC 0\nC 1\n>>\n",
+        "reply 0 done
+100
+reply 1 done
+107
+history
+1 0 starts 0 runs 4
+2 1 starts 0 runs 4
+journal
+B 0
+B 1
+C 0
+C 1
+table acc
+0,0,
+1,107,
+2,100,
+3,100,
+4,100,
+end
+",
+    ],
+    [
+        "a call that rolls back for an overflow",
+        "CALL add(1, 9223372036854775807);",
+        "JOURNAL <<\nB 0\nC 0\n>>\n",
+        "reply 0 rolled back overflow
+history
+1 0 starts 0 runs 2
+journal
+B 0
+C 0
+table acc
+0,0,
+1,100,
+2,100,
+3,100,
+4,100,
+end
+",
+    ],
+    [
+        "a call that rolls back by itself, and a call after it",
+        "CALL transfer(1, 2, 150); CALL add(1, 60);",
+        "JOURNAL <<\nB 0\nC 0\nB 1\nC 1\n>>\n",
+        "reply 0 rolled back 'no funds'
+reply 1 done
+160
+history
+1 0 starts 0 runs 3
+2 1 starts 1 runs 4
+journal
+B 0
+C 0
+B 1
+C 1
+table acc
+0,0,
+1,160,
+2,100,
+3,100,
+4,100,
+end
+",
+    ],
+];
+
+const REFUSALS: &[Case] = &[
+    [
+        "a commit after one that changed the row",
+        PAIR,
+        "JOURNAL <<\nB 0\nB 1\nC 0\nC 1\n>>\n",
+        "refused 17 journal line 4\n",
+    ],
+    [
+        "a count of rows, after a row that it counts",
+        "CALL put(7, 100); CALL rich();",
+        "JOURNAL <<\nB 0\nB 1\nC 0\nS 1\nC 1\n>>\n",
+        "refused 17 journal line 5\n",
+    ],
+    [
+        "a row, after another with its key",
+        "CALL put(7, 1); CALL put(7, 2);",
+        "JOURNAL <<\nB 0\nB 1\nC 1\nC 0\n>>\n",
+        "refused 17 journal line 4\n",
+    ],
+    [
+        "a second call before the first",
+        PAIR,
+        "JOURNAL <<\nB 1\n>>\n",
+        "refused 16 journal line 1\n",
+    ],
+    [
+        "more calls than the script has",
+        PAIR,
+        "JOURNAL <<\nB 0\nB 1\nB 2\n>>\n",
+        "refused 16 journal line 3\n",
+    ],
+    [
+        "more statements than the call has",
+        PAIR,
+        "JOURNAL <<\nB 0\nS 0\nS 0\nS 0\nS 0\nS 0\n>>\n",
+        "refused 16 journal line 6\n",
+    ],
+    [
+        "a statement after a move",
+        PAIR,
+        "JOURNAL <<\nB 0\nM 0\nS 0\n>>\n",
+        "refused 16 journal line 3\n",
+    ],
+    [
+        "a statement before its call begins",
+        PAIR,
+        "JOURNAL <<\nB 0\nS 1\n>>\n",
+        "refused 16 journal line 2\n",
+    ],
+    [
+        "a move after the commit",
+        PAIR,
+        "JOURNAL <<\nB 0\nC 0\nM 0\n>>\n",
+        "refused 16 journal line 3\n",
+    ],
+    [
+        "a second commit of a call",
+        PAIR,
+        "JOURNAL <<\nB 0\nC 0\nC 0\n>>\n",
+        "refused 16 journal line 3\n",
+    ],
+    [
+        "a line that is no event",
+        PAIR,
+        "JOURNAL <<\nB 0\nQ 0\n>>\n",
+        "refused 15 journal line 2\n",
+    ],
+    [
+        "a line that is no event, after an event out of order and a repair",
+        PAIR,
+        "JOURNAL <<\nB 1\nA 0\nQ 0\n>>\n",
+        "refused 15 journal line 3\n",
+    ],
+    [
+        "a repair",
+        PAIR,
+        "JOURNAL <<\nB 0\nA 0\n>>\n",
+        "refused 22 not built\n",
+    ],
+    [
+        "a repair that commits",
+        PAIR,
+        "JOURNAL <<\nB 0\nX 0\n>>\n",
+        "refused 22 not built\n",
+    ],
+    [
+        "a collection, after a journal that is lawful",
+        PAIR,
+        "JOURNAL <<\nB 0\nC 0\nB 1\nC 1\nG\n>>\n",
+        "refused 22 not built\n",
+    ],
+    [
+        "a repair, after an event out of order",
+        PAIR,
+        "JOURNAL <<\nB 1\nA 0\n>>\n",
+        "refused 22 not built\n",
+    ],
+    [
+        "a call that doesn't begin",
+        PAIR,
+        "JOURNAL <<\nB 0\nC 0\n>>\n",
+        "refused 21 call 1\n",
+    ],
+    [
+        "a call that doesn't commit",
+        PAIR,
+        "JOURNAL <<\nB 0\nB 1\nC 1\n>>\n",
+        "refused 21 call 0\n",
+    ],
+    ["no event", PAIR, "JOURNAL <<\n>>\n", "refused 21 call 0\n"],
+    ["no journal", PAIR, "", "refused 21 call 0\n"],
+];
+
+/// Whether a refusal has this number and this line.
+fn is_refusal(alloc: Global, number: u32, line: &Txt, want: &str) -> Result<bool, Fail> {
+    let front = format!(in alloc; "refused {number} ")?;
+    Ok(want.starts_with(front.as_str()) && want.trim_end().as_bytes() == line.as_slice())
+}
+
+/// Whether an answer is this text, or a refusal with this line.
+fn is_told(alloc: Global, answer: &Result<List<u8>, Fault>, want: &str) -> Result<bool, Fail> {
+    match answer {
+        Ok(text) => Ok(text.as_slice() == want.as_bytes()),
+        Err(Fault::Refused { number, line }) => is_refusal(alloc, *number, line, want),
+        Err(Fault::NoMemory) => Ok(false),
+    }
+}
+
+/// Checks that `replay`, as a command and as a call, answers a script with this text or refuses it with this line.
+fn replays<R: Threads + Wait + Sync>(
+    rt: &R,
+    alloc: Global,
+    script: &str,
+    want: &str,
+) -> Result<(), Fail> {
+    tells(rt, alloc, "replay", script, want)?;
+    let answer = replay(alloc, 3, None, script.as_bytes());
+    let told = is_told(alloc, &answer, want)?;
+    ensure(alloc, told, script)
+}
+
+fn case_replays<R: Threads + Wait + Sync>(rt: &R, alloc: Global, case: &Case) -> Result<(), Fail> {
+    let [_, calls, journal, want] = *case;
+    let script = joined(alloc, &[ADD, OTHERS, calls, "\n", journal])?;
+    replays(rt, alloc, script.as_str(), want)
+}
+
+#[test]
+fn journals_give_their_text(rt: HostRuntime) -> Result<(), Fail> {
+    for case in TEXTS {
+        case_replays(&rt, rt.alloc(), case)?;
+    }
+    Ok(())
+}
+
+#[test]
+fn journals_are_refused(rt: HostRuntime) -> Result<(), Fail> {
+    for case in REFUSALS {
+        case_replays(&rt, rt.alloc(), case)?;
+    }
+    Ok(())
+}
