@@ -10,6 +10,8 @@ mod journals;
 #[cfg(test)]
 mod machine;
 #[cfg(test)]
+mod passes;
+#[cfg(test)]
 mod records;
 #[cfg(test)]
 mod refusals;
