@@ -116,106 +116,65 @@ const RUNS: &[Run] = &[
         "B 0\nC 0\nB 1\nC 1\n",
         "table acc\n0,0,\n1,107,\n2,100,\n3,100,\n4,100,\nend\n",
     ],
+    [
+        "one row that both change",
+        "CALL transfer(1, 2, 10); CALL transfer(3, 4, 10);",
+        "reply 0 done\nreply 1 done\n",
+        "history\n1 0 starts 0 runs 5\n2 1 starts 1 runs 5\n",
+        "B 0\nC 0\nB 1\nC 1\n",
+        "table acc\n0,2,\n1,90,\n2,110,\n3,90,\n4,110,\nend\n",
+    ],
+    [
+        "a row that a count tests",
+        "CALL put(7, 100); CALL rich();",
+        "reply 0 done\nreply 1 done\n5\n",
+        "history\n1 0 starts 0 runs 1\n2 1 starts 1 runs 2\n",
+        "B 0\nC 0\nB 1\nC 1\n",
+        "table acc\n0,0,\n1,100,\n2,100,\n3,100,\n4,100,\n7,100,\nend\n",
+    ],
+    [
+        "a sum that a condition tests",
+        "CALL add(1, 5); CALL tell();",
+        "reply 0 done\n105\nreply 1 done\n1\n100\n",
+        "history\n1 0 starts 0 runs 4\n2 1 starts 1 runs 6\n",
+        "B 0\nC 0\nB 1\nC 1\n",
+        "table acc\n0,0,\n1,105,\n2,100,\n3,100,\n4,100,\nend\n",
+    ],
+    [
+        "a reason of its own, and a call after it",
+        "CALL transfer(1, 2, 150); CALL add(1, 60);",
+        "reply 0 rolled back 'no funds'\nreply 1 done\n160\n",
+        "history\n1 0 starts 0 runs 3\n2 1 starts 1 runs 4\n",
+        "B 0\nC 0\nB 1\nC 1\n",
+        "table acc\n0,0,\n1,160,\n2,100,\n3,100,\n4,100,\nend\n",
+    ],
     ["no call", "", "", "history\n", "", OPENING],
 ];
 
-const SMALL_RUNS: &[(&str, &str)] = &[
-    ("", "history\njournal\nend\n"),
+/// A command, a script, and its text.
+const SMALL: &[(&str, &str, &str)] = &[
+    ("run", "", "history\njournal\nend\n"),
+    ("replay", "", "history\njournal\nend\n"),
+    ("serial", "", "end\n"),
+    ("graph", "", "end\n"),
     (
+        "run",
         "CREATE PROCEDURE p () BEGIN END;",
         "history\njournal\nend\n",
     ),
     (
+        "run",
         "CREATE PROCEDURE p (:a INT) BEGIN END; CALL p(-9223372036854775807);",
         "reply 0 done\nhistory\n1 0 starts 0 runs 0\njournal\nB 0\nC 0\nend\n",
     ),
     (
+        "run",
         "CREATE TABLE a (k INT, n INT, PRIMARY KEY (k)) VALUES (5, 0); CREATE TABLE b (k INT, PRIMARY KEY (k));
 COPY b <<\n3\n>>\nCOPY a <<\n1,7\n>>\nCOPY b <<\n2\n1\n>>\n",
         "history\njournal\ntable a\n1,7\n5,0\ntable b\n1\n2\n3\nend\n",
     ),
-];
-
-/// Checks that `run` gives this text, and `replay` the same text from its journal. `run` passes over the journal.
-fn run_gives<R: Threads + Wait + Sync>(rt: &R, alloc: Global, case: &Run) -> Result<(), Fail> {
-    let [_, calls, replies, history, journal, accounts] = *case;
-    let input = joined(
-        alloc,
-        &[ADD, OTHERS, calls, "\nJOURNAL <<\n", journal, ">>\n"],
-    )?;
-    let want = joined(alloc, &[replies, history, "journal\n", journal, accounts])?;
-    answers(rt, alloc, "run", input.as_str(), want.as_str())?;
-    answers(rt, alloc, "replay", input.as_str(), want.as_str())
-}
-
-#[test]
-fn runs_and_their_journals_give_one_text(rt: HostRuntime) -> Result<(), Fail> {
-    for case in RUNS {
-        run_gives(&rt, rt.alloc(), case)?;
-    }
-    Ok(())
-}
-
-#[test]
-fn runs_of_small_scripts_give_their_text(rt: HostRuntime) -> Result<(), Fail> {
-    for (input, want) in SMALL_RUNS {
-        answers(&rt, rt.alloc(), "run", input, want)?;
-    }
-    Ok(())
-}
-
-/// Calls, their replies, and the rows of the accounts after them.
-const SERIALS: &[(&str, &str, &str)] = &[
     (
-        "CALL add(1, 5); CALL add(1, 7);",
-        "reply 0 done\n105\nreply 1 done\n112\n",
-        "0,0,\n1,112,\n2,100,\n3,100,\n4,100,\n",
-    ),
-    (
-        "CALL transfer(1, 2, 10); CALL transfer(3, 4, 10);",
-        "reply 0 done\nreply 1 done\n",
-        "0,2,\n1,90,\n2,110,\n3,90,\n4,110,\n",
-    ),
-    (
-        "CALL mark(1, 'x'); CALL add(1, 5);",
-        "reply 0 done\nreply 1 done\n105\n",
-        "0,0,\n1,105,x\n2,100,\n3,100,\n4,100,\n",
-    ),
-    (
-        "CALL add(1, 0); CALL add(1, 7);",
-        "reply 0 done\n100\nreply 1 done\n107\n",
-        "0,0,\n1,107,\n2,100,\n3,100,\n4,100,\n",
-    ),
-    (
-        "CALL put(7, 100); CALL rich();",
-        "reply 0 done\nreply 1 done\n5\n",
-        "0,0,\n1,100,\n2,100,\n3,100,\n4,100,\n7,100,\n",
-    ),
-    (
-        "CALL add(1, 5); CALL tell();",
-        "reply 0 done\n105\nreply 1 done\n1\n100\n",
-        "0,0,\n1,105,\n2,100,\n3,100,\n4,100,\n",
-    ),
-    (
-        "CALL transfer(1, 2, 150); CALL add(1, 60);",
-        "reply 0 rolled back 'no funds'\nreply 1 done\n160\n",
-        "0,0,\n1,160,\n2,100,\n3,100,\n4,100,\n",
-    ),
-    (
-        "CALL put(7, 1); CALL put(7, 2);",
-        "reply 0 done\nreply 1 rolled back duplicate key\n",
-        "0,0,\n1,100,\n2,100,\n3,100,\n4,100,\n7,1,\n",
-    ),
-    (
-        "CALL add(1, 9223372036854775807);",
-        "reply 0 rolled back overflow\n",
-        "0,0,\n1,100,\n2,100,\n3,100,\n4,100,\n",
-    ),
-];
-
-const SMALL_SERIALS: &[(&str, &str)] = &[
-    ("", "end\n"),
-    (
+        "serial",
         "CREATE TABLE m (k INT, d INT, e INT, PRIMARY KEY (k)) VALUES (1, 0, 0);
 CREATE PROCEDURE se () BEGIN UPDATE m SET e = 1 WHERE k = 1; END;
 CREATE PROCEDURE sd () DECLARE :n = 0; BEGIN
@@ -225,30 +184,31 @@ CALL se(); CALL sd();",
     ),
 ];
 
-fn serial_gives<R: Threads + Wait + Sync>(
-    rt: &R,
-    alloc: Global,
-    calls: &str,
-    replies: &str,
-    rows: &str,
-) -> Result<(), Fail> {
-    let input = joined(alloc, &[ADD, OTHERS, calls])?;
-    let want = joined(alloc, &[replies, "table acc\n", rows, "end\n"])?;
-    answers(rt, alloc, "serial", input.as_str(), want.as_str())
+/// Checks that `run` gives this text, `replay` the same text from its journal, and `serial` the replies and the
+/// accounts. `run` and `serial` pass over the journal.
+fn commands_give<R: Threads + Wait + Sync>(rt: &R, alloc: Global, case: &Run) -> Result<(), Fail> {
+    let [_, calls, replies, history, journal, accounts] = *case;
+    let parts = [ADD, OTHERS, calls, "\nJOURNAL <<\n", journal, ">>\n"];
+    let input = joined(alloc, &parts)?;
+    let alone = joined(alloc, &[replies, accounts])?;
+    answers(rt, alloc, "serial", input.as_str(), alone.as_str())?;
+    let text = joined(alloc, &[replies, history, "journal\n", journal, accounts])?;
+    answers(rt, alloc, "run", input.as_str(), text.as_str())?;
+    answers(rt, alloc, "replay", input.as_str(), text.as_str())
 }
 
 #[test]
-fn calls_alone_in_their_order(rt: HostRuntime) -> Result<(), Fail> {
-    for (calls, replies, rows) in SERIALS {
-        serial_gives(&rt, rt.alloc(), calls, replies, rows)?;
+fn commands_give_their_text(rt: HostRuntime) -> Result<(), Fail> {
+    for case in RUNS {
+        commands_give(&rt, rt.alloc(), case)?;
     }
     Ok(())
 }
 
 #[test]
-fn calls_of_small_scripts_alone(rt: HostRuntime) -> Result<(), Fail> {
-    for (input, want) in SMALL_SERIALS {
-        answers(&rt, rt.alloc(), "serial", input, want)?;
+fn small_scripts_give_their_text(rt: HostRuntime) -> Result<(), Fail> {
+    for (command, script, want) in SMALL {
+        answers(&rt, rt.alloc(), command, script, want)?;
     }
     Ok(())
 }
@@ -284,7 +244,6 @@ end
 
 #[test]
 fn statements_and_what_they_depend_on(rt: HostRuntime) -> Result<(), Fail> {
-    answers(&rt, rt.alloc(), "graph", "", "end\n")?;
     let input = joined(rt.alloc(), &[ADD, OTHERS, "CALL add(1, 5);"])?;
     answers(&rt, rt.alloc(), "graph", input.as_str(), GRAPHS)
 }
@@ -564,16 +523,17 @@ fn blanks(alloc: Global, more: &[u8]) -> Result<List<u8>, Fail> {
     Ok(input)
 }
 
-#[test]
-fn inputs_of_the_greatest_size(rt: HostRuntime) -> Result<(), Fail> {
-    let input = blanks(rt.alloc(), b"")?;
-    let want = (Status::Done, "history\njournal\nend\n");
-    runs(&rt, rt.alloc(), &["run"], input.as_slice(), SOUND, want)
-}
+/// Bytes after so many blanks, and the answer.
+const GREATEST: &[(&[u8], (Status, &str))] = &[
+    (b"", (Status::Done, "history\njournal\nend\n")),
+    (b" ", (Status::Refused, "refused 1 too long\n")),
+];
 
 #[test]
-fn inputs_past_the_greatest_size(rt: HostRuntime) -> Result<(), Fail> {
-    let input = blanks(rt.alloc(), b" ")?;
-    let want = (Status::Refused, "refused 1 too long\n");
-    runs(&rt, rt.alloc(), &["run"], input.as_slice(), SOUND, want)
+fn inputs_of_the_greatest_size_and_past_it(rt: HostRuntime) -> Result<(), Fail> {
+    for (more, want) in GREATEST {
+        let input = blanks(rt.alloc(), more)?;
+        runs(&rt, rt.alloc(), &["run"], input.as_slice(), SOUND, *want)?;
+    }
+    Ok(())
 }

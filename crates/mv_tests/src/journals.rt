@@ -43,21 +43,6 @@ end
 
 const TEXTS: &[Case] = &[
     [
-        "no call and no journal",
-        "",
-        "",
-        "history
-journal
-table acc
-0,0,
-1,100,
-2,100,
-3,100,
-4,100,
-end
-",
-    ],
-    [
         "a call that moves behind the commit of another",
         PAIR,
         "JOURNAL <<\nB 0\nB 1\nC 0\nM 1\nC 1\n>>\n",
@@ -164,49 +149,6 @@ C 1
 table acc
 0,0,
 1,107,
-2,100,
-3,100,
-4,100,
-end
-",
-    ],
-    [
-        "a call that rolls back for an overflow",
-        "CALL add(1, 9223372036854775807);",
-        "JOURNAL <<\nB 0\nC 0\n>>\n",
-        "reply 0 rolled back overflow
-history
-1 0 starts 0 runs 2
-journal
-B 0
-C 0
-table acc
-0,0,
-1,100,
-2,100,
-3,100,
-4,100,
-end
-",
-    ],
-    [
-        "a call that rolls back by itself, and a call after it",
-        "CALL transfer(1, 2, 150); CALL add(1, 60);",
-        "JOURNAL <<\nB 0\nC 0\nB 1\nC 1\n>>\n",
-        "reply 0 rolled back 'no funds'
-reply 1 done
-160
-history
-1 0 starts 0 runs 3
-2 1 starts 1 runs 4
-journal
-B 0
-C 0
-B 1
-C 1
-table acc
-0,0,
-1,160,
 2,100,
 3,100,
 4,100,

@@ -1,18 +1,17 @@
 //! The records of calls that are executed, adopted, or both in turn, worked out by hand from the rules of the language.
 
-ghost use Rattle.std.specs.Prelude.{IfOk, All};
-ghost use Rattle.mv_alone.specs.TableAfter.{Tables};
+ghost use Rattle.std.specs.Prelude.{◌≡◌, IfOk, All, length};
 ghost use Rattle.mv_graph.specs.Nodes.{IsSound};
 ghost use Rattle.mv_record.specs.Databases.{IsDatabaseOf, IsProgram};
-ghost use Rattle.mv_exec.specs.Running.{IsRunning, IsRunningOn, IsTaskOf};
+ghost use Rattle.mv_exec.specs.Running.{IsRunning};
 
-use crate::walks::{is_adopted, placeless, run_and_walk};
+use crate::walks::{is_adopted, placeless, run, run_and_walk};
 use crate::whole::{ensure, joined};
 use mv_accept::accept::accept;
 use mv_alone::line::line_from;
 use mv_catalog::resolved::Program;
 use mv_compile::compile::compile;
-use mv_exec::running::{adopt, finish, peek};
+use mv_exec::running::{adopt, peek};
 use mv_exec::step::Stepped;
 use mv_exec::task::{Ahead, Task};
 use mv_graph::graph::Graph;
@@ -23,7 +22,6 @@ use mv_values::patch::{Assign, Patch, Write};
 use mv_values::rows::Database;
 use mv_values::txt::Txt;
 use mv_values::value::{Row, Value};
-use mv_view::plain::Plain;
 use std::alloc::Global;
 use std::slice;
 use std::test::Fail;
@@ -369,19 +367,6 @@ fn adopt_all(alloc: Global, graph: &Graph, task: &mut Task, given: &[Record]) ->
     Ok(())
 }
 
-/// A call that has left no records.
-fn begun(alloc: Global, graph: &Graph, call: &Call) -> Result<Task, Fail>
-    requires sound { IsSound graph.now }
-    ensures call { IfOk result (IsTaskOf graph.now call.now) }
-    ensures running { IfOk result (λ task. (db : Tables) → IsRunningOn graph.now db task) }
-{
-    if call.arguments.len() != graph.procedure.params.len() {
-        return Err("another number of arguments".into());
-    }
-    let task = Task::new(alloc, graph, call)?;
-    Ok(task)
-}
-
 /// Returns how many records a walk executes.
 fn executed_by_walk(len: usize, first: usize) -> usize {
     let mut executed: usize = 0;
@@ -415,11 +400,9 @@ fn walks(
     want: &str,
 ) -> Result<(), Fail>
     requires sound { IsSound graph.now }
+    requires arguments { length call.now.arguments ≡ length graph.now.procedure.params }
     requires database { IsDatabaseOf graph.now.tables database.now }
 {
-    if call.arguments.len() != graph.procedure.params.len() {
-        return Err("another number of arguments".into());
-    }
     let task = run_and_walk(alloc, graph, call, database, first).or(Err("no end"))?;
     has_left(alloc, &task, executed_by_walk(len, first), want)
 }
@@ -433,8 +416,9 @@ fn adopts(
     want: &str,
 ) -> Result<(), Fail>
     requires sound { IsSound graph.now }
+    requires arguments { length call.now.arguments ≡ length graph.now.procedure.params }
 {
-    let mut task = begun(alloc, graph, call)?;
+    let mut task = Task::new(alloc, graph, call)?;
     adopt_all(alloc, graph, &mut task, records)?;
     has_left(alloc, &task, 0, want)
 }
@@ -447,11 +431,10 @@ fn records_of(
     database: &Database,
 ) -> Result<List<Record>, Fail>
     requires sound { IsSound graph.now }
+    requires arguments { length call.now.arguments ≡ length graph.now.procedure.params }
     requires database { IsDatabaseOf graph.now.tables database.now }
 {
-    let mut task = begun(alloc, graph, call)?;
-    let mut view = Plain::new(database);
-    finish(alloc, graph, &mut task, &mut view).or(Err("no end"))?;
+    let mut task = run(alloc, graph, call, database).or(Err("no end"))?;
     Ok(task.restart(alloc))
 }
 
@@ -465,6 +448,7 @@ fn check(
     want: &str,
 ) -> Result<(), Fail>
     requires sound { IsSound graph.now }
+    requires arguments { length call.now.arguments ≡ length graph.now.procedure.params }
     requires database { IsDatabaseOf graph.now.tables database.now }
 {
     let records = records_of(alloc, graph, call, database)?;
@@ -490,6 +474,9 @@ fn check_only(alloc: Global, program: &Program, graphs: &[Graph], want: &str) ->
     let ([graph], [call]) = (graphs, calls) else {
         return Err("no call".into());
     };
+    if call.arguments.len() != graph.procedure.params.len() {
+        return Err("another number of arguments".into());
+    }
     check(alloc, graph, call, &program.opening, want)
 }
 

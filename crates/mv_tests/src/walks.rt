@@ -113,6 +113,25 @@ fn walk<V: View>(
     Ok(())
 }
 
+/// Returns a call that has run to its end.
+pub(crate) fn run(
+    alloc: Global,
+    graph: &Graph,
+    call: &Call,
+    database: &Database,
+) -> Result<Task, Refused>
+    requires sound { IsSound graph.now }
+    requires arguments { length call.now.arguments ≡ length graph.now.procedure.params }
+    requires database { IsDatabaseOf graph.now.tables database.now }
+    ensures call { IfOk result (IsTaskOf graph.now call.now) }
+    ensures records { IfOk result (λ task. task.records ≡ (meaning_of graph.now call.now database.now).records) }
+{
+    let mut task = Task::new(alloc, graph, call)?;
+    let mut view = Plain::new(database);
+    finish(alloc, graph, &mut task, &mut view)?;
+    Ok(task)
+}
+
 /// Runs a call to its end, begins it anew, and walks through it with the records of the first run.
 pub(crate) fn run_and_walk(
     alloc: Global,
@@ -127,10 +146,9 @@ pub(crate) fn run_and_walk(
     ensures records { IfOk result (λ task. task.records ≡ (meaning_of graph.now call.now database.now).records) }
     ensures ended { IfOk result (λ task. task.ended ≡ true) }
 {
-    let mut task = Task::new(alloc, graph, call)?;
-    let mut view = Plain::new(database);
-    finish(alloc, graph, &mut task, &mut view)?;
+    let mut task = run(alloc, graph, call, database)?;
     let records = task.restart(alloc);
+    let mut view = Plain::new(database);
     walk(
         alloc,
         graph,

@@ -1,5 +1,5 @@
 use Rattle.std.proofs.Common.{sym, ap, ◌∙◌}
-use Rattle.mv_alone.specs.TableAfter.{Tables}
+use Rattle.mv_view.specs.Viewing.{Sight}
 use Rattle.mv_graph.specs.Nodes.{meaning_of}
 use Rattle.mv_tests.proofs.walks.run_and_walk.Goals as goal
 
@@ -7,9 +7,8 @@ pub walk-requires-clause-given : goal.walk-requires-clause-given
 walk-requires-clause-given c =
     c.as_slice.ensures
     ∙ (c.restart-records.ensures.back
-    ∙ (c.in_ok-finish.ensures.records c.args.call.now c.in_ok-task.ensures.call
-    ∙ ap (λ (db : Tables). (meaning_of c.args.graph.now c.args.call.now db).records) (sym c.finish.ensures.same.database)))
+    ∙ (c.in_ok-task.ensures.records
+    ∙ ap (λ (sight : Sight). (meaning_of c.args.graph.now c.args.call.now sight.database).records) (sym c.new-view.ensures)))
 
 pub walk-requires-clause-on : goal.walk-requires-clause-on
-walk-requires-clause-on c =
-    c.restart-records.ensures.begins c.args.graph.now c.args.call.now c.finish.new.view.database (c.finish.ensures.call c.args.call.now c.in_ok-task.ensures.call)
+walk-requires-clause-on c = c.restart-records.ensures.begins c.args.graph.now c.args.call.now c.new-view.result.database c.in_ok-task.ensures.call
