@@ -118,9 +118,9 @@ due_moved b new c l t live made task are =
     let order : new.course.order ≡ b.course.order = ap (λ (s : Course). s.order) made.course in
     due_whole (work_in new) new.course c now there task.turns
     ∙ ap Some
-        (ap (λ (s : Script). length (records_at (work_of s) new.course.order (length b.course.order) c)) made.script
-        ∙ (ap (λ o. length (records_at (work_in b) o (length b.course.order) c)) order
-        ∙ sym (task.executed ∙ ap length are)))
+    (ap (λ (s : Script). length (records_at (work_of s) new.course.order (length b.course.order) c)) made.script
+    ∙ (ap (λ o. length (records_at (work_in b) o (length b.course.order) c)) order
+    ∙ sym (task.executed ∙ ap length are)))
 
 pub live_in : (b now : Booked) (c : ℕ) → b ≡ now → IsLiveCall now.course c → IsLiveCall b.course c
 live_in b now c is live = subst (λ (x : Booked). IsLiveCall x.course c) (sym is) live
@@ -132,6 +132,7 @@ not_refused_stale b c l live fresh refused = by (is_hit (work_in b) b.course c l
   now =
       live_is b.course c (λ x. unless (not (is_stale b.course x)) Stale (unless (not (is_hit (work_in b) b.course c x)) Conflict None)) l live
       ∙ ap (λ x. unless (not x) Stale (unless (not (is_hit (work_in b) b.course c l)) Conflict None)) fresh
+
   by : (h : Bool) → unless (not h) Conflict None ≡ Some Stale → ⊥
   by true e = search (rules, e)
   by false e = search (rules, e)
@@ -146,6 +147,7 @@ pub not_one : (n : ℕ) → (n ≡ 1 → ⊥) → nat_eq n 1 ≡ false
 not_one n h = by (nat_eq n 1) refl where
   same : nat_eq n 1 ≡ true → n ≡ 1
   same e = grind (arith, eqb_tells, e)
+
   by : (b : Bool) → nat_eq n 1 ≡ b → nat_eq n 1 ≡ false
   by true e = absurd (h (same e))
   by false e = e

@@ -39,5 +39,5 @@ drop_join call ws old mid new a b = record { reads = reads_join old mid new a.re
 pub put_more : (call k : ℕ) (rs : List Record) (r : Record) (old mid new : Versioned) → k < length rs → r ≡ get_or rs k r → HasPut call (writes_in (take k rs)) old mid → HasPut call r.writes mid new → HasPut call (writes_in (take (k + 1) rs)) old new
 put_more call k rs r old mid new lt is a b =
     subst (λ ws. HasPut call ws old new)
-        (sym (ap writes_in (take_more rs k r lt ∙ ap (λ x. take k rs ++ x ∷ []) (sym is)) ∙ (flat_map-append (λ (x : Record). x.writes) (take k rs) (r ∷ []) ∙ ap (λ ws. writes_in (take k rs) ++ ws) (append-nil r.writes))))
-        (put_join call (writes_in (take k rs)) r.writes old mid new a b)
+    (sym (ap writes_in (take_more rs k r lt ∙ ap (λ x. take k rs ++ x ∷ []) (sym is)) ∙ (flat_map-append (λ (x : Record). x.writes) (take k rs) (r ∷ []) ∙ ap (λ ws. writes_in (take k rs) ++ ws) (append-nil r.writes))))
+    (put_join call (writes_in (take k rs)) r.writes old mid new a b)

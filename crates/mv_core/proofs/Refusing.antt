@@ -66,6 +66,7 @@ step_past w s c l past = ap (λ b. b && nat_lt l.steps (length (records_at w s.o
   apart n h = by (n == 0) refl where
     same : (n == 0) ≡ true → n ≡ 0
     same e = grind (arith, eqb_tells, e)
+
     by : (b : Bool) → (n == 0) ≡ b → (n == 0) ≡ false
     by true e = absurd (h (same e))
     by false e = e
@@ -96,10 +97,13 @@ open_at b k before live lt =
     first_at (work_in b) b.course k (before ∙ (open_by ls k within ∙ ap (λ x. if x then first_open (k + 1) (drop (k + 1) ls) else k) (ap (λ (l : Live). l.done) one ∙ live.1.live))) lt where
       ls : List Live
       ls = b.course.calls
+
       within : k < length ls
       within = slice_get_within ls k live.0 live.1.at
+
       both : Some (get_or ls k (begin 0)) ≡ Some live.0
       both = sym (slice_get-get_or ls k (begin 0) within) ∙ live.1.at
+
       one : get_or ls k (begin 0) ≡ live.0
       one = search (rules, both)
 
@@ -108,6 +112,7 @@ pub open_next : (s : Course) (k : ℕ) → first_open 0 s.calls ≡ first_open k
 open_next s k before none lt = before ∙ (open_by s.calls k lt ∙ ap (λ x. if x then first_open (k + 1) (drop (k + 1) s.calls) else k) (done l.done refl)) where
   l : Live
   l = get_or s.calls k (begin 0)
+
   done : (d : Bool) → l.done ≡ d → l.done ≡ true
   done true e = e
   done false e = absurd (none (l, record { at = slice_get-get_or s.calls k (begin 0) lt; live = e }))

@@ -49,7 +49,8 @@ run_database tables s c db k d = by (slice_get s.calls c) refl where
   graph call (Some g) at there =
       let can : CanRun tables call g = k.runs c call g (record { call_is = at; graph_is = there }) in
       subst (λ ts. IsDatabaseOf ts (meaning_of g call db).tables) can.over
-          (left_is g.tables g.procedure call db can.sound.procedure can.suits (subst (λ ts. IsDatabaseOf ts db) (sym can.over) d))
+      (left_is g.tables g.procedure call db can.sound.procedure can.suits (subst (λ ts. IsDatabaseOf ts db) (sym can.over) d))
+
   by : (o : Option Call) → slice_get s.calls c ≡ o → IsDatabaseOf tables (run_in s.graphs o db).tables
   by None at = d
   by (Some call) at = graph call (slice_get s.graphs call.procedure) at refl
@@ -105,7 +106,7 @@ covers_after tables s (c ∷ cs) db k d =
     let new : Tables = ((work_of s).run c db).tables in
     let next : IsDatabaseOf tables new = run_database tables s c db k d in
     covers_join (changes_between db new) (all_of (changes_after (work_of s) new cs)) db new (tables_after (work_of s) new cs)
-        (changes_cover db new d.rising next.rising (d.size ∙ sym next.size)) (covers_after tables s cs new k next)
+    (changes_cover db new d.rising next.rising (d.size ∙ sym next.size)) (covers_after tables s cs new k next)
 
 -- the changes after the first n commits are those of the commits after them, from the tables that these left
 changes_past : (w : Work) (db : Tables) (cs : List ℕ) (n : ℕ) → drop n (changes_after w db cs) ≡ changes_after w (tables_after w db (take n cs)) (drop n cs)
@@ -158,6 +159,7 @@ commit_free w s c l live free = by (live_at s c (λ x. unless (not (is_stale s x
   parts false None e = (refl, refl)
   parts false (Some h) e = absurd (search (rules, e))
   parts true hit e = absurd (search (rules, e))
+
   by : (x : Live) × IsLive s c x × (unless (not (is_stale s x)) Stale (unless (not (is_some (hit_of w s.order x.start c))) Conflict None) ≡ None) → (is_stale s l ≡ false) × (hit_of w s.order l.start c ≡ None)
   by h =
       let both : Some h.0 ≡ Some l = sym h.1.at ∙ live.at in
@@ -223,21 +225,28 @@ stored_stamped s order low c n rs store mid new k lt is like put stamp full = re
 } where
   longer : length (order ++ c ∷ []) ≡ length order + 1
   longer = length-append order (c ∷ [])
+
   db : Tables
   db = table_at (work_of s) order (length order)
+
   read : database_at store (length order) ≡ db
   read = k.reads (length order) k.below (omega arith)
+
   newest_is : newest mid ≡ db
   newest_is = ap (database_at mid) (put.reads.last ∙ k.last) ∙ (put.reads.database (length order) ∙ read)
+
   writes_are : applied (own_writes mid c) db ≡ applied (writes_told rs) db
   writes_are = put.own db like ∙ ap (λ ws. applied (writes_told rs) (applied ws db)) (k.own c)
+
   after_it : database_at new (length order + 1) ≡ ((work_of s).run c db).tables
   after_it = stamp.after (length order + 1) (omega (arith, is)) ∙ (ap (applied (own_writes mid c)) newest_is ∙ (writes_are ∙ (told_run s order c (length order) rs k.script lt full).1))
+
   reads : (m : ℕ) → low ≤ m → m ≤ length (order ++ c ∷ []) → database_at new m ≡ table_at (work_of s) (order ++ c ∷ []) m
   reads m from le = at_one (at_or_before m (length order) (let len = longer in omega (arith, len, le))) where
     at_one : (m ≤ length order) ⊎ (m ≡ length order + 1) → database_at new m ≡ table_at (work_of s) (order ++ c ∷ []) m
     at_one (inl h) = stamp.before m (omega (arith, h, is)) ∙ (put.reads.database m ∙ (k.reads m from h ∙ sym (table_stays (work_of s) order c m h)))
     at_one (inr h) = ap (database_at new) h ∙ (after_it ∙ (sym (table_more (work_of s) order c (length order + 1) refl) ∙ ap (table_at (work_of s) (order ++ c ∷ [])) (sym h)))
+
   by : (call : ℕ) → (c ≡ call) ⊎ (c ≡ call → ⊥) → own_writes new call ≡ []
   by call (inl e) = subst (λ d. own_writes new d ≡ []) e stamp.own
   by call (inr ne) = stamp.others call ne ∙ (put.others call ne ∙ k.own call)

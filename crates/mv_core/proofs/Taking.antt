@@ -202,9 +202,11 @@ tasks_changed s course ts c l m t k live still fresh = record {
   by : (d : ℕ) (x : Live) → ((d ≡ c) × (m ≡ x)) ⊎ ((d ≡ c → ⊥) × (slice_get course.calls d ≡ Some x)) → x.done ≡ false
       → (u : Task) × (slice_get (slice_set ts c (Some t)) d ≡ Some (Some u)) × IsLiveTask s course.order d x u
   by d x (inl h) alive =
-      let had = k.running c l live in
-      (t, subst (λ n. slice_get (slice_set ts c (Some t)) n ≡ Some (Some t)) (sym h.0) (set_there ts c (Some t) (Some had.0) had.1),
-          subst (λ n. IsLiveTask s course.order n x t) (sym h.0) (subst (λ (y : Live). IsLiveTask s course.order c y t) h.1 fresh))
+      let had = k.running c l live in (
+        t,
+        subst (λ n. slice_get (slice_set ts c (Some t)) n ≡ Some (Some t)) (sym h.0) (set_there ts c (Some t) (Some had.0) had.1),
+        subst (λ n. IsLiveTask s course.order n x t) (sym h.0) (subst (λ (y : Live). IsLiveTask s course.order c y t) h.1 fresh),
+      )
   by d x (inr h) alive = let had = k.running d x (record { at = h.1; live = alive }) in (had.0, set_apart ts c d (Some t) h.0 ∙ had.1, had.2)
 
 -- one call has another task
@@ -223,11 +225,14 @@ tasks_set s course ts c t k live task = record {
     more : (a ≡ b) ⊎ (a ≡ b → ⊥) → (suc a ≡ suc b) ⊎ (suc a ≡ suc b → ⊥)
     more (inl h) = inl (ap suc h)
     more (inr h) = inr (λ e. h (omega (arith, e)))
+
   by : (d : ℕ) (x : Live) → IsLive course d x → (d ≡ c) ⊎ (d ≡ c → ⊥) → (u : Task) × (slice_get (slice_set ts c (Some t)) d ≡ Some (Some u)) × IsLiveTask s course.order d x u
   by d x alive (inl e) =
-      let had = k.running c live.0 live.1 in
-      (t, subst (λ n. slice_get (slice_set ts c (Some t)) n ≡ Some (Some t)) (sym e) (set_there ts c (Some t) (Some had.0) had.1),
-          subst (λ n. IsLiveTask s course.order n x t) (sym e) (task x (subst (λ n. IsLive course n x) e alive)))
+      let had = k.running c live.0 live.1 in (
+        t,
+        subst (λ n. slice_get (slice_set ts c (Some t)) n ≡ Some (Some t)) (sym e) (set_there ts c (Some t) (Some had.0) had.1),
+        subst (λ n. IsLiveTask s course.order n x t) (sym e) (task x (subst (λ n. IsLive course n x) e alive)),
+      )
   by d x alive (inr ne) = let had = k.running d x alive in (had.0, set_apart ts c d (Some t) ne ∙ had.1, had.2)
 
 -- one call commits
@@ -251,26 +256,26 @@ pub begun_on : (old new : Booked) (ts : List (Option Task)) (c : ℕ) (t : Task)
     → ((db : Tables) → RunsOn old.script c db t) → t.records ≡ [] → t.executed ≡ 0 → HasTasks new.script new.course (ts ++ Some t ∷ [])
 begun_on old new ts c t k made is room runs records executed =
     tasks_same old.script new.script _ new.course (ts ++ Some t ∷ [])
-        (tasks_begun old.script old.course ts t k (omega (arith, is, room))
-        (task_begun old.script old.course.order (length old.course.calls) t (subst (λ n. (db : Tables) → RunsOn old.script n db t) is runs) records executed)) made.script made.course
+    (tasks_begun old.script old.course ts t k (omega (arith, is, room))
+    (task_begun old.script old.course.order (length old.course.calls) t (subst (λ n. (db : Tables) → RunsOn old.script n db t) is runs) records executed)) made.script made.course
 
 pub stepped_on : (old new : Booked) (ts : List (Option Task)) (c : ℕ) (l : Live) (t : Task) → HasTasks old.script old.course ts → IsLive old.course c l → Made (S c) old new
     → IsLiveTask old.script old.course.order c (record l { steps = l.steps + 1 }) t → HasTasks new.script new.course (slice_set ts c (Some t))
 stepped_on old new ts c l t k live made task =
     let m : Live = record l { steps = l.steps + 1 } in
     tasks_same old.script new.script _ new.course (slice_set ts c (Some t)) (tasks_changed old.script old.course ts c l m t k live live.live task) made.script
-        (made.course ∙ ap (λ ls. record old.course { calls = ls }) (changed_at old.course.calls c (λ x. record x { steps = x.steps + 1 }) l live.at))
+    (made.course ∙ ap (λ ls. record old.course { calls = ls }) (changed_at old.course.calls c (λ x. record x { steps = x.steps + 1 }) l live.at))
 
 pub moved_on : (old new : Booked) (ts : List (Option Task)) (c : ℕ) (l : Live) (t : Task) → HasTasks old.script old.course ts → IsLive old.course c l → Made (M c) old new
     → IsLiveTask old.script old.course.order c (again (length old.course.order) Moved l) t → HasTasks new.script new.course (slice_set ts c (Some t))
 moved_on old new ts c l t k live made task =
     tasks_same old.script new.script _ new.course (slice_set ts c (Some t)) (tasks_changed old.script old.course ts c l (again (length old.course.order) Moved l) t k live live.live task) made.script
-        (made.course ∙ ap (λ ls. record old.course { calls = ls }) (changed_at old.course.calls c (again (length old.course.order) Moved) l live.at))
+    (made.course ∙ ap (λ ls. record old.course { calls = ls }) (changed_at old.course.calls c (again (length old.course.order) Moved) l live.at))
 
 pub committed_on : (old new : Booked) (ts : List (Option Task)) (c : ℕ) (l : Live) → HasTasks old.script old.course ts → IsLive old.course c l → Made (C c) old new → HasTasks new.script new.course (slice_set ts c None)
 committed_on old new ts c l k live made =
     tasks_same old.script new.script _ new.course (slice_set ts c None) (tasks_committed old.script old.course ts c l (finish l) k live refl) made.script
-        (made.course ∙ ap (λ ls. record old.course { order = old.course.order ++ c ∷ []; calls = ls }) (changed_at old.course.calls c finish l live.at))
+    (made.course ∙ ap (λ ls. record old.course { order = old.course.order ++ c ∷ []; calls = ls }) (changed_at old.course.calls c finish l live.at))
 
 -- The task at a number
 
@@ -319,20 +324,27 @@ pub goes_on : (s : Script) (course : Course) (c : ℕ) (l : Live) (t : Task) →
 goes_on s course c l t k lt task here has = by t.ended refl where
   call : (call : Call) × (g : Graph) × IsCallOf s c call g
   call = k.1.there c lt
+
   db : Tables
   db = table_at (work_of s) course.order l.start
+
   way : IsTaskOn call.1 call.0 db t
   way = task.runs call.0 call.1 call.2
+
   all : records_at (work_of s) course.order l.start c ≡ t.records ++ way.rest
   all = ap (λ (r : Run). r.records) (run_is s c call.0 call.1 db call.2) ∙ way.leaves
+
   second : (a b : Bool) → (a && b) ≡ true → b ≡ true
   second true true h = refl
   second true false h = absurd (search (rules, h))
   second false b h = absurd (search (rules, h))
+
   less : nat_lt l.steps (length (records_at (work_of s) course.order l.start c)) ≡ true
   less = second (used l == 0) (nat_lt l.steps (length (records_at (work_of s) course.order l.start c))) has
+
   itself : (n : ℕ) → nat_lt n n ≡ true → ⊥
   itself n h = grind (arith, h)
+
   by : (b : Bool) → t.ended ≡ b → t.ended ≡ false
   by false e = e
   by true e =
@@ -352,15 +364,20 @@ pub left_told : (g : Graph) (call : Call) (db : Tables) (t : Task) (rest : List 
 left_told g call db t rest steps is rise leaves here = by t.ended refl where
   exact : (t.ended ≡ true) ↔ (rest ≡ [])
   exact = ends_exactly g call db t rest is rise leaves
+
   many : length (meaning_of g call db).records ≡ length t.records + length rest
   many = ap length leaves ∙ length-append t.records rest
+
   not_less : (n m : ℕ) → m ≡ n → nat_lt n m ≡ false
   not_less n m e = grind (arith, e)
+
   less : (n m : ℕ) → n < m → nat_lt n m ≡ true
   less n m e = grind (arith, e)
+
   more : (rs : List Record) → rest ≡ rs → (rs ≡ [] → ⊥) → 0 < length rest
   more [] e none = absurd (none refl)
   more (r ∷ rs) e none = let l = ap length e in omega (arith, l)
+
   by : (b : Bool) → t.ended ≡ b → not t.ended ≡ nat_lt steps (length (meaning_of g call db).records)
   by true e =
       let none = ap length (exact.0 e) in

@@ -50,6 +50,7 @@ start_last : (c : ℕ) (old new : Booked) (l : Live) → Made (B c) old new → 
 start_last c old new l made live = by (get_last old.course.calls (begin (length old.course.order)) c l (subst (λ (s : Course). slice_get s.calls c ≡ Some l) made.course live.at)) where
   order_is : new.course.order ≡ old.course.order
   order_is = ap (λ (s : Course). s.order) made.course
+
   by : (slice_get old.course.calls c ≡ Some l) ⊎ ((c ≡ length old.course.calls) × (begin (length old.course.order) ≡ l)) → l.start ≡ length new.course.order
   by (inl at) = let lt = slice_get_within old.course.calls c l at in let is = begun_number c old new made in absurd (omega (arith, lt, is))
   by (inr h) = sym (ap (λ (x : Live). x.start) h.1) ∙ ap length (sym order_is)
@@ -108,7 +109,7 @@ turned_more c start old mid new t a b =
     let many = many_turned c old mid new a b in
     let next : length new.course.calls ≡ suc k = omega (arith, many) in
     let all : HasMade ((in_turn k ++ B k ∷ []) ++ C k ∷ []) start new =
-        made_more (in_turn k ++ B k ∷ []) (C k) start mid new (made_more (in_turn k) (B k) start old mid t.1 (subst (λ n. Made (B n) old mid) is a)) (subst (λ n. Made (C n) mid new) is b) in
+    made_more (in_turn k ++ B k ∷ []) (C k) start mid new (made_more (in_turn k) (B k) start old mid t.1 (subst (λ n. Made (B n) old mid) is a)) (subst (λ n. Made (C n) mid new) is b) in
     (t.0, subst (λ n. HasMade (in_turn n) start new) (sym next) (subst (λ (es : List Event). HasMade es start new) (turn_more k) all))
 
 -- The end
@@ -128,7 +129,7 @@ turned_shut start old new t many same =
     let w : Work = work_in start in
     let all : length old.course.calls ≡ w.count = many ∙ ap (λ (s : Script). length s.calls) t.1.script in
     let lawful : wrong_from w 1 start.course (in_turn (length old.course.calls)) ≡ None =
-        ap (λ s. wrong_from w 1 s (in_turn (length old.course.calls))) t.0 ∙ (ap (λ n. wrong_from w 1 beginning (in_turn n)) all ∙ (in_turn_is_lawful w).lawful) in
+    ap (λ s. wrong_from w 1 s (in_turn (length old.course.calls))) t.0 ∙ (ap (λ n. wrong_from w 1 beginning (in_turn n)) all ∙ (in_turn_is_lawful w).lawful) in
     lawful_shut (in_turn (length old.course.calls)) start new (made_none (in_turn (length old.course.calls)) start old new t.1 (same_made old new same)) lawful
 
 pub turned_outcome : (s : Script) (start old new : Booked) (o : Outcome) → IsTurned start old → length old.course.calls ≡ length old.script.calls → IsSame old new → start.script ≡ s → start.journal ≡ []

@@ -75,13 +75,15 @@ has p options n fits lt =
     (c.0, graph_of p.resolved.tables it.0, record { call_is = c.1; graph_is = graph_at p c.0 it.0 it.1 })
 
 pub script_is : (p : Program) (options : Options) → IsProgram p → length p.resolved.calls ≤ most_calls → IsScript (script_of p options)
-script_is p options whole few =
-    (p.resolved.tables, record {
-      there = λ n lt. has p options n whole.text lt;
-      runs = λ n call g is. can p options n call g whole.text is;
-      few = omega (arith, few);
-      opening = whole.opening;
-    })
+script_is p options whole few = (
+  p.resolved.tables,
+  record {
+    there = λ n lt. has p options n whole.text lt;
+    runs = λ n call g is. can p options n call g whole.text is;
+    few = omega (arith, few);
+    opening = whole.opening;
+  },
+)
 
 -- Its work
 

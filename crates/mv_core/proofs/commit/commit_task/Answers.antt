@@ -42,10 +42,10 @@ commit-number-requires-clause-room c = room_less c.settle.new.self c.args.call 2
 pub returns-clause-stored : goal.returns-clause-stored
 returns-clause-stored c =
     let made : Made (C c.args.call) c.args.book.now c.commit-number.new.self =
-        made_from (C c.args.call) c.args.book.now c.settle.new.self c.commit-number.new.self (c.settle.ensures.script ∙ c.reserve.ensures.same.script) (c.settle.ensures.course ∙ c.reserve.ensures.same.course)
-        (c.settle.ensures.journal ∙ c.reserve.ensures.same.journal) c.commit-number.ensures.made in
+    made_from (C c.args.call) c.args.book.now c.settle.new.self c.commit-number.new.self (c.settle.ensures.script ∙ c.reserve.ensures.same.script) (c.settle.ensures.course ∙ c.reserve.ensures.same.course)
+    (c.settle.ensures.journal ∙ c.reserve.ensures.same.journal) c.commit-number.ensures.made in
     let number : c.commit-number.result ≡ length c.args.book.now.course.order + 1 =
-        c.commit-number.ensures.number ∙ ap (λ (s : Course). length s.order + 1) (c.settle.ensures.course ∙ c.reserve.ensures.same.course) in
+    c.commit-number.ensures.number ∙ ap (λ (s : Course). length s.order + 1) (c.settle.ensures.course ∙ c.reserve.ensures.same.course) in
     stored_committed c.args.call c.args.book.now c.commit-number.new.self c.stamp.new.self
     (stored_stamped c.args.book.now.script c.args.book.now.course.order c.args.book.now.course.low c.args.call c.commit-number.result c.args.task.now.records c.args.store.now c.put_told.new.store c.stamp.new.self
     c.requires.stored c.requires.number number (subst (IsLike c.args.store.now) (last_same c.args.book.now c.reserve.new.self c.reserve.ensures.same) c.changes_made.ensures.like)

@@ -33,7 +33,7 @@ loop-core-preserved c =
 pub outcome-requires : goal.outcome-requires
 outcome-requires c =
     let none : (length c.loop-core.core.course.calls ≡ length c.loop-core.core.script.calls) × IsSame c.loop-core.core c.begin.new.self =
-        subst (λ (o : Option ℕ). HasBegunCall (Ok o) c.loop-core.core c.begin.new.self) c.in_default.is c.in_ok-call.ensures in
+    subst (λ (o : Option ℕ). HasBegunCall (Ok o) c.loop-core.core c.begin.new.self) c.in_default.is c.in_ok-call.ensures in
     turned_shut c.in_ok-core.core c.loop-core.core c.begin.new.self c.loop-core.invariant.turned none.0 none.1
 
 if_ok : {P Q : Outcome → Type 0} (r : Result Outcome NoMemory) → IfOk r P → ((o : Outcome) → P o → Q o) → IfOk r Q
@@ -43,6 +43,6 @@ if_ok (Err e) p f = tt
 pub returns : goal.returns
 returns c =
     let none : (length c.loop-core.core.course.calls ≡ length c.loop-core.core.script.calls) × IsSame c.loop-core.core c.begin.new.self =
-        subst (λ (o : Option ℕ). HasBegunCall (Ok o) c.loop-core.core c.begin.new.self) c.in_default.is c.in_ok-call.ensures in
+    subst (λ (o : Option ℕ). HasBegunCall (Ok o) c.loop-core.core c.begin.new.self) c.in_default.is c.in_ok-call.ensures in
     if_ok c.outcome.result c.outcome.ensures.outcome
-        (λ o is. turned_outcome c.args.script c.in_ok-core.core c.loop-core.core c.begin.new.self o c.loop-core.invariant.turned none.0 none.1 c.loop-core.invariant.script c.loop-core.invariant.journal is)
+    (λ o is. turned_outcome c.args.script c.in_ok-core.core c.loop-core.core c.begin.new.self o c.loop-core.invariant.turned none.0 none.1 c.loop-core.invariant.script c.loop-core.invariant.journal is)

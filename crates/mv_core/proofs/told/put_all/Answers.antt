@@ -10,7 +10,7 @@ use Rattle.mv_core.proofs.told.put_all.Goals as goal
 pub loop-record-preserved : goal.loop-record-preserved
 loop-record-preserved c =
     put_more c.args.call c.loop-record.record-index c.args.records.now c.record-item.result c.args.store.now c.loop-record.store c.put_all.new.self c.loop-record-test.true c.record-item.is c.loop-record.invariant
-        (subst (λ (ws : List Write). HasPut c.args.call ws c.loop-record.store c.put_all.new.self) c.as_slice.ensures c.in_ok-put_all.ensures.ok)
+    (subst (λ (ws : List Write). HasPut c.args.call ws c.loop-record.store c.put_all.new.self) c.as_slice.ensures c.in_ok-put_all.ensures.ok)
 
 if_err : {P : Type 0} (r : Result (Unit {0}) NoMemory) → P → OnErr r P
 if_err (Ok x) p = tt

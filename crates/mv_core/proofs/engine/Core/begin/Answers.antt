@@ -17,7 +17,7 @@ pub invariant_of-self-in-Ok-Some : goal.invariant_of-self-in-Ok-Some
 invariant_of-self-in-Ok-Some c =
     let next = c.in-Some.ensures.next in
     let begun : Made (B c.in-Ok-Some.begun.call) c.self.inside.book c.begin.new.self =
-        (subst (λ (o : Option Begun). HasBegun (Ok o) c.self.inside.book c.begin.new.self) c.in-Ok-Some.field-0-is c.in-Ok-Some.ensures).0 in
+    (subst (λ (o : Option Begun). HasBegun (Ok o) c.self.inside.book c.begin.new.self) c.in-Ok-Some.field-0-is c.in-Ok-Some.ensures).0 in
     let made : Made (B c.in-Some.call) c.self.inside.book c.begin.new.self = subst (λ n. Made (B n) c.self.inside.book c.begin.new.self) (begun_number c.in-Ok-Some.begun.call c.self.inside.book c.begin.new.self begun ∙ sym next.0) begun in
     subst (λ (ts : List (Option Task)). IsCore c.begin.new.self c.self.inside.store ts) (sym c.in_ok-push.ensures.items) (record {
       stored = stored_made (B c.in-Some.call) c.self.inside.book c.begin.new.self c.self.inside.store c.self.invariant.stored made refl refl;
@@ -28,5 +28,5 @@ invariant_of-self-in-Ok-Some c =
 pub invariant_of-self-in-Err : goal.invariant_of-self-in-Err
 invariant_of-self-in-Err c =
     let back : c.truncate.new.self.items ≡ c.self.inside.tasks.items =
-        c.truncate.ensures.items ∙ (ap (take c.in-Some.call) c.in_ok-push.ensures.items ∙ take_at c.self.inside.tasks.items (Some c.in_ok-task.task ∷ []) c.in-Some.call (c.self.invariant.tasks.count ∙ sym c.in-Some.ensures.next.0)) in
+    c.truncate.ensures.items ∙ (ap (take c.in-Some.call) c.in_ok-push.ensures.items ∙ take_at c.self.inside.tasks.items (Some c.in_ok-task.task ∷ []) c.in-Some.call (c.self.invariant.tasks.count ∙ sym c.in-Some.ensures.next.0)) in
     subst (λ (ts : List (Option Task)). IsCore c.begin.new.self c.self.inside.store ts) (sym back) (core_same c.self.inside.book c.begin.new.self c.self.inside.store c.self.inside.tasks.items c.self.invariant c.in-Err.ensures)

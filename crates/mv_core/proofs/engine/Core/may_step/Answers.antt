@@ -17,7 +17,7 @@ pub has_more-requires : goal.has_more-requires
 has_more-requires c =
     let h = c.in-Some.ensures.live in
     let t : IsLiveTask c.self.inside.book.script c.self.inside.book.course.order c.args.call h.live c.in-Some-index.task =
-        task_read c.self.inside.book.script c.self.inside.book.course c.self.inside.tasks.items c.args.call c.index.result.now c.in-Some-index.task c.self.invariant.tasks c.index.ensures c.in-Some-index.is h.live h.is_live in
+    task_read c.self.inside.book.script c.self.inside.book.course c.self.inside.tasks.items c.args.call c.index.result.now c.in-Some-index.task c.self.invariant.tasks c.index.ensures c.in-Some-index.is h.live h.is_live in
     let many = used_rounds c.self.inside.book c.args.call h.live c.in-Some.rounds.now h h.is_live t.turns in
     let one = c.if-rounds-eq1.true in
     let first : used h.live ≡ 0 = omega (arith, many, one) in
@@ -29,7 +29,7 @@ pub returns-then-rounds-eq1 : goal.returns-then-rounds-eq1
 returns-then-rounds-eq1 c =
     let h = c.in-Some.ensures.live in
     let t : IsLiveTask c.self.inside.book.script c.self.inside.book.course.order c.args.call h.live c.in-Some-index.task =
-        task_read c.self.inside.book.script c.self.inside.book.course c.self.inside.tasks.items c.args.call c.index.result.now c.in-Some-index.task c.self.invariant.tasks c.index.ensures c.in-Some-index.is h.live h.is_live in
+    task_read c.self.inside.book.script c.self.inside.book.course c.self.inside.tasks.items c.args.call c.index.result.now c.in-Some-index.task c.self.invariant.tasks c.index.ensures c.in-Some-index.is h.live h.is_live in
     let many = used_rounds c.self.inside.book c.args.call h.live c.in-Some.rounds.now h h.is_live t.turns in
     let one = c.if-rounds-eq1.true in
     let first : used h.live ≡ 0 = omega (arith, many, one) in
@@ -43,7 +43,7 @@ pub returns-else-rounds-eq1 : goal.returns-else-rounds-eq1
 returns-else-rounds-eq1 c =
     let h = c.in-Some.ensures.live in
     let t : IsLiveTask c.self.inside.book.script c.self.inside.book.course.order c.args.call h.live c.in-Some-index.task =
-        task_read c.self.inside.book.script c.self.inside.book.course c.self.inside.tasks.items c.args.call c.index.result.now c.in-Some-index.task c.self.invariant.tasks c.index.ensures c.in-Some-index.is h.live h.is_live in
+    task_read c.self.inside.book.script c.self.inside.book.course c.self.inside.tasks.items c.args.call c.index.result.now c.in-Some-index.task c.self.invariant.tasks c.index.ensures c.in-Some-index.is h.live h.is_live in
     let many = used_rounds c.self.inside.book c.args.call h.live c.in-Some.rounds.now h h.is_live t.turns in
     let past : used h.live ≡ 0 → ⊥ = λ first. c.if-rounds-eq1.false (omega (arith, many, first)) in
     subst (λ b. MayStep b c.args.self.now c.args.call) (sym (not_one (length c.in-Some.rounds.now) c.if-rounds-eq1.false))

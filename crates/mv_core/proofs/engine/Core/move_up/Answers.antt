@@ -49,10 +49,11 @@ pub returns : goal.returns
 returns c =
     let k = core_same c.self.inside.book c.reserve.new.self c.self.inside.store c.self.inside.tasks.items c.self.invariant c.reserve.ensures.same in
     let live = live_now c.self.inside.book c.args.self.now c.reserve.new.self c.args.call c.self.view_is c.requires c.reserve.ensures.same in
-    let turns : HasTurns live.0 = (k.tasks.running c.args.call live.0 live.1).2.turns in
-    (made_then (M c.args.call) c.args.self.now c.restart.new.self c.settle.new.self
-    (made_now (M c.args.call) c.self.inside.book c.args.self.now c.reserve.new.self c.restart.new.self c.self.view_is c.reserve.ensures.same c.restart.ensures.made) c.settle.ensures.script c.settle.ensures.course c.settle.ensures.journal,
-    c.executed-executed.ensures ∙ ((c.in_ok-task.ensures.task live.0 live.1 turns).executed ∙ (ap length c.in_ok-task.ensures.records
-    ∙ (ap (λ (s : Script). length (records_at (work_of s) c.reserve.new.self.course.order (length c.reserve.new.self.course.order) c.args.call)) c.reserve.ensures.same.script
-    ∙ (ap (λ (s : Course). length (records_at (work_in c.self.inside.book) s.order (length s.order) c.args.call)) c.reserve.ensures.same.course
-    ∙ ap (λ (b : Booked). length (records_at (work_in b) b.course.order (length b.course.order) c.args.call)) c.self.view_is)))))
+    let turns : HasTurns live.0 = (k.tasks.running c.args.call live.0 live.1).2.turns in (
+      made_then (M c.args.call) c.args.self.now c.restart.new.self c.settle.new.self
+          (made_now (M c.args.call) c.self.inside.book c.args.self.now c.reserve.new.self c.restart.new.self c.self.view_is c.reserve.ensures.same c.restart.ensures.made) c.settle.ensures.script c.settle.ensures.course c.settle.ensures.journal,
+      c.executed-executed.ensures ∙ ((c.in_ok-task.ensures.task live.0 live.1 turns).executed ∙ (ap length c.in_ok-task.ensures.records
+          ∙ (ap (λ (s : Script). length (records_at (work_of s) c.reserve.new.self.course.order (length c.reserve.new.self.course.order) c.args.call)) c.reserve.ensures.same.script
+          ∙ (ap (λ (s : Course). length (records_at (work_in c.self.inside.book) s.order (length s.order) c.args.call)) c.reserve.ensures.same.course
+          ∙ ap (λ (b : Booked). length (records_at (work_in b) b.course.order (length b.course.order) c.args.call)) c.self.view_is)))),
+    )

@@ -61,8 +61,9 @@ pub returns : goal.returns
 returns c =
     let k = core_same c.self.inside.book c.reserve.new.self c.self.inside.store c.self.inside.tasks.items c.self.invariant c.reserve.ensures.same in
     let live = live_now c.self.inside.book c.args.self.now c.reserve.new.self c.args.call c.self.view_is c.requires.live c.reserve.ensures.same in
-    let first : used live.0 ≡ 0 = step_used (work_in c.reserve.new.self) c.reserve.new.self.course c.args.call live.0 (step_now c.self.inside.book c.args.self.now c.reserve.new.self c.args.call c.self.view_is c.requires.left c.reserve.ensures.same live.0 live.1) in
-    (made_now (S c.args.call) c.self.inside.book c.args.self.now c.reserve.new.self c.ran.new.self c.self.view_is c.reserve.ensures.same c.ran.ensures.made,
-    λ m at. c.stepped_of.ensures ∙ ap (λ b. stepped (not b)) (sym
-    (step_told c.reserve.new.self c.ran.new.self c.self.inside.store c.args.call live.0 c.step_task.new.task c.steps.result c.has_more.result k.stored
-    (call_within c.reserve.new.self.script c.reserve.new.self.course c.self.inside.tasks.items c.args.call k.tasks live) live.1 c.ran.ensures.made (c.in_ok-step_task.ensures.ok live.0 live.1) first c.steps.ensures c.has_more.ensures m at)))
+    let first : used live.0 ≡ 0 = step_used (work_in c.reserve.new.self) c.reserve.new.self.course c.args.call live.0 (step_now c.self.inside.book c.args.self.now c.reserve.new.self c.args.call c.self.view_is c.requires.left c.reserve.ensures.same live.0 live.1) in (
+      made_now (S c.args.call) c.self.inside.book c.args.self.now c.reserve.new.self c.ran.new.self c.self.view_is c.reserve.ensures.same c.ran.ensures.made,
+      λ m at. c.stepped_of.ensures ∙ ap (λ b. stepped (not b)) (sym
+          (step_told c.reserve.new.self c.ran.new.self c.self.inside.store c.args.call live.0 c.step_task.new.task c.steps.result c.has_more.result k.stored
+          (call_within c.reserve.new.self.script c.reserve.new.self.course c.self.inside.tasks.items c.args.call k.tasks live) live.1 c.ran.ensures.made (c.in_ok-step_task.ensures.ok live.0 live.1) first c.steps.ensures c.has_more.ensures m at)),
+    )
