@@ -244,6 +244,46 @@ const WRONG: &str = "refused 8 wrong type";
 
 const ASSIGNED: &str = "refused 9 key assigned";
 
+#[test]
+fn unknown_tables(rt: HostRuntime) -> Result<(), Fail> {
+    tells_tokens(rt.alloc(), &IN_BODY, UNKNOWN, UNKNOWN_TABLES)
+}
+
+#[test]
+fn unknown_columns(rt: HostRuntime) -> Result<(), Fail> {
+    tells_tokens(rt.alloc(), &IN_BODY, UNKNOWN, UNKNOWN_COLUMNS)
+}
+
+#[test]
+fn unknown_variables(rt: HostRuntime) -> Result<(), Fail> {
+    tells_tokens(rt.alloc(), &IN_BODY, UNKNOWN, UNKNOWN_VARIABLES)
+}
+
+#[test]
+fn double_names(rt: HostRuntime) -> Result<(), Fail> {
+    tells_tokens(rt.alloc(), &IN_BODY, DOUBLE, DOUBLE_NAMES)
+}
+
+#[test]
+fn wrong_targets(rt: HostRuntime) -> Result<(), Fail> {
+    tells_tokens(rt.alloc(), &IN_BODY, WRONG, WRONG_TARGETS)
+}
+
+#[test]
+fn wrong_places(rt: HostRuntime) -> Result<(), Fail> {
+    tells_tokens(rt.alloc(), &IN_BODY, WRONG, WRONG_PLACES)
+}
+
+#[test]
+fn wrong_sides(rt: HostRuntime) -> Result<(), Fail> {
+    tells_tokens(rt.alloc(), &IN_BODY, WRONG, WRONG_SIDES)
+}
+
+#[test]
+fn keys_that_are_assigned(rt: HostRuntime) -> Result<(), Fail> {
+    tells_tokens(rt.alloc(), &IN_BODY, ASSIGNED, KEYS)
+}
+
 const ACCEPTED: &[(&str, &str)] = &[
     ("", "accepted"),
     ("set :I = :A + :Found - 1;", "accepted"),
@@ -276,6 +316,16 @@ const ACCEPTED: &[(&str, &str)] = &[
     ),
 ];
 
+#[test]
+fn statements_without_a_fault(rt: HostRuntime) -> Result<(), Fail> {
+    tell_within(
+        rt.alloc(),
+        HEAD,
+        " END; CALL P(1, 'abc', ROWS ());",
+        ACCEPTED,
+    )
+}
+
 /// A procedure that is called.
 const CALLED: &str = "CREATE PROCEDURE p (:a INT, :u TEXT(2), :m ROWS (x INT, y TEXT(1))) BEGIN END;
 ";
@@ -305,30 +355,16 @@ const CALLS: Cases = &[
 
 const CALLING: Frame = (CALLED, CALLED_TOKENS, "");
 
-/// Scripts in a frame, all with the same refusal.
-type Group = (Frame, &'static str, Cases);
-
-const GROUPS: &[Group] = &[
-    (IN_BODY, UNKNOWN, UNKNOWN_TABLES),
-    (IN_BODY, UNKNOWN, UNKNOWN_COLUMNS),
-    (IN_BODY, UNKNOWN, UNKNOWN_VARIABLES),
-    (IN_BODY, DOUBLE, DOUBLE_NAMES),
-    (IN_BODY, WRONG, WRONG_TARGETS),
-    (IN_BODY, WRONG, WRONG_PLACES),
-    (IN_BODY, WRONG, WRONG_SIDES),
-    (IN_BODY, ASSIGNED, KEYS),
-    (CALLING, WRONG, CALLS),
-];
-
 #[test]
-fn names_and_types_are_refused_at_their_token(rt: HostRuntime) -> Result<(), Fail> {
-    for (frame, what, cases) in GROUPS {
-        tells_tokens(rt.alloc(), frame, what, cases)?;
-    }
-    Ok(())
+fn arguments_that_do_not_fit(rt: HostRuntime) -> Result<(), Fail> {
+    tells_tokens(rt.alloc(), &CALLING, WRONG, CALLS)
 }
 
-const FITTING: &[(&str, &str)] = &[("CALL P(-1, '''''', ROWS ((1, 'a'), (-2, '')));", "accepted")];
+#[test]
+fn arguments_that_fit(rt: HostRuntime) -> Result<(), Fail> {
+    let call = "CALL P(-1, '''''', ROWS ((1, 'a'), (-2, '')));";
+    tells_within(rt.alloc(), CALLED, call, "", "accepted")
+}
 
 const SCRIPTS: &[(&str, &str)] = &[
     ("", "accepted"),
@@ -439,6 +475,11 @@ const SCRIPTS: &[(&str, &str)] = &[
     ),
 ];
 
+#[test]
+fn scripts_as_a_whole(rt: HostRuntime) -> Result<(), Fail> {
+    tell_within(rt.alloc(), "", "", SCRIPTS)
+}
+
 /// A table of accounts with its rows, which copies add rows to.
 const ACCOUNTS: &str = "CREATE TABLE acc (id INT, bal INT, note TEXT(20), PRIMARY KEY (id))
   VALUES (0, 0, ''), (1, 100, ''), (2, 100, ''), (3, 100, ''), (4, 100, '');
@@ -498,26 +539,9 @@ const COPIES: &[(&str, &str)] = &[
     ),
 ];
 
-/// A text, the text after each script, and scripts with their line.
-type Told = (
-    &'static str,
-    &'static str,
-    &'static [(&'static str, &'static str)],
-);
-
-const TOLD: &[Told] = &[
-    (HEAD, " END; CALL P(1, 'abc', ROWS ());", ACCEPTED),
-    (CALLED, "", FITTING),
-    ("", "", SCRIPTS),
-    (ACCOUNTS, "", COPIES),
-];
-
 #[test]
-fn scripts_are_accepted_or_refused(rt: HostRuntime) -> Result<(), Fail> {
-    for (front, back, cases) in TOLD {
-        tell_within(rt.alloc(), front, back, cases)?;
-    }
-    Ok(())
+fn copied_rows(rt: HostRuntime) -> Result<(), Fail> {
+    tell_within(rt.alloc(), ACCOUNTS, "", COPIES)
 }
 
 const TWO_TABLES: &[(&str, &str, &str, &str)] = &[

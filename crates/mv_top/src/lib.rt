@@ -6,7 +6,7 @@ mod graphs;
 mod journals;
 pub mod laws;
 pub mod refusal;
-mod script;
+pub mod script;
 mod serial;
 pub mod status;
 pub mod top;

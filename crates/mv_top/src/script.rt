@@ -17,17 +17,14 @@ use std::alloc::Global;
 
 /// A program as a run needs it: its script, with a graph for each procedure, and its tables, for the report.
 #[derive(Drop)]
-pub(crate) struct Prepared {
-    pub(crate) script: Script,
-    pub(crate) tables: List<TableInfo>,
+pub struct Prepared {
+    pub script: Script,
+    pub tables: List<TableInfo>,
 }
 
-/// Compiles the procedures of a program. Takes time quadratic in the number of a procedure's statements.
-pub(crate) fn prepare(
-    alloc: Global,
-    program: Program,
-    options: Options,
-) -> Result<Prepared, NoMemory>
+/// Compiles the procedures of an accepted program. The script's work is that of the program. Fails with `NoMemory` if
+/// memory runs out. Takes time quadratic in the number of a procedure's statements.
+pub fn prepare(alloc: Global, program: Program, options: Options) -> Result<Prepared, NoMemory>
     requires whole { IsProgram program }
     requires few { length program.resolved.calls ≤ most_calls }
     ensures script { IfOk result (λ p. IsScript p.script) }
