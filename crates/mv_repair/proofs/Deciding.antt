@@ -1,0 +1,213 @@
+-- Whether the next record of the old run stays.
+use Rattle.std.proofs.Common.{◌≡◌, ℕ, suc, ◌+◌, Bool, true, false, not, List, [], ◌∷◌, ◌++◌, Option, Some, None, map, length, if◌then◌else◌, refl, sym, ap, subst, ◌∙◌, arith, append-nil, length-append}
+use Rattle.std.specs.Prelude.{◌&&◌, ◌||◌, slice_get}
+use Rattle.std.specs.List.{list_any}
+use Rattle.std.specs.Ordering.{is_lt, is_eq, ordering_reverse, nat_cmp}
+use Rattle.std.specs.Cmp.Lexicographic.{slice_cmp}
+use Rattle.std.specs.declared.cmp.Ordering.{Ordering}
+use Rattle.std.specs.declared.cmp.Ordering.TheVariants.{Less, Equal, Greater}
+use Rattle.std.proofs.lemmas.Cmp.{nat_list_cmp_total}
+use Rattle.std.proofs.lemmas.List.{length-map, map-append}
+use Rattle.std.proofs.lemmas.List.Folds.{list_any-append}
+use Rattle.mv_record.specs.declared.record.Read.{Read}
+use Rattle.mv_record.specs.declared.record.Record.{Record}
+use Rattle.mv_record.specs.Paths.{IsEarlierPath}
+use Rattle.mv_record.specs.Runs.{IsEarlier, ReadsEarlier, NamesEarlier}
+use Rattle.mv_recorded.specs.Own.{Each}
+use Rattle.mv_recorded.proofs.Held.{get_last}
+use Rattle.mv_exec.specs.declared.task.Ahead.{Ahead}
+use Rattle.mv_history.specs.declared.change.Change.{Change}
+use Rattle.mv_history.specs.Hits.{any_hits, touches}
+use Rattle.mv_history.specs.Kept.{Path, Placed, with_paths, is_path, at, front, path_at, is_kept, reads_stay, other_writes, is_untouched, stays_with, stays}
+use Rattle.mv_alike.proofs.Keeping.{Climbs}
+use Rattle.mv_alike.proofs.Placing.{path_is, its_all}
+use Rattle.mv_repair.specs.declared.walk.OldRun.{OldRun}
+use Rattle.mv_repair.specs.declared.walk.NewRun.{NewRun}
+use Rattle.mv_repair.specs.Walking.{is_before, is_there, writes_at, hits_in, is_touched, is_kept_by, reads_by, record_stays, next_stays, stays_at, IsOld, IsNew}
+use Rattle.mv_recorded.proofs.Inverting.{each_join}
+use Rattle.mv_alike.proofs.Lasting.{each_map}
+use Rattle.mv_repair.proofs.Lists.{first_dropped, none_dropped, any_of_all}
+use Rattle.mv_repair.proofs.Placing.{many_placed, earlier_then, climbs_around}
+use Rattle.mv_repair.proofs.Marking.{apart_back, controller_is, definers_are}
+use Rattle.mv_repair.proofs.Passing.{all_apart, old_lower}
+
+-- The old record of a path
+
+at_past : (p : Path) (xs ys : List Placed) → Each (λ (a : Placed). is_path a.path p ≡ false) xs → (at p (xs ++ ys) ≡ at p ys) × (front p (xs ++ ys) ≡ xs ++ front p ys)
+at_past p [] ys h = (refl, refl)
+at_past p (x ∷ xs) ys h =
+    let rest = at_past p xs ys h.1 in
+    (ap (λ b. if b then Some x else at p (xs ++ ys)) h.0 ∙ rest.0, ap (λ b. if b then [] else x ∷ front p (xs ++ ys)) h.0 ∙ ap (λ l. x ∷ l) rest.1)
+
+at_none : (p : Path) (xs : List Placed) → Each (λ (a : Placed). is_path a.path p ≡ false) xs → at p xs ≡ None
+at_none p [] h = refl
+at_none p (x ∷ xs) h = ap (λ b. if b then Some x else at p xs) h.0 ∙ at_none p xs h.1
+
+front_past : (p : Path) (xs : List Placed) (o : Placed) (ys : List Placed) → Each (λ (a : Placed). is_path a.path p ≡ false) xs → is_path o.path p ≡ true → (at p (xs ++ o ∷ ys) ≡ Some o) × (front p (xs ++ o ∷ ys) ≡ xs)
+front_past p xs o ys h k =
+    let past = at_past p xs (o ∷ ys) h in
+    (past.0 ∙ ap (λ b. if b then Some o else at p ys) k, past.1 ∙ (ap (λ b. xs ++ (if b then [] else o ∷ front p ys)) k ∙ append-nil xs))
+
+-- a path that isn't before another one, nor the same, is after it
+after : (q p : Path) → is_lt (slice_cmp nat_cmp q p) ≡ false → is_path q p ≡ false → IsEarlierPath p q
+after q p h k = nat_list_cmp_total.antisymm p q ∙ by (slice_cmp nat_cmp q p) h k
+  where
+    by : (o : Ordering) → is_lt o ≡ false → is_eq o ≡ false → ordering_reverse o ≡ Less
+    by Less e f = cc
+    by Equal e f = cc
+    by Greater e f = refl
+
+-- Reads of earlier records
+
+reads_behind : (n : ℕ) (xs : List Record) (r : Record) (ys : List Record) → NamesEarlier n (xs ++ r ∷ ys) → IsEarlier (n + length xs) r.parent × ReadsEarlier (n + length xs) r.reads
+reads_behind n [] r ys h = subst (λ m. IsEarlier m r.parent × ReadsEarlier m r.reads) (let e : n ≡ n + 0 = omega arith in e) (h.0, h.1)
+reads_behind n (x ∷ xs) r ys h =
+    subst (λ m. IsEarlier m r.parent × ReadsEarlier m r.reads) (let e : (n + 1) + length xs ≡ n + suc (length xs) = omega arith in e) (reads_behind (n + 1) xs r ys h.2)
+
+pub names_at : (xs : List Record) (r : Record) (ys : List Record) (n : ℕ) → length xs ≡ n → NamesEarlier 0 (xs ++ r ∷ ys) → IsEarlier n r.parent × ReadsEarlier n r.reads
+names_at xs r ys n long h = subst (λ m. IsEarlier m r.parent × ReadsEarlier m r.reads) (let e : 0 + length xs ≡ n = omega (arith, long) in e) (reads_behind 0 xs r ys h)
+
+reads_more : (n m : ℕ) (xs : List Read) → (k : ℕ) → n + k ≡ m → ReadsEarlier n xs → ReadsEarlier m xs
+reads_more n m [] k e h = tt
+reads_more n m (x ∷ xs) k e h = (by x.definer h.0, reads_more n m xs k e h.1)
+  where
+    by : (d : Option ℕ) → IsEarlier n d → IsEarlier m d
+    by None h = tt
+    by (Some d) h = omega (arith, e, h)
+
+-- what an old record reads is within the old run
+old_reads : (os : List Record) (passed : List Placed) (o : Placed) (cs : List Placed) → with_paths os ≡ passed ++ o ∷ cs → NamesEarlier 0 os → ReadsEarlier (length (with_paths os)) o.it.reads
+old_reads os passed o cs is names =
+    let all : os ≡ map (λ (p : Placed). p.it) passed ++ o.it ∷ map (λ (p : Placed). p.it) cs = sym (its_all os) ∙ (ap (map (λ (p : Placed). p.it)) is ∙ map-append (λ (p : Placed). p.it) passed (o ∷ cs)) in
+    reads_more (length passed) (length (with_paths os)) o.it.reads (suc (length cs)) (let e : length passed + suc (length cs) ≡ length (with_paths os) = sym (ap length is ∙ length-append passed (o ∷ cs)) in e)
+    (names_at (map (λ (p : Placed). p.it) passed) o.it (map (λ (p : Placed). p.it) cs) (length passed) (length-map passed (λ (p : Placed). p.it)) (subst (NamesEarlier 0) all names)).1
+
+-- What the walk decides
+
+-- what is known of the next record `r` of the new run, behind the records `ns`, where the old run was passed up to its path
+pub record Decides (changes : List Change) (os : List Record) (kept : List Path) (ns : List Record) (b : Placed) (more : List Placed) (ahead : Ahead) (old : OldRun) (new : NewRun) : Type 0 where
+  pub climbs : Climbs (with_paths os)
+  pub names : NamesEarlier 0 os
+  pub parent : b.it.parent ≡ ahead.parent
+  pub reads : b.it.reads ≡ ahead.reads
+  pub early : IsEarlier (length ns) b.it.parent
+  pub early_reads : ReadsEarlier (length ns) b.it.reads
+  pub beside : IsOld changes os kept (b ∷ more) old
+  pub along : IsNew os kept (b ∷ more) ns new
+  pub stops : is_before (slice_get old.paths old.at) b.path ≡ false
+
+untouched_is : (o : Record) (kept : List Path) (before ns : List Placed) (old : OldRun) (new : NewRun) (rs : List Record) → writes_at old.records old.others ≡ other_writes kept before → writes_at rs new.others ≡ other_writes kept ns
+    → not (is_touched o old.records old.others || is_touched o rs new.others) ≡ is_untouched kept before ns o
+untouched_is o kept before ns old new rs h k =
+    ap (λ b. not (b || is_touched o rs new.others)) (sym (any_of_all (touches o) old.records old.others) ∙ ap (list_any (touches o)) h)
+    ∙ (ap (λ b. not (list_any (touches o) (other_writes kept before) || b)) (sym (any_of_all (touches o) rs new.others) ∙ ap (list_any (touches o)) k)
+    ∙ ap not (sym (list_any-append (touches o) (other_writes kept before) (other_writes kept ns))))
+
+four : (a b c d a' b' c' d' : Bool) → a ≡ a' → b ≡ b' → c ≡ c' → d ≡ d' → (a && (b && (c && d))) ≡ (a' && (b' && (c' && d')))
+four a b c d a' b' c' d' h k l m = cc
+
+-- the record of the old run, where it has the path
+here_is : (changes : List Change) (os : List Record) (kept : List Path) (ns : List Record) (b : Placed) (more : List Placed) (ahead : Ahead) (old : OldRun) (new : NewRun) → (d : Decides changes os kept ns b more ahead old new)
+    → (o : Placed) (cs : List Placed) → d.beside.coming ≡ o ∷ cs → is_path o.path b.path ≡ true
+    → record_stays old new ns ahead o.it (any_hits changes (map (λ (p : Placed). p.it) d.beside.passed) o.it) ≡ stays changes kept (with_paths os) (with_paths ns) b
+here_is changes os kept ns b more ahead old new d o cs e same =
+    let is : with_paths os ≡ d.beside.passed ++ o ∷ cs = d.beside.split ∙ ap (λ l. d.beside.passed ++ l) e in
+    let past = front_past b.path d.beside.passed o cs (all_apart b.path d.beside.passed (old_lower changes os kept b more old d.beside)) same in
+    let found : at b.path (with_paths os) ≡ Some o = ap (at b.path) is ∙ past.0 in
+    let fronts : front b.path (with_paths os) ≡ d.beside.passed = ap (front b.path) is ∙ past.1 in
+    four (is_kept_by new.kept ahead.parent) (reads_by new.kept o.it.reads ahead.reads) (not (any_hits changes (map (λ (p : Placed). p.it) d.beside.passed) o.it)) _
+    (is_kept kept (path_at (with_paths ns) b.it.parent)) (reads_stay kept (with_paths os) o.it.reads (with_paths ns) b.it.reads) (not (any_hits changes (map (λ (p : Placed). p.it) d.beside.passed) o.it)) (is_untouched kept d.beside.passed (with_paths ns) o.it)
+    (sym (controller_is kept (with_paths os) (with_paths ns) new.kept b.it.parent d.along.marks (subst (λ n. IsEarlier n b.it.parent) (sym (many_placed ns)) d.early) ∙ ap (is_kept_by new.kept) d.parent))
+    (sym (definers_are kept (with_paths os) (with_paths ns) new.kept o.it.reads b.it.reads d.climbs d.along.marks (old_reads os d.beside.passed o cs is d.names) (subst (λ n. ReadsEarlier n b.it.reads) (sym (many_placed ns)) d.early_reads)
+    ∙ ap (reads_by new.kept o.it.reads) d.reads))
+    refl (untouched_is o.it kept d.beside.passed (with_paths ns) old new ns d.beside.others d.along.others)
+    ∙ sym (ap (λ q. stays_with changes kept (with_paths os) (front b.path (with_paths os)) (with_paths ns) b.it q) found
+    ∙ ap (λ l. stays_with changes kept (with_paths os) l (with_paths ns) b.it (Some o)) fronts)
+
+none_stays : (changes : List Change) (os : List Record) (kept : List Path) (ns : List Record) (b : Placed) → at b.path (with_paths os) ≡ None → stays changes kept (with_paths os) (with_paths ns) b ≡ false
+none_stays changes os kept ns b h = ap (λ q. stays_with changes kept (with_paths os) (front b.path (with_paths os)) (with_paths ns) b.it q) h
+
+-- what the walk decides is what the rule says
+pub decided : (changes : List Change) (os : List Record) (kept : List Path) (ns : List Record) (b : Placed) (more : List Placed) (ahead : Ahead) (old : OldRun) (new : NewRun) → Decides changes os kept ns b more ahead old new
+    → stays_at old new ns ahead b.path ≡ stays changes kept (with_paths os) (with_paths ns) b
+decided changes os kept ns b more ahead old new d = by d.beside.coming refl
+  where
+    lows : Each (λ (a : Placed). is_path a.path b.path ≡ false) d.beside.passed
+    lows = all_apart b.path d.beside.passed (old_lower changes os kept b more old d.beside)
+
+    by : (l : List Placed) → d.beside.coming ≡ l
+        → stays_at old new ns ahead b.path ≡ stays changes kept (with_paths os) (with_paths ns) b
+    by [] e =
+        let none : slice_get old.paths old.at ≡ None = none_dropped old.at old.paths (d.beside.paths ∙ ap (map (λ (p : Placed). p.path)) e) in
+        let all : with_paths os ≡ d.beside.passed = d.beside.split ∙ (ap (λ l. d.beside.passed ++ l) e ∙ append-nil d.beside.passed) in
+        ap (λ q. is_there q b.path && next_stays old new ns ahead (slice_get old.records old.at) (slice_get old.hits old.at)) none
+        ∙ sym (none_stays changes os kept ns b (ap (at b.path) all ∙ at_none b.path d.beside.passed lows))
+    by (o ∷ cs) e = there (is_path o.path b.path) refl
+      where
+        path : slice_get old.paths old.at ≡ Some o.path
+        path = first_dropped old.at old.paths o.path (map (λ (p : Placed). p.path) cs) (d.beside.paths ∙ ap (map (λ (p : Placed). p.path)) e)
+
+        is : with_paths os ≡ d.beside.passed ++ o ∷ cs
+        is = d.beside.split ∙ ap (λ l. d.beside.passed ++ l) e
+
+        there : (t : Bool) → is_path o.path b.path ≡ t
+            → stays_at old new ns ahead b.path ≡ stays changes kept (with_paths os) (with_paths ns) b
+        there true same =
+            ap (λ q. is_there q b.path && next_stays old new ns ahead (slice_get old.records old.at) (slice_get old.hits old.at)) path
+            ∙ (ap (λ t. t && next_stays old new ns ahead (slice_get old.records old.at) (slice_get old.hits old.at)) same
+            ∙ (ap (λ q. next_stays old new ns ahead q (slice_get old.hits old.at)) (first_dropped old.at old.records o.it (map (λ (p : Placed). p.it) cs) (d.beside.records ∙ ap (map (λ (p : Placed). p.it)) e))
+            ∙ (ap (λ q. next_stays old new ns ahead (Some o.it) q)
+            (first_dropped old.at old.hits (any_hits changes (map (λ (p : Placed). p.it) d.beside.passed) o.it) (hits_in changes (map (λ (p : Placed). p.it) d.beside.passed ++ o.it ∷ []) (map (λ (p : Placed). p.it) cs))
+            (d.beside.hits ∙ ap (λ l. hits_in changes (map (λ (p : Placed). p.it) d.beside.passed) (map (λ (p : Placed). p.it) l)) e))
+            ∙ here_is changes os kept ns b more ahead old new d o cs e same)))
+        there false other =
+            let later : IsEarlierPath b.path o.path = after o.path b.path (sym (ap (λ q. is_before q b.path) path) ∙ d.stops) other in
+            let rest = (climbs_around d.beside.passed o cs (subst Climbs is d.climbs)).1 in
+            let highs : Each (λ (a : Placed). is_path a.path b.path ≡ false) cs =
+            each_map (λ (a : Placed). IsEarlierPath o.path a.path) (λ (a : Placed). is_path a.path b.path ≡ false) cs (λ a k. apart_back b.path a.path (earlier_then b.path o.path a.path later k)) rest in
+            ap (λ q. is_there q b.path && next_stays old new ns ahead (slice_get old.records old.at) (slice_get old.hits old.at)) path
+            ∙ (ap (λ t. t && next_stays old new ns ahead (slice_get old.records old.at) (slice_get old.hits old.at)) other
+            ∙ sym (none_stays changes os kept ns b
+            (ap (at b.path) is ∙ at_none b.path (d.beside.passed ++ o ∷ cs) (each_join (λ (a : Placed). is_path a.path b.path ≡ false) d.beside.passed (o ∷ cs) lows (other, highs)))))
+
+-- The old record that stays
+
+pub record Found (changes : List Change) (os : List Record) (kept : List Path) (ns : List Record) (b : Placed) (more : List Placed) (ahead : Ahead) (old : OldRun) (new : NewRun) (d : Decides changes os kept ns b more ahead old new) : Type 0 where
+  pub o : Placed
+  pub cs : List Placed
+  pub coming : d.beside.coming ≡ o ∷ cs
+  pub path : o.path ≡ b.path
+  pub found : at b.path (with_paths os) ≡ Some o
+  pub there : slice_get (with_paths os) old.at ≡ Some o
+  pub old_record : slice_get old.records old.at ≡ Some o.it
+
+pub found_old : (changes : List Change) (os : List Record) (kept : List Path) (ns : List Record) (b : Placed) (more : List Placed) (ahead : Ahead) (old : OldRun) (new : NewRun) → (d : Decides changes os kept ns b more ahead old new)
+    → stays_at old new ns ahead b.path ≡ true → Found changes os kept ns b more ahead old new d
+found_old changes os kept ns b more ahead old new d h = by d.beside.coming refl
+  where
+    both : (x y : Bool) → (x && y) ≡ true → x ≡ true
+    both true y e = refl
+    both false y e = e
+
+    there : is_there (slice_get old.paths old.at) b.path ≡ true
+    there = both (is_there (slice_get old.paths old.at) b.path) (next_stays old new ns ahead (slice_get old.records old.at) (slice_get old.hits old.at)) h
+
+    by : (l : List Placed) → d.beside.coming ≡ l → Found changes os kept ns b more ahead old new d
+    by [] e = absurd (clash (ap (λ q. is_there q b.path) (none_dropped old.at old.paths (d.beside.paths ∙ ap (map (λ (p : Placed). p.path)) e))) there)
+      where
+        clash : is_there (slice_get old.paths old.at) b.path ≡ false → is_there (slice_get old.paths old.at) b.path ≡ true → ⊥
+        clash k l = cc
+    by (o ∷ cs) e =
+        let path : slice_get old.paths old.at ≡ Some o.path = first_dropped old.at old.paths o.path (map (λ (p : Placed). p.path) cs) (d.beside.paths ∙ ap (map (λ (p : Placed). p.path)) e) in
+        let same : is_path o.path b.path ≡ true = sym (ap (λ q. is_there q b.path) path) ∙ there in
+        let is : with_paths os ≡ d.beside.passed ++ o ∷ cs = d.beside.split ∙ ap (λ l. d.beside.passed ++ l) e in
+        let past = front_past b.path d.beside.passed o cs (all_apart b.path d.beside.passed (old_lower changes os kept b more old d.beside)) same in
+        record {
+          o = o;
+          cs = cs;
+          coming = e;
+          path = path_is o.path b.path same;
+          found = ap (at b.path) is ∙ past.0;
+          there = ap (λ l. slice_get l old.at) is ∙ (ap (slice_get (d.beside.passed ++ o ∷ cs)) d.beside.at ∙ get_last d.beside.passed o cs);
+          old_record = first_dropped old.at old.records o.it (map (λ (p : Placed). p.it) cs) (d.beside.records ∙ ap (map (λ (p : Placed). p.it)) e);
+        }

@@ -1,0 +1,9 @@
+pub mod Lists
+pub mod Placing
+pub mod Hitting
+pub mod Marking
+pub mod Passing
+pub mod Deciding
+pub mod Asking
+pub mod Stepping
+pub mod Repairing

@@ -1,0 +1,82 @@
+-- Lists from an index on, and lists with one item changed.
+use Rattle.std.proofs.Common.{◌≡◌, ◌<◌, ℕ, zero, suc, ◌+◌, Bool, true, false, List, [], ◌∷◌, ◌++◌, Option, Some, None, length, drop, slice_set, refl, sym, ap, ◌∙◌, arith}
+use Rattle.std.specs.Prelude.{◌||◌, ◌&&◌, slice_get}
+use Rattle.std.specs.List.{list_any, flat_map}
+use Rattle.std.proofs.lemmas.List.{drop-drop, drop-set-lt, nil_from_length}
+use Rattle.std.proofs.lemmas.List.Folds.{list_any-append}
+use Rattle.mv_values.specs.declared.patch.Write.{Write}
+use Rattle.mv_record.specs.declared.record.Read.{Read}
+use Rattle.mv_record.specs.declared.record.Record.{Record}
+use Rattle.mv_recorded.specs.Own.{Each}
+use Rattle.mv_recorded.proofs.Held.{get_front}
+use Rattle.mv_alike.proofs.Lasting.{each_map}
+use Rattle.mv_history.specs.Hits.{touches, touches_predicate}
+use Rattle.mv_repair.specs.Walking.{writes_of, writes_at, is_touched, same_definer, reads_by}
+
+-- From an index on
+
+pub first_dropped : {A : Type 0} (n : ℕ) (xs : List A) (y : A) (ys : List A) → drop n xs ≡ y ∷ ys → slice_get xs n ≡ Some y
+first_dropped zero [] y ys h = cc
+first_dropped zero (x ∷ xs) y ys h = cc
+first_dropped (suc n) [] y ys h = cc
+first_dropped (suc n) (x ∷ xs) y ys h = first_dropped n xs y ys h
+
+pub none_dropped : {A : Type 0} (n : ℕ) (xs : List A) → drop n xs ≡ [] → slice_get xs n ≡ None
+none_dropped n [] h = refl
+none_dropped zero (x ∷ xs) h = cc
+none_dropped (suc n) (x ∷ xs) h = none_dropped n xs h
+
+pub next_dropped : {A : Type 0} (n : ℕ) (xs : List A) (y : A) (ys : List A) → drop n xs ≡ y ∷ ys → drop (n + 1) xs ≡ ys
+next_dropped n xs y ys h = sym (drop-drop 1 n xs) ∙ ap (drop 1) h
+
+pub set_dropped : {A : Type 0} (n : ℕ) (xs : List A) (z : A) → drop (n + 1) (slice_set xs n z) ≡ drop (n + 1) xs
+set_dropped n xs z = drop-set-lt (n + 1) xs n z (omega arith)
+
+pub get_apart : {A : Type 0} (m n : ℕ) (xs : List A) (z : A) → m < n → slice_get (slice_set xs n z) m ≡ slice_get xs m
+get_apart m n [] z h = refl
+get_apart zero zero (x ∷ xs) z h = absurd (omega (arith, h))
+get_apart (suc m) zero (x ∷ xs) z h = absurd (omega (arith, h))
+get_apart zero (suc n) (x ∷ xs) z h = refl
+get_apart (suc m) (suc n) (x ∷ xs) z h = get_apart m n xs z (omega (arith, h))
+
+-- Writes
+
+same_numbers : (rs ss : List Record) (ns : List ℕ) → Each (λ n. slice_get ss n ≡ slice_get rs n) ns → writes_at ss ns ≡ writes_at rs ns
+same_numbers rs ss [] h = refl
+same_numbers rs ss (n ∷ ns) h = ap (λ o. writes_of o ++ writes_at ss ns) h.0 ∙ ap (λ ws. writes_of (slice_get rs n) ++ ws) (same_numbers rs ss ns h.1)
+
+-- the writes of earlier records stay where a record is changed, and where one is added
+pub writes_apart : (rs : List Record) (n : ℕ) (r : Record) (ns : List ℕ) → Each (λ m. m < n) ns → writes_at (slice_set rs n r) ns ≡ writes_at rs ns
+writes_apart rs n r ns h = same_numbers rs (slice_set rs n r) ns (each_map (λ m. m < n) (λ m. slice_get (slice_set rs n r) m ≡ slice_get rs m) ns (λ m lt. get_apart m n rs r lt) h)
+
+pub writes_before : (rs more : List Record) (ns : List ℕ) → Each (λ m. m < length rs) ns → writes_at (rs ++ more) ns ≡ writes_at rs ns
+writes_before rs more ns h = same_numbers rs (rs ++ more) ns (each_map (λ m. m < length rs) (λ m. slice_get (rs ++ more) m ≡ slice_get rs m) ns (λ m lt. get_front rs more m lt) h)
+
+or_both : (a b c : Bool) → b ≡ c → (a || b) ≡ (a || c)
+or_both a b c h = ap (λ x. a || x) h
+
+pub any_flat : {A B : Type 0} (p : B → Bool) (f : A → List B) (xs : List A) → list_any p (flat_map f xs) ≡ list_any (λ x. list_any p (f x)) xs
+any_flat p f [] = refl
+any_flat p f (x ∷ xs) = list_any-append p (f x) (flat_map f xs) ∙ or_both (list_any p (f x)) (list_any p (flat_map f xs)) (list_any (λ x. list_any p (f x)) xs) (any_flat p f xs)
+
+pub any_of_all : (p : Write → Bool) (rs : List Record) (ns : List ℕ) → list_any p (writes_at rs ns) ≡ list_any (λ n. list_any p (writes_of (slice_get rs n))) ns
+any_of_all p rs ns = any_flat p (λ n. writes_of (slice_get rs n)) ns
+
+-- no write touches a record without predicates
+pub untouched : (o : Record) (rs : List Record) (ns : List ℕ) → length o.preds ≡ 0 → is_touched o rs ns ≡ false
+untouched o rs [] h = refl
+untouched o rs (n ∷ ns) h = ap (λ b. b || is_touched o rs ns) (none (writes_of (slice_get rs n))) ∙ untouched o rs ns h
+  where
+    none : (ws : List Write) → list_any (touches o) ws ≡ false
+    none [] = refl
+    none (w ∷ ws) = ap (λ ps. list_any (touches_predicate w) ps || list_any (touches o) ws) (nil_from_length o.preds h) ∙ none ws
+
+pub long_apart : (kept : List (Option ℕ)) (as' bs : List Read) → (length as' ≡ length bs → ⊥) → false ≡ reads_by kept as' bs
+long_apart kept [] [] h = absurd (h refl)
+long_apart kept [] (b ∷ bs) h = refl
+long_apart kept (a ∷ as') [] h = refl
+long_apart kept (a ∷ as') (b ∷ bs) h = by (same_definer kept a.definer b.definer) (long_apart kept as' bs (λ e. h (ap suc e)))
+  where
+    by : (x : Bool) → false ≡ reads_by kept as' bs → false ≡ (x && reads_by kept as' bs)
+    by true h = h
+    by false h = refl

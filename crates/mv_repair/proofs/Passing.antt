@@ -1,0 +1,172 @@
+-- The old run beside the new one: records that are passed, kept or left.
+use Rattle.std.proofs.Common.{◌≡◌, ◌<◌, ℕ, ◌+◌, true, false, List, [], ◌∷◌, ◌++◌, Some, map, drop, if◌then◌else◌, refl, sym, ap, subst, ◌∙◌, arith, append_assoc, append-nil, length-append}
+use Rattle.std.specs.Prelude.{slice_get}
+use Rattle.std.specs.Ordering.{is_lt, nat_cmp}
+use Rattle.std.specs.Cmp.Lexicographic.{slice_cmp}
+use Rattle.std.specs.declared.cmp.Ordering.{Ordering}
+use Rattle.std.specs.declared.cmp.Ordering.TheVariants.{Less, Equal, Greater}
+use Rattle.std.proofs.lemmas.Grind.{flat_map-append}
+use Rattle.std.proofs.lemmas.List.{map-append}
+use Rattle.mv_record.specs.declared.record.Record.{Record}
+use Rattle.mv_record.specs.Paths.{IsEarlierPath}
+use Rattle.mv_recorded.specs.Own.{Each}
+use Rattle.mv_history.specs.declared.change.Change.{Change}
+use Rattle.mv_history.specs.Hits.{any_hits}
+use Rattle.mv_history.specs.Kept.{Path, Placed, with_paths, is_path, among, other_writes}
+use Rattle.mv_alike.proofs.Keeping.{Climbs, among_new}
+use Rattle.mv_repair.specs.declared.walk.OldRun.{OldRun}
+use Rattle.mv_repair.specs.Walking.{hollow, is_before, hits_in, writes_of, taken, passed_one, IsOld, HasPassed}
+use Rattle.mv_recorded.proofs.Inverting.{each_join}
+use Rattle.mv_alike.proofs.Lasting.{each_map}
+use Rattle.mv_repair.proofs.Lists.{first_dropped, none_dropped, next_dropped, set_dropped, writes_apart}
+use Rattle.mv_repair.proofs.Placing.{earlier_then, climbs_around}
+use Rattle.mv_repair.proofs.Marking.{apart, not_among, among_still}
+
+abbrev its : List Placed → List Record
+its ps = map (λ (p : Placed). p.it) ps
+
+abbrev all_before : List Placed → List Placed → Type 0
+all_before xs ys = Each (λ (a : Placed). Each (λ (b : Placed). IsEarlierPath a.path b.path) ys) xs
+
+-- The writes of records that aren't kept
+
+pub others_both : (kept : List Path) (xs ys : List Placed) → other_writes kept (xs ++ ys) ≡ other_writes kept xs ++ other_writes kept ys
+others_both kept xs ys = flat_map-append (λ (r : Placed). if among kept r.path then [] else r.it.writes) xs ys
+
+pub one_other : (kept : List Path) (o : Placed) → among kept o.path ≡ false → other_writes kept (o ∷ []) ≡ o.it.writes
+one_other kept o h = ap (λ b. (if b then [] else o.it.writes) ++ []) h ∙ append-nil o.it.writes
+
+pub no_other : (kept : List Path) (o : Placed) → among kept o.path ≡ true → other_writes kept (o ∷ []) ≡ []
+no_other kept o h = ap (λ b. (if b then [] else o.it.writes) ++ []) h
+
+-- one path more is kept, which none of them has
+pub others_still : (kept : List Path) (p : Path) (xs : List Placed) → Each (λ (a : Placed). is_path a.path p ≡ false) xs → other_writes (kept ++ p ∷ []) xs ≡ other_writes kept xs
+others_still kept p [] h = refl
+others_still kept p (x ∷ xs) h =
+    ap (λ b. (if b then [] else x.it.writes) ++ other_writes (kept ++ p ∷ []) xs) (among_still kept p x.path h.0)
+    ∙ ap (λ ws. (if among kept x.path then [] else x.it.writes) ++ ws) (others_still kept p xs h.1)
+
+-- The order of the two runs
+
+lower : (b : Placed) (more xs : List Placed) → all_before xs (b ∷ more) → Each (λ (a : Placed). IsEarlierPath a.path b.path) xs
+lower b more xs h = each_map (λ (a : Placed). Each (λ (c : Placed). IsEarlierPath a.path c.path) (b ∷ more)) (λ (a : Placed). IsEarlierPath a.path b.path) xs (λ a k. k.0) h
+
+lower_rest : (b : Placed) (more xs : List Placed) → all_before xs (b ∷ more) → all_before xs more
+lower_rest b more xs h = each_map (λ (a : Placed). Each (λ (c : Placed). IsEarlierPath a.path c.path) (b ∷ more)) (λ (a : Placed). Each (λ (c : Placed). IsEarlierPath a.path c.path) more) xs (λ a k. k.1) h
+
+pub all_apart : (p : Path) (xs : List Placed) → Each (λ (a : Placed). IsEarlierPath a.path p) xs → Each (λ (a : Placed). is_path a.path p ≡ false) xs
+all_apart p xs h = each_map (λ (a : Placed). IsEarlierPath a.path p) (λ (a : Placed). is_path a.path p ≡ false) xs (λ a k. apart a.path p k) h
+
+after_all : (p q : Path) (ys : List Placed) → IsEarlierPath p q → Each (λ (c : Placed). IsEarlierPath q c.path) ys → Each (λ (c : Placed). IsEarlierPath p c.path) ys
+after_all p q ys h k = each_map (λ (c : Placed). IsEarlierPath q c.path) (λ (c : Placed). IsEarlierPath p c.path) ys (λ c l. earlier_then p q c.path h l) k
+
+pub same_before : (p q : Path) (ys : List Placed) → p ≡ q → Each (λ (c : Placed). IsEarlierPath q c.path) ys → Each (λ (c : Placed). IsEarlierPath p c.path) ys
+same_before p q ys is k = subst (λ z. Each (λ (c : Placed). IsEarlierPath z c.path) ys) (sym is) k
+
+behind_rest : (o : Placed) (cs : List Placed) (ks : List Path) → Each (λ k. Each (λ (a : Placed). IsEarlierPath k a.path) (o ∷ cs)) ks → Each (λ k. Each (λ (a : Placed). IsEarlierPath k a.path) cs) ks
+behind_rest o cs ks h = each_map (λ k. Each (λ (a : Placed). IsEarlierPath k a.path) (o ∷ cs)) (λ k. Each (λ (a : Placed). IsEarlierPath k a.path) cs) ks (λ k l. l.1) h
+
+pub behind_first : (o : Placed) (cs : List Placed) (ks : List Path) → Each (λ k. Each (λ (a : Placed). IsEarlierPath k a.path) (o ∷ cs)) ks → Each (λ k. IsEarlierPath k o.path) ks
+behind_first o cs ks h = each_map (λ k. Each (λ (a : Placed). IsEarlierPath k a.path) (o ∷ cs)) (λ k. IsEarlierPath k o.path) ks (λ k l. l.0) h
+
+more_below : (at : ℕ) (ns : List ℕ) → Each (λ n. n < at) ns → Each (λ n. n < at + 1) ns
+more_below at ns h = each_map (λ n. n < at) (λ n. n < at + 1) ns (λ n lt. omega (arith, lt)) h
+
+-- One record that is passed
+
+less_is : (p q : Path) → is_lt (slice_cmp nat_cmp p q) ≡ true → IsEarlierPath p q
+less_is p q h = by (slice_cmp nat_cmp p q) h
+  where
+    by : (o : Ordering) → is_lt o ≡ true → o ≡ Less
+    by Less e = refl
+    by Equal e = cc
+    by Greater e = cc
+
+pub passed_next : (old : OldRun) (p : Path) → is_before (slice_get old.paths old.at) p ≡ true → HasPassed old p (passed_one old)
+passed_next old p yes' changes os kept b more is later h = by h.coming refl
+  where
+    by : (l : List Placed) → h.coming ≡ l → IsOld changes os kept (b ∷ more) (passed_one old)
+    by [] e = absurd (clash (ap (λ o. is_before o p) (none_dropped old.at old.paths (h.paths ∙ ap (map (λ (p : Placed). p.path)) e))) yes')
+      where
+        clash : is_before (slice_get old.paths old.at) p ≡ false → is_before (slice_get old.paths old.at) p ≡ true → ⊥
+        clash k l = cc
+    by (o ∷ cs) e =
+        let path : slice_get old.paths old.at ≡ Some o.path = first_dropped old.at old.paths o.path (map (λ (p : Placed). p.path) cs) (h.paths ∙ ap (map (λ (p : Placed). p.path)) e) in
+        let less : IsEarlierPath o.path b.path = subst (IsEarlierPath o.path) (sym is) (less_is o.path p (sym (ap (λ q. is_before q p) path) ∙ yes')) in
+        let records : drop old.at old.records ≡ o.it ∷ its cs = h.records ∙ ap its e in
+        let behind : Each (λ k. Each (λ (a : Placed). IsEarlierPath k a.path) (o ∷ cs)) kept = subst (λ l. Each (λ k. Each (λ (a : Placed). IsEarlierPath k a.path) l) kept) e h.behind in
+        record {
+          passed = h.passed ++ o ∷ [];
+          coming = cs;
+          split = h.split ∙ (ap (λ l. h.passed ++ l) e ∙ sym (append_assoc h.passed (o ∷ []) cs));
+          at = omega (arith, h.at, length-append h.passed (o ∷ []));
+          records = next_dropped old.at old.records o.it (its cs) records;
+          paths = next_dropped old.at old.paths o.path (map (λ (p : Placed). p.path) cs) (h.paths ∙ ap (map (λ (p : Placed). p.path)) e);
+          hits = next_dropped old.at old.hits (any_hits changes (its h.passed) o.it) (hits_in changes (its h.passed ++ o.it ∷ []) (its cs)) (h.hits ∙ ap (λ l. hits_in changes (its h.passed) (its l)) e)
+              ∙ ap (λ l. hits_in changes l (its cs)) (sym (map-append (λ (p : Placed). p.it) h.passed (o ∷ [])));
+          others =
+              flat_map-append (λ n. writes_of (slice_get old.records n)) old.others (old.at ∷ [])
+              ∙ (ap (λ ws. ws ++ (writes_of (slice_get old.records old.at) ++ [])) h.others
+              ∙ (ap (λ q. other_writes kept h.passed ++ (writes_of q ++ [])) (first_dropped old.at old.records o.it (its cs) records)
+              ∙ (ap (λ ws. other_writes kept h.passed ++ ws) (append-nil o.it.writes ∙ sym (one_other kept o (not_among kept o.path (behind_first o cs kept behind))))
+              ∙ sym (others_both kept h.passed (o ∷ [])))));
+          numbers = each_join (λ n. n < old.at + 1) old.others (old.at ∷ []) (more_below old.at old.others h.numbers) (omega arith, tt);
+          below = each_join (λ (a : Placed). Each (λ (c : Placed). IsEarlierPath a.path c.path) (b ∷ more)) h.passed (o ∷ []) h.below ((less, after_all o.path b.path more less later), tt);
+          behind = behind_rest o cs kept behind;
+        }
+
+pub passed_none : (old : OldRun) (p : Path) → HasPassed old p old
+passed_none old p changes os kept b more is later h = h
+
+pub passed_then : (old mid new : OldRun) (p : Path) → HasPassed old p mid → HasPassed mid p new → HasPassed old p new
+passed_then old mid new p f g changes os kept b more is later h = g changes os kept b more is later (f changes os kept b more is later h)
+
+-- A record that is kept, and one that is executed
+
+climbs_at : (os xs : List Record) (passed : List Placed) (o : Placed) (cs : List Placed) → Climbs (with_paths os) → with_paths os ≡ passed ++ o ∷ cs → Each (λ (c : Placed). IsEarlierPath o.path c.path) cs
+climbs_at os xs passed o cs climbs is = (climbs_around passed o cs (subst Climbs is climbs)).1
+
+pub old_kept : (changes : List Change) (os : List Record) (kept : List Path) (b : Placed) (more : List Placed) (old : OldRun) (o : Placed) (cs : List Placed) → Climbs (with_paths os)
+    → (h : IsOld changes os kept (b ∷ more) old) → h.coming ≡ o ∷ cs → o.path ≡ b.path → Each (λ (c : Placed). IsEarlierPath b.path c.path) more → IsOld changes os (kept ++ b.path ∷ []) more (taken old)
+old_kept changes os kept b more old o cs climbs h e same later =
+    let records : drop old.at old.records ≡ o.it ∷ its cs = h.records ∙ ap its e in
+    let is : with_paths os ≡ h.passed ++ o ∷ cs = h.split ∙ ap (λ l. h.passed ++ l) e in
+    let behind : Each (λ k. Each (λ (a : Placed). IsEarlierPath k a.path) (o ∷ cs)) kept = subst (λ l. Each (λ k. Each (λ (a : Placed). IsEarlierPath k a.path) l) kept) e h.behind in
+    record {
+      passed = h.passed ++ o ∷ [];
+      coming = cs;
+      split = is ∙ sym (append_assoc h.passed (o ∷ []) cs);
+      at = omega (arith, h.at, length-append h.passed (o ∷ []));
+      records = set_dropped old.at old.records hollow ∙ next_dropped old.at old.records o.it (its cs) records;
+      paths = next_dropped old.at old.paths o.path (map (λ (p : Placed). p.path) cs) (h.paths ∙ ap (map (λ (p : Placed). p.path)) e);
+      hits = next_dropped old.at old.hits (any_hits changes (its h.passed) o.it) (hits_in changes (its h.passed ++ o.it ∷ []) (its cs)) (h.hits ∙ ap (λ l. hits_in changes (its h.passed) (its l)) e)
+          ∙ ap (λ l. hits_in changes l (its cs)) (sym (map-append (λ (p : Placed). p.it) h.passed (o ∷ [])));
+      others =
+          writes_apart old.records old.at hollow old.others h.numbers
+          ∙ (h.others
+          ∙ (sym (others_still kept b.path h.passed (all_apart b.path h.passed (lower b more h.passed h.below)))
+          ∙ (sym (append-nil (other_writes (kept ++ b.path ∷ []) h.passed))
+          ∙ (ap (λ ws. other_writes (kept ++ b.path ∷ []) h.passed ++ ws) (sym (no_other (kept ++ b.path ∷ []) o (ap (among (kept ++ b.path ∷ [])) same ∙ among_new kept b.path)))
+          ∙ sym (others_both (kept ++ b.path ∷ []) h.passed (o ∷ []))))));
+      numbers = more_below old.at old.others h.numbers;
+      below = each_join (λ (a : Placed). Each (λ (c : Placed). IsEarlierPath a.path c.path) more) h.passed (o ∷ []) (lower_rest b more h.passed h.below) (same_before o.path b.path more same later, tt);
+      behind = each_join (λ k. Each (λ (a : Placed). IsEarlierPath k a.path) cs) kept (b.path ∷ []) (behind_rest o cs kept behind) (same_before b.path o.path cs (sym same) (climbs_at os [] h.passed o cs climbs is), tt);
+    }
+
+pub old_left : (changes : List Change) (os : List Record) (kept : List Path) (b : Placed) (more : List Placed) (old : OldRun) → IsOld changes os kept (b ∷ more) old → IsOld changes os kept more old
+old_left changes os kept b more old h = record {
+  passed = h.passed;
+  coming = h.coming;
+  split = h.split;
+  at = h.at;
+  records = h.records;
+  paths = h.paths;
+  hits = h.hits;
+  others = h.others;
+  numbers = h.numbers;
+  below = lower_rest b more h.passed h.below;
+  behind = h.behind;
+}
+
+pub old_lower : (changes : List Change) (os : List Record) (kept : List Path) (b : Placed) (more : List Placed) (old : OldRun) → (h : IsOld changes os kept (b ∷ more) old) → Each (λ (a : Placed). IsEarlierPath a.path b.path) h.passed
+old_lower changes os kept b more old h = lower b more h.passed h.below

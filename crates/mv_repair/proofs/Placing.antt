@@ -1,0 +1,94 @@
+-- The paths of records, one record more.
+use Rattle.std.proofs.Common.{◌≡◌, ℕ, zero, suc, ◌+◌, List, [], ◌∷◌, ◌++◌, Some, None, map, length, drop, nat_lt, if◌then◌else◌, refl, sym, ap, ◌∙◌, arith, length-append}
+use Rattle.std.specs.Prelude.{slice_get}
+use Rattle.std.specs.Option.{option_and_then}
+use Rattle.std.proofs.lemmas.List.{length-map, map_push, nil_from_length}
+use Rattle.std.proofs.lemmas.Cmp.{nat_list_cmp_total}
+use Rattle.mv_record.specs.declared.record.Record.{Record}
+use Rattle.mv_record.specs.declared.record.Spot.{Spot}
+use Rattle.mv_record.specs.Paths.{Nest, path, inside, nest_of, nests_behind, paths, IsEarlierPath}
+use Rattle.mv_recorded.specs.Own.{Each}
+use Rattle.mv_recorded.proofs.Nesting.{many_nests}
+use Rattle.mv_history.specs.Kept.{Path, Placed, zip_paths, with_paths, next_placed}
+use Rattle.mv_history.proofs.Joining.{placed_front}
+use Rattle.mv_alike.proofs.Keeping.{Climbs}
+use Rattle.mv_recorded.proofs.Inverting.{each_both}
+use Rattle.mv_repair.specs.Walking.{path_behind}
+
+-- How many there are
+
+pub many_paths : (rs : List Record) → length (paths rs) ≡ length rs
+many_paths rs = length-map (nests_behind [] rs) path ∙ many_nests [] rs
+
+long_zip : (ps : List Path) (rs : List Record) → length ps ≡ length rs → length (zip_paths ps rs) ≡ length rs
+long_zip [] [] h = refl
+long_zip [] (r ∷ rs) h = cc
+long_zip (p ∷ ps) [] h = cc
+long_zip (p ∷ ps) (r ∷ rs) h = ap suc (long_zip ps rs (let e : length ps ≡ length rs = omega (arith, h) in e))
+
+pub many_placed : (rs : List Record) → length (with_paths rs) ≡ length rs
+many_placed rs = long_zip (paths rs) rs (many_paths rs)
+
+zip_firsts : (ps : List Path) (rs : List Record) → length ps ≡ length rs → map (λ (p : Placed). p.path) (zip_paths ps rs) ≡ ps
+zip_firsts [] [] h = refl
+zip_firsts [] (r ∷ rs) h = cc
+zip_firsts (p ∷ ps) [] h = cc
+zip_firsts (p ∷ ps) (r ∷ rs) h = ap (λ l. p ∷ l) (zip_firsts ps rs (let e : length ps ≡ length rs = omega (arith, h) in e))
+
+pub placed_paths : (rs : List Record) → map (λ (p : Placed). p.path) (with_paths rs) ≡ paths rs
+placed_paths rs = zip_firsts (paths rs) rs (many_paths rs)
+
+-- One record more
+
+pub placed_more : (xs : List Record) (r : Record) → with_paths (xs ++ r ∷ []) ≡ with_paths xs ++ next_placed xs r ∷ []
+placed_more xs r =
+    let it = placed_front xs r [] in
+    let long : length (with_paths xs ++ next_placed xs r ∷ it.0) ≡ length xs + 1 = ap length (sym it.1) ∙ (many_placed (xs ++ r ∷ []) ∙ length-append xs (r ∷ [])) in
+    let none : it.0 ≡ [] = nil_from_length it.0 (omega (arith, long, length-append (with_paths xs) (next_placed xs r ∷ it.0), many_placed xs)) in
+    it.1 ∙ ap (λ l. with_paths xs ++ next_placed xs r ∷ l) none
+
+pub paths_more : (xs : List Record) (r : Record) → paths (xs ++ r ∷ []) ≡ paths xs ++ path_behind xs r.spot r.parent ∷ []
+paths_more xs r =
+    sym (placed_paths (xs ++ r ∷ []))
+    ∙ (ap (map (λ (p : Placed). p.path)) (placed_more xs r)
+    ∙ (map_push (λ (p : Placed). p.path) (with_paths xs) (next_placed xs r) ∙ ap (λ l. l ++ path_behind xs r.spot r.parent ∷ []) (placed_paths xs)))
+
+-- The order of paths
+
+pub earlier_then : (a b c : Path) → IsEarlierPath a b → IsEarlierPath b c → IsEarlierPath a c
+earlier_then a b c h k = nat_list_cmp_total.trans a b c h k
+
+pub climbs_around : (xs : List Placed) (o : Placed) (ys : List Placed) → Climbs (xs ++ o ∷ ys) → Each (λ (a : Placed). IsEarlierPath a.path o.path) xs × Each (λ (b : Placed). IsEarlierPath o.path b.path) ys
+climbs_around [] o ys h = (tt, h.0)
+climbs_around (x ∷ xs) o ys h =
+    let rest = climbs_around xs o ys h.1 in
+    (((each_both (λ (b : Placed). IsEarlierPath x.path b.path) xs (o ∷ ys) h.0).1.0, rest.0), rest.1)
+
+-- The path of one record
+
+inside_at : (ns : List Nest) (rs : List Record) (n : ℕ) (p : Path) (r : Record) → slice_get (map path (nests_behind ns rs)) n ≡ Some p → slice_get rs n ≡ Some r
+    → (nest : Nest) × (slice_get (nests_behind ns rs) n ≡ Some nest) × (p ≡ nest.around ++ r.spot.statement ∷ []) × (nest.spot ≡ r.spot)
+inside_at ns [] n p r h k = cc
+inside_at ns (x ∷ rs) zero p r h k =
+    let same : x ≡ r = cc in
+    let it : path (nest_of ns x) ≡ p = cc in
+    (nest_of ns x, refl, sym it ∙ ap (λ (z : Record). (nest_of ns x).around ++ z.spot.statement ∷ []) same, ap (λ (z : Record). z.spot) same)
+inside_at ns (x ∷ rs) (suc n) p r h k = inside_at (ns ++ nest_of ns x ∷ []) rs n p r h k
+
+pub around_is : (rs : List Record) (n : ℕ) (p : Path) (r : Record) (known : List Path) (turns got : List ℕ) → known ≡ paths rs → slice_get known n ≡ Some p → slice_get rs n ≡ Some r
+    → ((a : List ℕ) (m : ℕ) → p ≡ a ++ m ∷ [] → got ≡ (if nat_lt (length r.spot.turns) (length turns) then a ++ m ∷ drop (length r.spot.turns) turns else a))
+    → got ≡ inside (option_and_then (slice_get (nests_behind [] rs)) (Some n)) turns
+around_is rs n p r known turns got is hp hr f =
+    let it = inside_at [] rs n p r (ap (λ l. slice_get l n) (sym is) ∙ hp) hr in
+    let nest : Nest = it.0 in
+    f nest.around r.spot.statement it.2
+    ∙ (ap (λ (s : Spot). if nat_lt (length s.turns) (length turns) then nest.around ++ s.statement ∷ drop (length s.turns) turns else nest.around) (sym it.3)
+    ∙ ap (λ o. inside o turns) (sym it.1))
+
+pub none_around : (rs : List Record) (n : ℕ) (known : List Path) (turns : List ℕ) → known ≡ paths rs → slice_get known n ≡ None → [] ≡ inside (option_and_then (slice_get (nests_behind [] rs)) (Some n)) turns
+none_around rs n known turns is h = ap (λ o. inside o turns) (sym (behind [] rs n (ap (λ l. slice_get l n) (sym is) ∙ h)))
+  where
+    behind : (ns : List Nest) (rs : List Record) (n : ℕ) → slice_get (map path (nests_behind ns rs)) n ≡ None → slice_get (nests_behind ns rs) n ≡ None
+    behind ns [] n h = refl
+    behind ns (x ∷ rs) zero h = cc
+    behind ns (x ∷ rs) (suc n) h = behind (ns ++ nest_of ns x ∷ []) rs n h

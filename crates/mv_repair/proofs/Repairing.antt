@@ -1,0 +1,107 @@
+-- The beginning and the end of a repair.
+use Rattle.std.proofs.Common.{◌≡◌, ℕ, ◌+◌, ◌*◌, Bool, true, Option, List, [], ◌++◌, length, refl, sym, ap, subst, ◌∙◌, arith, append-nil}
+use Rattle.mv_values.specs.declared.calls.Call.{Call}
+use Rattle.mv_record.specs.declared.record.Record.{Record}
+use Rattle.mv_record.specs.Paths.{paths}
+use Rattle.mv_record.specs.Runs.{Tables, writes_in}
+use Rattle.mv_view.specs.Viewing.{Sight}
+use Rattle.mv_effect.specs.Looking.{AskedAtMost, different}
+use Rattle.mv_graph.specs.declared.graph.Graph.{Graph}
+use Rattle.mv_graph.specs.Nodes.{meaning_of}
+use Rattle.mv_exec.specs.declared.task.Task.{Task}
+use Rattle.mv_exec.specs.Running.{IsTaskOf, IsSameCall, IsUnchanged}
+use Rattle.mv_exec.proofs.Fronts.{ends_exactly, one_run}
+use Rattle.mv_history.specs.declared.change.Change.{Change}
+use Rattle.mv_history.specs.Kept.{Path, Placed, with_paths, executions, kept_paths}
+use Rattle.mv_alike.proofs.Placing.{its_all}
+use Rattle.mv_repair.specs.declared.walk.OldRun.{OldRun}
+use Rattle.mv_repair.specs.declared.walk.NewRun.{NewRun}
+use Rattle.mv_repair.specs.Repairing.{IsRepairable, queried, HasQueried}
+use Rattle.mv_repair.specs.Walking.{hits_in, IsOld, IsNew, IsUnderway}
+use Rattle.mv_repair.proofs.Asking.{keys_within, queried_once}
+use Rattle.mv_repair.proofs.Placing.{placed_paths}
+
+-- The beginning
+
+pub begins : (g : Graph) (changes : List Change) (db : Tables) (was task : Task) (old : OldRun) (new : NewRun) → IsRepairable g was changes db → IsSameCall g was task → task.records ≡ [] → task.executed ≡ 0
+    → old ≡ record { records = was.records; paths = paths was.records; hits = hits_in changes [] was.records; at = 0; others = [] } → new ≡ record { paths = []; kept = []; others = [] }
+    → IsUnderway g changes db was.records task old new
+begins g changes db was task old new r same none zero old_is new_is = record {
+  call = r.call;
+  was = r.old;
+  runs = r.runs;
+  olds = r.records;
+  is = same r.call r.is;
+  left = (meaning_of g r.call db).records;
+  leaves = ap (λ l. l ++ (meaning_of g r.call db).records) (sym none);
+  rest = rest;
+  split = ap (λ l. with_paths l ++ rest) (sym none);
+  beside =
+      subst (λ (rs : List Record). IsOld changes was.records (kept_paths was.records rs changes) rest old) (sym none)
+      (subst (IsOld changes was.records [] rest) (sym old_is) (record {
+        passed = [];
+        coming = with_paths was.records;
+        split = refl;
+        at = refl;
+        records = sym (its_all was.records);
+        paths = sym (placed_paths was.records);
+        hits = ap (hits_in changes []) (sym (its_all was.records));
+        others = refl;
+        numbers = tt;
+        below = tt;
+        behind = tt;
+      }));
+  along =
+      subst (λ (rs : List Record). IsNew was.records (kept_paths was.records rs changes) rest rs new) (sym none)
+      (subst (IsNew was.records [] rest []) (sym new_is) (record { paths = refl; marks = tt; others = refl; numbers = tt; behind = tt }));
+  count = subst (λ (rs : List Record). task.executed + length (kept_paths was.records rs changes) ≡ length rs) (sym none) (omega (arith, zero));
+}
+  where
+    rest : List Placed
+    rest = with_paths (meaning_of g r.call db).records
+
+same_old : (a b : List Record) (ps qs : List Path) (hs is : List Bool) (ns : List ℕ) → a ≡ b → ps ≡ qs → hs ≡ is → ns ≡ []
+    → ◌≡◌ {A = OldRun} (record { records = a; paths = ps; hits = hs; at = 0; others = ns }) (record { records = b; paths = qs; hits = is; at = 0; others = [] })
+same_old a b ps qs hs is ns h k l m =
+    ap (λ x. (let o : OldRun = record { records = x; paths = ps; hits = hs; at = 0; others = ns } in o)) h
+    ∙ (ap (λ x. (let o : OldRun = record { records = b; paths = x; hits = hs; at = 0; others = ns } in o)) k
+    ∙ (ap (λ x. (let o : OldRun = record { records = b; paths = qs; hits = x; at = 0; others = ns } in o)) l
+    ∙ ap (λ x. (let o : OldRun = record { records = b; paths = qs; hits = is; at = 0; others = x } in o)) m))
+
+same_new : (ps : List Path) (ks : List (Option ℕ)) (ns : List ℕ) → ps ≡ [] → ks ≡ [] → ns ≡ [] → ◌≡◌ {A = NewRun} (record { paths = ps; kept = ks; others = ns }) (record { paths = []; kept = []; others = [] })
+same_new ps ks ns h k l =
+    ap (λ x. (let o : NewRun = record { paths = x; kept = ks; others = ns } in o)) h
+    ∙ (ap (λ x. (let o : NewRun = record { paths = []; kept = x; others = ns } in o)) k ∙ ap (λ x. (let o : NewRun = record { paths = []; kept = []; others = x } in o)) l)
+
+-- what `repair` makes
+pub begun : (g : Graph) (changes : List Change) (db : Tables) (was task : Task) (rs : List Record) (ps : List Path) (hs : List Bool) (ns : List ℕ) (qs : List Path) (ks : List (Option ℕ)) (ms : List ℕ)
+    → IsRepairable g was changes db → IsSameCall g was task → task.records ≡ [] → task.executed ≡ 0
+    → rs ≡ was.records → ps ≡ paths was.records → hs ≡ hits_in changes [] was.records → ns ≡ [] → qs ≡ [] → ks ≡ [] → ms ≡ []
+    → IsUnderway g changes db was.records task (record { records = rs; paths = ps; hits = hs; at = 0; others = ns }) (record { paths = qs; kept = ks; others = ms })
+begun g changes db was task rs ps hs ns qs ks ms r same none zero a b c d e f h =
+    begins g changes db was task _ _ r same none zero (same_old rs was.records ps (paths was.records) hs (hits_in changes [] was.records) ns a b c d) (same_new qs ks ms e f h)
+
+-- nothing was queried yet
+pub none_queried : (os ns : List Record) (changes : List Change) (vain : ℕ) (now : Sight) → HasQueried os ns changes vain now now
+none_queried os ns changes vain now = record { for_rows = omega arith; for_row = omega arith }
+
+-- The end
+
+pub all_there : (g : Graph) (changes : List Change) (db : Tables) (os : List Record) (task : Task) (old : OldRun) (new : NewRun) → IsUnderway g changes db os task old new → task.ended ≡ true
+    → (call : Call) → IsTaskOf g call task → task.records ≡ (meaning_of g call db).records
+all_there g changes db os task old new u ended call is =
+    let none : u.left ≡ [] = (ends_exactly g u.call db task u.left u.is u.runs.new_is.rising u.leaves).0 ended in
+    sym (append-nil task.records) ∙ (ap (λ rs. task.records ++ rs) (sym none) ∙ (sym u.leaves ∙ one_run g u.call call task db u.is is))
+
+pub all_counted : (g : Graph) (changes : List Change) (db : Tables) (os : List Record) (task : Task) (old : OldRun) (new : NewRun) → IsUnderway g changes db os task old new → task.executed ≡ executions os task.records changes
+all_counted g changes db os task old new u = omega (arith, u.count)
+
+-- A record that was tried in vain
+
+pub tried : (os : List Record) (task task' : Task) (changes : List Change) (start now after : Sight) → HasQueried os task.records changes 0 start now → IsUnchanged task task' → AskedAtMost 1 (different (writes_in task.records)) now after
+    → HasQueried os task'.records changes 1 start after
+tried os task task' changes start now after q same last =
+    subst (λ (rs : List Record). HasQueried os rs changes 1 start after) (sym same.records)
+    (queried_once (length (queried os task.records changes) + 0) (length (queried os task.records changes) + 1) 1 (different (writes_in task.records)) (different (writes_in (os ++ task.records))) start now after q
+    (record { for_rows = last.for_rows; for_row = let one : 1 * different (writes_in task.records) ≡ different (writes_in task.records) = omega arith in omega (arith, last.for_row, one) })
+    (keys_within os task.records) (omega arith))

@@ -1,0 +1,418 @@
+-- One record more of a repair.
+use Rattle.std.proofs.Common.{◌≡◌, ◌<◌, ◌≤◌, ◌*◌, ℕ, ◌+◌, Bool, true, false, List, [], ◌∷◌, ◌++◌, Option, Some, None, length, if◌then◌else◌, refl, sym, ap, subst, ◌∙◌, arith, append_assoc, append-nil, length-append}
+use Rattle.std.specs.Prelude.{◌&&◌, slice_get}
+use Rattle.std.proofs.lemmas.List.{append_cancel_left}
+use Rattle.std.proofs.lemmas.Grind.{flat_map-append}
+use Rattle.std.proofs.lemmas.Option.{slice_get_within}
+use Rattle.mv_values.specs.declared.calls.Call.{Call}
+use Rattle.mv_record.specs.declared.record.Record.{Record}
+use Rattle.mv_record.specs.declared.record.Spot.{Spot}
+use Rattle.mv_record.specs.Effects.{record_of, effect_in}
+use Rattle.mv_record.specs.Paths.{paths, IsEarlierPath}
+use Rattle.mv_record.specs.Runs.{Tables, writes_in, IsEarlier, ReadsEarlier, NamesEarlier}
+use Rattle.mv_record.specs.Writes.{AreRising}
+use Rattle.mv_recorded.specs.Own.{Each}
+use Rattle.mv_recorded.proofs.Held.{get_last}
+use Rattle.mv_recorded.proofs.Naming.{recorded_names}
+use Rattle.mv_recorded.proofs.Rising.{recorded_rises}
+use Rattle.mv_view.specs.Viewing.{Sight}
+use Rattle.mv_effect.specs.Looking.{AskedAtMost, different}
+use Rattle.mv_graph.specs.declared.graph.Graph.{Graph}
+use Rattle.mv_graph.specs.Nodes.{meaning_of}
+use Rattle.mv_exec.specs.declared.task.Ahead.{Ahead}
+use Rattle.mv_exec.specs.declared.task.Task.{Task}
+use Rattle.mv_exec.specs.Running.{IsTaskOf, IsTaskOn, IsSameCall, IsSameCallOn, Leaves, Foresees, IsNext, HasContent, HasRun}
+use Rattle.mv_exec.specs.Tasks.{left_of}
+use Rattle.mv_exec.proofs.Adding.{first_same}
+use Rattle.mv_history.specs.declared.change.Change.{Change}
+use Rattle.mv_history.specs.Kept.{Path, Placed, with_paths, next_placed, among, at, stays, keep, kept_paths, other_writes}
+use Rattle.mv_history.proofs.Joining.{placed_front}
+use Rattle.mv_alike.specs.Laws.{AreAlike}
+use Rattle.mv_alike.proofs.Keeping.{Climbs, climbs_of, among_new}
+use Rattle.mv_alike.proofs.Meant.{next_same}
+use Rattle.mv_repair.specs.declared.walk.OldRun.{OldRun}
+use Rattle.mv_repair.specs.declared.walk.NewRun.{NewRun}
+use Rattle.mv_repair.specs.Repairing.{queried, HasQueried}
+use Rattle.mv_repair.specs.Walking.{path_behind, is_before, writes_of, next_stays, is_there, stays_at, added, renewed, IsOld, AreMarked, IsNew, IsUnderway, HasPassed, HasKept}
+use Rattle.mv_repair.specs.Stepping.{HasStepped, IsOnWay}
+use Rattle.mv_repair.proofs.Asking.{one, keys_within, keys_more, executed_counts, kept_counts, still_queried, queried_once, asked_one}
+use Rattle.mv_repair.proofs.Deciding.{Decides, Found, decided, found_old, names_at}
+use Rattle.mv_recorded.proofs.Inverting.{each_join}
+use Rattle.mv_alike.proofs.Lasting.{each_map}
+use Rattle.mv_repair.proofs.Lists.{writes_before}
+use Rattle.mv_repair.proofs.Marking.{not_among, marks_more, marks_still}
+use Rattle.mv_repair.proofs.Passing.{all_apart, behind_first, others_both, others_still, one_other, no_other, old_kept, old_left}
+use Rattle.mv_repair.proofs.Placing.{placed_more, paths_more, climbs_around}
+
+-- The next record of the full run
+
+-- the record that was added is the next one
+one_more : (all xs : List Record) (next r : Record) (ys zs : List Record) → all ≡ (xs ++ next ∷ []) ++ ys → all ≡ xs ++ r ∷ zs → (next ≡ r) × (ys ≡ zs)
+one_more all xs next r ys zs h k = first_same next r ys zs (append_cancel_left xs (next ∷ ys) (r ∷ zs) (sym (append_assoc xs (next ∷ []) ys) ∙ (sym h ∙ k)))
+
+pub record Comes (g : Graph) (changes : List Change) (db : Tables) (os : List Record) (task : Task) (old : OldRun) (new : NewRun) (u : IsUnderway g changes db os task old new) (ahead : Ahead) (p : Path) : Type 0 where
+  pub r : Record
+  pub tail : List Record
+  pub more : List Placed
+  pub left_is : u.left ≡ r ∷ tail
+  pub rest_is : u.rest ≡ next_placed task.records r ∷ more
+  pub all : (meaning_of g u.call db).records ≡ task.records ++ r ∷ tail
+  pub placed : with_paths (meaning_of g u.call db).records ≡ with_paths task.records ++ next_placed task.records r ∷ more
+  pub parent : r.parent ≡ ahead.parent
+  pub reads : r.reads ≡ ahead.reads
+  pub path : (next_placed task.records r).path ≡ p
+  pub before : Each (λ (a : Placed). IsEarlierPath a.path (next_placed task.records r).path) (with_paths task.records)
+  pub later : Each (λ (c : Placed). IsEarlierPath (next_placed task.records r).path c.path) more
+  pub early : IsEarlier (length task.records) r.parent
+  pub early_reads : ReadsEarlier (length task.records) r.reads
+
+pub comes : (g : Graph) (changes : List Change) (db : Tables) (os : List Record) (task : Task) (old : OldRun) (new : NewRun) (u : IsUnderway g changes db os task old new) (ahead : Ahead) (p : Path) → IsNext g task (Some ahead)
+    → p ≡ path_behind task.records ahead.spot ahead.parent → Comes g changes db os task old new u ahead p
+comes g changes db os task old new u ahead p next is = by u.left refl (next u.call db u.left u.is u.runs.new_is.rising u.leaves)
+  where
+    by : (l : List Record) → u.left ≡ l → Foresees (Some ahead) l → Comes g changes db os task old new u ahead p
+    by [] e f = absurd f
+    by (r ∷ tail) e f =
+        let all : (meaning_of g u.call db).records ≡ task.records ++ r ∷ tail = u.leaves ∙ ap (λ l. task.records ++ l) e in
+        let it = placed_front task.records r tail in
+        let placed : with_paths (meaning_of g u.call db).records ≡ with_paths task.records ++ next_placed task.records r ∷ it.0 = ap with_paths all ∙ it.1 in
+        let around = climbs_around (with_paths task.records) (next_placed task.records r) it.0 (subst Climbs placed (climbs_of (meaning_of g u.call db).records (recorded_rises g.tables g.procedure u.call db))) in
+        let names = names_at task.records r tail (length task.records) refl (subst (NamesEarlier 0) all (recorded_names g.tables g.procedure u.call db)) in
+        record {
+          r = r;
+          tail = tail;
+          more = it.0;
+          left_is = e;
+          rest_is = append_cancel_left (with_paths task.records) u.rest (next_placed task.records r ∷ it.0) (sym u.split ∙ placed);
+          all = all;
+          placed = placed;
+          parent = f.1;
+          reads = f.2;
+          path = ap (λ (s : Spot). path_behind task.records s r.parent) f.0 ∙ (ap (path_behind task.records ahead.spot) f.1 ∙ sym is);
+          before = around.0;
+          later = around.1;
+          early = names.0;
+          early_reads = names.1;
+        }
+
+-- What is kept after one record more
+
+keep_more : (changes : List Change) (os : List Placed) (ks : List Path) (ns xs : List Placed) (r : Placed) → keep changes os ks ns (xs ++ r ∷ [])
+    ≡ (if stays changes (keep changes os ks ns xs) os (ns ++ xs) r then keep changes os ks ns xs ++ r.path ∷ [] else keep changes os ks ns xs)
+keep_more changes os ks ns [] r = ap (λ l. if stays changes ks os l r then ks ++ r.path ∷ [] else ks) (sym (append-nil ns))
+keep_more changes os ks ns (x ∷ xs) r =
+    let k : List Path = if stays changes ks os ns x then ks ++ x.path ∷ [] else ks in
+    let all : List Path = keep changes os k (ns ++ x ∷ []) xs in
+    keep_more changes os k (ns ++ x ∷ []) xs r ∙ ap (λ l. if stays changes all os l r then all ++ r.path ∷ [] else all) (append_assoc ns (x ∷ []) xs)
+
+kept_is : (changes : List Change) (os ns : List Record) (r : Record) (b : Bool) → stays changes (kept_paths os ns changes) (with_paths os) (with_paths ns) (next_placed ns r) ≡ b
+    → kept_paths os (ns ++ r ∷ []) changes ≡ (if b then kept_paths os ns changes ++ (next_placed ns r).path ∷ [] else kept_paths os ns changes)
+kept_is changes os ns r b h =
+    ap (keep changes (with_paths os) [] []) (placed_more ns r)
+    ∙ (keep_more changes (with_paths os) [] [] (with_paths ns) (next_placed ns r)
+    ∙ ap (λ b. if b then kept_paths os ns changes ++ (next_placed ns r).path ∷ [] else kept_paths os ns changes) h)
+
+-- The new run with one record more
+
+rest_behind : (b : Placed) (more : List Placed) (ks : List Path) → Each (λ k. Each (λ (c : Placed). IsEarlierPath k c.path) (b ∷ more)) ks → Each (λ k. Each (λ (c : Placed). IsEarlierPath k c.path) more) ks
+rest_behind b more ks h = each_map (λ k. Each (λ (c : Placed). IsEarlierPath k c.path) (b ∷ more)) (λ k. Each (λ (c : Placed). IsEarlierPath k c.path) more) ks (λ k l. l.1) h
+
+numbers_more : (m n : ℕ) (ks : List ℕ) → n ≡ m + 1 → Each (λ k. k < m) ks → Each (λ k. k < n) ks
+numbers_more m n ks e h = each_map (λ k. k < m) (λ k. k < n) ks (λ k lt. omega (arith, e, lt)) h
+
+long : (ns : List Record) (r : Record) → length (ns ++ r ∷ []) ≡ length ns + 1
+long ns r = length-append ns (r ∷ [])
+
+new_kept : (os ns : List Record) (r : Record) (kept : List Path) (more : List Placed) (new : NewRun) (p : Path) (number : ℕ) (o : Placed) → IsNew os kept (next_placed ns r ∷ more) ns new → (next_placed ns r).path ≡ p
+    → Each (λ (a : Placed). IsEarlierPath a.path (next_placed ns r).path) (with_paths ns) → Each (λ (c : Placed). IsEarlierPath (next_placed ns r).path c.path) more
+    → slice_get (with_paths os) number ≡ Some o → o.path ≡ (next_placed ns r).path → IsNew os (kept ++ (next_placed ns r).path ∷ []) more (ns ++ r ∷ []) (added p (Some number) new)
+new_kept os ns r kept more new p number o h is before later there same =
+    let b : Placed = next_placed ns r in
+    let others : List Path = kept ++ b.path ∷ [] in
+    let apart = all_apart b.path (with_paths ns) before in
+    record {
+      paths = ap (λ l. l ++ p ∷ []) h.paths ∙ (ap (λ q. paths ns ++ q ∷ []) (sym is) ∙ sym (paths_more ns r));
+      marks = subst (λ l. AreMarked others (with_paths os) l (new.kept ++ Some number ∷ [])) (sym (placed_more ns r))
+          (marks_more others (with_paths os) (with_paths ns) new.kept b (Some number) (marks_still kept b.path (with_paths os) (with_paths ns) new.kept apart h.marks) (among_new kept b.path, (o, there, same)));
+      others =
+          writes_before ns (r ∷ []) new.others h.numbers
+          ∙ (h.others
+          ∙ (sym (others_still kept b.path (with_paths ns) apart)
+          ∙ (sym (append-nil (other_writes others (with_paths ns)))
+          ∙ (ap (λ ws. other_writes others (with_paths ns) ++ ws) (sym (no_other others b (among_new kept b.path)))
+          ∙ (sym (others_both others (with_paths ns) (b ∷ [])) ∙ ap (other_writes others) (sym (placed_more ns r)))))));
+      numbers = numbers_more (length ns) (length (ns ++ r ∷ [])) new.others (long ns r) h.numbers;
+      behind = each_join (λ k. Each (λ (c : Placed). IsEarlierPath k c.path) more) kept (b.path ∷ []) (rest_behind b more kept h.behind) (later, tt);
+    }
+
+new_executed : (os ns : List Record) (r : Record) (kept : List Path) (more : List Placed) (new : NewRun) (p : Path) → IsNew os kept (next_placed ns r ∷ more) ns new → (next_placed ns r).path ≡ p
+    → IsNew os kept more (ns ++ r ∷ []) (renewed p (length ns) new)
+new_executed os ns r kept more new p h is =
+    let b : Placed = next_placed ns r in
+    let no : among kept b.path ≡ false = not_among kept b.path (behind_first b more kept h.behind) in
+    record {
+      paths = ap (λ l. l ++ p ∷ []) h.paths ∙ (ap (λ q. paths ns ++ q ∷ []) (sym is) ∙ sym (paths_more ns r));
+      marks = subst (λ l. AreMarked kept (with_paths os) l (new.kept ++ None ∷ [])) (sym (placed_more ns r)) (marks_more kept (with_paths os) (with_paths ns) new.kept b None h.marks no);
+      others =
+          flat_map-append (λ n. writes_of (slice_get (ns ++ r ∷ []) n)) new.others (length ns ∷ [])
+          ∙ (ap (λ ws. ws ++ (writes_of (slice_get (ns ++ r ∷ []) (length ns)) ++ [])) (writes_before ns (r ∷ []) new.others h.numbers ∙ h.others)
+          ∙ (ap (λ q. other_writes kept (with_paths ns) ++ (writes_of q ++ [])) (get_last ns r [])
+          ∙ (ap (λ ws. other_writes kept (with_paths ns) ++ ws) (append-nil r.writes ∙ sym (one_other kept b no))
+          ∙ (sym (others_both kept (with_paths ns) (b ∷ [])) ∙ ap (other_writes kept) (sym (placed_more ns r))))));
+      numbers = each_join (λ n. n < length (ns ++ r ∷ [])) new.others (length ns ∷ []) (numbers_more (length ns) (length (ns ++ r ∷ [])) new.others (long ns r) h.numbers) (let e = long ns r in omega (arith, e), tt);
+      behind = rest_behind b more kept h.behind;
+    }
+
+-- The walk goes on
+
+went_on : (g : Graph) (changes : List Change) (db : Tables) (os : List Record) (task : Task) (old : OldRun) (new : NewRun) (u : IsUnderway g changes db os task old new) (ahead : Ahead) (p : Path)
+    → (c : Comes g changes db os task old new u ahead p) → (task' : Task) (old' : OldRun) (new' : NewRun) (ks : List Path) → IsTaskOf g u.call task' → task'.records ≡ task.records ++ c.r ∷ [] → Leaves g u.call db task' c.tail
+    → kept_paths os (task.records ++ c.r ∷ []) changes ≡ ks → IsOld changes os ks c.more old' → IsNew os ks c.more (task.records ++ c.r ∷ []) new' → task'.executed + length ks ≡ length (task.records ++ c.r ∷ []) → IsUnderway g changes db os task' old' new'
+went_on g changes db os task old new u ahead p c task' old' new' ks is records leaves kept beside along count = record {
+  call = u.call;
+  was = u.was;
+  runs = u.runs;
+  olds = u.olds;
+  is = is;
+  left = c.tail;
+  leaves = leaves;
+  rest = c.more;
+  split =
+      c.placed
+      ∙ (sym (append_assoc (with_paths task.records) (next_placed task.records c.r ∷ []) c.more)
+      ∙ ap (λ l. l ++ c.more) (sym (placed_more task.records c.r) ∙ ap with_paths (sym records)));
+  beside = subst (λ k. IsOld changes os k c.more old') (sym paths') beside;
+  along = subst (λ k. IsNew os k c.more task'.records new') (sym paths') (subst (λ (l : List Record). IsNew os ks c.more l new') (sym records) along);
+  count = ap (λ k. task'.executed + length k) paths' ∙ (count ∙ ap length (sym records));
+}
+  where
+    paths' : kept_paths os task'.records changes ≡ ks
+    paths' = ap (λ (l : List Record). kept_paths os l changes) records ∙ kept
+
+less_left : (g : Graph) (call : Call) (db : Tables) (task task' : Task) (r : Record) (tail : List Record) → AreRising db → IsTaskOf g call task → IsTaskOf g call task' → Leaves g call db task (r ∷ tail) → Leaves g call db task' tail
+    → length (left_of g.procedure g.tables task' db) < length (left_of g.procedure g.tables task db)
+less_left g call db task task' r tail rise is is' leaves leaves' =
+    let here : left_of g.procedure g.tables task db ≡ r ∷ tail = is.left db (r ∷ tail) rise leaves in
+    let there : left_of g.procedure g.tables task' db ≡ tail = is'.left db tail rise leaves' in
+    omega (arith, ap length here, ap length there)
+
+-- what the walk knows of the next record, where the old run was passed up to its path
+decides : (g : Graph) (changes : List Change) (db : Tables) (os : List Record) (task : Task) (old mid : OldRun) (new : NewRun) (u : IsUnderway g changes db os task old new) (ahead : Ahead) (p : Path)
+    → (c : Comes g changes db os task old new u ahead p) → HasPassed old p mid → is_before (slice_get mid.paths mid.at) p ≡ false
+    → Decides changes os (kept_paths os task.records changes) task.records (next_placed task.records c.r) c.more ahead mid new
+decides g changes db os task old mid new u ahead p c passed stops = record {
+  climbs = subst (λ (l : List Record). Climbs (with_paths l)) (sym u.olds) (climbs_of (meaning_of g u.call u.was).records (recorded_rises g.tables g.procedure u.call u.was));
+  names = subst (NamesEarlier 0) (sym u.olds) (recorded_names g.tables g.procedure u.call u.was);
+  parent = c.parent;
+  reads = c.reads;
+  early = c.early;
+  early_reads = c.early_reads;
+  beside = passed changes os kept (next_placed task.records c.r) c.more c.path c.later (subst (λ l. IsOld changes os kept l old) c.rest_is u.beside);
+  along = subst (λ l. IsNew os kept l task.records new) c.rest_is u.along;
+  stops = ap (is_before (slice_get mid.paths mid.at)) c.path ∙ stops;
+}
+  where
+    kept : List Path
+    kept = kept_paths os task.records changes
+
+-- what the rule says of the next record
+says : (g : Graph) (changes : List Change) (db : Tables) (os : List Record) (task : Task) (old mid : OldRun) (new : NewRun) (u : IsUnderway g changes db os task old new) (ahead : Ahead) (p : Path)
+    → (c : Comes g changes db os task old new u ahead p) → Decides changes os (kept_paths os task.records changes) task.records (next_placed task.records c.r) c.more ahead mid new
+    → (b : Bool) → stays_at mid new task.records ahead p ≡ b
+    → stays changes (kept_paths os task.records changes) (with_paths os) (with_paths task.records) (next_placed task.records c.r) ≡ b
+says g changes db os task old mid new u ahead p c d b h =
+    sym (decided changes os (kept_paths os task.records changes) task.records (next_placed task.records c.r) c.more ahead mid new d)
+    ∙ (ap (stays_at mid new task.records ahead) c.path ∙ h)
+
+same_content : (o r : Record) → effect_in o ≡ effect_in r → r ≡ record o { spot = r.spot; parent = r.parent; reads = r.reads }
+same_content o r h = ap (record_of r.spot r.parent r.reads) (sym h)
+
+-- a record that stays has the content of the old one
+alike : (g : Graph) (changes : List Change) (db : Tables) (os : List Record) (task : Task) (old : OldRun) (new : NewRun) (u : IsUnderway g changes db os task old new) (ahead : Ahead) (p : Path)
+    → (c : Comes g changes db os task old new u ahead p) → (o : Placed) → at (next_placed task.records c.r).path (with_paths os) ≡ Some o
+    → stays changes (kept_paths os task.records changes) (with_paths os) (with_paths task.records) (next_placed task.records c.r) ≡ true → HasContent o.it c.r
+alike g changes db os task old new u ahead p c o found h =
+    let b : Placed = next_placed task.records c.r in
+    let it : AreAlike (with_paths (meaning_of g u.call u.was).records) (with_paths (meaning_of g u.call db).records) o.it c.r =
+    next_same g.tables g.procedure u.call u.was db changes u.runs (with_paths task.records) b c.more o c.placed
+    (subst (λ (l : List Record). at b.path (with_paths l) ≡ Some o) u.olds found)
+    (subst (λ (l : List Record). stays changes (keep changes (with_paths l) [] [] (with_paths task.records)) (with_paths l) (with_paths task.records) b ≡ true) u.olds h) in
+    same_content o.it c.r it.effect
+
+-- What the walk decides
+
+-- the old run was passed up to the path of the next record, and the walk has decided whether that record stays
+pub record HasDecided (g : Graph) (task : Task) (old mid : OldRun) (new : NewRun) (ahead : Ahead) (p : Path) (b : Bool) : Type 0 where
+  pub next : IsNext g task (Some ahead)
+  pub path : p ≡ path_behind task.records ahead.spot ahead.parent
+  pub passed : HasPassed old p mid
+  pub stops : is_before (slice_get mid.paths mid.at) p ≡ false
+  pub stays : stays_at mid new task.records ahead p ≡ b
+
+-- the same of what `step` has
+pub has_decided : (g : Graph) (task : Task) (old mid : OldRun) (new : NewRun) (o : Option Ahead) (ahead : Ahead) (p q u : Path) (rs ss : List Record) (r b : Bool) → IsNext g task o → o ≡ Some ahead
+    → rs ≡ task.records → p ≡ path_behind rs ahead.spot ahead.parent → q ≡ p → HasPassed old q mid → is_before (slice_get mid.paths mid.at) q ≡ false
+    → ss ≡ task.records → u ≡ p → r ≡ stays_at mid new ss ahead u → r ≡ b → HasDecided g task old mid new ahead p b
+has_decided g task old mid new o ahead p q u rs ss r b next some first path second passed stops third fourth stays is = record {
+  next = subst (IsNext g task) some next;
+  path = subst (λ (xs : List Record). p ≡ path_behind xs ahead.spot ahead.parent) first path;
+  passed = subst (λ (x : Path). HasPassed old x mid) second passed;
+  stops = subst (λ (x : Path). is_before (slice_get mid.paths mid.at) x ≡ false) second stops;
+  stays = sym (ap (λ (xs : List Record). stays_at mid new xs ahead u) third ∙ ap (stays_at mid new task.records ahead) fourth) ∙ (sym stays ∙ is);
+}
+
+-- A record that is kept
+
+-- the next record stays, and was kept
+pub record Keeps (g : Graph) (task : Task) (old mid : OldRun) (new : NewRun) (ahead : Ahead) (p : Path) (task' : Task) (old' : OldRun) (new' : NewRun) : Type 0 where
+  pub decided : HasDecided g task old mid new ahead p true
+  pub same : IsSameCall g task task'
+  pub kept : HasKept g task mid new p task' old' new'
+
+-- what that leaves
+record Kept (g : Graph) (changes : List Change) (db : Tables) (os : List Record) (task : Task) (old : OldRun) (new : NewRun) (u : IsUnderway g changes db os task old new) (ahead : Ahead) (p : Path) (task' : Task) (old' : OldRun) (new' : NewRun) : Type 0 where
+  c : Comes g changes db os task old new u ahead p
+  records : task'.records ≡ task.records ++ c.r ∷ []
+  leaves : Leaves g u.call db task' c.tail
+  kept : kept_paths os (task.records ++ c.r ∷ []) changes ≡ kept_paths os task.records changes ++ (next_placed task.records c.r).path ∷ []
+  went : IsUnderway g changes db os task' old' new'
+
+some_same : (a b : Record) → Some a ≡ Some b → a ≡ b
+some_same a b e = cc
+
+it_kept : (g : Graph) (changes : List Change) (db : Tables) (os : List Record) (task : Task) (old mid : OldRun) (new : NewRun) (u : IsUnderway g changes db os task old new) (ahead : Ahead) (p : Path) (task' : Task) (old' : OldRun) (new' : NewRun)
+    → Keeps g task old mid new ahead p task' old' new' → Kept g changes db os task old new u ahead p task' old' new'
+it_kept g changes db os task old mid new u ahead p task' old' new' k =
+    let c : Comes g changes db os task old new u ahead p = comes g changes db os task old new u ahead p k.decided.next k.decided.path in
+    let b : Placed = next_placed task.records c.r in
+    let ks : List Path = kept_paths os task.records changes in
+    let d : Decides changes os ks task.records b c.more ahead mid new = decides g changes db os task old mid new u ahead p c k.decided.passed k.decided.stops in
+    let h : stays changes ks (with_paths os) (with_paths task.records) b ≡ true = says g changes db os task old mid new u ahead p c d true k.decided.stays in
+    let f : Found changes os ks task.records b c.more ahead mid new d = found_old changes os ks task.records b c.more ahead mid new d
+    (ap (stays_at mid new task.records ahead) c.path ∙ k.decided.stays) in
+    let given : k.kept.given ≡ f.o.it = some_same k.kept.given f.o.it (sym k.kept.there ∙ f.old_record) in
+    let content : HasContent k.kept.given c.r = subst (λ q. HasContent q c.r) (sym given) (alike g changes db os task old new u ahead p c f.o f.found h) in
+    let leaves : Leaves g u.call db task (c.r ∷ c.tail) = subst (Leaves g u.call db task) c.left_is u.leaves in
+    let leaves' : Leaves g u.call db task' c.tail = k.kept.goes_on u.call db c.r c.tail u.is u.runs.new_is.rising leaves content in
+    let one = one_more (meaning_of g u.call db).records task.records k.kept.adopted.next c.r c.tail c.tail (leaves' ∙ ap (λ l. l ++ c.tail) k.kept.adopted.records) c.all in
+    let records : task'.records ≡ task.records ++ c.r ∷ [] = k.kept.adopted.records ∙ ap (λ q. task.records ++ q ∷ []) one.0 in
+    let kept : kept_paths os (task.records ++ c.r ∷ []) changes ≡ ks ++ b.path ∷ [] = kept_is changes os task.records c.r true h in
+    record {
+      c = c;
+      records = records;
+      leaves = leaves';
+      kept = kept;
+      went =
+          went_on g changes db os task old new u ahead p c task' old' new' (ks ++ b.path ∷ []) (k.same u.call u.is) records leaves' kept
+          (subst (IsOld changes os (ks ++ b.path ∷ []) c.more) (sym k.kept.old_is) (old_kept changes os ks b c.more mid f.o f.cs d.climbs d.beside f.coming f.path c.later))
+          (subst (IsNew os (ks ++ b.path ∷ []) c.more (task.records ++ c.r ∷ [])) (sym k.kept.new_is)
+          (new_kept os task.records c.r ks c.more new p mid.at f.o d.along c.path c.before c.later f.there f.path))
+          (omega (arith, k.kept.adopted.executed, u.count, length-append ks (b.path ∷ []), length-append task.records (c.r ∷ [])));
+    }
+
+pub kept_step : (g : Graph) (db : Tables) (task : Task) (old mid : OldRun) (new : NewRun) (ahead : Ahead) (p : Path) (task' : Task) (old' : OldRun) (new' : NewRun) (now : Sight)
+    → Keeps g task old mid new ahead p task' old' new' → IsOnWay g db task old new → HasStepped g db task old new task' old' new' now now
+kept_step g db task old mid new ahead p task' old' new' now k w = record {
+  went = λ changes os u. (it_kept g changes db os task old mid new u ahead p task' old' new' k).went;
+  queried = λ changes os start u q.
+      let it : Kept g changes db os task old new u ahead p task' old' new' = it_kept g changes db os task old mid new u ahead p task' old' new' k in
+      let b : Placed = next_placed task.records it.c.r in
+      let count : length (queried os (task.records ++ it.c.r ∷ []) changes) ≡ length (queried os task.records changes) =
+      kept_counts os task.records it.c.r changes it.kept (among_new (kept_paths os task.records changes) b.path) (all_apart b.path (with_paths task.records) it.c.before) in
+      subst (λ (l : List Record). HasQueried os l changes 0 start now) (sym it.records)
+      (still_queried (length (queried os task.records changes) + 0) (length (queried os (task.records ++ it.c.r ∷ []) changes) + 0) (writes_in (os ++ task.records)) (writes_in (os ++ (task.records ++ it.c.r ∷ []))) start now
+      (omega (arith, count)) (keys_more os task.records it.c.r) q);
+  less =
+      let u : IsUnderway g w.changes db w.os task old new = w.underway in
+      let it : Kept g w.changes db w.os task old new u ahead p task' old' new' = it_kept g w.changes db w.os task old mid new u ahead p task' old' new' k in
+      less_left g u.call db task task' it.c.r it.c.tail u.runs.new_is.rising u.is (k.same u.call u.is) (subst (Leaves g u.call db task) it.c.left_is u.leaves) it.leaves;
+}
+
+-- A record that is executed
+
+-- the next record doesn't stay, and was executed
+pub record Renews (g : Graph) (db : Tables) (task : Task) (old mid : OldRun) (new : NewRun) (ahead : Ahead) (p : Path) (task' : Task) (new' : NewRun) (now after : Sight) : Type 0 where
+  pub decided : HasDecided g task old mid new ahead p false
+  pub same : IsSameCall g task task'
+  pub goes_on : IsSameCallOn g db task task'
+  pub ran : HasRun task task' now after
+  pub new_is : new' ≡ renewed p (length task.records) new
+  pub bounded : AskedAtMost 1 (different (writes_in task.records)) now after
+
+-- what that leaves
+record Renewed (g : Graph) (changes : List Change) (db : Tables) (os : List Record) (task : Task) (old mid : OldRun) (new : NewRun) (u : IsUnderway g changes db os task old new) (ahead : Ahead) (p : Path) (task' : Task) (new' : NewRun) (r : Record) : Type 0 where
+  c : Comes g changes db os task old new u ahead p
+  is : r ≡ c.r
+  records : task'.records ≡ task.records ++ c.r ∷ []
+  leaves : Leaves g u.call db task' c.tail
+  kept : kept_paths os (task.records ++ c.r ∷ []) changes ≡ kept_paths os task.records changes
+  behind : Each (λ k. IsEarlierPath k (next_placed task.records c.r).path) (kept_paths os task.records changes)
+  went : IsUnderway g changes db os task' mid new'
+
+it_renewed : (g : Graph) (changes : List Change) (db : Tables) (os : List Record) (task : Task) (old mid : OldRun) (new : NewRun) (u : IsUnderway g changes db os task old new) (ahead : Ahead) (p : Path) (task' : Task) (new' : NewRun) (now after : Sight)
+    → (k : Renews g db task old mid new ahead p task' new' now after) → Renewed g changes db os task old mid new u ahead p task' new' k.ran.next
+it_renewed g changes db os task old mid new u ahead p task' new' now after k =
+    let c : Comes g changes db os task old new u ahead p = comes g changes db os task old new u ahead p k.decided.next k.decided.path in
+    let b : Placed = next_placed task.records c.r in
+    let ks : List Path = kept_paths os task.records changes in
+    let d : Decides changes os ks task.records b c.more ahead mid new = decides g changes db os task old mid new u ahead p c k.decided.passed k.decided.stops in
+    let h : stays changes ks (with_paths os) (with_paths task.records) b ≡ false = says g changes db os task old mid new u ahead p c d false k.decided.stays in
+    let on : IsTaskOn g u.call db task' = k.goes_on u.call (record { is = u.is; rest = u.left; leaves = u.leaves }) in
+    let one = one_more (meaning_of g u.call db).records task.records k.ran.next c.r on.rest c.tail (on.leaves ∙ ap (λ l. l ++ on.rest) k.ran.records) c.all in
+    let records : task'.records ≡ task.records ++ c.r ∷ [] = k.ran.records ∙ ap (λ q. task.records ++ q ∷ []) one.0 in
+    let leaves : Leaves g u.call db task' c.tail = subst (Leaves g u.call db task') one.1 on.leaves in
+    let kept : kept_paths os (task.records ++ c.r ∷ []) changes ≡ ks = kept_is changes os task.records c.r false h in
+    record {
+      c = c;
+      is = one.0;
+      records = records;
+      leaves = leaves;
+      kept = kept;
+      behind = behind_first b c.more ks d.along.behind;
+      went =
+          went_on g changes db os task old new u ahead p c task' mid new' ks (k.same u.call u.is) records leaves kept (old_left changes os ks b c.more mid d.beside)
+          (subst (IsNew os ks c.more (task.records ++ c.r ∷ [])) (sym k.new_is) (new_executed os task.records c.r ks c.more new p d.along c.path))
+          (omega (arith, k.ran.executed, u.count, length-append task.records (c.r ∷ [])));
+    }
+
+pub renewed_step : (g : Graph) (db : Tables) (task : Task) (old mid : OldRun) (new : NewRun) (ahead : Ahead) (p : Path) (task' : Task) (new' : NewRun) (now after : Sight)
+    → Renews g db task old mid new ahead p task' new' now after → IsOnWay g db task old new → HasStepped g db task old new task' mid new' now after
+renewed_step g db task old mid new ahead p task' new' now after k w = record {
+  went = λ changes os u. (it_renewed g changes db os task old mid new u ahead p task' new' now after k).went;
+  queried = λ changes os start u q.
+      let it : Renewed g changes db os task old mid new u ahead p task' new' k.ran.next = it_renewed g changes db os task old mid new u ahead p task' new' now after k in
+      let b : Placed = next_placed task.records it.c.r in
+      let count : length (queried os (task.records ++ it.c.r ∷ []) changes) ≡ length (queried os task.records changes) + one it.c.r.preds =
+      executed_counts os task.records it.c.r changes it.kept (not_among (kept_paths os task.records changes) b.path it.behind) in
+      let asked : AskedAtMost (one it.c.r.preds) (one it.c.r.preds * different (writes_in task.records)) now after =
+      subst (λ (r : Record). AskedAtMost (one r.preds) (one r.preds * different (writes_in task.records)) now after) it.is (asked_one k.ran.next.preds (writes_in task.records) now after k.ran.asked k.bounded) in
+      let wide : different (writes_in task.records) ≤ different (writes_in (os ++ (task.records ++ it.c.r ∷ []))) = (let a = keys_within os task.records in let e = keys_more os task.records it.c.r in omega (arith, a, e)) in
+      subst (λ (l : List Record). HasQueried os l changes 0 start after) (sym it.records)
+      (queried_once (length (queried os task.records changes) + 0) (length (queried os (task.records ++ it.c.r ∷ []) changes) + 0) (one it.c.r.preds) (different (writes_in task.records)) (different (writes_in (os ++ (task.records ++ it.c.r ∷ [])))) start now after
+      (still_queried (length (queried os task.records changes) + 0) (length (queried os task.records changes) + 0) (writes_in (os ++ task.records)) (writes_in (os ++ (task.records ++ it.c.r ∷ []))) start now (omega arith) (keys_more os task.records it.c.r) q)
+      asked wide (omega (arith, count)));
+  less =
+      let u : IsUnderway g w.changes db w.os task old new = w.underway in
+      let it : Renewed g w.changes db w.os task old mid new u ahead p task' new' k.ran.next = it_renewed g w.changes db w.os task old mid new u ahead p task' new' now after k in
+      less_left g u.call db task task' it.c.r it.c.tail u.runs.new_is.rising u.is (k.same u.call u.is) (subst (Leaves g u.call db task) it.c.left_is u.leaves) it.leaves;
+}
+
+-- What the step needs
+
+clash : (b : Bool) → b ≡ true → b ≡ false → ⊥
+clash b h k = cc
+
+-- a record that stays is there
+pub stays_within : (old : OldRun) (new : NewRun) (ns : List Record) (ahead : Ahead) (p : Path) (r : Bool) → r ≡ stays_at old new ns ahead p → r ≡ true → old.at < length old.records
+stays_within old new ns ahead p r is h = by (slice_get old.records old.at) refl
+  where
+    second : (x y : Bool) → (x && y) ≡ true → y ≡ true
+    second true y e = e
+    second false y e = cc
+
+    next : next_stays old new ns ahead (slice_get old.records old.at) (slice_get old.hits old.at) ≡ true
+    next = second (is_there (slice_get old.paths old.at) p) (next_stays old new ns ahead (slice_get old.records old.at) (slice_get old.hits old.at)) (sym is ∙ h)
+
+    by : (o : Option Record) → slice_get old.records old.at ≡ o → old.at < length old.records
+    by None e = absurd (clash (next_stays old new ns ahead (slice_get old.records old.at) (slice_get old.hits old.at)) next (ap (λ o. next_stays old new ns ahead o (slice_get old.hits old.at)) e))
+    by (Some r) e = slice_get_within old.records old.at r e

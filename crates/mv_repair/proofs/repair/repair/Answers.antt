@@ -1,0 +1,61 @@
+use Rattle.std.proofs.Common.{◌≡◌, true, [], List, refl, sym, ap, rules, subst, ◌∙◌}
+use Rattle.mv_record.specs.declared.record.Record.{Record}
+use Rattle.mv_record.specs.Paths.{paths}
+use Rattle.mv_record.specs.Runs.{Tables}
+use Rattle.mv_undo.specs.declared.owned.Owned.{Owned}
+use Rattle.mv_undo.specs.Owning.{HasWritesOf}
+use Rattle.mv_exec.specs.Running.{refusals}
+use Rattle.mv_repair.specs.Repairing.{changes_since, HasQueried}
+use Rattle.mv_repair.specs.Stepping.{HasStepped}
+use Rattle.mv_repair.specs.Walking.{hits_in}
+use Rattle.mv_repair.proofs.Repairing.{begun, none_queried, all_there, tried}
+use Rattle.mv_repair.proofs.repair.repair.Goals as goal
+
+pub hits_of-requires : goal.hits_of-requires
+hits_of-requires g c =
+    subst (λ (rs : List Record). HasWritesOf c.undo.result.now rs) (sym c.records.ensures)
+    (subst (λ (ws : List Owned). HasWritesOf ws c.args.task.now.records) (sym c.undo.ensures) c.requires.leads.is.writes)
+
+pub loop-alloc-init : goal.loop-alloc-init
+loop-alloc-init g c = record {
+  underway =
+      begun c.args.graph.now (changes_since c.args.since.now) (g.V.View.sight c.args.view.now).database c.args.task.now c.restart.new.self c.restart.result c.in_ok-paths.paths c.in_ok-hits.hits c.new.result c.new-2.result c.new-3.result c.new-4.result
+      c.requires.leads (λ call is. c.restart.ensures.call c.args.graph.now call is) c.restart.ensures.records c.restart.ensures.executed c.restart.ensures.back
+      (c.in_ok-paths.ensures ∙ ap paths c.records-2.ensures) (c.in_ok-hits.ensures ∙ ap (λ (rs : List Record). hits_in (changes_since c.args.since.now) [] rs) c.records.ensures) c.new.ensures c.new-2.ensures c.new-3.ensures c.new-4.ensures;
+  call = λ call is. c.restart.ensures.call c.args.graph.now call is;
+  queried = none_queried c.args.task.now.records c.restart.new.self.records (changes_since c.args.since.now) 0 (g.V.View.sight c.args.view.now);
+  same = record { database = refl; start = refl; may_be_stale = refl };
+  never = record { answers = refl; last_low = refl };
+}
+
+pub loop-alloc-preserved : goal.loop-alloc-preserved
+loop-alloc-preserved g c =
+    let stepped =
+    subst (λ (db : Tables). HasStepped c.args.graph.now db c.loop-alloc.task c.loop-alloc.old c.loop-alloc.new c.step.new.task c.step.new.old c.step.new.new (g.V.View.sight c.loop-alloc.view) (g.V.View.sight c.step.new.view))
+    c.loop-alloc.invariant.same.database c.in_ok-step.ensures.stepped in
+    record {
+      underway = stepped.went (changes_since c.args.since.now) c.args.task.now.records c.loop-alloc.invariant.underway;
+      call = λ call is. c.step.ensures.call call (c.loop-alloc.invariant.call call is);
+      queried = stepped.queried (changes_since c.args.since.now) c.args.task.now.records (g.V.View.sight c.args.view.now) c.loop-alloc.invariant.underway c.loop-alloc.invariant.queried;
+      same = record {
+        database = c.step.ensures.same.database ∙ c.loop-alloc.invariant.same.database;
+        start = c.step.ensures.same.start ∙ c.loop-alloc.invariant.same.start;
+        may_be_stale = c.step.ensures.same.may_be_stale ∙ c.loop-alloc.invariant.same.may_be_stale;
+      };
+      never = record {
+        answers = c.in_ok-step.ensures.stale.answers ∙ c.loop-alloc.invariant.never.answers;
+        last_low = c.in_ok-step.ensures.stale.last_low ∙ c.loop-alloc.invariant.never.last_low;
+      };
+    }
+
+pub returns-clause-records : goal.returns-clause-records
+returns-clause-records g c = λ call is.
+    let ended : c.loop-alloc.task.ended ≡ true = search rules in
+    all_there c.args.graph.now (changes_since c.args.since.now) (g.V.View.sight c.args.view.now).database c.args.task.now.records c.loop-alloc.task c.loop-alloc.old c.loop-alloc.new c.loop-alloc.invariant.underway ended call (c.loop-alloc.invariant.call call is)
+
+pub returns-in_err-step-clause-queried : goal.returns-in_err-step-clause-queried
+returns-in_err-step-clause-queried g c =
+    let one : refusals c.from_residual-in_err-step.result ≡ 1 = search rules in
+    subst (λ n. HasQueried c.args.task.now.records c.step.new.task.records (changes_since c.args.since.now) n (g.V.View.sight c.args.view.now) (g.V.View.sight c.step.new.view)) (sym one)
+    (tried c.args.task.now.records c.loop-alloc.task c.step.new.task (changes_since c.args.since.now) (g.V.View.sight c.args.view.now) (g.V.View.sight c.loop-alloc.view) (g.V.View.sight c.step.new.view)
+    c.loop-alloc.invariant.queried c.in_err-step.ensures.err c.step.ensures.bounded)

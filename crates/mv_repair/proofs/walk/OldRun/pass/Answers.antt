@@ -1,0 +1,15 @@
+use Rattle.std.proofs.Common.{◌+◌, sym, ap, subst, ◌∙◌, arith}
+use Rattle.std.proofs.lemmas.Option.{slice_get_past}
+use Rattle.mv_repair.specs.Walking.{is_before, HasPassed}
+use Rattle.mv_repair.proofs.Passing.{passed_next, passed_then}
+use Rattle.mv_repair.proofs.walk.OldRun.pass.Goals as goal
+
+pub loop-self-preserved : goal.loop-self-preserved
+loop-self-preserved c =
+    let now = c.loop-self.self in
+    subst (λ ns. HasPassed c.args.self.now c.args.path.now (record now { at = now.at + 1; others = ns })) (sym c.in_ok-push.ensures.ok)
+    (passed_then c.args.self.now now _ c.args.path.now c.loop-self.invariant (passed_next now c.args.path.now (sym c.is_before.ensures ∙ c.if-is_before.true)))
+
+pub returns-after-loop-self-clause-stops : goal.returns-after-loop-self-clause-stops
+returns-after-loop-self-clause-stops c =
+    ap (λ q. is_before q c.args.path.now) (slice_get_past c.loop-self.self.paths c.loop-self.self.at (let end = c.loop-self-test.false in let len = c.len.ensures in omega (arith, end, len)))

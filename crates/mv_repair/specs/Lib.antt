@@ -1,0 +1,3 @@
+pub mod Repairing
+pub mod Walking
+pub mod Stepping

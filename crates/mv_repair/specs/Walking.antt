@@ -1,0 +1,213 @@
+-- Defines the walk of a repair: the new run record by record, with the old run beside it. This project's own.
+use Rattle.std.specs.Prelude.{◌≡◌, ◌<◌, ℕ, ◌+◌, ◌==◌, Bool, true, false, not, ◌&&◌, ◌||◌, List, [], ◌∷◌, ◌++◌, Option, Some, None, map, length, drop, slice_get, slice_set}
+use Rattle.std.specs.List.{list_any, filter, flat_map}
+use Rattle.std.specs.Option.{option_and_then}
+use Rattle.std.specs.Ordering.{is_lt, nat_cmp}
+use Rattle.std.specs.Cmp.Lexicographic.{slice_cmp}
+use Rattle.mv_values.specs.declared.calls.Call.{Call}
+use Rattle.mv_values.specs.declared.patch.Write.{Write}
+use Rattle.mv_record.specs.declared.record.Read.{Read}
+use Rattle.mv_record.specs.declared.record.Record.{Record}
+use Rattle.mv_record.specs.declared.record.Spot.{Spot}
+use Rattle.mv_record.specs.Paths.{inside, nests_behind, paths, IsEarlierPath}
+use Rattle.mv_record.specs.Runs.{Tables}
+use Rattle.mv_recorded.specs.Own.{Each}
+use Rattle.mv_graph.specs.declared.graph.Graph.{Graph}
+use Rattle.mv_graph.specs.Nodes.{meaning_of}
+use Rattle.mv_exec.specs.declared.task.Ahead.{Ahead}
+use Rattle.mv_exec.specs.declared.task.Task.{Task}
+use Rattle.mv_exec.specs.Running.{IsTaskOf, Leaves, HasAdopted, GoesOnWith}
+use Rattle.mv_history.specs.declared.change.Change.{Change}
+use Rattle.mv_history.specs.Hits.{any_hits, hits, touches}
+use Rattle.mv_history.specs.Kept.{Path, Placed, with_paths, is_path, among, other_writes, kept_paths}
+use Rattle.mv_alike.specs.Laws.{AreRuns}
+use Rattle.mv_changes.specs.declared.recent.Committed.{Committed}
+use Rattle.mv_repair.specs.declared.walk.OldRun.{OldRun}
+use Rattle.mv_repair.specs.declared.walk.NewRun.{NewRun}
+
+-- Paths
+
+-- the path of a record at this place behind these records, whose controller has this number
+abbrev pub path_behind : List Record → Spot → Option ℕ → Path
+path_behind rs spot parent = inside (option_and_then (slice_get (nests_behind [] rs)) parent) spot.turns ++ spot.statement ∷ []
+
+-- there is a path, and it is before the other one
+abbrev pub is_before : Option Path → Path → Bool
+is_before None p = false
+is_before (Some q) p = is_lt (slice_cmp nat_cmp q p)
+
+-- there is a path, and it is the other one
+abbrev pub is_there : Option Path → Path → Bool
+is_there None p = false
+is_there (Some q) p = is_path q p
+
+-- Hits and writes
+
+-- a record that has these writes alone
+abbrev pub hollow_with : List Write → Record
+hollow_with ws = record { spot = record { statement = 0; turns = [] }; parent = None; reads = []; preds = []; sets = []; rows = []; writes = ws; line = None; end = None }
+
+-- a record without contents
+abbrev pub hollow : Record
+hollow = hollow_with []
+
+-- records that have these writes alone
+abbrev pub with_writes : List Write → List Record
+with_writes ws = hollow_with ws ∷ []
+
+-- whether one of a commit's changes of its predicates' tables hits a record, before which its call made these writes
+abbrev pub is_hit_in : List Write → Record → List Change → Bool
+is_hit_in ws r changes = list_any (λ p. list_any (hits (with_writes ws) r) (filter (λ c. c.table == p.table) changes)) r.preds
+
+-- the same of commits
+abbrev pub is_hit_by : List Write → Record → List Committed → Bool
+is_hit_by ws r since = list_any (λ c. is_hit_in ws r c.changes) since
+
+-- whether a change hits each of the rest of a call's records; `before` are its records before them
+abbrev pub hits_in : List Change → List Record → List Record → List Bool
+hits_in changes before [] = []
+hits_in changes before (r ∷ rs) = any_hits changes before r ∷ hits_in changes (before ++ r ∷ []) rs
+
+abbrev pub writes_of : Option Record → List Write
+writes_of None = []
+writes_of (Some r) = r.writes
+
+-- the writes of the records with these numbers
+abbrev pub writes_at : List Record → List ℕ → List Write
+writes_at rs numbers = flat_map (λ n. writes_of (slice_get rs n)) numbers
+
+-- a write of the records with these numbers touches the record
+abbrev pub is_touched : Record → List Record → List ℕ → Bool
+is_touched o rs numbers = list_any (λ n. list_any (touches o) (writes_of (slice_get rs n))) numbers
+
+-- What stays, by the numbers of the old records that new ones keep
+
+-- the number of the old record that the new one with this number keeps
+abbrev pub kept_as : List (Option ℕ) → ℕ → Option ℕ
+kept_as kept number = option_and_then (λ old. old) (slice_get kept number)
+
+abbrev pub is_number : Option ℕ → Bool
+is_number None = false
+is_number (Some n) = true
+
+abbrev pub is_kept_by : List (Option ℕ) → Option ℕ → Bool
+is_kept_by kept None = true
+is_kept_by kept (Some number) = is_number (kept_as kept number)
+
+abbrev pub is_old : Option ℕ → ℕ → Bool
+is_old None old = false
+is_old (Some number) old = number == old
+
+-- the new record with one number keeps the old record with the other, or both numbers are absent
+abbrev pub same_definer : List (Option ℕ) → Option ℕ → Option ℕ → Bool
+same_definer kept None None = true
+same_definer kept (Some old) (Some new) = is_old (kept_as kept new) old
+same_definer kept None (Some new) = false
+same_definer kept (Some old) None = false
+
+abbrev pub reads_by : List (Option ℕ) → List Read → List Read → Bool
+reads_by kept [] [] = true
+reads_by kept (a ∷ as') (b ∷ bs) = same_definer kept a.definer b.definer && reads_by kept as' bs
+reads_by kept [] (b ∷ bs) = false
+reads_by kept (a ∷ as') [] = false
+
+-- the old record stays as what is ahead of the new run, behind its first records `ns`; `hit` tells whether a change
+-- hits the old record
+abbrev pub record_stays : OldRun → NewRun → List Record → Ahead → Record → Bool → Bool
+record_stays old new ns ahead o hit =
+    is_kept_by new.kept ahead.parent && (reads_by new.kept o.reads ahead.reads
+    && (not hit && not (is_touched o old.records old.others || is_touched o ns new.others)))
+
+abbrev pub next_stays : OldRun → NewRun → List Record → Ahead → Option Record → Option Bool → Bool
+next_stays old new ns ahead (Some o) (Some hit) = record_stays old new ns ahead o hit
+next_stays old new ns ahead (Some o) None = false
+next_stays old new ns ahead None hit = false
+
+-- the next old record has this path, and stays
+abbrev pub stays_at : OldRun → NewRun → List Record → Ahead → Path → Bool
+stays_at old new ns ahead p = is_there (slice_get old.paths old.at) p && next_stays old new ns ahead (slice_get old.records old.at) (slice_get old.hits old.at)
+
+-- How the walk goes on
+
+-- the next record was taken out of the old run
+abbrev pub taken : OldRun → OldRun
+taken old = record old { records = slice_set old.records old.at hollow; at = old.at + 1 }
+
+-- the next record of the old run was passed
+abbrev pub passed_one : OldRun → OldRun
+passed_one old = record old { at = old.at + 1; others = old.others ++ old.at ∷ [] }
+
+-- the new run has one record more, with this path, which keeps this old one
+abbrev pub added : Path → Option ℕ → NewRun → NewRun
+added path old new = record new { paths = new.paths ++ path ∷ []; kept = new.kept ++ old ∷ [] }
+
+-- the new run has one record more, with this path and number, which is executed
+abbrev pub renewed : Path → ℕ → NewRun → NewRun
+renewed path number new = record (added path None new) { others = new.others ++ number ∷ [] }
+
+-- The state of the walk
+
+-- the old run is divided: the records before the next one were passed or kept, and their paths are before those of the
+-- rest of the new run
+pub record IsOld (changes : List Change) (os : List Record) (kept : List Path) (rest : List Placed) (old : OldRun) : Type 0 where
+  pub passed : List Placed
+  pub coming : List Placed
+  pub split : with_paths os ≡ passed ++ coming
+  pub at : old.at ≡ length passed
+  pub records : drop old.at old.records ≡ map (λ (p : Placed). p.it) coming
+  pub paths : drop old.at old.paths ≡ map (λ (p : Placed). p.path) coming
+  pub hits : drop old.at old.hits ≡ hits_in changes (map (λ (p : Placed). p.it) passed) (map (λ (p : Placed). p.it) coming)
+  pub others : writes_at old.records old.others ≡ other_writes kept passed
+  pub numbers : Each (λ n. n < old.at) old.others
+  pub below : Each (λ (a : Placed). Each (λ (b : Placed). IsEarlierPath a.path b.path) rest) passed
+  pub behind : Each (λ k. Each (λ (a : Placed). IsEarlierPath k a.path) coming) kept
+
+-- the new record keeps the old one with this number, or none
+abbrev pub IsMarked : List Path → List Placed → Placed → Option ℕ → Type 0
+IsMarked kept os b None = among kept b.path ≡ false
+IsMarked kept os b (Some number) = (among kept b.path ≡ true) × ((o : Placed) × (slice_get os number ≡ Some o) × (o.path ≡ b.path))
+
+abbrev pub AreMarked : List Path → List Placed → List Placed → List (Option ℕ) → Type 0
+AreMarked kept os [] [] = Unit {0}
+AreMarked kept os (b ∷ bs) (m ∷ ms) = IsMarked kept os b m × AreMarked kept os bs ms
+AreMarked kept os [] (m ∷ ms) = ⊥
+AreMarked kept os (b ∷ bs) [] = ⊥
+
+-- the new run has these first records, of which those with these paths were kept
+pub record IsNew (os : List Record) (kept : List Path) (rest : List Placed) (ns : List Record) (new : NewRun) : Type 0 where
+  pub paths : new.paths ≡ paths ns
+  pub marks : AreMarked kept (with_paths os) (with_paths ns) new.kept
+  pub others : writes_at ns new.others ≡ other_writes kept (with_paths ns)
+  pub numbers : Each (λ n. n < length ns) new.others
+  pub behind : Each (λ k. Each (λ (b : Placed). IsEarlierPath k b.path) rest) kept
+
+-- a repair is under way from the records `os` of a full run: the task has the first records of the full run on the new
+-- database, of which the walk has kept those that the rule keeps, and the others were executed
+pub record IsUnderway (g : Graph) (changes : List Change) (db : Tables) (os : List Record) (task : Task) (old : OldRun) (new : NewRun) : Type 0 where
+  pub call : Call
+  pub was : Tables
+  pub runs : AreRuns g.tables g.procedure call was db changes
+  pub olds : os ≡ (meaning_of g call was).records
+  pub is : IsTaskOf g call task
+  pub left : List Record
+  pub leaves : Leaves g call db task left
+  pub rest : List Placed
+  pub split : with_paths (meaning_of g call db).records ≡ with_paths task.records ++ rest
+  pub beside : IsOld changes os (kept_paths os task.records changes) rest old
+  pub along : IsNew os (kept_paths os task.records changes) rest task.records new
+  pub count : task.executed + length (kept_paths os task.records changes) ≡ length task.records
+
+-- some records with paths before this one were passed, so that the next one of the new run may have this path
+abbrev pub HasPassed : OldRun → Path → OldRun → Type 0
+HasPassed old p new =
+    (changes : List Change) (os : List Record) (kept : List Path) (b : Placed) (more : List Placed) → b.path ≡ p → Each (λ (c : Placed). IsEarlierPath b.path c.path) more
+    → IsOld changes os kept (b ∷ more) old → IsOld changes os kept (b ∷ more) new
+
+-- the next record of the old run was kept
+pub record HasKept (g : Graph) (task : Task) (old : OldRun) (new : NewRun) (path : Path) (task' : Task) (old' : OldRun) (new' : NewRun) : Type 0 where
+  pub given : Record
+  pub there : slice_get old.records old.at ≡ Some given
+  pub old_is : old' ≡ taken old
+  pub new_is : new' ≡ added path (Some old.at) new
+  pub adopted : HasAdopted g task given task'
+  pub goes_on : GoesOnWith g task given task'

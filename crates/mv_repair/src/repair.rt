@@ -1,0 +1,166 @@
+//! Repairs of running calls.
+
+ghost use Rattle.std.specs.Prelude.{◌≡◌, ◌<◌, false, true, length, slice_get, Some, IfOk, OnOk, OnErr};
+ghost use Rattle.mv_values.specs.declared.calls.Call.{Call};
+ghost use Rattle.mv_record.specs.Runs.{writes_in};
+ghost use Rattle.mv_record.specs.Databases.{IsDatabaseOf};
+ghost use Rattle.mv_view.specs.Viewing.{MayAnswer};
+ghost use Rattle.mv_effect.specs.Looking.{AskedAtMost, IsSameView, PassesOn, different};
+ghost use Rattle.mv_graph.specs.Nodes.{IsSound, meaning_of};
+ghost use Rattle.mv_exec.specs.Running.{IsRunning, IsRunningOn, IsSameCall, IsSameCallOn, IsTaskOf, IsUnchanged, HasRun, refusals};
+ghost use Rattle.mv_history.specs.Kept.{executions};
+ghost use Rattle.mv_repair.specs.Repairing.{changes_since, IsRepairable, HasQueried};
+ghost use Rattle.mv_repair.specs.Walking.{renewed, HasKept};
+ghost use Rattle.mv_repair.specs.Stepping.{HasStepped, IsOnWay};
+
+use crate::hits::hits_of;
+use crate::paths::{Path, path_of, paths_of};
+use crate::walk::{NewRun, OldRun, stays};
+use mv_changes::recent::Committed;
+use mv_exec::running::{adopt, next, peek};
+use mv_exec::task::Task;
+use mv_graph::graph::Graph;
+use mv_values::list::List;
+use mv_values::memory::NoMemory;
+use mv_view::view::{Refused, View};
+use std::alloc::Global;
+
+/// Keeps the next record of the old run as the next one of the new run, which has this path.
+fn keep(
+    alloc: Global,
+    graph: &Graph,
+    task: &mut Task,
+    old: &mut OldRun,
+    new: &mut NewRun,
+    path: Path,
+) -> Result<(), NoMemory>
+    requires sound { IsSound graph.now }
+    requires running { IsRunning graph.now task.old }
+    requires live { task.old.ended ≡ false }
+    requires there { old.old.at < length old.old.records }
+    ensures call { IsSameCall graph.now task.old task.new }
+    ensures kept { OnOk result (HasKept graph.now task.old old.old new.old path task.new old.new new.new) }
+    ensures err { OnErr result (IsUnchanged task.old task.new) }
+{
+    new.add(path, Some(old.at))?;
+    let Some(given) = old.take(alloc) else {
+        unreachable!();
+    };
+    adopt(alloc, graph, task, given)?;
+    Ok(())
+}
+
+/// Executes the next record of the new run, which has this path.
+fn renew<V: View>(
+    alloc: Global,
+    graph: &Graph,
+    task: &mut Task,
+    new: &mut NewRun,
+    path: Path,
+    view: &mut V,
+) -> Result<(), Refused>
+    requires sound { IsSound graph.now }
+    requires database { IsDatabaseOf graph.now.tables (V.sight view.old).database }
+    requires running { IsRunningOn graph.now (V.sight view.old).database task.old }
+    requires live { task.old.ended ≡ false }
+    ensures call { IsSameCall graph.now task.old task.new }
+    ensures goes_on { IsSameCallOn graph.now (V.sight view.old).database task.old task.new }
+    ensures ran { OnOk result (HasRun task.old task.new (V.sight view.old) (V.sight view.new)) }
+    ensures new { OnOk result (new.new ≡ renewed path (length task.old.records) new.old) }
+    ensures err { OnErr result (IsUnchanged task.old task.new) }
+    ensures refused { MayAnswer (V.sight view.old) (V.sight view.new) result }
+    ensures stale { PassesOn (V.sight view.old) (V.sight view.new) result }
+    ensures same { IsSameView (V.sight view.old) (V.sight view.new) }
+    ensures bounded { AskedAtMost 1 (different (writes_in task.old.records)) (V.sight view.old) (V.sight view.new) }
+{
+    new.add_executed(path, task.records().len())?;
+    next(alloc, graph, task, view)?;
+    Ok(())
+}
+
+/// Adds the next record of the new run: the old one with its path if that stays, or else one that is executed.
+fn step<V: View>(
+    alloc: Global,
+    graph: &Graph,
+    task: &mut Task,
+    old: &mut OldRun,
+    new: &mut NewRun,
+    view: &mut V,
+) -> Result<(), Refused>
+    requires sound { IsSound graph.now }
+    requires live { task.old.ended ≡ false }
+    requires on_way { IsOnWay graph.now (V.sight view.old).database task.old old.old new.old }
+    ensures call { IsSameCall graph.now task.old task.new }
+    ensures stepped { OnOk result (HasStepped graph.now (V.sight view.old).database task.old old.old new.old task.new old.new new.new (V.sight view.old) (V.sight view.new)) }
+    ensures err { OnErr result (IsUnchanged task.old task.new) }
+    ensures refused { MayAnswer (V.sight view.old) (V.sight view.new) result }
+    ensures stale { PassesOn (V.sight view.old) (V.sight view.new) result }
+    ensures same { IsSameView (V.sight view.old) (V.sight view.new) }
+    ensures bounded { AskedAtMost 1 (different (writes_in task.old.records)) (V.sight view.old) (V.sight view.new) }
+{
+    let Some(ahead) = peek(alloc, graph, task)? else {
+        unreachable!();
+    };
+    let path = path_of(
+        alloc,
+        task.records(),
+        new.paths.as_slice(),
+        &ahead.spot,
+        ahead.parent,
+    )?;
+    old.pass(path.as_slice())?;
+    if stays(old, new, task.records(), &ahead, path.as_slice()) {
+        keep(alloc, graph, task, old, new, path)?;
+        return Ok(());
+    }
+    renew(alloc, graph, task, new, path, view)
+}
+
+/// Repairs a call that has ended: runs it again on the view's database, to which the changes of the commits lead. What
+/// stays of its records is kept, and the other records are executed. A record stays if the old run has one with its
+/// path, its controller and its definers stay, no change hits the old record, and no write of an earlier record that
+/// doesn't stay touches it. Returns the number of executed records.
+///
+/// Fails with `NoMemory` if memory runs out, and with `Stale` if the view reports it. The call is then spent, and must
+/// begin again.
+///
+/// Each kept record is moved, and costs the comparison of its path, its definers, and its predicates with the writes of
+/// the earlier records that don't stay.
+pub fn repair<V: View>(
+    alloc: Global,
+    graph: &Graph,
+    task: &mut Task,
+    since: &[Committed],
+    view: &mut V,
+) -> Result<usize, Refused>
+    requires sound { IsSound graph.now }
+    requires leads { IsRepairable graph.now task.old (changes_since since.now) (V.sight view.old).database }
+    ensures call { IsSameCall graph.now task.old task.new }
+    ensures records { OnOk result ((call : Call) → IsTaskOf graph.now call task.old → task.new.records ≡ (meaning_of graph.now call (V.sight view.old).database).records) }
+    ensures ended { OnOk result (task.new.ended ≡ true) }
+    ensures executed { OnOk result (task.new.executed ≡ executions task.old.records task.new.records (changes_since since.now)) }
+    ensures answer { IfOk result (λ count. count ≡ task.new.executed) }
+    ensures queried { HasQueried task.old.records task.new.records (changes_since since.now) (refusals result) (V.sight view.old) (V.sight view.new) }
+    ensures refused { MayAnswer (V.sight view.old) (V.sight view.new) result }
+    ensures stale { PassesOn (V.sight view.old) (V.sight view.new) result }
+    ensures same { IsSameView (V.sight view.old) (V.sight view.new) }
+{
+    let hits = hits_of(alloc, task.records(), task.undo(), since)?;
+    let paths = paths_of(alloc, task.records())?;
+    let mut old = OldRun {
+        records: task.restart(alloc),
+        paths,
+        hits,
+        at: 0,
+        others: List::new(alloc),
+    };
+    let mut new = NewRun {
+        paths: List::new(alloc),
+        kept: List::new(alloc),
+        others: List::new(alloc),
+    };
+    while !task.ended() {
+        step(alloc, graph, task, &mut old, &mut new, view)?;
+    }
+    Ok(task.executed())
+}

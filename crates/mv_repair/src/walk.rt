@@ -1,0 +1,221 @@
+//! The walk of a repair: the new run record by record, with the old run beside it.
+
+ghost use Rattle.std.specs.Prelude.{◌≡◌, ◌<◌, ◌+◌, ◌++◌, ◌∷◌, [], None, Some, false, length, slice_get, IsSome, OnOk};
+ghost use Rattle.std.specs.Option.{option_copied};
+ghost use Rattle.mv_repair.specs.Walking.{hollow, is_before, is_there, is_kept_by, kept_as, next_stays, reads_by, same_definer, stays_at, taken, added, renewed, HasPassed};
+
+use crate::paths::{Path, is_earlier, is_path, item};
+use crate::touch::is_touched;
+use mv_exec::task::Ahead;
+use mv_record::record::{Read, Record, Spot};
+use mv_values::list::List;
+use mv_values::memory::NoMemory;
+use std::alloc::Global;
+
+/// The old run of a call.
+#[derive(Drop)]
+pub(crate) struct OldRun {
+    /// Its records. Those that were kept have been taken out.
+    pub(crate) records: List<Record>,
+    pub(crate) paths: List<Path>,
+    /// Whether a change hits the record.
+    pub(crate) hits: List<bool>,
+    /// The number of its next record. Those before it were kept or passed.
+    pub(crate) at: usize,
+    /// The numbers of the records that were passed.
+    pub(crate) others: List<usize>,
+}
+
+/// The new run of a call.
+#[derive(Drop)]
+pub(crate) struct NewRun {
+    pub(crate) paths: List<Path>,
+    /// For each record the number of the old record that it keeps.
+    pub(crate) kept: List<Option<usize>>,
+    /// The numbers of the records that were executed.
+    pub(crate) others: List<usize>,
+}
+
+/// Returns a record without contents.
+fn hollow(alloc: Global) -> Record
+    ensures { result ≡ hollow }
+{
+    Record {
+        spot: Spot {
+            statement: 0,
+            turns: List::new(alloc),
+        },
+        parent: None,
+        reads: List::new(alloc),
+        preds: List::new(alloc),
+        sets: List::new(alloc),
+        rows: List::new(alloc),
+        writes: List::new(alloc),
+        line: None,
+        end: None,
+    }
+}
+
+/// Whether there is a path and it is before the other one.
+fn is_before(next: Option<&Path>, path: &[usize]) -> bool
+    ensures { result ≡ is_before (option_copied next.entry) path.now }
+{
+    match next {
+        Some(next) => is_earlier(next.as_slice(), path),
+        None => false,
+    }
+}
+
+/// Whether there is a path and it is the other one.
+fn is_there(next: Option<&Path>, path: &[usize]) -> bool
+    ensures { result ≡ is_there (option_copied next.entry) path.now }
+{
+    match next {
+        Some(next) => is_path(next.as_slice(), path),
+        None => false,
+    }
+}
+
+impl OldRun {
+    /// Whether the next record has a path before this one.
+    fn is_before(&self, path: &[usize]) -> bool
+        ensures { result ≡ is_before (slice_get self.now.paths self.now.at) path.now }
+    {
+        is_before(item(self.paths.as_slice(), self.at), path)
+    }
+
+    /// Whether the next record has this path.
+    fn is_at(&self, path: &[usize]) -> bool
+        ensures { result ≡ is_there (slice_get self.now.paths self.now.at) path.now }
+    {
+        is_there(item(self.paths.as_slice(), self.at), path)
+    }
+
+    /// Passes the records with paths before this one. The new run doesn't keep them.
+    pub(crate) fn pass(&mut self, path: &[usize]) -> Result<(), NoMemory>
+        ensures passed { OnOk result (HasPassed self.old path.now self.new) }
+        ensures stops { OnOk result (is_before (slice_get self.new.paths self.new.at) path.now ≡ false) }
+    {
+        while self.at < self.paths.len() && self.is_before(path) {
+            self.others.push(self.at)?;
+            self.at += 1;
+        }
+        Ok(())
+    }
+
+    /// Takes the next record out, if there is one.
+    pub(crate) fn take(&mut self, alloc: Global) -> Option<Record>
+        ensures record { result ≡ slice_get self.old.records self.old.at }
+        ensures old { IsSome result → self.new ≡ taken self.old }
+    {
+        if self.at >= self.records.len() {
+            return None;
+        }
+        let record = self.records.replace(self.at, hollow(alloc));
+        self.at += 1;
+        Some(record)
+    }
+}
+
+impl NewRun {
+    /// Adds a record with this path. It keeps the old record with this number, if any.
+    pub(crate) fn add(&mut self, path: Path, old: Option<usize>) -> Result<(), NoMemory>
+        ensures { OnOk result (self.new ≡ added path old self.old) }
+    {
+        self.paths.push(path)?;
+        self.kept.push(old)
+    }
+
+    /// Adds a record with this path and number, which is executed.
+    pub(crate) fn add_executed(&mut self, path: Path, number: usize) -> Result<(), NoMemory>
+        ensures { OnOk result (self.new ≡ renewed path number self.old) }
+    {
+        self.add(path, None)?;
+        self.others.push(number)
+    }
+}
+
+/// Returns the number of the old record that the new record with this number keeps.
+fn kept_as(kept: &[Option<usize>], number: usize) -> Option<usize>
+    ensures { result ≡ kept_as kept.now number }
+{
+    match kept.get(number) {
+        Some(old) => *old,
+        None => None,
+    }
+}
+
+/// Whether there is no such record of the new run, or it keeps an old one.
+fn is_kept(kept: &[Option<usize>], number: Option<usize>) -> bool
+    ensures { result ≡ is_kept_by kept.now number }
+{
+    let Some(number) = number else {
+        return true;
+    };
+    match kept_as(kept, number) {
+        Some(_) => true,
+        None => false,
+    }
+}
+
+/// Whether the new record with one number keeps the old record with the other, or both numbers are absent.
+fn same_definer(kept: &[Option<usize>], old: Option<usize>, new: Option<usize>) -> bool
+    ensures { result ≡ same_definer kept.now old new }
+{
+    match (old, new) {
+        (Some(old), Some(new)) => match kept_as(kept, new) {
+            Some(number) => number == old,
+            None => false,
+        },
+        (None, None) => true,
+        _ => false,
+    }
+}
+
+/// Whether each variable has the same definer in both runs, which is kept, or in both its default.
+fn reads_stay(kept: &[Option<usize>], olds: &[Read], news: &[Read]) -> bool
+    ensures { result ≡ reads_by kept.now olds.now news.now }
+{
+    if olds.len() != news.len() {
+        return false;
+    }
+    for number in 0..olds.len() {
+        if !same_definer(kept, olds[number].definer, news[number].definer) {
+            return false;
+        }
+    }
+    true
+}
+
+/// Whether the next record of the old run may stay as the record that is ahead of the new run. `records` are those of
+/// the new run so far.
+fn next_stays(old: &OldRun, new: &NewRun, records: &[Record], ahead: &Ahead) -> bool
+    ensures { result ≡ next_stays old.now new.now records.now ahead.now (slice_get old.now.records old.now.at) (slice_get old.now.hits old.now.at) }
+{
+    let Some(record) = item(old.records.as_slice(), old.at) else {
+        return false;
+    };
+    let Some(is_hit) = item(old.hits.as_slice(), old.at) else {
+        return false;
+    };
+    let kept = new.kept.as_slice();
+    is_kept(kept, ahead.parent)
+        && (reads_stay(kept, record.reads.as_slice(), ahead.reads.as_slice())
+            && (!*is_hit
+                && !(is_touched(record, old.records.as_slice(), old.others.as_slice())
+                    || is_touched(record, records, new.others.as_slice()))))
+}
+
+/// Whether the next record of the old run stays as the record that is ahead of the new run, which has this path.
+/// `records` are those of the new run so far.
+pub(crate) fn stays(
+    old: &OldRun,
+    new: &NewRun,
+    records: &[Record],
+    ahead: &Ahead,
+    path: &[usize],
+) -> bool
+    ensures { result ≡ stays_at old.now new.now records.now ahead.now path.now }
+{
+    old.is_at(path) && next_stays(old, new, records, ahead)
+}
