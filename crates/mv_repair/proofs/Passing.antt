@@ -1,5 +1,5 @@
 -- The old run beside the new one: records that are passed, kept or left.
-use Rattle.std.proofs.Common.{◌≡◌, ◌<◌, ℕ, ◌+◌, true, false, List, [], ◌∷◌, ◌++◌, Some, map, drop, if◌then◌else◌, refl, sym, ap, subst, ◌∙◌, arith, append_assoc, append-nil, length-append}
+use Rattle.std.proofs.Common.{◌≡◌, ◌<◌, ℕ, ◌+◌, true, false, List, [], ◌∷◌, ◌++◌, Some, map, drop, if◌then◌else◌, refl, sym, ap, subst, ◌∙◌, arith, append_assoc, append-nil, length-append, Bool}
 use Rattle.std.specs.Prelude.{slice_get}
 use Rattle.std.specs.Ordering.{is_lt, nat_cmp}
 use Rattle.std.specs.Cmp.Lexicographic.{slice_cmp}
@@ -7,6 +7,7 @@ use Rattle.std.specs.declared.cmp.Ordering.{Ordering}
 use Rattle.std.specs.declared.cmp.Ordering.TheVariants.{Less, Equal, Greater}
 use Rattle.std.proofs.lemmas.Grind.{flat_map-append}
 use Rattle.std.proofs.lemmas.List.{map-append}
+use Rattle.mv_values.specs.declared.patch.Write.{Write}
 use Rattle.mv_record.specs.declared.record.Record.{Record}
 use Rattle.mv_record.specs.Paths.{IsEarlierPath}
 use Rattle.mv_recorded.specs.Own.{Each}
@@ -15,7 +16,7 @@ use Rattle.mv_history.specs.Hits.{any_hits}
 use Rattle.mv_history.specs.Kept.{Path, Placed, with_paths, is_path, among, other_writes}
 use Rattle.mv_alike.proofs.Keeping.{Climbs, among_new}
 use Rattle.mv_repair.specs.declared.walk.OldRun.{OldRun}
-use Rattle.mv_repair.specs.Walking.{hollow, is_before, hits_in, writes_of, taken, passed_one, IsOld, HasPassed}
+use Rattle.mv_repair.specs.Walking.{any_write, noted, hollow, is_before, hits_in, writes_of, taken, passed_one, IsOld, HasPassed, writes_at}
 use Rattle.mv_recorded.proofs.Inverting.{each_join}
 use Rattle.mv_alike.proofs.Lasting.{each_map}
 use Rattle.mv_repair.proofs.Lists.{first_dropped, none_dropped, next_dropped, set_dropped, writes_apart}
@@ -45,6 +46,17 @@ others_still kept p [] h = refl
 others_still kept p (x ∷ xs) h =
     ap (λ b. (if b then [] else x.it.writes) ++ other_writes (kept ++ p ∷ []) xs) (among_still kept p x.path h.0)
     ∙ ap (λ ws. (if among kept x.path then [] else x.it.writes) ++ ws) (others_still kept p xs h.1)
+
+-- Numbers that are noted
+
+pub noted_writes : (rs : List Record) (n : ℕ) (ns : List ℕ) (ws : List Write) → writes_of (slice_get rs n) ≡ ws → writes_at rs (noted (any_write ws) n ns) ≡ writes_at rs ns ++ ws
+noted_writes rs n ns [] h = sym (append-nil (writes_at rs ns))
+noted_writes rs n ns (w ∷ ws) h =
+    flat_map-append (λ m. writes_of (slice_get rs m)) ns (n ∷ []) ∙ ap (λ l. writes_at rs ns ++ l) (append-nil (writes_of (slice_get rs n)) ∙ h)
+
+pub noted_below : (n m : ℕ) (ns : List ℕ) (b : Bool) → n < m → Each (λ k. k < m) ns → Each (λ k. k < m) (noted b n ns)
+noted_below n m ns false lt h = h
+noted_below n m ns true lt h = each_join (λ k. k < m) ns (n ∷ []) h (lt, tt)
 
 -- The order of the two runs
 
@@ -95,6 +107,7 @@ passed_next old p yes' changes os kept b more is later h = by h.coming refl
         let less : IsEarlierPath o.path b.path = subst (IsEarlierPath o.path) (sym is) (less_is o.path p (sym (ap (λ q. is_before q p) path) ∙ yes')) in
         let records : drop old.at old.records ≡ o.it ∷ its cs = h.records ∙ ap its e in
         let behind : Each (λ k. Each (λ (a : Placed). IsEarlierPath k a.path) (o ∷ cs)) kept = subst (λ l. Each (λ k. Each (λ (a : Placed). IsEarlierPath k a.path) l) kept) e h.behind in
+        let written : writes_of (slice_get old.records old.at) ≡ o.it.writes = ap writes_of (first_dropped old.at old.records o.it (its cs) records) in
         record {
           passed = h.passed ++ o ∷ [];
           coming = cs;
@@ -105,12 +118,11 @@ passed_next old p yes' changes os kept b more is later h = by h.coming refl
           hits = next_dropped old.at old.hits (any_hits changes (its h.passed) o.it) (hits_in changes (its h.passed ++ o.it ∷ []) (its cs)) (h.hits ∙ ap (λ l. hits_in changes (its h.passed) (its l)) e)
               ∙ ap (λ l. hits_in changes l (its cs)) (sym (map-append (λ (p : Placed). p.it) h.passed (o ∷ [])));
           others =
-              flat_map-append (λ n. writes_of (slice_get old.records n)) old.others (old.at ∷ [])
-              ∙ (ap (λ ws. ws ++ (writes_of (slice_get old.records old.at) ++ [])) h.others
-              ∙ (ap (λ q. other_writes kept h.passed ++ (writes_of q ++ [])) (first_dropped old.at old.records o.it (its cs) records)
-              ∙ (ap (λ ws. other_writes kept h.passed ++ ws) (append-nil o.it.writes ∙ sym (one_other kept o (not_among kept o.path (behind_first o cs kept behind))))
-              ∙ sym (others_both kept h.passed (o ∷ [])))));
-          numbers = each_join (λ n. n < old.at + 1) old.others (old.at ∷ []) (more_below old.at old.others h.numbers) (omega arith, tt);
+              subst (λ w. writes_at old.records (noted (any_write w) old.at old.others) ≡ other_writes kept (h.passed ++ o ∷ [])) (sym written)
+              (noted_writes old.records old.at old.others o.it.writes written
+              ∙ (ap (λ ws. ws ++ o.it.writes) h.others
+              ∙ (ap (λ ws. other_writes kept h.passed ++ ws) (sym (one_other kept o (not_among kept o.path (behind_first o cs kept behind)))) ∙ sym (others_both kept h.passed (o ∷ [])))));
+          numbers = subst (λ w. Each (λ n. n < old.at + 1) (noted (any_write w) old.at old.others)) (sym written) (noted_below old.at (old.at + 1) old.others (any_write o.it.writes) (omega arith) (more_below old.at old.others h.numbers));
           below = each_join (λ (a : Placed). Each (λ (c : Placed). IsEarlierPath a.path c.path) (b ∷ more)) h.passed (o ∷ []) h.below ((less, after_all o.path b.path more less later), tt);
           behind = behind_rest o cs kept behind;
         }

@@ -2,7 +2,6 @@
 use Rattle.std.proofs.Common.{◌≡◌, ◌<◌, ◌≤◌, ◌*◌, ℕ, ◌+◌, Bool, true, false, List, [], ◌∷◌, ◌++◌, Option, Some, None, length, if◌then◌else◌, refl, sym, ap, subst, ◌∙◌, arith, append_assoc, append-nil, length-append}
 use Rattle.std.specs.Prelude.{◌&&◌, slice_get}
 use Rattle.std.proofs.lemmas.List.{append_cancel_left}
-use Rattle.std.proofs.lemmas.Grind.{flat_map-append}
 use Rattle.std.proofs.lemmas.Option.{slice_get_within}
 use Rattle.mv_values.specs.declared.calls.Call.{Call}
 use Rattle.mv_record.specs.declared.record.Record.{Record}
@@ -33,7 +32,7 @@ use Rattle.mv_alike.proofs.Meant.{next_same}
 use Rattle.mv_repair.specs.declared.walk.OldRun.{OldRun}
 use Rattle.mv_repair.specs.declared.walk.NewRun.{NewRun}
 use Rattle.mv_repair.specs.Repairing.{queried, HasQueried}
-use Rattle.mv_repair.specs.Walking.{path_behind, is_before, writes_of, next_stays, is_there, stays_at, added, renewed, IsOld, AreMarked, IsNew, IsUnderway, HasPassed, HasKept}
+use Rattle.mv_repair.specs.Walking.{path_behind, is_before, writes_of, next_stays, is_there, stays_at, added, renewed, IsOld, AreMarked, IsNew, IsUnderway, HasPassed, HasKept, any_write}
 use Rattle.mv_repair.specs.Stepping.{HasStepped, IsOnWay}
 use Rattle.mv_repair.proofs.Asking.{one, keys_within, keys_more, executed_counts, kept_counts, still_queried, queried_once, asked_one}
 use Rattle.mv_repair.proofs.Deciding.{Decides, Found, decided, found_old, names_at}
@@ -41,7 +40,7 @@ use Rattle.mv_recorded.proofs.Inverting.{each_join}
 use Rattle.mv_alike.proofs.Lasting.{each_map}
 use Rattle.mv_repair.proofs.Lists.{writes_before}
 use Rattle.mv_repair.proofs.Marking.{not_among, marks_more, marks_still}
-use Rattle.mv_repair.proofs.Passing.{all_apart, behind_first, others_both, others_still, one_other, no_other, old_kept, old_left}
+use Rattle.mv_repair.proofs.Passing.{all_apart, behind_first, others_both, others_still, one_other, no_other, noted_writes, noted_below, old_kept, old_left}
 use Rattle.mv_repair.proofs.Placing.{placed_more, paths_more, climbs_around}
 
 -- The next record of the full run
@@ -146,20 +145,19 @@ new_kept os ns r kept more new p number o h is before later there same =
     }
 
 new_executed : (os ns : List Record) (r : Record) (kept : List Path) (more : List Placed) (new : NewRun) (p : Path) → IsNew os kept (next_placed ns r ∷ more) ns new → (next_placed ns r).path ≡ p
-    → IsNew os kept more (ns ++ r ∷ []) (renewed p (length ns) new)
+    → IsNew os kept more (ns ++ r ∷ []) (renewed p (length ns) (any_write r.writes) new)
 new_executed os ns r kept more new p h is =
     let b : Placed = next_placed ns r in
-    let no : among kept b.path ≡ false = not_among kept b.path (behind_first b more kept h.behind) in
+    let fresh : among kept b.path ≡ false = not_among kept b.path (behind_first b more kept h.behind) in
     record {
       paths = ap (λ l. l ++ p ∷ []) h.paths ∙ (ap (λ q. paths ns ++ q ∷ []) (sym is) ∙ sym (paths_more ns r));
-      marks = subst (λ l. AreMarked kept (with_paths os) l (new.kept ++ None ∷ [])) (sym (placed_more ns r)) (marks_more kept (with_paths os) (with_paths ns) new.kept b None h.marks no);
+      marks = subst (λ l. AreMarked kept (with_paths os) l (new.kept ++ None ∷ [])) (sym (placed_more ns r)) (marks_more kept (with_paths os) (with_paths ns) new.kept b None h.marks fresh);
       others =
-          flat_map-append (λ n. writes_of (slice_get (ns ++ r ∷ []) n)) new.others (length ns ∷ [])
-          ∙ (ap (λ ws. ws ++ (writes_of (slice_get (ns ++ r ∷ []) (length ns)) ++ [])) (writes_before ns (r ∷ []) new.others h.numbers ∙ h.others)
-          ∙ (ap (λ q. other_writes kept (with_paths ns) ++ (writes_of q ++ [])) (get_last ns r [])
-          ∙ (ap (λ ws. other_writes kept (with_paths ns) ++ ws) (append-nil r.writes ∙ sym (one_other kept b no))
-          ∙ (sym (others_both kept (with_paths ns) (b ∷ [])) ∙ ap (other_writes kept) (sym (placed_more ns r))))));
-      numbers = each_join (λ n. n < length (ns ++ r ∷ [])) new.others (length ns ∷ []) (numbers_more (length ns) (length (ns ++ r ∷ [])) new.others (long ns r) h.numbers) (let e = long ns r in omega (arith, e), tt);
+          noted_writes (ns ++ r ∷ []) (length ns) new.others r.writes (ap writes_of (get_last ns r []))
+          ∙ (ap (λ ws. ws ++ r.writes) (writes_before ns (r ∷ []) new.others h.numbers ∙ h.others)
+          ∙ (ap (λ ws. other_writes kept (with_paths ns) ++ ws) (sym (one_other kept b fresh))
+          ∙ (sym (others_both kept (with_paths ns) (b ∷ [])) ∙ ap (other_writes kept) (sym (placed_more ns r)))));
+      numbers = noted_below (length ns) (length (ns ++ r ∷ [])) new.others (any_write r.writes) (let e = long ns r in omega (arith, e)) (numbers_more (length ns) (length (ns ++ r ∷ [])) new.others (long ns r) h.numbers);
       behind = rest_behind b more kept h.behind;
     }
 
@@ -336,7 +334,7 @@ pub record Renews (g : Graph) (db : Tables) (task : Task) (old mid : OldRun) (ne
   pub same : IsSameCall g task task'
   pub goes_on : IsSameCallOn g db task task'
   pub ran : HasRun task task' now after
-  pub new_is : new' ≡ renewed p (length task.records) new
+  pub new_is : new' ≡ renewed p (length task.records) (any_write (writes_of (slice_get task'.records (length task.records)))) new
   pub bounded : AskedAtMost 1 (different (writes_in task.records)) now after
 
 -- what that leaves
@@ -371,7 +369,8 @@ it_renewed g changes db os task old mid new u ahead p task' new' now after k =
       behind = behind_first b c.more ks d.along.behind;
       went =
           went_on g changes db os task old new u ahead p c task' mid new' ks (k.same u.call u.is) records leaves kept (old_left changes os ks b c.more mid d.beside)
-          (subst (IsNew os ks c.more (task.records ++ c.r ∷ [])) (sym k.new_is) (new_executed os task.records c.r ks c.more new p d.along c.path))
+          (subst (IsNew os ks c.more (task.records ++ c.r ∷ [])) (sym (k.new_is ∙ ap (λ w. renewed p (length task.records) (any_write w) new) (ap (λ (xs : List Record). writes_of (slice_get xs (length task.records))) records ∙ ap writes_of (get_last task.records c.r []))))
+          (new_executed os task.records c.r ks c.more new p d.along c.path))
           (omega (arith, k.ran.executed, u.count, length-append task.records (c.r ∷ [])));
     }
 

@@ -76,6 +76,16 @@ writes_of (Some r) = r.writes
 abbrev pub writes_at : List Record → List ℕ → List Write
 writes_at rs numbers = flat_map (λ n. writes_of (slice_get rs n)) numbers
 
+-- there is a write
+abbrev pub any_write : List Write → Bool
+any_write [] = false
+any_write (w ∷ ws) = true
+
+-- the numbers with this one more, if its record has made writes
+abbrev pub noted : Bool → ℕ → List ℕ → List ℕ
+noted false number numbers = numbers
+noted true number numbers = numbers ++ number ∷ []
+
 -- a write of the records with these numbers touches the record
 abbrev pub is_touched : Record → List Record → List ℕ → Bool
 is_touched o rs numbers = list_any (λ n. list_any (touches o) (writes_of (slice_get rs n))) numbers
@@ -135,15 +145,15 @@ taken old = record old { records = slice_set old.records old.at hollow; at = old
 
 -- the next record of the old run was passed
 abbrev pub passed_one : OldRun → OldRun
-passed_one old = record old { at = old.at + 1; others = old.others ++ old.at ∷ [] }
+passed_one old = record old { at = old.at + 1; others = noted (any_write (writes_of (slice_get old.records old.at))) old.at old.others }
 
 -- the new run has one record more, with this path, which keeps this old one
 abbrev pub added : Path → Option ℕ → NewRun → NewRun
 added path old new = record new { paths = new.paths ++ path ∷ []; kept = new.kept ++ old ∷ [] }
 
--- the new run has one record more, with this path and number, which is executed
-abbrev pub renewed : Path → ℕ → NewRun → NewRun
-renewed path number new = record (added path None new) { others = new.others ++ number ∷ [] }
+-- the new run has one record more, with this path and number, which is executed and may make writes
+abbrev pub renewed : Path → ℕ → Bool → NewRun → NewRun
+renewed path number writes new = record (added path None new) { others = noted writes number new.others }
 
 -- The state of the walk
 

@@ -10,11 +10,11 @@ ghost use Rattle.mv_graph.specs.Nodes.{IsSound, meaning_of};
 ghost use Rattle.mv_exec.specs.Running.{IsRunning, IsRunningOn, IsSameCall, IsSameCallOn, IsTaskOf, IsUnchanged, HasRun, refusals};
 ghost use Rattle.mv_history.specs.Kept.{executions};
 ghost use Rattle.mv_repair.specs.Repairing.{changes_since, IsRepairable, HasQueried};
-ghost use Rattle.mv_repair.specs.Walking.{renewed, HasKept};
+ghost use Rattle.mv_repair.specs.Walking.{any_write, writes_of, renewed, HasKept};
 ghost use Rattle.mv_repair.specs.Stepping.{HasStepped, IsOnWay};
 
 use crate::hits::hits_of;
-use crate::paths::{Path, path_of, paths_of};
+use crate::paths::{Path, item, path_of, paths_of};
 use crate::walk::{NewRun, OldRun, stays};
 use mv_changes::recent::Committed;
 use mv_exec::running::{adopt, next, peek};
@@ -66,15 +66,17 @@ fn renew<V: View>(
     ensures call { IsSameCall graph.now task.old task.new }
     ensures goes_on { IsSameCallOn graph.now (V.sight view.old).database task.old task.new }
     ensures ran { OnOk result (HasRun task.old task.new (V.sight view.old) (V.sight view.new)) }
-    ensures new { OnOk result (new.new ≡ renewed path (length task.old.records) new.old) }
+    ensures new { OnOk result (new.new ≡ renewed path (length task.old.records) (any_write (writes_of (slice_get task.new.records (length task.old.records)))) new.old) }
     ensures err { OnErr result (IsUnchanged task.old task.new) }
     ensures refused { MayAnswer (V.sight view.old) (V.sight view.new) result }
     ensures stale { PassesOn (V.sight view.old) (V.sight view.new) result }
     ensures same { IsSameView (V.sight view.old) (V.sight view.new) }
     ensures bounded { AskedAtMost 1 (different (writes_in task.old.records)) (V.sight view.old) (V.sight view.new) }
 {
-    new.add_executed(path, task.records().len())?;
+    let number = task.records().len();
+    new.add_executed(path, number)?;
     next(alloc, graph, task, view)?;
+    new.settle(item(task.records(), number));
     Ok(())
 }
 

@@ -1,8 +1,8 @@
 //! The walk of a repair: the new run record by record, with the old run beside it.
 
-ghost use Rattle.std.specs.Prelude.{◌≡◌, ◌<◌, ◌+◌, ◌++◌, ◌∷◌, [], None, Some, false, length, slice_get, IsSome, OnOk};
+ghost use Rattle.std.specs.Prelude.{◌≡◌, ◌<◌, ◌+◌, ◌++◌, ◌∷◌, [], ℕ, List as Seq, None, Some, true, false, length, slice_get, IsSome, OnOk};
 ghost use Rattle.std.specs.Option.{option_copied};
-ghost use Rattle.mv_repair.specs.Walking.{hollow, is_before, is_there, is_kept_by, kept_as, next_stays, reads_by, same_definer, stays_at, taken, added, renewed, HasPassed};
+ghost use Rattle.mv_repair.specs.Walking.{any_write, writes_of, noted, hollow, is_before, is_there, is_kept_by, kept_as, next_stays, reads_by, same_definer, stays_at, taken, added, renewed, HasPassed};
 
 use crate::paths::{Path, is_earlier, is_path, item};
 use crate::touch::is_touched;
@@ -22,7 +22,7 @@ pub(crate) struct OldRun {
     pub(crate) hits: List<bool>,
     /// The number of its next record. Those before it were kept or passed.
     pub(crate) at: usize,
-    /// The numbers of the records that were passed.
+    /// The numbers of the passed records that made writes.
     pub(crate) others: List<usize>,
 }
 
@@ -32,7 +32,7 @@ pub(crate) struct NewRun {
     pub(crate) paths: List<Path>,
     /// For each record the number of the old record that it keeps.
     pub(crate) kept: List<Option<usize>>,
-    /// The numbers of the records that were executed.
+    /// The numbers of the executed records that made writes.
     pub(crate) others: List<usize>,
 }
 
@@ -76,6 +76,19 @@ fn is_there(next: Option<&Path>, path: &[usize]) -> bool
     }
 }
 
+/// Whether there is a record and it made writes.
+fn has_writes(record: Option<&Record>) -> bool
+    ensures { result ≡ any_write (writes_of (option_copied record.entry)) }
+{
+    let Some(record) = record else {
+        return false;
+    };
+    match record.writes.as_slice() {
+        [] => false,
+        _ => true,
+    }
+}
+
 impl OldRun {
     /// Whether the next record has a path before this one.
     fn is_before(&self, path: &[usize]) -> bool
@@ -91,13 +104,23 @@ impl OldRun {
         is_there(item(self.paths.as_slice(), self.at), path)
     }
 
+    /// Notes the number of the next record, if it made writes.
+    fn note(&mut self) -> Result<(), NoMemory>
+        ensures { OnOk result (self.new ≡ record self.old { others = noted (any_write (writes_of (slice_get self.old.records self.old.at))) self.old.at self.old.others }) }
+    {
+        if has_writes(item(self.records.as_slice(), self.at)) {
+            self.others.push(self.at)?;
+        }
+        Ok(())
+    }
+
     /// Passes the records with paths before this one. The new run doesn't keep them.
     pub(crate) fn pass(&mut self, path: &[usize]) -> Result<(), NoMemory>
         ensures passed { OnOk result (HasPassed self.old path.now self.new) }
         ensures stops { OnOk result (is_before (slice_get self.new.paths self.new.at) path.now ≡ false) }
     {
         while self.at < self.paths.len() && self.is_before(path) {
-            self.others.push(self.at)?;
+            self.note()?;
             self.at += 1;
         }
         Ok(())
@@ -126,12 +149,21 @@ impl NewRun {
         self.kept.push(old)
     }
 
-    /// Adds a record with this path and number, which is executed.
+    /// Adds a record with this path and number, which will be executed and may make writes.
     pub(crate) fn add_executed(&mut self, path: Path, number: usize) -> Result<(), NoMemory>
-        ensures { OnOk result (self.new ≡ renewed path number self.old) }
+        ensures { OnOk result (self.new ≡ renewed path number true self.old) }
     {
         self.add(path, None)?;
         self.others.push(number)
+    }
+
+    /// Drops the last number noted, if its record made no writes.
+    pub(crate) fn settle(&mut self, record: Option<&Record>)
+        ensures { (numbers : Seq ℕ) (number : ℕ) → self.old.others ≡ noted true number numbers → self.new ≡ record self.old { others = noted (any_write (writes_of (option_copied record.entry))) number numbers } }
+    {
+        if !has_writes(record) {
+            self.others.pop();
+        }
     }
 }
 

@@ -1,8 +1,9 @@
 use Rattle.std.proofs.Common.{◌≡◌, true, false, length}
+use Rattle.std.specs.Prelude.{slice_get}
 use Rattle.mv_exec.specs.Running.{HasRun}
 use Rattle.mv_exec.proofs.Fronts.{both}
 use Rattle.mv_history.specs.Kept.{Path}
-use Rattle.mv_repair.specs.Walking.{renewed}
+use Rattle.mv_repair.specs.Walking.{any_write, writes_of, renewed}
 use Rattle.mv_repair.specs.Stepping.{HasStepped}
 use Rattle.mv_repair.proofs.Stepping.{has_decided, kept_step, renewed_step, stays_within}
 use Rattle.mv_repair.proofs.repair.step.Goals as goal
@@ -33,7 +34,7 @@ returns-clause-stepped g c =
     let path : Path = c.in_ok-path.path in
     let before = g.V.View.sight c.args.view.now in
     let after = g.V.View.sight c.renew.new.view in
-    both c.renew.result (HasRun task c.renew.new.task before after) (c.renew.new.new ≡ renewed path (length task.records) c.args.new.now)
+    both c.renew.result (HasRun task c.renew.new.task before after) (c.renew.new.new ≡ renewed path (length task.records) (any_write (writes_of (slice_get c.renew.new.task.records (length task.records)))) c.args.new.now)
     (HasStepped graph before.database task c.args.old.now c.args.new.now c.renew.new.task c.pass.new.self c.renew.new.new before after)
     (λ ran new_is. renewed_step graph before.database task c.args.old.now c.pass.new.self c.args.new.now c.in-Some.ahead path c.renew.new.task c.renew.new.new before after
     (record {

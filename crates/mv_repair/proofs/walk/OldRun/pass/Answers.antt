@@ -1,5 +1,6 @@
 use Rattle.std.proofs.Common.{◌+◌, sym, ap, subst, ◌∙◌, arith}
 use Rattle.std.proofs.lemmas.Option.{slice_get_past}
+use Rattle.mv_repair.specs.declared.walk.OldRun.{OldRun}
 use Rattle.mv_repair.specs.Walking.{is_before, HasPassed}
 use Rattle.mv_repair.proofs.Passing.{passed_next, passed_then}
 use Rattle.mv_repair.proofs.walk.OldRun.pass.Goals as goal
@@ -7,7 +8,7 @@ use Rattle.mv_repair.proofs.walk.OldRun.pass.Goals as goal
 pub loop-self-preserved : goal.loop-self-preserved
 loop-self-preserved c =
     let now = c.loop-self.self in
-    subst (λ ns. HasPassed c.args.self.now c.args.path.now (record now { at = now.at + 1; others = ns })) (sym c.in_ok-push.ensures.ok)
+    subst (λ (o : OldRun). HasPassed c.args.self.now c.args.path.now (record o { at = o.at + 1 })) (sym c.in_ok-note.ensures)
     (passed_then c.args.self.now now _ c.args.path.now c.loop-self.invariant (passed_next now c.args.path.now (sym c.is_before.ensures ∙ c.if-is_before.true)))
 
 pub returns-after-loop-self-clause-stops : goal.returns-after-loop-self-clause-stops
