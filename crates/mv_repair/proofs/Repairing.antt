@@ -4,12 +4,13 @@ use Rattle.mv_values.specs.declared.calls.Call.{Call}
 use Rattle.mv_record.specs.declared.record.Record.{Record}
 use Rattle.mv_record.specs.Paths.{paths}
 use Rattle.mv_record.specs.Runs.{Tables, writes_in}
+use Rattle.mv_record.specs.Writes.{AreRising}
 use Rattle.mv_view.specs.Viewing.{Sight}
 use Rattle.mv_effect.specs.Looking.{AskedAtMost, different}
 use Rattle.mv_graph.specs.declared.graph.Graph.{Graph}
 use Rattle.mv_graph.specs.Nodes.{meaning_of}
 use Rattle.mv_exec.specs.declared.task.Task.{Task}
-use Rattle.mv_exec.specs.Running.{IsTaskOf, IsSameCall, IsUnchanged}
+use Rattle.mv_exec.specs.Running.{IsTaskOf, IsTaskOn, IsSameCall, IsUnchanged}
 use Rattle.mv_exec.proofs.Fronts.{ends_exactly, one_run}
 use Rattle.mv_history.specs.declared.change.Change.{Change}
 use Rattle.mv_history.specs.Kept.{Path, Placed, with_paths, executions, kept_paths}
@@ -21,6 +22,13 @@ use Rattle.mv_repair.specs.Walking.{hits_in, IsOld, IsNew, IsUnderway}
 use Rattle.mv_repair.proofs.Asking.{keys_within, queried_once}
 use Rattle.mv_repair.proofs.Placing.{placed_paths}
 
+-- A call that has ended has all records of its full run
+
+pub all_of : (g : Graph) (call : Call) (db : Tables) (task : Task) → AreRising db → IsTaskOn g call db task → task.ended ≡ true → task.records ≡ (meaning_of g call db).records
+all_of g call db task rise on ended =
+    let none : on.rest ≡ [] = (ends_exactly g call db task on.rest on.is rise on.leaves).0 ended in
+    sym (append-nil task.records) ∙ (ap (λ rs. task.records ++ rs) (sym none) ∙ sym on.leaves)
+
 -- The beginning
 
 pub begins : (g : Graph) (changes : List Change) (db : Tables) (was task : Task) (old : OldRun) (new : NewRun) → IsRepairable g was changes db → IsSameCall g was task → task.records ≡ [] → task.executed ≡ 0
@@ -30,8 +38,8 @@ begins g changes db was task old new r same none zero old_is new_is = record {
   call = r.call;
   was = r.old;
   runs = r.runs;
-  olds = r.records;
-  is = same r.call r.is;
+  olds = all_of g r.call r.old was r.runs.old_is.rising r.on r.ended;
+  is = same r.call r.on.is;
   left = (meaning_of g r.call db).records;
   leaves = ap (λ l. l ++ (meaning_of g r.call db).records) (sym none);
   rest = rest;
@@ -90,8 +98,11 @@ none_queried os ns changes vain now = record { for_rows = omega arith; for_row =
 pub all_there : (g : Graph) (changes : List Change) (db : Tables) (os : List Record) (task : Task) (old : OldRun) (new : NewRun) → IsUnderway g changes db os task old new → task.ended ≡ true
     → (call : Call) → IsTaskOf g call task → task.records ≡ (meaning_of g call db).records
 all_there g changes db os task old new u ended call is =
-    let none : u.left ≡ [] = (ends_exactly g u.call db task u.left u.is u.runs.new_is.rising u.leaves).0 ended in
-    sym (append-nil task.records) ∙ (ap (λ rs. task.records ++ rs) (sym none) ∙ (sym u.leaves ∙ one_run g u.call call task db u.is is))
+    all_of g u.call db task u.runs.new_is.rising (record { is = u.is; rest = u.left; leaves = u.leaves }) ended ∙ one_run g u.call call task db u.is is
+
+-- the call is on the new database
+pub is_on : (g : Graph) (call : Call) (db : Tables) (task : Task) → IsTaskOf g call task → task.records ≡ (meaning_of g call db).records → IsTaskOn g call db task
+is_on g call db task is all = record { is = is; rest = []; leaves = sym all ∙ sym (append-nil task.records) }
 
 pub all_counted : (g : Graph) (changes : List Change) (db : Tables) (os : List Record) (task : Task) (old : OldRun) (new : NewRun) → IsUnderway g changes db os task old new → task.executed ≡ executions os task.records changes
 all_counted g changes db os task old new u = omega (arith, u.count)

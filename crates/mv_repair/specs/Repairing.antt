@@ -11,9 +11,8 @@ use Rattle.mv_record.specs.Runs.{Tables, writes_in}
 use Rattle.mv_view.specs.Viewing.{Sight}
 use Rattle.mv_effect.specs.Looking.{AskedAtMost, different}
 use Rattle.mv_graph.specs.declared.graph.Graph.{Graph}
-use Rattle.mv_graph.specs.Nodes.{meaning_of}
 use Rattle.mv_exec.specs.declared.task.Task.{Task}
-use Rattle.mv_exec.specs.Running.{IsTaskOf}
+use Rattle.mv_exec.specs.Running.{IsTaskOn}
 use Rattle.mv_history.specs.declared.change.Change.{Change}
 use Rattle.mv_history.specs.Kept.{Placed, with_paths, among, kept_paths}
 use Rattle.mv_alike.specs.Laws.{AreRuns}
@@ -24,13 +23,13 @@ use Rattle.mv_changes.specs.Commits.{changes_in}
 abbrev pub changes_since : List Committed → List Change
 changes_since commits = flat_map (λ changes. changes) (changes_in commits)
 
--- the task has all records of a call on some database, and the changes lead from that database to the new one
+-- the task is a call that has ended on some database, and the changes lead from that database to the new one
 pub record IsRepairable (g : Graph) (task : Task) (changes : List Change) (new : Tables) : Type 0 where
   pub call : Call
   pub old : Tables
-  pub is : IsTaskOf g call task
+  pub on : IsTaskOn g call old task
+  pub ended : task.ended ≡ true
   pub runs : AreRuns g.tables g.procedure call old new changes
-  pub records : task.records ≡ (meaning_of g call old).records
 
 -- there is a predicate
 abbrev pub is_some : List Pred → Bool

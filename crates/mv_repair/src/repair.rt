@@ -7,7 +7,7 @@ ghost use Rattle.mv_record.specs.Databases.{IsDatabaseOf};
 ghost use Rattle.mv_view.specs.Viewing.{MayAnswer};
 ghost use Rattle.mv_effect.specs.Looking.{AskedAtMost, IsSameView, PassesOn, different};
 ghost use Rattle.mv_graph.specs.Nodes.{IsSound, meaning_of};
-ghost use Rattle.mv_exec.specs.Running.{IsRunning, IsRunningOn, IsSameCall, IsSameCallOn, IsTaskOf, IsUnchanged, HasRun, refusals};
+ghost use Rattle.mv_exec.specs.Running.{IsRunning, IsRunningOn, IsSameCall, IsSameCallOn, IsTaskOf, IsTaskOn, IsUnchanged, HasRun, refusals};
 ghost use Rattle.mv_history.specs.Kept.{executions};
 ghost use Rattle.mv_repair.specs.Repairing.{changes_since, IsRepairable, HasQueried};
 ghost use Rattle.mv_repair.specs.Walking.{any_write, writes_of, renewed, HasKept};
@@ -138,6 +138,7 @@ pub fn repair<V: View>(
     requires sound { IsSound graph.now }
     requires leads { IsRepairable graph.now task.old (changes_since since.now) (V.sight view.old).database }
     ensures call { IsSameCall graph.now task.old task.new }
+    ensures on { OnOk result ((call : Call) → IsTaskOf graph.now call task.old → IsTaskOn graph.now call (V.sight view.old).database task.new) }
     ensures records { OnOk result ((call : Call) → IsTaskOf graph.now call task.old → task.new.records ≡ (meaning_of graph.now call (V.sight view.old).database).records) }
     ensures ended { OnOk result (task.new.ended ≡ true) }
     ensures executed { OnOk result (task.new.executed ≡ executions task.old.records task.new.records (changes_since since.now)) }

@@ -8,13 +8,13 @@ use Rattle.mv_exec.specs.Running.{refusals}
 use Rattle.mv_repair.specs.Repairing.{changes_since, HasQueried}
 use Rattle.mv_repair.specs.Stepping.{HasStepped}
 use Rattle.mv_repair.specs.Walking.{hits_in}
-use Rattle.mv_repair.proofs.Repairing.{begun, none_queried, all_there, tried}
+use Rattle.mv_repair.proofs.Repairing.{begun, none_queried, all_there, is_on, tried}
 use Rattle.mv_repair.proofs.repair.repair.Goals as goal
 
 pub hits_of-requires : goal.hits_of-requires
 hits_of-requires g c =
     subst (λ (rs : List Record). HasWritesOf c.undo.result.now rs) (sym c.records.ensures)
-    (subst (λ (ws : List Owned). HasWritesOf ws c.args.task.now.records) (sym c.undo.ensures) c.requires.leads.is.writes)
+    (subst (λ (ws : List Owned). HasWritesOf ws c.args.task.now.records) (sym c.undo.ensures) c.requires.leads.on.is.writes)
 
 pub loop-alloc-init : goal.loop-alloc-init
 loop-alloc-init g c = record {
@@ -47,6 +47,13 @@ loop-alloc-preserved g c =
         last_low = c.in_ok-step.ensures.stale.last_low ∙ c.loop-alloc.invariant.never.last_low;
       };
     }
+
+pub returns-clause-on : goal.returns-clause-on
+returns-clause-on g c = λ call is.
+    let ended : c.loop-alloc.task.ended ≡ true = search rules in
+    let here = c.loop-alloc.invariant.call call is in
+    is_on c.args.graph.now call (g.V.View.sight c.args.view.now).database c.loop-alloc.task here
+    (all_there c.args.graph.now (changes_since c.args.since.now) (g.V.View.sight c.args.view.now).database c.args.task.now.records c.loop-alloc.task c.loop-alloc.old c.loop-alloc.new c.loop-alloc.invariant.underway ended call here)
 
 pub returns-clause-records : goal.returns-clause-records
 returns-clause-records g c = λ call is.
