@@ -157,8 +157,8 @@ renewed path number writes new = record (added path None new) { others = noted w
 
 -- The state of the walk
 
--- the old run is divided: the records before the next one were passed or kept, and their paths are before those of the
--- rest of the new run
+-- the old run is divided at its next record. Those before it were passed, or kept if their paths are among `kept`. Their
+-- paths are before those of the rest of the new run, and kept paths are before those of the coming records.
 pub record IsOld (changes : List Change) (os : List Record) (kept : List Path) (rest : List Placed) (old : OldRun) : Type 0 where
   pub passed : List Placed
   pub coming : List Placed
@@ -183,7 +183,8 @@ AreMarked kept os (b ∷ bs) (m ∷ ms) = IsMarked kept os b m × AreMarked kept
 AreMarked kept os [] (m ∷ ms) = ⊥
 AreMarked kept os (b ∷ bs) [] = ⊥
 
--- the new run has these first records, of which those with these paths were kept
+-- the new run has the first records `ns`, of which those with the paths `kept` were kept. Kept paths are before those of
+-- the rest of the new run.
 pub record IsNew (os : List Record) (kept : List Path) (rest : List Placed) (ns : List Record) (new : NewRun) : Type 0 where
   pub paths : new.paths ≡ paths ns
   pub marks : AreMarked kept (with_paths os) (with_paths ns) new.kept
@@ -191,8 +192,8 @@ pub record IsNew (os : List Record) (kept : List Path) (rest : List Placed) (ns 
   pub numbers : Each (λ n. n < length ns) new.others
   pub behind : Each (λ k. Each (λ (b : Placed). IsEarlierPath k b.path) rest) kept
 
--- a repair is under way from the records `os` of a full run: the task has the first records of the full run on the new
--- database, of which the walk has kept those that the rule keeps, and the others were executed
+-- a repair is under way from the records `os` of a full run. The task has the first records of the full run on the new
+-- database. The walk has kept those that stay, and the others were executed.
 pub record IsUnderway (g : Graph) (changes : List Change) (db : Tables) (os : List Record) (task : Task) (old : OldRun) (new : NewRun) : Type 0 where
   pub call : Call
   pub was : Tables
@@ -207,7 +208,7 @@ pub record IsUnderway (g : Graph) (changes : List Change) (db : Tables) (os : Li
   pub along : IsNew os (kept_paths os task.records changes) rest task.records new
   pub count : task.executed + length (kept_paths os task.records changes) ≡ length task.records
 
--- some records with paths before this one were passed, so that the next one of the new run may have this path
+-- some records with paths before this one were passed. This is right if the next record of the new run has this path.
 abbrev pub HasPassed : OldRun → Path → OldRun → Type 0
 HasPassed old p new =
     (changes : List Change) (os : List Record) (kept : List Path) (b : Placed) (more : List Placed) → b.path ≡ p → Each (λ (c : Placed). IsEarlierPath b.path c.path) more

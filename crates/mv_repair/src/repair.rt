@@ -118,16 +118,19 @@ fn step<V: View>(
     renew(alloc, graph, task, new, path, view)
 }
 
-/// Repairs a call that has ended: runs it again on the view's database, to which the changes of the commits lead. What
-/// stays of its records is kept, and the other records are executed. A record stays if the old run has one with its
-/// path, its controller and its definers stay, no change hits the old record, and no write of an earlier record that
-/// doesn't stay touches it. Returns the number of executed records.
+/// Repairs a call that has ended: runs it again on the view's database, to which the changes of the commits lead. The
+/// records that stay are kept, and only the others are executed. Returns the number of executed records.
+///
+/// A record of the new run stays if the old run has a record with its path, and four things hold. Its controller stays,
+/// or it has none. Each variable that it reads has the same definer in both runs, which stays, or in both its default.
+/// No change hits the old record. No write of an earlier record of either run that doesn't stay touches the old record.
 ///
 /// Fails with `NoMemory` if memory runs out, and with `Stale` if the view reports it. The call is then spent, and must
 /// begin again.
 ///
-/// Each kept record is moved, and costs the comparison of its path, its definers, and its predicates with the writes of
-/// the earlier records that don't stay.
+/// A kept record is moved, and no row or text of it is copied. Each record costs a comparison of paths, and one of its
+/// definers. A record with a predicate also costs what `validate` does for the commits, and a trial of the predicate on
+/// each write of the earlier records that don't stay.
 pub fn repair<V: View>(
     alloc: Global,
     graph: &Graph,
