@@ -1,4 +1,5 @@
 pub mod Lists
+pub mod Keys
 pub mod Placing
 pub mod Hitting
 pub mod Marking

@@ -1,22 +1,23 @@
 -- The old run beside the new one: records that are passed, kept or left.
-use Rattle.std.proofs.Common.{◌≡◌, ◌<◌, ℕ, ◌+◌, true, false, List, [], ◌∷◌, ◌++◌, Some, map, drop, if◌then◌else◌, refl, sym, ap, subst, ◌∙◌, arith, append_assoc, append-nil, length-append, Bool}
+use Rattle.std.proofs.Common.{◌≡◌, ◌≤◌, ◌<◌, ℕ, ◌+◌, true, false, List, [], ◌∷◌, ◌++◌, Some, map, drop, if◌then◌else◌, refl, sym, ap, subst, ◌∙◌, arith, append_assoc, append-nil, length-append, Bool, length, take}
 use Rattle.std.specs.Prelude.{slice_get}
 use Rattle.std.specs.Ordering.{is_lt, nat_cmp}
 use Rattle.std.specs.Cmp.Lexicographic.{slice_cmp}
 use Rattle.std.specs.declared.cmp.Ordering.{Ordering}
 use Rattle.std.specs.declared.cmp.Ordering.TheVariants.{Less, Equal, Greater}
 use Rattle.std.proofs.lemmas.Grind.{flat_map-append}
-use Rattle.std.proofs.lemmas.List.{map-append}
+use Rattle.std.proofs.lemmas.List.{map-append, take-append-le}
 use Rattle.mv_values.specs.declared.patch.Write.{Write}
 use Rattle.mv_record.specs.declared.record.Record.{Record}
 use Rattle.mv_record.specs.Paths.{IsEarlierPath}
 use Rattle.mv_recorded.specs.Own.{Each}
+use Rattle.mv_undo.specs.declared.owned.Owned.{Owned}
 use Rattle.mv_history.specs.declared.change.Change.{Change}
 use Rattle.mv_history.specs.Hits.{any_hits}
 use Rattle.mv_history.specs.Kept.{Path, Placed, with_paths, is_path, among, other_writes}
 use Rattle.mv_alike.proofs.Keeping.{Climbs, among_new}
 use Rattle.mv_repair.specs.declared.walk.OldRun.{OldRun}
-use Rattle.mv_repair.specs.Walking.{any_write, noted, hollow, is_before, hits_in, writes_of, taken, passed_one, IsOld, HasPassed, writes_at}
+use Rattle.mv_repair.specs.Walking.{any_write, noted, hollow, is_before, hits_in, writes_of, taken, next_writes, noted_next, AreKnown, HasAdded, IsOld, HasPassed, writes_at}
 use Rattle.mv_recorded.proofs.Inverting.{each_join}
 use Rattle.mv_alike.proofs.Lasting.{each_map}
 use Rattle.mv_repair.proofs.Lists.{first_dropped, none_dropped, next_dropped, set_dropped, writes_apart}
@@ -58,6 +59,14 @@ pub noted_below : (n m : ℕ) (ns : List ℕ) (b : Bool) → n < m → Each (λ 
 noted_below n m ns false lt h = h
 noted_below n m ns true lt h = each_join (λ k. k < m) ns (n ∷ []) h (lt, tt)
 
+pub noted_longer : (k n : ℕ) (ns : List ℕ) (b : Bool) → k ≤ length ns → k ≤ length (noted b n ns)
+noted_longer k n ns false le = le
+noted_longer k n ns true le = let e = length-append ns (n ∷ []) in omega (arith, e, le)
+
+pub noted_take : (k n : ℕ) (ns : List ℕ) (b : Bool) → k ≤ length ns → take k (noted b n ns) ≡ take k ns
+noted_take k n ns false le = refl
+noted_take k n ns true le = take-append-le k ns (n ∷ []) le
+
 -- The order of the two runs
 
 lower : (b : Placed) (more xs : List Placed) → all_before xs (b ∷ more) → Each (λ (a : Placed). IsEarlierPath a.path b.path) xs
@@ -94,10 +103,10 @@ less_is p q h = by (slice_cmp nat_cmp p q) h
     by Equal e = cc
     by Greater e = cc
 
-pub passed_next : (old : OldRun) (p : Path) → is_before (slice_get old.paths old.at) p ≡ true → HasPassed old p (passed_one old)
-passed_next old p yes' changes os kept b more is later h = by h.coming refl
+pub passed_next : (old : OldRun) (p : Path) (keys : List Owned) → HasAdded old.keys (next_writes old) keys → is_before (slice_get old.paths old.at) p ≡ true → HasPassed old p (record (noted_next keys old) { at = old.at + 1 })
+passed_next old p keys added yes' changes os kept b more is later h = by h.coming refl
   where
-    by : (l : List Placed) → h.coming ≡ l → IsOld changes os kept (b ∷ more) (passed_one old)
+    by : (l : List Placed) → h.coming ≡ l → IsOld changes os kept (b ∷ more) (record (noted_next keys old) { at = old.at + 1 })
     by [] e = absurd (clash (ap (λ o. is_before o p) (none_dropped old.at old.paths (h.paths ∙ ap (map (λ (p : Placed). p.path)) e))) yes')
       where
         clash : is_before (slice_get old.paths old.at) p ≡ false → is_before (slice_get old.paths old.at) p ≡ true → ⊥
@@ -123,6 +132,8 @@ passed_next old p yes' changes os kept b more is later h = by h.coming refl
               ∙ (ap (λ ws. ws ++ o.it.writes) h.others
               ∙ (ap (λ ws. other_writes kept h.passed ++ ws) (sym (one_other kept o (not_among kept o.path (behind_first o cs kept behind)))) ∙ sym (others_both kept h.passed (o ∷ [])))));
           numbers = subst (λ w. Each (λ n. n < old.at + 1) (noted (any_write w) old.at old.others)) (sym written) (noted_below old.at (old.at + 1) old.others (any_write o.it.writes) (omega arith) (more_below old.at old.others h.numbers));
+          first = added.first;
+          known = subst (AreKnown keys) (sym (noted_writes old.records old.at old.others (next_writes old) refl)) (added.known (writes_at old.records old.others) h.known);
           below = each_join (λ (a : Placed). Each (λ (c : Placed). IsEarlierPath a.path c.path) (b ∷ more)) h.passed (o ∷ []) h.below ((less, after_all o.path b.path more less later), tt);
           behind = behind_rest o cs kept behind;
         }
@@ -161,6 +172,8 @@ old_kept changes os kept b more old o cs climbs h e same later =
           ∙ (ap (λ ws. other_writes (kept ++ b.path ∷ []) h.passed ++ ws) (sym (no_other (kept ++ b.path ∷ []) o (ap (among (kept ++ b.path ∷ [])) same ∙ among_new kept b.path)))
           ∙ sym (others_both (kept ++ b.path ∷ []) h.passed (o ∷ []))))));
       numbers = more_below old.at old.others h.numbers;
+      first = h.first;
+      known = subst (AreKnown old.keys) (sym (writes_apart old.records old.at hollow old.others h.numbers)) h.known;
       below = each_join (λ (a : Placed). Each (λ (c : Placed). IsEarlierPath a.path c.path) more) h.passed (o ∷ []) (lower_rest b more h.passed h.below) (same_before o.path b.path more same later, tt);
       behind = each_join (λ k. Each (λ (a : Placed). IsEarlierPath k a.path) cs) kept (b.path ∷ []) (behind_rest o cs kept behind) (same_before b.path o.path cs (sym same) (climbs_at os [] h.passed o cs climbs is), tt);
     }
@@ -176,6 +189,8 @@ old_left changes os kept b more old h = record {
   hits = h.hits;
   others = h.others;
   numbers = h.numbers;
+  first = h.first;
+  known = h.known;
   below = lower_rest b more h.passed h.below;
   behind = h.behind;
 }

@@ -1,10 +1,12 @@
 -- The beginning and the end of a repair.
 use Rattle.std.proofs.Common.{◌≡◌, ℕ, ◌+◌, ◌*◌, Bool, true, Option, List, [], ◌++◌, length, refl, sym, ap, subst, ◌∙◌, arith, append-nil}
+use Rattle.std.proofs.lemmas.List.Elements.{All-nil}
 use Rattle.mv_values.specs.declared.calls.Call.{Call}
 use Rattle.mv_record.specs.declared.record.Record.{Record}
 use Rattle.mv_record.specs.Paths.{paths}
 use Rattle.mv_record.specs.Runs.{Tables, writes_in}
 use Rattle.mv_record.specs.Writes.{AreRising}
+use Rattle.mv_undo.specs.declared.owned.Owned.{Owned}
 use Rattle.mv_view.specs.Viewing.{Sight}
 use Rattle.mv_effect.specs.Looking.{AskedAtMost, different}
 use Rattle.mv_graph.specs.declared.graph.Graph.{Graph}
@@ -32,7 +34,7 @@ all_of g call db task rise on ended =
 -- The beginning
 
 pub begins : (g : Graph) (changes : List Change) (db : Tables) (was task : Task) (old : OldRun) (new : NewRun) → IsRepairable g was changes db → IsSameCall g was task → task.records ≡ [] → task.executed ≡ 0
-    → old ≡ record { records = was.records; paths = paths was.records; hits = hits_in changes [] was.records; at = 0; others = [] } → new ≡ record { paths = []; kept = []; others = [] }
+    → old ≡ record { records = was.records; paths = paths was.records; hits = hits_in changes [] was.records; at = 0; others = []; keys = [] } → new ≡ record { paths = []; kept = []; others = []; keys = []; known = 0 }
     → IsUnderway g changes db was.records task old new
 begins g changes db was task old new r same none zero old_is new_is = record {
   call = r.call;
@@ -56,38 +58,44 @@ begins g changes db was task old new r same none zero old_is new_is = record {
         hits = ap (hits_in changes []) (sym (its_all was.records));
         others = refl;
         numbers = tt;
+        first = All-nil _;
+        known = tt;
         below = tt;
         behind = tt;
       }));
   along =
       subst (λ (rs : List Record). IsNew was.records (kept_paths was.records rs changes) rest rs new) (sym none)
-      (subst (IsNew was.records [] rest []) (sym new_is) (record { paths = refl; marks = tt; others = refl; numbers = tt; behind = tt }));
+      (subst (IsNew was.records [] rest []) (sym new_is) (record { paths = refl; marks = tt; others = refl; numbers = tt; first = All-nil _; within = omega arith; known = tt; behind = tt }));
   count = subst (λ (rs : List Record). task.executed + length (kept_paths was.records rs changes) ≡ length rs) (sym none) (omega (arith, zero));
 }
   where
     rest : List Placed
     rest = with_paths (meaning_of g r.call db).records
 
-same_old : (a b : List Record) (ps qs : List Path) (hs is : List Bool) (ns : List ℕ) → a ≡ b → ps ≡ qs → hs ≡ is → ns ≡ []
-    → ◌≡◌ {A = OldRun} (record { records = a; paths = ps; hits = hs; at = 0; others = ns }) (record { records = b; paths = qs; hits = is; at = 0; others = [] })
-same_old a b ps qs hs is ns h k l m =
-    ap (λ x. (let o : OldRun = record { records = x; paths = ps; hits = hs; at = 0; others = ns } in o)) h
-    ∙ (ap (λ x. (let o : OldRun = record { records = b; paths = x; hits = hs; at = 0; others = ns } in o)) k
-    ∙ (ap (λ x. (let o : OldRun = record { records = b; paths = qs; hits = x; at = 0; others = ns } in o)) l
-    ∙ ap (λ x. (let o : OldRun = record { records = b; paths = qs; hits = is; at = 0; others = x } in o)) m))
+same_old : (a b : List Record) (ps qs : List Path) (hs is : List Bool) (ns : List ℕ) (ks : List Owned) → a ≡ b → ps ≡ qs → hs ≡ is → ns ≡ [] → ks ≡ []
+    → ◌≡◌ {A = OldRun} (record { records = a; paths = ps; hits = hs; at = 0; others = ns; keys = ks }) (record { records = b; paths = qs; hits = is; at = 0; others = []; keys = [] })
+same_old a b ps qs hs is ns ks h k l m n =
+    ap (λ x. (let o : OldRun = record { records = x; paths = ps; hits = hs; at = 0; others = ns; keys = ks } in o)) h
+    ∙ (ap (λ x. (let o : OldRun = record { records = b; paths = x; hits = hs; at = 0; others = ns; keys = ks } in o)) k
+    ∙ (ap (λ x. (let o : OldRun = record { records = b; paths = qs; hits = x; at = 0; others = ns; keys = ks } in o)) l
+    ∙ (ap (λ x. (let o : OldRun = record { records = b; paths = qs; hits = is; at = 0; others = x; keys = ks } in o)) m
+    ∙ ap (λ x. (let o : OldRun = record { records = b; paths = qs; hits = is; at = 0; others = []; keys = x } in o)) n)))
 
-same_new : (ps : List Path) (ks : List (Option ℕ)) (ns : List ℕ) → ps ≡ [] → ks ≡ [] → ns ≡ [] → ◌≡◌ {A = NewRun} (record { paths = ps; kept = ks; others = ns }) (record { paths = []; kept = []; others = [] })
-same_new ps ks ns h k l =
-    ap (λ x. (let o : NewRun = record { paths = x; kept = ks; others = ns } in o)) h
-    ∙ (ap (λ x. (let o : NewRun = record { paths = []; kept = x; others = ns } in o)) k ∙ ap (λ x. (let o : NewRun = record { paths = []; kept = []; others = x } in o)) l)
+same_new : (ps : List Path) (ks : List (Option ℕ)) (ns : List ℕ) (ms : List Owned) → ps ≡ [] → ks ≡ [] → ns ≡ [] → ms ≡ []
+    → ◌≡◌ {A = NewRun} (record { paths = ps; kept = ks; others = ns; keys = ms; known = 0 }) (record { paths = []; kept = []; others = []; keys = []; known = 0 })
+same_new ps ks ns ms h k l m =
+    ap (λ x. (let o : NewRun = record { paths = x; kept = ks; others = ns; keys = ms; known = 0 } in o)) h
+    ∙ (ap (λ x. (let o : NewRun = record { paths = []; kept = x; others = ns; keys = ms; known = 0 } in o)) k
+    ∙ (ap (λ x. (let o : NewRun = record { paths = []; kept = []; others = x; keys = ms; known = 0 } in o)) l
+    ∙ ap (λ x. (let o : NewRun = record { paths = []; kept = []; others = []; keys = x; known = 0 } in o)) m))
 
 -- what `repair` makes
-pub begun : (g : Graph) (changes : List Change) (db : Tables) (was task : Task) (rs : List Record) (ps : List Path) (hs : List Bool) (ns : List ℕ) (qs : List Path) (ks : List (Option ℕ)) (ms : List ℕ)
+pub begun : (g : Graph) (changes : List Change) (db : Tables) (was task : Task) (rs : List Record) (ps : List Path) (hs : List Bool) (ns : List ℕ) (us : List Owned) (qs : List Path) (ks : List (Option ℕ)) (ms : List ℕ) (vs : List Owned)
     → IsRepairable g was changes db → IsSameCall g was task → task.records ≡ [] → task.executed ≡ 0
-    → rs ≡ was.records → ps ≡ paths was.records → hs ≡ hits_in changes [] was.records → ns ≡ [] → qs ≡ [] → ks ≡ [] → ms ≡ []
-    → IsUnderway g changes db was.records task (record { records = rs; paths = ps; hits = hs; at = 0; others = ns }) (record { paths = qs; kept = ks; others = ms })
-begun g changes db was task rs ps hs ns qs ks ms r same none zero a b c d e f h =
-    begins g changes db was task _ _ r same none zero (same_old rs was.records ps (paths was.records) hs (hits_in changes [] was.records) ns a b c d) (same_new qs ks ms e f h)
+    → rs ≡ was.records → ps ≡ paths was.records → hs ≡ hits_in changes [] was.records → ns ≡ [] → us ≡ [] → qs ≡ [] → ks ≡ [] → ms ≡ [] → vs ≡ []
+    → IsUnderway g changes db was.records task (record { records = rs; paths = ps; hits = hs; at = 0; others = ns; keys = us }) (record { paths = qs; kept = ks; others = ms; keys = vs; known = 0 })
+begun g changes db was task rs ps hs ns us qs ks ms vs r same none zero a b c d u e f h v =
+    begins g changes db was task _ _ r same none zero (same_old rs was.records ps (paths was.records) hs (hits_in changes [] was.records) ns us a b c d u) (same_new qs ks ms vs e f h v)
 
 -- nothing was queried yet
 pub none_queried : (os ns : List Record) (changes : List Change) (vain : ℕ) (now : Sight) → HasQueried os ns changes vain now now

@@ -1,9 +1,10 @@
 -- One record more of a repair.
-use Rattle.std.proofs.Common.{◌≡◌, ◌<◌, ◌≤◌, ◌*◌, ℕ, ◌+◌, Bool, true, false, List, [], ◌∷◌, ◌++◌, Option, Some, None, length, if◌then◌else◌, refl, sym, ap, subst, ◌∙◌, arith, append_assoc, append-nil, length-append}
+use Rattle.std.proofs.Common.{◌≡◌, ◌<◌, ◌≤◌, ◌*◌, ℕ, ◌+◌, Bool, true, false, List, [], ◌∷◌, ◌++◌, Option, Some, None, length, take, if◌then◌else◌, refl, sym, ap, subst, ◌∙◌, arith, append_assoc, append-nil, length-append}
 use Rattle.std.specs.Prelude.{◌&&◌, slice_get}
-use Rattle.std.proofs.lemmas.List.{append_cancel_left}
+use Rattle.std.proofs.lemmas.List.{append_cancel_left, take_all}
 use Rattle.std.proofs.lemmas.Option.{slice_get_within}
 use Rattle.mv_values.specs.declared.calls.Call.{Call}
+use Rattle.std.proofs.lemmas.Grind.{flat_map-append}
 use Rattle.mv_record.specs.declared.record.Record.{Record}
 use Rattle.mv_record.specs.declared.record.Spot.{Spot}
 use Rattle.mv_record.specs.Effects.{record_of, effect_in}
@@ -14,6 +15,7 @@ use Rattle.mv_recorded.specs.Own.{Each}
 use Rattle.mv_recorded.proofs.Held.{get_last}
 use Rattle.mv_recorded.proofs.Naming.{recorded_names}
 use Rattle.mv_recorded.proofs.Rising.{recorded_rises}
+use Rattle.mv_undo.specs.declared.owned.Owned.{Owned}
 use Rattle.mv_view.specs.Viewing.{Sight}
 use Rattle.mv_effect.specs.Looking.{AskedAtMost, different}
 use Rattle.mv_graph.specs.declared.graph.Graph.{Graph}
@@ -32,15 +34,15 @@ use Rattle.mv_alike.proofs.Meant.{next_same}
 use Rattle.mv_repair.specs.declared.walk.OldRun.{OldRun}
 use Rattle.mv_repair.specs.declared.walk.NewRun.{NewRun}
 use Rattle.mv_repair.specs.Repairing.{queried, HasQueried}
-use Rattle.mv_repair.specs.Walking.{path_behind, is_before, writes_of, next_stays, is_there, stays_at, added, renewed, IsOld, AreMarked, IsNew, IsUnderway, HasPassed, HasKept, any_write}
+use Rattle.mv_repair.specs.Walking.{path_behind, is_before, writes_of, next_stays, is_there, stays_at, added, renewed, IsOld, AreMarked, IsNew, IsUnderway, HasPassed, HasKept, any_write, writes_at, AreKnown, HasAdded, HasCaughtUp}
 use Rattle.mv_repair.specs.Stepping.{HasStepped, IsOnWay}
 use Rattle.mv_repair.proofs.Asking.{one, keys_within, keys_more, executed_counts, kept_counts, still_queried, queried_once, asked_one}
 use Rattle.mv_repair.proofs.Deciding.{Decides, Found, decided, found_old, names_at}
 use Rattle.mv_recorded.proofs.Inverting.{each_join}
 use Rattle.mv_alike.proofs.Lasting.{each_map}
-use Rattle.mv_repair.proofs.Lists.{writes_before}
+use Rattle.mv_repair.proofs.Lists.{writes_before, each_take, got_there}
 use Rattle.mv_repair.proofs.Marking.{not_among, marks_more, marks_still}
-use Rattle.mv_repair.proofs.Passing.{all_apart, behind_first, others_both, others_still, one_other, no_other, noted_writes, noted_below, old_kept, old_left}
+use Rattle.mv_repair.proofs.Passing.{all_apart, behind_first, others_both, others_still, one_other, no_other, noted_writes, noted_below, noted_longer, noted_take, old_kept, old_left}
 use Rattle.mv_repair.proofs.Placing.{placed_more, paths_more, climbs_around}
 
 -- The next record of the full run
@@ -141,6 +143,9 @@ new_kept os ns r kept more new p number o h is before later there same =
           ∙ (ap (λ ws. other_writes others (with_paths ns) ++ ws) (sym (no_other others b (among_new kept b.path)))
           ∙ (sym (others_both others (with_paths ns) (b ∷ [])) ∙ ap (other_writes others) (sym (placed_more ns r)))))));
       numbers = numbers_more (length ns) (length (ns ++ r ∷ [])) new.others (long ns r) h.numbers;
+      first = h.first;
+      within = h.within;
+      known = subst (AreKnown new.keys) (sym (writes_before ns (r ∷ []) (take new.known new.others) (each_take (λ n. n < length ns) new.known new.others h.numbers))) h.known;
       behind = each_join (λ k. Each (λ (c : Placed). IsEarlierPath k c.path) more) kept (b.path ∷ []) (rest_behind b more kept h.behind) (later, tt);
     }
 
@@ -158,8 +163,57 @@ new_executed os ns r kept more new p h is =
           ∙ (ap (λ ws. other_writes kept (with_paths ns) ++ ws) (sym (one_other kept b fresh))
           ∙ (sym (others_both kept (with_paths ns) (b ∷ [])) ∙ ap (other_writes kept) (sym (placed_more ns r)))));
       numbers = noted_below (length ns) (length (ns ++ r ∷ [])) new.others (any_write r.writes) (let e = long ns r in omega (arith, e)) (numbers_more (length ns) (length (ns ++ r ∷ [])) new.others (long ns r) h.numbers);
+      first = h.first;
+      within = noted_longer new.known (length ns) new.others (any_write r.writes) h.within;
+      known =
+          subst (λ l. AreKnown new.keys (writes_at (ns ++ r ∷ []) l)) (sym (noted_take new.known (length ns) new.others (any_write r.writes) h.within))
+          (subst (AreKnown new.keys) (sym (writes_before ns (r ∷ []) (take new.known new.others) (each_take (λ n. n < length ns) new.known new.others h.numbers))) h.known);
       behind = rest_behind b more kept h.behind;
     }
+
+-- more keys are known
+pub caught_next : (os ns : List Record) (kept : List Path) (rest : List Placed) (new : NewRun) (number : ℕ) (keys : List Owned) → slice_get new.others new.known ≡ Some number → HasAdded new.keys (writes_of (slice_get ns number)) keys
+    → IsNew os kept rest ns new → IsNew os kept rest ns (record new { keys = keys; known = new.known + 1 })
+caught_next os ns kept rest new number keys there more h = record {
+  paths = h.paths;
+  marks = h.marks;
+  others = h.others;
+  numbers = h.numbers;
+  first = more.first;
+  within = let lt = slice_get_within new.others new.known number there in omega (arith, lt);
+  known =
+      subst (λ l. AreKnown keys (writes_at ns l)) (sym (got_there new.others new.known number there))
+      (subst (AreKnown keys) (sym (flat_map-append (λ n. writes_of (slice_get ns n)) (take new.known new.others) (number ∷ []) ∙ ap (λ ws. writes_at ns (take new.known new.others) ++ ws) (append-nil (writes_of (slice_get ns number)))))
+      (more.known (writes_at ns (take new.known new.others)) h.known));
+  behind = h.behind;
+}
+
+caught : (g : Graph) (changes : List Change) (db : Tables) (os : List Record) (task : Task) (old : OldRun) (new now : NewRun) → HasCaughtUp task.records new now → IsUnderway g changes db os task old new → IsUnderway g changes db os task old now
+caught g changes db os task old new now k u = record {
+  call = u.call;
+  was = u.was;
+  runs = u.runs;
+  olds = u.olds;
+  is = u.is;
+  left = u.left;
+  leaves = u.leaves;
+  rest = u.rest;
+  split = u.split;
+  beside = u.beside;
+  along = k.still os (kept_paths os task.records changes) u.rest u.along;
+  count = u.count;
+}
+
+pub caught_way : (g : Graph) (db : Tables) (task : Task) (old : OldRun) (new now : NewRun) → HasCaughtUp task.records new now → IsOnWay g db task old new → IsOnWay g db task old now
+caught_way g db task old new now k w = record { changes = w.changes; os = w.os; underway = caught g w.changes db w.os task old new now k w.underway }
+
+pub caught_step : (g : Graph) (db : Tables) (task : Task) (old : OldRun) (new now : NewRun) (task' : Task) (old' : OldRun) (new' : NewRun) (before after : Sight) → HasCaughtUp task.records new now → HasStepped g db task old now task' old' new' before after
+    → HasStepped g db task old new task' old' new' before after
+caught_step g db task old new now task' old' new' before after k s = record {
+  went = λ changes os u. s.went changes os (caught g changes db os task old new now k u);
+  queried = λ changes os start u q. s.queried changes os start (caught g changes db os task old new now k u) q;
+  less = s.less;
+}
 
 -- The walk goes on
 
@@ -238,6 +292,19 @@ alike g changes db os task old new u ahead p c o found h =
     same_content o.it c.r it.effect
 
 -- What the walk decides
+
+-- the keys of the others are known
+pub known_old : (g : Graph) (db : Tables) (task : Task) (old mid : OldRun) (new : NewRun) (o : Option Ahead) (ahead : Ahead) (p q : Path) (rs : List Record) → IsOnWay g db task old new → IsNext g task o → o ≡ Some ahead
+    → rs ≡ task.records → p ≡ path_behind rs ahead.spot ahead.parent → q ≡ p → HasPassed old q mid → is_before (slice_get mid.paths mid.at) q ≡ false → AreKnown mid.keys (writes_at mid.records mid.others)
+known_old g db task old mid new o ahead p q rs w next some first path second passed stops =
+    let c = comes g w.changes db w.os task old new w.underway ahead p (subst (IsNext g task) some next) (subst (λ (xs : List Record). p ≡ path_behind xs ahead.spot ahead.parent) first path) in
+    (decides g w.changes db w.os task old mid new w.underway ahead p c (subst (λ (x : Path). HasPassed old x mid) second passed) (subst (λ (x : Path). is_before (slice_get mid.paths mid.at) x ≡ false) second stops)).beside.known
+
+pub known_new : (g : Graph) (db : Tables) (task : Task) (old : OldRun) (new now : NewRun) (rs : List Record) → IsOnWay g db task old new → HasCaughtUp task.records new now → rs ≡ task.records → AreKnown now.keys (writes_at rs now.others)
+known_new g db task old new now rs w k is =
+    let u = caught g w.changes db w.os task old new now k w.underway in
+    subst (λ (xs : List Record). AreKnown now.keys (writes_at xs now.others)) (sym is)
+    (subst (λ l. AreKnown now.keys (writes_at task.records l)) (take_all now.known now.others (omega (arith, k.all))) u.along.known)
 
 -- the old run was passed up to the path of the next record, and the walk has decided whether that record stays
 pub record HasDecided (g : Graph) (task : Task) (old mid : OldRun) (new : NewRun) (ahead : Ahead) (p : Path) (b : Bool) : Type 0 where

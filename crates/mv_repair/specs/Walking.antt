@@ -1,5 +1,5 @@
 -- Defines the walk of a repair: the new run record by record, with the old run beside it. This project's own.
-use Rattle.std.specs.Prelude.{◌≡◌, ◌<◌, ℕ, ◌+◌, ◌==◌, Bool, true, false, not, ◌&&◌, ◌||◌, List, [], ◌∷◌, ◌++◌, Option, Some, None, map, length, drop, slice_get, slice_set}
+use Rattle.std.specs.Prelude.{◌≡◌, ◌<◌, ◌≤◌, ℕ, ◌+◌, ◌==◌, Bool, true, false, not, ◌&&◌, ◌||◌, List, [], ◌∷◌, ◌++◌, Option, Some, None, All, map, length, take, drop, slice_get, slice_set}
 use Rattle.std.specs.List.{list_any, filter, flat_map}
 use Rattle.std.specs.Option.{option_and_then}
 use Rattle.std.specs.Ordering.{is_lt, nat_cmp}
@@ -12,6 +12,8 @@ use Rattle.mv_record.specs.declared.record.Spot.{Spot}
 use Rattle.mv_record.specs.Paths.{inside, nests_behind, paths, IsEarlierPath}
 use Rattle.mv_record.specs.Runs.{Tables}
 use Rattle.mv_recorded.specs.Own.{Each}
+use Rattle.mv_undo.specs.declared.owned.Owned.{Owned}
+use Rattle.mv_undo.specs.Owning.{earlier, touches as is_on_key}
 use Rattle.mv_graph.specs.declared.graph.Graph.{Graph}
 use Rattle.mv_graph.specs.Nodes.{meaning_of}
 use Rattle.mv_exec.specs.declared.task.Ahead.{Ahead}
@@ -90,6 +92,21 @@ noted true number numbers = numbers ++ number ∷ []
 abbrev pub is_touched : Record → List Record → List ℕ → Bool
 is_touched o rs numbers = list_any (λ n. list_any (touches o) (writes_of (slice_get rs n))) numbers
 
+-- Keys
+
+-- all are under number 0
+abbrev pub AreFirst : List Owned → Type 0
+AreFirst keys = All (λ o. o.number ≤ 0) keys
+
+-- each of these writes is on a key of the first ones
+abbrev pub AreKnown : List Owned → List Write → Type 0
+AreKnown keys ws = Each (λ w. is_on_key w.table w.key (earlier 1 keys) ≡ true) ws
+
+-- the keys of these writes were added
+pub record HasAdded (old : List Owned) (ws : List Write) (new : List Owned) : Type 0 where
+  pub first : AreFirst new
+  pub known : (vs : List Write) → AreKnown old vs → AreKnown new (vs ++ ws)
+
 -- What stays, by the numbers of the old records that new ones keep
 
 -- the number of the old record that the new one with this number keeps
@@ -143,9 +160,13 @@ stays_at old new ns ahead p = is_there (slice_get old.paths old.at) p && next_st
 abbrev pub taken : OldRun → OldRun
 taken old = record old { records = slice_set old.records old.at hollow; at = old.at + 1 }
 
--- the next record of the old run was passed
-abbrev pub passed_one : OldRun → OldRun
-passed_one old = record old { at = old.at + 1; others = noted (any_write (writes_of (slice_get old.records old.at))) old.at old.others }
+-- the writes of the next record of the old run
+abbrev pub next_writes : OldRun → List Write
+next_writes old = writes_of (slice_get old.records old.at)
+
+-- the next record of the old run is noted among the others, if it made writes; their keys are now these
+abbrev pub noted_next : List Owned → OldRun → OldRun
+noted_next keys old = record old { others = noted (any_write (next_writes old)) old.at old.others; keys = keys }
 
 -- the new run has one record more, with this path, which keeps this old one
 abbrev pub added : Path → Option ℕ → NewRun → NewRun
@@ -169,6 +190,8 @@ pub record IsOld (changes : List Change) (os : List Record) (kept : List Path) (
   pub hits : drop old.at old.hits ≡ hits_in changes (map (λ (p : Placed). p.it) passed) (map (λ (p : Placed). p.it) coming)
   pub others : writes_at old.records old.others ≡ other_writes kept passed
   pub numbers : Each (λ n. n < old.at) old.others
+  pub first : AreFirst old.keys
+  pub known : AreKnown old.keys (writes_at old.records old.others)
   pub below : Each (λ (a : Placed). Each (λ (b : Placed). IsEarlierPath a.path b.path) rest) passed
   pub behind : Each (λ k. Each (λ (a : Placed). IsEarlierPath k a.path) coming) kept
 
@@ -190,6 +213,9 @@ pub record IsNew (os : List Record) (kept : List Path) (rest : List Placed) (ns 
   pub marks : AreMarked kept (with_paths os) (with_paths ns) new.kept
   pub others : writes_at ns new.others ≡ other_writes kept (with_paths ns)
   pub numbers : Each (λ n. n < length ns) new.others
+  pub first : AreFirst new.keys
+  pub within : new.known ≤ length new.others
+  pub known : AreKnown new.keys (writes_at ns (take new.known new.others))
   pub behind : Each (λ k. Each (λ (b : Placed). IsEarlierPath k b.path) rest) kept
 
 -- a repair is under way from the records `os` of a full run. The task has the first records of the full run on the new
@@ -213,6 +239,12 @@ abbrev pub HasPassed : OldRun → Path → OldRun → Type 0
 HasPassed old p new =
     (changes : List Change) (os : List Record) (kept : List Path) (b : Placed) (more : List Placed) → b.path ≡ p → Each (λ (c : Placed). IsEarlierPath b.path c.path) more
     → IsOld changes os kept (b ∷ more) old → IsOld changes os kept (b ∷ more) new
+
+-- the keys of all others of the new run are known
+pub record HasCaughtUp (ns : List Record) (old new : NewRun) : Type 0 where
+  pub rest : new ≡ record old { keys = new.keys; known = new.known }
+  pub all : new.known ≡ length new.others
+  pub still : (os : List Record) (kept : List Path) (rest : List Placed) → IsNew os kept rest ns old → IsNew os kept rest ns new
 
 -- the next record of the old run was kept
 pub record HasKept (g : Graph) (task : Task) (old : OldRun) (new : NewRun) (path : Path) (task' : Task) (old' : OldRun) (new' : NewRun) : Type 0 where

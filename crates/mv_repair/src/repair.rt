@@ -20,6 +20,7 @@ use mv_changes::recent::Committed;
 use mv_exec::running::{adopt, next, peek};
 use mv_exec::task::Task;
 use mv_graph::graph::Graph;
+use mv_undo::undo::Undo;
 use mv_values::list::List;
 use mv_values::memory::NoMemory;
 use mv_view::view::{Refused, View};
@@ -110,8 +111,10 @@ fn step<V: View>(
         &ahead.spot,
         ahead.parent,
     )?;
-    old.pass(path.as_slice())?;
-    if stays(old, new, task.records(), &ahead, path.as_slice()) {
+    old.pass(alloc, path.as_slice())?;
+    new.catch_up(alloc, task.records())?;
+    let keeps = stays(alloc, old, new, task.records(), &ahead, path.as_slice())?;
+    if keeps {
         keep(alloc, graph, task, old, new, path)?;
         return Ok(());
     }
@@ -129,8 +132,9 @@ fn step<V: View>(
 /// begin again.
 ///
 /// A kept record is moved, and no row or text of it is copied. Each record costs a comparison of paths, and one of its
-/// definers. A record with a predicate also costs what `validate` does for the commits, and a trial of the predicate on
-/// each write of the earlier records that don't stay.
+/// definers. A record with a predicate also costs what `validate` does for the commits. If few earlier records with
+/// writes don't stay, it costs a trial of the predicate on each of their writes. Else it costs a search for their keys,
+/// and the trials only if the predicate admits one of the keys.
 pub fn repair<V: View>(
     alloc: Global,
     graph: &Graph,
@@ -159,11 +163,14 @@ pub fn repair<V: View>(
         hits,
         at: 0,
         others: List::new(alloc),
+        keys: Undo::new(alloc),
     };
     let mut new = NewRun {
         paths: List::new(alloc),
         kept: List::new(alloc),
         others: List::new(alloc),
+        keys: Undo::new(alloc),
+        known: 0,
     };
     while !task.ended() {
         step(alloc, graph, task, &mut old, &mut new, view)?;

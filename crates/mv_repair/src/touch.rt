@@ -1,16 +1,21 @@
 //! Which writes touch a record.
 
-ghost use Rattle.std.specs.Prelude.{◌≡◌};
+ghost use Rattle.std.specs.Prelude.{◌≡◌, List, false, IfOk, OnOk};
 ghost use Rattle.std.specs.List.{list_any};
 ghost use Rattle.std.specs.Option.{option_copied};
+ghost use Rattle.mv_values.specs.declared.patch.Write.{Write};
 ghost use Rattle.mv_values.specs.Preds.{names};
 ghost use Rattle.mv_history.specs.Hits.{reaches, touches, touches_predicate};
-ghost use Rattle.mv_repair.specs.Walking.{is_touched, writes_of};
+ghost use Rattle.mv_repair.specs.Walking.{is_touched, writes_at, writes_of, AreFirst, AreKnown, HasAdded};
 
 use crate::paths::item;
 use mv_record::record::Record;
+use mv_undo::undo::Undo;
+use mv_values::copied::Copied;
+use mv_values::memory::NoMemory;
 use mv_values::patch::{Assign, Patch, Write};
 use mv_values::pred::Pred;
+use std::alloc::Global;
 
 /// Whether the predicate selects or tests a column that is set.
 fn names_one(pred: &Pred, items: &[Assign]) -> bool
@@ -62,14 +67,65 @@ fn is_touched_by(record: &Record, other: Option<&Record>) -> bool
     }
 }
 
-/// Whether a write of the records with these numbers touches the record.
-pub(crate) fn is_touched(record: &Record, records: &[Record], numbers: &[usize]) -> bool
+/// Adds the keys that writes are on. A deletion stands for each key.
+pub(crate) fn add_keys(alloc: Global, keys: &mut Undo, writes: &[Write]) -> Result<(), NoMemory>
+    requires { AreFirst keys.old }
+    ensures { OnOk result (HasAdded keys.old writes.now keys.new) }
+{
+    for write in writes {
+        let key = write.key.copy(alloc)?;
+        keys.push(
+            0,
+            Write {
+                table: write.table,
+                key,
+                patch: Patch::Delete,
+            },
+        )?;
+    }
+    Ok(())
+}
+
+/// Whether a predicate of the record admits one of the keys. If not, no write on these keys touches the record.
+fn admits_some(alloc: Global, record: &Record, keys: &Undo) -> Result<bool, NoMemory>
+    ensures { IfOk result (λ some. some ≡ false → (ws : List Write) → AreKnown keys.now ws → list_any (touches record.now) ws ≡ false) }
+{
+    for pred in record.preds.as_slice() {
+        if keys.keys(alloc, 1, pred)?.len() > 0 {
+            return Ok(true);
+        }
+    }
+    Ok(false)
+}
+
+/// Whether a write of the records with these numbers touches the record. Tries each write.
+fn is_touched_at(record: &Record, records: &[Record], numbers: &[usize]) -> bool
     ensures { result ≡ is_touched record.now records.now numbers.now }
 {
-    if record.preds.len() == 0 {
-        return false;
-    }
     numbers
         .iter()
         .any(|number| is_touched_by(record, item(records, *number)))
+}
+
+/// Up to this many records are tried without a search for their keys.
+const FEW: usize = 16;
+
+/// Whether a write of the records with these numbers touches the record. `keys` has the keys of these writes.
+pub(crate) fn is_touched(
+    alloc: Global,
+    record: &Record,
+    records: &[Record],
+    numbers: &[usize],
+    keys: &Undo,
+) -> Result<bool, NoMemory>
+    requires { AreKnown keys.now (writes_at records.now numbers.now) }
+    ensures { IfOk result (λ touched. touched ≡ is_touched record.now records.now numbers.now) }
+{
+    if record.preds.len() == 0 {
+        return Ok(false);
+    }
+    if numbers.len() > FEW && !admits_some(alloc, record, keys)? {
+        return Ok(false);
+    }
+    Ok(is_touched_at(record, records, numbers))
 }

@@ -1,15 +1,17 @@
 //! The walk of a repair: the new run record by record, with the old run beside it.
 
-ghost use Rattle.std.specs.Prelude.{◌≡◌, ◌<◌, ◌+◌, ◌++◌, ◌∷◌, [], ℕ, List as Seq, None, Some, true, false, length, slice_get, IsSome, OnOk};
+ghost use Rattle.std.specs.Prelude.{◌≡◌, ◌<◌, ◌≤◌, ◌&&◌, ◌||◌, not, ◌+◌, ◌++◌, ◌∷◌, [], ℕ, List as Seq, None, Some, true, false, length, slice_get, IsSome, IfOk, OnOk};
 ghost use Rattle.std.specs.Option.{option_copied};
-ghost use Rattle.mv_repair.specs.Walking.{any_write, writes_of, noted, hollow, is_before, is_there, is_kept_by, kept_as, next_stays, reads_by, same_definer, stays_at, taken, added, renewed, HasPassed};
+ghost use Rattle.mv_repair.specs.Walking.{any_write, writes_of, noted, hollow, is_before, is_there, is_kept_by, kept_as, next_stays, reads_by, same_definer, stays_at, is_touched, next_writes, noted_next, writes_at, taken, added, renewed, AreFirst, AreKnown, HasAdded, HasCaughtUp, HasPassed};
 
 use crate::paths::{Path, is_earlier, is_path, item};
-use crate::touch::is_touched;
+use crate::touch::{add_keys, is_touched};
 use mv_exec::task::Ahead;
 use mv_record::record::{Read, Record, Spot};
+use mv_undo::undo::Undo;
 use mv_values::list::List;
 use mv_values::memory::NoMemory;
+use mv_values::patch::Write;
 use std::alloc::Global;
 
 /// The old run of a call.
@@ -24,6 +26,8 @@ pub(crate) struct OldRun {
     pub(crate) at: usize,
     /// The numbers of the passed records that made writes.
     pub(crate) others: List<usize>,
+    /// Writes on the keys of the others, under number 0.
+    pub(crate) keys: Undo,
 }
 
 /// The new run of a call.
@@ -34,6 +38,10 @@ pub(crate) struct NewRun {
     pub(crate) kept: List<Option<usize>>,
     /// The numbers of the executed records that made writes.
     pub(crate) others: List<usize>,
+    /// Writes on the keys of the others, under number 0.
+    pub(crate) keys: Undo,
+    /// How many of the others have their keys there.
+    pub(crate) known: usize,
 }
 
 /// Returns a record without contents.
@@ -76,6 +84,16 @@ fn is_there(next: Option<&Path>, path: &[usize]) -> bool
     }
 }
 
+/// Returns the writes of a record, none if there is no record.
+fn writes_of(record: Option<&Record>) -> &[Write]
+    ensures { result.now ≡ writes_of (option_copied record.entry) }
+{
+    match record {
+        Some(record) => record.writes.as_slice(),
+        None => &[],
+    }
+}
+
 /// Whether there is a record and it made writes.
 fn has_writes(record: Option<&Record>) -> bool
     ensures { result ≡ any_write (writes_of (option_copied record.entry)) }
@@ -104,10 +122,17 @@ impl OldRun {
         is_there(item(self.paths.as_slice(), self.at), path)
     }
 
-    /// Notes the number of the next record, if it made writes.
-    fn note(&mut self) -> Result<(), NoMemory>
-        ensures { OnOk result (self.new ≡ record self.old { others = noted (any_write (writes_of (slice_get self.old.records self.old.at))) self.old.at self.old.others }) }
+    /// Notes the next record among the others, if it made writes.
+    fn note(&mut self, alloc: Global) -> Result<(), NoMemory>
+        requires { AreFirst self.old.keys }
+        ensures noted { OnOk result (self.new ≡ noted_next self.new.keys self.old) }
+        ensures keys { OnOk result (HasAdded self.old.keys (next_writes self.old) self.new.keys) }
     {
+        add_keys(
+            alloc,
+            &mut self.keys,
+            writes_of(item(self.records.as_slice(), self.at)),
+        )?;
         if has_writes(item(self.records.as_slice(), self.at)) {
             self.others.push(self.at)?;
         }
@@ -115,12 +140,13 @@ impl OldRun {
     }
 
     /// Passes the records with paths before this one. The new run doesn't keep them.
-    pub(crate) fn pass(&mut self, path: &[usize]) -> Result<(), NoMemory>
+    pub(crate) fn pass(&mut self, alloc: Global, path: &[usize]) -> Result<(), NoMemory>
+        requires { AreFirst self.old.keys }
         ensures passed { OnOk result (HasPassed self.old path.now self.new) }
         ensures stops { OnOk result (is_before (slice_get self.new.paths self.new.at) path.now ≡ false) }
     {
         while self.at < self.paths.len() && self.is_before(path) {
-            self.note()?;
+            self.note(alloc)?;
             self.at += 1;
         }
         Ok(())
@@ -155,6 +181,20 @@ impl NewRun {
     {
         self.add(path, None)?;
         self.others.push(number)
+    }
+
+    /// Adds the keys of the others that aren't known yet. `records` are those of the new run so far.
+    pub(crate) fn catch_up(&mut self, alloc: Global, records: &[Record]) -> Result<(), NoMemory>
+        requires first { AreFirst self.old.keys }
+        requires within { self.old.known ≤ length self.old.others }
+        ensures { OnOk result (HasCaughtUp records.now self.old self.new) }
+    {
+        while self.known < self.others.len() {
+            let number = self.others.as_slice()[self.known];
+            add_keys(alloc, &mut self.keys, writes_of(item(records, number)))?;
+            self.known += 1;
+        }
+        Ok(())
     }
 
     /// Drops the last number noted, if its record made no writes.
@@ -219,35 +259,81 @@ fn reads_stay(kept: &[Option<usize>], olds: &[Read], news: &[Read]) -> bool
     true
 }
 
-/// Whether the next record of the old run may stay as the record that is ahead of the new run. `records` are those of
-/// the new run so far.
-fn next_stays(old: &OldRun, new: &NewRun, records: &[Record], ahead: &Ahead) -> bool
-    ensures { result ≡ next_stays old.now new.now records.now ahead.now (slice_get old.now.records old.now.at) (slice_get old.now.hits old.now.at) }
+/// Whether a write of the others of either run touches the record. `records` are those of the new run so far.
+fn is_touched_by_others(
+    alloc: Global,
+    record: &Record,
+    old: &OldRun,
+    new: &NewRun,
+    records: &[Record],
+) -> Result<bool, NoMemory>
+    requires old { AreKnown old.now.keys (writes_at old.now.records old.now.others) }
+    requires new { AreKnown new.now.keys (writes_at records.now new.now.others) }
+    ensures { IfOk result (λ touched. touched ≡ (is_touched record.now old.now.records old.now.others || is_touched record.now records.now new.now.others)) }
 {
-    let Some(record) = item(old.records.as_slice(), old.at) else {
-        return false;
-    };
-    let Some(is_hit) = item(old.hits.as_slice(), old.at) else {
-        return false;
-    };
+    if is_touched(
+        alloc,
+        record,
+        old.records.as_slice(),
+        old.others.as_slice(),
+        &old.keys,
+    )? {
+        return Ok(true);
+    }
+    is_touched(alloc, record, records, new.others.as_slice(), &new.keys)
+}
+
+/// Whether the next record of the old run may stay as the record that is ahead of the new run, but for the writes that
+/// touch it.
+fn may_stay(record: &Record, is_hit: bool, new: &NewRun, ahead: &Ahead) -> bool
+    ensures { result ≡ (is_kept_by new.now.kept ahead.now.parent && (reads_by new.now.kept record.now.reads ahead.now.reads && not is_hit)) }
+{
     let kept = new.kept.as_slice();
     is_kept(kept, ahead.parent)
-        && (reads_stay(kept, record.reads.as_slice(), ahead.reads.as_slice())
-            && (!*is_hit
-                && !(is_touched(record, old.records.as_slice(), old.others.as_slice())
-                    || is_touched(record, records, new.others.as_slice()))))
+        && (reads_stay(kept, record.reads.as_slice(), ahead.reads.as_slice()) && !is_hit)
+}
+
+/// Whether the next record of the old run stays as the record that is ahead of the new run, if they have the same path.
+/// `records` are those of the new run so far.
+fn next_stays(
+    alloc: Global,
+    old: &OldRun,
+    new: &NewRun,
+    records: &[Record],
+    ahead: &Ahead,
+) -> Result<bool, NoMemory>
+    requires old { AreKnown old.now.keys (writes_at old.now.records old.now.others) }
+    requires new { AreKnown new.now.keys (writes_at records.now new.now.others) }
+    ensures { IfOk result (λ stays. stays ≡ next_stays old.now new.now records.now ahead.now (slice_get old.now.records old.now.at) (slice_get old.now.hits old.now.at)) }
+{
+    let Some(record) = item(old.records.as_slice(), old.at) else {
+        return Ok(false);
+    };
+    let Some(is_hit) = item(old.hits.as_slice(), old.at) else {
+        return Ok(false);
+    };
+    if !may_stay(record, *is_hit, new, ahead) {
+        return Ok(false);
+    }
+    Ok(!is_touched_by_others(alloc, record, old, new, records)?)
 }
 
 /// Whether the next record of the old run stays as the record that is ahead of the new run, which has this path.
 /// `records` are those of the new run so far.
 pub(crate) fn stays(
+    alloc: Global,
     old: &OldRun,
     new: &NewRun,
     records: &[Record],
     ahead: &Ahead,
     path: &[usize],
-) -> bool
-    ensures { result ≡ stays_at old.now new.now records.now ahead.now path.now }
+) -> Result<bool, NoMemory>
+    requires old { AreKnown old.now.keys (writes_at old.now.records old.now.others) }
+    requires new { AreKnown new.now.keys (writes_at records.now new.now.others) }
+    ensures { IfOk result (λ stays. stays ≡ stays_at old.now new.now records.now ahead.now path.now) }
 {
-    old.is_at(path) && next_stays(old, new, records, ahead)
+    if !old.is_at(path) {
+        return Ok(false);
+    }
+    next_stays(alloc, old, new, records, ahead)
 }

@@ -20,8 +20,10 @@ pub loop-alloc-init : goal.loop-alloc-init
 loop-alloc-init g c = record {
   underway =
       begun c.args.graph.now (changes_since c.args.since.now) (g.V.View.sight c.args.view.now).database c.args.task.now c.restart.new.self c.restart.result c.in_ok-paths.paths c.in_ok-hits.hits c.new.result c.new-2.result c.new-3.result c.new-4.result
+      c.new-5.result c.new-6.result
       c.requires.leads (λ call is. c.restart.ensures.call c.args.graph.now call is) c.restart.ensures.records c.restart.ensures.executed c.restart.ensures.back
-      (c.in_ok-paths.ensures ∙ ap paths c.records-2.ensures) (c.in_ok-hits.ensures ∙ ap (λ (rs : List Record). hits_in (changes_since c.args.since.now) [] rs) c.records.ensures) c.new.ensures c.new-2.ensures c.new-3.ensures c.new-4.ensures;
+      (c.in_ok-paths.ensures ∙ ap paths c.records-2.ensures) (c.in_ok-hits.ensures ∙ ap (λ (rs : List Record). hits_in (changes_since c.args.since.now) [] rs) c.records.ensures) c.new.ensures c.new-2.ensures c.new-3.ensures c.new-4.ensures
+      c.new-5.ensures c.new-6.ensures;
   call = λ call is. c.restart.ensures.call c.args.graph.now call is;
   queried = none_queried c.args.task.now.records c.restart.new.self.records (changes_since c.args.since.now) 0 (g.V.View.sight c.args.view.now);
   same = record { database = refl; start = refl; may_be_stale = refl };

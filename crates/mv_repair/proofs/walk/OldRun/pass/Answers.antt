@@ -8,8 +8,11 @@ use Rattle.mv_repair.proofs.walk.OldRun.pass.Goals as goal
 pub loop-self-preserved : goal.loop-self-preserved
 loop-self-preserved c =
     let now = c.loop-self.self in
-    subst (λ (o : OldRun). HasPassed c.args.self.now c.args.path.now (record o { at = o.at + 1 })) (sym c.in_ok-note.ensures)
-    (passed_then c.args.self.now now _ c.args.path.now c.loop-self.invariant (passed_next now c.args.path.now (sym c.is_before.ensures ∙ c.if-is_before.true)))
+    record {
+      passed = subst (λ (o : OldRun). HasPassed c.args.self.now c.args.path.now (record o { at = o.at + 1 })) (sym c.in_ok-note.ensures.noted)
+          (passed_then c.args.self.now now _ c.args.path.now c.loop-self.invariant.passed (passed_next now c.args.path.now c.note.new.self.keys c.in_ok-note.ensures.keys (sym c.is_before.ensures ∙ c.if-is_before.true)));
+      first = c.in_ok-note.ensures.keys.first;
+    }
 
 pub returns-after-loop-self-clause-stops : goal.returns-after-loop-self-clause-stops
 returns-after-loop-self-clause-stops c =
