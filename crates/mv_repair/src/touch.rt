@@ -53,18 +53,21 @@ fn touches(record: &Record, write: &Write) -> bool
         .any(|pred| touches_predicate(write, pred))
 }
 
-/// Whether a write of the other record touches the record.
-fn is_touched_by(record: &Record, other: Option<&Record>) -> bool
-    ensures { result ≡ list_any (touches record.now) (writes_of (option_copied other.entry)) }
+/// Returns the writes of a record, none if there is no record.
+pub(crate) fn writes_of(record: Option<&Record>) -> &[Write]
+    ensures { result.now ≡ writes_of (option_copied record.entry) }
 {
-    match other {
-        Some(other) => other
-            .writes
-            .as_slice()
-            .iter()
-            .any(|write| touches(record, write)),
-        None => false,
+    match record {
+        Some(record) => record.writes.as_slice(),
+        None => &[],
     }
+}
+
+/// Whether one of these writes touches the record.
+fn one_touches(record: &Record, writes: &[Write]) -> bool
+    ensures { result ≡ list_any (touches record.now) writes.now }
+{
+    writes.iter().any(|write| touches(record, write))
 }
 
 /// Adds the keys that writes are on. A deletion stands for each key.
@@ -102,9 +105,7 @@ fn admits_some(alloc: Global, record: &Record, keys: &Undo) -> Result<bool, NoMe
 fn is_touched_at(record: &Record, records: &[Record], numbers: &[usize]) -> bool
     ensures { result ≡ is_touched record.now records.now numbers.now }
 {
-    numbers
-        .iter()
-        .any(|number| is_touched_by(record, item(records, *number)))
+    numbers.iter().any(|number| one_touches(record, writes_of(item(records, *number))))
 }
 
 /// Up to this many records are tried without a search for their keys.

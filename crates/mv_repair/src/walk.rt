@@ -5,13 +5,12 @@ ghost use Rattle.std.specs.Option.{option_copied};
 ghost use Rattle.mv_repair.specs.Walking.{any_write, writes_of, noted, hollow, is_before, is_there, is_kept_by, kept_as, next_stays, reads_by, same_definer, stays_at, is_touched, next_writes, noted_next, writes_at, taken, added, renewed, AreFirst, AreKnown, HasAdded, HasCaughtUp, HasPassed};
 
 use crate::paths::{Path, is_earlier, is_path, item};
-use crate::touch::{add_keys, is_touched};
+use crate::touch::{add_keys, is_touched, writes_of};
 use mv_exec::task::Ahead;
 use mv_record::record::{Read, Record, Spot};
 use mv_undo::undo::Undo;
 use mv_values::list::List;
 use mv_values::memory::NoMemory;
-use mv_values::patch::Write;
 use std::alloc::Global;
 
 /// The old run of a call.
@@ -81,16 +80,6 @@ fn is_there(next: Option<&Path>, path: &[usize]) -> bool
     match next {
         Some(next) => is_path(next.as_slice(), path),
         None => false,
-    }
-}
-
-/// Returns the writes of a record, none if there is no record.
-fn writes_of(record: Option<&Record>) -> &[Write]
-    ensures { result.now ≡ writes_of (option_copied record.entry) }
-{
-    match record {
-        Some(record) => record.writes.as_slice(),
-        None => &[],
     }
 }
 
