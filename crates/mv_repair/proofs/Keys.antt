@@ -47,9 +47,11 @@ still_known keys w vs h =
 
 pub known_more : (keys : List Owned) (w : Write) (vs : List Write) → AreKnown keys vs → AreKnown (keys ++ first_on w ∷ []) (vs ++ w ∷ [])
 known_more keys w vs h =
-    each_join (λ v. touches v.table v.key (earlier 1 (keys ++ first_on w ∷ [])) ≡ true) vs (w ∷ []) (still_known keys w vs h)
-    (ap (touches w.table w.key) (earlier_more keys w)
-    ∙ (list_any-append (is_on w.table w.key) (earlier 1 keys) ((first_on w).write ∷ []) ∙ so_last (touches w.table w.key (earlier 1 keys)) (is_on w.table w.key (first_on w).write) (on_itself w)), tt)
+    each_join (λ v. touches v.table v.key (earlier 1 (keys ++ first_on w ∷ [])) ≡ true) vs (w ∷ []) (still_known keys w vs h) (
+      ap (touches w.table w.key) (earlier_more keys w)
+          ∙ (list_any-append (is_on w.table w.key) (earlier 1 keys) ((first_on w).write ∷ []) ∙ so_last (touches w.table w.key (earlier 1 keys)) (is_on w.table w.key (first_on w).write) (on_itself w)),
+      tt,
+    )
 
 -- Predicates
 
