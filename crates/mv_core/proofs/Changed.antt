@@ -25,8 +25,8 @@ use Rattle.mv_core.specs.Books.{Booked, work_in, Made, IsSame, HasRoom, IsNotSta
 use Rattle.mv_core.specs.Cores.{IsLiveTask, HasStep, MayStep, IsStoreOf, IsCore}
 use Rattle.mv_core.proofs.Journals.{changed_at, set_there}
 use Rattle.mv_core.proofs.Stored.{stored_same, at_least}
-use Rattle.mv_core.proofs.Taking.{tasks_same, due_whole, one_live}
-use Rattle.mv_core.proofs.Refusing.{live_is, both_true, step_is}
+use Rattle.mv_core.proofs.Taking.{both_true, tasks_same, due_whole, one_live}
+use Rattle.mv_core.proofs.Refusing.{live_is, step_is}
 use Rattle.mv_store.specs.Stored.{Versioned}
 
 -- No event

@@ -38,11 +38,6 @@ same_made old new s = record { allowed = tt; course = s.course; journal = s.jour
 
 -- A begin
 
-pub both_true : (a b : Bool) → (a && b) ≡ true → (a ≡ true) × (b ≡ true)
-both_true true true h = (refl, refl)
-both_true true false h = absurd (search (rules, h))
-both_true false b h = absurd (search (rules, h))
-
 pub begun_number : (c : ℕ) (old new : Booked) → Made (B c) old new → c ≡ length old.course.calls
 begun_number c old new made = (room_of (work_in old) (length old.course.calls) c made.allowed).0
 

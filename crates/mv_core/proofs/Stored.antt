@@ -24,6 +24,7 @@ use Rattle.mv_alike.proofs.Unhit.{unhit_same}
 use Rattle.mv_lawful.specs.declared.fault.Fault.TheVariants.{Stale, Conflict}
 use Rattle.mv_lawful.specs.Work.{Work, tables_after, table_at, records_at, changes_after, since, hit_of}
 use Rattle.mv_lawful.specs.Lawful.{Live, Course, unless, refusal, after, is_stale}
+use Rattle.mv_lawful.proofs.Turns.{tables_more}
 use Rattle.mv_journal.specs.declared.event.Event.{Event}
 use Rattle.mv_journal.specs.declared.event.Event.TheVariants.{C}
 use Rattle.mv_view.specs.Viewing.{Sight}
@@ -62,15 +63,11 @@ after_database tables s (c ∷ cs) db k d = after_database tables s cs ((work_of
 pub table_database : (tables : List TableInfo) (s : Script) (order : List ℕ) (n : ℕ) → IsScriptOf tables s → IsDatabaseOf tables (table_at (work_of s) order n)
 table_database tables s order n k = after_database tables s (take n order) s.opening k k.opening
 
-after_more : (w : Work) (db : Tables) (cs : List ℕ) (c : ℕ) → tables_after w db (cs ++ c ∷ []) ≡ (w.run c (tables_after w db cs)).tables
-after_more w db [] c = refl
-after_more w db (x ∷ cs) c = after_more w (w.run x db).tables cs c
-
 pub table_more : (w : Work) (order : List ℕ) (c n : ℕ) → n ≡ length order + 1 → table_at w (order ++ c ∷ []) n ≡ (w.run c (table_at w order (length order))).tables
 table_more w order c n is =
     let len = length-append order (c ∷ []) in
     ap (tables_after w w.opening) (take_all n (order ++ c ∷ []) (omega (arith, is, len)))
-    ∙ (after_more w w.opening order c ∙ ap (λ cs. (w.run c (tables_after w w.opening cs)).tables) (sym (take_all (length order) order (omega arith))))
+    ∙ (tables_more w w.opening order c ∙ ap (λ cs. (w.run c (tables_after w w.opening cs)).tables) (sym (take_all (length order) order (omega arith))))
 
 pub database_in : (s : Script) (order : List ℕ) (c n : ℕ) (db : Tables) → IsScript s → db ≡ table_at (work_of s) order n → IsDatabaseIn s c db
 database_in s order c n db k is call g here =
@@ -180,7 +177,7 @@ stored_same old new store k same = stored_on old new store k same.script (ap (λ
 pub stored_made : (e : Event) (old new : Booked) (store : Versioned) → IsStoreOf old store → Made e old new → (after (work_in old) old.course e).order ≡ old.course.order → (after (work_in old) old.course e).low ≡ old.course.low → IsStoreOf new store
 stored_made e old new store k made order low = stored_on old new store k made.script (ap (λ (s : Course). s.order) made.course ∙ order) (ap (λ (s : Course). s.low) made.course ∙ low)
 
-same_or_apart : (a b : ℕ) → (a ≡ b) ⊎ (a ≡ b → ⊥)
+pub same_or_apart : (a b : ℕ) → (a ≡ b) ⊎ (a ≡ b → ⊥)
 same_or_apart zero zero = inl refl
 same_or_apart zero (suc b) = inr (λ e. omega (arith, e))
 same_or_apart (suc a) zero = inr (λ e. omega (arith, e))

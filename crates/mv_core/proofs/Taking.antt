@@ -25,7 +25,7 @@ use Rattle.mv_core.specs.Books.{Booked, work_in, Made, IsSame, AreRecordsOf}
 use Rattle.mv_view.specs.Viewing.{Sight}
 use Rattle.mv_core.specs.Cores.{RunsOn, HasRunOne, AreMoves, HasMoved, HasTurns, last_start, IsLiveTask, IsTaskIn, HasTasks}
 use Rattle.mv_core.proofs.Numbers.{table_stays}
-use Rattle.mv_core.proofs.Stored.{run_is, table_database, Shows}
+use Rattle.mv_core.proofs.Stored.{same_or_apart, run_is, table_database, Shows}
 use Rattle.mv_core.proofs.Journals.{changed_at, get_last, get_front, get_set, set_there, set_apart, same_long}
 
 -- The call of a number
@@ -217,15 +217,6 @@ tasks_set s course ts c t k live task = record {
   count = same_long ts c (Some t) ∙ k.count;
   running = λ d x alive. by d x alive (same_or_apart d c);
 } where
-  same_or_apart : (a b : ℕ) → (a ≡ b) ⊎ (a ≡ b → ⊥)
-  same_or_apart zero zero = inl refl
-  same_or_apart zero (suc b) = inr (λ e. omega (arith, e))
-  same_or_apart (suc a) zero = inr (λ e. omega (arith, e))
-  same_or_apart (suc a) (suc b) = more (same_or_apart a b) where
-    more : (a ≡ b) ⊎ (a ≡ b → ⊥) → (suc a ≡ suc b) ⊎ (suc a ≡ suc b → ⊥)
-    more (inl h) = inl (ap suc h)
-    more (inr h) = inr (λ e. h (omega (arith, e)))
-
   by : (d : ℕ) (x : Live) → IsLive course d x → (d ≡ c) ⊎ (d ≡ c → ⊥) → (u : Task) × (slice_get (slice_set ts c (Some t)) d ≡ Some (Some u)) × IsLiveTask s course.order d x u
   by d x alive (inl e) =
       let had = k.running c live.0 live.1 in (
@@ -319,6 +310,11 @@ runs_shown b c n s v task is shows runs = subst (λ (x : Script). RunsOn x c v.d
 pub runs_back : (b : Booked) (c n : ℕ) (s : Script) (v : Sight) (task : Task) → s ≡ b.script → Shows b.script b.course.order n v → RunsOn s c v.database task → RunsOn b.script c (table_at (work_in b) b.course.order n) task
 runs_back b c n s v task is shows runs = subst (λ db. RunsOn b.script c db task) shows.database (subst (λ (x : Script). RunsOn x c v.database task) is runs)
 
+pub both_true : (a b : Bool) → (a && b) ≡ true → (a ≡ true) × (b ≡ true)
+both_true true true h = (refl, refl)
+both_true true false h = absurd (search (rules, h))
+both_true false b h = absurd (search (rules, h))
+
 -- a call that has a step, all of whose records the journal names, hasn't ended
 pub goes_on : (s : Script) (course : Course) (c : ℕ) (l : Live) (t : Task) → IsScript s → c < length s.calls → IsLiveTask s course.order c l t → l.steps ≡ length t.records → has_step (work_of s) course c l ≡ true → t.ended ≡ false
 goes_on s course c l t k lt task here has = by t.ended refl where
@@ -334,13 +330,8 @@ goes_on s course c l t k lt task here has = by t.ended refl where
   all : records_at (work_of s) course.order l.start c ≡ t.records ++ way.rest
   all = ap (λ (r : Run). r.records) (run_is s c call.0 call.1 db call.2) ∙ way.leaves
 
-  second : (a b : Bool) → (a && b) ≡ true → b ≡ true
-  second true true h = refl
-  second true false h = absurd (search (rules, h))
-  second false b h = absurd (search (rules, h))
-
   less : nat_lt l.steps (length (records_at (work_of s) course.order l.start c)) ≡ true
-  less = second (used l == 0) (nat_lt l.steps (length (records_at (work_of s) course.order l.start c))) has
+  less = (both_true (used l == 0) (nat_lt l.steps (length (records_at (work_of s) course.order l.start c))) has).1
 
   itself : (n : ℕ) → nat_lt n n ≡ true → ⊥
   itself n h = grind (arith, h)
