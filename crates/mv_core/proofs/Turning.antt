@@ -124,21 +124,23 @@ lawful_shut es old new made none =
     subst (λ (s : Script). open_call (work_of s) new.course ≡ None) (sym made.script)
     (subst (λ (s : Course). open_call (work_in old) s ≡ None) (sym made.course) (some_open (open_call (work_in old) (reach (work_in old) old.course es)) (sym (only_open (work_in old) 1 old.course es made.allowed) ∙ none)))
 
-pub turned_shut : (start old new : Booked) → IsTurned start old → length old.course.calls ≡ length old.script.calls → IsSame old new → open_call (work_in new) new.course ≡ None
-turned_shut start old new t many same =
-    let w : Work = work_in start in
-    let all : length old.course.calls ≡ w.count = many ∙ ap (λ (s : Script). length s.calls) t.1.script in
-    let lawful : wrong_from w 1 start.course (in_turn (length old.course.calls)) ≡ None =
-    ap (λ s. wrong_from w 1 s (in_turn (length old.course.calls))) t.0 ∙ (ap (λ n. wrong_from w 1 beginning (in_turn n)) all ∙ (in_turn_is_lawful w).lawful) in
-    lawful_shut (in_turn (length old.course.calls)) start new (made_none (in_turn (length old.course.calls)) start old new t.1 (same_made old new same)) lawful
+-- all calls have begun, so all turns were made
+pub turned_all : (start old new : Booked) → IsTurned start old → length old.course.calls ≡ length old.script.calls → IsSame old new → HasMade (in_turn (length start.script.calls)) start new
+turned_all start old new t many same =
+    let all : length old.course.calls ≡ length start.script.calls = many ∙ ap (λ (s : Script). length s.calls) t.1.script in
+    subst (λ n. HasMade (in_turn n) start new) all (made_none (in_turn (length old.course.calls)) start old new t.1 (same_made old new same))
 
-pub turned_outcome : (s : Script) (start old new : Booked) (o : Outcome) → IsTurned start old → length old.course.calls ≡ length old.script.calls → IsSame old new → start.script ≡ s → start.journal ≡ []
+pub turned_shut : (start new : Booked) → start.course ≡ beginning → HasMade (in_turn (length start.script.calls)) start new → open_call (work_in new) new.course ≡ None
+turned_shut start new first made =
+    let w : Work = work_in start in
+    lawful_shut (in_turn w.count) start new made (ap (λ s. wrong_from w 1 s (in_turn w.count)) first ∙ (in_turn_is_lawful w).lawful)
+
+pub turned_outcome : (s : Script) (start new : Booked) (o : Outcome) → HasMade (in_turn (length start.script.calls)) start new → start.script ≡ s → start.journal ≡ []
     → o ≡ outcome_of (work_in new) new.journal → o ≡ outcome_of (work_of s) (in_turn (length s.calls))
-turned_outcome s start old new o t many same script journal is =
-    let here : new.script ≡ s = same.script ∙ (t.1.script ∙ script) in
-    let all : length old.course.calls ≡ length s.calls = many ∙ ap (λ (x : Script). length x.calls) (t.1.script ∙ script) in
-    let events : new.journal ≡ in_turn (length s.calls) = same.journal ∙ (t.1.journal ∙ (ap (λ es. es ++ in_turn (length old.course.calls)) journal ∙ ap in_turn all)) in
-    is ∙ (ap (λ x. outcome_of (work_of x) new.journal) here ∙ ap (outcome_of (work_of s)) events)
+turned_outcome s start new o made script journal is =
+    let events : new.journal ≡ in_turn (length s.calls) =
+    made.journal ∙ (ap (λ es. es ++ in_turn (length start.script.calls)) journal ∙ ap (λ (x : Script). in_turn (length x.calls)) script) in
+    is ∙ (ap (λ x. outcome_of (work_of x) new.journal) (made.script ∙ script) ∙ ap (outcome_of (work_of s)) events)
 
 -- A journal
 

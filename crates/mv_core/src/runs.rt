@@ -1,9 +1,10 @@
 //! Whole runs of a script: its calls in turn, or a journal.
 
-ghost use Rattle.std.specs.Prelude.{◌≡◌, ◌<◌, ◌^◌, ◌↔◌, IsTrue, All, length, IfOk};
+ghost use Rattle.std.specs.Prelude.{◌≡◌, ◌<◌, ◌^◌, ◌↔◌, IsTrue, All, length, IfOk, OnOk};
+ghost use Rattle.mv_lawful.specs.Lawful.{beginning};
 ghost use Rattle.mv_lawful.specs.Outcomes.{outcome_of, in_turn};
 ghost use Rattle.mv_core.specs.Scripts.{IsScript, work_of};
-ghost use Rattle.mv_core.specs.Drives.{NeedsNoRepair, HasReplayed};
+ghost use Rattle.mv_core.specs.Drives.{HasMade, NeedsNoRepair, HasReplayed};
 
 use crate::drive::{DriveFault, drive};
 use crate::engine::Core;
@@ -13,6 +14,17 @@ use mv_journal::outcome::Outcome;
 use mv_values::memory::NoMemory;
 use std::alloc::Global;
 
+/// Begins and commits the calls of a core without events, one after another.
+fn run_calls(alloc: Global, core: &mut Core) -> Result<(), NoMemory>
+    requires { core.old.course ≡ beginning }
+    ensures { OnOk result (HasMade (in_turn (length core.old.script.calls)) core.old core.new) }
+{
+    while let Some(call) = core.begin(alloc)? {
+        core.attempt(alloc, call)?;
+    }
+    Ok(())
+}
+
 /// Runs the calls of a script in order: each begins and commits before the next begins. Fails with `NoMemory` if memory
 /// runs out.
 pub fn run_in_turn(alloc: Global, script: Script) -> Result<Outcome, NoMemory>
@@ -20,9 +32,7 @@ pub fn run_in_turn(alloc: Global, script: Script) -> Result<Outcome, NoMemory>
     ensures { IfOk result (λ outcome. outcome ≡ outcome_of (work_of script) (in_turn (length script.calls))) }
 {
     let mut core = Core::new(alloc, script)?;
-    while let Some(call) = core.begin(alloc)? {
-        core.attempt(alloc, call)?;
-    }
+    run_calls(alloc, &mut core)?;
     core.outcome(alloc)
 }
 

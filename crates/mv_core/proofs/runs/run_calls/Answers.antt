@@ -1,0 +1,30 @@
+use Rattle.std.proofs.Common.{◌≡◌, ℕ, Option, Ok, length, ap, subst, arith}
+use Rattle.mv_journal.specs.declared.event.Event.TheVariants.{B, C}
+use Rattle.mv_core.specs.declared.script.Script.{Script}
+use Rattle.mv_core.specs.Books.{Made, IsSame, work_in}
+use Rattle.mv_core.specs.Cores.{HasBegunCall}
+use Rattle.mv_core.proofs.Journals.{room_of}
+use Rattle.mv_core.proofs.Turning.{turn_commits, turned_more, many_turned, turned_all}
+use Rattle.mv_core.proofs.runs.run_calls.Goals as goal
+
+pub loop-call-smaller : goal.loop-call-smaller
+loop-call-smaller c =
+    let begun : Made (B c.in-Some.call) c.loop-call.core c.begin.new.self = subst (λ (o : Option ℕ). HasBegunCall (Ok o) c.loop-call.core c.begin.new.self) c.in-Some.is c.in_ok-call.ensures in
+    let commits : Made (C c.in-Some.call) c.begin.new.self c.attempt.new.self = turn_commits c.in-Some.call c.in_ok-attempt.field-0 c.args.core.now c.loop-call.core c.begin.new.self c.attempt.new.self c.loop-call.invariant begun c.in_ok-attempt.ensures in
+    let less = (room_of (work_in c.loop-call.core) (length c.loop-call.core.course.calls) c.in-Some.call begun.allowed).1 in
+    let more = many_turned c.in-Some.call c.loop-call.core c.begin.new.self c.attempt.new.self begun commits in
+    let first = ap (λ (s : Script). length s.calls) begun.script in
+    let second = ap (λ (s : Script). length s.calls) commits.script in
+    omega (arith, less, more, first, second)
+
+pub loop-call-preserved : goal.loop-call-preserved
+loop-call-preserved c =
+    let begun : Made (B c.in-Some.call) c.loop-call.core c.begin.new.self = subst (λ (o : Option ℕ). HasBegunCall (Ok o) c.loop-call.core c.begin.new.self) c.in-Some.is c.in_ok-call.ensures in
+    let commits : Made (C c.in-Some.call) c.begin.new.self c.attempt.new.self = turn_commits c.in-Some.call c.in_ok-attempt.field-0 c.args.core.now c.loop-call.core c.begin.new.self c.attempt.new.self c.loop-call.invariant begun c.in_ok-attempt.ensures in
+    turned_more c.in-Some.call c.args.core.now c.loop-call.core c.begin.new.self c.attempt.new.self c.loop-call.invariant begun commits
+
+pub returns : goal.returns
+returns c =
+    let none : (length c.loop-call.core.course.calls ≡ length c.loop-call.core.script.calls) × IsSame c.loop-call.core c.begin.new.self =
+    subst (λ (o : Option ℕ). HasBegunCall (Ok o) c.loop-call.core c.begin.new.self) c.in_default.is c.in_ok-call.ensures in
+    turned_all c.args.core.now c.loop-call.core c.begin.new.self c.loop-call.invariant none.0 none.1
