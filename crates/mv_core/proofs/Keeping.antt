@@ -37,7 +37,7 @@ facts s course ps journal k = subst (Facts (work_of s) (length journal)) (sym k.
 
 -- A call
 
-live_here : (ps : List Progress) (c : ℕ) (p : Progress) → slice_get ps c ≡ Some p → slice_get (map live_of ps) c ≡ Some (live_of p)
+pub live_here : (ps : List Progress) (c : ℕ) (p : Progress) → slice_get ps c ≡ Some p → slice_get (map live_of ps) c ≡ Some (live_of p)
 live_here ps c p at = slice_get-map live_of ps c ∙ ap (option_map live_of) at
 
 -- what is told of a call stays when another one commits

@@ -1,5 +1,5 @@
 -- The numbers of live calls.
-use Rattle.std.proofs.Common.{◌≡◌, ℕ, zero, suc, ◌+◌, ◌<◌, ◌≤◌, Bool, true, false, cond, List, [], ◌∷◌, ◌++◌, Some, map, length, min, get_or, slice_set, if◌then◌else◌, refl, sym, ap, subst, ◌∙◌, arith, zero-add, rules}
+use Rattle.std.proofs.Common.{◌≡◌, ◌⊎◌, inl, inr, ℕ, zero, suc, ◌+◌, ◌<◌, ◌≤◌, Bool, true, false, cond, List, [], ◌∷◌, ◌++◌, Some, map, length, min, get_or, slice_set, if◌then◌else◌, refl, sym, ap, subst, ◌∙◌, arith, zero-add, rules}
 use Rattle.std.specs.Prelude.{slice_get, All, slice_index_or}
 use Rattle.std.specs.Option.{option_map}
 use Rattle.std.specs.Ordering.{is_eq, nat_cmp, match_ordering}
@@ -10,6 +10,7 @@ use Rattle.std.proofs.lemmas.Option.{slice_get-map, slice_get_read}
 use Rattle.mv_lawful.specs.Lawful.{Live, begin, oldest}
 use Rattle.mv_core.specs.declared.progress.Progress.{Progress}
 use Rattle.mv_core.specs.Calls.{live_of}
+use Rattle.mv_core.proofs.Journals.{get_last, get_set}
 use Rattle.mv_core.specs.Lives.{live_from, live_numbers, without, start_by, start_in, least_start}
 
 above : (c d : ℕ) → d < c → nat_cmp c d ≡ Greater
@@ -107,6 +108,51 @@ oldest_is n ls = by 0 ls (λ k l at. subst (λ j. slice_get ls j ≡ Some l) (sy
 pub least_past : (n : ℕ) (ls : List Live) (cs : List ℕ) → least_start n ls cs ≤ n
 least_past n ls [] = omega arith
 least_past n ls (c ∷ cs) = let le = least_past n ls cs in omega (arith, le)
+
+pub oldest_within : (n : ℕ) (ls : List Live) → oldest n ls ≤ n
+oldest_within n ls = subst (λ m. m ≤ n) (sym (oldest_is n ls)) (least_past n ls (live_numbers ls))
+
+-- no live call started before it
+pub oldest_below : (n c : ℕ) (l : Live) (ls : List Live) → slice_get ls c ≡ Some l → l.done ≡ false → oldest n ls ≤ l.start
+oldest_below n c l [] at live = absurd (search (rules, at))
+oldest_below n zero l (m ∷ ls) at live = by m.done (ap (λ (x : Live). x.done) one ∙ live) where
+  one : m ≡ l
+  one = search (rules, at)
+
+  by : (b : Bool) → b ≡ false → (if b then oldest n ls else min m.start (oldest n ls)) ≤ l.start
+  by true e = absurd (search (rules, e))
+  by false e = let same : m.start ≡ l.start = ap (λ (x : Live). x.start) one in omega (arith, same)
+oldest_below n (suc c) l (m ∷ ls) at live = by m.done (oldest_below n c l ls at live) where
+  by : (b : Bool) → oldest n ls ≤ l.start → (if b then oldest n ls else min m.start (oldest n ls)) ≤ l.start
+  by true h = h
+  by false h = omega (arith, h)
+
+-- it is the greatest such number up to n
+oldest_above : (b n : ℕ) (ls : List Live) → b ≤ n → ((c : ℕ) (l : Live) → slice_get ls c ≡ Some l → l.done ≡ false → b ≤ l.start) → b ≤ oldest n ls
+oldest_above b n [] le all = le
+oldest_above b n (m ∷ ls) le all = by m.done refl (oldest_above b n ls le (λ c l at live. all (suc c) l at live)) where
+  by : (d : Bool) → m.done ≡ d → b ≤ oldest n ls → b ≤ (if d then oldest n ls else min m.start (oldest n ls))
+  by true e h = h
+  by false e h = let first = all 0 m refl e in omega (arith, first, h)
+
+-- it doesn't fall when a call begins
+pub oldest_begun : (n : ℕ) (ls : List Live) → oldest n ls ≤ oldest n (ls ++ begin n ∷ [])
+oldest_begun n ls = oldest_above (oldest n ls) n (ls ++ begin n ∷ []) (oldest_within n ls) (λ c l at live. by c l live (get_last ls (begin n) c l at)) where
+  by : (c : ℕ) (l : Live) → l.done ≡ false → (slice_get ls c ≡ Some l) ⊎ ((c ≡ length ls) × (begin n ≡ l)) → oldest n ls ≤ l.start
+  by c l live (inl at) = oldest_below n c l ls at live
+  by c l live (inr h) = let start : n ≡ l.start = ap (λ (x : Live). x.start) h.1 in let le = oldest_within n ls in omega (arith, start, le)
+
+-- nor when a live call starts anew or commits
+pub oldest_set : (n m c : ℕ) (l k : Live) (ls : List Live) → n ≤ m → slice_get ls c ≡ Some l → l.done ≡ false → (k.done ≡ false → l.start ≤ k.start) → oldest n ls ≤ oldest m (slice_set ls c k)
+oldest_set n m c l k ls up at live rises =
+    oldest_above (oldest n ls) m (slice_set ls c k) (let le = oldest_within n ls in omega (arith, le, up)) (λ d x there going. by d x going (get_set ls c d k x there)) where
+      by : (d : ℕ) (x : Live) → x.done ≡ false → ((d ≡ c) × (k ≡ x)) ⊎ ((d ≡ c → ⊥) × (slice_get ls d ≡ Some x)) → oldest n ls ≤ x.start
+      by d x going (inl h) =
+          let start : k.start ≡ x.start = ap (λ (y : Live). y.start) h.1 in
+          let le = oldest_below n c l ls at live in
+          let more = rises (ap (λ (y : Live). y.done) h.1 ∙ going) in
+          omega (arith, start, le, more)
+      by d x going (inr h) = oldest_below n d x ls h.1 going
 
 pub least_first : (n : ℕ) (ls : List Live) (cs : List ℕ) → min n (least_start n ls cs) ≡ least_start n ls cs
 least_first n ls cs = let le = least_past n ls cs in omega (arith, le)

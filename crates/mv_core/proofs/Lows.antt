@@ -14,7 +14,7 @@ use Rattle.mv_core.specs.Lives.{live_numbers, least_start}
 use Rattle.mv_core.specs.Books.{Booked, IsKept, work_in}
 use Rattle.mv_core.specs.declared.book.Book.TheInside.{Inside}
 use Rattle.mv_core.specs.contracts.book.Book.{the_view}
-use Rattle.mv_core.proofs.Lives.{oldest_is, least_past}
+use Rattle.mv_core.proofs.Lives.{oldest_is, oldest_within}
 use Rattle.mv_core.proofs.Keeping.{the_course, kept_event}
 
 pub kept_low : (s : Script) (order : List ℕ) (low next : ℕ) (ps : List Progress) (journal longer : List Event)
@@ -22,29 +22,38 @@ pub kept_low : (s : Script) (order : List ℕ) (low next : ℕ) (ps : List Progr
     → IsKept s (the_course order next (map live_of ps)) ps longer
 kept_low s order low next ps journal longer k is adds = kept_event s _ _ ps ps journal longer G k refl (ap (λ n. the_course order n (map live_of ps)) is) adds k.tells
 
--- what a collection finds by the live calls alone
-pub low_told : (i : Inside) (old : Booked) (n o f m k : ℕ) → the_view i ≡ old → i.live ≡ live_numbers (map live_of i.calls.items) → n ≡ length old.course.order
-    → o ≡ least_start n (map live_of i.calls.items) i.live → f ≡ floor n i.script.options.horizon → m ≡ max o f → k ≡ max i.low m → k ≡ next_low (work_in old) old.course
-low_told i old n o f m k is live count oldest past most all =
-    all ∙ (ap (max i.low) (most ∙ (ap (λ x. max x f) (oldest ∙ here) ∙ ap (max (old_oldest n)) past))
-    ∙ (ap (λ x. max i.low (max (old_oldest x) (floor x i.script.options.horizon))) count
-    ∙ (ap (λ (b : Booked). max i.low (max (old_oldest (length b.course.order)) (floor (length b.course.order) i.script.options.horizon))) (sym is)
-    ∙ ap (λ (b : Booked). next_low (work_in b) b.course) is))) where
-      old_oldest : ℕ → ℕ
-      old_oldest x = oldest_of x (map live_of i.calls.items)
+-- what the live calls tell
+pub oldest_told : (i : Inside) (old : Booked) (n o : ℕ) → the_view i ≡ old → i.live ≡ live_numbers (map live_of i.calls.items) → n ≡ length old.course.order
+    → o ≡ least_start n (map live_of i.calls.items) i.live → o ≡ oldest_of (length old.course.order) old.course.calls
+oldest_told i old n o is live count least =
+    least ∙ (ap (least_start n (map live_of i.calls.items)) live
+    ∙ (sym (oldest_is n (map live_of i.calls.items))
+    ∙ (ap (λ x. oldest_of x (map live_of i.calls.items)) count ∙ ap (λ (b : Booked). oldest_of (length old.course.order) b.course.calls) is)))
 
-      here : least_start n (map live_of i.calls.items) i.live ≡ old_oldest n
-      here = ap (least_start n (map live_of i.calls.items)) live ∙ sym (oldest_is n (map live_of i.calls.items))
+-- up to which commit no live call needs changes
+pub needless_told : (i : Inside) (old : Booked) (o m : ℕ) → the_view i ≡ old → o ≡ oldest_of (length old.course.order) old.course.calls → m ≡ max i.low o
+    → m ≡ max i.low (oldest_of (length i.order.items) (map live_of i.calls.items))
+needless_told i old o m is oldest most = most ∙ ap (max i.low) (oldest ∙ ap (λ (b : Booked). oldest_of (length b.course.order) b.course.calls) (sym is))
+
+-- what a collection finds
+pub low_told : (i : Inside) (old : Booked) (n o f m k : ℕ) → the_view i ≡ old → n ≡ length old.course.order → o ≡ oldest_of (length old.course.order) old.course.calls
+    → f ≡ floor n i.script.options.horizon → m ≡ max o f → k ≡ max i.low m → k ≡ next_low (work_in old) old.course
+low_told i old n o f m k is count oldest past most all =
+    all ∙ (ap (max i.low) (most ∙ (ap (λ x. max x f) oldest ∙ ap (max (oldest_of (length old.course.order) old.course.calls)) (past ∙ ap (λ x. floor x i.script.options.horizon) count)))
+    ∙ ap (λ (b : Booked). max b.course.low (max (oldest_of (length old.course.order) old.course.calls) (floor (length old.course.order) b.script.options.horizon))) is)
 
 -- low rises, and not past the commits
 pub next_within : (s : Script) (order : List ℕ) (low next : ℕ) (ps : List Progress) → low ≤ length order → next ≡ next_low (work_of s) (the_course order low (map live_of ps)) → (low ≤ next) × (next ≤ length order)
 next_within s order low next ps le is = (
   subst (λ n. low ≤ n) (sym is) (low_never_falls (work_of s) (the_course order low (map live_of ps)) G),
-  subst (λ n. n ≤ length order) (sym is) (max-le le (max-le oldest (past s.options.horizon))),
+  subst (λ n. n ≤ length order) (sym is) (max-le le (max-le (oldest_within (length order) (map live_of ps)) (past s.options.horizon))),
 ) where
-  oldest : oldest_of (length order) (map live_of ps) ≤ length order
-  oldest = subst (λ n. n ≤ length order) (sym (oldest_is (length order) (map live_of ps))) (least_past (length order) (map live_of ps) (live_numbers (map live_of ps)))
-
   past : (h : Option ℕ) → floor (length order) h ≤ length order
   past None = omega arith
   past (Some h) = omega arith
+
+-- it is past what no live call needs
+pub next_past : (s : Script) (order : List ℕ) (low next : ℕ) (ps : List Progress) → next ≡ next_low (work_of s) (the_course order low (map live_of ps)) → max low (oldest_of (length order) (map live_of ps)) ≤ next
+next_past s order low next ps is = by (oldest_of (length order) (map live_of ps)) (floor (length order) s.options.horizon) is where
+  by : (o f : ℕ) → next ≡ max low (max o f) → max low o ≤ next
+  by o f is = omega (arith, is)

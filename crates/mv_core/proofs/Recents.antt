@@ -1,6 +1,8 @@
 -- The changes of the last commits, and what they say of a call.
-use Rattle.std.proofs.Common.{◌≡◌, ℕ, ◌+◌, ◌-◌, ◌<◌, ◌≤◌, Bool, true, false, not, List, [], ◌∷◌, ◌++◌, Option, Some, None, length, drop, is_some, refl, sym, ap, subst, ◌∙◌, arith, length-append}
-use Rattle.std.proofs.lemmas.List.{drop-drop, drop-append-le, length-drop, take_all}
+use Rattle.std.proofs.Common.{◌≡◌, ℕ, ◌+◌, ◌-◌, ◌<◌, ◌≤◌, max, Bool, true, false, not, List, [], ◌∷◌, ◌++◌, Option, Some, None, map, length, drop, slice_set, is_some, refl, sym, ap, subst, ◌∙◌, arith, length-append, rules}
+use Rattle.std.specs.Prelude.{slice_get}
+use Rattle.std.proofs.lemmas.List.{drop-drop, drop-append-le, length-drop, map-append, take_all}
+use Rattle.mv_values.specs.declared.calls.Reply.{Reply}
 use Rattle.mv_record.specs.declared.record.Record.{Record}
 use Rattle.mv_history.specs.declared.change.Change.{Change}
 use Rattle.mv_history.specs.declared.change.Hit.{Hit}
@@ -10,66 +12,134 @@ use Rattle.mv_changes.specs.Commits.{Window}
 use Rattle.mv_journal.specs.declared.event.Event.TheVariants.{C}
 use Rattle.mv_lawful.specs.declared.fault.Fault.TheVariants as fault
 use Rattle.mv_lawful.specs.Work.{Work, tables_after, table_at, records_at, changes_after, since, hit_of}
-use Rattle.mv_lawful.specs.Lawful.{Live, Course, is_stale, is_hit, unless, of_live, refusal}
+use Rattle.mv_lawful.specs.Lawful.{Live, Course, oldest, is_stale, is_hit, unless, of_live, refusal}
+use Rattle.mv_core.specs.declared.progress.Progress.{Progress}
 use Rattle.mv_core.specs.declared.book.Book.TheInside.{Inside}
 use Rattle.mv_core.specs.declared.book.Check.TheVariants as check
 use Rattle.mv_core.specs.contracts.book.Book.{the_view}
 use Rattle.mv_core.specs.Scripts.{work_of}
-use Rattle.mv_core.specs.Calls.{IsLive}
+use Rattle.mv_core.specs.Calls.{live_of, IsLive, IsFresh}
 use Rattle.mv_core.specs.Books.{Booked, IsRecent, IsAnswer, work_in}
 use Rattle.mv_core.proofs.Numbers.{changes_more, changes_long}
+use Rattle.mv_core.proofs.Lives.{oldest_within, oldest_below, oldest_begun, oldest_set}
+use Rattle.mv_core.proofs.Keeping.{the_course, set_map, live_here}
 
-pub recent_since : (w : Work) (order : List ℕ) (low start : ℕ) (r : Window) → IsRecent w order low r → low ≤ start → drop (start - r.low) r.commits ≡ since w order start
-recent_since w order low start r k le =
-    ap (λ n. drop (start - n) r.commits) k.from
-    ∙ (ap (drop (start - low)) k.commits
-    ∙ (drop-drop (start - low) low (changes_after w w.opening order) ∙ ap (λ n. drop n (changes_after w w.opening order)) whole)) where
-      whole : low + (start - low) ≡ start
+pub recent_since : (w : Work) (s : Course) (start : ℕ) (r : Window) → IsRecent w s r → r.low ≤ start → drop (start - r.low) r.commits ≡ since w s.order start
+recent_since w s start r k le =
+    ap (drop (start - r.low)) k.commits
+    ∙ (drop-drop (start - r.low) r.low (changes_after w w.opening s.order) ∙ ap (λ n. drop n (changes_after w w.opening s.order)) whole) where
+      whole : r.low + (start - r.low) ≡ start
       whole = omega (arith, le)
 
-pub recent_long : (w : Work) (order : List ℕ) (low : ℕ) (r : Window) → IsRecent w order low r → r.low + length r.commits ≡ length order
-recent_long w order low r k =
-    let from : r.low ≡ low = k.from in
-    let kept : length r.commits ≡ length (changes_after w w.opening order) - low = ap length k.commits ∙ length-drop low (changes_after w w.opening order) in
-    let all : length (changes_after w w.opening order) ≡ length order = changes_long w w.opening order in
-    let within : low ≤ length order = k.within in
-    omega (arith, from, kept, all, within)
+-- what is dropped is no more than all commits
+recent_within : (w : Work) (s : Course) (r : Window) → IsRecent w s r → r.low ≤ length s.order
+recent_within w s r k =
+    let le = oldest_within (length s.order) s.calls in
+    let needed = k.needed in
+    let low = k.within in
+    omega (arith, le, needed, low)
+
+pub recent_long : (w : Work) (s : Course) (r : Window) → IsRecent w s r → r.low + length r.commits ≡ length s.order
+recent_long w s r k =
+    let kept : length r.commits ≡ length (changes_after w w.opening s.order) - r.low = ap length k.commits ∙ length-drop r.low (changes_after w w.opening s.order) in
+    let all : length (changes_after w w.opening s.order) ≡ length s.order = changes_long w w.opening s.order in
+    let within = recent_within w s r k in
+    omega (arith, kept, all, within)
+
+-- no more is dropped than what no live call needs
+pub recent_below : (w : Work) (s : Course) (n : ℕ) (r : Window) → IsRecent w s r → max s.low (oldest (length s.order) s.calls) ≤ n → r.low ≤ n
+recent_below w s n r k past = let needed = k.needed in omega (arith, needed, past)
+
+-- what a live call needs is kept, if it isn't stale
+pub recent_needed : (w : Work) (s : Course) (c : ℕ) (l : Live) (r : Window) → IsRecent w s r → IsLive s c l → s.low ≤ l.start → r.low ≤ l.start
+recent_needed w s c l r k live fresh =
+    let below = oldest_below (length s.order) c l s.calls live.at live.live in
+    let needed = k.needed in
+    omega (arith, below, needed, fresh)
 
 -- Events
 
--- the changes are kept, and no call has committed
-pub recent_same : (w : Work) (order orders : List ℕ) (low : ℕ) (old new : Window) → IsRecent w order low old → orders ≡ order → new.low ≡ old.low → new.commits ≡ old.commits → IsRecent w orders low new
-recent_same w order orders low old new k same from commits = subst (λ os. IsRecent w os low new) (sym same) (record { within = k.within; from = from ∙ k.from; commits = commits ∙ k.commits })
+-- no call commits, and nothing is dropped
+pub recent_same : (w : Work) (order orders : List ℕ) (low : ℕ) (ls : List Live) (old new : Window) → IsRecent w (the_course order low ls) old → orders ≡ order → new.low ≡ old.low → new.commits ≡ old.commits
+    → IsRecent w (the_course orders low ls) new
+recent_same w order orders low ls old new k same from commits = subst (λ os. IsRecent w (the_course os low ls) new) (sym same) (record {
+  within = k.within;
+  from = subst (λ n. low ≤ n) (sym from) k.from;
+  needed = subst (λ n. n ≤ max low (oldest (length order) ls)) (sym from) k.needed;
+  commits = commits ∙ (k.commits ∙ ap (since w order) (sym from));
+})
+
+recent_rises : (w : Work) (order : List ℕ) (low : ℕ) (ls ms : List Live) (r : Window) → IsRecent w (the_course order low ls) r → oldest (length order) ls ≤ oldest (length order) ms → IsRecent w (the_course order low ms) r
+recent_rises w order low ls ms r k rises = record {
+  within = k.within;
+  from = k.from;
+  needed = let needed = k.needed in omega (arith, needed, rises);
+  commits = k.commits;
+}
+
+-- the next call begins
+pub recent_begun : (w : Work) (order : List ℕ) (low : ℕ) (ps : List Progress) (q : Progress) (r : Window) → IsRecent w (the_course order low (map live_of ps)) r → IsFresh (length order) q
+    → IsRecent w (the_course order low (map live_of (ps ++ q ∷ []))) r
+recent_begun w order low ps q r k fresh = recent_rises w order low (map live_of ps) (map live_of (ps ++ q ∷ [])) r k rises where
+  rises : oldest (length order) (map live_of ps) ≤ oldest (length order) (map live_of (ps ++ q ∷ []))
+  rises =
+      subst (λ ls. oldest (length order) (map live_of ps) ≤ oldest (length order) ls) (sym (map-append live_of ps (q ∷ []) ∙ ap (λ l. map live_of ps ++ l ∷ []) fresh.live))
+      (oldest_begun (length order) (map live_of ps))
+
+call_rises : (n m c : ℕ) (ps : List Progress) (p q : Progress) → n ≤ m → slice_get ps c ≡ Some p → p.reply ≡ None → (is_some q.reply ≡ false → p.start ≤ q.start)
+    → oldest n (map live_of ps) ≤ oldest m (map live_of (slice_set ps c q))
+call_rises n m c ps p q le at going up =
+    subst (λ ls. oldest n (map live_of ps) ≤ oldest m ls) (sym (set_map ps c q)) (oldest_set n m c (live_of p) (live_of q) (map live_of ps) le (live_here ps c p at) (ap is_some going) up)
+
+-- a live call doesn't start earlier
+pub recent_set : (w : Work) (order : List ℕ) (low c : ℕ) (ps : List Progress) (p q : Progress) (r : Window) → IsRecent w (the_course order low (map live_of ps)) r → slice_get ps c ≡ Some p → p.reply ≡ None
+    → p.start ≤ q.start → IsRecent w (the_course order low (map live_of (slice_set ps c q))) r
+recent_set w order low c ps p q r k at going up =
+    recent_rises w order low (map live_of ps) (map live_of (slice_set ps c q)) r k (call_rises (length order) (length order) c ps p q (omega arith) at going (λ e. up))
 
 -- a call commits
-pub recent_commit : (w : Work) (order orders : List ℕ) (low c : ℕ) (old new : Window) (changes : List Change)
-    → IsRecent w order low old → orders ≡ order ++ c ∷ [] → new.low ≡ old.low → new.commits ≡ old.commits ++ changes ∷ []
+pub recent_commit : (w : Work) (order orders : List ℕ) (low c : ℕ) (ps : List Progress) (p q : Progress) (reply : Reply) (old new : Window) (changes : List Change)
+    → IsRecent w (the_course order low (map live_of ps)) old → orders ≡ order ++ c ∷ [] → slice_get ps c ≡ Some p → p.reply ≡ None → q.reply ≡ Some reply
+    → new.low ≡ old.low → new.commits ≡ old.commits ++ changes ∷ []
     → changes ≡ changes_between (table_at w order (length order)) (w.run c (table_at w order (length order))).tables
-    → IsRecent w orders low new
-recent_commit w order orders low c old new changes k more from adds are = subst (λ os. IsRecent w os low new) (sym more) (record {
-  within = let le = k.within in let n = length-append order (c ∷ []) in omega (arith, le, n);
-  from = from ∙ k.from;
+    → IsRecent w (the_course orders low (map live_of (slice_set ps c q))) new
+recent_commit w order orders low c ps p q reply old new changes k more at going told from adds are = subst (λ os. IsRecent w (the_course os low (map live_of (slice_set ps c q))) new) (sym more) (record {
+  within = let le = k.within in omega (arith, le, longer);
+  from = subst (λ n. low ≤ n) (sym from) k.from;
+  needed = let needed = k.needed in let up = rises in omega (arith, needed, up, from);
   commits =
       adds
       ∙ (ap (λ cs. cs ++ changes ∷ []) k.commits
-      ∙ (sym (drop-append-le low all (changes ∷ []) (let le = k.within in let n = changes_long w w.opening order in omega (arith, le, n)))
-      ∙ (ap (λ cs. drop low (all ++ cs ∷ [])) own ∙ ap (drop low) (sym (changes_more w w.opening order c)))));
+      ∙ (sym (drop-append-le old.low all (changes ∷ []) (let le = recent_within w (the_course order low (map live_of ps)) old k in let n = changes_long w w.opening order in omega (arith, le, n)))
+      ∙ (ap (λ cs. drop old.low (all ++ cs ∷ [])) own
+      ∙ (ap (drop old.low) (sym (changes_more w w.opening order c)) ∙ ap (since w (order ++ c ∷ [])) (sym from)))));
 }) where
   all : List (List Change)
   all = changes_after w w.opening order
 
+  longer : length (order ++ c ∷ []) ≡ length order + 1
+  longer = length-append order (c ∷ [])
+
+  rises : oldest (length order) (map live_of ps) ≤ oldest (length (order ++ c ∷ [])) (map live_of (slice_set ps c q))
+  rises = call_rises (length order) (length (order ++ c ∷ [])) c ps p q (omega (arith, longer)) at going (λ e. let is : true ≡ false = ap is_some (sym told) ∙ e in absurd (search (rules, is)))
+
   own : changes ≡ changes_between (tables_after w w.opening order) (w.run c (tables_after w w.opening order)).tables
   own = are ∙ ap (λ os. changes_between (tables_after w w.opening os) (w.run c (tables_after w w.opening os)).tables) (take_all (length order) order (omega arith))
 
--- low rises
-pub recent_trimmed : (w : Work) (order : List ℕ) (low next : ℕ) (old new : Window) → IsRecent w order low old → low ≤ next → next ≤ length order
-    → new.low ≡ next → new.commits ≡ drop (next - old.low) old.commits → IsRecent w order next new
-recent_trimmed w order low next old new k rises within from left = record { within = within; from = from; commits = left ∙ recent_since w order low next old k rises }
+-- changes are dropped, up to a number that no live call needs
+pub recent_trimmed : (w : Work) (order : List ℕ) (low next n : ℕ) (ls : List Live) (old new : Window) → IsRecent w (the_course order low ls) old → next ≤ length order → next ≤ n
+    → n ≤ max next (oldest (length order) ls) → max low (oldest (length order) ls) ≤ n → new.low ≡ n → new.commits ≡ drop (n - old.low) old.commits → IsRecent w (the_course order next ls) new
+recent_trimmed w order low next n ls old new k within le needed past from left = record {
+  within = within;
+  from = subst (λ m. next ≤ m) (sym from) le;
+  needed = subst (λ m. m ≤ max next (oldest (length order) ls)) (sym from) needed;
+  commits = left ∙ (recent_since w (the_course order low ls) n old k (recent_below w (the_course order low ls) n old k past) ∙ ap (since w order) (sym from));
+}
 
 -- The view
 
-pub recent_seen : (i : Inside) (old : Booked) → the_view i ≡ old → IsRecent (work_of i.script) i.order.items i.low i.recent → IsRecent (work_in old) old.course.order old.course.low i.recent
-recent_seen i old is k = subst (λ (b : Booked). IsRecent (work_in b) b.course.order b.course.low i.recent) is k
+pub recent_seen : (i : Inside) (old : Booked) → the_view i ≡ old → IsRecent (work_of i.script) (the_course i.order.items i.low (map live_of i.calls.items)) i.recent → IsRecent (work_in old) old.course i.recent
+recent_seen i old is k = subst (λ (b : Booked). IsRecent (work_in b) b.course i.recent) is k
 
 pub low_seen : (i : Inside) (old : Booked) → the_view i ≡ old → i.low ≡ old.course.low
 low_seen i old is = ap (λ (b : Booked). b.course.low) is
@@ -77,6 +147,10 @@ low_seen i old is = ap (λ (b : Booked). b.course.low) is
 -- a call that isn't stale
 pub not_below : (s : Course) (l : Live) → is_stale s l ≡ false → s.low ≤ l.start
 not_below s l fresh = grind (arith, fresh)
+
+pub fresh_kept : (i : Inside) (old : Booked) (c : ℕ) (l : Live) → the_view i ≡ old → IsRecent (work_of i.script) (the_course i.order.items i.low (map live_of i.calls.items)) i.recent
+    → IsLive old.course c l → is_stale old.course l ≡ false → i.recent.low ≤ l.start
+fresh_kept i old c l is k live fresh = recent_needed (work_in old) old.course c l i.recent (recent_seen i old is k) live (not_below old.course l fresh)
 
 -- Validation
 
@@ -90,25 +164,25 @@ commit_refusal w s c l stale hit live is found =
     ∙ ap (λ o. unless (not stale) fault.Stale (unless (not (is_some o)) fault.Conflict None)) found))
 
 -- the first hit by the changes that are kept
-hit_is : (w : Work) (order : List ℕ) (low c n start : ℕ) (r : Window) (rs : List Record) → IsRecent w order low r → n ≡ start → low ≤ start → rs ≡ records_at w order start c
-    → first_hit (n + 1) (drop (n - r.low) r.commits) [] rs ≡ hit_of w order start c
-hit_is w order low c n start r rs k is le full =
+hit_is : (w : Work) (s : Course) (c n start : ℕ) (r : Window) (rs : List Record) → IsRecent w s r → n ≡ start → r.low ≤ start → rs ≡ records_at w s.order start c
+    → first_hit (n + 1) (drop (n - r.low) r.commits) [] rs ≡ hit_of w s.order start c
+hit_is w s c n start r rs k is le full =
     ap (λ m. first_hit (m + 1) (drop (m - r.low) r.commits) [] rs) is
-    ∙ (ap (λ cs. first_hit (start + 1) cs [] rs) (recent_since w order low start r k le)
-    ∙ ap (first_hit (start + 1) (since w order start) []) full)
+    ∙ (ap (λ cs. first_hit (start + 1) cs [] rs) (recent_since w s start r k le)
+    ∙ ap (first_hit (start + 1) (since w s.order start) []) full)
 
 not_stale : (s : Course) (l : Live) → s.low ≤ l.start → is_stale s l ≡ false
 not_stale s l le = grind (arith, le)
 
-pub answers_free : (w : Work) (s : Course) (c n : ℕ) (l : Live) (r : Window) (rs : List Record) → IsLive s c l → IsRecent w s.order s.low r → n ≡ l.start → s.low ≤ l.start → rs ≡ records_at w s.order l.start c
+pub answers_free : (w : Work) (s : Course) (c n : ℕ) (l : Live) (r : Window) (rs : List Record) → IsLive s c l → IsRecent w s r → n ≡ l.start → s.low ≤ l.start → rs ≡ records_at w s.order l.start c
     → first_hit (n + 1) (drop (n - r.low) r.commits) [] rs ≡ None → IsAnswer check.Free w s c l
-answers_free w s c n l r rs live k is le full none = commit_refusal w s c l false None live (not_stale s l le) (sym (hit_is w s.order s.low c n l.start r rs k is le full) ∙ none)
+answers_free w s c n l r rs live k is le full none = commit_refusal w s c l false None live (not_stale s l le) (sym (hit_is w s c n l.start r rs k is (recent_needed w s c l r k live le) full) ∙ none)
 
-pub answers_hit : (w : Work) (s : Course) (c n : ℕ) (l : Live) (r : Window) (rs : List Record) (h : Hit) → IsLive s c l → IsRecent w s.order s.low r → n ≡ l.start → s.low ≤ l.start → rs ≡ records_at w s.order l.start c
+pub answers_hit : (w : Work) (s : Course) (c n : ℕ) (l : Live) (r : Window) (rs : List Record) (h : Hit) → IsLive s c l → IsRecent w s r → n ≡ l.start → s.low ≤ l.start → rs ≡ records_at w s.order l.start c
     → first_hit (n + 1) (drop (n - r.low) r.commits) [] rs ≡ Some h → IsAnswer (check.Hit h.number h.commit) w s c l
 answers_hit w s c n l r rs h live k is le full found = (commit_refusal w s c l false (Some h) live (not_stale s l le) hit, hit) where
   hit : hit_of w s.order l.start c ≡ Some h
-  hit = sym (hit_is w s.order s.low c n l.start r rs k is le full) ∙ found
+  hit = sym (hit_is w s c n l.start r rs k is (recent_needed w s c l r k live le) full) ∙ found
 
 pub answers_stale : (w : Work) (s : Course) (c n low : ℕ) (l : Live) → IsLive s c l → n ≡ l.start → low ≡ s.low → n < low → IsAnswer (check.Stale n low) w s c l
 answers_stale w s c n low l live is from lt = (commit_refusal w s c l true (hit_of w s.order l.start c) live below refl, is, from) where

@@ -1,6 +1,6 @@
 -- Defines the contents of a book, and how events change it. The law of journals says which events are allowed. This
 -- project's own.
-use Rattle.std.specs.Prelude.{◌≡◌, ◌<◌, ◌≤◌, ◌+◌, ◌^◌, ℕ, false, List, [], ◌∷◌, ◌++◌, Option, Some, None, Result, Ok, Err, length, map, slice_get, IsSome}
+use Rattle.std.specs.Prelude.{◌≡◌, ◌<◌, ◌≤◌, ◌+◌, ◌^◌, ℕ, max, false, List, [], ◌∷◌, ◌++◌, Option, Some, None, Result, Ok, Err, length, map, slice_get, IsSome}
 use Rattle.std.specs.Option.{ForSome, option_map}
 use Rattle.mv_values.specs.declared.memory.NoMemory.{NoMemory}
 use Rattle.mv_record.specs.declared.record.Record.{Record}
@@ -15,7 +15,7 @@ use Rattle.mv_journal.specs.declared.outcome.Mark.TheVariants.{Plain, Exclusive,
 use Rattle.mv_journal.specs.declared.outcome.Round.{Round}
 use Rattle.mv_lawful.specs.declared.fault.Fault.TheVariants as fault
 use Rattle.mv_lawful.specs.Work.{Work, table_at, records_at, since, hit_of}
-use Rattle.mv_lawful.specs.Lawful.{Live, Course, beginning, refusal, after, course_of, is_stale, AllAllowed}
+use Rattle.mv_lawful.specs.Lawful.{Live, Course, beginning, refusal, oldest, after, course_of, is_stale, AllAllowed}
 use Rattle.mv_lawful.specs.Rounds.{rounds_of}
 use Rattle.mv_exec.specs.declared.task.Task.{Task}
 use Rattle.mv_core.specs.declared.script.Script.{Script}
@@ -61,17 +61,19 @@ pub record IsKept (s : Script) (course : Course) (calls : List Progress) (journa
   pub reaches : course ≡ course_of (work_of s) journal
   pub tells : (c : ℕ) (p : Progress) → slice_get calls c ≡ Some p → TellsCall (work_of s) course.order c p
 
--- the changes of the commits after low, for the calls of the order executed one after another
-pub record IsRecent (w : Work) (order : List ℕ) (low : ℕ) (window : Window) : Type 0 where
-  pub within : low ≤ length order
-  pub from : window.low ≡ low
-  pub commits : window.commits ≡ since w order low
+-- the changes of the last commits, for the calls of the order executed one after another: at least those after low and
+-- after the oldest start of a live call
+pub record IsRecent (w : Work) (course : Course) (window : Window) : Type 0 where
+  pub within : course.low ≤ length course.order
+  pub from : course.low ≤ window.low
+  pub needed : window.low ≤ max course.low (oldest (length course.order) course.calls)
+  pub commits : window.commits ≡ since w course.order window.low
 
 -- all that, and the numbers of the live calls
 pub record IsBook (s : Script) (course : Course) (calls : List Progress) (journal : List Event) (numbers : List ℕ) (window : Window) : Type 0 where
   pub kept : IsKept s course calls journal
   pub live : numbers ≡ live_numbers course.calls
-  pub recent : IsRecent (work_of s) course.order course.low window
+  pub recent : IsRecent (work_of s) course window
 
 -- the database after all commits
 abbrev pub last_tables : Booked → Tables

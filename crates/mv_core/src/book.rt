@@ -3,7 +3,7 @@
 ghost use Rattle.std.specs.Prelude.{◌≡◌, ◌<◌, ◌≤◌, ◌+◌, ◌++◌, ◌∷◌, ◌^◌, ◌≢◌, [], None, Some, length, map, IfOk, IfSome, IfNone, OnOk};
 ghost use Rattle.std.specs.Option.{option_copied};
 ghost use Rattle.mv_lawful.specs.Work.{since};
-ghost use Rattle.mv_lawful.specs.Lawful.{Live, Lawful, beginning, course_of, open_call, refusal, floor, next_low, AllAllowed};
+ghost use Rattle.mv_lawful.specs.Lawful.{Live, Lawful, beginning, course_of, open_call, refusal, oldest, floor, next_low, AllAllowed};
 ghost use Rattle.mv_lawful.specs.Outcomes.{history_line, numbers, outcome_of, reply_in};
 ghost use Rattle.mv_changes.specs.Commits.{changes_in, AreNumbered};
 ghost use Rattle.mv_undo.specs.Owning.{HasWritesOf};
@@ -57,9 +57,11 @@ pub struct Book {
     /// The calls that have begun, by number.
     calls: Vec<Progress>,
     live: LiveCalls,
-    /// The changes of the commits after low.
+    /// The changes of the commits that a live call may need: those after its start, if that isn't below low.
     recent: Recent,
     low: u32,
+    /// The number of commits at which changes are dropped again.
+    next_trim: usize,
     journal: Roomy<Event>,
 }
 
@@ -100,6 +102,7 @@ impl Book {
             live: LiveCalls::new(alloc),
             recent: Recent::new(alloc),
             low: 0,
+            next_trim: 0,
             journal: Roomy::new(alloc),
         }
     }
@@ -196,8 +199,32 @@ impl Book {
     }
 
     /// Commits a call with this reply and these changes. If a task is given, the call was repaired in the same step, in
-    /// a round of its own. Returns the number of the commit.
+    /// a round of its own. Returns the number of the commit. Drops the changes that no live call needs. Over all commits,
+    /// that takes time linear in the number of calls.
     pub fn commit(
+        &mut self,
+        call: u32,
+        reply: Reply,
+        changes: Changes,
+        exclusive: Option<&Task>,
+    ) -> u32
+        requires allowed { refusal (work_in self.old) self.old.course (commit_event (own_number (option_copied exclusive)) call) ≡ None }
+        requires reply { reply ≡ (last_run self.old call).reply }
+        requires changes { changes ≡ last_changes self.old call }
+        requires settled { IsSettled self.old call }
+        requires number { IsOwnNumber (own_number (option_copied exclusive)) self.old call }
+        requires room { HasRoom self.old call 1 }
+        ensures made { Made (commit_event (own_number (option_copied exclusive.entry)) call) self.old self.new }
+        ensures number { result ≡ length self.old.course.order + 1 }
+        ensures room { UsesOne self.old self.new }
+    {
+        let number = self.add_commit(call, reply, changes, exclusive);
+        self.trim();
+        number
+    }
+
+    /// Commits a call, as `commit` does, and drops no changes.
+    fn add_commit(
         &mut self,
         call: u32,
         reply: Reply,
@@ -225,14 +252,34 @@ impl Book {
         number
     }
 
+    /// Drops the changes up to the least start of a live call, or up to low if that is greater. Waits until as many calls
+    /// have committed as had begun the last time. So it passes no more live calls than have begun since.
+    fn trim(&mut self)
+        ensures same { IsSame self.old self.new }
+        ensures room { KeepsRoom self.old self.new }
+    {
+        if self.order.len() < self.next_trim {
+            return;
+        }
+        let needless = self.low.max(self.oldest_start());
+        self.recent.trim(needless);
+        self.next_trim = self.calls.len();
+    }
+
+    /// Returns the least start of a live call, or the number of commits if no call is live.
+    fn oldest_start(&self) -> u32
+        ensures { result ≡ oldest (length self.now.course.order) self.now.course.calls }
+    {
+        self.live
+            .oldest_start(self.calls.as_slice(), self.commits())
+    }
+
     /// Returns the low after a collection.
     fn next_low(&self) -> u32
         ensures { result ≡ next_low (work_in self.now) self.now.course }
     {
-        let n = self.commits();
-        let oldest = self.live.oldest_start(self.calls.as_slice(), n);
-        let floor = floor_of(n, self.script.options.horizon);
-        self.low.max(oldest.max(floor))
+        let floor = floor_of(self.commits(), self.script.options.horizon);
+        self.low.max(self.oldest_start().max(floor))
     }
 
     /// Collects old versions. Returns the new low: the tables before that commit are no longer needed, nor the changes

@@ -4,8 +4,10 @@ use Rattle.mv_core.specs.declared.progress.Progress.{Progress}
 use Rattle.std.specs.Prelude.{All}
 use Rattle.mv_core.specs.Lives.{live_numbers}
 use Rattle.mv_core.specs.Calls.{live_of, IsFresh}
+use Rattle.mv_core.specs.Scripts.{work_of}
 use Rattle.mv_core.specs.Books.{Booked, IsBook}
 use Rattle.mv_core.proofs.Keeping.{few_inside, live_within, live_comes, kept_begun, begun_none, begun_made, the_course, all_begun}
+use Rattle.mv_core.proofs.Recents.{recent_begun}
 use Rattle.mv_core.proofs.book.Book.begin.Goals as goal
 
 pub returns-then-len : goal.returns-then-len
@@ -53,7 +55,7 @@ invariant_of-self-2 c =
     subst (λ (ps : List Progress). IsBook c.self.inside.script (the_course c.self.inside.order.items c.self.inside.low (map live_of ps)) ps c.put.new.self.items c.push.new.self c.self.inside.recent) (sym (more c)) (record {
       kept = (kept_begun c.self.inside.script c.self.inside.order.items c.self.inside.low c.len-call.result c.self.inside.calls.items c.self.inside.journal.items _ c.in_ok-progress.progress c.self.invariant.kept (less c) (number c) (fresh c) (adds c)).1;
       live = live ∙ (ap (λ ns. ns ++ length c.self.inside.calls.items ∷ []) c.self.invariant.live ∙ sym (live_comes c.self.inside.calls.items (length c.self.inside.order.items) c.in_ok-progress.progress (fresh c)));
-      recent = c.self.invariant.recent;
+      recent = recent_begun (work_of c.self.inside.script) c.self.inside.order.items c.self.inside.low c.self.inside.calls.items c.in_ok-progress.progress c.self.inside.recent c.self.invariant.recent (fresh c);
     })
 
 pub returns : goal.returns

@@ -1,13 +1,16 @@
-use Rattle.std.proofs.Common.{arith, sym, ◌∙◌}
+use Rattle.std.proofs.Common.{arith, ◌≡◌, sym, ◌∙◌}
 use Rattle.mv_core.specs.Books.{work_in}
-use Rattle.mv_core.proofs.Recents.{recent_seen, low_seen, answers_free, answers_hit, answers_stale}
+use Rattle.mv_core.proofs.Recents.{recent_seen, recent_needed, low_seen, answers_free, answers_hit, answers_stale}
 use Rattle.mv_core.proofs.book.Book.check.Goals as goal
 
 pub first_hit-requires-clause-start : goal.first_hit-requires-clause-start
 first_hit-requires-clause-start c =
-    let from = c.self.invariant.recent.from in
+    let live = c.requires.live in
+    let start : c.start-start.result ≡ live.0.start = c.start-start.ensures.value live.0 live.1 in
+    let low = low_seen c.self.inside c.args.self.now c.self.view_is in
     let not = c.if-start-self.false in
-    omega (arith, from, not)
+    let kept = recent_needed (work_in c.args.self.now) c.args.self.now.course c.args.call live.0 c.self.inside.recent (recent_seen c.self.inside c.args.self.now c.self.view_is c.self.invariant.recent) live.1 (omega (arith, start, low, not)) in
+    omega (arith, start, kept)
 
 pub returns-then-start-self : goal.returns-then-start-self
 returns-then-start-self c l live =

@@ -5,8 +5,8 @@ use Rattle.mv_core.specs.Calls.{live_of}
 use Rattle.mv_core.specs.Books.{Booked, work_in}
 use Rattle.mv_journal.specs.declared.event.Event.TheVariants.{G}
 use Rattle.mv_core.proofs.Keeping.{made_on, the_course, room_same}
-use Rattle.mv_core.proofs.Lows.{kept_low, next_within}
-use Rattle.mv_core.proofs.Recents.{recent_long, recent_trimmed}
+use Rattle.mv_core.proofs.Lows.{kept_low, next_within, next_past}
+use Rattle.mv_core.proofs.Recents.{recent_below, recent_long, recent_trimmed}
 use Rattle.mv_core.proofs.book.Book.collect.Goals as goal
 
 low : (c : goal.After-put) → c.next_low-low.result ≡ next_low (work_of c.self.inside.script) (the_course c.self.inside.order.items c.self.inside.low (map live_of c.self.inside.calls.items))
@@ -18,11 +18,13 @@ bounds c =
     (c.next_low-low.ensures ∙ ap (λ (b : Booked). next_low (work_in b) b.course) (sym c.self.view_is))
 
 pub trim-requires-clause-rises : goal.trim-requires-clause-rises
-trim-requires-clause-rises c = let from = c.self.invariant.recent.from in let rises = (bounds c).0 in omega (arith, from, rises)
+trim-requires-clause-rises c =
+    recent_below (work_of c.self.inside.script) (the_course c.self.inside.order.items c.self.inside.low (map live_of c.self.inside.calls.items)) c.next_low-low.result c.self.inside.recent c.self.invariant.recent
+    (next_past c.self.inside.script c.self.inside.order.items c.self.inside.low c.next_low-low.result c.self.inside.calls.items (c.next_low-low.ensures ∙ ap (λ (b : Booked). next_low (work_in b) b.course) (sym c.self.view_is)))
 
 pub trim-requires-clause-within : goal.trim-requires-clause-within
 trim-requires-clause-within c =
-    let long = recent_long (work_of c.self.inside.script) c.self.inside.order.items c.self.inside.low c.self.inside.recent c.self.invariant.recent in
+    let long = recent_long (work_of c.self.inside.script) (the_course c.self.inside.order.items c.self.inside.low (map live_of c.self.inside.calls.items)) c.self.inside.recent c.self.invariant.recent in
     let within = (bounds c).1 in
     omega (arith, long, within)
 
@@ -32,7 +34,8 @@ invariant_of-self c = record {
   live = c.self.invariant.live;
   recent =
       let within = next_within c.self.inside.script c.self.inside.order.items c.self.inside.low c.next_low-low.result c.self.inside.calls.items c.self.invariant.recent.within (low c) in
-      recent_trimmed (work_of c.self.inside.script) c.self.inside.order.items c.self.inside.low c.next_low-low.result c.self.inside.recent c.trim.new.self c.self.invariant.recent within.0 within.1 c.trim.ensures.low c.trim.ensures.commits;
+      recent_trimmed (work_of c.self.inside.script) c.self.inside.order.items c.self.inside.low c.next_low-low.result c.next_low-low.result (map live_of c.self.inside.calls.items) c.self.inside.recent c.trim.new.self c.self.invariant.recent
+      within.1 (omega arith) (omega arith) (next_past c.self.inside.script c.self.inside.order.items c.self.inside.low c.next_low-low.result c.self.inside.calls.items (low c)) c.trim.ensures.low c.trim.ensures.commits;
 }
 
 pub returns-clause-made : goal.returns-clause-made

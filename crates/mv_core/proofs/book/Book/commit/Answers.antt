@@ -1,81 +1,13 @@
-use Rattle.std.proofs.Common.{arith, rules, ◌≡◌, ◌≤◌, ◌<◌, ◌^◌, ◌+◌, ◌++◌, ◌∷◌, [], List, ℕ, map, slice_set, length, refl, ap, sym, subst, ◌∙◌}
-use Rattle.std.specs.Option.{option_copied}
-use Rattle.mv_journal.specs.declared.outcome.Round.{Round}
-use Rattle.mv_lawful.specs.Lawful.{Live}
-use Rattle.mv_lawful.specs.Rounds.{rounds_of}
-use Rattle.mv_core.specs.Lives.{without}
-use Rattle.mv_core.specs.Calls.{IsLive, live_of, turns_in, committed, with_own}
-use Rattle.mv_core.specs.Books.{Booked, last_run, last_changes, commit_event, own_number, IsOwnNumber}
-use Rattle.mv_core.specs.Scripts.{work_of}
-use Rattle.mv_core.proofs.Keeping.{live_leaves, the_course, here_at, Here, few_inside, within, commit_live, number_fits, room_here, settled_here, rounds_committed, kept_commit, commit_after, map_changed, made_on, free_on, room_left}
-use Rattle.mv_core.proofs.Recents.{recent_long, recent_commit}
+use Rattle.std.proofs.Common.{◌∙◌}
 use Rattle.mv_core.proofs.book.Book.commit.Goals as goal
 
-pub overflow_cast-start : goal.overflow_cast-start
-overflow_cast-start c = let few : length c.self.inside.order.items < 2 ^ 32 = few_inside c.self.inside c.self.invariant.kept in search (rules, few, c.len-start.ensures)
-
-pub index_mut-requires : goal.index_mut-requires
-index_mut-requires c = let lt : c.args.call < length c.self.inside.calls.items = within c.self.inside c.args.self.now c.args.call c.self.view_is (commit_live c.args.self.now (own_number (option_copied c.args.exclusive)) c.args.call c.requires.allowed) in search (rules, lt)
-
-first : (c : goal.After-index_mut) → (l : Live) × IsLive c.args.self.now.course c.args.call l × Here c.self.inside.calls.items c.args.call l c.index_mut.result.now
-first c = here_at c.self.inside c.args.self.now c.args.call c.index_mut.result.now c.self.view_is (commit_live c.args.self.now (own_number (option_copied c.args.exclusive)) c.args.call c.requires.allowed) c.index_mut.ensures.value
-
-pub commit-requires : goal.commit-requires
-commit-requires c = let has : 1 ≤ c.index_mut.result.now.rounds.room = room_here c.self.inside c.args.self.now c.args.call 1 c.index_mut.result.now c.self.view_is (first c).2.at c.requires.room in omega (arith, has)
-
-here : (c : goal.After-put-2) → (l : Live) × IsLive c.args.self.now.course c.args.call l × Here c.self.inside.calls.items c.args.call l c.index_mut.result.now
-here c = here_at c.self.inside c.args.self.now c.args.call c.index_mut.result.now c.self.view_is (commit_live c.args.self.now (own_number (option_copied c.args.exclusive)) c.args.call c.requires.allowed) c.index_mut.ensures.value
-
-pub overflow_add-number : goal.overflow_add-number
-overflow_add-number c =
-    let few : length c.self.inside.order.items + 1 < 2 ^ 32 = number_fits c.self.inside c.args.self.now c.args.call c.self.view_is c.self.invariant.kept (commit_live c.args.self.now (own_number (option_copied c.args.exclusive)) c.args.call c.requires.allowed) in
-    search (rules, few, c.len-start.ensures)
-
-pub remember-requires-clause-next : goal.remember-requires-clause-next
-remember-requires-clause-next c =
-    let long = recent_long (work_of c.self.inside.script) c.self.inside.order.items c.self.inside.low c.self.inside.recent c.self.invariant.recent in
-    let start : c.len-start.result ≡ length c.self.inside.order.items = c.len-start.ensures in
-    omega (arith, long, start)
-
-own : (c : goal.After-put-2) → c.own_number-own.result ≡ own_number (option_copied c.args.exclusive)
-own c = c.own_number-own.ensures
-
-live : (c : goal.After-put-2) → live_of c.commit.new.self ≡ committed (length c.self.inside.order.items) (own_number (option_copied c.args.exclusive)) (live_of c.index_mut.result.now)
-live c = search (rules, c.commit.ensures.live, c.len-start.ensures, own c)
-
-rounds : (c : goal.After-put-2) → c.commit.new.self.rounds.items ≡ with_own (length c.self.inside.order.items) (own_number (option_copied c.args.exclusive)) c.index_mut.result.now.rounds.items
-rounds c = search (rules, c.commit.ensures.rounds, c.len-start.ensures, own c)
-
-known : (c : goal.After-put-2) → c.commit.new.self.rounds.items ≡ rounds_of (work_of c.self.inside.script) (c.self.inside.order.items ++ c.args.call ∷ []) c.args.call (turns_in c.commit.new.self.rounds.items)
-known c =
-    subst (λ (rs : List Round). rs ≡ rounds_of (work_of c.self.inside.script) (c.self.inside.order.items ++ c.args.call ∷ []) c.args.call (turns_in rs)) (sym (rounds c))
-    (rounds_committed c.self.inside.script c.self.inside.order.items c.self.inside.low c.args.call c.self.inside.calls.items c.self.inside.journal.items (own_number (option_copied c.args.exclusive)) c.index_mut.result.now c.self.invariant.kept (here c).2.at (here c).2.going
-    (settled_here c.self.inside c.args.self.now c.args.call c.index_mut.result.now c.self.view_is (here c).2.at c.requires.settled)
-    (subst (λ (b : Booked). IsOwnNumber (own_number (option_copied c.args.exclusive)) b c.args.call) (sym c.self.view_is) c.requires.number))
-
-pub invariant_of-self : goal.invariant_of-self
-invariant_of-self c = record {
-  kept =
-      kept_commit c.self.inside.script c.self.inside.order.items _ c.self.inside.low c.args.call c.self.inside.calls.items c.self.inside.journal.items _ (commit_event (own_number (option_copied c.args.exclusive)) c.args.call)
-      (committed (length c.self.inside.order.items) (own_number (option_copied c.args.exclusive))) c.index_mut.result.now c.commit.new.self c.args.reply
-      c.self.invariant.kept (free_on (commit_event (own_number (option_copied c.args.exclusive)) c.args.call) _ c.args.self.now c.self.view_is c.requires.allowed)
-      (commit_after (work_of c.self.inside.script) c.self.inside.order.items c.self.inside.low (map live_of c.self.inside.calls.items) (own_number (option_copied c.args.exclusive)) c.args.call)
-      c.put.ensures.items (search (rules, c.put-2.ensures.items, c.commit_event.ensures, own c)) (here c).2.at (here c).2.going (live c) c.commit.ensures.reply (known c)
-      (c.requires.reply ∙ ap (λ (b : Booked). (last_run b c.args.call).reply) (sym c.self.view_is));
-  live = c.remove.ensures ∙ (ap (without c.args.call) c.self.invariant.live ∙ sym (live_leaves c.self.inside.calls.items c.args.call c.index_mut.result.now c.commit.new.self c.args.reply (here c).2.at (here c).2.going c.commit.ensures.reply));
-  recent =
-      recent_commit (work_of c.self.inside.script) c.self.inside.order.items _ c.self.inside.low c.args.call c.self.inside.recent c.remember.new.recent c.args.changes c.self.invariant.recent
-      c.put.ensures.items c.remember.ensures.low c.remember.ensures.commits (c.requires.changes ∙ ap (λ (b : Booked). last_changes b c.args.call) (sym c.self.view_is));
+pub returns-clause-made : goal.returns-clause-made
+returns-clause-made c = record {
+  allowed = c.add_commit-number.ensures.made.allowed;
+  course = c.trim.ensures.same.course ∙ c.add_commit-number.ensures.made.course;
+  journal = c.trim.ensures.same.journal ∙ c.add_commit-number.ensures.made.journal;
+  script = c.trim.ensures.same.script ∙ c.add_commit-number.ensures.made.script;
 }
 
-pub returns-clause-made : goal.returns-clause-made
-returns-clause-made c =
-    made_on (commit_event (own_number (option_copied c.args.exclusive)) c.args.call) _ c.args.self.now _ c.self.view_is c.requires.allowed
-    (ap (λ (o : List ℕ). the_course o c.self.inside.low (map live_of (slice_set c.self.inside.calls.items c.args.call c.commit.new.self))) c.put.ensures.items
-    ∙ (ap (λ (ls : List Live). the_course (c.self.inside.order.items ++ c.args.call ∷ []) c.self.inside.low ls) (map_changed (committed (length c.self.inside.order.items) (own_number (option_copied c.args.exclusive))) c.self.inside.calls.items c.args.call c.index_mut.result.now c.commit.new.self (here c).2.at (live c))
-    ∙ sym (commit_after (work_of c.self.inside.script) c.self.inside.order.items c.self.inside.low (map live_of c.self.inside.calls.items) (own_number (option_copied c.args.exclusive)) c.args.call)))
-    (search (rules, c.put-2.ensures.items, c.commit_event.ensures, own c)) refl
-
 pub returns-clause-room : goal.returns-clause-room
-returns-clause-room c x n has =
-    room_left _ c.args.self.now _ c.self.inside.calls.items c.args.call x n (n + 1) c.index_mut.result.now c.commit.new.self c.self.view_is refl (here c).2.at (omega arith) (let r = c.put.ensures.room in let q = c.put-2.ensures.room in let p = c.remember.ensures.room in omega (arith, r, q, p)) (let r = c.commit.ensures.room in omega (arith, r)) has
+returns-clause-room c x n has = c.trim.ensures.room x n (c.add_commit-number.ensures.room x n has)

@@ -2,7 +2,9 @@ use Rattle.std.proofs.Common.{arith, rules, ◌<◌, ◌≤◌, ◌+◌, ◌^◌
 use Rattle.mv_journal.specs.declared.event.Event.TheVariants.{S}
 use Rattle.mv_lawful.specs.Lawful.{Live}
 use Rattle.mv_core.specs.Calls.{IsLive}
+use Rattle.mv_core.specs.Scripts.{work_of}
 use Rattle.mv_core.proofs.Keeping.{live_stays, the_course, here_at, Here, map_changed, kept_one, step_live, steps_fit, made_on, free_on, room_left}
+use Rattle.mv_core.proofs.Recents.{recent_set}
 use Rattle.mv_core.proofs.book.Book.ran.Goals as goal
 
 here : (c : goal.After-self-1) → (l : Live) × IsLive c.args.self.now.course c.args.call l × Here c.self.inside.calls.items c.args.call l c.index_mut.result.now
@@ -21,7 +23,7 @@ invariant_of-self c = record {
       kept_one _ _ _ c.args.call c.self.inside.calls.items _ _ (S c.args.call) (λ l. record l { steps = l.steps + 1 }) c.index_mut.result.now _ c.self.invariant.kept
       (free_on (S c.args.call) _ c.args.self.now c.self.view_is c.requires.allowed) refl c.put.ensures.items (here c).2.at refl (c.self.invariant.kept.tells c.args.call c.index_mut.result.now (here c).2.at);
   live = c.self.invariant.live ∙ sym (live_stays c.self.inside.calls.items c.args.call c.index_mut.result.now _ (here c).2.at refl);
-  recent = c.self.invariant.recent;
+  recent = recent_set (work_of c.self.inside.script) c.self.inside.order.items c.self.inside.low c.args.call c.self.inside.calls.items c.index_mut.result.now _ c.self.inside.recent c.self.invariant.recent (here c).2.at (here c).2.going (omega arith);
 }
 
 pub returns-clause-made : goal.returns-clause-made

@@ -1,4 +1,4 @@
-use Rattle.std.proofs.Common.{arith, map, slice_set, List, ℕ, ap, sym, ◌∙◌, Result, Ok, Err}
+use Rattle.std.proofs.Common.{arith, ◌≡◌, map, slice_set, List, ℕ, ap, sym, ◌∙◌, Result, Ok, Err}
 use Rattle.std.specs.Prelude.{OnOk}
 use Rattle.mv_values.specs.declared.memory.NoMemory.{NoMemory}
 use Rattle.mv_lawful.specs.Lawful.{Live}
@@ -6,7 +6,7 @@ use Rattle.mv_core.specs.Calls.{live_of}
 use Rattle.mv_core.specs.Scripts.{work_of}
 use Rattle.mv_core.specs.Books.{Booked, kept_rounds}
 use Rattle.mv_core.proofs.Keeping.{live_stays, the_course, here_at, kept_same_told, same_calls, same_rounds, room_set}
-use Rattle.mv_core.proofs.Recents.{recent_same}
+use Rattle.mv_core.proofs.Recents.{recent_same, recent_set}
 use Rattle.mv_core.proofs.book.Book.reserve.Goals as goal
 
 pub invariant_of-self-2 : goal.invariant_of-self-2
@@ -15,7 +15,11 @@ invariant_of-self-2 c = record {
       kept_same_told c.self.inside.script c.self.inside.order.items _ c.self.inside.low c.args.call c.self.inside.calls.items c.self.inside.journal.items _ c.index_mut.result.now c.reserve-4.new.self
       c.self.invariant.kept c.reserve-2.ensures.items c.reserve-3.ensures.items (here_at c.self.inside c.args.self.now c.args.call c.index_mut.result.now c.self.view_is c.requires.live c.index_mut.ensures.value).2.at c.reserve-4.ensures.live c.reserve-4.ensures.rounds c.reserve-4.ensures.reply;
   live = c.self.invariant.live ∙ sym (live_stays c.self.inside.calls.items c.args.call c.index_mut.result.now c.reserve-4.new.self (here_at c.self.inside c.args.self.now c.args.call c.index_mut.result.now c.self.view_is c.requires.live c.index_mut.ensures.value).2.at c.reserve-4.ensures.reply);
-  recent = recent_same (work_of c.self.inside.script) c.self.inside.order.items _ c.self.inside.low c.self.inside.recent _ c.self.invariant.recent c.reserve-2.ensures.items c.reserve.ensures.low c.reserve.ensures.commits;
+  recent =
+      let start : c.reserve-4.new.self.start ≡ c.index_mut.result.now.start = ap (λ (l : Live). l.start) c.reserve-4.ensures.live in
+      recent_same (work_of c.self.inside.script) c.self.inside.order.items _ c.self.inside.low _ c.self.inside.recent _
+      (recent_set (work_of c.self.inside.script) c.self.inside.order.items c.self.inside.low c.args.call c.self.inside.calls.items c.index_mut.result.now c.reserve-4.new.self c.self.inside.recent c.self.invariant.recent (here_at c.self.inside c.args.self.now c.args.call c.index_mut.result.now c.self.view_is c.requires.live c.index_mut.ensures.value).2.at (here_at c.self.inside c.args.self.now c.args.call c.index_mut.result.now c.self.view_is c.requires.live c.index_mut.ensures.value).2.going (omega (arith, start)))
+      c.reserve-2.ensures.items c.reserve.ensures.low c.reserve.ensures.commits;
 }
 
 pub returns-clause-same : goal.returns-clause-same

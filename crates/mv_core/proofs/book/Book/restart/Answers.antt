@@ -3,7 +3,8 @@ use Rattle.mv_lawful.specs.Lawful.{Live, again}
 use Rattle.mv_core.specs.Calls.{IsLive, live_of}
 use Rattle.mv_core.specs.Books.{round_event}
 use Rattle.mv_core.specs.Scripts.{work_of}
-use Rattle.mv_core.proofs.Keeping.{live_stays, the_course, here_at, Here, few_inside, within, round_live, room_here, settled_here, kept_restart, restarted, restart_after, map_changed, made_on, free_on, room_left}
+use Rattle.mv_core.proofs.Keeping.{live_stays, the_course, here_at, Here, few_inside, within, round_live, room_here, settled_here, kept_restart, restarted, restart_after, map_changed, made_on, free_on, room_left, start_past}
+use Rattle.mv_core.proofs.Recents.{recent_set}
 use Rattle.mv_core.proofs.book.Book.restart.Goals as goal
 
 pub overflow_cast-start : goal.overflow_cast-start
@@ -38,7 +39,10 @@ invariant_of-self c = record {
       (start c) c.restart.ensures.steps (search (rules, c.restart.ensures.rounds, c.len-start.ensures)) c.restart.ensures.reply
       (search (rules, c.put.ensures.items, c.round_event.ensures));
   live = c.self.invariant.live ∙ sym (live_stays c.self.inside.calls.items c.args.call c.index_mut.result.now c.restart.new.self (here c).2.at c.restart.ensures.reply);
-  recent = c.self.invariant.recent;
+  recent =
+      let past : c.index_mut.result.now.start ≤ length c.self.inside.order.items = start_past c.self.inside c.args.call c.index_mut.result.now c.self.invariant.kept (here c).2.at in
+      let new = start c in
+      recent_set (work_of c.self.inside.script) c.self.inside.order.items c.self.inside.low c.args.call c.self.inside.calls.items c.index_mut.result.now c.restart.new.self c.self.inside.recent c.self.invariant.recent (here c).2.at (here c).2.going (omega (arith, past, new));
 }
 
 pub returns-clause-made : goal.returns-clause-made

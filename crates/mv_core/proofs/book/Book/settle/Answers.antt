@@ -1,8 +1,10 @@
 use Rattle.std.proofs.Common.{arith, ◌≡◌, List, refl, ap, sym, subst, ◌∙◌, Some}
 use Rattle.mv_lawful.specs.Lawful.{Live}
 use Rattle.mv_core.specs.Calls.{due_number}
+use Rattle.mv_core.specs.Scripts.{work_of}
 use Rattle.mv_core.specs.Books.{Booked, work_in}
 use Rattle.mv_core.proofs.Keeping.{live_stays, the_course, here_at, kept_settled, settled_live, number_known, same_calls, room_left}
+use Rattle.mv_core.proofs.Recents.{recent_set}
 use Rattle.mv_core.proofs.book.Book.settle.Goals as goal
 
 pub invariant_of-self : goal.invariant_of-self
@@ -13,7 +15,9 @@ invariant_of-self c = record {
       (subst (λ (b : Booked). due_number (work_in b) b.course c.args.call ≡ Some c.executed.result) (sym c.self.view_is) (c.requires.number ∙ ap Some (sym c.executed.ensures)))
       c.settle.ensures.start c.settle.ensures.steps c.settle.ensures.rounds c.settle.ensures.reply;
   live = c.self.invariant.live ∙ sym (live_stays c.self.inside.calls.items c.args.call c.index_mut.result.now c.settle.new.self (here_at c.self.inside c.args.self.now c.args.call c.index_mut.result.now c.self.view_is c.requires.live c.index_mut.ensures.value).2.at c.settle.ensures.reply);
-  recent = c.self.invariant.recent;
+  recent =
+      let start = c.settle.ensures.start in
+      recent_set (work_of c.self.inside.script) c.self.inside.order.items c.self.inside.low c.args.call c.self.inside.calls.items c.index_mut.result.now c.settle.new.self c.self.inside.recent c.self.invariant.recent (here_at c.self.inside c.args.self.now c.args.call c.index_mut.result.now c.self.view_is c.requires.live c.index_mut.ensures.value).2.at (here_at c.self.inside c.args.self.now c.args.call c.index_mut.result.now c.self.view_is c.requires.live c.index_mut.ensures.value).2.going (omega (arith, start));
 }
 
 pub returns-clause-settled : goal.returns-clause-settled
