@@ -1,6 +1,7 @@
 -- What stays of a history where no event is made, and a call after an event.
 use Rattle.std.proofs.Common.{◌≡◌, ℕ, ◌+◌, ◌<◌, ◌≤◌, Bool, true, false, not, List, [], ◌∷◌, ◌++◌, Option, Some, None, length, refl, sym, ap, subst, ◌∙◌, arith, rules}
-use Rattle.std.specs.Prelude.{slice_get, ◌==◌, nat_lt, nat_eq}
+use Rattle.std.specs.Prelude.{slice_get, ◌==◌, ◌≢◌, IfSome, nat_le, nat_lt, nat_eq}
+use Rattle.std.specs.Option.{is_some}
 use Rattle.std.proofs.lemmas.Bool.Decides.{eqb_tells}
 use Rattle.mv_values.specs.declared.calls.Call.{Call}
 use Rattle.mv_record.specs.declared.record.Record.{Record}
@@ -8,30 +9,38 @@ use Rattle.mv_record.specs.Runs.{Tables}
 use Rattle.mv_record.specs.Writes.{AreRising}
 use Rattle.mv_graph.specs.declared.graph.Graph.{Graph}
 use Rattle.mv_graph.specs.Nodes.{meaning_of}
-use Rattle.mv_exec.specs.declared.task.Task.{Task}
 use Rattle.mv_exec.specs.Running.{IsTaskOf, Leaves}
 use Rattle.mv_journal.specs.declared.event.Event.{Event}
-use Rattle.mv_journal.specs.declared.event.Event.TheVariants.{S, M, C}
-use Rattle.mv_journal.specs.declared.outcome.Mark.TheVariants.{Moved}
+use Rattle.mv_journal.specs.declared.event.Event.TheVariants.{S, C, X}
+use Rattle.mv_journal.specs.declared.outcome.Mark.{Mark}
+use Rattle.mv_journal.specs.declared.outcome.Mark.TheVariants.{Exclusive}
 use Rattle.mv_journal.specs.declared.outcome.Round.{Round}
-use Rattle.mv_lawful.specs.declared.fault.Fault.TheVariants.{Stale, Conflict}
+use Rattle.mv_lawful.specs.Rounds.{later_run, repair_run, rounds_of}
+use Rattle.mv_lawful.specs.Outcomes.{turns_of}
 use Rattle.mv_lawful.specs.Work.{Work, records_at}
-use Rattle.mv_lawful.specs.Lawful.{Live, Course, again, used, has_step, is_stale, is_hit, unless, refusal, after}
+use Rattle.mv_lawful.specs.declared.fault.Fault.TheVariants.{Idle, Stale, Rounds}
+use Rattle.mv_lawful.specs.Lawful.{Live, Course, again, finish, used, has_step, has_round, is_stale, unless, refusal, after}
 use Rattle.mv_core.specs.declared.script.Script.{Script}
 use Rattle.mv_core.specs.Rooms.{Filled}
 use Rattle.mv_core.specs.Scripts.{work_of, IsScript}
-use Rattle.mv_core.specs.Calls.{IsLive, IsLiveCall, due_number}
-use Rattle.mv_core.specs.Books.{Booked, work_in, Made, IsSame, HasRoom, IsNotStale}
-use Rattle.mv_core.specs.Cores.{IsLiveTask, HasStep, MayStep, IsStoreOf, IsCore}
+use Rattle.mv_core.specs.declared.tasks.Running.{Running}
+use Rattle.mv_core.specs.Calls.{IsLive, IsLiveCall, last_number, due_number}
+use Rattle.mv_core.specs.Books.{Booked, work_in, Made, IsSame, round_event, IsOwnBy, IsOwnNumber, IsAnswer, HasRoom, IsNotStale}
+use Rattle.mv_core.specs.declared.book.Check.{Check}
+use Rattle.mv_core.specs.declared.book.Check.TheVariants as check
+use Rattle.mv_core.specs.Drives.{HasMade}
+use Rattle.mv_core.specs.Cores.{IsAllowedIfFresh, IsHitAt, IsStaleAt, IsLiveTask, HasTurns, HasStep, MayStep, IsStoreOf, IsCore}
+use Rattle.mv_core.proofs.Numbers.{repair_stays}
 use Rattle.mv_core.proofs.Journals.{changed_at, set_there}
+use Rattle.mv_core.proofs.Keeping.{restart_after}
 use Rattle.mv_core.proofs.Stored.{stored_same, at_least}
-use Rattle.mv_core.proofs.Taking.{both_true, tasks_same, due_whole, one_live}
-use Rattle.mv_core.proofs.Refusing.{live_is, step_is}
+use Rattle.mv_core.proofs.Taking.{both_true, tasks_same, due_live, number_again, one_live}
+use Rattle.mv_core.proofs.Refusing.{Repairs, step_is, same_made, refused_stale, fresh_allowed, told_idle, told_stale, told_hit}
 use Rattle.mv_store.specs.Stored.{Versioned}
 
 -- No event
 
-pub core_same : (old new : Booked) (store : Versioned) (ts : List (Option Task)) → IsCore old store ts → IsSame old new → IsCore new store ts
+pub core_same : (old new : Booked) (store : Versioned) (ts : List (Option Running)) → IsCore old store ts → IsSame old new → IsCore new store ts
 core_same old new store ts k same = record { stored = stored_same old new store k.stored same; tasks = tasks_same old.script new.script old.course new.course ts k.tasks same.script same.course }
 
 pub made_from : (e : Event) (old mid new : Booked) → mid.script ≡ old.script → mid.course ≡ old.course → mid.journal ≡ old.journal → Made e mid new → Made e old new
@@ -44,6 +53,18 @@ made_from e old mid new script course journal m = record {
 
 pub made_after : (e : Event) (old mid new : Booked) → IsSame old mid → Made e mid new → Made e old new
 made_after e old mid new same m = made_from e old mid new same.script same.course same.journal m
+
+pub due_same : (old new : Booked) (c n : ℕ) → new.script ≡ old.script → new.course ≡ old.course → due_number (work_in old) old.course c ≡ Some n → due_number (work_in new) new.course c ≡ Some n
+due_same old new c n script course is =
+    ap (λ (s : Script). due_number (work_of s) new.course c) script ∙ (ap (λ s. due_number (work_in old) s c) course ∙ is)
+
+pub own_same : (own : Option ℕ) (old new : Booked) (c : ℕ) → new.script ≡ old.script → new.course ≡ old.course → IsOwnNumber own old c → IsOwnNumber own new c
+own_same own old new c script course is =
+    subst (λ (s : Script). IsOwnBy own (work_of s) new.course c) (sym script) (subst (λ s. IsOwnBy own (work_in old) s c) (sym course) is)
+
+pub allowed_same : (e : Event) (old new : Booked) → new.script ≡ old.script → new.course ≡ old.course → refusal (work_in old) old.course e ≡ None → refusal (work_in new) new.course e ≡ None
+allowed_same e old new script course is =
+    ap (λ (s : Script). refusal (work_of s) new.course e) script ∙ (ap (λ s. refusal (work_in old) s e) course ∙ is)
 
 pub room_less : (b : Booked) (c n m : ℕ) → m ≤ n → HasRoom b c n → HasRoom b c m
 room_less b c n m le h = (let a = h.0 in omega (arith, a, le), λ (f : Filled Round) there. let a : n ≤ f.room = h.1 f there in omega (arith, a, le))
@@ -64,15 +85,44 @@ live_stepped c old new l live made = record {
   live = live.live;
 }
 
--- A move
+-- A repair or a move
 
-pub live_moved : (c : ℕ) (old new : Booked) (l : Live) → IsLive old.course c l → Made (M c) old new → IsLive new.course c (again (length old.course.order) Moved l)
-live_moved c old new l live made = record {
+pub live_restarted : (m : Mark) (c : ℕ) (old new : Booked) (l : Live) → m ≢ Exclusive → IsLive old.course c l → Made (round_event m c) old new → IsLive new.course c (again (length old.course.order) m l)
+live_restarted m c old new l ne live made = record {
   at =
-      ap (λ (s : Course). slice_get s.calls c) made.course
-      ∙ (ap (λ ls. slice_get ls c) (changed_at old.course.calls c (again (length old.course.order) Moved) l live.at) ∙ set_there old.course.calls c (again (length old.course.order) Moved l) l live.at);
+      ap (λ (s : Course). slice_get s.calls c) (made.course ∙ restart_after (work_in old) old.course m c ne)
+      ∙ (ap (λ ls. slice_get ls c) (changed_at old.course.calls c (again (length old.course.order) m) l live.at) ∙ set_there old.course.calls c (again (length old.course.order) m l) l live.at);
   live = live.live;
 }
+
+-- its order is the old one
+order_restarted : (m : Mark) (c : ℕ) (old new : Booked) → m ≢ Exclusive → Made (round_event m c) old new → new.course.order ≡ old.course.order
+order_restarted m c old new ne made = ap (λ (s : Course). s.order) (made.course ∙ restart_after (work_in old) old.course m c ne)
+
+-- its number
+pub due_restarted : (m : Mark) (b new : Booked) (c : ℕ) (l : Live) → m ≢ Exclusive → IsLive b.course c l → HasTurns (length b.course.order) l → Made (round_event m c) b new
+    → due_number (work_in new) new.course c ≡ Some (later_run (work_in b) b.course.order c l.start (length b.course.order) m)
+due_restarted m b new c l ne live turns made =
+    due_live (work_in new) new.course c (again (length b.course.order) m l) (live_restarted m c b new l ne live made)
+    ∙ (ap (λ (s : Script). last_number (rounds_of (work_of s) new.course.order c (again (length b.course.order) m l).turns)) made.script
+    ∙ (ap (λ o. last_number (rounds_of (work_in b) o c (again (length b.course.order) m l).turns)) (order_restarted m c b new ne made)
+    ∙ number_again (work_in b) b.course.order c (length b.course.order) (length b.course.order) m l turns))
+
+-- the number of a repair that commits in its own step
+pub due_decided : (b : Booked) (c : ℕ) (l : Live) → IsLive b.course c l → HasTurns (length b.course.order) l
+    → due_number (work_in b) (after (work_in b) b.course (X c)) c ≡ Some (repair_run (work_in b) b.course.order c l.start (length b.course.order))
+due_decided b c l live turns =
+    ap (λ o. last_number (rounds_of (work_in b) longer c (turns_of o))) there
+    ∙ (number_again (work_in b) longer c (length b.course.order) (length b.course.order) Exclusive l turns
+    ∙ ap Some (repair_stays (work_in b) b.course.order c c l.start (length b.course.order) turns.past (omega arith))) where
+      longer : List ℕ
+      longer = b.course.order ++ c ∷ []
+
+      f : Live → Live
+      f x = finish (again (length b.course.order) Exclusive x)
+
+      there : slice_get (after (work_in b) b.course (X c)).calls c ≡ Some (f l)
+      there = ap (λ ls. slice_get ls c) (changed_at b.course.calls c f l live.at) ∙ set_there b.course.calls c (f l) l live.at
 
 -- The history of a core, and the same one with room
 
@@ -95,11 +145,12 @@ pub fresh_now : (b : Booked) (store : Versioned) (c start low : ℕ) → IsStore
 fresh_now b store c start low k at low_at fresh l live = at_least l.start b.course.low (let a = at l live in let d = k.low_is in omega (arith, a, d, low_at, fresh))
 
 -- what is told after a statement
-pub step_told : (b new : Booked) (store : Versioned) (c : ℕ) (l : Live) (t : Task) (steps : ℕ) (more : Bool) → IsStoreOf b store → c < length b.script.calls → IsLive b.course c l → Made (S c) b new
+pub step_told : (b new : Booked) (store : Versioned) (c : ℕ) (l : Live) (t : Running) (steps : ℕ) (more : Bool) → IsStoreOf b store → c < length b.script.calls → IsLive b.course c l → Made (S c) b new
     → IsLiveTask b.script b.course.order c (record l { steps = l.steps + 1 }) t → used l ≡ 0 → ((m : Live) → IsLive new.course c m → steps ≡ m.steps)
-    → ((g : Graph) (call : Call) (db : Tables) (rest : List Record) → IsTaskOf g call t → AreRising db → Leaves g call db t rest → more ≡ nat_lt steps (length (meaning_of g call db).records))
+    → ((n : ℕ) → t.count ≡ Some n → more ≡ nat_lt steps n)
+    → (t.count ≡ None → (g : Graph) (call : Call) (db : Tables) (rest : List Record) → IsTaskOf g call t.task → AreRising db → Leaves g call db t.task rest → more ≡ nat_lt steps (length (meaning_of g call db).records))
     → (m : Live) → IsLive new.course c m → has_step (work_in new) new.course c m ≡ more
-step_told b new store c l t steps more k lt live made task first counts told m at =
+step_told b new store c l t steps more k lt live made task first counts known told m at =
     let now : Live = record l { steps = l.steps + 1 } in
     let there : IsLive new.course c now = live_stepped c b new l live made in
     let one : now ≡ m = one_live new.course c now m there at in
@@ -107,35 +158,11 @@ step_told b new store c l t steps more k lt live made task first counts told m a
     subst (λ (x : Live). has_step (work_in new) new.course c x ≡ more) one
     (step_is new.script new.course c now t more (subst IsScript (sym made.script) k.script) (subst (λ (s : Script). c < length s.calls) (sym made.script) lt)
     (subst (λ (s : Script). IsLiveTask s new.course.order c now t) (sym made.script) (subst (λ (o : List ℕ). IsLiveTask b.script o c now t) (sym order) task)) first
-    (λ g call db rest is rise leaves. told g call db rest is rise leaves ∙ ap (λ n. nat_lt n (length (meaning_of g call db).records)) (counts now there)))
-
--- the number of a move
-pub due_moved : (b new : Booked) (c : ℕ) (l : Live) (t : Task) → IsLive b.course c l → Made (M c) b new → IsLiveTask b.script b.course.order c (again (length b.course.order) Moved l) t
-    → t.records ≡ records_at (work_in b) b.course.order (length b.course.order) c → due_number (work_in new) new.course c ≡ Some t.executed
-due_moved b new c l t live made task are =
-    let now : Live = again (length b.course.order) Moved l in
-    let there : IsLive new.course c now = live_moved c b new l live made in
-    let order : new.course.order ≡ b.course.order = ap (λ (s : Course). s.order) made.course in
-    due_whole (work_in new) new.course c now there task.turns
-    ∙ ap Some
-    (ap (λ (s : Script). length (records_at (work_of s) new.course.order (length b.course.order) c)) made.script
-    ∙ (ap (λ o. length (records_at (work_in b) o (length b.course.order) c)) order
-    ∙ sym (task.executed ∙ ap length are)))
+    (λ n is. known n is ∙ ap (λ x. nat_lt x n) (counts now there))
+    (λ none g call db rest is rise leaves. told none g call db rest is rise leaves ∙ ap (λ n. nat_lt n (length (meaning_of g call db).records)) (counts now there)))
 
 pub live_in : (b now : Booked) (c : ℕ) → b ≡ now → IsLiveCall now.course c → IsLiveCall b.course c
 live_in b now c is live = subst (λ (x : Booked). IsLiveCall x.course c) (sym is) live
-
--- the law doesn't call a call stale that isn't
-pub not_refused_stale : (b : Booked) (c : ℕ) (l : Live) → IsLive b.course c l → is_stale b.course l ≡ false → refusal (work_in b) b.course (C c) ≡ Some Stale → ⊥
-not_refused_stale b c l live fresh refused = by (is_hit (work_in b) b.course c l) (sym now ∙ refused) where
-  now : refusal (work_in b) b.course (C c) ≡ unless (not (is_hit (work_in b) b.course c l)) Conflict None
-  now =
-      live_is b.course c (λ x. unless (not (is_stale b.course x)) Stale (unless (not (is_hit (work_in b) b.course c x)) Conflict None)) l live
-      ∙ ap (λ x. unless (not x) Stale (unless (not (is_hit (work_in b) b.course c l)) Conflict None)) fresh
-
-  by : (h : Bool) → unless (not h) Conflict None ≡ Some Stale → ⊥
-  by true e = search (rules, e)
-  by false e = search (rules, e)
 
 -- Whether a call has a step
 
@@ -151,3 +178,77 @@ not_one n h = by (nat_eq n 1) refl where
   by : (b : Bool) → nat_eq n 1 ≡ b → nat_eq n 1 ≡ false
   by true e = absurd (h (same e))
   by false e = e
+
+-- one round more than were used is within the bound exactly if one more may be used
+pub may_more : (n u r : ℕ) → n ≡ u + 1 → nat_le n r ≡ nat_lt u r
+may_more n u r is = grind (arith, is)
+
+-- an event that is allowed of a call that isn't stale
+pub fresh_now_allowed : (b now : Booked) (c : ℕ) (l : Live) (e : Event) (may : Bool) → b ≡ now → Repairs (work_in b) b.course c l e may → IsAllowedIfFresh now e → is_stale b.course l ≡ false → refusal (work_in b) b.course e ≡ None
+fresh_now_allowed b now c l e may is r allowed fresh = fresh_allowed b c l e may r (subst (λ (x : Booked). IsAllowedIfFresh x e) (sym is) allowed) fresh
+
+-- What validation tells
+
+pub free_told : (b : Booked) (c : ℕ) (a : Check) (l : Live) → ((m : Live) → IsLive b.course c m → IsAnswer a (work_in b) b.course c m) → a ≡ check.Free → IsLive b.course c l → refusal (work_in b) b.course (C c) ≡ None
+free_told b c a l told is live = subst (λ (x : Check). IsAnswer x (work_in b) b.course c l) is (told l live)
+
+pub hit_told : (b : Booked) (c number commit : ℕ) (a : Check) (l : Live) → ((m : Live) → IsLive b.course c m → IsAnswer a (work_in b) b.course c m) → a ≡ check.Hit number commit → IsLive b.course c l
+    → IsHitAt b c (record { number = number; commit = commit })
+hit_told b c number commit a l told is live =
+    let h : IsAnswer (check.Hit number commit) (work_in b) b.course c l = subst (λ (x : Check). IsAnswer x (work_in b) b.course c l) is (told l live) in
+    record { live = l; is_live = live; refused = h.0; hit_is = h.1 }
+
+pub stale_told : (b : Booked) (c start low : ℕ) (a : Check) (l : Live) → ((m : Live) → IsLive b.course c m → IsAnswer a (work_in b) b.course c m) → a ≡ check.Stale start low → IsLive b.course c l
+    → IsStaleAt b c start low
+stale_told b c start low a l told is live =
+    let h : IsAnswer (check.Stale start low) (work_in b) b.course c l = subst (λ (x : Check). IsAnswer x (work_in b) b.course c l) is (told l live) in
+    let lt = below l.start b.course.low (refused_stale (work_in b) b.course c l live h.0) in
+    let at = h.1 in
+    let to = h.2 in
+    record { live = l; is_live = live; start_is = at; low_is = to; stale = omega (arith, lt, at, to) } where
+      below : (n m : ℕ) → nat_lt n m ≡ true → n < m
+      below n m e = grind (arith, e)
+
+pub same_self : (b : Booked) → IsSame b b
+same_self b = record { script = refl; course = refl; rounds = refl; journal = refl }
+
+-- Whether a call is repaired
+
+pub idle_refused : (old new : Booked) (c : ℕ) (a : Check) (l : Live) (e : Event) (may : Bool) → IsSame old new → IsLive old.course c l → Repairs (work_in old) old.course c l e may
+    → ((m : Live) → IsLive old.course c m → IsAnswer a (work_in old) old.course c m) → a ≡ check.Free → (refusal (work_in old) old.course e ≡ Some Idle) × HasMade [] old new
+idle_refused old new c a l e may same live r told is = (
+  told_idle (work_in old) old.course c l e may live r (subst (λ (x : Check). IsAnswer x (work_in old) old.course c l) is (told l live)),
+  same_made old new same,
+)
+
+pub stale_refused : (old new : Booked) (c start low : ℕ) (a : Check) (l : Live) (e : Event) (may : Bool) → IsSame old new → IsLive old.course c l → Repairs (work_in old) old.course c l e may
+    → ((m : Live) → IsLive old.course c m → IsAnswer a (work_in old) old.course c m) → a ≡ check.Stale start low → (refusal (work_in old) old.course e ≡ Some Stale) × HasMade [] old new
+stale_refused old new c start low a l e may same live r told is = (
+  told_stale (work_in old) old.course c start low l e may live r (subst (λ (x : Check). IsAnswer x (work_in old) old.course c l) is (told l live)),
+  same_made old new same,
+)
+
+hit_law : (old : Booked) (c number commit : ℕ) (a : Check) (l : Live) (e : Event) (may : Bool) → IsLive old.course c l → Repairs (work_in old) old.course c l e may
+    → ((m : Live) → IsLive old.course c m → IsAnswer a (work_in old) old.course c m) → a ≡ check.Hit number commit → refusal (work_in old) old.course e ≡ unless may Rounds None
+hit_law old c number commit a l e may live r told is =
+    told_hit (work_in old) old.course c number commit l e may live r (subst (λ (x : Check). IsAnswer x (work_in old) old.course c l) is (told l live))
+
+pub rounds_refused : (old new : Booked) (c number commit : ℕ) (a : Check) (l : Live) (e : Event) (may : Bool) → IsSame old new → IsLive old.course c l → Repairs (work_in old) old.course c l e may
+    → ((m : Live) → IsLive old.course c m → IsAnswer a (work_in old) old.course c m) → a ≡ check.Hit number commit → may ≡ false → (refusal (work_in old) old.course e ≡ Some Rounds) × HasMade [] old new
+rounds_refused old new c number commit a l e may same live r told is none = (hit_law old c number commit a l e may live r told is ∙ ap (λ b. unless b Rounds None) none, same_made old new same)
+
+pub hit_allowed : (old new : Booked) (c number commit : ℕ) (a : Check) (l : Live) (e : Event) (may : Bool) → IsSame old new → IsLive old.course c l → Repairs (work_in old) old.course c l e may
+    → ((m : Live) → IsLive old.course c m → IsAnswer a (work_in old) old.course c m) → a ≡ check.Hit number commit → may ≡ true → IsAllowedIfFresh new e
+hit_allowed old new c number commit a l e may same live r told is can f refused =
+    let none = allowed_same e old new same.script same.course (hit_law old c number commit a l e may live r told is ∙ ap (λ b. unless b Rounds None) can) in
+    let both : None ≡ Some f = sym none ∙ refused in
+    absurd (search (rules, both))
+
+pub round_now : (old new : Booked) (c : ℕ) (l : Live) (may : Bool) → IsSame old new → IsLive old.course c l → ((m : Live) → IsLive new.course c m → may ≡ has_round (work_in new) m) → has_round (work_in old) l ≡ may
+round_now old new c l may same live told =
+    ap (λ (s : Script). has_round (work_of s) l) (sym same.script) ∙ sym (told l (subst (λ (s : Course). IsLive s c l) (sym same.course) live))
+
+-- there are rounds
+pub some_rounds : {A : Type 0} {P : A → Type 0} {Q : Type 0} (o : Option A) → IfSome o P → is_some o ≡ true → ((x : A) → P x → Q) → Q
+some_rounds None p e f = absurd (search (rules, e))
+some_rounds (Some x) p e f = f x p

@@ -22,9 +22,9 @@ use Rattle.mv_core.specs.declared.book.Book.TheInside.{Inside}
 use Rattle.mv_core.specs.contracts.book.Book.{the_view}
 use Rattle.mv_core.specs.Rooms.{Filled}
 use Rattle.mv_core.specs.Scripts.{work_of}
-use Rattle.mv_core.specs.Calls.{turn_of, turns_in, live_of, IsLive, IsLiveCall, numbered, last_number, closed, unknown, due_number, committed, with_own, AreRounds, IsReply, TellsBy, TellsCall, IsFresh}
+use Rattle.mv_core.specs.Calls.{Within, turn_of, turns_in, live_of, IsLive, IsLiveCall, numbered, last_number, closed, unknown, due_number, committed, with_own, AreRounds, IsReply, TellsBy, TellsCall, IsFresh}
 use Rattle.mv_core.specs.Books.{Booked, IsKept, IsSame, work_in, kept_rounds, Made, HasBegun, HasRoom, HasRounds, IsSettled, IsOwnBy, round_event, commit_event}
-use Rattle.mv_core.proofs.Numbers.{turns_numbered, turns_closed, last_numbered, Within, table_stays, rounds_stay, rounds_begin, closes, settled, settles, rounds_end}
+use Rattle.mv_core.proofs.Numbers.{turns_numbered, turns_closed, last_numbered, table_stays, rounds_stay, rounds_begin, closes, settled, settles, rounds_end}
 use Rattle.mv_core.specs.Lives.{live_numbers, without}
 use Rattle.mv_core.proofs.Lives.{live_kept, live_gone, live_begun, live_below}
 use Rattle.mv_core.proofs.Journals.{get_last, get_set, set_there, facts_of, Facts, CallFacts, live_at, changed_at, done_in, done_within, done_below, reach_more, allowed_more, live_apart, found_last, found_stays}

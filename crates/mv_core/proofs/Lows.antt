@@ -3,7 +3,8 @@ use Rattle.std.proofs.Common.{◌≡◌, ◌≤◌, ℕ, List, [], ◌∷◌, �
 use Rattle.std.proofs.Math.Nat.{max-le}
 use Rattle.mv_journal.specs.declared.event.Event.{Event}
 use Rattle.mv_journal.specs.declared.event.Event.TheVariants.{G}
-use Rattle.mv_lawful.specs.Lawful.{next_low, floor}
+use Rattle.mv_lawful.specs.Work.{Work}
+use Rattle.mv_lawful.specs.Lawful.{Course, next_low, floor}
 use Rattle.mv_lawful.specs.Lawful.{oldest as oldest_of}
 use Rattle.mv_lawful.proofs.Lows.{low_never_falls}
 use Rattle.mv_core.specs.declared.script.Script.{Script}
@@ -43,14 +44,17 @@ low_told i old n o f m k is count oldest past most all =
     ∙ ap (λ (b : Booked). max b.course.low (max (oldest_of (length old.course.order) old.course.calls) (floor (length old.course.order) b.script.options.horizon))) is)
 
 -- low rises, and not past the commits
-pub next_within : (s : Script) (order : List ℕ) (low next : ℕ) (ps : List Progress) → low ≤ length order → next ≡ next_low (work_of s) (the_course order low (map live_of ps)) → (low ≤ next) × (next ≤ length order)
-next_within s order low next ps le is = (
-  subst (λ n. low ≤ n) (sym is) (low_never_falls (work_of s) (the_course order low (map live_of ps)) G),
-  subst (λ n. n ≤ length order) (sym is) (max-le le (max-le (oldest_within (length order) (map live_of ps)) (past s.options.horizon))),
+pub low_within : (w : Work) (s : Course) (next : ℕ) → s.low ≤ length s.order → next ≡ next_low w s → (s.low ≤ next) × (next ≤ length s.order)
+low_within w s next le is = (
+  subst (λ n. s.low ≤ n) (sym is) (low_never_falls w s G),
+  subst (λ n. n ≤ length s.order) (sym is) (max-le le (max-le (oldest_within (length s.order) s.calls) (past w.options.horizon))),
 ) where
-  past : (h : Option ℕ) → floor (length order) h ≤ length order
+  past : (h : Option ℕ) → floor (length s.order) h ≤ length s.order
   past None = omega arith
   past (Some h) = omega arith
+
+pub next_within : (s : Script) (order : List ℕ) (low next : ℕ) (ps : List Progress) → low ≤ length order → next ≡ next_low (work_of s) (the_course order low (map live_of ps)) → (low ≤ next) × (next ≤ length order)
+next_within s order low next ps le is = low_within (work_of s) (the_course order low (map live_of ps)) next le is
 
 -- it is past what no live call needs
 pub next_past : (s : Script) (order : List ℕ) (low next : ℕ) (ps : List Progress) → next ≡ next_low (work_of s) (the_course order low (map live_of ps)) → max low (oldest_of (length order) (map live_of ps)) ≤ next

@@ -12,7 +12,7 @@ use Rattle.mv_history.specs.Kept.{executions}
 use Rattle.mv_lawful.specs.Work.{Work, tables_after, table_at, records_at, changes_after, changes_up_to}
 use Rattle.mv_lawful.specs.Lawful.{Turn}
 use Rattle.mv_lawful.specs.Rounds.{whole_run, repair_run, later_run, unless_moved, round, later_rounds, rounds_of}
-use Rattle.mv_core.specs.Calls.{turn_of, turns_in, numbered, last_number, closed, unknown, AreRounds}
+use Rattle.mv_core.specs.Calls.{Within, turn_of, turns_in, numbered, last_number, closed, unknown, AreRounds}
 
 -- Numbers in a list
 
@@ -107,7 +107,7 @@ changes_stay w order d old new lo ln = ap (flat_map (λ (cs : List Change). cs))
 whole_stays : (w : Work) (order : List ℕ) (d c start : ℕ) → start ≤ length order → whole_run w (order ++ d ∷ []) c start ≡ whole_run w order c start
 whole_stays w order d c start le = ap (λ db. length (w.run c db).records) (table_stays w order d start le)
 
-repair_stays : (w : Work) (order : List ℕ) (d c old new : ℕ) → old ≤ length order → new ≤ length order → repair_run w (order ++ d ∷ []) c old new ≡ repair_run w order c old new
+pub repair_stays : (w : Work) (order : List ℕ) (d c old new : ℕ) → old ≤ length order → new ≤ length order → repair_run w (order ++ d ∷ []) c old new ≡ repair_run w order c old new
 repair_stays w order d c old new lo ln =
     ap (λ db. executions (w.run c db).records (records_at w (order ++ d ∷ []) new c) (changes_up_to w (order ++ d ∷ []) old new)) (table_stays w order d old lo)
     ∙ (ap (λ db. executions (records_at w order old c) (w.run c db).records (changes_up_to w (order ++ d ∷ []) old new)) (table_stays w order d new ln)
@@ -117,11 +117,6 @@ later_stays : (w : Work) (order : List ℕ) (d c old start : ℕ) (m : Mark) →
 later_stays w order d c old start Plain lo ln = repair_stays w order d c old start lo ln
 later_stays w order d c old start Exclusive lo ln = repair_stays w order d c old start lo ln
 later_stays w order d c old start Moved lo ln = whole_stays w order d c start ln
-
--- each round began after at most so many commits
-abbrev pub Within : ℕ → List Turn → Type 0
-Within n [] = Unit {0}
-Within n (t ∷ ts) = (t.start ≤ n) × Within n ts
 
 pub within_more : (n m : ℕ) (ts : List Turn) → n ≤ m → Within n ts → Within m ts
 within_more n m [] le h = tt
@@ -146,7 +141,7 @@ rounds_stay w order d c (t ∷ ts) h =
 -- A round more
 
 -- the start of the last round, or this one
-abbrev last_start : ℕ → List Turn → ℕ
+abbrev pub last_start : ℕ → List Turn → ℕ
 last_start old [] = old
 last_start old (t ∷ ts) = last_start t.start ts
 

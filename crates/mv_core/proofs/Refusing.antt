@@ -10,22 +10,24 @@ use Rattle.mv_record.specs.Writes.{AreRising}
 use Rattle.mv_values.specs.declared.calls.Call.{Call}
 use Rattle.mv_graph.specs.declared.graph.Graph.{Graph}
 use Rattle.mv_graph.specs.Nodes.{meaning_of}
-use Rattle.mv_exec.specs.declared.task.Task.{Task}
 use Rattle.mv_exec.specs.Running.{IsTaskOf, Leaves}
-use Rattle.mv_journal.specs.declared.event.Event.TheVariants.{B}
+use Rattle.mv_journal.specs.declared.event.Event.{Event}
+use Rattle.mv_journal.specs.declared.event.Event.TheVariants.{B, A, C, X}
 use Rattle.mv_journal.specs.declared.outcome.Round.{Round}
 use Rattle.mv_lawful.specs.declared.fault.Fault.{Fault}
-use Rattle.mv_lawful.specs.declared.fault.Fault.TheVariants.{Order}
+use Rattle.mv_lawful.specs.declared.fault.Fault.TheVariants.{Order, Stale, Conflict, Idle, Rounds}
 use Rattle.mv_lawful.specs.Work.{Work, table_at, records_at}
-use Rattle.mv_lawful.specs.Lawful.{Live, Course, used, has_step, unless, of_live, of_call, begin, first_open, open_call}
+use Rattle.mv_lawful.specs.Lawful.{Live, Course, used, has_step, has_round, is_stale, is_hit, unless, of_live, of_call, refusal, begin, first_open, open_call}
 use Rattle.mv_core.specs.declared.script.Script.{Script}
 use Rattle.mv_core.specs.Scripts.{work_of, IsScript}
 use Rattle.mv_core.specs.Calls.{IsLive, IsLiveCall, turn_of}
-use Rattle.mv_core.specs.Books.{Booked, work_in, Made, IsSame, HasRounds}
+use Rattle.mv_core.specs.declared.book.Check.TheVariants as check
+use Rattle.mv_core.specs.Books.{Booked, work_in, Made, IsSame, IsAnswer, HasRounds}
 use Rattle.mv_core.specs.Drives.{HasMade}
-use Rattle.mv_core.specs.Cores.{IsLiveTask, HasTurns}
+use Rattle.mv_core.specs.declared.tasks.Running.{Running}
+use Rattle.mv_core.specs.Cores.{IsLiveTask, HasTurns, count_or, IsAllowedIfFresh}
 use Rattle.mv_core.proofs.Stored.{run_is, table_database}
-use Rattle.mv_core.proofs.Taking.{one_live}
+use Rattle.mv_core.proofs.Taking.{one_live, first_number}
 use Rattle.mv_core.proofs.Journals.{room_of}
 
 -- Refusals
@@ -41,19 +43,96 @@ same_made old new s = record { allowed = tt; course = s.course; journal = s.jour
 pub begun_number : (c : ℕ) (old new : Booked) → Made (B c) old new → c ≡ length old.course.calls
 begun_number c old new made = (room_of (work_in old) (length old.course.calls) c made.allowed).0
 
+-- A repair
+
+-- what the law says of a repair where a commit is allowed, or refused
+abbrev repair_by : Work → Course → ℕ → Live → Bool → Option Fault
+repair_by w s c l may = unless (not (is_stale s l)) Stale (unless (is_hit w s c l) Idle (unless may Rounds None))
+
+abbrev commit_by : Work → Course → ℕ → Live → Option Fault
+commit_by w s c l = unless (not (is_stale s l)) Stale (unless (not (is_hit w s c l)) Conflict None)
+
+free_is_idle : (w : Work) (s : Course) (c : ℕ) (l : Live) (may : Bool) → commit_by w s c l ≡ None → repair_by w s c l may ≡ Some Idle
+free_is_idle w s c l may free = by (is_stale s l) (is_hit w s c l) free where
+  by : (stale hit : Bool) → unless (not stale) Stale (unless (not hit) Conflict None) ≡ None → unless (not stale) Stale (unless hit Idle (unless may Rounds None)) ≡ Some Idle
+  by true hit e = absurd (search (rules, e))
+  by false true e = absurd (search (rules, e))
+  by false false e = refl
+
+stale_stays : (w : Work) (s : Course) (c : ℕ) (l : Live) (may : Bool) → commit_by w s c l ≡ Some Stale → repair_by w s c l may ≡ Some Stale
+stale_stays w s c l may e = by (is_stale s l) (is_hit w s c l) e where
+  by : (stale hit : Bool) → unless (not stale) Stale (unless (not hit) Conflict None) ≡ Some Stale → unless (not stale) Stale (unless hit Idle (unless may Rounds None)) ≡ Some Stale
+  by true hit e = refl
+  by false true e = absurd (search (rules, e))
+  by false false e = absurd (search (rules, e))
+
+hit_repairs : (w : Work) (s : Course) (c : ℕ) (l : Live) (may : Bool) → commit_by w s c l ≡ Some Conflict → repair_by w s c l may ≡ unless may Rounds None
+hit_repairs w s c l may e = by (is_stale s l) (is_hit w s c l) e where
+  by : (stale hit : Bool) → unless (not stale) Stale (unless (not hit) Conflict None) ≡ Some Conflict → unless (not stale) Stale (unless hit Idle (unless may Rounds None)) ≡ unless may Rounds None
+  by true hit e = absurd (search (rules, e))
+  by false true e = refl
+  by false false e = absurd (search (rules, e))
+
+-- whether a live call is repaired in an event of its own: that depends on its rounds
+pub record Repairs (w : Work) (s : Course) (c : ℕ) (l : Live) (e : Event) (may : Bool) : Type 0 where
+  pub law : refusal w s e ≡ unless (not (is_stale s l)) Stale (unless (is_hit w s c l) Idle (unless may Rounds None))
+
+pub repairs_again : (w : Work) (s : Course) (c : ℕ) (l : Live) → IsLive s c l → Repairs w s c l (A c) (has_round w l)
+repairs_again w s c l live = record { law = live_is s c (λ x. repair_by w s c x (has_round w x)) l live }
+
+pub repairs_last : (w : Work) (s : Course) (c : ℕ) (l : Live) → IsLive s c l → Repairs w s c l (X c) (not (has_round w l))
+repairs_last w s c l live = record { law = live_is s c (λ x. repair_by w s c x (not (has_round w x))) l live }
+
+commit_is : (w : Work) (s : Course) (c : ℕ) (l : Live) → IsLive s c l → refusal w s (C c) ≡ commit_by w s c l
+commit_is w s c l live = live_is s c (commit_by w s c) l live
+
+-- the law calls a call stale only if it is
+pub refused_stale : (w : Work) (s : Course) (c : ℕ) (l : Live) → IsLive s c l → refusal w s (C c) ≡ Some Stale → is_stale s l ≡ true
+refused_stale w s c l live e = by (is_stale s l) (is_hit w s c l) refl (sym (commit_is w s c l live) ∙ e) where
+  by : (stale hit : Bool) → is_stale s l ≡ stale → unless (not stale) Stale (unless (not hit) Conflict None) ≡ Some Stale → is_stale s l ≡ true
+  by true hit is e = is
+  by false true is e = absurd (search (rules, e))
+  by false false is e = absurd (search (rules, e))
+
+-- what validation tells of it
+pub told_idle : (w : Work) (s : Course) (c : ℕ) (l : Live) (e : Event) (may : Bool) → IsLive s c l → Repairs w s c l e may → IsAnswer check.Free w s c l → refusal w s e ≡ Some Idle
+told_idle w s c l e may live r free = r.law ∙ free_is_idle w s c l may (sym (commit_is w s c l live) ∙ free)
+
+pub told_stale : (w : Work) (s : Course) (c start low : ℕ) (l : Live) (e : Event) (may : Bool) → IsLive s c l → Repairs w s c l e may → IsAnswer (check.Stale start low) w s c l → refusal w s e ≡ Some Stale
+told_stale w s c start low l e may live r h = r.law ∙ stale_stays w s c l may (sym (commit_is w s c l live) ∙ h.0)
+
+pub told_hit : (w : Work) (s : Course) (c number commit : ℕ) (l : Live) (e : Event) (may : Bool) → IsLive s c l → Repairs w s c l e may → IsAnswer (check.Hit number commit) w s c l → refusal w s e ≡ unless may Rounds None
+told_hit w s c number commit l e may live r h = r.law ∙ hit_repairs w s c l may (sym (commit_is w s c l live) ∙ h.0)
+
+-- an event that is refused only since the call is stale, of a call that isn't
+pub fresh_allowed : (b : Booked) (c : ℕ) (l : Live) (e : Event) (may : Bool) → Repairs (work_in b) b.course c l e may → IsAllowedIfFresh b e → is_stale b.course l ≡ false → refusal (work_in b) b.course e ≡ None
+fresh_allowed b c l e may r allowed fresh = by (is_hit (work_in b) b.course c l) may (r.law ∙ ap (λ x. unless (not x) Stale (unless (is_hit (work_in b) b.course c l) Idle (unless may Rounds None))) fresh) where
+  by : (hit may : Bool) → refusal (work_in b) b.course e ≡ unless hit Idle (unless may Rounds None) → refusal (work_in b) b.course e ≡ None
+  by true true is = is
+  by true false is = let same : Rounds ≡ Stale = allowed Rounds is in absurd (search (rules, same))
+  by false may is = let same : Idle ≡ Stale = allowed Idle is in absurd (search (rules, same))
+
 -- Whether a statement is left
 
 -- what a task's records and its end tell of the full run
-pub step_is : (s : Script) (course : Course) (c : ℕ) (l : Live) (t : Task) (more : Bool) → IsScript s → c < length s.calls → IsLiveTask s course.order c l t → used l ≡ 0
-    → ((g : Graph) (call : Call) (db : Tables) (rest : List Record) → IsTaskOf g call t → AreRising db → Leaves g call db t rest → more ≡ nat_lt l.steps (length (meaning_of g call db).records))
+pub step_is : (s : Script) (course : Course) (c : ℕ) (l : Live) (t : Running) (more : Bool) → IsScript s → c < length s.calls → IsLiveTask s course.order c l t → used l ≡ 0
+    → ((n : ℕ) → t.count ≡ Some n → more ≡ nat_lt l.steps n)
+    → (t.count ≡ None → (g : Graph) (call : Call) (db : Tables) (rest : List Record) → IsTaskOf g call t.task → AreRising db → Leaves g call db t.task rest → more ≡ nat_lt l.steps (length (meaning_of g call db).records))
     → has_step (work_of s) course c l ≡ more
-step_is s course c l t more k lt task first told =
-    let has = k.1.there c lt in
-    let db : Tables = table_at (work_of s) course.order l.start in
-    let way = task.runs has.0 has.1 has.2 in
-    ap (λ b. b && nat_lt l.steps (length (records_at (work_of s) course.order l.start c))) (eq-eqb (used l) 0 first)
-    ∙ (ap (λ (r : Run). nat_lt l.steps (length r.records)) (run_is s c has.0 has.1 db has.2)
-    ∙ sym (told has.1 has.0 db way.rest way.is (table_database k.0 s course.order l.start k.1).rising way.leaves))
+step_is s course c l t more k lt task first known told = ap (λ b. b && nat_lt l.steps all) (eq-eqb (used l) 0 first) ∙ by t.count refl where
+  all : ℕ
+  all = length (records_at (work_of s) course.order l.start c)
+  by : (o : Option ℕ) → t.count ≡ o → nat_lt l.steps all ≡ more
+  by (Some n) is =
+      let same : Some all ≡ Some n = sym (first_number (work_of s) course.order c (length course.order) l task.turns first) ∙ (task.counted ∙ ap (λ o. Some (count_or o all)) is) in
+      let one : all ≡ n = search (rules, same) in
+      ap (nat_lt l.steps) one ∙ sym (known n is)
+  by None is =
+      let has = k.1.there c lt in
+      let db : Tables = table_at (work_of s) course.order l.start in
+      let way = task.runs has.0 has.1 has.2 in
+      ap (λ (r : Run). nat_lt l.steps (length r.records)) (run_is s c has.0 has.1 db has.2)
+      ∙ sym (told is has.1 has.0 db way.rest way.is (table_database k.0 s course.order l.start k.1).rising way.leaves)
 
 pub step_past : (w : Work) (s : Course) (c : ℕ) (l : Live) → (used l ≡ 0 → ⊥) → has_step w s c l ≡ false
 step_past w s c l past = ap (λ b. b && nat_lt l.steps (length (records_at w s.order l.start c))) (apart (used l) past) where
@@ -67,8 +146,8 @@ step_past w s c l past = ap (λ b. b && nat_lt l.steps (length (records_at w s.o
     by false e = e
 
 -- a call has as many rounds as turns
-pub used_rounds : (b : Booked) (c : ℕ) (l : Live) (rs : List Round) → HasRounds b c rs → IsLive b.course c l → HasTurns l → length rs ≡ used l + 1
-used_rounds b c l rs h live turns =
+pub used_rounds : (b : Booked) (c n : ℕ) (l : Live) (rs : List Round) → HasRounds b c rs → IsLive b.course c l → HasTurns n l → length rs ≡ used l + 1
+used_rounds b c n l rs h live turns =
     let one : h.live ≡ l = one_live b.course c h.live l h.is_live live in
     let many = sym (length-map rs turn_of) ∙ (ap length h.turns ∙ (ap (λ (x : Live). length x.turns) one ∙ ap length turns.turns)) in
     let all = ap length turns.turns in

@@ -1,8 +1,8 @@
 -- The tables of a history, and what a store keeps of them.
-use Rattle.std.proofs.Common.{◌≡◌, ◌⊎◌, inl, inr, ℕ, zero, suc, ◌+◌, ◌<◌, ◌≤◌, Bool, true, false, not, List, [], ◌∷◌, ◌++◌, Option, Some, None, length, take, drop, is_some, refl, sym, ap, subst, ◌∙◌, arith, length-append, rules}
+use Rattle.std.proofs.Common.{◌≡◌, ◌⊎◌, inl, inr, ℕ, zero, suc, ◌+◌, ◌-◌, ◌<◌, ◌≤◌, Bool, true, false, not, List, [], ◌∷◌, ◌++◌, Option, Some, None, length, take, drop, is_some, refl, sym, ap, subst, ◌∙◌, arith, length-append, rules}
 use Rattle.std.specs.Prelude.{slice_get, nat_lt}
 use Rattle.std.specs.List.{flat_map}
-use Rattle.std.proofs.lemmas.List.{take_all}
+use Rattle.std.proofs.lemmas.List.{take_all, length-drop}
 use Rattle.mv_values.specs.declared.calls.Call.{Call}
 use Rattle.mv_values.specs.declared.schema.TableInfo.{TableInfo}
 use Rattle.mv_values.specs.Patching.{applied}
@@ -20,24 +20,27 @@ use Rattle.mv_history.specs.Hits.{is_unhit}
 use Rattle.mv_history.proofs.Covering.{changes_cover}
 use Rattle.mv_history.proofs.Joining.{covers_join}
 use Rattle.mv_history.proofs.Judging.{no_hit_is_unhit}
+use Rattle.mv_alike.specs.Laws.{AreRuns}
 use Rattle.mv_alike.proofs.Unhit.{unhit_same}
 use Rattle.mv_lawful.specs.declared.fault.Fault.TheVariants.{Stale, Conflict}
-use Rattle.mv_lawful.specs.Work.{Work, tables_after, table_at, records_at, changes_after, since, hit_of}
-use Rattle.mv_lawful.specs.Lawful.{Live, Course, unless, refusal, after, is_stale}
+use Rattle.mv_exec.specs.declared.task.Task.{Task}
+use Rattle.mv_lawful.specs.Work.{Work, tables_after, table_at, records_at, changes_after, changes_up_to, since, hit_of}
+use Rattle.mv_lawful.specs.Lawful.{Live, Course, unless, refusal, after, next_low, is_stale}
 use Rattle.mv_lawful.proofs.Turns.{tables_more}
 use Rattle.mv_journal.specs.declared.event.Event.{Event}
-use Rattle.mv_journal.specs.declared.event.Event.TheVariants.{C}
+use Rattle.mv_journal.specs.declared.event.Event.TheVariants.{C, G}
 use Rattle.mv_view.specs.Viewing.{Sight}
 use Rattle.mv_store.specs.Stored.{Versioned, database_at, newest, own_writes, IsLike}
-use Rattle.mv_store.specs.Changes.{HasPut, HasDropped, HasStamped}
+use Rattle.mv_store.specs.Changes.{HasPut, HasDropped, HasStamped, HasRaised}
 use Rattle.mv_core.specs.declared.script.Script.{Script}
 use Rattle.mv_core.specs.Scripts.{work_of, run_in, run_by, IsCallOf, CanRun, IsScriptOf, IsScript}
 use Rattle.mv_core.specs.Told.{reply_told, writes_told}
 use Rattle.mv_core.specs.Calls.{IsLive, IsLiveCall}
-use Rattle.mv_core.specs.Books.{Booked, work_in, last_tables, last_run, last_changes, Made, IsSame, IsNotStale, AreRecordsOf}
-use Rattle.mv_core.specs.Cores.{IsDatabaseIn, IsStored, IsStoreOf}
+use Rattle.mv_core.specs.Books.{Booked, work_in, last_tables, last_run, last_changes, Made, IsSame, commit_event, IsNotStale, AreRecordsOf}
+use Rattle.mv_core.specs.Cores.{RunsOn, CanRepair, IsDatabaseIn, IsStored, IsStoreOf}
 use Rattle.mv_core.proofs.Telling.{told_reply, told_tables}
-use Rattle.mv_core.proofs.Numbers.{table_stays}
+use Rattle.mv_core.proofs.Lows.{low_within}
+use Rattle.mv_core.proofs.Numbers.{changes_long, table_stays}
 use Rattle.mv_core.proofs.Journals.{live_at}
 
 -- Databases
@@ -127,6 +130,40 @@ covers_since tables s order start k =
     subst (λ (commits : List (List Change)). Covers (all_of commits) old (table_at w order (length order))) (sym (changes_past w s.opening order start))
     (subst (Covers (all_of (changes_after w old (drop start order))) old) end (covers_after tables s (drop start order) old k (table_database tables s order start k)))
 
+-- the runs of a call at its start and after all commits
+are_runs : (s : Script) (order : List ℕ) (c start : ℕ) (call : Call) (g : Graph) → IsScript s → IsCallOf s c call g
+    → AreRuns g.tables g.procedure call (table_at (work_of s) order start) (table_at (work_of s) order (length order)) (all_of (since (work_of s) order start))
+are_runs s order c start call g k here =
+    let w : Work = work_of s in
+    let can : CanRun k.0 call g = k.1.runs c call g here in
+    record {
+      procedure = can.sound.procedure;
+      arguments = can.suits;
+      old_is = subst (λ ts. IsDatabaseOf ts (table_at w order start)) (sym can.over) (table_database k.0 s order start k.1);
+      new_is = subst (λ ts. IsDatabaseOf ts (table_at w order (length order))) (sym can.over) (table_database k.0 s order (length order) k.1);
+      covers = covers_since k.0 s order start k.1;
+    }
+
+-- a call that has run whole at its start can be repaired after all commits
+pub can_repair : (s : Script) (order : List ℕ) (c start : ℕ) (task : Task) (changes : List (List Change)) (db : Tables) → IsScript s → RunsOn s c (table_at (work_of s) order start) task → task.ended ≡ true
+    → changes ≡ since (work_of s) order start → db ≡ table_at (work_of s) order (length order) → CanRepair s c task (all_of changes) db
+can_repair s order c start task changes db k runs ended all new call g here = record {
+  call = call;
+  old = table_at (work_of s) order start;
+  on = runs call g here;
+  ended = ended;
+  runs =
+      subst (λ (cs : List (List Change)). AreRuns g.tables g.procedure call (table_at (work_of s) order start) db (all_of cs)) (sym all)
+      (subst (λ x. AreRuns g.tables g.procedure call (table_at (work_of s) order start) x (all_of (since (work_of s) order start))) (sym new) (are_runs s order c start call g k here));
+}
+
+-- the changes up to the last commit are all changes since
+pub changes_to_last : (w : Work) (order : List ℕ) (start : ℕ) → changes_up_to w order start (length order) ≡ all_of (since w order start)
+changes_to_last w order start =
+    let long = changes_long w w.opening order in
+    let less = length-drop start (changes_after w w.opening order) in
+    ap all_of (take_all (length order - start) (since w order start) (omega (arith, long, less)))
+
 -- a call that no commit after its start hits has the same records after all commits
 pub unhit_records : (s : Script) (order : List ℕ) (c start : ℕ) → IsScript s → c < length s.calls → hit_of (work_of s) order start c ≡ None
     → records_at (work_of s) order (length order) c ≡ records_at (work_of s) order start c
@@ -135,19 +172,12 @@ unhit_records s order c start k lt none =
     let has = k.1.there c lt in
     let call : Call = has.0 in
     let g : Graph = has.1 in
-    let can : CanRun k.0 call g = k.1.runs c call g has.2 in
     let old : Tables = table_at w order start in
     let new : Tables = table_at w order (length order) in
     let at_old : records_at w order start c ≡ (meaning_of g call old).records = ap (λ (r : Run). r.records) (run_is s c call g old has.2) in
     let at_new : records_at w order (length order) c ≡ (meaning_of g call new).records = ap (λ (r : Run). r.records) (run_is s c call g new has.2) in
     let unhit = no_hit_is_unhit (start + 1) (since w order start) (records_at w order start c) none in
-    at_new ∙ (unhit_same g.tables g.procedure call old new (all_of (since w order start)) (record {
-      procedure = can.sound.procedure;
-      arguments = can.suits;
-      old_is = subst (λ ts. IsDatabaseOf ts old) (sym can.over) (table_database k.0 s order start k.1);
-      new_is = subst (λ ts. IsDatabaseOf ts new) (sym can.over) (table_database k.0 s order (length order) k.1);
-      covers = covers_since k.0 s order start k.1;
-    }) (subst (λ (rs : List Record). is_unhit (all_of (since w order start)) [] rs ≡ true) at_old unhit) ∙ sym at_old)
+    at_new ∙ (unhit_same g.tables g.procedure call old new (all_of (since w order start)) (are_runs s order c start call g k has.2) (subst (λ (rs : List Record). is_unhit (all_of (since w order start)) [] rs ≡ true) at_old unhit) ∙ sym at_old)
 
 -- a call that may commit isn't stale and isn't hit
 pub commit_free : (w : Work) (s : Course) (c : ℕ) (l : Live) → IsLive s c l → refusal w s (C c) ≡ None → (is_stale s l ≡ false) × (hit_of w s.order l.start c ≡ None)
@@ -248,11 +278,35 @@ stored_stamped s order low c n rs store mid new k lt is like put stamp full = re
   by call (inl e) = subst (λ d. own_writes new d ≡ []) e stamp.own
   by call (inr ne) = stamp.others call ne ∙ (put.others call ne ∙ k.own call)
 
-pub stored_committed : (c : ℕ) (old new : Booked) (store : Versioned) → IsStored old.script (old.course.order ++ c ∷ []) old.course.low store → Made (C c) old new → IsStoreOf new store
-stored_committed c old new store k made =
+pub stored_committed : (own : Option ℕ) (c : ℕ) (old new : Booked) (store : Versioned) → IsStored old.script (old.course.order ++ c ∷ []) old.course.low store → Made (commit_event own c) old new → IsStoreOf new store
+stored_committed own c old new store k made =
     subst (λ (s : Script). IsStored s new.course.order new.course.low store) (sym made.script)
-    (subst (λ (o : List ℕ). IsStored old.script o new.course.low store) (sym (ap (λ (s : Course). s.order) made.course))
-    (subst (λ n. IsStored old.script (old.course.order ++ c ∷ []) n store) (sym (ap (λ (s : Course). s.low) made.course)) k))
+    (subst (λ (o : List ℕ). IsStored old.script o new.course.low store) (sym (ap (λ (s : Course). s.order) made.course ∙ order own))
+    (subst (λ n. IsStored old.script (old.course.order ++ c ∷ []) n store) (sym (ap (λ (s : Course). s.low) made.course ∙ low own)) k)) where
+      order : (o : Option ℕ) → (after (work_in old) old.course (commit_event o c)).order ≡ old.course.order ++ c ∷ []
+      order None = refl
+      order (Some n) = refl
+
+      low : (o : Option ℕ) → (after (work_in old) old.course (commit_event o c)).low ≡ old.course.low
+      low None = refl
+      low (Some n) = refl
+
+-- tables below a new low were dropped
+pub stored_raised : (old new : Booked) (store raised : Versioned) (low : ℕ) → IsStoreOf old store → Made G old new → low ≡ new.course.low → HasRaised low store raised → IsStoreOf new raised
+stored_raised old new store raised low k made is raise =
+    stored_on (record old { course = record old.course { low = low } }) new raised (record {
+      script = k.script;
+      last = raise.last ∙ k.last;
+      low_is = raise.low;
+      below = within.1;
+      reads = λ n from le. raise.database n from ∙ k.reads n (let rises = within.0 in omega (arith, rises, from)) le;
+      own = λ call. raise.own call ∙ k.own call;
+    }) made.script (ap (λ (s : Course). s.order) made.course) (sym is) where
+      next : low ≡ next_low (work_in old) old.course
+      next = is ∙ ap (λ (s : Course). s.low) made.course
+
+      within : (old.course.low ≤ low) × (low ≤ length old.course.order)
+      within = low_within (work_in old) old.course low k.below next
 
 -- Views
 

@@ -1,6 +1,7 @@
 -- The tasks of live calls, and what events leave of them.
 use Rattle.std.proofs.Common.{◌≡◌, ◌⊎◌, inl, inr, ℕ, zero, suc, ◌+◌, ◌<◌, ◌≤◌, Bool, true, false, List, [], ◌∷◌, ◌++◌, Option, Some, None, length, get_or, slice_set, refl, sym, ap, subst, ◌∙◌, arith, append-nil, length-append, rules}
-use Rattle.std.specs.Prelude.{slice_get, ◌==◌, ◌&&◌, ◌↔◌, nat_lt, not}
+use Rattle.std.specs.Prelude.{slice_get, ◌==◌, ◌&&◌, ◌↔◌, ◌≢◌, nat_lt, not}
+use Rattle.std.specs.List.{flat_map}
 use Rattle.std.proofs.lemmas.Option.{slice_get_within, slice_get_read}
 use Rattle.mv_values.specs.declared.calls.Call.{Call}
 use Rattle.mv_record.specs.declared.record.Record.{Record}
@@ -12,20 +13,25 @@ use Rattle.mv_undo.specs.Owning.{HasWritesOf}
 use Rattle.mv_exec.specs.declared.task.Task.{Task}
 use Rattle.mv_exec.specs.Running.{IsTaskOf, IsTaskOn, Leaves}
 use Rattle.mv_exec.proofs.Fronts.{ends_exactly}
-use Rattle.mv_journal.specs.declared.outcome.Mark.TheVariants.{Plain, Moved}
-use Rattle.mv_journal.specs.declared.event.Event.TheVariants.{B, S, M, C}
-use Rattle.mv_lawful.specs.Work.{Work, table_at, records_at}
-use Rattle.mv_lawful.specs.Lawful.{Turn, Live, Course, begin, again, finish, used, has_step}
-use Rattle.mv_lawful.specs.Rounds.{whole_run, later_run, later_rounds, rounds_of}
+use Rattle.mv_journal.specs.declared.outcome.Mark.{Mark}
+use Rattle.mv_journal.specs.declared.outcome.Mark.TheVariants.{Plain, Exclusive, Moved}
+use Rattle.mv_journal.specs.declared.event.Event.TheVariants.{B, S, X, G}
+use Rattle.mv_history.specs.declared.change.Change.{Change}
+use Rattle.mv_history.specs.Kept.{executions}
+use Rattle.mv_lawful.specs.Work.{Work, table_at, records_at, since}
+use Rattle.mv_lawful.specs.Lawful.{Turn, Live, Course, begin, again, used, has_step}
+use Rattle.mv_lawful.specs.Rounds.{whole_run, repair_run, later_run, round, rounds_of}
 use Rattle.mv_lawful.specs.Outcomes.{turns_of}
 use Rattle.mv_core.specs.declared.script.Script.{Script}
 use Rattle.mv_core.specs.Scripts.{work_of, IsCallOf, IsScript}
-use Rattle.mv_core.specs.Calls.{IsLive, IsLiveCall, last_number, due_number}
-use Rattle.mv_core.specs.Books.{Booked, work_in, Made, IsSame, AreRecordsOf}
+use Rattle.mv_core.specs.declared.tasks.Running.{Running}
+use Rattle.mv_core.specs.Calls.{IsLive, IsLiveCall, closed, committed, last_number, due_number}
+use Rattle.mv_core.specs.Books.{Booked, work_in, Made, round_event, commit_event, AreRecordsOf}
 use Rattle.mv_view.specs.Viewing.{Sight}
-use Rattle.mv_core.specs.Cores.{RunsOn, HasRunOne, AreMoves, HasMoved, HasTurns, last_start, IsLiveTask, IsTaskIn, HasTasks}
-use Rattle.mv_core.proofs.Numbers.{table_stays}
-use Rattle.mv_core.proofs.Stored.{same_or_apart, run_is, table_database, Shows}
+use Rattle.mv_core.specs.Cores.{RunsOn, IsTaskFor, HasRunOne, HasTurns, last_start, count_or, IsLiveTask, IsTaskIn, IsRepaired, HasTasks}
+use Rattle.mv_core.proofs.Numbers.{last_start as start_after, last_of_end, rounds_more, rounds_stay, table_stays, within_more, within_end}
+use Rattle.mv_core.proofs.Stored.{same_or_apart, run_is, table_database, changes_to_last, Shows}
+use Rattle.mv_core.proofs.Keeping.{commit_after, restart_after}
 use Rattle.mv_core.proofs.Journals.{changed_at, get_last, get_front, get_set, set_there, set_apart, same_long}
 
 -- The call of a number
@@ -59,115 +65,180 @@ runs_on s c call g db task here is other h there =
     let one = only_call s c call other g h here there in
     subst (λ x. IsTaskOn x other db task) one.1 (subst (λ x. IsTaskOn g x db task) one.0 is)
 
--- The number of a whole run
+-- a task that is the call of its graph
+pub task_for : (s : Script) (c : ℕ) (call : Call) (g : Graph) (task : Task) → IsCallOf s c call g → IsTaskOf g call task → IsTaskFor s c task
+task_for s c call g task here is other h there =
+    let one = only_call s c call other g h here there in
+    subst (λ x. IsTaskOf x other task) one.1 (subst (λ x. IsTaskOf g x task) one.0 is)
 
-later_moves : (w : Work) (order : List ℕ) (c old : ℕ) (t : Turn) (ts : List Turn) → AreMoves (t ∷ ts) → last_number (later_rounds w order c old (t ∷ ts)) ≡ Some (whole_run w order c (last_start (t ∷ ts)))
-later_moves w order c old t [] h = ap (λ m. Some (later_run w order c old t.start m)) h.0
-later_moves w order c old t (u ∷ us) h = later_moves w order c t.start u us h.1
+-- a task that runs on a database is the call
+pub task_runs : (s : Script) (c : ℕ) (db : Tables) (task : Task) → RunsOn s c db task → IsTaskFor s c task
+task_runs s c db task runs call g here = (runs call g here).is
 
-whole_number : (w : Work) (order : List ℕ) (c : ℕ) (t : Turn) (ts : List Turn) → HasMoved (t ∷ ts) → last_number (rounds_of w order c (t ∷ ts)) ≡ Some (whole_run w order c (last_start (t ∷ ts)))
-whole_number w order c t [] h = refl
-whole_number w order c t (u ∷ us) h = later_moves w order c t.start u us h
-
-pub due_whole : (w : Work) (s : Course) (c : ℕ) (l : Live) → IsLive s c l → HasTurns l → due_number w s c ≡ Some (length (records_at w s.order l.start c))
-due_whole w s c l live h =
-    ap (λ o. last_number (rounds_of w s.order c (turns_of o))) live.at
-    ∙ (ap (λ ts. last_number (rounds_of w s.order c ts)) h.turns
-    ∙ (whole_number w s.order c h.first h.rest (subst HasMoved h.turns h.moved) ∙ ap (λ n. Some (whole_run w s.order c n)) (sym (ap last_start h.turns) ∙ h.last)))
+-- it runs on each database again, from its first statement on
+pub task_back : (s : Script) (c : ℕ) (db : Tables) (old new : Task) → IsTaskFor s c old → ((g : Graph) (call : Call) (x : Tables) → IsTaskOf g call old → IsTaskOn g call x new) → RunsOn s c db new
+task_back s c db old new is begins call g here = begins g call db (is call g here)
 
 -- Rounds
 
-moves_more : (ts : List Turn) (n : ℕ) → HasMoved ts → HasMoved (ts ++ record { start = n; mark = Moved } ∷ [])
-moves_more [] n h = tt
-moves_more (t ∷ ts) n h = all ts h where
-  all : (us : List Turn) → AreMoves us → AreMoves (us ++ record { start = n; mark = Moved } ∷ [])
-  all [] h = (refl, tt)
-  all (u ∷ us) h = (h.0, all us h.1)
+start_is : (t : Turn) (ts : List Turn) → last_start (t ∷ ts) ≡ start_after t.start ts
+start_is t [] = refl
+start_is t (u ∷ us) = start_is u us
 
 last_end : (t : Turn) (ts : List Turn) (u : Turn) → last_start ((t ∷ ts) ++ u ∷ []) ≡ u.start
 last_end t [] u = refl
 last_end t (v ∷ vs) u = last_end v vs u
 
-turns_begin : (n : ℕ) → HasTurns (begin n)
-turns_begin n = record { first = record { start = n; mark = Plain }; rest = []; turns = refl; moved = tt; last = refl }
+turns_begin : (n : ℕ) → HasTurns n (begin n)
+turns_begin n = record { first = record { start = n; mark = Plain }; rest = []; turns = refl; last = refl; within = (omega arith, tt); past = omega arith }
 
-turns_again : (n : ℕ) (l : Live) → HasTurns l → HasTurns (again n Moved l)
-turns_again n l h = record {
+pub turns_again : (n : ℕ) (m : Mark) (l : Live) → HasTurns n l → HasTurns n (again n m l)
+turns_again n m l h = record {
   first = h.first;
-  rest = h.rest ++ record { start = n; mark = Moved } ∷ [];
-  turns = ap (λ ts. ts ++ record { start = n; mark = Moved } ∷ []) h.turns;
-  moved = moves_more l.turns n h.moved;
-  last = ap (λ ts. last_start (ts ++ record { start = n; mark = Moved } ∷ [])) h.turns ∙ last_end h.first h.rest (record { start = n; mark = Moved });
+  rest = h.rest ++ record { start = n; mark = m } ∷ [];
+  turns = ap (λ ts. ts ++ record { start = n; mark = m } ∷ []) h.turns;
+  last = ap (λ ts. last_start (ts ++ record { start = n; mark = m } ∷ [])) h.turns ∙ last_end h.first h.rest (record { start = n; mark = m });
+  within = within_end n l.turns (record { start = n; mark = m }) h.within (omega arith);
+  past = omega arith;
 }
 
-turns_stepped : (n : ℕ) (l : Live) → HasTurns l → HasTurns (record l { steps = n })
-turns_stepped n l h = record { first = h.first; rest = h.rest; turns = h.turns; moved = h.moved; last = h.last }
+turns_stepped : (n k : ℕ) (l : Live) → HasTurns n l → HasTurns n (record l { steps = k })
+turns_stepped n k l h = record { first = h.first; rest = h.rest; turns = h.turns; last = h.last; within = h.within; past = h.past }
+
+turns_grown : (n m : ℕ) (l : Live) → n ≤ m → HasTurns n l → HasTurns m l
+turns_grown n m l le h = record { first = h.first; rest = h.rest; turns = h.turns; last = h.last; within = within_more n m l.turns le h.within; past = let a = h.past in omega (arith, a, le) }
+
+-- a round more is no first one
+not_first : (n k : ℕ) (m : Mark) (l : Live) → HasTurns k l → used (again n m l) ≡ 0 → ⊥
+not_first n k m l h first =
+    let a = ap length h.turns in
+    let b = length-append l.turns (record { start = n; mark = m } ∷ []) in
+    omega (arith, first, a, b)
+
+-- Their numbers
+
+-- the number of the first round
+pub first_number : (w : Work) (order : List ℕ) (c n : ℕ) (l : Live) → HasTurns n l → used l ≡ 0 → last_number (rounds_of w order c l.turns) ≡ Some (length (records_at w order l.start c))
+first_number w order c n l h first = by h.rest refl where
+  by : (ts : List Turn) → h.rest ≡ ts → last_number (rounds_of w order c l.turns) ≡ Some (length (records_at w order l.start c))
+  by [] none =
+      let all : l.turns ≡ h.first ∷ [] = h.turns ∙ ap (λ ts. h.first ∷ ts) none in
+      ap (λ ts. last_number (rounds_of w order c ts)) all ∙ ap (λ k. Some (whole_run w order c k)) (sym (ap last_start all) ∙ h.last)
+  by (t ∷ ts) some =
+      let a = ap length h.turns in
+      let b = ap length some in
+      absurd (omega (arith, first, a, b))
+
+-- the number of a round more
+pub number_again : (w : Work) (order : List ℕ) (c n k : ℕ) (m : Mark) (l : Live) → HasTurns k l
+    → last_number (rounds_of w order c (l.turns ++ record { start = n; mark = m } ∷ [])) ≡ Some (later_run w order c l.start n m)
+number_again w order c n k m l h =
+    ap (λ ts. last_number (rounds_of w order c (ts ++ u ∷ []))) h.turns
+    ∙ (ap last_number (rounds_more w order c h.first u h.rest)
+    ∙ (last_of_end (closed m (rounds_of w order c (h.first ∷ h.rest))) (round u (Some (later_run w order c (start_after h.first.start h.rest) n m)))
+    ∙ ap (λ x. Some (later_run w order c x n m)) (sym (start_is h.first h.rest) ∙ (sym (ap last_start h.turns) ∙ h.last)))) where
+      u : Turn
+      u = record { start = n; mark = m }
+
+pub due_live : (w : Work) (s : Course) (c : ℕ) (l : Live) → IsLive s c l → due_number w s c ≡ last_number (rounds_of w s.order c l.turns)
+due_live w s c l live = ap (λ o. last_number (rounds_of w s.order c (turns_of o))) live.at
+
+-- the number of a live call whose task has run whole
+pub due_now : (b : Booked) (c n : ℕ) (running : Running) → IsLiveCall b.course c → IsTaskIn b c running → AreRecordsOf b c running.task.records → n ≡ count_or running.count (length running.task.records)
+    → due_number (work_in b) b.course c ≡ Some n
+due_now b c n running live taken are is =
+    due_live (work_in b) b.course c live.0 live.1
+    ∙ ((taken live.0 live.1).counted ∙ ap Some (ap (λ (rs : List Record). count_or running.count (length rs)) (sym (are live.0 live.1)) ∙ sym is))
 
 -- The task of a live call
 
 -- it was run on, or not
-pub task_kept : (s : Script) (order : List ℕ) (c : ℕ) (l : Live) (old new : Task) → IsLiveTask s order c l old → RunsOn s c (table_at (work_of s) order l.start) new
-    → new.executed ≡ length new.records → length old.records ≤ length new.records → IsLiveTask s order c l new
-task_kept s order c l old new t runs executed more = record { runs = runs; executed = executed; steps = λ first. let le = t.steps first in omega (arith, le, more); turns = t.turns; past = t.past }
+pub task_kept : (s : Script) (order : List ℕ) (c : ℕ) (l : Live) (old : Running) (task : Task) → IsLiveTask s order c l old → RunsOn s c (table_at (work_of s) order l.start) task
+    → length old.task.records ≤ length task.records → IsLiveTask s order c l (record { task = task; count = old.count })
+task_kept s order c l old task t runs more = record { runs = runs; counted = t.counted; steps = λ none first. let le = t.steps none first in omega (arith, le, more); turns = t.turns }
 
--- it had no more records than the journal names, and has one more
-pub task_ran : (s : Script) (order : List ℕ) (c : ℕ) (l : Live) (old new : Task) → IsLiveTask s order c l old → RunsOn s c (table_at (work_of s) order l.start) new
-    → l.steps ≡ length old.records → HasRunOne old new → IsLiveTask s order c (record l { steps = l.steps + 1 }) new
-task_ran s order c l old new t runs here one = record {
+-- it has one more record
+pub task_ran : (s : Script) (order : List ℕ) (c : ℕ) (l : Live) (old : Running) (task : Task) → IsLiveTask s order c l old → RunsOn s c (table_at (work_of s) order l.start) task
+    → HasRunOne old.task task → IsLiveTask s order c (record l { steps = l.steps + 1 }) (record { task = task; count = old.count })
+task_ran s order c l old task t runs one = record {
   runs = runs;
-  executed = one.executed ∙ (ap (λ n. n + 1) t.executed ∙ sym one.records);
-  steps = λ first. let a = one.records in omega (arith, here, a);
-  turns = turns_stepped (l.steps + 1) l t.turns;
-  past = t.past;
+  counted = t.counted;
+  steps = λ none first. let le = t.steps none first in let a = one.records in omega (arith, le, a);
+  turns = turns_stepped (length order) (l.steps + 1) l t.turns;
 }
 
 -- it has records that the journal doesn't name, and the next one is named
-pub task_named : (s : Script) (order : List ℕ) (c : ℕ) (l : Live) (task : Task) → IsLiveTask s order c l task → used l ≡ 0 → (l.steps ≡ length task.records → ⊥) → IsLiveTask s order c (record l { steps = l.steps + 1 }) task
-task_named s order c l task t first apart = record {
+pub task_named : (s : Script) (order : List ℕ) (c : ℕ) (l : Live) (running : Running) → IsLiveTask s order c l running → (length running.task.records ≤ l.steps → ⊥) → IsLiveTask s order c (record l { steps = l.steps + 1 }) running
+task_named s order c l running t more = record {
   runs = t.runs;
-  executed = t.executed;
-  steps = λ _. let le = t.steps first in omega (arith, le, apart);
-  turns = turns_stepped (l.steps + 1) l t.turns;
-  past = t.past;
+  counted = t.counted;
+  steps = λ none first. omega (arith, more);
+  turns = turns_stepped (length order) (l.steps + 1) l t.turns;
 }
 
-pub task_moved : (s : Script) (order : List ℕ) (c : ℕ) (l : Live) (task : Task) → HasTurns l → RunsOn s c (table_at (work_of s) order (length order)) task → task.executed ≡ length task.records
-    → IsLiveTask s order c (again (length order) Moved l) task
-task_moved s order c l task h runs executed = record {
+-- its number is known
+pub task_given : (s : Script) (order : List ℕ) (c n : ℕ) (l : Live) (running : Running) → HasTurns (length order) l → last_number (rounds_of (work_of s) order c l.turns) ≡ Some n → running.count ≡ Some n
+    → RunsOn s c (table_at (work_of s) order l.start) running.task → IsLiveTask s order c l running
+task_given s order c n l running h number count runs = record {
   runs = runs;
-  executed = executed;
-  steps = λ first. absurd (not_first first);
-  turns = turns_again (length order) l h;
-  past = omega arith;
-} where
-  not_first : used (again (length order) Moved l) ≡ 0 → ⊥
-  not_first first =
-      let a = ap length h.turns in
-      let b = length-append l.turns (record { start = length order; mark = Moved } ∷ []) in
-      omega (arith, first, a, b)
+  counted = number ∙ ap (λ o. Some (count_or o (length (records_at (work_of s) order l.start c)))) (sym count);
+  steps = λ none first. let both : Some n ≡ None = sym count ∙ none in absurd (search (rules, both));
+  turns = h;
+}
 
-task_begun : (s : Script) (order : List ℕ) (c : ℕ) (task : Task) → ((db : Tables) → RunsOn s c db task) → task.records ≡ [] → task.executed ≡ 0 → IsLiveTask s order c (begin (length order)) task
-task_begun s order c task runs records executed = record {
+-- it has lost its records
+pub task_spent : (s : Script) (order : List ℕ) (c n : ℕ) (l : Live) (old new : Running) → IsLiveTask s order c l old → old.task.records ≡ records_at (work_of s) order l.start c
+    → n ≡ count_or old.count (length old.task.records) → new.count ≡ Some n → RunsOn s c (table_at (work_of s) order l.start) new.task → IsLiveTask s order c l new
+task_spent s order c n l old new t are is count runs =
+    task_given s order c n l new t.turns (t.counted ∙ ap Some (ap (λ (rs : List Record). count_or old.count (length rs)) (sym are) ∙ sym is)) count runs
+
+-- it moved
+pub task_moved : (s : Script) (order : List ℕ) (c : ℕ) (l : Live) (task : Task) → HasTurns (length order) l → RunsOn s c (table_at (work_of s) order (length order)) task
+    → IsLiveTask s order c (again (length order) Moved l) (record { task = task; count = None })
+task_moved s order c l task h runs = record {
+  runs = runs;
+  counted = number_again (work_of s) order c (length order) (length order) Moved l h;
+  steps = λ none first. absurd (not_first (length order) (length order) Moved l h first);
+  turns = turns_again (length order) Moved l h;
+}
+
+-- it was repaired
+pub task_again : (s : Script) (order : List ℕ) (c : ℕ) (l : Live) (running : Running) → HasTurns (length order) l → IsRepaired s order c l running → IsLiveTask s order c (again (length order) Plain l) running
+task_again s order c l running h r = record {
+  runs = r.runs;
+  counted =
+      number_again (work_of s) order c (length order) (length order) Plain l h
+      ∙ ap Some (sym r.executed ∙ sym (ap (λ o. count_or o (length (records_at (work_of s) order (length order) c))) r.count));
+  steps = λ none first. absurd (not_first (length order) (length order) Plain l h first);
+  turns = turns_again (length order) Plain l h;
+}
+
+-- what it executed
+pub number_repaired : (s : Script) (order : List ℕ) (c n : ℕ) (l : Live) (running : Running) → IsRepaired s order c l running → n ≡ count_or running.count (length running.task.records) → n ≡ repair_run (work_of s) order c l.start (length order)
+number_repaired s order c n l running r is = is ∙ (ap (λ o. count_or o (length running.task.records)) r.count ∙ r.executed)
+
+task_begun : (s : Script) (order : List ℕ) (c : ℕ) (task : Task) → ((db : Tables) → RunsOn s c db task) → IsLiveTask s order c (begin (length order)) (record { task = task; count = None })
+task_begun s order c task runs = record {
   runs = runs (table_at (work_of s) order (length order));
-  executed = executed ∙ sym (ap length records);
-  steps = λ first. omega arith;
+  counted = refl;
+  steps = λ none first. omega arith;
   turns = turns_begin (length order);
-  past = omega arith;
 }
 
 -- another call commits
-task_grows : (s : Script) (order : List ℕ) (d c : ℕ) (l : Live) (task : Task) → IsLiveTask s order c l task → IsLiveTask s (order ++ d ∷ []) c l task
-task_grows s order d c l task t = record {
-  runs = subst (λ db. RunsOn s c db task) (sym (table_stays (work_of s) order d l.start t.past)) t.runs;
-  executed = t.executed;
+task_grows : (s : Script) (order : List ℕ) (d c : ℕ) (l : Live) (running : Running) → IsLiveTask s order c l running → IsLiveTask s (order ++ d ∷ []) c l running
+task_grows s order d c l running t = record {
+  runs = subst (λ db. RunsOn s c db running.task) (sym (table_stays (work_of s) order d l.start t.turns.past)) t.runs;
+  counted =
+      ap last_number (rounds_stay (work_of s) order d c l.turns t.turns.within)
+      ∙ (t.counted ∙ ap (λ db. Some (count_or running.count (length ((work_of s).run c db).records))) (sym (table_stays (work_of s) order d l.start t.turns.past)));
   steps = t.steps;
-  turns = t.turns;
-  past = let a = t.past in let n = length-append order (d ∷ []) in omega (arith, a, n);
+  turns = let n = length-append order (d ∷ []) in turns_grown (length order) (length (order ++ d ∷ [])) l (omega (arith, n)) t.turns;
 }
 
 -- Tasks of all live calls
 
-pub tasks_same : (s t : Script) (course new : Course) (ts : List (Option Task)) → HasTasks s course ts → t ≡ s → new ≡ course → HasTasks t new ts
+pub tasks_same : (s t : Script) (course new : Course) (ts : List (Option Running)) → HasTasks s course ts → t ≡ s → new ≡ course → HasTasks t new ts
 tasks_same s t course new ts k a b = subst (λ (x : Script). HasTasks x new ts) (sym a) (subst (λ (x : Course). HasTasks s x ts) (sym b) k)
 
 get_end : {A : Type 0} (xs : List A) (y : A) (n : ℕ) → n ≡ length xs → slice_get (xs ++ y ∷ []) n ≡ Some y
@@ -177,7 +248,7 @@ get_end (x ∷ xs) y zero is = absurd (omega (arith, is))
 get_end (x ∷ xs) y (suc n) is = get_end xs y n (omega (arith, is))
 
 -- the next call begins
-tasks_begun : (s : Script) (course : Course) (ts : List (Option Task)) (t : Task) → HasTasks s course ts → length course.calls < length s.calls
+tasks_begun : (s : Script) (course : Course) (ts : List (Option Running)) (t : Running) → HasTasks s course ts → length course.calls < length s.calls
     → IsLiveTask s course.order (length course.calls) (begin (length course.order)) t
     → HasTasks s (record course { calls = course.calls ++ begin (length course.order) ∷ [] }) (ts ++ Some t ∷ [])
 tasks_begun s course ts t k room fresh = record {
@@ -186,13 +257,13 @@ tasks_begun s course ts t k room fresh = record {
   running = λ c l live. by c l (get_last course.calls (begin (length course.order)) c l live.at) live.live;
 } where
   by : (c : ℕ) (l : Live) → (slice_get course.calls c ≡ Some l) ⊎ ((c ≡ length course.calls) × (begin (length course.order) ≡ l)) → l.done ≡ false
-      → (u : Task) × (slice_get (ts ++ Some t ∷ []) c ≡ Some (Some u)) × IsLiveTask s course.order c l u
+      → (u : Running) × (slice_get (ts ++ Some t ∷ []) c ≡ Some (Some u)) × IsLiveTask s course.order c l u
   by c l (inl at) live = let h = k.running c l (record { at = at; live = live }) in (h.0, get_front ts (Some t) c (Some h.0) h.1, h.2)
   by c l (inr h) live =
       (t, get_end ts (Some t) c (h.0 ∙ sym k.count), subst (λ n. IsLiveTask s course.order n l t) (sym h.0) (subst (λ (x : Live). IsLiveTask s course.order (length course.calls) x t) h.1 fresh))
 
 -- one call changes and stays live
-tasks_changed : (s : Script) (course : Course) (ts : List (Option Task)) (c : ℕ) (l m : Live) (t : Task) → HasTasks s course ts → IsLive course c l → m.done ≡ false → IsLiveTask s course.order c m t
+tasks_changed : (s : Script) (course : Course) (ts : List (Option Running)) (c : ℕ) (l m : Live) (t : Running) → HasTasks s course ts → IsLive course c l → m.done ≡ false → IsLiveTask s course.order c m t
     → HasTasks s (record course { calls = slice_set course.calls c m }) (slice_set ts c (Some t))
 tasks_changed s course ts c l m t k live still fresh = record {
   few = let n = same_long course.calls c m in let h = k.few in omega (arith, n, h);
@@ -200,7 +271,7 @@ tasks_changed s course ts c l m t k live still fresh = record {
   running = λ d x alive. by d x (get_set course.calls c d m x alive.at) alive.live;
 } where
   by : (d : ℕ) (x : Live) → ((d ≡ c) × (m ≡ x)) ⊎ ((d ≡ c → ⊥) × (slice_get course.calls d ≡ Some x)) → x.done ≡ false
-      → (u : Task) × (slice_get (slice_set ts c (Some t)) d ≡ Some (Some u)) × IsLiveTask s course.order d x u
+      → (u : Running) × (slice_get (slice_set ts c (Some t)) d ≡ Some (Some u)) × IsLiveTask s course.order d x u
   by d x (inl h) alive =
       let had = k.running c l live in (
         t,
@@ -210,14 +281,14 @@ tasks_changed s course ts c l m t k live still fresh = record {
   by d x (inr h) alive = let had = k.running d x (record { at = h.1; live = alive }) in (had.0, set_apart ts c d (Some t) h.0 ∙ had.1, had.2)
 
 -- one call has another task
-pub tasks_set : (s : Script) (course : Course) (ts : List (Option Task)) (c : ℕ) (t : Task) → HasTasks s course ts → IsLiveCall course c → ((l : Live) → IsLive course c l → IsLiveTask s course.order c l t)
+pub tasks_set : (s : Script) (course : Course) (ts : List (Option Running)) (c : ℕ) (t : Running) → HasTasks s course ts → IsLiveCall course c → ((l : Live) → IsLive course c l → IsLiveTask s course.order c l t)
     → HasTasks s course (slice_set ts c (Some t))
 tasks_set s course ts c t k live task = record {
   few = k.few;
   count = same_long ts c (Some t) ∙ k.count;
   running = λ d x alive. by d x alive (same_or_apart d c);
 } where
-  by : (d : ℕ) (x : Live) → IsLive course d x → (d ≡ c) ⊎ (d ≡ c → ⊥) → (u : Task) × (slice_get (slice_set ts c (Some t)) d ≡ Some (Some u)) × IsLiveTask s course.order d x u
+  by : (d : ℕ) (x : Live) → IsLive course d x → (d ≡ c) ⊎ (d ≡ c → ⊥) → (u : Running) × (slice_get (slice_set ts c (Some t)) d ≡ Some (Some u)) × IsLiveTask s course.order d x u
   by d x alive (inl e) =
       let had = k.running c live.0 live.1 in (
         t,
@@ -227,7 +298,7 @@ tasks_set s course ts c t k live task = record {
   by d x alive (inr ne) = let had = k.running d x alive in (had.0, set_apart ts c d (Some t) ne ∙ had.1, had.2)
 
 -- one call commits
-tasks_committed : (s : Script) (course : Course) (ts : List (Option Task)) (c : ℕ) (l m : Live) → HasTasks s course ts → IsLive course c l → m.done ≡ true
+tasks_committed : (s : Script) (course : Course) (ts : List (Option Running)) (c : ℕ) (l m : Live) → HasTasks s course ts → IsLive course c l → m.done ≡ true
     → HasTasks s (record course { order = course.order ++ c ∷ []; calls = slice_set course.calls c m }) (slice_set ts c None)
 tasks_committed s course ts c l m k live ended = record {
   few = let n = same_long course.calls c m in let h = k.few in omega (arith, n, h);
@@ -235,68 +306,94 @@ tasks_committed s course ts c l m k live ended = record {
   running = λ d x alive. by d x (get_set course.calls c d m x alive.at) alive.live;
 } where
   by : (d : ℕ) (x : Live) → ((d ≡ c) × (m ≡ x)) ⊎ ((d ≡ c → ⊥) × (slice_get course.calls d ≡ Some x)) → x.done ≡ false
-      → (u : Task) × (slice_get (slice_set ts c None) d ≡ Some (Some u)) × IsLiveTask s (course.order ++ c ∷ []) d x u
+      → (u : Running) × (slice_get (slice_set ts c None) d ≡ Some (Some u)) × IsLiveTask s (course.order ++ c ∷ []) d x u
   by d x (inl h) alive = let both : true ≡ false = sym ended ∙ (ap (λ (y : Live). y.done) h.1 ∙ alive) in absurd (search (rules, both))
   by d x (inr h) alive =
       let had = k.running d x (record { at = h.1; live = alive }) in
       (had.0, set_apart ts c d None h.0 ∙ had.1, task_grows s course.order c d x had.0 had.2)
 
+set_twice : {A : Type 0} (xs : List A) (c : ℕ) (x y : A) → slice_set (slice_set xs c x) c y ≡ slice_set xs c y
+set_twice [] zero x y = refl
+set_twice [] (suc c) x y = refl
+set_twice (z ∷ zs) zero x y = refl
+set_twice (z ∷ zs) (suc c) x y = ap (λ ws. z ∷ ws) (set_twice zs c x y)
+
 -- Events of a book
 
-pub begun_on : (old new : Booked) (ts : List (Option Task)) (c : ℕ) (t : Task) → HasTasks old.script old.course ts → Made (B c) old new → c ≡ length old.course.calls → c < length old.script.calls
-    → ((db : Tables) → RunsOn old.script c db t) → t.records ≡ [] → t.executed ≡ 0 → HasTasks new.script new.course (ts ++ Some t ∷ [])
-begun_on old new ts c t k made is room runs records executed =
-    tasks_same old.script new.script _ new.course (ts ++ Some t ∷ [])
-    (tasks_begun old.script old.course ts t k (omega (arith, is, room))
-    (task_begun old.script old.course.order (length old.course.calls) t (subst (λ n. (db : Tables) → RunsOn old.script n db t) is runs) records executed)) made.script made.course
+pub begun_on : (old new : Booked) (ts : List (Option Running)) (c : ℕ) (t : Task) → HasTasks old.script old.course ts → Made (B c) old new → c ≡ length old.course.calls → c < length old.script.calls
+    → ((db : Tables) → RunsOn old.script c db t) → HasTasks new.script new.course (ts ++ Some (record { task = t; count = None }) ∷ [])
+begun_on old new ts c t k made is room runs =
+    tasks_same old.script new.script _ new.course (ts ++ Some (record { task = t; count = None }) ∷ [])
+    (tasks_begun old.script old.course ts (record { task = t; count = None }) k (omega (arith, is, room))
+    (task_begun old.script old.course.order (length old.course.calls) t (subst (λ n. (db : Tables) → RunsOn old.script n db t) is runs))) made.script made.course
 
-pub stepped_on : (old new : Booked) (ts : List (Option Task)) (c : ℕ) (l : Live) (t : Task) → HasTasks old.script old.course ts → IsLive old.course c l → Made (S c) old new
+pub stepped_on : (old new : Booked) (ts : List (Option Running)) (c : ℕ) (l : Live) (t : Running) → HasTasks old.script old.course ts → IsLive old.course c l → Made (S c) old new
     → IsLiveTask old.script old.course.order c (record l { steps = l.steps + 1 }) t → HasTasks new.script new.course (slice_set ts c (Some t))
 stepped_on old new ts c l t k live made task =
     let m : Live = record l { steps = l.steps + 1 } in
     tasks_same old.script new.script _ new.course (slice_set ts c (Some t)) (tasks_changed old.script old.course ts c l m t k live live.live task) made.script
     (made.course ∙ ap (λ ls. record old.course { calls = ls }) (changed_at old.course.calls c (λ x. record x { steps = x.steps + 1 }) l live.at))
 
-pub moved_on : (old new : Booked) (ts : List (Option Task)) (c : ℕ) (l : Live) (t : Task) → HasTasks old.script old.course ts → IsLive old.course c l → Made (M c) old new
-    → IsLiveTask old.script old.course.order c (again (length old.course.order) Moved l) t → HasTasks new.script new.course (slice_set ts c (Some t))
-moved_on old new ts c l t k live made task =
-    tasks_same old.script new.script _ new.course (slice_set ts c (Some t)) (tasks_changed old.script old.course ts c l (again (length old.course.order) Moved l) t k live live.live task) made.script
-    (made.course ∙ ap (λ ls. record old.course { calls = ls }) (changed_at old.course.calls c (again (length old.course.order) Moved) l live.at))
+-- a repair or a move
+pub restarted_on : (m : Mark) (old new : Booked) (ts : List (Option Running)) (c : ℕ) (l : Live) (t : Running) → m ≢ Exclusive → HasTasks old.script old.course ts → IsLive old.course c l → Made (round_event m c) old new
+    → IsLiveTask old.script old.course.order c (again (length old.course.order) m l) t → HasTasks new.script new.course (slice_set ts c (Some t))
+restarted_on m old new ts c l t ne k live made task =
+    tasks_same old.script new.script _ new.course (slice_set ts c (Some t)) (tasks_changed old.script old.course ts c l (again (length old.course.order) m l) t k live live.live task) made.script
+    (made.course ∙ (restart_after (work_in old) old.course m c ne ∙ ap (λ ls. record old.course { calls = ls }) (changed_at old.course.calls c (again (length old.course.order) m) l live.at)))
 
-pub committed_on : (old new : Booked) (ts : List (Option Task)) (c : ℕ) (l : Live) → HasTasks old.script old.course ts → IsLive old.course c l → Made (C c) old new → HasTasks new.script new.course (slice_set ts c None)
-committed_on old new ts c l k live made =
-    tasks_same old.script new.script _ new.course (slice_set ts c None) (tasks_committed old.script old.course ts c l (finish l) k live refl) made.script
-    (made.course ∙ ap (λ ls. record old.course { order = old.course.order ++ c ∷ []; calls = ls }) (changed_at old.course.calls c finish l live.at))
+-- a commit, with a round of its own or without
+pub committed_on : (own : Option ℕ) (old new : Booked) (ts : List (Option Running)) (c : ℕ) (l : Live) → HasTasks old.script old.course ts → IsLive old.course c l → Made (commit_event own c) old new → HasTasks new.script new.course (slice_set ts c None)
+committed_on own old new ts c l k live made =
+    tasks_same old.script new.script _ new.course (slice_set ts c None) (tasks_committed old.script old.course ts c l (committed (length old.course.order) own l) k live (done own)) made.script
+    (made.course ∙ (commit_after (work_in old) old.course.order old.course.low old.course.calls own c
+    ∙ ap (λ ls. record old.course { order = old.course.order ++ c ∷ []; calls = ls }) (changed_at old.course.calls c (committed (length old.course.order) own) l live.at))) where
+      done : (o : Option ℕ) → (committed (length old.course.order) o l).done ≡ true
+      done None = refl
+      done (Some n) = refl
+
+-- a commit in a round of its own, after which the task is dropped
+pub decided_on : (old new : Booked) (ts : List (Option Running)) (c : ℕ) (l : Live) (r : Running) → HasTasks old.script old.course ts → IsLive old.course c l → Made (X c) old new
+    → HasTasks new.script new.course (slice_set (slice_set ts c (Some r)) c None)
+decided_on old new ts c l r k live made = subst (λ (xs : List (Option Running)). HasTasks new.script new.course xs) (sym (set_twice ts c (Some r) None)) (committed_on (Some 0) old new ts c l k live made)
+
+-- a collection
+pub collected_on : (old new : Booked) (ts : List (Option Running)) → HasTasks old.script old.course ts → Made G old new → HasTasks new.script new.course ts
+collected_on old new ts k made =
+    tasks_same old.script new.script _ new.course ts (record {
+      few = k.few;
+      count = k.count;
+      running = λ c l live. k.running c l (record { at = live.at; live = live.live });
+    }) made.script made.course
 
 -- The task at a number
 
-pub task_within : (s : Script) (course : Course) (ts : List (Option Task)) (c : ℕ) → HasTasks s course ts → IsLiveCall course c → c < length ts
+pub task_within : (s : Script) (course : Course) (ts : List (Option Running)) (c : ℕ) → HasTasks s course ts → IsLiveCall course c → c < length ts
 task_within s course ts c k live = let had = k.running c live.0 live.1 in slice_get_within ts c (Some had.0) had.1
 
-pub task_there : (s : Script) (course : Course) (ts : List (Option Task)) (c : ℕ) (o : Option Task) → HasTasks s course ts → IsLiveCall course c → o ≡ get_or ts c o → o ≡ None → ⊥
+pub task_there : (s : Script) (course : Course) (ts : List (Option Running)) (c : ℕ) (o : Option Running) → HasTasks s course ts → IsLiveCall course c → o ≡ get_or ts c o → o ≡ None → ⊥
 task_there s course ts c o k live read none =
     let had = k.running c live.0 live.1 in
     let both : Some (Some had.0) ≡ Some o = sym had.1 ∙ slice_get_read ts (length ts) c o refl (slice_get_within ts c (Some had.0) had.1) read in
     let some : Some had.0 ≡ None = search (rules, both, none) in
     search (rules, some)
 
-pub task_read : (s : Script) (course : Course) (ts : List (Option Task)) (c : ℕ) (o : Option Task) (t : Task) → HasTasks s course ts → o ≡ get_or ts c o → o ≡ Some t
+pub task_read : (s : Script) (course : Course) (ts : List (Option Running)) (c : ℕ) (o : Option Running) (t : Running) → HasTasks s course ts → o ≡ get_or ts c o → o ≡ Some t
     → (l : Live) → IsLive course c l → IsLiveTask s course.order c l t
 task_read s course ts c o t k read some l live =
     let had = k.running c l live in
     let both : Some (Some had.0) ≡ Some o = sym had.1 ∙ slice_get_read ts (length ts) c o refl (slice_get_within ts c (Some had.0) had.1) read in
     let one : Some had.0 ≡ Some t = search (rules, both, some) in
     let same : had.0 ≡ t = search (rules, one) in
-    subst (λ (u : Task). IsLiveTask s course.order c l u) same had.2
+    subst (λ (u : Running). IsLiveTask s course.order c l u) same had.2
 
-pub call_within : (s : Script) (course : Course) (ts : List (Option Task)) (c : ℕ) → HasTasks s course ts → IsLiveCall course c → c < length s.calls
+pub call_within : (s : Script) (course : Course) (ts : List (Option Running)) (c : ℕ) → HasTasks s course ts → IsLiveCall course c → c < length s.calls
 call_within s course ts c k live =
     let a = slice_get_within course.calls c live.0 live.1.at in
     let b = k.few in
     omega (arith, a, b)
 
 -- its own writes are those of its records
-pub task_writes : (s : Script) (order : List ℕ) (c : ℕ) (l : Live) (t : Task) → IsScript s → c < length s.calls → IsLiveTask s order c l t → HasWritesOf t.undo t.records
+pub task_writes : (s : Script) (order : List ℕ) (c : ℕ) (l : Live) (t : Running) → IsScript s → c < length s.calls → IsLiveTask s order c l t → HasWritesOf t.task.undo t.task.records
 task_writes s order c l t k lt task = let call = k.1.there c lt in (task.runs call.0 call.1 call.2).is.writes
 
 pub one_live : (s : Course) (c : ℕ) (l m : Live) → IsLive s c l → IsLive s c m → l ≡ m
@@ -315,9 +412,9 @@ both_true true true h = (refl, refl)
 both_true true false h = absurd (search (rules, h))
 both_true false b h = absurd (search (rules, h))
 
--- a call that has a step, all of whose records the journal names, hasn't ended
-pub goes_on : (s : Script) (course : Course) (c : ℕ) (l : Live) (t : Task) → IsScript s → c < length s.calls → IsLiveTask s course.order c l t → l.steps ≡ length t.records → has_step (work_of s) course c l ≡ true → t.ended ≡ false
-goes_on s course c l t k lt task here has = by t.ended refl where
+-- a call that has a step, and no record that the journal doesn't name, hasn't ended
+pub goes_on : (s : Script) (course : Course) (c : ℕ) (l : Live) (t : Task) → IsScript s → c < length s.calls → RunsOn s c (table_at (work_of s) course.order l.start) t → length t.records ≤ l.steps → has_step (work_of s) course c l ≡ true → t.ended ≡ false
+goes_on s course c l t k lt runs here has = by t.ended refl where
   call : (call : Call) × (g : Graph) × IsCallOf s c call g
   call = k.1.there c lt
 
@@ -325,7 +422,7 @@ goes_on s course c l t k lt task here has = by t.ended refl where
   db = table_at (work_of s) course.order l.start
 
   way : IsTaskOn call.1 call.0 db t
-  way = task.runs call.0 call.1 call.2
+  way = runs call.0 call.1 call.2
 
   all : records_at (work_of s) course.order l.start c ≡ t.records ++ way.rest
   all = ap (λ (r : Run). r.records) (run_is s c call.0 call.1 db call.2) ∙ way.leaves
@@ -333,22 +430,15 @@ goes_on s course c l t k lt task here has = by t.ended refl where
   less : nat_lt l.steps (length (records_at (work_of s) course.order l.start c)) ≡ true
   less = (both_true (used l == 0) (nat_lt l.steps (length (records_at (work_of s) course.order l.start c))) has).1
 
-  itself : (n : ℕ) → nat_lt n n ≡ true → ⊥
-  itself n h = grind (arith, h)
+  past : (n m : ℕ) → m ≤ n → nat_lt n m ≡ true → ⊥
+  past n m le h = grind (arith, le, h)
 
   by : (b : Bool) → t.ended ≡ b → t.ended ≡ false
   by false e = e
   by true e =
       let none : way.rest ≡ [] = (ends_exactly call.1 call.0 db t way.rest way.is (table_database k.0 s course.order l.start k.1).rising way.leaves).0 e in
       let many : length (records_at (work_of s) course.order l.start c) ≡ length t.records = ap length (all ∙ (ap (λ rs. t.records ++ rs) none ∙ append-nil t.records)) in
-      absurd (itself (length t.records) (subst (λ n. nat_lt n (length t.records) ≡ true) here (subst (λ n. nat_lt l.steps n ≡ true) many less)))
-
-pub due_of : (old new : Booked) (c : ℕ) (task : Task) → IsSame old new → IsLiveCall old.course c → IsTaskIn old c task → AreRecordsOf old c task.records → due_number (work_in new) new.course c ≡ Some task.executed
-due_of old new c task same live taken are =
-    let t = taken live.0 live.1 in
-    subst (λ (s : Script). due_number (work_of s) new.course c ≡ Some task.executed) (sym same.script)
-    (subst (λ (s : Course). due_number (work_in old) s c ≡ Some task.executed) (sym same.course)
-    (due_whole (work_in old) old.course c live.0 live.1 t.turns ∙ ap Some (sym (t.executed ∙ ap length (are live.0 live.1)))))
+      absurd (past l.steps (length t.records) here (subst (λ n. nat_lt l.steps n ≡ true) many less))
 
 -- what is left of a call all of whose records are counted
 pub left_told : (g : Graph) (call : Call) (db : Tables) (t : Task) (rest : List Record) (steps : ℕ) → IsTaskOf g call t → AreRising db → Leaves g call db t rest → steps ≡ length t.records → not t.ended ≡ nat_lt steps (length (meaning_of g call db).records)
@@ -377,3 +467,21 @@ left_told g call db t rest steps is rise leaves here = by t.ended refl where
       let both : rest ≡ [] → ⊥ = λ none. let h : true ≡ false = sym (exact.1 none) ∙ e in search (rules, h) in
       let some = more rest refl both in
       ap not e ∙ sym (less steps (length (meaning_of g call db).records) (omega (arith, many, some, here)))
+
+-- a repair has run on the last tables, and executed as many records as Runs says
+pub task_repaired : (b : Booked) (c n : ℕ) (s : Script) (v : Sight) (l : Live) (old new : Task) (commits : List (List Change)) → s ≡ b.script → Shows b.script b.course.order (length b.course.order) v
+    → commits ≡ since (work_in b) b.course.order l.start → old.records ≡ records_at (work_in b) b.course.order l.start c → RunsOn s c v.database new → new.records ≡ ((work_of s).run c v.database).records
+    → new.executed ≡ executions old.records new.records (flat_map (λ changes. changes) commits) → n ≡ new.executed → IsRepaired b.script b.course.order c l (record { task = new; count = Some n })
+task_repaired b c n s v l old new commits is shows all was runs records executed number = record {
+  runs = runs_back b c (length b.course.order) s v new is shows runs;
+  records = now;
+  executed =
+      executed
+      ∙ (ap (λ rs. executions rs new.records (flat_map (λ changes. changes) commits)) was
+      ∙ (ap (λ rs. executions (records_at (work_in b) b.course.order l.start c) rs (flat_map (λ changes. changes) commits)) now
+      ∙ ap (executions (records_at (work_in b) b.course.order l.start c) (records_at (work_in b) b.course.order (length b.course.order) c))
+      (ap (flat_map (λ (changes : List Change). changes)) all ∙ sym (changes_to_last (work_in b) b.course.order l.start))));
+  count = ap Some number;
+} where
+  now : new.records ≡ records_at (work_in b) b.course.order (length b.course.order) c
+  now = records ∙ (ap (λ (x : Script). ((work_of x).run c v.database).records) is ∙ ap (λ db. ((work_in b).run c db).records) shows.database)

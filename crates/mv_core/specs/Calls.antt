@@ -1,5 +1,5 @@
 -- Defines what is kept of a call that has begun: its rounds with their numbers, and its reply. This project's own.
-use Rattle.std.specs.Prelude.{◌≡◌, ◌⊎◌, ◌<◌, ℕ, ◌==◌, false, List, [], ◌∷◌, ◌++◌, Option, Some, None, map, length, slice_get, option_to_list}
+use Rattle.std.specs.Prelude.{◌≡◌, ◌⊎◌, ◌<◌, ◌≤◌, ℕ, ◌==◌, false, List, [], ◌∷◌, ◌++◌, Option, Some, None, map, length, slice_get, option_to_list}
 use Rattle.std.specs.List.{position, flat_map}
 use Rattle.std.specs.Option.{is_some}
 use Rattle.mv_values.specs.declared.calls.Reply.{Reply}
@@ -31,6 +31,11 @@ pub record IsLive (s : Course) (c : ℕ) (l : Live) : Type 0 where
 
 abbrev pub IsLiveCall : Course → ℕ → Type 0
 IsLiveCall s c = (l : Live) × IsLive s c l
+
+-- each round began after at most so many commits
+abbrev pub Within : ℕ → List Turn → Type 0
+Within n [] = Unit {0}
+Within n (t ∷ ts) = (t.start ≤ n) × Within n ts
 
 -- Numbers
 

@@ -4,24 +4,29 @@ use Rattle.mv_values.specs.declared.memory.NoMemory.{NoMemory}
 use Rattle.mv_values.specs.declared.calls.Call.{Call}
 use Rattle.mv_record.specs.Runs.{Tables}
 use Rattle.mv_record.specs.Databases.{IsDatabaseOf}
-use Rattle.mv_journal.specs.declared.event.Event.TheVariants.{B, S, M, C}
-use Rattle.mv_journal.specs.declared.outcome.Mark.TheVariants.{Moved}
+use Rattle.mv_journal.specs.declared.event.Event.{Event}
+use Rattle.mv_journal.specs.declared.event.Event.TheVariants.{B, S, A, M, C, X, G}
 use Rattle.mv_view.specs.declared.view.Refused.{Refused}
 use Rattle.mv_view.specs.declared.view.Refused.TheVariants as refused
 use Rattle.mv_graph.specs.declared.graph.Graph.{Graph}
 use Rattle.mv_exec.specs.declared.step.Stepped.{Stepped}
 use Rattle.mv_exec.specs.declared.task.Task.{Task}
-use Rattle.mv_exec.specs.Running.{IsTaskOn, stepped}
+use Rattle.mv_exec.specs.Running.{IsTaskOf, IsTaskOn, stepped}
+use Rattle.mv_repair.specs.Repairing.{IsRepairable}
+use Rattle.mv_history.specs.declared.change.Change.{Change}
 use Rattle.mv_history.specs.declared.change.Hit.{Hit}
-use Rattle.mv_lawful.specs.Work.{table_at, records_at, hit_of}
-use Rattle.mv_lawful.specs.declared.fault.Fault.TheVariants.{Conflict}
+use Rattle.mv_lawful.specs.Work.{Work, table_at, records_at, hit_of}
+use Rattle.mv_lawful.specs.declared.fault.Fault.{Fault}
+use Rattle.mv_lawful.specs.declared.fault.Fault.TheVariants.{Stale, Conflict}
 use Rattle.mv_lawful.specs.Lawful.{Turn, Live, Course, used, has_step, refusal}
+use Rattle.mv_lawful.specs.Rounds.{rounds_of, repair_run}
 use Rattle.mv_store.specs.Stored.{Versioned, database_at, own_writes}
 use Rattle.mv_core.specs.declared.engine.Attempt.{Attempt}
 use Rattle.mv_core.specs.declared.engine.Attempt.TheVariants as attempt
 use Rattle.mv_core.specs.declared.script.Script.{Script}
 use Rattle.mv_core.specs.Scripts.{IsCallOf, IsScript, work_of}
-use Rattle.mv_core.specs.Calls.{IsLive, IsLiveCall}
+use Rattle.mv_core.specs.declared.tasks.Running.{Running}
+use Rattle.mv_core.specs.Calls.{IsLive, IsLiveCall, Within, last_number, due_number}
 use Rattle.mv_core.specs.Books.{Booked, work_in, Made, IsSame}
 
 -- Tables
@@ -44,6 +49,14 @@ IsStoreOf b store = IsStored b.script b.course.order b.course.low store
 abbrev pub RunsOn : Script → ℕ → Tables → Task → Type 0
 RunsOn s c db task = (call : Call) (g : Graph) → IsCallOf s c call g → IsTaskOn g call db task
 
+-- the task is the call of a number, at any point of its run
+abbrev pub IsTaskFor : Script → ℕ → Task → Type 0
+IsTaskFor s c task = (call : Call) (g : Graph) → IsCallOf s c call g → IsTaskOf g call task
+
+-- the call has run whole, and the changes lead from the database of that run to the new one
+abbrev pub CanRepair : Script → ℕ → Task → List Change → Tables → Type 0
+CanRepair s c task changes new = (call : Call) (g : Graph) → IsCallOf s c call g → IsRepairable g task changes new
+
 -- the database is one of the tables over which the call runs
 abbrev pub IsDatabaseIn : Script → ℕ → Tables → Type 0
 IsDatabaseIn s c db = (call : Call) (g : Graph) → IsCallOf s c call g → IsDatabaseOf g.tables db
@@ -58,52 +71,59 @@ pub record CountsAll (old new : Task) : Type 0 where
   pub executed : old.executed ≡ length old.records → new.executed ≡ length new.records
   pub more : length old.records ≤ length new.records
 
--- all but the first round are whole runs after a move
-abbrev pub AreMoves : List Turn → Type 0
-AreMoves [] = Unit {0}
-AreMoves (t ∷ ts) = (t.mark ≡ Moved) × AreMoves ts
-
-abbrev pub HasMoved : List Turn → Type 0
-HasMoved [] = Unit {0}
-HasMoved (t ∷ ts) = AreMoves ts
-
 -- the start of the last round
 abbrev pub last_start : List Turn → ℕ
 last_start [] = 0
 last_start (t ∷ []) = t.start
 last_start (t ∷ u ∷ us) = last_start (u ∷ us)
 
--- a call has rounds: the first, and whole runs after moves; the last of them has the call's start
-pub record HasTurns (l : Live) : Type 0 where
+-- a call has rounds, each of which began after at most n commits; the last of them has the call's start
+pub record HasTurns (n : ℕ) (l : Live) : Type 0 where
   pub first : Turn
   pub rest : List Turn
   pub turns : l.turns ≡ first ∷ rest
-  pub moved : HasMoved l.turns
   pub last : last_start l.turns ≡ l.start
+  pub within : Within n l.turns
+  pub past : l.start ≤ n
 
--- a live call's task: it executed all its records, which are the first ones of a full run at the call's start. In its
--- first round they are no fewer than the statements that the journal names
-pub record IsLiveTask (s : Script) (order : List ℕ) (c : ℕ) (l : Live) (task : Task) : Type 0 where
-  pub runs : RunsOn s c (table_at (work_of s) order l.start) task
-  pub executed : task.executed ≡ length task.records
-  pub steps : used l ≡ 0 → l.steps ≤ length task.records
-  pub turns : HasTurns l
-  pub past : l.start ≤ length order
+-- the count, or else this number
+abbrev pub count_or : Option ℕ → ℕ → ℕ
+count_or None n = n
+count_or (Some k) n = k
+
+-- the number that Runs gives a call's last round is this count, or else that of the records of a full run
+abbrev pub IsCounted : Work → List ℕ → ℕ → Live → Option ℕ → Type 0
+IsCounted w order c l count = last_number (rounds_of w order c l.turns) ≡ Some (count_or count (length (records_at w order l.start c)))
+
+-- a live call's task: its records are the first ones of a full run at the call's start. In a first round whose number
+-- isn't known yet they are no fewer than the statements that the journal names
+pub record IsLiveTask (s : Script) (order : List ℕ) (c : ℕ) (l : Live) (running : Running) : Type 0 where
+  pub runs : RunsOn s c (table_at (work_of s) order l.start) running.task
+  pub counted : IsCounted (work_of s) order c l running.count
+  pub steps : running.count ≡ None → used l ≡ 0 → l.steps ≤ length running.task.records
+  pub turns : HasTurns (length order) l
 
 -- the same of the call of a number, if it is live
-abbrev pub IsTaskIn : Booked → ℕ → Task → Type 0
-IsTaskIn b c task = (l : Live) → IsLive b.course c l → IsLiveTask b.script b.course.order c l task
+abbrev pub IsTaskIn : Booked → ℕ → Running → Type 0
+IsTaskIn b c running = (l : Live) → IsLive b.course c l → IsLiveTask b.script b.course.order c l running
+
+-- the task was repaired: it has run whole after all commits, and executed what a repair from the call's start executes
+pub record IsRepaired (s : Script) (order : List ℕ) (c : ℕ) (l : Live) (running : Running) : Type 0 where
+  pub runs : RunsOn s c (table_at (work_of s) order (length order)) running.task
+  pub records : running.task.records ≡ records_at (work_of s) order (length order) c
+  pub executed : running.task.executed ≡ repair_run (work_of s) order c l.start (length order)
+  pub count : running.count ≡ Some running.task.executed
 
 -- each live call has its task
-pub record HasTasks (s : Script) (course : Course) (tasks : List (Option Task)) : Type 0 where
+pub record HasTasks (s : Script) (course : Course) (tasks : List (Option Running)) : Type 0 where
   pub few : length course.calls ≤ length s.calls
   pub count : length tasks ≡ length course.calls
-  pub running : (c : ℕ) (l : Live) → IsLive course c l → (task : Task) × (slice_get tasks c ≡ Some (Some task)) × IsLiveTask s course.order c l task
+  pub running : (c : ℕ) (l : Live) → IsLive course c l → (running : Running) × (slice_get tasks c ≡ Some (Some running)) × IsLiveTask s course.order c l running
 
 -- A core
 
 -- its store has the tables of its history, and each live call has its task
-pub record IsCore (b : Booked) (store : Versioned) (ts : List (Option Task)) : Type 0 where
+pub record IsCore (b : Booked) (store : Versioned) (ts : List (Option Running)) : Type 0 where
   pub stored : IsStoreOf b store
   pub tasks : HasTasks b.script b.course ts
 
@@ -156,10 +176,31 @@ HasTried c (Ok (attempt.Hit number commit)) old new = IsHitAt old c (record { nu
 HasTried c (Ok (attempt.Stale start low)) old new = IsStaleAt old c start low × IsSame old new
 HasTried c (Err e) old new = IsSame old new
 
--- the same of a call that may commit
-abbrev pub HasCommitted : ℕ → Result ℕ NoMemory → Booked → Booked → Type 0
-HasCommitted c (Ok n) old new = Made (C c) old new × (n ≡ length old.course.order + 1)
-HasCommitted c (Err e) old new = IsSame old new
+-- the commit was made, or nothing happened
+abbrev pub HasCommitted : Event → Result ℕ NoMemory → Booked → Booked → Type 0
+HasCommitted e (Ok n) old new = Made e old new × (n ≡ length old.course.order + 1)
+HasCommitted e (Err x) old new = IsSame old new
+
+-- the law of journals allows the event, or refuses it only because the call is stale
+abbrev pub IsAllowedIfFresh : Booked → Event → Type 0
+IsAllowedIfFresh b e = (f : Fault) → refusal (work_in b) b.course e ≡ Some f → f ≡ Stale
+
+-- the call was repaired, and executed as many records as Runs says
+abbrev pub HasRepaired : ℕ → Result ℕ Refused → Booked → Booked → Type 0
+HasRepaired c (Ok n) old new = Made (A c) old new × (due_number (work_in new) new.course c ≡ Some n)
+HasRepaired c (Err refused.NoMemory) old new = IsSame old new
+HasRepaired c (Err (refused.Stale start low)) old new = IsStaleAt old c start low × IsSame old new
+
+-- the call was repaired and committed in one step
+abbrev pub HasDecided : ℕ → Result ℕ Refused → Booked → Booked → Type 0
+HasDecided c (Ok n) old new = Made (X c) old new × (n ≡ length old.course.order + 1)
+HasDecided c (Err refused.NoMemory) old new = IsSame old new
+HasDecided c (Err (refused.Stale start low)) old new = IsStaleAt old c start low × IsSame old new
+
+-- old versions were collected, or nothing happened
+abbrev pub HasCollected : Result (Unit {0}) NoMemory → Booked → Booked → Type 0
+HasCollected (Ok x) old new = Made G old new
+HasCollected (Err e) old new = IsSame old new
 
 -- the call moved, and executed so many records
 abbrev pub HasMovedUp : ℕ → Result ℕ NoMemory → Booked → Booked → Type 0

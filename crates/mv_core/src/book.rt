@@ -195,7 +195,20 @@ impl Book {
         ensures script { self.new.script ≡ self.old.script }
         ensures room { KeepsRoom self.old self.new }
     {
-        self.calls[call as usize].settle(task.executed());
+        self.settle_as(call, task.executed());
+    }
+
+    /// Sets the number of a call's last round to this one.
+    pub(crate) fn settle_as(&mut self, call: u32, count: usize)
+        requires live { IsLiveCall self.old.course call }
+        requires number { due_number (work_in self.old) self.old.course call ≡ Some count }
+        ensures settled { IsSettled self.new call }
+        ensures course { self.new.course ≡ self.old.course }
+        ensures journal { self.new.journal ≡ self.old.journal }
+        ensures script { self.new.script ≡ self.old.script }
+        ensures room { KeepsRoom self.old self.new }
+    {
+        self.calls[call as usize].settle(count);
     }
 
     /// Commits a call with this reply and these changes. If a task is given, the call was repaired in the same step, in
@@ -295,6 +308,16 @@ impl Book {
         self.low = low;
         self.journal.put(Event::G);
         low
+    }
+
+    /// Makes room for an event that is no repair, no move and no commit.
+    pub fn reserve_event(&mut self) -> Result<(), NoMemory>
+        ensures same { IsSame self.old self.new }
+        ensures room { OnOk result (0 < self.new.room) }
+    {
+        self.recent.reserve(1)?;
+        self.order.reserve(1)?;
+        self.journal.reserve(1)
     }
 
     /// Makes room for two events and for two rounds of a call.

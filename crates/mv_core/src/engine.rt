@@ -1,21 +1,21 @@
 //! A history with its tables and its running calls.
 
 ghost use Rattle.std.specs.Prelude.{◌≡◌, ◌<◌, ◌≤◌, [], ◌==◌, ◌&&◌, not, nat_lt, length, None, IfOk, IfSome, IfNone, OnOk};
-ghost use Rattle.mv_lawful.specs.Lawful.{Lawful, beginning, course_of, open_call, AllAllowed};
+ghost use Rattle.mv_journal.specs.declared.event.Event.TheVariants.{A, X};
+ghost use Rattle.mv_lawful.specs.Lawful.{Live, Lawful, beginning, course_of, has_round, open_call, AllAllowed};
 ghost use Rattle.mv_lawful.specs.Outcomes.{outcome_of};
 ghost use Rattle.mv_exec.specs.Running.{stepped};
-ghost use Rattle.mv_core.specs.Calls.{IsLiveCall};
+ghost use Rattle.mv_core.specs.Calls.{IsLive, IsLiveCall};
 ghost use Rattle.mv_core.specs.Scripts.{IsScript};
-ghost use Rattle.mv_core.specs.Books.{work_in, HasRounds};
-ghost use Rattle.mv_core.specs.Cores.{HasStep, MayStep, HasBegunCall, HasStepped, HasTried, HasMovedUp};
+ghost use Rattle.mv_core.specs.Books.{work_in, HasRounds, IsSame, IsAnswer};
+ghost use Rattle.mv_core.specs.Cores.{HasStep, MayStep, IsAllowedIfFresh, HasBegunCall, HasStepped, HasTried, HasRepaired, HasDecided, HasMovedUp, HasCollected};
 
 use crate::book::{Book, Check};
-use crate::commit::commit_task;
-use crate::running::{has_more, new_task};
+use crate::commit::{commit_task, decide_task};
+use crate::running::new_task;
 use crate::script::Script;
-use crate::tasks::{finish_task, move_task, step_task};
+use crate::tasks::{Running, move_task, repair_task, step_task, validate_task};
 use mv_exec::step::Stepped;
-use mv_exec::task::Task;
 use mv_journal::event::Event;
 use mv_journal::outcome::{Mark, Outcome, Round};
 use mv_store::store::Store;
@@ -41,7 +41,7 @@ pub struct Core {
     book: Book,
     store: Store,
     /// The tasks of the calls that have begun, by number. A call that has committed has none.
-    tasks: Vec<Option<Task>>,
+    tasks: Vec<Option<Running>>,
 }
 
 impl Model for Core {
@@ -84,7 +84,7 @@ impl Core {
             return Ok(None);
         };
         let task = new_task(alloc, self.book.script(), call)?;
-        self.tasks.push(Some(task))?;
+        self.tasks.push(Some(Running { task, count: None }))?;
         match self.book.begin(alloc) {
             Ok(Some(begun)) => Ok(Some(begun.call)),
             Ok(None) => unreachable!(),
@@ -109,12 +109,12 @@ impl Core {
             return Err(Refused::Stale { start, low });
         }
         self.book.reserve(call)?;
-        let Some(task) = &mut self.tasks[call as usize] else {
+        let Some(running) = &mut self.tasks[call as usize] else {
             unreachable!();
         };
-        step_task(alloc, &self.book, &self.store, call, task)?;
+        step_task(alloc, &self.book, &self.store, call, running)?;
         self.book.ran(call);
-        Ok(stepped_of(has_more(task, self.book.steps(call))))
+        Ok(stepped_of(running.has_more(self.book.steps(call))))
     }
 
     /// Tries to commit a live call. First it runs the rest of the call at its start. Returns `Hit` exactly if a commit
@@ -124,24 +124,79 @@ impl Core {
         requires { IsLiveCall self.old.course call }
         ensures { HasTried call result self.old self.new }
     {
-        let start = self.book.start(call);
-        let low = self.store.low();
-        if start < low {
-            return Ok(Attempt::Stale { start, low });
-        }
-        let Some(task) = &mut self.tasks[call as usize] else {
+        let Some(running) = &mut self.tasks[call as usize] else {
             unreachable!();
         };
-        finish_task(alloc, &self.book, &self.store, call, task)?;
-        match self.book.check(call, task) {
+        match validate_task(alloc, &self.book, &self.store, call, running)? {
             Check::Free => {
-                let number = commit_task(alloc, &mut self.book, &mut self.store, call, task)?;
+                let number = running.number();
+                let task = &running.task;
+                let commit = commit_task(alloc, &mut self.book, &mut self.store, call, number, task, None)?;
                 self.tasks[call as usize] = None;
-                Ok(Attempt::Committed(number))
+                Ok(Attempt::Committed(commit))
             }
             Check::Hit { number, commit } => Ok(Attempt::Hit { number, commit }),
             Check::Stale { start, low } => Ok(Attempt::Stale { start, low }),
         }
+    }
+
+    /// Validates a live call. First it runs the rest of the call at its start, unless that is below low.
+    pub(crate) fn validate(&mut self, alloc: Global, call: u32) -> Result<Check, NoMemory>
+        requires { IsLiveCall self.old.course call }
+        ensures answer { IfOk result (λ check. (l : Live) → IsLive self.old.course call l → IsAnswer check (work_in self.old) self.old.course call l) }
+        ensures same { IsSame self.old self.new }
+    {
+        let Some(running) = &mut self.tasks[call as usize] else {
+            unreachable!();
+        };
+        validate_task(alloc, &self.book, &self.store, call, running)
+    }
+
+    /// Repairs a live call that a commit after its start hits: runs it again, after all commits. First it runs the rest
+    /// of the call at its start. Executes only what depends on the changes since that start, and returns the number of
+    /// executed records. Fails with `Stale` exactly if the start is below low, and with `NoMemory` if memory runs out. On
+    /// an error all is as before, but the call may have lost its records. It then runs again from its first statement.
+    pub fn again(&mut self, alloc: Global, call: u32) -> Result<usize, Refused>
+        requires live { IsLiveCall self.old.course call }
+        requires allowed { IsAllowedIfFresh self.old (A call) }
+        ensures { HasRepaired call result self.old self.new }
+    {
+        let start = self.book.start(call);
+        let low = self.store.low();
+        if start < low {
+            return Err(Refused::Stale { start, low });
+        }
+        self.book.reserve(call)?;
+        let Some(running) = &mut self.tasks[call as usize] else {
+            unreachable!();
+        };
+        let number = repair_task(alloc, &self.book, &self.store, call, running)?;
+        let executed = running.number();
+        self.book.settle_as(call, number);
+        self.book.restart(call, Mark::Plain);
+        self.book.settle_as(call, executed);
+        Ok(executed)
+    }
+
+    /// Repairs a live call that a commit after its start hits, and commits it in the same step. The call must have used
+    /// all its rounds. First it runs the rest of the call at its start. Returns the number of the commit. Fails as
+    /// `again` does.
+    pub fn exclusive(&mut self, alloc: Global, call: u32) -> Result<u32, Refused>
+        requires live { IsLiveCall self.old.course call }
+        requires allowed { IsAllowedIfFresh self.old (X call) }
+        ensures { HasDecided call result self.old self.new }
+    {
+        let start = self.book.start(call);
+        let low = self.store.low();
+        if start < low {
+            return Err(Refused::Stale { start, low });
+        }
+        let Some(running) = &mut self.tasks[call as usize] else {
+            unreachable!();
+        };
+        let commit = decide_task(alloc, &mut self.book, &mut self.store, call, running)?;
+        self.tasks[call as usize] = None;
+        Ok(commit)
     }
 
     /// Moves a live call: it starts anew after all commits, and is run whole. Returns the number of its records. Fails
@@ -155,8 +210,20 @@ impl Core {
         self.book.restart(call, Mark::Moved);
         self.book.settle(call, &task);
         let executed = task.executed();
-        self.tasks[call as usize] = Some(task);
+        self.tasks[call as usize] = Some(Running { task, count: None });
         Ok(executed)
+    }
+
+    /// Collects old versions. Tables that no live call reads may no longer be read. With a horizon, this makes calls
+    /// with older starts stale. Fails with `NoMemory` if memory runs out, and then nothing is collected. Takes time
+    /// linear in the number of rows and of live calls.
+    pub fn collect(&mut self) -> Result<(), NoMemory>
+        ensures { HasCollected result self.old self.new }
+    {
+        self.book.reserve_event()?;
+        let low = self.book.collect();
+        self.store.raise(low);
+        Ok(())
     }
 
     /// Returns the events. The law of journals allows each of them after those before it.
@@ -210,10 +277,21 @@ impl Core {
         let Some(rounds) = self.book.rounds(call) else {
             return false;
         };
-        let Some(task) = &self.tasks[call as usize] else {
+        let Some(running) = &self.tasks[call as usize] else {
             unreachable!();
         };
-        rounds.len() == 1 && has_more(task, self.book.steps(call))
+        rounds.len() == 1 && running.has_more(self.book.steps(call))
+    }
+
+    /// Whether a live call may be repaired once more before it is decided in one step.
+    pub(crate) fn has_round(&self, call: u32) -> bool
+        requires { IsLiveCall self.now.course call }
+        ensures { (l : Live) → IsLive self.now.course call l → result ≡ has_round (work_in self.now) l }
+    {
+        let Some(rounds) = self.book.rounds(call) else {
+            unreachable!();
+        };
+        rounds.len() <= self.book.script().options.rounds as usize
     }
 
     /// Returns the least call that hasn't committed. Takes time linear in the number of calls that have begun.

@@ -1,8 +1,9 @@
 //! The events of a core.
 
-ghost use Rattle.mv_journal.specs.declared.event.Event.TheVariants.{B, S, M, C};
+ghost use Rattle.mv_journal.specs.declared.event.Event.TheVariants.{B, S, A, M, C, X, G};
 ghost use Rattle.mv_core.specs.Drives.{HasTaken, NeedsNoRepair};
 
+use crate::book::Check;
 use crate::drive::{Events, Refusal};
 use crate::engine::{Attempt, Core};
 use mv_journal::event::Event;
@@ -58,6 +59,58 @@ fn commit_event(core: &mut Core, alloc: Global, call: u32) -> Result<(), Refusal
         Attempt::Hit { .. } => Err(Refusal::Refused(Fault::Conflict)),
         Attempt::Stale { .. } => Err(Refusal::Refused(Fault::Stale)),
     }
+}
+
+/// Repairs a call, if it is live, hit and may be repaired once more.
+fn repair_event(core: &mut Core, alloc: Global, call: u32) -> Result<(), Refusal>
+    ensures { HasTaken (A call) core.old core.new result }
+{
+    if core.rounds(call).is_none() {
+        return Err(Refusal::Refused(Fault::Order));
+    }
+    match core.validate(alloc, call)? {
+        Check::Free => return Err(Refusal::Refused(Fault::Idle)),
+        Check::Stale { .. } => return Err(Refusal::Refused(Fault::Stale)),
+        Check::Hit { .. } => {}
+    }
+    if !core.has_round(call) {
+        return Err(Refusal::Refused(Fault::Rounds));
+    }
+    match core.again(alloc, call) {
+        Ok(_) => Ok(()),
+        Err(Refused::Stale { .. }) => Err(Refusal::Refused(Fault::Stale)),
+        Err(Refused::NoMemory) => Err(Refusal::NoMemory),
+    }
+}
+
+/// Repairs and commits a call in one step, if it is live and hit, and has used its rounds.
+fn decide_event(core: &mut Core, alloc: Global, call: u32) -> Result<(), Refusal>
+    ensures { HasTaken (X call) core.old core.new result }
+{
+    if core.rounds(call).is_none() {
+        return Err(Refusal::Refused(Fault::Order));
+    }
+    match core.validate(alloc, call)? {
+        Check::Free => return Err(Refusal::Refused(Fault::Idle)),
+        Check::Stale { .. } => return Err(Refusal::Refused(Fault::Stale)),
+        Check::Hit { .. } => {}
+    }
+    if core.has_round(call) {
+        return Err(Refusal::Refused(Fault::Rounds));
+    }
+    match core.exclusive(alloc, call) {
+        Ok(_) => Ok(()),
+        Err(Refused::Stale { .. }) => Err(Refusal::Refused(Fault::Stale)),
+        Err(Refused::NoMemory) => Err(Refusal::NoMemory),
+    }
+}
+
+/// Collects old versions.
+fn collect_event(core: &mut Core) -> Result<(), Refusal>
+    ensures { HasTaken G core.old core.new result }
+{
+    core.collect()?;
+    Ok(())
 }
 
 impl Events for Core {

@@ -1,6 +1,6 @@
 //! The running calls of a script.
 
-ghost use Rattle.std.specs.Prelude.{◌≡◌, ◌<◌, ◌≤◌, [], ℕ, List, nat_lt, false, length, slice_get, IfOk, OnOk, OnErr};
+ghost use Rattle.std.specs.Prelude.{◌≡◌, ◌<◌, ◌≤◌, [], ℕ, List, nat_lt, false, true, length, slice_get, IfOk, OnOk, OnErr};
 ghost use Rattle.std.specs.Option.{option_copied};
 ghost use Rattle.mv_values.specs.declared.calls.Call.{Call};
 ghost use Rattle.mv_record.specs.declared.record.Record.{Record};
@@ -10,12 +10,16 @@ ghost use Rattle.mv_graph.specs.declared.graph.Graph.{Graph};
 ghost use Rattle.mv_graph.specs.Nodes.{meaning_of};
 ghost use Rattle.mv_exec.specs.Running.{IsTaskOf, IsUnchanged, Leaves};
 ghost use Rattle.mv_core.specs.Scripts.{IsScript, work_of};
-ghost use Rattle.mv_core.specs.Cores.{RunsOn, IsDatabaseIn, HasRunOne, CountsAll};
+ghost use Rattle.mv_history.specs.Kept.{executions};
+ghost use Rattle.mv_repair.specs.Repairing.{changes_since};
+ghost use Rattle.mv_core.specs.Cores.{RunsOn, IsTaskFor, IsDatabaseIn, CanRepair, HasRunOne, CountsAll};
 
 use crate::script::Script;
+use mv_changes::recent::Committed;
 use mv_exec::running::{finish, next};
 use mv_exec::task::Task;
 use mv_graph::graph::Graph;
+use mv_repair::repair::repair;
 use mv_store::view::StoreView;
 use mv_values::calls::Call;
 use mv_values::memory::NoMemory;
@@ -98,6 +102,7 @@ pub(crate) fn run_all(
     requires fresh { view.old.may_be_stale ≡ false }
     ensures runs { RunsOn script.now number view.old.database task.new }
     ensures records { OnOk result (task.new.records ≡ ((work_of script.now).run number view.old.database).records) }
+    ensures ended { OnOk result (task.new.ended ≡ true) }
     ensures counts { CountsAll task.old task.new }
 {
     let Some(call) = call_at(script, number) else {
@@ -108,6 +113,39 @@ pub(crate) fn run_all(
     };
     match finish(alloc, graph, task, view) {
         Ok(()) => Ok(()),
+        Err(Refused::NoMemory) => Err(NoMemory),
+        Err(Refused::Stale { .. }) => unreachable!(),
+    }
+}
+
+/// Repairs a call of the script that has run whole: runs it again over a view that isn't stale, to which the changes of
+/// the commits lead. Executes only what depends on them. After `NoMemory` its records are of no use.
+pub(crate) fn repair_over(
+    alloc: Global,
+    script: &Script,
+    number: u32,
+    task: &mut Task,
+    since: &[Committed],
+    view: &mut StoreView<'_>,
+) -> Result<(), NoMemory>
+    requires script { IsScript script.now }
+    requires number { number < length script.now.calls }
+    requires call { IsTaskFor script.now number task.old }
+    requires leads { CanRepair script.now number task.old (changes_since since.now) view.old.database }
+    requires fresh { view.old.may_be_stale ≡ false }
+    ensures call { IsTaskFor script.now number task.new }
+    ensures runs { OnOk result (RunsOn script.now number view.old.database task.new) }
+    ensures records { OnOk result (task.new.records ≡ ((work_of script.now).run number view.old.database).records) }
+    ensures executed { OnOk result (task.new.executed ≡ executions task.old.records task.new.records (changes_since since.now)) }
+{
+    let Some(call) = call_at(script, number) else {
+        unreachable!();
+    };
+    let Some(graph) = graph_for(script, call) else {
+        unreachable!();
+    };
+    match repair(alloc, graph, task, since, view) {
+        Ok(_) => Ok(()),
         Err(Refused::NoMemory) => Err(NoMemory),
         Err(Refused::Stale { .. }) => unreachable!(),
     }

@@ -2,7 +2,7 @@ use Rattle.std.proofs.Common.{length, sym, ap, subst, ◌∙◌}
 use Rattle.mv_core.specs.declared.script.Script.{Script}
 use Rattle.mv_core.specs.Cores.{RunsOn}
 use Rattle.mv_core.proofs.Stored.{Shows, shows_last, database_shown}
-use Rattle.mv_core.proofs.Taking.{runs_back, task_moved}
+use Rattle.mv_core.proofs.Taking.{runs_back}
 use Rattle.mv_core.proofs.tasks.move_task.Goals as goal
 
 view : (c : goal.After-view-1) → Shows c.args.book.now.script c.args.book.now.course.order (length c.args.book.now.course.order) c.new-view.result
@@ -18,8 +18,8 @@ run_all-requires-clause-runs c =
 after : (c : goal.In_ok-run_all) → Shows c.args.book.now.script c.args.book.now.course.order (length c.args.book.now.course.order) c.new-view.result
 after c = shows_last c.args.book.now c.args.store.now c.commits.result c.new-view.result c.requires.stored c.commits.ensures c.new-view.ensures
 
-pub returns-clause-task : goal.returns-clause-task
-returns-clause-task c l live turns =
-    task_moved c.args.book.now.script c.args.book.now.course.order c.args.call l c.run_all.new.task turns
-    (runs_back c.args.book.now c.args.call (length c.args.book.now.course.order) c.script-2.result.now c.new-view.result c.run_all.new.task c.script-2.ensures (after c) c.in_ok-run_all.ensures.runs)
-    (c.in_ok-run_all.ensures.counts.executed (c.in_ok-task.ensures.executed ∙ sym (ap length c.in_ok-task.ensures.records)))
+pub returns-clause-runs : goal.returns-clause-runs
+returns-clause-runs c = runs_back c.args.book.now c.args.call (length c.args.book.now.course.order) c.script-2.result.now c.new-view.result c.run_all.new.task c.script-2.ensures (after c) c.in_ok-run_all.ensures.runs
+
+pub returns-clause-executed : goal.returns-clause-executed
+returns-clause-executed c = c.in_ok-run_all.ensures.counts.executed (c.in_ok-task.ensures.executed ∙ sym (ap length c.in_ok-task.ensures.records))

@@ -1,7 +1,7 @@
-use Rattle.std.proofs.Common.{◌≡◌, ◌∷◌, [], List, Option, Some, Ok, take, sym, ap, subst, ◌∙◌, refl}
+use Rattle.std.proofs.Common.{◌≡◌, ◌∷◌, [], List, Option, Some, None, Ok, take, sym, ap, subst, ◌∙◌, refl}
 use Rattle.std.proofs.lemmas.List.{take_at}
 use Rattle.mv_record.specs.Runs.{Tables}
-use Rattle.mv_exec.specs.declared.task.Task.{Task}
+use Rattle.mv_core.specs.declared.tasks.Running.{Running}
 use Rattle.mv_journal.specs.declared.event.Event.TheVariants.{B}
 use Rattle.mv_core.specs.declared.script.Script.{Script}
 use Rattle.mv_core.specs.declared.book.Begun.{Begun}
@@ -19,14 +19,14 @@ invariant_of-self-in-Ok-Some c =
     let begun : Made (B c.in-Ok-Some.begun.call) c.self.inside.book c.begin.new.self =
     (subst (λ (o : Option Begun). HasBegun (Ok o) c.self.inside.book c.begin.new.self) c.in-Ok-Some.field-0-is c.in-Ok-Some.ensures).0 in
     let made : Made (B c.in-Some.call) c.self.inside.book c.begin.new.self = subst (λ n. Made (B n) c.self.inside.book c.begin.new.self) (begun_number c.in-Ok-Some.begun.call c.self.inside.book c.begin.new.self begun ∙ sym next.0) begun in
-    subst (λ (ts : List (Option Task)). IsCore c.begin.new.self c.self.inside.store ts) (sym c.in_ok-push.ensures.items) (record {
+    subst (λ (ts : List (Option Running)). IsCore c.begin.new.self c.self.inside.store ts) (sym c.in_ok-push.ensures.items) (record {
       stored = stored_made (B c.in-Some.call) c.self.inside.book c.begin.new.self c.self.inside.store c.self.invariant.stored made refl refl;
       tasks = begun_on c.self.inside.book c.begin.new.self c.self.inside.tasks.items c.in-Some.call c.in_ok-task.task c.self.invariant.tasks made next.0 next.1
-          (subst (λ (s : Script). (db : Tables) → RunsOn s c.in-Some.call db c.in_ok-task.task) c.script.ensures c.in_ok-task.ensures.runs) c.in_ok-task.ensures.records c.in_ok-task.ensures.executed;
+          (subst (λ (s : Script). (db : Tables) → RunsOn s c.in-Some.call db c.in_ok-task.task) c.script.ensures c.in_ok-task.ensures.runs);
     })
 
 pub invariant_of-self-in-Err : goal.invariant_of-self-in-Err
 invariant_of-self-in-Err c =
     let back : c.truncate.new.self.items ≡ c.self.inside.tasks.items =
-    c.truncate.ensures.items ∙ (ap (take c.in-Some.call) c.in_ok-push.ensures.items ∙ take_at c.self.inside.tasks.items (Some c.in_ok-task.task ∷ []) c.in-Some.call (c.self.invariant.tasks.count ∙ sym c.in-Some.ensures.next.0)) in
-    subst (λ (ts : List (Option Task)). IsCore c.begin.new.self c.self.inside.store ts) (sym back) (core_same c.self.inside.book c.begin.new.self c.self.inside.store c.self.inside.tasks.items c.self.invariant c.in-Err.ensures)
+    c.truncate.ensures.items ∙ (ap (take c.in-Some.call) c.in_ok-push.ensures.items ∙ take_at c.self.inside.tasks.items (Some (record { task = c.in_ok-task.task; count = None }) ∷ []) c.in-Some.call (c.self.invariant.tasks.count ∙ sym c.in-Some.ensures.next.0)) in
+    subst (λ (ts : List (Option Running)). IsCore c.begin.new.self c.self.inside.store ts) (sym back) (core_same c.self.inside.book c.begin.new.self c.self.inside.store c.self.inside.tasks.items c.self.invariant c.in-Err.ensures)

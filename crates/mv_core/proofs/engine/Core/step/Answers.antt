@@ -24,14 +24,14 @@ step_task-requires-clause-number c =
 pub step_task-requires-clause-task : goal.step_task-requires-clause-task
 step_task-requires-clause-task c =
     let k = core_same c.self.inside.book c.reserve.new.self c.self.inside.store c.self.inside.tasks.items c.self.invariant c.reserve.ensures.same in
-    task_read c.reserve.new.self.script c.reserve.new.self.course c.self.inside.tasks.items c.args.call c.index_mut.result.now c.in-Some.task k.tasks c.index_mut.ensures.value c.in-Some.is
+    task_read c.reserve.new.self.script c.reserve.new.self.course c.self.inside.tasks.items c.args.call c.index_mut.result.now c.in-Some.running k.tasks c.index_mut.ensures.value c.in-Some.is
 
 pub invariant_of-self-in_err-step_task : goal.invariant_of-self-in_err-step_task
 invariant_of-self-in_err-step_task c =
     let k = core_same c.self.inside.book c.reserve.new.self c.self.inside.store c.self.inside.tasks.items c.self.invariant c.reserve.ensures.same in
     record {
       stored = k.stored;
-      tasks = tasks_set c.reserve.new.self.script c.reserve.new.self.course c.self.inside.tasks.items c.args.call c.step_task.new.task k.tasks
+      tasks = tasks_set c.reserve.new.self.script c.reserve.new.self.course c.self.inside.tasks.items c.args.call c.step_task.new.running k.tasks
           (live_now c.self.inside.book c.args.self.now c.reserve.new.self c.args.call c.self.view_is c.requires.live c.reserve.ensures.same) c.in_err-step_task.ensures.task;
     }
 
@@ -41,10 +41,10 @@ steps-requires c =
     (record live.0 { steps = live.0.steps + 1 }, live_stepped c.args.call c.reserve.new.self c.ran.new.self live.0 live.1 c.ran.ensures.made)
 
 pub has_more-requires : goal.has_more-requires
-has_more-requires c =
+has_more-requires c none =
     let live = live_now c.self.inside.book c.args.self.now c.reserve.new.self c.args.call c.self.view_is c.requires.live c.reserve.ensures.same in
     let first : used live.0 ≡ 0 = step_used (work_in c.reserve.new.self) c.reserve.new.self.course c.args.call live.0 (step_now c.self.inside.book c.args.self.now c.reserve.new.self c.args.call c.self.view_is c.requires.left c.reserve.ensures.same live.0 live.1) in
-    let le = (c.in_ok-step_task.ensures.ok live.0 live.1).steps first in
+    let le = (c.in_ok-step_task.ensures.ok live.0 live.1).steps none first in
     let is = c.steps.ensures (record live.0 { steps = live.0.steps + 1 }) (live_stepped c.args.call c.reserve.new.self c.ran.new.self live.0 live.1 c.ran.ensures.made) in
     omega (arith, le, is)
 
@@ -54,7 +54,7 @@ invariant_of-self-2 c =
     let live = live_now c.self.inside.book c.args.self.now c.reserve.new.self c.args.call c.self.view_is c.requires.live c.reserve.ensures.same in
     record {
       stored = stored_made (S c.args.call) c.reserve.new.self c.ran.new.self c.self.inside.store k.stored c.ran.ensures.made refl refl;
-      tasks = stepped_on c.reserve.new.self c.ran.new.self c.self.inside.tasks.items c.args.call live.0 c.step_task.new.task k.tasks live.1 c.ran.ensures.made (c.in_ok-step_task.ensures.ok live.0 live.1);
+      tasks = stepped_on c.reserve.new.self c.ran.new.self c.self.inside.tasks.items c.args.call live.0 c.step_task.new.running k.tasks live.1 c.ran.ensures.made (c.in_ok-step_task.ensures.ok live.0 live.1);
     }
 
 pub returns : goal.returns
@@ -64,6 +64,6 @@ returns c =
     let first : used live.0 ≡ 0 = step_used (work_in c.reserve.new.self) c.reserve.new.self.course c.args.call live.0 (step_now c.self.inside.book c.args.self.now c.reserve.new.self c.args.call c.self.view_is c.requires.left c.reserve.ensures.same live.0 live.1) in (
       made_now (S c.args.call) c.self.inside.book c.args.self.now c.reserve.new.self c.ran.new.self c.self.view_is c.reserve.ensures.same c.ran.ensures.made,
       λ m at. c.stepped_of.ensures ∙ ap (λ b. stepped (not b)) (sym
-          (step_told c.reserve.new.self c.ran.new.self c.self.inside.store c.args.call live.0 c.step_task.new.task c.steps.result c.has_more.result k.stored
-          (call_within c.reserve.new.self.script c.reserve.new.self.course c.self.inside.tasks.items c.args.call k.tasks live) live.1 c.ran.ensures.made (c.in_ok-step_task.ensures.ok live.0 live.1) first c.steps.ensures c.has_more.ensures m at)),
+          (step_told c.reserve.new.self c.ran.new.self c.self.inside.store c.args.call live.0 c.step_task.new.running c.steps.result c.has_more.result k.stored
+          (call_within c.reserve.new.self.script c.reserve.new.self.course c.self.inside.tasks.items c.args.call k.tasks live) live.1 c.ran.ensures.made (c.in_ok-step_task.ensures.ok live.0 live.1) first c.steps.ensures c.has_more.ensures.known c.has_more.ensures.unknown m at)),
     )

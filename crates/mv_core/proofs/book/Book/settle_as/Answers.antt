@@ -5,14 +5,14 @@ use Rattle.mv_core.specs.Scripts.{work_of}
 use Rattle.mv_core.specs.Books.{Booked, work_in}
 use Rattle.mv_core.proofs.Keeping.{live_stays, the_course, here_at, kept_settled, settled_live, number_known, same_calls, room_left}
 use Rattle.mv_core.proofs.Recents.{recent_set}
-use Rattle.mv_core.proofs.book.Book.settle.Goals as goal
+use Rattle.mv_core.proofs.book.Book.settle_as.Goals as goal
 
 pub invariant_of-self : goal.invariant_of-self
 invariant_of-self c = record {
   kept =
-      kept_settled c.self.inside.script c.self.inside.order.items c.self.inside.low c.args.call c.self.inside.calls.items c.self.inside.journal.items c.executed.result c.index_mut.result.now c.settle.new.self
+      kept_settled c.self.inside.script c.self.inside.order.items c.self.inside.low c.args.call c.self.inside.calls.items c.self.inside.journal.items c.args.count c.index_mut.result.now c.settle.new.self
       c.self.invariant.kept (here_at c.self.inside c.args.self.now c.args.call c.index_mut.result.now c.self.view_is c.requires.live c.index_mut.ensures.value).2.at (here_at c.self.inside c.args.self.now c.args.call c.index_mut.result.now c.self.view_is c.requires.live c.index_mut.ensures.value).2.going
-      (subst (λ (b : Booked). due_number (work_in b) b.course c.args.call ≡ Some c.executed.result) (sym c.self.view_is) (c.requires.number ∙ ap Some (sym c.executed.ensures)))
+      (subst (λ (b : Booked). due_number (work_in b) b.course c.args.call ≡ Some c.args.count) (sym c.self.view_is) c.requires.number)
       c.settle.ensures.start c.settle.ensures.steps c.settle.ensures.rounds c.settle.ensures.reply;
   live = c.self.invariant.live ∙ sym (live_stays c.self.inside.calls.items c.args.call c.index_mut.result.now c.settle.new.self (here_at c.self.inside c.args.self.now c.args.call c.index_mut.result.now c.self.view_is c.requires.live c.index_mut.ensures.value).2.at c.settle.ensures.reply);
   recent =
@@ -22,13 +22,13 @@ invariant_of-self c = record {
 
 pub returns-clause-settled : goal.returns-clause-settled
 returns-clause-settled c =
-    number_known c.self.inside.script c.self.inside.order.items c.self.inside.low c.args.call c.self.inside.calls.items c.self.inside.journal.items c.executed.result c.index_mut.result.now c.settle.new.self
+    number_known c.self.inside.script c.self.inside.order.items c.self.inside.low c.args.call c.self.inside.calls.items c.self.inside.journal.items c.args.count c.index_mut.result.now c.settle.new.self
     c.self.invariant.kept (here_at c.self.inside c.args.self.now c.args.call c.index_mut.result.now c.self.view_is c.requires.live c.index_mut.ensures.value).2.at c.settle.ensures.rounds
 
 pub returns-clause-course : goal.returns-clause-course
 returns-clause-course c =
     ap (λ (ls : List Live). the_course c.self.inside.order.items c.self.inside.low ls)
-    (same_calls c.self.inside.calls.items c.args.call c.index_mut.result.now c.settle.new.self (here_at c.self.inside c.args.self.now c.args.call c.index_mut.result.now c.self.view_is c.requires.live c.index_mut.ensures.value).2.at (settled_live (Some c.executed.result) c.index_mut.result.now c.settle.new.self c.settle.ensures.start c.settle.ensures.steps c.settle.ensures.rounds c.settle.ensures.reply))
+    (same_calls c.self.inside.calls.items c.args.call c.index_mut.result.now c.settle.new.self (here_at c.self.inside c.args.self.now c.args.call c.index_mut.result.now c.self.view_is c.requires.live c.index_mut.ensures.value).2.at (settled_live (Some c.args.count) c.index_mut.result.now c.settle.new.self c.settle.ensures.start c.settle.ensures.steps c.settle.ensures.rounds c.settle.ensures.reply))
     ∙ ap (λ (b : Booked). b.course) c.self.view_is
 
 pub returns-clause-room : goal.returns-clause-room

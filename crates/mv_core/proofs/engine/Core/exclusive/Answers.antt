@@ -1,0 +1,47 @@
+use Rattle.std.proofs.Common.{arith, rules, ◌<◌, length}
+use Rattle.mv_journal.specs.declared.event.Event.TheVariants.{X}
+use Rattle.std.specs.Prelude.{not}
+use Rattle.mv_lawful.specs.Lawful.{has_round}
+use Rattle.mv_core.specs.Books.{work_in}
+use Rattle.mv_core.proofs.Taking.{task_there, task_read, task_within, call_within, tasks_set, tasks_same, decided_on}
+use Rattle.mv_core.proofs.Refusing.{repairs_last}
+use Rattle.mv_core.proofs.Changed.{live_in, fresh_now, fresh_now_allowed}
+use Rattle.mv_core.proofs.engine.Core.exclusive.Goals as goal
+
+pub unreachable-requires : goal.unreachable-requires
+unreachable-requires c =
+    task_there c.self.inside.book.script c.self.inside.book.course c.self.inside.tasks.items c.args.call c.index_mut.result.now c.self.invariant.tasks (live_in c.self.inside.book c.args.self.now c.args.call c.self.view_is c.requires.live) c.index_mut.ensures.value c.in_default.is
+
+pub decide_task-requires-clause-number : goal.decide_task-requires-clause-number
+decide_task-requires-clause-number c = call_within c.self.inside.book.script c.self.inside.book.course c.self.inside.tasks.items c.args.call c.self.invariant.tasks (live_in c.self.inside.book c.args.self.now c.args.call c.self.view_is c.requires.live)
+
+pub decide_task-requires-clause-task : goal.decide_task-requires-clause-task
+decide_task-requires-clause-task c =
+    task_read c.self.inside.book.script c.self.inside.book.course c.self.inside.tasks.items c.args.call c.index_mut.result.now c.in-Some.running c.self.invariant.tasks c.index_mut.ensures.value c.in-Some.is
+
+pub decide_task-requires-clause-allowed : goal.decide_task-requires-clause-allowed
+decide_task-requires-clause-allowed c =
+    let live = live_in c.self.inside.book c.args.self.now c.args.call c.self.view_is c.requires.live in
+    fresh_now_allowed c.self.inside.book c.args.self.now c.args.call live.0 (X c.args.call) (not (has_round (work_in c.self.inside.book) live.0)) c.self.view_is
+    (repairs_last (work_in c.self.inside.book) c.self.inside.book.course c.args.call live.0 live.1) c.requires.allowed
+    (fresh_now c.self.inside.book c.self.inside.store c.args.call c.start-start.result c.low-low.result c.self.invariant.stored c.start-start.ensures.value c.low-low.ensures (λ lt. let le = c.if-start-low.false in omega (arith, lt, le)) live.0 live.1)
+
+pub invariant_of-self : goal.invariant_of-self
+invariant_of-self c = record {
+  stored = c.decide_task.ensures.stored;
+  tasks = tasks_same c.self.inside.book.script c.decide_task.new.book.script c.self.inside.book.course c.decide_task.new.book.course _
+      (tasks_set c.self.inside.book.script c.self.inside.book.course c.self.inside.tasks.items c.args.call c.decide_task.new.running c.self.invariant.tasks (live_in c.self.inside.book c.args.self.now c.args.call c.self.view_is c.requires.live) c.in_err-commit.ensures.task) c.in_err-commit.ensures.made.script c.in_err-commit.ensures.made.course;
+}
+
+pub index_mut-requires-2 : goal.index_mut-requires-2
+index_mut-requires-2 c =
+    let lt : c.args.call < length c.self.inside.tasks.items = task_within c.self.inside.book.script c.self.inside.book.course c.self.inside.tasks.items c.args.call c.self.invariant.tasks (live_in c.self.inside.book c.args.self.now c.args.call c.self.view_is c.requires.live) in
+    search (rules, lt)
+
+pub invariant_of-self-2 : goal.invariant_of-self-2
+invariant_of-self-2 c =
+    let live = live_in c.self.inside.book c.args.self.now c.args.call c.self.view_is c.requires.live in
+    record {
+      stored = c.decide_task.ensures.stored;
+      tasks = decided_on c.self.inside.book c.decide_task.new.book c.self.inside.tasks.items c.args.call live.0 c.decide_task.new.running c.self.invariant.tasks live.1 c.in_ok-commit.ensures.made.0;
+    }
