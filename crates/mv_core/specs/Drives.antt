@@ -1,7 +1,6 @@
 -- Defines the result of a list of events. This project's own.
 use Rattle.std.specs.Prelude.{◌≡◌, ℕ, ◌-◌, List, [], ◌++◌, Some, None, Result, Ok, Err, take}
 use Rattle.mv_journal.specs.declared.event.Event.{Event}
-use Rattle.mv_journal.specs.declared.event.Event.TheVariants.{B, S, A, M, C, X, G}
 use Rattle.mv_journal.specs.declared.outcome.Outcome.{Outcome}
 use Rattle.mv_lawful.specs.declared.fault.Wrong.TheVariants as wrong
 use Rattle.mv_lawful.specs.Work.{Work}
@@ -21,16 +20,6 @@ pub record HasMade (es : List Event) (old new : Booked) : Type 0 where
   pub course : new.course ≡ reach (work_in old) old.course es
   pub journal : new.journal ≡ old.journal ++ es
   pub script : new.script ≡ old.script
-
--- the event is no repair and no collection
-abbrev pub NeedsNoRepair : Event → Type 0
-NeedsNoRepair (B c) = Unit {0}
-NeedsNoRepair (S c) = Unit {0}
-NeedsNoRepair (M c) = Unit {0}
-NeedsNoRepair (C c) = Unit {0}
-NeedsNoRepair (A c) = ⊥
-NeedsNoRepair (X c) = ⊥
-NeedsNoRepair G = ⊥
 
 -- an event was made exactly if the law of journals allows it; otherwise nothing changed, and the refusal is the law's
 abbrev pub HasTaken : Event → Booked → Booked → Result (Unit {0}) Refusal → Type 0

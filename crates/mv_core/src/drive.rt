@@ -1,7 +1,6 @@
 //! Lists of events.
 
-ghost use Rattle.std.specs.Prelude.{◌≡◌, ◌<◌, ◌^◌, All, length};
-ghost use Rattle.mv_journal.specs.declared.event.Event.{Event as Ev};
+ghost use Rattle.std.specs.Prelude.{◌≡◌, ◌<◌, ◌^◌, length};
 ghost use Rattle.mv_lawful.specs.Lawful.{open_call};
 ghost use Rattle.mv_core.specs.Books.{Booked, work_in};
 ghost use Rattle.mv_core.specs.Drives.{HasTaken, Driven, fault_at};
@@ -58,12 +57,8 @@ pub trait Events {
     /// The history.
     ghost booked: { Self → Booked };
 
-    /// The events that can be made.
-    ghost takes: { Ev → Type 0 };
-
     /// Makes an event. If it is refused, the history is unchanged.
     fn event(&mut self, alloc: Global, event: Event) -> Result<(), Refusal>
-        requires { takes event }
         ensures { HasTaken event (booked self.old) (booked self.new) result };
 
     /// Returns the least call that hasn't committed.
@@ -85,7 +80,6 @@ fn fault_at(refusal: Refusal, n: u32) -> DriveFault
 /// event.
 pub fn drive<E: Events>(alloc: Global, history: &mut E, events: &[Event]) -> Result<(), DriveFault>
     requires few { length events.now < 2 ^ 32 }
-    requires takes { All E.takes events.now }
     ensures { Driven events.now (E.booked history.old) (E.booked history.new) result }
 {
     let mut n: u32 = 0;

@@ -1,7 +1,7 @@
 //! The events of a core.
 
 ghost use Rattle.mv_journal.specs.declared.event.Event.TheVariants.{B, S, A, M, C, X, G};
-ghost use Rattle.mv_core.specs.Drives.{HasTaken, NeedsNoRepair};
+ghost use Rattle.mv_core.specs.Drives.{HasTaken};
 
 use crate::book::Check;
 use crate::drive::{Events, Refusal};
@@ -114,22 +114,19 @@ fn collect_event(core: &mut Core) -> Result<(), Refusal>
 }
 
 impl Events for Core {
-    ghost use Rattle.mv_core.specs.Drives.{NeedsNoRepair};
-
     ghost booked = { λ core. core };
 
-    ghost takes = { NeedsNoRepair };
-
     fn event(&mut self, alloc: Global, event: Event) -> Result<(), Refusal>
-        requires { NeedsNoRepair event }
         ensures { HasTaken event self.old self.new result }
     {
         match event {
             Event::B(call) => begin_event(self, alloc, call),
             Event::S(call) => step_event(self, alloc, call),
+            Event::A(call) => repair_event(self, alloc, call),
             Event::M(call) => move_event(self, alloc, call),
             Event::C(call) => commit_event(self, alloc, call),
-            Event::A(_) | Event::X(_) | Event::G => unreachable!(),
+            Event::X(call) => decide_event(self, alloc, call),
+            Event::G => collect_event(self),
         }
     }
 

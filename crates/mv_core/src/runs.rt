@@ -1,10 +1,10 @@
 //! Whole runs of a script: its calls in turn, or a journal.
 
-ghost use Rattle.std.specs.Prelude.{◌≡◌, ◌<◌, ◌^◌, ◌↔◌, IsTrue, All, length, IfOk, OnOk};
+ghost use Rattle.std.specs.Prelude.{◌≡◌, ◌<◌, ◌^◌, length, IfOk, OnOk};
 ghost use Rattle.mv_lawful.specs.Lawful.{beginning};
 ghost use Rattle.mv_lawful.specs.Outcomes.{outcome_of, in_turn};
 ghost use Rattle.mv_core.specs.Scripts.{IsScript, work_of};
-ghost use Rattle.mv_core.specs.Drives.{HasMade, NeedsNoRepair, HasReplayed};
+ghost use Rattle.mv_core.specs.Drives.{HasMade, HasReplayed};
 
 use crate::drive::{DriveFault, drive};
 use crate::engine::Core;
@@ -36,29 +36,11 @@ pub fn run_in_turn(alloc: Global, script: Script) -> Result<Outcome, NoMemory>
     core.outcome(alloc)
 }
 
-/// Whether an event is no repair and no collection.
-fn needs_no_repair(event: &Event) -> bool
-    ensures { IsTrue result ↔ NeedsNoRepair event.now }
-{
-    match event {
-        Event::B(_) | Event::S(_) | Event::M(_) | Event::C(_) => true,
-        Event::A(_) | Event::X(_) | Event::G => false,
-    }
-}
-
-/// Whether no event is a repair or a collection.
-pub fn need_no_repair(events: &[Event]) -> bool
-    ensures { IsTrue result ↔ All NeedsNoRepair events.now }
-{
-    events.iter().all(|event| needs_no_repair(event))
-}
-
-/// Runs the events of a journal without repairs and collections. Fails exactly if the journal isn't lawful, with its
-/// first fault, and with `NoMemory` if memory runs out.
+/// Runs the events of a journal. Fails exactly if the journal isn't lawful, with its first fault, and with `NoMemory` if
+/// memory runs out.
 pub fn replay(alloc: Global, script: Script, events: &[Event]) -> Result<Outcome, DriveFault>
     requires script { IsScript script }
     requires few { length events.now < 2 ^ 32 }
-    requires events { All NeedsNoRepair events.now }
     ensures { HasReplayed (work_of script) events.now result }
 {
     let mut core = Core::new(alloc, script)?;

@@ -1,4 +1,4 @@
-use Rattle.std.proofs.Common.{◌≡◌, length, sym, subst, Some}
+use Rattle.std.proofs.Common.{length, sym, subst, Some}
 use Rattle.mv_changes.specs.Commits.{changes_in}
 use Rattle.mv_lawful.specs.Lawful.{Live}
 use Rattle.mv_repair.specs.Repairing.{changes_since}

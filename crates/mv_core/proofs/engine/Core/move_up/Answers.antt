@@ -1,4 +1,4 @@
-use Rattle.std.proofs.Common.{rules, ◌≡◌, ◌<◌, Some, length, ap, sym, ◌∙◌, refl}
+use Rattle.std.proofs.Common.{rules, ◌<◌, Some, length, ap, sym, ◌∙◌, refl}
 use Rattle.std.specs.Prelude.{◌≢◌}
 use Rattle.mv_journal.specs.declared.event.Event.TheVariants.{M}
 use Rattle.mv_journal.specs.declared.outcome.Mark.TheVariants.{Moved, Exclusive}
