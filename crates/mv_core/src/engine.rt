@@ -131,7 +131,15 @@ impl Core {
             Check::Free => {
                 let number = running.number();
                 let task = &running.task;
-                let commit = commit_task(alloc, &mut self.book, &mut self.store, call, number, task, None)?;
+                let commit = commit_task(
+                    alloc,
+                    &mut self.book,
+                    &mut self.store,
+                    call,
+                    number,
+                    task,
+                    None,
+                )?;
                 self.tasks[call as usize] = None;
                 Ok(Attempt::Committed(commit))
             }

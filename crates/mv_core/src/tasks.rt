@@ -157,7 +157,14 @@ fn repair_whole(
     let number = running.number();
     let mut view = StoreView::new(store, book.commits());
     let since = book.since(call);
-    if let Err(error) = repair_over(alloc, book.script(), call, &mut running.task, since, &mut view) {
+    if let Err(error) = repair_over(
+        alloc,
+        book.script(),
+        call,
+        &mut running.task,
+        since,
+        &mut view,
+    ) {
         running.spend(alloc, number);
         return Err(error);
     }
