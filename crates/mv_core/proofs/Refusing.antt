@@ -122,6 +122,7 @@ pub step_is : (s : Script) (course : Course) (c : ℕ) (l : Live) (t : Running) 
 step_is s course c l t more k lt task first known told = ap (λ b. b && nat_lt l.steps all) (eq-eqb (used l) 0 first) ∙ by t.count refl where
   all : ℕ
   all = length (records_at (work_of s) course.order l.start c)
+
   by : (o : Option ℕ) → t.count ≡ o → nat_lt l.steps all ≡ more
   by (Some n) is =
       let same : Some all ≡ Some n = sym (first_number (work_of s) course.order c (length course.order) l task.turns first) ∙ (task.counted ∙ ap (λ o. Some (count_or o all)) is) in

@@ -19,7 +19,7 @@ repair_over-requires-clause-call c =
 pub repair_over-requires-clause-leads : goal.repair_over-requires-clause-leads
 repair_over-requires-clause-leads c =
     let shows : Shows c.args.book.now.script c.args.book.now.course.order (length c.args.book.now.course.order) c.new-view.result =
-        shows_last c.args.book.now c.args.store.now c.commits.result c.new-view.result c.requires.stored c.commits.ensures c.new-view.ensures in
+    shows_last c.args.book.now c.args.store.now c.commits.result c.new-view.result c.requires.stored c.commits.ensures c.new-view.ensures in
     subst (λ (s : Script). CanRepair s c.args.call c.args.running.now.task (changes_since c.since-since.result.now) c.new-view.result.database) (sym c.script.ensures)
     (can_repair c.args.book.now.script c.args.book.now.course.order c.args.call c.requires.live.0.start c.args.running.now.task (changes_in c.since-since.result.now) c.new-view.result.database c.requires.stored.script
     (c.requires.task c.requires.live.0 c.requires.live.1).runs c.requires.ended (c.since-since.ensures.changes c.requires.live.0 c.requires.live.1) shows.database)
@@ -34,7 +34,7 @@ returns-in-Err-clause-err c l live =
 pub returns-clause-ok : goal.returns-clause-ok
 returns-clause-ok c l live =
     let shows : Shows c.args.book.now.script c.args.book.now.course.order (length c.args.book.now.course.order) c.new-view.result =
-        shows_last c.args.book.now c.args.store.now c.commits.result c.new-view.result c.requires.stored c.commits.ensures c.new-view.ensures in
+    shows_last c.args.book.now c.args.store.now c.commits.result c.new-view.result c.requires.stored c.commits.ensures c.new-view.ensures in
     subst (λ (x : Live). IsRepaired c.args.book.now.script c.args.book.now.course.order c.args.call x (record { task = c.repair_over.new.task; count = Some c.executed.result })) (one_live c.args.book.now.course c.args.call c.requires.live.0 l c.requires.live.1 live)
     (task_repaired c.args.book.now c.args.call c.executed.result c.script.result.now c.new-view.result c.requires.live.0 c.args.running.now.task c.repair_over.new.task (changes_in c.since-since.result.now) c.script.ensures shows
     (c.since-since.ensures.changes c.requires.live.0 c.requires.live.1) (c.requires.whole c.requires.live.0 c.requires.live.1) c.in_default.ensures.runs c.in_default.ensures.records c.in_default.ensures.executed c.executed.ensures)

@@ -78,8 +78,9 @@ pub returns : goal.returns
 returns c =
     let k = core_same c.self.inside.book c.reserve.new.self c.self.inside.store c.self.inside.tasks.items c.self.invariant c.reserve.ensures.same in
     let live = live_now c.self.inside.book c.args.self.now c.reserve.new.self c.args.call c.self.view_is c.requires.live c.reserve.ensures.same in
-    let turns : HasTurns (length c.reserve.new.self.course.order) live.0 = (k.tasks.running c.args.call live.0 live.1).2.turns in
-    (made_then (A c.args.call) c.args.self.now c.restart.new.self c.settle_as-2.new.self
-    (made_now (A c.args.call) c.self.inside.book c.args.self.now c.reserve.new.self c.restart.new.self c.self.view_is c.reserve.ensures.same (made_from (A c.args.call) c.reserve.new.self c.settle_as.new.self c.restart.new.self c.settle_as.ensures.script c.settle_as.ensures.course c.settle_as.ensures.journal c.restart.ensures.made)) c.settle_as-2.ensures.script c.settle_as-2.ensures.course c.settle_as-2.ensures.journal,
-    due_same c.restart.new.self c.settle_as-2.new.self c.args.call c.number-executed.result c.settle_as-2.ensures.script c.settle_as-2.ensures.course
-    (due_restarted Plain c.reserve.new.self c.restart.new.self c.args.call live.0 apart live.1 turns (made_from (A c.args.call) c.reserve.new.self c.settle_as.new.self c.restart.new.self c.settle_as.ensures.script c.settle_as.ensures.course c.settle_as.ensures.journal c.restart.ensures.made) ∙ ap Some (sym (number_repaired c.reserve.new.self.script c.reserve.new.self.course.order c.args.call c.number-executed.result live.0 c.repair_task.new.running (c.in_ok-number.ensures.ok live.0 live.1) c.number-executed.ensures))))
+    let turns : HasTurns (length c.reserve.new.self.course.order) live.0 = (k.tasks.running c.args.call live.0 live.1).2.turns in (
+      made_then (A c.args.call) c.args.self.now c.restart.new.self c.settle_as-2.new.self
+          (made_now (A c.args.call) c.self.inside.book c.args.self.now c.reserve.new.self c.restart.new.self c.self.view_is c.reserve.ensures.same (made_from (A c.args.call) c.reserve.new.self c.settle_as.new.self c.restart.new.self c.settle_as.ensures.script c.settle_as.ensures.course c.settle_as.ensures.journal c.restart.ensures.made)) c.settle_as-2.ensures.script c.settle_as-2.ensures.course c.settle_as-2.ensures.journal,
+      due_same c.restart.new.self c.settle_as-2.new.self c.args.call c.number-executed.result c.settle_as-2.ensures.script c.settle_as-2.ensures.course
+          (due_restarted Plain c.reserve.new.self c.restart.new.self c.args.call live.0 apart live.1 turns (made_from (A c.args.call) c.reserve.new.self c.settle_as.new.self c.restart.new.self c.settle_as.ensures.script c.settle_as.ensures.course c.settle_as.ensures.journal c.restart.ensures.made) ∙ ap Some (sym (number_repaired c.reserve.new.self.script c.reserve.new.self.course.order c.args.call c.number-executed.result live.0 c.repair_task.new.running (c.in_ok-number.ensures.ok live.0 live.1) c.number-executed.ensures))),
+    )
