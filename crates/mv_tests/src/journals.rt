@@ -82,6 +82,57 @@ end
 ",
     ],
     [
+        "a repair that executes the statements that a commit hit",
+        "CALL transfer(1, 2, 10); CALL transfer(3, 4, 10);",
+        "JOURNAL <<\nB 0\nB 1\nC 0\nG\nA 1\nC 1\nG\n>>\n",
+        "reply 0 done
+reply 1 done
+history
+1 0 starts 0 runs 5
+2 1 starts 0,1 runs 5+1
+journal
+B 0
+B 1
+C 0
+A 1
+C 1
+table acc
+0,2,
+1,90,
+2,110,
+3,90,
+4,110,
+end
+",
+    ],
+    [
+        "a repair after which a variable has another definer",
+        "CALL add(1, 5); CALL tell();",
+        "JOURNAL <<\nB 0\nB 1\nS 1\nC 0\nA 1\nC 1\n>>\n",
+        "reply 0 done
+105
+reply 1 done
+1
+100
+history
+1 0 starts 0 runs 4
+2 1 starts 0,1 runs 5+4
+journal
+B 0
+B 1
+C 0
+A 1
+C 1
+table acc
+0,0,
+1,105,
+2,100,
+3,100,
+4,100,
+end
+",
+    ],
+    [
         "calls that commit in another order",
         "CALL add(1, 5); CALL add(2, 7);",
         "JOURNAL <<\nB 0\nB 1\nC 1\nC 0\n>>\n",
@@ -231,28 +282,34 @@ const REFUSALS: &[Case] = &[
         "refused 15 journal line 3\n",
     ],
     [
-        "a repair",
+        "a repair of a call that isn't hit",
         PAIR,
         "JOURNAL <<\nB 0\nA 0\n>>\n",
-        "refused 22 not built\n",
+        "refused 18 journal line 2\n",
     ],
     [
-        "a repair that commits",
+        "a repair that commits, of a call that isn't hit",
         PAIR,
         "JOURNAL <<\nB 0\nX 0\n>>\n",
-        "refused 22 not built\n",
+        "refused 18 journal line 2\n",
     ],
     [
-        "a collection, after a journal that is lawful",
+        "a repair that commits, though rounds are left",
         PAIR,
-        "JOURNAL <<\nB 0\nC 0\nB 1\nC 1\nG\n>>\n",
-        "refused 22 not built\n",
+        "JOURNAL <<\nB 0\nB 1\nC 0\nX 1\n>>\n",
+        "refused 19 journal line 4\n",
+    ],
+    [
+        "a call that doesn't begin before the last collection",
+        PAIR,
+        "JOURNAL <<\nG\nB 0\nC 0\nG\n>>\n",
+        "refused 21 call 1\n",
     ],
     [
         "a repair, after an event out of order",
         PAIR,
         "JOURNAL <<\nB 1\nA 0\n>>\n",
-        "refused 22 not built\n",
+        "refused 16 journal line 1\n",
     ],
     [
         "a call that doesn't begin",

@@ -1,5 +1,5 @@
 -- The fault of a list of events is the refusal of a program's journal.
-use Rattle.std.proofs.Common.{◌≡◌, ℕ, List, Some, Err, refl, subst}
+use Rattle.std.proofs.Common.{◌≡◌, ℕ, List, Some, Err, refl, sym, subst}
 use Rattle.mv_values.specs.declared.calls.Options.{Options}
 use Rattle.mv_catalog.specs.declared.resolved.Program.{Program}
 use Rattle.mv_journal.specs.declared.event.Event.{Event}
@@ -12,18 +12,14 @@ use Rattle.mv_core.specs.Drives.{HasReplayed}
 use Rattle.mv_top.specs.declared.refusal.NoText.{NoText}
 use Rattle.mv_top.specs.declared.refusal.NoText.TheVariants.{Refused, NoMemory}
 use Rattle.mv_top.specs.History.{work_of as whole_work}
-use Rattle.mv_top.specs.Journals.{AreBuiltEvents, unread, unlawful}
-use Rattle.mv_top.specs.Refusing.{of_drive, TellsEvents, TellsWrong, TellsJournal}
+use Rattle.mv_top.specs.Journals.{IsJournalOf, refusal_of, RefusesJournal, unlawful}
+use Rattle.mv_top.specs.Refusing.{of_drive, TellsWrong, TellsJournal}
 
 pub fault_told : (w : Work) (es : List Event) (f : DriveFault) → HasReplayed w es (Err f) → TellsWrong w es (of_drive f)
 fault_told w es (drive.Refused n fault) is = (wrong.Refused n fault, is, refl)
 fault_told w es (drive.Open c) is = (wrong.Open c, is, refl)
 fault_told w es drive.NoMemory is = tt
 
-pub journal_told : (options : Options) (bytes : List ℕ) (p : Program) (w : Work) (es : List Event) (f : NoText) → w ≡ whole_work p options → AreBuiltEvents bytes p es → TellsWrong w es f → TellsJournal options bytes p f
-journal_told options bytes p w es (Refused r) same are told = unlawful es told.0 are (subst (λ (v : Work). wrong_with v es ≡ Some told.0) same told.1) told.2
+pub journal_told : (options : Options) (bytes : List ℕ) (p : Program) (w : Work) (es : List Event) (f : NoText) → w ≡ whole_work p options → IsJournalOf bytes p es → TellsWrong w es f → TellsJournal options bytes p f
+journal_told options bytes p w es (Refused r) same are told = subst (RefusesJournal options bytes p) (sym told.2) (unlawful es told.0 are (subst (λ (v : Work). wrong_with v es ≡ Some told.0) same told.1))
 journal_told options bytes p w es NoMemory same are told = tt
-
-pub events_told : (options : Options) (bytes : List ℕ) (p : Program) (f : NoText) → TellsEvents bytes p f → TellsJournal options bytes p f
-events_told options bytes p (Refused r) told = unread told
-events_told options bytes p NoMemory told = tt

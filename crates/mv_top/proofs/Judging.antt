@@ -1,5 +1,5 @@
 -- A program's journal has one answer: its events are lawful, or there is one refusal.
-use Rattle.std.proofs.Common.{◌≡◌, ℕ, All, List, None, Result, Ok, Err, refl, sym, ap, subst, ◌∙◌}
+use Rattle.std.proofs.Common.{◌≡◌, ℕ, List, None, Result, Ok, Err, refl, sym, ap, subst, ◌∙◌}
 use Rattle.std.proofs.lemmas.Option.{none-some, same_Some}
 use Rattle.std.specs.Prelude.{IfOk, IfErr, MatchResult}
 use Rattle.mv_values.specs.declared.calls.Options.{Options}
@@ -15,42 +15,26 @@ use Rattle.mv_top.specs.declared.refusal.NoText.{NoText}
 use Rattle.mv_top.specs.declared.refusal.NoText.TheVariants.{Refused, NoMemory}
 use Rattle.mv_top.specs.declared.status.Command.{Command}
 use Rattle.mv_top.specs.declared.status.Command.TheVariants.{Run, Replay, Serial, Graph}
-use Rattle.mv_core.specs.Drives.{NeedsNoRepair}
 use Rattle.mv_top.specs.History.{work_of}
-use Rattle.mv_top.specs.Journals.{journal_lines, refusal_of, AreBuiltEvents, HasLawfulJournal, RefusesEvents, line, not_built, RefusesJournal, unread, unlawful}
+use Rattle.mv_top.specs.Journals.{journal_lines, refusal_of, HasLawfulJournal, IsJournalText, RefusesJournal, line, unlawful}
 use Rattle.mv_top.specs.Refusing.{Causes, Tells}
 use Rattle.mv_top.specs.Answers.{IsTextOf, Takes, RefusesProgram, IsRefusedBy, by_script, by_program}
 
-same_built : (bytes : List ℕ) (p : Program) (es fs : List Event) → AreBuiltEvents bytes p es → AreBuiltEvents bytes p fs → es ≡ fs
-same_built bytes p es fs a b = same_events (journal_lines bytes p) es fs a.journal b.journal
-
--- events that are built are there to execute
-no_refusal : (bytes : List ℕ) (p : Program) (es : List Event) (r : Refusal) → AreBuiltEvents bytes p es → RefusesEvents bytes p r → ⊥
-no_refusal bytes p es r a (line n bad) = not_both (journal_lines bytes p) es n a.journal bad
-no_refusal bytes p es r a (not_built fs are not) = not (subst (λ (xs : List Event). All NeedsNoRepair xs) (same_events (journal_lines bytes p) es fs a.journal are) a.built)
-
-same_unread : (bytes : List ℕ) (p : Program) (r q : Refusal) → RefusesEvents bytes p r → RefusesEvents bytes p q → r ≡ q
-same_unread bytes p r q (line n bad) (line m worse) = ap (λ k. why.Line k) (same_number (journal_lines bytes p) n m bad worse)
-same_unread bytes p r q (line n bad) (not_built fs are not) = absurd (not_both (journal_lines bytes p) fs n are bad)
-same_unread bytes p r q (not_built es are not) (line m bad) = absurd (not_both (journal_lines bytes p) es m are bad)
-same_unread bytes p r q (not_built es are not) (not_built fs were nor) = refl
-
 -- a lawful journal isn't refused
 lawful_is_taken : (options : Options) (bytes : List ℕ) (p : Program) (es : List Event) (r : Refusal) → HasLawfulJournal options bytes p es → RefusesJournal options bytes p r → ⊥
-lawful_is_taken options bytes p es r h (unread bad) = no_refusal bytes p es r h.are bad
-lawful_is_taken options bytes p es r h (unlawful fs w are wrong is) =
-    let same : es ≡ fs = same_built bytes p es fs h.are are in
+lawful_is_taken options bytes p es r h (line n bad) = not_both (journal_lines bytes p) es n h.are bad
+lawful_is_taken options bytes p es r h (unlawful fs w are wrong) =
+    let same : es ≡ fs = same_events (journal_lines bytes p) es fs h.are are in
     none-some w (sym (subst (λ xs. wrong_with (work_of p options) xs ≡ None) same h.lawful) ∙ wrong)
 
 -- a journal has one refusal
 same_refusal : (options : Options) (bytes : List ℕ) (p : Program) (r q : Refusal) → RefusesJournal options bytes p r → RefusesJournal options bytes p q → r ≡ q
-same_refusal options bytes p r q (unread a) (unread b) = same_unread bytes p r q a b
-same_refusal options bytes p r q (unread a) (unlawful fs w are wrong is) = absurd (no_refusal bytes p fs r are a)
-same_refusal options bytes p r q (unlawful es w are wrong is) (unread b) = absurd (no_refusal bytes p es q are b)
-same_refusal options bytes p r q (unlawful es w are wrong is) (unlawful fs v were worse so) =
-    let same : es ≡ fs = same_built bytes p es fs are were in
-    let one : w ≡ v = same_Some w v (sym wrong ∙ (ap (wrong_with (work_of p options)) same ∙ worse)) in
-    is ∙ (ap refusal_of one ∙ sym so)
+same_refusal options bytes p r q (line n bad) (line m worse) = ap (λ k. why.Line k) (same_number (journal_lines bytes p) n m bad worse)
+same_refusal options bytes p r q (line n bad) (unlawful fs w are wrong) = absurd (not_both (journal_lines bytes p) fs n are bad)
+same_refusal options bytes p r q (unlawful es w are wrong) (line m bad) = absurd (not_both (journal_lines bytes p) es m are bad)
+same_refusal options bytes p r q (unlawful es w are wrong) (unlawful fs v were worse) =
+    let same : es ≡ fs = same_events (journal_lines bytes p) es fs are were in
+    ap refusal_of (same_Some w v (sym wrong ∙ (ap (wrong_with (work_of p options)) same ∙ worse)))
 
 text_is_taken : (command : Command) (bytes answer : List ℕ) (p : Program) (r : Refusal) → IsTextOf command bytes p answer → RefusesProgram command bytes p r → ⊥
 text_is_taken Run bytes answer p r t bad = bad

@@ -1,5 +1,5 @@
 -- The journal of a script, its text, and why it is refused. The form of a journal and its law are this project's own.
-use Rattle.std.specs.Prelude.{◌≡◌, ℕ, List, [], Option, Some, None, All}
+use Rattle.std.specs.Prelude.{◌≡◌, ℕ, List, [], Option, Some, None}
 use Rattle.std.specs.Str.Lines.{lines}
 use Rattle.mv_values.specs.declared.calls.Options.{Options}
 use Rattle.mv_catalog.specs.declared.resolved.CopyInfo.{CopyInfo}
@@ -10,7 +10,6 @@ use Rattle.mv_journal.specs.Lines.{AreEventLines, IsFirstBad}
 use Rattle.mv_lawful.specs.declared.fault.Wrong.{Wrong}
 use Rattle.mv_lawful.specs.declared.fault.Wrong.TheVariants as wrong
 use Rattle.mv_lawful.specs.Lawful.{Lawful, wrong_with}
-use Rattle.mv_core.specs.Drives.{NeedsNoRepair}
 use Rattle.mv_top.specs.declared.refusal.Refusal.{Refusal}
 use Rattle.mv_top.specs.declared.refusal.Refusal.TheVariants as why
 use Rattle.mv_top.specs.History.{work_of, text}
@@ -28,14 +27,9 @@ journal_lines bytes p = lines (block_in bytes p.resolved.journal)
 abbrev pub IsJournalOf : List ℕ → Program → List Event → Type 0
 IsJournalOf bytes p events = AreEventLines (journal_lines bytes p) events
 
--- the events of the journal, which `replay` can execute: repairs and collections can't be yet
-pub record AreBuiltEvents (bytes : List ℕ) (p : Program) (events : List Event) : Type 0 where
-  pub journal : IsJournalOf bytes p events
-  pub built : All NeedsNoRepair events
-
--- that, and the journal is lawful
+-- these are its events, and they are lawful
 pub record HasLawfulJournal (options : Options) (bytes : List ℕ) (p : Program) (events : List Event) : Type 0 where
-  pub are : AreBuiltEvents bytes p events
+  pub are : IsJournalOf bytes p events
   pub lawful : Lawful (work_of p options) events
 
 -- the text of the journal, which is lawful
@@ -49,12 +43,7 @@ abbrev pub refusal_of : Wrong → Refusal
 refusal_of (wrong.Refused n fault) = why.Event n fault
 refusal_of (wrong.Open call) = why.Open call
 
--- why there are no events to execute: a line isn't an event, or an event isn't built
-pub data RefusesEvents (bytes : List ℕ) (p : Program) : Refusal → Type 0 where
-  line : (n : ℕ) → IsFirstBad (journal_lines bytes p) n → RefusesEvents bytes p (why.Line n)
-  not_built : (events : List Event) → IsJournalOf bytes p events → (All NeedsNoRepair events → ⊥) → RefusesEvents bytes p why.NotBuilt
-
--- why the journal is refused: there are no events to execute, or the law of journals refuses them
-pub data RefusesJournal (options : Options) (bytes : List ℕ) (p : Program) (refusal : Refusal) : Type 0 where
-  unread : RefusesEvents bytes p refusal → RefusesJournal options bytes p refusal
-  unlawful : (events : List Event) (w : Wrong) → AreBuiltEvents bytes p events → wrong_with (work_of p options) events ≡ Some w → refusal ≡ refusal_of w → RefusesJournal options bytes p refusal
+-- why the journal is refused: a line isn't an event, or the law of journals refuses the events
+pub data RefusesJournal (options : Options) (bytes : List ℕ) (p : Program) : Refusal → Type 0 where
+  line : (n : ℕ) → IsFirstBad (journal_lines bytes p) n → RefusesJournal options bytes p (why.Line n)
+  unlawful : (events : List Event) (w : Wrong) → IsJournalOf bytes p events → wrong_with (work_of p options) events ≡ Some w → RefusesJournal options bytes p (refusal_of w)

@@ -4,7 +4,7 @@ use Rattle.mv_accept.specs.Refusals.{number_of as script_number, line_of as scri
 use Rattle.mv_lawful.specs.declared.fault.Fault.{Fault}
 use Rattle.mv_lawful.specs.declared.fault.Fault.TheVariants as fault
 use Rattle.mv_top.specs.declared.refusal.Refusal.{Refusal}
-use Rattle.mv_top.specs.declared.refusal.Refusal.TheVariants.{Script, Line, NotBuilt, Event, Open}
+use Rattle.mv_top.specs.declared.refusal.Refusal.TheVariants.{Script, Line, Event, Open}
 
 -- the number of the refusal of an event
 abbrev pub event_number : Fault → ℕ
@@ -19,7 +19,6 @@ number_of (Script refusal) = script_number refusal
 number_of (Line n) = 15
 number_of (Event n fault) = event_number fault
 number_of (Open call) = 21
-number_of NotBuilt = 22
 
 -- a refusal at a line of the journal
 abbrev pub journal_line : ℕ → ℕ → List ℕ
@@ -30,4 +29,3 @@ line_of (Script refusal) = script_line refusal
 line_of (Line n) = journal_line 15 n
 line_of (Event n fault) = journal_line (event_number fault) n
 line_of (Open call) = codes "refused 21 call " ++ decimal call
-line_of NotBuilt = codes "refused 22 not built"

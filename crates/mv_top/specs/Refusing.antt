@@ -12,7 +12,7 @@ use Rattle.mv_top.specs.declared.refusal.Refusal.{Refusal}
 use Rattle.mv_top.specs.declared.refusal.Refusal.TheVariants as why
 use Rattle.mv_top.specs.declared.refusal.NoText.{NoText}
 use Rattle.mv_top.specs.declared.refusal.NoText.TheVariants.{Refused, NoMemory}
-use Rattle.mv_top.specs.Journals.{refusal_of, RefusesEvents, RefusesJournal}
+use Rattle.mv_top.specs.Journals.{refusal_of, RefusesJournal}
 
 -- the refusal has this cause, unless memory ran out
 abbrev pub Causes : (Refusal → Type 0) → NoText → Type 0
@@ -32,9 +32,6 @@ of_drive drive.NoMemory = NoMemory
 -- it is the refusal of the first fault of the events
 abbrev pub HasFault : Work → List Event → Refusal → Type 0
 HasFault w events refusal = (wrong : Wrong) × (wrong_with w events ≡ Some wrong) × (refusal ≡ refusal_of wrong)
-
-abbrev pub TellsEvents : List ℕ → Program → NoText → Type 0
-TellsEvents bytes p f = Causes (RefusesEvents bytes p) f
 
 abbrev pub TellsWrong : Work → List Event → NoText → Type 0
 TellsWrong w events f = Causes (HasFault w events) f

@@ -1,20 +1,19 @@
 //! The run of a script's own journal.
 
-ghost use Rattle.std.specs.Prelude.{◌≡◌, ◌<◌, ◌≤◌, ◌^◌, All, length, IfOk, IfErr};
+ghost use Rattle.std.specs.Prelude.{◌≡◌, ◌<◌, ◌≤◌, ◌^◌, length, IfOk, IfErr};
 ghost use Rattle.mv_accept.specs.Accepting.{most_calls};
 ghost use Rattle.mv_record.specs.Databases.{IsProgram};
 ghost use Rattle.mv_core.specs.Scripts.{IsScript, work_of};
-ghost use Rattle.mv_core.specs.Drives.{NeedsNoRepair};
 ghost use Rattle.mv_lawful.specs.Lawful.{Lawful};
 ghost use Rattle.mv_lawful.specs.Outcomes.{outcome_of};
-ghost use Rattle.mv_top.specs.Journals.{block_in, AreBuiltEvents, IsJournalText};
-ghost use Rattle.mv_top.specs.Refusing.{of_drive, TellsEvents, TellsWrong, TellsJournal};
+ghost use Rattle.mv_top.specs.Journals.{block_in, IsJournalOf, IsJournalText};
+ghost use Rattle.mv_top.specs.Refusing.{of_drive, TellsWrong, TellsJournal};
 
 use crate::refusal::{NoText, Refusal};
 use crate::script::{Prepared, prepare};
 use mv_catalog::resolved::{CopyInfo, Program};
 use mv_core::drive::DriveFault;
-use mv_core::runs::{need_no_repair, replay};
+use mv_core::runs::replay;
 use mv_core::script::Script;
 use mv_journal::event::Event;
 use mv_journal::fault::LineFault;
@@ -40,23 +39,22 @@ fn block_in<'b>(bytes: &'b [u8], journal: &Option<CopyInfo>) -> &'b [u8]
     }
 }
 
-/// Returns the events of a program's journal, which `replay` can execute.
-fn events_of(alloc: Global, bytes: &[u8], program: &Program) -> Result<List<Event>, NoText>
+/// Returns the events of a program's journal.
+fn events_of(
+    alloc: Global,
+    options: Options,
+    bytes: &[u8],
+    program: &Program,
+) -> Result<List<Event>, NoText>
     requires { length bytes.now < 2 ^ 32 }
-    ensures events { IfOk result (AreBuiltEvents bytes.now program.now) }
+    ensures events { IfOk result (IsJournalOf bytes.now program.now) }
     ensures few { IfOk result (λ events. length events < 2 ^ 32) }
-    ensures refused { IfErr result (TellsEvents bytes.now program.now) }
+    ensures refused { IfErr result (TellsJournal options bytes.now program.now) }
 {
-    let block = block_in(bytes, &program.resolved.journal);
-    let events = match read_journal(alloc, block) {
-        Ok(events) => events,
-        Err(LineFault::Line { n }) => return Err(NoText::Refused(Refusal::Line { n })),
-        Err(LineFault::NoMemory) => return Err(NoText::NoMemory),
-    };
-    if need_no_repair(events.as_slice()) {
-        Ok(events)
-    } else {
-        Err(NoText::Refused(Refusal::NotBuilt))
+    match read_journal(alloc, block_in(bytes, &program.resolved.journal)) {
+        Ok(events) => Ok(events),
+        Err(LineFault::Line { n }) => Err(NoText::Refused(Refusal::Line { n })),
+        Err(LineFault::NoMemory) => Err(NoText::NoMemory),
     }
 }
 
@@ -64,7 +62,6 @@ fn events_of(alloc: Global, bytes: &[u8], program: &Program) -> Result<List<Even
 fn run_journal(alloc: Global, script: Script, events: &[Event]) -> Result<Outcome, NoText>
     requires script { IsScript script }
     requires few { length events.now < 2 ^ 32 }
-    requires built { All NeedsNoRepair events.now }
     ensures lawful { IfOk result (λ _. Lawful (work_of script) events.now) }
     ensures outcome { IfOk result (λ outcome. outcome ≡ outcome_of (work_of script) events.now) }
     ensures wrong { IfErr result (TellsWrong (work_of script) events.now) }
@@ -99,7 +96,7 @@ pub(crate) fn journal_text(
     ensures text { IfOk result (IsJournalText options bytes.now program) }
     ensures refused { IfErr result (TellsJournal options bytes.now program) }
 {
-    let events = events_of(alloc, bytes, &program)?;
+    let events = events_of(alloc, options, bytes, &program)?;
     let Prepared { script, tables } = prepare(alloc, program, options)?;
     match run_journal(alloc, script, events.as_slice()) {
         Ok(outcome) => Ok(render(alloc, &tables, &outcome)?),

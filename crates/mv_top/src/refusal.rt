@@ -20,8 +20,6 @@ pub enum Refusal {
     Event { n: u32, fault: Fault },
     /// The events of the journal are allowed, and this is the first call that hasn't committed at its end.
     Open { call: u32 },
-    /// The journal has a repair or a collection, which `replay` can't execute yet.
-    NotBuilt,
 }
 
 /// Why there is no text: the input is refused, or memory ran out.
@@ -43,7 +41,7 @@ impl From<NoMemory> for NoText {
 }
 
 impl Refusal {
-    /// Returns the number of the refusal, from 1 to 22.
+    /// Returns the number of the refusal, from 1 to 21.
     pub fn number(&self) -> u32
         ensures { result ≡ number_of self.now }
     {
@@ -52,7 +50,6 @@ impl Refusal {
             Refusal::Line { .. } => 15,
             Refusal::Event { fault, .. } => event_number(*fault),
             Refusal::Open { .. } => 21,
-            Refusal::NotBuilt => 22,
         }
     }
 
@@ -68,7 +65,6 @@ impl Refusal {
             Refusal::Line { n } => journal_line(alloc, 15, *n),
             Refusal::Event { n, fault } => journal_line(alloc, event_number(*fault), *n),
             Refusal::Open { call } => open_line(alloc, *call),
-            Refusal::NotBuilt => Txt::of(alloc, b"refused 22 not built"),
         }
     }
 }
