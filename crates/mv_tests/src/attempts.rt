@@ -5,7 +5,6 @@ use crate::whole::{ensure, joined};
 use mv_accept::accept::accept;
 use mv_core::drive::{DriveFault, drive};
 use mv_core::engine::{Attempt, Core};
-use mv_core::runs::need_no_repair;
 use mv_journal::event::Event;
 use mv_top::script::{Prepared, prepare};
 use mv_values::calls::Options;
@@ -67,7 +66,7 @@ fn attempt_after(
     };
     let Prepared { script, .. } = prepare(alloc, program, options)?;
     let mut core = Core::new(alloc, script)?;
-    if events.len() > 100 || !need_no_repair(events) {
+    if events.len() > 100 {
         return Ok(None);
     }
     let Err(DriveFault::Open { call: 1 }) = drive(alloc, &mut core, events) else {
