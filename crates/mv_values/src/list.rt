@@ -123,11 +123,11 @@ impl<T: Copied> Copied for List<T> {
     }
 }
 
-/// Returns copies of the items. Fails if memory runs out.
+/// Returns copies of the items, with room for no more. Fails if memory runs out.
 pub(crate) fn copy_all<T: Copied>(alloc: Global, items: &[T]) -> Result<Vec<T>, NoMemory>
     ensures { IfOk result (λ all. all.items ≡ items.now) }
 {
-    let mut all = Vec::new(alloc);
+    let mut all = Vec::with_capacity(alloc, items.len())?;
     for item in items {
         all.push(item.copy(alloc)?)?;
     }
