@@ -49,6 +49,11 @@ found_within n pred span es covers admitted =
 pub found_rises : (n : ℕ) (pred : Pred) (es : Entries) → KeysRise es → IsRising (matching pred (table_at n es))
 found_rises n pred es h = rising_filter (λ item. matches pred item.row) (table_at n es) (table_rises n es h)
 
+-- without tests all rows are found
+pub all_kept : (rows : List Keyed) → filter (λ item. true) rows ≡ rows
+all_kept [] = refl
+all_kept (x ∷ xs) = ap (λ l. x ∷ l) (all_kept xs)
+
 -- One entry more
 
 stored_both : (es fs : List (List Value × List Value)) → stored (es ++ fs) ≡ stored es ++ stored fs

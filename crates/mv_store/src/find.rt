@@ -13,6 +13,7 @@ use mv_chain::chain::Chain;
 use mv_table::key_map::KeyMap;
 use mv_table::span::Span;
 use mv_values::copied::Copied;
+use mv_values::list::List;
 use mv_values::memory::NoMemory;
 use mv_values::pred::Pred;
 use mv_values::rows::{Database, Keyed, Rows};
@@ -88,12 +89,12 @@ pub(crate) fn find_row(
 fn all_rows(alloc: Global, table: &KeyMap<Chain>, n: u32) -> Result<Rows, NoMemory>
     ensures { IfOk result (λ rows. rows ≡ table_at n table.now) }
 {
-    let mut rows = Rows::new(alloc);
-    for (key, chain) in table.iter() {
-        let row = chain.row_at(alloc, n)?;
-        add_row(alloc, &mut rows, key, row)?;
-    }
-    Ok(rows)
+    let all = Pred {
+        table: 0,
+        tests: List::new(alloc),
+        columns: List::new(alloc),
+    };
+    find(alloc, table, n, &all)
 }
 
 /// Returns copies of all tables after commit n.
