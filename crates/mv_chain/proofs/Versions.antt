@@ -156,6 +156,11 @@ pub left_is : (us turned cut : List Undo) (gone left low : ℕ) → gone ≤ len
 left_is us turned cut gone left low within later_is turned_is left_are cut_is =
     cut_is ∙ ap (take left) turned_is ∙ take_at (drop gone us) (take gone us) left (omega (arith, length-drop gone us, left_are)) ∙ later_is
 
+-- with another row before no commits
+pub based : (us : List Undo) (now next : Option (List Value)) (own : List Pending) → commits_of us now ≡ [] → shown us next own ≡ record (shown us now own) { base = next }
+based [] now next own h = refl
+based (u ∷ us) now next own h = cc
+
 -- Whether a number is above all of them
 
 below_all : (n : ℕ) (us : List Undo) (now : Option (List Value)) → ((k : ℕ) (d : Undo) → k < length us → (get_or us k d).commit < n) → All (λ c. c.number < n) (commits_of us now)

@@ -1,3 +1,4 @@
 pub mod Versions
 pub mod Undoing
 pub mod Keeping
+pub mod Holding

@@ -1,15 +1,13 @@
 //! The versions of a row.
 
-ghost use Rattle.std.specs.Prelude.{◌≡◌, ◌↔◌, ◌==◌, ◌&&◌, not, IsTrue, ◌<◌, ◌≤◌, ◌++◌, ◌∷◌, ℕ, [], IfOk, OnOk, OnErr, OnSome, IfSome, length, slice_get};
-ghost use Rattle.std.specs.Vec.{vec_capacity};
+ghost use Rattle.std.specs.Prelude.{◌≡◌, ◌↔◌, IsTrue, ◌<◌, ◌≤◌, ℕ, [], IfOk, OnOk, OnErr, OnSome, IfSome, length, slice_get};
 ghost use Rattle.std.specs.Option.{is_some, option_and_then, option_copied};
 ghost use Rattle.mv_values.specs.Preds.{matched};
 ghost use Rattle.mv_chain.specs.Versions.{row_at, newest, IsNext, own_of, without, with_own, stamped, collected, is_blank};
+ghost use Rattle.mv_chain.specs.Holding.{versions_of, is_plain};
 
-use crate::commit::do_patch;
-use crate::compose::compose;
-use crate::pending::{Pending, place_of};
-use crate::undo::{Undo, are_below, place_after, stood_before, take_back, value_before};
+use crate::history::{History, copy_of_match};
+use crate::undo::column_of;
 use mv_values::copied::Copied;
 use mv_values::memory::NoMemory;
 use mv_values::patch::Patch;
@@ -19,26 +17,29 @@ use std::alloc::Global;
 use std::marker::Model;
 use std::mem;
 
+/// What a chain holds. Commits and patches stand behind a pointer, since most rows have none.
+#[derive(Drop)]
+enum Held {
+    Nothing,
+    Only(Row),
+    History(Box<History>),
+}
+
 /// The versions of a row: the row after each commit since the last collection, and the patches of calls that have not
-/// committed. A chain without old versions takes the memory of its row and of two empty lists.
+/// committed. A chain without old versions and patches takes 32 bytes beside the values of its row.
 #[derive(Drop)]
 pub struct Chain {
-    row: Option<Row>,
-    undos: Vec<Undo>,
-    own: Vec<Pending>,
+    alloc: Global,
+    held: Held,
 }
 
 impl Model for Chain {
-    ghost use Rattle.std.specs.Prelude.{◌≤◌, ◌+◌, length};
-    ghost use Rattle.std.specs.Vec.{vec_capacity};
     ghost use Rattle.mv_chain.specs.Versions.{Versions};
-    ghost use Rattle.mv_chain.specs.Undoing.{before, commits_of, Rises};
+    ghost use Rattle.mv_chain.specs.Holding.{versions_of};
 
     ghost Value = { Versions };
 
-    ghost view = { λ c. record { base = before c.undos.items c.row; commits = commits_of c.undos.items c.row; own = c.own.items } };
-
-    ghost invariant = { λ c. Rises c.undos.items × (length c.undos.items + length c.own.items ≤ vec_capacity c.undos) };
+    ghost view = { λ c. versions_of c.held };
 }
 
 impl Chain {
@@ -47,9 +48,8 @@ impl Chain {
         ensures { result ≡ record { base = base; commits = []; own = [] } }
     {
         Chain {
-            row: base,
-            undos: Vec::new(alloc),
-            own: Vec::new(alloc),
+            alloc,
+            held: held_of(base),
         }
     }
 
@@ -57,7 +57,11 @@ impl Chain {
     pub fn newest(&self) -> Option<&Row>
         ensures { option_copied result ≡ newest self.now }
     {
-        self.row.as_ref()
+        match &self.held {
+            Held::Nothing => None,
+            Held::Only(row) => Some(row),
+            Held::History(history) => history.newest(),
+        }
     }
 
     /// Returns a copy of the row after commit n, if there is one. Takes time linear in the size of the row and of the
@@ -65,14 +69,11 @@ impl Chain {
     pub fn row_at(&self, alloc: Global, n: u32) -> Result<Option<Row>, NoMemory>
         ensures { IfOk result (λ row. row ≡ row_at self.now n) }
     {
-        let first = place_after(self.undos.as_slice(), n);
-        let mut row = copy_of(alloc, self.row.as_ref())?;
-        let mut at = self.undos.len();
-        while first < at {
-            at -= 1;
-            row = take_back(alloc, row, &self.undos[at].patch)?;
+        match &self.held {
+            Held::Nothing => Ok(None),
+            Held::Only(row) => Ok(Some(row.copy(alloc)?)),
+            Held::History(history) => history.row_at(alloc, n),
         }
-        Ok(row)
     }
 
     /// Returns a copy of the row after commit n, if there is one and the predicate matches it. At the newest number it
@@ -80,11 +81,11 @@ impl Chain {
     pub fn found_at(&self, alloc: Global, n: u32, pred: &Pred) -> Result<Option<Row>, NoMemory>
         ensures { IfOk result (λ row. row ≡ matched pred.now (row_at self.now n)) }
     {
-        if place_after(self.undos.as_slice(), n) == self.undos.len() {
-            return copy_of_match(alloc, self.row.as_ref(), pred);
+        match &self.held {
+            Held::Nothing => Ok(None),
+            Held::Only(row) => copy_of_match(alloc, Some(row), pred),
+            Held::History(history) => history.found_at(alloc, n, pred),
         }
-        let row = self.row_at(alloc, n)?;
-        Ok(only_match(row, pred))
     }
 
     /// Whether there is a row after commit n. Takes time logarithmic in the number of commits, and linear in the number
@@ -92,8 +93,11 @@ impl Chain {
     pub fn exists_at(&self, n: u32) -> bool
         ensures { result ≡ is_some (row_at self.now n) }
     {
-        let first = place_after(self.undos.as_slice(), n);
-        stood_before(&self.undos[first..], self.row.as_ref())
+        match &self.held {
+            Held::Nothing => false,
+            Held::Only(_) => true,
+            Held::History(history) => history.exists_at(n),
+        }
     }
 
     /// Returns the value of a column after commit n, if there is a row. Takes time logarithmic in the number of
@@ -102,29 +106,32 @@ impl Chain {
         requires { IfSome (row_at self.now n) (λ row. column < length row) }
         ensures { option_copied result ≡ option_and_then (λ row. slice_get row column) (row_at self.now n) }
     {
-        if !self.exists_at(n) {
-            return None;
+        match &self.held {
+            Held::Nothing => None,
+            Held::Only(row) => column_of(row, column),
+            Held::History(history) => history.value_at(n, column),
         }
-        let first = place_after(self.undos.as_slice(), n);
-        value_before(&self.undos[first..], self.row.as_ref(), column)
     }
 
     /// Whether a call has a patch that is not committed.
     pub fn has_own(&self, call: u32) -> bool
         ensures { result ≡ is_some (own_of call self.now.own) }
     {
-        place_of(self.own.as_slice(), call).is_some()
+        match &self.held {
+            Held::Nothing | Held::Only(_) => false,
+            Held::History(history) => history.has_own(call),
+        }
     }
 
     /// Whether there is no row at any number, and no patch.
     pub fn is_blank(&self) -> bool
         ensures { result ≡ is_blank self.now }
     {
-        are_blank(
-            self.undos.as_slice(),
-            self.own.as_slice(),
-            self.row.as_ref(),
-        )
+        match &self.held {
+            Held::Nothing => true,
+            Held::Only(_) => false,
+            Held::History(history) => history.is_blank(),
+        }
     }
 
     /// Adds a patch of a call, after the call's own, and makes room for its stamp. The call keeps one value for each
@@ -133,21 +140,24 @@ impl Chain {
         ensures ok { OnOk result (self.new ≡ record self.old { own = with_own call patch self.old.own }) }
         ensures err { OnErr result (self.new ≡ self.old) }
     {
-        self.undos.reserve(self.own.len() + 1)?;
-        match place_of(self.own.as_slice(), call) {
-            Some(at) => compose(&mut self.own[at].patch, patch),
-            None => {
-                self.own.push(Pending { call, patch })?;
-                Ok(())
-            }
+        if let Held::History(history) = &mut self.held {
+            return history.put(call, patch);
         }
+        let mut history = Box::new(self.alloc, History::new(self.alloc))?;
+        history.put(call, patch)?;
+        history.set_base(take_newest(&mut self.held));
+        self.held = Held::History(history);
+        Ok(())
     }
 
     /// Whether all commits have numbers below n, so that `stamp` accepts n. Takes constant time.
     pub fn is_next(&self, n: u32) -> bool
         ensures { IsTrue result ↔ IsNext n self.now }
     {
-        are_below(self.undos.as_slice(), n)
+        match &self.held {
+            Held::Nothing | Held::Only(_) => true,
+            Held::History(history) => history.is_next(n),
+        }
     }
 
     /// Turns a call's patch into commit n, if it has one. The number n must be above those of all commits. It allocates
@@ -156,27 +166,19 @@ impl Chain {
         requires { OnSome (own_of call self.old.own) (IsNext n self.old) }
         ensures { self.new ≡ stamped call n self.old }
     {
-        let Some(at) = place_of(self.own.as_slice(), call) else {
-            return;
-        };
-        let patch = mem::replace(&mut self.own[at].patch, Patch::Delete);
-        let done = do_patch(self.row.take(), patch);
-        self.row = done.row;
-        push_within(
-            &mut self.undos,
-            Undo {
-                commit: n,
-                patch: done.undo,
-            },
-        );
-        forget(&mut self.own, call);
+        if let Held::History(history) = &mut self.held {
+            history.stamp(call, n);
+        }
     }
 
     /// Drops a call's patch. It allocates no memory.
     pub fn drop_of(&mut self, call: u32)
         ensures { self.new ≡ record self.old { own = without call self.old.own } }
     {
-        forget(&mut self.own, call);
+        if let Held::History(history) = &mut self.held {
+            history.drop_of(call);
+        }
+        settle(&mut self.held);
     }
 
     /// Drops the rows before commit `low`. Reads from `low` on and uncommitted patches are unaffected. It allocates no
@@ -185,62 +187,49 @@ impl Chain {
         ensures versions { self.new ≡ collected low self.old }
         ensures reads { (n : ℕ) → low ≤ n → row_at self.new n ≡ row_at self.old n }
     {
-        let gone = place_after(self.undos.as_slice(), low);
-        let left = self.undos.len() - gone;
-        self.undos.rotate_left(gone);
-        self.undos.truncate(left);
+        if let Held::History(history) = &mut self.held {
+            history.collect(low);
+        }
+        settle(&mut self.held);
     }
 }
 
-/// Whether there are no commits, no patches and no row.
-fn are_blank(undos: &[Undo], own: &[Pending], row: Option<&Row>) -> bool
-    ensures { result ≡ ((length undos.now == 0) && (length own.now == 0) && not (is_some row.entry)) }
-{
-    undos.is_empty() && own.is_empty() && row.is_none()
-}
-
-/// Copies a row, if there is one.
-fn copy_of(alloc: Global, row: Option<&Row>) -> Result<Option<Row>, NoMemory>
-    ensures { IfOk result (λ copy. copy ≡ option_copied row.entry) }
+/// Returns what holds a row, or none, before any commit.
+fn held_of(row: Option<Row>) -> Held
+    ensures { versions_of result ≡ record { base = row; commits = []; own = [] } }
 {
     match row {
-        Some(row) => Ok(Some(row.copy(alloc)?)),
-        None => Ok(None),
+        Some(row) => Held::Only(row),
+        None => Held::Nothing,
     }
 }
 
-/// Copies a row, if there is one and the predicate matches it.
-fn copy_of_match(alloc: Global, row: Option<&Row>, pred: &Pred) -> Result<Option<Row>, NoMemory>
-    ensures { IfOk result (λ copy. copy ≡ matched pred.now (option_copied row.entry)) }
+/// Whether there are no commits and no patches.
+fn has_row_alone(held: &Held) -> bool
+    ensures { result ≡ is_plain (versions_of held.now) }
 {
-    match row {
-        Some(row) if pred.matches(row) => Ok(Some(row.copy(alloc)?)),
-        _ => Ok(None),
+    match held {
+        Held::Nothing | Held::Only(_) => true,
+        Held::History(history) => history.is_plain(),
     }
 }
 
-/// Returns the row, if there is one and the predicate matches it.
-fn only_match(row: Option<Row>, pred: &Pred) -> Option<Row>
-    ensures { result ≡ matched pred.now row }
+/// Moves the row after the last commit out, if there is one, and leaves nothing.
+fn take_newest(held: &mut Held) -> Option<Row>
+    ensures { result ≡ newest (versions_of held.old) }
 {
-    let Some(row) = row else {
-        return None;
-    };
-    if pred.matches(&row) { Some(row) } else { None }
+    match mem::replace(held, Held::Nothing) {
+        Held::Nothing => None,
+        Held::Only(row) => Some(row),
+        Held::History(history) => Box::into_inner(history).into_newest(),
+    }
 }
 
-/// Appends an entry. There must be room for it.
-fn push_within(undos: &mut Vec<Undo>, entry: Undo)
-    requires { length undos.old.items < vec_capacity undos.old }
-    ensures items { undos.new.items ≡ undos.old.items ++ entry ∷ [] }
-    ensures room { vec_capacity undos.old ≤ vec_capacity undos.new }
+/// Holds the row alone, where there are no commits and no patches. It allocates no memory.
+fn settle(held: &mut Held)
+    ensures { versions_of held.new ≡ versions_of held.old }
 {
-    let _ = undos.push(entry);
-}
-
-/// Drops the patches of a call.
-fn forget(own: &mut Vec<Pending>, call: u32)
-    ensures { own.new.items ≡ without call own.old.items }
-{
-    own.retain(|pending| pending.call != call);
+    if has_row_alone(held) {
+        *held = held_of(take_newest(held));
+    }
 }

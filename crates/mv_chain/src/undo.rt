@@ -96,7 +96,7 @@ fn item_on(items: &[Assign], column: u8) -> Option<&Value>
 }
 
 /// Returns the value of a column, if the row has it.
-fn column_of(row: &Row, column: u8) -> Option<&Value>
+pub(crate) fn column_of(row: &Row, column: u8) -> Option<&Value>
     ensures { option_copied result ≡ slice_get row.now column }
 {
     row.as_slice().get(column as usize)

@@ -1,0 +1,285 @@
+//! The versions of a row that has more than one, or patches of calls that have not committed.
+
+ghost use Rattle.std.specs.Prelude.{◌≡◌, ◌↔◌, ◌==◌, ◌&&◌, not, IsTrue, ◌<◌, ◌≤◌, ◌++◌, ◌∷◌, ℕ, [], IfOk, OnOk, OnErr, OnSome, IfSome, length, slice_get};
+ghost use Rattle.std.specs.Vec.{vec_capacity};
+ghost use Rattle.std.specs.Option.{is_some, option_and_then, option_copied};
+ghost use Rattle.mv_values.specs.Preds.{matched};
+ghost use Rattle.mv_chain.specs.Versions.{row_at, newest, IsNext, own_of, without, with_own, stamped, collected, is_blank, blank};
+ghost use Rattle.mv_chain.specs.Holding.{is_plain};
+
+use crate::commit::do_patch;
+use crate::compose::compose;
+use crate::pending::{Pending, place_of};
+use crate::undo::{Undo, are_below, place_after, stood_before, take_back, value_before};
+use mv_values::copied::Copied;
+use mv_values::memory::NoMemory;
+use mv_values::patch::Patch;
+use mv_values::pred::Pred;
+use mv_values::value::{Row, Value};
+use std::alloc::Global;
+use std::marker::Model;
+use std::mem;
+
+/// The newest row, what undoes each commit since the last collection, and the patches of calls that have not committed.
+#[derive(Drop)]
+pub(crate) struct History {
+    row: Option<Row>,
+    undos: Vec<Undo>,
+    own: Vec<Pending>,
+}
+
+impl Model for History {
+    ghost use Rattle.std.specs.Prelude.{◌≤◌, ◌+◌, length};
+    ghost use Rattle.std.specs.Vec.{vec_capacity};
+    ghost use Rattle.mv_chain.specs.Versions.{Versions};
+    ghost use Rattle.mv_chain.specs.Undoing.{before, commits_of, Rises};
+
+    ghost Value = { Versions };
+
+    ghost view = { λ h. record { base = before h.undos.items h.row; commits = commits_of h.undos.items h.row; own = h.own.items } };
+
+    ghost invariant = { λ h. Rises h.undos.items × (length h.undos.items + length h.own.items ≤ vec_capacity h.undos) };
+}
+
+impl History {
+    /// Returns versions without rows and patches. It allocates no memory.
+    pub(crate) fn new(alloc: Global) -> History
+        ensures { result ≡ blank }
+    {
+        History {
+            row: None,
+            undos: Vec::new(alloc),
+            own: Vec::new(alloc),
+        }
+    }
+
+    /// Returns the row after the last commit, if there is one.
+    pub(crate) fn newest(&self) -> Option<&Row>
+        ensures { option_copied result ≡ newest self.now }
+    {
+        self.row.as_ref()
+    }
+
+    /// Returns a copy of the row after commit n, if there is one. Takes time linear in the size of the row and of the
+    /// patches after n, and logarithmic in the number of commits.
+    pub(crate) fn row_at(&self, alloc: Global, n: u32) -> Result<Option<Row>, NoMemory>
+        ensures { IfOk result (λ row. row ≡ row_at self.now n) }
+    {
+        let first = place_after(self.undos.as_slice(), n);
+        let mut row = copy_of(alloc, self.row.as_ref())?;
+        let mut at = self.undos.len();
+        while first < at {
+            at -= 1;
+            row = take_back(alloc, row, &self.undos[at].patch)?;
+        }
+        Ok(row)
+    }
+
+    /// Returns a copy of the row after commit n, if there is one and the predicate matches it. At the newest number it
+    /// copies the row only if it matches. Otherwise it takes as long as `row_at`.
+    pub(crate) fn found_at(
+        &self,
+        alloc: Global,
+        n: u32,
+        pred: &Pred,
+    ) -> Result<Option<Row>, NoMemory>
+        ensures { IfOk result (λ row. row ≡ matched pred.now (row_at self.now n)) }
+    {
+        if place_after(self.undos.as_slice(), n) == self.undos.len() {
+            return copy_of_match(alloc, self.row.as_ref(), pred);
+        }
+        let row = self.row_at(alloc, n)?;
+        Ok(only_match(row, pred))
+    }
+
+    /// Whether there is a row after commit n. Takes time logarithmic in the number of commits, and linear in the number
+    /// of those after n.
+    pub(crate) fn exists_at(&self, n: u32) -> bool
+        ensures { result ≡ is_some (row_at self.now n) }
+    {
+        let first = place_after(self.undos.as_slice(), n);
+        stood_before(&self.undos[first..], self.row.as_ref())
+    }
+
+    /// Returns the value of a column after commit n, if there is a row. Takes time logarithmic in the number of
+    /// commits, and linear in the number and size of the patches after n, up to the first that sets the column.
+    pub(crate) fn value_at(&self, n: u32, column: u8) -> Option<&Value>
+        requires { IfSome (row_at self.now n) (λ row. column < length row) }
+        ensures { option_copied result ≡ option_and_then (λ row. slice_get row column) (row_at self.now n) }
+    {
+        if !self.exists_at(n) {
+            return None;
+        }
+        let first = place_after(self.undos.as_slice(), n);
+        value_before(&self.undos[first..], self.row.as_ref(), column)
+    }
+
+    /// Whether a call has a patch that is not committed.
+    pub(crate) fn has_own(&self, call: u32) -> bool
+        ensures { result ≡ is_some (own_of call self.now.own) }
+    {
+        place_of(self.own.as_slice(), call).is_some()
+    }
+
+    /// Whether there are no commits and no patches.
+    pub(crate) fn is_plain(&self) -> bool
+        ensures { result ≡ is_plain self.now }
+    {
+        are_none(self.undos.as_slice(), self.own.as_slice())
+    }
+
+    /// Puts a row, or none, below the patches. There must be no commits.
+    pub(crate) fn set_base(&mut self, base: Option<Row>)
+        requires { self.old.commits ≡ [] }
+        ensures { self.new ≡ record self.old { base = base } }
+    {
+        self.row = base;
+    }
+
+    /// Moves the row after the last commit out, if there is one.
+    pub(crate) fn into_newest(self) -> Option<Row>
+        ensures { result ≡ newest self }
+    {
+        let History { row, .. } = self;
+        row
+    }
+
+    /// Whether there is no row at any number, and no patch.
+    pub(crate) fn is_blank(&self) -> bool
+        ensures { result ≡ is_blank self.now }
+    {
+        are_blank(
+            self.undos.as_slice(),
+            self.own.as_slice(),
+            self.row.as_ref(),
+        )
+    }
+
+    /// Adds a patch of a call, after the call's own, and makes room for its stamp. The call keeps one value for each
+    /// column that it sets, however often it does. If memory runs out, the versions are as before.
+    pub(crate) fn put(&mut self, call: u32, patch: Patch) -> Result<(), NoMemory>
+        ensures ok { OnOk result (self.new ≡ record self.old { own = with_own call patch self.old.own }) }
+        ensures err { OnErr result (self.new ≡ self.old) }
+    {
+        self.undos.reserve(self.own.len() + 1)?;
+        match place_of(self.own.as_slice(), call) {
+            Some(at) => compose(&mut self.own[at].patch, patch),
+            None => {
+                self.own.push(Pending { call, patch })?;
+                Ok(())
+            }
+        }
+    }
+
+    /// Whether all commits have numbers below n, so that `stamp` accepts n. Takes constant time.
+    pub(crate) fn is_next(&self, n: u32) -> bool
+        ensures { IsTrue result ↔ IsNext n self.now }
+    {
+        are_below(self.undos.as_slice(), n)
+    }
+
+    /// Turns a call's patch into commit n, if it has one. The number n must be above those of all commits. It allocates
+    /// no memory.
+    pub(crate) fn stamp(&mut self, call: u32, n: u32)
+        requires { OnSome (own_of call self.old.own) (IsNext n self.old) }
+        ensures { self.new ≡ stamped call n self.old }
+    {
+        let Some(at) = place_of(self.own.as_slice(), call) else {
+            return;
+        };
+        let patch = mem::replace(&mut self.own[at].patch, Patch::Delete);
+        let done = do_patch(self.row.take(), patch);
+        self.row = done.row;
+        push_within(
+            &mut self.undos,
+            Undo {
+                commit: n,
+                patch: done.undo,
+            },
+        );
+        forget(&mut self.own, call);
+    }
+
+    /// Drops a call's patch. It allocates no memory.
+    pub(crate) fn drop_of(&mut self, call: u32)
+        ensures { self.new ≡ record self.old { own = without call self.old.own } }
+    {
+        forget(&mut self.own, call);
+    }
+
+    /// Drops the rows before commit `low`. Reads from `low` on and uncommitted patches are unaffected. It allocates no
+    /// memory.
+    pub(crate) fn collect(&mut self, low: u32)
+        ensures versions { self.new ≡ collected low self.old }
+        ensures reads { (n : ℕ) → low ≤ n → row_at self.new n ≡ row_at self.old n }
+    {
+        let gone = place_after(self.undos.as_slice(), low);
+        let left = self.undos.len() - gone;
+        self.undos.rotate_left(gone);
+        self.undos.truncate(left);
+    }
+}
+
+/// Whether there are no commits and no patches.
+fn are_none(undos: &[Undo], own: &[Pending]) -> bool
+    ensures { result ≡ ((length undos.now == 0) && (length own.now == 0)) }
+{
+    undos.is_empty() && own.is_empty()
+}
+
+/// Whether there are no commits, no patches and no row.
+fn are_blank(undos: &[Undo], own: &[Pending], row: Option<&Row>) -> bool
+    ensures { result ≡ ((length undos.now == 0) && (length own.now == 0) && not (is_some row.entry)) }
+{
+    undos.is_empty() && own.is_empty() && row.is_none()
+}
+
+/// Copies a row, if there is one.
+fn copy_of(alloc: Global, row: Option<&Row>) -> Result<Option<Row>, NoMemory>
+    ensures { IfOk result (λ copy. copy ≡ option_copied row.entry) }
+{
+    match row {
+        Some(row) => Ok(Some(row.copy(alloc)?)),
+        None => Ok(None),
+    }
+}
+
+/// Copies a row, if there is one and the predicate matches it.
+pub(crate) fn copy_of_match(
+    alloc: Global,
+    row: Option<&Row>,
+    pred: &Pred,
+) -> Result<Option<Row>, NoMemory>
+    ensures { IfOk result (λ copy. copy ≡ matched pred.now (option_copied row.entry)) }
+{
+    match row {
+        Some(row) if pred.matches(row) => Ok(Some(row.copy(alloc)?)),
+        _ => Ok(None),
+    }
+}
+
+/// Returns the row, if there is one and the predicate matches it.
+fn only_match(row: Option<Row>, pred: &Pred) -> Option<Row>
+    ensures { result ≡ matched pred.now row }
+{
+    let Some(row) = row else {
+        return None;
+    };
+    if pred.matches(&row) { Some(row) } else { None }
+}
+
+/// Appends an entry. There must be room for it.
+fn push_within(undos: &mut Vec<Undo>, entry: Undo)
+    requires { length undos.old.items < vec_capacity undos.old }
+    ensures items { undos.new.items ≡ undos.old.items ++ entry ∷ [] }
+    ensures room { vec_capacity undos.old ≤ vec_capacity undos.new }
+{
+    let _ = undos.push(entry);
+}
+
+/// Drops the patches of a call.
+fn forget(own: &mut Vec<Pending>, call: u32)
+    ensures { own.new.items ≡ without call own.old.items }
+{
+    own.retain(|pending| pending.call != call);
+}
