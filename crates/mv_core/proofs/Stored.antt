@@ -325,7 +325,7 @@ pub record Shows (s : Script) (order : List ℕ) (n : ℕ) (v : Sight) : Type 0 
   pub database : v.database ≡ table_at (work_of s) order n
   pub fresh : v.may_be_stale ≡ false
 
-shows : (b : Booked) (store : Versioned) (n : ℕ) (v : Sight) → IsStoreOf b store → b.course.low ≤ n → n ≤ length b.course.order → v ≡ sight_of store n → Shows b.script b.course.order n v
+pub shows : (b : Booked) (store : Versioned) (n : ℕ) (v : Sight) → IsStoreOf b store → b.course.low ≤ n → n ≤ length b.course.order → v ≡ sight_of store n → Shows b.script b.course.order n v
 shows b store n v k from past is = record {
   database = ap (λ (w : Sight). w.database) is ∙ k.reads n from past;
   fresh = ap (λ (w : Sight). w.may_be_stale) is ∙ (ap (nat_lt n) k.low_is ∙ at_least n b.course.low from);

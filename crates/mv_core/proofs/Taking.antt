@@ -27,8 +27,9 @@ use Rattle.mv_core.specs.Scripts.{work_of, IsCallOf, IsScript}
 use Rattle.mv_core.specs.declared.tasks.Running.{Running}
 use Rattle.mv_core.specs.Calls.{IsLive, IsLiveCall, closed, committed, last_number, due_number}
 use Rattle.mv_core.specs.Books.{Booked, work_in, Made, round_event, commit_event, AreRecordsOf}
+use Rattle.mv_store.specs.Stored.{Versioned}
 use Rattle.mv_view.specs.Viewing.{Sight}
-use Rattle.mv_core.specs.Cores.{RunsOn, IsTaskFor, HasRunOne, HasTurns, last_start, count_or, IsLiveTask, IsTaskIn, IsRepaired, HasTasks}
+use Rattle.mv_core.specs.Cores.{RunsOn, IsTaskFor, HasRunOne, HasTurns, last_start, count_or, IsLiveTask, IsTaskIn, IsRunning, IsRepaired, HasTasks, IsCore}
 use Rattle.mv_core.proofs.Numbers.{last_start as start_after, last_of_end, rounds_more, rounds_stay, table_stays, within_more, within_end}
 use Rattle.mv_core.proofs.Stored.{same_or_apart, run_is, table_database, changes_to_last, Shows}
 use Rattle.mv_core.proofs.Keeping.{commit_after, restart_after}
@@ -391,6 +392,19 @@ call_within s course ts c k live =
     let a = slice_get_within course.calls c live.0 live.1.at in
     let b = k.few in
     omega (arith, a, b)
+
+-- a live call of a core, and its task
+pub running_in : (b : Booked) (store : Versioned) (ts : List (Option Running)) (c : ℕ) (o : Option Running) (t : Running) → IsCore b store ts → IsLiveCall b.course c → o ≡ get_or ts c o → o ≡ Some t → IsRunning b store c t
+running_in b store ts c o t k live read some = record {
+  stored = k.stored;
+  live = live;
+  number = call_within b.script b.course ts c k.tasks live;
+  task = task_read b.script b.course ts c o t k.tasks read some;
+}
+
+-- a core in which one call has another task
+pub core_set : (b : Booked) (store : Versioned) (ts : List (Option Running)) (c : ℕ) (t : Running) → IsCore b store ts → IsLiveCall b.course c → IsTaskIn b c t → IsCore b store (slice_set ts c (Some t))
+core_set b store ts c t k live task = record { stored = k.stored; tasks = tasks_set b.script b.course ts c t k.tasks live task }
 
 -- its own writes are those of its records
 pub task_writes : (s : Script) (order : List ℕ) (c : ℕ) (l : Live) (t : Running) → IsScript s → c < length s.calls → IsLiveTask s order c l t → HasWritesOf t.task.undo t.task.records

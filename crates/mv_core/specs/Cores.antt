@@ -107,6 +107,13 @@ pub record IsLiveTask (s : Script) (order : List ℕ) (c : ℕ) (l : Live) (runn
 abbrev pub IsTaskIn : Booked → ℕ → Running → Type 0
 IsTaskIn b c running = (l : Live) → IsLive b.course c l → IsLiveTask b.script b.course.order c l running
 
+-- a live call and its task, over a store with the tables of the history
+pub record IsRunning (b : Booked) (store : Versioned) (c : ℕ) (running : Running) : Type 0 where
+  pub stored : IsStoreOf b store
+  pub live : IsLiveCall b.course c
+  pub number : c < length b.script.calls
+  pub task : IsTaskIn b c running
+
 -- the task was repaired: it has run whole after all commits, and executed what a repair from the call's start executes
 pub record IsRepaired (s : Script) (order : List ℕ) (c : ℕ) (l : Live) (running : Running) : Type 0 where
   pub runs : RunsOn s c (table_at (work_of s) order (length order)) running.task

@@ -199,7 +199,7 @@ impl Book {
     }
 
     /// Sets the number of a call's last round to this one.
-    pub(crate) fn settle_as(&mut self, call: u32, count: usize)
+    pub fn settle_as(&mut self, call: u32, count: usize)
         requires live { IsLiveCall self.old.course call }
         requires number { due_number (work_in self.old) self.old.course call ≡ Some count }
         ensures settled { IsSettled self.new call }

@@ -11,10 +11,8 @@ ghost use Rattle.mv_core.specs.Books.{work_in, HasRounds, IsSame, IsAnswer};
 ghost use Rattle.mv_core.specs.Cores.{HasStep, MayStep, IsAllowedIfFresh, HasBegunCall, HasStepped, HasTried, HasRepaired, HasDecided, HasMovedUp, HasCollected};
 
 use crate::book::{Book, Check};
-use crate::commit::{commit_task, decide_task};
-use crate::running::new_task;
 use crate::script::Script;
-use crate::tasks::{Running, move_task, repair_task, step_task, validate_task};
+use crate::tasks::{Running, commit_task, decide_task, new_task, rerun_task, step_task, validate_task, whole_task};
 use mv_exec::step::Stepped;
 use mv_journal::event::Event;
 use mv_journal::outcome::{Mark, Outcome, Round};
@@ -178,7 +176,7 @@ impl Core {
         let Some(running) = &mut self.tasks[call as usize] else {
             unreachable!();
         };
-        let number = repair_task(alloc, &self.book, &self.store, call, running)?;
+        let number = rerun_task(alloc, &self.book, &self.store, call, running)?;
         let executed = running.number();
         self.book.settle_as(call, number);
         self.book.restart(call, Mark::Plain);
@@ -214,7 +212,7 @@ impl Core {
         ensures { HasMovedUp call result self.old self.new }
     {
         self.book.reserve(call)?;
-        let task = move_task(alloc, &self.book, &self.store, call)?;
+        let task = whole_task(alloc, &self.book, &self.store, call, self.book.commits())?;
         self.book.restart(call, Mark::Moved);
         self.book.settle(call, &task);
         let executed = task.executed();

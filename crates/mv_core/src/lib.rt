@@ -2,7 +2,6 @@
 #![tactic(auto)]
 
 pub mod book;
-mod commit;
 pub mod drive;
 pub mod engine;
 mod events;
@@ -12,5 +11,5 @@ mod roomy;
 mod running;
 pub mod runs;
 pub mod script;
-mod tasks;
+pub mod tasks;
 mod told;

@@ -27,34 +27,17 @@ use mv_view::view::Refused;
 use std::alloc::Global;
 
 /// Returns the call of a number.
-fn call_at(script: &Script, number: u32) -> Option<&Call>
+pub(crate) fn call_at(script: &Script, number: u32) -> Option<&Call>
     ensures { option_copied result ≡ slice_get script.now.calls number }
 {
     script.calls.as_slice().get(number as usize)
 }
 
 /// Returns the graph of the procedure that a call names.
-fn graph_for<'g>(script: &'g Script, call: &Call) -> Option<&'g Graph>
+pub(crate) fn graph_for<'g>(script: &'g Script, call: &Call) -> Option<&'g Graph>
     ensures { option_copied result ≡ slice_get script.now.graphs call.now.procedure }
 {
     script.graphs.as_slice().get(call.procedure as usize)
-}
-
-/// Returns a call of the script before its first statement.
-pub(crate) fn new_task(alloc: Global, script: &Script, number: u32) -> Result<Task, NoMemory>
-    requires script { IsScript script.now }
-    requires number { number < length script.now.calls }
-    ensures runs { IfOk result (λ task. (db : Tables) → RunsOn script.now number db task) }
-    ensures records { IfOk result (λ task. task.records ≡ []) }
-    ensures executed { IfOk result (λ task. task.executed ≡ 0) }
-{
-    let Some(call) = call_at(script, number) else {
-        unreachable!();
-    };
-    let Some(graph) = graph_for(script, call) else {
-        unreachable!();
-    };
-    Task::new(alloc, graph, call)
 }
 
 /// Executes the next statement of a call of the script, over a view that isn't stale.

@@ -1,39 +1,51 @@
-//! The tasks of live calls, which run over the tables of a history.
+//! Running calls over a history and its tables: their statements, repairs and commits.
 
-ghost use Rattle.std.specs.Prelude.{◌≡◌, ◌<◌, ◌≤◌, ◌+◌, ℕ, List, None, Some, nat_lt, length, true, IfOk, OnOk, OnErr};
+ghost use Rattle.std.specs.Prelude.{◌≡◌, ◌<◌, ◌≤◌, ◌+◌, ℕ, List, [], None, Some, nat_lt, length, true, IfOk, OnOk, OnErr};
+ghost use Rattle.std.specs.Option.{option_copied};
 ghost use Rattle.mv_values.specs.declared.calls.Call.{Call};
+ghost use Rattle.mv_values.specs.Patching.{applied};
 ghost use Rattle.mv_record.specs.declared.record.Record.{Record};
 ghost use Rattle.mv_record.specs.Runs.{Tables};
 ghost use Rattle.mv_record.specs.Writes.{AreRising};
 ghost use Rattle.mv_graph.specs.declared.graph.Graph.{Graph};
 ghost use Rattle.mv_graph.specs.Nodes.{meaning_of};
 ghost use Rattle.mv_exec.specs.Running.{IsTaskOf, IsTaskOn, Leaves};
+ghost use Rattle.mv_history.specs.Changes.{changes_between};
+ghost use Rattle.mv_journal.specs.declared.event.Event.TheVariants.{X};
 ghost use Rattle.mv_lawful.specs.Work.{records_at, table_at};
-ghost use Rattle.mv_lawful.specs.Lawful.{Live};
+ghost use Rattle.mv_lawful.specs.Lawful.{Live, refusal};
+ghost use Rattle.mv_store.specs.Stored.{IsLike};
 ghost use Rattle.mv_core.specs.declared.book.Check.TheVariants.{Free as IsFree};
+ghost use Rattle.mv_core.specs.Told.{writes_told};
+ghost use Rattle.mv_core.specs.Scripts.{IsScript};
 ghost use Rattle.mv_core.specs.Calls.{IsLive, IsLiveCall, due_number};
-ghost use Rattle.mv_core.specs.Books.{work_in, IsNotStale, AreRecordsOf, IsAnswer};
-ghost use Rattle.mv_core.specs.Cores.{RunsOn, IsStoreOf, IsTaskIn, IsLiveTask, IsRepaired, HasStep, count_or};
+ghost use Rattle.mv_core.specs.Books.{work_in, last_tables, commit_event, own_number, IsNotStale, IsOwnNumber, AreRecordsOf, IsAnswer};
+ghost use Rattle.mv_core.specs.Cores.{RunsOn, IsStoreOf, IsTaskIn, IsRunning, IsLiveTask, IsRepaired, HasStep, HasCommitted, count_or};
 
 use crate::book::{Book, Check};
-use crate::running::{has_more, new_task, repair_over, run_all, run_next};
+use crate::running::{call_at, graph_for, has_more, repair_over, run_all, run_next};
+use crate::script::Script;
+use crate::told::{changes_told, put_told, reply_of};
+use mv_changes::changes::Changes;
 use mv_exec::task::Task;
+use mv_record::record::Record;
 use mv_store::store::Store;
 use mv_store::view::StoreView;
 use mv_values::memory::NoMemory;
 use std::alloc::Global;
 
-/// A live call.
+/// A live call that runs over the tables of a history.
 #[derive(Drop)]
-pub(crate) struct Running {
-    pub(crate) task: Task,
+pub struct Running {
+    /// The call at some point of its run.
+    pub task: Task,
     /// The number of its last round. It isn't known before the first run or the run of a move has ended.
-    pub(crate) count: Option<usize>,
+    pub count: Option<usize>,
 }
 
 impl Running {
     /// Returns the number of the last round of a call that has run whole.
-    pub(crate) fn number(&self) -> usize
+    pub fn number(&self) -> usize
         ensures { result ≡ count_or self.now.count (length self.now.task.records) }
     {
         match self.count {
@@ -44,7 +56,7 @@ impl Running {
 
     /// Drops the records of a call, whose last round has this number. It runs again from its first statement. It
     /// allocates no memory.
-    pub(crate) fn spend(&mut self, alloc: Global, number: usize)
+    pub fn spend(&mut self, alloc: Global, number: usize)
         ensures count { self.new.count ≡ Some number }
         ensures begins { (g : Graph) (call : Call) (db : Tables) → IsTaskOf g call self.old.task → IsTaskOn g call db self.new.task }
     {
@@ -53,7 +65,7 @@ impl Running {
     }
 
     /// Whether a full run of the call has more records than this many. The call is in its first round.
-    pub(crate) fn has_more(&self, steps: usize) -> bool
+    pub fn has_more(&self, steps: usize) -> bool
         requires { self.now.count ≡ None → steps ≤ length self.now.task.records }
         ensures known { (k : ℕ) → self.now.count ≡ Some k → result ≡ nat_lt steps k }
         ensures unknown { self.now.count ≡ None → (g : Graph) (call : Call) (db : Tables) (rest : List Record) → IsTaskOf g call self.now.task → AreRising db → Leaves g call db self.now.task rest → result ≡ nat_lt steps (length (meaning_of g call db).records) }
@@ -65,19 +77,36 @@ impl Running {
     }
 }
 
+/// Returns a call of the script before its first statement. It copies the arguments. Fails with `NoMemory` if memory runs
+/// out.
+pub fn new_task(alloc: Global, script: &Script, number: u32) -> Result<Task, NoMemory>
+    requires script { IsScript script.now }
+    requires number { number < length script.now.calls }
+    ensures runs { IfOk result (λ task. (db : Tables) → RunsOn script.now number db task) }
+    ensures records { IfOk result (λ task. task.records ≡ []) }
+    ensures executed { IfOk result (λ task. task.executed ≡ 0) }
+{
+    let Some(call) = call_at(script, number) else {
+        unreachable!();
+    };
+    let Some(graph) = graph_for(script, call) else {
+        unreachable!();
+    };
+    Task::new(alloc, graph, call)
+}
+
 /// Runs the next statement of a live call at its start, unless its task has run more statements than the journal names.
-pub(crate) fn step_task(
+/// The start may not be below low, and a statement must be left. The journal names that statement next. Fails with
+/// `NoMemory` if memory runs out, and then the task is still that of the call.
+pub fn step_task(
     alloc: Global,
     book: &Book,
     store: &Store,
     call: u32,
     running: &mut Running,
 ) -> Result<(), NoMemory>
-    requires stored { IsStoreOf book.now store.now }
-    requires live { IsLiveCall book.now.course call }
-    requires number { call < length book.now.script.calls }
+    requires call { IsRunning book.now store.now call running.old }
     requires fresh { IsNotStale book.now call }
-    requires task { IsTaskIn book.now call running.old }
     requires left { HasStep book.now call }
     ensures ok { OnOk result ((l : Live) → IsLive book.now.course call l → IsLiveTask book.now.script book.now.course.order call (record l { steps = l.steps + 1 }) running.new) }
     ensures task { IsTaskIn book.now call running.new }
@@ -89,19 +118,17 @@ pub(crate) fn step_task(
     Ok(())
 }
 
-/// Runs the rest of a live call at its start.
-pub(crate) fn finish_task(
+/// Runs the rest of a live call at its start, which may not be below low. Fails with `NoMemory` if memory runs out, and
+/// then the task is still that of the call.
+pub fn finish_task(
     alloc: Global,
     book: &Book,
     store: &Store,
     call: u32,
     running: &mut Running,
 ) -> Result<(), NoMemory>
-    requires stored { IsStoreOf book.now store.now }
-    requires live { IsLiveCall book.now.course call }
-    requires number { call < length book.now.script.calls }
+    requires call { IsRunning book.now store.now call running.old }
     requires fresh { IsNotStale book.now call }
-    requires task { IsTaskIn book.now call running.old }
     ensures ok { OnOk result (AreRecordsOf book.now call running.new.task.records) }
     ensures ended { OnOk result (running.new.task.ended ≡ true) }
     ensures task { IsTaskIn book.now call running.new }
@@ -118,10 +145,7 @@ pub(crate) fn validate_task(
     call: u32,
     running: &mut Running,
 ) -> Result<Check, NoMemory>
-    requires stored { IsStoreOf book.now store.now }
-    requires live { IsLiveCall book.now.course call }
-    requires number { call < length book.now.script.calls }
-    requires task { IsTaskIn book.now call running.old }
+    requires call { IsRunning book.now store.now call running.old }
     ensures answer { IfOk result (λ check. (l : Live) → IsLive book.now.course call l → IsAnswer check (work_in book.now) book.now.course call l) }
     ensures records { IfOk result (λ check. check ≡ IsFree → AreRecordsOf book.now call running.new.task.records) }
     ensures task { IsTaskIn book.now call running.new }
@@ -137,18 +161,15 @@ pub(crate) fn validate_task(
 
 /// Repairs a live call that has run whole at its start, which isn't below low: runs it again on the tables after all
 /// commits. If memory runs out, the call has lost its records, and is still the one that starts there.
-fn repair_whole(
+pub fn repair_task(
     alloc: Global,
     book: &Book,
     store: &Store,
     call: u32,
     running: &mut Running,
 ) -> Result<(), NoMemory>
-    requires stored { IsStoreOf book.now store.now }
-    requires live { IsLiveCall book.now.course call }
-    requires number { call < length book.now.script.calls }
+    requires call { IsRunning book.now store.now call running.old }
     requires fresh { IsNotStale book.now call }
-    requires task { IsTaskIn book.now call running.old }
     requires whole { AreRecordsOf book.now call running.old.task.records }
     requires ended { running.old.task.ended ≡ true }
     ensures ok { OnOk result ((l : Live) → IsLive book.now.course call l → IsRepaired book.now.script book.now.course.order call l running.new) }
@@ -174,43 +195,117 @@ fn repair_whole(
 
 /// Runs the rest of a live call at its start, which isn't below low, and repairs it. Returns the number of its round
 /// before the repair.
-pub(crate) fn repair_task(
+pub(crate) fn rerun_task(
     alloc: Global,
     book: &Book,
     store: &Store,
     call: u32,
     running: &mut Running,
 ) -> Result<usize, NoMemory>
-    requires stored { IsStoreOf book.now store.now }
-    requires live { IsLiveCall book.now.course call }
-    requires number { call < length book.now.script.calls }
+    requires call { IsRunning book.now store.now call running.old }
     requires fresh { IsNotStale book.now call }
-    requires task { IsTaskIn book.now call running.old }
     ensures due { IfOk result (λ number. due_number (work_in book.now) book.now.course call ≡ Some number) }
     ensures ok { OnOk result ((l : Live) → IsLive book.now.course call l → IsRepaired book.now.script book.now.course.order call l running.new) }
     ensures err { OnErr result (IsTaskIn book.now call running.new) }
 {
     finish_task(alloc, book, store, call, running)?;
     let number = running.number();
-    repair_whole(alloc, book, store, call, running)?;
+    repair_task(alloc, book, store, call, running)?;
     Ok(number)
 }
 
-/// Runs a call whole, on the tables after all commits. Returns its task.
-pub(crate) fn move_task(
+/// Runs a call whole on the tables after this many commits, which may not be below low. Returns its task. Fails with
+/// `NoMemory` if memory runs out.
+pub fn whole_task(
     alloc: Global,
     book: &Book,
     store: &Store,
     call: u32,
+    start: u32,
 ) -> Result<Task, NoMemory>
     requires stored { IsStoreOf book.now store.now }
     requires number { call < length book.now.script.calls }
-    ensures runs { IfOk result (λ task. RunsOn book.now.script call (table_at (work_in book.now) book.now.course.order (length book.now.course.order)) task) }
-    ensures records { IfOk result (λ task. task.records ≡ records_at (work_in book.now) book.now.course.order (length book.now.course.order) call) }
+    requires fresh { book.now.course.low ≤ start }
+    requires past { start ≤ length book.now.course.order }
+    ensures runs { IfOk result (λ task. RunsOn book.now.script call (table_at (work_in book.now) book.now.course.order start) task) }
+    ensures records { IfOk result (λ task. task.records ≡ records_at (work_in book.now) book.now.course.order start call) }
     ensures executed { IfOk result (λ task. task.executed ≡ length task.records) }
 {
     let mut task = new_task(alloc, book.script(), call)?;
-    let mut view = StoreView::new(store, book.commits());
+    let mut view = StoreView::new(store, start);
     run_all(alloc, book.script(), call, &mut task, &mut view)?;
     Ok(task)
+}
+
+/// Returns the changes that a call with these records makes to the last tables.
+fn changes_made(
+    alloc: Global,
+    book: &Book,
+    store: &Store,
+    records: &[Record],
+) -> Result<Changes, NoMemory>
+    requires { IsStoreOf book.now store.now }
+    ensures changes { IfOk result (λ changes. changes ≡ changes_between (last_tables book.now) (applied (writes_told records.now) (last_tables book.now))) }
+    ensures like { IsLike store.now (last_tables book.now) }
+{
+    let mut view = StoreView::new(store, store.last());
+    changes_told(alloc, book.script().opening.len(), records, &mut view)
+}
+
+/// Commits a live call, whose last round has this number. The records of its task are those of a full run on the last
+/// tables. If a second task is given, the call was repaired in the same step, in a round of its own. Returns the number
+/// of the commit. If memory runs out, the call hasn't committed.
+pub fn commit_task(
+    alloc: Global,
+    book: &mut Book,
+    store: &mut Store,
+    call: u32,
+    number: usize,
+    task: &Task,
+    exclusive: Option<&Task>,
+) -> Result<u32, NoMemory>
+    requires stored { IsStoreOf book.old store.old }
+    requires live { IsLiveCall book.old.course call }
+    requires number { call < length book.old.script.calls }
+    requires allowed { refusal (work_in book.old) book.old.course (commit_event (own_number (option_copied exclusive)) call) ≡ None }
+    requires whole { task.now.records ≡ records_at (work_in book.old) book.old.course.order (length book.old.course.order) call }
+    requires due { due_number (work_in book.old) book.old.course call ≡ Some number }
+    requires own { IsOwnNumber (own_number (option_copied exclusive)) book.old call }
+    ensures made { HasCommitted (commit_event (own_number (option_copied exclusive.entry)) call) result book.old book.new }
+    ensures stored { IsStoreOf book.new store.new }
+{
+    book.reserve(call)?;
+    let reply = reply_of(alloc, task.records())?;
+    let changes = changes_made(alloc, book, store, task.records())?;
+    put_told(alloc, store, call, task.records())?;
+    book.settle_as(call, number);
+    let commit = book.commit(call, reply, changes, exclusive);
+    store.stamp(call, commit);
+    Ok(commit)
+}
+
+/// Repairs a live call, whose start isn't below low, and commits it in the same step. First it runs the rest of the call
+/// at its start. Returns the number of the commit. If memory runs out, the call hasn't committed, and may have lost its
+/// records.
+pub(crate) fn decide_task(
+    alloc: Global,
+    book: &mut Book,
+    store: &mut Store,
+    call: u32,
+    running: &mut Running,
+) -> Result<u32, NoMemory>
+    requires call { IsRunning book.old store.old call running.old }
+    requires fresh { IsNotStale book.old call }
+    requires allowed { refusal (work_in book.old) book.old.course (X call) ≡ None }
+    ensures made { HasCommitted (X call) result book.old book.new }
+    ensures stored { IsStoreOf book.new store.new }
+    ensures task { OnErr result (IsTaskIn book.old call running.new) }
+{
+    let number = rerun_task(alloc, book, store, call, running)?;
+    let task = &running.task;
+    let committed = commit_task(alloc, book, store, call, number, task, Some(task));
+    if committed.is_err() {
+        running.spend(alloc, number);
+    }
+    committed
 }

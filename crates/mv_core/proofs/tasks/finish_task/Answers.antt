@@ -5,22 +5,22 @@ use Rattle.mv_lawful.specs.Lawful.{Live}
 use Rattle.mv_core.specs.Cores.{IsLiveTask}
 use Rattle.mv_core.proofs.tasks.finish_task.Goals as goal
 
-view : (c : goal.After-view-1) → Shows c.args.book.now.script c.args.book.now.course.order c.requires.live.0.start c.new-view.result
-view c = shows_start c.args.book.now c.args.store.now c.args.call c.start.result c.requires.live.0 c.new-view.result c.requires.stored c.requires.fresh c.requires.live.1 (c.start.ensures.value c.requires.live.0 c.requires.live.1) c.start.ensures.past c.new-view.ensures
+view : (c : goal.After-view-1) → Shows c.args.book.now.script c.args.book.now.course.order c.requires.call.live.0.start c.new-view.result
+view c = shows_start c.args.book.now c.args.store.now c.args.call c.start.result c.requires.call.live.0 c.new-view.result c.requires.call.stored c.requires.fresh c.requires.call.live.1 (c.start.ensures.value c.requires.call.live.0 c.requires.call.live.1) c.start.ensures.past c.new-view.ensures
 
 pub run_all-requires-clause-database : goal.run_all-requires-clause-database
-run_all-requires-clause-database c = database_shown c.args.book.now c.args.call c.requires.live.0.start c.script.result.now c.new-view.result c.requires.stored.script c.script.ensures (view c)
+run_all-requires-clause-database c = database_shown c.args.book.now c.args.call c.requires.call.live.0.start c.script.result.now c.new-view.result c.requires.call.stored.script c.script.ensures (view c)
 
 pub run_all-requires-clause-runs : goal.run_all-requires-clause-runs
 run_all-requires-clause-runs c =
-    runs_shown c.args.book.now c.args.call c.requires.live.0.start c.script.result.now c.new-view.result c.args.running.now.task c.script.ensures (view c) (c.requires.task c.requires.live.0 c.requires.live.1).runs
+    runs_shown c.args.book.now c.args.call c.requires.call.live.0.start c.script.result.now c.new-view.result c.args.running.now.task c.script.ensures (view c) (c.requires.call.task c.requires.call.live.0 c.requires.call.live.1).runs
 
-after : (c : goal.After-run_all) → Shows c.args.book.now.script c.args.book.now.course.order c.requires.live.0.start c.new-view.result
-after c = shows_start c.args.book.now c.args.store.now c.args.call c.start.result c.requires.live.0 c.new-view.result c.requires.stored c.requires.fresh c.requires.live.1 (c.start.ensures.value c.requires.live.0 c.requires.live.1) c.start.ensures.past c.new-view.ensures
+after : (c : goal.After-run_all) → Shows c.args.book.now.script c.args.book.now.course.order c.requires.call.live.0.start c.new-view.result
+after c = shows_start c.args.book.now c.args.store.now c.args.call c.start.result c.requires.call.live.0 c.new-view.result c.requires.call.stored c.requires.fresh c.requires.call.live.1 (c.start.ensures.value c.requires.call.live.0 c.requires.call.live.1) c.start.ensures.past c.new-view.ensures
 
 pub returns-clause-task : goal.returns-clause-task
 returns-clause-task c l live =
-    let t : IsLiveTask c.args.book.now.script c.args.book.now.course.order c.args.call c.requires.live.0 c.args.running.now = c.requires.task c.requires.live.0 c.requires.live.1 in
-    subst (λ (x : Live). IsLiveTask c.args.book.now.script c.args.book.now.course.order c.args.call x (record { task = c.run_all.new.task; count = c.args.running.now.count })) (one_live c.args.book.now.course c.args.call c.requires.live.0 l c.requires.live.1 live)
-    (task_kept c.args.book.now.script c.args.book.now.course.order c.args.call c.requires.live.0 c.args.running.now c.run_all.new.task t
-    (runs_back c.args.book.now c.args.call c.requires.live.0.start c.script.result.now c.new-view.result c.run_all.new.task c.script.ensures (after c) c.run_all.ensures.runs) c.run_all.ensures.counts.more)
+    let t : IsLiveTask c.args.book.now.script c.args.book.now.course.order c.args.call c.requires.call.live.0 c.args.running.now = c.requires.call.task c.requires.call.live.0 c.requires.call.live.1 in
+    subst (λ (x : Live). IsLiveTask c.args.book.now.script c.args.book.now.course.order c.args.call x (record { task = c.run_all.new.task; count = c.args.running.now.count })) (one_live c.args.book.now.course c.args.call c.requires.call.live.0 l c.requires.call.live.1 live)
+    (task_kept c.args.book.now.script c.args.book.now.course.order c.args.call c.requires.call.live.0 c.args.running.now c.run_all.new.task t
+    (runs_back c.args.book.now c.args.call c.requires.call.live.0.start c.script.result.now c.new-view.result c.run_all.new.task c.script.ensures (after c) c.run_all.ensures.runs) c.run_all.ensures.counts.more)

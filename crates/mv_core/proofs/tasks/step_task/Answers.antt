@@ -5,57 +5,57 @@ use Rattle.mv_core.proofs.Stored.{Shows, shows_start, database_shown}
 use Rattle.mv_core.proofs.Taking.{runs_shown, runs_back, task_kept, task_ran, task_named, goes_on, one_live}
 use Rattle.mv_core.proofs.tasks.step_task.Goals as goal
 
-view : (c : goal.After-view-1) → Shows c.args.book.now.script c.args.book.now.course.order c.requires.live.0.start c.new-view.result
-view c = shows_start c.args.book.now c.args.store.now c.args.call c.start.result c.requires.live.0 c.new-view.result c.requires.stored c.requires.fresh c.requires.live.1 (c.start.ensures.value c.requires.live.0 c.requires.live.1) c.start.ensures.past c.new-view.ensures
+view : (c : goal.After-view-1) → Shows c.args.book.now.script c.args.book.now.course.order c.requires.call.live.0.start c.new-view.result
+view c = shows_start c.args.book.now c.args.store.now c.args.call c.start.result c.requires.call.live.0 c.new-view.result c.requires.call.stored c.requires.fresh c.requires.call.live.1 (c.start.ensures.value c.requires.call.live.0 c.requires.call.live.1) c.start.ensures.past c.new-view.ensures
 
 pub run_next-requires-clause-database : goal.run_next-requires-clause-database
-run_next-requires-clause-database c = database_shown c.args.book.now c.args.call c.requires.live.0.start c.script.result.now c.new-view.result c.requires.stored.script c.script.ensures (view c)
+run_next-requires-clause-database c = database_shown c.args.book.now c.args.call c.requires.call.live.0.start c.script.result.now c.new-view.result c.requires.call.stored.script c.script.ensures (view c)
 
 pub run_next-requires-clause-runs : goal.run_next-requires-clause-runs
 run_next-requires-clause-runs c =
-    runs_shown c.args.book.now c.args.call c.requires.live.0.start c.script.result.now c.new-view.result c.args.running.now.task c.script.ensures (view c) (c.requires.task c.requires.live.0 c.requires.live.1).runs
+    runs_shown c.args.book.now c.args.call c.requires.call.live.0.start c.script.result.now c.new-view.result c.args.running.now.task c.script.ensures (view c) (c.requires.call.task c.requires.call.live.0 c.requires.call.live.1).runs
 
-refused : (c : goal.After-from_residual) → Shows c.args.book.now.script c.args.book.now.course.order c.requires.live.0.start c.new-view.result
-refused c = shows_start c.args.book.now c.args.store.now c.args.call c.start.result c.requires.live.0 c.new-view.result c.requires.stored c.requires.fresh c.requires.live.1 (c.start.ensures.value c.requires.live.0 c.requires.live.1) c.start.ensures.past c.new-view.ensures
+refused : (c : goal.After-from_residual) → Shows c.args.book.now.script c.args.book.now.course.order c.requires.call.live.0.start c.new-view.result
+refused c = shows_start c.args.book.now c.args.store.now c.args.call c.start.result c.requires.call.live.0 c.new-view.result c.requires.call.stored c.requires.fresh c.requires.call.live.1 (c.start.ensures.value c.requires.call.live.0 c.requires.call.live.1) c.start.ensures.past c.new-view.ensures
 
-task_at : (c : goal.After-from_residual) → IsLiveTask c.args.book.now.script c.args.book.now.course.order c.args.call c.requires.live.0 c.args.running.now
-task_at c = c.requires.task c.requires.live.0 c.requires.live.1
+task_at : (c : goal.After-from_residual) → IsLiveTask c.args.book.now.script c.args.book.now.course.order c.args.call c.requires.call.live.0 c.args.running.now
+task_at c = c.requires.call.task c.requires.call.live.0 c.requires.call.live.1
 
 pub returns-in_err-run_next-clause-task : goal.returns-in_err-run_next-clause-task
 returns-in_err-run_next-clause-task c l live =
     let same = ap length c.in_err-run_next.ensures.err.records in
-    subst (λ (x : Live). IsLiveTask c.args.book.now.script c.args.book.now.course.order c.args.call x (record { task = c.run_next.new.task; count = c.args.running.now.count })) (one_live c.args.book.now.course c.args.call c.requires.live.0 l c.requires.live.1 live)
-    (task_kept c.args.book.now.script c.args.book.now.course.order c.args.call c.requires.live.0 c.args.running.now c.run_next.new.task (task_at c)
-    (runs_back c.args.book.now c.args.call c.requires.live.0.start c.script.result.now c.new-view.result c.run_next.new.task c.script.ensures (refused c) c.in_err-run_next.ensures.runs)
+    subst (λ (x : Live). IsLiveTask c.args.book.now.script c.args.book.now.course.order c.args.call x (record { task = c.run_next.new.task; count = c.args.running.now.count })) (one_live c.args.book.now.course c.args.call c.requires.call.live.0 l c.requires.call.live.1 live)
+    (task_kept c.args.book.now.script c.args.book.now.course.order c.args.call c.requires.call.live.0 c.args.running.now c.run_next.new.task (task_at c)
+    (runs_back c.args.book.now c.args.call c.requires.call.live.0.start c.script.result.now c.new-view.result c.run_next.new.task c.script.ensures (refused c) c.in_err-run_next.ensures.runs)
     (omega (arith, same)))
 
-ran : (c : goal.In_ok-run_next) → Shows c.args.book.now.script c.args.book.now.course.order c.requires.live.0.start c.new-view.result
-ran c = shows_start c.args.book.now c.args.store.now c.args.call c.start.result c.requires.live.0 c.new-view.result c.requires.stored c.requires.fresh c.requires.live.1 (c.start.ensures.value c.requires.live.0 c.requires.live.1) c.start.ensures.past c.new-view.ensures
+ran : (c : goal.In_ok-run_next) → Shows c.args.book.now.script c.args.book.now.course.order c.requires.call.live.0.start c.new-view.result
+ran c = shows_start c.args.book.now c.args.store.now c.args.call c.start.result c.requires.call.live.0 c.new-view.result c.requires.call.stored c.requires.fresh c.requires.call.live.1 (c.start.ensures.value c.requires.call.live.0 c.requires.call.live.1) c.start.ensures.past c.new-view.ensures
 
-task_on : (c : goal.In_ok-run_next) → IsLiveTask c.args.book.now.script c.args.book.now.course.order c.args.call c.requires.live.0 c.args.running.now
-task_on c = c.requires.task c.requires.live.0 c.requires.live.1
+task_on : (c : goal.In_ok-run_next) → IsLiveTask c.args.book.now.script c.args.book.now.course.order c.args.call c.requires.call.live.0 c.args.running.now
+task_on c = c.requires.call.task c.requires.call.live.0 c.requires.call.live.1
 
 one_more : (c : goal.In_ok-run_next) → HasRunOne c.args.running.now.task c.run_next.new.task
 one_more c =
     let few = c.if-records-steps.true in
     let many = ap length c.records.ensures in
-    let steps = c.steps.ensures c.requires.live.0 c.requires.live.1 in
-    c.in_ok-run_next.ensures.ran (goes_on c.args.book.now.script c.args.book.now.course c.args.call c.requires.live.0 c.args.running.now.task c.requires.stored.script c.requires.number (task_on c).runs
-    (omega (arith, few, many, steps)) (c.requires.left c.requires.live.0 c.requires.live.1))
+    let steps = c.steps.ensures c.requires.call.live.0 c.requires.call.live.1 in
+    c.in_ok-run_next.ensures.ran (goes_on c.args.book.now.script c.args.book.now.course c.args.call c.requires.call.live.0 c.args.running.now.task c.requires.call.stored.script c.requires.call.number (task_on c).runs
+    (omega (arith, few, many, steps)) (c.requires.left c.requires.call.live.0 c.requires.call.live.1))
 
 pub returns-in_ok-run_next-clause-ok : goal.returns-in_ok-run_next-clause-ok
 returns-in_ok-run_next-clause-ok c l live =
-    subst (λ (x : Live). IsLiveTask c.args.book.now.script c.args.book.now.course.order c.args.call (record x { steps = x.steps + 1 }) (record { task = c.run_next.new.task; count = c.args.running.now.count })) (one_live c.args.book.now.course c.args.call c.requires.live.0 l c.requires.live.1 live)
-    (task_ran c.args.book.now.script c.args.book.now.course.order c.args.call c.requires.live.0 c.args.running.now c.run_next.new.task (task_on c)
-    (runs_back c.args.book.now c.args.call c.requires.live.0.start c.script.result.now c.new-view.result c.run_next.new.task c.script.ensures (ran c) c.in_ok-run_next.ensures.runs)
+    subst (λ (x : Live). IsLiveTask c.args.book.now.script c.args.book.now.course.order c.args.call (record x { steps = x.steps + 1 }) (record { task = c.run_next.new.task; count = c.args.running.now.count })) (one_live c.args.book.now.course c.args.call c.requires.call.live.0 l c.requires.call.live.1 live)
+    (task_ran c.args.book.now.script c.args.book.now.course.order c.args.call c.requires.call.live.0 c.args.running.now c.run_next.new.task (task_on c)
+    (runs_back c.args.book.now c.args.call c.requires.call.live.0.start c.script.result.now c.new-view.result c.run_next.new.task c.script.ensures (ran c) c.in_ok-run_next.ensures.runs)
     (one_more c))
 
 pub returns-in_ok-run_next-clause-task : goal.returns-in_ok-run_next-clause-task
 returns-in_ok-run_next-clause-task c l live =
     let more = (one_more c).records in
-    subst (λ (x : Live). IsLiveTask c.args.book.now.script c.args.book.now.course.order c.args.call x (record { task = c.run_next.new.task; count = c.args.running.now.count })) (one_live c.args.book.now.course c.args.call c.requires.live.0 l c.requires.live.1 live)
-    (task_kept c.args.book.now.script c.args.book.now.course.order c.args.call c.requires.live.0 c.args.running.now c.run_next.new.task (task_on c)
-    (runs_back c.args.book.now c.args.call c.requires.live.0.start c.script.result.now c.new-view.result c.run_next.new.task c.script.ensures (ran c) c.in_ok-run_next.ensures.runs)
+    subst (λ (x : Live). IsLiveTask c.args.book.now.script c.args.book.now.course.order c.args.call x (record { task = c.run_next.new.task; count = c.args.running.now.count })) (one_live c.args.book.now.course c.args.call c.requires.call.live.0 l c.requires.call.live.1 live)
+    (task_kept c.args.book.now.script c.args.book.now.course.order c.args.call c.requires.call.live.0 c.args.running.now c.run_next.new.task (task_on c)
+    (runs_back c.args.book.now c.args.call c.requires.call.live.0.start c.script.result.now c.new-view.result c.run_next.new.task c.script.ensures (ran c) c.in_ok-run_next.ensures.runs)
     (omega (arith, more)))
 
 pub returns-else-records-steps-clause-ok : goal.returns-else-records-steps-clause-ok
@@ -63,4 +63,4 @@ returns-else-records-steps-clause-ok c l live =
     let few = c.if-records-steps.false in
     let many = ap length c.records.ensures in
     let steps = c.steps.ensures l live in
-    task_named c.args.book.now.script c.args.book.now.course.order c.args.call l c.args.running.now (c.requires.task l live) (λ le. omega (arith, few, le, many, steps))
+    task_named c.args.book.now.script c.args.book.now.course.order c.args.call l c.args.running.now (c.requires.call.task l live) (λ le. omega (arith, few, le, many, steps))

@@ -5,7 +5,7 @@ use Rattle.mv_journal.specs.declared.outcome.Mark.TheVariants.{Plain, Exclusive}
 use Rattle.mv_lawful.specs.Lawful.{Course, has_round, again}
 use Rattle.mv_core.specs.Books.{work_in}
 use Rattle.mv_core.proofs.Stored.{stored_made, stored_on}
-use Rattle.mv_core.proofs.Taking.{task_there, task_read, call_within, tasks_set, tasks_same, task_again, number_repaired, restarted_on}
+use Rattle.mv_core.proofs.Taking.{task_there, tasks_same, task_again, number_repaired, restarted_on, running_in, core_set}
 use Rattle.mv_core.proofs.Refusing.{repairs_again}
 use Rattle.mv_core.specs.Cores.{HasTurns}
 use Rattle.mv_core.proofs.Changed.{core_same, allowed_same, live_in, made_from, room_less, live_now, live_restarted, due_restarted, due_same, fresh_now, fresh_now_allowed, made_now, made_then}
@@ -19,23 +19,16 @@ unreachable-requires c =
     let k = core_same c.self.inside.book c.reserve.new.self c.self.inside.store c.self.inside.tasks.items c.self.invariant c.reserve.ensures.same in
     task_there c.reserve.new.self.script c.reserve.new.self.course c.self.inside.tasks.items c.args.call c.index_mut.result.now k.tasks (live_now c.self.inside.book c.args.self.now c.reserve.new.self c.args.call c.self.view_is c.requires.live c.reserve.ensures.same) c.index_mut.ensures.value c.in_default.is
 
-pub repair_task-requires-clause-number : goal.repair_task-requires-clause-number
-repair_task-requires-clause-number c =
+pub rerun_task-requires-clause-call : goal.rerun_task-requires-clause-call
+rerun_task-requires-clause-call c =
     let k = core_same c.self.inside.book c.reserve.new.self c.self.inside.store c.self.inside.tasks.items c.self.invariant c.reserve.ensures.same in
-    call_within c.reserve.new.self.script c.reserve.new.self.course c.self.inside.tasks.items c.args.call k.tasks (live_now c.self.inside.book c.args.self.now c.reserve.new.self c.args.call c.self.view_is c.requires.live c.reserve.ensures.same)
-
-pub repair_task-requires-clause-task : goal.repair_task-requires-clause-task
-repair_task-requires-clause-task c =
-    let k = core_same c.self.inside.book c.reserve.new.self c.self.inside.store c.self.inside.tasks.items c.self.invariant c.reserve.ensures.same in
-    task_read c.reserve.new.self.script c.reserve.new.self.course c.self.inside.tasks.items c.args.call c.index_mut.result.now c.in-Some.running k.tasks c.index_mut.ensures.value c.in-Some.is
+    running_in c.reserve.new.self c.self.inside.store c.self.inside.tasks.items c.args.call c.index_mut.result.now c.in-Some.running k
+    (live_now c.self.inside.book c.args.self.now c.reserve.new.self c.args.call c.self.view_is c.requires.live c.reserve.ensures.same) c.index_mut.ensures.value c.in-Some.is
 
 pub invariant_of-self-in_err-number : goal.invariant_of-self-in_err-number
 invariant_of-self-in_err-number c =
     let k = core_same c.self.inside.book c.reserve.new.self c.self.inside.store c.self.inside.tasks.items c.self.invariant c.reserve.ensures.same in
-    record {
-      stored = k.stored;
-      tasks = tasks_set c.reserve.new.self.script c.reserve.new.self.course c.self.inside.tasks.items c.args.call c.repair_task.new.running k.tasks (live_now c.self.inside.book c.args.self.now c.reserve.new.self c.args.call c.self.view_is c.requires.live c.reserve.ensures.same) c.in_err-number.ensures.err;
-    }
+    core_set c.reserve.new.self c.self.inside.store c.self.inside.tasks.items c.args.call c.rerun_task.new.running k (live_now c.self.inside.book c.args.self.now c.reserve.new.self c.args.call c.self.view_is c.requires.live c.reserve.ensures.same) c.in_err-number.ensures.err
 
 pub restart-requires-clause-allowed : goal.restart-requires-clause-allowed
 restart-requires-clause-allowed c =
@@ -57,7 +50,7 @@ settle_as-requires-2-clause-number c =
     let k = core_same c.self.inside.book c.reserve.new.self c.self.inside.store c.self.inside.tasks.items c.self.invariant c.reserve.ensures.same in
     let live = live_now c.self.inside.book c.args.self.now c.reserve.new.self c.args.call c.self.view_is c.requires.live c.reserve.ensures.same in
     let turns : HasTurns (length c.reserve.new.self.course.order) live.0 = (k.tasks.running c.args.call live.0 live.1).2.turns in
-    due_restarted Plain c.reserve.new.self c.restart.new.self c.args.call live.0 apart live.1 turns (made_from (A c.args.call) c.reserve.new.self c.settle_as.new.self c.restart.new.self c.settle_as.ensures.script c.settle_as.ensures.course c.settle_as.ensures.journal c.restart.ensures.made) ∙ ap Some (sym (number_repaired c.reserve.new.self.script c.reserve.new.self.course.order c.args.call c.number-executed.result live.0 c.repair_task.new.running (c.in_ok-number.ensures.ok live.0 live.1) c.number-executed.ensures))
+    due_restarted Plain c.reserve.new.self c.restart.new.self c.args.call live.0 apart live.1 turns (made_from (A c.args.call) c.reserve.new.self c.settle_as.new.self c.restart.new.self c.settle_as.ensures.script c.settle_as.ensures.course c.settle_as.ensures.journal c.restart.ensures.made) ∙ ap Some (sym (number_repaired c.reserve.new.self.script c.reserve.new.self.course.order c.args.call c.number-executed.result live.0 c.rerun_task.new.running (c.in_ok-number.ensures.ok live.0 live.1) c.number-executed.ensures))
 
 pub invariant_of-self-2 : goal.invariant_of-self-2
 invariant_of-self-2 c =
@@ -69,8 +62,8 @@ invariant_of-self-2 c =
           (stored_made (A c.args.call) c.reserve.new.self c.restart.new.self c.self.inside.store k.stored (made_from (A c.args.call) c.reserve.new.self c.settle_as.new.self c.restart.new.self c.settle_as.ensures.script c.settle_as.ensures.course c.settle_as.ensures.journal c.restart.ensures.made) refl refl) c.settle_as-2.ensures.script
           (ap (λ (s : Course). s.order) c.settle_as-2.ensures.course) (ap (λ (s : Course). s.low) c.settle_as-2.ensures.course);
       tasks = tasks_same c.restart.new.self.script c.settle_as-2.new.self.script c.restart.new.self.course c.settle_as-2.new.self.course _
-          (restarted_on Plain c.reserve.new.self c.restart.new.self c.self.inside.tasks.items c.args.call live.0 c.repair_task.new.running apart k.tasks live.1 (made_from (A c.args.call) c.reserve.new.self c.settle_as.new.self c.restart.new.self c.settle_as.ensures.script c.settle_as.ensures.course c.settle_as.ensures.journal c.restart.ensures.made)
-          (task_again c.reserve.new.self.script c.reserve.new.self.course.order c.args.call live.0 c.repair_task.new.running turns (c.in_ok-number.ensures.ok live.0 live.1)))
+          (restarted_on Plain c.reserve.new.self c.restart.new.self c.self.inside.tasks.items c.args.call live.0 c.rerun_task.new.running apart k.tasks live.1 (made_from (A c.args.call) c.reserve.new.self c.settle_as.new.self c.restart.new.self c.settle_as.ensures.script c.settle_as.ensures.course c.settle_as.ensures.journal c.restart.ensures.made)
+          (task_again c.reserve.new.self.script c.reserve.new.self.course.order c.args.call live.0 c.rerun_task.new.running turns (c.in_ok-number.ensures.ok live.0 live.1)))
           c.settle_as-2.ensures.script c.settle_as-2.ensures.course;
     }
 
@@ -82,5 +75,5 @@ returns c =
       made_then (A c.args.call) c.args.self.now c.restart.new.self c.settle_as-2.new.self
           (made_now (A c.args.call) c.self.inside.book c.args.self.now c.reserve.new.self c.restart.new.self c.self.view_is c.reserve.ensures.same (made_from (A c.args.call) c.reserve.new.self c.settle_as.new.self c.restart.new.self c.settle_as.ensures.script c.settle_as.ensures.course c.settle_as.ensures.journal c.restart.ensures.made)) c.settle_as-2.ensures.script c.settle_as-2.ensures.course c.settle_as-2.ensures.journal,
       due_same c.restart.new.self c.settle_as-2.new.self c.args.call c.number-executed.result c.settle_as-2.ensures.script c.settle_as-2.ensures.course
-          (due_restarted Plain c.reserve.new.self c.restart.new.self c.args.call live.0 apart live.1 turns (made_from (A c.args.call) c.reserve.new.self c.settle_as.new.self c.restart.new.self c.settle_as.ensures.script c.settle_as.ensures.course c.settle_as.ensures.journal c.restart.ensures.made) ∙ ap Some (sym (number_repaired c.reserve.new.self.script c.reserve.new.self.course.order c.args.call c.number-executed.result live.0 c.repair_task.new.running (c.in_ok-number.ensures.ok live.0 live.1) c.number-executed.ensures))),
+          (due_restarted Plain c.reserve.new.self c.restart.new.self c.args.call live.0 apart live.1 turns (made_from (A c.args.call) c.reserve.new.self c.settle_as.new.self c.restart.new.self c.settle_as.ensures.script c.settle_as.ensures.course c.settle_as.ensures.journal c.restart.ensures.made) ∙ ap Some (sym (number_repaired c.reserve.new.self.script c.reserve.new.self.course.order c.args.call c.number-executed.result live.0 c.rerun_task.new.running (c.in_ok-number.ensures.ok live.0 live.1) c.number-executed.ensures))),
     )

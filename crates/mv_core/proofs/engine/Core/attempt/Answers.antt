@@ -1,5 +1,5 @@
 use Rattle.std.proofs.Common.{rules, ◌<◌, None, Ok, length, subst}
-use Rattle.mv_core.proofs.Taking.{task_there, task_read, task_within, due_now, call_within, tasks_set, tasks_same, committed_on}
+use Rattle.mv_core.proofs.Taking.{task_there, task_within, due_now, call_within, tasks_set, tasks_same, committed_on, running_in, core_set}
 use Rattle.mv_core.proofs.Stored.{last_records}
 use Rattle.mv_core.proofs.Changed.{live_in, free_told, hit_told, stale_told, same_self}
 use Rattle.mv_core.specs.declared.engine.Attempt.TheVariants as attempt
@@ -11,18 +11,12 @@ pub unreachable-requires : goal.unreachable-requires
 unreachable-requires c =
     task_there c.self.inside.book.script c.self.inside.book.course c.self.inside.tasks.items c.args.call c.index_mut.result.now c.self.invariant.tasks (live_in c.self.inside.book c.args.self.now c.args.call c.self.view_is c.requires) c.index_mut.ensures.value c.in_default.is
 
-pub validate_task-requires-clause-number : goal.validate_task-requires-clause-number
-validate_task-requires-clause-number c = call_within c.self.inside.book.script c.self.inside.book.course c.self.inside.tasks.items c.args.call c.self.invariant.tasks (live_in c.self.inside.book c.args.self.now c.args.call c.self.view_is c.requires)
-
-pub validate_task-requires-clause-task : goal.validate_task-requires-clause-task
-validate_task-requires-clause-task c =
-    task_read c.self.inside.book.script c.self.inside.book.course c.self.inside.tasks.items c.args.call c.index_mut.result.now c.in-Some.running c.self.invariant.tasks c.index_mut.ensures.value c.in-Some.is
+pub validate_task-requires-clause-call : goal.validate_task-requires-clause-call
+validate_task-requires-clause-call c =
+    running_in c.self.inside.book c.self.inside.store c.self.inside.tasks.items c.args.call c.index_mut.result.now c.in-Some.running c.self.invariant (live_in c.self.inside.book c.args.self.now c.args.call c.self.view_is c.requires) c.index_mut.ensures.value c.in-Some.is
 
 pub invariant_of-self : goal.invariant_of-self
-invariant_of-self c = record {
-  stored = c.self.invariant.stored;
-  tasks = tasks_set c.self.inside.book.script c.self.inside.book.course c.self.inside.tasks.items c.args.call c.validate_task.new.running c.self.invariant.tasks (live_in c.self.inside.book c.args.self.now c.args.call c.self.view_is c.requires) c.validate_task.ensures.task;
-}
+invariant_of-self c = core_set c.self.inside.book c.self.inside.store c.self.inside.tasks.items c.args.call c.validate_task.new.running c.self.invariant (live_in c.self.inside.book c.args.self.now c.args.call c.self.view_is c.requires) c.validate_task.ensures.task
 
 pub commit_task-requires-clause-number : goal.commit_task-requires-clause-number
 commit_task-requires-clause-number c = call_within c.self.inside.book.script c.self.inside.book.course c.self.inside.tasks.items c.args.call c.self.invariant.tasks (live_in c.self.inside.book c.args.self.now c.args.call c.self.view_is c.requires)
@@ -48,16 +42,10 @@ invariant_of-self-in-Free c =
     }
 
 pub invariant_of-self-in-Hit : goal.invariant_of-self-in-Hit
-invariant_of-self-in-Hit c = record {
-  stored = c.self.invariant.stored;
-  tasks = tasks_set c.self.inside.book.script c.self.inside.book.course c.self.inside.tasks.items c.args.call c.validate_task.new.running c.self.invariant.tasks (live_in c.self.inside.book c.args.self.now c.args.call c.self.view_is c.requires) c.validate_task.ensures.task;
-}
+invariant_of-self-in-Hit c = core_set c.self.inside.book c.self.inside.store c.self.inside.tasks.items c.args.call c.validate_task.new.running c.self.invariant (live_in c.self.inside.book c.args.self.now c.args.call c.self.view_is c.requires) c.validate_task.ensures.task
 
 pub invariant_of-self-in-Stale : goal.invariant_of-self-in-Stale
-invariant_of-self-in-Stale c = record {
-  stored = c.self.invariant.stored;
-  tasks = tasks_set c.self.inside.book.script c.self.inside.book.course c.self.inside.tasks.items c.args.call c.validate_task.new.running c.self.invariant.tasks (live_in c.self.inside.book c.args.self.now c.args.call c.self.view_is c.requires) c.validate_task.ensures.task;
-}
+invariant_of-self-in-Stale c = core_set c.self.inside.book c.self.inside.store c.self.inside.tasks.items c.args.call c.validate_task.new.running c.self.invariant (live_in c.self.inside.book c.args.self.now c.args.call c.self.view_is c.requires) c.validate_task.ensures.task
 
 pub commit_task-requires-clause-whole : goal.commit_task-requires-clause-whole
 commit_task-requires-clause-whole c =

@@ -3,7 +3,7 @@ use Rattle.mv_journal.specs.declared.event.Event.TheVariants.{X}
 use Rattle.std.specs.Prelude.{not}
 use Rattle.mv_lawful.specs.Lawful.{has_round}
 use Rattle.mv_core.specs.Books.{work_in}
-use Rattle.mv_core.proofs.Taking.{task_there, task_read, task_within, call_within, tasks_set, tasks_same, decided_on}
+use Rattle.mv_core.proofs.Taking.{task_there, task_within, tasks_set, tasks_same, decided_on, running_in}
 use Rattle.mv_core.proofs.Refusing.{repairs_last}
 use Rattle.mv_core.proofs.Changed.{live_in, fresh_now, fresh_now_allowed}
 use Rattle.mv_core.proofs.engine.Core.exclusive.Goals as goal
@@ -12,12 +12,9 @@ pub unreachable-requires : goal.unreachable-requires
 unreachable-requires c =
     task_there c.self.inside.book.script c.self.inside.book.course c.self.inside.tasks.items c.args.call c.index_mut.result.now c.self.invariant.tasks (live_in c.self.inside.book c.args.self.now c.args.call c.self.view_is c.requires.live) c.index_mut.ensures.value c.in_default.is
 
-pub decide_task-requires-clause-number : goal.decide_task-requires-clause-number
-decide_task-requires-clause-number c = call_within c.self.inside.book.script c.self.inside.book.course c.self.inside.tasks.items c.args.call c.self.invariant.tasks (live_in c.self.inside.book c.args.self.now c.args.call c.self.view_is c.requires.live)
-
-pub decide_task-requires-clause-task : goal.decide_task-requires-clause-task
-decide_task-requires-clause-task c =
-    task_read c.self.inside.book.script c.self.inside.book.course c.self.inside.tasks.items c.args.call c.index_mut.result.now c.in-Some.running c.self.invariant.tasks c.index_mut.ensures.value c.in-Some.is
+pub decide_task-requires-clause-call : goal.decide_task-requires-clause-call
+decide_task-requires-clause-call c =
+    running_in c.self.inside.book c.self.inside.store c.self.inside.tasks.items c.args.call c.index_mut.result.now c.in-Some.running c.self.invariant (live_in c.self.inside.book c.args.self.now c.args.call c.self.view_is c.requires.live) c.index_mut.ensures.value c.in-Some.is
 
 pub decide_task-requires-clause-allowed : goal.decide_task-requires-clause-allowed
 decide_task-requires-clause-allowed c =

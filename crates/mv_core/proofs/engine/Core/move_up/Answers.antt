@@ -1,13 +1,13 @@
-use Rattle.std.proofs.Common.{rules, ◌<◌, Some, length, ap, sym, ◌∙◌, refl}
+use Rattle.std.proofs.Common.{rules, ◌<◌, Some, length, ap, sym, subst, ◌∙◌, refl}
 use Rattle.std.specs.Prelude.{◌≢◌}
 use Rattle.mv_journal.specs.declared.event.Event.TheVariants.{M}
 use Rattle.mv_journal.specs.declared.outcome.Mark.TheVariants.{Moved, Exclusive}
-use Rattle.mv_lawful.specs.Work.{records_at}
+use Rattle.mv_lawful.specs.Work.{records_at, table_at}
 use Rattle.mv_lawful.specs.Lawful.{Course, again}
 use Rattle.mv_core.specs.declared.script.Script.{Script}
 use Rattle.mv_core.specs.Scripts.{work_of}
 use Rattle.mv_core.specs.Books.{Booked, work_in}
-use Rattle.mv_core.specs.Cores.{HasTurns}
+use Rattle.mv_core.specs.Cores.{HasTurns, RunsOn}
 use Rattle.mv_core.proofs.Stored.{stored_made, stored_on}
 use Rattle.mv_core.proofs.Taking.{task_within, tasks_same, task_moved, restarted_on}
 use Rattle.mv_core.proofs.Changed.{core_same, live_now, live_restarted, due_restarted, made_now, made_then}
@@ -27,7 +27,7 @@ settle-requires-clause-number c =
     let live = live_now c.self.inside.book c.args.self.now c.reserve.new.self c.args.call c.self.view_is c.requires c.reserve.ensures.same in
     let turns : HasTurns (length c.reserve.new.self.course.order) live.0 = (k.tasks.running c.args.call live.0 live.1).2.turns in
     due_restarted Moved c.reserve.new.self c.restart.new.self c.args.call live.0 apart live.1 turns c.restart.ensures.made
-    ∙ ap Some (sym (c.in_ok-task.ensures.executed ∙ ap length c.in_ok-task.ensures.records))
+    ∙ ap Some (sym (c.in_ok-task.ensures.executed ∙ (ap length c.in_ok-task.ensures.records ∙ ap (λ n. length (records_at (work_in c.reserve.new.self) c.reserve.new.self.course.order n c.args.call)) c.commits.ensures)))
 
 pub index_mut-requires : goal.index_mut-requires
 index_mut-requires c =
@@ -47,7 +47,8 @@ invariant_of-self-2 c =
           (ap (λ (s : Course). s.order) c.settle.ensures.course) (ap (λ (s : Course). s.low) c.settle.ensures.course);
       tasks = tasks_same c.restart.new.self.script c.settle.new.self.script c.restart.new.self.course c.settle.new.self.course _
           (restarted_on Moved c.reserve.new.self c.restart.new.self c.self.inside.tasks.items c.args.call live.0 _ apart k.tasks live.1 c.restart.ensures.made
-          (task_moved c.reserve.new.self.script c.reserve.new.self.course.order c.args.call live.0 c.in_ok-task.task turns c.in_ok-task.ensures.runs))
+          (task_moved c.reserve.new.self.script c.reserve.new.self.course.order c.args.call live.0 c.in_ok-task.task turns
+          (subst (λ n. RunsOn c.reserve.new.self.script c.args.call (table_at (work_in c.reserve.new.self) c.reserve.new.self.course.order n) c.in_ok-task.task) c.commits.ensures c.in_ok-task.ensures.runs)))
           c.settle.ensures.script c.settle.ensures.course;
     }
 
@@ -55,7 +56,7 @@ pub returns : goal.returns
 returns c = (
   made_then (M c.args.call) c.args.self.now c.restart.new.self c.settle.new.self
       (made_now (M c.args.call) c.self.inside.book c.args.self.now c.reserve.new.self c.restart.new.self c.self.view_is c.reserve.ensures.same c.restart.ensures.made) c.settle.ensures.script c.settle.ensures.course c.settle.ensures.journal,
-  c.executed-executed.ensures ∙ (c.in_ok-task.ensures.executed ∙ (ap length c.in_ok-task.ensures.records
+  c.executed-executed.ensures ∙ (c.in_ok-task.ensures.executed ∙ ((ap length c.in_ok-task.ensures.records ∙ ap (λ n. length (records_at (work_in c.reserve.new.self) c.reserve.new.self.course.order n c.args.call)) c.commits.ensures)
       ∙ (ap (λ (s : Script). length (records_at (work_of s) c.reserve.new.self.course.order (length c.reserve.new.self.course.order) c.args.call)) c.reserve.ensures.same.script
       ∙ (ap (λ (s : Course). length (records_at (work_in c.self.inside.book) s.order (length s.order) c.args.call)) c.reserve.ensures.same.course
       ∙ ap (λ (b : Booked). length (records_at (work_in b) b.course.order (length b.course.order) c.args.call)) c.self.view_is)))),

@@ -5,7 +5,7 @@ use Rattle.mv_lawful.specs.Lawful.{used}
 use Rattle.mv_exec.specs.Running.{stepped}
 use Rattle.mv_core.specs.Books.{work_in}
 use Rattle.mv_core.proofs.Stored.{stored_made}
-use Rattle.mv_core.proofs.Taking.{task_there, task_read, call_within, tasks_set, stepped_on}
+use Rattle.mv_core.proofs.Taking.{task_there, call_within, stepped_on, running_in, core_set}
 use Rattle.mv_core.proofs.Changed.{core_same, live_now, step_now, step_used, live_stepped, step_told, made_now}
 use Rattle.mv_core.proofs.engine.Core.step.Goals as goal
 
@@ -15,25 +15,16 @@ unreachable-requires c =
     task_there c.reserve.new.self.script c.reserve.new.self.course c.self.inside.tasks.items c.args.call c.index_mut.result.now k.tasks
     (live_now c.self.inside.book c.args.self.now c.reserve.new.self c.args.call c.self.view_is c.requires.live c.reserve.ensures.same) c.index_mut.ensures.value c.in_default.is
 
-pub step_task-requires-clause-number : goal.step_task-requires-clause-number
-step_task-requires-clause-number c =
+pub step_task-requires-clause-call : goal.step_task-requires-clause-call
+step_task-requires-clause-call c =
     let k = core_same c.self.inside.book c.reserve.new.self c.self.inside.store c.self.inside.tasks.items c.self.invariant c.reserve.ensures.same in
-    call_within c.reserve.new.self.script c.reserve.new.self.course c.self.inside.tasks.items c.args.call k.tasks
-    (live_now c.self.inside.book c.args.self.now c.reserve.new.self c.args.call c.self.view_is c.requires.live c.reserve.ensures.same)
-
-pub step_task-requires-clause-task : goal.step_task-requires-clause-task
-step_task-requires-clause-task c =
-    let k = core_same c.self.inside.book c.reserve.new.self c.self.inside.store c.self.inside.tasks.items c.self.invariant c.reserve.ensures.same in
-    task_read c.reserve.new.self.script c.reserve.new.self.course c.self.inside.tasks.items c.args.call c.index_mut.result.now c.in-Some.running k.tasks c.index_mut.ensures.value c.in-Some.is
+    running_in c.reserve.new.self c.self.inside.store c.self.inside.tasks.items c.args.call c.index_mut.result.now c.in-Some.running k
+    (live_now c.self.inside.book c.args.self.now c.reserve.new.self c.args.call c.self.view_is c.requires.live c.reserve.ensures.same) c.index_mut.ensures.value c.in-Some.is
 
 pub invariant_of-self-in_err-step_task : goal.invariant_of-self-in_err-step_task
 invariant_of-self-in_err-step_task c =
     let k = core_same c.self.inside.book c.reserve.new.self c.self.inside.store c.self.inside.tasks.items c.self.invariant c.reserve.ensures.same in
-    record {
-      stored = k.stored;
-      tasks = tasks_set c.reserve.new.self.script c.reserve.new.self.course c.self.inside.tasks.items c.args.call c.step_task.new.running k.tasks
-          (live_now c.self.inside.book c.args.self.now c.reserve.new.self c.args.call c.self.view_is c.requires.live c.reserve.ensures.same) c.in_err-step_task.ensures.task;
-    }
+    core_set c.reserve.new.self c.self.inside.store c.self.inside.tasks.items c.args.call c.step_task.new.running k (live_now c.self.inside.book c.args.self.now c.reserve.new.self c.args.call c.self.view_is c.requires.live c.reserve.ensures.same) c.in_err-step_task.ensures.task
 
 pub steps-requires : goal.steps-requires
 steps-requires c =

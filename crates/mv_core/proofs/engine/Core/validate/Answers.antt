@@ -1,4 +1,4 @@
-use Rattle.mv_core.proofs.Taking.{task_there, task_read, call_within, tasks_set}
+use Rattle.mv_core.proofs.Taking.{task_there, running_in, core_set}
 use Rattle.mv_core.proofs.Changed.{live_in}
 use Rattle.mv_core.proofs.engine.Core.validate.Goals as goal
 
@@ -6,15 +6,9 @@ pub unreachable-requires : goal.unreachable-requires
 unreachable-requires c =
     task_there c.self.inside.book.script c.self.inside.book.course c.self.inside.tasks.items c.args.call c.index_mut.result.now c.self.invariant.tasks (live_in c.self.inside.book c.args.self.now c.args.call c.self.view_is c.requires) c.index_mut.ensures.value c.in_default.is
 
-pub validate_task-requires-clause-number : goal.validate_task-requires-clause-number
-validate_task-requires-clause-number c = call_within c.self.inside.book.script c.self.inside.book.course c.self.inside.tasks.items c.args.call c.self.invariant.tasks (live_in c.self.inside.book c.args.self.now c.args.call c.self.view_is c.requires)
-
-pub validate_task-requires-clause-task : goal.validate_task-requires-clause-task
-validate_task-requires-clause-task c =
-    task_read c.self.inside.book.script c.self.inside.book.course c.self.inside.tasks.items c.args.call c.index_mut.result.now c.in-Some.running c.self.invariant.tasks c.index_mut.ensures.value c.in-Some.is
+pub validate_task-requires-clause-call : goal.validate_task-requires-clause-call
+validate_task-requires-clause-call c =
+    running_in c.self.inside.book c.self.inside.store c.self.inside.tasks.items c.args.call c.index_mut.result.now c.in-Some.running c.self.invariant (live_in c.self.inside.book c.args.self.now c.args.call c.self.view_is c.requires) c.index_mut.ensures.value c.in-Some.is
 
 pub invariant_of-self : goal.invariant_of-self
-invariant_of-self c = record {
-  stored = c.self.invariant.stored;
-  tasks = tasks_set c.self.inside.book.script c.self.inside.book.course c.self.inside.tasks.items c.args.call c.validate_task.new.running c.self.invariant.tasks (live_in c.self.inside.book c.args.self.now c.args.call c.self.view_is c.requires) c.validate_task.ensures.task;
-}
+invariant_of-self c = core_set c.self.inside.book c.self.inside.store c.self.inside.tasks.items c.args.call c.validate_task.new.running c.self.invariant (live_in c.self.inside.book c.args.self.now c.args.call c.self.view_is c.requires) c.validate_task.ensures.task

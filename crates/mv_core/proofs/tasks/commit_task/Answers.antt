@@ -10,7 +10,7 @@ use Rattle.mv_core.specs.Told.{reply_told, writes_told}
 use Rattle.mv_core.specs.Books.{last_tables, Made, commit_event, own_number}
 use Rattle.mv_core.proofs.Stored.{stored_same, stored_dropped, stored_stamped, stored_committed, last_reply, last_made, last_same}
 use Rattle.mv_core.proofs.Changed.{made_from, due_same, own_same, room_less}
-use Rattle.mv_core.proofs.commit.commit_task.Goals as goal
+use Rattle.mv_core.proofs.tasks.commit_task.Goals as goal
 
 pub returns-in_err-put_told-clause-stored : goal.returns-in_err-put_told-clause-stored
 returns-in_err-put_told-clause-stored c =

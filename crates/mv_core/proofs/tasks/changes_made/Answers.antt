@@ -1,6 +1,6 @@
 use Rattle.std.proofs.Common.{length, ◌∙◌}
 use Rattle.mv_core.proofs.Stored.{Shows, shows_last, rising_shown, size_shown, like_last}
-use Rattle.mv_core.proofs.commit.changes_made.Goals as goal
+use Rattle.mv_core.proofs.tasks.changes_made.Goals as goal
 
 view : (c : goal.After-view-1) → Shows c.args.book.now.script c.args.book.now.course.order (length c.args.book.now.course.order) c.new-view.result
 view c = shows_last c.args.book.now c.args.store.now c.last.result c.new-view.result c.requires (c.last.ensures.last ∙ c.requires.last) c.new-view.ensures

@@ -5,7 +5,7 @@ use Rattle.mv_catalog.specs.Text.{Suits}
 use Rattle.mv_values.specs.declared.memory.NoMemory.{NoMemory}
 use Rattle.mv_exec.specs.declared.task.Task.{Task}
 use Rattle.mv_core.proofs.Taking.{call_there, graph_there, here_call, runs_on}
-use Rattle.mv_core.proofs.running.new_task.Goals as goal
+use Rattle.mv_core.proofs.tasks.new_task.Goals as goal
 
 pub unreachable-requires : goal.unreachable-requires
 unreachable-requires c = call_there c.args.script.now c.args.number c.requires.script c.requires.number (search (rules, c.call_at.ensures, c.in_default.not-Some))
