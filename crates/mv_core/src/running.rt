@@ -9,7 +9,7 @@ ghost use Rattle.mv_record.specs.Writes.{AreRising};
 ghost use Rattle.mv_graph.specs.declared.graph.Graph.{Graph};
 ghost use Rattle.mv_graph.specs.Nodes.{meaning_of};
 ghost use Rattle.mv_exec.specs.Running.{IsTaskOf, IsUnchanged, Leaves};
-ghost use Rattle.mv_core.specs.Scripts.{IsScript, work_of};
+ghost use Rattle.mv_core.specs.Scripts.{IsScript, IsCallOf, work_of};
 ghost use Rattle.mv_history.specs.Kept.{executions};
 ghost use Rattle.mv_repair.specs.Repairing.{changes_since};
 ghost use Rattle.mv_core.specs.Cores.{RunsOn, IsTaskFor, IsDatabaseIn, CanRepair, HasRunOne, CountsAll};
@@ -27,17 +27,39 @@ use mv_view::view::Refused;
 use std::alloc::Global;
 
 /// Returns the call of a number.
-pub(crate) fn call_at(script: &Script, number: u32) -> Option<&Call>
+fn call_at(script: &Script, number: u32) -> Option<&Call>
     ensures { option_copied result ≡ slice_get script.now.calls number }
 {
     script.calls.as_slice().get(number as usize)
 }
 
 /// Returns the graph of the procedure that a call names.
-pub(crate) fn graph_for<'g>(script: &'g Script, call: &Call) -> Option<&'g Graph>
+fn graph_for<'g>(script: &'g Script, call: &Call) -> Option<&'g Graph>
     ensures { option_copied result ≡ slice_get script.now.graphs call.now.procedure }
 {
     script.graphs.as_slice().get(call.procedure as usize)
+}
+
+/// A call of a script, and the graph of its procedure.
+#[derive(Drop)]
+pub(crate) struct Called<'s> {
+    pub(crate) call: &'s Call,
+    pub(crate) graph: &'s Graph,
+}
+
+/// Returns the call of a number with its graph.
+pub(crate) fn called(script: &Script, number: u32) -> Called<'_>
+    requires script { IsScript script.now }
+    requires number { number < length script.now.calls }
+    ensures { IsCallOf script.now number result.call.now result.graph.now }
+{
+    let Some(call) = call_at(script, number) else {
+        unreachable!();
+    };
+    let Some(graph) = graph_for(script, call) else {
+        unreachable!();
+    };
+    Called { call, graph }
 }
 
 /// Executes the next statement of a call of the script, over a view that isn't stale.
@@ -57,13 +79,8 @@ pub(crate) fn run_next(
     ensures ran { OnOk result (task.old.ended ≡ false → HasRunOne task.old task.new) }
     ensures err { OnErr result (IsUnchanged task.old task.new) }
 {
-    let Some(call) = call_at(script, number) else {
-        unreachable!();
-    };
-    let Some(graph) = graph_for(script, call) else {
-        unreachable!();
-    };
-    match next(alloc, graph, task, view) {
+    let at = called(script, number);
+    match next(alloc, at.graph, task, view) {
         Ok(_) => Ok(()),
         Err(Refused::NoMemory) => Err(NoMemory),
         Err(Refused::Stale { .. }) => unreachable!(),
@@ -88,13 +105,8 @@ pub(crate) fn run_all(
     ensures ended { OnOk result (task.new.ended ≡ true) }
     ensures counts { CountsAll task.old task.new }
 {
-    let Some(call) = call_at(script, number) else {
-        unreachable!();
-    };
-    let Some(graph) = graph_for(script, call) else {
-        unreachable!();
-    };
-    match finish(alloc, graph, task, view) {
+    let at = called(script, number);
+    match finish(alloc, at.graph, task, view) {
         Ok(()) => Ok(()),
         Err(Refused::NoMemory) => Err(NoMemory),
         Err(Refused::Stale { .. }) => unreachable!(),
@@ -121,13 +133,8 @@ pub(crate) fn repair_over(
     ensures records { OnOk result (task.new.records ≡ ((work_of script.now).run number view.old.database).records) }
     ensures executed { OnOk result (task.new.executed ≡ executions task.old.records task.new.records (changes_since since.now)) }
 {
-    let Some(call) = call_at(script, number) else {
-        unreachable!();
-    };
-    let Some(graph) = graph_for(script, call) else {
-        unreachable!();
-    };
-    match repair(alloc, graph, task, since, view) {
+    let at = called(script, number);
+    match repair(alloc, at.graph, task, since, view) {
         Ok(_) => Ok(()),
         Err(Refused::NoMemory) => Err(NoMemory),
         Err(Refused::Stale { .. }) => unreachable!(),
