@@ -1,6 +1,6 @@
 -- What stays of a history where no event is made, and a call after an event.
 use Rattle.std.proofs.Common.{◌≡◌, ℕ, ◌+◌, ◌<◌, ◌≤◌, Bool, true, false, List, [], ◌∷◌, ◌++◌, Option, Some, None, length, refl, sym, ap, subst, ◌∙◌, arith, rules}
-use Rattle.std.specs.Prelude.{slice_get, ◌==◌, ◌≢◌, IfSome, nat_le, nat_lt, nat_eq}
+use Rattle.std.specs.Prelude.{slice_get, ◌==◌, ◌≢◌, Ok, Err, not, IfSome, nat_le, nat_lt, nat_eq}
 use Rattle.std.specs.Option.{is_some}
 use Rattle.std.proofs.lemmas.Bool.Decides.{eqb_tells}
 use Rattle.mv_values.specs.declared.calls.Call.{Call}
@@ -11,7 +11,7 @@ use Rattle.mv_graph.specs.declared.graph.Graph.{Graph}
 use Rattle.mv_graph.specs.Nodes.{meaning_of}
 use Rattle.mv_exec.specs.Running.{IsTaskOf, Leaves}
 use Rattle.mv_journal.specs.declared.event.Event.{Event}
-use Rattle.mv_journal.specs.declared.event.Event.TheVariants.{S, C, X}
+use Rattle.mv_journal.specs.declared.event.Event.TheVariants.{S, A, C, X}
 use Rattle.mv_journal.specs.declared.outcome.Mark.{Mark}
 use Rattle.mv_journal.specs.declared.outcome.Mark.TheVariants.{Exclusive}
 use Rattle.mv_journal.specs.declared.outcome.Round.{Round}
@@ -28,14 +28,15 @@ use Rattle.mv_core.specs.Calls.{IsLive, IsLiveCall, last_number, due_number}
 use Rattle.mv_core.specs.Books.{Booked, work_in, Made, IsSame, round_event, IsOwnBy, IsOwnNumber, IsAnswer, HasRoom, IsNotStale}
 use Rattle.mv_core.specs.declared.book.Check.{Check}
 use Rattle.mv_core.specs.declared.book.Check.TheVariants as check
-use Rattle.mv_core.specs.Drives.{HasMade}
+use Rattle.mv_core.specs.Drives.{HasMade, TellsRound}
+use Rattle.mv_core.specs.declared.drive.Refusal.TheVariants.{Refused}
 use Rattle.mv_core.specs.Cores.{IsAllowedIfFresh, IsHitAt, IsStaleAt, IsLiveTask, HasTurns, HasStep, MayStep, IsStoreOf, IsCore}
 use Rattle.mv_core.proofs.Numbers.{repair_stays}
 use Rattle.mv_core.proofs.Journals.{changed_at, set_there}
 use Rattle.mv_core.proofs.Keeping.{restart_after}
 use Rattle.mv_core.proofs.Stored.{stored_same, at_least}
 use Rattle.mv_core.proofs.Taking.{both_true, tasks_same, due_live, number_again, one_live}
-use Rattle.mv_core.proofs.Refusing.{Repairs, step_is, same_made, refused_stale, fresh_allowed, told_idle, told_stale, told_hit}
+use Rattle.mv_core.proofs.Refusing.{Repairs, repairs_again, repairs_last, step_is, same_made, refused_stale, fresh_allowed, told_idle, told_stale, told_hit}
 use Rattle.mv_store.specs.Stored.{Versioned}
 
 -- No event
@@ -214,14 +215,14 @@ same_self b = record { script = refl; course = refl; rounds = refl; journal = re
 
 -- Whether a call is repaired
 
-pub idle_refused : (old new : Booked) (c : ℕ) (a : Check) (l : Live) (e : Event) (may : Bool) → IsSame old new → IsLive old.course c l → Repairs (work_in old) old.course c l e may
+idle_refused : (old new : Booked) (c : ℕ) (a : Check) (l : Live) (e : Event) (may : Bool) → IsSame old new → IsLive old.course c l → Repairs (work_in old) old.course c l e may
     → ((m : Live) → IsLive old.course c m → IsAnswer a (work_in old) old.course c m) → a ≡ check.Free → (refusal (work_in old) old.course e ≡ Some Idle) × HasMade [] old new
 idle_refused old new c a l e may same live r told is = (
   told_idle (work_in old) old.course c l e may live r (subst (λ (x : Check). IsAnswer x (work_in old) old.course c l) is (told l live)),
   same_made old new same,
 )
 
-pub stale_refused : (old new : Booked) (c start low : ℕ) (a : Check) (l : Live) (e : Event) (may : Bool) → IsSame old new → IsLive old.course c l → Repairs (work_in old) old.course c l e may
+stale_refused : (old new : Booked) (c start low : ℕ) (a : Check) (l : Live) (e : Event) (may : Bool) → IsSame old new → IsLive old.course c l → Repairs (work_in old) old.course c l e may
     → ((m : Live) → IsLive old.course c m → IsAnswer a (work_in old) old.course c m) → a ≡ check.Stale start low → (refusal (work_in old) old.course e ≡ Some Stale) × HasMade [] old new
 stale_refused old new c start low a l e may same live r told is = (
   told_stale (work_in old) old.course c start low l e may live r (subst (λ (x : Check). IsAnswer x (work_in old) old.course c l) is (told l live)),
@@ -233,20 +234,47 @@ hit_law : (old : Booked) (c number commit : ℕ) (a : Check) (l : Live) (e : Eve
 hit_law old c number commit a l e may live r told is =
     told_hit (work_in old) old.course c number commit l e may live r (subst (λ (x : Check). IsAnswer x (work_in old) old.course c l) is (told l live))
 
-pub rounds_refused : (old new : Booked) (c number commit : ℕ) (a : Check) (l : Live) (e : Event) (may : Bool) → IsSame old new → IsLive old.course c l → Repairs (work_in old) old.course c l e may
-    → ((m : Live) → IsLive old.course c m → IsAnswer a (work_in old) old.course c m) → a ≡ check.Hit number commit → may ≡ false → (refusal (work_in old) old.course e ≡ Some Rounds) × HasMade [] old new
-rounds_refused old new c number commit a l e may same live r told is none = (hit_law old c number commit a l e may live r told is ∙ ap (λ b. unless b Rounds None) none, same_made old new same)
-
-pub hit_allowed : (old new : Booked) (c number commit : ℕ) (a : Check) (l : Live) (e : Event) (may : Bool) → IsSame old new → IsLive old.course c l → Repairs (work_in old) old.course c l e may
-    → ((m : Live) → IsLive old.course c m → IsAnswer a (work_in old) old.course c m) → a ≡ check.Hit number commit → may ≡ true → IsAllowedIfFresh new e
-hit_allowed old new c number commit a l e may same live r told is can f refused =
-    let none = allowed_same e old new same.script same.course (hit_law old c number commit a l e may live r told is ∙ ap (λ b. unless b Rounds None) can) in
-    let both : None ≡ Some f = sym none ∙ refused in
-    absurd (search (rules, both))
-
-pub round_now : (old new : Booked) (c : ℕ) (l : Live) (may : Bool) → IsSame old new → IsLive old.course c l → ((m : Live) → IsLive new.course c m → may ≡ has_round (work_in new) m) → has_round (work_in old) l ≡ may
+round_now : (old new : Booked) (c : ℕ) (l : Live) (may : Bool) → IsSame old new → IsLive old.course c l → ((m : Live) → IsLive new.course c m → may ≡ has_round (work_in new) m) → has_round (work_in old) l ≡ may
 round_now old new c l may same live told =
     ap (λ (s : Script). has_round (work_of s) l) (sym same.script) ∙ sym (told l (subst (λ (s : Course). IsLive s c l) (sym same.course) live))
+
+again_law : (old : Booked) (c : ℕ) (l : Live) → IsLive old.course c l → Repairs (work_in old) old.course c l (A c) (has_round (work_in old) l)
+again_law old c l live = repairs_again (work_in old) old.course c l live
+
+last_law : (old : Booked) (c : ℕ) (l : Live) → IsLive old.course c l → Repairs (work_in old) old.course c l (X c) (not (has_round (work_in old) l))
+last_law old c l live = repairs_last (work_in old) old.course c l live
+
+-- no commit hits it
+pub idle_told : (old new : Booked) (c : ℕ) (a : Check) (l : Live) → IsSame old new → IsLive old.course c l → ((m : Live) → IsLive old.course c m → IsAnswer a (work_in old) old.course c m) → a ≡ check.Free → TellsRound c (Err (Refused Idle)) old new
+idle_told old new c a l same live told is = (
+  idle_refused old new c a l (A c) (has_round (work_in old) l) same live (again_law old c l live) told is,
+  idle_refused old new c a l (X c) (not (has_round (work_in old) l)) same live (last_law old c l live) told is,
+)
+
+-- its start is below low
+pub stale_round : (old new : Booked) (c start low : ℕ) (a : Check) (l : Live) → IsSame old new → IsLive old.course c l → ((m : Live) → IsLive old.course c m → IsAnswer a (work_in old) old.course c m) → a ≡ check.Stale start low → TellsRound c (Err (Refused Stale)) old new
+stale_round old new c start low a l same live told is = (
+  stale_refused old new c start low a l (A c) (has_round (work_in old) l) same live (again_law old c l live) told is,
+  stale_refused old new c start low a l (X c) (not (has_round (work_in old) l)) same live (last_law old c l live) told is,
+)
+
+-- it is hit
+pub round_told : (old new : Booked) (c number commit : ℕ) (a : Check) (l : Live) (more : Bool) → IsSame old new → IsLive old.course c l → ((m : Live) → IsLive old.course c m → IsAnswer a (work_in old) old.course c m) → a ≡ check.Hit number commit
+    → ((m : Live) → IsLive new.course c m → more ≡ has_round (work_in new) m) → TellsRound c (Ok more) old new
+round_told old new c number commit a l more same live told is round =
+    let now : has_round (work_in old) l ≡ more = round_now old new c l more same live round in (
+      same,
+      (l, live),
+      hit_law old c number commit a l (A c) (has_round (work_in old) l) live (again_law old c l live) told is ∙ ap (λ b. unless b Rounds None) now,
+      hit_law old c number commit a l (X c) (not (has_round (work_in old) l)) live (last_law old c l live) told is ∙ ap (λ b. unless (not b) Rounds None) now,
+    )
+
+-- it is repaired as its rounds ask
+pub round_allowed : (old new : Booked) (e : Event) (may : Bool) → IsSame old new → refusal (work_in old) old.course e ≡ unless may Rounds None → may ≡ true → IsAllowedIfFresh new e
+round_allowed old new e may same law can f refused =
+    let none = allowed_same e old new same.script same.course (law ∙ ap (λ b. unless b Rounds None) can) in
+    let both : None ≡ Some f = sym none ∙ refused in
+    absurd (search (rules, both))
 
 -- there are rounds
 pub some_rounds : {A : Type 0} {P : A → Type 0} {Q : Type 0} (o : Option A) → IfSome o P → is_some o ≡ true → ((x : A) → P x → Q) → Q

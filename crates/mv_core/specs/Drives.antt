@@ -1,16 +1,19 @@
 -- Defines the result of a list of events. This project's own.
-use Rattle.std.specs.Prelude.{◌≡◌, ℕ, ◌-◌, List, [], ◌++◌, Some, None, Result, Ok, Err, take}
+use Rattle.std.specs.Prelude.{◌≡◌, ℕ, ◌-◌, Bool, not, List, [], ◌++◌, Some, None, Result, Ok, Err, take}
 use Rattle.mv_journal.specs.declared.event.Event.{Event}
+use Rattle.mv_journal.specs.declared.event.Event.TheVariants.{A, X}
 use Rattle.mv_journal.specs.declared.outcome.Outcome.{Outcome}
+use Rattle.mv_lawful.specs.declared.fault.Fault.TheVariants.{Rounds}
 use Rattle.mv_lawful.specs.declared.fault.Wrong.TheVariants as wrong
 use Rattle.mv_lawful.specs.Work.{Work}
-use Rattle.mv_lawful.specs.Lawful.{refusal, reach, wrong_from, wrong_with, AllAllowed, Lawful}
+use Rattle.mv_lawful.specs.Lawful.{refusal, unless, reach, wrong_from, wrong_with, AllAllowed, Lawful}
 use Rattle.mv_lawful.specs.Outcomes.{outcome_of}
 use Rattle.mv_core.specs.declared.drive.Refusal.{Refusal}
 use Rattle.mv_core.specs.declared.drive.Refusal.TheVariants.{Refused, NoMemory}
 use Rattle.mv_core.specs.declared.drive.DriveFault.{DriveFault}
 use Rattle.mv_core.specs.declared.drive.DriveFault.TheVariants as fault
-use Rattle.mv_core.specs.Books.{Booked, work_in, Made}
+use Rattle.mv_core.specs.Calls.{IsLiveCall}
+use Rattle.mv_core.specs.Books.{Booked, work_in, Made, IsSame}
 
 -- Events, one after another
 
@@ -26,6 +29,12 @@ abbrev pub HasTaken : Event → Booked → Booked → Result (Unit {0}) Refusal 
 HasTaken e old new (Ok x) = Made e old new
 HasTaken e old new (Err (Refused f)) = (refusal (work_in old) old.course e ≡ Some f) × HasMade [] old new
 HasTaken e old new (Err NoMemory) = HasMade [] old new
+
+-- whether a live call that is hit may be repaired once more; or its repair is refused, in a step of its own and in that of
+-- its commit
+abbrev pub TellsRound : ℕ → Result Bool Refusal → Booked → Booked → Type 0
+TellsRound c (Ok more) old new = IsSame old new × IsLiveCall old.course c × (refusal (work_in old) old.course (A c) ≡ unless more Rounds None) × (refusal (work_in old) old.course (X c) ≡ unless (not more) Rounds None)
+TellsRound c (Err r) old new = HasTaken (A c) old new (Err r) × HasTaken (X c) old new (Err r)
 
 -- the fault of an event with this number
 abbrev pub fault_at : ℕ → Refusal → DriveFault

@@ -1,7 +1,7 @@
 //! The events of a core.
 
 ghost use Rattle.mv_journal.specs.declared.event.Event.TheVariants.{B, S, A, M, C, X, G};
-ghost use Rattle.mv_core.specs.Drives.{HasTaken};
+ghost use Rattle.mv_core.specs.Drives.{HasTaken, TellsRound};
 
 use crate::book::Check;
 use crate::drive::{Events, Refusal};
@@ -61,9 +61,10 @@ fn commit_event(core: &mut Core, alloc: Global, call: u32) -> Result<(), Refusal
     }
 }
 
-/// Repairs a call, if it is live, hit and may be repaired once more.
-fn repair_event(core: &mut Core, alloc: Global, call: u32) -> Result<(), Refusal>
-    ensures { HasTaken (A call) core.old core.new result }
+/// Whether a live call that is hit may be repaired once more before it is decided in one step. Refuses the repair of any
+/// other call.
+fn round_left(core: &mut Core, alloc: Global, call: u32) -> Result<bool, Refusal>
+    ensures { TellsRound call result core.old core.new }
 {
     if core.rounds(call).is_none() {
         return Err(Refusal::Refused(Fault::Order));
@@ -73,7 +74,15 @@ fn repair_event(core: &mut Core, alloc: Global, call: u32) -> Result<(), Refusal
         Check::Stale { .. } => return Err(Refusal::Refused(Fault::Stale)),
         Check::Hit { .. } => {}
     }
-    if !core.has_round(call) {
+    Ok(core.has_round(call))
+}
+
+/// Repairs a call, if it is live, hit and may be repaired once more.
+fn repair_event(core: &mut Core, alloc: Global, call: u32) -> Result<(), Refusal>
+    ensures { HasTaken (A call) core.old core.new result }
+{
+    let more = round_left(core, alloc, call)?;
+    if !more {
         return Err(Refusal::Refused(Fault::Rounds));
     }
     match core.again(alloc, call) {
@@ -87,15 +96,8 @@ fn repair_event(core: &mut Core, alloc: Global, call: u32) -> Result<(), Refusal
 fn decide_event(core: &mut Core, alloc: Global, call: u32) -> Result<(), Refusal>
     ensures { HasTaken (X call) core.old core.new result }
 {
-    if core.rounds(call).is_none() {
-        return Err(Refusal::Refused(Fault::Order));
-    }
-    match core.validate(alloc, call)? {
-        Check::Free => return Err(Refusal::Refused(Fault::Idle)),
-        Check::Stale { .. } => return Err(Refusal::Refused(Fault::Stale)),
-        Check::Hit { .. } => {}
-    }
-    if core.has_round(call) {
+    let more = round_left(core, alloc, call)?;
+    if more {
         return Err(Refusal::Refused(Fault::Rounds));
     }
     match core.exclusive(alloc, call) {

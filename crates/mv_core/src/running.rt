@@ -48,7 +48,7 @@ pub(crate) struct Called<'s> {
 }
 
 /// Returns the call of a number with its graph.
-pub(crate) fn called(script: &Script, number: u32) -> Called<'_>
+pub(crate) fn find_call(script: &Script, number: u32) -> Called<'_>
     requires script { IsScript script.now }
     requires number { number < length script.now.calls }
     ensures { IsCallOf script.now number result.call.now result.graph.now }
@@ -79,7 +79,7 @@ pub(crate) fn run_next(
     ensures ran { OnOk result (task.old.ended ≡ false → HasRunOne task.old task.new) }
     ensures err { OnErr result (IsUnchanged task.old task.new) }
 {
-    let at = called(script, number);
+    let at = find_call(script, number);
     match next(alloc, at.graph, task, view) {
         Ok(_) => Ok(()),
         Err(Refused::NoMemory) => Err(NoMemory),
@@ -105,7 +105,7 @@ pub(crate) fn run_all(
     ensures ended { OnOk result (task.new.ended ≡ true) }
     ensures counts { CountsAll task.old task.new }
 {
-    let at = called(script, number);
+    let at = find_call(script, number);
     match finish(alloc, at.graph, task, view) {
         Ok(()) => Ok(()),
         Err(Refused::NoMemory) => Err(NoMemory),
@@ -133,7 +133,7 @@ pub(crate) fn repair_over(
     ensures records { OnOk result (task.new.records ≡ ((work_of script.now).run number view.old.database).records) }
     ensures executed { OnOk result (task.new.executed ≡ executions task.old.records task.new.records (changes_since since.now)) }
 {
-    let at = called(script, number);
+    let at = find_call(script, number);
     match repair(alloc, at.graph, task, since, view) {
         Ok(_) => Ok(()),
         Err(Refused::NoMemory) => Err(NoMemory),

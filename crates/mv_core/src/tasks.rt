@@ -23,7 +23,7 @@ ghost use Rattle.mv_core.specs.Books.{work_in, last_tables, commit_event, own_nu
 ghost use Rattle.mv_core.specs.Cores.{RunsOn, IsStoreOf, IsTaskIn, IsRunning, IsLiveTask, IsRepaired, HasStep, HasCommitted, count_or};
 
 use crate::book::{Book, Check};
-use crate::running::{called, has_more, repair_over, run_all, run_next};
+use crate::running::{find_call, has_more, repair_over, run_all, run_next};
 use crate::script::Script;
 use crate::told::{changes_told, put_told, reply_of};
 use mv_changes::changes::Changes;
@@ -86,7 +86,7 @@ pub fn new_task(alloc: Global, script: &Script, number: u32) -> Result<Task, NoM
     ensures records { IfOk result (λ task. task.records ≡ []) }
     ensures executed { IfOk result (λ task. task.executed ≡ 0) }
 {
-    let at = called(script, number);
+    let at = find_call(script, number);
     Task::new(alloc, at.graph, at.call)
 }
 

@@ -1,28 +1,8 @@
-use Rattle.std.proofs.Common.{ap, rules, ◌∙◌}
+use Rattle.std.proofs.Common.{ap}
 use Rattle.std.specs.Prelude.{not}
 use Rattle.mv_journal.specs.declared.event.Event.TheVariants.{X}
-use Rattle.mv_lawful.specs.Lawful.{has_round}
-use Rattle.mv_core.specs.Books.{work_in}
-use Rattle.mv_core.proofs.Refusing.{repairs_last}
-use Rattle.mv_core.proofs.Changed.{idle_refused, stale_refused, rounds_refused, hit_allowed, round_now, some_rounds}
+use Rattle.mv_core.proofs.Changed.{round_allowed}
 use Rattle.mv_core.proofs.events.decide_event.Goals as goal
 
-pub returns-in-Free : goal.returns-in-Free
-returns-in-Free c = some_rounds c.rounds.result c.rounds.ensures.live (search (rules, c.is_none.ensures, c.if-is_none.false)) (λ rounds h.
-    idle_refused c.args.core.now c.validate.new.self c.args.call c.in_ok-validate.field-0 h.live (X c.args.call) (not (has_round (work_in c.args.core.now) h.live)) c.validate.ensures.same h.is_live
-    (repairs_last (work_in c.args.core.now) c.args.core.now.course c.args.call h.live h.is_live) c.in_ok-validate.ensures.answer c.in-Free.is)
-
-pub returns-in-Stale : goal.returns-in-Stale
-returns-in-Stale c = some_rounds c.rounds.result c.rounds.ensures.live (search (rules, c.is_none.ensures, c.if-is_none.false)) (λ rounds h.
-    stale_refused c.args.core.now c.validate.new.self c.args.call c.in-Stale.start c.in-Stale.low c.in_ok-validate.field-0 h.live (X c.args.call) (not (has_round (work_in c.args.core.now) h.live)) c.validate.ensures.same h.is_live
-    (repairs_last (work_in c.args.core.now) c.args.core.now.course c.args.call h.live h.is_live) c.in_ok-validate.ensures.answer c.in-Stale.is)
-
-pub returns-then-has_round : goal.returns-then-has_round
-returns-then-has_round c = some_rounds c.rounds.result c.rounds.ensures.live (search (rules, c.is_none.ensures, c.if-is_none.false)) (λ rounds h.
-    rounds_refused c.args.core.now c.validate.new.self c.args.call c.in-Hit.number c.in-Hit.commit c.in_ok-validate.field-0 h.live (X c.args.call) (not (has_round (work_in c.args.core.now) h.live)) c.validate.ensures.same h.is_live
-    (repairs_last (work_in c.args.core.now) c.args.core.now.course c.args.call h.live h.is_live) c.in_ok-validate.ensures.answer c.in-Hit.is (ap not (round_now c.args.core.now c.validate.new.self c.args.call h.live c.has_round.result c.validate.ensures.same h.is_live c.has_round.ensures ∙ c.if-has_round.true)))
-
 pub exclusive-requires-clause-allowed : goal.exclusive-requires-clause-allowed
-exclusive-requires-clause-allowed c = some_rounds c.rounds.result c.rounds.ensures.live (search (rules, c.is_none.ensures, c.if-is_none.false)) (λ rounds h.
-    hit_allowed c.args.core.now c.validate.new.self c.args.call c.in-Hit.number c.in-Hit.commit c.in_ok-validate.field-0 h.live (X c.args.call) (not (has_round (work_in c.args.core.now) h.live)) c.validate.ensures.same h.is_live
-    (repairs_last (work_in c.args.core.now) c.args.core.now.course c.args.call h.live h.is_live) c.in_ok-validate.ensures.answer c.in-Hit.is (ap not (round_now c.args.core.now c.validate.new.self c.args.call h.live c.has_round.result c.validate.ensures.same h.is_live c.has_round.ensures ∙ c.if-has_round.false)))
+exclusive-requires-clause-allowed c = round_allowed c.args.core.now c.round_left.new.core (X c.args.call) _ c.in_ok-more.ensures.0 c.in_ok-more.ensures.3 (ap not c.if-more.false)

@@ -8,12 +8,12 @@ use Rattle.mv_core.proofs.Taking.{runs_on}
 use Rattle.mv_core.proofs.tasks.new_task.Goals as goal
 
 pub new-requires-clause-sound : goal.new-requires-clause-sound
-new-requires-clause-sound c = (c.requires.script.1.runs c.args.number c.called-at.result.call.now c.called-at.result.graph.now c.called-at.ensures).sound
+new-requires-clause-sound c = (c.requires.script.1.runs c.args.number c.find_call-at.result.call.now c.find_call-at.result.graph.now c.find_call-at.ensures).sound
 
 pub new-requires-clause-arguments : goal.new-requires-clause-arguments
 new-requires-clause-arguments c =
-    AllZip-long Suits c.called-at.result.graph.now.procedure.params c.called-at.result.call.now.arguments
-    (c.requires.script.1.runs c.args.number c.called-at.result.call.now c.called-at.result.graph.now c.called-at.ensures).suits
+    AllZip-long Suits c.find_call-at.result.graph.now.procedure.params c.find_call-at.result.call.now.arguments
+    (c.requires.script.1.runs c.args.number c.find_call-at.result.call.now c.find_call-at.result.graph.now c.find_call-at.ensures).suits
 
 if_ok : {P Q : Task → Type 0} (r : Result Task NoMemory) → IfOk r P → ((t : Task) → P t → Q t) → IfOk r Q
 if_ok (Ok t) p f = f t p
@@ -21,4 +21,4 @@ if_ok (Err e) p f = tt
 
 pub returns-clause-runs : goal.returns-clause-runs
 returns-clause-runs c =
-    if_ok c.new.result c.new.ensures.begins (λ task begins db. runs_on c.args.script.now c.args.number c.called-at.result.call.now c.called-at.result.graph.now db task c.called-at.ensures (begins db))
+    if_ok c.new.result c.new.ensures.begins (λ task begins db. runs_on c.args.script.now c.args.number c.find_call-at.result.call.now c.find_call-at.result.graph.now db task c.find_call-at.ensures (begins db))

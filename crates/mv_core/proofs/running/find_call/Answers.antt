@@ -1,6 +1,6 @@
 use Rattle.std.proofs.Common.{rules, sym}
 use Rattle.mv_core.proofs.Taking.{call_there, graph_there, here_call}
-use Rattle.mv_core.proofs.running.called.Goals as goal
+use Rattle.mv_core.proofs.running.find_call.Goals as goal
 
 pub unreachable-requires : goal.unreachable-requires
 unreachable-requires c = call_there c.args.script.now c.args.number c.requires.script c.requires.number (search (rules, c.call_at.ensures, c.in_default.not-Some))
