@@ -40,7 +40,7 @@ no_commits number before [] = refl
 no_commits number before (r ∷ rs) = no_commits number (before ++ r ∷ []) rs
 
 -- no commit after the last one hits a call
-none_hit : (w : Work) (order : List ℕ) (c : ℕ) → hit_of w order (length order) c ≡ None
+pub none_hit : (w : Work) (order : List ℕ) (c : ℕ) → hit_of w order (length order) c ≡ None
 none_hit w order c =
     ap (λ (commits : List (List Change)). first_hit (length order + 1) commits [] (records_at w order (length order) c)) (none_since w w.opening order)
     ∙ no_commits (length order + 1) [] (records_at w order (length order) c)

@@ -107,6 +107,11 @@ pub record IsLiveTask (s : Script) (order : List ℕ) (c : ℕ) (l : Live) (runn
 abbrev pub IsTaskIn : Booked → ℕ → Running → Type 0
 IsTaskIn b c running = (l : Live) → IsLive b.course c l → IsLiveTask b.script b.course.order c l running
 
+-- the task ran on, in the same round
+pub record HasRun (old new : Running) : Type 0 where
+  pub count : new.count ≡ old.count
+  pub task : CountsAll old.task new.task
+
 -- a live call and its task, over a store with the tables of the history
 pub record IsRunning (b : Booked) (store : Versioned) (c : ℕ) (running : Running) : Type 0 where
   pub stored : IsStoreOf b store

@@ -20,7 +20,7 @@ ghost use Rattle.mv_core.specs.Told.{writes_told};
 ghost use Rattle.mv_core.specs.Scripts.{IsScript};
 ghost use Rattle.mv_core.specs.Calls.{IsLive, IsLiveCall, due_number};
 ghost use Rattle.mv_core.specs.Books.{work_in, last_tables, commit_event, own_number, IsNotStale, IsOwnNumber, AreRecordsOf, IsAnswer};
-ghost use Rattle.mv_core.specs.Cores.{RunsOn, IsStoreOf, IsTaskIn, IsRunning, IsLiveTask, IsRepaired, HasStep, HasCommitted, count_or};
+ghost use Rattle.mv_core.specs.Cores.{RunsOn, IsStoreOf, IsTaskIn, IsRunning, HasRun, IsLiveTask, IsRepaired, HasStep, HasCommitted, count_or};
 
 use crate::book::{Book, Check};
 use crate::running::{find_call, has_more, repair_over, run_all, run_next};
@@ -105,6 +105,7 @@ pub fn step_task(
     requires left { HasStep book.now call }
     ensures ok { OnOk result ((l : Live) → IsLive book.now.course call l → IsLiveTask book.now.script book.now.course.order call (record l { steps = l.steps + 1 }) running.new) }
     ensures task { IsTaskIn book.now call running.new }
+    ensures ran { HasRun running.old running.new }
 {
     if running.task.records().len() <= book.steps(call) {
         let mut view = StoreView::new(store, book.start(call));

@@ -1,4 +1,4 @@
-use Rattle.std.proofs.Common.{arith, ◌+◌, length, ap, subst}
+use Rattle.std.proofs.Common.{arith, ◌+◌, ◌∙◌, length, refl, sym, ap, subst}
 use Rattle.mv_lawful.specs.Lawful.{Live}
 use Rattle.mv_core.specs.Cores.{HasRunOne, IsLiveTask}
 use Rattle.mv_core.proofs.Stored.{Shows, shows_start, database_shown}
@@ -64,3 +64,19 @@ returns-else-records-steps-clause-ok c l live =
     let many = ap length c.records.ensures in
     let steps = c.steps.ensures l live in
     task_named c.args.book.now.script c.args.book.now.course.order c.args.call l c.args.running.now (c.requires.call.task l live) (λ le. omega (arith, few, le, many, steps))
+
+pub returns-in_err-run_next-clause-ran : goal.returns-in_err-run_next-clause-ran
+returns-in_err-run_next-clause-ran c =
+    let same = c.in_err-run_next.ensures.err in
+    let long = ap length same.records in
+    record { count = refl; task = record { executed = λ all. same.executed ∙ (all ∙ sym long); more = omega (arith, long) } }
+
+pub returns-in_ok-run_next-clause-ran : goal.returns-in_ok-run_next-clause-ran
+returns-in_ok-run_next-clause-ran c =
+    let one = one_more c in
+    let records = one.records in
+    let executed = one.executed in
+    record { count = refl; task = record { executed = λ all. omega (arith, records, executed, all); more = omega (arith, records) } }
+
+pub returns-else-records-steps-clause-ran : goal.returns-else-records-steps-clause-ran
+returns-else-records-steps-clause-ran c = record { count = refl; task = record { executed = λ all. all; more = omega arith } }
