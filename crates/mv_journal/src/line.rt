@@ -82,8 +82,9 @@ fn named(letter: u8, call: u32) -> Option<Event>
     }
 }
 
-/// Parses decimal digits as a number of 32 bits, or returns none if they aren't one.
-fn number_of(digits: &[u8]) -> Option<u32>
+/// Returns the number that decimal digits write. None if there is no digit, if another byte is among them, or if the number
+/// is above 4294967295. Leading zeros are allowed.
+pub fn number_of(digits: &[u8]) -> Option<u32>
     ensures { result ≡ number_in digits.now }
 {
     if !are_digits(digits) {

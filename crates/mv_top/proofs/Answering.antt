@@ -2,7 +2,7 @@
 use Rattle.std.proofs.Common.{◌≡◌, inl, inr, ◌<◌, ◌≤◌, ℕ, List, length, get_or, take, Option, refl, sym, ap, subst, ◌∙◌, arith}
 use Rattle.std.proofs.lemmas.List.{take_all, length-take-le}
 use Rattle.std.proofs.lemmas.Bool.{cases_lt}
-use Rattle.std.specs.Option.{ForSome}
+use Rattle.std.specs.Option.{ForSome, unwrap_or}
 use Rattle.mv_edge.specs.Edge.{Rose}
 use Rattle.mv_edge.specs.declared.reading.TheConstants.{MOST}
 use Rattle.mv_catalog.specs.declared.resolved.Program.{Program}
@@ -17,7 +17,7 @@ use Rattle.mv_top.specs.declared.status.Fault.{Fault}
 use Rattle.mv_top.specs.declared.status.Fault.TheVariants as fault
 use Rattle.mv_top.specs.declared.status.Status.{Status}
 use Rattle.mv_top.specs.declared.status.Status.TheVariants.{Done, Refused, Usage, NoMemory, ReadFault, WriteFault}
-use Rattle.mv_top.specs.Answers.{IsTextFor, IsRefusal, HasCause, IsToldBy, IsAnswer, refused, done, IsAnswered, Puts, Wrote, WroteOr, StandFor, HasUsual, IsRefusedBy, by_script, by_program, name_of}
+use Rattle.mv_top.specs.Answers.{IsTextFor, IsRefusal, HasCause, IsToldBy, IsAnswer, refused, done, IsAnswered, Puts, Wrote, WroteOr, StandFor, IsRefusedBy, by_script, by_program}
 
 -- bytes that aren't too many were all that were left
 pub whole : (all bytes : List ℕ) → bytes ≡ take MOST all → length bytes ≤ most_bytes → bytes ≡ all
@@ -113,24 +113,6 @@ pub has_cause : (command : Command) (bytes : List ℕ) (refusal : Refusal) (f : 
 has_cause command bytes refusal (fault.Refused number what) cause told = (refusal, cause, told.0, told.1)
 has_cause command bytes refusal fault.NoMemory cause told = told
 
-same_name : (a b : Command) → name_of a ≡ name_of b → HasUsual a → HasUsual b → a ≡ b
-same_name Run Run e u v = refl
-same_name Run (Replay o) e u v = absurd (let size = ap length e in omega (arith, size))
-same_name Run Serial e u v = absurd (let size = ap length e in omega (arith, size))
-same_name Run Graph e u v = absurd (let size = ap length e in omega (arith, size))
-same_name (Replay o) Run e u v = absurd (let size = ap length e in omega (arith, size))
-same_name (Replay o) (Replay q) e u v = ap (λ (x : Options). Replay x) (u ∙ sym v)
-same_name (Replay o) Serial e u v = absurd (let first = ap (λ (bytes : List ℕ). get_or bytes 0 0) e in omega (arith, first))
-same_name (Replay o) Graph e u v = absurd (let size = ap length e in omega (arith, size))
-same_name Serial Run e u v = absurd (let size = ap length e in omega (arith, size))
-same_name Serial (Replay o) e u v = absurd (let first = ap (λ (bytes : List ℕ). get_or bytes 0 0) e in omega (arith, first))
-same_name Serial Serial e u v = refl
-same_name Serial Graph e u v = absurd (let size = ap length e in omega (arith, size))
-same_name Graph Run e u v = absurd (let size = ap length e in omega (arith, size))
-same_name Graph (Replay o) e u v = absurd (let size = ap length e in omega (arith, size))
-same_name Graph Serial e u v = absurd (let size = ap length e in omega (arith, size))
-same_name Graph Graph e u v = refl
-
 -- words stand for one command
 pub same_command : (words : List (List ℕ)) (a b : Command) → StandFor words a → StandFor words b → a ≡ b
-same_command words a b x y = same_name a b (let e = sym x.0 ∙ y.0 in cc) x.1 y.1
+same_command words a b x y = ap (λ o. unwrap_or o a) (sym x ∙ y)

@@ -4,4 +4,5 @@ pub mod Scripts
 pub mod Judging
 pub mod Driving
 pub mod Answering
+pub mod Giving
 pub mod Texts

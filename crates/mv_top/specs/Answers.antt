@@ -1,5 +1,5 @@
 -- The answer to a command and its input, and what is written of it.
-use Rattle.std.specs.Prelude.{◌≡◌, ◌⊎◌, ℕ, List, [], ◌∷◌, ◌++◌, Option, String, string_bytes, codes, map}
+use Rattle.std.specs.Prelude.{◌≡◌, ◌⊎◌, ℕ, List, [], ◌∷◌, ◌++◌, Option, Some, None, String, string_bytes, codes, map}
 use Rattle.std.specs.Option.{ForSome}
 use Rattle.std.specs.declared.alloc.Global.{Global}
 use Rattle.mv_edge.specs.Edge.{Rose, Writes, WritesFront}
@@ -14,6 +14,7 @@ use Rattle.mv_top.specs.History.{usual, text, in_turn, IsRunText}
 use Rattle.mv_top.specs.Journals.{HasLawfulJournal, IsJournalText, RefusesJournal}
 use Rattle.mv_top.specs.Serial.{serial}
 use Rattle.mv_top.specs.Graphs.{graphs}
+use Rattle.mv_top.specs.Words.{command_of}
 use Rattle.mv_top.specs.declared.status.Command.{Command}
 use Rattle.mv_top.specs.declared.status.Command.TheVariants.{Run, Replay, Serial, Graph}
 use Rattle.mv_top.specs.declared.status.Status.{Status}
@@ -79,27 +80,13 @@ IsToldBy refusal fault.NoMemory = Unit {0}
 abbrev pub words_of : List (String Global) → List (List ℕ)
 words_of words = map string_bytes words
 
--- the word of a command
-abbrev pub name_of : Command → List ℕ
-name_of Run = codes "run"
-name_of (Replay options) = codes "replay"
-name_of Serial = codes "serial"
-name_of Graph = codes "graph"
-
--- the options of a command that is given none
-abbrev pub HasUsual : Command → Type 0
-HasUsual Run = Unit {0}
-HasUsual (Replay options) = options ≡ usual
-HasUsual Serial = Unit {0}
-HasUsual Graph = Unit {0}
-
--- the words of a command line name this command
+-- the words of a command line say this command
 abbrev pub StandFor : List (List ℕ) → Command → Type 0
-StandFor words command = (words ≡ name_of command ∷ []) × HasUsual command
+StandFor words command = command_of words ≡ Some command
 
--- the words name no command
+-- the words say no command
 abbrev pub IsNoCommand : List (List ℕ) → Type 0
-IsNoCommand words = (command : Command) → StandFor words command → ⊥
+IsNoCommand words = command_of words ≡ None
 
 abbrev pub usage_line : List ℕ
 usage_line = codes "usage: mv3c run|replay|serial|graph|tpcc [options]"

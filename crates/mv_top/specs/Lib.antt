@@ -4,4 +4,5 @@ pub mod Graphs
 pub mod Refusals
 pub mod Journals
 pub mod Refusing
+pub mod Words
 pub mod Answers

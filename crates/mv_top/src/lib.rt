@@ -10,3 +10,4 @@ pub mod script;
 mod serial;
 pub mod status;
 pub mod top;
+mod words;

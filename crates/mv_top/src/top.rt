@@ -1,16 +1,17 @@
 //! The top call: words, a source, a sink.
 
-ghost use Rattle.std.specs.Prelude.{◌≡◌, ◌⊎◌, ◌↔◌, ℕ, List as Seq, Some, drop, IsTrue, string_bytes, IfOk, IfSome, IfNone};
+ghost use Rattle.std.specs.Prelude.{◌≡◌, ◌⊎◌, ℕ, List as Seq, Some, drop, IfOk};
 ghost use Rattle.std.specs.Option.{ForSome};
 ghost use Rattle.mv_edge.specs.Edge.{Rose};
 ghost use Rattle.mv_catalog.specs.declared.resolved.Program.{Program};
 ghost use Rattle.mv_top.specs.declared.refusal.Refusal.{Refusal as Why};
 ghost use Rattle.mv_top.specs.Refusals.{line_of};
 ghost use Rattle.mv_top.specs.declared.status.Command.{Command as Task};
-ghost use Rattle.mv_top.specs.Answers.{IsAnswered, Puts, Wrote, WroteOr, StandFor, TakesBytes, IsNoCommand, IsTextOf, IsRefusedBy, words_of, name_of, HasUsual, line, usage_line};
+ghost use Rattle.mv_top.specs.Answers.{IsAnswered, Puts, Wrote, WroteOr, StandFor, TakesBytes, IsNoCommand, IsTextOf, IsRefusedBy, words_of, line, usage_line};
 
 use crate::answer::answer;
-use crate::status::{Command, Fault, Status, usual};
+use crate::status::{Command, Fault, Status};
+use crate::words::command_of;
 use mv_edge::edge::{Sink, Source};
 use mv_edge::pace::Pace;
 use mv_edge::reading::{MOST, ReadFault, read_all};
@@ -69,43 +70,6 @@ pub fn top<R: Threads + Wait + Sync, S: Source, K: Sink, P: Pace>(
         Ok((status, text)) => put(sink, status, text.as_slice()),
         Err(_) => Status::NoMemory,
     }
-}
-
-/// Returns the command that the words name.
-fn command_of(words: &[String]) -> Option<Command>
-    ensures found { IfSome result (StandFor (words_of words.now)) }
-    ensures none { IfNone result (IsNoCommand (words_of words.now)) }
-{
-    match words {
-        [word] => command_named(word),
-        _ => None,
-    }
-}
-
-/// Returns the command with this name.
-fn command_named(word: &String) -> Option<Command>
-    ensures found { IfSome result (λ command. (string_bytes word.now ≡ name_of command) × HasUsual command) }
-    ensures none { IfNone result ((command : Task) → string_bytes word.now ≡ name_of command → ⊥) }
-{
-    if is_word(word, "run") {
-        return Some(Command::Run);
-    }
-    if is_word(word, "replay") {
-        return Some(Command::Replay(usual()));
-    }
-    if is_word(word, "serial") {
-        return Some(Command::Serial);
-    }
-    if is_word(word, "graph") {
-        return Some(Command::Graph);
-    }
-    None
-}
-
-fn is_word(word: &String, text: &str) -> bool
-    ensures { IsTrue result ↔ (string_bytes word.now ≡ text.now) }
-{
-    word.as_str() == text
 }
 
 /// Returns the status for the bytes, and the text to write.

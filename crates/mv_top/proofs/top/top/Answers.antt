@@ -10,14 +10,14 @@ pub returns-in_default-clause-wrote : goal.returns-in_default-clause-wrote
 returns-in_default-clause-wrote g c =
     wrote_by (words_of c.args.words.now) (g.S.Source.left c.args.source.now) (g.K.Sink.written c.args.sink.now) (g.K.Sink.written c.put.new.sink)
     (g.K.Sink.faults c.args.sink.now) (g.K.Sink.faults c.put.new.sink) Usage (line usage_line) c.put.result
-    (usage c.in_default.ensures.none) c.put.ensures
+    (usage (sym c.in_default.ensures)) c.put.ensures
 
 pub returns-in-Ok-answered-clause-wrote : goal.returns-in-Ok-answered-clause-wrote
 returns-in-Ok-answered-clause-wrote g c =
     wrote_by (words_of c.args.words.now) (g.S.Source.left c.args.source.now) (g.K.Sink.written c.args.sink.now) (g.K.Sink.written c.put-in-Ok-answered.new.sink)
     (g.K.Sink.faults c.args.sink.now) (g.K.Sink.faults c.put-in-Ok-answered.new.sink) c.in-Ok-answered.status c.in-Ok-answered.text c.put-in-Ok-answered.result
     (answer_of_left (words_of c.args.words.now) (g.S.Source.left c.args.source.now) c.in-Some.command c.in-Ok.bytes c.in-Ok-answered.status c.in-Ok-answered.text
-    c.in-Some.ensures.found c.in-Ok.ensures.bytes
+    (sym c.in-Some.ensures) c.in-Ok.ensures.bytes
     (subst (λ (bytes : List ℕ). IsAnswered c.in-Some.command bytes c.in-Ok-answered.status c.in-Ok-answered.text) c.as_slice.ensures c.in-Ok-answered.ensures.found))
     (subst (λ (text : List ℕ). Puts (g.K.Sink.written c.args.sink.now) (g.K.Sink.written c.put-in-Ok-answered.new.sink) (g.K.Sink.faults c.args.sink.now) (g.K.Sink.faults c.put-in-Ok-answered.new.sink) c.in-Ok-answered.status text c.put-in-Ok-answered.result)
     c.as_slice-in-Ok-answered.ensures c.put-in-Ok-answered.ensures)
@@ -25,7 +25,7 @@ returns-in-Ok-answered-clause-wrote g c =
 pub returns-in-Ok-answered-clause-complete : goal.returns-in-Ok-answered-clause-complete
 returns-in-Ok-answered-clause-complete g c =
     λ command all program words left takes no_read no_write.
-    (let same : c.in-Some.command ≡ command = same_command (words_of c.args.words.now) c.in-Some.command command c.in-Some.ensures.found words in
+    (let same : c.in-Some.command ≡ command = same_command (words_of c.args.words.now) c.in-Some.command command (sym c.in-Some.ensures) words in
     let bytes : List ℕ = c.as_slice.result.now in
     let read : bytes ≡ all = c.as_slice.ensures ∙ all_read all c.in-Ok.bytes program (c.in-Ok.ensures.bytes all left) takes.0 in
     let here : TakesBytes c.in-Some.command bytes program = subst (λ (k : Command). TakesBytes k bytes program) (sym same) (subst (λ (xs : List ℕ). TakesBytes command xs program) (sym read) takes) in
@@ -39,7 +39,7 @@ returns-in-Ok-answered-clause-complete g c =
 pub returns-in-Ok-answered-clause-refuses : goal.returns-in-Ok-answered-clause-refuses
 returns-in-Ok-answered-clause-refuses g c =
     λ command all refusal words left cause no_read no_write.
-    (let same : c.in-Some.command ≡ command = same_command (words_of c.args.words.now) c.in-Some.command command c.in-Some.ensures.found words in
+    (let same : c.in-Some.command ≡ command = same_command (words_of c.args.words.now) c.in-Some.command command (sym c.in-Some.ensures) words in
     let bytes : List ℕ = c.as_slice.result.now in
     let read : IsRefusedBy command bytes refusal = cause_of_read command all bytes refusal (c.as_slice.ensures ∙ c.in-Ok.ensures.bytes all left) cause in
     let told = c.in-Ok-answered.ensures.told refusal (subst (λ (k : Command). IsRefusedBy k bytes refusal) (sym same) read) in
@@ -60,4 +60,4 @@ returns-in-Ok-answered-clause-written g c =
     quiet_by (g.K.Sink.written c.args.sink.now) (g.K.Sink.written c.put-in-Ok-answered.new.sink) (g.K.Sink.faults c.args.sink.now) (g.K.Sink.faults c.put-in-Ok-answered.new.sink) c.in-Ok-answered.status c.as_slice-in-Ok-answered.result.now c.put-in-Ok-answered.result c.put-in-Ok-answered.ensures
 
 pub returns-in_default-clause-rest : goal.returns-in_default-clause-rest
-returns-in_default-clause-rest g c = λ command words not_read not_starved. absurd (c.in_default.ensures.none command words)
+returns-in_default-clause-rest g c = λ command words not_read not_starved. absurd (let e = sym words ∙ sym c.in_default.ensures in cc)
