@@ -12,42 +12,71 @@ use mv_values::memory::NoMemory;
 use std::alloc::Global;
 use std::test::Fail;
 
-/// What a case shows, the procedures and the calls of its script, and the record of call 1 that commit 1 hits.
-type Case = (&'static str, [&'static str; 3], usize);
+/// A table of two marks.
+pub(crate) const MARKS: &str =
+    "CREATE TABLE m (k INT, d INT, e INT, PRIMARY KEY (k)) VALUES (1, 0, 0);
+";
 
-const CASES: &[Case] = &[
-    (
-        "a row that was read has changed",
-        [ADD, OTHERS, "CALL add(1, 5); CALL add(1, 7);"],
-        0,
-    ),
-    (
-        "a new row passes the test of a count",
-        [ADD, OTHERS, "CALL put(7, 100); CALL rich();"],
-        0,
-    ),
-    (
-        "the call's own write makes a changed row count",
-        [
-            "CREATE TABLE m (k INT, d INT, e INT, PRIMARY KEY (k)) VALUES (1, 0, 0);",
-            "CREATE PROCEDURE se () BEGIN UPDATE m SET e = 1 WHERE k = 1; END;
+/// Procedures that set a mark each. The second counts the rows that have both.
+pub(crate) const MARKING: &str = "CREATE PROCEDURE se () BEGIN UPDATE m SET e = 1 WHERE k = 1; END;
 CREATE PROCEDURE sd () DECLARE :n = 0; BEGIN
   UPDATE m SET d = 1 WHERE k = 1;
   SELECT COUNT(*) INTO :n FROM m WHERE d = 1 AND e = 1;
-  PRINT :n;  END;",
-            "CALL se(); CALL sd();",
-        ],
-        1,
-    ),
-];
+  PRINT :n;  END;
+";
 
-/// Both calls begin, call 0 commits, and call 1 executes two statements.
-const EVENTS: &[Event] = &[
+/// What a case shows, the procedures and the calls of its script, the events before the attempt, and the record of call 1
+/// that commit 1 hits.
+type Case = (&'static str, [&'static str; 3], &'static [Event], usize);
+
+/// Both calls begin, call 0 commits, and call 1 executes all its four statements.
+const FOUR_STEPS: &[Event] = &[
     Event::B(0),
     Event::B(1),
     Event::C(0),
     Event::S(1),
     Event::S(1),
+    Event::S(1),
+    Event::S(1),
+];
+
+/// Both calls begin, call 1 executes its count before the commit of call 0, and its other statement after it.
+const STEPS_AROUND: &[Event] = &[
+    Event::B(0),
+    Event::B(1),
+    Event::S(1),
+    Event::C(0),
+    Event::S(1),
+];
+
+/// Both calls begin, call 0 commits, and call 1 executes two of its three statements.
+const TWO_STEPS: &[Event] = &[
+    Event::B(0),
+    Event::B(1),
+    Event::C(0),
+    Event::S(1),
+    Event::S(1),
+];
+
+const CASES: &[Case] = &[
+    (
+        "a row that was read has changed",
+        [ADD, OTHERS, "CALL add(1, 5); CALL add(1, 7);"],
+        FOUR_STEPS,
+        0,
+    ),
+    (
+        "a new row passes the test of a count",
+        [ADD, OTHERS, "CALL put(7, 100); CALL rich();"],
+        STEPS_AROUND,
+        0,
+    ),
+    (
+        "the call's own write makes a changed row count",
+        [MARKS, MARKING, "CALL se(); CALL sd();"],
+        TWO_STEPS,
+        1,
+    ),
 ];
 
 /// Returns what an attempt to commit call 1 of the script says after these events. Returns `None` if there is no such
@@ -78,9 +107,9 @@ fn attempt_after(
     Ok(Some(core.attempt(alloc, 1)?))
 }
 
-fn hits(alloc: Global, parts: &[&str], record: usize) -> Result<bool, Fail> {
+fn hits(alloc: Global, parts: &[&str], events: &[Event], record: usize) -> Result<bool, Fail> {
     let script = joined(alloc, parts)?;
-    match attempt_after(alloc, script.as_str(), EVENTS)? {
+    match attempt_after(alloc, script.as_str(), events)? {
         Some(Attempt::Hit { number, commit }) => Ok(number == record && commit == 1),
         _ => Ok(false),
     }
@@ -89,8 +118,8 @@ fn hits(alloc: Global, parts: &[&str], record: usize) -> Result<bool, Fail> {
 #[test]
 fn an_attempt_names_the_first_record_that_is_hit(rt: HostRuntime) -> Result<(), Fail> {
     let alloc = rt.alloc();
-    for (what, parts, record) in CASES {
-        let holds = hits(alloc, parts, *record)?;
+    for (what, parts, events, record) in CASES {
+        let holds = hits(alloc, parts, events, *record)?;
         ensure(alloc, holds, what)?;
     }
     Ok(())
