@@ -1,6 +1,7 @@
 //! Journals of scripts, with the text that `replay` makes of each, or the line with which it refuses it, worked out by
 //! hand.
 
+use crate::attempts::{MARKING, MARKS};
 use crate::commands::{ADD, OTHERS};
 use crate::whole::{ensure, joined, tells};
 use mv_top::answer::replay;
@@ -38,6 +39,35 @@ table acc
 2,100,
 3,100,
 4,100,
+end
+";
+
+/// Three calls, of which each two write a common row.
+const THREE: &str = "CALL transfer(1, 2, 10); CALL transfer(3, 4, 10); CALL transfer(2, 3, 10);";
+
+/// The text of three calls that run before the first commit, where the others are repaired.
+const REPAIRED: &str = "reply 0 done
+reply 1 done
+reply 2 done
+history
+1 0 starts 0 runs 5
+2 1 starts 0,1 runs 5+1
+3 2 starts 0,2 runs 5+5
+journal
+B 0
+B 1
+B 2
+C 0
+A 1
+C 1
+A 2
+C 2
+table acc
+0,3,
+1,90,
+2,100,
+3,100,
+4,110,
 end
 ";
 
@@ -206,6 +236,175 @@ table acc
 end
 ",
     ],
+    [
+        "a repair from the first statement on",
+        PAIR,
+        "JOURNAL <<\nB 0\nB 1\nC 0\nA 1\nC 1\n>>\n",
+        "reply 0 done
+105
+reply 1 done
+112
+history
+1 0 starts 0 runs 4
+2 1 starts 0,1 runs 4+4
+journal
+B 0
+B 1
+C 0
+A 1
+C 1
+table acc
+0,0,
+1,112,
+2,100,
+3,100,
+4,100,
+end
+",
+    ],
+    [
+        "a repair of a count, after a row that it counts",
+        "CALL put(7, 100); CALL rich();",
+        "JOURNAL <<\nB 0\nB 1\nC 0\nA 1\nC 1\n>>\n",
+        "reply 0 done
+reply 1 done
+5
+history
+1 0 starts 0 runs 1
+2 1 starts 0,1 runs 2+2
+journal
+B 0
+B 1
+C 0
+A 1
+C 1
+table acc
+0,0,
+1,100,
+2,100,
+3,100,
+4,100,
+7,100,
+end
+",
+    ],
+    [
+        "a repair in which a call that was rolled back goes through",
+        "CALL transfer(1, 2, 150); CALL add(1, 60);",
+        "JOURNAL <<\nB 0\nB 1\nC 1\nA 0\nC 0\n>>\n",
+        "reply 0 done
+reply 1 done
+160
+history
+1 1 starts 0 runs 4
+2 0 starts 0,1 runs 3+5
+journal
+B 0
+B 1
+C 1
+A 0
+C 0
+table acc
+0,1,
+1,10,
+2,250,
+3,100,
+4,100,
+end
+",
+    ],
+    [
+        "a call that is rolled back, and one after it",
+        "CALL transfer(1, 2, 150); CALL add(1, 60);",
+        "JOURNAL <<\nB 0\nC 0\nB 1\nC 1\n>>\n",
+        "reply 0 rolled back 'no funds'
+reply 1 done
+160
+history
+1 0 starts 0 runs 3
+2 1 starts 1 runs 4
+journal
+B 0
+C 0
+B 1
+C 1
+table acc
+0,0,
+1,160,
+2,100,
+3,100,
+4,100,
+end
+",
+    ],
+    [
+        "a repair in which a call is rolled back",
+        "CALL put(7, 1); CALL put(7, 2);",
+        "JOURNAL <<\nB 0\nB 1\nC 0\nA 1\nC 1\n>>\n",
+        "reply 0 done
+reply 1 rolled back duplicate key
+history
+1 0 starts 0 runs 1
+2 1 starts 0,1 runs 1+1
+journal
+B 0
+B 1
+C 0
+A 1
+C 1
+table acc
+0,0,
+1,100,
+2,100,
+3,100,
+4,100,
+7,1,
+end
+",
+    ],
+    [
+        "a call that overflows",
+        "CALL add(1, 9223372036854775807);",
+        "JOURNAL <<\nB 0\nC 0\n>>\n",
+        "reply 0 rolled back overflow
+history
+1 0 starts 0 runs 2
+journal
+B 0
+C 0
+table acc
+0,0,
+1,100,
+2,100,
+3,100,
+4,100,
+end
+",
+    ],
+    [
+        "three calls that run before the first commit, and collections",
+        THREE,
+        "JOURNAL <<\nB 0\nB 1\nB 2\nS 0\nS 0\nS 0\nS 0\nS 0\nS 1\nS 1\nS 1\nS 1\nS 1\nS 2\nS 2\nS 2\nS 2\nS 2\nG\nC 0\nG\nA 1\nG\nC 1\nA 2\nC 2\n>>\n",
+        REPAIRED,
+    ],
+    [
+        "the same without statements",
+        THREE,
+        "JOURNAL <<\nB 0\nB 1\nB 2\nG\nC 0\nG\nA 1\nG\nC 1\nA 2\nC 2\n>>\n",
+        REPAIRED,
+    ],
+    [
+        "the same without collections",
+        THREE,
+        "JOURNAL <<\nB 0\nB 1\nB 2\nS 0\nS 0\nS 0\nS 0\nS 0\nS 1\nS 1\nS 1\nS 1\nS 1\nS 2\nS 2\nS 2\nS 2\nS 2\nC 0\nA 1\nC 1\nA 2\nC 2\n>>\n",
+        REPAIRED,
+    ],
+    [
+        "the same without either",
+        THREE,
+        "JOURNAL <<\nB 0\nB 1\nB 2\nC 0\nA 1\nC 1\nA 2\nC 2\n>>\n",
+        REPAIRED,
+    ],
 ];
 
 const REFUSALS: &[Case] = &[
@@ -373,6 +572,163 @@ fn journals_give_their_text(rt: HostRuntime) -> Result<(), Fail> {
 fn journals_are_refused(rt: HostRuntime) -> Result<(), Fail> {
     for case in REFUSALS {
         case_replays(&rt, rt.alloc(), case)?;
+    }
+    Ok(())
+}
+
+/// The text of two calls that set a mark each, where the count of the second one is repaired.
+const MARKED: &str = "reply 0 done
+reply 1 done
+1
+history
+1 0 starts 0 runs 1
+2 1 starts 0,1 runs 3+2
+journal
+B 0
+B 1
+C 0
+A 1
+C 1
+table m
+1,1,1
+end
+";
+
+#[test]
+fn an_own_write_makes_a_changed_row_count(rt: HostRuntime) -> Result<(), Fail> {
+    let calls = "CALL se(); CALL sd();\nJOURNAL <<\nB 0\nB 1\nC 0\nA 1\nC 1\n>>\n";
+    let script = joined(rt.alloc(), &[MARKS, MARKING, calls])?;
+    replays(&rt, rt.alloc(), script.as_str(), MARKED)
+}
+
+/// The options of a replay: the rounds and the horizon.
+type Given = (u32, Option<u32>);
+
+/// The text of two calls with a common row, where the second one is repaired and commits in one step.
+const DECIDED: &str = "reply 0 done
+reply 1 done
+history
+1 0 starts 0 runs 5
+2 1 starts 0,1 runs 5+1x
+journal
+B 0
+B 1
+C 0
+X 1
+table acc
+0,2,
+1,90,
+2,110,
+3,90,
+4,110,
+end
+";
+
+/// The text of three calls, where the third one moves behind the commits of the others.
+const BEHIND: &str = "reply 0 done
+105
+reply 1 done
+105
+reply 2 done
+105
+history
+1 0 starts 0 runs 4
+2 1 starts 0 runs 4
+3 2 starts 0,2 runs -+4m
+journal
+B 0
+B 1
+B 2
+C 0
+C 1
+M 2
+C 2
+table acc
+0,0,
+1,105,
+2,105,
+3,105,
+4,100,
+end
+";
+
+/// Two transfers with a common row.
+const TRANSFERS: &str = "CALL transfer(1, 2, 10); CALL transfer(3, 4, 10);";
+
+/// Three calls on one row each.
+const ADDS: &str = "CALL add(1, 5); CALL add(2, 5); CALL add(3, 5);";
+
+const GIVEN: &[(Given, Case)] = &[
+    (
+        (0, None),
+        [
+            "a repair that commits, without rounds",
+            TRANSFERS,
+            "JOURNAL <<\nB 0\nB 1\nC 0\nX 1\n>>\n",
+            DECIDED,
+        ],
+    ),
+    (
+        (1, None),
+        [
+            "a repair that commits, with a round left",
+            TRANSFERS,
+            "JOURNAL <<\nB 0\nB 1\nC 0\nX 1\n>>\n",
+            "refused 19 journal line 4\n",
+        ],
+    ),
+    (
+        (0, None),
+        [
+            "a repair without rounds",
+            TRANSFERS,
+            "JOURNAL <<\nB 0\nB 1\nC 0\nA 1\nC 1\n>>\n",
+            "refused 19 journal line 4\n",
+        ],
+    ),
+    (
+        (3, Some(1)),
+        [
+            "a move of a stale call",
+            ADDS,
+            "JOURNAL <<\nB 0\nB 1\nB 2\nC 0\nC 1\nG\nM 2\nC 2\n>>\n",
+            BEHIND,
+        ],
+    ),
+    (
+        (3, Some(1)),
+        [
+            "a statement of a stale call",
+            ADDS,
+            "JOURNAL <<\nB 0\nB 1\nB 2\nC 0\nC 1\nG\nS 2\nC 2\n>>\n",
+            "refused 20 journal line 7\n",
+        ],
+    ),
+    (
+        (3, Some(1)),
+        [
+            "a repair of a stale call",
+            ADDS,
+            "JOURNAL <<\nB 0\nB 1\nB 2\nC 0\nC 1\nG\nA 2\nC 2\n>>\n",
+            "refused 20 journal line 7\n",
+        ],
+    ),
+];
+
+/// Checks that `replay` with these options answers a script with this text or refuses it with this line.
+fn given_replays(alloc: Global, given: Given, case: &Case) -> Result<(), Fail> {
+    let (rounds, horizon) = given;
+    let [_, calls, journal, want] = *case;
+    let script = joined(alloc, &[ADD, OTHERS, calls, "\n", journal])?;
+    let answer = replay(alloc, rounds, horizon, script.as_bytes());
+    let told = is_told(alloc, &answer, want)?;
+    ensure(alloc, told, script.as_str())
+}
+
+#[test]
+fn journals_with_other_options_give_their_text(rt: HostRuntime) -> Result<(), Fail> {
+    for (given, case) in GIVEN {
+        given_replays(rt.alloc(), *given, case)?;
     }
     Ok(())
 }
