@@ -12,7 +12,9 @@ ghost use Rattle.mv_core.specs.Cores.{HasStep, MayStep, IsAllowedIfFresh, HasBeg
 
 use crate::book::{Book, Check};
 use crate::script::Script;
-use crate::tasks::{Running, commit_task, decide_task, new_task, rerun_task, step_task, validate_task, whole_task};
+use crate::tasks::{
+    Running, commit_task, decide_task, new_task, rerun_task, step_task, validate_task, whole_task,
+};
 use mv_exec::step::Stepped;
 use mv_journal::event::Event;
 use mv_journal::outcome::{Mark, Outcome, Round};
