@@ -13,3 +13,4 @@ pub mod Taking
 pub mod Refusing
 pub mod Changed
 pub mod Turning
+pub mod Crossing

@@ -1,0 +1,33 @@
+-- Threads may share a gate.
+use Rattle.std.proofs.Common.{ℕ, List, [], ◌∷◌}
+use denote.RattleType.{RattleType}
+use denote.Struct.Declared.{shape}
+use denote.Struct.Tuple.{TupleAt, field_at, type_at}
+use denote.Param.Send.{IsSend, IsSync, view_send, recorded_send, recorded_sync, struct_send, struct_sync}
+use Rattle.std.proofs.sync.Mutex.TheSendSync as mutex
+use Rattle.mv_store.proofs.store.Store.TheSendSync as store
+use Rattle.mv_seats.specs.declared.board.Making.{Ghosts}
+use Rattle.mv_seats.proofs.board.Board.TheSendSync as board
+use Rattle.mv_seats.proofs.pass.Pass.TheSendSync as pass
+use Rattle.mv_core.proofs.Crossing.{book_send}
+use Rattle.mv_gate.specs.contracts.desk.Desk as Desk
+use Rattle.mv_gate.specs.contracts.desk.Desk.TheInside as Inside
+use Rattle.mv_gate.specs.contracts.gate.Gate as Gate
+
+-- what lies behind the lock
+pub desk_send : (N : RattleType) (m : Ghosts N.Denot) → IsSend (Desk.the_row N m)
+desk_send N m =
+    view_send (Inside.the_row N m) _ _ _ _
+    (recorded_send (Inside.the_field N m).row _ _ (Inside.the_type N m).to_one (struct_send (shape (Inside.the_type N m)) (book_send, (store.the_send, (pass.the_send N m, tt)))))
+
+gate_field_sync : (N : RattleType) (m : Ghosts N.Denot) → IsSync (Gate.the_field N m).row
+gate_field_sync N m = struct_sync (shape (Gate.the_type N m)) (board.the_field_sync N m, (mutex.the_sync (Desk.the_row N m) (desk_send N m), tt))
+
+-- threads may share a gate
+pub gate_sync : (N : RattleType) (m : Ghosts N.Denot) → IsSync (Gate.the_row N m)
+gate_sync N m = recorded_sync (Gate.the_field N m).row _ _ (Gate.the_type N m).to_one (gate_field_sync N m)
+
+-- threads may share a closure that borrows four things if they may share those
+pub four_sync : (name : List ℕ) (A B C D : RattleType) → IsSync A → IsSync B → IsSync C → IsSync D → IsSync (TupleAt name (A ∷ B ∷ C ∷ D ∷ []))
+four_sync name A B C D a b c d =
+    let Rs = A ∷ B ∷ C ∷ D ∷ [] in recorded_sync (field_at name Rs).row _ _ (type_at name Rs).to_one (struct_sync (shape (type_at name Rs)) (a, (b, (c, (d, tt)))))

@@ -1,0 +1,232 @@
+-- The end of a run.
+use Rattle.std.proofs.Common.{◌≡◌, ◌⊎◌, inl, inr, ℕ, zero, suc, ◌+◌, ◌≤◌, ◌<◌, Bool, true, false, List, [], ◌∷◌, Option, Some, None, length, refl, sym, ap, subst, ◌∙◌, arith, rules}
+use Rattle.std.specs.Prelude.{slice_get, nat_lt, if◌then◌else◌, Result, Ok, Err, IfOk, OnErr}
+use Rattle.std.specs.List.{filter}
+use Rattle.mv_journal.specs.declared.event.Event.{Event}
+use Rattle.mv_journal.specs.declared.event.Event.TheVariants.{B, S, A, M, C, X, G}
+use Rattle.mv_journal.specs.declared.outcome.Outcome.{Outcome}
+use Rattle.mv_lawful.specs.Work.{Work}
+use Rattle.mv_journal.specs.declared.outcome.Mark.TheVariants.{Plain, Exclusive}
+use Rattle.mv_lawful.specs.Lawful.{Live, Course, beginning, begin, again, finish, change_live, after, first_open, open_call, Lawful}
+use Rattle.mv_lawful.specs.Rounds.{is_round, is_repair, MayMove, MovesLate, IsBounded}
+use Rattle.mv_lawful.specs.Outcomes.{outcome_of}
+use Rattle.mv_lawful.proofs.Repairs.{repairs_are_few}
+use Rattle.mv_seats.specs.Scripts.{Script as Given}
+use Rattle.mv_seats.specs.Knowing.{Knows}
+use Rattle.mv_store.specs.Stored.{Versioned}
+use Rattle.mv_core.specs.declared.script.Script.{Script}
+use Rattle.mv_core.specs.Scripts.{work_of}
+use Rattle.mv_core.specs.Calls.{IsLiveCall}
+use Rattle.mv_values.specs.declared.memory.NoMemory.{NoMemory}
+use Rattle.mv_core.specs.declared.book.Begun.{Begun}
+use Rattle.mv_core.specs.Books.{Booked, work_in, Made, IsSame, HasBegun as HasNext}
+use Rattle.mv_core.proofs.Stored.{same_or_apart}
+use Rattle.mv_core.proofs.Turning.{many_begun}
+use Rattle.mv_core.proofs.Journals.{get_front, set_there, set_apart, same_long, changed_at}
+use Rattle.mv_gate.specs.declared.answers.Answer.{Answer}
+use Rattle.mv_gate.specs.declared.answers.Answer.TheVariants as answer
+use Rattle.mv_gate.specs.Gates.{work, IsStill, AreStill, IsDesk, HasTried, IsOutcome, IsDone, KeepsDone}
+
+same_round : (c : ℕ) (e : Event) → IsStill e → is_round c e ≡ is_repair c e
+same_round c (B d) h = refl
+same_round c (S d) h = refl
+same_round c (A d) h = refl
+same_round c (M d) h = absurd h
+same_round c (C d) h = refl
+same_round c (X d) h = refl
+same_round c G h = absurd h
+
+same_rounds : (c : ℕ) (es : List Event) → AreStill es → filter (is_round c) es ≡ filter (is_repair c) es
+same_rounds c [] h = refl
+same_rounds c (e ∷ es) h =
+    ap (λ b. if b then e ∷ filter (is_round c) es else filter (is_round c) es) (same_round c e h.0)
+    ∙ ap (λ xs. if is_repair c e then e ∷ xs else xs) (same_rounds c es h.1)
+
+may_move : (w : Work) (s : Course) (e : Event) → IsStill e → MayMove w s e
+may_move w s (B d) h = tt
+may_move w s (S d) h = tt
+may_move w s (A d) h = tt
+may_move w s (M d) h = absurd h
+may_move w s (C d) h = tt
+may_move w s (X d) h = tt
+may_move w s G h = absurd h
+
+moves_late : (w : Work) (s : Course) (es : List Event) → AreStill es → MovesLate w s es
+moves_late w s [] h = tt
+moves_late w s (e ∷ es) h = (may_move w s e h.0, moves_late w (after w s e) es h.1)
+
+-- a lawful journal in which no call moves is bounded
+bounded : (w : Work) (es : List Event) → Lawful w es → AreStill es → IsBounded w es
+bounded w es lawful still = record {
+  few = λ c. let a = repairs_are_few w es lawful c in let b = ap length (same_rounds c es still) in omega (arith, a, b);
+  late = moves_late w beginning es still;
+}
+
+pub outcome_told : (s : Given) (b : Booked) (store : Versioned) (gate : Knows) (o : Outcome) → IsDesk s b store gate → Lawful (work_in b) b.journal → o ≡ outcome_of (work_in b) b.journal → IsOutcome (work s) o
+outcome_told s b store gate o d lawful is =
+    let events : o.journal ≡ b.journal = ap (λ (x : Outcome). x.journal) is in
+    subst (λ (x : Script). IsOutcome (work_of x) o) d.script (record {
+      lawful = subst (Lawful (work_in b)) (sym events) lawful;
+      bounded = subst (IsBounded (work_in b)) (sym events) (bounded (work_in b) b.journal lawful d.still);
+      outcome = is ∙ ap (outcome_of (work_in b)) (sym events);
+    })
+
+-- Calls that have committed
+
+get_there : {T : Type 0} (xs : List T) (c : ℕ) → c < length xs → (x : T) × (slice_get xs c ≡ Some x)
+get_there [] c lt = absurd (omega (arith, lt))
+get_there (x ∷ xs) zero lt = (x, refl)
+get_there (x ∷ xs) (suc c) lt = get_there xs c (omega (arith, lt))
+
+done_still : (ls : List Live) (c : ℕ) (f : Live → Live) (l : Live) → slice_get ls c ≡ Some l → l.done ≡ false → (d : ℕ) → (m : Live) × (slice_get ls d ≡ Some m) × (m.done ≡ true)
+    → (m : Live) × (slice_get (change_live (slice_get ls c) f ls c) d ≡ Some m) × (m.done ≡ true)
+done_still ls c f l at live d h =
+    let apart : d ≡ c → ⊥ = λ e.
+    let both : Some h.0 ≡ Some l = sym h.1 ∙ (ap (slice_get ls) e ∙ at) in
+    let one : h.0 ≡ l = search (rules, both) in
+    let no : true ≡ false = sym h.2 ∙ (ap (λ (x : Live). x.done) one ∙ live) in
+    search (rules, no) in
+    (h.0, ap (λ xs. slice_get xs d) (changed_at ls c f l at) ∙ (set_apart ls c d (f l) apart ∙ h.1), h.2)
+
+done_now : (ls : List Live) (c : ℕ) (f : Live → Live) (l : Live) → slice_get ls c ≡ Some l → (f l).done ≡ true → (m : Live) × (slice_get (change_live (slice_get ls c) f ls c) c ≡ Some m) × (m.done ≡ true)
+done_now ls c f l at is = (f l, ap (λ xs. slice_get xs c) (changed_at ls c f l at) ∙ set_there ls c (f l) l at, is)
+
+as_long : (ls : List Live) (c : ℕ) (f : Live → Live) (l : Live) → slice_get ls c ≡ Some l → length (change_live (slice_get ls c) f ls c) ≡ length ls
+as_long ls c f l at = ap length (changed_at ls c f l at) ∙ same_long ls c (f l)
+
+keeps_begun : (c : ℕ) (old new : Booked) → Made (B c) old new → KeepsDone old new
+keeps_begun c old new made = record {
+  done = λ d h. subst (λ (s : Course). IsDone s d) (sym made.course) (h.0, get_front old.course.calls (begin (length old.course.order)) d h.0 h.1, h.2);
+  count = let long = many_begun c old new made in omega (arith, long);
+  script = made.script;
+}
+
+-- an event that changed one live call
+keeps_changed : (c : ℕ) (f : Live → Live) (old new : Booked) → new.course.calls ≡ change_live (slice_get old.course.calls c) f old.course.calls c → new.script ≡ old.script → IsLiveCall old.course c → KeepsDone old new
+keeps_changed c f old new is script live = record {
+  done = λ d h. let kept = done_still old.course.calls c f live.0 live.1.at live.1.live d h in (kept.0, ap (λ ls. slice_get ls d) is ∙ kept.1, kept.2);
+  count = let a = as_long old.course.calls c f live.0 live.1.at in let b = ap length is in omega (arith, a, b);
+  script = script;
+}
+
+keeps_again : (c : ℕ) (old new : Booked) → Made (A c) old new → IsLiveCall old.course c → KeepsDone old new
+keeps_again c old new made live = keeps_changed c (again (length old.course.order) Plain) old new (ap (λ (s : Course). s.calls) made.course) made.script live
+
+keeps_committed : (c : ℕ) (old new : Booked) → Made (C c) old new → IsLiveCall old.course c → KeepsDone old new
+keeps_committed c old new made live = keeps_changed c finish old new (ap (λ (s : Course). s.calls) made.course) made.script live
+
+keeps_decided : (c : ℕ) (old new : Booked) → Made (X c) old new → IsLiveCall old.course c → KeepsDone old new
+keeps_decided c old new made live = keeps_changed c (λ l. finish (again (length old.course.order) Exclusive l)) old new (ap (λ (s : Course). s.calls) made.course) made.script live
+
+pub keeps_same : (old new : Booked) → IsSame old new → KeepsDone old new
+keeps_same old new same = record {
+  done = λ d h. subst (λ (s : Course). IsDone s d) (sym same.course) h;
+  count = let a = ap (λ (s : Course). length s.calls) same.course in omega (arith, a);
+  script = same.script;
+}
+
+pub keeps_both : (a b c : Booked) → KeepsDone a b → KeepsDone b c → KeepsDone a c
+keeps_both a b c x y = record {
+  done = λ d h. y.done d (x.done d h);
+  count = let p = x.count in let q = y.count in omega (arith, p, q);
+  script = y.script ∙ x.script;
+}
+
+-- the next call began, or not
+pub keeps_next : (r : Result (Option Begun) NoMemory) (old new : Booked) → HasNext r old new → KeepsDone old new
+keeps_next (Ok (Some b)) old new h = keeps_begun b.call old new h.0
+keeps_next (Ok None) old new h = keeps_same old new h.1
+keeps_next (Err e) old new h = keeps_same old new h
+
+pub begun_next : (o : Option Begun) (old new : Booked) (c : ℕ) → HasNext (Ok o) old new → c ≤ length old.course.calls → c < length old.script.calls → c < length new.course.calls
+begun_next (Some b) old new c h begun there =
+    let long = many_begun b.call old new h.0 in
+    omega (arith, begun, long)
+begun_next None old new c h begun there =
+    let all = h.0 in
+    let long = ap (λ (s : Course). length s.calls) h.1.course in
+    omega (arith, there, all, long)
+
+-- a call was decided, or repaired, or not
+pub keeps_tried : (r : Result Answer NoMemory) (c : ℕ) (old new : Booked) → HasTried c r old new → IsLiveCall old.course c → KeepsDone old new
+keeps_tried (Ok (answer.Committed n)) c old new h live = by h.0 where
+  by : Made (C c) old new ⊎ Made (X c) old new → KeepsDone old new
+  by (inl made) = keeps_committed c old new made live
+  by (inr made) = keeps_decided c old new made live
+keeps_tried (Ok answer.Repaired) c old new h live = keeps_again c old new h live
+keeps_tried (Ok answer.Lost) c old new h live = keeps_same old new h
+keeps_tried (Err e) c old new h live = keeps_same old new h
+
+done_by : (c : ℕ) (f : Live → Live) (old new : Booked) → new.course.calls ≡ change_live (slice_get old.course.calls c) f old.course.calls c → IsLiveCall old.course c → ((l : Live) → (f l).done ≡ true) → IsDone new.course c
+done_by c f old new is live ends = let h = done_now old.course.calls c f live.0 live.1.at (ends live.0) in (h.0, ap (λ ls. slice_get ls c) is ∙ h.1, h.2)
+
+pub done_committed : (c : ℕ) (old new : Booked) → Made (C c) old new → IsLiveCall old.course c → IsDone new.course c
+done_committed c old new made live = done_by c finish old new (ap (λ (s : Course). s.calls) made.course) live (λ l. refl)
+
+pub done_tried : (a : Answer) (c : ℕ) (old new : Booked) → HasTried c (Ok a) old new → IsLiveCall old.course c → (a ≡ answer.Lost → ⊥) → (a ≡ answer.Repaired → ⊥) → IsDone new.course c
+done_tried (answer.Committed n) c old new h live found left = by h.0 where
+  by : Made (C c) old new ⊎ Made (X c) old new → IsDone new.course c
+  by (inl made) = done_committed c old new made live
+  by (inr made) = done_by c (λ l. finish (again (length old.course.order) Exclusive l)) old new (ap (λ (s : Course). s.calls) made.course) live (λ l. refl)
+done_tried answer.Repaired c old new h live found left = absurd (left refl)
+done_tried answer.Lost c old new h live found left = absurd (found refl)
+
+-- a call that was repaired commits, or not
+pub keeps_commit : (r : Result ℕ NoMemory) (c : ℕ) (old new : Booked) → IfOk r (λ n. Made (C c) old new × (n ≡ length old.course.order + 1)) → OnErr r (IsSame old new) → IsLiveCall old.course c → KeepsDone old new
+keeps_commit (Ok n) c old new made same live = keeps_committed c old new made.0 live
+keeps_commit (Err e) c old new made same live = keeps_same old new same
+
+-- a call that has begun and isn't live has committed
+pub shut : (s : Course) (c : ℕ) → c < length s.calls → (IsLiveCall s c → ⊥) → IsDone s c
+shut s c lt never = there (get_there s.calls c lt) where
+  ended : (l : Live) → slice_get s.calls c ≡ Some l → (b : Bool) → l.done ≡ b → b ≡ true
+  ended l at true is = refl
+  ended l at false is = absurd (never (l, record { at = at; live = is }))
+
+  there : (l : Live) × (slice_get s.calls c ≡ Some l) → IsDone s c
+  there h = (h.0, h.1, ended h.0 h.1 h.0.done refl)
+
+-- All of them
+
+first_from : (n : ℕ) (ls : List Live) → n ≤ first_open n ls
+first_from n [] = omega arith
+first_from n (l ∷ ls) = by l.done (first_from (n + 1) ls) where
+  by : (b : Bool) → n + 1 ≤ first_open (n + 1) ls → n ≤ (if b then first_open (n + 1) ls else n)
+  by true le = omega (arith, le)
+  by false le = omega arith
+
+first_is : (n : ℕ) (ls : List Live) (i : ℕ) (l : Live) → first_open n ls ≡ n + i → slice_get ls i ≡ Some l → l.done ≡ true → ⊥
+first_is n [] i l is at done = search (rules, at)
+first_is n (x ∷ ls) i l is at done = by x.done i refl is at (first_is (n + 1) ls) (first_from (n + 1) ls) where
+  by : (b : Bool) (i : ℕ) → x.done ≡ b → (if b then first_open (n + 1) ls else n) ≡ n + i → slice_get (x ∷ ls) i ≡ Some l
+      → ((j : ℕ) (m : Live) → first_open (n + 1) ls ≡ n + 1 + j → slice_get ls j ≡ Some m → m.done ≡ true → ⊥) → n + 1 ≤ first_open (n + 1) ls → ⊥
+  by true zero e is at go le = omega (arith, is, le)
+  by true (suc j) e is at go le = go j l (omega (arith, is)) at done
+  by false zero e is at go le =
+      let same : x ≡ l = search (rules, at) in
+      let no : false ≡ true = sym e ∙ (ap (λ (y : Live). y.done) same ∙ done) in
+      search (rules, no)
+  by false (suc j) e is at go le = omega (arith, is)
+
+less_is : (n m : ℕ) → nat_lt n m ≡ true → n < m
+less_is n m h = grind (arith, h)
+
+-- no call is open where each has committed
+all_shut : (w : Work) (s : Course) → ((c : ℕ) → c < w.count → IsDone s c) → open_call w s ≡ None
+all_shut w s all = by (nat_lt (first_open 0 s.calls) w.count) refl where
+  by : (b : Bool) → nat_lt (first_open 0 s.calls) w.count ≡ b → (if b then Some (first_open 0 s.calls) else None) ≡ None
+  by true less = let h = all (first_open 0 s.calls) (less_is (first_open 0 s.calls) w.count less) in absurd (first_is 0 s.calls (first_open 0 s.calls) h.0 (omega arith) h.1 h.2)
+  by false less = refl
+
+-- one call more has committed
+pub done_more : (old new : Booked) (k : ℕ) → ((d : ℕ) → d < k → IsDone old.course d) → KeepsDone old new → IsDone new.course k → (d : ℕ) → d < k + 1 → IsDone new.course d
+done_more old new k all kept now d lt = by (same_or_apart d k) where
+  below : (d k : ℕ) → d < k + 1 → (d ≡ k → ⊥) → d < k
+  below d k lt apart = omega (arith, lt, apart)
+
+  by : (d ≡ k) ⊎ (d ≡ k → ⊥) → IsDone new.course d
+  by (inl same) = subst (IsDone new.course) (sym same) now
+  by (inr apart) = kept.done d (all d (below d k lt apart))
+
+pub all_done : (b : Booked) (k : ℕ) → length b.script.calls ≤ k → ((d : ℕ) → d < k → IsDone b.course d) → open_call (work_in b) b.course ≡ None
+all_done b k le all = all_shut (work_in b) b.course (λ c lt. all c (omega (arith, lt, le)))

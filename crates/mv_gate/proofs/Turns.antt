@@ -1,0 +1,62 @@
+-- The rounds of calls after an event.
+use Rattle.std.proofs.Common.{◌≡◌, ◌⊎◌, inl, inr, ℕ, ◌+◌, ◌≤◌, List, [], ◌∷◌, ◌++◌, Option, Some, None, length, refl, sym, ap, subst, ◌∙◌, arith, length-append}
+use Rattle.std.specs.Prelude.{slice_get}
+use Rattle.mv_journal.specs.declared.event.Event.{Event}
+use Rattle.mv_journal.specs.declared.event.Event.TheVariants.{B, S, A, M, C, X, G}
+use Rattle.mv_journal.specs.declared.outcome.Mark.TheVariants.{Plain, Exclusive, Moved}
+use Rattle.mv_lawful.specs.Work.{Work}
+use Rattle.mv_lawful.specs.Lawful.{Live, Course, begin, again, finish, change_live, after}
+use Rattle.mv_core.specs.Calls.{Within}
+use Rattle.mv_core.specs.Cores.{HasTurns, last_start}
+use Rattle.mv_core.proofs.Numbers.{within_more}
+use Rattle.mv_core.proofs.Taking.{turns_again}
+use Rattle.mv_core.proofs.Journals.{get_last, get_set}
+use Rattle.mv_gate.specs.Gates.{HaveTurns}
+
+turns_begin : (n : ℕ) → HasTurns n (begin n)
+turns_begin n = record { first = record { start = n; mark = Plain }; rest = []; turns = refl; last = refl; within = (omega arith, tt); past = omega arith }
+
+turns_same : (n : ℕ) (l m : Live) → m.turns ≡ l.turns → m.start ≡ l.start → HasTurns n l → HasTurns n m
+turns_same n l m ts start h = record {
+  first = h.first;
+  rest = h.rest;
+  turns = ts ∙ h.turns;
+  last = ap last_start ts ∙ (h.last ∙ sym start);
+  within = subst (Within n) (sym ts) h.within;
+  past = let a = h.past in omega (arith, a, start);
+}
+
+turns_grown : (n m : ℕ) (l : Live) → n ≤ m → HasTurns n l → HasTurns m l
+turns_grown n m l le h = record { first = h.first; rest = h.rest; turns = h.turns; last = h.last; within = within_more n m l.turns le h.within; past = let a = h.past in omega (arith, a, le) }
+
+-- one call was changed
+changed : (n m c : ℕ) (f : Live → Live) (ls : List Live) → n ≤ m → ((l : Live) → HasTurns n l → HasTurns m (f l)) → ((d : ℕ) (l : Live) → slice_get ls d ≡ Some l → HasTurns n l)
+    → (d : ℕ) (l : Live) → slice_get (change_live (slice_get ls c) f ls c) d ≡ Some l → HasTurns m l
+changed n m c f ls le keeps all d l at = by (slice_get ls c) refl at where
+  by : (o : Option Live) → slice_get ls c ≡ o → slice_get (change_live o f ls c) d ≡ Some l → HasTurns m l
+  by None is at = turns_grown n m l le (all d l at)
+  by (Some x) is at = set (get_set ls c d (f x) l at) where
+    set : ((d ≡ c) × (f x ≡ l)) ⊎ ((d ≡ c → ⊥) × (slice_get ls d ≡ Some l)) → HasTurns m l
+    set (inl h) = subst (HasTurns m) h.1 (keeps x (all c x is))
+    set (inr h) = turns_grown n m l le (all d l h.1)
+
+pub turns_after : (w : Work) (s : Course) (e : Event) → HaveTurns s → HaveTurns (after w s e)
+turns_after w s (B c) h = λ d l at. by d l (get_last s.calls (begin (length s.order)) d l at) where
+  by : (d : ℕ) (l : Live) → (slice_get s.calls d ≡ Some l) ⊎ ((d ≡ length s.calls) × (begin (length s.order) ≡ l)) → HasTurns (length s.order) l
+  by d l (inl there) = h d l there
+  by d l (inr new) = subst (HasTurns (length s.order)) new.1 (turns_begin (length s.order))
+turns_after w s (S c) h = changed (length s.order) (length s.order) c (λ l. record l { steps = l.steps + 1 }) s.calls (omega arith) (λ l k. turns_same (length s.order) l (record l { steps = l.steps + 1 }) refl refl k) h
+turns_after w s (A c) h = changed (length s.order) (length s.order) c (again (length s.order) Plain) s.calls (omega arith) (turns_again (length s.order) Plain) h
+turns_after w s (M c) h = changed (length s.order) (length s.order) c (again (length s.order) Moved) s.calls (omega arith) (turns_again (length s.order) Moved) h
+turns_after w s (C c) h =
+    let long = length-append s.order (c ∷ []) in
+    let n : ℕ = length s.order in
+    let m : ℕ = length (s.order ++ c ∷ []) in
+    changed n m c finish s.calls (omega (arith, long)) (λ l k. turns_same m l (finish l) refl refl (turns_grown n m l (omega (arith, long)) k)) h
+turns_after w s (X c) h =
+    let long = length-append s.order (c ∷ []) in
+    let n : ℕ = length s.order in
+    let m : ℕ = length (s.order ++ c ∷ []) in
+    changed n m c (λ l. finish (again n Exclusive l)) s.calls (omega (arith, long))
+    (λ l k. turns_same m (again n Exclusive l) (finish (again n Exclusive l)) refl refl (turns_grown n m (again n Exclusive l) (omega (arith, long)) (turns_again n Exclusive l k))) h
+turns_after w s G h = h

@@ -1,0 +1,46 @@
+use Rattle.std.proofs.Common.{◌≡◌, ◌<◌, ◌++◌, ◌∷◌, ℕ, List, [], None, false, length, sym, ap, subst, ◌∙◌}
+use Rattle.std.specs.List.{list_any}
+use lib.Dec.{eqb}
+use Rattle.mv_journal.specs.declared.event.Event.TheVariants.{C}
+use Rattle.mv_lawful.specs.Lawful.{refusal}
+use Rattle.mv_seats.specs.Knowing.{Knows}
+use Rattle.mv_core.specs.declared.script.Script.{Script}
+use Rattle.mv_core.specs.Books.{Booked, work_in}
+use Rattle.mv_core.proofs.Stored.{last_records}
+use Rattle.mv_gate.specs.Gates.{IsWhole}
+use Rattle.mv_gate.proofs.Desks.{desk_made, order_committed, fresh_call}
+use Rattle.mv_gate.proofs.Holding.{due_whole}
+use Rattle.mv_gate.proofs.desk.Desk.commit.Goals as goal
+
+pub commit_task-requires-clause-live : goal.commit_task-requires-clause-live
+commit_task-requires-clause-live g c = (subst (λ (b : Booked). IsWhole b c.args.call c.args.running.now) (sym c.self.view_is) c.requires.whole).call.live
+
+pub commit_task-requires-clause-number : goal.commit_task-requires-clause-number
+commit_task-requires-clause-number g c = (subst (λ (b : Booked). IsWhole b c.args.call c.args.running.now) (sym c.self.view_is) c.requires.whole).call.there
+
+pub commit_task-requires-clause-due : goal.commit_task-requires-clause-due
+commit_task-requires-clause-due g c =
+    due_whole c.self.inside.book c.args.call c.number-number.result c.args.running.now (subst (λ (b : Booked). IsWhole b c.args.call c.args.running.now) (sym c.self.view_is) c.requires.whole) c.number-number.ensures
+
+pub commit_task-requires-clause-whole : goal.commit_task-requires-clause-whole
+commit_task-requires-clause-whole g c =
+    let whole = subst (λ (b : Booked). IsWhole b c.args.call c.args.running.now) (sym c.self.view_is) c.requires.whole in
+    last_records c.self.inside.book c.self.inside.store c.args.call c.args.running.now.task.records c.self.invariant.stored whole.call.there whole.call.live whole.records
+    (subst (λ (b : Booked). refusal (work_in b) b.course (C c.args.call) ≡ None) (sym c.self.view_is) c.requires.allowed)
+
+pub append-requires-clause-call : goal.append-requires-clause-call
+append-requires-clause-call g c =
+    let whole = subst (λ (b : Booked). IsWhole b c.args.call c.args.running.now) (sym c.self.view_is) c.requires.whole in
+    subst (λ (x : Script). c.args.call < length x.calls) c.self.invariant.script whole.call.there
+
+pub append-requires-clause-fresh : goal.append-requires-clause-fresh
+append-requires-clause-fresh g c =
+    subst (λ (xs : List ℕ). list_any (eqb c.args.call) xs ≡ false) (sym c.self.invariant.seen)
+    (fresh_call c.self.inside.book c.args.call c.journal-events.ensures.allowed c.journal-events.ensures.reaches (subst (λ (b : Booked). IsWhole b c.args.call c.args.running.now) (sym c.self.view_is) c.requires.whole).call.live)
+
+pub invariant_of-self-2 : goal.invariant_of-self-2
+invariant_of-self-2 g c =
+    let made = c.in_ok-commit.ensures.made.0 in
+    desk_made (C c.args.call) g.N.Making.script c.self.inside.book c.commit_task.new.book c.self.inside.store c.commit_task.new.store c.self.inside.pass c.append.new.self c.self.invariant made tt c.in_ok-commit.ensures.stored
+    (ap (λ (k : Knows). k.role) c.append.ensures ∙ c.self.invariant.role)
+    (ap (λ (k : Knows). k.seen) c.append.ensures ∙ (ap (λ (xs : List ℕ). xs ++ c.args.call ∷ []) c.self.invariant.seen ∙ sym (order_committed c.args.call c.self.inside.book c.commit_task.new.book made)))

@@ -1,0 +1,197 @@
+-- Defines what lies behind the gate's lock, and what a worker keeps of its call outside of it. This project's own.
+use Rattle.std.specs.Prelude.{◌≡◌, ◌⊎◌, ◌<◌, ◌≤◌, ◌+◌, ℕ, ◌==◌, ◌&&◌, not, Bool, true, false, List, [], ◌∷◌, Option, Some, None, Result, Ok, Err, length, slice_get}
+use Rattle.mv_values.specs.declared.memory.NoMemory.{NoMemory}
+use Rattle.mv_journal.specs.declared.event.Event.{Event}
+use Rattle.mv_journal.specs.declared.event.Event.TheVariants.{B, S, A, M, C, X, G}
+use Rattle.mv_journal.specs.declared.outcome.Mark.{Mark}
+use Rattle.mv_journal.specs.declared.outcome.Mark.TheVariants.{Plain as Repaired, Exclusive, Moved}
+use Rattle.mv_journal.specs.declared.outcome.Outcome.{Outcome}
+use Rattle.mv_lawful.specs.Work.{Work, table_at}
+use Rattle.mv_lawful.specs.Lawful.{Turn, Live, Course, Lawful, refusal}
+use Rattle.mv_lawful.specs.Rounds.{repair_run, IsBounded}
+use Rattle.mv_lawful.specs.Outcomes.{outcome_of}
+use Rattle.mv_store.specs.Stored.{Versioned}
+use Rattle.mv_seats.specs.Scripts.{Script as Given}
+use Rattle.mv_seats.specs.Knowing.{Knows, Plain, Gate}
+use Rattle.mv_core.specs.declared.script.Script.{Script}
+use Rattle.mv_core.specs.declared.tasks.Running.{Running}
+use Rattle.mv_core.specs.Scripts.{work_of}
+use Rattle.mv_core.specs.Calls.{IsLive, IsLiveCall}
+use Rattle.mv_core.specs.Books.{Booked, work_in, Made, IsSame, IsNotStale, AreRecordsOf}
+use Rattle.mv_core.specs.Cores.{RunsOn, IsStoreOf, HasTurns, HasStep, HasRun, IsTaskIn, IsRepaired}
+use Rattle.mv_gate.specs.declared.answers.Answer.{Answer}
+use Rattle.mv_gate.specs.declared.answers.Answer.TheVariants as answer
+
+-- The script of a board
+
+-- as a history has it
+abbrev pub script_in : Given → Script
+script_in s = record { graphs = s.graphs; calls = s.calls; opening = s.opening; options = s.options }
+
+-- its work, in the words of the law of journals
+abbrev pub work : Given → Work
+work s = work_of (script_in s)
+
+-- Behind the lock
+
+-- the event is no move and no collection
+abbrev pub IsStill : Event → Type 0
+IsStill (B c) = Unit {0}
+IsStill (S c) = Unit {0}
+IsStill (A c) = Unit {0}
+IsStill (M c) = ⊥
+IsStill (C c) = Unit {0}
+IsStill (X c) = Unit {0}
+IsStill G = ⊥
+
+abbrev pub AreStill : List Event → Type 0
+AreStill [] = Unit {0}
+AreStill (e ∷ es) = IsStill e × AreStill es
+
+-- each call that has begun has its rounds, the last of which has its start
+abbrev pub HaveTurns : Course → Type 0
+HaveTurns s = (c : ℕ) (l : Live) → slice_get s.calls c ≡ Some l → HasTurns (length s.order) l
+
+-- a history of the board's script, a store that has its tables, and the gate's pass, which has seen its commits. No call
+-- has moved, and none has writes that aren't committed
+pub record IsDesk (s : Given) (b : Booked) (store : Versioned) (gate : Knows) : Type 0 where
+  pub script : b.script ≡ script_in s
+  pub stored : IsStoreOf b store
+  pub role : gate.role ≡ Gate
+  pub seen : gate.seen ≡ b.course.order
+  pub turns : HaveTurns b.course
+  pub still : AreStill b.journal
+  pub low : b.course.low ≡ 0
+
+-- Outside of the lock
+
+-- what contracts see of a call that a worker holds: its number, its start, the start that its last repair went from, its
+-- task, and what its pass knows
+pub record Holding : Type 0 where
+  pub call : ℕ
+  pub start : ℕ
+  pub from : Option ℕ
+  pub running : Running
+  pub knows : Knows
+
+-- what the task executed: all its records in a whole run, those that aren't kept in a repair from a start
+abbrev pub IsExecuted : Work → List ℕ → ℕ → Option ℕ → ℕ → Running → Type 0
+IsExecuted w seen c None start r = (r.count ≡ None) × (r.task.executed ≡ length r.task.records)
+IsExecuted w seen c (Some from) start r = (from ≤ start) × (r.count ≡ Some r.task.executed) × (r.task.executed ≡ repair_run w seen c from start)
+
+-- a call of the board's script, as far as it has run at its start in a history that the pass has seen
+pub record IsHeld (s : Given) (h : Holding) : Type 0 where
+  pub role : h.knows.role ≡ Plain
+  pub there : h.call < length s.calls
+  pub past : h.start ≤ length h.knows.seen
+  pub runs : RunsOn (script_in s) h.call (table_at (work s) h.knows.seen h.start) h.running.task
+  pub executed : IsExecuted (work s) h.knows.seen h.call h.from h.start h.running
+
+-- the last round came about so: it is the first or a moved one, or a repair from this start
+abbrev pub is_moved : Mark → Bool
+is_moved Repaired = false
+is_moved Exclusive = false
+is_moved Moved = true
+
+abbrev pub came : Option ℕ → Turn → Turn → Bool
+came None before last = is_moved last.mark
+came (Some from) before last = not (is_moved last.mark) && (before.start == from)
+
+abbrev pub is_first : Option ℕ → Bool
+is_first None = true
+is_first (Some from) = false
+
+abbrev pub comes_from : Option ℕ → List Turn → Bool
+comes_from from [] = false
+comes_from from (t ∷ []) = is_first from
+comes_from from (t ∷ u ∷ []) = came from t u
+comes_from from (t ∷ u ∷ v ∷ ts) = comes_from from (u ∷ v ∷ ts)
+
+-- the number of the last round, if it is known, or else that of a whole run, if it came about by one
+abbrev pub count_of : Option ℕ → Bool → ℕ → Option ℕ
+count_of (Some k) by_run whole = Some k
+count_of None true whole = Some whole
+count_of None false whole = None
+
+-- Behind the lock, in one hold
+
+-- a live call, whose start isn't below low, and its task
+pub record IsOpen (b : Booked) (c : ℕ) (r : Running) : Type 0 where
+  pub live : IsLiveCall b.course c
+  pub there : c < length b.script.calls
+  pub fresh : IsNotStale b c
+  pub task : IsTaskIn b c r
+
+-- it has run whole
+pub record IsWhole (b : Booked) (c : ℕ) (r : Running) : Type 0 where
+  pub call : IsOpen b c r
+  pub records : AreRecordsOf b c r.task.records
+
+-- it was repaired: it has run whole anew, after all commits, and may commit
+pub record IsRestarted (old new : Booked) (c : ℕ) (r : Running) : Type 0 where
+  pub whole : IsWhole new c r
+  pub free : refusal (work_in new) new.course (C c) ≡ None
+  pub repaired : (l : Live) → IsLive old.course c l → IsRepaired old.script old.course.order c l r
+
+-- the history has the call as its holder knows it; a task that has run on there is one that the holder may have
+pub record HasCall (s : Given) (b : Booked) (h : Holding) : Type 0 where
+  pub call : IsOpen b h.call h.running
+  pub start : (l : Live) → IsLive b.course h.call l → h.start ≡ l.start
+  pub back : HasStep b h.call → (r : Running) → IsTaskIn b h.call r → HasRun h.running r → IsHeld s (record h { running = r })
+
+-- Results of events
+
+-- the next call began, after all commits, and has executed nothing; or every call has begun
+abbrev pub HasBegun : Result (Option Holding) NoMemory → Booked → Booked → Type 0
+HasBegun (Ok (Some h)) old new = Made (B h.call) old new × (h.start ≡ length old.course.order) × (h.from ≡ None) × (h.running.task.records ≡ [])
+HasBegun (Ok None) old new = (length old.course.calls ≡ length old.script.calls) × IsSame old new
+HasBegun (Err e) old new = IsSame old new
+
+-- a statement was executed, or the call is no longer as its holder knows it
+abbrev pub HasStepped : ℕ → Result Bool NoMemory → Booked → Booked → Type 0
+HasStepped c (Ok true) old new = Made (S c) old new
+HasStepped c (Ok false) old new = IsSame old new
+HasStepped c (Err e) old new = IsSame old new
+
+-- the call committed, and was repaired in the same step only if it was hit and had no round left
+abbrev pub Commits : ℕ → ℕ → Booked → Booked → Type 0
+Commits c n old new = (Made (C c) old new ⊎ Made (X c) old new) × (n ≡ length old.course.order + 1)
+
+-- the call committed, or was repaired, or is no longer as its holder knows it
+abbrev pub HasTried : ℕ → Result Answer NoMemory → Booked → Booked → Type 0
+HasTried c (Ok (answer.Committed n)) old new = Commits c n old new
+HasTried c (Ok answer.Repaired) old new = Made (A c) old new
+HasTried c (Ok answer.Lost) old new = IsSame old new
+HasTried c (Err e) old new = IsSame old new
+
+-- the answer of an attempt, without the call that it gives back
+abbrev pub answer_in : {H : Type 0} → Result (Answer × H) NoMemory → Result Answer NoMemory
+answer_in (Ok r) = Ok r.0
+answer_in (Err e) = Err e
+
+-- after a repair the call is given back: it starts after all commits, and was repaired from its old start
+abbrev pub GivesBack : Holding → Answer → Option Holding → Booked → Type 0
+GivesBack old answer.Repaired (Some h) new = (h.call ≡ old.call) × (h.start ≡ length new.course.order) × (h.from ≡ Some old.start)
+GivesBack old answer.Repaired None new = ⊥
+GivesBack old (answer.Committed n) (Some h) new = ⊥
+GivesBack old (answer.Committed n) None new = Unit {0}
+GivesBack old answer.Lost (Some h) new = ⊥
+GivesBack old answer.Lost None new = Unit {0}
+
+-- The end
+
+-- the call has committed
+abbrev pub IsDone : Course → ℕ → Type 0
+IsDone s c = (l : Live) × (slice_get s.calls c ≡ Some l) × (l.done ≡ true)
+
+-- each call that has committed still has, and each call that has begun; the script is the same
+pub record KeepsDone (old new : Booked) : Type 0 where
+  pub done : (c : ℕ) → IsDone old.course c → IsDone new.course c
+  pub count : length old.course.calls ≤ length new.course.calls
+  pub script : new.script ≡ old.script
+
+-- the outcome of a lawful and bounded journal of the script's calls, in which each has committed
+pub record IsOutcome (w : Work) (o : Outcome) : Type 0 where
+  pub lawful : Lawful w o.journal
+  pub bounded : IsBounded w o.journal
+  pub outcome : o ≡ outcome_of w o.journal

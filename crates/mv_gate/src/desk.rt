@@ -1,0 +1,443 @@
+//! What lies behind the gate's lock. Each event of a run is one call of a method of it.
+
+ghost use Rattle.std.specs.Prelude.{◌≡◌, ◌≢◌, ◌<◌, ◌≤◌, ◌+◌, [], None, Some, true, IsTrue, IfOk, OnOk, OnErr, length};
+ghost use mathlib.Core.List.{IsPrefix};
+ghost use Rattle.mv_seats.specs.Knowing.{Plain, gate_pass};
+ghost use Rattle.mv_lawful.specs.Lawful.{Live, beginning, open_call, refusal, has_round};
+ghost use Rattle.mv_journal.specs.declared.event.Event.TheVariants.{A, C, X};
+ghost use Rattle.mv_core.specs.Scripts.{IsScript};
+ghost use Rattle.mv_core.specs.Calls.{IsLive, IsLiveCall};
+ghost use Rattle.mv_core.specs.Books.{work_in, Made, IsSame};
+ghost use Rattle.mv_core.specs.Cores.{HasStep};
+ghost use Rattle.mv_gate.specs.declared.answers.Answer.TheVariants as Answer;
+ghost use Rattle.mv_lawful.specs.declared.fault.Fault.TheVariants.{Conflict};
+ghost use Rattle.mv_gate.specs.Gates.{script_in, work, IsOpen, IsWhole, IsRestarted, HasCall, HasBegun, HasStepped, HasTried, answer_in, GivesBack, IsOutcome, IsDone, KeepsDone};
+
+use crate::answers::Answer;
+use crate::held::Held;
+use crate::notes::note;
+use crate::rounds::{comes_from, count_of};
+use mv_core::book::{Book, Check};
+use mv_core::script::Script;
+use mv_core::tasks::{
+    Running, commit_task, finish_task, new_task, repair_task, step_task, whole_task,
+};
+use mv_journal::outcome::{Mark, Outcome};
+use mv_seats::board::{Board, Making};
+use mv_seats::pass::Pass;
+use mv_store::store::Store;
+use mv_values::memory::NoMemory;
+use std::alloc::Global;
+use std::marker::Model;
+
+/// What lies behind the gate's lock: the history of a run, its tables, and the gate's pass. Contracts see the history.
+#[derive(Drop)]
+pub struct Desk<N: Making> {
+    book: Book,
+    store: Store,
+    pass: Pass<N>,
+}
+
+impl<N: Making> Model for Desk<N> {
+    ghost use Rattle.std.specs.Coded.{codes};
+    ghost use Rattle.mv_catalog.specs.contracts.resolved.RStmt as statement;
+    ghost use Rattle.mv_core.specs.Books.{Booked};
+    ghost use Rattle.mv_gate.specs.Gates.{IsDesk};
+
+    ghost Value = { Booked };
+
+    ghost coded = { Prim.hlevel (codes, statement.the_row.coded) };
+
+    ghost view = { λ d. d.book };
+
+    ghost invariant = { λ d. IsDesk N.script d.book d.store d.pass };
+}
+
+impl<N: Making> Desk<N> {
+    /// Returns a desk before any event. It copies the opening database. Fails with `NoMemory` if memory runs out.
+    pub fn new(alloc: Global, script: Script, pass: Pass<N>) -> Result<Desk<N>, NoMemory>
+        requires sound { IsScript script }
+        requires script { script ≡ script_in N.script }
+        requires pass { pass ≡ gate_pass }
+        ensures script { IfOk result (λ desk. desk.script ≡ script) }
+        ensures course { IfOk result (λ desk. desk.course ≡ beginning) }
+        ensures journal { IfOk result (λ desk. desk.journal ≡ []) }
+    {
+        let store = Store::new(alloc, &script.opening)?;
+        let book = Book::new(alloc, script);
+        Ok(Desk { book, store, pass })
+    }
+
+    /// Event B. Begins the next call, after all commits, and hands it out. It copies the call's arguments. Returns `None`
+    /// exactly if each call has begun. Fails with `NoMemory` if memory runs out. Then no call has begun.
+    pub fn begin(&mut self, alloc: Global, board: &Board<N>) -> Result<Option<Held<N>>, NoMemory>
+        ensures { HasBegun result self.old self.new }
+    {
+        let Some(call) = self.book.next_call() else {
+            return Ok(None);
+        };
+        let task = new_task(alloc, self.book.script(), call)?;
+        let Some(begun) = self.book.begin(alloc)? else {
+            unreachable!();
+        };
+        Ok(Some(Held {
+            call: begun.call,
+            start: begun.start,
+            from: None,
+            running: Running { task, count: None },
+            pass: note(&mut self.pass, board),
+        }))
+    }
+
+    /// Splits off a plain pass that has seen all commits.
+    pub fn pass_for(&mut self, board: &Board<N>) -> Pass<N>
+        ensures same { self.new ≡ self.old }
+        ensures role { result.role ≡ Plain }
+        ensures seen { result.seen ≡ self.old.course.order }
+    {
+        note(&mut self.pass, board)
+    }
+
+    /// Learns that what the holder of a call has seen begins the history.
+    fn see(&mut self, board: &Board<N>, held: &mut Held<N>)
+        ensures same { self.new ≡ self.old }
+        ensures held { held.new ≡ held.old }
+        ensures seen { IsPrefix held.old.knows.seen self.old.course.order }
+    {
+        let note = note(&mut held.pass, board);
+        self.pass.meet(board, note);
+    }
+
+    /// Whether the history has the call as its holder knows it: live, with that start, which isn't below low, and with a
+    /// last round that came about as the holder's.
+    fn has(&self, held: &Held<N>) -> bool
+        requires { IsPrefix held.now.knows.seen self.now.course.order }
+        ensures { IsTrue result → HasCall N.script self.now held.now }
+    {
+        let Some(rounds) = self.book.rounds(held.call) else {
+            return false;
+        };
+        if !comes_from(held.from, rounds) {
+            return false;
+        }
+        let start = self.book.start(held.call);
+        if start != held.start {
+            return false;
+        }
+        let low = self.store.low();
+        if held.start < low {
+            return false;
+        }
+        let steps = self.book.steps(held.call);
+        steps <= held.running.task.records().len()
+    }
+
+    /// Whether a live call is in its first round, which has a statement left.
+    fn has_step(&self, call: u32, running: &Running) -> bool
+        requires { IsOpen self.now call running.now }
+        ensures { IsTrue result → HasStep self.now call }
+    {
+        let Some(rounds) = self.book.rounds(call) else {
+            unreachable!();
+        };
+        rounds.len() == 1 && running.has_more(self.book.steps(call))
+    }
+
+    /// Event S. Executes the next statement of a call that its holder runs, over the tables at its start. Returns false,
+    /// and does nothing, if the call has no statement left, or the history doesn't have it as its holder knows it. Fails
+    /// with `NoMemory` if memory runs out. Then the event wasn't made, and the call can go on.
+    pub fn step(
+        &mut self,
+        alloc: Global,
+        board: &Board<N>,
+        held: &mut Held<N>,
+    ) -> Result<bool, NoMemory>
+        ensures made { HasStepped held.old.call result self.old self.new }
+        ensures call { held.new.call ≡ held.old.call }
+    {
+        self.see(board, held);
+        if !self.has(held) || !self.has_step(held.call, &held.running) {
+            return Ok(false);
+        }
+        self.book.reserve(held.call)?;
+        step_task(alloc, &self.book, &self.store, held.call, &mut held.running)?;
+        self.book.ran(held.call);
+        Ok(true)
+    }
+
+    /// Event C of a call whose task has run whole.
+    fn commit(
+        &mut self,
+        alloc: Global,
+        board: &Board<N>,
+        call: u32,
+        running: &Running,
+    ) -> Result<u32, NoMemory>
+        requires whole { IsWhole self.old call running.now }
+        requires allowed { refusal (work_in self.old) self.old.course (C call) ≡ None }
+        ensures ok { IfOk result (λ n. Made (C call) self.old self.new × (n ≡ length self.old.course.order + 1)) }
+        ensures err { OnErr result (IsSame self.old self.new) }
+    {
+        let _events = self.book.journal();
+        let number = running.number();
+        let commit = commit_task(
+            alloc,
+            &mut self.book,
+            &mut self.store,
+            call,
+            number,
+            &running.task,
+            None,
+        )?;
+        self.pass.append(board, call);
+        Ok(commit)
+    }
+
+    /// Event A of a call whose task has run whole.
+    fn again(&mut self, alloc: Global, call: u32, running: &mut Running) -> Result<(), NoMemory>
+        requires whole { IsWhole self.old call running.old }
+        requires ended { running.old.task.ended ≡ true }
+        requires allowed { refusal (work_in self.old) self.old.course (A call) ≡ None }
+        ensures ok { OnOk result (Made (A call) self.old self.new) }
+        ensures restarted { OnOk result (IsRestarted self.old self.new call running.new) }
+        ensures err { OnErr result (IsSame self.old self.new) }
+    {
+        self.book.reserve(call)?;
+        let number = running.number();
+        repair_task(alloc, &self.book, &self.store, call, running)?;
+        self.book.settle_as(call, number);
+        self.book.restart(call, Mark::Plain);
+        self.book.settle(call, &running.task);
+        Ok(())
+    }
+
+    /// Event X of a call whose task has run whole.
+    fn exclusive(
+        &mut self,
+        alloc: Global,
+        board: &Board<N>,
+        call: u32,
+        running: &mut Running,
+    ) -> Result<u32, NoMemory>
+        requires whole { IsWhole self.old call running.old }
+        requires ended { running.old.task.ended ≡ true }
+        requires allowed { refusal (work_in self.old) self.old.course (X call) ≡ None }
+        ensures ok { IfOk result (λ n. Made (X call) self.old self.new × (n ≡ length self.old.course.order + 1)) }
+        ensures err { OnErr result (IsSame self.old self.new) }
+    {
+        let _events = self.book.journal();
+        let number = running.number();
+        repair_task(alloc, &self.book, &self.store, call, running)?;
+        let task = &running.task;
+        let commit = commit_task(
+            alloc,
+            &mut self.book,
+            &mut self.store,
+            call,
+            number,
+            task,
+            Some(task),
+        )?;
+        self.pass.append(board, call);
+        Ok(commit)
+    }
+
+    /// Whether a live call may be repaired once more before it is decided in one step.
+    fn has_round(&self, call: u32) -> bool
+        requires { IsLiveCall self.now.course call }
+        ensures { (l : Live) → IsLive self.now.course call l → result ≡ has_round (work_in self.now) l }
+    {
+        let Some(rounds) = self.book.rounds(call) else {
+            unreachable!();
+        };
+        rounds.len() <= self.book.script().options.rounds as usize
+    }
+
+    /// Event C, A or X of a live call, whose start isn't below low. First it runs the rest of the call at its start. If no
+    /// commit after the start hits the call, it commits. If one does, it is repaired. Once it has used its rounds, it
+    /// commits in the same step.
+    fn decide(
+        &mut self,
+        alloc: Global,
+        board: &Board<N>,
+        call: u32,
+        running: &mut Running,
+    ) -> Result<Answer, NoMemory>
+        requires { IsOpen self.old call running.old }
+        ensures tried { HasTried call result self.old self.new }
+        ensures found { IfOk result (λ answer. answer ≢ Answer.Lost) }
+        ensures restarted { IfOk result (λ answer. answer ≡ Answer.Repaired → IsRestarted self.old self.new call running.new) }
+    {
+        finish_task(alloc, &self.book, &self.store, call, running)?;
+        match self.book.check(call, &running.task) {
+            Check::Free => {
+                let commit = self.commit(alloc, board, call, running)?;
+                Ok(Answer::Committed(commit))
+            }
+            Check::Hit { .. } => self.meet_hit(alloc, board, call, running),
+            Check::Stale { .. } => unreachable!(),
+        }
+    }
+
+    /// Event A or X of a call whose task has run whole.
+    fn meet_hit(
+        &mut self,
+        alloc: Global,
+        board: &Board<N>,
+        call: u32,
+        running: &mut Running,
+    ) -> Result<Answer, NoMemory>
+        requires whole { IsWhole self.old call running.old }
+        requires ended { running.old.task.ended ≡ true }
+        requires hit { refusal (work_in self.old) self.old.course (C call) ≡ Some Conflict }
+        ensures tried { HasTried call result self.old self.new }
+        ensures found { IfOk result (λ answer. answer ≢ Answer.Lost) }
+        ensures restarted { IfOk result (λ answer. answer ≡ Answer.Repaired → IsRestarted self.old self.new call running.new) }
+    {
+        if self.has_round(call) {
+            self.again(alloc, call, running)?;
+            return Ok(Answer::Repaired);
+        }
+        let commit = self.exclusive(alloc, board, call, running)?;
+        Ok(Answer::Committed(commit))
+    }
+
+    /// Tries to commit a call that its holder gives up, by one event: C, A or X. First it runs the rest of the call at its
+    /// start. After a repair the call is given back. It then starts anew after all commits. Returns `Lost`, and does
+    /// nothing, if the history doesn't have the call as its holder knows it. Fails with `NoMemory` if memory runs out.
+    /// Then no event was made, and the call is left to `finish`.
+    pub fn attempt(
+        &mut self,
+        alloc: Global,
+        board: &Board<N>,
+        mut held: Held<N>,
+    ) -> Result<(Answer, Option<Held<N>>), NoMemory>
+        ensures tried { HasTried held.call (answer_in result) self.old self.new }
+        ensures back { IfOk result (λ r. GivesBack held r.0 r.1 self.new) }
+    {
+        self.see(board, &mut held);
+        if !self.has(&held) {
+            return Ok((Answer::Lost, None));
+        }
+        let Held {
+            call,
+            start,
+            mut running,
+            mut pass,
+            ..
+        } = held;
+        match self.decide(alloc, board, call, &mut running)? {
+            Answer::Repaired => {
+                let news = note(&mut self.pass, board);
+                pass.meet(board, news);
+                let repaired = Held {
+                    call,
+                    start: self.book.commits(),
+                    from: Some(start),
+                    running,
+                    pass,
+                };
+                Ok((Answer::Repaired, Some(repaired)))
+            }
+            answer => Ok((answer, None)),
+        }
+    }
+
+    /// Returns the number of calls of the script.
+    fn calls(&self) -> u32
+        ensures { result ≡ length self.now.script.calls }
+    {
+        self.book.script().calls.len() as u32
+    }
+
+    /// Runs a live call whole anew, at its start. Fails with `NoMemory` if memory runs out, and if the call was repaired
+    /// and the history doesn't have the number of that round. A repair sets that number in its own hold.
+    fn renew(&self, alloc: Global, call: u32) -> Result<Running, NoMemory>
+        requires live { IsLiveCall self.now.course call }
+        requires number { call < length self.now.script.calls }
+        ensures { IfOk result (IsOpen self.now call) }
+    {
+        let Some(rounds) = self.book.rounds(call) else {
+            unreachable!();
+        };
+        let start = self.book.start(call);
+        let task = whole_task(alloc, &self.book, &self.store, call, start)?;
+        let Some(count) = count_of(rounds, task.records().len()) else {
+            return Err(NoMemory);
+        };
+        Ok(Running {
+            task,
+            count: Some(count),
+        })
+    }
+
+    /// Commits a live call that no worker holds any more.
+    fn commit_left(&mut self, alloc: Global, board: &Board<N>, call: u32) -> Result<(), NoMemory>
+        requires live { IsLiveCall self.old.course call }
+        requires number { call < length self.old.script.calls }
+        ensures done { OnOk result (IsDone self.new.course call) }
+        ensures kept { KeepsDone self.old self.new }
+    {
+        let mut running = self.renew(alloc, call)?;
+        let answer = self.decide(alloc, board, call, &mut running)?;
+        let Answer::Repaired = answer else {
+            return Ok(());
+        };
+        self.commit(alloc, board, call, &running)?;
+        Ok(())
+    }
+
+    /// Begins a call, if it is the next one.
+    fn begin_left(&mut self, alloc: Global, call: u32) -> Result<(), NoMemory>
+        requires begun { call ≤ length self.old.course.calls }
+        requires there { call < length self.old.script.calls }
+        ensures begun { OnOk result (call < length self.new.course.calls) }
+        ensures kept { KeepsDone self.old self.new }
+    {
+        let Some(next) = self.book.next_call() else {
+            return Ok(());
+        };
+        if next != call {
+            return Ok(());
+        }
+        self.book.begin(alloc)?;
+        Ok(())
+    }
+
+    /// Brings a call to its commit, if it hasn't committed. All calls before it have begun.
+    fn bring(&mut self, alloc: Global, board: &Board<N>, call: u32) -> Result<(), NoMemory>
+        requires begun { call ≤ length self.old.course.calls }
+        requires there { call < length self.old.script.calls }
+        ensures begun { OnOk result (call < length self.new.course.calls) }
+        ensures done { OnOk result (IsDone self.new.course call) }
+        ensures kept { KeepsDone self.old self.new }
+    {
+        self.begin_left(alloc, call)?;
+        let Some(_) = self.book.rounds(call) else {
+            return Ok(());
+        };
+        self.commit_left(alloc, board, call)
+    }
+
+    /// Begins the calls that haven't begun, and commits those that haven't committed, one after another. Fails with
+    /// `NoMemory` if memory runs out.
+    pub fn finish(&mut self, alloc: Global, board: &Board<N>) -> Result<(), NoMemory>
+        ensures { OnOk result (open_call (work_in self.new) self.new.course ≡ None) }
+    {
+        for call in 0..self.calls() {
+            self.bring(alloc, board, call)?;
+        }
+        Ok(())
+    }
+
+    /// Turns the history into the outcome of the run. Each call must have committed. It copies the tables and the events.
+    /// Fails with `NoMemory` if memory runs out.
+    pub fn outcome(self, alloc: Global) -> Result<Outcome, NoMemory>
+        requires { open_call (work_in self) self.course ≡ None }
+        ensures { IfOk result (IsOutcome (work N.script)) }
+    {
+        let Desk { book, store, .. } = self;
+        let tables = store.tables_at(alloc, store.last())?;
+        book.outcome(alloc, tables)
+    }
+}

@@ -1,0 +1,261 @@
+//! The gate, its workers, and whole runs by any number of them.
+
+ghost use Rattle.std.specs.Prelude.{◌≡◌, ◌<◌, ◌≤◌, ◌^◌, IfOk, length};
+ghost use mathlib.Core.List.{IsPrefix};
+ghost use Rattle.mv_seats.specs.Knowing.{Plain};
+ghost use Rattle.mv_core.specs.Scripts.{IsScript, work_of};
+ghost use Rattle.mv_gate.specs.Gates.{script_in, work, IsOutcome};
+
+use crate::answers::Answer;
+use crate::desk::Desk;
+use crate::held::Held;
+use crate::notes::note;
+use mv_core::script::Script;
+use mv_edge::pace::{Moment, Pace, Point};
+use mv_journal::outcome::Outcome;
+use mv_seats::board::{Blank, Board, Making};
+use mv_seats::pass::Pass;
+use mv_values::memory::NoMemory;
+use std::alloc::Global;
+use std::marker::Brand;
+use std::sync::{Mutex, Wait};
+use std::thread;
+use std::thread::Threads;
+
+/// A lock round the history of a run, and the board that counts its commits. All workers share it. Each event is one hold
+/// of the lock. A begin copies the call's arguments. A statement holds the lock while it is executed. An attempt holds it
+/// for the validation, and then for the commit or the repair.
+#[derive(Drop)]
+pub struct Gate<N: Making> {
+    board: Board<N>,
+    desk: Mutex<Desk<N>>,
+}
+
+/// A worker's pass and number.
+#[derive(Drop)]
+struct Chair<N: Making> {
+    pass: Pass<N>,
+    number: u32,
+    ghost plain: { pass.role ≡ Plain },
+}
+
+impl<N: Making> Gate<N> {
+    /// Returns the gate of a script before any event, and a plain pass that has seen no commit. `N` names the blank and
+    /// its script. It copies the opening database. Fails with `NoMemory` if memory runs out.
+    pub fn new(alloc: Global, blank: Blank, script: Script) -> Result<(Gate<N>, Pass<N>), NoMemory>
+        requires board { blank.board ≡ N.board }
+        requires named { blank.script ≡ N.script }
+        requires script { script ≡ script_in N.script }
+        requires sound { IsScript script }
+        ensures { IfOk result (λ made. made.1.role ≡ Plain) }
+    {
+        let (board, pass) = blank.open::<N>();
+        let mut desk = Desk::new(alloc, script, pass)?;
+        let pass = desk.pass_for(&board);
+        let desk = Mutex::new(desk);
+        Ok((Gate { board, desk }, pass))
+    }
+
+    /// Event B, as one hold.
+    fn begin<R: Wait>(&self, rt: &R, alloc: Global) -> Result<Option<Held<N>>, NoMemory> {
+        self.desk.lock(rt).begin(alloc, &self.board)
+    }
+
+    /// Event S, as one hold.
+    fn step<R: Wait>(&self, rt: &R, alloc: Global, held: &mut Held<N>) -> Result<bool, NoMemory>
+        ensures { held.new.call ≡ held.old.call }
+    {
+        self.desk.lock(rt).step(alloc, &self.board, held)
+    }
+
+    /// Event C, A or X, as one hold.
+    fn attempt<R: Wait>(
+        &self,
+        rt: &R,
+        alloc: Global,
+        held: Held<N>,
+    ) -> Result<(Answer, Option<Held<N>>), NoMemory> {
+        self.desk.lock(rt).attempt(alloc, &self.board, held)
+    }
+}
+
+/// Tells the pace what a worker has reached.
+fn tell<R: Wait, P: Pace>(rt: &R, pace: &P, worker: u32, call: u32, moment: Moment) {
+    pace.at(
+        rt,
+        Point {
+            worker,
+            call,
+            moment,
+        },
+    );
+}
+
+/// Runs the statements of a call that has begun, one hold each.
+fn run_statements<N: Making, R: Threads + Wait + Sync, P: Pace>(
+    rt: &R,
+    alloc: Global,
+    gate: &Gate<N>,
+    held: &mut Held<N>,
+    number: u32,
+    pace: &P,
+) -> Result<(), NoMemory>
+    ensures { held.new.call ≡ held.old.call }
+{
+    for _ in rt.forever() {
+        if held.ended() || !gate.step(rt, alloc, held)? {
+            return Ok(());
+        }
+        tell(rt, pace, number, held.call(), Moment::Ran);
+    }
+    unreachable!()
+}
+
+/// Brings a call that has begun to its commit. If the history no longer has the call as it is held, the call is left to
+/// the caller of the workers.
+fn run_call<N: Making, R: Threads + Wait + Sync, P: Pace>(
+    rt: &R,
+    alloc: Global,
+    gate: &Gate<N>,
+    mut held: Held<N>,
+    number: u32,
+    pace: &P,
+) -> Result<(), NoMemory> {
+    let call = held.call();
+    tell(rt, pace, number, call, Moment::Begun);
+    run_statements(rt, alloc, gate, &mut held, number, pace)?;
+    for _ in rt.forever() {
+        tell(rt, pace, number, call, Moment::Before);
+        let (answer, repaired) = gate.attempt(rt, alloc, held)?;
+        if let Answer::Committed(_) = answer {
+            tell(rt, pace, number, call, Moment::Answered);
+        }
+        match repaired {
+            Some(again) => held = again,
+            None => return Ok(()),
+        }
+    }
+    unreachable!()
+}
+
+/// Begins calls and brings each to its commit, until none is left to begin. Calls the pace after each begin, each
+/// statement and each commit, and before each attempt to commit, while no lock is held. Fails with `NoMemory` if memory
+/// runs out, and leaves its call to the caller.
+pub fn worker<N: Making, R: Threads + Wait + Sync, P: Pace>(
+    rt: &R,
+    alloc: Global,
+    gate: &Gate<N>,
+    pass: &mut Pass<N>,
+    number: u32,
+    pace: &P,
+) -> Result<(), NoMemory>
+    requires { pass.old.role ≡ Plain }
+    ensures role { pass.new.role ≡ pass.old.role }
+    ensures seen { IsPrefix pass.old.seen pass.new.seen }
+{
+    for _ in rt.forever() {
+        let Some(mut held) = gate.begin(rt, alloc)? else {
+            return Ok(());
+        };
+        pass.meet(&gate.board, held.pass_for(&gate.board));
+        run_call(rt, alloc, gate, held, number, pace)?;
+    }
+    unreachable!()
+}
+
+/// Returns the chair of a worker.
+fn seat_at<N: Making>(pass: Pass<N>, number: u32) -> Chair<N>
+    requires { pass.role ≡ Plain }
+{
+    Chair { pass, number }
+}
+
+/// Works in a chair. What the worker leaves if memory runs out is left to the caller of the workers.
+fn sit<N: Making, R: Threads + Wait + Sync, P: Pace>(
+    rt: &R,
+    alloc: Global,
+    gate: &Gate<N>,
+    chair: &mut Chair<N>,
+    pace: &P,
+) {
+    let number = chair.number;
+    let _left = worker(rt, alloc, gate, &mut chair.pass, number, pace);
+}
+
+/// Runs the calls of a gate's script by 1 to 64 workers. Returns the outcome of a lawful journal in which each call has
+/// committed once. What workers leave, the caller finishes. Fails with `NoMemory` if memory runs out.
+pub fn run_all<N: Making + Send + Sync, R: Threads + Wait + Sync, P: Pace>(
+    rt: &R,
+    alloc: Global,
+    gate: Gate<N>,
+    mut pass: Pass<N>,
+    workers: u32,
+    pace: &P,
+) -> Result<Outcome, NoMemory>
+    requires workers { (0 < workers) × (workers ≤ 64) }
+    requires pass { pass.role ≡ Plain }
+    ensures { IfOk result (IsOutcome (work N.script)) }
+{
+    let mut chairs = Vec::new(alloc);
+    for number in 0..workers {
+        let mine = note(&mut pass, &gate.board);
+        let chair = seat_at(mine, number);
+        chairs.push(chair)?;
+    }
+    let shared = &gate;
+    thread::for_each_mut(
+        rt,
+        chairs.as_mut_slice(),
+        workers as usize,
+        &|_, chair: &mut Chair<N>| sit(rt, alloc, shared, chair, pace),
+    );
+    let Gate { board, desk } = gate;
+    let mut desk = desk.into_inner();
+    desk.finish(alloc, &board)?;
+    desk.outcome(alloc)
+}
+
+/// Runs the calls of a script by 1 to 64 workers. Returns the outcome of a lawful journal in which each call has committed
+/// once, and no call was repaired more often than the options allow. Fails with `NoMemory` if memory runs out.
+pub fn run<R: Threads + Wait + Sync, P: Pace>(
+    rt: &R,
+    alloc: Global,
+    script: Script,
+    workers: u32,
+    pace: &P,
+) -> Result<Outcome, NoMemory>
+    requires sound { IsScript script }
+    requires calls { length script.calls ≤ 1000000 }
+    requires workers { (0 < workers) × (workers ≤ 64) }
+    ensures { IfOk result (IsOutcome (work_of script)) }
+{
+    let blank = Blank::new(
+        alloc,
+        &script.graphs,
+        &script.calls,
+        &script.opening,
+        &script.options,
+        1,
+    )?;
+    run_named::<Brand, R, P>(rt, alloc, blank, script, workers, pace)
+}
+
+/// Runs the calls of the script that `N` names.
+fn run_named<N: Making + Send + Sync, R: Threads + Wait + Sync, P: Pace>(
+    rt: &R,
+    alloc: Global,
+    blank: Blank,
+    script: Script,
+    workers: u32,
+    pace: &P,
+) -> Result<Outcome, NoMemory>
+    requires board { blank.board ≡ N.board }
+    requires named { blank.script ≡ N.script }
+    requires script { script ≡ script_in N.script }
+    requires sound { IsScript script }
+    requires workers { (0 < workers) × (workers ≤ 64) }
+    ensures { IfOk result (IsOutcome (work_of script)) }
+{
+    let (gate, pass) = Gate::<N>::new(alloc, blank, script)?;
+    run_all(rt, alloc, gate, pass, workers, pace)
+}
