@@ -37,19 +37,19 @@ same_refusal options bytes p r q (unlawful es w are wrong) (unlawful fs v were w
     ap refusal_of (same_Some w v (sym wrong ∙ (ap (wrong_with (work_of p options)) same ∙ worse)))
 
 text_is_taken : (command : Command) (bytes answer : List ℕ) (p : Program) (r : Refusal) → IsTextOf command bytes p answer → RefusesProgram command bytes p r → ⊥
-text_is_taken Run bytes answer p r t bad = bad
+text_is_taken (Run threads options) bytes answer p r t bad = bad
 text_is_taken (Replay options) bytes answer p r t bad = lawful_is_taken options bytes p t.events r t.is bad
 text_is_taken Serial bytes answer p r t bad = bad
 text_is_taken Graph bytes answer p r t bad = bad
 
 taken : (command : Command) (bytes : List ℕ) (p : Program) (r : Refusal) → Takes command bytes p → RefusesProgram command bytes p r → ⊥
-taken Run bytes p r t bad = bad
+taken (Run threads options) bytes p r t bad = bad
 taken (Replay options) bytes p r t bad = lawful_is_taken options bytes p t.0 r t.1 bad
 taken Serial bytes p r t bad = bad
 taken Graph bytes p r t bad = bad
 
 one_refusal : (command : Command) (bytes : List ℕ) (p : Program) (r q : Refusal) → RefusesProgram command bytes p r → RefusesProgram command bytes p q → r ≡ q
-one_refusal Run bytes p r q a b = absurd a
+one_refusal (Run threads options) bytes p r q a b = absurd a
 one_refusal (Replay options) bytes p r q a b = same_refusal options bytes p r q a b
 one_refusal Serial bytes p r q a b = absurd a
 one_refusal Graph bytes p r q a b = absurd a

@@ -1,5 +1,5 @@
--- What one worker writes is the text of a run, and a text fixes its journal.
-use Rattle.std.proofs.Common.{◌≡◌, ◌≤◌, ℕ, List, [], ◌∷◌, ◌++◌, Option, Some, None, Result, Ok, Err, All, IfOk, refl, sym, ap, ◌∙◌, arith, length}
+-- What workers leave has the text of a run, and a text fixes its journal.
+use Rattle.std.proofs.Common.{◌≡◌, ◌<◌, ◌≤◌, ℕ, List, [], ◌∷◌, ◌++◌, Option, Some, None, Result, Ok, Err, All, IfOk, refl, sym, ap, ◌∙◌, arith, length}
 use Rattle.std.specs.Prelude.{slice_get, ◌==◌}
 use Rattle.std.specs.List.{position}
 use Rattle.std.proofs.lemmas.List.Elements.{All-nil, All-push, All-map, All-weaker}
@@ -39,18 +39,30 @@ use Rattle.mv_lawful.proofs.Turns.{in_turn_is_lawful}
 use Rattle.mv_report.specs.Shown.{IsPrinted, IsPlain}
 use Rattle.mv_report.specs.Text.{text_of}
 use Rattle.mv_report.proofs.Fixing.{text_fixes}
-use Rattle.mv_top.specs.History.{usual, work_of, text, in_turn, IsRunText, TextFixesJournal}
+use Rattle.mv_gate.specs.Gates.{IsOutcome}
+use Rattle.mv_top.specs.History.{work_of, text, in_turn as turns_of, TextFixesJournal}
+use Rattle.mv_top.specs.Answers.{IsTextOfWorkers}
 
--- One worker
+-- Runs
 
-is_run : (p : Program) (bytes : List ℕ) → bytes ≡ text p usual (in_turn p) → IsRunText p usual bytes × (bytes ≡ text p usual (in_turn p))
-is_run p bytes is = let it = in_turn_is_lawful (work_of p usual) in (record { journal = in_turn p; lawful = it.lawful; bounded = it.bounded; text_is = is }, is)
+-- the text of what workers leave, unless there is one of them
+pub text_runs : {E : Type 0} (p : Program) (options : Options) (count : ℕ) (result : Result (List ℕ) E) (left : Outcome) → 1 < count → IsOutcome (work_of p options) left
+    → IfOk result (λ bytes. bytes ≡ text_of p.resolved.tables left) → IfOk result (IsTextOfWorkers count options p)
+text_runs p options count (Ok bytes) left more is h =
+    (record { journal = left.journal; lawful = is.lawful; bounded = is.bounded; text_is = h ∙ ap (text_of p.resolved.tables) is.outcome }, λ one. absurd (omega (arith, more, one)))
+text_runs p options count (Err e) left more is h = tt
 
--- so is the text of what one worker leaves
-pub text_runs : {E : Type 0} (p : Program) (result : Result (List ℕ) E) (left : Outcome) → left ≡ outcome_of (work_of p usual) (in_turn p)
-    → IfOk result (λ bytes. bytes ≡ text_of p.resolved.tables left) → IfOk result (λ bytes. IsRunText p usual bytes × (bytes ≡ text p usual (in_turn p)))
-text_runs p (Ok bytes) left is h = is_run p bytes (h ∙ ap (text_of p.resolved.tables) is)
-text_runs p (Err e) left is h = tt
+-- the text of what one worker leaves
+pub text_turns : {E : Type 0} (p : Program) (options : Options) (result : Result (List ℕ) E) (left : Outcome) → left ≡ outcome_of (work_of p options) (turns_of p)
+    → IfOk result (λ bytes. bytes ≡ text_of p.resolved.tables left) → IfOk result (λ bytes. bytes ≡ text p options (turns_of p))
+text_turns p options (Ok bytes) left is h = h ∙ ap (text_of p.resolved.tables) is
+text_turns p options (Err e) left is h = tt
+
+-- it is one of any number of them
+pub turns_are_run : (p : Program) (options : Options) (count : ℕ) (bytes : List ℕ) → bytes ≡ text p options (turns_of p) → IsTextOfWorkers count options p bytes
+turns_are_run p options count bytes is =
+    let it = in_turn_is_lawful (work_of p options) in
+    (record { journal = turns_of p; lawful = it.lawful; bounded = it.bounded; text_is = is }, λ one. is)
 
 -- The lines of replies
 

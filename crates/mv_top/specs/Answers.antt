@@ -3,6 +3,7 @@ use Rattle.std.specs.Prelude.{◌≡◌, ◌⊎◌, ℕ, List, [], ◌∷◌, �
 use Rattle.std.specs.Option.{ForSome}
 use Rattle.std.specs.declared.alloc.Global.{Global}
 use Rattle.mv_edge.specs.Edge.{Rose, Writes, WritesFront}
+use Rattle.mv_values.specs.declared.calls.Options.{Options}
 use Rattle.mv_catalog.specs.declared.resolved.Program.{Program}
 use Rattle.mv_journal.specs.declared.event.Event.{Event}
 use Rattle.mv_accept.specs.declared.refusal.Refusal.{Refusal as ScriptRefusal}
@@ -10,7 +11,7 @@ use Rattle.mv_accept.specs.Accepting.{Accepts, Refuses}
 use Rattle.mv_top.specs.declared.refusal.Refusal.{Refusal}
 use Rattle.mv_top.specs.declared.refusal.Refusal.TheVariants.{Script}
 use Rattle.mv_top.specs.Refusals.{number_of, line_of}
-use Rattle.mv_top.specs.History.{usual, text, in_turn, IsRunText}
+use Rattle.mv_top.specs.History.{text, in_turn, IsRunText}
 use Rattle.mv_top.specs.Journals.{HasLawfulJournal, IsJournalText, RefusesJournal}
 use Rattle.mv_top.specs.Serial.{serial}
 use Rattle.mv_top.specs.Graphs.{graphs}
@@ -22,14 +23,14 @@ use Rattle.mv_top.specs.declared.status.Status.TheVariants.{Done, Refused, Usage
 use Rattle.mv_top.specs.declared.status.Fault.{Fault}
 use Rattle.mv_top.specs.declared.status.Fault.TheVariants as fault
 
--- the text of a run that one worker makes
-abbrev pub IsTurnsText : Program → List ℕ → Type 0
-IsTurnsText program answer = IsRunText program usual answer × (answer ≡ text program usual (in_turn program))
+-- the text of a run by this many workers; one worker makes the events of each call before it begins the next
+abbrev pub IsTextOfWorkers : ℕ → Options → Program → List ℕ → Type 0
+IsTextOfWorkers threads options program answer = IsRunText program options answer × (threads ≡ 1 → answer ≡ text program options (in_turn program))
 
--- for the program of these bytes the command may write this text: that of a run, which one worker makes; that of the
--- script's own journal; of the calls alone in call order; or of the graphs of the procedures
+-- for the program of these bytes the command may write this text: that of a run, whose workers may take turns in any way;
+-- that of the script's own journal; of the calls alone in call order; or of the graphs of the procedures
 abbrev pub IsTextOf : Command → List ℕ → Program → List ℕ → Type 0
-IsTextOf Run bytes program answer = IsTurnsText program answer
+IsTextOf (Run threads options) bytes program answer = IsTextOfWorkers threads options program answer
 IsTextOf (Replay options) bytes program answer = IsJournalText options bytes program answer
 IsTextOf Serial bytes program answer = answer ≡ serial program
 IsTextOf Graph bytes program answer = answer ≡ graphs program
@@ -40,7 +41,7 @@ IsTextFor command bytes answer = (program : Program) × Accepts bytes program ×
 
 -- the command has a text for an accepted program: `replay` if its journal is lawful, the others always
 abbrev pub Takes : Command → List ℕ → Program → Type 0
-Takes Run bytes program = Unit {0}
+Takes (Run threads options) bytes program = Unit {0}
 Takes (Replay options) bytes program = (events : List Event) × HasLawfulJournal options bytes program events
 Takes Serial bytes program = Unit {0}
 Takes Graph bytes program = Unit {0}
@@ -51,7 +52,7 @@ TakesBytes command bytes program = Accepts bytes program × Takes command bytes 
 
 -- why the command refuses an accepted program: `replay` for its journal, the others for nothing
 abbrev pub RefusesProgram : Command → List ℕ → Program → Refusal → Type 0
-RefusesProgram Run bytes program refusal = ⊥
+RefusesProgram (Run threads options) bytes program refusal = ⊥
 RefusesProgram (Replay options) bytes program refusal = RefusesJournal options bytes program refusal
 RefusesProgram Serial bytes program refusal = ⊥
 RefusesProgram Graph bytes program refusal = ⊥

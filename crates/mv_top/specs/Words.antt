@@ -20,14 +20,15 @@ number least most digits = if nat_lt 10 (length digits) then None else option_an
 
 -- no options
 abbrev pub nothing : Given
-nothing = record { rounds = None; horizon = None }
+nothing = record { threads = None; rounds = None; horizon = None }
 
 -- the options with one more; none if the option isn't there, is given twice, or has another value than it may
 abbrev pub given : Given → List ℕ → List ℕ → Option Given
 given g name value =
-    if bytes_eq name (codes "--rounds") then (if is_none g.rounds then option_map (λ n. record g { rounds = Some n }) (number 0 100 value) else None)
+    if bytes_eq name (codes "--threads") then (if is_none g.threads then option_map (λ n. record g { threads = Some n }) (number 1 64 value) else None)
+    else (if bytes_eq name (codes "--rounds") then (if is_none g.rounds then option_map (λ n. record g { rounds = Some n }) (number 0 100 value) else None)
     else (if bytes_eq name (codes "--horizon") then (if is_none g.horizon then option_map (λ n. record g { horizon = Some n }) (number 1 4294967295 value) else None)
-    else None)
+    else None))
 
 abbrev pub is_equals : ℕ → Bool
 is_equals byte = byte == 61
@@ -45,18 +46,26 @@ given_by g (word ∷ next ∷ more) =
     else option_and_then (λ h. given_by h more) (given g word next)
 
 abbrev pub is_nothing : Given → Bool
-is_nothing g = is_none g.rounds && is_none g.horizon
+is_nothing g = is_none g.threads && (is_none g.rounds && is_none g.horizon)
 
 -- the options of a call's execution: those that aren't given are as usual
 abbrev pub options_of : Given → Options
 options_of g = record { rounds = unwrap_or g.rounds usual.rounds; horizon = g.horizon }
 
+-- `run` with these options; it has no horizon
+abbrev pub run_with : Given → Option Command
+run_with g = if is_none g.horizon then Some (Run (unwrap_or g.threads 1) (options_of g)) else None
+
+-- `replay` with these options; it has no workers
+abbrev pub replay_with : Given → Option Command
+replay_with g = if is_none g.threads then Some (Replay (options_of g)) else None
+
 -- the command with a name and options, if it has them
 abbrev pub command_with : List ℕ → Given → Option Command
 command_with name g =
-    if bytes_eq name (codes "replay") then Some (Replay (options_of g))
+    if bytes_eq name (codes "run") then run_with g
+    else (if bytes_eq name (codes "replay") then replay_with g
     else (if not (is_nothing g) then None
-    else (if bytes_eq name (codes "run") then Some Run
     else (if bytes_eq name (codes "serial") then Some Serial
     else (if bytes_eq name (codes "graph") then Some Graph else None))))
 

@@ -7,7 +7,8 @@ ghost use Rattle.mv_catalog.specs.declared.resolved.Program.{Program as Whole};
 ghost use Rattle.mv_values.specs.declared.calls.Options.{Options as Given};
 ghost use Rattle.mv_top.specs.declared.refusal.Refusal.{Refusal as Why};
 ghost use Rattle.mv_top.specs.declared.status.Command.TheVariants as command;
-ghost use Rattle.mv_top.specs.Answers.{IsTextFor, IsTextOf, IsTurnsText, Takes, TakesBytes, IsRefusedBy, RefusesProgram, HasCause, IsToldBy};
+ghost use Rattle.mv_top.specs.Answers.{IsTextFor, IsTextOf, Takes, TakesBytes, IsRefusedBy, RefusesProgram, HasCause, IsToldBy};
+ghost use Rattle.mv_top.specs.History.{text, in_turn};
 ghost use Rattle.mv_top.specs.Refusing.{Causes, Tells};
 
 use crate::graphs::graph_text;
@@ -15,7 +16,8 @@ use crate::journals::journal_text;
 use crate::refusal::{NoText, Refusal};
 use crate::script::{Prepared, prepare};
 use crate::serial::serial_text;
-use crate::status::{Command, Fault, usual};
+use crate::status::{Command, Fault};
+use crate::workers::{Run, workers_answer};
 use mv_accept::accept::{NotAccepted, accept};
 use mv_accept::refusal::Refusal as ScriptRefusal;
 use mv_catalog::resolved::Program;
@@ -32,11 +34,11 @@ use std::thread::Threads;
 /// Returns the text to write for a command and its input. Fails with `Refused`, which has the number and the line of
 /// the refusal, if the input is refused, and with `NoMemory` if memory runs out.
 pub fn answer<R: Threads + Wait + Sync, P: Pace>(
-    _rt: &R,
+    rt: &R,
     alloc: Global,
     command: &Command,
     bytes: &[u8],
-    _pace: &P,
+    pace: &P,
 ) -> Result<List<u8>, Fault>
     ensures found { IfOk result (IsTextFor command.now bytes.now) }
     // A command gets its text for an accepted script, and `replay` for one with a lawful journal.
@@ -45,7 +47,16 @@ pub fn answer<R: Threads + Wait + Sync, P: Pace>(
     // A refusal that has its cause in the command and the bytes is returned, unless memory runs out.
     ensures told { (refusal : Why) → IsRefusedBy command.now bytes.now refusal → MatchResult result (λ answer. ⊥) (IsToldBy refusal) }
 {
-    answered(alloc, command, bytes)
+    match command {
+        Command::Run { threads, options } if *threads > 1 => {
+            let run = Run {
+                threads: *threads,
+                options: *options,
+            };
+            workers_answer(rt, alloc, run, bytes, pace)
+        }
+        _ => answered(alloc, command, bytes),
+    }
 }
 
 /// Returns the text of a script's own journal. Waits for no other thread. Fails as `answer` does.
@@ -64,7 +75,7 @@ pub fn replay(
     answered(alloc, &command, bytes)
 }
 
-/// Returns the text to write for a command and its input.
+/// Returns the text to write for a command and its input. One worker does what is to be done, and waits for no other thread.
 fn answered(alloc: Global, command: &Command, bytes: &[u8]) -> Result<List<u8>, Fault>
     ensures found { IfOk result (IsTextFor command.now bytes.now) }
     ensures only { (program : Whole) → TakesBytes command.now bytes.now program → MatchResult result (IsTextOf command.now bytes.now program) (λ fault. fault ≡ Fault.NoMemory) }
@@ -93,7 +104,7 @@ fn text_for(alloc: Global, command: &Command, bytes: &[u8]) -> Result<List<u8>, 
 }
 
 /// Returns the refusal of a script.
-fn of_script(refusal: ScriptRefusal) -> NoText
+pub(crate) fn of_script(refusal: ScriptRefusal) -> NoText
     ensures { result ≡ NoText.Refused (Refusal.Script refusal) }
 {
     NoText::Refused(Refusal::Script(refusal))
@@ -115,26 +126,26 @@ fn text_of(
     ensures told { (refusal : Why) → RefusesProgram command.now bytes.now program refusal → MatchResult result (λ answer. ⊥) (Tells refusal) }
 {
     match command {
-        Command::Run => Ok(run_text(alloc, program)?),
+        Command::Run { options, .. } => Ok(turns_text(alloc, *options, program)?),
         Command::Replay(options) => journal_text(alloc, *options, bytes, program),
         Command::Serial => Ok(serial_text(alloc, &program)?),
         Command::Graph => Ok(graph_text(alloc, &program)?),
     }
 }
 
-/// Returns the text of a run by one worker.
-fn run_text(alloc: Global, program: Program) -> Result<List<u8>, NoMemory>
+/// Returns the text of a run by one worker, which makes the events of each call before it begins the next.
+fn turns_text(alloc: Global, options: Options, program: Program) -> Result<List<u8>, NoMemory>
     requires whole { IsProgram program }
     requires few { length program.resolved.calls ≤ most_calls }
-    ensures { IfOk result (IsTurnsText program) }
+    ensures { IfOk result (λ answer. answer ≡ text program options (in_turn program)) }
 {
-    let Prepared { script, tables } = prepare(alloc, program, usual())?;
+    let Prepared { script, tables } = prepare(alloc, program, options)?;
     let outcome = run_in_turn(alloc, script)?;
     render(alloc, &tables, &outcome)
 }
 
 /// Returns the fault for a refusal.
-fn fault_of(alloc: Global, refusal: &Refusal) -> Fault
+pub(crate) fn fault_of(alloc: Global, refusal: &Refusal) -> Fault
     ensures { IsToldBy refusal.now result }
 {
     match refusal.line(alloc) {

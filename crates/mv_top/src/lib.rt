@@ -11,3 +11,4 @@ mod serial;
 pub mod status;
 pub mod top;
 mod words;
+mod workers;

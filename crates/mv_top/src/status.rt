@@ -37,8 +37,9 @@ impl Status {
 /// A command that the program takes.
 #[derive(Clone, Copy)]
 pub enum Command {
-    /// Runs the calls of a script, and writes their history.
-    Run,
+    /// Runs the calls of a script by this many workers, and writes their history. There are 1 to 64 workers: a smaller
+    /// or greater number counts as one of these.
+    Run { threads: u32, options: Options },
     /// Makes the events of the script's own journal, and writes their history.
     Replay(Options),
     /// Runs each call alone, after those before it, by the machine that defines what calls mean.

@@ -2,7 +2,7 @@
 
 ghost use Rattle.std.specs.Prelude.{◌≡◌};
 ghost use Rattle.mv_top.specs.Answers.{words_of};
-ghost use Rattle.mv_top.specs.Words.{number, nothing, given, given_by, is_nothing, options_of, command_with, command_of};
+ghost use Rattle.mv_top.specs.Words.{number, nothing, given, given_by, is_nothing, options_of, run_with, replay_with, command_with, command_of};
 
 use crate::status::{Command, usual};
 use mv_journal::line::number_of;
@@ -14,18 +14,20 @@ const MOST_DIGITS: usize = 10;
 /// The options that words give.
 #[derive(Clone, Copy)]
 pub(crate) struct Given {
+    pub(crate) threads: Option<u32>,
     pub(crate) rounds: Option<u32>,
     pub(crate) horizon: Option<u32>,
 }
 
 /// Returns the command that the words say. The first word is its name. The command's options follow in any order, each at
-/// most once, as `--name=value` or as `--name value`. A value is 1 to 10 decimal digits. `replay` takes `--rounds`, 0 to
-/// 100, and `--horizon`, 1 to 4294967295. The other commands take none.
+/// most once, as `--name=value` or as `--name value`. A value is 1 to 10 decimal digits. `run` takes `--threads`, 1 to 64,
+/// and `--rounds`, 0 to 100. `replay` takes `--rounds`, and `--horizon`, 1 to 4294967295. The other commands take none.
 pub(crate) fn command_of(words: &[String]) -> Option<Command>
     ensures { result ≡ command_of (words_of words.now) }
 {
     let (name, options) = words.split_first()?;
     let nothing = Given {
+        threads: None,
         rounds: None,
         horizon: None,
     };
@@ -37,14 +39,16 @@ pub(crate) fn command_of(words: &[String]) -> Option<Command>
 fn command_with(name: &str, given: Given) -> Option<Command>
     ensures { result ≡ command_with name.now given }
 {
+    if name == "run" {
+        return given.run();
+    }
     if name == "replay" {
-        return Some(Command::Replay(given.options()));
+        return given.replay();
     }
     if !given.is_nothing() {
         return None;
     }
     match name {
-        "run" => Some(Command::Run),
         "serial" => Some(Command::Serial),
         "graph" => Some(Command::Graph),
         _ => None,
@@ -72,6 +76,10 @@ impl Given {
         ensures { result ≡ given self name.now value.now }
     {
         match name {
+            "--threads" if self.threads.is_none() => Some(Given {
+                threads: Some(number(1, 64, value)?),
+                ..self
+            }),
             "--rounds" if self.rounds.is_none() => Some(Given {
                 rounds: Some(number(0, 100, value)?),
                 ..self
@@ -84,10 +92,33 @@ impl Given {
         }
     }
 
+    /// Returns `run` with these options, if it has them.
+    fn run(&self) -> Option<Command>
+        ensures { result ≡ run_with self.now }
+    {
+        if self.horizon.is_some() {
+            return None;
+        }
+        Some(Command::Run {
+            threads: self.threads.unwrap_or(1),
+            options: self.options(),
+        })
+    }
+
+    /// Returns `replay` with these options, if it has them.
+    fn replay(&self) -> Option<Command>
+        ensures { result ≡ replay_with self.now }
+    {
+        if self.threads.is_some() {
+            return None;
+        }
+        Some(Command::Replay(self.options()))
+    }
+
     fn is_nothing(&self) -> bool
         ensures { result ≡ is_nothing self.now }
     {
-        self.rounds.is_none() && self.horizon.is_none()
+        self.threads.is_none() && self.rounds.is_none() && self.horizon.is_none()
     }
 
     /// Returns the options of a call's execution. Those that aren't given are as usual.

@@ -4,7 +4,8 @@ use Rattle.mv_top.specs.declared.refusal.NoText.TheVariants.{NoMemory}
 use Rattle.mv_top.specs.declared.status.Command.{Command}
 use Rattle.mv_top.specs.declared.status.Command.TheVariants.{Replay}
 use Rattle.mv_top.specs.Refusing.{Tells}
-use Rattle.mv_top.specs.Answers.{Takes, RefusesProgram}
+use Rattle.mv_top.specs.Answers.{IsTextOf, Takes, RefusesProgram}
+use Rattle.mv_top.proofs.Texts.{turns_are_run}
 use Rattle.mv_top.proofs.Judging.{only_of, told_of}
 use Rattle.mv_top.proofs.answer.text_of.Goals as goal
 
@@ -17,3 +18,8 @@ pub returns-in-Replay-clause-told : goal.returns-in-Replay-clause-told
 returns-in-Replay-clause-told c =
     subst (λ (k : Command). (refusal : Refusal) → RefusesProgram k c.args.bytes.now c.args.program refusal → MatchResult c.journal_text.result (λ answer. ⊥) (Tells refusal)) (sym c.in-Replay.is)
     (told_of (Replay c.in-Replay.options) c.args.bytes.now c.args.program c.journal_text.result c.journal_text.ensures.text c.journal_text.ensures.refused)
+
+pub returns-in_ok-turns_text-in-Run-clause-found : goal.returns-in_ok-turns_text-in-Run-clause-found
+returns-in_ok-turns_text-in-Run-clause-found c =
+    subst (λ (k : Command). IsTextOf k c.args.bytes.now c.args.program c.in_ok-turns_text-in-Run.field-0) (sym c.in-Run.is)
+    (turns_are_run c.args.program c.in-Run.options c.in-Run.threads c.in_ok-turns_text-in-Run.field-0 c.in_ok-turns_text-in-Run.ensures)

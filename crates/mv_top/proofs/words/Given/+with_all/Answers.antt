@@ -23,3 +23,10 @@ returns t c =
     let by = apart_words c.args.self c.args.words.now c.in-Some.more.now c.in_ok-value.more.now c.in-Some.word.now c.in_ok-value.value.now c.as_str.result.now c.as_str-2.result.now c.as_str-3.result.now c.in-Some.ensures.cases.0 c.in_ok-value.ensures.cases.0
     c.as_str.ensures.value c.as_str-2.ensures.value c.as_str-3.ensures.value split in
     c.with_all-2.ensures ∙ sym (by ∙ ap (option_and_then (λ (h : Given). given_by h (words_of c.in_ok-value.more.now))) (sym c.with-2.ensures ∙ c.in_ok-with-2.was))
+
+pub returns-in_err-with-2 : goal.returns-in_err-with-2
+returns-in_err-with-2 t c =
+    let split = c.in_default-split_once.ensures.byte (omega arith) (λ w o f. f) in
+    let by = apart_words c.args.self c.args.words.now c.in-Some.more.now c.in_ok-value.more.now c.in-Some.word.now c.in_ok-value.value.now c.as_str.result.now c.as_str-2.result.now c.as_str-3.result.now c.in-Some.ensures.cases.0 c.in_ok-value.ensures.cases.0
+    c.as_str.ensures.value c.as_str-2.ensures.value c.as_str-3.ensures.value split in
+    c.from_residual-in_err-with-2.ensures ∙ sym (by ∙ ap (option_and_then (λ (h : Given). given_by h (words_of c.in_ok-value.more.now))) (sym c.with-2.ensures ∙ c.in_err-with-2.was))
