@@ -8,6 +8,8 @@ mod commands;
 #[cfg(test)]
 mod copies;
 #[cfg(test)]
+mod crews;
+#[cfg(test)]
 mod journals;
 #[cfg(test)]
 mod machine;

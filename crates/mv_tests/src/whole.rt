@@ -2,7 +2,7 @@
 
 use mv_edge::memory_sink::MemorySink;
 use mv_edge::memory_source::MemorySource;
-use mv_edge::pace::NoPace;
+use mv_edge::pace::{NoPace, Pace};
 use mv_top::status::Status;
 use mv_top::top::top;
 use mv_values::list::List;
@@ -51,16 +51,6 @@ fn sink(alloc: Global, room: usize) -> Result<MemorySink, NoMemory> {
     MemorySink::new(alloc, room, List::new(alloc))
 }
 
-fn status_of<R: Threads + Wait + Sync>(
-    rt: &R,
-    alloc: Global,
-    words: &[String],
-    source: &mut MemorySource,
-    sink: &mut MemorySink,
-) -> Status {
-    top(rt, alloc, words, source, sink, &NoPace)
-}
-
 /// Checks that this text was written to a sink.
 fn wrote(alloc: Global, sink: &MemorySink, want: &str) -> Result<(), Fail> {
     let text = str::from_utf8(sink.written()).or(Err("no text"))?;
@@ -81,7 +71,7 @@ fn runs_on<R: Threads + Wait + Sync>(
 ) -> Result<(), Fail> {
     let (status, text) = want;
     let mut sink = sink(alloc, room)?;
-    let got = status_of(rt, alloc, words, source, &mut sink);
+    let got = top(rt, alloc, words, source, &mut sink, &NoPace);
     wrote(alloc, &sink, text)?;
     ensure(alloc, got == status, "another status")
 }
@@ -100,6 +90,23 @@ pub(crate) fn runs<R: Threads + Wait + Sync>(
     let words = strings(alloc, words)?;
     let mut source = source(alloc, input, failing)?;
     runs_on(rt, alloc, words.as_slice(), &mut source, room, want)
+}
+
+/// Checks that a run with these words on an input gives this text, if its workers call this pace.
+pub(crate) fn runs_at<R: Threads + Wait + Sync, P: Pace>(
+    rt: &R,
+    alloc: Global,
+    pace: &P,
+    words: &[&str],
+    input: &[u8],
+    want: &str,
+) -> Result<(), Fail> {
+    let words = strings(alloc, words)?;
+    let mut source = source(alloc, input, &[])?;
+    let mut sink = sink(alloc, 1_000_000)?;
+    let got = top(rt, alloc, words.as_slice(), &mut source, &mut sink, pace);
+    wrote(alloc, &sink, want)?;
+    ensure(alloc, got == Status::Done, "another status")
 }
 
 /// A source without faults, and a sink with enough room.
