@@ -15,6 +15,7 @@ use crate::resolved::{CopyInfo, ParamInfo, ProcInfo, RStmt, Resolved};
 use mv_ast::tree::{
     Arg, CallDef, ColDef, CopyDef, LitRow, Name, Param, ParamKind, ProcDef, Span, TableDef, VarDef,
 };
+use mv_names::index::Index;
 use mv_names::named::place;
 use mv_names::parts::Parts;
 use mv_values::calls::{Argument, Call};
@@ -234,12 +235,16 @@ fn arguments(alloc: Global, arguments: &[Arg]) -> Result<List<Argument>, NoMemor
     Ok(all)
 }
 
-/// Builds a call. Costs a search through the procedures' names.
-fn call(alloc: Global, procedures: &[ProcDef], definition: &CallDef) -> Result<Call, NoMemory>
+/// Builds a call.
+fn call(
+    alloc: Global,
+    procedures: &Index<'_, ProcDef>,
+    definition: &CallDef,
+) -> Result<Call, NoMemory>
     ensures { IfOk result (λ c. c ≡ call_of procedures.now definition.now) }
 {
     Ok(Call {
-        procedure: small_number(place(procedures, &definition.name.text)),
+        procedure: small_number(procedures.place(&definition.name.text)),
         arguments: arguments(alloc, definition.arguments.as_slice())?,
     })
 }
@@ -251,9 +256,10 @@ fn calls(
 ) -> Result<List<Call>, NoMemory>
     ensures { IfOk result (λ all. all ≡ map (call_of procedures.now) definitions.now) }
 {
+    let index = Index::of(alloc, procedures)?;
     let mut all = List::new(alloc);
     for definition in definitions {
-        all.push(call(alloc, procedures, definition)?)?;
+        all.push(call(alloc, &index, definition)?)?;
     }
     Ok(all)
 }
@@ -269,7 +275,8 @@ fn journal(blocks: &[Span]) -> Option<CopyInfo>
 }
 
 /// Builds the program of a script's parts. If the parts have a fault, the numbers of unknown names are arbitrary. Fails
-/// if memory runs out. Costs the size of the parts, and a linear search for each name.
+/// if memory runs out. Costs the size of the parts, a hash of each call's name, and a linear search for each other
+/// name.
 pub fn built(alloc: Global, parts: &Parts) -> Result<Resolved, NoMemory>
     ensures { IfOk result (λ r. r ≡ resolved_parts parts.now) }
 {

@@ -6,3 +6,4 @@ pub mod Scope
 pub mod Typing
 pub mod Statements
 pub mod Faults
+pub mod Index

@@ -8,6 +8,7 @@ ghost use Rattle.mv_names.specs.Faults as meant;
 ghost use Rattle.mv_names.specs.Faults.{parts_faults};
 
 use crate::fault::{Fault, add_if};
+use crate::index::Index;
 use crate::items::{check_call, check_copy, check_procedure, check_table_def};
 use crate::labels::check_doubles;
 use crate::parts::Parts;
@@ -107,14 +108,16 @@ fn check_copies(
 }
 
 fn check_calls(
+    alloc: Global,
     procedures: &[ProcDef],
     calls: &[CallDef],
     faults: &mut List<Fault>,
 ) -> Result<(), NoMemory>
     ensures { OnOk result (faults.new ≡ faults.old ++ flat_map (meant.call procedures.now) calls.now) }
 {
+    let index = Index::of(alloc, procedures)?;
     for call in calls {
-        check_call(procedures, call, faults)?;
+        check_call(&index, call, faults)?;
     }
     Ok(())
 }
@@ -150,6 +153,6 @@ pub fn check_parts(alloc: Global, parts: &Parts, faults: &mut List<Fault>) -> Re
     check_tables(alloc, tables, faults)?;
     check_procedures(alloc, tables, procedures, faults)?;
     check_copies(tables, parts.copies.as_slice(), faults)?;
-    check_calls(procedures, parts.calls.as_slice(), faults)?;
+    check_calls(alloc, procedures, parts.calls.as_slice(), faults)?;
     Ok(())
 }

@@ -10,6 +10,7 @@ ghost use Rattle.mv_names.specs.Faults.{fits, begins, arg_token, arguments_token
 use crate::bodies::check_statements;
 use crate::exprs::{column_kind, value_kind};
 use crate::fault::{Fault, add_if};
+use crate::index::Index;
 use crate::labels::check_doubles;
 use crate::named::{find, has_name};
 use crate::scope::{Entry, Field, Meaning, ValueType};
@@ -363,13 +364,13 @@ fn token_of_args(args: &[Arg], name: &Name) -> u32
 }
 
 pub(crate) fn check_call(
-    procedures: &[ProcDef],
+    procedures: &Index<'_, ProcDef>,
     call: &CallDef,
     faults: &mut List<Fault>,
 ) -> Result<(), NoMemory>
     ensures { OnOk result (faults.new ≡ faults.old ++ meant.call procedures.now call.now) }
 {
-    match find(procedures, &call.name.text) {
+    match procedures.find(&call.name.text) {
         None => faults.push(Fault::unknown(call.name.token)),
         Some(procedure) => {
             let args = call.arguments.as_slice();

@@ -5,6 +5,7 @@ mod bodies;
 pub mod check;
 mod exprs;
 pub mod fault;
+pub mod index;
 mod items;
 mod labels;
 pub mod named;
