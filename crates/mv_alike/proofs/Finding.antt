@@ -15,10 +15,9 @@ use Rattle.mv_values.specs.Columns.{columns_of}
 use Rattle.mv_values.specs.Keys.{IsRising}
 use Rattle.mv_values.specs.Order.{key_order}
 use Rattle.mv_values.specs.Patching.{row_of, applied, found_by}
-use Rattle.mv_values.specs.Preds.{matches, matched, admits, sees}
+use Rattle.mv_values.specs.Preds.{matches, admits, sees}
 use Rattle.mv_values.specs.Tables.{rows_at, columns_at, key_columns}
-use Rattle.mv_record.specs.Admitting.{Admitted}
-use Rattle.mv_record.proofs.Rising.{Above, Rises, rises_from, same_rows, found_stands}
+use Rattle.mv_record.proofs.Rising.{Above, Rises, rises_from, same_rows, unadmitted}
 use Rattle.mv_record.proofs.Patching.{row_of-found, rising_found, row_applied}
 use Rattle.mv_recorded.specs.Asking.{KnowsKey}
 use Rattle.mv_record.specs.Databases.{IsDatabaseOf}
@@ -96,27 +95,6 @@ long_alike n None None h k = tt
 long_alike n (Some a) (Some b) h k = h ∙ sym k
 long_alike n None (Some b) h k = tt
 long_alike n (Some a) None h k = tt
-
--- Keys that aren't admitted
-
-unadmitted : (pred : Pred) (rows : List Keyed) (key : List Value) → Admitted pred rows → admits pred key ≡ false → matched pred (row_of rows key) ≡ None
-unadmitted pred rows key h not' = by (row_of rows key) refl
-  where
-    clash : (b : Bool) → b ≡ true → b ≡ false → ⊥
-    clash b p q = cc
-
-    some : (row : List Value) → row_of rows key ≡ Some row → (b : Bool) → matches pred row ≡ b → cond b (Some row) None ≡ None
-    some row is false e = refl
-    some row is true e =
-        let at = found_stands rows key row is in
-        let item : Keyed = record { key = key; row = row } in
-        let fits : matches pred (slice_index_or rows at.0 item).row ≡ true = ap (λ (i : Keyed). matches pred i.row) at.2 ∙ e in
-        let admitted : admits pred key ≡ true = ap (λ (i : Keyed). admits pred i.key) (sym at.2) ∙ h at.0 item at.1 fits in
-        absurd (clash (admits pred key) admitted not')
-
-    by : (o : Option (List Value)) → row_of rows key ≡ o → matched pred o ≡ None
-    by None is = refl
-    by (Some row) is = some row is (matches pred row) refl
 
 -- The law
 

@@ -14,8 +14,9 @@ use Rattle.mv_values.specs.declared.pred.Pred.{Pred}
 use Rattle.mv_values.specs.Keys.{IsRising, IsBelow}
 use Rattle.mv_values.specs.Order.{key_order}
 use Rattle.mv_values.specs.Patching.{row_of}
-use Rattle.mv_values.specs.Preds.{matches, matched}
+use Rattle.mv_values.specs.Preds.{matches, matched, admits}
 use Rattle.mv_values.proofs.KeyOrder.{key_order_total, exact_keys}
+use Rattle.mv_record.specs.Admitting.{Admitted}
 
 -- Keys
 
@@ -190,3 +191,23 @@ kept_matched pred key (Some row) = refl
 -- the row that a predicate finds under a key
 pub matching_row : (pred : Pred) (xs : List Keyed) (key : List Value) → Rises xs → row_of (filter (λ item. matches pred item.row) xs) key ≡ matched pred (row_of xs key)
 matching_row pred xs key h = filter_row (λ item. matches pred item.row) xs key h ∙ kept_matched pred key (row_of xs key)
+
+-- where a key isn't admitted no row under it matches
+pub unadmitted : (pred : Pred) (rows : List Keyed) (key : List Value) → Admitted pred rows → admits pred key ≡ false → matched pred (row_of rows key) ≡ None
+unadmitted pred rows key h not' = by (row_of rows key) refl
+  where
+    clash : (b : Bool) → b ≡ true → b ≡ false → ⊥
+    clash b p q = cc
+
+    some : (row : List Value) → row_of rows key ≡ Some row → (b : Bool) → matches pred row ≡ b → cond b (Some row) None ≡ None
+    some row is false e = refl
+    some row is true e =
+        let at = found_stands rows key row is in
+        let item : Keyed = record { key = key; row = row } in
+        let fits : matches pred (slice_index_or rows at.0 item).row ≡ true = ap (λ (i : Keyed). matches pred i.row) at.2 ∙ e in
+        let admitted : admits pred key ≡ true = ap (λ (i : Keyed). admits pred i.key) (sym at.2) ∙ h at.0 item at.1 fits in
+        absurd (clash (admits pred key) admitted not')
+
+    by : (o : Option (List Value)) → row_of rows key ≡ o → matched pred o ≡ None
+    by None is = refl
+    by (Some row) is = some row is (matches pred row) refl

@@ -1,6 +1,6 @@
 -- The rows of a predicate behind own writes.
-use Rattle.std.proofs.Common.{◌≡◌, ◌≤◌, drop, ℕ, zero, suc, Bool, true, false, cond, List, [], ◌∷◌, Option, Some, None, length, refl, sym, ap, subst, ◌∙◌, arith}
-use Rattle.std.specs.Prelude.{◌&&◌, ◌||◌, slice_index_or}
+use Rattle.std.proofs.Common.{◌≡◌, ◌≤◌, drop, ℕ, zero, suc, Bool, true, false, cond, List, [], ◌∷◌, Option, None, length, refl, sym, ap, subst, ◌∙◌, arith}
+use Rattle.std.specs.Prelude.{◌&&◌, ◌||◌}
 use Rattle.std.specs.Ordering.{is_eq}
 use Rattle.std.specs.declared.cmp.Ordering.{Ordering}
 use Rattle.std.specs.declared.cmp.Ordering.TheVariants.{Less, Equal, Greater}
@@ -11,12 +11,11 @@ use Rattle.mv_values.specs.declared.pred.Pred.{Pred}
 use Rattle.mv_values.specs.Keys.{IsRising}
 use Rattle.mv_values.specs.Order.{key_order}
 use Rattle.mv_values.specs.Patching.{row_of, placed, applied, found_by}
-use Rattle.mv_values.specs.Preds.{matches, admits, matched}
+use Rattle.mv_values.specs.Preds.{admits, matched}
 use Rattle.mv_values.specs.Tables.{rows_at}
 use Rattle.mv_values.proofs.KeyOrder.{exact_keys}
 use Rattle.mv_record.specs.Writes.{is_on, writes_on, patched_by, AreRising}
-use Rattle.mv_record.specs.Admitting.{Admitted}
-use Rattle.mv_record.proofs.Rising.{found_stands}
+use Rattle.mv_record.proofs.Rising.{unadmitted}
 use Rattle.mv_record.proofs.Patching.{row_of-placed_same, placed_other, rising_placed, rows_same, row_of-found, rising_found, row_applied, rising_applied}
 use Rattle.mv_undo.specs.Owning.{touches, is_among, AreSought}
 use Rattle.mv_undo.specs.Overlaying.{IsSeen}
@@ -55,26 +54,6 @@ laid_row pred ws own (k ∷ ks) rows key h =
     join true true = refl
     join true false = refl
     join false c = refl
-
--- where a key isn't admitted no row under it matches
-pub unadmitted : (pred : Pred) (rows : List Keyed) (key : List Value) → Admitted pred rows → admits pred key ≡ false → matched pred (row_of rows key) ≡ None
-unadmitted pred rows key h not' = by (row_of rows key) refl
-  where
-    clash : (b : Bool) → b ≡ true → b ≡ false → ⊥
-    clash b p q = cc
-
-    some : (row : List Value) → row_of rows key ≡ Some row → (b : Bool) → matches pred row ≡ b → cond b (Some row) None ≡ None
-    some row is false e = refl
-    some row is true e =
-        let at = found_stands rows key row is in
-        let item : Keyed = record { key = key; row = row } in
-        let fits : matches pred (slice_index_or rows at.0 item).row ≡ true = ap (λ (i : Keyed). matches pred i.row) at.2 ∙ e in
-        let admitted : admits pred key ≡ true = ap (λ (i : Keyed). admits pred i.key) (sym at.2) ∙ h at.0 item at.1 fits in
-        absurd (clash (admits pred key) admitted not')
-
-    by : (o : Option (List Value)) → row_of rows key ≡ o → matched pred o ≡ None
-    by None is = refl
-    by (Some row) is = some row is (matches pred row) refl
 
 untouched : (t : ℕ) (key : List Value) (ws : List Write) (was : Option (List Value)) → touches t key ws ≡ false → patched_by (writes_on t key ws) was ≡ was
 untouched t key [] was h = refl
