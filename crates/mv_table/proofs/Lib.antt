@@ -1,5 +1,6 @@
 pub mod Entries
 pub mod Spanning
+pub mod Points
 pub mod Parting
 pub mod Storing
 pub mod Covering

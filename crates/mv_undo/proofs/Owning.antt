@@ -1,8 +1,7 @@
 -- Own writes of records with smaller numbers.
 use Rattle.std.proofs.Math.ListN.{get_or-map}
-use Rattle.std.proofs.Math.Nat.{eq-or-lt_of_le}
-use Rattle.std.proofs.Common.{◌≡◌, ◌<◌, ◌≤◌, ℕ, zero, suc, ◌⊎◌, inl, inr, Bool, true, false, cond, List, [], ◌∷◌, Option, Some, None, length, take, map, refl, sym, ap, subst, ◌∙◌, arith, Result, Ok, Err, IfOk}
-use Rattle.std.specs.Prelude.{◌&&◌, ◌||◌, ◌==◌, nat_lt, slice_index_or, AllPairs}
+use Rattle.std.proofs.Common.{◌≡◌, ◌≤◌, ℕ, zero, suc, Bool, true, false, cond, List, [], ◌∷◌, Option, Some, None, length, take, map, refl, sym, ap, subst, ◌∙◌, arith, Result, Ok, Err, IfOk}
+use Rattle.std.specs.Prelude.{◌&&◌, ◌||◌, ◌==◌, nat_lt, AllPairs}
 use Rattle.std.specs.List.{filter, list_any}
 use Rattle.std.specs.List.Sorted.{IsPartitionPoint, IsPartitionedBy}
 use Rattle.std.specs.Option.{is_some}
@@ -20,6 +19,7 @@ use Rattle.mv_values.specs.Order.{key_order}
 use Rattle.mv_values.specs.Patching.{row_of, patched, placed}
 use Rattle.mv_values.specs.Preds.{admits}
 use Rattle.mv_values.proofs.KeyOrder.{exact_keys}
+use Rattle.mv_table.proofs.Points.{parted}
 use Rattle.mv_record.specs.Writes.{is_on, writes_on, patched_by}
 use Rattle.mv_record.proofs.Patching.{row_of-placed_same, placed_other, rising_placed}
 use Rattle.mv_undo.specs.declared.owned.Owned.{Owned}
@@ -43,16 +43,12 @@ front_passes p (x ∷ xs) (suc n) le h =
 smaller : (a b n : ℕ) → a ≤ b → nat_lt b n ≡ true → nat_lt a n ≡ true
 smaller a b n le h = grind (arith, nat_tests)
 
-parted : (n : ℕ) (xs : List Owned) → IsInOrder xs → IsPartitionedBy (λ o. nat_lt o.number n) xs
-parted n xs order i j d le within h = by (eq-or-lt_of_le le)
-  where
-    by : (i ≡ j) ⊎ (i < j) → nat_lt (slice_index_or xs i d).number n ≡ true
-    by (inl same) = rw same h
-    by (inr lt) = smaller (slice_index_or xs i d).number (slice_index_or xs j d).number n (order i j d lt within) h
+divided : (n : ℕ) (xs : List Owned) → IsInOrder xs → IsPartitionedBy (λ o. nat_lt o.number n) xs
+divided n xs = parted (λ (a b : Owned). a.number ≤ b.number) (λ o. nat_lt o.number n) (λ a b. smaller a.number b.number n) xs
 
 pub dropped : (n : ℕ) (xs : List Owned) (len : ℕ) → IsInOrder xs → len ≤ length xs
     → (IsPartitionedBy (λ o. nat_lt o.number n) xs → IsPartitionPoint (λ o. nat_lt o.number n ≡ true) (λ o. nat_lt o.number n ≡ false) xs len) → take len xs ≡ before n xs
-dropped n xs len order le h = front_passes (λ o. nat_lt o.number n) xs len le (h (parted n xs order))
+dropped n xs len order le h = front_passes (λ o. nat_lt o.number n) xs len le (h (divided n xs order))
 
 -- Writes on a key
 
@@ -202,4 +198,4 @@ order_before n len xs order is = subst IsInOrder (sym is) (AllPairs-filter (λ a
 
 pub point_before : (n : ℕ) (xs : List Owned) (len : ℕ) → IsInOrder xs
     → (IsPartitionedBy (λ o. nat_lt o.number n) xs → IsPartitionPoint (λ o. nat_lt o.number n ≡ true) (λ o. nat_lt o.number n ≡ false) xs len) → IsPartitionPoint (λ o. nat_lt o.number n ≡ true) (λ o. nat_lt o.number n ≡ false) xs len
-point_before n xs len order h = h (parted n xs order)
+point_before n xs len order h = h (divided n xs order)
