@@ -2,8 +2,6 @@
 use Rattle.std.proofs.Common.{◌≡◌, ◌≤◌, drop, ℕ, zero, suc, Bool, true, false, cond, List, [], ◌∷◌, Option, None, length, refl, sym, ap, subst, ◌∙◌, arith}
 use Rattle.std.specs.Prelude.{◌&&◌, ◌||◌}
 use Rattle.std.specs.Ordering.{is_eq}
-use Rattle.std.specs.declared.cmp.Ordering.{Ordering}
-use Rattle.std.specs.declared.cmp.Ordering.TheVariants.{Less, Equal, Greater}
 use Rattle.mv_values.specs.declared.value.Value.{Value}
 use Rattle.mv_values.specs.declared.rows.Keyed.{Keyed}
 use Rattle.mv_values.specs.declared.patch.Write.{Write}
@@ -19,6 +17,7 @@ use Rattle.mv_record.proofs.Rising.{unadmitted}
 use Rattle.mv_record.proofs.Patching.{row_of-placed_same, placed_other, rising_placed, rows_same, row_of-found, rising_found, row_applied, rising_applied}
 use Rattle.mv_undo.specs.Owning.{touches, is_among, AreSought}
 use Rattle.mv_undo.specs.Overlaying.{IsSeen}
+use Rattle.mv_undo.proofs.KeyPlaces.{equal_is}
 
 -- the row that the predicate finds under a key behind writes, from the row before them
 abbrev pub new_row : Pred → List Write → List Keyed → List Value → Option (List Value)
@@ -33,11 +32,6 @@ laid_rising : (pred : Pred) (ws : List Write) (own : List Keyed) (ks : List (Lis
 laid_rising pred ws own [] rows h = h
 laid_rising pred ws own (k ∷ ks) rows h = laid_rising pred ws own ks (placed k (new_row pred ws own k) rows) (rising_placed k (new_row pred ws own k) rows h)
 
-equal : (o : Ordering) → is_eq o ≡ true → o ≡ Equal
-equal Less e = cc
-equal Equal e = refl
-equal Greater e = cc
-
 laid_row : (pred : Pred) (ws : List Write) (own : List Keyed) (ks : List (List Value)) (rows : List Keyed) (key : List Value) → IsRising rows
     → row_of (laid pred ws own ks rows) key ≡ cond (is_among ks key) (new_row pred ws own key) (row_of rows key)
 laid_row pred ws own [] rows key h = refl
@@ -47,7 +41,7 @@ laid_row pred ws own (k ∷ ks) rows key h =
   where
     one : (b : Bool) → is_eq (key_order k key) ≡ b → row_of (placed k (new_row pred ws own k) rows) key ≡ cond b (new_row pred ws own key) (row_of rows key)
     one true e =
-        subst (λ j. row_of (placed k (new_row pred ws own k) rows) j ≡ new_row pred ws own j) (exact_keys k key (equal (key_order k key) e)) (row_of-placed_same k (new_row pred ws own k) rows h)
+        subst (λ j. row_of (placed k (new_row pred ws own k) rows) j ≡ new_row pred ws own j) (exact_keys k key (equal_is (key_order k key) e)) (row_of-placed_same k (new_row pred ws own k) rows h)
     one false e = placed_other k (new_row pred ws own k) rows key e
 
     join : (b c : Bool) → cond c (new_row pred ws own key) (cond b (new_row pred ws own key) (row_of rows key)) ≡ cond (b || c) (new_row pred ws own key) (row_of rows key)

@@ -6,8 +6,7 @@ use Rattle.std.specs.List.{filter, list_any}
 use Rattle.std.specs.List.Sorted.{IsPartitionPoint, IsPartitionedBy}
 use Rattle.std.specs.Option.{is_some}
 use Rattle.std.specs.Ordering.{is_eq}
-use Rattle.std.specs.declared.cmp.Ordering.{Ordering}
-use Rattle.std.specs.declared.cmp.Ordering.TheVariants.{Less, Equal, Greater}
+use Rattle.std.specs.declared.cmp.Ordering.TheVariants.{Less}
 use Rattle.std.proofs.lemmas.Bool.Decides.{nat_tests}
 use Rattle.std.proofs.lemmas.List.{length-map}
 use Rattle.std.proofs.lemmas.List.Kept.{AllPairs-filter}
@@ -24,6 +23,7 @@ use Rattle.mv_record.specs.Writes.{is_on, writes_on, patched_by}
 use Rattle.mv_record.proofs.Patching.{row_of-placed_same, placed_other, rising_placed}
 use Rattle.mv_undo.specs.declared.owned.Owned.{Owned}
 use Rattle.mv_undo.specs.Owning.{IsInOrder, before, earlier, is_earlier_on, touches, is_sought, is_wanted, is_among, AreSought}
+use Rattle.mv_undo.proofs.KeyPlaces.{equal_is}
 
 -- Those before a number
 
@@ -94,15 +94,10 @@ gathered_rising pred n (o ∷ os) found h = gathered_rising pred n os (cond (is_
     by true = rising_placed o.write.key (Some []) found h
     by false = h
 
-equal : (o : Ordering) → is_eq o ≡ true → o ≡ Equal
-equal Less e = cc
-equal Equal e = refl
-equal Greater e = cc
-
 gathered_one : (pred : Pred) (n : ℕ) (o : Owned) (found : List Keyed) (key : List Value) → IsRising found → (w : Bool) (k : Bool) → is_eq (key_order o.write.key key) ≡ k
     → row_of (cond w (placed o.write.key (Some []) found) found) key ≡ cond (w && k) (Some []) (row_of found key)
 gathered_one pred n o found key h true true e =
-    subst (λ j. row_of (placed o.write.key (Some []) found) j ≡ Some []) (exact_keys o.write.key key (equal (key_order o.write.key key) e)) (row_of-placed_same o.write.key (Some []) found h)
+    subst (λ j. row_of (placed o.write.key (Some []) found) j ≡ Some []) (exact_keys o.write.key key (equal_is (key_order o.write.key key) e)) (row_of-placed_same o.write.key (Some []) found h)
 gathered_one pred n o found key h true false e = placed_other o.write.key (Some []) found key e
 gathered_one pred n o found key h false k e = refl
 
@@ -145,7 +140,7 @@ gathered_row pred n (o ∷ os) found key h =
     by false = h
 
     admitted : is_eq (key_order o.write.key key) ≡ true → admits pred o.write.key ≡ admits pred key
-    admitted e = ap (admits pred) (exact_keys o.write.key key (equal (key_order o.write.key key) e))
+    admitted e = ap (admits pred) (exact_keys o.write.key key (equal_is (key_order o.write.key key) e))
 
     touched : is_earlier_on n pred.table key o || touches pred.table key (earlier n os) ≡ touches pred.table key (earlier n (o ∷ os))
     touched = ap (λ b. is_earlier_on n pred.table key o || b) (sym (touches_earlier n pred.table key os)) ∙ touches_earlier n pred.table key (o ∷ os)
