@@ -1,5 +1,5 @@
 -- What patches do to rows whose keys rise, and writes to a database.
-use Rattle.std.proofs.Common.{◌≡◌, ◌<◌, ◌≤◌, ℕ, zero, suc, Bool, true, false, cond, List, [], ◌∷◌, ◌++◌, Option, Some, None, length, refl, sym, ap, subst, ◌∙◌, arith, take, drop, take-append-drop, add-one, ◌+◌, Result, Ok, Err, MatchResult, OnOk, OnErr}
+use Rattle.std.proofs.Common.{◌≡◌, ◌<◌, ◌≤◌, ℕ, zero, suc, Bool, true, false, cond, List, [], ◌∷◌, ◌++◌, Option, Some, None, length, refl, sym, ap, subst, ◌∙◌, arith, take, drop, take-append-drop, add-one, ◌+◌, Result, Ok, Err, MatchResult, OnErr}
 use Rattle.std.specs.Prelude.{◌↔◌, Contains, ◌==◌, ◌&&◌, slice_index_or, slice_get, slice_set, All, insert, remove}
 use Rattle.std.specs.List.{filter}
 use Rattle.std.specs.Ordering.{is_eq}
@@ -348,14 +348,6 @@ put_between rows key row place at rising is h =
 
 pub put_nothing : (rows : List Keyed) (key : List Value) (place : Result ℕ ℕ) (at : ℕ) → place ≡ Err at → IsPlace rows key place → rows ≡ placed key None rows
 put_nothing rows key place at is h = sym (placed_nothing key rows at (absent rows key place at is h))
-
-pub on_ok : {A E : Type 0} (r : Result A E) (P Q : Type 0) → (P → Q) → OnOk r P → OnOk r Q
-on_ok (Ok a) P Q f h = f h
-on_ok (Err e) P Q f h = tt
-
-pub on_err : {A E : Type 0} (r : Result A E) (P Q : Type 0) → (P → Q) → OnErr r P → OnErr r Q
-on_err (Ok a) P Q f h = tt
-on_err (Err e) P Q f h = f h
 
 pub always_err : {A E : Type 0} (r : Result A E) (P : Type 0) → P → OnErr r P
 always_err (Ok a) P h = tt

@@ -3,7 +3,6 @@ use Rattle.std.proofs.Math.ListN.{get_or-append}
 use Rattle.std.proofs.Math.Seq.{get_or-append_seam}
 use Rattle.std.proofs.Common.{◌≡◌, ◌<◌, ◌+◌, ℕ, zero, suc, Bool, true, false, cond, List, [], ◌∷◌, ◌++◌, Option, Some, None, All, length, map, take, slice_index_or, refl, sym, ap, subst, ◌∙◌, arith, length-append}
 use Rattle.std.specs.List.{filter}
-use Rattle.std.specs.Prelude.{IfOk, IfErr, OnOk, Result, Ok, Err}
 use Rattle.std.specs.Ordering.{is_eq, ordering_reverse}
 use Rattle.std.specs.Map.{set_value}
 use Rattle.std.specs.BTreeMap.{is_at}
@@ -128,20 +127,6 @@ module _ {T : Type 0} where
 
   pub value_set : (key : List Value) (item was : T) (es : List (List Value × T)) → KeysRise es → item_of es key ≡ Some was → set_value (is_at (slice_cmp cmp-value.it key)) es item ≡ with_item key (Some item) es
   value_set key item was es rising h = subst (λ (order : List Value → List Value → Ordering). set_value (is_at (order key)) es item ≡ with_item key (Some item) es) keys_alike (set_there key item was es rising h)
-
--- Clauses on results
-
-pub on_ok : {A E : Type 0} (r : Result A E) (P Q : Type 0) → (P → Q) → OnOk r P → OnOk r Q
-on_ok (Ok x) P Q f h = f h
-on_ok (Err e) P Q f h = tt
-
-pub if_ok : {A E : Type 0} (r : Result A E) (P Q : A → Type 0) → ((x : A) → P x → Q x) → IfOk r P → IfOk r Q
-if_ok (Ok x) P Q f h = f x h
-if_ok (Err e) P Q f h = tt
-
-pub if_err : {A E : Type 0} (r : Result A E) (P Q : E → Type 0) → ((e : E) → P e → Q e) → IfErr r P → IfErr r Q
-if_err (Ok x) P Q f h = tt
-if_err (Err e) P Q f h = f e h
 
 -- Rows one after another
 

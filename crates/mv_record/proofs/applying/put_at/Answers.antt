@@ -1,7 +1,6 @@
-use Rattle.std.proofs.Common.{◌≡◌, ◌∙◌, Some}
-use Rattle.std.specs.List.{insert}
-use Rattle.mv_values.specs.Patching.{placed}
-use Rattle.mv_record.proofs.Patching.{put_over, put_out, put_between, put_nothing, on_ok}
+use Rattle.std.proofs.Common.{◌∙◌}
+use Rattle.std.proofs.lemmas.Result.{on_ok_weaker}
+use Rattle.mv_record.proofs.Patching.{put_over, put_out, put_between, put_nothing}
 use Rattle.mv_record.proofs.applying.put_at.Goals as goal
 
 pub insert-requires-clause-rising : goal.insert-requires-clause-rising
@@ -20,8 +19,7 @@ pub returns-in_ok-key-in-Err-Some-clause-ok : goal.returns-in_ok-key-in-Err-Some
 returns-in_ok-key-in-Err-Some-clause-ok c =
     let made = put_between c.args.rows.now c.args.key.now c.in-Err-Some.row c.args.place c.in-Err-Some.at c.requires.rising c.in-Err-Some.is-0 c.requires.place in
     rw c.in-Err-Some.is-1
-    (on_ok c.insert.result (c.insert.new.self ≡ insert c.args.rows.now c.in-Err-Some.at (record { key = c.args.key.now; row = c.in-Err-Some.row }))
-    (c.insert.new.self ≡ placed c.args.key.now (Some c.in-Err-Some.row) c.args.rows.now) (λ is. is ∙ made.2) (rw c.in_ok-key-in-Err-Some.ensures at c.insert.ensures.ok))
+    (on_ok_weaker c.insert.result (λ is. is ∙ made.2) (rw c.in_ok-key-in-Err-Some.ensures at c.insert.ensures.ok))
 
 pub returns-in-Err-None-clause-ok : goal.returns-in-Err-None-clause-ok
 returns-in-Err-None-clause-ok c = rw c.in-Err-None.is-1 (put_nothing c.args.rows.now c.args.key.now c.args.place c.in-Err-None.field-0-0 c.in-Err-None.is-0 c.requires.place)
