@@ -82,6 +82,14 @@ front_below front rest item h k d lt =
     subst (λ (x : Keyed). key_order x.key item.key ≡ Less) (get_or-append front (item ∷ rest) d k lt)
     (subst (λ (x : Keyed). key_order (slice_index_or (front ++ item ∷ rest) k d).key x.key ≡ Less) (get_or-append_seam front item rest d) low)
 
+-- those before a place are below the row there
+pub taken_below : (rows : List Keyed) (i : ℕ) (item : Keyed) → IsRising rows → i < length rows → item ≡ slice_index_or rows i item → All (IsBelow item.key) (take i rows)
+taken_below rows i item rising lt is k d l =
+    let short : k < i = omega (arith, l, length-take i rows) in
+    let here : slice_index_or (take i rows) k d ≡ slice_index_or rows k d = get_or-take i rows k d short in
+    let low : key_order (slice_index_or rows k item).key (slice_index_or rows i item).key ≡ Less = rising k i item short lt in
+    rw here (subst (λ (x : Keyed). key_order (slice_index_or rows k d).key x.key ≡ Less) (sym is) (subst (λ (x : Keyed). key_order x.key (slice_index_or rows i item).key ≡ Less) (get_or_default rows k item d (omega (arith, short, lt))) low))
+
 -- the row at a place is placed behind those before it
 pub copied_more : (rows : List Keyed) (i : ℕ) (item : Keyed) (made new : List Keyed) (key row : List Value) → IsRising rows → i < length rows → item ≡ slice_index_or rows i item → made ≡ take i rows → key ≡ item.key → row ≡ item.row → new ≡ placed key (Some row) made
     → new ≡ take (i + 1) rows
@@ -90,14 +98,7 @@ copied_more rows i item made new key row rising lt is so same_key same_row put =
     ∙ (ap (λ (k : List Value). placed k (Some row) made) same_key
     ∙ (ap (λ (r : List Value). placed item.key (Some r) made) same_row
     ∙ (ap (placed item.key (Some item.row)) so
-    ∙ (placed_last item (take i rows) below ∙ (ap (λ (x : Keyed). take i rows ++ x ∷ []) is ∙ sym (take_more rows i item lt))))))
-  where
-    below : All (IsBelow item.key) (take i rows)
-    below k d l =
-        let short : k < i = omega (arith, l, length-take i rows) in
-        let here : slice_index_or (take i rows) k d ≡ slice_index_or rows k d = get_or-take i rows k d short in
-        let low : key_order (slice_index_or rows k item).key (slice_index_or rows i item).key ≡ Less = rising k i item short lt in
-        rw here (subst (λ (x : Keyed). key_order (slice_index_or rows k d).key x.key ≡ Less) (sym is) (subst (λ (x : Keyed). key_order x.key (slice_index_or rows i item).key ≡ Less) (get_or_default rows k item d (omega (arith, short, lt))) low))
+    ∙ (placed_last item (take i rows) (taken_below rows i item rising lt is) ∙ (ap (λ (x : Keyed). take i rows ++ x ∷ []) is ∙ sym (take_more rows i item lt))))))
 
 -- A value set under its key
 
