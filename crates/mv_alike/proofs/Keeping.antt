@@ -1,10 +1,7 @@
 -- Records of two runs side by side: those that are kept stand in both in the same order.
 use Rattle.std.proofs.Common.{◌≡◌, ◌<◌, ℕ, zero, suc, Bool, true, false, List, [], ◌∷◌, ◌++◌, Some, length, if◌then◌else◌, refl, sym, ap, subst, ◌∙◌, arith}
 use Rattle.std.specs.Prelude.{◌||◌, slice_get, slice_index_or, AllPairs}
-use Rattle.std.specs.Ordering.{is_eq, nat_cmp}
-use Rattle.std.specs.Cmp.Lexicographic.{slice_cmp}
-use Rattle.std.specs.declared.cmp.Ordering.TheVariants.{Less, Equal}
-use Rattle.std.proofs.lemmas.Cmp.{tied_itself, nat_list_cmp_total}
+use Rattle.std.proofs.lemmas.Option.{same_Some}
 use Rattle.mv_values.specs.declared.pred.Pred.{Pred}
 use Rattle.mv_values.specs.declared.patch.Write.{Write}
 use Rattle.mv_record.specs.declared.record.Record.{Record}
@@ -17,7 +14,7 @@ use Rattle.mv_recorded.specs.Own.{Each}
 use Rattle.mv_record.specs.Effects.{effect_in}
 use Rattle.mv_alike.specs.Laws.{AreAlike}
 use Rattle.mv_alike.proofs.Definers.{KeptSame}
-use Rattle.mv_alike.proofs.Placing.{path_is, path_self, its}
+use Rattle.mv_alike.proofs.Placing.{path_self, not_itself, its}
 use Rattle.mv_alike.proofs.Seeing.{Merged, done, both, old, new}
 
 -- Order
@@ -40,38 +37,25 @@ climbs_with (p ∷ ps) (r ∷ rs) h =
 pub climbs_of : (rs : List Record) → PathsRise rs → Climbs (with_paths rs)
 climbs_of rs h = climbs_with (paths rs) rs h
 
-not_itself : (a b : Path) → a ≡ b → IsEarlierPath a b → ⊥
-not_itself a b same h = let tie : slice_cmp nat_cmp a b ≡ Equal = subst (λ c. slice_cmp nat_cmp a c ≡ Equal) same (tied_itself nat_list_cmp_total a) in clash (slice_cmp nat_cmp a b) h tie
-  where
-    clash : (o : _) → o ≡ Less → o ≡ Equal → ⊥
-    clash o h k = cc
-
-earlier_apart : (a b : Path) → IsEarlierPath a b → is_path a b ≡ false
-earlier_apart a b h = ap is_eq h
-
-by_bool : (b : Bool) → (b ≡ true → ⊥) → b ≡ false
-by_bool true h = absurd (h refl)
-by_bool false h = refl
-
-later_apart : (a b : Path) → IsEarlierPath a b → is_path b a ≡ false
-later_apart a b h = by_bool (is_path b a) (λ e. not_itself a b (sym (path_is b a e)) h)
-
 pub each_get : (P : Placed → Type 0) (xs : List Placed) (d : ℕ) (a : Placed) → Each P xs → slice_get xs d ≡ Some a → P a
 each_get P [] d a h is = cc
 each_get P (x ∷ xs) zero a h is = let same : x ≡ a = cc in subst P same h.0
 each_get P (x ∷ xs) (suc d) a h is = each_get P xs d a h.1 is
 
--- records with one path are one
-pub distinct : (xs : List Placed) (i j : ℕ) (a b : Placed) → Climbs xs → slice_get xs i ≡ Some a → slice_get xs j ≡ Some b → a.path ≡ b.path → a ≡ b
-distinct [] i j a b h p q same = cc
-distinct (x ∷ xs) zero zero a b h p q same = cc
-distinct (x ∷ xs) zero (suc j) a b h p q same =
+-- records with one path have one number
+pub one_number : (xs : List Placed) (i j : ℕ) (a b : Placed) → Climbs xs → slice_get xs i ≡ Some a → slice_get xs j ≡ Some b → a.path ≡ b.path → i ≡ j
+one_number [] i j a b h p q same = cc
+one_number (x ∷ xs) zero zero a b h p q same = refl
+one_number (x ∷ xs) zero (suc j) a b h p q same =
     let at : x ≡ a = cc in
     absurd (not_itself x.path b.path (ap (λ (z : Placed). z.path) at ∙ same) (each_get (λ (y : Placed). IsEarlierPath x.path y.path) xs j b h.0 q))
-distinct (x ∷ xs) (suc i) zero a b h p q same =
+one_number (x ∷ xs) (suc i) zero a b h p q same =
     let at : x ≡ b = cc in
     absurd (not_itself x.path a.path (ap (λ (z : Placed). z.path) at ∙ sym same) (each_get (λ (y : Placed). IsEarlierPath x.path y.path) xs i a h.0 p))
-distinct (x ∷ xs) (suc i) (suc j) a b h p q same = distinct xs i j a b h.1 p q same
+one_number (x ∷ xs) (suc i) (suc j) a b h p q same = ap suc (one_number xs i j a b h.1 p q same)
+
+pub distinct : (xs : List Placed) (i j : ℕ) (a b : Placed) → Climbs xs → slice_get xs i ≡ Some a → slice_get xs j ≡ Some b → a.path ≡ b.path → a ≡ b
+distinct xs i j a b h p q same = same_Some a b (sym p ∙ (ap (slice_get xs) (one_number xs i j a b h p q same) ∙ q))
 
 -- Side by side
 
@@ -97,7 +81,7 @@ all_gone u kept [] h = ends
 all_gone u kept (x ∷ xs) h = gone x xs [] h.0 (all_gone u kept xs h.1)
 
 -- one path more is kept, which none of them has
-among_more : (kept : List Path) (p q : Path) → among (kept ++ p ∷ []) q ≡ (among kept q || is_path q p)
+pub among_more : (kept : List Path) (p q : Path) → among (kept ++ p ∷ []) q ≡ (among kept q || is_path q p)
 among_more [] p q = by (is_path q p)
   where
     by : (b : Bool) → (b || false) ≡ b

@@ -1,5 +1,5 @@
 -- Records of two runs among others, by their paths.
-use Rattle.std.proofs.Common.{◌≡◌, ℕ, zero, suc, true, List, [], ◌∷◌, ◌++◌, Option, Some, None, map, length, refl, sym, ap, subst, ◌∙◌, arith, append_assoc, append-nil}
+use Rattle.std.proofs.Common.{◌≡◌, ℕ, zero, suc, Bool, true, false, List, [], ◌∷◌, ◌++◌, Option, Some, None, map, length, refl, sym, ap, subst, ◌∙◌, arith, append_assoc, append-nil}
 use Rattle.std.specs.Prelude.{slice_get}
 use Rattle.std.specs.Option.{option_map, option_and_then}
 use Rattle.std.specs.Ordering.{is_eq, nat_cmp}
@@ -9,7 +9,7 @@ use Rattle.std.specs.declared.cmp.Ordering.TheVariants.{Less, Equal, Greater}
 use Rattle.std.proofs.lemmas.Cmp.{tied_itself, nat_list_cmp_total}
 use Rattle.std.proofs.lemmas.Map.Lookups.{exact_bytes}
 use Rattle.mv_record.specs.declared.record.Record.{Record}
-use Rattle.mv_record.specs.Paths.{Nest, path, nests_behind, paths}
+use Rattle.mv_record.specs.Paths.{Nest, path, nests_behind, paths, IsEarlierPath}
 use Rattle.mv_recorded.specs.Own.{Stated, Ground, StandsAt, IsOwn, AllOwn}
 use Rattle.mv_recorded.specs.Posts.{IsAt}
 use Rattle.mv_recorded.proofs.Held.{get_last}
@@ -28,6 +28,22 @@ path_is a b h = by (slice_cmp nat_cmp a b) refl h
 
 pub path_self : (a : Path) → is_path a a ≡ true
 path_self a = ap is_eq (tied_itself nat_list_cmp_total a)
+
+pub not_itself : (a b : Path) → a ≡ b → IsEarlierPath a b → ⊥
+not_itself a b same h = clash (slice_cmp nat_cmp a b) h (subst (λ c. slice_cmp nat_cmp a c ≡ Equal) same (tied_itself nat_list_cmp_total a))
+  where
+    clash : (o : Ordering) → o ≡ Less → o ≡ Equal → ⊥
+    clash o h k = cc
+
+pub apart : (a b : Path) → IsEarlierPath a b → is_path a b ≡ false
+apart a b h = ap is_eq h
+
+pub apart_back : (a b : Path) → IsEarlierPath a b → is_path b a ≡ false
+apart_back a b h = by (is_path b a) (λ e. not_itself a b (sym (path_is b a e)) h)
+  where
+    by : (x : Bool) → (x ≡ true → ⊥) → x ≡ false
+    by true f = absurd (f refl)
+    by false f = refl
 
 -- A record among others
 

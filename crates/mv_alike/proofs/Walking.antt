@@ -2,7 +2,6 @@
 use Rattle.std.proofs.Common.{◌≡◌, ◌≤◌, ℕ, suc, ◌+◌, Bool, true, false, List, [], ◌∷◌, ◌++◌, Option, Some, None, map, length, arith, if◌then◌else◌, refl, sym, ap, subst, ◌∙◌, append_assoc, append-nil}
 use Rattle.std.specs.Prelude.{◌||◌, slice_get}
 use Rattle.std.specs.Option.{option_map}
-use Rattle.std.specs.Ordering.{is_eq}
 use Rattle.std.proofs.lemmas.Cmp.{nat_list_cmp_total}
 use Rattle.mv_alone.specs.TableAfter.{Tables}
 use Rattle.mv_record.specs.declared.record.Read.{Read}
@@ -19,7 +18,7 @@ use Rattle.mv_recorded.specs.Posts.{IsAt, path_above}
 use Rattle.mv_recorded.proofs.Held.{get_front, get_last}
 use Rattle.mv_alike.specs.Laws.{AreAlike}
 use Rattle.mv_alike.proofs.Seeing.{Merged, hits_by}
-use Rattle.mv_alike.proofs.Placing.{its, its_all, own_at, is_at, at_paths, same_statement, path_is, path_self}
+use Rattle.mv_alike.proofs.Placing.{its, its_all, own_at, is_at, at_paths, same_statement, path_is, apart, apart_back}
 use Rattle.mv_alike.proofs.Keeping.{Climbs, Sides, Aligned, stay, come, ends, aligned_join, all_gone, aligned_more, among_new, each_get, get_more, touch_parts, kept_same, merged_of, distinct, Partner, partner}
 use Rattle.mv_alike.proofs.Lasting.{Lasting, front_lasts, Untouched, untouched, and_parts, own_same, each_map}
 
@@ -31,9 +30,6 @@ its_both (x ∷ xs) ys = ap (λ l. x.it ∷ l) (its_both xs ys)
 
 earlier_then : (a b c : Path) → IsEarlierPath a b → IsEarlierPath b c → IsEarlierPath a c
 earlier_then a b c h k = nat_list_cmp_total.trans a b c h k
-
-apart : (a b : Path) → IsEarlierPath a b → is_path a b ≡ false
-apart a b h = ap is_eq h
 
 each_second : (P : Placed → Type 0) (xs ys : List Placed) → Each P (xs ++ ys) → Each P xs × Each P ys
 each_second P [] ys h = (tt, h)
@@ -88,14 +84,7 @@ not_kept [] xs p h k = refl
 not_kept (q ∷ qs) xs p h k =
     let it = h.0 in
     let lt : IsEarlierPath it.1.path p = each_get (λ (a : Placed). IsEarlierPath a.path p) xs it.0 it.1 k it.2 in
-    ap (λ b. b || among qs p) (turned (is_path p q) (λ e. absurd (clash (is_path it.1.path p) (ap (λ z. is_path z p) it.3 ∙ (ap (is_path q) (path_is p q e) ∙ path_self q)) (apart it.1.path p lt)))) ∙ not_kept qs xs p h.1 k
-  where
-    clash : (b : Bool) → b ≡ true → b ≡ false → ⊥
-    clash b h k = cc
-
-    turned : (b : Bool) → (b ≡ true → ⊥) → b ≡ false
-    turned true f = absurd (f refl)
-    turned false f = refl
+    ap (λ b. b || among qs p) (apart_back q p (subst (λ z. IsEarlierPath z p) it.3 lt)) ∙ not_kept qs xs p h.1 k
 
 -- Names
 
