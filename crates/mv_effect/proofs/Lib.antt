@@ -2,6 +2,7 @@ pub mod Once
 pub mod Variables
 pub mod Checks
 pub mod Asked
+pub mod Unwritten
 pub mod Few
 pub mod Ends
 pub mod WellNamed

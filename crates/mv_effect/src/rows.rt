@@ -7,7 +7,7 @@ ghost use Rattle.mv_values.specs.Tables.{rows_at};
 ghost use Rattle.mv_alone.specs.Rows.{is_some_row};
 ghost use Rattle.mv_record.specs.Admitting.{Admitted};
 ghost use Rattle.mv_record.specs.Writes.{AreRising};
-ghost use Rattle.mv_undo.specs.Owning.{earlier, is_among};
+ghost use Rattle.mv_undo.specs.Owning.{earlier, is_among, AreSought};
 ghost use Rattle.mv_view.specs.Viewing.{MayAnswer, answered, with_row_call};
 ghost use Rattle.mv_effect.specs.Looking.{different, Stands, IsSameView, PassesOn, AskedAtMost};
 ghost use Rattle.mv_recorded.specs.Asking.{KnowsKey};
@@ -15,6 +15,8 @@ ghost use Rattle.mv_recorded.specs.Asking.{KnowsKey};
 use crate::context::Context;
 use mv_record::applying::put_row;
 use mv_undo::undo::Undo;
+use mv_values::list::List;
+use mv_values::memory::NoMemory;
 use mv_values::pred::Pred;
 use mv_values::rows::Rows;
 use mv_values::value::Key;
@@ -58,6 +60,22 @@ fn rows_under<V: View>(
     Ok(own)
 }
 
+/// Returns the keys that records with smaller numbers wrote and the predicate admits, each once, in order.
+#[tactic(auto, using(crate::proofs::Unwritten::nothing_sought))]
+fn written_keys(
+    alloc: Global,
+    pred: &Pred,
+    undo: &Undo,
+    number: usize,
+) -> Result<List<Key>, NoMemory>
+    ensures { IfOk result (λ keys. AreSought pred.now (earlier number undo.now) keys) }
+{
+    if undo.as_slice().is_empty() {
+        return Ok(List::new(alloc));
+    }
+    undo.keys(alloc, number, pred)
+}
+
 /// Returns the predicate's rows after the own writes of records with smaller numbers, in key order. Asks the view once
 /// for its rows, and once for each key that these records wrote and the predicate admits.
 fn look<V: View>(
@@ -78,7 +96,10 @@ fn look<V: View>(
     ensures looks { AskedAtMost 1 (different (earlier number undo.now)) (V.sight view.old) (V.sight view.new) }
 {
     let rows = view.rows(alloc, pred)?;
-    let keys = undo.keys(alloc, number, pred)?;
+    let keys = written_keys(alloc, pred, undo, number)?;
+    if keys.as_slice().is_empty() {
+        return Ok(rows);
+    }
     let own = rows_under(alloc, pred.table, keys.as_slice(), view)?;
     let rows = undo.overlay(alloc, number, pred, rows, own)?;
     Ok(rows)

@@ -1,27 +1,34 @@
-use Rattle.std.proofs.Common.{sym, length, subst, ◌≤◌}
+use Rattle.std.proofs.Common.{rules, ◌≡◌, sym, length, subst, ◌≤◌}
 use Rattle.mv_undo.specs.Owning.{earlier}
 use Rattle.mv_effect.specs.Looking.{different}
 use Rattle.mv_effect.proofs.Asked.{asked_look}
 use Rattle.mv_effect.proofs.Few.{sought_few}
+use Rattle.mv_effect.proofs.Unwritten.{none_written}
 use Rattle.mv_effect.proofs.rows.look.Goals as goal
+
+pub returns-then-is_empty-clause-found : goal.returns-then-is_empty-clause-found
+returns-then-is_empty-clause-found g c =
+    let none : length c.in_ok-keys.keys ≡ 0 = search rules in
+    none_written c.args.pred.now (earlier c.args.number c.args.undo.now) c.in_ok-rows.rows c.in_ok-keys.keys (g.V.View.sight c.args.view.now).database c.in_ok-keys.ensures none c.requires.rising
+    c.requires.table c.in_ok-rows.ensures.found c.requires.before c.requires.behind
 
 pub returns-clause-looks : goal.returns-clause-looks
 returns-clause-looks g c =
     let ws = earlier c.args.number c.args.undo.now in
-    asked_look (g.V.View.sight c.args.view.now) (g.V.View.sight c.rows.new.self) (g.V.View.sight c.rows_under.new.view) (length c.as_slice.result.now) (different ws)
+    asked_look (g.V.View.sight c.args.view.now) (g.V.View.sight c.rows.new.self) (g.V.View.sight c.rows_under.new.view) (length c.as_slice-2.result.now) (different ws)
     c.in_ok-rows.ensures.counts c.in_ok-own.ensures.looks
-    (subst (λ ks. length ks ≤ different ws) (sym c.as_slice.ensures) (sought_few c.args.pred.now ws c.in_ok-keys.keys c.in_ok-keys.ensures))
+    (subst (λ ks. length ks ≤ different ws) (sym c.as_slice-2.ensures) (sought_few c.args.pred.now ws c.in_ok-keys.keys c.in_ok-keys.ensures))
 
 pub returns-in_err-own-clause-looks : goal.returns-in_err-own-clause-looks
 returns-in_err-own-clause-looks g c =
     let ws = earlier c.args.number c.args.undo.now in
-    asked_look (g.V.View.sight c.args.view.now) (g.V.View.sight c.rows.new.self) (g.V.View.sight c.rows_under.new.view) (length c.as_slice.result.now) (different ws)
+    asked_look (g.V.View.sight c.args.view.now) (g.V.View.sight c.rows.new.self) (g.V.View.sight c.rows_under.new.view) (length c.as_slice-2.result.now) (different ws)
     c.in_ok-rows.ensures.counts c.in_err-own.ensures.looks
-    (subst (λ ks. length ks ≤ different ws) (sym c.as_slice.ensures) (sought_few c.args.pred.now ws c.in_ok-keys.keys c.in_ok-keys.ensures))
+    (subst (λ ks. length ks ≤ different ws) (sym c.as_slice-2.ensures) (sought_few c.args.pred.now ws c.in_ok-keys.keys c.in_ok-keys.ensures))
 
 pub returns-in_err-rows-2-clause-looks : goal.returns-in_err-rows-2-clause-looks
 returns-in_err-rows-2-clause-looks g c =
     let ws = earlier c.args.number c.args.undo.now in
-    asked_look (g.V.View.sight c.args.view.now) (g.V.View.sight c.rows.new.self) (g.V.View.sight c.rows_under.new.view) (length c.as_slice.result.now) (different ws)
+    asked_look (g.V.View.sight c.args.view.now) (g.V.View.sight c.rows.new.self) (g.V.View.sight c.rows_under.new.view) (length c.as_slice-2.result.now) (different ws)
     c.in_ok-rows.ensures.counts c.in_ok-own.ensures.looks
-    (subst (λ ks. length ks ≤ different ws) (sym c.as_slice.ensures) (sought_few c.args.pred.now ws c.in_ok-keys.keys c.in_ok-keys.ensures))
+    (subst (λ ks. length ks ≤ different ws) (sym c.as_slice-2.ensures) (sought_few c.args.pred.now ws c.in_ok-keys.keys c.in_ok-keys.ensures))
