@@ -164,14 +164,14 @@ new_jobs proc task r outer p s b t at =
 abbrev Goes : ProcInfo → List TableInfo → Task → Tables → Record → List Record → List Place → Place → RStmt → Bool → Type 0
 Goes proc tables task db r tail outer p s b =
     left tables task.parameters (jobs_left proc (task.records ++ r ∷ []) ((outer ++ place_after (size s) p ∷ []) ++ inner_places (length task.records) p.number b (out-RStmt s)))
-    (task.records ++ r ∷ []) (state_with (task.records ++ r ∷ []) (after_empty_loop (out-RStmt s) r.rows (with_slots r.sets task.env)) db) ≡ tail
+    (task.records ++ r ∷ []) (state_with (task.records ++ r ∷ []) (after_empty_loop (out-RStmt s) r.rows (with_slots r.sets task.variables.env)) db) ≡ tail
 
 -- two lists with one first record
 pub first_same : (r q : Record) (rs qs : List Record) → r ∷ rs ≡ q ∷ qs → (r ≡ q) × (rs ≡ qs)
 first_same r q rs qs h = (cc, cc)
 
 own_goes : (proc : ProcInfo) (tables : List TableInfo) (task : Task) (db : Tables) (tail : List Record) (outer : List Place) (p : Place) (s : RStmt) (b : Bool) (next : State)
-    → IsTask proc task → StandsAt proc (places_of task) outer p s → Chooses task.env b (out-RStmt s)
+    → IsTask proc task → StandsAt proc (places_of task) outer p s → Chooses task.variables.env b (out-RStmt s)
     → let site : Site = site_in p.holder (site_of outside outer) in
     let st : State = state_of task db in
     let own : Record = own_record tables task.parameters (out-RStmt s) p.number site task.records st in
@@ -194,8 +194,8 @@ own_goes proc tables task db tail outer p s b next t at chosen ok is tails =
     let inner : List Job = inner_jobs number p.number b site own.rows y in
     let to : State = behind own st in
     let walk : State = record to { env = after_empty_loop y own.rows to.env } in
-    ap (λ js. left tables params js rs (state_with rs (after_empty_loop y own.rows (with_slots own.sets task.env)) db)) (new_jobs proc task own outer p s b t at)
-    ∙ (ap (left tables params (inner ++ (some_run site (p.number + size s) rest ++ more)) rs) (sym (state_more task.records own task.env (after_empty_loop y own.rows (with_slots own.sets task.env)) db))
+    ap (λ js. left tables params js rs (state_with rs (after_empty_loop y own.rows (with_slots own.sets task.variables.env)) db)) (new_jobs proc task own outer p s b t at)
+    ∙ (ap (left tables params (inner ++ (some_run site (p.number + size s) rest ++ more)) rs) (sym (state_more task.records own task.variables.env (after_empty_loop y own.rows (with_slots own.sets task.variables.env)) db))
     ∙ (sym (same_all_behind tables params inner (run site (p.number + size s) rest ∷ more) (some_run site (p.number + size s) rest ++ more) (same_run tables params site (p.number + size s) rest more) rs walk)
     ∙ (sym (inside_left tables params y number p.number site b (run site (p.number + size s) rest ∷ more) rs st next to ok chosen)
     ∙ (ap (left tables params (inside number y p.number site st ++ run site (p.number + size s) rest ∷ more) rs) (sym is)
@@ -203,7 +203,7 @@ own_goes proc tables task db tail outer p s b next t at chosen ok is tails =
 
 -- a record that is the next one leads to where the rest is left
 pub goes_on : (proc : ProcInfo) (tables : List TableInfo) (task : Task) (db : Tables) (r : Record) (tail : List Record) (outer : List Place) (p : Place) (s : RStmt) (b : Bool)
-    → IsTask proc task → StandsAt proc (places_of task) outer p s → Chooses task.env b (out-RStmt s) → HasColumns (out-RStmt s) → AreRising db
+    → IsTask proc task → StandsAt proc (places_of task) outer p s → Chooses task.variables.env b (out-RStmt s) → HasColumns (out-RStmt s) → AreRising db
     → left_of proc tables task db ≡ r ∷ tail → r.end ≡ None → Goes proc tables task db r tail outer p s b
 goes_on proc tables task db r tail outer p s b t at chosen has rise leaves ends = by (itself tables y st) refl
   where

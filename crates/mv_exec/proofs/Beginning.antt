@@ -14,6 +14,7 @@ use Rattle.mv_graph.proofs.Texts.{whole_text}
 use Rattle.mv_exec.specs.declared.places.Place.{Place}
 use Rattle.mv_exec.specs.declared.task.Task.{Task}
 use Rattle.mv_exec.specs.Left.{left}
+use Rattle.mv_exec.specs.Env.{CallVariables, at_beginning}
 use Rattle.mv_exec.specs.Places.{block_of, holder_of, some_run, jobs_left, is_left, AreFilled, AreNumbered, EndsLeft}
 use Rattle.mv_exec.specs.Tasks.{standing, first_place, none_in, run_of, IsTask, AreHeldBefore, BeginsCall, fresh_task}
 use Rattle.mv_exec.proofs.Defining.{below_no}
@@ -45,9 +46,9 @@ jobs : (proc : ProcInfo) (body : List RStmt) → proc.body ≡ body → jobs_lef
 jobs proc [] e = ap (λ ss. some_run outside 1 ss ++ []) (sym e)
 jobs proc (s ∷ ss) e = refl
 
-pub fresh_is_task : (proc : ProcInfo) (params : ℕ) (env : Env) (first : Option Env) (empty : Bool) → empty ≡ none_in proc.body → IsTask proc (fresh_task params env first empty)
-fresh_is_task proc params env first empty e =
-    subst (λ b. IsTask proc (fresh_task params env first b)) (sym e)
+pub fresh_is_task : (proc : ProcInfo) (params : ℕ) (env : Env) (empty : Bool) → empty ≡ none_in proc.body → IsTask proc (fresh_task params env empty)
+fresh_is_task proc params env empty e =
+    subst (λ b. IsTask proc (fresh_task params env b)) (sym e)
     (record {
       filled = filled proc proc.body refl;
       numbers = numbered proc proc.body;
@@ -60,12 +61,12 @@ fresh_is_task proc params env first empty e =
       counted = omega arith;
     })
 
-pub fresh_run : (proc : ProcInfo) (tables : List TableInfo) (call : Call) (db : Tables) (params : ℕ) (env : Env) (first : Option Env) (empty : Bool) → empty ≡ none_in proc.body
-    → env ≡ entered proc call → params ≡ length call.arguments → run_of proc tables (fresh_task params env first empty) db ≡ recorded tables proc call db
-fresh_run proc tables call db params env first empty e v n =
-    subst (λ b. run_of proc tables (fresh_task params env first b) db ≡ recorded tables proc call db) (sym e)
-    (subst (λ w. run_of proc tables (fresh_task params w first (none_in proc.body)) db ≡ recorded tables proc call db) (sym v)
-    (subst (λ m. run_of proc tables (fresh_task m (entered proc call) first (none_in proc.body)) db ≡ recorded tables proc call db) (sym n)
+pub fresh_run : (proc : ProcInfo) (tables : List TableInfo) (call : Call) (db : Tables) (params : ℕ) (env : Env) (empty : Bool) → empty ≡ none_in proc.body
+    → env ≡ entered proc call → params ≡ length call.arguments → run_of proc tables (fresh_task params env empty) db ≡ recorded tables proc call db
+fresh_run proc tables call db params env empty e v n =
+    subst (λ b. run_of proc tables (fresh_task params env b) db ≡ recorded tables proc call db) (sym e)
+    (subst (λ w. run_of proc tables (fresh_task params w (none_in proc.body)) db ≡ recorded tables proc call db) (sym v)
+    (subst (λ m. run_of proc tables (fresh_task m (entered proc call) (none_in proc.body)) db ≡ recorded tables proc call db) (sym n)
     (ap (λ js. left tables (length call.arguments) js [] (begun proc call db)) (jobs proc proc.body refl)
     ∙ (sym (same_run tables (length call.arguments) outside 1 proc.body [] [] (begun proc call db)) ∙ all_left tables proc call db))))
 
@@ -79,29 +80,28 @@ only_first [] lt = absurd (omega (arith, lt))
 only_first (p ∷ ps) lt = refl
 
 -- a task whose parts are those of a call that has done nothing
-abbrev pub task_of : ℕ → Env → Option Env → List Record → List Owned → List (Option ℕ) → List Place → Bool → Task
-task_of params env first records undo definers places empty =
-    record { parameters = params; env = env; first = first; records = records; executed = 0; undo = undo; definers = definers; places = places; ended = empty; empty = empty }
+abbrev pub task_of : ℕ → CallVariables → List Record → List Owned → List (Option ℕ) → List Place → Bool → Task
+task_of params variables records undo definers places empty =
+    record { parameters = params; variables = variables; records = records; executed = 0; undo = undo; definers = definers; places = places; ended = empty; empty = empty }
 
-pub restarted : (P : Task → Type 0) (params : ℕ) (env was : Env) (first : Option Env) (records : List Record) (undo : List Owned) (definers : List (Option ℕ)) (places : List Place) (empty : Bool)
-    → env ≡ was → first ≡ None → records ≡ [] → undo ≡ [] → definers ≡ [] → places ≡ first_place ∷ [] → P (fresh_task params was None empty) → P (task_of params env first records undo definers places empty)
-restarted P params env was first records undo definers places empty e f r u d q h =
-    subst (λ v. P (task_of params v first records undo definers places empty)) (sym e)
-    (subst (λ v. P (task_of params was v records undo definers places empty)) (sym f)
-    (subst (λ v. P (task_of params was None v undo definers places empty)) (sym r)
-    (subst (λ v. P (task_of params was None [] v definers places empty)) (sym u)
-    (subst (λ v. P (task_of params was None [] [] v places empty)) (sym d)
-    (subst (λ v. P (task_of params was None [] [] [] v empty)) (sym q) h)))))
+pub restarted : (P : Task → Type 0) (params : ℕ) (variables : CallVariables) (env : Env) (records : List Record) (undo : List Owned) (definers : List (Option ℕ)) (places : List Place) (empty : Bool)
+    → variables ≡ at_beginning env → records ≡ [] → undo ≡ [] → definers ≡ [] → places ≡ first_place ∷ [] → P (fresh_task params env empty) → P (task_of params variables records undo definers places empty)
+restarted P params variables env records undo definers places empty e r u d q h =
+    subst (λ v. P (task_of params v records undo definers places empty)) (sym e)
+    (subst (λ v. P (task_of params (at_beginning env) v undo definers places empty)) (sym r)
+    (subst (λ v. P (task_of params (at_beginning env) [] v definers places empty)) (sym u)
+    (subst (λ v. P (task_of params (at_beginning env) [] [] v places empty)) (sym d)
+    (subst (λ v. P (task_of params (at_beginning env) [] [] [] v empty)) (sym q) h))))
 
 -- the same of a task that is such a one
-pub new_task : (proc : ProcInfo) (task : Task) (params : ℕ) (env : Env) (empty : Bool) → task ≡ fresh_task params env None empty → empty ≡ none_in proc.body → IsTask proc task
-new_task proc task params env empty is none = subst (IsTask proc) (sym is) (fresh_is_task proc params env None empty none)
+pub new_task : (proc : ProcInfo) (task : Task) (params : ℕ) (env : Env) (empty : Bool) → task ≡ fresh_task params env empty → empty ≡ none_in proc.body → IsTask proc task
+new_task proc task params env empty is none = subst (IsTask proc) (sym is) (fresh_is_task proc params env empty none)
 
-pub new_begins : (proc : ProcInfo) (call : Call) (task : Task) (params : ℕ) (env : Env) (empty : Bool) → task ≡ fresh_task params env None empty → env ≡ entered proc call → params ≡ length call.arguments
+pub new_begins : (proc : ProcInfo) (call : Call) (task : Task) (params : ℕ) (env : Env) (empty : Bool) → task ≡ fresh_task params env empty → env ≡ entered proc call → params ≡ length call.arguments
     → BeginsCall task proc call
 new_begins proc call task params env empty is e n = subst (λ t. BeginsCall t proc call) (sym is) (e, n)
 
-pub new_run : (proc : ProcInfo) (call : Call) (task : Task) (params : ℕ) (env : Env) (empty : Bool) → task ≡ fresh_task params env None empty → empty ≡ none_in proc.body → env ≡ entered proc call
+pub new_run : (proc : ProcInfo) (call : Call) (task : Task) (params : ℕ) (env : Env) (empty : Bool) → task ≡ fresh_task params env empty → empty ≡ none_in proc.body → env ≡ entered proc call
     → params ≡ length call.arguments → (tables : List TableInfo) (db : Tables) → run_of proc tables task db ≡ recorded tables proc call db
 new_run proc call task params env empty is none e n tables db =
-    subst (λ t. run_of proc tables t db ≡ recorded tables proc call db) (sym is) (fresh_run proc tables call db params env None empty none e n)
+    subst (λ t. run_of proc tables t db ≡ recorded tables proc call db) (sym is) (fresh_run proc tables call db params env empty none e n)

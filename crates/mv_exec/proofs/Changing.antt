@@ -7,7 +7,7 @@ use Rattle.mv_alone.proofs.Putting.{pad_full, put_padded}
 use Rattle.mv_record.specs.declared.record.Slot.{Slot}
 use Rattle.mv_recorded.specs.Effect.{with_slots}
 use Rattle.mv_exec.specs.declared.changes.Change.{Change}
-use Rattle.mv_exec.specs.Env.{with_changes, room, of_slot}
+use Rattle.mv_exec.specs.Env.{CallVariables, with_changes, changed, room, of_slot}
 
 pub room_next : (most needed r : ℕ) → max most (max needed r) ≡ max (max most needed) r
 room_next most needed r = omega arith
@@ -71,14 +71,16 @@ set_len (g ∷ gs) (suc x) h = ap suc (set_len gs x h)
 room_all : (env : Env) (cs rest : List Change) (c : Change) → cs ≡ c ∷ rest → room cs ≤ length env.held → max (c.slot + 1) (room rest) ≤ length env.held
 room_all env cs rest c e le = subst (λ ds. room ds ≤ length env.held) e le
 
-pub set_step : (env : Env) (new : List Held) (cs rest : List Change) (c : Change) → cs ≡ c ∷ rest → room cs ≤ length env.held → new ≡ slice_set env.held c.slot c.held
-    → with_changes rest (record env { held = new }) ≡ with_changes cs env
-set_step env new cs rest c e le is =
-    ap (λ hs. with_changes rest (record env { held = hs })) is
-    ∙ (ap (with_changes rest) (set_next env c.slot c.held (room_here c.slot (room rest) (length env.held) (room_all env cs rest c e le))) ∙ ap (λ ds. with_changes ds env) (sym e))
+pub set_step : (vs new : CallVariables) (cs rest : List Change) (c : Change) → cs ≡ c ∷ rest → room cs ≤ length vs.env.held
+    → new ≡ (let e : Env = vs.env in record vs { env = record e { held = slice_set e.held c.slot c.held } }) → changed rest new ≡ changed cs vs
+set_step vs new cs rest c e le is =
+    ap (changed rest) is
+    ∙ (ap (λ env. record vs { env = with_changes rest env }) (set_next vs.env c.slot c.held (room_here c.slot (room rest) (length vs.env.held) (room_all vs.env cs rest c e le)))
+    ∙ ap (λ ds. changed ds vs) (sym e))
 
-pub room_step : (env : Env) (new : List Held) (cs rest : List Change) (c : Change) → cs ≡ c ∷ rest → room cs ≤ length env.held → new ≡ slice_set env.held c.slot c.held → room rest ≤ length new
-room_step env new cs rest c e le is =
-    let k : room rest ≤ length env.held = room_stays c.slot (room rest) (length env.held) (room_all env cs rest c e le) in
-    let l : length new ≡ length env.held = ap length is ∙ set_len env.held c.slot c.held in
+pub room_step : (vs new : CallVariables) (cs rest : List Change) (c : Change) → cs ≡ c ∷ rest → room cs ≤ length vs.env.held
+    → new ≡ (let e : Env = vs.env in record vs { env = record e { held = slice_set e.held c.slot c.held } }) → room rest ≤ length new.env.held
+room_step vs new cs rest c e le is =
+    let k : room rest ≤ length vs.env.held = room_stays c.slot (room rest) (length vs.env.held) (room_all vs.env cs rest c e le) in
+    let l : length new.env.held ≡ length vs.env.held = ap (λ (v : CallVariables). length v.env.held) is ∙ set_len vs.env.held c.slot c.held in
     omega arith

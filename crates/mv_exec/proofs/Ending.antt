@@ -3,12 +3,11 @@ use Rattle.std.proofs.Common.{◌≡◌, ◌<◌, Bool, true, false, nat_lt, Lis
 use Rattle.mv_values.specs.declared.schema.TableInfo.{TableInfo}
 use Rattle.mv_catalog.specs.declared.resolved.ProcInfo.{ProcInfo}
 use Rattle.mv_catalog.specs.declared.resolved.RStmt.{RStmt}
-use Rattle.mv_alone.specs.declared.state.Env.{Env}
 use Rattle.mv_alone.specs.TableAfter.{Tables}
 use Rattle.mv_exec.specs.declared.places.Place.{Place}
 use Rattle.mv_exec.specs.declared.task.Task.{Task}
 use Rattle.mv_exec.specs.Places.{block_of, holder_of, next_turn, StandsAt}
-use Rattle.mv_exec.specs.Tasks.{places_of, left_of, beginning, IsTask, StandsAsBefore, TellsEnd}
+use Rattle.mv_exec.specs.Tasks.{places_of, left_of, IsTask, StandsAsBefore, TellsEnd}
 use Rattle.mv_exec.proofs.Turning.{FirstOf, first_of, IsDue, standing_live, after_turn, turned_before, turned_first}
 use Rattle.mv_exec.proofs.Adding.{left_next}
 
@@ -25,11 +24,10 @@ either_left proc tables task db outer p t are none true e =
     stands_left proc tables task db outer p f.it (record { are = are; stands = f.there }) none
 either_left proc tables task db outer p t are none false e =
     let due : IsDue proc (places_of task) outer p = record { are = are; none = e } in
-    let first : Option Env = Some (beginning task) in
-    let before : StandsAsBefore proc task (after_turn task first outer p) = turned_before proc task first outer p t due refl in
+    let before : StandsAsBefore proc task (after_turn task outer p) = turned_before proc task outer p t due in
     let block : List RStmt = block_of proc (holder_of proc None outer) (next_turn p) in
     let f : FirstOf RStmt block 0 = first_of block 0 (turned_first proc task outer p t due) in
-    stands_left proc tables (after_turn task first outer p) db outer (next_turn p) f.it (record { are = refl; stands = f.there }) (before.left tables db ∙ none)
+    stands_left proc tables (after_turn task outer p) db outer (next_turn p) f.it (record { are = refl; stands = f.there }) (before.left tables db ∙ none)
 
 last_of : (ps : List Place) → 0 < length ps → (outer : List Place) × ((p : Place) × (ps ≡ outer ++ p ∷ []))
 last_of [] lt = absurd (omega (arith, lt))

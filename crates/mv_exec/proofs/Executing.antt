@@ -46,7 +46,7 @@ pub record LeavesNext (proc : ProcInfo) (tables : List TableInfo) (task : Task) 
 -- the record of the next statement's effect is the next one
 effect_next : (proc : ProcInfo) (tables : List TableInfo) (task : Task) (db : Tables) (outer : List Place) (p : Place) (s : RStmt) (ahead : Ahead) (e : Effect)
     → IsTask proc task → StandsAt proc (places_of task) outer p s → ForeseesLeft proc task (Some ahead)
-    → IsEffect tables (out-RStmt s) task.env (applied (earlier (length task.records) task.undo) db) e → LeavesNext proc tables task db (record_of ahead e)
+    → IsEffect tables (out-RStmt s) task.variables.env (applied (earlier (length task.records) task.undo) db) e → LeavesNext proc tables task db (record_of ahead e)
 effect_next proc tables task db outer p s ahead e t at next effect =
     let st : State = state_of task db in
     let site : Site = site_in p.holder (site_of outside outer) in
@@ -56,7 +56,7 @@ effect_next proc tables task db outer p s ahead e t at next effect =
     ∷ (turns_of task.records (site_of outside outer) (block_of proc (holder_of proc None outer) p) p.first p.holder ++ jobs_left proc task.records outer)) (task.records ++ own ∷ [])) in
     let leaves : left_of proc tables task db ≡ own ∷ rest = left_next proc tables task db outer p s at in
     let foreseen : Foresees (Some ahead) (own ∷ rest) = subst (Foresees (Some ahead)) leaves (next tables db) in
-    let is : e ≡ effect_of tables (out-RStmt s) st = subst (λ ws. IsEffect tables (out-RStmt s) task.env (applied ws db) e) (own_writes proc task t) effect st.lines in
+    let is : e ≡ effect_of tables (out-RStmt s) st = subst (λ ws. IsEffect tables (out-RStmt s) task.variables.env (applied ws db) e) (own_writes proc task t) effect st.lines in
     let same : own ≡ record_of ahead e = ap (λ a. record_of a (effect_of tables (out-RStmt s) st)) (same_ahead (ahead_in own) ahead foreseen.0 foreseen.1 foreseen.2) ∙ ap (record_of ahead) (sym is) in
     record {
       tail = rest;
@@ -79,7 +79,7 @@ recounted proc old r new n h = record { parameters = h.parameters; records = h.r
 -- the next record of the run was added
 pub executed_next : (proc : ProcInfo) (tables : List TableInfo) (old new : Task) (before after : Sight) (n : ℕ) (outer : List Place) (p : Place) (s : RStmt) (ahead : Ahead) (e : Effect) (r : Record)
     → IsTask proc old → StandsAt proc (places_of old) outer p s → HasColumns (out-RStmt s) → AreRising before.database → ForeseesLeft proc old (Some ahead)
-    → IsEffect tables (out-RStmt s) old.env (applied (earlier (length old.records) old.undo) before.database) e
+    → IsEffect tables (out-RStmt s) old.variables.env (applied (earlier (length old.records) old.undo) before.database) e
     → AskedFor e.preds (earlier (length old.records) old.undo) before after
     → r ≡ record_of ahead e → HasAdded proc old r new → HasExecuted tables proc old (record new { executed = n }) before after
 executed_next proc tables old new before after n outer p s ahead e r t at has rise next effect asked is added =

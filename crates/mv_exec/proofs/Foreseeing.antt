@@ -5,7 +5,6 @@ use Rattle.mv_values.specs.declared.schema.TableInfo.{TableInfo}
 use Rattle.mv_catalog.specs.declared.resolved.ProcInfo.{ProcInfo}
 use Rattle.mv_catalog.specs.declared.resolved.RStmt.{RStmt, out-RStmt}
 use Rattle.mv_catalog.specs.declared.resolved.RStmt.TheOpen.{RStmt-F}
-use Rattle.mv_alone.specs.declared.state.Env.{Env}
 use Rattle.mv_alone.specs.TableAfter.{Tables}
 use Rattle.mv_record.specs.declared.record.Record.{Record}
 use Rattle.mv_recorded.specs.Reading.{Loop, loop_of, last_place, sets_variable, reads_of, expressions, read_variables}
@@ -14,12 +13,12 @@ use Rattle.mv_graph.specs.declared.graph.Node.{Node}
 use Rattle.mv_graph.specs.Nodes.{TellsOf}
 use Rattle.mv_exec.specs.declared.places.Place.{Place}
 use Rattle.mv_exec.specs.declared.task.Task.{Task}
-use Rattle.mv_exec.specs.Env.{initial_env}
+use Rattle.mv_exec.specs.Env.{CallVariables}
 use Rattle.mv_exec.specs.Places.{site_in, site_of, next_turn, place_due, with_next_row, StandsAt, IsAt}
-use Rattle.mv_exec.specs.Tasks.{places_of, left_of, definer_in, beginning, in_turn_at, task_at, IsTask, StandsAsBefore}
+use Rattle.mv_exec.specs.Tasks.{places_of, left_of, definer_in, in_turn_at, task_at, IsTask, StandsAsBefore}
 use Rattle.mv_exec.specs.Running.{Foresees}
 use Rattle.mv_exec.specs.Ahead.{GoesOn, ahead_at, ForeseesLeft}
-use Rattle.mv_exec.proofs.Turning.{IsDue, standing_live, after_turn, turned_task, turned_before, initial_kept}
+use Rattle.mv_exec.proofs.Turning.{IsDue, standing_live, after_turn, turned_task, turned_before}
 use Rattle.mv_exec.proofs.Adding.{left_next}
 
 map_same : {A B : Type 0} (f g : A → B) → ((a : A) → f a ≡ g a) → (xs : List A) → map f xs ≡ map g xs
@@ -36,12 +35,12 @@ reads_same params loops records definers y h =
     (λ x. ap (λ d. record { slot = x; definer = option_or (loop_of x loops) d }) (sym (h x))) (read_variables params (expressions y))
 
 -- at the place at which a call goes on, whatever its variables are there
-foresees_at : (proc : ProcInfo) (task : Task) (env : Env) (first : Option Env) (ps : List Place) (ended : Bool) (outer : List Place) (p : Place) (s : RStmt) (xs : List ℕ) → IsTask proc task
-    → let then : Task = record task { env = env; first = first; places = ps; ended = ended } in
+foresees_at : (proc : ProcInfo) (task : Task) (variables : CallVariables) (ps : List Place) (ended : Bool) (outer : List Place) (p : Place) (s : RStmt) (xs : List ℕ) → IsTask proc task
+    → let then : Task = record task { variables = variables; places = ps; ended = ended } in
     ((tables : List TableInfo) (db : Tables) → left_of proc tables then db ≡ left_of proc tables task db) → StandsAt proc (places_of then) outer p s
     → xs ≡ read_variables task.parameters (expressions (out-RStmt s)) → ForeseesLeft proc task (Some (ahead_at task.definers (site_in p.holder (site_of outside outer)) p.number xs))
-foresees_at proc task env first ps ended outer p s xs t left at are tables db =
-    let then : Task = record task { env = env; first = first; places = ps; ended = ended } in
+foresees_at proc task variables ps ended outer p s xs t left at are tables db =
+    let then : Task = record task { variables = variables; places = ps; ended = ended } in
     let site : Site = site_in p.holder (site_of outside outer) in
     subst (Foresees (Some (ahead_at task.definers site p.number xs))) (sym (left_next proc tables then db outer p s at) ∙ left tables db) (
       refl,
@@ -74,12 +73,12 @@ foresees proc task place s turn node t live params go tells = by turn refl
     by : (b : Bool) → turn ≡ b → ForeseesLeft proc task (Some (ahead_at task.definers (site_in place.holder (site_of outside go.outer)) place.number node.reads))
     by true e =
         let due : IsDue proc (places_of task) go.outer go.last = due_turn proc task place s turn live go e in
-        let first : Option Env = Some (beginning task) in
-        let before : StandsAsBefore proc task (after_turn task first go.outer go.last) = turned_before proc task first go.outer go.last t due refl in
-        foresees_at proc task (with_next_row task.records go.last.holder task.env) first (go.outer ++ next_turn go.last ∷ []) false go.outer place s node.reads t before.left
+        let before : StandsAsBefore proc task (after_turn task go.outer go.last) = turned_before proc task go.outer go.last t due in
+        let was = task.variables in
+        foresees_at proc task (record was { env = with_next_row task.records go.last.holder was.env }) (go.outer ++ next_turn go.last ∷ []) false go.outer place s node.reads t before.left
         (record { are = ap (λ q. go.outer ++ q ∷ []) (in_turn proc task place s turn go e); stands = go.stands }) reads
     by false e =
-        foresees_at proc task task.env task.first task.places task.ended go.outer place s node.reads t (λ tables db. refl) (stands_here proc task place s turn live go e) reads
+        foresees_at proc task task.variables task.places task.ended go.outer place s node.reads t (λ tables db. refl) (stands_here proc task place s turn live go e) reads
 
 -- The place at which a call goes on
 
@@ -89,55 +88,31 @@ pub record IsCome (proc : ProcInfo) (old new : Task) (place : Place) (s : RStmt)
   pub same : StandsAsBefore proc old new
   pub at : IsAt proc (places_of new) place s
 
--- a call that keeps its beginning
-pub kept_task : (proc : ProcInfo) (task : Task) (first : Option Env) → IsTask proc task → IsTask proc (record task { first = first })
-kept_task proc task first t = record {
-  filled = t.filled;
-  numbers = t.numbers;
-  ends = t.ends;
-  holders = t.holders;
-  some = t.some;
-  empty = t.empty;
-  undo = t.undo;
-  definers = t.definers;
-  counted = t.counted;
-}
-
-pub kept_before : (proc : ProcInfo) (task : Task) (first : Option Env) → first ≡ Some (initial_env task.first task.env) → StandsAsBefore proc task (record task { first = first })
-kept_before proc task first kept = record {
-  parameters = refl;
-  records = refl;
-  executed = refl;
-  undo = refl;
-  beginning = initial_kept first task.first task.env task.env kept;
-  left = λ tables db. refl;
-}
-
-turned_come : (proc : ProcInfo) (task : Task) (first : Option Env) (place : Place) (s : RStmt) (go : GoesOn proc task place s true) → IsTask proc task → task.ended ≡ false
-    → first ≡ Some (initial_env task.first task.env) → IsCome proc task (in_turn_at (record task { first = first }) go.outer go.last place) place s
-turned_come proc task first place s go t live kept =
+turned_come : (proc : ProcInfo) (task : Task) (place : Place) (s : RStmt) (go : GoesOn proc task place s true) → IsTask proc task → task.ended ≡ false
+    → IsCome proc task (in_turn_at task go.outer go.last place) place s
+turned_come proc task place s go t live =
     let due : IsDue proc (places_of task) go.outer go.last = due_turn proc task place s true live go refl in
     let last : Place = go.last in
-    let then : Task = after_turn task first go.outer last in
-    let is : in_turn_at (record task { first = first }) go.outer last place ≡ then =
-    ap (λ q. record task { env = with_next_row task.records last.holder task.env; first = first; places = go.outer ++ q ∷ [] }) (sym (in_turn proc task place s true go refl))
+    let then : Task = after_turn task go.outer last in
+    let was = task.variables in
+    let is : in_turn_at task go.outer last place ≡ then =
+    ap (λ q. record task { variables = record was { env = with_next_row task.records last.holder was.env }; places = go.outer ++ q ∷ [] }) (sym (in_turn proc task place s true go refl))
     ∙ ap (λ b. record then { ended = b }) live in
     subst (λ u. IsCome proc task u place s) (sym is)
     (record {
-      whole = turned_task proc task first go.outer last t due;
-      same = turned_before proc task first go.outer last t due (initial_kept first task.first task.env (with_next_row task.records last.holder task.env) kept);
+      whole = turned_task proc task go.outer last t due;
+      same = turned_before proc task go.outer last t due;
       at = (go.outer, record { are = ap (λ q. go.outer ++ q ∷ []) (in_turn proc task place s true go refl); stands = go.stands });
     })
 
-here_come : (proc : ProcInfo) (task : Task) (first : Option Env) (place : Place) (s : RStmt) (go : GoesOn proc task place s false) → IsTask proc task → task.ended ≡ false
-    → first ≡ Some (initial_env task.first task.env) → IsCome proc task (record task { first = first }) place s
-here_come proc task first place s go t live kept = record {
-  whole = kept_task proc task first t;
-  same = kept_before proc task first kept;
+here_come : (proc : ProcInfo) (task : Task) (place : Place) (s : RStmt) (go : GoesOn proc task place s false) → IsTask proc task → task.ended ≡ false → IsCome proc task task place s
+here_come proc task place s go t live = record {
+  whole = t;
+  same = record { parameters = refl; records = refl; executed = refl; undo = refl; beginning = refl; left = λ tables db. refl };
   at = (go.outer, stands_here proc task place s false live go refl);
 }
 
-pub come : (proc : ProcInfo) (task : Task) (first : Option Env) (place : Place) (s : RStmt) (turn : Bool) (new : Task) → IsTask proc task → task.ended ≡ false → (go : GoesOn proc task place s turn)
-    → first ≡ Some (initial_env task.first task.env) → new ≡ task_at (record task { first = first }) go.outer go.last place turn → IsCome proc task new place s
-come proc task first place s true new t live go kept is = subst (λ u. IsCome proc task u place s) (sym is) (turned_come proc task first place s go t live kept)
-come proc task first place s false new t live go kept is = subst (λ u. IsCome proc task u place s) (sym is) (here_come proc task first place s go t live kept)
+pub come : (proc : ProcInfo) (task : Task) (place : Place) (s : RStmt) (turn : Bool) (new : Task) → IsTask proc task → task.ended ≡ false → (go : GoesOn proc task place s turn)
+    → new ≡ task_at task go.outer go.last place turn → IsCome proc task new place s
+come proc task place s true new t live go is = subst (λ u. IsCome proc task u place s) (sym is) (turned_come proc task place s go t live)
+come proc task place s false new t live go is = subst (λ u. IsCome proc task u place s) (sym is) (here_come proc task place s go t live)

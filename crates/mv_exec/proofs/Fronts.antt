@@ -40,7 +40,7 @@ same_leaves g call db old new rest is h = h ∙ ap (λ rs. rs ++ rest) is
 -- The same call
 
 -- a call that has done nothing
-pub begins : (g : Graph) (call : Call) (task : Task) → length call.arguments ≡ length g.procedure.params → IsTask g.procedure task → BeginsCall task g.procedure call → task.env.found ≡ (entered g.procedure call).found → task.records ≡ []
+pub begins : (g : Graph) (call : Call) (task : Task) → length call.arguments ≡ length g.procedure.params → IsTask g.procedure task → BeginsCall task g.procedure call → task.variables.env.found ≡ (entered g.procedure call).found → task.records ≡ []
     → ((tables : List TableInfo) (db : Tables) → run_of g.procedure tables task db ≡ recorded tables g.procedure call db) → IsTaskOf g call task
 begins g call task fits whole start found none run = record {
   whole = whole;
@@ -59,7 +59,7 @@ pub begins_on : (g : Graph) (call : Call) (task : Task) → IsTaskOf g call task
 begins_on g call task is none db = record { is = is; rest = (meaning_of g call db).records; leaves = ap (λ rs. rs ++ (meaning_of g call db).records) (sym none) }
 
 -- a call that stands as before
-pub stays : (g : Graph) (call : Call) (old new : Task) → IsTask g.procedure new → StandsAsBefore g.procedure old new → new.env.found ≡ old.env.found → IsTaskOf g call old → IsTaskOf g call new
+pub stays : (g : Graph) (call : Call) (old new : Task) → IsTask g.procedure new → StandsAsBefore g.procedure old new → new.variables.env.found ≡ old.variables.env.found → IsTaskOf g call old → IsTaskOf g call new
 stays g call old new whole before found is = record {
   whole = whole;
   begins = (before.beginning ∙ is.begins.0, before.parameters ∙ is.begins.1);
@@ -78,7 +78,7 @@ pub running_on : (g : Graph) (db : Tables) (old new : Task) → IsSameCallOn g d
 running_on g db old new same on = (on.0, same on.0 on.1)
 
 -- a call with one record more
-pub grows : (g : Graph) (call : Call) (old new : Task) (r : Record) → IsTask g.procedure new → HasAdded g.procedure old r new → new.env.found ≡ old.env.found → IsTaskOf g call old → IsTaskOf g call new
+pub grows : (g : Graph) (call : Call) (old new : Task) (r : Record) → IsTask g.procedure new → HasAdded g.procedure old r new → new.variables.env.found ≡ old.variables.env.found → IsTaskOf g call old → IsTaskOf g call new
 grows g call old new r whole added found is = record {
   whole = whole;
   begins = (added.beginning ∙ is.begins.0, added.parameters ∙ is.begins.1);
@@ -232,9 +232,9 @@ shorter g old new db before after rise same was ran =
 
 -- How large its numbers are
 
-pub small_found : (g : Graph) (call : Call) (task : Task) → IsSound g → IsTaskOf g call task → task.env.found < 2 ^ 16
+pub small_found : (g : Graph) (call : Call) (task : Task) → IsSound g → IsTaskOf g call task → task.variables.env.found < 2 ^ 16
 small_found g call task sound is =
-    let found : task.env.found ≡ length call.arguments + length g.procedure.defaults = is.found in
+    let found : task.variables.env.found ≡ length call.arguments + length g.procedure.defaults = is.found in
     omega (arith, found, is.fits, sound.procedure.few, sound.procedure.declared)
 
 -- the variables that a call doesn't count among its reads are the parameters of its procedure

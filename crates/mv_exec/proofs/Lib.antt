@@ -22,3 +22,4 @@ pub mod Kept
 pub mod Counting
 pub mod Fronts
 pub mod Positioning
+pub mod Restoring

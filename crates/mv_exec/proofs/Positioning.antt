@@ -14,7 +14,7 @@ use Rattle.mv_record.specs.declared.record.Record.{Record}
 use Rattle.mv_exec.specs.declared.places.Place.{Place}
 use Rattle.mv_exec.specs.declared.task.Task.{Task}
 use Rattle.mv_exec.specs.Places.{block_of, holder_of, has_turn, next_turn, place_due, AreFilled}
-use Rattle.mv_exec.specs.Tasks.{places_of, beginning, IsTask}
+use Rattle.mv_exec.specs.Tasks.{places_of, IsTask}
 use Rattle.mv_exec.specs.Ahead.{GoesOn}
 use Rattle.mv_exec.proofs.Turning.{FirstOf, first_of, is_below, standing_live, turn_owed, turned_task, same_block, filled_last}
 use Rattle.mv_exec.proofs.Numbering.{text_next}
@@ -89,7 +89,7 @@ text_there proc task place s turn t live go = by turn refl
   where
     by : (b : Bool) → turn ≡ b → HasText proc place.number (s ∷ drop (place.at + 1) (block_of proc (holder_of proc None go.outer) place))
     by true e =
-        let then : IsTask proc _ = turned_task proc task (Some (beginning task)) go.outer go.last t (due_turn proc task place s turn live go e) in
+        let then : IsTask proc _ = turned_task proc task go.outer go.last t (due_turn proc task place s turn live go e) in
         text_next proc (go.outer ++ next_turn go.last ∷ []) go.outer place s then.numbers
         (record { are = ap (λ q. go.outer ++ q ∷ []) (in_turn proc task place s turn go e); stands = go.stands })
     by false e = text_next proc (places_of task) go.outer place s t.numbers (stands_here proc task place s turn live go e)

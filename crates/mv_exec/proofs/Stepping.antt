@@ -1,6 +1,5 @@
 -- A call behind one record more.
 use Rattle.std.proofs.Common.{◌≡◌, ◌≢◌, ℕ, ◌+◌, ◌<◌, ◌≤◌, Bool, true, false, List, [], ◌∷◌, ◌++◌, Option, Some, None, All, length, take, slice_get, slice_set, if◌then◌else◌, ◌==◌, refl, sym, ap, subst, ◌∙◌, arith, append-nil, length-append}
-use Rattle.std.specs.Prelude.{IsSome}
 use Rattle.std.specs.List.{list_any}
 use Rattle.std.specs.Option.{is_some}
 use Rattle.mv_catalog.specs.Statements.{size, size_of}
@@ -27,7 +26,6 @@ use Rattle.mv_effect.specs.Choosing.{Chooses}
 use Rattle.mv_exec.specs.declared.places.Place.{Place}
 use Rattle.mv_exec.specs.declared.task.Task.{Task}
 use Rattle.mv_exec.specs.Left.{left}
-use Rattle.mv_exec.specs.Env.{initial_env}
 use Rattle.mv_exec.specs.Keeping.{undo_of_all, undo_of, with_room, define, slot_room}
 use Rattle.mv_exec.specs.Moves.{branch_place, loop_place, inner_places, place_after, after_empty_loop}
 use Rattle.mv_exec.specs.Places.{body_in, branch_in, block_in, holder_of, AreFilled, IsNumbered, AreNumbered, StandsAt}
@@ -204,23 +202,19 @@ ended_task proc mid k = record {
 
 -- What is left
 
-initial_same : (first : Option Env) (a b : Env) → IsSome first → initial_env first a ≡ initial_env first b
-initial_same None a b h = cc
-initial_same (Some e) a b h = refl
-
 -- the call behind a record, before places are dropped
 abbrev pub behind_record : Task → Record → List Place → Place → RStmt → Bool → Task
-behind_record task r outer p s b = with_record task r (after_empty_loop (out-RStmt s) r.rows (with_slots r.sets task.env)) (going (length task.records) outer p s b)
+behind_record task r outer p s b = with_record task r (after_empty_loop (out-RStmt s) r.rows (with_slots r.sets task.variables.env)) (going (length task.records) outer p s b)
 
 trimmed_added : (proc : ProcInfo) (task : Task) (r : Record) (outer : List Place) (p : Place) (s : RStmt) (b : Bool) (new : Task)
-    → IsTask proc task → IsSome task.first → StandsAt proc (places_of task) outer p s → Chooses task.env b (out-RStmt s) → HasColumns (out-RStmt s) → r.end ≡ None
+    → IsTask proc task → StandsAt proc (places_of task) outer p s → Chooses task.variables.env b (out-RStmt s) → HasColumns (out-RStmt s) → r.end ≡ None
     → IsTrimmed proc (behind_record task r outer p s b) new → HasAdded proc task r new
-trimmed_added proc task r outer p s b new t kept at chosen has ends trim =
+trimmed_added proc task r outer p s b new t at chosen has ends trim =
     let mid : Task = behind_record task r outer p s b in
     record {
       parameters = ap (λ (u : Task). u.parameters) trim.rest;
       records = ap (λ (u : Task). u.records) trim.rest;
-      beginning = ap beginning trim.rest ∙ initial_same task.first mid.env task.env kept;
+      beginning = ap beginning trim.rest;
       left = λ tables db tail rise leaves.
           ap (λ u. left_of proc tables u db) trim.rest
           ∙ (ap (λ js. left tables task.parameters js mid.records (state_of mid db)) trim.left
@@ -231,12 +225,12 @@ trimmed_added proc task r outer p s b new t kept at chosen has ends trim =
     }
 
 ended_added : (proc : ProcInfo) (task : Task) (r : Record) (outer : List Place) (p : Place) (s : RStmt) (b : Bool) (e : End)
-    → IsSome task.first → StandsAt proc (places_of task) outer p s → HasColumns (out-RStmt s) → r.end ≡ Some e
+    → StandsAt proc (places_of task) outer p s → HasColumns (out-RStmt s) → r.end ≡ Some e
     → HasAdded proc task r (let mid : Task = behind_record task r outer p s b in record mid { ended = true })
-ended_added proc task r outer p s b e kept at has ends = record {
+ended_added proc task r outer p s b e at has ends = record {
   parameters = refl;
   records = refl;
-  beginning = initial_same task.first (after_empty_loop (out-RStmt s) r.rows (with_slots r.sets task.env)) task.env kept;
+  beginning = refl;
   left = λ tables db tail rise leaves. sym (ends_all proc tables task db r tail outer p s e at leaves ends);
   keys = λ tables db tail rise leaves keys. keys_after proc tables task db r tail outer p s at has rise leaves keys;
 }
@@ -261,29 +255,29 @@ pub past_task : (proc : ProcInfo) (task : Task) (r : Record) (outer : List Place
 past_task proc task r outer p s b mid new ends t past = by ends refl
   where
     kept : IsKept proc mid
-    kept = subst (IsKept proc) (sym past.is) (going_kept proc task r (after_empty_loop (out-RStmt s) r.rows (with_slots r.sets task.env)) outer p s b t past.stands)
+    kept = subst (IsKept proc) (sym past.is) (going_kept proc task r (after_empty_loop (out-RStmt s) r.rows (with_slots r.sets task.variables.env)) outer p s b t past.stands)
 
     by : (e : Bool) → ends ≡ e → IsTask proc new
     by true e = subst (IsTask proc) (sym (past.ended e)) (ended_task proc mid kept)
     by false e = trimmed_task proc mid new kept (past.trimmed e)
 
-pub past_added : (proc : ProcInfo) (task : Task) (r : Record) (outer : List Place) (p : Place) (s : RStmt) (b : Bool) (mid new : Task) (end : Option End) (ends : Bool) → IsTask proc task → IsSome task.first
-    → Chooses task.env b (out-RStmt s) → HasColumns (out-RStmt s) → r.end ≡ end → ends ≡ is_some end → IsPast proc task r outer p s b mid new ends → HasAdded proc task r new
-past_added proc task r outer p s b mid new None ends t kept chosen has end are past =
-    trimmed_added proc task r outer p s b new t kept past.stands chosen has end (subst (λ m. IsTrimmed proc m new) past.is (past.trimmed are))
-past_added proc task r outer p s b mid new (Some e) ends t kept chosen has end are past =
-    subst (HasAdded proc task r) (sym (past.ended are ∙ ap (λ (m : Task). record m { ended = true }) past.is)) (ended_added proc task r outer p s b e kept past.stands has end)
+pub past_added : (proc : ProcInfo) (task : Task) (r : Record) (outer : List Place) (p : Place) (s : RStmt) (b : Bool) (mid new : Task) (end : Option End) (ends : Bool) → IsTask proc task
+    → Chooses task.variables.env b (out-RStmt s) → HasColumns (out-RStmt s) → r.end ≡ end → ends ≡ is_some end → IsPast proc task r outer p s b mid new ends → HasAdded proc task r new
+past_added proc task r outer p s b mid new None ends t chosen has end are past =
+    trimmed_added proc task r outer p s b new t past.stands chosen has end (subst (λ m. IsTrimmed proc m new) past.is (past.trimmed are))
+past_added proc task r outer p s b mid new (Some e) ends t chosen has end are past =
+    subst (HasAdded proc task r) (sym (past.ended are ∙ ap (λ (m : Task). record m { ended = true }) past.is)) (ended_added proc task r outer p s b e past.stands has end)
 
 pub past_found : (proc : ProcInfo) (task : Task) (r : Record) (outer : List Place) (p : Place) (s : RStmt) (b : Bool) (mid new : Task) (ends : Bool)
-    → IsPast proc task r outer p s b mid new ends → new.env.found ≡ task.env.found
+    → IsPast proc task r outer p s b mid new ends → new.variables.env.found ≡ task.variables.env.found
 past_found proc task r outer p s b mid new ends past = by ends refl
   where
-    behind : mid.env.found ≡ task.env.found
-    behind = ap (λ (u : Task). u.env.found) past.is ∙ record_found (out-RStmt s) r.rows r.sets task.env
+    behind : mid.variables.env.found ≡ task.variables.env.found
+    behind = ap (λ (u : Task). u.variables.env.found) past.is ∙ record_found (out-RStmt s) r.rows r.sets task.variables.env
 
-    by : (e : Bool) → ends ≡ e → new.env.found ≡ task.env.found
-    by true e = ap (λ (u : Task). u.env.found) (past.ended e) ∙ behind
-    by false e = ap (λ (u : Task). u.env.found) (past.trimmed e).rest ∙ behind
+    by : (e : Bool) → ends ≡ e → new.variables.env.found ≡ task.variables.env.found
+    by true e = ap (λ (u : Task). u.variables.env.found) (past.ended e) ∙ behind
+    by false e = ap (λ (u : Task). u.variables.env.found) (past.trimmed e).rest ∙ behind
 
 -- nothing was executed
 pub past_executed : (proc : ProcInfo) (task : Task) (r : Record) (outer : List Place) (p : Place) (s : RStmt) (b : Bool) (mid new : Task) (ends : Bool)
@@ -300,7 +294,7 @@ past_executed proc task r outer p s b mid new ends past = by ends refl
 -- the parts of the call, one after another, make the call behind the record
 pub parts_behind : (proc : ProcInfo) (task : Task) (r : Record) (outer : List Place) (p : Place) (s : RStmt) (b : Bool) (held : Task) (env : Env) (inner : List Place) (behind : Place) (n at : ℕ)
     (definers : List (Option ℕ)) (places : List Place)
-    → held ≡ with_writes task r env (task.places ++ inner) → env ≡ after_empty_loop (out-RStmt s) r.rows (with_slots r.sets task.env) → task.places ≡ outer ++ p ∷ []
+    → held ≡ with_writes task r env (task.places ++ inner) → env ≡ after_empty_loop (out-RStmt s) r.rows (with_slots r.sets task.variables.env) → task.places ≡ outer ++ p ∷ []
     → inner ≡ inner_places (length task.records) p.number b (out-RStmt s) → behind ≡ place_after (size s) p → n ≡ length task.records → at ≡ length outer
     → ((o i : List Place) (q : Place) → held.places ≡ (o ++ q ∷ []) ++ i → at ≡ length o → places ≡ (o ++ behind ∷ []) ++ i)
     → ((q : Record) → slice_get held.records n ≡ Some q → definers ≡ define held.definers q.sets n)
@@ -314,8 +308,8 @@ parts_behind proc task r outer p s b held env inner behind n at definers places 
     note r last ∙ (ap (λ (u : Task). define u.definers r.sets n) h ∙ ap (define (with_room (slot_room r.sets) task.definers) r.sets) num) in
     ap (λ (u : Task). record u { definers = definers; places = places }) h
     ∙ (ap (λ e. let u : Task = with_writes task r e places in record u { definers = definers }) ran
-    ∙ (ap (λ ds. let u : Task = with_writes task r (after_empty_loop (out-RStmt s) r.rows (with_slots r.sets task.env)) places in record u { definers = ds }) noted
-    ∙ ap (with_record task r (after_empty_loop (out-RStmt s) r.rows (with_slots r.sets task.env))) put_is))
+    ∙ (ap (λ ds. let u : Task = with_writes task r (after_empty_loop (out-RStmt s) r.rows (with_slots r.sets task.variables.env)) places in record u { definers = ds }) noted
+    ∙ ap (with_record task r (after_empty_loop (out-RStmt s) r.rows (with_slots r.sets task.variables.env))) put_is))
 
 -- The call where memory ran out
 

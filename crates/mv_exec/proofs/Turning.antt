@@ -16,7 +16,6 @@ use Rattle.mv_exec.specs.declared.places.Holder.TheVariants as by
 use Rattle.mv_exec.specs.declared.places.Place.{Place}
 use Rattle.mv_exec.specs.declared.task.Task.{Task}
 use Rattle.mv_exec.specs.Left.{Job, run, turns, left}
-use Rattle.mv_exec.specs.Env.{initial_env}
 use Rattle.mv_exec.specs.Places.{block_in, block_of, statement_before, holder_of, site_in, site_of, some_run, some_turns, turns_of, rows_at, jobs_left, has_turn, is_left, EndsLeft, Every, IsFilled, AreFilled, IsNumbered, AreNumbered, in_next_turn, next_turn, with_turn, with_next_row}
 use Rattle.mv_exec.specs.Tasks.{standing, places_of, beginning, state_of, IsTask, StandsAsBefore, IsHeldBefore, AreHeldBefore}
 use Rattle.mv_exec.proofs.Leaving.{turn_begins}
@@ -149,8 +148,10 @@ turn_due proc rs ps outer p due ends =
     either_left (nat_lt p.at (length (block_of proc (holder_of proc None outer) p))) (has_turn rs p.holder) (ends outer p due.are) due.none
 
 -- the task in the next turn
-abbrev pub after_turn : Task → Option Env → List Place → Place → Task
-after_turn old f outer p = record old { env = with_next_row old.records p.holder old.env; first = f; places = outer ++ next_turn p ∷ []; ended = false }
+abbrev pub after_turn : Task → List Place → Place → Task
+after_turn old outer p =
+    let was = old.variables in
+    record old { variables = record was { env = with_next_row old.records p.holder was.env }; places = outer ++ next_turn p ∷ []; ended = false }
 
 next_filled : (proc : ProcInfo) (old : Task) (outer : List Place) (p : Place) → IsTask proc old → IsDue proc (places_of old) outer p → 0 < length (block_of proc (holder_of proc None outer) (next_turn p))
 next_filled proc old outer p t due =
@@ -162,8 +163,8 @@ next_numbered proc outer p h =
     every_more (IsNumbered proc) proc None outer (next_turn p) (every_outer (IsNumbered proc) proc None outer p h)
     (subst (λ bl. IsNumbered proc bl (next_turn p)) (sym (same_block proc (holder_of proc None outer) p.holder)) (last.0, last.0))
 
-pub turned_task : (proc : ProcInfo) (old : Task) (f : Option Env) (outer : List Place) (p : Place) → IsTask proc old → IsDue proc (places_of old) outer p → IsTask proc (after_turn old f outer p)
-turned_task proc old f outer p t due =
+pub turned_task : (proc : ProcInfo) (old : Task) (outer : List Place) (p : Place) → IsTask proc old → IsDue proc (places_of old) outer p → IsTask proc (after_turn old outer p)
+turned_task proc old outer p t due =
     let filled : 0 < length (block_of proc (holder_of proc None outer) (next_turn p)) = next_filled proc old outer p t due in
     record {
       filled = filled_more proc None outer (next_turn p) (filled_outer proc None outer p (subst (AreFilled proc None) due.are t.filled)) filled;
@@ -187,14 +188,13 @@ pub turned_first : (proc : ProcInfo) (old : Task) (outer : List Place) (p : Plac
     → nat_lt 0 (length (block_of proc (holder_of proc None outer) (next_turn p))) ≡ true
 turned_first proc old outer p t due = is_below 0 _ (next_filled proc old outer p t due)
 
-pub turned_before : (proc : ProcInfo) (old : Task) (f : Option Env) (outer : List Place) (p : Place) → IsTask proc old → IsDue proc (places_of old) outer p
-    → initial_env f (with_next_row old.records p.holder old.env) ≡ beginning old → StandsAsBefore proc old (after_turn old f outer p)
-turned_before proc old f outer p t due first = record {
+pub turned_before : (proc : ProcInfo) (old : Task) (outer : List Place) (p : Place) → IsTask proc old → IsDue proc (places_of old) outer p → StandsAsBefore proc old (after_turn old outer p)
+turned_before proc old outer p t due = record {
   parameters = refl;
   records = refl;
   executed = refl;
   undo = refl;
-  beginning = first;
+  beginning = refl;
   left = λ tables db.
       let s : Option RStmt = holder_of proc None outer in
       let site : Site = site_of outside outer in
@@ -214,9 +214,6 @@ turned_before proc old f outer p t due first = record {
 
 pub standing_live : (b : Bool) (ps : List Place) → b ≡ false → standing b ps ≡ ps
 standing_live b ps e = ap (λ c. standing c ps) e
-
-pub initial_kept : (f g : Option Env) (was now : Env) → f ≡ Some (initial_env g was) → initial_env f now ≡ initial_env g was
-initial_kept f g was now e = ap (λ o. initial_env o now) e
 
 -- where no statement is left at the innermost place a turn is
 pub turn_owed : (proc : ProcInfo) (task : Task) (rs : List Record) (ps outer : List Place) (p : Place) → IsTask proc task → task.ended ≡ false → ps ≡ task.places → rs ≡ task.records

@@ -31,7 +31,7 @@ pub record IsTaskOf (g : Graph) (call : Call) (task : Task) : Type 0 where
   pub whole : IsTask g.procedure task
   pub begins : BeginsCall task g.procedure call
   pub fits : length call.arguments ≡ length g.procedure.params
-  pub found : task.env.found ≡ (entered g.procedure call).found
+  pub found : task.variables.env.found ≡ (entered g.procedure call).found
   pub left : (db : Tables) (rest : List Record) → AreRising db → Leaves g call db task rest → left_of g.procedure g.tables task db ≡ rest
   pub writes : HasWritesOf task.undo task.records
   pub keys : (db : Tables) (rest : List Record) → IsDatabaseOf g.tables db → Leaves g call db task rest → KeysStand g.tables (applied (writes_in task.records) db)

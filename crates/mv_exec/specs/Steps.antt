@@ -22,8 +22,8 @@ use Rattle.mv_exec.specs.Tasks.{beginning, left_of, definer_in}
 
 -- the call with a record and its writes, before its definers and position are updated
 abbrev pub with_writes : Task → Record → Env → List Place → Task
-with_writes task r env places = record task {
-  env = env;
+with_writes task r env places = let was = task.variables in record task {
+  variables = record was { env = env };
   records = task.records ++ r ∷ [];
   undo = task.undo ++ undo_of (length task.records) r.writes;
   definers = with_room (slot_room r.sets) task.definers;

@@ -16,13 +16,13 @@ use Rattle.mv_exec.specs.declared.places.Holder.TheVariants as by
 use Rattle.mv_exec.specs.declared.places.Place.{Place}
 use Rattle.mv_exec.specs.declared.task.Task.{Task}
 use Rattle.mv_exec.specs.Left.{left}
-use Rattle.mv_exec.specs.Env.{initial_env}
+use Rattle.mv_exec.specs.Env.{at_beginning}
 use Rattle.mv_exec.specs.Keeping.{undo_of_all}
 use Rattle.mv_exec.specs.Places.{jobs_left, AreFilled, AreNumbered, EndsLeft, with_next_row}
 
 -- the variables with which the call began
 abbrev pub beginning : Task → Env
-beginning task = initial_env task.first task.env
+beginning task = task.variables.initial
 
 -- its initial state is that of a call of the procedure
 abbrev pub BeginsCall : Task → ProcInfo → Call → Type 0
@@ -30,7 +30,7 @@ BeginsCall task proc call = (beginning task ≡ entered proc call) × (task.para
 
 -- the state after its records, if the call began on this database
 abbrev pub state_of : Task → Tables → State
-state_of task db = record { env = task.env; tables = applied (writes_in task.records) db; lines = lines_in task.records }
+state_of task db = record { env = task.variables.env; tables = applied (writes_in task.records) db; lines = lines_in task.records }
 
 -- before the first statement of a procedure
 abbrev pub first_place : Place
@@ -98,7 +98,9 @@ pub record StandsAsBefore (proc : ProcInfo) (old new : Task) : Type 0 where
 
 -- the call in the next turn: with the loop's row, and at this place inside these
 abbrev pub in_turn_at : Task → List Place → Place → Place → Task
-in_turn_at task outer last place = record task { env = with_next_row task.records last.holder task.env; places = outer ++ place ∷ [] }
+in_turn_at task outer last place =
+    let was = task.variables in
+    record task { variables = record was { env = with_next_row task.records last.holder was.env }; places = outer ++ place ∷ [] }
 
 -- the call at this place inside these; if a turn is due, in that turn
 abbrev pub task_at : Task → List Place → Place → Place → Bool → Task
@@ -106,9 +108,9 @@ task_at task outer last place true = in_turn_at task outer last place
 task_at task outer last place false = task
 
 -- a call that has these parameters and variables, and has executed nothing
-abbrev pub fresh_task : ℕ → Env → Option Env → Bool → Task
-fresh_task params env first empty =
-    record { parameters = params; env = env; first = first; records = []; executed = 0; undo = []; definers = []; places = first_place ∷ []; ended = empty; empty = empty }
+abbrev pub fresh_task : ℕ → Env → Bool → Task
+fresh_task params env empty =
+    record { parameters = params; variables = at_beginning env; records = []; executed = 0; undo = []; definers = []; places = first_place ∷ []; ended = empty; empty = empty }
 
 -- the flag is true exactly if no record is left, on any database
 abbrev pub TellsEnd : ProcInfo → Task → Bool → Type 0

@@ -1,10 +1,10 @@
 //! Adds a record to a running call.
 
-ghost use Rattle.std.specs.Prelude.{◌≡◌, ◌<◌, ◌≤◌, ◌+◌, ◌++◌, ◌∷◌, [], false, true, All, Some, List, length, slice_get, option_to_list, max, IfOk, OnOk, OnErr, IsSome};
+ghost use Rattle.std.specs.Prelude.{◌≡◌, ◌<◌, ◌≤◌, ◌+◌, ◌++◌, ◌∷◌, [], false, true, All, Some, List, length, slice_get, option_to_list, max, IfOk, OnOk, OnErr};
 ghost use Rattle.mv_catalog.specs.Statements.{size_of};
 ghost use Rattle.mv_record.specs.declared.record.Record.{Record};
 ghost use Rattle.mv_exec.specs.declared.places.Place.{Place};
-ghost use Rattle.mv_exec.specs.Env.{with_changes};
+ghost use Rattle.mv_exec.specs.Env.{with_changes, changed};
 ghost use Rattle.mv_exec.specs.Keeping.{define, slot_room};
 ghost use Rattle.mv_catalog.specs.declared.resolved.RStmt.{out-RStmt};
 ghost use Rattle.mv_recorded.specs.Effect.{HasColumns};
@@ -68,12 +68,12 @@ fn push_rest(
     changes: Vec<Change>,
     inner: Option<Place>,
 ) -> Result<(), NoMemory>
-    ensures ok { OnOk result (task.new ≡ record task.old { env = with_changes changes.items task.old.env; records = task.old.records ++ given ∷ []; places = task.old.places ++ option_to_list inner }) }
+    ensures ok { OnOk result (task.new ≡ record task.old { variables = changed changes.items task.old.variables; records = task.old.records ++ given ∷ []; places = task.old.places ++ option_to_list inner }) }
     ensures err { OnErr result (HasFronts task.old task.new) }
 {
     push_place(&mut task.places, inner)?;
     task.records.push(given)?;
-    make_changes(&mut task.env, changes)
+    make_changes(&mut task.variables, changes)
 }
 
 /// Adds a record, its writes and the place inside its statement, and changes variables. On `NoMemory` only the room for
@@ -86,7 +86,7 @@ fn push_record(
     inner: Option<Place>,
 ) -> Result<(), NoMemory>
     requires { All (λ o. o.number < length task.old.records) task.old.undo }
-    ensures ok { OnOk result (task.new ≡ with_writes task.old given (with_changes changes.items task.old.env) (task.old.places ++ option_to_list inner)) }
+    ensures ok { OnOk result (task.new ≡ with_writes task.old given (with_changes changes.items task.old.variables.env) (task.old.places ++ option_to_list inner)) }
     ensures err { OnErr result (IsWidened task.old task.new) }
 {
     let number = task.records.len();
@@ -152,15 +152,14 @@ pub(crate) fn add(
     requires live { task.old.ended ≡ false }
     requires at { IsAt graph.now.procedure (places_of task.old) position.place position.statement.now }
     requires node { TellsOf graph.now.procedure position.statement.now position.node.now }
-    requires branch { Chooses task.old.env yes (out-RStmt position.statement.now) }
-    requires kept { IsSome task.old.first }
+    requires branch { Chooses task.old.variables.env yes (out-RStmt position.statement.now) }
     requires columns { HasColumns (out-RStmt position.statement.now) }
     requires short { size_of graph.now.procedure.body ≤ 1000 }
     ensures task { IsTask graph.now.procedure task.new }
     ensures added { OnOk result (HasAdded graph.now.procedure task.old given task.new) }
     ensures executed { OnOk result (task.new.executed ≡ task.old.executed) }
     ensures tells { IfOk result (λ s. s ≡ stepped task.new.ended) }
-    ensures found { task.new.env.found ≡ task.old.env.found }
+    ensures found { task.new.variables.env.found ≡ task.old.variables.env.found }
     ensures err { OnErr result (StandsAsBefore graph.now.procedure task.old task.new) }
 {
     let number = task.records.len();

@@ -1,6 +1,6 @@
 //! The place, controller and definers of the next record.
 
-ghost use Rattle.std.specs.Prelude.{◌≡◌, ◌<◌, ◌≤◌, ◌^◌, false, Some, length, map, IfOk, OnOk, IsSome};
+ghost use Rattle.std.specs.Prelude.{◌≡◌, ◌<◌, ◌≤◌, ◌^◌, false, Some, length, map, IfOk};
 ghost use Rattle.std.specs.Option.{option_or};
 ghost use Rattle.mv_catalog.specs.Statements.{size_of};
 ghost use Rattle.mv_recorded.specs.Reading.{loop_of};
@@ -12,7 +12,6 @@ ghost use Rattle.mv_exec.specs.Tasks.{places_of, IsTask, StandsAsBefore, definer
 ghost use Rattle.mv_exec.specs.Ahead.{ForeseesLeft, GoesOn, ahead_at};
 
 use crate::around::{loop_at, parent_at, turns_at};
-use crate::env::keep_beginning;
 use crate::places::{Holder, Place, outer};
 use crate::position::{Position, next_position};
 use crate::task::{Ahead, Task};
@@ -155,12 +154,10 @@ pub(crate) fn come_to<'g>(
     ensures task { IsTask graph.now.procedure task.new }
     ensures same { StandsAsBefore graph.now.procedure task.old task.new }
     ensures live { task.new.ended ≡ false }
-    ensures kept { OnOk result (IsSome task.new.first) }
-    ensures found { task.new.env.found ≡ task.old.env.found }
+    ensures found { task.new.variables.env.found ≡ task.old.variables.env.found }
 {
     let position = next_position(graph, task);
     let ahead = ahead_of(alloc, graph, task, position)?;
-    keep_beginning(alloc, &mut task.first, &task.env)?;
     settle(alloc, task, position.place, position.turn)?;
     Ok((ahead, position))
 }

@@ -5,11 +5,11 @@ ghost use Rattle.mv_values.specs.declared.value.Value.{Value};
 ghost use Rattle.mv_catalog.specs.declared.resolved.RStmt.{out-RStmt};
 ghost use Rattle.mv_alone.specs.declared.state.Env.{Env};
 ghost use Rattle.mv_recorded.specs.Effect.{with_slots};
-ghost use Rattle.mv_exec.specs.Env.{with_changes, room, of_slot};
+ghost use Rattle.mv_exec.specs.Env.{changed, room, of_slot};
 ghost use Rattle.mv_exec.specs.Moves.{after_empty_loop, after_turns};
 
-use mv_alone::env::pad;
-use mv_alone::state::{Env, Held};
+use crate::variables::Variables;
+use mv_alone::state::Held;
 use mv_catalog::resolved::RStmt;
 use mv_record::record::{Record, Slot};
 use mv_values::copied::Copied;
@@ -41,23 +41,23 @@ fn room_for(changes: &[Change]) -> usize
 
 /// Sets variables, in order.
 #[tactic(auto, using(crate::proofs::Changing::room_here))]
-fn set_all(env: &mut Env, changes: Vec<Change>)
-    requires { room changes.items ≤ length env.old.held }
-    ensures { env.new ≡ with_changes changes.items env.old }
+fn set_all(variables: &mut Variables, changes: Vec<Change>)
+    requires { room changes.items ≤ length variables.old.env.held }
+    ensures { variables.new ≡ changed changes.items variables.old }
 {
     for change in changes {
-        env.held.set(change.slot as usize, change.held);
+        variables.put(change.slot as usize, change.held);
     }
 }
 
 /// Makes changes, in order. On `NoMemory` the variables are unchanged.
 #[tactic(auto, using(crate::proofs::Changing::padded_changes, mv_alone::proofs::Putting::padded_long))]
-pub(crate) fn make_changes(env: &mut Env, changes: Vec<Change>) -> Result<(), NoMemory>
-    ensures ok { OnOk result (env.new ≡ with_changes changes.items env.old) }
-    ensures err { OnErr result (env.new ≡ env.old) }
+pub(crate) fn make_changes(variables: &mut Variables, changes: Vec<Change>) -> Result<(), NoMemory>
+    ensures ok { OnOk result (variables.new ≡ changed changes.items variables.old) }
+    ensures err { OnErr result (variables.new ≡ variables.old) }
 {
-    pad(&mut env.held, room_for(&changes))?;
-    set_all(env, changes);
+    variables.widen(room_for(&changes))?;
+    set_all(variables, changes);
     Ok(())
 }
 

@@ -1,6 +1,6 @@
 //! Executes the statement that a running call has come to.
 
-ghost use Rattle.std.specs.Prelude.{◌≡◌, ◌<◌, ◌+◌, ◌^◌, Some, false, length, IfOk, OnOk, OnErr, IsSome};
+ghost use Rattle.std.specs.Prelude.{◌≡◌, ◌<◌, ◌+◌, ◌^◌, Some, false, length, IfOk, OnOk, OnErr};
 ghost use Rattle.mv_values.specs.Patching.{applied};
 ghost use Rattle.mv_values.specs.Tables.{KeysStand};
 ghost use Rattle.mv_graph.specs.Nodes.{IsSound, TellsOf};
@@ -58,16 +58,15 @@ pub(crate) fn execute<V: View>(
     requires live { task.old.ended ≡ false }
     requires at { IsAt graph.now.procedure (places_of task.old) position.place position.statement.now }
     requires node { TellsOf graph.now.procedure position.statement.now position.node.now }
-    requires kept { IsSome task.old.first }
     requires next { ForeseesLeft graph.now.procedure task.old (Some ahead) }
-    requires found { task.old.env.found < 2 ^ 16 }
+    requires found { task.old.variables.env.found < 2 ^ 16 }
     requires database { IsDatabaseOf graph.now.tables (V.sight view.old).database }
     requires keys { KeysStand graph.now.tables (applied (writes_in task.old.records) (V.sight view.old).database) }
     ensures task { IsTask graph.now.procedure task.new }
     ensures executed { OnOk result (HasExecuted graph.now.tables graph.now.procedure task.old task.new (V.sight view.old) (V.sight view.new)) }
     ensures counted { OnOk result (task.new.executed ≡ task.old.executed + 1) }
     ensures tells { IfOk result (λ s. s ≡ stepped task.new.ended) }
-    ensures found { task.new.env.found ≡ task.old.env.found }
+    ensures found { task.new.variables.env.found ≡ task.old.variables.env.found }
     ensures err { OnErr result (StandsAsBefore graph.now.procedure task.old task.new) }
     ensures refused { MayAnswer (V.sight view.old) (V.sight view.new) result }
     ensures stale { PassesOn (V.sight view.old) (V.sight view.new) result }
@@ -79,7 +78,7 @@ pub(crate) fn execute<V: View>(
         alloc,
         graph.tables.as_slice(),
         position.statement,
-        &task.env,
+        task.variables.env(),
         &task.undo,
         number,
         view,

@@ -88,7 +88,7 @@ pub fn adopt(
     ensures err { OnErr result (IsUnchanged task.old task.new) }
 {
     let (ahead, position) = come_to(alloc, graph, task)?;
-    let yes = branch(alloc, position.statement, &task.env)?;
+    let yes = branch(alloc, position.statement, task.variables.env())?;
     add(alloc, graph, task, record_at(ahead, given), position, yes)
 }
 

@@ -1,6 +1,6 @@
 //! A running call.
 
-ghost use Rattle.std.specs.Prelude.{◌≡◌, ◌<◌, [], ◌∷◌, None, length, IfOk, List};
+ghost use Rattle.std.specs.Prelude.{◌≡◌, ◌<◌, [], ◌∷◌, length, IfOk, List};
 ghost use Rattle.mv_values.specs.declared.schema.TableInfo.{TableInfo};
 ghost use Rattle.mv_values.specs.declared.calls.Call.{Call};
 ghost use Rattle.mv_catalog.specs.declared.resolved.ProcInfo.{ProcInfo};
@@ -8,13 +8,14 @@ ghost use Rattle.mv_catalog.specs.declared.resolved.RStmt.{RStmt};
 ghost use Rattle.mv_alone.specs.TableAfter.{Tables, entered};
 ghost use Rattle.mv_recorded.specs.Recorded.{recorded};
 ghost use Rattle.mv_graph.specs.declared.graph.Graph.{Graph};
-ghost use Rattle.mv_exec.specs.Env.{initial_env};
+ghost use Rattle.mv_exec.specs.Env.{at_beginning};
+ghost use Rattle.mv_alone.specs.declared.state.Env.{Env};
 ghost use Rattle.mv_exec.specs.Running.{IsRunning, IsRunningOn, IsTaskOf, IsTaskOn};
 ghost use Rattle.mv_exec.specs.Tasks.{first_place, none_in, run_of, IsTask, BeginsCall, fresh_task as fresh};
 
 use crate::places::{Holder, Place};
+use crate::variables::Variables;
 use mv_alone::enter::variables_for;
-use mv_alone::state::Env;
 use mv_catalog::resolved::{ProcInfo, RStmt};
 use mv_record::record::{Read, Record, Spot};
 use mv_undo::undo::Undo;
@@ -38,9 +39,7 @@ pub struct Ahead {
 pub struct Task {
     /// The number of variables that are parameters.
     pub(crate) parameters: usize,
-    pub(crate) env: Env,
-    /// The initial variables of the call, kept from its first statement on.
-    pub(crate) first: Option<Env>,
+    pub(crate) variables: Variables,
     pub(crate) records: List<Record>,
     /// The number of records that were added by executing a statement.
     pub(crate) executed: usize,
@@ -79,14 +78,19 @@ fn is_empty(block: &[RStmt]) -> bool
 }
 
 /// Returns a call that has executed nothing.
-fn fresh_task(alloc: Global, parameters: usize, env: Env, places: List<Place>, empty: bool) -> Task
+fn fresh_task(
+    alloc: Global,
+    parameters: usize,
+    variables: Variables,
+    places: List<Place>,
+    empty: bool,
+) -> Task
     requires { places ≡ first_place ∷ [] }
-    ensures { result ≡ fresh parameters env None empty }
+    ensures { (env : Env) → variables ≡ at_beginning env → result ≡ fresh parameters env empty }
 {
     Task {
         parameters,
-        env,
-        first: None,
+        variables,
         records: List::new(alloc),
         executed: 0,
         undo: Undo::new(alloc),
@@ -94,16 +98,6 @@ fn fresh_task(alloc: Global, parameters: usize, env: Env, places: List<Place>, e
         places,
         ended: empty,
         empty,
-    }
-}
-
-/// Restores the initial variables, if they were kept.
-fn take_back(env: &mut Env, first: &mut Option<Env>)
-    ensures env { env.new ≡ initial_env first.old env.old }
-    ensures none { first.new ≡ None }
-{
-    if let Some(kept) = first.take() {
-        *env = kept;
     }
 }
 
@@ -126,15 +120,15 @@ impl Task {
         ensures records { IfOk result (λ t. t.records ≡ []) }
         ensures executed { IfOk result (λ t. t.executed ≡ 0) }
         ensures begins { IfOk result (λ t. BeginsCall t procedure.now call.now) }
-        ensures env { IfOk result (λ t. t.env ≡ entered procedure.now call.now) }
+        ensures variables { IfOk result (λ t. t.variables.env ≡ entered procedure.now call.now) }
         ensures run { IfOk result (λ t. (tables : List TableInfo) (db : Tables) → run_of procedure.now tables t db ≡ recorded tables procedure.now call.now db) }
     {
-        let env = variables_for(alloc, procedure, call)?;
+        let variables = Variables::new(alloc, variables_for(alloc, procedure, call)?)?;
         let empty = is_empty(procedure.body.as_slice());
         let mut places = List::new(alloc);
         places.push(before_all())?;
         let parameters = call.arguments.len();
-        let task = fresh_task(alloc, parameters, env, places, empty);
+        let task = fresh_task(alloc, parameters, variables, places, empty);
         Ok(task)
     }
 
@@ -175,7 +169,7 @@ impl Task {
         ensures begins { (graph : Graph) (call : Call) (db : Tables) → IsTaskOf graph call self.old → IsTaskOn graph call db self.new }
         ensures running { (graph : Graph) (db : Tables) → IsRunning graph self.old → IsRunningOn graph db self.new }
     {
-        take_back(&mut self.env, &mut self.first);
+        self.variables.begin_again();
         self.executed = 0;
         self.undo.drop_from(0);
         self.definers.truncate(0);

@@ -7,8 +7,8 @@ ghost use Rattle.mv_exec.specs.declared.places.Place.{Place};
 
 use crate::places::{Holder, Place, innermost, rows_of};
 use crate::task::Task;
-use mv_alone::env::set_held;
-use mv_alone::state::{Env, Held};
+use crate::variables::Variables;
+use mv_alone::state::Held;
 use mv_record::record::Record;
 use mv_values::copied::Copied;
 use mv_values::list::List;
@@ -16,9 +16,14 @@ use mv_values::memory::NoMemory;
 use std::alloc::Global;
 
 /// Sets the row of a loop to that of the next turn. On `NoMemory` the variables are unchanged.
-fn set_row(alloc: Global, env: &mut Env, records: &[Record], holder: Holder) -> Result<(), NoMemory>
-    ensures ok { OnOk result (env.new ≡ with_next_row records.now holder env.old) }
-    ensures err { OnErr result (env.new ≡ env.old) }
+fn set_row(
+    alloc: Global,
+    variables: &mut Variables,
+    records: &[Record],
+    holder: Holder,
+) -> Result<(), NoMemory>
+    ensures ok { OnOk result (variables.new ≡ (let was = variables.old in record was { env = with_next_row records.now holder was.env })) }
+    ensures err { OnErr result (variables.new ≡ variables.old) }
 {
     let Holder::Loop { record, row, turn } = holder else {
         return Ok(());
@@ -26,7 +31,7 @@ fn set_row(alloc: Global, env: &mut Env, records: &[Record], holder: Holder) -> 
     let Some(values) = rows_of(records, record).get(turn) else {
         return Ok(());
     };
-    set_held(env, row as usize, Held::Turn(values.copy(alloc)?))
+    variables.set(row, Held::Turn(values.copy(alloc)?))
 }
 
 /// Replaces the innermost place.
@@ -47,7 +52,12 @@ fn begin_turn(alloc: Global, task: &mut Task, place: Place) -> Result<(), NoMemo
     let Some((_, last)) = innermost(task.places.as_slice()) else {
         return Ok(());
     };
-    set_row(alloc, &mut task.env, task.records.as_slice(), last.holder)?;
+    set_row(
+        alloc,
+        &mut task.variables,
+        task.records.as_slice(),
+        last.holder,
+    )?;
     set_innermost(&mut task.places, place);
     Ok(())
 }

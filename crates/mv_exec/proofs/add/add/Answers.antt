@@ -37,9 +37,9 @@ parts : (c : After-end_or_trim)
     ≡ behind_record c.args.task.now c.args.given c.requires.at.0 c.args.position.place c.args.position.statement.now c.args.yes
 parts c =
     parts_behind c.args.graph.now.procedure c.args.task.now c.args.given c.requires.at.0 c.args.position.place c.args.position.statement.now c.args.yes c.push_record.new.task
-    (with_changes c.in_ok-changes.changes.items c.args.task.now.env) (option_to_list c.inner_place-inner.result) c.place_after.result c.len-number.result c.saturating_sub.result
+    (with_changes c.in_ok-changes.changes.items c.args.task.now.variables.env) (option_to_list c.inner_place-inner.result) c.place_after.result c.len-number.result c.saturating_sub.result
     c.note_sets.new.definers c.put_place.new.places
-    c.in_ok-push_record.ensures.ok (c.in_ok-changes.ensures c.args.task.now.env) (are c)
+    c.in_ok-push_record.ensures.ok (c.in_ok-changes.ensures c.args.task.now.variables.env) (are c)
     (c.inner_place-inner.ensures ∙ ap (λ n. inner_places n c.args.position.place.number c.args.yes (out-RStmt c.args.position.statement.now)) c.len-number.ensures)
     (c.place_after.ensures ∙ ap (λ n. place_after n c.args.position.place) c.requires.node.size) c.len-number.ensures
     (let l : length c.args.task.now.places ≡ length (c.requires.at.0 ++ c.args.position.place ∷ []) = ap length (are c) in
@@ -63,7 +63,7 @@ returns-clause-task c =
 pub returns-clause-added : goal.returns-clause-added
 returns-clause-added c =
     past_added c.args.graph.now.procedure c.args.task.now c.args.given c.requires.at.0 c.args.position.place c.args.position.statement.now c.args.yes _ c.end_or_trim.new.task c.args.given.end c.is_some-ends.result
-    c.requires.task c.requires.kept c.requires.branch c.requires.columns refl c.is_some-ends.ensures (past c)
+    c.requires.task c.requires.branch c.requires.columns refl c.is_some-ends.ensures (past c)
 
 pub returns-clause-executed : goal.returns-clause-executed
 returns-clause-executed c =

@@ -5,8 +5,8 @@ use Rattle.mv_exec.proofs.ahead.come_to.Goals.{In_ok-settle}
 came : (c : In_ok-settle) → IsCome c.args.graph.now.procedure c.args.task.now c.settle.new.task c.next_position-position.result.place c.next_position-position.result.statement.now
 came c =
     let go = c.next_position-position.ensures.goes_on in
-    come c.args.graph.now.procedure c.args.task.now c.keep_beginning.new.first c.next_position-position.result.place c.next_position-position.result.statement.now c.next_position-position.result.turn
-    c.settle.new.task c.requires.task c.requires.live go c.in_ok-keep_beginning.ensures.ok (c.in_ok-settle.ensures.ok go.outer go.last go.are)
+    come c.args.graph.now.procedure c.args.task.now c.next_position-position.result.place c.next_position-position.result.statement.now c.next_position-position.result.turn
+    c.settle.new.task c.requires.task c.requires.live go (c.in_ok-settle.ensures.ok go.outer go.last go.are)
 
 pub returns-clause-task : goal.returns-clause-task
 returns-clause-task c = (came c).whole

@@ -2,6 +2,7 @@ use Rattle.std.proofs.Common.{List, length, sym, subst}
 use Rattle.mv_values.specs.declared.schema.TableInfo.{TableInfo}
 use Rattle.mv_values.specs.Patching.{applied}
 use Rattle.mv_catalog.specs.declared.resolved.RStmt.{out-RStmt}
+use Rattle.mv_alone.specs.declared.state.Env.{Env}
 use Rattle.mv_undo.specs.Owning.{earlier}
 use Rattle.mv_recorded.specs.Effects.{IsEffect}
 use Rattle.mv_effect.specs.Looking.{AskedFor, IsExecutable}
@@ -15,8 +16,9 @@ use Rattle.mv_exec.proofs.execute.execute.Goals as goal
 pub effect-requires : goal.effect-requires
 effect-requires g c =
     let well = well_at c.args.graph.now.tables c.args.graph.now.procedure c.requires.at.0 c.args.position.place c.args.position.statement.now c.requires.sound.procedure c.requires.at.1.stands in
-    subst (λ (ts : List TableInfo). IsExecutable ts c.args.position.statement.now c.args.task.now.env (earlier c.len-number.result c.args.task.now.undo) (g.V.View.sight c.args.view.now).database) (sym c.as_slice.ensures)
-    (subst (λ n. IsExecutable c.args.graph.now.tables c.args.position.statement.now c.args.task.now.env (earlier n c.args.task.now.undo) (g.V.View.sight c.args.view.now).database) (sym c.len-number.ensures)
+    subst (λ (e : Env). IsExecutable c.as_slice.result.now c.args.position.statement.now e (earlier c.len-number.result c.args.task.now.undo) (g.V.View.sight c.args.view.now).database) (sym c.env.ensures)
+    (subst (λ (ts : List TableInfo). IsExecutable ts c.args.position.statement.now c.args.task.now.variables.env (earlier c.len-number.result c.args.task.now.undo) (g.V.View.sight c.args.view.now).database) (sym c.as_slice.ensures)
+    (subst (λ n. IsExecutable c.args.graph.now.tables c.args.position.statement.now c.args.task.now.variables.env (earlier n c.args.task.now.undo) (g.V.View.sight c.args.view.now).database) (sym c.len-number.ensures)
     (record {
       stands = record {
         few = c.requires.sound.few;
@@ -26,7 +28,7 @@ effect-requires g c =
       };
       names = well_named c.args.graph.now.tables c.args.position.statement.now well.0 well.1;
       found = c.requires.found;
-    }))
+    })))
 
 pub add-requires-clause-columns : goal.add-requires-clause-columns
 add-requires-clause-columns g c =
@@ -38,10 +40,12 @@ returns-clause-executed g c =
     c.requires.at.0 c.args.position.place c.args.position.statement.now c.args.ahead c.in_ok-effect.field-0.effect c.record_of-record.result c.requires.task c.requires.at.1
     (columns_at c.args.graph.now.tables c.args.graph.now.procedure (places_of c.args.task.now) c.args.position.place c.args.position.statement.now c.requires.sound.procedure c.requires.at)
     c.requires.database.rising c.requires.next
-    (subst (λ (ts : List TableInfo). IsEffect ts (out-RStmt c.args.position.statement.now) c.args.task.now.env (applied (earlier (length c.args.task.now.records) c.args.task.now.undo) (g.V.View.sight c.args.view.now).database) c.in_ok-effect.field-0.effect)
+    (subst (λ (ts : List TableInfo). IsEffect ts (out-RStmt c.args.position.statement.now) c.args.task.now.variables.env (applied (earlier (length c.args.task.now.records) c.args.task.now.undo) (g.V.View.sight c.args.view.now).database) c.in_ok-effect.field-0.effect)
     c.as_slice.ensures
-    (subst (λ n. IsEffect c.as_slice.result.now (out-RStmt c.args.position.statement.now) c.args.task.now.env (applied (earlier n c.args.task.now.undo) (g.V.View.sight c.args.view.now).database) c.in_ok-effect.field-0.effect)
-    c.len-number.ensures c.in_ok-effect.ensures.effect))
+    (subst (λ n. IsEffect c.as_slice.result.now (out-RStmt c.args.position.statement.now) c.args.task.now.variables.env (applied (earlier n c.args.task.now.undo) (g.V.View.sight c.args.view.now).database) c.in_ok-effect.field-0.effect)
+    c.len-number.ensures
+    (subst (λ (e : Env). IsEffect c.as_slice.result.now (out-RStmt c.args.position.statement.now) e (applied (earlier c.len-number.result c.args.task.now.undo) (g.V.View.sight c.args.view.now).database) c.in_ok-effect.field-0.effect)
+    c.env.ensures c.in_ok-effect.ensures.effect)))
     (subst (λ n. AskedFor c.in_ok-effect.field-0.effect.preds (earlier n c.args.task.now.undo) (g.V.View.sight c.args.view.now) (g.V.View.sight c.effect.new.view)) c.len-number.ensures c.in_ok-effect.ensures.looks)
     c.record_of-record.ensures c.in_ok-stepped.ensures.added
 

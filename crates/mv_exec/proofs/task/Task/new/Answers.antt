@@ -7,7 +7,7 @@ use Rattle.mv_exec.proofs.task.Task.new.Goals.{In_ok-task}
 
 is : (c : In_ok-task) → IsTaskOf c.args.graph.now c.args.call.now c.in_ok-task.task
 is c =
-    begins c.args.graph.now c.args.call.now c.in_ok-task.task c.requires.arguments c.in_ok-task.ensures.task c.in_ok-task.ensures.begins (ap (λ (e : Env). e.found) c.in_ok-task.ensures.env)
+    begins c.args.graph.now c.args.call.now c.in_ok-task.task c.requires.arguments c.in_ok-task.ensures.task c.in_ok-task.ensures.begins (ap (λ (e : Env). e.found) c.in_ok-task.ensures.variables)
     c.in_ok-task.ensures.records c.in_ok-task.ensures.run
 
 pub returns-clause-call : goal.returns-clause-call

@@ -1,4 +1,4 @@
-use Rattle.std.proofs.Common.{None, refl, ap, ◌∙◌}
+use Rattle.std.proofs.Common.{refl, ap, ◌∙◌}
 use Rattle.mv_alone.specs.declared.state.Env.{Env}
 use Rattle.mv_exec.specs.Running.{IsTaskOf}
 use Rattle.mv_exec.specs.Tasks.{fresh_task}
@@ -8,15 +8,15 @@ use Rattle.mv_exec.proofs.task.Task.restart.Goals as goal
 
 pub returns-clause-call : goal.returns-clause-call
 returns-clause-call c = λ graph call is.
-    let env : Env = c.take_back.new.env in
+    let env : Env = c.args.self.now.variables.initial in
     let empty = c.args.self.now.empty in
-    restarted (IsTaskOf graph call) c.args.self.now.parameters env env c.take_back.new.first c.replace.new.dest c.drop_from.new.self c.truncate.new.self c.go_back.new.places empty
-    refl c.take_back.ensures.none (c.replace.ensures.after ∙ c.new.ensures) (c.drop_from.ensures ∙ none_before c.args.self.now.undo) c.truncate.ensures (c.go_back.ensures is.whole.some)
-    (begins graph call (fresh_task c.args.self.now.parameters env None empty) is.fits
-    (fresh_is_task graph.procedure c.args.self.now.parameters env None empty is.whole.empty)
-    (c.take_back.ensures.env ∙ is.begins.0, is.begins.1)
-    (ap (λ (e : Env). e.found) (c.take_back.ensures.env ∙ is.begins.0)) refl
-    (λ tables db. fresh_run graph.procedure tables call db c.args.self.now.parameters env None empty is.whole.empty (c.take_back.ensures.env ∙ is.begins.0) is.begins.1))
+    restarted (IsTaskOf graph call) c.args.self.now.parameters c.begin_again.new.self env c.replace.new.dest c.drop_from.new.self c.truncate.new.self c.go_back.new.places empty
+    c.begin_again.ensures (c.replace.ensures.after ∙ c.new.ensures) (c.drop_from.ensures ∙ none_before c.args.self.now.undo) c.truncate.ensures (c.go_back.ensures is.whole.some)
+    (begins graph call (fresh_task c.args.self.now.parameters env empty) is.fits
+    (fresh_is_task graph.procedure c.args.self.now.parameters env empty is.whole.empty)
+    (is.begins.0, is.begins.1)
+    (ap (λ (e : Env). e.found) is.begins.0) refl
+    (λ tables db. fresh_run graph.procedure tables call db c.args.self.now.parameters env empty is.whole.empty is.begins.0 is.begins.1))
 
 pub returns-clause-begins : goal.returns-clause-begins
 returns-clause-begins c = λ graph call db is. begins_on graph call _ (returns-clause-call c graph call is) (c.replace.ensures.after ∙ c.new.ensures) db
