@@ -65,7 +65,7 @@ pub(crate) fn make_changes(variables: &mut Variables, changes: Vec<Change>) -> R
 pub(crate) fn changes_of(alloc: Global, slots: &[Slot]) -> Result<Vec<Change>, NoMemory>
     ensures { IfOk result (λ cs. cs.items ≡ map of_slot slots.now) }
 {
-    let mut changes = Vec::new(alloc);
+    let mut changes = Vec::with_capacity(alloc, slots.len())?;
     for slot in slots {
         let held = Held::Scalar(slot.value.copy(alloc)?);
         changes.push(Change {
