@@ -1,5 +1,5 @@
 -- A call has ended exactly where nothing is left of it.
-use Rattle.std.proofs.Common.{◌≡◌, ◌<◌, Bool, true, false, nat_lt, List, [], ◌∷◌, ◌++◌, Option, Some, None, length, refl, sym, ap, subst, ◌∙◌, arith}
+use Rattle.std.proofs.Common.{◌≡◌, ◌<◌, Bool, true, false, nat_lt, List, [], ◌∷◌, ◌++◌, None, length, refl, sym, ap, subst, ◌∙◌, arith}
 use Rattle.mv_values.specs.declared.schema.TableInfo.{TableInfo}
 use Rattle.mv_catalog.specs.declared.resolved.ProcInfo.{ProcInfo}
 use Rattle.mv_catalog.specs.declared.resolved.RStmt.{RStmt}
