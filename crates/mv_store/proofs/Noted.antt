@@ -1,6 +1,6 @@
 -- Keys that are noted.
 use Rattle.std.proofs.Common.{◌≡◌, ◌++◌, Bool, true, false, List, [], ◌∷◌, refl}
-use Rattle.std.specs.Prelude.{OnOk, OnErr, Result, Ok, Err, ◌||◌}
+use Rattle.std.specs.Prelude.{OnOk, Result, Ok, Err, ◌||◌}
 use Rattle.std.specs.List.{list_any}
 use Rattle.std.proofs.lemmas.Bool.{eq-eqb}
 use Rattle.mv_table.proofs.Picking.{same_key}
@@ -17,14 +17,6 @@ last_noted (x ∷ ss) s = by (is_spot s.table s.key x) (last_noted ss s)
     by : (b : Bool) → HasSpot s.table s.key (ss ++ s ∷ []) → b || list_any (is_spot s.table s.key) (ss ++ s ∷ []) ≡ true
     by true more = refl
     by false more = more
-
-pub on_ok : {A E : Type 0} (r : Result A E) (P Q : Type 0) → (P → Q) → OnOk r P → OnOk r Q
-on_ok (Ok x) P Q f h = f h
-on_ok (Err e) P Q f h = tt
-
-pub on_err : {A E : Type 0} (r : Result A E) (P Q : Type 0) → (P → Q) → OnErr r P → OnErr r Q
-on_err (Ok x) P Q f h = tt
-on_err (Err e) P Q f h = f h
 
 pub on_sure : {A E : Type 0} (r : Result A E) (P : Type 0) → P → OnOk r P
 on_sure (Ok x) P h = h

@@ -1,9 +1,9 @@
 -- The versions that a database begins with.
-use Rattle.std.proofs.Common.{◌≡◌, ◌<◌, ◌+◌, ◌++◌, ℕ, zero, suc, Bool, true, false, cond, List, [], ◌∷◌, Some, All, length, take, map, slice_index_or, refl, sym, ap, subst, ◌∙◌, arith}
+use Rattle.std.proofs.Common.{◌≡◌, ◌<◌, ◌+◌, ◌++◌, ℕ, zero, suc, Bool, true, false, cond, List, [], ◌∷◌, Some, All, length, take, map, slice_index_or, refl, sym, ap, subst, ◌∙◌}
 use Rattle.std.specs.Option.{is_some}
 use Rattle.std.specs.Ordering.{is_eq}
 use Rattle.std.specs.declared.cmp.Ordering.TheVariants.{Less}
-use Rattle.std.proofs.lemmas.List.{take_more, get_or-take, length-take, get_or_default}
+use Rattle.std.proofs.lemmas.List.{take_more}
 use Rattle.std.proofs.lemmas.List.Elements.{All-nil, All-cons, All-head, All-tail}
 use Rattle.mv_values.specs.declared.value.Value.{Value}
 use Rattle.mv_values.specs.declared.rows.Keyed.{Keyed}
@@ -11,6 +11,7 @@ use Rattle.mv_values.specs.Keys.{IsRising, IsBelow}
 use Rattle.mv_values.specs.Order.{key_order}
 use Rattle.mv_table.specs.Entries.{item_of, with_item, KeysRise}
 use Rattle.mv_table.proofs.Picking.{put_last}
+use Rattle.mv_table.proofs.Storing.{taken_below}
 use Rattle.mv_chain.specs.Versions.{Versions, own_of}
 use Rattle.mv_store.specs.Stored.{Entries, held, table_at, writes_from}
 use Rattle.mv_store.specs.declared.spots.Spots.{Spots}
@@ -40,15 +41,8 @@ opened_more rows i item made new key row rising lt is so same_key same_row put =
     ∙ (ap (λ k. with_item k (Some (first_of row)) made) same_key
     ∙ (ap (λ r. with_item item.key (Some (first_of r)) made) same_row
     ∙ (ap (with_item item.key (Some (first_of item.row))) so
-    ∙ (put_last item.key (first_of item.row) (opened (take i rows)) (opened_below item.key (take i rows) below)
+    ∙ (put_last item.key (first_of item.row) (opened (take i rows)) (opened_below item.key (take i rows) (taken_below rows i item rising lt is))
     ∙ (sym (opened_push (take i rows) item) ∙ ap opened (ap (λ (x : Keyed). take i rows ++ x ∷ []) is ∙ sym (take_more rows i item lt)))))))
-  where
-    below : All (IsBelow item.key) (take i rows)
-    below k d l =
-        let short : k < i = omega (arith, l, length-take i rows) in
-        let here : slice_index_or (take i rows) k d ≡ slice_index_or rows k d = get_or-take i rows k d short in
-        let low : key_order (slice_index_or rows k item).key (slice_index_or rows i item).key ≡ Less = rising k i item short lt in
-        rw here (subst (λ (x : Keyed). key_order (slice_index_or rows k d).key x.key ≡ Less) (sym is) (subst (λ (x : Keyed). key_order x.key (slice_index_or rows i item).key ≡ Less) (get_or_default rows k item d (omega (arith, short, lt))) low))
 
 pub rises_push : (tables : List Entries) (es : Entries) → AllRise tables → KeysRise es → AllRise (tables ++ es ∷ [])
 rises_push [] es r h zero = h

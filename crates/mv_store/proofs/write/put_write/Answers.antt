@@ -1,12 +1,12 @@
 use Rattle.std.proofs.Common.{◌≡◌, sym, ap, subst, ◌∙◌, cond, Some}
 use Rattle.std.specs.Ordering.{is_eq}
+use Rattle.std.proofs.lemmas.Result.{on_ok_weaker, on_err_weaker}
 use Rattle.mv_values.specs.Order.{key_order}
 use Rattle.mv_table.specs.Entries.{item_of}
 use Rattle.std.specs.Option.{OnSome}
 use Rattle.mv_table.specs.Lending.{HasItem}
 use Rattle.mv_store.specs.Kept.{with_patch}
 use Rattle.mv_store.proofs.Done.{changed_there, changed_new}
-use Rattle.mv_store.proofs.Noted.{on_ok, on_err}
 use Rattle.mv_store.proofs.write.put_write.Goals as goal
 
 lent : (c : goal.After-table-in-Some-1) → HasItem c.args.write.now.key c.put_patch.new.chain c.args.table.now (c.get_mut.follows.lender c.put_patch.new.chain)
@@ -14,12 +14,12 @@ lent c = subst (λ o. OnSome o (HasItem c.args.write.now.key c.put_patch.new.cha
 
 pub returns-in-Some-clause-ok : goal.returns-in-Some-clause-ok
 returns-in-Some-clause-ok c =
-    on_ok c.put_patch.result _ _ (λ e.
+    on_ok_weaker c.put_patch.result (λ e.
     changed_there c.args.write.now.key (with_patch c.args.call c.args.write.now.patch) c.in-Some.chain.now c.put_patch.new.chain c.args.table.now (c.get_mut.follows.lender c.put_patch.new.chain) (sym c.in-Some.ensures.item) e (lent c)) c.put_patch.ensures.ok
 
 pub returns-in-Some-clause-err : goal.returns-in-Some-clause-err
 returns-in-Some-clause-err c =
-    on_err c.put_patch.result _ _ (λ e.
+    on_err_weaker c.put_patch.result (λ e.
     changed_there c.args.write.now.key (λ v. v) c.in-Some.chain.now c.put_patch.new.chain c.args.table.now (c.get_mut.follows.lender c.put_patch.new.chain) (sym c.in-Some.ensures.item) e (lent c)) c.put_patch.ensures.err
 
 pub returns-clause-ok : goal.returns-clause-ok

@@ -1,7 +1,8 @@
-use Rattle.std.proofs.Common.{◌≡◌, ◌++◌, ◌∷◌, [], refl, sym, ap, subst}
+use Rattle.std.proofs.Common.{refl, sym, ap, subst}
 use Rattle.std.specs.Option.{IsSome}
+use Rattle.std.proofs.lemmas.Result.{on_ok_weaker}
 use Rattle.mv_store.specs.Kept.{spots_in, HasSpot}
-use Rattle.mv_store.proofs.Noted.{last_noted, on_ok}
+use Rattle.mv_store.proofs.Noted.{last_noted}
 use Rattle.mv_store.proofs.spots.Spots.note.Goals as goal
 
 pub returns-in-Some-clause-noted : goal.returns-in-Some-clause-noted
@@ -9,7 +10,7 @@ returns-in-Some-clause-noted c =
     let spot = c.args.spot in
     let w = c.push.new.self in
     let held = (c.get_mut.follows.holds w).3 (subst IsSome c.in-Some.ensures.value refl) in
-    on_ok c.push.result (w ≡ c.in-Some.spots.now ++ spot ∷ []) _ (λ e. subst (HasSpot spot.table spot.key) (sym (ap spots_in held.1)) (subst (HasSpot spot.table spot.key) (sym e) (last_noted c.in-Some.spots.now spot))) c.push.ensures.ok
+    on_ok_weaker c.push.result (λ e. subst (HasSpot spot.table spot.key) (sym (ap spots_in held.1)) (subst (HasSpot spot.table spot.key) (sym e) (last_noted c.in-Some.spots.now spot))) c.push.ensures.ok
 
 pub returns-clause-noted : goal.returns-clause-noted
 returns-clause-noted c =

@@ -1,10 +1,10 @@
 use Rattle.std.proofs.Common.{◌≡◌, ◌<◌, ◌≤◌, length, refl, subst, ◌∷◌, [], slice_set, rules}
+use Rattle.std.proofs.lemmas.Result.{on_ok_weaker, on_err_weaker}
 use Rattle.mv_store.specs.Stored.{Versioned}
 use Rattle.mv_store.specs.Changes.{HasPut, IsAsBefore}
 use Rattle.mv_store.specs.Kept.{entries_at, with_patch, IsChanged}
 use Rattle.mv_store.proofs.Done.{tables_changed}
 use Rattle.mv_store.proofs.Rows.{at_place}
-use Rattle.mv_store.proofs.Noted.{on_ok, on_err}
 use Rattle.mv_store.proofs.Laws.{put_one, put_none, put_any, all_same}
 use Rattle.mv_store.proofs.store.Store.put.Goals as goal
 
@@ -29,7 +29,7 @@ returns-clause-ok c =
     let tables = c.self.inside.tables.items in
     let old : Versioned = record { tables = tables; last = c.self.inside.last; low = c.self.inside.low } in
     let new : Versioned = record { tables = slice_set tables w.table c.put_write.new.table; last = c.self.inside.last; low = c.self.inside.low } in
-    on_ok c.put_write.result _ _ (λ h.
+    on_ok_weaker c.put_write.result (λ h.
     subst (λ v. HasPut c.args.call (w ∷ []) v new) c.self.view_is
     (put_one c.args.call w old new c.self.invariant.rising
     (tables_changed w.table w.key (with_patch c.args.call w.patch) tables new.tables c.put_write.new.table (within c) (subst (λ es. IsChanged w.key (with_patch c.args.call w.patch) es c.put_write.new.table) (there c) h) refl)
@@ -41,7 +41,7 @@ returns-clause-err c =
     let tables = c.self.inside.tables.items in
     let old : Versioned = record { tables = tables; last = c.self.inside.last; low = c.self.inside.low } in
     let new : Versioned = record { tables = slice_set tables w.table c.put_write.new.table; last = c.self.inside.last; low = c.self.inside.low } in
-    on_err c.put_write.result _ _ (λ h.
+    on_err_weaker c.put_write.result (λ h.
     subst (λ v. IsAsBefore v new) c.self.view_is
     (all_same w.table w.key old new c.self.invariant.rising
     (tables_changed w.table w.key (λ v. v) tables new.tables c.put_write.new.table (within c) (subst (λ es. IsChanged w.key (λ v. v) es c.put_write.new.table) (there c) h) refl)
