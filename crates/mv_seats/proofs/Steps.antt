@@ -3,6 +3,7 @@ use Rattle.std.proofs.Common.{◌≡◌, ◌≢◌, ℕ, ◌+◌, ◌-◌, ◌%�
 use Rattle.std.specs.List.{list_any}
 use Rattle.std.proofs.lemmas.Map.Keys.{IsDistinct-push}
 use Rattle.std.proofs.lemmas.Map.Steps.{length-le_from_distinct_below}
+use Rattle.std.proofs.lemmas.List.{length-set, get_or-set_same, get_or-set_other, set-get_or}
 use Rattle.std.proofs.lemmas.List.Folds.{list_any-append}
 use Rattle.std.proofs.lemmas.Bool.Decides.{nat_tests}
 use Rattle.std.proofs.lemmas.Bool.{or_cases, false≢true}
@@ -18,7 +19,7 @@ use Rattle.mv_seats.specs.Scripts.{Script}
 use Rattle.mv_seats.specs.Knowing.{Role, Plain, Gate, Shard, Spent, has, has_role, kept, with_mark, AreCalls, IsMark}
 use Rattle.mv_seats.specs.Rule.{View, nobody, copied, handing_out, of_shard, both, settled, with_call, with_mark_of, Ruled, counting, appending, loading, raising}
 use Rattle.mv_seats.proofs.Prefixes.{prefix_self, prefix_none, prefix_more, prefix_length}
-use Rattle.mv_seats.proofs.Words.{set_read, at_put, at_else, len_put, snoc_at}
+use Rattle.mv_seats.proofs.Words.{snoc_at}
 use Rattle.mv_seats.proofs.Marks.{Becomes, marked_below, marked_exact, words_below, still_below}
 use Rattle.mv_seats.proofs.Meeting.{kept_fits, begin_kept, at_greater}
 use Rattle.mv_seats.proofs.Rules.{Fits, each_of, gate_of, ruled, each_step, each_set, each_push, gate_set, gate_push, gate_else}
@@ -84,7 +85,7 @@ joins script id other v w live plain s r at apart there =
 
 -- the table after a load has the same words
 same_words : (script : Script) (words : List ℕ) (homes : List (Option ℕ)) (i : ℕ) (views : List View) → Ruled script record { words = words; homes = homes; views = views } → Ruled script record { words = set words i (slice_index words i); homes = homes; views = views }
-same_words script words homes i views r = subst (λ (ws : List ℕ). Ruled script record { words = ws; homes = homes; views = views }) (sym (set_read words i)) r
+same_words script words homes i views r = subst (λ (ws : List ℕ). Ruled script record { words = ws; homes = homes; views = views }) (sym (set-get_or words i 0)) r
 
 settled_fits : (script : Script) (words history : List ℕ) (gate id : ℕ) (owner : ℕ → ℕ) (v : View) → Fits script words history gate owner id v → Fits script words history gate owner id (settled v)
 settled_fits script words history gate id owner v f = record {
@@ -202,10 +203,10 @@ raises script slots id q n me live own less up most s r len at small =
     let less' : q < script.shards = subst (λ (z : Script). q < z.shards) f.of_script less in
     let wide = r.sizes.wide in
     let in_words : q + 1 < length s.words = omega (arith, wide) in
-    let becomes : Becomes s.words words q n = record { here = at_put s.words (q + 1) n in_words; else = λ k ne. at_else s.words (q + 1) (k + 1) n (λ is. ne (omega arith)) } in
+    let becomes : Becomes s.words words q n = record { here = get_or-set_same s.words (q + 1) n 0 in_words; else = λ k ne. get_or-set_other s.words (q + 1) (k + 1) n 0 (λ is. ne (omega arith)) } in
     let was : slice_index s.words (q + 1) ≤ n = omega (arith, e.marks) in
     let long = prefix_length me.0.knows.seen r.history f.begins.seen in
-    let zeroth : slice_index words 0 ≡ slice_index s.words 0 = at_else s.words (q + 1) 0 n (λ is. omega arith) in
+    let zeroth : slice_index words 0 ≡ slice_index s.words 0 = get_or-set_other s.words (q + 1) 0 n 0 (λ is. omega arith) in
     let below : (k : ℕ) → slice_index words (k + 1) ≤ slice_index words 0 = λ k. words_below s.words words q n k (slice_index words 0) becomes (λ is. omega (arith, zeroth, r.count, long)) (omega (arith, r.sizes.marks k, zeroth)) (ℕ_discrete k q) in (
       w,
       keeps,
@@ -217,7 +218,7 @@ raises script slots id q n me live own less up most s r len at small =
           (gate_set r.gate id s.views me.0 w at refl (gate_of script s r))
           r.prefixes.1
           (zeroth ∙ r.count)
-          record { wide = len_put s.words (q + 1) n ∙ wide; few = r.sizes.few; marks = below },
+          record { wide = length-set s.words (q + 1) n ∙ wide; few = r.sizes.few; marks = below },
       ap (λ (k : ℕ). (with_mark_of k n me.0, me.1)) (sym back),
     )
 
@@ -291,8 +292,8 @@ appends script slots id call me st gated less fresh s r len at small =
     let n : ℕ = (slice_index s.words 0 + 1) % 2 ^ 64 in
     let sum : n ≡ length history = omega arith in
     let words : List ℕ = set s.words 0 n in
-    let zeroth : slice_index words 0 ≡ n = at_put s.words 0 n (omega (arith, wide)) in
-    let same : (k : ℕ) → slice_index words (k + 1) ≡ slice_index s.words (k + 1) = λ k. at_else s.words 0 (k + 1) n (λ e. omega arith) in (
+    let zeroth : slice_index words 0 ≡ n = get_or-set_same s.words 0 n 0 (omega (arith, wide)) in
+    let same : (k : ℕ) → slice_index words (k + 1) ≡ slice_index s.words (k + 1) = λ k. get_or-set_other s.words 0 (k + 1) n 0 (λ e. omega arith) in (
       w,
       keeps,
       tt,
@@ -303,7 +304,7 @@ appends script slots id call me st gated less fresh s r len at small =
           (gate_set r.gate id s.views me.0 w at refl (gate_of script s r))
           calls
           (zeroth ∙ sum)
-          record { wide = len_put s.words 0 n ∙ wide; few = few; marks = λ k. omega (arith, same k, r.sizes.marks k, zeroth, sum, long, count) },
+          record { wide = length-set s.words 0 n ∙ wide; few = few; marks = λ k. omega (arith, same k, r.sizes.marks k, zeroth, sum, long, count) },
       refl,
     )
 
@@ -378,7 +379,7 @@ hands script id q v gated own s r at =
     (λ (p : (j ≡ id) × (l ≡ u)). subst (λ (z : ℕ). Fits script s.words r.history r.gate owner z u) (sym p.0) (subst (λ (z : View). Fits script s.words r.history r.gate owner id z) p.1 left))
     (λ (p : (j ≢ id) × (get_elem? s.views j ≡ some u)). keeps_fit script s.words r.history r.gate id j n q r.owner u is p.0 (each j u p.1 alive))
     (at_set s.views id j l u t.1))
-    (λ (t : (j ≡ length (set s.views id l)) × (of_shard q v ≡ u)). subst (λ (z : ℕ). Fits script s.words r.history r.gate owner z u) (sym (t.0 ∙ len_put s.views id l)) (subst (λ (z : View). Fits script s.words r.history r.gate owner n z) t.1 right))
+    (λ (t : (j ≡ length (set s.views id l)) × (of_shard q v ≡ u)). subst (λ (z : ℕ). Fits script s.words r.history r.gate owner z u) (sym (t.0 ∙ length-set s.views id l)) (subst (λ (z : View). Fits script s.words r.history r.gate owner n z) t.1 right))
     (snoc_at (set s.views id l) (of_shard q v) u j there))
     (gate_push r.gate (set s.views id l) (of_shard q v) (gate_set r.gate id s.views v l at refl (gate_of script s r)))
     r.prefixes.1

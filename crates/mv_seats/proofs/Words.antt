@@ -1,34 +1,7 @@
--- Lists of words and of views, after one of them is set.
-use Rattle.std.proofs.Common.{◌≡◌, ◌≢◌, ℕ, zero, suc, ◌<◌, ◌⊎◌, List, [], ◌∷◌, ◌++◌, length, slice_index, set, replicate, take, refl, ap, sym, inl, inr, ⊎_elim, arith}
+-- The words of a new board, and lists of views after one of them is set or added.
+use Rattle.std.proofs.Common.{◌≡◌, ℕ, zero, suc, ◌<◌, ◌⊎◌, List, [], ◌∷◌, ◌++◌, length, slice_index, set, replicate, take, refl, ap, sym, inl, inr, ⊎_elim, arith}
 use mathlib.Core.Option.{some, some-ne-none, some-injective}
 use lib.ListN.{get_elem?}
-
-pub set_read : (ws : List ℕ) (i : ℕ) → set ws i (slice_index ws i) ≡ ws
-set_read [] i = refl
-set_read (x ∷ xs) zero = refl
-set_read (x ∷ xs) (suc i) = ap (λ ys. x ∷ ys) (set_read xs i)
-
-pub at_put : (ws : List ℕ) (i n : ℕ) → i < length ws → slice_index (set ws i n) i ≡ n
-at_put [] i n h = absurd (omega arith)
-at_put (x ∷ xs) zero n h = refl
-at_put (x ∷ xs) (suc i) n h = at_put xs i n (omega arith)
-
-pub at_else : (ws : List ℕ) (i k n : ℕ) → k ≢ i → slice_index (set ws i n) k ≡ slice_index ws k
-at_else [] i k n h = refl
-at_else (x ∷ xs) zero zero n h = absurd (h refl)
-at_else (x ∷ xs) zero (suc k) n h = refl
-at_else (x ∷ xs) (suc i) zero n h = refl
-at_else (x ∷ xs) (suc i) (suc k) n h = at_else xs i k n (λ e. h (ap suc e))
-
-pub len_put : {A : Type 0} (ws : List A) (i : ℕ) (n : A) → length (set ws i n) ≡ length ws
-len_put [] i n = refl
-len_put (x ∷ xs) zero n = refl
-len_put (x ∷ xs) (suc i) n = ap suc (len_put xs i n)
-
-zeros : (m k : ℕ) → slice_index (replicate m 0) k ≡ 0
-zeros zero k = refl
-zeros (suc m) zero = refl
-zeros (suc m) (suc k) = zeros m k
 
 pub first_zeros : (n m k : ℕ) → slice_index (take n (replicate m 0)) k ≡ 0
 first_zeros zero m k = refl
