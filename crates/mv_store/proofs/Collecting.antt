@@ -1,64 +1,133 @@
--- Tables that are collected one after another.
-use Rattle.std.proofs.Common.{◌≡◌, ◌<◌, ◌+◌, ℕ, Bool, true, false, cond, inl, inr, List, [], Option, Some, None, length, slice_set, refl, sym, ap, subst, ◌∙◌, arith}
-use Rattle.std.specs.Prelude.{IfSome}
-use Rattle.std.specs.Option.{option_and_then}
-use Rattle.std.proofs.lemmas.Bool.{cases_lt}
-use Rattle.std.proofs.lemmas.List.{get_or-set_same, get_or-set_other, length-set}
+-- Keys that are collected commit by commit.
+use Rattle.std.proofs.Common.{◌≡◌, ◌<◌, ◌≤◌, ◌+◌, ◌==◌, ◌&&◌, ℕ, Bool, true, false, cond, List, [], ◌∷◌, Option, All, length, refl, sym, ap, subst, ◌∙◌, arith, rules}
+use Rattle.std.specs.Prelude.{nat_lt, nat_le}
+use Rattle.std.specs.List.{filter, list_any}
+use Rattle.std.specs.Option.{is_some}
+use Rattle.std.proofs.lemmas.Bool.{ne_eqb}
+use Rattle.std.proofs.lemmas.List.Elements.{All-head, All-tail, All-weaker, All-filter, filter_passes}
 use Rattle.mv_values.specs.declared.value.Value.{Value}
-use Rattle.mv_table.specs.Entries.{item_of, picked, KeysRise}
-use Rattle.mv_table.proofs.Picking.{picked_item}
-use Rattle.mv_chain.specs.Versions.{Versions, collected, is_blank}
-use Rattle.mv_chain.proofs.Blank.{blank_only}
+use Rattle.mv_chain.specs.declared.pending.Pending.{Pending}
+use Rattle.mv_chain.specs.Versions.{Versions, Commit, IsNext, own_of, collected, row_after, row_at}
 use Rattle.mv_store.specs.Stored.{Entries}
-use Rattle.mv_store.specs.Kept.{versions_in, versions_of, versions_at, entries_at, AllRise, left_of, ReadsStay, AreCollected}
-use Rattle.mv_store.proofs.Done.{rises_set}
+use Rattle.mv_store.specs.declared.spots.Written.{Written}
+use Rattle.mv_store.specs.declared.change.Change.TheVariants.{Collect}
+use Rattle.mv_store.specs.Kept.{versions_at, Noted, is_spot, is_due, spots_of, HasSpot, HasEntry, Climb, IsKept, changed, KeepsRows, done_at, AreDone, AreCollected}
+use Rattle.mv_store.proofs.Noted.{entry_rest, climb_from, none_due}
+use Rattle.mv_store.proofs.Done.{done_hit, done_miss, rows_then}
 
-left_is : (low : ℕ) (v : Versions) → versions_in (left_of low v) ≡ collected low v
-left_is low v = by (is_blank (collected low v)) refl
-  where
-    by : (b : Bool) → is_blank (collected low v) ≡ b → versions_in (cond b None (Some (collected low v))) ≡ collected low v
-    by true e = sym (blank_only (collected low v) e)
-    by false e = refl
+-- Versions
 
-picked_is : (low : ℕ) (o : Option Versions) → versions_in (option_and_then (left_of low) o) ≡ collected low (versions_in o)
-picked_is low None = refl
-picked_is low (Some v) = left_is low v
+same_versions : (a b : Option (List Value)) (cs ds : List Commit) (own : List Pending) → a ≡ b → cs ≡ ds → ◌≡◌ {A = Versions} (record { base = a; commits = cs; own = own }) (record { base = b; commits = ds; own = own })
+same_versions a b cs ds own h k = cc
 
-told_is : (low : ℕ) (o : Option Versions) → IfSome o (ReadsStay low) → ReadsStay low (versions_in o)
-told_is low None h = λ n le. refl
-told_is low (Some v) h = h
+all_kept : (low : ℕ) (cs : List Commit) → All (λ c. low < c.number) cs → filter (λ c. nat_lt low c.number) cs ≡ cs
+all_kept low [] h = refl
+all_kept low (c ∷ cs) h =
+    let lt : low < c.number = All-head (λ c. low < c.number) c cs h in
+    let passes : nat_lt low c.number ≡ true = search (rules, lt) in
+    rw passes (ap (λ l. c ∷ l) (all_kept low cs (All-tail (λ c. low < c.number) c cs h)))
 
-pub none_collected : (low : ℕ) (old : List Entries) → AreCollected low 0 old old
-none_collected low old = record { size = refl; first = λ u key lt. absurd (omega (arith, lt)); rest = λ u le. refl; rising = λ r. r }
+none_before : (low : ℕ) (row : Option (List Value)) (cs : List Commit) → All (λ c. low < c.number) cs → row_after low row cs ≡ row
+none_before low row [] h = refl
+none_before low row (c ∷ cs) h =
+    let lt : low < c.number = All-head (λ c. low < c.number) c cs h in
+    let after : nat_le c.number low ≡ false = search (rules, lt) in
+    rw after refl
 
--- one table more is collected
-pub one_collected : (low t : ℕ) (old now new : List Entries) (was es : Entries) → AllRise old → t < length old → AreCollected low t old now → was ≡ entries_at now t → es ≡ picked (left_of low) was
-    → ((key : List Value) → IfSome (item_of was key) (ReadsStay low)) → KeysRise es → new ≡ slice_set now t es → AreCollected low (t + 1) old new
-one_collected low t old now new was es rise lt h is picks told rising set = record {
-  size = ap length set ∙ (length-set now t es ∙ h.size);
-  first = λ u key le. elim (cases_lt u t) [
-    | inl less ↦
-        let stays : entries_at new u ≡ entries_at now u = ap (λ ts. entries_at ts u) set ∙ get_or-set_other now t u es [] (λ e. omega (arith, less, e)) in
-        let one = h.first u key less in
-        (ap (λ l. versions_of l key) stays ∙ one.0, one.1)
-    | inr more ↦
-        let same : t ≡ u = omega (arith, le, more) in
-        subst (λ x. (versions_at new x key ≡ collected low (versions_at old x key)) × ReadsStay low (versions_at old x key)) same (here key)
-  ];
-  rest = λ u le. ap (λ ts. entries_at ts u) set ∙ (get_or-set_other now t u es [] (λ e. omega (arith, le, e)) ∙ h.rest u (omega (arith, le)));
-  rising = λ r. subst AllRise (sym set) (rises_set now t es (λ k. rising) (h.rising r));
+-- versions without commits up to low stay as they are
+collected_stays : (low : ℕ) (v : Versions) → All (λ c. low < c.number) v.commits → collected low v ≡ v
+collected_stays low v h = same_versions (row_at v low) v.base (filter (λ c. nat_lt low c.number) v.commits) v.commits v.own (none_before low v.base v.commits h) (all_kept low v.commits h)
+
+collected_later : (low : ℕ) (v : Versions) → All (λ c. low < c.number) (collected low v).commits
+collected_later low v = All-weaker (λ c. nat_lt low c.number ≡ true) (λ c. low < c.number) (λ c e. search (rules, e)) (filter (λ c. nat_lt low c.number) v.commits) (filter_passes (λ c. nat_lt low c.number) v.commits)
+
+collected_twice : (low : ℕ) (v : Versions) → collected low (collected low v) ≡ collected low v
+collected_twice low v = collected_stays low (collected low v) (collected_later low v)
+
+-- Tables
+
+-- some keys are collected
+pub record IsUnderway (low : ℕ) (old now : List Entries) : Type 0 where
+  pub size : length now ≡ length old
+  pub same : (u : ℕ) (key : List Value) → collected low (versions_at now u key) ≡ collected low (versions_at old u key)
+  pub rows : (u : ℕ) (key : List Value) → KeepsRows (Collect low) (versions_at old u key) (versions_at now u key)
+
+pub none_collected : (low : ℕ) (old : List Entries) → IsUnderway low old old
+none_collected low old = record { size = refl; same = λ u key. refl; rows = λ u key n le. refl }
+
+-- the keys of the first commit are collected
+module _ (low : ℕ) (now new : List Entries) (w : Written) (done : AreDone (changed (Collect low)) w.spots now new) where
+  -- versions of these keys are collected, and all others are unchanged
+  here : (u : ℕ) (key : List Value) → versions_at new u key ≡ cond (list_any (is_spot u key) w.spots) (collected low (versions_at now u key)) (versions_at now u key)
+  here u key = done.at u key ∙ by (list_any (is_spot u key) w.spots) refl
+    where
+      by : (b : Bool) → list_any (is_spot u key) w.spots ≡ b → ◌≡◌ {A = Versions} (done_at (changed (Collect low)) w.spots u key (versions_at now u key)) (cond b (collected low (versions_at now u key)) (versions_at now u key))
+      by true e = done_hit (changed (Collect low)) w.spots u key (versions_at now u key) (collected_twice low (versions_at now u key)) e
+      by false e = done_miss (changed (Collect low)) w.spots u key (versions_at now u key) e
+
+  same_then : (u : ℕ) (key : List Value) → collected low (versions_at new u key) ≡ collected low (versions_at now u key)
+  same_then u key = ap (collected low) (here u key) ∙ by (list_any (is_spot u key) w.spots)
+    where
+      by : (b : Bool) → collected low (cond b (collected low (versions_at now u key)) (versions_at now u key)) ≡ collected low (versions_at now u key)
+      by true = collected_twice low (versions_at now u key)
+      by false = refl
+
+  own_then : (u : ℕ) (key : List Value) → (versions_at new u key).own ≡ (versions_at now u key).own
+  own_then u key = ap (λ v. v.own) (here u key) ∙ by (list_any (is_spot u key) w.spots) (versions_at now u key)
+    where
+      by : (b : Bool) (v : Versions) → (cond b (collected low v) v).own ≡ v.own
+      by true v = refl
+      by false v = refl
+
+  numbers_then : (n u : ℕ) (key : List Value) → IsNext n (versions_at now u key) → IsNext n (versions_at new u key)
+  numbers_then n u key h = subst (IsNext n) (sym (here u key)) (by (list_any (is_spot u key) w.spots) (versions_at now u key) h)
+    where
+      by : (b : Bool) (v : Versions) → IsNext n v → IsNext n (cond b (collected low v) v)
+      by true v g = All-filter (λ c. nat_lt low c.number) (λ c. c.number < n) v.commits g
+      by false v g = g
+
+  listed_then : (ws : List Written) (u : ℕ) (key : List Value) → w.commit ≤ low → All (λ c. HasEntry c.number u key (w ∷ ws)) (versions_at now u key).commits → All (λ c. HasEntry c.number u key ws) (versions_at new u key).commits
+  listed_then ws u key le h = subst (λ v. All (λ c. HasEntry c.number u key ws) v.commits) (sym (here u key)) (by (list_any (is_spot u key) w.spots) refl)
+    where
+      later : (n : ℕ) → low < n → HasEntry n u key (w ∷ ws) → HasEntry n u key ws
+      later n lt e = let differ : (w.commit == n) ≡ false = ne_eqb w.commit n (λ same. omega (arith, same, lt, le)) in entry_rest n u key w ws (rw differ refl) e
+
+      elsewhere : (b : Bool) → b && false ≡ false
+      elsewhere true = refl
+      elsewhere false = refl
+
+      by : (b : Bool) → list_any (is_spot u key) w.spots ≡ b → All (λ c. HasEntry c.number u key ws) (cond b (collected low (versions_at now u key)) (versions_at now u key)).commits
+      by true e = λ i d l.
+          later _ (collected_later low (versions_at now u key) i d l)
+          (All-filter (λ c. nat_lt low c.number) (λ c. HasEntry c.number u key (w ∷ ws)) (versions_at now u key).commits h i d l)
+      by false e = All-weaker (λ c. HasEntry c.number u key (w ∷ ws)) (λ c. HasEntry c.number u key ws) (λ c there. entry_rest c.number u key w ws (ap (λ b. (w.commit == c.number) && b) e ∙ elsewhere (w.commit == c.number)) there) (versions_at now u key).commits h
+
+  pub one_collected : (old : List Entries) → ((u : ℕ) (key : List Value) → KeepsRows (Collect low) (versions_at now u key) (versions_at new u key)) → IsUnderway low old now → IsUnderway low old new
+  one_collected old rows h = record {
+    size = done.size ∙ h.size;
+    same = λ u key. same_then u key ∙ h.same u key;
+    rows = λ u key. rows_then (Collect low) (versions_at old u key) (versions_at now u key) (versions_at new u key) (h.rows u key) (rows u key);
+  }
+
+  pub one_kept : (spots rest : Noted) (last : ℕ) → IsKept now spots last → rest.calls ≡ spots.calls → w.commit ≤ low → spots.commits ≡ w ∷ rest.commits → IsKept new rest last
+  one_kept spots rest last kept calls le is = record {
+    rising = done.rising kept.rising;
+    numbers = λ u key. numbers_then (last + 1) u key (kept.numbers u key);
+    covered = λ call u key some. subst (λ cs. HasSpot u key (spots_of (record rest { calls = cs }) call)) (sym calls) (kept.covered call u key (ap (λ ps. is_some (own_of call ps)) (sym (own_then u key)) ∙ some));
+    listed = λ u key. listed_then rest.commits u key le (subst (λ ws. All (λ c. HasEntry c.number u key ws) (versions_at now u key).commits) is (kept.listed u key));
+    climb = let up : Climb 0 (w ∷ rest.commits) last = subst (λ ws. Climb 0 ws last) is kept.climb in climb_from 0 w.commit last rest.commits (omega arith) up.1;
+  }
+
+pub noted_same : (a b : Noted) → a.calls ≡ b.calls → a.commits ≡ b.commits → a ≡ b
+noted_same a b h k = λ i. record { calls = h i; commits = k i }
+
+-- all that is due was collected
+pub all_collected : (low last : ℕ) (old now : List Entries) (spots : Noted) → IsKept now spots last → is_due low spots.commits ≡ false → IsUnderway low old now → AreCollected low old now
+all_collected low last old now spots kept due h = record {
+  versions = record {
+    size = h.size;
+    at = λ u key. sym (collected_stays low (versions_at now u key) (All-weaker (λ c. HasEntry c.number u key spots.commits) (λ c. low < c.number) (λ c e. none_due low last c.number u key spots.commits due kept.climb e) (versions_at now u key).commits (kept.listed u key))) ∙ h.same u key;
+    rising = λ r. kept.rising;
+  };
+  rows = h.rows;
 }
-  where
-    before : was ≡ entries_at old t
-    before = is ∙ h.rest t (omega arith)
-
-    there : entries_at new t ≡ es
-    there = ap (λ ts. entries_at ts t) set ∙ get_or-set_same now t es [] (omega (arith, lt, h.size))
-
-    here : (key : List Value) → (versions_at new t key ≡ collected low (versions_at old t key)) × ReadsStay low (versions_at old t key)
-    here key = (
-      ap (λ l. versions_of l key) there
-          ∙ (ap (λ l. versions_of l key) (picks ∙ ap (picked (left_of low)) before)
-          ∙ (ap versions_in (picked_item (left_of low) (entries_at old t) key (rise t)) ∙ picked_is low (item_of (entries_at old t) key))),
-      told_is low (item_of (entries_at old t) key) (subst (λ l. IfSome (item_of l key) (ReadsStay low)) before (told key)),
-    )

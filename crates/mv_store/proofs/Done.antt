@@ -14,15 +14,18 @@ use Rattle.mv_values.specs.Order.{key_order}
 use Rattle.mv_values.proofs.KeyOrder.{exact_keys}
 use Rattle.mv_table.specs.Entries.{item_of, KeysRise}
 use Rattle.mv_table.specs.Lending.{HasItem}
+use Rattle.mv_table.proofs.Picking.{same_key}
 use Rattle.mv_chain.specs.declared.pending.Pending.{Pending}
-use Rattle.mv_chain.specs.Versions.{Versions, blank, IsNext, own_of, without, stamped, stamped_by}
+use Rattle.mv_chain.specs.Versions.{Versions, blank, is_blank, IsNext, own_of, row_at, without, stamped, stamped_by}
+use Rattle.mv_chain.proofs.Blank.{blank_only}
 use Rattle.mv_chain.proofs.Stamps.{is_dropped, others_are_kept}
 use Rattle.mv_store.specs.Stored.{Entries}
 use Rattle.mv_store.specs.declared.spots.Spot.{Spot}
-use Rattle.mv_store.specs.declared.spots.Spots.{Spots}
-use Rattle.mv_store.specs.declared.fate.Fate.{Fate}
-use Rattle.mv_store.specs.declared.fate.Fate.TheVariants.{Commit, Gone}
-use Rattle.mv_store.specs.Kept.{versions_in, versions_of, entries_at, versions_at, AllRise, IsChanged, AreChanged, AllChanged, is_spot, HasSpot, spots_of, IsCovered, settled, MaySettle, done_at, AreDone}
+use Rattle.mv_store.specs.declared.change.Fate.{Fate}
+use Rattle.mv_store.specs.declared.change.Fate.TheVariants.{Commit, Gone}
+use Rattle.mv_store.specs.declared.change.Change.{Change}
+use Rattle.mv_store.specs.declared.change.Change.TheVariants.{Settle, Collect}
+use Rattle.mv_store.specs.Kept.{versions_in, versions_of, entries_at, versions_at, AllRise, IsChanged, AreChanged, AllChanged, Noted, is_spot, HasSpot, spots_of, IsCovered, settled, changed, MayChange, KeepsRows, done_at, AreDone}
 
 some_none : {A : Type 0} {a : A} → ◌≡◌ {A = Option A} (Some a) None → ⊥
 some_none e = cc
@@ -69,6 +72,29 @@ changed_nowhere key f old new none h is = record {
     by : (other : List Value) (b : Bool) → (b ≡ true → item_of old other ≡ None) → versions_of old other ≡ cond b (f (versions_of old other)) (versions_of old other)
     by other true n = let gone = n refl in ap versions_in gone ∙ (sym h ∙ ap (λ o. f (versions_in o)) (sym gone))
     by other false n = refl
+
+pub changed_none : (key : List Value) (old new : Entries) → IsChanged key (λ v. v) old new → (other : List Value) → versions_of new other ≡ versions_of old other
+changed_none key old new h other = h.at other ∙ by (is_eq (key_order key other)) (versions_of old other)
+  where
+    by : (b : Bool) (v : Versions) → cond b v v ≡ v
+    by true v = refl
+    by false v = refl
+
+-- the item that was changed in place is there
+pub item_there : (key : List Value) (w : Versions) (old new : Entries) → HasItem key w old new → versions_of new key ≡ w
+item_there key w old new h = ap versions_in (h.at key ∙ ap (λ o. cond (is_eq o) (Some w) (item_of old key)) (same_key key))
+
+-- blank versions under a key were removed
+pub removed : (key : List Value) (old new : Entries) → is_blank (versions_of old key) ≡ true → ((other : List Value) → item_of new other ≡ cond (is_eq (key_order key other)) None (item_of old other)) → KeysRise new → IsChanged key (λ v. v) old new
+removed key old new none at rising = record { at = λ other. ap versions_in (at other) ∙ by other (is_eq (key_order key other)) (λ e. e); rising = λ r. rising }
+  where
+    by : (other : List Value) (b : Bool) → (b ≡ true → is_eq (key_order key other) ≡ true) → versions_in (cond b None (item_of old other)) ≡ cond b (versions_of old other) (versions_of old other)
+    by other true h = sym (blank_only (versions_of old other) (subst (λ k. is_blank (versions_of old k) ≡ true) (same_keys key other (h refl)) none))
+    by other false h = refl
+
+-- a change, and then none
+pub changed_only : (key : List Value) (f : Versions → Versions) (old mid new : Entries) → IsChanged key f old mid → IsChanged key (λ v. v) mid new → IsChanged key f old new
+changed_only key f old mid new h g = record { at = λ other. changed_none key mid new g other ∙ h.at other; rising = λ r. g.rising (h.rising r) }
 
 -- nothing was changed
 pub changed_not : (key : List Value) (old new : Entries) → new ≡ old → IsChanged key (λ v. v) old new
@@ -133,6 +159,15 @@ done_fixed f (s ∷ ss) t key v h = ap (done_at f ss t key) (by (is_spot t key s
     by true = h
     by false = refl
 
+-- nothing is done elsewhere
+pub done_miss : (f : Versions → Versions) (ss : List Spot) (t : ℕ) (key : List Value) (v : Versions) → list_any (is_spot t key) ss ≡ false → done_at f ss t key v ≡ v
+done_miss f [] t key v h = refl
+done_miss f (s ∷ ss) t key v h = by (is_spot t key s) h (done_miss f ss t key v)
+  where
+    by : (b : Bool) → b || list_any (is_spot t key) ss ≡ false → (list_any (is_spot t key) ss ≡ false → done_at f ss t key v ≡ v) → done_at f ss t key (cond b (f v) v) ≡ v
+    by true e more = absurd (no_truth (sym e))
+    by false e more = more e
+
 -- what is done again changes nothing
 pub done_hit : (f : Versions → Versions) (ss : List Spot) (t : ℕ) (key : List Value) (v : Versions) → f (f v) ≡ f v → HasSpot t key ss → done_at f ss t key v ≡ f v
 done_hit f [] t key v h there = absurd (no_truth there)
@@ -178,21 +213,46 @@ settled_others (Commit n) call other v h = by (own_of call v.own)
     by (Some patch) = others_are_kept call other v.own h
 settled_others Gone call other v h = others_are_kept call other v.own h
 
-pub settled_blank : (fate : Fate) (call : ℕ) → settled fate call blank ≡ blank
-settled_blank (Commit n) call = refl
-settled_blank Gone call = refl
+-- Changes
 
-may_again : (fate : Fate) (call : ℕ) (v : Versions) → MaySettle fate call (settled fate call v)
-may_again (Commit n) call v = subst (λ o. OnSome o (IsNext n (stamped call n v))) (sym (settled_gone (Commit n) call v)) tt
-may_again Gone call v = tt
+pub changed_blank : (to : Change) → changed to blank ≡ blank
+changed_blank (Settle call (Commit n)) = refl
+changed_blank (Settle call Gone) = refl
+changed_blank (Collect low) = refl
 
-pub may_done : (fate : Fate) (call : ℕ) (ss : List Spot) (t : ℕ) (key : List Value) (v : Versions) → MaySettle fate call v → MaySettle fate call (done_at (settled fate call) ss t key v)
-may_done fate call [] t key v h = h
-may_done fate call (s ∷ ss) t key v h = may_done fate call ss t key (cond (is_spot t key s) (settled fate call v) v) (by (is_spot t key s))
+may_again : (to : Change) (v : Versions) → MayChange to (changed to v)
+may_again (Settle call (Commit n)) v = subst (λ o. OnSome o (IsNext n (stamped call n v))) (sym (settled_gone (Commit n) call v)) tt
+may_again (Settle call Gone) v = tt
+may_again (Collect low) v = tt
+
+pub may_done : (to : Change) (ss : List Spot) (t : ℕ) (key : List Value) (v : Versions) → MayChange to v → MayChange to (done_at (changed to) ss t key v)
+may_done to [] t key v h = h
+may_done to (s ∷ ss) t key v h = may_done to ss t key (cond (is_spot t key s) (changed to v) v) (by (is_spot t key s))
   where
-    by : (b : Bool) → MaySettle fate call (cond b (settled fate call v) v)
-    by true = may_again fate call v
+    by : (b : Bool) → MayChange to (cond b (changed to v) v)
+    by true = may_again to v
     by false = h
+
+pub rows_same : (to : Change) (v w : Versions) → w ≡ v → KeepsRows to v w
+rows_same (Settle call fate) v w e = tt
+rows_same (Collect low) v w e = λ n le. ap (λ x. row_at x n) e
+
+pub rows_then : (to : Change) (u v w : Versions) → KeepsRows to u v → KeepsRows to v w → KeepsRows to u w
+rows_then (Settle call fate) u v w h g = tt
+rows_then (Collect low) u v w h g = λ n le. g n le ∙ h n le
+
+-- rows are kept under each key where they are under the one that was changed
+pub rows_at : (to : Change) (t : ℕ) (key : List Value) (old new : List Entries) → AreChanged t key (changed to) old new → KeepsRows to (versions_at old t key) (versions_at new t key)
+    → (u : ℕ) (other : List Value) → KeepsRows to (versions_at old u other) (versions_at new u other)
+rows_at to t key old new change rows u other = elim (cases_Bool (t == u)) [
+  | inl e ↦ elim (cases_Bool (is_eq (key_order key other))) [
+    | inl k ↦
+        subst (λ x. KeepsRows to (versions_at old x other) (versions_at new x other)) (eqb-true t u e)
+        (subst (λ x. KeepsRows to (versions_at old t x) (versions_at new t x)) (same_keys key other k) rows)
+    | inr k ↦ rows_same to (versions_at old u other) (versions_at new u other) (change.at u other ∙ rw (e, k) refl)
+  ]
+  | inr e ↦ rows_same to (versions_at old u other) (versions_at new u other) (change.at u other ∙ rw e refl)
+]
 
 -- The loop over spots
 
@@ -210,7 +270,7 @@ done_one f ss i s old now new lt is done change = record {
 }
 
 -- all that a call has written is settled, where it was noted
-pub all_settled : (fate : Fate) (call : ℕ) (spots : Spots) (ss : List Spot) (old new : List Entries) → IsCovered old spots → ss ≡ spots_of spots call → AreDone (settled fate call) ss old new → AllChanged (settled fate call) old new
+pub all_settled : (fate : Fate) (call : ℕ) (spots : Noted) (ss : List Spot) (old new : List Entries) → IsCovered old spots → ss ≡ spots_of spots call → AreDone (settled fate call) ss old new → AllChanged (settled fate call) old new
 all_settled fate call spots ss old new covered is done = record {
   size = done.size;
   at = λ u key. done.at u key ∙ by u key (own_of call (versions_at old u key).own) refl;

@@ -1,12 +1,12 @@
 -- What the calls of a store leave, from what they change under each key.
 use Rattle.std.proofs.Common.{◌≡◌, ◌<◌, ◌≤◌, ◌+◌, ◌++◌, ◌==◌, ◌&&◌, ℕ, Bool, true, false, cond, inl, inr, List, [], ◌∷◌, Option, Some, None, All, length, take, map, slice_index_or, slice_set, refl, sym, ap, subst, ◌∙◌, arith}
-use Rattle.std.specs.Prelude.{nat_lt, OnSome, OnOk, OnErr, Result, Ok, Err}
+use Rattle.std.specs.Prelude.{OnSome, OnOk, OnErr, Result, Ok, Err}
 use Rattle.std.specs.Result.{is_err}
 use Rattle.std.proofs.lemmas.List.{take_more}
 use Rattle.std.specs.Option.{is_some}
 use Rattle.std.specs.Ordering.{is_eq}
-use Rattle.std.proofs.lemmas.Bool.{cases_Bool, eqb-true, cases_lt}
-use Rattle.std.proofs.lemmas.List.Elements.{All-weaker, All-filter, All-push}
+use Rattle.std.proofs.lemmas.Bool.{cases_Bool, eqb-true}
+use Rattle.std.proofs.lemmas.List.Elements.{All-weaker, All-push}
 use Rattle.mv_values.specs.declared.value.Value.{Value}
 use Rattle.mv_values.specs.declared.rows.Keyed.{Keyed}
 use Rattle.mv_values.specs.declared.patch.Patch.{Patch}
@@ -20,12 +20,14 @@ use Rattle.mv_chain.specs.Versions.{Versions, IsNext, own_of, patched_by_own, st
 use Rattle.mv_chain.proofs.Stamps.{composes, others_stay, all_read, read_before, read_after}
 use Rattle.mv_store.specs.Stored.{Entries, Versioned, held, table_at, database_at, newest, writes_from, own_writes, IsLike}
 use Rattle.mv_store.specs.Changes.{IsAsBefore, HasPut, HasDropped, HasStamped, HasRaised}
-use Rattle.mv_store.specs.declared.spots.Spots.{Spots}
-use Rattle.mv_store.specs.declared.fate.Fate.{Fate}
-use Rattle.mv_store.specs.declared.fate.Fate.TheVariants.{Commit as Commits, Gone}
-use Rattle.mv_store.specs.Kept.{versions_of, versions_at, entries_at, AllRise, IsChanged, AreChanged, AllChanged, IsCovered, AreUpTo, IsKept, HasSpot, KeepsSpots, spots_of, with_patch, settled, MaySettle, AreCollected}
+use Rattle.mv_store.specs.declared.spots.Spot.{Spot}
+use Rattle.mv_store.specs.declared.spots.Written.{Written}
+use Rattle.mv_store.specs.declared.change.Fate.{Fate}
+use Rattle.mv_store.specs.declared.change.Fate.TheVariants.{Commit as Commits, Gone}
+use Rattle.mv_store.specs.Kept.{versions_of, versions_at, entries_at, AllRise, IsChanged, AreChanged, AllChanged, Noted, IsCovered, IsListed, AreUpTo, IsKept, HasSpot, HasEntry, KeepsSpots, spots_of, spots_in, noted_for, written_at, Climb, with_patch, settled, MaySettle, AreCollected}
 use Rattle.mv_store.proofs.Keys.{database_same, databases_same, row_in, rows_rise, size_is}
 use Rattle.mv_store.proofs.Own.{row_done, own_same, own_none}
+use Rattle.mv_store.proofs.Noted.{entry_left, entry_last, climb_push}
 use Rattle.mv_store.proofs.Done.{settled_gone, settled_others, same_keys, differ, no_truth, tables_changed}
 
 left_true : (a b : Bool) → a && b ≡ true → a ≡ true
@@ -84,12 +86,12 @@ module _ (t : ℕ) (key : List Value) (call : ℕ) (patch : Patch) (old new : Li
       by true v g = g
       by false v g = g
 
-  put_covered : (spots now : Spots) → IsCovered old spots → KeepsSpots spots now → (is_some (own_of call (versions_at old t key).own) ≡ false → HasSpot t key (spots_of now call)) → IsCovered new now
+  put_covered : (spots now : Noted) → IsCovered old spots → KeepsSpots spots now → (is_some (own_of call (versions_at old t key).own) ≡ false → HasSpot t key (spots_of now call)) → IsCovered new now
   put_covered spots now covered keeps noted c u k some =
       by ((t == u) && is_eq (key_order key k)) refl (subst (λ v. is_some (own_of c v.own) ≡ true) (change.at u k) some)
     where
       before : is_some (own_of c (versions_at old u k).own) ≡ true → HasSpot u k (spots_of now c)
-      before e = keeps c u k (covered c u k e)
+      before e = keeps.calls c u k (covered c u k e)
 
       there : (t == u) && is_eq (key_order key k) ≡ true → call ≡ c → (b : Bool) → is_some (own_of c (versions_at old u k).own) ≡ b → HasSpot u k (spots_of now c)
       there e same true h = before h
@@ -106,6 +108,17 @@ module _ (t : ℕ) (key : List Value) (call : ℕ) (patch : Patch) (old new : Li
         | inl same ↦ there e (eqb-true call c same) (is_some (own_of c (versions_at old u k).own)) refl
         | inr ne ↦ before (ap is_some (sym (others_stay call c patch (versions_at old u k).own (λ same. differ call c same ne))) ∙ h)
       ]
+
+  put_commits : (u : ℕ) (k : List Value) → (versions_at new u k).commits ≡ (versions_at old u k).commits
+  put_commits u k = ap (λ v. v.commits) (change.at u k) ∙ by ((t == u) && is_eq (key_order key k)) (versions_at old u k)
+    where
+      by : (b : Bool) (v : Versions) → (cond b (with_patch call patch v) v).commits ≡ v.commits
+      by true v = refl
+      by false v = refl
+
+-- where the same commits are stored, they are still noted
+listed_still : (old new : List Entries) (ws now : List Written) → ((u : ℕ) (k : List Value) → (versions_at new u k).commits ≡ (versions_at old u k).commits) → now ≡ ws → IsListed old ws → IsListed new now
+listed_still old new ws now same is h u k = subst (λ l. All (λ c. HasEntry c.number u k l) (versions_at new u k).commits) (sym is) (subst (λ cs. All (λ c. HasEntry c.number u k ws) cs) (sym (same u k)) (h u k))
 
 -- a write was put into a store
 pub put_one : (call : ℕ) (w : Write) (old new : Versioned) → AllRise old.tables → AreChanged w.table w.key (with_patch call w.patch) old.tables new.tables → new.last ≡ old.last → new.low ≡ old.low → HasPut call (w ∷ []) old new
@@ -128,16 +141,24 @@ put_none call w s le = record {
 pub as_before : (s : Versioned) → IsAsBefore s s
 as_before s = record { reads = record { database = λ n. refl; last = refl; low = refl }; own = λ call. refl }
 
-pub put_kept : (t call last : ℕ) (key : List Value) (patch : Patch) (old new : List Entries) (spots now : Spots) → IsKept old spots last → AreChanged t key (with_patch call patch) old new
+pub put_kept : (t call last : ℕ) (key : List Value) (patch : Patch) (old new : List Entries) (spots now : Noted) → IsKept old spots last → AreChanged t key (with_patch call patch) old new
     → KeepsSpots spots now → (is_some (own_of call (versions_at old t key).own) ≡ false → HasSpot t key (spots_of now call)) → IsKept new now last
 put_kept t call last key patch old new spots now kept change keeps noted = record {
   rising = change.rising kept.rising;
   numbers = put_numbers t key call patch old new kept.rising change last kept.numbers;
   covered = put_covered t key call patch old new kept.rising change spots now kept.covered keeps noted;
+  listed = listed_still old new spots.commits now.commits (put_commits t key call patch old new kept.rising change) keeps.commits kept.listed;
+  climb = subst (λ ws. Climb 0 ws last) (sym keeps.commits) kept.climb;
 }
 
-pub spots_kept : (last : ℕ) (tables : List Entries) (spots now : Spots) → IsKept tables spots last → KeepsSpots spots now → IsKept tables now last
-spots_kept last tables spots now kept keeps = record { rising = kept.rising; numbers = kept.numbers; covered = λ c u k some. keeps c u k (kept.covered c u k some) }
+pub spots_kept : (last : ℕ) (tables : List Entries) (spots now : Noted) → IsKept tables spots last → KeepsSpots spots now → IsKept tables now last
+spots_kept last tables spots now kept keeps = record {
+  rising = kept.rising;
+  numbers = kept.numbers;
+  covered = λ c u k some. keeps.calls c u k (kept.covered c u k some);
+  listed = subst (IsListed tables) (sym keeps.commits) kept.listed;
+  climb = subst (λ ws. Climb 0 ws last) (sym keeps.commits) kept.climb;
+}
 
 -- Several writes
 
@@ -181,7 +202,7 @@ module _ (fate : Fate) (call : ℕ) (old new : List Entries) (rise : AllRise old
   settled_rest : (other : ℕ) → (call ≡ other → ⊥) → own_in other new ≡ own_in other old
   settled_rest other ne = own_same other new old change.size (change.rising rise) rise (λ u k. ap (λ v. own_of other v.own) (change.at u k) ∙ settled_others fate call other (versions_at old u k) ne)
 
-  settled_covered : (spots now : Spots) → IsCovered old spots → ((other : ℕ) → spots_of now other ≡ cond (call == other) [] (spots_of spots other)) → IsCovered new now
+  settled_covered : (spots now : Noted) → IsCovered old spots → ((other : ℕ) → spots_of now other ≡ cond (call == other) [] (spots_of spots other)) → IsCovered new now
   settled_covered spots now covered are c u k some =
       let here : is_some (own_of c (settled fate call (versions_at old u k)).own) ≡ true = subst (λ v. is_some (own_of c v.own) ≡ true) (change.at u k) some in
       elim (cases_Bool (call == c)) [
@@ -205,11 +226,13 @@ all_dropped call old new rise change last low = record {
   own = settled_own Gone call old.tables new.tables rise change;
 }
 
-pub dropped_kept : (call last : ℕ) (old new : List Entries) (spots now : Spots) → IsKept old spots last → AllChanged (settled Gone call) old new → ((other : ℕ) → spots_of now other ≡ cond (call == other) [] (spots_of spots other)) → IsKept new now last
-dropped_kept call last old new spots now kept change are = record {
+pub dropped_kept : (call last : ℕ) (old new : List Entries) (spots now : Noted) → IsKept old spots last → AllChanged (settled Gone call) old new → ((other : ℕ) → spots_of now other ≡ cond (call == other) [] (spots_of spots other)) → now.commits ≡ spots.commits → IsKept new now last
+dropped_kept call last old new spots now kept change are same = record {
   rising = change.rising kept.rising;
   numbers = λ u k. subst (IsNext (last + 1)) (sym (change.at u k)) (kept.numbers u k);
   covered = settled_covered Gone call old new kept.rising change spots now kept.covered are;
+  listed = listed_still old new spots.commits now.commits (λ u k. ap (λ v. v.commits) (change.at u k)) same kept.listed;
+  climb = subst (λ ws. Climb 0 ws last) (sym same) kept.climb;
 }
 
 -- the last commit left the newest row
@@ -253,47 +276,38 @@ all_stamped call n old new rise numbers lt change last low = record {
   low = low;
 }
 
-pub stamped_kept : (call n last : ℕ) (old new : List Entries) (spots now : Spots) → IsKept old spots last → last < n → AllChanged (settled (Commits n) call) old new → ((other : ℕ) → spots_of now other ≡ cond (call == other) [] (spots_of spots other)) → IsKept new now n
-stamped_kept call n last old new spots now kept lt change are = record {
+-- a commit is noted where its call's keys were
+stamped_listed : (call n t : ℕ) (key : List Value) (v : Versions) (ws : List Written) (o : Option (List Spot)) → (is_some (own_of call v.own) ≡ true → HasSpot t key (spots_in o)) → All (λ c. HasEntry c.number t key ws) v.commits
+    → All (λ c. HasEntry c.number t key (ws ++ written_at n o)) (stamped call n v).commits
+stamped_listed call n t key v ws o covered h = by (own_of call v.own) refl
+  where
+    old : All (λ c. HasEntry c.number t key (ws ++ written_at n o)) v.commits
+    old = All-weaker (λ c. HasEntry c.number t key ws) (λ c. HasEntry c.number t key (ws ++ written_at n o)) (λ c e. entry_left c.number t key ws (written_at n o) e) v.commits h
+
+    by : (p : Option Patch) → own_of call v.own ≡ p → All (λ c. HasEntry c.number t key (ws ++ written_at n o)) (stamped_by p call n v).commits
+    by None e = old
+    by (Some patch) e = All-push (λ c. HasEntry c.number t key (ws ++ written_at n o)) v.commits (record { number = n; row = patched patch (newest_row v) }) old (entry_last n t key ws o (covered (ap is_some e)))
+
+pub stamped_kept : (call n last : ℕ) (old new : List Entries) (spots now : Noted) → IsKept old spots last → last < n → AllChanged (settled (Commits n) call) old new → ((other : ℕ) → spots_of now other ≡ cond (call == other) [] (spots_of spots other)) → now.commits ≡ spots.commits ++ written_at n (noted_for spots call) → IsKept new now n
+stamped_kept call n last old new spots now kept lt change are more = record {
   rising = change.rising kept.rising;
   numbers = λ u k. subst (IsNext (n + 1)) (sym (change.at u k)) (stamped_numbers call n last (versions_at old u k) (kept.numbers u k) lt);
   covered = settled_covered (Commits n) call old new kept.rising change spots now kept.covered are;
+  listed = λ u k.
+      subst (λ ws. All (λ c. HasEntry c.number u k ws) (versions_at new u k).commits) (sym more)
+      (subst (λ v. All (λ c. HasEntry c.number u k (spots.commits ++ written_at n (noted_for spots call))) v.commits) (sym (change.at u k))
+      (stamped_listed call n u k (versions_at old u k) spots.commits (noted_for spots call) (kept.covered call u k) (kept.listed u k)));
+  climb = subst (λ ws. Climb 0 ws n) (sym more) (climb_push 0 last n spots.commits (noted_for spots call) kept.climb (omega (arith, lt)));
 }
 
 -- Old versions are forgotten
 
-module _ (low : ℕ) (old new : List Entries) (rise : AllRise old) (change : AreCollected low (length old) old new) where
-  collected_row : (n u : ℕ) (k : List Value) → low ≤ n → row_at (versions_at new u k) n ≡ row_at (versions_at old u k) n
-  collected_row n u k le = elim (cases_lt u (length old)) [
-    | inl lt ↦ let c = change.first u k lt in ap (λ v. row_at v n) c.0 ∙ c.1 n le
-    | inr past ↦ ap (λ es. row_at (versions_of es k) n) (change.rest u past)
-  ]
-
-  collected_own : (call u : ℕ) (k : List Value) → own_of call (versions_at new u k).own ≡ own_of call (versions_at old u k).own
-  collected_own call u k = elim (cases_lt u (length old)) [
-    | inl lt ↦ ap (λ v. own_of call v.own) (change.first u k lt).0
-    | inr past ↦ ap (λ es. own_of call (versions_of es k).own) (change.rest u past)
-  ]
-
-  collected_numbers : (last : ℕ) → AreUpTo last old → AreUpTo last new
-  collected_numbers last h u k = elim (cases_lt u (length old)) [
-    | inl lt ↦ subst (IsNext (last + 1)) (sym (change.first u k lt).0) (All-filter (λ c. nat_lt low c.number) (λ c. c.number < last + 1) (versions_at old u k).commits (h u k))
-    | inr past ↦ subst (λ es. IsNext (last + 1) (versions_of es k)) (sym (change.rest u past)) (h u k)
-  ]
-
-pub all_raised : (low : ℕ) (old new : Versioned) → AllRise old.tables → AreCollected low (length old.tables) old.tables new.tables → new.last ≡ old.last → new.low ≡ low → HasRaised low old new
-all_raised low old new rise change last is = record {
-  database = λ n le. database_same n n new.tables old.tables change.size (change.rising rise) rise (λ u k. collected_row low old.tables new.tables rise change n u k le);
-  own = λ call. own_same call new.tables old.tables change.size (change.rising rise) rise (collected_own low old.tables new.tables rise change call);
+pub all_raised : (low : ℕ) (old new : Versioned) → AllRise old.tables → AreCollected low old.tables new.tables → new.last ≡ old.last → new.low ≡ low → HasRaised low old new
+all_raised low old new rise c last is = record {
+  database = λ n le. database_same n n new.tables old.tables c.versions.size (c.versions.rising rise) rise (λ u k. c.rows u k n le);
+  own = λ call. own_same call new.tables old.tables c.versions.size (c.versions.rising rise) rise (λ u k. ap (λ v. own_of call v.own) (c.versions.at u k));
   last = last;
   low = is;
-}
-
-pub raised_kept : (low last : ℕ) (old new : List Entries) (spots : Spots) → IsKept old spots last → AreCollected low (length old) old new → IsKept new spots last
-raised_kept low last old new spots kept change = record {
-  rising = change.rising kept.rising;
-  numbers = collected_numbers low old new kept.rising change last kept.numbers;
-  covered = λ c u k some. kept.covered c u k (ap is_some (sym (collected_own low old new kept.rising change c u k)) ∙ some);
 }
 
 -- Nothing was changed under any key
@@ -316,14 +330,16 @@ all_same t key old new rise change last low = record {
   own = λ call. own_same call new.tables old.tables change.size (change.rising rise) rise (λ u k. ap (λ v. own_of call v.own) (same_at t key old.tables new.tables rise change u k));
 }
 
-pub same_kept : (t last : ℕ) (key : List Value) (old new : List Entries) (spots now : Spots) → IsKept old spots last → AreChanged t key (λ v. v) old new → KeepsSpots spots now → IsKept new now last
+pub same_kept : (t last : ℕ) (key : List Value) (old new : List Entries) (spots now : Noted) → IsKept old spots last → AreChanged t key (λ v. v) old new → KeepsSpots spots now → IsKept new now last
 same_kept t last key old new spots now kept change keeps = record {
   rising = change.rising kept.rising;
   numbers = λ u k. subst (IsNext (last + 1)) (sym (same_at t key old new kept.rising change u k)) (kept.numbers u k);
-  covered = λ c u k some. keeps c u k (kept.covered c u k (subst (λ v. is_some (own_of c v.own) ≡ true) (same_at t key old new kept.rising change u k) some));
+  covered = λ c u k some. keeps.calls c u k (kept.covered c u k (subst (λ v. is_some (own_of c v.own) ≡ true) (same_at t key old new kept.rising change u k) some));
+  listed = listed_still old new spots.commits now.commits (λ u k. ap (λ v. v.commits) (same_at t key old new kept.rising change u k)) keeps.commits kept.listed;
+  climb = subst (λ ws. Climb 0 ws last) (sym keeps.commits) kept.climb;
 }
 
-pub put_any : {E : Type 0} (r : Result (Unit {0}) E) (t call last : ℕ) (key : List Value) (patch : Patch) (old new : List Entries) (was es : Entries) (spots now : Spots) → IsKept old spots last → t < length old → was ≡ entries_at old t
+pub put_any : {E : Type 0} (r : Result (Unit {0}) E) (t call last : ℕ) (key : List Value) (patch : Patch) (old new : List Entries) (was es : Entries) (spots now : Noted) → IsKept old spots last → t < length old → was ≡ entries_at old t
     → OnOk r (IsChanged key (with_patch call patch) was es) → OnErr r (IsChanged key (λ v. v) was es) → KeepsSpots spots now → OnOk r (is_some (own_of call (versions_of was key).own) ≡ false → HasSpot t key (spots_of now call))
     → new ≡ slice_set old t es → IsKept new now last
 put_any (Ok x) t call last key patch old new was es spots now kept lt is ok err keeps noted set =

@@ -14,8 +14,7 @@ use Rattle.mv_table.proofs.Picking.{put_last}
 use Rattle.mv_table.proofs.Storing.{taken_below}
 use Rattle.mv_chain.specs.Versions.{Versions, own_of}
 use Rattle.mv_store.specs.Stored.{Entries, held, table_at, writes_from}
-use Rattle.mv_store.specs.declared.spots.Spots.{Spots}
-use Rattle.mv_store.specs.Kept.{versions_in, versions_of, versions_at, AllRise, IsKept}
+use Rattle.mv_store.specs.Kept.{versions_in, versions_of, versions_at, AllRise, Noted, HasEntry, Climb, IsKept}
 use Rattle.mv_store.specs.Opened.{opened}
 use Rattle.mv_store.proofs.Keys.{nil_rises}
 use Rattle.mv_store.proofs.Own.{own_none}
@@ -91,9 +90,14 @@ all_new (x ∷ xs) (suc t) key = all_new xs t key
 pub opened_own : (call : ℕ) (db : List (List Keyed)) → AllRise (map opened db) → writes_from 0 (held (λ v. own_of call v.own) (map opened db)) ≡ []
 opened_own call db r = own_none call (map opened db) r (λ t key. ap (own_of call) (all_new db t key).1)
 
-pub opened_kept : (db : List (List Keyed)) (tables : List Entries) (spots : Spots) → tables ≡ map opened db → AllRise tables → IsKept tables spots 0
-opened_kept db tables spots is rise = record {
+pub opened_kept : (db : List (List Keyed)) (tables : List Entries) (spots : Noted) → tables ≡ map opened db → AllRise tables → spots.commits ≡ [] → IsKept tables spots 0
+opened_kept db tables spots is rise none = record {
   rising = rise;
-  numbers = λ t key. subst (λ cs. All (λ c. c.number < 0 + 1) cs) (sym (ap (λ ts. (versions_at ts t key).commits) is ∙ (all_new db t key).0)) (All-nil (λ c. c.number < 0 + 1));
+  numbers = λ t key. subst (λ cs. All (λ c. c.number < 0 + 1) cs) (sym (no_commits t key)) (All-nil (λ c. c.number < 0 + 1));
   covered = λ call t key some. absurd (no_truth (sym (ap is_some (ap (own_of call) (ap (λ ts. (versions_at ts t key).own) is ∙ (all_new db t key).1))) ∙ some));
+  listed = λ t key. subst (λ cs. All (λ c. HasEntry c.number t key spots.commits) cs) (sym (no_commits t key)) (All-nil (λ c. HasEntry c.number t key spots.commits));
+  climb = subst (λ ws. Climb 0 ws 0) (sym none) (omega arith);
 }
+  where
+    no_commits : (t : ℕ) (key : List Value) → (versions_at tables t key).commits ≡ []
+    no_commits t key = ap (λ ts. (versions_at ts t key).commits) is ∙ (all_new db t key).0

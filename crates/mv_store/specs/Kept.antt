@@ -1,19 +1,22 @@
 -- Defines how a store is kept, key by key. This project's own.
-use Rattle.std.specs.Prelude.{◌≡◌, ◌+◌, ◌<◌, ◌≤◌, ◌==◌, ◌&&◌, ◌∷◌, ⊤, ℕ, Bool, true, List, [], Option, Some, None, OnSome, length, slice_index_or, if◌then◌else◌}
+use Rattle.std.specs.Prelude.{◌≡◌, ◌+◌, ◌≤◌, ◌==◌, ◌&&◌, ◌∷◌, ⊤, ℕ, Bool, true, false, List, [], Option, Some, None, All, OnSome, length, nat_le, slice_index_or, if◌then◌else◌}
 use Rattle.std.specs.List.{list_any}
 use Rattle.std.specs.Option.{is_some}
 use Rattle.std.specs.Ordering.{is_eq, nat_cmp}
-use Rattle.std.specs.BTreeMap.{get}
+use Rattle.std.specs.BTreeMap.{is_at}
+use Rattle.std.specs.Map.{lookup}
 use Rattle.mv_values.specs.declared.value.Value.{Value}
 use Rattle.mv_values.specs.declared.patch.Patch.{Patch}
 use Rattle.mv_values.specs.Order.{key_order}
 use Rattle.mv_table.specs.Entries.{item_of, KeysRise}
-use Rattle.mv_chain.specs.Versions.{Versions, IsNext, blank, own_of, without, with_own, stamped, collected, is_blank, row_at}
+use Rattle.mv_chain.specs.Versions.{Versions, IsNext, blank, own_of, without, with_own, stamped, collected, row_at}
 use Rattle.mv_store.specs.Stored.{Entries}
 use Rattle.mv_store.specs.declared.spots.Spot.{Spot}
-use Rattle.mv_store.specs.declared.spots.Spots.{Spots}
-use Rattle.mv_store.specs.declared.fate.Fate.{Fate}
-use Rattle.mv_store.specs.declared.fate.Fate.TheVariants.{Commit, Gone}
+use Rattle.mv_store.specs.declared.spots.Written.{Written}
+use Rattle.mv_store.specs.declared.change.Fate.{Fate}
+use Rattle.mv_store.specs.declared.change.Fate.TheVariants.{Commit, Gone}
+use Rattle.mv_store.specs.declared.change.Change.{Change}
+use Rattle.mv_store.specs.declared.change.Change.TheVariants.{Settle, Collect}
 
 -- Versions under a key
 
@@ -55,13 +58,21 @@ pub record AllChanged (f : Versions → Versions) (old new : List Entries) : Typ
 
 -- Where calls have written
 
+-- the keys that each call has written and not committed, and those of the commits that aren't collected
+pub record Noted : Type 0 where
+  pub calls : List (ℕ × List Spot)
+  pub commits : List Written
+
 abbrev pub spots_in : Option (List Spot) → List Spot
 spots_in None = []
 spots_in (Some spots) = spots
 
--- the keys that are noted for a call
-abbrev pub spots_of : Spots → ℕ → List Spot
-spots_of s call = spots_in (get nat_cmp s.by_call call)
+-- the keys that are noted for a call, if there are any
+abbrev pub noted_for : Noted → ℕ → Option (List Spot)
+noted_for s call = lookup (is_at (nat_cmp call)) s.calls
+
+abbrev pub spots_of : Noted → ℕ → List Spot
+spots_of s call = spots_in (noted_for s call)
 
 abbrev pub is_spot : ℕ → List Value → Spot → Bool
 is_spot t key spot = (spot.table == t) && is_eq (key_order spot.key key)
@@ -71,22 +82,51 @@ abbrev pub HasSpot : ℕ → List Value → List Spot → Type 0
 HasSpot t key spots = list_any (is_spot t key) spots ≡ true
 
 -- all noted keys are still noted
-abbrev pub KeepsSpots : Spots → Spots → Type 0
-KeepsSpots old new = (call t : ℕ) (key : List Value) → HasSpot t key (spots_of old call) → HasSpot t key (spots_of new call)
+pub record KeepsSpots (old new : Noted) : Type 0 where
+  pub calls : (call t : ℕ) (key : List Value) → HasSpot t key (spots_of old call) → HasSpot t key (spots_of new call)
+  pub commits : new.commits ≡ old.commits
+
+-- the keys of a call, as those of a commit
+abbrev pub written_at : ℕ → Option (List Spot) → List Written
+written_at n None = []
+written_at n (Some spots) = record { commit = n; spots = spots } ∷ []
+
+abbrev pub is_entry : ℕ → ℕ → List Value → Written → Bool
+is_entry n t key w = (w.commit == n) && list_any (is_spot t key) w.spots
+
+-- a key is among those of commit n
+abbrev pub HasEntry : ℕ → ℕ → List Value → List Written → Type 0
+HasEntry n t key ws = list_any (is_entry n t key) ws ≡ true
+
+-- the first commit has a number up to low
+abbrev pub is_due : ℕ → List Written → Bool
+is_due low [] = false
+is_due low (w ∷ ws) = nat_le w.commit low
+
+-- the numbers of these commits don't fall, from the first number to the last
+abbrev pub Climb : ℕ → List Written → ℕ → Type 0
+Climb first [] last = first ≤ last
+Climb first (w ∷ ws) last = (first ≤ w.commit) × Climb w.commit ws last
 
 -- each key that a call has written is noted for it
-abbrev pub IsCovered : List Entries → Spots → Type 0
+abbrev pub IsCovered : List Entries → Noted → Type 0
 IsCovered tables spots = (call t : ℕ) (key : List Value) → is_some (own_of call (versions_at tables t key).own) ≡ true → HasSpot t key (spots_of spots call)
+
+-- the key of each commit that is stored is noted for it
+abbrev pub IsListed : List Entries → List Written → Type 0
+IsListed tables ws = (t : ℕ) (key : List Value) → All (λ c. HasEntry c.number t key ws) (versions_at tables t key).commits
 
 -- no commit has a number above the last
 abbrev pub AreUpTo : ℕ → List Entries → Type 0
 AreUpTo last tables = (t : ℕ) (key : List Value) → IsNext (last + 1) (versions_at tables t key)
 
 -- the invariant of the parts of a store
-pub record IsKept (tables : List Entries) (spots : Spots) (last : ℕ) : Type 0 where
+pub record IsKept (tables : List Entries) (spots : Noted) (last : ℕ) : Type 0 where
   pub rising : AllRise tables
   pub numbers : AreUpTo last tables
   pub covered : IsCovered tables spots
+  pub listed : IsListed tables spots.commits
+  pub climb : Climb 0 spots.commits last
 
 -- Changes
 
@@ -104,6 +144,20 @@ abbrev pub MaySettle : Fate → ℕ → Versions → Type 0
 MaySettle (Commit n) call v = OnSome (own_of call v.own) (IsNext n v)
 MaySettle Gone call v = ⊤
 
+-- a change of versions
+abbrev pub changed : Change → Versions → Versions
+changed (Settle call fate) v = settled fate call v
+changed (Collect low) v = collected low v
+
+abbrev pub MayChange : Change → Versions → Type 0
+MayChange (Settle call fate) v = MaySettle fate call v
+MayChange (Collect low) v = ⊤
+
+-- each row from the number of a collection on is unchanged
+abbrev pub KeepsRows : Change → Versions → Versions → Type 0
+KeepsRows (Settle call fate) old new = ⊤
+KeepsRows (Collect low) old new = (n : ℕ) → low ≤ n → row_at new n ≡ row_at old n
+
 -- f at each of these spots, one after another
 abbrev pub done_at : (Versions → Versions) → List Spot → ℕ → List Value → Versions → Versions
 done_at f [] t key v = v
@@ -114,17 +168,7 @@ pub record AreDone (f : Versions → Versions) (spots : List Spot) (old new : Li
   pub at : (u : ℕ) (key : List Value) → versions_at new u key ≡ done_at f spots u key (versions_at old u key)
   pub rising : AllRise old → AllRise new
 
--- what is left of collected versions: none if they are blank
-abbrev pub left_of : ℕ → Versions → Option Versions
-left_of low v = if is_blank (collected low v) then None else Some (collected low v)
-
--- each row from low on is unchanged
-abbrev pub ReadsStay : ℕ → Versions → Type 0
-ReadsStay low v = (n : ℕ) → low ≤ n → row_at (collected low v) n ≡ row_at v n
-
--- the first tables were collected
-pub record AreCollected (low t : ℕ) (old new : List Entries) : Type 0 where
-  pub size : length new ≡ length old
-  pub first : (u : ℕ) (key : List Value) → u < t → (versions_at new u key ≡ collected low (versions_at old u key)) × ReadsStay low (versions_at old u key)
-  pub rest : (u : ℕ) → t ≤ u → entries_at new u ≡ entries_at old u
-  pub rising : AllRise old → AllRise new
+-- all versions were collected, and each row from low on is unchanged
+pub record AreCollected (low : ℕ) (old new : List Entries) : Type 0 where
+  pub versions : AllChanged (collected low) old new
+  pub rows : (u : ℕ) (key : List Value) → KeepsRows (Collect low) (versions_at old u key) (versions_at new u key)

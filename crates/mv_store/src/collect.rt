@@ -1,36 +1,20 @@
 //! Drops old versions.
 
-ghost use Rattle.std.specs.Prelude.{◌≡◌, length};
-ghost use Rattle.mv_store.specs.Kept.{left_of, AllRise, AreCollected, ReadsStay};
+ghost use Rattle.std.specs.Prelude.{ℕ};
+ghost use Rattle.mv_store.specs.Kept.{IsKept, AreCollected};
 
+use crate::change::{Change, change_all};
+use crate::spots::Spots;
 use mv_chain::chain::Chain;
-use mv_table::key_map::{Change, KeyMap};
+use mv_table::key_map::KeyMap;
 
-/// Drops the rows before a commit.
-#[derive(Clone, Copy)]
-struct Collecting {
-    low: u32,
-}
-
-impl Change<Chain> for Collecting {
-    ghost left = { λ c v. left_of c.low v };
-
-    ghost told = { λ c v. ReadsStay c.low v };
-
-    fn change(&self, item: &mut Chain) -> bool {
-        item.collect(self.low);
-        !item.is_blank()
-    }
-}
-
-/// Drops the rows of all tables before commit `low`, and the keys that have no versions left. It allocates no memory.
-/// Takes time linear in the number of rows and of the commits that it drops.
-pub(crate) fn collect_all(tables: &mut Vec<KeyMap<Chain>>, low: u32)
-    requires { AllRise tables.old.items }
-    ensures { AreCollected low (length tables.old.items) tables.old.items tables.new.items }
+/// Drops the rows of all tables before commit `low`, and the keys that have no versions left. It visits only the keys
+/// that the commits up to `low` have written, and forgets them. It allocates no memory. Takes time logarithmic in the
+/// number of rows for each of these keys.
+pub(crate) fn collect_all(tables: &mut Vec<KeyMap<Chain>>, spots: &mut Spots, low: u32)
+    ensures { (last : ℕ) → IsKept tables.old.items spots.old last → AreCollected low tables.old.items tables.new.items × IsKept tables.new.items spots.new last }
 {
-    let collecting = Collecting { low };
-    for t in 0..tables.len() {
-        tables[t].change_all(&collecting);
+    while let Some(written) = spots.take_due(low) {
+        change_all(tables, written.spots.as_slice(), Change::Collect(low));
     }
 }

@@ -1,14 +1,15 @@
 //! The keys that calls have written.
 
-ghost use Rattle.std.specs.Prelude.{◌≡◌, ℕ, [], OnOk, List as Seq, if◌then◌else◌, ◌==◌};
-ghost use Rattle.mv_values.specs.declared.value.Value.{Value};
-ghost use Rattle.mv_store.specs.Kept.{spots_in, spots_of, HasSpot, KeepsSpots};
+ghost use Rattle.std.specs.Prelude.{◌≡◌, ◌≤◌, ◌++◌, ◌∷◌, ℕ, [], false, OnOk, IfSome, IfNone, if◌then◌else◌, ◌==◌};
+ghost use Rattle.std.specs.Option.{option_copied};
+ghost use Rattle.mv_store.specs.Kept.{spots_of, noted_for, written_at, is_due, HasSpot, KeepsSpots};
 
 use mv_values::list::List;
 use mv_values::memory::NoMemory;
 use mv_values::value::Key;
 use std::alloc::Global;
-use std::collections::BTreeMap;
+use std::collections::{BTreeMap, VecDeque};
+use std::marker::Model;
 
 /// A key of a table.
 #[derive(Drop)]
@@ -17,19 +18,41 @@ pub(crate) struct Spot {
     pub(crate) key: Key,
 }
 
-/// The keys of each call's uncommitted writes.
+/// The keys that a commit has written.
+#[derive(Drop)]
+pub(crate) struct Written {
+    pub(crate) commit: u32,
+    pub(crate) spots: List<Spot>,
+}
+
+/// The keys of each call's uncommitted writes, and those of each commit that isn't collected. There is room to make each
+/// call a commit.
 #[derive(Drop)]
 pub(crate) struct Spots {
     by_call: BTreeMap<u32, List<Spot>>,
+    by_commit: VecDeque<Written>,
+}
+
+impl Model for Spots {
+    ghost use Rattle.std.specs.Prelude.{◌≤◌, ◌+◌, length};
+    ghost use Rattle.std.specs.VecDeque.{deque_capacity};
+    ghost use Rattle.mv_store.specs.Kept.{Noted};
+
+    ghost Value = { Noted };
+
+    ghost view = { λ s. record { calls = s.by_call.entries; commits = s.by_commit.items } };
+
+    ghost invariant = { λ s. length s.by_call.entries + length s.by_commit.items ≤ deque_capacity s.by_commit };
 }
 
 impl Spots {
     /// Returns an empty set of keys. It allocates no memory.
     pub(crate) fn new(alloc: Global) -> Spots
-        ensures { (call : ℕ) → spots_of result call ≡ [] }
+        ensures { result ≡ record { calls = []; commits = [] } }
     {
         Spots {
             by_call: BTreeMap::new(alloc),
+            by_commit: VecDeque::new(alloc),
         }
     }
 
@@ -41,18 +64,59 @@ impl Spots {
         if let Some(spots) = self.by_call.get_mut(&call) {
             return spots.push(spot);
         }
+        self.by_commit.reserve(self.by_call.len() + 1)?;
         let mut spots = List::new(alloc);
         spots.push(spot)?;
         self.by_call.insert(call, spots)?;
         Ok(())
     }
 
-    /// Removes the keys of a call and returns them. It allocates no memory. Takes time logarithmic in the number of
-    /// calls.
-    pub(crate) fn take(&mut self, call: u32) -> Option<List<Spot>>
-        ensures spots { spots_in result ≡ spots_of self.old call }
-        ensures others { (other : ℕ) → spots_of self.new other ≡ (if call == other then [] else spots_of self.old other) }
+    /// Returns the keys that are noted for a call. Takes time logarithmic in the number of calls.
+    pub(crate) fn of_call(&self, call: u32) -> Option<&List<Spot>>
+        ensures { option_copied result ≡ noted_for self.now call }
     {
-        self.by_call.remove(&call)
+        self.by_call.get(&call)
+    }
+
+    /// Removes the keys of a call. Takes time logarithmic in the number of calls.
+    pub(crate) fn forget(&mut self, call: u32)
+        ensures calls { (other : ℕ) → spots_of self.new other ≡ (if call == other then [] else spots_of self.old other) }
+        ensures commits { self.new.commits ≡ self.old.commits }
+    {
+        self.by_call.remove(&call);
+    }
+
+    /// Makes the keys of a call those of commit n. It allocates no memory. Takes time logarithmic in the number of
+    /// calls.
+    pub(crate) fn commit(&mut self, call: u32, n: u32)
+        ensures calls { (other : ℕ) → spots_of self.new other ≡ (if call == other then [] else spots_of self.old other) }
+        ensures commits { self.new.commits ≡ self.old.commits ++ written_at n (noted_for self.old call) }
+    {
+        if let Some(spots) = self.by_call.remove(&call) {
+            self.by_commit
+                .push_back_reserved(Written { commit: n, spots });
+        }
+    }
+
+    /// Whether the first commit has a number up to `low`.
+    fn is_due(&self, low: u32) -> bool
+        ensures { result ≡ is_due low self.now.commits }
+    {
+        match self.by_commit.front() {
+            Some(written) => written.commit <= low,
+            None => false,
+        }
+    }
+
+    /// Removes the first commit and returns its keys, if its number is at most `low`. It allocates no memory.
+    pub(crate) fn take_due(&mut self, low: u32) -> Option<Written>
+        ensures calls { self.new.calls ≡ self.old.calls }
+        ensures due { IfSome result (λ written. (written.commit ≤ low) × (self.old.commits ≡ written ∷ self.new.commits)) }
+        ensures rest { IfNone result ((self.new.commits ≡ self.old.commits) × (is_due low self.old.commits ≡ false)) }
+    {
+        if !self.is_due(low) {
+            return None;
+        }
+        self.by_commit.pop_front()
     }
 }

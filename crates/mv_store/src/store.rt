@@ -8,11 +8,10 @@ ghost use Rattle.mv_view.specs.declared.view.Refused.TheVariants.{Stale, NoMemor
 ghost use Rattle.mv_store.specs.Stored.{database_at, own_writes, IsLike};
 ghost use Rattle.mv_store.specs.Changes.{IsAsBefore, HasPut, HasDropped, HasStamped, HasRaised};
 
+use crate::change::{Fate, settle_noted};
 use crate::collect::collect_all;
-use crate::fate::Fate;
 use crate::find::{copy_tables, find, find_row};
 use crate::open::open_all;
-use crate::settle::settle_noted;
 use crate::spots::Spots;
 use crate::write::put_write;
 use mv_chain::chain::Chain;
@@ -185,8 +184,9 @@ impl Store {
         requires { self.old.last < n }
         ensures { HasStamped call n self.old self.new }
     {
-        let noted = self.spots.take(call);
+        let noted = self.spots.of_call(call);
         settle_noted(&mut self.tables, noted, call, Fate::Commit(n));
+        self.spots.commit(call, n);
         self.last = n;
     }
 
@@ -194,18 +194,19 @@ impl Store {
     pub fn drop_of(&mut self, call: u32)
         ensures { HasDropped call self.old self.new }
     {
-        let noted = self.spots.take(call);
+        let noted = self.spots.of_call(call);
         settle_noted(&mut self.tables, noted, call, Fate::Gone);
+        self.spots.forget(call);
     }
 
     /// Drops the tables before commit `low`. The number must not be below that of an earlier call. Reads from `low` on
-    /// and uncommitted writes are unaffected. It allocates no memory. Takes time linear in the number of rows and of
-    /// the commits that it drops.
+    /// and uncommitted writes are unaffected. It allocates no memory. Takes time linear in the number of writes of the
+    /// commits that it drops, and logarithmic in the number of rows for each.
     pub fn raise(&mut self, low: u32)
         requires { self.old.low ≤ low }
         ensures { HasRaised low self.old self.new }
     {
-        collect_all(&mut self.tables, low);
+        collect_all(&mut self.tables, &mut self.spots, low);
         self.low = low;
     }
 }

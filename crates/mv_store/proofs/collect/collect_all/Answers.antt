@@ -1,9 +1,27 @@
-use Rattle.std.proofs.Common.{refl, rules}
-use Rattle.mv_store.proofs.Collecting.{one_collected}
-use Rattle.mv_store.proofs.Rows.{at_place}
+use Rattle.std.proofs.Common.{sym, subst}
+use Rattle.mv_store.specs.declared.change.Change.TheVariants.{Collect}
+use Rattle.mv_store.specs.Kept.{IsKept, changed, AreDone}
+use Rattle.mv_store.proofs.Collecting.{none_collected, one_collected, one_kept, all_collected, noted_same}
 use Rattle.mv_store.proofs.collect.collect_all.Goals as goal
 
-pub loop-t-preserved : goal.loop-t-preserved
-loop-t-preserved c =
-    one_collected c.args.low c.loop-t.t c.args.tables.now.items c.loop-t.tables.items _ c.index_mut.result.now c.change_all.new.self c.requires
-    (search rules) c.loop-t.invariant (at_place c.loop-t.tables.items c.loop-t.t c.index_mut.result.now (search rules) c.index_mut.ensures.value) c.change_all.ensures.items c.change_all.ensures.told c.change_all.ensures.rising refl
+pub loop-written-init : goal.loop-written-init
+loop-written-init c = λ last kept. (none_collected c.args.low c.args.tables.now.items, kept)
+
+pub loop-written-preserved : goal.loop-written-preserved
+loop-written-preserved c = λ last kept.
+    let w = c.in-Some.written in
+    let now = c.loop-written.tables.items in
+    let new = c.change_all.new.tables.items in
+    let before = c.loop-written.invariant last kept in
+    let done = subst (λ ss. AreDone (changed (Collect c.args.low)) ss now new) c.as_slice.ensures c.change_all.ensures.versions in (
+      one_collected c.args.low now new w done c.args.tables.now.items c.change_all.ensures.rows before.0,
+      one_kept c.args.low now new w done c.loop-written.spots c.take_due.new.self last before.1 c.in-Some.ensures.calls c.in-Some.ensures.due.0 c.in-Some.ensures.due.1,
+    )
+
+pub returns : goal.returns
+returns c = λ last kept.
+    let now = c.loop-written.tables.items in
+    let before = c.loop-written.invariant last kept in (
+      all_collected c.args.low last c.args.tables.now.items now c.loop-written.spots before.1 c.in_default.ensures.rest.1 before.0,
+      subst (λ s. IsKept now s last) (sym (noted_same c.take_due.new.self c.loop-written.spots c.in_default.ensures.calls c.in_default.ensures.rest.0)) before.1,
+    )

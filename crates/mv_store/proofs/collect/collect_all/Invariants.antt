@@ -1,5 +1,10 @@
-use Rattle.mv_store.specs.Kept.{AreCollected}
+use Rattle.std.proofs.Common.{ℕ, length}
+use Rattle.mv_store.specs.Kept.{IsKept}
+use Rattle.mv_store.proofs.Collecting.{IsUnderway}
 use Rattle.mv_store.proofs.collect.collect_all.Given as goal
 
-abbrev pub invariant-loop-t : goal.invariant-loop-t
-invariant-loop-t l = AreCollected l.low l.t l.fn.tables.items l.tables.items
+abbrev pub invariant-loop-written : goal.invariant-loop-written
+invariant-loop-written l = (last : ℕ) → IsKept l.fn.tables.items l.fn.spots last → IsUnderway l.low l.fn.tables.items l.tables.items × IsKept l.tables.items l.spots last
+
+abbrev pub decreases-loop-written : goal.decreases-loop-written
+decreases-loop-written l = length l.spots.commits

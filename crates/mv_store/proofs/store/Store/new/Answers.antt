@@ -6,7 +6,7 @@ use Rattle.mv_store.proofs.Opening.{opened_kept, opened_all, opened_own}
 use Rattle.mv_store.proofs.store.Store.new.Goals as goal
 
 pub invariant_of-result : goal.invariant_of-result
-invariant_of-result c = opened_kept c.args.opening.now c.in_ok-tables.tables.items _ c.in_ok-tables.ensures.opened c.in_ok-tables.ensures.rising
+invariant_of-result c = opened_kept c.args.opening.now c.in_ok-tables.tables.items _ c.in_ok-tables.ensures.opened c.in_ok-tables.ensures.rising (ap (λ s. s.commits) c.new.ensures)
 
 pub returns-clause-database : goal.returns-clause-database
 returns-clause-database c n = ap (map (table_at n)) c.in_ok-tables.ensures.opened ∙ opened_all n c.args.opening.now

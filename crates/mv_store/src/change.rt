@@ -1,0 +1,125 @@
+//! Changes the versions under keys.
+
+ghost use Rattle.std.specs.Prelude.{◌≡◌, ℕ, true, List as Seq};
+ghost use Rattle.std.specs.Option.{option_copied};
+ghost use Rattle.mv_values.specs.declared.value.Value.{Value};
+ghost use Rattle.mv_chain.specs.Versions.{is_blank};
+ghost use Rattle.mv_store.specs.Kept.{versions_of, versions_at, spots_in, settled, MaySettle, changed, MayChange, KeepsRows, IsChanged, AreChanged, AreDone};
+
+use crate::spots::Spot;
+use mv_chain::chain::Chain;
+use mv_table::key_map::KeyMap;
+use mv_values::list::List;
+use mv_values::value::Key;
+
+/// Whether the patch of a call becomes a commit or is dropped.
+#[derive(Clone, Copy)]
+pub(crate) enum Fate {
+    Commit(u32),
+    Gone,
+}
+
+/// A change of the versions under a key.
+#[derive(Clone, Copy)]
+pub(crate) enum Change {
+    /// Settles the patch of a call.
+    Settle(u32, Fate),
+    /// Drops the rows before a commit.
+    Collect(u32),
+}
+
+/// Settles the patch of a call. It allocates no memory.
+fn settle(chain: &mut Chain, call: u32, fate: Fate)
+    requires { MaySettle fate call chain.old }
+    ensures { chain.new ≡ settled fate call chain.old }
+{
+    match fate {
+        Fate::Commit(n) => chain.stamp(call, n),
+        Fate::Gone => chain.drop_of(call),
+    }
+}
+
+/// Makes a change. It allocates no memory.
+fn make(chain: &mut Chain, change: Change)
+    requires { MayChange change chain.old }
+    ensures versions { chain.new ≡ changed change chain.old }
+    ensures rows { KeepsRows change chain.old chain.new }
+{
+    match change {
+        Change::Settle(call, fate) => settle(chain, call, fate),
+        Change::Collect(low) => chain.collect(low),
+    }
+}
+
+/// Changes the versions under a key of a table. Returns true only if they are blank then.
+fn change_item(table: &mut KeyMap<Chain>, key: &Key, to: Change) -> bool
+    requires { MayChange to (versions_of table.old key.now) }
+    ensures versions { IsChanged key.now (changed to) table.old table.new }
+    ensures rows { KeepsRows to (versions_of table.old key.now) (versions_of table.new key.now) }
+    ensures blank { result ≡ true → is_blank (versions_of table.new key.now) ≡ true }
+{
+    let Some(chain) = table.get_mut(key) else {
+        return false;
+    };
+    make(chain, to);
+    chain.is_blank()
+}
+
+/// Removes blank versions under a key of a table.
+fn remove_blank(table: &mut KeyMap<Chain>, key: &Key)
+    requires { is_blank (versions_of table.old key.now) ≡ true }
+    ensures { IsChanged key.now (λ v. v) table.old table.new }
+{
+    table.take(key);
+    let _len = table.len();
+}
+
+/// Changes the versions under a key of a table, and removes the key if they are blank then.
+fn change_under(table: &mut KeyMap<Chain>, key: &Key, to: Change)
+    requires { MayChange to (versions_of table.old key.now) }
+    ensures versions { IsChanged key.now (changed to) table.old table.new }
+    ensures rows { KeepsRows to (versions_of table.old key.now) (versions_of table.new key.now) }
+{
+    if change_item(table, key, to) {
+        remove_blank(table, key);
+    }
+}
+
+/// Changes the versions at a spot.
+fn change_at(tables: &mut Vec<KeyMap<Chain>>, spot: &Spot, to: Change)
+    requires { MayChange to (versions_at tables.old.items spot.now.table spot.now.key) }
+    ensures versions { AreChanged spot.now.table spot.now.key (changed to) tables.old.items tables.new.items }
+    ensures rows { KeepsRows to (versions_at tables.old.items spot.now.table spot.now.key) (versions_at tables.new.items spot.now.table spot.now.key) }
+{
+    let at = spot.table as usize;
+    if at < tables.len() {
+        change_under(&mut tables[at], &spot.key, to);
+    }
+}
+
+/// Changes the versions at these spots. It allocates no memory. Takes time logarithmic in the number of rows for each
+/// spot.
+pub(crate) fn change_all(tables: &mut Vec<KeyMap<Chain>>, spots: &[Spot], to: Change)
+    requires { (t : ℕ) (key : Seq Value) → MayChange to (versions_at tables.old.items t key) }
+    ensures versions { AreDone (changed to) spots.now tables.old.items tables.new.items }
+    ensures rows { (t : ℕ) (key : Seq Value) → KeepsRows to (versions_at tables.old.items t key) (versions_at tables.new.items t key) }
+{
+    for spot in spots {
+        change_at(tables, spot, to);
+    }
+}
+
+/// Settles the patches of a call at the spots that are noted for it.
+pub(crate) fn settle_noted(
+    tables: &mut Vec<KeyMap<Chain>>,
+    noted: Option<&List<Spot>>,
+    call: u32,
+    fate: Fate,
+)
+    requires { (t : ℕ) (key : Seq Value) → MaySettle fate call (versions_at tables.old.items t key) }
+    ensures { AreDone (settled fate call) (spots_in (option_copied noted.entry)) tables.old.items tables.new.items }
+{
+    if let Some(spots) = noted {
+        change_all(tables, spots.as_slice(), Change::Settle(call, fate));
+    }
+}
