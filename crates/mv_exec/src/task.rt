@@ -85,8 +85,9 @@ fn fresh_task(
     places: List<Place>,
     empty: bool,
 ) -> Task
-    requires { places ≡ first_place ∷ [] }
-    ensures { (env : Env) → variables ≡ at_beginning env → result ≡ fresh parameters env empty }
+    requires places { places ≡ first_place ∷ [] }
+    requires beginning { variables ≡ at_beginning variables.initial }
+    ensures { result ≡ fresh parameters variables.initial empty }
 {
     Task {
         parameters,
@@ -123,7 +124,8 @@ impl Task {
         ensures variables { IfOk result (λ t. t.variables.env ≡ entered procedure.now call.now) }
         ensures run { IfOk result (λ t. (tables : List TableInfo) (db : Tables) → run_of procedure.now tables t db ≡ recorded tables procedure.now call.now db) }
     {
-        let variables = Variables::new(alloc, variables_for(alloc, procedure, call)?)?;
+        let env = variables_for(alloc, procedure, call)?;
+        let variables = Variables::new(alloc, env)?;
         let empty = is_empty(procedure.body.as_slice());
         let mut places = List::new(alloc);
         places.push(before_all())?;
