@@ -20,7 +20,7 @@ use Rattle.mv_history.specs.declared.change.Change.{Change}
 use Rattle.mv_history.specs.Hits.{any_hits, touches}
 use Rattle.mv_history.specs.Kept.{Path, Placed, with_paths, is_path, at, front, path_at, is_kept, reads_stay, other_writes, is_untouched, stays_with, stays}
 use Rattle.mv_alike.proofs.Keeping.{Climbs}
-use Rattle.mv_alike.proofs.Placing.{path_is, its_all}
+use Rattle.mv_alike.proofs.Placing.{path_is, apart_back, its_all}
 use Rattle.mv_repair.specs.declared.walk.OldRun.{OldRun}
 use Rattle.mv_repair.specs.declared.walk.NewRun.{NewRun}
 use Rattle.mv_repair.specs.Walking.{is_before, is_there, writes_at, hits_in, is_touched, is_kept_by, reads_by, record_stays, next_stays, stays_at, IsOld, IsNew}
@@ -28,7 +28,7 @@ use Rattle.mv_recorded.proofs.Inverting.{each_join}
 use Rattle.mv_alike.proofs.Lasting.{each_map}
 use Rattle.mv_repair.proofs.Lists.{first_dropped, none_dropped, any_of_all}
 use Rattle.mv_repair.proofs.Placing.{many_placed, earlier_then, climbs_around}
-use Rattle.mv_repair.proofs.Marking.{apart_back, controller_is, definers_are}
+use Rattle.mv_repair.proofs.Marking.{controller_is, definers_are}
 use Rattle.mv_repair.proofs.Passing.{all_apart, old_lower}
 
 -- The old record of a path

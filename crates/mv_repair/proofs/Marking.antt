@@ -1,56 +1,23 @@
 -- Which new records keep old ones, and which old ones.
-use Rattle.std.proofs.Common.{◌≡◌, ◌<◌, ℕ, zero, suc, ◌==◌, Bool, true, false, List, [], ◌∷◌, ◌++◌, Option, Some, None, length, refl, sym, ap, subst, ◌∙◌, arith}
+use Rattle.std.proofs.Common.{◌≡◌, ◌<◌, ℕ, zero, suc, ◌==◌, Bool, true, false, List, [], ◌∷◌, ◌++◌, Option, Some, None, length, refl, sym, ap, ◌∙◌, arith}
 use Rattle.std.specs.Prelude.{◌&&◌, ◌||◌, slice_get}
 use Rattle.std.specs.Option.{option_map}
-use Rattle.std.specs.Ordering.{is_eq, nat_cmp}
-use Rattle.std.specs.Cmp.Lexicographic.{slice_cmp}
-use Rattle.std.specs.declared.cmp.Ordering.{Ordering}
-use Rattle.std.specs.declared.cmp.Ordering.TheVariants.{Less, Equal}
 use Rattle.std.proofs.lemmas.Bool.Decides.{eqb_tells}
-use Rattle.std.proofs.lemmas.Cmp.{tied_itself, nat_list_cmp_total}
 use Rattle.mv_record.specs.declared.record.Read.{Read}
 use Rattle.mv_record.specs.Paths.{IsEarlierPath}
 use Rattle.mv_record.specs.Runs.{IsEarlier, ReadsEarlier}
 use Rattle.mv_recorded.specs.Own.{Each}
 use Rattle.mv_history.specs.Kept.{Path, Placed, is_path, among, path_at, is_kept, same_path, reads_stay}
-use Rattle.mv_alike.proofs.Keeping.{Climbs, each_get}
-use Rattle.mv_alike.proofs.Placing.{path_is, path_self}
+use Rattle.mv_alike.proofs.Keeping.{Climbs, among_more, one_number}
+use Rattle.mv_alike.proofs.Placing.{path_is, path_self, apart_back}
 use Rattle.mv_repair.specs.Walking.{kept_as, is_number, is_kept_by, is_old, same_definer, reads_by, IsMarked, AreMarked}
 
--- Paths that differ
-
-not_itself : (a b : Path) → a ≡ b → IsEarlierPath a b → ⊥
-not_itself a b same h = clash (slice_cmp nat_cmp a b) h (subst (λ c. slice_cmp nat_cmp a c ≡ Equal) same (tied_itself nat_list_cmp_total a))
-  where
-    clash : (o : Ordering) → o ≡ Less → o ≡ Equal → ⊥
-    clash o h k = cc
-
-not_true : (b : Bool) → (b ≡ true → ⊥) → b ≡ false
-not_true true h = absurd (h refl)
-not_true false h = refl
-
-pub apart : (a b : Path) → IsEarlierPath a b → is_path a b ≡ false
-apart a b h = ap is_eq h
-
-pub apart_back : (a b : Path) → IsEarlierPath a b → is_path b a ≡ false
-apart_back a b h = not_true (is_path b a) (λ e. not_itself a b (sym (path_is b a e)) h)
+-- Paths
 
 -- a path later than all of these isn't among them
 pub not_among : (kept : List Path) (p : Path) → Each (λ k. IsEarlierPath k p) kept → among kept p ≡ false
 not_among [] p h = refl
 not_among (k ∷ ks) p h = ap (λ b. b || among ks p) (apart_back k p h.0) ∙ not_among ks p h.1
-
-pub among_more : (kept : List Path) (p q : Path) → among (kept ++ p ∷ []) q ≡ (among kept q || is_path q p)
-among_more [] p q = by (is_path q p)
-  where
-    by : (b : Bool) → (b || false) ≡ b
-    by true = refl
-    by false = refl
-among_more (k ∷ ks) p q = by (is_path q k) (among_more ks p q)
-  where
-    by : (b : Bool) → among (ks ++ p ∷ []) q ≡ (among ks q || is_path q p) → (b || among (ks ++ p ∷ []) q) ≡ ((b || among ks q) || is_path q p)
-    by true h = refl
-    by false h = h
 
 pub among_still : (kept : List Path) (p q : Path) → is_path q p ≡ false → among (kept ++ p ∷ []) q ≡ among kept q
 among_still kept p q h = among_more kept p q ∙ (ap (λ b. among kept q || b) h ∙ by (among kept q))
@@ -58,18 +25,6 @@ among_still kept p q h = among_more kept p q ∙ (ap (λ b. among kept q || b) h
     by : (b : Bool) → (b || false) ≡ b
     by true = refl
     by false = refl
-
--- records with one path have one number
-pub one_number : (xs : List Placed) (i j : ℕ) (a b : Placed) → Climbs xs → slice_get xs i ≡ Some a → slice_get xs j ≡ Some b → a.path ≡ b.path → i ≡ j
-one_number [] i j a b h p q same = cc
-one_number (x ∷ xs) zero zero a b h p q same = refl
-one_number (x ∷ xs) zero (suc j) a b h p q same =
-    let at : x ≡ a = cc in
-    absurd (not_itself x.path b.path (ap (λ (z : Placed). z.path) at ∙ same) (each_get (λ (y : Placed). IsEarlierPath x.path y.path) xs j b h.0 q))
-one_number (x ∷ xs) (suc i) zero a b h p q same =
-    let at : x ≡ b = cc in
-    absurd (not_itself x.path a.path (ap (λ (z : Placed). z.path) at ∙ sym same) (each_get (λ (y : Placed). IsEarlierPath x.path y.path) xs i a h.0 p))
-one_number (x ∷ xs) (suc i) (suc j) a b h p q same = ap suc (one_number xs i j a b h.1 p q same)
 
 -- Marks
 

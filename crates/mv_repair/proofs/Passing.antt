@@ -16,13 +16,14 @@ use Rattle.mv_history.specs.declared.change.Change.{Change}
 use Rattle.mv_history.specs.Hits.{any_hits}
 use Rattle.mv_history.specs.Kept.{Path, Placed, with_paths, is_path, among, other_writes}
 use Rattle.mv_alike.proofs.Keeping.{Climbs, among_new}
+use Rattle.mv_alike.proofs.Placing.{apart}
 use Rattle.mv_repair.specs.declared.walk.OldRun.{OldRun}
 use Rattle.mv_repair.specs.Walking.{any_write, noted, hollow, is_before, hits_in, writes_of, taken, next_writes, noted_next, AreKnown, HasAdded, IsOld, HasPassed, writes_at}
 use Rattle.mv_recorded.proofs.Inverting.{each_join}
 use Rattle.mv_alike.proofs.Lasting.{each_map}
 use Rattle.mv_repair.proofs.Lists.{first_dropped, none_dropped, next_dropped, set_dropped, writes_apart}
 use Rattle.mv_repair.proofs.Placing.{earlier_then, climbs_around}
-use Rattle.mv_repair.proofs.Marking.{apart, not_among, among_still}
+use Rattle.mv_repair.proofs.Marking.{not_among, among_still}
 
 abbrev its : List Placed → List Record
 its ps = map (λ (p : Placed). p.it) ps
