@@ -111,8 +111,10 @@ fn commit_hits_one(preds: &[Pred], number: usize, undo: &Undo, changes: &Changes
         .any(|pred| commit_hits(pred, number, undo, changes))
 }
 
-/// Whether one of a commit's changes hits the record with this number.
-pub(crate) fn any_hit(record: &Record, number: usize, undo: &Undo, changes: &Changes) -> bool
+/// Whether one of a commit's changes hits the record with this number, as `hit` tells. `undo` has the writes of the
+/// call's records. Allocates nothing. Tries the changes of the tables of the record's predicates alone, which it finds in
+/// the logarithm of the number of changes for each predicate.
+pub fn any_hit(record: &Record, number: usize, undo: &Undo, changes: &Changes) -> bool
     ensures { (before : List Record) → earlier number undo.now ≡ writes_in before → result ≡ any_hits changes.now before record.now }
 {
     commit_hits_one(record.preds.as_slice(), number, undo, changes)

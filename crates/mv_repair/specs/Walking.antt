@@ -1,6 +1,6 @@
 -- Defines the walk of a repair: the new run record by record, with the old run beside it. This project's own.
 use Rattle.std.specs.Prelude.{◌≡◌, ◌<◌, ◌≤◌, ℕ, ◌+◌, ◌==◌, Bool, true, false, not, ◌&&◌, ◌||◌, List, [], ◌∷◌, ◌++◌, Option, Some, None, All, map, length, take, drop, slice_get, slice_set}
-use Rattle.std.specs.List.{list_any, filter, flat_map}
+use Rattle.std.specs.List.{list_any, flat_map}
 use Rattle.std.specs.Option.{option_and_then}
 use Rattle.std.specs.Ordering.{is_lt, nat_cmp}
 use Rattle.std.specs.Cmp.Lexicographic.{slice_cmp}
@@ -20,7 +20,7 @@ use Rattle.mv_exec.specs.declared.task.Ahead.{Ahead}
 use Rattle.mv_exec.specs.declared.task.Task.{Task}
 use Rattle.mv_exec.specs.Running.{IsTaskOf, Leaves, HasAdopted, GoesOnWith}
 use Rattle.mv_history.specs.declared.change.Change.{Change}
-use Rattle.mv_history.specs.Hits.{any_hits, hits, touches}
+use Rattle.mv_history.specs.Hits.{any_hits, touches}
 use Rattle.mv_history.specs.Kept.{Path, Placed, with_paths, is_path, among, other_writes, kept_paths}
 use Rattle.mv_alike.specs.Laws.{AreRuns}
 use Rattle.mv_changes.specs.declared.recent.Committed.{Committed}
@@ -57,13 +57,9 @@ hollow = hollow_with []
 abbrev pub with_writes : List Write → List Record
 with_writes ws = hollow_with ws ∷ []
 
--- whether one of a commit's changes of its predicates' tables hits a record, before which its call made these writes
-abbrev pub is_hit_in : List Write → Record → List Change → Bool
-is_hit_in ws r changes = list_any (λ p. list_any (hits (with_writes ws) r) (filter (λ c. c.table == p.table) changes)) r.preds
-
--- the same of commits
+-- whether a change of one of these commits hits a record, before which its call made these writes
 abbrev pub is_hit_by : List Write → Record → List Committed → Bool
-is_hit_by ws r since = list_any (λ c. is_hit_in ws r c.changes) since
+is_hit_by ws r since = list_any (λ c. any_hits c.changes (with_writes ws) r) since
 
 -- whether a change hits each of the rest of a call's records; `before` are its records before them
 abbrev pub hits_in : List Change → List Record → List Record → List Bool

@@ -1,49 +1,26 @@
 //! Which records of the old run a change hits.
 
 ghost use Rattle.std.specs.Prelude.{◌≡◌, [], IfOk};
-ghost use Rattle.std.specs.List.{list_any};
 ghost use Rattle.mv_undo.specs.Owning.{earlier, HasWritesOf};
-ghost use Rattle.mv_history.specs.Hits.{hits};
+ghost use Rattle.mv_history.specs.Hits.{any_hits};
 ghost use Rattle.mv_repair.specs.Repairing.{changes_since};
-ghost use Rattle.mv_repair.specs.Walking.{hits_in, is_hit_by, is_hit_in, with_writes};
+ghost use Rattle.mv_repair.specs.Walking.{hits_in, is_hit_by, with_writes};
 
 use mv_changes::changes::Changes;
-use mv_changes::hit::hit;
+use mv_changes::hit::any_hit;
 use mv_changes::recent::Committed;
-use mv_history::change::Change;
 use mv_record::record::Record;
 use mv_undo::undo::Undo;
 use mv_values::list::List;
 use mv_values::memory::NoMemory;
 use std::alloc::Global;
 
-/// Whether a change hits the record with this number.
+/// Whether a commit hits the record with this number.
 #[tactic(auto, using(crate::proofs::Hitting::all_writes))]
-fn change_hits(record: &Record, number: usize, undo: &Undo, change: &Change) -> bool
-    ensures { result ≡ hits (with_writes (earlier number undo.now)) record.now change.now }
-{
-    hit(record, number, undo, change)
-}
-
-/// Whether one of these changes hits the record with this number.
-fn any_hit(record: &Record, number: usize, undo: &Undo, changes: &[Change]) -> bool
-    ensures { result ≡ list_any (hits (with_writes (earlier number undo.now)) record.now) changes.now }
-{
-    changes
-        .iter()
-        .any(|change| change_hits(record, number, undo, change))
-}
-
-/// Whether a commit hits the record with this number. Tries the changes of the tables of the record's predicates.
 fn commit_hits(record: &Record, number: usize, undo: &Undo, changes: &Changes) -> bool
-    ensures { result ≡ is_hit_in (earlier number undo.now) record.now changes.now }
+    ensures { result ≡ any_hits changes.now (with_writes (earlier number undo.now)) record.now }
 {
-    record.preds.as_slice().iter().any(|pred| any_hit(
-        record,
-        number,
-        undo,
-        changes.of_table(pred.table),
-    ))
+    any_hit(record, number, undo, changes)
 }
 
 /// Whether one of the commits hits the record with this number.
