@@ -1,8 +1,9 @@
 -- Whole runs: the calls in turn, or a journal.
-use Rattle.std.proofs.Common.{◌≡◌, ◌⊎◌, inl, inr, ℕ, suc, ◌+◌, List, [], ◌∷◌, ◌++◌, Option, Some, None, Ok, length, drop, refl, sym, ap, subst, ◌∙◌, arith, append_assoc, length-append, rules}
+use Rattle.std.proofs.Common.{◌≡◌, ◌≤◌, ◌⊎◌, inl, inr, ℕ, suc, ◌+◌, List, [], ◌∷◌, ◌++◌, Option, Some, None, Ok, length, drop, refl, sym, ap, subst, ◌∙◌, arith, append_assoc, append-nil, length-append, rules}
 use Rattle.std.specs.Prelude.{slice_get}
 use Rattle.std.specs.Option.{option_map}
 use Rattle.std.proofs.lemmas.Grind.{flat_map-append}
+use Rattle.std.proofs.lemmas.List.Elements.{filter-append}
 use Rattle.std.proofs.lemmas.Option.{slice_get_within}
 use Rattle.mv_record.specs.declared.record.Record.{Record}
 use Rattle.mv_record.specs.Runs.{Tables}
@@ -10,22 +11,24 @@ use Rattle.mv_history.specs.declared.change.Change.{Change}
 use Rattle.mv_history.specs.declared.change.Hit.{Hit}
 use Rattle.mv_history.specs.Hits.{first_hit}
 use Rattle.mv_journal.specs.declared.event.Event.{Event}
-use Rattle.mv_journal.specs.declared.event.Event.TheVariants.{B, C}
+use Rattle.mv_journal.specs.declared.event.Event.TheVariants.{B, C, G}
 use Rattle.mv_journal.specs.declared.outcome.Outcome.{Outcome}
 use Rattle.mv_lawful.specs.declared.fault.Wrong.TheVariants as wrong
 use Rattle.mv_lawful.specs.Work.{Work, changes_after, records_at, hit_of}
 use Rattle.mv_lawful.specs.Lawful.{Live, Course, beginning, begin, finish, change_live, after, reach, open_call, wrong_from}
-use Rattle.mv_lawful.specs.Outcomes.{numbers, turn, in_turn, outcome_of}
-use Rattle.mv_lawful.proofs.Turns.{turns_reach, in_turn_is_lawful}
+use Rattle.mv_lawful.specs.Outcomes.{numbers, turn, in_turn, is_of_call, without_collections, IsOutcomeInTurn, outcome_of}
+use Rattle.mv_lawful.proofs.Collections.{collections_unseen}
+use Rattle.mv_lawful.proofs.Turns.{at_end, turned, turns_reach, closed}
 use Rattle.mv_core.specs.declared.engine.Attempt.{Attempt}
 use Rattle.mv_core.specs.declared.engine.Attempt.TheVariants.{Committed, Hit as Hits, Stale}
 use Rattle.mv_core.specs.declared.script.Script.{Script}
 use Rattle.mv_core.specs.Scripts.{work_of}
-use Rattle.mv_core.specs.Calls.{IsLive}
+use Rattle.mv_core.specs.Calls.{IsLive, IsLiveCall}
 use Rattle.mv_core.specs.Books.{Booked, work_in, Made, IsSame}
-use Rattle.mv_core.specs.Drives.{HasMade, Driven, HasReplayed}
+use Rattle.mv_core.specs.Drives.{HasMade, HasTurned, Driven, HasReplayed}
 use Rattle.mv_core.specs.Cores.{HasTried, IsStaleAt, IsHitAt}
 use Rattle.mv_core.proofs.Journals.{get_last, same_long, only_open}
+use Rattle.mv_core.proofs.Lows.{low_within}
 use Rattle.mv_core.proofs.Driving.{made_more, made_none}
 use Rattle.mv_core.proofs.Refusing.{begun_number, same_made}
 
@@ -55,6 +58,13 @@ start_last c old new l made live = by (get_last old.course.calls (begin (length 
   by (inl at) = let lt = slice_get_within old.course.calls c l at in let is = begun_number c old new made in absurd (omega (arith, lt, is))
   by (inr h) = sym (ap (λ (x : Live). x.start) h.1) ∙ ap length (sym order_is)
 
+-- it is live
+pub begun_live : (c : ℕ) (old new : Booked) → Made (B c) old new → IsLiveCall new.course c
+begun_live c old new made = (begin (length old.course.order), record {
+  at = ap (λ (s : Course). slice_get s.calls c) made.course ∙ at_end old.course.calls (begin (length old.course.order)) c (sym (begun_number c old new made));
+  live = refl;
+})
+
 never_hit : (c : ℕ) (old new : Booked) (hit : Hit) → Made (B c) old new → IsHitAt new c hit → ⊥
 never_hit c old new hit made h =
     let start = start_last c old new h.live made h.is_live in
@@ -64,22 +74,33 @@ never_hit c old new hit made h =
 
 -- The calls in turn
 
--- each call that has begun did so after the one before it had committed, and has committed
-abbrev pub IsTurned : Booked → Booked → Type 0
-IsTurned start b = (start.course ≡ beginning) × HasMade (in_turn (length b.course.calls)) start b
+-- each call that has begun did so after the one before it had committed, and has committed. Low isn't past the commits
+pub record IsTurned (start b : Booked) : Type 0 where
+  first : start.course ≡ beginning
+  events : List Event
+  turns : without_collections events ≡ in_turn (length b.course.calls)
+  made : HasMade events start b
+  low : b.course.low ≤ length b.course.order
 
-low_none : (start b : Booked) → IsTurned start b → b.course.low ≡ 0
-low_none start b t =
-    ap (λ (s : Course). s.low)
-    (t.1.course ∙ (ap (λ s. reach (work_in start) s (in_turn (length b.course.calls))) t.0 ∙ turns_reach (work_in start) (length b.course.calls)))
+pub turned_none : (start : Booked) → start.course ≡ beginning → IsTurned start start
+turned_none start first = record {
+  first = first;
+  events = [];
+  turns = ap (λ (s : Course). in_turn (length s.calls)) (sym first);
+  made = record { allowed = tt; course = refl; journal = sym (append-nil start.journal); script = refl };
+  low = subst (λ (s : Course). s.low ≤ length s.order) (sym first) (omega arith);
+}
 
 never_stale : (c first low : ℕ) (start old new : Booked) → IsTurned start old → Made (B c) old new → IsStaleAt new c first low → ⊥
 never_stale c first low start old new t made h =
-    let none = low_none start old t in
+    let past = t.low in
     let same : new.course.low ≡ old.course.low = ap (λ (s : Course). s.low) made.course in
+    let many : length new.course.order ≡ length old.course.order = ap (λ (s : Course). length s.order) made.course in
+    let last = start_last c old new h.live made h.is_live in
+    let from = h.start_is in
     let is = h.low_is in
     let lt = h.stale in
-    omega (arith, none, same, is, lt)
+    omega (arith, past, same, many, last, from, is, lt)
 
 -- its attempt commits
 pub turn_commits : (c : ℕ) (a : Attempt) (start old mid new : Booked) → IsTurned start old → Made (B c) old mid → HasTried c (Ok a) mid new → Made (C c) mid new
@@ -102,15 +123,57 @@ many_turned c old mid new a b = ap (λ (s : Course). length s.calls) b.course �
 turn_more : (k : ℕ) → (in_turn k ++ B k ∷ []) ++ C k ∷ [] ≡ in_turn (suc k)
 turn_more k = append_assoc (in_turn k) (B k ∷ []) (C k ∷ []) ∙ sym (flat_map-append turn (numbers k) (k ∷ []))
 
+without_more : (es : List Event) (e : Event) → without_collections (es ++ e ∷ []) ≡ without_collections es ++ without_collections (e ∷ [])
+without_more es e = filter-append is_of_call es (e ∷ [])
+
+with_turn : (es : List Event) (k : ℕ) → without_collections es ≡ in_turn k → without_collections ((es ++ B k ∷ []) ++ C k ∷ []) ≡ in_turn (suc k)
+with_turn es k h =
+    without_more (es ++ B k ∷ []) (C k) ∙ (ap (λ xs. xs ++ C k ∷ []) (without_more es (B k)) ∙ (ap (λ xs. (xs ++ B k ∷ []) ++ C k ∷ []) h ∙ turn_more k))
+
 pub turned_more : (c : ℕ) (start old mid new : Booked) → IsTurned start old → Made (B c) old mid → Made (C c) mid new → IsTurned start new
-turned_more c start old mid new t a b =
-    let k : ℕ = length old.course.calls in
-    let is : c ≡ k = begun_number c old mid a in
-    let many = many_turned c old mid new a b in
-    let next : length new.course.calls ≡ suc k = omega (arith, many) in
-    let all : HasMade ((in_turn k ++ B k ∷ []) ++ C k ∷ []) start new =
-    made_more (in_turn k ++ B k ∷ []) (C k) start mid new (made_more (in_turn k) (B k) start old mid t.1 (subst (λ n. Made (B n) old mid) is a)) (subst (λ n. Made (C n) mid new) is b) in
-    (t.0, subst (λ n. HasMade (in_turn n) start new) (sym next) (subst (λ (es : List Event). HasMade es start new) (turn_more k) all))
+turned_more c start old mid new t a b = record {
+  first = t.first;
+  events = (t.events ++ B k ∷ []) ++ C k ∷ [];
+  turns = with_turn t.events k t.turns ∙ ap in_turn (sym next);
+  made = made_more (t.events ++ B k ∷ []) (C k) start mid new (made_more t.events (B k) start old mid t.made (subst (λ n. Made (B n) old mid) is a)) (subst (λ n. Made (C n) mid new) is b);
+  low = let past = t.low in omega (arith, past, low_is, more);
+} where
+  k : ℕ
+  k = length old.course.calls
+
+  is : c ≡ k
+  is = begun_number c old mid a
+
+  next : length new.course.calls ≡ suc k
+  next = let many = many_turned c old mid new a b in omega (arith, many)
+
+  low_is : new.course.low ≡ old.course.low
+  low_is = ap (λ (s : Course). s.low) b.course ∙ ap (λ (s : Course). s.low) a.course
+
+  more : length new.course.order ≡ length old.course.order + 1
+  more = ap (λ (s : Course). length s.order) b.course ∙ (length-append mid.course.order (c ∷ []) ∙ ap (λ (s : Course). length s.order + 1) a.course)
+
+-- after a collection too, or if nothing happened
+pub turned_on : (start old new : Booked) → IsTurned start old → IsSame old new ⊎ Made G old new → IsTurned start new
+turned_on start old new t (inl same) = record {
+  first = t.first;
+  events = t.events;
+  turns = t.turns ∙ ap (λ (s : Course). in_turn (length s.calls)) (sym same.course);
+  made = made_none t.events start old new t.made (same_made old new same);
+  low = subst (λ (s : Course). s.low ≤ length s.order) (sym same.course) t.low;
+}
+turned_on start old new t (inr a) = record {
+  first = t.first;
+  events = t.events ++ G ∷ [];
+  turns = without_more t.events G ∙ (append-nil (without_collections t.events) ∙ (t.turns ∙ ap (λ (s : Course). in_turn (length s.calls)) (sym a.course)));
+  made = made_more t.events G start old new t.made a;
+  low = subst (λ (s : Course). s.low ≤ length s.order) (sym a.course) (low_within (work_in old) old.course _ t.low refl).1;
+}
+
+-- as many calls have begun, of the same script
+pub many_on : (old new : Booked) → IsSame old new ⊎ Made G old new → (length new.course.calls ≡ length old.course.calls) × (new.script ≡ old.script)
+many_on old new (inl same) = (ap (λ (s : Course). length s.calls) same.course, same.script)
+many_on old new (inr a) = (ap (λ (s : Course). length s.calls) a.course, a.script)
 
 -- The end
 
@@ -125,22 +188,35 @@ lawful_shut es old new made none =
     (subst (λ (s : Course). open_call (work_in old) s ≡ None) (sym made.course) (some_open (open_call (work_in old) (reach (work_in old) old.course es)) (sym (only_open (work_in old) 1 old.course es made.allowed) ∙ none)))
 
 -- all calls have begun, so all turns were made
-pub turned_all : (start old new : Booked) → IsTurned start old → length old.course.calls ≡ length old.script.calls → IsSame old new → HasMade (in_turn (length start.script.calls)) start new
-turned_all start old new t many same =
-    let all : length old.course.calls ≡ length start.script.calls = many ∙ ap (λ (s : Script). length s.calls) t.1.script in
-    subst (λ n. HasMade (in_turn n) start new) all (made_none (in_turn (length old.course.calls)) start old new t.1 (same_made old new same))
+pub turned_all : (start old new : Booked) → IsTurned start old → length old.course.calls ≡ length old.script.calls → IsSame old new → HasTurned start new
+turned_all start old new t many same = record {
+  events = t.events;
+  turns = t.turns ∙ ap in_turn (many ∙ ap (λ (s : Script). length s.calls) t.made.script);
+  made = made_none t.events start old new t.made (same_made old new same);
+}
 
-pub turned_shut : (start new : Booked) → start.course ≡ beginning → HasMade (in_turn (length start.script.calls)) start new → open_call (work_in new) new.course ≡ None
-turned_shut start new first made =
-    let w : Work = work_in start in
-    lawful_shut (in_turn w.count) start new made (ap (λ s. wrong_from w 1 s (in_turn w.count)) first ∙ (in_turn_is_lawful w).lawful)
+-- and no call is open
+pub turned_shut : (start new : Booked) → start.course ≡ beginning → HasTurned start new → open_call (work_in new) new.course ≡ None
+turned_shut start new first h =
+    subst (λ (s : Script). open_call (work_of s) new.course ≡ None) (sym h.made.script)
+    (ap (λ (ls : List Live). open_call w (record { order = []; calls = ls; low = 0 })) calls_are ∙ some_open (open_call w (turned w.count)) (closed w w.count refl))
+  where
+    w : Work
+    w = work_in start
 
-pub turned_outcome : (s : Script) (start new : Booked) (o : Outcome) → HasMade (in_turn (length start.script.calls)) start new → start.script ≡ s → start.journal ≡ []
-    → o ≡ outcome_of (work_in new) new.journal → o ≡ outcome_of (work_of s) (in_turn (length s.calls))
-turned_outcome s start new o made script journal is =
-    let events : new.journal ≡ in_turn (length s.calls) =
-    made.journal ∙ (ap (λ es. es ++ in_turn (length start.script.calls)) journal ∙ ap (λ (x : Script). in_turn (length x.calls)) script) in
-    is ∙ (ap (λ x. outcome_of (work_of x) new.journal) (made.script ∙ script) ∙ ap (outcome_of (work_of s)) events)
+    calls_are : new.course.calls ≡ (turned w.count).calls
+    calls_are =
+        ap (λ (s : Course). s.calls) (h.made.course ∙ ap (λ s. reach w s h.events) first)
+        ∙ ((collections_unseen w beginning beginning h.events (refl, refl)).1
+        ∙ ap (λ (s : Course). s.calls) (ap (reach w beginning) h.turns ∙ turns_reach w w.count))
+
+pub turned_outcome : (s : Script) (start new : Booked) (o : Outcome) → HasTurned start new → start.script ≡ s → start.journal ≡ []
+    → o ≡ outcome_of (work_in new) new.journal → IsOutcomeInTurn (work_of s) (length s.calls) o
+turned_outcome s start new o h script journal is = record {
+  journal = h.events;
+  turns = h.turns ∙ ap (λ (x : Script). in_turn (length x.calls)) script;
+  outcome = is ∙ (ap (λ x. outcome_of (work_of x) new.journal) (h.made.script ∙ script) ∙ ap (outcome_of (work_of s)) (h.made.journal ∙ ap (λ es. es ++ h.events) journal));
+}
 
 -- A journal
 

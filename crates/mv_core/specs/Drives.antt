@@ -1,5 +1,5 @@
 -- Defines the result of a list of events. This project's own.
-use Rattle.std.specs.Prelude.{◌≡◌, ℕ, ◌-◌, Bool, not, List, [], ◌++◌, Some, None, Result, Ok, Err, take}
+use Rattle.std.specs.Prelude.{◌≡◌, ℕ, ◌-◌, Bool, not, List, [], ◌++◌, Some, None, Result, Ok, Err, length, take}
 use Rattle.mv_journal.specs.declared.event.Event.{Event}
 use Rattle.mv_journal.specs.declared.event.Event.TheVariants.{A, X}
 use Rattle.mv_journal.specs.declared.outcome.Outcome.{Outcome}
@@ -7,7 +7,7 @@ use Rattle.mv_lawful.specs.declared.fault.Fault.TheVariants.{Rounds}
 use Rattle.mv_lawful.specs.declared.fault.Wrong.TheVariants as wrong
 use Rattle.mv_lawful.specs.Work.{Work}
 use Rattle.mv_lawful.specs.Lawful.{refusal, unless, reach, wrong_from, wrong_with, AllAllowed, Lawful}
-use Rattle.mv_lawful.specs.Outcomes.{outcome_of}
+use Rattle.mv_lawful.specs.Outcomes.{in_turn, without_collections, outcome_of}
 use Rattle.mv_core.specs.declared.drive.Refusal.{Refusal}
 use Rattle.mv_core.specs.declared.drive.Refusal.TheVariants.{Refused, NoMemory}
 use Rattle.mv_core.specs.declared.drive.DriveFault.{DriveFault}
@@ -23,6 +23,12 @@ pub record HasMade (es : List Event) (old new : Booked) : Type 0 where
   pub course : new.course ≡ reach (work_in old) old.course es
   pub journal : new.journal ≡ old.journal ++ es
   pub script : new.script ≡ old.script
+
+-- the calls were made in turn, with collections between events
+pub record HasTurned (old new : Booked) : Type 0 where
+  pub events : List Event
+  pub turns : without_collections events ≡ in_turn (length old.script.calls)
+  pub made : HasMade events old new
 
 -- an event was made exactly if the law of journals allows it; otherwise nothing changed, and the refusal is the law's
 abbrev pub HasTaken : Event → Booked → Booked → Result (Unit {0}) Refusal → Type 0

@@ -224,7 +224,7 @@ impl Core {
 
     /// Collects old versions. Tables that no live call reads may no longer be read. With a horizon, this makes calls
     /// with older starts stale. Fails with `NoMemory` if memory runs out, and then nothing is collected. Takes time
-    /// linear in the number of rows and of live calls.
+    /// linear in the number of live calls and of the keys that the commits up to low have written.
     pub fn collect(&mut self) -> Result<(), NoMemory>
         ensures { HasCollected result self.old self.new }
     {

@@ -1,10 +1,12 @@
 //! Whole runs of a script: its calls in turn, or a journal.
 
-ghost use Rattle.std.specs.Prelude.{◌≡◌, ◌<◌, ◌^◌, length, IfOk, OnOk};
+ghost use Rattle.std.specs.Prelude.{◌≡◌, ◌⊎◌, ◌<◌, ◌^◌, length, IfOk, OnOk};
+ghost use Rattle.mv_journal.specs.declared.event.Event.TheVariants.{G};
 ghost use Rattle.mv_lawful.specs.Lawful.{beginning};
-ghost use Rattle.mv_lawful.specs.Outcomes.{outcome_of, in_turn};
+ghost use Rattle.mv_lawful.specs.Outcomes.{IsOutcomeInTurn};
+ghost use Rattle.mv_core.specs.Books.{Made, IsSame};
 ghost use Rattle.mv_core.specs.Scripts.{IsScript, work_of};
-ghost use Rattle.mv_core.specs.Drives.{HasMade, HasReplayed};
+ghost use Rattle.mv_core.specs.Drives.{HasTurned, HasReplayed};
 
 use crate::drive::{DriveFault, drive};
 use crate::engine::Core;
@@ -14,22 +16,36 @@ use mv_journal::outcome::Outcome;
 use mv_values::memory::NoMemory;
 use std::alloc::Global;
 
-/// Begins and commits the calls of a core without events, one after another.
-fn run_calls(alloc: Global, core: &mut Core) -> Result<(), NoMemory>
-    requires { core.old.course ≡ beginning }
-    ensures { OnOk result (HasMade (in_turn (length core.old.script.calls)) core.old core.new) }
+/// The number of commits from one collection to the next.
+const PERIOD: u32 = 64;
+
+/// Collects old versions, if this is the last call of a period.
+fn collect_after(core: &mut Core, call: u32) -> Result<(), NoMemory>
+    ensures { OnOk result (IsSame core.old core.new ⊎ Made G core.old core.new) }
 {
-    while let Some(call) = core.begin(alloc)? {
-        core.attempt(alloc, call)?;
+    if call % PERIOD == PERIOD - 1 {
+        core.collect()?;
     }
     Ok(())
 }
 
-/// Runs the calls of a script in order: each begins and commits before the next begins. Fails with `NoMemory` if memory
-/// runs out.
+/// Begins and commits the calls of a core without events, one after another, and collects old versions from time to time.
+fn run_calls(alloc: Global, core: &mut Core) -> Result<(), NoMemory>
+    requires { core.old.course ≡ beginning }
+    ensures { OnOk result (HasTurned core.old core.new) }
+{
+    while let Some(call) = core.begin(alloc)? {
+        core.attempt(alloc, call)?;
+        collect_after(core, call)?;
+    }
+    Ok(())
+}
+
+/// Runs the calls of a script in order: each begins and commits before the next begins. After each 64 commits it collects
+/// old versions. Fails with `NoMemory` if memory runs out.
 pub fn run_in_turn(alloc: Global, script: Script) -> Result<Outcome, NoMemory>
     requires { IsScript script }
-    ensures { IfOk result (λ outcome. outcome ≡ outcome_of (work_of script) (in_turn (length script.calls))) }
+    ensures { IfOk result (IsOutcomeInTurn (work_of script) (length script.calls)) }
 {
     let mut core = Core::new(alloc, script)?;
     run_calls(alloc, &mut core)?;

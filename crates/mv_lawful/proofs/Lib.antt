@@ -1,3 +1,4 @@
+pub mod Collections
 pub mod Lows
 pub mod Repairs
 pub mod Serial

@@ -6,7 +6,7 @@ use Rattle.mv_journal.specs.declared.event.Event.TheVariants.{B, S, A, M, C, X, 
 use Rattle.mv_lawful.specs.Work.{Work}
 use Rattle.mv_lawful.specs.Lawful.{Turn, Live, Course, Lawful, after, course_of, is_stale}
 use Rattle.mv_lawful.specs.Rounds.{is_repair, IsBounded}
-use Rattle.mv_lawful.specs.Outcomes.{numbers, in_turn}
+use Rattle.mv_lawful.specs.Outcomes.{numbers, in_turn, without_collections, outcome_of}
 
 -- Low
 
@@ -66,3 +66,7 @@ pub record IsInTurn (w : Work) (es : List Event) : Type 0 where
 -- the journal of one worker is such a journal, whatever the calls do
 abbrev pub InTurnIsLawful : Type 0
 InTurnIsLawful = (w : Work) → IsInTurn w (in_turn w.count)
+
+-- collections change nothing of an outcome but its events
+abbrev pub CollectionsAreUnseen : Type 0
+CollectionsAreUnseen = (w : Work) (es : List Event) → outcome_of w es ≡ record (outcome_of w (without_collections es)) { journal = es }

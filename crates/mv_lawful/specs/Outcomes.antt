@@ -1,9 +1,9 @@
 -- The outcome of a journal: replies, commits with their rounds, events and last tables. This project's own.
-use Rattle.std.specs.Prelude.{ℕ, zero, suc, ◌==◌, List, [], ◌∷◌, ◌++◌, Option, Some, None, map, length, slice_get}
-use Rattle.std.specs.List.{position, flat_map}
+use Rattle.std.specs.Prelude.{◌≡◌, ℕ, zero, suc, ◌==◌, Bool, true, false, List, [], ◌∷◌, ◌++◌, Option, Some, None, map, length, slice_get}
+use Rattle.std.specs.List.{filter, position, flat_map}
 use Rattle.mv_values.specs.declared.calls.Reply.{Reply}
 use Rattle.mv_journal.specs.declared.event.Event.{Event}
-use Rattle.mv_journal.specs.declared.event.Event.TheVariants.{B, C}
+use Rattle.mv_journal.specs.declared.event.Event.TheVariants.{B, S, A, M, C, X, G}
 use Rattle.mv_journal.specs.declared.outcome.HistoryLine.{HistoryLine}
 use Rattle.mv_journal.specs.declared.outcome.Outcome.{Outcome}
 use Rattle.mv_lawful.specs.Work.{Work, table_at}
@@ -53,3 +53,23 @@ turn c = B c ∷ C c ∷ []
 -- each of the first n calls begins and commits before the next begins
 abbrev pub in_turn : ℕ → List Event
 in_turn n = flat_map turn (numbers n)
+
+-- whether the event isn't a collection
+abbrev pub is_of_call : Event → Bool
+is_of_call (B c) = true
+is_of_call (S c) = true
+is_of_call (A c) = true
+is_of_call (M c) = true
+is_of_call (C c) = true
+is_of_call (X c) = true
+is_of_call G = false
+
+-- the events without collections
+abbrev pub without_collections : List Event → List Event
+without_collections = filter is_of_call
+
+-- the outcome of one worker's journal, in which old versions may be collected between any events
+pub record IsOutcomeInTurn (w : Work) (n : ℕ) (o : Outcome) : Type 0 where
+  pub journal : List Event
+  pub turns : without_collections journal ≡ in_turn n
+  pub outcome : o ≡ outcome_of w journal

@@ -1,7 +1,7 @@
 //! The laws of journals.
 
 ghost use Rattle.mv_lawful.specs.Examples.{OnlyTheFee, AllAgain, NothingAdded, NewRowCounts, OwnWriteCounts, NewDefiner, OtherBranch, SameKey, KeptWriteStays, InOneStep, FirstFaults, StaleMoves, OldestStart};
-ghost use Rattle.mv_lawful.specs.Laws.{LowNeverFalls, NoneIsStale, RepairsAreFew, LawfulIsSerial, LawfulNamesCalls, InTurnIsLawful};
+ghost use Rattle.mv_lawful.specs.Laws.{LowNeverFalls, NoneIsStale, RepairsAreFew, LawfulIsSerial, LawfulNamesCalls, InTurnIsLawful, CollectionsAreUnseen};
 
 /// A lawful journal commits each call exactly once. No call has a greater start than the number of commits before its
 /// own, so a call that committed before another began is before it in the order of commits.
@@ -18,6 +18,12 @@ pub fn lawful_names_calls()
 /// calls do. It commits them in call order.
 pub fn in_turn_is_lawful()
     ensures { InTurnIsLawful }
+{}
+
+/// Collections change nothing of what a journal leads to: the replies, the commits with their rounds, and the tables are
+/// those of the journal without them.
+pub fn collections_are_unseen()
+    ensures { CollectionsAreUnseen }
 {}
 
 /// No event lowers low.

@@ -1,6 +1,6 @@
 -- What workers leave has the text of a run, and a text fixes its journal.
 use Rattle.std.proofs.Common.{◌≡◌, ◌<◌, ◌≤◌, ℕ, List, [], ◌∷◌, ◌++◌, Option, Some, None, Result, Ok, Err, All, IfOk, refl, sym, ap, ◌∙◌, arith, length}
-use Rattle.std.specs.Prelude.{slice_get, ◌==◌}
+use Rattle.std.specs.Prelude.{codes, slice_get, ◌==◌}
 use Rattle.std.specs.List.{position}
 use Rattle.std.proofs.lemmas.List.Elements.{All-nil, All-push, All-map, All-weaker}
 use Rattle.mv_values.specs.declared.schema.TableInfo.{TableInfo}
@@ -33,11 +33,12 @@ use Rattle.mv_journal.specs.Events.{IsInRange}
 use Rattle.mv_lawful.specs.Work.{Work}
 use Rattle.mv_lawful.specs.Lawful.{Lawful, course_of}
 use Rattle.mv_lawful.specs.Laws.{IsOfCalls}
-use Rattle.mv_lawful.specs.Outcomes.{numbers, reply_in, reply_after, outcome_of}
+use Rattle.mv_lawful.specs.Outcomes.{numbers, reply_in, reply_after, without_collections, IsOutcomeInTurn, outcome_of}
+use Rattle.mv_lawful.proofs.Collections.{collections_are_unseen}
 use Rattle.mv_lawful.proofs.Serial.{lawful_names_calls}
 use Rattle.mv_lawful.proofs.Turns.{in_turn_is_lawful}
 use Rattle.mv_report.specs.Shown.{IsPrinted, IsPlain}
-use Rattle.mv_report.specs.Text.{text_of}
+use Rattle.mv_report.specs.Text.{line, replies_text, history_text, event_line, journal_text, tables_text, text_of}
 use Rattle.mv_report.proofs.Fixing.{text_fixes}
 use Rattle.mv_gate.specs.Gates.{IsOutcome}
 use Rattle.mv_top.specs.History.{work_of, text, in_turn as turns_of, TextFixesJournal}
@@ -52,10 +53,31 @@ text_runs p options count (Ok bytes) left more is h =
     (record { journal = left.journal; lawful = is.lawful; bounded = is.bounded; text_is = h ∙ ap (text_of p.resolved.tables) is.outcome }, λ one. absurd (omega (arith, more, one)))
 text_runs p options count (Err e) left more is h = tt
 
+-- collections have no line
+lines_unseen : (es : List Event) → journal_text (without_collections es) ≡ journal_text es
+lines_unseen [] = refl
+lines_unseen (B c ∷ es) = ap (λ bytes. event_line (B c) ++ bytes) (lines_unseen es)
+lines_unseen (S c ∷ es) = ap (λ bytes. event_line (S c) ++ bytes) (lines_unseen es)
+lines_unseen (A c ∷ es) = ap (λ bytes. event_line (A c) ++ bytes) (lines_unseen es)
+lines_unseen (M c ∷ es) = ap (λ bytes. event_line (M c) ++ bytes) (lines_unseen es)
+lines_unseen (C c ∷ es) = ap (λ bytes. event_line (C c) ++ bytes) (lines_unseen es)
+lines_unseen (X c ∷ es) = ap (λ bytes. event_line (X c) ++ bytes) (lines_unseen es)
+lines_unseen (G ∷ es) = lines_unseen es
+
+-- a text that has the lines of an outcome's events
+with_lines : List TableInfo → Outcome → List ℕ → List ℕ
+with_lines tables o lines =
+    replies_text o.replies ++ line (codes "history") ++ history_text o.history ++ line (codes "journal") ++ lines ++ tables_text tables o.tables ++ line (codes "end")
+
+text_unseen : (w : Work) (tables : List TableInfo) (es : List Event) → text_of tables (outcome_of w es) ≡ text_of tables (outcome_of w (without_collections es))
+text_unseen w tables es = ap (text_of tables) (collections_are_unseen w es) ∙ ap (with_lines tables (outcome_of w (without_collections es))) (sym (lines_unseen es))
+
 -- the text of what one worker leaves
-pub text_turns : {E : Type 0} (p : Program) (options : Options) (result : Result (List ℕ) E) (left : Outcome) → left ≡ outcome_of (work_of p options) (turns_of p)
+pub text_turns : {E : Type 0} (p : Program) (options : Options) (result : Result (List ℕ) E) (left : Outcome) → IsOutcomeInTurn (work_of p options) (length p.resolved.calls) left
     → IfOk result (λ bytes. bytes ≡ text_of p.resolved.tables left) → IfOk result (λ bytes. bytes ≡ text p options (turns_of p))
-text_turns p options (Ok bytes) left is h = h ∙ ap (text_of p.resolved.tables) is
+text_turns p options (Ok bytes) left is h =
+    h ∙ (ap (text_of p.resolved.tables) is.outcome ∙ (text_unseen (work_of p options) p.resolved.tables is.journal
+    ∙ ap (λ es. text_of p.resolved.tables (outcome_of (work_of p options) es)) is.turns))
 text_turns p options (Err e) left is h = tt
 
 -- it is one of any number of them

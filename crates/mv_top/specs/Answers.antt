@@ -1,5 +1,5 @@
 -- The answer to a command and its input, and what is written of it.
-use Rattle.std.specs.Prelude.{◌≡◌, ◌⊎◌, ℕ, List, [], ◌∷◌, ◌++◌, Option, Some, None, String, string_bytes, codes, map}
+use Rattle.std.specs.Prelude.{◌≡◌, ◌≤◌, ◌⊎◌, ℕ, List, [], ◌∷◌, ◌++◌, Option, Some, None, String, string_bytes, codes, map}
 use Rattle.std.specs.Option.{ForSome}
 use Rattle.std.specs.declared.alloc.Global.{Global}
 use Rattle.mv_edge.specs.Edge.{Rose, Writes, WritesFront}
@@ -23,9 +23,9 @@ use Rattle.mv_top.specs.declared.status.Status.TheVariants.{Done, Refused, Usage
 use Rattle.mv_top.specs.declared.status.Fault.{Fault}
 use Rattle.mv_top.specs.declared.status.Fault.TheVariants as fault
 
--- the text of a run by this many workers; one worker makes the events of each call before it begins the next
+-- the text of a run by this many workers; one worker, or none, makes the events of each call before it begins the next
 abbrev pub IsTextOfWorkers : ℕ → Options → Program → List ℕ → Type 0
-IsTextOfWorkers threads options program answer = IsRunText program options answer × (threads ≡ 1 → answer ≡ text program options (in_turn program))
+IsTextOfWorkers threads options program answer = IsRunText program options answer × (threads ≤ 1 → answer ≡ text program options (in_turn program))
 
 -- for the program of these bytes the command may write this text: that of a run, whose workers may take turns in any way;
 -- that of the script's own journal; of the calls alone in call order; or of the graphs of the procedures

@@ -37,8 +37,8 @@ impl Status {
 /// A command that the program takes.
 #[derive(Clone, Copy)]
 pub enum Command {
-    /// Runs the calls of a script by this many workers, and writes their history. There are 1 to 64 workers: a smaller
-    /// or greater number counts as one of these.
+    /// Runs the calls of a script by this many workers, and writes their history. There are 1 to 64 workers: 0 counts as
+    /// 1, and more than 64 as 64.
     Run { threads: u32, options: Options },
     /// Makes the events of the script's own journal, and writes their history.
     Replay(Options),

@@ -24,8 +24,8 @@ use std::thread::Threads;
 
 const USAGE_LINE: &[u8] = b"usage: mv3c run|replay|serial|graph|tpcc [options]\n";
 
-/// Answers the words of a command line. Reads the source to its end, or to byte 16,777,217, and writes the answer to
-/// the sink. The whole answer is built before the first write.
+/// Answers the words of a command line. For a command it reads the source to its end, or to byte 16,777,217. It writes
+/// the answer to the sink. The whole answer is built before the first write.
 pub fn top<R: Threads + Wait + Sync, S: Source, K: Sink, P: Pace>(
     rt: &R,
     alloc: Global,
