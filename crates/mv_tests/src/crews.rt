@@ -1,47 +1,78 @@
 //! Runs by several workers, and the options of commands.
 
 use crate::commands::{ADD, OTHERS};
-use crate::whole::{SOUND, answers, joined, runs, runs_at};
+use crate::whole::{SOUND, answers, ensure, joined, runs, runs_at};
 use mv_edge::pace::{Moment, Pace, Point};
 use mv_top::status::Status;
+use std::alloc::Global;
 use std::hint::spin_loop;
 use std::sync::Wait;
 use std::sync::atomic::{AtomicU64, Ordering};
 use std::test::*;
+use std::thread::Threads;
 
 /// How often a held call looks whether it may go on.
 const LOOKS: u64 = 100_000_000;
 
-/// Holds call 0 at its first attempt to commit until call 1 has committed.
+/// Holds call 0 at each attempt to commit until call 1 has committed. Notes which of them have committed.
 #[derive(Drop)]
 struct Holding {
-    answered: AtomicU64,
+    /// 1 once call 0 has committed.
+    held: AtomicU64,
+    /// 1 once call 1 has committed.
+    other: AtomicU64,
 }
 
 impl Holding {
-    fn has_answered(&self) -> bool {
-        self.answered.load(Ordering::SeqCst) == 1
+    fn new() -> Holding {
+        Holding {
+            held: AtomicU64::new(0),
+            other: AtomicU64::new(0),
+        }
     }
 
     /// Waits until call 1 has committed, or for so many looks.
     fn hold(&self) {
         for _ in 0..LOOKS {
-            if self.has_answered() {
+            if self.other.load(Ordering::SeqCst) == 1 {
                 return;
             }
             spin_loop();
         }
+    }
+
+    fn have_both_answered(&self) -> bool {
+        self.held.load(Ordering::SeqCst) == 1 && self.other.load(Ordering::SeqCst) == 1
     }
 }
 
 impl Pace for Holding {
     fn at<R: Wait>(&self, _rt: &R, point: Point) {
         match point.moment {
-            Moment::Answered if point.call == 1 => self.answered.store(1, Ordering::SeqCst),
+            Moment::Answered if point.call == 0 => self.held.store(1, Ordering::SeqCst),
+            Moment::Answered if point.call == 1 => self.other.store(1, Ordering::SeqCst),
             Moment::Before if point.call == 0 => self.hold(),
             _ => {}
         }
     }
+}
+
+/// Checks that call 1 commits while call 0 is held, and that the worker of call 0 repairs and commits it. The replay of
+/// that journal gives the same text.
+fn overtakes<R: Threads + Wait + Sync>(
+    rt: &R,
+    alloc: Global,
+    calls: &str,
+    want: &str,
+) -> Result<(), Fail> {
+    let input = joined(alloc, &[ADD, OTHERS, calls])?;
+    let pace = Holding::new();
+    let words = &["run", "--threads", "2"];
+    runs_at(rt, alloc, &pace, words, input.as_bytes(), want)?;
+    ensure(alloc, pace.have_both_answered(), "no answer")?;
+    let journal = "\nJOURNAL <<\nB 0\nB 1\nC 1\nA 0\nC 0\n>>\n";
+    let input = joined(alloc, &[ADD, OTHERS, calls, journal])?;
+    answers(rt, alloc, "replay", input.as_str(), want)
 }
 
 const TRANSFERS: &str = "CALL transfer(1, 2, 10); CALL transfer(3, 4, 10);";
@@ -66,20 +97,36 @@ table acc
 end
 ";
 
-/// While call 0 is held, the other worker brings call 1 to its commit. Call 0 is then repaired. The replay of that
-/// journal gives the same text.
 #[test]
 fn a_held_call_is_overtaken_and_repaired(rt: HostRuntime) -> Result<(), Fail> {
-    let input = joined(rt.alloc(), &[ADD, OTHERS, TRANSFERS])?;
-    let pace = Holding {
-        answered: AtomicU64::new(0),
-    };
-    let words = &["run", "--threads", "2"];
-    runs_at(&rt, rt.alloc(), &pace, words, input.as_bytes(), REPAIRED)?;
-    assert!(rt; pace.has_answered());
-    let journal = "\nJOURNAL <<\nB 0\nB 1\nC 1\nA 0\nC 0\n>>\n";
-    let input = joined(rt.alloc(), &[ADD, OTHERS, TRANSFERS, journal])?;
-    answers(&rt, rt.alloc(), "replay", input.as_str(), REPAIRED)
+    overtakes(&rt, rt.alloc(), TRANSFERS, REPAIRED)
+}
+
+/// The text of a call whose first run has more statements than its repair.
+const SHORTER: &str = "reply 0 rolled back 'no funds'
+reply 1 done
+history
+1 1 starts 0 runs 5
+2 0 starts 0,1 runs 5+3
+journal
+B 0
+B 1
+C 1
+A 0
+C 0
+table acc
+0,1,
+1,40,
+2,100,
+3,160,
+4,100,
+end
+";
+
+#[test]
+fn a_held_call_is_repaired_to_fewer_statements(rt: HostRuntime) -> Result<(), Fail> {
+    let calls = "CALL transfer(1, 2, 60); CALL transfer(1, 3, 60);";
+    overtakes(&rt, rt.alloc(), calls, SHORTER)
 }
 
 /// The text of one call.
