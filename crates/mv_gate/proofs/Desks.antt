@@ -11,7 +11,7 @@ use Rattle.mv_journal.specs.declared.outcome.Round.{Round}
 use Rattle.mv_lawful.specs.declared.fault.Fault.TheVariants.{Stale, Conflict, Idle, Rounds}
 use Rattle.mv_lawful.specs.Work.{Work, hit_of}
 use Rattle.mv_lawful.specs.Lawful.{Live, Course, beginning, used, is_stale, is_hit, has_round, unless, refusal, after, course_of, AllAllowed}
-use Rattle.mv_seats.specs.Scripts.{Script as Given}
+use Rattle.mv_seats.specs.Scripts.{Script as BoardScript}
 use Rattle.mv_seats.specs.Knowing.{Knows, Gate}
 use Rattle.mv_store.specs.Stored.{Versioned}
 use Rattle.mv_core.specs.declared.script.Script.{Script}
@@ -40,7 +40,7 @@ low_after w s (C c) h = refl
 low_after w s (X c) h = refl
 low_after w s G h = absurd h
 
-pub desk_made : (e : Event) (s : Given) (old new : Booked) (store stored : Versioned) (gate now : Knows) → IsDesk s old store gate → Made e old new → IsStill e → IsStoreOf new stored → now.role ≡ Gate → now.seen ≡ new.course.order
+pub desk_made : (e : Event) (s : BoardScript) (old new : Booked) (store stored : Versioned) (gate now : Knows) → IsDesk s old store gate → Made e old new → IsStill e → IsStoreOf new stored → now.role ≡ Gate → now.seen ≡ new.course.order
     → IsDesk s new stored now
 desk_made e s old new store stored gate now d made is k role seen = record {
   script = made.script ∙ d.script;
@@ -52,7 +52,7 @@ desk_made e s old new store stored gate now d made is k role seen = record {
   low = ap (λ (x : Course). x.low) made.course ∙ (low_after (work_in old) old.course e is ∙ d.low);
 }
 
-pub desk_same : (s : Given) (old new : Booked) (store stored : Versioned) (gate now : Knows) → IsDesk s old store gate → IsSame old new → IsStoreOf new stored → now.role ≡ Gate → now.seen ≡ new.course.order → IsDesk s new stored now
+pub desk_same : (s : BoardScript) (old new : Booked) (store stored : Versioned) (gate now : Knows) → IsDesk s old store gate → IsSame old new → IsStoreOf new stored → now.role ≡ Gate → now.seen ≡ new.course.order → IsDesk s new stored now
 desk_same s old new store stored gate now d same k role seen = record {
   script = same.script ∙ d.script;
   stored = k;
@@ -64,7 +64,7 @@ desk_same s old new store stored gate now d same k role seen = record {
 }
 
 -- the next call began, or not
-pub desk_begun : (r : Result (Option Begun) NoMemory) (s : Given) (old new : Booked) (store : Versioned) (gate : Knows) → IsDesk s old store gate → HasBegun r old new → IsDesk s new store gate
+pub desk_begun : (r : Result (Option Begun) NoMemory) (s : BoardScript) (old new : Booked) (store : Versioned) (gate : Knows) → IsDesk s old store gate → HasBegun r old new → IsDesk s new store gate
 desk_begun (Ok (Some b)) s old new store gate d h =
     desk_made (B b.call) s old new store store gate gate d h.0 tt (stored_made (B b.call) old new store d.stored h.0 refl refl) d.role (d.seen ∙ sym (ap (λ (x : Course). x.order) h.0.course))
 desk_begun (Ok None) s old new store gate d h = desk_same s old new store store gate gate d h.1 (stored_same old new store d.stored h.1) d.role (d.seen ∙ sym (ap (λ (x : Course). x.order) h.1.course))

@@ -2,6 +2,7 @@
 use Rattle.std.proofs.Common.{◌≡◌, ◌⊎◌, inl, inr, ℕ, zero, suc, ◌+◌, ◌≤◌, ◌<◌, Bool, true, false, List, [], ◌∷◌, Option, Some, None, length, refl, sym, ap, subst, ◌∙◌, arith, rules}
 use Rattle.std.specs.Prelude.{slice_get, nat_lt, if◌then◌else◌, Result, Ok, Err, IfOk, OnErr}
 use Rattle.std.specs.List.{filter}
+use mathlib.Core.List.{IsPrefix}
 use Rattle.mv_journal.specs.declared.event.Event.{Event}
 use Rattle.mv_journal.specs.declared.event.Event.TheVariants.{B, S, A, M, C, X, G}
 use Rattle.mv_journal.specs.declared.outcome.Outcome.{Outcome}
@@ -11,8 +12,9 @@ use Rattle.mv_lawful.specs.Lawful.{Live, Course, beginning, begin, again, finish
 use Rattle.mv_lawful.specs.Rounds.{is_round, is_repair, MayMove, MovesLate, IsBounded}
 use Rattle.mv_lawful.specs.Outcomes.{outcome_of}
 use Rattle.mv_lawful.proofs.Repairs.{repairs_are_few}
-use Rattle.mv_seats.specs.Scripts.{Script as Given}
+use Rattle.mv_seats.specs.Scripts.{Script as BoardScript}
 use Rattle.mv_seats.specs.Knowing.{Knows}
+use Rattle.mv_seats.proofs.Prefixes.{prefix_self, prefix_more}
 use Rattle.mv_store.specs.Stored.{Versioned}
 use Rattle.mv_core.specs.declared.script.Script.{Script}
 use Rattle.mv_core.specs.Scripts.{work_of}
@@ -25,7 +27,7 @@ use Rattle.mv_core.proofs.Turning.{many_begun}
 use Rattle.mv_core.proofs.Journals.{get_front, set_there, set_apart, same_long, changed_at}
 use Rattle.mv_gate.specs.declared.answers.Answer.{Answer}
 use Rattle.mv_gate.specs.declared.answers.Answer.TheVariants as answer
-use Rattle.mv_gate.specs.Gates.{work, IsStill, AreStill, IsDesk, HasTried, IsOutcome, IsDone, KeepsDone}
+use Rattle.mv_gate.specs.Gates.{work, IsStill, AreStill, IsDesk, Tries, IsOutcome, IsDone, GoesOn}
 
 same_round : (c : ℕ) (e : Event) → IsStill e → is_round c e ≡ is_repair c e
 same_round c (B d) h = refl
@@ -62,7 +64,7 @@ bounded w es lawful still = record {
   late = moves_late w beginning es still;
 }
 
-pub outcome_told : (s : Given) (b : Booked) (store : Versioned) (gate : Knows) (o : Outcome) → IsDesk s b store gate → Lawful (work_in b) b.journal → o ≡ outcome_of (work_in b) b.journal → IsOutcome (work s) o
+pub outcome_told : (s : BoardScript) (b : Booked) (store : Versioned) (gate : Knows) (o : Outcome) → IsDesk s b store gate → Lawful (work_in b) b.journal → o ≡ outcome_of (work_in b) b.journal → IsOutcome (work s) o
 outcome_told s b store gate o d lawful is =
     let events : o.journal ≡ b.journal = ap (λ (x : Outcome). x.journal) is in
     subst (λ (x : Script). IsOutcome (work_of x) o) d.script (record {
@@ -70,6 +72,19 @@ outcome_told s b store gate o d lawful is =
       bounded = subst (IsBounded (work_in b)) (sym events) (bounded (work_in b) b.journal lawful d.still);
       outcome = is ∙ ap (outcome_of (work_in b)) (sym events);
     })
+
+-- the journal of an outcome
+pub journal_told : (now b : Booked) (r : Result Outcome NoMemory) → b ≡ now → IfOk r (λ o. o ≡ outcome_of (work_in b) b.journal) → IfOk r (λ o. o.journal ≡ now.journal)
+journal_told now b (Ok o) same is = ap (λ (x : Outcome). x.journal) is ∙ ap (λ (x : Booked). x.journal) same
+journal_told now b (Err e) same is = tt
+
+-- Events that go on
+
+events_made : (e : Event) (old new : Booked) → Made e old new → IsPrefix old.journal new.journal
+events_made e old new made = (e ∷ [], sym made.journal)
+
+pub events_both : (a b c : List Event) → IsPrefix a b → IsPrefix b c → IsPrefix a c
+events_both a b c p q = subst (IsPrefix a) q.1 (prefix_more a b q.0 p)
 
 -- Calls that have committed
 
@@ -94,46 +109,50 @@ done_now ls c f l at is = (f l, ap (λ xs. slice_get xs c) (changed_at ls c f l 
 as_long : (ls : List Live) (c : ℕ) (f : Live → Live) (l : Live) → slice_get ls c ≡ Some l → length (change_live (slice_get ls c) f ls c) ≡ length ls
 as_long ls c f l at = ap length (changed_at ls c f l at) ∙ same_long ls c (f l)
 
-keeps_begun : (c : ℕ) (old new : Booked) → Made (B c) old new → KeepsDone old new
+keeps_begun : (c : ℕ) (old new : Booked) → Made (B c) old new → GoesOn old new
 keeps_begun c old new made = record {
   done = λ d h. subst (λ (s : Course). IsDone s d) (sym made.course) (h.0, get_front old.course.calls (begin (length old.course.order)) d h.0 h.1, h.2);
   count = let long = many_begun c old new made in omega (arith, long);
   script = made.script;
+  events = events_made (B c) old new made;
 }
 
 -- an event that changed one live call
-keeps_changed : (c : ℕ) (f : Live → Live) (old new : Booked) → new.course.calls ≡ change_live (slice_get old.course.calls c) f old.course.calls c → new.script ≡ old.script → IsLiveCall old.course c → KeepsDone old new
-keeps_changed c f old new is script live = record {
+keeps_changed : (e : Event) (c : ℕ) (f : Live → Live) (old new : Booked) → Made e old new → new.course.calls ≡ change_live (slice_get old.course.calls c) f old.course.calls c → IsLiveCall old.course c → GoesOn old new
+keeps_changed e c f old new made is live = record {
   done = λ d h. let kept = done_still old.course.calls c f live.0 live.1.at live.1.live d h in (kept.0, ap (λ ls. slice_get ls d) is ∙ kept.1, kept.2);
   count = let a = as_long old.course.calls c f live.0 live.1.at in let b = ap length is in omega (arith, a, b);
-  script = script;
+  script = made.script;
+  events = events_made e old new made;
 }
 
-keeps_again : (c : ℕ) (old new : Booked) → Made (A c) old new → IsLiveCall old.course c → KeepsDone old new
-keeps_again c old new made live = keeps_changed c (again (length old.course.order) Plain) old new (ap (λ (s : Course). s.calls) made.course) made.script live
+keeps_again : (c : ℕ) (old new : Booked) → Made (A c) old new → IsLiveCall old.course c → GoesOn old new
+keeps_again c old new made live = keeps_changed (A c) c (again (length old.course.order) Plain) old new made (ap (λ (s : Course). s.calls) made.course) live
 
-keeps_committed : (c : ℕ) (old new : Booked) → Made (C c) old new → IsLiveCall old.course c → KeepsDone old new
-keeps_committed c old new made live = keeps_changed c finish old new (ap (λ (s : Course). s.calls) made.course) made.script live
+keeps_committed : (c : ℕ) (old new : Booked) → Made (C c) old new → IsLiveCall old.course c → GoesOn old new
+keeps_committed c old new made live = keeps_changed (C c) c finish old new made (ap (λ (s : Course). s.calls) made.course) live
 
-keeps_decided : (c : ℕ) (old new : Booked) → Made (X c) old new → IsLiveCall old.course c → KeepsDone old new
-keeps_decided c old new made live = keeps_changed c (λ l. finish (again (length old.course.order) Exclusive l)) old new (ap (λ (s : Course). s.calls) made.course) made.script live
+keeps_decided : (c : ℕ) (old new : Booked) → Made (X c) old new → IsLiveCall old.course c → GoesOn old new
+keeps_decided c old new made live = keeps_changed (X c) c (λ l. finish (again (length old.course.order) Exclusive l)) old new made (ap (λ (s : Course). s.calls) made.course) live
 
-pub keeps_same : (old new : Booked) → IsSame old new → KeepsDone old new
+pub keeps_same : (old new : Booked) → IsSame old new → GoesOn old new
 keeps_same old new same = record {
   done = λ d h. subst (λ (s : Course). IsDone s d) (sym same.course) h;
   count = let a = ap (λ (s : Course). length s.calls) same.course in omega (arith, a);
   script = same.script;
+  events = subst (IsPrefix old.journal) (sym same.journal) (prefix_self old.journal);
 }
 
-pub keeps_both : (a b c : Booked) → KeepsDone a b → KeepsDone b c → KeepsDone a c
+pub keeps_both : (a b c : Booked) → GoesOn a b → GoesOn b c → GoesOn a c
 keeps_both a b c x y = record {
   done = λ d h. y.done d (x.done d h);
   count = let p = x.count in let q = y.count in omega (arith, p, q);
   script = y.script ∙ x.script;
+  events = events_both a.journal b.journal c.journal x.events y.events;
 }
 
 -- the next call began, or not
-pub keeps_next : (r : Result (Option Begun) NoMemory) (old new : Booked) → HasNext r old new → KeepsDone old new
+pub keeps_next : (r : Result (Option Begun) NoMemory) (old new : Booked) → HasNext r old new → GoesOn old new
 keeps_next (Ok (Some b)) old new h = keeps_begun b.call old new h.0
 keeps_next (Ok None) old new h = keeps_same old new h.1
 keeps_next (Err e) old new h = keeps_same old new h
@@ -148,9 +167,9 @@ begun_next None old new c h begun there =
     omega (arith, there, all, long)
 
 -- a call was decided, or repaired, or not
-pub keeps_tried : (r : Result Answer NoMemory) (c : ℕ) (old new : Booked) → HasTried c r old new → IsLiveCall old.course c → KeepsDone old new
+pub keeps_tried : (r : Result Answer NoMemory) (c : ℕ) (old new : Booked) → Tries c r old new → IsLiveCall old.course c → GoesOn old new
 keeps_tried (Ok (answer.Committed n)) c old new h live = by h.0 where
-  by : Made (C c) old new ⊎ Made (X c) old new → KeepsDone old new
+  by : Made (C c) old new ⊎ Made (X c) old new → GoesOn old new
   by (inl made) = keeps_committed c old new made live
   by (inr made) = keeps_decided c old new made live
 keeps_tried (Ok answer.Repaired) c old new h live = keeps_again c old new h live
@@ -163,7 +182,7 @@ done_by c f old new is live ends = let h = done_now old.course.calls c f live.0 
 pub done_committed : (c : ℕ) (old new : Booked) → Made (C c) old new → IsLiveCall old.course c → IsDone new.course c
 done_committed c old new made live = done_by c finish old new (ap (λ (s : Course). s.calls) made.course) live (λ l. refl)
 
-pub done_tried : (a : Answer) (c : ℕ) (old new : Booked) → HasTried c (Ok a) old new → IsLiveCall old.course c → (a ≡ answer.Lost → ⊥) → (a ≡ answer.Repaired → ⊥) → IsDone new.course c
+pub done_tried : (a : Answer) (c : ℕ) (old new : Booked) → Tries c (Ok a) old new → IsLiveCall old.course c → (a ≡ answer.Lost → ⊥) → (a ≡ answer.Repaired → ⊥) → IsDone new.course c
 done_tried (answer.Committed n) c old new h live found left = by h.0 where
   by : Made (C c) old new ⊎ Made (X c) old new → IsDone new.course c
   by (inl made) = done_committed c old new made live
@@ -172,7 +191,7 @@ done_tried answer.Repaired c old new h live found left = absurd (left refl)
 done_tried answer.Lost c old new h live found left = absurd (found refl)
 
 -- a call that was repaired commits, or not
-pub keeps_commit : (r : Result ℕ NoMemory) (c : ℕ) (old new : Booked) → IfOk r (λ n. Made (C c) old new × (n ≡ length old.course.order + 1)) → OnErr r (IsSame old new) → IsLiveCall old.course c → KeepsDone old new
+pub keeps_commit : (r : Result ℕ NoMemory) (c : ℕ) (old new : Booked) → IfOk r (λ n. Made (C c) old new × (n ≡ length old.course.order + 1)) → OnErr r (IsSame old new) → IsLiveCall old.course c → GoesOn old new
 keeps_commit (Ok n) c old new made same live = keeps_committed c old new made.0 live
 keeps_commit (Err e) c old new made same live = keeps_same old new same
 
@@ -219,7 +238,7 @@ all_shut w s all = by (nat_lt (first_open 0 s.calls) w.count) refl where
   by false less = refl
 
 -- one call more has committed
-pub done_more : (old new : Booked) (k : ℕ) → ((d : ℕ) → d < k → IsDone old.course d) → KeepsDone old new → IsDone new.course k → (d : ℕ) → d < k + 1 → IsDone new.course d
+pub done_more : (old new : Booked) (k : ℕ) → ((d : ℕ) → d < k → IsDone old.course d) → GoesOn old new → IsDone new.course k → (d : ℕ) → d < k + 1 → IsDone new.course d
 done_more old new k all kept now d lt = by (same_or_apart d k) where
   below : (d k : ℕ) → d < k + 1 → (d ≡ k → ⊥) → d < k
   below d k lt apart = omega (arith, lt, apart)

@@ -1,5 +1,6 @@
 -- What a holder knows of its call, and what the history has of it.
-use Rattle.std.proofs.Common.{◌≡◌, ℕ, ◌≤◌, ◌<◌, Bool, true, false, List, [], Option, Some, None, length, refl, sym, ap, subst, ◌∙◌, arith, rules}
+use Rattle.std.proofs.Common.{◌≡◌, ◌↔◌, ℕ, ◌≤◌, ◌<◌, Bool, true, false, List, [], Option, Some, None, length, refl, sym, ap, subst, ◌∙◌, arith, rules}
+use Rattle.std.specs.Prelude.{IsTrue}
 use mathlib.Core.List.{IsPrefix}
 use Rattle.mv_record.specs.Runs.{Tables}
 use Rattle.mv_undo.specs.Owning.{HasWritesOf}
@@ -9,7 +10,7 @@ use Rattle.mv_journal.specs.declared.outcome.Round.{Round}
 use Rattle.mv_lawful.specs.Work.{Work, table_at, records_at}
 use Rattle.mv_lawful.specs.Lawful.{Live, Course, is_stale, has_step}
 use Rattle.mv_lawful.specs.Rounds.{whole_run, repair_run, rounds_of}
-use Rattle.mv_seats.specs.Scripts.{Script as Given}
+use Rattle.mv_seats.specs.Scripts.{Script as BoardScript}
 use Rattle.mv_seats.specs.Knowing.{Knows, Plain, plain}
 use Rattle.mv_seats.proofs.Prefixes.{prefix_length}
 use Rattle.mv_store.specs.Stored.{Versioned}
@@ -18,7 +19,7 @@ use Rattle.mv_core.specs.declared.tasks.Running.{Running}
 use Rattle.mv_core.specs.Scripts.{work_of}
 use Rattle.mv_core.specs.Calls.{IsLive, IsLiveCall, AreRounds, turns_in, last_number, due_number}
 use Rattle.mv_core.specs.Books.{Booked, work_in, Made, IsSame, HasRounds, IsNotStale}
-use Rattle.mv_core.specs.Cores.{RunsOn, IsStoreOf, HasTurns, HasRun, count_or, IsCounted, IsLiveTask, IsTaskIn, IsRunning, IsRepaired}
+use Rattle.mv_core.specs.Cores.{RunsOn, IsStoreOf, HasTurns, HasStep, HasRun, count_or, IsCounted, IsLiveTask, IsTaskIn, IsRunning, IsRepaired}
 use Rattle.mv_core.proofs.Numbers.{settled}
 use Rattle.mv_core.proofs.Refusing.{begun_number}
 use Rattle.mv_core.proofs.Taking.{one_live, due_now, task_given, task_writes}
@@ -26,7 +27,7 @@ use Rattle.mv_core.proofs.Changed.{step_used}
 use Rattle.mv_core.proofs.Stored.{at_least}
 use Rattle.mv_gate.specs.declared.answers.Answer.{Answer}
 use Rattle.mv_gate.specs.declared.answers.Answer.TheVariants as answer
-use Rattle.mv_gate.specs.Gates.{script_in, work, IsDesk, Holding, IsExecuted, IsHeld, IsOpen, IsWhole, HasCall, GivesBack, comes_from, count_of}
+use Rattle.mv_gate.specs.Gates.{script_in, work, IsDesk, Holding, IsExecuted, IsHeld, IsUnderWay, IsWhole, IsKnown, HasCall, GivesBack, repaired_from}
 use Rattle.mv_gate.proofs.Prefixes.{number_by, table_prefix, repair_prefix, whole_prefix, number_prefix}
 use Rattle.mv_gate.proofs.Numbers.{number_came, only_first}
 
@@ -38,77 +39,100 @@ numbered : (w : Work) (seen : List ℕ) (c : ℕ) (from : Option ℕ) (start : �
 numbered w seen c None start r e = (omega arith, ap (λ o. count_or o (whole_run w seen c start)) e.0)
 numbered w seen c (Some from) start r e = (e.0, ap (λ o. count_or o (whole_run w seen c start)) e.1 ∙ e.2)
 
-counted_here : (w : Work) (seen order : List ℕ) (c start : ℕ) (from count : Option ℕ) (l : Live) → IsPrefix seen order → start ≤ length seen → start ≡ l.start → HasTurns (length order) l → comes_from from l.turns ≡ true
+counted_here : (w : Work) (seen order : List ℕ) (c start : ℕ) (from count : Option ℕ) (l : Live) → IsPrefix seen order → start ≤ length seen → start ≡ l.start → HasTurns (length order) l → repaired_from l.turns ≡ from
     → IsNumbered w seen c start from count → IsCounted w order c l count
 counted_here w seen order c start from count l p le same h is e =
-    number_came w order c (length order) l from h is
+    number_came w order c (length order) l h
     ∙ ap Some
-    (ap (number_by w order c from) (sym same)
+    (ap (λ o. number_by w order c o l.start) is
+    ∙ (ap (number_by w order c from) (sym same)
     ∙ (number_prefix w seen order c from start p e.0 le
-    ∙ (sym e.1 ∙ (ap (count_or count) (sym (whole_prefix w seen order c start p le)) ∙ ap (λ n. count_or count (whole_run w order c n)) same))))
+    ∙ (sym e.1 ∙ (ap (count_or count) (sym (whole_prefix w seen order c start p le)) ∙ ap (λ n. count_or count (whole_run w order c n)) same)))))
 
 -- a whole run that went on executed all its records
 runs_on : (w : Work) (seen : List ℕ) (c start : ℕ) (from : Option ℕ) (old new : Running) → from ≡ None → IsExecuted w seen c from start old → HasRun old new → IsExecuted w seen c from start new
 runs_on w seen c start None old new none e ran = (ran.count ∙ e.0, ran.task.executed e.1)
 runs_on w seen c start (Some from) old new none e ran = absurd (search (rules, none))
 
--- the task that a holder has of a live call is the call's, where the start and the last round are the holder's
-task_here : (s : Given) (b : Booked) (store : Versioned) (gate : Knows) (h : Holding) (l : Live) (steps : ℕ) → IsDesk s b store gate → IsHeld s h → IsPrefix h.knows.seen b.course.order → IsLive b.course h.call l → comes_from h.from l.turns ≡ true → h.start ≡ l.start
-    → steps ≡ l.steps → steps ≤ length h.running.task.records → IsLiveTask b.script b.course.order h.call l h.running
-task_here s b store gate h l steps d k p live comes starts counts few =
-    subst (λ (x : Script). IsLiveTask x b.course.order h.call l h.running) (sym d.script) (record {
+-- the task that a holder has of a call that is known is the call's
+task_here : (s : BoardScript) (b : Booked) (store : Versioned) (gate : Knows) (h : Holding) → IsDesk s b store gate → IsHeld s h → IsPrefix h.knows.seen b.course.order → (k : IsKnown b h) → IsLiveTask b.script b.course.order h.call k.live h.running
+task_here s b store gate h d holds p k =
+    let turns : HasTurns (length b.course.order) k.live = d.turns h.call k.live k.is_live.at in
+    subst (λ (x : Script). IsLiveTask x b.course.order h.call k.live h.running) (sym d.script) (record {
       runs =
-          subst (λ n. RunsOn (script_in s) h.call (table_at (work s) b.course.order n) h.running.task) starts
-          (subst (λ (db : Tables). RunsOn (script_in s) h.call db h.running.task) (sym (table_prefix (work s) h.knows.seen b.course.order h.start p k.past)) k.runs);
+          subst (λ n. RunsOn (script_in s) h.call (table_at (work s) b.course.order n) h.running.task) (sym k.start)
+          (subst (λ (db : Tables). RunsOn (script_in s) h.call db h.running.task) (sym (table_prefix (work s) h.knows.seen b.course.order h.start p holds.past)) holds.runs);
       counted =
-          counted_here (work s) h.knows.seen b.course.order h.call h.start h.from h.running.count l p k.past starts (d.turns h.call l live.at) comes
-          (numbered (work s) h.knows.seen h.call h.from h.start h.running k.executed);
-      steps = λ none first. omega (arith, few, counts);
-      turns = d.turns h.call l live.at;
+          counted_here (work s) h.knows.seen b.course.order h.call h.start h.from h.running.count k.live p holds.past (sym k.start) turns k.from
+          (numbered (work s) h.knows.seen h.call h.from h.start h.running holds.executed);
+      steps = λ none first. k.steps (sym k.from ∙ only_first (length b.course.order) k.live turns first);
+      turns = turns;
     })
 
-task_back : (s : Given) (b : Booked) (store : Versioned) (gate : Knows) (h : Holding) (l : Live) (r : Running) → IsDesk s b store gate → IsHeld s h → IsPrefix h.knows.seen b.course.order → IsLive b.course h.call l → comes_from h.from l.turns ≡ true → h.start ≡ l.start
-    → has_step (work_in b) b.course h.call l ≡ true → IsLiveTask b.script b.course.order h.call l r → HasRun h.running r → IsHeld s (record h { running = r })
-task_back s b store gate h l r d k p live comes starts step task ran =
-    let t : IsLiveTask (script_in s) b.course.order h.call l r = subst (λ (x : Script). IsLiveTask x b.course.order h.call l r) d.script task in
+task_back : (s : BoardScript) (b : Booked) (store : Versioned) (gate : Knows) (h : Holding) (r : Running) → IsDesk s b store gate → IsHeld s h → IsPrefix h.knows.seen b.course.order → (k : IsKnown b h) → has_step (work_in b) b.course h.call k.live ≡ true
+    → IsLiveTask b.script b.course.order h.call k.live r → HasRun h.running r → IsHeld s (record h { running = r })
+task_back s b store gate h r d holds p k step task ran =
+    let t : IsLiveTask (script_in s) b.course.order h.call k.live r = subst (λ (x : Script). IsLiveTask x b.course.order h.call k.live r) d.script task in
     record {
-      role = k.role;
-      there = k.there;
-      past = k.past;
+      role = holds.role;
+      there = holds.there;
+      past = holds.past;
       runs =
-          subst (λ (db : Tables). RunsOn (script_in s) h.call db r.task) (table_prefix (work s) h.knows.seen b.course.order h.start p k.past)
-          (subst (λ n. RunsOn (script_in s) h.call (table_at (work s) b.course.order n) r.task) (sym starts) t.runs);
+          subst (λ (db : Tables). RunsOn (script_in s) h.call db r.task) (table_prefix (work s) h.knows.seen b.course.order h.start p holds.past)
+          (subst (λ n. RunsOn (script_in s) h.call (table_at (work s) b.course.order n) r.task) k.start t.runs);
       executed =
           runs_on (work s) h.knows.seen h.call h.start h.from h.running r
-          (only_first (length b.course.order) l h.from (d.turns h.call l live.at) comes (step_used (work_in b) b.course h.call l step)) k.executed ran;
+          (sym k.from ∙ only_first (length b.course.order) k.live (d.turns h.call k.live k.is_live.at) (step_used (work_in b) b.course h.call k.live step)) holds.executed ran;
     }
 
-pub fresh_here : (b : Booked) (store : Versioned) (c start low : ℕ) → IsStoreOf b store → ((l : Live) → IsLive b.course c l → start ≡ l.start) → low ≡ store.low → low ≤ start → IsNotStale b c
-fresh_here b store c start low k starts at le l live = at_least l.start b.course.low (let a = starts l live in let d = k.low_is in omega (arith, a, d, at, le))
+-- the history has a call that is known
+pub has_call : (s : BoardScript) (b : Booked) (store : Versioned) (gate : Knows) (h : Holding) → IsDesk s b store gate → IsHeld s h → IsPrefix h.knows.seen b.course.order → IsKnown b h → HasCall s b h
+has_call s b store gate h d holds p k = record {
+  call = record {
+    live = (k.live, k.is_live);
+    there = subst (λ (x : Script). h.call < length x.calls) (sym d.script) holds.there;
+    fresh = λ l at. at_least l.start b.course.low (let low = d.low in omega (arith, low));
+    task = λ l at. subst (λ (x : Live). IsLiveTask b.script b.course.order h.call x h.running) (one_live b.course h.call k.live l k.is_live at) (task_here s b store gate h d holds p k);
+  };
+  start = λ l at. sym k.start ∙ ap (λ (x : Live). x.start) (one_live b.course h.call k.live l k.is_live at);
+  back = λ step r task ran. task_back s b store gate h r d holds p k (step k.live k.is_live) (task k.live k.is_live) ran;
+}
 
--- the history has the call as its holder knows it
-pub has_call : (s : Given) (b : Booked) (store : Versioned) (gate : Knows) (h : Holding) (rs : List Round) (start low steps : ℕ) → IsDesk s b store gate → IsHeld s h → IsPrefix h.knows.seen b.course.order → HasRounds b h.call rs
-    → comes_from h.from (turns_in rs) ≡ true → ((l : Live) → IsLive b.course h.call l → start ≡ l.start) → start ≡ h.start → low ≡ store.low → low ≤ h.start → ((l : Live) → IsLive b.course h.call l → steps ≡ l.steps)
-    → steps ≤ length h.running.task.records → HasCall s b h
-has_call s b store gate h rs start low steps d k p has comes starts same at above counts few =
-    let from : (l : Live) → IsLive b.course h.call l → comes_from h.from l.turns ≡ true =
-    λ l live. ap (comes_from h.from) (sym (has.turns ∙ ap (λ (x : Live). x.turns) (one_live b.course h.call has.live l has.is_live live))) ∙ comes in
-    let here : (l : Live) → IsLive b.course h.call l → h.start ≡ l.start = λ l live. sym same ∙ starts l live in
-    record {
-      call = record {
-        live = (has.live, has.is_live);
-        there = subst (λ (x : Script). h.call < length x.calls) (sym d.script) k.there;
-        fresh = fresh_here b store h.call h.start low d.stored here at above;
-        task = λ l live. task_here s b store gate h l steps d k p live (from l live) (here l live) (counts l live) few;
-      };
-      start = here;
-      back = λ step r task ran.
-          task_back s b store gate h has.live r d k p has.is_live (from has.live has.is_live) (here has.live has.is_live) (step has.live has.is_live) (task has.live has.is_live) ran;
-    }
+-- Whether a call is known
+
+-- its rounds, its start and its statements as the book tells them
+pub known_by : (b : Booked) (h : Holding) (rs : List Round) (start : ℕ) → HasRounds b h.call rs → ((l : Live) → IsLive b.course h.call l → start ≡ l.start) → start ≡ h.start → repaired_from (turns_in rs) ≡ h.from
+    → (h.from ≡ None → (l : Live) → IsLive b.course h.call l → l.steps ≤ length h.running.task.records) → IsKnown b h
+known_by b h rs start has starts same from few = record {
+  live = has.live;
+  is_live = has.is_live;
+  start = sym (starts has.live has.is_live) ∙ same;
+  from = sym (ap repaired_from has.turns) ∙ from;
+  steps = λ none. few none has.live has.is_live;
+}
+
+-- a call with another start, or another repair, isn't known
+pub other_start : (b : Booked) (h : Holding) (start : ℕ) → ((l : Live) → IsLive b.course h.call l → start ≡ l.start) → (start ≡ h.start → ⊥) → IsKnown b h → ⊥
+other_start b h start starts apart k = apart (starts k.live k.is_live ∙ k.start)
+
+pub other_from : (b : Booked) (h : Holding) (rs : List Round) → HasRounds b h.call rs → (repaired_from (turns_in rs) ≡ h.from → ⊥) → IsKnown b h → ⊥
+other_from b h rs has apart k = apart (ap repaired_from (has.turns ∙ ap (λ (x : Live). x.turns) (one_live b.course h.call has.live k.live has.is_live k.is_live)) ∙ k.from)
+
+-- a test that fails
+pub not_known : (b : Booked) (h : Holding) → (IsKnown b h → ⊥) → IsTrue false ↔ IsKnown b h
+not_known b h away = (λ t. absurd (search (rules, t)), λ k. absurd (away k))
+
+-- the history and the call as contracts see them
+pub known_seen : (now b : Booked) (held h : Holding) (r : Bool) → b ≡ now → h ≡ held → IsTrue r ↔ IsKnown b h → IsTrue r ↔ IsKnown now held
+known_seen now b held h r desk one both = subst (λ (x : Holding). IsTrue r ↔ IsKnown now x) one (subst (λ (x : Booked). IsTrue r ↔ IsKnown x h) desk both)
+
+-- a live call that has a statement left
+pub one_step : (b : Booked) (c : ℕ) (l : Live) → IsLive b.course c l → has_step (work_in b) b.course c l ≡ true → HasStep b c
+one_step b c l live more = λ m at. subst (λ (x : Live). has_step (work_in b) b.course c x ≡ true) (one_live b.course c l m live at) more
 
 -- A call that is handed out
 
-pub held_begun : (s : Given) (old new : Booked) (store : Versioned) (gate knows : Knows) (call c n : ℕ) (task : Task) (script : Script) → IsDesk s old store gate → call ≡ length old.course.calls → call < length old.script.calls → Made (B c) old new
+pub held_begun : (s : BoardScript) (old new : Booked) (store : Versioned) (gate knows : Knows) (call c n : ℕ) (task : Task) (script : Script) → IsDesk s old store gate → call ≡ length old.course.calls → call < length old.script.calls → Made (B c) old new
     → n ≡ length old.course.order → knows ≡ plain gate → script ≡ old.script → ((db : Tables) → RunsOn script call db task) → task.records ≡ [] → task.executed ≡ 0
     → IsHeld s (record { call = c; start = n; from = None; running = record { task = task; count = None }; knows = knows })
 held_begun s old new store gate knows call c n task script d next there made at is same runs none zero =
@@ -125,7 +149,7 @@ held_begun s old new store gate knows call c n task script d next there made at 
 
 -- A call that was repaired
 
-pub held_again : (s : Given) (old : Booked) (knows : Knows) (h : Holding) (l : Live) (n : ℕ) (running : Running) → old.script ≡ script_in s → IsHeld s h → l.start ≤ length old.course.order → h.start ≡ l.start → n ≡ length old.course.order
+pub held_again : (s : BoardScript) (old : Booked) (knows : Knows) (h : Holding) (l : Live) (n : ℕ) (running : Running) → old.script ≡ script_in s → IsHeld s h → l.start ≤ length old.course.order → h.start ≡ l.start → n ≡ length old.course.order
     → IsRepaired old.script old.course.order h.call l running → knows.role ≡ Plain → IsPrefix old.course.order knows.seen
     → IsHeld s (record { call = h.call; start = n; from = Some h.start; running = running; knows = knows })
 held_again s old knows h l n running script k past same at r role p =
@@ -166,7 +190,7 @@ task_on old new c r script course t l live =
 pub task_was : (old new : Booked) (c : ℕ) (r : Running) → IsSame old new → IsTaskIn new c r → IsTaskIn old c r
 task_was old new c r same = task_on new old c r (sym same.script) (sym same.course)
 
-pub open_same : (old new : Booked) (c : ℕ) (r : Running) → IsSame old new → IsOpen old c r → IsOpen new c r
+pub open_same : (old new : Booked) (c : ℕ) (r : Running) → IsSame old new → IsUnderWay old c r → IsUnderWay new c r
 open_same old new c r same o = record {
   live = subst (λ (s : Course). IsLiveCall s c) (sym same.course) o.live;
   there = subst (λ (s : Script). c < length s.calls) (sym same.script) o.there;
@@ -183,7 +207,7 @@ whole_same old new c r same h = record {
 }
 
 -- an open call over the store
-pub running_of : (b : Booked) (store : Versioned) (c : ℕ) (r : Running) → IsStoreOf b store → IsOpen b c r → IsRunning b store c r
+pub running_of : (b : Booked) (store : Versioned) (c : ℕ) (r : Running) → IsStoreOf b store → IsUnderWay b c r → IsRunning b store c r
 running_of b store c r k o = record { stored = k; live = o.live; number = o.there; task = o.task }
 
 -- the number of its last round
@@ -191,11 +215,11 @@ pub due_whole : (b : Booked) (c n : ℕ) (r : Running) → IsWhole b c r → n �
 due_whole b c n r h is = due_now b c n r h.call.live h.call.task h.records is
 
 -- its own writes are those of its records
-pub open_writes : (b : Booked) (store : Versioned) (c : ℕ) (r : Running) → IsStoreOf b store → IsOpen b c r → HasWritesOf r.task.undo r.task.records
+pub open_writes : (b : Booked) (store : Versioned) (c : ℕ) (r : Running) → IsStoreOf b store → IsUnderWay b c r → HasWritesOf r.task.undo r.task.records
 open_writes b store c r k o = task_writes b.script b.course.order c o.live.0 r k.script o.there (o.task o.live.0 o.live.1)
 
 -- it ran on at its start
-pub open_ran : (b : Booked) (c : ℕ) (old new : Running) → IsOpen b c old → IsTaskIn b c new → IsOpen b c new
+pub open_ran : (b : Booked) (c : ℕ) (old new : Running) → IsUnderWay b c old → IsTaskIn b c new → IsUnderWay b c new
 open_ran b c old new o t = record { live = o.live; there = o.there; fresh = o.fresh; task = t }
 
 -- A call that was run whole anew
@@ -204,18 +228,16 @@ open_ran b c old new o t = record { live = o.live; there = o.there; fresh = o.fr
 known_number : (kept all : List Round) (k : ℕ) → AreRounds kept all → last_number kept ≡ Some k → last_number all ≡ Some k
 known_number kept all k are is = sym (ap last_number (settled kept all k are is)) ∙ is
 
-counted_anew : (w : Work) (order : List ℕ) (c n whole k : ℕ) (l : Live) (rs : List Round) (known : Option ℕ) (by_run : Bool) → HasTurns n l → turns_in rs ≡ l.turns → AreRounds rs (rounds_of w order c l.turns)
-    → last_number rs ≡ known → comes_from None (turns_in rs) ≡ by_run → whole ≡ whole_run w order c l.start → Some k ≡ count_of known by_run whole → last_number (rounds_of w order c l.turns) ≡ Some k
-counted_anew w order c n whole k l rs (Some m) by_run h turns are known comes all is = known_number rs (rounds_of w order c l.turns) m are known ∙ sym is
-counted_anew w order c n whole k l rs None true h turns are known comes all is =
-    number_came w order c n l None h (sym (ap (comes_from None) turns) ∙ comes) ∙ (ap Some (sym all) ∙ sym is)
-counted_anew w order c n whole k l rs None false h turns are known comes all is = absurd (search (rules, is))
+counted_anew : (w : Work) (order : List ℕ) (c n whole k : ℕ) (l : Live) (rs : List Round) (from : Option ℕ) → HasTurns n l → turns_in rs ≡ l.turns → AreRounds rs (rounds_of w order c l.turns) → repaired_from (turns_in rs) ≡ from
+    → whole ≡ whole_run w order c l.start → (from ≡ None → Some k ≡ Some whole) → ((from ≡ None → ⊥) → Some k ≡ last_number rs) → last_number (rounds_of w order c l.turns) ≡ Some k
+counted_anew w order c n whole k l rs None h turns are comes all by_run known =
+    number_came w order c n l h ∙ (ap (λ o. Some (number_by w order c o l.start)) (sym (ap repaired_from turns) ∙ comes) ∙ (ap Some (sym all) ∙ sym (by_run refl)))
+counted_anew w order c n whole k l rs (Some from) h turns are comes all by_run known = known_number rs (rounds_of w order c l.turns) k are (sym (known (λ none. search (rules, none))))
 
--- as many commits after its start as before it ran
-pub renewed : (s : Given) (b : Booked) (store : Versioned) (gate : Knows) (c start whole k : ℕ) (rs : List Round) (task : Task) → IsDesk s b store gate → IsLiveCall b.course c → c < length b.script.calls → HasRounds b c rs
+pub renewed : (s : BoardScript) (b : Booked) (store : Versioned) (gate : Knows) (c start whole k : ℕ) (rs : List Round) (task : Task) → IsDesk s b store gate → IsLiveCall b.course c → c < length b.script.calls → HasRounds b c rs
     → ((l : Live) → IsLive b.course c l → start ≡ l.start) → RunsOn b.script c (table_at (work_in b) b.course.order start) task → task.records ≡ records_at (work_in b) b.course.order start c
-    → whole ≡ length task.records → Some k ≡ count_of (last_number rs) (comes_from None (turns_in rs)) whole → IsOpen b c (record { task = task; count = Some k })
-renewed s b store gate c start whole k rs task d live there has starts runs are long is = record {
+    → whole ≡ length task.records → (repaired_from (turns_in rs) ≡ None → Some k ≡ Some whole) → ((repaired_from (turns_in rs) ≡ None → ⊥) → Some k ≡ last_number rs) → IsUnderWay b c (record { task = task; count = Some k })
+renewed s b store gate c start whole k rs task d live there has starts runs are long by_run known = record {
   live = live;
   there = there;
   fresh = λ l at. at_least l.start b.course.low (let low = d.low in omega (arith, low));
@@ -223,8 +245,8 @@ renewed s b store gate c start whole k rs task d live there has starts runs are 
       let first : start ≡ l.start = starts l at in
       let same : has.live ≡ l = one_live b.course c has.live l has.is_live at in
       task_given b.script b.course.order c k l (record { task = task; count = Some k }) (d.turns c l at.at)
-      (counted_anew (work_in b) b.course.order c (length b.course.order) whole k l rs (last_number rs) (comes_from None (turns_in rs)) (d.turns c l at.at) (has.turns ∙ ap (λ (x : Live). x.turns) same)
-      (subst (λ (x : Live). AreRounds rs (rounds_of (work_in b) b.course.order c x.turns)) same has.rounds) refl refl
-      (long ∙ (ap length are ∙ ap (λ n. length (records_at (work_in b) b.course.order n c)) first)) is) refl
+      (counted_anew (work_in b) b.course.order c (length b.course.order) whole k l rs (repaired_from (turns_in rs)) (d.turns c l at.at) (has.turns ∙ ap (λ (x : Live). x.turns) same)
+      (subst (λ (x : Live). AreRounds rs (rounds_of (work_in b) b.course.order c x.turns)) same has.rounds) refl
+      (long ∙ (ap length are ∙ ap (λ n. length (records_at (work_in b) b.course.order n c)) first)) by_run known) refl
       (subst (λ n. RunsOn b.script c (table_at (work_in b) b.course.order n) task) first runs);
 }

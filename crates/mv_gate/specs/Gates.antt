@@ -1,5 +1,6 @@
 -- Defines what lies behind the gate's lock, and what a worker keeps of its call outside of it. This project's own.
-use Rattle.std.specs.Prelude.{◌≡◌, ◌⊎◌, ◌<◌, ◌≤◌, ◌+◌, ℕ, ◌==◌, ◌&&◌, not, Bool, true, false, List, [], ◌∷◌, Option, Some, None, Result, Ok, Err, length, slice_get}
+use Rattle.std.specs.Prelude.{◌≡◌, ◌⊎◌, ◌<◌, ◌≤◌, ◌+◌, ℕ, Bool, true, false, List, [], ◌∷◌, Option, Some, None, Result, Ok, Err, length, slice_get}
+use mathlib.Core.List.{IsPrefix}
 use Rattle.mv_values.specs.declared.memory.NoMemory.{NoMemory}
 use Rattle.mv_journal.specs.declared.event.Event.{Event}
 use Rattle.mv_journal.specs.declared.event.Event.TheVariants.{B, S, A, M, C, X, G}
@@ -11,7 +12,7 @@ use Rattle.mv_lawful.specs.Lawful.{Turn, Live, Course, Lawful, refusal}
 use Rattle.mv_lawful.specs.Rounds.{repair_run, IsBounded}
 use Rattle.mv_lawful.specs.Outcomes.{outcome_of}
 use Rattle.mv_store.specs.Stored.{Versioned}
-use Rattle.mv_seats.specs.Scripts.{Script as Given}
+use Rattle.mv_seats.specs.Scripts.{Script as BoardScript}
 use Rattle.mv_seats.specs.Knowing.{Knows, Plain, Gate}
 use Rattle.mv_core.specs.declared.script.Script.{Script}
 use Rattle.mv_core.specs.declared.tasks.Running.{Running}
@@ -25,11 +26,11 @@ use Rattle.mv_gate.specs.declared.answers.Answer.TheVariants as answer
 -- The script of a board
 
 -- as a history has it
-abbrev pub script_in : Given → Script
+abbrev pub script_in : BoardScript → Script
 script_in s = record { graphs = s.graphs; calls = s.calls; opening = s.opening; options = s.options }
 
 -- its work, in the words of the law of journals
-abbrev pub work : Given → Work
+abbrev pub work : BoardScript → Work
 work s = work_of (script_in s)
 
 -- Behind the lock
@@ -54,7 +55,7 @@ HaveTurns s = (c : ℕ) (l : Live) → slice_get s.calls c ≡ Some l → HasTur
 
 -- a history of the board's script, a store that has its tables, and the gate's pass, which has seen its commits. No call
 -- has moved, and none has writes that aren't committed
-pub record IsDesk (s : Given) (b : Booked) (store : Versioned) (gate : Knows) : Type 0 where
+pub record IsDesk (s : BoardScript) (b : Booked) (store : Versioned) (gate : Knows) : Type 0 where
   pub script : b.script ≡ script_in s
   pub stored : IsStoreOf b store
   pub role : gate.role ≡ Gate
@@ -65,8 +66,8 @@ pub record IsDesk (s : Given) (b : Booked) (store : Versioned) (gate : Knows) : 
 
 -- Outside of the lock
 
--- what contracts see of a call that a worker holds: its number, its start, the start that its last repair went from, its
--- task, and what its pass knows
+-- what contracts see of a call that a worker holds: its number, its start, the start that its last round was repaired
+-- from, its task, and what its pass knows
 pub record Holding : Type 0 where
   pub call : ℕ
   pub start : ℕ
@@ -80,43 +81,17 @@ IsExecuted w seen c None start r = (r.count ≡ None) × (r.task.executed ≡ le
 IsExecuted w seen c (Some from) start r = (from ≤ start) × (r.count ≡ Some r.task.executed) × (r.task.executed ≡ repair_run w seen c from start)
 
 -- a call of the board's script, as far as it has run at its start in a history that the pass has seen
-pub record IsHeld (s : Given) (h : Holding) : Type 0 where
+pub record IsHeld (s : BoardScript) (h : Holding) : Type 0 where
   pub role : h.knows.role ≡ Plain
   pub there : h.call < length s.calls
   pub past : h.start ≤ length h.knows.seen
   pub runs : RunsOn (script_in s) h.call (table_at (work s) h.knows.seen h.start) h.running.task
   pub executed : IsExecuted (work s) h.knows.seen h.call h.from h.start h.running
 
--- the last round came about so: it is the first or a moved one, or a repair from this start
-abbrev pub is_moved : Mark → Bool
-is_moved Repaired = false
-is_moved Exclusive = false
-is_moved Moved = true
-
-abbrev pub came : Option ℕ → Turn → Turn → Bool
-came None before last = is_moved last.mark
-came (Some from) before last = not (is_moved last.mark) && (before.start == from)
-
-abbrev pub is_first : Option ℕ → Bool
-is_first None = true
-is_first (Some from) = false
-
-abbrev pub comes_from : Option ℕ → List Turn → Bool
-comes_from from [] = false
-comes_from from (t ∷ []) = is_first from
-comes_from from (t ∷ u ∷ []) = came from t u
-comes_from from (t ∷ u ∷ v ∷ ts) = comes_from from (u ∷ v ∷ ts)
-
--- the number of the last round, if it is known, or else that of a whole run, if it came about by one
-abbrev pub count_of : Option ℕ → Bool → ℕ → Option ℕ
-count_of (Some k) by_run whole = Some k
-count_of None true whole = Some whole
-count_of None false whole = None
-
 -- Behind the lock, in one hold
 
--- a live call, whose start isn't below low, and its task
-pub record IsOpen (b : Booked) (c : ℕ) (r : Running) : Type 0 where
+-- a live call of the script, whose start isn't below low, and its task
+pub record IsUnderWay (b : Booked) (c : ℕ) (r : Running) : Type 0 where
   pub live : IsLiveCall b.course c
   pub there : c < length b.script.calls
   pub fresh : IsNotStale b c
@@ -124,7 +99,7 @@ pub record IsOpen (b : Booked) (c : ℕ) (r : Running) : Type 0 where
 
 -- it has run whole
 pub record IsWhole (b : Booked) (c : ℕ) (r : Running) : Type 0 where
-  pub call : IsOpen b c r
+  pub call : IsUnderWay b c r
   pub records : AreRecordsOf b c r.task.records
 
 -- it was repaired: it has run whole anew, after all commits, and may commit
@@ -133,36 +108,59 @@ pub record IsRestarted (old new : Booked) (c : ℕ) (r : Running) : Type 0 where
   pub free : refusal (work_in new) new.course (C c) ≡ None
   pub repaired : (l : Live) → IsLive old.course c l → IsRepaired old.script old.course.order c l r
 
--- the history has the call as its holder knows it; a task that has run on there is one that the holder may have
-pub record HasCall (s : Given) (b : Booked) (h : Holding) : Type 0 where
-  pub call : IsOpen b h.call h.running
+-- the start that a round with this mark was repaired from, if the round before it has this one
+abbrev pub repaired_by : Mark → ℕ → Option ℕ
+repaired_by Repaired n = Some n
+repaired_by Exclusive n = Some n
+repaired_by Moved n = None
+
+-- the start that the last round was repaired from; the first round and a move have none
+abbrev pub repaired_from : List Turn → Option ℕ
+repaired_from [] = None
+repaired_from (t ∷ []) = None
+repaired_from (t ∷ u ∷ []) = repaired_by u.mark t.start
+repaired_from (t ∷ u ∷ v ∷ ts) = repaired_from (u ∷ v ∷ ts)
+
+-- the history has the holder's call, with the same start and the same repair. Unless the call was repaired, its task has
+-- a record of each statement that the journal names
+pub record IsKnown (b : Booked) (h : Holding) : Type 0 where
+  pub live : Live
+  pub is_live : IsLive b.course h.call live
+  pub start : live.start ≡ h.start
+  pub from : repaired_from live.turns ≡ h.from
+  pub steps : h.from ≡ None → live.steps ≤ length h.running.task.records
+
+-- the holder's call is under way, with its start. While it has a statement left, its holder may have any task that the
+-- holder's one runs on to
+pub record HasCall (s : BoardScript) (b : Booked) (h : Holding) : Type 0 where
+  pub call : IsUnderWay b h.call h.running
   pub start : (l : Live) → IsLive b.course h.call l → h.start ≡ l.start
   pub back : HasStep b h.call → (r : Running) → IsTaskIn b h.call r → HasRun h.running r → IsHeld s (record h { running = r })
 
 -- Results of events
 
 -- the next call began, after all commits, and has executed nothing; or every call has begun
-abbrev pub HasBegun : Result (Option Holding) NoMemory → Booked → Booked → Type 0
-HasBegun (Ok (Some h)) old new = Made (B h.call) old new × (h.start ≡ length old.course.order) × (h.from ≡ None) × (h.running.task.records ≡ [])
-HasBegun (Ok None) old new = (length old.course.calls ≡ length old.script.calls) × IsSame old new
-HasBegun (Err e) old new = IsSame old new
+abbrev pub HandsOut : Result (Option Holding) NoMemory → Booked → Booked → Type 0
+HandsOut (Ok (Some h)) old new = Made (B h.call) old new × (h.start ≡ length old.course.order) × (h.from ≡ None) × (h.running.task.records ≡ [])
+HandsOut (Ok None) old new = (length old.course.calls ≡ length old.script.calls) × IsSame old new
+HandsOut (Err e) old new = IsSame old new
 
--- a statement was executed, or the call is no longer as its holder knows it
-abbrev pub HasStepped : ℕ → Result Bool NoMemory → Booked → Booked → Type 0
-HasStepped c (Ok true) old new = Made (S c) old new
-HasStepped c (Ok false) old new = IsSame old new
-HasStepped c (Err e) old new = IsSame old new
+-- a statement was executed; or the call isn't known, or has no statement left
+abbrev pub StepsOn : Holding → Result Bool NoMemory → Booked → Booked → Type 0
+StepsOn h (Ok true) old new = Made (S h.call) old new
+StepsOn h (Ok false) old new = IsSame old new × (IsKnown old h → HasStep old h.call → ⊥)
+StepsOn h (Err e) old new = IsSame old new
 
--- the call committed, and was repaired in the same step only if it was hit and had no round left
+-- the call committed, or was repaired and committed in one step; this is the number of its commit
 abbrev pub Commits : ℕ → ℕ → Booked → Booked → Type 0
 Commits c n old new = (Made (C c) old new ⊎ Made (X c) old new) × (n ≡ length old.course.order + 1)
 
--- the call committed, or was repaired, or is no longer as its holder knows it
-abbrev pub HasTried : ℕ → Result Answer NoMemory → Booked → Booked → Type 0
-HasTried c (Ok (answer.Committed n)) old new = Commits c n old new
-HasTried c (Ok answer.Repaired) old new = Made (A c) old new
-HasTried c (Ok answer.Lost) old new = IsSame old new
-HasTried c (Err e) old new = IsSame old new
+-- the call committed, or was repaired, or nothing happened
+abbrev pub Tries : ℕ → Result Answer NoMemory → Booked → Booked → Type 0
+Tries c (Ok (answer.Committed n)) old new = Commits c n old new
+Tries c (Ok answer.Repaired) old new = Made (A c) old new
+Tries c (Ok answer.Lost) old new = IsSame old new
+Tries c (Err e) old new = IsSame old new
 
 -- the answer of an attempt, without the call that it gives back
 abbrev pub answer_in : {H : Type 0} → Result (Answer × H) NoMemory → Result Answer NoMemory
@@ -184,11 +182,13 @@ GivesBack old answer.Lost None new = Unit {0}
 abbrev pub IsDone : Course → ℕ → Type 0
 IsDone s c = (l : Live) × (slice_get s.calls c ≡ Some l) × (l.done ≡ true)
 
--- each call that has committed still has, and each call that has begun; the script is the same
-pub record KeepsDone (old new : Booked) : Type 0 where
+-- a later point of a run: each call that had committed still has, no fewer calls have begun, and the old events begin
+-- the new ones
+pub record GoesOn (old new : Booked) : Type 0 where
   pub done : (c : ℕ) → IsDone old.course c → IsDone new.course c
   pub count : length old.course.calls ≤ length new.course.calls
   pub script : new.script ≡ old.script
+  pub events : IsPrefix old.journal new.journal
 
 -- the outcome of a lawful and bounded journal of the script's calls, in which each has committed
 pub record IsOutcome (w : Work) (o : Outcome) : Type 0 where

@@ -1,6 +1,6 @@
-//! What lies behind the gate's lock. Each event of a run is one call of a method of it.
+//! What lies behind the gate's lock: the history of a run and its tables.
 
-ghost use Rattle.std.specs.Prelude.{◌≡◌, ◌≢◌, ◌<◌, ◌≤◌, ◌+◌, [], None, Some, true, IsTrue, IfOk, OnOk, OnErr, length};
+ghost use Rattle.std.specs.Prelude.{◌≡◌, ◌≢◌, ◌↔◌, ◌<◌, ◌≤◌, ◌+◌, [], None, Some, true, IsTrue, IfOk, OnOk, OnErr, length};
 ghost use mathlib.Core.List.{IsPrefix};
 ghost use Rattle.mv_seats.specs.Knowing.{Plain, gate_pass};
 ghost use Rattle.mv_lawful.specs.Lawful.{Live, beginning, open_call, refusal, has_round};
@@ -11,12 +11,12 @@ ghost use Rattle.mv_core.specs.Books.{work_in, Made, IsSame};
 ghost use Rattle.mv_core.specs.Cores.{HasStep};
 ghost use Rattle.mv_gate.specs.declared.answers.Answer.TheVariants as Answer;
 ghost use Rattle.mv_lawful.specs.declared.fault.Fault.TheVariants.{Conflict};
-ghost use Rattle.mv_gate.specs.Gates.{script_in, work, IsOpen, IsWhole, IsRestarted, HasCall, HasBegun, HasStepped, HasTried, answer_in, GivesBack, IsOutcome, IsDone, KeepsDone};
+ghost use Rattle.mv_gate.specs.Gates.{script_in, work, IsUnderWay, IsWhole, IsRestarted, IsKnown, HasCall, HandsOut, StepsOn, Tries, answer_in, GivesBack, IsOutcome, IsDone, GoesOn};
 
 use crate::answers::Answer;
 use crate::held::Held;
 use crate::notes::note;
-use crate::rounds::{comes_from, count_of};
+use crate::rounds::{count_of, repaired_from};
 use mv_core::book::{Book, Check};
 use mv_core::script::Script;
 use mv_core::tasks::{
@@ -69,9 +69,9 @@ impl<N: Making> Desk<N> {
     }
 
     /// Event B. Begins the next call, after all commits, and hands it out. It copies the call's arguments. Returns `None`
-    /// exactly if each call has begun. Fails with `NoMemory` if memory runs out. Then no call has begun.
+    /// exactly if each call has begun. Fails with `NoMemory` if memory runs out. Then the call hasn't begun.
     pub fn begin(&mut self, alloc: Global, board: &Board<N>) -> Result<Option<Held<N>>, NoMemory>
-        ensures { HasBegun result self.old self.new }
+        ensures { HandsOut result self.old self.new }
     {
         let Some(call) = self.book.next_call() else {
             return Ok(None);
@@ -108,34 +108,30 @@ impl<N: Making> Desk<N> {
         self.pass.meet(board, note);
     }
 
-    /// Whether the history has the call as its holder knows it: live, with that start, which isn't below low, and with a
-    /// last round that came about as the holder's.
+    /// Whether the history has the call as its holder knows it: live, with the same start and the same repair. Unless it
+    /// was repaired, the holder must have run each statement that the journal names.
     fn has(&self, held: &Held<N>) -> bool
         requires { IsPrefix held.now.knows.seen self.now.course.order }
-        ensures { IsTrue result → HasCall N.script self.now held.now }
+        ensures known { IsTrue result ↔ IsKnown self.now held.now }
+        ensures call { IsTrue result → HasCall N.script self.now held.now }
     {
         let Some(rounds) = self.book.rounds(held.call) else {
             return false;
         };
-        if !comes_from(held.from, rounds) {
-            return false;
-        }
         let start = self.book.start(held.call);
         if start != held.start {
             return false;
         }
-        let low = self.store.low();
-        if held.start < low {
+        if repaired_from(rounds) != held.from {
             return false;
         }
-        let steps = self.book.steps(held.call);
-        steps <= held.running.task.records().len()
+        held.from.is_some() || self.book.steps(held.call) <= held.running.task.records().len()
     }
 
     /// Whether a live call is in its first round, which has a statement left.
     fn has_step(&self, call: u32, running: &Running) -> bool
-        requires { IsOpen self.now call running.now }
-        ensures { IsTrue result → HasStep self.now call }
+        requires { IsUnderWay self.now call running.now }
+        ensures { IsTrue result ↔ HasStep self.now call }
     {
         let Some(rounds) = self.book.rounds(call) else {
             unreachable!();
@@ -144,16 +140,19 @@ impl<N: Making> Desk<N> {
     }
 
     /// Event S. Executes the next statement of a call that its holder runs, over the tables at its start. Returns false,
-    /// and does nothing, if the call has no statement left, or the history doesn't have it as its holder knows it. Fails
-    /// with `NoMemory` if memory runs out. Then the event wasn't made, and the call can go on.
+    /// and does nothing, only if the call has no statement left, or the history doesn't have it as its holder knows it.
+    /// Fails with `NoMemory` if memory runs out. Then the event wasn't made, and the call can go on.
     pub fn step(
         &mut self,
         alloc: Global,
         board: &Board<N>,
         held: &mut Held<N>,
     ) -> Result<bool, NoMemory>
-        ensures made { HasStepped held.old.call result self.old self.new }
+        ensures made { StepsOn held.old result self.old self.new }
         ensures call { held.new.call ≡ held.old.call }
+        ensures start { held.new.start ≡ held.old.start }
+        ensures from { held.new.from ≡ held.old.from }
+        ensures knows { held.new.knows ≡ held.old.knows }
     {
         self.see(board, held);
         if !self.has(held) || !self.has_step(held.call, &held.running) {
@@ -263,8 +262,8 @@ impl<N: Making> Desk<N> {
         call: u32,
         running: &mut Running,
     ) -> Result<Answer, NoMemory>
-        requires { IsOpen self.old call running.old }
-        ensures tried { HasTried call result self.old self.new }
+        requires { IsUnderWay self.old call running.old }
+        ensures tried { Tries call result self.old self.new }
         ensures found { IfOk result (λ answer. answer ≢ Answer.Lost) }
         ensures restarted { IfOk result (λ answer. answer ≡ Answer.Repaired → IsRestarted self.old self.new call running.new) }
     {
@@ -290,7 +289,7 @@ impl<N: Making> Desk<N> {
         requires whole { IsWhole self.old call running.old }
         requires ended { running.old.task.ended ≡ true }
         requires hit { refusal (work_in self.old) self.old.course (C call) ≡ Some Conflict }
-        ensures tried { HasTried call result self.old self.new }
+        ensures tried { Tries call result self.old self.new }
         ensures found { IfOk result (λ answer. answer ≢ Answer.Lost) }
         ensures restarted { IfOk result (λ answer. answer ≡ Answer.Repaired → IsRestarted self.old self.new call running.new) }
     {
@@ -304,15 +303,16 @@ impl<N: Making> Desk<N> {
 
     /// Tries to commit a call that its holder gives up, by one event: C, A or X. First it runs the rest of the call at its
     /// start. After a repair the call is given back. It then starts anew after all commits. Returns `Lost`, and does
-    /// nothing, if the history doesn't have the call as its holder knows it. Fails with `NoMemory` if memory runs out.
-    /// Then no event was made, and the call is left to `finish`.
+    /// nothing, only if the history doesn't have the call as its holder knows it. Fails with `NoMemory` if memory runs
+    /// out. Then no event was made, and the call is left to `finish`.
     pub fn attempt(
         &mut self,
         alloc: Global,
         board: &Board<N>,
         mut held: Held<N>,
     ) -> Result<(Answer, Option<Held<N>>), NoMemory>
-        ensures tried { HasTried held.call (answer_in result) self.old self.new }
+        ensures tried { Tries held.call (answer_in result) self.old self.new }
+        ensures lost { IfOk result (λ r. r.0 ≡ Answer.Lost → IsKnown self.old held → ⊥) }
         ensures back { IfOk result (λ r. GivesBack held r.0 r.1 self.new) }
     {
         self.see(board, &mut held);
@@ -350,12 +350,12 @@ impl<N: Making> Desk<N> {
         self.book.script().calls.len() as u32
     }
 
-    /// Runs a live call whole anew, at its start. Fails with `NoMemory` if memory runs out, and if the call was repaired
-    /// and the history doesn't have the number of that round. A repair sets that number in its own hold.
+    /// Runs a live call whole anew, at its start. Fails with `NoMemory` if memory runs out, or if the call was repaired
+    /// and the history doesn't have the number of that round.
     fn renew(&self, alloc: Global, call: u32) -> Result<Running, NoMemory>
         requires live { IsLiveCall self.now.course call }
         requires number { call < length self.now.script.calls }
-        ensures { IfOk result (IsOpen self.now call) }
+        ensures { IfOk result (IsUnderWay self.now call) }
     {
         let Some(rounds) = self.book.rounds(call) else {
             unreachable!();
@@ -376,7 +376,7 @@ impl<N: Making> Desk<N> {
         requires live { IsLiveCall self.old.course call }
         requires number { call < length self.old.script.calls }
         ensures done { OnOk result (IsDone self.new.course call) }
-        ensures kept { KeepsDone self.old self.new }
+        ensures kept { GoesOn self.old self.new }
     {
         let mut running = self.renew(alloc, call)?;
         let answer = self.decide(alloc, board, call, &mut running)?;
@@ -392,7 +392,7 @@ impl<N: Making> Desk<N> {
         requires begun { call ≤ length self.old.course.calls }
         requires there { call < length self.old.script.calls }
         ensures begun { OnOk result (call < length self.new.course.calls) }
-        ensures kept { KeepsDone self.old self.new }
+        ensures kept { GoesOn self.old self.new }
     {
         let Some(next) = self.book.next_call() else {
             return Ok(());
@@ -410,7 +410,7 @@ impl<N: Making> Desk<N> {
         requires there { call < length self.old.script.calls }
         ensures begun { OnOk result (call < length self.new.course.calls) }
         ensures done { OnOk result (IsDone self.new.course call) }
-        ensures kept { KeepsDone self.old self.new }
+        ensures kept { GoesOn self.old self.new }
     {
         self.begin_left(alloc, call)?;
         let Some(_) = self.book.rounds(call) else {
@@ -422,7 +422,8 @@ impl<N: Making> Desk<N> {
     /// Begins the calls that haven't begun, and commits those that haven't committed, one after another. Fails with
     /// `NoMemory` if memory runs out.
     pub fn finish(&mut self, alloc: Global, board: &Board<N>) -> Result<(), NoMemory>
-        ensures { OnOk result (open_call (work_in self.new) self.new.course ≡ None) }
+        ensures ended { OnOk result (open_call (work_in self.new) self.new.course ≡ None) }
+        ensures events { IsPrefix self.old.journal self.new.journal }
     {
         for call in 0..self.calls() {
             self.bring(alloc, board, call)?;
@@ -430,11 +431,12 @@ impl<N: Making> Desk<N> {
         Ok(())
     }
 
-    /// Turns the history into the outcome of the run. Each call must have committed. It copies the tables and the events.
-    /// Fails with `NoMemory` if memory runs out.
+    /// Turns the history into the outcome of its events. Each call must have committed. It copies the tables and the
+    /// events. Fails with `NoMemory` if memory runs out.
     pub fn outcome(self, alloc: Global) -> Result<Outcome, NoMemory>
         requires { open_call (work_in self) self.course ≡ None }
-        ensures { IfOk result (IsOutcome (work N.script)) }
+        ensures outcome { IfOk result (IsOutcome (work N.script)) }
+        ensures journal { IfOk result (λ outcome. outcome.journal ≡ self.journal) }
     {
         let Desk { book, store, .. } = self;
         let tables = store.tables_at(alloc, store.last())?;

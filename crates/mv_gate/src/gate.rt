@@ -1,6 +1,6 @@
 //! The gate, its workers, and whole runs by any number of them.
 
-ghost use Rattle.std.specs.Prelude.{◌≡◌, ◌<◌, ◌≤◌, ◌^◌, IfOk, length};
+ghost use Rattle.std.specs.Prelude.{◌≡◌, ◌<◌, ◌≤◌, ◌^◌, [], IfOk, length};
 ghost use mathlib.Core.List.{IsPrefix};
 ghost use Rattle.mv_seats.specs.Knowing.{Plain};
 ghost use Rattle.mv_core.specs.Scripts.{IsScript, work_of};
@@ -24,16 +24,16 @@ use std::thread::Threads;
 
 /// A lock round the history of a run, and the board that counts its commits. All workers share it. Each event is one hold
 /// of the lock. A begin copies the call's arguments. A statement holds the lock while it is executed. An attempt holds it
-/// for the validation, and then for the commit or the repair.
+/// for the statements that are left, for the validation, and then for the commit or the repair.
 #[derive(Drop)]
 pub struct Gate<N: Making> {
     board: Board<N>,
     desk: Mutex<Desk<N>>,
 }
 
-/// A worker's pass and number.
+/// The post of a worker: its pass and its number.
 #[derive(Drop)]
-struct Chair<N: Making> {
+struct Post<N: Making> {
     pass: Pass<N>,
     number: u32,
     ghost plain: { pass.role ≡ Plain },
@@ -47,7 +47,8 @@ impl<N: Making> Gate<N> {
         requires named { blank.script ≡ N.script }
         requires script { script ≡ script_in N.script }
         requires sound { IsScript script }
-        ensures { IfOk result (λ made. made.1.role ≡ Plain) }
+        ensures role { IfOk result (λ made. made.1.role ≡ Plain) }
+        ensures seen { IfOk result (λ made. made.1.seen ≡ []) }
     {
         let (board, pass) = blank.open::<N>();
         let mut desk = Desk::new(alloc, script, pass)?;
@@ -111,8 +112,8 @@ fn run_statements<N: Making, R: Threads + Wait + Sync, P: Pace>(
     unreachable!()
 }
 
-/// Brings a call that has begun to its commit. If the history no longer has the call as it is held, the call is left to
-/// the caller of the workers.
+/// Runs the statements of a call that has begun, and tries to commit it, until it has committed. Gives the call up if the
+/// history doesn't have it as it is held.
 fn run_call<N: Making, R: Threads + Wait + Sync, P: Pace>(
     rt: &R,
     alloc: Global,
@@ -138,9 +139,9 @@ fn run_call<N: Making, R: Threads + Wait + Sync, P: Pace>(
     unreachable!()
 }
 
-/// Begins calls and brings each to its commit, until none is left to begin. Calls the pace after each begin, each
-/// statement and each commit, and before each attempt to commit, while no lock is held. Fails with `NoMemory` if memory
-/// runs out, and leaves its call to the caller.
+/// Begins calls and tries to commit each, until none is left to begin. Calls the pace after each begin, each statement and
+/// each commit, and before each attempt to commit, while it doesn't hold the lock. Fails with `NoMemory` if memory runs
+/// out. Then its last call may not have committed.
 pub fn worker<N: Making, R: Threads + Wait + Sync, P: Pace>(
     rt: &R,
     alloc: Global,
@@ -163,27 +164,27 @@ pub fn worker<N: Making, R: Threads + Wait + Sync, P: Pace>(
     unreachable!()
 }
 
-/// Returns the chair of a worker.
-fn seat_at<N: Making>(pass: Pass<N>, number: u32) -> Chair<N>
+/// Returns a post with this pass and this number.
+fn new_post<N: Making>(pass: Pass<N>, number: u32) -> Post<N>
     requires { pass.role ≡ Plain }
 {
-    Chair { pass, number }
+    Post { pass, number }
 }
 
-/// Works in a chair. What the worker leaves if memory runs out is left to the caller of the workers.
-fn sit<N: Making, R: Threads + Wait + Sync, P: Pace>(
+/// Begins calls and tries to commit each, as a worker at this post. Calls may be left that haven't committed.
+fn work_at<N: Making, R: Threads + Wait + Sync, P: Pace>(
     rt: &R,
     alloc: Global,
     gate: &Gate<N>,
-    chair: &mut Chair<N>,
+    post: &mut Post<N>,
     pace: &P,
 ) {
-    let number = chair.number;
-    let _left = worker(rt, alloc, gate, &mut chair.pass, number, pace);
+    let number = post.number;
+    let _left = worker(rt, alloc, gate, &mut post.pass, number, pace);
 }
 
-/// Runs the calls of a gate's script by 1 to 64 workers. Returns the outcome of a lawful journal in which each call has
-/// committed once. What workers leave, the caller finishes. Fails with `NoMemory` if memory runs out.
+/// Runs the calls of a gate's script by 1 to 64 workers, and then those that they have left. Returns the outcome of a
+/// lawful and bounded journal, in which each call has committed. Fails with `NoMemory` if memory runs out.
 pub fn run_all<N: Making + Send + Sync, R: Threads + Wait + Sync, P: Pace>(
     rt: &R,
     alloc: Global,
@@ -196,18 +197,18 @@ pub fn run_all<N: Making + Send + Sync, R: Threads + Wait + Sync, P: Pace>(
     requires pass { pass.role ≡ Plain }
     ensures { IfOk result (IsOutcome (work N.script)) }
 {
-    let mut chairs = Vec::new(alloc);
+    let mut posts = Vec::new(alloc);
     for number in 0..workers {
         let mine = note(&mut pass, &gate.board);
-        let chair = seat_at(mine, number);
-        chairs.push(chair)?;
+        let post = new_post(mine, number);
+        posts.push(post)?;
     }
     let shared = &gate;
     thread::for_each_mut(
         rt,
-        chairs.as_mut_slice(),
+        posts.as_mut_slice(),
         workers as usize,
-        &|_, chair: &mut Chair<N>| sit(rt, alloc, shared, chair, pace),
+        &|_, post: &mut Post<N>| work_at(rt, alloc, shared, post, pace),
     );
     let Gate { board, desk } = gate;
     let mut desk = desk.into_inner();
@@ -215,8 +216,8 @@ pub fn run_all<N: Making + Send + Sync, R: Threads + Wait + Sync, P: Pace>(
     desk.outcome(alloc)
 }
 
-/// Runs the calls of a script by 1 to 64 workers. Returns the outcome of a lawful journal in which each call has committed
-/// once, and no call was repaired more often than the options allow. Fails with `NoMemory` if memory runs out.
+/// Runs the calls of a script by 1 to 64 workers. Returns the outcome of a lawful and bounded journal, in which each call
+/// has committed. Fails with `NoMemory` if memory runs out.
 pub fn run<R: Threads + Wait + Sync, P: Pace>(
     rt: &R,
     alloc: Global,

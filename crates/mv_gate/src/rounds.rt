@@ -1,53 +1,30 @@
 //! How the last round of a call came about.
 
-ghost use Rattle.std.specs.Prelude.{◌≡◌, ◌==◌, ◌&&◌, None};
-ghost use Rattle.mv_core.specs.Calls.{turn_of, turns_in, last_number};
-ghost use Rattle.mv_gate.specs.Gates.{comes_from, is_first, is_moved, came, count_of};
+ghost use Rattle.std.specs.Prelude.{◌≡◌, ◌≢◌, None, Some};
+ghost use Rattle.mv_core.specs.Calls.{turns_in, last_number};
+ghost use Rattle.mv_gate.specs.Gates.{repaired_by, repaired_from};
 
 use mv_journal::outcome::{Mark, Round};
 
-/// Whether this is the mark of a move.
-fn is_moved(mark: Mark) -> bool
-    ensures { result ≡ is_moved mark }
+/// Returns the start that a round with this mark was repaired from, if the round before it has this one.
+fn repaired_by(mark: Mark, start: u32) -> Option<u32>
+    ensures { result ≡ repaired_by mark start }
 {
     match mark {
-        Mark::Moved => true,
-        Mark::Plain | Mark::Exclusive => false,
+        Mark::Moved => None,
+        Mark::Plain | Mark::Exclusive => Some(start),
     }
 }
 
-/// Whether there is no start.
-fn is_first(from: Option<u32>) -> bool
-    ensures { result ≡ is_first from }
-{
-    match from {
-        None => true,
-        Some(_) => false,
-    }
-}
-
-/// Whether a round after this one came about by a repair from this start, or without a start, by a move.
-fn came(from: Option<u32>, before: &Round, last: &Round) -> bool
-    ensures { result ≡ came from (turn_of before.now) (turn_of last.now) }
-{
-    match from {
-        None => is_moved(last.mark),
-        Some(from) => !is_moved(last.mark) && before.start == from,
-    }
-}
-
-/// Whether the last of these rounds is a repair from this start, or without a start, the first round or a move.
-pub(crate) fn comes_from(from: Option<u32>, rounds: &[Round]) -> bool
-    ensures { result ≡ comes_from from (turns_in rounds.now) }
+/// Returns the start that the last of these rounds was repaired from. The first round and a move have none.
+pub(crate) fn repaired_from(rounds: &[Round]) -> Option<u32>
+    ensures { result ≡ repaired_from (turns_in rounds.now) }
 {
     let count = rounds.len();
-    if count == 0 {
-        return false;
+    if count < 2 {
+        return None;
     }
-    if count == 1 {
-        return is_first(from);
-    }
-    came(from, &rounds[count - 2], &rounds[count - 1])
+    repaired_by(rounds[count - 1].mark, rounds[count - 2].start)
 }
 
 /// Returns the number of the last of these rounds, if it is known.
@@ -60,16 +37,14 @@ fn last_count(rounds: &[Round]) -> Option<usize>
     }
 }
 
-/// Returns the number of the last of these rounds. If it isn't known, the first round and a move have that of a whole
-/// run. A repair has none then.
+/// Returns the number of the last of these rounds: that of a whole run, unless it was repaired. The number of a repair
+/// may not be known.
 pub(crate) fn count_of(rounds: &[Round], whole: usize) -> Option<usize>
-    ensures { result ≡ count_of (last_number rounds.now) (comes_from None (turns_in rounds.now)) whole }
+    ensures whole { repaired_from (turns_in rounds.now) ≡ None → result ≡ Some whole }
+    ensures known { repaired_from (turns_in rounds.now) ≢ None → result ≡ last_number rounds.now }
 {
-    if let Some(count) = last_count(rounds) {
-        return Some(count);
+    match repaired_from(rounds) {
+        None => Some(whole),
+        Some(_) => last_count(rounds),
     }
-    if comes_from(None, rounds) {
-        return Some(whole);
-    }
-    None
 }

@@ -5,20 +5,20 @@ use Rattle.mv_seats.specs.Knowing.{Knows}
 use Rattle.mv_seats.proofs.Prefixes.{prefix_length}
 use Rattle.mv_core.specs.Books.{Booked, Made}
 use Rattle.mv_gate.specs.declared.answers.Answer.{Answer}
-use Rattle.mv_gate.specs.Gates.{Holding, HasCall, HasTried}
+use Rattle.mv_gate.specs.Gates.{Holding, HasCall, Tries}
 use Rattle.mv_gate.proofs.Desks.{order_again}
 use Rattle.mv_gate.proofs.Holding.{held_again}
 use Rattle.mv_gate.proofs.desk.Desk.attempt.Goals as goal
 
 pub decide-requires : goal.decide-requires
-decide-requires g c = (subst (λ (h : Holding). HasCall g.N.Making.script c.see.new.self h) (sym c.held.view_is) (c.if-not-has.ensures (search rules))).call
+decide-requires g c = (subst (λ (h : Holding). HasCall g.N.Making.script c.see.new.self h) (sym c.held.view_is) (c.if-not-has.ensures.call (search rules))).call
 
 pub invariant_of-repaired : goal.invariant_of-repaired
 invariant_of-repaired g c =
     let old : Booked = c.see.new.self in
     let h : Holding = record { call = c.held.inside.call; start = c.held.inside.start; from = c.held.inside.from; running = c.held.inside.running; knows = c.held.inside.pass } in
-    let here : HasCall g.N.Making.script old h = subst (λ (x : Holding). HasCall g.N.Making.script old x) (sym c.held.view_is) (c.if-not-has.ensures (search rules)) in
-    let tried = subst (λ (a : Answer). HasTried h.call (Ok a) old c.decide.new.self) c.in-Repaired.is c.in_ok-answer.ensures.tried in
+    let here : HasCall g.N.Making.script old h = subst (λ (x : Holding). HasCall g.N.Making.script old x) (sym c.held.view_is) (c.if-not-has.ensures.call (search rules)) in
+    let tried = subst (λ (a : Answer). Tries h.call (Ok a) old c.decide.new.self) c.in-Repaired.is c.in_ok-answer.ensures.tried in
     let made : Made (A h.call) old c.self.inside.book = subst (λ (b : Booked). Made (A h.call) old b) (sym c.self.view_is) tried in
     let same = here.start here.call.live.0 here.call.live.1 in
     let order : c.self.inside.book.course.order ≡ old.course.order = order_again h.call old c.self.inside.book made in

@@ -1,6 +1,6 @@
 use Rattle.std.proofs.Common.{◌≤◌, ◌<◌, length, sym, subst}
 use Rattle.mv_core.specs.Books.{Booked}
-use Rattle.mv_gate.specs.Gates.{KeepsDone}
+use Rattle.mv_gate.specs.Gates.{GoesOn}
 use Rattle.mv_gate.proofs.Ending.{keeps_next, begun_next}
 use Rattle.mv_gate.proofs.Desks.{desk_begun}
 use Rattle.mv_gate.proofs.desk.Desk.begin_left.Goals as goal
@@ -14,4 +14,4 @@ returns-clause-begun g c =
     (subst (λ (b : Booked). c.args.call < length b.script.calls) (sym c.self.view_is) c.requires.there)
 
 pub returns-clause-kept : goal.returns-clause-kept
-returns-clause-kept g c = subst (λ (b : Booked). KeepsDone b c.begin.new.self) c.self.view_is (keeps_next c.begin.result c.self.inside.book c.begin.new.self c.begin.ensures)
+returns-clause-kept g c = subst (λ (b : Booked). GoesOn b c.begin.new.self) c.self.view_is (keeps_next c.begin.result c.self.inside.book c.begin.new.self c.begin.ensures)

@@ -1,25 +1,25 @@
-use Rattle.std.proofs.Common.{length, ap, ◌∙◌, arith}
+use Rattle.std.proofs.Common.{length, ap, arith}
 use Rattle.mv_core.specs.declared.script.Script.{Script}
-use Rattle.mv_gate.proofs.Ending.{done_more, all_done}
+use Rattle.mv_gate.proofs.Ending.{keeps_both, done_more, all_done}
 use Rattle.mv_gate.proofs.desk.Desk.finish.Goals as goal
 
 pub bring-requires-clause-there : goal.bring-requires-clause-there
 bring-requires-clause-there g c =
     let lt = c.loop-call-test.true in
     let end = c.calls-call-end.ensures in
-    let same = ap (λ (s : Script). length s.calls) c.loop-call.invariant.script in
+    let same = ap (λ (s : Script). length s.calls) c.loop-call.invariant.kept.script in
     omega (arith, lt, end, same)
 
 pub loop-call-preserved : goal.loop-call-preserved
 loop-call-preserved g c = record {
-  script = c.in_ok-bring.ensures.kept.script ∙ c.loop-call.invariant.script;
+  kept = keeps_both _ c.loop-call.self c.bring.new.self c.loop-call.invariant.kept c.in_ok-bring.ensures.kept;
   begun = let b = c.in_ok-bring.ensures.begun in omega (arith, b);
   done = done_more c.loop-call.self c.bring.new.self c.loop-call.call c.loop-call.invariant.done c.in_ok-bring.ensures.kept c.in_ok-bring.ensures.done;
 }
 
-pub returns : goal.returns
-returns g c =
+pub returns-clause-ended : goal.returns-clause-ended
+returns-clause-ended g c =
     let ge = c.loop-call-test.false in
     let end = c.calls-call-end.ensures in
-    let same = ap (λ (s : Script). length s.calls) c.loop-call.invariant.script in
+    let same = ap (λ (s : Script). length s.calls) c.loop-call.invariant.kept.script in
     all_done c.loop-call.self c.loop-call.call (omega (arith, ge, end, same)) c.loop-call.invariant.done

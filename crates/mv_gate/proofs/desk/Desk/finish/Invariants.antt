@@ -1,10 +1,10 @@
-use Rattle.std.proofs.Common.{◌≡◌, ◌<◌, ◌≤◌, ℕ, length}
-use Rattle.mv_gate.specs.Gates.{IsDone}
+use Rattle.std.proofs.Common.{◌<◌, ◌≤◌, ℕ, length}
+use Rattle.mv_gate.specs.Gates.{IsDone, GoesOn}
 use Rattle.mv_gate.proofs.desk.Desk.finish.Given as goal
 
 abbrev pub invariant-loop-call : goal.invariant-loop-call
 invariant-loop-call g l = record {
-  script : l.self.script ≡ l.initial.self.script;
+  kept : GoesOn l.initial.self l.self;
   begun : l.call ≤ length l.self.course.calls;
   done : (d : ℕ) → d < l.call → IsDone l.self.course d;
 }

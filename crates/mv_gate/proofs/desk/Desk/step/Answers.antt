@@ -4,34 +4,34 @@ use Rattle.mv_core.specs.Books.{Booked, IsSame}
 use Rattle.mv_core.proofs.Stored.{stored_same, stored_made}
 use Rattle.mv_core.specs.Calls.{IsLiveCall}
 use Rattle.mv_core.specs.Cores.{IsTaskIn}
-use Rattle.mv_gate.specs.Gates.{Holding, IsOpen, HasCall}
+use Rattle.mv_gate.specs.Gates.{Holding, IsUnderWay, HasCall}
 use Rattle.mv_gate.proofs.Desks.{desk_same, desk_made, order_same, order_stepped}
 use Rattle.mv_gate.proofs.Holding.{task_was, open_same, running_of}
 use Rattle.mv_gate.proofs.desk.Desk.step.Goals as goal
 
 pub has_step-requires : goal.has_step-requires
-has_step-requires g c = (subst (λ (h : Holding). HasCall g.N.Making.script c.see.new.self h) (sym c.held.view_is) (c.if-not-has.ensures (search rules))).call
+has_step-requires g c = (subst (λ (h : Holding). HasCall g.N.Making.script c.see.new.self h) (sym c.held.view_is) (c.if-not-has.ensures.call (search rules))).call
 
 pub reserve-requires : goal.reserve-requires
 reserve-requires g c =
-    let here = subst (λ (h : Holding). HasCall g.N.Making.script c.see.new.self h) (sym c.held.view_is) (c.if-not-has.ensures (search rules)) in
+    let here = subst (λ (h : Holding). HasCall g.N.Making.script c.see.new.self h) (sym c.held.view_is) (c.if-not-has.ensures.call (search rules)) in
     record { live = subst (λ (b : Booked). IsLiveCall b.course c.held.inside.call) (sym c.self.view_is) here.call.live }
 
 pub step_task-requires-clause-call : goal.step_task-requires-clause-call
 step_task-requires-clause-call g c =
-    let here = subst (λ (h : Holding). HasCall g.N.Making.script c.see.new.self h) (sym c.held.view_is) (c.if-not-has.ensures (search rules)) in
+    let here = subst (λ (h : Holding). HasCall g.N.Making.script c.see.new.self h) (sym c.held.view_is) (c.if-not-has.ensures.call (search rules)) in
     running_of c.reserve.new.self c.self.inside.store c.held.inside.call c.held.inside.running (stored_same c.self.inside.book c.reserve.new.self c.self.inside.store c.self.invariant.stored c.reserve.ensures.same)
-    (open_same c.self.inside.book c.reserve.new.self c.held.inside.call c.held.inside.running c.reserve.ensures.same (subst (λ (b : Booked). IsOpen b c.held.inside.call c.held.inside.running) (sym c.self.view_is) here.call))
+    (open_same c.self.inside.book c.reserve.new.self c.held.inside.call c.held.inside.running c.reserve.ensures.same (subst (λ (b : Booked). IsUnderWay b c.held.inside.call c.held.inside.running) (sym c.self.view_is) here.call))
 
 pub step_task-requires-clause-fresh : goal.step_task-requires-clause-fresh
 step_task-requires-clause-fresh g c =
-    let here = subst (λ (h : Holding). HasCall g.N.Making.script c.see.new.self h) (sym c.held.view_is) (c.if-not-has.ensures (search rules)) in
-    (open_same c.self.inside.book c.reserve.new.self c.held.inside.call c.held.inside.running c.reserve.ensures.same (subst (λ (b : Booked). IsOpen b c.held.inside.call c.held.inside.running) (sym c.self.view_is) here.call)).fresh
+    let here = subst (λ (h : Holding). HasCall g.N.Making.script c.see.new.self h) (sym c.held.view_is) (c.if-not-has.ensures.call (search rules)) in
+    (open_same c.self.inside.book c.reserve.new.self c.held.inside.call c.held.inside.running c.reserve.ensures.same (subst (λ (b : Booked). IsUnderWay b c.held.inside.call c.held.inside.running) (sym c.self.view_is) here.call)).fresh
 
 pub invariant_of-held : goal.invariant_of-held
 invariant_of-held g c =
-    let here = subst (λ (h : Holding). HasCall g.N.Making.script c.see.new.self h) (sym c.held.view_is) (c.if-not-has.ensures (search rules)) in
-    here.back (c.if-not-has_step.ensures (search rules)) c.step_task.new.running
+    let here = subst (λ (h : Holding). HasCall g.N.Making.script c.see.new.self h) (sym c.held.view_is) (c.if-not-has.ensures.call (search rules)) in
+    here.back (c.if-not-has_step.ensures.0 (search rules)) c.step_task.new.running
     (subst (λ (b : Booked). IsTaskIn b c.held.inside.call c.step_task.new.running) c.self.view_is
     (task_was c.self.inside.book c.reserve.new.self c.held.inside.call c.step_task.new.running c.reserve.ensures.same c.in_err-step_task.ensures.task)) c.in_err-step_task.ensures.ran
 
@@ -47,7 +47,7 @@ invariant_of-self-2 g c =
 
 pub invariant_of-held-2 : goal.invariant_of-held-2
 invariant_of-held-2 g c =
-    let here = subst (λ (h : Holding). HasCall g.N.Making.script c.see.new.self h) (sym c.held.view_is) (c.if-not-has.ensures (search rules)) in
-    here.back (c.if-not-has_step.ensures (search rules)) c.step_task.new.running
+    let here = subst (λ (h : Holding). HasCall g.N.Making.script c.see.new.self h) (sym c.held.view_is) (c.if-not-has.ensures.call (search rules)) in
+    here.back (c.if-not-has_step.ensures.0 (search rules)) c.step_task.new.running
     (subst (λ (b : Booked). IsTaskIn b c.held.inside.call c.step_task.new.running) c.self.view_is
     (task_was c.self.inside.book c.reserve.new.self c.held.inside.call c.step_task.new.running c.reserve.ensures.same c.in_ok-step_task.ensures.task)) c.in_ok-step_task.ensures.ran
