@@ -60,10 +60,13 @@ start_last c old new l made live = by (get_last old.course.calls (begin (length 
 
 -- it is live
 pub begun_live : (c : ℕ) (old new : Booked) → Made (B c) old new → IsLiveCall new.course c
-begun_live c old new made = (begin (length old.course.order), record {
-  at = ap (λ (s : Course). slice_get s.calls c) made.course ∙ at_end old.course.calls (begin (length old.course.order)) c (sym (begun_number c old new made));
-  live = refl;
-})
+begun_live c old new made = (
+  begin (length old.course.order),
+  record {
+    at = ap (λ (s : Course). slice_get s.calls c) made.course ∙ at_end old.course.calls (begin (length old.course.order)) c (sym (begun_number c old new made));
+    live = refl;
+  },
+)
 
 never_hit : (c : ℕ) (old new : Booked) (hit : Hit) → Made (B c) old new → IsHitAt new c hit → ⊥
 never_hit c old new hit made h =

@@ -46,8 +46,7 @@ returns-else-rounds-eq1 g c =
     let h = c.in-Some.ensures.live in
     let t = o.task h.live h.is_live in
     let many = used_rounds b c.args.call (length b.course.order) h.live c.in-Some.rounds.now h h.is_live t.turns in
-    let none = c.if-rounds-eq1.false in
-    (
+    let none = c.if-rounds-eq1.false in (
       λ told. absurd (search (rules, told, none)),
       λ step.
           let first = step_used (work_in b) b.course c.args.call h.live (subst (λ (x : Booked). HasStep x c.args.call) (sym c.self.view_is) step h.live h.is_live) in
