@@ -1,0 +1,11 @@
+use Rattle.mv_tpccgen.specs.Tables.{numbered_rows}
+use Rattle.mv_tpccgen.specs.Writing.{up_to}
+use Rattle.mv_tpccgen.proofs.Growing.{up_to_none, grew_up_to}
+use Rattle.mv_tpccgen.proofs.tables.write_in_districts.Goals as goal
+
+pub loop-w-init : goal.loop-w-init
+loop-w-init c = up_to_none (λ w. up_to 10 (λ d. up_to 30 (numbered_rows c.args.table w d))) c.args.text.now
+
+pub loop-w-preserved : goal.loop-w-preserved
+loop-w-preserved c =
+    grew_up_to (λ w. up_to 10 (λ d. up_to 30 (numbered_rows c.args.table w d))) c.loop-w.w c.args.text.now c.loop-w.text c.write_in_warehouse.new.text c.loop-w.invariant c.in_ok-write_in_warehouse.ensures

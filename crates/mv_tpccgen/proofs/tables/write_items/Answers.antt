@@ -1,0 +1,10 @@
+use Rattle.mv_tpccgen.specs.Rows.{item_row}
+use Rattle.mv_tpccgen.proofs.Growing.{up_to_none, grew_up_to}
+use Rattle.mv_tpccgen.proofs.tables.write_items.Goals as goal
+
+pub loop-i-init : goal.loop-i-init
+loop-i-init c = up_to_none item_row c.args.text.now
+
+pub loop-i-preserved : goal.loop-i-preserved
+loop-i-preserved c =
+    grew_up_to item_row c.loop-i.i c.args.text.now c.loop-i.text c.write_item.new.text c.loop-i.invariant c.in_ok-write_item.ensures

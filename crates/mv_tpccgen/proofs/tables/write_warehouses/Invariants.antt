@@ -1,0 +1,7 @@
+use Rattle.std.proofs.Common.{◌≡◌, ◌++◌}
+use Rattle.mv_tpccgen.specs.Rows.{warehouse_row}
+use Rattle.mv_tpccgen.specs.Writing.{up_to}
+use Rattle.mv_tpccgen.proofs.tables.write_warehouses.Given as goal
+
+abbrev pub invariant-loop-w : goal.invariant-loop-w
+invariant-loop-w l = l.text ≡ l.fn.text ++ up_to l.w warehouse_row
