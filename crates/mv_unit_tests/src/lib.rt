@@ -31,6 +31,8 @@ mod stores;
 #[cfg(test)]
 mod tokens;
 #[cfg(test)]
+mod tpcc;
+#[cfg(test)]
 mod values;
 #[cfg(test)]
 mod views;
