@@ -1,0 +1,74 @@
+//! Random journals that are lawful.
+
+use crate::scripts::byte;
+use mv_accept::accept::accept;
+use mv_core::drive::{Events, Refusal};
+use mv_core::engine::Core;
+use mv_journal::event::Event;
+use mv_top::script::prepare;
+use mv_values::calls::Options;
+use mv_values::list::List;
+use mv_values::memory::NoMemory;
+use rand_xoshiro::SplitMix64;
+use std::alloc::Global;
+use std::test::Fail;
+
+/// Returns an event of one of six calls.
+fn any_event(random: &mut SplitMix64) -> Event {
+    let call = byte(random) as u32 % 6;
+    match byte(random) % 16 {
+        0..=2 => Event::B(call),
+        3..=5 => Event::S(call),
+        6..=9 => Event::A(call),
+        10..=12 => Event::C(call),
+        13 => Event::X(call),
+        14 => Event::M(call),
+        _ => Event::G,
+    }
+}
+
+/// Makes an event, if the law of journals allows it.
+fn try_event(alloc: Global, core: &mut Core, event: Event) -> Result<(), NoMemory> {
+    match core.event(alloc, event) {
+        Err(Refusal::NoMemory) => Err(NoMemory),
+        _ => Ok(()),
+    }
+}
+
+/// Makes random events until each call has committed.
+fn make_events(alloc: Global, random: &mut SplitMix64, core: &mut Core) -> Result<(), Fail> {
+    for _ in 0..100_000u32 {
+        if Events::open_call(core).is_none() {
+            return Ok(());
+        }
+        try_event(alloc, core, any_event(random))?;
+    }
+    Err("a call stays open".into())
+}
+
+/// Returns random options.
+pub(crate) fn any_options(random: &mut SplitMix64) -> Options {
+    let rounds = byte(random) as u32 % 4;
+    let horizon = match byte(random) % 6 {
+        0 => Some(1),
+        1 => Some(2),
+        _ => None,
+    };
+    Options { rounds, horizon }
+}
+
+/// Returns a lawful journal of a script.
+pub(crate) fn any_journal(
+    alloc: Global,
+    random: &mut SplitMix64,
+    script: &[u8],
+    options: Options,
+) -> Result<List<Event>, Fail> {
+    let program = accept(alloc, script).or(Err("refused"))?;
+    let prepared = prepare(alloc, program, options)?;
+    let mut core = Core::new(alloc, prepared.script)?;
+    make_events(alloc, random, &mut core)?;
+    let mut events = List::new(alloc);
+    events.append(core.journal())?;
+    Ok(events)
+}

@@ -1,0 +1,110 @@
+//! The rounds of calls, with the numbers of records that full runs give them.
+
+use crate::kept::{Point, TwoRuns, executed, records_at};
+use mv_journal::event::Event;
+use mv_journal::outcome::{HistoryLine, Mark, Round};
+use mv_values::list::List;
+use mv_values::memory::NoMemory;
+use std::alloc::Global;
+
+/// A call, and its rounds up to an event. So many calls have committed up to it.
+#[derive(Drop)]
+struct Story<'p> {
+    points: &'p [Point],
+    call: u32,
+    commits: u32,
+    rounds: List<Round>,
+}
+
+/// Adds a round after all commits. It begins with the records of the run after so many commits, or with none.
+fn add_round(
+    alloc: Global,
+    story: &mut Story<'_>,
+    from: Option<u32>,
+    mark: Mark,
+) -> Result<(), NoMemory> {
+    let (points, call, start) = (story.points, story.call, story.commits);
+    let old = match from {
+        Some(from) => records_at(points, from, call),
+        None => &[],
+    };
+    let runs = TwoRuns {
+        old,
+        new: records_at(points, start, call),
+        points,
+        from: from.unwrap_or(start),
+        to: start,
+    };
+    let count = Some(executed(alloc, &runs)?);
+    story.rounds.push(Round { start, count, mark })
+}
+
+/// Returns the start of the last round.
+fn last_start(story: &Story<'_>) -> Option<u32> {
+    let last = story.rounds.as_slice().last()?;
+    Some(last.start)
+}
+
+/// Adds a full execution. The round before it has no number.
+fn add_move(alloc: Global, story: &mut Story<'_>) -> Result<(), NoMemory> {
+    if let Some(last) = story.rounds.pop() {
+        story.rounds.push(Round {
+            count: None,
+            ..last
+        })?;
+    }
+    add_round(alloc, story, None, Mark::Moved)
+}
+
+/// Adds what an event of the call means for its rounds.
+fn add_event(alloc: Global, story: &mut Story<'_>, event: Event) -> Result<(), NoMemory> {
+    let start = last_start(story);
+    match event {
+        Event::B(call) if call == story.call => add_round(alloc, story, None, Mark::Plain),
+        Event::A(call) if call == story.call => add_round(alloc, story, start, Mark::Plain),
+        Event::X(call) if call == story.call => add_round(alloc, story, start, Mark::Exclusive),
+        Event::M(call) if call == story.call => add_move(alloc, story),
+        _ => Ok(()),
+    }
+}
+
+/// Returns the rounds of a call.
+fn rounds_of(
+    alloc: Global,
+    points: &[Point],
+    events: &[Event],
+    call: u32,
+) -> Result<List<Round>, NoMemory> {
+    let mut story = Story {
+        points,
+        call,
+        commits: 0,
+        rounds: List::new(alloc),
+    };
+    for event in events {
+        add_event(alloc, &mut story, *event)?;
+        if let Event::C(_) | Event::X(_) = event {
+            story.commits = story.commits.saturating_add(1);
+        }
+    }
+    Ok(story.rounds)
+}
+
+/// Returns the commits of events, with the rounds of their calls.
+pub(crate) fn history_of(
+    alloc: Global,
+    points: &[Point],
+    events: &[Event],
+) -> Result<List<HistoryLine>, NoMemory> {
+    let mut history = List::new(alloc);
+    for event in events {
+        if let Event::C(call) | Event::X(call) = event {
+            let rounds = rounds_of(alloc, points, events, *call)?;
+            history.push(HistoryLine {
+                call: *call,
+                rounds,
+            })?;
+        }
+    }
+    Ok(history)
+}
