@@ -13,16 +13,16 @@ use rand_xoshiro::SplitMix64;
 use std::alloc::Global;
 use std::test::Fail;
 
-/// Returns an event of one of six calls.
-fn any_event(random: &mut SplitMix64) -> Event {
+/// Returns the begin of the next call, or another event of one of six calls. Few of them move a call or collect.
+fn any_event(random: &mut SplitMix64, next: u32) -> Event {
     let call = byte(random) as u32 % 6;
-    match byte(random) % 16 {
-        0..=2 => Event::B(call),
-        3..=5 => Event::S(call),
-        6..=9 => Event::A(call),
-        10..=12 => Event::C(call),
-        13 => Event::X(call),
-        14 => Event::M(call),
+    match byte(random) % 64 {
+        0..=15 => Event::B(next),
+        16..=23 => Event::S(call),
+        24..=43 => Event::A(call),
+        44..=51 => Event::C(call),
+        52..=60 => Event::X(call),
+        61 => Event::M(call),
         _ => Event::G,
     }
 }
@@ -41,7 +41,8 @@ fn make_events(alloc: Global, random: &mut SplitMix64, core: &mut Core) -> Resul
         if Events::open_call(core).is_none() {
             return Ok(());
         }
-        try_event(alloc, core, any_event(random))?;
+        let event = any_event(random, core.begun());
+        try_event(alloc, core, event)?;
     }
     Err("a call stays open".into())
 }
