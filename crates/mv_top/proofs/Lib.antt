@@ -4,5 +4,4 @@ pub mod Scripts
 pub mod Judging
 pub mod Driving
 pub mod Answering
-pub mod Giving
 pub mod Texts

@@ -1,7 +1,6 @@
 -- The answer to a command and its input, and what is written of it.
-use Rattle.std.specs.Prelude.{◌≡◌, ◌≤◌, ◌⊎◌, ℕ, List, [], ◌∷◌, ◌++◌, Option, Some, None, String, string_bytes, codes, map}
+use Rattle.std.specs.Prelude.{◌≡◌, ◌≤◌, ◌⊎◌, ℕ, List, [], ◌∷◌, ◌++◌, Option, Some, None, codes}
 use Rattle.std.specs.Option.{ForSome}
-use Rattle.std.specs.declared.alloc.Global.{Global}
 use Rattle.mv_edge.specs.Edge.{Rose, Writes, WritesFront}
 use Rattle.mv_values.specs.declared.calls.Options.{Options}
 use Rattle.mv_catalog.specs.declared.resolved.Program.{Program}
@@ -15,6 +14,7 @@ use Rattle.mv_top.specs.History.{text, in_turn, IsRunText}
 use Rattle.mv_top.specs.Journals.{HasLawfulJournal, IsJournalText, RefusesJournal}
 use Rattle.mv_top.specs.Serial.{serial}
 use Rattle.mv_top.specs.Graphs.{graphs}
+pub use Rattle.mv_words.specs.Words.{words_of}
 use Rattle.mv_top.specs.Words.{command_of}
 use Rattle.mv_top.specs.declared.status.Command.{Command}
 use Rattle.mv_top.specs.declared.status.Command.TheVariants.{Run, Replay, Serial, Graph}
@@ -76,10 +76,6 @@ HasCause command bytes fault.NoMemory = Unit {0}
 abbrev pub IsToldBy : Refusal → Fault → Type 0
 IsToldBy refusal (fault.Refused number line) = (number ≡ number_of refusal) × (line ≡ line_of refusal)
 IsToldBy refusal fault.NoMemory = Unit {0}
-
--- the words of the command line
-abbrev pub words_of : List (String Global) → List (List ℕ)
-words_of words = map string_bytes words
 
 -- the words of a command line say this command
 abbrev pub StandFor : List (List ℕ) → Command → Type 0

@@ -1,5 +1,5 @@
 -- What is written of a run: the text of a journal of a program's calls. Its form and its law are this project's own.
-use Rattle.std.specs.Prelude.{◌≡◌, ◌≤◌, ℕ, List, None, length}
+use Rattle.std.specs.Prelude.{◌≡◌, ◌≤◌, ℕ, List, length}
 use Rattle.mv_values.specs.declared.calls.Options.{Options}
 use Rattle.mv_catalog.specs.declared.resolved.Program.{Program}
 use Rattle.mv_accept.specs.Accepting.{most_calls}
@@ -12,10 +12,6 @@ use Rattle.mv_lawful.specs.Rounds.{IsBounded}
 use Rattle.mv_lawful.specs.Outcomes.{outcome_of, in_turn as turns}
 use Rattle.mv_report.specs.Text.{text_of}
 use Rattle.mv_report.specs.Shown.{shown}
-
--- the options of a command that gives none: three rounds and no horizon
-abbrev pub usual : Options
-usual = record { rounds = 3; horizon = None }
 
 -- the work of a program: a call leaves the records of its full run, and the reply and the database of the whole-table
 -- machine

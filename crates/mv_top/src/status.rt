@@ -2,7 +2,6 @@
 
 ghost use Rattle.std.specs.Prelude.{◌≡◌};
 ghost use Rattle.mv_top.specs.Answers.{code_of};
-ghost use Rattle.mv_top.specs.History.{usual};
 
 use mv_values::calls::Options;
 use mv_values::memory::NoMemory;
@@ -46,16 +45,6 @@ pub enum Command {
     Serial,
     /// Runs nothing, and writes which statements of a procedure may depend on which.
     Graph,
-}
-
-/// Returns the options of a command that is given none: three rounds, and no horizon.
-pub(crate) fn usual() -> Options
-    ensures { result ≡ usual }
-{
-    Options {
-        rounds: 3,
-        horizon: None,
-    }
 }
 
 /// Why there is no answer: the input is refused, with the refusal's number and line, or memory ran out.
