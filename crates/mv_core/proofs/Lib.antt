@@ -11,6 +11,7 @@ pub mod Putting
 pub mod Stored
 pub mod Taking
 pub mod Refusing
+pub mod Beginning
 pub mod Changed
 pub mod Turning
 pub mod Crossing
