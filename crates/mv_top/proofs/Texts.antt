@@ -65,7 +65,7 @@ lines_unseen (X c ∷ es) = ap (λ bytes. event_line (X c) ++ bytes) (lines_unse
 lines_unseen (G ∷ es) = lines_unseen es
 
 -- a text that has the lines of an outcome's events
-with_lines : List TableInfo → Outcome → List ℕ → List ℕ
+abbrev with_lines : List TableInfo → Outcome → List ℕ → List ℕ
 with_lines tables o lines =
     replies_text o.replies ++ line (codes "history") ++ history_text o.history ++ line (codes "journal") ++ lines ++ tables_text tables o.tables ++ line (codes "end")
 
