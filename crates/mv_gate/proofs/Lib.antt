@@ -1,3 +1,4 @@
+pub mod Beginning
 pub mod Prefixes
 pub mod Numbers
 pub mod Turns
