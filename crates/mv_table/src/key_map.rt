@@ -1,13 +1,13 @@
 //! A map by key, in key order.
 
-ghost use Rattle.std.specs.Prelude.{◌≡◌, [], length, None, Some, OnOk, OnErr, IfOk, IfErr, IfSome, List, Option, if◌then◌else◌};
+ghost use Rattle.std.specs.Prelude.{◌≡◌, [], length, None, Some, OnOk, OnErr, IfOk, IfErr, List, Option, if◌then◌else◌};
 ghost use Rattle.std.specs.Borrow.{sem};
 ghost use Rattle.std.specs.List.{filter};
 ghost use Rattle.std.specs.Option.{option_copied, option_copied_mut};
 ghost use Rattle.std.specs.Ordering.{is_eq};
 ghost use Rattle.mv_values.specs.declared.value.Value.{Value};
 ghost use Rattle.mv_values.specs.Order.{key_order};
-ghost use Rattle.mv_table.specs.Entries.{item_of, with_item, picked, KeysRise};
+ghost use Rattle.mv_table.specs.Entries.{item_of, with_item, KeysRise};
 ghost use Rattle.mv_table.specs.Spans.{is_within, IsForward};
 
 use crate::span::Span;
@@ -19,20 +19,6 @@ use std::collections::btree_map::{IntoIter, Iter, Range};
 use std::marker::Model;
 use std::mem;
 use std::ops::Bound;
-
-/// A function that changes the items of a map in place, and decides which of them stay.
-pub trait Change<T> {
-    /// What is left of an item.
-    ghost left: { Self → T → Option T };
-
-    /// What holds of an item that was changed.
-    ghost told: { Self → T → Type 0 };
-
-    /// Changes an item, and returns whether it stays. It allocates no memory.
-    fn change(&self, item: &mut T) -> bool
-        ensures left { (if result then Some item.new else None) ≡ left self.now item.old }
-        ensures told { told self.now item.old };
-}
 
 /// Items by key. Contracts see the entries in key order.
 #[derive(Drop)]
@@ -148,15 +134,6 @@ impl<T: Drop> KeyMap<T> {
     {
         let _len = self.entries.len();
         self.entries.remove(key)
-    }
-
-    /// Changes every item in place, and removes those that don't stay. It allocates no memory.
-    pub fn change_all<C: Change<T>>(&mut self, change: &C)
-        ensures items { self.new ≡ picked (C.left change.now) self.old }
-        ensures told { (key : List Value) → IfSome (item_of self.old key) (C.told change.now) }
-        ensures rising { KeysRise self.new }
-    {
-        self.entries.retain(|_key, item| change.change(item));
     }
 
     /// Turns the map into an iterator over its entries, in key order.
