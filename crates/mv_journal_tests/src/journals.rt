@@ -47,12 +47,11 @@ fn make_events(alloc: Global, random: &mut SplitMix64, core: &mut Core) -> Resul
     Err("a call stays open".into())
 }
 
-/// Returns random options.
+/// Returns random options: no more than three rounds, and in half of all cases a horizon of no more than five commits.
 pub(crate) fn any_options(random: &mut SplitMix64) -> Options {
     let rounds = byte(random) as u32 % 4;
-    let horizon = match byte(random) % 6 {
-        0 => Some(1),
-        1 => Some(2),
+    let horizon = match byte(random) % 12 {
+        commits @ 0..=5 => Some(commits as u32),
         _ => None,
     };
     Options { rounds, horizon }
