@@ -30,7 +30,7 @@ reach_join : (w : Work) (s : Course) (es fs : List Event) → reach w s (es ++ f
 reach_join w s [] fs = refl
 reach_join w s (e ∷ es) fs = reach_join w (after w s e) es fs
 
-moves_join : (w : Work) (s : Course) (es fs : List Event) → MovesLate w s es → MovesLate w (reach w s es) fs → MovesLate w s (es ++ fs)
+pub moves_join : (w : Work) (s : Course) (es fs : List Event) → MovesLate w s es → MovesLate w (reach w s es) fs → MovesLate w s (es ++ fs)
 moves_join w s [] fs h k = k
 moves_join w s (e ∷ es) fs h k = (h.0, moves_join w (after w s e) es fs h.1 k)
 
