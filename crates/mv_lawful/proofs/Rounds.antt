@@ -1,5 +1,5 @@
 -- The rounds that a live call has used are its A and M events, so a journal stays bounded.
-use Rattle.std.proofs.Common.{◌≡◌, ◌≤◌, ◌<◌, ℕ, zero, suc, ◌+◌, Bool, true, false, not, List, [], ◌∷◌, ◌++◌, Option, Some, None, length, slice_set, refl, sym, ap, subst, ◌∙◌, arith, append-nil, length-append}
+use Rattle.std.proofs.Common.{◌≡◌, ◌≤◌, ℕ, zero, suc, ◌+◌, Bool, true, false, not, List, [], ◌∷◌, ◌++◌, Option, Some, None, length, slice_set, refl, sym, ap, subst, ◌∙◌, arith, length-append}
 use Rattle.std.specs.Prelude.{◌==◌, nat_lt, slice_get}
 use Rattle.std.specs.List.{filter}
 use Rattle.std.specs.Option.{ForSome}
@@ -48,18 +48,21 @@ counts_changed ls d c k f keeps h = by (slice_get ls d) refl
 
 -- another call
 counts_apart : (ls : List Live) (d c k : ℕ) (f : Live → Live) → (d == c) ≡ false → Counts (slice_get ls c) k → Counts (slice_get (change_live (slice_get ls d) f ls d) c) k
-counts_apart ls d c k f ne h = by (slice_get ls d)
+counts_apart ls d c k f other h = by (slice_get ls d)
   where
-    apart : (ls : List Live) (d c : ℕ) (m : Live) → (d == c) ≡ false → Counts (slice_get ls c) k → Counts (slice_get (slice_set ls d m) c) k
+    differ : d ≡ c → ⊥
+    differ e = grind (arith, eqb_tells, other)
+
+    apart : (ls : List Live) (d c : ℕ) (m : Live) → (d ≡ c → ⊥) → Counts (slice_get ls c) k → Counts (slice_get (slice_set ls d m) c) k
     apart [] d c m ne h = h
-    apart (l ∷ ls) zero zero m ne h = cc
+    apart (l ∷ ls) zero zero m ne h = absurd (ne refl)
     apart (l ∷ ls) zero (suc c) m ne h = h
     apart (l ∷ ls) (suc d) zero m ne h = h
-    apart (l ∷ ls) (suc d) (suc c) m ne h = apart ls d c m ne h
+    apart (l ∷ ls) (suc d) (suc c) m ne h = apart ls d c m (λ e. ne (ap suc e)) h
 
     by : (o : Option Live) → Counts (slice_get (change_live o f ls d) c) k
     by None = h
-    by (Some l) = apart ls d c (f l) ne h
+    by (Some l) = apart ls d c (f l) differ h
 
 -- the call has one round more
 counts_again : (ls : List Live) (c n k : ℕ) (mark : Mark) → (slice_get ls c ≡ None → ⊥) → Counts (slice_get ls c) k → Counts (slice_get (change_live (slice_get ls c) (again n mark) ls c) c) (k + 1)
@@ -76,13 +79,13 @@ ended b h k = cc
 
 -- an event that is no round of the call
 counts_kept : (w : Work) (s : Course) (e : Event) (c k : ℕ) → is_round c e ≡ false → Counts (slice_get s.calls c) k → Counts (slice_get (after w s e).calls c) k
-counts_kept w s (B d) c k no h = counts_begun s.calls (length s.order) c k h
-counts_kept w s (S d) c k no h = counts_changed s.calls d c k (λ l. record l { steps = l.steps + 1 }) (λ l g. g) h
-counts_kept w s (A d) c k no h = counts_apart s.calls d c k (again (length s.order) Plain) no h
-counts_kept w s (M d) c k no h = counts_apart s.calls d c k (again (length s.order) Moved) no h
-counts_kept w s (C d) c k no h = counts_changed s.calls d c k finish (λ l g e. absurd (ended true refl e)) h
-counts_kept w s (X d) c k no h = counts_changed s.calls d c k (λ l. finish (again (length s.order) Exclusive l)) (λ l g e. absurd (ended true refl e)) h
-counts_kept w s G c k no h = h
+counts_kept w s (B d) c k other h = counts_begun s.calls (length s.order) c k h
+counts_kept w s (S d) c k other h = counts_changed s.calls d c k (λ l. record l { steps = l.steps + 1 }) (λ l g. g) h
+counts_kept w s (A d) c k other h = counts_apart s.calls d c k (again (length s.order) Plain) other h
+counts_kept w s (M d) c k other h = counts_apart s.calls d c k (again (length s.order) Moved) other h
+counts_kept w s (C d) c k other h = counts_changed s.calls d c k finish (λ l g e. absurd (ended true refl e)) h
+counts_kept w s (X d) c k other h = counts_changed s.calls d c k (λ l. finish (again (length s.order) Exclusive l)) (λ l g e. absurd (ended true refl e)) h
+counts_kept w s G c k other h = h
 
 same_call : (d c : ℕ) → (d == c) ≡ true → d ≡ c
 same_call d c h = grind (arith, eqb_tells)
@@ -117,17 +120,16 @@ counts_reach w s [] c k free h = subst (λ n. Counts (slice_get s.calls c) n) (p
   where
     plus_none : (n : ℕ) → n ≡ n + 0
     plus_none n = omega arith
-counts_reach w s (e ∷ es) c k free h = by (is_round c e) refl
+counts_reach w s (e ∷ es) c k free h = by (is_round c e) refl (λ n. counts_reach w (after w s e) es c n free.1)
   where
-    more : (m n r : ℕ) → m ≡ suc n → (k + 1) + n ≡ k + m
-    more m n r is = omega (arith, is)
+    after_es : ℕ → Type 0
+    after_es n = Counts (slice_get (reach w (after w s e) es).calls c) n
 
-    by : (b : Bool) → is_round c e ≡ b → Counts (slice_get (reach w (after w s e) es).calls c) (k + length (filter (is_round c) (e ∷ es)))
-    by false no = rw no (counts_reach w (after w s e) es c k free.1 (counts_kept w s e c k no h))
-    by true is =
-        let long : length (filter (is_round c) (e ∷ es)) ≡ suc (length (filter (is_round c) es)) = rw is refl in
-        subst (λ n. Counts (slice_get (reach w (after w s e) es).calls c) n) (more (length (filter (is_round c) (e ∷ es))) (length (filter (is_round c) es)) 0 long)
-        (counts_reach w (after w s e) es c (k + 1) free.1 (counts_more w s e c k is free.0 h))
+    by : (b : Bool) → is_round c e ≡ b → ((n : ℕ) → Counts (slice_get (after w s e).calls c) n → after_es (n + length (filter (is_round c) es))) → after_es (k + length (filter (is_round c) (e ∷ es)))
+    by false other rest = rw other (rest k (counts_kept w s e c k other h))
+    by true own rest =
+        let long : length (filter (is_round c) (e ∷ es)) ≡ suc (length (filter (is_round c) es)) = rw own refl in
+        subst after_es (omega (arith, long)) (rest (k + 1) (counts_more w s e c k own free.0 h))
 
 pub rounds_are_counted : RoundsAreCounted
 rounds_are_counted w es free c l is live =
@@ -144,32 +146,32 @@ bounded_end w es e left may b = record { few = λ c. by c (is_round c e) refl; l
     split c = ap length (filter-append (is_round c) es (e ∷ [])) ∙ length-append (filter (is_round c) es) (filter (is_round c) (e ∷ []))
 
     by : (c : ℕ) (r : Bool) → is_round c e ≡ r → length (filter (is_round c) (es ++ e ∷ [])) ≤ w.options.rounds + 1
-    by c false no =
+    by c false other =
         let all = split c in
-        let one : length (filter (is_round c) (e ∷ [])) ≡ 0 = rw no refl in
+        let one : length (filter (is_round c) (e ∷ [])) ≡ 0 = rw other refl in
         let few = b.few c in
         omega (arith, all, one, few)
-    by c true is =
+    by c true own =
         let all = split c in
-        let one : length (filter (is_round c) (e ∷ [])) ≡ 1 = rw is refl in
-        let few = left c is in
+        let one : length (filter (is_round c) (e ∷ [])) ≡ 1 = rw own refl in
+        let few = left c own in
         omega (arith, all, one, few)
 
 -- an event that is no repair and no move
 pub bounded_other : (w : Work) (es : List Event) (e : Event) → ((c : ℕ) → is_round c e ≡ false) → IsBounded w es → IsBounded w (es ++ e ∷ [])
-bounded_other w es e no b = bounded_end w es e (λ c is. absurd (ended (is_round c e) is (no c))) (may e no) b
+bounded_other w es e other b = bounded_end w es e (λ c is. absurd (ended (is_round c e) is (other c))) (may e other) b
   where
     own : (d : ℕ) → (d == d) ≡ true
     own d = grind (arith, eqb_tells)
 
     may : (e : Event) → ((c : ℕ) → is_round c e ≡ false) → MayMove w (course_of w es) e
-    may (B d) no = tt
-    may (S d) no = tt
-    may (A d) no = tt
-    may (M d) no = absurd (ended (d == d) (own d) (no d))
-    may (C d) no = tt
-    may (X d) no = tt
-    may G no = tt
+    may (B d) other = tt
+    may (S d) other = tt
+    may (A d) other = tt
+    may (M d) other = absurd (ended (d == d) (own d) (other d))
+    may (C d) other = tt
+    may (X d) other = tt
+    may G other = tt
 
 -- a round of a live call that has one left
 left_of : (w : Work) (es : List Event) (d : ℕ) (l : Live) → AllAllowed w beginning es → slice_get (course_of w es).calls d ≡ Some l → l.done ≡ false → used l ≤ w.options.rounds
