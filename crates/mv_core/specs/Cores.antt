@@ -44,9 +44,11 @@ pub record IsStored (s : Script) (order : List ℕ) (low : ℕ) (store : Version
 abbrev pub IsStoreOf : Booked → Versioned → Type 0
 IsStoreOf b store = IsStored b.script b.course.order b.course.low store
 
--- a call has put its writes for its commit: once they are stamped, the store has the tables of the history with it
-abbrev pub IsPrepared : Booked → ℕ → Versioned → Type 0
-IsPrepared b c store = (n : ℕ) (new : Versioned) → n ≡ length b.course.order + 1 → HasStamped c n store new → IsStored b.script (b.course.order ++ c ∷ []) b.course.low new
+-- a call has put its writes for its commit, which is the next one: once they are stamped, the store has the tables of the
+-- history with it
+pub record IsPrepared (b : Booked) (c : ℕ) (store : Versioned) : Type 0 where
+  pub last : store.last ≡ length b.course.order
+  pub stamped : (n : ℕ) (new : Versioned) → n ≡ length b.course.order + 1 → HasStamped c n store new → IsStored b.script (b.course.order ++ c ∷ []) b.course.low new
 
 -- Running calls
 
