@@ -44,6 +44,10 @@ length_numbers : (n : ℕ) → length (numbers n) ≡ n
 length_numbers zero = refl
 length_numbers (suc n) = let l = length-append (numbers n) (n ∷ []) in let k = length_numbers n in omega (arith, l, k)
 
+-- before any event no call has begun
+pub none_at : (c : ℕ) (l : Live) → slice_get beginning.calls c ≡ Some l → ⊥
+none_at c l is = cc
+
 -- the first n calls, after their commits
 abbrev pub done_calls : ℕ → List Live
 done_calls zero = []

@@ -3,7 +3,7 @@ use Rattle.std.specs.Option.{option_copied}
 use Rattle.mv_record.specs.Runs.{Run}
 use Rattle.mv_lawful.specs.Lawful.{Course}
 use Rattle.mv_core.specs.Books.{Made, commit_event, own_number}
-use Rattle.mv_core.proofs.Stored.{stored_same, stored_committed, last_run_on, last_changes_on, last_records_on}
+use Rattle.mv_core.proofs.Stored.{stored_committed, last_run_on, last_changes_on, last_records_on}
 use Rattle.mv_core.proofs.Changed.{made_from, due_same, own_same, room_less}
 use Rattle.mv_core.proofs.tasks.commit_task.Goals as goal
 

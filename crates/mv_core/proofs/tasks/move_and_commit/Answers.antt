@@ -1,10 +1,10 @@
-use Rattle.std.proofs.Common.{arith, ◌≡◌, ◌+◌, ℕ, None, Some, length, refl, ap, sym, ◌∙◌}
+use Rattle.std.proofs.Common.{arith, ◌≡◌, ◌+◌, None, Some, length, refl, ap, sym, ◌∙◌}
 use Rattle.mv_journal.specs.declared.event.Event.TheVariants.{M, C}
 use Rattle.mv_journal.specs.declared.outcome.Mark.TheVariants.{Moved}
 use Rattle.mv_record.specs.Runs.{Run}
 use Rattle.mv_lawful.specs.Work.{records_at}
 use Rattle.mv_lawful.specs.Lawful.{Course, again, after}
-use Rattle.mv_core.specs.Books.{work_in, Made}
+use Rattle.mv_core.specs.Books.{work_in}
 use Rattle.mv_core.proofs.Stored.{stored_same, stored_committed, stamped_on, last_run_on, last_changes_on, last_records_on}
 use Rattle.mv_core.proofs.Moving.{live_moved, due_moved, moved_free, made_settled}
 use Rattle.mv_core.proofs.Changed.{live_now, allowed_same, room_less}
