@@ -1,18 +1,15 @@
 -- A core without events.
-use Rattle.std.proofs.Common.{◌≡◌, ◌≤◌, ◌∙◌, ℕ, List, [], Option, Some, length, sym, ap, subst, arith, rules}
+use Rattle.std.proofs.Common.{◌≡◌, ◌≤◌, ◌∙◌, ℕ, List, [], Option, Some, length, sym, ap, subst, arith}
 use Rattle.std.specs.Prelude.{slice_get}
 use Rattle.mv_lawful.specs.Work.{table_at}
-use Rattle.mv_lawful.specs.Lawful.{Live, Course, beginning}
+use Rattle.mv_lawful.specs.Lawful.{Course, beginning}
+use Rattle.mv_lawful.proofs.Turns.{none_at}
 use Rattle.mv_store.specs.Stored.{Versioned, database_at, own_writes}
 use Rattle.mv_core.specs.declared.script.Script.{Script}
 use Rattle.mv_core.specs.declared.tasks.Running.{Running}
 use Rattle.mv_core.specs.Scripts.{IsScript, work_of}
-use Rattle.mv_core.specs.Calls.{IsLive}
 use Rattle.mv_core.specs.Books.{Booked}
 use Rattle.mv_core.specs.Cores.{IsCore}
-
-none_at : (c : ℕ) (l : Live) → slice_get beginning.calls c ≡ Some l → ⊥
-none_at c l is = search (rules, is)
 
 pub new_core : (s : Script) (b : Booked) (store : Versioned) (ts : List (Option Running)) → IsScript s → b.script ≡ s → b.course ≡ beginning
     → ((n : ℕ) → database_at store n ≡ s.opening) → ((call : ℕ) → own_writes store call ≡ []) → store.last ≡ 0 → store.low ≡ 0 → ts ≡ [] → IsCore b store ts

@@ -3,6 +3,7 @@ pub mod Journals
 pub mod Lives
 pub mod Keeping
 pub mod Lows
+pub mod Moving
 pub mod Recents
 pub mod Ending
 pub mod Driving

@@ -1,6 +1,7 @@
 -- When an event is refused, and what it leaves.
 use Rattle.std.proofs.Common.{◌≡◌, ℕ, ◌+◌, ◌<◌, Bool, true, false, not, List, [], Option, Some, None, length, drop, get_or, if◌then◌else◌, refl, sym, ap, ◌∙◌, arith, append-nil, eq-eqb, rules}
 use Rattle.std.specs.Prelude.{◌==◌, ◌&&◌, nat_lt}
+use Rattle.std.specs.Option.{is_some}
 use Rattle.std.proofs.lemmas.Bool.Decides.{eqb_tells}
 use Rattle.std.proofs.lemmas.List.{drop_more, length-map}
 use Rattle.std.proofs.lemmas.Option.{slice_get-get_or, slice_get_within}
@@ -16,7 +17,7 @@ use Rattle.mv_journal.specs.declared.event.Event.TheVariants.{B, A, C, X}
 use Rattle.mv_journal.specs.declared.outcome.Round.{Round}
 use Rattle.mv_lawful.specs.declared.fault.Fault.{Fault}
 use Rattle.mv_lawful.specs.declared.fault.Fault.TheVariants.{Order, Stale, Conflict, Idle, Rounds}
-use Rattle.mv_lawful.specs.Work.{Work, table_at, records_at}
+use Rattle.mv_lawful.specs.Work.{Work, table_at, records_at, hit_of}
 use Rattle.mv_lawful.specs.Lawful.{Live, Course, used, has_step, has_round, is_stale, is_hit, unless, of_live, of_call, refusal, begin, first_open, open_call}
 use Rattle.mv_core.specs.declared.script.Script.{Script}
 use Rattle.mv_core.specs.Scripts.{work_of, IsScript}
@@ -85,6 +86,11 @@ repairs_last w s c l live = record { law = live_is s c (λ x. repair_by w s c x 
 
 commit_is : (w : Work) (s : Course) (c : ℕ) (l : Live) → IsLive s c l → refusal w s (C c) ≡ commit_by w s c l
 commit_is w s c l live = live_is s c (commit_by w s c) l live
+
+-- a live call may commit if its start isn't below low and no commit after it hits the call
+pub may_commit : (w : Work) (s : Course) (c : ℕ) (l : Live) → IsLive s c l → is_stale s l ≡ false → hit_of w s.order l.start c ≡ None → refusal w s (C c) ≡ None
+may_commit w s c l live fresh free =
+    commit_is w s c l live ∙ (ap (λ b. unless (not b) Stale (unless (not (is_hit w s c l)) Conflict None)) fresh ∙ ap (λ o. unless (not (is_some o)) Conflict None) free)
 
 -- the law calls a call stale only if it is
 pub refused_stale : (w : Work) (s : Course) (c : ℕ) (l : Live) → IsLive s c l → refusal w s (C c) ≡ Some Stale → is_stale s l ≡ true

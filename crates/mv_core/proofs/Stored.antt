@@ -291,6 +291,12 @@ stored_committed own c old new store k made =
       low None = refl
       low (Some n) = refl
 
+-- the same history after an event that is no commit and no collection
+pub stamped_on : (old new : Booked) (c : ℕ) (store : Versioned) → IsStored old.script (old.course.order ++ c ∷ []) old.course.low store → new.script ≡ old.script → new.course.order ≡ old.course.order → new.course.low ≡ old.course.low
+    → IsStored new.script (new.course.order ++ c ∷ []) new.course.low store
+stamped_on old new c store k script order low =
+    stored_on (record old { course = record old.course { order = old.course.order ++ c ∷ [] } }) (record new { course = record new.course { order = new.course.order ++ c ∷ [] } }) store k script (ap (λ (o : List ℕ). o ++ c ∷ []) order) low
+
 -- tables below a new low were dropped
 pub stored_raised : (old new : Booked) (store raised : Versioned) (low : ℕ) → IsStoreOf old store → Made G old new → low ≡ new.course.low → HasRaised low store raised → IsStoreOf new raised
 stored_raised old new store raised low k made is raise =
@@ -360,27 +366,28 @@ pub last_records : (b : Booked) (store : Versioned) (c : ℕ) (rs : List Record)
 last_records b store c rs k lt live are free =
     are live.0 live.1 ∙ sym (unhit_records b.script b.course.order c live.0.start k.script lt (commit_free (work_in b) b.course c live.0 live.1 free).1)
 
-pub last_reply : (b new : Booked) (store : Versioned) (c : ℕ) (rs : List Record) → IsStoreOf b store → c < length b.script.calls → rs ≡ records_at (work_in b) b.course.order (length b.course.order) c
-    → new.script ≡ b.script → new.course ≡ b.course → reply_told rs ≡ (last_run new c).reply
-last_reply b new store c rs k lt are script course =
-    (told_run b.script b.course.order c (length b.course.order) rs k.script lt are).0
-    ∙ (ap (λ (s : Script). ((work_of s).run c (table_at (work_of s) b.course.order (length b.course.order))).reply) (sym script)
-    ∙ ap (λ (s : Course). ((work_in new).run c (table_at (work_in new) s.order (length s.order))).reply) (sym course))
+pub last_reply : (b : Booked) (store : Versioned) (c : ℕ) (rs : List Record) → IsStoreOf b store → c < length b.script.calls → rs ≡ records_at (work_in b) b.course.order (length b.course.order) c → reply_told rs ≡ (last_run b c).reply
+last_reply b store c rs k lt are = (told_run b.script b.course.order c (length b.course.order) rs k.script lt are).0
 
-pub last_made : (b mid new : Booked) (store : Versioned) (c : ℕ) (rs : List Record) (changes : List Change) → IsStoreOf b store → c < length b.script.calls → rs ≡ records_at (work_in b) b.course.order (length b.course.order) c
-    → IsSame b mid → new.script ≡ b.script → new.course ≡ b.course → changes ≡ changes_between (last_tables mid) (applied (writes_told rs) (last_tables mid)) → changes ≡ last_changes new c
-last_made b mid new store c rs changes k lt are same script course is =
-    is
-    ∙ (ap (λ (s : Script). changes_between (table_at (work_of s) mid.course.order (length mid.course.order)) (applied (writes_told rs) (table_at (work_of s) mid.course.order (length mid.course.order)))) same.script
-    ∙ (ap (λ (s : Course). changes_between (table_at (work_in b) s.order (length s.order)) (applied (writes_told rs) (table_at (work_in b) s.order (length s.order)))) same.course
-    ∙ (ap (changes_between (last_tables b)) (told_run b.script b.course.order c (length b.course.order) rs k.script lt are).1
-    ∙ (ap (λ (s : Script). changes_between (table_at (work_of s) b.course.order (length b.course.order)) ((work_of s).run c (table_at (work_of s) b.course.order (length b.course.order))).tables) (sym script)
-    ∙ ap (λ (s : Course). changes_between (table_at (work_in new) s.order (length s.order)) ((work_in new).run c (table_at (work_in new) s.order (length s.order))).tables) (sym course)))))
+pub last_made : (b : Booked) (store : Versioned) (c : ℕ) (rs : List Record) (changes : List Change) → IsStoreOf b store → c < length b.script.calls → rs ≡ records_at (work_in b) b.course.order (length b.course.order) c
+    → changes ≡ changes_between (last_tables b) (applied (writes_told rs) (last_tables b)) → changes ≡ last_changes b c
+last_made b store c rs changes k lt are is = is ∙ ap (changes_between (last_tables b)) (told_run b.script b.course.order c (length b.course.order) rs k.script lt are).1
+
+-- the same after an event that is no commit
+pub last_run_on : (old new : Booked) (c : ℕ) → new.script ≡ old.script → new.course.order ≡ old.course.order → last_run new c ≡ last_run old c
+last_run_on old new c script order =
+    ap (λ (s : Script). (work_of s).run c (table_at (work_of s) new.course.order (length new.course.order))) script ∙ ap (λ (o : List ℕ). (work_in old).run c (table_at (work_in old) o (length o))) order
+
+pub last_changes_on : (old new : Booked) (c : ℕ) → new.script ≡ old.script → new.course.order ≡ old.course.order → last_changes new c ≡ last_changes old c
+last_changes_on old new c script order =
+    ap (λ (r : Run). changes_between (last_tables new) r.tables) (last_run_on old new c script order)
+    ∙ (ap (λ (s : Script). changes_between (table_at (work_of s) new.course.order (length new.course.order)) (last_run old c).tables) script
+    ∙ ap (λ (o : List ℕ). changes_between (table_at (work_in old) o (length o)) (last_run old c).tables) order)
+
+pub last_records_on : (old new : Booked) (c : ℕ) (rs : List Record) → new.script ≡ old.script → new.course.order ≡ old.course.order → rs ≡ records_at (work_in old) old.course.order (length old.course.order) c
+    → rs ≡ records_at (work_in new) new.course.order (length new.course.order) c
+last_records_on old new c rs script order are = are ∙ sym (ap (λ (r : Run). r.records) (last_run_on old new c script order))
 
 -- the last tables are like those of the store
 pub like_last : (b : Booked) (store : Versioned) → IsStoreOf b store → ((n : ℕ) → IsLike store (database_at store n)) → IsLike store (last_tables b)
 like_last b store k like = subst (IsLike store) (k.reads (length b.course.order) k.below (omega arith)) (like (length b.course.order))
-
-pub last_same : (old new : Booked) → IsSame old new → last_tables new ≡ last_tables old
-last_same old new same =
-    ap (λ (s : Script). table_at (work_of s) new.course.order (length new.course.order)) same.script ∙ ap (λ (s : Course). table_at (work_in old) s.order (length s.order)) same.course

@@ -1,5 +1,5 @@
 -- Defines what a core keeps beside its history: the tables after each commit, and running calls. This project's own.
-use Rattle.std.specs.Prelude.{◌≡◌, ◌<◌, ◌≤◌, ◌+◌, ℕ, Bool, true, false, not, List, [], ◌∷◌, Option, Some, None, Result, Ok, Err, length, slice_get}
+use Rattle.std.specs.Prelude.{◌≡◌, ◌<◌, ◌≤◌, ◌+◌, ℕ, Bool, true, false, not, List, [], ◌∷◌, ◌++◌, Option, Some, None, Result, Ok, Err, length, slice_get}
 use Rattle.mv_values.specs.declared.memory.NoMemory.{NoMemory}
 use Rattle.mv_values.specs.declared.calls.Call.{Call}
 use Rattle.mv_record.specs.Runs.{Tables}
@@ -21,6 +21,7 @@ use Rattle.mv_lawful.specs.declared.fault.Fault.TheVariants.{Stale, Conflict}
 use Rattle.mv_lawful.specs.Lawful.{Turn, Live, Course, used, has_step, refusal}
 use Rattle.mv_lawful.specs.Rounds.{rounds_of, repair_run}
 use Rattle.mv_store.specs.Stored.{Versioned, database_at, own_writes}
+use Rattle.mv_store.specs.Changes.{HasStamped}
 use Rattle.mv_core.specs.declared.engine.Attempt.{Attempt}
 use Rattle.mv_core.specs.declared.engine.Attempt.TheVariants as attempt
 use Rattle.mv_core.specs.declared.script.Script.{Script}
@@ -42,6 +43,12 @@ pub record IsStored (s : Script) (order : List ℕ) (low : ℕ) (store : Version
 
 abbrev pub IsStoreOf : Booked → Versioned → Type 0
 IsStoreOf b store = IsStored b.script b.course.order b.course.low store
+
+-- a call has put its writes for its commit, which is the next one: once they are stamped, the store has the tables of the
+-- history with it
+pub record IsPrepared (b : Booked) (c : ℕ) (store : Versioned) : Type 0 where
+  pub last : store.last ≡ length b.course.order
+  pub stamped : (n : ℕ) (new : Versioned) → n ≡ length b.course.order + 1 → HasStamped c n store new → IsStored b.script (b.course.order ++ c ∷ []) b.course.low new
 
 -- Running calls
 
@@ -192,6 +199,11 @@ HasTried c (Err e) old new = IsSame old new
 abbrev pub HasCommitted : Event → Result ℕ NoMemory → Booked → Booked → Type 0
 HasCommitted e (Ok n) old new = Made e old new × (n ≡ length old.course.order + 1)
 HasCommitted e (Err x) old new = IsSame old new
+
+-- the call moved, and committed in the same step; or nothing happened
+abbrev pub HasMovedAndCommitted : ℕ → Result ℕ NoMemory → Booked → Booked → Type 0
+HasMovedAndCommitted c (Ok n) old new = ((mid : Booked) × Made (M c) old mid × Made (C c) mid new) × (n ≡ length old.course.order + 1)
+HasMovedAndCommitted c (Err x) old new = IsSame old new
 
 -- the law of journals allows the event, or refuses it only because the call is stale
 abbrev pub IsAllowedIfFresh : Booked → Event → Type 0

@@ -19,8 +19,8 @@ ghost use Rattle.mv_core.specs.declared.book.Check.TheVariants.{Free as IsFree};
 ghost use Rattle.mv_core.specs.Told.{writes_told};
 ghost use Rattle.mv_core.specs.Scripts.{IsScript};
 ghost use Rattle.mv_core.specs.Calls.{IsLive, IsLiveCall, due_number};
-ghost use Rattle.mv_core.specs.Books.{work_in, last_tables, commit_event, own_number, IsNotStale, IsOwnNumber, AreRecordsOf, IsAnswer};
-ghost use Rattle.mv_core.specs.Cores.{RunsOn, IsStoreOf, IsTaskIn, IsRunning, HasRun, IsLiveTask, IsRepaired, HasStep, HasCommitted, count_or};
+ghost use Rattle.mv_core.specs.Books.{work_in, last_tables, last_run, last_changes, commit_event, own_number, IsNotStale, IsOwnNumber, AreRecordsOf, IsAnswer};
+ghost use Rattle.mv_core.specs.Cores.{RunsOn, IsStoreOf, IsTaskIn, IsRunning, HasRun, IsLiveTask, IsRepaired, HasStep, IsPrepared, HasCommitted, HasMovedAndCommitted, count_or};
 
 use crate::book::{Book, Check};
 use crate::running::{find_call, has_more, repair_over, run_all, run_next};
@@ -28,9 +28,11 @@ use crate::script::Script;
 use crate::told::{changes_told, put_told, reply_of};
 use mv_changes::changes::Changes;
 use mv_exec::task::Task;
+use mv_journal::outcome::Mark;
 use mv_record::record::Record;
 use mv_store::store::Store;
 use mv_store::view::StoreView;
+use mv_values::calls::Reply;
 use mv_values::memory::NoMemory;
 use std::alloc::Global;
 
@@ -248,6 +250,36 @@ fn changes_made(
     changes_told(alloc, book.script().opening.len(), records, &mut view)
 }
 
+/// What a commit tells and changes.
+#[derive(Drop)]
+struct Prepared {
+    reply: Reply,
+    changes: Changes,
+}
+
+/// Prepares the commit of a call with these records, which are those of a full run on the last tables: puts its writes,
+/// and returns its reply and its changes. If memory runs out, the call has no writes.
+fn prepare(
+    alloc: Global,
+    book: &Book,
+    store: &mut Store,
+    call: u32,
+    records: &[Record],
+) -> Result<Prepared, NoMemory>
+    requires stored { IsStoreOf book.now store.old }
+    requires number { call < length book.now.script.calls }
+    requires whole { records.now ≡ records_at (work_in book.now) book.now.course.order (length book.now.course.order) call }
+    ensures reply { IfOk result (λ prepared. prepared.reply ≡ (last_run book.now call).reply) }
+    ensures changes { IfOk result (λ prepared. prepared.changes ≡ last_changes book.now call) }
+    ensures ok { OnOk result (IsPrepared book.now call store.new) }
+    ensures err { OnErr result (IsStoreOf book.now store.new) }
+{
+    let reply = reply_of(alloc, records)?;
+    let changes = changes_made(alloc, book, store, records)?;
+    put_told(alloc, store, call, records)?;
+    Ok(Prepared { reply, changes })
+}
+
 /// Commits a live call, whose last round has this number. The records of its task are those of a full run on the last
 /// tables. If a second task is given, the call was repaired in the same step, in a round of its own. Returns the number
 /// of the commit. If memory runs out, the call hasn't committed.
@@ -271,11 +303,33 @@ pub fn commit_task(
     ensures stored { IsStoreOf book.new store.new }
 {
     book.reserve(call)?;
-    let reply = reply_of(alloc, task.records())?;
-    let changes = changes_made(alloc, book, store, task.records())?;
-    put_told(alloc, store, call, task.records())?;
+    let prepared = prepare(alloc, book, store, call, task.records())?;
     book.settle_as(call, number);
-    let commit = book.commit(call, reply, changes, exclusive);
+    let commit = book.commit(call, prepared.reply, prepared.changes, exclusive);
+    store.stamp(call, commit);
+    Ok(commit)
+}
+
+/// Moves a live call, and commits it in the same step. It runs the call whole on the tables after all commits. Returns
+/// the number of the commit. If memory runs out, the call has neither moved nor committed.
+pub fn move_and_commit(
+    alloc: Global,
+    book: &mut Book,
+    store: &mut Store,
+    call: u32,
+) -> Result<u32, NoMemory>
+    requires stored { IsStoreOf book.old store.old }
+    requires live { IsLiveCall book.old.course call }
+    requires number { call < length book.old.script.calls }
+    ensures made { HasMovedAndCommitted call result book.old book.new }
+    ensures stored { IsStoreOf book.new store.new }
+{
+    let task = whole_task(alloc, book, store, call, book.commits())?;
+    book.reserve(call)?;
+    let prepared = prepare(alloc, book, store, call, task.records())?;
+    book.restart(call, Mark::Moved);
+    book.settle(call, &task);
+    let commit = book.commit(call, prepared.reply, prepared.changes, None);
     store.stamp(call, commit);
     Ok(commit)
 }

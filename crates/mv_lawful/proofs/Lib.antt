@@ -1,5 +1,6 @@
 pub mod Collections
 pub mod Lows
 pub mod Repairs
+pub mod Rounds
 pub mod Serial
 pub mod Turns

@@ -52,13 +52,13 @@ left_changed ls d c rounds f h = by (slice_get ls d) refl
     by None e = omega arith
     by (Some l) e = left_set ls d c rounds l (f l) e (h l)
 
-more_turns : (n : ℕ) (mark : Mark) (l : Live) → length (again n mark l).turns ≡ length l.turns + 1
+pub more_turns : (n : ℕ) (mark : Mark) (l : Live) → length (again n mark l).turns ≡ length l.turns + 1
 more_turns n mark l = length-append l.turns (record { start = n; mark = mark } ∷ [])
 
 again_grows : (n : ℕ) (mark : Mark) → Grows (again n mark)
 again_grows n mark l = let e = more_turns n mark l in omega (arith, e)
 
-get_set : (ls : List Live) (c : ℕ) (l m : Live) → slice_get ls c ≡ Some l → slice_get (slice_set ls c m) c ≡ Some m
+pub get_set : (ls : List Live) (c : ℕ) (l m : Live) → slice_get ls c ≡ Some l → slice_get (slice_set ls c m) c ≡ Some m
 get_set [] c l m is = cc
 get_set (x ∷ ls) zero l m is = refl
 get_set (x ∷ ls) (suc c) l m is = get_set ls c l m is

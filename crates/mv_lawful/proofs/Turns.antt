@@ -30,7 +30,7 @@ reach_join : (w : Work) (s : Course) (es fs : List Event) → reach w s (es ++ f
 reach_join w s [] fs = refl
 reach_join w s (e ∷ es) fs = reach_join w (after w s e) es fs
 
-moves_join : (w : Work) (s : Course) (es fs : List Event) → MovesLate w s es → MovesLate w (reach w s es) fs → MovesLate w s (es ++ fs)
+pub moves_join : (w : Work) (s : Course) (es fs : List Event) → MovesLate w s es → MovesLate w (reach w s es) fs → MovesLate w s (es ++ fs)
 moves_join w s [] fs h k = k
 moves_join w s (e ∷ es) fs h k = (h.0, moves_join w (after w s e) es fs h.1 k)
 
@@ -43,6 +43,10 @@ only_open w n s (e ∷ es) h = ap (λ o. or_refused n o (wrong_from w (n + 1) (a
 length_numbers : (n : ℕ) → length (numbers n) ≡ n
 length_numbers zero = refl
 length_numbers (suc n) = let l = length-append (numbers n) (n ∷ []) in let k = length_numbers n in omega (arith, l, k)
+
+-- before any event no call has begun
+pub none_at : (c : ℕ) (l : Live) → slice_get beginning.calls c ≡ Some l → ⊥
+none_at c l is = cc
 
 -- the first n calls, after their commits
 abbrev pub done_calls : ℕ → List Live

@@ -1,11 +1,11 @@
 -- The laws of journals. This project's own.
-use Rattle.std.specs.Prelude.{◌≡◌, ◌≤◌, ◌<◌, ℕ, false, List, [], ◌∷◌, Some, None, length, slice_get}
+use Rattle.std.specs.Prelude.{◌≡◌, ◌≤◌, ◌<◌, ℕ, true, false, List, [], ◌∷◌, Some, None, length, slice_get}
 use Rattle.std.specs.List.{All, AllPairs, Contains, filter}
 use Rattle.mv_journal.specs.declared.event.Event.{Event}
 use Rattle.mv_journal.specs.declared.event.Event.TheVariants.{B, S, A, M, C, X, G}
 use Rattle.mv_lawful.specs.Work.{Work}
-use Rattle.mv_lawful.specs.Lawful.{Turn, Live, Course, Lawful, after, course_of, is_stale}
-use Rattle.mv_lawful.specs.Rounds.{is_repair, IsBounded}
+use Rattle.mv_lawful.specs.Lawful.{Turn, Live, Course, Lawful, AllAllowed, beginning, after, course_of, is_stale, used}
+use Rattle.mv_lawful.specs.Rounds.{is_round, is_repair, IsPast, IsBounded}
 use Rattle.mv_lawful.specs.Outcomes.{numbers, in_turn, without_collections, outcome_of}
 
 -- Low
@@ -20,7 +20,20 @@ NoneIsStale =
     (w : Work) (es : List Event) → w.options.horizon ≡ None
     → (c : ℕ) (l : Live) → slice_get (course_of w es).calls c ≡ Some l → l.done ≡ false → is_stale (course_of w es) l ≡ false
 
+-- whatever the events, a live call is stale only if a horizon is given and more commits than that were made since its
+-- start
+abbrev pub StaleIsPast : Type 0
+StaleIsPast =
+    (w : Work) (es : List Event) (c : ℕ) (l : Live) → slice_get (course_of w es).calls c ≡ Some l → l.done ≡ false → is_stale (course_of w es) l ≡ true
+    → IsPast w.options.horizon l.start (length (course_of w es).order)
+
 -- Rounds
+
+-- a live call has used a round for each of its A and M events
+abbrev pub RoundsAreCounted : Type 0
+RoundsAreCounted =
+    (w : Work) (es : List Event) → AllAllowed w beginning es
+    → (c : ℕ) (l : Live) → slice_get (course_of w es).calls c ≡ Some l → l.done ≡ false → length (filter (is_round c) es) ≡ used l
 
 -- a lawful journal has at most as many A events of a call as there are rounds
 abbrev pub RepairsAreFew : Type 0

@@ -1,7 +1,7 @@
 //! The laws of journals.
 
 ghost use Rattle.mv_lawful.specs.Examples.{OnlyTheFee, AllAgain, NothingAdded, NewRowCounts, OwnWriteCounts, NewDefiner, OtherBranch, SameKey, KeptWriteStays, InOneStep, FirstFaults, StaleMoves, OldestStart};
-ghost use Rattle.mv_lawful.specs.Laws.{LowNeverFalls, NoneIsStale, RepairsAreFew, LawfulIsSerial, LawfulNamesCalls, InTurnIsLawful, CollectionsAreUnseen};
+ghost use Rattle.mv_lawful.specs.Laws.{LowNeverFalls, NoneIsStale, StaleIsPast, RoundsAreCounted, RepairsAreFew, LawfulIsSerial, LawfulNamesCalls, InTurnIsLawful, CollectionsAreUnseen};
 
 /// A lawful journal commits each call exactly once. No call has a greater start than the number of commits before its
 /// own, so a call that committed before another began is before it in the order of commits.
@@ -34,6 +34,17 @@ pub fn low_never_falls()
 /// Without a horizon no live call is stale, whatever the events.
 pub fn none_is_stale()
     ensures { NoneIsStale }
+{}
+
+/// Whatever the events, a live call is stale only if a horizon is given and more commits than that were made since its
+/// start.
+pub fn stale_is_past()
+    ensures { StaleIsPast }
+{}
+
+/// If no event is refused, a live call has used a round for each of its A and M events.
+pub fn rounds_are_counted()
+    ensures { RoundsAreCounted }
 {}
 
 /// A lawful journal has at most as many A events of a call as there are rounds.

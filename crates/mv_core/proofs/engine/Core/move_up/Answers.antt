@@ -1,7 +1,6 @@
 use Rattle.std.proofs.Common.{rules, ◌<◌, Some, length, ap, sym, subst, ◌∙◌, refl}
-use Rattle.std.specs.Prelude.{◌≢◌}
 use Rattle.mv_journal.specs.declared.event.Event.TheVariants.{M}
-use Rattle.mv_journal.specs.declared.outcome.Mark.TheVariants.{Moved, Exclusive}
+use Rattle.mv_journal.specs.declared.outcome.Mark.TheVariants.{Moved}
 use Rattle.mv_lawful.specs.Work.{records_at, table_at}
 use Rattle.mv_lawful.specs.Lawful.{Course, again}
 use Rattle.mv_core.specs.declared.script.Script.{Script}
@@ -10,23 +9,19 @@ use Rattle.mv_core.specs.Books.{Booked, work_in}
 use Rattle.mv_core.specs.Cores.{HasTurns, RunsOn}
 use Rattle.mv_core.proofs.Stored.{stored_made, stored_on}
 use Rattle.mv_core.proofs.Taking.{task_within, tasks_same, task_moved, restarted_on}
-use Rattle.mv_core.proofs.Changed.{core_same, live_now, live_restarted, due_restarted, made_now, made_then}
+use Rattle.mv_core.proofs.Changed.{core_same, live_now, made_now, made_then}
+use Rattle.mv_core.proofs.Moving.{apart, live_moved, due_moved}
 use Rattle.mv_core.proofs.engine.Core.move_up.Goals as goal
-
-apart : Moved ≢ Exclusive
-apart e = search (rules, e)
 
 pub settle-requires-clause-live : goal.settle-requires-clause-live
 settle-requires-clause-live c =
     let live = live_now c.self.inside.book c.args.self.now c.reserve.new.self c.args.call c.self.view_is c.requires c.reserve.ensures.same in
-    (again (length c.reserve.new.self.course.order) Moved live.0, live_restarted Moved c.args.call c.reserve.new.self c.restart.new.self live.0 apart live.1 c.restart.ensures.made)
+    (again (length c.reserve.new.self.course.order) Moved live.0, live_moved c.args.call c.reserve.new.self c.restart.new.self live.0 live.1 c.restart.ensures.made)
 
 pub settle-requires-clause-number : goal.settle-requires-clause-number
 settle-requires-clause-number c =
-    let k = core_same c.self.inside.book c.reserve.new.self c.self.inside.store c.self.inside.tasks.items c.self.invariant c.reserve.ensures.same in
     let live = live_now c.self.inside.book c.args.self.now c.reserve.new.self c.args.call c.self.view_is c.requires c.reserve.ensures.same in
-    let turns : HasTurns (length c.reserve.new.self.course.order) live.0 = (k.tasks.running c.args.call live.0 live.1).2.turns in
-    due_restarted Moved c.reserve.new.self c.restart.new.self c.args.call live.0 apart live.1 turns c.restart.ensures.made
+    due_moved c.reserve.new.self c.restart.new.self c.args.call live.0 live.1 c.restart.ensures.made
     ∙ ap Some (sym (c.in_ok-task.ensures.executed ∙ (ap length c.in_ok-task.ensures.records ∙ ap (λ n. length (records_at (work_in c.reserve.new.self) c.reserve.new.self.course.order n c.args.call)) c.commits.ensures)))
 
 pub index_mut-requires : goal.index_mut-requires
