@@ -233,6 +233,99 @@ fn a_call_that_stays_behind_commits_last(rt: HostRuntime) -> Result<(), Fail> {
     commit_in(&rt, rt.alloc(), &[3, 0], TWO, calls, want)
 }
 
+/// How many calls overtake call 0. The workers collect after commit 64, when call 0 is live.
+const OVERTAKING: u32 = 65;
+
+fn overtaking_calls(alloc: Global) -> Result<String, Fail> {
+    let mut calls = String::from_str(alloc, "CALL add(1, 5);")?;
+    for _ in 0..OVERTAKING {
+        calls.push_str("CALL add(2, 1);")?;
+    }
+    Ok(calls)
+}
+
+fn overtaking_replies(text: &mut String) -> Result<(), Fail> {
+    for call in 1..=OVERTAKING {
+        write!(text, "reply {call} done\n{}\n", call.saturating_add(100))?;
+    }
+    Ok(())
+}
+
+fn overtaking_history(text: &mut String) -> Result<(), Fail> {
+    for call in 1..=OVERTAKING {
+        let start = call.saturating_sub(1);
+        write!(text, "{call} {call} starts {start} runs 4\n")?;
+    }
+    Ok(())
+}
+
+/// Returns the journal of calls that overtake call 0, and of its last events.
+fn overtaking_journal(alloc: Global, last: &str) -> Result<String, Fail> {
+    let mut journal = String::from_str(alloc, "B 0\n")?;
+    for call in 1..=OVERTAKING {
+        write!(journal, "B {call}\nC {call}\n")?;
+    }
+    journal.push_str(last)?;
+    Ok(journal)
+}
+
+/// Returns the text of calls that overtake call 0, of which the history has this line.
+fn overtaking_text(alloc: Global, line: &str, journal: &str) -> Result<String, Fail> {
+    let mut text = String::from_str(alloc, "reply 0 done\n105\n")?;
+    overtaking_replies(&mut text)?;
+    text.push_str("history\n")?;
+    overtaking_history(&mut text)?;
+    text.push_str(line)?;
+    text.push_str("journal\n")?;
+    text.push_str(journal)?;
+    text.push_str("table acc\n0,0,\n1,105,\n2,165,\n3,100,\n4,100,\nend\n")?;
+    Ok(text)
+}
+
+/// The line of a moved call 0 in the history, and its last events.
+const MOVED: (&str, &str) = ("66 0 starts 0,65 runs -+4m\n", "M 0\nC 0\n");
+
+/// Those of a call 0 that isn't moved.
+const STILL: (&str, &str) = ("66 0 starts 0 runs 4\n", "C 0\n");
+
+/// Commit 64 leaves a horizon of 1 behind at its collection, and one of 64 not.
+const HORIZONS: &[(Words, (&str, &str))] = &[
+    (
+        (
+            &["run", "--threads", "2", "--horizon", "1"],
+            &["replay", "--horizon", "1"],
+        ),
+        MOVED,
+    ),
+    (
+        (
+            &["run", "--threads=2", "--horizon=1", "--rounds=0"],
+            &["replay", "--horizon=1", "--rounds=0"],
+        ),
+        MOVED,
+    ),
+    (
+        (
+            &["run", "--threads", "2", "--horizon", "64"],
+            &["replay", "--horizon", "64"],
+        ),
+        STILL,
+    ),
+];
+
+#[test]
+fn a_call_behind_the_horizon_is_moved(rt: HostRuntime) -> Result<(), Fail> {
+    let alloc = rt.alloc();
+    let calls = overtaking_calls(alloc)?;
+    for (words, (line, last)) in HORIZONS {
+        let journal = overtaking_journal(alloc, last)?;
+        let text = overtaking_text(alloc, line, journal.as_str())?;
+        let want = (journal.as_str(), text.as_str());
+        commit_in(&rt, alloc, &[OVERTAKING, 0], *words, calls.as_str(), want)?;
+    }
+    Ok(())
+}
+
 /// The text of one call.
 const ONE: &str = "reply 0 done
 105
@@ -260,6 +353,8 @@ const ACCEPTED: &[&[&str]] = &[
     &["run", "--rounds=0000000003", "--threads=1"],
     &["replay", "--rounds", "0"],
     &["replay", "--rounds=100"],
+    &["run", "--horizon", "1"],
+    &["run", "--horizon=4294967295", "--threads=2", "--rounds=0"],
 ];
 
 #[test]
