@@ -326,6 +326,38 @@ fn a_call_behind_the_horizon_is_moved(rt: HostRuntime) -> Result<(), Fail> {
     Ok(())
 }
 
+/// The summary of a New-Order of six lines and a delivery, which is the same for either order.
+const SUMMARY: &str = "tpcc warehouses 1 calls 2 seed 1
+new_order 1 rolled back 0
+payment 0
+order_status 0
+delivery 1
+stock_level 0
+orders 301
+order_lines 2966
+sum w_ytd 30000000
+sum h_amount 300000
+sum s_ytd 43
+sum s_order_cnt 6
+sum s_remote_cnt 0
+consistent yes
+end
+";
+
+/// A source whose first read fails, and a sink with enough room.
+const UNREAD: (&[u64], usize) = (&[0], 1_000_000);
+
+#[test]
+fn calls_of_a_load_overlap(rt: HostRuntime) -> Result<(), Fail> {
+    let pace = InOrder::new(&[1, 0]);
+    let words = &["tpcc", "--calls", "2", "--threads", "2"];
+    runs_at(&rt, rt.alloc(), &pace, words, "".as_bytes(), SUMMARY)?;
+    ensure(rt.alloc(), pace.have_all_answered(), "no answer")?;
+    let want = (Status::Done, SUMMARY);
+    let words = &["tpcc", "--calls", "2"];
+    runs(&rt, rt.alloc(), words, "".as_bytes(), UNREAD, want)
+}
+
 /// The text of one call.
 const ONE: &str = "reply 0 done
 105
