@@ -1,7 +1,7 @@
 //! Runs by several workers, and the options of commands.
 
 use crate::commands::{ADD, OTHERS};
-use crate::whole::{SOUND, answers, ensure, joined, runs, runs_at};
+use crate::whole::{SOUND, ensure, joined, runs, runs_at};
 use mv_edge::pace::{Moment, Pace, Point};
 use mv_top::status::Status;
 use std::alloc::Global;
@@ -14,66 +14,94 @@ use std::thread::Threads;
 /// How often a held call looks whether it may go on.
 const LOOKS: u64 = 100_000_000;
 
-/// Holds call 0 at each attempt to commit until call 1 has committed. Notes which of them have committed.
+/// Holds calls at each attempt to commit, so that they commit in a given order. Other calls aren't held.
 #[derive(Drop)]
-struct Holding {
-    /// 1 once call 0 has committed.
-    held: AtomicU64,
-    /// 1 once call 1 has committed.
-    other: AtomicU64,
+struct InOrder {
+    order: &'static [u32],
+    /// How many calls of the order have committed.
+    committed: AtomicU64,
 }
 
-impl Holding {
-    fn new() -> Holding {
-        Holding {
-            held: AtomicU64::new(0),
-            other: AtomicU64::new(0),
+impl InOrder {
+    fn new(order: &'static [u32]) -> InOrder {
+        InOrder {
+            order,
+            committed: AtomicU64::new(0),
         }
     }
 
-    /// Waits until call 1 has committed, or for so many looks.
-    fn hold(&self) {
+    /// Whether a call is the next of the order to commit.
+    fn is_next(&self, call: u32) -> bool {
+        let committed = self.committed.load(Ordering::SeqCst);
+        match self.order.get(committed as usize) {
+            Some(next) => *next == call,
+            None => false,
+        }
+    }
+
+    /// Waits until the calls before this one have committed, or for so many looks.
+    fn hold(&self, call: u32) {
         for _ in 0..LOOKS {
-            if self.other.load(Ordering::SeqCst) == 1 {
+            if self.is_next(call) {
                 return;
             }
             spin_loop();
         }
     }
 
-    fn have_both_answered(&self) -> bool {
-        self.held.load(Ordering::SeqCst) == 1 && self.other.load(Ordering::SeqCst) == 1
+    /// Notes that a call has committed.
+    fn note(&self, call: u32) {
+        if self.is_next(call) {
+            let committed = self.committed.load(Ordering::SeqCst);
+            self.committed
+                .store(committed.saturating_add(1), Ordering::SeqCst);
+        }
+    }
+
+    fn have_all_answered(&self) -> bool {
+        self.committed.load(Ordering::SeqCst) == self.order.len() as u64
     }
 }
 
-impl Pace for Holding {
+impl Pace for InOrder {
     fn at<R: Wait>(&self, _rt: &R, point: Point) {
         match point.moment {
-            Moment::Answered if point.call == 0 => self.held.store(1, Ordering::SeqCst),
-            Moment::Answered if point.call == 1 => self.other.store(1, Ordering::SeqCst),
-            Moment::Before if point.call == 0 => self.hold(),
+            Moment::Before if self.order.contains(&point.call) => self.hold(point.call),
+            Moment::Answered => self.note(point.call),
             _ => {}
         }
     }
 }
 
-/// Checks that call 1 commits while call 0 is held, and that the worker of call 0 repairs and commits it. The replay of
-/// that journal gives the same text.
-fn overtakes<R: Threads + Wait + Sync>(
+/// The words of a run and of a replay with the same options.
+type Words = (&'static [&'static str], &'static [&'static str]);
+
+const TWO: Words = (&["run", "--threads", "2"], &["replay"]);
+
+const THREE: Words = (&["run", "--threads", "3"], &["replay"]);
+
+/// Checks that workers that are held to an order write this text, and that the replay of its journal gives it too.
+fn commit_in<R: Threads + Wait + Sync>(
     rt: &R,
     alloc: Global,
+    order: &'static [u32],
+    words: Words,
     calls: &str,
-    want: &str,
+    want: (&str, &str),
 ) -> Result<(), Fail> {
+    let (run, replay) = words;
+    let (journal, text) = want;
+    let pace = InOrder::new(order);
     let input = joined(alloc, &[ADD, OTHERS, calls])?;
-    let pace = Holding::new();
-    let words = &["run", "--threads", "2"];
-    runs_at(rt, alloc, &pace, words, input.as_bytes(), want)?;
-    ensure(alloc, pace.have_both_answered(), "no answer")?;
-    let journal = "\nJOURNAL <<\nB 0\nB 1\nC 1\nA 0\nC 0\n>>\n";
-    let input = joined(alloc, &[ADD, OTHERS, calls, journal])?;
-    answers(rt, alloc, "replay", input.as_str(), want)
+    runs_at(rt, alloc, &pace, run, input.as_bytes(), text)?;
+    ensure(alloc, pace.have_all_answered(), "no answer")?;
+    let input = joined(alloc, &[input.as_str(), "\nJOURNAL <<\n", journal, ">>\n"])?;
+    let done = (Status::Done, text);
+    runs(rt, alloc, replay, input.as_bytes(), SOUND, done)
 }
+
+/// Call 1 commits while call 0 is held, and the worker of call 0 repairs and commits it.
+const OVERTAKEN: &str = "B 0\nB 1\nC 1\nA 0\nC 0\n";
 
 const TRANSFERS: &str = "CALL transfer(1, 2, 10); CALL transfer(3, 4, 10);";
 
@@ -99,7 +127,9 @@ end
 
 #[test]
 fn a_held_call_is_overtaken_and_repaired(rt: HostRuntime) -> Result<(), Fail> {
-    overtakes(&rt, rt.alloc(), TRANSFERS, REPAIRED)
+    let want = (OVERTAKEN, REPAIRED);
+    commit_in(&rt, rt.alloc(), &[1, 0], TWO, TRANSFERS, want)?;
+    commit_in(&rt, rt.alloc(), &[1, 0], THREE, TRANSFERS, want)
 }
 
 /// The text of a call whose first run has more statements than its repair.
@@ -126,7 +156,206 @@ end
 #[test]
 fn a_held_call_is_repaired_to_fewer_statements(rt: HostRuntime) -> Result<(), Fail> {
     let calls = "CALL transfer(1, 2, 60); CALL transfer(1, 3, 60);";
-    overtakes(&rt, rt.alloc(), calls, SHORTER)
+    let want = (OVERTAKEN, SHORTER);
+    commit_in(&rt, rt.alloc(), &[1, 0], TWO, calls, want)
+}
+
+/// The text of three calls that have all begun before the last of them commits, then the second, and then the first.
+const REVERSED: &str = "reply 0 done
+reply 1 done
+reply 2 done
+history
+1 2 starts 0 runs 5
+2 1 starts 0,1 runs 5+4
+3 0 starts 0,2 runs 5+2
+journal
+B 0
+B 1
+B 2
+C 2
+A 1
+C 1
+A 0
+C 0
+table acc
+0,3,
+1,90,
+2,100,
+3,100,
+4,110,
+end
+";
+
+#[test]
+fn three_workers_commit_in_reverse(rt: HostRuntime) -> Result<(), Fail> {
+    let calls = joined(rt.alloc(), &[TRANSFERS, "CALL transfer(2, 3, 10);"])?;
+    let journal = "B 0\nB 1\nB 2\nC 2\nA 1\nC 1\nA 0\nC 0\n";
+    let want = (journal, REVERSED);
+    commit_in(&rt, rt.alloc(), &[2, 1, 0], THREE, calls.as_str(), want)
+}
+
+/// The text of a call that begins first and stays behind, until the other worker has committed all others.
+const BEHIND: &str = "reply 0 done
+reply 1 done
+105
+reply 2 done
+107
+reply 3 done
+history
+1 1 starts 0 runs 4
+2 2 starts 1 runs 4
+3 3 starts 2 runs 5
+4 0 starts 0,3 runs 5+4
+journal
+B 0
+B 1
+C 1
+B 2
+C 2
+B 3
+C 3
+A 0
+C 0
+table acc
+0,2,
+1,97,
+2,110,
+3,104,
+4,101,
+end
+";
+
+#[test]
+fn a_call_that_stays_behind_commits_last(rt: HostRuntime) -> Result<(), Fail> {
+    let calls = "CALL transfer(1, 2, 10); CALL add(3, 5); CALL add(1, 7); CALL transfer(3, 4, 1);";
+    let journal = "B 0\nB 1\nC 1\nB 2\nC 2\nB 3\nC 3\nA 0\nC 0\n";
+    let want = (journal, BEHIND);
+    commit_in(&rt, rt.alloc(), &[3, 0], TWO, calls, want)
+}
+
+/// How many calls overtake call 0. The workers collect after commit 64, when call 0 is live.
+const OVERTAKING: u32 = 65;
+
+fn overtaking_calls(alloc: Global) -> Result<String, Fail> {
+    let mut calls = String::from_str(alloc, "CALL add(1, 5);")?;
+    for _ in 0..OVERTAKING {
+        calls.push_str("CALL add(2, 1);")?;
+    }
+    Ok(calls)
+}
+
+fn overtaking_replies(text: &mut String) -> Result<(), Fail> {
+    for call in 1..=OVERTAKING {
+        write!(text, "reply {call} done\n{}\n", call.saturating_add(100))?;
+    }
+    Ok(())
+}
+
+fn overtaking_history(text: &mut String) -> Result<(), Fail> {
+    for call in 1..=OVERTAKING {
+        let start = call.saturating_sub(1);
+        write!(text, "{call} {call} starts {start} runs 4\n")?;
+    }
+    Ok(())
+}
+
+/// Returns the journal of calls that overtake call 0, and of its last events.
+fn overtaking_journal(alloc: Global, last: &str) -> Result<String, Fail> {
+    let mut journal = String::from_str(alloc, "B 0\n")?;
+    for call in 1..=OVERTAKING {
+        write!(journal, "B {call}\nC {call}\n")?;
+    }
+    journal.push_str(last)?;
+    Ok(journal)
+}
+
+/// Returns the text of calls that overtake call 0, of which the history has this line.
+fn overtaking_text(alloc: Global, line: &str, journal: &str) -> Result<String, Fail> {
+    let mut text = String::from_str(alloc, "reply 0 done\n105\n")?;
+    overtaking_replies(&mut text)?;
+    text.push_str("history\n")?;
+    overtaking_history(&mut text)?;
+    text.push_str(line)?;
+    text.push_str("journal\n")?;
+    text.push_str(journal)?;
+    text.push_str("table acc\n0,0,\n1,105,\n2,165,\n3,100,\n4,100,\nend\n")?;
+    Ok(text)
+}
+
+/// The line of a moved call 0 in the history, and its last events.
+const MOVED: (&str, &str) = ("66 0 starts 0,65 runs -+4m\n", "M 0\nC 0\n");
+
+/// Those of a call 0 that isn't moved.
+const STILL: (&str, &str) = ("66 0 starts 0 runs 4\n", "C 0\n");
+
+/// Commit 64 leaves a horizon of 1 behind at its collection, and one of 64 not.
+const HORIZONS: &[(Words, (&str, &str))] = &[
+    (
+        (
+            &["run", "--threads", "2", "--horizon", "1"],
+            &["replay", "--horizon", "1"],
+        ),
+        MOVED,
+    ),
+    (
+        (
+            &["run", "--threads=2", "--horizon=1", "--rounds=0"],
+            &["replay", "--horizon=1", "--rounds=0"],
+        ),
+        MOVED,
+    ),
+    (
+        (
+            &["run", "--threads", "2", "--horizon", "64"],
+            &["replay", "--horizon", "64"],
+        ),
+        STILL,
+    ),
+];
+
+#[test]
+fn a_call_behind_the_horizon_is_moved(rt: HostRuntime) -> Result<(), Fail> {
+    let alloc = rt.alloc();
+    let calls = overtaking_calls(alloc)?;
+    for (words, (line, last)) in HORIZONS {
+        let journal = overtaking_journal(alloc, last)?;
+        let text = overtaking_text(alloc, line, journal.as_str())?;
+        let want = (journal.as_str(), text.as_str());
+        commit_in(&rt, alloc, &[OVERTAKING, 0], *words, calls.as_str(), want)?;
+    }
+    Ok(())
+}
+
+/// The summary of a New-Order of six lines and a delivery, which is the same for either order.
+const SUMMARY: &str = "tpcc warehouses 1 calls 2 seed 1
+new_order 1 rolled back 0
+payment 0
+order_status 0
+delivery 1
+stock_level 0
+orders 301
+order_lines 2966
+sum w_ytd 30000000
+sum h_amount 300000
+sum s_ytd 43
+sum s_order_cnt 6
+sum s_remote_cnt 0
+consistent yes
+end
+";
+
+/// A source whose first read fails, and a sink with enough room.
+const UNREAD: (&[u64], usize) = (&[0], 1_000_000);
+
+#[test]
+fn calls_of_a_load_overlap(rt: HostRuntime) -> Result<(), Fail> {
+    let pace = InOrder::new(&[1, 0]);
+    let words = &["tpcc", "--calls", "2", "--threads", "2"];
+    runs_at(&rt, rt.alloc(), &pace, words, "".as_bytes(), SUMMARY)?;
+    ensure(rt.alloc(), pace.have_all_answered(), "no answer")?;
+    let want = (Status::Done, SUMMARY);
+    let words = &["tpcc", "--calls", "2"];
+    runs(&rt, rt.alloc(), words, "".as_bytes(), UNREAD, want)
 }
 
 /// The text of one call.
@@ -156,6 +385,8 @@ const ACCEPTED: &[&[&str]] = &[
     &["run", "--rounds=0000000003", "--threads=1"],
     &["replay", "--rounds", "0"],
     &["replay", "--rounds=100"],
+    &["run", "--horizon", "1"],
+    &["run", "--horizon=4294967295", "--threads=2", "--rounds=0"],
 ];
 
 #[test]

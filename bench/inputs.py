@@ -1,0 +1,186 @@
+"""Scripts whose time and memory are measured.
+
+A script is a pair: the tables and procedures, and the calls with the journal. Both are lists or generators of pieces of
+text. What the calls take is the difference of two runs: with them and without.
+"""
+
+from itertools import chain
+
+ROWS = 1000  # as many rows as a ROWS argument may have
+
+
+def block(table, rows):
+    """A COPY of rows."""
+    yield f"COPY {table} <<\n"
+    for row in rows:
+        yield ",".join(map(str, row)) + "\n"
+    yield ">>\n"
+
+
+def rows_of(numbers):
+    """A ROWS argument with one number in each row."""
+    return "ROWS (" + ", ".join(f"({number})" for number in numbers) + ")"
+
+
+def journal(events):
+    """A JOURNAL of events such as `B 0`."""
+    yield "JOURNAL <<\n"
+    for event in events:
+        yield event + "\n"
+    yield ">>\n"
+
+
+def repeated(count, call):
+    """So many calls. `call` makes one of its number."""
+    return (f"CALL {call(number)};\n" for number in range(count))
+
+
+# Cases of growth: each makes a script for n.
+
+NUMBERS = "CREATE TABLE t (id INT, v INT, PRIMARY KEY (id));\n"
+
+
+def numbered(table, count):
+    """A COPY of so many rows with the keys from 0 on."""
+    return block(table, ((number, 0) for number in range(count)))
+
+
+def delete_of_all_rows(n):
+    return chain([NUMBERS, "CREATE PROCEDURE p () BEGIN DELETE FROM t; END;\n"], numbered("t", n)), ["CALL p();\n"]
+
+
+def falling_insertions(n):
+    procedure = """CREATE PROCEDURE p (:outer ROWS (i INT), :inner ROWS (i INT)) DECLARE :k = 0; BEGIN
+  FOR :a IN :outer DO FOR :b IN :inner DO SET :k = :k - 1; INSERT INTO t VALUES (:k, 0); END FOR; END FOR;
+END;
+"""
+    call = f"CALL p({rows_of(range(n // 100))}, {rows_of(range(100))});\n"
+    return [NUMBERS, procedure], [call]
+
+
+def last_of_many_procedures(n):
+    procedures = (f"CREATE PROCEDURE p{k} () BEGIN PRINT {k}; END;\n" for k in range(256))
+    return [NUMBERS, *procedures], repeated(n, lambda _: "p255()")
+
+
+def insertion_at_the_end(n):
+    procedure = """CREATE PROCEDURE p () DECLARE :m = 0; BEGIN
+  SELECT MAX(id) INTO :m FROM t; INSERT INTO t VALUES (:m + 1, 0);
+END;
+"""
+    return [NUMBERS, procedure], repeated(n, lambda _: "p()")
+
+
+def queue(n):
+    procedure = """CREATE PROCEDURE p () DECLARE :first = 0; DECLARE :last = 0; BEGIN
+  SELECT MIN(id) INTO :first FROM t; DELETE FROM t WHERE id = :first;
+  SELECT MAX(id) INTO :last FROM t; INSERT INTO t VALUES (:last + 1, 0);
+END;
+"""
+    return [NUMBERS, procedure, *numbered("t", 100)], repeated(n, lambda _: "p()")
+
+
+def one_counter(n):
+    procedure = "CREATE PROCEDURE p () BEGIN UPDATE t SET v = v + 1 WHERE id = 0; END;\n"
+    return [NUMBERS, procedure, *numbered("t", 1)], repeated(n, lambda _: "p()")
+
+
+def nested_loops(n):
+    procedure = """CREATE PROCEDURE p (:outer ROWS (i INT), :inner ROWS (i INT)) DECLARE :k = 0; BEGIN
+  FOR :a IN :outer DO FOR :b IN :inner DO SET :k = :k + 1; END FOR; END FOR;
+END;
+"""
+    call = f"CALL p({rows_of(range(n // ROWS))}, {rows_of(range(ROWS))});\n"
+    return [procedure], [call]
+
+
+# Scripts that differ in a statement of a loop.
+
+TURNS = 50
+STATEMENTS = {  # with how often a turn has each
+    "SET": ("SET :x = :k; ", 4),
+    "IF": ("IF :k = 0 THEN END IF; ", 4),
+    "PRINT": ("PRINT :k; ", 4),
+    "SELECT of a key": ("SELECT v INTO :x FROM t WHERE id = :r.i; ", 4),
+    "SELECT COUNT of a key": ("SELECT COUNT(*) INTO :x FROM t WHERE id = :r.i; ", 4),
+    "UPDATE of a key": ("UPDATE t SET v = :k WHERE id = :r.i; ", 1),
+    "INSERT": ("INSERT INTO u VALUES (:k, 0); ", 1),
+    "DELETE of a key": ("DELETE FROM u WHERE id = :k; ", 1),
+}
+
+
+def loop_with(text, calls):
+    """Calls that execute a text in each of 50 turns. Their keys rise from call to call. Table `u` has them if the text
+    deletes them."""
+    tables = "".join(f"CREATE TABLE {name} (id INT, v INT, PRIMARY KEY (id));\n" for name in "tu")
+    procedure = f"""CREATE PROCEDURE p (:first INT, :rows ROWS (i INT)) DECLARE :k = 0; DECLARE :x = 0; BEGIN
+  SET :k = :first - 1; FOR :r IN :rows DO SET :k = :k + 1; {text}END FOR;
+END;
+"""
+    rows = calls * TURNS if text.startswith("DELETE") else 0
+    blocks = chain(numbered("t", ROWS), numbered("u", rows))
+    call = lambda number: f"p({number * TURNS}, {rows_of((number * TURNS + 7 * i) % ROWS for i in range(TURNS))})"
+    return chain([tables, procedure], blocks), repeated(calls, call)
+
+
+def empty_calls(count):
+    return ["CREATE PROCEDURE p () BEGIN END;\n"], repeated(count, lambda _: "p()")
+
+
+# Repairs and validations: journals of the same calls.
+
+ENTERED = 92  # statements of a New-Order with five lines
+FIRST = "(1, 1, 1, 20170514, ROWS ((1, 1, 5), (2, 1, 5), (3, 1, 5), (4, 1, 5), (5, 1, 5)))"
+SECOND = "(1, 1, 2, 20170514, ROWS ((5, 1, 5), (6, 1, 5), (7, 1, 5), (8, 1, 5), (9, 1, 5)))"
+
+
+def pairs_of_orders(opening, pairs, again):
+    """Pairs of New-Orders. The second one of a pair runs whole. With an event `again` the first one commits then, which
+    hits the second, and that is executed again by this event. Without it the second one begins after that commit."""
+    calls = (f"CALL new_order{FIRST};\nCALL new_order{SECOND};\n" for _ in range(pairs))
+    events = (event for number in range(pairs) for event in events_of_pair(2 * number, again))
+    return [opening], chain(calls, journal(events))
+
+
+def events_of_pair(first, again):
+    second = first + 1
+    steps = [f"S {second}"] * ENTERED
+    if again:
+        return [f"B {first}", f"B {second}", *steps, f"C {first}", f"{again} {second}", f"C {second}", "G"]
+    return [f"B {first}", f"C {first}", f"B {second}", *steps, f"C {second}", "G"]
+
+
+def call_beside_commits(commits, beside):
+    """A call of 100 look-ups, and so many calls that change 23 other rows each. It commits last if they run beside it,
+    and first if they don't."""
+    procedures = """CREATE PROCEDURE look (:rows ROWS (i INT)) DECLARE :x = 0; BEGIN
+  FOR :r IN :rows DO SELECT v INTO :x FROM t WHERE id = :r.i; END FOR;
+END;
+CREATE PROCEDURE change (:rows ROWS (i INT)) BEGIN
+  FOR :r IN :rows DO UPDATE t SET v = v + 1 WHERE id = :r.i; END FOR;
+END;
+"""
+    look = f"CALL look({rows_of(range(100))});\n"
+    change = lambda number: f"change({rows_of(ROWS + (37 * number + 41 * i) % ROWS for i in range(23))})"
+    opening = [NUMBERS, procedures, *numbered("t", 2 * ROWS)]
+    others = (event for other in range(1, commits + 1) for event in (f"B {other}", f"C {other}"))
+    ran = ["B 0", *["S 0"] * 101]
+    events = chain(ran, others, ["C 0"]) if beside else chain(ran, ["C 0"], others)
+    return opening, chain([look], repeated(commits, change), journal(events))
+
+
+# Many short calls.
+
+
+def additions(calls):
+    """Calls that add to one of a thousand rows."""
+    procedure = """CREATE PROCEDURE a (:i INT) DECLARE :b = 0; BEGIN
+  SELECT v INTO :b FROM t WHERE id = :i; SET :b = :b + 1; UPDATE t SET v = :b WHERE id = :i; PRINT :b;
+END;
+"""
+    return [NUMBERS, procedure, *numbered("t", ROWS)], repeated(calls, lambda number: f"a({37 * number % ROWS})")
+
+
+def rows(count):
+    """A table of so many rows, and no call."""
+    return chain([NUMBERS], numbered("t", count))
