@@ -1,4 +1,4 @@
--- Whether the last tables of the workload agree. From TPC-C 3.3.2, on the tables of this project.
+-- Whether the final tables of the workload agree. From TPC-C 3.3.2, on the tables of this project.
 use Rattle.std.specs.Prelude.{ℤ, Bool, true, false, ◌&&◌, List, [], ◌∷◌, Option, Some, None, map, length, pos, ◌+ℤ◌, ◌-ℤ◌, codes}
 use Rattle.std.specs.List.{filter, fold, list_all}
 use Rattle.std.specs.Int.{int_max, int_min}
@@ -60,7 +60,7 @@ district_agrees b d =
 unfoldable pub agrees : Books → Bool
 agrees b = list_all (warehouse_agrees b) b.warehouses && list_all (district_agrees b) b.districts
 
--- the books in the last tables
+-- the books in the final tables
 abbrev pub books : List TableInfo → List (List Keyed) → Books
 books tables database = record {
   warehouses = entries tables database (codes "warehouse") (codes "w_id" ∷ []) (codes "w_ytd");

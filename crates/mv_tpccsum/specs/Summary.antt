@@ -39,10 +39,10 @@ rows_line tables database name table = line (name ++ decimal (length (rows_of ta
 unfoldable pub sum_line : List TableInfo → List (List Keyed) → List ℕ → List ℕ → List ℕ
 sum_line tables database table name = line (codes "sum " ++ (name ++ (codes " " ++ signed_decimal (sum_of (column tables database table name)))))
 
--- whether the last tables agree
 abbrev pub answer_line : Bool → List ℕ
 answer_line agree = if agree then codes "consistent yes\n" else codes "consistent no\n"
 
+-- whether the final tables agree
 unfoldable pub consistent_line : List TableInfo → List (List Keyed) → List ℕ
 consistent_line tables database = answer_line (agrees (books tables database))
 
@@ -55,7 +55,7 @@ calls_text resolved outcome =
     ++ calls_line resolved (codes "delivery")
     ++ calls_line resolved (codes "stock_level")
 
--- the lines of the last tables
+-- the lines of the final tables
 unfoldable pub tables_text : List TableInfo → List (List Keyed) → List ℕ
 tables_text tables database =
     rows_line tables database (codes "orders ") (codes "orders")

@@ -1,4 +1,4 @@
-//! Whether the last tables agree.
+//! Whether the final tables agree.
 
 ghost use Rattle.std.specs.Prelude.{◌≡◌, ◌&&◌, ◌-ℤ◌, ◌+ℤ◌, ℕ, IfOk, Some, map, pos};
 ghost use Rattle.std.specs.List.{list_all};
@@ -25,7 +25,7 @@ pub(crate) struct Orders {
     pub(crate) lines: KeyMap<Totals>,
 }
 
-/// Whether the tables agree. Takes time for each row that is logarithmic in the number of districts.
+/// Whether the tables agree. The time for each row is logarithmic in the number of districts.
 #[tactic(auto, unfolding(crate::specs::Consistent::agrees))]
 pub(crate) fn agrees(alloc: Global, tables: Tables<'_>) -> Result<bool, NoMemory>
     ensures { IfOk result (λ b. b ≡ agrees (books tables.entry.infos.now tables.entry.database.now)) }

@@ -18,7 +18,7 @@ pub(crate) struct Totals {
     pub(crate) count: usize,
 }
 
-/// Returns the totals of each group. Takes time for each number that is logarithmic in the number of groups.
+/// Returns the totals of each group. The time for each number is logarithmic in the number of groups.
 pub(crate) fn totals_of(alloc: Global, numbers: &Numbers<'_>) -> Result<KeyMap<Totals>, NoMemory>
     ensures { IfOk result (IsGroups (length numbers.now.rows.now) (entries_of numbers.now)) }
 {
