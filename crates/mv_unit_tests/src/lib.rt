@@ -29,6 +29,8 @@ mod scripts;
 #[cfg(test)]
 mod stores;
 #[cfg(test)]
+mod summary;
+#[cfg(test)]
 mod tokens;
 #[cfg(test)]
 mod tpcc;

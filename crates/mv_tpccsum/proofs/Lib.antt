@@ -1,0 +1,4 @@
+pub mod Loops
+pub mod Grouped
+pub mod Agreeing
+pub mod Writing

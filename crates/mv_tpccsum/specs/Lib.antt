@@ -1,0 +1,5 @@
+pub mod Tables
+pub mod Consistent
+pub mod Calls
+pub mod Summary
+pub mod Grouping
