@@ -1,17 +1,15 @@
 -- The end of a run.
 use Rattle.std.proofs.Common.{◌≡◌, ◌⊎◌, inl, inr, ℕ, zero, suc, ◌+◌, ◌≤◌, ◌<◌, Bool, true, false, List, [], ◌∷◌, Option, Some, None, length, refl, sym, ap, subst, ◌∙◌, arith, rules}
 use Rattle.std.specs.Prelude.{slice_get, nat_lt, if◌then◌else◌, Result, Ok, Err, IfOk, OnErr}
-use Rattle.std.specs.List.{filter}
 use mathlib.Core.List.{IsPrefix}
 use Rattle.mv_journal.specs.declared.event.Event.{Event}
 use Rattle.mv_journal.specs.declared.event.Event.TheVariants.{B, S, A, M, C, X, G}
 use Rattle.mv_journal.specs.declared.outcome.Outcome.{Outcome}
 use Rattle.mv_lawful.specs.Work.{Work}
-use Rattle.mv_journal.specs.declared.outcome.Mark.TheVariants.{Plain, Exclusive}
-use Rattle.mv_lawful.specs.Lawful.{Live, Course, beginning, begin, again, finish, change_live, after, first_open, open_call, Lawful}
-use Rattle.mv_lawful.specs.Rounds.{is_round, is_repair, MayMove, MovesLate, IsBounded}
+use Rattle.mv_journal.specs.declared.outcome.Mark.TheVariants.{Plain, Exclusive, Moved}
+use Rattle.mv_lawful.specs.Lawful.{Live, Course, begin, again, finish, change_live, first_open, open_call, Lawful}
+use Rattle.mv_lawful.specs.Rounds.{IsBounded}
 use Rattle.mv_lawful.specs.Outcomes.{outcome_of}
-use Rattle.mv_lawful.proofs.Repairs.{repairs_are_few}
 use Rattle.mv_seats.specs.Scripts.{Script as BoardScript}
 use Rattle.mv_seats.specs.Knowing.{Knows}
 use Rattle.mv_seats.proofs.Prefixes.{prefix_self, prefix_more}
@@ -22,54 +20,21 @@ use Rattle.mv_core.specs.Calls.{IsLiveCall}
 use Rattle.mv_values.specs.declared.memory.NoMemory.{NoMemory}
 use Rattle.mv_core.specs.declared.book.Begun.{Begun}
 use Rattle.mv_core.specs.Books.{Booked, work_in, Made, IsSame, HasBegun as HasNext}
+use Rattle.mv_core.specs.Cores.{HasMovedAndCommitted}
 use Rattle.mv_core.proofs.Stored.{same_or_apart}
+use Rattle.mv_core.proofs.Moving.{live_moved}
 use Rattle.mv_core.proofs.Turning.{many_begun}
 use Rattle.mv_core.proofs.Journals.{get_front, set_there, set_apart, same_long, changed_at}
 use Rattle.mv_gate.specs.declared.answers.Answer.{Answer}
 use Rattle.mv_gate.specs.declared.answers.Answer.TheVariants as answer
-use Rattle.mv_gate.specs.Gates.{work, IsStill, AreStill, IsDesk, Tries, IsOutcome, IsDone, GoesOn}
-
-same_round : (c : ℕ) (e : Event) → IsStill e → is_round c e ≡ is_repair c e
-same_round c (B d) h = refl
-same_round c (S d) h = refl
-same_round c (A d) h = refl
-same_round c (M d) h = absurd h
-same_round c (C d) h = refl
-same_round c (X d) h = refl
-same_round c G h = absurd h
-
-same_rounds : (c : ℕ) (es : List Event) → AreStill es → filter (is_round c) es ≡ filter (is_repair c) es
-same_rounds c [] h = refl
-same_rounds c (e ∷ es) h =
-    ap (λ b. if b then e ∷ filter (is_round c) es else filter (is_round c) es) (same_round c e h.0)
-    ∙ ap (λ xs. if is_repair c e then e ∷ xs else xs) (same_rounds c es h.1)
-
-may_move : (w : Work) (s : Course) (e : Event) → IsStill e → MayMove w s e
-may_move w s (B d) h = tt
-may_move w s (S d) h = tt
-may_move w s (A d) h = tt
-may_move w s (M d) h = absurd h
-may_move w s (C d) h = tt
-may_move w s (X d) h = tt
-may_move w s G h = absurd h
-
-moves_late : (w : Work) (s : Course) (es : List Event) → AreStill es → MovesLate w s es
-moves_late w s [] h = tt
-moves_late w s (e ∷ es) h = (may_move w s e h.0, moves_late w (after w s e) es h.1)
-
--- a lawful journal in which no call moves is bounded
-bounded : (w : Work) (es : List Event) → Lawful w es → AreStill es → IsBounded w es
-bounded w es lawful still = record {
-  few = λ c. let a = repairs_are_few w es lawful c in let b = ap length (same_rounds c es still) in omega (arith, a, b);
-  late = moves_late w beginning es still;
-}
+use Rattle.mv_gate.specs.Gates.{work, IsDesk, MovesAndCommits, Tries, IsOutcome, IsDone, GoesOn}
 
 pub outcome_told : (s : BoardScript) (b : Booked) (store : Versioned) (gate : Knows) (o : Outcome) → IsDesk s b store gate → Lawful (work_in b) b.journal → o ≡ outcome_of (work_in b) b.journal → IsOutcome (work s) o
 outcome_told s b store gate o d lawful is =
     let events : o.journal ≡ b.journal = ap (λ (x : Outcome). x.journal) is in
     subst (λ (x : Script). IsOutcome (work_of x) o) d.script (record {
       lawful = subst (Lawful (work_in b)) (sym events) lawful;
-      bounded = subst (IsBounded (work_in b)) (sym events) (bounded (work_in b) b.journal lawful d.still);
+      bounded = subst (IsBounded (work_in b)) (sym events) (subst (λ (x : Script). IsBounded (work_of x) b.journal) (sym d.script) d.bounded);
       outcome = is ∙ ap (outcome_of (work_in b)) (sym events);
     })
 
@@ -129,11 +94,18 @@ keeps_changed e c f old new made is live = record {
 keeps_again : (c : ℕ) (old new : Booked) → Made (A c) old new → IsLiveCall old.course c → GoesOn old new
 keeps_again c old new made live = keeps_changed (A c) c (again (length old.course.order) Plain) old new made (ap (λ (s : Course). s.calls) made.course) live
 
+keeps_moved : (c : ℕ) (old new : Booked) → Made (M c) old new → IsLiveCall old.course c → GoesOn old new
+keeps_moved c old new made live = keeps_changed (M c) c (again (length old.course.order) Moved) old new made (ap (λ (s : Course). s.calls) made.course) live
+
 keeps_committed : (c : ℕ) (old new : Booked) → Made (C c) old new → IsLiveCall old.course c → GoesOn old new
 keeps_committed c old new made live = keeps_changed (C c) c finish old new made (ap (λ (s : Course). s.calls) made.course) live
 
 keeps_decided : (c : ℕ) (old new : Booked) → Made (X c) old new → IsLiveCall old.course c → GoesOn old new
 keeps_decided c old new made live = keeps_changed (X c) c (λ l. finish (again (length old.course.order) Exclusive l)) old new made (ap (λ (s : Course). s.calls) made.course) live
+
+-- it is live after it has moved
+moved_live : (c : ℕ) (old new : Booked) → Made (M c) old new → IsLiveCall old.course c → IsLiveCall new.course c
+moved_live c old new made live = (again (length old.course.order) Moved live.0, live_moved c old new live.0 live.1 made)
 
 pub keeps_same : (old new : Booked) → IsSame old new → GoesOn old new
 keeps_same old new same = record {
@@ -166,13 +138,23 @@ begun_next None old new c h begun there =
     let long = ap (λ (s : Course). length s.calls) h.1.course in
     omega (arith, there, all, long)
 
--- a call was decided, or repaired, or not
+-- a call moved and committed
+keeps_moved_and_committed : (c : ℕ) (old mid new : Booked) → Made (M c) old mid → Made (C c) mid new → IsLiveCall old.course c → GoesOn old new
+keeps_moved_and_committed c old mid new moved committed live = keeps_both old mid new (keeps_moved c old mid moved live) (keeps_committed c mid new committed (moved_live c old mid moved live))
+
+pub keeps_late : (r : Result ℕ NoMemory) (c : ℕ) (old new : Booked) → HasMovedAndCommitted c r old new → IsLiveCall old.course c → GoesOn old new
+keeps_late (Ok n) c old new h live = keeps_moved_and_committed c old h.0.0 new h.0.1 h.0.2 live
+keeps_late (Err e) c old new h live = keeps_same old new h
+
+-- a call was decided, or repaired, or moved, or not
 pub keeps_tried : (r : Result Answer NoMemory) (c : ℕ) (old new : Booked) → Tries c r old new → IsLiveCall old.course c → GoesOn old new
 keeps_tried (Ok (answer.Committed n)) c old new h live = by h.0 where
-  by : Made (C c) old new ⊎ Made (X c) old new → GoesOn old new
+  by : Made (C c) old new ⊎ (Made (X c) old new ⊎ MovesAndCommits c old new) → GoesOn old new
   by (inl made) = keeps_committed c old new made live
-  by (inr made) = keeps_decided c old new made live
+  by (inr (inl made)) = keeps_decided c old new made live
+  by (inr (inr both)) = keeps_moved_and_committed c old both.mid new both.moved both.committed live
 keeps_tried (Ok answer.Repaired) c old new h live = keeps_again c old new h live
+keeps_tried (Ok answer.Moved) c old new h live = keeps_moved c old new h.made live
 keeps_tried (Ok answer.Lost) c old new h live = keeps_same old new h
 keeps_tried (Err e) c old new h live = keeps_same old new h
 
@@ -182,13 +164,18 @@ done_by c f old new is live ends = let h = done_now old.course.calls c f live.0 
 pub done_committed : (c : ℕ) (old new : Booked) → Made (C c) old new → IsLiveCall old.course c → IsDone new.course c
 done_committed c old new made live = done_by c finish old new (ap (λ (s : Course). s.calls) made.course) live (λ l. refl)
 
-pub done_tried : (a : Answer) (c : ℕ) (old new : Booked) → Tries c (Ok a) old new → IsLiveCall old.course c → (a ≡ answer.Lost → ⊥) → (a ≡ answer.Repaired → ⊥) → IsDone new.course c
-done_tried (answer.Committed n) c old new h live found left = by h.0 where
-  by : Made (C c) old new ⊎ Made (X c) old new → IsDone new.course c
+pub done_late : (c n : ℕ) (old new : Booked) → HasMovedAndCommitted c (Ok n) old new → IsLiveCall old.course c → IsDone new.course c
+done_late c n old new h live = done_committed c h.0.0 new h.0.2 (moved_live c old h.0.0 h.0.1 live)
+
+pub done_tried : (a : Answer) (c : ℕ) (old new : Booked) → Tries c (Ok a) old new → IsLiveCall old.course c → (a ≡ answer.Lost → ⊥) → (a ≡ answer.Moved → ⊥) → (a ≡ answer.Repaired → ⊥) → IsDone new.course c
+done_tried (answer.Committed n) c old new h live found stays left = by h.0 where
+  by : Made (C c) old new ⊎ (Made (X c) old new ⊎ MovesAndCommits c old new) → IsDone new.course c
   by (inl made) = done_committed c old new made live
-  by (inr made) = done_by c (λ l. finish (again (length old.course.order) Exclusive l)) old new (ap (λ (s : Course). s.calls) made.course) live (λ l. refl)
-done_tried answer.Repaired c old new h live found left = absurd (left refl)
-done_tried answer.Lost c old new h live found left = absurd (found refl)
+  by (inr (inl made)) = done_by c (λ l. finish (again (length old.course.order) Exclusive l)) old new (ap (λ (s : Course). s.calls) made.course) live (λ l. refl)
+  by (inr (inr both)) = done_committed c both.mid new both.committed (moved_live c old both.mid both.moved live)
+done_tried answer.Repaired c old new h live found stays left = absurd (left refl)
+done_tried answer.Moved c old new h live found stays left = absurd (stays refl)
+done_tried answer.Lost c old new h live found stays left = absurd (found refl)
 
 -- a call that was repaired commits, or not
 pub keeps_commit : (r : Result ℕ NoMemory) (c : ℕ) (old new : Booked) → IfOk r (λ n. Made (C c) old new × (n ≡ length old.course.order + 1)) → OnErr r (IsSame old new) → IsLiveCall old.course c → GoesOn old new

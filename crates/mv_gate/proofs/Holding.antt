@@ -1,6 +1,6 @@
 -- What a holder knows of its call, and what the history has of it.
 use Rattle.std.proofs.Common.{◌≡◌, ◌↔◌, ℕ, ◌≤◌, ◌<◌, Bool, true, false, List, [], Option, Some, None, length, refl, sym, ap, subst, ◌∙◌, arith, rules}
-use Rattle.std.specs.Prelude.{IsTrue}
+use Rattle.std.specs.Prelude.{IsTrue, nat_lt}
 use mathlib.Core.List.{IsPrefix}
 use Rattle.mv_record.specs.Runs.{Tables}
 use Rattle.mv_undo.specs.Owning.{HasWritesOf}
@@ -8,7 +8,7 @@ use Rattle.mv_exec.specs.declared.task.Task.{Task}
 use Rattle.mv_journal.specs.declared.event.Event.TheVariants.{B}
 use Rattle.mv_journal.specs.declared.outcome.Round.{Round}
 use Rattle.mv_lawful.specs.Work.{Work, table_at, records_at}
-use Rattle.mv_lawful.specs.Lawful.{Live, Course, is_stale, has_step}
+use Rattle.mv_lawful.specs.Lawful.{Live, Course, used, is_stale, has_step}
 use Rattle.mv_lawful.specs.Rounds.{whole_run, repair_run, rounds_of}
 use Rattle.mv_seats.specs.Scripts.{Script as BoardScript}
 use Rattle.mv_seats.specs.Knowing.{Knows, Plain, plain}
@@ -19,15 +19,14 @@ use Rattle.mv_core.specs.declared.tasks.Running.{Running}
 use Rattle.mv_core.specs.Scripts.{work_of}
 use Rattle.mv_core.specs.Calls.{IsLive, IsLiveCall, AreRounds, turns_in, last_number, due_number}
 use Rattle.mv_core.specs.Books.{Booked, work_in, Made, IsSame, HasRounds, IsNotStale}
-use Rattle.mv_core.specs.Cores.{RunsOn, IsStoreOf, HasTurns, HasStep, HasRun, count_or, IsCounted, IsLiveTask, IsTaskIn, IsRunning, IsRepaired}
+use Rattle.mv_core.specs.Cores.{RunsOn, IsStoreOf, HasTurns, HasStep, HasRun, count_or, IsCounted, IsLiveTask, IsTaskIn, IsRunning}
 use Rattle.mv_core.proofs.Numbers.{settled}
-use Rattle.mv_core.proofs.Refusing.{begun_number}
+use Rattle.mv_core.proofs.Refusing.{begun_number, used_rounds}
 use Rattle.mv_core.proofs.Taking.{one_live, due_now, task_given, task_writes}
 use Rattle.mv_core.proofs.Changed.{step_used}
-use Rattle.mv_core.proofs.Stored.{at_least}
 use Rattle.mv_gate.specs.declared.answers.Answer.{Answer}
 use Rattle.mv_gate.specs.declared.answers.Answer.TheVariants as answer
-use Rattle.mv_gate.specs.Gates.{script_in, work, IsDesk, Holding, IsExecuted, IsHeld, IsUnderWay, IsWhole, IsKnown, HasCall, GivesBack, repaired_from}
+use Rattle.mv_gate.specs.Gates.{script_in, work, HaveTurns, IsDesk, Holding, IsExecuted, IsHeld, IsUnderWay, IsWhole, IsLatest, IsKnown, HasCall, GivesBack, repaired_from}
 use Rattle.mv_gate.proofs.Prefixes.{number_by, table_prefix, repair_prefix, whole_prefix, number_prefix}
 use Rattle.mv_gate.proofs.Numbers.{number_came, only_first}
 
@@ -65,7 +64,7 @@ task_here s b store gate h d holds p k =
       counted =
           counted_here (work s) h.knows.seen b.course.order h.call h.start h.from h.running.count k.live p holds.past (sym k.start) turns k.from
           (numbered (work s) h.knows.seen h.call h.from h.start h.running holds.executed);
-      steps = λ none first. k.steps (sym k.from ∙ only_first (length b.course.order) k.live turns first);
+      steps = λ none first. k.steps first;
       turns = turns;
     })
 
@@ -91,7 +90,6 @@ has_call s b store gate h d holds p k = record {
   call = record {
     live = (k.live, k.is_live);
     there = subst (λ (x : Script). h.call < length x.calls) (sym d.script) holds.there;
-    fresh = λ l at. at_least l.start b.course.low (let low = d.low in omega (arith, low));
     task = λ l at. subst (λ (x : Live). IsLiveTask b.script b.course.order h.call x h.running) (one_live b.course h.call k.live l k.is_live at) (task_here s b store gate h d holds p k);
   };
   start = λ l at. sym k.start ∙ ap (λ (x : Live). x.start) (one_live b.course h.call k.live l k.is_live at);
@@ -102,14 +100,25 @@ has_call s b store gate h d holds p k = record {
 
 -- its rounds, its start and its statements as the book tells them
 pub known_by : (b : Booked) (h : Holding) (rs : List Round) (start : ℕ) → HasRounds b h.call rs → ((l : Live) → IsLive b.course h.call l → start ≡ l.start) → start ≡ h.start → repaired_from (turns_in rs) ≡ h.from
-    → (h.from ≡ None → (l : Live) → IsLive b.course h.call l → l.steps ≤ length h.running.task.records) → IsKnown b h
+    → ((l : Live) → IsLive b.course h.call l → used l ≡ 0 → l.steps ≤ length h.running.task.records) → IsKnown b h
 known_by b h rs start has starts same from few = record {
   live = has.live;
   is_live = has.is_live;
   start = sym (starts has.live has.is_live) ∙ same;
   from = sym (ap repaired_from has.turns) ∙ from;
-  steps = λ none. few none has.live has.is_live;
+  steps = few has.live has.is_live;
 }
+
+-- a call with one round, and a call with more
+pub first_round : (b : Booked) (c : ℕ) (rs : List Round) (l : Live) → HaveTurns b.course → HasRounds b c rs → IsLive b.course c l → length rs ≤ 1 → used l ≡ 0
+first_round b c rs l turns has live one =
+    let many = used_rounds b c (length b.course.order) l rs has live (turns c l live.at) in
+    omega (arith, many, one)
+
+pub later_round : (b : Booked) (c : ℕ) (rs : List Round) (n : ℕ) → HaveTurns b.course → HasRounds b c rs → 1 < length rs → (l : Live) → IsLive b.course c l → used l ≡ 0 → l.steps ≤ n
+later_round b c rs n turns has more l live first =
+    let many = used_rounds b c (length b.course.order) l rs has live (turns c l live.at) in
+    absurd (omega (arith, many, more, first))
 
 -- a call with another start, or another repair, isn't known
 pub other_start : (b : Booked) (h : Holding) (start : ℕ) → ((l : Live) → IsLive b.course h.call l → start ≡ l.start) → (start ≡ h.start → ⊥) → IsKnown b h → ⊥
@@ -147,38 +156,36 @@ held_begun s old new store gate knows call c n task script d next there made at 
       executed = (refl, zero ∙ sym (ap length none));
     }
 
--- A call that was repaired
+-- A call that is given back
 
-pub held_again : (s : BoardScript) (old : Booked) (knows : Knows) (h : Holding) (l : Live) (n : ℕ) (running : Running) → old.script ≡ script_in s → IsHeld s h → l.start ≤ length old.course.order → h.start ≡ l.start → n ≡ length old.course.order
-    → IsRepaired old.script old.course.order h.call l running → knows.role ≡ Plain → IsPrefix old.course.order knows.seen
-    → IsHeld s (record { call = h.call; start = n; from = Some h.start; running = running; knows = knows })
-held_again s old knows h l n running script k past same at r role p =
+executed_prefix : (w : Work) (seen order : List ℕ) (c n : ℕ) (from : Option ℕ) (r : Running) → IsPrefix order seen → n ≤ length order → IsExecuted w order c from n r → IsExecuted w seen c from n r
+executed_prefix w seen order c n None r p le e = e
+executed_prefix w seen order c n (Some from) r p le e = (e.0, e.1, e.2 ∙ sym (repair_prefix w order seen c from n p e.0 le))
+
+pub held_back : (s : BoardScript) (b : Booked) (knows : Knows) (c n : ℕ) (from : Option ℕ) (running : Running) → b.script ≡ script_in s → n ≡ length b.course.order → IsLatest b c from running → knows.role ≡ Plain → IsPrefix b.course.order knows.seen
+    → IsHeld s (record { call = c; start = n; from = from; running = running; knows = knows })
+held_back s b knows c n from running script at latest role p =
     let w : Work = work s in
-    let order : List ℕ = old.course.order in
-    let runs : RunsOn (script_in s) h.call (table_at w order (length order)) running.task = subst (λ (x : Script). RunsOn x h.call (table_at (work_of x) order (length order)) running.task) script r.runs in
-    let executed : running.task.executed ≡ repair_run w order h.call l.start (length order) = r.executed ∙ ap (λ (x : Script). repair_run (work_of x) order h.call l.start (length order)) script in
+    let order : List ℕ = b.course.order in
+    let runs : RunsOn (script_in s) c (table_at w order (length order)) running.task = subst (λ (x : Script). RunsOn x c (table_at (work_of x) order (length order)) running.task) script latest.runs in
+    let executed : IsExecuted w order c from (length order) running = subst (λ (x : Script). IsExecuted (work_of x) order c from (length order) running) script latest.executed in
     let longer = prefix_length order knows.seen p in
     record {
       role = role;
-      there = k.there;
+      there = subst (λ (x : Script). c < length x.calls) script latest.there;
       past = omega (arith, longer, at);
       runs =
-          subst (λ m. RunsOn (script_in s) h.call (table_at w knows.seen m) running.task) (sym at)
-          (subst (λ (db : Tables). RunsOn (script_in s) h.call db running.task) (sym (table_prefix w order knows.seen (length order) p (omega arith))) runs);
-      executed = (
-        omega (arith, past, same, at),
-        r.count,
-        executed
-            ∙ (sym (repair_prefix w order knows.seen h.call l.start (length order) p past (omega arith))
-            ∙ (ap (λ m. repair_run w knows.seen h.call m (length order)) (sym same) ∙ ap (repair_run w knows.seen h.call h.start) (sym at))),
-      );
+          subst (λ m. RunsOn (script_in s) c (table_at w knows.seen m) running.task) (sym at)
+          (subst (λ (db : Tables). RunsOn (script_in s) c db running.task) (sym (table_prefix w order knows.seen (length order) p (omega arith))) runs);
+      executed = subst (λ m. IsExecuted w knows.seen c from m running) (sym at) (executed_prefix w knows.seen order c (length order) from running p (omega arith) executed);
     }
 
--- without a repair it isn't given back
-pub none_back : (h : Holding) (a : Answer) (b : Booked) → (a ≡ answer.Repaired → ⊥) → GivesBack h a None b
-none_back h (answer.Committed n) b ne = tt
-none_back h answer.Repaired b ne = ne refl
-none_back h answer.Lost b ne = tt
+-- without a repair or a move it isn't given back
+pub none_back : (h : Holding) (a : Answer) (b : Booked) → (a ≡ answer.Repaired → ⊥) → (a ≡ answer.Moved → ⊥) → GivesBack h a None b
+none_back h (answer.Committed n) b nr nm = tt
+none_back h answer.Repaired b nr nm = nr refl
+none_back h answer.Moved b nr nm = nm refl
+none_back h answer.Lost b nr nm = tt
 
 -- Where nothing was changed
 
@@ -194,13 +201,16 @@ pub open_same : (old new : Booked) (c : ℕ) (r : Running) → IsSame old new �
 open_same old new c r same o = record {
   live = subst (λ (s : Course). IsLiveCall s c) (sym same.course) o.live;
   there = subst (λ (s : Script). c < length s.calls) (sym same.script) o.there;
-  fresh = subst (λ (s : Course). (l : Live) → IsLive s c l → is_stale s l ≡ false) (sym same.course) o.fresh;
   task = task_on old new c r same.script same.course o.task;
 }
+
+pub fresh_same : (old new : Booked) (c : ℕ) → IsSame old new → IsNotStale old c → IsNotStale new c
+fresh_same old new c same fresh = subst (λ (s : Course). (l : Live) → IsLive s c l → is_stale s l ≡ false) (sym same.course) fresh
 
 pub whole_same : (old new : Booked) (c : ℕ) (r : Running) → IsSame old new → IsWhole old c r → IsWhole new c r
 whole_same old new c r same h = record {
   call = open_same old new c r same h.call;
+  fresh = fresh_same old new c same h.fresh;
   records = λ l live.
       h.records l (subst (λ (s : Course). IsLive s c l) same.course live)
       ∙ (ap (λ (s : Course). records_at (work_in old) s.order l.start c) (sym same.course) ∙ ap (λ (s : Script). records_at (work_of s) new.course.order l.start c) (sym same.script));
@@ -220,7 +230,11 @@ open_writes b store c r k o = task_writes b.script b.course.order c o.live.0 r k
 
 -- it ran on at its start
 pub open_ran : (b : Booked) (c : ℕ) (old new : Running) → IsUnderWay b c old → IsTaskIn b c new → IsUnderWay b c new
-open_ran b c old new o t = record { live = o.live; there = o.there; fresh = o.fresh; task = t }
+open_ran b c old new o t = record { live = o.live; there = o.there; task = t }
+
+-- a start that isn't below low
+pub not_below : (n m : ℕ) → nat_lt n m ≡ false → m ≤ n
+not_below n m h = grind (arith, h)
 
 -- A call that was run whole anew
 
@@ -240,7 +254,6 @@ pub renewed : (s : BoardScript) (b : Booked) (store : Versioned) (gate : Knows) 
 renewed s b store gate c start whole k rs task d live there has starts runs are long by_run known = record {
   live = live;
   there = there;
-  fresh = λ l at. at_least l.start b.course.low (let low = d.low in omega (arith, low));
   task = λ l at.
       let first : start ≡ l.start = starts l at in
       let same : has.live ≡ l = one_live b.course c has.live l has.is_live at in

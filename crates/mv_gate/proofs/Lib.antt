@@ -2,6 +2,7 @@ pub mod Beginning
 pub mod Prefixes
 pub mod Numbers
 pub mod Turns
+pub mod Used
 pub mod Holding
 pub mod Desks
 pub mod Ending

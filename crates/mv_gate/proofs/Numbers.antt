@@ -1,6 +1,6 @@
 -- How the last round of a call came about, and its number.
 use Rattle.std.proofs.Common.{◌≡◌, ℕ, zero, suc, ◌-◌, ◌≤◌, ◌<◌, Bool, true, false, not, List, [], ◌∷◌, Option, Some, None, length, refl, sym, ap, ◌∙◌, arith, rules}
-use Rattle.std.specs.Prelude.{slice_index_or, is_some}
+use Rattle.std.specs.Prelude.{slice_index_or}
 use Rattle.std.specs.Option.{option_eq}
 use Rattle.std.proofs.lemmas.Bool.Decides.{eqb_tells, nat_tests}
 use lib.Dec.{eqb, leb}
@@ -105,10 +105,6 @@ starts_apart (Some x) (Some y) h e =
     let one : x ≡ y = search (rules, e) in
     let no : false ≡ true = sym (ap not (number_same x y one)) ∙ h in
     search (rules, no)
-
-pub is_none : (o : Option ℕ) → is_some o ≡ false → o ≡ None
-is_none None h = refl
-is_none (Some x) h = absurd (search (rules, h))
 
 pub less_is : (a b : ℕ) → leb a b ≡ true → a ≤ b
 less_is a b h = grind (arith, nat_tests, h)

@@ -8,7 +8,7 @@ use Rattle.mv_journal.specs.declared.outcome.Mark.{Mark}
 use Rattle.mv_journal.specs.declared.outcome.Mark.TheVariants.{Plain as Repaired, Exclusive, Moved}
 use Rattle.mv_journal.specs.declared.outcome.Outcome.{Outcome}
 use Rattle.mv_lawful.specs.Work.{Work, table_at}
-use Rattle.mv_lawful.specs.Lawful.{Turn, Live, Course, Lawful, refusal}
+use Rattle.mv_lawful.specs.Lawful.{Turn, Live, Course, Lawful, used, is_stale, has_round, refusal}
 use Rattle.mv_lawful.specs.Rounds.{repair_run, IsBounded}
 use Rattle.mv_lawful.specs.Outcomes.{outcome_of}
 use Rattle.mv_store.specs.Stored.{Versioned}
@@ -19,7 +19,7 @@ use Rattle.mv_core.specs.declared.tasks.Running.{Running}
 use Rattle.mv_core.specs.Scripts.{work_of}
 use Rattle.mv_core.specs.Calls.{IsLive, IsLiveCall}
 use Rattle.mv_core.specs.Books.{Booked, work_in, Made, IsSame, IsNotStale, AreRecordsOf}
-use Rattle.mv_core.specs.Cores.{RunsOn, IsStoreOf, HasTurns, HasStep, HasRun, IsTaskIn, IsRepaired}
+use Rattle.mv_core.specs.Cores.{RunsOn, IsStoreOf, HasTurns, HasStep, HasRun, IsTaskIn}
 use Rattle.mv_gate.specs.declared.answers.Answer.{Answer}
 use Rattle.mv_gate.specs.declared.answers.Answer.TheVariants as answer
 
@@ -35,34 +35,24 @@ work s = work_of (script_in s)
 
 -- Behind the lock
 
--- the event is no move and no collection
-abbrev pub IsStill : Event → Type 0
-IsStill (B c) = Unit {0}
-IsStill (S c) = Unit {0}
-IsStill (A c) = Unit {0}
-IsStill (M c) = ⊥
-IsStill (C c) = Unit {0}
-IsStill (X c) = Unit {0}
-IsStill G = ⊥
-
-abbrev pub AreStill : List Event → Type 0
-AreStill [] = Unit {0}
-AreStill (e ∷ es) = IsStill e × AreStill es
-
 -- each call that has begun has its rounds, the last of which has its start
 abbrev pub HaveTurns : Course → Type 0
 HaveTurns s = (c : ℕ) (l : Live) → slice_get s.calls c ≡ Some l → HasTurns (length s.order) l
 
--- a history of the board's script, a store that has its tables, and the gate's pass, which has seen its commits. No call
--- has moved, and none has writes that aren't committed
+-- no live call was repaired or moved more often than there are rounds
+abbrev pub UseRounds : ℕ → Course → Type 0
+UseRounds rounds s = (c : ℕ) (l : Live) → IsLive s c l → used l ≤ rounds
+
+-- a history of the board's script, a store that has its tables, and the gate's pass, which has seen its commits. Its
+-- events are bounded, and so are the rounds of live calls. No call has writes that aren't committed
 pub record IsDesk (s : BoardScript) (b : Booked) (store : Versioned) (gate : Knows) : Type 0 where
   pub script : b.script ≡ script_in s
   pub stored : IsStoreOf b store
   pub role : gate.role ≡ Gate
   pub seen : gate.seen ≡ b.course.order
   pub turns : HaveTurns b.course
-  pub still : AreStill b.journal
-  pub low : b.course.low ≡ 0
+  pub bounded : IsBounded (work s) b.journal
+  pub rounds : UseRounds s.options.rounds b.course
 
 -- Outside of the lock
 
@@ -90,23 +80,37 @@ pub record IsHeld (s : BoardScript) (h : Holding) : Type 0 where
 
 -- Behind the lock, in one hold
 
--- a live call of the script, whose start isn't below low, and its task
+-- a live call of the script, and its task
 pub record IsUnderWay (b : Booked) (c : ℕ) (r : Running) : Type 0 where
   pub live : IsLiveCall b.course c
   pub there : c < length b.script.calls
-  pub fresh : IsNotStale b c
   pub task : IsTaskIn b c r
 
--- it has run whole
+-- its start isn't below low, and it has run whole
 pub record IsWhole (b : Booked) (c : ℕ) (r : Running) : Type 0 where
   pub call : IsUnderWay b c r
+  pub fresh : IsNotStale b c
   pub records : AreRecordsOf b c r.task.records
 
--- it was repaired: it has run whole anew, after all commits, and may commit
+-- a call of the script has run whole after all commits, by a repair from a start, or without one
+pub record IsLatest (b : Booked) (c : ℕ) (from : Option ℕ) (r : Running) : Type 0 where
+  pub there : c < length b.script.calls
+  pub runs : RunsOn b.script c (table_at (work_in b) b.course.order (length b.course.order)) r.task
+  pub executed : IsExecuted (work_in b) b.course.order c from (length b.course.order) r
+
+-- it was repaired: it has run whole after all commits, and may commit
 pub record IsRestarted (old new : Booked) (c : ℕ) (r : Running) : Type 0 where
   pub whole : IsWhole new c r
   pub free : refusal (work_in new) new.course (C c) ≡ None
-  pub repaired : (l : Live) → IsLive old.course c l → IsRepaired old.script old.course.order c l r
+  pub latest : (l : Live) → IsLive old.course c l → IsLatest new c (Some l.start) r
+
+-- the start of a live call is below low
+abbrev pub IsStale : Booked → ℕ → Type 0
+IsStale b c = (l : Live) → IsLive b.course c l → is_stale b.course l ≡ true
+
+-- whether a live call may be repaired or moved once more
+abbrev pub HasRound : Bool → Booked → ℕ → Type 0
+HasRound more b c = (l : Live) → IsLive b.course c l → has_round (work_in b) l ≡ more
 
 -- the start that a round with this mark was repaired from, if the round before it has this one
 abbrev pub repaired_by : Mark → ℕ → Option ℕ
@@ -121,14 +125,14 @@ repaired_from (t ∷ []) = None
 repaired_from (t ∷ u ∷ []) = repaired_by u.mark t.start
 repaired_from (t ∷ u ∷ v ∷ ts) = repaired_from (u ∷ v ∷ ts)
 
--- the history has the holder's call, with the same start and the same repair. Unless the call was repaired, its task has
--- a record of each statement that the journal names
+-- the history has the holder's call, with the same start and the same repair. In its first round its task has a record of
+-- each statement that the journal names
 pub record IsKnown (b : Booked) (h : Holding) : Type 0 where
   pub live : Live
   pub is_live : IsLive b.course h.call live
   pub start : live.start ≡ h.start
   pub from : repaired_from live.turns ≡ h.from
-  pub steps : h.from ≡ None → live.steps ≤ length h.running.task.records
+  pub steps : used live ≡ 0 → live.steps ≤ length h.running.task.records
 
 -- the holder's call is under way, with its start. While it has a statement left, its holder may have any task that the
 -- holder's one runs on to
@@ -145,20 +149,37 @@ HandsOut (Ok (Some h)) old new = Made (B h.call) old new × (h.start ≡ length 
 HandsOut (Ok None) old new = (length old.course.calls ≡ length old.script.calls) × IsSame old new
 HandsOut (Err e) old new = IsSame old new
 
--- a statement was executed; or the call isn't known, or has no statement left
+-- a statement was executed; or the call isn't known, or has no statement left, or its start is below low
 abbrev pub StepsOn : Holding → Result Bool NoMemory → Booked → Booked → Type 0
 StepsOn h (Ok true) old new = Made (S h.call) old new
-StepsOn h (Ok false) old new = IsSame old new × (IsKnown old h → HasStep old h.call → ⊥)
+StepsOn h (Ok false) old new = IsSame old new × (IsKnown old h → HasStep old h.call → IsNotStale old h.call → ⊥)
 StepsOn h (Err e) old new = IsSame old new
 
--- the call committed, or was repaired and committed in one step; this is the number of its commit
-abbrev pub Commits : ℕ → ℕ → Booked → Booked → Type 0
-Commits c n old new = (Made (C c) old new ⊎ Made (X c) old new) × (n ≡ length old.course.order + 1)
+-- a call whose start is below low, and which may move, moved
+pub record Moves (c : ℕ) (old new : Booked) : Type 0 where
+  pub stale : IsStale old c
+  pub left : HasRound true old c
+  pub made : Made (M c) old new
 
--- the call committed, or was repaired, or nothing happened
+-- a call whose start is below low, and which had used its rounds, moved and committed in one step
+pub record MovesAndCommits (c : ℕ) (old new : Booked) : Type 0 where
+  pub stale : IsStale old c
+  pub none_left : HasRound false old c
+  pub mid : Booked
+  pub moved : Made (M c) old mid
+  pub committed : Made (C c) mid new
+
+-- the call committed, or was repaired and committed in one step, or moved and committed in one step; this is the number
+-- of its commit. The law of journals allows the first only if the call isn't stale and isn't hit, and the second only if
+-- it is hit and has used its rounds
+abbrev pub Commits : ℕ → ℕ → Booked → Booked → Type 0
+Commits c n old new = (Made (C c) old new ⊎ (Made (X c) old new ⊎ MovesAndCommits c old new)) × (n ≡ length old.course.order + 1)
+
+-- the call committed, or was repaired, or moved, or nothing happened
 abbrev pub Tries : ℕ → Result Answer NoMemory → Booked → Booked → Type 0
 Tries c (Ok (answer.Committed n)) old new = Commits c n old new
 Tries c (Ok answer.Repaired) old new = Made (A c) old new
+Tries c (Ok answer.Moved) old new = Moves c old new
 Tries c (Ok answer.Lost) old new = IsSame old new
 Tries c (Err e) old new = IsSame old new
 
@@ -167,10 +188,13 @@ abbrev pub answer_in : {H : Type 0} → Result (Answer × H) NoMemory → Result
 answer_in (Ok r) = Ok r.0
 answer_in (Err e) = Err e
 
--- after a repair the call is given back: it starts after all commits, and was repaired from its old start
+-- after a repair or a move the call is given back: it starts after all commits, and was repaired from its old start, or
+-- has run whole anew
 abbrev pub GivesBack : Holding → Answer → Option Holding → Booked → Type 0
 GivesBack old answer.Repaired (Some h) new = (h.call ≡ old.call) × (h.start ≡ length new.course.order) × (h.from ≡ Some old.start)
 GivesBack old answer.Repaired None new = ⊥
+GivesBack old answer.Moved (Some h) new = (h.call ≡ old.call) × (h.start ≡ length new.course.order) × (h.from ≡ None)
+GivesBack old answer.Moved None new = ⊥
 GivesBack old (answer.Committed n) (Some h) new = ⊥
 GivesBack old (answer.Committed n) None new = Unit {0}
 GivesBack old answer.Lost (Some h) new = ⊥

@@ -7,6 +7,8 @@ pub enum Answer {
     Committed(u32),
     /// A commit after its start hit it. It was repaired, and starts anew after all commits.
     Repaired,
+    /// Its start was below low. It has moved: it starts anew after all commits, and has run whole.
+    Moved,
     /// The history doesn't have the call as its holder knows it. Nothing was done.
     Lost,
 }

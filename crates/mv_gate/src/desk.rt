@@ -1,17 +1,17 @@
 //! What lies behind the gate's lock: the history of a run and its tables.
 
-ghost use Rattle.std.specs.Prelude.{◌≡◌, ◌≢◌, ◌↔◌, ◌<◌, ◌≤◌, ◌+◌, [], None, Some, true, IsTrue, IfOk, OnOk, OnErr, length};
+ghost use Rattle.std.specs.Prelude.{◌≡◌, ◌≢◌, ◌↔◌, ◌<◌, ◌≤◌, ◌+◌, [], None, Some, true, false, IsTrue, IfOk, OnOk, OnErr, length};
 ghost use mathlib.Core.List.{IsPrefix};
 ghost use Rattle.mv_seats.specs.Knowing.{Plain, gate_pass};
-ghost use Rattle.mv_lawful.specs.Lawful.{Live, beginning, open_call, refusal, has_round};
-ghost use Rattle.mv_journal.specs.declared.event.Event.TheVariants.{A, C, X};
+ghost use Rattle.mv_lawful.specs.Lawful.{Live, beginning, open_call, refusal, is_stale, has_round};
+ghost use Rattle.mv_journal.specs.declared.event.Event.TheVariants.{A, M, C, X};
 ghost use Rattle.mv_core.specs.Scripts.{IsScript};
 ghost use Rattle.mv_core.specs.Calls.{IsLive, IsLiveCall};
-ghost use Rattle.mv_core.specs.Books.{work_in, Made, IsSame};
-ghost use Rattle.mv_core.specs.Cores.{HasStep};
+ghost use Rattle.mv_core.specs.Books.{work_in, Made, IsSame, IsNotStale};
+ghost use Rattle.mv_core.specs.Cores.{HasStep, HasCollected, HasMovedAndCommitted};
 ghost use Rattle.mv_gate.specs.declared.answers.Answer.TheVariants as Answer;
 ghost use Rattle.mv_lawful.specs.declared.fault.Fault.TheVariants.{Conflict};
-ghost use Rattle.mv_gate.specs.Gates.{script_in, work, IsUnderWay, IsWhole, IsRestarted, IsKnown, HasCall, HandsOut, StepsOn, Tries, answer_in, GivesBack, IsOutcome, IsDone, GoesOn};
+ghost use Rattle.mv_gate.specs.Gates.{script_in, work, IsUnderWay, IsWhole, IsRestarted, IsLatest, IsStale, HasRound, IsKnown, HasCall, HandsOut, StepsOn, Tries, answer_in, GivesBack, IsOutcome, IsDone, GoesOn};
 
 use crate::answers::Answer;
 use crate::held::Held;
@@ -20,7 +20,8 @@ use crate::rounds::{count_of, repaired_from};
 use mv_core::book::{Book, Check};
 use mv_core::script::Script;
 use mv_core::tasks::{
-    Running, commit_task, finish_task, new_task, repair_task, step_task, whole_task,
+    Running, commit_task, finish_task, move_and_commit, new_task, repair_task, step_task,
+    whole_task,
 };
 use mv_journal::outcome::{Mark, Outcome};
 use mv_seats::board::{Board, Making};
@@ -108,8 +109,8 @@ impl<N: Making> Desk<N> {
         self.pass.meet(board, note);
     }
 
-    /// Whether the history has the call as its holder knows it: live, with the same start and the same repair. Unless it
-    /// was repaired, the holder must have run each statement that the journal names.
+    /// Whether the history has the call as its holder knows it: live, with the same start and the same repair. In the
+    /// call's first round the holder must have run each statement that the journal names.
     fn has(&self, held: &Held<N>) -> bool
         requires { IsPrefix held.now.knows.seen self.now.course.order }
         ensures known { IsTrue result ↔ IsKnown self.now held.now }
@@ -125,7 +126,7 @@ impl<N: Making> Desk<N> {
         if repaired_from(rounds) != held.from {
             return false;
         }
-        held.from.is_some() || self.book.steps(held.call) <= held.running.task.records().len()
+        rounds.len() > 1 || self.book.steps(held.call) <= held.running.task.records().len()
     }
 
     /// Whether a live call is in its first round, which has a statement left.
@@ -139,9 +140,17 @@ impl<N: Making> Desk<N> {
         rounds.len() == 1 && running.has_more(self.book.steps(call))
     }
 
+    /// Whether the start of a live call is below low.
+    fn is_stale(&self, call: u32) -> bool
+        requires { IsLiveCall self.now.course call }
+        ensures { (l : Live) → IsLive self.now.course call l → result ≡ is_stale self.now.course l }
+    {
+        self.book.start(call) < self.store.low()
+    }
+
     /// Event S. Executes the next statement of a call that its holder runs, over the tables at its start. Returns false,
-    /// and does nothing, only if the call has no statement left, or the history doesn't have it as its holder knows it.
-    /// Fails with `NoMemory` if memory runs out. Then the event wasn't made, and the call can go on.
+    /// and does nothing, only if the call has no statement left, or its start is below low, or the history doesn't have
+    /// it as its holder knows it. Fails with `NoMemory` if memory runs out. Then the event wasn't made, and the call can go on.
     pub fn step(
         &mut self,
         alloc: Global,
@@ -155,7 +164,10 @@ impl<N: Making> Desk<N> {
         ensures knows { held.new.knows ≡ held.old.knows }
     {
         self.see(board, held);
-        if !self.has(held) || !self.has_step(held.call, &held.running) {
+        if !self.has(held) || self.is_stale(held.call) {
+            return Ok(false);
+        }
+        if !self.has_step(held.call, &held.running) {
             return Ok(false);
         }
         self.book.reserve(held.call)?;
@@ -201,6 +213,7 @@ impl<N: Making> Desk<N> {
         ensures restarted { OnOk result (IsRestarted self.old self.new call running.new) }
         ensures err { OnErr result (IsSame self.old self.new) }
     {
+        let _events = self.book.journal();
         self.book.reserve(call)?;
         let number = running.number();
         repair_task(alloc, &self.book, &self.store, call, running)?;
@@ -241,7 +254,44 @@ impl<N: Making> Desk<N> {
         Ok(commit)
     }
 
-    /// Whether a live call may be repaired once more before it is decided in one step.
+    /// Event M of a call whose start is below low. Runs it whole on the tables after all commits, and returns its task.
+    fn move_up(&mut self, alloc: Global, call: u32) -> Result<Running, NoMemory>
+        requires live { IsLiveCall self.old.course call }
+        requires there { call < length self.old.script.calls }
+        requires stale { IsStale self.old call }
+        requires left { HasRound true self.old call }
+        ensures ok { OnOk result (Made (M call) self.old self.new) }
+        ensures latest { IfOk result (IsLatest self.new call None) }
+        ensures err { OnErr result (IsSame self.old self.new) }
+    {
+        let _events = self.book.journal();
+        self.book.reserve(call)?;
+        let task = whole_task(alloc, &self.book, &self.store, call, self.book.commits())?;
+        self.book.restart(call, Mark::Moved);
+        self.book.settle(call, &task);
+        Ok(Running { task, count: None })
+    }
+
+    /// Events M and C of a call whose start is below low. All memory is taken before the first event. So no call is left
+    /// that has moved here and hasn't committed, and collections may go on after a want of memory.
+    fn move_and_commit(
+        &mut self,
+        alloc: Global,
+        board: &Board<N>,
+        call: u32,
+    ) -> Result<u32, NoMemory>
+        requires live { IsLiveCall self.old.course call }
+        requires there { call < length self.old.script.calls }
+        requires stale { IsStale self.old call }
+        ensures { HasMovedAndCommitted call result self.old self.new }
+    {
+        let _events = self.book.journal();
+        let commit = move_and_commit(alloc, &mut self.book, &mut self.store, call)?;
+        self.pass.append(board, call);
+        Ok(commit)
+    }
+
+    /// Whether a live call may be repaired or moved once more before it is decided in one step.
     fn has_round(&self, call: u32) -> bool
         requires { IsLiveCall self.now.course call }
         ensures { (l : Live) → IsLive self.now.course call l → result ≡ has_round (work_in self.now) l }
@@ -250,6 +300,50 @@ impl<N: Making> Desk<N> {
             unreachable!();
         };
         rounds.len() <= self.book.script().options.rounds as usize
+    }
+
+    /// Event C, A, X or M of a live call, or M and C. If its start is below low, it moves. If not, it commits, or is
+    /// repaired if a commit after its start hits it. Once it has used its rounds, it commits in the same step.
+    fn try_commit(
+        &mut self,
+        alloc: Global,
+        board: &Board<N>,
+        call: u32,
+        running: &mut Running,
+    ) -> Result<Answer, NoMemory>
+        requires { IsUnderWay self.old call running.old }
+        ensures tried { Tries call result self.old self.new }
+        ensures found { IfOk result (λ answer. answer ≢ Answer.Lost) }
+        ensures restarted { IfOk result (λ answer. answer ≡ Answer.Repaired → IsRestarted self.old self.new call running.new) }
+        ensures moved { IfOk result (λ answer. answer ≡ Answer.Moved → IsLatest self.new call None running.new) }
+    {
+        if self.is_stale(call) {
+            return self.meet_stale(alloc, board, call, running);
+        }
+        self.decide(alloc, board, call, running)
+    }
+
+    /// Event M of a call whose start is below low, or M and C if it has used its rounds.
+    fn meet_stale(
+        &mut self,
+        alloc: Global,
+        board: &Board<N>,
+        call: u32,
+        running: &mut Running,
+    ) -> Result<Answer, NoMemory>
+        requires live { IsLiveCall self.old.course call }
+        requires there { call < length self.old.script.calls }
+        requires stale { IsStale self.old call }
+        ensures tried { Tries call result self.old self.new }
+        ensures found { IfOk result (λ answer. (answer ≢ Answer.Lost) × (answer ≢ Answer.Repaired)) }
+        ensures moved { IfOk result (λ answer. answer ≡ Answer.Moved → IsLatest self.new call None running.new) }
+    {
+        if self.has_round(call) {
+            *running = self.move_up(alloc, call)?;
+            return Ok(Answer::Moved);
+        }
+        let commit = self.move_and_commit(alloc, board, call)?;
+        Ok(Answer::Committed(commit))
     }
 
     /// Event C, A or X of a live call, whose start isn't below low. First it runs the rest of the call at its start. If no
@@ -262,9 +356,10 @@ impl<N: Making> Desk<N> {
         call: u32,
         running: &mut Running,
     ) -> Result<Answer, NoMemory>
-        requires { IsUnderWay self.old call running.old }
+        requires call { IsUnderWay self.old call running.old }
+        requires fresh { IsNotStale self.old call }
         ensures tried { Tries call result self.old self.new }
-        ensures found { IfOk result (λ answer. answer ≢ Answer.Lost) }
+        ensures found { IfOk result (λ answer. (answer ≢ Answer.Lost) × (answer ≢ Answer.Moved)) }
         ensures restarted { IfOk result (λ answer. answer ≡ Answer.Repaired → IsRestarted self.old self.new call running.new) }
     {
         finish_task(alloc, &self.book, &self.store, call, running)?;
@@ -290,7 +385,7 @@ impl<N: Making> Desk<N> {
         requires ended { running.old.task.ended ≡ true }
         requires hit { refusal (work_in self.old) self.old.course (C call) ≡ Some Conflict }
         ensures tried { Tries call result self.old self.new }
-        ensures found { IfOk result (λ answer. answer ≢ Answer.Lost) }
+        ensures found { IfOk result (λ answer. (answer ≢ Answer.Lost) × (answer ≢ Answer.Moved)) }
         ensures restarted { IfOk result (λ answer. answer ≡ Answer.Repaired → IsRestarted self.old self.new call running.new) }
     {
         if self.has_round(call) {
@@ -301,10 +396,11 @@ impl<N: Making> Desk<N> {
         Ok(Answer::Committed(commit))
     }
 
-    /// Tries to commit a call that its holder gives up, by one event: C, A or X. First it runs the rest of the call at its
-    /// start. After a repair the call is given back. It then starts anew after all commits. Returns `Lost`, and does
-    /// nothing, only if the history doesn't have the call as its holder knows it. Fails with `NoMemory` if memory runs
-    /// out. Then no event was made, and the call is left to `finish`.
+    /// Tries to commit a call that its holder gives up, by one event: C, A, X or M; or by M and C, if its start is below
+    /// low and it has used its rounds. Before C, A and X it runs the rest of the call at its start. After a repair or a
+    /// move the call is given back. It then starts anew after all commits. Returns `Lost`, and does nothing, only if the
+    /// history doesn't have the call as its holder knows it. Fails with `NoMemory` if memory runs out. Then no event was
+    /// made, and the call is left to `finish`.
     pub fn attempt(
         &mut self,
         alloc: Global,
@@ -323,24 +419,58 @@ impl<N: Making> Desk<N> {
             call,
             start,
             mut running,
-            mut pass,
+            pass,
             ..
         } = held;
-        match self.decide(alloc, board, call, &mut running)? {
+        match self.try_commit(alloc, board, call, &mut running)? {
             Answer::Repaired => {
-                let news = note(&mut self.pass, board);
-                pass.meet(board, news);
-                let repaired = Held {
-                    call,
-                    start: self.book.commits(),
-                    from: Some(start),
-                    running,
-                    pass,
-                };
+                let repaired = self.give_back(board, call, Some(start), running, pass);
                 Ok((Answer::Repaired, Some(repaired)))
+            }
+            Answer::Moved => {
+                let moved = self.give_back(board, call, None, running, pass);
+                Ok((Answer::Moved, Some(moved)))
             }
             answer => Ok((answer, None)),
         }
+    }
+
+    /// Gives a call that has run whole after all commits to a holder with this pass. The pass comes to know them.
+    fn give_back(
+        &mut self,
+        board: &Board<N>,
+        call: u32,
+        from: Option<u32>,
+        running: Running,
+        mut pass: Pass<N>,
+    ) -> Held<N>
+        requires latest { IsLatest self.old call from running }
+        requires role { pass.role ≡ Plain }
+        ensures same { self.new ≡ self.old }
+        ensures call { result.call ≡ call }
+        ensures start { result.start ≡ length self.old.course.order }
+        ensures from { result.from ≡ from }
+    {
+        let news = note(&mut self.pass, board);
+        pass.meet(board, news);
+        Held {
+            call,
+            start: self.book.commits(),
+            from,
+            running,
+            pass,
+        }
+    }
+
+    /// Event G. Collects old versions. With a horizon, this makes calls with older starts stale. Fails with `NoMemory` if
+    /// memory runs out, and then nothing is collected.
+    pub fn collect(&mut self) -> Result<(), NoMemory>
+        ensures { HasCollected result self.old self.new }
+    {
+        self.book.reserve_event()?;
+        let low = self.book.collect();
+        self.store.raise(low);
+        Ok(())
     }
 
     /// Returns the number of calls of the script.
@@ -350,11 +480,12 @@ impl<N: Making> Desk<N> {
         self.book.script().calls.len() as u32
     }
 
-    /// Runs a live call whole anew, at its start. Fails with `NoMemory` if memory runs out, or if the call was repaired
-    /// and the history doesn't have the number of that round.
+    /// Runs a live call whole anew, at its start, which isn't below low. Fails with `NoMemory` if memory runs out, or if
+    /// the call was repaired and the history doesn't have the number of that round.
     fn renew(&self, alloc: Global, call: u32) -> Result<Running, NoMemory>
         requires live { IsLiveCall self.now.course call }
         requires number { call < length self.now.script.calls }
+        requires fresh { IsNotStale self.now call }
         ensures { IfOk result (IsUnderWay self.now call) }
     {
         let Some(rounds) = self.book.rounds(call) else {
@@ -371,13 +502,17 @@ impl<N: Making> Desk<N> {
         })
     }
 
-    /// Commits a live call that no worker holds any more.
+    /// Commits a live call that no worker holds any more. If its start is below low, it moves first.
     fn commit_left(&mut self, alloc: Global, board: &Board<N>, call: u32) -> Result<(), NoMemory>
         requires live { IsLiveCall self.old.course call }
         requires number { call < length self.old.script.calls }
         ensures done { OnOk result (IsDone self.new.course call) }
         ensures kept { GoesOn self.old self.new }
     {
+        if self.is_stale(call) {
+            self.move_and_commit(alloc, board, call)?;
+            return Ok(());
+        }
         let mut running = self.renew(alloc, call)?;
         let answer = self.decide(alloc, board, call, &mut running)?;
         let Answer::Repaired = answer else {

@@ -22,9 +22,13 @@ use std::sync::{Mutex, Wait};
 use std::thread;
 use std::thread::Threads;
 
+/// The number of commits from one collection of old versions to the next.
+const COLLECTION_INTERVAL: u32 = 64;
+
 /// A lock round the history of a run, and the board that counts its commits. All workers share it. Each event is one hold
 /// of the lock. A begin copies the call's arguments. A statement holds the lock while it is executed. An attempt holds it
-/// for the statements that are left, for the validation, and then for the commit or the repair.
+/// for the statements that are left, for the validation, and then for the commit or the repair. A call whose start is
+/// below low runs whole in one hold. A collection holds the lock while it drops old versions.
 #[derive(Drop)]
 pub struct Gate<N: Making> {
     board: Board<N>,
@@ -69,7 +73,7 @@ impl<N: Making> Gate<N> {
         self.desk.lock(rt).step(alloc, &self.board, held)
     }
 
-    /// Event C, A or X, as one hold.
+    /// Event C, A, X or M, or M and C, as one hold.
     fn attempt<R: Wait>(
         &self,
         rt: &R,
@@ -77,6 +81,14 @@ impl<N: Making> Gate<N> {
         held: Held<N>,
     ) -> Result<(Answer, Option<Held<N>>), NoMemory> {
         self.desk.lock(rt).attempt(alloc, &self.board, held)
+    }
+
+    /// Event G, as one hold, after each commit whose number is a multiple of `COLLECTION_INTERVAL`. If memory runs out,
+    /// nothing is collected, and the next such commit tries anew.
+    fn collect<R: Wait>(&self, rt: &R, commit: u32) {
+        if commit % COLLECTION_INTERVAL == 0 {
+            let _collected = self.desk.lock(rt).collect();
+        }
     }
 }
 
@@ -127,11 +139,12 @@ fn run_call<N: Making, R: Threads + Wait + Sync, P: Pace>(
     run_statements(rt, alloc, gate, &mut held, number, pace)?;
     for _ in rt.forever() {
         tell(rt, pace, number, call, Moment::Before);
-        let (answer, repaired) = gate.attempt(rt, alloc, held)?;
-        if let Answer::Committed(_) = answer {
+        let (answer, back) = gate.attempt(rt, alloc, held)?;
+        if let Answer::Committed(commit) = answer {
             tell(rt, pace, number, call, Moment::Answered);
+            gate.collect(rt, commit);
         }
-        match repaired {
+        match back {
             Some(again) => held = again,
             None => return Ok(()),
         }

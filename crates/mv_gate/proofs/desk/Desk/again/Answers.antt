@@ -1,12 +1,12 @@
-use Rattle.std.proofs.Common.{◌≡◌, Some, None, length, refl, sym, ap, subst, ◌∙◌, arith}
+use Rattle.std.proofs.Common.{◌≡◌, Some, None, length, sym, ap, subst, ◌∙◌, arith}
 use Rattle.mv_journal.specs.declared.event.Event.TheVariants.{A}
 use Rattle.mv_journal.specs.declared.outcome.Mark.TheVariants.{Plain}
 use Rattle.mv_lawful.specs.Lawful.{again, refusal}
 use Rattle.mv_core.specs.Books.{Booked, work_in, Made, IsSame}
-use Rattle.mv_core.proofs.Stored.{stored_same, stored_made}
-use Rattle.mv_core.proofs.Changed.{allowed_same, due_restarted, made_from, made_then, room_less}
+use Rattle.mv_core.proofs.Stored.{stored_same}
+use Rattle.mv_core.proofs.Changed.{allowed_same, due_restarted, made_from, made_after, made_then, room_less}
 use Rattle.mv_gate.specs.Gates.{HaveTurns, IsWhole}
-use Rattle.mv_gate.proofs.Desks.{desk_same, desk_made, order_same, order_again}
+use Rattle.mv_gate.proofs.Desks.{desk_again}
 use Rattle.mv_gate.proofs.Holding.{whole_same, running_of, due_whole}
 use Rattle.mv_gate.proofs.Repaired.{plainly, live_again, restarted}
 use Rattle.mv_gate.proofs.desk.Desk.again.Goals as goal
@@ -20,7 +20,7 @@ repair_task-requires-clause-call g c =
     (whole_same c.self.inside.book c.reserve.new.self c.args.call c.args.running.now c.reserve.ensures.same (subst (λ (b : Booked). IsWhole b c.args.call c.args.running.now) (sym c.self.view_is) c.requires.whole)).call
 
 pub repair_task-requires-clause-fresh : goal.repair_task-requires-clause-fresh
-repair_task-requires-clause-fresh g c = (whole_same c.self.inside.book c.reserve.new.self c.args.call c.args.running.now c.reserve.ensures.same (subst (λ (b : Booked). IsWhole b c.args.call c.args.running.now) (sym c.self.view_is) c.requires.whole)).call.fresh
+repair_task-requires-clause-fresh g c = (whole_same c.self.inside.book c.reserve.new.self c.args.call c.args.running.now c.reserve.ensures.same (subst (λ (b : Booked). IsWhole b c.args.call c.args.running.now) (sym c.self.view_is) c.requires.whole)).fresh
 
 pub repair_task-requires-clause-whole : goal.repair_task-requires-clause-whole
 repair_task-requires-clause-whole g c = (whole_same c.self.inside.book c.reserve.new.self c.args.call c.args.running.now c.reserve.ensures.same (subst (λ (b : Booked). IsWhole b c.args.call c.args.running.now) (sym c.self.view_is) c.requires.whole)).records
@@ -62,16 +62,12 @@ settle-requires-clause-number g c =
 
 pub invariant_of-self-2 : goal.invariant_of-self-2
 invariant_of-self-2 g c =
-    let same : IsSame c.self.inside.book c.reserve.new.self = c.reserve.ensures.same in
-    let stored = stored_same c.self.inside.book c.reserve.new.self c.self.inside.store c.self.invariant.stored same in
-    let seen = c.self.invariant.seen ∙ sym (order_same c.self.inside.book c.reserve.new.self same) in
     let made : Made (A c.args.call) c.reserve.new.self c.settle.new.self =
     made_then (A c.args.call) c.reserve.new.self c.restart.new.self c.settle.new.self
     (made_from (A c.args.call) c.reserve.new.self c.settle_as.new.self c.restart.new.self c.settle_as.ensures.script c.settle_as.ensures.course c.settle_as.ensures.journal c.restart.ensures.made) c.settle.ensures.script
     c.settle.ensures.course c.settle.ensures.journal in
-    desk_made (A c.args.call) g.N.Making.script c.reserve.new.self c.settle.new.self c.self.inside.store c.self.inside.store c.self.inside.pass c.self.inside.pass
-    (desk_same g.N.Making.script c.self.inside.book c.reserve.new.self c.self.inside.store c.self.inside.store c.self.inside.pass c.self.inside.pass c.self.invariant same stored c.self.invariant.role seen) made tt
-    (stored_made (A c.args.call) c.reserve.new.self c.settle.new.self c.self.inside.store stored made refl refl) c.self.invariant.role (seen ∙ sym (order_again c.args.call c.reserve.new.self c.settle.new.self made))
+    desk_again g.N.Making.script c.self.inside.book c.settle.new.self c.self.inside.store c.self.inside.pass c.args.call c.self.invariant c.journal-events.ensures.allowed c.journal-events.ensures.reaches
+    (made_after (A c.args.call) c.self.inside.book c.reserve.new.self c.settle.new.self c.reserve.ensures.same made)
 
 pub returns-clause-restarted : goal.returns-clause-restarted
 returns-clause-restarted g c =

@@ -5,7 +5,7 @@ use Rattle.mv_core.specs.declared.book.Begun.{Begun}
 use Rattle.mv_core.specs.Books.{HasBegun}
 use Rattle.mv_core.proofs.Stored.{stored_made}
 use Rattle.mv_gate.proofs.Holding.{held_begun}
-use Rattle.mv_gate.proofs.Desks.{desk_made, order_begun}
+use Rattle.mv_gate.proofs.Desks.{desk_other, order_begun}
 use Rattle.mv_gate.proofs.desk.Desk.begin.Goals as goal
 
 pub invariant_of-result : goal.invariant_of-result
@@ -17,6 +17,6 @@ invariant_of-result g c =
 pub invariant_of-self-2 : goal.invariant_of-self-2
 invariant_of-self-2 g c =
     let both = subst (λ (o : Option Begun). HasBegun (Ok o) c.self.inside.book c.begin.new.self) c.in-Some-2.is c.in_ok-begun.ensures in
-    desk_made (B c.in-Some-2.begun.call) g.N.Making.script c.self.inside.book c.begin.new.self c.self.inside.store c.self.inside.store c.self.inside.pass c.note.new.pass c.self.invariant both.0 tt
+    desk_other (B c.in-Some-2.begun.call) g.N.Making.script c.self.inside.book c.begin.new.self c.self.inside.store c.self.inside.store c.self.inside.pass c.note.new.pass c.self.invariant both.0 (λ x. refl)
     (stored_made (B c.in-Some-2.begun.call) c.self.inside.book c.begin.new.self c.self.inside.store c.self.invariant.stored both.0 refl refl) (ap (λ (k : Knows). k.role) c.note.ensures.same ∙ c.self.invariant.role)
     (ap (λ (k : Knows). k.seen) c.note.ensures.same ∙ (c.self.invariant.seen ∙ sym (order_begun c.in-Some-2.begun.call c.self.inside.book c.begin.new.self both.0)))

@@ -1,4 +1,4 @@
-use Rattle.std.proofs.Common.{◌≡◌, ◌<◌, ◌++◌, ◌∷◌, ℕ, List, [], None, false, length, sym, ap, subst, ◌∙◌}
+use Rattle.std.proofs.Common.{◌≡◌, ◌<◌, ◌++◌, ◌∷◌, ℕ, List, [], None, false, length, refl, sym, ap, subst, ◌∙◌}
 use Rattle.std.specs.List.{list_any}
 use lib.Dec.{eqb}
 use Rattle.mv_journal.specs.declared.event.Event.TheVariants.{C}
@@ -8,7 +8,7 @@ use Rattle.mv_core.specs.declared.script.Script.{Script}
 use Rattle.mv_core.specs.Books.{Booked, work_in}
 use Rattle.mv_core.proofs.Stored.{last_records}
 use Rattle.mv_gate.specs.Gates.{IsWhole}
-use Rattle.mv_gate.proofs.Desks.{desk_made, order_committed, fresh_call}
+use Rattle.mv_gate.proofs.Desks.{desk_other, order_committed, fresh_call}
 use Rattle.mv_gate.proofs.Holding.{due_whole}
 use Rattle.mv_gate.proofs.desk.Desk.commit.Goals as goal
 
@@ -41,6 +41,6 @@ append-requires-clause-fresh g c =
 pub invariant_of-self-2 : goal.invariant_of-self-2
 invariant_of-self-2 g c =
     let made = c.in_ok-commit.ensures.made.0 in
-    desk_made (C c.args.call) g.N.Making.script c.self.inside.book c.commit_task.new.book c.self.inside.store c.commit_task.new.store c.self.inside.pass c.append.new.self c.self.invariant made tt c.in_ok-commit.ensures.stored
+    desk_other (C c.args.call) g.N.Making.script c.self.inside.book c.commit_task.new.book c.self.inside.store c.commit_task.new.store c.self.inside.pass c.append.new.self c.self.invariant made (λ x. refl) c.in_ok-commit.ensures.stored
     (ap (λ (k : Knows). k.role) c.append.ensures ∙ c.self.invariant.role)
     (ap (λ (k : Knows). k.seen) c.append.ensures ∙ (ap (λ (xs : List ℕ). xs ++ c.args.call ∷ []) c.self.invariant.seen ∙ sym (order_committed c.args.call c.self.inside.book c.commit_task.new.book made)))

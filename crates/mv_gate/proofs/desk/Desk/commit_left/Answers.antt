@@ -1,7 +1,22 @@
-use Rattle.std.proofs.Common.{Ok}
+use Rattle.std.proofs.Common.{Ok, sym, ◌∙◌}
 use Rattle.mv_core.proofs.Changed.{same_self}
-use Rattle.mv_gate.proofs.Ending.{keeps_same, keeps_both, keeps_tried, keeps_commit, done_tried, done_committed}
+use Rattle.mv_gate.proofs.Ending.{keeps_same, keeps_both, keeps_late, keeps_tried, keeps_commit, done_late, done_tried, done_committed}
 use Rattle.mv_gate.proofs.desk.Desk.commit_left.Goals as goal
+
+pub move_and_commit-requires-clause-stale : goal.move_and_commit-requires-clause-stale
+move_and_commit-requires-clause-stale g c l live = sym (c.is_stale.ensures l live) ∙ c.if-is_stale.true
+
+pub renew-requires-clause-fresh : goal.renew-requires-clause-fresh
+renew-requires-clause-fresh g c l live = sym (c.is_stale.ensures l live) ∙ c.if-is_stale.false
+
+pub decide-requires-clause-fresh : goal.decide-requires-clause-fresh
+decide-requires-clause-fresh g c l live = sym (c.is_stale.ensures l live) ∙ c.if-is_stale.false
+
+pub returns-then-is_stale-clause-kept : goal.returns-then-is_stale-clause-kept
+returns-then-is_stale-clause-kept g c = keeps_late c.move_and_commit.result c.args.call c.args.self.now c.move_and_commit.new.self c.move_and_commit.ensures c.requires.live
+
+pub returns-then-is_stale-clause-done : goal.returns-then-is_stale-clause-done
+returns-then-is_stale-clause-done g c = done_late c.args.call c.in_ok-move_and_commit.field-0 c.args.self.now c.move_and_commit.new.self c.in_ok-move_and_commit.ensures c.requires.live
 
 pub returns-in_err-running-clause-kept : goal.returns-in_err-running-clause-kept
 returns-in_err-running-clause-kept g c = keeps_same c.args.self.now c.args.self.now (same_self c.args.self.now)
@@ -11,7 +26,7 @@ returns-in_err-answer-clause-kept g c = keeps_same c.args.self.now c.decide.new.
 
 pub returns-in_default-clause-done : goal.returns-in_default-clause-done
 returns-in_default-clause-done g c =
-    done_tried c.in_ok-answer.answer c.args.call c.args.self.now c.decide.new.self c.in_ok-answer.ensures.tried c.requires.live c.in_ok-answer.ensures.found c.in_default.not-Repaired
+    done_tried c.in_ok-answer.answer c.args.call c.args.self.now c.decide.new.self c.in_ok-answer.ensures.tried c.requires.live c.in_ok-answer.ensures.found.0 c.in_ok-answer.ensures.found.1 c.in_default.not-Repaired
 
 pub returns-in_default-clause-kept : goal.returns-in_default-clause-kept
 returns-in_default-clause-kept g c = keeps_tried (Ok c.in_ok-answer.answer) c.args.call c.args.self.now c.decide.new.self c.in_ok-answer.ensures.tried c.requires.live

@@ -1,4 +1,4 @@
-use Rattle.std.proofs.Common.{◌≡◌, ◌<◌, ◌++◌, ◌∷◌, ℕ, List, [], Some, false, length, sym, ap, subst, ◌∙◌}
+use Rattle.std.proofs.Common.{◌≡◌, ◌<◌, ◌++◌, ◌∷◌, ℕ, List, [], Some, false, length, refl, sym, ap, subst, ◌∙◌}
 use Rattle.std.specs.List.{list_any}
 use lib.Dec.{eqb}
 use Rattle.mv_journal.specs.declared.event.Event.TheVariants.{X}
@@ -7,7 +7,7 @@ use Rattle.mv_core.specs.declared.script.Script.{Script}
 use Rattle.mv_core.specs.Books.{Booked}
 use Rattle.mv_core.proofs.Changed.{due_decided}
 use Rattle.mv_gate.specs.Gates.{IsWhole}
-use Rattle.mv_gate.proofs.Desks.{desk_made, order_decided, fresh_call}
+use Rattle.mv_gate.proofs.Desks.{desk_other, order_decided, fresh_call}
 use Rattle.mv_gate.proofs.Holding.{running_of, due_whole}
 use Rattle.mv_gate.proofs.desk.Desk.exclusive.Goals as goal
 
@@ -16,7 +16,7 @@ repair_task-requires-clause-call g c =
     running_of c.self.inside.book c.self.inside.store c.args.call c.args.running.now c.self.invariant.stored (subst (λ (b : Booked). IsWhole b c.args.call c.args.running.now) (sym c.self.view_is) c.requires.whole).call
 
 pub repair_task-requires-clause-fresh : goal.repair_task-requires-clause-fresh
-repair_task-requires-clause-fresh g c = (subst (λ (b : Booked). IsWhole b c.args.call c.args.running.now) (sym c.self.view_is) c.requires.whole).call.fresh
+repair_task-requires-clause-fresh g c = (subst (λ (b : Booked). IsWhole b c.args.call c.args.running.now) (sym c.self.view_is) c.requires.whole).fresh
 
 pub repair_task-requires-clause-whole : goal.repair_task-requires-clause-whole
 repair_task-requires-clause-whole g c = (subst (λ (b : Booked). IsWhole b c.args.call c.args.running.now) (sym c.self.view_is) c.requires.whole).records
@@ -54,6 +54,6 @@ append-requires-clause-fresh g c =
 pub invariant_of-self-2 : goal.invariant_of-self-2
 invariant_of-self-2 g c =
     let made = c.in_ok-commit.ensures.made.0 in
-    desk_made (X c.args.call) g.N.Making.script c.self.inside.book c.commit_task.new.book c.self.inside.store c.commit_task.new.store c.self.inside.pass c.append.new.self c.self.invariant made tt c.in_ok-commit.ensures.stored
+    desk_other (X c.args.call) g.N.Making.script c.self.inside.book c.commit_task.new.book c.self.inside.store c.commit_task.new.store c.self.inside.pass c.append.new.self c.self.invariant made (λ x. refl) c.in_ok-commit.ensures.stored
     (ap (λ (k : Knows). k.role) c.append.ensures ∙ c.self.invariant.role)
     (ap (λ (k : Knows). k.seen) c.append.ensures ∙ (ap (λ (xs : List ℕ). xs ++ c.args.call ∷ []) c.self.invariant.seen ∙ sym (order_decided c.args.call c.self.inside.book c.commit_task.new.book made)))

@@ -1,12 +1,12 @@
 use Rattle.std.proofs.Common.{rules, refl, sym, subst, ◌∙◌}
 use Rattle.mv_journal.specs.declared.event.Event.TheVariants.{S}
-use Rattle.mv_core.specs.Books.{Booked, IsSame}
+use Rattle.mv_core.specs.Books.{Booked, IsSame, IsNotStale}
 use Rattle.mv_core.proofs.Stored.{stored_same, stored_made}
 use Rattle.mv_core.specs.Calls.{IsLiveCall}
 use Rattle.mv_core.specs.Cores.{IsTaskIn}
 use Rattle.mv_gate.specs.Gates.{Holding, IsUnderWay, HasCall}
-use Rattle.mv_gate.proofs.Desks.{desk_same, desk_made, order_same, order_stepped}
-use Rattle.mv_gate.proofs.Holding.{task_was, open_same, running_of}
+use Rattle.mv_gate.proofs.Desks.{desk_same, desk_other, order_same, order_stepped}
+use Rattle.mv_gate.proofs.Holding.{task_was, open_same, fresh_same, running_of}
 use Rattle.mv_gate.proofs.desk.Desk.step.Goals as goal
 
 pub has_step-requires : goal.has_step-requires
@@ -25,8 +25,8 @@ step_task-requires-clause-call g c =
 
 pub step_task-requires-clause-fresh : goal.step_task-requires-clause-fresh
 step_task-requires-clause-fresh g c =
-    let here = subst (λ (h : Holding). HasCall g.N.Making.script c.see.new.self h) (sym c.held.view_is) (c.if-not-has.ensures.call (search rules)) in
-    (open_same c.self.inside.book c.reserve.new.self c.held.inside.call c.held.inside.running c.reserve.ensures.same (subst (λ (b : Booked). IsUnderWay b c.held.inside.call c.held.inside.running) (sym c.self.view_is) here.call)).fresh
+    fresh_same c.self.inside.book c.reserve.new.self c.held.inside.call c.reserve.ensures.same
+    (subst (λ (b : Booked). IsNotStale b c.held.inside.call) (sym c.self.view_is) (λ l at. sym (c.is_stale.ensures l at) ∙ c.if-is_stale.false))
 
 pub invariant_of-held : goal.invariant_of-held
 invariant_of-held g c =
@@ -40,8 +40,8 @@ invariant_of-self-2 g c =
     let same : IsSame c.self.inside.book c.reserve.new.self = c.reserve.ensures.same in
     let stored = stored_same c.self.inside.book c.reserve.new.self c.self.inside.store c.self.invariant.stored same in
     let seen = c.self.invariant.seen ∙ sym (order_same c.self.inside.book c.reserve.new.self same) in
-    desk_made (S c.held.inside.call) g.N.Making.script c.reserve.new.self c.ran.new.self c.self.inside.store c.self.inside.store c.self.inside.pass c.self.inside.pass
-    (desk_same g.N.Making.script c.self.inside.book c.reserve.new.self c.self.inside.store c.self.inside.store c.self.inside.pass c.self.inside.pass c.self.invariant same stored c.self.invariant.role seen) c.ran.ensures.made tt
+    desk_other (S c.held.inside.call) g.N.Making.script c.reserve.new.self c.ran.new.self c.self.inside.store c.self.inside.store c.self.inside.pass c.self.inside.pass
+    (desk_same g.N.Making.script c.self.inside.book c.reserve.new.self c.self.inside.store c.self.inside.store c.self.inside.pass c.self.inside.pass c.self.invariant same stored c.self.invariant.role seen) c.ran.ensures.made (λ x. refl)
     (stored_made (S c.held.inside.call) c.reserve.new.self c.ran.new.self c.self.inside.store stored c.ran.ensures.made refl refl) c.self.invariant.role
     (seen ∙ sym (order_stepped c.held.inside.call c.reserve.new.self c.ran.new.self c.ran.ensures.made))
 
