@@ -1,1 +1,9 @@
-pub mod Giving
+pub mod Rows
+pub mod Options
+pub mod Shapes
+pub mod Turns
+pub mod Following
+pub mod Said
+pub mod Told
+pub mod Found
+pub mod Building

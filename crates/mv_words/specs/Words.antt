@@ -10,7 +10,8 @@ use Rattle.mv_journal.specs.Reading.{number_in}
 use Rattle.mv_tpccgen.specs.declared.load.Load.{Load}
 use Rattle.mv_words.specs.declared.command.Command.{Command}
 use Rattle.mv_words.specs.declared.command.Command.TheVariants.{Run, Replay, Serial, Graph, Tpcc}
-use Rattle.mv_words.specs.declared.command.Usage.{Usage}
+use Rattle.mv_words.specs.declared.command.WordsFault.{WordsFault}
+use Rattle.mv_words.specs.declared.command.WordsFault.TheVariants.{Usage, NoMemory}
 use Rattle.mv_words.specs.declared.reading.Given.{Given}
 
 -- the bytes of words
@@ -112,7 +113,8 @@ abbrev pub command_of : List (List ℕ) → Option Command
 command_of [] = None
 command_of (name ∷ words) = option_and_then (command_with name) (given_by nothing words)
 
--- what is read is the command that the words say; words that say none are a fault
-abbrev pub Reads : Option Command → Result Command Usage → Type 0
+-- what is read is the command that the words say; words that say none are a fault; memory may run out
+abbrev pub Reads : Option Command → Result Command WordsFault → Type 0
 Reads said (Ok command) = said ≡ Some command
-Reads said (Err usage) = said ≡ None
+Reads said (Err Usage) = said ≡ None
+Reads said (Err NoMemory) = Unit {0}

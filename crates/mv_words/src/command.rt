@@ -1,7 +1,11 @@
 //! The commands of the program.
 
+ghost use Rattle.std.specs.Prelude.{◌≡◌};
+ghost use Rattle.mv_words.specs.declared.command.WordsFault.TheVariants.{NoMemory};
+
 use mv_tpccgen::load::Load;
 use mv_values::calls::Options;
+use std::alloc::AllocError;
 
 /// A command that the program takes.
 #[derive(Clone, Copy)]
@@ -29,6 +33,17 @@ pub enum Command {
     },
 }
 
-/// The words are no command of the program.
+/// Why words give no command: they are none of the program's, or memory ran out.
 #[derive(Clone, Copy, Debug)]
-pub struct Usage;
+pub enum WordsFault {
+    Usage,
+    NoMemory,
+}
+
+impl From<AllocError> for WordsFault {
+    ghost from_gives = { λ _ fault. fault ≡ NoMemory };
+
+    fn from(_error: AllocError) -> WordsFault {
+        WordsFault::NoMemory
+    }
+}

@@ -1,12 +1,20 @@
 //! The words of a command line.
 
-ghost use Rattle.std.specs.Prelude.{◌≡◌};
-ghost use Rattle.mv_words.specs.Words.{Reads, number, nothing, given, given_by, with_script, gives_load, is_nothing, usual, options_of, load_of, run_with, replay_with, tpcc_with, command_with, command_of, words_of};
+ghost use Rattle.std.specs.Prelude.{◌≡◌, ◌≢◌, map};
+ghost use Rattle.clap.specs.Words.{count_of, found_of, rows_of, subcommand_rows_of};
+ghost use Rattle.clap.specs.declared.error.kind.ErrorKind.TheVariants.{OutOfMemory};
+ghost use Rattle.mv_words.specs.declared.command.WordsFault.TheVariants.{Usage, NoMemory};
+ghost use Rattle.mv_words.specs.Words.{Reads, number, gives_load, is_nothing, usual, options_of, load_of, run_with, replay_with, tpcc_with, command_with, command_of, words_of};
+ghost use Rattle.mv_words.specs.Program.{command_in, flag_by, given_in, has_escape, number_by, values_of};
 
-use crate::command::{Command, Usage};
+use crate::command::{Command, WordsFault};
+use crate::program::program;
+use clap::ArgMatches;
+use clap::error::ErrorKind;
 use mv_journal::line::number_of;
 use mv_tpccgen::load::Load;
 use mv_values::calls::Options;
+use std::alloc::Global;
 
 /// The most digits that a value has.
 const MOST_DIGITS: usize = 10;
@@ -25,22 +33,94 @@ fn usual() -> Options
 /// most once, as `--name=value` or as `--name value`. `--script` has no value. A value is 1 to 10 decimal digits. `run`
 /// takes `--threads`, 1 to 64, `--rounds`, 0 to 100, and `--horizon`, 1 to 4294967295. `replay` takes `--rounds` and
 /// `--horizon`. `tpcc` takes the options of `run`, `--warehouses`, 1 to 16, `--calls`, 0 to 40000, `--seed`, 0 to
-/// 4294967295, and `--script`. The other commands take none. Fails with `Usage` for all other words.
-pub fn read_words(words: &[String]) -> Result<Command, Usage>
+/// 4294967295, and `--script`. The other commands take none. Fails with `Usage` for all other words, and with `NoMemory`
+/// when memory runs out.
+pub fn read_words(alloc: Global, words: &[String]) -> Result<Command, WordsFault>
     ensures { Reads (command_of (words_of words.now)) result }
 {
-    match command_of(words) {
-        Some(command) => Ok(command),
-        None => Err(Usage),
+    if has_escape(words) {
+        return Err(WordsFault::Usage);
+    }
+    match program(alloc)?.try_get_matches_from(words) {
+        Ok(found) => command_in(&found).ok_or(WordsFault::Usage),
+        Err(error) => Err(fault_by(error.kind())),
     }
 }
 
-fn command_of(words: &[String]) -> Option<Command>
-    ensures { result ≡ command_of (words_of words.now) }
+/// Whether a word is `--`. No command takes it, but `clap` does.
+fn has_escape(words: &[String]) -> bool
+    ensures { result ≡ has_escape (words_of words.now) }
 {
-    let (name, options) = words.split_first()?;
-    let given = Given::nothing().with_all(options)?;
-    command_with(name.as_str(), given)
+    match words.split_first() {
+        None => false,
+        Some((word, more)) => word.as_str() == "--" || has_escape(more),
+    }
+}
+
+/// Returns the fault of words that `clap` refuses for this reason.
+fn fault_by(kind: ErrorKind) -> WordsFault
+    ensures memory { kind ≡ OutOfMemory → result ≡ NoMemory }
+    ensures words { kind ≢ OutOfMemory → result ≡ Usage }
+{
+    match kind {
+        ErrorKind::OutOfMemory => WordsFault::NoMemory,
+        _ => WordsFault::Usage,
+    }
+}
+
+/// Returns the command that is found, if it takes the options that are found.
+fn command_in(found: &ArgMatches<'_>) -> Option<Command>
+    ensures { result ≡ command_in (subcommand_rows_of found.now) }
+{
+    let (name, options) = found.subcommand()?;
+    command_with(name, given_in(options)?)
+}
+
+/// Returns the options that are found. None if one is given twice or has no value of its range.
+fn given_in(found: &ArgMatches<'_>) -> Option<Given>
+    ensures { result ≡ given_in (rows_of (found_of found.now)) }
+{
+    Some(Given {
+        threads: number_in(found, "threads", 1, 64)?,
+        rounds: number_in(found, "rounds", 0, 100)?,
+        horizon: number_in(found, "horizon", 1, u32::MAX)?,
+        warehouses: number_in(found, "warehouses", 1, 16)?,
+        calls: number_in(found, "calls", 0, 40_000)?,
+        seed: number_in(found, "seed", 0, u32::MAX)?,
+        script: flag_in(found, "script")?,
+    })
+}
+
+/// Returns the number that an option has, if it is given. None if it is given twice or its value is out of its range.
+fn number_in(found: &ArgMatches<'_>, name: &str, least: u32, most: u32) -> Option<Option<u32>>
+    ensures { result ≡ number_by least most (values_of name.now (rows_of (found_of found.now))) }
+{
+    match found.get_strs(name) {
+        Some(values) => number_by(values, least, most),
+        None => Some(None),
+    }
+}
+
+/// Returns the number that values give, if there is any. None if there are several, or the number is out of its range.
+fn number_by(values: &[&str], least: u32, most: u32) -> Option<Option<u32>>
+    ensures { result ≡ number_by least most (map (λ value. value.now) values.now) }
+{
+    match values {
+        [] => Some(None),
+        [value] => Some(Some(number(least, most, value)?)),
+        _ => None,
+    }
+}
+
+/// Returns whether an option without a value is given. None if it is given twice.
+fn flag_in(found: &ArgMatches<'_>, name: &str) -> Option<bool>
+    ensures { result ≡ flag_by (count_of name.now (rows_of (found_of found.now))) }
+{
+    match found.get_count(name) {
+        0 => Some(false),
+        1 => Some(true),
+        _ => None,
+    }
 }
 
 /// Returns the command with this name, if it takes these options.
@@ -70,85 +150,6 @@ pub(crate) struct Given {
 }
 
 impl Given {
-    fn nothing() -> Given
-        ensures { result ≡ nothing }
-    {
-        Given {
-            threads: None,
-            rounds: None,
-            horizon: None,
-            warehouses: None,
-            calls: None,
-            seed: None,
-            script: false,
-        }
-    }
-
-    /// Adds the options that words give. None if a word is no option of a command, or an option is given twice or has no
-    /// value of its range.
-    fn with_all(self, words: &[String]) -> Option<Given>
-        ensures { result ≡ given_by self (words_of words.now) }
-    {
-        let Some((word, more)) = words.split_first() else {
-            return Some(self);
-        };
-        if let Some((name, value)) = word.as_str().split_once('=') {
-            return self.with(name, value)?.with_all(more);
-        }
-        if word.as_str() == "--script" {
-            return self.with_script()?.with_all(more);
-        }
-        let (value, more) = more.split_first()?;
-        self.with(word.as_str(), value.as_str())?.with_all(more)
-    }
-
-    /// Adds an option with a value. None if there is no such option, if it is given already, or if its value is out of
-    /// its range.
-    fn with(self, name: &str, value: &str) -> Option<Given>
-        ensures { result ≡ given self name.now value.now }
-    {
-        match name {
-            "--threads" if self.threads.is_none() => Some(Given {
-                threads: Some(number(1, 64, value)?),
-                ..self
-            }),
-            "--rounds" if self.rounds.is_none() => Some(Given {
-                rounds: Some(number(0, 100, value)?),
-                ..self
-            }),
-            "--horizon" if self.horizon.is_none() => Some(Given {
-                horizon: Some(number(1, u32::MAX, value)?),
-                ..self
-            }),
-            "--warehouses" if self.warehouses.is_none() => Some(Given {
-                warehouses: Some(number(1, 16, value)?),
-                ..self
-            }),
-            "--calls" if self.calls.is_none() => Some(Given {
-                calls: Some(number(0, 40_000, value)?),
-                ..self
-            }),
-            "--seed" if self.seed.is_none() => Some(Given {
-                seed: Some(number(0, u32::MAX, value)?),
-                ..self
-            }),
-            _ => None,
-        }
-    }
-
-    /// Adds `--script`. None if it is given already.
-    fn with_script(self) -> Option<Given>
-        ensures { result ≡ with_script self }
-    {
-        if self.script {
-            return None;
-        }
-        Some(Given {
-            script: true,
-            ..self
-        })
-    }
-
     /// Returns `run` with these options, if it has them.
     fn run(&self) -> Option<Command>
         ensures { result ≡ run_with self.now }
