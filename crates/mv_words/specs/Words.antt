@@ -8,6 +8,7 @@ use Rattle.std.specs.declared.alloc.Global.{Global}
 use Rattle.mv_values.specs.declared.calls.Options.{Options}
 use Rattle.mv_journal.specs.Reading.{number_in}
 use Rattle.mv_tpccgen.specs.declared.load.Load.{Load}
+use Rattle.mv_tpccgen.specs.Loads.{IsLoad}
 use Rattle.mv_words.specs.declared.command.Command.{Command}
 use Rattle.mv_words.specs.declared.command.Command.TheVariants.{Run, Replay, Serial, Graph, Tpcc}
 use Rattle.mv_words.specs.declared.command.Usage.{Usage}
@@ -116,3 +117,11 @@ command_of (name ∷ words) = option_and_then (command_with name) (given_by noth
 abbrev pub Reads : Option Command → Result Command Usage → Type 0
 Reads said (Ok command) = said ≡ Some command
 Reads said (Err usage) = said ≡ None
+
+-- a script can be generated for the command's load
+abbrev pub HasLoad : Command → Type 0
+HasLoad (Run threads options) = Unit {0}
+HasLoad (Replay options) = Unit {0}
+HasLoad Serial = Unit {0}
+HasLoad Graph = Unit {0}
+HasLoad (Tpcc load script threads options) = IsLoad load

@@ -1,7 +1,7 @@
 //! The words of a command line.
 
-ghost use Rattle.std.specs.Prelude.{◌≡◌};
-ghost use Rattle.mv_words.specs.Words.{Reads, number, nothing, given, given_by, with_script, gives_load, is_nothing, usual, options_of, load_of, run_with, replay_with, tpcc_with, command_with, command_of, words_of};
+ghost use Rattle.std.specs.Prelude.{◌≡◌, IfOk};
+ghost use Rattle.mv_words.specs.Words.{Reads, HasLoad, number, nothing, given, given_by, with_script, gives_load, is_nothing, usual, options_of, load_of, run_with, replay_with, tpcc_with, command_with, command_of, words_of};
 
 use crate::command::{Command, Usage};
 use mv_journal::line::number_of;
@@ -27,7 +27,8 @@ fn usual() -> Options
 /// `--horizon`. `tpcc` takes the options of `run`, `--warehouses`, 1 to 16, `--calls`, 0 to 40000, `--seed`, 0 to
 /// 4294967295, and `--script`. The other commands take none. Fails with `Usage` for all other words.
 pub fn read_words(words: &[String]) -> Result<Command, Usage>
-    ensures { Reads (command_of (words_of words.now)) result }
+    ensures said { Reads (command_of (words_of words.now)) result }
+    ensures load { IfOk result HasLoad }
 {
     match command_of(words) {
         Some(command) => Ok(command),
