@@ -12,7 +12,7 @@ use Rattle.mv_core.specs.Drives.{HasReplayed}
 use Rattle.mv_top.specs.declared.refusal.NoText.{NoText}
 use Rattle.mv_top.specs.declared.refusal.NoText.TheVariants.{Refused, NoMemory}
 use Rattle.mv_top.specs.History.{work_of as whole_work}
-use Rattle.mv_top.specs.Journals.{IsJournalOf, refusal_of, RefusesJournal, unlawful}
+use Rattle.mv_top.specs.Journals.{IsJournalOf, RefusesJournal, unlawful}
 use Rattle.mv_top.specs.Refusing.{of_drive, TellsWrong, TellsJournal}
 
 pub fault_told : (w : Work) (es : List Event) (f : DriveFault) → HasReplayed w es (Err f) → TellsWrong w es (of_drive f)

@@ -13,10 +13,10 @@ use Rattle.mv_top.specs.declared.refusal.Refusal.{Refusal}
 use Rattle.mv_top.specs.declared.refusal.Refusal.TheVariants as why
 use Rattle.mv_top.specs.declared.refusal.NoText.{NoText}
 use Rattle.mv_top.specs.declared.refusal.NoText.TheVariants.{Refused, NoMemory}
-use Rattle.mv_top.specs.declared.status.Command.{Command}
-use Rattle.mv_top.specs.declared.status.Command.TheVariants.{Run, Replay, Serial, Graph}
+use Rattle.mv_words.specs.declared.command.Command.{Command}
+use Rattle.mv_words.specs.declared.command.Command.TheVariants.{Run, Replay, Serial, Graph, Tpcc}
 use Rattle.mv_top.specs.History.{work_of}
-use Rattle.mv_top.specs.Journals.{journal_lines, refusal_of, HasLawfulJournal, IsJournalText, RefusesJournal, line, unlawful}
+use Rattle.mv_top.specs.Journals.{journal_lines, refusal_of, HasLawfulJournal, RefusesJournal, line, unlawful}
 use Rattle.mv_top.specs.Refusing.{Causes, Tells}
 use Rattle.mv_top.specs.Answers.{IsTextOf, Takes, RefusesProgram, IsRefusedBy, by_script, by_program}
 
@@ -41,18 +41,21 @@ text_is_taken (Run threads options) bytes answer p r t bad = bad
 text_is_taken (Replay options) bytes answer p r t bad = lawful_is_taken options bytes p t.events r t.is bad
 text_is_taken Serial bytes answer p r t bad = bad
 text_is_taken Graph bytes answer p r t bad = bad
+text_is_taken (Tpcc load script threads options) bytes answer p r t bad = bad
 
 taken : (command : Command) (bytes : List ℕ) (p : Program) (r : Refusal) → Takes command bytes p → RefusesProgram command bytes p r → ⊥
 taken (Run threads options) bytes p r t bad = bad
 taken (Replay options) bytes p r t bad = lawful_is_taken options bytes p t.0 r t.1 bad
 taken Serial bytes p r t bad = bad
 taken Graph bytes p r t bad = bad
+taken (Tpcc load script threads options) bytes p r t bad = bad
 
 one_refusal : (command : Command) (bytes : List ℕ) (p : Program) (r q : Refusal) → RefusesProgram command bytes p r → RefusesProgram command bytes p q → r ≡ q
 one_refusal (Run threads options) bytes p r q a b = absurd a
 one_refusal (Replay options) bytes p r q a b = same_refusal options bytes p r q a b
 one_refusal Serial bytes p r q a b = absurd a
 one_refusal Graph bytes p r q a b = absurd a
+one_refusal (Tpcc load script threads options) bytes p r q a b = absurd a
 
 -- a command that takes the program has a text, unless memory ran out
 pub only_of : (command : Command) (bytes : List ℕ) (p : Program) (result : Result (List ℕ) NoText) → IfErr result (Causes (RefusesProgram command bytes p))
@@ -85,10 +88,10 @@ text_refused command bytes p (Ok answer) accepted why = tt
 text_refused command bytes p (Err (Refused r)) accepted why = by_program p r accepted why
 text_refused command bytes p (Err NoMemory) accepted why = tt
 
-pub text_told : (command : Command) (bytes : List ℕ) (p : Program) (result : Result (List ℕ) NoText) → ((r : ScriptRefusal) → Refuses bytes r → ⊥) → ((q : Program) → Accepts bytes q → p ≡ q)
-    → ((r : Refusal) → RefusesProgram command bytes p r → MatchResult result (λ answer. ⊥) (Tells r)) → (r : Refusal) → IsRefusedBy command bytes r → MatchResult result (λ answer. ⊥) (Tells r)
-text_told command bytes p result never same told r (by_script s cause) = absurd (never s cause)
-text_told command bytes p result never same told r (by_program q s accepted why) = told s (subst (λ (x : Program). RefusesProgram command bytes x s) (sym (same q accepted)) why)
+pub text_told : (command : Command) (bytes : List ℕ) (p : Program) (r : Refusal) → ((r : ScriptRefusal) → Refuses bytes r → ⊥) → ((q : Program) → Accepts bytes q → p ≡ q) → IsRefusedBy command bytes r
+    → RefusesProgram command bytes p r
+text_told command bytes p r never same (by_script s cause) = absurd (never s cause)
+text_told command bytes p r never same (by_program q s accepted why) = subst (λ (x : Program). RefusesProgram command bytes x s) (sym (same q accepted)) why
 
 pub script_told : (command : Command) (bytes : List ℕ) (it : ScriptRefusal) → ((r : ScriptRefusal) → Refuses bytes r → it ≡ r) → ((q : Program) → Accepts bytes q → ⊥) → (r : Refusal) → IsRefusedBy command bytes r → why.Script it ≡ r
 script_told command bytes it same never r (by_script s cause) = ap (λ x. why.Script x) (same s cause)

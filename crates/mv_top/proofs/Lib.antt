@@ -5,3 +5,4 @@ pub mod Judging
 pub mod Driving
 pub mod Answering
 pub mod Texts
+pub mod Summaries

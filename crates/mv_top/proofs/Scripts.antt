@@ -85,6 +85,11 @@ script_is p options whole few = (
   },
 )
 
+-- a script of these parts is that of its program
+pub script_by : (p : Program) (options : Options) (graphs : List Graph) (calls : List Call) → graphs ≡ graphs_of p.resolved → calls ≡ p.resolved.calls
+    → ◌≡◌ {A = Script} (record { graphs = graphs; calls = calls; opening = p.opening; options = options }) (script_of p options)
+script_by p options graphs calls g c = λ i. record { graphs = g i; calls = c i; opening = p.opening; options = options }
+
 -- Its work
 
 abbrev run_of : Program → ℕ → Tables → Run

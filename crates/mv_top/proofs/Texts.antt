@@ -1,5 +1,5 @@
 -- What workers leave has the text of a run, and a text fixes its journal.
-use Rattle.std.proofs.Common.{◌≡◌, ◌<◌, ◌≤◌, ℕ, List, [], ◌∷◌, ◌++◌, Option, Some, None, Result, Ok, Err, All, IfOk, refl, sym, ap, ◌∙◌, arith, length}
+use Rattle.std.proofs.Common.{◌≡◌, inl, inr, ◌<◌, ◌≤◌, ℕ, List, [], ◌∷◌, ◌++◌, Option, Some, None, Result, Ok, Err, All, refl, sym, ap, ◌∙◌, arith, length}
 use Rattle.std.specs.Prelude.{codes, slice_get, ◌==◌}
 use Rattle.std.specs.List.{position}
 use Rattle.std.proofs.lemmas.List.Elements.{All-nil, All-push, All-map, All-weaker}
@@ -42,16 +42,16 @@ use Rattle.mv_report.specs.Text.{line, replies_text, history_text, event_line, j
 use Rattle.mv_report.proofs.Fixing.{text_fixes}
 use Rattle.mv_gate.specs.Gates.{IsOutcome}
 use Rattle.mv_top.specs.History.{work_of, text, in_turn as turns_of, TextFixesJournal}
+use Rattle.mv_top.specs.Workers.{IsLeftBy}
 use Rattle.mv_top.specs.Answers.{IsTextOfWorkers}
 
 -- Runs
 
--- the text of what workers leave, unless there is one of them
-pub text_runs : {E : Type 0} (p : Program) (options : Options) (count : ℕ) (result : Result (List ℕ) E) (left : Outcome) → 1 < count → IsOutcome (work_of p options) left
-    → IfOk result (λ bytes. bytes ≡ text_of p.resolved.tables left) → IfOk result (IsTextOfWorkers count options p)
-text_runs p options count (Ok bytes) left more is h =
+-- the text of what several workers leave
+text_runs : (p : Program) (options : Options) (count : ℕ) (bytes : List ℕ) (left : Outcome) → 1 < count → IsOutcome (work_of p options) left → bytes ≡ text_of p.resolved.tables left
+    → IsTextOfWorkers count options p bytes
+text_runs p options count bytes left more is h =
     (record { journal = left.journal; lawful = is.lawful; bounded = is.bounded; text_is = h ∙ ap (text_of p.resolved.tables) is.outcome }, λ one. absurd (omega (arith, more, one)))
-text_runs p options count (Err e) left more is h = tt
 
 -- collections have no line
 lines_unseen : (es : List Event) → journal_text (without_collections es) ≡ journal_text es
@@ -73,18 +73,23 @@ text_unseen : (w : Work) (tables : List TableInfo) (es : List Event) → text_of
 text_unseen w tables es = ap (text_of tables) (collections_are_unseen w es) ∙ ap (with_lines tables (outcome_of w (without_collections es))) (sym (lines_unseen es))
 
 -- the text of what one worker leaves
-pub text_turns : {E : Type 0} (p : Program) (options : Options) (result : Result (List ℕ) E) (left : Outcome) → IsOutcomeInTurn (work_of p options) (length p.resolved.calls) left
-    → IfOk result (λ bytes. bytes ≡ text_of p.resolved.tables left) → IfOk result (λ bytes. bytes ≡ text p options (turns_of p))
-text_turns p options (Ok bytes) left is h =
+text_turns : (p : Program) (options : Options) (bytes : List ℕ) (left : Outcome) → IsOutcomeInTurn (work_of p options) (length p.resolved.calls) left → bytes ≡ text_of p.resolved.tables left
+    → bytes ≡ text p options (turns_of p)
+text_turns p options bytes left is h =
     h ∙ (ap (text_of p.resolved.tables) is.outcome ∙ (text_unseen (work_of p options) p.resolved.tables is.journal
     ∙ ap (λ es. text_of p.resolved.tables (outcome_of (work_of p options) es)) is.turns))
-text_turns p options (Err e) left is h = tt
 
 -- it is one of any number of them
-pub turns_are_run : (p : Program) (options : Options) (count : ℕ) (bytes : List ℕ) → bytes ≡ text p options (turns_of p) → IsTextOfWorkers count options p bytes
+turns_are_run : (p : Program) (options : Options) (count : ℕ) (bytes : List ℕ) → bytes ≡ text p options (turns_of p) → IsTextOfWorkers count options p bytes
 turns_are_run p options count bytes is =
     let it = in_turn_is_lawful (work_of p options) in
     (record { journal = turns_of p; lawful = it.lawful; bounded = it.bounded; text_is = is }, λ one. is)
+
+-- the text of what any number of workers leave
+pub text_left : (p : Program) (options : Options) (count : ℕ) (bytes : List ℕ) (left : Outcome) → IsLeftBy count (work_of p options) (length p.resolved.calls) left → bytes ≡ text_of p.resolved.tables left
+    → IsTextOfWorkers count options p bytes
+text_left p options count bytes left (inl several) h = text_runs p options count bytes left several.0 several.1 h
+text_left p options count bytes left (inr turns) h = turns_are_run p options count bytes (text_turns p options bytes left turns h)
 
 -- The lines of replies
 

@@ -1,5 +1,5 @@
 -- The answer to a command and its input, and what is written of it.
-use Rattle.std.specs.Prelude.{◌≡◌, ◌≤◌, ◌⊎◌, ℕ, List, [], ◌∷◌, ◌++◌, Option, Some, None, codes}
+use Rattle.std.specs.Prelude.{◌≡◌, ◌≤◌, ◌⊎◌, ℕ, true, false, List, [], ◌∷◌, ◌++◌, Option, Some, None, codes}
 use Rattle.std.specs.Option.{ForSome}
 use Rattle.mv_edge.specs.Edge.{Rose, Writes, WritesFront}
 use Rattle.mv_values.specs.declared.calls.Options.{Options}
@@ -14,10 +14,12 @@ use Rattle.mv_top.specs.History.{text, in_turn, IsRunText}
 use Rattle.mv_top.specs.Journals.{HasLawfulJournal, IsJournalText, RefusesJournal}
 use Rattle.mv_top.specs.Serial.{serial}
 use Rattle.mv_top.specs.Graphs.{graphs}
+use Rattle.mv_top.specs.Tpcc.{IsSummary}
+use Rattle.mv_top.specs.Inputs.{IsReader, input_of}
 pub use Rattle.mv_words.specs.Words.{words_of}
-use Rattle.mv_top.specs.Words.{command_of}
-use Rattle.mv_top.specs.declared.status.Command.{Command}
-use Rattle.mv_top.specs.declared.status.Command.TheVariants.{Run, Replay, Serial, Graph}
+use Rattle.mv_words.specs.Words.{command_of}
+use Rattle.mv_words.specs.declared.command.Command.{Command}
+use Rattle.mv_words.specs.declared.command.Command.TheVariants.{Run, Replay, Serial, Graph, Tpcc}
 use Rattle.mv_top.specs.declared.status.Status.{Status}
 use Rattle.mv_top.specs.declared.status.Status.TheVariants.{Done, Refused, Usage, NoMemory, ReadFault, WriteFault}
 use Rattle.mv_top.specs.declared.status.Fault.{Fault}
@@ -28,12 +30,15 @@ abbrev pub IsTextOfWorkers : ℕ → Options → Program → List ℕ → Type 0
 IsTextOfWorkers threads options program answer = IsRunText program options answer × (threads ≤ 1 → answer ≡ text program options (in_turn program))
 
 -- for the program of these bytes the command may write this text: that of a run, whose workers may take turns in any way;
--- that of the script's own journal; of the calls alone in call order; or of the graphs of the procedures
+-- that of the script's own journal; of the calls alone in call order; of the graphs of the procedures; the bytes
+-- themselves; or the summary of a run
 abbrev pub IsTextOf : Command → List ℕ → Program → List ℕ → Type 0
 IsTextOf (Run threads options) bytes program answer = IsTextOfWorkers threads options program answer
 IsTextOf (Replay options) bytes program answer = IsJournalText options bytes program answer
 IsTextOf Serial bytes program answer = answer ≡ serial program
 IsTextOf Graph bytes program answer = answer ≡ graphs program
+IsTextOf (Tpcc load true threads options) bytes program answer = answer ≡ bytes
+IsTextOf (Tpcc load false threads options) bytes program answer = IsSummary load program options answer
 
 -- the bytes are accepted, and the command may write this text for their program
 abbrev pub IsTextFor : Command → List ℕ → List ℕ → Type 0
@@ -45,6 +50,7 @@ Takes (Run threads options) bytes program = Unit {0}
 Takes (Replay options) bytes program = (events : List Event) × HasLawfulJournal options bytes program events
 Takes Serial bytes program = Unit {0}
 Takes Graph bytes program = Unit {0}
+Takes (Tpcc load script threads options) bytes program = Unit {0}
 
 -- the command has a text for the program of these bytes
 abbrev pub TakesBytes : Command → List ℕ → Program → Type 0
@@ -56,6 +62,7 @@ RefusesProgram (Run threads options) bytes program refusal = ⊥
 RefusesProgram (Replay options) bytes program refusal = RefusesJournal options bytes program refusal
 RefusesProgram Serial bytes program refusal = ⊥
 RefusesProgram Graph bytes program refusal = ⊥
+RefusesProgram (Tpcc load script threads options) bytes program refusal = ⊥
 
 -- the command refuses the bytes with this refusal: that of the script, which is the same for every command, or that of
 -- an accepted program
@@ -85,19 +92,23 @@ StandFor words command = command_of words ≡ Some command
 abbrev pub IsNoCommand : List (List ℕ) → Type 0
 IsNoCommand words = command_of words ≡ None
 
+-- the words say no command that reads the source
+abbrev pub IsNoReader : List (List ℕ) → Type 0
+IsNoReader words = (command : Command) → StandFor words command → IsReader command → ⊥
+
 abbrev pub usage_line : List ℕ
 usage_line = codes "usage: mv3c run|replay|serial|graph|tpcc [options]"
 
 abbrev pub line : List ℕ → List ℕ
 line bytes = bytes ++ 10 ∷ []
 
--- the answer to these words and to these bytes, if the source's bytes are known: the status, and what is written
+-- the answer to these words and to the command's input, if its bytes are known: the status, and what is written
 pub data IsAnswer (words : List (List ℕ)) (left : Option (List ℕ)) : Status → List ℕ → Type 0 where
   usage : IsNoCommand words → IsAnswer words left Usage (line usage_line)
-  refused : (command : Command) (number : ℕ) (what : List ℕ) → StandFor words command → ForSome left (λ all. IsRefusal command all number what) → IsAnswer words left Refused (line what)
-  done : (command : Command) (answer : List ℕ) → StandFor words command → ForSome left (λ all. IsTextFor command all answer) → IsAnswer words left Done answer
+  refused : (command : Command) (number : ℕ) (what : List ℕ) → StandFor words command → ForSome (input_of command left) (λ all. IsRefusal command all number what) → IsAnswer words left Refused (line what)
+  done : (command : Command) (answer : List ℕ) → StandFor words command → ForSome (input_of command left) (λ all. IsTextFor command all answer) → IsAnswer words left Done answer
 
--- the answer of a command to the bytes that were read: the status, and the text to write
+-- the answer of a command to the bytes that were taken: the status, and the text to write
 abbrev pub IsAnswered : Command → List ℕ → Status → List ℕ → Type 0
 IsAnswered command bytes Done answer = IsTextFor command bytes answer
 IsAnswered command bytes Refused answer = (number : ℕ) × (what : List ℕ) × IsRefusal command bytes number what × (answer ≡ line what)

@@ -4,5 +4,7 @@ pub mod Graphs
 pub mod Refusals
 pub mod Journals
 pub mod Refusing
-pub mod Words
+pub mod Inputs
+pub mod Workers
+pub mod Tpcc
 pub mod Answers

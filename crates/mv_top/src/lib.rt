@@ -3,6 +3,7 @@
 
 pub mod answer;
 mod graphs;
+mod input;
 mod journals;
 pub mod laws;
 pub mod refusal;
@@ -10,5 +11,5 @@ pub mod script;
 mod serial;
 pub mod status;
 pub mod top;
-mod words;
+mod tpcc;
 mod workers;

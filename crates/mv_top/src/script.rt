@@ -2,6 +2,7 @@
 
 ghost use Rattle.std.specs.Prelude.{◌≡◌, ◌≤◌, length, IfOk};
 ghost use Rattle.mv_accept.specs.Accepting.{most_calls};
+ghost use Rattle.mv_catalog.specs.declared.resolved.Program.{Program as Whole};
 ghost use Rattle.mv_record.specs.Databases.{IsProgram};
 ghost use Rattle.mv_core.specs.Scripts.{IsScript, work_of as script_work};
 ghost use Rattle.mv_top.specs.History.{work_of};
@@ -10,8 +11,10 @@ use mv_catalog::resolved::{Program, Resolved};
 use mv_compile::compile::compile;
 use mv_core::script::Script;
 use mv_values::calls::Options;
+use mv_values::copied::Copied;
 use mv_values::list::List;
 use mv_values::memory::NoMemory;
+use mv_values::rows::Database;
 use mv_values::schema::TableInfo;
 use std::alloc::Global;
 
@@ -43,5 +46,28 @@ pub fn prepare(alloc: Global, program: Program, options: Options) -> Result<Prep
             options,
         },
         tables,
+    })
+}
+
+/// Compiles the procedures of a program, and copies its calls. The script's work is that of the program. Fails and costs
+/// as `prepare` does.
+pub(crate) fn script_of(
+    alloc: Global,
+    resolved: &Resolved,
+    opening: Database,
+    options: Options,
+) -> Result<Script, NoMemory>
+    requires whole { let program : Whole = record { resolved = resolved.now; opening = opening } in IsProgram program }
+    requires few { length resolved.now.calls ≤ most_calls }
+    ensures script { IfOk result IsScript }
+    ensures work { let program : Whole = record { resolved = resolved.now; opening = opening } in IfOk result (λ script. script_work script ≡ work_of program options) }
+    ensures count { IfOk result (λ script. length script.calls ≡ length resolved.now.calls) }
+{
+    let graphs = compile(alloc, resolved)?;
+    Ok(Script {
+        graphs,
+        calls: resolved.calls.copy(alloc)?,
+        opening,
+        options,
     })
 }

@@ -3,7 +3,6 @@
 ghost use Rattle.std.specs.Prelude.{◌≡◌};
 ghost use Rattle.mv_top.specs.Answers.{code_of};
 
-use mv_values::calls::Options;
 use mv_values::memory::NoMemory;
 use mv_values::txt::Txt;
 
@@ -31,20 +30,6 @@ impl Status {
     {
         self as u8
     }
-}
-
-/// A command that the program takes.
-#[derive(Clone, Copy)]
-pub enum Command {
-    /// Runs the calls of a script by this many workers, and writes their history. There are 1 to 64 workers: 0 counts as
-    /// 1, and more than 64 as 64.
-    Run { threads: u32, options: Options },
-    /// Makes the events of the script's own journal, and writes their history.
-    Replay(Options),
-    /// Runs each call alone, after those before it, by the machine that defines what calls mean.
-    Serial,
-    /// Runs nothing, and writes which statements of a procedure may depend on which.
-    Graph,
 }
 
 /// Why there is no answer: the input is refused, with the refusal's number and line, or memory ran out.

@@ -4,28 +4,32 @@ ghost use Rattle.std.specs.Prelude.{◌≡◌, ◌⊎◌, ℕ, List as Seq, Some
 ghost use Rattle.std.specs.Option.{ForSome};
 ghost use Rattle.mv_edge.specs.Edge.{Rose};
 ghost use Rattle.mv_catalog.specs.declared.resolved.Program.{Program};
+ghost use Rattle.mv_words.specs.declared.command.Command.{Command as Task};
 ghost use Rattle.mv_top.specs.declared.refusal.Refusal.{Refusal as Why};
 ghost use Rattle.mv_top.specs.Refusals.{line_of};
-ghost use Rattle.mv_top.specs.declared.status.Command.{Command as Task};
-ghost use Rattle.mv_top.specs.Answers.{IsAnswered, Puts, Wrote, WroteOr, StandFor, TakesBytes, IsNoCommand, IsTextOf, IsRefusedBy, words_of, line, usage_line};
+ghost use Rattle.mv_top.specs.Inputs.{IsReader, input_of};
+ghost use Rattle.mv_top.specs.Answers.{IsAnswered, Puts, Wrote, WroteOr, StandFor, TakesBytes, IsNoCommand, IsNoReader, IsTextOf, IsRefusedBy, words_of, line, usage_line};
 
 use crate::answer::answer;
-use crate::status::{Command, Fault, Status};
-use crate::words::command_of;
+use crate::input::take_input;
+use crate::status::{Fault, Status};
 use mv_edge::edge::{Sink, Source};
 use mv_edge::pace::Pace;
-use mv_edge::reading::{MOST, ReadFault, read_all};
+use mv_edge::reading::{MOST, ReadFault};
 use mv_edge::writing::write_all;
 use mv_values::list::List;
 use mv_values::memory::NoMemory;
+use mv_words::command::{Command, Usage};
+use mv_words::reading::read_words;
 use std::alloc::Global;
 use std::sync::Wait;
 use std::thread::Threads;
 
 const USAGE_LINE: &[u8] = b"usage: mv3c run|replay|serial|graph|tpcc [options]\n";
 
-/// Answers the words of a command line. For a command it reads the source to its end, or to byte 16,777,217. It writes
-/// the answer to the sink. The whole answer is built before the first write.
+/// Answers the words of a command line. For a command it reads the source to its end, or to byte 16,777,217. Only `tpcc`
+/// doesn't read it: its input is the script that it generates. It writes the answer to the sink. The whole answer is built
+/// before the first write.
 pub fn top<R: Threads + Wait + Sync, S: Source, K: Sink, P: Pace>(
     rt: &R,
     alloc: Global,
@@ -36,11 +40,11 @@ pub fn top<R: Threads + Wait + Sync, S: Source, K: Sink, P: Pace>(
 ) -> Status
     // What was written, for each status: Done has a text of the command, Refused and Usage their line.
     ensures wrote { Wrote (words_of words.now) (S.left source.old) (K.written sink.old) (K.written sink.new) result }
-    // Words that name no command get the usage line, and the source isn't read.
+    // Words that name no command get the usage line. Neither for them nor for `tpcc` is the source read.
     ensures words { IsNoCommand (words_of words.now) → (result ≡ Status.Usage) ⊎ (result ≡ Status.WriteFault) }
-    ensures unread { IsNoCommand (words_of words.now) → S.left source.new ≡ S.left source.old }
-    // A command reads the source to its end or to byte 16,777,217, and no byte more.
-    ensures rest { (command : Task) → StandFor (words_of words.now) command → (result ≡ Status.ReadFault → ⊥) → (result ≡ Status.NoMemory → ⊥)
+    ensures unread { IsNoReader (words_of words.now) → S.left source.new ≡ S.left source.old }
+    // Another command reads the source to its end or to byte 16,777,217, and no byte more.
+    ensures rest { (command : Task) → StandFor (words_of words.now) command → IsReader command → (result ≡ Status.ReadFault → ⊥) → (result ≡ Status.NoMemory → ⊥)
         → ForSome (S.left source.old) (λ all. S.left source.new ≡ Some (drop MOST all)) }
     // A count of faults rises exactly if the status says so.
     ensures reading { result ≡ Status.ReadFault → Rose (S.faults source.old) (S.faults source.new) }
@@ -49,19 +53,20 @@ pub fn top<R: Threads + Wait + Sync, S: Source, K: Sink, P: Pace>(
     ensures written { (result ≡ Status.WriteFault → ⊥) → K.faults sink.new ≡ K.faults sink.old }
     // An accepted script, for `replay` one with a lawful journal, gets a text of the command, unless the source or the
     // sink fails or memory runs out.
-    ensures complete { (command : Task) (all : Seq ℕ) (program : Program) → StandFor (words_of words.now) command → S.left source.old ≡ Some all → TakesBytes command all program
+    ensures complete { (command : Task) (all : Seq ℕ) (program : Program) → StandFor (words_of words.now) command → input_of command (S.left source.old) ≡ Some all → TakesBytes command all program
         → (Rose (S.faults source.old) (S.faults source.new) → ⊥) → (Rose (K.faults sink.old) (K.faults sink.new) → ⊥)
         → WroteOr Status.Done (IsTextOf command all program) (K.written sink.old) (K.written sink.new) result }
     // An input with the cause of a refusal gets the refusal's line, unless the source or the sink fails or memory runs
     // out.
-    ensures refuses { (command : Task) (all : Seq ℕ) (refusal : Why) → StandFor (words_of words.now) command → S.left source.old ≡ Some all → IsRefusedBy command all refusal
+    ensures refuses { (command : Task) (all : Seq ℕ) (refusal : Why) → StandFor (words_of words.now) command → input_of command (S.left source.old) ≡ Some all → IsRefusedBy command all refusal
         → (Rose (S.faults source.old) (S.faults source.new) → ⊥) → (Rose (K.faults sink.old) (K.faults sink.new) → ⊥)
         → WroteOr Status.Refused (λ answer. answer ≡ line (line_of refusal)) (K.written sink.old) (K.written sink.new) result }
 {
-    let Some(command) = command_of(words) else {
-        return put(sink, Status::Usage, USAGE_LINE);
+    let command = match read_words(words) {
+        Ok(command) => command,
+        Err(Usage) => return put(sink, Status::Usage, USAGE_LINE),
     };
-    let bytes = match read_all(alloc, source) {
+    let bytes = match take_input(alloc, &command, source) {
         Ok(bytes) => bytes,
         Err(ReadFault::NoMemory) => return Status::NoMemory,
         Err(ReadFault::Failed) => return Status::ReadFault,

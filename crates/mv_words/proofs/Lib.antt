@@ -7,3 +7,4 @@ pub mod Said
 pub mod Told
 pub mod Found
 pub mod Building
+pub mod Loads

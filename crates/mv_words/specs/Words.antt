@@ -8,6 +8,7 @@ use Rattle.std.specs.declared.alloc.Global.{Global}
 use Rattle.mv_values.specs.declared.calls.Options.{Options}
 use Rattle.mv_journal.specs.Reading.{number_in}
 use Rattle.mv_tpccgen.specs.declared.load.Load.{Load}
+use Rattle.mv_tpccgen.specs.Loads.{IsLoad}
 use Rattle.mv_words.specs.declared.command.Command.{Command}
 use Rattle.mv_words.specs.declared.command.Command.TheVariants.{Run, Replay, Serial, Graph, Tpcc}
 use Rattle.mv_words.specs.declared.command.WordsFault.{WordsFault}
@@ -118,3 +119,11 @@ abbrev pub Reads : Option Command → Result Command WordsFault → Type 0
 Reads said (Ok command) = said ≡ Some command
 Reads said (Err Usage) = said ≡ None
 Reads said (Err NoMemory) = Unit {0}
+
+-- a script can be generated for the command's load
+abbrev pub HasLoad : Command → Type 0
+HasLoad (Run threads options) = Unit {0}
+HasLoad (Replay options) = Unit {0}
+HasLoad Serial = Unit {0}
+HasLoad Graph = Unit {0}
+HasLoad (Tpcc load script threads options) = IsLoad load

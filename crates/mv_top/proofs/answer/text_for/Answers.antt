@@ -1,40 +1,21 @@
-use Rattle.std.proofs.Common.{◌≡◌, inl, inr, subst, sym}
-use Rattle.mv_accept.specs.declared.accept.NotAccepted.{NotAccepted}
-use Rattle.mv_accept.specs.Exact.{HasCause}
-use Rattle.mv_accept.specs.Accepting.{Refuses}
-use Rattle.mv_top.specs.declared.refusal.Refusal.TheVariants.{Script}
-use Rattle.mv_top.specs.declared.refusal.NoText.{NoText}
-use Rattle.mv_top.specs.declared.refusal.NoText.TheVariants.{Refused}
-use Rattle.mv_top.specs.Refusing.{Causes, Tells}
-use Rattle.mv_top.specs.Answers.{IsRefusedBy, by_script}
-use Rattle.mv_top.proofs.Judging.{text_only, text_refused, text_told, script_told}
+use Rattle.mv_top.proofs.Judging.{text_only, text_refused}
 use Rattle.mv_top.proofs.answer.text_for.Goals as goal
 
 pub returns-in-Ok-clause-only : goal.returns-in-Ok-clause-only
-returns-in-Ok-clause-only c =
-    λ program takes. text_only c.args.command.now c.args.bytes.now c.in-Ok.program program c.text_of.result c.text_of.ensures.found c.text_of.ensures.only (c.in-Ok.ensures.exact.only program takes.0) takes.1
+returns-in-Ok-clause-only g c =
+    λ program takes. text_only c.args.command.now c.args.bytes.now c.in-Ok.program program c.text_of.result c.text_of.ensures.found c.text_of.ensures.only (c.in-Ok.ensures.only program takes.0) takes.1
 
 pub returns-in-Ok-clause-refused : goal.returns-in-Ok-clause-refused
-returns-in-Ok-clause-refused c = text_refused c.args.command.now c.args.bytes.now c.in-Ok.program c.text_of.result c.in-Ok.ensures.exact.found c.text_of.ensures.refused
+returns-in-Ok-clause-refused g c = text_refused c.args.command.now c.args.bytes.now c.in-Ok.program c.text_of.result c.in-Ok.ensures.found c.text_of.ensures.refused
 
 pub returns-in-Ok-clause-told : goal.returns-in-Ok-clause-told
-returns-in-Ok-clause-told c =
-    text_told c.args.command.now c.args.bytes.now c.in-Ok.program c.text_of.result (λ r cause. c.in-Ok.ensures.exact.told r cause) (λ q accepted. c.in-Ok.ensures.exact.only q accepted) c.text_of.ensures.told
+returns-in-Ok-clause-told g c = λ refusal cause. c.text_of.ensures.told refusal (c.in-Ok.ensures.told c.args.command.now refusal cause)
 
-pub returns-in-Err-Refused-clause-only : goal.returns-in-Err-Refused-clause-only
-returns-in-Err-Refused-clause-only c = λ program takes. (let is = c.in-Err-Refused.field-0-is in let want = c.in-Err-Refused.ensures.exact.only program takes.0 in cc)
+pub returns-in-Err-clause-only : goal.returns-in-Err-clause-only
+returns-in-Err-clause-only g c = λ program takes. c.in-Err.ensures.only program takes.0
 
-pub returns-in-Err-Refused-clause-refused : goal.returns-in-Err-Refused-clause-refused
-returns-in-Err-Refused-clause-refused c =
-    let told : c.of_script.result ≡ Refused (Script c.in-Err-Refused.refusal) = (let is = c.in-Err-Refused.refusal-is in let of = c.of_script.ensures in cc) in
-    subst (λ (f : NoText). Causes (IsRefusedBy c.args.command.now c.args.bytes.now) f) (sym told)
-    (by_script c.in-Err-Refused.refusal (subst (λ (f : NotAccepted). HasCause (Refuses c.args.bytes.now) f) c.in-Err-Refused.field-0-is c.in-Err-Refused.ensures.exact.refused))
+pub returns-in-Err-clause-refused : goal.returns-in-Err-clause-refused
+returns-in-Err-clause-refused g c = c.in-Err.ensures.refused c.args.command.now
 
-pub returns-in-Err-Refused-clause-told : goal.returns-in-Err-Refused-clause-told
-returns-in-Err-Refused-clause-told c =
-    λ refusal cause. (let told : c.of_script.result ≡ Refused (Script c.in-Err-Refused.refusal) = (let is = c.in-Err-Refused.refusal-is in let of = c.of_script.ensures in cc) in
-    subst (λ (f : NoText). Tells refusal f) (sym told)
-    (script_told c.args.command.now c.args.bytes.now c.in-Err-Refused.refusal
-    (λ r because. (let is = c.in-Err-Refused.field-0-is in elim (c.in-Err-Refused.ensures.exact.told r because) [ inl e ↦ cc | inr e ↦ cc ]))
-    (λ q accepted. (let is = c.in-Err-Refused.field-0-is in let want = c.in-Err-Refused.ensures.exact.only q accepted in cc))
-    refusal cause))
+pub returns-in-Err-clause-told : goal.returns-in-Err-clause-told
+returns-in-Err-clause-told g c = λ refusal cause. c.in-Err.ensures.told c.args.command.now refusal cause

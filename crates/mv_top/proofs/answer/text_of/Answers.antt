@@ -1,25 +1,23 @@
 use Rattle.std.proofs.Common.{◌≡◌, IfErr, MatchResult, subst, sym}
+use Rattle.mv_words.specs.declared.command.Command.{Command}
+use Rattle.mv_words.specs.declared.command.Command.TheVariants.{Replay}
 use Rattle.mv_top.specs.declared.refusal.Refusal.{Refusal}
 use Rattle.mv_top.specs.declared.refusal.NoText.TheVariants.{NoMemory}
-use Rattle.mv_top.specs.declared.status.Command.{Command}
-use Rattle.mv_top.specs.declared.status.Command.TheVariants.{Replay}
 use Rattle.mv_top.specs.Refusing.{Tells}
 use Rattle.mv_top.specs.Answers.{IsTextOf, Takes, RefusesProgram}
-use Rattle.mv_top.proofs.Texts.{turns_are_run}
 use Rattle.mv_top.proofs.Judging.{only_of, told_of}
 use Rattle.mv_top.proofs.answer.text_of.Goals as goal
 
 pub returns-in-Replay-clause-only : goal.returns-in-Replay-clause-only
-returns-in-Replay-clause-only c =
+returns-in-Replay-clause-only g c =
     subst (λ (k : Command). Takes k c.args.bytes.now c.args.program → IfErr c.journal_text.result (λ f. f ≡ NoMemory)) (sym c.in-Replay.is)
     (only_of (Replay c.in-Replay.options) c.args.bytes.now c.args.program c.journal_text.result c.journal_text.ensures.refused)
 
 pub returns-in-Replay-clause-told : goal.returns-in-Replay-clause-told
-returns-in-Replay-clause-told c =
+returns-in-Replay-clause-told g c =
     subst (λ (k : Command). (refusal : Refusal) → RefusesProgram k c.args.bytes.now c.args.program refusal → MatchResult c.journal_text.result (λ answer. ⊥) (Tells refusal)) (sym c.in-Replay.is)
     (told_of (Replay c.in-Replay.options) c.args.bytes.now c.args.program c.journal_text.result c.journal_text.ensures.text c.journal_text.ensures.refused)
 
-pub returns-in_ok-turns_text-in-Run-clause-found : goal.returns-in_ok-turns_text-in-Run-clause-found
-returns-in_ok-turns_text-in-Run-clause-found c =
-    subst (λ (k : Command). IsTextOf k c.args.bytes.now c.args.program c.in_ok-turns_text-in-Run.field-0) (sym c.in-Run.is)
-    (turns_are_run c.args.program c.in-Run.options c.in-Run.threads c.in_ok-turns_text-in-Run.field-0 c.in_ok-turns_text-in-Run.ensures)
+pub returns-in_ok-run_text-in-Run-clause-found : goal.returns-in_ok-run_text-in-Run-clause-found
+returns-in_ok-run_text-in-Run-clause-found g c =
+    subst (λ (k : Command). IsTextOf k c.args.bytes.now c.args.program c.in_ok-run_text-in-Run.field-0) (sym c.in-Run.is) c.in_ok-run_text-in-Run.ensures

@@ -2,14 +2,13 @@ use Rattle.std.proofs.Common.{subst}
 use Rattle.mv_top.specs.declared.refusal.NoText.{NoText}
 use Rattle.mv_top.specs.Refusing.{Causes}
 use Rattle.mv_top.specs.Answers.{IsRefusedBy}
-use Rattle.mv_top.specs.declared.status.Command.TheVariants.{Run}
 use Rattle.mv_top.proofs.Answering.{has_cause}
-use Rattle.mv_top.proofs.workers.workers_answer.Goals as goal
+use Rattle.mv_top.proofs.answer.answer.Goals as goal
 
 pub returns-in-Err-Refused-clause-refused : goal.returns-in-Err-Refused-clause-refused
 returns-in-Err-Refused-clause-refused g c =
-    has_cause (Run c.args.run.threads c.args.run.options) c.args.bytes.now c.in-Err-Refused.refusal c.fault_of.result
-    (subst (λ (f : NoText). Causes (IsRefusedBy (Run c.args.run.threads c.args.run.options) c.args.bytes.now) f) c.in-Err-Refused.field-0-is c.in-Err-Refused.ensures.refused) c.fault_of.ensures
+    has_cause c.args.command.now c.args.bytes.now c.in-Err-Refused.refusal c.fault_of.result
+    (subst (λ (f : NoText). Causes (IsRefusedBy c.args.command.now c.args.bytes.now) f) c.in-Err-Refused.field-0-is c.in-Err-Refused.ensures.refused) c.fault_of.ensures
 
 pub returns-in-Err-Refused-clause-only : goal.returns-in-Err-Refused-clause-only
 returns-in-Err-Refused-clause-only g c = λ program takes. (let is = c.in-Err-Refused.field-0-is in let want = c.in-Err-Refused.ensures.only program takes in cc)
