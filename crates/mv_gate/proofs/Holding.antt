@@ -127,6 +127,15 @@ other_start b h start starts apart k = apart (starts k.live k.is_live ∙ k.star
 pub other_from : (b : Booked) (h : Holding) (rs : List Round) → HasRounds b h.call rs → (repaired_from (turns_in rs) ≡ h.from → ⊥) → IsKnown b h → ⊥
 other_from b h rs has apart k = apart (ap repaired_from (has.turns ∙ ap (λ (x : Live). x.turns) (one_live b.course h.call has.live k.live has.is_live k.is_live)) ∙ k.from)
 
+-- a start that is below low isn't one that isn't
+pub stale_apart : (old now : Booked) (h g : Holding) (r : Bool) → now ≡ old → g ≡ h → ((l : Live) → IsLive now.course g.call l → r ≡ is_stale now.course l) → r ≡ true → IsKnown old h → IsNotStale old h.call → ⊥
+stale_apart old now h g r same one tells is k fresh =
+    let here : (l : Live) → IsLive old.course h.call l → r ≡ is_stale old.course l =
+    subst (λ (x : Booked). (l : Live) → IsLive x.course h.call l → r ≡ is_stale x.course l) same
+    (subst (λ (x : Holding). (l : Live) → IsLive now.course x.call l → r ≡ is_stale now.course l) one tells) in
+    let no : true ≡ false = sym is ∙ (here k.live k.is_live ∙ fresh k.live k.is_live) in
+    search (rules, no)
+
 -- a test that fails
 pub not_known : (b : Booked) (h : Holding) → (IsKnown b h → ⊥) → IsTrue false ↔ IsKnown b h
 not_known b h away = (λ t. absurd (search (rules, t)), λ k. absurd (away k))

@@ -164,7 +164,10 @@ impl<N: Making> Desk<N> {
         ensures knows { held.new.knows ≡ held.old.knows }
     {
         self.see(board, held);
-        if !self.has(held) || self.is_stale(held.call) {
+        if !self.has(held) {
+            return Ok(false);
+        }
+        if self.is_stale(held.call) {
             return Ok(false);
         }
         if !self.has_step(held.call, &held.running) {

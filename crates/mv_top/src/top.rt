@@ -19,7 +19,7 @@ use mv_edge::reading::{MOST, ReadFault};
 use mv_edge::writing::write_all;
 use mv_values::list::List;
 use mv_values::memory::NoMemory;
-use mv_words::command::{Command, Usage};
+use mv_words::command::{Command, WordsFault};
 use mv_words::reading::read_words;
 use std::alloc::Global;
 use std::sync::Wait;
@@ -40,8 +40,9 @@ pub fn top<R: Threads + Wait + Sync, S: Source, K: Sink, P: Pace>(
 ) -> Status
     // What was written, for each status: Done has a text of the command, Refused and Usage their line.
     ensures wrote { Wrote (words_of words.now) (S.left source.old) (K.written sink.old) (K.written sink.new) result }
-    // Words that name no command get the usage line. Neither for them nor for `tpcc` is the source read.
-    ensures words { IsNoCommand (words_of words.now) → (result ≡ Status.Usage) ⊎ (result ≡ Status.WriteFault) }
+    // Words that name no command get the usage line, unless the sink fails or memory runs out. Neither for them nor for
+    // `tpcc` is the source read.
+    ensures words { IsNoCommand (words_of words.now) → (result ≡ Status.Usage) ⊎ ((result ≡ Status.WriteFault) ⊎ (result ≡ Status.NoMemory)) }
     ensures unread { IsNoReader (words_of words.now) → S.left source.new ≡ S.left source.old }
     // Another command reads the source to its end or to byte 16,777,217, and no byte more.
     ensures rest { (command : Task) → StandFor (words_of words.now) command → IsReader command → (result ≡ Status.ReadFault → ⊥) → (result ≡ Status.NoMemory → ⊥)
@@ -62,9 +63,10 @@ pub fn top<R: Threads + Wait + Sync, S: Source, K: Sink, P: Pace>(
         → (Rose (S.faults source.old) (S.faults source.new) → ⊥) → (Rose (K.faults sink.old) (K.faults sink.new) → ⊥)
         → WroteOr Status.Refused (λ answer. answer ≡ line (line_of refusal)) (K.written sink.old) (K.written sink.new) result }
 {
-    let command = match read_words(words) {
+    let command = match read_words(alloc, words) {
         Ok(command) => command,
-        Err(Usage) => return put(sink, Status::Usage, USAGE_LINE),
+        Err(WordsFault::Usage) => return put(sink, Status::Usage, USAGE_LINE),
+        Err(WordsFault::NoMemory) => return Status::NoMemory,
     };
     let bytes = match take_input(alloc, &command, source) {
         Ok(bytes) => bytes,

@@ -12,4 +12,4 @@ give_back-repaired-requires-clause-latest g c =
     let h : Holding = record { call = c.held.inside.call; start = c.held.inside.start; from = c.held.inside.from; running = c.held.inside.running; knows = c.held.inside.pass } in
     let here : HasCall g.N.Making.script old h = subst (λ (x : Holding). HasCall g.N.Making.script old x) (sym c.held.view_is) (c.if-not-has.ensures.call (search rules)) in
     subst (λ n. IsLatest c.try_commit.new.self h.call (Some n) c.try_commit.new.running) (sym (here.start here.call.live.0 here.call.live.1))
-    ((c.in_ok-try_commit.ensures.restarted c.in-Repaired.is).latest here.call.live.0 here.call.live.1)
+    ((c.in_ok-answer.ensures.restarted c.in-Repaired.is).latest here.call.live.0 here.call.live.1)

@@ -2,11 +2,12 @@ use Rattle.std.proofs.Common.{rules, refl, sym, subst, ◌∙◌}
 use Rattle.mv_journal.specs.declared.event.Event.TheVariants.{S}
 use Rattle.mv_core.specs.Books.{Booked, IsSame, IsNotStale}
 use Rattle.mv_core.proofs.Stored.{stored_same, stored_made}
+use Rattle.mv_core.proofs.Changed.{same_self}
 use Rattle.mv_core.specs.Calls.{IsLiveCall}
 use Rattle.mv_core.specs.Cores.{IsTaskIn}
 use Rattle.mv_gate.specs.Gates.{Holding, IsUnderWay, HasCall}
 use Rattle.mv_gate.proofs.Desks.{desk_same, desk_other, order_same, order_stepped}
-use Rattle.mv_gate.proofs.Holding.{task_was, open_same, fresh_same, running_of}
+use Rattle.mv_gate.proofs.Holding.{task_was, open_same, fresh_same, running_of, stale_apart}
 use Rattle.mv_gate.proofs.desk.Desk.step.Goals as goal
 
 pub has_step-requires : goal.has_step-requires
@@ -51,3 +52,12 @@ invariant_of-held-2 g c =
     here.back (c.if-not-has_step.ensures.0 (search rules)) c.step_task.new.running
     (subst (λ (b : Booked). IsTaskIn b c.held.inside.call c.step_task.new.running) c.self.view_is
     (task_was c.self.inside.book c.reserve.new.self c.held.inside.call c.step_task.new.running c.reserve.ensures.same c.in_ok-step_task.ensures.task)) c.in_ok-step_task.ensures.ran
+
+pub returns-then-is_stale-clause-made : goal.returns-then-is_stale-clause-made
+returns-then-is_stale-clause-made g c = (
+  subst (λ (b : Booked). IsSame c.args.self.now b) (sym c.see.ensures.same) (same_self c.args.self.now),
+  λ known step fresh.
+      stale_apart c.args.self.now c.see.new.self c.args.held.now
+      (record { call = c.held.inside.call; start = c.held.inside.start; from = c.held.inside.from; running = c.held.inside.running; knows = c.held.inside.pass }) c.is_stale.result c.see.ensures.same (c.held.view_is ∙ c.see.ensures.held)
+      c.is_stale.ensures c.if-is_stale.true known fresh,
+)
