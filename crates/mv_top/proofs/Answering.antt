@@ -1,5 +1,5 @@
 -- From the bytes that were taken to the input, and from an answer to what was written.
-use Rattle.std.proofs.Common.{◌≡◌, inl, inr, ◌≤◌, ℕ, Bool, List, length, take, Option, refl, sym, ap, subst, ◌∙◌, arith}
+use Rattle.std.proofs.Common.{◌≡◌, inl, inr, ◌≤◌, ℕ, Bool, List, length, take, Option, Err, refl, sym, ap, subst, ◌∙◌, arith}
 use Rattle.std.proofs.lemmas.List.{take_all, length-take-le}
 use Rattle.std.proofs.lemmas.Bool.{cases_lt}
 use Rattle.std.specs.Option.{ForSome, unwrap_or}
@@ -14,12 +14,15 @@ use Rattle.mv_values.specs.declared.calls.Options.{Options}
 use Rattle.mv_tpccgen.specs.declared.load.Load.{Load}
 use Rattle.mv_words.specs.declared.command.Command.{Command}
 use Rattle.mv_words.specs.declared.command.Command.TheVariants.{Run, Replay, Serial, Graph, Tpcc}
+use Rattle.mv_words.specs.declared.command.WordsFault.{WordsFault}
+use Rattle.mv_words.specs.declared.command.WordsFault.TheVariants as words_fault
+use Rattle.mv_words.specs.Words.{command_of, Reads}
 use Rattle.mv_top.specs.declared.status.Fault.{Fault}
 use Rattle.mv_top.specs.declared.status.Fault.TheVariants as fault
 use Rattle.mv_top.specs.declared.status.Status.{Status}
 use Rattle.mv_top.specs.declared.status.Status.TheVariants.{Done, Refused, Usage, NoMemory, ReadFault, WriteFault}
 use Rattle.mv_top.specs.Inputs.{IsReader, input_of, IsTaken}
-use Rattle.mv_top.specs.Answers.{IsTextFor, IsRefusal, HasCause, IsToldBy, IsAnswer, refused, done, IsAnswered, Puts, Wrote, WroteOr, StandFor, IsRefusedBy, by_script, by_program}
+use Rattle.mv_top.specs.Answers.{IsTextFor, IsRefusal, HasCause, IsToldBy, IsAnswer, refused, done, IsAnswered, Puts, Wrote, WroteOr, StandFor, IsNoCommand, IsRefusedBy, by_script, by_program}
 
 -- the first bytes of an input, as many as are read, are taken of it
 front_is_taken : (all bytes : List ℕ) → bytes ≡ take MOST all → IsTaken all bytes
@@ -114,3 +117,7 @@ has_cause command bytes refusal fault.NoMemory cause told = told
 -- words stand for one command
 pub same_command : (words : List (List ℕ)) (a b : Command) → StandFor words a → StandFor words b → a ≡ b
 same_command words a b x y = ap (λ o. unwrap_or o a) (sym x ∙ y)
+
+-- words that are read as no command say none
+pub no_command : (words : List (List ℕ)) (why : WordsFault) → why ≡ words_fault.Usage → Reads (command_of words) (Err why) → IsNoCommand words
+no_command words why is said = subst (λ (f : WordsFault). Reads (command_of words) (Err f)) is said

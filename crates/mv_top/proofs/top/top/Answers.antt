@@ -1,17 +1,17 @@
-use Rattle.std.proofs.Common.{subst, sym, ◌≡◌, ◌∙◌, List, ℕ}
+use Rattle.std.proofs.Common.{rules, subst, sym, ◌≡◌, ◌∙◌, List, ℕ}
 use Rattle.std.specs.Option.{ForSome}
 use Rattle.mv_words.specs.declared.command.Command.{Command}
 use Rattle.mv_top.specs.Refusals.{line_of}
 use Rattle.mv_top.specs.declared.status.Status.TheVariants.{Done, Refused, Usage}
 use Rattle.mv_top.specs.Inputs.{input_of, IsTaken}
 use Rattle.mv_top.specs.Answers.{IsAnswered, IsTextOf, TakesBytes, IsRefusedBy, Puts, usage, words_of, line, usage_line}
-use Rattle.mv_top.proofs.Answering.{wrote_by, put_by, answer_of_input, all_taken, cause_of_taken, same_command}
+use Rattle.mv_top.proofs.Answering.{wrote_by, put_by, answer_of_input, all_taken, cause_of_taken, same_command, no_command}
 use Rattle.mv_top.proofs.top.top.Goals as goal
 
-pub returns-in-Err-clause-wrote : goal.returns-in-Err-clause-wrote
-returns-in-Err-clause-wrote g c =
+pub returns-in-Err-Usage-clause-wrote : goal.returns-in-Err-Usage-clause-wrote
+returns-in-Err-Usage-clause-wrote g c =
     wrote_by (words_of c.args.words.now) (g.S.Source.left c.args.source.now) (g.K.Sink.written c.args.sink.now) (g.K.Sink.written c.put.new.sink)
-    (g.K.Sink.faults c.args.sink.now) (g.K.Sink.faults c.put.new.sink) Usage (line usage_line) c.put.result (usage c.in-Err.ensures.said) c.put.ensures
+    (g.K.Sink.faults c.args.sink.now) (g.K.Sink.faults c.put.new.sink) Usage (line usage_line) c.put.result (usage (no_command (words_of c.args.words.now) c.in-Err-Usage.field-0 (search rules) c.in-Err-Usage.ensures.said)) c.put.ensures
 
 pub returns-in-Ok-answered-clause-wrote : goal.returns-in-Ok-answered-clause-wrote
 returns-in-Ok-answered-clause-wrote g c =
@@ -53,5 +53,5 @@ returns-in-Ok-answered-clause-refuses g c =
     (subst (λ (text : List ℕ). Puts (g.K.Sink.written c.args.sink.now) (g.K.Sink.written c.put-in-Ok-answered.new.sink) (g.K.Sink.faults c.args.sink.now) (g.K.Sink.faults c.put-in-Ok-answered.new.sink) c.in-Ok-answered.status text c.put-in-Ok-answered.result)
     c.as_slice-in-Ok-answered.ensures c.put-in-Ok-answered.ensures))
 
-pub returns-in-Err-clause-rest : goal.returns-in-Err-clause-rest
-returns-in-Err-clause-rest g c = λ command words reads not_read not_starved. absurd (let e = sym words ∙ c.in-Err.ensures.said in cc)
+pub returns-in-Err-Usage-clause-rest : goal.returns-in-Err-Usage-clause-rest
+returns-in-Err-Usage-clause-rest g c = λ command words reads not_read not_starved. absurd (let e = sym words ∙ (no_command (words_of c.args.words.now) c.in-Err-Usage.field-0 (search rules) c.in-Err-Usage.ensures.said) in cc)
