@@ -3,7 +3,7 @@ use Rattle.std.proofs.Common.{◌≡◌, ◌⊎◌, inl, inr, ℕ, zero, suc, �
 use Rattle.std.specs.Prelude.{slice_get, nat_lt, if◌then◌else◌, Result, Ok, Err, IfOk, OnErr}
 use mathlib.Core.List.{IsPrefix}
 use Rattle.mv_journal.specs.declared.event.Event.{Event}
-use Rattle.mv_journal.specs.declared.event.Event.TheVariants.{B, S, A, M, C, X, G}
+use Rattle.mv_journal.specs.declared.event.Event.TheVariants.{B, A, M, C, X}
 use Rattle.mv_journal.specs.declared.outcome.Outcome.{Outcome}
 use Rattle.mv_lawful.specs.Work.{Work}
 use Rattle.mv_journal.specs.declared.outcome.Mark.TheVariants.{Plain, Exclusive, Moved}

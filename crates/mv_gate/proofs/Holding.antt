@@ -9,7 +9,7 @@ use Rattle.mv_journal.specs.declared.event.Event.TheVariants.{B}
 use Rattle.mv_journal.specs.declared.outcome.Round.{Round}
 use Rattle.mv_lawful.specs.Work.{Work, table_at, records_at}
 use Rattle.mv_lawful.specs.Lawful.{Live, Course, used, is_stale, has_step}
-use Rattle.mv_lawful.specs.Rounds.{whole_run, repair_run, rounds_of}
+use Rattle.mv_lawful.specs.Rounds.{whole_run, rounds_of}
 use Rattle.mv_seats.specs.Scripts.{Script as BoardScript}
 use Rattle.mv_seats.specs.Knowing.{Knows, Plain, plain}
 use Rattle.mv_seats.proofs.Prefixes.{prefix_length}

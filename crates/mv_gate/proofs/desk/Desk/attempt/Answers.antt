@@ -1,4 +1,4 @@
-use Rattle.std.proofs.Common.{rules, ℕ, Some, sym, subst}
+use Rattle.std.proofs.Common.{rules, Some, sym, subst}
 use Rattle.mv_core.specs.Books.{Booked}
 use Rattle.mv_gate.specs.Gates.{Holding, IsLatest, HasCall}
 use Rattle.mv_gate.proofs.desk.Desk.attempt.Goals as goal

@@ -1,4 +1,4 @@
-use Rattle.std.proofs.Common.{refl, sym, ap, ◌∙◌}
+use Rattle.std.proofs.Common.{refl, sym, ◌∙◌}
 use Rattle.mv_journal.specs.declared.event.Event.TheVariants.{G}
 use Rattle.mv_core.proofs.Stored.{stored_same, stored_raised}
 use Rattle.mv_core.proofs.Changed.{made_now}

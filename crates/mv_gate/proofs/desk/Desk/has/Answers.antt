@@ -1,7 +1,7 @@
 use Rattle.std.proofs.Common.{length, sym, ap, subst, ◌∙◌, arith, rules}
 use mathlib.Core.List.{IsPrefix}
 use Rattle.mv_core.specs.Books.{Booked}
-use Rattle.mv_gate.specs.Gates.{Holding, IsKnown, HasCall}
+use Rattle.mv_gate.specs.Gates.{Holding, HasCall}
 use Rattle.mv_gate.proofs.Numbers.{same_starts, starts_apart, less_is, is_less}
 use Rattle.mv_gate.proofs.Holding.{has_call, known_by, first_round, later_round, other_from, not_known, known_seen}
 use Rattle.mv_gate.proofs.desk.Desk.has.Goals as goal

@@ -1,4 +1,4 @@
-use Rattle.std.proofs.Common.{arith, rules, ◌≡◌, ◌↔◌, ◌∙◌, length, false, ap, subst, sym}
+use Rattle.std.proofs.Common.{arith, rules, ◌≡◌, ◌↔◌, ◌∙◌, length, ap, subst, sym}
 use Rattle.std.specs.Prelude.{nat_lt, IsTrue}
 use Rattle.mv_graph.specs.Nodes.{meaning_of}
 use Rattle.mv_lawful.specs.Lawful.{used, has_step}

@@ -1,4 +1,4 @@
-use Rattle.std.proofs.Common.{◌≡◌, ◌<◌, ◌∙◌, Some, length, sym, ap, subst}
+use Rattle.std.proofs.Common.{◌<◌, ◌∙◌, Some, length, sym, ap, subst}
 use Rattle.std.specs.Prelude.{true}
 use Rattle.mv_journal.specs.declared.event.Event.TheVariants.{M}
 use Rattle.mv_journal.specs.declared.outcome.Mark.TheVariants.{Moved}
