@@ -24,9 +24,7 @@ use Rattle.mv_core.proofs.Numbers.{settled}
 use Rattle.mv_core.proofs.Refusing.{begun_number, used_rounds}
 use Rattle.mv_core.proofs.Taking.{one_live, due_now, task_given, task_writes}
 use Rattle.mv_core.proofs.Changed.{step_used}
-use Rattle.mv_gate.specs.declared.answers.Answer.{Answer}
-use Rattle.mv_gate.specs.declared.answers.Answer.TheVariants as answer
-use Rattle.mv_gate.specs.Gates.{script_in, work, HaveTurns, IsDesk, Holding, IsExecuted, IsHeld, IsUnderWay, IsWhole, IsLatest, IsKnown, HasCall, GivesBack, repaired_from}
+use Rattle.mv_gate.specs.Gates.{script_in, work, HaveTurns, IsDesk, Holding, IsExecuted, IsHeld, IsUnderWay, IsWhole, IsLatest, IsKnown, HasCall, repaired_from}
 use Rattle.mv_gate.proofs.Prefixes.{number_by, table_prefix, repair_prefix, whole_prefix, number_prefix}
 use Rattle.mv_gate.proofs.Numbers.{number_came, only_first}
 
@@ -188,13 +186,6 @@ held_back s b knows c n from running script at latest role p =
           (subst (λ (db : Tables). RunsOn (script_in s) c db running.task) (sym (table_prefix w order knows.seen (length order) p (omega arith))) runs);
       executed = subst (λ m. IsExecuted w knows.seen c from m running) (sym at) (executed_prefix w knows.seen order c (length order) from running p (omega arith) executed);
     }
-
--- without a repair or a move it isn't given back
-pub none_back : (h : Holding) (a : Answer) (b : Booked) → (a ≡ answer.Repaired → ⊥) → (a ≡ answer.Moved → ⊥) → GivesBack h a None b
-none_back h (answer.Committed n) b nr nm = tt
-none_back h answer.Repaired b nr nm = nr refl
-none_back h answer.Moved b nr nm = nm refl
-none_back h answer.Lost b nr nm = tt
 
 -- Where nothing was changed
 
