@@ -151,6 +151,7 @@ impl<N: Making> Desk<N> {
     /// Event S. Executes the next statement of a call that its holder runs, over the tables at its start. Returns false,
     /// and does nothing, only if the call has no statement left, or its start is below low, or the history doesn't have
     /// it as its holder knows it. Fails with `NoMemory` if memory runs out. Then the event wasn't made, and the call can go on.
+    /// If the history had the call as its holder knows it, it still does.
     pub fn step(
         &mut self,
         alloc: Global,
@@ -158,6 +159,7 @@ impl<N: Making> Desk<N> {
         held: &mut Held<N>,
     ) -> Result<bool, NoMemory>
         ensures made { StepsOn held.old result self.old self.new }
+        ensures known { IsKnown self.old held.old → IsKnown self.new held.new }
         ensures call { held.new.call ≡ held.old.call }
         ensures start { held.new.start ≡ held.old.start }
         ensures from { held.new.from ≡ held.old.from }
