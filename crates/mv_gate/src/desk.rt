@@ -11,7 +11,7 @@ ghost use Rattle.mv_core.specs.Books.{work_in, Made, IsSame, IsNotStale};
 ghost use Rattle.mv_core.specs.Cores.{HasStep, HasCollected, HasMovedAndCommitted};
 ghost use Rattle.mv_gate.specs.declared.answers.Answer.TheVariants as Answer;
 ghost use Rattle.mv_lawful.specs.declared.fault.Fault.TheVariants.{Conflict};
-ghost use Rattle.mv_gate.specs.Gates.{script_in, work, IsUnderWay, IsWhole, IsRestarted, IsLatest, IsStale, HasRound, IsKnown, HasCall, HandsOut, StepsOn, Tries, answer_in, GivesBack, IsOutcome, IsDone, GoesOn};
+ghost use Rattle.mv_gate.specs.Gates.{script_in, work, IsUnderWay, IsWhole, IsRestarted, IsLastRun, IsLatest, IsStale, HasRound, IsKnown, HasCall, HandsOut, StepsOn, Tries, answer_in, GivesBack, IsOutcome, IsDone, GoesOn};
 
 use crate::answers::Answer;
 use crate::held::Held;
@@ -455,6 +455,7 @@ impl<N: Making> Desk<N> {
         ensures call { result.call ≡ call }
         ensures start { result.start ≡ length self.old.course.order }
         ensures from { result.from ≡ from }
+        ensures whole { IsLastRun self.new result.call result.running }
     {
         let news = note(&mut self.pass, board);
         pass.meet(board, news);
