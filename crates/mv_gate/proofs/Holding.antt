@@ -1,11 +1,11 @@
 -- What a holder knows of its call, and what the history has of it.
-use Rattle.std.proofs.Common.{◌≡◌, ◌↔◌, ℕ, ◌≤◌, ◌<◌, Bool, true, false, List, [], Option, Some, None, length, refl, sym, ap, subst, ◌∙◌, arith, rules}
+use Rattle.std.proofs.Common.{◌≡◌, ◌↔◌, ℕ, ◌≤◌, ◌<◌, ◌+◌, Bool, true, false, List, [], Option, Some, None, length, refl, sym, ap, subst, ◌∙◌, arith, rules}
 use Rattle.std.specs.Prelude.{IsTrue, nat_lt}
 use mathlib.Core.List.{IsPrefix}
 use Rattle.mv_record.specs.Runs.{Tables}
 use Rattle.mv_undo.specs.Owning.{HasWritesOf}
 use Rattle.mv_exec.specs.declared.task.Task.{Task}
-use Rattle.mv_journal.specs.declared.event.Event.TheVariants.{B}
+use Rattle.mv_journal.specs.declared.event.Event.TheVariants.{B, S}
 use Rattle.mv_journal.specs.declared.outcome.Round.{Round}
 use Rattle.mv_lawful.specs.Work.{Work, table_at, records_at}
 use Rattle.mv_lawful.specs.Lawful.{Live, Course, used, is_stale, has_step}
@@ -23,10 +23,8 @@ use Rattle.mv_core.specs.Cores.{RunsOn, IsStoreOf, HasTurns, HasStep, HasRun, co
 use Rattle.mv_core.proofs.Numbers.{settled}
 use Rattle.mv_core.proofs.Refusing.{begun_number, used_rounds}
 use Rattle.mv_core.proofs.Taking.{one_live, due_now, task_given, task_writes}
-use Rattle.mv_core.proofs.Changed.{step_used}
-use Rattle.mv_gate.specs.declared.answers.Answer.{Answer}
-use Rattle.mv_gate.specs.declared.answers.Answer.TheVariants as answer
-use Rattle.mv_gate.specs.Gates.{script_in, work, HaveTurns, IsDesk, Holding, IsExecuted, IsHeld, IsUnderWay, IsWhole, IsLatest, IsKnown, HasCall, GivesBack, repaired_from}
+use Rattle.mv_core.proofs.Changed.{step_used, live_stepped}
+use Rattle.mv_gate.specs.Gates.{script_in, work, HaveTurns, IsDesk, Holding, IsExecuted, IsHeld, IsUnderWay, IsWhole, IsLatest, IsKnown, HasCall, repaired_from}
 use Rattle.mv_gate.proofs.Prefixes.{number_by, table_prefix, repair_prefix, whole_prefix, number_prefix}
 use Rattle.mv_gate.proofs.Numbers.{number_came, only_first}
 
@@ -136,6 +134,34 @@ stale_apart old now h g r same one tells is k fresh =
     let no : true ≡ false = sym is ∙ (here k.live k.is_live ∙ fresh k.live k.is_live) in
     search (rules, no)
 
+-- a call that is known is still known where the history has the same calls
+pub known_same : (old new : Booked) (h : Holding) → new.course ≡ old.course → IsKnown old h → IsKnown new h
+known_same old new h course k = record {
+  live = k.live;
+  is_live = subst (λ (s : Course). IsLive s h.call k.live) (sym course) k.is_live;
+  start = k.start;
+  from = k.from;
+  steps = k.steps;
+}
+
+-- the number of a call that has a statement left isn't known yet
+uncounted : (s : BoardScript) (b : Booked) (h : Holding) → HaveTurns b.course → IsHeld s h → IsKnown b h → HasStep b h.call → h.running.count ≡ None
+uncounted s b h turns holds k step =
+    let first : used k.live ≡ 0 = step_used (work_in b) b.course h.call k.live (step k.live k.is_live) in
+    let none : h.from ≡ None = sym k.from ∙ only_first (length b.course.order) k.live (turns h.call k.live k.is_live.at) first in
+    (subst (λ o. IsExecuted (work s) h.knows.seen h.call o h.start h.running) none holds.executed).0
+
+-- and after a statement
+pub known_stepped : (s : BoardScript) (b new : Booked) (h : Holding) (r : Running) → HaveTurns b.course → IsHeld s h → HasStep b h.call → HasRun h.running r
+    → ((l : Live) → IsLive b.course h.call l → IsLiveTask b.script b.course.order h.call (record l { steps = l.steps + 1 }) r) → Made (S h.call) b new → IsKnown b h → IsKnown new (record h { running = r })
+known_stepped s b new h r turns holds step ran task made k = record {
+  live = record k.live { steps = k.live.steps + 1 };
+  is_live = live_stepped h.call b new k.live k.is_live made;
+  start = k.start;
+  from = k.from;
+  steps = (task k.live k.is_live).steps (ran.count ∙ uncounted s b h turns holds k step);
+}
+
 -- a test that fails
 pub not_known : (b : Booked) (h : Holding) → (IsKnown b h → ⊥) → IsTrue false ↔ IsKnown b h
 not_known b h away = (λ t. absurd (search (rules, t)), λ k. absurd (away k))
@@ -188,13 +214,6 @@ held_back s b knows c n from running script at latest role p =
           (subst (λ (db : Tables). RunsOn (script_in s) c db running.task) (sym (table_prefix w order knows.seen (length order) p (omega arith))) runs);
       executed = subst (λ m. IsExecuted w knows.seen c from m running) (sym at) (executed_prefix w knows.seen order c (length order) from running p (omega arith) executed);
     }
-
--- without a repair or a move it isn't given back
-pub none_back : (h : Holding) (a : Answer) (b : Booked) → (a ≡ answer.Repaired → ⊥) → (a ≡ answer.Moved → ⊥) → GivesBack h a None b
-none_back h (answer.Committed n) b nr nm = tt
-none_back h answer.Repaired b nr nm = nr refl
-none_back h answer.Moved b nr nm = nm refl
-none_back h answer.Lost b nr nm = tt
 
 -- Where nothing was changed
 

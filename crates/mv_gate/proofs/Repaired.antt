@@ -37,6 +37,10 @@ latest_again b new c l r there made repaired past =
       runs =
           subst (λ (s : Script). RunsOn s c (table_at (work_of s) new.course.order (length new.course.order)) r.task) (sym made.script)
           (subst (λ (o : List ℕ). RunsOn b.script c (table_at (work_in b) o (length o)) r.task) (sym order) repaired.runs);
+      whole =
+          repaired.records
+          ∙ (ap (λ (s : Script). records_at (work_of s) b.course.order (length b.course.order) c) (sym made.script)
+          ∙ ap (λ (o : List ℕ). records_at (work_in new) o (length o) c) (sym order));
       executed = (
         omega (arith, past, long),
         repaired.count,
@@ -91,11 +95,15 @@ restarted now b new store c l r same k there live turns made repaired = record {
 -- A call that moved
 
 pub moved_latest : (old new : Booked) (c start : ℕ) (task : Task) → c < length old.script.calls → new.script ≡ old.script → new.course.order ≡ old.course.order → start ≡ length old.course.order
-    → RunsOn old.script c (table_at (work_in old) old.course.order start) task → task.executed ≡ length task.records → IsLatest new c None (record { task = task; count = None })
-moved_latest old new c start task there script order last runs executed = record {
+    → RunsOn old.script c (table_at (work_in old) old.course.order start) task → task.records ≡ records_at (work_in old) old.course.order start c → task.executed ≡ length task.records → IsLatest new c None (record { task = task; count = None })
+moved_latest old new c start task there script order last runs are executed = record {
   there = subst (λ (s : Script). c < length s.calls) (sym script) there;
   runs =
       subst (λ (s : Script). RunsOn s c (table_at (work_of s) new.course.order (length new.course.order)) task) (sym script)
       (subst (λ (o : List ℕ). RunsOn old.script c (table_at (work_in old) o (length o)) task) (sym order) (subst (λ n. RunsOn old.script c (table_at (work_in old) old.course.order n) task) last runs));
+  whole =
+      are
+      ∙ (ap (λ n. records_at (work_in old) old.course.order n c) last
+      ∙ (ap (λ (o : List ℕ). records_at (work_in old) o (length o) c) (sym order) ∙ ap (λ (s : Script). records_at (work_of s) new.course.order (length new.course.order) c) (sym script)));
   executed = (refl, executed);
 }

@@ -6,7 +6,7 @@ use Rattle.mv_journal.specs.declared.event.Event.TheVariants.{B, S, A, M, C, X}
 use Rattle.mv_journal.specs.declared.outcome.Mark.{Mark}
 use Rattle.mv_journal.specs.declared.outcome.Mark.TheVariants.{Plain as Repaired, Exclusive, Moved}
 use Rattle.mv_journal.specs.declared.outcome.Outcome.{Outcome}
-use Rattle.mv_lawful.specs.Work.{Work, table_at}
+use Rattle.mv_lawful.specs.Work.{Work, table_at, records_at}
 use Rattle.mv_lawful.specs.Lawful.{Turn, Live, Course, Lawful, used, is_stale, has_round, refusal}
 use Rattle.mv_lawful.specs.Rounds.{repair_run, IsBounded}
 use Rattle.mv_lawful.specs.Outcomes.{outcome_of}
@@ -91,10 +91,15 @@ pub record IsWhole (b : Booked) (c : ℕ) (r : Running) : Type 0 where
   pub fresh : IsNotStale b c
   pub records : AreRecordsOf b c r.task.records
 
+-- its records are those of a full run on the tables after all commits
+abbrev pub IsLastRun : Booked → ℕ → Running → Type 0
+IsLastRun b c r = r.task.records ≡ records_at (work_in b) b.course.order (length b.course.order) c
+
 -- a call of the script has run whole after all commits, by a repair from a start, or without one
 pub record IsLatest (b : Booked) (c : ℕ) (from : Option ℕ) (r : Running) : Type 0 where
   pub there : c < length b.script.calls
   pub runs : RunsOn b.script c (table_at (work_in b) b.course.order (length b.course.order)) r.task
+  pub whole : IsLastRun b c r
   pub executed : IsExecuted (work_in b) b.course.order c from (length b.course.order) r
 
 -- it was repaired: it has run whole after all commits, and may commit
@@ -187,12 +192,12 @@ abbrev pub answer_in : {H : Type 0} → Result (Answer × H) NoMemory → Result
 answer_in (Ok r) = Ok r.0
 answer_in (Err e) = Err e
 
--- after a repair or a move the call is given back: it starts after all commits, and was repaired from its old start, or
--- has run whole anew
+-- after a repair or a move the call is given back: it starts after all commits, has run whole there, and was repaired
+-- from its old start, or ran anew
 abbrev pub GivesBack : Holding → Answer → Option Holding → Booked → Type 0
-GivesBack old answer.Repaired (Some h) new = (h.call ≡ old.call) × (h.start ≡ length new.course.order) × (h.from ≡ Some old.start)
+GivesBack old answer.Repaired (Some h) new = (h.call ≡ old.call) × (h.start ≡ length new.course.order) × (h.from ≡ Some old.start) × IsLastRun new h.call h.running
 GivesBack old answer.Repaired None new = ⊥
-GivesBack old answer.Moved (Some h) new = (h.call ≡ old.call) × (h.start ≡ length new.course.order) × (h.from ≡ None)
+GivesBack old answer.Moved (Some h) new = (h.call ≡ old.call) × (h.start ≡ length new.course.order) × (h.from ≡ None) × IsLastRun new h.call h.running
 GivesBack old answer.Moved None new = ⊥
 GivesBack old (answer.Committed n) (Some h) new = ⊥
 GivesBack old (answer.Committed n) None new = Unit {0}

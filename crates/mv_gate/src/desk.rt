@@ -11,7 +11,7 @@ ghost use Rattle.mv_core.specs.Books.{work_in, Made, IsSame, IsNotStale};
 ghost use Rattle.mv_core.specs.Cores.{HasStep, HasCollected, HasMovedAndCommitted};
 ghost use Rattle.mv_gate.specs.declared.answers.Answer.TheVariants as Answer;
 ghost use Rattle.mv_lawful.specs.declared.fault.Fault.TheVariants.{Conflict};
-ghost use Rattle.mv_gate.specs.Gates.{script_in, work, IsUnderWay, IsWhole, IsRestarted, IsLatest, IsStale, HasRound, IsKnown, HasCall, HandsOut, StepsOn, Tries, answer_in, GivesBack, IsOutcome, IsDone, GoesOn};
+ghost use Rattle.mv_gate.specs.Gates.{script_in, work, IsUnderWay, IsWhole, IsRestarted, IsLastRun, IsLatest, IsStale, HasRound, IsKnown, HasCall, HandsOut, StepsOn, Tries, answer_in, GivesBack, IsOutcome, IsDone, GoesOn};
 
 use crate::answers::Answer;
 use crate::held::Held;
@@ -151,6 +151,7 @@ impl<N: Making> Desk<N> {
     /// Event S. Executes the next statement of a call that its holder runs, over the tables at its start. Returns false,
     /// and does nothing, only if the call has no statement left, or its start is below low, or the history doesn't have
     /// it as its holder knows it. Fails with `NoMemory` if memory runs out. Then the event wasn't made, and the call can go on.
+    /// If the history had the call as its holder knows it, it still does.
     pub fn step(
         &mut self,
         alloc: Global,
@@ -158,6 +159,7 @@ impl<N: Making> Desk<N> {
         held: &mut Held<N>,
     ) -> Result<bool, NoMemory>
         ensures made { StepsOn held.old result self.old self.new }
+        ensures known { IsKnown self.old held.old → IsKnown self.new held.new }
         ensures call { held.new.call ≡ held.old.call }
         ensures start { held.new.start ≡ held.old.start }
         ensures from { held.new.from ≡ held.old.from }
@@ -453,6 +455,7 @@ impl<N: Making> Desk<N> {
         ensures call { result.call ≡ call }
         ensures start { result.start ≡ length self.old.course.order }
         ensures from { result.from ≡ from }
+        ensures whole { IsLastRun self.new result.call result.running }
     {
         let news = note(&mut self.pass, board);
         pass.meet(board, news);

@@ -52,4 +52,4 @@ returns-clause-latest g c =
     made_then (M c.args.call) c.reserve.new.self c.restart.new.self c.settle.new.self c.restart.ensures.made c.settle.ensures.script c.settle.ensures.course c.settle.ensures.journal in
     moved_latest c.reserve.new.self c.settle.new.self c.args.call c.commits.result c.in_ok-task.task
     (subst (λ (s : Script). c.args.call < length s.calls) (sym (c.reserve.ensures.same.script ∙ ap (λ (x : Booked). x.script) c.self.view_is)) c.requires.there) made.script (ap (λ (s : Course). s.order) made.course) c.commits.ensures
-    c.in_ok-task.ensures.runs c.in_ok-task.ensures.executed
+    c.in_ok-task.ensures.runs c.in_ok-task.ensures.records c.in_ok-task.ensures.executed

@@ -2,12 +2,12 @@ use Rattle.std.proofs.Common.{rules, refl, sym, subst, ◌∙◌}
 use Rattle.mv_journal.specs.declared.event.Event.TheVariants.{S}
 use Rattle.mv_core.specs.Books.{Booked, IsSame, IsNotStale}
 use Rattle.mv_core.proofs.Stored.{stored_same, stored_made}
-use Rattle.mv_core.proofs.Changed.{same_self}
+use Rattle.mv_core.proofs.Changed.{same_self, step_now}
 use Rattle.mv_core.specs.Calls.{IsLiveCall}
 use Rattle.mv_core.specs.Cores.{IsTaskIn}
-use Rattle.mv_gate.specs.Gates.{Holding, IsUnderWay, HasCall}
+use Rattle.mv_gate.specs.Gates.{Holding, HaveTurns, IsUnderWay, IsKnown, HasCall}
 use Rattle.mv_gate.proofs.Desks.{desk_same, desk_other, order_same, order_stepped}
-use Rattle.mv_gate.proofs.Holding.{task_was, open_same, fresh_same, running_of, stale_apart}
+use Rattle.mv_gate.proofs.Holding.{task_was, open_same, fresh_same, running_of, stale_apart, known_same, known_stepped}
 use Rattle.mv_gate.proofs.desk.Desk.step.Goals as goal
 
 pub has_step-requires : goal.has_step-requires
@@ -61,3 +61,14 @@ returns-then-is_stale-clause-made g c = (
       (record { call = c.held.inside.call; start = c.held.inside.start; from = c.held.inside.from; running = c.held.inside.running; knows = c.held.inside.pass }) c.is_stale.result c.see.ensures.same (c.held.view_is ∙ c.see.ensures.held)
       c.is_stale.ensures c.if-is_stale.true known fresh,
 )
+
+pub returns-clause-known : goal.returns-clause-known
+returns-clause-known g c known =
+    let b : Booked = c.self.inside.book in
+    let mid : Booked = c.reserve.new.self in
+    let h : Holding = record { call = c.held.inside.call; start = c.held.inside.start; from = c.held.inside.from; running = c.held.inside.running; knows = c.held.inside.pass } in
+    let here : IsKnown b h =
+    subst (λ (x : Holding). IsKnown b x) (sym (c.held.view_is ∙ c.see.ensures.held)) (subst (λ (x : Booked). IsKnown x c.args.held.now) (sym (c.self.view_is ∙ c.see.ensures.same)) known) in
+    known_stepped g.N.Making.script mid c.ran.new.self h c.step_task.new.running (subst HaveTurns (sym c.reserve.ensures.same.course) c.self.invariant.turns) c.held.invariant
+    (step_now b c.see.new.self mid h.call c.self.view_is (c.if-not-has_step.ensures.0 (search rules)) c.reserve.ensures.same) c.in_ok-step_task.ensures.ran c.in_ok-step_task.ensures.ok c.ran.ensures.made
+    (known_same b mid h c.reserve.ensures.same.course here)
