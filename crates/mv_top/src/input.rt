@@ -24,6 +24,7 @@ pub(crate) fn take_input<S: Source>(
     ensures taken { IfOk result (λ bytes. ForSome (input_of command.now (S.left source.old)) (λ all. IsTaken all bytes)) }
     ensures rest { IsReader command.now → OnOk result (ForSome (S.left source.old) (λ all. S.left source.new ≡ Some (drop MOST all))) }
     ensures unread { (IsReader command.now → ⊥) → S.left source.new ≡ S.left source.old }
+    ensures untried { (IsReader command.now → ⊥) → IsErrOf result ReadFault.Failed → ⊥ }
     ensures quiet { OnOk result (S.faults source.new ≡ S.faults source.old) }
     ensures starved { IsErrOf result ReadFault.NoMemory → S.faults source.new ≡ S.faults source.old }
     ensures failed { IsErrOf result ReadFault.Failed → Rose (S.faults source.old) (S.faults source.new) }

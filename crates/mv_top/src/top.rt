@@ -44,6 +44,7 @@ pub fn top<R: Threads + Wait + Sync, S: Source, K: Sink, P: Pace>(
     // `tpcc` is the source read.
     ensures words { IsNoCommand (words_of words.now) → (result ≡ Status.Usage) ⊎ ((result ≡ Status.WriteFault) ⊎ (result ≡ Status.NoMemory)) }
     ensures unread { IsNoReader (words_of words.now) → S.left source.new ≡ S.left source.old }
+    ensures untried { IsNoReader (words_of words.now) → result ≡ Status.ReadFault → ⊥ }
     // Another command reads the source to its end or to byte 16,777,217, and no byte more.
     ensures rest { (command : Task) → StandFor (words_of words.now) command → IsReader command → (result ≡ Status.ReadFault → ⊥) → (result ≡ Status.NoMemory → ⊥)
         → ForSome (S.left source.old) (λ all. S.left source.new ≡ Some (drop MOST all)) }

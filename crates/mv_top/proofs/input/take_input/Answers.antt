@@ -20,3 +20,6 @@ returns-in_default-clause-rest g c = λ reads. c.read_all.ensures.rest
 
 pub returns-in_default-clause-unread : goal.returns-in_default-clause-unread
 returns-in_default-clause-unread g c = λ other. absurd (other (is_reader c.args.command.now c.in_default.not-Tpcc))
+
+pub returns-in_default-clause-untried : goal.returns-in_default-clause-untried
+returns-in_default-clause-untried g c = λ other. absurd (other (is_reader c.args.command.now c.in_default.not-Tpcc))
