@@ -112,6 +112,7 @@ module _ (low : ℕ) (now new : List Entries) (w : Written) (done : AreDone (cha
   pub one_kept : (spots rest : Noted) (last : ℕ) → IsKept now spots last → rest.calls ≡ spots.calls → w.commit ≤ low → spots.commits ≡ w ∷ rest.commits → IsKept new rest last
   one_kept spots rest last kept calls le is = record {
     rising = done.rising kept.rising;
+    filled = done.filled kept.filled;
     numbers = λ u key. numbers_then (last + 1) u key (kept.numbers u key);
     covered = λ call u key some. subst (λ cs. HasSpot u key (spots_of (record rest { calls = cs }) call)) (sym calls) (kept.covered call u key (ap (λ ps. is_some (own_of call ps)) (sym (own_then u key)) ∙ some));
     listed = λ u key. listed_then rest.commits u key le (subst (λ ws. All (λ c. HasEntry c.number u key ws) (versions_at now u key).commits) is (kept.listed u key));
@@ -128,6 +129,7 @@ all_collected low last old now spots kept due h = record {
     size = h.size;
     at = λ u key. sym (collected_stays low (versions_at now u key) (All-weaker (λ c. HasEntry c.number u key spots.commits) (λ c. low < c.number) (λ c e. none_due low last c.number u key spots.commits due kept.climb e) (versions_at now u key).commits (kept.listed u key))) ∙ h.same u key;
     rising = λ r. kept.rising;
+    filled = λ r. kept.filled;
   };
   rows = h.rows;
 }

@@ -25,7 +25,7 @@ use Rattle.mv_store.specs.declared.change.Fate.{Fate}
 use Rattle.mv_store.specs.declared.change.Fate.TheVariants.{Commit, Gone}
 use Rattle.mv_store.specs.declared.change.Change.{Change}
 use Rattle.mv_store.specs.declared.change.Change.TheVariants.{Settle, Collect}
-use Rattle.mv_store.specs.Kept.{versions_in, versions_of, entries_at, versions_at, AllRise, IsChanged, AreChanged, AllChanged, Noted, is_spot, HasSpot, spots_of, IsCovered, settled, changed, MayChange, KeepsRows, done_at, AreDone}
+use Rattle.mv_store.specs.Kept.{versions_in, versions_of, entries_at, versions_at, AllRise, AreFilled, AllFilled, IsChanged, AreChanged, AllChanged, Noted, is_spot, HasSpot, spots_of, IsCovered, settled, changed, MayChange, KeepsRows, done_at, AreDone}
 
 some_none : {A : Type 0} {a : A} → ◌≡◌ {A = Option A} (Some a) None → ⊥
 some_none e = cc
@@ -113,16 +113,17 @@ changed_new key f w old new none is at rising = record {
 
 -- Tables
 
-pub rises_set : (old : List Entries) (t : ℕ) (es : Entries) → (KeysRise (entries_at old t) → KeysRise es) → AllRise old → AllRise (slice_set old t es)
-rises_set [] t es h r u = r u
-rises_set (x ∷ xs) zero es h r zero = h (r 0)
-rises_set (x ∷ xs) zero es h r (suc u) = r (suc u)
-rises_set (x ∷ xs) (suc t) es h r zero = r 0
-rises_set (x ∷ xs) (suc t) es h r (suc u) = rises_set xs t es h (λ v. r (suc v)) u
+-- what holds of each table still does, where it does of the one that was replaced
+pub each_set : (P : Entries → Type 0) (old : List Entries) (t : ℕ) (es : Entries) → (P (entries_at old t) → P es) → ((u : ℕ) → P (entries_at old u)) → (u : ℕ) → P (entries_at (slice_set old t es) u)
+each_set P [] t es h r u = r u
+each_set P (x ∷ xs) zero es h r zero = h (r 0)
+each_set P (x ∷ xs) zero es h r (suc u) = r (suc u)
+each_set P (x ∷ xs) (suc t) es h r zero = r 0
+each_set P (x ∷ xs) (suc t) es h r (suc u) = each_set P xs t es h (λ v. r (suc v)) u
 
 -- one table was changed at one key
-pub tables_changed : (t : ℕ) (key : List Value) (f : Versions → Versions) (old new : List Entries) (es : Entries) → t < length old → IsChanged key f (entries_at old t) es → new ≡ slice_set old t es → AreChanged t key f old new
-tables_changed t key f old new es lt h is = record {
+pub tables_changed : (t : ℕ) (key : List Value) (f : Versions → Versions) (old new : List Entries) (es : Entries) → t < length old → IsChanged key f (entries_at old t) es → (AreFilled (entries_at old t) → AreFilled es) → new ≡ slice_set old t es → AreChanged t key f old new
+tables_changed t key f old new es lt h full is = record {
   size = ap length is ∙ length-set old t es;
   at = λ u other. ap (λ ts. versions_at ts u other) is ∙ elim (cases_Bool (t == u)) [
     | inl e ↦ let same : t ≡ u = eqb-true t u e in
@@ -130,12 +131,13 @@ tables_changed t key f old new es lt h is = record {
         (ap (λ l. versions_of l other) (get_or-set_same old t es [] lt) ∙ h.at other))
     | inr e ↦ rw e (ap (λ l. versions_of l other) (get_or-set_other old t u es [] (λ same. differ t u (sym same) e)))
   ];
-  rising = λ r. subst AllRise (sym is) (rises_set old t es h.rising r);
+  rising = λ r. subst AllRise (sym is) (each_set KeysRise old t es h.rising r);
+  filled = λ r. subst AllFilled (sym is) (each_set AreFilled old t es full r);
 }
 
 -- where a table isn't there, nothing changes
 pub tables_unchanged : (t : ℕ) (key : List Value) (f : Versions → Versions) (old : List Entries) → length old ≤ t → f blank ≡ blank → AreChanged t key f old old
-tables_unchanged t key f old le h = record { size = refl; at = λ u other. by u other (t == u) refl; rising = λ r. r }
+tables_unchanged t key f old le h = record { size = refl; at = λ u other. by u other (t == u) refl; rising = λ r. r; filled = λ r. r }
   where
     both : (b : Bool) (v : Versions) → v ≡ blank → v ≡ cond b (f v) v
     both true v e = e ∙ (sym h ∙ ap f (sym e))
@@ -257,7 +259,7 @@ rows_at to t key old new change rows u other = elim (cases_Bool (t == u)) [
 -- The loop over spots
 
 pub done_none : (f : Versions → Versions) (old : List Entries) → AreDone f [] old old
-done_none f old = record { size = refl; at = λ u key. refl; rising = λ r. r }
+done_none f old = record { size = refl; at = λ u key. refl; rising = λ r. r; filled = λ r. r }
 
 pub done_one : (f : Versions → Versions) (ss : List Spot) (i : ℕ) (s : Spot) (old now new : List Entries) → i < length ss → s ≡ slice_index_or ss i s → AreDone f (take i ss) old now → AreChanged s.table s.key f now new → AreDone f (take (i + 1) ss) old new
 done_one f ss i s old now new lt is done change = record {
@@ -267,6 +269,7 @@ done_one f ss i s old now new lt is done change = record {
       ∙ (ap (λ v. cond (is_spot u key s) (f v) v) (done.at u key)
       ∙ (sym (done_more f (take i ss) s u key (versions_at old u key)) ∙ ap (λ l. done_at f l u key (versions_at old u key)) (ap (λ x. take i ss ++ x ∷ []) is ∙ sym (take_more ss i s lt))));
   rising = λ r. change.rising (done.rising r);
+  filled = λ r. change.filled (done.filled r);
 }
 
 -- all that a call has written is settled, where it was noted
@@ -275,6 +278,7 @@ all_settled fate call spots ss old new covered is done = record {
   size = done.size;
   at = λ u key. done.at u key ∙ by u key (own_of call (versions_at old u key).own) refl;
   rising = done.rising;
+  filled = done.filled;
 }
   where
     by : (u : ℕ) (key : List Value) (o : Option Patch) → own_of call (versions_at old u key).own ≡ o → done_at (settled fate call) ss u key (versions_at old u key) ≡ settled fate call (versions_at old u key)

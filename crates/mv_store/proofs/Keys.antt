@@ -18,7 +18,7 @@ use Rattle.mv_store.specs.Kept.{versions_in, versions_at, AllRise}
 pub nil_rises : {T : Type 0} → KeysRise {T = T} []
 nil_rises = λ i j d lt within. absurd (omega (arith, within))
 
-cons_same : {A : Type 0} (x y : A) (xs ys : List A) → x ≡ y → xs ≡ ys → x ∷ xs ≡ y ∷ ys
+pub cons_same : {A : Type 0} (x y : A) (xs ys : List A) → x ≡ y → xs ≡ ys → x ∷ xs ≡ y ∷ ys
 cons_same x y xs ys h k = λ i. h i ∷ k i
 
 -- What is picked

@@ -24,9 +24,10 @@ use Rattle.mv_store.specs.declared.spots.Spot.{Spot}
 use Rattle.mv_store.specs.declared.spots.Written.{Written}
 use Rattle.mv_store.specs.declared.change.Fate.{Fate}
 use Rattle.mv_store.specs.declared.change.Fate.TheVariants.{Commit as Commits, Gone}
-use Rattle.mv_store.specs.Kept.{versions_of, versions_at, entries_at, AllRise, IsChanged, AreChanged, AllChanged, Noted, IsCovered, IsListed, AreUpTo, IsKept, HasSpot, HasEntry, KeepsSpots, spots_of, spots_in, noted_for, written_at, Climb, with_patch, settled, MaySettle, AreCollected}
+use Rattle.mv_store.specs.Kept.{versions_of, versions_at, entries_at, AllRise, AreFilled, AllFilled, IsChanged, AreChanged, AllChanged, Noted, IsCovered, IsListed, AreUpTo, IsKept, HasSpot, HasEntry, KeepsSpots, spots_of, spots_in, noted_for, written_at, Climb, with_patch, settled, MaySettle, AreCollected}
 use Rattle.mv_store.proofs.Keys.{database_same, databases_same, row_in, rows_rise, size_is}
 use Rattle.mv_store.proofs.Own.{row_done, own_same, own_none}
+use Rattle.mv_store.proofs.Filled.{tables_collected}
 use Rattle.mv_store.proofs.Noted.{entry_left, entry_last, climb_push}
 use Rattle.mv_store.proofs.Done.{settled_gone, settled_others, same_keys, differ, no_truth, tables_changed}
 
@@ -145,6 +146,7 @@ pub put_kept : (t call last : ℕ) (key : List Value) (patch : Patch) (old new :
     → KeepsSpots spots now → (is_some (own_of call (versions_at old t key).own) ≡ false → HasSpot t key (spots_of now call)) → IsKept new now last
 put_kept t call last key patch old new spots now kept change keeps noted = record {
   rising = change.rising kept.rising;
+  filled = change.filled kept.filled;
   numbers = put_numbers t key call patch old new kept.rising change last kept.numbers;
   covered = put_covered t key call patch old new kept.rising change spots now kept.covered keeps noted;
   listed = listed_still old new spots.commits now.commits (put_commits t key call patch old new kept.rising change) keeps.commits kept.listed;
@@ -154,6 +156,7 @@ put_kept t call last key patch old new spots now kept change keeps noted = recor
 pub spots_kept : (last : ℕ) (tables : List Entries) (spots now : Noted) → IsKept tables spots last → KeepsSpots spots now → IsKept tables now last
 spots_kept last tables spots now kept keeps = record {
   rising = kept.rising;
+  filled = kept.filled;
   numbers = kept.numbers;
   covered = λ c u k some. keeps.calls c u k (kept.covered c u k some);
   listed = subst (IsListed tables) (sym keeps.commits) kept.listed;
@@ -229,6 +232,7 @@ all_dropped call old new rise change last low = record {
 pub dropped_kept : (call last : ℕ) (old new : List Entries) (spots now : Noted) → IsKept old spots last → AllChanged (settled Gone call) old new → ((other : ℕ) → spots_of now other ≡ cond (call == other) [] (spots_of spots other)) → now.commits ≡ spots.commits → IsKept new now last
 dropped_kept call last old new spots now kept change are same = record {
   rising = change.rising kept.rising;
+  filled = change.filled kept.filled;
   numbers = λ u k. subst (IsNext (last + 1)) (sym (change.at u k)) (kept.numbers u k);
   covered = settled_covered Gone call old new kept.rising change spots now kept.covered are;
   listed = listed_still old new spots.commits now.commits (λ u k. ap (λ v. v.commits) (change.at u k)) same kept.listed;
@@ -291,6 +295,7 @@ stamped_listed call n t key v ws o covered h = by (own_of call v.own) refl
 pub stamped_kept : (call n last : ℕ) (old new : List Entries) (spots now : Noted) → IsKept old spots last → last < n → AllChanged (settled (Commits n) call) old new → ((other : ℕ) → spots_of now other ≡ cond (call == other) [] (spots_of spots other)) → now.commits ≡ spots.commits ++ written_at n (noted_for spots call) → IsKept new now n
 stamped_kept call n last old new spots now kept lt change are more = record {
   rising = change.rising kept.rising;
+  filled = change.filled kept.filled;
   numbers = λ u k. subst (IsNext (n + 1)) (sym (change.at u k)) (stamped_numbers call n last (versions_at old u k) (kept.numbers u k) lt);
   covered = settled_covered (Commits n) call old new kept.rising change spots now kept.covered are;
   listed = λ u k.
@@ -302,8 +307,9 @@ stamped_kept call n last old new spots now kept lt change are more = record {
 
 -- Old versions are forgotten
 
-pub all_raised : (low : ℕ) (old new : Versioned) → AllRise old.tables → AreCollected low old.tables new.tables → new.last ≡ old.last → new.low ≡ low → HasRaised low old new
-all_raised low old new rise c last is = record {
+pub all_raised : (low : ℕ) (old new : Versioned) → AllRise old.tables → AllFilled old.tables → AreCollected low old.tables new.tables → new.last ≡ old.last → new.low ≡ low → HasRaised low old new
+all_raised low old new rise filled c last is = record {
+  tables = tables_collected low old.tables new.tables rise filled c.versions;
   database = λ n le. database_same n n new.tables old.tables c.versions.size (c.versions.rising rise) rise (λ u k. c.rows u k n le);
   own = λ call. own_same call new.tables old.tables c.versions.size (c.versions.rising rise) rise (λ u k. ap (λ v. own_of call v.own) (c.versions.at u k));
   last = last;
@@ -333,6 +339,7 @@ all_same t key old new rise change last low = record {
 pub same_kept : (t last : ℕ) (key : List Value) (old new : List Entries) (spots now : Noted) → IsKept old spots last → AreChanged t key (λ v. v) old new → KeepsSpots spots now → IsKept new now last
 same_kept t last key old new spots now kept change keeps = record {
   rising = change.rising kept.rising;
+  filled = change.filled kept.filled;
   numbers = λ u k. subst (IsNext (last + 1)) (sym (same_at t key old new kept.rising change u k)) (kept.numbers u k);
   covered = λ c u k some. keeps.calls c u k (kept.covered c u k (subst (λ v. is_some (own_of c v.own) ≡ true) (same_at t key old new kept.rising change u k) some));
   listed = listed_still old new spots.commits now.commits (λ u k. ap (λ v. v.commits) (same_at t key old new kept.rising change u k)) keeps.commits kept.listed;
@@ -340,14 +347,14 @@ same_kept t last key old new spots now kept change keeps = record {
 }
 
 pub put_any : {E : Type 0} (r : Result (Unit {0}) E) (t call last : ℕ) (key : List Value) (patch : Patch) (old new : List Entries) (was es : Entries) (spots now : Noted) → IsKept old spots last → t < length old → was ≡ entries_at old t
-    → OnOk r (IsChanged key (with_patch call patch) was es) → OnErr r (IsChanged key (λ v. v) was es) → KeepsSpots spots now → OnOk r (is_some (own_of call (versions_of was key).own) ≡ false → HasSpot t key (spots_of now call))
+    → OnOk r (IsChanged key (with_patch call patch) was es) → OnErr r (IsChanged key (λ v. v) was es) → (AreFilled was → AreFilled es) → KeepsSpots spots now → OnOk r (is_some (own_of call (versions_of was key).own) ≡ false → HasSpot t key (spots_of now call))
     → new ≡ slice_set old t es → IsKept new now last
-put_any (Ok x) t call last key patch old new was es spots now kept lt is ok err keeps noted set =
+put_any (Ok x) t call last key patch old new was es spots now kept lt is ok err full keeps noted set =
     put_kept t call last key patch old new spots now kept
-    (tables_changed t key (with_patch call patch) old new es lt (subst (λ l. IsChanged key (with_patch call patch) l es) is ok) set) keeps
+    (tables_changed t key (with_patch call patch) old new es lt (subst (λ l. IsChanged key (with_patch call patch) l es) is ok) (subst (λ l. AreFilled l → AreFilled es) is full) set) keeps
     (subst (λ l. is_some (own_of call (versions_of l key).own) ≡ false → HasSpot t key (spots_of now call)) is noted)
-put_any (Err e) t call last key patch old new was es spots now kept lt is ok err keeps noted set =
-    same_kept t last key old new spots now kept (tables_changed t key (λ v. v) old new es lt (subst (λ l. IsChanged key (λ v. v) l es) is err) set) keeps
+put_any (Err e) t call last key patch old new was es spots now kept lt is ok err full keeps noted set =
+    same_kept t last key old new spots now kept (tables_changed t key (λ v. v) old new es lt (subst (λ l. IsChanged key (λ v. v) l es) is err) (subst (λ l. AreFilled l → AreFilled es) is full) set) keeps
 
 pub like_is : (s : Versioned) (n : ℕ) → AllRise s.tables → IsLike s (database_at s n)
 like_is s n rise = record { size = size_is n s.tables; rising = rows_rise n s.tables rise }

@@ -1,5 +1,6 @@
 pub mod Keys
 pub mod Own
+pub mod Filled
 pub mod Done
 pub mod Laws
 pub mod Found

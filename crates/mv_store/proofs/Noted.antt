@@ -1,6 +1,6 @@
 -- Keys that are noted.
 use Rattle.std.proofs.Common.{◌≡◌, ◌<◌, ◌≤◌, ◌++◌, ◌==◌, ℕ, Bool, true, false, inl, inr, List, [], ◌∷◌, Option, Some, None, refl, sym, arith, rules}
-use Rattle.std.specs.Prelude.{OnOk, OnErr, Result, Ok, Err, ◌||◌, nat_le}
+use Rattle.std.specs.Prelude.{OnOk, Result, Ok, Err, ◌||◌, nat_le}
 use Rattle.std.specs.List.{list_any}
 use Rattle.std.proofs.lemmas.Bool.{cases_Bool, eq-eqb, eqb-true}
 use Rattle.mv_values.specs.declared.value.Value.{Value}

@@ -1,5 +1,6 @@
 -- The versions that a database begins with.
 use Rattle.std.proofs.Common.{◌≡◌, ◌<◌, ◌+◌, ◌++◌, ℕ, zero, suc, Bool, true, false, cond, List, [], ◌∷◌, Some, All, length, take, map, slice_index_or, refl, sym, ap, subst, ◌∙◌, arith}
+use Rattle.std.specs.Prelude.{IfSome}
 use Rattle.std.specs.Option.{is_some}
 use Rattle.std.specs.Ordering.{is_eq}
 use Rattle.std.specs.declared.cmp.Ordering.TheVariants.{Less}
@@ -14,9 +15,10 @@ use Rattle.mv_table.proofs.Picking.{put_last}
 use Rattle.mv_table.proofs.Storing.{taken_below}
 use Rattle.mv_chain.specs.Versions.{Versions, own_of}
 use Rattle.mv_store.specs.Stored.{Entries, held, table_at, writes_from}
-use Rattle.mv_store.specs.Kept.{versions_in, versions_of, versions_at, AllRise, Noted, HasEntry, Climb, IsKept}
+use Rattle.mv_store.specs.Kept.{versions_in, versions_of, versions_at, AllRise, AreFilled, AllFilled, Noted, HasEntry, Climb, IsKept}
 use Rattle.mv_store.specs.Opened.{opened}
 use Rattle.mv_store.proofs.Keys.{nil_rises}
+use Rattle.mv_store.proofs.Filled.{IsFull}
 use Rattle.mv_store.proofs.Own.{own_none}
 use Rattle.mv_store.proofs.Done.{no_truth}
 
@@ -87,12 +89,26 @@ all_new [] t key = (refl, refl)
 all_new (x ∷ xs) zero key = opened_new x key
 all_new (x ∷ xs) (suc t) key = all_new xs t key
 
+opened_full : (rows : List Keyed) → AreFilled (opened rows)
+opened_full [] key = tt
+opened_full (x ∷ xs) key = by (is_eq (key_order x.key key)) (opened_full xs key)
+  where
+    by : (b : Bool) → IfSome (item_of (opened xs) key) IsFull → IfSome (cond b (Some (first_of x.row)) (item_of (opened xs) key)) IsFull
+    by true more = refl
+    by false more = more
+
+all_full : (db : List (List Keyed)) → AllFilled (map opened db)
+all_full [] t key = tt
+all_full (x ∷ xs) zero key = opened_full x key
+all_full (x ∷ xs) (suc t) key = all_full xs t key
+
 pub opened_own : (call : ℕ) (db : List (List Keyed)) → AllRise (map opened db) → writes_from 0 (held (λ v. own_of call v.own) (map opened db)) ≡ []
 opened_own call db r = own_none call (map opened db) r (λ t key. ap (own_of call) (all_new db t key).1)
 
 pub opened_kept : (db : List (List Keyed)) (tables : List Entries) (spots : Noted) → tables ≡ map opened db → AllRise tables → spots.commits ≡ [] → IsKept tables spots 0
 opened_kept db tables spots is rise none = record {
   rising = rise;
+  filled = subst AllFilled (sym is) (all_full db);
   numbers = λ t key. subst (λ cs. All (λ c. c.number < 0 + 1) cs) (sym (no_commits t key)) (All-nil (λ c. c.number < 0 + 1));
   covered = λ call t key some. absurd (no_truth (sym (ap is_some (ap (own_of call) (ap (λ ts. (versions_at ts t key).own) is ∙ (all_new db t key).1))) ∙ some));
   listed = λ t key. subst (λ cs. All (λ c. HasEntry c.number t key spots.commits) cs) (sym (no_commits t key)) (All-nil (λ c. HasEntry c.number t key spots.commits));

@@ -3,7 +3,7 @@ use Rattle.std.specs.Prelude.{◌≡◌, ◌<◌, ◌≤◌, ℕ, List, []}
 use Rattle.mv_values.specs.declared.rows.Keyed.{Keyed}
 use Rattle.mv_values.specs.declared.patch.Write.{Write}
 use Rattle.mv_values.specs.Patching.{applied}
-use Rattle.mv_store.specs.Stored.{Versioned, database_at, newest, own_writes, IsLike}
+use Rattle.mv_store.specs.Stored.{Versioned, tables_from, database_at, newest, own_writes, IsLike}
 
 -- every read and both numbers are unchanged
 pub record KeepsReads (old new : Versioned) : Type 0 where
@@ -41,8 +41,10 @@ pub record HasStamped (call n : ℕ) (old new : Versioned) : Type 0 where
   pub last : new.last ≡ n
   pub low : new.low ≡ old.low
 
--- rows are kept from this number on; reads there and uncommitted writes are unchanged
+-- rows are kept from this number on: each key has one base and its later commits, and goes if nothing is left of it.
+-- Reads there and uncommitted writes are unchanged
 pub record HasRaised (to : ℕ) (old new : Versioned) : Type 0 where
+  pub tables : new.tables ≡ tables_from to old.tables
   pub database : (n : ℕ) → to ≤ n → database_at new n ≡ database_at old n
   pub own : (call : ℕ) → own_writes new call ≡ own_writes old call
   pub last : new.last ≡ old.last

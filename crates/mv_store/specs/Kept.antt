@@ -1,5 +1,5 @@
 -- Defines how a store is kept, key by key. This project's own.
-use Rattle.std.specs.Prelude.{◌≡◌, ◌+◌, ◌≤◌, ◌==◌, ◌&&◌, ◌∷◌, ⊤, ℕ, Bool, true, false, List, [], Option, Some, None, All, OnSome, length, nat_le, slice_index_or, if◌then◌else◌}
+use Rattle.std.specs.Prelude.{◌≡◌, ◌+◌, ◌≤◌, ◌==◌, ◌&&◌, ◌∷◌, ⊤, ℕ, Bool, true, false, List, [], Option, Some, None, All, IfSome, OnSome, length, nat_le, slice_index_or, if◌then◌else◌}
 use Rattle.std.specs.List.{list_any}
 use Rattle.std.specs.Option.{is_some}
 use Rattle.std.specs.Ordering.{is_eq, nat_cmp}
@@ -9,7 +9,7 @@ use Rattle.mv_values.specs.declared.value.Value.{Value}
 use Rattle.mv_values.specs.declared.patch.Patch.{Patch}
 use Rattle.mv_values.specs.Order.{key_order}
 use Rattle.mv_table.specs.Entries.{item_of, KeysRise}
-use Rattle.mv_chain.specs.Versions.{Versions, IsNext, blank, own_of, without, with_own, stamped, collected, row_at}
+use Rattle.mv_chain.specs.Versions.{Versions, IsNext, blank, is_blank, own_of, without, with_own, stamped, collected, row_at}
 use Rattle.mv_store.specs.Stored.{Entries}
 use Rattle.mv_store.specs.declared.spots.Spot.{Spot}
 use Rattle.mv_store.specs.declared.spots.Written.{Written}
@@ -39,6 +39,18 @@ versions_at tables t key = versions_of (entries_at tables t) key
 abbrev pub AllRise : List Entries → Type 0
 AllRise tables = (t : ℕ) → KeysRise (entries_at tables t)
 
+-- no item of a table is blank
+abbrev pub AreFilled : Entries → Type 0
+AreFilled es = (key : List Value) → IfSome (item_of es key) (λ v. is_blank v ≡ false)
+
+-- no item under another key is blank
+abbrev pub AreFilledBut : List Value → Entries → Type 0
+AreFilledBut key es = (other : List Value) → is_eq (key_order key other) ≡ false → IfSome (item_of es other) (λ v. is_blank v ≡ false)
+
+-- no item of the tables is blank
+abbrev pub AllFilled : List Entries → Type 0
+AllFilled tables = (t : ℕ) → AreFilled (entries_at tables t)
+
 -- the versions under a key of a table were changed by f, and all others are unchanged
 pub record IsChanged (key : List Value) (f : Versions → Versions) (old new : Entries) : Type 0 where
   pub at : (other : List Value) → versions_of new other ≡ (if is_eq (key_order key other) then f (versions_of old other) else versions_of old other)
@@ -49,12 +61,14 @@ pub record AreChanged (t : ℕ) (key : List Value) (f : Versions → Versions) (
   pub size : length new ≡ length old
   pub at : (u : ℕ) (other : List Value) → versions_at new u other ≡ (if (t == u) && is_eq (key_order key other) then f (versions_at old u other) else versions_at old u other)
   pub rising : AllRise old → AllRise new
+  pub filled : AllFilled old → AllFilled new
 
 -- the versions under each key were changed by f
 pub record AllChanged (f : Versions → Versions) (old new : List Entries) : Type 0 where
   pub size : length new ≡ length old
   pub at : (u : ℕ) (key : List Value) → versions_at new u key ≡ f (versions_at old u key)
   pub rising : AllRise old → AllRise new
+  pub filled : AllFilled old → AllFilled new
 
 -- Where calls have written
 
@@ -123,6 +137,7 @@ AreUpTo last tables = (t : ℕ) (key : List Value) → IsNext (last + 1) (versio
 -- the invariant of the parts of a store
 pub record IsKept (tables : List Entries) (spots : Noted) (last : ℕ) : Type 0 where
   pub rising : AllRise tables
+  pub filled : AllFilled tables
   pub numbers : AreUpTo last tables
   pub covered : IsCovered tables spots
   pub listed : IsListed tables spots.commits
@@ -167,6 +182,7 @@ pub record AreDone (f : Versions → Versions) (spots : List Spot) (old new : Li
   pub size : length new ≡ length old
   pub at : (u : ℕ) (key : List Value) → versions_at new u key ≡ done_at f spots u key (versions_at old u key)
   pub rising : AllRise old → AllRise new
+  pub filled : AllFilled old → AllFilled new
 
 -- all versions were collected, and each row from low on is unchanged
 pub record AreCollected (low : ℕ) (old new : List Entries) : Type 0 where

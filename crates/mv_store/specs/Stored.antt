@@ -1,13 +1,13 @@
 -- Defines tables stored in versions: their rows after each commit, and the uncommitted writes of calls. That the rows
 -- of a table are kept in versions is the paper's (Dashti, Basil John, Shaikhha and Koch, SIGMOD 2017); how the writes
 -- of a call become a commit is this project's own.
-use Rattle.std.specs.Prelude.{◌≡◌, ◌+◌, ◌++◌, ◌∷◌, ℕ, List, [], Option, length, map}
+use Rattle.std.specs.Prelude.{◌≡◌, ◌+◌, ◌++◌, ◌∷◌, ℕ, List, [], Option, Some, None, length, map, if◌then◌else◌}
 use Rattle.mv_values.specs.declared.value.Value.{Value}
 use Rattle.mv_values.specs.declared.rows.Keyed.{Keyed}
 use Rattle.mv_values.specs.declared.patch.Patch.{Patch}
 use Rattle.mv_values.specs.declared.patch.Write.{Write}
 use Rattle.mv_table.specs.Entries.{picked, stored}
-use Rattle.mv_chain.specs.Versions.{Versions, row_at, own_of}
+use Rattle.mv_chain.specs.Versions.{Versions, row_at, own_of, is_blank, collected}
 use Rattle.mv_record.specs.Writes.{AreRising}
 
 -- the versions under each key of a table
@@ -23,6 +23,14 @@ pub record Versioned : Type 0 where
 -- what f picks of the versions under each key
 abbrev pub held : {B : Type 0} → (Versions → Option B) → List Entries → List (List (List Value × B))
 held f tables = map (picked f) tables
+
+-- the versions, or none if they are blank
+abbrev pub unless_blank : Versions → Option Versions
+unless_blank v = if is_blank v then None else Some v
+
+-- the tables with all versions collected up to low, without the keys whose versions are blank then
+abbrev pub tables_from : ℕ → List Entries → List Entries
+tables_from low tables = held (λ v. unless_blank (collected low v)) tables
 
 -- the rows of a table after commit n
 abbrev pub table_at : ℕ → Entries → List Keyed

@@ -1,10 +1,10 @@
 //! Changes the versions under keys.
 
-ghost use Rattle.std.specs.Prelude.{◌≡◌, ℕ, true, List as Seq};
+ghost use Rattle.std.specs.Prelude.{◌≡◌, ℕ, false, true, List as Seq};
 ghost use Rattle.std.specs.Option.{option_copied};
 ghost use Rattle.mv_values.specs.declared.value.Value.{Value};
 ghost use Rattle.mv_chain.specs.Versions.{is_blank};
-ghost use Rattle.mv_store.specs.Kept.{versions_of, versions_at, spots_in, settled, MaySettle, changed, MayChange, KeepsRows, IsChanged, AreChanged, AreDone};
+ghost use Rattle.mv_store.specs.Kept.{versions_of, versions_at, spots_in, settled, MaySettle, changed, MayChange, KeepsRows, AreFilled, AreFilledBut, IsChanged, AreChanged, AreDone};
 
 use crate::spots::Spot;
 use mv_chain::chain::Chain;
@@ -51,12 +51,14 @@ fn make(chain: &mut Chain, change: Change)
     }
 }
 
-/// Changes the versions under a key of a table. Returns true only if they are blank then.
+/// Changes the versions under a key of a table. Returns whether blank versions are under the key then.
 fn change_item(table: &mut KeyMap<Chain>, key: &Key, to: Change) -> bool
     requires { MayChange to (versions_of table.old key.now) }
     ensures versions { IsChanged key.now (changed to) table.old table.new }
     ensures rows { KeepsRows to (versions_of table.old key.now) (versions_of table.new key.now) }
     ensures blank { result ≡ true → is_blank (versions_of table.new key.now) ≡ true }
+    ensures filled { result ≡ false → AreFilled table.old → AreFilled table.new }
+    ensures others { AreFilled table.old → AreFilledBut key.now table.new }
 {
     let Some(chain) = table.get_mut(key) else {
         return false;
@@ -68,7 +70,8 @@ fn change_item(table: &mut KeyMap<Chain>, key: &Key, to: Change) -> bool
 /// Removes blank versions under a key of a table.
 fn remove_blank(table: &mut KeyMap<Chain>, key: &Key)
     requires { is_blank (versions_of table.old key.now) ≡ true }
-    ensures { IsChanged key.now (λ v. v) table.old table.new }
+    ensures versions { IsChanged key.now (λ v. v) table.old table.new }
+    ensures filled { AreFilledBut key.now table.old → AreFilled table.new }
 {
     table.take(key);
     let _len = table.len();
@@ -79,6 +82,7 @@ fn change_under(table: &mut KeyMap<Chain>, key: &Key, to: Change)
     requires { MayChange to (versions_of table.old key.now) }
     ensures versions { IsChanged key.now (changed to) table.old table.new }
     ensures rows { KeepsRows to (versions_of table.old key.now) (versions_of table.new key.now) }
+    ensures filled { AreFilled table.old → AreFilled table.new }
 {
     if change_item(table, key, to) {
         remove_blank(table, key);

@@ -199,9 +199,10 @@ impl Store {
         self.spots.forget(call);
     }
 
-    /// Drops the tables before commit `low`. The number must not be below that of an earlier call. Reads from `low` on
-    /// and uncommitted writes are unaffected. It allocates no memory. Takes time linear in the number of writes of the
-    /// commits that it drops, and logarithmic in the number of rows for each.
+    /// Drops the tables before commit `low`. The number must not be below that of an earlier call. Of each key it keeps
+    /// one base and the later commits. A key without a row, later commits and uncommitted writes goes away. Reads from
+    /// `low` on and uncommitted writes are unaffected. It allocates no memory. Takes time linear in the number of writes
+    /// of the commits that it drops, and logarithmic in the number of rows for each.
     pub fn raise(&mut self, low: u32)
         requires { self.old.low ≤ low }
         ensures { HasRaised low self.old self.new }

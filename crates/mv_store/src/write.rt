@@ -3,7 +3,7 @@
 ghost use Rattle.std.specs.Prelude.{◌≡◌, false, OnOk, OnErr};
 ghost use Rattle.std.specs.Option.{is_some};
 ghost use Rattle.mv_chain.specs.Versions.{own_of};
-ghost use Rattle.mv_store.specs.Kept.{versions_of, spots_of, with_patch, IsChanged, HasSpot, KeepsSpots};
+ghost use Rattle.mv_store.specs.Kept.{versions_of, spots_of, with_patch, AreFilled, IsChanged, HasSpot, KeepsSpots};
 
 use crate::spots::{Spot, Spots};
 use mv_chain::chain::Chain;
@@ -58,6 +58,7 @@ pub(crate) fn put_write(
     ensures ok { OnOk result (IsChanged write.now.key (with_patch call write.now.patch) table.old table.new) }
     ensures err { OnErr result (IsChanged write.now.key (λ v. v) table.old table.new) }
     ensures kept { KeepsSpots spots.old spots.new }
+    ensures filled { AreFilled table.old → AreFilled table.new }
     ensures noted { OnOk result (is_some (own_of call (versions_of table.old write.now.key).own) ≡ false → HasSpot write.now.table write.now.key (spots_of spots.new call)) }
 {
     if let Some(chain) = table.get_mut(&write.key) {

@@ -344,7 +344,7 @@ fn one(alloc: Global, n: i64) -> Result<Changes, NoMemory> {
 }
 
 /// Returns three commits: the first changes row 1, the others row 2.
-fn three(alloc: Global) -> Result<Recent, NoMemory>
+pub(crate) fn three(alloc: Global) -> Result<Recent, NoMemory>
     ensures low { IfOk result (λ recent. recent.low ≡ 0) }
     ensures count { IfOk result (λ recent. length recent.commits ≡ 3) }
 {

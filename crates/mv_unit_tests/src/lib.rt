@@ -9,6 +9,8 @@ mod chains;
 #[cfg(test)]
 mod changes;
 #[cfg(test)]
+mod collections;
+#[cfg(test)]
 mod edges;
 #[cfg(test)]
 mod graphs;

@@ -48,7 +48,7 @@ fn commit(
 }
 
 /// Returns the row under a key that a reader finds after n commits.
-fn look_up(
+pub(crate) fn look_up(
     alloc: Global,
     store: &Store,
     n: u32,
@@ -349,7 +349,7 @@ fn reads_everywhere(alloc: Global, history: &History) -> Result<bool, NoMemory> 
 }
 
 /// Returns two tables of one row each.
-fn opening(alloc: Global) -> Result<Database, NoMemory> {
+pub(crate) fn opening(alloc: Global) -> Result<Database, NoMemory> {
     let mut database = List::new(alloc);
     for table in 0..TABLES {
         let mut rows = Rows::new(alloc);

@@ -1,10 +1,16 @@
 //! Scripts of TPC-C. Their lengths and checksums are those of another generator of the same rules, in another language.
+//! Those of the prints are of another printer too.
 
 ghost use Rattle.mv_tpccgen.specs.Loads.{IsLoad};
 
 use crate::cases::ensure;
+use crate::parsing::read;
+use mv_lex::lexer::lex;
+use mv_lex::token::{Kind, Token};
+use mv_print::print::print_script;
 use mv_tpccgen::load::Load;
 use mv_tpccgen::workload::workload;
+use mv_values::list::List;
 use mv_values::memory::NoMemory;
 use rand_core::{Rng, SeedableRng};
 use rand_xoshiro::SplitMix64;
@@ -77,4 +83,86 @@ fn a_script_for_most_warehouses_and_the_largest_seed_is_as_wanted(
     };
     let holds = has_script(rt.alloc(), &load, 2255567, 15295057820516949230)?;
     ensure(rt.alloc(), holds, "another script")
+}
+
+/// Returns the print of a script.
+fn print_of(alloc: Global, script: &[u8]) -> Result<List<u8>, Fail> {
+    let text = str::from_utf8(script).or(Err("no text"))?;
+    let Ok(tree) = read(alloc, text)? else {
+        return Err("no script".into());
+    };
+    Ok(print_script(alloc, &tree, text.as_bytes())?)
+}
+
+fn tokens_of(alloc: Global, script: &[u8]) -> Result<List<Token>, Fail> {
+    if script.len() > 1 << 24 {
+        return Err("too long".into());
+    }
+    Ok(lex(alloc, script).or(Err("no tokens"))?)
+}
+
+/// Returns the kind and the bytes of a token.
+fn spelled<'s>(script: &'s [u8], token: &Token) -> (Kind, &'s [u8]) {
+    let at = token.at as usize;
+    let bytes = script.get(at..at + token.len as usize);
+    (token.kind, bytes.unwrap_or(&[]))
+}
+
+/// Whether two tokens are the same. The case of letters counts in texts and blocks alone.
+fn is_same(one: (Kind, &[u8]), other: (Kind, &[u8])) -> bool {
+    let same = match one.0 {
+        Kind::Word | Kind::Variable => one.1.eq_ignore_ascii_case(other.1),
+        _ => one.1 == other.1,
+    };
+    one.0 == other.0 && same
+}
+
+/// Checks that two scripts have the same tokens.
+fn have_same_tokens(alloc: Global, one: &[u8], other: &[u8]) -> Result<(), Fail> {
+    let mine = tokens_of(alloc, one)?;
+    let theirs = tokens_of(alloc, other)?;
+    ensure(alloc, mine.len() == theirs.len(), "more or fewer tokens")?;
+    for (mine, theirs) in mine.as_slice().iter().zip(theirs.as_slice()) {
+        let same = is_same(spelled(one, mine), spelled(other, theirs));
+        ensure(alloc, same, "another token")?;
+    }
+    Ok(())
+}
+
+/// Checks the length and the checksum of the print of a load's script, that it has the tokens of the script, and that it
+/// is its own print.
+fn prints(alloc: Global, load: &Load, len: usize, sum: u64) -> Result<(), Fail>
+    requires { IsLoad load.now }
+{
+    let script = workload(alloc, load)?;
+    let print = print_of(alloc, script.as_slice())?;
+    let is_wanted = print.len() == len && checksum(print.as_slice()) == sum;
+    ensure(alloc, is_wanted, "another print")?;
+    have_same_tokens(alloc, script.as_slice(), print.as_slice())?;
+    let again = print_of(alloc, print.as_slice())?;
+    ensure(
+        alloc,
+        again.as_slice() == print.as_slice(),
+        "another print of the print",
+    )
+}
+
+#[test]
+fn a_script_for_one_warehouse_is_printed(rt: HostRuntime) -> Result<(), Fail> {
+    let load = Load {
+        warehouses: 1,
+        calls: 200,
+        seed: 1,
+    };
+    prints(rt.alloc(), &load, 191868, 8230893351668217303)
+}
+
+#[test]
+fn a_script_for_two_warehouses_is_printed(rt: HostRuntime) -> Result<(), Fail> {
+    let load = Load {
+        warehouses: 2,
+        calls: 50,
+        seed: 0,
+    };
+    prints(rt.alloc(), &load, 308026, 11272585219676520024)
 }

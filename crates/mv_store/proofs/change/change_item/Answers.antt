@@ -2,9 +2,13 @@ use Rattle.std.proofs.Common.{sym, ap, subst, ◌∙◌}
 use Rattle.std.specs.Option.{OnSome}
 use Rattle.mv_table.specs.Lending.{HasItem}
 use Rattle.mv_chain.specs.Versions.{is_blank}
-use Rattle.mv_store.specs.Kept.{versions_in, versions_of, changed, KeepsRows}
+use Rattle.mv_store.specs.Kept.{versions_in, versions_of, changed, KeepsRows, AreFilled, AreFilledBut}
+use Rattle.mv_store.proofs.Filled.{filled_but, filled_there, filled_others}
 use Rattle.mv_store.proofs.Done.{changed_there, changed_nowhere, changed_blank, item_there}
 use Rattle.mv_store.proofs.change.change_item.Goals as goal
+
+lent : (c : goal.After-table-2-1) → HasItem c.args.key.now c.make.new.chain c.args.table.now (c.get_mut.follows.lender c.make.new.chain)
+lent c = subst (λ o. OnSome o (HasItem c.args.key.now c.make.new.chain c.args.table.now (c.get_mut.follows.lender c.make.new.chain))) c.in-Some.is (c.get_mut.follows.holds c.make.new.chain)
 
 pub returns-in_default-clause-versions : goal.returns-in_default-clause-versions
 returns-in_default-clause-versions c =
@@ -12,25 +16,31 @@ returns-in_default-clause-versions c =
 
 pub returns-clause-versions : goal.returns-clause-versions
 returns-clause-versions c =
-    let key = c.args.key.now in
-    let w = c.make.new.chain in
-    let new = c.get_mut.follows.lender w in
-    changed_there key (changed c.args.to) c.in-Some.chain.now w c.args.table.now new (sym c.in-Some.ensures.item) c.make.ensures.versions
-    (subst (λ o. OnSome o (HasItem key w c.args.table.now new)) c.in-Some.is (c.get_mut.follows.holds w))
+    changed_there c.args.key.now (changed c.args.to) c.in-Some.chain.now c.make.new.chain c.args.table.now (c.get_mut.follows.lender c.make.new.chain) (sym c.in-Some.ensures.item) c.make.ensures.versions (lent c)
 
 pub returns-clause-rows : goal.returns-clause-rows
 returns-clause-rows c =
     let key = c.args.key.now in
     let w = c.make.new.chain in
     let new = c.get_mut.follows.lender w in
-    let lent = subst (λ o. OnSome o (HasItem key w c.args.table.now new)) c.in-Some.is (c.get_mut.follows.holds w) in
     subst (λ v. KeepsRows c.args.to v (versions_of new key)) (ap versions_in c.in-Some.ensures.item)
-    (subst (KeepsRows c.args.to c.in-Some.chain.now) (sym (item_there key w c.args.table.now new lent)) c.make.ensures.rows)
+    (subst (KeepsRows c.args.to c.in-Some.chain.now) (sym (item_there key w c.args.table.now new (lent c))) c.make.ensures.rows)
 
 pub returns-clause-blank : goal.returns-clause-blank
 returns-clause-blank c = λ e.
     let key = c.args.key.now in
     let w = c.make.new.chain in
     let new = c.get_mut.follows.lender w in
-    let lent = subst (λ o. OnSome o (HasItem key w c.args.table.now new)) c.in-Some.is (c.get_mut.follows.holds w) in
-    ap is_blank (item_there key w c.args.table.now new lent) ∙ (sym c.is_blank.ensures ∙ e)
+    ap is_blank (item_there key w c.args.table.now new (lent c)) ∙ (sym c.is_blank.ensures ∙ e)
+
+pub returns-in_default-clause-filled : goal.returns-in_default-clause-filled
+returns-in_default-clause-filled c = λ e f. subst AreFilled (sym c.get_mut.follows.holds-at-none) f
+
+pub returns-in_default-clause-others : goal.returns-in_default-clause-others
+returns-in_default-clause-others c = λ f. subst (AreFilledBut c.args.key.now) (sym c.get_mut.follows.holds-at-none) (filled_but c.args.key.now c.args.table.now f)
+
+pub returns-clause-filled : goal.returns-clause-filled
+returns-clause-filled c = λ e. filled_there c.args.key.now c.make.new.chain c.args.table.now (c.get_mut.follows.lender c.make.new.chain) (sym c.is_blank.ensures ∙ e) (lent c)
+
+pub returns-clause-others : goal.returns-clause-others
+returns-clause-others c = filled_others c.args.key.now c.make.new.chain c.args.table.now (c.get_mut.follows.lender c.make.new.chain) (lent c)

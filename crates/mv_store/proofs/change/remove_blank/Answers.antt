@@ -1,5 +1,10 @@
+use Rattle.std.proofs.Common.{None}
 use Rattle.mv_store.proofs.Done.{removed}
+use Rattle.mv_store.proofs.Filled.{filled_by}
 use Rattle.mv_store.proofs.change.remove_blank.Goals as goal
 
-pub returns : goal.returns
-returns c = removed c.args.key.now c.args.table.now c.take.new.self c.requires c.take.ensures.at c.len-len.ensures.rising
+pub returns-clause-versions : goal.returns-clause-versions
+returns-clause-versions c = removed c.args.key.now c.args.table.now c.take.new.self c.requires c.take.ensures.at c.len-len.ensures.rising
+
+pub returns-clause-filled : goal.returns-clause-filled
+returns-clause-filled c = filled_by c.args.key.now None c.args.table.now c.take.new.self c.take.ensures.at tt

@@ -1,12 +1,11 @@
-use Rattle.std.proofs.Common.{◌≡◌, sym, ap, subst, ◌∙◌, cond, Some}
-use Rattle.std.specs.Ordering.{is_eq}
+use Rattle.std.proofs.Common.{sym, ap, subst, ◌∙◌, Some}
 use Rattle.std.proofs.lemmas.Result.{on_ok_weaker, on_err_weaker}
-use Rattle.mv_values.specs.Order.{key_order}
-use Rattle.mv_table.specs.Entries.{item_of}
 use Rattle.std.specs.Option.{OnSome}
 use Rattle.mv_table.specs.Lending.{HasItem}
+use Rattle.mv_chain.specs.Versions.{is_blank}
 use Rattle.mv_store.specs.Kept.{with_patch}
 use Rattle.mv_store.proofs.Done.{changed_there, changed_new}
+use Rattle.mv_store.proofs.Filled.{put_under, patch_fills, filled_but, filled_by, filled_put}
 use Rattle.mv_store.proofs.write.put_write.Goals as goal
 
 lent : (c : goal.After-table-in-Some-1) → HasItem c.args.write.now.key c.put_patch.new.chain c.args.table.now (c.get_mut.follows.lender c.put_patch.new.chain)
@@ -24,11 +23,18 @@ returns-in-Some-clause-err c =
 
 pub returns-clause-ok : goal.returns-clause-ok
 returns-clause-ok c =
-    let key = c.args.write.now.key in
     let f = with_patch c.args.call c.args.write.now.patch in
-    let was = c.get_mut.follows.lender-at-none in
-    changed_new key f c.put_patch-2.new.chain c.args.table.now c.put.new.self (sym c.in_default.ensures.item) (c.in_ok-put_patch.ensures.ok ∙ ap f c.new-chain.ensures)
-    (λ other.
-    subst (λ es. item_of c.put.new.self other ≡ cond (is_eq (key_order key other)) (Some c.put_patch-2.new.chain) (item_of es other)) c.get_mut.follows.holds-at-none
-    (subst (λ k. item_of c.put.new.self other ≡ cond (is_eq (key_order k other)) (Some c.put_patch-2.new.chain) (item_of was other)) c.in_ok-key.ensures (c.in_ok-put.ensures.at other)))
+    changed_new c.args.write.now.key f c.put_patch-2.new.chain c.args.table.now c.put.new.self (sym c.in_default.ensures.item) (c.in_ok-put_patch.ensures.ok ∙ ap f c.new-chain.ensures)
+    (put_under c.args.write.now.key c.in_ok-key.key c.put_patch-2.new.chain c.args.table.now c.get_mut.follows.lender-at-none c.put.new.self c.get_mut.follows.holds-at-none c.in_ok-key.ensures c.in_ok-put.ensures.at)
     c.in_ok-put.ensures.rising
+
+pub returns-in-Some-clause-filled : goal.returns-in-Some-clause-filled
+returns-in-Some-clause-filled c =
+    let w = c.args.write.now in
+    filled_put c.put_patch.result c.args.call w.patch w.key c.in-Some.chain.now c.put_patch.new.chain c.args.table.now (c.get_mut.follows.lender c.put_patch.new.chain) (sym c.in-Some.ensures.item) c.put_patch.ensures.ok c.put_patch.ensures.err (lent c)
+
+pub returns-clause-filled : goal.returns-clause-filled
+returns-clause-filled c =
+    let w = c.args.write.now in
+    λ f.
+    filled_by w.key (Some c.put_patch-2.new.chain) c.args.table.now c.put.new.self (put_under w.key c.in_ok-key.key c.put_patch-2.new.chain c.args.table.now c.get_mut.follows.lender-at-none c.put.new.self c.get_mut.follows.holds-at-none c.in_ok-key.ensures c.in_ok-put.ensures.at) (ap is_blank c.in_ok-put_patch.ensures.ok ∙ patch_fills c.args.call w.patch c.new-chain.result) (filled_but w.key c.args.table.now f)

@@ -2,7 +2,7 @@ use Rattle.std.proofs.Common.{◌≡◌, ◌<◌, ◌≤◌, length, refl, subst
 use Rattle.std.proofs.lemmas.Result.{on_ok_weaker, on_err_weaker}
 use Rattle.mv_store.specs.Stored.{Versioned}
 use Rattle.mv_store.specs.Changes.{HasPut, IsAsBefore}
-use Rattle.mv_store.specs.Kept.{entries_at, with_patch, IsChanged}
+use Rattle.mv_store.specs.Kept.{entries_at, with_patch, AreFilled, IsChanged}
 use Rattle.mv_store.proofs.Done.{tables_changed}
 use Rattle.mv_store.proofs.Rows.{at_place}
 use Rattle.mv_store.proofs.Laws.{put_one, put_none, put_any, all_same}
@@ -17,11 +17,14 @@ within c = search rules
 there : (c : goal.After-self-1) → c.index_mut.result.now ≡ entries_at c.self.inside.tables.items c.args.write.now.table
 there c = at_place c.self.inside.tables.items c.args.write.now.table c.index_mut.result.now (within c) c.index_mut.ensures.value
 
+filled : (c : goal.After-self-1) → AreFilled (entries_at c.self.inside.tables.items c.args.write.now.table) → AreFilled c.put_write.new.table
+filled c = subst (λ es. AreFilled es → AreFilled c.put_write.new.table) (there c) c.put_write.ensures.filled
+
 pub invariant_of-self : goal.invariant_of-self
 invariant_of-self c =
     let w = c.args.write.now in
     put_any c.put_write.result w.table c.args.call c.self.inside.last w.key w.patch c.self.inside.tables.items _ c.index_mut.result.now c.put_write.new.table c.self.inside.spots c.put_write.new.spots c.self.invariant
-    (within c) (there c) c.put_write.ensures.ok c.put_write.ensures.err c.put_write.ensures.kept c.put_write.ensures.noted refl
+    (within c) (there c) c.put_write.ensures.ok c.put_write.ensures.err c.put_write.ensures.filled c.put_write.ensures.kept c.put_write.ensures.noted refl
 
 pub returns-clause-ok : goal.returns-clause-ok
 returns-clause-ok c =
@@ -32,7 +35,7 @@ returns-clause-ok c =
     on_ok_weaker c.put_write.result (λ h.
     subst (λ v. HasPut c.args.call (w ∷ []) v new) c.self.view_is
     (put_one c.args.call w old new c.self.invariant.rising
-    (tables_changed w.table w.key (with_patch c.args.call w.patch) tables new.tables c.put_write.new.table (within c) (subst (λ es. IsChanged w.key (with_patch c.args.call w.patch) es c.put_write.new.table) (there c) h) refl)
+    (tables_changed w.table w.key (with_patch c.args.call w.patch) tables new.tables c.put_write.new.table (within c) (subst (λ es. IsChanged w.key (with_patch c.args.call w.patch) es c.put_write.new.table) (there c) h) (filled c) refl)
     refl refl)) c.put_write.ensures.ok
 
 pub returns-clause-err : goal.returns-clause-err
@@ -44,5 +47,5 @@ returns-clause-err c =
     on_err_weaker c.put_write.result (λ h.
     subst (λ v. IsAsBefore v new) c.self.view_is
     (all_same w.table w.key old new c.self.invariant.rising
-    (tables_changed w.table w.key (λ v. v) tables new.tables c.put_write.new.table (within c) (subst (λ es. IsChanged w.key (λ v. v) es c.put_write.new.table) (there c) h) refl)
+    (tables_changed w.table w.key (λ v. v) tables new.tables c.put_write.new.table (within c) (subst (λ es. IsChanged w.key (λ v. v) es c.put_write.new.table) (there c) h) (filled c) refl)
     refl refl)) c.put_write.ensures.err

@@ -11,4 +11,4 @@ pub returns : goal.returns
 returns c =
     let old : Versioned = record { tables = c.self.inside.tables.items; last = c.self.inside.last; low = c.self.inside.low } in
     let new : Versioned = record { tables = c.collect_all.new.tables.items; last = c.self.inside.last; low = c.args.low } in
-    subst (λ v. HasRaised c.args.low v new) c.self.view_is (all_raised c.args.low old new c.self.invariant.rising (c.collect_all.ensures c.self.inside.last c.self.invariant).0 refl refl)
+    subst (λ v. HasRaised c.args.low v new) c.self.view_is (all_raised c.args.low old new c.self.invariant.rising c.self.invariant.filled (c.collect_all.ensures c.self.inside.last c.self.invariant).0 refl refl)
