@@ -1,9 +1,10 @@
 -- What stays of a history where no event is made, and a call after an event.
-use Rattle.std.proofs.Common.{◌≡◌, ℕ, ◌+◌, ◌<◌, ◌≤◌, Bool, true, false, List, [], ◌∷◌, ◌++◌, Option, Some, None, length, refl, sym, ap, subst, ◌∙◌, arith, rules}
-use Rattle.std.specs.Prelude.{slice_get, ◌==◌, ◌≢◌, Ok, Err, not, IfSome, nat_le, nat_lt, nat_eq}
+use Rattle.std.proofs.Common.{◌≡◌, ℕ, ◌+◌, ◌<◌, ◌≤◌, Bool, true, false, List, [], ◌∷◌, ◌++◌, Option, Some, None, Result, length, refl, sym, ap, subst, ◌∙◌, arith, rules}
+use Rattle.std.specs.Prelude.{slice_get, ◌==◌, ◌≢◌, Ok, Err, not, IfSome, IsErrAnd, nat_le, nat_lt, nat_eq}
 use Rattle.std.specs.Option.{is_some}
 use Rattle.std.proofs.lemmas.Bool.Decides.{eqb_tells}
 use Rattle.mv_values.specs.declared.calls.Call.{Call}
+use Rattle.mv_values.specs.declared.memory.NoMemory.{NoMemory}
 use Rattle.mv_record.specs.declared.record.Record.{Record}
 use Rattle.mv_record.specs.Runs.{Tables}
 use Rattle.mv_record.specs.Writes.{AreRising}
@@ -19,23 +20,26 @@ use Rattle.mv_lawful.specs.Rounds.{later_run, repair_run, rounds_of}
 use Rattle.mv_lawful.specs.Outcomes.{turns_of}
 use Rattle.mv_lawful.specs.Work.{Work, records_at}
 use Rattle.mv_lawful.specs.declared.fault.Fault.TheVariants.{Idle, Stale, Rounds}
-use Rattle.mv_lawful.specs.Lawful.{Live, Course, again, finish, used, has_step, has_round, is_stale, unless, refusal, after}
+use Rattle.mv_lawful.specs.Lawful.{Live, Course, again, finish, change_live, used, has_step, has_round, is_stale, unless, refusal, after}
 use Rattle.mv_core.specs.declared.script.Script.{Script}
 use Rattle.mv_core.specs.Rooms.{Filled}
 use Rattle.mv_core.specs.Scripts.{work_of, IsScript}
 use Rattle.mv_core.specs.declared.tasks.Running.{Running}
 use Rattle.mv_core.specs.Calls.{IsLive, IsLiveCall, last_number, due_number}
-use Rattle.mv_core.specs.Books.{Booked, work_in, Made, IsSame, round_event, IsOwnBy, IsOwnNumber, IsAnswer, HasRoom, IsNotStale}
+use Rattle.mv_core.specs.Books.{Booked, work_in, Made, IsSame, round_event, due_after, IsOwnBy, IsOwnNumber, IsAnswer, HasRoom, IsNotStale}
 use Rattle.mv_core.specs.declared.book.Check.{Check}
+use Rattle.mv_core.specs.declared.engine.Attempt.{Attempt}
+use Rattle.mv_view.specs.declared.view.Refused.{Refused}
+use Rattle.mv_view.specs.declared.view.Refused.TheVariants as refused
 use Rattle.mv_core.specs.declared.book.Check.TheVariants as check
 use Rattle.mv_core.specs.Drives.{HasMade, TellsRound}
-use Rattle.mv_core.specs.declared.drive.Refusal.TheVariants.{Refused}
-use Rattle.mv_core.specs.Cores.{IsAllowedIfFresh, IsHitAt, IsStaleAt, IsLiveTask, HasTurns, HasStep, MayStep, IsStoreOf, IsCore}
+use Rattle.mv_core.specs.declared.drive.Refusal.TheVariants as drive
+use Rattle.mv_core.specs.Cores.{IsAllowedIfFresh, IsHitAt, IsStaleAt, IsLiveTask, IsRunning, HasTurns, HasStep, MayStep, HasTried, HasCommitted, HasRepaired, IsStoreOf, IsCore}
 use Rattle.mv_core.proofs.Numbers.{repair_stays}
 use Rattle.mv_core.proofs.Journals.{changed_at, set_there}
 use Rattle.mv_core.proofs.Keeping.{restart_after}
 use Rattle.mv_core.proofs.Stored.{stored_same, at_least}
-use Rattle.mv_core.proofs.Taking.{both_true, tasks_same, due_live, number_again, one_live}
+use Rattle.mv_core.proofs.Taking.{both_true, tasks_same, number_again, one_live}
 use Rattle.mv_core.proofs.Refusing.{Repairs, repairs_again, repairs_last, step_is, same_made, refused_stale, fresh_allowed, told_idle, told_stale, told_hit}
 use Rattle.mv_store.specs.Stored.{Versioned}
 
@@ -54,6 +58,45 @@ made_from e old mid new script course journal m = record {
 
 pub made_after : (e : Event) (old mid new : Booked) → IsSame old mid → Made e mid new → Made e old new
 made_after e old mid new same m = made_from e old mid new same.script same.course same.journal m
+
+-- no event, twice
+pub same_both : (old mid new : Booked) → IsSame old mid → IsSame mid new → IsSame old new
+same_both old mid new a b = record {
+  script = b.script ∙ a.script;
+  course = b.course ∙ a.course;
+  settled = λ c has. b.settled c (a.settled c has);
+  journal = b.journal ∙ a.journal;
+}
+
+-- what is said of the script and the course is said of the other ones too
+pub on_new : (P : Script → Course → Type 0) (old new : Booked) → IsSame old new → P old.script old.course → P new.script new.course
+on_new P old new same p = subst (λ s. P s new.course) (sym same.script) (subst (P old.script) (sym same.course) p)
+
+pub on_old : (P : Script → Course → Type 0) (old new : Booked) → IsSame old new → P new.script new.course → P old.script old.course
+on_old P old new same p = subst (λ s. P s old.course) same.script (subst (P new.script) same.course p)
+
+pub running_same : (old new : Booked) (store : Versioned) (c : ℕ) (t : Running) → IsSame old new → IsRunning old store c t → IsRunning new store c t
+running_same old new store c t same r = record {
+  stored = stored_same old new store r.stored same;
+  live = on_new (λ s x. IsLiveCall x c) old new same r.live;
+  number = on_new (λ s x. c < length s.calls) old new same r.number;
+  task = on_new (λ s x. (l : Live) → IsLive x c l → IsLiveTask s x.order c l t) old new same r.task;
+}
+
+-- a commit after no event
+pub committed_after : (e : Event) (r : Result ℕ NoMemory) (old mid new : Booked) → IsSame old mid → HasCommitted e r mid new → HasCommitted e r old new
+committed_after e (Ok n) old mid new same h = (made_after e old mid new same h.0, h.1 ∙ ap (λ (s : Course). length s.order + 1) same.course)
+committed_after e (Err x) old mid new same h = same_both old mid new same h
+
+-- where memory ran out
+pub try_failed : (Q : NoMemory → Type 0) (c : ℕ) (r : Result Attempt NoMemory) (old new : Booked) → IsErrAnd r Q → IsSame old new → HasTried c r old new
+try_failed Q c (Ok a) old new err same = absurd err
+try_failed Q c (Err e) old new err same = same
+
+pub repair_failed : (c : ℕ) (r : Result ℕ Refused) (old new : Booked) → IsErrAnd r (λ e. e ≡ refused.NoMemory) → IsSame old new → HasRepaired c r old new
+repair_failed c (Ok n) old new err same = absurd err
+repair_failed c (Err refused.NoMemory) old new err same = same
+repair_failed c (Err (refused.Stale start low)) old new err same = absurd (search (rules, err))
 
 pub due_same : (old new : Booked) (c n : ℕ) → new.script ≡ old.script → new.course ≡ old.course → due_number (work_in old) old.course c ≡ Some n → due_number (work_in new) new.course c ≡ Some n
 due_same old new c n script course is =
@@ -96,18 +139,22 @@ live_restarted m c old new l ne live made = record {
   live = live.live;
 }
 
--- its order is the old one
-order_restarted : (m : Mark) (c : ℕ) (old new : Booked) → m ≢ Exclusive → Made (round_event m c) old new → new.course.order ≡ old.course.order
-order_restarted m c old new ne made = ap (λ (s : Course). s.order) (made.course ∙ restart_after (work_in old) old.course m c ne)
-
 -- its number
-pub due_restarted : (m : Mark) (b new : Booked) (c : ℕ) (l : Live) → m ≢ Exclusive → IsLive b.course c l → HasTurns (length b.course.order) l → Made (round_event m c) b new
-    → due_number (work_in new) new.course c ≡ Some (later_run (work_in b) b.course.order c l.start (length b.course.order) m)
-due_restarted m b new c l ne live turns made =
-    due_live (work_in new) new.course c (again (length b.course.order) m l) (live_restarted m c b new l ne live made)
-    ∙ (ap (λ (s : Script). last_number (rounds_of (work_of s) new.course.order c (again (length b.course.order) m l).turns)) made.script
-    ∙ (ap (λ o. last_number (rounds_of (work_in b) o c (again (length b.course.order) m l).turns)) (order_restarted m c b new ne made)
-    ∙ number_again (work_in b) b.course.order c (length b.course.order) (length b.course.order) m l turns))
+pub due_restarted : (m : Mark) (b : Booked) (c : ℕ) (l : Live) → m ≢ Exclusive → IsLive b.course c l → HasTurns (length b.course.order) l
+    → due_after b m c ≡ Some (later_run (work_in b) b.course.order c l.start (length b.course.order) m)
+due_restarted m b c l ne live turns =
+    ap (λ (s : Course). due_number (work_in b) s c) (restart_after (work_in b) b.course m c ne)
+    ∙ (ap (λ o. last_number (rounds_of (work_in b) b.course.order c (turns_of o))) there ∙ number_again (work_in b) b.course.order c (length b.course.order) (length b.course.order) m l turns) where
+      there : slice_get (change_live (slice_get b.course.calls c) (again (length b.course.order) m) b.course.calls c) c ≡ Some (again (length b.course.order) m l)
+      there = ap (λ ls. slice_get ls c) (changed_at b.course.calls c (again (length b.course.order) m) l live.at) ∙ set_there b.course.calls c (again (length b.course.order) m l) l live.at
+
+pub due_made : (m : Mark) (old new : Booked) (c n : ℕ) → Made (round_event m c) old new → due_after old m c ≡ Some n → due_number (work_in new) new.course c ≡ Some n
+due_made m old new c n made is = ap (λ (s : Script). due_number (work_of s) new.course c) made.script ∙ (ap (λ (s : Course). due_number (work_in old) s c) made.course ∙ is)
+
+pub due_after_same : (m : Mark) (old new : Booked) (c n : ℕ) → new.script ≡ old.script → new.course ≡ old.course → due_after old m c ≡ Some n → due_after new m c ≡ Some n
+due_after_same m old new c n script course is =
+    ap (λ (s : Script). due_number (work_of s) (after (work_of s) new.course (round_event m c)) c) script
+    ∙ (ap (λ (s : Course). due_number (work_in old) (after (work_in old) s (round_event m c)) c) course ∙ is)
 
 -- the number of a repair that commits in its own step
 pub due_decided : (b : Booked) (c : ℕ) (l : Live) → IsLive b.course c l → HasTurns (length b.course.order) l
@@ -138,9 +185,6 @@ step_now b now new c is has same =
 pub made_now : (e : Event) (b now mid new : Booked) → b ≡ now → IsSame b mid → Made e mid new → Made e now new
 made_now e b now mid new is same m = subst (λ (x : Booked). Made e x new) is (made_after e b mid new same m)
 
-pub made_then : (e : Event) (old mid new : Booked) → Made e old mid → new.script ≡ mid.script → new.course ≡ mid.course → new.journal ≡ mid.journal → Made e old new
-made_then e old mid new m script course journal = record { allowed = m.allowed; course = course ∙ m.course; journal = journal ∙ m.journal; script = script ∙ m.script }
-
 -- a start that isn't below low
 pub fresh_now : (b : Booked) (store : Versioned) (c start low : ℕ) → IsStoreOf b store → ((l : Live) → IsLive b.course c l → start ≡ l.start) → low ≡ store.low → (start < low → ⊥) → IsNotStale b c
 fresh_now b store c start low k at low_at fresh l live = at_least l.start b.course.low (let a = at l live in let d = k.low_is in omega (arith, a, d, low_at, fresh))
@@ -170,6 +214,11 @@ live_in b now c is live = subst (λ (x : Booked). IsLiveCall x.course c) (sym is
 pub may_by : (b : Booked) (c : ℕ) (more : Bool) (l : Live) → IsLive b.course c l → has_step (work_in b) b.course c l ≡ more → MayStep more b c
 may_by b c true l live is = ((l, live), λ m at. subst (λ (x : Live). has_step (work_in b) b.course c x ≡ true) (one_live b.course c l m live at) is)
 may_by b c false l live is = λ m at. subst (λ (x : Live). has_step (work_in b) b.course c x ≡ false) (one_live b.course c l m live at) is
+
+-- so its statements have run, or not
+pub ended_told : (b : Booked) (c : ℕ) (more : Bool) → MayStep more b c → (l : Live) → IsLive b.course c l → not more ≡ not (has_step (work_in b) b.course c l)
+ended_told b c true may l live = ap not (sym (may.1 l live))
+ended_told b c false may l live = ap not (sym (may l live))
 
 pub not_one : (n : ℕ) → (n ≡ 1 → ⊥) → nat_eq n 1 ≡ false
 not_one n h = by (nat_eq n 1) refl where
@@ -211,7 +260,7 @@ stale_told b c start low a l told is live =
       below n m e = grind (arith, e)
 
 pub same_self : (b : Booked) → IsSame b b
-same_self b = record { script = refl; course = refl; rounds = refl; journal = refl }
+same_self b = record { script = refl; course = refl; settled = λ c has. has; journal = refl }
 
 -- Whether a call is repaired
 
@@ -245,14 +294,14 @@ last_law : (old : Booked) (c : ℕ) (l : Live) → IsLive old.course c l → Rep
 last_law old c l live = repairs_last (work_in old) old.course c l live
 
 -- no commit hits it
-pub idle_told : (old new : Booked) (c : ℕ) (a : Check) (l : Live) → IsSame old new → IsLive old.course c l → ((m : Live) → IsLive old.course c m → IsAnswer a (work_in old) old.course c m) → a ≡ check.Free → TellsRound c (Err (Refused Idle)) old new
+pub idle_told : (old new : Booked) (c : ℕ) (a : Check) (l : Live) → IsSame old new → IsLive old.course c l → ((m : Live) → IsLive old.course c m → IsAnswer a (work_in old) old.course c m) → a ≡ check.Free → TellsRound c (Err (drive.Refused Idle)) old new
 idle_told old new c a l same live told is = (
   idle_refused old new c a l (A c) (has_round (work_in old) l) same live (again_law old c l live) told is,
   idle_refused old new c a l (X c) (not (has_round (work_in old) l)) same live (last_law old c l live) told is,
 )
 
 -- its start is below low
-pub stale_round : (old new : Booked) (c start low : ℕ) (a : Check) (l : Live) → IsSame old new → IsLive old.course c l → ((m : Live) → IsLive old.course c m → IsAnswer a (work_in old) old.course c m) → a ≡ check.Stale start low → TellsRound c (Err (Refused Stale)) old new
+pub stale_round : (old new : Booked) (c start low : ℕ) (a : Check) (l : Live) → IsSame old new → IsLive old.course c l → ((m : Live) → IsLive old.course c m → IsAnswer a (work_in old) old.course c m) → a ≡ check.Stale start low → TellsRound c (Err (drive.Refused Stale)) old new
 stale_round old new c start low a l same live told is = (
   stale_refused old new c start low a l (A c) (has_round (work_in old) l) same live (again_law old c l live) told is,
   stale_refused old new c start low a l (X c) (not (has_round (work_in old) l)) same live (last_law old c l live) told is,

@@ -12,7 +12,7 @@ use Rattle.mv_journal.specs.declared.outcome.Mark.{Mark}
 use Rattle.mv_journal.specs.declared.outcome.Mark.TheVariants.{Plain, Exclusive, Moved}
 use Rattle.mv_journal.specs.declared.outcome.Round.{Round}
 use Rattle.mv_lawful.specs.Work.{Work, table_at}
-use Rattle.mv_lawful.specs.Lawful.{Turn, Live, Course, beginning, begin, again, finish, with_call, change_live, refusal, after, reach, AllAllowed}
+use Rattle.mv_lawful.specs.Lawful.{Turn, Live, Course, beginning, begin, again, finish, used, with_call, change_live, refusal, after, reach, AllAllowed}
 use Rattle.mv_lawful.specs.Rounds.{rounds_of}
 use Rattle.mv_lawful.specs.Outcomes.{turns_of}
 use Rattle.mv_core.specs.declared.script.Script.{Script}
@@ -22,9 +22,9 @@ use Rattle.mv_core.specs.declared.book.Book.TheInside.{Inside}
 use Rattle.mv_core.specs.contracts.book.Book.{the_view}
 use Rattle.mv_core.specs.Rooms.{Filled}
 use Rattle.mv_core.specs.Scripts.{work_of}
-use Rattle.mv_core.specs.Calls.{Within, turn_of, turns_in, live_of, IsLive, IsLiveCall, numbered, last_number, closed, unknown, due_number, committed, with_own, AreRounds, IsReply, TellsBy, TellsCall, IsFresh}
-use Rattle.mv_core.specs.Books.{Booked, IsKept, IsSame, work_in, kept_rounds, Made, HasBegun, HasRoom, HasRounds, IsSettled, IsOwnBy, round_event, commit_event}
-use Rattle.mv_core.proofs.Numbers.{turns_numbered, turns_closed, last_numbered, table_stays, rounds_stay, rounds_begin, closes, settled, settles, rounds_end}
+use Rattle.mv_core.specs.Calls.{Within, turn_of, turns_in, live_of, IsLive, IsLiveCall, numbered, last_number, closed, counted, uncounted, due_number, committed, with_own, AreRounds, IsReply, TellsBy, TellsCall, IsFresh}
+use Rattle.mv_core.specs.Books.{Booked, IsKept, IsSame, work_in, kept_rounds, Made, HasBegun, HasRoom, HasRounds, IsSettled, IsFirstNumber, IsOwnBy, round_event, commit_event}
+use Rattle.mv_core.proofs.Numbers.{turns_numbered, turns_closed, last_numbered, table_stays, rounds_stay, last_of_end, closes, settled, settles, rounds_end, all_known}
 use Rattle.mv_core.specs.Lives.{live_numbers, without}
 use Rattle.mv_core.proofs.Lives.{live_kept, live_gone, live_begun, live_below}
 use Rattle.mv_core.proofs.Journals.{get_last, get_set, set_there, facts_of, Facts, CallFacts, live_at, changed_at, done_in, done_within, done_below, reach_more, allowed_more, live_apart, found_last, found_stays}
@@ -105,7 +105,7 @@ kept_begun s order low n ps journal longer q k lt is fresh adds = (free, kept_ev
   calls = map-append live_of ps (q ∷ []) ∙ ap (λ l. map live_of ps ++ l ∷ []) fresh.live
 
   tells : (d : ℕ) → TellsCall (work_of s) order d q
-  tells d = subst (λ (rs : List Round). TellsBy (work_of s) order d rs q.reply) (sym fresh.rounds) (subst (TellsBy (work_of s) order d (unknown (length order) Plain ∷ [])) (sym fresh.reply) (inr refl))
+  tells d = subst (λ (rs : List Round). TellsBy (work_of s) order d rs q.reply) (sym fresh.rounds) (subst (TellsBy (work_of s) order d (uncounted (length order) ∷ [])) (sym fresh.reply) (inr (refl, refl)))
 
   by : (d : ℕ) (x : Progress) → (slice_get ps d ≡ Some x) ⊎ ((d ≡ length ps) × (q ≡ x)) → TellsCall (work_of s) order d x
   by d x (inl h) = k.tells d x h
@@ -292,7 +292,10 @@ all_begun i old is k le =
     let f : Facts (work_of i.script) (length i.journal.items) (the_course i.order.items i.low (map live_of i.calls.items)) = facts i.script _ i.calls.items i.journal.items k in
     let long : length (map live_of i.calls.items) ≡ length i.calls.items = length-map i.calls.items live_of in
     let here : length (the_view i).course.calls ≡ length (the_view i).script.calls = omega (arith, f.count, long, le) in
-    (subst (λ (b : Booked). length b.course.calls ≡ length b.script.calls) is here, record { script = refl; course = refl; rounds = refl; journal = refl })
+    (subst (λ (b : Booked). length b.course.calls ≡ length b.script.calls) is here, record { script = refl; course = refl; settled = λ c has. has; journal = refl })
+
+settled_by : (old new : Booked) (c : ℕ) → new.rounds ≡ old.rounds → IsSettled old c → IsSettled new c
+settled_by old new c same has = subst (λ (fs : List (Filled Round)). (rs : List Round) → option_map kept_rounds (slice_get fs c) ≡ Some rs → IsSome (last_number rs)) (sym same) has
 
 -- no more than room was made
 pub begun_none : (Q : NoMemory → Type 0) (i : Inside) (old new : Booked) (ps : List Progress) (r : Result (Option Begun) NoMemory) → the_view i ≡ old → ps ≡ i.calls.items
@@ -301,7 +304,7 @@ begun_none Q i old new ps (Ok b) is same script course rounds journal h = absurd
 begun_none Q i old new ps (Err e) is same script course rounds journal h = record {
   script = script ∙ ap (λ (b : Booked). b.script) is;
   course = course ∙ (ap (λ qs. the_course i.order.items i.low (map live_of qs)) same ∙ ap (λ (b : Booked). b.course) is);
-  rounds = ap (map kept_rounds) (rounds ∙ (ap room_for same ∙ ap (λ (b : Booked). b.rounds) is));
+  settled = λ c has. settled_by old new c (rounds ∙ (ap room_for same ∙ ap (λ (b : Booked). b.rounds) is)) has;
   journal = journal ∙ ap (λ (b : Booked). b.journal) is;
 }
 
@@ -335,22 +338,26 @@ some_settled kept all are has = by (last_number kept) refl has where
   by None is h = absurd (search (rules, h))
   by (Some k) is h = settled kept all k are is
 
-pub restarted : (n : ℕ) (m : Mark) (p q : Progress) → q.start ≡ n → q.steps ≡ p.steps → q.rounds.items ≡ closed m p.rounds.items ++ unknown n m ∷ [] → q.reply ≡ p.reply → live_of q ≡ again n m (live_of p)
-restarted n m p q start steps rounds reply = live_made (live_of q) (again n m (live_of p)) start turns steps (ap is_some reply) where
+pub restarted : (n k : ℕ) (m : Mark) (p q : Progress) → q.start ≡ n → q.steps ≡ p.steps → q.rounds.items ≡ closed m p.rounds.items ++ counted n m k ∷ [] → q.reply ≡ p.reply → live_of q ≡ again n m (live_of p)
+restarted n k m p q start steps rounds reply = live_made (live_of q) (again n m (live_of p)) start turns steps (ap is_some reply) where
   turns : turns_in q.rounds.items ≡ turns_in p.rounds.items ++ record { start = n; mark = m } ∷ []
-  turns = ap turns_in rounds ∙ (map-append turn_of (closed m p.rounds.items) (unknown n m ∷ []) ∙ ap (λ ts. ts ++ record { start = n; mark = m } ∷ []) (turns_closed m p.rounds.items))
+  turns = ap turns_in rounds ∙ (map-append turn_of (closed m p.rounds.items) (counted n m k ∷ []) ∙ ap (λ ts. ts ++ record { start = n; mark = m } ∷ []) (turns_closed m p.rounds.items))
 
-pub kept_restart : (s : Script) (order : List ℕ) (low c : ℕ) (ps : List Progress) (journal longer : List Event) (m : Mark) (p q : Progress)
+pub kept_restart : (s : Script) (order : List ℕ) (low c n : ℕ) (ps : List Progress) (journal longer : List Event) (m : Mark) (p q : Progress)
     → IsKept s (the_course order low (map live_of ps)) ps journal → m ≢ Exclusive → refusal (work_of s) (the_course order low (map live_of ps)) (round_event m c) ≡ None
-    → (m ≡ Plain → IsSome (last_number p.rounds.items)) → slice_get ps c ≡ Some p → p.reply ≡ None
-    → q.start ≡ length order → q.steps ≡ p.steps → q.rounds.items ≡ closed m p.rounds.items ++ unknown (length order) m ∷ [] → q.reply ≡ p.reply
+    → (m ≡ Plain → IsSome (last_number p.rounds.items)) → due_number (work_of s) (after (work_of s) (the_course order low (map live_of ps)) (round_event m c)) c ≡ Some n
+    → slice_get ps c ≡ Some p → p.reply ≡ None
+    → q.start ≡ length order → q.steps ≡ p.steps → q.rounds.items ≡ closed m p.rounds.items ++ counted (length order) m n ∷ [] → q.reply ≡ p.reply
     → longer ≡ journal ++ round_event m c ∷ []
     → IsKept s (the_course order low (map live_of (slice_set ps c q))) (slice_set ps c q) longer
-kept_restart s order low c ps journal longer m p q k ne free has at silent start steps rounds reply adds =
-    kept_one s order low c ps journal longer (round_event m c) (again (length order) m) p q k free (restart_after (work_of s) (the_course order low (map live_of ps)) m c ne) adds at new
-    (subst (TellsBy (work_of s) order c q.rounds.items) (sym (reply ∙ silent)) (inr known)) where
+kept_restart s order low c n ps journal longer m p q k ne free has due at silent start steps rounds reply adds =
+    kept_one s order low c ps journal longer (round_event m c) (again (length order) m) p q k free restarts adds at new
+    (subst (TellsBy (work_of s) order c q.rounds.items) (sym (reply ∙ silent)) (inl known)) where
+      restarts : after (work_of s) (the_course order low (map live_of ps)) (round_event m c) ≡ with_call (the_course order low (map live_of ps)) c (again (length order) m)
+      restarts = restart_after (work_of s) (the_course order low (map live_of ps)) m c ne
+
       new : live_of q ≡ again (length order) m (live_of p)
-      new = restarted (length order) m p q start steps rounds reply
+      new = restarted (length order) n m p q start steps rounds reply
 
       own : CallFacts (length order) (length journal) (live_of p)
       own = (facts s _ ps journal k).each c (live_of p) (live_here ps c p at)
@@ -366,12 +373,20 @@ kept_restart s order low c ps journal longer m p q k ne free has at silent start
       enough Moved is = inl is
       enough Exclusive is = absurd (ne is)
 
-      known : q.rounds.items ≡ numbered None (rounds_of (work_of s) order c (turns_in q.rounds.items))
+      there : slice_get (change_live (slice_get (map live_of ps) c) (again (length order) m) (map live_of ps) c) c ≡ Some (again (length order) m (live_of p))
+      there = ap (λ ls. slice_get ls c) (changed_at (map live_of ps) c (again (length order) m) (live_of p) (live_here ps c p at)) ∙ set_there (map live_of ps) c (again (length order) m (live_of p)) (live_of p) (live_here ps c p at)
+
+      number : last_number (rounds_of (work_of s) order c ((own.first ∷ own.rest) ++ record { start = length order; mark = m } ∷ [])) ≡ Some n
+      number =
+          sym (ap (λ (x : Course). due_number (work_of s) x c) restarts
+          ∙ (ap (λ o. last_number (rounds_of (work_of s) order c (turns_of o))) there ∙ ap (λ ts. last_number (rounds_of (work_of s) order c (ts ++ record { start = length order; mark = m } ∷ []))) own.turns)) ∙ due
+
+      known : q.rounds.items ≡ rounds_of (work_of s) order c (turns_in q.rounds.items)
       known =
-          rounds ∙ (ap (λ rs. rs ++ unknown (length order) m ∷ []) (closes m p.rounds.items all are (enough m refl))
-          ∙ (ap (λ ts. closed m (rounds_of (work_of s) order c ts) ++ unknown (length order) m ∷ []) own.turns
-          ∙ (sym (rounds_begin (work_of s) order c (length order) m own.first own.rest)
-          ∙ ap (λ ts. numbered None (rounds_of (work_of s) order c ts)) (ap (λ ts. ts ++ record { start = length order; mark = m } ∷ []) (sym own.turns) ∙ sym (ap (λ (l : Live). l.turns) new)))))
+          rounds ∙ (ap (λ rs. rs ++ counted (length order) m n ∷ []) (closes m p.rounds.items all are (enough m refl))
+          ∙ (ap (λ ts. closed m (rounds_of (work_of s) order c ts) ++ counted (length order) m n ∷ []) own.turns
+          ∙ (sym (rounds_end (work_of s) order c (length order) n m own.first own.rest number)
+          ∙ ap (rounds_of (work_of s) order c) (ap (λ ts. ts ++ record { start = length order; mark = m } ∷ []) (sym own.turns) ∙ sym (ap (λ (l : Live). l.turns) new)))))
 
 -- A number
 
@@ -398,29 +413,34 @@ kept_settled s order low c ps journal n p q k at silent due start steps rounds r
           rounds ∙ (settles p.rounds.items (rounds_of (work_of s) order c (turns_in p.rounds.items)) (Some n) are (sym (due_here (work_of s) order low c ps p at) ∙ due)
           ∙ ap (rounds_of (work_of s) order c) (sym (ap turns_in rounds ∙ turns_numbered (Some n) p.rounds.items)))
 
--- the number is known afterwards
-pub number_known : (s : Script) (order : List ℕ) (low c : ℕ) (ps : List Progress) (journal : List Event) (n : ℕ) (p q : Progress)
-    → IsKept s (the_course order low (map live_of ps)) ps journal → slice_get ps c ≡ Some p → q.rounds.items ≡ numbered (Some n) p.rounds.items
-    → (rs : List Round) → option_map kept_rounds (slice_get (room_for (slice_set ps c q)) c) ≡ Some rs → IsSome (last_number rs)
-number_known s order low c ps journal n p q k at rounds rs is = subst IsSome (sym last) (search rules) where
+-- a number that was set
+pub number_set : (s : Script) (order : List ℕ) (low c : ℕ) (ps : List Progress) (journal : List Event) (n : ℕ) (p q : Progress)
+    → IsKept s (the_course order low (map live_of ps)) ps journal → slice_get ps c ≡ Some p → q.rounds.items ≡ numbered (Some n) p.rounds.items → last_number q.rounds.items ≡ Some n
+number_set s order low c ps journal n p q k at rounds = ap last_number rounds ∙ numbered_some p.rounds.items own.first own.rest own.turns where
   own : CallFacts (length order) (length journal) (live_of p)
   own = (facts s _ ps journal k).each c (live_of p) (live_here ps c p at)
 
+  numbered_some : (xs : List Round) (t : Turn) (ts : List Turn) → turns_in xs ≡ t ∷ ts → last_number (numbered (Some n) xs) ≡ Some n
+  numbered_some [] t ts e = absurd (search (rules, e))
+  numbered_some (x ∷ xs) t ts e = last_numbered (Some n) x xs
+
+-- the number is known after it was set
+pub set_known : (ps : List Progress) (c n : ℕ) (p q : Progress) → slice_get ps c ≡ Some p → last_number q.rounds.items ≡ Some n
+    → (rs : List Round) → option_map kept_rounds (slice_get (room_for (slice_set ps c q)) c) ≡ Some rs → IsSome (last_number rs)
+set_known ps c n p q at last rs is = subst IsSome (sym (ap last_number (sym one) ∙ last)) (search rules) where
   there : slice_get (room_for (slice_set ps c q)) c ≡ Some q.rounds
   there = slice_get-map (λ (y : Progress). y.rounds) (slice_set ps c q) c ∙ ap (option_map (λ (y : Progress). y.rounds)) (set_there ps c q p at)
 
   same : Some q.rounds.items ≡ Some rs
   same = ap (option_map kept_rounds) (sym there) ∙ is
 
-  numbered_some : (xs : List Round) (t : Turn) (ts : List Turn) → turns_in xs ≡ t ∷ ts → last_number (numbered (Some n) xs) ≡ Some n
-  numbered_some [] t ts e = absurd (search (rules, e))
-  numbered_some (x ∷ xs) t ts e = last_numbered (Some n) x xs
-
   one : q.rounds.items ≡ rs
   one = search (rules, same)
 
-  last : last_number rs ≡ Some n
-  last = ap last_number (sym one ∙ rounds) ∙ numbered_some p.rounds.items own.first own.rest own.turns
+-- and after a repair or a move
+pub number_counted : (m : Mark) (ps : List Progress) (c start n : ℕ) (p q : Progress) → slice_get ps c ≡ Some p → q.rounds.items ≡ closed m p.rounds.items ++ counted start m n ∷ []
+    → (rs : List Round) → option_map kept_rounds (slice_get (room_for (slice_set ps c q)) c) ≡ Some rs → IsSome (last_number rs)
+number_counted m ps c start n p q at rounds = set_known ps c n p q at (ap last_number rounds ∙ last_of_end (closed m p.rounds.items) (counted start m n))
 
 -- A commit
 
@@ -464,7 +484,7 @@ rounds_committed s order low c ps journal own p k at silent has number = by own 
     due = sym (ap (λ o. last_number (rounds_of (work_of s) longer c (turns_of o))) there ∙ ap (λ ts. last_number (rounds_of (work_of s) longer c (ts ++ record { start = length order; mark = Exclusive } ∷ []))) known.turns) ∙ number
 
     more : rounds_of (work_of s) longer c ((known.first ∷ known.rest) ++ record { start = length order; mark = Exclusive } ∷ []) ≡ rounds_of (work_of s) longer c (known.first ∷ known.rest) ++ record { start = length order; count = Some n; mark = Exclusive } ∷ []
-    more = rounds_end (work_of s) longer c (length order) n known.first known.rest due
+    more = rounds_end (work_of s) longer c (length order) n Exclusive known.first known.rest due
 
     left : p.rounds.items ++ record { start = length order; count = Some n; mark = Exclusive } ∷ [] ≡ rounds_of (work_of s) longer c (known.first ∷ known.rest) ++ record { start = length order; count = Some n; mark = Exclusive } ∷ []
     left = ap (λ rs. rs ++ record { start = length order; count = Some n; mark = Exclusive } ∷ []) (full ∙ ap (rounds_of (work_of s) longer c) known.turns)
@@ -475,11 +495,6 @@ pub same_calls : (ps : List Progress) (c : ℕ) (p q : Progress) → slice_get p
 same_calls [] c p q at new = refl
 same_calls (x ∷ ps) zero p q at new = let one : x ≡ p = search (rules, at) in ap (λ l. l ∷ map live_of ps) (new ∙ ap live_of (sym one))
 same_calls (x ∷ ps) (suc c) p q at new = ap (λ ls. live_of x ∷ ls) (same_calls ps c p q at new)
-
-pub same_rounds : (ps : List Progress) (c : ℕ) (p q : Progress) → slice_get ps c ≡ Some p → q.rounds.items ≡ p.rounds.items → map kept_rounds (room_for (slice_set ps c q)) ≡ map kept_rounds (room_for ps)
-same_rounds [] c p q at new = refl
-same_rounds (x ∷ ps) zero p q at new = let one : x ≡ p = search (rules, at) in ap (λ (rs : List Round). rs ∷ map kept_rounds (room_for ps)) (new ∙ ap (λ (y : Progress). y.rounds.items) (sym one))
-same_rounds (x ∷ ps) (suc c) p q at new = ap (λ (rs : List (List Round)). x.rounds.items ∷ rs) (same_rounds ps c p q at new)
 
 pub kept_same_told : (s : Script) (order orders : List ℕ) (low c : ℕ) (ps : List Progress) (journal same : List Event) (p q : Progress)
     → IsKept s (the_course order low (map live_of ps)) ps journal → orders ≡ order → same ≡ journal → slice_get ps c ≡ Some p → live_of q ≡ live_of p → q.rounds.items ≡ p.rounds.items → q.reply ≡ p.reply
@@ -510,6 +525,30 @@ settled_here i old c p is at has =
     let here : IsSettled (the_view i) c = subst (λ (b : Booked). IsSettled b c) (sym is) has in
     here p.rounds.items (ap (option_map kept_rounds) (in_room i.calls.items c p at))
 
+-- a call whose last round has its number
+pub settled_told : (i : Inside) (old : Booked) (c : ℕ) (p : Progress) → the_view i ≡ old → slice_get i.calls.items c ≡ Some p → IsSome (last_number p.rounds.items) → IsSettled old c
+settled_told i old c p is at has = subst (λ (b : Booked). IsSettled b c) is (λ rs told.
+    let both : Some p.rounds.items ≡ Some rs = sym (ap (option_map kept_rounds) (in_room i.calls.items c p at)) ∙ told in
+    let one : p.rounds.items ≡ rs = search (rules, both) in
+    subst (λ (r : List Round). IsSome (last_number r)) one has)
+
+-- no number is lost where a call is changed whose own one isn't
+pub still_settled : (i : Inside) (old : Booked) (c d : ℕ) (p q : Progress) → the_view i ≡ old → slice_get i.calls.items c ≡ Some p → (IsSome (last_number p.rounds.items) → IsSome (last_number q.rounds.items)) → IsSettled old d
+    → (rs : List Round) → option_map kept_rounds (slice_get (room_for (slice_set i.calls.items c q)) d) ≡ Some rs → IsSome (last_number rs)
+still_settled i old c d p q is at keeps has rs told = by (get_set i.calls.items c d q y.0 y.1) where
+  f : (f : Filled Round) × (slice_get (room_for (slice_set i.calls.items c q)) d ≡ Some f) × (f.items ≡ rs)
+  f = map_get kept_rounds (room_for (slice_set i.calls.items c q)) d rs (slice_get-map kept_rounds (room_for (slice_set i.calls.items c q)) d ∙ told)
+
+  y : (x : Progress) × (slice_get (slice_set i.calls.items c q) d ≡ Some x) × (x.rounds ≡ f.0)
+  y = map_get (λ (x : Progress). x.rounds) (slice_set i.calls.items c q) d f.0 f.1
+
+  same : y.0.rounds.items ≡ rs
+  same = ap kept_rounds y.2 ∙ f.2
+
+  by : ((d ≡ c) × (q ≡ y.0)) ⊎ ((d ≡ c → ⊥) × (slice_get i.calls.items d ≡ Some y.0)) → IsSome (last_number rs)
+  by (inl e) = subst (λ (r : List Round). IsSome (last_number r)) (ap (λ (x : Progress). x.rounds.items) e.1 ∙ same) (keeps (settled_here i old c p is at (subst (IsSettled old) e.0 has)))
+  by (inr e) = subst (λ (r : List Round). IsSome (last_number r)) same (settled_here i old d y.0 is e.1 has)
+
 pub rounds_told : (i : Inside) (old : Booked) (c : ℕ) (p : Progress) → the_view i ≡ old → IsInside i → slice_get i.calls.items c ≡ Some p → p.reply ≡ None → HasRounds old c p.rounds.items
 rounds_told i old c p is k at silent = subst (λ (b : Booked). HasRounds b c p.rounds.items) is (record {
   live = live_of p;
@@ -517,6 +556,36 @@ rounds_told i old c p is k at silent = subst (λ (b : Booked). HasRounds b c p.r
   turns = refl;
   rounds = subst (TellsBy (work_of i.script) i.order.items c p.rounds.items) silent (k.tells c p at);
 })
+
+-- the number of a call's last round, as it is kept
+pub number_kept : (i : Inside) (old : Booked) (c n : ℕ) (l : Live) (p : Progress) → the_view i ≡ old → IsInside i → Here i.calls.items c l p → last_number p.rounds.items ≡ Some n → due_number (work_in old) old.course c ≡ Some n
+number_kept i old c n l p is k here has = subst (λ (b : Booked). due_number (work_in b) b.course c ≡ Some n) is (due_here (work_of i.script) i.order.items i.low c i.calls.items p here.at ∙ (sym (ap last_number (settled p.rounds.items all n are has)) ∙ has)) where
+  all : List Round
+  all = rounds_of (work_of i.script) i.order.items c (turns_in p.rounds.items)
+
+  are : AreRounds p.rounds.items all
+  are = subst (TellsBy (work_of i.script) i.order.items c p.rounds.items) here.going (k.tells c p here.at)
+
+-- a call without it is in its first round
+pub first_kept : (i : Inside) (c : ℕ) (l : Live) (p : Progress) → IsInside i → Here i.calls.items c l p → last_number p.rounds.items ≡ None → used l ≡ 0
+first_kept i c l p k here none = by (subst (TellsBy (work_of i.script) i.order.items c p.rounds.items) here.going (k.tells c p here.at)) where
+  own : CallFacts (length i.order.items) (length i.journal.items) (live_of p)
+  own = (facts i.script _ i.calls.items i.journal.items k).each c (live_of p) (live_here i.calls.items c p here.at)
+
+  by : AreRounds p.rounds.items (rounds_of (work_of i.script) i.order.items c (turns_in p.rounds.items)) → used l ≡ 0
+  by (inl is) =
+      absurd (all_known (work_of i.script) i.order.items c own.first own.rest (sym (ap (λ ts. last_number (rounds_of (work_of i.script) i.order.items c ts)) own.turns) ∙ (sym (ap last_number is) ∙ none)))
+  by (inr h) =
+      let one = h.1 in
+      let many = length-map p.rounds.items turn_of in
+      let same = ap used here.is in
+      omega (arith, one, many, same)
+
+-- the number of a first round that has none yet
+pub first_due : (i : Inside) (old : Booked) (c n : ℕ) (p : Progress) (o : Option ℕ) → the_view i ≡ old → IsInside i → (l : Live) → IsLive old.course c l → Here i.calls.items c l p → o ≡ last_number p.rounds.items → is_some o ≡ false → IsFirstNumber n old c
+    → due_number (work_of i.script) (the_course i.order.items i.low (map live_of i.calls.items)) c ≡ Some n
+first_due i old c n p o is k l live here last unknown first =
+    subst (λ (b : Booked). due_number (work_in b) b.course c ≡ Some n) (sym is) (first l live (first_kept i c l p k here (sym last ∙ none_of o unknown)))
 
 pub room_same : (view old : Booked) (room x n m : ℕ) → view ≡ old → n ≤ m → n + view.room ≤ m + room → HasRoom old x m
     → (n ≤ room) × ((f : Filled Round) → slice_get view.rounds x ≡ Some f → n ≤ f.room)

@@ -1,5 +1,6 @@
 -- Rounds and their numbers.
 use Rattle.std.proofs.Common.{◌≡◌, ◌⊎◌, inl, inr, ℕ, zero, suc, ◌-◌, ◌≤◌, List, [], ◌∷◌, ◌++◌, Option, Some, None, length, take, drop, slice_set, get_or, refl, sym, ap, subst, ◌∙◌, arith, rules}
+use Rattle.std.specs.Prelude.{slice_index_or}
 use Rattle.std.proofs.lemmas.List.{take-append-le, drop-append-le, length-drop}
 use Rattle.std.specs.List.{flat_map}
 use Rattle.mv_journal.specs.declared.outcome.Mark.{Mark}
@@ -12,7 +13,7 @@ use Rattle.mv_history.specs.Kept.{executions}
 use Rattle.mv_lawful.specs.Work.{Work, tables_after, table_at, records_at, changes_after, changes_up_to}
 use Rattle.mv_lawful.specs.Lawful.{Turn}
 use Rattle.mv_lawful.specs.Rounds.{whole_run, repair_run, later_run, unless_moved, round, later_rounds, rounds_of}
-use Rattle.mv_core.specs.Calls.{Within, turn_of, turns_in, numbered, last_number, closed, unknown, AreRounds}
+use Rattle.mv_core.specs.Calls.{Within, turn_of, turns_in, numbered, last_number, closed, counted, AreRounds}
 
 -- Numbers in a list
 
@@ -49,15 +50,20 @@ last_numbered n r [] = refl
 last_numbered n r (s ∷ []) = refl
 last_numbered n r (s ∷ t ∷ rs) = last_numbered n s (t ∷ rs)
 
-pub numbered_end : (n : Option ℕ) (rs : List Round) (r : Round) → numbered n (rs ++ r ∷ []) ≡ rs ++ record r { count = n } ∷ []
-numbered_end n [] r = refl
-numbered_end n (q ∷ []) r = refl
-numbered_end n (q ∷ s ∷ rs) r = ap (λ xs. q ∷ xs) (numbered_end n (s ∷ rs) r)
-
 pub last_of_end : (rs : List Round) (r : Round) → last_number (rs ++ r ∷ []) ≡ r.count
 last_of_end [] r = refl
 last_of_end (q ∷ []) r = refl
 last_of_end (q ∷ s ∷ rs) r = last_of_end (s ∷ rs) r
+
+last_at : (rs : List Round) (k : ℕ) (d : Round) → length rs ≡ suc k → (slice_index_or rs k d).count ≡ last_number rs
+last_at [] k d h = absurd (omega (arith, h))
+last_at (r ∷ []) zero d h = refl
+last_at (r ∷ []) (suc k) d h = absurd (omega (arith, h))
+last_at (r ∷ s ∷ rs) zero d h = absurd (omega (arith, h))
+last_at (r ∷ s ∷ rs) (suc k) d h = last_at (s ∷ rs) k d (omega (arith, h))
+
+pub last_is : (rs : List Round) (d : Round) → 1 ≤ length rs → (slice_index_or rs (length rs - 1) d).count ≡ last_number rs
+last_is rs d h = last_at rs (length rs - 1) d (omega (arith, h))
 
 -- without a number, the last one hasn't any
 none_numbered : (rs : List Round) → last_number (numbered None rs) ≡ None
@@ -67,12 +73,12 @@ none_numbered (r ∷ rs) = last_numbered None r rs
 -- where the last one has a number, it is Runs'
 pub settled : (kept all : List Round) (k : ℕ) → AreRounds kept all → last_number kept ≡ Some k → kept ≡ all
 settled kept all k (inl is) has = is
-settled kept all k (inr is) has = let none : Some k ≡ None = sym has ∙ (ap last_number is ∙ none_numbered all) in absurd (search (rules, none))
+settled kept all k (inr is) has = let none : Some k ≡ None = sym has ∙ (ap last_number is.0 ∙ none_numbered all) in absurd (search (rules, none))
 
 -- a number that is Runs' makes them all Runs'
 pub settles : (kept all : List Round) (n : Option ℕ) → AreRounds kept all → last_number all ≡ n → numbered n kept ≡ all
 settles kept all n (inl is) own = ap (λ m. numbered m kept) (sym own) ∙ (ap (numbered (last_number all)) is ∙ numbered_own all)
-settles kept all n (inr is) own = ap (λ m. numbered m kept) (sym own) ∙ (ap (numbered (last_number all)) is ∙ (numbered_twice (last_number all) None all ∙ numbered_own all))
+settles kept all n (inr is) own = ap (λ m. numbered m kept) (sym own) ∙ (ap (numbered (last_number all)) is.0 ∙ (numbered_twice (last_number all) None all ∙ numbered_own all))
 
 -- What the first commits come to doesn't hang on those after them
 
@@ -179,25 +185,28 @@ rounds_more w order c t u (v ∷ ts) =
     ∙ ap (λ rs. rs ++ round u (Some (later_run w order c (last_start v.start ts) u.start u.mark)) ∷ [])
     (sym (closed_more u.mark (round t (unless_moved (whole_run w order c t.start) (v ∷ ts))) (round v (unless_moved (later_run w order c t.start v.start v.mark) ts)) (later_rounds w order c v.start ts)))
 
--- a repair or a move begins: all is known but the number of its round
-pub rounds_begin : (w : Work) (order : List ℕ) (c n : ℕ) (m : Mark) (t : Turn) (ts : List Turn)
-    → numbered None (rounds_of w order c ((t ∷ ts) ++ record { start = n; mark = m } ∷ [])) ≡ closed m (rounds_of w order c (t ∷ ts)) ++ unknown n m ∷ []
-rounds_begin w order c n m t ts =
-    ap (numbered None) (rounds_more w order c t (record { start = n; mark = m }) ts)
-    ∙ numbered_end None (closed m (rounds_of w order c (t ∷ ts))) (round (record { start = n; mark = m }) (Some (later_run w order c (last_start t.start ts) n m)))
-
 -- what is kept of rounds, where one of this mark comes after them
 pub closes : (m : Mark) (kept all : List Round) → AreRounds kept all → (m ≡ Moved) ⊎ (kept ≡ all) → closed m kept ≡ closed m all
 closes m kept all are (inr is) = ap (closed m) is
 closes m kept all (inl is) (inl moved) = ap (closed m) is
-closes m kept all (inr is) (inl moved) = subst (λ x. closed x kept ≡ closed x all) (sym moved) (ap (numbered None) is ∙ numbered_twice None None all)
+closes m kept all (inr is) (inl moved) = subst (λ x. closed x kept ≡ closed x all) (sym moved) (ap (numbered None) is.0 ∙ numbered_twice None None all)
 
--- a number that is Runs' for a round that commits in its own step
-pub rounds_end : (w : Work) (order : List ℕ) (c n k : ℕ) (t : Turn) (ts : List Turn)
-    → last_number (rounds_of w order c ((t ∷ ts) ++ record { start = n; mark = Exclusive } ∷ [])) ≡ Some k
-    → rounds_of w order c ((t ∷ ts) ++ record { start = n; mark = Exclusive } ∷ []) ≡ rounds_of w order c (t ∷ ts) ++ record { start = n; count = Some k; mark = Exclusive } ∷ []
-rounds_end w order c n k t ts is =
-    let more = rounds_more w order c t (record { start = n; mark = Exclusive }) ts in
-    let own : Some (later_run w order c (last_start t.start ts) n Exclusive) ≡ Some k =
-    sym (last_of_end (rounds_of w order c (t ∷ ts)) (round (record { start = n; mark = Exclusive }) (Some (later_run w order c (last_start t.start ts) n Exclusive)))) ∙ (sym (ap last_number more) ∙ is) in
-    more ∙ ap (λ o. rounds_of w order c (t ∷ ts) ++ record { start = n; count = o; mark = Exclusive } ∷ []) own
+-- a round more with a number that is Runs'
+pub rounds_end : (w : Work) (order : List ℕ) (c n k : ℕ) (m : Mark) (t : Turn) (ts : List Turn)
+    → last_number (rounds_of w order c ((t ∷ ts) ++ record { start = n; mark = m } ∷ [])) ≡ Some k
+    → rounds_of w order c ((t ∷ ts) ++ record { start = n; mark = m } ∷ []) ≡ closed m (rounds_of w order c (t ∷ ts)) ++ counted n m k ∷ []
+rounds_end w order c n k m t ts is =
+    let u : Turn = record { start = n; mark = m } in
+    let more = rounds_more w order c t u ts in
+    let own : Some (later_run w order c (last_start t.start ts) n m) ≡ Some k =
+    sym (last_of_end (closed m (rounds_of w order c (t ∷ ts))) (round u (Some (later_run w order c (last_start t.start ts) n m)))) ∙ (sym (ap last_number more) ∙ is) in
+    more ∙ ap (λ o. closed m (rounds_of w order c (t ∷ ts)) ++ record { start = n; count = o; mark = m } ∷ []) own
+
+-- the last one of Runs has a number
+later_known : (w : Work) (order : List ℕ) (c old : ℕ) (t : Turn) (ts : List Turn) → last_number (later_rounds w order c old (t ∷ ts)) ≡ None → ⊥
+later_known w order c old t [] none = let both : Some (later_run w order c old t.start t.mark) ≡ None = none in search (rules, both)
+later_known w order c old t (u ∷ us) none = later_known w order c t.start u us none
+
+pub all_known : (w : Work) (order : List ℕ) (c : ℕ) (t : Turn) (ts : List Turn) → last_number (rounds_of w order c (t ∷ ts)) ≡ None → ⊥
+all_known w order c t [] none = let both : Some (whole_run w order c t.start) ≡ None = none in search (rules, both)
+all_known w order c t (u ∷ us) none = later_known w order c t.start u us none

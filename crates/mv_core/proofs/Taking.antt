@@ -1,5 +1,5 @@
 -- The tasks of live calls, and what events leave of them.
-use Rattle.std.proofs.Common.{◌≡◌, ◌⊎◌, inl, inr, ℕ, zero, suc, ◌+◌, ◌<◌, ◌≤◌, Bool, true, false, List, [], ◌∷◌, ◌++◌, Option, Some, None, length, get_or, slice_set, refl, sym, ap, subst, ◌∙◌, arith, append-nil, length-append, rules}
+use Rattle.std.proofs.Common.{◌≡◌, ◌⊎◌, inl, inr, ℕ, zero, suc, ◌+◌, ◌<◌, ◌≤◌, Bool, true, false, List, [], ◌∷◌, ◌++◌, Option, Some, None, length, get_or, slice_set, refl, sym, ap, subst, ◌∙◌, arith, eq-eqb, append-nil, length-append, rules}
 use Rattle.std.specs.Prelude.{slice_get, ◌==◌, ◌&&◌, ◌↔◌, ◌≢◌, nat_lt, not}
 use Rattle.std.specs.List.{flat_map}
 use Rattle.std.proofs.lemmas.Option.{slice_get_within, slice_get_read}
@@ -11,7 +11,7 @@ use Rattle.mv_graph.specs.declared.graph.Graph.{Graph}
 use Rattle.mv_graph.specs.Nodes.{meaning_of}
 use Rattle.mv_undo.specs.Owning.{HasWritesOf}
 use Rattle.mv_exec.specs.declared.task.Task.{Task}
-use Rattle.mv_exec.specs.Running.{IsTaskOf, IsTaskOn, Leaves}
+use Rattle.mv_exec.specs.Running.{IsTaskOf, IsTaskOn, IsUnchanged, Leaves}
 use Rattle.mv_exec.proofs.Fronts.{ends_exactly}
 use Rattle.mv_journal.specs.declared.outcome.Mark.{Mark}
 use Rattle.mv_journal.specs.declared.outcome.Mark.TheVariants.{Plain, Exclusive, Moved}
@@ -20,16 +20,16 @@ use Rattle.mv_history.specs.declared.change.Change.{Change}
 use Rattle.mv_history.specs.Kept.{executions}
 use Rattle.mv_lawful.specs.Work.{Work, table_at, records_at, since}
 use Rattle.mv_lawful.specs.Lawful.{Turn, Live, Course, begin, again, used, has_step}
-use Rattle.mv_lawful.specs.Rounds.{whole_run, repair_run, later_run, round, rounds_of}
+use Rattle.mv_lawful.specs.Rounds.{whole_run, later_run, round, rounds_of}
 use Rattle.mv_lawful.specs.Outcomes.{turns_of}
 use Rattle.mv_core.specs.declared.script.Script.{Script}
 use Rattle.mv_core.specs.Scripts.{work_of, IsCallOf, IsScript}
 use Rattle.mv_core.specs.declared.tasks.Running.{Running}
 use Rattle.mv_core.specs.Calls.{IsLive, IsLiveCall, closed, committed, last_number, due_number}
-use Rattle.mv_core.specs.Books.{Booked, work_in, Made, round_event, commit_event, AreRecordsOf}
+use Rattle.mv_core.specs.Books.{Booked, work_in, Made, round_event, commit_event, IsFirstNumber, AreRecordsOf}
 use Rattle.mv_store.specs.Stored.{Versioned}
 use Rattle.mv_view.specs.Viewing.{Sight}
-use Rattle.mv_core.specs.Cores.{RunsOn, IsTaskFor, HasRunOne, HasTurns, last_start, count_or, IsLiveTask, IsTaskIn, IsRunning, IsRepaired, HasTasks, IsCore}
+use Rattle.mv_core.specs.Cores.{RunsOn, IsTaskFor, HasRunOne, CountsAll, HasTurns, last_start, count_or, IsLiveTask, IsTaskIn, IsRunning, IsRepaired, HasTasks, IsCore}
 use Rattle.mv_core.proofs.Numbers.{last_start as start_after, last_of_end, rounds_more, rounds_stay, table_stays, within_more, within_end}
 use Rattle.mv_core.proofs.Stored.{same_or_apart, run_is, table_database, changes_to_last, Shows}
 use Rattle.mv_core.proofs.Keeping.{commit_after, restart_after}
@@ -151,12 +151,35 @@ due_now b c n running live taken are is =
     due_live (work_in b) b.course c live.0 live.1
     ∙ ((taken live.0 live.1).counted ∙ ap Some (ap (λ (rs : List Record). count_or running.count (length rs)) (sym (are live.0 live.1)) ∙ sym is))
 
+-- that of its first round is what the task executed
+pub due_first : (b : Booked) (c : ℕ) (running : Running) → IsTaskIn b c running → AreRecordsOf b c running.task.records → IsFirstNumber running.task.executed b c
+due_first b c running taken are l live first =
+    due_live (work_in b) b.course c l live
+    ∙ (first_number (work_in b) b.course.order c (length b.course.order) l (taken l live).turns first ∙ ap Some (sym (ap length (are l live)) ∙ sym ((taken l live).executed first)))
+
+-- What was counted
+
+pub counts_same : (old new : Task) → IsUnchanged old new → CountsAll old new
+counts_same old new same = let long = ap length same.records in record { executed = λ all. same.executed ∙ (all ∙ sym long); more = omega (arith, long) }
+
+pub counts_one : (old new : Task) → HasRunOne old new → CountsAll old new
+counts_one old new one =
+    let records = one.records in
+    let executed = one.executed in
+    record { executed = λ all. omega (arith, records, executed, all); more = omega (arith, records) }
+
 -- The task of a live call
 
 -- it was run on, or not
 pub task_kept : (s : Script) (order : List ℕ) (c : ℕ) (l : Live) (old : Running) (task : Task) → IsLiveTask s order c l old → RunsOn s c (table_at (work_of s) order l.start) task
-    → length old.task.records ≤ length task.records → IsLiveTask s order c l (record { task = task; count = old.count })
-task_kept s order c l old task t runs more = record { runs = runs; counted = t.counted; steps = λ none first. let le = t.steps none first in omega (arith, le, more); turns = t.turns }
+    → CountsAll old.task task → IsLiveTask s order c l (record { task = task; count = old.count })
+task_kept s order c l old task t runs all = record {
+  runs = runs;
+  counted = t.counted;
+  executed = λ first. all.executed (t.executed first);
+  steps = λ none first. let le = t.steps none first in let more = all.more in omega (arith, le, more);
+  turns = t.turns;
+}
 
 -- it has one more record
 pub task_ran : (s : Script) (order : List ℕ) (c : ℕ) (l : Live) (old : Running) (task : Task) → IsLiveTask s order c l old → RunsOn s c (table_at (work_of s) order l.start) task
@@ -164,6 +187,7 @@ pub task_ran : (s : Script) (order : List ℕ) (c : ℕ) (l : Live) (old : Runni
 task_ran s order c l old task t runs one = record {
   runs = runs;
   counted = t.counted;
+  executed = λ first. let all = t.executed first in let a = one.records in let b = one.executed in omega (arith, all, a, b);
   steps = λ none first. let le = t.steps none first in let a = one.records in omega (arith, le, a);
   turns = turns_stepped (length order) (l.steps + 1) l t.turns;
 }
@@ -173,25 +197,27 @@ pub task_named : (s : Script) (order : List ℕ) (c : ℕ) (l : Live) (running :
 task_named s order c l running t more = record {
   runs = t.runs;
   counted = t.counted;
+  executed = t.executed;
   steps = λ none first. omega (arith, more);
   turns = turns_stepped (length order) (l.steps + 1) l t.turns;
 }
 
 -- its number is known
 pub task_given : (s : Script) (order : List ℕ) (c n : ℕ) (l : Live) (running : Running) → HasTurns (length order) l → last_number (rounds_of (work_of s) order c l.turns) ≡ Some n → running.count ≡ Some n
-    → RunsOn s c (table_at (work_of s) order l.start) running.task → IsLiveTask s order c l running
-task_given s order c n l running h number count runs = record {
+    → running.task.executed ≡ length running.task.records → RunsOn s c (table_at (work_of s) order l.start) running.task → IsLiveTask s order c l running
+task_given s order c n l running h number count all runs = record {
   runs = runs;
   counted = number ∙ ap (λ o. Some (count_or o (length (records_at (work_of s) order l.start c)))) (sym count);
+  executed = λ first. all;
   steps = λ none first. let both : Some n ≡ None = sym count ∙ none in absurd (search (rules, both));
   turns = h;
 }
 
 -- it has lost its records
 pub task_spent : (s : Script) (order : List ℕ) (c n : ℕ) (l : Live) (old new : Running) → IsLiveTask s order c l old → old.task.records ≡ records_at (work_of s) order l.start c
-    → n ≡ count_or old.count (length old.task.records) → new.count ≡ Some n → RunsOn s c (table_at (work_of s) order l.start) new.task → IsLiveTask s order c l new
-task_spent s order c n l old new t are is count runs =
-    task_given s order c n l new t.turns (t.counted ∙ ap Some (ap (λ (rs : List Record). count_or old.count (length rs)) (sym are) ∙ sym is)) count runs
+    → n ≡ count_or old.count (length old.task.records) → new.count ≡ Some n → new.task.executed ≡ length new.task.records → RunsOn s c (table_at (work_of s) order l.start) new.task → IsLiveTask s order c l new
+task_spent s order c n l old new t are is count all runs =
+    task_given s order c n l new t.turns (t.counted ∙ ap Some (ap (λ (rs : List Record). count_or old.count (length rs)) (sym are) ∙ sym is)) count all runs
 
 -- it moved
 pub task_moved : (s : Script) (order : List ℕ) (c : ℕ) (l : Live) (task : Task) → HasTurns (length order) l → RunsOn s c (table_at (work_of s) order (length order)) task
@@ -199,6 +225,7 @@ pub task_moved : (s : Script) (order : List ℕ) (c : ℕ) (l : Live) (task : Ta
 task_moved s order c l task h runs = record {
   runs = runs;
   counted = number_again (work_of s) order c (length order) (length order) Moved l h;
+  executed = λ first. absurd (not_first (length order) (length order) Moved l h first);
   steps = λ none first. absurd (not_first (length order) (length order) Moved l h first);
   turns = turns_again (length order) Moved l h;
 }
@@ -210,18 +237,16 @@ task_again s order c l running h r = record {
   counted =
       number_again (work_of s) order c (length order) (length order) Plain l h
       ∙ ap Some (sym r.executed ∙ sym (ap (λ o. count_or o (length (records_at (work_of s) order (length order) c))) r.count));
+  executed = λ first. absurd (not_first (length order) (length order) Plain l h first);
   steps = λ none first. absurd (not_first (length order) (length order) Plain l h first);
   turns = turns_again (length order) Plain l h;
 }
 
--- what it executed
-pub number_repaired : (s : Script) (order : List ℕ) (c n : ℕ) (l : Live) (running : Running) → IsRepaired s order c l running → n ≡ count_or running.count (length running.task.records) → n ≡ repair_run (work_of s) order c l.start (length order)
-number_repaired s order c n l running r is = is ∙ (ap (λ o. count_or o (length running.task.records)) r.count ∙ r.executed)
-
-task_begun : (s : Script) (order : List ℕ) (c : ℕ) (task : Task) → ((db : Tables) → RunsOn s c db task) → IsLiveTask s order c (begin (length order)) (record { task = task; count = None })
-task_begun s order c task runs = record {
+task_begun : (s : Script) (order : List ℕ) (c : ℕ) (task : Task) → ((db : Tables) → RunsOn s c db task) → task.executed ≡ length task.records → IsLiveTask s order c (begin (length order)) (record { task = task; count = None })
+task_begun s order c task runs all = record {
   runs = runs (table_at (work_of s) order (length order));
   counted = refl;
+  executed = λ first. all;
   steps = λ none first. omega arith;
   turns = turns_begin (length order);
 }
@@ -233,6 +258,7 @@ task_grows s order d c l running t = record {
   counted =
       ap last_number (rounds_stay (work_of s) order d c l.turns t.turns.within)
       ∙ (t.counted ∙ ap (λ db. Some (count_or running.count (length ((work_of s).run c db).records))) (sym (table_stays (work_of s) order d l.start t.turns.past)));
+  executed = t.executed;
   steps = t.steps;
   turns = let n = length-append order (d ∷ []) in turns_grown (length order) (length (order ++ d ∷ [])) l (omega (arith, n)) t.turns;
 }
@@ -322,11 +348,11 @@ set_twice (z ∷ zs) (suc c) x y = ap (λ ws. z ∷ ws) (set_twice zs c x y)
 -- Events of a book
 
 pub begun_on : (old new : Booked) (ts : List (Option Running)) (c : ℕ) (t : Task) → HasTasks old.script old.course ts → Made (B c) old new → c ≡ length old.course.calls → c < length old.script.calls
-    → ((db : Tables) → RunsOn old.script c db t) → HasTasks new.script new.course (ts ++ Some (record { task = t; count = None }) ∷ [])
-begun_on old new ts c t k made is room runs =
+    → ((db : Tables) → RunsOn old.script c db t) → t.executed ≡ length t.records → HasTasks new.script new.course (ts ++ Some (record { task = t; count = None }) ∷ [])
+begun_on old new ts c t k made is room runs all =
     tasks_same old.script new.script _ new.course (ts ++ Some (record { task = t; count = None }) ∷ [])
     (tasks_begun old.script old.course ts (record { task = t; count = None }) k (omega (arith, is, room))
-    (task_begun old.script old.course.order (length old.course.calls) t (subst (λ n. (db : Tables) → RunsOn old.script n db t) is runs))) made.script made.course
+    (task_begun old.script old.course.order (length old.course.calls) t (subst (λ n. (db : Tables) → RunsOn old.script n db t) is runs) all)) made.script made.course
 
 pub stepped_on : (old new : Booked) (ts : List (Option Running)) (c : ℕ) (l : Live) (t : Running) → HasTasks old.script old.course ts → IsLive old.course c l → Made (S c) old new
     → IsLiveTask old.script old.course.order c (record l { steps = l.steps + 1 }) t → HasTasks new.script new.course (slice_set ts c (Some t))
@@ -453,6 +479,35 @@ goes_on s course c l t k lt runs here has = by t.ended refl where
       let none : way.rest ≡ [] = (ends_exactly call.1 call.0 db t way.rest way.is (table_database k.0 s course.order l.start k.1).rising way.leaves).0 e in
       let many : length (records_at (work_of s) course.order l.start c) ≡ length t.records = ap length (all ∙ (ap (λ rs. t.records ++ rs) none ∙ append-nil t.records)) in
       absurd (past l.steps (length t.records) here (subst (λ n. nat_lt l.steps n ≡ true) many less))
+
+-- the number of a call that is in its first round and has no step: it has all its records, or their number is known
+pub number_ran : (s : Script) (course : Course) (c : ℕ) (l : Live) (t : Running) → IsScript s → c < length s.calls → IsLive course c l → IsLiveTask s course.order c l t → used l ≡ 0 → has_step (work_of s) course c l ≡ false
+    → due_number (work_of s) course c ≡ Some (count_or t.count (length t.task.records))
+number_ran s course c l t k lt live task first none = due_live (work_of s) course c l live ∙ (task.counted ∙ ap Some (by t.count refl)) where
+  call : (call : Call) × (g : Graph) × IsCallOf s c call g
+  call = k.1.there c lt
+
+  db : Tables
+  db = table_at (work_of s) course.order l.start
+
+  way : IsTaskOn call.1 call.0 db t.task
+  way = task.runs call.0 call.1 call.2
+
+  all : List Record
+  all = records_at (work_of s) course.order l.start c
+
+  many : length all ≡ length t.task.records + length way.rest
+  many = ap length (ap (λ (r : Run). r.records) (run_is s c call.0 call.1 db call.2) ∙ way.leaves) ∙ length-append t.task.records way.rest
+
+  not_less : (n m : ℕ) → nat_lt n m ≡ false → m ≤ n
+  not_less n m h = grind (arith, h)
+
+  past : length all ≤ l.steps
+  past = not_less l.steps (length all) (sym (ap (λ b. b && nat_lt l.steps (length all)) (eq-eqb (used l) 0 first)) ∙ none)
+
+  by : (o : Option ℕ) → t.count ≡ o → count_or o (length all) ≡ count_or o (length t.task.records)
+  by (Some n) is = refl
+  by None is = let ran = task.steps is first in let le = past in let both = many in omega (arith, ran, le, both)
 
 -- what is left of a call all of whose records are counted
 pub left_told : (g : Graph) (call : Call) (db : Tables) (t : Task) (rest : List Record) (steps : ℕ) → IsTaskOf g call t → AreRising db → Leaves g call db t rest → steps ≡ length t.records → not t.ended ≡ nat_lt steps (length (meaning_of g call db).records)

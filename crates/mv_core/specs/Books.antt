@@ -1,6 +1,6 @@
 -- Defines the contents of a book, and how events change it. The law of journals says which events are allowed. This
 -- project's own.
-use Rattle.std.specs.Prelude.{◌≡◌, ◌<◌, ◌≤◌, ◌+◌, ◌^◌, ℕ, max, false, List, [], ◌∷◌, ◌++◌, Option, Some, None, Result, Ok, Err, length, map, slice_get, IsSome}
+use Rattle.std.specs.Prelude.{◌≡◌, ◌<◌, ◌≤◌, ◌+◌, ◌^◌, ℕ, max, false, List, [], ◌∷◌, ◌++◌, Option, Some, None, Result, Ok, Err, length, slice_get, IsSome}
 use Rattle.std.specs.Option.{ForSome, option_map}
 use Rattle.mv_values.specs.declared.memory.NoMemory.{NoMemory}
 use Rattle.mv_record.specs.declared.record.Record.{Record}
@@ -15,7 +15,7 @@ use Rattle.mv_journal.specs.declared.outcome.Mark.TheVariants.{Plain, Exclusive,
 use Rattle.mv_journal.specs.declared.outcome.Round.{Round}
 use Rattle.mv_lawful.specs.declared.fault.Fault.TheVariants as fault
 use Rattle.mv_lawful.specs.Work.{Work, table_at, records_at, since, hit_of}
-use Rattle.mv_lawful.specs.Lawful.{Live, Course, beginning, refusal, oldest, after, course_of, is_stale, AllAllowed}
+use Rattle.mv_lawful.specs.Lawful.{Live, Course, beginning, refusal, used, oldest, after, course_of, is_stale, AllAllowed}
 use Rattle.mv_lawful.specs.Rounds.{rounds_of}
 use Rattle.mv_exec.specs.declared.task.Task.{Task}
 use Rattle.mv_core.specs.declared.script.Script.{Script}
@@ -96,11 +96,11 @@ pub record Made (e : Event) (old new : Booked) : Type 0 where
   pub journal : new.journal ≡ old.journal ++ e ∷ []
   pub script : new.script ≡ old.script
 
--- no event was made, and nothing else changed
+-- no event was made, and nothing else changed. But a first round may have got its number, and none that was known is lost
 pub record IsSame (old new : Booked) : Type 0 where
   pub script : new.script ≡ old.script
   pub course : new.course ≡ old.course
-  pub rounds : map kept_rounds new.rounds ≡ map kept_rounds old.rounds
+  pub settled : (c : ℕ) → IsSettled old c → IsSettled new c
   pub journal : new.journal ≡ old.journal
 
 -- the next call began, after all commits; or every call has begun
@@ -114,6 +114,14 @@ abbrev pub round_event : Mark → ℕ → Event
 round_event Plain c = A c
 round_event Moved c = M c
 round_event Exclusive c = X c
+
+-- the number that Runs gives that round
+abbrev pub due_after : Booked → Mark → ℕ → Option ℕ
+due_after b mark c = due_number (work_in b) (after (work_in b) b.course (round_event mark c)) c
+
+-- the number that Runs gives a live call's first round, if the call is in it
+abbrev pub IsFirstNumber : ℕ → Booked → ℕ → Type 0
+IsFirstNumber n b c = (l : Live) → IsLive b.course c l → used l ≡ 0 → due_number (work_in b) b.course c ≡ Some n
 
 -- the number of a commit's own round: that of the records executed by the repair in the same step
 abbrev pub own_number : Option Task → Option ℕ
@@ -149,7 +157,7 @@ KeepsRoom old new = (c n : ℕ) → HasRoom old c n → HasRoom new c n
 
 -- What is told
 
--- the rounds of a live call with their numbers; the last one may not have its number yet
+-- the rounds of a live call with their numbers; that of a call in its first round may not have its number yet
 pub record HasRounds (b : Booked) (c : ℕ) (rs : List Round) : Type 0 where
   pub live : Live
   pub is_live : IsLive b.course c live

@@ -102,11 +102,12 @@ count_or (Some k) n = k
 abbrev pub IsCounted : Work → List ℕ → ℕ → Live → Option ℕ → Type 0
 IsCounted w order c l count = last_number (rounds_of w order c l.turns) ≡ Some (count_or count (length (records_at w order l.start c)))
 
--- a live call's task: its records are the first ones of a full run at the call's start. In a first round whose number
--- isn't known yet they are no fewer than the statements that the journal names
+-- a live call's task: its records are the first ones of a full run at the call's start. In a first round it executed them
+-- all. If the number of that round isn't known yet, they are no fewer than the statements that the journal names
 pub record IsLiveTask (s : Script) (order : List ℕ) (c : ℕ) (l : Live) (running : Running) : Type 0 where
   pub runs : RunsOn s c (table_at (work_of s) order l.start) running.task
   pub counted : IsCounted (work_of s) order c l running.count
+  pub executed : used l ≡ 0 → running.task.executed ≡ length running.task.records
   pub steps : running.count ≡ None → used l ≡ 0 → l.steps ≤ length running.task.records
   pub turns : HasTurns (length order) l
 
@@ -152,10 +153,14 @@ pub record IsCore (b : Booked) (store : Versioned) (ts : List (Option Running)) 
 abbrev pub HasStep : Booked → ℕ → Type 0
 HasStep b c = (l : Live) → IsLive b.course c l → has_step (work_in b) b.course c l ≡ true
 
+-- its statements have run: it isn't in its first round, or that has no statement left
+abbrev pub HasEnded : Booked → ℕ → Type 0
+HasEnded b c = (l : Live) → IsLive b.course c l → has_step (work_in b) b.course c l ≡ false
+
 -- whether a call is live and has a step
 abbrev pub MayStep : Bool → Booked → ℕ → Type 0
 MayStep true b c = IsLiveCall b.course c × HasStep b c
-MayStep false b c = (l : Live) → IsLive b.course c l → has_step (work_in b) b.course c l ≡ false
+MayStep false b c = HasEnded b c
 
 -- the next call began, or every call has begun
 abbrev pub HasBegunCall : Result (Option ℕ) NoMemory → Booked → Booked → Type 0

@@ -6,21 +6,24 @@ ghost use Rattle.mv_lawful.specs.Work.{since};
 ghost use Rattle.mv_lawful.specs.Lawful.{Live, Lawful, beginning, course_of, open_call, refusal, oldest, floor, next_low, AllAllowed};
 ghost use Rattle.mv_lawful.specs.Outcomes.{history_line, numbers, outcome_of, reply_in};
 ghost use Rattle.mv_changes.specs.Commits.{changes_in, AreNumbered};
+ghost use Rattle.mv_store.specs.Changes.{HasRaised};
 ghost use Rattle.mv_undo.specs.Owning.{HasWritesOf};
 ghost use Rattle.mv_core.specs.Calls.{IsLive, IsLiveCall, due_number};
-ghost use Rattle.mv_core.specs.Books.{work_in, IsSettled, last_run, last_tables, last_changes, Made, IsSame, HasBegun, round_event, commit_event, own_number, IsOwnNumber, HasRoom, UsesOne, KeepsRoom, HasRounds, IsNotStale, AreRecordsOf, IsAnswer};
+ghost use Rattle.mv_core.specs.Books.{work_in, IsSettled, last_run, last_tables, last_changes, Made, IsSame, HasBegun, round_event, due_after, IsFirstNumber, commit_event, own_number, IsOwnNumber, HasRoom, UsesOne, KeepsRoom, HasRounds, IsNotStale, AreRecordsOf, IsAnswer};
 ghost use Rattle.mv_journal.specs.declared.event.Event.TheVariants.{S, G};
 ghost use Rattle.mv_journal.specs.declared.outcome.Mark.TheVariants.{Plain, Exclusive};
 
 use crate::live::LiveCalls;
 use crate::progress::{Progress, history_of, live_at, replies_of};
-use crate::roomy::Roomy;
+use crate::roomy::{Roomy, last_number};
 use crate::script::Script;
 use mv_changes::changes::Changes;
 use mv_changes::recent::{Committed, Recent};
+use mv_collect::collect::collect;
 use mv_exec::task::Task;
 use mv_journal::event::Event;
 use mv_journal::outcome::{HistoryLine, Mark, Outcome, Round};
+use mv_store::store::Store;
 use mv_values::calls::Reply;
 use mv_values::list::List;
 use mv_values::memory::NoMemory;
@@ -168,47 +171,40 @@ impl Book {
         self.calls[call as usize].steps += 1;
     }
 
-    /// Repairs a call for `Plain`, or moves it for `Moved`. The call starts anew after all commits. Returns its new
-    /// start. A repair needs the number of the round before it. After a move that round has none.
-    pub fn restart(&mut self, call: u32, mark: Mark) -> u32
+    /// Repairs a call for `Plain`, or moves it for `Moved`. The call starts anew after all commits. Its task has run whole
+    /// there, and the number of the new round is that of the records that the task executed. Returns the new start. A
+    /// repair needs the number of the round before it. After a move that round has none.
+    pub fn restart(&mut self, call: u32, mark: Mark, task: &Task) -> u32
         requires mark { mark ≢ Exclusive }
         requires allowed { refusal (work_in self.old) self.old.course (round_event mark call) ≡ None }
         requires settled { mark ≡ Plain → IsSettled self.old call }
+        requires number { due_after self.old mark call ≡ Some task.now.executed }
         requires room { HasRoom self.old call 1 }
         ensures made { Made (round_event mark call) self.old self.new }
+        ensures settled { IsSettled self.new call }
         ensures start { result ≡ length self.old.course.order }
         ensures room { UsesOne self.old self.new }
     {
         let start = self.order.len() as u32;
-        self.calls[call as usize].restart(start, mark);
+        let count = task.executed();
+        self.calls[call as usize].restart(start, mark, count);
         self.journal.put(round_event(mark, call));
         start
     }
 
-    /// Sets the number of a call's last round: the number of records that its task executed.
+    /// Gives the first round of a live call its number: that of the records that its task executed. Does nothing if the
+    /// call is in a later round, or if its first one has its number.
     pub fn settle(&mut self, call: u32, task: &Task)
         requires live { IsLiveCall self.old.course call }
-        requires number { due_number (work_in self.old) self.old.course call ≡ Some task.now.executed }
+        requires number { IsFirstNumber task.now.executed self.old call }
         ensures settled { IsSettled self.new call }
-        ensures course { self.new.course ≡ self.old.course }
-        ensures journal { self.new.journal ≡ self.old.journal }
-        ensures script { self.new.script ≡ self.old.script }
+        ensures same { IsSame self.old self.new }
         ensures room { KeepsRoom self.old self.new }
     {
-        self.settle_as(call, task.executed());
-    }
-
-    /// Sets the number of a call's last round to this one.
-    pub fn settle_as(&mut self, call: u32, count: usize)
-        requires live { IsLiveCall self.old.course call }
-        requires number { due_number (work_in self.old) self.old.course call ≡ Some count }
-        ensures settled { IsSettled self.new call }
-        ensures course { self.new.course ≡ self.old.course }
-        ensures journal { self.new.journal ≡ self.old.journal }
-        ensures script { self.new.script ≡ self.old.script }
-        ensures room { KeepsRoom self.old self.new }
-    {
-        self.calls[call as usize].settle(count);
+        if last_number(self.calls[call as usize].rounds.as_slice()).is_some() {
+            return;
+        }
+        self.calls[call as usize].settle(task.executed());
     }
 
     /// Commits a call with this reply and these changes. If a task is given, the call was repaired in the same step, in
@@ -295,16 +291,19 @@ impl Book {
         self.low.max(self.oldest_start().max(floor))
     }
 
-    /// Collects old versions. Returns the new low: the tables before that commit are no longer needed, nor the changes
-    /// up to it. Takes time linear in the number of live calls, and over all collections, in the number of commits.
-    pub fn collect(&mut self) -> u32
+    /// Collects the versions of the history's tables before the new low, and the changes up to it. Returns the new low.
+    /// The store's low may not be above the history's. Takes time linear in the number of live calls and of the keys
+    /// that the commits up to low have written, and over all collections, in the number of commits.
+    pub fn collect(&mut self, store: &mut Store) -> u32
         requires room { 0 < self.old.room }
+        requires store { store.old.low ≤ self.old.course.low }
         ensures made { Made G self.old self.new }
         ensures low { result ≡ self.new.course.low }
+        ensures raised { HasRaised self.new.course.low store.old store.new }
         ensures room { UsesOne self.old self.new }
     {
         let low = self.next_low();
-        self.recent.trim(low);
+        collect(store, &mut self.recent, low);
         self.low = low;
         self.journal.put(Event::G);
         low
@@ -333,13 +332,26 @@ impl Book {
     }
 
     /// Returns the rounds of a live call. Returns `None` for a call that hasn't begun or has committed. The last round
-    /// has the call's start, and may not have its number yet.
+    /// has the call's start. Only a first round may not have its number yet.
     pub fn rounds(&self, call: u32) -> Option<&[Round]>
         ensures live { IfSome result (λ rounds. HasRounds self.now call rounds.now) }
         ensures none { IfNone result (IsLiveCall self.now.course call → ⊥) }
     {
         let progress = live_at(self.calls.as_slice(), call)?;
         Some(progress.rounds.as_slice())
+    }
+
+    /// Returns the number of a live call's last round. If its first round has none yet, that is the number of the records
+    /// that its task executed.
+    pub fn number(&self, call: u32, task: &Task) -> usize
+        requires live { IsLiveCall self.now.course call }
+        requires number { IsFirstNumber task.now.executed self.now call }
+        ensures { due_number (work_in self.now) self.now.course call ≡ Some result }
+    {
+        match last_number(self.calls[call as usize].rounds.as_slice()) {
+            Some(count) => count,
+            None => task.executed(),
+        }
     }
 
     /// Returns the number of statements of a live call in the journal.

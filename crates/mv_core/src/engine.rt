@@ -2,18 +2,19 @@
 
 ghost use Rattle.std.specs.Prelude.{◌≡◌, ◌<◌, ◌≤◌, [], ◌==◌, ◌&&◌, not, nat_lt, length, None, IfOk, IfSome, IfNone, OnOk};
 ghost use Rattle.mv_journal.specs.declared.event.Event.TheVariants.{A, X};
-ghost use Rattle.mv_lawful.specs.Lawful.{Live, Lawful, beginning, course_of, has_round, open_call, AllAllowed};
+ghost use Rattle.mv_lawful.specs.Lawful.{Live, Lawful, beginning, course_of, has_step, has_round, open_call, AllAllowed};
 ghost use Rattle.mv_lawful.specs.Outcomes.{outcome_of};
 ghost use Rattle.mv_exec.specs.Running.{stepped};
-ghost use Rattle.mv_core.specs.Calls.{IsLive, IsLiveCall};
+ghost use Rattle.mv_core.specs.Calls.{IsLive, IsLiveCall, due_number};
 ghost use Rattle.mv_core.specs.Scripts.{IsScript};
 ghost use Rattle.mv_core.specs.Books.{work_in, HasRounds, IsSame, IsAnswer};
-ghost use Rattle.mv_core.specs.Cores.{HasStep, MayStep, IsAllowedIfFresh, HasBegunCall, HasStepped, HasTried, HasRepaired, HasDecided, HasMovedUp, HasCollected};
+ghost use Rattle.mv_core.specs.Cores.{HasStep, HasEnded, MayStep, IsAllowedIfFresh, HasBegunCall, HasStepped, HasTried, HasRepaired, HasDecided, HasMovedUp, HasCollected};
 
 use crate::book::{Book, Check};
 use crate::script::Script;
 use crate::tasks::{
-    Running, commit_task, decide_task, new_task, rerun_task, step_task, validate_task, whole_task,
+    Running, collect_versions, commit_task, decide_task, new_task, rerun_task, step_task,
+    validate_task, whole_task,
 };
 use mv_exec::step::Stepped;
 use mv_journal::event::Event;
@@ -129,17 +130,9 @@ impl Core {
         };
         match validate_task(alloc, &self.book, &self.store, call, running)? {
             Check::Free => {
-                let number = running.number();
                 let task = &running.task;
-                let commit = commit_task(
-                    alloc,
-                    &mut self.book,
-                    &mut self.store,
-                    call,
-                    number,
-                    task,
-                    None,
-                )?;
+                self.book.settle(call, task);
+                let commit = commit_task(alloc, &mut self.book, &mut self.store, call, task, None)?;
                 self.tasks[call as usize] = None;
                 Ok(Attempt::Committed(commit))
             }
@@ -174,15 +167,10 @@ impl Core {
         if start < low {
             return Err(Refused::Stale { start, low });
         }
-        self.book.reserve(call)?;
         let Some(running) = &mut self.tasks[call as usize] else {
             unreachable!();
         };
-        let number = rerun_task(alloc, &self.book, &self.store, call, running)?;
-        let executed = running.number();
-        self.book.settle_as(call, number);
-        self.book.restart(call, Mark::Plain);
-        self.book.settle_as(call, executed);
+        let executed = rerun_task(alloc, &mut self.book, &self.store, call, running)?;
         Ok(executed)
     }
 
@@ -215,8 +203,7 @@ impl Core {
     {
         self.book.reserve(call)?;
         let task = whole_task(alloc, &self.book, &self.store, call, self.book.commits())?;
-        self.book.restart(call, Mark::Moved);
-        self.book.settle(call, &task);
+        self.book.restart(call, Mark::Moved, &task);
         let executed = task.executed();
         self.tasks[call as usize] = Some(Running { task, count: None });
         Ok(executed)
@@ -228,10 +215,7 @@ impl Core {
     pub fn collect(&mut self) -> Result<(), NoMemory>
         ensures { HasCollected result self.old self.new }
     {
-        self.book.reserve_event()?;
-        let low = self.book.collect();
-        self.store.raise(low);
-        Ok(())
+        collect_versions(&mut self.book, &mut self.store)
     }
 
     /// Returns the events. The law of journals allows each of them after those before it.
@@ -244,12 +228,35 @@ impl Core {
     }
 
     /// Returns the rounds of a live call. Returns `None` for a call that hasn't begun or has committed. The last round
-    /// has the call's start, and may not have its number yet.
+    /// has the call's start. Only a first round may not have its number yet.
     pub fn rounds(&self, call: u32) -> Option<&[Round]>
         ensures live { IfSome result (λ rounds. HasRounds self.now call rounds.now) }
         ensures none { IfNone result (IsLiveCall self.now.course call → ⊥) }
     {
         self.book.rounds(call)
+    }
+
+    /// Whether the statements of a live call have run: it isn't in its first round, or no statement of that is left.
+    pub fn ended(&self, call: u32) -> bool
+        requires { IsLiveCall self.now.course call }
+        ensures { (l : Live) → IsLive self.now.course call l → result ≡ not (has_step (work_in self.now) self.now.course call l) }
+    {
+        !self.may_step(call)
+    }
+
+    /// Returns the number of records that the last round of a live call executed. The call's statements must have run.
+    pub fn executed(&self, call: u32) -> usize
+        requires live { IsLiveCall self.now.course call }
+        requires ended { HasEnded self.now call }
+        ensures { due_number (work_in self.now) self.now.course call ≡ Some result }
+    {
+        let Some(running) = &self.tasks[call as usize] else {
+            unreachable!();
+        };
+        match running.count {
+            Some(count) => count,
+            None => self.book.number(call, &running.task),
+        }
     }
 
     /// Returns the number of calls that have begun.
@@ -291,7 +298,8 @@ impl Core {
         rounds.len() == 1 && running.has_more(self.book.steps(call))
     }
 
-    /// Whether a live call may be repaired once more before it is decided in one step.
+    /// Whether a live call was repaired and moved less often than there are rounds. Then it may be repaired once more
+    /// before it is decided in one step.
     pub(crate) fn has_round(&self, call: u32) -> bool
         requires { IsLiveCall self.now.course call }
         ensures { (l : Live) → IsLive self.now.course call l → result ≡ has_round (work_in self.now) l }

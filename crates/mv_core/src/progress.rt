@@ -1,7 +1,7 @@
 //! A call that has begun.
 
 ghost use Rattle.std.specs.Prelude.{◌≡◌, ◌<◌, ◌≤◌, ◌+◌, ◌++◌, ◌∷◌, [], None, Some, All, IfOk, IfSome, IfNone, OnOk, length, map, slice_get};
-ghost use Rattle.mv_core.specs.Calls.{live_of, numbered, closed, unknown, committed, with_own, line_of, replies_in, IsFresh};
+ghost use Rattle.mv_core.specs.Calls.{live_of, numbered, closed, counted, committed, with_own, line_of, replies_in, IsFresh};
 
 use crate::roomy::Roomy;
 use mv_journal::outcome::{HistoryLine, Mark, Round};
@@ -63,12 +63,13 @@ impl Progress {
         self.rounds.number_last(Some(count));
     }
 
-    /// Adds a round that begins after this many commits. A move clears the number of the round before it.
-    pub(crate) fn restart(&mut self, start: u32, mark: Mark)
+    /// Adds a round with its number, which begins after this many commits. A move clears the number of the round before
+    /// it.
+    pub(crate) fn restart(&mut self, start: u32, mark: Mark, count: usize)
         requires { 0 < self.old.rounds.room }
         ensures start { self.new.start ≡ start }
         ensures steps { self.new.steps ≡ self.old.steps }
-        ensures rounds { self.new.rounds.items ≡ closed mark self.old.rounds.items ++ unknown start mark ∷ [] }
+        ensures rounds { self.new.rounds.items ≡ closed mark self.old.rounds.items ++ counted start mark count ∷ [] }
         ensures reply { self.new.reply ≡ self.old.reply }
         ensures room { self.old.rounds.room ≤ self.new.rounds.room + 1 }
     {
@@ -78,7 +79,7 @@ impl Progress {
         self.start = start;
         self.rounds.put(Round {
             start,
-            count: None,
+            count: Some(count),
             mark,
         });
     }

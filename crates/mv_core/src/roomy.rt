@@ -1,7 +1,7 @@
 //! A list with reserved room.
 
 ghost use Rattle.std.specs.Prelude.{◌≡◌, ◌++◌, ◌∷◌, ◌+◌, ◌<◌, ◌≤◌, ◌^◌, [], length, OnOk};
-ghost use Rattle.mv_core.specs.Calls.{numbered};
+ghost use Rattle.mv_core.specs.Calls.{numbered, last_number};
 
 use mv_journal::outcome::Round;
 use mv_values::memory::NoMemory;
@@ -82,5 +82,15 @@ impl Roomy<Round> {
         if let Some(at) = self.items.len().checked_sub(1) {
             self.items[at].count = count;
         }
+    }
+}
+
+/// Returns the number of the last of these rounds, if it is known.
+pub(crate) fn last_number(rounds: &[Round]) -> Option<usize>
+    ensures { result ≡ last_number rounds.now }
+{
+    match rounds {
+        [] => None,
+        [.., last] => last.count,
     }
 }

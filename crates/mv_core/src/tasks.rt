@@ -9,18 +9,19 @@ ghost use Rattle.mv_record.specs.Runs.{Tables};
 ghost use Rattle.mv_record.specs.Writes.{AreRising};
 ghost use Rattle.mv_graph.specs.declared.graph.Graph.{Graph};
 ghost use Rattle.mv_graph.specs.Nodes.{meaning_of};
-ghost use Rattle.mv_exec.specs.Running.{IsTaskOf, IsTaskOn, Leaves};
+ghost use Rattle.mv_exec.specs.Running.{IsTaskOf, IsTaskOn, IsUnchanged, Leaves};
 ghost use Rattle.mv_history.specs.Changes.{changes_between};
-ghost use Rattle.mv_journal.specs.declared.event.Event.TheVariants.{X};
+ghost use Rattle.mv_journal.specs.declared.event.Event.TheVariants.{A, X};
 ghost use Rattle.mv_lawful.specs.Work.{records_at, table_at};
 ghost use Rattle.mv_lawful.specs.Lawful.{Live, refusal};
+ghost use Rattle.mv_store.specs.Changes.{HasRaised};
 ghost use Rattle.mv_store.specs.Stored.{IsLike};
 ghost use Rattle.mv_core.specs.declared.book.Check.TheVariants.{Free as IsFree};
 ghost use Rattle.mv_core.specs.Told.{writes_told};
 ghost use Rattle.mv_core.specs.Scripts.{IsScript};
 ghost use Rattle.mv_core.specs.Calls.{IsLive, IsLiveCall, due_number};
-ghost use Rattle.mv_core.specs.Books.{work_in, last_tables, last_run, last_changes, commit_event, own_number, IsNotStale, IsOwnNumber, AreRecordsOf, IsAnswer};
-ghost use Rattle.mv_core.specs.Cores.{RunsOn, IsStoreOf, IsTaskIn, IsRunning, HasRun, IsLiveTask, IsRepaired, HasStep, IsPrepared, HasCommitted, HasMovedAndCommitted, count_or};
+ghost use Rattle.mv_core.specs.Books.{work_in, last_tables, last_run, last_changes, commit_event, own_number, Made, IsSame, IsSettled, IsNotStale, IsOwnNumber, AreRecordsOf, IsAnswer};
+ghost use Rattle.mv_core.specs.Cores.{RunsOn, IsStoreOf, IsTaskIn, IsRunning, HasRun, HasRunOne, IsLiveTask, IsRepaired, HasStep, IsPrepared, HasCommitted, HasMovedAndCommitted, HasCollected, count_or};
 
 use crate::book::{Book, Check};
 use crate::running::{find_call, has_more, repair_over, run_all, run_next};
@@ -41,7 +42,7 @@ use std::alloc::Global;
 pub struct Running {
     /// The call at some point of its run.
     pub task: Task,
-    /// The number of its last round. It isn't known before the first run or the run of a move has ended.
+    /// The number of its last round. Without one it is that of the records of the whole run.
     pub count: Option<usize>,
 }
 
@@ -60,6 +61,7 @@ impl Running {
     /// allocates no memory.
     pub fn spend(&mut self, alloc: Global, number: usize)
         ensures count { self.new.count ≡ Some number }
+        ensures executed { self.new.task.executed ≡ length self.new.task.records }
         ensures begins { (g : Graph) (call : Call) (db : Tables) → IsTaskOf g call self.old.task → IsTaskOn g call db self.new.task }
     {
         self.task.restart(alloc);
@@ -93,8 +95,9 @@ pub fn new_task(alloc: Global, script: &Script, number: u32) -> Result<Task, NoM
 }
 
 /// Runs the next statement of a live call at its start, unless its task has run more statements than the journal names.
-/// The start may not be below low, and a statement must be left. The journal names that statement next. Fails with
-/// `NoMemory` if memory runs out, and then the task is still that of the call.
+/// The start may not be below low, and a statement must be left. The journal names that statement next. A task that has
+/// run exactly the statements of the journal runs exactly one more. Fails with `NoMemory` if memory runs out, and then the
+/// task has run none.
 pub fn step_task(
     alloc: Global,
     book: &Book,
@@ -106,6 +109,8 @@ pub fn step_task(
     requires fresh { IsNotStale book.now call }
     requires left { HasStep book.now call }
     ensures ok { OnOk result ((l : Live) → IsLive book.now.course call l → IsLiveTask book.now.script book.now.course.order call (record l { steps = l.steps + 1 }) running.new) }
+    ensures one { OnOk result ((l : Live) → IsLive book.now.course call l → l.steps ≡ length running.old.task.records → HasRunOne running.old.task running.new.task) }
+    ensures err { OnErr result (IsUnchanged running.old.task running.new.task) }
     ensures task { IsTaskIn book.now call running.new }
     ensures ran { HasRun running.old running.new }
 {
@@ -191,25 +196,29 @@ pub fn repair_task(
     Ok(())
 }
 
-/// Runs the rest of a live call at its start, which isn't below low, and repairs it. Returns the number of its round
-/// before the repair.
+/// Event A. Runs the rest of a live call at its start, which isn't below low, and repairs it. Returns the number of
+/// executed records. If memory runs out, no event was made, and the call may have lost its records.
 pub(crate) fn rerun_task(
     alloc: Global,
-    book: &Book,
+    book: &mut Book,
     store: &Store,
     call: u32,
     running: &mut Running,
 ) -> Result<usize, NoMemory>
-    requires call { IsRunning book.now store.now call running.old }
-    requires fresh { IsNotStale book.now call }
-    ensures due { IfOk result (λ number. due_number (work_in book.now) book.now.course call ≡ Some number) }
-    ensures ok { OnOk result ((l : Live) → IsLive book.now.course call l → IsRepaired book.now.script book.now.course.order call l running.new) }
-    ensures err { OnErr result (IsTaskIn book.now call running.new) }
+    requires call { IsRunning book.old store.now call running.old }
+    requires fresh { IsNotStale book.old call }
+    requires allowed { refusal (work_in book.old) book.old.course (A call) ≡ None }
+    ensures made { IfOk result (λ n. Made (A call) book.old book.new × (due_number (work_in book.new) book.new.course call ≡ Some n)) }
+    ensures repaired { OnOk result ((l : Live) → IsLive book.old.course call l → IsRepaired book.old.script book.old.course.order call l running.new) }
+    ensures same { OnErr result (IsSame book.old book.new) }
+    ensures task { OnErr result (IsTaskIn book.old call running.new) }
 {
     finish_task(alloc, book, store, call, running)?;
-    let number = running.number();
+    book.settle(call, &running.task);
+    book.reserve(call)?;
     repair_task(alloc, book, store, call, running)?;
-    Ok(number)
+    book.restart(call, Mark::Plain, &running.task);
+    Ok(running.task.executed())
 }
 
 /// Runs a call whole on the tables after this many commits, which may not be below low. Returns its task. Fails with
@@ -280,7 +289,7 @@ fn prepare(
     Ok(Prepared { reply, changes })
 }
 
-/// Commits a live call, whose last round has this number. The records of its task are those of a full run on the last
+/// Commits a live call, whose last round has its number. The records of its task are those of a full run on the last
 /// tables. If a second task is given, the call was repaired in the same step, in a round of its own. Returns the number
 /// of the commit. If memory runs out, the call hasn't committed.
 pub fn commit_task(
@@ -288,7 +297,6 @@ pub fn commit_task(
     book: &mut Book,
     store: &mut Store,
     call: u32,
-    number: usize,
     task: &Task,
     exclusive: Option<&Task>,
 ) -> Result<u32, NoMemory>
@@ -297,14 +305,13 @@ pub fn commit_task(
     requires number { call < length book.old.script.calls }
     requires allowed { refusal (work_in book.old) book.old.course (commit_event (own_number (option_copied exclusive)) call) ≡ None }
     requires whole { task.now.records ≡ records_at (work_in book.old) book.old.course.order (length book.old.course.order) call }
-    requires due { due_number (work_in book.old) book.old.course call ≡ Some number }
+    requires settled { IsSettled book.old call }
     requires own { IsOwnNumber (own_number (option_copied exclusive)) book.old call }
     ensures made { HasCommitted (commit_event (own_number (option_copied exclusive.entry)) call) result book.old book.new }
     ensures stored { IsStoreOf book.new store.new }
 {
     book.reserve(call)?;
     let prepared = prepare(alloc, book, store, call, task.records())?;
-    book.settle_as(call, number);
     let commit = book.commit(call, prepared.reply, prepared.changes, exclusive);
     store.stamp(call, commit);
     Ok(commit)
@@ -327,8 +334,7 @@ pub fn move_and_commit(
     let task = whole_task(alloc, book, store, call, book.commits())?;
     book.reserve(call)?;
     let prepared = prepare(alloc, book, store, call, task.records())?;
-    book.restart(call, Mark::Moved);
-    book.settle(call, &task);
+    book.restart(call, Mark::Moved, &task);
     let commit = book.commit(call, prepared.reply, prepared.changes, None);
     store.stamp(call, commit);
     Ok(commit)
@@ -351,11 +357,28 @@ pub(crate) fn decide_task(
     ensures stored { IsStoreOf book.new store.new }
     ensures task { OnErr result (IsTaskIn book.old call running.new) }
 {
-    let number = rerun_task(alloc, book, store, call, running)?;
+    finish_task(alloc, book, store, call, running)?;
+    book.settle(call, &running.task);
+    let number = running.number();
+    repair_task(alloc, book, store, call, running)?;
     let task = &running.task;
-    let committed = commit_task(alloc, book, store, call, number, task, Some(task));
+    let committed = commit_task(alloc, book, store, call, task, Some(task));
     if committed.is_err() {
         running.spend(alloc, number);
     }
     committed
+}
+
+/// Event G. Collects the versions of the tables before the new low, and the changes of the commits up to it. Fails with
+/// `NoMemory` if memory runs out, and then nothing is collected.
+pub fn collect_versions(book: &mut Book, store: &mut Store) -> Result<(), NoMemory>
+    requires { IsStoreOf book.old store.old }
+    ensures made { HasCollected result book.old book.new }
+    ensures raised { OnOk result (HasRaised book.new.course.low store.old store.new) }
+    ensures same { OnErr result (store.new ≡ store.old) }
+    ensures stored { IsStoreOf book.new store.new }
+{
+    book.reserve_event()?;
+    book.collect(store);
+    Ok(())
 }

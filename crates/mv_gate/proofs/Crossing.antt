@@ -3,7 +3,8 @@ use Rattle.std.proofs.Common.{ℕ, List, [], ◌∷◌}
 use denote.RattleType.{RattleType}
 use denote.Struct.Declared.{shape}
 use denote.Struct.Tuple.{TupleAt, field_at, type_at}
-use denote.Param.Send.{IsSend, IsSync, view_send, recorded_send, recorded_sync, struct_send, struct_sync}
+use denote.Param.Send.{IsSend, IsSync, sendable, view_send, recorded_send, recorded_sync, struct_send, struct_sync}
+use Rattle.std.proofs.Crossing as std
 use Rattle.std.proofs.sync.Mutex.TheSendSync as mutex
 use Rattle.mv_store.proofs.store.Store.TheSendSync as store
 use Rattle.mv_seats.specs.declared.board.Making.{Ghosts}
@@ -18,7 +19,7 @@ use Rattle.mv_gate.specs.contracts.gate.Gate as Gate
 pub desk_send : (N : RattleType) (m : Ghosts N.Denot) → IsSend (Desk.the_row N m)
 desk_send N m =
     view_send (Inside.the_row N m) _ _ _ _
-    (recorded_send (Inside.the_field N m).row _ _ (Inside.the_type N m).to_one (struct_send (shape (Inside.the_type N m)) (book_send, (store.the_send, (pass.the_send N m, tt)))))
+    (recorded_send (Inside.the_field N m).row _ _ (Inside.the_type N m).to_one (struct_send (shape (Inside.the_type N m)) (book_send, (store.the_send, (pass.the_send N m, (search (std.crosses, sendable) depth 60 fits 20000, tt))))))
 
 gate_field_sync : (N : RattleType) (m : Ghosts N.Denot) → IsSync (Gate.the_field N m).row
 gate_field_sync N m = struct_sync (shape (Gate.the_type N m)) (board.the_field_sync N m, (mutex.the_sync (Desk.the_row N m) (desk_send N m), tt))

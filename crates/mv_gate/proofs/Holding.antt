@@ -5,11 +5,12 @@ use mathlib.Core.List.{IsPrefix}
 use Rattle.mv_record.specs.Runs.{Tables}
 use Rattle.mv_undo.specs.Owning.{HasWritesOf}
 use Rattle.mv_exec.specs.declared.task.Task.{Task}
+use Rattle.mv_exec.specs.Running.{IsUnchanged}
 use Rattle.mv_journal.specs.declared.event.Event.TheVariants.{B, S}
 use Rattle.mv_journal.specs.declared.outcome.Round.{Round}
 use Rattle.mv_lawful.specs.Work.{Work, table_at, records_at}
 use Rattle.mv_lawful.specs.Lawful.{Live, Course, used, is_stale, has_step}
-use Rattle.mv_lawful.specs.Rounds.{whole_run, rounds_of}
+use Rattle.mv_lawful.specs.Rounds.{whole_run}
 use Rattle.mv_seats.specs.Scripts.{Script as BoardScript}
 use Rattle.mv_seats.specs.Knowing.{Knows, Plain, plain}
 use Rattle.mv_seats.proofs.Prefixes.{prefix_length}
@@ -17,12 +18,11 @@ use Rattle.mv_store.specs.Stored.{Versioned}
 use Rattle.mv_core.specs.declared.script.Script.{Script}
 use Rattle.mv_core.specs.declared.tasks.Running.{Running}
 use Rattle.mv_core.specs.Scripts.{work_of}
-use Rattle.mv_core.specs.Calls.{IsLive, IsLiveCall, AreRounds, turns_in, last_number, due_number}
-use Rattle.mv_core.specs.Books.{Booked, work_in, Made, IsSame, HasRounds, IsNotStale}
-use Rattle.mv_core.specs.Cores.{RunsOn, IsStoreOf, HasTurns, HasStep, HasRun, count_or, IsCounted, IsLiveTask, IsTaskIn, IsRunning}
-use Rattle.mv_core.proofs.Numbers.{settled}
+use Rattle.mv_core.specs.Calls.{IsLive, IsLiveCall, turns_in, due_number}
+use Rattle.mv_core.specs.Books.{Booked, work_in, Made, IsSame, HasRounds, IsNotStale, IsFirstNumber}
+use Rattle.mv_core.specs.Cores.{RunsOn, IsStoreOf, HasTurns, HasStep, HasRun, HasRunOne, count_or, IsCounted, IsLiveTask, IsTaskIn, IsRunning}
 use Rattle.mv_core.proofs.Refusing.{begun_number, used_rounds}
-use Rattle.mv_core.proofs.Taking.{one_live, due_now, task_given, task_writes}
+use Rattle.mv_core.proofs.Taking.{one_live, due_live, due_first, first_number, task_given, task_writes}
 use Rattle.mv_core.proofs.Changed.{step_used, live_stepped}
 use Rattle.mv_gate.specs.Gates.{script_in, work, HaveTurns, IsDesk, Holding, IsExecuted, IsHeld, IsUnderWay, IsWhole, IsLatest, IsKnown, HasCall, repaired_from}
 use Rattle.mv_gate.proofs.Prefixes.{number_by, table_prefix, repair_prefix, whole_prefix, number_prefix}
@@ -62,7 +62,10 @@ task_here s b store gate h d holds p k =
       counted =
           counted_here (work s) h.knows.seen b.course.order h.call h.start h.from h.running.count k.live p holds.past (sym k.start) turns k.from
           (numbered (work s) h.knows.seen h.call h.from h.start h.running holds.executed);
-      steps = λ none first. k.steps first;
+      executed = λ first.
+          let none : h.from ≡ None = sym k.from ∙ only_first (length b.course.order) k.live turns first in
+          (subst (λ o. IsExecuted (work s) h.knows.seen h.call o h.start h.running) none holds.executed).1;
+      steps = λ none first. let is = k.steps first in omega (arith, is);
       turns = turns;
     })
 
@@ -98,13 +101,13 @@ has_call s b store gate h d holds p k = record {
 
 -- its rounds, its start and its statements as the book tells them
 pub known_by : (b : Booked) (h : Holding) (rs : List Round) (start : ℕ) → HasRounds b h.call rs → ((l : Live) → IsLive b.course h.call l → start ≡ l.start) → start ≡ h.start → repaired_from (turns_in rs) ≡ h.from
-    → ((l : Live) → IsLive b.course h.call l → used l ≡ 0 → l.steps ≤ length h.running.task.records) → IsKnown b h
-known_by b h rs start has starts same from few = record {
+    → ((l : Live) → IsLive b.course h.call l → used l ≡ 0 → l.steps ≡ length h.running.task.records) → IsKnown b h
+known_by b h rs start has starts same from all = record {
   live = has.live;
   is_live = has.is_live;
   start = sym (starts has.live has.is_live) ∙ same;
   from = sym (ap repaired_from has.turns) ∙ from;
-  steps = few has.live has.is_live;
+  steps = all has.live has.is_live;
 }
 
 -- a call with one round, and a call with more
@@ -113,7 +116,7 @@ first_round b c rs l turns has live one =
     let many = used_rounds b c (length b.course.order) l rs has live (turns c l live.at) in
     omega (arith, many, one)
 
-pub later_round : (b : Booked) (c : ℕ) (rs : List Round) (n : ℕ) → HaveTurns b.course → HasRounds b c rs → 1 < length rs → (l : Live) → IsLive b.course c l → used l ≡ 0 → l.steps ≤ n
+pub later_round : (b : Booked) (c : ℕ) (rs : List Round) (n : ℕ) → HaveTurns b.course → HasRounds b c rs → 1 < length rs → (l : Live) → IsLive b.course c l → used l ≡ 0 → l.steps ≡ n
 later_round b c rs n turns has more l live first =
     let many = used_rounds b c (length b.course.order) l rs has live (turns c l live.at) in
     absurd (omega (arith, many, more, first))
@@ -144,22 +147,32 @@ known_same old new h course k = record {
   steps = k.steps;
 }
 
--- the number of a call that has a statement left isn't known yet
-uncounted : (s : BoardScript) (b : Booked) (h : Holding) → HaveTurns b.course → IsHeld s h → IsKnown b h → HasStep b h.call → h.running.count ≡ None
-uncounted s b h turns holds k step =
-    let first : used k.live ≡ 0 = step_used (work_in b) b.course h.call k.live (step k.live k.is_live) in
-    let none : h.from ≡ None = sym k.from ∙ only_first (length b.course.order) k.live (turns h.call k.live k.is_live.at) first in
-    (subst (λ o. IsExecuted (work s) h.knows.seen h.call o h.start h.running) none holds.executed).0
+-- what is said of a statement of the call's first round, of a task that has run all before it
+abbrev pub OneMore : Booked → Holding → Running → Type 0
+OneMore b h r = (l : Live) → IsLive b.course h.call l → l.steps ≡ length h.running.task.records → HasRunOne h.running.task r.task
+
+-- a call that has a statement left has run all before it, and runs one
+pub one_more : (b : Booked) (h : Holding) (r : Running) → HasStep b h.call → OneMore b h r → IsKnown b h → HasRunOne h.running.task r.task
+one_more b h r step one k = one k.live k.is_live (k.steps (step_used (work_in b) b.course h.call k.live (step k.live k.is_live)))
 
 -- and after a statement
-pub known_stepped : (s : BoardScript) (b new : Booked) (h : Holding) (r : Running) → HaveTurns b.course → IsHeld s h → HasStep b h.call → HasRun h.running r
-    → ((l : Live) → IsLive b.course h.call l → IsLiveTask b.script b.course.order h.call (record l { steps = l.steps + 1 }) r) → Made (S h.call) b new → IsKnown b h → IsKnown new (record h { running = r })
-known_stepped s b new h r turns holds step ran task made k = record {
+pub known_stepped : (b new : Booked) (h : Holding) (r : Running) → HasStep b h.call → OneMore b h r → Made (S h.call) b new → IsKnown b h → IsKnown new (record h { running = r })
+known_stepped b new h r step one made k = record {
   live = record k.live { steps = k.live.steps + 1 };
   is_live = live_stepped h.call b new k.live k.is_live made;
   start = k.start;
   from = k.from;
-  steps = (task k.live k.is_live).steps (ran.count ∙ uncounted s b h turns holds k step);
+  steps = λ first. let was = k.steps first in let more = (one_more b h r step one k).records in omega (arith, was, more);
+}
+
+-- and where none was run
+pub known_kept : (b : Booked) (h : Holding) (r : Running) → IsUnchanged h.running.task r.task → IsKnown b h → IsKnown b (record h { running = r })
+known_kept b h r same k = record {
+  live = k.live;
+  is_live = k.is_live;
+  start = k.start;
+  from = k.from;
+  steps = λ first. k.steps first ∙ sym (ap length same.records);
 }
 
 -- a test that fails
@@ -248,9 +261,9 @@ whole_same old new c r same h = record {
 pub running_of : (b : Booked) (store : Versioned) (c : ℕ) (r : Running) → IsStoreOf b store → IsUnderWay b c r → IsRunning b store c r
 running_of b store c r k o = record { stored = k; live = o.live; number = o.there; task = o.task }
 
--- the number of its last round
-pub due_whole : (b : Booked) (c n : ℕ) (r : Running) → IsWhole b c r → n ≡ count_or r.count (length r.task.records) → due_number (work_in b) b.course c ≡ Some n
-due_whole b c n r h is = due_now b c n r h.call.live h.call.task h.records is
+-- the number of its first round
+pub first_whole : (b : Booked) (c : ℕ) (r : Running) → IsWhole b c r → IsFirstNumber r.task.executed b c
+first_whole b c r h = due_first b c r h.call.task h.records
 
 -- its own writes are those of its records
 pub open_writes : (b : Booked) (store : Versioned) (c : ℕ) (r : Running) → IsStoreOf b store → IsUnderWay b c r → HasWritesOf r.task.undo r.task.records
@@ -266,28 +279,19 @@ not_below n m h = grind (arith, h)
 
 -- A call that was run whole anew
 
--- the number of the last round, if it is known
-known_number : (kept all : List Round) (k : ℕ) → AreRounds kept all → last_number kept ≡ Some k → last_number all ≡ Some k
-known_number kept all k are is = sym (ap last_number (settled kept all k are is)) ∙ is
+pub number_anew : (b : Booked) (c start whole : ℕ) (task : Task) → HaveTurns b.course → ((l : Live) → IsLive b.course c l → start ≡ l.start) → task.records ≡ records_at (work_in b) b.course.order start c → whole ≡ length task.records
+    → IsFirstNumber whole b c
+number_anew b c start whole task turns starts are long l live first =
+    due_live (work_in b) b.course c l live
+    ∙ (first_number (work_in b) b.course.order c (length b.course.order) l (turns c l live.at) first
+    ∙ ap Some (ap (λ n. length (records_at (work_in b) b.course.order n c)) (sym (starts l live)) ∙ (sym (ap length are) ∙ sym long)))
 
-counted_anew : (w : Work) (order : List ℕ) (c n whole k : ℕ) (l : Live) (rs : List Round) (from : Option ℕ) → HasTurns n l → turns_in rs ≡ l.turns → AreRounds rs (rounds_of w order c l.turns) → repaired_from (turns_in rs) ≡ from
-    → whole ≡ whole_run w order c l.start → (from ≡ None → Some k ≡ Some whole) → ((from ≡ None → ⊥) → Some k ≡ last_number rs) → last_number (rounds_of w order c l.turns) ≡ Some k
-counted_anew w order c n whole k l rs None h turns are comes all by_run known =
-    number_came w order c n l h ∙ (ap (λ o. Some (number_by w order c o l.start)) (sym (ap repaired_from turns) ∙ comes) ∙ (ap Some (sym all) ∙ sym (by_run refl)))
-counted_anew w order c n whole k l rs (Some from) h turns are comes all by_run known = known_number rs (rounds_of w order c l.turns) k are (sym (known (λ none. search (rules, none))))
-
-pub renewed : (s : BoardScript) (b : Booked) (store : Versioned) (gate : Knows) (c start whole k : ℕ) (rs : List Round) (task : Task) → IsDesk s b store gate → IsLiveCall b.course c → c < length b.script.calls → HasRounds b c rs
-    → ((l : Live) → IsLive b.course c l → start ≡ l.start) → RunsOn b.script c (table_at (work_in b) b.course.order start) task → task.records ≡ records_at (work_in b) b.course.order start c
-    → whole ≡ length task.records → (repaired_from (turns_in rs) ≡ None → Some k ≡ Some whole) → ((repaired_from (turns_in rs) ≡ None → ⊥) → Some k ≡ last_number rs) → IsUnderWay b c (record { task = task; count = Some k })
-renewed s b store gate c start whole k rs task d live there has starts runs are long by_run known = record {
+pub renewed : (b : Booked) (c start k : ℕ) (task : Task) → HaveTurns b.course → IsLiveCall b.course c → c < length b.script.calls → ((l : Live) → IsLive b.course c l → start ≡ l.start)
+    → RunsOn b.script c (table_at (work_in b) b.course.order start) task → task.executed ≡ length task.records → due_number (work_in b) b.course c ≡ Some k → IsUnderWay b c (record { task = task; count = Some k })
+renewed b c start k task turns live there starts runs all due = record {
   live = live;
   there = there;
   task = λ l at.
-      let first : start ≡ l.start = starts l at in
-      let same : has.live ≡ l = one_live b.course c has.live l has.is_live at in
-      task_given b.script b.course.order c k l (record { task = task; count = Some k }) (d.turns c l at.at)
-      (counted_anew (work_in b) b.course.order c (length b.course.order) whole k l rs (repaired_from (turns_in rs)) (d.turns c l at.at) (has.turns ∙ ap (λ (x : Live). x.turns) same)
-      (subst (λ (x : Live). AreRounds rs (rounds_of (work_in b) b.course.order c x.turns)) same has.rounds) refl
-      (long ∙ (ap length are ∙ ap (λ n. length (records_at (work_in b) b.course.order n c)) first)) by_run known) refl
-      (subst (λ n. RunsOn b.script c (table_at (work_in b) b.course.order n) task) first runs);
+      task_given b.script b.course.order c k l (record { task = task; count = Some k }) (turns c l at.at) (sym (due_live (work_in b) b.course c l at) ∙ due) refl all
+      (subst (λ n. RunsOn b.script c (table_at (work_in b) b.course.order n) task) (starts l at) runs);
 }

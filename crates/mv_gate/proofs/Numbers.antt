@@ -2,8 +2,8 @@
 use Rattle.std.proofs.Common.{◌≡◌, ℕ, zero, suc, ◌-◌, ◌≤◌, ◌<◌, Bool, true, false, not, List, [], ◌∷◌, Option, Some, None, length, refl, sym, ap, ◌∙◌, arith, rules}
 use Rattle.std.specs.Prelude.{slice_index_or}
 use Rattle.std.specs.Option.{option_eq}
-use Rattle.std.proofs.lemmas.Bool.Decides.{eqb_tells, nat_tests}
-use lib.Dec.{eqb, leb}
+use Rattle.std.proofs.lemmas.Bool.Decides.{eqb_tells}
+use lib.Dec.{eqb}
 use Rattle.mv_journal.specs.declared.outcome.Mark.{Mark}
 use Rattle.mv_journal.specs.declared.outcome.Mark.TheVariants.{Plain, Exclusive, Moved}
 use Rattle.mv_journal.specs.declared.outcome.Round.{Round}
@@ -70,22 +70,12 @@ repaired_later rs d e h = by (length rs - 2) refl (omega (arith, h)) where
       ∙ (ap (λ n. repaired_by (slice_index_or rs (suc k) d).mark (slice_index_or rs n e).start) (sym at)
       ∙ ap (λ n. repaired_by (slice_index_or rs n d).mark (slice_index_or rs (length rs - 2) e).start) (omega (arith, long)))
 
-last_at : (rs : List Round) (k : ℕ) (d : Round) → length rs ≡ suc k → (slice_index_or rs k d).count ≡ last_number rs
-last_at [] k d h = absurd (omega (arith, h))
-last_at (r ∷ []) zero d h = refl
-last_at (r ∷ []) (suc k) d h = absurd (omega (arith, h))
-last_at (r ∷ s ∷ rs) zero d h = absurd (omega (arith, h))
-last_at (r ∷ s ∷ rs) (suc k) d h = last_at (s ∷ rs) k d (omega (arith, h))
-
-pub last_is : (rs : List Round) (d : Round) → 1 ≤ length rs → (slice_index_or rs (length rs - 1) d).count ≡ last_number rs
-last_is rs d h = last_at rs (length rs - 1) d (omega (arith, h))
-
 -- Tests of starts and numbers
 
-same_number : (a b : ℕ) → eqb a b ≡ true → a ≡ b
+pub same_number : (a b : ℕ) → eqb a b ≡ true → a ≡ b
 same_number a b h = grind (arith, eqb_tells, h)
 
-number_same : (a b : ℕ) → a ≡ b → eqb a b ≡ true
+pub number_same : (a b : ℕ) → a ≡ b → eqb a b ≡ true
 number_same a b h = grind (arith, eqb_tells, h)
 
 pub same_starts : (a b : Option ℕ) → not (option_eq eqb a b) ≡ false → a ≡ b
@@ -105,9 +95,3 @@ starts_apart (Some x) (Some y) h e =
     let one : x ≡ y = search (rules, e) in
     let no : false ≡ true = sym (ap not (number_same x y one)) ∙ h in
     search (rules, no)
-
-pub less_is : (a b : ℕ) → leb a b ≡ true → a ≤ b
-less_is a b h = grind (arith, nat_tests, h)
-
-pub is_less : (a b : ℕ) → a ≤ b → leb a b ≡ true
-is_less a b h = grind (arith, nat_tests, h)

@@ -129,14 +129,14 @@ repaired_from (t ∷ []) = None
 repaired_from (t ∷ u ∷ []) = repaired_by u.mark t.start
 repaired_from (t ∷ u ∷ v ∷ ts) = repaired_from (u ∷ v ∷ ts)
 
--- the history has the holder's call, with the same start and the same repair. In its first round its task has a record of
--- each statement that the journal names
+-- the history has the holder's call, with the same start and the same repair. In its first round its task has exactly a
+-- record of each statement that the journal names
 pub record IsKnown (b : Booked) (h : Holding) : Type 0 where
   pub live : Live
   pub is_live : IsLive b.course h.call live
   pub start : live.start ≡ h.start
   pub from : repaired_from live.turns ≡ h.from
-  pub steps : used live ≡ 0 → live.steps ≤ length h.running.task.records
+  pub steps : used live ≡ 0 → live.steps ≡ length h.running.task.records
 
 -- the holder's call is under way, with its start. While it has a statement left, its holder may have any task that the
 -- holder's one runs on to

@@ -8,7 +8,7 @@ ghost use Rattle.mv_journal.specs.declared.event.Event.TheVariants.{A, M, C, X};
 ghost use Rattle.mv_core.specs.Scripts.{IsScript};
 ghost use Rattle.mv_core.specs.Calls.{IsLive, IsLiveCall};
 ghost use Rattle.mv_core.specs.Books.{work_in, Made, IsSame, IsNotStale};
-ghost use Rattle.mv_core.specs.Cores.{HasStep, HasCollected, HasMovedAndCommitted};
+ghost use Rattle.mv_core.specs.Cores.{HasStep, HasRunOne, HasCollected, HasMovedAndCommitted};
 ghost use Rattle.mv_gate.specs.declared.answers.Answer.TheVariants as Answer;
 ghost use Rattle.mv_lawful.specs.declared.fault.Fault.TheVariants.{Conflict};
 ghost use Rattle.mv_gate.specs.Gates.{script_in, work, IsUnderWay, IsWhole, IsRestarted, IsLastRun, IsLatest, IsStale, HasRound, IsKnown, HasCall, HandsOut, StepsOn, Tries, answer_in, GivesBack, IsOutcome, IsDone, GoesOn};
@@ -16,12 +16,12 @@ ghost use Rattle.mv_gate.specs.Gates.{script_in, work, IsUnderWay, IsWhole, IsRe
 use crate::answers::Answer;
 use crate::held::Held;
 use crate::notes::note;
-use crate::rounds::{count_of, repaired_from};
+use crate::rounds::repaired_from;
 use mv_core::book::{Book, Check};
 use mv_core::script::Script;
 use mv_core::tasks::{
-    Running, commit_task, finish_task, move_and_commit, new_task, repair_task, step_task,
-    whole_task,
+    Running, collect_versions, commit_task, finish_task, move_and_commit, new_task, repair_task,
+    step_task, whole_task,
 };
 use mv_journal::outcome::{Mark, Outcome};
 use mv_seats::board::{Board, Making};
@@ -37,6 +37,8 @@ pub struct Desk<N: Making> {
     book: Book,
     store: Store,
     pass: Pass<N>,
+    /// Whether a hold has found no memory.
+    wants_memory: bool,
 }
 
 impl<N: Making> Model for Desk<N> {
@@ -66,7 +68,12 @@ impl<N: Making> Desk<N> {
     {
         let store = Store::new(alloc, &script.opening)?;
         let book = Book::new(alloc, script);
-        Ok(Desk { book, store, pass })
+        Ok(Desk {
+            book,
+            store,
+            pass,
+            wants_memory: false,
+        })
     }
 
     /// Event B. Begins the next call, after all commits, and hands it out. It copies the call's arguments. Returns `None`
@@ -90,6 +97,18 @@ impl<N: Making> Desk<N> {
         }))
     }
 
+    /// Whether a hold has found no memory. Then no worker begins a call, and nothing is collected.
+    pub fn wants_memory(&self) -> bool {
+        self.wants_memory
+    }
+
+    /// Notes that a hold has found no memory.
+    pub fn mark(&mut self)
+        ensures { self.new ≡ self.old }
+    {
+        self.wants_memory = true;
+    }
+
     /// Splits off a plain pass that has seen all commits.
     pub fn pass_for(&mut self, board: &Board<N>) -> Pass<N>
         ensures same { self.new ≡ self.old }
@@ -110,7 +129,7 @@ impl<N: Making> Desk<N> {
     }
 
     /// Whether the history has the call as its holder knows it: live, with the same start and the same repair. In the
-    /// call's first round the holder must have run each statement that the journal names.
+    /// call's first round the holder must have run exactly the statements that the journal names.
     fn has(&self, held: &Held<N>) -> bool
         requires { IsPrefix held.now.knows.seen self.now.course.order }
         ensures known { IsTrue result ↔ IsKnown self.now held.now }
@@ -126,7 +145,7 @@ impl<N: Making> Desk<N> {
         if repaired_from(rounds) != held.from {
             return false;
         }
-        rounds.len() > 1 || self.book.steps(held.call) <= held.running.task.records().len()
+        rounds.len() > 1 || self.book.steps(held.call) == held.running.task.records().len()
     }
 
     /// Whether a live call is in its first round, which has a statement left.
@@ -148,7 +167,7 @@ impl<N: Making> Desk<N> {
         self.book.start(call) < self.store.low()
     }
 
-    /// Event S. Executes the next statement of a call that its holder runs, over the tables at its start. Returns false,
+    /// Event S. Executes the next statement of a call that its holder runs, and no other, over the tables at its start. Returns false,
     /// and does nothing, only if the call has no statement left, or its start is below low, or the history doesn't have
     /// it as its holder knows it. Fails with `NoMemory` if memory runs out. Then the event wasn't made, and the call can go on.
     /// If the history had the call as its holder knows it, it still does.
@@ -159,6 +178,7 @@ impl<N: Making> Desk<N> {
         held: &mut Held<N>,
     ) -> Result<bool, NoMemory>
         ensures made { StepsOn held.old result self.old self.new }
+        ensures one { IfOk result (λ ran. ran ≡ true → HasRunOne held.old.running.task held.new.running.task) }
         ensures known { IsKnown self.old held.old → IsKnown self.new held.new }
         ensures call { held.new.call ≡ held.old.call }
         ensures start { held.new.start ≡ held.old.start }
@@ -195,16 +215,9 @@ impl<N: Making> Desk<N> {
         ensures err { OnErr result (IsSame self.old self.new) }
     {
         let _events = self.book.journal();
-        let number = running.number();
-        let commit = commit_task(
-            alloc,
-            &mut self.book,
-            &mut self.store,
-            call,
-            number,
-            &running.task,
-            None,
-        )?;
+        let task = &running.task;
+        self.book.settle(call, task);
+        let commit = commit_task(alloc, &mut self.book, &mut self.store, call, task, None)?;
         self.pass.append(board, call);
         Ok(commit)
     }
@@ -219,12 +232,10 @@ impl<N: Making> Desk<N> {
         ensures err { OnErr result (IsSame self.old self.new) }
     {
         let _events = self.book.journal();
-        self.book.reserve(call)?;
-        let number = running.number();
-        repair_task(alloc, &self.book, &self.store, call, running)?;
-        self.book.settle_as(call, number);
-        self.book.restart(call, Mark::Plain);
         self.book.settle(call, &running.task);
+        self.book.reserve(call)?;
+        repair_task(alloc, &self.book, &self.store, call, running)?;
+        self.book.restart(call, Mark::Plain, &running.task);
         Ok(())
     }
 
@@ -243,7 +254,7 @@ impl<N: Making> Desk<N> {
         ensures err { OnErr result (IsSame self.old self.new) }
     {
         let _events = self.book.journal();
-        let number = running.number();
+        self.book.settle(call, &running.task);
         repair_task(alloc, &self.book, &self.store, call, running)?;
         let task = &running.task;
         let commit = commit_task(
@@ -251,7 +262,6 @@ impl<N: Making> Desk<N> {
             &mut self.book,
             &mut self.store,
             call,
-            number,
             task,
             Some(task),
         )?;
@@ -272,8 +282,7 @@ impl<N: Making> Desk<N> {
         let _events = self.book.journal();
         self.book.reserve(call)?;
         let task = whole_task(alloc, &self.book, &self.store, call, self.book.commits())?;
-        self.book.restart(call, Mark::Moved);
-        self.book.settle(call, &task);
+        self.book.restart(call, Mark::Moved, &task);
         Ok(Running { task, count: None })
     }
 
@@ -473,10 +482,7 @@ impl<N: Making> Desk<N> {
     pub fn collect(&mut self) -> Result<(), NoMemory>
         ensures { HasCollected result self.old self.new }
     {
-        self.book.reserve_event()?;
-        let low = self.book.collect();
-        self.store.raise(low);
-        Ok(())
+        collect_versions(&mut self.book, &mut self.store)
     }
 
     /// Returns the number of calls of the script.
@@ -486,22 +492,16 @@ impl<N: Making> Desk<N> {
         self.book.script().calls.len() as u32
     }
 
-    /// Runs a live call whole anew, at its start, which isn't below low. Fails with `NoMemory` if memory runs out, or if
-    /// the call was repaired and the history doesn't have the number of that round.
+    /// Runs a live call whole anew, at its start, which isn't below low. Fails with `NoMemory` if memory runs out.
     fn renew(&self, alloc: Global, call: u32) -> Result<Running, NoMemory>
         requires live { IsLiveCall self.now.course call }
         requires number { call < length self.now.script.calls }
         requires fresh { IsNotStale self.now call }
         ensures { IfOk result (IsUnderWay self.now call) }
     {
-        let Some(rounds) = self.book.rounds(call) else {
-            unreachable!();
-        };
         let start = self.book.start(call);
         let task = whole_task(alloc, &self.book, &self.store, call, start)?;
-        let Some(count) = count_of(rounds, task.records().len()) else {
-            return Err(NoMemory);
-        };
+        let count = self.book.number(call, &task);
         Ok(Running {
             task,
             count: Some(count),

@@ -61,16 +61,29 @@ impl<N: Making> Gate<N> {
         Ok((Gate { board, desk }, pass))
     }
 
-    /// Event B, as one hold.
+    /// Event B, as one hold. Returns `None` too once a hold has found no memory.
     fn begin<R: Wait>(&self, rt: &R, alloc: Global) -> Result<Option<Held<N>>, NoMemory> {
-        self.desk.lock(rt).begin(alloc, &self.board)
+        let mut desk = self.desk.lock(rt);
+        if desk.wants_memory() {
+            return Ok(None);
+        }
+        let begun = desk.begin(alloc, &self.board);
+        if begun.is_err() {
+            desk.mark();
+        }
+        begun
     }
 
     /// Event S, as one hold.
     fn step<R: Wait>(&self, rt: &R, alloc: Global, held: &mut Held<N>) -> Result<bool, NoMemory>
         ensures { held.new.call ≡ held.old.call }
     {
-        self.desk.lock(rt).step(alloc, &self.board, held)
+        let mut desk = self.desk.lock(rt);
+        let ran = desk.step(alloc, &self.board, held);
+        if ran.is_err() {
+            desk.mark();
+        }
+        ran
     }
 
     /// Event C, A, X or M, or M and C, as one hold.
@@ -80,14 +93,26 @@ impl<N: Making> Gate<N> {
         alloc: Global,
         held: Held<N>,
     ) -> Result<(Answer, Option<Held<N>>), NoMemory> {
-        self.desk.lock(rt).attempt(alloc, &self.board, held)
+        let mut desk = self.desk.lock(rt);
+        let tried = desk.attempt(alloc, &self.board, held);
+        if tried.is_err() {
+            desk.mark();
+        }
+        tried
     }
 
-    /// Event G, as one hold, after each commit whose number is a multiple of `COLLECTION_INTERVAL`. If memory runs out,
-    /// nothing is collected, and the next such commit tries anew.
+    /// Event G, as one hold, after each commit whose number is a multiple of `COLLECTION_INTERVAL`, unless a hold has found
+    /// no memory.
     fn collect<R: Wait>(&self, rt: &R, commit: u32) {
-        if commit % COLLECTION_INTERVAL == 0 {
-            let _collected = self.desk.lock(rt).collect();
+        if commit % COLLECTION_INTERVAL != 0 {
+            return;
+        }
+        let mut desk = self.desk.lock(rt);
+        if desk.wants_memory() {
+            return;
+        }
+        if desk.collect().is_err() {
+            desk.mark();
         }
     }
 }
@@ -152,9 +177,9 @@ fn run_call<N: Making, R: Threads + Wait + Sync, P: Pace>(
     unreachable!()
 }
 
-/// Begins calls and tries to commit each, until none is left to begin. Calls the pace after each begin, each statement and
-/// each commit, and before each attempt to commit, while it doesn't hold the lock. Fails with `NoMemory` if memory runs
-/// out. Then its last call may not have committed.
+/// Begins calls and tries to commit each, until none is left to begin, or some worker has found no memory. Calls the pace
+/// after each begin, each statement and each commit, and before each attempt to commit, while it doesn't hold the lock.
+/// Fails with `NoMemory` if it finds no memory. Then its last call may not have committed.
 pub fn worker<N: Making, R: Threads + Wait + Sync, P: Pace>(
     rt: &R,
     alloc: Global,

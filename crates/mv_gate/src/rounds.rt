@@ -1,7 +1,7 @@
 //! How the last round of a call came about.
 
-ghost use Rattle.std.specs.Prelude.{◌≡◌, ◌≢◌, None, Some};
-ghost use Rattle.mv_core.specs.Calls.{turns_in, last_number};
+ghost use Rattle.std.specs.Prelude.{◌≡◌};
+ghost use Rattle.mv_core.specs.Calls.{turns_in};
 ghost use Rattle.mv_gate.specs.Gates.{repaired_by, repaired_from};
 
 use mv_journal::outcome::{Mark, Round};
@@ -25,26 +25,4 @@ pub(crate) fn repaired_from(rounds: &[Round]) -> Option<u32>
         return None;
     }
     repaired_by(rounds[count - 1].mark, rounds[count - 2].start)
-}
-
-/// Returns the number of the last of these rounds, if it is known.
-fn last_count(rounds: &[Round]) -> Option<usize>
-    ensures { result ≡ last_number rounds.now }
-{
-    match rounds {
-        [] => None,
-        [.., last] => last.count,
-    }
-}
-
-/// Returns the number of the last of these rounds: that of a whole run, unless it was repaired. The number of a repair
-/// may not be known.
-pub(crate) fn count_of(rounds: &[Round], whole: usize) -> Option<usize>
-    ensures whole { repaired_from (turns_in rounds.now) ≡ None → result ≡ Some whole }
-    ensures known { repaired_from (turns_in rounds.now) ≢ None → result ≡ last_number rounds.now }
-{
-    match repaired_from(rounds) {
-        None => Some(whole),
-        Some(_) => last_count(rounds),
-    }
 }

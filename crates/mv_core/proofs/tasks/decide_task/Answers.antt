@@ -1,25 +1,80 @@
-use Rattle.std.proofs.Common.{Some, Result, Ok, Err, ℕ, ap, sym, ◌∙◌}
-use Rattle.std.specs.Prelude.{OnErr}
+use Rattle.std.proofs.Common.{◌≡◌, ◌<◌, length, Some, Result, Ok, Err, ℕ, ap, sym, ◌∙◌}
+use Rattle.std.specs.Prelude.{OnErr, false}
 use Rattle.mv_values.specs.declared.memory.NoMemory.{NoMemory}
+use Rattle.mv_journal.specs.declared.event.Event.TheVariants.{X}
+use Rattle.mv_lawful.specs.Work.{records_at}
+use Rattle.mv_lawful.specs.Lawful.{Live, is_stale}
+use Rattle.mv_core.specs.Scripts.{work_of}
+use Rattle.mv_core.specs.Calls.{IsLive, IsLiveCall}
 use Rattle.mv_core.specs.Books.{work_in}
-use Rattle.mv_core.proofs.Taking.{due_live, task_runs, task_back, task_given}
-use Rattle.mv_core.proofs.Changed.{due_decided}
+use Rattle.mv_core.specs.Cores.{IsRunning, IsLiveTask, IsRepaired, HasTurns}
+use Rattle.mv_core.proofs.Stored.{stored_same}
+use Rattle.mv_core.proofs.Taking.{due_live, due_now, due_first, task_runs, task_back, task_given}
+use Rattle.mv_core.proofs.Changed.{on_new, on_old, running_same, allowed_same, due_decided, committed_after}
 use Rattle.mv_core.proofs.tasks.decide_task.Goals as goal
 
+pub settle-requires-clause-number : goal.settle-requires-clause-number
+settle-requires-clause-number c = due_first c.args.book.now c.args.call c.finish_task.new.running c.finish_task.ensures.task c.in_ok-finish_task.ensures.ok
+
+pub repair_task-requires-clause-call : goal.repair_task-requires-clause-call
+repair_task-requires-clause-call c =
+    let r : IsRunning c.args.book.now c.args.store.now c.args.call c.finish_task.new.running =
+    record { stored = c.requires.call.stored; live = c.requires.call.live; number = c.requires.call.number; task = c.finish_task.ensures.task } in
+    running_same c.args.book.now c.settle.new.self c.args.store.now c.args.call c.finish_task.new.running c.settle.ensures.same r
+
+pub repair_task-requires-clause-fresh : goal.repair_task-requires-clause-fresh
+repair_task-requires-clause-fresh c = on_new (λ s x. (l : Live) → IsLive x c.args.call l → is_stale x l ≡ false) c.args.book.now c.settle.new.self c.settle.ensures.same c.requires.fresh
+
+pub repair_task-requires-clause-whole : goal.repair_task-requires-clause-whole
+repair_task-requires-clause-whole c =
+    on_new (λ s x. (l : Live) → IsLive x c.args.call l → c.finish_task.new.running.task.records ≡ records_at (work_of s) x.order l.start c.args.call) c.args.book.now c.settle.new.self c.settle.ensures.same c.in_ok-finish_task.ensures.ok
+
+on_err : {T P : Type 0} (r : Result T NoMemory) → P → OnErr r P
+on_err (Ok x) p = tt
+on_err (Err e) p = p
+
+pub returns-in_err-repair_task-clause-stored : goal.returns-in_err-repair_task-clause-stored
+returns-in_err-repair_task-clause-stored c = stored_same c.args.book.now c.settle.new.self c.args.store.now c.requires.call.stored c.settle.ensures.same
+
+pub returns-in_err-repair_task-clause-task : goal.returns-in_err-repair_task-clause-task
+returns-in_err-repair_task-clause-task c =
+    on_err c.from_residual-in_err-repair_task.result
+    (on_old (λ s x. (l : Live) → IsLive x c.args.call l → IsLiveTask s x.order c.args.call l c.repair_task.new.running) c.args.book.now c.settle.new.self c.settle.ensures.same c.in_err-repair_task.ensures.err)
+
+pub commit_task-committed-requires-clause-stored : goal.commit_task-committed-requires-clause-stored
+commit_task-committed-requires-clause-stored c = stored_same c.args.book.now c.settle.new.self c.args.store.now c.requires.call.stored c.settle.ensures.same
+
+pub commit_task-committed-requires-clause-live : goal.commit_task-committed-requires-clause-live
+commit_task-committed-requires-clause-live c = on_new (λ s x. IsLiveCall x c.args.call) c.args.book.now c.settle.new.self c.settle.ensures.same c.requires.call.live
+
+pub commit_task-committed-requires-clause-number : goal.commit_task-committed-requires-clause-number
+commit_task-committed-requires-clause-number c = on_new (λ s x. c.args.call < length s.calls) c.args.book.now c.settle.new.self c.settle.ensures.same c.requires.call.number
+
+pub commit_task-committed-requires-clause-allowed : goal.commit_task-committed-requires-clause-allowed
+commit_task-committed-requires-clause-allowed c = allowed_same (X c.args.call) c.args.book.now c.settle.new.self c.settle.ensures.same.script c.settle.ensures.same.course c.requires.allowed
+
 pub commit_task-committed-requires-clause-whole : goal.commit_task-committed-requires-clause-whole
-commit_task-committed-requires-clause-whole c = (c.in_ok-number.ensures.ok c.requires.call.live.0 c.requires.call.live.1).records
+commit_task-committed-requires-clause-whole c =
+    let live = on_new (λ s x. IsLiveCall x c.args.call) c.args.book.now c.settle.new.self c.settle.ensures.same c.requires.call.live in
+    (c.in_ok-repair_task.ensures.ok live.0 live.1).records
 
 pub commit_task-committed-requires-clause-own : goal.commit_task-committed-requires-clause-own
 commit_task-committed-requires-clause-own c =
-    due_decided c.args.book.now c.args.call c.requires.call.live.0 c.requires.call.live.1 (c.requires.call.task c.requires.call.live.0 c.requires.call.live.1).turns
-    ∙ ap Some (sym (c.in_ok-number.ensures.ok c.requires.call.live.0 c.requires.call.live.1).executed)
-
-on_err : {P : Type 0} (r : Result ℕ NoMemory) → P → OnErr r P
-on_err (Ok n) p = tt
-on_err (Err e) p = p
+    let live = on_new (λ s x. IsLiveCall x c.args.call) c.args.book.now c.settle.new.self c.settle.ensures.same c.requires.call.live in
+    let turns =
+    on_new (λ s x. (l : Live) → IsLive x c.args.call l → HasTurns (length x.order) l) c.args.book.now c.settle.new.self c.settle.ensures.same (λ l at. (c.requires.call.task l at).turns) in
+    due_decided c.settle.new.self c.args.call live.0 live.1 (turns live.0 live.1) ∙ ap Some (sym (c.in_ok-repair_task.ensures.ok live.0 live.1).executed)
 
 pub returns-then-is_err-clause-task : goal.returns-then-is_err-clause-task
 returns-then-is_err-clause-task c = on_err c.commit_task-committed.result (λ l live.
-    task_given c.args.book.now.script c.args.book.now.course.order c.args.call c.in_ok-number.number l c.spend.new.self (c.requires.call.task l live).turns
-    (sym (due_live (work_in c.args.book.now) c.args.book.now.course c.args.call l live) ∙ c.in_ok-number.ensures.due) c.spend.ensures.count
-    (task_back c.args.book.now.script c.args.call _ c.rerun_task.new.running.task c.spend.new.self.task (task_runs c.args.book.now.script c.args.call _ c.rerun_task.new.running.task (c.in_ok-number.ensures.ok l live).runs) c.spend.ensures.begins))
+    let due = due_now c.args.book.now c.args.call c.number-number.result c.finish_task.new.running c.requires.call.live c.finish_task.ensures.task c.in_ok-finish_task.ensures.ok c.number-number.ensures in
+    let repaired = on_old (λ s x. (m : Live) → IsLive x c.args.call m → IsRepaired s x.order c.args.call m c.repair_task.new.running) c.args.book.now c.settle.new.self c.settle.ensures.same c.in_ok-repair_task.ensures.ok in
+    task_given c.args.book.now.script c.args.book.now.course.order c.args.call c.number-number.result l c.spend.new.self (c.requires.call.task l live).turns
+    (sym (due_live (work_in c.args.book.now) c.args.book.now.course c.args.call l live) ∙ due) c.spend.ensures.count c.spend.ensures.executed
+    (task_back c.args.book.now.script c.args.call _ c.repair_task.new.running.task c.spend.new.self.task (task_runs c.args.book.now.script c.args.call _ c.repair_task.new.running.task (repaired l live).runs) c.spend.ensures.begins))
+
+pub returns-then-is_err-clause-made : goal.returns-then-is_err-clause-made
+returns-then-is_err-clause-made c = committed_after (X c.args.call) c.commit_task-committed.result c.args.book.now c.settle.new.self c.commit_task-committed.new.book c.settle.ensures.same c.commit_task-committed.ensures.made
+
+pub returns-else-is_err-clause-made : goal.returns-else-is_err-clause-made
+returns-else-is_err-clause-made c = committed_after (X c.args.call) c.commit_task-committed.result c.args.book.now c.settle.new.self c.commit_task-committed.new.book c.settle.ensures.same c.commit_task-committed.ensures.made

@@ -23,4 +23,4 @@ returns-clause-task c l live =
     let t : IsLiveTask c.args.book.now.script c.args.book.now.course.order c.args.call c.requires.call.live.0 c.args.running.now = c.requires.call.task c.requires.call.live.0 c.requires.call.live.1 in
     subst (λ (x : Live). IsLiveTask c.args.book.now.script c.args.book.now.course.order c.args.call x (record { task = c.run_all.new.task; count = c.args.running.now.count })) (one_live c.args.book.now.course c.args.call c.requires.call.live.0 l c.requires.call.live.1 live)
     (task_kept c.args.book.now.script c.args.book.now.course.order c.args.call c.requires.call.live.0 c.args.running.now c.run_all.new.task t
-    (runs_back c.args.book.now c.args.call c.requires.call.live.0.start c.script.result.now c.new-view.result c.run_all.new.task c.script.ensures (after c) c.run_all.ensures.runs) c.run_all.ensures.counts.more)
+    (runs_back c.args.book.now c.args.call c.requires.call.live.0.start c.script.result.now c.new-view.result c.run_all.new.task c.script.ensures (after c) c.run_all.ensures.runs) c.run_all.ensures.counts)

@@ -28,7 +28,7 @@ pub returns-in-Err-clause-err : goal.returns-in-Err-clause-err
 returns-in-Err-clause-err c l live =
     subst (λ (x : Live). IsLiveTask c.args.book.now.script c.args.book.now.course.order c.args.call x c.spend.new.self) (one_live c.args.book.now.course c.args.call c.requires.call.live.0 l c.requires.call.live.1 live)
     (task_spent c.args.book.now.script c.args.book.now.course.order c.args.call c.number-number.result c.requires.call.live.0 c.args.running.now c.spend.new.self (c.requires.call.task c.requires.call.live.0 c.requires.call.live.1)
-    (c.requires.whole c.requires.call.live.0 c.requires.call.live.1) c.number-number.ensures c.spend.ensures.count
+    (c.requires.whole c.requires.call.live.0 c.requires.call.live.1) c.number-number.ensures c.spend.ensures.count c.spend.ensures.executed
     (task_back c.args.book.now.script c.args.call _ c.repair_over.new.task c.spend.new.self.task (subst (λ (s : Script). IsTaskFor s c.args.call c.repair_over.new.task) c.script.ensures c.repair_over.ensures.call) c.spend.ensures.begins))
 
 pub returns-clause-ok : goal.returns-clause-ok

@@ -1,9 +1,15 @@
-use Rattle.std.proofs.Common.{arith, ◌+◌, ◌∙◌, length, refl, sym, ap, subst}
+use Rattle.std.proofs.Common.{arith, ◌+◌, ◌∙◌, length, Result, Ok, Err, refl, sym, ap, subst}
+use Rattle.std.specs.Prelude.{OnErr}
+use Rattle.mv_values.specs.declared.memory.NoMemory.{NoMemory}
 use Rattle.mv_lawful.specs.Lawful.{Live}
 use Rattle.mv_core.specs.Cores.{HasRunOne, IsLiveTask}
 use Rattle.mv_core.proofs.Stored.{Shows, shows_start, database_shown}
-use Rattle.mv_core.proofs.Taking.{runs_shown, runs_back, task_kept, task_ran, task_named, goes_on, one_live}
+use Rattle.mv_core.proofs.Taking.{runs_shown, runs_back, counts_same, counts_one, task_kept, task_ran, task_named, goes_on, one_live}
 use Rattle.mv_core.proofs.tasks.step_task.Goals as goal
+
+on_err : {T P : Type 0} (r : Result T NoMemory) → P → OnErr r P
+on_err (Ok x) p = tt
+on_err (Err e) p = p
 
 view : (c : goal.After-view-1) → Shows c.args.book.now.script c.args.book.now.course.order c.requires.call.live.0.start c.new-view.result
 view c = shows_start c.args.book.now c.args.store.now c.args.call c.start.result c.requires.call.live.0 c.new-view.result c.requires.call.stored c.requires.fresh c.requires.call.live.1 (c.start.ensures.value c.requires.call.live.0 c.requires.call.live.1) c.start.ensures.past c.new-view.ensures
@@ -23,11 +29,10 @@ task_at c = c.requires.call.task c.requires.call.live.0 c.requires.call.live.1
 
 pub returns-in_err-run_next-clause-task : goal.returns-in_err-run_next-clause-task
 returns-in_err-run_next-clause-task c l live =
-    let same = ap length c.in_err-run_next.ensures.err.records in
     subst (λ (x : Live). IsLiveTask c.args.book.now.script c.args.book.now.course.order c.args.call x (record { task = c.run_next.new.task; count = c.args.running.now.count })) (one_live c.args.book.now.course c.args.call c.requires.call.live.0 l c.requires.call.live.1 live)
     (task_kept c.args.book.now.script c.args.book.now.course.order c.args.call c.requires.call.live.0 c.args.running.now c.run_next.new.task (task_at c)
     (runs_back c.args.book.now c.args.call c.requires.call.live.0.start c.script.result.now c.new-view.result c.run_next.new.task c.script.ensures (refused c) c.in_err-run_next.ensures.runs)
-    (omega (arith, same)))
+    (counts_same c.args.running.now.task c.run_next.new.task c.in_err-run_next.ensures.err))
 
 ran : (c : goal.In_ok-run_next) → Shows c.args.book.now.script c.args.book.now.course.order c.requires.call.live.0.start c.new-view.result
 ran c = shows_start c.args.book.now c.args.store.now c.args.call c.start.result c.requires.call.live.0 c.new-view.result c.requires.call.stored c.requires.fresh c.requires.call.live.1 (c.start.ensures.value c.requires.call.live.0 c.requires.call.live.1) c.start.ensures.past c.new-view.ensures
@@ -52,11 +57,10 @@ returns-in_ok-run_next-clause-ok c l live =
 
 pub returns-in_ok-run_next-clause-task : goal.returns-in_ok-run_next-clause-task
 returns-in_ok-run_next-clause-task c l live =
-    let more = (one_more c).records in
     subst (λ (x : Live). IsLiveTask c.args.book.now.script c.args.book.now.course.order c.args.call x (record { task = c.run_next.new.task; count = c.args.running.now.count })) (one_live c.args.book.now.course c.args.call c.requires.call.live.0 l c.requires.call.live.1 live)
     (task_kept c.args.book.now.script c.args.book.now.course.order c.args.call c.requires.call.live.0 c.args.running.now c.run_next.new.task (task_on c)
     (runs_back c.args.book.now c.args.call c.requires.call.live.0.start c.script.result.now c.new-view.result c.run_next.new.task c.script.ensures (ran c) c.in_ok-run_next.ensures.runs)
-    (omega (arith, more)))
+    (counts_one c.args.running.now.task c.run_next.new.task (one_more c)))
 
 pub returns-else-records-steps-clause-ok : goal.returns-else-records-steps-clause-ok
 returns-else-records-steps-clause-ok c l live =
@@ -66,17 +70,23 @@ returns-else-records-steps-clause-ok c l live =
     task_named c.args.book.now.script c.args.book.now.course.order c.args.call l c.args.running.now (c.requires.call.task l live) (λ le. omega (arith, few, le, many, steps))
 
 pub returns-in_err-run_next-clause-ran : goal.returns-in_err-run_next-clause-ran
-returns-in_err-run_next-clause-ran c =
-    let same = c.in_err-run_next.ensures.err in
-    let long = ap length same.records in
-    record { count = refl; task = record { executed = λ all. same.executed ∙ (all ∙ sym long); more = omega (arith, long) } }
+returns-in_err-run_next-clause-ran c = record { count = refl; task = counts_same c.args.running.now.task c.run_next.new.task c.in_err-run_next.ensures.err }
 
 pub returns-in_ok-run_next-clause-ran : goal.returns-in_ok-run_next-clause-ran
-returns-in_ok-run_next-clause-ran c =
-    let one = one_more c in
-    let records = one.records in
-    let executed = one.executed in
-    record { count = refl; task = record { executed = λ all. omega (arith, records, executed, all); more = omega (arith, records) } }
+returns-in_ok-run_next-clause-ran c = record { count = refl; task = counts_one c.args.running.now.task c.run_next.new.task (one_more c) }
 
 pub returns-else-records-steps-clause-ran : goal.returns-else-records-steps-clause-ran
 returns-else-records-steps-clause-ran c = record { count = refl; task = record { executed = λ all. all; more = omega arith } }
+
+pub returns-in_ok-run_next-clause-one : goal.returns-in_ok-run_next-clause-one
+returns-in_ok-run_next-clause-one c l live all = one_more c
+
+pub returns-else-records-steps-clause-one : goal.returns-else-records-steps-clause-one
+returns-else-records-steps-clause-one c l live all =
+    let few = c.if-records-steps.false in
+    let many = ap length c.records.ensures in
+    let steps = c.steps.ensures l live in
+    absurd (omega (arith, few, many, steps, all))
+
+pub returns-in_err-run_next-clause-err : goal.returns-in_err-run_next-clause-err
+returns-in_err-run_next-clause-err c = on_err c.from_residual.result c.in_err-run_next.ensures.err

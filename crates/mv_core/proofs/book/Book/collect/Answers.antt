@@ -1,4 +1,4 @@
-use Rattle.std.proofs.Common.{arith, ◌≡◌, ◌≤◌, ◌+◌, ◌∙◌, length, sym, ap, refl, map}
+use Rattle.std.proofs.Common.{arith, ◌≡◌, ◌≤◌, ◌+◌, ◌∙◌, length, sym, ap, subst, refl, map}
 use Rattle.mv_lawful.specs.Lawful.{next_low}
 use Rattle.mv_core.specs.Scripts.{work_of}
 use Rattle.mv_core.specs.Calls.{live_of}
@@ -12,18 +12,24 @@ use Rattle.mv_core.proofs.book.Book.collect.Goals as goal
 low : (c : goal.After-put) → c.next_low-low.result ≡ next_low (work_of c.self.inside.script) (the_course c.self.inside.order.items c.self.inside.low (map live_of c.self.inside.calls.items))
 low c = c.next_low-low.ensures ∙ ap (λ (b : Booked). next_low (work_in b) b.course) (sym c.self.view_is)
 
-bounds : (c : goal.After-trim-arg-1) → (c.self.inside.low ≤ c.next_low-low.result) × (c.next_low-low.result ≤ length c.self.inside.order.items)
+bounds : (c : goal.After-collect-arg-2-1) → (c.self.inside.low ≤ c.next_low-low.result) × (c.next_low-low.result ≤ length c.self.inside.order.items)
 bounds c =
     next_within c.self.inside.script c.self.inside.order.items c.self.inside.low c.next_low-low.result c.self.inside.calls.items c.self.invariant.recent.within
     (c.next_low-low.ensures ∙ ap (λ (b : Booked). next_low (work_in b) b.course) (sym c.self.view_is))
 
-pub trim-requires-clause-rises : goal.trim-requires-clause-rises
-trim-requires-clause-rises c =
+pub collect-requires-clause-low : goal.collect-requires-clause-low
+collect-requires-clause-low c =
+    let below = subst (λ (b : Booked). c.args.store.now.low ≤ b.course.low) (sym c.self.view_is) c.requires.store in
+    let rises = (bounds c).0 in
+    omega (arith, below, rises)
+
+pub collect-requires-clause-rises : goal.collect-requires-clause-rises
+collect-requires-clause-rises c =
     recent_below (work_of c.self.inside.script) (the_course c.self.inside.order.items c.self.inside.low (map live_of c.self.inside.calls.items)) c.next_low-low.result c.self.inside.recent c.self.invariant.recent
     (next_past c.self.inside.script c.self.inside.order.items c.self.inside.low c.next_low-low.result c.self.inside.calls.items (c.next_low-low.ensures ∙ ap (λ (b : Booked). next_low (work_in b) b.course) (sym c.self.view_is)))
 
-pub trim-requires-clause-within : goal.trim-requires-clause-within
-trim-requires-clause-within c =
+pub collect-requires-clause-within : goal.collect-requires-clause-within
+collect-requires-clause-within c =
     let long = recent_long (work_of c.self.inside.script) (the_course c.self.inside.order.items c.self.inside.low (map live_of c.self.inside.calls.items)) c.self.inside.recent c.self.invariant.recent in
     let within = (bounds c).1 in
     omega (arith, long, within)
@@ -34,12 +40,12 @@ invariant_of-self c = record {
   live = c.self.invariant.live;
   recent =
       let within = next_within c.self.inside.script c.self.inside.order.items c.self.inside.low c.next_low-low.result c.self.inside.calls.items c.self.invariant.recent.within (low c) in
-      recent_trimmed (work_of c.self.inside.script) c.self.inside.order.items c.self.inside.low c.next_low-low.result c.next_low-low.result (map live_of c.self.inside.calls.items) c.self.inside.recent c.trim.new.self c.self.invariant.recent
-      within.1 (omega arith) (omega arith) (next_past c.self.inside.script c.self.inside.order.items c.self.inside.low c.next_low-low.result c.self.inside.calls.items (low c)) c.trim.ensures.low c.trim.ensures.commits;
+      recent_trimmed (work_of c.self.inside.script) c.self.inside.order.items c.self.inside.low c.next_low-low.result c.next_low-low.result (map live_of c.self.inside.calls.items) c.self.inside.recent c.collect.new.recent c.self.invariant.recent
+      within.1 (omega arith) (omega arith) (next_past c.self.inside.script c.self.inside.order.items c.self.inside.low c.next_low-low.result c.self.inside.calls.items (low c)) c.collect.ensures.low c.collect.ensures.changes;
 }
 
 pub returns-clause-made : goal.returns-clause-made
 returns-clause-made c = made_on G _ c.args.self.now _ c.self.view_is refl (ap (λ n. the_course c.self.inside.order.items n (map live_of c.self.inside.calls.items)) (low c)) c.put.ensures.items refl
 
 pub returns-clause-room : goal.returns-clause-room
-returns-clause-room c x n has = room_same _ c.args.self.now _ x n (n + 1) c.self.view_is (omega arith) (let r = c.put.ensures.room in let t = c.trim.ensures.room in omega (arith, r, t)) has
+returns-clause-room c x n has = room_same _ c.args.self.now _ x n (n + 1) c.self.view_is (omega arith) (let r = c.put.ensures.room in let t = c.collect.ensures.room in omega (arith, r, t)) has

@@ -1,11 +1,11 @@
-use Rattle.std.proofs.Common.{arith, ◌≡◌, map, slice_set, List, ℕ, ap, sym, ◌∙◌, Result, Ok, Err}
+use Rattle.std.proofs.Common.{arith, ◌≡◌, map, slice_set, List, ℕ, is_some, ap, sym, ◌∙◌, Result, Ok, Err}
 use Rattle.std.specs.Prelude.{OnOk}
 use Rattle.mv_values.specs.declared.memory.NoMemory.{NoMemory}
 use Rattle.mv_lawful.specs.Lawful.{Live}
-use Rattle.mv_core.specs.Calls.{live_of}
+use Rattle.mv_core.specs.Calls.{live_of, last_number}
 use Rattle.mv_core.specs.Scripts.{work_of}
-use Rattle.mv_core.specs.Books.{Booked, kept_rounds}
-use Rattle.mv_core.proofs.Keeping.{live_stays, the_course, here_at, kept_same_told, same_calls, same_rounds, room_set}
+use Rattle.mv_core.specs.Books.{Booked}
+use Rattle.mv_core.proofs.Keeping.{live_stays, the_course, here_at, kept_same_told, same_calls, still_settled, room_set}
 use Rattle.mv_core.proofs.Recents.{recent_same, recent_set}
 use Rattle.mv_core.proofs.book.Book.reserve.Goals as goal
 
@@ -29,7 +29,9 @@ returns-clause-same c = record {
       ap (λ (o : List ℕ). the_course o c.self.inside.low (map live_of (slice_set c.self.inside.calls.items c.args.call c.reserve-4.new.self))) c.reserve-2.ensures.items
       ∙ (ap (λ (ls : List Live). the_course c.self.inside.order.items c.self.inside.low ls) (same_calls c.self.inside.calls.items c.args.call c.index_mut.result.now c.reserve-4.new.self (here_at c.self.inside c.args.self.now c.args.call c.index_mut.result.now c.self.view_is c.requires.live c.index_mut.ensures.value).2.at c.reserve-4.ensures.live)
       ∙ ap (λ (b : Booked). b.course) c.self.view_is);
-  rounds = same_rounds c.self.inside.calls.items c.args.call c.index_mut.result.now c.reserve-4.new.self (here_at c.self.inside c.args.self.now c.args.call c.index_mut.result.now c.self.view_is c.requires.live c.index_mut.ensures.value).2.at c.reserve-4.ensures.rounds ∙ ap (λ (b : Booked). map kept_rounds b.rounds) c.self.view_is;
+  settled = λ d has.
+      still_settled c.self.inside c.args.self.now c.args.call d c.index_mut.result.now c.reserve-4.new.self c.self.view_is (here_at c.self.inside c.args.self.now c.args.call c.index_mut.result.now c.self.view_is c.requires.live c.index_mut.ensures.value).2.at
+      (λ some. ap (λ rs. is_some (last_number rs)) c.reserve-4.ensures.rounds ∙ some) has;
   journal = c.reserve-3.ensures.items ∙ ap (λ (b : Booked). b.journal) c.self.view_is;
 }
 

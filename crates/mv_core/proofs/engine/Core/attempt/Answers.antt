@@ -1,9 +1,11 @@
-use Rattle.std.proofs.Common.{rules, ◌<◌, None, Ok, length, subst}
-use Rattle.mv_core.proofs.Taking.{task_there, task_within, due_now, call_within, tasks_set, tasks_same, committed_on, running_in, core_set}
-use Rattle.mv_core.proofs.Stored.{last_records}
-use Rattle.mv_core.proofs.Changed.{live_in, free_told, hit_told, stale_told, same_self}
+use Rattle.std.proofs.Common.{rules, ◌<◌, ◌+◌, None, Ok, length, ap, subst, ◌∙◌}
+use Rattle.mv_journal.specs.declared.event.Event.TheVariants.{C}
+use Rattle.mv_lawful.specs.Lawful.{Course}
+use Rattle.mv_core.proofs.Taking.{task_there, task_within, due_first, call_within, committed_on, running_in, core_set}
+use Rattle.mv_core.proofs.Stored.{stored_same, last_records, last_records_on}
+use Rattle.mv_core.proofs.Changed.{core_same, same_both, made_after, made_now, allowed_same, try_failed, live_in, live_now, free_told, hit_told, stale_told, same_self}
 use Rattle.mv_core.specs.declared.engine.Attempt.TheVariants as attempt
-use Rattle.mv_core.specs.Books.{Booked}
+use Rattle.mv_core.specs.Books.{Booked, IsSame}
 use Rattle.mv_core.specs.Cores.{HasTried}
 use Rattle.mv_core.proofs.engine.Core.attempt.Goals as goal
 
@@ -18,15 +20,29 @@ validate_task-requires c =
 pub invariant_of-self : goal.invariant_of-self
 invariant_of-self c = core_set c.self.inside.book c.self.inside.store c.self.inside.tasks.items c.args.call c.validate_task.new.running c.self.invariant (live_in c.self.inside.book c.args.self.now c.args.call c.self.view_is c.requires) c.validate_task.ensures.task
 
+pub settle-requires-clause-live : goal.settle-requires-clause-live
+settle-requires-clause-live c = live_in c.self.inside.book c.args.self.now c.args.call c.self.view_is c.requires
+
+pub settle-requires-clause-number : goal.settle-requires-clause-number
+settle-requires-clause-number c = due_first c.self.inside.book c.args.call c.validate_task.new.running c.validate_task.ensures.task (c.in_ok-validate_task.ensures.records c.in-Free.is)
+
+pub commit_task-requires-clause-stored : goal.commit_task-requires-clause-stored
+commit_task-requires-clause-stored c = stored_same c.self.inside.book c.settle.new.self c.self.inside.store c.self.invariant.stored c.settle.ensures.same
+
+pub commit_task-requires-clause-live : goal.commit_task-requires-clause-live
+commit_task-requires-clause-live c = live_now c.self.inside.book c.args.self.now c.settle.new.self c.args.call c.self.view_is c.requires c.settle.ensures.same
+
 pub commit_task-requires-clause-number : goal.commit_task-requires-clause-number
-commit_task-requires-clause-number c = call_within c.self.inside.book.script c.self.inside.book.course c.self.inside.tasks.items c.args.call c.self.invariant.tasks (live_in c.self.inside.book c.args.self.now c.args.call c.self.view_is c.requires)
+commit_task-requires-clause-number c =
+    let k = core_same c.self.inside.book c.settle.new.self c.self.inside.store c.self.inside.tasks.items c.self.invariant c.settle.ensures.same in
+    call_within c.settle.new.self.script c.settle.new.self.course c.self.inside.tasks.items c.args.call k.tasks (live_now c.self.inside.book c.args.self.now c.settle.new.self c.args.call c.self.view_is c.requires c.settle.ensures.same)
 
 pub invariant_of-self-in_err-commit-in-Free : goal.invariant_of-self-in_err-commit-in-Free
-invariant_of-self-in_err-commit-in-Free c = record {
-  stored = c.commit_task.ensures.stored;
-  tasks = tasks_same c.self.inside.book.script c.commit_task.new.book.script c.self.inside.book.course c.commit_task.new.book.course _
-      (tasks_set c.self.inside.book.script c.self.inside.book.course c.self.inside.tasks.items c.args.call c.validate_task.new.running c.self.invariant.tasks (live_in c.self.inside.book c.args.self.now c.args.call c.self.view_is c.requires) c.validate_task.ensures.task) c.in_err-commit-in-Free.ensures.made.script c.in_err-commit-in-Free.ensures.made.course;
-}
+invariant_of-self-in_err-commit-in-Free c =
+    let live = live_in c.self.inside.book c.args.self.now c.args.call c.self.view_is c.requires in
+    let k = core_set c.self.inside.book c.self.inside.store c.self.inside.tasks.items c.args.call c.validate_task.new.running c.self.invariant live c.validate_task.ensures.task in
+    let same = same_both c.self.inside.book c.settle.new.self c.commit_task.new.book c.settle.ensures.same c.in_err-commit-in-Free.ensures.made in
+    record { stored = c.commit_task.ensures.stored; tasks = (core_same c.self.inside.book c.commit_task.new.book c.self.inside.store _ k same).tasks }
 
 pub index_mut-requires-in-Free : goal.index_mut-requires-in-Free
 index_mut-requires-in-Free c =
@@ -36,9 +52,11 @@ index_mut-requires-in-Free c =
 pub invariant_of-self-in-Free : goal.invariant_of-self-in-Free
 invariant_of-self-in-Free c =
     let live = live_in c.self.inside.book c.args.self.now c.args.call c.self.view_is c.requires in
+    let k = core_set c.self.inside.book c.self.inside.store c.self.inside.tasks.items c.args.call c.validate_task.new.running c.self.invariant live c.validate_task.ensures.task in
     record {
       stored = c.commit_task.ensures.stored;
-      tasks = committed_on None c.self.inside.book c.commit_task.new.book _ c.args.call live.0 (tasks_set c.self.inside.book.script c.self.inside.book.course c.self.inside.tasks.items c.args.call c.validate_task.new.running c.self.invariant.tasks (live_in c.self.inside.book c.args.self.now c.args.call c.self.view_is c.requires) c.validate_task.ensures.task) live.1 c.in_ok-commit-in-Free.ensures.made.0;
+      tasks = committed_on None c.self.inside.book c.commit_task.new.book _ c.args.call live.0 k.tasks live.1
+          (made_after (C c.args.call) c.self.inside.book c.settle.new.self c.commit_task.new.book c.settle.ensures.same c.in_ok-commit-in-Free.ensures.made.0);
     }
 
 pub invariant_of-self-in-Hit : goal.invariant_of-self-in-Hit
@@ -50,19 +68,27 @@ invariant_of-self-in-Stale c = core_set c.self.inside.book c.self.inside.store c
 pub commit_task-requires-clause-whole : goal.commit_task-requires-clause-whole
 commit_task-requires-clause-whole c =
     let live = live_in c.self.inside.book c.args.self.now c.args.call c.self.view_is c.requires in
-    last_records c.self.inside.book c.self.inside.store c.args.call c.validate_task.new.running.task.records c.self.invariant.stored
+    last_records_on c.self.inside.book c.settle.new.self c.args.call c.validate_task.new.running.task.records c.settle.ensures.same.script (ap (λ (s : Course). s.order) c.settle.ensures.same.course)
+    (last_records c.self.inside.book c.self.inside.store c.args.call c.validate_task.new.running.task.records c.self.invariant.stored
     (call_within c.self.inside.book.script c.self.inside.book.course c.self.inside.tasks.items c.args.call c.self.invariant.tasks live) live (c.in_ok-validate_task.ensures.records c.in-Free.is)
-    (free_told c.self.inside.book c.args.call c.in_ok-validate_task.field-0 live.0 c.in_ok-validate_task.ensures.answer c.in-Free.is live.1)
-
-pub commit_task-requires-clause-due : goal.commit_task-requires-clause-due
-commit_task-requires-clause-due c =
-    due_now c.self.inside.book c.args.call c.number-number.result c.validate_task.new.running (live_in c.self.inside.book c.args.self.now c.args.call c.self.view_is c.requires) c.validate_task.ensures.task
-    (c.in_ok-validate_task.ensures.records c.in-Free.is) c.number-number.ensures
+    (free_told c.self.inside.book c.args.call c.in_ok-validate_task.field-0 live.0 c.in_ok-validate_task.ensures.answer c.in-Free.is live.1))
 
 pub commit_task-requires-clause-allowed : goal.commit_task-requires-clause-allowed
 commit_task-requires-clause-allowed c =
     let live = live_in c.self.inside.book c.args.self.now c.args.call c.self.view_is c.requires in
-    free_told c.self.inside.book c.args.call c.in_ok-validate_task.field-0 live.0 c.in_ok-validate_task.ensures.answer c.in-Free.is live.1
+    allowed_same (C c.args.call) c.self.inside.book c.settle.new.self c.settle.ensures.same.script c.settle.ensures.same.course
+    (free_told c.self.inside.book c.args.call c.in_ok-validate_task.field-0 live.0 c.in_ok-validate_task.ensures.answer c.in-Free.is live.1)
+
+pub returns-in_err-commit-in-Free : goal.returns-in_err-commit-in-Free
+returns-in_err-commit-in-Free c =
+    try_failed _ c.args.call c.from_residual-in_err-commit-in-Free.result c.args.self.now c.commit_task.new.book c.from_residual-in_err-commit-in-Free.ensures.1
+    (subst (λ (b : Booked). IsSame b c.commit_task.new.book) c.self.view_is (same_both c.self.inside.book c.settle.new.self c.commit_task.new.book c.settle.ensures.same c.in_err-commit-in-Free.ensures.made))
+
+pub returns-in_ok-commit-in-Free : goal.returns-in_ok-commit-in-Free
+returns-in_ok-commit-in-Free c = (
+  made_now (C c.args.call) c.self.inside.book c.args.self.now c.settle.new.self c.commit_task.new.book c.self.view_is c.settle.ensures.same c.in_ok-commit-in-Free.ensures.made.0,
+  c.in_ok-commit-in-Free.ensures.made.1 ∙ ap (λ (s : Course). length s.order + 1) (c.settle.ensures.same.course ∙ ap (λ (b : Booked). b.course) c.self.view_is),
+)
 
 pub returns-in-Hit : goal.returns-in-Hit
 returns-in-Hit c =

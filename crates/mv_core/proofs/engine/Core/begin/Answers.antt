@@ -1,4 +1,4 @@
-use Rattle.std.proofs.Common.{◌≡◌, ◌∷◌, [], List, Option, Some, None, Ok, take, sym, ap, subst, ◌∙◌, refl}
+use Rattle.std.proofs.Common.{◌≡◌, ◌∷◌, [], List, Option, Some, None, Ok, take, length, sym, ap, subst, ◌∙◌, refl}
 use Rattle.std.proofs.lemmas.List.{take_at}
 use Rattle.mv_record.specs.Runs.{Tables}
 use Rattle.mv_core.specs.declared.tasks.Running.{Running}
@@ -22,7 +22,8 @@ invariant_of-self-in-Ok-Some c =
     subst (λ (ts : List (Option Running)). IsCore c.begin.new.self c.self.inside.store ts) (sym c.in_ok-push.ensures.items) (record {
       stored = stored_made (B c.in-Some.call) c.self.inside.book c.begin.new.self c.self.inside.store c.self.invariant.stored made refl refl;
       tasks = begun_on c.self.inside.book c.begin.new.self c.self.inside.tasks.items c.in-Some.call c.in_ok-task.task c.self.invariant.tasks made next.0 next.1
-          (subst (λ (s : Script). (db : Tables) → RunsOn s c.in-Some.call db c.in_ok-task.task) c.script.ensures c.in_ok-task.ensures.runs);
+          (subst (λ (s : Script). (db : Tables) → RunsOn s c.in-Some.call db c.in_ok-task.task) c.script.ensures c.in_ok-task.ensures.runs)
+          (c.in_ok-task.ensures.executed ∙ sym (ap length c.in_ok-task.ensures.records));
     })
 
 pub invariant_of-self-in-Err : goal.invariant_of-self-in-Err

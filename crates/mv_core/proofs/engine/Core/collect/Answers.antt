@@ -1,16 +1,21 @@
-use Rattle.mv_journal.specs.declared.event.Event.TheVariants.{G}
-use Rattle.mv_core.proofs.Stored.{stored_raised}
-use Rattle.mv_core.proofs.Taking.{collected_on}
-use Rattle.mv_core.proofs.Changed.{core_same, made_now}
+use Rattle.std.proofs.Common.{List, Option, subst}
+use Rattle.std.specs.Prelude.{Result, Ok, Err}
+use Rattle.mv_values.specs.declared.memory.NoMemory.{NoMemory}
+use Rattle.mv_store.specs.Stored.{Versioned}
+use Rattle.mv_core.specs.declared.tasks.Running.{Running}
+use Rattle.mv_core.specs.Books.{Booked}
+use Rattle.mv_core.specs.Cores.{IsStoreOf, IsCore, HasCollected}
+use Rattle.mv_core.proofs.Taking.{tasks_same, collected_on}
 use Rattle.mv_core.proofs.engine.Core.collect.Goals as goal
 
-pub invariant_of-self-2 : goal.invariant_of-self-2
-invariant_of-self-2 c =
-    let k = core_same c.self.inside.book c.reserve_event.new.self c.self.inside.store c.self.inside.tasks.items c.self.invariant c.reserve_event.ensures.same in
-    record {
-      stored = stored_raised c.reserve_event.new.self c.collect-low.new.self c.self.inside.store c.raise.new.self c.collect-low.result k.stored c.collect-low.ensures.made c.collect-low.ensures.low c.raise.ensures;
-      tasks = collected_on c.reserve_event.new.self c.collect-low.new.self c.self.inside.tasks.items k.tasks c.collect-low.ensures.made;
-    }
+-- versions were collected, or nothing happened
+core_collected : (r : Result (Unit {0}) NoMemory) (old new : Booked) (store raised : Versioned) (ts : List (Option Running)) → IsCore old store ts → HasCollected r old new → IsStoreOf new raised → IsCore new raised ts
+core_collected (Ok x) old new store raised ts k made stored = record { stored = stored; tasks = collected_on old new ts k.tasks made }
+core_collected (Err e) old new store raised ts k same stored = record { stored = stored; tasks = tasks_same old.script new.script old.course new.course ts k.tasks same.script same.course }
+
+pub invariant_of-self : goal.invariant_of-self
+invariant_of-self c =
+    core_collected c.collect_versions.result c.self.inside.book c.collect_versions.new.book c.self.inside.store c.collect_versions.new.store c.self.inside.tasks.items c.self.invariant c.collect_versions.ensures.made c.collect_versions.ensures.stored
 
 pub returns : goal.returns
-returns c = made_now G c.self.inside.book c.args.self.now c.reserve_event.new.self c.collect-low.new.self c.self.view_is c.reserve_event.ensures.same c.collect-low.ensures.made
+returns c = subst (λ (b : Booked). HasCollected c.collect_versions.result b c.collect_versions.new.book) c.self.view_is c.collect_versions.ensures.made

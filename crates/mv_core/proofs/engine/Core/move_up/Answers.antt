@@ -2,26 +2,21 @@ use Rattle.std.proofs.Common.{rules, ◌<◌, Some, length, ap, sym, subst, ◌�
 use Rattle.mv_journal.specs.declared.event.Event.TheVariants.{M}
 use Rattle.mv_journal.specs.declared.outcome.Mark.TheVariants.{Moved}
 use Rattle.mv_lawful.specs.Work.{records_at, table_at}
-use Rattle.mv_lawful.specs.Lawful.{Course, again}
+use Rattle.mv_lawful.specs.Lawful.{Course}
 use Rattle.mv_core.specs.declared.script.Script.{Script}
 use Rattle.mv_core.specs.Scripts.{work_of}
 use Rattle.mv_core.specs.Books.{Booked, work_in}
 use Rattle.mv_core.specs.Cores.{HasTurns, RunsOn}
-use Rattle.mv_core.proofs.Stored.{stored_made, stored_on}
-use Rattle.mv_core.proofs.Taking.{task_within, tasks_same, task_moved, restarted_on}
-use Rattle.mv_core.proofs.Changed.{core_same, live_now, made_now, made_then}
-use Rattle.mv_core.proofs.Moving.{apart, live_moved, due_moved}
+use Rattle.mv_core.proofs.Stored.{stored_made}
+use Rattle.mv_core.proofs.Taking.{task_within, task_moved, restarted_on}
+use Rattle.mv_core.proofs.Changed.{core_same, live_now, made_now}
+use Rattle.mv_core.proofs.Moving.{apart, due_moved}
 use Rattle.mv_core.proofs.engine.Core.move_up.Goals as goal
 
-pub settle-requires-clause-live : goal.settle-requires-clause-live
-settle-requires-clause-live c =
+pub restart-requires-clause-number : goal.restart-requires-clause-number
+restart-requires-clause-number c =
     let live = live_now c.self.inside.book c.args.self.now c.reserve.new.self c.args.call c.self.view_is c.requires c.reserve.ensures.same in
-    (again (length c.reserve.new.self.course.order) Moved live.0, live_moved c.args.call c.reserve.new.self c.restart.new.self live.0 live.1 c.restart.ensures.made)
-
-pub settle-requires-clause-number : goal.settle-requires-clause-number
-settle-requires-clause-number c =
-    let live = live_now c.self.inside.book c.args.self.now c.reserve.new.self c.args.call c.self.view_is c.requires c.reserve.ensures.same in
-    due_moved c.reserve.new.self c.restart.new.self c.args.call live.0 live.1 c.restart.ensures.made
+    due_moved c.reserve.new.self c.args.call live.0 live.1
     ∙ ap Some (sym (c.in_ok-task.ensures.executed ∙ (ap length c.in_ok-task.ensures.records ∙ ap (λ n. length (records_at (work_in c.reserve.new.self) c.reserve.new.self.course.order n c.args.call)) c.commits.ensures)))
 
 pub index_mut-requires : goal.index_mut-requires
@@ -37,20 +32,15 @@ invariant_of-self-2 c =
     let live = live_now c.self.inside.book c.args.self.now c.reserve.new.self c.args.call c.self.view_is c.requires c.reserve.ensures.same in
     let turns : HasTurns (length c.reserve.new.self.course.order) live.0 = (k.tasks.running c.args.call live.0 live.1).2.turns in
     record {
-      stored = stored_on c.restart.new.self c.settle.new.self c.self.inside.store
-          (stored_made (M c.args.call) c.reserve.new.self c.restart.new.self c.self.inside.store k.stored c.restart.ensures.made refl refl) c.settle.ensures.script
-          (ap (λ (s : Course). s.order) c.settle.ensures.course) (ap (λ (s : Course). s.low) c.settle.ensures.course);
-      tasks = tasks_same c.restart.new.self.script c.settle.new.self.script c.restart.new.self.course c.settle.new.self.course _
-          (restarted_on Moved c.reserve.new.self c.restart.new.self c.self.inside.tasks.items c.args.call live.0 _ apart k.tasks live.1 c.restart.ensures.made
+      stored = stored_made (M c.args.call) c.reserve.new.self c.restart.new.self c.self.inside.store k.stored c.restart.ensures.made refl refl;
+      tasks = restarted_on Moved c.reserve.new.self c.restart.new.self c.self.inside.tasks.items c.args.call live.0 _ apart k.tasks live.1 c.restart.ensures.made
           (task_moved c.reserve.new.self.script c.reserve.new.self.course.order c.args.call live.0 c.in_ok-task.task turns
-          (subst (λ n. RunsOn c.reserve.new.self.script c.args.call (table_at (work_in c.reserve.new.self) c.reserve.new.self.course.order n) c.in_ok-task.task) c.commits.ensures c.in_ok-task.ensures.runs)))
-          c.settle.ensures.script c.settle.ensures.course;
+          (subst (λ n. RunsOn c.reserve.new.self.script c.args.call (table_at (work_in c.reserve.new.self) c.reserve.new.self.course.order n) c.in_ok-task.task) c.commits.ensures c.in_ok-task.ensures.runs));
     }
 
 pub returns : goal.returns
 returns c = (
-  made_then (M c.args.call) c.args.self.now c.restart.new.self c.settle.new.self
-      (made_now (M c.args.call) c.self.inside.book c.args.self.now c.reserve.new.self c.restart.new.self c.self.view_is c.reserve.ensures.same c.restart.ensures.made) c.settle.ensures.script c.settle.ensures.course c.settle.ensures.journal,
+  made_now (M c.args.call) c.self.inside.book c.args.self.now c.reserve.new.self c.restart.new.self c.self.view_is c.reserve.ensures.same c.restart.ensures.made,
   c.executed-executed.ensures ∙ (c.in_ok-task.ensures.executed ∙ ((ap length c.in_ok-task.ensures.records ∙ ap (λ n. length (records_at (work_in c.reserve.new.self) c.reserve.new.self.course.order n c.args.call)) c.commits.ensures)
       ∙ (ap (λ (s : Script). length (records_at (work_of s) c.reserve.new.self.course.order (length c.reserve.new.self.course.order) c.args.call)) c.reserve.ensures.same.script
       ∙ (ap (λ (s : Course). length (records_at (work_in c.self.inside.book) s.order (length s.order) c.args.call)) c.reserve.ensures.same.course

@@ -1,20 +1,25 @@
-use Rattle.std.proofs.Common.{refl, sym, ◌∙◌}
+use Rattle.std.proofs.Common.{refl, sym, subst, ◌∙◌}
+use Rattle.std.specs.Prelude.{Result, Ok, Err}
+use Rattle.mv_values.specs.declared.memory.NoMemory.{NoMemory}
 use Rattle.mv_journal.specs.declared.event.Event.TheVariants.{G}
-use Rattle.mv_core.proofs.Stored.{stored_same, stored_raised}
-use Rattle.mv_core.proofs.Changed.{made_now}
+use Rattle.mv_seats.specs.Scripts.{Script as BoardScript}
+use Rattle.mv_seats.specs.Knowing.{Knows}
+use Rattle.mv_store.specs.Stored.{Versioned}
+use Rattle.mv_core.specs.Books.{Booked}
+use Rattle.mv_core.specs.Cores.{IsStoreOf, HasCollected}
+use Rattle.mv_gate.specs.Gates.{IsDesk}
 use Rattle.mv_gate.proofs.Desks.{desk_same, desk_other, order_same, order_collected}
 use Rattle.mv_gate.proofs.desk.Desk.collect.Goals as goal
 
-pub invariant_of-self-2 : goal.invariant_of-self-2
-invariant_of-self-2 g c =
-    let same = c.reserve_event.ensures.same in
-    let stored = stored_same c.self.inside.book c.reserve_event.new.self c.self.inside.store c.self.invariant.stored same in
-    let seen = c.self.invariant.seen ∙ sym (order_same c.self.inside.book c.reserve_event.new.self same) in
-    let made = c.collect-low.ensures.made in
-    desk_other G g.N.Making.script c.reserve_event.new.self c.collect-low.new.self c.self.inside.store c.raise.new.self c.self.inside.pass c.self.inside.pass
-    (desk_same g.N.Making.script c.self.inside.book c.reserve_event.new.self c.self.inside.store c.self.inside.store c.self.inside.pass c.self.inside.pass c.self.invariant same stored c.self.invariant.role seen) made (λ x. refl)
-    (stored_raised c.reserve_event.new.self c.collect-low.new.self c.self.inside.store c.raise.new.self c.collect-low.result stored made c.collect-low.ensures.low c.raise.ensures) c.self.invariant.role
-    (seen ∙ sym (order_collected c.reserve_event.new.self c.collect-low.new.self made))
+-- versions were collected, or nothing happened
+desk_collected : (r : Result (Unit {0}) NoMemory) (s : BoardScript) (old new : Booked) (store raised : Versioned) (gate : Knows) → IsDesk s old store gate → HasCollected r old new → IsStoreOf new raised → IsDesk s new raised gate
+desk_collected (Ok x) s old new store raised gate d made stored = desk_other G s old new store raised gate gate d made (λ c. refl) stored d.role (d.seen ∙ sym (order_collected old new made))
+desk_collected (Err e) s old new store raised gate d same stored = desk_same s old new store raised gate gate d same stored d.role (d.seen ∙ sym (order_same old new same))
+
+pub invariant_of-self : goal.invariant_of-self
+invariant_of-self g c =
+    desk_collected c.collect_versions.result g.N.Making.script c.self.inside.book c.collect_versions.new.book c.self.inside.store c.collect_versions.new.store c.self.inside.pass c.self.invariant c.collect_versions.ensures.made
+    c.collect_versions.ensures.stored
 
 pub returns : goal.returns
-returns g c = made_now G c.self.inside.book c.args.self.now c.reserve_event.new.self c.collect-low.new.self c.self.view_is c.reserve_event.ensures.same c.collect-low.ensures.made
+returns g c = subst (λ (b : Booked). HasCollected c.collect_versions.result b c.collect_versions.new.book) c.self.view_is c.collect_versions.ensures.made

@@ -4,10 +4,10 @@ use Rattle.mv_core.specs.Books.{Booked, IsSame, IsNotStale}
 use Rattle.mv_core.proofs.Stored.{stored_same, stored_made}
 use Rattle.mv_core.proofs.Changed.{same_self, step_now}
 use Rattle.mv_core.specs.Calls.{IsLiveCall}
-use Rattle.mv_core.specs.Cores.{IsTaskIn}
-use Rattle.mv_gate.specs.Gates.{Holding, HaveTurns, IsUnderWay, IsKnown, HasCall}
+use Rattle.mv_core.specs.Cores.{HasRunOne, IsTaskIn}
+use Rattle.mv_gate.specs.Gates.{Holding, IsUnderWay, IsKnown, HasCall}
 use Rattle.mv_gate.proofs.Desks.{desk_same, desk_other, order_same, order_stepped}
-use Rattle.mv_gate.proofs.Holding.{task_was, open_same, fresh_same, running_of, stale_apart, known_same, known_stepped}
+use Rattle.mv_gate.proofs.Holding.{task_was, open_same, fresh_same, running_of, stale_apart, one_more, known_same, known_kept, known_stepped}
 use Rattle.mv_gate.proofs.desk.Desk.step.Goals as goal
 
 pub has_step-requires : goal.has_step-requires
@@ -69,6 +69,24 @@ returns-clause-known g c known =
     let h : Holding = record { call = c.held.inside.call; start = c.held.inside.start; from = c.held.inside.from; running = c.held.inside.running; knows = c.held.inside.pass } in
     let here : IsKnown b h =
     subst (λ (x : Holding). IsKnown b x) (sym (c.held.view_is ∙ c.see.ensures.held)) (subst (λ (x : Booked). IsKnown x c.args.held.now) (sym (c.self.view_is ∙ c.see.ensures.same)) known) in
-    known_stepped g.N.Making.script mid c.ran.new.self h c.step_task.new.running (subst HaveTurns (sym c.reserve.ensures.same.course) c.self.invariant.turns) c.held.invariant
-    (step_now b c.see.new.self mid h.call c.self.view_is (c.if-not-has_step.ensures.0 (search rules)) c.reserve.ensures.same) c.in_ok-step_task.ensures.ran c.in_ok-step_task.ensures.ok c.ran.ensures.made
+    known_stepped mid c.ran.new.self h c.step_task.new.running (step_now b c.see.new.self mid h.call c.self.view_is (c.if-not-has_step.ensures.0 (search rules)) c.reserve.ensures.same) c.in_ok-step_task.ensures.one c.ran.ensures.made
     (known_same b mid h c.reserve.ensures.same.course here)
+
+pub returns-clause-one : goal.returns-clause-one
+returns-clause-one g c ran =
+    let b : Booked = c.self.inside.book in
+    let mid : Booked = c.reserve.new.self in
+    let h : Holding = record { call = c.held.inside.call; start = c.held.inside.start; from = c.held.inside.from; running = c.held.inside.running; knows = c.held.inside.pass } in
+    let there : IsKnown c.see.new.self h = subst (IsKnown c.see.new.self) (sym c.held.view_is) (c.if-not-has.ensures.known.0 (search rules)) in
+    let here : IsKnown mid h = known_same b mid h c.reserve.ensures.same.course (subst (λ (x : Booked). IsKnown x h) (sym c.self.view_is) there) in
+    subst (λ (x : Holding). HasRunOne x.running.task c.step_task.new.running.task) (c.held.view_is ∙ c.see.ensures.held)
+    (one_more mid h c.step_task.new.running (step_now b c.see.new.self mid h.call c.self.view_is (c.if-not-has_step.ensures.0 (search rules)) c.reserve.ensures.same) c.in_ok-step_task.ensures.one here)
+
+pub returns-in_err-step_task-clause-known : goal.returns-in_err-step_task-clause-known
+returns-in_err-step_task-clause-known g c known =
+    let b : Booked = c.self.inside.book in
+    let mid : Booked = c.reserve.new.self in
+    let h : Holding = record { call = c.held.inside.call; start = c.held.inside.start; from = c.held.inside.from; running = c.held.inside.running; knows = c.held.inside.pass } in
+    let here : IsKnown b h =
+    subst (λ (x : Holding). IsKnown b x) (sym (c.held.view_is ∙ c.see.ensures.held)) (subst (λ (x : Booked). IsKnown x c.args.held.now) (sym (c.self.view_is ∙ c.see.ensures.same)) known) in
+    known_kept mid h c.step_task.new.running c.in_err-step_task.ensures.err (known_same b mid h c.reserve.ensures.same.course here)
