@@ -1,158 +1,98 @@
-CREATE TABLE warehouse (w_id INT, w_name TEXT(10), w_tax INT, w_ytd INT, PRIMARY KEY (w_id));
-CREATE TABLE district (d_w_id INT, d_id INT, d_name TEXT(10), d_tax INT, d_ytd INT,
-  d_next_o_id INT, PRIMARY KEY (d_w_id, d_id));
-CREATE TABLE customer (c_w_id INT, c_d_id INT, c_id INT, c_first TEXT(16), c_middle TEXT(2),
-  c_last TEXT(16), c_credit TEXT(2), c_discount INT, c_balance INT, c_ytd_payment INT,
-  c_payment_cnt INT, c_delivery_cnt INT, c_data TEXT(500), PRIMARY KEY (c_w_id, c_d_id, c_id));
-CREATE TABLE history (h_id INT, h_c_id INT, h_c_d_id INT, h_c_w_id INT, h_d_id INT, h_w_id INT,
-  h_date INT, h_amount INT, h_data TEXT(24), PRIMARY KEY (h_id));
-CREATE TABLE new_order (no_w_id INT, no_d_id INT, no_o_id INT,
-  PRIMARY KEY (no_w_id, no_d_id, no_o_id));
-CREATE TABLE orders (o_w_id INT, o_d_id INT, o_id INT, o_c_id INT, o_entry_d INT,
-  o_carrier_id INT, o_ol_cnt INT, o_all_local INT, PRIMARY KEY (o_w_id, o_d_id, o_id));
-CREATE TABLE order_line (ol_w_id INT, ol_d_id INT, ol_o_id INT, ol_number INT, ol_i_id INT,
-  ol_supply_w_id INT, ol_delivery_d INT, ol_quantity INT, ol_amount INT,
-  PRIMARY KEY (ol_w_id, ol_d_id, ol_o_id, ol_number));
-CREATE TABLE item (i_id INT, i_name TEXT(24), i_price INT, i_data TEXT(50), PRIMARY KEY (i_id));
-CREATE TABLE stock (s_w_id INT, s_i_id INT, s_quantity INT, s_ytd INT, s_order_cnt INT,
-  s_remote_cnt INT, s_data TEXT(50), PRIMARY KEY (s_w_id, s_i_id));
-
-CREATE PROCEDURE new_order (:w INT, :d INT, :c INT, :date INT, :lines ROWS (i INT, s INT, q INT))
-DECLARE :wtax = 0; DECLARE :dtax = 0; DECLARE :o = 0; DECLARE :disc = 0; DECLARE :last = '';
-DECLARE :credit = ''; DECLARE :n = 0; DECLARE :local = 1; DECLARE :price = 0;
-DECLARE :iname = ''; DECLARE :idata = ''; DECLARE :sq = 0; DECLARE :sq2 = 0;
-DECLARE :sdata = ''; DECLARE :amount = 0; DECLARE :sum = 0; DECLARE :brand = '';
-DECLARE :total = 0;
-BEGIN
-  SELECT w_tax INTO :wtax FROM warehouse WHERE w_id = :w;
-  SELECT d_tax INTO :dtax FROM district WHERE d_w_id = :w AND d_id = :d;
-  SELECT d_next_o_id INTO :o FROM district WHERE d_w_id = :w AND d_id = :d;
-  UPDATE district SET d_next_o_id = d_next_o_id + 1 WHERE d_w_id = :w AND d_id = :d;
-  SELECT c_discount, c_last, c_credit INTO :disc, :last, :credit FROM customer
-    WHERE c_w_id = :w AND c_d_id = :d AND c_id = :c;
-  FOR :l IN :lines DO
-    SET :n = :n + 1;
-    IF :l.s <> :w THEN SET :local = 0; END IF;
-  END FOR;
-  INSERT INTO orders VALUES (:w, :d, :o, :c, :date, 0, :n, :local);
-  INSERT INTO new_order VALUES (:w, :d, :o);
-  SET :n = 0;
-  FOR :l IN :lines DO
-    SET :n = :n + 1;
-    SELECT i_price, i_name, i_data INTO :price, :iname, :idata FROM item
-      WHERE i_id = :l.i;
-    IF :found = 0 THEN ROLLBACK 'Item number is not valid'; END IF;
-    SELECT s_quantity, s_data INTO :sq, :sdata FROM stock
-      WHERE s_w_id = :l.s AND s_i_id = :l.i;
-    IF :sq >= :l.q + 10 THEN SET :sq2 = :sq - :l.q;
-    ELSE SET :sq2 = :sq - :l.q + 91; END IF;
-    UPDATE stock SET s_quantity = :sq2, s_ytd = s_ytd + :l.q, s_order_cnt = s_order_cnt + 1
-      WHERE s_w_id = :l.s AND s_i_id = :l.i;
-    IF :l.s <> :w THEN UPDATE stock SET s_remote_cnt = s_remote_cnt + 1
-      WHERE s_w_id = :l.s AND s_i_id = :l.i; END IF;
-    SET :amount = :l.q * :price;
-    SET :sum = :sum + :amount;
-    IF CONTAINS(:idata, 'ORIGINAL') AND CONTAINS(:sdata, 'ORIGINAL')
-    THEN SET :brand = 'B'; ELSE SET :brand = 'G'; END IF;
-    INSERT INTO order_line VALUES (:w, :d, :o, :n, :l.i, :l.s, 0, :l.q, :amount);
-    PRINT :l.i, :iname, :l.q, :sq2, :brand, :price, :amount;
-  END FOR;
-  SET :total = :sum * (10000 - :disc) * (10000 + :wtax + :dtax) / 100000000;
-  PRINT :o, :last, :credit, :disc, :wtax, :dtax, :n, :total;
-END;
-
-CREATE PROCEDURE payment (:w INT, :d INT, :cw INT, :cd INT, :c INT, :last TEXT(16),
-  :amount INT, :date INT, :h INT)
-DECLARE :wname = ''; DECLARE :dname = ''; DECLARE :id = 0; DECLARE :n = 0;
-DECLARE :credit = ''; DECLARE :data = ''; DECLARE :bal = 0;
-BEGIN
-  UPDATE warehouse SET w_ytd = w_ytd + :amount WHERE w_id = :w;
-  SELECT w_name INTO :wname FROM warehouse WHERE w_id = :w;
-  UPDATE district SET d_ytd = d_ytd + :amount WHERE d_w_id = :w AND d_id = :d;
-  SELECT d_name INTO :dname FROM district WHERE d_w_id = :w AND d_id = :d;
-  SET :id = :c;
-  IF :c = 0 THEN
-    SELECT COUNT(*) INTO :n FROM customer WHERE c_w_id = :cw AND c_d_id = :cd AND c_last = :last;
-    IF :n = 0 THEN ROLLBACK 'no customer'; END IF;
-    SELECT c_id INTO :id FROM customer WHERE c_w_id = :cw AND c_d_id = :cd AND c_last = :last
-      ORDER BY c_first OFFSET (:n + 1) / 2 - 1;
-  END IF;
-  UPDATE customer SET c_balance = c_balance - :amount, c_ytd_payment = c_ytd_payment + :amount,
-    c_payment_cnt = c_payment_cnt + 1 WHERE c_w_id = :cw AND c_d_id = :cd AND c_id = :id;
-  SELECT c_credit, c_data, c_balance INTO :credit, :data, :bal FROM customer
-    WHERE c_w_id = :cw AND c_d_id = :cd AND c_id = :id;
-  IF :credit = 'BC' THEN
-    UPDATE customer SET c_data = LEFT(TEXTOF(:id) || ' ' || TEXTOF(:cd) || ' ' || TEXTOF(:cw)
-      || ' ' || TEXTOF(:d) || ' ' || TEXTOF(:w) || ' ' || TEXTOF(:amount) || ' ' || :data, 500)
-      WHERE c_w_id = :cw AND c_d_id = :cd AND c_id = :id;
-  END IF;
-  INSERT INTO history VALUES (:h, :id, :cd, :cw, :d, :w, :date, :amount,
-    :wname || '    ' || :dname);
-  PRINT :id, :credit, :bal, :amount;
-END;
-
-CREATE PROCEDURE order_status (:w INT, :d INT, :c INT, :last TEXT(16))
-DECLARE :id = 0; DECLARE :n = 0; DECLARE :bal = 0; DECLARE :first = ''; DECLARE :lname = '';
-DECLARE :o = 0; DECLARE :e = 0; DECLARE :k = 0;
-BEGIN
-  SET :id = :c;
-  IF :c = 0 THEN
-    SELECT COUNT(*) INTO :n FROM customer WHERE c_w_id = :w AND c_d_id = :d AND c_last = :last;
-    IF :n = 0 THEN ROLLBACK 'no customer'; END IF;
-    SELECT c_id INTO :id FROM customer WHERE c_w_id = :w AND c_d_id = :d AND c_last = :last
-      ORDER BY c_first OFFSET (:n + 1) / 2 - 1;
-  END IF;
-  SELECT c_balance, c_first, c_last INTO :bal, :first, :lname FROM customer
-    WHERE c_w_id = :w AND c_d_id = :d AND c_id = :id;
-  PRINT :id, :bal, :first, :lname;
-  SELECT o_id, o_entry_d, o_carrier_id INTO :o, :e, :k FROM orders
-    WHERE o_w_id = :w AND o_d_id = :d AND o_c_id = :id ORDER BY o_id DESC;
-  IF :found = 1 THEN
-    PRINT :o, :e, :k;
-    FOR :r IN SELECT ol_i_id, ol_supply_w_id, ol_quantity, ol_amount, ol_delivery_d
-      FROM order_line WHERE ol_w_id = :w AND ol_d_id = :d AND ol_o_id = :o DO
-      PRINT :r.ol_i_id, :r.ol_supply_w_id, :r.ol_quantity, :r.ol_amount, :r.ol_delivery_d;
-    END FOR;
-  END IF;
-END;
-
-CREATE PROCEDURE delivery (:w INT, :carrier INT, :date INT)
-DECLARE :o = 0; DECLARE :c = 0; DECLARE :sum = 0;
-BEGIN
-  FOR :r IN SELECT d_id FROM district WHERE d_w_id = :w DO
-    SELECT MIN(no_o_id) INTO :o FROM new_order WHERE no_w_id = :w AND no_d_id = :r.d_id;
-    IF :found = 1 THEN
-      DELETE FROM new_order WHERE no_w_id = :w AND no_d_id = :r.d_id AND no_o_id = :o;
-      SELECT o_c_id INTO :c FROM orders WHERE o_w_id = :w AND o_d_id = :r.d_id AND o_id = :o;
-      UPDATE orders SET o_carrier_id = :carrier
-        WHERE o_w_id = :w AND o_d_id = :r.d_id AND o_id = :o;
-      UPDATE order_line SET ol_delivery_d = :date
-        WHERE ol_w_id = :w AND ol_d_id = :r.d_id AND ol_o_id = :o;
-      SELECT SUM(ol_amount) INTO :sum FROM order_line
-        WHERE ol_w_id = :w AND ol_d_id = :r.d_id AND ol_o_id = :o;
-      UPDATE customer SET c_balance = c_balance + :sum, c_delivery_cnt = c_delivery_cnt + 1
-        WHERE c_w_id = :w AND c_d_id = :r.d_id AND c_id = :c;
-      PRINT :r.d_id, :o;
-    END IF;
-  END FOR;
-END;
-
-CREATE PROCEDURE stock_level (:w INT, :d INT, :t INT)
-DECLARE :o = 0; DECLARE :k = 0; DECLARE :n = 0;
-BEGIN
-  SELECT d_next_o_id INTO :o FROM district WHERE d_w_id = :w AND d_id = :d;
-  FOR :r IN SELECT DISTINCT ol_i_id FROM order_line
-    WHERE ol_w_id = :w AND ol_d_id = :d AND ol_o_id >= :o - 20 AND ol_o_id < :o DO
-    SELECT COUNT(*) INTO :k FROM stock
-      WHERE s_w_id = :w AND s_i_id = :r.ol_i_id AND s_quantity < :t;
-    SET :n = :n + :k;
-  END FOR;
-  PRINT :n;
-END;
-COPY warehouse <<
+create table warehouse ( w_id int , w_name text ( 10 ) , w_tax int , w_ytd int , primary key ( w_id ) ) ;
+create table district ( d_w_id int , d_id int , d_name text ( 10 ) , d_tax int , d_ytd int , d_next_o_id int , primary key ( d_w_id , d_id ) ) ;
+create table customer ( c_w_id int , c_d_id int , c_id int , c_first text ( 16 ) , c_middle text ( 2 ) , c_last text ( 16 ) , c_credit text ( 2 ) , c_discount int , c_balance int , c_ytd_payment int , c_payment_cnt int , c_delivery_cnt int , c_data text ( 500 ) , primary key ( c_w_id , c_d_id , c_id ) ) ;
+create table history ( h_id int , h_c_id int , h_c_d_id int , h_c_w_id int , h_d_id int , h_w_id int , h_date int , h_amount int , h_data text ( 24 ) , primary key ( h_id ) ) ;
+create table new_order ( no_w_id int , no_d_id int , no_o_id int , primary key ( no_w_id , no_d_id , no_o_id ) ) ;
+create table orders ( o_w_id int , o_d_id int , o_id int , o_c_id int , o_entry_d int , o_carrier_id int , o_ol_cnt int , o_all_local int , primary key ( o_w_id , o_d_id , o_id ) ) ;
+create table order_line ( ol_w_id int , ol_d_id int , ol_o_id int , ol_number int , ol_i_id int , ol_supply_w_id int , ol_delivery_d int , ol_quantity int , ol_amount int , primary key ( ol_w_id , ol_d_id , ol_o_id , ol_number ) ) ;
+create table item ( i_id int , i_name text ( 24 ) , i_price int , i_data text ( 50 ) , primary key ( i_id ) ) ;
+create table stock ( s_w_id int , s_i_id int , s_quantity int , s_ytd int , s_order_cnt int , s_remote_cnt int , s_data text ( 50 ) , primary key ( s_w_id , s_i_id ) ) ;
+create procedure new_order ( :w int , :d int , :c int , :date int , :lines rows ( i int , s int , q int ) ) declare :wtax = 0 ; declare :dtax = 0 ; declare :o = 0 ; declare :disc = 0 ; declare :last = '' ; declare :credit = '' ; declare :n = 0 ; declare :local = 1 ; declare :price = 0 ; declare :iname = '' ; declare :idata = '' ; declare :sq = 0 ; declare :sq2 = 0 ; declare :sdata = '' ; declare :amount = 0 ; declare :sum = 0 ; declare :brand = '' ; declare :total = 0 ; begin select w_tax into :wtax from warehouse where w_id = :w ;
+select d_tax into :dtax from district where d_w_id = :w and d_id = :d ;
+select d_next_o_id into :o from district where d_w_id = :w and d_id = :d ;
+update district set d_next_o_id = d_next_o_id + 1 where d_w_id = :w and d_id = :d ;
+select c_discount , c_last , c_credit into :disc , :last , :credit from customer where c_w_id = :w and c_d_id = :d and c_id = :c ;
+for :l in :lines do set :n = :n + 1 ;
+if :l . s <> :w then set :local = 0 ;
+end if ;
+end for ;
+insert into orders values ( :w , :d , :o , :c , :date , 0 , :n , :local ) ;
+insert into new_order values ( :w , :d , :o ) ;
+set :n = 0 ;
+for :l in :lines do set :n = :n + 1 ;
+select i_price , i_name , i_data into :price , :iname , :idata from item where i_id = :l . i ;
+if :found = 0 then rollback 'Item number is not valid' ;
+end if ;
+select s_quantity , s_data into :sq , :sdata from stock where s_w_id = :l . s and s_i_id = :l . i ;
+if :sq >= :l . q + 10 then set :sq2 = :sq - :l . q ;
+else set :sq2 = :sq - :l . q + 91 ;
+end if ;
+update stock set s_quantity = :sq2 , s_ytd = s_ytd + :l . q , s_order_cnt = s_order_cnt + 1 where s_w_id = :l . s and s_i_id = :l . i ;
+if :l . s <> :w then update stock set s_remote_cnt = s_remote_cnt + 1 where s_w_id = :l . s and s_i_id = :l . i ;
+end if ;
+set :amount = :l . q * :price ;
+set :sum = :sum + :amount ;
+if contains ( :idata , 'ORIGINAL' ) and contains ( :sdata , 'ORIGINAL' ) then set :brand = 'B' ;
+else set :brand = 'G' ;
+end if ;
+insert into order_line values ( :w , :d , :o , :n , :l . i , :l . s , 0 , :l . q , :amount ) ;
+print :l . i , :iname , :l . q , :sq2 , :brand , :price , :amount ;
+end for ;
+set :total = :sum * ( 10000 - :disc ) * ( 10000 + :wtax + :dtax ) / 100000000 ;
+print :o , :last , :credit , :disc , :wtax , :dtax , :n , :total ;
+end ;
+create procedure payment ( :w int , :d int , :cw int , :cd int , :c int , :last text ( 16 ) , :amount int , :date int , :h int ) declare :wname = '' ; declare :dname = '' ; declare :id = 0 ; declare :n = 0 ; declare :credit = '' ; declare :data = '' ; declare :bal = 0 ; begin update warehouse set w_ytd = w_ytd + :amount where w_id = :w ;
+select w_name into :wname from warehouse where w_id = :w ;
+update district set d_ytd = d_ytd + :amount where d_w_id = :w and d_id = :d ;
+select d_name into :dname from district where d_w_id = :w and d_id = :d ;
+set :id = :c ;
+if :c = 0 then select count ( * ) into :n from customer where c_w_id = :cw and c_d_id = :cd and c_last = :last ;
+if :n = 0 then rollback 'no customer' ;
+end if ;
+select c_id into :id from customer where c_w_id = :cw and c_d_id = :cd and c_last = :last order by c_first offset ( :n + 1 ) / 2 - 1 ;
+end if ;
+update customer set c_balance = c_balance - :amount , c_ytd_payment = c_ytd_payment + :amount , c_payment_cnt = c_payment_cnt + 1 where c_w_id = :cw and c_d_id = :cd and c_id = :id ;
+select c_credit , c_data , c_balance into :credit , :data , :bal from customer where c_w_id = :cw and c_d_id = :cd and c_id = :id ;
+if :credit = 'BC' then update customer set c_data = left ( textof ( :id ) || ' ' || textof ( :cd ) || ' ' || textof ( :cw ) || ' ' || textof ( :d ) || ' ' || textof ( :w ) || ' ' || textof ( :amount ) || ' ' || :data , 500 ) where c_w_id = :cw and c_d_id = :cd and c_id = :id ;
+end if ;
+insert into history values ( :h , :id , :cd , :cw , :d , :w , :date , :amount , :wname || '    ' || :dname ) ;
+print :id , :credit , :bal , :amount ;
+end ;
+create procedure order_status ( :w int , :d int , :c int , :last text ( 16 ) ) declare :id = 0 ; declare :n = 0 ; declare :bal = 0 ; declare :first = '' ; declare :lname = '' ; declare :o = 0 ; declare :e = 0 ; declare :k = 0 ; begin set :id = :c ;
+if :c = 0 then select count ( * ) into :n from customer where c_w_id = :w and c_d_id = :d and c_last = :last ;
+if :n = 0 then rollback 'no customer' ;
+end if ;
+select c_id into :id from customer where c_w_id = :w and c_d_id = :d and c_last = :last order by c_first offset ( :n + 1 ) / 2 - 1 ;
+end if ;
+select c_balance , c_first , c_last into :bal , :first , :lname from customer where c_w_id = :w and c_d_id = :d and c_id = :id ;
+print :id , :bal , :first , :lname ;
+select o_id , o_entry_d , o_carrier_id into :o , :e , :k from orders where o_w_id = :w and o_d_id = :d and o_c_id = :id order by o_id desc ;
+if :found = 1 then print :o , :e , :k ;
+for :r in select ol_i_id , ol_supply_w_id , ol_quantity , ol_amount , ol_delivery_d from order_line where ol_w_id = :w and ol_d_id = :d and ol_o_id = :o do print :r . ol_i_id , :r . ol_supply_w_id , :r . ol_quantity , :r . ol_amount , :r . ol_delivery_d ;
+end for ;
+end if ;
+end ;
+create procedure delivery ( :w int , :carrier int , :date int ) declare :o = 0 ; declare :c = 0 ; declare :sum = 0 ; begin for :r in select d_id from district where d_w_id = :w do select min ( no_o_id ) into :o from new_order where no_w_id = :w and no_d_id = :r . d_id ;
+if :found = 1 then delete from new_order where no_w_id = :w and no_d_id = :r . d_id and no_o_id = :o ;
+select o_c_id into :c from orders where o_w_id = :w and o_d_id = :r . d_id and o_id = :o ;
+update orders set o_carrier_id = :carrier where o_w_id = :w and o_d_id = :r . d_id and o_id = :o ;
+update order_line set ol_delivery_d = :date where ol_w_id = :w and ol_d_id = :r . d_id and ol_o_id = :o ;
+select sum ( ol_amount ) into :sum from order_line where ol_w_id = :w and ol_d_id = :r . d_id and ol_o_id = :o ;
+update customer set c_balance = c_balance + :sum , c_delivery_cnt = c_delivery_cnt + 1 where c_w_id = :w and c_d_id = :r . d_id and c_id = :c ;
+print :r . d_id , :o ;
+end if ;
+end for ;
+end ;
+create procedure stock_level ( :w int , :d int , :t int ) declare :o = 0 ; declare :k = 0 ; declare :n = 0 ; begin select d_next_o_id into :o from district where d_w_id = :w and d_id = :d ;
+for :r in select distinct ol_i_id from order_line where ol_w_id = :w and ol_d_id = :d and ol_o_id >= :o - 20 and ol_o_id < :o do select count ( * ) into :k from stock where s_w_id = :w and s_i_id = :r . ol_i_id and s_quantity < :t ;
+set :n = :n + :k ;
+end for ;
+print :n ;
+end ;
+copy warehouse <<
 1,W1,173,30000000
 >>
-COPY district <<
+copy district <<
 1,1,D1,128,3000000,31
 1,2,D2,225,3000000,31
 1,3,D3,322,3000000,31
@@ -164,7 +104,7 @@ COPY district <<
 1,9,D9,904,3000000,31
 1,10,D10,1001,3000000,31
 >>
-COPY customer <<
+copy customer <<
 1,1,1,F07,OE,BARBARBAR,GC,13,-1000,1000,1,0,opening
 1,1,2,F14,OE,BARBAROUGHT,GC,26,-1000,1000,1,0,opening
 1,1,3,F21,OE,BARBARABLE,GC,39,-1000,1000,1,0,opening
@@ -466,7 +406,7 @@ COPY customer <<
 1,10,29,F23,OE,BARBARATION,GC,377,-1000,1000,1,0,opening
 1,10,30,F00,OE,BARBAREING,BC,390,-1000,1000,1,0,opening
 >>
-COPY history <<
+copy history <<
 1,1,1,1,1,1,20170514,1000,opening
 2,2,1,1,1,1,20170514,1000,opening
 3,3,1,1,1,1,20170514,1000,opening
@@ -768,7 +708,7 @@ COPY history <<
 299,29,10,1,10,1,20170514,1000,opening
 300,30,10,1,10,1,20170514,1000,opening
 >>
-COPY new_order <<
+copy new_order <<
 1,1,22
 1,1,23
 1,1,24
@@ -860,7 +800,7 @@ COPY new_order <<
 1,10,29
 1,10,30
 >>
-COPY orders <<
+copy orders <<
 1,1,1,8,20170514,2,6,1
 1,1,2,15,20170514,3,7,1
 1,1,3,22,20170514,4,8,1
@@ -1162,7 +1102,7 @@ COPY orders <<
 1,10,29,24,20170514,0,12,1
 1,10,30,1,20170514,0,13,1
 >>
-COPY order_line <<
+copy order_line <<
 1,1,1,1,12,1,20170514,5,0
 1,1,1,2,13,1,20170514,5,0
 1,1,1,3,14,1,20170514,5,0
@@ -4124,7 +4064,7 @@ COPY order_line <<
 1,10,30,12,313,1,0,5,1200
 1,10,30,13,314,1,0,5,1300
 >>
-COPY item <<
+copy item <<
 1,item1,137,plain
 2,item2,174,plain
 3,item3,211,plain
@@ -5126,7 +5066,7 @@ COPY item <<
 999,item999,7360,plain
 1000,item1000,7397,ORIGINAL
 >>
-COPY stock <<
+copy stock <<
 1,1,11,0,0,0,plain
 1,2,12,0,0,0,plain
 1,3,13,0,0,0,plain
@@ -6128,203 +6068,203 @@ COPY stock <<
 1,999,99,0,0,0,ORIGINAL
 1,1000,100,0,0,0,plain
 >>
-CALL new_order(1, 1, 25, 20170515, ROWS ((925, 1, 8), (79, 1, 7), (631, 1, 5), (479, 1, 6), (780, 1, 10), (131, 1, 7)));
-CALL delivery(1, 7, 20170515);
-CALL payment(1, 4, 1, 4, 29, '', 472480, 20170515, 1000002);
-CALL new_order(1, 2, 9, 20170515, ROWS ((23, 1, 9), (48, 1, 4), (639, 1, 1), (151, 1, 9), (196, 1, 6), (59, 1, 6), (103, 1, 8), (966, 1, 10), (321, 1, 10)));
-CALL payment(1, 9, 1, 9, 13, '', 253864, 20170515, 1000004);
-CALL payment(1, 9, 1, 9, 18, '', 123178, 20170515, 1000005);
-CALL payment(1, 7, 1, 7, 0, 'BARBARATION', 115145, 20170515, 1000006);
-CALL new_order(1, 3, 1, 20170515, ROWS ((439, 1, 6), (703, 1, 3), (76, 1, 3), (77, 1, 5), (73, 1, 9), (526, 1, 5), (518, 1, 8), (829, 1, 8), (527, 1, 6), (383, 1, 3), (455, 1, 7)));
-CALL new_order(1, 6, 7, 20170515, ROWS ((95, 1, 8), (167, 1, 3), (263, 1, 5), (196, 1, 4), (606, 1, 8)));
-CALL payment(1, 1, 1, 1, 5, '', 61964, 20170515, 1000009);
-CALL new_order(1, 4, 16, 20170515, ROWS ((551, 1, 4), (959, 1, 8), (747, 1, 1), (109, 1, 10), (75, 1, 4), (863, 1, 10), (147, 1, 8), (535, 1, 9), (580, 1, 1)));
-CALL new_order(1, 1, 22, 20170515, ROWS ((991, 1, 9), (996, 1, 10), (919, 1, 6), (917, 1, 9), (81, 1, 6), (758, 1, 6), (863, 1, 3), (698, 1, 9), (773, 1, 4), (475, 1, 1), (77, 1, 9), (175, 1, 1), (35, 1, 6)));
-CALL new_order(1, 2, 2, 20170515, ROWS ((345, 1, 2), (223, 1, 4), (439, 1, 7), (607, 1, 6), (959, 1, 2), (15, 1, 5), (823, 1, 2), (50, 1, 4), (314, 1, 7), (634, 1, 8), (761, 1, 9), (39, 1, 3)));
-CALL payment(1, 2, 1, 2, 0, 'BARBARANTI', 13130, 20170515, 1000013);
-CALL payment(1, 6, 1, 6, 0, 'BARBARBAR', 438048, 20170515, 1000014);
-CALL payment(1, 1, 1, 1, 9, '', 459473, 20170515, 1000015);
-CALL new_order(1, 5, 16, 20170515, ROWS ((971, 1, 6), (959, 1, 7), (113, 1, 3), (61, 1, 10), (847, 1, 5), (997, 1, 7), (63, 1, 6), (127, 1, 7), (957, 1, 4), (39, 1, 6), (527, 1, 4), (821, 1, 2)));
-CALL new_order(1, 10, 28, 20170515, ROWS ((991, 1, 3), (975, 1, 1), (102, 1, 9), (435, 1, 8), (127, 1, 1), (739, 1, 8), (185, 1, 1), (547, 1, 10), (167, 1, 10), (71, 1, 8), (135, 1, 3)));
-CALL payment(1, 2, 1, 2, 0, 'BARBARABLE', 414323, 20170515, 1000018);
-CALL payment(1, 2, 1, 2, 21, '', 161555, 20170515, 1000019);
-CALL new_order(1, 1, 7, 20170515, ROWS ((542, 1, 7), (517, 1, 2), (11, 1, 10), (15, 1, 8), (253, 1, 8), (198, 1, 6)));
-CALL payment(1, 4, 1, 4, 0, 'BARBARPRES', 184155, 20170515, 1000021);
-CALL new_order(1, 6, 15, 20170515, ROWS ((898, 1, 8), (263, 1, 3), (687, 1, 4), (15, 1, 8), (101, 1, 7), (979, 1, 1)));
-CALL new_order(1, 4, 11, 20170515, ROWS ((7, 1, 6), (802, 1, 5), (127, 1, 10), (55, 1, 7), (779, 1, 3), (774, 1, 2), (959, 1, 5), (996, 1, 7)));
-CALL payment(1, 6, 1, 6, 13, '', 476903, 20170515, 1000024);
-CALL payment(1, 3, 1, 3, 0, 'BARBARBAR', 136593, 20170515, 1000025);
-CALL new_order(1, 1, 21, 20170515, ROWS ((15, 1, 8), (174, 1, 6), (567, 1, 7), (54, 1, 9), (854, 1, 5), (818, 1, 1), (772, 1, 7), (550, 1, 5), (135, 1, 8), (850, 1, 4), (495, 1, 1), (823, 1, 7)));
-CALL payment(1, 6, 1, 6, 21, '', 38439, 20170515, 1000027);
-CALL payment(1, 6, 1, 6, 13, '', 237767, 20170515, 1000028);
-CALL payment(1, 4, 1, 4, 0, 'BARBARABLE', 62057, 20170515, 1000029);
-CALL stock_level(1, 4, 20);
-CALL payment(1, 4, 1, 4, 0, 'BARBARABLE', 335680, 20170515, 1000031);
-CALL new_order(1, 3, 25, 20170515, ROWS ((262, 1, 6), (103, 1, 2), (55, 1, 9), (859, 1, 4), (162, 1, 5), (10, 1, 4)));
-CALL payment(1, 1, 1, 1, 0, 'BARBARATION', 185539, 20170515, 1000033);
-CALL new_order(1, 9, 3, 20170515, ROWS ((302, 1, 5), (940, 1, 9), (819, 1, 7), (415, 1, 3), (878, 1, 4), (213, 1, 4), (557, 1, 7), (423, 1, 10), (903, 1, 4), (151, 1, 1), (709, 1, 9)));
-CALL payment(1, 5, 1, 5, 0, 'BARBARANTI', 358855, 20170515, 1000035);
-CALL payment(1, 9, 1, 9, 0, 'BARBARANTI', 135907, 20170515, 1000036);
-CALL stock_level(1, 7, 20);
-CALL payment(1, 9, 1, 9, 0, 'BARBARPRES', 312312, 20170515, 1000038);
-CALL payment(1, 6, 1, 6, 0, 'BARBARATION', 258733, 20170515, 1000039);
-CALL payment(1, 10, 1, 10, 0, 'BARBARESE', 176196, 20170515, 1000040);
-CALL new_order(1, 8, 5, 20170515, ROWS ((78, 1, 1), (916, 1, 8), (147, 1, 6), (847, 1, 7), (567, 1, 3)));
-CALL payment(1, 10, 1, 10, 13, '', 166095, 20170515, 1000042);
-CALL payment(1, 4, 1, 4, 0, 'BARBAREING', 426239, 20170515, 1000043);
-CALL new_order(1, 1, 10, 20170515, ROWS ((63, 1, 4), (254, 1, 1), (638, 1, 7), (515, 1, 8), (413, 1, 2), (743, 1, 4), (531, 1, 2)));
-CALL payment(1, 3, 1, 3, 0, 'BARBARPRES', 223952, 20170515, 1000045);
-CALL payment(1, 1, 1, 1, 0, 'BARBARABLE', 279504, 20170515, 1000046);
-CALL payment(1, 3, 1, 3, 0, 'BARBARPRI', 410795, 20170515, 1000047);
-CALL payment(1, 3, 1, 3, 23, '', 88987, 20170515, 1000048);
-CALL payment(1, 10, 1, 10, 0, 'BARBAREING', 57332, 20170515, 1000049);
-CALL payment(1, 4, 1, 4, 16, '', 162382, 20170515, 1000050);
-CALL payment(1, 7, 1, 7, 0, 'BARBARPRI', 10597, 20170515, 1000051);
-CALL new_order(1, 5, 4, 20170515, ROWS ((623, 1, 3), (831, 1, 7), (631, 1, 7), (110, 1, 5), (966, 1, 5), (123, 1, 1), (31, 1, 6), (527, 1, 2)));
-CALL payment(1, 2, 1, 2, 0, 'BARBARATION', 226553, 20170515, 1000053);
-CALL payment(1, 6, 1, 6, 0, 'BARBARABLE', 375894, 20170515, 1000054);
-CALL payment(1, 8, 1, 8, 0, 'BARBARESE', 29967, 20170515, 1000055);
-CALL payment(1, 1, 1, 1, 19, '', 1052, 20170515, 1000056);
-CALL payment(1, 9, 1, 9, 0, 'BARBARPRES', 206379, 20170515, 1000057);
-CALL new_order(1, 4, 11, 20170515, ROWS ((855, 1, 8), (734, 1, 9), (879, 1, 1), (78, 1, 9), (126, 1, 1), (298, 1, 7), (119, 1, 2), (262, 1, 3), (271, 1, 5), (43, 1, 10), (954, 1, 1)));
-CALL new_order(1, 2, 19, 20170515, ROWS ((23, 1, 9), (878, 1, 9), (374, 1, 2), (23, 1, 4), (791, 1, 4), (919, 1, 8), (895, 1, 5), (281, 1, 3), (572, 1, 5)));
-CALL payment(1, 1, 1, 1, 0, 'BARBARBAR', 101116, 20170515, 1000060);
-CALL payment(1, 6, 1, 6, 0, 'BARBARESE', 466813, 20170515, 1000061);
-CALL new_order(1, 8, 25, 20170515, ROWS ((927, 1, 4), (6, 1, 5), (999, 1, 4), (793, 1, 3), (719, 1, 4)));
-CALL new_order(1, 4, 30, 20170515, ROWS ((951, 1, 6), (817, 1, 4), (437, 1, 3), (879, 1, 2), (78, 1, 4)));
-CALL payment(1, 2, 1, 2, 0, 'BARBARBAR', 19680, 20170515, 1000064);
-CALL new_order(1, 2, 29, 20170515, ROWS ((675, 1, 4), (105, 1, 9), (738, 1, 6), (999, 1, 4), (695, 1, 3), (143, 1, 4), (78, 1, 6), (87, 1, 3), (45, 1, 2), (133, 1, 7), (690, 1, 5), (967, 1, 1), (350, 1, 10), (159, 1, 4)));
-CALL new_order(1, 2, 11, 20170515, ROWS ((927, 1, 8), (486, 1, 6), (142, 1, 5), (303, 1, 7), (82, 1, 5)));
-CALL new_order(1, 8, 6, 20170515, ROWS ((47, 1, 4), (871, 1, 6), (790, 1, 8), (576, 1, 6), (859, 1, 7), (43, 1, 7), (91, 1, 8), (879, 1, 10), (27, 1, 5), (189, 1, 1), (103, 1, 1), (47, 1, 10), (851, 1, 5), (61, 1, 7), (597, 1, 3)));
-CALL stock_level(1, 3, 16);
-CALL order_status(1, 6, 11, '');
-CALL payment(1, 7, 1, 7, 0, 'BARBARANTI', 454773, 20170515, 1000070);
-CALL payment(1, 2, 1, 2, 18, '', 166070, 20170515, 1000071);
-CALL delivery(1, 3, 20170515);
-CALL payment(1, 8, 1, 8, 0, 'BARBARABLE', 159399, 20170515, 1000073);
-CALL payment(1, 3, 1, 3, 0, 'BARBARPRI', 327924, 20170515, 1000074);
-CALL payment(1, 2, 1, 2, 6, '', 31939, 20170515, 1000075);
-CALL payment(1, 8, 1, 8, 0, 'BARBARABLE', 486482, 20170515, 1000076);
-CALL new_order(1, 9, 23, 20170515, ROWS ((346, 1, 1), (761, 1, 2), (138, 1, 8), (119, 1, 8), (593, 1, 7)));
-CALL payment(1, 4, 1, 4, 0, 'BARBARPRES', 167435, 20170515, 1000078);
-CALL payment(1, 3, 1, 3, 0, 'BARBARATION', 45460, 20170515, 1000079);
-CALL payment(1, 9, 1, 9, 0, 'BARBARABLE', 91066, 20170515, 1000080);
-CALL payment(1, 1, 1, 1, 0, 'BARBARANTI', 233251, 20170515, 1000081);
-CALL order_status(1, 1, 3, '');
-CALL payment(1, 3, 1, 3, 0, 'BARBARBAR', 162128, 20170515, 1000083);
-CALL delivery(1, 2, 20170515);
-CALL new_order(1, 4, 1, 20170515, ROWS ((933, 1, 6), (23, 1, 4), (61, 1, 2), (993, 1, 3), (84, 1, 8), (713, 1, 9), (412, 1, 1)));
-CALL new_order(1, 6, 25, 20170515, ROWS ((623, 1, 9), (829, 1, 6), (133, 1, 8), (391, 1, 2), (99, 1, 3), (475, 1, 4), (26, 1, 6), (259, 1, 8), (551, 1, 5)));
-CALL new_order(1, 5, 29, 20170515, ROWS ((842, 1, 8), (55, 1, 3), (778, 1, 2), (75, 1, 3), (37, 1, 4), (151, 1, 2), (911, 1, 2), (743, 1, 3), (533, 1, 6), (715, 1, 6), (32, 1, 4)));
-CALL new_order(1, 7, 28, 20170515, ROWS ((431, 1, 5), (988, 1, 5), (186, 1, 10), (87, 1, 9), (727, 1, 5)));
-CALL order_status(1, 9, 0, 'BARBARCALLY');
-CALL new_order(1, 3, 13, 20170515, ROWS ((623, 1, 4), (396, 1, 2), (515, 1, 8), (998, 1, 5), (445, 1, 5), (39, 1, 9), (60, 1, 5), (167, 1, 3), (71, 1, 3), (27, 1, 8), (543, 1, 7), (43, 1, 8), (878, 1, 5), (934, 1, 8)));
-CALL payment(1, 1, 1, 1, 0, 'BARBARANTI', 159218, 20170515, 1000091);
-CALL new_order(1, 4, 2, 20170515, ROWS ((855, 1, 9), (975, 1, 3), (797, 1, 10), (982, 1, 8), (67, 1, 6), (867, 1, 6), (468, 1, 4), (639, 1, 8)));
-CALL new_order(1, 3, 14, 20170515, ROWS ((839, 1, 3), (602, 1, 10), (39, 1, 7), (2, 1, 4), (47, 1, 6), (895, 1, 6), (127, 1, 6), (462, 1, 3), (135, 1, 6)));
-CALL payment(1, 10, 1, 10, 0, 'BARBARATION', 324104, 20170515, 1000094);
-CALL payment(1, 7, 1, 7, 0, 'BARBARBAR', 370229, 20170515, 1000095);
-CALL payment(1, 7, 1, 7, 11, '', 122278, 20170515, 1000096);
-CALL new_order(1, 7, 24, 20170515, ROWS ((55, 1, 3), (127, 1, 2), (387, 1, 6), (55, 1, 7), (79, 1, 4), (788, 1, 7), (982, 1, 5), (557, 1, 3)));
-CALL payment(1, 6, 1, 6, 0, 'BARBARATION', 220183, 20170515, 1000098);
-CALL payment(1, 8, 1, 8, 0, 'BARBARPRI', 404208, 20170515, 1000099);
-CALL payment(1, 9, 1, 9, 0, 'BARBARPRES', 199621, 20170515, 1000100);
-CALL payment(1, 10, 1, 10, 22, '', 207891, 20170515, 1000101);
-CALL payment(1, 3, 1, 3, 0, 'BARBARBAR', 204666, 20170515, 1000102);
-CALL payment(1, 3, 1, 3, 2, '', 313150, 20170515, 1000103);
-CALL delivery(1, 6, 20170515);
-CALL stock_level(1, 7, 10);
-CALL new_order(1, 10, 21, 20170515, ROWS ((573, 1, 5), (663, 1, 7), (855, 1, 4), (193, 1, 7), (269, 1, 9), (767, 1, 2), (201, 1, 3), (983, 1, 8), (278, 1, 5), (51, 1, 5), (287, 1, 10), (535, 1, 9)));
-CALL payment(1, 7, 1, 7, 0, 'BARBARPRES', 387754, 20170515, 1000107);
-CALL new_order(1, 8, 23, 20170515, ROWS ((823, 1, 5), (141, 1, 3), (6, 1, 7), (807, 1, 10), (963, 1, 5), (967, 1, 8), (112, 1, 8), (22, 1, 5), (157, 1, 6)));
-CALL order_status(1, 10, 27, '');
-CALL new_order(1, 10, 1, 20170515, ROWS ((867, 1, 6), (762, 1, 9), (111, 1, 6), (6, 1, 10), (615, 1, 3), (103, 1, 6), (159, 1, 5), (462, 1, 8)));
-CALL payment(1, 1, 1, 1, 24, '', 371550, 20170515, 1000111);
-CALL new_order(1, 6, 17, 20170515, ROWS ((431, 1, 9), (15, 1, 6), (5, 1, 5), (535, 1, 1), (538, 1, 7), (63, 1, 7), (885, 1, 3), (953, 1, 6), (560, 1, 9), (19, 1, 10)));
-CALL payment(1, 9, 1, 9, 0, 'BARBARBAR', 364199, 20170515, 1000113);
-CALL payment(1, 4, 1, 4, 0, 'BARBARPRES', 499138, 20170515, 1000114);
-CALL new_order(1, 4, 15, 20170515, ROWS ((79, 1, 10), (519, 1, 8), (871, 1, 9), (69, 1, 9), (122, 1, 6)));
-CALL new_order(1, 10, 6, 20170515, ROWS ((119, 1, 9), (119, 1, 6), (86, 1, 8), (359, 1, 9), (877, 1, 4), (59, 1, 3), (723, 1, 1), (167, 1, 4), (119, 1, 1), (55, 1, 10), (79, 1, 9)));
-CALL payment(1, 2, 1, 2, 9, '', 235213, 20170515, 1000117);
-CALL order_status(1, 3, 29, '');
-CALL payment(1, 8, 1, 8, 0, 'BARBARCALLY', 196420, 20170515, 1000119);
-CALL payment(1, 8, 1, 8, 0, 'BARBARESE', 64616, 20170515, 1000120);
-CALL payment(1, 6, 1, 6, 0, 'BARBARPRES', 338658, 20170515, 1000121);
-CALL stock_level(1, 5, 17);
-CALL stock_level(1, 4, 16);
-CALL new_order(1, 1, 9, 20170515, ROWS ((927, 1, 3), (865, 1, 5), (461, 1, 8), (29, 1, 7), (183, 1, 7), (875, 1, 3), (111, 1, 3), (135, 1, 4), (101, 1, 9), (719, 1, 10)));
-CALL new_order(1, 8, 21, 20170515, ROWS ((988, 1, 7), (842, 1, 5), (143, 1, 8), (531, 1, 7), (31, 1, 2), (179, 1, 2), (91, 1, 9), (21, 1, 5), (502, 1, 5)));
-CALL delivery(1, 1, 20170515);
-CALL stock_level(1, 6, 16);
-CALL new_order(1, 1, 25, 20170515, ROWS ((111, 1, 4), (103, 1, 4), (542, 1, 4), (525, 1, 1), (106, 1, 2), (439, 1, 9), (999, 1, 8), (910, 1, 6), (799, 1, 5), (827, 1, 1), (581, 1, 10), (591, 1, 10), (125, 1, 9)));
-CALL payment(1, 5, 1, 5, 0, 'BARBARPRES', 439891, 20170515, 1000129);
-CALL new_order(1, 3, 30, 20170515, ROWS ((691, 1, 1), (693, 1, 6), (494, 1, 4), (758, 1, 7), (558, 1, 1), (23, 1, 10)));
-CALL new_order(1, 1, 29, 20170515, ROWS ((21, 1, 9), (651, 1, 8), (43, 1, 6), (118, 1, 2), (991, 1, 7)));
-CALL new_order(1, 3, 18, 20170515, ROWS ((69, 1, 9), (631, 1, 5), (959, 1, 9), (199, 1, 10), (663, 1, 9), (957, 1, 5), (9, 1, 10), (63, 1, 2), (727, 1, 7), (939, 1, 10), (515, 1, 2), (59, 1, 6), (47, 1, 1)));
-CALL new_order(1, 5, 4, 20170515, ROWS ((783, 1, 5), (879, 1, 3), (868, 1, 7), (871, 1, 1), (339, 1, 8)));
-CALL payment(1, 9, 1, 9, 0, 'BARBARANTI', 28838, 20170515, 1000134);
-CALL new_order(1, 10, 13, 20170515, ROWS ((731, 1, 9), (911, 1, 7), (53, 1, 2), (271, 1, 4), (479, 1, 7), (7, 1, 8), (389, 1, 1), (151, 1, 6)));
-CALL new_order(1, 3, 1, 20170515, ROWS ((30, 1, 7), (887, 1, 10), (966, 1, 4), (863, 1, 8), (558, 1, 10), (607, 1, 2), (22, 1, 10), (970, 1, 4), (119, 1, 6), (533, 1, 9), (975, 1, 6), (101, 1, 1), (64, 1, 6)));
-CALL payment(1, 1, 1, 1, 0, 'BARBARPRES', 433601, 20170515, 1000137);
-CALL stock_level(1, 9, 12);
-CALL new_order(1, 4, 10, 20170515, ROWS ((599, 1, 5), (918, 1, 4), (667, 1, 10), (327, 1, 1), (870, 1, 7), (453, 1, 1), (327, 1, 8), (79, 1, 1), (665, 1, 10)));
-CALL payment(1, 2, 1, 2, 18, '', 120903, 20170515, 1000140);
-CALL new_order(1, 2, 17, 20170515, ROWS ((629, 1, 6), (193, 1, 5), (621, 1, 1), (982, 1, 10), (367, 1, 4), (996, 1, 5), (823, 1, 10), (25, 1, 7), (55, 1, 1), (839, 1, 10), (109, 1, 2), (123, 1, 4)));
-CALL payment(1, 9, 1, 9, 0, 'BARBARPRI', 8814, 20170515, 1000142);
-CALL payment(1, 6, 1, 6, 0, 'BARBARANTI', 374448, 20170515, 1000143);
-CALL new_order(1, 10, 21, 20170515, ROWS ((927, 1, 10), (647, 1, 7), (167, 1, 10), (159, 1, 10), (102, 1, 5)));
-CALL new_order(1, 3, 6, 20170515, ROWS ((119, 1, 7), (677, 1, 7), (238, 1, 5), (87, 1, 9), (39, 1, 3), (867, 1, 8), (101, 1, 1), (803, 1, 5), (195, 1, 7), (517, 1, 9)));
-CALL payment(1, 8, 1, 8, 9, '', 128841, 20170515, 1000146);
-CALL new_order(1, 8, 4, 20170515, ROWS ((999, 1, 9), (39, 1, 5), (974, 1, 3), (819, 1, 5), (911, 1, 5), (844, 1, 2), (60, 1, 6), (71, 1, 5), (79, 1, 2), (31, 1, 2)));
-CALL new_order(1, 2, 21, 20170515, ROWS ((815, 1, 7), (619, 1, 8), (99, 1, 6), (110, 1, 10), (68, 1, 2), (634, 1, 7), (14, 1, 4), (86, 1, 2)));
-CALL payment(1, 5, 1, 5, 0, 'BARBARBAR', 343187, 20170515, 1000149);
-CALL payment(1, 8, 1, 8, 29, '', 144643, 20170515, 1000150);
-CALL new_order(1, 7, 15, 20170515, ROWS ((77, 1, 5), (163, 1, 1), (663, 1, 6), (667, 1, 8), (579, 1, 2), (414, 1, 7), (469, 1, 2), (516, 1, 7), (935, 1, 9), (53, 1, 10), (515, 1, 5), (38, 1, 5), (622, 1, 9)));
-CALL payment(1, 6, 1, 6, 9, '', 178604, 20170515, 1000152);
-CALL payment(1, 7, 1, 7, 19, '', 187419, 20170515, 1000153);
-CALL payment(1, 5, 1, 5, 0, 'BARBARBAR', 27984, 20170515, 1000154);
-CALL payment(1, 8, 1, 8, 0, 'BARBARPRES', 465859, 20170515, 1000155);
-CALL new_order(1, 4, 22, 20170515, ROWS ((3, 1, 6), (454, 1, 6), (687, 1, 5), (45, 1, 5), (30, 1, 8)));
-CALL payment(1, 7, 1, 7, 1, '', 375437, 20170515, 1000157);
-CALL payment(1, 3, 1, 3, 0, 'BARBARPRES', 304341, 20170515, 1000158);
-CALL payment(1, 7, 1, 7, 0, 'BARBARPRI', 431979, 20170515, 1000159);
-CALL new_order(1, 3, 7, 20170515, ROWS ((515, 1, 9), (117, 1, 3), (487, 1, 6), (877, 1, 4), (49, 1, 8), (158, 1, 9), (631, 1, 7), (11, 1, 1)));
-CALL new_order(1, 3, 25, 20170515, ROWS ((414, 1, 5), (971, 1, 4), (935, 1, 5), (907, 1, 6), (854, 1, 7), (887, 1, 4), (846, 1, 5), (853, 1, 10), (73, 1, 2), (51, 1, 4)));
-CALL payment(1, 8, 1, 8, 0, 'BARBARANTI', 101356, 20170515, 1000162);
-CALL payment(1, 2, 1, 2, 17, '', 491403, 20170515, 1000163);
-CALL new_order(1, 3, 7, 20170515, ROWS ((983, 1, 2), (76, 1, 5), (663, 1, 6), (334, 1, 2), (15, 1, 2), (771, 1, 2), (707, 1, 10)));
-CALL new_order(1, 7, 9, 20170515, ROWS ((783, 1, 1), (383, 1, 7), (975, 1, 2), (185, 1, 6), (511, 1, 2), (129, 1, 5), (964, 1, 2), (703, 1, 3), (767, 1, 8), (167, 1, 6), (70, 1, 9)));
-CALL payment(1, 3, 1, 3, 0, 'BARBARBAR', 362864, 20170515, 1000166);
-CALL delivery(1, 6, 20170515);
-CALL new_order(1, 5, 5, 20170515, ROWS ((903, 1, 7), (519, 1, 7), (981, 1, 1), (970, 1, 5), (99, 1, 3), (167, 1, 2), (539, 1, 10), (9, 1, 2), (47, 1, 5), (21, 1, 8), (821, 1, 3)));
-CALL order_status(1, 5, 19, '');
-CALL payment(1, 9, 1, 9, 0, 'BARBARABLE', 386898, 20170515, 1000170);
-CALL new_order(1, 9, 23, 20170515, ROWS ((631, 1, 7), (825, 1, 10), (854, 1, 1), (183, 1, 10), (89, 1, 7), (879, 1, 3), (971, 1, 5), (159, 1, 1)));
-CALL new_order(1, 1, 26, 20170515, ROWS ((109, 1, 6), (815, 1, 2), (896, 1, 9), (167, 1, 6), (926, 1, 6)));
-CALL new_order(1, 1, 1, 20170515, ROWS ((86, 1, 7), (567, 1, 1), (971, 1, 1), (227, 1, 4), (87, 1, 6), (971, 1, 8), (711, 1, 1), (53, 1, 6), (55, 1, 6), (91, 1, 9), (141, 1, 3), (15, 1, 4), (76, 1, 6), (127, 1, 7)));
-CALL new_order(1, 9, 25, 20170515, ROWS ((705, 1, 5), (92, 1, 9), (193, 1, 3), (883, 1, 7), (69, 1, 8), (798, 1, 4), (7, 1, 7), (387, 1, 2), (143, 1, 10), (107, 1, 7), (831, 1, 1), (54, 1, 8)));
-CALL new_order(1, 9, 10, 20170515, ROWS ((150, 1, 6), (799, 1, 4), (127, 1, 8), (143, 1, 5), (127, 1, 4), (332, 1, 3), (996, 1, 7), (695, 1, 1), (14, 1, 8), (549, 1, 3), (935, 1, 3), (149, 1, 10), (70, 1, 5)));
-CALL payment(1, 5, 1, 5, 0, 'BARBARBAR', 75044, 20170515, 1000176);
-CALL delivery(1, 4, 20170515);
-CALL payment(1, 9, 1, 9, 22, '', 353078, 20170515, 1000178);
-CALL new_order(1, 7, 25, 20170515, ROWS ((251, 1, 9), (887, 1, 10), (70, 1, 7), (839, 1, 5), (723, 1, 3), (925, 1, 6), (135, 1, 6), (19, 1, 10), (69, 1, 3), (343, 1, 5), (57, 1, 1), (919, 1, 1), (31, 1, 6), (139, 1, 9)));
-CALL delivery(1, 7, 20170515);
-CALL order_status(1, 6, 17, '');
-CALL payment(1, 7, 1, 7, 21, '', 445608, 20170515, 1000182);
-CALL payment(1, 3, 1, 3, 7, '', 127144, 20170515, 1000183);
-CALL new_order(1, 3, 17, 20170515, ROWS ((124, 1, 2), (747, 1, 1), (999, 1, 7), (889, 1, 9), (899, 1, 8), (483, 1, 10), (351, 1, 2)));
-CALL new_order(1, 1, 15, 20170515, ROWS ((87, 1, 4), (3, 1, 6), (51, 1, 9), (70, 1, 8), (927, 1, 4), (21, 1, 1), (495, 1, 7), (47, 1, 6), (151, 1, 9), (847, 1, 7), (711, 1, 9), (915, 1, 5)));
-CALL new_order(1, 10, 13, 20170515, ROWS ((135, 1, 10), (175, 1, 4), (549, 1, 5), (95, 1, 5), (774, 1, 3), (759, 1, 10), (28, 1, 9), (721, 1, 7), (1, 1, 1), (709, 1, 6), (815, 1, 6), (839, 1, 3), (583, 1, 4), (195, 1, 3), (862, 1, 7)));
-CALL new_order(1, 7, 26, 20170515, ROWS ((999, 1, 10), (130, 1, 6), (535, 1, 4), (599, 1, 4), (71, 1, 6), (175, 1, 9), (797, 1, 2), (744, 1, 1), (107, 1, 6), (958, 1, 2), (763, 1, 10), (710, 1, 4), (739, 1, 4), (597, 1, 1), (84, 1, 8)));
-CALL new_order(1, 9, 6, 20170515, ROWS ((21, 1, 8), (487, 1, 3), (399, 1, 2), (939, 1, 9), (495, 1, 5), (135, 1, 6), (5, 1, 3), (77, 1, 1), (995, 1, 10), (671, 1, 9), (989, 1, 8), (66, 1, 8), (519, 1, 8), (31, 1, 8), (559, 1, 10)));
-CALL order_status(1, 4, 0, 'BARBARBAR');
-CALL new_order(1, 9, 1, 20170515, ROWS ((997, 1, 4), (365, 1, 9), (815, 1, 6), (189, 1, 5), (309, 1, 4), (87, 1, 1)));
-CALL payment(1, 6, 1, 6, 0, 'BARBARANTI', 63980, 20170515, 1000191);
-CALL new_order(1, 5, 7, 20170515, ROWS ((167, 1, 3), (485, 1, 10), (175, 1, 7), (767, 1, 8), (39, 1, 10), (567, 1, 3), (579, 1, 9), (334, 1, 8), (941, 1, 9), (692, 1, 7), (871, 1, 2), (39, 1, 2)));
-CALL payment(1, 3, 1, 3, 0, 'BARBARCALLY', 179456, 20170515, 1000193);
-CALL payment(1, 7, 1, 7, 0, 'BARBARATION', 365290, 20170515, 1000194);
-CALL new_order(1, 4, 9, 20170515, ROWS ((40, 1, 3), (163, 1, 9), (81, 1, 9), (15, 1, 3), (21, 1, 1), (194, 1, 2), (335, 1, 7), (697, 1, 10), (111, 1, 6), (175, 1, 3), (143, 1, 2)));
-CALL payment(1, 10, 1, 10, 0, 'BARBARCALLY', 194156, 20170515, 1000196);
-CALL payment(1, 5, 1, 5, 0, 'BARBARBAR', 380919, 20170515, 1000197);
-CALL new_order(1, 1, 10, 20170515, ROWS ((727, 1, 3), (30, 1, 6), (197, 1, 7), (118, 1, 9), (527, 1, 1), (55, 1, 6), (53, 1, 8), (759, 1, 9), (951, 1, 3), (637, 1, 5), (43, 1, 7), (983, 1, 8), (910, 1, 3), (515, 1, 5)));
-CALL payment(1, 6, 1, 6, 0, 'BARBARESE', 448926, 20170515, 1000199);
+call new_order ( 1 , 1 , 25 , 20170515 , rows ( ( 925 , 1 , 8 ) , ( 79 , 1 , 7 ) , ( 631 , 1 , 5 ) , ( 479 , 1 , 6 ) , ( 780 , 1 , 10 ) , ( 131 , 1 , 7 ) ) ) ;
+call delivery ( 1 , 7 , 20170515 ) ;
+call payment ( 1 , 4 , 1 , 4 , 29 , '' , 472480 , 20170515 , 1000002 ) ;
+call new_order ( 1 , 2 , 9 , 20170515 , rows ( ( 23 , 1 , 9 ) , ( 48 , 1 , 4 ) , ( 639 , 1 , 1 ) , ( 151 , 1 , 9 ) , ( 196 , 1 , 6 ) , ( 59 , 1 , 6 ) , ( 103 , 1 , 8 ) , ( 966 , 1 , 10 ) , ( 321 , 1 , 10 ) ) ) ;
+call payment ( 1 , 9 , 1 , 9 , 13 , '' , 253864 , 20170515 , 1000004 ) ;
+call payment ( 1 , 9 , 1 , 9 , 18 , '' , 123178 , 20170515 , 1000005 ) ;
+call payment ( 1 , 7 , 1 , 7 , 0 , 'BARBARATION' , 115145 , 20170515 , 1000006 ) ;
+call new_order ( 1 , 3 , 1 , 20170515 , rows ( ( 439 , 1 , 6 ) , ( 703 , 1 , 3 ) , ( 76 , 1 , 3 ) , ( 77 , 1 , 5 ) , ( 73 , 1 , 9 ) , ( 526 , 1 , 5 ) , ( 518 , 1 , 8 ) , ( 829 , 1 , 8 ) , ( 527 , 1 , 6 ) , ( 383 , 1 , 3 ) , ( 455 , 1 , 7 ) ) ) ;
+call new_order ( 1 , 6 , 7 , 20170515 , rows ( ( 95 , 1 , 8 ) , ( 167 , 1 , 3 ) , ( 263 , 1 , 5 ) , ( 196 , 1 , 4 ) , ( 606 , 1 , 8 ) ) ) ;
+call payment ( 1 , 1 , 1 , 1 , 5 , '' , 61964 , 20170515 , 1000009 ) ;
+call new_order ( 1 , 4 , 16 , 20170515 , rows ( ( 551 , 1 , 4 ) , ( 959 , 1 , 8 ) , ( 747 , 1 , 1 ) , ( 109 , 1 , 10 ) , ( 75 , 1 , 4 ) , ( 863 , 1 , 10 ) , ( 147 , 1 , 8 ) , ( 535 , 1 , 9 ) , ( 580 , 1 , 1 ) ) ) ;
+call new_order ( 1 , 1 , 22 , 20170515 , rows ( ( 991 , 1 , 9 ) , ( 996 , 1 , 10 ) , ( 919 , 1 , 6 ) , ( 917 , 1 , 9 ) , ( 81 , 1 , 6 ) , ( 758 , 1 , 6 ) , ( 863 , 1 , 3 ) , ( 698 , 1 , 9 ) , ( 773 , 1 , 4 ) , ( 475 , 1 , 1 ) , ( 77 , 1 , 9 ) , ( 175 , 1 , 1 ) , ( 35 , 1 , 6 ) ) ) ;
+call new_order ( 1 , 2 , 2 , 20170515 , rows ( ( 345 , 1 , 2 ) , ( 223 , 1 , 4 ) , ( 439 , 1 , 7 ) , ( 607 , 1 , 6 ) , ( 959 , 1 , 2 ) , ( 15 , 1 , 5 ) , ( 823 , 1 , 2 ) , ( 50 , 1 , 4 ) , ( 314 , 1 , 7 ) , ( 634 , 1 , 8 ) , ( 761 , 1 , 9 ) , ( 39 , 1 , 3 ) ) ) ;
+call payment ( 1 , 2 , 1 , 2 , 0 , 'BARBARANTI' , 13130 , 20170515 , 1000013 ) ;
+call payment ( 1 , 6 , 1 , 6 , 0 , 'BARBARBAR' , 438048 , 20170515 , 1000014 ) ;
+call payment ( 1 , 1 , 1 , 1 , 9 , '' , 459473 , 20170515 , 1000015 ) ;
+call new_order ( 1 , 5 , 16 , 20170515 , rows ( ( 971 , 1 , 6 ) , ( 959 , 1 , 7 ) , ( 113 , 1 , 3 ) , ( 61 , 1 , 10 ) , ( 847 , 1 , 5 ) , ( 997 , 1 , 7 ) , ( 63 , 1 , 6 ) , ( 127 , 1 , 7 ) , ( 957 , 1 , 4 ) , ( 39 , 1 , 6 ) , ( 527 , 1 , 4 ) , ( 821 , 1 , 2 ) ) ) ;
+call new_order ( 1 , 10 , 28 , 20170515 , rows ( ( 991 , 1 , 3 ) , ( 975 , 1 , 1 ) , ( 102 , 1 , 9 ) , ( 435 , 1 , 8 ) , ( 127 , 1 , 1 ) , ( 739 , 1 , 8 ) , ( 185 , 1 , 1 ) , ( 547 , 1 , 10 ) , ( 167 , 1 , 10 ) , ( 71 , 1 , 8 ) , ( 135 , 1 , 3 ) ) ) ;
+call payment ( 1 , 2 , 1 , 2 , 0 , 'BARBARABLE' , 414323 , 20170515 , 1000018 ) ;
+call payment ( 1 , 2 , 1 , 2 , 21 , '' , 161555 , 20170515 , 1000019 ) ;
+call new_order ( 1 , 1 , 7 , 20170515 , rows ( ( 542 , 1 , 7 ) , ( 517 , 1 , 2 ) , ( 11 , 1 , 10 ) , ( 15 , 1 , 8 ) , ( 253 , 1 , 8 ) , ( 198 , 1 , 6 ) ) ) ;
+call payment ( 1 , 4 , 1 , 4 , 0 , 'BARBARPRES' , 184155 , 20170515 , 1000021 ) ;
+call new_order ( 1 , 6 , 15 , 20170515 , rows ( ( 898 , 1 , 8 ) , ( 263 , 1 , 3 ) , ( 687 , 1 , 4 ) , ( 15 , 1 , 8 ) , ( 101 , 1 , 7 ) , ( 979 , 1 , 1 ) ) ) ;
+call new_order ( 1 , 4 , 11 , 20170515 , rows ( ( 7 , 1 , 6 ) , ( 802 , 1 , 5 ) , ( 127 , 1 , 10 ) , ( 55 , 1 , 7 ) , ( 779 , 1 , 3 ) , ( 774 , 1 , 2 ) , ( 959 , 1 , 5 ) , ( 996 , 1 , 7 ) ) ) ;
+call payment ( 1 , 6 , 1 , 6 , 13 , '' , 476903 , 20170515 , 1000024 ) ;
+call payment ( 1 , 3 , 1 , 3 , 0 , 'BARBARBAR' , 136593 , 20170515 , 1000025 ) ;
+call new_order ( 1 , 1 , 21 , 20170515 , rows ( ( 15 , 1 , 8 ) , ( 174 , 1 , 6 ) , ( 567 , 1 , 7 ) , ( 54 , 1 , 9 ) , ( 854 , 1 , 5 ) , ( 818 , 1 , 1 ) , ( 772 , 1 , 7 ) , ( 550 , 1 , 5 ) , ( 135 , 1 , 8 ) , ( 850 , 1 , 4 ) , ( 495 , 1 , 1 ) , ( 823 , 1 , 7 ) ) ) ;
+call payment ( 1 , 6 , 1 , 6 , 21 , '' , 38439 , 20170515 , 1000027 ) ;
+call payment ( 1 , 6 , 1 , 6 , 13 , '' , 237767 , 20170515 , 1000028 ) ;
+call payment ( 1 , 4 , 1 , 4 , 0 , 'BARBARABLE' , 62057 , 20170515 , 1000029 ) ;
+call stock_level ( 1 , 4 , 20 ) ;
+call payment ( 1 , 4 , 1 , 4 , 0 , 'BARBARABLE' , 335680 , 20170515 , 1000031 ) ;
+call new_order ( 1 , 3 , 25 , 20170515 , rows ( ( 262 , 1 , 6 ) , ( 103 , 1 , 2 ) , ( 55 , 1 , 9 ) , ( 859 , 1 , 4 ) , ( 162 , 1 , 5 ) , ( 10 , 1 , 4 ) ) ) ;
+call payment ( 1 , 1 , 1 , 1 , 0 , 'BARBARATION' , 185539 , 20170515 , 1000033 ) ;
+call new_order ( 1 , 9 , 3 , 20170515 , rows ( ( 302 , 1 , 5 ) , ( 940 , 1 , 9 ) , ( 819 , 1 , 7 ) , ( 415 , 1 , 3 ) , ( 878 , 1 , 4 ) , ( 213 , 1 , 4 ) , ( 557 , 1 , 7 ) , ( 423 , 1 , 10 ) , ( 903 , 1 , 4 ) , ( 151 , 1 , 1 ) , ( 709 , 1 , 9 ) ) ) ;
+call payment ( 1 , 5 , 1 , 5 , 0 , 'BARBARANTI' , 358855 , 20170515 , 1000035 ) ;
+call payment ( 1 , 9 , 1 , 9 , 0 , 'BARBARANTI' , 135907 , 20170515 , 1000036 ) ;
+call stock_level ( 1 , 7 , 20 ) ;
+call payment ( 1 , 9 , 1 , 9 , 0 , 'BARBARPRES' , 312312 , 20170515 , 1000038 ) ;
+call payment ( 1 , 6 , 1 , 6 , 0 , 'BARBARATION' , 258733 , 20170515 , 1000039 ) ;
+call payment ( 1 , 10 , 1 , 10 , 0 , 'BARBARESE' , 176196 , 20170515 , 1000040 ) ;
+call new_order ( 1 , 8 , 5 , 20170515 , rows ( ( 78 , 1 , 1 ) , ( 916 , 1 , 8 ) , ( 147 , 1 , 6 ) , ( 847 , 1 , 7 ) , ( 567 , 1 , 3 ) ) ) ;
+call payment ( 1 , 10 , 1 , 10 , 13 , '' , 166095 , 20170515 , 1000042 ) ;
+call payment ( 1 , 4 , 1 , 4 , 0 , 'BARBAREING' , 426239 , 20170515 , 1000043 ) ;
+call new_order ( 1 , 1 , 10 , 20170515 , rows ( ( 63 , 1 , 4 ) , ( 254 , 1 , 1 ) , ( 638 , 1 , 7 ) , ( 515 , 1 , 8 ) , ( 413 , 1 , 2 ) , ( 743 , 1 , 4 ) , ( 531 , 1 , 2 ) ) ) ;
+call payment ( 1 , 3 , 1 , 3 , 0 , 'BARBARPRES' , 223952 , 20170515 , 1000045 ) ;
+call payment ( 1 , 1 , 1 , 1 , 0 , 'BARBARABLE' , 279504 , 20170515 , 1000046 ) ;
+call payment ( 1 , 3 , 1 , 3 , 0 , 'BARBARPRI' , 410795 , 20170515 , 1000047 ) ;
+call payment ( 1 , 3 , 1 , 3 , 23 , '' , 88987 , 20170515 , 1000048 ) ;
+call payment ( 1 , 10 , 1 , 10 , 0 , 'BARBAREING' , 57332 , 20170515 , 1000049 ) ;
+call payment ( 1 , 4 , 1 , 4 , 16 , '' , 162382 , 20170515 , 1000050 ) ;
+call payment ( 1 , 7 , 1 , 7 , 0 , 'BARBARPRI' , 10597 , 20170515 , 1000051 ) ;
+call new_order ( 1 , 5 , 4 , 20170515 , rows ( ( 623 , 1 , 3 ) , ( 831 , 1 , 7 ) , ( 631 , 1 , 7 ) , ( 110 , 1 , 5 ) , ( 966 , 1 , 5 ) , ( 123 , 1 , 1 ) , ( 31 , 1 , 6 ) , ( 527 , 1 , 2 ) ) ) ;
+call payment ( 1 , 2 , 1 , 2 , 0 , 'BARBARATION' , 226553 , 20170515 , 1000053 ) ;
+call payment ( 1 , 6 , 1 , 6 , 0 , 'BARBARABLE' , 375894 , 20170515 , 1000054 ) ;
+call payment ( 1 , 8 , 1 , 8 , 0 , 'BARBARESE' , 29967 , 20170515 , 1000055 ) ;
+call payment ( 1 , 1 , 1 , 1 , 19 , '' , 1052 , 20170515 , 1000056 ) ;
+call payment ( 1 , 9 , 1 , 9 , 0 , 'BARBARPRES' , 206379 , 20170515 , 1000057 ) ;
+call new_order ( 1 , 4 , 11 , 20170515 , rows ( ( 855 , 1 , 8 ) , ( 734 , 1 , 9 ) , ( 879 , 1 , 1 ) , ( 78 , 1 , 9 ) , ( 126 , 1 , 1 ) , ( 298 , 1 , 7 ) , ( 119 , 1 , 2 ) , ( 262 , 1 , 3 ) , ( 271 , 1 , 5 ) , ( 43 , 1 , 10 ) , ( 954 , 1 , 1 ) ) ) ;
+call new_order ( 1 , 2 , 19 , 20170515 , rows ( ( 23 , 1 , 9 ) , ( 878 , 1 , 9 ) , ( 374 , 1 , 2 ) , ( 23 , 1 , 4 ) , ( 791 , 1 , 4 ) , ( 919 , 1 , 8 ) , ( 895 , 1 , 5 ) , ( 281 , 1 , 3 ) , ( 572 , 1 , 5 ) ) ) ;
+call payment ( 1 , 1 , 1 , 1 , 0 , 'BARBARBAR' , 101116 , 20170515 , 1000060 ) ;
+call payment ( 1 , 6 , 1 , 6 , 0 , 'BARBARESE' , 466813 , 20170515 , 1000061 ) ;
+call new_order ( 1 , 8 , 25 , 20170515 , rows ( ( 927 , 1 , 4 ) , ( 6 , 1 , 5 ) , ( 999 , 1 , 4 ) , ( 793 , 1 , 3 ) , ( 719 , 1 , 4 ) ) ) ;
+call new_order ( 1 , 4 , 30 , 20170515 , rows ( ( 951 , 1 , 6 ) , ( 817 , 1 , 4 ) , ( 437 , 1 , 3 ) , ( 879 , 1 , 2 ) , ( 78 , 1 , 4 ) ) ) ;
+call payment ( 1 , 2 , 1 , 2 , 0 , 'BARBARBAR' , 19680 , 20170515 , 1000064 ) ;
+call new_order ( 1 , 2 , 29 , 20170515 , rows ( ( 675 , 1 , 4 ) , ( 105 , 1 , 9 ) , ( 738 , 1 , 6 ) , ( 999 , 1 , 4 ) , ( 695 , 1 , 3 ) , ( 143 , 1 , 4 ) , ( 78 , 1 , 6 ) , ( 87 , 1 , 3 ) , ( 45 , 1 , 2 ) , ( 133 , 1 , 7 ) , ( 690 , 1 , 5 ) , ( 967 , 1 , 1 ) , ( 350 , 1 , 10 ) , ( 159 , 1 , 4 ) ) ) ;
+call new_order ( 1 , 2 , 11 , 20170515 , rows ( ( 927 , 1 , 8 ) , ( 486 , 1 , 6 ) , ( 142 , 1 , 5 ) , ( 303 , 1 , 7 ) , ( 82 , 1 , 5 ) ) ) ;
+call new_order ( 1 , 8 , 6 , 20170515 , rows ( ( 47 , 1 , 4 ) , ( 871 , 1 , 6 ) , ( 790 , 1 , 8 ) , ( 576 , 1 , 6 ) , ( 859 , 1 , 7 ) , ( 43 , 1 , 7 ) , ( 91 , 1 , 8 ) , ( 879 , 1 , 10 ) , ( 27 , 1 , 5 ) , ( 189 , 1 , 1 ) , ( 103 , 1 , 1 ) , ( 47 , 1 , 10 ) , ( 851 , 1 , 5 ) , ( 61 , 1 , 7 ) , ( 597 , 1 , 3 ) ) ) ;
+call stock_level ( 1 , 3 , 16 ) ;
+call order_status ( 1 , 6 , 11 , '' ) ;
+call payment ( 1 , 7 , 1 , 7 , 0 , 'BARBARANTI' , 454773 , 20170515 , 1000070 ) ;
+call payment ( 1 , 2 , 1 , 2 , 18 , '' , 166070 , 20170515 , 1000071 ) ;
+call delivery ( 1 , 3 , 20170515 ) ;
+call payment ( 1 , 8 , 1 , 8 , 0 , 'BARBARABLE' , 159399 , 20170515 , 1000073 ) ;
+call payment ( 1 , 3 , 1 , 3 , 0 , 'BARBARPRI' , 327924 , 20170515 , 1000074 ) ;
+call payment ( 1 , 2 , 1 , 2 , 6 , '' , 31939 , 20170515 , 1000075 ) ;
+call payment ( 1 , 8 , 1 , 8 , 0 , 'BARBARABLE' , 486482 , 20170515 , 1000076 ) ;
+call new_order ( 1 , 9 , 23 , 20170515 , rows ( ( 346 , 1 , 1 ) , ( 761 , 1 , 2 ) , ( 138 , 1 , 8 ) , ( 119 , 1 , 8 ) , ( 593 , 1 , 7 ) ) ) ;
+call payment ( 1 , 4 , 1 , 4 , 0 , 'BARBARPRES' , 167435 , 20170515 , 1000078 ) ;
+call payment ( 1 , 3 , 1 , 3 , 0 , 'BARBARATION' , 45460 , 20170515 , 1000079 ) ;
+call payment ( 1 , 9 , 1 , 9 , 0 , 'BARBARABLE' , 91066 , 20170515 , 1000080 ) ;
+call payment ( 1 , 1 , 1 , 1 , 0 , 'BARBARANTI' , 233251 , 20170515 , 1000081 ) ;
+call order_status ( 1 , 1 , 3 , '' ) ;
+call payment ( 1 , 3 , 1 , 3 , 0 , 'BARBARBAR' , 162128 , 20170515 , 1000083 ) ;
+call delivery ( 1 , 2 , 20170515 ) ;
+call new_order ( 1 , 4 , 1 , 20170515 , rows ( ( 933 , 1 , 6 ) , ( 23 , 1 , 4 ) , ( 61 , 1 , 2 ) , ( 993 , 1 , 3 ) , ( 84 , 1 , 8 ) , ( 713 , 1 , 9 ) , ( 412 , 1 , 1 ) ) ) ;
+call new_order ( 1 , 6 , 25 , 20170515 , rows ( ( 623 , 1 , 9 ) , ( 829 , 1 , 6 ) , ( 133 , 1 , 8 ) , ( 391 , 1 , 2 ) , ( 99 , 1 , 3 ) , ( 475 , 1 , 4 ) , ( 26 , 1 , 6 ) , ( 259 , 1 , 8 ) , ( 551 , 1 , 5 ) ) ) ;
+call new_order ( 1 , 5 , 29 , 20170515 , rows ( ( 842 , 1 , 8 ) , ( 55 , 1 , 3 ) , ( 778 , 1 , 2 ) , ( 75 , 1 , 3 ) , ( 37 , 1 , 4 ) , ( 151 , 1 , 2 ) , ( 911 , 1 , 2 ) , ( 743 , 1 , 3 ) , ( 533 , 1 , 6 ) , ( 715 , 1 , 6 ) , ( 32 , 1 , 4 ) ) ) ;
+call new_order ( 1 , 7 , 28 , 20170515 , rows ( ( 431 , 1 , 5 ) , ( 988 , 1 , 5 ) , ( 186 , 1 , 10 ) , ( 87 , 1 , 9 ) , ( 727 , 1 , 5 ) ) ) ;
+call order_status ( 1 , 9 , 0 , 'BARBARCALLY' ) ;
+call new_order ( 1 , 3 , 13 , 20170515 , rows ( ( 623 , 1 , 4 ) , ( 396 , 1 , 2 ) , ( 515 , 1 , 8 ) , ( 998 , 1 , 5 ) , ( 445 , 1 , 5 ) , ( 39 , 1 , 9 ) , ( 60 , 1 , 5 ) , ( 167 , 1 , 3 ) , ( 71 , 1 , 3 ) , ( 27 , 1 , 8 ) , ( 543 , 1 , 7 ) , ( 43 , 1 , 8 ) , ( 878 , 1 , 5 ) , ( 934 , 1 , 8 ) ) ) ;
+call payment ( 1 , 1 , 1 , 1 , 0 , 'BARBARANTI' , 159218 , 20170515 , 1000091 ) ;
+call new_order ( 1 , 4 , 2 , 20170515 , rows ( ( 855 , 1 , 9 ) , ( 975 , 1 , 3 ) , ( 797 , 1 , 10 ) , ( 982 , 1 , 8 ) , ( 67 , 1 , 6 ) , ( 867 , 1 , 6 ) , ( 468 , 1 , 4 ) , ( 639 , 1 , 8 ) ) ) ;
+call new_order ( 1 , 3 , 14 , 20170515 , rows ( ( 839 , 1 , 3 ) , ( 602 , 1 , 10 ) , ( 39 , 1 , 7 ) , ( 2 , 1 , 4 ) , ( 47 , 1 , 6 ) , ( 895 , 1 , 6 ) , ( 127 , 1 , 6 ) , ( 462 , 1 , 3 ) , ( 135 , 1 , 6 ) ) ) ;
+call payment ( 1 , 10 , 1 , 10 , 0 , 'BARBARATION' , 324104 , 20170515 , 1000094 ) ;
+call payment ( 1 , 7 , 1 , 7 , 0 , 'BARBARBAR' , 370229 , 20170515 , 1000095 ) ;
+call payment ( 1 , 7 , 1 , 7 , 11 , '' , 122278 , 20170515 , 1000096 ) ;
+call new_order ( 1 , 7 , 24 , 20170515 , rows ( ( 55 , 1 , 3 ) , ( 127 , 1 , 2 ) , ( 387 , 1 , 6 ) , ( 55 , 1 , 7 ) , ( 79 , 1 , 4 ) , ( 788 , 1 , 7 ) , ( 982 , 1 , 5 ) , ( 557 , 1 , 3 ) ) ) ;
+call payment ( 1 , 6 , 1 , 6 , 0 , 'BARBARATION' , 220183 , 20170515 , 1000098 ) ;
+call payment ( 1 , 8 , 1 , 8 , 0 , 'BARBARPRI' , 404208 , 20170515 , 1000099 ) ;
+call payment ( 1 , 9 , 1 , 9 , 0 , 'BARBARPRES' , 199621 , 20170515 , 1000100 ) ;
+call payment ( 1 , 10 , 1 , 10 , 22 , '' , 207891 , 20170515 , 1000101 ) ;
+call payment ( 1 , 3 , 1 , 3 , 0 , 'BARBARBAR' , 204666 , 20170515 , 1000102 ) ;
+call payment ( 1 , 3 , 1 , 3 , 2 , '' , 313150 , 20170515 , 1000103 ) ;
+call delivery ( 1 , 6 , 20170515 ) ;
+call stock_level ( 1 , 7 , 10 ) ;
+call new_order ( 1 , 10 , 21 , 20170515 , rows ( ( 573 , 1 , 5 ) , ( 663 , 1 , 7 ) , ( 855 , 1 , 4 ) , ( 193 , 1 , 7 ) , ( 269 , 1 , 9 ) , ( 767 , 1 , 2 ) , ( 201 , 1 , 3 ) , ( 983 , 1 , 8 ) , ( 278 , 1 , 5 ) , ( 51 , 1 , 5 ) , ( 287 , 1 , 10 ) , ( 535 , 1 , 9 ) ) ) ;
+call payment ( 1 , 7 , 1 , 7 , 0 , 'BARBARPRES' , 387754 , 20170515 , 1000107 ) ;
+call new_order ( 1 , 8 , 23 , 20170515 , rows ( ( 823 , 1 , 5 ) , ( 141 , 1 , 3 ) , ( 6 , 1 , 7 ) , ( 807 , 1 , 10 ) , ( 963 , 1 , 5 ) , ( 967 , 1 , 8 ) , ( 112 , 1 , 8 ) , ( 22 , 1 , 5 ) , ( 157 , 1 , 6 ) ) ) ;
+call order_status ( 1 , 10 , 27 , '' ) ;
+call new_order ( 1 , 10 , 1 , 20170515 , rows ( ( 867 , 1 , 6 ) , ( 762 , 1 , 9 ) , ( 111 , 1 , 6 ) , ( 6 , 1 , 10 ) , ( 615 , 1 , 3 ) , ( 103 , 1 , 6 ) , ( 159 , 1 , 5 ) , ( 462 , 1 , 8 ) ) ) ;
+call payment ( 1 , 1 , 1 , 1 , 24 , '' , 371550 , 20170515 , 1000111 ) ;
+call new_order ( 1 , 6 , 17 , 20170515 , rows ( ( 431 , 1 , 9 ) , ( 15 , 1 , 6 ) , ( 5 , 1 , 5 ) , ( 535 , 1 , 1 ) , ( 538 , 1 , 7 ) , ( 63 , 1 , 7 ) , ( 885 , 1 , 3 ) , ( 953 , 1 , 6 ) , ( 560 , 1 , 9 ) , ( 19 , 1 , 10 ) ) ) ;
+call payment ( 1 , 9 , 1 , 9 , 0 , 'BARBARBAR' , 364199 , 20170515 , 1000113 ) ;
+call payment ( 1 , 4 , 1 , 4 , 0 , 'BARBARPRES' , 499138 , 20170515 , 1000114 ) ;
+call new_order ( 1 , 4 , 15 , 20170515 , rows ( ( 79 , 1 , 10 ) , ( 519 , 1 , 8 ) , ( 871 , 1 , 9 ) , ( 69 , 1 , 9 ) , ( 122 , 1 , 6 ) ) ) ;
+call new_order ( 1 , 10 , 6 , 20170515 , rows ( ( 119 , 1 , 9 ) , ( 119 , 1 , 6 ) , ( 86 , 1 , 8 ) , ( 359 , 1 , 9 ) , ( 877 , 1 , 4 ) , ( 59 , 1 , 3 ) , ( 723 , 1 , 1 ) , ( 167 , 1 , 4 ) , ( 119 , 1 , 1 ) , ( 55 , 1 , 10 ) , ( 79 , 1 , 9 ) ) ) ;
+call payment ( 1 , 2 , 1 , 2 , 9 , '' , 235213 , 20170515 , 1000117 ) ;
+call order_status ( 1 , 3 , 29 , '' ) ;
+call payment ( 1 , 8 , 1 , 8 , 0 , 'BARBARCALLY' , 196420 , 20170515 , 1000119 ) ;
+call payment ( 1 , 8 , 1 , 8 , 0 , 'BARBARESE' , 64616 , 20170515 , 1000120 ) ;
+call payment ( 1 , 6 , 1 , 6 , 0 , 'BARBARPRES' , 338658 , 20170515 , 1000121 ) ;
+call stock_level ( 1 , 5 , 17 ) ;
+call stock_level ( 1 , 4 , 16 ) ;
+call new_order ( 1 , 1 , 9 , 20170515 , rows ( ( 927 , 1 , 3 ) , ( 865 , 1 , 5 ) , ( 461 , 1 , 8 ) , ( 29 , 1 , 7 ) , ( 183 , 1 , 7 ) , ( 875 , 1 , 3 ) , ( 111 , 1 , 3 ) , ( 135 , 1 , 4 ) , ( 101 , 1 , 9 ) , ( 719 , 1 , 10 ) ) ) ;
+call new_order ( 1 , 8 , 21 , 20170515 , rows ( ( 988 , 1 , 7 ) , ( 842 , 1 , 5 ) , ( 143 , 1 , 8 ) , ( 531 , 1 , 7 ) , ( 31 , 1 , 2 ) , ( 179 , 1 , 2 ) , ( 91 , 1 , 9 ) , ( 21 , 1 , 5 ) , ( 502 , 1 , 5 ) ) ) ;
+call delivery ( 1 , 1 , 20170515 ) ;
+call stock_level ( 1 , 6 , 16 ) ;
+call new_order ( 1 , 1 , 25 , 20170515 , rows ( ( 111 , 1 , 4 ) , ( 103 , 1 , 4 ) , ( 542 , 1 , 4 ) , ( 525 , 1 , 1 ) , ( 106 , 1 , 2 ) , ( 439 , 1 , 9 ) , ( 999 , 1 , 8 ) , ( 910 , 1 , 6 ) , ( 799 , 1 , 5 ) , ( 827 , 1 , 1 ) , ( 581 , 1 , 10 ) , ( 591 , 1 , 10 ) , ( 125 , 1 , 9 ) ) ) ;
+call payment ( 1 , 5 , 1 , 5 , 0 , 'BARBARPRES' , 439891 , 20170515 , 1000129 ) ;
+call new_order ( 1 , 3 , 30 , 20170515 , rows ( ( 691 , 1 , 1 ) , ( 693 , 1 , 6 ) , ( 494 , 1 , 4 ) , ( 758 , 1 , 7 ) , ( 558 , 1 , 1 ) , ( 23 , 1 , 10 ) ) ) ;
+call new_order ( 1 , 1 , 29 , 20170515 , rows ( ( 21 , 1 , 9 ) , ( 651 , 1 , 8 ) , ( 43 , 1 , 6 ) , ( 118 , 1 , 2 ) , ( 991 , 1 , 7 ) ) ) ;
+call new_order ( 1 , 3 , 18 , 20170515 , rows ( ( 69 , 1 , 9 ) , ( 631 , 1 , 5 ) , ( 959 , 1 , 9 ) , ( 199 , 1 , 10 ) , ( 663 , 1 , 9 ) , ( 957 , 1 , 5 ) , ( 9 , 1 , 10 ) , ( 63 , 1 , 2 ) , ( 727 , 1 , 7 ) , ( 939 , 1 , 10 ) , ( 515 , 1 , 2 ) , ( 59 , 1 , 6 ) , ( 47 , 1 , 1 ) ) ) ;
+call new_order ( 1 , 5 , 4 , 20170515 , rows ( ( 783 , 1 , 5 ) , ( 879 , 1 , 3 ) , ( 868 , 1 , 7 ) , ( 871 , 1 , 1 ) , ( 339 , 1 , 8 ) ) ) ;
+call payment ( 1 , 9 , 1 , 9 , 0 , 'BARBARANTI' , 28838 , 20170515 , 1000134 ) ;
+call new_order ( 1 , 10 , 13 , 20170515 , rows ( ( 731 , 1 , 9 ) , ( 911 , 1 , 7 ) , ( 53 , 1 , 2 ) , ( 271 , 1 , 4 ) , ( 479 , 1 , 7 ) , ( 7 , 1 , 8 ) , ( 389 , 1 , 1 ) , ( 151 , 1 , 6 ) ) ) ;
+call new_order ( 1 , 3 , 1 , 20170515 , rows ( ( 30 , 1 , 7 ) , ( 887 , 1 , 10 ) , ( 966 , 1 , 4 ) , ( 863 , 1 , 8 ) , ( 558 , 1 , 10 ) , ( 607 , 1 , 2 ) , ( 22 , 1 , 10 ) , ( 970 , 1 , 4 ) , ( 119 , 1 , 6 ) , ( 533 , 1 , 9 ) , ( 975 , 1 , 6 ) , ( 101 , 1 , 1 ) , ( 64 , 1 , 6 ) ) ) ;
+call payment ( 1 , 1 , 1 , 1 , 0 , 'BARBARPRES' , 433601 , 20170515 , 1000137 ) ;
+call stock_level ( 1 , 9 , 12 ) ;
+call new_order ( 1 , 4 , 10 , 20170515 , rows ( ( 599 , 1 , 5 ) , ( 918 , 1 , 4 ) , ( 667 , 1 , 10 ) , ( 327 , 1 , 1 ) , ( 870 , 1 , 7 ) , ( 453 , 1 , 1 ) , ( 327 , 1 , 8 ) , ( 79 , 1 , 1 ) , ( 665 , 1 , 10 ) ) ) ;
+call payment ( 1 , 2 , 1 , 2 , 18 , '' , 120903 , 20170515 , 1000140 ) ;
+call new_order ( 1 , 2 , 17 , 20170515 , rows ( ( 629 , 1 , 6 ) , ( 193 , 1 , 5 ) , ( 621 , 1 , 1 ) , ( 982 , 1 , 10 ) , ( 367 , 1 , 4 ) , ( 996 , 1 , 5 ) , ( 823 , 1 , 10 ) , ( 25 , 1 , 7 ) , ( 55 , 1 , 1 ) , ( 839 , 1 , 10 ) , ( 109 , 1 , 2 ) , ( 123 , 1 , 4 ) ) ) ;
+call payment ( 1 , 9 , 1 , 9 , 0 , 'BARBARPRI' , 8814 , 20170515 , 1000142 ) ;
+call payment ( 1 , 6 , 1 , 6 , 0 , 'BARBARANTI' , 374448 , 20170515 , 1000143 ) ;
+call new_order ( 1 , 10 , 21 , 20170515 , rows ( ( 927 , 1 , 10 ) , ( 647 , 1 , 7 ) , ( 167 , 1 , 10 ) , ( 159 , 1 , 10 ) , ( 102 , 1 , 5 ) ) ) ;
+call new_order ( 1 , 3 , 6 , 20170515 , rows ( ( 119 , 1 , 7 ) , ( 677 , 1 , 7 ) , ( 238 , 1 , 5 ) , ( 87 , 1 , 9 ) , ( 39 , 1 , 3 ) , ( 867 , 1 , 8 ) , ( 101 , 1 , 1 ) , ( 803 , 1 , 5 ) , ( 195 , 1 , 7 ) , ( 517 , 1 , 9 ) ) ) ;
+call payment ( 1 , 8 , 1 , 8 , 9 , '' , 128841 , 20170515 , 1000146 ) ;
+call new_order ( 1 , 8 , 4 , 20170515 , rows ( ( 999 , 1 , 9 ) , ( 39 , 1 , 5 ) , ( 974 , 1 , 3 ) , ( 819 , 1 , 5 ) , ( 911 , 1 , 5 ) , ( 844 , 1 , 2 ) , ( 60 , 1 , 6 ) , ( 71 , 1 , 5 ) , ( 79 , 1 , 2 ) , ( 31 , 1 , 2 ) ) ) ;
+call new_order ( 1 , 2 , 21 , 20170515 , rows ( ( 815 , 1 , 7 ) , ( 619 , 1 , 8 ) , ( 99 , 1 , 6 ) , ( 110 , 1 , 10 ) , ( 68 , 1 , 2 ) , ( 634 , 1 , 7 ) , ( 14 , 1 , 4 ) , ( 86 , 1 , 2 ) ) ) ;
+call payment ( 1 , 5 , 1 , 5 , 0 , 'BARBARBAR' , 343187 , 20170515 , 1000149 ) ;
+call payment ( 1 , 8 , 1 , 8 , 29 , '' , 144643 , 20170515 , 1000150 ) ;
+call new_order ( 1 , 7 , 15 , 20170515 , rows ( ( 77 , 1 , 5 ) , ( 163 , 1 , 1 ) , ( 663 , 1 , 6 ) , ( 667 , 1 , 8 ) , ( 579 , 1 , 2 ) , ( 414 , 1 , 7 ) , ( 469 , 1 , 2 ) , ( 516 , 1 , 7 ) , ( 935 , 1 , 9 ) , ( 53 , 1 , 10 ) , ( 515 , 1 , 5 ) , ( 38 , 1 , 5 ) , ( 622 , 1 , 9 ) ) ) ;
+call payment ( 1 , 6 , 1 , 6 , 9 , '' , 178604 , 20170515 , 1000152 ) ;
+call payment ( 1 , 7 , 1 , 7 , 19 , '' , 187419 , 20170515 , 1000153 ) ;
+call payment ( 1 , 5 , 1 , 5 , 0 , 'BARBARBAR' , 27984 , 20170515 , 1000154 ) ;
+call payment ( 1 , 8 , 1 , 8 , 0 , 'BARBARPRES' , 465859 , 20170515 , 1000155 ) ;
+call new_order ( 1 , 4 , 22 , 20170515 , rows ( ( 3 , 1 , 6 ) , ( 454 , 1 , 6 ) , ( 687 , 1 , 5 ) , ( 45 , 1 , 5 ) , ( 30 , 1 , 8 ) ) ) ;
+call payment ( 1 , 7 , 1 , 7 , 1 , '' , 375437 , 20170515 , 1000157 ) ;
+call payment ( 1 , 3 , 1 , 3 , 0 , 'BARBARPRES' , 304341 , 20170515 , 1000158 ) ;
+call payment ( 1 , 7 , 1 , 7 , 0 , 'BARBARPRI' , 431979 , 20170515 , 1000159 ) ;
+call new_order ( 1 , 3 , 7 , 20170515 , rows ( ( 515 , 1 , 9 ) , ( 117 , 1 , 3 ) , ( 487 , 1 , 6 ) , ( 877 , 1 , 4 ) , ( 49 , 1 , 8 ) , ( 158 , 1 , 9 ) , ( 631 , 1 , 7 ) , ( 11 , 1 , 1 ) ) ) ;
+call new_order ( 1 , 3 , 25 , 20170515 , rows ( ( 414 , 1 , 5 ) , ( 971 , 1 , 4 ) , ( 935 , 1 , 5 ) , ( 907 , 1 , 6 ) , ( 854 , 1 , 7 ) , ( 887 , 1 , 4 ) , ( 846 , 1 , 5 ) , ( 853 , 1 , 10 ) , ( 73 , 1 , 2 ) , ( 51 , 1 , 4 ) ) ) ;
+call payment ( 1 , 8 , 1 , 8 , 0 , 'BARBARANTI' , 101356 , 20170515 , 1000162 ) ;
+call payment ( 1 , 2 , 1 , 2 , 17 , '' , 491403 , 20170515 , 1000163 ) ;
+call new_order ( 1 , 3 , 7 , 20170515 , rows ( ( 983 , 1 , 2 ) , ( 76 , 1 , 5 ) , ( 663 , 1 , 6 ) , ( 334 , 1 , 2 ) , ( 15 , 1 , 2 ) , ( 771 , 1 , 2 ) , ( 707 , 1 , 10 ) ) ) ;
+call new_order ( 1 , 7 , 9 , 20170515 , rows ( ( 783 , 1 , 1 ) , ( 383 , 1 , 7 ) , ( 975 , 1 , 2 ) , ( 185 , 1 , 6 ) , ( 511 , 1 , 2 ) , ( 129 , 1 , 5 ) , ( 964 , 1 , 2 ) , ( 703 , 1 , 3 ) , ( 767 , 1 , 8 ) , ( 167 , 1 , 6 ) , ( 70 , 1 , 9 ) ) ) ;
+call payment ( 1 , 3 , 1 , 3 , 0 , 'BARBARBAR' , 362864 , 20170515 , 1000166 ) ;
+call delivery ( 1 , 6 , 20170515 ) ;
+call new_order ( 1 , 5 , 5 , 20170515 , rows ( ( 903 , 1 , 7 ) , ( 519 , 1 , 7 ) , ( 981 , 1 , 1 ) , ( 970 , 1 , 5 ) , ( 99 , 1 , 3 ) , ( 167 , 1 , 2 ) , ( 539 , 1 , 10 ) , ( 9 , 1 , 2 ) , ( 47 , 1 , 5 ) , ( 21 , 1 , 8 ) , ( 821 , 1 , 3 ) ) ) ;
+call order_status ( 1 , 5 , 19 , '' ) ;
+call payment ( 1 , 9 , 1 , 9 , 0 , 'BARBARABLE' , 386898 , 20170515 , 1000170 ) ;
+call new_order ( 1 , 9 , 23 , 20170515 , rows ( ( 631 , 1 , 7 ) , ( 825 , 1 , 10 ) , ( 854 , 1 , 1 ) , ( 183 , 1 , 10 ) , ( 89 , 1 , 7 ) , ( 879 , 1 , 3 ) , ( 971 , 1 , 5 ) , ( 159 , 1 , 1 ) ) ) ;
+call new_order ( 1 , 1 , 26 , 20170515 , rows ( ( 109 , 1 , 6 ) , ( 815 , 1 , 2 ) , ( 896 , 1 , 9 ) , ( 167 , 1 , 6 ) , ( 926 , 1 , 6 ) ) ) ;
+call new_order ( 1 , 1 , 1 , 20170515 , rows ( ( 86 , 1 , 7 ) , ( 567 , 1 , 1 ) , ( 971 , 1 , 1 ) , ( 227 , 1 , 4 ) , ( 87 , 1 , 6 ) , ( 971 , 1 , 8 ) , ( 711 , 1 , 1 ) , ( 53 , 1 , 6 ) , ( 55 , 1 , 6 ) , ( 91 , 1 , 9 ) , ( 141 , 1 , 3 ) , ( 15 , 1 , 4 ) , ( 76 , 1 , 6 ) , ( 127 , 1 , 7 ) ) ) ;
+call new_order ( 1 , 9 , 25 , 20170515 , rows ( ( 705 , 1 , 5 ) , ( 92 , 1 , 9 ) , ( 193 , 1 , 3 ) , ( 883 , 1 , 7 ) , ( 69 , 1 , 8 ) , ( 798 , 1 , 4 ) , ( 7 , 1 , 7 ) , ( 387 , 1 , 2 ) , ( 143 , 1 , 10 ) , ( 107 , 1 , 7 ) , ( 831 , 1 , 1 ) , ( 54 , 1 , 8 ) ) ) ;
+call new_order ( 1 , 9 , 10 , 20170515 , rows ( ( 150 , 1 , 6 ) , ( 799 , 1 , 4 ) , ( 127 , 1 , 8 ) , ( 143 , 1 , 5 ) , ( 127 , 1 , 4 ) , ( 332 , 1 , 3 ) , ( 996 , 1 , 7 ) , ( 695 , 1 , 1 ) , ( 14 , 1 , 8 ) , ( 549 , 1 , 3 ) , ( 935 , 1 , 3 ) , ( 149 , 1 , 10 ) , ( 70 , 1 , 5 ) ) ) ;
+call payment ( 1 , 5 , 1 , 5 , 0 , 'BARBARBAR' , 75044 , 20170515 , 1000176 ) ;
+call delivery ( 1 , 4 , 20170515 ) ;
+call payment ( 1 , 9 , 1 , 9 , 22 , '' , 353078 , 20170515 , 1000178 ) ;
+call new_order ( 1 , 7 , 25 , 20170515 , rows ( ( 251 , 1 , 9 ) , ( 887 , 1 , 10 ) , ( 70 , 1 , 7 ) , ( 839 , 1 , 5 ) , ( 723 , 1 , 3 ) , ( 925 , 1 , 6 ) , ( 135 , 1 , 6 ) , ( 19 , 1 , 10 ) , ( 69 , 1 , 3 ) , ( 343 , 1 , 5 ) , ( 57 , 1 , 1 ) , ( 919 , 1 , 1 ) , ( 31 , 1 , 6 ) , ( 139 , 1 , 9 ) ) ) ;
+call delivery ( 1 , 7 , 20170515 ) ;
+call order_status ( 1 , 6 , 17 , '' ) ;
+call payment ( 1 , 7 , 1 , 7 , 21 , '' , 445608 , 20170515 , 1000182 ) ;
+call payment ( 1 , 3 , 1 , 3 , 7 , '' , 127144 , 20170515 , 1000183 ) ;
+call new_order ( 1 , 3 , 17 , 20170515 , rows ( ( 124 , 1 , 2 ) , ( 747 , 1 , 1 ) , ( 999 , 1 , 7 ) , ( 889 , 1 , 9 ) , ( 899 , 1 , 8 ) , ( 483 , 1 , 10 ) , ( 351 , 1 , 2 ) ) ) ;
+call new_order ( 1 , 1 , 15 , 20170515 , rows ( ( 87 , 1 , 4 ) , ( 3 , 1 , 6 ) , ( 51 , 1 , 9 ) , ( 70 , 1 , 8 ) , ( 927 , 1 , 4 ) , ( 21 , 1 , 1 ) , ( 495 , 1 , 7 ) , ( 47 , 1 , 6 ) , ( 151 , 1 , 9 ) , ( 847 , 1 , 7 ) , ( 711 , 1 , 9 ) , ( 915 , 1 , 5 ) ) ) ;
+call new_order ( 1 , 10 , 13 , 20170515 , rows ( ( 135 , 1 , 10 ) , ( 175 , 1 , 4 ) , ( 549 , 1 , 5 ) , ( 95 , 1 , 5 ) , ( 774 , 1 , 3 ) , ( 759 , 1 , 10 ) , ( 28 , 1 , 9 ) , ( 721 , 1 , 7 ) , ( 1 , 1 , 1 ) , ( 709 , 1 , 6 ) , ( 815 , 1 , 6 ) , ( 839 , 1 , 3 ) , ( 583 , 1 , 4 ) , ( 195 , 1 , 3 ) , ( 862 , 1 , 7 ) ) ) ;
+call new_order ( 1 , 7 , 26 , 20170515 , rows ( ( 999 , 1 , 10 ) , ( 130 , 1 , 6 ) , ( 535 , 1 , 4 ) , ( 599 , 1 , 4 ) , ( 71 , 1 , 6 ) , ( 175 , 1 , 9 ) , ( 797 , 1 , 2 ) , ( 744 , 1 , 1 ) , ( 107 , 1 , 6 ) , ( 958 , 1 , 2 ) , ( 763 , 1 , 10 ) , ( 710 , 1 , 4 ) , ( 739 , 1 , 4 ) , ( 597 , 1 , 1 ) , ( 84 , 1 , 8 ) ) ) ;
+call new_order ( 1 , 9 , 6 , 20170515 , rows ( ( 21 , 1 , 8 ) , ( 487 , 1 , 3 ) , ( 399 , 1 , 2 ) , ( 939 , 1 , 9 ) , ( 495 , 1 , 5 ) , ( 135 , 1 , 6 ) , ( 5 , 1 , 3 ) , ( 77 , 1 , 1 ) , ( 995 , 1 , 10 ) , ( 671 , 1 , 9 ) , ( 989 , 1 , 8 ) , ( 66 , 1 , 8 ) , ( 519 , 1 , 8 ) , ( 31 , 1 , 8 ) , ( 559 , 1 , 10 ) ) ) ;
+call order_status ( 1 , 4 , 0 , 'BARBARBAR' ) ;
+call new_order ( 1 , 9 , 1 , 20170515 , rows ( ( 997 , 1 , 4 ) , ( 365 , 1 , 9 ) , ( 815 , 1 , 6 ) , ( 189 , 1 , 5 ) , ( 309 , 1 , 4 ) , ( 87 , 1 , 1 ) ) ) ;
+call payment ( 1 , 6 , 1 , 6 , 0 , 'BARBARANTI' , 63980 , 20170515 , 1000191 ) ;
+call new_order ( 1 , 5 , 7 , 20170515 , rows ( ( 167 , 1 , 3 ) , ( 485 , 1 , 10 ) , ( 175 , 1 , 7 ) , ( 767 , 1 , 8 ) , ( 39 , 1 , 10 ) , ( 567 , 1 , 3 ) , ( 579 , 1 , 9 ) , ( 334 , 1 , 8 ) , ( 941 , 1 , 9 ) , ( 692 , 1 , 7 ) , ( 871 , 1 , 2 ) , ( 39 , 1 , 2 ) ) ) ;
+call payment ( 1 , 3 , 1 , 3 , 0 , 'BARBARCALLY' , 179456 , 20170515 , 1000193 ) ;
+call payment ( 1 , 7 , 1 , 7 , 0 , 'BARBARATION' , 365290 , 20170515 , 1000194 ) ;
+call new_order ( 1 , 4 , 9 , 20170515 , rows ( ( 40 , 1 , 3 ) , ( 163 , 1 , 9 ) , ( 81 , 1 , 9 ) , ( 15 , 1 , 3 ) , ( 21 , 1 , 1 ) , ( 194 , 1 , 2 ) , ( 335 , 1 , 7 ) , ( 697 , 1 , 10 ) , ( 111 , 1 , 6 ) , ( 175 , 1 , 3 ) , ( 143 , 1 , 2 ) ) ) ;
+call payment ( 1 , 10 , 1 , 10 , 0 , 'BARBARCALLY' , 194156 , 20170515 , 1000196 ) ;
+call payment ( 1 , 5 , 1 , 5 , 0 , 'BARBARBAR' , 380919 , 20170515 , 1000197 ) ;
+call new_order ( 1 , 1 , 10 , 20170515 , rows ( ( 727 , 1 , 3 ) , ( 30 , 1 , 6 ) , ( 197 , 1 , 7 ) , ( 118 , 1 , 9 ) , ( 527 , 1 , 1 ) , ( 55 , 1 , 6 ) , ( 53 , 1 , 8 ) , ( 759 , 1 , 9 ) , ( 951 , 1 , 3 ) , ( 637 , 1 , 5 ) , ( 43 , 1 , 7 ) , ( 983 , 1 , 8 ) , ( 910 , 1 , 3 ) , ( 515 , 1 , 5 ) ) ) ;
+call payment ( 1 , 6 , 1 , 6 , 0 , 'BARBARESE' , 448926 , 20170515 , 1000199 ) ;

@@ -15,6 +15,7 @@ use Rattle.mv_top.specs.Journals.{HasLawfulJournal, IsJournalText, RefusesJourna
 use Rattle.mv_top.specs.Serial.{serial}
 use Rattle.mv_top.specs.Graphs.{graphs}
 use Rattle.mv_top.specs.Tpcc.{IsSummary}
+use Rattle.mv_top.specs.Print.{IsPrint}
 use Rattle.mv_top.specs.Inputs.{IsReader, input_of}
 pub use Rattle.mv_words.specs.Words.{words_of}
 use Rattle.mv_words.specs.Words.{command_of}
@@ -30,14 +31,14 @@ abbrev pub IsTextOfWorkers : ℕ → Options → Program → List ℕ → Type 0
 IsTextOfWorkers threads options program answer = IsRunText program options answer × (threads ≤ 1 → answer ≡ text program options (in_turn program))
 
 -- for the program of these bytes the command may write this text: that of a run, whose workers may take turns in any way;
--- that of the script's own journal; of the calls alone in call order; of the graphs of the procedures; the bytes
--- themselves; or the summary of a run
+-- that of the script's own journal; of the calls alone in call order; of the graphs of the procedures; the print of the
+-- script; or the summary of a run
 abbrev pub IsTextOf : Command → List ℕ → Program → List ℕ → Type 0
 IsTextOf (Run threads options) bytes program answer = IsTextOfWorkers threads options program answer
 IsTextOf (Replay options) bytes program answer = IsJournalText options bytes program answer
 IsTextOf Serial bytes program answer = answer ≡ serial program
 IsTextOf Graph bytes program answer = answer ≡ graphs program
-IsTextOf (Tpcc load true threads options) bytes program answer = answer ≡ bytes
+IsTextOf (Tpcc load true threads options) bytes program answer = IsPrint bytes answer
 IsTextOf (Tpcc load false threads options) bytes program answer = IsSummary load program options answer
 
 -- the bytes are accepted, and the command may write this text for their program

@@ -7,4 +7,5 @@ pub mod Refusing
 pub mod Inputs
 pub mod Workers
 pub mod Tpcc
+pub mod Print
 pub mod Answers

@@ -13,10 +13,11 @@ ghost use Rattle.mv_top.specs.Refusing.{Causes, Tells};
 
 use crate::graphs::graph_text;
 use crate::journals::journal_text;
+use crate::print::print_text;
 use crate::refusal::{NoText, Refusal};
 use crate::serial::serial_text;
 use crate::status::Fault;
-use crate::tpcc::{script_text, summary_text};
+use crate::tpcc::summary_text;
 use crate::workers::{Crew, run_text};
 use mv_accept::accept::{NotAccepted, accept};
 use mv_catalog::resolved::Program;
@@ -128,6 +129,7 @@ fn text_of<R: Threads + Wait + Sync, P: Pace>(
     program: Program,
     pace: &P,
 ) -> Result<List<u8>, NoText>
+    requires accepted { Accepts bytes.now program }
     requires whole { IsProgram program }
     requires few { length program.resolved.calls ≤ most_calls }
     requires size { length bytes.now < 2 ^ 32 }
@@ -147,7 +149,10 @@ fn text_of<R: Threads + Wait + Sync, P: Pace>(
         Command::Replay { options } => journal_text(alloc, *options, bytes, program),
         Command::Serial => Ok(serial_text(alloc, &program)?),
         Command::Graph => Ok(graph_text(alloc, &program)?),
-        Command::Tpcc { script: true, .. } => Ok(script_text(alloc, bytes)?),
+        Command::Tpcc { script: true, .. } => {
+            drop(program);
+            Ok(print_text(alloc, bytes)?)
+        }
         Command::Tpcc {
             load,
             threads,

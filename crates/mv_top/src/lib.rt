@@ -6,6 +6,7 @@ mod graphs;
 mod input;
 mod journals;
 pub mod laws;
+mod print;
 pub mod refusal;
 pub mod script;
 mod serial;

@@ -1,6 +1,6 @@
-//! What `tpcc` writes: the generated script, or the summary of its run.
+//! The summary of the run of a generated script.
 
-ghost use Rattle.std.specs.Prelude.{◌≡◌, ◌≤◌, length, IfOk};
+ghost use Rattle.std.specs.Prelude.{◌≤◌, length, IfOk};
 ghost use Rattle.mv_accept.specs.Accepting.{most_calls};
 ghost use Rattle.mv_record.specs.Databases.{IsProgram};
 ghost use Rattle.mv_top.specs.Tpcc.{IsSummary};
@@ -16,15 +16,6 @@ use mv_values::memory::NoMemory;
 use std::alloc::Global;
 use std::sync::Wait;
 use std::thread::Threads;
-
-/// Returns the bytes of a script as they are.
-pub(crate) fn script_text(alloc: Global, bytes: &[u8]) -> Result<List<u8>, NoMemory>
-    ensures { IfOk result (λ text. text ≡ bytes.now) }
-{
-    let mut text = List::new(alloc);
-    text.append(bytes)?;
-    Ok(text)
-}
 
 /// Runs a program's calls by several workers or by one, and returns the summary of the run. Costs the work of the calls.
 pub(crate) fn summary_text<R: Threads + Wait + Sync, P: Pace>(

@@ -80,7 +80,7 @@ is_nothing g = not (gives_load g) && (is_none g.threads && (is_none g.rounds && 
 abbrev pub usual : Options
 usual = record { rounds = 3; horizon = None }
 
--- the options of a call's execution: those that aren't given are as usual
+-- the rounds and the horizon: those that are given, and else the usual ones
 abbrev pub options_of : Given → Options
 options_of g = record { rounds = unwrap_or g.rounds usual.rounds; horizon = g.horizon }
 

@@ -23,8 +23,8 @@ pub enum Command {
     Serial,
     /// Runs nothing, and writes which statements of a procedure may depend on which.
     Graph,
-    /// Generates a workload, and runs it by this many workers, 1 to 64. Writes a summary, or the script if `script`
-    /// says so.
+    /// Generates a workload, and runs it by this many workers, 1 to 64. Writes a summary. If `script` says so, runs
+    /// nothing, and writes the print of the script.
     Tpcc {
         load: Load,
         script: bool,

@@ -204,7 +204,7 @@ impl Given {
             && self.horizon.is_none()
     }
 
-    /// Returns the options of a call's execution. Those that aren't given are as usual.
+    /// Returns the rounds and the horizon: those that are given, and else the usual ones.
     fn options(&self) -> Options
         ensures { result ≡ options_of self.now }
     {
