@@ -1,6 +1,7 @@
-//! Attempts to commit a call after the commit of another one: which record is hit, and by which commit.
+//! A call after the commit of another one: which record is hit, by which commit, and what its rounds execute.
 
 use crate::commands::{ADD, OTHERS};
+use crate::crews::TRANSFERS;
 use crate::whole::{ensure, joined};
 use mv_accept::accept::accept;
 use mv_core::drive::{DriveFault, drive};
@@ -79,13 +80,9 @@ const CASES: &[Case] = &[
     ),
 ];
 
-/// Returns what an attempt to commit call 1 of the script says after these events. Returns `None` if there is no such
-/// attempt.
-fn attempt_after(
-    alloc: Global,
-    script: &str,
-    events: &[Event],
-) -> Result<Option<Attempt>, NoMemory> {
+/// Returns a core after these events of the script. Returns `None` if one is refused, or if call 1 isn't the first open
+/// call.
+fn core_after(alloc: Global, script: &str, events: &[Event]) -> Result<Option<Core>, NoMemory> {
     let Ok(program) = accept(alloc, script.as_bytes()) else {
         return Ok(None);
     };
@@ -99,6 +96,19 @@ fn attempt_after(
         return Ok(None);
     }
     let Err(DriveFault::Open { call: 1 }) = drive(alloc, &mut core, events) else {
+        return Ok(None);
+    };
+    Ok(Some(core))
+}
+
+/// Returns what an attempt to commit call 1 of the script says after these events. Returns `None` if there is no such
+/// attempt.
+fn attempt_after(
+    alloc: Global,
+    script: &str,
+    events: &[Event],
+) -> Result<Option<Attempt>, NoMemory> {
+    let Some(mut core) = core_after(alloc, script, events)? else {
         return Ok(None);
     };
     let Some(_rounds) = core.rounds(1) else {
@@ -120,6 +130,90 @@ fn an_attempt_names_the_first_record_that_is_hit(rt: HostRuntime) -> Result<(), 
     let alloc = rt.alloc();
     for (what, parts, events, record) in CASES {
         let holds = hits(alloc, parts, events, *record)?;
+        ensure(alloc, holds, what)?;
+    }
+    Ok(())
+}
+
+/// What a case shows, the events of two transfers that share one account, and the number of records that the last round
+/// of call 1 has executed. There is none while a statement of the call is left.
+type Round = (&'static str, &'static [Event], Option<usize>);
+
+const ROUNDS: &[Round] = &[
+    (
+        "no statement has run",
+        &[Event::B(0), Event::B(1), Event::C(0)],
+        None,
+    ),
+    ("statements are left", FOUR_STEPS, None),
+    ("all statements have run", FIVE_STEPS, Some(5)),
+    (
+        "a repair executes what depends on the commit",
+        REPAIRED,
+        Some(1),
+    ),
+    (
+        "a repair executes the rest of the call first",
+        &[Event::B(0), Event::B(1), Event::C(0), Event::A(1)],
+        Some(1),
+    ),
+    (
+        "a move executes all statements",
+        &[Event::B(0), Event::B(1), Event::C(0), Event::M(1)],
+        Some(5),
+    ),
+];
+
+/// Both calls begin, call 0 commits, and call 1 executes all its five statements.
+const FIVE_STEPS: &[Event] = &[
+    Event::B(0),
+    Event::B(1),
+    Event::C(0),
+    Event::S(1),
+    Event::S(1),
+    Event::S(1),
+    Event::S(1),
+    Event::S(1),
+];
+
+/// The same, and call 1 is repaired.
+const REPAIRED: &[Event] = &[
+    Event::B(0),
+    Event::B(1),
+    Event::C(0),
+    Event::S(1),
+    Event::S(1),
+    Event::S(1),
+    Event::S(1),
+    Event::S(1),
+    Event::A(1),
+];
+
+/// Returns the number of records that the last round of call 1 of the script has executed after these events. Returns
+/// `None` if a statement of the call is left.
+fn executed_after(
+    alloc: Global,
+    script: &str,
+    events: &[Event],
+) -> Result<Option<usize>, NoMemory> {
+    let Some(core) = core_after(alloc, script, events)? else {
+        return Ok(None);
+    };
+    let Some(_rounds) = core.rounds(1) else {
+        return Ok(None);
+    };
+    if core.ended(1) {
+        return Ok(Some(core.executed(1)));
+    }
+    Ok(None)
+}
+
+#[test]
+fn a_round_has_its_number_once_its_statements_have_run(rt: HostRuntime) -> Result<(), Fail> {
+    let alloc = rt.alloc();
+    let script = joined(alloc, &[ADD, OTHERS, TRANSFERS])?;
+    for (what, events, executed) in ROUNDS {
+        let holds = executed_after(alloc, script.as_str(), events)? == *executed;
         ensure(alloc, holds, what)?;
     }
     Ok(())

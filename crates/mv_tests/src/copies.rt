@@ -98,7 +98,7 @@ fn check_block<R: Threads + Wait + Sync>(
     want: &str,
 ) -> Result<(), Fail> {
     let script = joined(alloc, &[OPENED, block, ">>\n"])?;
-    tells(rt, alloc, "serial", script.as_str(), want)
+    tells(rt, alloc, &["serial"], script.as_str(), want)
 }
 
 #[test]
@@ -139,7 +139,7 @@ const TABLES: &[(&str, &str)] = &[
 #[test]
 fn tables_are_written_in_key_order(rt: HostRuntime) -> Result<(), Fail> {
     for (script, want) in TABLES {
-        tells(&rt, rt.alloc(), "serial", script, want)?;
+        tells(&rt, rt.alloc(), &["serial"], script, want)?;
     }
     Ok(())
 }

@@ -103,7 +103,7 @@ fn commit_in<R: Threads + Wait + Sync>(
 /// Call 1 commits while call 0 is held, and the worker of call 0 repairs and commits it.
 const OVERTAKEN: &str = "B 0\nB 1\nC 1\nA 0\nC 0\n";
 
-const TRANSFERS: &str = "CALL transfer(1, 2, 10); CALL transfer(3, 4, 10);";
+pub(crate) const TRANSFERS: &str = "CALL transfer(1, 2, 10); CALL transfer(3, 4, 10);";
 
 const REPAIRED: &str = "reply 0 done
 reply 1 done
@@ -356,6 +356,38 @@ fn calls_of_a_load_overlap(rt: HostRuntime) -> Result<(), Fail> {
     let want = (Status::Done, SUMMARY);
     let words = &["tpcc", "--calls", "2"];
     runs(&rt, rt.alloc(), words, "".as_bytes(), UNREAD, want)
+}
+
+/// The summary of the opening rows of a load.
+const OPENING_SUMMARY: &str = "tpcc warehouses 1 calls 0 seed 1
+new_order 0 rolled back 0
+payment 0
+order_status 0
+delivery 0
+stock_level 0
+orders 300
+order_lines 2960
+sum w_ytd 30000000
+sum h_amount 300000
+sum s_ytd 0
+sum s_order_cnt 0
+sum s_remote_cnt 0
+consistent yes
+end
+";
+
+const WITHOUT_CALLS: &[&[&str]] = &[
+    &["tpcc", "--calls", "0"],
+    &["tpcc", "--calls=0", "--threads=2"],
+];
+
+#[test]
+fn a_load_without_calls(rt: HostRuntime) -> Result<(), Fail> {
+    for words in WITHOUT_CALLS {
+        let want = (Status::Done, OPENING_SUMMARY);
+        runs(&rt, rt.alloc(), words, "".as_bytes(), UNREAD, want)?;
+    }
+    Ok(())
 }
 
 /// The text of one call.

@@ -427,6 +427,12 @@ const REFUSALS: &[Case] = &[
         "refused 17 journal line 4\n",
     ],
     [
+        "a call that was rolled back, after a commit that gave it funds",
+        "CALL transfer(1, 2, 150); CALL add(1, 60);",
+        "JOURNAL <<\nB 0\nB 1\nC 1\nC 0\n>>\n",
+        "refused 17 journal line 4\n",
+    ],
+    [
         "a second call before the first",
         PAIR,
         "JOURNAL <<\nB 1\n>>\n",
@@ -541,17 +547,36 @@ fn is_told(alloc: Global, answer: &Result<List<u8>, Fault>, want: &str) -> Resul
     }
 }
 
-/// Checks that `replay`, as a command and as a call, answers a script with this text or refuses it with this line.
-fn replays<R: Threads + Wait + Sync>(
+/// The words of a replay, and the rounds and the horizon that they give.
+type Given = (&'static [&'static str], u32, Option<u32>);
+
+/// Checks that `replay` with these options, as a command and as a call, answers a script with this text or refuses it
+/// with this line.
+fn given_replays<R: Threads + Wait + Sync>(
+    rt: &R,
+    alloc: Global,
+    given: Given,
+    script: &str,
+    want: &str,
+) -> Result<(), Fail> {
+    let (words, rounds, horizon) = given;
+    tells(rt, alloc, words, script, want)?;
+    let answer = replay(alloc, rounds, horizon, script.as_bytes());
+    let told = is_told(alloc, &answer, want)?;
+    ensure(alloc, told, script)
+}
+
+const PLAIN: Given = (&["replay"], 3, None);
+
+/// Checks that `replay` without options, as a command and as a call, answers a script with this text or refuses it with
+/// this line.
+pub(crate) fn replays<R: Threads + Wait + Sync>(
     rt: &R,
     alloc: Global,
     script: &str,
     want: &str,
 ) -> Result<(), Fail> {
-    tells(rt, alloc, "replay", script, want)?;
-    let answer = replay(alloc, 3, None, script.as_bytes());
-    let told = is_told(alloc, &answer, want)?;
-    ensure(alloc, told, script)
+    given_replays(rt, alloc, PLAIN, script, want)
 }
 
 fn case_replays<R: Threads + Wait + Sync>(rt: &R, alloc: Global, case: &Case) -> Result<(), Fail> {
@@ -600,9 +625,6 @@ fn an_own_write_makes_a_changed_row_count(rt: HostRuntime) -> Result<(), Fail> {
     let script = joined(rt.alloc(), &[MARKS, MARKING, calls])?;
     replays(&rt, rt.alloc(), script.as_str(), MARKED)
 }
-
-/// The options of a replay: the rounds and the horizon.
-type Given = (u32, Option<u32>);
 
 /// The text of two calls with a common row, where the second one is repaired and commits in one step.
 const DECIDED: &str = "reply 0 done
@@ -658,9 +680,15 @@ const TRANSFERS: &str = "CALL transfer(1, 2, 10); CALL transfer(3, 4, 10);";
 /// Three calls on one row each.
 const ADDS: &str = "CALL add(1, 5); CALL add(2, 5); CALL add(3, 5);";
 
+const NO_ROUNDS: Given = (&["replay", "--rounds", "0"], 0, None);
+
+const ONE_ROUND: Given = (&["replay", "--rounds", "1"], 1, None);
+
+const HORIZON: Given = (&["replay", "--horizon", "1"], 3, Some(1));
+
 const GIVEN: &[(Given, Case)] = &[
     (
-        (0, None),
+        NO_ROUNDS,
         [
             "a repair that commits, without rounds",
             TRANSFERS,
@@ -669,7 +697,7 @@ const GIVEN: &[(Given, Case)] = &[
         ],
     ),
     (
-        (1, None),
+        ONE_ROUND,
         [
             "a repair that commits, with a round left",
             TRANSFERS,
@@ -678,7 +706,7 @@ const GIVEN: &[(Given, Case)] = &[
         ],
     ),
     (
-        (0, None),
+        NO_ROUNDS,
         [
             "a repair without rounds",
             TRANSFERS,
@@ -687,7 +715,7 @@ const GIVEN: &[(Given, Case)] = &[
         ],
     ),
     (
-        (3, Some(1)),
+        HORIZON,
         [
             "a move of a stale call",
             ADDS,
@@ -696,7 +724,7 @@ const GIVEN: &[(Given, Case)] = &[
         ],
     ),
     (
-        (3, Some(1)),
+        HORIZON,
         [
             "a statement of a stale call",
             ADDS,
@@ -705,7 +733,7 @@ const GIVEN: &[(Given, Case)] = &[
         ],
     ),
     (
-        (3, Some(1)),
+        HORIZON,
         [
             "a repair of a stale call",
             ADDS,
@@ -715,20 +743,12 @@ const GIVEN: &[(Given, Case)] = &[
     ),
 ];
 
-/// Checks that `replay` with these options answers a script with this text or refuses it with this line.
-fn given_replays(alloc: Global, given: Given, case: &Case) -> Result<(), Fail> {
-    let (rounds, horizon) = given;
-    let [_, calls, journal, want] = *case;
-    let script = joined(alloc, &[ADD, OTHERS, calls, "\n", journal])?;
-    let answer = replay(alloc, rounds, horizon, script.as_bytes());
-    let told = is_told(alloc, &answer, want)?;
-    ensure(alloc, told, script.as_str())
-}
-
 #[test]
 fn journals_with_other_options_give_their_text(rt: HostRuntime) -> Result<(), Fail> {
     for (given, case) in GIVEN {
-        given_replays(rt.alloc(), *given, case)?;
+        let [_, calls, journal, want] = *case;
+        let script = joined(rt.alloc(), &[ADD, OTHERS, calls, "\n", journal])?;
+        given_replays(&rt, rt.alloc(), *given, script.as_str(), want)?;
     }
     Ok(())
 }

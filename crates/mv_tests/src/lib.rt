@@ -12,7 +12,11 @@ mod crews;
 #[cfg(test)]
 mod journals;
 #[cfg(test)]
+mod loads;
+#[cfg(test)]
 mod machine;
+#[cfg(test)]
+mod orders;
 #[cfg(test)]
 mod passes;
 #[cfg(test)]

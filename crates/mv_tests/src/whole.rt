@@ -148,17 +148,18 @@ pub(crate) fn refuses<R: Threads + Wait + Sync>(
     )
 }
 
-/// Checks that a command answers an input with this text, or refuses it with this line.
+/// Checks that a run with these words answers an input with this text, or refuses it with this line.
 pub(crate) fn tells<R: Threads + Wait + Sync>(
     rt: &R,
     alloc: Global,
-    command: &str,
+    words: &[&str],
     input: &str,
     want: &str,
 ) -> Result<(), Fail> {
-    if want.starts_with("refused ") {
-        refuses(rt, alloc, command, input, want)
+    let status = if want.starts_with("refused ") {
+        Status::Refused
     } else {
-        answers(rt, alloc, command, input, want)
-    }
+        Status::Done
+    };
+    runs(rt, alloc, words, input.as_bytes(), SOUND, (status, want))
 }
