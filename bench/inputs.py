@@ -7,6 +7,7 @@ text. What the calls take is the difference of two runs: with them and without.
 from itertools import chain
 
 ROWS = 1000  # as many rows as a ROWS argument may have
+COMMITS = 64  # from one collection of `run` to the next
 
 
 def block(table, rows):
@@ -179,6 +180,21 @@ def additions(calls):
 END;
 """
     return [NUMBERS, procedure, *numbered("t", ROWS)], repeated(calls, lambda number: f"a({37 * number % ROWS})")
+
+
+def additions_in_turn(calls, collected):
+    """The same calls with a journal: each commits before the next one begins. If `collected`, old versions are
+    collected as often as a worker of `run` does it."""
+    opening, adds = additions(calls)
+    return opening, chain(adds, journal(events_in_turn(calls, collected)))
+
+
+def events_in_turn(calls, collected):
+    for number in range(calls):
+        yield f"B {number}"
+        yield f"C {number}"
+        if collected and (number + 1) % COMMITS == 0:
+            yield "G"
 
 
 def rows(count):

@@ -9,17 +9,24 @@ from pathlib import Path
 from typing import NamedTuple
 
 
+LEAST = {"clock": 0.001, "processor": 0.001, "system": 0.001, "sleeps": 0, "forced": 0}
+
+
 class Taken(NamedTuple):
-    """What a run takes: seconds of the clock, seconds of processors, and the peak of memory in KB."""
+    """What a run takes: seconds of the clock, seconds of processors, those of them that the system took, and the peak
+    of memory in KB. A thread gives its processor up by itself to sleep, and is forced to where another is to run."""
 
     clock: float
     processor: float
+    system: float
     memory: float
+    sleeps: float
+    forced: float
 
     def less(self, other):
-        """What is taken over another run. No time is below a millisecond."""
-        clock, processor = self.clock - other.clock, self.processor - other.processor
-        return Taken(max(clock, 0.001), max(processor, 0.001), self.memory - other.memory)
+        """What is taken over another run. No time is below a millisecond, and no count below none."""
+        over = Taken(*(mine - others for mine, others in zip(self, other)))
+        return over._replace(**{name: max(getattr(over, name), least) for name, least in LEAST.items()})
 
 
 class Run(NamedTuple):
@@ -44,7 +51,8 @@ def take(run, text=os.devnull):
     child.returncode = os.waitstatus_to_exitcode(status)
     if child.returncode != 0:
         give_up(run)
-    return Taken(clock, usage.ru_utime + usage.ru_stime, usage.ru_maxrss)
+    processor = usage.ru_utime + usage.ru_stime
+    return Taken(clock, processor, usage.ru_stime, usage.ru_maxrss, usage.ru_nvcsw, usage.ru_nivcsw)
 
 
 def give_up(run):

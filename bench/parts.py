@@ -5,6 +5,7 @@ the same script without them.
 """
 
 import re
+from itertools import takewhile
 from pathlib import Path
 from typing import NamedTuple
 
@@ -16,7 +17,8 @@ TOP = Path(__file__).resolve().parent.parent
 
 
 class Bench:
-    """The program that is measured, a folder for scripts and texts, and the sizes and rounds that are wanted."""
+    """The program that is measured, a folder for scripts and texts, the sizes and rounds that are wanted, and what was
+    found wrong."""
 
     def __init__(self, program, folder, scripts, quick, long):
         self.program = program
@@ -25,6 +27,8 @@ class Bench:
         self.quick = quick
         self.long = long
         self.rounds = 1 if quick else 3
+        self.more_rounds = 1 if quick else 5
+        self.faults = []
 
     def size(self, full):
         """A size, or a tenth of it in a quick measurement."""
@@ -57,7 +61,10 @@ class Bench:
         return path
 
     def has_loads(self):
-        return self.scripts is not None or self.knows("tpcc", "--script", "--calls", "0")
+        return self.scripts is not None or self.has_tpcc()
+
+    def has_tpcc(self):
+        return self.knows("tpcc", "--script", "--calls", "0")
 
     def costs(self, scripts, words, rounds):
         """What the calls of scripts take by a command, by name. The memory is that of the whole run."""
@@ -97,9 +104,18 @@ def part_of(text, begin, end):
 ROUNDS = re.compile(r"\d+ \d+ starts [\d,]+ runs (\S+)")
 
 
+class Rounds(NamedTuple):
+    """Of a history: the statements of first rounds and those executed again, the calls that executed some again, and
+    the moves."""
+
+    first: int
+    again: int
+    calls: int
+    moves: int
+
+
 def rounds_in(text):
-    """Of a text's history: the statements executed again for each hundred, the calls that executed some again, and the
-    moves. A round without a number counts as none."""
+    """The rounds of a text's history. One without a number counts as none."""
     first = again = calls = moves = 0
     for line in part_of(text, "history", "journal"):
         rounds = ROUNDS.fullmatch(line)[1].split("+")
@@ -108,7 +124,7 @@ def rounds_in(text):
         again += sum(counts[1:])
         calls += len(rounds) > 1
         moves += sum(number.endswith("m") for number in rounds)
-    return 100 * again / max(first, 1), calls, moves
+    return Rounds(first, again, calls, moves)
 
 
 # Calls of TPC-C.
@@ -126,14 +142,21 @@ def calls(bench):
     counts = [bench.size(count) for count in (5000, 10000, 20000, 40000)]
     if bench.quick:
         counts.pop()
+    show("Calls of TPC-C on one warehouse", CALLS, call_rows(taken_by_calls(bench, 1, counts), counts))
+    count = bench.size(10000)
+    rows = [row for warehouses in (4, 16) for row in warehouse_rows(bench, warehouses, count)]
+    show(f"{rate(count)} calls of TPC-C on more warehouses", WAREHOUSES, rows)
+
+
+def taken_by_calls(bench, warehouses, counts):
+    """What scripts take by each command, by the number of their calls. One of them has no call."""
     runs = {}
     for count in (0, *counts):
-        script = bench.load(1, count)
+        script = bench.load(warehouses, count)
         runs["serial", count] = bench.run(("serial",), script)
         runs["run", count] = bench.run(("run",), script)
         runs["replay", count] = bench.run(("replay",), with_journal(bench, script))
-    taken = medians(runs, bench.rounds)
-    show("Calls of TPC-C on one warehouse", CALLS, call_rows(taken, counts))
+    return medians(runs, bench.rounds)
 
 
 CALLS = ["command", "calls", "seconds", "calls/s", "of serial", "growth", "MB", "KB a call", "over serial"]
@@ -159,6 +182,23 @@ def call_rows(taken, counts):
             ]
 
 
+WAREHOUSES = ["command", "warehouses", "seconds", "calls/s", "of serial", "MB"]
+
+
+def warehouse_rows(bench, warehouses, count):
+    taken = taken_by_calls(bench, warehouses, [count])
+    for command in ("serial", "run", "replay"):
+        time = time_of(taken, command, count)
+        yield [
+            command,
+            rate(warehouses),
+            seconds(time),
+            rate(count / time),
+            ratio(time_of(taken, "serial", count), time),
+            megabytes(taken[command, count].memory),
+        ]
+
+
 def time_of(taken, command, count):
     return taken[command, count].less(taken[command, 0]).processor
 
@@ -172,10 +212,14 @@ def memory_of(taken, command, first, count):
 
 
 class Worked(NamedTuple):
-    """What the calls of a run take, and what its text tells of rounds."""
+    """What the calls of a run take, and what its text tells of rounds. The statements are those of first rounds."""
 
     clock: float
     processor: float
+    system: float
+    sleeps: float
+    forced: float
+    statements: float
     again: float
     calls: float
     moves: float
@@ -183,26 +227,50 @@ class Worked(NamedTuple):
 
 def workers(bench):
     count = bench.size(4000)
-    threads = [1, 4, 64] if bench.quick else [1, 2, 4, 8, 64]
-    commands = [("--threads", str(number)) for number in threads]
+    commands = [by_workers(number) for number in ([1, 4, 64] if bench.quick else [1, 2, 4, 8, 64])]
     if bench.knows("run", "--horizon", "16"):
-        commands.append(("--threads", "64", "--horizon", "16"))
-    rows = []
-    for warehouses in [1, 4] if bench.quick else [1, 4, 16]:
-        rows += worker_rows(bench, warehouses, count, commands)
-    show(f"{rate(count)} calls of TPC-C by several workers", WORKERS, rows)
+        commands += [by_workers(64, horizon=16), by_workers(4, horizon=1)]
+    warehouses = [1, 4] if bench.quick else [1, 4, 16]
+    rows = [row for number in warehouses for row in worker_rows(bench, number, count, commands, bench.rounds)]
+    show(title_of_workers(count), WORKERS, rows)
+    count = bench.size(20000)
+    commands = [by_workers(number) for number in (1, 4, 64)]
+    show(title_of_workers(count), WORKERS, worker_rows(bench, 4, count, commands, bench.more_rounds))
+
+
+def by_workers(threads, horizon=None):
+    """The words of a command with so many workers."""
+    words = ("--threads", str(threads))
+    return words if horizon is None else (*words, "--horizon", str(horizon))
+
+
+def title_of_workers(count):
+    return f"{rate(count)} calls of TPC-C by several workers; sleeps, forced and again for each 100 statements"
 
 
 WORKERS = [
-    "words", "warehouses", "clock", "calls/s", "of one", "processors", "of one", "again per 100", "calls again", "moved"
+    "words",
+    "warehouses",
+    "clock",
+    "calls/s",
+    "of one",
+    "processors",
+    "of one",
+    "system",
+    "sleeps",
+    "us a sleep",
+    "forced",
+    "again",
+    "calls again",
+    "moved",
 ]
 
 
-def worker_rows(bench, warehouses, count, commands):
+def worker_rows(bench, warehouses, count, commands, rounds):
     runs = {words: bench.run(("run", *words), bench.load(warehouses, count)) for words in commands}
-    opening = medians({"opening": bench.run(("run",), bench.load(warehouses, 0))}, bench.rounds)["opening"]
+    opening = medians({"opening": bench.run(("run",), bench.load(warehouses, 0))}, rounds)["opening"]
     samples = {words: [] for words in commands}
-    for _ in range(bench.rounds):
+    for _ in range(rounds):
         for words in commands:
             samples[words].append(worked(bench, runs[words], opening))
     one = median(samples[commands[0]])
@@ -212,7 +280,7 @@ def worker_rows(bench, warehouses, count, commands):
 def worked(bench, run, opening):
     text = bench.folder / "workers.txt"
     taken = take(run, text).less(opening)
-    return Worked(taken.clock, taken.processor, *rounds_in(text))
+    return Worked(taken.clock, taken.processor, taken.system, taken.sleeps, taken.forced, *rounds_in(text))
 
 
 def worker_row(warehouses, count, words, one, taken):
@@ -224,10 +292,33 @@ def worker_row(warehouses, count, words, one, taken):
         ratio(one.clock, taken.clock),
         seconds(taken.processor),
         ratio(taken.processor, one.processor),
-        f"{taken.again:.2f}",
+        seconds(taken.system),
+        of_hundred(taken.sleeps, taken.statements),
+        a_sleep(taken, one),
+        of_hundred(taken.forced, taken.statements),
+        of_hundred(taken.again, taken.statements),
         rate(taken.calls),
         rate(taken.moves),
     ]
+
+
+def of_hundred(number, statements):
+    return f"{100 * number / max(statements, 1):.2f}"
+
+
+def a_sleep(taken, one):
+    """The microseconds of the clock over those of one worker, for each sleep."""
+    over = taken.clock - one.clock
+    return f"{1e6 * over / taken.sleeps:.1f}" if over > 0 and taken.sleeps > 0 else ""
+
+
+def tpcc(bench):
+    """The whole of the command `tpcc`: it generates the load, runs it, and sums it up."""
+    count = 40_000 if bench.long else bench.size(10_000)
+    words = ("tpcc", "--calls", str(count), "--warehouses", "16", "--threads", "4")
+    taken = medians({words: bench.run(words, Path("/dev/null"))}, bench.rounds)[words]
+    row = [" ".join(words), seconds(taken.clock), seconds(taken.processor), megabytes(taken.memory)]
+    show("A load from its numbers to its summary", ["words", "clock", "processors", "MB"], [row])
 
 
 # The cost of a statement.
@@ -277,7 +368,7 @@ def statements(bench):
 def times_of_statements(bench):
     calls = bench.size(2000)
     scripts = {name: inputs.loop_with(text * often, calls) for name, (text, often) in inputs.STATEMENTS.items()}
-    taken = bench.costs({"loop": inputs.loop_with("", calls), **scripts}, ("run",), 2 * bench.rounds - 1)
+    taken = bench.costs({"loop": inputs.loop_with("", calls), **scripts}, ("run",), bench.more_rounds)
     for name, (_, often) in inputs.STATEMENTS.items():
         yield name, taken[name].less(taken["loop"]).processor / (calls * inputs.TURNS * often)
 
@@ -285,7 +376,7 @@ def times_of_statements(bench):
 def times_of_calls(bench):
     calls = bench.size(50_000)
     scripts = {"call of nothing": inputs.empty_calls(calls), "call of one UPDATE": inputs.one_counter(calls)}
-    for name, cost in bench.costs(scripts, ("run",), 2 * bench.rounds - 1).items():
+    for name, cost in bench.costs(scripts, ("run",), bench.more_rounds).items():
         yield name, cost.processor / calls
 
 
@@ -294,9 +385,10 @@ def times_of_calls(bench):
 
 def repairs(bench):
     pairs = bench.size(1000)
-    opening = "".join(line for line in lines_of(TOP / "examples" / "new_order.sql") if not line.startswith("CALL"))
+    example = lines_of(TOP / "examples" / "new_order.sql")
+    opening = "".join(takewhile(lambda line: not line.startswith("CALL"), example))
     scripts = {f"orders {event}": inputs.pairs_of_orders(opening, pairs, event) for event in ("", "A", "M")}
-    taken = bench.costs(scripts, ("replay",), 2 * bench.rounds - 1)
+    taken = bench.costs(scripts, ("replay",), bench.more_rounds)
     repair, whole = (taken[name].less(taken["orders "]).processor / pairs for name in ("orders A", "orders M"))
     rows = [
         ["executed whole again: 92 statements", f"{1e6 * whole:.0f}", "1.00"],
@@ -309,7 +401,7 @@ def validation(bench):
     rows = []
     for commits in (bench.size(1000), bench.size(2000)):
         scripts = {name: inputs.call_beside_commits(commits, name == "late") for name in ("late", "early")}
-        taken = bench.costs(scripts, ("replay",), 2 * bench.rounds - 1)
+        taken = bench.costs(scripts, ("replay",), bench.more_rounds)
         time = taken["late"].less(taken["early"]).processor
         rows.append([f"{rate(commits)} commits of 23 rows", f"{1e3 * time:.1f}", f"{1e6 * time / commits:.1f}"])
     header = ["beside", "milliseconds", "microseconds a commit"]
@@ -322,11 +414,27 @@ def validation(bench):
 def collection(bench):
     counts = [bench.size(100_000), bench.size(200_000)] + ([1_000_000] if bench.long else [])
     rows = []
-    for command in ("serial", "run"):
+    for words in (("serial",), ("run",), ("run", "--threads", "4")):
         scripts = {str(count): inputs.additions(count) for count in counts}
-        taken = bench.costs(scripts, (command,), 1)
-        rows += series(command, {count: taken[str(count)] for count in counts})
-    show("Calls of `add` on 1,000 rows", ["command", "calls", "seconds", "growth", "MB", "bytes a call"], rows)
+        taken = bench.costs(scripts, words, bench.rounds)
+        rows += series(" ".join(words), {count: taken[str(count)] for count in counts})
+    header = ["words", "calls", "seconds", "growth", "of linear", "MB", "bytes a call"]
+    show("Calls of `add` on 1,000 rows", header, rows)
+    share_of_collecting(bench, counts[0])
+
+
+def share_of_collecting(bench, count):
+    scripts = {name: inputs.additions_in_turn(count, name == COLLECTING) for name in ("without G", COLLECTING)}
+    taken = bench.costs(scripts, ("replay",), bench.more_rounds)
+    base = taken["without G"].processor
+    rows = []
+    for name, each in taken.items():
+        share = 100 * (each.processor - base) / each.processor
+        rows.append([name, seconds(each.processor), f"{share:.1f} %", megabytes(each.memory)])
+    show(f"{rate(count)} calls of `add` by `replay`", ["journal", "seconds", "collecting", "MB"], rows)
+
+
+COLLECTING = f"G after each {inputs.COMMITS} commits"
 
 
 def rows(bench):
@@ -336,19 +444,22 @@ def rows(bench):
     for command in ("serial", "run"):
         runs = {count: bench.run((command,), script) for count, script in scripts.items()}
         shown += series(command, medians(runs, bench.rounds))
-    show("Rows of two numbers, read and written", ["command", "rows", "seconds", "growth", "MB", "bytes a row"], shown)
+    header = ["command", "rows", "seconds", "growth", "of linear", "MB", "bytes a row"]
+    show("Rows of two numbers, read and written", header, shown)
 
 
-def series(command, taken):
-    """Rows for counts that grow. The bytes are those that each over the first count adds to the peak."""
+def series(words, taken):
+    """Rows for counts that grow. Growth is the seconds over those of the first count, and `of linear` is growth over
+    that of the count. The bytes are those that each over the first count adds to the peak."""
     first, base = next(iter(taken.items()))
     for count, each in taken.items():
         added = rate(1024 * (each.memory - base.memory) / (count - first)) if count > first else ""
         yield [
-            command,
+            words,
             rate(count),
             seconds(each.processor),
             ratio(each.processor, base.processor),
+            ratio(each.processor * first, base.processor * count),
             megabytes(each.memory),
             added,
         ]
@@ -357,6 +468,7 @@ def series(command, taken):
 PARTS = {
     "calls": calls,
     "workers": workers,
+    "tpcc": tpcc,
     "growth": growth,
     "statements": statements,
     "repairs": repairs,
@@ -365,4 +477,9 @@ PARTS = {
     "rows": rows,
     "sqlite": sqlite.part,
 }
-NEED_LOADS = ("calls", "workers", "sqlite")
+NEEDS = {  # what a part needs of the bench
+    "calls": Bench.has_loads,
+    "workers": Bench.has_loads,
+    "tpcc": Bench.has_tpcc,
+    "sqlite": Bench.has_loads,
+}
