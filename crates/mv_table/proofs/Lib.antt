@@ -6,3 +6,4 @@ pub mod Storing
 pub mod Covering
 pub mod Changing
 pub mod Picking
+pub mod Scanning

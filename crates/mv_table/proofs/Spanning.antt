@@ -38,7 +38,7 @@ equal_is Equal h = refl
 equal_is Greater h = cc
 
 -- a test by `=` leaves its value alone
-exactly : (test : Test) (v : Value) → bounds Both test.op ≡ true → allows test v ≡ true → v ≡ test.value
+pub exactly : (test : Test) (v : Value) → bounds Both test.op ≡ true → allows test v ≡ true → v ≡ test.value
 exactly test v side h = exact_values v test.value (equal_is (value_order v test.value) (subst (λ op. op_holds op (value_order v test.value) ≡ true) (both_only test.op side) h))
 
 pub agrees_none : (key : List Value) → Agrees key []
@@ -80,7 +80,7 @@ text_above t x (Text s) h = longer_text s t x h
 shifted : (w : Value) (ws vs : List Value) (v : Value) → Agrees (w ∷ ws) (v ∷ vs) → Agrees ws vs
 shifted w ws vs v h i lt = h (suc i) (omega (arith, lt))
 
-tied : (w v : Value) (o : Ordering) → w ≡ v → ordering_then (value_order w v) o ≡ o
+pub tied : (w v : Value) (o : Ordering) → w ≡ v → ordering_then (value_order w v) o ≡ o
 tied w v o same = ap (λ x. ordering_then (value_order x v) o) same ∙ ap (λ p. ordering_then p o) (tied_itself value_order_total v)
 
 -- a key that agrees with the values and has a lesser one behind them is below

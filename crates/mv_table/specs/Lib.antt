@@ -1,3 +1,4 @@
 pub mod Spans
 pub mod Entries
 pub mod Lending
+pub mod Scans

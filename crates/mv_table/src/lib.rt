@@ -2,5 +2,6 @@
 #![tactic(auto)]
 
 pub mod key_map;
+pub mod scan;
 pub mod span;
 pub mod table;

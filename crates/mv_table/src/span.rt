@@ -13,6 +13,7 @@ ghost use Rattle.mv_values.specs.Keys.{IsRising};
 ghost use Rattle.mv_values.specs.Order.{value_order, key_order};
 ghost use Rattle.mv_values.specs.Preds.{allows};
 ghost use Rattle.mv_table.specs.declared.span.Side.TheVariants.{Both, Low, High};
+ghost use Rattle.mv_table.specs.Scans.{NeverFallsAt, RisesAt};
 ghost use Rattle.mv_table.specs.Spans.{is_past, is_within, IsForward, Admits, Covers, FindsAll, Agrees, bounds, HoldsAt, is_place};
 
 use mv_values::copied::Copied;
@@ -91,6 +92,20 @@ fn first_values(alloc: Global, tests: &[Test]) -> Result<List<Value>, NoMemory>
         }
     }
     Ok(front)
+}
+
+/// Whether `=` fixes each value of the key before a place. Then the value at the place never falls from a key to a
+/// greater one, and it rises if the keys end there.
+pub fn is_fixed_before(tests: &[Test], place: usize) -> bool
+    ensures order { result ≡ true → NeverFallsAt tests.now place }
+    ensures last { result ≡ true → RisesAt tests.now place }
+{
+    for before in 0..place {
+        let Some(_) = test_at(tests, before, Side::Both) else {
+            return false;
+        };
+    }
+    true
 }
 
 /// Returns a value above this one.

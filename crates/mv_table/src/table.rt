@@ -16,6 +16,7 @@ use mv_values::memory::NoMemory;
 use mv_values::rows::{Keyed, Rows};
 use mv_values::value::{Key, Row};
 use std::alloc::Global;
+use std::collections::btree_map::Range;
 use std::marker::Model;
 
 /// A row of a table with its key, both borrowed.
@@ -152,6 +153,16 @@ impl Table {
             part.push(Entry { key, row })?;
         }
         Ok(part)
+    }
+
+    /// Iterates over the rows whose keys are in the span, in key order. It finds the first and the last one in time
+    /// logarithmic in the number of rows.
+    pub fn range(&self, span: &Span) -> Range<'_, Key, Row>
+        requires { IsForward span.now }
+        ensures rows { stored result ≡ filter (λ item. is_within span.now item.key) self.now }
+        ensures rising { IsRising self.now }
+    {
+        self.rows.range(span)
     }
 
     /// Copies rows into a new table. Takes time logarithmic in the number of rows for each row.
