@@ -1,7 +1,7 @@
 -- The rows that a predicate finds after a number of commits.
 use Rattle.std.proofs.Common.{◌≡◌, ◌++◌, ℕ, Bool, true, false, cond, List, [], ◌∷◌, Option, Some, None, All, refl, sym, ap, subst, ◌∙◌, append_assoc}
 use Rattle.std.specs.List.{filter}
-use Rattle.std.specs.Option.{OnSome}
+use Rattle.std.specs.Option.{OnSome, option_map}
 use Rattle.mv_values.specs.declared.value.Value.{Value}
 use Rattle.mv_values.specs.declared.rows.Keyed.{Keyed}
 use Rattle.mv_values.specs.declared.pred.Pred.{Pred}
@@ -9,9 +9,12 @@ use Rattle.mv_values.specs.Keys.{IsRising, IsBelow}
 use Rattle.mv_values.specs.Preds.{matches, matched}
 use Rattle.mv_table.specs.declared.span.Span.{Span}
 use Rattle.mv_table.specs.Entries.{alone_at, picked, stored, KeysRise}
+use Rattle.mv_table.specs.declared.scan.Direction.{Direction}
+use Rattle.mv_table.specs.Scans.{foremost, with_foremost}
 use Rattle.mv_table.specs.Spans.{is_within, Covers}
 use Rattle.mv_table.proofs.Covering.{covered}
 use Rattle.mv_table.proofs.Picking.{picked_filter}
+use Rattle.mv_table.proofs.Scanning.{foremost_mapped, foremost_picked, foremost_unpicked}
 use Rattle.mv_table.proofs.Storing.{front_below, stored_filter}
 use Rattle.mv_record.specs.Admitting.{Admitted}
 use Rattle.mv_record.proofs.Patching.{rising_filter}
@@ -74,3 +77,19 @@ rows_below f rows key v row rest all is h rising = by row (ap (λ o. rows ++ sto
     by : (o : Option (List Value)) → rows ++ stored (alone_at key o ++ picked f rest) ≡ all → OnSome o (All (IsBelow key) rows)
     by None same = tt
     by (Some r) same = front_below rows (stored (picked f rest)) (record { key = key; row = r }) (subst IsRising (sym same) rising)
+
+-- The first of a scan
+
+abbrev as_row : List Value × List Value → Keyed
+as_row e = record { key = e.0; row = e.1 }
+
+pub first_there : (f : Versions → Option (List Value)) (d : Direction) (key : List Value) (v : Versions) (left rest : Entries) (row : List Value) (all : Option Keyed) → left ≡ with_foremost d (key, v) rest → f v ≡ Some row
+    → foremost d (stored (picked f left)) ≡ all → Some (record { key = key; row = row }) ≡ all
+first_there f d key v left rest row all is found so =
+    sym (ap (λ es. foremost d (stored (picked f es))) is ∙ (foremost_mapped as_row d (picked f (with_foremost d (key, v) rest)) ∙ ap (option_map as_row) (foremost_picked f d (key, v) rest row found))) ∙ so
+
+pub first_later : (f : Versions → Option (List Value)) (d : Direction) (key : List Value) (v : Versions) (left rest : Entries) (all : Option Keyed) → left ≡ with_foremost d (key, v) rest → f v ≡ None
+    → foremost d (stored (picked f left)) ≡ all → foremost d (stored (picked f rest)) ≡ all
+first_later f d key v left rest all is none so =
+    foremost_mapped as_row d (picked f rest)
+    ∙ (sym (ap (λ es. foremost d (stored (picked f es))) is ∙ (foremost_mapped as_row d (picked f (with_foremost d (key, v) rest)) ∙ ap (option_map as_row) (foremost_unpicked f d (key, v) rest none))) ∙ so)

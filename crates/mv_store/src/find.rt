@@ -3,14 +3,18 @@
 ghost use Rattle.std.specs.Prelude.{◌≡◌, ◌++◌, All, map, IfOk, OnOk, OnSome};
 ghost use Rattle.mv_values.specs.Keys.{IsBelow};
 ghost use Rattle.mv_values.specs.Patching.{row_of};
-ghost use Rattle.mv_table.specs.Entries.{alone_at, stored, KeysRise};
+ghost use Rattle.mv_values.specs.Preds.{matched};
+ghost use Rattle.mv_table.specs.Entries.{alone_at, picked, stored, KeysRise};
+ghost use Rattle.mv_table.specs.Scans.{foremost};
 ghost use Rattle.mv_table.specs.Spans.{Covers, IsForward};
 ghost use Rattle.mv_record.specs.Admitting.{Admitted};
+ghost use Rattle.mv_chain.specs.Versions.{row_at};
 ghost use Rattle.mv_view.specs.Narrowing.{matching};
 ghost use Rattle.mv_store.specs.Stored.{table_at};
 
 use mv_chain::chain::Chain;
 use mv_table::key_map::KeyMap;
+use mv_table::scan::Direction;
 use mv_table::span::Span;
 use mv_values::copied::Copied;
 use mv_values::list::List;
@@ -19,6 +23,7 @@ use mv_values::pred::Pred;
 use mv_values::rows::{Database, Keyed, Rows};
 use mv_values::value::{Key, Row};
 use std::alloc::Global;
+use std::collections::btree_map::Range;
 
 /// Returns copies of the rows of a table that the predicate matches after commit n. It visits only the keys in the span
 /// of the tests, and finds the first one in time logarithmic in the number of rows.
@@ -66,6 +71,43 @@ fn add_row(alloc: Global, rows: &mut Rows, key: &Key, row: Option<Row>) -> Resul
     };
     let key = key.copy(alloc)?;
     rows.push(Keyed { key, row })
+}
+
+/// Returns a copy of the first row in this direction that the predicate matches after commit n. Of the keys in the span
+/// of the tests it visits those up to that row, and it finds the first of them in time logarithmic in the number of rows.
+pub(crate) fn find_foremost(
+    alloc: Global,
+    table: &KeyMap<Chain>,
+    n: u32,
+    pred: &Pred,
+    direction: Direction,
+) -> Result<Option<Keyed>, NoMemory>
+    requires { Admitted pred.now (table_at n table.now) }
+    ensures { IfOk result (λ row. row ≡ foremost direction (matching pred.now (table_at n table.now))) }
+{
+    let span = Span::of(alloc, pred.tests.as_slice())?;
+    foremost_match(alloc, table.range(&span), n, pred, direction)
+}
+
+/// Returns a copy of the first row in this direction that the predicate matches after commit n, of rows in their
+/// versions.
+fn foremost_match(
+    alloc: Global,
+    entries: Range<'_, Key, Chain>,
+    n: u32,
+    pred: &Pred,
+    direction: Direction,
+) -> Result<Option<Keyed>, NoMemory>
+    ensures { IfOk result (λ row. row ≡ foremost direction (stored (picked (λ v. matched pred.now (row_at v n)) entries.entry))) }
+{
+    let mut left = entries;
+    while let Some((key, chain)) = direction.take_next(&mut left) {
+        if let Some(row) = chain.found_at(alloc, n, pred)? {
+            let key = key.copy(alloc)?;
+            return Ok(Some(Keyed { key, row }));
+        }
+    }
+    Ok(None)
 }
 
 /// Returns a copy of the row under the key after commit n, if there is one. Takes time logarithmic in the number of

@@ -3,6 +3,7 @@
 ghost use Rattle.std.specs.Prelude.{◌≡◌, ◌<◌, ◌≤◌, ℕ, [], ◌∷◌, IfOk, IfErr, OnOk, OnErr, Err};
 ghost use Rattle.mv_values.specs.Patching.{found_by, row_of};
 ghost use Rattle.mv_values.specs.Tables.{rows_at};
+ghost use Rattle.mv_table.specs.Scans.{foremost};
 ghost use Rattle.mv_record.specs.Admitting.{Admitted};
 ghost use Rattle.mv_view.specs.declared.view.Refused.TheVariants.{Stale, NoMemory as Wanting};
 ghost use Rattle.mv_store.specs.Stored.{database_at, own_writes, IsLike};
@@ -10,16 +11,17 @@ ghost use Rattle.mv_store.specs.Changes.{IsAsBefore, HasPut, HasDropped, HasStam
 
 use crate::change::{Fate, settle_noted};
 use crate::collect::collect_all;
-use crate::find::{copy_tables, find, find_row};
+use crate::find::{copy_tables, find, find_foremost, find_row};
 use crate::open::open_all;
 use crate::spots::Spots;
 use crate::write::put_write;
 use mv_chain::chain::Chain;
 use mv_table::key_map::KeyMap;
+use mv_table::scan::Direction;
 use mv_values::memory::NoMemory;
 use mv_values::patch::Write;
 use mv_values::pred::Pred;
-use mv_values::rows::{Database, Rows};
+use mv_values::rows::{Database, Keyed, Rows};
 use mv_values::value::{Key, Row};
 use mv_view::view::Refused;
 use std::alloc::Global;
@@ -97,6 +99,32 @@ impl Store {
         Ok(found)
     }
 
+    /// Returns a copy of the first row in this direction that the predicate matches after commit n, if it matches one.
+    /// Each row that it matches must be under a key that the predicate admits. Fails with `Stale` exactly if n is below
+    /// the store's low, and with `NoMemory` if memory runs out. Of the keys in the span of the predicate's tests it
+    /// visits those up to that row.
+    pub fn foremost_at(
+        &self,
+        alloc: Global,
+        n: u32,
+        pred: &Pred,
+        direction: Direction,
+    ) -> Result<Option<Keyed>, Refused>
+        requires { Admitted pred.now (rows_at (database_at self.now n) pred.now.table) }
+        ensures found { IfOk result (λ row. row ≡ foremost direction (found_by pred.now (database_at self.now n))) }
+        ensures stale { n < self.now.low → result ≡ Err (Stale n self.now.low) }
+        ensures fresh { self.now.low ≤ n → IfErr result (λ e. e ≡ Wanting) }
+    {
+        if n < self.low {
+            return Err(Refused::Stale {
+                start: n,
+                low: self.low,
+            });
+        }
+        let row = self.find_foremost(alloc, n, pred, direction)?;
+        Ok(row)
+    }
+
     /// Returns a copy of the row under a key of a table after commit n, if there is one. Fails with `Stale` exactly if
     /// n is below the store's low, and with `NoMemory` if memory runs out. Takes time logarithmic in the number of
     /// rows, and linear in the size of the row and of its later patches.
@@ -137,6 +165,22 @@ impl Store {
         match self.tables.get(pred.table as usize) {
             Some(table) => find(alloc, table, n, pred),
             None => Ok(Rows::new(alloc)),
+        }
+    }
+
+    fn find_foremost(
+        &self,
+        alloc: Global,
+        n: u32,
+        pred: &Pred,
+        direction: Direction,
+    ) -> Result<Option<Keyed>, NoMemory>
+        requires { Admitted pred.now (rows_at (database_at self.now n) pred.now.table) }
+        ensures { IfOk result (λ row. row ≡ foremost direction (found_by pred.now (database_at self.now n))) }
+    {
+        match self.tables.get(pred.table as usize) {
+            Some(table) => find_foremost(alloc, table, n, pred, direction),
+            None => Ok(None),
         }
     }
 

@@ -6,13 +6,15 @@ ghost use Rattle.mv_values.specs.declared.value.Value.{Value};
 ghost use Rattle.mv_values.specs.declared.rows.Keyed.{Keyed};
 ghost use Rattle.mv_values.specs.Patching.{found_by, row_of};
 ghost use Rattle.mv_values.specs.Tables.{rows_at};
+ghost use Rattle.mv_table.specs.Scans.{foremost};
 ghost use Rattle.mv_record.specs.Admitting.{Admitted};
 ghost use Rattle.mv_view.specs.Viewing.{Sight, with_rows_call, with_row_call, answered, MayAnswer};
 ghost use Rattle.mv_store.specs.Stored.{database_at};
 
 use crate::store::Store;
+use mv_table::scan::Direction;
 use mv_values::pred::Pred;
-use mv_values::rows::Rows;
+use mv_values::rows::{Keyed, Rows};
 use mv_values::value::{Key, Row};
 use mv_view::view::{Refused, View};
 use std::alloc::Global;
@@ -58,6 +60,7 @@ impl<'a> StoreView<'a> {
     /// Counts an error that is `Stale`, and keeps its low.
     fn count(&mut self, refused: Refused)
         ensures rows { self.new ≡ answered {A = Seq Keyed} (Err refused) self.old }
+        ensures foremost { self.new ≡ answered {A = Opt Keyed} (Err refused) self.old }
         ensures row { self.new ≡ answered {A = Opt (Seq Value)} (Err refused) self.old }
         ensures fits { self.old.stale_answers < 2 ^ 64 }
     {
@@ -82,6 +85,28 @@ impl<'a> View for StoreView<'a> {
         self.rows_calls = self.rows_calls.saturating_add(1);
         match self.store.rows_at(alloc, self.start, pred) {
             Ok(rows) => Ok(rows),
+            Err(refused) => {
+                self.count(refused);
+                Err(refused)
+            }
+        }
+    }
+
+    fn foremost(
+        &mut self,
+        alloc: Global,
+        pred: &Pred,
+        direction: Direction,
+    ) -> Result<Option<Keyed>, Refused>
+        requires { Admitted pred.now (rows_at self.old.database pred.now.table) }
+        ensures found { IfOk result (λ row. row ≡ foremost direction (found_by pred.now self.old.database)) }
+        ensures counts { self.new ≡ answered result (with_rows_call self.old) }
+        ensures stale { MayAnswer self.old self.new result }
+        ensures late { self.old.may_be_stale ≡ true → is_err result ≡ true }
+    {
+        self.rows_calls = self.rows_calls.saturating_add(1);
+        match self.store.foremost_at(alloc, self.start, pred, direction) {
+            Ok(row) => Ok(row),
             Err(refused) => {
                 self.count(refused);
                 Err(refused)

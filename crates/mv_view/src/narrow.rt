@@ -1,10 +1,13 @@
 //! Finds the rows that a predicate matches.
 
 ghost use Rattle.std.specs.Prelude.{◌≡◌, IfOk};
+ghost use Rattle.std.specs.Option.{option_copied};
 ghost use Rattle.mv_values.specs.Keys.{IsRising};
+ghost use Rattle.mv_table.specs.Scans.{foremost};
 ghost use Rattle.mv_record.specs.Admitting.{Admitted};
 ghost use Rattle.mv_view.specs.Narrowing.{matching};
 
+use mv_table::scan::Direction;
 use mv_table::span::Span;
 use mv_values::copied::Copied;
 use mv_values::memory::NoMemory;
@@ -35,4 +38,37 @@ pub(crate) fn find(alloc: Global, pred: &Pred, rows: &[Keyed]) -> Result<Rows, N
 {
     let span = Span::of(alloc, pred.tests.as_slice())?;
     copy_matches(alloc, pred, span.part(rows))
+}
+
+/// Borrows the first row in this direction that the predicate matches.
+fn foremost_match<'a>(pred: &Pred, rows: &'a [Keyed], direction: Direction) -> Option<&'a Keyed>
+    ensures { option_copied result ≡ foremost direction (matching pred.now rows.now) }
+{
+    let mut left = rows;
+    while let Some((item, others)) = direction.split(left) {
+        if pred.matches(&item.row) {
+            return Some(item);
+        }
+        left = others;
+    }
+    None
+}
+
+/// Returns a copy of the first row of a table in this direction that the predicate matches. Scans the rows in the span
+/// of keys that the predicate's tests leave, up to that row. Finding the span costs the logarithm of the number of rows.
+pub(crate) fn find_foremost(
+    alloc: Global,
+    pred: &Pred,
+    rows: &[Keyed],
+    direction: Direction,
+) -> Result<Option<Keyed>, NoMemory>
+    requires rising { IsRising rows.now }
+    requires admitted { Admitted pred.now rows.now }
+    ensures { IfOk result (λ row. row ≡ foremost direction (matching pred.now rows.now)) }
+{
+    let span = Span::of(alloc, pred.tests.as_slice())?;
+    match foremost_match(pred, span.part(rows), direction) {
+        Some(item) => Ok(Some(item.copy(alloc)?)),
+        None => Ok(None),
+    }
 }

@@ -5,9 +5,11 @@ ghost use Rattle.std.specs.Option.{option_copied};
 ghost use Rattle.mv_values.specs.Keys.{IsRising};
 ghost use Rattle.mv_values.specs.Patching.{found_by, row_of};
 ghost use Rattle.mv_values.specs.Tables.{rows_at};
+ghost use Rattle.mv_table.specs.Scans.{foremost};
 
-use crate::narrow::find;
+use crate::narrow::{find, find_foremost};
 use crate::view::{Refused, View};
+use mv_table::scan::Direction;
 use mv_values::copied::Copied;
 use mv_values::memory::NoMemory;
 use mv_values::pred::Pred;
@@ -87,6 +89,17 @@ impl<'a> View for Plain<'a> {
         self.rows_calls = self.rows_calls.saturating_add(1);
         let found = find(alloc, pred, rows_in(self.tables, pred.table))?;
         Ok(found)
+    }
+
+    fn foremost(
+        &mut self,
+        alloc: Global,
+        pred: &Pred,
+        direction: Direction,
+    ) -> Result<Option<Keyed>, Refused> {
+        self.rows_calls = self.rows_calls.saturating_add(1);
+        let row = find_foremost(alloc, pred, rows_in(self.tables, pred.table), direction)?;
+        Ok(row)
     }
 
     fn row(&mut self, alloc: Global, table: u8, key: &Key) -> Result<Option<Row>, Refused> {
