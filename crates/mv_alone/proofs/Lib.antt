@@ -6,3 +6,4 @@ pub mod Once
 pub mod Spanning
 pub mod Ranking
 pub mod Standing
+pub mod FirstRows

@@ -25,7 +25,7 @@ passes_at (check ∷ checks) row zero d lt h = (both_so (passes row check) (meet
 passes_at (check ∷ checks) row (suc i) d lt h = passes_at checks row i d (omega (arith, lt)) (both_so (passes row check) (meets checks row) h).1
 
 -- the value at a place of a row's key
-key_column : (row : List Value) (keys : List ℕ) (place : ℕ) → place < length keys → column_of (columns_of row keys) place ≡ column_of row (slice_index_or keys place 0)
+pub key_column : (row : List Value) (keys : List ℕ) (place : ℕ) → place < length keys → column_of (columns_of row keys) place ≡ column_of row (slice_index_or keys place 0)
 key_column row [] place lt = absurd (omega (arith, lt))
 key_column row (k ∷ ks) zero lt = refl
 key_column row (k ∷ ks) (suc place) lt = key_column row ks place (omega (arith, lt))

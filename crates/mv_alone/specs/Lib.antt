@@ -8,3 +8,4 @@ pub mod Alone
 pub mod TableAfter
 pub mod Own
 pub mod Once
+pub mod FirstRows

@@ -73,7 +73,7 @@ pub(crate) fn order_of(row: &[Value], c: u16, other: &Value) -> Ordering
 }
 
 /// Whether the row passes every test.
-fn is_match(checks: &[Check], row: &[Value]) -> bool
+pub(crate) fn is_match(checks: &[Check], row: &[Value]) -> bool
     ensures { result ≡ meets checks.now row.now }
 {
     for check in checks {
@@ -85,7 +85,7 @@ fn is_match(checks: &[Check], row: &[Value]) -> bool
 }
 
 /// Returns the place of a column in the key, if it is a key column.
-fn place_in_key(keys: &[u8], column: u16) -> Option<u8>
+pub(crate) fn place_in_key(keys: &[u8], column: u16) -> Option<u8>
     ensures { IfSome result (λ place. (place < length keys.now) × (slice_index_or keys.now place 0 ≡ column)) }
 {
     for place in 0..u8::MAX {
@@ -100,7 +100,11 @@ fn place_in_key(keys: &[u8], column: u16) -> Option<u8>
 }
 
 /// Returns those of the tests that are on key columns, as tests of the key.
-fn key_tests(alloc: Global, keys: &[u8], checks: &[Check]) -> Result<List<Test>, NoMemory>
+pub(crate) fn key_tests(
+    alloc: Global,
+    keys: &[u8],
+    checks: &[Check],
+) -> Result<List<Test>, NoMemory>
     ensures { IfOk result (λ tests. (row : List Value) → meets checks.now row ≡ true → Admits tests (columns_of row keys.now)) }
 {
     let mut tests = List::new(alloc);

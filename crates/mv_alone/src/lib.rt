@@ -2,11 +2,14 @@
 //! that match, and the rows that are made.
 #![tactic(auto)]
 
+pub mod chosen;
 pub mod enter;
 pub mod env;
 pub mod expr;
+pub mod extremes;
 pub mod find;
 pub mod fixing;
+mod foremost;
 pub mod line;
 pub mod made;
 pub mod order;

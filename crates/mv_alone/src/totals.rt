@@ -92,8 +92,12 @@ fn best_in<'a, R: Stored>(highest: bool, c: u16, rows: &'a [R]) -> Option<&'a R>
     best
 }
 
-/// Returns the value of a column, if there is a row.
-fn value_in<R: Stored>(alloc: Global, c: u16, item: Option<&R>) -> Result<Option<Value>, NoMemory>
+/// Returns a copy of the value of a column, if there is a row.
+pub fn value_in<R: Stored>(
+    alloc: Global,
+    c: u16,
+    item: Option<&R>,
+) -> Result<Option<Value>, NoMemory>
     ensures { IfOk result (λ v. v ≡ option_map (λ i. column_of (R.keyed i).row c) (option_copied item.entry)) }
 {
     match item {

@@ -1,6 +1,6 @@
 -- What the changes of UPDATE, DELETE and INSERT make of a table whose keys rise.
 use Rattle.std.proofs.Common.{rules, ◌≡◌, ℕ, suc, Bool, true, false, cond, List, [], ◌∷◌, Option, Some, None, Result, Ok, Err, length, slice_set, refl, sym, ap, subst, ◌∙◌}
-use Rattle.std.specs.Prelude.{not, nat_lt, map}
+use Rattle.std.specs.Prelude.{not, nat_lt}
 use Rattle.std.specs.Option.{is_some}
 use Rattle.std.specs.Ordering.{is_eq}
 use Rattle.std.proofs.lemmas.List.{set-get_or}
@@ -22,7 +22,7 @@ use Rattle.mv_alone.specs.Outcome.{then_do, Fails}
 use Rattle.mv_alone.specs.Rows.{meets, matching, is_some_row}
 use Rattle.mv_alone.specs.Changes.{updated, without, put_row}
 use Rattle.mv_serial.specs.declared.change.Change.{Change}
-use Rattle.mv_serial.specs.Changing.{changed, changed_by, renewals, removals}
+use Rattle.mv_serial.specs.Changing.{changed_by, renewals, removals}
 use Rattle.mv_serial.proofs.Changing.{Tables, changed_again}
 use Rattle.mv_serial.proofs.Tabling.{table_with}
 
@@ -239,7 +239,3 @@ puts_none None new db after t h k = cc
 puts_none (Some row) new db after t h k = k
 
 -- SELECT with an aggregate
-
-pub some_seen : {A : Type 0} (f : A → Keyed) (xs : List A) (items : List Keyed) → map f xs ≡ items → nat_lt 0 (length xs) ≡ is_some_row items
-some_seen f [] items h = ap is_some_row h
-some_seen f (x ∷ xs) items h = positive (length xs) ∙ ap is_some_row h

@@ -1,11 +1,9 @@
 -- Statements that change a table, from what becomes of its rows.
-use Rattle.std.proofs.Common.{◌≡◌, ℕ, Bool, List, Option, Result, Ok, Err, slice_set, refl, sym, ap, ◌∙◌}
+use Rattle.std.proofs.Common.{◌≡◌, ℕ, Bool, List, Result, Ok, Err, slice_set, refl, sym, ap, ◌∙◌}
 use Rattle.mv_values.specs.declared.rows.Keyed.{Keyed}
 use Rattle.mv_values.specs.declared.schema.TableInfo.{TableInfo}
 use Rattle.mv_values.specs.declared.calls.End.{End}
 use Rattle.mv_values.specs.Tables.{key_columns, columns_at, rows_at}
-use Rattle.mv_values.specs.declared.value.Value.{Value}
-use Rattle.mv_catalog.specs.declared.resolved.RAgg.{RAgg}
 use Rattle.mv_catalog.specs.declared.resolved.RCond.{RCond}
 use Rattle.mv_catalog.specs.declared.resolved.RSetItem.{RSetItem}
 use Rattle.mv_alone.specs.declared.state.Check.{Check}
@@ -14,9 +12,9 @@ use Rattle.mv_alone.specs.declared.state.Stop.{Stop}
 use Rattle.mv_alone.specs.declared.state.Stop.TheVariants.{Memory, Ended}
 use Rattle.mv_alone.specs.Outcome.{then_do, Fails}
 use Rattle.mv_alone.specs.Env.{with_found}
-use Rattle.mv_alone.specs.Rows.{checks_of, is_some_row, aggregate}
+use Rattle.mv_alone.specs.Rows.{checks_of, is_some_row}
 use Rattle.mv_alone.specs.Changes.{set_row, updated, without}
-use Rattle.mv_alone.specs.Alone.{update, delete, sum_up, totalled, matches, with_rows}
+use Rattle.mv_alone.specs.Alone.{update, delete, matches, with_rows}
 use Rattle.mv_serial.proofs.Changing.{Tables}
 
 -- the database with the rows that a table gets
@@ -57,7 +55,3 @@ update_fails tables t items conds st checks (Ended e) h k =
 pub delete_ok : (t : ℕ) (conds : List RCond) (st : State) (checks : List Check) (new : Tables) → checks_of conds st.env ≡ Ok checks → new ≡ slice_set st.tables t (without checks (rows_at st.tables t))
     → delete t conds st ≡ Ok (record st { env = with_found st.env (is_some_row (matches t checks st)); tables = new })
 delete_ok t conds st checks new h is = rw h (ap (λ (d : Tables). Ok (record st { env = with_found st.env (is_some_row (matches t checks st)); tables = d })) (sym is))
-
-pub total_ok : (agg : RAgg) (x t : ℕ) (conds : List RCond) (st : State) (checks : List Check) (v : Option Value) → checks_of conds st.env ≡ Ok checks → aggregate agg (matches t checks st) ≡ Ok v
-    → sum_up agg x t conds st ≡ Ok (record st { env = with_found (totalled x v st.env) (is_some_row (matches t checks st)) })
-total_ok agg x t conds st checks v h k = rw (h, k) refl

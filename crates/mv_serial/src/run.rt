@@ -5,11 +5,11 @@ ghost use Rattle.mv_values.specs.Tables.{KeysStand};
 ghost use Rattle.mv_alone.specs.Outcome.{Leaves};
 ghost use Rattle.mv_alone.specs.Alone.{assign, select, print};
 
+use mv_alone::chosen::chosen_in;
 use mv_alone::env::{set_columns, set_found, set_value};
 use mv_alone::expr::{number_in, offset, value, values};
-use mv_alone::find::{checks_from, matches_in};
+use mv_alone::find::checks_from;
 use mv_alone::line::line_from;
-use mv_alone::order::chosen_row;
 use mv_alone::state::{State, Stop};
 use mv_catalog::resolved::{RCond, RExpr, RSort};
 use mv_values::schema::TableInfo;
@@ -48,8 +48,15 @@ pub(crate) fn run_select(
 {
     let checks = checks_from(alloc, conds, &state.env)?;
     let at = offset(alloc, skip, &state.env)?;
-    let near = matches_in(alloc, infos, &state.tables, table, checks.as_slice())?;
-    let found = chosen_row(alloc, sorts, near.as_slice(), number_in(&at))?;
+    let found = chosen_in(
+        alloc,
+        infos,
+        &state.tables,
+        table,
+        checks.as_slice(),
+        sorts,
+        number_in(&at),
+    )?;
     match found {
         None => set_found(&mut state.env, false)?,
         Some(item) => {

@@ -7,9 +7,9 @@ ghost use Rattle.mv_alone.specs.Alone.{sum_up, totalled};
 ghost use Rattle.mv_alone.specs.Env.{with_found};
 
 use mv_alone::env::{set_found, set_value};
-use mv_alone::find::{checks_from, matches_in};
+use mv_alone::extremes::total_of;
+use mv_alone::find::checks_from;
 use mv_alone::state::{Env, State, Stop};
-use mv_alone::totals::aggregate_of;
 use mv_catalog::resolved::{RAgg, RCond};
 use mv_values::memory::NoMemory;
 use mv_values::schema::TableInfo;
@@ -44,10 +44,7 @@ pub(crate) fn run_total(
     ensures does { Leaves result state.new (sum_up agg to table conds.now state.old) }
 {
     let checks = checks_from(alloc, conds, &state.env)?;
-    let matches = matches_in(alloc, infos, &state.tables, table, checks.as_slice())?;
-    let rows = matches.as_slice();
-    let found = rows.len() > 0;
-    let value = aggregate_of(alloc, agg, rows)?;
+    let (value, found) = total_of(alloc, infos, &state.tables, agg, table, checks.as_slice())?;
     store_total(&mut state.env, to, value, found)?;
     Ok(())
 }

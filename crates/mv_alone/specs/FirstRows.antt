@@ -1,0 +1,51 @@
+-- Defines when the first or the last row in key order is enough. This project's own.
+use Rattle.std.specs.Prelude.{◌≡◌, ℕ, pos, Bool, true, List, Option, All, AllPairs, Result, Ok}
+use Rattle.std.specs.Option.{option_map}
+use Rattle.std.specs.Ordering.{is_le}
+use Rattle.std.specs.declared.cmp.Ordering.TheVariants.{Less}
+use Rattle.mv_values.specs.declared.value.Value.{Value}
+use Rattle.mv_values.specs.declared.pred.Test.{Test}
+use Rattle.mv_values.specs.declared.rows.Keyed.{Keyed}
+use Rattle.mv_values.specs.declared.calls.End.{End}
+use Rattle.mv_values.specs.Columns.{column_of}
+use Rattle.mv_values.specs.Keys.{IsRising}
+use Rattle.mv_values.specs.Order.{value_order}
+use Rattle.mv_table.specs.declared.scan.Direction.{Direction}
+use Rattle.mv_table.specs.Scans.{foremost}
+use Rattle.mv_table.specs.Spans.{Admits}
+use Rattle.mv_catalog.specs.declared.resolved.RAgg.{RAgg}
+use Rattle.mv_catalog.specs.declared.resolved.RSort.{RSort}
+use Rattle.mv_alone.specs.declared.state.Check.{Check}
+use Rattle.mv_alone.specs.Outcome.{then_do}
+use Rattle.mv_alone.specs.Own.{StandUnder}
+use Rattle.mv_alone.specs.Rows.{meets, aggregate, is_some_row, item_at, ordered}
+
+-- the value of an aggregate over rows, and whether there are any
+abbrev pub total_found : RAgg → List Keyed → Result (Option Value × Bool) End
+total_found agg rows = then_do (aggregate agg rows) (λ v. Ok (v, is_some_row rows))
+
+-- the tests admit the key of each row that matches
+abbrev pub AdmitMatches : List Test → List Check → List Keyed → Type 0
+AdmitMatches tests checks rows = All (λ item. meets checks item.row ≡ true → Admits tests item.key) rows
+
+-- rows in key order, each under its own key, which the tests admit
+pub record AreAdmitted (keys : List ℕ) (tests : List Test) (rows : List Keyed) : Type 0 where
+  pub rising : IsRising rows
+  pub own : StandUnder keys rows
+  pub admitted : All (λ item. Admits tests item.key) rows
+
+-- from such a row to a later one the value of the column never falls
+abbrev pub NeverFalls : List ℕ → List Test → ℕ → Type 0
+NeverFalls keys tests c = (rows : List Keyed) → AreAdmitted keys tests rows → AllPairs (λ (a b : Keyed). is_le (value_order (column_of a.row c) (column_of b.row c)) ≡ true) rows
+
+-- it rises
+abbrev pub Rises : List ℕ → List Test → ℕ → Type 0
+Rises keys tests c = (rows : List Keyed) → AreAdmitted keys tests rows → AllPairs (λ (a b : Keyed). value_order (column_of a.row c) (column_of b.row c) ≡ Less) rows
+
+-- of such rows the first one in this direction has the value of the aggregate in the column
+abbrev pub Tells : RAgg → List ℕ → List Test → ℕ → Direction → Type 0
+Tells agg keys tests c direction = (rows : List Keyed) → AreAdmitted keys tests rows → aggregate agg rows ≡ Ok (option_map (λ item. column_of item.row c) (foremost direction rows))
+
+-- of such rows the first one in this direction is the first in ORDER BY order
+abbrev pub Leads : List RSort → List ℕ → List Test → Direction → Type 0
+Leads sorts keys tests direction = (rows : List Keyed) → AreAdmitted keys tests rows → item_at (ordered sorts rows) (pos 0) ≡ foremost direction rows

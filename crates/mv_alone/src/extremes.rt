@@ -1,0 +1,90 @@
+//! Evaluates aggregates over the rows of a table that match. MIN or MAX of a key column needs only one of them.
+
+ghost use Rattle.std.specs.Prelude.{◌≡◌, IfSome};
+ghost use Rattle.mv_values.specs.Tables.{rows_at, KeysStand};
+ghost use Rattle.mv_alone.specs.Outcome.{Gives};
+ghost use Rattle.mv_alone.specs.Rows.{matching};
+ghost use Rattle.mv_alone.specs.FirstRows.{NeverFalls, Tells, total_found};
+
+use crate::find::{key_in, key_tests, matches_in};
+use crate::foremost::{foremost_in, never_falls};
+use crate::state::{Check, Stop};
+use crate::totals::{aggregate_of, value_in};
+use mv_catalog::resolved::RAgg;
+use mv_table::scan::Direction;
+use mv_table::table::Tables;
+use mv_values::pred::Test;
+use mv_values::schema::TableInfo;
+use mv_values::value::Value;
+use std::alloc::Global;
+
+/// Returns this column and direction if the value of the column never falls from a row that the tests admit to a later
+/// one.
+fn told_by(
+    keys: &[u8],
+    tests: &[Test],
+    column: u16,
+    direction: Direction,
+) -> Option<(u16, Direction)>
+    ensures { IfSome result (λ t. (t.0 ≡ column) × (t.1 ≡ direction) × NeverFalls keys.now tests.now column) }
+{
+    if never_falls(keys, tests, column) {
+        Some((column, direction))
+    } else {
+        None
+    }
+}
+
+/// Returns the column of MIN or MAX, and the direction in which the first row that the tests admit tells its value.
+/// Returns none if more rows may be needed. Takes time linear in the number of key columns and of tests.
+pub fn telling(agg: RAgg, keys: &[u8], tests: &[Test]) -> Option<(u16, Direction)>
+    ensures { IfSome result (λ t. Tells agg keys.now tests.now t.0 t.1) }
+{
+    match agg {
+        RAgg::Min(column) => told_by(keys, tests, column, Direction::Forward),
+        RAgg::Max(column) => told_by(keys, tests, column, Direction::Backward),
+        RAgg::CountAll | RAgg::CountDistinct(_) | RAgg::Sum(_) => None,
+    }
+}
+
+/// Returns the value of an aggregate over all rows that match, and whether there are any.
+fn total_of_all(
+    alloc: Global,
+    infos: &[TableInfo],
+    tables: &Tables,
+    agg: RAgg,
+    table: u16,
+    checks: &[Check],
+) -> Result<(Option<Value>, bool), Stop>
+    requires { KeysStand infos.now tables.now }
+    ensures { Gives result (total_found agg (matching checks.now (rows_at tables.now table))) }
+{
+    let found = matches_in(alloc, infos, tables, table, checks)?;
+    let rows = found.as_slice();
+    let value = aggregate_of(alloc, agg, rows)?;
+    Ok((value, !rows.is_empty()))
+}
+
+/// Returns the value of an aggregate over the rows of a table that match, and whether there are any. MIN and MAX of a
+/// key column visit the rows up to the first one that matches from their end, where `=` fixes all key columns before it.
+/// Otherwise it visits all rows in the span of keys that the tests leave. Fails as `aggregate_of`.
+pub fn total_of(
+    alloc: Global,
+    infos: &[TableInfo],
+    tables: &Tables,
+    agg: RAgg,
+    table: u16,
+    checks: &[Check],
+) -> Result<(Option<Value>, bool), Stop>
+    requires { KeysStand infos.now tables.now }
+    ensures { Gives result (total_found agg (matching checks.now (rows_at tables.now table))) }
+{
+    let keys = key_in(infos, table);
+    let tests = key_tests(alloc, keys, checks)?;
+    let Some((column, direction)) = telling(agg, keys, tests.as_slice()) else {
+        return total_of_all(alloc, infos, tables, agg, table, checks);
+    };
+    let row = foremost_in(alloc, tables, table, tests.as_slice(), checks, direction)?;
+    let value = value_in(alloc, column, row.as_ref())?;
+    Ok((value, row.is_some()))
+}

@@ -1,0 +1,96 @@
+//! Finds the first row that matches, from either end of a table.
+
+ghost use Rattle.std.specs.Prelude.{◌≡◌, true, IfOk};
+ghost use Rattle.std.specs.Option.{option_map};
+ghost use Rattle.mv_values.specs.Keys.{IsRising};
+ghost use Rattle.mv_values.specs.Tables.{rows_at};
+ghost use Rattle.mv_table.specs.Entries.{seen, stored};
+ghost use Rattle.mv_table.specs.Scans.{foremost};
+ghost use Rattle.mv_alone.specs.Rows.{matching};
+ghost use Rattle.mv_alone.specs.FirstRows.{NeverFalls, Rises, AdmitMatches};
+
+use crate::find::{is_match, place_in_key};
+use crate::state::Check;
+use mv_table::scan::Direction;
+use mv_table::span::{Span, is_fixed_before};
+use mv_table::table::{Entry, Table, Tables};
+use mv_values::memory::NoMemory;
+use mv_values::pred::Test;
+use mv_values::value::{Key, Row};
+use std::alloc::Global;
+use std::collections::btree_map::Range;
+
+/// Whether a column is a key column, and `=` fixes all key columns before it. Then its value never falls from a row
+/// that the tests admit to a later one.
+pub(crate) fn never_falls(keys: &[u8], tests: &[Test], column: u16) -> bool
+    ensures { result ≡ true → NeverFalls keys.now tests.now column }
+{
+    match place_in_key(keys, column) {
+        Some(place) => is_fixed_before(tests, place as usize),
+        None => false,
+    }
+}
+
+/// Whether a column is the last key column, and `=` fixes all others. Then its value rises from each row that the tests
+/// admit to the next.
+pub(crate) fn rises(keys: &[u8], tests: &[Test], column: u16) -> bool
+    ensures { result ≡ true → Rises keys.now tests.now column }
+{
+    match place_in_key(keys, column) {
+        Some(place) if place as usize + 1 == keys.len() => is_fixed_before(tests, place as usize),
+        _ => false,
+    }
+}
+
+/// Borrows the first of these rows in this direction that matches.
+fn foremost_match<'a>(
+    rows: Range<'a, Key, Row>,
+    checks: &[Check],
+    direction: Direction,
+) -> Option<Entry<'a>>
+    ensures { option_map seen result ≡ foremost direction (matching checks.now (stored rows.entry)) }
+{
+    let mut left = rows;
+    while let Some((key, row)) = direction.take_next(&mut left) {
+        if is_match(checks, row.as_slice()) {
+            return Some(Entry { key, row });
+        }
+    }
+    None
+}
+
+/// Borrows the first row of a table in this direction that matches. Of the rows in the span of keys that the tests leave
+/// it visits those up to that row. The tests must admit the key of each row that matches.
+fn foremost_of<'a>(
+    alloc: Global,
+    table: &'a Table,
+    tests: &[Test],
+    checks: &[Check],
+    direction: Direction,
+) -> Result<Option<Entry<'a>>, NoMemory>
+    requires { AdmitMatches tests.now checks.now table.now }
+    ensures row { IfOk result (λ row. option_map seen row ≡ foremost direction (matching checks.now table.now)) }
+    ensures rising { IfOk result (λ row. IsRising table.now) }
+{
+    let span = Span::of(alloc, tests)?;
+    Ok(foremost_match(table.range(&span), checks, direction))
+}
+
+/// Does the same by the number of the table. Borrows none if there is no such table.
+pub(crate) fn foremost_in<'a>(
+    alloc: Global,
+    tables: &'a Tables,
+    table: u16,
+    tests: &[Test],
+    checks: &[Check],
+    direction: Direction,
+) -> Result<Option<Entry<'a>>, NoMemory>
+    requires { AdmitMatches tests.now checks.now (rows_at tables.now table) }
+    ensures row { IfOk result (λ row. option_map seen row ≡ foremost direction (matching checks.now (rows_at tables.now table))) }
+    ensures rising { IfOk result (λ row. IsRising (rows_at tables.now table)) }
+{
+    match tables.as_slice().get(table as usize) {
+        Some(rows) => foremost_of(alloc, rows, tests, checks, direction),
+        None => Ok(None),
+    }
+}
