@@ -8,3 +8,4 @@ pub mod Ends
 pub mod WellNamed
 pub mod AllRows
 pub mod Different
+pub mod Told

@@ -3,3 +3,4 @@ pub mod Targets
 pub mod Naming
 pub mod Looking
 pub mod Choosing
+pub mod Totalling

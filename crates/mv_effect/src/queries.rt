@@ -1,12 +1,16 @@
 //! Statements that read a table and change none.
 
-ghost use Rattle.std.specs.Prelude.{◌≡◌, ◌<◌, ◌≤◌, ◌^◌, ℕ, IfOk, List, [], All, length};
+ghost use Rattle.std.specs.Prelude.{◌≡◌, ◌<◌, ◌≤◌, ◌^◌, ℕ, pos, IfOk, IfSome, List, [], All, length};
+ghost use Rattle.std.specs.Option.{is_some, option_map};
 ghost use Rattle.mv_values.specs.Keys.{IsRising};
-ghost use Rattle.mv_values.specs.Patching.{applied};
+ghost use Rattle.mv_values.specs.Columns.{column_of};
+ghost use Rattle.mv_values.specs.Patching.{applied, found_by};
+ghost use Rattle.mv_values.specs.Tables.{key_columns};
 ghost use Rattle.mv_catalog.specs.declared.resolved.RStmt.{RStmt};
 ghost use Rattle.mv_catalog.specs.declared.resolved.RStmt.TheOpen as layer;
 ghost use Rattle.mv_catalog.specs.Text.{IsTable};
 ghost use Rattle.mv_alone.specs.Alone.{fixed};
+ghost use Rattle.mv_alone.specs.FirstRows.{Leads};
 ghost use Rattle.mv_alone.specs.Rows.{aggregate, is_some_row, item_at, matching, ordered};
 ghost use Rattle.mv_recorded.specs.Asking.{column_in, with_sorts, KnowsKey};
 ghost use Rattle.mv_undo.specs.Owning.{earlier};
@@ -14,20 +18,25 @@ ghost use Rattle.mv_view.specs.Viewing.{MayAnswer};
 ghost use Rattle.mv_recorded.specs.Effects.{IsEffect, asks, asked_by, asked_then, row_number, going, taking, totalling};
 ghost use Rattle.mv_effect.specs.Looking.{Stands, IsSameView, PassesOn, different, AskedAtMost, AskedFor};
 ghost use Rattle.mv_effect.specs.Naming.{Tests, AreColumns};
+ghost use Rattle.mv_effect.specs.Totalling.{total_asked};
 
 use crate::context::Context;
 use crate::effect::{one, set_effect, stop_effect, stop_result};
 use crate::predicates::{aggregate_pred, select_pred};
-use crate::rows::visible_rows;
+use crate::rows::{first_visible, visible_rows};
 use crate::slots::{found_alone, select_slots, total_slots};
 use crate::tableless::has_turn;
+use mv_alone::chosen::leading;
 use mv_alone::expr::{number_in, offset};
+use mv_alone::extremes::telling;
+use mv_alone::find::key_in;
 use mv_alone::fixing::fixed_rows;
 use mv_alone::order::chosen_row;
 use mv_alone::state::Env;
-use mv_alone::totals::aggregate_of;
+use mv_alone::totals::{aggregate_of, value_in};
 use mv_catalog::resolved::{RAgg, RCond, RExpr, RSort};
 use mv_record::effect::Effect;
+use mv_table::scan::Direction;
 use mv_values::list::List;
 use mv_values::memory::NoMemory;
 use mv_values::pred::Pred;
@@ -92,6 +101,71 @@ fn select_effect(
     set_effect(alloc, pred, sets)
 }
 
+/// Returns the effect of a SELECT that asked this and takes this row.
+fn taken_effect(
+    alloc: Global,
+    env: &Env,
+    columns: &[u16],
+    to: &[u16],
+    pred: Pred,
+    row: Option<Keyed>,
+) -> Result<Effect, NoMemory>
+    requires { env.now.found < 2 ^ 16 }
+    ensures { IfOk result (λ e. e ≡ taking pred columns.now to.now row env.now) }
+{
+    let sets = select_slots(alloc, env, columns, to, row.as_ref())?;
+    set_effect(alloc, pred, sets)
+}
+
+/// Returns the direction in which the first row that the predicate finds is the one with this number in ORDER BY order.
+/// Returns none if more rows may be needed.
+fn leading_at(context: &Context<'_>, sorts: &[RSort], pred: &Pred, at: i64) -> Option<Direction>
+    ensures first { IfSome result (λ d. at ≡ pos 0) }
+    ensures leads { IfSome result (Leads sorts.now (key_columns context.now.tables.now pred.now.table) pred.now.tests) }
+{
+    if at != 0 {
+        return None;
+    }
+    let keys = key_in(context.tables, pred.table as u16);
+    leading(sorts, keys, pred.tests.as_slice())
+}
+
+/// Returns the effect of a SELECT that asks this and takes the row with this number. It asks the view for one row, where
+/// that is the first or the last in key order and none of the call's own writes matters.
+fn select_asked<V: View>(
+    alloc: Global,
+    context: &Context<'_>,
+    columns: &[u16],
+    to: &[u16],
+    sorts: &[RSort],
+    asked: (Pred, i64),
+    view: &mut V,
+) -> Result<Effect, Refused>
+    requires stands { Stands context.now.tables.now (earlier context.now.number context.now.undo.now) (V.sight view.old).database }
+    requires found { context.now.env.now.found < 2 ^ 16 }
+    requires knows { KnowsKey context.now.tables.now asked.0 }
+    ensures effect { IfOk result (λ e. e ≡ taking asked.0 columns.now to.now (item_at (ordered sorts.now (found_by asked.0 (applied (earlier context.now.number context.now.undo.now) (V.sight view.old).database))) asked.1) context.now.env.now) }
+    ensures refused { MayAnswer (V.sight view.old) (V.sight view.new) result }
+    ensures stale { PassesOn (V.sight view.old) (V.sight view.new) result }
+    ensures same { IsSameView (V.sight view.old) (V.sight view.new) }
+    ensures looks { AskedAtMost 1 (different (earlier context.now.number context.now.undo.now)) (V.sight view.old) (V.sight view.new) }
+{
+    if let Some(direction) = leading_at(context, sorts, &asked.0, asked.1) {
+        let row = first_visible(alloc, context, &asked.0, direction, view)?;
+        return Ok(taken_effect(alloc, context.env, columns, to, asked.0, row)?);
+    }
+    let rows = visible_rows(alloc, context, &asked.0, view)?;
+    Ok(select_effect(
+        alloc,
+        context.env,
+        columns,
+        to,
+        sorts,
+        asked,
+        rows.as_slice(),
+    )?)
+}
+
 /// Returns the effect of SELECT INTO: it sets its targets to the columns of the chosen row, if there is one, and sets
 /// `:found`. The call ends if a right side of WHERE or OFFSET is stopped.
 pub(crate) fn select<V: View>(
@@ -120,16 +194,7 @@ pub(crate) fn select<V: View>(
         Ok(asked) => asked,
         Err(end) => return Ok(end),
     };
-    let rows = visible_rows(alloc, context, &asked.0, view)?;
-    Ok(select_effect(
-        alloc,
-        context.env,
-        columns,
-        to,
-        sorts,
-        asked,
-        rows.as_slice(),
-    )?)
+    select_asked(alloc, context, columns, to, sorts, asked, view)
 }
 
 /// Returns the effect of an aggregate that asked this and yields this.
@@ -166,6 +231,50 @@ fn aggregate_effect(
     }
 }
 
+/// Returns the effect of MIN or MAX that asked this, where this row tells its value.
+fn told_effect(
+    alloc: Global,
+    env: &Env,
+    column: u16,
+    to: u16,
+    pred: Pred,
+    row: Option<Keyed>,
+) -> Result<Effect, NoMemory>
+    requires { env.now.found < 2 ^ 16 }
+    ensures { IfOk result (λ e. e ≡ totalling pred to (option_map (λ item. column_of item.row column) row) (is_some row) env.now) }
+{
+    let total = value_in(alloc, column, row.as_ref())?;
+    total_effect(alloc, env, to, pred, total, row.is_some())
+}
+
+/// Returns the effect of an aggregate that asks this. MIN and MAX of a key column ask the view for one row, where `=`
+/// fixes all key columns before it and none of the call's own writes matters.
+fn aggregate_asked<V: View>(
+    alloc: Global,
+    context: &Context<'_>,
+    agg: RAgg,
+    to: u16,
+    pred: Pred,
+    view: &mut V,
+) -> Result<Effect, Refused>
+    requires stands { Stands context.now.tables.now (earlier context.now.number context.now.undo.now) (V.sight view.old).database }
+    requires found { context.now.env.now.found < 2 ^ 16 }
+    requires knows { KnowsKey context.now.tables.now pred }
+    ensures effect { IfOk result (λ e. e ≡ total_asked agg to pred (found_by pred (applied (earlier context.now.number context.now.undo.now) (V.sight view.old).database)) context.now.env.now) }
+    ensures refused { MayAnswer (V.sight view.old) (V.sight view.new) result }
+    ensures stale { PassesOn (V.sight view.old) (V.sight view.new) result }
+    ensures same { IsSameView (V.sight view.old) (V.sight view.new) }
+    ensures looks { AskedAtMost 1 (different (earlier context.now.number context.now.undo.now)) (V.sight view.old) (V.sight view.new) }
+{
+    let keys = key_in(context.tables, pred.table as u16);
+    if let Some((column, direction)) = telling(agg, keys, pred.tests.as_slice()) {
+        let row = first_visible(alloc, context, &pred, direction, view)?;
+        return Ok(told_effect(alloc, context.env, column, to, pred, row)?);
+    }
+    let rows = visible_rows(alloc, context, &pred, view)?;
+    Ok(aggregate_effect(alloc, context.env, agg, to, pred, rows.as_slice())?)
+}
+
 /// Returns the effect of SELECT with an aggregate: it sets its target, if there is a total, and sets `:found`. The call
 /// ends if a right side of WHERE is stopped, or if a sum is out of range.
 pub(crate) fn total<V: View>(
@@ -192,8 +301,7 @@ pub(crate) fn total<V: View>(
         Ok(pred) => pred,
         Err(stop) => return stop_result(alloc, List::new(alloc), stop),
     };
-    let rows = visible_rows(alloc, context, &pred, view)?;
-    Ok(aggregate_effect(alloc, context.env, agg, to, pred, rows.as_slice())?)
+    aggregate_asked(alloc, context, agg, to, pred, view)
 }
 
 /// Returns the effect of a FOR that asked this and has these turns.

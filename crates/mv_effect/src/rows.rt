@@ -4,6 +4,7 @@ ghost use Rattle.std.specs.Prelude.{◌≡◌, ◌<◌, None, IfOk, OnOk, length
 ghost use Rattle.mv_values.specs.declared.value.Value.{Value};
 ghost use Rattle.mv_values.specs.Patching.{row_of, placed, applied, found_by};
 ghost use Rattle.mv_values.specs.Tables.{rows_at};
+ghost use Rattle.mv_table.specs.Scans.{foremost};
 ghost use Rattle.mv_alone.specs.Rows.{is_some_row};
 ghost use Rattle.mv_record.specs.Admitting.{Admitted};
 ghost use Rattle.mv_record.specs.Writes.{AreRising};
@@ -14,11 +15,13 @@ ghost use Rattle.mv_recorded.specs.Asking.{KnowsKey};
 
 use crate::context::Context;
 use mv_record::applying::put_row;
+use mv_table::scan::Direction;
 use mv_undo::undo::Undo;
+use mv_values::copied::Copied;
 use mv_values::list::List;
 use mv_values::memory::NoMemory;
 use mv_values::pred::Pred;
-use mv_values::rows::Rows;
+use mv_values::rows::{Keyed, Rows};
 use mv_values::value::Key;
 use mv_view::view::{Refused, View};
 use std::alloc::Global;
@@ -122,6 +125,46 @@ pub(crate) fn visible_rows<V: View>(
     ensures looks { AskedAtMost 1 (different (earlier context.now.number context.now.undo.now)) (V.sight view.old) (V.sight view.new) }
 {
     look(alloc, pred, context.undo, context.number, view)
+}
+
+/// Returns a copy of the row that a scan of these rows in this direction meets first.
+fn copy_foremost(
+    alloc: Global,
+    rows: &[Keyed],
+    direction: Direction,
+) -> Result<Option<Keyed>, NoMemory>
+    ensures { IfOk result (λ row. row ≡ foremost direction rows.now) }
+{
+    match direction.split(rows) {
+        Some((item, _others)) => Ok(Some(item.copy(alloc)?)),
+        None => Ok(None),
+    }
+}
+
+/// Returns the first row in this direction of those that `visible_rows` returns. Asks the view for that row alone if
+/// none of the call's own writes that the statement sees is on a key that the predicate admits. Otherwise it asks as
+/// `visible_rows` does.
+pub(crate) fn first_visible<V: View>(
+    alloc: Global,
+    context: &Context<'_>,
+    pred: &Pred,
+    direction: Direction,
+    view: &mut V,
+) -> Result<Option<Keyed>, Refused>
+    requires stands { Stands context.now.tables.now (earlier context.now.number context.now.undo.now) (V.sight view.old).database }
+    requires knows { KnowsKey context.now.tables.now pred.now }
+    ensures found { IfOk result (λ row. row ≡ foremost direction (found_by pred.now (applied (earlier context.now.number context.now.undo.now) (V.sight view.old).database))) }
+    ensures refused { MayAnswer (V.sight view.old) (V.sight view.new) result }
+    ensures stale { PassesOn (V.sight view.old) (V.sight view.new) result }
+    ensures same { IsSameView (V.sight view.old) (V.sight view.new) }
+    ensures looks { AskedAtMost 1 (different (earlier context.now.number context.now.undo.now)) (V.sight view.old) (V.sight view.new) }
+{
+    let keys = written_keys(alloc, pred, context.undo, context.number)?;
+    if keys.as_slice().is_empty() {
+        return view.foremost(alloc, pred, direction);
+    }
+    let rows = visible_rows(alloc, context, pred, view)?;
+    Ok(copy_foremost(alloc, rows.as_slice(), direction)?)
 }
 
 /// Whether there are any rows.

@@ -1,22 +1,23 @@
 use Rattle.std.proofs.Common.{◌∙◌, ap, sym}
+use Rattle.std.proofs.lemmas.Result.{IfOk-weaker}
 use Rattle.mv_values.specs.Patching.{applied}
 use Rattle.mv_recorded.specs.Asking.{with_sorts}
 use Rattle.mv_undo.specs.Owning.{earlier}
 use Rattle.mv_record.specs.declared.effect.Effect.{Effect}
 use Rattle.mv_recorded.specs.Effects.{asks, row_number}
 use Rattle.mv_effect.proofs.Asked.{asked_one}
-use Rattle.mv_recorded.proofs.Chosen.{both_asked, select_goes, select_unasked}
+use Rattle.mv_effect.proofs.Told.{select_found_done}
+use Rattle.mv_recorded.proofs.Chosen.{both_asked, select_unasked}
 use Rattle.mv_effect.proofs.queries.select.Goals as goal
 
 pub returns-clause-effect : goal.returns-clause-effect
-returns-clause-effect g c = λ lines.
+returns-clause-effect g c =
     let tables = c.args.context.now.tables.now in
     let env = c.args.context.now.env.now in
     let db = applied (earlier c.args.context.now.number c.args.context.now.undo.now) (g.V.View.sight c.args.view.now).database in
     let asked = both_asked (asks tables c.args.table c.args.conds.now (with_sorts c.args.columns.now c.args.sorts.now) env) (row_number c.args.at.now env) c.in-Ok.asked (sym c.in-Ok.is ∙ c.in_ok-asked.ensures.asks) in
-    let found = c.as_slice.ensures.items ∙ c.in_ok-rows.ensures.found in
-    c.in_ok-select_effect.ensures
-    ∙ select_goes tables c.args.columns.now c.args.to.now c.args.table c.args.conds.now c.args.sorts.now c.args.at.now env db c.in-Ok.asked.0 c.in-Ok.asked.1 c.as_slice.result.now asked.0 asked.1 found lines
+    IfOk-weaker c.select_asked.result _ _
+    (λ e is lines. is ∙ select_found_done tables c.args.columns.now c.args.to.now c.args.table c.args.conds.now c.args.sorts.now c.args.at.now env db c.in-Ok.asked.0 c.in-Ok.asked.1 asked.0 asked.1 lines) c.select_asked.ensures.effect
 
 pub returns-in-Err-clause-effect : goal.returns-in-Err-clause-effect
 returns-in-Err-clause-effect g c =
@@ -26,5 +27,8 @@ returns-in-Err-clause-effect g c =
 
 pub returns-clause-looks : goal.returns-clause-looks
 returns-clause-looks g c =
-    asked_one c.in_ok-select_effect.field-0.preds c.in-Ok.asked.0 (earlier c.args.context.now.number c.args.context.now.undo.now) (g.V.View.sight c.args.view.now) (g.V.View.sight c.visible_rows.new.view)
-    (ap (λ (e : Effect). e.preds) c.in_ok-select_effect.ensures) c.in_ok-rows.ensures.looks
+    IfOk-weaker c.select_asked.result _ _
+    (λ e is.
+    asked_one e.preds c.in-Ok.asked.0 (earlier c.args.context.now.number c.args.context.now.undo.now) (g.V.View.sight c.args.view.now) (g.V.View.sight c.select_asked.new.view) (ap (λ (f : Effect). f.preds) is)
+    c.select_asked.ensures.looks)
+    c.select_asked.ensures.effect
