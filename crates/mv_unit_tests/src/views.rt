@@ -9,6 +9,7 @@ ghost use Rattle.mv_view.specs.Viewing.{with_row_call};
 use crate::cases::{ensure, ensure_at};
 use crate::reports::accounts;
 use crate::values::row;
+use mv_table::scan::Direction;
 use mv_values::list::List;
 use mv_values::memory::NoMemory;
 use mv_values::op::Op;
@@ -118,6 +119,59 @@ fn found_as_told(alloc: Global, tables: &Database) -> Result<(), Fail> {
 fn rows_are_found_by_their_tests(rt: HostRuntime) -> Result<(), Fail> {
     let tables = database(rt.alloc())?;
     found_as_told(rt.alloc(), &tables)
+}
+
+/// A column, its comparison with a number, and the numbers of the first and of the last row that is found.
+type Ends = (u8, Op, i64, Option<i64>, Option<i64>);
+
+const ENDS: &[Ends] = &[
+    (0, Op::Eq, 3, Some(3), Some(3)),
+    (0, Op::Eq, 9, None, None),
+    (0, Op::Lt, 2, Some(0), Some(1)),
+    (1, Op::Eq, 100, Some(1), Some(4)),
+    (1, Op::Le, 99, Some(0), Some(0)),
+];
+
+/// Returns the number of the first row in this direction.
+fn end(
+    alloc: Global,
+    tables: &Database,
+    pred: &Pred,
+    direction: Direction,
+) -> Result<Option<i64>, Fail>
+    requires { Admitted pred.now (rows_at tables.now pred.now.table) }
+{
+    let mut view = Plain::new(tables);
+    match view.foremost(alloc, pred, direction) {
+        Ok(Some(item)) => Ok(number(&item.row, 0)),
+        Ok(None) => Ok(None),
+        Err(_) => Err("no answer".into()),
+    }
+}
+
+fn has_ends(alloc: Global, tables: &Database, case: &Ends) -> Result<bool, Fail> {
+    let (column, op, value, first, last) = *case;
+    let pred = where_is(alloc, column, op, value)?;
+    if !has_admitted(&pred, tables) {
+        return Err("a row that the predicate doesn't admit".into());
+    }
+    Ok(
+        end(alloc, tables, &pred, Direction::Forward)? == first
+            && end(alloc, tables, &pred, Direction::Backward)? == last,
+    )
+}
+
+fn ends_as_told(alloc: Global, tables: &Database) -> Result<(), Fail> {
+    for (i, case) in ENDS.iter().enumerate() {
+        ensure_at(alloc, has_ends(alloc, tables, case)?, i)?;
+    }
+    Ok(())
+}
+
+#[test]
+fn the_first_and_the_last_row_are_found(rt: HostRuntime) -> Result<(), Fail> {
+    let tables = database(rt.alloc())?;
+    ends_as_told(rt.alloc(), &tables)
 }
 
 /// Checks that the row under this key has this number in its second column, or that there is no row.
