@@ -1,5 +1,5 @@
 -- Lists without faults, and names found by their places.
-use Rattle.std.proofs.Common.{◌≡◌, ℕ, zero, suc, ◌+◌, ◌<◌, ◌≤◌, ◌-◌, ◌^◌, Bool, true, false, not, ◌||◌, List, [], ◌∷◌, ◌++◌, Option, Some, Result, Ok, Err, OnOk, refl, ap, map, drop, get_or, length, slice_get, arith, if◌then◌else◌, All}
+use Rattle.std.proofs.Common.{◌≡◌, ℕ, zero, suc, ◌+◌, ◌<◌, ◌≤◌, ◌-◌, ◌^◌, Bool, true, false, not, ◌||◌, List, [], ◌∷◌, ◌++◌, Option, Some, Result, Ok, Err, OnOk, refl, ap, ◌∙◌, map, drop, get_or, length, slice_get, arith, if◌then◌else◌, All}
 use Rattle.std.proofs.lemmas.Grind.{common_steps}
 use Rattle.std.specs.List.{flat_map, AllByRecursion}
 use Rattle.mv_ast.proofs.Limited.{nothing_left as neither_left}
@@ -44,16 +44,18 @@ small_is n h = omega arith
 pub tiny_is : (n : ℕ) → n ≤ 2 ^ 8 - 1 → tiny n ≡ n
 tiny_is n h = omega arith
 
-place_step : {A : Type 0} (x y : A) (xs : List A) (b : Bool) (first : Option A) (p : ℕ) → (if b then Some x else first) ≡ Some y → (first ≡ Some y → slice_get xs p ≡ Some y)
-    → slice_get (x ∷ xs) (if b then 0 else suc p) ≡ Some y
-place_step x y xs true first p h ih = h
-place_step x y xs false first p h ih = ih h
+place_step : {A : Type 0} (x : A) (xs : List A) (b : Bool) (first : Option A) (p : ℕ) → slice_get xs p ≡ first → slice_get (x ∷ xs) (if b then 0 else suc p) ≡ (if b then Some x else first)
+place_step x xs true first p ih = refl
+place_step x xs false first p ih = ih
 
 -- the first of a name stands at its place
+pub place_first : {A : Type 0} (name : A → Text) (xs : List A) (n : Text) → slice_get xs (place_named name xs n) ≡ first_named name xs n
+place_first name [] n = refl
+place_first name (x ∷ xs) n =
+    place_step x xs (same_text (name x) n) (first_named name xs n) (place_named name xs n) (place_first name xs n)
+
 pub place_found : {A : Type 0} (name : A → Text) (xs : List A) (n : Text) (y : A) → first_named name xs n ≡ Some y → slice_get xs (place_named name xs n) ≡ Some y
-place_found name [] n y h = cc
-place_found name (x ∷ xs) n y h =
-    place_step x y xs (same_text (name x) n) (first_named name xs n) (place_named name xs n) h (place_found name xs n y)
+place_found name xs n y h = place_first name xs n ∙ h
 
 pub map_map : {A B C : Type 0} (f : B → C) (g : A → B) (xs : List A) → map f (map g xs) ≡ map (λ x. f (g x)) xs
 map_map f g [] = refl

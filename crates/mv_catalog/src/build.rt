@@ -16,8 +16,8 @@ use mv_ast::tree::{
     Arg, CallDef, ColDef, CopyDef, LitRow, Name, Param, ParamKind, ProcDef, Span, TableDef, VarDef,
 };
 use mv_names::index::Index;
-use mv_names::named::place;
 use mv_names::parts::Parts;
+use mv_names::tables::{Table, with_columns};
 use mv_values::calls::{Argument, Call};
 use mv_values::copied::Copied;
 use mv_values::list::List;
@@ -42,28 +42,32 @@ fn described_columns(alloc: Global, columns: &[ColDef]) -> Result<List<Column>, 
 }
 
 /// Returns the indexes of the key columns, in the order of PRIMARY KEY.
-fn key_places(alloc: Global, columns: &[ColDef], key: &[Name]) -> Result<List<u8>, NoMemory>
+fn key_places(
+    alloc: Global,
+    columns: &Index<'_, ColDef>,
+    key: &[Name],
+) -> Result<List<u8>, NoMemory>
     ensures { IfOk result (λ all. all ≡ map (λ (n : NameValue). tiny (place_named column_name columns.now n.text)) key.now) }
 {
     let mut all = List::new(alloc);
     for name in key {
-        all.push(tiny_number(place(columns, &name.text)))?;
+        all.push(tiny_number(columns.place(&name.text)))?;
     }
     Ok(all)
 }
 
-fn table_info(alloc: Global, table: &TableDef) -> Result<TableInfo, NoMemory>
+fn table_info(alloc: Global, table: &Table<'_>) -> Result<TableInfo, NoMemory>
     ensures { IfOk result (λ t. t ≡ table_of table.now) }
 {
-    let columns = table.columns.as_slice();
+    let definition = table.definition();
     Ok(TableInfo {
-        name: table.name.text.copy(alloc)?,
-        columns: described_columns(alloc, columns)?,
-        key: key_places(alloc, columns, table.key.as_slice())?,
+        name: definition.name.text.copy(alloc)?,
+        columns: described_columns(alloc, definition.columns.as_slice())?,
+        key: key_places(alloc, table.columns(), definition.key.as_slice())?,
     })
 }
 
-fn table_infos(alloc: Global, tables: &[TableDef]) -> Result<List<TableInfo>, NoMemory>
+fn table_infos(alloc: Global, tables: &[Table<'_>]) -> Result<List<TableInfo>, NoMemory>
     ensures { IfOk result (λ all. all ≡ map table_of tables.now) }
 {
     let mut all = List::new(alloc);
@@ -146,7 +150,11 @@ fn defaults(alloc: Global, vars: &[VarDef]) -> Result<List<Value>, NoMemory>
 }
 
 /// Builds the body of a procedure. Its first loop has the number after that of `:found`.
-fn body(alloc: Global, tables: &[TableDef], definition: &ProcDef) -> Result<List<RStmt>, NoMemory>
+fn body(
+    alloc: Global,
+    tables: &Index<'_, Table<'_>>,
+    definition: &ProcDef,
+) -> Result<List<RStmt>, NoMemory>
     ensures { IfOk result (λ all. all ≡ (procedure_of tables.now definition.now).body) }
 {
     let mut slots = slots(alloc, definition)?;
@@ -156,7 +164,11 @@ fn body(alloc: Global, tables: &[TableDef], definition: &ProcDef) -> Result<List
     Ok(all)
 }
 
-fn procedure(alloc: Global, tables: &[TableDef], definition: &ProcDef) -> Result<ProcInfo, NoMemory>
+fn procedure(
+    alloc: Global,
+    tables: &Index<'_, Table<'_>>,
+    definition: &ProcDef,
+) -> Result<ProcInfo, NoMemory>
     ensures { IfOk result (λ p. p ≡ procedure_of tables.now definition.now) }
 {
     Ok(ProcInfo {
@@ -169,7 +181,7 @@ fn procedure(alloc: Global, tables: &[TableDef], definition: &ProcDef) -> Result
 
 fn procedures(
     alloc: Global,
-    tables: &[TableDef],
+    tables: &Index<'_, Table<'_>>,
     definitions: &[ProcDef],
 ) -> Result<List<ProcInfo>, NoMemory>
     ensures { IfOk result (λ all. all ≡ map (procedure_of tables.now) definitions.now) }
@@ -195,16 +207,16 @@ fn block_into(table: u8, block: Span) -> CopyInfo
     }
 }
 
-fn copy_into(tables: &[TableDef], definition: &CopyDef) -> CopyInfo
+fn copy_into(tables: &Index<'_, Table<'_>>, definition: &CopyDef) -> CopyInfo
     ensures { result ≡ copy_of tables.now definition.now }
 {
-    let table = tiny_number(place(tables, &definition.table.text));
+    let table = tiny_number(tables.place(&definition.table.text));
     block_into(table, definition.block)
 }
 
 fn copies(
     alloc: Global,
-    tables: &[TableDef],
+    tables: &Index<'_, Table<'_>>,
     definitions: &[CopyDef],
 ) -> Result<List<CopyInfo>, NoMemory>
     ensures { IfOk result (λ all. all ≡ map (copy_of tables.now) definitions.now) }
@@ -275,18 +287,19 @@ fn journal(blocks: &[Span]) -> Option<CopyInfo>
 }
 
 /// Builds the program of a script's parts. If the parts have a fault, the numbers of unknown names are arbitrary. Fails
-/// if memory runs out. Costs the size of the parts, a hash of each call's name, and a linear search for each other
-/// name.
+/// if memory runs out. Costs the size of the parts, a hash of each name of a table, a table's column or a procedure, and a
+/// linear search for each other name.
 pub fn built(alloc: Global, parts: &Parts) -> Result<Resolved, NoMemory>
     ensures { IfOk result (λ r. r ≡ resolved_parts parts.now) }
 {
-    let tables = parts.tables.as_slice();
     let definitions = parts.procedures.as_slice();
+    let tables = with_columns(alloc, parts.tables.as_slice())?;
+    let index = Index::of(alloc, tables.as_slice())?;
     Ok(Resolved {
-        tables: table_infos(alloc, tables)?,
-        rows: rows_of_tables(alloc, tables)?,
-        procedures: procedures(alloc, tables, definitions)?,
-        copies: copies(alloc, tables, parts.copies.as_slice())?,
+        tables: table_infos(alloc, tables.as_slice())?,
+        rows: rows_of_tables(alloc, parts.tables.as_slice())?,
+        procedures: procedures(alloc, &index, definitions)?,
+        copies: copies(alloc, &index, parts.copies.as_slice())?,
         calls: calls(alloc, definitions, parts.calls.as_slice())?,
         journal: journal(parts.journals.as_slice()),
     })

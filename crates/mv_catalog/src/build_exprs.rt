@@ -1,21 +1,28 @@
 //! Builds expressions and the clauses that contain them.
 
-ghost use Rattle.std.specs.Prelude.{◌≡◌, [], IfOk};
-ghost use Rattle.mv_catalog.specs.Building.{expr_of, plain, plains, maybe_plain, conds_of, sorts_of, agg_of, items_of};
+ghost use Rattle.std.specs.Prelude.{◌≡◌, IfOk};
+ghost use Rattle.std.specs.Option.{option_copied};
+ghost use Rattle.mv_catalog.specs.Building.{columns_in, expr_of, plain, plains, maybe_plain, conds_of, sorts_of, agg_of, items_of};
 
 use crate::build_names::{column, field, variable};
 use crate::resolved::{RAgg, RCond, RExpr, RExprKind, RSetItem, RSort};
 use crate::slot::Slot;
-use mv_ast::tree::{Agg, ColDef, Cond, Expr, ExprKind, SetItem, Sort};
+use mv_ast::tree::{Agg, Cond, Expr, ExprKind, SetItem, Sort};
+use mv_names::tables::Table;
 use mv_values::boxed::Boxed;
 use mv_values::copied::Copied;
 use mv_values::list::List;
 use mv_values::memory::NoMemory;
 use std::alloc::Global;
 
-/// Builds an expression, given the variables and the columns that may occur bare.
-fn expr(alloc: Global, e: &Expr, slots: &[Slot], columns: &[ColDef]) -> Result<RExpr, NoMemory>
-    ensures { IfOk result (λ r. r ≡ expr_of e.now slots.now columns.now) }
+/// Builds an expression, given the variables and the table whose columns may occur bare.
+fn expr(
+    alloc: Global,
+    e: &Expr,
+    slots: &[Slot],
+    table: Option<&Table<'_>>,
+) -> Result<RExpr, NoMemory>
+    ensures { IfOk result (λ r. r ≡ expr_of e.now slots.now (columns_in (option_copied table.entry))) }
 {
     match &e.kind {
         ExprKind::Const(v) => Ok(of_kind(RExprKind::Const(v.copy(alloc)?))),
@@ -24,14 +31,14 @@ fn expr(alloc: Global, e: &Expr, slots: &[Slot], columns: &[ColDef]) -> Result<R
             let place = field(slots, row, name);
             Ok(of_kind(RExprKind::Field(variable(slots, row), place)))
         }
-        ExprKind::Col(name) => Ok(of_kind(RExprKind::Col(column(columns, name)))),
+        ExprKind::Col(name) => Ok(of_kind(RExprKind::Col(column(table, name)))),
         ExprKind::One(op, a) => {
-            let a = Boxed::new(alloc, expr(alloc, a.get(), slots, columns)?)?;
+            let a = Boxed::new(alloc, expr(alloc, a.get(), slots, table)?)?;
             Ok(of_kind(RExprKind::One(*op, a)))
         }
         ExprKind::Two(op, a, b) => {
-            let a = Boxed::new(alloc, expr(alloc, a.get(), slots, columns)?)?;
-            let b = Boxed::new(alloc, expr(alloc, b.get(), slots, columns)?)?;
+            let a = Boxed::new(alloc, expr(alloc, a.get(), slots, table)?)?;
+            let b = Boxed::new(alloc, expr(alloc, b.get(), slots, table)?)?;
             Ok(of_kind(RExprKind::Two(*op, a, b)))
         }
     }
@@ -48,7 +55,7 @@ fn of_kind(kind: RExprKind) -> RExpr
 pub(crate) fn plain_expr(alloc: Global, slots: &[Slot], e: &Expr) -> Result<RExpr, NoMemory>
     ensures { IfOk result (λ r. r ≡ plain slots.now e.now) }
 {
-    expr(alloc, e, slots, &[])
+    expr(alloc, e, slots, None)
 }
 
 pub(crate) fn plain_exprs(
@@ -82,16 +89,16 @@ pub(crate) fn offset(
 pub(crate) fn conds(
     alloc: Global,
     slots: &[Slot],
-    columns: &[ColDef],
+    table: Option<&Table<'_>>,
     conds: &[Cond],
 ) -> Result<List<RCond>, NoMemory>
-    ensures { IfOk result (λ all. all ≡ conds_of slots.now columns.now conds.now) }
+    ensures { IfOk result (λ all. all ≡ conds_of slots.now (columns_in (option_copied table.entry)) conds.now) }
 {
     let mut all = List::new(alloc);
     for cond in conds {
         let right = plain_expr(alloc, slots, &cond.right)?;
         all.push(RCond {
-            column: column(columns, &cond.column),
+            column: column(table, &cond.column),
             op: cond.op,
             right,
         })?;
@@ -102,30 +109,30 @@ pub(crate) fn conds(
 /// Builds the columns of ORDER BY.
 pub(crate) fn sorts(
     alloc: Global,
-    columns: &[ColDef],
+    table: Option<&Table<'_>>,
     sorts: &[Sort],
 ) -> Result<List<RSort>, NoMemory>
-    ensures { IfOk result (λ all. all ≡ sorts_of columns.now sorts.now) }
+    ensures { IfOk result (λ all. all ≡ sorts_of (columns_in (option_copied table.entry)) sorts.now) }
 {
     let mut all = List::new(alloc);
     for sort in sorts {
         all.push(RSort {
-            column: column(columns, &sort.column),
+            column: column(table, &sort.column),
             descending: sort.descending,
         })?;
     }
     Ok(all)
 }
 
-pub(crate) fn aggregate(columns: &[ColDef], agg: &Agg) -> RAgg
-    ensures { result ≡ agg_of columns.now agg.now }
+pub(crate) fn aggregate(table: Option<&Table<'_>>, agg: &Agg) -> RAgg
+    ensures { result ≡ agg_of (columns_in (option_copied table.entry)) agg.now }
 {
     match agg {
         Agg::CountAll => RAgg::CountAll,
-        Agg::CountDistinct(name) => RAgg::CountDistinct(column(columns, name)),
-        Agg::Sum(name) => RAgg::Sum(column(columns, name)),
-        Agg::Min(name) => RAgg::Min(column(columns, name)),
-        Agg::Max(name) => RAgg::Max(column(columns, name)),
+        Agg::CountDistinct(name) => RAgg::CountDistinct(column(table, name)),
+        Agg::Sum(name) => RAgg::Sum(column(table, name)),
+        Agg::Min(name) => RAgg::Min(column(table, name)),
+        Agg::Max(name) => RAgg::Max(column(table, name)),
     }
 }
 
@@ -133,16 +140,16 @@ pub(crate) fn aggregate(columns: &[ColDef], agg: &Agg) -> RAgg
 pub(crate) fn set_items(
     alloc: Global,
     slots: &[Slot],
-    columns: &[ColDef],
+    table: Option<&Table<'_>>,
     items: &[SetItem],
 ) -> Result<List<RSetItem>, NoMemory>
-    ensures { IfOk result (λ all. all ≡ items_of slots.now columns.now items.now) }
+    ensures { IfOk result (λ all. all ≡ items_of slots.now (columns_in (option_copied table.entry)) items.now) }
 {
     let mut all = List::new(alloc);
     for item in items {
-        let right = expr(alloc, &item.right, slots, columns)?;
+        let right = expr(alloc, &item.right, slots, table)?;
         all.push(RSetItem {
-            column: column(columns, &item.column),
+            column: column(table, &item.column),
             right,
         })?;
     }

@@ -1,12 +1,16 @@
 //! Numbers for names: columns, tables, and the variables of a procedure.
 
 ghost use Rattle.std.specs.Prelude.{◌≡◌, ◌+◌, ◌++◌, ◌∷◌, [], IfOk, OnOk, length, map};
+ghost use Rattle.std.specs.Option.{option_copied};
 ghost use Rattle.mv_names.specs.Scope.{found};
-ghost use Rattle.mv_catalog.specs.Building.{small, tiny, column_number, table_place, columns_named, column_name, slot, param_fields, param_slots, variable_slots, found_number, slots_of, slot_named, number_of, numbers_of, fields_in, field_place, names_of};
+ghost use Rattle.mv_names.specs.Statements.{table_named};
+ghost use Rattle.mv_catalog.specs.Building.{small, tiny, column_number, table_place, columns_in, column_name, slot, param_fields, param_slots, variable_slots, found_number, slots_of, slot_named, number_of, numbers_of, fields_in, field_place, names_of};
 
 use crate::slot::Slot;
-use mv_ast::tree::{ColDef, Name, Param, ParamKind, ProcDef, TableDef, VarDef};
+use mv_ast::tree::{ColDef, Name, Param, ParamKind, ProcDef, VarDef};
+use mv_names::index::Index;
 use mv_names::named::{find, place};
+use mv_names::tables::Table;
 use mv_values::copied::Copied;
 use mv_values::list::List;
 use mv_values::memory::NoMemory;
@@ -50,43 +54,41 @@ pub(crate) fn push_copy<T: Copied>(
 
 // Columns and tables
 
-/// Returns the number of a column.
-pub(crate) fn column(columns: &[ColDef], name: &Name) -> u16
-    ensures { result ≡ column_number columns.now name.now }
+/// Returns the number of a column; 0 if the table doesn't exist. Costs a hash of the name.
+pub(crate) fn column(table: Option<&Table<'_>>, name: &Name) -> u16
+    ensures { result ≡ column_number (columns_in (option_copied table.entry)) name.now }
 {
-    small_number(place(columns, &name.text))
+    match table {
+        None => 0,
+        Some(table) => small_number(table.columns().place(&name.text)),
+    }
 }
 
 /// Returns the numbers of columns.
 pub(crate) fn columns(
     alloc: Global,
-    columns: &[ColDef],
+    table: Option<&Table<'_>>,
     names: &[Name],
 ) -> Result<List<u16>, NoMemory>
-    ensures { IfOk result (λ all. all ≡ map (column_number columns.now) names.now) }
+    ensures { IfOk result (λ all. all ≡ map (column_number (columns_in (option_copied table.entry))) names.now) }
 {
     let mut all = List::new(alloc);
     for name in names {
-        all.push(column(columns, name))?;
+        all.push(column(table, name))?;
     }
     Ok(all)
 }
 
-/// Returns the number of a table.
-pub(crate) fn table(tables: &[TableDef], name: &Name) -> u16
-    ensures { result ≡ small (table_place tables.now name.now) }
+/// Returns the number of a table, and the table if it exists. Costs a hash of the name.
+pub(crate) fn numbered_table<'a, 'b>(
+    tables: &Index<'a, Table<'b>>,
+    name: &Name,
+) -> (u16, Option<&'a Table<'b>>)
+    ensures number { result.0 ≡ small (table_place tables.now name.now) }
+    ensures table { option_copied result.1 ≡ table_named tables.now name.now.text }
 {
-    small_number(place(tables, &name.text))
-}
-
-/// Returns the columns of the table with this name; empty if there is no such table.
-pub(crate) fn columns_in<'a>(tables: &'a [TableDef], name: &Name) -> &'a [ColDef]
-    ensures { result.now ≡ columns_named tables.now name.now }
-{
-    match find(tables, &name.text) {
-        Some(table) => table.columns.as_slice(),
-        None => &[],
-    }
+    let place = tables.place(&name.text);
+    (small_number(place), tables.at(place))
 }
 
 // The variables of a procedure

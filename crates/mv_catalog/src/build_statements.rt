@@ -6,11 +6,13 @@ ghost use Rattle.mv_catalog.specs.Building.{small, table_place, columns_named, c
 
 use crate::build_exprs::{aggregate, conds, offset, plain_expr, plain_exprs, set_items, sorts};
 use crate::build_names::{
-    columns, columns_in, fields, slot_at, small_number, sum, table, texts, variable, variables,
+    columns, fields, numbered_table, slot_at, small_number, sum, texts, variable, variables,
 };
 use crate::resolved::RStmt;
 use crate::slot::Slot;
-use mv_ast::tree::{Agg, Cond, Expr, Name, SetItem, Sort, Stmt, TableDef};
+use mv_ast::tree::{Agg, Cond, Expr, Name, SetItem, Sort, Stmt};
+use mv_names::index::Index;
+use mv_names::tables::Table;
 use mv_values::copied::Copied;
 use mv_values::list::List;
 use mv_values::memory::NoMemory;
@@ -33,7 +35,7 @@ fn assign(alloc: Global, slots: &[Slot], to: &Name, right: &Expr) -> Result<RStm
 /// Builds a SELECT INTO.
 fn select(
     alloc: Global,
-    tables: &[TableDef],
+    tables: &Index<'_, Table<'_>>,
     slots: &[Slot],
     selected: &[Name],
     to: &[Name],
@@ -44,11 +46,11 @@ fn select(
 ) -> Result<RStmt, NoMemory>
     ensures { IfOk result (λ s. let own = columns_named tables.now name.now in s ≡ r_stmt.Select (map (column_number own) selected.now) (numbers_of slots.now to.now) (small (table_place tables.now name.now)) (conds_of slots.now own tests.now) (sorts_of own order.now) (maybe_plain slots.now skip.now)) }
 {
-    let own = columns_in(tables, name);
+    let (number, own) = numbered_table(tables, name);
     Ok(RStmt::Select {
         columns: columns(alloc, own, selected)?,
         to: variables(alloc, slots, to)?,
-        table: table(tables, name),
+        table: number,
         conds: conds(alloc, slots, own, tests)?,
         sorts: sorts(alloc, own, order)?,
         offset: offset(alloc, slots, skip)?,
@@ -58,7 +60,7 @@ fn select(
 /// Builds a SELECT with an aggregate.
 fn total(
     alloc: Global,
-    tables: &[TableDef],
+    tables: &Index<'_, Table<'_>>,
     slots: &[Slot],
     agg: &Agg,
     to: &Name,
@@ -67,11 +69,11 @@ fn total(
 ) -> Result<RStmt, NoMemory>
     ensures { IfOk result (λ s. let own = columns_named tables.now name.now in s ≡ r_stmt.Total (agg_of own agg.now) (number_of slots.now to.now) (small (table_place tables.now name.now)) (conds_of slots.now own tests.now)) }
 {
-    let own = columns_in(tables, name);
+    let (number, own) = numbered_table(tables, name);
     Ok(RStmt::Total {
         agg: aggregate(own, agg),
         to: variable(slots, to),
-        table: table(tables, name),
+        table: number,
         conds: conds(alloc, slots, own, tests)?,
     })
 }
@@ -79,15 +81,16 @@ fn total(
 /// Builds an INSERT.
 fn insert(
     alloc: Global,
-    tables: &[TableDef],
+    tables: &Index<'_, Table<'_>>,
     slots: &[Slot],
     name: &Name,
     values: &[Expr],
 ) -> Result<RStmt, NoMemory>
     ensures { IfOk result (λ s. s ≡ r_stmt.Insert (small (table_place tables.now name.now)) (plains slots.now values.now)) }
 {
+    let (number, _) = numbered_table(tables, name);
     Ok(RStmt::Insert {
-        table: table(tables, name),
+        table: number,
         values: plain_exprs(alloc, slots, values)?,
     })
 }
@@ -95,7 +98,7 @@ fn insert(
 /// Builds an UPDATE.
 fn update(
     alloc: Global,
-    tables: &[TableDef],
+    tables: &Index<'_, Table<'_>>,
     slots: &[Slot],
     name: &Name,
     items: &[SetItem],
@@ -103,9 +106,9 @@ fn update(
 ) -> Result<RStmt, NoMemory>
     ensures { IfOk result (λ s. let own = columns_named tables.now name.now in s ≡ r_stmt.Update (small (table_place tables.now name.now)) (items_of slots.now own items.now) (conds_of slots.now own tests.now)) }
 {
-    let own = columns_in(tables, name);
+    let (number, own) = numbered_table(tables, name);
     Ok(RStmt::Update {
-        table: table(tables, name),
+        table: number,
         items: set_items(alloc, slots, own, items)?,
         conds: conds(alloc, slots, own, tests)?,
     })
@@ -114,16 +117,16 @@ fn update(
 /// Builds a DELETE.
 fn delete(
     alloc: Global,
-    tables: &[TableDef],
+    tables: &Index<'_, Table<'_>>,
     slots: &[Slot],
     name: &Name,
     tests: &[Cond],
 ) -> Result<RStmt, NoMemory>
     ensures { IfOk result (λ s. s ≡ r_stmt.Delete (small (table_place tables.now name.now)) (conds_of slots.now (columns_named tables.now name.now) tests.now)) }
 {
-    let own = columns_in(tables, name);
+    let (number, own) = numbered_table(tables, name);
     Ok(RStmt::Delete {
-        table: table(tables, name),
+        table: number,
         conds: conds(alloc, slots, own, tests)?,
     })
 }
@@ -166,7 +169,7 @@ fn branch(
 /// Builds a FOR over a SELECT with this number and this body.
 fn select_loop(
     alloc: Global,
-    tables: &[TableDef],
+    tables: &Index<'_, Table<'_>>,
     slots: &[Slot],
     number: usize,
     distinct: bool,
@@ -178,12 +181,12 @@ fn select_loop(
 ) -> Result<RStmt, NoMemory>
     ensures { IfOk result (λ s. let own = columns_named tables.now name.now in s ≡ r_stmt.ForSelect (small number) distinct (map (column_number own) selected.now) (small (table_place tables.now name.now)) (conds_of slots.now own tests.now) (sorts_of own order.now) body) }
 {
-    let own = columns_in(tables, name);
+    let (source, own) = numbered_table(tables, name);
     Ok(RStmt::ForSelect {
         row: small_number(number),
         distinct,
         columns: columns(alloc, own, selected)?,
-        table: table(tables, name),
+        table: source,
         conds: conds(alloc, slots, own, tests)?,
         sorts: sorts(alloc, own, order)?,
         body,
@@ -206,7 +209,7 @@ fn enter(row: Slot, slots: &mut List<Slot>, next: &mut usize) -> Result<(), NoMe
 #[cycle(statements)]
 pub(crate) fn statements(
     alloc: Global,
-    tables: &[TableDef],
+    tables: &Index<'_, Table<'_>>,
     body: &[Stmt],
     slots: &mut List<Slot>,
     next: &mut usize,
@@ -226,7 +229,7 @@ pub(crate) fn statements(
 #[cycle(statements)]
 fn statement(
     alloc: Global,
-    tables: &[TableDef],
+    tables: &Index<'_, Table<'_>>,
     s: &Stmt,
     slots: &mut List<Slot>,
     next: &mut usize,
@@ -311,7 +314,7 @@ fn statement(
 #[cycle(statements)]
 fn body_under(
     alloc: Global,
-    tables: &[TableDef],
+    tables: &Index<'_, Table<'_>>,
     slot: Slot,
     body: &[Stmt],
     slots: &mut List<Slot>,
@@ -332,7 +335,7 @@ fn body_under(
 #[cycle(statements)]
 fn over_select(
     alloc: Global,
-    tables: &[TableDef],
+    tables: &Index<'_, Table<'_>>,
     row: &Name,
     distinct: bool,
     selected: &[Name],
@@ -368,7 +371,7 @@ fn over_select(
 #[cycle(statements)]
 fn over_rows(
     alloc: Global,
-    tables: &[TableDef],
+    tables: &Index<'_, Table<'_>>,
     row: &Name,
     rows: &Name,
     body: &[Stmt],

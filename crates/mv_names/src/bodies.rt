@@ -6,14 +6,15 @@ ghost use Rattle.mv_names.specs.Statements.{table_named, statements, statement_f
 
 use crate::exprs::check_placed;
 use crate::fault::Fault;
-use crate::named::find;
+use crate::index::Index;
 use crate::scope::{Entry, ValueType};
 use crate::statements::{
     check_assign, check_delete, check_insert, check_rows, check_select, check_selected,
     check_total, check_turn_name, check_update, check_values, columns_in, turn_of_rows,
     turn_of_select,
 };
-use mv_ast::tree::{Cond, Name, Sort, Stmt, TableDef};
+use crate::tables::Table;
+use mv_ast::tree::{Cond, Name, Sort, Stmt};
 use mv_values::list::List;
 use mv_values::memory::NoMemory;
 use std::alloc::Global;
@@ -29,7 +30,7 @@ fn leave(scope: &mut List<Entry>, outside: usize)
 #[cycle(statements)]
 pub(crate) fn check_statements(
     alloc: Global,
-    tables: &[TableDef],
+    tables: &Index<'_, Table<'_>>,
     body: &[Stmt],
     scope: &mut List<Entry>,
     faults: &mut List<Fault>,
@@ -47,7 +48,7 @@ pub(crate) fn check_statements(
 #[cycle(statements)]
 fn check_statement(
     alloc: Global,
-    tables: &[TableDef],
+    tables: &Index<'_, Table<'_>>,
     statement: &Stmt,
     scope: &mut List<Entry>,
     faults: &mut List<Fault>,
@@ -67,7 +68,7 @@ fn check_statement(
             ..
         } => check_select(
             scope.as_slice(),
-            find(tables, &table.text),
+            tables.find(&table.text),
             columns.as_slice(),
             to.as_slice(),
             table,
@@ -84,7 +85,7 @@ fn check_statement(
             ..
         } => check_total(
             scope.as_slice(),
-            find(tables, &table.text),
+            tables.find(&table.text),
             agg,
             to,
             table,
@@ -126,7 +127,7 @@ fn check_statement(
         }
         Stmt::Insert { table, values, .. } => check_insert(
             scope.as_slice(),
-            find(tables, &table.text),
+            tables.find(&table.text),
             table,
             values.as_slice(),
             faults,
@@ -139,7 +140,7 @@ fn check_statement(
         } => check_update(
             alloc,
             scope.as_slice(),
-            find(tables, &table.text),
+            tables.find(&table.text),
             table,
             items.as_slice(),
             conds.as_slice(),
@@ -147,7 +148,7 @@ fn check_statement(
         ),
         Stmt::Delete { table, conds, .. } => check_delete(
             scope.as_slice(),
-            find(tables, &table.text),
+            tables.find(&table.text),
             table,
             conds.as_slice(),
             faults,
@@ -163,7 +164,7 @@ fn check_statement(
 #[cycle(statements)]
 fn check_for_select(
     alloc: Global,
-    tables: &[TableDef],
+    tables: &Index<'_, Table<'_>>,
     turn: &Name,
     columns: &[Name],
     table: &Name,
@@ -176,7 +177,7 @@ fn check_for_select(
     ensures faults { OnOk result (faults.new ≡ faults.old ++ for_select (table_named tables.now table.now.text) turn.now columns.now table.now conds.now sorts.now (statements tables.now body.now) scope.old) }
     ensures scope { OnOk result (scope.new ≡ scope.old) }
 {
-    let found = find(tables, &table.text);
+    let found = tables.find(&table.text);
     check_turn_name(scope.as_slice(), turn, faults)?;
     check_selected(
         scope.as_slice(),
@@ -195,7 +196,7 @@ fn check_for_select(
 #[cycle(statements)]
 fn check_for_rows(
     alloc: Global,
-    tables: &[TableDef],
+    tables: &Index<'_, Table<'_>>,
     turn: &Name,
     rows: &Name,
     body: &[Stmt],
@@ -215,7 +216,7 @@ fn check_for_rows(
 #[cycle(statements)]
 fn check_body(
     alloc: Global,
-    tables: &[TableDef],
+    tables: &Index<'_, Table<'_>>,
     turn: Entry,
     body: &[Stmt],
     scope: &mut List<Entry>,

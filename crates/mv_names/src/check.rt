@@ -12,6 +12,7 @@ use crate::index::Index;
 use crate::items::{check_call, check_copy, check_procedure, check_table_def};
 use crate::labels::check_doubles;
 use crate::parts::Parts;
+use crate::tables::{Table, with_columns};
 use mv_ast::tree::{CallDef, CopyDef, Item, ItemKind, ProcDef, TableDef};
 use mv_values::list::List;
 use mv_values::memory::NoMemory;
@@ -82,7 +83,7 @@ fn check_tables(
 
 fn check_procedures(
     alloc: Global,
-    tables: &[TableDef],
+    tables: &Index<'_, Table<'_>>,
     procedures: &[ProcDef],
     faults: &mut List<Fault>,
 ) -> Result<(), NoMemory>
@@ -95,7 +96,7 @@ fn check_procedures(
 }
 
 fn check_copies(
-    tables: &[TableDef],
+    tables: &Index<'_, Table<'_>>,
     copies: &[CopyDef],
     faults: &mut List<Fault>,
 ) -> Result<(), NoMemory>
@@ -151,8 +152,10 @@ pub fn check_parts(alloc: Global, parts: &Parts, faults: &mut List<Fault>) -> Re
     check_table_names(alloc, tables, faults)?;
     check_procedure_names(alloc, procedures, faults)?;
     check_tables(alloc, tables, faults)?;
-    check_procedures(alloc, tables, procedures, faults)?;
-    check_copies(tables, parts.copies.as_slice(), faults)?;
+    let named = with_columns(alloc, tables)?;
+    let named = Index::of(alloc, named.as_slice())?;
+    check_procedures(alloc, &named, procedures, faults)?;
+    check_copies(&named, parts.copies.as_slice(), faults)?;
     check_calls(alloc, procedures, parts.calls.as_slice(), faults)?;
     Ok(())
 }

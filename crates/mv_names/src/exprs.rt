@@ -6,6 +6,7 @@ ghost use Rattle.mv_names.specs.Scope.{entry_of, type_in, type_of_value, type_of
 ghost use Rattle.mv_names.specs.Typing.{clash, misfit, read_type, read_faults, of_turn_type, of_turn_faults, turn_type, turn_faults, field_type, missing_field, field_named, column_faults, missing_column, type_of, faults_of, in_place, judged, placed, one_wants, one_gives, left_wants, right_wants, two_gives};
 
 use crate::fault::{Fault, add_if};
+use crate::index::Index;
 use crate::named::find;
 use crate::scope::{Entry, Field, Meaning, ValueType};
 use mv_ast::tree::{ColDef, Expr, ExprKind, Name, OneOp, TwoOp};
@@ -34,12 +35,12 @@ pub(crate) fn value_kind(value: &Value) -> ValueType
 }
 
 /// Returns the type of a column; unknown if the table or the column doesn't exist.
-pub(crate) fn kind_among(columns: Option<&[ColDef]>, name: &Name) -> ValueType
+pub(crate) fn kind_among(columns: Option<&Index<'_, ColDef>>, name: &Name) -> ValueType
     ensures { result ≡ type_among (option_copied columns.entry) name.now.text }
 {
     match columns {
         None => ValueType::Unknown,
-        Some(columns) => match find(columns, &name.text) {
+        Some(columns) => match columns.find(&name.text) {
             None => ValueType::Unknown,
             Some(column) => column_kind(column.kind),
         },
@@ -142,20 +143,26 @@ fn check_field(
     }
 }
 
-/// Reports a column that doesn't exist in an existing table.
+/// Reports a column that doesn't exist in an existing table. Returns the column's type; unknown if the table or the
+/// column doesn't exist.
 pub(crate) fn check_column(
-    columns: Option<&[ColDef]>,
+    columns: Option<&Index<'_, ColDef>>,
     name: &Name,
     faults: &mut List<Fault>,
-) -> Result<(), NoMemory>
-    ensures { OnOk result (faults.new ≡ faults.old ++ column_faults (option_copied columns.entry) name.now) }
+) -> Result<ValueType, NoMemory>
+    ensures kind { IfOk result (λ t. t ≡ type_among (option_copied columns.entry) name.now.text) }
+    ensures faults { OnOk result (faults.new ≡ faults.old ++ column_faults (option_copied columns.entry) name.now) }
 {
-    if let Some(columns) = columns {
-        if find(columns, &name.text).is_none() {
-            faults.push(Fault::unknown(name.token))?;
-        }
+    match columns {
+        None => Ok(ValueType::Unknown),
+        Some(columns) => match columns.find(&name.text) {
+            None => {
+                faults.push(Fault::unknown(name.token))?;
+                Ok(ValueType::Unknown)
+            }
+            Some(column) => Ok(column_kind(column.kind)),
+        },
     }
-    Ok(())
 }
 
 fn wanted_by_one(_op: OneOp) -> ValueType
@@ -211,7 +218,7 @@ fn given_by_two(op: TwoOp) -> ValueType
 #[cycle(judging)]
 pub(crate) fn check_expr(
     scope: &[Entry],
-    columns: Option<&[ColDef]>,
+    columns: Option<&Index<'_, ColDef>>,
     e: &Expr,
     faults: &mut List<Fault>,
 ) -> Result<ValueType, NoMemory>
@@ -222,10 +229,7 @@ pub(crate) fn check_expr(
         ExprKind::Const(value) => Ok(value_kind(value)),
         ExprKind::Var(name) => check_variable(scope, name, e.token, faults),
         ExprKind::Field(row, name) => check_field(scope, row, name, e.token, faults),
-        ExprKind::Col(name) => {
-            check_column(columns, name, faults)?;
-            Ok(kind_among(columns, name))
-        }
+        ExprKind::Col(name) => check_column(columns, name, faults),
         ExprKind::One(op, a) => {
             check_operand(wanted_by_one(*op), scope, columns, a.get(), faults)?;
             Ok(given_by_one(*op))
@@ -243,7 +247,7 @@ pub(crate) fn check_expr(
 pub(crate) fn check_operand(
     place: ValueType,
     scope: &[Entry],
-    columns: Option<&[ColDef]>,
+    columns: Option<&Index<'_, ColDef>>,
     e: &Expr,
     faults: &mut List<Fault>,
 ) -> Result<ValueType, NoMemory>
@@ -264,6 +268,7 @@ pub(crate) fn check_placed(
 ) -> Result<(), NoMemory>
     ensures { OnOk result (faults.new ≡ faults.old ++ placed place scope.now e.now) }
 {
-    check_operand(place, scope, Some(&[]), e, faults)?;
+    let none = Index::none();
+    check_operand(place, scope, Some(&none), e, faults)?;
     Ok(())
 }

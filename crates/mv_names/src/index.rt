@@ -1,8 +1,9 @@
 //! Items by name. If several items share a name, the first is found.
 
-ghost use Rattle.std.specs.Prelude.{◌≡◌, slice_get, IfOk};
+ghost use Rattle.std.specs.Prelude.{◌≡◌, [], slice_get, IfOk};
 ghost use Rattle.std.specs.Option.{option_copied};
 ghost use Rattle.mv_names.specs.Named.{first_named, place_named};
+ghost use Rattle.mv_names.specs.Index.{place_in};
 
 use crate::named::Named;
 use indexmap::IndexMap;
@@ -15,18 +16,19 @@ use std::marker::Model;
 #[derive(Drop)]
 pub struct Index<'a, T: Named> {
     items: &'a [T],
-    places: IndexMap<&'a [u8], usize>,
+    /// The place of the first item of each name. `None` only if there are no items.
+    places: Option<IndexMap<&'a [u8], usize>>,
 }
 
 impl<'a, T: Named> Model for Index<'a, T> {
     ghost use Rattle.std.specs.Prelude.{List as Seq};
-    ghost use Rattle.mv_names.specs.Index.{Places};
+    ghost use Rattle.mv_names.specs.Index.{HasPlaces};
 
     ghost Value = { Seq T };
 
     ghost view = { λ x. x.items.now };
 
-    ghost invariant = { λ x. Places T.name_of x.items.now x.places };
+    ghost invariant = { λ x. HasPlaces T.name_of x.items.now x.places };
 }
 
 impl<'a, T: Named> Index<'a, T> {
@@ -42,7 +44,28 @@ impl<'a, T: Named> Index<'a, T> {
             }
             places.insert(name, i)?;
         }
+        let places = Some(places);
         Ok(Index { items, places })
+    }
+
+    /// Returns the index of no items. Needs no memory.
+    pub fn none() -> Index<'a, T>
+        ensures { result ≡ [] }
+    {
+        Index {
+            items: &[],
+            places: None,
+        }
+    }
+
+    /// Returns the place of the first item with the name. Costs a hash of the name.
+    fn seek(&self, name: &Txt) -> Option<usize>
+        ensures { result ≡ place_in T.name_of self.now name.now }
+    {
+        match &self.places {
+            None => None,
+            Some(places) => places.get(name.as_slice()).copied(),
+        }
     }
 
     /// Returns the place of the first item with the name, or the number of items if none has it. Costs a hash of the
@@ -50,8 +73,8 @@ impl<'a, T: Named> Index<'a, T> {
     pub fn place(&self, name: &Txt) -> usize
         ensures { result ≡ place_named T.name_of self.now name.now }
     {
-        match self.places.get(name.as_slice()) {
-            Some(place) => *place,
+        match self.seek(name) {
+            Some(place) => place,
             None => self.items.len(),
         }
     }
@@ -60,10 +83,17 @@ impl<'a, T: Named> Index<'a, T> {
     pub fn find(&self, name: &Txt) -> Option<&'a T>
         ensures { option_copied result ≡ first_named T.name_of self.now name.now }
     {
-        match self.places.get(name.as_slice()) {
-            Some(place) => item_at(self.items, *place),
+        match self.seek(name) {
+            Some(place) => self.at(place),
             None => None,
         }
+    }
+
+    /// Returns the item at a place.
+    pub fn at(&self, place: usize) -> Option<&'a T>
+        ensures { option_copied result ≡ slice_get self.now place }
+    {
+        item_at(self.items, place)
     }
 }
 

@@ -12,9 +12,10 @@ use crate::exprs::{column_kind, value_kind};
 use crate::fault::{Fault, add_if};
 use crate::index::Index;
 use crate::labels::check_doubles;
-use crate::named::{find, has_name};
+use crate::named::has_name;
 use crate::scope::{Entry, Field, Meaning, ValueType};
 use crate::statements::check_table;
+use crate::tables::Table;
 use mv_ast::tree::{
     Arg, CallDef, ColDef, CopyDef, Lit, LitRow, Name, Param, ParamKind, ProcDef, TableDef, VarDef,
 };
@@ -294,7 +295,7 @@ fn check_declarations(
 
 pub(crate) fn check_procedure(
     alloc: Global,
-    tables: &[TableDef],
+    tables: &Index<'_, Table<'_>>,
     procedure: &ProcDef,
     faults: &mut List<Fault>,
 ) -> Result<(), NoMemory>
@@ -309,13 +310,13 @@ pub(crate) fn check_procedure(
 // Copies and calls
 
 pub(crate) fn check_copy(
-    tables: &[TableDef],
+    tables: &Index<'_, Table<'_>>,
     copy: &CopyDef,
     faults: &mut List<Fault>,
 ) -> Result<(), NoMemory>
     ensures { OnOk result (faults.new ≡ faults.old ++ meant.copy tables.now copy.now) }
 {
-    check_table(find(tables, &copy.table.text), copy.table.token, faults)
+    check_table(tables.find(&copy.table.text), copy.table.token, faults)
 }
 
 fn check_argument(kind: &ParamKind, arg: &Arg, faults: &mut List<Fault>) -> Result<(), NoMemory>

@@ -12,3 +12,4 @@ pub mod named;
 pub mod parts;
 pub mod scope;
 mod statements;
+pub mod tables;

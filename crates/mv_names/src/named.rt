@@ -4,7 +4,7 @@ ghost use Rattle.std.specs.Prelude.{◌≡◌, ℕ, List, length};
 ghost use Rattle.std.specs.Option.{option_copied};
 ghost use Rattle.mv_names.specs.Named.{Text, same_text, is_named, first_named, place_named};
 
-use mv_ast::tree::{ColDef, Name, ProcDef, TableDef};
+use mv_ast::tree::{ColDef, Name, ProcDef};
 use mv_values::txt::Txt;
 
 /// An item that has a name.
@@ -35,14 +35,6 @@ impl Named for Txt {
 
 impl Named for ColDef {
     ghost name_of = { λ c. c.name.text };
-
-    fn name(&self) -> &Txt {
-        &self.name.text
-    }
-}
-
-impl Named for TableDef {
-    ghost name_of = { λ t. t.name.text };
 
     fn name(&self) -> &Txt {
         &self.name.text

@@ -10,28 +10,30 @@ ghost use Rattle.mv_names.specs.Statements.{doubles, table_named, missing_table,
 
 use crate::exprs::{check_column, check_fit, check_operand, check_placed, column_kind, kind_among};
 use crate::fault::{Fault, add_if};
+use crate::index::Index;
 use crate::labels::check_doubles;
 use crate::named::{find, has_name};
 use crate::scope::{Entry, Field, Meaning, ValueType};
-use mv_ast::tree::{Agg, ColDef, Cond, Expr, Name, SetItem, Sort, Stmt, TableDef};
+use crate::tables::Table;
+use mv_ast::tree::{Agg, ColDef, Cond, Expr, Name, SetItem, Sort};
 use mv_values::copied::Copied;
 use mv_values::list::List;
 use mv_values::memory::NoMemory;
 use std::alloc::Global;
 
 /// Returns the columns of a table, if the table exists.
-pub(crate) fn columns_in<'a>(table: Option<&'a TableDef>) -> Option<&'a [ColDef]>
+pub(crate) fn columns_in<'a>(table: Option<&'a Table<'_>>) -> Option<&'a Index<'a, ColDef>>
     ensures { option_copied result ≡ columns_of (option_copied table.entry) }
 {
     match table {
         None => None,
-        Some(table) => Some(table.columns.as_slice()),
+        Some(table) => Some(table.columns()),
     }
 }
 
 /// Reports a table that doesn't exist.
 pub(crate) fn check_table(
-    table: Option<&TableDef>,
+    table: Option<&Table<'_>>,
     token: u32,
     faults: &mut List<Fault>,
 ) -> Result<(), NoMemory>
@@ -86,7 +88,7 @@ fn check_taking(
 /// Checks a target for each column.
 fn check_targets(
     scope: &[Entry],
-    columns: Option<&[ColDef]>,
+    columns: Option<&Index<'_, ColDef>>,
     names: &[Name],
     to: &[Name],
     faults: &mut List<Fault>,
@@ -125,7 +127,7 @@ fn token_of_values(values: &[Expr], token: u32) -> u32
 }
 
 fn check_columns(
-    columns: Option<&[ColDef]>,
+    columns: Option<&Index<'_, ColDef>>,
     names: &[Name],
     faults: &mut List<Fault>,
 ) -> Result<(), NoMemory>
@@ -140,25 +142,19 @@ fn check_columns(
 /// Checks a condition of WHERE.
 fn check_cond(
     scope: &[Entry],
-    columns: Option<&[ColDef]>,
+    columns: Option<&Index<'_, ColDef>>,
     cond: &Cond,
     faults: &mut List<Fault>,
 ) -> Result<(), NoMemory>
     ensures { OnOk result (faults.new ≡ faults.old ++ cond_faults scope.now (option_copied columns.entry) cond.now) }
 {
-    check_column(columns, &cond.column, faults)?;
-    check_placed(
-        kind_among(columns, &cond.column),
-        scope,
-        &cond.right,
-        faults,
-    )?;
-    Ok(())
+    let place = check_column(columns, &cond.column, faults)?;
+    check_placed(place, scope, &cond.right, faults)
 }
 
 fn check_where(
     scope: &[Entry],
-    columns: Option<&[ColDef]>,
+    columns: Option<&Index<'_, ColDef>>,
     conds: &[Cond],
     faults: &mut List<Fault>,
 ) -> Result<(), NoMemory>
@@ -171,7 +167,7 @@ fn check_where(
 }
 
 fn check_order(
-    columns: Option<&[ColDef]>,
+    columns: Option<&Index<'_, ColDef>>,
     sorts: &[Sort],
     faults: &mut List<Fault>,
 ) -> Result<(), NoMemory>
@@ -196,43 +192,38 @@ fn check_offset(
     Ok(())
 }
 
-/// Returns the type of an aggregate.
-fn agg_kind(columns: Option<&[ColDef]>, agg: &Agg) -> ValueType
-    ensures { result ≡ agg_type (option_copied columns.entry) agg.now }
-{
-    match agg {
-        Agg::CountAll | Agg::CountDistinct(_) | Agg::Sum(_) => ValueType::Int,
-        Agg::Min(name) | Agg::Max(name) => kind_among(columns, name),
-    }
-}
-
 /// Reports a SUM's column that doesn't exist or isn't INT.
 fn check_sum(
-    columns: Option<&[ColDef]>,
+    columns: Option<&Index<'_, ColDef>>,
     name: &Name,
     faults: &mut List<Fault>,
 ) -> Result<(), NoMemory>
     ensures { OnOk result (faults.new ≡ faults.old ++ agg_faults (option_copied columns.entry) (Sum name.now)) }
 {
-    check_column(columns, name, faults)?;
-    let kind = kind_among(columns, name);
+    let kind = check_column(columns, name, faults)?;
     check_fit(faults, ValueType::Int, name.token, kind)
 }
 
-/// Reports an aggregate's column that doesn't exist, and a SUM over texts.
+/// Reports an aggregate's column that doesn't exist, and a SUM over texts. Returns the aggregate's type.
 fn check_agg(
-    columns: Option<&[ColDef]>,
+    columns: Option<&Index<'_, ColDef>>,
     agg: &Agg,
     faults: &mut List<Fault>,
-) -> Result<(), NoMemory>
-    ensures { OnOk result (faults.new ≡ faults.old ++ agg_faults (option_copied columns.entry) agg.now) }
+) -> Result<ValueType, NoMemory>
+    ensures kind { IfOk result (λ t. t ≡ agg_type (option_copied columns.entry) agg.now) }
+    ensures faults { OnOk result (faults.new ≡ faults.old ++ agg_faults (option_copied columns.entry) agg.now) }
 {
     match agg {
-        Agg::CountAll => Ok(()),
-        Agg::Sum(name) => check_sum(columns, name, faults),
-        Agg::CountDistinct(name) | Agg::Min(name) | Agg::Max(name) => {
-            check_column(columns, name, faults)
+        Agg::CountAll => Ok(ValueType::Int),
+        Agg::CountDistinct(name) => {
+            check_column(columns, name, faults)?;
+            Ok(ValueType::Int)
         }
+        Agg::Sum(name) => {
+            check_sum(columns, name, faults)?;
+            Ok(ValueType::Int)
+        }
+        Agg::Min(name) | Agg::Max(name) => check_column(columns, name, faults),
     }
 }
 
@@ -256,39 +247,38 @@ pub(crate) fn check_values(
 }
 
 /// Whether a column is one of a table's key columns.
-fn is_in_key(table: Option<&TableDef>, name: &Name) -> bool
+fn is_in_key(table: Option<&Table<'_>>, name: &Name) -> bool
     ensures { result ≡ is_key (option_copied table.entry) name.now.text }
 {
     match table {
         None => false,
-        Some(table) => has_name(table.key.as_slice(), &name.text),
+        Some(table) => has_name(table.definition().key.as_slice(), &name.text),
     }
 }
 
 /// Checks an item of SET.
 fn check_item(
     scope: &[Entry],
-    table: Option<&TableDef>,
+    table: Option<&Table<'_>>,
     item: &SetItem,
     faults: &mut List<Fault>,
 ) -> Result<(), NoMemory>
     ensures { OnOk result (faults.new ≡ faults.old ++ item_faults scope.now (option_copied table.entry) item.now) }
 {
     let columns = columns_in(table);
-    check_column(columns, &item.column, faults)?;
+    let place = check_column(columns, &item.column, faults)?;
     add_if(
         faults,
         is_in_key(table, &item.column),
         Fault::key_set(item.column.token),
     )?;
-    let place = kind_among(columns, &item.column);
     check_operand(place, scope, columns, &item.right, faults)?;
     Ok(())
 }
 
 fn check_items(
     scope: &[Entry],
-    table: Option<&TableDef>,
+    table: Option<&Table<'_>>,
     items: &[SetItem],
     faults: &mut List<Fault>,
 ) -> Result<(), NoMemory>
@@ -337,7 +327,7 @@ pub(crate) fn check_rows(
 /// Returns the selected columns as the fields of a loop's row.
 fn selected_fields(
     alloc: Global,
-    columns: Option<&[ColDef]>,
+    columns: Option<&Index<'_, ColDef>>,
     names: &[Name],
 ) -> Result<List<Field>, NoMemory>
     ensures { IfOk result (λ all. all ≡ map (selected_field (option_copied columns.entry)) names.now) }
@@ -356,7 +346,7 @@ fn selected_fields(
 pub(crate) fn turn_of_select(
     alloc: Global,
     turn: &Name,
-    columns: Option<&[ColDef]>,
+    columns: Option<&Index<'_, ColDef>>,
     names: &[Name],
 ) -> Result<Entry, NoMemory>
     ensures { IfOk result (λ e. e ≡ select_turn turn.now (option_copied columns.entry) names.now) }
@@ -413,7 +403,7 @@ pub(crate) fn check_assign(
 
 pub(crate) fn check_select(
     scope: &[Entry],
-    table: Option<&TableDef>,
+    table: Option<&Table<'_>>,
     columns: &[Name],
     to: &[Name],
     name: &Name,
@@ -438,7 +428,7 @@ pub(crate) fn check_select(
 /// Checks the head of a loop over a SELECT: its table, columns, WHERE and ORDER BY.
 pub(crate) fn check_selected(
     scope: &[Entry],
-    table: Option<&TableDef>,
+    table: Option<&Table<'_>>,
     columns: &[Name],
     name: &Name,
     conds: &[Cond],
@@ -456,7 +446,7 @@ pub(crate) fn check_selected(
 
 pub(crate) fn check_total(
     scope: &[Entry],
-    table: Option<&TableDef>,
+    table: Option<&Table<'_>>,
     agg: &Agg,
     to: &Name,
     name: &Name,
@@ -467,14 +457,14 @@ pub(crate) fn check_total(
 {
     let own = columns_in(table);
     check_table(table, name.token, faults)?;
-    check_agg(own, agg, faults)?;
-    check_taking(scope, agg_kind(own, agg), to, faults)?;
+    let kind = check_agg(own, agg, faults)?;
+    check_taking(scope, kind, to, faults)?;
     check_where(scope, own, conds, faults)
 }
 
 pub(crate) fn check_insert(
     scope: &[Entry],
-    table: Option<&TableDef>,
+    table: Option<&Table<'_>>,
     name: &Name,
     values: &[Expr],
     faults: &mut List<Fault>,
@@ -487,7 +477,7 @@ pub(crate) fn check_insert(
             check_values(scope, &[], values, faults)
         }
         Some(table) => {
-            let columns = table.columns.as_slice();
+            let columns = table.definition().columns.as_slice();
             let token = token_of_values(values, name.token);
             add_if(faults, values.len() != columns.len(), Fault::wrong(token))?;
             check_values(scope, columns, values, faults)
@@ -498,7 +488,7 @@ pub(crate) fn check_insert(
 pub(crate) fn check_update(
     alloc: Global,
     scope: &[Entry],
-    table: Option<&TableDef>,
+    table: Option<&Table<'_>>,
     name: &Name,
     items: &[SetItem],
     conds: &[Cond],
@@ -514,7 +504,7 @@ pub(crate) fn check_update(
 
 pub(crate) fn check_delete(
     scope: &[Entry],
-    table: Option<&TableDef>,
+    table: Option<&Table<'_>>,
     name: &Name,
     conds: &[Cond],
     faults: &mut List<Fault>,
