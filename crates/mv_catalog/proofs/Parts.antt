@@ -16,7 +16,7 @@ use Rattle.mv_names.specs.declared.scope.Meaning.TheVariants.{Variable}
 use Rattle.mv_names.specs.declared.scope.Entry.{Entry}
 use Rattle.mv_names.specs.First.{wrong}
 use Rattle.mv_names.specs.Named.{Text}
-use Rattle.mv_names.specs.Scope.{entry_of, type_in, type_among}
+use Rattle.mv_names.specs.Scope.{entry_of, type_in, type_among, types_of}
 use Rattle.mv_names.specs.Typing.{clash, misfit, placed, judged, column_faults}
 use Rattle.mv_names.specs.Statements as names
 use Rattle.mv_catalog.specs.declared.slot.Slot.{Slot}
@@ -105,7 +105,7 @@ taking scope slots vars m k type n is h =
     subst (λ t. vars (number_of slots n) ≡ Some (declared t)) (same_kind k r.0 still) r.2
 
 pub targets_take : (scope : List Entry) (slots : List Slot) (vars : Vars) (columns : List ColDef) → Matches scope slots vars → length columns ≤ 32 → (cs to : List Name) → length cs ≡ length to
-    → flat_map (column_faults (Some columns)) cs ≡ [] → names.targets scope (Some columns) cs to ≡ [] → AllZip (Takes vars (kinds_in columns)) (map (column_number columns) cs) (numbers_of slots to)
+    → flat_map (column_faults (Some columns)) cs ≡ [] → names.targets scope (types_of (Some columns) cs) to ≡ [] → AllZip (Takes vars (kinds_in columns)) (map (column_number columns) cs) (numbers_of slots to)
 targets_take scope slots vars columns m few [] [] e h k = tt
 targets_take scope slots vars columns m few [] (n ∷ ns) e h k = cc
 targets_take scope slots vars columns m few (c ∷ cs) [] e h k = cc
@@ -113,7 +113,7 @@ targets_take scope slots vars columns m few (c ∷ cs) (n ∷ ns) e h k =
     let own = column_faults (Some columns) c in
     let type = type_among (Some columns) c.text in
     let t = column_typed columns c few (nothing_left own (flat_map (column_faults (Some columns)) cs) h) in
-    let rest = names.targets scope (Some columns) cs ns in (
+    let rest = names.targets scope (types_of (Some columns) cs) ns in (
       (t.0, t.2, taking scope slots vars m t.0 type n t.1 (nothing_left (names.target scope type n) rest k)),
       targets_take scope slots vars columns m few cs ns (cc) (nothing_right own (flat_map (column_faults (Some columns)) cs) h) (nothing_right (names.target scope type n) rest k),
     )

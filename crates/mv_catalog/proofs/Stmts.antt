@@ -22,7 +22,7 @@ use Rattle.mv_names.specs.declared.fault.Fault.{Fault}
 use Rattle.mv_names.specs.declared.scope.ValueType.TheVariants as type'
 use Rattle.mv_names.specs.declared.scope.Entry.{Entry}
 use Rattle.mv_names.specs.First.{wrong, when}
-use Rattle.mv_names.specs.Scope.{entry_of, select_turn, rows_turn}
+use Rattle.mv_names.specs.Scope.{entry_of, types_of, select_turn, rows_turn}
 use Rattle.mv_names.specs.Typing.{column_faults, placed}
 use Rattle.mv_names.specs.Statements as names
 use Rattle.mv_names.specs.Statements.{Faults, table_named, statement_faults}
@@ -63,7 +63,7 @@ module _ (infos : List TableInfo) (scope : List Entry) (slots : List Slot) (vars
       let own = t.columns in
       let a = flat_map (column_faults (Some own)) columns in
       let b = when (not (length columns == length to)) (wrong (names.names_token to table.token)) in
-      let c = names.targets scope (Some own) columns to in
+      let c = names.targets scope (types_of (Some own) columns) to in
       let d = names.where_faults scope (Some own) conds in
       let e = names.order_faults (Some own) sorts in
       let f = names.offset_faults scope offset in

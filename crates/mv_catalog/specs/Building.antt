@@ -125,8 +125,11 @@ abbrev pub numbers_of : List Slot → List Name → List ℕ
 numbers_of slots ns = map (number_of slots) ns
 
 -- the index of a column in a loop's row
+abbrev pub field_in : Option Slot → Name → ℕ
+field_in row c = small (place_named (λ t. t) (fields_in row) c.text)
+
 abbrev pub field_place : List Slot → Name → Name → ℕ
-field_place slots r c = small (place_named (λ t. t) (fields_in (slot_named slots r.text)) c.text)
+field_place slots r c = field_in (slot_named slots r.text) c
 
 -- Expressions
 

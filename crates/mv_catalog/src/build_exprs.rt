@@ -4,10 +4,11 @@ ghost use Rattle.std.specs.Prelude.{◌≡◌, IfOk};
 ghost use Rattle.std.specs.Option.{option_copied};
 ghost use Rattle.mv_catalog.specs.Building.{columns_in, expr_of, plain, plains, maybe_plain, conds_of, sorts_of, agg_of, items_of};
 
-use crate::build_names::{column, field, variable};
+use crate::build_names::{column, field, number_in, variable};
 use crate::resolved::{RAgg, RCond, RExpr, RExprKind, RSetItem, RSort};
 use crate::slot::Slot;
 use mv_ast::tree::{Agg, Cond, Expr, ExprKind, SetItem, Sort};
+use mv_names::nested::Scope;
 use mv_names::tables::Table;
 use mv_values::boxed::Boxed;
 use mv_values::copied::Copied;
@@ -19,7 +20,7 @@ use std::alloc::Global;
 fn expr(
     alloc: Global,
     e: &Expr,
-    slots: &[Slot],
+    slots: &Scope<'_, Slot>,
     table: Option<&Table<'_>>,
 ) -> Result<RExpr, NoMemory>
     ensures { IfOk result (λ r. r ≡ expr_of e.now slots.now (columns_in (option_copied table.entry))) }
@@ -28,8 +29,8 @@ fn expr(
         ExprKind::Const(v) => Ok(of_kind(RExprKind::Const(v.copy(alloc)?))),
         ExprKind::Var(name) => Ok(of_kind(RExprKind::Var(variable(slots, name)))),
         ExprKind::Field(row, name) => {
-            let place = field(slots, row, name);
-            Ok(of_kind(RExprKind::Field(variable(slots, row), place)))
+            let row = slots.find(&row.text);
+            Ok(of_kind(RExprKind::Field(number_in(row), field(row, name))))
         }
         ExprKind::Col(name) => Ok(of_kind(RExprKind::Col(column(table, name)))),
         ExprKind::One(op, a) => {
@@ -52,7 +53,11 @@ fn of_kind(kind: RExprKind) -> RExpr
 }
 
 /// Builds an expression without bare columns.
-pub(crate) fn plain_expr(alloc: Global, slots: &[Slot], e: &Expr) -> Result<RExpr, NoMemory>
+pub(crate) fn plain_expr(
+    alloc: Global,
+    slots: &Scope<'_, Slot>,
+    e: &Expr,
+) -> Result<RExpr, NoMemory>
     ensures { IfOk result (λ r. r ≡ plain slots.now e.now) }
 {
     expr(alloc, e, slots, None)
@@ -60,7 +65,7 @@ pub(crate) fn plain_expr(alloc: Global, slots: &[Slot], e: &Expr) -> Result<RExp
 
 pub(crate) fn plain_exprs(
     alloc: Global,
-    slots: &[Slot],
+    slots: &Scope<'_, Slot>,
     exprs: &[Expr],
 ) -> Result<List<RExpr>, NoMemory>
     ensures { IfOk result (λ all. all ≡ plains slots.now exprs.now) }
@@ -74,7 +79,7 @@ pub(crate) fn plain_exprs(
 
 pub(crate) fn offset(
     alloc: Global,
-    slots: &[Slot],
+    slots: &Scope<'_, Slot>,
     e: &Option<Expr>,
 ) -> Result<Option<RExpr>, NoMemory>
     ensures { IfOk result (λ r. r ≡ maybe_plain slots.now e.now) }
@@ -88,7 +93,7 @@ pub(crate) fn offset(
 /// Builds the conditions of WHERE.
 pub(crate) fn conds(
     alloc: Global,
-    slots: &[Slot],
+    slots: &Scope<'_, Slot>,
     table: Option<&Table<'_>>,
     conds: &[Cond],
 ) -> Result<List<RCond>, NoMemory>
@@ -139,7 +144,7 @@ pub(crate) fn aggregate(table: Option<&Table<'_>>, agg: &Agg) -> RAgg
 /// Builds the items of an UPDATE's SET. They may contain bare columns.
 pub(crate) fn set_items(
     alloc: Global,
-    slots: &[Slot],
+    slots: &Scope<'_, Slot>,
     table: Option<&Table<'_>>,
     items: &[SetItem],
 ) -> Result<List<RSetItem>, NoMemory>

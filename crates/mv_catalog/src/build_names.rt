@@ -4,12 +4,13 @@ ghost use Rattle.std.specs.Prelude.{◌≡◌, ◌+◌, ◌++◌, ◌∷◌, [],
 ghost use Rattle.std.specs.Option.{option_copied};
 ghost use Rattle.mv_names.specs.Scope.{found};
 ghost use Rattle.mv_names.specs.Statements.{table_named};
-ghost use Rattle.mv_catalog.specs.Building.{small, tiny, column_number, table_place, columns_in, column_name, slot, param_fields, param_slots, variable_slots, found_number, slots_of, slot_named, number_of, numbers_of, fields_in, field_place, names_of};
+ghost use Rattle.mv_catalog.specs.Building.{small, tiny, column_number, table_place, columns_in, column_name, slot, param_fields, param_slots, variable_slots, found_number, slots_of, number_in, number_of, numbers_of, fields_in, field_in, names_of};
 
 use crate::slot::Slot;
 use mv_ast::tree::{ColDef, Name, Param, ParamKind, ProcDef, VarDef};
 use mv_names::index::Index;
-use mv_names::named::{find, place};
+use mv_names::named::place;
+use mv_names::nested::Scope;
 use mv_names::tables::Table;
 use mv_values::copied::Copied;
 use mv_values::list::List;
@@ -141,27 +142,34 @@ fn fields_of_param(alloc: Global, kind: &ParamKind) -> Result<List<Txt>, NoMemor
     }
 }
 
-fn add_params(alloc: Global, params: &[Param], slots: &mut List<Slot>) -> Result<(), NoMemory>
+fn add_params<'a>(
+    alloc: Global,
+    params: &'a [Param],
+    slots: &mut Scope<'a, Slot>,
+) -> Result<(), NoMemory>
     ensures { OnOk result (slots.new ≡ slots.old ++ param_slots 0 params.now) }
 {
     for (i, param) in params.iter().enumerate() {
+        let name = &param.name.text;
         let fields = fields_of_param(alloc, &param.kind)?;
-        slots.push(slot_at(alloc, i, &param.name.text, fields)?)?;
+        slots.push(name.as_slice(), slot_at(alloc, i, name, fields)?)?;
     }
     Ok(())
 }
 
-fn add_variables(
+fn add_variables<'a>(
     alloc: Global,
     first: usize,
-    vars: &[VarDef],
-    slots: &mut List<Slot>,
+    vars: &'a [VarDef],
+    slots: &mut Scope<'a, Slot>,
 ) -> Result<(), NoMemory>
     ensures { OnOk result (slots.new ≡ slots.old ++ variable_slots first vars.now) }
 {
     let mut number = first;
     for var in vars {
-        slots.push(slot_at(alloc, number, &var.name.text, List::new(alloc))?)?;
+        let name = &var.name.text;
+        let slot = slot_at(alloc, number, name, List::new(alloc))?;
+        slots.push(name.as_slice(), slot)?;
         number = sum(number, 1)?;
     }
     Ok(())
@@ -174,40 +182,49 @@ pub(crate) fn number_of_found(definition: &ProcDef) -> Result<usize, NoMemory>
     sum(definition.params.len(), definition.vars.len())
 }
 
+const FOUND: &[u8] = b"found";
+
 /// Returns the slot of `:found`.
 fn found_slot(alloc: Global, definition: &ProcDef) -> Result<Slot, NoMemory>
     ensures { IfOk result (λ s. s ≡ slot (found_number definition.now) found.name []) }
 {
-    let name = Txt::of(alloc, b"found")?;
+    let name = Txt::of(alloc, FOUND)?;
     slot_at(alloc, number_of_found(definition)?, &name, List::new(alloc))
 }
 
 /// Returns the variables of a procedure, without its loop rows.
-pub(crate) fn slots(alloc: Global, definition: &ProcDef) -> Result<List<Slot>, NoMemory>
+pub(crate) fn slots<'a>(alloc: Global, definition: &'a ProcDef) -> Result<Scope<'a, Slot>, NoMemory>
     ensures { IfOk result (λ all. all ≡ slots_of definition.now) }
 {
-    let mut all = List::new(alloc);
+    let mut all = Scope::new(alloc);
     let params = definition.params.as_slice();
     add_params(alloc, params, &mut all)?;
     add_variables(alloc, params.len(), definition.vars.as_slice(), &mut all)?;
-    all.push(found_slot(alloc, definition)?)?;
+    all.push(FOUND, found_slot(alloc, definition)?)?;
     Ok(all)
 }
 
-/// Returns the number of a variable.
-pub(crate) fn variable(slots: &[Slot], name: &Name) -> u16
-    ensures { result ≡ number_of slots.now name.now }
+/// Returns the number of a variable that was sought; 0 if there is none.
+pub(crate) fn number_in(sought: Option<&Slot>) -> u16
+    ensures { result ≡ number_in (option_copied sought.entry) }
 {
-    match find(slots, &name.text) {
+    match sought {
         Some(slot) => slot.number,
         None => 0,
     }
 }
 
+/// Returns the number of a variable.
+pub(crate) fn variable(slots: &Scope<'_, Slot>, name: &Name) -> u16
+    ensures { result ≡ number_of slots.now name.now }
+{
+    number_in(slots.find(&name.text))
+}
+
 /// Returns the numbers of variables.
 pub(crate) fn variables(
     alloc: Global,
-    slots: &[Slot],
+    slots: &Scope<'_, Slot>,
     names: &[Name],
 ) -> Result<List<u16>, NoMemory>
     ensures { IfOk result (λ all. all ≡ numbers_of slots.now names.now) }
@@ -220,28 +237,28 @@ pub(crate) fn variables(
 }
 
 /// Returns the column names of a variable that holds rows; empty for any other.
-fn fields_in<'a>(slots: &'a [Slot], name: &Name) -> &'a [Txt]
-    ensures { result.now ≡ fields_in (slot_named slots.now name.now.text) }
+fn fields_in(sought: Option<&Slot>) -> &[Txt]
+    ensures { result.now ≡ fields_in (option_copied sought.entry) }
 {
-    match find(slots, &name.text) {
+    match sought {
         Some(slot) => slot.fields.as_slice(),
         None => &[],
     }
 }
 
 /// Returns copies of a variable's column names.
-pub(crate) fn fields(alloc: Global, slots: &[Slot], name: &Name) -> Result<List<Txt>, NoMemory>
-    ensures { IfOk result (λ all. all ≡ fields_in (slot_named slots.now name.now.text)) }
+pub(crate) fn fields(alloc: Global, sought: Option<&Slot>) -> Result<List<Txt>, NoMemory>
+    ensures { IfOk result (λ all. all ≡ fields_in (option_copied sought.entry)) }
 {
-    match find(slots, &name.text) {
+    match sought {
         Some(slot) => slot.fields.copy(alloc),
         None => Ok(List::new(alloc)),
     }
 }
 
 /// Returns the index of a column in a loop's row.
-pub(crate) fn field(slots: &[Slot], row: &Name, column: &Name) -> u16
-    ensures { result ≡ field_place slots.now row.now column.now }
+pub(crate) fn field(row: Option<&Slot>, column: &Name) -> u16
+    ensures { result ≡ field_in (option_copied row.entry) column.now }
 {
-    small_number(place(fields_in(slots, row), &column.text))
+    small_number(place(fields_in(row), &column.text))
 }

@@ -6,12 +6,14 @@ ghost use Rattle.mv_catalog.specs.Building.{small, table_place, columns_named, c
 
 use crate::build_exprs::{aggregate, conds, offset, plain_expr, plain_exprs, set_items, sorts};
 use crate::build_names::{
-    columns, fields, numbered_table, slot_at, small_number, sum, texts, variable, variables,
+    columns, fields, number_in, numbered_table, slot_at, small_number, sum, texts, variable,
+    variables,
 };
 use crate::resolved::RStmt;
 use crate::slot::Slot;
 use mv_ast::tree::{Agg, Cond, Expr, Name, SetItem, Sort, Stmt};
 use mv_names::index::Index;
+use mv_names::nested::Scope;
 use mv_names::tables::Table;
 use mv_values::copied::Copied;
 use mv_values::list::List;
@@ -22,7 +24,12 @@ use std::alloc::Global;
 // Statements that contain no others
 
 /// Builds a SET.
-fn assign(alloc: Global, slots: &[Slot], to: &Name, right: &Expr) -> Result<RStmt, NoMemory>
+fn assign(
+    alloc: Global,
+    slots: &Scope<'_, Slot>,
+    to: &Name,
+    right: &Expr,
+) -> Result<RStmt, NoMemory>
     ensures { IfOk result (λ s. s ≡ r_stmt.Assign (number_of slots.now to.now) (plain slots.now right.now)) }
 {
     let right = plain_expr(alloc, slots, right)?;
@@ -36,7 +43,7 @@ fn assign(alloc: Global, slots: &[Slot], to: &Name, right: &Expr) -> Result<RStm
 fn select(
     alloc: Global,
     tables: &Index<'_, Table<'_>>,
-    slots: &[Slot],
+    slots: &Scope<'_, Slot>,
     selected: &[Name],
     to: &[Name],
     name: &Name,
@@ -61,7 +68,7 @@ fn select(
 fn total(
     alloc: Global,
     tables: &Index<'_, Table<'_>>,
-    slots: &[Slot],
+    slots: &Scope<'_, Slot>,
     agg: &Agg,
     to: &Name,
     name: &Name,
@@ -82,7 +89,7 @@ fn total(
 fn insert(
     alloc: Global,
     tables: &Index<'_, Table<'_>>,
-    slots: &[Slot],
+    slots: &Scope<'_, Slot>,
     name: &Name,
     values: &[Expr],
 ) -> Result<RStmt, NoMemory>
@@ -99,7 +106,7 @@ fn insert(
 fn update(
     alloc: Global,
     tables: &Index<'_, Table<'_>>,
-    slots: &[Slot],
+    slots: &Scope<'_, Slot>,
     name: &Name,
     items: &[SetItem],
     tests: &[Cond],
@@ -118,7 +125,7 @@ fn update(
 fn delete(
     alloc: Global,
     tables: &Index<'_, Table<'_>>,
-    slots: &[Slot],
+    slots: &Scope<'_, Slot>,
     name: &Name,
     tests: &[Cond],
 ) -> Result<RStmt, NoMemory>
@@ -132,7 +139,7 @@ fn delete(
 }
 
 /// Builds a PRINT.
-fn print(alloc: Global, slots: &[Slot], values: &[Expr]) -> Result<RStmt, NoMemory>
+fn print(alloc: Global, slots: &Scope<'_, Slot>, values: &[Expr]) -> Result<RStmt, NoMemory>
     ensures { IfOk result (λ s. s ≡ r_stmt.Print (plains slots.now values.now)) }
 {
     Ok(RStmt::Print {
@@ -152,7 +159,7 @@ fn rollback(alloc: Global, reason: &Txt) -> Result<RStmt, NoMemory>
 /// Builds an IF with these branches.
 fn branch(
     alloc: Global,
-    slots: &[Slot],
+    slots: &Scope<'_, Slot>,
     test: &Expr,
     yes: List<RStmt>,
     no: List<RStmt>,
@@ -170,7 +177,7 @@ fn branch(
 fn select_loop(
     alloc: Global,
     tables: &Index<'_, Table<'_>>,
-    slots: &[Slot],
+    slots: &Scope<'_, Slot>,
     number: usize,
     distinct: bool,
     selected: &[Name],
@@ -194,12 +201,18 @@ fn select_loop(
 }
 
 /// Enters a loop: takes the next number, and brings the loop's row into scope.
-fn enter(row: Slot, slots: &mut List<Slot>, next: &mut usize) -> Result<(), NoMemory>
+fn enter<'a>(
+    name: &'a Name,
+    row: Slot,
+    slots: &mut Scope<'a, Slot>,
+    next: &mut usize,
+) -> Result<(), NoMemory>
+    requires { name.now.text ≡ row.name }
     ensures slots { OnOk result (slots.new ≡ slots.old ++ row ∷ []) }
     ensures next { OnOk result (next.new ≡ next.old + 1) }
 {
     *next = sum(*next, 1)?;
-    slots.push(row)
+    slots.push(name.text.as_slice(), row)
 }
 
 // Statement lists, and statements that contain others
@@ -207,11 +220,11 @@ fn enter(row: Slot, slots: &mut List<Slot>, next: &mut usize) -> Result<(), NoMe
 /// Builds statements. The first loop in them gets the number `next`, and `next` becomes the number after their last
 /// loop. `slots` is left as it was.
 #[cycle(statements)]
-pub(crate) fn statements(
+pub(crate) fn statements<'a>(
     alloc: Global,
     tables: &Index<'_, Table<'_>>,
-    body: &[Stmt],
-    slots: &mut List<Slot>,
+    body: &'a [Stmt],
+    slots: &mut Scope<'a, Slot>,
     next: &mut usize,
 ) -> Result<List<RStmt>, NoMemory>
     ensures built { IfOk result (λ all. all ≡ statements_of tables.now body.now slots.old next.old) }
@@ -227,18 +240,18 @@ pub(crate) fn statements(
 
 /// Builds a statement.
 #[cycle(statements)]
-fn statement(
+fn statement<'a>(
     alloc: Global,
     tables: &Index<'_, Table<'_>>,
-    s: &Stmt,
-    slots: &mut List<Slot>,
+    s: &'a Stmt,
+    slots: &mut Scope<'a, Slot>,
     next: &mut usize,
 ) -> Result<RStmt, NoMemory>
     ensures built { IfOk result (λ r. r ≡ (built tables.now s.now).build slots.old next.old) }
     ensures slots { IfOk result (λ r. slots.new ≡ slots.old) }
     ensures next { IfOk result (λ r. next.new ≡ next.old + (built tables.now s.now).loops) }
 {
-    let seen = slots.as_slice();
+    let seen = &*slots;
     match s {
         Stmt::Assign { to, right, .. } => assign(alloc, seen, to, right),
         Stmt::Select {
@@ -288,7 +301,7 @@ fn statement(
         Stmt::Branch { test, yes, no, .. } => {
             let yes = statements(alloc, tables, yes.as_slice(), slots, next)?;
             let no = statements(alloc, tables, no.as_slice(), slots, next)?;
-            branch(alloc, slots.as_slice(), test, yes, no)
+            branch(alloc, slots, test, yes, no)
         }
         Stmt::Insert { table, values, .. } => insert(alloc, tables, seen, table, values.as_slice()),
         Stmt::Update {
@@ -312,20 +325,22 @@ fn statement(
 
 /// Builds the body of the loop that `slot` names. The loop takes the next number.
 #[cycle(statements)]
-fn body_under(
+fn body_under<'a>(
     alloc: Global,
     tables: &Index<'_, Table<'_>>,
+    name: &'a Name,
     slot: Slot,
-    body: &[Stmt],
-    slots: &mut List<Slot>,
+    body: &'a [Stmt],
+    slots: &mut Scope<'a, Slot>,
     next: &mut usize,
 ) -> Result<List<RStmt>, NoMemory>
+    requires { name.now.text ≡ slot.name }
     ensures built { IfOk result (λ all. all ≡ statements_of tables.now body.now (slots.old ++ slot ∷ []) (next.old + 1)) }
     ensures slots { IfOk result (λ all. slots.new ≡ slots.old) }
     ensures next { IfOk result (λ all. next.new ≡ next.old + 1 + loops_of tables.now body.now) }
 {
     let outside = slots.len();
-    enter(slot, slots, next)?;
+    enter(name, slot, slots, next)?;
     let all = statements(alloc, tables, body, slots, next)?;
     slots.truncate(outside);
     Ok(all)
@@ -333,17 +348,17 @@ fn body_under(
 
 /// Builds a FOR over a SELECT.
 #[cycle(statements)]
-fn over_select(
+fn over_select<'a>(
     alloc: Global,
     tables: &Index<'_, Table<'_>>,
-    row: &Name,
+    row: &'a Name,
     distinct: bool,
     selected: &[Name],
     name: &Name,
     tests: &[Cond],
     order: &[Sort],
-    body: &[Stmt],
-    slots: &mut List<Slot>,
+    body: &'a [Stmt],
+    slots: &mut Scope<'a, Slot>,
     next: &mut usize,
 ) -> Result<RStmt, NoMemory>
     ensures built { IfOk result (λ r. r ≡ (for_select tables.now row.now distinct selected.now name.now tests.now order.now (map (built tables.now) body.now)).build slots.old next.old) }
@@ -352,30 +367,21 @@ fn over_select(
 {
     let number = *next;
     let slot = slot_at(alloc, number, &row.text, texts(alloc, selected)?)?;
-    let body = body_under(alloc, tables, slot, body, slots, next)?;
+    let body = body_under(alloc, tables, row, slot, body, slots, next)?;
     select_loop(
-        alloc,
-        tables,
-        slots.as_slice(),
-        number,
-        distinct,
-        selected,
-        name,
-        tests,
-        order,
-        body,
+        alloc, tables, slots, number, distinct, selected, name, tests, order, body,
     )
 }
 
 /// Builds a FOR over a ROWS parameter.
 #[cycle(statements)]
-fn over_rows(
+fn over_rows<'a>(
     alloc: Global,
     tables: &Index<'_, Table<'_>>,
-    row: &Name,
+    row: &'a Name,
     rows: &Name,
-    body: &[Stmt],
-    slots: &mut List<Slot>,
+    body: &'a [Stmt],
+    slots: &mut Scope<'a, Slot>,
     next: &mut usize,
 ) -> Result<RStmt, NoMemory>
     ensures built { IfOk result (λ r. r ≡ (for_rows row.now rows.now (map (built tables.now) body.now)).build slots.old next.old) }
@@ -383,10 +389,11 @@ fn over_rows(
     ensures next { IfOk result (λ r. next.new ≡ next.old + (1 + loops_of tables.now body.now)) }
 {
     let number = *next;
-    let parameter = variable(slots.as_slice(), rows);
-    let fields = fields(alloc, slots.as_slice(), rows)?;
+    let sought = slots.find(&rows.text);
+    let parameter = number_in(sought);
+    let fields = fields(alloc, sought)?;
     let slot = slot_at(alloc, number, &row.text, fields)?;
-    let body = body_under(alloc, tables, slot, body, slots, next)?;
+    let body = body_under(alloc, tables, row, slot, body, slots, next)?;
     Ok(RStmt::ForRows {
         row: small_number(number),
         rows: parameter,

@@ -67,9 +67,17 @@ parameter p = record { name = p.name.text; meaning = meaning_of p.kind }
 abbrev pub variable : VarDef → Entry
 variable v = record { name = v.name.text; meaning = Variable (type_of_value v.initial.value) }
 
+-- the types of columns
+abbrev pub types_of : Option (List ColDef) → List Name → List ValueType
+types_of columns names = map (λ (n : Name). type_among columns n.text) names
+
 -- the names in scope in a procedure outside its loops
 abbrev pub scope_of : ProcDef → List Entry
 scope_of p = found ∷ map parameter p.params ++ map variable p.vars
+
+-- the row of a loop, with these fields
+abbrev pub turn_with : Name → List Field → Entry
+turn_with row fields = record { name = row.text; meaning = Turn fields }
 
 -- a selected column as a field of the loop's row
 abbrev pub selected_field : Option (List ColDef) → Name → Field
@@ -77,7 +85,7 @@ selected_field columns n = record { name = n.text; kind = type_among columns n.t
 
 -- the row of a loop over a SELECT
 abbrev pub select_turn : Name → Option (List ColDef) → List Name → Entry
-select_turn row columns names = record { name = row.text; meaning = Turn (map (selected_field columns) names) }
+select_turn row columns names = turn_with row (map (selected_field columns) names)
 
 -- the columns of a ROWS parameter; empty for anything else
 abbrev pub rows_in : Meaning → List Field
@@ -94,4 +102,4 @@ entry_of scope n = first_named (λ (e : Entry). e.name) scope n
 
 -- the row of a loop over a ROWS parameter has the parameter's columns
 abbrev pub rows_turn : Name → List Entry → Name → Entry
-rows_turn row scope rows = record { name = row.text; meaning = Turn (fields_of (entry_of scope rows.text)) }
+rows_turn row scope rows = turn_with row (fields_of (entry_of scope rows.text))

@@ -22,7 +22,7 @@ use Rattle.mv_names.specs.declared.scope.Entry.{Entry}
 use Rattle.mv_names.specs.First.{unknown, double, wrong, key_set, when}
 use Rattle.mv_names.specs.Named as named
 use Rattle.mv_names.specs.Named.{is_named, first_named}
-use Rattle.mv_names.specs.Scope.{entry_of, type_in, type_among, columns_of, select_turn, rows_turn}
+use Rattle.mv_names.specs.Scope.{entry_of, type_in, type_among, types_of, columns_of, select_turn, rows_turn}
 use Rattle.mv_names.specs.Typing.{misfit, in_place, placed, judged, column_faults}
 
 -- Names
@@ -62,11 +62,11 @@ target_faults token (Some e) = set_faults token e.meaning
 abbrev pub target : List Entry → ValueType → Name → List Fault
 target scope value n = target_faults n.token (entry_of scope n.text) ++ misfit value n.token (target_type (entry_of scope n.text))
 
--- a target for each column; a target without a column takes any value
-abbrev pub targets : List Entry → Option (List ColDef) → List Name → List Name → List Fault
-targets scope columns cs [] = []
-targets scope columns [] (n ∷ ns) = target scope Unknown n ++ targets scope columns [] ns
-targets scope columns (c ∷ cs) (n ∷ ns) = target scope (type_among columns c.text) n ++ targets scope columns cs ns
+-- a target for each type; a target without a type takes any value
+abbrev pub targets : List Entry → List ValueType → List Name → List Fault
+targets scope ts [] = []
+targets scope [] (n ∷ ns) = target scope Unknown n ++ targets scope [] ns
+targets scope (t ∷ ts) (n ∷ ns) = target scope t n ++ targets scope ts ns
 
 -- Clauses
 
@@ -154,7 +154,7 @@ assign to right scope = target_faults to.token (entry_of scope to.text) ++ place
 abbrev pub select : Option TableDef → List Name → List Name → Name → List Cond → List Sort → Option Expr → Faults
 select t columns to table conds sorts offset scope =
     missing_table table.token t ++ flat_map (column_faults (columns_of t)) columns
-    ++ when (not (length columns == length to)) (wrong (names_token to table.token)) ++ targets scope (columns_of t) columns to
+    ++ when (not (length columns == length to)) (wrong (names_token to table.token)) ++ targets scope (types_of (columns_of t) columns) to
     ++ where_faults scope (columns_of t) conds ++ order_faults (columns_of t) sorts ++ offset_faults scope offset
 
 -- SELECT with an aggregate

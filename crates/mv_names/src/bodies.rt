@@ -7,11 +7,11 @@ ghost use Rattle.mv_names.specs.Statements.{table_named, statements, statement_f
 use crate::exprs::check_placed;
 use crate::fault::Fault;
 use crate::index::Index;
+use crate::nested::Scope;
 use crate::scope::{Entry, ValueType};
 use crate::statements::{
     check_assign, check_delete, check_insert, check_rows, check_select, check_selected,
-    check_total, check_turn_name, check_update, check_values, columns_in, turn_of_rows,
-    turn_of_select,
+    check_total, check_turn_name, check_update, check_values, fields_of, turn_with,
 };
 use crate::tables::Table;
 use mv_ast::tree::{Cond, Name, Sort, Stmt};
@@ -20,7 +20,7 @@ use mv_values::memory::NoMemory;
 use std::alloc::Global;
 
 /// Leaves a loop: removes the names added since the scope had `outside` entries.
-fn leave(scope: &mut List<Entry>, outside: usize)
+fn leave(scope: &mut Scope<'_, Entry>, outside: usize)
     ensures { scope.new ≡ take outside scope.old }
 {
     scope.truncate(outside);
@@ -28,11 +28,11 @@ fn leave(scope: &mut List<Entry>, outside: usize)
 
 /// Adds the faults of statements. Leaves the scope as it was.
 #[cycle(statements)]
-pub(crate) fn check_statements(
+pub(crate) fn check_statements<'a>(
     alloc: Global,
     tables: &Index<'_, Table<'_>>,
-    body: &[Stmt],
-    scope: &mut List<Entry>,
+    body: &'a [Stmt],
+    scope: &mut Scope<'a, Entry>,
     faults: &mut List<Fault>,
 ) -> Result<(), NoMemory>
     ensures faults { OnOk result (faults.new ≡ faults.old ++ statements tables.now body.now scope.old) }
@@ -46,18 +46,18 @@ pub(crate) fn check_statements(
 
 /// Adds the faults of a statement. Leaves the scope as it was.
 #[cycle(statements)]
-fn check_statement(
+fn check_statement<'a>(
     alloc: Global,
     tables: &Index<'_, Table<'_>>,
-    statement: &Stmt,
-    scope: &mut List<Entry>,
+    statement: &'a Stmt,
+    scope: &mut Scope<'a, Entry>,
     faults: &mut List<Fault>,
 ) -> Result<(), NoMemory>
     ensures faults { OnOk result (faults.new ≡ faults.old ++ statement_faults tables.now statement.now scope.old) }
     ensures scope { OnOk result (scope.new ≡ scope.old) }
 {
     match statement {
-        Stmt::Assign { to, right, .. } => check_assign(scope.as_slice(), to, right, faults),
+        Stmt::Assign { to, right, .. } => check_assign(scope, to, right, faults),
         Stmt::Select {
             columns,
             to,
@@ -67,7 +67,8 @@ fn check_statement(
             offset,
             ..
         } => check_select(
-            scope.as_slice(),
+            alloc,
+            scope,
             tables.find(&table.text),
             columns.as_slice(),
             to.as_slice(),
@@ -84,7 +85,7 @@ fn check_statement(
             conds,
             ..
         } => check_total(
-            scope.as_slice(),
+            scope,
             tables.find(&table.text),
             agg,
             to,
@@ -121,12 +122,12 @@ fn check_statement(
             ..
         } => check_for_rows(alloc, tables, row, rows, body.as_slice(), scope, faults),
         Stmt::Branch { test, yes, no, .. } => {
-            check_placed(ValueType::Int, scope.as_slice(), test, faults)?;
+            check_placed(ValueType::Int, scope, test, faults)?;
             check_statements(alloc, tables, yes.as_slice(), scope, faults)?;
             check_statements(alloc, tables, no.as_slice(), scope, faults)
         }
         Stmt::Insert { table, values, .. } => check_insert(
-            scope.as_slice(),
+            scope,
             tables.find(&table.text),
             table,
             values.as_slice(),
@@ -139,7 +140,7 @@ fn check_statement(
             ..
         } => check_update(
             alloc,
-            scope.as_slice(),
+            scope,
             tables.find(&table.text),
             table,
             items.as_slice(),
@@ -147,86 +148,79 @@ fn check_statement(
             faults,
         ),
         Stmt::Delete { table, conds, .. } => check_delete(
-            scope.as_slice(),
+            scope,
             tables.find(&table.text),
             table,
             conds.as_slice(),
             faults,
         ),
-        Stmt::Print { values, .. } => {
-            check_values(scope.as_slice(), &[], values.as_slice(), faults)
-        }
+        Stmt::Print { values, .. } => { check_values(scope, &[], values.as_slice(), faults) }
         Stmt::Rollback { .. } => Ok(()),
     }
 }
 
 /// Checks a FOR over SELECT. Its row is in scope in its body only.
 #[cycle(statements)]
-fn check_for_select(
+fn check_for_select<'a>(
     alloc: Global,
     tables: &Index<'_, Table<'_>>,
-    turn: &Name,
+    turn: &'a Name,
     columns: &[Name],
     table: &Name,
     conds: &[Cond],
     sorts: &[Sort],
-    body: &[Stmt],
-    scope: &mut List<Entry>,
+    body: &'a [Stmt],
+    scope: &mut Scope<'a, Entry>,
     faults: &mut List<Fault>,
 ) -> Result<(), NoMemory>
     ensures faults { OnOk result (faults.new ≡ faults.old ++ for_select (table_named tables.now table.now.text) turn.now columns.now table.now conds.now sorts.now (statements tables.now body.now) scope.old) }
     ensures scope { OnOk result (scope.new ≡ scope.old) }
 {
     let found = tables.find(&table.text);
-    check_turn_name(scope.as_slice(), turn, faults)?;
-    check_selected(
-        scope.as_slice(),
-        found,
-        columns,
-        table,
-        conds,
-        sorts,
-        faults,
-    )?;
-    let entry = turn_of_select(alloc, turn, columns_in(found), columns)?;
-    check_body(alloc, tables, entry, body, scope, faults)
+    check_turn_name(scope, turn, faults)?;
+    let fields = check_selected(alloc, scope, found, columns, table, conds, sorts, faults)?;
+    let entry = turn_with(alloc, turn, fields)?;
+    check_body(alloc, tables, turn, entry, body, scope, faults)
 }
 
 /// Checks a FOR over a ROWS parameter.
 #[cycle(statements)]
-fn check_for_rows(
+fn check_for_rows<'a>(
     alloc: Global,
     tables: &Index<'_, Table<'_>>,
-    turn: &Name,
+    turn: &'a Name,
     rows: &Name,
-    body: &[Stmt],
-    scope: &mut List<Entry>,
+    body: &'a [Stmt],
+    scope: &mut Scope<'a, Entry>,
     faults: &mut List<Fault>,
 ) -> Result<(), NoMemory>
     ensures faults { OnOk result (faults.new ≡ faults.old ++ for_rows turn.now rows.now (statements tables.now body.now) scope.old) }
     ensures scope { OnOk result (scope.new ≡ scope.old) }
 {
-    check_turn_name(scope.as_slice(), turn, faults)?;
-    check_rows(scope.as_slice(), rows, faults)?;
-    let entry = turn_of_rows(alloc, turn, scope.as_slice(), rows)?;
-    check_body(alloc, tables, entry, body, scope, faults)
+    let found = scope.find(&rows.text);
+    check_turn_name(scope, turn, faults)?;
+    check_rows(found, rows.token, faults)?;
+    let entry = turn_with(alloc, turn, fields_of(alloc, found)?)?;
+    check_body(alloc, tables, turn, entry, body, scope, faults)
 }
 
 /// Checks the body of a loop, with its row in scope.
 #[cycle(statements)]
-fn check_body(
+fn check_body<'a>(
     alloc: Global,
     tables: &Index<'_, Table<'_>>,
-    turn: Entry,
-    body: &[Stmt],
-    scope: &mut List<Entry>,
+    turn: &'a Name,
+    entry: Entry,
+    body: &'a [Stmt],
+    scope: &mut Scope<'a, Entry>,
     faults: &mut List<Fault>,
 ) -> Result<(), NoMemory>
-    ensures faults { OnOk result (faults.new ≡ faults.old ++ statements tables.now body.now (scope.old ++ turn ∷ [])) }
+    requires { turn.now.text ≡ entry.name }
+    ensures faults { OnOk result (faults.new ≡ faults.old ++ statements tables.now body.now (scope.old ++ entry ∷ [])) }
     ensures scope { OnOk result (scope.new ≡ scope.old) }
 {
     let outside = scope.len();
-    scope.push(turn)?;
+    scope.push(turn.text.as_slice(), entry)?;
     check_statements(alloc, tables, body, scope, faults)?;
     leave(scope, outside);
     Ok(())

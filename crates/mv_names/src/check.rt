@@ -11,6 +11,7 @@ use crate::fault::{Fault, add_if};
 use crate::index::Index;
 use crate::items::{check_call, check_copy, check_procedure, check_table_def};
 use crate::labels::check_doubles;
+use crate::nested::Scope;
 use crate::parts::Parts;
 use crate::tables::{Table, with_columns};
 use mv_ast::tree::{CallDef, CopyDef, Item, ItemKind, ProcDef, TableDef};
@@ -70,7 +71,7 @@ pub fn check_order(items: &[Item], faults: &mut List<Fault>) -> Result<(), NoMem
 
 fn check_tables(
     alloc: Global,
-    tables: &[TableDef],
+    tables: &[Table<'_>],
     faults: &mut List<Fault>,
 ) -> Result<(), NoMemory>
     ensures { OnOk result (faults.new ≡ faults.old ++ flat_map meant.table tables.now) }
@@ -130,7 +131,7 @@ fn check_table_names(
 ) -> Result<(), NoMemory>
     ensures { OnOk result (faults.new ≡ faults.old ++ meant.table_doubles tables.now) }
 {
-    check_doubles(alloc, &mut List::new(alloc), tables, faults)
+    check_doubles(alloc, &mut Scope::new(alloc), tables, faults)
 }
 
 fn check_procedure_names(
@@ -140,7 +141,7 @@ fn check_procedure_names(
 ) -> Result<(), NoMemory>
     ensures { OnOk result (faults.new ≡ faults.old ++ meant.procedure_doubles procedures.now) }
 {
-    check_doubles(alloc, &mut List::new(alloc), procedures, faults)
+    check_doubles(alloc, &mut Scope::new(alloc), procedures, faults)
 }
 
 /// Adds all faults of the items except those of their order. Fails if memory runs out.
@@ -151,11 +152,11 @@ pub fn check_parts(alloc: Global, parts: &Parts, faults: &mut List<Fault>) -> Re
     let procedures = parts.procedures.as_slice();
     check_table_names(alloc, tables, faults)?;
     check_procedure_names(alloc, procedures, faults)?;
-    check_tables(alloc, tables, faults)?;
-    let named = with_columns(alloc, tables)?;
-    let named = Index::of(alloc, named.as_slice())?;
-    check_procedures(alloc, &named, procedures, faults)?;
-    check_copies(&named, parts.copies.as_slice(), faults)?;
+    let tables = with_columns(alloc, tables)?;
+    check_tables(alloc, tables.as_slice(), faults)?;
+    let tables = Index::of(alloc, tables.as_slice())?;
+    check_procedures(alloc, &tables, procedures, faults)?;
+    check_copies(&tables, parts.copies.as_slice(), faults)?;
     check_calls(alloc, procedures, parts.calls.as_slice(), faults)?;
     Ok(())
 }

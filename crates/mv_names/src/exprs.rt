@@ -8,6 +8,7 @@ ghost use Rattle.mv_names.specs.Typing.{clash, misfit, read_type, read_faults, o
 use crate::fault::{Fault, add_if};
 use crate::index::Index;
 use crate::named::find;
+use crate::nested::Scope;
 use crate::scope::{Entry, Field, Meaning, ValueType};
 use mv_ast::tree::{ColDef, Expr, ExprKind, Name, OneOp, TwoOp};
 use mv_values::list::List;
@@ -31,19 +32,6 @@ pub(crate) fn value_kind(value: &Value) -> ValueType
     match value {
         Value::Int(_) => ValueType::Int,
         Value::Text(_) => ValueType::Text,
-    }
-}
-
-/// Returns the type of a column; unknown if the table or the column doesn't exist.
-pub(crate) fn kind_among(columns: Option<&Index<'_, ColDef>>, name: &Name) -> ValueType
-    ensures { result ≡ type_among (option_copied columns.entry) name.now.text }
-{
-    match columns {
-        None => ValueType::Unknown,
-        Some(columns) => match columns.find(&name.text) {
-            None => ValueType::Unknown,
-            Some(column) => column_kind(column.kind),
-        },
     }
 }
 
@@ -71,7 +59,7 @@ pub(crate) fn check_fit(
 
 /// Checks a name read as a value, in an expression that begins at this token. Returns its type.
 fn check_variable(
-    scope: &[Entry],
+    scope: &Scope<'_, Entry>,
     name: &Name,
     token: u32,
     faults: &mut List<Fault>,
@@ -79,7 +67,7 @@ fn check_variable(
     ensures kind { IfOk result (λ t. t ≡ read_type (entry_of scope.now name.now.text)) }
     ensures faults { OnOk result (faults.new ≡ faults.old ++ read_faults name.now token (entry_of scope.now name.now.text)) }
 {
-    match find(scope, &name.text) {
+    match scope.find(&name.text) {
         None => {
             faults.push(Fault::unknown(name.token))?;
             Ok(ValueType::Unknown)
@@ -119,7 +107,7 @@ fn check_in_turn(
 
 /// Checks a column of a loop's row, in an expression that begins at this token. Returns its type.
 fn check_field(
-    scope: &[Entry],
+    scope: &Scope<'_, Entry>,
     row: &Name,
     name: &Name,
     token: u32,
@@ -128,7 +116,7 @@ fn check_field(
     ensures kind { IfOk result (λ t. t ≡ of_turn_type (entry_of scope.now row.now.text) name.now) }
     ensures faults { OnOk result (faults.new ≡ faults.old ++ of_turn_faults row.now token (entry_of scope.now row.now.text) name.now) }
 {
-    match find(scope, &row.text) {
+    match scope.find(&row.text) {
         None => {
             faults.push(Fault::unknown(row.token))?;
             Ok(ValueType::Unknown)
@@ -217,7 +205,7 @@ fn given_by_two(op: TwoOp) -> ValueType
 /// Adds the faults of an expression and returns its type.
 #[cycle(judging)]
 pub(crate) fn check_expr(
-    scope: &[Entry],
+    scope: &Scope<'_, Entry>,
     columns: Option<&Index<'_, ColDef>>,
     e: &Expr,
     faults: &mut List<Fault>,
@@ -246,7 +234,7 @@ pub(crate) fn check_expr(
 #[cycle(judging)]
 pub(crate) fn check_operand(
     place: ValueType,
-    scope: &[Entry],
+    scope: &Scope<'_, Entry>,
     columns: Option<&Index<'_, ColDef>>,
     e: &Expr,
     faults: &mut List<Fault>,
@@ -262,7 +250,7 @@ pub(crate) fn check_operand(
 /// Checks an expression in a place of this type. It may not contain bare columns.
 pub(crate) fn check_placed(
     place: ValueType,
-    scope: &[Entry],
+    scope: &Scope<'_, Entry>,
     e: &Expr,
     faults: &mut List<Fault>,
 ) -> Result<(), NoMemory>

@@ -2,7 +2,7 @@
 
 ghost use Rattle.std.specs.Prelude.{◌≡◌, [], slice_get, IfOk};
 ghost use Rattle.std.specs.Option.{option_copied};
-ghost use Rattle.mv_names.specs.Named.{first_named, place_named};
+ghost use Rattle.mv_names.specs.Named.{is_named, first_named, place_named};
 ghost use Rattle.mv_names.specs.Index.{place_in};
 
 use crate::named::Named;
@@ -68,6 +68,13 @@ impl<'a, T: Named> Index<'a, T> {
         }
     }
 
+    /// Whether an item has the name. Costs a hash of the name.
+    pub fn has(&self, name: &Txt) -> bool
+        ensures { result ≡ is_named T.name_of self.now name.now }
+    {
+        self.seek(name).is_some()
+    }
+
     /// Returns the place of the first item with the name, or the number of items if none has it. Costs a hash of the
     /// name.
     pub fn place(&self, name: &Txt) -> usize
@@ -98,7 +105,7 @@ impl<'a, T: Named> Index<'a, T> {
 }
 
 /// Returns the item at a place.
-fn item_at<T>(items: &[T], place: usize) -> Option<&T>
+pub(crate) fn item_at<T>(items: &[T], place: usize) -> Option<&T>
     ensures { option_copied result ≡ slice_get items.now place }
 {
     items.get(place)

@@ -12,12 +12,12 @@ use crate::exprs::{column_kind, value_kind};
 use crate::fault::{Fault, add_if};
 use crate::index::Index;
 use crate::labels::check_doubles;
-use crate::named::has_name;
+use crate::nested::Scope;
 use crate::scope::{Entry, Field, Meaning, ValueType};
 use crate::statements::check_table;
 use crate::tables::Table;
 use mv_ast::tree::{
-    Arg, CallDef, ColDef, CopyDef, Lit, LitRow, Name, Param, ParamKind, ProcDef, TableDef, VarDef,
+    Arg, CallDef, ColDef, CopyDef, Lit, LitRow, Name, Param, ParamKind, ProcDef, VarDef,
 };
 use mv_values::copied::Copied;
 use mv_values::list::List;
@@ -94,22 +94,26 @@ fn check_column_names(
 ) -> Result<(), NoMemory>
     ensures { OnOk result (faults.new ≡ faults.old ++ meant.column_doubles columns.now) }
 {
-    check_doubles(alloc, &mut List::new(alloc), columns, faults)
+    check_doubles(alloc, &mut Scope::new(alloc), columns, faults)
 }
 
 /// Reports a key column that doesn't exist.
 fn check_key_column(
-    columns: &[ColDef],
+    columns: &Index<'_, ColDef>,
     name: &Name,
     faults: &mut List<Fault>,
 ) -> Result<(), NoMemory>
     ensures { OnOk result (faults.new ≡ faults.old ++ meant.missing_key columns.now name.now) }
 {
-    let is_there = has_name(columns, &name.text);
+    let is_there = columns.has(&name.text);
     add_if(faults, !is_there, Fault::unknown(name.token))
 }
 
-fn check_key(columns: &[ColDef], key: &[Name], faults: &mut List<Fault>) -> Result<(), NoMemory>
+fn check_key(
+    columns: &Index<'_, ColDef>,
+    key: &[Name],
+    faults: &mut List<Fault>,
+) -> Result<(), NoMemory>
     ensures { OnOk result (faults.new ≡ faults.old ++ flat_map (meant.missing_key columns.now) key.now) }
 {
     for name in key {
@@ -121,23 +125,24 @@ fn check_key(columns: &[ColDef], key: &[Name], faults: &mut List<Fault>) -> Resu
 fn check_key_names(alloc: Global, key: &[Name], faults: &mut List<Fault>) -> Result<(), NoMemory>
     ensures { OnOk result (faults.new ≡ faults.old ++ meant.key_doubles key.now) }
 {
-    let mut taken = List::new(alloc);
+    let mut taken = Scope::new(alloc);
     check_doubles(alloc, &mut taken, key, faults)?;
     Ok(())
 }
 
 pub(crate) fn check_table_def(
     alloc: Global,
-    table: &TableDef,
+    table: &Table<'_>,
     faults: &mut List<Fault>,
 ) -> Result<(), NoMemory>
     ensures { OnOk result (faults.new ≡ faults.old ++ meant.table table.now) }
 {
-    let columns = table.columns.as_slice();
+    let definition = table.definition();
+    let columns = definition.columns.as_slice();
     check_column_names(alloc, columns, faults)?;
-    check_key(columns, table.key.as_slice(), faults)?;
-    check_key_names(alloc, table.key.as_slice(), faults)?;
-    check_rows(columns, table.rows.as_slice(), faults)
+    check_key(table.columns(), definition.key.as_slice(), faults)?;
+    check_key_names(alloc, definition.key.as_slice(), faults)?;
+    check_rows(columns, definition.rows.as_slice(), faults)
 }
 
 // Procedures
@@ -195,10 +200,10 @@ fn found_name(alloc: Global) -> Result<Txt, NoMemory>
 }
 
 /// Reports parameters and variables whose name is taken. Both share one namespace.
-fn check_names(
+fn check_names<'a>(
     alloc: Global,
-    taken: &mut List<Txt>,
-    procedure: &ProcDef,
+    taken: &mut Scope<'a, Txt>,
+    procedure: &'a ProcDef,
     faults: &mut List<Fault>,
 ) -> Result<(), NoMemory>
     ensures { OnOk result (faults.new ≡ faults.old ++ meant.name_doubles taken.old procedure.now) }
@@ -209,11 +214,11 @@ fn check_names(
 }
 
 /// Returns the names that are taken from the start.
-fn first_names(alloc: Global) -> Result<List<Txt>, NoMemory>
+fn first_names<'a>(alloc: Global) -> Result<Scope<'a, Txt>, NoMemory>
     ensures { IfOk result (λ all. all ≡ found.name ∷ []) }
 {
-    let mut taken = List::new(alloc);
-    taken.push(found_name(alloc)?)?;
+    let mut taken = Scope::new(alloc);
+    taken.push(FOUND, found_name(alloc)?)?;
     Ok(taken)
 }
 
@@ -241,39 +246,55 @@ fn meaning_of_param(alloc: Global, kind: &ParamKind) -> Result<Meaning, NoMemory
     }
 }
 
-fn add_params(alloc: Global, scope: &mut List<Entry>, params: &[Param]) -> Result<(), NoMemory>
+fn add_params<'a>(
+    alloc: Global,
+    scope: &mut Scope<'a, Entry>,
+    params: &'a [Param],
+) -> Result<(), NoMemory>
     ensures { OnOk result (scope.new ≡ scope.old ++ map parameter params.now) }
 {
     for param in params {
-        scope.push(Entry {
-            name: param.name.text.copy(alloc)?,
+        let name = &param.name.text;
+        let entry = Entry {
+            name: name.copy(alloc)?,
             meaning: meaning_of_param(alloc, &param.kind)?,
-        })?;
+        };
+        scope.push(name.as_slice(), entry)?;
     }
     Ok(())
 }
 
-fn add_vars(alloc: Global, scope: &mut List<Entry>, vars: &[VarDef]) -> Result<(), NoMemory>
+fn add_vars<'a>(
+    alloc: Global,
+    scope: &mut Scope<'a, Entry>,
+    vars: &'a [VarDef],
+) -> Result<(), NoMemory>
     ensures { OnOk result (scope.new ≡ scope.old ++ map variable vars.now) }
 {
     for var in vars {
-        scope.push(Entry {
-            name: var.name.text.copy(alloc)?,
+        let name = &var.name.text;
+        let entry = Entry {
+            name: name.copy(alloc)?,
             meaning: Meaning::Variable(value_kind(&var.initial.value)),
-        })?;
+        };
+        scope.push(name.as_slice(), entry)?;
     }
     Ok(())
 }
 
 /// Returns the names in scope in a procedure outside its loops.
-fn names_of_procedure(alloc: Global, procedure: &ProcDef) -> Result<List<Entry>, NoMemory>
+fn names_of_procedure<'a>(
+    alloc: Global,
+    procedure: &'a ProcDef,
+) -> Result<Scope<'a, Entry>, NoMemory>
     ensures { IfOk result (λ all. all ≡ scope_of procedure.now) }
 {
-    let mut scope = List::new(alloc);
-    scope.push(Entry {
+    let mut scope = Scope::new(alloc);
+    let found = Entry {
         name: found_name(alloc)?,
         meaning: Meaning::Fixed(ValueType::Int),
-    })?;
+    };
+    scope.push(FOUND, found)?;
     add_params(alloc, &mut scope, procedure.params.as_slice())?;
     add_vars(alloc, &mut scope, procedure.vars.as_slice())?;
     Ok(scope)

@@ -4,7 +4,7 @@ ghost use Rattle.std.specs.Prelude.{◌≡◌, ◌++◌, map, OnOk};
 ghost use Rattle.mv_names.specs.Statements.{doubles};
 
 use crate::fault::{Fault, add_if};
-use crate::named::has_name;
+use crate::nested::Scope;
 use mv_ast::tree::{ColDef, Name, Param, ProcDef, SetItem, TableDef, VarDef};
 use mv_values::copied::Copied;
 use mv_values::list::List;
@@ -80,12 +80,12 @@ impl Labelled for SetItem {
     }
 }
 
-/// Reports each name that is taken or occurs earlier in `items`, then adds all names to `taken`. Costs the number of
-/// items times the number of names taken.
-pub(crate) fn check_doubles<T: Labelled>(
+/// Reports each name that is taken or occurs earlier in `items`, then adds all names to `taken`. Costs three hashes of
+/// each name.
+pub(crate) fn check_doubles<'a, T: Labelled>(
     alloc: Global,
-    taken: &mut List<Txt>,
-    items: &[T],
+    taken: &mut Scope<'a, Txt>,
+    items: &'a [T],
     faults: &mut List<Fault>,
 ) -> Result<(), NoMemory>
     ensures faults { OnOk result (faults.new ≡ faults.old ++ doubles T.label_of taken.old items.now) }
@@ -93,12 +93,8 @@ pub(crate) fn check_doubles<T: Labelled>(
 {
     for item in items {
         let name = item.label();
-        add_if(
-            faults,
-            has_name(taken.as_slice(), &name.text),
-            Fault::double(name.token),
-        )?;
-        taken.push(name.text.copy(alloc)?)?;
+        add_if(faults, taken.has(&name.text), Fault::double(name.token))?;
+        taken.push(name.text.as_slice(), name.text.copy(alloc)?)?;
     }
     Ok(())
 }

@@ -9,6 +9,7 @@ pub mod index;
 mod items;
 mod labels;
 pub mod named;
+pub mod nested;
 pub mod parts;
 pub mod scope;
 mod statements;

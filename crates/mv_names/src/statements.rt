@@ -3,16 +3,17 @@
 ghost use Rattle.std.specs.Prelude.{◌≡◌, ◌∷◌, ◌++◌, [], map, OnOk, IfOk, not, ◌==◌, length};
 ghost use Rattle.std.specs.List.{flat_map};
 ghost use Rattle.std.specs.Option.{option_copied};
-ghost use Rattle.mv_names.specs.Scope.{entry_of, columns_of, fields_of, declared_field, type_among, selected_field, select_turn, rows_turn};
+ghost use Rattle.mv_names.specs.Scope.{entry_of, columns_of, fields_of, declared_field, type_among, types_of, selected_field, turn_with};
 ghost use Rattle.mv_names.specs.Typing.{column_faults};
 ghost use Rattle.mv_ast.specs.declared.tree.Agg.TheVariants.{Sum};
 ghost use Rattle.mv_names.specs.Statements.{doubles, table_named, missing_table, target_type, target_faults, target, targets, names_token, values_token, cond_faults, where_faults, order_faults, offset_faults, agg_type, agg_faults, turn_name, rows_faults, values_faults, is_key, item_faults, statements, statement_faults, all_faults, assign, select, total, for_select, for_rows, branch, insert, update, delete};
 
-use crate::exprs::{check_column, check_fit, check_operand, check_placed, column_kind, kind_among};
+use crate::exprs::{check_column, check_fit, check_operand, check_placed, column_kind};
 use crate::fault::{Fault, add_if};
 use crate::index::Index;
 use crate::labels::check_doubles;
-use crate::named::{find, has_name};
+use crate::named::has_name;
+use crate::nested::Scope;
 use crate::scope::{Entry, Field, Meaning, ValueType};
 use crate::tables::Table;
 use mv_ast::tree::{Agg, ColDef, Cond, Expr, Name, SetItem, Sort};
@@ -49,14 +50,14 @@ pub(crate) fn check_table(
 
 /// Reports a target that isn't a declared variable. Returns the target's type.
 fn check_target(
-    scope: &[Entry],
+    scope: &Scope<'_, Entry>,
     name: &Name,
     faults: &mut List<Fault>,
 ) -> Result<ValueType, NoMemory>
     ensures kind { IfOk result (λ t. t ≡ target_type (entry_of scope.now name.now.text)) }
     ensures faults { OnOk result (faults.new ≡ faults.old ++ target_faults name.now.token (entry_of scope.now name.now.text)) }
 {
-    match find(scope, &name.text) {
+    match scope.find(&name.text) {
         None => {
             faults.push(Fault::unknown(name.token))?;
             Ok(ValueType::Unknown)
@@ -73,7 +74,7 @@ fn check_target(
 
 /// Checks a target that receives a value of this type.
 fn check_taking(
-    scope: &[Entry],
+    scope: &Scope<'_, Entry>,
     value: ValueType,
     name: &Name,
     faults: &mut List<Fault>,
@@ -85,19 +86,18 @@ fn check_taking(
     Ok(())
 }
 
-/// Checks a target for each column.
+/// Checks a target for each value.
 fn check_targets(
-    scope: &[Entry],
-    columns: Option<&Index<'_, ColDef>>,
-    names: &[Name],
+    scope: &Scope<'_, Entry>,
+    values: &[ValueType],
     to: &[Name],
     faults: &mut List<Fault>,
 ) -> Result<(), NoMemory>
-    ensures { OnOk result (faults.new ≡ faults.old ++ targets scope.now (option_copied columns.entry) names.now to.now) }
+    ensures { OnOk result (faults.new ≡ faults.old ++ targets scope.now values.now to.now) }
 {
     for i in 0..to.len() {
-        let value = match names.get(i) {
-            Some(name) => kind_among(columns, name),
+        let value = match values.get(i) {
+            Some(value) => *value,
             None => ValueType::Unknown,
         };
         check_taking(scope, value, &to[i], faults)?;
@@ -126,22 +126,26 @@ fn token_of_values(values: &[Expr], token: u32) -> u32
     }
 }
 
+/// Reports each column that doesn't exist. Returns the types of the columns.
 fn check_columns(
+    alloc: Global,
     columns: Option<&Index<'_, ColDef>>,
     names: &[Name],
     faults: &mut List<Fault>,
-) -> Result<(), NoMemory>
-    ensures { OnOk result (faults.new ≡ faults.old ++ flat_map (column_faults (option_copied columns.entry)) names.now) }
+) -> Result<List<ValueType>, NoMemory>
+    ensures kinds { IfOk result (λ all. all ≡ types_of (option_copied columns.entry) names.now) }
+    ensures faults { OnOk result (faults.new ≡ faults.old ++ flat_map (column_faults (option_copied columns.entry)) names.now) }
 {
+    let mut kinds = List::new(alloc);
     for name in names {
-        check_column(columns, name, faults)?;
+        kinds.push(check_column(columns, name, faults)?)?;
     }
-    Ok(())
+    Ok(kinds)
 }
 
 /// Checks a condition of WHERE.
 fn check_cond(
-    scope: &[Entry],
+    scope: &Scope<'_, Entry>,
     columns: Option<&Index<'_, ColDef>>,
     cond: &Cond,
     faults: &mut List<Fault>,
@@ -153,7 +157,7 @@ fn check_cond(
 }
 
 fn check_where(
-    scope: &[Entry],
+    scope: &Scope<'_, Entry>,
     columns: Option<&Index<'_, ColDef>>,
     conds: &[Cond],
     faults: &mut List<Fault>,
@@ -180,7 +184,7 @@ fn check_order(
 }
 
 fn check_offset(
-    scope: &[Entry],
+    scope: &Scope<'_, Entry>,
     offset: &Option<Expr>,
     faults: &mut List<Fault>,
 ) -> Result<(), NoMemory>
@@ -229,7 +233,7 @@ fn check_agg(
 
 /// Checks a value for each column.
 pub(crate) fn check_values(
-    scope: &[Entry],
+    scope: &Scope<'_, Entry>,
     columns: &[ColDef],
     values: &[Expr],
     faults: &mut List<Fault>,
@@ -258,7 +262,7 @@ fn is_in_key(table: Option<&Table<'_>>, name: &Name) -> bool
 
 /// Checks an item of SET.
 fn check_item(
-    scope: &[Entry],
+    scope: &Scope<'_, Entry>,
     table: Option<&Table<'_>>,
     item: &SetItem,
     faults: &mut List<Fault>,
@@ -277,7 +281,7 @@ fn check_item(
 }
 
 fn check_items(
-    scope: &[Entry],
+    scope: &Scope<'_, Entry>,
     table: Option<&Table<'_>>,
     items: &[SetItem],
     faults: &mut List<Fault>,
@@ -294,75 +298,66 @@ fn check_items(
 
 /// Reports a loop's name that is already in scope.
 pub(crate) fn check_turn_name(
-    scope: &[Entry],
+    scope: &Scope<'_, Entry>,
     name: &Name,
     faults: &mut List<Fault>,
 ) -> Result<(), NoMemory>
     ensures { OnOk result (faults.new ≡ faults.old ++ turn_name scope.now name.now) }
 {
-    add_if(
-        faults,
-        has_name(scope, &name.text),
-        Fault::double(name.token),
-    )
+    add_if(faults, scope.has(&name.text), Fault::double(name.token))
 }
 
 /// Reports a loop's parameter that doesn't exist or isn't a ROWS parameter.
 pub(crate) fn check_rows(
-    scope: &[Entry],
-    name: &Name,
+    found: Option<&Entry>,
+    token: u32,
     faults: &mut List<Fault>,
 ) -> Result<(), NoMemory>
-    ensures { OnOk result (faults.new ≡ faults.old ++ rows_faults name.now.token (entry_of scope.now name.now.text)) }
+    ensures { OnOk result (faults.new ≡ faults.old ++ rows_faults token (option_copied found.entry)) }
 {
-    match find(scope, &name.text) {
-        None => faults.push(Fault::unknown(name.token)),
+    match found {
+        None => faults.push(Fault::unknown(token)),
         Some(entry) => match &entry.meaning {
             Meaning::Rows(_) => Ok(()),
-            _ => faults.push(Fault::wrong(name.token)),
+            _ => faults.push(Fault::wrong(token)),
         },
     }
 }
 
-/// Returns the selected columns as the fields of a loop's row.
+/// Reports each selected column that doesn't exist. Returns the columns as the fields of a loop's row.
 fn selected_fields(
     alloc: Global,
     columns: Option<&Index<'_, ColDef>>,
     names: &[Name],
+    faults: &mut List<Fault>,
 ) -> Result<List<Field>, NoMemory>
-    ensures { IfOk result (λ all. all ≡ map (selected_field (option_copied columns.entry)) names.now) }
+    ensures fields { IfOk result (λ all. all ≡ map (selected_field (option_copied columns.entry)) names.now) }
+    ensures faults { OnOk result (faults.new ≡ faults.old ++ flat_map (column_faults (option_copied columns.entry)) names.now) }
 {
     let mut fields = List::new(alloc);
     for name in names {
-        fields.push(Field {
-            name: name.text.copy(alloc)?,
-            kind: kind_among(columns, name),
-        })?;
+        let kind = check_column(columns, name, faults)?;
+        let name = name.text.copy(alloc)?;
+        fields.push(Field { name, kind })?;
     }
     Ok(fields)
 }
 
-/// Returns the row of a loop over a SELECT.
-pub(crate) fn turn_of_select(
-    alloc: Global,
-    turn: &Name,
-    columns: Option<&Index<'_, ColDef>>,
-    names: &[Name],
-) -> Result<Entry, NoMemory>
-    ensures { IfOk result (λ e. e ≡ select_turn turn.now (option_copied columns.entry) names.now) }
+/// Returns the row of a loop with these fields.
+pub(crate) fn turn_with(alloc: Global, turn: &Name, fields: List<Field>) -> Result<Entry, NoMemory>
+    ensures { IfOk result (λ e. e ≡ turn_with turn.now fields) }
 {
-    let fields = selected_fields(alloc, columns, names)?;
     Ok(Entry {
         name: turn.text.copy(alloc)?,
         meaning: Meaning::Turn(fields),
     })
 }
 
-/// Returns the columns of a ROWS parameter; empty for any other name.
-fn fields_named(alloc: Global, scope: &[Entry], rows: &Name) -> Result<List<Field>, NoMemory>
-    ensures { IfOk result (λ all. all ≡ fields_of (entry_of scope.now rows.now.text)) }
+/// Returns the columns of a ROWS parameter; empty for anything else.
+pub(crate) fn fields_of(alloc: Global, found: Option<&Entry>) -> Result<List<Field>, NoMemory>
+    ensures { IfOk result (λ all. all ≡ fields_of (option_copied found.entry)) }
 {
-    match find(scope, &rows.text) {
+    match found {
         None => Ok(List::new(alloc)),
         Some(entry) => match &entry.meaning {
             Meaning::Rows(fields) => fields.copy(alloc),
@@ -371,26 +366,10 @@ fn fields_named(alloc: Global, scope: &[Entry], rows: &Name) -> Result<List<Fiel
     }
 }
 
-/// Returns the row of a loop over a ROWS parameter.
-pub(crate) fn turn_of_rows(
-    alloc: Global,
-    turn: &Name,
-    scope: &[Entry],
-    rows: &Name,
-) -> Result<Entry, NoMemory>
-    ensures { IfOk result (λ e. e ≡ rows_turn turn.now scope.now rows.now) }
-{
-    let fields = fields_named(alloc, scope, rows)?;
-    Ok(Entry {
-        name: turn.text.copy(alloc)?,
-        meaning: Meaning::Turn(fields),
-    })
-}
-
 // Statements
 
 pub(crate) fn check_assign(
-    scope: &[Entry],
+    scope: &Scope<'_, Entry>,
     to: &Name,
     right: &Expr,
     faults: &mut List<Fault>,
@@ -402,7 +381,8 @@ pub(crate) fn check_assign(
 }
 
 pub(crate) fn check_select(
-    scope: &[Entry],
+    alloc: Global,
+    scope: &Scope<'_, Entry>,
     table: Option<&Table<'_>>,
     columns: &[Name],
     to: &[Name],
@@ -416,36 +396,39 @@ pub(crate) fn check_select(
 {
     let own = columns_in(table);
     check_table(table, name.token, faults)?;
-    check_columns(own, columns, faults)?;
+    let kinds = check_columns(alloc, own, columns, faults)?;
     let token = token_of_names(to, name.token);
     add_if(faults, columns.len() != to.len(), Fault::wrong(token))?;
-    check_targets(scope, own, columns, to, faults)?;
+    check_targets(scope, kinds.as_slice(), to, faults)?;
     check_where(scope, own, conds, faults)?;
     check_order(own, sorts, faults)?;
     check_offset(scope, offset, faults)
 }
 
-/// Checks the head of a loop over a SELECT: its table, columns, WHERE and ORDER BY.
+/// Checks the head of a loop over a SELECT: its table, columns, WHERE and ORDER BY. Returns the fields of its row.
 pub(crate) fn check_selected(
-    scope: &[Entry],
+    alloc: Global,
+    scope: &Scope<'_, Entry>,
     table: Option<&Table<'_>>,
     columns: &[Name],
     name: &Name,
     conds: &[Cond],
     sorts: &[Sort],
     faults: &mut List<Fault>,
-) -> Result<(), NoMemory>
-    ensures { OnOk result (let own = columns_of (option_copied table.entry) in faults.new ≡ faults.old ++ missing_table name.now.token (option_copied table.entry) ++ flat_map (column_faults own) columns.now ++ where_faults scope.now own conds.now ++ order_faults own sorts.now) }
+) -> Result<List<Field>, NoMemory>
+    ensures fields { IfOk result (λ all. all ≡ map (selected_field (columns_of (option_copied table.entry))) columns.now) }
+    ensures faults { OnOk result (let own = columns_of (option_copied table.entry) in faults.new ≡ faults.old ++ missing_table name.now.token (option_copied table.entry) ++ flat_map (column_faults own) columns.now ++ where_faults scope.now own conds.now ++ order_faults own sorts.now) }
 {
     let own = columns_in(table);
     check_table(table, name.token, faults)?;
-    check_columns(own, columns, faults)?;
+    let fields = selected_fields(alloc, own, columns, faults)?;
     check_where(scope, own, conds, faults)?;
-    check_order(own, sorts, faults)
+    check_order(own, sorts, faults)?;
+    Ok(fields)
 }
 
 pub(crate) fn check_total(
-    scope: &[Entry],
+    scope: &Scope<'_, Entry>,
     table: Option<&Table<'_>>,
     agg: &Agg,
     to: &Name,
@@ -463,7 +446,7 @@ pub(crate) fn check_total(
 }
 
 pub(crate) fn check_insert(
-    scope: &[Entry],
+    scope: &Scope<'_, Entry>,
     table: Option<&Table<'_>>,
     name: &Name,
     values: &[Expr],
@@ -487,7 +470,7 @@ pub(crate) fn check_insert(
 
 pub(crate) fn check_update(
     alloc: Global,
-    scope: &[Entry],
+    scope: &Scope<'_, Entry>,
     table: Option<&Table<'_>>,
     name: &Name,
     items: &[SetItem],
@@ -497,13 +480,13 @@ pub(crate) fn check_update(
     ensures { OnOk result (faults.new ≡ faults.old ++ update (option_copied table.entry) name.now items.now conds.now scope.now) }
 {
     check_table(table, name.token, faults)?;
-    check_doubles(alloc, &mut List::new(alloc), items, faults)?;
+    check_doubles(alloc, &mut Scope::new(alloc), items, faults)?;
     check_items(scope, table, items, faults)?;
     check_where(scope, columns_in(table), conds, faults)
 }
 
 pub(crate) fn check_delete(
-    scope: &[Entry],
+    scope: &Scope<'_, Entry>,
     table: Option<&Table<'_>>,
     name: &Name,
     conds: &[Cond],

@@ -5,7 +5,7 @@ use Rattle.mv_catalog.proofs.build_statements.+statements.Goals as goal
 
 pub statement-returns-in-Assign-clause-built : goal.statement-returns-in-Assign-clause-built
 statement-returns-in-Assign-clause-built t c =
-    let k = rw (c.as_slice-seen.ensures) at c.assign.ensures in
+    let k = c.assign.ensures in
     rw (built_is c.args.tables.now c.args.s.now (layer.Assign c.in-Assign.token c.in-Assign.to c.in-Assign.right) _ c.in-Assign.is (rolls-Assign c.in-Assign.token c.in-Assign.to c.in-Assign.right)) k
 
 pub statement-returns-in-Assign-clause-next : goal.statement-returns-in-Assign-clause-next
@@ -13,7 +13,7 @@ statement-returns-in-Assign-clause-next t c = rw (built_is c.args.tables.now c.a
 
 pub statement-returns-in-Select-clause-built : goal.statement-returns-in-Select-clause-built
 statement-returns-in-Select-clause-built t c =
-    let k = rw (c.as_slice-seen.ensures, c.as_slice-columns.ensures, c.as_slice-to.ensures, c.as_slice-conds.ensures, c.as_slice-sorts.ensures) at c.select.ensures in
+    let k = rw (c.as_slice-columns.ensures, c.as_slice-to.ensures, c.as_slice-conds.ensures, c.as_slice-sorts.ensures) at c.select.ensures in
     rw (built_is c.args.tables.now c.args.s.now (layer.Select c.in-Select.token c.in-Select.columns c.in-Select.to c.in-Select.table c.in-Select.conds c.in-Select.sorts c.in-Select.offset) _ c.in-Select.is (rolls-Select c.in-Select.token c.in-Select.columns c.in-Select.to c.in-Select.table c.in-Select.conds c.in-Select.sorts c.in-Select.offset)) k
 
 pub statement-returns-in-Select-clause-next : goal.statement-returns-in-Select-clause-next
@@ -21,7 +21,7 @@ statement-returns-in-Select-clause-next t c = rw (built_is c.args.tables.now c.a
 
 pub statement-returns-in-Total-clause-built : goal.statement-returns-in-Total-clause-built
 statement-returns-in-Total-clause-built t c =
-    let k = rw (c.as_slice-seen.ensures, c.as_slice.ensures) at c.total.ensures in
+    let k = rw (c.as_slice.ensures) at c.total.ensures in
     rw (built_is c.args.tables.now c.args.s.now (layer.Total c.in-Total.token c.in-Total.agg c.in-Total.to c.in-Total.table c.in-Total.conds) _ c.in-Total.is (rolls-Total c.in-Total.token c.in-Total.agg c.in-Total.to c.in-Total.table c.in-Total.conds)) k
 
 pub statement-returns-in-Total-clause-next : goal.statement-returns-in-Total-clause-next
@@ -49,7 +49,7 @@ statement-returns-in-ForRows-clause-next t c =
 
 pub statement-returns-in-Insert-clause-built : goal.statement-returns-in-Insert-clause-built
 statement-returns-in-Insert-clause-built t c =
-    let k = rw (c.as_slice-seen.ensures, c.as_slice-in-Insert.ensures) at c.insert.ensures in
+    let k = rw (c.as_slice-in-Insert.ensures) at c.insert.ensures in
     rw (built_is c.args.tables.now c.args.s.now (layer.Insert c.in-Insert.token c.in-Insert.table c.in-Insert.values) _ c.in-Insert.is (rolls-Insert c.in-Insert.token c.in-Insert.table c.in-Insert.values)) k
 
 pub statement-returns-in-Insert-clause-next : goal.statement-returns-in-Insert-clause-next
@@ -57,7 +57,7 @@ statement-returns-in-Insert-clause-next t c = rw (built_is c.args.tables.now c.a
 
 pub statement-returns-in-Update-clause-built : goal.statement-returns-in-Update-clause-built
 statement-returns-in-Update-clause-built t c =
-    let k = rw (c.as_slice-seen.ensures, c.as_slice-in-Update.ensures, c.as_slice-in-Update-2.ensures) at c.update.ensures in
+    let k = rw (c.as_slice-in-Update.ensures, c.as_slice-in-Update-2.ensures) at c.update.ensures in
     rw (built_is c.args.tables.now c.args.s.now (layer.Update c.in-Update.token c.in-Update.table c.in-Update.items c.in-Update.conds) _ c.in-Update.is (rolls-Update c.in-Update.token c.in-Update.table c.in-Update.items c.in-Update.conds)) k
 
 pub statement-returns-in-Update-clause-next : goal.statement-returns-in-Update-clause-next
@@ -65,7 +65,7 @@ statement-returns-in-Update-clause-next t c = rw (built_is c.args.tables.now c.a
 
 pub statement-returns-in-Delete-clause-built : goal.statement-returns-in-Delete-clause-built
 statement-returns-in-Delete-clause-built t c =
-    let k = rw (c.as_slice-seen.ensures, c.as_slice-in-Delete.ensures) at c.delete.ensures in
+    let k = rw (c.as_slice-in-Delete.ensures) at c.delete.ensures in
     rw (built_is c.args.tables.now c.args.s.now (layer.Delete c.in-Delete.token c.in-Delete.table c.in-Delete.conds) _ c.in-Delete.is (rolls-Delete c.in-Delete.token c.in-Delete.table c.in-Delete.conds)) k
 
 pub statement-returns-in-Delete-clause-next : goal.statement-returns-in-Delete-clause-next
@@ -73,7 +73,7 @@ statement-returns-in-Delete-clause-next t c = rw (built_is c.args.tables.now c.a
 
 pub statement-returns-in-Print-clause-built : goal.statement-returns-in-Print-clause-built
 statement-returns-in-Print-clause-built t c =
-    let k = rw (c.as_slice-seen.ensures, c.as_slice-in-Print.ensures) at c.print.ensures in
+    let k = rw (c.as_slice-in-Print.ensures) at c.print.ensures in
     rw (built_is c.args.tables.now c.args.s.now (layer.Print c.in-Print.token c.in-Print.values) _ c.in-Print.is (rolls-Print c.in-Print.token c.in-Print.values)) k
 
 pub statement-returns-in-Print-clause-next : goal.statement-returns-in-Print-clause-next

@@ -1,7 +1,12 @@
 use Rattle.std.proofs.Common.{◌≡◌, ◌++◌, drop, map}
 use Rattle.std.specs.Option.{option_copied}
+use Rattle.std.specs.List.{flat_map}
 use Rattle.mv_names.specs.Scope.{selected_field}
+use Rattle.mv_names.specs.Typing.{column_faults}
 use Rattle.mv_names.proofs.statements.selected_fields.Given as goal
 
 abbrev pub invariant-loop-name : goal.invariant-loop-name
-invariant-loop-name l = l.fields ++ map (selected_field (option_copied l.columns)) (drop l.name-index l.names) ≡ map (selected_field (option_copied l.columns)) l.names
+invariant-loop-name l = record {
+  fields : l.fields ++ map (selected_field (option_copied l.columns)) (drop l.name-index l.names) ≡ map (selected_field (option_copied l.columns)) l.names;
+  faults : l.faults ++ flat_map (column_faults (option_copied l.columns)) (drop l.name-index l.names) ≡ l.fn.faults ++ flat_map (column_faults (option_copied l.columns)) l.names;
+}
