@@ -1,10 +1,12 @@
 """Scripts whose time and memory are measured.
 
 A script is a pair: the tables and procedures, and the calls with the journal. Both are lists or generators of pieces of
-text. What the calls take is the difference of two runs: with them and without.
+text. What the calls take is the difference of two runs: with them and without. The program writes the rows that are
+left. So rows that calls delete are read among the calls: then the run without calls doesn't write them either.
 """
 
 from itertools import chain
+from random import Random
 
 ROWS = 1000  # as many rows as a ROWS argument may have
 COMMITS = 64  # from one collection of `run` to the next
@@ -46,17 +48,63 @@ def numbered(table, count):
     return block(table, ((number, 0) for number in range(count)))
 
 
+def in_random_order(count):
+    """The numbers from 0 on, in an order that is the same each time."""
+    return Random(count).sample(range(count), count)
+
+
+def loop(body):
+    """A procedure that executes a body for each pair of rows."""
+    return f"""CREATE PROCEDURE p (:outer ROWS (i INT), :inner ROWS (i INT)) DECLARE :k = 0; DECLARE :x = 0; BEGIN
+  FOR :a IN :outer DO FOR :b IN :inner DO {body} END FOR; END FOR;
+END;
+"""
+
+
+def call_of_loop(n):
+    """A call that executes the body n times. An n over 1,000 is a multiple of it."""
+    inner = min(n, ROWS)
+    return f"CALL p({rows_of(range(n // inner))}, {rows_of(range(inner))});\n"
+
+
 def delete_of_all_rows(n):
-    return chain([NUMBERS, "CREATE PROCEDURE p () BEGIN DELETE FROM t; END;\n"], numbered("t", n)), ["CALL p();\n"]
+    procedure = "CREATE PROCEDURE p () BEGIN DELETE FROM t; END;\n"
+    return [NUMBERS, procedure], chain(numbered("t", n), ["CALL p();\n"])
+
+
+def delete_of_half_of_rows(n):
+    procedure = "CREATE PROCEDURE p () BEGIN DELETE FROM t WHERE v = 0; END;\n"
+    rows = block("t", ((number, number % 2) for number in range(n)))
+    return [NUMBERS, procedure], chain(rows, ["CALL p();\n"])
+
+
+def updates_in_a_call(n):
+    procedure = f"CREATE PROCEDURE p () BEGIN {20 * 'UPDATE t SET v = v + 1; '}END;\n"
+    return chain([NUMBERS, procedure], numbered("t", n)), ["CALL p();\n"]
 
 
 def falling_insertions(n):
-    procedure = """CREATE PROCEDURE p (:outer ROWS (i INT), :inner ROWS (i INT)) DECLARE :k = 0; BEGIN
-  FOR :a IN :outer DO FOR :b IN :inner DO SET :k = :k - 1; INSERT INTO t VALUES (:k, 0); END FOR; END FOR;
-END;
-"""
-    call = f"CALL p({rows_of(range(n // 100))}, {rows_of(range(100))});\n"
-    return [NUMBERS, procedure], [call]
+    return [NUMBERS, loop("SET :k = :k - 1; INSERT INTO t VALUES (:k, 0);")], [call_of_loop(n)]
+
+
+def insertion_at_the_end_in_a_call(n):
+    procedure = loop("SELECT MAX(id) INTO :x FROM t; INSERT INTO t VALUES (:x + 1, 0);")
+    return [NUMBERS, procedure, *numbered("t", 1)], [call_of_loop(n)]
+
+
+def queue_in_a_call(n):
+    procedure = loop("SELECT id INTO :x FROM t; DELETE FROM t WHERE id = :x;")
+    return [NUMBERS, procedure], chain(numbered("t", n), [call_of_loop(n)])
+
+
+def counter_in_a_call(n):
+    procedure = loop("UPDATE t SET v = v + 1 WHERE id = 0;")
+    return [NUMBERS, procedure, *numbered("t", 1)], [call_of_loop(n)]
+
+
+def own_write_and_zero(n):
+    procedure = loop("SET :k = :k + 1; INSERT INTO t VALUES (:k, 0); SELECT v INTO :x FROM t WHERE id = 0;")
+    return [NUMBERS, procedure, *numbered("t", 1)], [call_of_loop(n)]
 
 
 def last_of_many_procedures(n):
@@ -86,13 +134,20 @@ def one_counter(n):
     return [NUMBERS, procedure, *numbered("t", 1)], repeated(n, lambda _: "p()")
 
 
+def insertions_in_random_order(n):
+    keys = in_random_order(n)
+    procedure = "CREATE PROCEDURE p (:k INT) BEGIN INSERT INTO t VALUES (:k, 0); END;\n"
+    return [NUMBERS, procedure], repeated(n, lambda number: f"p({keys[number]})")
+
+
+def deletions_in_random_order(n):
+    keys = in_random_order(n)
+    procedure = "CREATE PROCEDURE p (:k INT) BEGIN DELETE FROM t WHERE id = :k; END;\n"
+    return [NUMBERS, procedure], chain(numbered("t", n), repeated(n, lambda number: f"p({keys[number]})"))
+
+
 def nested_loops(n):
-    procedure = """CREATE PROCEDURE p (:outer ROWS (i INT), :inner ROWS (i INT)) DECLARE :k = 0; BEGIN
-  FOR :a IN :outer DO FOR :b IN :inner DO SET :k = :k + 1; END FOR; END FOR;
-END;
-"""
-    call = f"CALL p({rows_of(range(n // ROWS))}, {rows_of(range(ROWS))});\n"
-    return [procedure], [call]
+    return [loop("SET :k = :k + 1;")], [call_of_loop(n)]
 
 
 # Scripts that differ in a statement of a loop.
@@ -105,23 +160,22 @@ STATEMENTS = {  # with how often a turn has each
     "SELECT of a key": ("SELECT v INTO :x FROM t WHERE id = :r.i; ", 4),
     "SELECT COUNT of a key": ("SELECT COUNT(*) INTO :x FROM t WHERE id = :r.i; ", 4),
     "UPDATE of a key": ("UPDATE t SET v = :k WHERE id = :r.i; ", 1),
-    "INSERT": ("INSERT INTO u VALUES (:k, 0); ", 1),
-    "DELETE of a key": ("DELETE FROM u WHERE id = :k; ", 1),
+    "INSERT, and the text of its row": ("INSERT INTO u VALUES (:k, 0); ", 1),
+    "DELETE of a key, and the COPY of its row": ("DELETE FROM u WHERE id = :k; ", 1),
 }
 
 
 def loop_with(text, calls):
-    """Calls that execute a text in each of 50 turns. Their keys rise from call to call. Table `u` has them if the text
-    deletes them."""
+    """Calls that execute a text in each of 50 turns. Their keys rise from call to call. If the text deletes rows, they
+    have a COPY of these before them."""
     tables = "".join(f"CREATE TABLE {name} (id INT, v INT, PRIMARY KEY (id));\n" for name in "tu")
     procedure = f"""CREATE PROCEDURE p (:first INT, :rows ROWS (i INT)) DECLARE :k = 0; DECLARE :x = 0; BEGIN
   SET :k = :first - 1; FOR :r IN :rows DO SET :k = :k + 1; {text}END FOR;
 END;
 """
     rows = calls * TURNS if text.startswith("DELETE") else 0
-    blocks = chain(numbered("t", ROWS), numbered("u", rows))
     call = lambda number: f"p({number * TURNS}, {rows_of((number * TURNS + 7 * i) % ROWS for i in range(TURNS))})"
-    return chain([tables, procedure], blocks), repeated(calls, call)
+    return [tables, procedure, *numbered("t", ROWS)], chain(numbered("u", rows), repeated(calls, call))
 
 
 def empty_calls(count):

@@ -323,25 +323,34 @@ def tpcc(bench):
 
 # The cost of a statement.
 
-GROWTH = {
-    "DELETE of n rows": (inputs.delete_of_all_rows, 100_000),
-    "n insertions with falling keys in a call": (inputs.falling_insertions, 20_000),
-    "n calls of the last of 256 procedures": (inputs.last_of_many_procedures, 50_000),
-    "n calls of MAX and INSERT": (inputs.insertion_at_the_end, 4_000),
-    "n calls of a queue": (inputs.queue, 10_000),
-    "n calls of one counter": (inputs.one_counter, 50_000),
-    "n statements in nested loops": (inputs.nested_loops, 400_000),
+GROWTH = {  # with n by `serial` and by `run`
+    "COPY and DELETE of n rows": (inputs.delete_of_all_rows, 100_000, 100_000),
+    "COPY of n rows and DELETE of half": (inputs.delete_of_half_of_rows, 100_000, 100_000),
+    "20 UPDATEs of n rows in a call": (inputs.updates_in_a_call, 10_000, 2_000),
+    "n INSERTs with falling keys in a call": (inputs.falling_insertions, 20_000, 20_000),
+    "n times MAX and INSERT in a call": (inputs.insertion_at_the_end_in_a_call, 4_000, 500),
+    "a queue of n rows in a call": (inputs.queue_in_a_call, 5_000, 500),
+    "n UPDATEs of one counter in a call": (inputs.counter_in_a_call, 100_000, 2_000),
+    "n INSERTs and SELECTs of key 0 in a call": (inputs.own_write_and_zero, 20_000, 20_000),
+    "n statements in nested loops": (inputs.nested_loops, 400_000, 400_000),
+    "n calls of the last of 256 procedures": (inputs.last_of_many_procedures, 50_000, 50_000),
+    "n calls of MAX and INSERT": (inputs.insertion_at_the_end, 4_000, 4_000),
+    "n calls of a queue": (inputs.queue, 10_000, 10_000),
+    "n calls of one counter": (inputs.one_counter, 50_000, 50_000),
+    "n calls of INSERT with random keys": (inputs.insertions_in_random_order, 50_000, 50_000),
+    "COPY, and n calls of DELETE with random keys": (inputs.deletions_in_random_order, 50_000, 50_000),
 }
+LONG_GROWTH = {"n INSERTs with falling keys, many more": (inputs.falling_insertions, 100_000, 100_000)}
 
 
 def growth(bench):
     rows = []
-    for case, (script, full) in GROWTH.items():
-        n = bench.size(full)
-        for command in ("serial", "run"):
+    for case, (script, *sizes) in (GROWTH | LONG_GROWTH if bench.long else GROWTH).items():
+        for command, full in zip(("serial", "run"), sizes):
+            n = bench.size(full)
             taken = bench.costs({"n": script(n), "2n": script(2 * n)}, (command,), bench.rounds)
             rows.append(growth_row(case, command, n, taken["n"], taken["2n"]))
-    header = ["case", "command", "n", "seconds", "of 2n", "ratio", "MB", "of 2n", "ratio"]
+    header = ["case", "command", "n", "seconds", "seconds of 2n", "growth", "MB", "MB of 2n", "MB growth"]
     show("Growth from n to 2n", header, rows)
 
 
