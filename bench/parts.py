@@ -104,9 +104,14 @@ def part_of(text, begin, end):
 ROUNDS = re.compile(r"\d+ \d+ starts [\d,]+ runs (\S+)")
 
 
+def rounds_of(text):
+    """The rounds of each commit, as a text's history writes them."""
+    return [ROUNDS.fullmatch(line)[1] for line in part_of(text, "history", "journal")]
+
+
 class Rounds(NamedTuple):
     """Of a history: the statements of first rounds and those executed again, the calls that executed some again, and
-    the moves."""
+    those that moved."""
 
     first: int
     again: int
@@ -117,13 +122,12 @@ class Rounds(NamedTuple):
 def rounds_in(text):
     """The rounds of a text's history. One without a number counts as none."""
     first = again = calls = moves = 0
-    for line in part_of(text, "history", "journal"):
-        rounds = ROUNDS.fullmatch(line)[1].split("+")
+    for rounds in (each.split("+") for each in rounds_of(text)):
         counts = [0 if number == "-" else int(number.rstrip("xm")) for number in rounds]
         first += counts[0]
         again += sum(counts[1:])
         calls += len(rounds) > 1
-        moves += sum(number.endswith("m") for number in rounds)
+        moves += any(number.endswith("m") for number in rounds)
     return Rounds(first, again, calls, moves)
 
 
@@ -212,7 +216,8 @@ def memory_of(taken, command, first, count):
 
 
 class Worked(NamedTuple):
-    """What the calls of a run take, and what its text tells of rounds. The statements are those of first rounds."""
+    """What the calls of a run take, what its text tells of rounds, and the memory of the whole run. The statements are
+    those of first rounds."""
 
     clock: float
     processor: float
@@ -223,6 +228,7 @@ class Worked(NamedTuple):
     again: float
     calls: float
     moves: float
+    memory: float
 
 
 def workers(bench):
@@ -253,9 +259,9 @@ WORKERS = [
     "warehouses",
     "clock",
     "calls/s",
-    "of one",
+    "rate of one",
     "processors",
-    "of one",
+    "time of one",
     "system",
     "sleeps",
     "us a sleep",
@@ -263,24 +269,26 @@ WORKERS = [
     "again",
     "calls again",
     "moved",
+    "MB",
 ]
 
 
 def worker_rows(bench, warehouses, count, commands, rounds):
-    runs = {words: bench.run(("run", *words), bench.load(warehouses, count)) for words in commands}
-    opening = medians({"opening": bench.run(("run",), bench.load(warehouses, 0))}, rounds)["opening"]
+    empty, load = bench.load(warehouses, 0), bench.load(warehouses, count)
     samples = {words: [] for words in commands}
     for _ in range(rounds):
+        opening = take(bench.run(("run",), empty))
         for words in commands:
-            samples[words].append(worked(bench, runs[words], opening))
+            samples[words].append(worked(bench, bench.run(("run", *words), load), opening))
     one = median(samples[commands[0]])
     return [worker_row(warehouses, count, words, one, median(samples[words])) for words in commands]
 
 
 def worked(bench, run, opening):
     text = bench.folder / "workers.txt"
-    taken = take(run, text).less(opening)
-    return Worked(taken.clock, taken.processor, taken.system, taken.sleeps, taken.forced, *rounds_in(text))
+    whole = take(run, text)
+    over = whole.less(opening)
+    return Worked(over.clock, over.processor, over.system, over.sleeps, over.forced, *rounds_in(text), whole.memory)
 
 
 def worker_row(warehouses, count, words, one, taken):
@@ -299,6 +307,7 @@ def worker_row(warehouses, count, words, one, taken):
         of_hundred(taken.again, taken.statements),
         rate(taken.calls),
         rate(taken.moves),
+        megabytes(taken.memory),
     ]
 
 
