@@ -432,7 +432,7 @@ def validation(bench):
 def collection(bench):
     counts = [bench.size(100_000), bench.size(200_000)] + ([1_000_000] if bench.long else [])
     rows = []
-    for words in (("serial",), ("run",), ("run", "--threads", "4")):
+    for words in (("serial",), ("run",), ("run", "--threads", "4"), ("run", "--threads", "8")):
         scripts = {str(count): inputs.additions(count) for count in counts}
         taken = bench.costs(scripts, words, bench.rounds)
         rows += series(" ".join(words), {count: taken[str(count)] for count in counts})
