@@ -185,6 +185,7 @@ def empty_calls(count):
 # Repairs and validations: journals of the same calls.
 
 ENTERED = 92  # statements of a New-Order with five lines
+REPAIRED = 17  # those of the second one that a repair executes again
 FIRST = "(1, 1, 1, 20170514, ROWS ((1, 1, 5), (2, 1, 5), (3, 1, 5), (4, 1, 5), (5, 1, 5)))"
 SECOND = "(1, 1, 2, 20170514, ROWS ((5, 1, 5), (6, 1, 5), (7, 1, 5), (8, 1, 5), (9, 1, 5)))"
 

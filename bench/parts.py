@@ -40,9 +40,13 @@ class Bench:
     def knows(self, *words):
         return is_known((self.program, *words))
 
+    def path(self, name):
+        """Where a script of this name is."""
+        return self.folder / f"{name.replace(' ', '-')}.sql"
+
     def write(self, name, *parts):
         """Writes a script of parts, each of which has pieces of text."""
-        path = self.folder / f"{name}.sql"
+        path = self.path(name)
         with open(path, "w") as file:
             for part in parts:
                 file.writelines(part)
@@ -70,10 +74,9 @@ class Bench:
         """What the calls of scripts take by a command, by name. The memory is that of the whole run."""
         runs = {}
         for name, (opening, calls) in scripts.items():
-            file = name.replace(" ", "-")
-            opened = self.write(f"{file}-opening", opening)
+            opened = self.write(f"{name} opening", opening)
             runs[name, "opening"] = self.run(words, opened)
-            runs[name, "whole"] = self.run(words, self.write(file, lines_of(opened), calls))
+            runs[name, "whole"] = self.run(words, self.write(name, lines_of(opened), calls))
         taken = medians(runs, rounds)
         return {name: cost(taken[name, "whole"], taken[name, "opening"]) for name in scripts}
 
@@ -409,10 +412,20 @@ def repairs(bench):
     taken = bench.costs(scripts, ("replay",), bench.more_rounds)
     repair, whole = (taken[name].less(taken["orders "]).processor / pairs for name in ("orders A", "orders M"))
     rows = [
-        ["executed whole again: 92 statements", f"{1e6 * whole:.0f}", "1.00"],
-        ["repaired: 17 of 92 statements", f"{1e6 * repair:.0f}", ratio(repair, whole)],
+        [f"executed whole again: {inputs.ENTERED} statements", f"{1e6 * whole:.0f}", "1.00"],
+        [f"repaired: {inputs.REPAIRED} of {inputs.ENTERED} statements", f"{1e6 * repair:.0f}", ratio(repair, whole)],
     ]
     show("A New-Order that another one hits", ["what", "microseconds", "of whole"], rows)
+    check_rounds(bench, "orders A", f"{inputs.ENTERED}+{inputs.REPAIRED}")
+    check_rounds(bench, "orders M", f"-+{inputs.ENTERED}m")
+
+
+def check_rounds(bench, name, expected):
+    """Finds a fault where a second one of a pair has other rounds."""
+    text = bench.folder / "repairs.txt"
+    take(bench.run(("replay",), bench.path(name)), text)
+    others = set(rounds_of(text)[1::2]) - {expected}
+    bench.faults += [f"`{name}` has the rounds {rounds}, and not {expected}" for rounds in sorted(others)]
 
 
 def validation(bench):
