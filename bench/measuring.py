@@ -50,17 +50,18 @@ def take(run, text=os.devnull):
         clock = time.perf_counter() - begun
     child.returncode = os.waitstatus_to_exitcode(status)
     if child.returncode != 0:
-        give_up(run)
+        give_up(run, child.returncode)
     processor = usage.ru_utime + usage.ru_stime
     return Taken(clock, processor, usage.ru_stime, usage.ru_maxrss, usage.ru_nvcsw, usage.ru_nivcsw)
 
 
-def give_up(run):
-    """Ends all with the first line that the program writes."""
+def give_up(run, status):
+    """Ends all with the status of a run, and with that of another one and the first line that it writes."""
     with open(run.script) as source:
         told = subprocess.run(run.command, stdin=source, stdout=subprocess.PIPE, text=True)
     line = told.stdout.partition("\n")[0]
-    sys.exit(f"{' '.join(map(str, run.command))} < {run.script.name}: {line}, status {told.returncode}")
+    words = " ".join(map(str, run.command))
+    sys.exit(f"{words} < {run.script.name}: status {status}; run again: {line}, status {told.returncode}")
 
 
 def medians(runs, rounds):
@@ -72,10 +73,13 @@ def medians(runs, rounds):
     return {name: median(taken) for name, taken in samples.items()}
 
 
+UNKNOWN = 2  # the status of words that a program doesn't know
+
+
 def is_known(command):
-    """Whether a program knows these words."""
+    """Whether a program knows these words. It may fail otherwise: a run of it tells."""
     quiet = {"stdin": subprocess.DEVNULL, "stdout": subprocess.DEVNULL, "stderr": subprocess.DEVNULL}
-    return subprocess.run(command, **quiet).returncode == 0
+    return subprocess.run(command, **quiet).returncode != UNKNOWN
 
 
 def seconds(number):

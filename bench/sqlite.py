@@ -9,21 +9,30 @@ from measuring import Run, medians, megabytes, rate, ratio, seconds, show, take
 SOURCE = Path(__file__).resolve().parent / "sqlite.c"
 
 
-def built(folder):
-    """A program of SQLite and TPC-C's procedures, or None without a C compiler or SQLite's header."""
-    path = folder / "sqlite"
+def has_header():
+    """Whether there are a C compiler and SQLite's header."""
+    command = ["cc", "-E", "-x", "c", "-"]
+    quiet = {"stdout": subprocess.DEVNULL, "stderr": subprocess.DEVNULL}
     try:
-        command = ["cc", "-O2", "-o", path, SOURCE, "-lsqlite3"]
-        subprocess.run(command, check=True, stderr=subprocess.DEVNULL)
-    except (OSError, subprocess.CalledProcessError):
-        return None
-    return path
+        return subprocess.run(command, input=b"#include <sqlite3.h>\n", **quiet).returncode == 0
+    except FileNotFoundError:
+        return False
+
+
+def built(folder):
+    """A program of SQLite and TPC-C's procedures, or None where the compiler has told why it builds none."""
+    path = folder / "sqlite"
+    command = ["cc", "-O2", "-o", path, SOURCE, "-lsqlite3"]
+    return path if subprocess.run(command).returncode == 0 else None
 
 
 def part(bench):
+    if not has_header():
+        print("\nsqlite: skipped, since its program can't be built without cc and sqlite3.h")
+        return
     other = built(bench.folder)
     if other is None:
-        print("\nSQLite: skipped, since its program can't be built without cc and sqlite3.h")
+        bench.faults.append("the program of SQLite can't be built")
         return
     count = bench.size(10000)
     script, opening = bench.load(1, count), bench.load(1, 0)
