@@ -1,6 +1,8 @@
 """Runs of programs, the medians of what they take, and tables."""
 
+import math
 import os
+import resource
 import statistics
 import subprocess
 import sys
@@ -94,8 +96,18 @@ def ratio(number, base):
     return f"{number / base:.2f}" if base > 0 else "-"
 
 
+def least_peak():
+    """The KB of this process. The system counts them for each process that it starts."""
+    return resource.getrusage(resource.RUSAGE_SELF).ru_maxrss
+
+
+def is_own(kilobytes):
+    """Whether a peak is that of the program alone."""
+    return kilobytes > least_peak()
+
+
 def megabytes(kilobytes):
-    return f"{kilobytes / 1024:.0f}"
+    return f"{kilobytes / 1024:.0f}" if is_own(kilobytes) else f"<{math.ceil(least_peak() / 1024)}"
 
 
 def show(title, header, rows):

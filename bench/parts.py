@@ -11,7 +11,7 @@ from typing import NamedTuple
 
 import inputs
 import sqlite
-from measuring import Run, is_known, median, medians, megabytes, rate, ratio, seconds, show, take
+from measuring import Run, is_known, is_own, median, medians, megabytes, rate, ratio, seconds, show, take
 
 TOP = Path(__file__).resolve().parent.parent
 
@@ -176,6 +176,7 @@ def call_rows(taken, counts):
         for count in counts:
             time = time_of(taken, command, count)
             kilobytes = memory_of(taken, command, first, count)
+            is_told = count > first and all(is_own(taken[name, first].memory) for name in ("serial", command))
             yield [
                 command,
                 rate(count),
@@ -184,8 +185,8 @@ def call_rows(taken, counts):
                 ratio(time_of(taken, "serial", count), time),
                 ratio(time, time_of(taken, command, base)) if count >= base else "",
                 megabytes(taken[command, count].memory),
-                f"{kilobytes:.1f}" if count > first else "",
-                f"{kilobytes - memory_of(taken, 'serial', first, count):.1f}" if count > first else "",
+                f"{kilobytes:.1f}" if is_told else "",
+                f"{kilobytes - memory_of(taken, 'serial', first, count):.1f}" if is_told else "",
             ]
 
 
@@ -376,7 +377,7 @@ def growth_row(case, command, n, once, twice):
         ratio(twice.processor, once.processor),
         megabytes(once.memory),
         megabytes(twice.memory),
-        ratio(twice.memory, once.memory),
+        ratio(twice.memory, once.memory) if is_own(once.memory) else "",
     ]
 
 
@@ -484,7 +485,8 @@ def series(words, taken):
     that of the count. The bytes are those that each over the first count adds to the peak."""
     first, base = next(iter(taken.items()))
     for count, each in taken.items():
-        added = rate(1024 * (each.memory - base.memory) / (count - first)) if count > first else ""
+        is_told = count > first and is_own(base.memory)
+        added = rate(1024 * (each.memory - base.memory) / (count - first)) if is_told else ""
         yield [
             words,
             rate(count),
