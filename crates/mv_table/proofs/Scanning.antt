@@ -1,5 +1,5 @@
 -- What a scan meets first.
-use Rattle.std.proofs.Common.{◌≡◌, ◌<◌, ◌+◌, ℕ, zero, suc, Bool, true, false, cond, List, [], ◌∷◌, ◌++◌, Option, Some, None, length, map, refl, sym, ap, subst, ◌∙◌, inl, inr, arith}
+use Rattle.std.proofs.Common.{◌≡◌, ◌<◌, ◌+◌, ℕ, zero, suc, Bool, true, false, ◌&&◌, cond, List, [], ◌∷◌, ◌++◌, Option, Some, None, length, map, refl, sym, ap, subst, ◌∙◌, inl, inr, arith}
 use Rattle.std.specs.List.{filter}
 use Rattle.std.specs.Option.{option_map, unwrap_or}
 use Rattle.std.specs.Ordering.{ordering_then, is_le}
@@ -15,7 +15,7 @@ use Rattle.mv_table.specs.declared.scan.Direction.TheVariants.{Forward, Backward
 use Rattle.mv_table.specs.declared.span.Side.TheVariants.{Both}
 use Rattle.mv_table.specs.Entries.{alone_at, picked}
 use Rattle.mv_table.specs.Scans.{last, foremost, with_foremost, NeverFallsAt, RisesAt}
-use Rattle.mv_table.specs.Spans.{Admits, bounds, HoldsAt}
+use Rattle.mv_table.specs.Spans.{Admits, bounds, HoldsAt, is_bounded, are_fixed_before}
 use Rattle.mv_table.proofs.Spanning.{tied, exactly}
 
 module _ {A : Type 0} where
@@ -150,3 +150,24 @@ ends_lower (suc place) (v ∷ vs) (w ∷ ws) h low high less =
 
 pub rises_last : (tests : List Test) (place : ℕ) → AgreeBefore tests place → RisesAt tests place
 rises_last tests place h a b low high so also less = ends_lower place a b (h a b so also) low high less
+
+-- `=` fixes one value more
+pub fixed_more : (tests : List Test) (place : ℕ) → are_fixed_before tests place ≡ true → is_bounded Both tests place ≡ true → are_fixed_before tests (place + 1) ≡ true
+fixed_more tests place h k =
+    let is : suc place ≡ place + 1 = omega arith in
+    subst (λ n. are_fixed_before tests n ≡ true) is (rw (h, k) refl)
+
+-- where it doesn't fix one, it doesn't fix all before a later place
+pub unfixed : (tests : List Test) (before place : ℕ) → before < place → is_bounded Both tests before ≡ false → are_fixed_before tests place ≡ false
+unfixed tests before zero lt h = absurd (omega (arith, lt))
+unfixed tests before (suc place) lt h =
+    elim (cases_lt before place) [
+      | inl low ↦ ap (λ b. b && is_bounded Both tests place) (unfixed tests before place low h)
+      | inr high ↦
+          let there : before ≡ place = omega (arith, high, lt) in
+          by (are_fixed_before tests place) (subst (λ n. is_bounded Both tests n ≡ false) there h)
+    ]
+  where
+    by : (b : Bool) → is_bounded Both tests place ≡ false → b && is_bounded Both tests place ≡ false
+    by true k = k
+    by false k = refl

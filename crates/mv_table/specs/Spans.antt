@@ -1,6 +1,6 @@
 -- Defines spans of keys, and which span covers tests. The rule is this project's own.
-use Rattle.std.specs.Prelude.{◌≡◌, ◌<◌, ℕ, Bool, true, false, not, ◌&&◌, ◌==◌, List, Option, Some, None, length, pos, slice_index_or}
-use Rattle.std.specs.List.{list_all, filter, All}
+use Rattle.std.specs.Prelude.{◌≡◌, ◌<◌, ℕ, zero, suc, Bool, true, false, not, ◌&&◌, ◌==◌, List, Option, Some, None, length, pos, slice_index_or}
+use Rattle.std.specs.List.{list_all, list_any, filter, All}
 use Rattle.std.specs.Ordering.{is_le, is_gt}
 use Rattle.mv_values.specs.declared.value.Value.{Value}
 use Rattle.mv_values.specs.declared.value.Value.TheVariants.{Int}
@@ -64,3 +64,12 @@ HoldsAt tests place test = (key : List Value) → Admits tests key → allows te
 abbrev pub is_place : Option ℕ → ℕ → Bool
 is_place None place = false
 is_place (Some p) place = p == place
+
+-- a test bounds the value at a place of the key from this side
+abbrev pub is_bounded : Side → List Test → ℕ → Bool
+is_bounded side tests place = list_any (λ test. is_place test.key_place place && bounds side test.op) tests
+
+-- `=` fixes each value of the key before a place
+abbrev pub are_fixed_before : List Test → ℕ → Bool
+are_fixed_before tests zero = true
+are_fixed_before tests (suc place) = are_fixed_before tests place && is_bounded Both tests place

@@ -1,7 +1,8 @@
 //! The span of keys that can satisfy tests.
 
 ghost use Rattle.std.specs.Prelude.{◌≡◌, not, ◌++◌, ◌∷◌, [], ◌≤◌, true, false, pos, List, length, slice_range, IfOk, IfSome};
-ghost use Rattle.std.specs.List.{filter, All};
+ghost use Rattle.std.specs.List.{filter};
+ghost use Rattle.std.specs.Option.{is_some};
 ghost use Rattle.std.specs.Ordering.{is_lt, is_le};
 ghost use Rattle.std.specs.declared.cmp.Ordering.TheVariants.{Less};
 ghost use Rattle.mv_values.specs.declared.value.Value.{Value};
@@ -14,7 +15,7 @@ ghost use Rattle.mv_values.specs.Order.{value_order, key_order};
 ghost use Rattle.mv_values.specs.Preds.{allows};
 ghost use Rattle.mv_table.specs.declared.span.Side.TheVariants.{Both, Low, High};
 ghost use Rattle.mv_table.specs.Scans.{NeverFallsAt, RisesAt};
-ghost use Rattle.mv_table.specs.Spans.{is_past, is_within, IsForward, Admits, Covers, FindsAll, Agrees, bounds, HoldsAt, is_place};
+ghost use Rattle.mv_table.specs.Spans.{is_past, is_within, IsForward, Admits, Covers, FindsAll, Agrees, bounds, HoldsAt, is_place, is_bounded, are_fixed_before};
 
 use mv_values::copied::Copied;
 use mv_values::list::List;
@@ -71,6 +72,7 @@ fn is_place(key_place: Option<u8>, place: usize) -> bool
 fn test_at(tests: &[Test], place: usize, side: Side) -> Option<&Test>
     ensures side { IfSome result (λ test. bounds side test.now.op ≡ true) }
     ensures holds { IfSome result (λ test. HoldsAt tests.now place test.now) }
+    ensures there { is_some result ≡ is_bounded side tests.now place }
 {
     for test in tests {
         if is_place(test.key_place, place) && side.bounds(test.op) {
@@ -97,6 +99,7 @@ fn first_values(alloc: Global, tests: &[Test]) -> Result<List<Value>, NoMemory>
 /// Whether `=` fixes each value of the key before a place. Then the value at the place never falls from a key to a
 /// greater one, and it rises if the keys end there.
 pub fn is_fixed_before(tests: &[Test], place: usize) -> bool
+    ensures fixed { result ≡ are_fixed_before tests.now place }
     ensures order { result ≡ true → NeverFallsAt tests.now place }
     ensures last { result ≡ true → RisesAt tests.now place }
 {
