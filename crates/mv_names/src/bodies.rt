@@ -1,7 +1,6 @@
 //! Faults of statement lists, and of statements that contain others.
 
-ghost use Rattle.std.specs.Prelude.{◌≡◌, ◌∷◌, ◌++◌, [], take, OnOk};
-ghost use Rattle.std.specs.Option.{option_copied};
+ghost use Rattle.std.specs.Prelude.{◌≡◌, ◌∷◌, ◌++◌, [], OnOk};
 ghost use Rattle.mv_names.specs.Statements.{table_named, statements, statement_faults, for_select, for_rows};
 
 use crate::exprs::check_placed;
@@ -18,13 +17,6 @@ use mv_ast::tree::{Cond, Name, Sort, Stmt};
 use mv_values::list::List;
 use mv_values::memory::NoMemory;
 use std::alloc::Global;
-
-/// Leaves a loop: removes the names added since the scope had `outside` entries.
-fn leave(scope: &mut Scope<'_, Entry>, outside: usize)
-    ensures { scope.new ≡ take outside scope.old }
-{
-    scope.truncate(outside);
-}
 
 /// Adds the faults of statements. Leaves the scope as it was.
 #[cycle(statements)]
@@ -222,6 +214,6 @@ fn check_body<'a>(
     let outside = scope.len();
     scope.push(turn.text.as_slice(), entry)?;
     check_statements(alloc, tables, body, scope, faults)?;
-    leave(scope, outside);
+    scope.truncate(outside);
     Ok(())
 }

@@ -131,7 +131,7 @@ fn check_table_names(
 ) -> Result<(), NoMemory>
     ensures { OnOk result (faults.new ≡ faults.old ++ meant.table_doubles tables.now) }
 {
-    check_doubles(alloc, &mut Scope::new(alloc), tables, faults)
+    check_doubles(&mut Scope::new(alloc), tables, faults)
 }
 
 fn check_procedure_names(
@@ -141,7 +141,7 @@ fn check_procedure_names(
 ) -> Result<(), NoMemory>
     ensures { OnOk result (faults.new ≡ faults.old ++ meant.procedure_doubles procedures.now) }
 {
-    check_doubles(alloc, &mut Scope::new(alloc), procedures, faults)
+    check_doubles(&mut Scope::new(alloc), procedures, faults)
 }
 
 /// Adds all faults of the items except those of their order. Fails if memory runs out.

@@ -2,8 +2,8 @@
 
 ghost use Rattle.std.specs.Prelude.{◌≡◌, ◌++◌, OnOk, IfOk};
 ghost use Rattle.std.specs.Option.{option_copied};
-ghost use Rattle.mv_names.specs.Scope.{entry_of, type_in, type_of_value, type_of_column, column_type, type_among};
-ghost use Rattle.mv_names.specs.Typing.{clash, misfit, read_type, read_faults, of_turn_type, of_turn_faults, turn_type, turn_faults, field_type, missing_field, field_named, column_faults, missing_column, type_of, faults_of, in_place, judged, placed, one_wants, one_gives, left_wants, right_wants, two_gives};
+ghost use Rattle.mv_names.specs.Scope.{entry_of, type_in, type_of_value, type_among};
+ghost use Rattle.mv_names.specs.Typing.{clash, misfit, read_type, read_faults, of_turn_type, of_turn_faults, field_type, missing_field, field_named, column_faults, type_of, faults_of, in_place, judged, placed, one_wants, one_gives, left_wants, right_wants, two_gives};
 
 use crate::fault::{Fault, add_if};
 use crate::index::Index;

@@ -2,8 +2,7 @@
 
 ghost use Rattle.std.specs.Prelude.{◌≡◌, ◌∷◌, ◌++◌, [], map, codes, length, OnOk, IfOk};
 ghost use Rattle.std.specs.List.{flat_map};
-ghost use Rattle.std.specs.Option.{option_copied};
-ghost use Rattle.mv_names.specs.Scope.{found, parameter, variable, meaning_of, declared_field, scope_of};
+ghost use Rattle.mv_names.specs.Scope.{parameter, variable, meaning_of, declared_field, scope_of};
 ghost use Rattle.mv_names.specs.Faults as meant;
 ghost use Rattle.mv_names.specs.Faults.{fits, begins, arg_token, arguments_token};
 
@@ -11,9 +10,9 @@ use crate::bodies::check_statements;
 use crate::exprs::{column_kind, value_kind};
 use crate::fault::{Fault, add_if};
 use crate::index::Index;
-use crate::labels::check_doubles;
+use crate::labels::{Taken, check_doubles};
 use crate::nested::Scope;
-use crate::scope::{Entry, Field, Meaning, ValueType};
+use crate::scope::{Entry, FOUND, Field, Meaning, ValueType};
 use crate::statements::check_table;
 use crate::tables::Table;
 use mv_ast::tree::{
@@ -94,7 +93,7 @@ fn check_column_names(
 ) -> Result<(), NoMemory>
     ensures { OnOk result (faults.new ≡ faults.old ++ meant.column_doubles columns.now) }
 {
-    check_doubles(alloc, &mut Scope::new(alloc), columns, faults)
+    check_doubles(&mut Scope::new(alloc), columns, faults)
 }
 
 /// Reports a key column that doesn't exist.
@@ -126,7 +125,7 @@ fn check_key_names(alloc: Global, key: &[Name], faults: &mut List<Fault>) -> Res
     ensures { OnOk result (faults.new ≡ faults.old ++ meant.key_doubles key.now) }
 {
     let mut taken = Scope::new(alloc);
-    check_doubles(alloc, &mut taken, key, faults)?;
+    check_doubles(&mut taken, key, faults)?;
     Ok(())
 }
 
@@ -191,8 +190,6 @@ fn check_initials(vars: &[VarDef], faults: &mut List<Fault>) -> Result<(), NoMem
     Ok(())
 }
 
-const FOUND: &[u8] = b"found";
-
 fn found_name(alloc: Global) -> Result<Txt, NoMemory>
     ensures { IfOk result (λ t. t ≡ codes "found") }
 {
@@ -201,24 +198,23 @@ fn found_name(alloc: Global) -> Result<Txt, NoMemory>
 
 /// Reports parameters and variables whose name is taken. Both share one namespace.
 fn check_names<'a>(
-    alloc: Global,
-    taken: &mut Scope<'a, Txt>,
+    taken: &mut Scope<'a, Taken<'a>>,
     procedure: &'a ProcDef,
     faults: &mut List<Fault>,
 ) -> Result<(), NoMemory>
     ensures { OnOk result (faults.new ≡ faults.old ++ meant.name_doubles taken.old procedure.now) }
 {
-    check_doubles(alloc, taken, procedure.params.as_slice(), faults)?;
-    check_doubles(alloc, taken, procedure.vars.as_slice(), faults)?;
+    check_doubles(taken, procedure.params.as_slice(), faults)?;
+    check_doubles(taken, procedure.vars.as_slice(), faults)?;
     Ok(())
 }
 
-/// Returns the names that are taken from the start.
-fn first_names<'a>(alloc: Global) -> Result<Scope<'a, Txt>, NoMemory>
-    ensures { IfOk result (λ all. all ≡ found.name ∷ []) }
+/// Returns the names that are taken if only this one is.
+fn only_name(alloc: Global, name: &Txt) -> Result<Scope<'_, Taken<'_>>, NoMemory>
+    ensures { IfOk result (λ all. all ≡ name.now ∷ []) }
 {
     let mut taken = Scope::new(alloc);
-    taken.push(FOUND, found_name(alloc)?)?;
+    taken.push(name.as_slice(), Taken::of(name))?;
     Ok(taken)
 }
 
@@ -308,7 +304,8 @@ fn check_declarations(
 ) -> Result<(), NoMemory>
     ensures { OnOk result (faults.new ≡ faults.old ++ meant.declarations procedure.now) }
 {
-    check_names(alloc, &mut first_names(alloc)?, procedure, faults)?;
+    let found = found_name(alloc)?;
+    check_names(&mut only_name(alloc, &found)?, procedure, faults)?;
     check_params(alloc, procedure.params.as_slice(), faults)?;
     check_initials(procedure.vars.as_slice(), faults)?;
     Ok(())

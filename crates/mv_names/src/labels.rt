@@ -4,13 +4,13 @@ ghost use Rattle.std.specs.Prelude.{◌≡◌, ◌++◌, map, OnOk};
 ghost use Rattle.mv_names.specs.Statements.{doubles};
 
 use crate::fault::{Fault, add_if};
+use crate::named::Named;
 use crate::nested::Scope;
 use mv_ast::tree::{ColDef, Name, Param, ProcDef, SetItem, TableDef, VarDef};
-use mv_values::copied::Copied;
 use mv_values::list::List;
 use mv_values::memory::NoMemory;
 use mv_values::txt::Txt;
-use std::alloc::Global;
+use std::marker::Model;
 
 /// An item whose name has a position in the text.
 pub(crate) trait Labelled {
@@ -80,11 +80,41 @@ impl Labelled for SetItem {
     }
 }
 
-/// Reports each name that is taken or occurs earlier in `items`, then adds all names to `taken`. Costs three hashes of
-/// each name.
+/// A name that is taken. Contracts see the name.
+#[derive(Drop)]
+pub(crate) struct Taken<'a> {
+    name: &'a Txt,
+}
+
+impl<'a> Model for Taken<'a> {
+    ghost use Rattle.std.specs.Prelude.{List, ℕ};
+
+    ghost Value = { List ℕ };
+
+    ghost view = { λ t. t.name.now };
+}
+
+impl<'a> Named for Taken<'a> {
+    ghost name_of = { λ n. n };
+
+    fn name(&self) -> &Txt {
+        self.name
+    }
+}
+
+impl<'a> Taken<'a> {
+    /// Returns the name as one that is taken.
+    pub(crate) fn of(name: &'a Txt) -> Taken<'a>
+        ensures { result ≡ name.now }
+    {
+        Taken { name }
+    }
+}
+
+/// Reports each name that is taken or occurs earlier in `items`, then adds all names to `taken`. Costs at most three
+/// hashes of each name.
 pub(crate) fn check_doubles<'a, T: Labelled>(
-    alloc: Global,
-    taken: &mut Scope<'a, Txt>,
+    taken: &mut Scope<'a, Taken<'a>>,
     items: &'a [T],
     faults: &mut List<Fault>,
 ) -> Result<(), NoMemory>
@@ -94,7 +124,7 @@ pub(crate) fn check_doubles<'a, T: Labelled>(
     for item in items {
         let name = item.label();
         add_if(faults, taken.has(&name.text), Fault::double(name.token))?;
-        taken.push(name.text.as_slice(), name.text.copy(alloc)?)?;
+        taken.push(name.text.as_slice(), Taken::of(&name.text))?;
     }
     Ok(())
 }

@@ -1,8 +1,8 @@
 //! Look-up by name. If several items share a name, the first is found.
 
-ghost use Rattle.std.specs.Prelude.{◌≡◌, ℕ, List, length};
+ghost use Rattle.std.specs.Prelude.{◌≡◌, ℕ, List};
 ghost use Rattle.std.specs.Option.{option_copied};
-ghost use Rattle.mv_names.specs.Named.{Text, same_text, is_named, first_named, place_named};
+ghost use Rattle.mv_names.specs.Named.{is_named, first_named, place_named};
 
 use mv_ast::tree::{ColDef, Name, ProcDef};
 use mv_values::txt::Txt;

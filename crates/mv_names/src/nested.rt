@@ -97,7 +97,8 @@ impl<'a, T: Named + Drop> Scope<'a, T> {
         Ok(())
     }
 
-    /// Removes the last item and returns it. Returns `None` if there is none. Costs a hash of its name.
+    /// Removes the last item and returns it. Returns `None` if there is none. Costs a hash of its name, or two if the
+    /// item is the first of its name.
     fn pop(&mut self) -> Option<T>
         ensures items { self.old ≡ self.new ++ option_to_list result }
         ensures found { IsSome result ↔ (0 < length self.old) }
@@ -116,7 +117,8 @@ impl<'a, T: Named + Drop> Scope<'a, T> {
         }
     }
 
-    /// Keeps the first `len` items and drops the others. Costs a hash of the name of each item dropped.
+    /// Keeps the first `len` items and drops the others. Costs a hash of the name of each item dropped, or two if the
+    /// item is the first of its name.
     pub fn truncate(&mut self, len: usize)
         ensures { self.new ≡ take len self.old }
     {

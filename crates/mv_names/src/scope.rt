@@ -7,6 +7,9 @@ use mv_values::memory::NoMemory;
 use mv_values::txt::Txt;
 use std::alloc::Global;
 
+/// The name of `:found`, which is taken in each procedure.
+pub const FOUND: &[u8] = b"found";
+
 /// The type of an expression. `Unknown` follows from a name that isn't declared. That name is already a fault, so
 /// `Unknown` fits every place.
 #[derive(Clone, Copy)]

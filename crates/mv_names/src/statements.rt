@@ -1,12 +1,12 @@
 //! The faults of statements.
 
-ghost use Rattle.std.specs.Prelude.{◌≡◌, ◌∷◌, ◌++◌, [], map, OnOk, IfOk, not, ◌==◌, length};
+ghost use Rattle.std.specs.Prelude.{◌≡◌, ◌++◌, [], map, OnOk, IfOk};
 ghost use Rattle.std.specs.List.{flat_map};
 ghost use Rattle.std.specs.Option.{option_copied};
-ghost use Rattle.mv_names.specs.Scope.{entry_of, columns_of, fields_of, declared_field, type_among, types_of, selected_field, turn_with};
+ghost use Rattle.mv_names.specs.Scope.{entry_of, columns_of, fields_of, types_of, selected_field, turn_with};
 ghost use Rattle.mv_names.specs.Typing.{column_faults};
 ghost use Rattle.mv_ast.specs.declared.tree.Agg.TheVariants.{Sum};
-ghost use Rattle.mv_names.specs.Statements.{doubles, table_named, missing_table, target_type, target_faults, target, targets, names_token, values_token, cond_faults, where_faults, order_faults, offset_faults, agg_type, agg_faults, turn_name, rows_faults, values_faults, is_key, item_faults, statements, statement_faults, all_faults, assign, select, total, for_select, for_rows, branch, insert, update, delete};
+ghost use Rattle.mv_names.specs.Statements.{missing_table, target_type, target_faults, target, targets, names_token, values_token, cond_faults, where_faults, order_faults, offset_faults, agg_type, agg_faults, turn_name, rows_faults, values_faults, is_key, item_faults, assign, select, total, insert, update, delete};
 
 use crate::exprs::{check_column, check_fit, check_operand, check_placed, column_kind};
 use crate::fault::{Fault, add_if};
@@ -480,7 +480,7 @@ pub(crate) fn check_update(
     ensures { OnOk result (faults.new ≡ faults.old ++ update (option_copied table.entry) name.now items.now conds.now scope.now) }
 {
     check_table(table, name.token, faults)?;
-    check_doubles(alloc, &mut Scope::new(alloc), items, faults)?;
+    check_doubles(&mut Scope::new(alloc), items, faults)?;
     check_items(scope, table, items, faults)?;
     check_where(scope, columns_in(table), conds, faults)
 }

@@ -1,7 +1,6 @@
 //! The tables of a script, with their columns, by name.
 
 ghost use Rattle.std.specs.Prelude.{◌≡◌, IfOk};
-ghost use Rattle.std.specs.Option.{option_copied};
 
 use crate::index::Index;
 use crate::named::Named;
