@@ -1,11 +1,13 @@
 -- MIN and MAX of a column whose values never fall from a row to a later one.
-use Rattle.std.proofs.Common.{rules, ◌≡◌, ◌<◌, ◌+◌, ℕ, zero, suc, ℤ, pos, Bool, true, false, cond, List, [], ◌∷◌, Option, Some, None, Result, Ok, Err, All, AllPairs, length, map, slice_index_or, refl, sym, ap, subst, ◌∙◌, arith}
+use Rattle.std.proofs.Common.{rules, ◌≡◌, ◌≢◌, ◌<◌, ◌+◌, ℕ, suc, ℤ, pos, Bool, true, false, ◌&&◌, cond, List, [], ◌∷◌, Option, Some, None, Result, Ok, Err, All, AllPairs, length, map, slice_index_or, refl, sym, ap, subst, ◌∙◌, arith}
 use Rattle.std.specs.Prelude.{not, ◌==◌, IfOk, IfSome}
-use Rattle.std.specs.List.{filter}
+use Rattle.std.specs.Bool.{then_some}
+use Rattle.std.specs.List.{filter, position}
 use Rattle.std.specs.Option.{option_map, unwrap_or, is_some}
 use Rattle.std.specs.Ordering.{is_le, is_gt, ordering_reverse}
 use Rattle.std.specs.declared.cmp.Ordering.{Ordering}
 use Rattle.std.specs.declared.cmp.Ordering.TheVariants.{Less, Equal, Greater}
+use Rattle.std.proofs.lemmas.Bool.Decides.{eqb_tells}
 use Rattle.std.proofs.lemmas.List.{length-map}
 use Rattle.std.proofs.lemmas.List.Elements.{All-nil, All-cons, All-head, All-tail, All-filter}
 use Rattle.std.proofs.lemmas.List.Kept.{AllPairs-filter}
@@ -20,13 +22,13 @@ use Rattle.mv_table.specs.declared.scan.Direction.{Direction}
 use Rattle.mv_table.specs.declared.scan.Direction.TheVariants.{Forward, Backward}
 use Rattle.mv_table.specs.Entries.{stored, seen}
 use Rattle.mv_table.specs.Scans.{first, last, foremost, with_foremost, NeverFallsAt, RisesAt}
-use Rattle.mv_table.specs.Spans.{Admits}
+use Rattle.mv_table.specs.Spans.{Admits, are_fixed_before}
 use Rattle.mv_table.proofs.Scanning.{foremost_kept, foremost_passed, foremost_mapped, with_mapped}
 use Rattle.mv_catalog.specs.declared.resolved.RAgg.{RAgg}
 use Rattle.mv_catalog.specs.declared.resolved.RAgg.TheVariants.{Min, Max}
 use Rattle.mv_catalog.specs.declared.resolved.RSort.{RSort}
 use Rattle.mv_alone.specs.declared.state.Check.{Check}
-use Rattle.mv_alone.specs.FirstRows.{AreAdmitted, NeverFalls, Rises, Tells, Leads, AdmitMatches, total_found}
+use Rattle.mv_alone.specs.FirstRows.{AreAdmitted, NeverFalls, Rises, Tells, Leads, AdmitMatches, total_found, is_next_fixed, is_last_of, does_rank}
 use Rattle.mv_alone.specs.Own.{StandUnder}
 use Rattle.mv_alone.specs.Rows.{meets, matching, column, lesser, greater, least, greatest, aggregate, is_some_row, item_at, ordered, sorted, put_in, sort_order, then_by}
 use Rattle.mv_alone.proofs.Sorting.{sorted_rising}
@@ -118,6 +120,11 @@ from_first : (agg : RAgg) (keys : List ℕ) (tests : List Test) (c : ℕ) (d : D
 from_first agg keys tests c d None told h = tt
 from_first agg keys tests c d (Some t) told h = subst (λ x. Tells agg keys tests x t.1) (sym h.0) (subst (Tells agg keys tests c) (sym h.1) (told h.2))
 
+-- where a column is told only if it never falls
+pub told_if : (keys : List ℕ) (tests : List Test) (c : ℕ) (d : Direction) (so : Bool) (r : Option (ℕ × Direction)) → r ≡ then_some so (c, d) → (so ≡ true → NeverFalls keys tests c) → IfSome r (λ t. (t.0 ≡ c) × (t.1 ≡ d) × NeverFalls keys tests c)
+told_if keys tests c d true r is h = rw is (refl, refl, h refl)
+told_if keys tests c d false r is h = rw is tt
+
 pub min_from : (agg : RAgg) (keys : List ℕ) (tests : List Test) (c : ℕ) (r : Option (ℕ × Direction)) → agg ≡ Min c → IfSome r (λ t. (t.0 ≡ c) × (t.1 ≡ Forward) × NeverFalls keys tests c) → IfSome r (λ t. Tells agg keys tests t.0 t.1)
 min_from agg keys tests c r is = from_first agg keys tests c Forward r (λ h. subst (λ a. Tells a keys tests c Forward) (sym is) (min_told keys tests c h))
 
@@ -187,6 +194,11 @@ item_first : (rows : List Keyed) → item_at rows (pos 0) ≡ first rows
 item_first [] = refl
 item_first (x ∷ rows) = refl
 
+-- where a direction is returned only if it leads
+pub led_if : (sorts : List RSort) (keys : List ℕ) (tests : List Test) (d : Direction) (so : Bool) (r : Option Direction) → r ≡ then_some so d → (so ≡ true → Leads sorts keys tests d) → IfSome r (Leads sorts keys tests)
+led_if sorts keys tests d true r is h = rw is (h refl)
+led_if sorts keys tests d false r is h = rw is tt
+
 pub leads_plain : (keys : List ℕ) (tests : List Test) → Leads [] keys tests Forward
 leads_plain keys tests rows are = ap (λ l. item_at l (pos 0)) (sorted_rising rows are.rising) ∙ item_first rows
 
@@ -217,9 +229,23 @@ leads_down s keys tests is order rows are =
     ap is_gt (by_one s true (slice_index_or rows i d) (slice_index_or rows j d) is)
     ∙ ap (λ o. is_gt (then_by (ordering_reverse o) (key_order (slice_index_or rows i d).key (slice_index_or rows j d).key))) (order rows are i j d less within)))
 
+-- The column orders the rows
+
+-- the last key column ranks them where all before it are fixed
+pub ranked : (keys : List ℕ) (tests : List Test) (c place : ℕ) (fixed : Bool) → Some place ≡ position (λ k. k == c) keys → place + 1 ≡ length keys → fixed ≡ are_fixed_before tests place → fixed ≡ does_rank keys tests c
+ranked keys tests c place fixed is ends so =
+    let last : (place + 1 == length keys) ≡ true = grind (arith, eqb_tells) in
+    so ∙ (ap (λ b. b && are_fixed_before tests place) (sym last) ∙ ap (λ o. is_last_of keys o && is_next_fixed tests o) is)
+
+-- no other does
+pub unranked : (keys : List ℕ) (tests : List Test) (c place : ℕ) → Some place ≡ position (λ k. k == c) keys → place + 1 ≢ length keys → (place + 1 == length keys) ≡ does_rank keys tests c
+unranked keys tests c place is ends =
+    let last : (place + 1 == length keys) ≡ false = grind (arith, eqb_tells) in
+    last ∙ (ap (λ b. b && are_fixed_before tests place) (sym last) ∙ ap (λ o. is_last_of keys o && is_next_fixed tests o) is)
+
 -- The rows that match
 
--- what holds of the rows that are kept holds of all that are
+-- what holds of each row that the test keeps holds of all rows that it keeps
 pub kept_all : (p : Keyed → Bool) (P : Keyed → Type 0) (rows : List Keyed) → All (λ item. p item ≡ true → P item) rows → All P (filter p rows)
 kept_all p P [] h = All-nil P
 kept_all p P (x ∷ rows) h = by (p x) refl (kept_all p P rows (All-tail (λ item. p item ≡ true → P item) x rows h))
@@ -255,10 +281,6 @@ some_of f [] items h = ap is_some_row h
 some_of f (x ∷ xs) items h =
     let one : not (length (x ∷ xs) == 0) ≡ true = search rules in
     one ∙ ap is_some_row h
-
--- where each row stands under its own key, the tests of the key columns admit the keys of the rows that match
-pub admit_own : (keys : List ℕ) (tests : List Test) (checks : List Check) (rows : List Keyed) → StandUnder keys rows → ((row : List Value) → meets checks row ≡ true → Admits tests (columns_of row keys)) → AdmitMatches tests checks rows
-admit_own keys tests checks rows own admits k d lt so = subst (Admits tests) (sym (own k d lt)) (admits (slice_index_or rows k d).row so)
 
 pub total_is : (agg : RAgg) (rows : List Keyed) (value : Option Value) (some : Bool) → aggregate agg rows ≡ Ok value → some ≡ is_some_row rows → total_found agg rows ≡ Ok (value, some)
 total_is agg rows value some h is = rw h (ap (λ b. Ok (value, b)) (sym is))

@@ -1,18 +1,19 @@
 -- The rows in the span of keys that the tests leave.
-use Rattle.std.proofs.Common.{◌≡◌, ℕ, zero, suc, ◌<◌, Bool, true, false, ◌&&◌, List, [], ◌∷◌, ◌++◌, Some, All, length, slice_index_or, refl, sym, ap, subst, ◌∙◌, arith}
-use Rattle.std.specs.Prelude.{map, if◌then◌else◌}
-use Rattle.std.specs.List.{filter, list_all}
+use Rattle.std.proofs.Common.{◌≡◌, ℕ, zero, suc, ◌<◌, Bool, true, false, ◌&&◌, List, [], ◌∷◌, ◌++◌, Some, length, slice_index_or, refl, sym, ap, subst, ◌∙◌, arith}
+use Rattle.std.specs.Prelude.{◌==◌, map, if◌then◌else◌}
+use Rattle.std.specs.List.{filter, list_all, position}
+use Rattle.std.proofs.lemmas.Bool.{eqb-true}
+use Rattle.std.proofs.lemmas.List.Quantifiers.{position-Some}
 use Rattle.mv_values.specs.declared.value.Value.{Value}
 use Rattle.mv_values.specs.declared.pred.Test.{Test}
 use Rattle.mv_values.specs.declared.rows.Keyed.{Keyed}
 use Rattle.mv_values.specs.Columns.{column_of, columns_of}
 use Rattle.mv_values.specs.Preds.{agrees}
-use Rattle.mv_table.specs.declared.span.Span.{Span}
-use Rattle.mv_table.specs.Spans.{Admits, Covers, is_within}
-use Rattle.mv_table.proofs.Covering.{covered}
+use Rattle.mv_table.specs.Spans.{Admits}
 use Rattle.mv_alone.specs.declared.state.Check.{Check}
-use Rattle.mv_alone.specs.Rows.{passes, meets, matching}
+use Rattle.mv_alone.specs.FirstRows.{AdmitMatches}
 use Rattle.mv_alone.specs.Own.{StandUnder}
+use Rattle.mv_alone.specs.Rows.{passes, meets}
 
 both_so : (a b : Bool) → a && b ≡ true → (a ≡ true) × (b ≡ true)
 both_so true b h = (refl, h)
@@ -23,6 +24,12 @@ passes_at : (checks : List Check) (row : List Value) (i : ℕ) (d : Check) → i
 passes_at [] row i d lt h = absurd (omega (arith, lt))
 passes_at (check ∷ checks) row zero d lt h = (both_so (passes row check) (meets checks row) h).0
 passes_at (check ∷ checks) row (suc i) d lt h = passes_at checks row i d (omega (arith, lt)) (both_so (passes row check) (meets checks row) h).1
+
+-- a key column is at its place
+pub place_there : (keys : List ℕ) (c place : ℕ) → Some place ≡ position (λ k. k == c) keys → (place < length keys) × (slice_index_or keys place 0 ≡ c)
+place_there keys c place is =
+    let found = position-Some (λ k. k == c) keys place 0 (sym is) in
+    (found.0, eqb-true (slice_index_or keys place 0) c found.1)
 
 -- the value at a place of a row's key
 pub key_column : (row : List Value) (keys : List ℕ) (place : ℕ) → place < length keys → column_of (columns_of row keys) place ≡ column_of row (slice_index_or keys place 0)
@@ -45,11 +52,9 @@ one_test_more keys checks tests new i check place v lt is within at same made h 
     let agreed : agrees (columns_of row keys) test ≡ true = rw (there, same) passed in
     ap (list_all (agrees (columns_of row keys))) made ∙ all_more (agrees (columns_of row keys)) tests test (h row so) agreed
 
--- the rows of a span that covers the tests match as all do
-pub span_matches : (keys : List ℕ) (checks : List Check) (tests : List Test) (span : Span) (rows : List Keyed) → StandUnder keys rows → ((row : List Value) → meets checks row ≡ true → Admits tests (columns_of row keys)) → Covers tests span
-    → matching checks (filter (λ item. is_within span item.key) rows) ≡ matching checks rows
-span_matches keys checks tests span rows stand admits covers =
-    covered tests span rows covers (λ item. meets checks item.row) (λ k d lt h. subst (Admits tests) (sym (stand k d lt)) (admits (slice_index_or rows k d).row h))
+-- where each row stands under its own key, the tests of the key columns admit the keys of the rows that match
+pub admit_own : (keys : List ℕ) (tests : List Test) (checks : List Check) (rows : List Keyed) → StandUnder keys rows → ((row : List Value) → meets checks row ≡ true → Admits tests (columns_of row keys)) → AdmitMatches tests checks rows
+admit_own keys tests checks rows own admits k d lt so = subst (Admits tests) (sym (own k d lt)) (admits (slice_index_or rows k d).row so)
 
 -- a filter through what is seen
 pub filter_seen : {A : Type 0} (seen : A → Keyed) (p : Keyed → Bool) (xs : List A) → map seen (filter (λ x. p (seen x)) xs) ≡ filter p (map seen xs)

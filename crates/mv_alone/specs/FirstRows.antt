@@ -1,5 +1,7 @@
 -- Defines when the first or the last row in key order is enough. This project's own.
-use Rattle.std.specs.Prelude.{◌≡◌, ℕ, pos, Bool, true, List, Option, All, AllPairs, Result, Ok}
+use Rattle.std.specs.Prelude.{◌≡◌, ◌+◌, ◌==◌, ◌&&◌, ℕ, pos, Bool, true, false, List, [], ◌∷◌, Option, Some, None, length, All, AllPairs, Result, Ok, if◌then◌else◌}
+use Rattle.std.specs.Bool.{then_some}
+use Rattle.std.specs.List.{position}
 use Rattle.std.specs.Option.{option_map}
 use Rattle.std.specs.Ordering.{is_le}
 use Rattle.std.specs.declared.cmp.Ordering.TheVariants.{Less}
@@ -11,9 +13,11 @@ use Rattle.mv_values.specs.Columns.{column_of}
 use Rattle.mv_values.specs.Keys.{IsRising}
 use Rattle.mv_values.specs.Order.{value_order}
 use Rattle.mv_table.specs.declared.scan.Direction.{Direction}
+use Rattle.mv_table.specs.declared.scan.Direction.TheVariants.{Forward, Backward}
 use Rattle.mv_table.specs.Scans.{foremost}
-use Rattle.mv_table.specs.Spans.{Admits}
+use Rattle.mv_table.specs.Spans.{Admits, are_fixed_before}
 use Rattle.mv_catalog.specs.declared.resolved.RAgg.{RAgg}
+use Rattle.mv_catalog.specs.declared.resolved.RAgg.TheVariants.{Min, Max}
 use Rattle.mv_catalog.specs.declared.resolved.RSort.{RSort}
 use Rattle.mv_alone.specs.declared.state.Check.{Check}
 use Rattle.mv_alone.specs.Outcome.{then_do}
@@ -49,3 +53,36 @@ Tells agg keys tests c direction = (rows : List Keyed) → AreAdmitted keys test
 -- of such rows the first one in this direction is the first in ORDER BY order
 abbrev pub Leads : List RSort → List ℕ → List Test → Direction → Type 0
 Leads sorts keys tests direction = (rows : List Keyed) → AreAdmitted keys tests rows → item_at (ordered sorts rows) (pos 0) ≡ foremost direction rows
+
+-- `=` fixes all key columns before this place, where it is one
+abbrev pub is_next_fixed : List Test → Option ℕ → Bool
+is_next_fixed tests None = false
+is_next_fixed tests (Some place) = are_fixed_before tests place
+
+-- the place is the last of the key
+abbrev pub is_last_of : List ℕ → Option ℕ → Bool
+is_last_of keys None = false
+is_last_of keys (Some place) = place + 1 == length keys
+
+-- rows that the tests admit are in the order of the column: it is a key column, and `=` fixes all key columns before it
+abbrev pub does_order : List ℕ → List Test → ℕ → Bool
+does_order keys tests c = is_next_fixed tests (position (λ k. k == c) keys)
+
+-- no two of them tie in it: it is the last key column
+abbrev pub does_rank : List ℕ → List Test → ℕ → Bool
+does_rank keys tests c = is_last_of keys (position (λ k. k == c) keys) && does_order keys tests c
+
+-- the column and the direction in which one row is enough for an aggregate, if one is
+abbrev pub telling : RAgg → List ℕ → List Test → Option (ℕ × Direction)
+telling (Min c) keys tests = then_some (does_order keys tests c) (c, Forward)
+telling (Max c) keys tests = then_some (does_order keys tests c) (c, Backward)
+telling agg keys tests = None
+
+abbrev pub leading_by : RSort → List ℕ → List Test → Option Direction
+leading_by sort keys tests = if sort.descending then then_some (does_rank keys tests sort.column) Backward else then_some (does_order keys tests sort.column) Forward
+
+-- the direction in which one row is enough for the first in ORDER BY order, if one is
+abbrev pub leading : List RSort → List ℕ → List Test → Option Direction
+leading [] keys tests = Some Forward
+leading (sort ∷ []) keys tests = leading_by sort keys tests
+leading (sort ∷ other ∷ sorts) keys tests = None

@@ -1,13 +1,13 @@
 //! Chooses the row at an index in ORDER BY order. The first one may be the first or the last in key order.
 
 ghost use Rattle.std.specs.Prelude.{◌≡◌, ◌∷◌, [], IfOk, IfSome};
-ghost use Rattle.std.specs.Option.{option_copied, option_map};
+ghost use Rattle.std.specs.Option.{option_map};
 ghost use Rattle.mv_values.specs.Tables.{rows_at, KeysStand};
 ghost use Rattle.mv_table.specs.Entries.{seen};
 ghost use Rattle.mv_alone.specs.Rows.{item_at, matching, ordered};
-ghost use Rattle.mv_alone.specs.FirstRows.{Leads};
+ghost use Rattle.mv_alone.specs.FirstRows.{Leads, AdmitMatches, leading_by, leading};
 
-use crate::find::{key_in, key_tests, matches_in};
+use crate::find::{key_in, key_tests, matches_by};
 use crate::foremost::{foremost_in, never_falls, rises};
 use crate::order::chosen_row;
 use crate::state::Check;
@@ -21,22 +21,21 @@ use std::alloc::Global;
 
 /// Does what `leading` does, for ORDER BY one column.
 fn leading_by(sort: RSort, keys: &[u8], tests: &[Test]) -> Option<Direction>
-    ensures { IfSome result (Leads (sort ∷ []) keys.now tests.now) }
+    ensures is { result ≡ leading_by sort keys.now tests.now }
+    ensures leads { IfSome result (Leads (sort ∷ []) keys.now tests.now) }
 {
     if sort.descending {
-        if rises(keys, tests, sort.column) {
-            return Some(Direction::Backward);
-        }
-    } else if never_falls(keys, tests, sort.column) {
-        return Some(Direction::Forward);
+        rises(keys, tests, sort.column).then_some(Direction::Backward)
+    } else {
+        never_falls(keys, tests, sort.column).then_some(Direction::Forward)
     }
-    None
 }
 
 /// Returns the direction in which the first row that the tests admit is the first in ORDER BY order too. Returns none
-/// if more rows may be needed. Takes time linear in the number of key columns and of tests.
+/// if more rows may be needed. Takes time linear in the number of key columns times that of tests.
 pub fn leading(sorts: &[RSort], keys: &[u8], tests: &[Test]) -> Option<Direction>
-    ensures { IfSome result (Leads sorts.now keys.now tests.now) }
+    ensures is { result ≡ leading sorts.now keys.now tests.now }
+    ensures leads { IfSome result (Leads sorts.now keys.now tests.now) }
 {
     let Some((sort, others)) = sorts.split_first() else {
         return Some(Direction::Forward);
@@ -47,31 +46,22 @@ pub fn leading(sorts: &[RSort], keys: &[u8], tests: &[Test]) -> Option<Direction
     leading_by(*sort, keys, tests)
 }
 
-/// Returns the row that is borrowed twice, borrowed once.
-fn lent_once<'a>(row: Option<&Entry<'a>>) -> Option<Entry<'a>>
-    ensures { option_map seen result ≡ option_map seen (option_copied row.entry) }
-{
-    match row {
-        Some(entry) => Some(*entry),
-        None => None,
-    }
-}
-
-/// Borrows the row at an index in ORDER BY order, of all rows that match.
+/// Borrows the row at an index in ORDER BY order, of all rows that match. The tests must admit the key of each row that
+/// matches.
 fn chosen_of_all<'a>(
     alloc: Global,
-    infos: &[TableInfo],
     tables: &'a Tables,
     table: u16,
+    tests: &[Test],
     checks: &[Check],
     sorts: &[RSort],
     at: i64,
 ) -> Result<Option<Entry<'a>>, NoMemory>
-    requires { KeysStand infos.now tables.now }
+    requires { AdmitMatches tests.now checks.now (rows_at tables.now table) }
     ensures { IfOk result (λ row. option_map seen row ≡ item_at (ordered sorts.now (matching checks.now (rows_at tables.now table))) at) }
 {
-    let found = matches_in(alloc, infos, tables, table, checks)?;
-    Ok(lent_once(chosen_row(alloc, sorts, found.as_slice(), at)?))
+    let found = matches_by(alloc, tables, table, tests, checks)?;
+    Ok(chosen_row(alloc, sorts, found.as_slice(), at)?.copied())
 }
 
 /// Borrows the row at an index in ORDER BY order, of the rows of a table that match. Rows that tie are in key order.
@@ -90,13 +80,13 @@ pub fn chosen_in<'a>(
     requires { KeysStand infos.now tables.now }
     ensures { IfOk result (λ row. option_map seen row ≡ item_at (ordered sorts.now (matching checks.now (rows_at tables.now table))) at) }
 {
-    if at != 0 {
-        return chosen_of_all(alloc, infos, tables, table, checks, sorts, at);
-    }
     let keys = key_in(infos, table);
-    let tests = key_tests(alloc, keys, checks)?;
-    match leading(sorts, keys, tests.as_slice()) {
-        Some(direction) => foremost_in(alloc, tables, table, tests.as_slice(), checks, direction),
-        None => chosen_of_all(alloc, infos, tables, table, checks, sorts, at),
+    let list = key_tests(alloc, keys, checks)?;
+    let tests = list.as_slice();
+    if at == 0 {
+        if let Some(direction) = leading(sorts, keys, tests) {
+            return foremost_in(alloc, tables, table, tests, checks, direction);
+        }
     }
+    chosen_of_all(alloc, tables, table, tests, checks, sorts, at)
 }

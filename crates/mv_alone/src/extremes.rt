@@ -1,12 +1,13 @@
 //! Evaluates aggregates over the rows of a table that match. MIN or MAX of a key column needs only one of them.
 
 ghost use Rattle.std.specs.Prelude.{◌≡◌, IfSome};
+ghost use Rattle.std.specs.Bool.{then_some};
 ghost use Rattle.mv_values.specs.Tables.{rows_at, KeysStand};
 ghost use Rattle.mv_alone.specs.Outcome.{Gives};
 ghost use Rattle.mv_alone.specs.Rows.{matching};
-ghost use Rattle.mv_alone.specs.FirstRows.{NeverFalls, Tells, total_found};
+ghost use Rattle.mv_alone.specs.FirstRows.{NeverFalls, Tells, AdmitMatches, does_order, telling, total_found};
 
-use crate::find::{key_in, key_tests, matches_in};
+use crate::find::{key_in, key_tests, matches_by};
 use crate::foremost::{foremost_in, never_falls};
 use crate::state::{Check, Stop};
 use crate::totals::{aggregate_of, value_in};
@@ -26,19 +27,17 @@ fn told_by(
     column: u16,
     direction: Direction,
 ) -> Option<(u16, Direction)>
-    ensures { IfSome result (λ t. (t.0 ≡ column) × (t.1 ≡ direction) × NeverFalls keys.now tests.now column) }
+    ensures is { result ≡ then_some (does_order keys.now tests.now column) (column, direction) }
+    ensures order { IfSome result (λ t. (t.0 ≡ column) × (t.1 ≡ direction) × NeverFalls keys.now tests.now column) }
 {
-    if never_falls(keys, tests, column) {
-        Some((column, direction))
-    } else {
-        None
-    }
+    never_falls(keys, tests, column).then_some((column, direction))
 }
 
 /// Returns the column of MIN or MAX, and the direction in which the first row that the tests admit tells its value.
-/// Returns none if more rows may be needed. Takes time linear in the number of key columns and of tests.
+/// Returns none if more rows may be needed. Takes time linear in the number of key columns times that of tests.
 pub fn telling(agg: RAgg, keys: &[u8], tests: &[Test]) -> Option<(u16, Direction)>
-    ensures { IfSome result (λ t. Tells agg keys.now tests.now t.0 t.1) }
+    ensures is { result ≡ telling agg keys.now tests.now }
+    ensures tells { IfSome result (λ t. Tells agg keys.now tests.now t.0 t.1) }
 {
     match agg {
         RAgg::Min(column) => told_by(keys, tests, column, Direction::Forward),
@@ -47,26 +46,27 @@ pub fn telling(agg: RAgg, keys: &[u8], tests: &[Test]) -> Option<(u16, Direction
     }
 }
 
-/// Returns the value of an aggregate over all rows that match, and whether there are any.
+/// Returns the value of an aggregate over all rows that match, and whether there are any. The tests must admit the key
+/// of each row that matches.
 fn total_of_all(
     alloc: Global,
-    infos: &[TableInfo],
     tables: &Tables,
     agg: RAgg,
     table: u16,
+    tests: &[Test],
     checks: &[Check],
 ) -> Result<(Option<Value>, bool), Stop>
-    requires { KeysStand infos.now tables.now }
+    requires { AdmitMatches tests.now checks.now (rows_at tables.now table) }
     ensures { Gives result (total_found agg (matching checks.now (rows_at tables.now table))) }
 {
-    let found = matches_in(alloc, infos, tables, table, checks)?;
+    let found = matches_by(alloc, tables, table, tests, checks)?;
     let rows = found.as_slice();
     let value = aggregate_of(alloc, agg, rows)?;
     Ok((value, !rows.is_empty()))
 }
 
 /// Returns the value of an aggregate over the rows of a table that match, and whether there are any. MIN and MAX of a
-/// key column visit the rows up to the first one that matches from their end, where `=` fixes all key columns before it.
+/// key column visit the rows up to the first one that matches from their end, if `=` fixes all key columns before it.
 /// Otherwise it visits all rows in the span of keys that the tests leave. Fails as `aggregate_of`.
 pub fn total_of(
     alloc: Global,
@@ -80,11 +80,12 @@ pub fn total_of(
     ensures { Gives result (total_found agg (matching checks.now (rows_at tables.now table))) }
 {
     let keys = key_in(infos, table);
-    let tests = key_tests(alloc, keys, checks)?;
-    let Some((column, direction)) = telling(agg, keys, tests.as_slice()) else {
-        return total_of_all(alloc, infos, tables, agg, table, checks);
+    let list = key_tests(alloc, keys, checks)?;
+    let tests = list.as_slice();
+    let Some((column, direction)) = telling(agg, keys, tests) else {
+        return total_of_all(alloc, tables, agg, table, tests, checks);
     };
-    let row = foremost_in(alloc, tables, table, tests.as_slice(), checks, direction)?;
+    let row = foremost_in(alloc, tables, table, tests, checks, direction)?;
     let value = value_in(alloc, column, row.as_ref())?;
     Ok((value, row.is_some()))
 }

@@ -1,6 +1,7 @@
 //! Finds the rows of a table that match.
 
-ghost use Rattle.std.specs.Prelude.{◌≡◌, ◌<◌, true, List, map, length, slice_index_or, IfOk, IfSome};
+ghost use Rattle.std.specs.Prelude.{◌≡◌, ◌<◌, ◌==◌, true, List, map, length, slice_index_or, IfOk, IfSome};
+ghost use Rattle.std.specs.List.{position};
 ghost use Rattle.mv_values.specs.declared.value.Value.{Value};
 ghost use Rattle.mv_values.specs.Order.{value_order};
 ghost use Rattle.mv_values.specs.Columns.{column_of, columns_of};
@@ -10,7 +11,7 @@ ghost use Rattle.mv_table.specs.Entries.{seen};
 ghost use Rattle.mv_table.specs.Spans.{Admits};
 ghost use Rattle.mv_alone.specs.Outcome.{Gives};
 ghost use Rattle.mv_alone.specs.Rows.{checks_of, meets, matching};
-ghost use Rattle.mv_alone.specs.Own.{StandUnder};
+ghost use Rattle.mv_alone.specs.FirstRows.{AdmitMatches};
 
 use crate::expr::value;
 use crate::state::{Check, Env, Stop};
@@ -85,18 +86,20 @@ pub(crate) fn is_match(checks: &[Check], row: &[Value]) -> bool
 }
 
 /// Returns the place of a column in the key, if it is a key column.
-pub(crate) fn place_in_key(keys: &[u8], column: u16) -> Option<u8>
+pub(crate) fn place_in_key(keys: &[u8], column: u16) -> Option<usize>
+    ensures { result ≡ position (λ k. k == column) keys.now }
+{
+    keys.iter().position(|key| *key as u16 == column)
+}
+
+/// Returns the same in 8 bits, if it has no more.
+fn small_place_in_key(keys: &[u8], column: u16) -> Option<u8>
     ensures { IfSome result (λ place. (place < length keys.now) × (slice_index_or keys.now place 0 ≡ column)) }
 {
-    for place in 0..u8::MAX {
-        let Some(key) = keys.get(place as usize) else {
-            return None;
-        };
-        if *key as u16 == column {
-            return Some(place);
-        }
+    match place_in_key(keys, column) {
+        Some(place) if place <= u8::MAX as usize => Some(place as u8),
+        _ => None,
     }
-    None
 }
 
 /// Returns those of the tests that are on key columns, as tests of the key.
@@ -109,7 +112,7 @@ pub(crate) fn key_tests(
 {
     let mut tests = List::new(alloc);
     for check in checks {
-        let Some(place) = place_in_key(keys, check.column) else {
+        let Some(place) = small_place_in_key(keys, check.column) else {
             continue;
         };
         tests.push(Test {
@@ -122,20 +125,20 @@ pub(crate) fn key_tests(
     Ok(tests)
 }
 
-/// Borrows the rows of a table that match. Each row has to be under its own key.
+/// Borrows the rows of a table that match, in the span of keys that the tests leave. The tests must admit the key of
+/// each row that matches.
 fn matches_of<'a>(
     alloc: Global,
-    keys: &[u8],
     table: &'a Table,
+    tests: &[Test],
     checks: &[Check],
 ) -> Result<Vec<Entry<'a>>, NoMemory>
-    requires { StandUnder keys.now table.now }
+    requires { AdmitMatches tests.now checks.now table.now }
     ensures rows { IfOk result (λ found. map seen found.items ≡ matching checks.now table.now) }
     ensures rising { IfOk result (λ found. IsRising (map seen found.items)) }
     ensures all { IfOk result (λ found. IsRising table.now) }
 {
-    let tests = key_tests(alloc, keys, checks)?;
-    let span = Span::of(alloc, tests.as_slice())?;
+    let span = Span::of(alloc, tests)?;
     let mut found = table.part(alloc, &span)?;
     found.retain(
         |entry: &Entry<'_>| -> bool
@@ -143,6 +146,25 @@ fn matches_of<'a>(
         { is_match(checks, entry.row.as_slice()) },
     );
     Ok(found)
+}
+
+/// Does the same by the number of the table. Borrows none if there is no such table.
+pub(crate) fn matches_by<'a>(
+    alloc: Global,
+    tables: &'a Tables,
+    table: u16,
+    tests: &[Test],
+    checks: &[Check],
+) -> Result<Vec<Entry<'a>>, NoMemory>
+    requires { AdmitMatches tests.now checks.now (rows_at tables.now table) }
+    ensures rows { IfOk result (λ found. map seen found.items ≡ matching checks.now (rows_at tables.now table)) }
+    ensures rising { IfOk result (λ found. IsRising (map seen found.items)) }
+    ensures all { IfOk result (λ found. IsRising (rows_at tables.now table)) }
+{
+    match tables.as_slice().get(table as usize) {
+        Some(rows) => matches_of(alloc, rows, tests, checks),
+        None => Ok(Vec::new(alloc)),
+    }
 }
 
 /// Borrows the rows of a table that match, in key order; none if there is no such table. Visits only the rows in the
@@ -159,8 +181,6 @@ pub fn matches_in<'a>(
     ensures rising { IfOk result (λ found. IsRising (map seen found.items)) }
     ensures all { IfOk result (λ found. IsRising (rows_at tables.now table)) }
 {
-    match tables.as_slice().get(table as usize) {
-        Some(rows) => matches_of(alloc, key_in(infos, table), rows, checks),
-        None => Ok(Vec::new(alloc)),
-    }
+    let tests = key_tests(alloc, key_in(infos, table), checks)?;
+    matches_by(alloc, tables, table, tests.as_slice(), checks)
 }

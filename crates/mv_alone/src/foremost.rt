@@ -7,7 +7,7 @@ ghost use Rattle.mv_values.specs.Tables.{rows_at};
 ghost use Rattle.mv_table.specs.Entries.{seen, stored};
 ghost use Rattle.mv_table.specs.Scans.{foremost};
 ghost use Rattle.mv_alone.specs.Rows.{matching};
-ghost use Rattle.mv_alone.specs.FirstRows.{NeverFalls, Rises, AdmitMatches};
+ghost use Rattle.mv_alone.specs.FirstRows.{NeverFalls, Rises, AdmitMatches, does_order, does_rank};
 
 use crate::find::{is_match, place_in_key};
 use crate::state::Check;
@@ -23,10 +23,11 @@ use std::collections::btree_map::Range;
 /// Whether a column is a key column, and `=` fixes all key columns before it. Then its value never falls from a row
 /// that the tests admit to a later one.
 pub(crate) fn never_falls(keys: &[u8], tests: &[Test], column: u16) -> bool
-    ensures { result ≡ true → NeverFalls keys.now tests.now column }
+    ensures is { result ≡ does_order keys.now tests.now column }
+    ensures order { result ≡ true → NeverFalls keys.now tests.now column }
 {
     match place_in_key(keys, column) {
-        Some(place) => is_fixed_before(tests, place as usize),
+        Some(place) => is_fixed_before(tests, place),
         None => false,
     }
 }
@@ -34,11 +35,12 @@ pub(crate) fn never_falls(keys: &[u8], tests: &[Test], column: u16) -> bool
 /// Whether a column is the last key column, and `=` fixes all others. Then its value rises from each row that the tests
 /// admit to the next.
 pub(crate) fn rises(keys: &[u8], tests: &[Test], column: u16) -> bool
-    ensures { result ≡ true → Rises keys.now tests.now column }
+    ensures is { result ≡ does_rank keys.now tests.now column }
+    ensures order { result ≡ true → Rises keys.now tests.now column }
 {
     match place_in_key(keys, column) {
-        Some(place) if place as usize + 1 == keys.len() => is_fixed_before(tests, place as usize),
-        _ => false,
+        Some(place) => place + 1 == keys.len() && is_fixed_before(tests, place),
+        None => false,
     }
 }
 
@@ -59,8 +61,8 @@ fn foremost_match<'a>(
     None
 }
 
-/// Borrows the first row of a table in this direction that matches. Of the rows in the span of keys that the tests leave
-/// it visits those up to that row. The tests must admit the key of each row that matches.
+/// Borrows the first row of a table in this direction that matches. Of the rows in the span of keys that the tests
+/// leave it visits those up to that row. The tests must admit the key of each row that matches.
 fn foremost_of<'a>(
     alloc: Global,
     table: &'a Table,

@@ -1,27 +1,12 @@
-use Rattle.std.proofs.Common.{◌≡◌, [], map, ap, sym, subst, ◌∙◌}
-use Rattle.std.specs.Prelude.{IfOk}
-use Rattle.std.proofs.lemmas.List.{get_or_default}
-use Rattle.mv_values.specs.Keys.{IsRising}
+use Rattle.std.proofs.Common.{sym, subst}
 use Rattle.mv_values.specs.Tables.{key_columns, rows_at}
-use Rattle.mv_table.specs.Entries.{seen}
-use Rattle.mv_alone.specs.Own.{StandUnder}
-use Rattle.mv_alone.specs.Rows.{matching}
+use Rattle.mv_alone.specs.FirstRows.{AdmitMatches}
+use Rattle.mv_alone.proofs.Spanning.{admit_own}
 use Rattle.mv_alone.proofs.find.matches_in.Goals as goal
 
-pub matches_of-requires : goal.matches_of-requires
-matches_of-requires c =
-    let there = rw c.as_slice.ensures at c.in-Some.ensures.lookup in
-    let is = there.1 ∙ get_or_default c.args.tables.now c.args.table c.in-Some.rows.now [] there.3.0 in
-    rw c.key_in.ensures (subst (StandUnder (key_columns c.args.infos.now c.args.table)) (sym is) (c.requires c.args.table))
-
-pub returns-in-Some-clause-rows : goal.returns-in-Some-clause-rows
-returns-in-Some-clause-rows c =
-    let there = rw c.as_slice.ensures at c.in-Some.ensures.lookup in
-    let is = there.1 ∙ get_or_default c.args.tables.now c.args.table c.in-Some.rows.now [] there.3.0 in
-    subst (λ rows. IfOk c.matches_of.result (λ found. map seen found.items ≡ matching c.args.checks.now rows)) is c.matches_of.ensures.rows
-
-pub returns-in-Some-clause-all : goal.returns-in-Some-clause-all
-returns-in-Some-clause-all c =
-    let there = rw c.as_slice.ensures at c.in-Some.ensures.lookup in
-    let is = there.1 ∙ get_or_default c.args.tables.now c.args.table c.in-Some.rows.now [] there.3.0 in
-    subst (λ rows. IfOk c.matches_of.result (λ found. IsRising rows)) is c.matches_of.ensures.all
+pub matches_by-requires : goal.matches_by-requires
+matches_by-requires c =
+    let rows = rows_at c.args.tables.now c.args.table in
+    let admits = rw c.key_in.ensures at c.in_ok-tests.ensures in
+    subst (λ tests. AdmitMatches tests c.args.checks.now rows) (sym c.as_slice.ensures)
+    (admit_own (key_columns c.args.infos.now c.args.table) c.in_ok-tests.tests c.args.checks.now rows (c.requires c.args.table) admits)

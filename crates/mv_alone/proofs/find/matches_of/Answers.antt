@@ -4,19 +4,19 @@ use Rattle.std.proofs.lemmas.Fn.{filter_same}
 use Rattle.std.proofs.lemmas.List.Kept.{AllPairs-filter}
 use Rattle.mv_values.specs.Keys.{IsRising, IsBelow}
 use Rattle.mv_table.specs.Entries.{seen}
+use Rattle.mv_table.proofs.Covering.{covered}
 use Rattle.mv_alone.specs.Rows.{meets, matching}
-use Rattle.mv_alone.proofs.Spanning.{span_matches, filter_seen}
+use Rattle.mv_alone.proofs.Spanning.{filter_seen}
 use Rattle.mv_alone.proofs.find.matches_of.Goals as goal
 
 pub returns-clause-rows : goal.returns-clause-rows
 returns-clause-rows c =
     let checks = c.args.checks.now in
     let found = c.in_ok-found.found.items in
-    let covers = rw c.as_slice.ensures at c.in_ok-span.ensures.covers in
     let kept : c.retain.new.self.items ≡ filter (λ e. meets checks (seen e).row) found = filter_same _ (λ e. meets checks (seen e).row) _ (λ x b f r. search rules) _ _ c.retain.ensures.filtered in
     ap (λ es. map seen es) kept
     ∙ (filter_seen seen (λ item. meets checks item.row) found
-    ∙ (ap (matching checks) c.in_ok-found.ensures.rows ∙ span_matches c.args.keys.now checks c.in_ok-tests.tests c.in_ok-span.span c.args.table.now c.requires c.in_ok-tests.ensures covers))
+    ∙ (ap (matching checks) c.in_ok-found.ensures.rows ∙ covered c.args.tests.now c.in_ok-span.span c.args.table.now c.in_ok-span.ensures.covers (λ item. meets checks item.row) c.requires))
 
 pub returns-clause-rising : goal.returns-clause-rising
 returns-clause-rising c =

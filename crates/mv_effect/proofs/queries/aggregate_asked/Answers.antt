@@ -7,7 +7,7 @@ use Rattle.mv_effect.proofs.queries.aggregate_asked.Goals as goal
 
 pub returns-in-Some-clause-effect : goal.returns-in-Some-clause-effect
 returns-in-Some-clause-effect g c =
-    let tells = rw (c.key_in-keys.ensures, c.as_slice.ensures) at c.in-Some.ensures in
+    let tells = rw (c.key_in-keys.ensures, c.as_slice.ensures) at c.in-Some.ensures.tells in
     c.in_ok-told_effect.ensures
     ∙ total_told c.args.context.now.tables.now (earlier c.args.context.now.number c.args.context.now.undo.now) (g.V.View.sight c.args.view.now).database c.args.agg c.args.to c.in-Some.column c.in-Some.direction c.args.pred
     c.args.context.now.env.now c.in_ok-row.row c.requires.stands c.requires.knows tells c.in_ok-row.ensures.found
