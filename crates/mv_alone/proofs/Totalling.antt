@@ -1,5 +1,5 @@
 -- What aggregates give, row by row.
-use Rattle.std.proofs.Common.{◌≡◌, ℕ, zero, suc, ◌+◌, ◌<◌, ℤ, ◌+ℤ◌, List, [], ◌∷◌, length, drop, map, slice_index_or, refl, sym, ap, ◌∙◌, arith, add-one}
+use Rattle.std.proofs.Common.{◌≡◌, ℕ, ◌+◌, ◌<◌, ℤ, ◌+ℤ◌, List, ◌∷◌, length, drop, map, slice_index_or, refl, sym, ap, ◌∙◌}
 use Rattle.std.proofs.Math.IntN.{+ℤ_assoc}
 use Rattle.std.proofs.lemmas.List.{drop_more}
 use Rattle.mv_values.specs.declared.rows.Keyed.{Keyed}

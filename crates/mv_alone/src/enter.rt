@@ -14,7 +14,7 @@ use mv_values::value::Value;
 use std::alloc::Global;
 
 /// Returns what a variable holds after it is given the argument.
-fn held(alloc: Global, argument: &Argument) -> Result<Held, NoMemory>
+fn contents_of(alloc: Global, argument: &Argument) -> Result<Held, NoMemory>
     ensures { IfOk result (λ h. h ≡ argument_held argument.now) }
 {
     match argument {
@@ -24,12 +24,12 @@ fn held(alloc: Global, argument: &Argument) -> Result<Held, NoMemory>
 }
 
 /// Returns what the variables of the parameters hold.
-fn given(alloc: Global, arguments: &[Argument]) -> Result<List<Held>, NoMemory>
+fn parameters(alloc: Global, arguments: &[Argument]) -> Result<List<Held>, NoMemory>
     ensures { IfOk result (λ all. all ≡ map argument_held arguments.now) }
 {
     let mut all = List::new(alloc);
     for argument in arguments {
-        all.push(held(alloc, argument)?)?;
+        all.push(contents_of(alloc, argument)?)?;
     }
     Ok(all)
 }
@@ -49,7 +49,7 @@ fn add_declared(alloc: Global, all: &mut List<Held>, values: &[Value]) -> Result
 pub fn variables_for(alloc: Global, procedure: &ProcInfo, call: &Call) -> Result<Env, NoMemory>
     ensures { IfOk result (λ env. env ≡ entered procedure.now call.now) }
 {
-    let mut all = given(alloc, call.arguments.as_slice())?;
+    let mut all = parameters(alloc, call.arguments.as_slice())?;
     add_declared(alloc, &mut all, procedure.defaults.as_slice())?;
     let found = all.len();
     all.push(Held::Scalar(Value::Int(0)))?;

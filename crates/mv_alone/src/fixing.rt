@@ -11,7 +11,7 @@ ghost use Rattle.mv_alone.specs.Alone.{fixed};
 
 use crate::env::column_value;
 use crate::find::order_of;
-use crate::order::{lent, ordered_in};
+use crate::order::{ordered_in, references};
 use mv_catalog::resolved::RSort;
 use mv_table::table::Stored;
 use mv_values::list::List;
@@ -84,7 +84,7 @@ fn in_column_order<'a, R: Stored>(
 ) -> Result<Vec<&'a R>, NoMemory>
     ensures { IfOk result (λ v. projected columns.now (map (λ r. R.keyed r.now) v.items) ≡ sorted key_order (projected columns.now (map R.keyed rows.now))) }
 {
-    let mut all = lent(alloc, rows)?;
+    let mut all = references(alloc, rows)?;
     all.sort_by(
         |a: &&R, b: &&R| -> Ordering
             ensures { result ≡ key_order (columns_of (R.keyed a.now.now).row columns.entry.now) (columns_of (R.keyed b.now.now).row columns.entry.now) }

@@ -1,8 +1,8 @@
 //! The line that PRINT adds.
 
-ghost use Rattle.std.specs.Prelude.{◌≡◌, ◌++◌, [], ◌∷◌, All, OnOk, IfOk};
+ghost use Rattle.std.specs.Prelude.{◌≡◌, ◌++◌, All, OnOk, IfOk};
 ghost use Rattle.mv_values.specs.Printable.{IsPrintable};
-ghost use Rattle.mv_alone.specs.Line.{doubled, printed, printed_after, line_of};
+ghost use Rattle.mv_alone.specs.Line.{doubled, printed, line_of};
 
 use crate::expr::digits;
 use mv_values::memory::NoMemory;

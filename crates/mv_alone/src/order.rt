@@ -41,7 +41,7 @@ fn compare<R: Stored>(sorts: &[RSort], a: &R, b: &R) -> Ordering
 }
 
 /// Borrows each of the rows.
-pub(crate) fn lent<'a, R: Stored>(alloc: Global, rows: &'a [R]) -> Result<Vec<&'a R>, NoMemory>
+pub(crate) fn references<'a, R: Stored>(alloc: Global, rows: &'a [R]) -> Result<Vec<&'a R>, NoMemory>
     ensures { IfOk result (λ v. map (λ r. R.keyed r.now) v.items ≡ map R.keyed rows.now) }
 {
     let mut all = Vec::new(alloc);
@@ -59,7 +59,7 @@ fn sorted_in<'a, R: Stored>(
 ) -> Result<Vec<&'a R>, NoMemory>
     ensures { IfOk result (λ v. map (λ r. R.keyed r.now) v.items ≡ ordered sorts.now (map R.keyed rows.now)) }
 {
-    let mut all = lent(alloc, rows)?;
+    let mut all = references(alloc, rows)?;
     all.sort_by(
         |a: &&R, b: &&R| -> Ordering
             ensures { result ≡ sort_order sorts.entry.now (R.keyed a.now.now) (R.keyed b.now.now) }
@@ -78,7 +78,7 @@ pub(crate) fn ordered_in<'a, R: Stored>(
     ensures { IfOk result (λ v. map (λ r. R.keyed r.now) v.items ≡ ordered sorts.now (map R.keyed rows.now)) }
 {
     if sorts.is_empty() {
-        lent(alloc, rows)
+        references(alloc, rows)
     } else {
         sorted_in(alloc, sorts, rows)
     }

@@ -9,4 +9,4 @@ returns-then-is_empty g c =
     let none : c.args.sorts.now ≡ [] = not_some c.args.sorts.now empty in
     let rows = map g.R.Stored.keyed c.args.rows.now in
     let same : ordered c.args.sorts.now rows ≡ rows = ap (λ ss. ordered ss rows) none ∙ sorted_rising rows c.requires in
-    rw same c.lent.ensures
+    rw same c.references.ensures
