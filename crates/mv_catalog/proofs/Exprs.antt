@@ -24,7 +24,7 @@ use Rattle.mv_names.specs.First.{wrong}
 use Rattle.mv_names.specs.Named.{Text, place_named}
 use Rattle.mv_names.specs.Scope.{entry_of, type_of_value}
 use Rattle.mv_names.specs.Typing as names
-use Rattle.mv_names.specs.Typing.{Judged, Judges, judged, clash, in_place, misfit, read_type, read_faults, of_turn_type, of_turn_faults, turn_type, turn_faults, field_named, field_type, missing_field, left_wants, right_wants, placed}
+use Rattle.mv_names.specs.Typing.{Judged, Judges, judged, clash, in_place, misfit, read_type, read_faults, of_turn_type, of_turn_faults, turn_type, turn_faults, field_named, field_type, missing_field, left_wants, right_wants}
 use Rattle.mv_catalog.specs.declared.slot.Slot.{Slot}
 use Rattle.mv_catalog.specs.declared.resolved.RExpr.{RExpr}
 use Rattle.mv_catalog.specs.declared.resolved.RExprKind.{RExprKind}
@@ -33,7 +33,7 @@ use Rattle.mv_catalog.specs.declared.resolved.RExprKind.TheVariants as variant
 use Rattle.mv_catalog.specs.declared.resolved.RExprKind.TheVariants.{rolls-Const, rolls-Var, rolls-Field, rolls-Col, rolls-One, rolls-Two}
 use Rattle.mv_catalog.specs.Building as build
 use Rattle.mv_catalog.specs.Building.{Builds, expr_of, slot_named, number_in, fields_in, small}
-use Rattle.mv_catalog.specs.Types.{Kind, int, text, Var, fixed, declared, rows, turn, Vars, kind_of_value, HasType, read, field}
+use Rattle.mv_catalog.specs.Types.{Kind, int, text, Var, fixed, declared, turn, Vars, kind_of_value, HasType, read, field}
 use Rattle.mv_catalog.specs.Types as types
 use Rattle.mv_catalog.proofs.Lists.{nothing_left, nothing_right, not_when, get_within, small_is}
 use Rattle.mv_catalog.proofs.Scopes.{known, SameFields, Means, Same, Matches, kinds_in, column_typed, field_typed}

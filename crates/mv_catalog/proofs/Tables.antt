@@ -14,7 +14,7 @@ use Rattle.mv_names.specs.Named.{Text, same_text, first_named, place_named, is_n
 use Rattle.mv_names.specs.Scope.{type_among}
 use Rattle.mv_names.specs.Typing.{clash, misfit, in_place, judged, column_faults, missing_column}
 use Rattle.mv_names.specs.Statements as names
-use Rattle.mv_names.specs.Statements.{table_named, missing_table}
+use Rattle.mv_names.specs.Statements.{table_named}
 use Rattle.mv_catalog.specs.declared.slot.Slot.{Slot}
 use Rattle.mv_catalog.specs.declared.resolved.RSetItem.{RSetItem}
 use Rattle.mv_catalog.specs.Building.{small, tiny, table_of, table_place, column_name, column_number, described, expr_of, items_of}

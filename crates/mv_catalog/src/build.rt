@@ -287,8 +287,8 @@ fn journal(blocks: &[Span]) -> Option<CopyInfo>
 }
 
 /// Builds the program of a script's parts. If the parts have a fault, the numbers of unknown names are arbitrary. Fails
-/// if memory runs out. Costs the size of the parts, a hash of each name of a table, a table's column or a procedure, and a
-/// linear search for each other name.
+/// if memory runs out. Costs the size of the parts, a hash of each name, and a search of at most 32 names for each
+/// column of a loop's row.
 pub fn built(alloc: Global, parts: &Parts) -> Result<Resolved, NoMemory>
     ensures { IfOk result (λ r. r ≡ resolved_parts parts.now) }
 {

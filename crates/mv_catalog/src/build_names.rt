@@ -1,6 +1,6 @@
 //! Numbers for names: columns, tables, and the variables of a procedure.
 
-ghost use Rattle.std.specs.Prelude.{◌≡◌, ◌+◌, ◌++◌, ◌∷◌, [], IfOk, OnOk, length, map};
+ghost use Rattle.std.specs.Prelude.{◌≡◌, ◌+◌, ◌++◌, ◌∷◌, [], IfOk, OnOk, map};
 ghost use Rattle.std.specs.Option.{option_copied};
 ghost use Rattle.mv_names.specs.Scope.{found};
 ghost use Rattle.mv_names.specs.Statements.{table_named};
@@ -11,6 +11,7 @@ use mv_ast::tree::{ColDef, Name, Param, ParamKind, ProcDef, VarDef};
 use mv_names::index::Index;
 use mv_names::named::place;
 use mv_names::nested::Scope;
+use mv_names::scope::FOUND;
 use mv_names::tables::Table;
 use mv_values::copied::Copied;
 use mv_values::list::List;
@@ -181,8 +182,6 @@ pub(crate) fn number_of_found(definition: &ProcDef) -> Result<usize, NoMemory>
 {
     sum(definition.params.len(), definition.vars.len())
 }
-
-const FOUND: &[u8] = b"found";
 
 /// Returns the slot of `:found`.
 fn found_slot(alloc: Global, definition: &ProcDef) -> Result<Slot, NoMemory>

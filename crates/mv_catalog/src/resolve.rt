@@ -46,8 +46,8 @@ fn answer(alloc: Global, parts: &Parts, found: &[Fault]) -> Result<Resolved, Nam
 
 /// Resolves the names of a script, and consumes the script. If it has faults of names or types, the first is returned
 /// as the error: the one at the least token, and at one token the one whose kind comes first in `NameFault`. Fails with
-/// `NoMemory` only if memory runs out. Costs the size of the script, a hash of each name of a table, a table's
-/// column or a procedure, and a linear search for each other name.
+/// `NoMemory` only if memory runs out. Costs the size of the script, a few hashes of each name, a search of at most 32
+/// names for each column of a loop's row, and one of at most 8 for each column of SET.
 ///
 /// The program is well formed if the script is within the limits and each table names a key column, as the grammar
 /// requires.
