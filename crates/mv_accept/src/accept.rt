@@ -6,7 +6,7 @@ ghost use Rattle.mv_catalog.specs.Text.{FitsText};
 ghost use Rattle.mv_record.specs.Databases.{IsProgram};
 ghost use Rattle.mv_accept.specs.Exact.{Exact};
 ghost use Rattle.mv_accept.specs.Accepting.{HasTokens, HasNoTokens, Spells, SpellsNothing, StandsFor, StandsForNothing, Accepts, Refuses, TellsOfRows, most_calls, table_name};
-ghost use Rattle.mv_accept.specs.Telling.{of_lexing, of_parsing, of_naming, OfOpening};
+ghost use Rattle.mv_accept.specs.Telling.{OfOpening};
 
 use crate::refusal::Refusal;
 use mv_ast::tree::Script;
@@ -46,6 +46,54 @@ impl From<NoMemory> for NotAccepted {
     }
 }
 
+impl From<LexFault> for NotAccepted {
+    ghost use Rattle.std.specs.Prelude.{◌≡◌};
+    ghost use Rattle.mv_accept.specs.Telling.{of_lexing};
+
+    ghost from_gives = { λ fault e. e ≡ of_lexing fault };
+
+    fn from(fault: LexFault) -> NotAccepted {
+        match fault {
+            LexFault::BadByte { at } => NotAccepted::Refused(Refusal::Byte { at }),
+            LexFault::BadToken { at } => NotAccepted::Refused(Refusal::Token { at }),
+            LexFault::NoMemory => NotAccepted::NoMemory,
+        }
+    }
+}
+
+impl From<ParseFault> for NotAccepted {
+    ghost use Rattle.std.specs.Prelude.{◌≡◌};
+    ghost use Rattle.mv_accept.specs.Telling.{of_parsing};
+
+    ghost from_gives = { λ fault e. e ≡ of_parsing fault };
+
+    fn from(fault: ParseFault) -> NotAccepted {
+        match fault {
+            ParseFault::Syntax { token } => NotAccepted::Refused(Refusal::Syntax { token }),
+            ParseFault::Limit { which, token } => NotAccepted::Refused(Refusal::Limit { which, token }),
+            ParseFault::NoMemory => NotAccepted::NoMemory,
+        }
+    }
+}
+
+impl From<NameFault> for NotAccepted {
+    ghost use Rattle.std.specs.Prelude.{◌≡◌};
+    ghost use Rattle.mv_accept.specs.Telling.{of_naming};
+
+    ghost from_gives = { λ fault e. e ≡ of_naming fault };
+
+    fn from(fault: NameFault) -> NotAccepted {
+        match fault {
+            NameFault::UnknownName { token } => NotAccepted::Refused(Refusal::UnknownName { token }),
+            NameFault::DoubleName { token } => NotAccepted::Refused(Refusal::DoubleName { token }),
+            NameFault::WrongType { token } => NotAccepted::Refused(Refusal::WrongType { token }),
+            NameFault::KeyAssigned { token } => NotAccepted::Refused(Refusal::KeyAssigned { token }),
+            NameFault::Late { token } => NotAccepted::Refused(Refusal::Late { token }),
+            NameFault::NoMemory => NotAccepted::NoMemory,
+        }
+    }
+}
+
 /// Returns the program of these bytes: the resolved script, and the database that its calls begin with. Takes time
 /// linear in the number of bytes, and n log n for n rows.
 ///
@@ -69,10 +117,7 @@ pub fn accept(alloc: Global, bytes: &[u8]) -> Result<Program, NotAccepted>
     ensures whole { IfOk result IsProgram }
     ensures few { IfOk result (λ program. length program.resolved.calls ≤ most_calls) }
 {
-    let resolved = match resolved_of(alloc, bytes) {
-        Ok(resolved) => resolved,
-        Err(failure) => return Err(failure),
-    };
+    let resolved = resolved_of(alloc, bytes)?;
     match opening(alloc, &resolved, bytes) {
         Ok(opening) => Ok(Program { resolved, opening }),
         Err(fault) => Err(of_opening(alloc, &resolved, fault)),
@@ -84,28 +129,16 @@ fn resolved_of(alloc: Global, bytes: &[u8]) -> Result<Resolved, NotAccepted>
     ensures exact { Exact (StandsFor bytes.now) (StandsForNothing bytes.now) result }
     ensures whole { IfOk result FitsText }
 {
-    let script = match script_of(alloc, bytes) {
-        Ok(script) => script,
-        Err(failure) => return Err(failure),
-    };
-    match resolve(alloc, script) {
-        Ok(resolved) => Ok(resolved),
-        Err(fault) => Err(of_naming(fault)),
-    }
+    let script = script_of(alloc, bytes)?;
+    Ok(resolve(alloc, script)?)
 }
 
 /// Returns the script that the bytes spell.
 fn script_of(alloc: Global, bytes: &[u8]) -> Result<Script, NotAccepted>
     ensures { Exact (Spells bytes.now) (SpellsNothing bytes.now) result }
 {
-    let tokens = match tokens_of(alloc, bytes) {
-        Ok(tokens) => tokens,
-        Err(failure) => return Err(failure),
-    };
-    match parse(alloc, &tokens, bytes) {
-        Ok(script) => Ok(script),
-        Err(fault) => Err(of_parsing(fault)),
-    }
+    let tokens = tokens_of(alloc, bytes)?;
+    Ok(parse(alloc, &tokens, bytes)?)
 }
 
 /// Returns the tokens of the bytes.
@@ -116,43 +149,7 @@ fn tokens_of(alloc: Global, bytes: &[u8]) -> Result<List<Token>, NotAccepted>
     if MOST_BYTES < bytes.len() {
         return Err(NotAccepted::Refused(Refusal::TooLong));
     }
-    match lex(alloc, bytes) {
-        Ok(tokens) => Ok(tokens),
-        Err(fault) => Err(of_lexing(fault)),
-    }
-}
-
-fn of_lexing(fault: LexFault) -> NotAccepted
-    ensures { result ≡ of_lexing fault }
-{
-    match fault {
-        LexFault::BadByte { at } => NotAccepted::Refused(Refusal::Byte { at }),
-        LexFault::BadToken { at } => NotAccepted::Refused(Refusal::Token { at }),
-        LexFault::NoMemory => NotAccepted::NoMemory,
-    }
-}
-
-fn of_parsing(fault: ParseFault) -> NotAccepted
-    ensures { result ≡ of_parsing fault }
-{
-    match fault {
-        ParseFault::Syntax { token } => NotAccepted::Refused(Refusal::Syntax { token }),
-        ParseFault::Limit { which, token } => NotAccepted::Refused(Refusal::Limit { which, token }),
-        ParseFault::NoMemory => NotAccepted::NoMemory,
-    }
-}
-
-fn of_naming(fault: NameFault) -> NotAccepted
-    ensures { result ≡ of_naming fault }
-{
-    match fault {
-        NameFault::UnknownName { token } => NotAccepted::Refused(Refusal::UnknownName { token }),
-        NameFault::DoubleName { token } => NotAccepted::Refused(Refusal::DoubleName { token }),
-        NameFault::WrongType { token } => NotAccepted::Refused(Refusal::WrongType { token }),
-        NameFault::KeyAssigned { token } => NotAccepted::Refused(Refusal::KeyAssigned { token }),
-        NameFault::Late { token } => NotAccepted::Refused(Refusal::Late { token }),
-        NameFault::NoMemory => NotAccepted::NoMemory,
-    }
+    Ok(lex(alloc, bytes)?)
 }
 
 fn of_opening(alloc: Global, resolved: &Resolved, fault: OpeningFault) -> NotAccepted
