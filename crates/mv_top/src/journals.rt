@@ -7,7 +7,7 @@ ghost use Rattle.mv_core.specs.Scripts.{IsScript, work_of};
 ghost use Rattle.mv_lawful.specs.Lawful.{Lawful};
 ghost use Rattle.mv_lawful.specs.Outcomes.{outcome_of};
 ghost use Rattle.mv_top.specs.Journals.{block_in, IsJournalOf, IsJournalText};
-ghost use Rattle.mv_top.specs.Refusing.{of_drive, TellsWrong, TellsJournal};
+ghost use Rattle.mv_top.specs.Refusing.{TellsWrong, TellsJournal};
 
 use crate::refusal::{NoText, Refusal};
 use crate::script::{Prepared, prepare};
@@ -66,20 +66,21 @@ fn run_journal(alloc: Global, script: Script, events: &[Event]) -> Result<Outcom
     ensures outcome { IfOk result (λ outcome. outcome ≡ outcome_of (work_of script) events.now) }
     ensures wrong { IfErr result (TellsWrong (work_of script) events.now) }
 {
-    match replay(alloc, script, events) {
-        Ok(outcome) => Ok(outcome),
-        Err(fault) => Err(of_drive(fault)),
-    }
+    Ok(replay(alloc, script, events)?)
 }
 
-/// Returns the refusal of a journal's fault.
-fn of_drive(fault: DriveFault) -> NoText
-    ensures { result ≡ of_drive fault }
-{
-    match fault {
-        DriveFault::Refused { n, fault } => NoText::Refused(Refusal::Event { n, fault }),
-        DriveFault::Open { call } => NoText::Refused(Refusal::Open { call }),
-        DriveFault::NoMemory => NoText::NoMemory,
+impl From<DriveFault> for NoText {
+    ghost use Rattle.std.specs.Prelude.{◌≡◌};
+    ghost use Rattle.mv_top.specs.Refusing.{of_drive};
+
+    ghost from_gives = { λ fault e. e ≡ of_drive fault };
+
+    fn from(fault: DriveFault) -> NoText {
+        match fault {
+            DriveFault::Refused { n, fault } => NoText::Refused(Refusal::Event { n, fault }),
+            DriveFault::Open { call } => NoText::Refused(Refusal::Open { call }),
+            DriveFault::NoMemory => NoText::NoMemory,
+        }
     }
 }
 
@@ -98,8 +99,6 @@ pub(crate) fn journal_text(
 {
     let events = events_of(alloc, options, bytes, &program)?;
     let Prepared { script, tables } = prepare(alloc, program, options)?;
-    match run_journal(alloc, script, events.as_slice()) {
-        Ok(outcome) => Ok(render(alloc, &tables, &outcome)?),
-        Err(error) => Err(error),
-    }
+    let outcome = run_journal(alloc, script, events.as_slice())?;
+    Ok(render(alloc, &tables, &outcome)?)
 }

@@ -1,4 +1,5 @@
 use Rattle.std.proofs.Common.{List, length, ap, subst, arith}
+use Rattle.std.proofs.lemmas.Result.{err_from_is_err_and}
 use Rattle.mv_journal.specs.declared.event.Event.{Event}
 use Rattle.mv_top.specs.Refusing.{TellsWrong}
 use Rattle.mv_core.specs.Scripts.{work_of}
@@ -12,7 +13,10 @@ run_journal-requires-clause-few c =
     let size = c.requires.size in
     omega (arith, same, few, size)
 
-pub returns-clause-refused : goal.returns-clause-refused
-returns-clause-refused c =
-    journal_told c.args.options c.args.bytes.now c.args.program (work_of c.in_ok-script.field-0.script) c.in_ok-events.events c.in-Err.error c.in_ok-script.ensures.work c.in_ok-events.ensures.events
-    (subst (λ (es : List Event). TellsWrong (work_of c.in_ok-script.field-0.script) es c.in-Err.error) c.as_slice.ensures c.in-Err.ensures.wrong)
+pub returns-in_err-outcome-clause-refused : goal.returns-in_err-outcome-clause-refused
+returns-in_err-outcome-clause-refused c =
+    let p = err_from_is_err_and c.from_residual-in_err-outcome.result c.from_residual-in_err-outcome.ensures.1 in
+    let error = c.in_err-outcome.field-0.0 in
+    rw (p.1, p.2)
+    (journal_told c.args.options c.args.bytes.now c.args.program (work_of c.in_ok-script.field-0.script) c.in_ok-events.events error c.in_ok-script.ensures.work c.in_ok-events.ensures.events
+    (subst (λ (es : List Event). TellsWrong (work_of c.in_ok-script.field-0.script) es error) c.as_slice.ensures c.in_err-outcome.ensures.wrong))
