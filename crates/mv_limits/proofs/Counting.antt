@@ -10,7 +10,7 @@ use Rattle.mv_ast.specs.declared.limit.Which.{Which}
 use Rattle.mv_ast.specs.declared.limit.Which.TheVariants as limit
 use Rattle.mv_ast.specs.Texts.{spelling}
 use Rattle.mv_ast.specs.Limits.{at_token, sooner, soonest, own_passes, size_passes, token_passes, too_many, too_many_items, is_counted}
-use Rattle.mv_limits.specs.declared.place.Place.{Place}
+use Rattle.mv_limits.specs.declared.cursor.Cursor.{Cursor}
 use Rattle.mv_limits.specs.Places.{place_of, seek}
 use Rattle.mv_limits.proofs.Joining.{soonest_joined, soonest_none, found_at, from_place}
 
@@ -59,13 +59,13 @@ pub items_end : (which : Which) (items : List Item) (k left : ℕ) (best : Optio
 items_end which items k left best all h i = sym (soonest_none best) ∙ ap (soonest best) (ap (too_many_items which left) (sym (drop_all k items h)) ∙ i)
 
 -- the statement looked for is the one behind the first 1,000
-pub statement_found : (tokens : List ℕ) (p : Place) (t : ℕ) (best result : Option Passed) → p ≡ seek (place_of 1000 None) tokens → p.found ≡ Some t
+pub statement_found : (tokens : List ℕ) (p : Cursor) (t : ℕ) (best result : Option Passed) → p ≡ seek (place_of 1000 None) tokens → p.found ≡ Some t
     → result ≡ sooner best (at_token limit.Statements t) → result ≡ soonest best (too_many limit.Statements 1000 (λ t. t) tokens)
 statement_found tokens p t best result e f h =
-    let g : slice_get tokens 1000 ≡ Some t = sym (found_at 1000 tokens) ∙ (ap (λ (q : Place). q.found) (sym e) ∙ f) in
+    let g : slice_get tokens 1000 ≡ Some t = sym (found_at 1000 tokens) ∙ (ap (λ (q : Cursor). q.found) (sym e) ∙ f) in
     rw g (h ∙ sym (one_passed best (at_token limit.Statements t)))
 
-pub no_statement : (tokens : List ℕ) (p : Place) (best : Option Passed) → p ≡ seek (place_of 1000 None) tokens → p.found ≡ None → best ≡ soonest best (too_many limit.Statements 1000 (λ t. t) tokens)
+pub no_statement : (tokens : List ℕ) (p : Cursor) (best : Option Passed) → p ≡ seek (place_of 1000 None) tokens → p.found ≡ None → best ≡ soonest best (too_many limit.Statements 1000 (λ t. t) tokens)
 no_statement tokens p best e f =
-    let g : slice_get tokens 1000 ≡ None = sym (found_at 1000 tokens) ∙ (ap (λ (q : Place). q.found) (sym e) ∙ f) in
+    let g : slice_get tokens 1000 ≡ None = sym (found_at 1000 tokens) ∙ (ap (λ (q : Cursor). q.found) (sym e) ∙ f) in
     rw g (sym (soonest_none best))

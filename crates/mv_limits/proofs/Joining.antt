@@ -10,7 +10,7 @@ use Rattle.mv_ast.specs.declared.tree.Stmt.TheVariants.{Branch, rolls-Branch}
 use Rattle.mv_ast.specs.declared.tree.Stmt.TheFolds.{fold-roll-Stmt}
 use Rattle.mv_ast.specs.declared.limit.Passed.{Passed}
 use Rattle.mv_ast.specs.Limits.{soonest, sooner, together, statement_step, statement_passes, tokens_step, statement_tokens}
-use Rattle.mv_limits.specs.declared.place.Place.{Place}
+use Rattle.mv_limits.specs.declared.cursor.Cursor.{Cursor}
 use Rattle.mv_limits.specs.Places.{place_of, step, seek}
 
 pub soonest_joined : (best : Option Passed) (ps qs : List Passed) → soonest best (ps ++ qs) ≡ soonest (soonest best ps) qs
@@ -22,12 +22,12 @@ pub soonest_none : (best : Option Passed) → soonest best [] ≡ best
 unfolding soonest
 soonest_none best = refl
 
-pub seek_joined : (p : Place) (ts us : List ℕ) → seek p (ts ++ us) ≡ seek (seek p ts) us
+pub seek_joined : (p : Cursor) (ts us : List ℕ) → seek p (ts ++ us) ≡ seek (seek p ts) us
 unfolding seek
 seek_joined p [] us = refl
 seek_joined p (t ∷ ts) us = seek_joined (step p t) ts us
 
-pub seek_none : (p : Place) → seek p [] ≡ p
+pub seek_none : (p : Cursor) → seek p [] ≡ p
 unfolding seek
 seek_none p = refl
 
@@ -54,11 +54,11 @@ soonest_turn f xs k x s next all h is e i = turn soonest f xs k x s next all soo
 pub soonest_end : {A : Type 0} (f : A → List Passed) (xs : List A) (k : ℕ) (s all : Option Passed) → length xs ≤ k → soonest s (together (map f (drop k xs))) ≡ all → s ≡ all
 soonest_end f xs k s all h i = end soonest f xs k s all soonest_none h i
 
-pub seek_turn : {A : Type 0} (f : A → List ℕ) (xs : List A) (k : ℕ) (x : A) (s next all : Place) → k < length xs → x ≡ get_or xs k x
+pub seek_turn : {A : Type 0} (f : A → List ℕ) (xs : List A) (k : ℕ) (x : A) (s next all : Cursor) → k < length xs → x ≡ get_or xs k x
     → next ≡ seek s (f x) → seek s (together (map f (drop k xs))) ≡ all → seek next (together (map f (drop (k + 1) xs))) ≡ all
 seek_turn f xs k x s next all h is e i = turn seek f xs k x s next all seek_joined h is e i
 
-pub seek_end : {A : Type 0} (f : A → List ℕ) (xs : List A) (k : ℕ) (s all : Place) → length xs ≤ k → seek s (together (map f (drop k xs))) ≡ all → s ≡ all
+pub seek_end : {A : Type 0} (f : A → List ℕ) (xs : List A) (k : ℕ) (s all : Cursor) → length xs ≤ k → seek s (together (map f (drop k xs))) ≡ all → s ≡ all
 seek_end f xs k s all h i = end seek f xs k s all seek_none h i
 
 -- an IF
@@ -74,7 +74,7 @@ branch_best token test ys ns best middle next h i =
     i ∙ (ap (λ r. soonest r (together (map statement_passes ns))) h
     ∙ (sym (soonest_joined best (together (map statement_passes ys)) (together (map statement_passes ns))) ∙ ap (soonest best) (sym (branch_passes token test ys ns))))
 
-pub branch_place : (token : ℕ) (test : Expr) (ys ns : List Stmt) (p middle next : Place) → middle ≡ seek (step p token) (together (map statement_tokens ys))
+pub branch_place : (token : ℕ) (test : Expr) (ys ns : List Stmt) (p middle next : Cursor) → middle ≡ seek (step p token) (together (map statement_tokens ys))
     → next ≡ seek middle (together (map statement_tokens ns)) → next ≡ seek p (statement_tokens (Branch token test ys ns))
 unfolding seek
 branch_place token test ys ns p middle next h i =

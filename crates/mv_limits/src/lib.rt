@@ -2,10 +2,10 @@
 #![tactic(auto)]
 
 mod best;
+mod cursor;
 pub mod early;
 pub mod late;
 pub mod laws;
-mod place;
 mod rows;
 mod statements;
 mod texts;

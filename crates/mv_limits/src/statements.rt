@@ -5,7 +5,7 @@ ghost use Rattle.mv_ast.specs.Limits.{soonest, together, too_many, name_token, s
 ghost use Rattle.mv_limits.specs.Places.{seek, step};
 
 use crate::best::{sooner, too_many};
-use crate::place::Place;
+use crate::cursor::Cursor;
 use mv_ast::limit::{Passed, Which};
 use mv_ast::tree::{Name, Sort, Stmt};
 
@@ -19,20 +19,20 @@ const STATEMENTS: usize = 1000;
 #[derive(Clone, Copy)]
 struct Walk {
     best: Option<Passed>,
-    place: Place,
+    place: Cursor,
 }
 
 /// Returns the search after one more token.
-fn behind(place: Place, token: u32) -> Place
+fn behind(place: Cursor, token: u32) -> Cursor
     ensures { result ≡ step place token }
 {
     match place.found {
         Some(_) => place,
-        None if place.left == 0 => Place {
+        None if place.left == 0 => Cursor {
             left: 0,
             found: Some(token),
         },
-        None => Place {
+        None => Cursor {
             left: place.left - 1,
             found: None,
         },
@@ -134,7 +134,7 @@ fn in_statement(walk: Walk, statement: &Stmt) -> Walk
 pub(crate) fn in_body(best: Option<Passed>, body: &[Stmt]) -> Option<Passed>
     ensures { result ≡ soonest best (together (map statement_passes body.now) ++ too_many Which.Statements 1000 (λ t. t) (together (map statement_tokens body.now))) }
 {
-    let place = Place {
+    let place = Cursor {
         left: STATEMENTS,
         found: None,
     };

@@ -10,8 +10,8 @@ use Rattle.mv_ast.specs.declared.tree.TwoOp.TheVariants.{And, Or}
 use Rattle.mv_ast.specs.Trees.{paired, paired_by, with_op, with_comparison, compared}
 use Rattle.mv_ast.specs.Parts.{give, one}
 use Rattle.mv_ast.specs.Grammar.{◌▸◌, ◌⊛◌, expr, conj, neg, comp, op, sum, term, sum_op, term_op}
-use Rattle.mv_parser.specs.declared.fault.Stop.{Stop}
-use Rattle.mv_parser.specs.declared.fault.Stop.TheVariants.{Memory, Wrong}
+use Rattle.mv_parser.specs.declared.fault.Failure.{Failure}
+use Rattle.mv_parser.specs.declared.fault.Failure.TheVariants.{Memory, Wrong}
 use Rattle.mv_parser.specs.declared.level.Level.{Level}
 use Rattle.mv_parser.specs.declared.level.Level.TheVariants as level
 use Rattle.mv_parser.specs.Reading.{◌>>=◌, Read, Inside, first, read, read_one, more, starts_with}
@@ -107,7 +107,7 @@ joined_err : {B : Type 0} (a : Expr) (f : (TwoOp × Expr) × List Lexeme → Rea
 joined_err a f (Ok x) left h = cc
 joined_err a f (Err e) left h = let same : e ≡ left = cc in ap Err same
 
-pub turn_stops : (n i : ℕ) (ks : List Terminal) (piece : List Lexeme → Read (TwoOp × Expr)) (a : Expr) (ts all_ts : List Lexeme) (all : Read Expr) (stop : Stop) → i < n
+pub turn_stops : (n i : ℕ) (ks : List Terminal) (piece : List Lexeme → Read (TwoOp × Expr)) (a : Expr) (ts all_ts : List Lexeme) (all : Read Expr) (stop : Failure) → i < n
     → starts_with ks ts ≡ true → Stops all_ts stop (piece ts >>= with_left a) → more (n - i) paired_by ks piece a ts ≡ all → Stops all_ts stop all
 turn_stops n i ks piece a ts all_ts all Memory h s j e = tt
 turn_stops n i ks piece a ts all_ts all (Wrong left) h s j e =

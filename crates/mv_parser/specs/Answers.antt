@@ -7,8 +7,8 @@ use Rattle.mv_ast.specs.Parts.{Part}
 use Rattle.mv_ast.specs.Trees.{paired_by}
 use Rattle.mv_parser.specs.Reading.{◌>>=◌, Read, Inside, read, inside}
 use Rattle.mv_parser.specs.declared.reader.Reader.{Reader}
-use Rattle.mv_parser.specs.declared.fault.Stop.{Stop}
-use Rattle.mv_parser.specs.declared.fault.Stop.TheVariants.{Memory, Wrong}
+use Rattle.mv_parser.specs.declared.fault.Failure.{Failure}
+use Rattle.mv_parser.specs.declared.fault.Failure.TheVariants.{Memory, Wrong}
 
 -- the token at a position, if there is one
 abbrev pub Ahead : List Lexeme → ℕ → Option Lexeme → Type 0
@@ -16,11 +16,11 @@ Ahead ts at None = drop at ts ≡ []
 Ahead ts at (Some l) = (drop at ts ≡ l ∷ drop (at + 1) ts) × (at < length ts)
 
 -- the error of reading, unless memory ran out
-abbrev pub Stops : {A : Type 0} → List Lexeme → Stop → Read A → Type 0
+abbrev pub Stops : {A : Type 0} → List Lexeme → Failure → Read A → Type 0
 Stops ts Memory reading = Unit {0}
 Stops ts (Wrong left) reading = reading ≡ Err left
 
-abbrev pub Gives : {A : Type 0} → List Lexeme → Result (A × ℕ) Stop → Read A → Type 0
+abbrev pub Gives : {A : Type 0} → List Lexeme → Result (A × ℕ) Failure → Read A → Type 0
 Gives ts (Ok x) reading = reading ≡ Ok (x.0, drop x.1 ts)
 Gives ts (Err stop) reading = Stops ts stop reading
 
@@ -29,22 +29,22 @@ abbrev pub inside_of : Reader → Inside
 inside_of r = inside r.bytes.now r.depth
 
 -- the function reads this part of the grammar at a position
-abbrev pub Reads : {A : Type 0} → Reader → ℕ → (List ℕ → Part A) → Result (A × ℕ) Stop → Type 0
+abbrev pub Reads : {A : Type 0} → Reader → ℕ → (List ℕ → Part A) → Result (A × ℕ) Failure → Type 0
 Reads r at part result = Gives r.lexemes.now result (read (inside_of r) (part r.bytes.now) (drop at r.lexemes.now))
 
 -- the function reads this part and applies a function to its value
-abbrev pub ReadsFor : {A B : Type 0} → Reader → ℕ → (List ℕ → Part A) → (A → B) → Result (B × ℕ) Stop → Type 0
+abbrev pub ReadsFor : {A B : Type 0} → Reader → ℕ → (List ℕ → Part A) → (A → B) → Result (B × ℕ) Failure → Type 0
 ReadsFor r at part f result = Gives r.lexemes.now result (read (inside_of r) (part r.bytes.now) (drop at r.lexemes.now) >>= (λ x. Ok (f x.0, x.1)))
 
 -- the function joins an expression with the operator and the operand read after it
-abbrev pub Joins : List Lexeme → Expr → Result ((TwoOp × Expr) × ℕ) Stop → Result (Expr × ℕ) Stop → Type 0
+abbrev pub Joins : List Lexeme → Expr → Result ((TwoOp × Expr) × ℕ) Failure → Result (Expr × ℕ) Failure → Type 0
 Joins ts a next result = (reading : Read (TwoOp × Expr)) → Gives ts next reading → Gives ts result (reading >>= (λ x. Ok (paired_by a x.0, x.1)))
 
 -- reading returns the value of what was read, after a function is applied to it
-abbrev pub GivesBy : {A B : Type 0} → List Lexeme → (A → B) → Result (A × ℕ) Stop → Read B → Type 0
+abbrev pub GivesBy : {A B : Type 0} → List Lexeme → (A → B) → Result (A × ℕ) Failure → Read B → Type 0
 GivesBy ts f (Ok x) reading = reading ≡ Ok (f x.0, drop x.1 ts)
 GivesBy ts f (Err stop) reading = Stops ts stop reading
 
 -- the function applies a second function to what was read for the first
-abbrev pub Completes : {A B C : Type 0} → List Lexeme → (A → B) → (B → C) → Result (A × ℕ) Stop → Result (C × ℕ) Stop → Type 0
+abbrev pub Completes : {A B C : Type 0} → List Lexeme → (A → B) → (B → C) → Result (A × ℕ) Failure → Result (C × ℕ) Failure → Type 0
 Completes {B = B} ts f g next result = (reading : Read B) → GivesBy ts f next reading → Gives ts result (reading >>= (λ x. Ok (g x.0, x.1)))

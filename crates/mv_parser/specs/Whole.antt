@@ -7,8 +7,8 @@ use Rattle.mv_ast.specs.Limits.{at_token, first_early, first_late}
 use Rattle.mv_parser.specs.Reading.{◌>>=◌, read, inside}
 use Rattle.mv_parser.specs.declared.fault.ParseFault.{ParseFault}
 use Rattle.mv_parser.specs.declared.fault.ParseFault.TheVariants.{Syntax, Limit, NoMemory}
-use Rattle.mv_parser.specs.declared.fault.Stop.{Stop}
-use Rattle.mv_parser.specs.declared.fault.Stop.TheVariants.{Memory, Wrong}
+use Rattle.mv_parser.specs.declared.fault.Failure.{Failure}
+use Rattle.mv_parser.specs.declared.fault.Failure.TheVariants.{Memory, Wrong}
 
 -- the value read, if no token is left
 abbrev pub whole : {A : Type 0} → A → List Lexeme → Result A ℕ
@@ -20,7 +20,7 @@ abbrev pub parsed : List ℕ → ℕ → List Lexeme → Result Script ℕ
 parsed bytes depth ts = read (inside bytes depth) (script bytes) ts >>= (λ x. whole x.0 x.1)
 
 -- the result is that of reading, unless memory ran out
-abbrev pub Answers : {A : Type 0} → Result A Stop → Result A ℕ → Type 0
+abbrev pub Answers : {A : Type 0} → Result A Failure → Result A ℕ → Type 0
 Answers (Ok x) reading = reading ≡ Ok x
 Answers (Err Memory) reading = Unit {0}
 Answers (Err (Wrong left)) reading = reading ≡ Err left

@@ -14,7 +14,7 @@ ghost use Rattle.mv_parser.specs.Reading.{Read, read};
 ghost use Rattle.mv_parser.specs.Rests.{plain_rest, distinct_rest, branches};
 ghost use Rattle.mv_parser.specs.Answers.{Reads, ReadsFor, Gives, GivesBy, Completes, inside_of};
 
-use crate::fault::Stop;
+use crate::fault::Failure;
 use crate::reader::Reader;
 use mv_ast::lexeme::Terminal;
 use mv_ast::tree::{Cond, Expr, Name, Sort, Stmt};
@@ -24,7 +24,7 @@ impl Reader<'_> {
     /// Parses a statement one level deeper.
     #[cycle(stmt)]
     #[tactic(auto, using(crate::proofs::Inside::inside_stmt, crate::proofs::Inside::inside_no_stmt))]
-    fn statement(&self, at: usize) -> Result<(Stmt, usize), Stop>
+    fn statement(&self, at: usize) -> Result<(Stmt, usize), Failure>
         ensures { Reads self.now at (λ _. statement) result }
     {
         if self.depth == 0 {
@@ -36,7 +36,7 @@ impl Reader<'_> {
     /// Parses zero or more statements.
     #[cycle(stmt)]
     #[tactic(auto, using(crate::proofs::Turns::more_turn, crate::proofs::Turns::more_stop))]
-    pub(crate) fn statements(&self, at: usize) -> Result<(List<Stmt>, usize), Stop>
+    pub(crate) fn statements(&self, at: usize) -> Result<(List<Stmt>, usize), Failure>
         ensures { Reads self.now at (λ _. many statement) result }
     {
         let mut all = List::new(self.alloc);
@@ -55,7 +55,7 @@ impl Reader<'_> {
     /// Parses a statement.
     #[cycle(stmt)]
     #[tactic(auto, using(crate::proofs::Firsts::first_assign, crate::proofs::Firsts::first_select, crate::proofs::Firsts::first_for_each, crate::proofs::Firsts::first_branch, crate::proofs::Firsts::first_insert, crate::proofs::Firsts::first_update, crate::proofs::Firsts::first_delete, crate::proofs::Firsts::first_print), unfolding(mv_ast::specs::Grammar::stmt))]
-    fn stmt(&self, at: usize) -> Result<(Stmt, usize), Stop>
+    fn stmt(&self, at: usize) -> Result<(Stmt, usize), Failure>
         ensures { Reads self.now at stmt result }
     {
         if self.has(at, Terminal::Set) {
@@ -88,7 +88,7 @@ impl Reader<'_> {
     /// Parses FOR.
     #[cycle(stmt)]
     #[tactic(auto, using(crate::proofs::Firsts::first_for_distinct), unfolding(mv_ast::specs::Grammar::for_each))]
-    fn for_each(&self, at: usize) -> Result<(Stmt, usize), Stop>
+    fn for_each(&self, at: usize) -> Result<(Stmt, usize), Failure>
         ensures { Reads self.now at for_each result }
     {
         let (token, at) = self.place(at, Terminal::For)?;
@@ -108,7 +108,7 @@ impl Reader<'_> {
     /// Parses FOR over the rows of a table, after SELECT.
     #[cycle(stmt)]
     #[tactic(auto, unfolding(mv_ast::specs::Grammar::for_plain))]
-    fn for_plain(&self, at: usize, token: u32, row: Name) -> Result<(Stmt, usize), Stop>
+    fn for_plain(&self, at: usize, token: u32, row: Name) -> Result<(Stmt, usize), Failure>
         ensures { ReadsFor self.now at for_plain (λ f. f token row) result }
     {
         let (columns, at) = self.separated(at, Terminal::Comma)?;
@@ -121,7 +121,7 @@ impl Reader<'_> {
     fn plain_rest(
         &self,
         at: usize,
-    ) -> Result<((Name, List<Cond>, List<Sort>, List<Stmt>), usize), Stop>
+    ) -> Result<((Name, List<Cond>, List<Sort>, List<Stmt>), usize), Failure>
         ensures { (f : Name → List Cond → List Sort → List Stmt → ℕ → Name → Stmt) → GivesBy self.now.lexemes.now (λ x. f x.0 x.1 x.2 x.3) result (read (inside_of self.now) (plain_rest self.now.bytes.now f) (drop at self.now.lexemes.now)) }
     {
         let (_, at) = self.one(at, Terminal::From)?;
@@ -138,8 +138,8 @@ impl Reader<'_> {
         token: u32,
         row: Name,
         columns: List<Name>,
-        rest: Result<((Name, List<Cond>, List<Sort>, List<Stmt>), usize), Stop>,
-    ) -> Result<(Stmt, usize), Stop>
+        rest: Result<((Name, List<Cond>, List<Sort>, List<Stmt>), usize), Failure>,
+    ) -> Result<(Stmt, usize), Failure>
         ensures { Completes self.now.lexemes.now (λ x. for_plain_of columns x.0 x.1 x.2 x.3) (λ f. f token row) rest result }
     {
         let ((table, conds, sorts, body), at) = rest?;
@@ -160,7 +160,7 @@ impl Reader<'_> {
     /// Parses FOR over distinct rows, starting at DISTINCT.
     #[cycle(stmt)]
     #[tactic(auto, unfolding(mv_ast::specs::Grammar::for_distinct))]
-    fn for_distinct(&self, at: usize, token: u32, row: Name) -> Result<(Stmt, usize), Stop>
+    fn for_distinct(&self, at: usize, token: u32, row: Name) -> Result<(Stmt, usize), Failure>
         ensures { ReadsFor self.now at for_distinct (λ f. f token row) result }
     {
         let (_, at) = self.one(at, Terminal::Distinct)?;
@@ -171,7 +171,7 @@ impl Reader<'_> {
 
     /// Parses FOR over distinct rows, starting at FROM.
     #[cycle(stmt)]
-    fn distinct_rest(&self, at: usize) -> Result<((Name, List<Cond>, List<Stmt>), usize), Stop>
+    fn distinct_rest(&self, at: usize) -> Result<((Name, List<Cond>, List<Stmt>), usize), Failure>
         ensures { (f : Name → List Cond → List Stmt → ℕ → Name → Stmt) → GivesBy self.now.lexemes.now (λ x. f x.0 x.1 x.2) result (read (inside_of self.now) (distinct_rest self.now.bytes.now f) (drop at self.now.lexemes.now)) }
     {
         let (_, at) = self.one(at, Terminal::From)?;
@@ -187,8 +187,8 @@ impl Reader<'_> {
         token: u32,
         row: Name,
         columns: List<Name>,
-        rest: Result<((Name, List<Cond>, List<Stmt>), usize), Stop>,
-    ) -> Result<(Stmt, usize), Stop>
+        rest: Result<((Name, List<Cond>, List<Stmt>), usize), Failure>,
+    ) -> Result<(Stmt, usize), Failure>
         ensures { Completes self.now.lexemes.now (λ x. for_distinct_of columns x.0 x.1 x.2) (λ f. f token row) rest result }
     {
         let ((table, conds, body), at) = rest?;
@@ -210,7 +210,7 @@ impl Reader<'_> {
     /// Parses FOR over the rows of a parameter, after IN.
     #[cycle(stmt)]
     #[tactic(auto, unfolding(mv_ast::specs::Grammar::for_rows))]
-    fn for_rows(&self, at: usize, token: u32, row: Name) -> Result<(Stmt, usize), Stop>
+    fn for_rows(&self, at: usize, token: u32, row: Name) -> Result<(Stmt, usize), Failure>
         ensures { ReadsFor self.now at for_rows (λ f. f token row) result }
     {
         let (rows, at) = self.variable(at)?;
@@ -229,7 +229,7 @@ impl Reader<'_> {
     /// Parses the body of FOR, from DO to the closing semicolon.
     #[cycle(stmt)]
     #[tactic(auto, unfolding(mv_ast::specs::Grammar::loop_body))]
-    fn loop_body(&self, at: usize) -> Result<(List<Stmt>, usize), Stop>
+    fn loop_body(&self, at: usize) -> Result<(List<Stmt>, usize), Failure>
         ensures { Reads self.now at loop_body result }
     {
         let (_, at) = self.one(at, Terminal::Do)?;
@@ -240,7 +240,7 @@ impl Reader<'_> {
     /// Parses IF.
     #[cycle(stmt)]
     #[tactic(auto, unfolding(mv_ast::specs::Grammar::branch))]
-    fn branch(&self, at: usize) -> Result<(Stmt, usize), Stop>
+    fn branch(&self, at: usize) -> Result<(Stmt, usize), Failure>
         ensures { Reads self.now at branch result }
     {
         let (token, at) = self.place(at, Terminal::If)?;
@@ -251,7 +251,7 @@ impl Reader<'_> {
 
     /// Parses the rest of IF, after its test.
     #[cycle(stmt)]
-    fn branches(&self, at: usize) -> Result<((List<Stmt>, List<Stmt>), usize), Stop>
+    fn branches(&self, at: usize) -> Result<((List<Stmt>, List<Stmt>), usize), Failure>
         ensures { (f : List Stmt → List Stmt → Stmt) → GivesBy self.now.lexemes.now (λ x. f x.0 x.1) result (read (inside_of self.now) (branches self.now.bytes.now f) (drop at self.now.lexemes.now)) }
     {
         let (_, at) = self.one(at, Terminal::Then)?;
@@ -268,8 +268,8 @@ impl Reader<'_> {
         &self,
         token: u32,
         test: Expr,
-        rest: Result<((List<Stmt>, List<Stmt>), usize), Stop>,
-    ) -> Result<(Stmt, usize), Stop>
+        rest: Result<((List<Stmt>, List<Stmt>), usize), Failure>,
+    ) -> Result<(Stmt, usize), Failure>
         ensures { (reading : Read Stmt) → GivesBy self.now.lexemes.now (λ x. Branch token test x.0 x.1) rest reading → Gives self.now.lexemes.now result reading }
     {
         let ((yes, no), at) = rest?;
@@ -285,7 +285,7 @@ impl Reader<'_> {
     /// Parses ELSE and its statements, or nothing if there is no ELSE.
     #[cycle(stmt)]
     #[tactic(auto, unfolding(mv_ast::specs::Grammar::otherwise))]
-    fn otherwise(&self, at: usize) -> Result<(List<Stmt>, usize), Stop>
+    fn otherwise(&self, at: usize) -> Result<(List<Stmt>, usize), Failure>
         ensures { Reads self.now at otherwise result }
     {
         if !self.has(at, Terminal::Else) {

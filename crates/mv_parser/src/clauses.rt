@@ -7,7 +7,7 @@ ghost use Rattle.mv_ast.specs.Grammar.{◌▸◌, optional, in_parens, cond, con
 ghost use Rattle.mv_parser.specs.Reading.{inside, read};
 ghost use Rattle.mv_parser.specs.Answers.{Reads};
 
-use crate::fault::Stop;
+use crate::fault::Failure;
 use crate::level::Level;
 use crate::lists::Parse;
 use crate::reader::Reader;
@@ -18,7 +18,7 @@ use mv_values::list::List;
 impl Parse for Expr {
     ghost reading = { λ bytes depth ts. read (inside bytes depth) expression ts };
 
-    fn parse(reader: &Reader, at: usize) -> Result<(Expr, usize), Stop> {
+    fn parse(reader: &Reader, at: usize) -> Result<(Expr, usize), Failure> {
         reader.expression(at)
     }
 }
@@ -26,7 +26,7 @@ impl Parse for Expr {
 impl Parse for Cond {
     ghost reading = { λ bytes depth ts. read (inside bytes depth) (cond bytes) ts };
 
-    fn parse(reader: &Reader, at: usize) -> Result<(Cond, usize), Stop> {
+    fn parse(reader: &Reader, at: usize) -> Result<(Cond, usize), Failure> {
         reader.cond(at)
     }
 }
@@ -34,7 +34,7 @@ impl Parse for Cond {
 impl Parse for Sort {
     ghost reading = { λ bytes depth ts. read (inside bytes depth) (sort bytes) ts };
 
-    fn parse(reader: &Reader, at: usize) -> Result<(Sort, usize), Stop> {
+    fn parse(reader: &Reader, at: usize) -> Result<(Sort, usize), Failure> {
         reader.sort(at)
     }
 }
@@ -42,7 +42,7 @@ impl Parse for Sort {
 impl Parse for SetItem {
     ghost reading = { λ bytes depth ts. read (inside bytes depth) (set_item bytes) ts };
 
-    fn parse(reader: &Reader, at: usize) -> Result<(SetItem, usize), Stop> {
+    fn parse(reader: &Reader, at: usize) -> Result<(SetItem, usize), Failure> {
         reader.set_item(at)
     }
 }
@@ -50,7 +50,7 @@ impl Parse for SetItem {
 impl Reader<'_> {
     /// Parses one test of WHERE.
     #[tactic(auto, unfolding(mv_ast::specs::Grammar::cond, mv_ast::specs::Grammar::sum))]
-    fn cond(&self, at: usize) -> Result<(Cond, usize), Stop>
+    fn cond(&self, at: usize) -> Result<(Cond, usize), Failure>
         ensures { Reads self.now at cond result }
     {
         let (column, at) = self.name(at)?;
@@ -61,7 +61,7 @@ impl Reader<'_> {
 
     /// Parses an optional WHERE with its tests.
     #[tactic(auto, unfolding(mv_ast::specs::Grammar::conds))]
-    pub(crate) fn conds(&self, at: usize) -> Result<(List<Cond>, usize), Stop>
+    pub(crate) fn conds(&self, at: usize) -> Result<(List<Cond>, usize), Failure>
         ensures { Reads self.now at conds result }
     {
         if !self.has(at, Terminal::Where) {
@@ -73,7 +73,7 @@ impl Reader<'_> {
 
     /// Parses an optional ASC or DESC. Returns whether the order is descending.
     #[tactic(auto, unfolding(mv_ast::specs::Grammar::direction))]
-    fn direction(&self, at: usize) -> Result<(bool, usize), Stop>
+    fn direction(&self, at: usize) -> Result<(bool, usize), Failure>
         ensures { Reads self.now at direction result }
     {
         if self.has(at, Terminal::Asc) {
@@ -89,7 +89,7 @@ impl Reader<'_> {
 
     /// Parses one column of ORDER BY.
     #[tactic(auto, unfolding(mv_ast::specs::Grammar::sort))]
-    fn sort(&self, at: usize) -> Result<(Sort, usize), Stop>
+    fn sort(&self, at: usize) -> Result<(Sort, usize), Failure>
         ensures { Reads self.now at sort result }
     {
         let (column, at) = self.name(at)?;
@@ -99,7 +99,7 @@ impl Reader<'_> {
 
     /// Parses an optional ORDER BY with its columns.
     #[tactic(auto, unfolding(mv_ast::specs::Grammar::sorts))]
-    pub(crate) fn sorts(&self, at: usize) -> Result<(List<Sort>, usize), Stop>
+    pub(crate) fn sorts(&self, at: usize) -> Result<(List<Sort>, usize), Failure>
         ensures { Reads self.now at sorts result }
     {
         if !self.has(at, Terminal::Order) {
@@ -111,7 +111,7 @@ impl Reader<'_> {
     }
 
     /// Parses an optional OFFSET with its expression.
-    pub(crate) fn offset(&self, at: usize) -> Result<(Option<Expr>, usize), Stop>
+    pub(crate) fn offset(&self, at: usize) -> Result<(Option<Expr>, usize), Failure>
         ensures { Reads self.now at (λ _. optional (one word.Offset ▸ expression)) result }
     {
         if !self.has(at, Terminal::Offset) {
@@ -124,7 +124,7 @@ impl Reader<'_> {
 
     /// Parses one assignment of UPDATE.
     #[tactic(auto, unfolding(mv_ast::specs::Grammar::set_item))]
-    fn set_item(&self, at: usize) -> Result<(SetItem, usize), Stop>
+    fn set_item(&self, at: usize) -> Result<(SetItem, usize), Failure>
         ensures { Reads self.now at set_item result }
     {
         let (column, at) = self.name(at)?;
@@ -135,7 +135,7 @@ impl Reader<'_> {
 
     /// Parses what COUNT counts, in parentheses.
     #[tactic(auto, unfolding(mv_ast::specs::Grammar::counted))]
-    fn counted(&self, at: usize) -> Result<(Agg, usize), Stop>
+    fn counted(&self, at: usize) -> Result<(Agg, usize), Failure>
         ensures { Reads self.now at counted result }
     {
         if self.has(at, Terminal::Star) {
@@ -148,7 +148,7 @@ impl Reader<'_> {
     }
 
     /// Parses a name in parentheses.
-    fn name_in_parens(&self, at: usize) -> Result<(Name, usize), Stop>
+    fn name_in_parens(&self, at: usize) -> Result<(Name, usize), Failure>
         ensures { Reads self.now at (λ bytes. in_parens (name bytes)) result }
     {
         let (_, at) = self.one(at, Terminal::Open)?;
@@ -158,7 +158,7 @@ impl Reader<'_> {
 
     /// Parses an aggregate: COUNT, SUM, MIN or MAX.
     #[tactic(auto, unfolding(mv_ast::specs::Grammar::aggregate))]
-    pub(crate) fn aggregate(&self, at: usize) -> Result<(Agg, usize), Stop>
+    pub(crate) fn aggregate(&self, at: usize) -> Result<(Agg, usize), Failure>
         ensures { Reads self.now at aggregate result }
     {
         if self.has(at, Terminal::Count) {

@@ -7,7 +7,7 @@ ghost use Rattle.mv_ast.specs.Grammar.{◌⊛◌, two_arguments, in_parentheses,
 ghost use Rattle.mv_parser.specs.Levels.{operand, next, chain, with_compare};
 ghost use Rattle.mv_parser.specs.Answers.{Reads, ReadsFor};
 
-use crate::fault::Stop;
+use crate::fault::Failure;
 use crate::level::{Level, marks};
 use crate::reader::Reader;
 use mv_ast::lexeme::Terminal;
@@ -18,7 +18,7 @@ impl Reader<'_> {
     /// Parses an expression one level deeper.
     #[cycle(expr)]
     #[tactic(auto, using(crate::proofs::Inside::inside_expr, crate::proofs::Inside::inside_none, crate::proofs::Chains::chain_or))]
-    pub(crate) fn expression(&self, at: usize) -> Result<(Expr, usize), Stop>
+    pub(crate) fn expression(&self, at: usize) -> Result<(Expr, usize), Failure>
         ensures { Reads self.now at (λ _. expression) result }
     {
         if self.depth == 0 {
@@ -29,7 +29,7 @@ impl Reader<'_> {
 
     /// Parses the operands and operators of a level, left-associatively.
     #[cycle(expr)]
-    pub(crate) fn chain(&self, at: usize, level: Level) -> Result<(Expr, usize), Stop>
+    pub(crate) fn chain(&self, at: usize, level: Level) -> Result<(Expr, usize), Failure>
         ensures { Reads self.now at (λ bytes. chain bytes level) result }
     {
         let (mut whole, at) = self.operand(at, level)?;
@@ -48,7 +48,7 @@ impl Reader<'_> {
 
     /// Parses an operator of a level and the operand after it.
     #[cycle(expr)]
-    fn next(&self, at: usize, level: Level) -> Result<((TwoOp, Expr), usize), Stop>
+    fn next(&self, at: usize, level: Level) -> Result<((TwoOp, Expr), usize), Failure>
         ensures { Reads self.now at (λ bytes. next bytes level) result }
     {
         let (op, at) = self.operator(at, level)?;
@@ -59,7 +59,7 @@ impl Reader<'_> {
     /// Parses an operand of a level.
     #[cycle(expr)]
     #[tactic(auto, using(crate::proofs::Chains::chain_and, crate::proofs::Chains::chain_term))]
-    fn operand(&self, at: usize, level: Level) -> Result<(Expr, usize), Stop>
+    fn operand(&self, at: usize, level: Level) -> Result<(Expr, usize), Failure>
         ensures { Reads self.now at (λ bytes. operand bytes level) result }
     {
         match level {
@@ -73,7 +73,7 @@ impl Reader<'_> {
     /// Parses a comparison after zero or more NOT.
     #[cycle(expr)]
     #[tactic(auto, unfolding(mv_ast::specs::Grammar::neg))]
-    fn neg(&self, at: usize) -> Result<(Expr, usize), Stop>
+    fn neg(&self, at: usize) -> Result<(Expr, usize), Failure>
         ensures { Reads self.now at neg result }
     {
         let (words, at) = self.repeated(at, Terminal::Not)?;
@@ -84,7 +84,7 @@ impl Reader<'_> {
     /// Parses a sum, or a comparison of two sums.
     #[cycle(expr)]
     #[tactic(auto, unfolding(mv_ast::specs::Grammar::comp, mv_ast::specs::Grammar::sum, mv_ast::specs::Grammar::op))]
-    fn comp(&self, at: usize) -> Result<(Expr, usize), Stop>
+    fn comp(&self, at: usize) -> Result<(Expr, usize), Failure>
         ensures { Reads self.now at comp result }
     {
         let (left, at) = self.chain(at, Level::Sum)?;
@@ -98,7 +98,7 @@ impl Reader<'_> {
     /// Parses a comparison operator and the sum after it.
     #[cycle(expr)]
     #[tactic(auto, unfolding(mv_ast::specs::Grammar::sum))]
-    fn compared(&self, at: usize) -> Result<((TwoOp, Expr), usize), Stop>
+    fn compared(&self, at: usize) -> Result<((TwoOp, Expr), usize), Failure>
         ensures { ReadsFor self.now at (λ bytes. give with_comparison ⊛ op bytes ⊛ sum bytes) with_compare result }
     {
         let (op, at) = self.comparison(at)?;
@@ -109,7 +109,7 @@ impl Reader<'_> {
     /// Parses a value after zero or more `-`.
     #[cycle(expr)]
     #[tactic(auto, unfolding(mv_ast::specs::Grammar::fac))]
-    fn fac(&self, at: usize) -> Result<(Expr, usize), Stop>
+    fn fac(&self, at: usize) -> Result<(Expr, usize), Failure>
         ensures { Reads self.now at fac result }
     {
         let (signs, at) = self.repeated(at, Terminal::Minus)?;
@@ -120,7 +120,7 @@ impl Reader<'_> {
     /// Parses a single value, a call, or an expression in parentheses.
     #[cycle(expr)]
     #[tactic(auto, using(crate::proofs::Firsts::first_variable_expr, crate::proofs::Firsts::first_name, crate::proofs::Firsts::first_in_parentheses, crate::proofs::Firsts::first_left_call, crate::proofs::Firsts::first_text_of_call), unfolding(mv_ast::specs::Grammar::prim, mv_ast::specs::Grammar::left_call, mv_ast::specs::Grammar::contains_call))]
-    fn prim(&self, at: usize) -> Result<(Expr, usize), Stop>
+    fn prim(&self, at: usize) -> Result<(Expr, usize), Failure>
         ensures { Reads self.now at prim result }
     {
         if self.has(at, Terminal::Number) {
@@ -150,7 +150,7 @@ impl Reader<'_> {
     /// Parses an expression in parentheses. Its token is the opening parenthesis.
     #[cycle(expr)]
     #[tactic(auto, unfolding(mv_ast::specs::Grammar::in_parentheses))]
-    fn in_parentheses(&self, at: usize) -> Result<(Expr, usize), Stop>
+    fn in_parentheses(&self, at: usize) -> Result<(Expr, usize), Failure>
         ensures { Reads self.now at in_parentheses result }
     {
         let (token, at) = self.place(at, Terminal::Open)?;
@@ -161,7 +161,7 @@ impl Reader<'_> {
 
     /// Parses a call with two arguments.
     #[cycle(expr)]
-    fn two_arguments(&self, at: usize, op: TwoOp, word: Terminal) -> Result<(Expr, usize), Stop>
+    fn two_arguments(&self, at: usize, op: TwoOp, word: Terminal) -> Result<(Expr, usize), Failure>
         ensures { Reads self.now at (λ bytes. two_arguments bytes op word) result }
     {
         let (token, at) = self.place(at, word)?;
@@ -178,7 +178,7 @@ impl Reader<'_> {
     /// Parses a call of TEXTOF.
     #[cycle(expr)]
     #[tactic(auto, unfolding(mv_ast::specs::Grammar::text_of_call))]
-    fn text_of_call(&self, at: usize) -> Result<(Expr, usize), Stop>
+    fn text_of_call(&self, at: usize) -> Result<(Expr, usize), Failure>
         ensures { Reads self.now at text_of_call result }
     {
         let (token, at) = self.place(at, Terminal::TextOf)?;

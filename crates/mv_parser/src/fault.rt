@@ -27,18 +27,18 @@ impl From<NoMemory> for ParseFault {
 /// Why a part of the grammar wasn't parsed: memory ran out, or a token is wrong. The number counts
 /// the tokens from the wrong one to the end.
 #[derive(Clone, Copy)]
-pub(crate) enum Stop {
+pub(crate) enum Failure {
     Memory,
     Wrong(usize),
 }
 
-impl From<NoMemory> for Stop {
+impl From<NoMemory> for Failure {
     ghost use Rattle.std.specs.Prelude.{◌≡◌};
-    ghost use Rattle.mv_parser.specs.declared.fault.Stop.TheVariants.{Memory};
+    ghost use Rattle.mv_parser.specs.declared.fault.Failure.TheVariants.{Memory};
 
     ghost from_gives = { λ _ e. e ≡ Memory };
 
-    fn from(_refused: NoMemory) -> Stop {
-        Stop::Memory
+    fn from(_refused: NoMemory) -> Failure {
+        Failure::Memory
     }
 }

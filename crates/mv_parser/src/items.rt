@@ -7,7 +7,7 @@ ghost use Rattle.mv_ast.specs.Grammar.{◌◂◌, in_parens, col_def, many, or_n
 ghost use Rattle.mv_parser.specs.Reading.{inside, read};
 ghost use Rattle.mv_parser.specs.Answers.{Reads};
 
-use crate::fault::Stop;
+use crate::fault::Failure;
 use crate::lists::Parse;
 use crate::reader::Reader;
 use mv_ast::lexeme::Terminal;
@@ -19,7 +19,7 @@ use mv_values::list::List;
 impl Parse for Param {
     ghost reading = { λ bytes depth ts. read (inside bytes depth) (param bytes) ts };
 
-    fn parse(reader: &Reader, at: usize) -> Result<(Param, usize), Stop> {
+    fn parse(reader: &Reader, at: usize) -> Result<(Param, usize), Failure> {
         reader.param(at)
     }
 }
@@ -27,14 +27,14 @@ impl Parse for Param {
 impl Parse for Arg {
     ghost reading = { λ bytes depth ts. read (inside bytes depth) (arg bytes) ts };
 
-    fn parse(reader: &Reader, at: usize) -> Result<(Arg, usize), Stop> {
+    fn parse(reader: &Reader, at: usize) -> Result<(Arg, usize), Failure> {
         reader.arg(at)
     }
 }
 
 impl Reader<'_> {
     /// Parses a column and the comma after it.
-    fn column(&self, at: usize) -> Result<(ColDef, usize), Stop>
+    fn column(&self, at: usize) -> Result<(ColDef, usize), Failure>
         ensures { Reads self.now at (λ bytes. col_def bytes ◂ one word.Comma) result }
     {
         let (column, at) = self.col_def(at)?;
@@ -43,7 +43,7 @@ impl Reader<'_> {
 
     /// Parses the columns of a table, each followed by a comma.
     #[tactic(auto, using(crate::proofs::Turns::more_turn, crate::proofs::Turns::more_stop, crate::proofs::Firsts::first_column), unfolding(mv_ast::specs::Grammar::columns))]
-    fn columns(&self, at: usize) -> Result<(List<ColDef>, usize), Stop>
+    fn columns(&self, at: usize) -> Result<(List<ColDef>, usize), Failure>
         ensures { Reads self.now at columns result }
     {
         let (first, at) = self.column(at)?;
@@ -63,7 +63,7 @@ impl Reader<'_> {
 
     /// Parses a table, after CREATE.
     #[tactic(auto, unfolding(mv_ast::specs::Grammar::table))]
-    fn table(&self, at: usize) -> Result<(ItemKind, usize), Stop>
+    fn table(&self, at: usize) -> Result<(ItemKind, usize), Failure>
         ensures { Reads self.now at table result }
     {
         let (_, at) = self.one(at, Terminal::Table)?;
@@ -86,7 +86,7 @@ impl Reader<'_> {
 
     /// Parses the kind of a parameter.
     #[tactic(auto, unfolding(mv_ast::specs::Grammar::param_kind))]
-    fn param_kind(&self, at: usize) -> Result<(ParamKind, usize), Stop>
+    fn param_kind(&self, at: usize) -> Result<(ParamKind, usize), Failure>
         ensures { Reads self.now at param_kind result }
     {
         if !self.has(at, Terminal::Rows) {
@@ -100,7 +100,7 @@ impl Reader<'_> {
 
     /// Parses a parameter.
     #[tactic(auto, unfolding(mv_ast::specs::Grammar::param))]
-    fn param(&self, at: usize) -> Result<(Param, usize), Stop>
+    fn param(&self, at: usize) -> Result<(Param, usize), Failure>
         ensures { Reads self.now at param result }
     {
         let (name, at) = self.variable(at)?;
@@ -110,7 +110,7 @@ impl Reader<'_> {
 
     /// Parses zero or more parameters, separated by commas.
     #[tactic(auto, unfolding(mv_ast::specs::Grammar::param, mv_ast::specs::Grammar::variable))]
-    fn params(&self, at: usize) -> Result<(List<Param>, usize), Stop>
+    fn params(&self, at: usize) -> Result<(List<Param>, usize), Failure>
         ensures { Reads self.now at (λ bytes. or_none (commas (param bytes))) result }
     {
         if !self.has(at, Terminal::Variable) {
@@ -120,7 +120,7 @@ impl Reader<'_> {
     }
 
     /// Parses zero or more parameters in parentheses.
-    fn params_in_parens(&self, at: usize) -> Result<(List<Param>, usize), Stop>
+    fn params_in_parens(&self, at: usize) -> Result<(List<Param>, usize), Failure>
         ensures { Reads self.now at (λ bytes. in_parens (or_none (commas (param bytes)))) result }
     {
         let (_, at) = self.one(at, Terminal::Open)?;
@@ -130,7 +130,7 @@ impl Reader<'_> {
 
     /// Parses DECLARE.
     #[tactic(auto, unfolding(mv_ast::specs::Grammar::declaration))]
-    fn declaration(&self, at: usize) -> Result<(VarDef, usize), Stop>
+    fn declaration(&self, at: usize) -> Result<(VarDef, usize), Failure>
         ensures { Reads self.now at declaration result }
     {
         let (_, at) = self.one(at, Terminal::Declare)?;
@@ -142,7 +142,7 @@ impl Reader<'_> {
 
     /// Parses zero or more declarations.
     #[tactic(auto, using(crate::proofs::Turns::more_turn, crate::proofs::Turns::more_stop, crate::proofs::Firsts::first_declaration))]
-    fn declarations(&self, at: usize) -> Result<(List<VarDef>, usize), Stop>
+    fn declarations(&self, at: usize) -> Result<(List<VarDef>, usize), Failure>
         ensures { Reads self.now at (λ bytes. many (declaration bytes)) result }
     {
         let mut all = List::new(self.alloc);
@@ -160,7 +160,7 @@ impl Reader<'_> {
 
     /// Parses a procedure, after CREATE.
     #[tactic(auto, unfolding(mv_ast::specs::Grammar::procedure))]
-    fn procedure(&self, at: usize) -> Result<(ItemKind, usize), Stop>
+    fn procedure(&self, at: usize) -> Result<(ItemKind, usize), Failure>
         ensures { Reads self.now at procedure result }
     {
         let (_, at) = self.one(at, Terminal::Procedure)?;
@@ -181,7 +181,7 @@ impl Reader<'_> {
 
     /// Parses CREATE.
     #[tactic(auto, using(crate::proofs::Firsts::first_table), unfolding(mv_ast::specs::Grammar::create))]
-    fn create(&self, at: usize) -> Result<(Item, usize), Stop>
+    fn create(&self, at: usize) -> Result<(Item, usize), Failure>
         ensures { Reads self.now at create result }
     {
         let (token, at) = self.place(at, Terminal::Create)?;
@@ -195,7 +195,7 @@ impl Reader<'_> {
 
     /// Parses COPY.
     #[tactic(auto, unfolding(mv_ast::specs::Grammar::copy))]
-    fn copy(&self, at: usize) -> Result<(Item, usize), Stop>
+    fn copy(&self, at: usize) -> Result<(Item, usize), Failure>
         ensures { Reads self.now at copy result }
     {
         let (token, at) = self.place(at, Terminal::Copy)?;
@@ -207,7 +207,7 @@ impl Reader<'_> {
 
     /// Parses one argument of a call.
     #[tactic(auto, using(crate::proofs::Firsts::first_lit_rows), unfolding(mv_ast::specs::Grammar::arg))]
-    fn arg(&self, at: usize) -> Result<(Arg, usize), Stop>
+    fn arg(&self, at: usize) -> Result<(Arg, usize), Failure>
         ensures { Reads self.now at arg result }
     {
         if self.has(at, Terminal::Rows) {
@@ -220,7 +220,7 @@ impl Reader<'_> {
 
     /// Parses zero or more arguments, separated by commas.
     #[tactic(auto, using(crate::proofs::Firsts::first_args))]
-    fn args(&self, at: usize) -> Result<(List<Arg>, usize), Stop>
+    fn args(&self, at: usize) -> Result<(List<Arg>, usize), Failure>
         ensures { Reads self.now at (λ bytes. or_none (commas (arg bytes))) result }
     {
         if !self.has_any(at, &ARGUMENT_WORDS) {
@@ -230,7 +230,7 @@ impl Reader<'_> {
     }
 
     /// Parses zero or more arguments in parentheses.
-    fn args_in_parens(&self, at: usize) -> Result<(List<Arg>, usize), Stop>
+    fn args_in_parens(&self, at: usize) -> Result<(List<Arg>, usize), Failure>
         ensures { Reads self.now at (λ bytes. in_parens (or_none (commas (arg bytes)))) result }
     {
         let (_, at) = self.one(at, Terminal::Open)?;
@@ -240,7 +240,7 @@ impl Reader<'_> {
 
     /// Parses CALL.
     #[tactic(auto, unfolding(mv_ast::specs::Grammar::call))]
-    fn call(&self, at: usize) -> Result<(Item, usize), Stop>
+    fn call(&self, at: usize) -> Result<(Item, usize), Failure>
         ensures { Reads self.now at call result }
     {
         let (token, at) = self.place(at, Terminal::Call)?;
@@ -252,7 +252,7 @@ impl Reader<'_> {
 
     /// Parses JOURNAL.
     #[tactic(auto, unfolding(mv_ast::specs::Grammar::journal))]
-    fn journal(&self, at: usize) -> Result<(Item, usize), Stop>
+    fn journal(&self, at: usize) -> Result<(Item, usize), Failure>
         ensures { Reads self.now at journal result }
     {
         let (token, at) = self.place(at, Terminal::Journal)?;
@@ -263,7 +263,7 @@ impl Reader<'_> {
 
     /// Parses one item of a script.
     #[tactic(auto, using(crate::proofs::Firsts::first_create, crate::proofs::Firsts::first_copy, crate::proofs::Firsts::first_call), unfolding(mv_ast::specs::Grammar::an_item))]
-    pub(crate) fn item(&self, at: usize) -> Result<(Item, usize), Stop>
+    pub(crate) fn item(&self, at: usize) -> Result<(Item, usize), Failure>
         ensures { Reads self.now at an_item result }
     {
         if self.has(at, Terminal::Create) {
@@ -280,7 +280,7 @@ impl Reader<'_> {
 
     /// Parses zero or more items.
     #[tactic(auto, using(crate::proofs::Turns::more_turn, crate::proofs::Turns::more_stop, crate::proofs::Firsts::first_an_item))]
-    pub(crate) fn items(&self, at: usize) -> Result<(List<Item>, usize), Stop>
+    pub(crate) fn items(&self, at: usize) -> Result<(List<Item>, usize), Failure>
         ensures { Reads self.now at (λ bytes. many (an_item bytes)) result }
     {
         let mut all = List::new(self.alloc);

@@ -7,7 +7,7 @@ ghost use Rattle.mv_parser.specs.Reading.{Read};
 ghost use Rattle.mv_parser.specs.Lists.{read_separated, read_in_parens};
 ghost use Rattle.mv_parser.specs.Answers.{Gives};
 
-use crate::fault::Stop;
+use crate::fault::Failure;
 use crate::reader::Reader;
 use mv_ast::lexeme::Terminal;
 use mv_values::list::List;
@@ -16,13 +16,13 @@ use mv_values::list::List;
 pub(crate) trait Parse: Drop {
     ghost reading: { Seq ℕ → ℕ → Seq Lexeme → Read Self };
 
-    fn parse(reader: &Reader, at: usize) -> Result<(Self, usize), Stop>
+    fn parse(reader: &Reader, at: usize) -> Result<(Self, usize), Failure>
         ensures { Gives reader.now.lexemes.now result (reading reader.now.bytes.now reader.now.depth (drop at reader.now.lexemes.now)) };
 }
 
 impl Reader<'_> {
     /// Parses one or more parts in parentheses, separated by commas.
-    pub(crate) fn in_parens<T: Parse>(&self, at: usize) -> Result<(List<T>, usize), Stop>
+    pub(crate) fn in_parens<T: Parse>(&self, at: usize) -> Result<(List<T>, usize), Failure>
         ensures { Gives self.now.lexemes.now result (read_in_parens (read_separated word.Comma (T.reading self.now.bytes.now self.now.depth)) (drop at self.now.lexemes.now)) }
     {
         let (_, at) = self.one(at, Terminal::Open)?;
@@ -36,7 +36,7 @@ impl Reader<'_> {
         &self,
         at: usize,
         mark: Terminal,
-    ) -> Result<(List<T>, usize), Stop>
+    ) -> Result<(List<T>, usize), Failure>
         ensures { Gives self.now.lexemes.now result (read_separated mark (T.reading self.now.bytes.now self.now.depth) (drop at self.now.lexemes.now)) }
     {
         let (first, at) = T::parse(self, at)?;

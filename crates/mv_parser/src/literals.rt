@@ -8,7 +8,7 @@ ghost use Rattle.mv_parser.specs.Fitting.{fits};
 ghost use Rattle.mv_parser.specs.Reading.{inside, read};
 ghost use Rattle.mv_parser.specs.Answers.{Reads};
 
-use crate::fault::Stop;
+use crate::fault::Failure;
 use crate::lists::Parse;
 use crate::reader::Reader;
 use mv_ast::lexeme::{Lexeme, Terminal};
@@ -20,7 +20,7 @@ use mv_values::value::Value;
 impl Parse for Name {
     ghost reading = { λ bytes depth ts. read (inside bytes depth) (name bytes) ts };
 
-    fn parse(reader: &Reader, at: usize) -> Result<(Name, usize), Stop> {
+    fn parse(reader: &Reader, at: usize) -> Result<(Name, usize), Failure> {
         reader.name(at)
     }
 }
@@ -28,7 +28,7 @@ impl Parse for Name {
 impl Parse for Lit {
     ghost reading = { λ bytes depth ts. read (inside bytes depth) (literal bytes) ts };
 
-    fn parse(reader: &Reader, at: usize) -> Result<(Lit, usize), Stop> {
+    fn parse(reader: &Reader, at: usize) -> Result<(Lit, usize), Failure> {
         reader.literal(at)
     }
 }
@@ -36,7 +36,7 @@ impl Parse for Lit {
 impl Parse for LitRow {
     ghost reading = { λ bytes depth ts. read (inside bytes depth) (lit_row bytes) ts };
 
-    fn parse(reader: &Reader, at: usize) -> Result<(LitRow, usize), Stop> {
+    fn parse(reader: &Reader, at: usize) -> Result<(LitRow, usize), Failure> {
         reader.lit_row(at)
     }
 }
@@ -44,7 +44,7 @@ impl Parse for LitRow {
 impl Parse for ColDef {
     ghost reading = { λ bytes depth ts. read (inside bytes depth) (col_def bytes) ts };
 
-    fn parse(reader: &Reader, at: usize) -> Result<(ColDef, usize), Stop> {
+    fn parse(reader: &Reader, at: usize) -> Result<(ColDef, usize), Failure> {
         reader.col_def(at)
     }
 }
@@ -52,7 +52,7 @@ impl Parse for ColDef {
 impl Reader<'_> {
     /// Parses a literal.
     #[tactic(auto, unfolding(mv_ast::specs::Grammar::literal))]
-    pub(crate) fn literal(&self, at: usize) -> Result<(Lit, usize), Stop>
+    pub(crate) fn literal(&self, at: usize) -> Result<(Lit, usize), Failure>
         ensures { Reads self.now at literal result }
     {
         if self.has(at, Terminal::Minus) {
@@ -75,7 +75,7 @@ impl Reader<'_> {
 
     /// Parses a row of literals.
     #[tactic(auto, unfolding(mv_ast::specs::Grammar::lit_row))]
-    pub(crate) fn lit_row(&self, at: usize) -> Result<(LitRow, usize), Stop>
+    pub(crate) fn lit_row(&self, at: usize) -> Result<(LitRow, usize), Failure>
         ensures { Reads self.now at lit_row result }
     {
         let (token, at) = self.place(at, Terminal::Open)?;
@@ -85,7 +85,7 @@ impl Reader<'_> {
 
     /// Parses an argument that is a list of rows.
     #[tactic(auto, unfolding(mv_ast::specs::Grammar::lit_rows))]
-    pub(crate) fn lit_rows(&self, at: usize) -> Result<(LitRows, usize), Stop>
+    pub(crate) fn lit_rows(&self, at: usize) -> Result<(LitRows, usize), Failure>
         ensures { Reads self.now at lit_rows result }
     {
         let (token, at) = self.place(at, Terminal::Rows)?;
@@ -97,7 +97,7 @@ impl Reader<'_> {
 
     /// Parses the rows between the parentheses of an argument.
     #[tactic(auto, unfolding(mv_ast::specs::Grammar::lit_row))]
-    fn rows_inside(&self, at: usize) -> Result<(List<LitRow>, usize), Stop>
+    fn rows_inside(&self, at: usize) -> Result<(List<LitRow>, usize), Failure>
         ensures { Reads self.now at (λ bytes. or_none (commas (lit_row bytes))) result }
     {
         if !self.has(at, Terminal::Open) {
@@ -108,7 +108,7 @@ impl Reader<'_> {
 
     /// Parses the initial rows of a table.
     #[tactic(auto, unfolding(mv_ast::specs::Grammar::opening_rows))]
-    pub(crate) fn opening_rows(&self, at: usize) -> Result<(List<LitRow>, usize), Stop>
+    pub(crate) fn opening_rows(&self, at: usize) -> Result<(List<LitRow>, usize), Failure>
         ensures { Reads self.now at opening_rows result }
     {
         if !self.has(at, Terminal::Values) {
@@ -120,7 +120,7 @@ impl Reader<'_> {
 
     /// Parses a column: its name and its type.
     #[tactic(auto, unfolding(mv_ast::specs::Grammar::col_def))]
-    pub(crate) fn col_def(&self, at: usize) -> Result<(ColDef, usize), Stop>
+    pub(crate) fn col_def(&self, at: usize) -> Result<(ColDef, usize), Failure>
         ensures { Reads self.now at col_def result }
     {
         let (name, at) = self.name(at)?;
@@ -130,7 +130,7 @@ impl Reader<'_> {
 
     /// Parses the type of a column.
     #[tactic(auto, unfolding(mv_ast::specs::Grammar::column_type))]
-    pub(crate) fn column_type(&self, at: usize) -> Result<(ColType, usize), Stop>
+    pub(crate) fn column_type(&self, at: usize) -> Result<(ColType, usize), Failure>
         ensures { Reads self.now at column_type result }
     {
         if self.has(at, Terminal::Int) {

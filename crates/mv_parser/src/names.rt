@@ -10,7 +10,7 @@ ghost use Rattle.mv_ast.specs.Grammar.{◌⊛◌, place, name, variable, block, 
 ghost use Rattle.mv_parser.specs.Fitting.{fits};
 ghost use Rattle.mv_parser.specs.Answers.{Reads};
 
-use crate::fault::Stop;
+use crate::fault::Failure;
 use crate::reader::Reader;
 use crate::texts::{behind_first, first_line, last_line, lowered, number, unquoted};
 use mv_ast::lexeme::{Lexeme, Terminal};
@@ -29,7 +29,7 @@ impl Reader<'_> {
     }
 
     /// Parses a token of this kind and returns its number.
-    pub(crate) fn place(&self, at: usize, kind: Terminal) -> Result<(u32, usize), Stop>
+    pub(crate) fn place(&self, at: usize, kind: Terminal) -> Result<(u32, usize), Failure>
         ensures { Reads self.now at (λ _. place kind) result }
     {
         let (lexeme, at) = self.one(at, kind)?;
@@ -38,7 +38,7 @@ impl Reader<'_> {
 
     /// Parses a name.
     #[tactic(auto, unfolding(mv_ast::specs::Grammar::name))]
-    pub(crate) fn name(&self, at: usize) -> Result<(Name, usize), Stop>
+    pub(crate) fn name(&self, at: usize) -> Result<(Name, usize), Failure>
         ensures { Reads self.now at name result }
     {
         let (lexeme, at) = self.one(at, Terminal::Name)?;
@@ -49,7 +49,7 @@ impl Reader<'_> {
 
     /// Parses a variable. Its name is without the colon.
     #[tactic(auto, using(crate::proofs::TextLaws::behind_printable), unfolding(mv_ast::specs::Grammar::variable))]
-    pub(crate) fn variable(&self, at: usize) -> Result<(Name, usize), Stop>
+    pub(crate) fn variable(&self, at: usize) -> Result<(Name, usize), Failure>
         ensures { Reads self.now at variable result }
     {
         let (lexeme, at) = self.one(at, Terminal::Variable)?;
@@ -76,7 +76,7 @@ impl Reader<'_> {
     }
 
     /// Parses a text.
-    pub(crate) fn quoted(&self, at: usize) -> Result<(Txt, usize), Stop>
+    pub(crate) fn quoted(&self, at: usize) -> Result<(Txt, usize), Failure>
         ensures { Reads self.now at (λ bytes. give (text_of bytes) ⊛ one word.Quoted) result }
     {
         let (lexeme, at) = self.one(at, Terminal::Quoted)?;
@@ -86,7 +86,7 @@ impl Reader<'_> {
 
     /// Parses a block.
     #[tactic(auto, unfolding(mv_ast::specs::Grammar::block))]
-    pub(crate) fn block(&self, at: usize) -> Result<(Span, usize), Stop>
+    pub(crate) fn block(&self, at: usize) -> Result<(Span, usize), Failure>
         ensures { Reads self.now at block result }
     {
         let closed = self.has(at, Terminal::Block);

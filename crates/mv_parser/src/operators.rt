@@ -8,7 +8,7 @@ ghost use Rattle.mv_ast.specs.Grammar.{◌⊛◌, many, name, const_number, cons
 ghost use Rattle.mv_parser.specs.Levels.{operator};
 ghost use Rattle.mv_parser.specs.Answers.{Reads, Joins};
 
-use crate::fault::Stop;
+use crate::fault::Failure;
 use crate::level::Level;
 use crate::reader::Reader;
 use mv_ast::lexeme::{Lexeme, Terminal};
@@ -37,7 +37,7 @@ impl Reader<'_> {
 
     /// Parses zero or more tokens of this kind.
     #[tactic(auto, using(crate::proofs::Turns::more_turn, crate::proofs::Turns::more_stop))]
-    pub(crate) fn repeated(&self, at: usize, kind: Terminal) -> Result<(List<Lexeme>, usize), Stop>
+    pub(crate) fn repeated(&self, at: usize, kind: Terminal) -> Result<(List<Lexeme>, usize), Failure>
         ensures { Reads self.now at (λ _. many (one kind)) result }
     {
         let mut all = List::new(self.alloc);
@@ -93,8 +93,8 @@ impl Reader<'_> {
     pub(crate) fn joined(
         &self,
         left: Expr,
-        next: Result<((TwoOp, Expr), usize), Stop>,
-    ) -> Result<(Expr, usize), Stop>
+        next: Result<((TwoOp, Expr), usize), Failure>,
+    ) -> Result<(Expr, usize), Failure>
         ensures { Joins self.now.lexemes.now left next result }
     {
         let ((op, right), at) = next?;
@@ -103,7 +103,7 @@ impl Reader<'_> {
 
     /// Parses a comparison operator.
     #[tactic(auto, unfolding(mv_ast::specs::Grammar::op))]
-    pub(crate) fn comparison(&self, at: usize) -> Result<(Op, usize), Stop>
+    pub(crate) fn comparison(&self, at: usize) -> Result<(Op, usize), Failure>
         ensures { Reads self.now at op result }
     {
         if self.has(at, Terminal::Equal) {
@@ -132,7 +132,7 @@ impl Reader<'_> {
 
     /// Parses `*`, `/` or `%`.
     #[tactic(auto, unfolding(mv_ast::specs::Grammar::term_op))]
-    pub(crate) fn term_operator(&self, at: usize) -> Result<(TwoOp, usize), Stop>
+    pub(crate) fn term_operator(&self, at: usize) -> Result<(TwoOp, usize), Failure>
         ensures { Reads self.now at term_op result }
     {
         if self.has(at, Terminal::Star) {
@@ -149,7 +149,7 @@ impl Reader<'_> {
 
     /// Parses `+`, `-` or `||`.
     #[tactic(auto, unfolding(mv_ast::specs::Grammar::sum_op))]
-    pub(crate) fn sum_operator(&self, at: usize) -> Result<(TwoOp, usize), Stop>
+    pub(crate) fn sum_operator(&self, at: usize) -> Result<(TwoOp, usize), Failure>
         ensures { Reads self.now at sum_op result }
     {
         if self.has(at, Terminal::Plus) {
@@ -165,7 +165,7 @@ impl Reader<'_> {
     }
 
     /// Parses an operator of a level.
-    pub(crate) fn operator(&self, at: usize, level: Level) -> Result<(TwoOp, usize), Stop>
+    pub(crate) fn operator(&self, at: usize, level: Level) -> Result<(TwoOp, usize), Failure>
         ensures { Reads self.now at (λ bytes. operator bytes level) result }
     {
         match level {
@@ -183,7 +183,7 @@ impl Reader<'_> {
     }
 
     /// Parses a number as an expression.
-    pub(crate) fn number_expr(&self, at: usize) -> Result<(Expr, usize), Stop>
+    pub(crate) fn number_expr(&self, at: usize) -> Result<(Expr, usize), Failure>
         ensures { Reads self.now at (λ bytes. give (const_number bytes) ⊛ one word.Number) result }
     {
         let (lexeme, at) = self.one(at, Terminal::Number)?;
@@ -193,7 +193,7 @@ impl Reader<'_> {
     }
 
     /// Parses a text as an expression.
-    pub(crate) fn text_expr(&self, at: usize) -> Result<(Expr, usize), Stop>
+    pub(crate) fn text_expr(&self, at: usize) -> Result<(Expr, usize), Failure>
         ensures { Reads self.now at (λ bytes. give (const_text bytes) ⊛ one word.Quoted) result }
     {
         let (lexeme, at) = self.one(at, Terminal::Quoted)?;
@@ -203,7 +203,7 @@ impl Reader<'_> {
     }
 
     /// Parses a column as an expression.
-    pub(crate) fn column_expr(&self, at: usize) -> Result<(Expr, usize), Stop>
+    pub(crate) fn column_expr(&self, at: usize) -> Result<(Expr, usize), Failure>
         ensures { Reads self.now at (λ bytes. give column_named ⊛ name bytes) result }
     {
         let (name, at) = self.name(at)?;
@@ -214,7 +214,7 @@ impl Reader<'_> {
 
     /// Parses a variable, or a column of a loop's row.
     #[tactic(auto, unfolding(mv_ast::specs::Grammar::variable_expr))]
-    pub(crate) fn variable_expr(&self, at: usize) -> Result<(Expr, usize), Stop>
+    pub(crate) fn variable_expr(&self, at: usize) -> Result<(Expr, usize), Failure>
         ensures { Reads self.now at variable_expr result }
     {
         let (name, at) = self.variable(at)?;

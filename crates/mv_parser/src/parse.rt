@@ -8,7 +8,7 @@ ghost use Rattle.mv_ast.specs.declared.tree.Script.{Script};
 ghost use Rattle.mv_ast.specs.Lexemes.{IsScript, PassesLimit, CannotStand, lexemes};
 ghost use Rattle.mv_parser.specs.Whole.{parsed, Answers, Tells};
 
-use crate::fault::{ParseFault, Stop};
+use crate::fault::{ParseFault, Failure};
 use crate::lexing::lexemes_of;
 use crate::reader::Reader;
 use mv_ast::limit::Passed;
@@ -74,8 +74,8 @@ fn read_script(alloc: Global, tokens: &List<Token>, bytes: &[u8]) -> Result<Scri
             Some(Passed { which, token }) => Err(ParseFault::Limit { which, token }),
             None => Ok(script),
         },
-        Err(Stop::Memory) => Err(ParseFault::NoMemory),
-        Err(Stop::Wrong(left)) => Err(ParseFault::Syntax {
+        Err(Failure::Memory) => Err(ParseFault::NoMemory),
+        Err(Failure::Wrong(left)) => Err(ParseFault::Syntax {
             token: lexemes.len().saturating_sub(left) as u32 + 1,
         }),
     }
@@ -83,12 +83,12 @@ fn read_script(alloc: Global, tokens: &List<Token>, bytes: &[u8]) -> Result<Scri
 
 /// Parses all tokens as a script.
 #[tactic(auto, unfolding(mv_ast::specs::Grammar::script), using(crate::proofs::Parsing::whole_end, crate::proofs::Parsing::whole_more))]
-fn whole_script(reader: &Reader) -> Result<Script, Stop>
+fn whole_script(reader: &Reader) -> Result<Script, Failure>
     ensures { Answers result (parsed reader.now.bytes.now reader.now.depth reader.now.lexemes.now) }
 {
     let (items, at) = reader.items(0)?;
     if at < reader.lexemes.len() {
-        return Err(Stop::Wrong(reader.lexemes.len() - at));
+        return Err(Failure::Wrong(reader.lexemes.len() - at));
     }
     Ok(Script { items })
 }

@@ -8,7 +8,7 @@ ghost use Rattle.mv_parser.specs.Fitting.{fits};
 ghost use Rattle.mv_parser.specs.Reading.{starts_with, is_among};
 ghost use Rattle.mv_parser.specs.Answers.{Reads, Ahead};
 
-use crate::fault::Stop;
+use crate::fault::Failure;
 use crate::reader::Reader;
 use mv_ast::lexeme::{Lexeme, Terminal};
 
@@ -21,10 +21,10 @@ impl Reader<'_> {
     }
 
     /// Returns the error for a wrong token at a position.
-    pub(crate) fn wrong(&self, at: usize) -> Stop
-        ensures { result ≡ Stop.Wrong (length (drop at self.now.lexemes.now)) }
+    pub(crate) fn wrong(&self, at: usize) -> Failure
+        ensures { result ≡ Failure.Wrong (length (drop at self.now.lexemes.now)) }
     {
-        Stop::Wrong(self.left(at))
+        Failure::Wrong(self.left(at))
     }
 
     /// Returns the token at a position, if there is one.
@@ -59,7 +59,7 @@ impl Reader<'_> {
     }
 
     /// Parses one token of this kind.
-    pub(crate) fn one(&self, at: usize, kind: Terminal) -> Result<(Lexeme, usize), Stop>
+    pub(crate) fn one(&self, at: usize, kind: Terminal) -> Result<(Lexeme, usize), Failure>
         ensures reads { Reads self.now at (λ _. one kind) result }
         ensures fitting { IfOk result (λ x. IsTrue (fits self.now.bytes.now x.0)) }
         ensures kind { IfOk result (λ x. x.0.kind ≡ kind) }
@@ -80,7 +80,7 @@ impl Reader<'_> {
         value: T,
         at: usize,
         kind: Terminal,
-    ) -> Result<(T, usize), Stop>
+    ) -> Result<(T, usize), Failure>
         ensures { Reads self.now at (λ _. give value ◂ one kind) result }
     {
         let (_, at) = self.one(at, kind)?;
@@ -93,7 +93,7 @@ impl Reader<'_> {
         value: T,
         at: usize,
         kind: Terminal,
-    ) -> Result<(T, usize), Stop>
+    ) -> Result<(T, usize), Failure>
         ensures { Reads self.now at (λ _. give value ◂ one word.End ◂ one kind ◂ one word.Semicolon) result }
     {
         let (value, at) = self.followed(value, at, Terminal::End)?;

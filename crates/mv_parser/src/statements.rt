@@ -13,7 +13,7 @@ ghost use Rattle.mv_parser.specs.Rests.{select_rest, total_rest};
 ghost use Rattle.mv_ast.specs.Grammar.{commas, variable, assign, select_columns, total, select, insert, update, delete, print, rollback};
 ghost use Rattle.mv_parser.specs.Answers.{Reads, ReadsFor, GivesBy, Completes, inside_of};
 
-use crate::fault::Stop;
+use crate::fault::Failure;
 use crate::reader::Reader;
 use mv_ast::lexeme::Terminal;
 use mv_ast::tree::{Agg, Cond, Expr, Name, Sort, Stmt};
@@ -22,7 +22,7 @@ use mv_values::list::List;
 impl Reader<'_> {
     /// Parses one or more variables, separated by commas.
     #[tactic(auto, using(crate::proofs::Turns::more_turn, crate::proofs::Turns::more_stop))]
-    fn variables(&self, at: usize) -> Result<(List<Name>, usize), Stop>
+    fn variables(&self, at: usize) -> Result<(List<Name>, usize), Failure>
         ensures { Reads self.now at (λ bytes. commas (variable bytes)) result }
     {
         let (first, at) = self.variable(at)?;
@@ -43,7 +43,7 @@ impl Reader<'_> {
 
     /// Parses SET of a variable.
     #[tactic(auto, unfolding(mv_ast::specs::Grammar::assign))]
-    pub(crate) fn assign(&self, at: usize) -> Result<(Stmt, usize), Stop>
+    pub(crate) fn assign(&self, at: usize) -> Result<(Stmt, usize), Failure>
         ensures { Reads self.now at assign result }
     {
         let (token, at) = self.place(at, Terminal::Set)?;
@@ -55,7 +55,7 @@ impl Reader<'_> {
 
     /// Parses SELECT into variables.
     #[tactic(auto, using(crate::proofs::Firsts::first_select_columns), unfolding(mv_ast::specs::Grammar::select))]
-    pub(crate) fn select(&self, at: usize) -> Result<(Stmt, usize), Stop>
+    pub(crate) fn select(&self, at: usize) -> Result<(Stmt, usize), Failure>
         ensures { Reads self.now at select result }
     {
         let (token, at) = self.place(at, Terminal::Select)?;
@@ -68,7 +68,7 @@ impl Reader<'_> {
 
     /// Parses SELECT of columns, after SELECT.
     #[tactic(auto, unfolding(mv_ast::specs::Grammar::select_columns))]
-    fn select_columns(&self, at: usize, token: u32) -> Result<(Stmt, usize), Stop>
+    fn select_columns(&self, at: usize, token: u32) -> Result<(Stmt, usize), Failure>
         ensures { ReadsFor self.now at select_columns (λ f. f token) result }
     {
         let (columns, at) = self.separated(at, Terminal::Comma)?;
@@ -82,7 +82,7 @@ impl Reader<'_> {
     fn select_rest(
         &self,
         at: usize,
-    ) -> Result<((Name, List<Cond>, List<Sort>, Option<Expr>), usize), Stop>
+    ) -> Result<((Name, List<Cond>, List<Sort>, Option<Expr>), usize), Failure>
         ensures { (f : Name → List Cond → List Sort → Option Expr → ℕ → Stmt) → GivesBy self.now.lexemes.now (λ x. f x.0 x.1 x.2 x.3) result (read (inside_of self.now) (select_rest self.now.bytes.now f) (drop at self.now.lexemes.now)) }
     {
         let (_, at) = self.one(at, Terminal::From)?;
@@ -100,8 +100,8 @@ impl Reader<'_> {
         token: u32,
         columns: List<Name>,
         to: List<Name>,
-        rest: Result<((Name, List<Cond>, List<Sort>, Option<Expr>), usize), Stop>,
-    ) -> Result<(Stmt, usize), Stop>
+        rest: Result<((Name, List<Cond>, List<Sort>, Option<Expr>), usize), Failure>,
+    ) -> Result<(Stmt, usize), Failure>
         ensures { Completes self.now.lexemes.now (λ x. select_of columns to x.0 x.1 x.2 x.3) (λ f. f token) rest result }
     {
         let ((table, conds, sorts, offset), at) = rest?;
@@ -119,7 +119,7 @@ impl Reader<'_> {
 
     /// Parses SELECT of an aggregate, after SELECT.
     #[tactic(auto, unfolding(mv_ast::specs::Grammar::total))]
-    fn total(&self, at: usize, token: u32) -> Result<(Stmt, usize), Stop>
+    fn total(&self, at: usize, token: u32) -> Result<(Stmt, usize), Failure>
         ensures { ReadsFor self.now at total (λ f. f token) result }
     {
         let (agg, at) = self.aggregate(at)?;
@@ -128,7 +128,7 @@ impl Reader<'_> {
     }
 
     /// Parses SELECT of an aggregate, starting at INTO.
-    fn total_rest(&self, at: usize) -> Result<((Name, Name, List<Cond>), usize), Stop>
+    fn total_rest(&self, at: usize) -> Result<((Name, Name, List<Cond>), usize), Failure>
         ensures { (f : Name → Name → List Cond → ℕ → Stmt) → GivesBy self.now.lexemes.now (λ x. f x.0 x.1 x.2) result (read (inside_of self.now) (total_rest self.now.bytes.now f) (drop at self.now.lexemes.now)) }
     {
         let (_, at) = self.one(at, Terminal::Into)?;
@@ -145,8 +145,8 @@ impl Reader<'_> {
         &self,
         token: u32,
         agg: Agg,
-        rest: Result<((Name, Name, List<Cond>), usize), Stop>,
-    ) -> Result<(Stmt, usize), Stop>
+        rest: Result<((Name, Name, List<Cond>), usize), Failure>,
+    ) -> Result<(Stmt, usize), Failure>
         ensures { Completes self.now.lexemes.now (λ x. total_of agg x.0 x.1 x.2) (λ f. f token) rest result }
     {
         let ((to, table, conds), at) = rest?;
@@ -162,7 +162,7 @@ impl Reader<'_> {
 
     /// Parses INSERT.
     #[tactic(auto, unfolding(mv_ast::specs::Grammar::insert))]
-    pub(crate) fn insert(&self, at: usize) -> Result<(Stmt, usize), Stop>
+    pub(crate) fn insert(&self, at: usize) -> Result<(Stmt, usize), Failure>
         ensures { Reads self.now at insert result }
     {
         let (token, at) = self.place(at, Terminal::Insert)?;
@@ -180,7 +180,7 @@ impl Reader<'_> {
 
     /// Parses UPDATE.
     #[tactic(auto, unfolding(mv_ast::specs::Grammar::update))]
-    pub(crate) fn update(&self, at: usize) -> Result<(Stmt, usize), Stop>
+    pub(crate) fn update(&self, at: usize) -> Result<(Stmt, usize), Failure>
         ensures { Reads self.now at update result }
     {
         let (token, at) = self.place(at, Terminal::Update)?;
@@ -199,7 +199,7 @@ impl Reader<'_> {
 
     /// Parses DELETE.
     #[tactic(auto, unfolding(mv_ast::specs::Grammar::delete))]
-    pub(crate) fn delete(&self, at: usize) -> Result<(Stmt, usize), Stop>
+    pub(crate) fn delete(&self, at: usize) -> Result<(Stmt, usize), Failure>
         ensures { Reads self.now at delete result }
     {
         let (token, at) = self.place(at, Terminal::Delete)?;
@@ -216,7 +216,7 @@ impl Reader<'_> {
 
     /// Parses PRINT.
     #[tactic(auto, unfolding(mv_ast::specs::Grammar::print))]
-    pub(crate) fn print(&self, at: usize) -> Result<(Stmt, usize), Stop>
+    pub(crate) fn print(&self, at: usize) -> Result<(Stmt, usize), Failure>
         ensures { Reads self.now at print result }
     {
         let (token, at) = self.place(at, Terminal::Print)?;
@@ -226,7 +226,7 @@ impl Reader<'_> {
 
     /// Parses ROLLBACK.
     #[tactic(auto, unfolding(mv_ast::specs::Grammar::rollback))]
-    pub(crate) fn rollback(&self, at: usize) -> Result<(Stmt, usize), Stop>
+    pub(crate) fn rollback(&self, at: usize) -> Result<(Stmt, usize), Failure>
         ensures { Reads self.now at rollback result }
     {
         let (token, at) = self.place(at, Terminal::Rollback)?;

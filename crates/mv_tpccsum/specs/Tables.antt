@@ -18,13 +18,13 @@ abbrev pub table_place : List TableInfo → List ℕ → Option ℕ
 table_place tables name = position (λ table. bytes_eq table.name name) tables
 
 -- the columns and the rows of a table that was found
-abbrev pub columns_at : List TableInfo → Option ℕ → List Column
-columns_at tables None = []
-columns_at tables (Some place) = option_map_or (λ table. table.columns) (slice_get tables place) []
+abbrev pub found_columns : List TableInfo → Option ℕ → List Column
+found_columns tables None = []
+found_columns tables (Some place) = option_map_or (λ table. table.columns) (slice_get tables place) []
 
-abbrev pub rows_at : List (List Keyed) → Option ℕ → List Keyed
-rows_at database None = []
-rows_at database (Some place) = option_map_or (λ rows. rows) (slice_get database place) []
+abbrev pub found_rows : List (List Keyed) → Option ℕ → List Keyed
+found_rows database None = []
+found_rows database (Some place) = option_map_or (λ rows. rows) (slice_get database place) []
 
 abbrev pub is_int : ColType → Bool
 is_int kind.Int = true
@@ -58,12 +58,12 @@ entries_at rows None place = []
 
 -- the rows of the table with a name
 abbrev pub rows_of : List TableInfo → List (List Keyed) → List ℕ → List Keyed
-rows_of tables database table = rows_at database (table_place tables table)
+rows_of tables database table = found_rows database (table_place tables table)
 
 -- the numbers of a column of a table in key order, each with the values of the columns by which it is grouped
 unfoldable pub entries : List TableInfo → List (List Keyed) → List ℕ → List (List ℕ) → List ℕ → List Entry
 entries tables database table keys column =
-    let columns = columns_at tables (table_place tables table) in
+    let columns = found_columns tables (table_place tables table) in
     entries_at (rows_of tables database table) (column_places columns keys) (column_place columns column)
 
 -- the numbers of a column

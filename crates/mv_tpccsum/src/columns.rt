@@ -2,7 +2,7 @@
 
 ghost use Rattle.std.specs.Prelude.{◌≡◌, ◌≤ℤ◌, ◌+ℤ◌, ◌^◌, ◌-◌, neg_ℤ, pos, IfOk, map};
 ghost use Rattle.mv_values.specs.Columns.{column_of, columns_of};
-ghost use Rattle.mv_tpccsum.specs.Tables.{table_place, columns_at, rows_at, rows_of, is_int, column_place, column_places, number, entries, column, sum_of};
+ghost use Rattle.mv_tpccsum.specs.Tables.{table_place, found_columns, found_rows, rows_of, is_int, column_place, column_places, number, entries, column, sum_of};
 ghost use Rattle.mv_tpccsum.specs.Grouping.{entries_of};
 
 use mv_values::copied::Copied;
@@ -38,8 +38,8 @@ fn table_place(tables: &[TableInfo], name: &str) -> Option<usize>
 }
 
 /// Returns the columns of a table that was found, and none otherwise.
-fn columns_at(tables: &[TableInfo], place: Option<usize>) -> &[Column]
-    ensures { result.now ≡ columns_at tables.now place }
+fn found_columns(tables: &[TableInfo], place: Option<usize>) -> &[Column]
+    ensures { result.now ≡ found_columns tables.now place }
 {
     let Some(place) = place else {
         return &[];
@@ -51,8 +51,8 @@ fn columns_at(tables: &[TableInfo], place: Option<usize>) -> &[Column]
 }
 
 /// Returns the rows of a table that was found, and none otherwise.
-fn rows_at(database: &[Rows], place: Option<usize>) -> &[Keyed]
-    ensures { result.now ≡ rows_at database.now place }
+fn found_rows(database: &[Rows], place: Option<usize>) -> &[Keyed]
+    ensures { result.now ≡ found_rows database.now place }
 {
     let Some(place) = place else {
         return &[];
@@ -100,7 +100,7 @@ impl<'a> Tables<'a> {
     pub(crate) fn rows(&self, table: &str) -> &'a [Keyed]
         ensures { result.now ≡ rows_of self.now.infos.now self.now.database.now table.now }
     {
-        rows_at(self.database, table_place(self.infos, table))
+        found_rows(self.database, table_place(self.infos, table))
     }
 
     /// Returns the numbers of a column of a table, grouped by other columns.
@@ -114,7 +114,7 @@ impl<'a> Tables<'a> {
     ) -> Result<Numbers<'a>, NoMemory>
         ensures { IfOk result (λ n. entries_of n ≡ entries self.now.infos.now self.now.database.now table.now (map (λ k. k.now) key.now) column.now) }
     {
-        let columns = columns_at(self.infos, table_place(self.infos, table));
+        let columns = found_columns(self.infos, table_place(self.infos, table));
         let key = column_places(alloc, columns, key)?;
         match (key, column_place(columns, column)) {
             (Some(key), Some(column)) => Ok(Numbers {

@@ -3,7 +3,7 @@
 ghost use Rattle.std.specs.Prelude.{◌≡◌, [], IsFalse, IfOk};
 ghost use Rattle.mv_where.specs.Refusal.{is_refusal};
 
-use crate::blocks::{block_of, rows_at, values_row};
+use crate::blocks::{block_of, rows_start, values_row};
 use crate::place::{column, first_line, line_around, line_number};
 use crate::records::record_at;
 use crate::refusal::{Target, is_refusal, target_of};
@@ -95,7 +95,7 @@ impl Places<'_> {
                 self.show(bracket.at as usize)?;
             }
             if let Some(block) = block_of(self.script, from, table) {
-                let begin = rows_at(self.script, block);
+                let begin = rows_start(self.script, block);
                 let end = (block.at as usize + block.len as usize)
                     .min(self.script.len())
                     .max(begin);
@@ -110,7 +110,7 @@ impl Places<'_> {
 
     /// Notes the lines of a block that look like the start of a copy, or like an end with something beside it.
     fn note_lines(&mut self, block: &Token) -> Result<(), NoMemory> {
-        let begin = rows_at(self.script, block);
+        let begin = rows_start(self.script, block);
         let end = (block.at as usize + block.len as usize)
             .min(self.script.len())
             .max(begin);

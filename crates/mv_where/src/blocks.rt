@@ -29,7 +29,7 @@ pub(crate) fn block_of<'a>(script: &[u8], tokens: &'a [Token], table: &[u8]) -> 
 }
 
 /// Returns the place where the rows of a block start: after the line of its `<<`.
-pub(crate) fn rows_at(script: &[u8], block: &Token) -> usize
+pub(crate) fn rows_start(script: &[u8], block: &Token) -> usize
     ensures { result ≤ length script.now }
 {
     let line = first_line(bytes_of(script, block));
