@@ -237,5 +237,3 @@ puts_row (Some row) new db after t h k = cc
 pub puts_none : (was : Option (List Value)) (new : Keyed) (db after : Tables) (t : ℕ) → is_some was ≡ true → Puts was new db after t → table_with db t (put_row new (rows_at db t)) ≡ Err Duplicate
 puts_none None new db after t h k = cc
 puts_none (Some row) new db after t h k = k
-
--- SELECT with an aggregate
