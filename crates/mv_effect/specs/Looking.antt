@@ -11,7 +11,7 @@ use Rattle.mv_catalog.specs.Text.{IsTable}
 use Rattle.mv_alone.specs.declared.state.Env.{Env}
 use Rattle.mv_record.specs.Databases.{IsDatabaseOf}
 use Rattle.mv_undo.specs.Owning.{touches}
-use Rattle.mv_view.specs.Viewing.{Sight, one_more}
+use Rattle.mv_view.specs.Viewing.{Sight, one_more, MayAnswer}
 use Rattle.mv_view.specs.declared.view.Refused.{Refused}
 use Rattle.mv_view.specs.declared.view.Refused.TheVariants.{NoMemory, Stale}
 use Rattle.mv_effect.specs.Naming.{NamesColumns}
@@ -55,6 +55,13 @@ abbrev pub PassesOn : {A : Type 0} → Sight → Sight → Result A Refused → 
 PassesOn before after (Ok x) = WasNeverStale before after
 PassesOn before after (Err NoMemory) = WasNeverStale before after
 PassesOn before after (Err (Stale start low)) = WasStale low before after
+
+-- the view was only asked: it is the same view, and the result is Stale exactly if an answer of the view was, and then
+-- as it may be
+pub record OnlyAsks {A : Type 0} (before after : Sight) (result : Result A Refused) : Type 0 where
+  pub same : IsSameView before after
+  pub may_refuse : MayAnswer before after result
+  pub passes_on : PassesOn before after result
 
 -- the view got at most so many calls of `rows` and of `row`
 pub record AskedAtMost (rows row : ℕ) (before after : Sight) : Type 0 where

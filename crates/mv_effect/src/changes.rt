@@ -10,9 +10,8 @@ ghost use Rattle.mv_alone.specs.Outcome.{Gives, then_do};
 ghost use Rattle.mv_alone.specs.Rows.{is_some_row};
 ghost use Rattle.mv_recorded.specs.Doing.{changed, write};
 ghost use Rattle.mv_undo.specs.Owning.{earlier};
-ghost use Rattle.mv_view.specs.Viewing.{MayAnswer};
 ghost use Rattle.mv_recorded.specs.Effects.{IsEffect, asked_then, changes, inserting, new_of, writing};
-ghost use Rattle.mv_effect.specs.Looking.{Stands, IsSameView, PassesOn, different, AskedAtMost, AskedFor};
+ghost use Rattle.mv_effect.specs.Looking.{Stands, OnlyAsks, different, AskedAtMost, AskedFor};
 ghost use Rattle.mv_effect.specs.Naming.{Tests, Sets};
 
 use crate::context::Context;
@@ -104,9 +103,7 @@ pub(crate) fn insert<V: View>(
     requires found { context.now.env.now.found < 2 ^ 16 }
     requires table { table < length context.now.tables.now }
     ensures effect { IfOk result (IsEffect context.now.tables.now (layer.Insert table exprs.now) context.now.env.now (applied (earlier context.now.number context.now.undo.now) (V.sight view.old).database)) }
-    ensures refused { MayAnswer (V.sight view.old) (V.sight view.new) result }
-    ensures stale { PassesOn (V.sight view.old) (V.sight view.new) result }
-    ensures same { IsSameView (V.sight view.old) (V.sight view.new) }
+    ensures view { OnlyAsks (V.sight view.old) (V.sight view.new) result }
     ensures bounded { AskedAtMost 1 (different (earlier context.now.number context.now.undo.now)) (V.sight view.old) (V.sight view.new) }
     ensures looks { IfOk result (λ e. AskedFor e.preds (earlier context.now.number context.now.undo.now) (V.sight view.old) (V.sight view.new)) }
 {
@@ -172,9 +169,7 @@ pub(crate) fn delete<V: View>(
     requires found { context.now.env.now.found < 2 ^ 16 }
     requires tests { Tests context.now.tables.now table conds.now }
     ensures effect { IfOk result (IsEffect context.now.tables.now (layer.Delete table conds.now) context.now.env.now (applied (earlier context.now.number context.now.undo.now) (V.sight view.old).database)) }
-    ensures refused { MayAnswer (V.sight view.old) (V.sight view.new) result }
-    ensures stale { PassesOn (V.sight view.old) (V.sight view.new) result }
-    ensures same { IsSameView (V.sight view.old) (V.sight view.new) }
+    ensures view { OnlyAsks (V.sight view.old) (V.sight view.new) result }
     ensures bounded { AskedAtMost 1 (different (earlier context.now.number context.now.undo.now)) (V.sight view.old) (V.sight view.new) }
     ensures looks { IfOk result (λ e. AskedFor e.preds (earlier context.now.number context.now.undo.now) (V.sight view.old) (V.sight view.new)) }
 {
@@ -295,9 +290,7 @@ pub(crate) fn update<V: View>(
     requires tests { Tests context.now.tables.now table conds.now }
     requires sets { Sets context.now.tables.now table items.now }
     ensures effect { IfOk result (IsEffect context.now.tables.now (layer.Update table items.now conds.now) context.now.env.now (applied (earlier context.now.number context.now.undo.now) (V.sight view.old).database)) }
-    ensures refused { MayAnswer (V.sight view.old) (V.sight view.new) result }
-    ensures stale { PassesOn (V.sight view.old) (V.sight view.new) result }
-    ensures same { IsSameView (V.sight view.old) (V.sight view.new) }
+    ensures view { OnlyAsks (V.sight view.old) (V.sight view.new) result }
     ensures bounded { AskedAtMost 1 (different (earlier context.now.number context.now.undo.now)) (V.sight view.old) (V.sight view.new) }
     ensures looks { IfOk result (λ e. AskedFor e.preds (earlier context.now.number context.now.undo.now) (V.sight view.old) (V.sight view.new)) }
 {

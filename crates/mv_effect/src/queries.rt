@@ -14,9 +14,8 @@ ghost use Rattle.mv_alone.specs.FirstRows.{Leads};
 ghost use Rattle.mv_alone.specs.Rows.{aggregate, is_some_row, item_at, matching, ordered};
 ghost use Rattle.mv_recorded.specs.Asking.{column_in, with_sorts, KnowsKey};
 ghost use Rattle.mv_undo.specs.Owning.{earlier};
-ghost use Rattle.mv_view.specs.Viewing.{MayAnswer};
 ghost use Rattle.mv_recorded.specs.Effects.{IsEffect, asks, asked_by, asked_then, row_number, going, taking, totalling};
-ghost use Rattle.mv_effect.specs.Looking.{Stands, IsSameView, PassesOn, different, AskedAtMost, AskedFor};
+ghost use Rattle.mv_effect.specs.Looking.{Stands, OnlyAsks, different, AskedAtMost, AskedFor};
 ghost use Rattle.mv_effect.specs.Naming.{Tests, AreColumns};
 ghost use Rattle.mv_effect.specs.Totalling.{total_asked};
 
@@ -145,9 +144,7 @@ fn select_asked<V: View>(
     requires found { context.now.env.now.found < 2 ^ 16 }
     requires knows { KnowsKey context.now.tables.now asked.0 }
     ensures effect { IfOk result (λ e. e ≡ taking asked.0 columns.now to.now (item_at (ordered sorts.now (found_by asked.0 (applied (earlier context.now.number context.now.undo.now) (V.sight view.old).database))) asked.1) context.now.env.now) }
-    ensures refused { MayAnswer (V.sight view.old) (V.sight view.new) result }
-    ensures stale { PassesOn (V.sight view.old) (V.sight view.new) result }
-    ensures same { IsSameView (V.sight view.old) (V.sight view.new) }
+    ensures view { OnlyAsks (V.sight view.old) (V.sight view.new) result }
     ensures looks { AskedAtMost 1 (different (earlier context.now.number context.now.undo.now)) (V.sight view.old) (V.sight view.new) }
 {
     if let Some(direction) = leading_at(context, sorts, &asked.0, asked.1) {
@@ -184,9 +181,7 @@ pub(crate) fn select<V: View>(
     requires tests { Tests context.now.tables.now table conds.now }
     requires columns { AreColumns context.now.tables.now table (with_sorts columns.now sorts.now) }
     ensures effect { IfOk result (IsEffect context.now.tables.now (layer.Select columns.now to.now table conds.now sorts.now at.now) context.now.env.now (applied (earlier context.now.number context.now.undo.now) (V.sight view.old).database)) }
-    ensures refused { MayAnswer (V.sight view.old) (V.sight view.new) result }
-    ensures stale { PassesOn (V.sight view.old) (V.sight view.new) result }
-    ensures same { IsSameView (V.sight view.old) (V.sight view.new) }
+    ensures view { OnlyAsks (V.sight view.old) (V.sight view.new) result }
     ensures bounded { AskedAtMost 1 (different (earlier context.now.number context.now.undo.now)) (V.sight view.old) (V.sight view.new) }
     ensures looks { IfOk result (λ e. AskedFor e.preds (earlier context.now.number context.now.undo.now) (V.sight view.old) (V.sight view.new)) }
 {
@@ -261,9 +256,7 @@ fn aggregate_asked<V: View>(
     requires found { context.now.env.now.found < 2 ^ 16 }
     requires knows { KnowsKey context.now.tables.now pred }
     ensures effect { IfOk result (λ e. e ≡ total_asked agg to pred (found_by pred (applied (earlier context.now.number context.now.undo.now) (V.sight view.old).database)) context.now.env.now) }
-    ensures refused { MayAnswer (V.sight view.old) (V.sight view.new) result }
-    ensures stale { PassesOn (V.sight view.old) (V.sight view.new) result }
-    ensures same { IsSameView (V.sight view.old) (V.sight view.new) }
+    ensures view { OnlyAsks (V.sight view.old) (V.sight view.new) result }
     ensures looks { AskedAtMost 1 (different (earlier context.now.number context.now.undo.now)) (V.sight view.old) (V.sight view.new) }
 {
     let keys = key_in(context.tables, pred.table as u16);
@@ -291,9 +284,7 @@ pub(crate) fn total<V: View>(
     requires tests { Tests context.now.tables.now table conds.now }
     requires columns { AreColumns context.now.tables.now table (column_in agg) }
     ensures effect { IfOk result (IsEffect context.now.tables.now (layer.Total agg to table conds.now) context.now.env.now (applied (earlier context.now.number context.now.undo.now) (V.sight view.old).database)) }
-    ensures refused { MayAnswer (V.sight view.old) (V.sight view.new) result }
-    ensures stale { PassesOn (V.sight view.old) (V.sight view.new) result }
-    ensures same { IsSameView (V.sight view.old) (V.sight view.new) }
+    ensures view { OnlyAsks (V.sight view.old) (V.sight view.new) result }
     ensures bounded { AskedAtMost 1 (different (earlier context.now.number context.now.undo.now)) (V.sight view.old) (V.sight view.new) }
     ensures looks { IfOk result (λ e. AskedFor e.preds (earlier context.now.number context.now.undo.now) (V.sight view.old) (V.sight view.new)) }
 {
@@ -350,9 +341,7 @@ pub(crate) fn for_select<V: View>(
     requires tests { Tests context.now.tables.now table conds.now }
     requires columns { AreColumns context.now.tables.now table (with_sorts columns.now sorts.now) }
     ensures effect { IfOk result (λ e. (row : ℕ) (body : List RStmt) → IsEffect context.now.tables.now (layer.ForSelect row once columns.now table conds.now sorts.now body) context.now.env.now (applied (earlier context.now.number context.now.undo.now) (V.sight view.old).database) e) }
-    ensures refused { MayAnswer (V.sight view.old) (V.sight view.new) result }
-    ensures stale { PassesOn (V.sight view.old) (V.sight view.new) result }
-    ensures same { IsSameView (V.sight view.old) (V.sight view.new) }
+    ensures view { OnlyAsks (V.sight view.old) (V.sight view.new) result }
     ensures bounded { AskedAtMost 1 (different (earlier context.now.number context.now.undo.now)) (V.sight view.old) (V.sight view.new) }
     ensures looks { IfOk result (λ e. AskedFor e.preds (earlier context.now.number context.now.undo.now) (V.sight view.old) (V.sight view.new)) }
 {

@@ -10,7 +10,7 @@ ghost use Rattle.mv_record.specs.Admitting.{Admitted};
 ghost use Rattle.mv_record.specs.Writes.{AreRising};
 ghost use Rattle.mv_undo.specs.Owning.{earlier, is_among, AreSought};
 ghost use Rattle.mv_view.specs.Viewing.{MayAnswer, answered, with_row_call};
-ghost use Rattle.mv_effect.specs.Looking.{different, Stands, IsSameView, PassesOn, AskedAtMost};
+ghost use Rattle.mv_effect.specs.Looking.{different, Stands, IsSameView, PassesOn, OnlyAsks, AskedAtMost};
 ghost use Rattle.mv_recorded.specs.Asking.{KnowsKey};
 
 use crate::context::Context;
@@ -51,9 +51,7 @@ fn rows_under<V: View>(
     view: &mut V,
 ) -> Result<Rows, Refused>
     ensures found { IfOk result (λ own. (key : List Value) → row_of own key ≡ (if is_among keys.now key then row_of (rows_at (V.sight view.old).database table) key else None)) }
-    ensures refused { MayAnswer (V.sight view.old) (V.sight view.new) result }
-    ensures stale { PassesOn (V.sight view.old) (V.sight view.new) result }
-    ensures same { IsSameView (V.sight view.old) (V.sight view.new) }
+    ensures view { OnlyAsks (V.sight view.old) (V.sight view.new) result }
     ensures looks { AskedAtMost 0 (length keys.now) (V.sight view.old) (V.sight view.new) }
 {
     let mut own = Rows::new(alloc);
@@ -93,9 +91,7 @@ fn look<V: View>(
     requires before { Admitted pred.now (rows_at (V.sight view.old).database pred.now.table) }
     requires behind { Admitted pred.now (rows_at (applied (earlier number undo.now) (V.sight view.old).database) pred.now.table) }
     ensures found { IfOk result (λ rows. rows ≡ found_by pred.now (applied (earlier number undo.now) (V.sight view.old).database)) }
-    ensures refused { MayAnswer (V.sight view.old) (V.sight view.new) result }
-    ensures stale { PassesOn (V.sight view.old) (V.sight view.new) result }
-    ensures same { IsSameView (V.sight view.old) (V.sight view.new) }
+    ensures view { OnlyAsks (V.sight view.old) (V.sight view.new) result }
     ensures looks { AskedAtMost 1 (different (earlier number undo.now)) (V.sight view.old) (V.sight view.new) }
 {
     let rows = view.rows(alloc, pred)?;
@@ -119,9 +115,7 @@ pub(crate) fn visible_rows<V: View>(
     requires stands { Stands context.now.tables.now (earlier context.now.number context.now.undo.now) (V.sight view.old).database }
     requires knows { KnowsKey context.now.tables.now pred.now }
     ensures found { IfOk result (λ rows. rows ≡ found_by pred.now (applied (earlier context.now.number context.now.undo.now) (V.sight view.old).database)) }
-    ensures refused { MayAnswer (V.sight view.old) (V.sight view.new) result }
-    ensures stale { PassesOn (V.sight view.old) (V.sight view.new) result }
-    ensures same { IsSameView (V.sight view.old) (V.sight view.new) }
+    ensures view { OnlyAsks (V.sight view.old) (V.sight view.new) result }
     ensures looks { AskedAtMost 1 (different (earlier context.now.number context.now.undo.now)) (V.sight view.old) (V.sight view.new) }
 {
     look(alloc, pred, context.undo, context.number, view)

@@ -4,10 +4,9 @@ ghost use Rattle.std.specs.Prelude.{IfOk};
 ghost use Rattle.mv_values.specs.Patching.{applied};
 ghost use Rattle.mv_catalog.specs.declared.resolved.RStmt.{out-RStmt};
 ghost use Rattle.mv_undo.specs.Owning.{earlier};
-ghost use Rattle.mv_view.specs.Viewing.{MayAnswer};
 ghost use Rattle.mv_recorded.specs.Effects.{IsEffect};
 ghost use Rattle.mv_effect.specs.Choosing.{Chooses};
-ghost use Rattle.mv_effect.specs.Looking.{IsExecutable, IsSameView, PassesOn, different, AskedAtMost, AskedFor};
+ghost use Rattle.mv_effect.specs.Looking.{IsExecutable, OnlyAsks, different, AskedAtMost, AskedFor};
 
 use crate::changes::{delete, insert, update};
 use crate::context::Context;
@@ -40,9 +39,7 @@ fn own_effect<V: View>(
 ) -> Result<Effect, Refused>
     requires { IsExecutable tables.now statement.now env.now (earlier number undo.now) (V.sight view.old).database }
     ensures effect { IfOk result (IsEffect tables.now (out-RStmt statement.now) env.now (applied (earlier number undo.now) (V.sight view.old).database)) }
-    ensures refused { MayAnswer (V.sight view.old) (V.sight view.new) result }
-    ensures stale { PassesOn (V.sight view.old) (V.sight view.new) result }
-    ensures same { IsSameView (V.sight view.old) (V.sight view.new) }
+    ensures view { OnlyAsks (V.sight view.old) (V.sight view.new) result }
     ensures bounded { AskedAtMost 1 (different (earlier number undo.now)) (V.sight view.old) (V.sight view.new) }
     ensures looks { IfOk result (λ e. AskedFor e.preds (earlier number undo.now) (V.sight view.old) (V.sight view.new)) }
 {
@@ -135,9 +132,7 @@ pub fn effect<V: View>(
     requires { IsExecutable tables.now statement.now env.now (earlier number undo.now) (V.sight view.old).database }
     ensures effect { IfOk result (λ c. IsEffect tables.now (out-RStmt statement.now) env.now (applied (earlier number undo.now) (V.sight view.old).database) c.effect) }
     ensures branch { IfOk result (λ c. Chooses env.now c.holds (out-RStmt statement.now)) }
-    ensures refused { MayAnswer (V.sight view.old) (V.sight view.new) result }
-    ensures stale { PassesOn (V.sight view.old) (V.sight view.new) result }
-    ensures same { IsSameView (V.sight view.old) (V.sight view.new) }
+    ensures view { OnlyAsks (V.sight view.old) (V.sight view.new) result }
     ensures bounded { AskedAtMost 1 (different (earlier number undo.now)) (V.sight view.old) (V.sight view.new) }
     ensures looks { IfOk result (λ c. AskedFor c.effect.preds (earlier number undo.now) (V.sight view.old) (V.sight view.new)) }
 {

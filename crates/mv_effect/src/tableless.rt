@@ -6,9 +6,9 @@ ghost use Rattle.mv_catalog.specs.declared.resolved.RStmt.{RStmt};
 ghost use Rattle.mv_catalog.specs.declared.resolved.RStmt.TheOpen as layer;
 ghost use Rattle.mv_alone.specs.Alone.{is_turn};
 ghost use Rattle.mv_alone.specs.Value.{value_of, is_so};
-ghost use Rattle.mv_view.specs.Viewing.{Sight, MayAnswer};
+ghost use Rattle.mv_view.specs.Viewing.{Sight};
 ghost use Rattle.mv_recorded.specs.Effects.{IsEffectAnywhere};
-ghost use Rattle.mv_effect.specs.Looking.{PassesOn};
+ghost use Rattle.mv_effect.specs.Looking.{OnlyAsks};
 
 use crate::effect::{end_effect, nothing, stop_result};
 use crate::slots::found_alone;
@@ -32,8 +32,7 @@ use std::alloc::Global;
 #[tactic(auto, using(mv_recorded::proofs::Slots::set_has))]
 pub(crate) fn assign(alloc: Global, to: u16, right: &RExpr, env: &Env) -> Result<Effect, Refused>
     ensures effect { IfOk result (IsEffectAnywhere (layer.Assign to right.now) env.now) }
-    ensures refused { (sight : Sight) → MayAnswer sight sight result }
-    ensures stale { (sight : Sight) → PassesOn sight sight result }
+    ensures view { (sight : Sight) → OnlyAsks sight sight result }
 {
     let value = match value(alloc, right, env, &[]) {
         Ok(value) => value,
@@ -49,8 +48,7 @@ pub(crate) fn assign(alloc: Global, to: u16, right: &RExpr, env: &Env) -> Result
 pub(crate) fn decide(alloc: Global, test: &RExpr, env: &Env) -> Result<Choice, Refused>
     ensures effect { IfOk result (λ c. (ys ns : List RStmt) → IsEffectAnywhere (layer.Branch test.now ys ns) env.now c.effect) }
     ensures branch { IfOk result (λ c. (v : Value) → value_of test.now env.now [] ≡ Ok v → c.holds ≡ is_so v) }
-    ensures refused { (sight : Sight) → MayAnswer sight sight result }
-    ensures stale { (sight : Sight) → PassesOn sight sight result }
+    ensures view { (sight : Sight) → OnlyAsks sight sight result }
 {
     let (effect, holds) = match value(alloc, test, env, &[]) {
         Ok(value) => (nothing(alloc), holds(&value)),
@@ -62,8 +60,7 @@ pub(crate) fn decide(alloc: Global, test: &RExpr, env: &Env) -> Result<Choice, R
 /// Returns the effect of IF: none of its own. The call ends if the condition is stopped.
 pub(crate) fn branch(alloc: Global, test: &RExpr, env: &Env) -> Result<Effect, Refused>
     ensures effect { IfOk result (λ e. (ys ns : List RStmt) → IsEffectAnywhere (layer.Branch test.now ys ns) env.now e) }
-    ensures refused { (sight : Sight) → MayAnswer sight sight result }
-    ensures stale { (sight : Sight) → PassesOn sight sight result }
+    ensures view { (sight : Sight) → OnlyAsks sight sight result }
 {
     match value(alloc, test, env, &[]) {
         Ok(_) => Ok(nothing(alloc)),
@@ -74,8 +71,7 @@ pub(crate) fn branch(alloc: Global, test: &RExpr, env: &Env) -> Result<Effect, R
 /// Returns the effect of PRINT: it adds a line. The call ends if one of the values is stopped.
 pub(crate) fn print(alloc: Global, exprs: &[RExpr], env: &Env) -> Result<Effect, Refused>
     ensures effect { IfOk result (IsEffectAnywhere (layer.Print exprs.now) env.now) }
-    ensures refused { (sight : Sight) → MayAnswer sight sight result }
-    ensures stale { (sight : Sight) → PassesOn sight sight result }
+    ensures view { (sight : Sight) → OnlyAsks sight sight result }
 {
     let values = match values(alloc, exprs, env) {
         Ok(values) => values,
@@ -89,8 +85,7 @@ pub(crate) fn print(alloc: Global, exprs: &[RExpr], env: &Env) -> Result<Effect,
 /// Returns the effect of ROLLBACK: it ends the call.
 pub(crate) fn rollback(alloc: Global, reason: &Txt) -> Result<Effect, Refused>
     ensures effect { IfOk result (λ e. (env : Env) → IsEffectAnywhere (layer.Rollback reason.now) env e) }
-    ensures refused { (sight : Sight) → MayAnswer sight sight result }
-    ensures stale { (sight : Sight) → PassesOn sight sight result }
+    ensures view { (sight : Sight) → OnlyAsks sight sight result }
 {
     let reason = reason.copy(alloc)?;
     Ok(end_effect(alloc, List::new(alloc), End::Own(reason)))
@@ -111,8 +106,7 @@ pub(crate) fn has_turn(rows: &List<Row>) -> bool
 pub(crate) fn for_rows(alloc: Global, over: u16, env: &Env) -> Result<Effect, Refused>
     requires { env.now.found < 2 ^ 16 }
     ensures effect { IfOk result (λ e. (row : ℕ) (body : List RStmt) → IsEffectAnywhere (layer.ForRows row over body) env.now e) }
-    ensures refused { (sight : Sight) → MayAnswer sight sight result }
-    ensures stale { (sight : Sight) → PassesOn sight sight result }
+    ensures view { (sight : Sight) → OnlyAsks sight sight result }
 {
     let rows = copied_turns(alloc, env, over)?;
     let mut effect = nothing(alloc);

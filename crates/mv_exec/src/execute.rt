@@ -7,8 +7,7 @@ ghost use Rattle.mv_graph.specs.Nodes.{IsSound, TellsOf};
 ghost use Rattle.mv_record.specs.Runs.{writes_in};
 ghost use Rattle.mv_undo.specs.Owning.{earlier};
 ghost use Rattle.mv_record.specs.Databases.{IsDatabaseOf};
-ghost use Rattle.mv_effect.specs.Looking.{IsSameView, PassesOn, AskedAtMost, different};
-ghost use Rattle.mv_view.specs.Viewing.{MayAnswer};
+ghost use Rattle.mv_effect.specs.Looking.{OnlyAsks, AskedAtMost, different};
 ghost use Rattle.mv_exec.specs.Places.{IsAt};
 ghost use Rattle.mv_exec.specs.Ahead.{ForeseesLeft};
 ghost use Rattle.mv_exec.specs.Running.{stepped};
@@ -68,9 +67,7 @@ pub(crate) fn execute<V: View>(
     ensures tells { IfOk result (λ s. s ≡ stepped task.new.ended) }
     ensures found { task.new.variables.env.found ≡ task.old.variables.env.found }
     ensures err { OnErr result (StandsAsBefore graph.now.procedure task.old task.new) }
-    ensures refused { MayAnswer (V.sight view.old) (V.sight view.new) result }
-    ensures stale { PassesOn (V.sight view.old) (V.sight view.new) result }
-    ensures same { IsSameView (V.sight view.old) (V.sight view.new) }
+    ensures view { OnlyAsks (V.sight view.old) (V.sight view.new) result }
     ensures bounded { AskedAtMost 1 (different (earlier (length task.old.records) task.old.undo)) (V.sight view.old) (V.sight view.new) }
 {
     let number = task.records.len();

@@ -5,9 +5,8 @@ ghost use Rattle.mv_alone.specs.TableAfter.{Tables};
 ghost use Rattle.mv_values.specs.declared.calls.Call.{Call};
 ghost use Rattle.mv_record.specs.Runs.{writes_in};
 ghost use Rattle.mv_graph.specs.Nodes.{IsSound, meaning_of};
-ghost use Rattle.mv_view.specs.Viewing.{MayAnswer};
 ghost use Rattle.mv_record.specs.Databases.{IsDatabaseOf};
-ghost use Rattle.mv_effect.specs.Looking.{AskedAtMost, IsSameView, PassesOn, different};
+ghost use Rattle.mv_effect.specs.Looking.{AskedAtMost, OnlyAsks, different};
 ghost use Rattle.mv_exec.specs.Running.{IsRunning, IsRunningOn, IsSameCall, IsSameCallOn, IsTaskOf, IsTaskOn, IsUnchanged, IsNext, GoesOnWith, HasAdopted, HasRun, HasRunTo, refusals, stepped, EndsExactly, KeysKept};
 
 use crate::add::add;
@@ -114,9 +113,7 @@ pub fn next<V: View>(
     ensures idle { task.old.ended ≡ true → V.sight view.new ≡ V.sight view.old }
     ensures tells { IfOk result (λ it. it ≡ stepped task.new.ended) }
     ensures err { OnErr result (IsUnchanged task.old task.new) }
-    ensures refused { MayAnswer (V.sight view.old) (V.sight view.new) result }
-    ensures stale { PassesOn (V.sight view.old) (V.sight view.new) result }
-    ensures same { IsSameView (V.sight view.old) (V.sight view.new) }
+    ensures view { OnlyAsks (V.sight view.old) (V.sight view.new) result }
     ensures bounded { AskedAtMost 1 (different (writes_in task.old.records)) (V.sight view.old) (V.sight view.new) }
 {
     if task.ended {
@@ -145,9 +142,7 @@ pub fn finish<V: View>(
     ensures records { OnOk result ((call : Call) → IsTaskOf graph.now call task.old → task.new.records ≡ (meaning_of graph.now call (V.sight view.old).database).records) }
     ensures ended { OnOk result (task.new.ended ≡ true) }
     ensures ran { HasRunTo task.old task.new (refusals result) (V.sight view.old) (V.sight view.new) }
-    ensures refused { MayAnswer (V.sight view.old) (V.sight view.new) result }
-    ensures stale { PassesOn (V.sight view.old) (V.sight view.new) result }
-    ensures same { IsSameView (V.sight view.old) (V.sight view.new) }
+    ensures view { OnlyAsks (V.sight view.old) (V.sight view.new) result }
 {
     while !task.ended() {
         next(alloc, graph, task, view)?;

@@ -4,8 +4,7 @@ ghost use Rattle.std.specs.Prelude.{◌≡◌, ◌<◌, false, true, length, sli
 ghost use Rattle.mv_values.specs.declared.calls.Call.{Call};
 ghost use Rattle.mv_record.specs.Runs.{writes_in};
 ghost use Rattle.mv_record.specs.Databases.{IsDatabaseOf};
-ghost use Rattle.mv_view.specs.Viewing.{MayAnswer};
-ghost use Rattle.mv_effect.specs.Looking.{AskedAtMost, IsSameView, PassesOn, different};
+ghost use Rattle.mv_effect.specs.Looking.{AskedAtMost, OnlyAsks, different};
 ghost use Rattle.mv_graph.specs.Nodes.{IsSound, meaning_of};
 ghost use Rattle.mv_exec.specs.Running.{IsRunning, IsRunningOn, IsSameCall, IsSameCallOn, IsTaskOf, IsTaskOn, IsUnchanged, HasRun, refusals};
 ghost use Rattle.mv_history.specs.Kept.{executions};
@@ -69,9 +68,7 @@ fn renew<V: View>(
     ensures ran { OnOk result (HasRun task.old task.new (V.sight view.old) (V.sight view.new)) }
     ensures new { OnOk result (new.new ≡ renewed path (length task.old.records) (any_write (writes_of (slice_get task.new.records (length task.old.records)))) new.old) }
     ensures err { OnErr result (IsUnchanged task.old task.new) }
-    ensures refused { MayAnswer (V.sight view.old) (V.sight view.new) result }
-    ensures stale { PassesOn (V.sight view.old) (V.sight view.new) result }
-    ensures same { IsSameView (V.sight view.old) (V.sight view.new) }
+    ensures view { OnlyAsks (V.sight view.old) (V.sight view.new) result }
     ensures bounded { AskedAtMost 1 (different (writes_in task.old.records)) (V.sight view.old) (V.sight view.new) }
 {
     let number = task.records().len();
@@ -96,9 +93,7 @@ fn step<V: View>(
     ensures call { IsSameCall graph.now task.old task.new }
     ensures stepped { OnOk result (HasStepped graph.now (V.sight view.old).database task.old old.old new.old task.new old.new new.new (V.sight view.old) (V.sight view.new)) }
     ensures err { OnErr result (IsUnchanged task.old task.new) }
-    ensures refused { MayAnswer (V.sight view.old) (V.sight view.new) result }
-    ensures stale { PassesOn (V.sight view.old) (V.sight view.new) result }
-    ensures same { IsSameView (V.sight view.old) (V.sight view.new) }
+    ensures view { OnlyAsks (V.sight view.old) (V.sight view.new) result }
     ensures bounded { AskedAtMost 1 (different (writes_in task.old.records)) (V.sight view.old) (V.sight view.new) }
 {
     let Some(ahead) = peek(alloc, graph, task)? else {
@@ -151,9 +146,7 @@ pub fn repair<V: View>(
     ensures executed { OnOk result (task.new.executed ≡ executions task.old.records task.new.records (changes_since since.now)) }
     ensures answer { IfOk result (λ count. count ≡ task.new.executed) }
     ensures queried { HasQueried task.old.records task.new.records (changes_since since.now) (refusals result) (V.sight view.old) (V.sight view.new) }
-    ensures refused { MayAnswer (V.sight view.old) (V.sight view.new) result }
-    ensures stale { PassesOn (V.sight view.old) (V.sight view.new) result }
-    ensures same { IsSameView (V.sight view.old) (V.sight view.new) }
+    ensures view { OnlyAsks (V.sight view.old) (V.sight view.new) result }
 {
     let hits = hits_of(alloc, task.records(), task.undo(), since)?;
     let paths = paths_of(alloc, task.records())?;

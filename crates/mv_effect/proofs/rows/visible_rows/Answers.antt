@@ -21,14 +21,8 @@ look-requires-clause-rising g c = c.requires.stands.database.rising
 pub returns-clause-found : goal.returns-clause-found
 returns-clause-found g c = c.look.ensures.found
 
-pub returns-clause-refused : goal.returns-clause-refused
-returns-clause-refused g c = c.look.ensures.refused
-
-pub returns-clause-stale : goal.returns-clause-stale
-returns-clause-stale g c = c.look.ensures.stale
-
-pub returns-clause-same : goal.returns-clause-same
-returns-clause-same g c = c.look.ensures.same
+pub returns-clause-view : goal.returns-clause-view
+returns-clause-view g c = c.look.ensures.view
 
 pub returns-clause-looks : goal.returns-clause-looks
 returns-clause-looks g c = c.look.ensures.looks

@@ -31,44 +31,23 @@ returns-in-Rollback-clause-effect g c =
     subst (λ s. IfOk c.rollback.result (IsEffect tables s env db)) (sym is)
     (IfOk-weaker c.rollback.result (λ e. (v : Env) → IsEffectAnywhere here v e) (IsEffect tables here env db) (λ e h. h env tables db) c.rollback.ensures.effect)
 
-pub returns-in-Assign-clause-refused : goal.returns-in-Assign-clause-refused
-returns-in-Assign-clause-refused g c = c.assign.ensures.refused (g.V.View.sight c.args.view.now)
+pub returns-in-Assign-clause-view : goal.returns-in-Assign-clause-view
+returns-in-Assign-clause-view g c = c.assign.ensures.view (g.V.View.sight c.args.view.now)
 
-pub returns-in-ForRows-clause-refused : goal.returns-in-ForRows-clause-refused
-returns-in-ForRows-clause-refused g c = c.for_rows.ensures.refused (g.V.View.sight c.args.view.now)
+pub returns-in-ForRows-clause-view : goal.returns-in-ForRows-clause-view
+returns-in-ForRows-clause-view g c = c.for_rows.ensures.view (g.V.View.sight c.args.view.now)
 
-pub returns-in-Branch-clause-refused : goal.returns-in-Branch-clause-refused
-returns-in-Branch-clause-refused g c = c.branch-alloc.ensures.refused (g.V.View.sight c.args.view.now)
+pub returns-in-Branch-clause-view : goal.returns-in-Branch-clause-view
+returns-in-Branch-clause-view g c = c.branch-alloc.ensures.view (g.V.View.sight c.args.view.now)
 
-pub returns-in-Print-clause-refused : goal.returns-in-Print-clause-refused
-returns-in-Print-clause-refused g c = c.print.ensures.refused (g.V.View.sight c.args.view.now)
+pub returns-in-Print-clause-view : goal.returns-in-Print-clause-view
+returns-in-Print-clause-view g c = c.print.ensures.view (g.V.View.sight c.args.view.now)
 
-pub returns-in-Rollback-clause-refused : goal.returns-in-Rollback-clause-refused
-returns-in-Rollback-clause-refused g c = c.rollback.ensures.refused (g.V.View.sight c.args.view.now)
+pub returns-in-Rollback-clause-view : goal.returns-in-Rollback-clause-view
+returns-in-Rollback-clause-view g c = c.rollback.ensures.view (g.V.View.sight c.args.view.now)
 
-pub returns-in-Assign-clause-stale : goal.returns-in-Assign-clause-stale
-returns-in-Assign-clause-stale g c = c.assign.ensures.stale (g.V.View.sight c.args.view.now)
-
-pub returns-in-ForRows-clause-stale : goal.returns-in-ForRows-clause-stale
-returns-in-ForRows-clause-stale g c = c.for_rows.ensures.stale (g.V.View.sight c.args.view.now)
-
-pub returns-in-Branch-clause-stale : goal.returns-in-Branch-clause-stale
-returns-in-Branch-clause-stale g c = c.branch-alloc.ensures.stale (g.V.View.sight c.args.view.now)
-
-pub returns-in-Print-clause-stale : goal.returns-in-Print-clause-stale
-returns-in-Print-clause-stale g c = c.print.ensures.stale (g.V.View.sight c.args.view.now)
-
-pub returns-in-Rollback-clause-stale : goal.returns-in-Rollback-clause-stale
-returns-in-Rollback-clause-stale g c = c.rollback.ensures.stale (g.V.View.sight c.args.view.now)
-
-pub returns-in-Select-clause-refused : goal.returns-in-Select-clause-refused
-returns-in-Select-clause-refused g c = c.select.ensures.refused
-
-pub returns-in-Select-clause-stale : goal.returns-in-Select-clause-stale
-returns-in-Select-clause-stale g c = c.select.ensures.stale
-
-pub returns-in-Select-clause-same : goal.returns-in-Select-clause-same
-returns-in-Select-clause-same g c = c.select.ensures.same
+pub returns-in-Select-clause-view : goal.returns-in-Select-clause-view
+returns-in-Select-clause-view g c = c.select.ensures.view
 
 pub returns-in-Select-clause-bounded : goal.returns-in-Select-clause-bounded
 returns-in-Select-clause-bounded g c = c.select.ensures.bounded
@@ -76,14 +55,8 @@ returns-in-Select-clause-bounded g c = c.select.ensures.bounded
 pub returns-in-Select-clause-looks : goal.returns-in-Select-clause-looks
 returns-in-Select-clause-looks g c = c.select.ensures.looks
 
-pub returns-in-Total-clause-refused : goal.returns-in-Total-clause-refused
-returns-in-Total-clause-refused g c = c.total.ensures.refused
-
-pub returns-in-Total-clause-stale : goal.returns-in-Total-clause-stale
-returns-in-Total-clause-stale g c = c.total.ensures.stale
-
-pub returns-in-Total-clause-same : goal.returns-in-Total-clause-same
-returns-in-Total-clause-same g c = c.total.ensures.same
+pub returns-in-Total-clause-view : goal.returns-in-Total-clause-view
+returns-in-Total-clause-view g c = c.total.ensures.view
 
 pub returns-in-Total-clause-bounded : goal.returns-in-Total-clause-bounded
 returns-in-Total-clause-bounded g c = c.total.ensures.bounded
@@ -91,14 +64,8 @@ returns-in-Total-clause-bounded g c = c.total.ensures.bounded
 pub returns-in-Total-clause-looks : goal.returns-in-Total-clause-looks
 returns-in-Total-clause-looks g c = c.total.ensures.looks
 
-pub returns-in-ForSelect-clause-refused : goal.returns-in-ForSelect-clause-refused
-returns-in-ForSelect-clause-refused g c = c.for_select.ensures.refused
-
-pub returns-in-ForSelect-clause-stale : goal.returns-in-ForSelect-clause-stale
-returns-in-ForSelect-clause-stale g c = c.for_select.ensures.stale
-
-pub returns-in-ForSelect-clause-same : goal.returns-in-ForSelect-clause-same
-returns-in-ForSelect-clause-same g c = c.for_select.ensures.same
+pub returns-in-ForSelect-clause-view : goal.returns-in-ForSelect-clause-view
+returns-in-ForSelect-clause-view g c = c.for_select.ensures.view
 
 pub returns-in-ForSelect-clause-bounded : goal.returns-in-ForSelect-clause-bounded
 returns-in-ForSelect-clause-bounded g c = c.for_select.ensures.bounded
@@ -106,14 +73,8 @@ returns-in-ForSelect-clause-bounded g c = c.for_select.ensures.bounded
 pub returns-in-ForSelect-clause-looks : goal.returns-in-ForSelect-clause-looks
 returns-in-ForSelect-clause-looks g c = c.for_select.ensures.looks
 
-pub returns-in-Insert-clause-refused : goal.returns-in-Insert-clause-refused
-returns-in-Insert-clause-refused g c = c.insert.ensures.refused
-
-pub returns-in-Insert-clause-stale : goal.returns-in-Insert-clause-stale
-returns-in-Insert-clause-stale g c = c.insert.ensures.stale
-
-pub returns-in-Insert-clause-same : goal.returns-in-Insert-clause-same
-returns-in-Insert-clause-same g c = c.insert.ensures.same
+pub returns-in-Insert-clause-view : goal.returns-in-Insert-clause-view
+returns-in-Insert-clause-view g c = c.insert.ensures.view
 
 pub returns-in-Insert-clause-bounded : goal.returns-in-Insert-clause-bounded
 returns-in-Insert-clause-bounded g c = c.insert.ensures.bounded
@@ -121,14 +82,8 @@ returns-in-Insert-clause-bounded g c = c.insert.ensures.bounded
 pub returns-in-Insert-clause-looks : goal.returns-in-Insert-clause-looks
 returns-in-Insert-clause-looks g c = c.insert.ensures.looks
 
-pub returns-in-Update-clause-refused : goal.returns-in-Update-clause-refused
-returns-in-Update-clause-refused g c = c.update.ensures.refused
-
-pub returns-in-Update-clause-stale : goal.returns-in-Update-clause-stale
-returns-in-Update-clause-stale g c = c.update.ensures.stale
-
-pub returns-in-Update-clause-same : goal.returns-in-Update-clause-same
-returns-in-Update-clause-same g c = c.update.ensures.same
+pub returns-in-Update-clause-view : goal.returns-in-Update-clause-view
+returns-in-Update-clause-view g c = c.update.ensures.view
 
 pub returns-in-Update-clause-bounded : goal.returns-in-Update-clause-bounded
 returns-in-Update-clause-bounded g c = c.update.ensures.bounded
@@ -136,14 +91,8 @@ returns-in-Update-clause-bounded g c = c.update.ensures.bounded
 pub returns-in-Update-clause-looks : goal.returns-in-Update-clause-looks
 returns-in-Update-clause-looks g c = c.update.ensures.looks
 
-pub returns-in-Delete-clause-refused : goal.returns-in-Delete-clause-refused
-returns-in-Delete-clause-refused g c = c.delete.ensures.refused
-
-pub returns-in-Delete-clause-stale : goal.returns-in-Delete-clause-stale
-returns-in-Delete-clause-stale g c = c.delete.ensures.stale
-
-pub returns-in-Delete-clause-same : goal.returns-in-Delete-clause-same
-returns-in-Delete-clause-same g c = c.delete.ensures.same
+pub returns-in-Delete-clause-view : goal.returns-in-Delete-clause-view
+returns-in-Delete-clause-view g c = c.delete.ensures.view
 
 pub returns-in-Delete-clause-bounded : goal.returns-in-Delete-clause-bounded
 returns-in-Delete-clause-bounded g c = c.delete.ensures.bounded

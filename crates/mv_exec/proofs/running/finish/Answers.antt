@@ -16,13 +16,13 @@ loop-alloc-preserved g c =
       ran = run_on c.args.task.now c.loop-alloc.task c.next.new.task (g.V.View.sight c.args.view.now) (g.V.View.sight c.loop-alloc.view) (g.V.View.sight c.next.new.view)
           c.loop-alloc.invariant.ran (c.in_ok-next.ensures.ran live) c.next.ensures.bounded;
       same = record {
-        database = c.next.ensures.same.database ∙ c.loop-alloc.invariant.same.database;
-        start = c.next.ensures.same.start ∙ c.loop-alloc.invariant.same.start;
-        may_be_stale = c.next.ensures.same.may_be_stale ∙ c.loop-alloc.invariant.same.may_be_stale;
+        database = c.next.ensures.view.same.database ∙ c.loop-alloc.invariant.same.database;
+        start = c.next.ensures.view.same.start ∙ c.loop-alloc.invariant.same.start;
+        may_be_stale = c.next.ensures.view.same.may_be_stale ∙ c.loop-alloc.invariant.same.may_be_stale;
       };
       never = record {
-        answers = c.in_ok-next.ensures.stale.answers ∙ c.loop-alloc.invariant.never.answers;
-        last_low = c.in_ok-next.ensures.stale.last_low ∙ c.loop-alloc.invariant.never.last_low;
+        answers = c.in_ok-next.ensures.view.passes_on.answers ∙ c.loop-alloc.invariant.never.answers;
+        last_low = c.in_ok-next.ensures.view.passes_on.last_low ∙ c.loop-alloc.invariant.never.last_low;
       };
     }
 

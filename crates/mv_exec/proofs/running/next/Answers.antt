@@ -107,10 +107,7 @@ returns-in_err-ahead-clause-err g c =
     if_err c.from_residual.result (IsUnchanged c.args.task.now c.come_to.new.task)
     (unchanged c.args.graph.now.procedure c.args.task.now c.come_to.new.task c.requires.running.1.is.whole c.come_to.ensures.task c.come_to.ensures.same)
 
-pub returns-in_err-ahead-clause-refused : goal.returns-in_err-ahead-clause-refused
-returns-in_err-ahead-clause-refused g c = let p = err_from_is_err_and c.from_residual.result c.from_residual.ensures.1 in rw (p.1, p.2) tt
-
-pub returns-in_err-ahead-clause-stale : goal.returns-in_err-ahead-clause-stale
-returns-in_err-ahead-clause-stale g c =
+pub returns-in_err-ahead-clause-view : goal.returns-in_err-ahead-clause-view
+returns-in_err-ahead-clause-view g c =
     let p = err_from_is_err_and c.from_residual.result c.from_residual.ensures.1 in
-    rw (p.1, p.2) (record { answers = refl; last_low = refl })
+    rw (p.1, p.2) (record { same = record { database = refl; start = refl; may_be_stale = refl }; may_refuse = tt; passes_on = record { answers = refl; last_low = refl } })

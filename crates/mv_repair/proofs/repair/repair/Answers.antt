@@ -40,13 +40,13 @@ loop-alloc-preserved g c =
       call = λ call is. c.step.ensures.call call (c.loop-alloc.invariant.call call is);
       queried = stepped.queried (changes_since c.args.since.now) c.args.task.now.records (g.V.View.sight c.args.view.now) c.loop-alloc.invariant.underway c.loop-alloc.invariant.queried;
       same = record {
-        database = c.step.ensures.same.database ∙ c.loop-alloc.invariant.same.database;
-        start = c.step.ensures.same.start ∙ c.loop-alloc.invariant.same.start;
-        may_be_stale = c.step.ensures.same.may_be_stale ∙ c.loop-alloc.invariant.same.may_be_stale;
+        database = c.step.ensures.view.same.database ∙ c.loop-alloc.invariant.same.database;
+        start = c.step.ensures.view.same.start ∙ c.loop-alloc.invariant.same.start;
+        may_be_stale = c.step.ensures.view.same.may_be_stale ∙ c.loop-alloc.invariant.same.may_be_stale;
       };
       never = record {
-        answers = c.in_ok-step.ensures.stale.answers ∙ c.loop-alloc.invariant.never.answers;
-        last_low = c.in_ok-step.ensures.stale.last_low ∙ c.loop-alloc.invariant.never.last_low;
+        answers = c.in_ok-step.ensures.view.passes_on.answers ∙ c.loop-alloc.invariant.never.answers;
+        last_low = c.in_ok-step.ensures.view.passes_on.last_low ∙ c.loop-alloc.invariant.never.last_low;
       };
     }
 
