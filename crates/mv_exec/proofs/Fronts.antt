@@ -18,7 +18,7 @@ use Rattle.mv_graph.specs.Nodes.{IsSound, meaning_of}
 use Rattle.mv_exec.specs.declared.task.Ahead.{Ahead}
 use Rattle.mv_exec.specs.declared.task.Task.{Task}
 use Rattle.mv_exec.specs.Tasks.{left_of, run_of, IsTask, StandsAsBefore, BeginsCall, TellsEnd}
-use Rattle.mv_exec.specs.Running.{Leaves, IsTaskOf, IsTaskOn, IsRunningOn, IsSameCall, IsSameCallOn, IsUnchanged, Foresees, IsNext, HasContent, HasAdopted, GoesOnWith, HasRun, EndsExactly, KeysKept}
+use Rattle.mv_exec.specs.Running.{Leaves, IsTaskOf, IsTaskOn, IsRunningOn, IsSameCall, IsSameCallOn, IsUnchanged, Foresees, IsNext, HasContent, HasAdopted, GoesOnWith, HasRun, EndsExactly, KeysKept, count_left}
 use Rattle.mv_exec.specs.Ahead.{ForeseesLeft}
 use Rattle.mv_exec.specs.Steps.{HasAdded, HasExecuted}
 use Rattle.mv_exec.proofs.Adopting.{added_before, none_ended, some_ahead}
@@ -221,14 +221,16 @@ executed_on g old new before after rise same it call on =
 pub has_run : (g : Graph) (old new : Task) (before after : Sight) → HasExecuted g.tables g.procedure old new before after → new.executed ≡ old.executed + 1 → HasRun old new before after
 has_run g old new before after it counted = record { next = it.next; records = it.added.records; executed = counted; asked = it.asked }
 
--- less is left than before
-pub shorter : (g : Graph) (old new : Task) (db : Tables) (before after : Sight) → AreRising db → IsSameCallOn g db old new → IsRunningOn g db old → HasRun old new before after
-    → length (left_of g.procedure g.tables new db) < length (left_of g.procedure g.tables old db)
+-- a call that has added the next record of its full run will still add fewer
+pub fewer_left : (g : Graph) (call : Call) (db : Tables) (old new : Task) (r : Record) (rest : List Record) → AreRising db → IsTaskOf g call old → IsTaskOf g call new → Leaves g call db old (r ∷ rest) → Leaves g call db new rest
+    → count_left g db new < count_left g db old
+fewer_left g call db old new r rest rise was is before after = omega (arith, ap length (was.left db (r ∷ rest) rise before), ap length (is.left db rest rise after))
+
+-- so has a call that has executed it
+pub shorter : (g : Graph) (old new : Task) (db : Tables) (before after : Sight) → AreRising db → IsSameCallOn g db old new → IsRunningOn g db old → HasRun old new before after → count_left g db new < count_left g db old
 shorter g old new db before after rise same was ran =
     let on : IsTaskOn g was.0 db new = same was.0 was.1 in
-    let left : left_of g.procedure g.tables new db ≡ on.rest = on.is.left db on.rest rise on.leaves in
-    let before : left_of g.procedure g.tables old db ≡ ran.next ∷ on.rest = was.1.is.left db (ran.next ∷ on.rest) rise (less_leaves g was.0 db old new (ran.next ∷ []) on.rest ran.records on.leaves) in
-    omega (arith, ap length left, ap length before)
+    fewer_left g was.0 db old new ran.next on.rest rise was.1.is on.is (less_leaves g was.0 db old new (ran.next ∷ []) on.rest ran.records on.leaves) on.leaves
 
 -- How large its numbers are
 

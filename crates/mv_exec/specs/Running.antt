@@ -70,6 +70,10 @@ abbrev pub stepped : Bool → Stepped
 stepped true = Ended
 stepped false = Ran
 
+-- how many records a call will still add on a database
+abbrev pub count_left : Graph → Tables → Task → ℕ
+count_left g db task = length (left_of g.procedure g.tables task db)
+
 -- The next record
 
 -- the first of these records has this place, controller and definers; if nothing is ahead, there are no records

@@ -23,8 +23,8 @@ use Rattle.mv_graph.specs.Nodes.{meaning_of}
 use Rattle.mv_exec.specs.declared.task.Ahead.{Ahead}
 use Rattle.mv_exec.specs.declared.task.Task.{Task}
 use Rattle.mv_exec.specs.Running.{IsTaskOf, IsTaskOn, IsSameCall, IsSameCallOn, Leaves, Foresees, IsNext, HasContent, HasRun}
-use Rattle.mv_exec.specs.Tasks.{left_of}
 use Rattle.mv_exec.proofs.Adding.{first_same}
+use Rattle.mv_exec.proofs.Fronts.{fewer_left}
 use Rattle.mv_history.specs.declared.change.Change.{Change}
 use Rattle.mv_history.specs.Kept.{Path, Placed, with_paths, next_placed, among, at, stays, keep, kept_paths, other_writes}
 use Rattle.mv_history.proofs.Joining.{placed_front}
@@ -241,13 +241,6 @@ went_on g changes db os task old new u ahead p c task' old' new' ks is records l
     paths' : kept_paths os task'.records changes ≡ ks
     paths' = ap (λ (l : List Record). kept_paths os l changes) records ∙ kept
 
-less_left : (g : Graph) (call : Call) (db : Tables) (task task' : Task) (r : Record) (tail : List Record) → AreRising db → IsTaskOf g call task → IsTaskOf g call task' → Leaves g call db task (r ∷ tail) → Leaves g call db task' tail
-    → length (left_of g.procedure g.tables task' db) < length (left_of g.procedure g.tables task db)
-less_left g call db task task' r tail rise is is' leaves leaves' =
-    let here : left_of g.procedure g.tables task db ≡ r ∷ tail = is.left db (r ∷ tail) rise leaves in
-    let there : left_of g.procedure g.tables task' db ≡ tail = is'.left db tail rise leaves' in
-    omega (arith, ap length here, ap length there)
-
 -- what the walk knows of the next record, where the old run was passed up to its path
 decides : (g : Graph) (changes : List Change) (db : Tables) (os : List Record) (task : Task) (old mid : OldRun) (new : NewRun) (u : IsUnderway g changes db os task old new) (ahead : Ahead) (p : Path)
     → (c : Comes g changes db os task old new u ahead p) → HasPassed old p mid → is_before (slice_get mid.paths mid.at) p ≡ false
@@ -390,7 +383,7 @@ kept_step g db task old mid new ahead p task' old' new' now k w = record {
   less =
       let u : IsUnderway g w.changes db w.os task old new = w.underway in
       let it : Kept g w.changes db w.os task old new u ahead p task' old' new' = it_kept g w.changes db w.os task old mid new u ahead p task' old' new' k in
-      less_left g u.call db task task' it.c.r it.c.tail u.runs.new_is.rising u.is (k.same u.call u.is) (subst (Leaves g u.call db task) it.c.left_is u.leaves) it.leaves;
+      fewer_left g u.call db task task' it.c.r it.c.tail u.runs.new_is.rising u.is (k.same u.call u.is) (subst (Leaves g u.call db task) it.c.left_is u.leaves) it.leaves;
 }
 
 -- A record that is executed
@@ -460,7 +453,7 @@ renewed_step g db task old mid new ahead p task' new' now after k w = record {
   less =
       let u : IsUnderway g w.changes db w.os task old new = w.underway in
       let it : Renewed g w.changes db w.os task old mid new u ahead p task' new' k.ran.next = it_renewed g w.changes db w.os task old mid new u ahead p task' new' now after k in
-      less_left g u.call db task task' it.c.r it.c.tail u.runs.new_is.rising u.is (k.same u.call u.is) (subst (Leaves g u.call db task) it.c.left_is u.leaves) it.leaves;
+      fewer_left g u.call db task task' it.c.r it.c.tail u.runs.new_is.rising u.is (k.same u.call u.is) (subst (Leaves g u.call db task) it.c.left_is u.leaves) it.leaves;
 }
 
 -- What the step needs

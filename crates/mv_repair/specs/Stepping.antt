@@ -1,11 +1,11 @@
 -- Defines one step of a repair. This project's own.
-use Rattle.std.specs.Prelude.{◌<◌, List, length}
+use Rattle.std.specs.Prelude.{◌<◌, List}
 use Rattle.mv_record.specs.declared.record.Record.{Record}
 use Rattle.mv_record.specs.Runs.{Tables}
 use Rattle.mv_view.specs.Viewing.{Sight}
 use Rattle.mv_graph.specs.declared.graph.Graph.{Graph}
 use Rattle.mv_exec.specs.declared.task.Task.{Task}
-use Rattle.mv_exec.specs.Tasks.{left_of}
+use Rattle.mv_exec.specs.Running.{count_left}
 use Rattle.mv_history.specs.declared.change.Change.{Change}
 use Rattle.mv_repair.specs.declared.walk.OldRun.{OldRun}
 use Rattle.mv_repair.specs.declared.walk.NewRun.{NewRun}
@@ -23,4 +23,4 @@ pub record HasStepped (g : Graph) (db : Tables) (task : Task) (old : OldRun) (ne
   pub went : (changes : List Change) (os : List Record) → IsUnderway g changes db os task old new → IsUnderway g changes db os task' old' new'
   pub queried : (changes : List Change) (os : List Record) (start : Sight) → IsUnderway g changes db os task old new
       → HasQueried os task.records changes 0 start before → HasQueried os task'.records changes 0 start after
-  pub less : length (left_of g.procedure g.tables task' db) < length (left_of g.procedure g.tables task db)
+  pub less : count_left g db task' < count_left g db task

@@ -1,7 +1,5 @@
-use Rattle.std.proofs.Common.{length}
 use Rattle.mv_effect.specs.Looking.{IsSameView, WasNeverStale}
-use Rattle.mv_exec.specs.Running.{IsRunningOn, IsSameCall, IsSameCallOn, HasRunTo}
-use Rattle.mv_exec.specs.Tasks.{left_of}
+use Rattle.mv_exec.specs.Running.{IsRunningOn, IsSameCall, IsSameCallOn, HasRunTo, count_left}
 use Rattle.mv_exec.proofs.running.finish.Given as goal
 
 abbrev pub invariant-loop-alloc : goal.invariant-loop-alloc
@@ -15,4 +13,4 @@ invariant-loop-alloc g l = record {
 }
 
 abbrev pub decreases-loop-alloc : goal.decreases-loop-alloc
-decreases-loop-alloc g l = length (left_of l.graph.procedure l.graph.tables l.task (g.V.View.sight l.fn.view).database)
+decreases-loop-alloc g l = count_left l.graph (g.V.View.sight l.fn.view).database l.task
