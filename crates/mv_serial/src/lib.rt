@@ -5,6 +5,7 @@ pub mod calls;
 mod change;
 mod deleting;
 mod inserting;
+mod query;
 mod run;
 mod statements;
 mod tables;

@@ -5,13 +5,14 @@ ghost use Rattle.mv_values.specs.Tables.{KeysStand};
 ghost use Rattle.mv_alone.specs.Outcome.{Leaves};
 ghost use Rattle.mv_alone.specs.Alone.{assign, select, print};
 
+use crate::query::Query;
 use mv_alone::chosen::chosen_in;
 use mv_alone::env::{set_columns, set_found, set_value};
 use mv_alone::expr::{number_in, offset, value, values};
 use mv_alone::find::checks_from;
 use mv_alone::line::line_from;
 use mv_alone::state::{State, Stop};
-use mv_catalog::resolved::{RCond, RExpr, RSort};
+use mv_catalog::resolved::RExpr;
 use mv_values::schema::TableInfo;
 use std::alloc::Global;
 
@@ -34,33 +35,36 @@ pub(crate) fn run_assign(
 pub(crate) fn run_select(
     alloc: Global,
     infos: &[TableInfo],
-    columns: &[u16],
+    query: &Query<'_>,
     to: &[u16],
-    table: u16,
-    conds: &[RCond],
-    sorts: &[RSort],
     skip: &Option<RExpr>,
     state: &mut State,
 ) -> Result<(), Stop>
     requires { KeysStand infos.now state.old.tables }
     ensures tables { state.new.tables ≡ state.old.tables }
-    ensures does { Leaves result state.new (select columns.now to.now table conds.now sorts.now skip.now state.old) }
+    ensures does { Leaves result state.new (select query.now.columns.now to.now query.now.table query.now.conds.now query.now.sorts.now skip.now state.old) }
 {
-    let checks = checks_from(alloc, conds, &state.env)?;
+    let checks = checks_from(alloc, query.conds, &state.env)?;
     let at = offset(alloc, skip, &state.env)?;
     let found = chosen_in(
         alloc,
         infos,
         &state.tables,
-        table,
+        query.table,
         checks.as_slice(),
-        sorts,
+        query.sorts,
         number_in(&at),
     )?;
     match found {
         None => set_found(&mut state.env, false)?,
         Some(item) => {
-            set_columns(alloc, &mut state.env, to, columns, item.row.as_slice())?;
+            set_columns(
+                alloc,
+                &mut state.env,
+                to,
+                query.columns,
+                item.row.as_slice(),
+            )?;
             set_found(&mut state.env, true)?;
         }
     }

@@ -12,6 +12,7 @@ ghost use Rattle.mv_serial.specs.Changing.{StaysUndoable};
 use crate::change::Change;
 use crate::deleting::run_delete;
 use crate::inserting::run_insert;
+use crate::query::Query;
 use crate::run::{run_assign, run_print, run_select};
 use crate::totals::run_total;
 use crate::updating::run_update;
@@ -20,7 +21,7 @@ use mv_alone::expr::{holds, value};
 use mv_alone::find::{checks_from, matches_in};
 use mv_alone::fixing::fixed_rows;
 use mv_alone::state::{Env, Held, State, Stop};
-use mv_catalog::resolved::{RCond, RExpr, RSort, RStmt};
+use mv_catalog::resolved::{RExpr, RStmt};
 use mv_values::calls::End;
 use mv_values::copied::Copied;
 use mv_values::list::List;
@@ -87,17 +88,15 @@ fn run_one(
             conds,
             sorts,
             offset,
-        } => run_select(
-            alloc,
-            tables,
-            columns.as_slice(),
-            to.as_slice(),
-            *table,
-            conds.as_slice(),
-            sorts.as_slice(),
-            offset,
-            state,
-        ),
+        } => {
+            let query = Query {
+                table: *table,
+                columns: columns.as_slice(),
+                conds: conds.as_slice(),
+                sorts: sorts.as_slice(),
+            };
+            run_select(alloc, tables, &query, to.as_slice(), offset, state)
+        }
         RStmt::Branch { test, yes, no } => {
             if takes(alloc, test, &state.env)? {
                 run_all(alloc, tables, yes.as_slice(), state, undo)
@@ -123,15 +122,18 @@ fn run_one(
             sorts,
             body,
         } => {
+            let query = Query {
+                table: *table,
+                columns: columns.as_slice(),
+                conds: conds.as_slice(),
+                sorts: sorts.as_slice(),
+            };
             run_turns(
                 alloc,
                 tables,
                 *row,
                 *distinct,
-                columns.as_slice(),
-                *table,
-                conds.as_slice(),
-                sorts.as_slice(),
+                &query,
                 body.as_slice(),
                 state,
                 undo,
@@ -166,18 +168,15 @@ fn turns_of(
     alloc: Global,
     tables: &[TableInfo],
     once: bool,
-    columns: &[u16],
-    table: u16,
-    conds: &[RCond],
-    sorts: &[RSort],
+    query: &Query<'_>,
     state: &State,
 ) -> Result<List<Row>, Stop>
     requires { KeysStand tables.now state.now.tables }
-    ensures { Gives result (then_do (checks_of conds.now state.now.env) (λ checks. Ok (fixed once columns.now sorts.now (matching checks (rows_at state.now.tables table))))) }
+    ensures { Gives result (then_do (checks_of query.now.conds.now state.now.env) (λ checks. Ok (fixed once query.now.columns.now query.now.sorts.now (matching checks (rows_at state.now.tables query.now.table))))) }
 {
-    let checks = checks_from(alloc, conds, &state.env)?;
-    let found = matches_in(alloc, tables, &state.tables, table, checks.as_slice())?;
-    Ok(fixed_rows(alloc, once, columns, sorts, found.as_slice())?)
+    let checks = checks_from(alloc, query.conds, &state.env)?;
+    let found = matches_in(alloc, tables, &state.tables, query.table, checks.as_slice())?;
+    Ok(fixed_rows(alloc, once, query.columns, query.sorts, found.as_slice())?)
 }
 
 /// Executes FOR over SELECT.
@@ -187,20 +186,17 @@ fn run_turns(
     tables: &[TableInfo],
     row: u16,
     once: bool,
-    columns: &[u16],
-    table: u16,
-    conds: &[RCond],
-    sorts: &[RSort],
+    query: &Query<'_>,
     body: &[RStmt],
     state: &mut State,
     undo: &mut List<Change>,
 ) -> Result<(), Stop>
     requires { KeysStand tables.now state.old.tables }
-    ensures does { Leaves result state.new (for_select row once columns.now table conds.now sorts.now (alone tables.now body.now) state.old) }
+    ensures does { Leaves result state.new (for_select row once query.now.columns.now query.now.table query.now.conds.now query.now.sorts.now (alone tables.now body.now) state.old) }
     ensures keys { OnOk result (KeysStand tables.now state.new.tables) }
     ensures undo { StaysUndoable result undo.old state.old.tables undo.new state.new.tables }
 {
-    let rows = turns_of(alloc, tables, once, columns, table, conds, sorts, state)?;
+    let rows = turns_of(alloc, tables, once, query, state)?;
     run_loop(alloc, tables, row, body, rows.as_slice(), state, undo)
 }
 

@@ -8,7 +8,7 @@ use Rattle.mv_serial.proofs.statements.+statements.Goals as goal
 
 pub run_turns-returns-clause-does : goal.run_turns-returns-clause-does
 run_turns-returns-clause-does t c =
-    rw (fixed_first (checks_of c.args.conds.now c.args.state.now.env) (λ checks. fixed c.args.once c.args.columns.now c.args.sorts.now (matching checks (rows_at c.args.state.now.tables c.args.table)))
+    rw (fixed_first (checks_of c.args.query.now.conds.now c.args.state.now.env) (λ checks. fixed c.args.once c.args.query.now.columns.now c.args.query.now.sorts.now (matching checks (rows_at c.args.state.now.tables c.args.query.now.table)))
     (λ rows. loop_over c.args.row (alone c.args.tables.now c.args.body.now) rows c.args.state.now) c.in_ok-rows.rows c.in_ok-rows.ensures)
     (rw c.as_slice.ensures at c.run_loop.ensures.does)
 
