@@ -1,7 +1,7 @@
 //! Copies of procedures.
 
 ghost use Rattle.std.specs.Prelude.{◌≡◌, IfOk};
-ghost use Rattle.mv_catalog.specs.declared.resolved.RStmt.TheVariants.{Select, ForSelect, Branch, Update};
+ghost use Rattle.mv_catalog.specs.declared.resolved.RStmt.TheVariants.{Select, Branch, Update};
 
 use mv_catalog::resolved::{ParamInfo, ProcInfo, RCond, RExpr, RExprKind, RSetItem, RSort, RStmt};
 use mv_values::boxed::Boxed;
@@ -96,6 +96,23 @@ fn copy_sorts(alloc: Global, sorts: &[RSort]) -> Result<List<RSort>, NoMemory>
 
 // Statements
 
+/// Returns copies of the columns, the tests and the order of a query.
+fn copy_query(
+    alloc: Global,
+    columns: &List<u16>,
+    conds: &[RCond],
+    sorts: &[RSort],
+) -> Result<(List<u16>, List<RCond>, List<RSort>), NoMemory>
+    ensures columns { IfOk result (λ it. it.0 ≡ columns.now) }
+    ensures conds { IfOk result (λ it. it.1 ≡ conds.now) }
+    ensures sorts { IfOk result (λ it. it.2 ≡ sorts.now) }
+{
+    let columns = columns.copy(alloc)?;
+    let conds = copy_conds(alloc, conds)?;
+    let sorts = copy_sorts(alloc, sorts)?;
+    Ok((columns, conds, sorts))
+}
+
 fn copy_select(
     alloc: Global,
     columns: &List<u16>,
@@ -107,10 +124,8 @@ fn copy_select(
 ) -> Result<RStmt, NoMemory>
     ensures { IfOk result (λ it. it ≡ Select columns.now to.now table conds.now sorts.now offset.now) }
 {
-    let columns = columns.copy(alloc)?;
+    let (columns, conds, sorts) = copy_query(alloc, columns, conds, sorts)?;
     let to = to.copy(alloc)?;
-    let conds = copy_conds(alloc, conds)?;
-    let sorts = copy_sorts(alloc, sorts)?;
     let offset = copy_offset(alloc, offset)?;
     Ok(RStmt::Select {
         columns,
@@ -119,33 +134,6 @@ fn copy_select(
         conds,
         sorts,
         offset,
-    })
-}
-
-/// Returns a copy of a FOR over SELECT, given the copy of its body.
-fn copy_for_select(
-    alloc: Global,
-    row: u16,
-    distinct: bool,
-    columns: &List<u16>,
-    table: u16,
-    conds: &[RCond],
-    sorts: &[RSort],
-    body: List<RStmt>,
-) -> Result<RStmt, NoMemory>
-    ensures { IfOk result (λ it. it ≡ ForSelect row distinct columns.now table conds.now sorts.now body) }
-{
-    let columns = columns.copy(alloc)?;
-    let conds = copy_conds(alloc, conds)?;
-    let sorts = copy_sorts(alloc, sorts)?;
-    Ok(RStmt::ForSelect {
-        row,
-        distinct,
-        columns,
-        table,
-        conds,
-        sorts,
-        body,
     })
 }
 
@@ -238,16 +226,21 @@ pub fn copy_statement(alloc: Global, statement: &RStmt) -> Result<RStmt, NoMemor
             body,
         } => {
             let body = copy_statements(alloc, body.as_slice())?;
-            copy_for_select(
+            let (columns, conds, sorts) = copy_query(
                 alloc,
-                *row,
-                *distinct,
                 columns,
-                *table,
                 conds.as_slice(),
                 sorts.as_slice(),
+            )?;
+            Ok(RStmt::ForSelect {
+                row: *row,
+                distinct: *distinct,
+                columns,
+                table: *table,
+                conds,
+                sorts,
                 body,
-            )
+            })
         }
         RStmt::ForRows { row, rows, body } => Ok(RStmt::ForRows {
             row: *row,
