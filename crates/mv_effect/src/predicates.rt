@@ -12,6 +12,7 @@ ghost use Rattle.mv_recorded.specs.Effects.{asks};
 ghost use Rattle.mv_effect.specs.Naming.{Tests, AreColumns};
 
 use crate::numbers::{columns_once, key_place, narrow};
+use crate::query::Query;
 use mv_alone::env::column_value;
 use mv_alone::expr::value;
 use mv_alone::find::key_in;
@@ -82,26 +83,30 @@ fn sorted_columns(alloc: Global, columns: &[u16], sorts: &[RSort]) -> Result<Lis
     Ok(all)
 }
 
-/// Returns the predicate of a statement that reads these columns and those of ORDER BY. Fails with the first right side
-/// of WHERE that is stopped.
+/// Returns the predicate of a query, with its columns and those of ORDER BY selected. Fails with the first right side of
+/// WHERE that is stopped.
 pub(crate) fn select_pred(
     alloc: Global,
     tables: &[TableInfo],
-    columns: &[u16],
-    table: u16,
-    conds: &[RCond],
-    sorts: &[RSort],
+    query: &Query<'_>,
     env: &Env,
 ) -> Result<Pred, Stop>
     requires few { length tables.now ≤ 64 }
     requires each { All IsTable tables.now }
-    requires tests { Tests tables.now table conds.now }
-    requires columns { AreColumns tables.now table (with_sorts columns.now sorts.now) }
-    ensures asks { Gives result (asks tables.now table conds.now (with_sorts columns.now sorts.now) env.now) }
+    requires tests { Tests tables.now query.now.table query.now.conds.now }
+    requires columns { AreColumns tables.now query.now.table (with_sorts query.now.columns.now query.now.sorts.now) }
+    ensures asks { Gives result (asks tables.now query.now.table query.now.conds.now (with_sorts query.now.columns.now query.now.sorts.now) env.now) }
     ensures knows { IfOk result (KnowsKey tables.now) }
 {
-    let asked = sorted_columns(alloc, columns, sorts)?;
-    pred_from(alloc, tables, table, conds, asked.as_slice(), env)
+    let asked = sorted_columns(alloc, query.columns, query.sorts)?;
+    pred_from(
+        alloc,
+        tables,
+        query.table,
+        query.conds,
+        asked.as_slice(),
+        env,
+    )
 }
 
 /// Returns the column of an aggregate, if it has one.

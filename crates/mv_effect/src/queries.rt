@@ -22,6 +22,7 @@ ghost use Rattle.mv_effect.specs.Totalling.{total_asked};
 use crate::context::Context;
 use crate::effect::{one, set_effect, stop_effect, stop_result};
 use crate::predicates::{aggregate_pred, select_pred};
+use crate::query::Query;
 use crate::rows::{first_visible, visible_rows};
 use crate::slots::{found_alone, select_slots, total_slots};
 use crate::tableless::has_turn;
@@ -49,28 +50,17 @@ use std::alloc::Global;
 fn row_query(
     alloc: Global,
     context: &Context<'_>,
-    columns: &[u16],
-    table: u16,
-    conds: &[RCond],
-    sorts: &[RSort],
+    query: &Query<'_>,
     at: &Option<RExpr>,
 ) -> Result<Result<(Pred, i64), Effect>, NoMemory>
     requires few { length context.now.tables.now ≤ 64 }
     requires each { All IsTable context.now.tables.now }
-    requires tests { Tests context.now.tables.now table conds.now }
-    requires columns { AreColumns context.now.tables.now table (with_sorts columns.now sorts.now) }
-    ensures asks { IfOk result (λ asked. asked ≡ asked_by (asks context.now.tables.now table conds.now (with_sorts columns.now sorts.now) context.now.env.now) (row_number at.now context.now.env.now)) }
+    requires tests { Tests context.now.tables.now query.now.table query.now.conds.now }
+    requires columns { AreColumns context.now.tables.now query.now.table (with_sorts query.now.columns.now query.now.sorts.now) }
+    ensures asks { IfOk result (λ asked. asked ≡ asked_by (asks context.now.tables.now query.now.table query.now.conds.now (with_sorts query.now.columns.now query.now.sorts.now) context.now.env.now) (row_number at.now context.now.env.now)) }
     ensures knows { IfOk result (λ asked. IfOk asked (λ r. KnowsKey context.now.tables.now r.0)) }
 {
-    let pred = match select_pred(
-        alloc,
-        context.tables,
-        columns,
-        table,
-        conds,
-        sorts,
-        context.env,
-    ) {
+    let pred = match select_pred(alloc, context.tables, query, context.env) {
         Ok(pred) => pred,
         Err(stop) => return Ok(Err(stop_effect(alloc, List::new(alloc), stop)?)),
     };
@@ -84,19 +74,18 @@ fn row_query(
 fn select_effect(
     alloc: Global,
     env: &Env,
-    columns: &[u16],
+    query: &Query<'_>,
     to: &[u16],
-    sorts: &[RSort],
     asked: (Pred, i64),
     rows: &[Keyed],
 ) -> Result<Effect, NoMemory>
     requires rising { IsRising rows.now }
     requires found { env.now.found < 2 ^ 16 }
-    ensures { IfOk result (λ e. e ≡ taking asked.0 columns.now to.now (item_at (ordered sorts.now (matching [] rows.now)) asked.1) env.now) }
+    ensures { IfOk result (λ e. e ≡ taking asked.0 query.now.columns.now to.now (item_at (ordered query.now.sorts.now (matching [] rows.now)) asked.1) env.now) }
 {
     let (pred, at) = asked;
-    let item = chosen_row(alloc, sorts, rows, at)?;
-    let sets = select_slots(alloc, env, columns, to, item)?;
+    let item = chosen_row(alloc, query.sorts, rows, at)?;
+    let sets = select_slots(alloc, env, query.columns, to, item)?;
     set_effect(alloc, pred, sets)
 }
 
@@ -134,33 +123,24 @@ fn leading_at(context: &Context<'_>, sorts: &[RSort], pred: &Pred, at: i64) -> O
 fn select_asked<V: View>(
     alloc: Global,
     context: &Context<'_>,
-    columns: &[u16],
+    query: &Query<'_>,
     to: &[u16],
-    sorts: &[RSort],
     asked: (Pred, i64),
     view: &mut V,
 ) -> Result<Effect, Refused>
     requires stands { Stands context.now.tables.now (earlier context.now.number context.now.undo.now) (V.sight view.old).database }
     requires found { context.now.env.now.found < 2 ^ 16 }
     requires knows { KnowsKey context.now.tables.now asked.0 }
-    ensures effect { IfOk result (λ e. e ≡ taking asked.0 columns.now to.now (item_at (ordered sorts.now (found_by asked.0 (applied (earlier context.now.number context.now.undo.now) (V.sight view.old).database))) asked.1) context.now.env.now) }
+    ensures effect { IfOk result (λ e. e ≡ taking asked.0 query.now.columns.now to.now (item_at (ordered query.now.sorts.now (found_by asked.0 (applied (earlier context.now.number context.now.undo.now) (V.sight view.old).database))) asked.1) context.now.env.now) }
     ensures view { OnlyAsks (V.sight view.old) (V.sight view.new) result }
     ensures looks { AskedAtMost 1 (different (earlier context.now.number context.now.undo.now)) (V.sight view.old) (V.sight view.new) }
 {
-    if let Some(direction) = leading_at(context, sorts, &asked.0, asked.1) {
+    if let Some(direction) = leading_at(context, query.sorts, &asked.0, asked.1) {
         let row = first_visible(alloc, context, &asked.0, direction, view)?;
-        return Ok(taken_effect(alloc, context.env, columns, to, asked.0, row)?);
+        return Ok(taken_effect(alloc, context.env, query.columns, to, asked.0, row)?);
     }
     let rows = visible_rows(alloc, context, &asked.0, view)?;
-    Ok(select_effect(
-        alloc,
-        context.env,
-        columns,
-        to,
-        sorts,
-        asked,
-        rows.as_slice(),
-    )?)
+    Ok(select_effect(alloc, context.env, query, to, asked, rows.as_slice())?)
 }
 
 /// Returns the effect of SELECT INTO: it sets its targets to the columns of the chosen row, if there is one, and sets
@@ -168,28 +148,25 @@ fn select_asked<V: View>(
 pub(crate) fn select<V: View>(
     alloc: Global,
     context: &Context<'_>,
-    columns: &[u16],
+    query: &Query<'_>,
     to: &[u16],
-    table: u16,
-    conds: &[RCond],
-    sorts: &[RSort],
     at: &Option<RExpr>,
     view: &mut V,
 ) -> Result<Effect, Refused>
     requires stands { Stands context.now.tables.now (earlier context.now.number context.now.undo.now) (V.sight view.old).database }
     requires found { context.now.env.now.found < 2 ^ 16 }
-    requires tests { Tests context.now.tables.now table conds.now }
-    requires columns { AreColumns context.now.tables.now table (with_sorts columns.now sorts.now) }
-    ensures effect { IfOk result (IsEffect context.now.tables.now (layer.Select columns.now to.now table conds.now sorts.now at.now) context.now.env.now (applied (earlier context.now.number context.now.undo.now) (V.sight view.old).database)) }
+    requires tests { Tests context.now.tables.now query.now.table query.now.conds.now }
+    requires columns { AreColumns context.now.tables.now query.now.table (with_sorts query.now.columns.now query.now.sorts.now) }
+    ensures effect { IfOk result (IsEffect context.now.tables.now (layer.Select query.now.columns.now to.now query.now.table query.now.conds.now query.now.sorts.now at.now) context.now.env.now (applied (earlier context.now.number context.now.undo.now) (V.sight view.old).database)) }
     ensures view { OnlyAsks (V.sight view.old) (V.sight view.new) result }
     ensures bounded { AskedAtMost 1 (different (earlier context.now.number context.now.undo.now)) (V.sight view.old) (V.sight view.new) }
     ensures looks { IfOk result (λ e. AskedFor e.preds (earlier context.now.number context.now.undo.now) (V.sight view.old) (V.sight view.new)) }
 {
-    let asked = match row_query(alloc, context, columns, table, conds, sorts, at)? {
+    let asked = match row_query(alloc, context, query, at)? {
         Ok(asked) => asked,
         Err(end) => return Ok(end),
     };
-    select_asked(alloc, context, columns, to, sorts, asked, view)
+    select_asked(alloc, context, query, to, asked, view)
 }
 
 /// Returns the effect of an aggregate that asked this and yields this.
@@ -311,16 +288,15 @@ fn loop_effect(
     alloc: Global,
     env: &Env,
     once: bool,
-    columns: &[u16],
-    sorts: &[RSort],
+    query: &Query<'_>,
     pred: Pred,
     rows: &[Keyed],
 ) -> Result<Effect, NoMemory>
     requires rising { IsRising rows.now }
     requires found { env.now.found < 2 ^ 16 }
-    ensures { IfOk result (λ e. e ≡ going pred (fixed once columns.now sorts.now (matching [] rows.now)) env.now) }
+    ensures { IfOk result (λ e. e ≡ going pred (fixed once query.now.columns.now query.now.sorts.now (matching [] rows.now)) env.now) }
 {
-    let turns = fixed_rows(alloc, once, columns, sorts, rows)?;
+    let turns = fixed_rows(alloc, once, query.columns, query.sorts, rows)?;
     turns_effect(alloc, env, pred, turns)
 }
 
@@ -330,41 +306,22 @@ pub(crate) fn for_select<V: View>(
     alloc: Global,
     context: &Context<'_>,
     once: bool,
-    columns: &[u16],
-    table: u16,
-    conds: &[RCond],
-    sorts: &[RSort],
+    query: &Query<'_>,
     view: &mut V,
 ) -> Result<Effect, Refused>
     requires stands { Stands context.now.tables.now (earlier context.now.number context.now.undo.now) (V.sight view.old).database }
     requires found { context.now.env.now.found < 2 ^ 16 }
-    requires tests { Tests context.now.tables.now table conds.now }
-    requires columns { AreColumns context.now.tables.now table (with_sorts columns.now sorts.now) }
-    ensures effect { IfOk result (λ e. (row : ℕ) (body : List RStmt) → IsEffect context.now.tables.now (layer.ForSelect row once columns.now table conds.now sorts.now body) context.now.env.now (applied (earlier context.now.number context.now.undo.now) (V.sight view.old).database) e) }
+    requires tests { Tests context.now.tables.now query.now.table query.now.conds.now }
+    requires columns { AreColumns context.now.tables.now query.now.table (with_sorts query.now.columns.now query.now.sorts.now) }
+    ensures effect { IfOk result (λ e. (row : ℕ) (body : List RStmt) → IsEffect context.now.tables.now (layer.ForSelect row once query.now.columns.now query.now.table query.now.conds.now query.now.sorts.now body) context.now.env.now (applied (earlier context.now.number context.now.undo.now) (V.sight view.old).database) e) }
     ensures view { OnlyAsks (V.sight view.old) (V.sight view.new) result }
     ensures bounded { AskedAtMost 1 (different (earlier context.now.number context.now.undo.now)) (V.sight view.old) (V.sight view.new) }
     ensures looks { IfOk result (λ e. AskedFor e.preds (earlier context.now.number context.now.undo.now) (V.sight view.old) (V.sight view.new)) }
 {
-    let pred = match select_pred(
-        alloc,
-        context.tables,
-        columns,
-        table,
-        conds,
-        sorts,
-        context.env,
-    ) {
+    let pred = match select_pred(alloc, context.tables, query, context.env) {
         Ok(pred) => pred,
         Err(stop) => return stop_result(alloc, List::new(alloc), stop),
     };
     let rows = visible_rows(alloc, context, &pred, view)?;
-    Ok(loop_effect(
-        alloc,
-        context.env,
-        once,
-        columns,
-        sorts,
-        pred,
-        rows.as_slice(),
-    )?)
+    Ok(loop_effect(alloc, context.env, once, query, pred, rows.as_slice())?)
 }

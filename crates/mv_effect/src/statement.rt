@@ -11,6 +11,7 @@ ghost use Rattle.mv_effect.specs.Looking.{IsExecutable, OnlyAsks, different, Ask
 use crate::changes::{delete, insert, update};
 use crate::context::Context;
 use crate::queries::{for_select, select, total};
+use crate::query::Query;
 use crate::tableless::{assign, branch, decide, for_rows, print, rollback};
 use mv_alone::state::Env;
 use mv_catalog::resolved::RStmt;
@@ -58,17 +59,15 @@ fn own_effect<V: View>(
             conds,
             sorts,
             offset,
-        } => select(
-            alloc,
-            &context,
-            columns.as_slice(),
-            to.as_slice(),
-            *table,
-            conds.as_slice(),
-            sorts.as_slice(),
-            offset,
-            view,
-        ),
+        } => {
+            let query = Query {
+                table: *table,
+                columns: columns.as_slice(),
+                conds: conds.as_slice(),
+                sorts: sorts.as_slice(),
+            };
+            select(alloc, &context, &query, to.as_slice(), offset, view)
+        }
         RStmt::Total {
             agg,
             to,
@@ -82,16 +81,15 @@ fn own_effect<V: View>(
             conds,
             sorts,
             ..
-        } => for_select(
-            alloc,
-            &context,
-            *distinct,
-            columns.as_slice(),
-            *table,
-            conds.as_slice(),
-            sorts.as_slice(),
-            view,
-        ),
+        } => {
+            let query = Query {
+                table: *table,
+                columns: columns.as_slice(),
+                conds: conds.as_slice(),
+                sorts: sorts.as_slice(),
+            };
+            for_select(alloc, &context, *distinct, &query, view)
+        }
         RStmt::ForRows { rows, .. } => for_rows(alloc, *rows, env),
         RStmt::Branch { test, .. } => branch(alloc, test, env),
         RStmt::Insert { table, values } => insert(alloc, &context, *table, values.as_slice(), view),

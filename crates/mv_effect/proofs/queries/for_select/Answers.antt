@@ -13,7 +13,7 @@ returns-clause-effect g c = λ row body lines.
     let db = applied (earlier c.args.context.now.number c.args.context.now.undo.now) (g.V.View.sight c.args.view.now).database in
     let found = c.as_slice.ensures.items ∙ c.in_ok-rows.ensures.found in
     c.in_ok-loop_effect.ensures
-    ∙ for_goes tables row c.args.once c.args.columns.now c.args.table c.args.conds.now c.args.sorts.now body env db c.in-Ok.pred c.as_slice.result.now c.in-Ok.ensures.asks found lines
+    ∙ for_goes tables row c.args.once c.args.query.now.columns.now c.args.query.now.table c.args.query.now.conds.now c.args.query.now.sorts.now body env db c.in-Ok.pred c.as_slice.result.now c.in-Ok.ensures.asks found lines
 
 pub returns-clause-looks : goal.returns-clause-looks
 returns-clause-looks g c =

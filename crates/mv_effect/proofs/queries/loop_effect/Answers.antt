@@ -11,4 +11,4 @@ fixed_rows-requires c = subst IsRising (sym (map-id c.args.rows.now)) c.requires
 
 pub returns : goal.returns
 returns c =
-    subst (λ l. IfOk c.turns_effect.result (λ e. e ≡ going c.args.pred l c.args.env.now)) (c.in_ok-turns.ensures ∙ ap (fixed c.args.once c.args.columns.now c.args.sorts.now) (all_rows c.args.rows.now)) c.turns_effect.ensures
+    subst (λ l. IfOk c.turns_effect.result (λ e. e ≡ going c.args.pred l c.args.env.now)) (c.in_ok-turns.ensures ∙ ap (fixed c.args.once c.args.query.now.columns.now c.args.query.now.sorts.now) (all_rows c.args.rows.now)) c.turns_effect.ensures

@@ -15,13 +15,13 @@ returns-clause-effect g c =
     let tables = c.args.context.now.tables.now in
     let env = c.args.context.now.env.now in
     let db = applied (earlier c.args.context.now.number c.args.context.now.undo.now) (g.V.View.sight c.args.view.now).database in
-    let asked = both_asked (asks tables c.args.table c.args.conds.now (with_sorts c.args.columns.now c.args.sorts.now) env) (row_number c.args.at.now env) c.in-Ok.asked (sym c.in-Ok.is ∙ c.in_ok-asked.ensures.asks) in
+    let asked = both_asked (asks tables c.args.query.now.table c.args.query.now.conds.now (with_sorts c.args.query.now.columns.now c.args.query.now.sorts.now) env) (row_number c.args.at.now env) c.in-Ok.asked (sym c.in-Ok.is ∙ c.in_ok-asked.ensures.asks) in
     IfOk-weaker c.select_asked.result _ _
-    (λ e is lines. is ∙ select_found_done tables c.args.columns.now c.args.to.now c.args.table c.args.conds.now c.args.sorts.now c.args.at.now env db c.in-Ok.asked.0 c.in-Ok.asked.1 asked.0 asked.1 lines) c.select_asked.ensures.effect
+    (λ e is lines. is ∙ select_found_done tables c.args.query.now.columns.now c.args.to.now c.args.query.now.table c.args.query.now.conds.now c.args.query.now.sorts.now c.args.at.now env db c.in-Ok.asked.0 c.in-Ok.asked.1 asked.0 asked.1 lines) c.select_asked.ensures.effect
 
 pub returns-in-Err-clause-effect : goal.returns-in-Err-clause-effect
 returns-in-Err-clause-effect g c =
-    select_unasked c.args.context.now.tables.now c.args.columns.now c.args.to.now c.args.table c.args.conds.now c.args.sorts.now c.args.at.now c.args.context.now.env.now
+    select_unasked c.args.context.now.tables.now c.args.query.now.columns.now c.args.to.now c.args.query.now.table c.args.query.now.conds.now c.args.query.now.sorts.now c.args.at.now c.args.context.now.env.now
     (applied (earlier c.args.context.now.number c.args.context.now.undo.now) (g.V.View.sight c.args.view.now).database) c.in-Err.end
     (sym c.in-Err.is ∙ c.in_ok-asked.ensures.asks)
 

@@ -11,11 +11,11 @@ pub returns-in-Some-clause-effect : goal.returns-in-Some-clause-effect
 returns-in-Some-clause-effect g c =
     let at : to_z w64 (of_z w64 c.args.asked.1) ≡ c.args.asked.1 = search rules in
     c.in_ok-taken_effect.ensures
-    ∙ select_led c.args.context.now.tables.now (earlier c.args.context.now.number c.args.context.now.undo.now) (g.V.View.sight c.args.view.now).database c.args.columns.now c.args.to.now c.args.sorts.now c.in-Some.direction c.args.asked.0
+    ∙ select_led c.args.context.now.tables.now (earlier c.args.context.now.number c.args.context.now.undo.now) (g.V.View.sight c.args.view.now).database c.args.query.now.columns.now c.args.to.now c.args.query.now.sorts.now c.in-Some.direction c.args.asked.0
     c.args.asked.1 c.args.context.now.env.now c.in_ok-row.row c.requires.stands c.requires.knows c.in-Some.ensures.leads (sym at ∙ c.in-Some.ensures.first) c.in_ok-row.ensures.found
 
 pub returns-clause-effect : goal.returns-clause-effect
 returns-clause-effect g c =
     c.in_ok-select_effect.ensures
-    ∙ ap (λ rows. taking c.args.asked.0 c.args.columns.now c.args.to.now (item_at (ordered c.args.sorts.now rows) c.args.asked.1) c.args.context.now.env.now)
+    ∙ ap (λ rows. taking c.args.asked.0 c.args.query.now.columns.now c.args.to.now (item_at (ordered c.args.query.now.sorts.now rows) c.args.asked.1) c.args.context.now.env.now)
     (matching_all c.as_slice.result.now ∙ (c.as_slice.ensures.items ∙ c.in_ok-rows.ensures.found))

@@ -18,5 +18,5 @@ returns c =
     let at : to_z w64 (of_z w64 c.args.asked.1) ≡ c.args.asked.1 = search rules in
     let is =
     sym (option_map_id (option_copied c.in_ok-item.item))
-    ∙ (c.in_ok-item.ensures ∙ (ap (λ rows. item_at (ordered c.args.sorts.now rows) (to_z w64 (of_z w64 c.args.asked.1))) (all_rows c.args.rows.now) ∙ ap (item_at (ordered c.args.sorts.now (matching [] c.args.rows.now))) at)) in
-    subst (λ (o : Option Keyed). IfOk c.set_effect.result (λ e. e ≡ taking c.args.asked.0 c.args.columns.now c.args.to.now o c.args.env.now)) is (rw c.in_ok-sets.ensures at c.set_effect.ensures)
+    ∙ (c.in_ok-item.ensures ∙ (ap (λ rows. item_at (ordered c.args.query.now.sorts.now rows) (to_z w64 (of_z w64 c.args.asked.1))) (all_rows c.args.rows.now) ∙ ap (item_at (ordered c.args.query.now.sorts.now (matching [] c.args.rows.now))) at)) in
+    subst (λ (o : Option Keyed). IfOk c.set_effect.result (λ e. e ≡ taking c.args.asked.0 c.args.query.now.columns.now c.args.to.now o c.args.env.now)) is (rw c.in_ok-sets.ensures at c.set_effect.ensures)
