@@ -10,7 +10,7 @@ ghost use Rattle.mv_record.specs.Admitting.{Admitted};
 ghost use Rattle.mv_record.specs.Writes.{AreRising};
 ghost use Rattle.mv_undo.specs.Owning.{earlier, is_among, AreSought};
 ghost use Rattle.mv_view.specs.Viewing.{MayAnswer, answered, with_row_call};
-ghost use Rattle.mv_effect.specs.Looking.{different, Stands, IsSameView, PassesOn, OnlyAsks, AskedAtMost};
+ghost use Rattle.mv_effect.specs.Looking.{different, Stands, OnlyAsks, AskedAtMost};
 ghost use Rattle.mv_recorded.specs.Asking.{KnowsKey};
 
 use crate::context::Context;
@@ -148,9 +148,7 @@ pub(crate) fn first_visible<V: View>(
     requires stands { Stands context.now.tables.now (earlier context.now.number context.now.undo.now) (V.sight view.old).database }
     requires knows { KnowsKey context.now.tables.now pred.now }
     ensures found { IfOk result (λ row. row ≡ foremost direction (found_by pred.now (applied (earlier context.now.number context.now.undo.now) (V.sight view.old).database))) }
-    ensures refused { MayAnswer (V.sight view.old) (V.sight view.new) result }
-    ensures stale { PassesOn (V.sight view.old) (V.sight view.new) result }
-    ensures same { IsSameView (V.sight view.old) (V.sight view.new) }
+    ensures view { OnlyAsks (V.sight view.old) (V.sight view.new) result }
     ensures looks { AskedAtMost 1 (different (earlier context.now.number context.now.undo.now)) (V.sight view.old) (V.sight view.new) }
 {
     let keys = written_keys(alloc, pred, context.undo, context.number)?;
