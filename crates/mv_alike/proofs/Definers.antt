@@ -1,9 +1,11 @@
 -- What is read is the same in two runs where its definers have the same paths and are kept.
 use Rattle.std.proofs.Common.{◌≡◌, ◌⊎◌, inl, inr, ◌<◌, ◌≤◌, ℕ, zero, suc, ◌+◌, ◌==◌, Bool, true, false, List, [], ◌∷◌, ◌++◌, Option, Some, None, map, length, slice_index_or, if◌then◌else◌, refl, sym, ap, subst, ◌∙◌, arith}
-use Rattle.std.specs.Prelude.{◌&&◌, ◌||◌, ◌-◌, slice_get, nat_le}
+use Rattle.std.specs.Prelude.{◌||◌, ◌-◌, slice_get, nat_le}
 use Rattle.std.proofs.lemmas.Bool.Decides.{eqb_tells, nat_tests}
 use Rattle.std.specs.List.{filter, list_any}
 use Rattle.std.specs.Option.{option_or, option_map}
+use Rattle.std.proofs.lemmas.Bool.{and_parts}
+use Rattle.std.proofs.lemmas.List.{same_from_push}
 use Rattle.mv_alone.specs.declared.state.Env.{Env}
 use Rattle.mv_alone.specs.declared.state.Held.TheVariants.{Scalar, Turn}
 use Rattle.mv_alone.specs.declared.state.State.{State}
@@ -92,30 +94,6 @@ last_set x n (r ∷ rs) d h = by (λ d k. last_set x (n + 1) rs d k) (last_place
 
 -- Loops
 
-snoc : (xs ys : List ℕ) (a b : ℕ) → xs ++ a ∷ [] ≡ ys ++ b ∷ [] → (xs ≡ ys) × (a ≡ b)
-snoc [] [] a b h = let same : a ≡ b = cc in (refl, same)
-snoc [] (y ∷ ys) a b h = absurd (apart ys (tail h))
-  where
-    tail : {x y : ℕ} {xs ys : List ℕ} → x ∷ xs ≡ y ∷ ys → xs ≡ ys
-    tail e = cc
-
-    apart : (ys : List ℕ) → [] ≡ ys ++ b ∷ [] → ⊥
-    apart [] e = cc
-    apart (z ∷ zs) e = cc
-snoc (x ∷ xs) [] a b h = absurd (apart xs (tail h))
-  where
-    tail : {x y : ℕ} {xs ys : List ℕ} → x ∷ xs ≡ y ∷ ys → xs ≡ ys
-    tail e = cc
-
-    apart : (ys : List ℕ) → ys ++ a ∷ [] ≡ [] → ⊥
-    apart [] e = cc
-    apart (z ∷ zs) e = cc
-snoc (x ∷ xs) (y ∷ ys) a b h =
-    let first : x ≡ y = cc in
-    let rest : xs ++ a ∷ [] ≡ ys ++ b ∷ [] = cc in
-    let more = snoc xs ys a b rest in
-    (ap (λ z. z ∷ xs) first ∙ ap (λ l. y ∷ l) more.0, more.1)
-
 abbrev rows : List Loop → List ℕ
 rows loops = map (λ (l : Loop). l.row) loops
 
@@ -138,7 +116,7 @@ find_loop x before behind e f (l ∷ ls) [] turns h k same w = cc
 find_loop x before behind e f (l ∷ ls) (o ∷ os) turns h k same w =
     let row : l.row ≡ o.row = cc in
     let rest : rows ls ≡ rows os = cc in
-    let ends = snoc h.0 k.0 h.1 k.1 (sym h.2 ∙ k.2) in
+    let ends = same_from_push h.0 k.0 h.1 k.1 (sym h.2 ∙ k.2) in
     by (λ v. find_loop x before behind e f ls os h.0 h.5 (subst (LoopsHold behind f os) (sym ends.0) k.5) rest v) row ends.1 (l.row == x) refl w
   where
     by : (Within x (rows ls) → BothLoops x before behind e f ls os) → l.row ≡ o.row → h.1 ≡ k.1 → (b : Bool) → (l.row == x) ≡ b → (x ≡ l.row) ⊎ Within x (rows ls) → BothLoops x before behind e f (l ∷ ls) (o ∷ os)
@@ -284,10 +262,6 @@ held_same g new kept fo more ns site other rs st nst x below h k turns same (inr
     all_high (z ∷ zs) h x (inr w) = all_high zs h.1 x w
 
 -- What is read
-
-and_parts : (a b : Bool) → (a && b) ≡ true → (a ≡ true) × (b ≡ true)
-and_parts true b h = (refl, h)
-and_parts false b h = cc
 
 reads_at : (kept : List Path) (os ns : List Placed) (f g : ℕ → Option ℕ) (xs : List ℕ) → reads_stay kept os (map (λ x. record { slot = x; definer = f x }) xs) ns (map (λ x. record { slot = x; definer = g x }) xs) ≡ true
     → (x : ℕ) → Within x xs → Stay kept os ns (f x) (g x)

@@ -2,6 +2,7 @@
 use Rattle.std.proofs.Common.{◌≡◌, ◌<◌, ℕ, zero, suc, Bool, true, false, List, [], ◌∷◌, ◌++◌, Some, length, if◌then◌else◌, refl, sym, ap, subst, ◌∙◌, arith}
 use Rattle.std.specs.Prelude.{◌||◌, slice_get, slice_index_or, AllPairs}
 use Rattle.std.proofs.lemmas.Option.{same_Some}
+use Rattle.std.proofs.lemmas.Bool.{both_ways}
 use Rattle.mv_values.specs.declared.pred.Pred.{Pred}
 use Rattle.mv_values.specs.declared.patch.Write.{Write}
 use Rattle.mv_record.specs.declared.record.Record.{Record}
@@ -120,15 +121,12 @@ pub record Partner (u : Sides) (xs : List Placed) (b : Placed) : Type 0 where
   pub same : a.path ≡ b.path
   pub alike : AreAlike u.old u.new a.it b.it
 
-clash : (b : Bool) → b ≡ true → b ≡ false → ⊥
-clash b h k = cc
-
 pub partner : (u : Sides) (kept : List Path) (xs ys : List Placed) (e : ℕ) (b : Placed) → Aligned u kept xs ys → slice_get ys e ≡ Some b → among kept b.path ≡ true → Partner u xs b
 partner u kept _ _ e b ends is k = cc
 partner u kept _ _ zero b (stay a c xs ys s q r m) is k = let at : c ≡ b = cc in record { d = 0; a = a; there = refl; same = s ∙ ap (λ (z : Placed). z.path) at; alike = subst (λ (z : Placed). AreAlike u.old u.new a.it z.it) at r }
 partner u kept _ _ (suc e) b (stay a c xs ys s q r m) is k = let it : Partner u xs b = partner u kept xs ys e b m is k in record { d = suc it.d; a = it.a; there = it.there; same = it.same; alike = it.alike }
 partner u kept _ _ e b (gone a xs ys q m) is k = let it : Partner u xs b = partner u kept xs ys e b m is k in record { d = suc it.d; a = it.a; there = it.there; same = it.same; alike = it.alike }
-partner u kept _ _ zero b (come c xs ys q m) is k = let at : c ≡ b = cc in absurd (clash (among kept b.path) k (subst (λ (z : Placed). among kept z.path ≡ false) at q))
+partner u kept _ _ zero b (come c xs ys q m) is k = let at : c ≡ b = cc in absurd (both_ways (among kept b.path) (subst (λ (z : Placed). among kept z.path ≡ false) at q) k)
 partner u kept _ _ (suc e) b (come c xs ys q m) is k = partner u kept xs ys e b m is k
 
 pub get_more : (xs more : List Placed) (d : ℕ) (a : Placed) → slice_get xs d ≡ Some a → slice_get (xs ++ more) d ≡ Some a

@@ -1,7 +1,8 @@
 -- Records that are kept are the same in both runs.
 use Rattle.std.proofs.Common.{◌≡◌, ◌⊎◌, inl, inr, ◌<◌, ◌≤◌, ℕ, Bool, true, false, not, List, [], ◌∷◌, ◌++◌, Result, Ok, Err, map, refl, sym, ap, subst, ◌∙◌, arith}
-use Rattle.std.specs.Prelude.{◌&&◌, ◌||◌}
+use Rattle.std.specs.Prelude.{◌&&◌}
 use Rattle.std.specs.List.{flat_map, list_any}
+use Rattle.std.proofs.lemmas.Bool.{and_parts, or_parts, not-true}
 use Rattle.mv_values.specs.declared.value.Value.{Value}
 use Rattle.mv_values.specs.declared.pred.Pred.{Pred}
 use Rattle.mv_values.specs.declared.patch.Write.{Write}
@@ -88,18 +89,6 @@ places_preds tables (Rollback reason) st = tt
 
 -- What the rule says
 
-pub and_parts : (a b : Bool) → (a && b) ≡ true → (a ≡ true) × (b ≡ true)
-and_parts true b h = (refl, h)
-and_parts false b h = cc
-
-or_parts : (a b : Bool) → (a || b) ≡ false → (a ≡ false) × (b ≡ false)
-or_parts true b h = cc
-or_parts false b h = (refl, h)
-
-pub not_so : (b : Bool) → not b ≡ true → b ≡ false
-not_so true h = cc
-not_so false h = refl
-
 pub none_of : {A : Type 0} (f : A → Bool) (xs : List A) → list_any f xs ≡ false → Each (λ x. f x ≡ false) xs
 none_of f [] h = tt
 none_of f (x ∷ xs) h = let both = or_parts (f x) (list_any f xs) h in (both.0, none_of f xs both.1)
@@ -136,9 +125,9 @@ untouched before changes ws o h =
     let both = and_parts (not (list_any (hits before o) changes)) (not (list_any (touches o) ws)) h in
     both_each (λ p. Each (λ c. hits_by (writes_in before) c p ≡ false) changes) (λ p. NoTouch p ws) o.preds
     (swap (λ c p. hits_by (writes_in before) c p ≡ false) changes o.preds (each_map (λ c. hits before o c ≡ false) (λ c. Each (λ p. hits_by (writes_in before) c p ≡ false) o.preds) changes (λ c e. none_of (hits_predicate before c) o.preds e)
-    (none_of (hits before o) changes (not_so (list_any (hits before o) changes) both.0))))
+    (none_of (hits before o) changes (not-true (list_any (hits before o) changes) both.0))))
     (swap (λ w p. touches_predicate w p ≡ false) ws o.preds (each_map (λ w. touches o w ≡ false) (λ w. Each (λ p. touches_predicate w p ≡ false) o.preds) ws (λ w e. none_of (touches_predicate w) o.preds e)
-    (none_of (touches o) ws (not_so (list_any (touches o) ws) both.1))))
+    (none_of (touches o) ws (not-true (list_any (touches o) ws) both.1))))
 
 -- One record
 

@@ -6,6 +6,7 @@ use Rattle.std.proofs.lemmas.Cmp.{tied_itself}
 use Rattle.std.proofs.lemmas.List.{get_or-set_other, length-set}
 use Rattle.std.specs.List.{filter, list_any}
 use Rattle.std.specs.Ordering.{is_eq}
+use Rattle.std.proofs.lemmas.Bool.{and_parts, not-false}
 use Rattle.mv_values.specs.declared.value.Value.{Value}
 use Rattle.mv_values.specs.declared.value.Value.TheVariants.{Int}
 use Rattle.mv_values.specs.declared.pred.Pred.{Pred}
@@ -26,10 +27,6 @@ use Rattle.mv_history.specs.declared.change.Change.{Change}
 use Rattle.mv_history.specs.Changes.{is_of, Leads, is_same}
 use Rattle.mv_history.specs.Hits.{named_columns, is_alike, reaches, touches_predicate}
 use Rattle.mv_recorded.specs.Own.{Each}
-
-both_true : (a b : Bool) → (a && b) ≡ true → (a ≡ true) × (b ≡ true)
-both_true true b h = (refl, h)
-both_true false b h = cc
 
 -- One row
 
@@ -158,7 +155,7 @@ pub data Merged (p : Pred) : List Write → List Write → Type 0 where
 -- a write on an admitted key that doesn't touch doesn't reach
 unreached : (p : Pred) (key : List Value) (w : Write) → admits p key ≡ true → touches_predicate w p ≡ false → is_on p.table key w ≡ true → reaches p w.patch ≡ false
 unreached p key w adm t on =
-    let both = both_true (w.table == p.table) (is_eq (key_order w.key key)) on in
+    let both = and_parts (w.table == p.table) (is_eq (key_order w.key key)) on in
     let at : w.key ≡ key = tied w.key key both.1 in
     by (reaches p w.patch) (sym (ap (λ b. b && (admits p w.key && reaches p w.patch)) both.0 ∙ ap (λ b. b && reaches p w.patch) (ap (admits p) at ∙ adm)) ∙ t)
   where
@@ -219,15 +216,11 @@ abbrev pub hits_by : List Write → Change → Pred → Bool
 hits_by ws c p =
     (c.table == p.table) && (if wrote c.table c.key ws then admits p c.key && not (is_alike p c.before c.after) else not (is_same (sees p c.before) (sees p c.after)))
 
-not_true : (b : Bool) → not b ≡ false → b ≡ true
-not_true true h = refl
-not_true false h = cc
-
 -- of one change of the key
 unhit : (p : Pred) (key : List Value) (ws : List Write) (c : Change) → is_of p.table key c ≡ true → hits_by ws c p ≡ false
     → (if wrote p.table key ws then admits p key && not (is_alike p c.before c.after) else not (is_same (sees p c.before) (sees p c.after))) ≡ false
 unhit p key ws c of' h =
-    let both = both_true (c.table == p.table) (is_eq (key_order c.key key)) of' in
+    let both = and_parts (c.table == p.table) (is_eq (key_order c.key key)) of' in
     let table : c.table ≡ p.table = same_number c.table p.table both.0 in
     let at : c.key ≡ key = tied c.key key both.1 in
     subst (λ k. (if wrote p.table k ws then admits p k && not (is_alike p c.before c.after) else not (is_same (sees p c.before) (sees p c.after))) ≡ false) at
@@ -247,7 +240,7 @@ seen_through p key ws (c ∷ cs) a b w h l = by (λ a l. seen_through p key ws c
     by go false e l = go a l
     by go true e l =
         let no = unhit p key ws c e h.0 in
-        let same : sees p c.before ≡ sees p c.after = same_is (sees p c.before) (sees p c.after) (not_true (is_same (sees p c.before) (sees p c.after)) (sym (ap (λ b. if b then admits p key && not (is_alike p c.before c.after) else not (is_same (sees p c.before) (sees p c.after))) w) ∙ no)) in
+        let same : sees p c.before ≡ sees p c.after = same_is (sees p c.before) (sees p c.after) (not-false (is_same (sees p c.before) (sees p c.after)) (sym (ap (λ b. if b then admits p key && not (is_alike p c.before c.after) else not (is_same (sees p c.before) (sees p c.after))) w) ∙ no)) in
         ap (sees p) (sym l.0) ∙ (same ∙ go c.after l.1)
 
 cols_through : (p : Pred) (key : List Value) (ws : List Write) (cs : List Change) (a b : Option (List Value)) → wrote p.table key ws ≡ true → admits p key ≡ true → Each (λ c. hits_by ws c p ≡ false) cs
@@ -260,7 +253,7 @@ cols_through p key ws (c ∷ cs) a b w adm h l = by (λ a l. cols_through p key 
     by go false e l = go a l
     by go true e l =
         let no = unhit p key ws c e h.0 in
-        let same : ColsAlike p c.before c.after = alike_is p c.before c.after (not_true (is_alike p c.before c.after)
+        let same : ColsAlike p c.before c.after = alike_is p c.before c.after (not-false (is_alike p c.before c.after)
         (sym (ap (λ b. if b then admits p key && not (is_alike p c.before c.after) else not (is_same (sees p c.before) (sees p c.after))) w ∙ ap (λ b. b && not (is_alike p c.before c.after)) adm) ∙ no)) in
         cols_then p a c.after b (subst (λ r. ColsAlike p r c.after) l.0 same) (go c.after l.1)
 

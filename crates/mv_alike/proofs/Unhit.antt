@@ -5,6 +5,7 @@ use Rattle.std.specs.List.{list_any, flat_map}
 use Rattle.std.specs.Result.{result_err}
 use Rattle.std.proofs.lemmas.Grind.{flat_map-append}
 use Rattle.std.proofs.lemmas.Slice.Zip.{AllZip-long}
+use Rattle.std.proofs.lemmas.Bool.{and_parts, not-true}
 use Rattle.mv_catalog.specs.Text as text
 use Rattle.mv_values.specs.declared.value.Value.{Value}
 use Rattle.mv_values.specs.declared.pred.Pred.{Pred}
@@ -51,7 +52,7 @@ use Rattle.mv_history.specs.Hits.{hits, hits_predicate, is_unhit}
 use Rattle.mv_alike.specs.Laws.{AreRuns}
 use Rattle.mv_alike.proofs.Seeing.{Merged, done, both, hits_by}
 use Rattle.mv_alike.proofs.Finding.{Places, seen_alike}
-use Rattle.mv_alike.proofs.Lasting.{Lasting, and_parts, each_map, places_preds, none_of, not_so, swap}
+use Rattle.mv_alike.proofs.Lasting.{Lasting, each_map, places_preds, none_of, swap}
 
 -- the calls' ground
 pub record Pair : Type 0 where
@@ -187,7 +188,7 @@ own_locked g z n site rows before st nst pair suits twin h =
 
     free : Each (λ p. Each (λ c. hits_by (writes_in before) c p ≡ false) g.changes) own.preds
     free =
-        let none = not_so (list_any (hits before own) g.changes) (and_parts (not (list_any (hits before own) g.changes)) true h.unhit).0 in
+        let none = not-true (list_any (hits before own) g.changes) (and_parts (not (list_any (hits before own) g.changes)) true h.unhit).0 in
         swap (λ c p. hits_by (writes_in before) c p ≡ false) g.changes own.preds (each_map (λ c. hits before own c ≡ false) (λ c. Each (λ p. hits_by (writes_in before) c p ≡ false) own.preds) g.changes
         (λ c e. none_of (hits_predicate before c) own.preds e) (none_of (hits before own) g.changes none))
 

@@ -3,6 +3,7 @@ use Rattle.std.proofs.Common.{◌≡◌, ◌≤◌, ℕ, suc, ◌+◌, Bool, tru
 use Rattle.std.specs.Prelude.{◌||◌, slice_get}
 use Rattle.std.specs.Option.{option_map}
 use Rattle.std.proofs.lemmas.Cmp.{nat_list_cmp_total}
+use Rattle.std.proofs.lemmas.Bool.{and_parts}
 use Rattle.mv_alone.specs.TableAfter.{Tables}
 use Rattle.mv_record.specs.declared.record.Read.{Read}
 use Rattle.mv_record.specs.declared.record.Record.{Record}
@@ -20,7 +21,7 @@ use Rattle.mv_alike.specs.Laws.{AreAlike}
 use Rattle.mv_alike.proofs.Seeing.{Merged, hits_by}
 use Rattle.mv_alike.proofs.Placing.{its, its_all, own_at, is_at, at_paths, same_statement, path_is, apart, apart_back}
 use Rattle.mv_alike.proofs.Keeping.{Climbs, Sides, Aligned, stay, come, ends, aligned_join, all_gone, aligned_more, among_new, each_get, get_more, touch_parts, kept_same, merged_of, distinct, Partner, partner}
-use Rattle.mv_alike.proofs.Lasting.{Lasting, front_lasts, Untouched, untouched, and_parts, own_same, each_map}
+use Rattle.mv_alike.proofs.Lasting.{Lasting, front_lasts, Untouched, untouched, own_same, each_map}
 
 -- Lists
 

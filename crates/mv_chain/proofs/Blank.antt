@@ -1,5 +1,5 @@
 -- Versions without rows and patches.
-use Rattle.std.proofs.Common.{◌≡◌, ◌∷◌, ℕ, Bool, true, false, List, [], length, Option, Some, None, refl, ap, sym, arith}
+use Rattle.std.proofs.Common.{◌≡◌, ◌∷◌, ℕ, true, false, List, [], length, Option, Some, None, refl, ap, sym, arith}
 use Rattle.std.specs.Prelude.{◌==◌, ◌&&◌, not}
 use Rattle.std.specs.List.{position}
 use Rattle.std.specs.Option.{is_some}
@@ -8,7 +8,7 @@ use Rattle.mv_chain.specs.declared.undo.Undo.{Undo}
 use Rattle.mv_chain.specs.declared.pending.Pending.{Pending}
 use Rattle.mv_chain.specs.Versions.{Versions, Commit, blank, is_blank, own_of, newest_of, newest}
 use Rattle.mv_chain.specs.Holding.{is_plain}
-use Rattle.std.proofs.lemmas.Bool.{ne_eqb}
+use Rattle.std.proofs.lemmas.Bool.{ne_eqb, and_parts}
 use Rattle.mv_chain.specs.Undoing.{before, commits_of}
 use Rattle.mv_chain.proofs.Versions.{shown}
 use Rattle.mv_chain.proofs.Places.{absent, at_spot, none_there, there}
@@ -28,15 +28,10 @@ empty : {A : Type 0} (xs : List A) → (length xs == 0) ≡ true → xs ≡ []
 empty [] e = refl
 empty (x ∷ xs) e = let f : false ≡ true = rw (nonzero x xs) at e in cc
 
-both : (a b : Bool) → a && b ≡ true → (a ≡ true) × (b ≡ true)
-both true true e = (refl, refl)
-both true false e = cc
-both false b e = cc
-
 -- versions that are plain have one row, or none
 pub row_alone : (v : Versions) → is_plain v ≡ true → ◌≡◌ {A = Versions} (record { base = newest v; commits = []; own = [] }) v
 row_alone v h =
-    let e = both (length v.commits == 0) (length v.own == 0) h in
+    let e = and_parts (length v.commits == 0) (length v.own == 0) h in
     by v.base v.commits v.own (empty v.commits e.0) (empty v.own e.1)
   where
     by : (base : Option (List Value)) (commits : List Commit) (own : List Pending) → commits ≡ [] → own ≡ [] → ◌≡◌ {A = Versions} (record { base = newest_of base commits; commits = []; own = [] }) (record { base = base; commits = commits; own = own })

@@ -1,6 +1,6 @@
 -- Columns that are set and set back.
 use Rattle.std.proofs.Common.{◌≡◌, ◌∷◌, ◌++◌, ◌+◌, ◌<◌, ◌≤◌, ℕ, zero, suc, List, [], length, take, get_or, refl, ap, sym, ◌∙◌, arith, append_assoc, append-nil}
-use Rattle.std.specs.Prelude.{slice_set, slice_get, Some}
+use Rattle.std.specs.Prelude.{slice_set}
 use Rattle.std.proofs.lemmas.List.{take_more, take_more_set, take_all, take_at, get_or-set_other, length-set}
 use Rattle.mv_values.specs.declared.value.Value.{Value}
 use Rattle.mv_values.specs.declared.patch.Assign.{Assign}
@@ -98,11 +98,6 @@ all_added before more at left now h all = h.are ∙ ap (λ l. before ++ l) (take
 
 pub only_before : (before more : List Assign) (at : ℕ) (left now cut : List Assign) → IsAdded before more at left now → cut ≡ take (length before) now → cut ≡ before
 only_before before more at left now cut h is = is ∙ ap (take (length before)) h.are ∙ take_at before (take at more) (length before) refl
-
-pub get_is : (xs : List Assign) (at : ℕ) (x d : Assign) → slice_get xs at ≡ Some x → get_or xs at d ≡ x
-get_is [] at x d h = cc
-get_is (y ∷ ys) zero x d h = cc
-get_is (y ∷ ys) (suc at) x d h = get_is ys at x d h
 
 pub set_twice : (xs : List Assign) (at : ℕ) (x y : Assign) → slice_set (slice_set xs at x) at y ≡ slice_set xs at y
 set_twice [] at x y = refl

@@ -1,14 +1,14 @@
 -- Items without those whose column a later one sets.
-use Rattle.std.proofs.Common.{◌≡◌, ◌∷◌, ◌++◌, ◌+◌, ◌<◌, ◌≤◌, ◌==◌, ℕ, zero, suc, true, false, cond, inl, inr, List, [], length, take, drop, get_or, refl, ap, sym, subst, ◌∙◌, arith, append_assoc, append-nil, drop-cons}
+use Rattle.std.proofs.Common.{◌≡◌, ◌∷◌, ◌++◌, ◌+◌, ◌<◌, ◌≤◌, ◌==◌, ℕ, zero, suc, true, false, cond, inl, inr, List, [], length, take, drop, get_or, refl, ap, sym, subst, ◌∙◌, arith, append_assoc, append-nil}
 use Rattle.std.specs.Prelude.{slice_set, slice_get, Some}
-use Rattle.std.proofs.lemmas.Bool.{cases_Bool, eqb-true, eq-eqb}
-use Rattle.std.proofs.lemmas.List.{take_more_set, drop-set-lt, drop_all, length-set}
+use Rattle.std.proofs.lemmas.Bool.{cases_Bool, eqb-true, eq-eqb, false≢true}
+use Rattle.std.proofs.lemmas.List.{take_more_set, drop-set-lt, drop_all, length-set, drop_more}
+use Rattle.std.proofs.lemmas.Option.{get_or_from_slice_get}
 use Rattle.mv_values.specs.declared.value.Value.{Value}
 use Rattle.mv_values.specs.declared.patch.Assign.{Assign}
 use Rattle.mv_values.specs.Patching.{with_columns}
 use Rattle.mv_chain.specs.Versions.{is_set, compact}
 use Rattle.mv_chain.specs.Keeping.{HasKept, IsCompacted}
-use Rattle.mv_chain.proofs.Columns.{get_is}
 
 -- Meaning
 
@@ -24,11 +24,8 @@ set_apart (x ∷ xs) zero (suc d) v w h = refl
 set_apart (x ∷ xs) (suc c) zero v w h = refl
 set_apart (x ∷ xs) (suc c) (suc d) v w h = ap (λ l. x ∷ l) (set_apart xs c d v w (λ e. h (ap suc e)))
 
-no_truth : false ≡ true → ⊥
-no_truth e = cc
-
 overwritten : (c : ℕ) (v : Value) (items : List Assign) (row : List Value) → is_set c items ≡ true → with_columns items (slice_set row c v) ≡ with_columns items row
-overwritten c v [] row h = absurd (no_truth h)
+overwritten c v [] row h = absurd (false≢true h)
 overwritten c v (b ∷ bs) row h = elim (cases_Bool (b.column == c)) [
   | inl t ↦
       let same : b.column ≡ c = eqb-true b.column c t in
@@ -39,7 +36,7 @@ overwritten c v (b ∷ bs) row h = elim (cases_Bool (b.column == c)) [
 ]
   where
     differ : (a b : ℕ) → a ≡ b → (a == b) ≡ false → ⊥
-    differ a b e f = no_truth (sym f ∙ eq-eqb a b e)
+    differ a b e f = false≢true (sym f ∙ eq-eqb a b e)
 
 pub compact_is : (items : List Assign) (row : List Value) → with_columns (compact items) row ≡ with_columns items row
 compact_is [] row = refl
@@ -63,7 +60,7 @@ has_kept to at d item hole old mid new order within is first second = record {
       ap (take (to + 1)) second
       ∙ (take_more_set mid to item (omega (arith, order, within, ap length first ∙ length-set old at hole))
       ∙ (ap (λ l. take to l ++ item ∷ []) first
-      ∙ (ap (λ l. l ++ item ∷ []) (take_before old to at hole order) ∙ ap (λ x. take to old ++ x ∷ []) (sym (get_is old at item d is)))));
+      ∙ (ap (λ l. l ++ item ∷ []) (take_before old to at hole order) ∙ ap (λ x. take to old ++ x ∷ []) (sym (get_or_from_slice_get old at item d is)))));
   rest =
       ap (drop (at + 1)) second
       ∙ (drop-set-lt (at + 1) mid to item (omega (arith, order)) ∙ (ap (drop (at + 1)) first ∙ drop-set-lt (at + 1) old at hole (omega arith)));
@@ -74,9 +71,6 @@ has_kept to at d item hole old mid new order within is first second = record {
 pub none_compacted : (old : List Assign) → IsCompacted old 0 0 old
 none_compacted old = record { many = refl; few = omega arith; are = refl; rest = refl }
 
-drop_at : (xs : List Assign) (at : ℕ) (d : Assign) → at < length xs → drop at xs ≡ get_or xs at d ∷ drop (at + 1) xs
-drop_at xs at d lt = let next : suc at ≡ at + 1 = omega arith in drop-cons xs at d lt ∙ ap (λ n. get_or xs at d ∷ drop n xs) next
-
 same_parts : (a b : Assign) (xs ys : List Assign) → a ∷ xs ≡ b ∷ ys → (a ≡ b) × (xs ≡ ys)
 same_parts a b xs ys e = (cc, cc)
 
@@ -84,7 +78,7 @@ same_parts a b xs ys e = (cc, cc)
 at_place : (old : List Assign) (kept at : ℕ) (now : List Assign) (d : Assign) → IsCompacted old kept at now → at < length old → (get_or now at d ≡ get_or old at d) × (drop (at + 1) now ≡ drop (at + 1) old)
 at_place old kept at now d h lt =
     same_parts (get_or now at d) (get_or old at d) (drop (at + 1) now) (drop (at + 1) old)
-    (sym (drop_at now at d (omega (arith, lt, h.many))) ∙ (h.rest ∙ drop_at old at d lt))
+    (sym (drop_more now at d (omega (arith, lt, h.many))) ∙ (h.rest ∙ drop_more old at d lt))
 
 pub one_dropped : (old : List Assign) (kept at : ℕ) (now : List Assign) (d : Assign) → IsCompacted old kept at now → at < length old → is_set (get_or now at d).column (drop (at + 1) now) ≡ true → IsCompacted old kept (at + 1) now
 one_dropped old kept at now d h lt set =
@@ -93,7 +87,7 @@ one_dropped old kept at now d h lt set =
     record {
       many = h.many;
       few = omega (arith, h.few);
-      are = ap (λ l. take kept now ++ l) (sym (ap compact (drop_at old at d lt) ∙ ap (λ b. cond b (compact (drop (at + 1) old)) (get_or old at d ∷ compact (drop (at + 1) old))) later)) ∙ h.are;
+      are = ap (λ l. take kept now ++ l) (sym (ap compact (drop_more old at d lt) ∙ ap (λ b. cond b (compact (drop (at + 1) old)) (get_or old at d ∷ compact (drop (at + 1) old))) later)) ∙ h.are;
       rest = same.1;
     }
 
@@ -107,7 +101,7 @@ one_kept old kept at now new d h lt set move =
       are =
           ap (λ l. l ++ compact (drop (at + 1) old)) (move.taken ∙ ap (λ a. take kept now ++ a ∷ []) same.0)
           ∙ (append_assoc (take kept now) (get_or old at d ∷ []) (compact (drop (at + 1) old))
-          ∙ (ap (λ l. take kept now ++ l) (sym (ap compact (drop_at old at d lt) ∙ ap (λ b. cond b (compact (drop (at + 1) old)) (get_or old at d ∷ compact (drop (at + 1) old))) later)) ∙ h.are));
+          ∙ (ap (λ l. take kept now ++ l) (sym (ap compact (drop_more old at d lt) ∙ ap (λ b. cond b (compact (drop (at + 1) old)) (get_or old at d ∷ compact (drop (at + 1) old))) later)) ∙ h.are));
       rest = move.rest ∙ same.1;
     }
 

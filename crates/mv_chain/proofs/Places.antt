@@ -1,9 +1,10 @@
 -- The patches of calls, by place.
-use Rattle.std.proofs.Common.{◌≡◌, ◌∷◌, ◌++◌, ◌+◌, ◌<◌, ◌≤◌, ℕ, suc, Bool, true, false, inl, inr, List, [], length, get_or, Some, None, refl, ap, sym, ◌∙◌, arith, rules, Result, Ok, Err}
-use Rattle.std.specs.Prelude.{if◌then◌else◌, ◌==◌, slice_set, nat_lt, OnOk}
+use Rattle.std.proofs.Common.{◌≡◌, ◌∷◌, ◌++◌, ◌+◌, ◌<◌, ◌≤◌, ℕ, suc, Bool, true, false, inl, inr, List, [], length, get_or, Some, None, refl, ap, sym, ◌∙◌, arith, rules}
+use Rattle.std.specs.Prelude.{if◌then◌else◌, ◌==◌, slice_set, nat_lt}
 use Rattle.std.specs.List.{position, position_or_len}
 use Rattle.std.proofs.lemmas.Bool.{cases_Bool}
 use Rattle.std.proofs.lemmas.List.Recursion.{is_position_or_len}
+use Rattle.std.proofs.lemmas.Option.{cond_some}
 use Rattle.mv_values.specs.declared.patch.Patch.{Patch}
 use Rattle.mv_chain.specs.declared.pending.Pending.{Pending}
 use Rattle.mv_chain.specs.Versions.{own_of, without, joined, with_own}
@@ -17,10 +18,6 @@ spot call (p ∷ ps) = if p.call == call then 0 else 1 + spot call ps
 
 spot_is : (call : ℕ) (ps : List Pending) → spot call ps ≡ position_or_len (Is call) ps
 spot_is call ps = is_position_or_len (spot call) (Is call) refl (λ p ps. refl) ps
-
-where_is : (b : Bool) (n m : ℕ) → (if b then Some n else None) ≡ Some m → (b ≡ true) × (n ≡ m)
-where_is true n m h = (refl, cc)
-where_is false n m h = cc
 
 where_not : (b : Bool) (n : ℕ) → (if b then Some n else None) ≡ None → b ≡ false
 where_not true n h = cc
@@ -44,7 +41,7 @@ absent call ps h =
 pub at_spot : (call at : ℕ) (ps : List Pending) → position (Is call) ps ≡ Some at → IsSpot call ps at
 unfolding IsSpot
 at_spot call at ps h =
-    let w = where_is (nat_lt (position_or_len (Is call) ps) (length ps)) (position_or_len (Is call) ps) at h in
+    let w = cond_some (nat_lt (position_or_len (Is call) ps) (length ps)) (position_or_len (Is call) ps) at h in
     let within : position_or_len (Is call) ps < length ps = search (rules, w.0) in
     (omega (arith, w.1, spot_is call ps), omega (arith, within, w.1))
 
@@ -131,7 +128,3 @@ out_of call q ps at r h is = ap (λ p. without call (slice_set ps at (record p {
 
 pub own_is : (call : ℕ) (ps : List Pending) (at : ℕ) (r : Pending) → IsSpot call ps at → r ≡ get_or ps at r → own_of call ps ≡ Some r.patch
 own_is call ps at r h is = there call ps at r h ∙ ap (λ p. Some p.patch) (sym is)
-
-pub on_ok : {T E : Type 0} (r : Result T E) (P Q : Type 0) → (P → Q) → OnOk r P → OnOk r Q
-on_ok (Ok x) P Q f h = f h
-on_ok (Err e) P Q f h = h

@@ -12,6 +12,7 @@ use Rattle.std.proofs.Math.Seq.{get_or-append_seam}
 use Rattle.std.proofs.lemmas.Bool.Decides.{eqb_tells, nat_tests}
 use Rattle.std.proofs.lemmas.List.Elements.{filter-append, All-from_recursion, recursion_from_All, All-nil}
 use Rattle.std.proofs.lemmas.List.Folds.{list_any-append}
+use Rattle.std.proofs.lemmas.Bool.{and_parts, eqb-true, ltb-true, lt-ltb}
 use Rattle.mv_values.specs.declared.value.Value.{Value}
 use Rattle.mv_values.specs.declared.value.Value.TheVariants.{Int}
 use Rattle.mv_values.specs.declared.rows.Keyed.{Keyed}
@@ -52,17 +53,10 @@ full_table w t key h = let first : ◌≡◌ {A = Value} (Int (pos w.table)) (In
 full_key : (w : Write) (t : ℕ) (key : List Value) → full w ≡ Int (pos t) ∷ key → w.key ≡ key
 full_key w t key h = cc
 
-both_so : (a b : Bool) → a && b ≡ true → (a ≡ true) × (b ≡ true)
-both_so true b h = (refl, h)
-both_so false b h = cc
-
-one_number : (a b : ℕ) → (a == b) ≡ true → a ≡ b
-one_number a b h = grind (arith, eqb_tells)
-
 on_full : (w : Write) (t : ℕ) (key : List Value) → is_on t key w ≡ true → full w ≡ Int (pos t) ∷ key
 on_full w t key h =
-    let two = both_so (w.table == t) (is_eq (key_order w.key key)) h in
-    ap (λ n. Int (pos n) ∷ w.key) (one_number w.table t two.0) ∙ ap (λ k. Int (pos t) ∷ k) (tied w.key key two.1)
+    let two = and_parts (w.table == t) (is_eq (key_order w.key key)) h in
+    ap (λ n. Int (pos n) ∷ w.key) (eqb-true w.table t two.0) ∙ ap (λ k. Int (pos t) ∷ k) (tied w.key key two.1)
 
 on_itself : (w : Write) → is_on w.table w.key w ≡ true
 on_itself w = let same : (w.table == w.table) ≡ true = grind (arith, eqb_tells) in ap (λ b. b && is_eq (key_order w.key w.key)) same ∙ ap is_eq (same_key w.key)
@@ -117,12 +111,6 @@ row_more ws w db t key b lt rising h =
     ∙ (row_applied (w ∷ []) (applied ws db) t key (omega (arith, lt, length_applied ws db)) (rising_applied ws db rising)
     ∙ one_on t key w b h (row_of (rows_at (applied ws db) t) key))
 
-less_than : (t n : ℕ) → nat_lt t n ≡ true → t < n
-less_than t n h = grind (arith, nat_tests)
-
-is_less : (t n : ℕ) → t < n → nat_lt t n ≡ true
-is_less t n h = grind (arith, nat_tests)
-
 -- The entries under way
 
 abbrev HasPlace : Entry → Type 0
@@ -167,7 +155,7 @@ change_now : (ws : List Write) (w : Write) (db : Tables) (was : Option Change) �
     → changed_by w was (row_of (rows_at db w.table) w.key)
     ≡ record { table = w.table; key = w.key; before = row_of (rows_at db w.table) w.key; after = row_of (rows_at (applied (ws ++ w ∷ []) db) w.table) w.key }
 change_now ws w db was lt rising is =
-    by (touches w.table w.key ws) refl (is ∙ ap (λ b. drafted (b && touches w.table w.key ws) w.table w.key db (applied ws db)) (is_less w.table (length db) lt))
+    by (touches w.table w.key ws) refl (is ∙ ap (λ b. drafted (b && touches w.table w.key ws) w.table w.key db (applied ws db)) (lt-ltb w.table (length db) lt))
   where
     after_is : patched w.patch (row_of (rows_at (applied ws db) w.table) w.key) ≡ row_of (rows_at (applied (ws ++ w ∷ []) db) w.table) w.key
     after_is = sym (row_more ws w db w.table w.key true lt rising (on_itself w))
@@ -192,7 +180,7 @@ other_now ws w db t key rising h =
     by true e = at (touches t key ws)
       where
         at : (x : Bool) → drafted x t key db (applied ws db) ≡ drafted x t key db (applied (ws ++ w ∷ []) db)
-        at true = ap (λ r. Some (record { table = t; key = key; before = row_of (rows_at db t) key; after = r })) (sym (row_more ws w db t key false (less_than t (length db) e) rising h))
+        at true = ap (λ r. Some (record { table = t; key = key; before = row_of (rows_at db t) key; after = r })) (sym (row_more ws w db t key false (ltb-true t (length db) e) rising h))
         at false = refl
     by false e = refl
 
@@ -215,7 +203,7 @@ draft_more es mid new ws w db was c lt rising draft had taken without put with' 
       where
         here : drafted (nat_lt w.table (length db) && touches w.table w.key (ws ++ w ∷ [])) w.table w.key db (applied (ws ++ w ∷ []) db) ≡ Some c
         here =
-            ap (λ b. drafted (b && touches w.table w.key (ws ++ w ∷ [])) w.table w.key db (applied (ws ++ w ∷ []) db)) (is_less w.table (length db) lt)
+            ap (λ b. drafted (b && touches w.table w.key (ws ++ w ∷ [])) w.table w.key db (applied (ws ++ w ∷ []) db)) (lt-ltb w.table (length db) lt)
             ∙ (ap (λ b. drafted b w.table w.key db (applied (ws ++ w ∷ []) db)) (touches_more ws w w.table w.key true (on_itself w) ∙ or_yes (touches w.table w.key ws)) ∙ ap Some (sym this))
           where
             or_yes : (b : Bool) → (b || true) ≡ true
@@ -239,8 +227,8 @@ draft_skips es ws w db far rising draft = record { places = draft.places; each =
         → drafted (nat_lt t (length db) && touches t key ws) t key db (applied ws db) ≡ drafted (nat_lt t (length db) && touches t key (ws ++ w ∷ [])) t key db (applied (ws ++ w ∷ []) db)
     by t key b e false h = other_now ws w db t key rising h
     by t key true e true h =
-        let same : w.table ≡ t = one_number w.table t (both_so (w.table == t) (is_eq (key_order w.key key)) h).0 in
-        let lt : t < length db = less_than t (length db) e in
+        let same : w.table ≡ t = eqb-true w.table t (and_parts (w.table == t) (is_eq (key_order w.key key)) h).0 in
+        let lt : t < length db = ltb-true t (length db) e in
         absurd (omega (arith, far, same, lt))
     by t key false e true h =
         ap (λ x. drafted (x && touches t key ws) t key db (applied ws db)) e ∙ sym (ap (λ x. drafted (x && touches t key (ws ++ w ∷ [])) t key db (applied (ws ++ w ∷ []) db)) e)
@@ -360,7 +348,7 @@ lists_draft es ws db rise rising draft = record {
     by : (t : ℕ) (key : List Value) (b : Bool) → nat_lt t (length db) ≡ b → (w : Bool) → touches t key ws ≡ w
         → of_item (drafted (nat_lt t (length db) && touches t key ws) t key db (applied ws db)) ≡ change_of t key (row_of (rows_at db t) key) (row_of (rows_at (applied ws db) t) key)
     by t key true e true f = rw (e, f) refl
-    by t key true e false f = rw (e, f) (same_change t key (row_of (rows_at db t) key) (row_of (rows_at (applied ws db) t) key) (sym (unwritten ws db t key (less_than t (length db) e) rising f)))
+    by t key true e false f = rw (e, f) (same_change t key (row_of (rows_at db t) key) (row_of (rows_at (applied ws db) t) key) (sym (unwritten ws db t key (ltb-true t (length db) e) rising f)))
     by t key false e w f =
         let far : length db ≤ t = grind (arith, nat_tests) in
         rw e (same_change t key (row_of (rows_at db t) key) (row_of (rows_at (applied ws db) t) key)

@@ -3,6 +3,7 @@ use Rattle.std.proofs.Common.{◌≡◌, ℕ, ◌+◌, ◌<◌, ◌≤◌, Bool,
 use Rattle.std.specs.Prelude.{slice_get, ◌==◌, ◌≢◌, Ok, Err, not, IfSome, IsErrAnd, nat_le, nat_lt, nat_eq}
 use Rattle.std.specs.Option.{is_some}
 use Rattle.std.proofs.lemmas.Bool.Decides.{eqb_tells}
+use Rattle.std.proofs.lemmas.Bool.{and_parts, eqb-true, le-ltb}
 use Rattle.mv_values.specs.declared.calls.Call.{Call}
 use Rattle.mv_values.specs.declared.memory.NoMemory.{NoMemory}
 use Rattle.mv_record.specs.declared.record.Record.{Record}
@@ -38,8 +39,8 @@ use Rattle.mv_core.specs.Cores.{IsAllowedIfFresh, IsHitAt, IsStaleAt, IsLiveTask
 use Rattle.mv_core.proofs.Numbers.{repair_stays}
 use Rattle.mv_core.proofs.Journals.{changed_at, set_there}
 use Rattle.mv_core.proofs.Keeping.{restart_after}
-use Rattle.mv_core.proofs.Stored.{stored_same, at_least}
-use Rattle.mv_core.proofs.Taking.{both_true, tasks_same, number_again, one_live}
+use Rattle.mv_core.proofs.Stored.{stored_same}
+use Rattle.mv_core.proofs.Taking.{tasks_same, number_again, one_live}
 use Rattle.mv_core.proofs.Refusing.{Repairs, repairs_again, repairs_last, step_is, same_made, refused_stale, fresh_allowed, told_idle, told_stale, told_hit}
 use Rattle.mv_store.specs.Stored.{Versioned}
 
@@ -115,11 +116,8 @@ room_less b c n m le h = (let a = h.0 in omega (arith, a, le), λ (f : Filled Ro
 
 -- A statement
 
-same_number : (a b : ℕ) → (a == b) ≡ true → a ≡ b
-same_number a b h = grind (arith, eqb_tells, h)
-
 pub step_used : (w : Work) (s : Course) (c : ℕ) (l : Live) → has_step w s c l ≡ true → used l ≡ 0
-step_used w s c l h = same_number (used l) 0 (both_true (used l == 0) (nat_lt l.steps (length (records_at w s.order l.start c))) h).0
+step_used w s c l h = eqb-true (used l) 0 (and_parts (used l == 0) (nat_lt l.steps (length (records_at w s.order l.start c))) h).0
 
 pub live_stepped : (c : ℕ) (old new : Booked) (l : Live) → IsLive old.course c l → Made (S c) old new → IsLive new.course c (record l { steps = l.steps + 1 })
 live_stepped c old new l live made = record {
@@ -187,7 +185,7 @@ made_now e b now mid new is same m = subst (λ (x : Booked). Made e x new) is (m
 
 -- a start that isn't below low
 pub fresh_now : (b : Booked) (store : Versioned) (c start low : ℕ) → IsStoreOf b store → ((l : Live) → IsLive b.course c l → start ≡ l.start) → low ≡ store.low → (start < low → ⊥) → IsNotStale b c
-fresh_now b store c start low k at low_at fresh l live = at_least l.start b.course.low (let a = at l live in let d = k.low_is in omega (arith, a, d, low_at, fresh))
+fresh_now b store c start low k at low_at fresh l live = le-ltb l.start b.course.low (let a = at l live in let d = k.low_is in omega (arith, a, d, low_at, fresh))
 
 -- what is told after a statement
 pub step_told : (b new : Booked) (store : Versioned) (c : ℕ) (l : Live) (t : Running) (steps : ℕ) (more : Bool) → IsStoreOf b store → c < length b.script.calls → IsLive b.course c l → Made (S c) b new

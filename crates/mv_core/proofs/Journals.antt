@@ -4,6 +4,8 @@ use Rattle.std.specs.Prelude.{◌==◌, ◌&&◌, nat_lt, slice_get}
 use Rattle.std.specs.List.{position, position_or_len}
 use Rattle.std.specs.Option.{option_map}
 use Rattle.std.proofs.lemmas.Bool.Decides.{eqb_tells}
+use Rattle.std.proofs.lemmas.Bool.{eqb-true, eq-eqb}
+use Rattle.std.proofs.lemmas.List.{length-set}
 use Rattle.mv_journal.specs.declared.event.Event.{Event}
 use Rattle.mv_journal.specs.declared.event.Event.TheVariants.{B, S, A, M, C, X, G}
 use Rattle.mv_journal.specs.declared.outcome.Mark.{Mark}
@@ -53,11 +55,6 @@ set_apart (y ∷ xs) zero zero m ne = absurd (ne refl)
 set_apart (y ∷ xs) zero (suc d) m ne = refl
 set_apart (y ∷ xs) (suc c) zero m ne = refl
 set_apart (y ∷ xs) (suc c) (suc d) m ne = set_apart xs c d m (λ e. ne (ap suc e))
-
-pub same_long : {A : Type 0} (xs : List A) (c : ℕ) (m : A) → length (slice_set xs c m) ≡ length xs
-same_long [] c m = refl
-same_long (y ∷ xs) zero m = refl
-same_long (y ∷ xs) (suc c) m = ap suc (same_long xs c m)
 
 -- Events of a live call
 
@@ -161,7 +158,7 @@ call_again n e m mark l le h = record {
 -- one live call changes and stays live
 changed : (w : Work) (e : ℕ) (s : Course) (c : ℕ) (l m : Live) → Facts w e s → IsLive s c l → m.done ≡ false → CallFacts (length s.order) (e + 1) m → Facts w (e + 1) (record s { calls = slice_set s.calls c m })
 changed w e s c l m k live still fresh = record {
-  count = let n = same_long s.calls c m in let h = k.count in omega (arith, n, h);
+  count = let n = length-set s.calls c m in let h = k.count in omega (arith, n, h);
   done = done_kept s.calls c l m live.at (still ∙ sym live.live) ∙ k.done;
   each = λ d x at. by d x (get_set s.calls c d m x at);
   back = λ i d at. back i d (k.back i d at);
@@ -183,7 +180,7 @@ changed w e s c l m k live still fresh = record {
 committed : (w : Work) (e : ℕ) (s : Course) (c : ℕ) (l m : Live) → Facts w e s → IsLive s c l → m.done ≡ true → CallFacts (length s.order) (e + 1) m
     → Facts w (e + 1) (record s { order = s.order ++ c ∷ []; calls = slice_set s.calls c m })
 committed w e s c l m k live ended fresh = record {
-  count = let n = same_long s.calls c m in let h = k.count in omega (arith, n, h);
+  count = let n = length-set s.calls c m in let h = k.count in omega (arith, n, h);
   done = done_more s.calls c l m live.at live.live ended ∙ (ap suc k.done ∙ one_more);
   each = λ d x at. by d x (get_set s.calls c d m x at);
   back = λ i d at. back i d (get_last s.order c i d at);
@@ -333,20 +330,14 @@ live_apart w e s c l f live k at =
     let both : true ≡ false = sym h.2 ∙ (ap (λ (x : Live). x.done) one ∙ live.live) in
     search (rules, both)
 
-same_number : (a b : ℕ) → (a == b) ≡ true → a ≡ b
-same_number a b h = grind (arith, eqb_tells, h)
-
-number_itself : (a : ℕ) → (a == a) ≡ true
-number_itself a = grind (arith, eqb_tells)
-
 abbrev place : List ℕ → ℕ → ℕ
 place cs c = position_or_len (λ d. d == c) cs
 
 last_place : (cs : List ℕ) (c : ℕ) → ((k : ℕ) → slice_get cs k ≡ Some c → ⊥) → place (cs ++ c ∷ []) c ≡ length cs
-last_place [] c none = ap (λ b. cond (not b) 1 0) (number_itself c)
+last_place [] c none = ap (λ b. cond (not b) 1 0) (eq-eqb c c refl)
 last_place (x ∷ cs) c none = by (x == c) refl (last_place cs c (λ k at. none (suc k) at)) where
   by : (b : Bool) → (x == c) ≡ b → place (cs ++ c ∷ []) c ≡ length cs → cond (not b) (1 + place (cs ++ c ∷ []) c) 0 ≡ suc (length cs)
-  by true e h = absurd (none 0 (ap Some (same_number x c e)))
+  by true e h = absurd (none 0 (ap Some (eqb-true x c e)))
   by false e h = omega (arith, h)
 
 same_place : (cs : List ℕ) (c d : ℕ) → place cs c < length cs → place (cs ++ d ∷ []) c ≡ place cs c

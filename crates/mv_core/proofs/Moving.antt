@@ -1,6 +1,7 @@
 -- A call that moved.
 use Rattle.std.proofs.Common.{◌≡◌, ℕ, List, [], ◌∷◌, ◌++◌, Some, None, length, refl, sym, ap, ◌∙◌, arith, rules}
 use Rattle.std.specs.Prelude.{◌≢◌, slice_get}
+use Rattle.std.proofs.lemmas.Bool.{le-ltb}
 use Rattle.mv_journal.specs.declared.event.Event.TheVariants.{M, C}
 use Rattle.mv_journal.specs.declared.outcome.Mark.TheVariants.{Exclusive, Moved}
 use Rattle.mv_lawful.specs.Work.{Work, records_at, hit_of}
@@ -12,7 +13,6 @@ use Rattle.mv_core.specs.Calls.{IsLive, closed, last_number}
 use Rattle.mv_core.specs.Books.{Booked, work_in, Made, due_after}
 use Rattle.mv_core.specs.Cores.{IsStoreOf}
 use Rattle.mv_core.proofs.Numbers.{last_start, last_of_end, rounds_more}
-use Rattle.mv_core.proofs.Stored.{at_least}
 use Rattle.mv_core.proofs.Refusing.{may_commit}
 use Rattle.mv_core.proofs.Turning.{none_hit}
 use Rattle.mv_core.proofs.Journals.{changed_at, set_there}
@@ -47,5 +47,5 @@ moved_free old new store c l k live made =
     let n : ℕ = length old.course.order in
     let order : n ≡ length new.course.order = sym (ap (λ (s : Course). length s.order) made.course) in
     may_commit (work_in new) new.course c (again n Moved l) (live_moved c old new l live made)
-    (at_least n new.course.low (let low = ap (λ (s : Course). s.low) made.course in let below = k.below in omega (arith, low, below)))
+    (le-ltb n new.course.low (let low = ap (λ (s : Course). s.low) made.course in let below = k.below in omega (arith, low, below)))
     (ap (λ m. hit_of (work_in new) new.course.order m c) order ∙ none_hit (work_in new) new.course.order c)

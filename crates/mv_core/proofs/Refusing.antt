@@ -5,6 +5,7 @@ use Rattle.std.specs.Option.{is_some}
 use Rattle.std.proofs.lemmas.Bool.Decides.{eqb_tells}
 use Rattle.std.proofs.lemmas.List.{drop_more, length-map}
 use Rattle.std.proofs.lemmas.Option.{slice_get-get_or, slice_get_within}
+use Rattle.std.proofs.lemmas.Bool.{lt-ltb}
 use Rattle.mv_record.specs.declared.record.Record.{Record}
 use Rattle.mv_record.specs.Runs.{Tables, Run}
 use Rattle.mv_record.specs.Writes.{AreRising}
@@ -162,11 +163,8 @@ used_rounds b c n l rs h live turns =
 
 -- The first call that hasn't committed
 
-less_is : (n m : ℕ) → n < m → nat_lt n m ≡ true
-less_is n m lt = grind (arith, lt)
-
 first_at : (w : Work) (s : Course) (k : ℕ) → first_open 0 s.calls ≡ k → k < w.count → Some k ≡ open_call w s
-first_at w s k is lt = sym (ap (λ n. if nat_lt n w.count then Some n else None) is ∙ ap (λ b. if b then Some k else None) (less_is k w.count lt))
+first_at w s k is lt = sym (ap (λ n. if nat_lt n w.count then Some n else None) is ∙ ap (λ b. if b then Some k else None) (lt-ltb k w.count lt))
 
 -- the first open call from here on, if there is a call here
 open_by : (ls : List Live) (k : ℕ) → k < length ls → first_open k (drop k ls) ≡ (if (get_or ls k (begin 0)).done then first_open (k + 1) (drop (k + 1) ls) else k)

@@ -3,6 +3,7 @@ use Rattle.std.proofs.Common.{◌≡◌, ◌⊎◌, inl, inr, ℕ, zero, suc, �
 use Rattle.std.specs.Prelude.{slice_get, nat_lt}
 use Rattle.std.specs.List.{flat_map}
 use Rattle.std.proofs.lemmas.List.{take_all, length-drop}
+use Rattle.std.proofs.lemmas.Bool.{le-ltb, ltb-false, cases_eq}
 use Rattle.mv_values.specs.declared.calls.Call.{Call}
 use Rattle.mv_values.specs.declared.schema.TableInfo.{TableInfo}
 use Rattle.mv_values.specs.Patching.{applied}
@@ -207,15 +208,6 @@ stored_same old new store k same = stored_on old new store k same.script (ap (λ
 pub stored_made : (e : Event) (old new : Booked) (store : Versioned) → IsStoreOf old store → Made e old new → (after (work_in old) old.course e).order ≡ old.course.order → (after (work_in old) old.course e).low ≡ old.course.low → IsStoreOf new store
 stored_made e old new store k made order low = stored_on old new store k made.script (ap (λ (s : Course). s.order) made.course ∙ order) (ap (λ (s : Course). s.low) made.course ∙ low)
 
-pub same_or_apart : (a b : ℕ) → (a ≡ b) ⊎ (a ≡ b → ⊥)
-same_or_apart zero zero = inl refl
-same_or_apart zero (suc b) = inr (λ e. omega (arith, e))
-same_or_apart (suc a) zero = inr (λ e. omega (arith, e))
-same_or_apart (suc a) (suc b) = more (same_or_apart a b) where
-  more : (a ≡ b) ⊎ (a ≡ b → ⊥) → (suc a ≡ suc b) ⊎ (suc a ≡ suc b → ⊥)
-  more (inl h) = inl (ap suc h)
-  more (inr h) = inr (λ e. h (omega (arith, e)))
-
 -- the writes of a call were dropped
 pub stored_dropped : (b : Booked) (store new : Versioned) (c : ℕ) → IsStoreOf b store → HasDropped c store new → IsStoreOf b new
 stored_dropped b store new c k drops = record {
@@ -224,7 +216,7 @@ stored_dropped b store new c k drops = record {
   low_is = drops.reads.low ∙ k.low_is;
   below = k.below;
   reads = λ n from le. drops.reads.database n ∙ k.reads n from le;
-  own = λ call. by call (same_or_apart c call);
+  own = λ call. by call (cases_eq c call);
 } where
   by : (call : ℕ) → (c ≡ call) ⊎ (c ≡ call → ⊥) → own_writes new call ≡ []
   by call (inl e) = subst (λ d. own_writes new d ≡ []) e drops.own
@@ -248,7 +240,7 @@ stored_stamped s order low c n rs store mid new k lt is like put stamp full = re
   low_is = stamp.low ∙ (put.reads.low ∙ k.low_is);
   below = let len = longer in let b = k.below in omega (arith, len, b);
   reads = reads;
-  own = λ call. by call (same_or_apart c call);
+  own = λ call. by call (cases_eq c call);
 } where
   longer : length (order ++ c ∷ []) ≡ length order + 1
   longer = length-append order (c ∷ [])
@@ -320,12 +312,6 @@ stored_raised old new store raised low k made is raise =
 abbrev pub sight_of : Versioned → ℕ → Sight
 sight_of store n = record { database = database_at store n; start = n; may_be_stale = nat_lt n store.low; stale_answers = 0; last_low = 0; rows_calls = 0; row_calls = 0 }
 
-not_below : (n m : ℕ) → nat_lt n m ≡ false → m ≤ n
-not_below n m e = grind (arith, e)
-
-pub at_least : (n m : ℕ) → m ≤ n → nat_lt n m ≡ false
-at_least n m le = grind (arith, le)
-
 -- the view shows the tables after n commits, and isn't stale
 pub record Shows (s : Script) (order : List ℕ) (n : ℕ) (v : Sight) : Type 0 where
   pub database : v.database ≡ table_at (work_of s) order n
@@ -334,14 +320,14 @@ pub record Shows (s : Script) (order : List ℕ) (n : ℕ) (v : Sight) : Type 0 
 pub shows : (b : Booked) (store : Versioned) (n : ℕ) (v : Sight) → IsStoreOf b store → b.course.low ≤ n → n ≤ length b.course.order → v ≡ sight_of store n → Shows b.script b.course.order n v
 shows b store n v k from past is = record {
   database = ap (λ (w : Sight). w.database) is ∙ k.reads n from past;
-  fresh = ap (λ (w : Sight). w.may_be_stale) is ∙ (ap (nat_lt n) k.low_is ∙ at_least n b.course.low from);
+  fresh = ap (λ (w : Sight). w.may_be_stale) is ∙ (ap (nat_lt n) k.low_is ∙ le-ltb n b.course.low from);
 }
 
 -- a view at the start of a live call that isn't stale
 pub shows_start : (b : Booked) (store : Versioned) (c start : ℕ) (l : Live) (v : Sight) → IsStoreOf b store → IsNotStale b c → IsLive b.course c l → start ≡ l.start → start ≤ length b.course.order → v ≡ sight_of store start
     → Shows b.script b.course.order l.start v
 shows_start b store c start l v k fresh live at past is =
-    let from : b.course.low ≤ l.start = not_below l.start b.course.low (fresh l live) in
+    let from : b.course.low ≤ l.start = ltb-false l.start b.course.low (fresh l live) in
     shows b store l.start v k from (omega (arith, at, past)) (is ∙ ap (sight_of store) at)
 
 -- a view of the last tables

@@ -3,6 +3,8 @@ use Rattle.std.proofs.Common.{◌≡◌, ◌⊎◌, inl, inr, ℕ, zero, suc, �
 use Rattle.std.specs.Prelude.{slice_get, ◌==◌, ◌&&◌, ◌↔◌, ◌≢◌, nat_lt, not}
 use Rattle.std.specs.List.{flat_map}
 use Rattle.std.proofs.lemmas.Option.{slice_get_within, slice_get_read}
+use Rattle.std.proofs.lemmas.Bool.{and_parts, cases_eq}
+use Rattle.std.proofs.lemmas.List.{length-set, set-set}
 use Rattle.mv_values.specs.declared.calls.Call.{Call}
 use Rattle.mv_record.specs.declared.record.Record.{Record}
 use Rattle.mv_record.specs.Runs.{Tables, Run}
@@ -31,9 +33,9 @@ use Rattle.mv_store.specs.Stored.{Versioned}
 use Rattle.mv_view.specs.Viewing.{Sight}
 use Rattle.mv_core.specs.Cores.{RunsOn, IsTaskFor, HasRunOne, CountsAll, HasTurns, last_start, count_or, IsLiveTask, IsTaskIn, IsRunning, IsRepaired, HasTasks, IsCore}
 use Rattle.mv_core.proofs.Numbers.{last_start as start_after, last_of_end, rounds_more, rounds_stay, table_stays, within_more, within_end}
-use Rattle.mv_core.proofs.Stored.{same_or_apart, run_is, table_database, changes_to_last, Shows}
+use Rattle.mv_core.proofs.Stored.{run_is, table_database, changes_to_last, Shows}
 use Rattle.mv_core.proofs.Keeping.{commit_after, restart_after}
-use Rattle.mv_core.proofs.Journals.{changed_at, get_last, get_front, get_set, set_there, set_apart, same_long}
+use Rattle.mv_core.proofs.Journals.{changed_at, get_last, get_front, get_set, set_there, set_apart}
 
 -- The call of a number
 
@@ -293,8 +295,8 @@ tasks_begun s course ts t k room fresh = record {
 tasks_changed : (s : Script) (course : Course) (ts : List (Option Running)) (c : ℕ) (l m : Live) (t : Running) → HasTasks s course ts → IsLive course c l → m.done ≡ false → IsLiveTask s course.order c m t
     → HasTasks s (record course { calls = slice_set course.calls c m }) (slice_set ts c (Some t))
 tasks_changed s course ts c l m t k live still fresh = record {
-  few = let n = same_long course.calls c m in let h = k.few in omega (arith, n, h);
-  count = let a = same_long ts c (Some t) in let b = same_long course.calls c m in let n = k.count in omega (arith, a, b, n);
+  few = let n = length-set course.calls c m in let h = k.few in omega (arith, n, h);
+  count = let a = length-set ts c (Some t) in let b = length-set course.calls c m in let n = k.count in omega (arith, a, b, n);
   running = λ d x alive. by d x (get_set course.calls c d m x alive.at) alive.live;
 } where
   by : (d : ℕ) (x : Live) → ((d ≡ c) × (m ≡ x)) ⊎ ((d ≡ c → ⊥) × (slice_get course.calls d ≡ Some x)) → x.done ≡ false
@@ -312,8 +314,8 @@ pub tasks_set : (s : Script) (course : Course) (ts : List (Option Running)) (c :
     → HasTasks s course (slice_set ts c (Some t))
 tasks_set s course ts c t k live task = record {
   few = k.few;
-  count = same_long ts c (Some t) ∙ k.count;
-  running = λ d x alive. by d x alive (same_or_apart d c);
+  count = length-set ts c (Some t) ∙ k.count;
+  running = λ d x alive. by d x alive (cases_eq d c);
 } where
   by : (d : ℕ) (x : Live) → IsLive course d x → (d ≡ c) ⊎ (d ≡ c → ⊥) → (u : Running) × (slice_get (slice_set ts c (Some t)) d ≡ Some (Some u)) × IsLiveTask s course.order d x u
   by d x alive (inl e) =
@@ -328,8 +330,8 @@ tasks_set s course ts c t k live task = record {
 tasks_committed : (s : Script) (course : Course) (ts : List (Option Running)) (c : ℕ) (l m : Live) → HasTasks s course ts → IsLive course c l → m.done ≡ true
     → HasTasks s (record course { order = course.order ++ c ∷ []; calls = slice_set course.calls c m }) (slice_set ts c None)
 tasks_committed s course ts c l m k live ended = record {
-  few = let n = same_long course.calls c m in let h = k.few in omega (arith, n, h);
-  count = let a = same_long ts c None in let b = same_long course.calls c m in let n = k.count in omega (arith, a, b, n);
+  few = let n = length-set course.calls c m in let h = k.few in omega (arith, n, h);
+  count = let a = length-set ts c None in let b = length-set course.calls c m in let n = k.count in omega (arith, a, b, n);
   running = λ d x alive. by d x (get_set course.calls c d m x alive.at) alive.live;
 } where
   by : (d : ℕ) (x : Live) → ((d ≡ c) × (m ≡ x)) ⊎ ((d ≡ c → ⊥) × (slice_get course.calls d ≡ Some x)) → x.done ≡ false
@@ -338,12 +340,6 @@ tasks_committed s course ts c l m k live ended = record {
   by d x (inr h) alive =
       let had = k.running d x (record { at = h.1; live = alive }) in
       (had.0, set_apart ts c d None h.0 ∙ had.1, task_grows s course.order c d x had.0 had.2)
-
-set_twice : {A : Type 0} (xs : List A) (c : ℕ) (x y : A) → slice_set (slice_set xs c x) c y ≡ slice_set xs c y
-set_twice [] zero x y = refl
-set_twice [] (suc c) x y = refl
-set_twice (z ∷ zs) zero x y = refl
-set_twice (z ∷ zs) (suc c) x y = ap (λ ws. z ∷ ws) (set_twice zs c x y)
 
 -- Events of a book
 
@@ -381,7 +377,7 @@ committed_on own old new ts c l k live made =
 -- a commit in a round of its own, after which the task is dropped
 pub decided_on : (old new : Booked) (ts : List (Option Running)) (c : ℕ) (l : Live) (r : Running) → HasTasks old.script old.course ts → IsLive old.course c l → Made (X c) old new
     → HasTasks new.script new.course (slice_set (slice_set ts c (Some r)) c None)
-decided_on old new ts c l r k live made = subst (λ (xs : List (Option Running)). HasTasks new.script new.course xs) (sym (set_twice ts c (Some r) None)) (committed_on (Some 0) old new ts c l k live made)
+decided_on old new ts c l r k live made = subst (λ (xs : List (Option Running)). HasTasks new.script new.course xs) (sym (set-set ts c (Some r) None)) (committed_on (Some 0) old new ts c l k live made)
 
 -- a collection
 pub collected_on : (old new : Booked) (ts : List (Option Running)) → HasTasks old.script old.course ts → Made G old new → HasTasks new.script new.course ts
@@ -447,11 +443,6 @@ runs_shown b c n s v task is shows runs = subst (λ (x : Script). RunsOn x c v.d
 pub runs_back : (b : Booked) (c n : ℕ) (s : Script) (v : Sight) (task : Task) → s ≡ b.script → Shows b.script b.course.order n v → RunsOn s c v.database task → RunsOn b.script c (table_at (work_in b) b.course.order n) task
 runs_back b c n s v task is shows runs = subst (λ db. RunsOn b.script c db task) shows.database (subst (λ (x : Script). RunsOn x c v.database task) is runs)
 
-pub both_true : (a b : Bool) → (a && b) ≡ true → (a ≡ true) × (b ≡ true)
-both_true true true h = (refl, refl)
-both_true true false h = absurd (search (rules, h))
-both_true false b h = absurd (search (rules, h))
-
 -- a call that has a step, and no record that the journal doesn't name, hasn't ended
 pub goes_on : (s : Script) (course : Course) (c : ℕ) (l : Live) (t : Task) → IsScript s → c < length s.calls → RunsOn s c (table_at (work_of s) course.order l.start) t → length t.records ≤ l.steps → has_step (work_of s) course c l ≡ true → t.ended ≡ false
 goes_on s course c l t k lt runs here has = by t.ended refl where
@@ -468,7 +459,7 @@ goes_on s course c l t k lt runs here has = by t.ended refl where
   all = ap (λ (r : Run). r.records) (run_is s c call.0 call.1 db call.2) ∙ way.leaves
 
   less : nat_lt l.steps (length (records_at (work_of s) course.order l.start c)) ≡ true
-  less = (both_true (used l == 0) (nat_lt l.steps (length (records_at (work_of s) course.order l.start c))) has).1
+  less = (and_parts (used l == 0) (nat_lt l.steps (length (records_at (work_of s) course.order l.start c))) has).1
 
   past : (n m : ℕ) → m ≤ n → nat_lt n m ≡ true → ⊥
   past n m le h = grind (arith, le, h)

@@ -5,6 +5,7 @@ use Rattle.std.specs.Option.{option_map}
 use Rattle.std.proofs.lemmas.Grind.{flat_map-append}
 use Rattle.std.proofs.lemmas.List.Elements.{filter-append}
 use Rattle.std.proofs.lemmas.Option.{slice_get_within}
+use Rattle.std.proofs.lemmas.List.{length-set}
 use Rattle.mv_record.specs.declared.record.Record.{Record}
 use Rattle.mv_record.specs.Runs.{Tables}
 use Rattle.mv_history.specs.declared.change.Change.{Change}
@@ -27,7 +28,7 @@ use Rattle.mv_core.specs.Calls.{IsLive, IsLiveCall}
 use Rattle.mv_core.specs.Books.{Booked, work_in, Made, IsSame}
 use Rattle.mv_core.specs.Drives.{HasMade, HasTurned, Driven, HasReplayed}
 use Rattle.mv_core.specs.Cores.{HasTried, IsStaleAt, IsHitAt}
-use Rattle.mv_core.proofs.Journals.{get_last, same_long, only_open}
+use Rattle.mv_core.proofs.Journals.{get_last, only_open}
 use Rattle.mv_core.proofs.Lows.{low_within}
 use Rattle.mv_core.proofs.Driving.{made_more, made_none}
 use Rattle.mv_core.proofs.Refusing.{begun_number, same_made}
@@ -115,7 +116,7 @@ as_many : (w : Work) (s : Course) (c : ℕ) → length (after w s (C c)).calls �
 as_many w s c = by (slice_get s.calls c) where
   by : (o : Option Live) → length (change_live o finish s.calls c) ≡ length s.calls
   by None = refl
-  by (Some l) = same_long s.calls c (finish l)
+  by (Some l) = length-set s.calls c (finish l)
 
 pub many_begun : (c : ℕ) (old new : Booked) → Made (B c) old new → length new.course.calls ≡ length old.course.calls + 1
 many_begun c old new made = ap (λ (s : Course). length s.calls) made.course ∙ length-append old.course.calls (begin (length old.course.order) ∷ [])

@@ -1,12 +1,12 @@
 -- What was dumped loads again.
-use Rattle.std.proofs.Common.{w64, inl, inr, ◌≡◌, ◌++◌, ◌∷◌, ◌<◌, ◌≤◌, ◌^◌, ◌==◌, ◌&&◌, ℕ, suc, Bool, true, false, List, [], map, length, Some, None, ℤ, pos, negsuc, neg_ℤ, refl, sym, ap, subst, ◌∙◌, arith}
+use Rattle.std.proofs.Common.{w64, inl, inr, ◌≡◌, ◌++◌, ◌∷◌, ◌<◌, ◌≤◌, ◌^◌, ◌==◌, ◌&&◌, ℕ, suc, true, false, List, [], map, length, Some, None, ℤ, pos, negsuc, neg_ℤ, refl, sym, ap, subst, ◌∙◌, arith}
 use Rattle.std.specs.Prelude.{All, slice_index, nat_lt, nat_le, IsPermutation}
 use Rattle.std.specs.Fmt.{decimal, signed_decimal}
 use Rattle.std.specs.Int.RustNames.{FitsSigned}
 use Rattle.std.specs.List.{AllZip, list_all}
 use Rattle.std.specs.Str.{all_ascii_digits}
 use Rattle.std.specs.Str.Parse.{IsNumeral, digits_value}
-use Rattle.std.proofs.lemmas.Bool.{cases_Bool, ne_eqb, lt-ltb, le-leb}
+use Rattle.std.proofs.lemmas.Bool.{cases_Bool, ne_eqb, lt-ltb, le-leb, and_from}
 use Rattle.std.proofs.lemmas.Fmt.{decimal_is_IsNumeral}
 use Rattle.std.proofs.lemmas.Str.Parse.{digit_from_value, numerals_by_value, tells_all_ascii_digits, IsNumeralModel}
 use Rattle.std.proofs.lemmas.List.Elements.{All-head, All-tail}
@@ -39,20 +39,17 @@ use Rattle.mv_csvio.proofs.Blocks.{all_records}
 model : IsNumeralModel (λ ds. all_ascii_digits ds ≡ true) (digits_value 10)
 model = numerals_by_value (λ ds. all_ascii_digits ds ≡ true) tells_all_ascii_digits
 
-both_true : (a b : Bool) → a ≡ true → b ≡ true → (a && b) ≡ true
-both_true a b h g = rw (h, g) refl
-
 digits_are : (ds : List ℕ) → IsNumeral 10 ds → are_digits ds ≡ true
-digits_are ds h = both_true _ _ (model.from ds h.1) (lt-ltb 0 (length ds) h.0)
+digits_are ds h = and_from _ _ (model.from ds h.1) (lt-ltb 0 (length ds) h.0)
 
 natural_of : (ds : List ℕ) (n : ℕ) → IsNumeral 10 ds → digits_value 10 ds ≡ n → n < 2 ^ 63 → natural ds ≡ Some (pos n)
 natural_of ds n h v small =
-    let fits : (are_digits ds && nat_lt (digits_value 10 ds) (2 ^ 63)) ≡ true = both_true _ _ (digits_are ds h) (rw v (lt-ltb n (2 ^ 63) small)) in
+    let fits : (are_digits ds && nat_lt (digits_value 10 ds) (2 ^ 63)) ≡ true = and_from _ _ (digits_are ds h) (rw v (lt-ltb n (2 ^ 63) small)) in
     rw fits (ap (λ m. Some (pos m)) v)
 
 negative_of : (ds : List ℕ) (n : ℕ) → IsNumeral 10 ds → digits_value 10 ds ≡ n → n ≤ 2 ^ 63 → negative ds ≡ Some (neg_ℤ (pos n))
 negative_of ds n h v small =
-    let fits : (are_digits ds && nat_le (digits_value 10 ds) (2 ^ 63)) ≡ true = both_true _ _ (digits_are ds h) (rw v (le-leb n (2 ^ 63) small)) in
+    let fits : (are_digits ds && nat_le (digits_value 10 ds) (2 ^ 63)) ≡ true = and_from _ _ (digits_are ds h) (rw v (le-leb n (2 ^ 63) small)) in
     rw fits (ap (λ m. Some (neg_ℤ (pos m))) v)
 
 unsigned_in : (ds : List ℕ) → IsNumeral 10 ds → number_in ds ≡ natural ds
@@ -72,18 +69,18 @@ decimal_in (negsuc n) h =
 -- A value's field is that value
 
 printable : (b : ℕ) → IsPrintable b → is_printable b ≡ true
-printable b h = both_true _ _ (le-leb 32 b h.0) (le-leb b 126 h.1)
+printable b h = and_from _ _ (le-leb 32 b h.0) (le-leb b 126 h.1)
 
 all_printable : (t : List ℕ) → All IsPrintable t → list_all is_printable t ≡ true
 all_printable [] h = refl
-all_printable (b ∷ bs) h = both_true _ _ (printable b (All-head IsPrintable b bs h)) (all_printable bs (All-tail IsPrintable b bs h))
+all_printable (b ∷ bs) h = and_from _ _ (printable b (All-head IsPrintable b bs h)) (all_printable bs (All-tail IsPrintable b bs h))
 
 field_back : (k : ColType) (v : Value) → FitsType k v → value_in k (field_of v) ≡ Some v
 field_back column.Int (value.Int z) h = rw (decimal_in z h) refl
 field_back column.Int (value.Text t) h = absurd h
 field_back (column.Text n) (value.Int z) h = absurd h
 field_back (column.Text n) (value.Text t) h =
-    let fits : is_text n t ≡ true = both_true _ _ (le-leb (length t) n h.1) (all_printable t h.0) in
+    let fits : is_text n t ≡ true = and_from _ _ (le-leb (length t) n h.1) (all_printable t h.0) in
     rw fits refl
 
 fields_back : (columns : List Column) (row : List Value) → AllZip (λ c v. FitsType c.kind v) columns row → IsRow columns (map field_of row) row

@@ -16,6 +16,7 @@ use Rattle.std.proofs.lemmas.List.Elements.{All-cons, All-nil, All-head, All-tai
 use Rattle.std.proofs.lemmas.List.Kept.{AllPairs-cons}
 use Rattle.std.proofs.lemmas.List.Sorted.{IsPermutation-refl, IsPermutation-cons, IsPermutation-sym, IsPermutation-trans, IsPermutation-to_front, IsPermutation-middle}
 use Rattle.std.proofs.lemmas.Map.Views.{All-after_first}
+use Rattle.std.specs.Cmp.{Equal-is}
 use Rattle.mv_values.specs.contracts.value.ValueOrd.TheImpl.{ghosts}
 use Rattle.mv_values.specs.declared.value.Value.{Value}
 use Rattle.mv_values.specs.declared.value.Value.TheVariants.{Int, Text}
@@ -40,17 +41,12 @@ pub keys_alike : slice_cmp ghosts.cmp ≡ key_order
 keys_alike = λ i. slice_cmp (λ x y. values_alike x y i)
 
 -- a key that is found stands among the rows
-equal_only : (o : Ordering) → is_eq o ≡ true → o ≡ Equal
-equal_only Less e = cc
-equal_only Equal e = refl
-equal_only Greater e = cc
-
 key_later : (item : Keyed) (rows : List Keyed) (key : List Value) → HasKey rows key → HasKey (item ∷ rows) key
 key_later item rows key h = (suc h.0, omega (arith, h.1), h.2)
 
 found_by : (key : List Value) (e : Entry) (es : List Entry) (b : Bool) → is_at (key_order key) e.0 ≡ b → (is_some (lookup (is_at (key_order key)) es) ≡ true → HasKey (keyed es) key)
     → is_some (cond b (Some e.1) (lookup (is_at (key_order key)) es)) ≡ true → HasKey (keyed (e ∷ es)) key
-found_by key e es true is more h = (zero, omega arith, sym (exact_keys key e.0 (equal_only (key_order key e.0) is)))
+found_by key e es true is more h = (zero, omega arith, sym (exact_keys key e.0 ((Equal-is (key_order key e.0)).0 is)))
 found_by key e es false is more h = key_later (record { key = e.0; row = e.1 }) (keyed es) key (more h)
 
 pub found : (key : List Value) (es : List Entry) → is_some (lookup (is_at (key_order key)) es) ≡ true → HasKey (keyed es) key

@@ -4,7 +4,7 @@ use Rattle.std.specs.Prelude.{All, nat_le, nat_lt, option_map}
 use Rattle.std.specs.Int.RustNames.{FitsSigned}
 use Rattle.std.specs.List.{AllZip, list_all}
 use Rattle.std.specs.Str.Parse.{digits_value}
-use Rattle.std.proofs.lemmas.Bool.{cases_Bool}
+use Rattle.std.proofs.lemmas.Bool.{cases_Bool, and_parts}
 use Rattle.std.proofs.lemmas.List.Elements.{All-append, All-cons, All-map, All-nil}
 use Rattle.std.proofs.lemmas.List.Sorted.{All-permutation}
 use Rattle.mv_values.specs.declared.value.Value.{Value}
@@ -19,7 +19,7 @@ use Rattle.mv_csvio.specs.Fields.{IsRow, are_digits, is_printable, is_text, natu
 use Rattle.mv_csvio.specs.Fitting.{FitsTable, FitsType, HasTypes}
 use Rattle.mv_csvio.specs.Joining.{HasJoined, under_key}
 use Rattle.mv_csvio.specs.Loading.{HasLoaded, Record}
-use Rattle.mv_csvio.proofs.Values.{all_printable, both}
+use Rattle.mv_csvio.proofs.Values.{all_printable}
 
 -- what holds of the rows that were there and of those that join holds of all
 joined_all : (P : Keyed → Type 0) (table : TableInfo) (before : List Keyed) (rows : List (List Value)) (after : List Keyed) → All P before → All (λ row. P (under_key table row)) rows → HasJoined table before rows after → All P after
@@ -48,7 +48,7 @@ fits_natural : (ds : List ℕ) (z : ℤ) → natural ds ≡ Some z → FitsSigne
 fits_natural ds z h =
     let n = digits_value 10 ds in
     let k = when_some (are_digits ds && nat_lt n (2 ^ 63)) (pos n) z h in
-    let small = both (are_digits ds) (nat_lt n (2 ^ 63)) k.0 in
+    let small = and_parts (are_digits ds) (nat_lt n (2 ^ 63)) k.0 in
     subst (FitsSigned w64) k.1 (record { sfits = search (rules, small.1) })
 
 fits_opposite : (n : ℕ) → n ≤ 2 ^ 63 → FitsSigned w64 (neg_ℤ (pos n))
@@ -59,7 +59,7 @@ fits_negative : (ds : List ℕ) (z : ℤ) → negative ds ≡ Some z → FitsSig
 fits_negative ds z h =
     let n = digits_value 10 ds in
     let k = when_some (are_digits ds && nat_le n (2 ^ 63)) (neg_ℤ (pos n)) z h in
-    let small = both (are_digits ds) (nat_le n (2 ^ 63)) k.0 in
+    let small = and_parts (are_digits ds) (nat_le n (2 ^ 63)) k.0 in
     subst (FitsSigned w64) k.1 (fits_opposite n (search (rules, small.1)))
 
 fits_number : (field : List ℕ) (z : ℤ) → number_in field ≡ Some z → FitsSigned w64 z
@@ -80,7 +80,7 @@ fits_type column.Int field v h =
     subst (FitsType column.Int) n.2 (fits_number field n.0 n.1)
 fits_type (column.Text n) field v h =
     let k = when_some (is_text n field) (value.Text field) v h in
-    let b = both (nat_le (length field) n) (list_all is_printable field) k.0 in
+    let b = and_parts (nat_le (length field) n) (list_all is_printable field) k.0 in
     subst (FitsType (column.Text n)) k.1 (all_printable field b.1, search (rules, b.0))
 
 fits_columns : (columns : List Column) (fields : Record) (row : List Value) → length fields ≡ length columns → values_in columns fields ≡ map Some row → AllZip (λ c v. FitsType c.kind v) columns row

@@ -1,6 +1,8 @@
 -- The end of a run.
 use Rattle.std.proofs.Common.{◌≡◌, ◌⊎◌, inl, inr, ℕ, zero, suc, ◌+◌, ◌≤◌, ◌<◌, Bool, true, false, List, [], ◌∷◌, Option, Some, None, length, refl, sym, ap, subst, ◌∙◌, arith, rules}
 use Rattle.std.specs.Prelude.{slice_get, nat_lt, if◌then◌else◌, Result, Ok, Err, IfOk, OnErr}
+use Rattle.std.proofs.lemmas.Bool.{ltb-true, cases_eq}
+use Rattle.std.proofs.lemmas.List.{length-set}
 use mathlib.Core.List.{IsPrefix}
 use Rattle.mv_journal.specs.declared.event.Event.{Event}
 use Rattle.mv_journal.specs.declared.event.Event.TheVariants.{B, A, M, C, X}
@@ -21,10 +23,9 @@ use Rattle.mv_values.specs.declared.memory.NoMemory.{NoMemory}
 use Rattle.mv_core.specs.declared.book.Begun.{Begun}
 use Rattle.mv_core.specs.Books.{Booked, work_in, Made, IsSame, HasBegun as HasNext}
 use Rattle.mv_core.specs.Cores.{HasMovedAndCommitted}
-use Rattle.mv_core.proofs.Stored.{same_or_apart}
 use Rattle.mv_core.proofs.Moving.{live_moved}
 use Rattle.mv_core.proofs.Turning.{many_begun}
-use Rattle.mv_core.proofs.Journals.{get_front, set_there, set_apart, same_long, changed_at}
+use Rattle.mv_core.proofs.Journals.{get_front, set_there, set_apart, changed_at}
 use Rattle.mv_gate.specs.declared.answers.Answer.{Answer}
 use Rattle.mv_gate.specs.declared.answers.Answer.TheVariants as answer
 use Rattle.mv_gate.specs.Gates.{work, IsDesk, MovesAndCommits, Tries, IsOutcome, IsDone, GoesOn}
@@ -72,7 +73,7 @@ done_now : (ls : List Live) (c : ℕ) (f : Live → Live) (l : Live) → slice_g
 done_now ls c f l at is = (f l, ap (λ xs. slice_get xs c) (changed_at ls c f l at) ∙ set_there ls c (f l) l at, is)
 
 as_long : (ls : List Live) (c : ℕ) (f : Live → Live) (l : Live) → slice_get ls c ≡ Some l → length (change_live (slice_get ls c) f ls c) ≡ length ls
-as_long ls c f l at = ap length (changed_at ls c f l at) ∙ same_long ls c (f l)
+as_long ls c f l at = ap length (changed_at ls c f l at) ∙ length-set ls c (f l)
 
 keeps_begun : (c : ℕ) (old new : Booked) → Made (B c) old new → GoesOn old new
 keeps_begun c old new made = record {
@@ -214,19 +215,16 @@ first_is n (x ∷ ls) i l is at done = by x.done i refl is at (first_is (n + 1) 
       search (rules, no)
   by false (suc j) e is at go le = omega (arith, is)
 
-less_is : (n m : ℕ) → nat_lt n m ≡ true → n < m
-less_is n m h = grind (arith, h)
-
 -- no call is open where each has committed
 all_shut : (w : Work) (s : Course) → ((c : ℕ) → c < w.count → IsDone s c) → open_call w s ≡ None
 all_shut w s all = by (nat_lt (first_open 0 s.calls) w.count) refl where
   by : (b : Bool) → nat_lt (first_open 0 s.calls) w.count ≡ b → (if b then Some (first_open 0 s.calls) else None) ≡ None
-  by true less = let h = all (first_open 0 s.calls) (less_is (first_open 0 s.calls) w.count less) in absurd (first_is 0 s.calls (first_open 0 s.calls) h.0 (omega arith) h.1 h.2)
+  by true less = let h = all (first_open 0 s.calls) (ltb-true (first_open 0 s.calls) w.count less) in absurd (first_is 0 s.calls (first_open 0 s.calls) h.0 (omega arith) h.1 h.2)
   by false less = refl
 
 -- one call more has committed
 pub done_more : (old new : Booked) (k : ℕ) → ((d : ℕ) → d < k → IsDone old.course d) → GoesOn old new → IsDone new.course k → (d : ℕ) → d < k + 1 → IsDone new.course d
-done_more old new k all kept now d lt = by (same_or_apart d k) where
+done_more old new k all kept now d lt = by (cases_eq d k) where
   below : (d k : ℕ) → d < k + 1 → (d ≡ k → ⊥) → d < k
   below d k lt apart = omega (arith, lt, apart)
 

@@ -1,6 +1,6 @@
 -- What a holder knows of its call, and what the history has of it.
 use Rattle.std.proofs.Common.{◌≡◌, ◌↔◌, ℕ, ◌≤◌, ◌<◌, ◌+◌, Bool, true, false, List, [], Option, Some, None, length, refl, sym, ap, subst, ◌∙◌, arith, rules}
-use Rattle.std.specs.Prelude.{IsTrue, nat_lt}
+use Rattle.std.specs.Prelude.{IsTrue}
 use mathlib.Core.List.{IsPrefix}
 use Rattle.mv_record.specs.Runs.{Tables}
 use Rattle.mv_undo.specs.Owning.{HasWritesOf}
@@ -272,10 +272,6 @@ open_writes b store c r k o = task_writes b.script b.course.order c o.live.0 r k
 -- it ran on at its start
 pub open_ran : (b : Booked) (c : ℕ) (old new : Running) → IsUnderWay b c old → IsTaskIn b c new → IsUnderWay b c new
 open_ran b c old new o t = record { live = o.live; there = o.there; task = t }
-
--- a start that isn't below low
-pub not_below : (n m : ℕ) → nat_lt n m ≡ false → m ≤ n
-not_below n m h = grind (arith, h)
 
 -- A call that was run whole anew
 

@@ -3,6 +3,7 @@ use Rattle.std.proofs.Common.{◌≡◌, ℕ, zero, suc, ◌-◌, ◌≤◌, ◌
 use Rattle.std.specs.Prelude.{slice_index_or}
 use Rattle.std.specs.Option.{option_eq}
 use Rattle.std.proofs.lemmas.Bool.Decides.{eqb_tells}
+use Rattle.std.proofs.lemmas.Bool.{eqb-true}
 use lib.Dec.{eqb}
 use Rattle.mv_journal.specs.declared.outcome.Mark.{Mark}
 use Rattle.mv_journal.specs.declared.outcome.Mark.TheVariants.{Plain, Exclusive, Moved}
@@ -72,9 +73,6 @@ repaired_later rs d e h = by (length rs - 2) refl (omega (arith, h)) where
 
 -- Tests of starts and numbers
 
-pub same_number : (a b : ℕ) → eqb a b ≡ true → a ≡ b
-same_number a b h = grind (arith, eqb_tells, h)
-
 pub number_same : (a b : ℕ) → a ≡ b → eqb a b ≡ true
 number_same a b h = grind (arith, eqb_tells, h)
 
@@ -82,7 +80,7 @@ pub same_starts : (a b : Option ℕ) → not (option_eq eqb a b) ≡ false → a
 same_starts None None h = refl
 same_starts None (Some y) h = absurd (search (rules, h))
 same_starts (Some x) None h = absurd (search (rules, h))
-same_starts (Some x) (Some y) h = ap Some (same_number x y (by (eqb x y) h)) where
+same_starts (Some x) (Some y) h = ap Some (eqb-true x y (by (eqb x y) h)) where
   by : (t : Bool) → not t ≡ false → t ≡ true
   by true e = refl
   by false e = absurd (search (rules, e))

@@ -1,5 +1,6 @@
 -- A call that was repaired, or moved.
 use Rattle.std.proofs.Common.{◌≡◌, ℕ, ◌<◌, ◌≤◌, List, Some, None, length, refl, sym, ap, subst, ◌∙◌, arith, rules}
+use Rattle.std.proofs.lemmas.Bool.{le-ltb}
 use Rattle.mv_journal.specs.declared.event.Event.TheVariants.{A}
 use Rattle.mv_journal.specs.declared.outcome.Mark.TheVariants.{Plain, Exclusive}
 use Rattle.mv_lawful.specs.Work.{table_at, records_at, hit_of}
@@ -13,7 +14,6 @@ use Rattle.mv_core.specs.Scripts.{work_of}
 use Rattle.mv_core.specs.Calls.{IsLive}
 use Rattle.mv_core.specs.Books.{Booked, work_in, Made, IsSame}
 use Rattle.mv_core.specs.Cores.{RunsOn, IsStoreOf, HasTurns, IsLiveTask, IsRepaired}
-use Rattle.mv_core.proofs.Stored.{at_least}
 use Rattle.mv_core.proofs.Taking.{one_live, task_again}
 use Rattle.mv_core.proofs.Changed.{live_restarted}
 use Rattle.mv_core.proofs.Turning.{none_hit}
@@ -63,14 +63,14 @@ restarted now b new store c l r same k there live turns made repaired = record {
           (subst (λ (s : Script). IsLiveTask s new.course.order c next r) (sym made.script)
           (subst (λ (o : List ℕ). IsLiveTask b.script o c next r) (sym order) (task_again b.script b.course.order c l r turns (repaired l live))));
     };
-    fresh = λ m at. at_least m.start new.course.low (let start = last m at in let long = ap length order in let below = k.below in omega (arith, start, low, long, below));
+    fresh = λ m at. le-ltb m.start new.course.low (let start = last m at in let long = ap length order in let below = k.below in omega (arith, start, low, long, below));
     records = λ m at.
         (repaired l live).records
         ∙ (ap (λ (s : Script). records_at (work_of s) b.course.order (length b.course.order) c) (sym made.script)
         ∙ (ap (λ (o : List ℕ). records_at (work_in new) o (length o) c) (sym order) ∙ ap (λ n. records_at (work_in new) new.course.order n c) (sym (last m at))));
   };
   free = may_commit (work_in new) new.course c next next_live
-      (at_least next.start new.course.low (let start = last next next_live in let long = ap length order in let below = k.below in omega (arith, start, low, long, below)))
+      (le-ltb next.start new.course.low (let start = last next next_live in let long = ap length order in let below = k.below in omega (arith, start, low, long, below)))
       (ap (λ n. hit_of (work_in new) new.course.order n c) (last next next_live) ∙ none_hit (work_in new) new.course.order c);
   latest = λ m at. latest_again b new c m r there made (repaired m (subst (λ (s : Course). IsLive s c m) (sym same.course) at)) (past m (subst (λ (s : Course). IsLive s c m) (sym same.course) at));
 } where

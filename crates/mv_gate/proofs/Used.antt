@@ -1,7 +1,7 @@
 -- The rounds that live calls have used, after an event.
 use Rattle.std.proofs.Common.{◌≡◌, ◌⊎◌, inl, inr, ℕ, ◌<◌, ◌≤◌, ◌+◌, Bool, true, false, not, List, [], ◌∷◌, Option, Some, None, length, refl, sym, ap, subst, ◌∙◌, arith, rules, length-append}
-use Rattle.std.specs.Prelude.{slice_get, nat_lt, ◌==◌}
-use Rattle.std.proofs.lemmas.Bool.Decides.{eqb_tells}
+use Rattle.std.specs.Prelude.{slice_get}
+use Rattle.std.proofs.lemmas.Bool.{ltb-true, eq-eqb, true≢false}
 use Rattle.mv_journal.specs.declared.event.Event.{Event}
 use Rattle.mv_journal.specs.declared.event.Event.TheVariants.{B, S, A, M, C, X, G}
 use Rattle.mv_journal.specs.declared.outcome.Mark.{Mark}
@@ -43,12 +43,6 @@ all_changed rounds c f ls all keeps d l at live = by (slice_get ls c) refl at wh
     set (inl h) = subst (λ (y : Live). used y ≤ rounds) h.1 (keeps x is (ap (λ (y : Live). y.done) h.1 ∙ live))
     set (inr h) = all d l h.0 h.1 live
 
-true_false : true ≡ false → ⊥
-true_false h = search (rules, h)
-
-own : (d : ℕ) → (d == d) ≡ true
-own d = grind (arith, eqb_tells)
-
 -- an event that is no repair and no move
 pub use_other : (w : Work) (rounds : ℕ) (s : Course) (e : Event) → ((c : ℕ) → is_round c e ≡ false) → UseRounds rounds s → UseRounds rounds (after w s e)
 use_other w rounds s (B c) none h = λ d l live. by d l live.live (get_last s.calls (begin (length s.order)) d l live.at) where
@@ -57,11 +51,11 @@ use_other w rounds s (B c) none h = λ d l live. by d l live.live (get_last s.ca
   by d l live (inr new) = subst (λ (x : Live). used x ≤ rounds) new.1 (omega arith)
 use_other w rounds s (S c) none h = λ d l live.
     all_changed rounds c (λ x. record x { steps = x.steps + 1 }) s.calls (others_of rounds c s h) (λ x at going. h c x (record { at = at; live = going })) d l live.at live.live
-use_other w rounds s (A c) none h = absurd (true_false (sym (own c) ∙ none c))
-use_other w rounds s (M c) none h = absurd (true_false (sym (own c) ∙ none c))
-use_other w rounds s (C c) none h = λ d l live. all_changed rounds c finish s.calls (others_of rounds c s h) (λ x at going. absurd (true_false going)) d l live.at live.live
+use_other w rounds s (A c) none h = absurd (true≢false (sym (eq-eqb c c refl) ∙ none c))
+use_other w rounds s (M c) none h = absurd (true≢false (sym (eq-eqb c c refl) ∙ none c))
+use_other w rounds s (C c) none h = λ d l live. all_changed rounds c finish s.calls (others_of rounds c s h) (λ x at going. absurd (true≢false going)) d l live.at live.live
 use_other w rounds s (X c) none h = λ d l live.
-    all_changed rounds c (λ x. finish (again (length s.order) Exclusive x)) s.calls (others_of rounds c s h) (λ x at going. absurd (true_false going)) d l live.at live.live
+    all_changed rounds c (λ x. finish (again (length s.order) Exclusive x)) s.calls (others_of rounds c s h) (λ x at going. absurd (true≢false going)) d l live.at live.live
 use_other w rounds s G none h = λ d l live. h d l (record { at = live.at; live = live.live })
 
 -- a call that has used fewer takes one more
@@ -73,9 +67,6 @@ use_again rounds c n m s all less d l at live =
     let few = less x (record { at = is; live = going }) in
     let long = length-append x.turns (record { start = n; mark = m } ∷ []) in
     omega (arith, few, long)) d l at live
-
-less_is : (n m : ℕ) → nat_lt n m ≡ true → n < m
-less_is n m h = grind (arith, h)
 
 -- a call that may be repaired has a round left
 repair_left : (w : Work) (s : Course) (c : ℕ) (l : Live) → IsLive s c l → refusal w s (A c) ≡ None → has_round w l ≡ true
@@ -95,12 +86,12 @@ repair_left w s c l live free =
 
 pub use_repair : (w : Work) (s : Course) (c : ℕ) → UseRounds w.options.rounds s → refusal w s (A c) ≡ None → UseRounds w.options.rounds (after w s (A c))
 use_repair w s c all free d l live =
-    use_again w.options.rounds c (length s.order) Plain s all (λ x is. less_is (used x) w.options.rounds (repair_left w s c x is free)) d l live.at live.live
+    use_again w.options.rounds c (length s.order) Plain s all (λ x is. ltb-true (used x) w.options.rounds (repair_left w s c x is free)) d l live.at live.live
 
 pub use_move : (w : Work) (s : Course) (c : ℕ) → UseRounds w.options.rounds s → ((x : Live) → IsLive s c x → has_round w x ≡ true) → UseRounds w.options.rounds (after w s (M c))
-use_move w s c all left d l live = use_again w.options.rounds c (length s.order) Moved s all (λ x is. less_is (used x) w.options.rounds (left x is)) d l live.at live.live
+use_move w s c all left d l live = use_again w.options.rounds c (length s.order) Moved s all (λ x is. ltb-true (used x) w.options.rounds (left x is)) d l live.at live.live
 
 -- a move and the commit of that call
 pub use_move_and_commit : (w v : Work) (rounds : ℕ) (s : Course) (c : ℕ) → UseRounds rounds s → UseRounds rounds (after v (after w s (M c)) (C c))
 use_move_and_commit w v rounds s c all d l live =
-    all_changed rounds c finish (after w s (M c)).calls (others_changed rounds c (again (length s.order) Moved) s.calls (others_of rounds c s all)) (λ x at going. absurd (true_false going)) d l live.at live.live
+    all_changed rounds c finish (after w s (M c)).calls (others_changed rounds c (again (length s.order) Moved) s.calls (others_of rounds c s all)) (λ x at going. absurd (true≢false going)) d l live.at live.live

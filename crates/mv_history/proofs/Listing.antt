@@ -5,10 +5,12 @@ use Rattle.std.specs.List.{filter, flat_map}
 use Rattle.std.specs.Ordering.{is_eq, ordering_then}
 use Rattle.std.specs.declared.cmp.Ordering.{Ordering}
 use Rattle.std.specs.declared.cmp.Ordering.TheVariants.{Less, Equal, Greater}
-use Rattle.std.proofs.lemmas.Bool.Decides.{eqb_tells, nat_tests}
+use Rattle.std.proofs.lemmas.Bool.Decides.{nat_tests}
 use Rattle.std.proofs.lemmas.Cmp.{tied_itself}
 use Rattle.std.proofs.lemmas.List.Elements.{filter-append, All-nil, All-cons}
 use Rattle.std.proofs.lemmas.List.Kept.{AllPairs-cons}
+use Rattle.std.specs.Cmp.{Equal-is}
+use Rattle.std.proofs.lemmas.Bool.{eqb-true, eq-eqb, ne_eqb}
 use Rattle.mv_values.specs.declared.value.Value.{Value}
 use Rattle.mv_values.specs.declared.value.Value.TheVariants.{Int}
 use Rattle.mv_values.specs.declared.rows.Keyed.{Keyed}
@@ -28,14 +30,9 @@ and_no : (b : Bool) → (b && false) ≡ false
 and_no true = refl
 and_no false = refl
 
-equal_is : (o : Ordering) → is_eq o ≡ true → o ≡ Equal
-equal_is Less h = cc
-equal_is Equal h = refl
-equal_is Greater h = cc
-
 -- keys in no order but their own are one key
 pub tied : (a b : List Value) → is_eq (key_order a b) ≡ true → a ≡ b
-tied a b h = exact_keys a b (equal_is (key_order a b) h)
+tied a b h = exact_keys a b ((Equal-is (key_order a b)).0 h)
 
 pub same_is : (a b : Option (List Value)) → is_same a b ≡ true → a ≡ b
 same_is None None h = refl
@@ -47,17 +44,8 @@ pub same_itself : (a : Option (List Value)) → is_same a a ≡ true
 same_itself None = refl
 same_itself (Some a) = ap is_eq (same_key a)
 
-number_same : (t : ℕ) → (t == t) ≡ true
-number_same t = grind (arith, eqb_tells)
-
-number_apart : (u t : ℕ) → (u ≡ t → ⊥) → (u == t) ≡ false
-number_apart u t h = grind (arith, eqb_tells)
-
-one_number : (a b : ℕ) → (a == b) ≡ true → a ≡ b
-one_number a b h = grind (arith, eqb_tells)
-
 own_change : (t : ℕ) (key : List Value) → ((t == t) && is_eq (key_order key key)) ≡ true
-own_change t key = ap (λ b. b && is_eq (key_order key key)) (number_same t) ∙ ap is_eq (same_key key)
+own_change t key = ap (λ b. b && is_eq (key_order key key)) (eq-eqb t t refl) ∙ ap is_eq (same_key key)
 
 filter_one : (p : Change → Bool) (c : Change) → p c ≡ true → filter p (c ∷ []) ≡ c ∷ []
 filter_one p c h = rw h refl
@@ -150,7 +138,7 @@ none_from p f (x ∷ xs) h = filter-append p (f x) (flat_map f xs) ∙ (ap (λ l
 
 table_other : (u t : ℕ) (key : List Value) (o n : List Keyed) → (u ≡ t → ⊥) → filter (is_of t key) (changes_of u o n) ≡ []
 table_other u t key o n h =
-    none_from (is_of t key) (change_at u o n) (united o n) (λ item. one_other (is_of t key) u item.key (row_of o item.key) (row_of n item.key) (ap (λ b. b && is_eq (key_order item.key key)) (number_apart u t h)))
+    none_from (is_of t key) (change_at u o n) (united o n) (λ item. one_other (is_of t key) u item.key (row_of o item.key) (row_of n item.key) (ap (λ b. b && is_eq (key_order item.key key)) (ne_eqb u t h)))
 
 higher : (u t : ℕ) (key : List Value) (os ns : List (List Keyed)) → t < u → filter (is_of t key) (changes_upwards u os ns) ≡ []
 higher u t key [] ns h = refl
@@ -280,7 +268,7 @@ changes_listed old new h g len = record {
 pub place_of : (t : ℕ) (key : List Value) (c : Change) → is_of t key c ≡ true → place c ≡ Int (pos t) ∷ key
 place_of t key c h =
     let two = both_so (c.table == t) (is_eq (key_order c.key key)) h in
-    ap (λ n. Int (pos n) ∷ c.key) (one_number c.table t two.0) ∙ ap (λ k. Int (pos t) ∷ k) (tied c.key key two.1)
+    ap (λ n. Int (pos n) ∷ c.key) (eqb-true c.table t two.0) ∙ ap (λ k. Int (pos t) ∷ k) (tied c.key key two.1)
   where
     both_so : (a b : Bool) → a && b ≡ true → (a ≡ true) × (b ≡ true)
     both_so true b h = (refl, h)

@@ -17,6 +17,7 @@ use Rattle.std.proofs.lemmas.List.Elements.{All-from_get_or, All-get_or, All-nil
 use Rattle.std.proofs.lemmas.List.{take_more}
 use Rattle.std.proofs.lemmas.List.Sums.{fails_before_first}
 use Rattle.std.proofs.lemmas.List.Splits.{slice_split_first, slice_split_none, slice_split_at, length-slice_split}
+use Rattle.std.proofs.lemmas.Option.{cond_some}
 
 abbrev IsEnd : ℕ → Bool
 IsEnd b = b == 10
@@ -28,14 +29,10 @@ parts_more line (p ∷ ps) h = refl
 some_parts : (bs : List ℕ) → 0 < length (slice_split IsEnd bs)
 some_parts bs = omega (arith, length-slice_split IsEnd bs)
 
-where_is : (b : Bool) (n m : ℕ) → (if b then Some n else None) ≡ Some m → (b ≡ true) × (n ≡ m)
-where_is true n m h = (refl, cc)
-where_is false n m h = cc
-
 -- the first line is what stands before the first LF
 pub more_lines : (bs : List ℕ) (at : ℕ) → position IsEnd bs ≡ Some at → lines bs ≡ strip_carriage_return (take at bs) ∷ lines (drop (at + 1) bs)
 more_lines bs at h =
-    let w = where_is (nat_lt (position_or_len IsEnd bs) (length bs)) (position_or_len IsEnd bs) at h in
+    let w = cond_some (nat_lt (position_or_len IsEnd bs) (length bs)) (position_or_len IsEnd bs) at h in
     let within : position_or_len IsEnd bs < length bs = search (rules, w.0) in
     ap lines_of_parts (slice_split_first IsEnd bs 0 within)
     ∙ parts_more (before_first IsEnd bs) (slice_split IsEnd (after_first IsEnd bs)) (some_parts (after_first IsEnd bs))

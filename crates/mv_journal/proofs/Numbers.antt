@@ -9,6 +9,8 @@ use Rattle.std.specs.Str.Parse.{digits_value, ParsesUnsigned}
 use Rattle.std.proofs.lemmas.Str.{IsUtf8-from_ascii}
 use Rattle.std.proofs.lemmas.Fmt.{IsAscii-from_digits}
 use Rattle.std.proofs.lemmas.Str.Parse.{IsNumeralModel, numerals_by_value, tells_all_ascii_digits, parse_digits}
+use Rattle.std.proofs.lemmas.Bool.{and_parts, and_from}
+use Rattle.std.proofs.lemmas.Option.{cond_some}
 use Rattle.mv_journal.specs.Lines.{IsNumber}
 use Rattle.mv_journal.specs.Reading.{is_number, number_in}
 
@@ -23,14 +25,6 @@ Digits ds = all_ascii_digits ds ≡ true
 numerals : IsNumeralModel Digits (digits_value 10)
 numerals = numerals_by_value Digits tells_all_ascii_digits
 
-both : (a b : Bool) → (a && b) ≡ true → (a ≡ true) × (b ≡ true)
-both true b h = (refl, h)
-both false b h = cc
-
-all_true : (a b : Bool) → a ≡ true → b ≡ true → (a && b) ≡ true
-all_true true b h g = g
-all_true false b h g = cc
-
 one_way : (b : Bool) (n : ℕ) → (b ≡ true → ⊥) → None ≡ (if b then Some n else None)
 one_way true n never = absurd (never refl)
 one_way false n never = refl
@@ -38,18 +32,14 @@ one_way false n never = refl
 other_way : (b : Bool) (m n : ℕ) → b ≡ true → m ≡ n → Some m ≡ (if b then Some n else None)
 other_way b m n h e = rw (h, e) refl
 
-given : (b : Bool) (n m : ℕ) → (if b then Some n else None) ≡ Some m → (b ≡ true) × (n ≡ m)
-given true n m h = (refl, cc)
-given false n m h = cc
-
 parts : (ds : List ℕ) → is_number ds ≡ true → Digits ds × (0 < length ds) × (digits_value 10 ds < 2 ^ 32)
 parts ds h =
-    let k = both (all_ascii_digits ds) (nat_lt 0 (length ds) && nat_lt (digits_value 10 ds) (2 ^ 32)) h in
-    let l = both (nat_lt 0 (length ds)) (nat_lt (digits_value 10 ds) (2 ^ 32)) k.1 in
+    let k = and_parts (all_ascii_digits ds) (nat_lt 0 (length ds) && nat_lt (digits_value 10 ds) (2 ^ 32)) h in
+    let l = and_parts (nat_lt 0 (length ds)) (nat_lt (digits_value 10 ds) (2 ^ 32)) k.1 in
     (k.0, search (rules, l.0), search (rules, l.1))
 
 whole : (ds : List ℕ) → Digits ds → 0 < length ds → digits_value 10 ds < 2 ^ 32 → is_number ds ≡ true
-whole ds digits some short = all_true (all_ascii_digits ds) (nat_lt 0 (length ds) && nat_lt (digits_value 10 ds) (2 ^ 32)) digits (all_true (nat_lt 0 (length ds)) (nat_lt (digits_value 10 ds) (2 ^ 32)) (search (rules, some)) (search (rules, short)))
+whole ds digits some short = and_from (all_ascii_digits ds) (nat_lt 0 (length ds) && nat_lt (digits_value 10 ds) (2 ^ 32)) digits (and_from (nat_lt 0 (length ds)) (nat_lt (digits_value 10 ds) (2 ^ 32)) (search (rules, some)) (search (rules, short)))
 
 -- bytes that aren't all digits are no number
 pub none_of_others : (ds : List ℕ) → list_all is_ascii_digit ds ≡ false → None ≡ number_in ds
@@ -73,7 +63,7 @@ not_refused ds (Err x) P Q passed h e = absurd (h.0 (IsUtf8-from_ascii ds (IsAsc
 -- the number that is read is the one that the digits are, and no other
 pub number_is : (ds : List ℕ) (n : ℕ) → number_in ds ≡ Some n → IsNumber ds n
 number_is ds n h =
-    let g = given (is_number ds) (digits_value 10 ds) n h in
+    let g = cond_some (is_number ds) (digits_value 10 ds) n h in
     let k = parts ds g.0 in
     ((k.1, numerals.to ds k.0), g.1, omega (arith, k.2, g.1))
 

@@ -1,7 +1,8 @@
 -- Low never falls, and only a horizon makes a live call stale.
-use Rattle.std.proofs.Common.{◌≡◌, ◌≤◌, ◌<◌, ℕ, zero, suc, ◌+◌, max, min, Bool, true, false, List, [], ◌∷◌, ◌++◌, Option, Some, None, length, slice_set, if◌then◌else◌, refl, subst, arith, length-append}
+use Rattle.std.proofs.Common.{◌≡◌, ◌≤◌, ℕ, zero, suc, ◌+◌, max, min, Bool, true, false, List, [], ◌∷◌, ◌++◌, Option, Some, None, length, slice_set, if◌then◌else◌, refl, subst, arith, length-append}
 use Rattle.std.specs.Prelude.{nat_lt, slice_get}
 use Rattle.std.proofs.Math.Nat.{le-max_left, le-max_right, max-le, min-le_right}
+use Rattle.std.proofs.lemmas.Bool.{both_ways, ltb-true}
 use Rattle.mv_journal.specs.declared.event.Event.{Event}
 use Rattle.mv_journal.specs.declared.event.Event.TheVariants.{B, S, A, M, C, X, G}
 use Rattle.mv_journal.specs.declared.outcome.Mark.TheVariants.{Plain, Exclusive, Moved}
@@ -68,9 +69,6 @@ join : (floor a b : ℕ) (ls : List Live) → AllHold floor a ls → AllHold flo
 join floor a b [] h k = tt
 join floor a b (l ∷ ls) h k = ((λ d. max-le (h.0 d) (k.0 d)), join floor a b ls h.1 k.1)
 
-not_true : (b : Bool) → b ≡ true → b ≡ false → ⊥
-not_true b h k = cc
-
 oldest_holds : (floor n : ℕ) (ls : List Live) → AllHold floor (oldest n ls) ls
 oldest_holds floor n [] = tt
 oldest_holds floor n (l ∷ ls) = by l.done refl (oldest_holds floor n ls)
@@ -79,7 +77,7 @@ oldest_holds floor n (l ∷ ls) = by l.done refl (oldest_holds floor n ls)
     first a = omega arith
 
     by : (b : Bool) → l.done ≡ b → AllHold floor (oldest n ls) ls → AllHold floor (if b then oldest n ls else min l.start (oldest n ls)) (l ∷ ls)
-    by true e h = ((λ d. absurd (not_true l.done e d)), h)
+    by true e h = ((λ d. absurd (both_ways l.done d e)), h)
     by false e h = ((λ d. first (oldest n ls)), looser floor floor (min l.start (oldest n ls)) (oldest n ls) ls (at_most floor) (min-le_right l.start (oldest n ls)) h)
 
 oldest_most : (n : ℕ) (ls : List Live) → oldest n ls ≤ n
@@ -124,7 +122,7 @@ fresh_commit w s c f fresh done =
       low = omega (arith, low, long);
       all = hold_changed (floor m w.options.horizon) s.low s.calls c f
           (looser (floor n w.options.horizon) (floor m w.options.horizon) s.low s.low s.calls (floor_grows n m w.options.horizon (omega (arith, long))) (at_most s.low) fresh.all)
-          (λ l h d. absurd (not_true (f l).done (done l) d));
+          (λ l h d. absurd (both_ways (f l).done d (done l)));
     }
 
 fresh_low : (w : Work) (s : Course) → Fresh w s → Fresh w (record s { low = next_low w s })
@@ -149,13 +147,10 @@ fresh_reach : (w : Work) (s : Course) (es : List Event) → Fresh w s → Fresh 
 fresh_reach w s [] f = f
 fresh_reach w s (e ∷ es) f = fresh_reach w (after w s e) es (fresh_after w s e f)
 
-lt : (a b : ℕ) → nat_lt a b ≡ true → a < b
-lt a b h = grind (arith, h)
-
 -- a call that started below low did so before the horizon
 past : (start low n : ℕ) (horizon : Option ℕ) → nat_lt start low ≡ true → low ≤ max start (floor n horizon) → IsPast horizon start n
-past start low n None below holds = let less = lt start low below in absurd (omega (arith, less, holds))
-past start low n (Some h) below holds = let less = lt start low below in omega (arith, less, holds)
+past start low n None below holds = let less = ltb-true start low below in absurd (omega (arith, less, holds))
+past start low n (Some h) below holds = let less = ltb-true start low below in omega (arith, less, holds)
 
 pub stale_is_past : StaleIsPast
 stale_is_past w es c l is live stale =

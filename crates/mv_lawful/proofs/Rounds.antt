@@ -5,6 +5,7 @@ use Rattle.std.specs.List.{filter}
 use Rattle.std.specs.Option.{ForSome}
 use Rattle.std.proofs.lemmas.Bool.Decides.{eqb_tells}
 use Rattle.std.proofs.lemmas.List.Elements.{filter-append}
+use Rattle.std.proofs.lemmas.Bool.{eqb-true, eq-eqb, both_ways}
 use Rattle.mv_journal.specs.declared.event.Event.{Event}
 use Rattle.mv_journal.specs.declared.event.Event.TheVariants.{B, S, A, M, C, X, G}
 use Rattle.mv_journal.specs.declared.outcome.Mark.{Mark}
@@ -74,21 +75,15 @@ counts_again ls c n k mark there h = by (slice_get ls c) refl h
         subst (λ o. Counts o (k + 1)) (sym (get_set ls c l (again n mark l) e))
         (λ d. let many = g d in let more = more_turns n mark l in omega (arith, many, more))
 
-ended : (b : Bool) → b ≡ true → b ≡ false → ⊥
-ended b h k = cc
-
 -- an event that is no round of the call
 counts_kept : (w : Work) (s : Course) (e : Event) (c k : ℕ) → is_round c e ≡ false → Counts (slice_get s.calls c) k → Counts (slice_get (after w s e).calls c) k
 counts_kept w s (B d) c k other h = counts_begun s.calls (length s.order) c k h
 counts_kept w s (S d) c k other h = counts_changed s.calls d c k (λ l. record l { steps = l.steps + 1 }) (λ l g. g) h
 counts_kept w s (A d) c k other h = counts_apart s.calls d c k (again (length s.order) Plain) other h
 counts_kept w s (M d) c k other h = counts_apart s.calls d c k (again (length s.order) Moved) other h
-counts_kept w s (C d) c k other h = counts_changed s.calls d c k finish (λ l g e. absurd (ended true refl e)) h
-counts_kept w s (X d) c k other h = counts_changed s.calls d c k (λ l. finish (again (length s.order) Exclusive l)) (λ l g e. absurd (ended true refl e)) h
+counts_kept w s (C d) c k other h = counts_changed s.calls d c k finish (λ l g e. absurd (both_ways true e refl)) h
+counts_kept w s (X d) c k other h = counts_changed s.calls d c k (λ l. finish (again (length s.order) Exclusive l)) (λ l g e. absurd (both_ways true e refl)) h
 counts_kept w s G c k other h = h
-
-same_call : (d c : ℕ) → (d == c) ≡ true → d ≡ c
-same_call d c h = grind (arith, eqb_tells)
 
 -- an event of a call that is allowed is of a call that has begun
 begun : (o : Option Live) (f : Live → Option Fault) → of_live o f ≡ None → o ≡ None → ⊥
@@ -97,23 +92,23 @@ begun (Some l) f h e = cc
 
 -- a round of the call
 counts_more : (w : Work) (s : Course) (e : Event) (c k : ℕ) → is_round c e ≡ true → refusal w s e ≡ None → Counts (slice_get s.calls c) k → Counts (slice_get (after w s e).calls c) (k + 1)
-counts_more w s (A d) c k is free h = by (same_call d c is)
+counts_more w s (A d) c k is free h = by (eqb-true d c is)
   where
     by : d ≡ c → Counts (slice_get (after w s (A d)).calls c) (k + 1)
     by same =
         subst (λ x. Counts (slice_get (after w s (A x)).calls c) (k + 1)) (sym same)
         (counts_again s.calls c (length s.order) k Plain (begun (slice_get s.calls c) (λ l. unless (not (is_stale s l)) Stale (unless (is_hit w s c l) Idle (unless (has_round w l) Rounds None))) (subst (λ x. refusal w s (A x) ≡ None) same free)) h)
-counts_more w s (M d) c k is free h = by (same_call d c is)
+counts_more w s (M d) c k is free h = by (eqb-true d c is)
   where
     by : d ≡ c → Counts (slice_get (after w s (M d)).calls c) (k + 1)
     by same =
         subst (λ x. Counts (slice_get (after w s (M x)).calls c) (k + 1)) (sym same)
         (counts_again s.calls c (length s.order) k Moved (begun (slice_get s.calls c) (λ l. None) (subst (λ x. refusal w s (M x) ≡ None) same free)) h)
-counts_more w s (B d) c k is free h = absurd (ended false is refl)
-counts_more w s (S d) c k is free h = absurd (ended false is refl)
-counts_more w s (C d) c k is free h = absurd (ended false is refl)
-counts_more w s (X d) c k is free h = absurd (ended false is refl)
-counts_more w s G c k is free h = absurd (ended false is refl)
+counts_more w s (B d) c k is free h = absurd (both_ways false refl is)
+counts_more w s (S d) c k is free h = absurd (both_ways false refl is)
+counts_more w s (C d) c k is free h = absurd (both_ways false refl is)
+counts_more w s (X d) c k is free h = absurd (both_ways false refl is)
+counts_more w s G c k is free h = absurd (both_ways false refl is)
 
 counts_reach : (w : Work) (s : Course) (es : List Event) (c k : ℕ) → AllAllowed w s es → Counts (slice_get s.calls c) k → Counts (slice_get (reach w s es).calls c) (k + length (filter (is_round c) es))
 counts_reach w s [] c k free h = subst (λ n. Counts (slice_get s.calls c) n) (plus_none k) h
@@ -159,16 +154,13 @@ bounded_end w es e left may b = record { few = λ c. by c (is_round c e) refl; l
 
 -- an event that is no repair and no move
 pub bounded_other : (w : Work) (es : List Event) (e : Event) → ((c : ℕ) → is_round c e ≡ false) → IsBounded w es → IsBounded w (es ++ e ∷ [])
-bounded_other w es e other b = bounded_end w es e (λ c is. absurd (ended (is_round c e) is (other c))) (may e other) b
+bounded_other w es e other b = bounded_end w es e (λ c is. absurd (both_ways (is_round c e) (other c) is)) (may e other) b
   where
-    own : (d : ℕ) → (d == d) ≡ true
-    own d = grind (arith, eqb_tells)
-
     may : (e : Event) → ((c : ℕ) → is_round c e ≡ false) → MayMove w (course_of w es) e
     may (B d) other = tt
     may (S d) other = tt
     may (A d) other = tt
-    may (M d) other = absurd (ended (d == d) (own d) (other d))
+    may (M d) other = absurd (both_ways (d == d) (other d) (eq-eqb d d refl))
     may (C d) other = tt
     may (X d) other = tt
     may G other = tt
@@ -177,7 +169,7 @@ bounded_other w es e other b = bounded_end w es e (λ c is. absurd (ended (is_ro
 left_of : (w : Work) (es : List Event) (d : ℕ) (l : Live) → AllAllowed w beginning es → slice_get (course_of w es).calls d ≡ Some l → l.done ≡ false → used l ≤ w.options.rounds
     → (c : ℕ) → (d == c) ≡ true → length (filter (is_round c) es) ≤ w.options.rounds
 left_of w es d l free is live le c same =
-    subst (λ x. length (filter (is_round x) es) ≤ w.options.rounds) (same_call d c same)
+    subst (λ x. length (filter (is_round x) es) ≤ w.options.rounds) (eqb-true d c same)
     (subst (λ n. n ≤ w.options.rounds) (sym (rounds_are_counted w es free d l is live)) le)
 
 -- a repair that is allowed

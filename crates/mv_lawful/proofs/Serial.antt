@@ -3,10 +3,10 @@ use Rattle.std.proofs.Common.{◌≡◌, ◌≤◌, ◌<◌, inl, inr, ℕ, zero
 use Rattle.std.specs.Prelude.{◌==◌, ◌||◌, ◌&&◌, ◌⊎◌, nat_lt, slice_get, slice_index_or, All, AllPairs, Contains}
 use Rattle.std.specs.List.{list_any}
 use Rattle.std.specs.Option.{option_map}
-use Rattle.std.proofs.lemmas.Bool.Decides.{eqb_tells}
 use Rattle.std.proofs.lemmas.List.Elements.{All-nil, All-cons}
 use Rattle.std.proofs.lemmas.List.Kept.{AllPairs-cons}
 use Rattle.std.proofs.lemmas.Option.{slice_get-get_or, slice_get_within}
+use Rattle.std.proofs.lemmas.Bool.{eqb-true, both_ways, eq-eqb, ne_eqb}
 use Rattle.mv_journal.specs.declared.event.Event.{Event}
 use Rattle.mv_journal.specs.declared.event.Event.TheVariants.{B, S, A, M, C, X, G}
 use Rattle.mv_journal.specs.declared.outcome.Mark.{Mark}
@@ -21,23 +21,11 @@ use Rattle.mv_lawful.proofs.Repairs.{first_allowed}
 
 -- Numbers in a list
 
-same_number : (a b : ℕ) → (a == b) ≡ true → a ≡ b
-same_number a b h = grind (arith, eqb_tells)
-
-number_itself : (a : ℕ) → (a == a) ≡ true
-number_itself a = grind (arith, eqb_tells)
-
-numbers_apart : (a b : ℕ) → (a ≡ b → ⊥) → (a == b) ≡ false
-numbers_apart a b h = grind (arith, eqb_tells)
-
-true_false : (b : Bool) → b ≡ true → b ≡ false → ⊥
-true_false b h k = cc
-
 abbrev stands : ℕ → List ℕ → Bool
 stands c cs = list_any (λ d. d == c) cs
 
 stands_same : (c : ℕ) (cs : List ℕ) → stands c (cs ++ c ∷ []) ≡ true
-stands_same c [] = ap (λ b. b || false) (number_itself c)
+stands_same c [] = ap (λ b. b || false) (eq-eqb c c refl)
 stands_same c (d ∷ cs) = by (d == c) (stands_same c cs)
   where
     by : (b : Bool) → stands c (cs ++ c ∷ []) ≡ true → (b || stands c (cs ++ c ∷ [])) ≡ true
@@ -45,12 +33,12 @@ stands_same c (d ∷ cs) = by (d == c) (stands_same c cs)
     by false h = h
 
 stands_other : (d c : ℕ) (cs : List ℕ) → (c ≡ d → ⊥) → stands d (cs ++ c ∷ []) ≡ stands d cs
-stands_other d c [] h = ap (λ b. b || false) (numbers_apart c d h)
+stands_other d c [] h = ap (λ b. b || false) (ne_eqb c d h)
 stands_other d c (x ∷ cs) h = ap (λ b. (x == d) || b) (stands_other d c cs h)
 
 stands_at : (cs : List ℕ) (k c : ℕ) → slice_get cs k ≡ Some c → stands c cs ≡ true
 stands_at [] k c is = cc
-stands_at (d ∷ cs) zero c is = let same : d ≡ c = cc in subst (λ x. ((x == c) || stands c cs) ≡ true) (sym same) (ap (λ b. b || stands c cs) (number_itself c))
+stands_at (d ∷ cs) zero c is = let same : d ≡ c = cc in subst (λ x. ((x == c) || stands c cs) ≡ true) (sym same) (ap (λ b. b || stands c cs) (eq-eqb c c refl))
 stands_at (d ∷ cs) (suc k) c is = by (d == c) (stands_at cs k c is)
   where
     by : (b : Bool) → stands c cs ≡ true → (b || stands c cs) ≡ true
@@ -65,7 +53,7 @@ contains_it c (d ∷ cs) h = by (d == c) refl h (contains_it c cs)
     later k = (suc k.0, omega (arith, k.1), k.2)
 
     by : (b : Bool) → (d == c) ≡ b → (b || stands c cs) ≡ true → (stands c cs ≡ true → Contains cs c) → Contains (d ∷ cs) c
-    by true e h go = (zero, omega arith, same_number d c e)
+    by true e h go = (zero, omega arith, eqb-true d c e)
     by false e h go = later (go h)
 
 get_end : (cs : List ℕ) (c k x : ℕ) → slice_get (cs ++ c ∷ []) k ≡ Some x → (slice_get cs k ≡ Some x) ⊎ ((k ≡ length cs) × (c ≡ x))
@@ -89,12 +77,12 @@ once_more (d ∷ cs) c h k = by (d == c) refl k (once_more cs c h.1)
   where
     by : (b : Bool) → (d == c) ≡ b → (b || stands c cs) ≡ false → (stands c cs ≡ false → Once (cs ++ c ∷ [])) → Once (d ∷ (cs ++ c ∷ []))
     by true e k go = cc
-    by false e k go = (stands_other d c cs (λ same. true_false (d == c) (subst (λ x. (d == x) ≡ true) (sym same) (number_itself d)) e) ∙ h.0, go k)
+    by false e k go = (stands_other d c cs (λ same. both_ways (d == c) e (subst (λ x. (d == x) ≡ true) (sym same) (eq-eqb d d refl))) ∙ h.0, go k)
 
 none_same : (c : ℕ) (cs : List ℕ) → stands c cs ≡ false → All (λ b. c ≡ b → ⊥) cs
 none_same c cs h k d within same =
     let here : slice_get cs k ≡ Some (slice_index_or cs k d) = slice_get-get_or cs k d within in
-    true_false (stands c cs) (stands_at cs k c (here ∙ ap Some (sym same))) h
+    both_ways (stands c cs) h (stands_at cs k c (here ∙ ap Some (sym same)))
 
 once_pairs : (cs : List ℕ) → Once cs → AllPairs (λ a b. a ≡ b → ⊥) cs
 once_pairs [] h = λ i j d less within. absurd (omega (arith, within))
@@ -179,7 +167,7 @@ changed w order calls c l m o is live still low = record {
     starts_by d x (inr h) = o.starts d x h.1
 
     begin_by : (k d : ℕ) (x : Live) → slice_get order k ≡ Some d → ((d ≡ c) × (m ≡ x)) ⊎ ((d ≡ c → ⊥) × (slice_get calls d ≡ Some x)) → first_start x.turns ≤ k
-    begin_by k d x at (inl h) = absurd (true_false (stands c order) (stands_at order k c (at ∙ ap Some h.0)) away)
+    begin_by k d x at (inl h) = absurd (both_ways (stands c order) away (stands_at order k c (at ∙ ap Some h.0)))
     begin_by k d x at (inr h) = o.after_begin k d x at h.1
 
 -- one live call commits
@@ -215,7 +203,7 @@ committed w order calls c l m o is live finished low = record {
     starts_by d x (inr h) = o.starts d x h.1
 
     begin_by : (k d : ℕ) (x : Live) → (slice_get order k ≡ Some d) ⊎ ((k ≡ length order) × (c ≡ d)) → ((d ≡ c) × (m ≡ x)) ⊎ ((d ≡ c → ⊥) × (slice_get calls d ≡ Some x)) → first_start x.turns ≤ k
-    begin_by k d x (inl at) (inl h) = absurd (true_false (stands c order) (stands_at order k c (at ∙ ap Some h.0)) away)
+    begin_by k d x (inl at) (inl h) = absurd (both_ways (stands c order) away (stands_at order k c (at ∙ ap Some h.0)))
     begin_by k d x (inl at) (inr h) = o.after_begin k d x at h.1
     begin_by k d x (inr at) (inl h) = let s = subst (λ (y : Live). first_start y.turns ≤ length order) h.1 low in let e = at.0 in omega (arith, s, e)
     begin_by k d x (inr at) (inr h) = absurd (h.0 (sym at.1))
@@ -247,7 +235,7 @@ begun w order calls o room = record {
 
     begin_by : (k d : ℕ) (x : Live) → slice_get order k ≡ Some d → (slice_get calls d ≡ Some x) ⊎ ((d ≡ length calls) × (begin (length order) ≡ x)) → first_start x.turns ≤ k
     begin_by k d x at (inl h) = o.after_begin k d x at h
-    begin_by k d x at (inr h) = absurd (true_false (stands d order) (stands_at order k d at) (next_away d h.0))
+    begin_by k d x at (inr h) = absurd (both_ways (stands d order) (next_away d h.0) (stands_at order k d at))
 
 first_again : (n most : ℕ) (mark : Mark) (ts : List Turn) → first_start ts ≤ most → n ≤ most → first_start (ts ++ record { start = n; mark = mark } ∷ []) ≤ most
 first_again n most mark [] h k = k
@@ -266,7 +254,7 @@ room_of w n c h = by (c == n) (nat_lt c w.count) refl refl h
     less h = grind (arith, h)
 
     by : (a b : Bool) → (c == n) ≡ a → nat_lt c w.count ≡ b → unless (a && b) Order None ≡ None → n < w.count
-    by true true e k h = subst (λ x. x < w.count) (same_number c n e) (less k)
+    by true true e k h = subst (λ x. x < w.count) (eqb-true c n e) (less k)
     by true false e k h = cc
     by false b e k h = cc
 
@@ -350,7 +338,7 @@ serial_of w s h = record {
 
         by : (b : Bool) → nat_lt c w.count ≡ b → c < w.count
         by true e = yes' e
-        by false e = absurd (true_false (stands c s.order) k (o.within c (past e)))
+        by false e = absurd (both_ways (stands c s.order) (o.within c (past e)) k)
 
 -- before any event
 at_beginning : (w : Work) → OrderlyAt w beginning

@@ -1,8 +1,7 @@
 -- What is counted up to a token.
-use Rattle.std.proofs.Common.{◌≡◌, ◌<◌, ◌≤◌, ℕ, ◌+◌, Bool, List, [], ◌∷◌, Option, Some, None, refl, sym, ap, subst, ◌∙◌, length, take, drop, reverse, get_or, if◌then◌else◌, add-one}
-use Rattle.std.proofs.Math.Seq.{drop-cons}
+use Rattle.std.proofs.Common.{◌≡◌, ◌<◌, ◌≤◌, ℕ, ◌+◌, Bool, List, [], ◌∷◌, Option, Some, None, refl, sym, ap, subst, ◌∙◌, length, take, drop, reverse, get_or, if◌then◌else◌}
 use Rattle.std.proofs.lemmas.Bool.{le-ltb, lt-ltb}
-use Rattle.std.proofs.lemmas.List.{drop_all, take_more, reverse-append}
+use Rattle.std.proofs.lemmas.List.{drop_all, take_more, reverse-append, drop_more}
 use Rattle.mv_ast.specs.declared.lexeme.Lexeme.{Lexeme}
 use Rattle.mv_ast.specs.declared.limit.Passed.{Passed}
 use Rattle.mv_ast.specs.declared.limit.Which.TheVariants as limit
@@ -14,9 +13,6 @@ front ls k = reverse (take k ls)
 
 front_more : (ls : List Lexeme) (k : ℕ) (d : Lexeme) → k < length ls → front ls (k + 1) ≡ get_or ls k d ∷ front ls k
 front_more ls k d h = ap reverse (take_more ls k d h) ∙ reverse-append (take k ls) (get_or ls k d ∷ [])
-
-rest_more : (ls : List Lexeme) (k : ℕ) (d : Lexeme) → k < length ls → drop k ls ≡ get_or ls k d ∷ drop (k + 1) ls
-rest_more ls k d h = drop-cons ls k d h ∙ ap (λ n. get_or ls k d ∷ drop n ls) (sym (add-one k))
 
 pub depth_turn : (ls : List Lexeme) (k : ℕ) (d : Lexeme) (n m : ℕ) (b : Bool) → k < length ls → n ≡ depth (front ls k) → b ≡ is_behind_end (front ls k)
     → m ≡ deeper (get_or ls k d).kind b n → m ≡ depth (front ls (k + 1))
@@ -55,13 +51,13 @@ rest_turn ls k d n m all h i j p q e =
     let a : depth (get_or ls k d ∷ front ls k) ≤ 32 = subst (λ x. x ≤ 32) (i ∙ ap depth f) p in
     let b : stretch (get_or ls k d ∷ front ls k) ≤ 1000 = subst (λ x. x ≤ 1000) (j ∙ ap stretch f) q in
     ap (λ x. first_behind x (drop (k + 1) ls)) f ∙ (sym (not_over (get_or ls k d) (front ls k) (drop (k + 1) ls) a b)
-    ∙ (ap (first_behind (front ls k)) (sym (rest_more ls k d h)) ∙ e))
+    ∙ (ap (first_behind (front ls k)) (sym (drop_more ls k d h)) ∙ e))
 
 pub depth_passed : (ls : List Lexeme) (k : ℕ) (d : Lexeme) (n : ℕ) (all : Option Passed) → k < length ls → n ≡ depth (front ls (k + 1)) → 32 < n
     → first_behind (front ls k) (drop k ls) ≡ all → Some (at_token limit.Depth (get_or ls k d).number) ≡ all
 depth_passed ls k d n all h i p e =
     let a : 32 < depth (get_or ls k d ∷ front ls k) = subst (λ x. 32 < x) (i ∙ ap depth (front_more ls k d h)) p in
-    sym (over_depth (get_or ls k d) (front ls k) (drop (k + 1) ls) a) ∙ (ap (first_behind (front ls k)) (sym (rest_more ls k d h)) ∙ e)
+    sym (over_depth (get_or ls k d) (front ls k) (drop (k + 1) ls) a) ∙ (ap (first_behind (front ls k)) (sym (drop_more ls k d h)) ∙ e)
 
 pub stretch_passed : (ls : List Lexeme) (k : ℕ) (d : Lexeme) (n m : ℕ) (all : Option Passed) → k < length ls → n ≡ depth (front ls (k + 1)) → m ≡ stretch (front ls (k + 1)) → n ≤ 32 → 1000 < m
     → first_behind (front ls k) (drop k ls) ≡ all → Some (at_token limit.Stretch (get_or ls k d).number) ≡ all
@@ -69,7 +65,7 @@ stretch_passed ls k d n m all h i j p q e =
     let f = front_more ls k d h in
     let a : depth (get_or ls k d ∷ front ls k) ≤ 32 = subst (λ x. x ≤ 32) (i ∙ ap depth f) p in
     let b : 1000 < stretch (get_or ls k d ∷ front ls k) = subst (λ x. 1000 < x) (j ∙ ap stretch f) q in
-    sym (over_stretch (get_or ls k d) (front ls k) (drop (k + 1) ls) a b) ∙ (ap (first_behind (front ls k)) (sym (rest_more ls k d h)) ∙ e)
+    sym (over_stretch (get_or ls k d) (front ls k) (drop (k + 1) ls) a b) ∙ (ap (first_behind (front ls k)) (sym (drop_more ls k d h)) ∙ e)
 
 pub none_passed : (ls : List Lexeme) (k : ℕ) (all : Option Passed) → length ls ≤ k → first_behind (front ls k) (drop k ls) ≡ all → None ≡ all
 none_passed ls k all h e = sym (none_left (front ls k)) ∙ (ap (first_behind (front ls k)) (sym (drop_all k ls h)) ∙ e)

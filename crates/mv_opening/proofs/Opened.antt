@@ -2,7 +2,7 @@
 use Rattle.std.proofs.Common.{true, ◌≡◌, ◌++◌, ◌∷◌, ◌<◌, ◌+◌, ℕ, zero, suc, List, [], length, take, drop, Some, inl, inr, ◌⊎◌, refl, sym, ap, subst, ◌∙◌, arith, append_assoc}
 use Rattle.std.specs.Prelude.{All, slice_get, slice_index_or, slice_set}
 use Rattle.std.proofs.lemmas.List.Elements.{All-cons, All-head, All-nil, All-tail}
-use Rattle.std.proofs.lemmas.List.{drop_more, length-take, take-append-drop, take_more}
+use Rattle.std.proofs.lemmas.List.{drop_more, length-take, take-append-drop, take_more, length-set}
 use Rattle.mv_values.specs.declared.value.Value.{Value}
 use Rattle.mv_values.specs.declared.rows.Keyed.{Keyed}
 use Rattle.mv_values.specs.declared.schema.TableInfo.{TableInfo}
@@ -91,16 +91,6 @@ index_of [] i x d h = cc h
 index_of (y ∷ ys) zero x d h = cc h
 index_of (y ∷ ys) (suc i) x d h = index_of ys i x d h
 
-pub set_twice : {A : Type 0} (xs : List A) (i : ℕ) (x y : A) → slice_set (slice_set xs i x) i y ≡ slice_set xs i y
-set_twice [] i x y = refl
-set_twice (z ∷ xs) zero x y = refl
-set_twice (z ∷ xs) (suc i) x y = ap (λ l. z ∷ l) (set_twice xs i x y)
-
-pub set_length : {A : Type 0} (xs : List A) (i : ℕ) (x : A) → length (slice_set xs i x) ≡ length xs
-set_length [] i x = refl
-set_length (z ∷ xs) zero x = refl
-set_length (z ∷ xs) (suc i) x = ap suc (set_length xs i x)
-
 -- the fault of a block's records
 pub copy_fault : (infos : List TableInfo) (bytes : List ℕ) (there : List (List Keyed)) (c : CopyInfo) (info : TableInfo) (why : CopyFault) (f : OpeningFault)
     → c.closed ≡ true → slice_get infos c.table ≡ Some info → (why ≡ copy.NoMemory) ⊎ IsFirstBad info (rows_at there c.table) (records_of (block_of bytes c)) why → f ≡ in_table c.table why
@@ -138,7 +128,7 @@ copied_at resolved bytes before there after i d lt h g =
     (copied_more resolved.tables bytes before (take i resolved.copies) there c after h g)
 
 pub copied_length : (infos : List TableInfo) (bytes : List ℕ) (there : List (List Keyed)) (c : CopyInfo) (after : List (List Keyed)) → HasCopied infos bytes there c after → length after ≡ length there
-copied_length infos bytes there c after h = ap length h.5 ∙ set_length there c.table h.3
+copied_length infos bytes there c after h = ap length h.5 ∙ length-set there c.table h.3
 
 -- the keys of all tables rise
 pub gathered_rise : (infos : List TableInfo) (values : List (List (List Value))) (tables : List (List Keyed)) → HaveGathered infos values tables → All IsRising tables
@@ -154,11 +144,6 @@ all_set P (z ∷ xs) (suc i) x h p = All-cons P z (slice_set xs i x) (All-head P
 
 pub copied_rise : (infos : List TableInfo) (bytes : List ℕ) (there : List (List Keyed)) (c : CopyInfo) (after : List (List Keyed)) → HasCopied infos bytes there c after → All IsRising there → All IsRising after
 copied_rise infos bytes there c after h rise = subst (All IsRising) (sym h.5) (all_set IsRising there c.table h.3 rise h.4.2.0)
-
-pub all_at : {A : Type 0} (P : A → Type 0) (xs : List A) (i : ℕ) (x : A) → All P xs → slice_get xs i ≡ Some x → P x
-all_at P [] i x h e = cc e
-all_at P (y ∷ ys) zero x h e = let same : y ≡ x = cc e in subst P same (All-head P y ys h)
-all_at P (y ∷ ys) (suc i) x h e = all_at P ys i x (All-tail P y ys h) e
 
 -- one more table is handed over
 one_handed : {A : Type 0} (tables : List A) (i : ℕ) (x y : A) → slice_get tables i ≡ Some x → drop i tables ≡ x ∷ drop (suc i) (slice_set tables i y)

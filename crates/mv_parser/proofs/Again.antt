@@ -1,5 +1,6 @@
 -- What is in the grammar is read, whatever follows that doesn't go on with it.
 use Rattle.std.proofs.Common.{◌≡◌, ℕ, zero, suc, ◌+◌, ◌≤◌, Bool, true, false, cond, not, List, [], ◌∷◌, ◌++◌, Ok, inl, inr, length, refl, sym, ap, subst, ◌∙◌, append_assoc, length-append, arith}
+use Rattle.std.proofs.lemmas.Bool.{not-true}
 use Rattle.mv_ast.specs.declared.lexeme.Lexeme.{Lexeme}
 use Rattle.mv_ast.specs.declared.lexeme.Terminal.{Terminal}
 use Rattle.mv_ast.specs.declared.lexeme.Terminal.TheVariants as word
@@ -108,10 +109,6 @@ pub starts_first : {A : Type 0} (p : Part A) (ts rest : List Lexeme) → is_null
 starts_first p [] rest n h = cc
 starts_first p (l ∷ ts) rest n h = h
 
-pub not_true : (b : Bool) → not b ≡ true → b ≡ false
-not_true true h = cc
-not_true false h = refl
-
 tail_both : {A B C : Type 0} (f : A → B → C) (p : Part A) (q : Part B) (rest : List Lexeme) → starts_with (tail (both f p q)) rest ≡ false
     → (starts_with (tail q) rest ≡ false) × (is_nullable q ≡ true → starts_with (tail p) rest ≡ false)
 tail_both f p q rest h = go (is_nullable q) h
@@ -197,7 +194,7 @@ again R I s c (either p q) k ts v i rest h =
     let k3 = and_true (not (is_nullable p)) (are_apart (first q) (first p)) k2.1 in
     let t = tail_either p q rest h in
     elim i [
-      | inl w ↦ (let b = starts_first p ts rest (not_true (is_nullable p) k3.0) (heads R s p ts v w) in
+      | inl w ↦ (let b = starts_first p ts rest (not-true (is_nullable p) k3.0) (heads R s p ts v w) in
           rw (b, again R I s c p k1.0 ts v w rest t.0) refl)
       | inr w ↦ (let b = stays_free q (first p) ts rest (heads R s q ts v w) k3.1 t.2 in
           rw (b, again R I s c q k2.0 ts v w rest t.1) refl)
@@ -207,7 +204,7 @@ again R I s c (left f p q) k ts v i rest h =
     let k2 = and_true (is_clear q) (cond (not (is_nullable q)) (cond (are_apart (first q) (tail p)) (are_apart (first q) (tail q)) false) false) k1.1 in
     let k3 = and_true (not (is_nullable q)) (cond (are_apart (first q) (tail p)) (are_apart (first q) (tail q)) false) k2.1 in
     let k4 = and_true (are_apart (first q) (tail p)) (are_apart (first q) (tail q)) k3.1 in
-    let n = not_true (is_nullable q) k3.0 in
+    let n = not-true (is_nullable q) k3.0 in
     let t = not_starting (tail p) (tail q ++ first q) rest h in
     let u = not_starting (tail q) (first q) rest t.1 in
     let a = again R I s c p k1.0 i.0 i.2 i.5 (i.1 ++ rest) (pieces_free R s q (tail p) i.1 rest i.3 i.6 k4.0 n t.0) in

@@ -4,6 +4,7 @@ use Rattle.std.specs.Prelude.{IfOk, MatchResult}
 use Rattle.std.proofs.Math.Seq.{take-append_seam}
 use Rattle.std.proofs.lemmas.Bool.{cases_lt}
 use Rattle.std.proofs.lemmas.List.{take-append-drop, take-append-le, length-drop}
+use Rattle.std.proofs.lemmas.Option.{none-some}
 use Rattle.mv_lex.specs.declared.token.Token.{Token}
 use Rattle.mv_ast.specs.declared.lexeme.Lexeme.{Lexeme}
 use Rattle.mv_ast.specs.declared.tree.Script.{Script}
@@ -136,10 +137,6 @@ one_token bytes tokens left t h c =
 abbrev pub IsTold : List ℕ → List Token → Result Script ParseFault → Type 0
 IsTold bytes tokens r = Tells bytes (lexemes bytes tokens) (reading bytes tokens) r
 
-none_some : {A : Type 0} (o : Option A) (x : A) → o ≡ None → o ≡ Some x → ⊥
-none_some None x h i = cc
-none_some (Some y) x h i = cc
-
 same_passed : (o : Option Passed) (v w : Which) (k token : ℕ) → o ≡ Some (at_token v k) → o ≡ Some (at_token w token) → (v ≡ w) × (k ≡ token)
 same_passed o v w k token h i = let e : at_token v k ≡ at_token w token = cc in (ap (λ (p : Passed). p.which) e, ap (λ (p : Passed). p.token) e)
 
@@ -154,9 +151,8 @@ tells_only bytes tokens (Err NoMemory) t s i = refl
 tells_only bytes tokens (Err (Syntax k)) t s i = absurd (no_stop bytes tokens s t.1 i.grammar t.2)
 tells_only bytes tokens (Err (Limit w k)) t s i =
     elim t [
-      | inl p ↦ absurd (none_some (first_early (lexemes bytes tokens)) (at_token w k) i.early p)
-      | inr p ↦ absurd (none_some (first_late bytes (lexemes bytes tokens) s) (at_token w k) i.late
-          (subst (λ x. first_late bytes (lexemes bytes tokens) x ≡ Some (at_token w k)) (same_script bytes tokens s p.1 i.grammar p.2) p.3))
+      | inl p ↦ absurd (none-some (at_token w k) (sym i.early ∙ p))
+      | inr p ↦ absurd (none-some (at_token w k) (sym i.late ∙ (subst (λ x. first_late bytes (lexemes bytes tokens) x ≡ Some (at_token w k)) (same_script bytes tokens s p.1 i.grammar p.2) p.3)))
     ]
 
 pub tells_syntax : (bytes : List ℕ) (tokens : List Token) (r : Result Script ParseFault) → IsTold bytes tokens r
@@ -173,7 +169,7 @@ tells_syntax_told bytes tokens (Err NoMemory) t token c = inr refl
 tells_syntax_told bytes tokens (Err (Syntax k)) t token c = inl (ap (λ n. Err (Syntax n)) (t.3 ∙ sym (one_token bytes tokens t.1 token t.2 c)))
 tells_syntax_told bytes tokens (Err (Limit w k)) t token c =
     elim t [
-      | inl p ↦ absurd (none_some (first_early (lexemes bytes tokens)) (at_token w k) c.early p)
+      | inl p ↦ absurd (none-some (at_token w k) (sym c.early ∙ p))
       | inr p ↦ absurd (c.no_script p.1 (read_is bytes tokens p.1 p.2))
     ]
 
@@ -199,24 +195,23 @@ pub tells_limit_told : (bytes : List ℕ) (tokens : List Token) (r : Result Scri
     → (which : Which) (token : ℕ) → PassesLimit bytes tokens which token → (r ≡ Err (Limit which token)) ⊎ (r ≡ Err NoMemory)
 tells_limit_told bytes tokens (Ok x) t which token c =
     elim c [
-      | inl q ↦ absurd (none_some (first_early (lexemes bytes tokens)) (at_token which token) t.0 q)
-      | inr q ↦ absurd (none_some (first_late bytes (lexemes bytes tokens) x) (at_token which token) t.2
-          (subst (λ s. first_late bytes (lexemes bytes tokens) s ≡ Some (at_token which token)) (sym (same_script bytes tokens q.1 x q.2 t.1)) q.3))
+      | inl q ↦ absurd (none-some (at_token which token) (sym t.0 ∙ q))
+      | inr q ↦ absurd (none-some (at_token which token) (sym t.2 ∙ (subst (λ s. first_late bytes (lexemes bytes tokens) s ≡ Some (at_token which token)) (sym (same_script bytes tokens q.1 x q.2 t.1)) q.3)))
     ]
 tells_limit_told bytes tokens (Err NoMemory) t which token c = inr refl
 tells_limit_told bytes tokens (Err (Syntax k)) t which token c =
     elim c [
-      | inl q ↦ absurd (none_some (first_early (lexemes bytes tokens)) (at_token which token) t.0 q)
+      | inl q ↦ absurd (none-some (at_token which token) (sym t.0 ∙ q))
       | inr q ↦ absurd (no_stop bytes tokens q.1 t.1 q.2 t.2)
     ]
 tells_limit_told bytes tokens (Err (Limit w k)) t which token c =
     elim t [
       | inl p ↦ elim c [
         | inl q ↦ inl (told_limit bytes tokens (first_early (lexemes bytes tokens)) w which k token p q)
-        | inr q ↦ absurd (none_some (first_early (lexemes bytes tokens)) (at_token w k) q.0 p)
+        | inr q ↦ absurd (none-some (at_token w k) (sym q.0 ∙ p))
       ]
       | inr p ↦ elim c [
-        | inl q ↦ absurd (none_some (first_early (lexemes bytes tokens)) (at_token which token) p.0 q)
+        | inl q ↦ absurd (none-some (at_token which token) (sym p.0 ∙ q))
         | inr q ↦ inl (told_limit bytes tokens (first_late bytes (lexemes bytes tokens) p.1) w which k token p.3
             (subst (λ s. first_late bytes (lexemes bytes tokens) s ≡ Some (at_token which token)) (sym (same_script bytes tokens q.1 p.1 q.2 p.2)) q.3))
       ]

@@ -1,5 +1,6 @@
 -- What begins a part is read to its end, whatever follows.
 use Rattle.std.proofs.Common.{◌≡◌, ℕ, zero, suc, ◌+◌, ◌≤◌, Bool, true, false, cond, not, List, [], ◌∷◌, ◌++◌, Ok, Err, ◌⊎◌, inl, inr, length, refl, sym, ap, subst, ◌∙◌, append_assoc, length-append, arith}
+use Rattle.std.proofs.lemmas.Bool.{not-true}
 use Rattle.mv_ast.specs.declared.lexeme.Lexeme.{Lexeme}
 use Rattle.mv_ast.specs.declared.lexeme.Terminal.{Terminal}
 use Rattle.mv_ast.specs.Parts.{Part, give, one, both, either, left, expression, statement, Inner, Is, Begins, Pieces}
@@ -7,7 +8,7 @@ use Rattle.mv_parser.specs.Reading.{◌>>=◌, Read, Inside, read, read_one, mor
 use Rattle.mv_parser.proofs.Basics.{and_true, kind_same, are_apart, apart_not}
 use Rattle.mv_parser.proofs.Takes.{TakesAll, InnerTakes, takes}
 use Rattle.mv_parser.proofs.Stops.{StopsAll, InnerStops, stops}
-use Rattle.mv_parser.proofs.Again.{tail, is_clear, Heads, InnerHeads, heads, heads_pieces, starts_first, not_true, length_first, more_turns, InnerAgain, again}
+use Rattle.mv_parser.proofs.Again.{tail, is_clear, Heads, InnerHeads, heads, heads_pieces, starts_first, length_first, more_turns, InnerAgain, again}
 use Rattle.mv_parser.proofs.Begun.{InnerBegun, whole_begins, begun_heads, heads_append}
 
 -- no more than n tokens are left, behind what was read or from the stop on
@@ -204,7 +205,7 @@ reads_on R I c (left f p q) k ts b post =
           let e : ts ++ post ≡ x.0 ++ (x.1 ++ (x.2 ++ post)) =
           ap (λ zs. zs ++ post) x.5 ∙ append_assoc x.0 (x.1 ++ x.2) post ∙ ap (λ zs. x.0 ++ zs) (append_assoc x.1 x.2 post) in
           subst (λ zs. Past (length post) (read I (left f p q) zs)) (sym e)
-          (left_on R I c f p q k1.0 k2.0 (not_true (is_nullable q) k3.0) k4.0 k4.1 (reads_on R I c p k1.0) (reads_on R I c q k2.0) x.0 x.1 x.2 post x.3 x.4 x.6 x.7 x.8))
+          (left_on R I c f p q k1.0 k2.0 (not-true (is_nullable q) k3.0) k4.0 k4.1 (reads_on R I c p k1.0) (reads_on R I c q k2.0) x.0 x.1 x.2 post x.3 x.4 x.6 x.7 x.8))
     ]
 reads_on R I c expression k ts b post = c.expr_on ts b post
 reads_on R I c statement k ts b post = c.stmt_on ts b post

@@ -1,19 +1,15 @@
 -- Laws of what bytes stand for.
-use Rattle.std.proofs.Common.{◌≡◌, ℕ, zero, suc, ◌+◌, ◌-◌, ◌*◌, ◌<◌, ◌≤◌, min, Bool, true, false, cond, IsTrue, ◌&&◌, nat_eq, List, [], ◌∷◌, ◌++◌, length, take, drop, get_or, slice_range, Option, Some, None, refl, sym, ap, subst, ◌∙◌, arith, add-one, append_assoc, append-nil}
+use Rattle.std.proofs.Common.{◌≡◌, ℕ, zero, suc, ◌+◌, ◌-◌, ◌*◌, ◌<◌, ◌≤◌, min, true, false, cond, IsTrue, nat_eq, List, [], ◌∷◌, ◌++◌, length, take, drop, get_or, slice_range, Option, Some, None, refl, sym, ap, subst, ◌∙◌, arith, add-one, append_assoc, append-nil}
 use Rattle.std.specs.Char.{to_ascii_lowercase}
 use Rattle.std.specs.List.{list_all, All, AllByRecursion, position}
 use Rattle.std.proofs.Math.Seq.{drop-cons}
-use Rattle.std.proofs.lemmas.Bool.{leb-true}
+use Rattle.std.proofs.lemmas.Bool.{leb-true, and_parts}
 use Rattle.std.proofs.lemmas.List.{drop_all}
 use Rattle.std.proofs.lemmas.List.Elements.{All-from_recursion}
 use Rattle.std.proofs.lemmas.List.Quantifiers.{position-Some}
 use Rattle.mv_lex.specs.Bytes.{is_printable}
 use Rattle.mv_values.specs.Printable.{IsPrintable}
 use Rattle.mv_ast.specs.Texts.{lower, number_from, greatest, undoubled, unquoted, first_line, line_end}
-
-both_true : (a b : Bool) → (a && b) ≡ true → (a ≡ true) × (b ≡ true)
-both_true true b h = (refl, h)
-both_true false b h = cc
 
 printable : (b : ℕ) → is_printable b ≡ true → IsPrintable b
 printable b h = grind (arith, leb-true)
@@ -28,7 +24,7 @@ AllPrint (b ∷ bs) = IsPrintable b × AllPrint bs
 
 all_print : (text : List ℕ) → list_all is_printable text ≡ true → AllPrint text
 all_print [] h = tt
-all_print (b ∷ bs) h = let k = both_true (is_printable b) (list_all is_printable bs) h in (printable b k.0, all_print bs k.1)
+all_print (b ∷ bs) h = let k = and_parts (is_printable b) (list_all is_printable bs) h in (printable b k.0, all_print bs k.1)
 
 to_all : (text : List ℕ) → AllPrint text → All IsPrintable text
 to_all text h = All-from_recursion IsPrintable text (go text h)
@@ -71,7 +67,7 @@ unquoted_printable text h =
 -- the bytes behind the first can be printed too
 behind_print : (text : List ℕ) → list_all is_printable text ≡ true → list_all is_printable (drop 1 text) ≡ true
 behind_print [] h = refl
-behind_print (b ∷ bs) h = (both_true (is_printable b) (list_all is_printable bs) h).1
+behind_print (b ∷ bs) h = (and_parts (is_printable b) (list_all is_printable bs) h).1
 
 pub behind_printable : (text : List ℕ) → IsTrue (list_all is_printable text) → IsTrue (list_all is_printable (drop 1 text))
 behind_printable text h = behind_print text h

@@ -1,8 +1,7 @@
 -- Each expression of a source is read from its pieces.
 use Rattle.std.proofs.Common.{◌≡◌, ◌⊎◌, ℕ, zero, suc, ◌≤◌, true, false, nat_lt, List, [], ◌∷◌, ◌++◌, Option, Some, None, refl, sym, ap, subst, ◌∙◌, append_assoc, append-nil, arith, inl, inr}
 use Rattle.std.specs.Prelude.{pos}
-use Rattle.std.proofs.lemmas.Bool.{ltb-true}
-use Rattle.std.proofs.lemmas.Bool.Decides.{nat_tests}
+use Rattle.std.proofs.lemmas.Bool.{ltb-true, le-ltb}
 use Rattle.std.proofs.lemmas.List.{map-append}
 use Rattle.mv_values.specs.declared.value.Value.{Value}
 use Rattle.mv_values.specs.declared.op.Op.{Op}
@@ -312,9 +311,6 @@ printable_two tok Contains a b h g =
     printable_leaf (leaf tok (Two Contains a b)) (call_core word.Contains a b) (λ n. two_at tok Contains a b n)
     (prints_inr (prints_inr (prints_inr (prints_inr (prints_inr (prints_inr (prints_inr (prints_call tok Contains word.Contains a b (sound_key word.Contains) h g))))))))
 
-below : (level n : ℕ) → n ≤ level → nat_lt level n ≡ false
-below level n h = grind (arith, nat_tests)
-
 -- the pieces of what stands for itself
 pieces_value : (t : ℕ) (v : Value) (m : ℕ) → expr_pieces (leaf t (Const v)) m ≡ value_pieces v
 pieces_value t v m = ap (λ f. f m) (of_kind (leaf t (Const v)) (Const v) refl) ∙ of_const v m
@@ -342,13 +338,13 @@ lit_parens text ts us e w k l n h =
 -- prefixes
 lit_neg : (l : Lexeme) (ts : List Lexeme) (e : Expr) → l.kind ≡ word.Minus → Lit 6 ts e → Lit 6 (l ∷ ts) (prefixed Neg l.number e)
 lit_neg l ts e k h n m =
-    let b : nat_lt 6 n ≡ false = below 6 n m in
+    let b : nat_lt 6 n ≡ false = le-ltb 6 n m in
     subst (λ r. Light 0 0 (kinds (l ∷ ts)) (marks r)) (sym (neg_bare l.number e n b))
     (light_joined 0 0 0 (l.kind ∷ []) (kinds ts) (word.Minus ∷ []) (marks (expr_pieces e 6)) (plain_at 0 word.Minus l (key word.Minus) k refl (record { opens = refl; closes = refl; ends = refl })) (h 6 (omega arith)))
 
 lit_not : (l : Lexeme) (ts : List Lexeme) (e : Expr) → l.kind ≡ word.Not → Lit 2 ts e → Lit 2 (l ∷ ts) (prefixed Not l.number e)
 lit_not l ts e k h n m =
-    let b : nat_lt 2 n ≡ false = below 2 n m in
+    let b : nat_lt 2 n ≡ false = le-ltb 2 n m in
     subst (λ r. Light 0 0 (kinds (l ∷ ts)) (marks r)) (sym (not_bare l.number e n b))
     (light_joined 0 0 0 (l.kind ∷ []) (kinds ts) (word.Not ∷ []) (marks (expr_pieces e 2)) (plain_at 0 word.Not l (key word.Not) k refl (record { opens = refl; closes = refl; ends = refl })) (h 2 (omega arith)))
 
@@ -356,7 +352,7 @@ lit_not l ts e k h n m =
 lit_two : (tok : ℕ) (o : TwoOp) (t : Terminal) (level near far : ℕ) (a b : Expr) (l : Lexeme) (xs ys ts : List Lexeme) → Shape o t level near far → Plain t → l.kind ≡ t → ts ≡ xs ++ l ∷ ys
     → Light 0 0 (kinds xs) (marks (expr_pieces a near)) → Light 0 0 (kinds ys) (marks (expr_pieces b far)) → Lit level ts (leaf tok (Two o a b))
 lit_two tok o t level near far a b l xs ys ts s p k e x y n h =
-    subst (λ r. Light 0 0 (kinds ts) (marks r)) (sym (two_bare tok o t level near far a b n s (below level n h)))
+    subst (λ r. Light 0 0 (kinds ts) (marks r)) (sym (two_bare tok o t level near far a b n s (le-ltb level n h)))
     (light_both 0 0 0 ts xs (l ∷ ys) (expr_pieces a near) (key t ∷ expr_pieces b far) e x
     (light_joined 0 0 0 (l.kind ∷ []) (kinds ys) (t ∷ []) (marks (expr_pieces b far)) (plain_at 0 t l (key t) k refl p) y))
 

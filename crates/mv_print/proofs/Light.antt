@@ -1,7 +1,6 @@
 -- Tokens that stand no deeper, and in no longer stretches, than others.
 use Rattle.std.proofs.Common.{◌≡◌, ℕ, suc, ◌+◌, ◌-◌, ◌≤◌, Bool, true, false, cond, List, [], ◌∷◌, ◌++◌, Some, None, map, refl, sym, ap, subst, ◌∙◌, arith, nat_lt}
-use Rattle.std.proofs.lemmas.Bool.{ltb-false}
-use Rattle.std.proofs.lemmas.Bool.Decides.{nat_tests}
+use Rattle.std.proofs.lemmas.Bool.{ltb-false, le-ltb}
 use Rattle.mv_ast.specs.declared.limit.Which.TheVariants as limit
 use Rattle.mv_ast.specs.declared.lexeme.Lexeme.{Lexeme}
 use Rattle.mv_ast.specs.declared.lexeme.Terminal.{Terminal}
@@ -228,14 +227,11 @@ keeps_of before (l ∷ ls) h =
     let all : ((front_at (l ∷ before)).depth ≤ 32) × ((front_at (l ∷ before)).stretch ≤ 1000) × Keeps (front_at (l ∷ before)) (kinds ls) = (k.0, k.1, r) in
     subst (λ z. (z.depth ≤ 32) × (z.stretch ≤ 1000) × Keeps z (kinds ls)) (front_step l before) all
 
-under_false : (m n : ℕ) → n ≤ m → nat_lt m n ≡ false
-under_false m n h = grind (arith, nat_tests)
-
 pub first_of : (before ls : List Lexeme) → Keeps (front_at before) (kinds ls) → first_behind before ls ≡ None
 unfolding first_behind
 first_of before [] h = refl
 first_of before (l ∷ ls) h =
     let all = subst (λ z. (z.depth ≤ 32) × (z.stretch ≤ 1000) × Keeps z (kinds ls)) (sym (front_step l before)) h in
-    let d = under_false 32 (depth (l ∷ before)) all.0 in
-    let t = under_false 1000 (stretch (l ∷ before)) all.1 in
+    let d = le-ltb 32 (depth (l ∷ before)) all.0 in
+    let t = le-ltb 1000 (stretch (l ∷ before)) all.1 in
     rw (d, t) (first_of (l ∷ before) ls all.2)

@@ -3,7 +3,7 @@ use Rattle.std.proofs.Common.{◌≡◌, ℕ, ◌+◌, ◌-◌, ◌*◌, ◌<◌
 use Rattle.std.specs.Prelude.{decimal, ◌^◌}
 use Rattle.std.specs.List.{list_all}
 use Rattle.std.specs.Char.{to_ascii_lowercase}
-use Rattle.std.proofs.lemmas.Bool.{and_parts, and_from, eqb-true}
+use Rattle.std.proofs.lemmas.Bool.{and_parts, and_from, eqb-true, le-ltb}
 use Rattle.std.proofs.lemmas.Bool.Decides.{nat_tests}
 use Rattle.std.proofs.lemmas.Fmt.{decimal_by_steps}
 use Rattle.std.proofs.lemmas.List.{take_at}
@@ -183,9 +183,6 @@ digits_of n h = decimal_by_steps Digits one_digit next_digit n h
 pub number_back : (n : ℕ) → n ≤ greatest → number (decimal n) ≡ n
 number_back n h = let e = (digits_of n (omega arith)).1 in omega arith
 
-not_greater : (m n : ℕ) → n ≤ m → nat_lt m n ≡ false
-not_greater m n h = grind (arith, nat_tests)
-
 -- the digits of a number are that number
 pub digits_back : (n : ℕ) → n ≤ greatest → number_from 0 (decimal n) ≡ n
 digits_back n h = (digits_of n (omega arith)).1
@@ -194,7 +191,7 @@ pub sound_number : (n : ℕ) → n ≤ greatest → Sound (number_piece n)
 sound_number n h =
     let d = (digits_of n (omega arith)).0 in
     let e = (digits_of n (omega arith)).1 in
-    record { base = record { token = token.Number; longest = λ rest. parted_longest token.Number (decimal n) (32 ∷ rest) refl d; is = refl; allowed = number_allowed (decimal n) d; gaps = refl; own = λ m. none_when (nat_lt greatest (number_from 0 (decimal n))) (at_token limit.Literal m) (not_greater greatest (number_from 0 (decimal n)) (omega arith)) }; plain = refl }
+    record { base = record { token = token.Number; longest = λ rest. parted_longest token.Number (decimal n) (32 ∷ rest) refl d; is = refl; allowed = number_allowed (decimal n) d; gaps = refl; own = λ m. none_when (nat_lt greatest (number_from 0 (decimal n))) (at_token limit.Literal m) (le-ltb greatest (number_from 0 (decimal n)) (omega arith)) }; plain = refl }
 
 -- texts
 undoubled_quote : (b : ℕ) (bs : List ℕ) (q : Bool) → (b == 39) ≡ q → undoubled (doubled bs) ≡ bs → undoubled (doubled (b ∷ bs)) ≡ b ∷ bs

@@ -1,8 +1,6 @@
 -- Pieces of expressions and statements that are written part by part.
-use Rattle.std.proofs.Common.{◌≡◌, ◌≤◌, ℕ, Bool, List, [], ◌∷◌, ◌++◌, Result, Ok, Err, map, length, take, drop, get_or, sym, ap, ◌∙◌, ◌-◌, arith, length-drop}
-use Rattle.std.specs.Result.{OnOk}
+use Rattle.std.proofs.Common.{◌≡◌, ◌≤◌, ℕ, Bool, List, [], ◌∷◌, ◌++◌, map, length, take, drop, get_or, sym, ap, ◌∙◌, ◌-◌, arith, length-drop}
 use Rattle.std.proofs.lemmas.List.{take_all}
-use Rattle.mv_values.specs.declared.memory.NoMemory.{NoMemory}
 use Rattle.mv_values.specs.declared.value.Value.{Value}
 use Rattle.mv_ast.specs.declared.lexeme.Terminal.{Terminal}
 use Rattle.mv_ast.specs.declared.lexeme.Terminal.TheVariants as word
@@ -23,10 +21,6 @@ use Rattle.mv_ast.specs.declared.tree.TwoOp.{TwoOp}
 use Rattle.mv_ast.specs.Limits.{together}
 use Rattle.mv_print.specs.Printing.{Piece, Leveled, key, line_end, name_piece, variable_piece, value_pieces, put, written, kind_step, expr_step, expr_pieces, whole_expr, one_lead, one_level, one_tail, one_pieces, two_lead, two_middle, two_tail, two_pieces, left_level, right_level, query_pieces, else_lead, separated, statement_step, statement_pieces, statements_pieces}
 use Rattle.mv_print.proofs.Writing.{written_joined, else_mapped}
-
-pub on_ok : {P Q : Type 0} (r : Result (Unit {0}) NoMemory) → (P → Q) → OnOk r P → OnOk r Q
-on_ok (Ok x) f p = f p
-on_ok (Err e) f p = tt
 
 -- pieces behind pieces, and behind one piece
 pub follow : (old middle new : List ℕ) (ps qs : List Piece) → middle ≡ written old ps → new ≡ written middle qs → new ≡ written old (ps ++ qs)

@@ -6,7 +6,8 @@ use Rattle.std.specs.Ordering.{is_eq}
 use Rattle.std.specs.declared.cmp.Ordering.{Ordering}
 use Rattle.std.specs.declared.cmp.Ordering.TheVariants.{Less, Equal, Greater}
 use Rattle.std.proofs.lemmas.List.{set-set, set-get_or, get_or-set_same, get_or-set_other, length-set}
-use Rattle.std.proofs.lemmas.Bool.Decides.{eqb_tells}
+use Rattle.std.proofs.lemmas.Bool.{eqb-true, eqb-false}
+use Rattle.std.proofs.lemmas.Option.{slice_get_within}
 use Rattle.mv_values.specs.declared.value.Value.{Value}
 use Rattle.mv_values.specs.declared.rows.Keyed.{Keyed}
 use Rattle.mv_values.specs.declared.patch.Patch.{Patch}
@@ -140,15 +141,9 @@ pub length_applied : (ws : List Write) (db : List (List Keyed)) → length (appl
 length_applied [] db = refl
 length_applied (w ∷ ws) db = length_applied ws (written w db) ∙ length_written w db
 
-differ : (a b : ℕ) → a ≡ b → (a == b) ≡ false → ⊥
-differ a b same h = grind (arith, eqb_tells)
-
-alike : (a b : ℕ) → (a == b) ≡ true → a ≡ b
-alike a b h = grind (arith, eqb_tells)
-
 -- a write changes its own table alone
 pub table_other : (w : Write) (db : List (List Keyed)) (t : ℕ) → (w.table == t) ≡ false → rows_at (written w db) t ≡ rows_at db t
-table_other w db t h = get_or-set_other db w.table t (patched_rows w.key w.patch (rows_at db w.table)) [] (λ same. differ w.table t (sym same) h)
+table_other w db t h = get_or-set_other db w.table t (patched_rows w.key w.patch (rows_at db w.table)) [] (λ same. eqb-false w.table t h (sym same))
 
 pub table_same : (w : Write) (db : List (List Keyed)) → w.table < length db → rows_at (written w db) w.table ≡ patched_rows w.key w.patch (rows_at db w.table)
 table_same w db lt = get_or-set_same db w.table (patched_rows w.key w.patch (rows_at db w.table)) [] lt
@@ -184,7 +179,7 @@ row_written w db t key lt h = by (w.table == t) refl (is_eq (key_order w.key key
 
     at_table : (w.table == t) ≡ true → rows_at (written w db) t ≡ patched_rows w.key w.patch (rows_at db t)
     at_table e =
-        let same = alike w.table t e in
+        let same = eqb-true w.table t e in
         subst (λ u. rows_at (written w db) u ≡ patched_rows w.key w.patch (rows_at db u)) same (table_same w db (subst (λ u. u < length db) (sym same) lt))
 
     equal : (o : Ordering) → is_eq o ≡ true → o ≡ Equal
@@ -317,13 +312,8 @@ absent : (rows : List Keyed) (key : List Value) (place : Result ℕ ℕ) (at : �
 absent rows key place at is h = subst (IsPlace rows key) is h
 
 -- a place is within the rows
-within : (rows : List Keyed) (at : ℕ) (item : Keyed) → slice_get rows at ≡ Some item → at < length rows
-within [] at item is = cc
-within (x ∷ xs) zero item is = omega arith
-within (x ∷ xs) (suc at) item is = omega (arith, within xs at item is)
-
 pub place_within : (rows : List Keyed) (key : List Value) (place : Result ℕ ℕ) → IsPlace rows key place → MatchResult place (λ at. at < length rows) (λ at. at ≤ length rows)
-place_within rows key (Ok at) h = within rows at h.0 h.1
+place_within rows key (Ok at) h = slice_get_within rows at h.0 h.1
 place_within rows key (Err at) h = h.0
 
 pub row_found : (rows : List Keyed) (key : List Value) (place : Result ℕ ℕ) (at : ℕ) (d : Keyed) → IsRising rows → place ≡ Ok at → IsPlace rows key place → Some (slice_index_or rows at d).row ≡ row_of rows key
@@ -336,7 +326,7 @@ row_lacking rows key place at is h = sym (row_gap key rows at (absent rows key p
 
 pub put_over : (rows : List Keyed) (key row : List Value) (place : Result ℕ ℕ) (at : ℕ) → IsRising rows → place ≡ Ok at → IsPlace rows key place → (at < length rows) × (with_row rows at row ≡ placed key (Some row) rows)
 put_over rows key row place at rising is h =
-    let p = there rows key place at is h in (within rows at p.0 p.1, sym (placed_at key row rows at p.0 (rises_from rows rising) p.1 p.2))
+    let p = there rows key place at is h in (slice_get_within rows at p.0 p.1, sym (placed_at key row rows at p.0 (rises_from rows rising) p.1 p.2))
 
 pub put_out : (rows : List Keyed) (key : List Value) (place : Result ℕ ℕ) (at : ℕ) → IsRising rows → place ≡ Ok at → IsPlace rows key place → remove rows at ≡ placed key None rows
 put_out rows key place at rising is h = let p = there rows key place at is h in sym (placed_out key rows at p.0 (rises_from rows rising) p.1 p.2)

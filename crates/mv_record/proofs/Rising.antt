@@ -8,6 +8,7 @@ use Rattle.std.specs.declared.cmp.Ordering.TheVariants.{Less, Equal, Greater}
 use Rattle.std.proofs.lemmas.Cmp.{tied_itself}
 use Rattle.std.proofs.lemmas.List.Elements.{All-nil, All-cons}
 use Rattle.std.proofs.lemmas.List.Kept.{AllPairs-cons}
+use Rattle.std.proofs.lemmas.Option.{none-some}
 use Rattle.mv_values.specs.declared.value.Value.{Value}
 use Rattle.mv_values.specs.declared.rows.Keyed.{Keyed}
 use Rattle.mv_values.specs.declared.pred.Pred.{Pred}
@@ -74,14 +75,11 @@ row_below key (x ∷ xs) h = row_later x xs key (ap is_eq (turned key x.key Less
 keyed_same : (x y : Keyed) → x.key ≡ y.key → x.row ≡ y.row → x ≡ y
 keyed_same x y h k = λ i. record { key = h i; row = k i }
 
-none_some : {A : Type 0} (o : Option A) (a : A) → o ≡ None → o ≡ Some a → ⊥
-none_some o a h k = cc
-
 -- rising rows that have the same row under each key are one list
 pub same_rows : (xs ys : List Keyed) → Rises xs → Rises ys → ((key : List Value) → row_of xs key ≡ row_of ys key) → xs ≡ ys
 same_rows [] [] h g f = refl
-same_rows [] (y ∷ ys) h g f = absurd (none_some (row_of (y ∷ ys) y.key) y.row (sym (f y.key)) (row_here y ys y.key (same_key y.key)))
-same_rows (x ∷ xs) [] h g f = absurd (none_some (row_of (x ∷ xs) x.key) x.row (f x.key) (row_here x xs x.key (same_key x.key)))
+same_rows [] (y ∷ ys) h g f = absurd (none-some y.row (f y.key ∙ row_here y ys y.key (same_key y.key)))
+same_rows (x ∷ xs) [] h g f = absurd (none-some x.row (sym (f x.key) ∙ row_here x xs x.key (same_key x.key)))
 same_rows (x ∷ xs) (y ∷ ys) h g f = by (key_order x.key y.key) refl (same_rows xs ys h.1 g.1)
   where
     tails : key_order x.key y.key ≡ Equal → (key : List Value) (o : Ordering) → key_order x.key key ≡ o → row_of xs key ≡ row_of ys key
@@ -97,10 +95,10 @@ same_rows (x ∷ xs) (y ∷ ys) h g f = by (key_order x.key y.key) refl (same_ro
 
     by : (o : Ordering) → key_order x.key y.key ≡ o → (((key : List Value) → row_of xs key ≡ row_of ys key) → xs ≡ ys) → x ∷ xs ≡ y ∷ ys
     by Less e more =
-        absurd (none_some (row_of (x ∷ xs) x.key) x.row (f x.key ∙ row_below x.key (y ∷ ys) (e, lower x.key y.key ys e g.0)) (row_here x xs x.key (same_key x.key)))
+        absurd (none-some x.row (sym (f x.key ∙ row_below x.key (y ∷ ys) (e, lower x.key y.key ys e g.0)) ∙ row_here x xs x.key (same_key x.key)))
     by Greater e more =
         let back = turned x.key y.key Greater e in
-        absurd (none_some (row_of (y ∷ ys) y.key) y.row (sym (f y.key) ∙ row_below y.key (x ∷ xs) (back, lower y.key x.key xs back h.0)) (row_here y ys y.key (same_key y.key)))
+        absurd (none-some y.row (sym (sym (f y.key) ∙ row_below y.key (x ∷ xs) (back, lower y.key x.key xs back h.0)) ∙ row_here y ys y.key (same_key y.key)))
     by Equal e more =
         let rows : x.row ≡ y.row = some_same x.row y.row (sym (row_here x xs x.key (same_key x.key)) ∙ (f x.key ∙ row_here y ys x.key (turned x.key y.key Equal e))) in
         let head : x ≡ y = keyed_same x y (exact_keys x.key y.key e) rows in

@@ -1,10 +1,10 @@
 -- The rows that a predicate of tests of WHERE finds, and the keys that it admits.
-use Rattle.std.proofs.Common.{◌≡◌, ℕ, zero, suc, ◌==◌, Bool, true, false, cond, List, [], ◌∷◌, Option, Some, None, Result, Ok, Err, All, map, slice_index_or, pos, refl, sym, ap, subst, ◌∙◌, arith}
+use Rattle.std.proofs.Common.{◌≡◌, ℕ, zero, suc, ◌==◌, Bool, true, false, List, [], ◌∷◌, Option, Some, None, Result, Ok, Err, All, map, slice_index_or, pos, refl, sym, ap, subst, ◌∙◌, arith}
 use Rattle.std.specs.Prelude.{◌&&◌}
-use Rattle.std.specs.List.{filter, list_all, position}
+use Rattle.std.specs.List.{list_all, position}
 use Rattle.std.proofs.lemmas.Bool.Decides.{eqb_tells}
 use Rattle.std.proofs.lemmas.List.{get_or-map}
-use Rattle.std.proofs.lemmas.List.Elements.{All-weaker}
+use Rattle.std.proofs.lemmas.List.Elements.{All-weaker, filter_agree}
 use Rattle.std.proofs.lemmas.List.Quantifiers.{position-Some}
 use Rattle.mv_values.specs.declared.value.Value.{Value}
 use Rattle.mv_values.specs.declared.value.Value.TheVariants.{Int}
@@ -30,15 +30,10 @@ pub matches_meets : (keys : List ℕ) (checks : List Check) (row : List Value) �
 matches_meets keys [] row = refl
 matches_meets keys (c ∷ cs) row = ap (λ b. passes row (test_of keys c) && b) (matches_meets keys cs row)
 
--- two tests that agree on each row keep the same rows
-filter_same : (p q : Keyed → Bool) (rows : List Keyed) → ((item : Keyed) → p item ≡ q item) → filter p rows ≡ filter q rows
-filter_same p q [] h = refl
-filter_same p q (x ∷ xs) h = ap (λ b. cond b (x ∷ filter p xs) (filter p xs)) (h x) ∙ ap (λ l. cond (q x) (x ∷ l) l) (filter_same p q xs h)
-
 -- the predicate of tests finds the rows that pass them
 pub found_matching : (tables : List TableInfo) (t : ℕ) (checks : List Check) (cs : List ℕ) (db : List (List Keyed)) → found_by (pred_of tables t checks cs) db ≡ matching checks (rows_at db t)
 found_matching tables t checks cs db =
-    filter_same (λ item. matches (pred_of tables t checks cs) item.row) (λ item. meets checks item.row) (rows_at db t) (λ item. matches_meets (key_columns tables t) checks item.row)
+    filter_agree (λ item. matches (pred_of tables t checks cs) item.row) (λ item. meets checks item.row) (λ item. matches_meets (key_columns tables t) checks item.row) (rows_at db t)
 
 -- no tests leave all rows
 pub matching_all : (rows : List Keyed) → matching [] rows ≡ rows

@@ -1,7 +1,7 @@
 -- Rows that have a value of its type for each column keep it.
 use Rattle.std.proofs.Common.{◌≡◌, ℕ, zero, suc, ℤ, pos, negsuc, Bool, true, false, List, [], ◌∷◌, Option, Some, None, Result, Ok, Err, refl, sym, subst, ◌∙◌, map, length, slice_get, slice_set, All, IfOk, leb-true, if◌then◌else◌}
 use Rattle.std.proofs.lemmas.List.Elements.{All-nil, All-cons, All-head, All-tail, All-map, All-weaker, All-get_or}
-use Rattle.std.proofs.lemmas.Option.{get_or_from_slice_get, slice_get_within}
+use Rattle.std.proofs.lemmas.Option.{get_or_from_slice_get, slice_get_within, same_Some}
 use Rattle.std.specs.Prelude.{nat_le, ◌==◌}
 use Rattle.std.proofs.lemmas.Result.{IfOk-weaker}
 use Rattle.std.specs.List.{AllZip, list_any}
@@ -54,9 +54,6 @@ pub then_any : {A B : Type 0} (r : Result A End) (go : A → Result B End) (Q : 
 then_any (Ok x) go Q k = k x
 then_any (Err e) go Q k = tt
 
-some_is : {A : Type 0} (x y : A) → Some x ≡ Some y → x ≡ y
-some_is x y h = cc
-
 pub all_get : {X : Type 0} (P : X → Type 0) (xs : List X) (n : ℕ) (x : X) → All P xs → slice_get xs n ≡ Some x → P x
 all_get P xs n x all at = subst P (get_or_from_slice_get xs n x x at) (All-get_or P xs n x (slice_get_within xs n x at) all)
 
@@ -71,7 +68,7 @@ kind_is (column'.Text n) (Text t) h = refl
 pub row_kinds : (types : List ColType) (row : List Value) → IsRow types row → OfKinds (map kind_of_column types) row
 row_kinds [] row h c k at = cc
 row_kinds (t ∷ ts) [] h c k at = absurd h
-row_kinds (t ∷ ts) (v ∷ vs) h zero k at = kind_is t v h.0 ∙ some_is (kind_of_column t) k at
+row_kinds (t ∷ ts) (v ∷ vs) h zero k at = kind_is t v h.0 ∙ same_Some (kind_of_column t) k at
 row_kinds (t ∷ ts) (v ∷ vs) h (suc c) k at = row_kinds ts vs h.1 c k at
 
 pub table_kinds : (table : TableInfo) (row : List Value) → IsRow (types_of table) row → OfKinds (kinds_of table) row
@@ -209,7 +206,7 @@ fit_is : (columns : List Column) (c : ℕ) (k : Kind) (v : Value) → slice_get 
 fit_is [] c k v at h = cc
 fit_is (x ∷ xs) zero k v at h =
     IfOk-weaker (fit_kind x.kind v) (IsOf x.kind) (Suited (x ∷ xs) zero) (λ w is. record { type = x.kind; at = refl; is = is })
-    (fit_kind_is x.kind v (h ∙ sym (some_is (kind_of_column x.kind) k at)))
+    (fit_kind_is x.kind v (h ∙ sym (same_Some (kind_of_column x.kind) k at)))
 fit_is (x ∷ xs) (suc c) k v at h =
     IfOk-weaker (fit xs c v) (Suited xs c) (Suited (x ∷ xs) (suc c)) (λ w s. record { type = s.type; at = s.at; is = s.is }) (fit_is xs c k v at h)
 
@@ -217,7 +214,7 @@ cell_set : (types : List ColType) (row : List Value) (c : ℕ) (type : ColType) 
 cell_set [] [] c type v h at is = tt
 cell_set [] (w ∷ ws) c type v h at is = absurd h
 cell_set (t ∷ ts) [] c type v h at is = absurd h
-cell_set (t ∷ ts) (w ∷ ws) zero type v h at is = (subst (λ u. IsOf u v) (sym (some_is t type at)) is, h.1)
+cell_set (t ∷ ts) (w ∷ ws) zero type v h at is = (subst (λ u. IsOf u v) (sym (same_Some t type at)) is, h.1)
 cell_set (t ∷ ts) (w ∷ ws) (suc c) type v h at is = (h.0, cell_set ts ws c type v h.1 at is)
 
 column_set : (columns : List Column) (keys : List ℕ) (c : ℕ) (v : Value) (row : List Value) → IsRow (map (λ (x : Column). x.kind) columns) row → Suited columns c v
@@ -298,12 +295,12 @@ module _ (table : TableInfo) where
 pub rows_typed : (tables : List TableInfo) (db : Tables) (n : ℕ) (table : TableInfo) → AreTyped tables db → slice_get tables n ≡ Some table → All (HasRow table) (rows_at db n)
 rows_typed [] db n table h at = cc
 rows_typed (t ∷ ts) [] n table h at = absurd h
-rows_typed (t ∷ ts) (rows ∷ db) zero table h at = subst (λ u. All (HasRow u) rows) (some_is t table at) h.0
+rows_typed (t ∷ ts) (rows ∷ db) zero table h at = subst (λ u. All (HasRow u) rows) (same_Some t table at) h.0
 rows_typed (t ∷ ts) (rows ∷ db) (suc n) table h at = rows_typed ts db n table h.1 at
 
 pub tables_set : (tables : List TableInfo) (db : Tables) (n : ℕ) (table : TableInfo) (rows : List Keyed) → AreTyped tables db → slice_get tables n ≡ Some table → All (HasRow table) rows
     → AreTyped tables (slice_set db n rows)
 tables_set [] db n table rows h at all = cc
 tables_set (t ∷ ts) [] n table rows h at all = absurd h
-tables_set (t ∷ ts) (r ∷ db) zero table rows h at all = (subst (λ u. All (HasRow u) rows) (sym (some_is t table at)) all, h.1)
+tables_set (t ∷ ts) (r ∷ db) zero table rows h at all = (subst (λ u. All (HasRow u) rows) (sym (same_Some t table at)) all, h.1)
 tables_set (t ∷ ts) (r ∷ db) (suc n) table rows h at all = (h.0, tables_set ts db n table rows h.1 at all)

@@ -175,9 +175,6 @@ scope_turn params base vars around row ts s = record {
 
 -- Tables
 
-there : {A : Type 0} (xs : List A) (i : ℕ) (x : A) → slice_get xs i ≡ Some x → i < length xs
-there xs i x h = slice_get_within xs i x h
-
 wide : (tables : List TableInfo) (t : ℕ) (info : TableInfo) → slice_get tables t ≡ Some info → length (kinds_of info) ≡ length (columns_at tables t)
 wide tables t info is = length-map info.columns (λ (c : Column). kind_of_column c.kind) ∙ sym (ap (λ o. length (columns_in o)) is)
 
@@ -194,7 +191,7 @@ plain_items : (tables : List TableInfo) (vars : Vars) (t : ℕ) (info : TableInf
 plain_items tables vars t info [] is h = tt
 plain_items tables vars t info (i ∷ rest) is h =
     let first = h 0 i (omega arith) in
-    let lt : i.column < length (kinds_of info) = there (kinds_of info) i.column first.0 first.1 in (
+    let lt : i.column < length (kinds_of info) = slice_get_within (kinds_of info) i.column first.0 first.1 in (
       (omega (arith, lt, wide tables t info is), ap (λ o. list_any (λ k. k == i.column) (key_in o)) is ∙ not_contained info.key i.column first.2),
       plain_items tables vars t info rest is (λ k d lt. h (suc k) d (omega (arith, lt))),
     )

@@ -6,6 +6,7 @@ use Rattle.std.specs.List.{flat_map, join_by, enumerate_from}
 use Rattle.std.specs.Fmt.{digits, digits_onto, digit_glyph, signed_decimal}
 use Rattle.std.proofs.lemmas.Bool.Decides.{eqb_tells, nat_tests}
 use Rattle.std.proofs.lemmas.List.Elements.{All-head, All-tail, All-weaker}
+use Rattle.std.proofs.lemmas.Bool.{both_ways}
 use Rattle.mv_values.specs.declared.value.Value.{Value}
 use Rattle.mv_values.specs.declared.value.Value.TheVariants.{Int, Text}
 use Rattle.mv_values.specs.declared.calls.End.{End}
@@ -103,9 +104,6 @@ by_bytes (b ∷ bs) h = by (by_bytes bs) (b == 10) (b == 39) (b == 106) refl ref
     by go false true u p q r e = cc
     by go true t u p q r e = cc
 
-clash : (b : Bool) → b ≡ true → b ≡ false → ⊥
-clash b h k = cc
-
 digit_plain : (d : ℕ) → IsPlainByte (digit_glyph false (d % 10))
 digit_plain d = by (nat_lt (d % 10) 10) refl
   where
@@ -114,7 +112,7 @@ digit_plain d = by (nat_lt (d % 10) 10) refl
 
     by : (t : Bool) → nat_lt (d % 10) 10 ≡ t → IsPlainByte (if t then 48 + d % 10 else 87 + d % 10)
     by true e = (grind (arith, eqb_tells), grind (arith, eqb_tells, small), grind (arith, eqb_tells, small))
-    by false e = absurd (clash (nat_lt (d % 10) 10) small e)
+    by false e = absurd (both_ways (nat_lt (d % 10) 10) e small)
 
 onto_plain : (k n : ℕ) (acc : List ℕ) → ArePlain acc → ArePlain (digits_onto k 10 false n acc)
 onto_plain zero n acc h = h

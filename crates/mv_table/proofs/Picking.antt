@@ -8,6 +8,7 @@ use Rattle.std.specs.declared.cmp.Ordering.TheVariants.{Less, Equal, Greater}
 use Rattle.std.proofs.lemmas.Cmp.{tied_itself}
 use Rattle.std.proofs.lemmas.List.Elements.{All-nil, All-cons}
 use Rattle.std.proofs.lemmas.List.Kept.{AllPairs-cons}
+use Rattle.std.proofs.lemmas.Option.{none-some}
 use Rattle.mv_values.specs.declared.value.Value.{Value}
 use Rattle.mv_values.specs.Order.{key_order}
 use Rattle.mv_values.proofs.KeyOrder.{key_order_total, exact_keys}
@@ -18,9 +19,6 @@ same_key a = tied_itself key_order_total a
 
 pub turned : (a b : List Value) (o : Ordering) → key_order a b ≡ o → key_order b a ≡ ordering_reverse o
 turned a b o h = key_order_total.antisymm b a ∙ ap ordering_reverse h
-
-pub none_some : {A : Type 0} (o : Option A) (a : A) → o ≡ None → o ≡ Some a → ⊥
-none_some o a h k = cc
 
 module _ {T : Type 0} where
   -- the key is below those of the entries
@@ -71,8 +69,8 @@ module _ {T : Type 0} where
 
   same_items : (xs ys : List (List Value × T)) → Rise xs → Rise ys → ((key : List Value) → item_of xs key ≡ item_of ys key) → xs ≡ ys
   same_items [] [] h g f = refl
-  same_items [] (y ∷ ys) h g f = absurd (none_some (item_of (y ∷ ys) y.0) y.1 (sym (f y.0)) (item_here y ys y.0 (same_key y.0)))
-  same_items (x ∷ xs) [] h g f = absurd (none_some (item_of (x ∷ xs) x.0) x.1 (f x.0) (item_here x xs x.0 (same_key x.0)))
+  same_items [] (y ∷ ys) h g f = absurd (none-some y.1 (f y.0 ∙ item_here y ys y.0 (same_key y.0)))
+  same_items (x ∷ xs) [] h g f = absurd (none-some x.1 (sym (f x.0) ∙ item_here x xs x.0 (same_key x.0)))
   same_items (x ∷ xs) (y ∷ ys) h g f = by (key_order x.0 y.0) refl (same_items xs ys h.1 g.1)
     where
       tails : key_order x.0 y.0 ≡ Equal → (key : List Value) (o : Ordering) → key_order x.0 key ≡ o → item_of xs key ≡ item_of ys key
@@ -85,10 +83,10 @@ module _ {T : Type 0} where
 
       by : (o : Ordering) → key_order x.0 y.0 ≡ o → (((key : List Value) → item_of xs key ≡ item_of ys key) → xs ≡ ys) → x ∷ xs ≡ y ∷ ys
       by Less e more =
-          absurd (none_some (item_of (x ∷ xs) x.0) x.1 (f x.0 ∙ item_below x.0 (y ∷ ys) (e, lower x.0 y.0 ys e g.0)) (item_here x xs x.0 (same_key x.0)))
+          absurd (none-some x.1 (sym (f x.0 ∙ item_below x.0 (y ∷ ys) (e, lower x.0 y.0 ys e g.0)) ∙ item_here x xs x.0 (same_key x.0)))
       by Greater e more =
           let back = turned x.0 y.0 Greater e in
-          absurd (none_some (item_of (y ∷ ys) y.0) y.1 (sym (f y.0) ∙ item_below y.0 (x ∷ xs) (back, lower y.0 x.0 xs back h.0)) (item_here y ys y.0 (same_key y.0)))
+          absurd (none-some y.1 (sym (sym (f y.0) ∙ item_below y.0 (x ∷ xs) (back, lower y.0 x.0 xs back h.0)) ∙ item_here y ys y.0 (same_key y.0)))
       by Equal e more =
           let items : x.1 ≡ y.1 = some_same x.1 y.1 (sym (item_here x xs x.0 (same_key x.0)) ∙ (f x.0 ∙ item_here y ys x.0 (turned x.0 y.0 Equal e))) in
           let head : x ≡ y = entry_same x y (exact_keys x.0 y.0 e) items in

@@ -6,9 +6,10 @@ use Rattle.std.specs.Prelude.{pos, IfSome}
 use Rattle.std.proofs.lemmas.Bool.{cases_lt}
 use Rattle.std.proofs.lemmas.Cmp.{tied_itself}
 use Rattle.std.specs.Cmp.Lexicographic.{slice_cmp}
-use Rattle.std.specs.Ordering.{ordering_then, ordering_reverse, is_lt, is_le, is_eq, is_gt, nat_cmp}
+use Rattle.std.specs.Ordering.{ordering_then, ordering_reverse, is_lt, is_le, is_gt, nat_cmp}
 use Rattle.std.specs.declared.cmp.Ordering.{Ordering}
 use Rattle.std.specs.declared.cmp.Ordering.TheVariants.{Less, Equal, Greater}
+use Rattle.std.specs.Cmp.{Equal-is}
 use Rattle.mv_values.specs.declared.value.Value.{Value}
 use Rattle.mv_values.specs.declared.value.Value.TheVariants.{Int, Text}
 use Rattle.mv_values.specs.declared.op.Op.{Op}
@@ -32,14 +33,9 @@ both_only Le h = cc
 both_only Gt h = cc
 both_only Ge h = cc
 
-equal_is : (o : Ordering) → is_eq o ≡ true → o ≡ Equal
-equal_is Less h = cc
-equal_is Equal h = refl
-equal_is Greater h = cc
-
 -- a test by `=` leaves its value alone
 pub exactly : (test : Test) (v : Value) → bounds Both test.op ≡ true → allows test v ≡ true → v ≡ test.value
-exactly test v side h = exact_values v test.value (equal_is (value_order v test.value) (subst (λ op. op_holds op (value_order v test.value) ≡ true) (both_only test.op side) h))
+exactly test v side h = exact_values v test.value ((Equal-is (value_order v test.value)).0 (subst (λ op. op_holds op (value_order v test.value) ≡ true) (both_only test.op side) h))
 
 pub agrees_none : (key : List Value) → Agrees key []
 agrees_none key i lt = absurd (omega (arith, lt))

@@ -1,10 +1,9 @@
 -- A program's script: its calls run by the graphs of their procedures.
 use Rattle.std.proofs.Common.{◌≡◌, ◌≤◌, ◌<◌, ℕ, zero, suc, List, [], ◌∷◌, Option, Some, None, length, slice_get, refl, sym, ap, subst, ◌∙◌, arith}
-use Rattle.std.specs.List.{All, AllZip}
+use Rattle.std.specs.List.{AllZip}
 use Rattle.std.proofs.lemmas.Slice.Zip.{AllZip-long}
 use Rattle.std.proofs.lemmas.Option.{slice_get-map}
 use Rattle.std.specs.Option.{option_map}
-use Rattle.std.specs.Prelude.{slice_index_or}
 use Rattle.mv_values.specs.declared.calls.Call.{Call}
 use Rattle.mv_values.specs.declared.calls.Options.{Options}
 use Rattle.mv_catalog.specs.declared.resolved.ProcInfo.{ProcInfo}
@@ -15,6 +14,7 @@ use Rattle.mv_alone.specs.TableAfter.{Tables, outcome, outcome_in, outcome_at, t
 use Rattle.mv_record.specs.Runs.{Run}
 use Rattle.mv_record.specs.Databases.{IsProgram}
 use Rattle.mv_recorded.specs.Recorded.{records, records_in, records_at}
+use Rattle.mv_recorded.proofs.RowsTyped.{all_get}
 use Rattle.mv_graph.specs.declared.graph.Graph.{Graph}
 use Rattle.mv_compile.specs.Compiled.{graph_of, graphs_of}
 use Rattle.mv_core.specs.declared.script.Script.{Script}
@@ -22,14 +22,6 @@ use Rattle.mv_core.specs.Scripts.{run_by, run_in, IsCallOf, CanRun, IsScript, wo
 use Rattle.mv_top.specs.History.{work_of}
 
 -- What a list has at a place
-
-there : {A : Type 0} (xs : List A) (n : ℕ) (x : A) → slice_get xs n ≡ Some x → (n < length xs) × (slice_index_or xs n x ≡ x)
-there [] n x h = cc
-there (y ∷ xs) zero x h = (omega arith, cc)
-there (y ∷ xs) (suc n) x h = let t = there xs n x h in (omega (arith, t.0), t.1)
-
-holds_at : {A : Type 0} (P : A → Type 0) (xs : List A) (n : ℕ) (x : A) → All P xs → slice_get xs n ≡ Some x → P x
-holds_at P xs n x all h = let t = there xs n x h in subst P t.1 (all n x t.0)
 
 some_at : {A : Type 0} (xs : List A) (n : ℕ) → n < length xs → (x : A) × (slice_get xs n ≡ Some x)
 some_at [] n lt = absurd (omega (arith, lt))
@@ -51,7 +43,7 @@ graph_at p call proc h = graph_by p call (Some proc) h
 can_run : (p : Program) (call : Call) (proc : ProcInfo) → FitsText p.resolved → slice_get p.resolved.procedures call.procedure ≡ Some proc → AllZip Suits proc.params call.arguments
     → CanRun p.resolved.tables call (graph_of p.resolved.tables proc)
 can_run p call proc fits k suits =
-    let whole : IsProcedure p.resolved.tables proc = holds_at (IsProcedure p.resolved.tables) p.resolved.procedures call.procedure proc fits.procedures k in
+    let whole : IsProcedure p.resolved.tables proc = all_get (IsProcedure p.resolved.tables) p.resolved.procedures call.procedure proc fits.procedures k in
     record {
       sound = record { few = fits.few; tables = fits.tables; procedure = whole; nodes = refl };
       over = refl;
@@ -60,7 +52,7 @@ can_run p call proc fits k suits =
     }
 
 called : (p : Program) (n : ℕ) (call : Call) → FitsText p.resolved → slice_get p.resolved.calls n ≡ Some call → IsCall p.resolved.procedures call
-called p n call fits h = holds_at (IsCall p.resolved.procedures) p.resolved.calls n call fits.calls h
+called p n call fits h = all_get (IsCall p.resolved.procedures) p.resolved.calls n call fits.calls h
 
 can : (p : Program) (options : Options) (n : ℕ) (call : Call) (g : Graph) → FitsText p.resolved → IsCallOf (script_of p options) n call g → CanRun p.resolved.tables call g
 can p options n call g fits is =

@@ -1,5 +1,5 @@
 -- Draws one after another.
-use Rattle.std.proofs.Common.{IfOk, Result, Ok, Err, ◌≡◌, ◌≢◌, ◌⊎◌, ◌≤◌, ◌<◌, ◌+◌, ◌++◌, ◌∷◌, [], ℕ, suc, Bool, true, false, List, refl, ap, ◌∙◌, add-one, arith}
+use Rattle.std.proofs.Common.{◌≡◌, ◌≢◌, ◌⊎◌, ◌≤◌, ◌<◌, ◌+◌, ◌++◌, ◌∷◌, [], ℕ, suc, Bool, true, false, List, refl, ap, ◌∙◌, add-one, arith}
 use Rattle.std.specs.Prelude.{nat_le, nat_lt, ◌==◌, ◌&&◌, if◌then◌else◌}
 use Rattle.std.proofs.lemmas.Bool.Decides.{nat_tests}
 use Rattle.rand_core.specs.Stream.{Stream}
@@ -29,21 +29,11 @@ le_holds a b h = grind (arith, nat_tests)
 pub le_fails : (a b : ℕ) → b < a → nat_le a b ≡ false
 le_fails a b h = grind (arith, nat_tests)
 
-pub both_hold : (one another : Bool) → one ≡ true → another ≡ true → (one && another) ≡ true
-both_hold one another e f = rw (e, f) refl
-
 pub eq_holds : (a b : ℕ) → a ≡ b → (a == b) ≡ true
 eq_holds a b h = grind (arith, nat_tests)
-
-pub lt_holds : (a b : ℕ) → a < b → nat_lt a b ≡ true
-lt_holds a b h = grind (arith, nat_tests)
 
 pub eq_or_lt_fails : (a b c d : ℕ) → ((a ≡ b) × (d ≤ c)) ⊎ (a ≢ b) → ((a == b) && nat_lt c d) ≡ false
 eq_or_lt_fails a b c d h = grind (arith, nat_tests)
 
 pub lt_or_lt_fails : (a b c d : ℕ) → ((a < b) × (d ≤ c)) ⊎ (b ≤ a) → (nat_lt a b && nat_lt c d) ≡ false
 lt_or_lt_fails a b c d h = grind (arith, nat_tests)
-
-pub if_ok_weaker : {T E : Type 0} (r : Result T E) (P Q : T → Type 0) → ((x : T) → P x → Q x) → IfOk r P → IfOk r Q
-if_ok_weaker (Ok x) P Q f h = f x h
-if_ok_weaker (Err e) P Q f h = h

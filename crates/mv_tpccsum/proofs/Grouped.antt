@@ -3,11 +3,10 @@ use Rattle.std.proofs.Common.{◌≡◌, ◌∙◌, ◌<◌, ◌≤ℤ◌, ◌+�
 use Rattle.std.specs.Int.{int_max, int_min}
 use Rattle.std.specs.List.{filter, fold}
 use Rattle.std.specs.Ordering.{is_eq}
-use Rattle.std.specs.declared.cmp.Ordering.{Ordering}
-use Rattle.std.specs.declared.cmp.Ordering.TheVariants.{Less, Equal, Greater}
 use Rattle.std.proofs.lemmas.Int.{ints}
 use Rattle.std.proofs.lemmas.List.{length-append, map-append, take_more}
 use Rattle.std.proofs.lemmas.List.Sums.{fold_push}
+use Rattle.std.specs.Cmp.{Equal-is}
 use Rattle.mv_values.specs.declared.value.Value.{Value}
 use Rattle.mv_values.specs.declared.rows.Keyed.{Keyed}
 use Rattle.mv_values.specs.Columns.{column_of, columns_of}
@@ -85,11 +84,6 @@ numbers_more (x ∷ es) e key = go (is_eq (key_order x.0 key)) (numbers_more es 
     go true h = ap (λ zs. x.1 ∷ zs) h
     go false h = h
 
-equal_of : (o : Ordering) → is_eq o ≡ true → o ≡ Equal
-equal_of Less h = cc
-equal_of Equal h = refl
-equal_of Greater h = cc
-
 -- the groups with one more number
 pub one_more : (n : ℕ) (es : List Entry) (e : Entry) (old new : List (List Value × Totals)) (key : List Value)
     → ((k : List Value) → Tells n (numbers_of es k) (item_of old k)) → neg_ℤ (pos (2 ^ 63)) ≤ℤ e.1 → e.1 ≤ℤ pos (2 ^ 63)
@@ -99,7 +93,7 @@ one_more n es e old new key told lo hi at = by_case (is_eq (key_order e.0 key)) 
   where
     by_case : (b : Bool) → is_eq (key_order e.0 key) ≡ b → Tells (n + 1) (numbers_of (es ++ e ∷ []) key) (item_of new key)
     by_case true is =
-        let same : e.0 ≡ key = exact_keys e.0 key (equal_of (key_order e.0 key) is) in
+        let same : e.0 ≡ key = exact_keys e.0 key ((Equal-is (key_order e.0 key)).0 is) in
         let numbers : numbers_of (es ++ e ∷ []) key ≡ numbers_of es key ++ e.1 ∷ [] = numbers_more es e key ∙ ap (λ b. numbers_of es key ++ cond b (e.1 ∷ []) []) is in
         let item : item_of new key ≡ Some (with_number (item_of old e.0) e.1) = at ∙ ap (λ b. cond b (Some (with_number (item_of old e.0) e.1)) (item_of old key)) is in
         let fresh = with_more n (numbers_of es e.0) e.1 (item_of old e.0) (told e.0) lo hi in

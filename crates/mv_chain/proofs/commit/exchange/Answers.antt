@@ -1,11 +1,12 @@
 use Rattle.std.proofs.Common.{◌≡◌, ◌∙◌, ap}
 use Rattle.std.specs.Prelude.{slice_index_or, slice_set}
-use Rattle.mv_chain.proofs.Columns.{get_is, set_twice}
+use Rattle.std.proofs.lemmas.Option.{get_or_from_slice_get}
+use Rattle.mv_chain.proofs.Columns.{set_twice}
 use Rattle.mv_chain.proofs.commit.exchange.Goals as goal
 
 pub returns : goal.returns
 returns c d =
-    let e : slice_index_or c.args.items.now c.args.at d ≡ c.replace-column.result = get_is c.args.items.now c.args.at c.replace-column.result d c.replace-column.ensures.back in
+    let e : slice_index_or c.args.items.now c.args.at d ≡ c.replace-column.result = get_or_from_slice_get c.args.items.now c.args.at c.replace-column.result d c.replace-column.ensures.back in
     rw e (
       c.swap_column-value.ensures.row,
       c.set.ensures

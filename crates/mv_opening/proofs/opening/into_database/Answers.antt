@@ -1,5 +1,6 @@
 use Rattle.std.proofs.Common.{◌≡◌, ◌∷◌, ◌++◌, ◌∙◌, [], rules}
-use Rattle.mv_opening.proofs.Opened.{handed_more, set_length}
+use Rattle.std.proofs.lemmas.List.{length-set}
+use Rattle.mv_opening.proofs.Opened.{handed_more}
 use Rattle.mv_opening.proofs.opening.into_database.Goals as goal
 
 pub loop-place-preserved : goal.loop-place-preserved
@@ -10,4 +11,4 @@ loop-place-preserved c =
     let set = c.replace-joining.ensures.items in
     let made : c.push.new.self ≡ c.loop-place.database ++ c.replace-joining.result ∷ [] = search rules in
     rw set
-    (set_length tables place _ ∙ inv.0, handed_more c.args.tables c.loop-place.database c.push.new.self tables place c.replace-joining.result _ inv.1 c.replace-joining.ensures.back made)
+    (length-set tables place _ ∙ inv.0, handed_more c.args.tables c.loop-place.database c.push.new.self tables place c.replace-joining.result _ inv.1 c.replace-joining.ensures.back made)

@@ -1,17 +1,15 @@
-use Rattle.std.proofs.Common.{◌≡◌, ◌<◌, ℕ, ◌+◌, List, [], ◌∷◌, ◌++◌, sym, ap, ◌∙◌, length, drop, get_or, append_assoc, drop-cons, add-one, if◌then◌else◌}
+use Rattle.std.proofs.Common.{◌≡◌, ◌<◌, ℕ, ◌+◌, List, [], ◌∷◌, ◌++◌, sym, ap, ◌∙◌, length, drop, get_or, append_assoc, if◌then◌else◌}
 use Rattle.std.proofs.lemmas.Bool.{ne_eqb}
+use Rattle.std.proofs.lemmas.List.{drop_more}
 use Rattle.mv_lex.specs.Spelling.{doubled}
 use Rattle.mv_print.proofs.pieces.write_doubled.Goals as goal
 use Rattle.mv_print.proofs.pieces.write_doubled.Goals.{then-byte-eq39+in_ok-push, else-byte-eq39}
-
-next_byte : (xs : List ℕ) (k : ℕ) → k < length xs → drop k xs ≡ get_or xs k 0 ∷ drop (k + 1) xs
-next_byte xs k h = drop-cons xs k 0 h ∙ ap (λ n. get_or xs k 0 ∷ drop n xs) (sym (add-one k))
 
 quote_turn : (xs : List ℕ) (k : ℕ) (old mid new all : List ℕ) → k < length xs → get_or xs k 0 ≡ 39 → mid ≡ old ++ 39 ∷ [] → new ≡ mid ++ get_or xs k 0 ∷ []
     → old ++ doubled (drop k xs) ≡ all → new ++ doubled (drop (k + 1) xs) ≡ all
 quote_turn xs k old mid new all h is f g i =
     let rest = doubled (drop (k + 1) xs) in
-    let d : doubled (drop k xs) ≡ 39 ∷ 39 ∷ rest = ap doubled (next_byte xs k h ∙ ap (λ (b : ℕ). b ∷ drop (k + 1) xs) is) in
+    let d : doubled (drop k xs) ≡ 39 ∷ 39 ∷ rest = ap doubled (drop_more xs k 0 h ∙ ap (λ (b : ℕ). b ∷ drop (k + 1) xs) is) in
     let e : new ≡ (old ++ 39 ∷ []) ++ 39 ∷ [] = g ∙ (ap (λ (b : ℕ). mid ++ b ∷ []) is ∙ ap (λ (r : List ℕ). r ++ 39 ∷ []) f) in
     ap (λ (r : List ℕ). r ++ rest) e ∙ (append_assoc (old ++ 39 ∷ []) (39 ∷ []) rest ∙ (append_assoc old (39 ∷ []) (39 ∷ rest) ∙ (ap (λ (r : List ℕ). old ++ r) (sym d) ∙ i)))
 
@@ -20,7 +18,7 @@ byte_turn : (xs : List ℕ) (k : ℕ) (old new all : List ℕ) → k < length xs
 byte_turn xs k old new all h isnt g i =
     let rest = doubled (drop (k + 1) xs) in
     let b = get_or xs k 0 in
-    let d : doubled (drop k xs) ≡ b ∷ rest = ap doubled (next_byte xs k h) ∙ ap (λ z. if z then 39 ∷ 39 ∷ rest else b ∷ rest) (ne_eqb b 39 isnt) in
+    let d : doubled (drop k xs) ≡ b ∷ rest = ap doubled (drop_more xs k 0 h) ∙ ap (λ z. if z then 39 ∷ 39 ∷ rest else b ∷ rest) (ne_eqb b 39 isnt) in
     ap (λ (r : List ℕ). r ++ rest) g ∙ (append_assoc old (b ∷ []) rest ∙ (ap (λ (r : List ℕ). old ++ r) (sym d) ∙ i))
 
 pub loop-byte-preserved : goal.loop-byte-preserved

@@ -1,4 +1,5 @@
-use Rattle.mv_tpccgen.proofs.Drawing.{follows, if_ok_weaker, one_way, other_way, le_holds, le_fails}
+use Rattle.std.proofs.lemmas.Result.{IfOk-weaker}
+use Rattle.mv_tpccgen.proofs.Drawing.{follows, one_way, other_way, le_holds, le_fails}
 use Rattle.mv_tpccgen.specs.Calls.{request, new_order}
 use Rattle.mv_tpccgen.specs.Draws.{IsDrawn}
 use Rattle.mv_tpccgen.proofs.requests.draw_request.Goals as goal
@@ -6,7 +7,7 @@ use Rattle.mv_tpccgen.proofs.requests.draw_request.Goals as goal
 pub returns-then-t-le45 : goal.returns-then-t-le45
 unfolding request
 returns-then-t-le45 c =
-    if_ok_weaker c.draw_new_order.result (λ it. IsDrawn (new_order c.args.warehouses c.draw-w.result) it c.draw-t.new.words c.draw_new_order.new.words) _ (λ it drawn. follows _ _ _ _ _ _ _ c.draw-w.ensures.drawn (follows _ _ _ _ _ _ _ c.draw-t.ensures.drawn (one_way _ _ _ _ _ (le_holds _ _ c.if-t-le45.true) drawn))) c.draw_new_order.ensures
+    IfOk-weaker c.draw_new_order.result (λ it. IsDrawn (new_order c.args.warehouses c.draw-w.result) it c.draw-t.new.words c.draw_new_order.new.words) _ (λ it drawn. follows _ _ _ _ _ _ _ c.draw-w.ensures.drawn (follows _ _ _ _ _ _ _ c.draw-t.ensures.drawn (one_way _ _ _ _ _ (le_holds _ _ c.if-t-le45.true) drawn))) c.draw_new_order.ensures
 
 pub returns-then-t-le88 : goal.returns-then-t-le88
 unfolding request

@@ -1,9 +1,10 @@
 use Rattle.std.proofs.Common.{ℕ, ◌≡◌, ◌∙◌, ap, sym}
 use Rattle.std.specs.Prelude.{slice_set}
+use Rattle.std.proofs.lemmas.Result.{on_ok_weaker}
 use Rattle.mv_values.specs.declared.patch.Patch.{Patch}
-use Rattle.mv_chain.specs.Versions.{Versions, with_own, joined}
+use Rattle.mv_chain.specs.Versions.{Versions, with_own}
 use Rattle.mv_chain.proofs.Versions.{shown}
-use Rattle.mv_chain.proofs.Places.{absent, added, at_spot, put_in, on_ok}
+use Rattle.mv_chain.proofs.Places.{absent, added, at_spot, put_in}
 use Rattle.mv_chain.proofs.history.History.put.Goals as goal
 
 abbrev put_on : ℕ → Patch → Versions → Versions
@@ -21,7 +22,7 @@ pub returns-in-Some-clause-ok : goal.returns-in-Some-clause-ok
 returns-in-Some-clause-ok c =
     let ps = c.self.inside.own.items in
     let spot = at_spot c.args.call c.in-Some.at ps (rw c.as_slice.ensures.value at (sym c.place_of.ensures.value ∙ c.in-Some.is)) in
-    on_ok c.compose.result (c.compose.new.first ≡ joined c.index_mut.result.now.patch c.args.patch) _ (λ composed.
+    on_ok_weaker c.compose.result (λ composed.
     ap (λ us. shown us c.self.inside.row (slice_set ps c.in-Some.at (record { call = c.index_mut.result.now.call; patch = c.compose.new.first }))) c.reserve.ensures.items
     ∙ ap (λ own. shown c.self.inside.undos.items c.self.inside.row own) (put_in c.args.call c.args.patch ps c.in-Some.at c.index_mut.result.now c.compose.new.first spot c.index_mut.ensures.value composed)
     ∙ ap (put_on c.args.call c.args.patch) c.self.view_is) c.compose.ensures.ok

@@ -1,6 +1,5 @@
-use Rattle.std.proofs.Common.{arith, ◌≡◌, map, slice_set, List, ℕ, is_some, ap, sym, ◌∙◌, Result, Ok, Err}
-use Rattle.std.specs.Prelude.{OnOk}
-use Rattle.mv_values.specs.declared.memory.NoMemory.{NoMemory}
+use Rattle.std.proofs.Common.{arith, ◌≡◌, map, slice_set, List, ℕ, is_some, ap, sym, ◌∙◌}
+use Rattle.std.proofs.lemmas.Result.{on_ok_weaker}
 use Rattle.mv_lawful.specs.Lawful.{Live}
 use Rattle.mv_core.specs.Calls.{live_of, last_number}
 use Rattle.mv_core.specs.Scripts.{work_of}
@@ -35,13 +34,9 @@ returns-clause-same c = record {
   journal = c.reserve-3.ensures.items ∙ ap (λ (b : Booked). b.journal) c.self.view_is;
 }
 
-on_ok : {P Q : Type 0} (r : Result (Unit {0}) NoMemory) → OnOk r P → (P → Q) → OnOk r Q
-on_ok (Ok x) p f = f p
-on_ok (Err e) p f = tt
-
 pub returns-clause-room : goal.returns-clause-room
-returns-clause-room c = on_ok c.reserve-4.result c.reserve-4.ensures.room (λ enough.
+returns-clause-room c = on_ok_weaker c.reserve-4.result (λ enough.
     let r = c.in_ok-reserve.ensures.ok in
     let a = c.in_ok-reserve-2.ensures.room in
     let b = c.in_ok-reserve-3.ensures.room in
-    (omega (arith, r, a, b), λ f there. room_set c.self.inside.calls.items c.args.call 2 c.index_mut.result.now c.reserve-4.new.self (here_at c.self.inside c.args.self.now c.args.call c.index_mut.result.now c.self.view_is c.requires.live c.index_mut.ensures.value).2.at enough f there))
+    (omega (arith, r, a, b), λ f there. room_set c.self.inside.calls.items c.args.call 2 c.index_mut.result.now c.reserve-4.new.self (here_at c.self.inside c.args.self.now c.args.call c.index_mut.result.now c.self.view_is c.requires.live c.index_mut.ensures.value).2.at enough f there)) c.reserve-4.ensures.room

@@ -1,8 +1,9 @@
 use Rattle.std.proofs.Common.{length, sym, ap, subst, ◌∙◌, arith, rules}
+use Rattle.std.proofs.lemmas.Bool.{eqb-true}
 use mathlib.Core.List.{IsPrefix}
 use Rattle.mv_core.specs.Books.{Booked}
 use Rattle.mv_gate.specs.Gates.{Holding, HasCall}
-use Rattle.mv_gate.proofs.Numbers.{same_starts, starts_apart, same_number, number_same}
+use Rattle.mv_gate.proofs.Numbers.{same_starts, starts_apart, number_same}
 use Rattle.mv_gate.proofs.Holding.{has_call, known_by, first_round, later_round, other_from, not_known, known_seen}
 use Rattle.mv_gate.proofs.desk.Desk.has.Goals as goal
 
@@ -47,7 +48,7 @@ returns-else-rounds-gt1-clause-known g c =
     known_seen c.args.self.now b c.args.held.now h _ c.self.view_is c.held.view_is (
       λ t. known_by b h c.in-Some.rounds.now c.start-start.result c.in-Some.ensures.live c.start-start.ensures.value c.if-start-held.false
           (sym c.repaired_from.ensures ∙ same_starts c.repaired_from.result h.from (sym c.ne.ensures ∙ c.if-ne.false))
-          (λ l at first. let same = same_number _ _ t in let is = c.steps.ensures l at in omega (arith, same, is, ap length c.records.ensures)),
+          (λ l at first. let same = eqb-true _ _ t in let is = c.steps.ensures l at in omega (arith, same, is, ap length c.records.ensures)),
       λ k.
           let all = k.steps (first_round b h.call c.in-Some.rounds.now k.live c.self.invariant.turns c.in-Some.ensures.live k.is_live (omega (arith, one))) in
           let is = c.steps.ensures k.live k.is_live in
@@ -65,4 +66,4 @@ returns-else-rounds-gt1-clause-call g c t =
     (has_call g.N.Making.script b c.self.inside.store c.self.inside.pass h c.self.invariant c.held.invariant seen
     (known_by b h c.in-Some.rounds.now c.start-start.result c.in-Some.ensures.live c.start-start.ensures.value c.if-start-held.false
     (sym c.repaired_from.ensures ∙ same_starts c.repaired_from.result h.from (sym c.ne.ensures ∙ c.if-ne.false))
-    (λ l at first. let same = same_number _ _ t in let is = c.steps.ensures l at in omega (arith, same, is, ap length c.records.ensures)))))
+    (λ l at first. let same = eqb-true _ _ t in let is = c.steps.ensures l at in omega (arith, same, is, ap length c.records.ensures)))))

@@ -1,16 +1,17 @@
 use Rattle.std.proofs.Common.{◌<◌, ◌≤◌, Some, length, sym, ap, subst}
+use Rattle.std.proofs.lemmas.Bool.{ltb-false}
 use Rattle.mv_lawful.specs.Lawful.{Live}
 use Rattle.mv_core.specs.Calls.{IsLive, IsLiveCall}
 use Rattle.mv_core.specs.Books.{Booked}
 use Rattle.mv_gate.specs.Gates.{IsUnderWay}
-use Rattle.mv_gate.proofs.Holding.{not_below, number_anew, renewed}
+use Rattle.mv_gate.proofs.Holding.{number_anew, renewed}
 use Rattle.mv_gate.proofs.desk.Desk.renew.Goals as goal
 
 pub whole_task-requires-clause-fresh : goal.whole_task-requires-clause-fresh
 whole_task-requires-clause-fresh g c =
     let live = c.requires.live in
     let b : Booked = c.self.inside.book in
-    let fresh = subst (λ (x : Booked). (l : Live) → IsLive x.course c.args.call l → x.course.low ≤ l.start) (sym c.self.view_is) (λ l at. not_below l.start c.args.self.now.course.low (c.requires.fresh l at)) in
+    let fresh = subst (λ (x : Booked). (l : Live) → IsLive x.course c.args.call l → x.course.low ≤ l.start) (sym c.self.view_is) (λ l at. ltb-false l.start c.args.self.now.course.low (c.requires.fresh l at)) in
     let here = subst (λ (x : Booked). IsLiveCall x.course c.args.call) (sym c.self.view_is) live in
     subst (λ n. b.course.low ≤ n) (sym (c.start-start.ensures.value here.0 here.1)) (fresh here.0 here.1)
 
