@@ -1,5 +1,5 @@
 -- Names and types, and the opening rows, answer exactly.
-use Rattle.std.proofs.Common.{◌≡◌, ◌⊎◌, ◌<◌, ◌≤◌, inl, inr, ℕ, Bool, true, false, List, [], ◌∷◌, ◌++◌, Result, Ok, Err, refl, sym, ap, subst, ◌∙◌, arith, length, nat_lt, ◌==◌, ◌&&◌, ◌||◌}
+use Rattle.std.proofs.Common.{◌≡◌, ◌⊎◌, ◌<◌, ◌≤◌, inl, inr, ℕ, false, List, [], ◌∷◌, ◌++◌, Result, Ok, Err, refl, sym, ap, subst, ◌∙◌, arith, length, nat_lt, ◌==◌, ◌&&◌, ◌||◌}
 use Rattle.std.proofs.Math.Seq.{get_or-append_seam}
 use Rattle.std.proofs.lemmas.List.{length-append}
 use Rattle.std.specs.Prelude.{All}
@@ -28,10 +28,6 @@ use Rattle.mv_accept.specs.Accepting.{Means, HasFault, refusal_at, Opens, TellsO
 use Rattle.mv_accept.specs.Telling.{of_naming, OfOpening}
 
 -- The first of faults is one
-neither : (p q : Bool) → (p || q) ≡ false → (p ≡ false) × (q ≡ false)
-neither true q h = cc
-neither false q h = (refl, h)
-
 same_kind : (k l : FaultKind) → rank k ≡ rank l → k ≡ l
 same_kind kind.UnknownName kind.UnknownName e = refl
 same_kind kind.DoubleName kind.DoubleName e = refl

@@ -1,16 +1,10 @@
 -- Where a text stands in another.
 use Rattle.std.proofs.Common.{◌≡◌, ℕ, zero, suc, ◌+◌, ◌≤◌, Bool, true, false, ◌||◌, List, [], ◌∷◌, Option, Some, None, is_some, length, take, drop, refl, sym, ap, arith, length-drop, length-take}
 use Rattle.std.proofs.lemmas.Slice.Eq.{bytes_eq-Decides}
+use Rattle.std.proofs.lemmas.Bool.{or_left, or_right}
 use Rattle.memchr.specs.Find.{FindsNeedle}
 use Rattle.memchr.proofs.lemmas.MatchLemmas.{OccursAt-part, OccursAt-from_part}
 use Rattle.mv_alone.specs.Value.{begins, contains}
-
-or_left : (a b : Bool) → a ≡ true → (a || b) ≡ true
-or_left a b h = cc
-
-or_right : (a b : Bool) → b ≡ true → (a || b) ≡ true
-or_right true b h = refl
-or_right false b h = h
 
 begins_at : (t u : List ℕ) → take (length u) t ≡ u → begins t u ≡ true
 begins_at t u h = (bytes_eq-Decides (take (length u) t) u).1 h

@@ -1,5 +1,6 @@
 -- Putting rows in order.
-use Rattle.std.proofs.Common.{◌≡◌, suc, true, false, List, [], ◌∷◌, length, refl, ap, ◌∙◌, arith}
+use Rattle.std.proofs.Common.{◌≡◌, suc, true, false, List, [], ◌∷◌, length, refl, ap, ◌∙◌, arith, ℕ, ◌+◌, ◌<◌, ◌++◌, take, drop, slice_index_or, sym, cond}
+use Rattle.std.proofs.lemmas.List.{drop_more, take_more}
 use Rattle.std.specs.Ordering.{is_le}
 use Rattle.std.specs.declared.cmp.Ordering.{Ordering}
 use Rattle.std.specs.declared.cmp.Ordering.TheVariants.{Less, Equal, Greater}
@@ -26,7 +27,3 @@ pub sorted_rising : (rows : List Keyed) → IsRising rows → ordered [] rows �
 sorted_rising [] h = refl
 sorted_rising (x ∷ rows) h =
     ap (put_in (sort_order []) x) (sorted_rising rows (λ i j d lt within. h (suc i) (suc j) d (omega (arith, lt)) (omega (arith, within)))) ∙ put_first x rows h
-
-pub not_some : {A : Type 0} (xs : List A) → length xs ≡ 0 → xs ≡ []
-not_some [] h = refl
-not_some (x ∷ xs) h = absurd (omega (arith, h))

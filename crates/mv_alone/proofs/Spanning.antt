@@ -1,8 +1,8 @@
 -- The rows in the span of keys that the tests leave.
-use Rattle.std.proofs.Common.{◌≡◌, ℕ, zero, suc, ◌<◌, Bool, true, false, ◌&&◌, List, [], ◌∷◌, ◌++◌, Some, length, slice_index_or, refl, sym, ap, subst, ◌∙◌, arith}
+use Rattle.std.proofs.Common.{◌≡◌, ℕ, zero, suc, ◌<◌, Bool, true, false, ◌&&◌, List, [], ◌∷◌, ◌++◌, Some, length, slice_index_or, refl, sym, ap, subst, ◌∙◌, arith, All}
 use Rattle.std.specs.Prelude.{◌==◌, map, if◌then◌else◌}
 use Rattle.std.specs.List.{filter, list_all, position}
-use Rattle.std.proofs.lemmas.Bool.{eqb-true}
+use Rattle.std.proofs.lemmas.Bool.{eqb-true, and_parts}
 use Rattle.std.proofs.lemmas.List.Quantifiers.{position-Some}
 use Rattle.mv_values.specs.declared.value.Value.{Value}
 use Rattle.mv_values.specs.declared.pred.Test.{Test}
@@ -15,15 +15,11 @@ use Rattle.mv_alone.specs.FirstRows.{AdmitMatches}
 use Rattle.mv_alone.specs.Own.{StandUnder}
 use Rattle.mv_alone.specs.Rows.{passes, meets}
 
-both_so : (a b : Bool) → a && b ≡ true → (a ≡ true) × (b ≡ true)
-both_so true b h = (refl, h)
-both_so false b h = cc
-
 -- a row that meets all tests passes each
 passes_at : (checks : List Check) (row : List Value) (i : ℕ) (d : Check) → i < length checks → meets checks row ≡ true → passes row (slice_index_or checks i d) ≡ true
 passes_at [] row i d lt h = absurd (omega (arith, lt))
-passes_at (check ∷ checks) row zero d lt h = (both_so (passes row check) (meets checks row) h).0
-passes_at (check ∷ checks) row (suc i) d lt h = passes_at checks row i d (omega (arith, lt)) (both_so (passes row check) (meets checks row) h).1
+passes_at (check ∷ checks) row zero d lt h = (and_parts (passes row check) (meets checks row) h).0
+passes_at (check ∷ checks) row (suc i) d lt h = passes_at checks row i d (omega (arith, lt)) (and_parts (passes row check) (meets checks row) h).1
 
 -- a key column is at its place
 pub place_there : (keys : List ℕ) (c place : ℕ) → Some place ≡ position (λ k. k == c) keys → (place < length keys) × (slice_index_or keys place 0 ≡ c)
@@ -39,7 +35,7 @@ key_column row (k ∷ ks) (suc place) lt = key_column row ks place (omega (arith
 
 all_more : (p : Test → Bool) (xs : List Test) (x : Test) → list_all p xs ≡ true → p x ≡ true → list_all p (xs ++ x ∷ []) ≡ true
 all_more p [] x h k = rw k refl
-all_more p (y ∷ ys) x h k = let two = both_so (p y) (list_all p ys) h in rw two.0 (all_more p ys x two.1 k)
+all_more p (y ∷ ys) x h k = let two = and_parts (p y) (list_all p ys) h in rw two.0 (all_more p ys x two.1 k)
 
 -- a test of a key column, as a test of the key
 pub one_test_more : (keys : List ℕ) (checks : List Check) (tests new : List Test) (i : ℕ) (check : Check) (place : ℕ) (v : Value) → i < length checks → check ≡ slice_index_or checks i check → place < length keys → slice_index_or keys place 0 ≡ check.column

@@ -1,12 +1,12 @@
 -- Statements leave each row under its own values of the key columns.
-use Rattle.std.proofs.Common.{◌≡◌, ℕ, zero, suc, ◌==◌, ◌||◌, Bool, true, false, cond, List, [], ◌∷◌, Result, Ok, Err, slice_set, pos, refl, sym, ap, subst, ◌∙◌, arith}
-use Rattle.std.proofs.lemmas.Bool.Decides.{eqb_tells}
+use Rattle.std.proofs.Common.{◌≡◌, ℕ, zero, suc, ◌==◌, Bool, true, false, cond, List, [], ◌∷◌, Result, Ok, Err, slice_set, pos, refl, sym, ap, subst, ◌∙◌}
 use Rattle.std.proofs.lemmas.List.{get_or-set_other}
 use Rattle.std.proofs.lemmas.List.Elements.{All-cons, All-head, All-tail, All-filter}
 use Rattle.std.specs.Prelude.{not}
 use Rattle.std.specs.List.{list_any}
 use Rattle.std.specs.declared.cmp.Ordering.{Ordering}
 use Rattle.std.specs.declared.cmp.Ordering.TheVariants.{Less, Equal, Greater}
+use Rattle.std.proofs.lemmas.Bool.{or_parts, eqb-false}
 use Rattle.mv_values.specs.declared.value.Value.{Value}
 use Rattle.mv_values.specs.declared.value.Value.TheVariants.{Int}
 use Rattle.mv_values.specs.declared.rows.Keyed.{Keyed}
@@ -49,19 +49,12 @@ set_at P (r ∷ db) (suc t) rows h p (suc u) = set_at (λ n. P (suc n)) db t row
 pub stand_set : (infos : List TableInfo) (db : Tables) (t : ℕ) (rows : List Keyed) → KeysStand infos db → StandUnder (key_columns infos t) rows → KeysStand infos (slice_set db t rows)
 stand_set infos db t rows h k = set_at (λ u rows. StandUnder (key_columns infos u) rows) db t rows h k
 
-neither : (a b : Bool) → a || b ≡ false → (a ≡ false) × (b ≡ false)
-neither true b h = cc
-neither false b h = (refl, h)
-
-differ : (a b : ℕ) → a ≡ b → (a == b) ≡ false → ⊥
-differ a b same h = grind (arith, eqb_tells)
-
 -- the key columns stay where another column is set
 columns_set : (row : List Value) (c : ℕ) (v : Value) (keys : List ℕ) → list_any (λ k. k == c) keys ≡ false → columns_of (slice_set row c v) keys ≡ columns_of row keys
 columns_set row c v [] h = refl
 columns_set row c v (k ∷ ks) h =
-    let two = neither (k == c) (list_any (λ j. j == c) ks) h in
-    let here : column_of (slice_set row c v) k ≡ column_of row k = get_or-set_other row c k v (Int (pos 0)) (λ same. differ k c same two.0) in
+    let two = or_parts (k == c) (list_any (λ j. j == c) ks) h in
+    let here : column_of (slice_set row c v) k ≡ column_of row k = get_or-set_other row c k v (Int (pos 0)) (λ same. eqb-false k c two.0 same) in
     ap (λ x. x ∷ columns_of (slice_set row c v) ks) here ∙ ap (λ l. column_of row k ∷ l) (columns_set row c v ks two.1)
 
 column_keeps : (keys : List ℕ) (c : ℕ) (v : Value) (row : List Value) → columns_of (with_column keys c v row) keys ≡ columns_of row keys

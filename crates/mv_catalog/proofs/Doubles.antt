@@ -4,11 +4,12 @@ use Rattle.std.specs.List.{AllPairs, AllByRecursion}
 use Rattle.std.specs.Cmp.Lexicographic.{same_text as told_same, other_text}
 use Rattle.std.proofs.lemmas.List.Elements.{All-nil, All-cons}
 use Rattle.std.proofs.lemmas.List.Kept.{AllPairs-cons}
+use Rattle.std.proofs.lemmas.Bool.{or_parts}
 use Rattle.mv_ast.specs.declared.tree.Name.{Name}
 use Rattle.mv_names.specs.First.{when, double}
 use Rattle.mv_names.specs.Named.{Text, same_text, first_named, is_named}
 use Rattle.mv_names.specs.Statements.{doubles}
-use Rattle.mv_catalog.proofs.Lists.{nothing_left, nothing_right, neither, not_when}
+use Rattle.mv_catalog.proofs.Lists.{nothing_left, nothing_right, not_when}
 
 flip_by : (a b : Text) (c : Bool) → same_text b a ≡ c → same_text a b ≡ false → c ≡ false
 flip_by a b true e h = absurd (other_text a b (sym h) (sym (told_same b a (sym e))))
@@ -18,8 +19,8 @@ flip : (a b : Text) → same_text a b ≡ false → same_text b a ≡ false
 flip a b h = flip_by a b (same_text b a) refl h
 
 not_one : (front : List Text) (f : Text) (back : List Text) (n : Text) → is_named (λ t. t) (front ++ f ∷ back) n ≡ false → same_text f n ≡ false
-not_one [] f back n h = (neither (same_text f n) (is_named (λ t. t) back n) h).0
-not_one (x ∷ xs) f back n h = not_one xs f back n (neither (same_text x n) (is_named (λ t. t) (xs ++ f ∷ back) n) h).1
+not_one [] f back n h = (or_parts (same_text f n) (is_named (λ t. t) back n) h).0
+not_one (x ∷ xs) f back n h = not_one xs f back n (or_parts (same_text x n) (is_named (λ t. t) (xs ++ f ∷ back) n) h).1
 
 -- they are others than one that is taken
 pub doubles_apart : {A : Type 0} (label : A → Name) (front : List Text) (f : Text) (back : List Text) (xs : List A) → doubles label (front ++ f ∷ back) xs ≡ []

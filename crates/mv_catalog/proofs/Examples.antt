@@ -1,7 +1,8 @@
 -- What the rules of types refuse, by examples.
-use Rattle.std.proofs.Common.{◌≡◌, ◌≢◌, ℕ, pos, List, [], ◌∷◌, Option, Some, None, sym, ap, subst, ◌∙◌, length, slice_get, arith, Contains}
+use Rattle.std.proofs.Common.{◌≡◌, ◌≢◌, ℕ, pos, List, [], ◌∷◌, Some, None, sym, ap, subst, ◌∙◌, length, slice_get, arith, Contains}
 use Rattle.std.proofs.lemmas.List.{length-map}
 use Rattle.std.proofs.lemmas.Slice.Zip.{AllZip-long}
+use Rattle.std.proofs.lemmas.Option.{none-some}
 use Rattle.mv_values.specs.declared.schema.TableInfo.{TableInfo}
 use Rattle.mv_values.specs.declared.value.Value.TheVariants as value
 use Rattle.mv_ast.specs.declared.tree.TwoOp.TheVariants.{Add}
@@ -15,9 +16,6 @@ use Rattle.mv_catalog.specs.declared.resolved.RStmt.TheVariants.{Assign, Insert,
 use Rattle.mv_catalog.specs.Types.{Kind, int, text, fixed, declared, Vars, HasType, field, two_gives}
 use Rattle.mv_catalog.specs.Statements.{IsWell, Gives, kinds_of}
 use Rattle.mv_catalog.proofs.Typed.{typed_by, well_by}
-
-none_is_some : {A : Type 0} (o : Option A) (x : A) → o ≡ None → o ≡ Some x → ⊥
-none_is_some o x h k = cc
 
 abbrev pub one : RExpr
 one = record { kind = Const (value.Int (pos 1)) }
@@ -39,7 +37,7 @@ pub no_row : (vars : Vars) (columns : List Kind) (x c : ℕ) (t : Kind) → vars
 no_row vars columns x c t h k =
     let r : field (vars x) c ≡ Some t = typed_by vars columns (open'.Field x c) (Field x c) t (rolls-Field x c) k in
     let none : field (vars x) c ≡ None = ap (λ v. field v c) h in
-    none_is_some (field (vars x) c) t none r
+    none-some t (sym none ∙ r)
 
 -- a parameter isn't set
 pub no_target : (tables : List TableInfo) (vars : Vars) (x : ℕ) (e : RExpr) (t : Kind) → vars x ≡ Some (fixed t) → IsWell tables (Assign x e) vars → ⊥
@@ -52,7 +50,7 @@ no_target tables vars x e t h k =
 pub no_table : (tables : List TableInfo) (vars : Vars) (n : ℕ) (conds : List RCond) → slice_get tables n ≡ None → IsWell tables (Delete n conds) vars → ⊥
 no_table tables vars n conds h k =
     let r = well_by tables (stmt.Delete n conds) (Delete n conds) vars (rolls-Delete n conds) k in
-    none_is_some (slice_get tables n) r.0 h r.1
+    none-some r.0 (sym h ∙ r.1)
 
 -- a row of another length isn't inserted
 pub no_row_of_another_length : (tables : List TableInfo) (t : TableInfo) (vars : Vars) (n : ℕ) (values : List RExpr) → slice_get tables n ≡ Some t → length values ≢ length t.columns

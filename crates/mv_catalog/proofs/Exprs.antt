@@ -1,5 +1,6 @@
 -- Expressions without faults have types.
 use Rattle.std.proofs.Common.{◌≡◌, ℕ, ◌≤◌, ◌<◌, false, List, [], Option, Some, None, refl, sym, ap, subst, subst₂, ◌∙◌, length, slice_get, arith}
+use Rattle.std.proofs.lemmas.Option.{slice_get_within}
 use Rattle.mv_values.specs.declared.value.Value.{Value}
 use Rattle.mv_values.specs.declared.value.Value.TheVariants as value
 use Rattle.mv_ast.specs.declared.tree.Name.{Name}
@@ -35,7 +36,7 @@ use Rattle.mv_catalog.specs.Building as build
 use Rattle.mv_catalog.specs.Building.{Builds, expr_of, slot_named, number_in, fields_in, small}
 use Rattle.mv_catalog.specs.Types.{Kind, int, text, Var, fixed, declared, turn, Vars, kind_of_value, HasType, read, field}
 use Rattle.mv_catalog.specs.Types as types
-use Rattle.mv_catalog.proofs.Lists.{nothing_left, nothing_right, not_when, get_within, small_is}
+use Rattle.mv_catalog.proofs.Lists.{nothing_left, nothing_right, not_when, small_is}
 use Rattle.mv_catalog.proofs.Scopes.{known, SameFields, Means, Same, Matches, kinds_in, column_typed, field_typed}
 use Rattle.mv_catalog.proofs.Typed.{typed}
 
@@ -84,7 +85,7 @@ field_by : (fields : List Field) (ks : List Kind) (fs : List Text) (n : Name) (o
 field_by fields ks fs n None same few is h = cc
 field_by fields ks fs n (Some g) same few is h =
     let r = field_typed fields ks fs n.text g same is in
-    let lt : place_named (λ t. t) fs n.text < length ks = get_within ks _ r.0 r.2 in
+    let lt : place_named (λ t. t) fs n.text < length ks = slice_get_within ks _ r.0 r.2 in
     (r.0, r.1, rw (small_is (place_named (λ t. t) fs n.text) (omega arith)) r.2)
 
 field_means : (m : Meaning) (v : Var) (fs : List Text) (n : Name) (token : ℕ) → Means m v fs → turn_faults token m n ≡ []

@@ -1,5 +1,5 @@
 -- Lists without faults, and names found by their places.
-use Rattle.std.proofs.Common.{◌≡◌, ℕ, zero, suc, ◌+◌, ◌<◌, ◌≤◌, ◌-◌, ◌^◌, Bool, true, false, not, ◌||◌, List, [], ◌∷◌, ◌++◌, Option, Some, Result, Ok, Err, OnOk, refl, ap, ◌∙◌, map, drop, get_or, length, slice_get, arith, if◌then◌else◌, All}
+use Rattle.std.proofs.Common.{◌≡◌, ℕ, zero, suc, ◌+◌, ◌<◌, ◌≤◌, ◌-◌, ◌^◌, Bool, true, false, List, [], ◌∷◌, ◌++◌, Option, Some, Result, Ok, Err, OnOk, refl, ap, ◌∙◌, map, drop, get_or, length, slice_get, arith, if◌then◌else◌, All}
 use Rattle.std.proofs.lemmas.Grind.{common_steps}
 use Rattle.std.specs.List.{flat_map, AllByRecursion}
 use Rattle.mv_ast.proofs.Limited.{nothing_left as neither_left}
@@ -15,14 +15,6 @@ nothing_left xs ys h = (neither_left xs ys h).0
 
 pub nothing_right : {A : Type 0} (xs ys : List A) → xs ++ ys ≡ [] → ys ≡ []
 nothing_right xs ys h = (neither_left xs ys h).1
-
-pub neither : (p q : Bool) → (p || q) ≡ false → (p ≡ false) × (q ≡ false)
-neither true q h = cc
-neither false q h = (refl, h)
-
-pub not_false : (b : Bool) → not b ≡ false → b ≡ true
-not_false true h = refl
-not_false false h = cc
 
 pub not_when : (b : Bool) (f : Fault) → when b f ≡ [] → b ≡ false
 not_when true f h = cc
@@ -65,11 +57,6 @@ pub get_map : {A B : Type 0} (f : A → B) (xs : List A) (i : ℕ) (x : A) → s
 get_map f [] i x h = cc
 get_map f (y ∷ ys) zero x h = let same : y ≡ x = cc in ap (λ z. Some (f z)) same
 get_map f (y ∷ ys) (suc i) x h = get_map f ys i x h
-
-pub get_within : {A : Type 0} (xs : List A) (i : ℕ) (x : A) → slice_get xs i ≡ Some x → i < length xs
-get_within [] i x h = cc
-get_within (y ∷ ys) zero x h = omega arith
-get_within (y ∷ ys) (suc i) x h = omega (arith, get_within ys i x h)
 
 -- one item more of a list that is built item by item, from the item at this place
 pub one_on : {A B : Type 0} (f : A → B) (xs : List A) (i : ℕ) (x : A) (all new : List B) (y : B) → x ≡ get_or xs i x → i < length xs → y ≡ f x → new ≡ all ++ y ∷ [] → all ++ map f (drop i xs) ≡ map f xs

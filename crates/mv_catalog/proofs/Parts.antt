@@ -2,6 +2,7 @@
 use Rattle.std.proofs.Common.{◌≡◌, ℕ, ◌≤◌, false, List, [], ◌∷◌, ◌++◌, Option, Some, None, refl, ap, subst, ◌∙◌, map, length, slice_get, arith, All}
 use Rattle.std.specs.List.{flat_map, AllZip}
 use Rattle.std.proofs.lemmas.List.Elements.{All-nil, All-cons}
+use Rattle.std.proofs.lemmas.Option.{slice_get_within}
 use Rattle.mv_ast.specs.declared.tree.Name.{Name}
 use Rattle.mv_ast.specs.declared.tree.ColDef.{ColDef}
 use Rattle.mv_ast.specs.declared.tree.Cond.{Cond}
@@ -23,7 +24,7 @@ use Rattle.mv_catalog.specs.declared.slot.Slot.{Slot}
 use Rattle.mv_catalog.specs.Building.{slot_named, number_in, number_of, numbers_of, plain, plains, maybe_plain, conds_of, sorts_of, agg_of, column_number}
 use Rattle.mv_catalog.specs.Types.{Kind, int, text, Var, declared, Vars, kind_of_column}
 use Rattle.mv_catalog.specs.Statements.{Gives, Takes, IsTest, IsSort, IsOffset, IsTotal}
-use Rattle.mv_catalog.proofs.Lists.{nothing_left, nothing_right, not_when, all_mapped, get_within}
+use Rattle.mv_catalog.proofs.Lists.{nothing_left, nothing_right, not_when, all_mapped}
 use Rattle.mv_catalog.proofs.Scopes.{known, Means, Same, Matches, kinds_in, column_typed, type_known}
 use Rattle.mv_catalog.proofs.Exprs.{expr_claim, in_its_place}
 
@@ -64,7 +65,7 @@ tests_of scope slots vars columns m few cs h =
 
 sort_of : (columns : List ColDef) → length columns ≤ 32 → (s : Sort) → column_faults (Some columns) s.column ≡ []
     → IsSort (kinds_in columns) (record { column = column_number columns s.column; descending = s.descending })
-sort_of columns few s h = let t = column_typed columns s.column few h in get_within (kinds_in columns) (column_number columns s.column) t.0 t.2
+sort_of columns few s h = let t = column_typed columns s.column few h in slice_get_within (kinds_in columns) (column_number columns s.column) t.0 t.2
 
 pub sorts_are : (columns : List ColDef) → length columns ≤ 32 → (ss : List Sort) → names.order_faults (Some columns) ss ≡ [] → All (IsSort (kinds_in columns)) (sorts_of columns ss)
 sorts_are columns few ss h =
@@ -133,7 +134,7 @@ pub total_is : (columns : List ColDef) (agg : Agg) → length columns ≤ 32 →
 total_is columns CountAll few h = (int, refl, refl)
 total_is columns (CountDistinct n) few h =
     let t = column_typed columns n few h in
-    (int, refl, (refl, get_within (kinds_in columns) (column_number columns n) t.0 t.2))
+    (int, refl, (refl, slice_get_within (kinds_in columns) (column_number columns n) t.0 t.2))
 total_is columns (Sum n) few h = (int, refl, (refl, sum_is columns n few h))
 total_is columns (Min n) few h = column_typed columns n few h
 total_is columns (Max n) few h = column_typed columns n few h

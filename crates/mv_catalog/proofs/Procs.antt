@@ -4,6 +4,7 @@ use Rattle.std.specs.List.{flat_map}
 use Rattle.std.specs.Cmp.Lexicographic.{same_text as told_same}
 use Rattle.std.proofs.lemmas.List.{length-map}
 use Rattle.std.proofs.lemmas.Option.{slice_get_past}
+use Rattle.std.proofs.lemmas.Bool.{not-false}
 use Rattle.mv_values.specs.declared.value.Value.{Value}
 use Rattle.mv_values.specs.declared.value.Value.TheVariants as value
 use Rattle.mv_ast.specs.declared.limit.Which.TheVariants as limit
@@ -33,7 +34,7 @@ use Rattle.mv_catalog.specs.Building.{Built, built, loops_in, slot, small, slot_
 use Rattle.mv_catalog.specs.Types.{int, Var, fixed, declared, Vars, kind_of_value, kind_of_column}
 use Rattle.mv_catalog.specs.Statements.{rows_of, CountsFrom}
 use Rattle.mv_catalog.specs.Text.{param_var, own_vars, vars_of, IsShort, IsProcedure}
-use Rattle.mv_catalog.proofs.Lists.{nothing_left, nothing_right, not_when, all_mapped, map_map, small_is, not_false}
+use Rattle.mv_catalog.proofs.Lists.{nothing_left, nothing_right, not_when, all_mapped, map_map, small_is}
 use Rattle.mv_catalog.proofs.Doubles.{doubles_apart, none_named}
 use Rattle.mv_catalog.proofs.Scopes.{SameFields, Means, Same, Matches, type_known}
 use Rattle.mv_catalog.proofs.Exprs.{value_known}
@@ -294,7 +295,7 @@ procedure_is tables p few_tables narrow h k =
       few = omega (arith, most, length-map p.params (λ (q : Param). param_of q.kind));
       declared = omega (arith, many, length-map p.vars (λ (v : VarDef). v.initial.value));
       defaults = all_mapped faults.initial (λ (v : VarDef). v.initial.value) IsShort
-          (λ v e. short v.initial.value (not_false (faults.begins v.initial.value) (not_when (not (faults.begins v.initial.value)) (wrong v.initial.token) e))) p.vars (nothing_right (a ++ b) c hc);
+          (λ v e. short v.initial.value (not-false (faults.begins v.initial.value) (not_when (not (faults.begins v.initial.value)) (wrong v.initial.token) e))) p.vars (nothing_right (a ++ b) c hc);
       short = omega (arith, lines, all_sized tables p.body (slots_of p) (found_number p + 1));
       body = r.allowed;
       loops = subst (λ n. CountsFrom n (rows_of (procedure_of tables p).body)) (sym (count_own tables p)) r.counts;

@@ -1,5 +1,6 @@
 -- The names of a place, as the check and as the program know them.
 use Rattle.std.proofs.Common.{◌≡◌, ℕ, ◌≤◌, ◌<◌, suc, Bool, true, false, List, [], ◌∷◌, Option, Some, None, refl, subst, map, length, slice_get, arith, if◌then◌else◌}
+use Rattle.std.proofs.lemmas.Option.{slice_get_within}
 use Rattle.mv_values.specs.declared.schema.ColType.{ColType}
 use Rattle.mv_values.specs.declared.schema.ColType.TheVariants as column
 use Rattle.mv_ast.specs.declared.tree.Name.{Name}
@@ -16,7 +17,7 @@ use Rattle.mv_names.specs.Typing.{missing_column}
 use Rattle.mv_catalog.specs.declared.slot.Slot.{Slot}
 use Rattle.mv_catalog.specs.Building.{slot_named, column_name, column_number}
 use Rattle.mv_catalog.specs.Types.{Kind, int, text, Var, fixed, declared, rows, turn, Vars, kind_of_column}
-use Rattle.mv_catalog.proofs.Lists.{place_found, get_map, get_within, small_is}
+use Rattle.mv_catalog.proofs.Lists.{place_found, get_map, small_is}
 
 -- a type, as the check has it
 abbrev pub known : Kind → ValueType
@@ -61,7 +62,7 @@ column_at : (columns : List ColDef) (n : Name) (c : ColDef) → length columns �
     → slice_get (kinds_in columns) (column_number columns n) ≡ Some (kind_of_column c.kind)
 column_at columns n c few is =
     let at : slice_get columns (place_named column_name columns n.text) ≡ Some c = place_found column_name columns n.text c is in
-    let lt : place_named column_name columns n.text < length columns = get_within columns _ c at in
+    let lt : place_named column_name columns n.text < length columns = slice_get_within columns _ c at in
     rw (small_is (place_named column_name columns n.text) (omega arith))
     (get_map (λ (d : ColDef). kind_of_column d.kind) columns (place_named column_name columns n.text) c at)
 

@@ -2,6 +2,7 @@
 use Rattle.std.proofs.Common.{◌≡◌, ℕ, ◌≤◌, ◌+◌, ◌-◌, ◌^◌, Bool, not, ◌==◌, List, [], ◌∷◌, ◌++◌, Option, Some, None, refl, sym, ap, subst, ◌∙◌, map, length, slice_get, arith, All, eqb-true, length-append, map-id}
 use mathlib.Core.Path.{subst₃}
 use Rattle.std.specs.List.{flat_map, AllZip}
+use Rattle.std.proofs.lemmas.Bool.{not-false}
 use Rattle.mv_values.specs.declared.schema.TableInfo.{TableInfo}
 use Rattle.mv_ast.specs.declared.limit.Passed.{Passed}
 use Rattle.mv_ast.specs.declared.limit.Which.TheVariants as limit
@@ -37,7 +38,7 @@ use Rattle.mv_catalog.specs.Building as build
 use Rattle.mv_catalog.specs.Building.{Built, built, build_all, loops_in, slot, small, table_place, columns_in, column_number, numbers_of, number_of, conds_of, sorts_of, agg_of, items_of, plain, plains, maybe_plain, names_of, slot_named, fields_in, table_of}
 use Rattle.mv_catalog.specs.Types.{Kind, int, declared, Vars}
 use Rattle.mv_catalog.specs.Statements as well
-use Rattle.mv_catalog.specs.Statements.{all_well, stmt_step, IsWell, Gives, Takes, IsTest, IsSort, IsTotal, with_turn, rows_step, rows_in, rows_of, CountsFrom}
+use Rattle.mv_catalog.specs.Statements.{all_well, stmt_step, IsWell, Gives, Takes, IsTest, IsSort, IsTotal, with_turn, rows_step, rows_in, rows_of, CountsFrom, Well, kinds_of, IsItem}
 use Rattle.mv_catalog.proofs.Lists.{nothing_left, nothing_right, not_when, not_false, small_is, map_map}
 use Rattle.mv_catalog.proofs.Scopes.{Matches}
 use Rattle.mv_catalog.proofs.Typed as typed
@@ -47,7 +48,7 @@ use Rattle.mv_catalog.proofs.Loops.{Fresh, fresh_behind, matches_within, chosen,
 
 -- lists of one length
 one_length : {A B : Type 0} (xs : List A) (ys : List B) (f : Fault) → when (not (length xs == length ys)) f ≡ [] → length xs ≡ length ys
-one_length xs ys f h = eqb-true (length xs) (length ys) (not_false (length xs == length ys) (not_when (not (length xs == length ys)) f h))
+one_length xs ys f h = eqb-true (length xs) (length ys) (not-false (length xs == length ys) (not_when (not (length xs == length ys)) f h))
 
 module _ (infos : List TableInfo) (scope : List Entry) (slots : List Slot) (vars : Vars) (m : Matches scope slots vars) where
   assign_well : (to : Name) (right : Expr) → names.assign to right scope ≡ [] → well.assign (number_of slots to) (plain slots right) vars

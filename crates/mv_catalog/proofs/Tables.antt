@@ -2,7 +2,8 @@
 use Rattle.std.proofs.Common.{◌≡◌, ◌≢◌, ℕ, zero, suc, ◌≤◌, ◌<◌, Bool, true, false, List, [], ◌∷◌, ◌++◌, Option, Some, None, refl, sym, subst, ◌∙◌, map, length, slice_get, arith, All, Contains, ◌⊎◌, inl, inr, ⊎_elim, if◌then◌else◌}
 use Rattle.std.specs.List.{flat_map, AllPairs}
 use Rattle.std.specs.Cmp.Lexicographic.{same_text as told_same, other_text}
-use Rattle.std.proofs.lemmas.Option.{get_or_from_slice_get}
+use Rattle.std.proofs.lemmas.Option.{get_or_from_slice_get, slice_get_within}
+use Rattle.std.proofs.lemmas.Bool.{or_parts}
 use Rattle.mv_values.specs.declared.schema.TableInfo.{TableInfo}
 use Rattle.mv_ast.specs.declared.tree.Name.{Name}
 use Rattle.mv_ast.specs.declared.tree.ColDef.{ColDef}
@@ -20,7 +21,7 @@ use Rattle.mv_catalog.specs.declared.resolved.RSetItem.{RSetItem}
 use Rattle.mv_catalog.specs.Building.{small, tiny, table_of, table_place, column_name, column_number, described, expr_of, items_of}
 use Rattle.mv_catalog.specs.Types.{Vars, HasType}
 use Rattle.mv_catalog.specs.Statements.{kinds_of, IsItem}
-use Rattle.mv_catalog.proofs.Lists.{nothing_left, nothing_right, neither, not_when, all_mapped, each_of, place_found, map_map, get_map, get_within, small_is}
+use Rattle.mv_catalog.proofs.Lists.{nothing_left, nothing_right, not_when, all_mapped, each_of, place_found, map_map, get_map, small_is}
 use Rattle.mv_catalog.proofs.Scopes.{known, Matches, kinds_in, column_typed}
 use Rattle.mv_catalog.proofs.Exprs.{expr_claim, in_its_place}
 use Rattle.mv_catalog.proofs.Doubles.{all_apart}
@@ -33,7 +34,7 @@ same_kinds t = sym (map_map _ described t.columns)
 pub first_holds : {A : Type 0} (P : A → Type 0) (name : A → Text) (xs : List A) (n : Text) (x : A) → All P xs → first_named name xs n ≡ Some x → P x
 first_holds P name xs n x all is =
     let at : slice_get xs (place_named name xs n) ≡ Some x = place_found name xs n x is in
-    subst P (get_or_from_slice_get xs (place_named name xs n) x x at) (all (place_named name xs n) x (get_within xs (place_named name xs n) x at))
+    subst P (get_or_from_slice_get xs (place_named name xs n) x x at) (all (place_named name xs n) x (slice_get_within xs (place_named name xs n) x at))
 
 -- the table of a name stands at its number
 abbrev pub There : List TableInfo → Option TableDef → ℕ → Type 0
@@ -45,7 +46,7 @@ there_by : (tables : List TableDef) (n : Name) (o : Option TableDef) → length 
 there_by tables n None few all is = tt
 there_by tables n (Some t) few all is =
     let at : slice_get tables (table_place tables n) ≡ Some t = place_found (λ (d : TableDef). d.name.text) tables n.text t is in
-    let lt : table_place tables n < length tables = get_within tables (table_place tables n) t at in (
+    let lt : table_place tables n < length tables = slice_get_within tables (table_place tables n) t at in (
       rw (small_is (table_place tables n) (omega arith)) (get_map table_of tables (table_place tables n) t at),
       first_holds (λ (d : TableDef). length d.columns ≤ 32) (λ (d : TableDef). d.name.text) tables n.text t all is,
     )
@@ -85,7 +86,7 @@ apart : (columns : List ColDef) (k c : Name) (y : ColDef) → length columns ≤
     → tiny (place_named column_name columns k.text) ≢ column_number columns c
 apart columns k c y few is h e =
     let at : slice_get columns (place_named column_name columns c.text) ≡ Some y = place_found column_name columns c.text y is in
-    let lt : place_named column_name columns c.text < length columns = get_within columns _ y at in
+    let lt : place_named column_name columns c.text < length columns = slice_get_within columns _ y at in
     place_apart columns k.text c.text y is h (omega (arith, e))
 
 contains_cases : (y : ℕ) (ys : List ℕ) (x : ℕ) → Contains (y ∷ ys) x → (y ≡ x) ⊎ Contains ys x
@@ -97,7 +98,7 @@ pub no_key : (columns : List ColDef) (key : List Name) (c : Name) (y : ColDef) �
     → is_named (λ (k : Name). k.text) key c.text ≡ false → Contains (map (λ (n : Name). tiny (place_named column_name columns n.text)) key) (column_number columns c) → ⊥
 no_key columns [] c y few is h (i, lt, e) = absurd (omega arith)
 no_key columns (k ∷ ks) c y few is h found =
-    let two = neither (same_text k.text c.text) (is_named (λ (k : Name). k.text) ks c.text) h in
+    let two = or_parts (same_text k.text c.text) (is_named (λ (k : Name). k.text) ks c.text) h in
     ⊎_elim (apart columns k c y few is two.0) (no_key columns ks c y few is two.1)
     (contains_cases (tiny (place_named column_name columns k.text)) (map (λ (n : Name). tiny (place_named column_name columns n.text)) ks) (column_number columns c) found)
 
@@ -139,8 +140,8 @@ module _ (columns : List ColDef) (few : length columns ≤ 32) where
 
   item_apart : (i j : SetItem) → Stands i → Stands j → same_text i.column.text j.column.text ≡ false → column_number columns i.column ≢ column_number columns j.column
   item_apart i j p q h e =
-      let li : place_named column_name columns i.column.text < length columns = get_within columns _ p.0 (place_found column_name columns i.column.text p.0 p.1) in
-      let lj : place_named column_name columns j.column.text < length columns = get_within columns _ q.0 (place_found column_name columns j.column.text q.0 q.1) in
+      let li : place_named column_name columns i.column.text < length columns = slice_get_within columns _ p.0 (place_found column_name columns i.column.text p.0 p.1) in
+      let lj : place_named column_name columns j.column.text < length columns = slice_get_within columns _ q.0 (place_found column_name columns j.column.text q.0 q.1) in
       place_apart columns i.column.text j.column.text q.0 q.1 h (omega (arith, e))
 
 item_stands : (scope : List Entry) (t : TableDef) (i : SetItem) → names.item_faults scope (Some t) i ≡ [] → (c : ColDef) × (first_named column_name t.columns i.column.text ≡ Some c)

@@ -3,6 +3,8 @@ use Rattle.std.proofs.Common.{◌≡◌, ◌≢◌, ℕ, suc, ◌≤◌, ◌<◌
 use Rattle.std.specs.List.{flat_map, filter, AllZip, AllPairs}
 use Rattle.std.proofs.lemmas.List.{length-map}
 use Rattle.std.proofs.lemmas.List.Elements.{All-nil, All-cons, All-tail, All-append}
+use Rattle.std.proofs.lemmas.Option.{slice_get_within}
+use Rattle.std.proofs.lemmas.Bool.{not-false}
 use Rattle.mv_values.specs.declared.schema.ColType.{ColType}
 use Rattle.mv_values.specs.declared.schema.ColType.TheVariants as column
 use Rattle.mv_values.specs.declared.schema.Column.{Column}
@@ -36,7 +38,7 @@ use Rattle.mv_names.specs.Statements.{doubles, table_named, missing_table}
 use Rattle.mv_names.specs.Faults as faults
 use Rattle.mv_catalog.specs.Building.{tiny, column_name, described, table_of, table_place, row_of, rows_of, param_of, procedure_of, copy_of, argument_of, call_of, resolved_of}
 use Rattle.mv_catalog.specs.Text.{IsOf, IsRow, IsTable, RowsFit, Suits, IsCall, IsProcedure, FitsText}
-use Rattle.mv_catalog.proofs.Lists.{nothing_left, nothing_right, not_when, not_false, all_mapped, each_of, map_map, get_map, get_within, place_found, small_is}
+use Rattle.mv_catalog.proofs.Lists.{nothing_left, nothing_right, not_when, all_mapped, each_of, map_map, get_map, place_found, small_is}
 use Rattle.mv_catalog.proofs.Tables.{place_apart}
 use Rattle.mv_catalog.proofs.Doubles.{all_apart}
 use Rattle.mv_catalog.proofs.Procs.{procedure_is}
@@ -50,7 +52,7 @@ value_of (column.Text n) (value.Int z) h = cc
 value_of (column.Text n) (value.Text t) h = leb-true (length t) n h
 
 literal_of : (type : ColType) (l : Lit) → faults.literal type l ≡ [] → IsOf type l.value
-literal_of type l h = value_of type l.value (not_false (faults.fits type l.value) (not_when (not (faults.fits type l.value)) (wrong l.token) h))
+literal_of type l h = value_of type l.value (not-false (faults.fits type l.value) (not_when (not (faults.fits type l.value)) (wrong l.token) h))
 
 types_in : List ColDef → List ColType
 types_in columns = map (λ (c : ColDef). c.kind) columns
@@ -96,7 +98,7 @@ named_found name [] n h = cc
 named_found name (x ∷ xs) n h = found_step x (same_text (name x) n) (is_named name xs n) (first_named name xs n) h (named_found name xs n)
 
 key_named : (columns : List ColDef) (n : Name) → faults.missing_key columns n ≡ [] → is_named column_name columns n.text ≡ true
-key_named columns n h = not_false (is_named column_name columns n.text) (not_when (not (is_named column_name columns n.text)) (unknown n.token) h)
+key_named columns n h = not-false (is_named column_name columns n.text) (not_when (not (is_named column_name columns n.text)) (unknown n.token) h)
 
 module _ (columns : List ColDef) (most : length columns ≤ 32) where
   abbrev place : Name → ℕ
@@ -183,7 +185,7 @@ copy_by : (tables : List TableDef) (c : CopyDef) (o : Option TableDef) → lengt
 copy_by tables c None few_tables is h = cc
 copy_by tables c (Some t) few_tables is h =
     let at : slice_get tables (table_place tables c.table) ≡ Some t = place_found (λ (d : TableDef). d.name.text) tables c.table.text t is in
-    let lt : table_place tables c.table < length tables = get_within tables (table_place tables c.table) t at in
+    let lt : table_place tables c.table < length tables = slice_get_within tables (table_place tables c.table) t at in
     omega (arith, length-map tables table_of)
 
 argument_suits : (k : ParamKind) (a : Arg) → faults.argument k a ≡ [] → Suits (param_of k) (argument_of a)
@@ -212,7 +214,7 @@ call_by tables ps c None few_procedures is h = cc
 call_by tables ps c (Some p) few_procedures is h =
     let n = place_named (λ (q : ProcDef). q.name.text) ps c.name.text in
     let at : slice_get ps n ≡ Some p = place_found (λ (q : ProcDef). q.name.text) ps c.name.text p is in
-    let lt : n < length ps = get_within ps n p at in (
+    let lt : n < length ps = slice_get_within ps n p at in (
       procedure_of tables p,
       rw (small_is n (omega arith)) (get_map (procedure_of tables) ps n p at),
       call_step tables p c (length c.arguments == length p.params) refl h,

@@ -1,19 +1,11 @@
 -- Which of two faults is before the other, and the first of faults and one more.
 use Rattle.std.proofs.Common.{◌≡◌, ℕ, ◌<◌, Bool, true, false, ◌&&◌, ◌||◌, nat_lt, ◌==◌, refl, arith, List, [], ◌∷◌, ◌++◌, Option, Some, None, take, length, get_or, ◌+◌, ap, ◌∙◌, append_assoc, if◌then◌else◌}
-use Rattle.std.proofs.lemmas.Bool.{ltb-true, eqb-true}
+use Rattle.std.proofs.lemmas.Bool.{ltb-true, eqb-true, and_parts, or_parts}
 use Rattle.std.proofs.lemmas.List.{take_more}
 use Rattle.std.proofs.lemmas.List.Elements.{All-nil, All-cons, All-append}
 use Rattle.mv_names.specs.declared.fault.Fault.{Fault}
 use Rattle.mv_names.specs.First.{is_before, rank, IsFirst, IsFirstOf}
 use Rattle.mv_names.specs.Earlier.{earlier_of}
-
-both : (p q : Bool) → (p && q) ≡ true → (p ≡ true) × (q ≡ true)
-both true q h = (refl, h)
-both false q h = cc
-
-neither : (p q : Bool) → (p || q) ≡ false → (p ≡ false) × (q ≡ false)
-neither true q h = cc
-neither false q h = (refl, h)
 
 pub never_itself : (f : Fault) → is_before f f ≡ false
 never_itself f = grind (arith)
@@ -28,14 +20,14 @@ same_token a b c r s q same h e k = grind (arith, same, h, e, k)
 by_token : (a b c r s q : ℕ) (p : Bool) → nat_lt a b ≡ p → (p || (a == b && nat_lt r s)) ≡ true → nat_lt c b ≡ false → (c == b && nat_lt q s) ≡ false → (nat_lt c a || (c == a && nat_lt q r)) ≡ false
 by_token a b c r s q true e k h l = nearer a b c r s q h (ltb-true a b e)
 by_token a b c r s q false e k h l =
-    let two = both (a == b) (nat_lt r s) k in
+    let two = and_parts (a == b) (nat_lt r s) k in
     let same : a ≡ b = eqb-true a b two.0 in
     same_token a b c r s q same h l (ltb-true r s two.1)
 
 -- what isn't before the best isn't before what is before it
 pub not_before : (f g best : Fault) → is_before g best ≡ false → is_before f best ≡ true → is_before g f ≡ false
 not_before f g best h k =
-    let two = neither (nat_lt g.token best.token) (g.token == best.token && nat_lt (rank g.kind) (rank best.kind)) h in
+    let two = or_parts (nat_lt g.token best.token) (g.token == best.token && nat_lt (rank g.kind) (rank best.kind)) h in
     by_token f.token best.token g.token (rank f.kind) (rank best.kind) (rank g.kind) (nat_lt f.token best.token) refl k two.0 two.1
 
 one_more : (seen : List Fault) (f best : Fault) (b : Bool) → is_before f best ≡ b → IsFirst seen best → IsFirst (seen ++ f ∷ []) (if b then f else best)
