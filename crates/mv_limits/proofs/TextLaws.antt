@@ -18,7 +18,7 @@ undoubled_last : (a : ℕ) → undoubled (a ∷ []) ≡ a ∷ undoubled []
 unfolding undoubled
 undoubled_last a = refl
 
-undoubled_none : undoubled [] ≡ []
+pub undoubled_none : undoubled [] ≡ []
 unfolding undoubled
 undoubled_none = refl
 
@@ -49,14 +49,18 @@ unfolding number_from
 number_capped most [] m n h = h
 number_capped most (d ∷ ds) m n h = number_capped most ds (10 * m + (d - 48)) (10 * n + (d - 48)) (omega arith)
 
+pub capped_turn : (most : ℕ) (digits : List ℕ) (at n next all : ℕ) → at < length digits → min (number_from n (drop at digits)) most ≡ all
+    → min next most ≡ min (10 * n + (get_or digits at 0 - 48)) most → min (number_from next (drop (at + 1) digits)) most ≡ all
+unfolding number_from
+capped_turn most digits at n next all h i e =
+    let d : drop at digits ≡ get_or digits at 0 ∷ drop (suc at) digits = drop-cons digits at 0 h in
+    let j : min (number_from n (get_or digits at 0 ∷ drop (suc at) digits)) most ≡ all = subst (λ r. min (number_from n r) most ≡ all) d i in
+    number_capped most (drop (at + 1) digits) next (10 * n + (get_or digits at 0 - 48)) e
+    ∙ (ap (λ r. min (number_from (10 * n + (get_or digits at 0 - 48)) (drop r digits)) most) (add-one at) ∙ j)
+
 pub value_turn : (digits : List ℕ) (at n next all : ℕ) → at < length digits → min (number_from n (drop at digits)) (greatest + 1) ≡ all
     → min next (greatest + 1) ≡ min (10 * n + (get_or digits at 0 - 48)) (greatest + 1) → min (number_from next (drop (at + 1) digits)) (greatest + 1) ≡ all
-unfolding number_from
-value_turn digits at n next all h i e =
-    let d : drop at digits ≡ get_or digits at 0 ∷ drop (suc at) digits = drop-cons digits at 0 h in
-    let j : min (number_from n (get_or digits at 0 ∷ drop (suc at) digits)) (greatest + 1) ≡ all = subst (λ r. min (number_from n r) (greatest + 1) ≡ all) d i in
-    number_capped (greatest + 1) (drop (at + 1) digits) next (10 * n + (get_or digits at 0 - 48)) e
-    ∙ (ap (λ r. min (number_from (10 * n + (get_or digits at 0 - 48)) (drop r digits)) (greatest + 1)) (add-one at) ∙ j)
+value_turn = capped_turn (greatest + 1)
 
 pub value_end : (digits : List ℕ) (at n : ℕ) → length digits ≤ at → number_from n (drop at digits) ≡ n
 unfolding number_from

@@ -8,5 +8,5 @@ pub mod late;
 pub mod laws;
 mod rows;
 mod statements;
-mod texts;
+pub mod texts;
 mod tokens;

@@ -34,7 +34,7 @@ pub(crate) fn value(digits: &[u8]) -> u64
 }
 
 /// Returns the text without its first and last bytes.
-fn between(text: &[u8]) -> &[u8]
+pub fn between(text: &[u8]) -> &[u8]
     ensures { result.now ≡ slice_range text.now 1 (length text.now - 1) }
 {
     if text.len() < 2 {
@@ -58,7 +58,7 @@ fn undoubled_len(text: &[u8]) -> usize
 
 /// Returns the index after the letter at an index. A doubled quote is one letter.
 #[tactic(auto, using(crate::proofs::TextLaws::letter_twice, crate::proofs::TextLaws::letter_once, crate::proofs::TextLaws::letter_last))]
-fn behind_letter(text: &[u8], at: usize) -> usize
+pub fn behind_letter(text: &[u8], at: usize) -> usize
     requires { at < length text.now }
     ensures letter { undoubled (drop at text.now) ≡ slice_index text.now at ∷ undoubled (drop result text.now) }
     ensures further { at < result }

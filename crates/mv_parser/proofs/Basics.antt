@@ -1,15 +1,11 @@
 -- Facts on tests and on answers.
 use Rattle.std.proofs.Common.{◌≡◌, ℕ, Bool, true, false, cond, List, [], ◌∷◌, ◌++◌, Result, Ok, Err, ◌⊎◌, inl, inr, refl, sym, ap, subst}
+use Rattle.mv_lex.proofs.Fronts.{chosen}
 use denote.Enum.Bare.{sameb, same_true, true_same}
 use Rattle.mv_ast.specs.contracts.lexeme.Terminal.{the_type}
 use Rattle.mv_ast.specs.declared.lexeme.Lexeme.{Lexeme}
 use Rattle.mv_ast.specs.declared.lexeme.Terminal.{Terminal}
 use Rattle.mv_parser.specs.Reading.{◌>>=◌, Read, is_among, starts_with}
-
--- what a choice that gives a value chose
-pub chosen : {A : Type 0} (b : Bool) (x y z : A) → cond b x y ≡ z → ((b ≡ true) × (x ≡ z)) ⊎ ((b ≡ false) × (y ≡ z))
-chosen true x y z h = inl (refl, h)
-chosen false x y z h = inr (refl, h)
 
 pub and_true : (a b : Bool) → cond a b false ≡ true → (a ≡ true) × (b ≡ true)
 and_true true b h = (refl, h)

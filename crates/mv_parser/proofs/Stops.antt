@@ -1,12 +1,13 @@
 -- Where reading stops, the tokens before that place begin the part.
 use Rattle.std.proofs.Common.{◌≡◌, ℕ, zero, suc, List, [], ◌∷◌, ◌++◌, Ok, Err, inl, inr, length, refl, sym, ap, ◌∙◌, append_assoc}
+use Rattle.mv_lex.proofs.Fronts.{chosen}
 use denote.Enum.Bare.{sameb}
 use Rattle.mv_ast.specs.contracts.lexeme.Terminal.{the_type}
 use Rattle.mv_ast.specs.declared.lexeme.Lexeme.{Lexeme}
 use Rattle.mv_ast.specs.declared.lexeme.Terminal.{Terminal}
 use Rattle.mv_ast.specs.Parts.{Part, give, one, both, either, left, expression, statement, Inner, Is, Begins, Pieces}
 use Rattle.mv_parser.specs.Reading.{◌>>=◌, Read, Inside, read, read_one, more, first, starts_with}
-use Rattle.mv_parser.proofs.Basics.{chosen, bind_err}
+use Rattle.mv_parser.proofs.Basics.{bind_err}
 use Rattle.mv_parser.proofs.Takes.{TakesAll, InnerTakes, takes}
 
 -- a front of the tokens begins this, and so many are left behind it

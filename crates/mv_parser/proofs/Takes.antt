@@ -1,12 +1,13 @@
 -- What is read is in the grammar.
 use Rattle.std.proofs.Common.{◌≡◌, ℕ, zero, suc, List, [], ◌∷◌, ◌++◌, Ok, Err, inl, inr, length, refl, sym, ap, subst, ◌∙◌, append_assoc}
+use Rattle.mv_lex.proofs.Fronts.{chosen}
 use denote.Enum.Bare.{sameb}
 use Rattle.mv_ast.specs.contracts.lexeme.Terminal.{the_type}
 use Rattle.mv_ast.specs.declared.lexeme.Lexeme.{Lexeme}
 use Rattle.mv_ast.specs.declared.lexeme.Terminal.{Terminal}
 use Rattle.mv_ast.specs.Parts.{Part, give, one, both, either, left, expression, statement, Inner, Is, Pieces, joined}
 use Rattle.mv_parser.specs.Reading.{◌>>=◌, Read, Inside, read, read_one, more, first, starts_with}
-use Rattle.mv_parser.proofs.Basics.{chosen, bind_ok, same_read, same_kind}
+use Rattle.mv_parser.proofs.Basics.{bind_ok, same_read, same_kind}
 
 -- a front of the tokens is this, and the rest is left
 abbrev pub Takes : {A : Type 0} → (List Lexeme → A → Type 0) → List Lexeme → A → List Lexeme → Type 0

@@ -1,14 +1,14 @@
 -- Laws of what bytes stand for.
-use Rattle.std.proofs.Common.{◌≡◌, ℕ, zero, suc, ◌+◌, ◌-◌, ◌*◌, ◌<◌, ◌≤◌, min, true, false, cond, IsTrue, nat_eq, List, [], ◌∷◌, ◌++◌, length, take, drop, get_or, slice_range, Option, Some, None, refl, sym, ap, subst, ◌∙◌, arith, add-one, append_assoc, append-nil}
+use Rattle.std.proofs.Common.{◌≡◌, ℕ, zero, suc, ◌+◌, ◌-◌, ◌*◌, ◌<◌, ◌≤◌, min, true, false, cond, IsTrue, nat_eq, List, [], ◌∷◌, ◌++◌, length, take, drop, get_or, slice_range, Option, Some, None, refl, sym, ap, ◌∙◌, arith, append_assoc, append-nil}
 use Rattle.std.specs.Char.{to_ascii_lowercase}
 use Rattle.std.specs.List.{list_all, All, AllByRecursion, position}
-use Rattle.std.proofs.Math.Seq.{drop-cons}
 use Rattle.std.proofs.lemmas.Bool.{leb-true, and_parts}
 use Rattle.std.proofs.lemmas.List.{drop_all}
 use Rattle.std.proofs.lemmas.List.Elements.{All-from_recursion}
 use Rattle.std.proofs.lemmas.List.Quantifiers.{position-Some}
 use Rattle.mv_lex.specs.Bytes.{is_printable}
 use Rattle.mv_values.specs.Printable.{IsPrintable}
+use Rattle.mv_limits.proofs.TextLaws.{undoubled_none, capped_turn}
 use Rattle.mv_ast.specs.Texts.{lower, number_from, greatest, undoubled, unquoted, first_line, line_end}
 
 printable : (b : ℕ) → is_printable b ≡ true → IsPrintable b
@@ -72,67 +72,16 @@ behind_print (b ∷ bs) h = (and_parts (is_printable b) (list_all is_printable b
 pub behind_printable : (text : List ℕ) → IsTrue (list_all is_printable text) → IsTrue (list_all is_printable (drop 1 text))
 behind_printable text h = behind_print text h
 
--- the first letter of a text with its quotes doubled
-undoubled_twice : (a b : ℕ) (bs : List ℕ) → a ≡ 39 → undoubled (a ∷ b ∷ bs) ≡ a ∷ undoubled bs
-unfolding undoubled
-undoubled_twice a b bs h = rw h refl
-
-undoubled_once : (a : ℕ) (bs : List ℕ) → nat_eq a 39 ≡ false → undoubled (a ∷ bs) ≡ a ∷ undoubled bs
-unfolding undoubled
-undoubled_once a [] h = refl
-undoubled_once a (b ∷ bs) h = rw h refl
-
-undoubled_last : (a : ℕ) → undoubled (a ∷ []) ≡ a ∷ undoubled []
-unfolding undoubled
-undoubled_last a = refl
-
-undoubled_none : undoubled [] ≡ []
-unfolding undoubled
-undoubled_none = refl
-
 pub letters_end : (text done all : List ℕ) (at : ℕ) → length text ≤ at → done ++ undoubled (drop at text) ≡ all → done ≡ all
 letters_end text done all at h e = sym (append-nil done) ∙ (ap (λ r. done ++ r) (sym (ap undoubled (drop_all at text h) ∙ undoubled_none)) ∙ e)
-
-pub letter_twice : (text : List ℕ) (at : ℕ) → at + 1 < length text → get_or text at 0 ≡ 39 → undoubled (drop at text) ≡ get_or text at 0 ∷ undoubled (drop (at + 2) text)
-letter_twice text at h e =
-    let a : drop at text ≡ get_or text at 0 ∷ drop (suc at) text = drop-cons text at 0 (omega arith) in
-    let b : drop (suc at) text ≡ get_or text (suc at) 0 ∷ drop (suc (suc at)) text = drop-cons text (suc at) 0 (omega arith) in
-    let n : at + 2 ≡ suc (suc at) = omega arith in
-    ap undoubled (a ∙ ap (λ r. get_or text at 0 ∷ r) b) ∙ (undoubled_twice (get_or text at 0) (get_or text (suc at) 0) (drop (suc (suc at)) text) e
-    ∙ ap (λ r. get_or text at 0 ∷ undoubled (drop r text)) (sym n))
-
-pub letter_once : (text : List ℕ) (at : ℕ) → at < length text → nat_eq (get_or text at 0) 39 ≡ false → undoubled (drop at text) ≡ get_or text at 0 ∷ undoubled (drop (at + 1) text)
-letter_once text at h e =
-    ap undoubled (drop-cons text at 0 h) ∙ (undoubled_once (get_or text at 0) (drop (suc at) text) e ∙ ap (λ r. get_or text at 0 ∷ undoubled (drop r text)) (sym (add-one at)))
-
-pub letter_last : (text : List ℕ) (at : ℕ) → at < length text → length text ≤ at + 1 → undoubled (drop at text) ≡ get_or text at 0 ∷ undoubled (drop (at + 1) text)
-letter_last text at h e =
-    let none : drop (suc at) text ≡ [] = drop_all (suc at) text (omega arith) in
-    let one : drop (at + 1) text ≡ [] = drop_all (at + 1) text e in
-    ap undoubled (drop-cons text at 0 h ∙ ap (λ r. get_or text at 0 ∷ r) none) ∙ (undoubled_last (get_or text at 0) ∙ ap (λ r. get_or text at 0 ∷ undoubled r) (sym one))
 
 pub letter_kept : (text done all : List ℕ) (at next : ℕ) → done ++ undoubled (drop at text) ≡ all → undoubled (drop at text) ≡ get_or text at 0 ∷ undoubled (drop next text)
     → (done ++ get_or text at 0 ∷ []) ++ undoubled (drop next text) ≡ all
 letter_kept text done all at next h e = append_assoc done (get_or text at 0 ∷ []) (undoubled (drop next text)) ∙ (ap (λ r. done ++ r) (sym e) ∙ h)
 
--- numbers that are the same up to the greatest stay so
-pub number_capped : (ds : List ℕ) (m n : ℕ) → min m greatest ≡ min n greatest → min (number_from m ds) greatest ≡ min (number_from n ds) greatest
-unfolding number_from
-number_capped [] m n h = h
-number_capped (d ∷ ds) m n h = number_capped ds (10 * m + (d - 48)) (10 * n + (d - 48)) (omega arith)
-
 pub number_turn : (digits : List ℕ) (at n next all : ℕ) → at < length digits → min (number_from n (drop at digits)) greatest ≡ all
     → min next greatest ≡ min (10 * n + (get_or digits at 0 - 48)) greatest → min (number_from next (drop (at + 1) digits)) greatest ≡ all
-unfolding number_from
-number_turn digits at n next all h i e =
-    let d : drop at digits ≡ get_or digits at 0 ∷ drop (suc at) digits = drop-cons digits at 0 h in
-    let j : min (number_from n (get_or digits at 0 ∷ drop (suc at) digits)) greatest ≡ all = subst (λ r. min (number_from n r) greatest ≡ all) d i in
-    number_capped (drop (at + 1) digits) next (10 * n + (get_or digits at 0 - 48)) e
-    ∙ (ap (λ r. min (number_from (10 * n + (get_or digits at 0 - 48)) (drop r digits)) greatest) (add-one at) ∙ j)
-
-pub number_end : (digits : List ℕ) (at n : ℕ) → length digits ≤ at → number_from n (drop at digits) ≡ n
-unfolding number_from
-number_end digits at n h = let e = drop_all at digits h in rw e refl
+number_turn = capped_turn greatest
 
 -- a first line is no longer than the text
 pub first_line_within : (text : List ℕ) → first_line text ≤ length text

@@ -1,5 +1,6 @@
 -- The grammar of scripts is read with one token ahead.
 use Rattle.std.proofs.Common.{◌≡◌, ℕ, zero, suc, Bool, true, false, cond, List, [], ◌∷◌, Ok, inl, inr, refl, sym, subst, append-nil}
+use Rattle.mv_lex.proofs.Fronts.{chosen}
 use denote.Enum.Bare.{sameb}
 use Rattle.mv_ast.specs.contracts.lexeme.Terminal.{the_type}
 use Rattle.mv_ast.specs.declared.lexeme.Lexeme.{Lexeme}
@@ -9,7 +10,7 @@ use Rattle.mv_ast.specs.Parts.{Is}
 use Rattle.mv_ast.specs.Grammar as rule
 use Rattle.mv_ast.specs.Grammar.{inner, script, expr, stmt}
 use Rattle.mv_parser.specs.Reading.{inside, read, first, is_among, starts_with, expression_words, statement_words}
-use Rattle.mv_parser.proofs.Basics.{chosen, same_kind}
+use Rattle.mv_parser.proofs.Basics.{same_kind}
 use Rattle.mv_parser.proofs.Takes.{TakesAll, InnerTakes, takes}
 use Rattle.mv_parser.proofs.Guarded.{is_guarded}
 use Rattle.mv_parser.proofs.Again.{expression_tail, tail, is_clear, InnerHeads, heads, InnerAgain, again}

@@ -5,6 +5,7 @@ ghost use Rattle.std.specs.List.{list_all, All, position};
 ghost use Rattle.mv_lex.specs.Bytes.{is_printable};
 ghost use Rattle.mv_ast.specs.Texts.{lower, number, undoubled, unquoted, first_line, last_line};
 
+use mv_limits::texts::{behind_letter, between};
 use mv_values::memory::NoMemory;
 use mv_values::txt::Txt;
 use std::alloc::Global;
@@ -36,7 +37,7 @@ pub(crate) fn behind_first(text: &[u8]) -> &[u8]
 }
 
 /// Returns the value of decimal digits, or the greatest INT if it is above that.
-#[tactic(auto, using(crate::proofs::TextLaws::number_turn, crate::proofs::TextLaws::number_end))]
+#[tactic(auto, using(crate::proofs::TextLaws::number_turn, mv_limits::proofs::TextLaws::value_end))]
 pub(crate) fn number(digits: &[u8]) -> i64
     ensures { result ≡ pos (number digits.now) }
 {
@@ -60,16 +61,6 @@ pub(crate) fn unquoted(alloc: Global, text: &[u8]) -> Result<Txt, NoMemory>
     Txt::of(alloc, &content)
 }
 
-/// Returns the text without its first and its last byte.
-fn between(text: &[u8]) -> &[u8]
-    ensures { result.now ≡ slice_range text.now 1 (length text.now - 1) }
-{
-    if text.len() < 2 {
-        return &[];
-    }
-    &text[1..text.len() - 1]
-}
-
 /// Returns the bytes with each doubled quote replaced by one.
 #[tactic(auto, using(crate::proofs::TextLaws::letter_kept))]
 fn undoubled(alloc: Global, text: &[u8]) -> Result<Vec<u8>, NoMemory>
@@ -82,21 +73,6 @@ fn undoubled(alloc: Global, text: &[u8]) -> Result<Vec<u8>, NoMemory>
         at = behind_letter(text, at);
     }
     Ok(single)
-}
-
-/// Returns the position after the letter at a position.
-#[tactic(auto, using(crate::proofs::TextLaws::letter_twice, crate::proofs::TextLaws::letter_once, crate::proofs::TextLaws::letter_last))]
-fn behind_letter(text: &[u8], at: usize) -> usize
-    requires { at < length text.now }
-    ensures letter { undoubled (drop at text.now) ≡ slice_index text.now at ∷ undoubled (drop result text.now) }
-    ensures further { at < result }
-    ensures within { result ≤ length text.now }
-{
-    if text[at] == b'\'' && at + 1 < text.len() {
-        at + 2
-    } else {
-        at + 1
-    }
 }
 
 /// Returns the length of the first line, LF included.
