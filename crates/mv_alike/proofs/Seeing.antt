@@ -22,7 +22,7 @@ use Rattle.mv_values.specs.Preds.{admits, names, sees}
 use Rattle.mv_values.proofs.KeyOrder.{key_order_total}
 use Rattle.mv_record.specs.Writes.{is_on, writes_on, patched_by}
 use Rattle.mv_history.proofs.Alike.{alike_sees}
-use Rattle.mv_history.proofs.Listing.{tied}
+use Rattle.mv_history.proofs.Listing.{tied, same_is}
 use Rattle.mv_history.specs.declared.change.Change.{Change}
 use Rattle.mv_history.specs.Changes.{is_of, Leads, is_same}
 use Rattle.mv_history.specs.Hits.{named_columns, is_alike, reaches, touches_predicate}
@@ -188,12 +188,6 @@ merged_alike p key _ _ adm (new w vs ws t m) a b h = by (merged_alike p key vs w
 -- Changes
 
 -- the row is seen alike before the changes of its key and behind them, where none of them changes what is seen
-same_is : (a b : Option (List Value)) → is_same a b ≡ true → a ≡ b
-same_is None None h = refl
-same_is (Some a) (Some b) h = ap Some (tied a b h)
-same_is None (Some b) h = cc
-same_is (Some a) None h = cc
-
 alike_is : (p : Pred) (a b : Option (List Value)) → is_alike p a b ≡ true → ColsAlike p a b
 alike_is p None None h = tt
 alike_is p (Some a) (Some b) h = tied (columns_of a (named_columns p)) (columns_of b (named_columns p)) h

@@ -6,6 +6,7 @@ use Rattle.std.specs.Result.{result_err}
 use Rattle.std.proofs.lemmas.Grind.{flat_map-append}
 use Rattle.std.proofs.lemmas.Slice.Zip.{AllZip-long}
 use Rattle.std.proofs.lemmas.Bool.{and_parts, not-true}
+use Rattle.mv_record.proofs.Patching.{applied_append}
 use Rattle.mv_catalog.specs.Text as text
 use Rattle.mv_values.specs.declared.value.Value.{Value}
 use Rattle.mv_values.specs.declared.pred.Pred.{Pred}
@@ -42,7 +43,7 @@ use Rattle.mv_recorded.proofs.Congruent.{congruent}
 use Rattle.mv_recorded.proofs.Effects.{effect_known}
 use Rattle.mv_recorded.proofs.Following.{firsts}
 use Rattle.mv_recorded.proofs.Fronts.{fronts_are}
-use Rattle.mv_recorded.proofs.Inverting.{applied_both, each_both}
+use Rattle.mv_recorded.proofs.Inverting.{each_both}
 use Rattle.mv_recorded.proofs.Wellness.{procedure_suits}
 use Rattle.mv_record.specs.Databases.{IsDatabaseOf}
 use Rattle.mv_record.specs.Effects.{effect_in, record_of}
@@ -209,7 +210,7 @@ own_locked g z n site rows before st nst pair suits twin h =
 
     tables_are : (next s : State) (r : Record) (db : Tables) → next ≡ behind r s → s.tables ≡ applied (writes_in before) db → r.writes ≡ own.writes → next.tables ≡ applied (writes_in (before ++ own ∷ [])) db
     tables_are next s r db t at w =
-        ap (λ (x : State). x.tables) t ∙ (ap (applied r.writes) at ∙ (ap (λ ws. applied ws (applied (writes_in before) db)) w ∙ (sym (applied_both (writes_in before) own.writes db)
+        ap (λ (x : State). x.tables) t ∙ (ap (applied r.writes) at ∙ (ap (λ ws. applied ws (applied (writes_in before) db)) w ∙ (sym (applied_append (writes_in before) own.writes db)
         ∙ ap (λ ws. applied ws db) (ap (λ l. writes_in before ++ l) (sym (append-nil own.writes)) ∙ sym (flat_map-append (λ (r : Record). r.writes) before (own ∷ []))))))
 
     by : (a b : Result State End) → TellsEffect own st a → TellsEffect other nst b → Ends g before (own ∷ []) a b

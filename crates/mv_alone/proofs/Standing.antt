@@ -115,7 +115,7 @@ put_stands keys new (item ∷ items) made p h is =
     by Greater (Err e) later is = cc
 
 -- what an outcome goes on to where it isn't an end
-goes_to : {A B : Type 0} (r : Result A End) (go : A → Result B End) (y : B) → then_do r go ≡ Ok y → (x : A) × (r ≡ Ok x) × (go x ≡ Ok y)
+pub goes_to : {A B : Type 0} (r : Result A End) (go : A → Result B End) (y : B) → then_do r go ≡ Ok y → (x : A) × (r ≡ Ok x) × (go x ≡ Ok y)
 goes_to (Ok x) go y h = (x, refl, h)
 goes_to (Err e) go y h = cc
 

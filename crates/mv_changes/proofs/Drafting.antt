@@ -12,19 +12,19 @@ use Rattle.std.proofs.Math.Seq.{get_or-append_seam}
 use Rattle.std.proofs.lemmas.Bool.Decides.{eqb_tells, nat_tests}
 use Rattle.std.proofs.lemmas.List.Elements.{filter-append, All-from_recursion, recursion_from_All, All-nil}
 use Rattle.std.proofs.lemmas.List.Folds.{list_any-append}
-use Rattle.std.proofs.lemmas.Bool.{and_parts, eqb-true, ltb-true, lt-ltb}
+use Rattle.std.proofs.lemmas.Bool.{and_parts, eqb-true, ltb-true, lt-ltb, and_right}
 use Rattle.mv_values.specs.declared.value.Value.{Value}
 use Rattle.mv_values.specs.declared.value.Value.TheVariants.{Int}
 use Rattle.mv_values.specs.declared.rows.Keyed.{Keyed}
 use Rattle.mv_values.specs.declared.patch.Write.{Write}
 use Rattle.mv_values.specs.Order.{key_order}
-use Rattle.mv_values.specs.Patching.{row_of, patched, written, applied}
+use Rattle.mv_values.specs.Patching.{row_of, patched, applied}
 use Rattle.mv_values.specs.Tables.{rows_at}
 use Rattle.mv_values.proofs.KeyOrder.{exact_keys}
 use Rattle.mv_record.specs.declared.record.Record.{Record}
 use Rattle.mv_record.specs.Runs.{writes_in}
 use Rattle.mv_record.specs.Writes.{AreRising, is_on, writes_on, patched_by}
-use Rattle.mv_record.proofs.Patching.{row_applied, rising_applied, length_applied}
+use Rattle.mv_record.proofs.Patching.{row_applied, rising_applied, length_applied, applied_append}
 use Rattle.mv_record.proofs.Rising.{same_key}
 use Rattle.mv_table.specs.Entries.{item_of, put_by, with_item, KeysRise}
 use Rattle.mv_undo.specs.Owning.{touches}
@@ -72,10 +72,6 @@ off w t key h = by (is_on t key w) refl
     by false e = refl
 
 -- Writes one after another
-
-pub applied_append : (xs ys : List Write) (db : Tables) → applied (xs ++ ys) db ≡ applied ys (applied xs db)
-applied_append [] ys db = refl
-applied_append (x ∷ xs) ys db = applied_append xs ys (written x db)
 
 touches_more : (ws : List Write) (w : Write) (t : ℕ) (key : List Value) (b : Bool) → is_on t key w ≡ b → touches t key (ws ++ w ∷ []) ≡ (touches t key ws || b)
 touches_more ws w t key b h = list_any-append (is_on t key) ws (w ∷ []) ∙ (ap (λ x. touches t key ws || (x || false)) h ∙ ap (λ x. touches t key ws || x) (or_no b))
@@ -135,14 +131,10 @@ places_with key item (e ∷ es) h all = by (key_order e.0 key) item h (places_wi
 pub places_put : (key : List Value) (item : Option Change) (es new : List Entry) → OfItem key item → All HasPlace es → new ≡ with_item key item es → All HasPlace new
 places_put key item es new h all is = subst (All HasPlace) (sym is) (All-from_recursion HasPlace (with_item key item es) (places_with key item es h (recursion_from_All HasPlace es all)))
 
-and_no : (b : Bool) → (b && false) ≡ false
-and_no true = refl
-and_no false = refl
-
 pub draft_none : (db : Tables) → IsDraft [] [] db
 draft_none db = record {
   places = All-nil HasPlace;
-  each = λ t key. sym (ap (λ b. drafted b t key db db) (and_no (nat_lt t (length db))));
+  each = λ t key. sym (ap (λ b. drafted b t key db db) (and_right (nat_lt t (length db)) false refl));
 }
 
 -- a key's change from a database to a row

@@ -1,8 +1,8 @@
 -- When a change hits a record.
-use Rattle.std.proofs.Common.{◌≡◌, ℕ, ◌==◌, Bool, true, false, not, cond, List, [], ◌∷◌, Option, if◌then◌else◌, refl, sym, ap, ◌∙◌, arith}
+use Rattle.std.proofs.Common.{◌≡◌, ◌==◌, Bool, true, false, not, cond, List, [], ◌∷◌, Option, if◌then◌else◌, refl, sym, ap, ◌∙◌}
 use Rattle.std.specs.Prelude.{◌↔◌, IsTrue, ◌&&◌, ◌||◌}
 use Rattle.std.specs.List.{list_any, filter}
-use Rattle.std.proofs.lemmas.Bool.Decides.{eqb_tells}
+use Rattle.std.proofs.lemmas.Cmp.{nat_eq_equiv}
 use Rattle.mv_values.specs.declared.value.Value.{Value}
 use Rattle.mv_values.specs.declared.pred.Pred.{Pred}
 use Rattle.mv_values.specs.declared.patch.Write.{Write}
@@ -16,15 +16,6 @@ use Rattle.mv_history.specs.Hits.{is_alike, hits_predicate, hits, any_hits}
 use Rattle.mv_history.proofs.Listing.{same_is, same_itself}
 use Rattle.mv_history.proofs.Alike.{alike_sees}
 use Rattle.mv_changes.specs.Hitting.{hits_pred}
-
-same_table : (a b : ℕ) → (a == b) ≡ (b == a)
-same_table a b = by (a == b) refl (b == a) refl
-  where
-    by : (x : Bool) → (a == b) ≡ x → (y : Bool) → (b == a) ≡ y → x ≡ y
-    by true e true f = refl
-    by false e false f = refl
-    by true e false f = absurd (grind (arith, eqb_tells))
-    by false e true f = absurd (grind (arith, eqb_tells))
 
 false_is : IsTrue false → ⊥
 false_is h = cc
@@ -114,13 +105,13 @@ own_table : (ws : List Write) (changes : List Change) (r : Record) → list_any 
 own_table ws changes r =
     any_alike (λ p. list_any (λ c. hits_pred ws c p) (filter (λ c. c.table == p.table) changes)) (λ p. list_any (λ c. (p.table == c.table) && hits_pred ws c p) changes) r.preds (λ p.
     any_kept (λ c. c.table == p.table) (λ c. hits_pred ws c p) changes
-    ∙ any_alike (λ (c : Change). (c.table == p.table) && hits_pred ws c p) (λ c. (p.table == c.table) && hits_pred ws c p) changes (λ c. ap (λ b. b && hits_pred ws c p) (same_table c.table p.table)))
+    ∙ any_alike (λ (c : Change). (c.table == p.table) && hits_pred ws c p) (λ c. (p.table == c.table) && hits_pred ws c p) changes (λ c. ap (λ b. b && hits_pred ws c p) (nat_eq_equiv.symm c.table p.table)))
     ∙ any_swap (λ (p : Pred) (c : Change). (p.table == c.table) && hits_pred ws c p) r.preds changes
 
 -- the same by the records before
 hits_by_records : (before : List Record) (c : Change) (r : Record) → hits_any (writes_in before) c r ≡ hits before r c
 hits_by_records before c r =
-    any_alike (λ (p : Pred). (p.table == c.table) && hits_pred (writes_in before) c p) (hits_predicate before c) r.preds (λ p. ap (λ b. b && hits_pred (writes_in before) c p) (same_table p.table c.table))
+    any_alike (λ (p : Pred). (p.table == c.table) && hits_pred (writes_in before) c p) (hits_predicate before c) r.preds (λ p. ap (λ b. b && hits_pred (writes_in before) c p) (nat_eq_equiv.symm p.table c.table))
 
 some_by_records : (before : List Record) (changes : List Change) (r : Record) → some_hits (writes_in before) changes r ≡ any_hits changes before r
 some_by_records before changes r = any_alike (λ c. hits_any (writes_in before) c r) (hits before r) changes (λ c. hits_by_records before c r)

@@ -5,6 +5,7 @@ use Rattle.std.specs.Option.{option_map}
 use Rattle.std.proofs.lemmas.Grind.{flat_map-append}
 use Rattle.std.proofs.lemmas.List.{map-append, length-map, take_all, drop_more}
 use Rattle.std.proofs.lemmas.Option.{slice_get-map, slice_get_within, slice_get-get_or, slice_get_read}
+use Rattle.mv_lawful.proofs.Turns.{only_open}
 use Rattle.mv_values.specs.declared.calls.Reply.{Reply}
 use Rattle.mv_journal.specs.declared.event.Event.{Event}
 use Rattle.mv_journal.specs.declared.outcome.HistoryLine.{HistoryLine}
@@ -21,7 +22,7 @@ use Rattle.mv_core.specs.declared.progress.Progress.{Progress}
 use Rattle.mv_core.specs.Scripts.{work_of}
 use Rattle.mv_core.specs.Calls.{turns_in, live_of, TellsBy, IsReply, rounds_by, line_of, replies_in}
 use Rattle.mv_core.specs.Books.{Booked, IsKept, work_in, last_tables}
-use Rattle.mv_core.proofs.Journals.{Facts, all_done, only_open}
+use Rattle.mv_core.proofs.Journals.{Facts, all_done}
 use Rattle.mv_core.proofs.Keeping.{the_course, facts, map_get, IsInside}
 
 -- each call has committed, and what is kept of it is its rounds and its reply

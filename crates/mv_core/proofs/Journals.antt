@@ -2,19 +2,18 @@
 use Rattle.std.proofs.Common.{◌≡◌, ◌⊎◌, inl, inr, ℕ, zero, suc, ◌+◌, ◌<◌, ◌≤◌, Bool, true, false, not, cond, List, [], ◌∷◌, ◌++◌, Option, Some, None, length, slice_set, if◌then◌else◌, refl, sym, ap, subst, ◌∙◌, arith, length-append, rules}
 use Rattle.std.specs.Prelude.{◌==◌, ◌&&◌, nat_lt, slice_get}
 use Rattle.std.specs.List.{position, position_or_len}
-use Rattle.std.specs.Option.{option_map}
 use Rattle.std.proofs.lemmas.Bool.Decides.{eqb_tells}
 use Rattle.std.proofs.lemmas.Bool.{eqb-true, eq-eqb}
 use Rattle.std.proofs.lemmas.List.{length-set}
+use Rattle.mv_lawful.proofs.Serial.{open_done}
 use Rattle.mv_journal.specs.declared.event.Event.{Event}
 use Rattle.mv_journal.specs.declared.event.Event.TheVariants.{B, S, A, M, C, X, G}
 use Rattle.mv_journal.specs.declared.outcome.Mark.{Mark}
 use Rattle.mv_journal.specs.declared.outcome.Mark.TheVariants.{Plain, Exclusive, Moved}
 use Rattle.mv_lawful.specs.declared.fault.Fault.{Fault}
 use Rattle.mv_lawful.specs.declared.fault.Fault.TheVariants.{Order}
-use Rattle.mv_lawful.specs.declared.fault.Wrong.TheVariants.{Open}
 use Rattle.mv_lawful.specs.Work.{Work}
-use Rattle.mv_lawful.specs.Lawful.{Turn, Live, Course, beginning, change_live, with_call, begin, again, finish, unless, of_live, refusal, after, reach, course_of, first_open, open_call, or_refused, wrong_from, AllAllowed}
+use Rattle.mv_lawful.specs.Lawful.{Turn, Live, Course, beginning, change_live, with_call, begin, again, finish, unless, of_live, refusal, after, reach, course_of, first_open, open_call, AllAllowed}
 use Rattle.mv_core.specs.Calls.{Within, IsLive}
 use Rattle.mv_core.proofs.Numbers.{within_more, within_end}
 
@@ -293,19 +292,6 @@ facts_of w es h = subst (λ m. Facts w m (course_of w es)) none (facts_reach w 0
   start = record { count = omega arith; done = refl; each = λ c l at. absurd (search (rules, at)); back = λ k c at. absurd (search (rules, at)) }
 
 -- The end
-
-pub only_open : (w : Work) (n : ℕ) (s : Course) (es : List Event) → AllAllowed w s es → wrong_from w n s es ≡ option_map Open (open_call w (reach w s es))
-only_open w n s [] h = refl
-only_open w n s (e ∷ es) h = ap (λ o. or_refused n o (wrong_from w (n + 1) (after w s e) es)) h.0 ∙ only_open w (n + 1) (after w s e) es h.1
-
-open_done : (n : ℕ) (ls : List Live) (i : ℕ) → n + i < first_open n ls → (l : Live) × (slice_get ls i ≡ Some l) × (l.done ≡ true)
-open_done n [] i h = absurd (omega (arith, h))
-open_done n (l ∷ ls) i h = by l.done i refl h (open_done (n + 1) ls) where
-  by : (b : Bool) (i : ℕ) → l.done ≡ b → n + i < (if b then first_open (n + 1) ls else n) → ((j : ℕ) → (n + 1) + j < first_open (n + 1) ls → (m : Live) × (slice_get ls j ≡ Some m) × (m.done ≡ true))
-      → (m : Live) × (slice_get (l ∷ ls) i ≡ Some m) × (m.done ≡ true)
-  by true zero e h go = (l, refl, e)
-  by true (suc j) e h go = go j (omega (arith, h))
-  by false i e h go = absurd (omega (arith, h))
 
 -- no call is open: each has committed
 pub all_done : (w : Work) (s : Course) → open_call w s ≡ None → (c : ℕ) → c < w.count → (l : Live) × (slice_get s.calls c ≡ Some l) × (l.done ≡ true)

@@ -7,6 +7,7 @@ use Rattle.std.specs.declared.cmp.Ordering.TheVariants.{Equal, Greater}
 use Rattle.std.specs.Cmp.{nat_cmp_is}
 use Rattle.std.specs.BTreeSet.{insert_key}
 use Rattle.std.proofs.lemmas.Option.{slice_get-map, slice_get_read}
+use Rattle.mv_lawful.proofs.Lows.{oldest_most}
 use Rattle.mv_lawful.specs.Lawful.{Live, begin, oldest}
 use Rattle.mv_core.specs.declared.progress.Progress.{Progress}
 use Rattle.mv_core.specs.Calls.{live_of}
@@ -109,9 +110,6 @@ pub least_past : (n : ℕ) (ls : List Live) (cs : List ℕ) → least_start n ls
 least_past n ls [] = omega arith
 least_past n ls (c ∷ cs) = let le = least_past n ls cs in omega (arith, le)
 
-pub oldest_within : (n : ℕ) (ls : List Live) → oldest n ls ≤ n
-oldest_within n ls = subst (λ m. m ≤ n) (sym (oldest_is n ls)) (least_past n ls (live_numbers ls))
-
 -- no live call started before it
 pub oldest_below : (n c : ℕ) (l : Live) (ls : List Live) → slice_get ls c ≡ Some l → l.done ≡ false → oldest n ls ≤ l.start
 oldest_below n c l [] at live = absurd (search (rules, at))
@@ -137,15 +135,15 @@ oldest_above b n (m ∷ ls) le all = by m.done refl (oldest_above b n ls le (λ 
 
 -- it doesn't fall when a call begins
 pub oldest_begun : (n : ℕ) (ls : List Live) → oldest n ls ≤ oldest n (ls ++ begin n ∷ [])
-oldest_begun n ls = oldest_above (oldest n ls) n (ls ++ begin n ∷ []) (oldest_within n ls) (λ c l at live. by c l live (get_last ls (begin n) c l at)) where
+oldest_begun n ls = oldest_above (oldest n ls) n (ls ++ begin n ∷ []) (oldest_most n ls) (λ c l at live. by c l live (get_last ls (begin n) c l at)) where
   by : (c : ℕ) (l : Live) → l.done ≡ false → (slice_get ls c ≡ Some l) ⊎ ((c ≡ length ls) × (begin n ≡ l)) → oldest n ls ≤ l.start
   by c l live (inl at) = oldest_below n c l ls at live
-  by c l live (inr h) = let start : n ≡ l.start = ap (λ (x : Live). x.start) h.1 in let le = oldest_within n ls in omega (arith, start, le)
+  by c l live (inr h) = let start : n ≡ l.start = ap (λ (x : Live). x.start) h.1 in let le = oldest_most n ls in omega (arith, start, le)
 
 -- nor when a live call starts anew or commits
 pub oldest_set : (n m c : ℕ) (l k : Live) (ls : List Live) → n ≤ m → slice_get ls c ≡ Some l → l.done ≡ false → (k.done ≡ false → l.start ≤ k.start) → oldest n ls ≤ oldest m (slice_set ls c k)
 oldest_set n m c l k ls up at live rises =
-    oldest_above (oldest n ls) m (slice_set ls c k) (let le = oldest_within n ls in omega (arith, le, up)) (λ d x there going. by d x going (get_set ls c d k x there)) where
+    oldest_above (oldest n ls) m (slice_set ls c k) (let le = oldest_most n ls in omega (arith, le, up)) (λ d x there going. by d x going (get_set ls c d k x there)) where
       by : (d : ℕ) (x : Live) → x.done ≡ false → ((d ≡ c) × (k ≡ x)) ⊎ ((d ≡ c → ⊥) × (slice_get ls d ≡ Some x)) → oldest n ls ≤ x.start
       by d x going (inl h) =
           let start : k.start ≡ x.start = ap (λ (y : Live). y.start) h.1 in

@@ -6,7 +6,7 @@ use Rattle.mv_journal.specs.declared.event.Event.TheVariants.{G}
 use Rattle.mv_lawful.specs.Work.{Work}
 use Rattle.mv_lawful.specs.Lawful.{Course, next_low, floor}
 use Rattle.mv_lawful.specs.Lawful.{oldest as oldest_of}
-use Rattle.mv_lawful.proofs.Lows.{low_never_falls}
+use Rattle.mv_lawful.proofs.Lows.{low_never_falls, oldest_most}
 use Rattle.mv_core.specs.declared.script.Script.{Script}
 use Rattle.mv_core.specs.declared.progress.Progress.{Progress}
 use Rattle.mv_core.specs.Scripts.{work_of}
@@ -15,7 +15,7 @@ use Rattle.mv_core.specs.Lives.{live_numbers, least_start}
 use Rattle.mv_core.specs.Books.{Booked, IsKept, work_in}
 use Rattle.mv_core.specs.declared.book.Book.TheInside.{Inside}
 use Rattle.mv_core.specs.contracts.book.Book.{the_view}
-use Rattle.mv_core.proofs.Lives.{oldest_is, oldest_within}
+use Rattle.mv_core.proofs.Lives.{oldest_is}
 use Rattle.mv_core.proofs.Keeping.{the_course, kept_event}
 
 pub kept_low : (s : Script) (order : List ℕ) (low next : ℕ) (ps : List Progress) (journal longer : List Event)
@@ -47,7 +47,7 @@ low_told i old n o f m k is count oldest past most all =
 pub low_within : (w : Work) (s : Course) (next : ℕ) → s.low ≤ length s.order → next ≡ next_low w s → (s.low ≤ next) × (next ≤ length s.order)
 low_within w s next le is = (
   subst (λ n. s.low ≤ n) (sym is) (low_never_falls w s G),
-  subst (λ n. n ≤ length s.order) (sym is) (max-le le (max-le (oldest_within (length s.order) s.calls) (past w.options.horizon))),
+  subst (λ n. n ≤ length s.order) (sym is) (max-le le (max-le (oldest_most (length s.order) s.calls) (past w.options.horizon))),
 ) where
   past : (h : Option ℕ) → floor (length s.order) h ≤ length s.order
   past None = omega arith

@@ -3,6 +3,7 @@ use Rattle.std.proofs.Common.{◌≡◌, ◌⊎◌, inl, inr, ℕ, zero, suc, �
 use Rattle.std.specs.Prelude.{slice_index_or}
 use Rattle.std.proofs.lemmas.List.{take-append-le, drop-append-le, length-drop}
 use Rattle.std.specs.List.{flat_map}
+use Rattle.mv_lawful.proofs.Turns.{length_changes}
 use Rattle.mv_journal.specs.declared.outcome.Mark.{Mark}
 use Rattle.mv_journal.specs.declared.outcome.Mark.TheVariants.{Plain, Exclusive, Moved}
 use Rattle.mv_journal.specs.declared.outcome.Round.{Round}
@@ -90,10 +91,6 @@ pub changes_more : (w : Work) (db : Tables) (cs : List ℕ) (d : ℕ)
 changes_more w db [] d = refl
 changes_more w db (c ∷ cs) d = ap (λ l. changes_between db (w.run c db).tables ∷ l) (changes_more w (w.run c db).tables cs d)
 
-pub changes_long : (w : Work) (db : Tables) (cs : List ℕ) → length (changes_after w db cs) ≡ length cs
-changes_long w db [] = refl
-changes_long w db (c ∷ cs) = ap suc (changes_long w (w.run c db).tables cs)
-
 pub changes_stay : (w : Work) (order : List ℕ) (d old new : ℕ) → old ≤ length order → new ≤ length order → changes_up_to w (order ++ d ∷ []) old new ≡ changes_up_to w order old new
 changes_stay w order d old new lo ln = ap (flat_map (λ (cs : List Change). cs)) (ap (λ xs. take (new - old) (drop old xs)) (changes_more w w.opening order d) ∙ front) where
   all : List (List Change)
@@ -103,7 +100,7 @@ changes_stay w order d old new lo ln = ap (flat_map (λ (cs : List Change). cs))
   one = changes_between (tables_after w w.opening order) (w.run d (tables_after w w.opening order)).tables ∷ []
 
   long : length all ≡ length order
-  long = changes_long w w.opening order
+  long = length_changes w w.opening order
 
   front : take (new - old) (drop old (all ++ one)) ≡ take (new - old) (drop old all)
   front =

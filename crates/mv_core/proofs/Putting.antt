@@ -3,13 +3,11 @@ use Rattle.std.proofs.Common.{◌≡◌, ℕ, ◌+◌, ◌<◌, List, [], ◌∷
 use Rattle.std.proofs.lemmas.List.{length-map, take_more}
 use Rattle.std.proofs.lemmas.Grind.{flat_map-append}
 use Rattle.mv_values.specs.declared.patch.Write.{Write}
-use Rattle.mv_values.specs.declared.rows.Keyed.{Keyed}
-use Rattle.mv_values.specs.Patching.{applied}
 use Rattle.mv_record.specs.declared.record.Record.{Record}
 use Rattle.mv_record.specs.Runs.{writes_in}
-use Rattle.mv_store.specs.Stored.{Versioned, table_at, database_at, own_writes, IsLike}
+use Rattle.mv_store.specs.Stored.{Versioned, table_at, database_at}
 use Rattle.mv_store.specs.Changes.{KeepsReads, KeepsOthers, HasPut, HasDropped}
-use Rattle.mv_core.proofs.Telling.{applied_both}
+use Rattle.mv_store.proofs.Laws.{put_more as put_join}
 
 reads_join : (old mid new : Versioned) → KeepsReads old mid → KeepsReads mid new → KeepsReads old new
 reads_join old mid new a b = record { database = λ n. b.database n ∙ a.database n; last = b.last ∙ a.last; low = b.low ∙ a.low }
@@ -19,18 +17,6 @@ others_join call old mid new a b other ne = b other ne ∙ a other ne
 
 long : (s : Versioned) (n : ℕ) → length (database_at s n) ≡ length s.tables
 long s n = length-map s.tables (table_at n)
-
-like_stays : (old mid : Versioned) (db : List (List Keyed)) → KeepsReads old mid → IsLike old db → IsLike mid db
-like_stays old mid db r k = record { size = k.size ∙ (sym (long old 0) ∙ (ap length (sym (r.database 0)) ∙ long mid 0)); rising = k.rising }
-
-pub put_join : (call : ℕ) (ws vs : List Write) (old mid new : Versioned) → HasPut call ws old mid → HasPut call vs mid new → HasPut call (ws ++ vs) old new
-put_join call ws vs old mid new a b = record {
-  reads = reads_join old mid new a.reads b.reads;
-  others = others_join call old mid new a.others b.others;
-  own = λ db like.
-      b.own db (like_stays old mid db a.reads like)
-      ∙ (ap (applied vs) (a.own db like) ∙ sym (applied_both ws vs (applied (own_writes old call) db)));
-}
 
 pub drop_join : (call : ℕ) (ws : List Write) (old mid new : Versioned) → HasPut call ws old mid → HasDropped call mid new → HasDropped call old new
 drop_join call ws old mid new a b = record { reads = reads_join old mid new a.reads b.reads; others = others_join call old mid new a.others b.others; own = b.own }

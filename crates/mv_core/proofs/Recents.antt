@@ -2,6 +2,8 @@
 use Rattle.std.proofs.Common.{◌≡◌, ℕ, ◌+◌, ◌-◌, ◌<◌, ◌≤◌, max, Bool, true, false, not, List, [], ◌∷◌, ◌++◌, Option, Some, None, map, length, drop, slice_set, is_some, refl, sym, ap, subst, ◌∙◌, arith, length-append, rules}
 use Rattle.std.specs.Prelude.{slice_get}
 use Rattle.std.proofs.lemmas.List.{drop-drop, drop-append-le, length-drop, map-append, take_all}
+use Rattle.mv_lawful.proofs.Lows.{oldest_most}
+use Rattle.mv_lawful.proofs.Turns.{length_changes}
 use Rattle.mv_values.specs.declared.calls.Reply.{Reply}
 use Rattle.mv_record.specs.declared.record.Record.{Record}
 use Rattle.mv_history.specs.declared.change.Change.{Change}
@@ -20,8 +22,8 @@ use Rattle.mv_core.specs.contracts.book.Book.{the_view}
 use Rattle.mv_core.specs.Scripts.{work_of}
 use Rattle.mv_core.specs.Calls.{live_of, IsLive, IsFresh}
 use Rattle.mv_core.specs.Books.{Booked, IsRecent, IsAnswer, work_in}
-use Rattle.mv_core.proofs.Numbers.{changes_more, changes_long}
-use Rattle.mv_core.proofs.Lives.{oldest_within, oldest_below, oldest_begun, oldest_set}
+use Rattle.mv_core.proofs.Numbers.{changes_more}
+use Rattle.mv_core.proofs.Lives.{oldest_below, oldest_begun, oldest_set}
 use Rattle.mv_core.proofs.Keeping.{the_course, set_map, live_here}
 
 pub recent_since : (w : Work) (s : Course) (start : ℕ) (r : Window) → IsRecent w s r → r.low ≤ start → drop (start - r.low) r.commits ≡ since w s.order start
@@ -34,7 +36,7 @@ recent_since w s start r k le =
 -- what is dropped is no more than all commits
 recent_within : (w : Work) (s : Course) (r : Window) → IsRecent w s r → r.low ≤ length s.order
 recent_within w s r k =
-    let le = oldest_within (length s.order) s.calls in
+    let le = oldest_most (length s.order) s.calls in
     let needed = k.needed in
     let low = k.within in
     omega (arith, le, needed, low)
@@ -42,7 +44,7 @@ recent_within w s r k =
 pub recent_long : (w : Work) (s : Course) (r : Window) → IsRecent w s r → r.low + length r.commits ≡ length s.order
 recent_long w s r k =
     let kept : length r.commits ≡ length (changes_after w w.opening s.order) - r.low = ap length k.commits ∙ length-drop r.low (changes_after w w.opening s.order) in
-    let all : length (changes_after w w.opening s.order) ≡ length s.order = changes_long w w.opening s.order in
+    let all : length (changes_after w w.opening s.order) ≡ length s.order = length_changes w w.opening s.order in
     let within = recent_within w s r k in
     omega (arith, kept, all, within)
 
@@ -110,7 +112,7 @@ recent_commit w order orders low c ps p q reply old new changes k more at going 
   commits =
       adds
       ∙ (ap (λ cs. cs ++ changes ∷ []) k.commits
-      ∙ (sym (drop-append-le old.low all (changes ∷ []) (let le = recent_within w (the_course order low (map live_of ps)) old k in let n = changes_long w w.opening order in omega (arith, le, n)))
+      ∙ (sym (drop-append-le old.low all (changes ∷ []) (let le = recent_within w (the_course order low (map live_of ps)) old k in let n = length_changes w w.opening order in omega (arith, le, n)))
       ∙ (ap (λ cs. drop old.low (all ++ cs ∷ [])) own
       ∙ (ap (drop old.low) (sym (changes_more w w.opening order c)) ∙ ap (since w (order ++ c ∷ [])) (sym from)))));
 }) where

@@ -27,7 +27,7 @@ use Rattle.mv_lawful.specs.declared.fault.Fault.TheVariants.{Stale, Conflict}
 use Rattle.mv_exec.specs.declared.task.Task.{Task}
 use Rattle.mv_lawful.specs.Work.{Work, tables_after, table_at, records_at, changes_after, changes_up_to, since, hit_of}
 use Rattle.mv_lawful.specs.Lawful.{Live, Course, unless, refusal, after, next_low, is_stale}
-use Rattle.mv_lawful.proofs.Turns.{tables_more}
+use Rattle.mv_lawful.proofs.Turns.{tables_more, length_changes}
 use Rattle.mv_journal.specs.declared.event.Event.{Event}
 use Rattle.mv_journal.specs.declared.event.Event.TheVariants.{C, G}
 use Rattle.mv_view.specs.Viewing.{Sight}
@@ -41,7 +41,7 @@ use Rattle.mv_core.specs.Books.{Booked, work_in, last_tables, last_run, last_cha
 use Rattle.mv_core.specs.Cores.{RunsOn, CanRepair, IsDatabaseIn, IsStored, IsStoreOf}
 use Rattle.mv_core.proofs.Telling.{told_reply, told_tables}
 use Rattle.mv_core.proofs.Lows.{low_within}
-use Rattle.mv_core.proofs.Numbers.{changes_long, table_stays}
+use Rattle.mv_core.proofs.Numbers.{table_stays}
 use Rattle.mv_core.proofs.Journals.{live_at}
 
 -- Databases
@@ -161,7 +161,7 @@ can_repair s order c start task changes db k runs ended all new call g here = re
 -- the changes up to the last commit are all changes since
 pub changes_to_last : (w : Work) (order : List ℕ) (start : ℕ) → changes_up_to w order start (length order) ≡ all_of (since w order start)
 changes_to_last w order start =
-    let long = changes_long w w.opening order in
+    let long = length_changes w w.opening order in
     let less = length-drop start (changes_after w w.opening order) in
     ap all_of (take_all (length order - start) (since w order start) (omega (arith, long, less)))
 

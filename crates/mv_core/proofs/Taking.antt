@@ -92,7 +92,7 @@ last_end : (t : Turn) (ts : List Turn) (u : Turn) → last_start ((t ∷ ts) ++ 
 last_end t [] u = refl
 last_end t (v ∷ vs) u = last_end v vs u
 
-turns_begin : (n : ℕ) → HasTurns n (begin n)
+pub turns_begin : (n : ℕ) → HasTurns n (begin n)
 turns_begin n = record { first = record { start = n; mark = Plain }; rest = []; turns = refl; last = refl; within = (omega arith, tt); past = omega arith }
 
 pub turns_again : (n : ℕ) (m : Mark) (l : Live) → HasTurns n l → HasTurns n (again n m l)
@@ -108,7 +108,7 @@ turns_again n m l h = record {
 turns_stepped : (n k : ℕ) (l : Live) → HasTurns n l → HasTurns n (record l { steps = k })
 turns_stepped n k l h = record { first = h.first; rest = h.rest; turns = h.turns; last = h.last; within = h.within; past = h.past }
 
-turns_grown : (n m : ℕ) (l : Live) → n ≤ m → HasTurns n l → HasTurns m l
+pub turns_grown : (n m : ℕ) (l : Live) → n ≤ m → HasTurns n l → HasTurns m l
 turns_grown n m l le h = record { first = h.first; rest = h.rest; turns = h.turns; last = h.last; within = within_more n m l.turns le h.within; past = let a = h.past in omega (arith, a, le) }
 
 -- a round more is no first one

@@ -4,8 +4,7 @@ use Rattle.std.specs.Option.{option_or}
 use Rattle.mv_values.specs.declared.calls.Call.{Call}
 use Rattle.mv_values.specs.declared.calls.End.{End}
 use Rattle.mv_values.specs.declared.calls.Reply.{Reply}
-use Rattle.mv_values.specs.declared.patch.Write.{Write}
-use Rattle.mv_values.specs.Patching.{written, applied}
+use Rattle.mv_values.specs.Patching.{applied}
 use Rattle.mv_record.specs.declared.record.Record.{Record}
 use Rattle.mv_record.specs.Runs.{Tables, Run, end_in, StopsWith, Tells, TellsAll}
 use Rattle.mv_record.specs.Writes.{AreRising}
@@ -48,7 +47,3 @@ told_reply g call db rs rise is = ap reply_told is ∙ sym (reply_is_told db (me
 -- and the database after it
 pub told_tables : (g : Graph) (call : Call) (db : Tables) (rs : List Record) → AreRising db → rs ≡ (meaning_of g call db).records → applied (writes_told rs) db ≡ (meaning_of g call db).tables
 told_tables g call db rs rise is = ap (λ qs. applied (writes_told qs) db) is ∙ sym (tables_are_told db (meaning_of g call db) (meaning_tells g.tables g.procedure call db rise))
-
-pub applied_both : (vs ws : List Write) (db : Tables) → applied (vs ++ ws) db ≡ applied ws (applied vs db)
-applied_both [] ws db = refl
-applied_both (v ∷ vs) ws db = applied_both vs ws (written v db)

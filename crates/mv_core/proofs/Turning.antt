@@ -6,7 +6,6 @@ use Rattle.std.proofs.lemmas.Grind.{flat_map-append}
 use Rattle.std.proofs.lemmas.List.Elements.{filter-append}
 use Rattle.std.proofs.lemmas.Option.{slice_get_within}
 use Rattle.std.proofs.lemmas.List.{length-set}
-use Rattle.mv_record.specs.declared.record.Record.{Record}
 use Rattle.mv_record.specs.Runs.{Tables}
 use Rattle.mv_history.specs.declared.change.Change.{Change}
 use Rattle.mv_history.specs.declared.change.Hit.{Hit}
@@ -19,7 +18,7 @@ use Rattle.mv_lawful.specs.Work.{Work, changes_after, records_at, hit_of}
 use Rattle.mv_lawful.specs.Lawful.{Live, Course, beginning, begin, finish, change_live, after, reach, open_call, wrong_from}
 use Rattle.mv_lawful.specs.Outcomes.{numbers, turn, in_turn, is_of_call, without_collections, IsOutcomeInTurn, outcome_of}
 use Rattle.mv_lawful.proofs.Collections.{collections_unseen}
-use Rattle.mv_lawful.proofs.Turns.{at_end, turned, turns_reach, closed}
+use Rattle.mv_lawful.proofs.Turns.{at_end, turned, turns_reach, closed, no_commits, only_open}
 use Rattle.mv_core.specs.declared.engine.Attempt.{Attempt}
 use Rattle.mv_core.specs.declared.engine.Attempt.TheVariants.{Committed, Hit as Hits, Stale}
 use Rattle.mv_core.specs.declared.script.Script.{Script}
@@ -28,7 +27,7 @@ use Rattle.mv_core.specs.Calls.{IsLive, IsLiveCall}
 use Rattle.mv_core.specs.Books.{Booked, work_in, Made, IsSame}
 use Rattle.mv_core.specs.Drives.{HasMade, HasTurned, Driven, HasReplayed}
 use Rattle.mv_core.specs.Cores.{HasTried, IsStaleAt, IsHitAt}
-use Rattle.mv_core.proofs.Journals.{get_last, only_open}
+use Rattle.mv_core.proofs.Journals.{get_last}
 use Rattle.mv_core.proofs.Lows.{low_within}
 use Rattle.mv_core.proofs.Driving.{made_more, made_none}
 use Rattle.mv_core.proofs.Refusing.{begun_number, same_made}
@@ -38,10 +37,6 @@ use Rattle.mv_core.proofs.Refusing.{begun_number, same_made}
 none_since : (w : Work) (db : Tables) (cs : List ℕ) → drop (length cs) (changes_after w db cs) ≡ []
 none_since w db [] = refl
 none_since w db (c ∷ cs) = none_since w (w.run c db).tables cs
-
-no_commits : (number : ℕ) (before rs : List Record) → first_hit number [] before rs ≡ None
-no_commits number before [] = refl
-no_commits number before (r ∷ rs) = no_commits number (before ++ r ∷ []) rs
 
 -- no commit after the last one hits a call
 pub none_hit : (w : Work) (order : List ℕ) (c : ℕ) → hit_of w order (length order) c ≡ None

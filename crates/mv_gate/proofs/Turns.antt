@@ -8,13 +8,9 @@ use Rattle.mv_lawful.specs.Work.{Work}
 use Rattle.mv_lawful.specs.Lawful.{Live, Course, begin, again, finish, change_live, after}
 use Rattle.mv_core.specs.Calls.{Within}
 use Rattle.mv_core.specs.Cores.{HasTurns, last_start}
-use Rattle.mv_core.proofs.Numbers.{within_more}
-use Rattle.mv_core.proofs.Taking.{turns_again}
+use Rattle.mv_core.proofs.Taking.{turns_again, turns_begin, turns_grown}
 use Rattle.mv_core.proofs.Journals.{get_last, get_set}
 use Rattle.mv_gate.specs.Gates.{HaveTurns}
-
-turns_begin : (n : ℕ) → HasTurns n (begin n)
-turns_begin n = record { first = record { start = n; mark = Plain }; rest = []; turns = refl; last = refl; within = (omega arith, tt); past = omega arith }
 
 turns_same : (n : ℕ) (l m : Live) → m.turns ≡ l.turns → m.start ≡ l.start → HasTurns n l → HasTurns n m
 turns_same n l m ts start h = record {
@@ -25,9 +21,6 @@ turns_same n l m ts start h = record {
   within = subst (Within n) (sym ts) h.within;
   past = let a = h.past in omega (arith, a, start);
 }
-
-turns_grown : (n m : ℕ) (l : Live) → n ≤ m → HasTurns n l → HasTurns m l
-turns_grown n m l le h = record { first = h.first; rest = h.rest; turns = h.turns; last = h.last; within = within_more n m l.turns le h.within; past = let a = h.past in omega (arith, a, le) }
 
 -- one call was changed
 changed : (n m c : ℕ) (f : Live → Live) (ls : List Live) → n ≤ m → ((l : Live) → HasTurns n l → HasTurns m (f l)) → ((d : ℕ) (l : Live) → slice_get ls d ≡ Some l → HasTurns n l)

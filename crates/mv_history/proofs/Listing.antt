@@ -10,7 +10,7 @@ use Rattle.std.proofs.lemmas.Cmp.{tied_itself}
 use Rattle.std.proofs.lemmas.List.Elements.{filter-append, All-nil, All-cons}
 use Rattle.std.proofs.lemmas.List.Kept.{AllPairs-cons}
 use Rattle.std.specs.Cmp.{Equal-is}
-use Rattle.std.proofs.lemmas.Bool.{eqb-true, eq-eqb, ne_eqb}
+use Rattle.std.proofs.lemmas.Bool.{eqb-true, eq-eqb, ne_eqb, and_right}
 use Rattle.mv_values.specs.declared.value.Value.{Value}
 use Rattle.mv_values.specs.declared.value.Value.TheVariants.{Int}
 use Rattle.mv_values.specs.declared.rows.Keyed.{Keyed}
@@ -25,10 +25,6 @@ use Rattle.mv_history.specs.declared.change.Change.{Change}
 use Rattle.mv_history.specs.Changes.{is_same, change_of, united, changes_of, changes_upwards, changes_between, is_of, place, InOrder, ListsChanges}
 
 -- One key
-
-and_no : (b : Bool) → (b && false) ≡ false
-and_no true = refl
-and_no false = refl
 
 -- keys in no order but their own are one key
 pub tied : (a b : List Value) → is_eq (key_order a b) ≡ true → a ≡ b
@@ -124,7 +120,7 @@ table_lists t key o n h =
     ∙ by (row_of (united o n) key) refl
   where
     apart : (j : List Value) → is_eq (key_order j key) ≡ false → ((t == t) && is_eq (key_order j key)) ≡ false
-    apart j e = ap (λ b. (t == t) && b) e ∙ and_no (t == t)
+    apart j e = ap (λ b. (t == t) && b) e ∙ and_right (t == t) false refl
 
     by : (r : Option (List Value)) → row_of (united o n) key ≡ r → from_row (is_of t key) (change_at t o n) key r ≡ change_of t key (row_of o key) (row_of n key)
     by None e = let no = united_lacks o n key h e in sym (ap (λ r. change_of t key r (row_of n key)) no.0 ∙ ap (change_of t key None) no.1)

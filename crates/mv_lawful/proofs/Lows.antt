@@ -80,7 +80,7 @@ oldest_holds floor n (l ∷ ls) = by l.done refl (oldest_holds floor n ls)
     by true e h = ((λ d. absurd (both_ways l.done d e)), h)
     by false e h = ((λ d. first (oldest n ls)), looser floor floor (min l.start (oldest n ls)) (oldest n ls) ls (at_most floor) (min-le_right l.start (oldest n ls)) h)
 
-oldest_most : (n : ℕ) (ls : List Live) → oldest n ls ≤ n
+pub oldest_most : (n : ℕ) (ls : List Live) → oldest n ls ≤ n
 oldest_most n [] = at_most n
 oldest_most n (l ∷ ls) = by l.done (oldest_most n ls)
   where

@@ -293,7 +293,7 @@ ended_from w n s (e ∷ es) h o =
     let parts = first_allowed n (refusal w s e) (wrong_from w (n + 1) (after w s e) es) h in
     ended_from w (n + 1) (after w s e) es parts.1 (orderly_after w s e parts.0 o)
 
-open_done : (n : ℕ) (ls : List Live) (i : ℕ) → n + i < first_open n ls → (l : Live) × (slice_get ls i ≡ Some l) × (l.done ≡ true)
+pub open_done : (n : ℕ) (ls : List Live) (i : ℕ) → n + i < first_open n ls → (l : Live) × (slice_get ls i ≡ Some l) × (l.done ≡ true)
 open_done n [] i h = absurd (omega (arith, h))
 open_done n (l ∷ ls) i h = by l.done i refl h (open_done (n + 1) ls)
   where

@@ -87,7 +87,7 @@ none_open k (l ∷ ls) h = ap (λ b. if b then first_open (k + 1) ls else k) h.0
 
 -- No hit
 
-length_changes : (w : Work) (db : Tables) (cs : List ℕ) → length (changes_after w db cs) ≡ length cs
+pub length_changes : (w : Work) (db : Tables) (cs : List ℕ) → length (changes_after w db cs) ≡ length cs
 length_changes w db [] = refl
 length_changes w db (c ∷ cs) = ap suc (length_changes w (w.run c db).tables cs)
 
@@ -97,7 +97,7 @@ drop_past [] (suc n) h = refl
 drop_past (x ∷ xs) zero h = absurd (omega (arith, h))
 drop_past (x ∷ xs) (suc n) h = drop_past xs n (omega (arith, h))
 
-no_commits : (number : ℕ) (before rs : List Record) → first_hit number [] before rs ≡ None
+pub no_commits : (number : ℕ) (before rs : List Record) → first_hit number [] before rs ≡ None
 no_commits number before [] = refl
 no_commits number before (r ∷ rs) = no_commits number (before ++ r ∷ []) rs
 

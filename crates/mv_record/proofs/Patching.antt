@@ -137,6 +137,10 @@ rising_found pred db h = rising_filter (λ item. matches pred item.row) (rows_at
 pub length_written : (w : Write) (db : List (List Keyed)) → length (written w db) ≡ length db
 length_written w db = simp length-set
 
+pub applied_append : (vs ws : List Write) (db : List (List Keyed)) → applied (vs ++ ws) db ≡ applied ws (applied vs db)
+applied_append [] ws db = refl
+applied_append (v ∷ vs) ws db = applied_append vs ws (written v db)
+
 pub length_applied : (ws : List Write) (db : List (List Keyed)) → length (applied ws db) ≡ length db
 length_applied [] db = refl
 length_applied (w ∷ ws) db = length_applied ws (written w db) ∙ length_written w db

@@ -5,6 +5,7 @@ use Rattle.std.specs.List.{flat_map}
 use Rattle.std.specs.Ordering.{is_eq, ordering_then}
 use Rattle.std.specs.declared.cmp.Ordering.{Ordering}
 use Rattle.std.specs.declared.cmp.Ordering.TheVariants.{Less, Equal, Greater}
+use Rattle.mv_alone.proofs.Standing.{goes_to}
 use Rattle.mv_values.specs.declared.value.Value.{Value}
 use Rattle.mv_values.specs.declared.pred.Pred.{Pred}
 use Rattle.mv_values.specs.declared.patch.Patch.TheVariants as patch
@@ -32,7 +33,6 @@ use Rattle.mv_record.specs.declared.record.Slot.{Slot}
 use Rattle.mv_record.proofs.Rising.{Above, Rises, rises_from, turned, lower}
 use Rattle.mv_recorded.specs.Asking.{on, pred_of, same_key, columns_in}
 use Rattle.mv_recorded.specs.Doing.{write, changed}
-use Rattle.mv_recorded.proofs.Setting.{then_ok}
 use Rattle.mv_record.specs.declared.effect.Effect.{Effect}
 use Rattle.mv_recorded.specs.Effects.{IsEffect, asks, asked_then, changes, writing, new_of, inserting, only_end, slots_behind}
 use Rattle.mv_recorded.proofs.Chosen.{asked_of, then_err, same_ok, rows_asked}
@@ -70,8 +70,8 @@ set_all t items new checks (r ∷ rs) ws h = by (λ vs k. set_all t items new ch
         → (b : Bool) → changes t items new (cond b (r ∷ matching checks rs) (matching checks rs)) ≡ Ok ws
         → (out : List Keyed) × ((if b then then_do (new r.row) (λ row. then_do (updated new checks rs) (λ rest. Ok (record r { row = row } ∷ rest))) else then_do (updated new checks rs) (λ rest. Ok (r ∷ rest))) ≡ Ok out)
     by ih true k =
-        let made = then_ok (new r.row) (λ row. then_do (changes t items new (matching checks rs)) (λ vs. Ok (write t r.key (changed items row) ∷ vs))) ws k in
-        let later = then_ok (changes t items new (matching checks rs)) (λ vs. Ok (write t r.key (changed items made.0) ∷ vs)) ws made.2 in
+        let made = goes_to (new r.row) (λ row. then_do (changes t items new (matching checks rs)) (λ vs. Ok (write t r.key (changed items row) ∷ vs))) ws k in
+        let later = goes_to (changes t items new (matching checks rs)) (λ vs. Ok (write t r.key (changed items made.0) ∷ vs)) ws made.2 in
         let rest = ih later.0 later.1 in (
           record r { row = made.0 } ∷ rest.0,
           ap (λ o. then_do o (λ row. then_do (updated new checks rs) (λ more. Ok (record r { row = row } ∷ more)))) made.1
@@ -103,8 +103,8 @@ written_of t items new rows = flat_map (λ item. on (new item.row) (λ row. writ
 writes_are : (t : ℕ) (items : List RSetItem) (new : New) (rows : List Keyed) (ws : List Write) → changes t items new rows ≡ Ok ws → ws ≡ written_of t items new rows
 writes_are t items new [] ws h = sym (same_ok h)
 writes_are t items new (r ∷ rs) ws h =
-    let made = then_ok (new r.row) (λ row. then_do (changes t items new rs) (λ vs. Ok (write t r.key (changed items row) ∷ vs))) ws h in
-    let later = then_ok (changes t items new rs) (λ vs. Ok (write t r.key (changed items made.0) ∷ vs)) ws made.2 in
+    let made = goes_to (new r.row) (λ row. then_do (changes t items new rs) (λ vs. Ok (write t r.key (changed items row) ∷ vs))) ws h in
+    let later = goes_to (changes t items new rs) (λ vs. Ok (write t r.key (changed items made.0) ∷ vs)) ws made.2 in
     sym (same_ok later.2) ∙ (ap (λ l. write t r.key (changed items made.0) ∷ l) (writes_are t items new rs later.0 later.1)
     ∙ ap (λ o. on o (λ row. write t r.key (changed items row) ∷ []) ++ written_of t items new rs) (sym made.1))
 

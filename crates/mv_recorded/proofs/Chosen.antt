@@ -1,6 +1,7 @@
 -- What statements do that look at a table and change none.
 use Rattle.std.proofs.Common.{◌≡◌, ℕ, ℤ, Bool, true, false, ◌||◌, List, [], ◌∷◌, ◌++◌, Option, Some, None, Result, Ok, Err, refl, sym, ap, ◌∙◌}
 use Rattle.std.specs.Option.{is_some}
+use Rattle.mv_alone.proofs.Standing.{goes_to}
 use Rattle.mv_values.specs.declared.value.Value.{Value}
 use Rattle.mv_values.specs.declared.pred.Pred.{Pred}
 use Rattle.mv_values.specs.declared.rows.Keyed.{Keyed}
@@ -26,7 +27,6 @@ use Rattle.mv_record.specs.declared.record.Slot.{Slot}
 use Rattle.mv_recorded.specs.Asking.{pred_of, with_sorts, column_in}
 use Rattle.mv_recorded.specs.Doing.{when, gives_always, effect_of}
 use Rattle.mv_recorded.specs.Reading.{each_once}
-use Rattle.mv_recorded.proofs.Setting.{then_ok}
 use Rattle.mv_record.specs.declared.effect.Effect.{Effect}
 use Rattle.mv_recorded.specs.Effects.{IsEffect, asks, asked_by, asked_then, row_number, taking, totalling, going, only_end, slots_behind}
 use Rattle.mv_recorded.proofs.Slots.{same_found}
@@ -48,7 +48,7 @@ same_ok h = cc
 -- what was asked has the tests of WHERE with their values
 pub asked_of : (tables : List TableInfo) (t : ℕ) (conds : List RCond) (cs : List ℕ) (env : Env) (pred : Pred) → asks tables t conds cs env ≡ Ok pred → Asks tables t conds cs env pred
 asked_of tables t conds cs env pred h =
-    let c = then_ok (checks_of conds env) (λ checks. Ok (pred_of tables t checks cs)) pred h in
+    let c = goes_to (checks_of conds env) (λ checks. Ok (pred_of tables t checks cs)) pred h in
     record { checks = c.0; are = c.1; is = sym (same_ok c.2) }
 
 -- what goes on with a value ends only where there was none
@@ -106,7 +106,7 @@ pub select_goes : (tables : List TableInfo) (cs xs : List ℕ) (t : ℕ) (conds 
     → IsEffect tables (Select cs xs t conds sorts offset) env db (taking pred cs xs (item_at (ordered sorts (matching [] rows)) z) env)
 select_goes tables cs xs t conds sorts offset env db pred z rows h k found = λ lines.
     let a = asked_of tables t conds (with_sorts cs sorts) env pred h in
-    let v = then_ok (offset_of offset env) (λ v. Ok (number v)) z k in
+    let v = goes_to (offset_of offset env) (λ v. Ok (number v)) z k in
     let at : number v.0 ≡ z = same_ok v.2 in
     let rows_are = rows_asked tables t a.checks (with_sorts cs sorts) pred db rows a.is found in
     let chosen : Option Keyed = item_at (ordered sorts (matching [] rows)) z in

@@ -4,6 +4,8 @@ use Rattle.std.proofs.lemmas.List.{length-map}
 use Rattle.std.proofs.lemmas.List.Elements.{length_all_zip}
 use Rattle.std.specs.Option.{is_some}
 use Rattle.std.specs.Result.{result_ok, result_err}
+use Rattle.mv_record.proofs.Rising.{rises_from}
+use Rattle.mv_alone.proofs.Standing.{goes_to}
 use Rattle.mv_alone.specs.Line.{line_of}
 use Rattle.mv_values.specs.declared.value.Value.{Value}
 use Rattle.mv_values.specs.declared.rows.Keyed.{Keyed}
@@ -33,11 +35,9 @@ use Rattle.mv_recorded.specs.Doing.{itself, fixed_rows, before_turns, writes_of,
 use Rattle.mv_recorded.specs.Effect.{with_slots, behind, TellsEffect, HasColumns}
 use Rattle.mv_recorded.specs.Reading.{each_once}
 use Rattle.mv_recorded.specs.Recorded.{Site, own_record}
-use Rattle.mv_recorded.proofs.Setting.{then_ok}
 use Rattle.mv_recorded.proofs.Slots.{is_set, stays_set, all_stay_set, values_set, slots_in, absorbed, all_absorbed, nothing_new, last_within, all_within_once, once_and_last_set, set_has}
 use Rattle.mv_recorded.proofs.Telling.{TellsOf, tells_own}
 use Rattle.mv_recorded.proofs.Leading.{LeadsTo, leads_own}
-use Rattle.mv_recorded.proofs.Meant.{rises_of}
 
 state_ok : {s next : State} → ◌≡◌ {A = Result State End} (Ok s) (Ok next) → s ≡ next
 state_ok h = cc
@@ -102,7 +102,7 @@ option_ok : {o p : Option Value} → ◌≡◌ {A = Result (Option Value) End} (
 option_ok h = cc
 
 total_some : (z : ℤ) (o : Option Value) → total z ≡ Ok o → is_some o ≡ true
-total_some z o h = let v = then_ok (fitted z) _ o h in ap is_some (sym (option_ok v.2))
+total_some z o h = let v = goes_to (fitted z) _ o h in ap is_some (sym (option_ok v.2))
 
 -- MIN and MAX give nothing for no rows, the others always something
 pub gives : (agg : RAgg) (rows : List Keyed) (o : Option Value) → aggregate agg rows ≡ Ok o → is_some o ≡ (gives_always agg || is_some_row rows)
@@ -119,39 +119,39 @@ found_set env b = one_set env env.found (truth b)
 
 env_told : {X : Type 0} (tables : List TableInfo) (y : RStmt-F X) (st next : State) → HasColumns y → itself tables y st ≡ Ok next → SetsAll st.env (set_variables y next) next.env
 env_told tables (Assign x e) st next has h =
-    let v = then_ok (value_of e st.env []) _ next h in
+    let v = goes_to (value_of e st.env []) _ next h in
     subst (λ n. SetsAll st.env (x ∷ []) n.env) (state_ok v.2) (one_set st.env x v.0)
 env_told {X} tables (Select cs xs t conds sorts offset) st next has h =
-    let checks = then_ok (checks_of conds st.env) _ next h in
-    let at = then_ok (offset_of offset st.env) _ next checks.2 in
+    let checks = goes_to (checks_of conds st.env) _ next h in
+    let at = goes_to (offset_of offset st.env) _ next checks.2 in
     subst (λ n. SetsAll st.env (set_variables {X = X} (Select cs xs t conds sorts offset) n) n.env) (state_ok at.2)
     (taken_sets st.env cs xs (item_at (ordered sorts (matches t checks.0 st)) (number at.0)) has)
 env_told {X} tables (Total agg x t conds) st next has h =
-    let checks = then_ok (checks_of conds st.env) _ next h in
-    let v = then_ok (aggregate agg (matches t checks.0 st)) _ next checks.2 in
+    let checks = goes_to (checks_of conds st.env) _ next h in
+    let v = goes_to (aggregate agg (matches t checks.0 st)) _ next checks.2 in
     subst (λ n. SetsAll st.env (set_variables {X = X} (Total agg x t conds) n) n.env) (state_ok v.2)
     (total_sets st.env x v.0 (gives_always agg) (is_some_row (matches t checks.0 st)) (gives agg (matches t checks.0 st) v.0 v.1))
 env_told tables (ForSelect x once cs t conds sorts body) st next has h =
-    let rows = then_ok (fixed_rows (ForSelect x once cs t conds sorts body) st) _ next h in
+    let rows = goes_to (fixed_rows (ForSelect x once cs t conds sorts body) st) _ next h in
     subst (λ n. SetsAll st.env (n.env.found ∷ []) n.env) (state_ok rows.2) (found_set st.env (is_turn rows.0))
 env_told tables (ForRows x y body) st next has h =
     subst (λ n. SetsAll st.env (n.env.found ∷ []) n.env) (state_ok h) (found_set st.env (is_turn (turns_at st.env y)))
 env_told tables (Branch e ys ns) st next has h =
-    let v = then_ok (value_of e st.env []) _ next h in
+    let v = goes_to (value_of e st.env []) _ next h in
     subst (λ n. SetsAll st.env [] n.env) (state_ok v.2) refl
 env_told tables (Insert t es) st next has h =
-    let row = then_ok (new_row (columns_at tables t) es st.env) _ next h in
-    let rows = then_ok (put_row (keyed (key_columns tables t) row.0) (rows_at st.tables t)) _ next row.2 in
+    let row = goes_to (new_row (columns_at tables t) es st.env) _ next h in
+    let rows = goes_to (put_row (keyed (key_columns tables t) row.0) (rows_at st.tables t)) _ next row.2 in
     subst (λ n. SetsAll st.env (n.env.found ∷ []) n.env) (state_ok rows.2) (found_set st.env true)
 env_told tables (Update t items conds) st next has h =
-    let checks = then_ok (checks_of conds st.env) _ next h in
-    let rows = then_ok (updated (λ row. set_row (columns_at tables t) (key_columns tables t) st.env row items row) checks.0 (rows_at st.tables t)) _ next checks.2 in
+    let checks = goes_to (checks_of conds st.env) _ next h in
+    let rows = goes_to (updated (λ row. set_row (columns_at tables t) (key_columns tables t) st.env row items row) checks.0 (rows_at st.tables t)) _ next checks.2 in
     subst (λ n. SetsAll st.env (n.env.found ∷ []) n.env) (state_ok rows.2) (found_set st.env (is_some_row (matches t checks.0 st)))
 env_told tables (Delete t conds) st next has h =
-    let checks = then_ok (checks_of conds st.env) _ next h in
+    let checks = goes_to (checks_of conds st.env) _ next h in
     subst (λ n. SetsAll st.env (n.env.found ∷ []) n.env) (state_ok checks.2) (found_set st.env (is_some_row (matches t checks.0 st)))
 env_told tables (Print es) st next has h =
-    let vs = then_ok (values_of es st.env) _ next h in
+    let vs = goes_to (values_of es st.env) _ next h in
     subst (λ n. SetsAll st.env [] n.env) (state_ok vs.2) refl
 env_told tables (Rollback reason) st next has h = cc
 
@@ -173,7 +173,7 @@ effect_told tables params y n site before st next has rise h =
     let leads : LeadsTo st (own ∷ []) (Ok next) = subst (LeadsTo st (own ∷ [])) h (leads_own tables params y n site before st) in
     same_state next (behind own st)
     (env_told tables y st next has h ∙ ap (λ ss. with_slots ss st.env) (sym sets))
-    ((leads (λ t. rises_of (rows_at st.tables t) (rise t))).0 ∙ ap (λ ws. applied ws st.tables) (append-nil own.writes))
+    ((leads (λ t. rises_from (rows_at st.tables t) (rise t))).0 ∙ ap (λ ws. applied ws st.tables) (append-nil own.writes))
     (told.1 ∙ ap (λ ls. st.lines ++ ls) (append-nil (option_to_list own.line)))
 
 -- Where it ends

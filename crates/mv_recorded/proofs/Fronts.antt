@@ -3,12 +3,13 @@ use Rattle.std.proofs.Common.{◌≡◌, ℕ, zero, suc, ◌+◌, Bool, true, fa
 use Rattle.std.specs.Prelude.{All, slice_get, slice_index}
 use Rattle.std.specs.List.{AllZip}
 use Rattle.std.proofs.lemmas.List.Elements.{All-head, All-tail}
+use Rattle.mv_record.proofs.Rising.{rises_from}
 use Rattle.mv_values.specs.declared.value.Value.{Value}
 use Rattle.mv_values.specs.declared.patch.Write.{Write}
 use Rattle.mv_values.specs.declared.schema.TableInfo.{TableInfo}
 use Rattle.mv_values.specs.declared.calls.Call.{Call}
 use Rattle.mv_values.specs.declared.calls.End.{End}
-use Rattle.mv_values.specs.Patching.{applied, written}
+use Rattle.mv_values.specs.Patching.{applied}
 use Rattle.mv_values.specs.Tables.{rows_at}
 use Rattle.mv_catalog.specs.declared.resolved.ProcInfo.{ProcInfo}
 use Rattle.mv_catalog.specs.declared.resolved.RStmt.{RStmt, roll-RStmt, map-RStmt, ind-RStmt, para-roll-RStmt}
@@ -27,7 +28,7 @@ use Rattle.mv_alone.specs.TableAfter.{Tables, begun, outcome, outcome_at, outcom
 use Rattle.mv_record.specs.declared.record.Record.{Record}
 use Rattle.mv_record.specs.Databases.{IsDatabaseOf}
 use Rattle.mv_record.specs.Writes.{AreRising}
-use Rattle.mv_record.proofs.Patching.{length_applied, rising_applied}
+use Rattle.mv_record.proofs.Patching.{length_applied, rising_applied, applied_append}
 use Rattle.mv_record.specs.Runs.{writes_in}
 use Rattle.mv_recorded.specs.Asking.{on}
 use Rattle.mv_recorded.specs.Doing.{itself, fixed_rows, writes_of}
@@ -37,7 +38,6 @@ use Rattle.mv_recorded.specs.Typed.{OfKinds, IsEnvOf}
 use Rattle.mv_recorded.proofs.CallsTyped.{entered_fits}
 use Rattle.mv_recorded.proofs.Following.{Follows, firsts, statement_follows, told_follows}
 use Rattle.mv_recorded.proofs.Leading.{AllRise, LeadsTo, leads_law, leads_own}
-use Rattle.mv_recorded.proofs.Meant.{rises_of}
 use Rattle.mv_recorded.proofs.Typing.{fit_turn, fit_behind, fit_found}
 use Rattle.mv_recorded.proofs.RowsTyped.{all_get}
 use Rattle.mv_recorded.proofs.RunsTyped.{Kept, alone_kept, does_kept, itself_kept, chosen_kinds}
@@ -48,26 +48,22 @@ abbrev pub Lasts : List TableInfo → List Record → Tables → Type 0
 Lasts tables [] db = IsDatabaseOf tables db
 Lasts tables (r ∷ rs) db = IsDatabaseOf tables db × Lasts tables rs (applied r.writes db)
 
-applied_both : (vs ws : List Write) (db : Tables) → applied (vs ++ ws) db ≡ applied ws (applied vs db)
-applied_both [] ws db = refl
-applied_both (v ∷ vs) ws db = applied_both vs ws (written v db)
-
 -- so it is behind the first ones
 pub lasts_front : (tables : List TableInfo) (front rest : List Record) (db : Tables) → Lasts tables (front ++ rest) db → IsDatabaseOf tables (applied (writes_in front) db)
 lasts_front tables [] [] db h = h
 lasts_front tables [] (r ∷ rest) db h = h.0
-lasts_front tables (r ∷ front) rest db h = subst (IsDatabaseOf tables) (sym (applied_both r.writes (writes_in front) db)) (lasts_front tables front rest (applied r.writes db) h.1)
+lasts_front tables (r ∷ front) rest db h = subst (IsDatabaseOf tables) (sym (applied_append r.writes (writes_in front) db)) (lasts_front tables front rest (applied r.writes db) h.1)
 
 lasts_all : (tables : List TableInfo) (rs : List Record) (db : Tables) → Lasts tables rs db → IsDatabaseOf tables (applied (writes_in rs) db)
 lasts_all tables rs db h = lasts_front tables rs [] db (subst (λ l. Lasts tables l db) (sym (append-nil rs)) h)
 
 lasts_both : (tables : List TableInfo) (rs ss : List Record) (db : Tables) → Lasts tables rs db → Lasts tables ss (applied (writes_in rs) db) → Lasts tables (rs ++ ss) db
 lasts_both tables [] ss db h k = k
-lasts_both tables (r ∷ rs) ss db h k = (h.0, lasts_both tables rs ss (applied r.writes db) h.1 (subst (Lasts tables ss) (applied_both r.writes (writes_in rs) db) k))
+lasts_both tables (r ∷ rs) ss db h k = (h.0, lasts_both tables rs ss (applied r.writes db) h.1 (subst (Lasts tables ss) (applied_append r.writes (writes_in rs) db) k))
 
 module _ (tables : List TableInfo) (params : ℕ) where
   all_rise : (db : Tables) → IsDatabaseOf tables db → AllRise db
-  all_rise db h = λ t. rises_of (rows_at db t) (h.rising t)
+  all_rise db h = λ t. rises_from (rows_at db t) (h.rising t)
 
   -- variables and a database that a well formed statement may be executed on
   pub record Sound (vars : Vars) (st : State) : Type 0 where
@@ -264,7 +260,7 @@ left_is tables proc call db whole suits h = by (alone tables proc.body (begun pr
     by : (out : Result State End) → alone tables proc.body (begun proc call db) ≡ out → IsDatabaseOf tables (tables_left db out)
     by (Ok next) is =
         let leads : LeadsTo (begun proc call db) rs (Ok next) = subst (LeadsTo (begun proc call db) rs) is (told_follows LeadsTo leads_law tables (length call.arguments) proc.body 1 outside [] (begun proc call db)) in
-        subst (IsDatabaseOf tables) (sym (leads (λ t. rises_of (rows_at db t) (h.rising t))).0) (lasts_all tables rs db (recorded_lasts tables proc call db whole suits h))
+        subst (IsDatabaseOf tables) (sym (leads (λ t. rises_from (rows_at db t) (h.rising t))).0) (lasts_all tables rs db (recorded_lasts tables proc call db whole suits h))
     by (Err e) is = h
 
 -- The tables of a program

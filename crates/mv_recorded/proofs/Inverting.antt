@@ -6,10 +6,9 @@ use Rattle.std.proofs.lemmas.Grind.{flat_map-append}
 use Rattle.mv_values.specs.declared.value.Value.{Value}
 use Rattle.mv_values.specs.declared.schema.TableInfo.{TableInfo}
 use Rattle.mv_values.specs.declared.calls.End.{End}
-use Rattle.mv_values.specs.declared.patch.Write.{Write}
 use Rattle.mv_values.specs.Keys.{IsRising}
 use Rattle.mv_values.specs.Tables.{rows_at}
-use Rattle.mv_values.specs.Patching.{written, applied}
+use Rattle.mv_values.specs.Patching.{applied}
 use Rattle.mv_catalog.specs.Statements.{size, size_step, total_size}
 use Rattle.mv_catalog.specs.declared.resolved.RStmt.{RStmt, roll-RStmt, map-RStmt, ind-RStmt, para-roll-RStmt, fold-roll-RStmt}
 use Rattle.mv_catalog.specs.declared.resolved.RStmt.TheOpen.{RStmt-F, Assign, Select, Total, ForSelect, ForRows, Branch, Insert, Update, Delete, Print, Rollback}
@@ -29,7 +28,7 @@ use Rattle.mv_record.specs.Runs.{writes_in}
 use Rattle.mv_record.specs.declared.record.Slot.{Slot}
 use Rattle.mv_record.specs.declared.record.Record.{Record}
 use Rattle.mv_record.specs.Writes.{AreRising}
-use Rattle.mv_record.proofs.Patching.{rising_applied}
+use Rattle.mv_record.proofs.Patching.{rising_applied, applied_append}
 use Rattle.mv_recorded.specs.Asking.{on}
 use Rattle.mv_recorded.specs.Doing.{itself, before_turns, sets_of}
 use Rattle.mv_recorded.specs.Effect.{with_slots, TellsEffect}
@@ -47,10 +46,6 @@ pub record IsGround (g : Ground) : Type 0 where
   pub rising : AreRising g.db
 
 -- Lists
-
-pub applied_both : (vs ws : List Write) (db : List (List _)) → applied (vs ++ ws) db ≡ applied ws (applied vs db)
-applied_both [] ws db = refl
-applied_both (v ∷ vs) ws db = applied_both vs ws (written v db)
 
 pub each_join : {A : Type 0} (P : A → Type 0) (xs ys : List A) → Each P xs → Each P ys → Each P (xs ++ ys)
 each_join P [] ys h k = k
@@ -202,7 +197,7 @@ own_step g z y n site rows before st ground suits here same does' =
         let slots : OwnSlots g.params g.base own.sets =
         subst (OwnSlots g.params g.base) (sym sets) (own_slots g.params g.base z next suits.targets (subst (λ f. (g.params ≤ f) × (f < g.base)) (sym at) ground.found)) in (
           record {
-            tables = ap (λ (s : State). s.tables) tells.1 ∙ (ap (applied own.writes) here.told.tables ∙ (sym (applied_both (writes_in before) own.writes g.db)
+            tables = ap (λ (s : State). s.tables) tells.1 ∙ (ap (applied own.writes) here.told.tables ∙ (sym (applied_append (writes_in before) own.writes g.db)
                 ∙ ap (λ ws. applied ws g.db) (ap (λ l. writes_in before ++ l) (sym (append-nil own.writes)) ∙ sym (flat_map-append (λ (r : Record). r.writes) before (own ∷ [])))));
             held = λ x lt. ap (λ (s : State). held_at s.env x) tells.1 ∙ (slots_alike own.sets st.env (with_slots (sets_in before) g.first) x (here.told.held x lt)
                 ∙ (ap (λ e. held_at e x) (sym (slots_both (sets_in before) own.sets g.first))

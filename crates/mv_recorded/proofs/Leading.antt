@@ -1,6 +1,8 @@
 -- The changes of a full run's records, applied in order, lead to the database of the machine that runs the call alone.
 use Rattle.std.proofs.Common.{◌≡◌, ℕ, zero, suc, true, List, [], ◌∷◌, ◌++◌, Result, Ok, Err, map, slice_set, refl, sym, ap, subst, ◌∙◌, append-nil}
 use Rattle.std.proofs.lemmas.Grind.{flat_map-append}
+use Rattle.mv_record.proofs.Rising.{Rises}
+use Rattle.mv_record.proofs.Patching.{applied_append}
 use Rattle.mv_values.specs.declared.value.Value.{Value}
 use Rattle.mv_values.specs.declared.rows.Keyed.{Keyed}
 use Rattle.mv_values.specs.declared.patch.Patch.TheVariants as patch
@@ -8,7 +10,7 @@ use Rattle.mv_values.specs.declared.patch.Write.{Write}
 use Rattle.mv_values.specs.declared.schema.TableInfo.{TableInfo}
 use Rattle.mv_values.specs.declared.calls.End.{End}
 use Rattle.mv_values.specs.Columns.{columns_of}
-use Rattle.mv_values.specs.Patching.{written, applied, patched_rows}
+use Rattle.mv_values.specs.Patching.{applied, patched_rows}
 use Rattle.mv_values.specs.Tables.{key_columns, columns_at, rows_at}
 use Rattle.mv_catalog.specs.declared.resolved.RSetItem.{RSetItem}
 use Rattle.mv_catalog.specs.declared.resolved.RStmt.{RStmt}
@@ -27,7 +29,7 @@ use Rattle.mv_recorded.specs.Asking.{on}
 use Rattle.mv_recorded.specs.Doing.{itself, write}
 use Rattle.mv_recorded.specs.Recorded.{Tells, Site, own_record}
 use Rattle.mv_recorded.proofs.Following.{IsLaw}
-use Rattle.mv_recorded.proofs.Patched.{Rises, applied_on, deletes_on, deletes_lead, without_rises, put_leads, put_rises}
+use Rattle.mv_recorded.proofs.Patched.{applied_on, deletes_on, deletes_lead, without_rises, put_leads, put_rises}
 use Rattle.mv_recorded.proofs.Setting.{New, set_writes, sets_on, sets_lead, set_row_makes, updated_rises}
 
 -- in each table keys rise
@@ -54,15 +56,11 @@ LeadsTo st rs out = LeadsBy st (writes_in rs) out
 
 -- One run after another
 
-applied_both : (vs ws : List Write) (db : Tables) → applied (vs ++ ws) db ≡ applied ws (applied vs db)
-applied_both [] ws db = refl
-applied_both (v ∷ vs) ws db = applied_both vs ws (written v db)
-
 leads_more : (st next : State) (rs ss : List Record) (out : Result State End) → LeadsTo st rs (Ok next) → LeadsTo next ss out → LeadsTo st (rs ++ ss) out
 leads_more st next rs ss (Ok last) h k rise =
     let first = h rise in
     let second = k first.1 in
-    (second.0 ∙ (ap (applied (writes_in ss)) first.0 ∙ (sym (applied_both (writes_in rs) (writes_in ss) st.tables) ∙ ap (λ ws. applied ws st.tables) (sym (flat_map-append (λ r. r.writes) rs ss)))), second.1)
+    (second.0 ∙ (ap (applied (writes_in ss)) first.0 ∙ (sym (applied_append (writes_in rs) (writes_in ss) st.tables) ∙ ap (λ ws. applied ws st.tables) (sym (flat_map-append (λ r. r.writes) rs ss)))), second.1)
 leads_more st next rs ss (Err e) h k rise = tt
 
 leads_inside : (st : State) (env : Env) (rs : List Record) (out : Result State End) → LeadsTo (record st { env = env }) rs out → LeadsTo st rs out

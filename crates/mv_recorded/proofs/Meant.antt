@@ -1,13 +1,10 @@
 -- The records of a full run tell its reply and the database after it.
-use Rattle.std.proofs.Common.{◌≡◌, ℕ, suc, List, [], ◌∷◌, Result, Ok, Err, All, length, ◌++◌, refl, ap, ◌∙◌, arith}
-use Rattle.std.specs.declared.cmp.Ordering.TheVariants.{Less}
-use Rattle.mv_values.specs.declared.value.Value.{Value}
-use Rattle.mv_values.specs.declared.rows.Keyed.{Keyed}
+use Rattle.std.proofs.Common.{◌≡◌, ℕ, List, [], Result, Ok, Err, length, ◌++◌, refl, ap, ◌∙◌}
+use Rattle.mv_record.proofs.Rising.{rises_from}
 use Rattle.mv_values.specs.declared.schema.TableInfo.{TableInfo}
 use Rattle.mv_values.specs.declared.calls.Call.{Call}
 use Rattle.mv_values.specs.declared.calls.End.{End}
 use Rattle.mv_values.specs.Keys.{IsRising}
-use Rattle.mv_values.specs.Order.{key_order}
 use Rattle.mv_values.specs.Tables.{rows_at}
 use Rattle.mv_catalog.specs.declared.resolved.ProcInfo.{ProcInfo}
 use Rattle.mv_alone.specs.declared.state.State.{State}
@@ -17,18 +14,8 @@ use Rattle.mv_record.specs.declared.record.Record.{Record}
 use Rattle.mv_record.specs.Runs.{TellsAll, writes_in, lines_in}
 use Rattle.mv_recorded.specs.Recorded.{recorded, meaning, outside}
 use Rattle.mv_recorded.proofs.Following.{told_follows}
-use Rattle.mv_recorded.proofs.Patched.{AllAfter, Rises}
 use Rattle.mv_recorded.proofs.Telling.{TellsOf, recorded_tells}
 use Rattle.mv_recorded.proofs.Leading.{Arrives, LeadsTo, leads_law}
-
-after_of : (k : List Value) (rows : List Keyed) → All (λ b. key_order k b.key ≡ Less) rows → AllAfter k rows
-after_of k [] h = tt
-after_of k (r ∷ rs) h = (h 0 r (omega arith), after_of k rs (λ i d lt. h (suc i) d (omega (arith, lt))))
-
-pub rises_of : (rows : List Keyed) → IsRising rows → Rises rows
-rises_of [] h = tt
-rises_of (r ∷ rs) h =
-    (after_of r.key rs (λ i d lt. h 0 (suc i) d (omega arith) (omega (arith, lt))), rises_of rs (λ i j d lt within. h (suc i) (suc j) d (omega (arith, lt)) (omega (arith, within))))
 
 meant_by : (db : Tables) (st : State) (rs : List Record) (out : Result State End) → st.lines ≡ [] → TellsOf st rs out → Arrives db (writes_in rs) out
     → TellsAll db (record { records = rs; reply = reply_in out; tables = tables_left db out })
@@ -40,4 +27,4 @@ meant_by db st rs (Err e) none tells arrives = record { stops = tells; lines = r
 pub meaning_tells : (tables : List TableInfo) (proc : ProcInfo) (call : Call) (db : Tables) → ((t : ℕ) → IsRising (rows_at db t)) → TellsAll db (meaning tables proc call db)
 meaning_tells tables proc call db rise =
     meant_by db (begun proc call db) (recorded tables proc call db) (alone tables proc.body (begun proc call db)) refl (recorded_tells tables proc call db)
-    (told_follows LeadsTo leads_law tables (length call.arguments) proc.body 1 outside [] (begun proc call db) (λ t. rises_of (rows_at db t) (rise t)))
+    (told_follows LeadsTo leads_law tables (length call.arguments) proc.body 1 outside [] (begun proc call db) (λ t. rises_from (rows_at db t) (rise t)))

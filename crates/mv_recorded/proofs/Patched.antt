@@ -4,6 +4,7 @@ use Rattle.std.proofs.lemmas.Cmp.{tied_itself}
 use Rattle.std.specs.Ordering.{is_eq, ordering_reverse}
 use Rattle.std.specs.declared.cmp.Ordering.{Ordering}
 use Rattle.std.specs.declared.cmp.Ordering.TheVariants.{Less, Equal, Greater}
+use Rattle.mv_record.proofs.Rising.{lower, Above, Rises}
 use Rattle.mv_values.specs.declared.value.Value.{Value}
 use Rattle.mv_values.specs.declared.rows.Keyed.{Keyed}
 use Rattle.mv_values.specs.declared.patch.Patch.{Patch}
@@ -19,22 +20,6 @@ use Rattle.mv_alone.specs.Rows.{meets, matching}
 use Rattle.mv_alone.specs.Changes.{without, put_row, put_row_by}
 use Rattle.mv_record.specs.Runs.{Tables}
 use Rattle.mv_recorded.specs.Doing.{write}
-
--- Keys
-
--- each key is greater
-abbrev pub AllAfter : List Value → List Keyed → Type 0
-AllAfter k [] = Unit {0}
-AllAfter k (item ∷ items) = (key_order k item.key ≡ Less) × AllAfter k items
-
--- each key is greater than those before it
-abbrev pub Rises : List Keyed → Type 0
-Rises [] = Unit {0}
-Rises (item ∷ items) = AllAfter item.key items × Rises items
-
-all_later : (a b : List Value) → key_order a b ≡ Less → (rows : List Keyed) → AllAfter b rows → AllAfter a rows
-all_later a b lt [] h = tt
-all_later a b lt (r ∷ rs) h = (key_order_total.trans a b r.key lt h.0, all_later a b lt rs h.1)
 
 -- One change
 
@@ -106,7 +91,7 @@ pub deletes_on : (t : ℕ) (items : List Keyed) → OnTable t (deletes_of t item
 deletes_on t [] = tt
 deletes_on t (i ∷ is) = (refl, deletes_on t is)
 
-deletes_past : (t : ℕ) (checks : List Check) (key : List Value) (rows : List Keyed) → AllAfter key rows → AllPast key (deletes_of t (matching checks rows))
+deletes_past : (t : ℕ) (checks : List Check) (key : List Value) (rows : List Keyed) → Above key rows → AllPast key (deletes_of t (matching checks rows))
 deletes_past t checks key [] h = tt
 deletes_past t checks key (r ∷ rs) h = either (meets checks r.row) (deletes_past t checks key rs h.1)
   where
@@ -123,11 +108,11 @@ deletes_lead t checks (r ∷ rs) h = either (meets checks r.row) (deletes_lead t
     either true k = ap (patched_all (deletes_of t (matching checks rs))) (changes_first r Delete rs) ∙ k
     either false k = all_pass r (deletes_of t (matching checks rs)) rs (deletes_past t checks r.key rs h.0) ∙ ap (λ l. r ∷ l) k
 
-after_without : (k : List Value) (checks : List Check) (rows : List Keyed) → AllAfter k rows → AllAfter k (without checks rows)
+after_without : (k : List Value) (checks : List Check) (rows : List Keyed) → Above k rows → Above k (without checks rows)
 after_without k checks [] h = tt
 after_without k checks (r ∷ rs) h = either (meets checks r.row) (after_without k checks rs h.1)
   where
-    either : (b : Bool) → AllAfter k (without checks rs) → AllAfter k (cond (not b) (r ∷ without checks rs) (without checks rs))
+    either : (b : Bool) → Above k (without checks rs) → Above k (cond (not b) (r ∷ without checks rs) (without checks rs))
     either true rest = rest
     either false rest = (h.0, rest)
 
@@ -158,14 +143,14 @@ put_leads new (r ∷ rs) out h =
         ap (λ p. placed_by p new.key (Some new.row) r rs (placed new.key (Some new.row) rs)) back ∙ (ap (λ l. r ∷ l) (k rest refl) ∙ row_ok e)
     by_order Greater back (Err f) k e = cc
 
-put_after : (k : List Value) (new : Keyed) (rows out : List Keyed) → key_order k new.key ≡ Less → AllAfter k rows → put_row new rows ≡ Ok out → AllAfter k out
-put_after k new [] out lt h is = subst (AllAfter k) (row_ok is) (lt, tt)
+put_after : (k : List Value) (new : Keyed) (rows out : List Keyed) → key_order k new.key ≡ Less → Above k rows → put_row new rows ≡ Ok out → Above k out
+put_after k new [] out lt h is = subst (Above k) (row_ok is) (lt, tt)
 put_after k new (r ∷ rs) out lt h is = by_order (key_order new.key r.key) (put_row new rs) (λ rest e. put_after k new rs rest lt h.1 e) is
   where
-    by_order : (o : Ordering) (later : Result (List Keyed) End) → ((rest : List Keyed) → later ≡ Ok rest → AllAfter k rest) → put_row_by o new r rs later ≡ Ok out → AllAfter k out
-    by_order Less later go e = subst (AllAfter k) (row_ok e) (lt, h)
+    by_order : (o : Ordering) (later : Result (List Keyed) End) → ((rest : List Keyed) → later ≡ Ok rest → Above k rest) → put_row_by o new r rs later ≡ Ok out → Above k out
+    by_order Less later go e = subst (Above k) (row_ok e) (lt, h)
     by_order Equal later go e = cc
-    by_order Greater (Ok rest) go e = subst (AllAfter k) (row_ok e) (h.0, go rest refl)
+    by_order Greater (Ok rest) go e = subst (Above k) (row_ok e) (h.0, go rest refl)
     by_order Greater (Err f) go e = cc
 
 -- where the row was put, and its key wasn't there, the keys rise
@@ -175,7 +160,7 @@ put_rises new (r ∷ rs) out h is = by_order (key_order new.key r.key) refl (put
   where
     by_order : (o : Ordering) → key_order new.key r.key ≡ o → (later : Result (List Keyed) End) → put_row new rs ≡ later → ((rest : List Keyed) → later ≡ Ok rest → Rises rest)
         → put_row_by o new r rs later ≡ Ok out → Rises out
-    by_order Less lt later was k e = subst Rises (row_ok e) ((lt, all_later new.key r.key lt rs h.0), h)
+    by_order Less lt later was k e = subst Rises (row_ok e) ((lt, lower new.key r.key rs lt h.0), h)
     by_order Equal same later was k e = cc
     by_order Greater gt (Ok rest) was k e =
         subst Rises (row_ok e) (put_after r.key new rs rest (key_order_total.antisymm r.key new.key ∙ ap ordering_reverse gt) h.0 was, k rest refl)

@@ -2,6 +2,7 @@
 use Rattle.std.proofs.Common.{◌≡◌, ℕ, Bool, true, false, List, [], ◌∷◌, Option, Some, None, Result, Ok, refl, sym, ap, subst, map, slice_get, All, IfOk, if◌then◌else◌}
 use Rattle.std.proofs.lemmas.List.Elements.{All-head, All-tail, All-filter}
 use Rattle.std.specs.Prelude.{not, ◌++◌}
+use Rattle.mv_alone.proofs.Standing.{goes_to}
 use Rattle.mv_values.specs.declared.value.Value.{Value}
 use Rattle.mv_values.specs.declared.rows.Keyed.{Keyed}
 use Rattle.mv_values.specs.declared.schema.TableInfo.{TableInfo}
@@ -19,7 +20,6 @@ use Rattle.mv_values.specs.Tables.{key_columns, columns_in, columns_at, rows_at}
 use Rattle.mv_catalog.specs.Types.{Kind, declared, rows, Vars}
 use Rattle.mv_catalog.specs.Statements.{all_well, IsWell, Well, kinds_of, Gives, with_turn}
 use Rattle.mv_recorded.specs.Doing.{itself, fixed_rows}
-use Rattle.mv_recorded.proofs.Setting.{then_ok as goes_on}
 use Rattle.mv_catalog.specs.Statements as well
 use Rattle.mv_catalog.specs.Text.{IsRow, types_of}
 use Rattle.mv_catalog.proofs.Typed.{well_by}
@@ -206,7 +206,7 @@ module _ (tables : List TableInfo) where
       → (h : well.stmt_step tables X v w (open'.ForSelect x once cs n conds sorts body) vars) → Kept vars st → fixed_rows (open'.ForSelect x once cs n conds sorts body) st ≡ Ok all → All (OfKinds h.2.3.0) all
   chosen_kinds v w x once cs n conds sorts body vars st all h k is =
       let table = h.0 in
-      let c = goes_on (checks_of conds st.env) (λ checks. Ok (fixed once cs sorts (matches n checks st))) all is in
+      let c = goes_to (checks_of conds st.env) (λ checks. Ok (fixed once cs sorts (matches n checks st))) all is in
       subst (All (OfKinds h.2.3.0)) (same_rows c.2) (fixed_kinds table once cs sorts h.2.3.0 (matches n c.0 st) h.2.3.1 (matches_all vars st n table c.0 k h.1))
     where
       same_rows : {a b : List (List Value)} → ◌≡◌ {A = Result (List (List Value)) End} (Ok a) (Ok b) → a ≡ b

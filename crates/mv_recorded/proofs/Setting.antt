@@ -3,6 +3,8 @@ use Rattle.std.proofs.Common.{◌≡◌, ℕ, zero, suc, ◌==◌, Bool, true, f
 use Rattle.std.proofs.lemmas.Bool.Decides.{eqb_tells}
 use Rattle.std.proofs.lemmas.List.{get_or-set_other, length-set, ext_get_or}
 use Rattle.std.specs.List.{flat_map, list_any}
+use Rattle.mv_record.proofs.Rising.{Above, Rises}
+use Rattle.mv_alone.proofs.Standing.{goes_to}
 use Rattle.mv_values.specs.declared.value.Value.{Value}
 use Rattle.mv_values.specs.declared.value.Value.TheVariants.{Int}
 use Rattle.mv_values.specs.declared.rows.Keyed.{Keyed}
@@ -22,11 +24,7 @@ use Rattle.mv_alone.specs.Rows.{meets, matching, fit}
 use Rattle.mv_alone.specs.Changes.{with_column, set_row, updated}
 use Rattle.mv_recorded.specs.Asking.{on}
 use Rattle.mv_recorded.specs.Doing.{write, changed}
-use Rattle.mv_recorded.proofs.Patched.{AllAfter, Rises, AllPast, all_pass, patched_all, OnTable, on_both, changes_first}
-
-pub then_ok : {A B : Type 0} (r : Result A End) (go : A → Result B End) (y : B) → then_do r go ≡ Ok y → (x : A) × (r ≡ Ok x) × (go x ≡ Ok y)
-then_ok (Ok x) go y h = (x, refl, h)
-then_ok (Err e) go y h = cc
+use Rattle.mv_recorded.proofs.Patched.{AllPast, all_pass, patched_all, OnTable, on_both, changes_first}
 
 -- One row
 
@@ -56,8 +54,8 @@ other_with keys c d v row apart = either (list_any (λ k. k == c) keys)
 made_agrees : (columns : List Column) (keys : List ℕ) (env : Env) (was : List Value) (items : List RSetItem) (row new : List Value) → set_row columns keys env was items row ≡ Ok new → AgreeBut items row new
 made_agrees columns keys env was [] row new h = let same : row ≡ new = cc in (ap length same, λ c none. ap (λ r. column_of r c) same)
 made_agrees columns keys env was (i ∷ is) row new h =
-    let value = then_ok (value_of i.right env was) _ new h in
-    let fitted = then_ok (fit columns i.column value.0) _ new value.2 in
+    let value = goes_to (value_of i.right env was) _ new h in
+    let fitted = goes_to (fit columns i.column value.0) _ new value.2 in
     let rest = made_agrees columns keys env was is (with_column keys i.column fitted.0 row) new fitted.2 in
     (sym (long_with keys i.column fitted.0 row) ∙ rest.0, λ c none. sym (other_with keys i.column c fitted.0 row none.0) ∙ rest.1 c none.1)
 
@@ -104,7 +102,7 @@ sets_on t items new (r ∷ rs) = on_both t (set_write t items r (new r.row)) (se
     one (Ok row) = (refl, tt)
     one (Err e) = tt
 
-sets_past : (t : ℕ) (items : List RSetItem) (new : New) (checks : List Check) (key : List Value) (rows : List Keyed) → AllAfter key rows → AllPast key (set_writes t items new (matching checks rows))
+sets_past : (t : ℕ) (items : List RSetItem) (new : New) (checks : List Check) (key : List Value) (rows : List Keyed) → Above key rows → AllPast key (set_writes t items new (matching checks rows))
 sets_past t items new checks key [] h = tt
 sets_past t items new checks key (r ∷ rs) h = either (meets checks r.row) (sets_past t items new checks key rs h.1)
   where
@@ -151,23 +149,23 @@ pub set_row_makes : (columns : List Column) (keys : List ℕ) (env : Env) (items
 set_row_makes columns keys env items row made h = assigns_lead items row made (made_agrees columns keys env row items row made h)
 
 -- the keys stay
-updated_after : (new : New) (checks : List Check) (k : List Value) (rows out : List Keyed) → AllAfter k rows → updated new checks rows ≡ Ok out → AllAfter k out
-updated_after new checks k [] out h is = subst (AllAfter k) (rows_ok is) tt
+updated_after : (new : New) (checks : List Check) (k : List Value) (rows out : List Keyed) → Above k rows → updated new checks rows ≡ Ok out → Above k out
+updated_after new checks k [] out h is = subst (Above k) (rows_ok is) tt
 updated_after new checks k (r ∷ rs) out h is = either (meets checks r.row) (new r.row) (updated new checks rs) (λ rest e. updated_after new checks k rs rest h.1 e) is
   where
-    either : (b : Bool) (made : Result (List Value) End) (later : Result (List Keyed) End) → ((rest : List Keyed) → later ≡ Ok rest → AllAfter k rest)
-        → (if b then then_do made (λ row. then_do later (λ rest. Ok (record r { row = row } ∷ rest))) else then_do later (λ rest. Ok (r ∷ rest))) ≡ Ok out → AllAfter k out
-    either true (Ok row) (Ok rest) go e = subst (AllAfter k) (rows_ok e) (h.0, go rest refl)
+    either : (b : Bool) (made : Result (List Value) End) (later : Result (List Keyed) End) → ((rest : List Keyed) → later ≡ Ok rest → Above k rest)
+        → (if b then then_do made (λ row. then_do later (λ rest. Ok (record r { row = row } ∷ rest))) else then_do later (λ rest. Ok (r ∷ rest))) ≡ Ok out → Above k out
+    either true (Ok row) (Ok rest) go e = subst (Above k) (rows_ok e) (h.0, go rest refl)
     either true (Ok row) (Err f) go e = cc
     either true (Err f) later go e = cc
-    either false made (Ok rest) go e = subst (AllAfter k) (rows_ok e) (h.0, go rest refl)
+    either false made (Ok rest) go e = subst (Above k) (rows_ok e) (h.0, go rest refl)
     either false made (Err f) go e = cc
 
 pub updated_rises : (new : New) (checks : List Check) (rows out : List Keyed) → Rises rows → updated new checks rows ≡ Ok out → Rises out
 updated_rises new checks [] out h is = subst Rises (rows_ok is) tt
 updated_rises new checks (r ∷ rs) out h is = either (meets checks r.row) (new r.row) (updated new checks rs) (λ rest e. (updated_after new checks r.key rs rest h.0 e, updated_rises new checks rs rest h.1 e)) is
   where
-    either : (b : Bool) (made : Result (List Value) End) (later : Result (List Keyed) End) → ((rest : List Keyed) → later ≡ Ok rest → AllAfter r.key rest × Rises rest)
+    either : (b : Bool) (made : Result (List Value) End) (later : Result (List Keyed) End) → ((rest : List Keyed) → later ≡ Ok rest → Above r.key rest × Rises rest)
         → (if b then then_do made (λ row. then_do later (λ rest. Ok (record r { row = row } ∷ rest))) else then_do later (λ rest. Ok (r ∷ rest))) ≡ Ok out → Rises out
     either true (Ok row) (Ok rest) go e = subst Rises (rows_ok e) (go rest refl)
     either true (Ok row) (Err f) go e = cc

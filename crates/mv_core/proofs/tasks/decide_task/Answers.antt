@@ -1,9 +1,9 @@
-use Rattle.std.proofs.Common.{◌≡◌, ◌<◌, length, Some, Result, Ok, Err, ℕ, ap, sym, ◌∙◌}
-use Rattle.std.specs.Prelude.{OnErr, false}
-use Rattle.mv_values.specs.declared.memory.NoMemory.{NoMemory}
+use Rattle.std.proofs.Common.{◌≡◌, ◌<◌, length, Some, ℕ, ap, sym, ◌∙◌}
+use Rattle.std.specs.Prelude.{false}
 use Rattle.mv_journal.specs.declared.event.Event.TheVariants.{X}
 use Rattle.mv_lawful.specs.Work.{records_at}
 use Rattle.mv_lawful.specs.Lawful.{Live, is_stale}
+use Rattle.mv_record.proofs.Patching.{always_err}
 use Rattle.mv_core.specs.Scripts.{work_of}
 use Rattle.mv_core.specs.Calls.{IsLive, IsLiveCall}
 use Rattle.mv_core.specs.Books.{work_in}
@@ -29,16 +29,12 @@ pub repair_task-requires-clause-whole : goal.repair_task-requires-clause-whole
 repair_task-requires-clause-whole c =
     on_new (λ s x. (l : Live) → IsLive x c.args.call l → c.finish_task.new.running.task.records ≡ records_at (work_of s) x.order l.start c.args.call) c.args.book.now c.settle.new.self c.settle.ensures.same c.in_ok-finish_task.ensures.ok
 
-on_err : {T P : Type 0} (r : Result T NoMemory) → P → OnErr r P
-on_err (Ok x) p = tt
-on_err (Err e) p = p
-
 pub returns-in_err-repair_task-clause-stored : goal.returns-in_err-repair_task-clause-stored
 returns-in_err-repair_task-clause-stored c = stored_same c.args.book.now c.settle.new.self c.args.store.now c.requires.call.stored c.settle.ensures.same
 
 pub returns-in_err-repair_task-clause-task : goal.returns-in_err-repair_task-clause-task
 returns-in_err-repair_task-clause-task c =
-    on_err c.from_residual-in_err-repair_task.result
+    always_err c.from_residual-in_err-repair_task.result _
     (on_old (λ s x. (l : Live) → IsLive x c.args.call l → IsLiveTask s x.order c.args.call l c.repair_task.new.running) c.args.book.now c.settle.new.self c.settle.ensures.same c.in_err-repair_task.ensures.err)
 
 pub commit_task-committed-requires-clause-stored : goal.commit_task-committed-requires-clause-stored
@@ -66,7 +62,7 @@ commit_task-committed-requires-clause-own c =
     due_decided c.settle.new.self c.args.call live.0 live.1 (turns live.0 live.1) ∙ ap Some (sym (c.in_ok-repair_task.ensures.ok live.0 live.1).executed)
 
 pub returns-then-is_err-clause-task : goal.returns-then-is_err-clause-task
-returns-then-is_err-clause-task c = on_err c.commit_task-committed.result (λ l live.
+returns-then-is_err-clause-task c = always_err c.commit_task-committed.result _ (λ l live.
     let due = due_now c.args.book.now c.args.call c.number-number.result c.finish_task.new.running c.requires.call.live c.finish_task.ensures.task c.in_ok-finish_task.ensures.ok c.number-number.ensures in
     let repaired = on_old (λ s x. (m : Live) → IsLive x c.args.call m → IsRepaired s x.order c.args.call m c.repair_task.new.running) c.args.book.now c.settle.new.self c.settle.ensures.same c.in_ok-repair_task.ensures.ok in
     task_given c.args.book.now.script c.args.book.now.course.order c.args.call c.number-number.result l c.spend.new.self (c.requires.call.task l live).turns

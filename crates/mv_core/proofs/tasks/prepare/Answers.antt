@@ -1,16 +1,11 @@
-use Rattle.std.proofs.Common.{Result, Ok, Err, ◌∙◌}
-use Rattle.std.specs.Prelude.{OnErr}
-use Rattle.mv_values.specs.declared.memory.NoMemory.{NoMemory}
+use Rattle.std.proofs.Common.{◌∙◌}
+use Rattle.mv_record.proofs.Patching.{always_err}
 use Rattle.mv_core.proofs.Stored.{stored_dropped, stored_stamped, last_reply, last_made}
 use Rattle.mv_core.proofs.tasks.prepare.Goals as goal
 
-on_err : {T : Type 0} {P : Type 0} (r : Result T NoMemory) → P → OnErr r P
-on_err (Ok x) p = tt
-on_err (Err e) p = p
-
 pub returns-in_err-put_told-clause-err : goal.returns-in_err-put_told-clause-err
 returns-in_err-put_told-clause-err c =
-    on_err c.from_residual-in_err-put_told.result (stored_dropped c.args.book.now c.args.store.now c.put_told.new.store c.args.call c.requires.stored c.in_err-put_told.ensures.err)
+    always_err c.from_residual-in_err-put_told.result _ (stored_dropped c.args.book.now c.args.store.now c.put_told.new.store c.args.call c.requires.stored c.in_err-put_told.ensures.err)
 
 pub returns-clause-reply : goal.returns-clause-reply
 returns-clause-reply c = c.in_ok-reply.ensures ∙ last_reply c.args.book.now c.args.store.now c.args.call c.args.records.now c.requires.stored c.requires.number c.requires.whole

@@ -1,10 +1,10 @@
-use Rattle.std.proofs.Common.{arith, rules, ◌≡◌, length, Some, Result, Ok, Err, ap, sym, ◌∙◌}
-use Rattle.std.specs.Prelude.{◌≢◌, OnErr, false}
-use Rattle.mv_values.specs.declared.memory.NoMemory.{NoMemory}
+use Rattle.std.proofs.Common.{arith, rules, ◌≡◌, length, Some, ap, sym, ◌∙◌}
+use Rattle.std.specs.Prelude.{◌≢◌, false}
 use Rattle.mv_journal.specs.declared.event.Event.TheVariants.{A}
 use Rattle.mv_journal.specs.declared.outcome.Mark.TheVariants.{Plain, Exclusive}
 use Rattle.mv_lawful.specs.Work.{records_at}
 use Rattle.mv_lawful.specs.Lawful.{Live, is_stale}
+use Rattle.mv_record.proofs.Patching.{always_err}
 use Rattle.mv_core.specs.Scripts.{work_of}
 use Rattle.mv_core.specs.Calls.{IsLive, IsLiveCall}
 use Rattle.mv_core.specs.Books.{IsSame}
@@ -16,10 +16,6 @@ use Rattle.mv_core.proofs.tasks.rerun_task.Goals as goal
 apart : Plain ≢ Exclusive
 apart e = search (rules, e)
 
-on_err : {T P : Type 0} (r : Result T NoMemory) → P → OnErr r P
-on_err (Ok x) p = tt
-on_err (Err e) p = p
-
 pub settle-requires-clause-number : goal.settle-requires-clause-number
 settle-requires-clause-number c = due_first c.args.book.now c.args.call c.finish_task.new.running c.finish_task.ensures.task c.in_ok-finish_task.ensures.ok
 
@@ -27,10 +23,10 @@ pub reserve-requires : goal.reserve-requires
 reserve-requires c = record { live = on_new (λ s x. IsLiveCall x c.args.call) c.args.book.now c.settle.new.self c.settle.ensures.same c.requires.call.live }
 
 pub returns-in_err-reserve-clause-same : goal.returns-in_err-reserve-clause-same
-returns-in_err-reserve-clause-same c = on_err c.from_residual-in_err-reserve.result (same_both c.args.book.now c.settle.new.self c.reserve.new.self c.settle.ensures.same c.reserve.ensures.same)
+returns-in_err-reserve-clause-same c = always_err c.from_residual-in_err-reserve.result _ (same_both c.args.book.now c.settle.new.self c.reserve.new.self c.settle.ensures.same c.reserve.ensures.same)
 
 pub returns-in_err-reserve-clause-task : goal.returns-in_err-reserve-clause-task
-returns-in_err-reserve-clause-task c = on_err c.from_residual-in_err-reserve.result c.finish_task.ensures.task
+returns-in_err-reserve-clause-task c = always_err c.from_residual-in_err-reserve.result _ c.finish_task.ensures.task
 
 pub repair_task-requires-clause-call : goal.repair_task-requires-clause-call
 repair_task-requires-clause-call c =
@@ -46,11 +42,11 @@ repair_task-requires-clause-whole c =
     on_new (λ s x. (l : Live) → IsLive x c.args.call l → c.finish_task.new.running.task.records ≡ records_at (work_of s) x.order l.start c.args.call) c.args.book.now c.reserve.new.self (same_both c.args.book.now c.settle.new.self c.reserve.new.self c.settle.ensures.same c.reserve.ensures.same) c.in_ok-finish_task.ensures.ok
 
 pub returns-in_err-repair_task-clause-same : goal.returns-in_err-repair_task-clause-same
-returns-in_err-repair_task-clause-same c = on_err c.from_residual-in_err-repair_task.result (same_both c.args.book.now c.settle.new.self c.reserve.new.self c.settle.ensures.same c.reserve.ensures.same)
+returns-in_err-repair_task-clause-same c = always_err c.from_residual-in_err-repair_task.result _ (same_both c.args.book.now c.settle.new.self c.reserve.new.self c.settle.ensures.same c.reserve.ensures.same)
 
 pub returns-in_err-repair_task-clause-task : goal.returns-in_err-repair_task-clause-task
 returns-in_err-repair_task-clause-task c =
-    on_err c.from_residual-in_err-repair_task.result
+    always_err c.from_residual-in_err-repair_task.result _
     (on_old (λ s x. (l : Live) → IsLive x c.args.call l → IsLiveTask s x.order c.args.call l c.repair_task.new.running) c.args.book.now c.reserve.new.self (same_both c.args.book.now c.settle.new.self c.reserve.new.self c.settle.ensures.same c.reserve.ensures.same) c.in_err-repair_task.ensures.err)
 
 pub restart-requires-clause-allowed : goal.restart-requires-clause-allowed

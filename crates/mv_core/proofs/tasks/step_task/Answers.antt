@@ -1,15 +1,10 @@
-use Rattle.std.proofs.Common.{arith, ◌+◌, ◌∙◌, length, Result, Ok, Err, refl, sym, ap, subst}
-use Rattle.std.specs.Prelude.{OnErr}
-use Rattle.mv_values.specs.declared.memory.NoMemory.{NoMemory}
+use Rattle.std.proofs.Common.{arith, ◌+◌, ◌∙◌, length, refl, sym, ap, subst}
 use Rattle.mv_lawful.specs.Lawful.{Live}
+use Rattle.mv_record.proofs.Patching.{always_err}
 use Rattle.mv_core.specs.Cores.{HasRunOne, IsLiveTask}
 use Rattle.mv_core.proofs.Stored.{Shows, shows_start, database_shown}
 use Rattle.mv_core.proofs.Taking.{runs_shown, runs_back, counts_same, counts_one, task_kept, task_ran, task_named, goes_on, one_live}
 use Rattle.mv_core.proofs.tasks.step_task.Goals as goal
-
-on_err : {T P : Type 0} (r : Result T NoMemory) → P → OnErr r P
-on_err (Ok x) p = tt
-on_err (Err e) p = p
 
 view : (c : goal.After-view-1) → Shows c.args.book.now.script c.args.book.now.course.order c.requires.call.live.0.start c.new-view.result
 view c = shows_start c.args.book.now c.args.store.now c.args.call c.start.result c.requires.call.live.0 c.new-view.result c.requires.call.stored c.requires.fresh c.requires.call.live.1 (c.start.ensures.value c.requires.call.live.0 c.requires.call.live.1) c.start.ensures.past c.new-view.ensures
@@ -89,4 +84,4 @@ returns-else-records-steps-clause-one c l live all =
     absurd (omega (arith, few, many, steps, all))
 
 pub returns-in_err-run_next-clause-err : goal.returns-in_err-run_next-clause-err
-returns-in_err-run_next-clause-err c = on_err c.from_residual.result c.in_err-run_next.ensures.err
+returns-in_err-run_next-clause-err c = always_err c.from_residual.result _ c.in_err-run_next.ensures.err

@@ -1,9 +1,9 @@
 use Rattle.std.proofs.Common.{rules, arith, ◌≡◌, length, map, max}
+use Rattle.mv_lawful.proofs.Lows.{oldest_most}
 use Rattle.mv_lawful.specs.Lawful.{oldest}
 use Rattle.mv_core.specs.Scripts.{work_of}
 use Rattle.mv_core.specs.Calls.{live_of}
 use Rattle.mv_core.proofs.Keeping.{the_course}
-use Rattle.mv_core.proofs.Lives.{oldest_within}
 use Rattle.mv_core.proofs.Lows.{needless_told}
 use Rattle.mv_core.proofs.Recents.{recent_below, recent_long, recent_trimmed}
 use Rattle.mv_core.proofs.book.Book.trim.Goals as goal
@@ -20,7 +20,7 @@ pub trim-requires-clause-within : goal.trim-requires-clause-within
 trim-requires-clause-within c =
     let long = recent_long (work_of c.self.inside.script) (the_course c.self.inside.order.items c.self.inside.low (map live_of c.self.inside.calls.items)) c.self.inside.recent c.self.invariant.recent in
     let within = c.self.invariant.recent.within in
-    let le = oldest_within (length c.self.inside.order.items) (map live_of c.self.inside.calls.items) in
+    let le = oldest_most (length c.self.inside.order.items) (map live_of c.self.inside.calls.items) in
     let is = needless c in
     omega (arith, long, within, le, is)
 

@@ -1,9 +1,8 @@
-use Rattle.std.proofs.Common.{Result, Ok, Err, ◌≡◌, Some, None, sym, ap, subst, ◌∙◌, arith}
-use Rattle.std.specs.Prelude.{OnErr}
-use Rattle.mv_values.specs.declared.memory.NoMemory.{NoMemory}
+use Rattle.std.proofs.Common.{◌≡◌, Some, None, sym, ap, subst, ◌∙◌, arith}
 use Rattle.mv_journal.specs.declared.event.Event.TheVariants.{A}
 use Rattle.mv_journal.specs.declared.outcome.Mark.TheVariants.{Plain}
 use Rattle.mv_lawful.specs.Lawful.{refusal}
+use Rattle.mv_record.proofs.Patching.{always_err}
 use Rattle.mv_core.specs.Books.{Booked, work_in, IsSame}
 use Rattle.mv_core.proofs.Stored.{stored_same}
 use Rattle.mv_core.proofs.Changed.{allowed_same, due_restarted, same_both, made_after, room_less}
@@ -12,10 +11,6 @@ use Rattle.mv_gate.proofs.Desks.{desk_again}
 use Rattle.mv_gate.proofs.Holding.{whole_same, running_of, first_whole}
 use Rattle.mv_gate.proofs.Repaired.{plainly, restarted}
 use Rattle.mv_gate.proofs.desk.Desk.again.Goals as goal
-
-on_err : {T P : Type 0} (r : Result T NoMemory) → P → OnErr r P
-on_err (Ok x) p = tt
-on_err (Err e) p = p
 
 pub settle-requires-clause-live : goal.settle-requires-clause-live
 settle-requires-clause-live g c = (subst (λ (b : Booked). IsWhole b c.args.call c.args.running.now) (sym c.self.view_is) c.requires.whole).call.live
@@ -75,8 +70,8 @@ returns-clause-restarted g c =
 
 pub returns-in_err-reserve-clause-err : goal.returns-in_err-reserve-clause-err
 returns-in_err-reserve-clause-err g c =
-    on_err _ (subst (λ (b : Booked). IsSame b c.reserve.new.self) c.self.view_is (same_both c.self.inside.book c.settle.new.self c.reserve.new.self c.settle.ensures.same c.reserve.ensures.same))
+    always_err _ _ (subst (λ (b : Booked). IsSame b c.reserve.new.self) c.self.view_is (same_both c.self.inside.book c.settle.new.self c.reserve.new.self c.settle.ensures.same c.reserve.ensures.same))
 
 pub returns-in_err-repair_task-clause-err : goal.returns-in_err-repair_task-clause-err
 returns-in_err-repair_task-clause-err g c =
-    on_err _ (subst (λ (b : Booked). IsSame b c.reserve.new.self) c.self.view_is (same_both c.self.inside.book c.settle.new.self c.reserve.new.self c.settle.ensures.same c.reserve.ensures.same))
+    always_err _ _ (subst (λ (b : Booked). IsSame b c.reserve.new.self) c.self.view_is (same_both c.self.inside.book c.settle.new.self c.reserve.new.self c.settle.ensures.same c.reserve.ensures.same))

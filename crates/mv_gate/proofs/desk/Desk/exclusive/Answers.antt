@@ -1,11 +1,10 @@
-use Rattle.std.proofs.Common.{Result, Ok, Err, ◌≡◌, ◌<◌, ◌++◌, ◌∷◌, ℕ, List, [], Some, None, false, length, refl, sym, ap, subst, ◌∙◌}
-use Rattle.std.specs.Prelude.{OnErr}
-use Rattle.mv_values.specs.declared.memory.NoMemory.{NoMemory}
+use Rattle.std.proofs.Common.{◌≡◌, ◌<◌, ◌++◌, ◌∷◌, ℕ, List, [], Some, None, false, length, refl, sym, ap, subst, ◌∙◌}
 use Rattle.std.specs.List.{list_any}
 use lib.Dec.{eqb}
 use Rattle.mv_journal.specs.declared.event.Event.TheVariants.{X}
 use Rattle.mv_lawful.specs.Lawful.{refusal}
 use Rattle.mv_seats.specs.Knowing.{Knows}
+use Rattle.mv_record.proofs.Patching.{always_err}
 use Rattle.mv_core.specs.declared.script.Script.{Script}
 use Rattle.mv_core.specs.Books.{Booked, work_in, Made, IsSame}
 use Rattle.mv_core.proofs.Stored.{stored_same}
@@ -14,10 +13,6 @@ use Rattle.mv_gate.specs.Gates.{HaveTurns, IsWhole}
 use Rattle.mv_gate.proofs.Desks.{desk_other, order_decided, fresh_call}
 use Rattle.mv_gate.proofs.Holding.{whole_same, running_of, first_whole}
 use Rattle.mv_gate.proofs.desk.Desk.exclusive.Goals as goal
-
-on_err : {T P : Type 0} (r : Result T NoMemory) → P → OnErr r P
-on_err (Ok x) p = tt
-on_err (Err e) p = p
 
 pub settle-requires-clause-live : goal.settle-requires-clause-live
 settle-requires-clause-live g c = (subst (λ (b : Booked). IsWhole b c.args.call c.args.running.now) (sym c.self.view_is) c.requires.whole).call.live
@@ -78,4 +73,4 @@ invariant_of-self-2 g c =
 
 pub returns-in_err-commit-clause-err : goal.returns-in_err-commit-clause-err
 returns-in_err-commit-clause-err g c =
-    on_err _ (subst (λ (b : Booked). IsSame b c.commit_task.new.book) c.self.view_is (same_both c.self.inside.book c.settle.new.self c.commit_task.new.book c.settle.ensures.same c.in_err-commit.ensures.made))
+    always_err _ _ (subst (λ (b : Booked). IsSame b c.commit_task.new.book) c.self.view_is (same_both c.self.inside.book c.settle.new.self c.commit_task.new.book c.settle.ensures.same c.in_err-commit.ensures.made))
