@@ -1,7 +1,6 @@
 -- What the predicates of a record find on two databases, where no change hits it.
 use Rattle.std.proofs.Common.{◌≡◌, false, List, [], ◌∷◌}
 use Rattle.mv_values.specs.declared.pred.Pred.{Pred}
-use Rattle.mv_values.specs.declared.patch.Write.{Write}
 use Rattle.mv_values.specs.declared.schema.TableInfo.{TableInfo}
 use Rattle.mv_values.specs.Patching.{applied}
 use Rattle.mv_alone.specs.TableAfter.{Tables}
@@ -13,13 +12,9 @@ use Rattle.mv_recorded.specs.Own.{Each}
 use Rattle.mv_history.specs.declared.change.Change.{Change}
 use Rattle.mv_history.specs.Hits.{any_hits, hits, hits_predicate}
 use Rattle.mv_alike.specs.Laws.{AreAsked}
-use Rattle.mv_alike.proofs.Seeing.{Merged, done, both, hits_by}
+use Rattle.mv_alike.proofs.Seeing.{hits_by, merged_itself}
 use Rattle.mv_alike.proofs.Finding.{seen_alike}
 use Rattle.mv_alike.proofs.Lasting.{none_of, each_map, swap}
-
-merged_itself : (p : Pred) (ws : List Write) → Merged p ws ws
-merged_itself p [] = done
-merged_itself p (w ∷ ws) = both w ws ws (merged_itself p ws)
 
 -- no change hits one of its predicates
 unhit_each : (changes : List Change) (before : List Record) (r : Record) → any_hits changes before r ≡ false → Each (λ p. Each (λ c. hits_by (writes_in before) c p ≡ false) changes) r.preds

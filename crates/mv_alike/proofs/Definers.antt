@@ -169,7 +169,7 @@ its_get [] d r h = cc
 its_get (p ∷ ps) zero r h = let same : p.it ≡ r = cc in (p, refl, same)
 its_get (p ∷ ps) (suc d) r h = its_get ps d r h
 
-front_get : (fo more : List Placed) (d : ℕ) (a : Placed) → slice_get fo d ≡ Some a → slice_get (fo ++ more) d ≡ Some a
+pub front_get : (fo more : List Placed) (d : ℕ) (a : Placed) → slice_get fo d ≡ Some a → slice_get (fo ++ more) d ≡ Some a
 front_get [] more d a h = cc
 front_get (p ∷ ps) more zero a h = h
 front_get (p ∷ ps) more (suc d) a h = front_get ps more d a h

@@ -14,7 +14,7 @@ use Rattle.mv_history.specs.Kept.{Path, Placed, zip_paths, with_paths, is_path, 
 use Rattle.mv_recorded.specs.Own.{Each}
 use Rattle.mv_record.specs.Effects.{effect_in}
 use Rattle.mv_alike.specs.Laws.{AreAlike}
-use Rattle.mv_alike.proofs.Definers.{KeptSame}
+use Rattle.mv_alike.proofs.Definers.{KeptSame, front_get}
 use Rattle.mv_alike.proofs.Placing.{path_self, not_itself, its}
 use Rattle.mv_alike.proofs.Seeing.{Merged, done, both, old, new}
 
@@ -129,15 +129,10 @@ partner u kept _ _ e b (gone a xs ys q m) is k = let it : Partner u xs b = partn
 partner u kept _ _ zero b (come c xs ys q m) is k = let at : c ≡ b = cc in absurd (both_ways (among kept b.path) (subst (λ (z : Placed). among kept z.path ≡ false) at q) k)
 partner u kept _ _ (suc e) b (come c xs ys q m) is k = partner u kept xs ys e b m is k
 
-pub get_more : (xs more : List Placed) (d : ℕ) (a : Placed) → slice_get xs d ≡ Some a → slice_get (xs ++ more) d ≡ Some a
-get_more [] more d a h = cc
-get_more (x ∷ xs) more zero a h = h
-get_more (x ∷ xs) more (suc d) a h = get_more xs more d a h
-
 pub kept_same : (u : Sides) (kept : List Path) (xs more ys : List Placed) → Climbs (xs ++ more) → Aligned u kept xs ys → KeptSame kept (xs ++ more) ys
 kept_same u kept xs more ys climbs h d e a b is are same k =
     let it : Partner u xs b = partner u kept xs ys e b h are k in
-    let one : it.a ≡ a = distinct (xs ++ more) it.d d it.a a climbs (get_more xs more it.d it.a it.there) is (it.same ∙ sym same) in
+    let one : it.a ≡ a = distinct (xs ++ more) it.d d it.a a climbs (front_get xs more it.d it.a it.there) is (it.same ∙ sym same) in
     ap (λ (z : Placed). effect_in z.it) (sym one) ∙ it.alike.effect
 
 -- Writes

@@ -6,6 +6,7 @@ use Rattle.mv_values.specs.declared.calls.Call.{Call}
 use Rattle.mv_catalog.specs.declared.resolved.ProcInfo.{ProcInfo}
 use Rattle.mv_catalog.specs.Text.{Suits}
 use Rattle.std.proofs.lemmas.Slice.Zip.{AllZip-long}
+use Rattle.mv_alike.proofs.Definers.{front_get}
 use Rattle.mv_alone.specs.TableAfter.{Tables}
 use Rattle.mv_record.specs.declared.record.Record.{Record}
 use Rattle.mv_recorded.specs.Recorded.{recorded}
@@ -19,7 +20,7 @@ use Rattle.mv_recorded.proofs.Wellness.{procedure_suits}
 use Rattle.mv_history.specs.declared.change.Change.{Change}
 use Rattle.mv_history.specs.Kept.{Placed, with_paths, among, kept_paths}
 use Rattle.mv_alike.specs.Laws.{AreRuns, HasAlike, KeptRecordsAreAlike, NextRecordIsAlike}
-use Rattle.mv_alike.proofs.Keeping.{climbs_of, get_more, ends, Partner, partner}
+use Rattle.mv_alike.proofs.Keeping.{climbs_of, ends, Partner, partner}
 use Rattle.mv_alike.proofs.Walking.{Runs, Stage, sides, walked, next_stays}
 
 each_number : (P : Placed → Type 0) (xs : List Placed) → ((e : ℕ) (b : Placed) → slice_get xs e ≡ Some b → P b) → Each P xs
@@ -52,7 +53,7 @@ kept_tell_same tables proc call db new changes r =
     let s : Stage (sides os ns) (kept_paths os ns changes) walk.0 walk.1 (with_paths ns) [] = walk.2 in
     each_number (λ (r : Placed). among (kept_paths os ns changes) r.path ≡ true → HasAlike (with_paths os) (with_paths ns) r) (with_paths ns) (λ e b is among'.
     let it : Partner (sides os ns) walk.0 b = partner (sides os ns) (kept_paths os ns changes) walk.0 (with_paths ns) e b s.aligned is among' in
-    record { number = it.d; o = it.a; there = ap (λ l. slice_get l it.d) s.split ∙ get_more walk.0 walk.1 it.d it.a it.there; path = it.same; alike = it.alike })
+    record { number = it.d; o = it.a; there = ap (λ l. slice_get l it.d) s.split ∙ front_get walk.0 walk.1 it.d it.a it.there; path = it.same; alike = it.alike })
 
 pub next_same : NextRecordIsAlike
 next_same tables proc call db new changes runs fn r bn o are found h =

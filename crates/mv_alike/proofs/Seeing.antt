@@ -152,6 +152,10 @@ pub data Merged (p : Pred) : List Write → List Write → Type 0 where
   old : (w : Write) (vs ws : List Write) → touches_predicate w p ≡ false → Merged p vs ws → Merged p (w ∷ vs) ws
   new : (w : Write) (vs ws : List Write) → touches_predicate w p ≡ false → Merged p vs ws → Merged p vs (w ∷ ws)
 
+pub merged_itself : (p : Pred) (ws : List Write) → Merged p ws ws
+merged_itself p [] = done
+merged_itself p (w ∷ ws) = both w ws ws (merged_itself p ws)
+
 -- a write on an admitted key that doesn't touch doesn't reach
 unreached : (p : Pred) (key : List Value) (w : Write) → admits p key ≡ true → touches_predicate w p ≡ false → is_on p.table key w ≡ true → reaches p w.patch ≡ false
 unreached p key w adm t on =

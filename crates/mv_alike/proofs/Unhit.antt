@@ -51,7 +51,7 @@ use Rattle.mv_history.specs.declared.change.Change.{Change}
 use Rattle.mv_history.specs.Changes.{Covers}
 use Rattle.mv_history.specs.Hits.{hits, hits_predicate, is_unhit}
 use Rattle.mv_alike.specs.Laws.{AreRuns}
-use Rattle.mv_alike.proofs.Seeing.{Merged, done, both, hits_by}
+use Rattle.mv_alike.proofs.Seeing.{hits_by, merged_itself}
 use Rattle.mv_alike.proofs.Finding.{Places, seen_alike}
 use Rattle.mv_alike.proofs.Lasting.{Lasting, each_map, places_preds, none_of, swap}
 
@@ -151,10 +151,6 @@ over_itself (Update t items conds) e f h = tt
 over_itself (Delete t conds) e f h = tt
 over_itself (Print es) e f h = tt
 over_itself (Rollback reason) e f h = tt
-
-merged_itself : (p : Pred) (ws : List Write) → Merged p ws ws
-merged_itself p [] = done
-merged_itself p (w ∷ ws) = both w ws ws (merged_itself p ws)
 
 seen_itself : (g : Pair) (ws : List Write) (st nst : State) (ps : List Pred) → IsPair g → st.tables ≡ applied ws g.db → nst.tables ≡ applied ws g.new → IsDatabaseOf g.tables st.tables → IsDatabaseOf g.tables nst.tables → Each (Places g.tables) ps
     → Each (λ p. Each (λ c. hits_by ws c p ≡ false) g.changes) ps → Each (λ p. SeenAlike p st.tables nst.tables) ps

@@ -4,6 +4,7 @@ use Rattle.std.specs.Prelude.{◌||◌, slice_get}
 use Rattle.std.specs.Option.{option_map}
 use Rattle.std.proofs.lemmas.Cmp.{nat_list_cmp_total}
 use Rattle.std.proofs.lemmas.Bool.{and_parts}
+use Rattle.mv_alike.proofs.Definers.{front_get}
 use Rattle.mv_alone.specs.TableAfter.{Tables}
 use Rattle.mv_record.specs.declared.record.Read.{Read}
 use Rattle.mv_record.specs.declared.record.Record.{Record}
@@ -17,10 +18,11 @@ use Rattle.mv_recorded.specs.Own.{Each, Stated, Ground, IsOwn, AllOwn}
 use Rattle.mv_recorded.specs.Reading.{expressions, read_variables, definer}
 use Rattle.mv_recorded.specs.Posts.{IsAt, path_above}
 use Rattle.mv_recorded.proofs.Held.{get_front, get_last}
+use Rattle.mv_recorded.proofs.Inverting.{each_join, each_both}
 use Rattle.mv_alike.specs.Laws.{AreAlike}
 use Rattle.mv_alike.proofs.Seeing.{Merged, hits_by}
 use Rattle.mv_alike.proofs.Placing.{its, its_all, own_at, is_at, at_paths, same_statement, path_is, apart, apart_back}
-use Rattle.mv_alike.proofs.Keeping.{Climbs, Sides, Aligned, stay, come, ends, aligned_join, all_gone, aligned_more, among_new, each_get, get_more, touch_parts, kept_same, merged_of, distinct, Partner, partner}
+use Rattle.mv_alike.proofs.Keeping.{Climbs, Sides, Aligned, stay, come, ends, aligned_join, all_gone, aligned_more, among_new, each_get, touch_parts, kept_same, merged_of, distinct, Partner, partner}
 use Rattle.mv_alike.proofs.Lasting.{Lasting, front_lasts, Untouched, untouched, own_same, each_map}
 
 -- Lists
@@ -32,24 +34,16 @@ its_both (x ∷ xs) ys = ap (λ l. x.it ∷ l) (its_both xs ys)
 earlier_then : (a b c : Path) → IsEarlierPath a b → IsEarlierPath b c → IsEarlierPath a c
 earlier_then a b c h k = nat_list_cmp_total.trans a b c h k
 
-each_second : (P : Placed → Type 0) (xs ys : List Placed) → Each P (xs ++ ys) → Each P xs × Each P ys
-each_second P [] ys h = (tt, h)
-each_second P (x ∷ xs) ys h = let rest = each_second P xs ys h.1 in ((h.0, rest.0), rest.1)
-
-each_both : (P : Placed → Type 0) (xs ys : List Placed) → Each P xs → Each P ys → Each P (xs ++ ys)
-each_both P [] ys h k = k
-each_both P (x ∷ xs) ys h k = (h.0, each_both P xs ys h.1 k)
-
 -- in a list whose paths climb: those in front of one are earlier, those behind it later
 climbs_parts : (xs : List Placed) (o : Placed) (ys : List Placed) → Climbs (xs ++ o ∷ ys) → Each (λ (a : Placed). IsEarlierPath a.path o.path) xs × Each (λ (b : Placed). IsEarlierPath o.path b.path) ys
 climbs_parts [] o ys h = (tt, h.0)
 climbs_parts (x ∷ xs) o ys h =
     let rest = climbs_parts xs o ys h.1 in
-    (((each_second (λ (b : Placed). IsEarlierPath x.path b.path) xs (o ∷ ys) h.0).1.0, rest.0), rest.1)
+    (((each_both (λ (b : Placed). IsEarlierPath x.path b.path) xs (o ∷ ys) h.0).1.0, rest.0), rest.1)
 
 climbs_over : (xs ys : List Placed) → Climbs (xs ++ ys) → Each (λ (a : Placed). Each (λ (b : Placed). IsEarlierPath a.path b.path) ys) xs
 climbs_over [] ys h = tt
-climbs_over (x ∷ xs) ys h = ((each_second (λ (b : Placed). IsEarlierPath x.path b.path) xs ys h.0).1, climbs_over xs ys h.1)
+climbs_over (x ∷ xs) ys h = ((each_both (λ (b : Placed). IsEarlierPath x.path b.path) xs ys h.0).1, climbs_over xs ys h.1)
 
 -- the record of a path, and those in front
 at_split : (p : Path) (xs : List Placed) (o : Placed) → at p xs ≡ Some o → (back : List Placed) × (xs ≡ front p xs ++ o ∷ back) × (o.path ≡ p)
@@ -73,11 +67,11 @@ InDone kept xs = Each (λ p. (d : ℕ) × (a : Placed) × (slice_get xs d ≡ So
 
 done_more : (kept : List Path) (xs more : List Placed) → InDone kept xs → InDone kept (xs ++ more)
 done_more [] xs more h = tt
-done_more (p ∷ ps) xs more h = ((h.0.0, h.0.1, get_more xs more h.0.0 h.0.1 h.0.2, h.0.3), done_more ps xs more h.1)
+done_more (p ∷ ps) xs more h = ((h.0.0, h.0.1, front_get xs more h.0.0 h.0.1 h.0.2, h.0.3), done_more ps xs more h.1)
 
 done_new : (kept : List Path) (xs : List Placed) (o : Placed) (p : Path) → o.path ≡ p → InDone kept xs → InDone (kept ++ p ∷ []) (xs ++ o ∷ [])
 done_new [] xs o p same h = ((length xs, o, get_last xs o [], same), tt)
-done_new (q ∷ qs) xs o p same h = ((h.0.0, h.0.1, get_more xs (o ∷ []) h.0.0 h.0.1 h.0.2, h.0.3), done_new qs xs o p same h.1)
+done_new (q ∷ qs) xs o p same h = ((h.0.0, h.0.1, front_get xs (o ∷ []) h.0.0 h.0.1 h.0.2, h.0.3), done_new qs xs o p same h.1)
 
 -- a path behind all of these records isn't kept
 not_kept : (kept : List Path) (xs : List Placed) (p : Path) → InDone kept xs → Each (λ (a : Placed). IsEarlierPath a.path p) xs → among kept p ≡ false
@@ -223,7 +217,7 @@ mid_not kept done (m ∷ mid) h k = let parts = below_tail m mid done k in (not_
 
 each_over : (xs ys zs : List Placed) → Each (λ (a : Placed). Each (λ (b : Placed). IsEarlierPath a.path b.path) (ys ++ zs)) xs → Each (λ (a : Placed). Each (λ (b : Placed). IsEarlierPath a.path b.path) ys) xs
 each_over [] ys zs h = tt
-each_over (x ∷ xs) ys zs h = ((each_second (λ (b : Placed). IsEarlierPath x.path b.path) ys zs h.0).0, each_over xs ys zs h.1)
+each_over (x ∷ xs) ys zs h = ((each_both (λ (b : Placed). IsEarlierPath x.path b.path) ys zs h.0).0, each_over xs ys zs h.1)
 
 -- a record that stays
 stage_on : (g : Ground) (new : Tables) (changes : List Change) (os ns : List Record) (kept : List Path) (done rest fn : List Placed) (r : Placed) (bn : List Placed) (o : Placed) → Runs g new changes os ns → with_paths ns ≡ fn ++ r ∷ bn
@@ -255,7 +249,7 @@ stage_on g new changes os ns kept done rest fn r bn o runs are s found h =
       record {
         split = is ∙ sym (append_assoc fo (o ∷ []) bo);
         aligned = aligned_join u (kept ++ r.path ∷ []) fo fn (o ∷ []) (r ∷ []) more (stay o r [] [] split.2 (among_new kept r.path) alike ends);
-        below = each_both (λ (a : Placed). Each (λ (b : Placed). IsEarlierPath a.path b.path) bn) fo (o ∷ []) (below_all r.path bn fo lower' nbefore.1)
+        below = each_join (λ (a : Placed). Each (λ (b : Placed). IsEarlierPath a.path b.path) bn) fo (o ∷ []) (below_all r.path bn fo lower' nbefore.1)
             (each_weak (λ (b : Placed). IsEarlierPath r.path b.path) (λ (b : Placed). IsEarlierPath o.path b.path) bn (λ b lt. subst (λ p. IsEarlierPath p b.path) (sym split.2) lt) nbefore.1, tt);
         listed = done_new kept fo o r.path split.2 (done_more kept done mid s.listed);
       },
@@ -292,6 +286,6 @@ next_stays g new changes os ns fn r bn runs are o found h =
     let t : Stage (sides os ns) (kept ++ r.path ∷ []) on.0 on.1 (fn ++ r ∷ []) bn = on.2 in
     let it : Partner (sides os ns) on.0 r = partner (sides os ns) (kept ++ r.path ∷ []) on.0 (fn ++ r ∷ []) (length fn) r t.aligned (get_last fn r []) (among_new kept r.path) in
     let split = at_split r.path (with_paths os) o found in
-    let one : it.a ≡ o = distinct (with_paths os) it.d (length (front r.path (with_paths os))) it.a o runs.climbs (ap (λ l. slice_get l it.d) t.split ∙ get_more on.0 on.1 it.d it.a it.there)
+    let one : it.a ≡ o = distinct (with_paths os) it.d (length (front r.path (with_paths os))) it.a o runs.climbs (ap (λ l. slice_get l it.d) t.split ∙ front_get on.0 on.1 it.d it.a it.there)
     (ap (λ l. slice_get l (length (front r.path (with_paths os)))) split.1 ∙ get_last (front r.path (with_paths os)) o split.0) (it.same ∙ sym split.2) in
     subst (λ (z : Placed). AreAlike (with_paths os) (with_paths ns) z.it r.it) one it.alike

@@ -3,6 +3,7 @@ use Rattle.std.proofs.Common.{◌≡◌, ◌≤◌, ℕ, zero, suc, ◌+◌, max
 use Rattle.std.specs.Prelude.{nat_lt, slice_get}
 use Rattle.std.proofs.Math.Nat.{le-max_left, le-max_right, max-le, min-le_right}
 use Rattle.std.proofs.lemmas.Bool.{both_ways, ltb-true}
+use Rattle.std.proofs.lemmas.Option.{same_Some}
 use Rattle.mv_journal.specs.declared.event.Event.{Event}
 use Rattle.mv_journal.specs.declared.event.Event.TheVariants.{B, S, A, M, C, X, G}
 use Rattle.mv_journal.specs.declared.outcome.Mark.TheVariants.{Plain, Exclusive, Moved}
@@ -42,12 +43,9 @@ hold_set floor low [] c l h k = tt
 hold_set floor low (m ∷ ls) zero l h k = (k, h.1)
 hold_set floor low (m ∷ ls) (suc c) l h k = (h.0, hold_set floor low ls c l h.1 k)
 
-some_same : (a b : Live) → ◌≡◌ {A = Option Live} (Some a) (Some b) → a ≡ b
-some_same a b h = cc
-
 hold_get : (floor low : ℕ) (ls : List Live) (c : ℕ) (l : Live) → AllHold floor low ls → slice_get ls c ≡ Some l → Holds floor low l
 hold_get floor low [] c l h is = cc
-hold_get floor low (m ∷ ls) zero l h is = subst (Holds floor low) (some_same m l is) h.0
+hold_get floor low (m ∷ ls) zero l h is = subst (Holds floor low) (same_Some m l is) h.0
 hold_get floor low (m ∷ ls) (suc c) l h is = hold_get floor low ls c l h.1 is
 
 hold_changed : (floor low : ℕ) (ls : List Live) (c : ℕ) (f : Live → Live) → AllHold floor low ls → ((l : Live) → Holds floor low l → Holds floor low (f l)) → AllHold floor low (change_live (slice_get ls c) f ls c)

@@ -3,6 +3,7 @@ use Rattle.std.proofs.Common.{◌≡◌, ◌≤◌, ◌<◌, ℕ, zero, suc, ◌
 use Rattle.std.specs.Prelude.{◌==◌, nat_lt, slice_get}
 use Rattle.std.specs.List.{filter}
 use Rattle.std.proofs.lemmas.Bool.Decides.{eqb_tells}
+use Rattle.std.proofs.lemmas.Option.{same_Some}
 use Rattle.mv_journal.specs.declared.event.Event.{Event}
 use Rattle.mv_journal.specs.declared.event.Event.TheVariants.{B, S, A, M, C, X, G}
 use Rattle.mv_journal.specs.declared.outcome.Mark.{Mark}
@@ -19,9 +20,6 @@ use Rattle.mv_lawful.specs.Rounds.{is_repair}
 pub first_allowed : (n : ℕ) (o : Option Fault) (later : Option Wrong) → or_refused n o later ≡ None → (o ≡ None) × (later ≡ None)
 first_allowed n None later h = (refl, h)
 first_allowed n (Some f) later h = cc
-
-some_same : (a b : Live) → ◌≡◌ {A = Option Live} (Some a) (Some b) → a ≡ b
-some_same a b h = cc
 
 -- what is left to a call: all rounds before it begins
 abbrev left : ℕ → Option Live → ℕ
@@ -40,7 +38,7 @@ Grows f = (l : Live) → length l.turns ≤ length (f l).turns
 
 left_set : (ls : List Live) (d c rounds : ℕ) (l m : Live) → slice_get ls d ≡ Some l → length l.turns ≤ length m.turns → left rounds (slice_get (slice_set ls d m) c) ≤ left rounds (slice_get ls c)
 left_set [] d c rounds l m is h = omega arith
-left_set (x ∷ ls) zero zero rounds l m is h = let same : x ≡ l = some_same x l is in let n = ap (λ (y : Live). length y.turns) same in omega (arith, h, n)
+left_set (x ∷ ls) zero zero rounds l m is h = let same : x ≡ l = same_Some x l is in let n = ap (λ (y : Live). length y.turns) same in omega (arith, h, n)
 left_set (x ∷ ls) zero (suc c) rounds l m is h = omega arith
 left_set (x ∷ ls) (suc d) zero rounds l m is h = omega arith
 left_set (x ∷ ls) (suc d) (suc c) rounds l m is h = left_set ls d c rounds l m is h

@@ -1,10 +1,10 @@
 -- The tokens of a source, and those of printed pieces.
 use Rattle.std.proofs.Common.{◌≡◌, ℕ, ◌+◌, ◌-◌, Bool, true, false, ◌&&◌, not, List, [], ◌∷◌, ◌++◌, ◌⊎◌, length, take, drop, slice_range, refl, sym, ap, subst, ◌∙◌, append_assoc, append-nil, length-append, arith, inl, inr}
 use Rattle.std.specs.List.{list_all}
-use Rattle.std.proofs.lemmas.Bool.{and_parts, and_from}
+use Rattle.std.proofs.lemmas.Bool.{and_parts, and_from, and_left}
 use Rattle.std.proofs.lemmas.Bool.Decides.{nat_tests}
 use Rattle.std.proofs.lemmas.List.{take_at, drop_at}
-use Rattle.std.proofs.lemmas.List.Folds.{list_all-append}
+use Rattle.mv_print.proofs.Sounding.{none_when}
 use Rattle.mv_lex.specs.Bytes.{is_allowed, is_blank}
 use Rattle.mv_lex.specs.Spelling.{IsSpelled}
 use Rattle.mv_lex.specs.Tokens.{IsLongest, Reads, stop, blank, comment, token, token_at}
@@ -15,23 +15,16 @@ use Rattle.mv_lex.proofs.Pieces.{some_bytes}
 use Rattle.mv_ast.specs.declared.lexeme.Lexeme.{Lexeme}
 use Rattle.mv_ast.specs.declared.lexeme.Terminal.TheVariants as word
 use Rattle.mv_ast.specs.declared.lexeme.Terminal.{Terminal}
-use Rattle.mv_ast.specs.declared.limit.Passed.{Passed}
 use Rattle.mv_ast.specs.declared.limit.Which.TheVariants as limit
-use Rattle.mv_ast.specs.Limits.{at_token, when, own_passes, size_passes, is_size_of, is_size, token_passes}
+use Rattle.mv_ast.specs.Limits.{at_token, own_passes, size_passes, is_size_of, is_size, token_passes}
 use Rattle.mv_ast.specs.Texts.{spelling, number_from}
 use Rattle.mv_ast.specs.Lexemes.{kind_of, lexeme_of, lexemes_from}
 use Rattle.mv_ast.proofs.Limited.{nothing_left}
 use Rattle.mv_print.specs.Printing.{Piece, put, written}
 use Rattle.mv_print.proofs.Light.{kinds}
 use Rattle.mv_print.proofs.Building.{marks, Fits, Spelled, is_type, Sounded, base_of, Sounds, Triple, Each}
-use Rattle.mv_print.proofs.Meaning.{Meant, Good, kind_behind, behind}
-use Rattle.mv_print.proofs.Scripts.{LastOpen, Last, Ended}
-
-allowed_apart : (xs ys : List ℕ) → list_all is_allowed (xs ++ ys) ≡ true → (list_all is_allowed xs ≡ true) × (list_all is_allowed ys ≡ true)
-allowed_apart xs ys h = and_parts (list_all is_allowed xs) (list_all is_allowed ys) (sym (list_all-append is_allowed xs ys) ∙ h)
-
-allowed_joined : (xs ys : List ℕ) → list_all is_allowed xs ≡ true → list_all is_allowed ys ≡ true → list_all is_allowed (xs ++ ys) ≡ true
-allowed_joined xs ys h k = list_all-append is_allowed xs ys ∙ and_from (list_all is_allowed xs) (list_all is_allowed ys) h k
+use Rattle.mv_print.proofs.Meaning.{Meant, Good, kind_behind, behind, never_when}
+use Rattle.mv_print.proofs.Scripts.{LastOpen, Last, Ended, allowed_parts, allowed_joined}
 
 -- the bytes at a place
 at_place : (before text rest bytes : List ℕ) (n : ℕ) → bytes ≡ before ++ (text ++ rest) → n ≡ length before → slice_range bytes n (n + length text) ≡ text
@@ -62,13 +55,13 @@ pub all_meant : {place end : ℕ} {bytes rest : List ℕ} {tokens : List Token} 
     → Reads place bytes tokens end rest → AllMeant all (lexemes_from n all tokens)
 all_meant n all before e h a stop = tt
 all_meant n all before e h a (blank {b = b} {bytes = bytes} i r) =
-    all_meant n all (before ++ b ∷ []) (e ∙ sym (append_assoc before (b ∷ []) bytes)) (omega (arith, length-append before (b ∷ []))) (allowed_apart (b ∷ []) bytes a).1 r
+    all_meant n all (before ++ b ∷ []) (e ∙ sym (append_assoc before (b ∷ []) bytes)) (omega (arith, length-append before (b ∷ []))) (allowed_parts (b ∷ []) bytes a).1 r
 all_meant n all before e h a (comment line bytes l i r) =
     let front = 45 ∷ 45 ∷ line in
-    all_meant n all (before ++ front) (e ∙ sym (append_assoc before front bytes)) (omega (arith, length-append before front)) (allowed_apart front bytes a).1 r
+    all_meant n all (before ++ front) (e ∙ sym (append_assoc before front bytes)) (omega (arith, length-append before front)) (allowed_parts front bytes a).1 r
 all_meant n all before e h a (token {place = place} k text bytes l r) = (
-  token_meant all before text bytes n place k e h (allowed_apart text bytes a).0 l.spelled,
-  all_meant (n + 1) all (before ++ text) (e ∙ sym (append_assoc before text bytes)) (omega (arith, length-append before text)) (allowed_apart text bytes a).1 r,
+  token_meant all before text bytes n place k e h (allowed_parts text bytes a).0 l.spelled,
+  all_meant (n + 1) all (before ++ text) (e ∙ sym (append_assoc before text bytes)) (omega (arith, length-append before text)) (allowed_parts text bytes a).1 r,
 )
 
 -- no token is left at the end
@@ -180,10 +173,6 @@ kinds_spelled text [] (p ∷ ps) s = absurd s
 kinds_spelled text (l ∷ ls) [] s = absurd s
 
 -- Tokens that pass no limit of their own.
-never : (b : Bool) (p : Passed) → when b p ≡ [] → b ≡ false
-never true p h = cc
-never false p h = refl
-
 size_true : (a b : Bool) → (a && not b) ≡ false → a ≡ true → b ≡ true
 size_true true true h k = refl
 size_true true false h k = cc
@@ -193,7 +182,7 @@ triple_good : (bytes : List ℕ) (l : Lexeme) (ls : List Lexeme) → size_passes
 triple_good bytes l [] h = tt
 triple_good bytes l (b ∷ []) h = tt
 triple_good bytes l (b ∷ c ∷ ls) h =
-    λ k. size_true (is_size_of l.kind b.kind c.kind) (is_size (number_from 0 (spelling bytes c))) (never (is_size_of l.kind b.kind c.kind && not (is_size (number_from 0 (spelling bytes c)))) (at_token limit.Text c.number) h) k
+    λ k. size_true (is_size_of l.kind b.kind c.kind) (is_size (number_from 0 (spelling bytes c))) (never_when (is_size_of l.kind b.kind c.kind && not (is_size (number_from 0 (spelling bytes c)))) (at_token limit.Text c.number) h) k
 
 pub all_good : (bytes : List ℕ) (ls : List Lexeme) → AllMeant bytes ls → token_passes bytes ls ≡ [] → Each (Good bytes) ls
 unfolding token_passes
@@ -208,12 +197,6 @@ no_type : (a b c : Terminal) → is_type a ≡ false → is_size_of a b c ≡ fa
 no_type word.Text b c h = cc
 no_type a b c h = refl
 
-when_false : (b : Bool) (p : Passed) → b ≡ false → when b p ≡ []
-when_false b p h = rw h refl
-
-and_false : (a b : Bool) → a ≡ false → (a && b) ≡ false
-and_false a b h = rw h refl
-
 and_true : (a b : Bool) → b ≡ true → (a && not b) ≡ false
 and_true true b h = rw h refl
 and_true false b h = refl
@@ -222,12 +205,12 @@ size_none : (text : List ℕ) (l : Lexeme) (ls : List Lexeme) (p : Piece) (ps qs
 size_none text l [] p ps qs f s h = refl
 size_none text l (b ∷ []) p ps qs f s h = refl
 size_none text l (b ∷ c ∷ ls) p ps qs f s (inl h) =
-    when_false (is_size_of l.kind b.kind c.kind && not (is_size (number_from 0 (spelling text c)))) (at_token limit.Text c.number)
-    (and_false (is_size_of l.kind b.kind c.kind) (not (is_size (number_from 0 (spelling text c)))) (no_type l.kind b.kind c.kind (ap is_type f.kind ∙ h.plain)))
+    none_when (is_size_of l.kind b.kind c.kind && not (is_size (number_from 0 (spelling text c)))) (at_token limit.Text c.number)
+    (and_left (is_size_of l.kind b.kind c.kind) (not (is_size (number_from 0 (spelling text c)))) (no_type l.kind b.kind c.kind (ap is_type f.kind ∙ h.plain)))
 size_none text l (b ∷ c ∷ ls) p [] qs f s (inr h) = absurd h.1
 size_none text l (b ∷ c ∷ ls) p (q ∷ []) qs f s (inr h) = absurd h.1
 size_none text l (b ∷ c ∷ ls) p (q ∷ r ∷ ps) qs f s (inr h) =
-    when_false (is_size_of l.kind b.kind c.kind && not (is_size (number_from 0 (spelling text c)))) (at_token limit.Text c.number)
+    none_when (is_size_of l.kind b.kind c.kind && not (is_size (number_from 0 (spelling text c)))) (at_token limit.Text c.number)
     (and_true (is_size_of l.kind b.kind c.kind) (is_size (number_from 0 (spelling text c))) (ap (λ t. is_size (number_from 0 t)) s.1.0.spells ∙ h.1))
 
 own_none : (text : List ℕ) (l : Lexeme) (p : Piece) → Fits text l p → ((n : ℕ) → own_passes p.kind p.text n ≡ []) → own_passes l.kind (spelling text l) l.number ≡ []

@@ -104,7 +104,7 @@ Good bytes = record {
 abbrev GoodOne : List ℕ → Lexeme → Type 0
 GoodOne bytes l = Meant bytes l × (own_passes l.kind (spelling bytes l) l.number ≡ [])
 
-never_when : (b : Bool) (p : Passed) → when b p ≡ [] → b ≡ false
+pub never_when : (b : Bool) (p : Passed) → when b p ≡ [] → b ≡ false
 never_when true p h = cc
 never_when false p h = refl
 

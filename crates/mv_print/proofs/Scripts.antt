@@ -75,10 +75,10 @@ abbrev pub Ended : List Piece → Type 0
 Ended ps = (front : List Piece) × (x : Piece) × (ps ≡ front ++ x ∷ []) × Sounds front × Last x
 
 -- The parts of a spelling are allowed.
-allowed_parts : (xs ys : List ℕ) → list_all is_allowed (xs ++ ys) ≡ true → (list_all is_allowed xs ≡ true) × (list_all is_allowed ys ≡ true)
+pub allowed_parts : (xs ys : List ℕ) → list_all is_allowed (xs ++ ys) ≡ true → (list_all is_allowed xs ≡ true) × (list_all is_allowed ys ≡ true)
 allowed_parts xs ys h = and_parts (list_all is_allowed xs) (list_all is_allowed ys) (sym (list_all-append is_allowed xs ys) ∙ h)
 
-allowed_joined : (xs ys : List ℕ) → list_all is_allowed xs ≡ true → list_all is_allowed ys ≡ true → list_all is_allowed (xs ++ ys) ≡ true
+pub allowed_joined : (xs ys : List ℕ) → list_all is_allowed xs ≡ true → list_all is_allowed ys ≡ true → list_all is_allowed (xs ++ ys) ≡ true
 allowed_joined xs ys h k = list_all-append is_allowed xs ys ∙ and_from (list_all is_allowed xs) (list_all is_allowed ys) h k
 
 allowed_inside : (front inside after : List ℕ) (spelled : List ℕ) → spelled ≡ front ++ 10 ∷ (inside ++ after) → list_all is_allowed spelled ≡ true → list_all is_allowed inside ≡ true

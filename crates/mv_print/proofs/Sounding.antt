@@ -139,7 +139,7 @@ pub record IsVariable (t : List ℕ) : Type 0 where
 abbrev pub IsContent : List ℕ → Type 0
 IsContent t = (list_all is_printable t ≡ true) × (nat_lt 4000 (length t) ≡ false)
 
-none_when : (b : Bool) (p : Passed) → b ≡ false → when b p ≡ []
+pub none_when : (b : Bool) (p : Passed) → b ≡ false → when b p ≡ []
 none_when b p h = rw h refl
 
 pub sound_name : (n : Name) → IsName n.text → Sound (name_piece n)

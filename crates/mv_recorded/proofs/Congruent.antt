@@ -46,7 +46,8 @@ use Rattle.std.specs.Prelude.{All}
 use Rattle.std.proofs.lemmas.List.{length-map}
 use Rattle.std.proofs.lemmas.List.Elements.{All-head, All-tail}
 use Rattle.std.proofs.lemmas.Slice.Zip.{AllZip-long}
-use Rattle.mv_recorded.proofs.Slots.{get_same}
+use Rattle.mv_recorded.proofs.Inverting.{each_join}
+use Rattle.mv_recorded.proofs.Slots.{get_same, same_found}
 use Rattle.mv_recorded.proofs.Held.{held_alike}
 use Rattle.mv_recorded.proofs.Values.{value_alike, values_alike, checks_alike, offset_alike, new_row_alike}
 use Rattle.mv_recorded.proofs.Alike.{ItemAlike, agree_parts, agree_once, columns_same, alike_by, ordered_alike, item_alike, projected_same, some_same, aggregate_same, deletes_same, changes_same, Plain}
@@ -85,11 +86,6 @@ values_set e f (y ∷ ys) (v ∷ vs) x (inl at) le =
     (subst (λ z. held_at (with_value e y v) z ≡ held_at (with_value f y v) z) (sym at) (get_same e.held y (Scalar v) ∙ sym (get_same f.held y (Scalar v))))
 values_set e f (y ∷ ys) (v ∷ vs) x (inr w) le = values_set (with_value e y v) (with_value f y v) ys vs x w (omega (arith, le))
 
-values_found : (e : Env) (xs : List ℕ) (vs : List Value) → (with_values e xs vs).found ≡ e.found
-values_found e [] vs = refl
-values_found e (x ∷ xs) [] = refl
-values_found e (x ∷ xs) (v ∷ vs) = values_found (with_value e x v) xs vs
-
 each_within : (P : ℕ → Type 0) (xs : List ℕ) → ((x : ℕ) → Within x xs → P x) → Each P xs
 each_within P [] h = tt
 each_within P (x ∷ xs) h = (h x (inl refl), each_within P xs (λ y w. h y (inr w)))
@@ -108,10 +104,6 @@ within_once x [] w = absurd w
 within_once x (y ∷ ys) (inl at) = inl at
 within_once x (y ∷ ys) (inr w) = inr (within_once x ys (within_filter (λ m. not (m == y)) x (each_once ys) w))
 
-each_join : (P : ℕ → Type 0) (xs ys : List ℕ) → Each P xs → Each P ys → Each P (xs ++ ys)
-each_join P [] ys h k = k
-each_join P (x ∷ xs) ys h k = (h.0, each_join P xs ys h.1 k)
-
 long_columns : (row : List Value) (cs : List ℕ) → length (columns_of row cs) ≡ length cs
 long_columns row [] = refl
 long_columns row (c ∷ cs) = ap suc (long_columns row cs)
@@ -129,8 +121,8 @@ taking_same p cs xs (Some a) (Some b) e f le same h =
     let alike : Agree (with_found one true) (with_found two true) ns =
     each_join (λ x. held_at (with_found one true) x ≡ held_at (with_found two true) x) (each_once xs) (e.found ∷ [])
     (each_within (λ x. held_at (with_found one true) x ≡ held_at (with_found two true) x) (each_once xs)
-    (λ x w. found_alike one two true x (values_found e xs vs ∙ (same ∙ sym (values_found f xs vs))) (values_set e f xs vs x (within_once x xs w) long)))
-    (found_agrees one two true e.found (values_found e xs vs) (values_found f xs vs ∙ sym same), tt) in
+    (λ x w. found_alike one two true x (same_found e xs vs ∙ (same ∙ sym (same_found f xs vs))) (values_set e f xs vs x (within_once x xs w) long)))
+    (found_agrees one two true e.found (same_found e xs vs) (same_found f xs vs ∙ sym same), tt) in
     ap (λ ss. record { preds = p ∷ []; sets = ss; rows = []; writes = []; line = None; end = None })
     (slots_same (with_found one true) (with_found two true) ns alike
     ∙ (ap (λ n. slots_behind (with_found two true) (each_once xs ++ n ∷ [])) same

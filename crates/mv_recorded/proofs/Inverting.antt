@@ -270,9 +270,6 @@ here_within g number site rows before st parent here = record { told = here.told
 abbrev Sized : Type 0
 Sized = (s : RStmt) × ((rows : List ℕ) → length (flat s rows) ≡ size s)
 
-first_size : (n : ℕ) (ns : List ℕ) → total_size (n ∷ ns) ≡ n + total_size ns
-first_size n ns = refl
-
 sized_list : (known : List Sized) (rows : List ℕ) → length (flat_all (map (λ k. k.0) known) rows) ≡ total_size (map size (map (λ k. k.0) known))
 sized_list [] rows = refl
 sized_list (k ∷ ks) rows =

@@ -126,7 +126,7 @@ without_rises checks (r ∷ rs) h = either (meets checks r.row) (without_rises c
 
 -- INSERT
 
-row_ok : {rows out : List Keyed} → ◌≡◌ {A = Result (List Keyed) End} (Ok rows) (Ok out) → rows ≡ out
+pub row_ok : {rows out : List Keyed} → ◌≡◌ {A = Result (List Keyed) End} (Ok rows) (Ok out) → rows ≡ out
 row_ok h = cc
 
 pub put_leads : (new : Keyed) (rows out : List Keyed) → put_row new rows ≡ Ok out → patched_rows new.key (Insert new.row) rows ≡ out

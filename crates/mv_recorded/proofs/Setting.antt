@@ -24,7 +24,7 @@ use Rattle.mv_alone.specs.Rows.{meets, matching, fit}
 use Rattle.mv_alone.specs.Changes.{with_column, set_row, updated}
 use Rattle.mv_recorded.specs.Asking.{on}
 use Rattle.mv_recorded.specs.Doing.{write, changed}
-use Rattle.mv_recorded.proofs.Patched.{AllPast, all_pass, patched_all, OnTable, on_both, changes_first}
+use Rattle.mv_recorded.proofs.Patched.{AllPast, all_pass, patched_all, OnTable, on_both, changes_first, row_ok}
 
 -- One row
 
@@ -114,16 +114,13 @@ sets_past t items new checks key (r ∷ rs) h = either (meets checks r.row) (set
     either true rest = one (new r.row) rest
     either false rest = rest
 
-rows_ok : {rows out : List Keyed} → ◌≡◌ {A = Result (List Keyed) End} (Ok rows) (Ok out) → rows ≡ out
-rows_ok h = cc
-
 -- each row that is made agrees with what was there, but in the columns that are set
 abbrev pub Makes : List RSetItem → New → Type 0
 Makes items new = (row made : List Value) → new row ≡ Ok made → with_columns (map (value_in made) items) row ≡ made
 
 pub sets_lead : (t : ℕ) (items : List RSetItem) (new : New) → Makes items new → (checks : List Check) (rows out : List Keyed) → Rises rows → updated new checks rows ≡ Ok out
     → patched_all (set_writes t items new (matching checks rows)) rows ≡ out
-sets_lead t items new makes checks [] out h is = rows_ok is
+sets_lead t items new makes checks [] out h is = row_ok is
 sets_lead t items new makes checks (r ∷ rs) out h is = either (meets checks r.row) (updated new checks rs) (λ rest e. sets_lead t items new makes checks rs rest h.1 e) is
   where
     one : (made : Result (List Value) End) → new r.row ≡ made → (later : Result (List Keyed) End) → ((rest : List Keyed) → later ≡ Ok rest → patched_all (set_writes t items new (matching checks rs)) rs ≡ rest)
@@ -133,7 +130,7 @@ sets_lead t items new makes checks (r ∷ rs) out h is = either (meets checks r.
         ap (patched_all (set_writes t items new (matching checks rs))) (changes_first r (Set (map (value_in row) items)) rs)
         ∙ (ap (λ v. patched_all (set_writes t items new (matching checks rs)) (record r { row = v } ∷ rs)) (makes r.row row made)
         ∙ (all_pass (record r { row = row }) (set_writes t items new (matching checks rs)) rs (sets_past t items new checks r.key rs h.0)
-        ∙ (ap (λ l. record r { row = row } ∷ l) (k rest refl) ∙ rows_ok e)))
+        ∙ (ap (λ l. record r { row = row } ∷ l) (k rest refl) ∙ row_ok e)))
     one (Ok row) made (Err f) k e = cc
     one (Err f) made later k e = cc
 
@@ -142,7 +139,7 @@ sets_lead t items new makes checks (r ∷ rs) out h is = either (meets checks r.
         → patched_all (set_writes t items new (cond b (r ∷ matching checks rs) (matching checks rs))) (r ∷ rs) ≡ out
     either true later k e = one (new r.row) refl later k e
     either false (Ok rest) k e =
-        all_pass r (set_writes t items new (matching checks rs)) rs (sets_past t items new checks r.key rs h.0) ∙ (ap (λ l. r ∷ l) (k rest refl) ∙ rows_ok e)
+        all_pass r (set_writes t items new (matching checks rs)) rs (sets_past t items new checks r.key rs h.0) ∙ (ap (λ l. r ∷ l) (k rest refl) ∙ row_ok e)
     either false (Err f) k e = cc
 
 pub set_row_makes : (columns : List Column) (keys : List ℕ) (env : Env) (items : List RSetItem) → Makes items (λ row. set_row columns keys env row items row)
@@ -150,25 +147,25 @@ set_row_makes columns keys env items row made h = assigns_lead items row made (m
 
 -- the keys stay
 updated_after : (new : New) (checks : List Check) (k : List Value) (rows out : List Keyed) → Above k rows → updated new checks rows ≡ Ok out → Above k out
-updated_after new checks k [] out h is = subst (Above k) (rows_ok is) tt
+updated_after new checks k [] out h is = subst (Above k) (row_ok is) tt
 updated_after new checks k (r ∷ rs) out h is = either (meets checks r.row) (new r.row) (updated new checks rs) (λ rest e. updated_after new checks k rs rest h.1 e) is
   where
     either : (b : Bool) (made : Result (List Value) End) (later : Result (List Keyed) End) → ((rest : List Keyed) → later ≡ Ok rest → Above k rest)
         → (if b then then_do made (λ row. then_do later (λ rest. Ok (record r { row = row } ∷ rest))) else then_do later (λ rest. Ok (r ∷ rest))) ≡ Ok out → Above k out
-    either true (Ok row) (Ok rest) go e = subst (Above k) (rows_ok e) (h.0, go rest refl)
+    either true (Ok row) (Ok rest) go e = subst (Above k) (row_ok e) (h.0, go rest refl)
     either true (Ok row) (Err f) go e = cc
     either true (Err f) later go e = cc
-    either false made (Ok rest) go e = subst (Above k) (rows_ok e) (h.0, go rest refl)
+    either false made (Ok rest) go e = subst (Above k) (row_ok e) (h.0, go rest refl)
     either false made (Err f) go e = cc
 
 pub updated_rises : (new : New) (checks : List Check) (rows out : List Keyed) → Rises rows → updated new checks rows ≡ Ok out → Rises out
-updated_rises new checks [] out h is = subst Rises (rows_ok is) tt
+updated_rises new checks [] out h is = subst Rises (row_ok is) tt
 updated_rises new checks (r ∷ rs) out h is = either (meets checks r.row) (new r.row) (updated new checks rs) (λ rest e. (updated_after new checks r.key rs rest h.0 e, updated_rises new checks rs rest h.1 e)) is
   where
     either : (b : Bool) (made : Result (List Value) End) (later : Result (List Keyed) End) → ((rest : List Keyed) → later ≡ Ok rest → Above r.key rest × Rises rest)
         → (if b then then_do made (λ row. then_do later (λ rest. Ok (record r { row = row } ∷ rest))) else then_do later (λ rest. Ok (r ∷ rest))) ≡ Ok out → Rises out
-    either true (Ok row) (Ok rest) go e = subst Rises (rows_ok e) (go rest refl)
+    either true (Ok row) (Ok rest) go e = subst Rises (row_ok e) (go rest refl)
     either true (Ok row) (Err f) go e = cc
     either true (Err f) later go e = cc
-    either false made (Ok rest) go e = subst Rises (rows_ok e) (go rest refl)
+    either false made (Ok rest) go e = subst Rises (row_ok e) (go rest refl)
     either false made (Err f) go e = cc

@@ -1,7 +1,8 @@
 -- Expressions have the same value where what they name has.
-use Rattle.std.proofs.Common.{◌≡◌, ℕ, List, [], ◌∷◌, ◌++◌, Option, Some, None, Ok, refl, sym, ap, subst, ◌∙◌}
+use Rattle.std.proofs.Common.{◌≡◌, ℕ, List, [], ◌∷◌, Option, Some, None, Ok, refl, sym, ap, subst, ◌∙◌}
 use Rattle.std.specs.List.{flat_map}
 use Rattle.std.specs.Prelude.{option_to_list}
+use Rattle.mv_recorded.proofs.Inverting.{each_both}
 use Rattle.mv_values.specs.declared.value.Value.{Value}
 use Rattle.mv_values.specs.declared.schema.Column.{Column}
 use Rattle.mv_values.specs.Columns.{column_of}
@@ -21,12 +22,7 @@ use Rattle.mv_alone.specs.Changes.{new_row}
 use Rattle.mv_alone.specs.Alone.{offset_of}
 use Rattle.mv_recorded.specs.Asking.{kind_columns, columns_in}
 use Rattle.mv_recorded.specs.Reading.{kind_variables, variables, rights}
-use Rattle.mv_recorded.specs.Own.{Each}
 use Rattle.mv_recorded.specs.Alike.{Agree, AgreeIn}
-
-each_parts : {A : Type 0} (P : A → Type 0) (xs ys : List A) → Each P (xs ++ ys) → Each P xs × Each P ys
-each_parts P [] ys h = (tt, h)
-each_parts P (x ∷ xs) ys h = let rest = each_parts P xs ys h.1 in ((h.0, rest.0), rest.1)
 
 abbrev kinds_variables : RExprKind → List ℕ
 kinds_variables = fold-RExprKind (List ℕ) (List ℕ) kind_variables (λ e. e.kind)
@@ -65,8 +61,8 @@ kind_same (kind.Field x c) e f a b h k = ap (λ g. Ok (column_of (turn_in g) c))
 kind_same (kind.Col c) e f a b h k = ap Ok k.0
 kind_same (kind.One op x) e f a b h k = ap (λ r. then_do r (λ v. one_of op v)) (x.1 e f a b h k)
 kind_same (kind.Two op x y) e f a b h k =
-    let hs = each_parts (λ z. held_at e z ≡ held_at f z) (variables x.0) (variables y.0) h in
-    let ks = each_parts (λ c. column_of a c ≡ column_of b c) (columns_in x.0) (columns_in y.0) k in
+    let hs = each_both (λ z. held_at e z ≡ held_at f z) (variables x.0) (variables y.0) h in
+    let ks = each_both (λ c. column_of a c ≡ column_of b c) (columns_in x.0) (columns_in y.0) k in
     ap (λ r. two_of op r (value_of y.0 e a)) (x.1 e f a b hs.0 ks.0) ∙ ap (two_of op (value_of x.0 f b)) (y.1 e f a b hs.1 ks.1)
 
 same_by : (xs ys cs ds : List ℕ) (m n : Meaning) → xs ≡ ys → cs ≡ ds → m ≡ n → Same ys ds n → Same xs cs m
@@ -101,25 +97,25 @@ value_alike x e f a h = value_same x e f a a h (none_in a (columns_in x))
 pub values_alike : (xs : List RExpr) (e f : Env) → Agree e f (flat_map variables xs) → values_of xs e ≡ values_of xs f
 values_alike [] e f h = refl
 values_alike (x ∷ xs) e f h =
-    let hs = each_parts (λ z. held_at e z ≡ held_at f z) (variables x) (flat_map variables xs) h in
+    let hs = each_both (λ z. held_at e z ≡ held_at f z) (variables x) (flat_map variables xs) h in
     ap (λ r. then_do r (λ v. then_do (values_of xs e) (λ vs. Ok (v ∷ vs)))) (value_alike x e f [] hs.0)
     ∙ ap (λ r. then_do (value_of x f []) (λ v. then_do r (λ vs. Ok (v ∷ vs)))) (values_alike xs e f hs.1)
 
 pub checks_alike : (cs : List RCond) (e f : Env) → Agree e f (flat_map variables (rights cs)) → checks_of cs e ≡ checks_of cs f
 checks_alike [] e f h = refl
 checks_alike (c ∷ cs) e f h =
-    let hs = each_parts (λ z. held_at e z ≡ held_at f z) (variables c.right) (flat_map variables (rights cs)) h in
+    let hs = each_both (λ z. held_at e z ≡ held_at f z) (variables c.right) (flat_map variables (rights cs)) h in
     ap (λ r. then_do r (λ v. then_do (checks_of cs e) (λ checks. Ok (record { column = c.column; op = c.op; value = v } ∷ checks)))) (value_alike c.right e f [] hs.0)
     ∙ ap (λ r. then_do (value_of c.right f []) (λ v. then_do r (λ checks. Ok (record { column = c.column; op = c.op; value = v } ∷ checks)))) (checks_alike cs e f hs.1)
 
 pub offset_alike : (o : Option RExpr) (e f : Env) → Agree e f (flat_map variables (option_to_list o)) → offset_of o e ≡ offset_of o f
 offset_alike None e f h = refl
-offset_alike (Some x) e f h = value_alike x e f [] (each_parts (λ z. held_at e z ≡ held_at f z) (variables x) [] h).0
+offset_alike (Some x) e f h = value_alike x e f [] (each_both (λ z. held_at e z ≡ held_at f z) (variables x) [] h).0
 
 pub new_row_alike : (columns : List Column) (xs : List RExpr) (e f : Env) → Agree e f (flat_map variables xs) → new_row columns xs e ≡ new_row columns xs f
 new_row_alike [] xs e f h = refl
 new_row_alike (c ∷ cs) [] e f h = refl
 new_row_alike (c ∷ cs) (x ∷ xs) e f h =
-    let hs = each_parts (λ z. held_at e z ≡ held_at f z) (variables x) (flat_map variables xs) h in
+    let hs = each_both (λ z. held_at e z ≡ held_at f z) (variables x) (flat_map variables xs) h in
     ap (λ r. then_do r (λ v. then_do (fit_kind c.kind v) (λ w. then_do (new_row cs xs e) (λ vs. Ok (w ∷ vs))))) (value_alike x e f [] hs.0)
     ∙ ap (λ r. then_do (value_of x f []) (λ v. then_do (fit_kind c.kind v) (λ w. then_do r (λ vs. Ok (w ∷ vs))))) (new_row_alike cs xs e f hs.1)
