@@ -1,4 +1,3 @@
-pub mod Printing
 pub mod Chain
 pub mod Stages
 pub mod Naming

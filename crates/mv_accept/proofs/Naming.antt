@@ -3,7 +3,6 @@ use Rattle.std.proofs.Common.{◌≡◌, ◌⊎◌, ◌<◌, ◌≤◌, inl, inr
 use Rattle.std.proofs.Math.Seq.{get_or-append_seam}
 use Rattle.std.proofs.lemmas.List.{length-append}
 use Rattle.std.specs.Prelude.{All}
-use Rattle.mv_values.specs.declared.rows.Keyed.{Keyed}
 use Rattle.mv_ast.specs.declared.tree.Script.{Script}
 use Rattle.mv_names.specs.declared.fault.Fault.{Fault}
 use Rattle.mv_names.specs.declared.fault.FaultKind.{FaultKind}
@@ -19,6 +18,7 @@ use Rattle.mv_catalog.specs.Building.{resolved_of}
 use Rattle.mv_opening.specs.declared.fault.OpeningFault.{OpeningFault}
 use Rattle.mv_opening.specs.declared.fault.OpeningFault.TheVariants as opening
 use Rattle.mv_opening.specs.Opening.{IsOpening, HasNoOpening}
+use Rattle.mv_record.specs.Runs.{Tables}
 use Rattle.mv_accept.specs.declared.refusal.Refusal.{Refusal}
 use Rattle.mv_accept.specs.declared.refusal.Refusal.TheVariants as why
 use Rattle.mv_accept.specs.declared.accept.NotAccepted.{NotAccepted}
@@ -120,9 +120,6 @@ misnamed script f h =
     record { found = tt; only = only_memory script (of_naming f) t; refused = cause_of script (of_naming f) t; told = told_of script (of_naming f) t }
 
 -- The rows that the calls begin with
-abbrev Tables : Type 0
-Tables = List (List Keyed)
-
 abbrev program_of : Resolved → Tables → Program
 program_of resolved tables = record { resolved = resolved; opening = tables }
 

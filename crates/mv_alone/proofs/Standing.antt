@@ -23,16 +23,14 @@ use Rattle.mv_alone.specs.declared.state.Check.{Check}
 use Rattle.mv_alone.specs.declared.state.Env.{Env}
 use Rattle.mv_alone.specs.declared.state.State.{State}
 use Rattle.mv_alone.specs.Outcome.{then_do}
+use Rattle.mv_alone.specs.TableAfter.{Tables}
 use Rattle.mv_alone.specs.Value.{value_of}
 use Rattle.mv_alone.specs.Rows.{meets, fit, checks_of, is_some_row}
 use Rattle.mv_alone.specs.Changes.{with_column, set_row, updated, without, put_row_by, put_row, new_row, keyed}
 use Rattle.mv_alone.specs.Alone.{matches, with_rows, insert, update, delete}
 use Rattle.mv_alone.specs.Own.{StandUnder}
 
-abbrev Tables : Type 0
-Tables = List (List Keyed)
-
-abbrev New : Type 0
+abbrev pub New : Type 0
 New = List Value → Result (List Value) End
 
 abbrev Stands : List ℕ → Keyed → Type 0

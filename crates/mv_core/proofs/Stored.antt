@@ -1,7 +1,6 @@
 -- The tables of a history, and what a store keeps of them.
 use Rattle.std.proofs.Common.{◌≡◌, ◌⊎◌, inl, inr, ℕ, zero, suc, ◌+◌, ◌-◌, ◌<◌, ◌≤◌, Bool, true, false, not, List, [], ◌∷◌, ◌++◌, Option, Some, None, length, take, drop, is_some, refl, sym, ap, subst, ◌∙◌, arith, length-append, rules}
 use Rattle.std.specs.Prelude.{slice_get, nat_lt}
-use Rattle.std.specs.List.{flat_map}
 use Rattle.std.proofs.lemmas.List.{take_all, length-drop}
 use Rattle.std.proofs.lemmas.Bool.{le-ltb, ltb-false, cases_eq}
 use Rattle.mv_values.specs.declared.calls.Call.{Call}
@@ -20,7 +19,7 @@ use Rattle.mv_history.specs.Changes.{changes_between, Covers}
 use Rattle.mv_history.specs.Hits.{is_unhit}
 use Rattle.mv_history.proofs.Covering.{changes_cover}
 use Rattle.mv_history.proofs.Joining.{covers_join}
-use Rattle.mv_history.proofs.Judging.{no_hit_is_unhit}
+use Rattle.mv_history.proofs.Judging.{all_of, no_hit_is_unhit}
 use Rattle.mv_alike.specs.Laws.{AreRuns}
 use Rattle.mv_alike.proofs.Unhit.{unhit_same}
 use Rattle.mv_lawful.specs.declared.fault.Fault.TheVariants.{Stale, Conflict}
@@ -95,10 +94,6 @@ told_run s order c n rs k lt is =
     (told_reply has.1 has.0 db rs rise same ∙ sym (ap (λ (r : Run). r.reply) run), told_tables has.1 has.0 db rs rise same ∙ sym (ap (λ (r : Run). r.tables) run))
 
 -- Records that no commit hits
-
--- the changes of commits, in one list
-abbrev all_of : List (List Change) → List Change
-all_of commits = flat_map (λ changes. changes) commits
 
 covers_after : (tables : List TableInfo) (s : Script) (cs : List ℕ) (db : Tables) → IsScriptOf tables s → IsDatabaseOf tables db
     → Covers (all_of (changes_after (work_of s) db cs)) db (tables_after (work_of s) db cs)

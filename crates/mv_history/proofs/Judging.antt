@@ -5,7 +5,8 @@ use Rattle.mv_record.specs.declared.record.Record.{Record}
 use Rattle.mv_history.specs.declared.change.Change.{Change}
 use Rattle.mv_history.specs.Hits.{hits, any_hits, is_unhit, first_commit, or_later, first_hit}
 
-abbrev all_of : List (List Change) → List Change
+-- the changes of commits, in one list
+abbrev pub all_of : List (List Change) → List Change
 all_of commits = flat_map (λ changes. changes) commits
 
 any_none : (p : Change → Bool) (xs ys : List Change) → list_any p xs ≡ false → list_any p ys ≡ false → list_any p (xs ++ ys) ≡ false

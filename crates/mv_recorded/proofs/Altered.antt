@@ -5,7 +5,7 @@ use Rattle.std.specs.List.{flat_map}
 use Rattle.std.specs.Ordering.{is_eq, ordering_then}
 use Rattle.std.specs.declared.cmp.Ordering.{Ordering}
 use Rattle.std.specs.declared.cmp.Ordering.TheVariants.{Less, Equal, Greater}
-use Rattle.mv_alone.proofs.Standing.{goes_to}
+use Rattle.mv_alone.proofs.Standing.{New, goes_to}
 use Rattle.mv_values.specs.declared.value.Value.{Value}
 use Rattle.mv_values.specs.declared.pred.Pred.{Pred}
 use Rattle.mv_values.specs.declared.patch.Patch.TheVariants as patch
@@ -57,9 +57,6 @@ delete_goes tables t conds env db pred rows h found = λ lines.
 -- UPDATE
 
 -- what SET makes of a row
-abbrev pub New : Type 0
-New = List Value → Result (List Value) End
-
 -- where a row is made of each that matches, the table has rows behind it
 set_all : (t : ℕ) (items : List RSetItem) (new : New) (checks : List Check) (rows : List Keyed) (ws : List Write) → changes t items new (matching checks rows) ≡ Ok ws
     → (out : List Keyed) × (updated new checks rows ≡ Ok out)

@@ -25,12 +25,13 @@ use Rattle.mv_alone.specs.Changes.{new_row, put_row, keyed, updated, set_row, wi
 use Rattle.mv_alone.specs.Alone.{matches, offset_of, fixed, with_rows}
 use Rattle.mv_record.specs.declared.record.Record.{Record}
 use Rattle.mv_record.specs.Runs.{Tables, writes_in}
+use Rattle.mv_alone.proofs.Standing.{New}
 use Rattle.mv_recorded.specs.Asking.{on}
 use Rattle.mv_recorded.specs.Doing.{itself, write}
 use Rattle.mv_recorded.specs.Recorded.{Tells, Site, own_record}
 use Rattle.mv_recorded.proofs.Following.{IsLaw}
 use Rattle.mv_recorded.proofs.Patched.{applied_on, deletes_on, deletes_lead, without_rises, put_leads, put_rises}
-use Rattle.mv_recorded.proofs.Setting.{New, set_writes, sets_on, sets_lead, set_row_makes, updated_rises}
+use Rattle.mv_recorded.proofs.Setting.{set_writes, sets_on, sets_lead, set_row_makes, updated_rises}
 
 -- in each table keys rise
 abbrev pub AllRise : Tables → Type 0

@@ -4,7 +4,7 @@ use Rattle.std.proofs.lemmas.Bool.Decides.{eqb_tells}
 use Rattle.std.proofs.lemmas.List.{get_or-set_other, length-set, ext_get_or}
 use Rattle.std.specs.List.{flat_map, list_any}
 use Rattle.mv_record.proofs.Rising.{Above, Rises}
-use Rattle.mv_alone.proofs.Standing.{goes_to}
+use Rattle.mv_alone.proofs.Standing.{New, goes_to}
 use Rattle.mv_values.specs.declared.value.Value.{Value}
 use Rattle.mv_values.specs.declared.value.Value.TheVariants.{Int}
 use Rattle.mv_values.specs.declared.rows.Keyed.{Keyed}
@@ -84,9 +84,6 @@ assigns_lead (i ∷ is) row new h =
         get_or-set_other row i.column c (column_of new i.column) (Int (pos 0)) apart ∙ h.1 c (apart, none)
 
 -- All rows
-
-abbrev pub New : Type 0
-New = List Value → Result (List Value) End
 
 abbrev pub set_write : ℕ → List RSetItem → Keyed → Result (List Value) End → List Write
 set_write t items item r = on r (λ row. write t item.key (changed items row) ∷ [])

@@ -2,11 +2,10 @@
 use Rattle.std.proofs.Common.{◌≡◌, ◌<◌, ℕ, suc, List, length, sym, ap, subst, ◌∙◌, arith}
 use Rattle.std.proofs.lemmas.Grind.{get_or_default_zero}
 use Rattle.std.specs.Prelude.{slice_get, slice_index_or}
-use Rattle.mv_values.specs.declared.rows.Keyed.{Keyed}
 use Rattle.mv_values.specs.declared.calls.Reply.{Reply}
 use Rattle.mv_catalog.specs.declared.resolved.Program.{Program}
 use Rattle.mv_report.specs.Serial.{serial_text}
-use Rattle.mv_alone.specs.TableAfter.{table_after, reply_of, call_order, first_numbers, IsOrder, RepliesOf}
+use Rattle.mv_alone.specs.TableAfter.{Tables, table_after, reply_of, call_order, first_numbers, IsOrder, RepliesOf}
 use Rattle.mv_top.specs.Serial.{serial_replies, serial}
 use Rattle.mv_top.proofs.Numbers.{length_numbers, index_numbers, told_numbers}
 
@@ -28,9 +27,6 @@ pub replies_in_order : (p : Program) (replies : List Reply) → length replies �
 replies_in_order p replies len told =
     told_numbers replies (λ c. reply_of p (call_order p) (suc c)) (calls_in p) len
     (λ k lt. let within : k < length (call_order p) = omega (arith, length_numbers (calls_in p)) in ap (slice_get replies) (sym (index_numbers (calls_in p) k lt)) ∙ told k within)
-
-abbrev Tables : Type 0
-Tables = List (List Keyed)
 
 -- the text of what the machine left
 pub text_is : (p : Program) (order : List ℕ) (replies : List Reply) (tables : Tables) (text : List ℕ) → order ≡ call_order p

@@ -1,5 +1,5 @@
 -- The answer to a command and its input, and what is written of it.
-use Rattle.std.specs.Prelude.{◌≡◌, ◌≤◌, ◌⊎◌, ℕ, true, false, List, [], ◌∷◌, ◌++◌, Option, Some, None, codes}
+use Rattle.std.specs.Prelude.{◌≡◌, ◌≤◌, ◌⊎◌, ℕ, true, false, List, Option, Some, None, codes}
 use Rattle.std.specs.Option.{ForSome}
 use Rattle.mv_edge.specs.Edge.{Rose, Writes, WritesFront}
 use Rattle.mv_values.specs.declared.calls.Options.{Options}
@@ -7,6 +7,7 @@ use Rattle.mv_catalog.specs.declared.resolved.Program.{Program}
 use Rattle.mv_journal.specs.declared.event.Event.{Event}
 use Rattle.mv_accept.specs.declared.refusal.Refusal.{Refusal as ScriptRefusal}
 use Rattle.mv_accept.specs.Accepting.{Accepts, Refuses}
+use Rattle.mv_report.specs.Text.{line}
 use Rattle.mv_top.specs.declared.refusal.Refusal.{Refusal}
 use Rattle.mv_top.specs.declared.refusal.Refusal.TheVariants.{Script}
 use Rattle.mv_top.specs.Refusals.{number_of, line_of}
@@ -99,9 +100,6 @@ IsNoReader words = (command : Command) → StandFor words command → IsReader c
 
 abbrev pub usage_line : List ℕ
 usage_line = codes "usage: mv3c run|replay|serial|graph|tpcc [options]"
-
-abbrev pub line : List ℕ → List ℕ
-line bytes = bytes ++ 10 ∷ []
 
 -- the answer to these words and to the command's input, if its bytes are known: the status, and what is written
 pub data IsAnswer (words : List (List ℕ)) (left : Option (List ℕ)) : Status → List ℕ → Type 0 where

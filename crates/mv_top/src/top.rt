@@ -8,7 +8,8 @@ ghost use Rattle.mv_words.specs.declared.command.Command.{Command as Task};
 ghost use Rattle.mv_top.specs.declared.refusal.Refusal.{Refusal as Why};
 ghost use Rattle.mv_top.specs.Refusals.{line_of};
 ghost use Rattle.mv_top.specs.Inputs.{IsReader, input_of};
-ghost use Rattle.mv_top.specs.Answers.{IsAnswered, Puts, Wrote, WroteOr, StandFor, TakesBytes, IsNoCommand, IsNoReader, IsTextOf, IsRefusedBy, words_of, line, usage_line};
+ghost use Rattle.mv_top.specs.Answers.{IsAnswered, Puts, Wrote, WroteOr, StandFor, TakesBytes, IsNoCommand, IsNoReader, IsTextOf, IsRefusedBy, words_of, usage_line};
+ghost use Rattle.mv_report.specs.Text.{line};
 
 use crate::answer::answer;
 use crate::input::take_input;

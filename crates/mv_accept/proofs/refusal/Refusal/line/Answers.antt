@@ -1,6 +1,6 @@
 use Rattle.std.proofs.Common.{refl}
 use Rattle.std.specs.Prelude.{codes}
-use Rattle.mv_accept.proofs.Printing.{all_printable}
+use Rattle.mv_csvio.proofs.Values.{all_printable}
 use Rattle.mv_accept.proofs.refusal.Refusal.line.Goals as goal
 
 pub numbered-requires-in-Syntax : goal.numbered-requires-in-Syntax
