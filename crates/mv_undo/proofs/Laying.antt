@@ -1,5 +1,6 @@
 -- The rows of a predicate behind own writes.
-use Rattle.std.proofs.Common.{◌≡◌, ◌≤◌, drop, ℕ, zero, suc, Bool, true, false, cond, List, [], ◌∷◌, Option, None, length, refl, sym, ap, subst, ◌∙◌, arith}
+use Rattle.std.proofs.Common.{◌≡◌, ◌≤◌, drop, slice_index_or, ℕ, zero, suc, ◌+◌, ◌<◌, Bool, true, false, cond, List, [], ◌∷◌, Option, None, length, refl, sym, ap, subst, ◌∙◌, arith}
+use Rattle.std.proofs.lemmas.List.{drop_more}
 use Rattle.std.specs.Prelude.{◌&&◌, ◌||◌}
 use Rattle.std.specs.Ordering.{is_eq}
 use Rattle.mv_values.specs.declared.value.Value.{Value}
@@ -94,6 +95,12 @@ laid_found pred ws rows own ks db sought seen =
     by key false p a q =
         ap (λ b. cond b (new_row pred ws own key) (row_of rows key)) (ap (λ b. b && admits pred key) p)
         ∙ (old key ∙ ap (matched pred) (sym (new key ∙ untouched pred.table key ws (row_of (rows_at db pred.table) key) p)))
+
+-- one key after another
+pub laid_step : (pred : Pred) (ws : List Write) (own : List Keyed) (ks : List (List Value)) (i : ℕ) (k : List Value) (row : Option (List Value)) (now later : List Keyed) → i < length ks → k ≡ slice_index_or ks i k
+    → row ≡ new_row pred ws own k → later ≡ placed k row now → laid pred ws own (drop (i + 1) ks) later ≡ laid pred ws own (drop i ks) now
+laid_step pred ws own ks i k row now later lt is new put =
+    ap (laid pred ws own (drop (i + 1) ks)) (put ∙ ap (λ r. placed k r now) new) ∙ ap (λ l. laid pred ws own l now) (sym (drop_more ks i k lt ∙ ap (λ j. j ∷ drop (i + 1) ks) (sym is)))
 
 laid_past : (pred : Pred) (ws : List Write) (own : List Keyed) (ks : List (List Value)) (i : ℕ) (rows : List Keyed) → length ks ≤ i → laid pred ws own (drop i ks) rows ≡ rows
 laid_past pred ws own [] zero rows le = refl

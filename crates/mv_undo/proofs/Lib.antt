@@ -1,5 +1,6 @@
 pub mod Owning
 pub mod Laying
+pub mod Merging
 pub mod KeyPlaces
 pub mod Indexing
 pub mod Looking

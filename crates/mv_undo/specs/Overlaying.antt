@@ -1,9 +1,11 @@
 -- What a call sees of a database before its own writes.
-use Rattle.std.specs.Prelude.{◌≡◌, ◌<◌, List, None, length, if◌then◌else◌}
+use Rattle.std.specs.Prelude.{◌≡◌, ◌<◌, Bool, false, List, [], ◌∷◌, None, length, if◌then◌else◌}
+use Rattle.std.specs.Ordering.{is_le}
 use Rattle.mv_values.specs.declared.value.Value.{Value}
 use Rattle.mv_values.specs.declared.rows.Keyed.{Keyed}
 use Rattle.mv_values.specs.declared.patch.Write.{Write}
 use Rattle.mv_values.specs.declared.pred.Pred.{Pred}
+use Rattle.mv_values.specs.Order.{key_order}
 use Rattle.mv_values.specs.Patching.{row_of, applied, found_by}
 use Rattle.mv_values.specs.Tables.{rows_at}
 use Rattle.mv_record.specs.Writes.{AreRising}
@@ -20,3 +22,8 @@ pub record IsSeen (pred : Pred) (ws : List Write) (rows own : List Keyed) (db : 
   pub old : (key : List Value) → row_of own key ≡ (if is_sought pred ws key then row_of (rows_at db pred.table) key else None)
   pub before : Admitted pred (rows_at db pred.table)
   pub behind : Admitted pred (rows_at (applied ws db) pred.table)
+
+-- the key of the first row is at most this one
+abbrev pub begins_up_to : List Value → List Keyed → Bool
+begins_up_to key [] = false
+begins_up_to key (item ∷ items) = is_le (key_order item.key key)

@@ -3,6 +3,7 @@
 
 mod index;
 mod lookup;
+mod merge;
 mod overlay;
 pub mod owned;
 pub mod undo;

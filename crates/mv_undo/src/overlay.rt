@@ -7,8 +7,9 @@ ghost use Rattle.mv_values.specs.Preds.{matched};
 ghost use Rattle.mv_undo.specs.Owning.{earlier};
 ghost use Rattle.mv_undo.specs.Overlaying.{IsSeen};
 
+use crate::merge::Merge;
 use crate::undo::Undo;
-use mv_record::applying::{find_row, put_row};
+use mv_record::applying::find_row;
 use mv_values::memory::NoMemory;
 use mv_values::pred::Pred;
 use mv_values::rows::Rows;
@@ -28,6 +29,7 @@ fn matched(pred: &Pred, row: Option<Row>) -> Option<Row>
 impl Undo {
     /// Returns the predicate's rows after the writes of records below `number`. `rows` are its rows before these
     /// writes. `own` are the database's rows before them at the keys that `keys` returns. Fails if memory runs out.
+    /// Moves each row once.
     pub fn overlay(
         &self,
         alloc: Global,
@@ -39,11 +41,11 @@ impl Undo {
         ensures { IfOk result (λ after. (db : List (List Keyed)) → IsSeen pred.now (earlier number self.now) rows own db → after ≡ found_by pred.now (applied (earlier number self.now) db)) }
     {
         let keys = self.keys(alloc, number, pred)?;
-        let mut rows = rows;
+        let mut merge = Merge::of(alloc, rows);
         for key in keys.as_slice() {
             let row = self.row_behind(alloc, number, pred.table, key, find_row(&own, key))?;
-            put_row(alloc, &mut rows, key, matched(pred, row))?;
+            merge.put(alloc, key, matched(pred, row))?;
         }
-        Ok(rows)
+        merge.into_rows()
     }
 }
