@@ -5,3 +5,4 @@ pub mod Admitting
 pub mod Effects
 pub mod Databases
 pub mod Samples
+pub mod Composing

@@ -16,7 +16,7 @@ use mv_values::value::{Key, Row};
 use std::alloc::Global;
 
 /// Returns the row with columns set, in order. Skips columns that the row doesn't have.
-fn set_columns(alloc: Global, row: &Row, items: &[Assign]) -> Result<Row, NoMemory>
+pub(crate) fn set_columns(alloc: Global, row: &Row, items: &[Assign]) -> Result<Row, NoMemory>
     ensures { IfOk result (λ new. new ≡ with_columns items.now row.now) }
 {
     let mut new = row.copy(alloc)?;

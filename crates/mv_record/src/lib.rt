@@ -2,5 +2,6 @@
 #![tactic(auto)]
 
 pub mod applying;
+pub mod composing;
 pub mod effect;
 pub mod record;
