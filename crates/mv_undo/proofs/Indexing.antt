@@ -26,7 +26,7 @@ use Rattle.mv_undo.proofs.KeyPlaces.{parted_below, parted_by_key, above_le, belo
 
 -- A write on a key
 
-on_full : (t : ℕ) (key : List Value) (o : Owned) → is_on t key o.write ≡ true → full_key o ≡ Int (pos t) ∷ key
+pub on_full : (t : ℕ) (key : List Value) (o : Owned) → is_on t key o.write ≡ true → full_key o ≡ Int (pos t) ∷ key
 on_full t key o on =
     let two = both_so (o.write.table == t) (is_eq (key_order o.write.key key)) on in
     ap (λ n. Int (pos n) ∷ o.write.key) (alike o.write.table t two.0) ∙ ap (λ k. Int (pos t) ∷ k) (exact_keys o.write.key key (equal_is (key_order o.write.key key) two.1))
@@ -34,19 +34,19 @@ on_full t key o on =
 below_misses : (o : Ordering) → is_lt o ≡ true → o ≡ Equal → ⊥
 below_misses o lt e = let no : is_lt Equal ≡ true = subst (λ p. is_lt p ≡ true) e lt in cc
 
-above_misses : (o : Ordering) → is_le o ≡ false → o ≡ Equal → ⊥
+pub above_misses : (o : Ordering) → is_le o ≡ false → o ≡ Equal → ⊥
 above_misses o le e = let no : is_le Equal ≡ false = subst (λ p. is_le p ≡ false) e le in cc
 
-off : (b : Bool) → (b ≡ true → ⊥) → b ≡ false
+pub off : (b : Bool) → (b ≡ true → ⊥) → b ≡ false
 off true h = absurd (h refl)
 off false h = refl
 
 -- Places one after another
 
-on_append : (items : List Owned) (t : ℕ) (key : List Value) (xs ys : List ℕ) → owned_on t key (lined items (xs ++ ys)) ≡ owned_on t key (lined items xs) ++ owned_on t key (lined items ys)
+pub on_append : (items : List Owned) (t : ℕ) (key : List Value) (xs ys : List ℕ) → owned_on t key (lined items (xs ++ ys)) ≡ owned_on t key (lined items xs) ++ owned_on t key (lined items ys)
 on_append items t key xs ys = ap (owned_on t key) (map-append (owned_at items) xs ys) ∙ filter-append (λ (o : Owned). is_on t key o.write) (lined items xs) (lined items ys)
 
-none_on : (items : List Owned) (t : ℕ) (key : List Value) (xs : List ℕ) → ((k d : ℕ) → k < length xs → is_on t key (owned_at items (slice_index_or xs k d)).write ≡ false) → owned_on t key (lined items xs) ≡ []
+pub none_on : (items : List Owned) (t : ℕ) (key : List Value) (xs : List ℕ) → ((k d : ℕ) → k < length xs → is_on t key (owned_at items (slice_index_or xs k d)).write ≡ false) → owned_on t key (lined items xs) ≡ []
 none_on items t key [] h = refl
 none_on items t key (x ∷ xs) h =
     let first : is_on t key (owned_at items x).write ≡ false = h zero x (omega arith) in
@@ -144,12 +144,12 @@ part_within order n from to high h k d lt =
 
 -- One more write
 
-at_more : (items : List Owned) (o : Owned) (p : ℕ) → p < length items → owned_at (items ++ o ∷ []) p ≡ owned_at items p
+pub at_more : (items : List Owned) (o : Owned) (p : ℕ) → p < length items → owned_at (items ++ o ∷ []) p ≡ owned_at items p
 at_more [] o p lt = absurd (omega (arith, lt))
 at_more (x ∷ xs) o zero lt = refl
 at_more (x ∷ xs) o (suc p) lt = at_more xs o p (omega (arith, lt))
 
-at_last : (items : List Owned) (o : Owned) → owned_at (items ++ o ∷ []) (length items) ≡ o
+pub at_last : (items : List Owned) (o : Owned) → owned_at (items ++ o ∷ []) (length items) ≡ o
 at_last [] o = refl
 at_last (x ∷ xs) o = at_last xs o
 
@@ -262,7 +262,7 @@ indexed_more items order o at ix high search' = record { within = inside; sorted
 
 -- Fewer writes
 
-at_take : (items : List Owned) (n p : ℕ) → p < n → owned_at (take n items) p ≡ owned_at items p
+pub at_take : (items : List Owned) (n p : ℕ) → p < n → owned_at (take n items) p ≡ owned_at items p
 at_take items zero p lt = absurd (omega (arith, lt))
 at_take [] (suc n) p lt = refl
 at_take (x ∷ xs) (suc n) zero lt = refl

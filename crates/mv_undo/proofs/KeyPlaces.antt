@@ -54,7 +54,7 @@ equal_is Greater h = cc
 pub alike : (a b : ℕ) → (a == b) ≡ true → a ≡ b
 alike a b h = grind (arith, eqb_tells)
 
-lt_trans : (a b k : List Value) → is_le (key_order a b) ≡ true → is_lt (key_order b k) ≡ true → is_lt (key_order a k) ≡ true
+pub lt_trans : (a b k : List Value) → is_le (key_order a b) ≡ true → is_lt (key_order b k) ≡ true → is_lt (key_order a k) ≡ true
 lt_trans a b k h g = by (key_order a b) (key_order b k) refl refl h g
   where
     by : (o p : Ordering) → key_order a b ≡ o → key_order b k ≡ p → is_le o ≡ true → is_lt p ≡ true → is_lt (key_order a k) ≡ true

@@ -4,3 +4,4 @@ pub mod Merging
 pub mod KeyPlaces
 pub mod Indexing
 pub mod Looking
+pub mod Composing

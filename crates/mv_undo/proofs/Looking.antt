@@ -1,5 +1,5 @@
 -- What a part of the writes tells, where it has those on a key.
-use Rattle.std.proofs.Common.{All, insert, ◌++◌, inl, inr, length-append, Result, Ok, Err, IfOk, ◌+◌, drop, length, slice_index_or, arith, ◌≡◌, ℕ, zero, suc, ◌<◌, ◌≤◌, Bool, true, false, cond, List, [], ◌∷◌, Option, map, refl, sym, ap, subst, ◌∙◌}
+use Rattle.std.proofs.Common.{All, insert, ◌++◌, inl, inr, length-append, Result, Ok, Err, IfOk, ◌+◌, drop, length, slice_index_or, arith, ◌≡◌, ℕ, zero, suc, ◌<◌, ◌≤◌, Bool, true, false, cond, List, [], ◌∷◌, map, refl, sym, ap, subst, ◌∙◌}
 use Rattle.std.proofs.Math.ListN.{drop_of_length-le, get_or-append}
 use Rattle.std.proofs.Math.Seq.{get_or-append_seam}
 use Rattle.std.proofs.lemmas.Bool.{cases_lt}
@@ -9,11 +9,11 @@ use Rattle.std.specs.List.{list_any}
 use Rattle.mv_values.specs.declared.value.Value.{Value}
 use Rattle.mv_values.specs.declared.pred.Pred.{Pred}
 use Rattle.mv_values.specs.Preds.{admits}
-use Rattle.mv_record.specs.Writes.{is_on, writes_on, patched_by}
+use Rattle.mv_record.specs.Writes.{is_on, writes_on}
 use Rattle.mv_undo.specs.declared.owned.Owned.{Owned}
 use Rattle.mv_undo.specs.Owning.{IsInOrder, before, earlier, is_earlier_on, touches, is_sought, AreSought}
 use Rattle.mv_undo.specs.Indexing.{IsIndexed, owned_on, owned_at, lined}
-use Rattle.mv_undo.proofs.Owning.{behind, writes_earlier, touches_earlier}
+use Rattle.mv_undo.proofs.Owning.{writes_earlier, touches_earlier}
 
 any_on : (n t : ℕ) (key : List Value) (xs : List Owned) → list_any (is_earlier_on n t key) xs ≡ list_any (λ o. nat_lt o.number n) (owned_on t key xs)
 any_on n t key [] = refl
@@ -30,7 +30,7 @@ pub same_touches : (n t : ℕ) (key : List Value) (xs ys : List Owned) → owned
 same_touches n t key xs ys h =
     sym (touches_earlier n t key xs) ∙ (any_on n t key xs ∙ (ap (list_any (λ o. nat_lt o.number n)) h ∙ (sym (any_on n t key ys) ∙ touches_earlier n t key ys)))
 
-writes_are : (n t : ℕ) (key : List Value) (xs : List Owned) → writes_on t key (earlier n xs) ≡ map (λ o. o.write) (before n (owned_on t key xs))
+pub writes_are : (n t : ℕ) (key : List Value) (xs : List Owned) → writes_on t key (earlier n xs) ≡ map (λ o. o.write) (before n (owned_on t key xs))
 writes_are n t key [] = refl
 writes_are n t key (x ∷ xs) = writes_earlier n t key x xs ∙ by (is_on t key x.write) (nat_lt x.number n) refl (writes_are n t key xs)
   where
@@ -40,10 +40,6 @@ writes_are n t key (x ∷ xs) = writes_earlier n t key x xs ∙ by (is_on t key 
     by true false e more = rw e more
     by false true e more = more
     by false false e more = more
-
-pub same_behind : (n t : ℕ) (key : List Value) (xs ys : List Owned) (row : Option (List Value)) → owned_on t key xs ≡ owned_on t key ys → behind n t key xs row ≡ behind n t key ys row
-same_behind n t key xs ys row h =
-    ap (λ ws. patched_by ws row) (writes_are n t key xs ∙ (ap (λ l. map (λ (o : Owned). o.write) (before n l)) h ∙ sym (writes_are n t key ys)))
 
 pub same_sought : (n : ℕ) (pred : Pred) (xs ys : List Owned) (ks : List (List Value)) → ((key : List Value) → admits pred key ≡ true → owned_on pred.table key xs ≡ owned_on pred.table key ys) → AreSought pred (earlier n xs) ks → AreSought pred (earlier n ys) ks
 same_sought n pred xs ys ks h sought = record { rising = sought.rising; are = λ key. sought.are key ∙ by key (admits pred key) refl }

@@ -15,11 +15,11 @@ use Rattle.mv_values.specs.declared.rows.Keyed.{Keyed}
 use Rattle.mv_values.specs.declared.pred.Pred.{Pred}
 use Rattle.mv_values.specs.Keys.{IsRising}
 use Rattle.mv_values.specs.Order.{key_order}
-use Rattle.mv_values.specs.Patching.{row_of, patched, placed}
+use Rattle.mv_values.specs.Patching.{row_of, placed}
 use Rattle.mv_values.specs.Preds.{admits}
 use Rattle.mv_values.proofs.KeyOrder.{exact_keys}
 use Rattle.mv_table.proofs.Points.{parted}
-use Rattle.mv_record.specs.Writes.{is_on, writes_on, patched_by}
+use Rattle.mv_record.specs.Writes.{is_on, writes_on}
 use Rattle.mv_record.proofs.Patching.{row_of-placed_same, placed_other, rising_placed}
 use Rattle.mv_undo.specs.declared.owned.Owned.{Owned}
 use Rattle.mv_undo.specs.Owning.{IsInOrder, before, earlier, is_earlier_on, touches, is_sought, is_wanted, is_among, AreSought}
@@ -68,16 +68,6 @@ writes_earlier n t key x xs = by (nat_lt x.number n)
     by : (b : Bool) → writes_on t key (map (λ o. o.write) (cond b (x ∷ before n xs) (before n xs))) ≡ cond (b && is_on t key x.write) (x.write ∷ writes_on t key (earlier n xs)) (writes_on t key (earlier n xs))
     by true = refl
     by false = refl
-
--- the row behind the writes from a place on
-abbrev pub behind : ℕ → ℕ → List Value → List Owned → Option (List Value) → Option (List Value)
-behind n t key xs row = patched_by (writes_on t key (earlier n xs)) row
-
-pub behind_one : (n t : ℕ) (key : List Value) (x : Owned) (xs : List Owned) (row : Option (List Value)) → is_earlier_on n t key x ≡ true → behind n t key (x ∷ xs) row ≡ behind n t key xs (patched x.write.patch row)
-behind_one n t key x xs row h = ap (λ ws. patched_by ws row) (writes_earlier n t key x xs ∙ ap (λ b. cond b (x.write ∷ writes_on t key (earlier n xs)) (writes_on t key (earlier n xs))) h)
-
-pub behind_other : (n t : ℕ) (key : List Value) (x : Owned) (xs : List Owned) (row : Option (List Value)) → is_earlier_on n t key x ≡ false → behind n t key (x ∷ xs) row ≡ behind n t key xs row
-behind_other n t key x xs row h = ap (λ ws. patched_by ws row) (writes_earlier n t key x xs ∙ ap (λ b. cond b (x.write ∷ writes_on t key (earlier n xs)) (writes_on t key (earlier n xs))) h)
 
 -- The keys
 

@@ -1,14 +1,17 @@
 //! An index of the own writes by table and key.
 
-ghost use Rattle.std.specs.Prelude.{◌≡◌, ◌<◌, ◌≤◌, ◌∷◌, ◌++◌, [], ℕ, true, pos, All, List, length, slice_get, slice_range};
+ghost use Rattle.std.specs.Prelude.{◌≡◌, ◌<◌, ◌≤◌, ◌∷◌, ◌++◌, [], ℕ, true, nat_lt, pos, All, List, Option, length, take, slice_get, slice_range};
 ghost use Rattle.std.specs.List.{insert};
 ghost use Rattle.std.specs.Option.{option_copied};
 ghost use Rattle.std.specs.Ordering.{is_le};
+ghost use Rattle.mv_values.specs.declared.patch.Patch.{Patch};
 ghost use Rattle.mv_values.specs.declared.value.Value.{Value};
 ghost use Rattle.mv_values.specs.declared.value.Value.TheVariants.{Int};
 ghost use Rattle.mv_values.specs.Order.{value_order, key_order};
 ghost use Rattle.mv_table.specs.Spans.{is_within, IsForward};
-ghost use Rattle.mv_undo.specs.Indexing.{IsIndexed, IsCut, is_below, is_up_to, end_in, key_at, lined, owned_on};
+ghost use Rattle.mv_record.specs.Writes.{writes_on};
+ghost use Rattle.mv_undo.specs.Owning.{IsInOrder, earlier};
+ghost use Rattle.mv_undo.specs.Indexing.{IsIndexed, IsComposed, IsCut, Does, is_below, is_up_to, is_earlier_up_to, end_in, key_at, lined, owned_at, owned_on, patch_or, writes_at};
 
 use crate::owned::Owned;
 use mv_table::span::Span;
@@ -51,10 +54,33 @@ fn compare_at(items: &[Owned], place: usize, table: u16, key: &[Value]) -> Order
     }
 }
 
+/// Whether a record below `number` made the write at a place.
+fn is_earlier_at(items: &[Owned], place: usize, number: usize) -> bool
+    ensures { result ≡ nat_lt (owned_at items.now place).number number }
+{
+    match at(items, place) {
+        Some(owned) => owned.is_before(number),
+        None => 0 < number,
+    }
+}
+
+/// Whether the write at a place is to a lower key, or to this key of this table and by a record below `number`.
+fn is_earlier_up_to(items: &[Owned], place: usize, number: usize, table: u8, key: &[Value]) -> bool
+    ensures { result ≡ is_earlier_up_to items.now number (Int (pos table) ∷ key.now) place }
+{
+    match compare_at(items, place, table as u16, key) {
+        Ordering::Less => true,
+        Ordering::Equal => is_earlier_at(items, place, number),
+        Ordering::Greater => false,
+    }
+}
+
 /// Returns the index in `order` at which a new last write belongs. Costs the logarithm of the number of writes.
 pub(crate) fn place_for(items: &[Owned], order: &[usize], write: &Write) -> usize
     requires { IsIndexed items.now order.now }
     ensures within { result ≤ length order.now }
+    ensures up_to { All (λ place. is_up_to items.now (Int (pos write.now.table) ∷ write.now.key) place ≡ true) (take result order.now) }
+    ensures composed { (number : ℕ) (composed : List (Option Patch)) (made : Option Patch) → IsComposed items.now composed order.now → Does (patch_or made write.now.patch) (writes_on write.now.table write.now.key (writes_at items.now (take result order.now)) ++ write.now ∷ []) → IsComposed (items.now ++ record { number = number; write = write.now } ∷ []) (composed ++ made ∷ []) (insert order.now result (length items.now)) }
     ensures indexed { (number : ℕ) → IsIndexed (items.now ++ record { number = number; write = write.now } ∷ []) (insert order.now result (length items.now)) }
 {
     order.partition_point(
@@ -97,6 +123,28 @@ fn count_up_to(items: &[Owned], order: &[usize], table: u16, key: &[Value]) -> u
         |place: &usize| -> bool
             ensures { result ≡ is_up_to items.entry.now (Int (pos table) ∷ key.entry.now) place.now }
         { compare_at(items, *place, table, key).is_le() },
+    )
+}
+
+/// Counts the places whose writes are below a key of a table, or on it and by records below `number`. Costs the
+/// logarithm of the number of writes.
+pub(crate) fn count_earlier(
+    items: &[Owned],
+    order: &[usize],
+    number: usize,
+    table: u8,
+    key: &[Value],
+) -> usize
+    requires indexed { IsIndexed items.now order.now }
+    requires numbers { IsInOrder items.now }
+    ensures within { result ≤ length order.now }
+    ensures up_to { All (λ place. is_up_to items.now (Int (pos table) ∷ key.now) place ≡ true) (take result order.now) }
+    ensures writes { writes_on table key.now (writes_at items.now (take result order.now)) ≡ writes_on table key.now (earlier number items.now) }
+{
+    order.partition_point(
+        |place: &usize| -> bool
+            ensures { result ≡ is_earlier_up_to items.entry.now number (Int (pos table) ∷ key.entry.now) place.now }
+        { is_earlier_up_to(items, *place, number, table, key) },
     )
 }
 

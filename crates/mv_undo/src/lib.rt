@@ -6,4 +6,5 @@ mod lookup;
 mod merge;
 mod overlay;
 pub mod owned;
+mod state;
 pub mod undo;

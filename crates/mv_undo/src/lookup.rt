@@ -3,12 +3,11 @@
 ghost use Rattle.std.specs.Prelude.{◌≡◌, ◌<◌, length, map, All, IfOk};
 ghost use Rattle.std.specs.List.{list_any};
 ghost use Rattle.std.specs.Option.{option_copied};
-ghost use Rattle.mv_record.specs.Writes.{writes_on, patched_by};
 ghost use Rattle.mv_undo.specs.Indexing.{owned_at, lined};
 ghost use Rattle.mv_undo.specs.Owning.{earlier, is_earlier_on, is_wanted, AreSought};
 
 use crate::owned::Owned;
-use mv_record::applying::{patch_row, put_row};
+use mv_record::applying::put_row;
 use mv_values::copied::Copied;
 use mv_values::list::List;
 use mv_values::memory::NoMemory;
@@ -18,7 +17,7 @@ use mv_values::value::{Key, Row};
 use std::alloc::Global;
 
 /// Returns the write at a place.
-fn write_at(items: &[Owned], place: usize) -> &Owned
+pub(crate) fn write_at(items: &[Owned], place: usize) -> &Owned
     requires { place < length items.now }
     ensures { result.now ≡ owned_at items.now place }
 {
@@ -49,30 +48,6 @@ pub(crate) fn is_some_on(
         }
     }
     false
-}
-
-/// Returns the row after the writes at these places to the key that earlier records made.
-pub(crate) fn patched_at(
-    alloc: Global,
-    items: &[Owned],
-    places: &[usize],
-    number: usize,
-    table: u8,
-    key: &Key,
-    was: Option<&Row>,
-) -> Result<Option<Row>, NoMemory>
-    requires { All (λ place. place < length items.now) places.now }
-    ensures { IfOk result (λ row. row ≡ patched_by (writes_on table key.now (earlier number (lined items.now places.now))) (option_copied was.entry)) }
-{
-    let mut row = copy_of(alloc, was)?;
-    for place in places {
-        let owned = write_at(items, *place);
-        if !owned.is_earlier_on(number, table, key) {
-            continue;
-        }
-        row = patch_row(alloc, &owned.write.patch, row.as_ref())?;
-    }
-    Ok(row)
 }
 
 /// Returns the keys of the writes at these places that `is_sought` accepts, each once, in order.
@@ -109,7 +84,7 @@ fn keys_of(alloc: Global, rows: Rows) -> Result<List<Key>, NoMemory>
 }
 
 /// Returns a copy of a row, if any.
-fn copy_of(alloc: Global, row: Option<&Row>) -> Result<Option<Row>, NoMemory>
+pub(crate) fn copy_of(alloc: Global, row: Option<&Row>) -> Result<Option<Row>, NoMemory>
     ensures { IfOk result (λ copy. copy ≡ option_copied row.entry) }
 {
     match row {

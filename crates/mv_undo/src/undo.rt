@@ -5,38 +5,42 @@ ghost use Rattle.std.specs.Option.{option_copied};
 ghost use Rattle.mv_record.specs.Writes.{writes_on, patched_by};
 ghost use Rattle.mv_undo.specs.Owning.{IsInOrder, before, earlier, touches, AreSought};
 
-use crate::index::{place_for, places_in, places_on};
-use crate::lookup::{is_some_on, keys_at, patched_at};
+use crate::index::{count_earlier, place_for, places_in, places_on};
+use crate::lookup::{copy_of, is_some_on, keys_at};
 use crate::owned::Owned;
+use crate::state::{patch_before, patch_with};
+use mv_record::applying::patch_row;
 use mv_table::span::Span;
 use mv_values::list::List;
 use mv_values::memory::NoMemory;
-use mv_values::patch::Write;
+use mv_values::patch::{Patch, Write};
 use mv_values::pred::Pred;
 use mv_values::value::{Key, Row};
 use std::alloc::Global;
 use std::marker::Model;
 
 /// The writes of a running call, each with the number of its record. Contracts see them in the order of `push`. `order`
-/// has their places by table and key; writes to one key keep the order of `push`.
+/// has their places by table and key; writes to one key keep the order of `push`. `composed` has for each write the
+/// patch that does what the writes to its key do up to it, or `None` where its own patch does.
 #[derive(Drop)]
 pub struct Undo {
+    alloc: Global,
     items: Vec<Owned>,
+    composed: Vec<Option<Patch>>,
     order: Vec<usize>,
 }
 
 impl Model for Undo {
     ghost use Rattle.std.specs.Prelude.{List as Seq};
     ghost use Rattle.mv_undo.specs.declared.owned.Owned.{Owned};
-    ghost use Rattle.mv_undo.specs.Indexing.{lined};
     ghost use Rattle.mv_undo.specs.Owning.{IsInOrder};
-    ghost use Rattle.mv_undo.specs.Indexing.{IsIndexed};
+    ghost use Rattle.mv_undo.specs.Indexing.{IsIndexed, IsComposed};
 
     ghost Value = { Seq Owned };
 
     ghost view = { λ u. u.items.items };
 
-    ghost invariant = { λ u. IsInOrder u.items.items × IsIndexed u.items.items u.order.items };
+    ghost invariant = { λ u. IsInOrder u.items.items × IsIndexed u.items.items u.order.items × IsComposed u.items.items u.composed.items u.order.items };
 }
 
 impl Undo {
@@ -45,7 +49,9 @@ impl Undo {
         ensures { result ≡ [] }
     {
         Undo {
+            alloc,
             items: Vec::new(alloc),
+            composed: Vec::new(alloc),
             order: Vec::new(alloc),
         }
     }
@@ -59,16 +65,23 @@ impl Undo {
     }
 
     /// Appends a write. `number` may not be below that of the last write. Fails if memory runs out; nothing is then
-    /// added. Costs the logarithm of the number of writes, and moves one place for each write to a greater key.
+    /// added. Costs the logarithm of the number of writes, and moves one place for each write to a greater key. A
+    /// `Patch::Set` after another write to its key also costs the size of the row.
     pub fn push(&mut self, number: usize, write: Write) -> Result<(), NoMemory>
         requires { All (λ o. o.number ≤ number) self.old }
         ensures ok { OnOk result (self.new ≡ self.old ++ record { number = number; write = write } ∷ []) }
         ensures err { OnErr result (self.new ≡ self.old) }
     {
-        let at = place_for(self.items.as_slice(), self.order.as_slice(), &write);
+        let items = self.items.as_slice();
+        let order = self.order.as_slice();
+        let at = place_for(items, order, &write);
+        let composed = self.composed.as_slice();
+        let patch = patch_with(self.alloc, items, composed, order, at, &write)?;
         let last = self.items.len();
         self.items.reserve(1)?;
+        self.composed.reserve(1)?;
         self.order.insert(at, last)?;
+        self.composed.push(patch)?;
         self.items.push(Owned { number, write })?;
         Ok(())
     }
@@ -84,6 +97,7 @@ impl Undo {
             { owned.is_before(number) },
         );
         self.items.truncate(len);
+        self.composed.truncate(len);
         self.order.retain(
             |place: &usize| -> bool
                 ensures { result ≡ nat_lt place.now len }
@@ -113,7 +127,8 @@ impl Undo {
         keys_at(alloc, items, places, number, pred)
     }
 
-    /// Returns the row after the writes to a key by records below `number`, given the row before them, if any.
+    /// Returns the row after the writes to a key by records below `number`, given the row before them, if any. Fails if
+    /// memory runs out. Costs the logarithm of the number of writes, and the size of the row.
     pub(crate) fn row_behind(
         &self,
         alloc: Global,
@@ -125,7 +140,12 @@ impl Undo {
         ensures { IfOk result (λ row. row ≡ patched_by (writes_on table key.now (earlier number self.now)) (option_copied was.entry)) }
     {
         let items = self.items.as_slice();
-        let places = places_on(items, self.order.as_slice(), table, key.as_slice());
-        patched_at(alloc, items, places, number, table, key, was)
+        let composed = self.composed.as_slice();
+        let order = self.order.as_slice();
+        let index = count_earlier(items, order, number, table, key.as_slice());
+        match patch_before(items, composed, order, index, table, key) {
+            Some(patch) => patch_row(alloc, patch, was),
+            None => copy_of(alloc, was),
+        }
     }
 }
