@@ -1,13 +1,18 @@
-//! Which keys own writes touched, worked out by hand. The scripts of `mv_tests` test what is seen after them.
+//! Which keys own writes touched, and which rows are seen after them, worked out by hand.
 
 ghost use Rattle.std.specs.Prelude.{◌↔◌, ◌≤◌, IsTrue, All};
 
 use crate::cases::ensure_at;
 use crate::values::row;
+use mv_record::applying::put_row;
 use mv_undo::owned::Owned;
 use mv_undo::undo::Undo;
+use mv_values::list::List;
 use mv_values::memory::NoMemory;
-use mv_values::patch::{Patch, Write};
+use mv_values::patch::{Assign, Patch, Write};
+use mv_values::pred::Pred;
+use mv_values::rows::{Keyed, Rows};
+use mv_values::value::{Value, are_same};
 use std::alloc::Global;
 use std::test::Fail;
 
@@ -28,17 +33,22 @@ const WRITTEN: &[Written] = &[
 ];
 
 /// Adds a write of a record whose number isn't less than those before it.
-fn push(alloc: Global, undo: &mut Undo, written: &Written) -> Result<(), Fail> {
-    let (number, table, numbers) = *written;
+fn push_write(undo: &mut Undo, number: usize, write: Write) -> Result<(), Fail> {
     if !is_last(undo.as_slice(), number) {
         return Err("a lower number".into());
     }
+    Ok(undo.push(number, write)?)
+}
+
+/// The same with a deletion.
+fn push(alloc: Global, undo: &mut Undo, written: &Written) -> Result<(), Fail> {
+    let (number, table, numbers) = *written;
     let write = Write {
         table,
         key: row(alloc, &numbers)?,
         patch: Patch::Delete,
     };
-    Ok(undo.push(number, write)?)
+    push_write(undo, number, write)
 }
 
 fn undo_of(alloc: Global) -> Result<Undo, Fail> {
@@ -110,4 +120,165 @@ fn writes_of_later_records_are_dropped(rt: HostRuntime) -> Result<(), Fail> {
         ensure_at(alloc, drops_as_told(alloc, case)?, i)?;
     }
     Ok(())
+}
+
+/// What a write does: insert a row with these values after its key, set a column, or delete the row.
+#[derive(Clone, Copy)]
+enum Kind {
+    Insert(i64, i64),
+    Set(u8, i64),
+    Delete,
+}
+
+/// A record's number, a key, and what its write does.
+type Change = (usize, i64, Kind);
+
+/// Rows of a key and two values.
+type Numbers = &'static [[i64; 3]];
+
+const BEFORE: Numbers = &[[1, 10, 10], [3, 30, 30], [5, 50, 50]];
+
+const CHANGES: &[Change] = &[
+    (0, 1, Kind::Set(1, 11)),
+    (1, 1, Kind::Set(2, 12)),
+    (2, 1, Kind::Set(1, 13)),
+    (3, 2, Kind::Insert(20, 20)),
+    (4, 2, Kind::Delete),
+    (5, 2, Kind::Insert(21, 21)),
+    (6, 2, Kind::Set(2, 22)),
+    (7, 3, Kind::Delete),
+    (7, 4, Kind::Set(1, 41)),
+    (8, 3, Kind::Set(1, 31)),
+    (9, 0, Kind::Insert(1, 1)),
+    (9, 9, Kind::Insert(90, 90)),
+];
+
+/// The rows that each record sees.
+const SEEN: &[Numbers] = &[
+    BEFORE,
+    &[[1, 11, 10], [3, 30, 30], [5, 50, 50]],
+    &[[1, 11, 12], [3, 30, 30], [5, 50, 50]],
+    &[[1, 13, 12], [3, 30, 30], [5, 50, 50]],
+    &[[1, 13, 12], [2, 20, 20], [3, 30, 30], [5, 50, 50]],
+    &[[1, 13, 12], [3, 30, 30], [5, 50, 50]],
+    &[[1, 13, 12], [2, 21, 21], [3, 30, 30], [5, 50, 50]],
+    &[[1, 13, 12], [2, 21, 22], [3, 30, 30], [5, 50, 50]],
+    &[[1, 13, 12], [2, 21, 22], [5, 50, 50]],
+    &[[1, 13, 12], [2, 21, 22], [5, 50, 50]],
+    &[
+        [0, 1, 1],
+        [1, 13, 12],
+        [2, 21, 22],
+        [5, 50, 50],
+        [9, 90, 90],
+    ],
+];
+
+fn patch_of(alloc: Global, n: i64, kind: Kind) -> Result<Patch, NoMemory> {
+    match kind {
+        Kind::Insert(first, second) => Ok(Patch::Insert(row(alloc, &[n, first, second])?)),
+        Kind::Set(column, number) => {
+            let value = Value::Int(number);
+            let mut items = List::new(alloc);
+            items.push(Assign { column, value })?;
+            Ok(Patch::Set(items))
+        }
+        Kind::Delete => Ok(Patch::Delete),
+    }
+}
+
+/// Adds the changes of records from this number on.
+fn push_from(alloc: Global, undo: &mut Undo, from: usize) -> Result<(), Fail> {
+    for (number, n, kind) in CHANGES {
+        if *number < from {
+            continue;
+        }
+        let write = Write {
+            table: 0,
+            key: row(alloc, &[*n])?,
+            patch: patch_of(alloc, *n, *kind)?,
+        };
+        push_write(undo, *number, write)?;
+    }
+    Ok(())
+}
+
+/// Returns the rows, each under its first number, that are of all keys or of those that a record's predecessors wrote.
+fn rows_of(alloc: Global, numbers: Numbers, own: Option<(&Undo, usize)>) -> Result<Rows, NoMemory> {
+    let mut rows = Rows::new(alloc);
+    for item in numbers {
+        let key = row(alloc, &[item[0]])?;
+        let is_wanted = match own {
+            Some((undo, number)) => undo.touched(number, 0, &key),
+            None => true,
+        };
+        if is_wanted {
+            put_row(alloc, &mut rows, &key, Some(row(alloc, item)?))?;
+        }
+    }
+    Ok(rows)
+}
+
+fn is_same(item: &Keyed, other: &Keyed) -> bool {
+    are_same(item.key.as_slice(), other.key.as_slice())
+        && are_same(item.row.as_slice(), other.row.as_slice())
+}
+
+fn are_equal(rows: &[Keyed], want: &[Keyed]) -> bool {
+    rows.len() == want.len()
+        && rows
+            .iter()
+            .zip(want)
+            .all(|(item, other)| is_same(item, other))
+}
+
+/// Whether a record sees these rows.
+fn sees(alloc: Global, undo: &Undo, number: usize, want: Numbers) -> Result<bool, NoMemory> {
+    let pred = Pred {
+        table: 0,
+        tests: List::new(alloc),
+        columns: List::new(alloc),
+    };
+    let rows = rows_of(alloc, BEFORE, None)?;
+    let own = rows_of(alloc, BEFORE, Some((undo, number)))?;
+    let seen = undo.overlay(alloc, number, &pred, rows, own)?;
+    let want = rows_of(alloc, want, None)?;
+    Ok(are_equal(seen.as_slice(), want.as_slice()))
+}
+
+fn seen_as_told(alloc: Global, undo: &Undo) -> Result<(), Fail> {
+    for (number, want) in SEEN.iter().enumerate() {
+        ensure_at(alloc, sees(alloc, undo, number, want)?, number)?;
+    }
+    Ok(())
+}
+
+#[test]
+fn each_record_sees_the_rows_after_those_before_it(rt: HostRuntime) -> Result<(), Fail> {
+    let mut undo = Undo::new(rt.alloc());
+    push_from(rt.alloc(), &mut undo, 0)?;
+    seen_as_told(rt.alloc(), &undo)
+}
+
+/// Whether a record that comes after all sees these rows where those from a number on are dropped.
+fn sees_without(
+    alloc: Global,
+    undo: &mut Undo,
+    number: usize,
+    want: Numbers,
+) -> Result<bool, Fail> {
+    undo.drop_from(number);
+    Ok(sees(alloc, undo, 99, want)?)
+}
+
+#[test]
+fn rows_are_seen_where_records_were_dropped_and_came_again(rt: HostRuntime) -> Result<(), Fail> {
+    let alloc = rt.alloc();
+    let mut undo = Undo::new(alloc);
+    push_from(alloc, &mut undo, 0)?;
+    for (number, want) in SEEN.iter().enumerate() {
+        ensure_at(alloc, sees_without(alloc, &mut undo, number, want)?, number)?;
+        push_from(alloc, &mut undo, number)?;
+    }
+    seen_as_told(alloc, &undo)
 }
