@@ -9,7 +9,7 @@ ghost use Rattle.mv_table.specs.Scans.{foremost};
 ghost use Rattle.mv_table.specs.Spans.{Covers, IsForward};
 ghost use Rattle.mv_record.specs.Admitting.{Admitted};
 ghost use Rattle.mv_chain.specs.Versions.{row_at};
-ghost use Rattle.mv_view.specs.Narrowing.{matching};
+ghost use Rattle.mv_view.specs.Narrowing.{matching, outside};
 ghost use Rattle.mv_store.specs.Stored.{table_at};
 
 use mv_chain::chain::Chain;
@@ -22,6 +22,7 @@ use mv_values::memory::NoMemory;
 use mv_values::pred::Pred;
 use mv_values::rows::{Database, Keyed, Rows};
 use mv_values::value::{Key, Row};
+use mv_view::key_set::KeySet;
 use std::alloc::Global;
 use std::collections::btree_map::Range;
 
@@ -73,35 +74,41 @@ fn add_row(alloc: Global, rows: &mut Rows, key: &Key, row: Option<Row>) -> Resul
     rows.push(Keyed { key, row })
 }
 
-/// Returns a copy of the first row in this direction that the predicate matches after commit n. Of the keys in the span
-/// of the tests it visits those up to that row, and it finds the first of them in time logarithmic in the number of rows.
-pub(crate) fn find_foremost(
+/// Returns a copy of the first row in this direction that the predicate matches after commit n and whose key isn't in
+/// `passed`. Of the keys in the span of the tests it visits those up to that row, and it finds the first of them in time
+/// logarithmic in the number of rows.
+pub(crate) fn find_foremost<K: KeySet>(
     alloc: Global,
     table: &KeyMap<Chain>,
     n: u32,
     pred: &Pred,
     direction: Direction,
+    passed: &K,
 ) -> Result<Option<Keyed>, NoMemory>
     requires { Admitted pred.now (table_at n table.now) }
-    ensures { IfOk result (λ row. row ≡ foremost direction (matching pred.now (table_at n table.now))) }
+    ensures { IfOk result (λ row. row ≡ foremost direction (outside (K.has passed.now) (matching pred.now (table_at n table.now)))) }
 {
     let span = Span::of(alloc, pred.tests.as_slice())?;
-    foremost_match(alloc, table.range(&span), n, pred, direction)
+    foremost_match(alloc, table.range(&span), n, pred, direction, passed)
 }
 
-/// Returns a copy of the first row in this direction that the predicate matches after commit n, of rows in their
-/// versions.
-fn foremost_match(
+/// Returns a copy of the first row in this direction that the predicate matches after commit n and whose key isn't in
+/// `passed`, of rows in their versions. It looks at no row whose key is in `passed`.
+fn foremost_match<K: KeySet>(
     alloc: Global,
     entries: Range<'_, Key, Chain>,
     n: u32,
     pred: &Pred,
     direction: Direction,
+    passed: &K,
 ) -> Result<Option<Keyed>, NoMemory>
-    ensures { IfOk result (λ row. row ≡ foremost direction (stored (picked (λ v. matched pred.now (row_at v n)) entries.entry))) }
+    ensures { IfOk result (λ row. row ≡ foremost direction (outside (K.has passed.now) (stored (picked (λ v. matched pred.now (row_at v n)) entries.entry)))) }
 {
     let mut left = entries;
     while let Some((key, chain)) = direction.take_next(&mut left) {
+        if passed.contains(key) {
+            continue;
+        }
         if let Some(row) = chain.found_at(alloc, n, pred)? {
             let key = key.copy(alloc)?;
             return Ok(Some(Keyed { key, row }));

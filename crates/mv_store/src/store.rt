@@ -5,6 +5,7 @@ ghost use Rattle.mv_values.specs.Patching.{found_by, row_of};
 ghost use Rattle.mv_values.specs.Tables.{rows_at};
 ghost use Rattle.mv_table.specs.Scans.{foremost};
 ghost use Rattle.mv_record.specs.Admitting.{Admitted};
+ghost use Rattle.mv_view.specs.Narrowing.{outside};
 ghost use Rattle.mv_view.specs.declared.view.Refused.TheVariants.{Stale, NoMemory as Wanting};
 ghost use Rattle.mv_store.specs.Stored.{database_at, own_writes, IsLike};
 ghost use Rattle.mv_store.specs.Changes.{IsAsBefore, HasPut, HasDropped, HasStamped, HasRaised};
@@ -23,6 +24,7 @@ use mv_values::patch::Write;
 use mv_values::pred::Pred;
 use mv_values::rows::{Database, Keyed, Rows};
 use mv_values::value::{Key, Row};
+use mv_view::key_set::KeySet;
 use mv_view::view::Refused;
 use std::alloc::Global;
 use std::marker::Model;
@@ -99,19 +101,20 @@ impl Store {
         Ok(found)
     }
 
-    /// Returns a copy of the first row in this direction that the predicate matches after commit n, if it matches one.
-    /// Each row that it matches must be under a key that the predicate admits. Fails with `Stale` exactly if n is below
-    /// the store's low, and with `NoMemory` if memory runs out. Of the keys in the span of the predicate's tests it
-    /// visits those up to that row.
-    pub fn foremost_at(
+    /// Returns a copy of the first row in this direction that the predicate matches after commit n and whose key isn't
+    /// in `passed`, if there is one. Each row that the predicate matches must be under a key that it admits. Fails with
+    /// `Stale` exactly if n is below the store's low, and with `NoMemory` if memory runs out. Of the keys in the span of
+    /// the predicate's tests it visits those up to that row.
+    pub fn foremost_at<K: KeySet>(
         &self,
         alloc: Global,
         n: u32,
         pred: &Pred,
         direction: Direction,
+        passed: &K,
     ) -> Result<Option<Keyed>, Refused>
         requires { Admitted pred.now (rows_at (database_at self.now n) pred.now.table) }
-        ensures found { IfOk result (λ row. row ≡ foremost direction (found_by pred.now (database_at self.now n))) }
+        ensures found { IfOk result (λ row. row ≡ foremost direction (outside (K.has passed.now) (found_by pred.now (database_at self.now n)))) }
         ensures stale { n < self.now.low → result ≡ Err (Stale n self.now.low) }
         ensures fresh { self.now.low ≤ n → IfErr result (λ e. e ≡ Wanting) }
     {
@@ -121,7 +124,7 @@ impl Store {
                 low: self.low,
             });
         }
-        let row = self.find_foremost(alloc, n, pred, direction)?;
+        let row = self.find_foremost(alloc, n, pred, direction, passed)?;
         Ok(row)
     }
 
@@ -168,18 +171,19 @@ impl Store {
         }
     }
 
-    fn find_foremost(
+    fn find_foremost<K: KeySet>(
         &self,
         alloc: Global,
         n: u32,
         pred: &Pred,
         direction: Direction,
+        passed: &K,
     ) -> Result<Option<Keyed>, NoMemory>
         requires { Admitted pred.now (rows_at (database_at self.now n) pred.now.table) }
-        ensures { IfOk result (λ row. row ≡ foremost direction (found_by pred.now (database_at self.now n))) }
+        ensures { IfOk result (λ row. row ≡ foremost direction (outside (K.has passed.now) (found_by pred.now (database_at self.now n)))) }
     {
         match self.tables.get(pred.table as usize) {
-            Some(table) => find_foremost(alloc, table, n, pred, direction),
+            Some(table) => find_foremost(alloc, table, n, pred, direction, passed),
             None => Ok(None),
         }
     }

@@ -8,6 +8,7 @@ ghost use Rattle.mv_values.specs.Patching.{found_by, row_of};
 ghost use Rattle.mv_values.specs.Tables.{rows_at};
 ghost use Rattle.mv_table.specs.Scans.{foremost};
 ghost use Rattle.mv_record.specs.Admitting.{Admitted};
+ghost use Rattle.mv_view.specs.Narrowing.{outside};
 ghost use Rattle.mv_view.specs.Viewing.{Sight, with_rows_call, with_row_call, answered, MayAnswer};
 ghost use Rattle.mv_store.specs.Stored.{database_at};
 
@@ -16,6 +17,7 @@ use mv_table::scan::Direction;
 use mv_values::pred::Pred;
 use mv_values::rows::{Keyed, Rows};
 use mv_values::value::{Key, Row};
+use mv_view::key_set::KeySet;
 use mv_view::view::{Refused, View};
 use std::alloc::Global;
 use std::marker::Model;
@@ -92,20 +94,24 @@ impl<'a> View for StoreView<'a> {
         }
     }
 
-    fn foremost(
+    fn foremost<K: KeySet>(
         &mut self,
         alloc: Global,
         pred: &Pred,
         direction: Direction,
+        passed: &K,
     ) -> Result<Option<Keyed>, Refused>
         requires { Admitted pred.now (rows_at self.old.database pred.now.table) }
-        ensures found { IfOk result (λ row. row ≡ foremost direction (found_by pred.now self.old.database)) }
+        ensures found { IfOk result (λ row. row ≡ foremost direction (outside (K.has passed.now) (found_by pred.now self.old.database))) }
         ensures counts { self.new ≡ answered result (with_rows_call self.old) }
         ensures stale { MayAnswer self.old self.new result }
         ensures late { self.old.may_be_stale ≡ true → is_err result ≡ true }
     {
         self.rows_calls = self.rows_calls.saturating_add(1);
-        match self.store.foremost_at(alloc, self.start, pred, direction) {
+        match self
+            .store
+            .foremost_at(alloc, self.start, pred, direction, passed)
+        {
             Ok(row) => Ok(row),
             Err(refused) => {
                 self.count(refused);

@@ -5,7 +5,7 @@ use Rattle.mv_view.specs.declared.view.Refused.{Refused}
 use Rattle.mv_view.specs.declared.view.Refused.TheVariants.{NoMemory, Stale}
 
 -- a view: its database, the number of commits in it, whether a result may be `Stale`, the number of `Stale` results and
--- the low of the last one, and the numbers of calls of `rows` and of `row`
+-- the low of the last one, and the numbers of calls of `rows` or `foremost`, and of `row`
 pub record Sight : Type 0 where
   pub database : List (List Keyed)
   pub start : ℕ
@@ -27,7 +27,7 @@ one_more count = min (count + 1) greatest_count
 abbrev pub Rose : ℕ → ℕ → Type 0
 Rose before after = (before < after) ⊎ (before ≡ greatest_count)
 
--- the view after one more call of `rows`, and of `row`
+-- the view after one more call of `rows` or `foremost`, and of `row`
 abbrev pub with_rows_call : Sight → Sight
 with_rows_call s = record s { rows_calls = one_more s.rows_calls }
 

@@ -5,8 +5,9 @@ ghost use Rattle.std.specs.Option.{option_copied};
 ghost use Rattle.mv_values.specs.Keys.{IsRising};
 ghost use Rattle.mv_table.specs.Scans.{foremost};
 ghost use Rattle.mv_record.specs.Admitting.{Admitted};
-ghost use Rattle.mv_view.specs.Narrowing.{matching};
+ghost use Rattle.mv_view.specs.Narrowing.{matching, outside};
 
+use crate::key_set::KeySet;
 use mv_table::scan::Direction;
 use mv_table::span::Span;
 use mv_values::copied::Copied;
@@ -40,13 +41,18 @@ pub(crate) fn find(alloc: Global, pred: &Pred, rows: &[Keyed]) -> Result<Rows, N
     copy_matches(alloc, pred, span.part(rows))
 }
 
-/// Borrows the first row in this direction that the predicate matches.
-fn foremost_match<'a>(pred: &Pred, rows: &'a [Keyed], direction: Direction) -> Option<&'a Keyed>
-    ensures { option_copied result ≡ foremost direction (matching pred.now rows.now) }
+/// Borrows the first row in this direction that the predicate matches and whose key isn't in `passed`.
+fn foremost_match<'a, K: KeySet>(
+    pred: &Pred,
+    rows: &'a [Keyed],
+    direction: Direction,
+    passed: &K,
+) -> Option<&'a Keyed>
+    ensures { option_copied result ≡ foremost direction (outside (K.has passed.now) (matching pred.now rows.now)) }
 {
     let mut left = rows;
     while let Some((item, others)) = direction.split(left) {
-        if pred.matches(&item.row) {
+        if !passed.contains(&item.key) && pred.matches(&item.row) {
             return Some(item);
         }
         left = others;
@@ -54,20 +60,22 @@ fn foremost_match<'a>(pred: &Pred, rows: &'a [Keyed], direction: Direction) -> O
     None
 }
 
-/// Returns a copy of the first row of a table in this direction that the predicate matches. Scans the rows in the span
-/// of keys that the predicate's tests leave, up to that row. Finding the span costs the logarithm of the number of rows.
-pub(crate) fn find_foremost(
+/// Returns a copy of the first row of a table in this direction that the predicate matches and whose key isn't in
+/// `passed`. Scans the rows in the span of keys that the predicate's tests leave, up to that row. Finding the span costs
+/// the logarithm of the number of rows.
+pub(crate) fn find_foremost<K: KeySet>(
     alloc: Global,
     pred: &Pred,
     rows: &[Keyed],
     direction: Direction,
+    passed: &K,
 ) -> Result<Option<Keyed>, NoMemory>
     requires rising { IsRising rows.now }
     requires admitted { Admitted pred.now rows.now }
-    ensures { IfOk result (λ row. row ≡ foremost direction (matching pred.now rows.now)) }
+    ensures { IfOk result (λ row. row ≡ foremost direction (outside (K.has passed.now) (matching pred.now rows.now))) }
 {
     let span = Span::of(alloc, pred.tests.as_slice())?;
-    match foremost_match(pred, span.part(rows), direction) {
+    match foremost_match(pred, span.part(rows), direction, passed) {
         Some(item) => Ok(Some(item.copy(alloc)?)),
         None => Ok(None),
     }

@@ -7,6 +7,7 @@ ghost use Rattle.mv_values.specs.Patching.{found_by, row_of};
 ghost use Rattle.mv_values.specs.Tables.{rows_at};
 ghost use Rattle.mv_table.specs.Scans.{foremost};
 
+use crate::key_set::KeySet;
 use crate::narrow::{find, find_foremost};
 use crate::view::{Refused, View};
 use mv_table::scan::Direction;
@@ -91,14 +92,16 @@ impl<'a> View for Plain<'a> {
         Ok(found)
     }
 
-    fn foremost(
+    fn foremost<K: KeySet>(
         &mut self,
         alloc: Global,
         pred: &Pred,
         direction: Direction,
+        passed: &K,
     ) -> Result<Option<Keyed>, Refused> {
         self.rows_calls = self.rows_calls.saturating_add(1);
-        let row = find_foremost(alloc, pred, rows_in(self.tables, pred.table), direction)?;
+        let rows = rows_in(self.tables, pred.table);
+        let row = find_foremost(alloc, pred, rows, direction, passed)?;
         Ok(row)
     }
 

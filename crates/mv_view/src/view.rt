@@ -5,8 +5,10 @@ ghost use Rattle.mv_values.specs.Patching.{found_by, row_of};
 ghost use Rattle.mv_values.specs.Tables.{rows_at};
 ghost use Rattle.mv_table.specs.Scans.{foremost};
 ghost use Rattle.mv_record.specs.Admitting.{Admitted};
+ghost use Rattle.mv_view.specs.Narrowing.{outside};
 ghost use Rattle.mv_view.specs.Viewing.{Sight, with_rows_call, with_row_call, answered, MayAnswer};
 
+use crate::key_set::KeySet;
 use mv_table::scan::Direction;
 use mv_values::memory::NoMemory;
 use mv_values::pred::Pred;
@@ -49,17 +51,18 @@ pub trait View {
         ensures counts { sight self.new ≡ answered result (with_rows_call (sight self.old)) }
         ensures stale { MayAnswer (sight self.old) (sight self.new) result };
 
-    /// Returns a copy of the first row in this direction that the predicate matches, or `None` if it matches no row. The
-    /// predicate must admit the key of each row that it matches. It counts as a call of `rows`. Fails if memory runs
-    /// out, or with `Stale` if the snapshot may be gone.
-    fn foremost(
+    /// Returns a copy of the first row in this direction that the predicate matches and whose key isn't in `passed`, or
+    /// `None` if there is no such row. The predicate must admit the key of each row that it matches. It counts as a call
+    /// of `rows`. Fails if memory runs out, or with `Stale` if the snapshot may be gone.
+    fn foremost<K: KeySet>(
         &mut self,
         alloc: Global,
         pred: &Pred,
         direction: Direction,
+        passed: &K,
     ) -> Result<Option<Keyed>, Refused>
         requires { Admitted pred.now (rows_at (sight self.old).database pred.now.table) }
-        ensures found { IfOk result (λ row. row ≡ foremost direction (found_by pred.now (sight self.old).database)) }
+        ensures found { IfOk result (λ row. row ≡ foremost direction (outside (K.has passed.now) (found_by pred.now (sight self.old).database))) }
         ensures counts { sight self.new ≡ answered result (with_rows_call (sight self.old)) }
         ensures stale { MayAnswer (sight self.old) (sight self.new) result };
 

@@ -1,10 +1,9 @@
-use Rattle.std.proofs.Common.{◌≡◌, ap, sym, subst, ◌∙◌, true}
+use Rattle.std.proofs.Common.{◌≡◌, sym, subst}
 use Rattle.std.specs.Prelude.{IfOk}
 use Rattle.std.proofs.lemmas.List.Kept.{AllPairs-filter}
 use Rattle.mv_values.specs.Keys.{IsRising, IsBelow}
 use Rattle.mv_values.specs.Preds.{matches}
-use Rattle.mv_table.specs.Spans.{is_within, Covers, FindsAll}
-use Rattle.mv_view.specs.Narrowing.{matching}
+use Rattle.mv_table.specs.Spans.{is_within, Covers}
 use Rattle.mv_view.proofs.narrow.find.Goals as goal
 
 pub copy_matches-requires : goal.copy_matches-requires

@@ -3,6 +3,6 @@ use Rattle.mv_store.proofs.Views.{may_answer}
 use Rattle.mv_store.proofs.view.StoreViewView.foremost.Goals as goal
 
 pub returns-in-Err-clause-stale : goal.returns-in-Err-clause-stale
-returns-in-Err-clause-stale c =
+returns-in-Err-clause-stale g c =
     may_answer c.in-Err.refused c.self.inside.start c.self.inside.store.now.low c.args.self.now _ c.count.new.self c.in-Err.ensures.stale c.in-Err.ensures.fresh
     (ap (λ s. s.may_be_stale) (sym c.self.view_is)) (ap (λ s. s.start) (sym c.self.view_is)) (ap (λ s. s.stale_answers) c.self.view_is) c.count.ensures.fits c.count.ensures.foremost
