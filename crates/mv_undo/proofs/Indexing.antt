@@ -142,6 +142,16 @@ part_within order n from to high h k d lt =
     let is : slice_index_or (take (to - from) (drop from order)) k d ≡ slice_index_or order (from + k) d = get_or-take (to - from) (drop from order) k d inside ∙ get_or-drop from order k d in
     rw is (h (from + k) d (omega (arith, inside, high)))
 
+abbrev pub InOrder : (ℕ → List Value) → ℕ → ℕ → Type 0
+InOrder K p q = is_le (key_order (K p) (K q)) ≡ true
+
+pub pairs_within : (R : ℕ → ℕ → Type 0) (order : List ℕ) (from to : ℕ) → to ≤ length order → AllPairs R order → AllPairs R (slice_range order from to)
+pairs_within R order from to high h i j d lt within =
+    let inside : j < to - from = omega (arith, within, length-take (to - from) (drop from order)) in
+    let low : slice_index_or (take (to - from) (drop from order)) i d ≡ slice_index_or order (from + i) d = get_or-take (to - from) (drop from order) i d (omega (arith, lt, inside)) ∙ get_or-drop from order i d in
+    let up : slice_index_or (take (to - from) (drop from order)) j d ≡ slice_index_or order (from + j) d = get_or-take (to - from) (drop from order) j d inside ∙ get_or-drop from order j d in
+    rw (low, up) (h (from + i) (from + j) d (omega (arith, lt)) (omega (arith, inside, high)))
+
 -- One more write
 
 pub at_more : (items : List Owned) (o : Owned) (p : ℕ) → p < length items → owned_at (items ++ o ∷ []) p ≡ owned_at items p
@@ -177,9 +187,6 @@ pairs_insert R (x ∷ xs) (suc at) n h point =
     AllPairs-cons R x (insert xs at n) (all_insert (R x) xs at n (λ k d lt. h 0 (suc k) d (omega arith) (omega (arith, lt))) (point.0 0 x (omega arith) (omega arith)))
     (pairs_insert R xs at n (λ i j d lt within. h (suc i) (suc j) d (omega (arith, lt)) (omega (arith, within)))
     (λ k d low lt. point.0 (suc k) d (omega arith) (omega (arith, lt)), λ k d low lt. point.1 (suc k) d (omega (arith, low)) (omega (arith, lt))))
-
-abbrev InOrder : (ℕ → List Value) → ℕ → ℕ → Type 0
-InOrder K p q = is_le (key_order (K p) (K q)) ≡ true
 
 pairs_same : (K J : ℕ → List Value) (xs : List ℕ) → ((k d : ℕ) → k < length xs → J (slice_index_or xs k d) ≡ K (slice_index_or xs k d)) → AllPairs (InOrder K) xs → AllPairs (InOrder J) xs
 pairs_same K J xs h pairs i j d lt within =

@@ -50,7 +50,7 @@ laid_row pred ws own (k ∷ ks) rows key h =
     join true false = refl
     join false c = refl
 
-untouched : (t : ℕ) (key : List Value) (ws : List Write) (was : Option (List Value)) → touches t key ws ≡ false → patched_by (writes_on t key ws) was ≡ was
+pub untouched : (t : ℕ) (key : List Value) (ws : List Write) (was : Option (List Value)) → touches t key ws ≡ false → patched_by (writes_on t key ws) was ≡ was
 untouched t key [] was h = refl
 untouched t key (w ∷ ws) was h = by (is_on t key w) h (untouched t key ws was)
   where

@@ -5,3 +5,4 @@ pub mod KeyPlaces
 pub mod Indexing
 pub mod Looking
 pub mod Composing
+pub mod Taking

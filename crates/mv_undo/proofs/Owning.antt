@@ -23,6 +23,7 @@ use Rattle.mv_record.specs.Writes.{is_on, writes_on}
 use Rattle.mv_record.proofs.Patching.{row_of-placed_same, placed_other, rising_placed}
 use Rattle.mv_undo.specs.declared.owned.Owned.{Owned}
 use Rattle.mv_undo.specs.Owning.{IsInOrder, before, earlier, is_earlier_on, touches, is_sought, is_wanted, is_among, AreSought}
+use Rattle.mv_undo.specs.Taking.{gathered}
 use Rattle.mv_undo.proofs.KeyPlaces.{equal_is}
 
 -- Those before a number
@@ -71,12 +72,7 @@ writes_earlier n t key x xs = by (nat_lt x.number n)
 
 -- The keys
 
--- an empty row under each wanted key
-abbrev pub gathered : Pred → ℕ → List Owned → List Keyed → List Keyed
-gathered pred n [] found = found
-gathered pred n (o ∷ os) found = gathered pred n os (cond (is_wanted pred n o) (placed o.write.key (Some []) found) found)
-
-gathered_rising : (pred : Pred) (n : ℕ) (os : List Owned) (found : List Keyed) → IsRising found → IsRising (gathered pred n os found)
+pub gathered_rising : (pred : Pred) (n : ℕ) (os : List Owned) (found : List Keyed) → IsRising found → IsRising (gathered pred n os found)
 gathered_rising pred n [] found h = h
 gathered_rising pred n (o ∷ os) found h = gathered_rising pred n os (cond (is_wanted pred n o) (placed o.write.key (Some []) found) found) (by (is_wanted pred n o))
   where
@@ -112,7 +108,7 @@ either s r false true false = refl
 either s r false false true = refl
 either s r false false false = refl
 
-gathered_row : (pred : Pred) (n : ℕ) (os : List Owned) (found : List Keyed) (key : List Value) → IsRising found
+pub gathered_row : (pred : Pred) (n : ℕ) (os : List Owned) (found : List Keyed) (key : List Value) → IsRising found
     → row_of (gathered pred n os found) key ≡ cond (is_sought pred (earlier n os) key) (Some []) (row_of found key)
 gathered_row pred n [] found key h = refl
 gathered_row pred n (o ∷ os) found key h =

@@ -1,3 +1,4 @@
 pub mod Owning
 pub mod Overlaying
 pub mod Indexing
+pub mod Taking

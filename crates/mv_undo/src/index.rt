@@ -12,6 +12,7 @@ ghost use Rattle.mv_table.specs.Spans.{is_within, IsForward};
 ghost use Rattle.mv_record.specs.Writes.{writes_on};
 ghost use Rattle.mv_undo.specs.Owning.{IsInOrder, earlier};
 ghost use Rattle.mv_undo.specs.Indexing.{IsIndexed, IsComposed, IsCut, Does, is_below, is_up_to, is_earlier_up_to, end_in, key_at, lined, owned_at, owned_on, patch_or, writes_at};
+ghost use Rattle.mv_undo.specs.Taking.{AreInLine};
 
 use crate::owned::Owned;
 use mv_table::span::Span;
@@ -45,7 +46,7 @@ fn compare(table: u8, key: &[Value], other: u16, other_key: &[Value]) -> Orderin
 }
 
 /// Compares the key of the write at a place with a key of a table.
-fn compare_at(items: &[Owned], place: usize, table: u16, key: &[Value]) -> Ordering
+pub(crate) fn compare_at(items: &[Owned], place: usize, table: u16, key: &[Value]) -> Ordering
     ensures { result ≡ key_order (key_at items.now place) (Int (pos table) ∷ key.now) }
 {
     match at(items, place) {
@@ -186,6 +187,7 @@ pub(crate) fn places_in<'a>(
     requires indexed { IsIndexed items.now order.now }
     requires forward { IsForward span.now }
     ensures within { All (λ place. place < length items.now) result.now }
+    ensures line { AreInLine items.now result.now }
     ensures writes { (key : List Value) → is_within span.now key ≡ true → owned_on table key (lined items.now result.now) ≡ owned_on table key items.now }
 {
     let from = count_below(items, order, table as u16, span.low.as_slice());

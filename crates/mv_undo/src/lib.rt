@@ -1,6 +1,7 @@
 //! The writes of a running call.
 #![tactic(auto)]
 
+pub mod ends;
 mod index;
 mod lookup;
 mod merge;

@@ -25,7 +25,7 @@ pub(crate) fn write_at(items: &[Owned], place: usize) -> &Owned
 }
 
 /// Whether an earlier record made the write, to a key of the predicate's table that the predicate admits.
-fn is_sought(owned: &Owned, number: usize, pred: &Pred) -> bool
+pub(crate) fn is_sought(owned: &Owned, number: usize, pred: &Pred) -> bool
     ensures { result ≡ is_wanted pred.now number owned.now }
 {
     owned.is_before(number) && owned.write.table == pred.table && pred.admits(&owned.write.key)

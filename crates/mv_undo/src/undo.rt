@@ -5,6 +5,7 @@ ghost use Rattle.std.specs.Option.{option_copied};
 ghost use Rattle.mv_record.specs.Writes.{writes_on, patched_by};
 ghost use Rattle.mv_undo.specs.Owning.{IsInOrder, before, earlier, touches, AreSought};
 
+use crate::ends::SoughtKeys;
 use crate::index::{count_earlier, place_for, places_in, places_on};
 use crate::lookup::{copy_of, is_some_on, keys_at};
 use crate::owned::Owned;
@@ -127,9 +128,25 @@ impl Undo {
         keys_at(alloc, items, places, number, pred)
     }
 
+    /// Returns the keys of the predicate's table that records below `number` wrote and that the predicate admits, to be
+    /// taken from either end. Fails if memory runs out. Finding them costs the logarithm of the number of writes.
+    pub fn sought_keys<'a>(
+        &'a self,
+        alloc: Global,
+        number: usize,
+        pred: &'a Pred,
+    ) -> Result<SoughtKeys<'a>, NoMemory>
+        ensures { IfOk result (λ keys. AreSought pred.now (earlier number self.now) keys) }
+    {
+        let span = Span::of(alloc, pred.tests.as_slice())?;
+        let items = self.items.as_slice();
+        let places = places_in(items, self.order.as_slice(), pred.table, &span);
+        Ok(SoughtKeys::new(items, places, number, pred))
+    }
+
     /// Returns the row after the writes to a key by records below `number`, given the row before them, if any. Fails if
     /// memory runs out. Costs the logarithm of the number of writes, and the size of the row.
-    pub(crate) fn row_behind(
+    pub fn row_behind(
         &self,
         alloc: Global,
         number: usize,

@@ -1,8 +1,8 @@
 use Rattle.std.proofs.Common.{◌∷◌, length, subst}
 use Rattle.std.specs.Prelude.{pos}
 use Rattle.mv_values.specs.declared.value.Value.TheVariants.{Int}
-use Rattle.mv_undo.specs.Indexing.{is_below, end_in, IsCut}
-use Rattle.mv_undo.proofs.Indexing.{cut_order, span_cut, cut_in, part_within}
+use Rattle.mv_undo.specs.Indexing.{is_below, end_in, IsCut, key_at}
+use Rattle.mv_undo.proofs.Indexing.{cut_order, span_cut, cut_in, part_within, pairs_within, InOrder}
 use Rattle.mv_undo.proofs.index.places_in.Goals as goal
 
 pub part-requires-clause-order : goal.part-requires-clause-order
@@ -24,3 +24,10 @@ returns-clause-writes c =
     (span_cut c.args.items.now c.args.table c.args.span.now c.requires.forward) c.count_below-from.ensures.within low c.count_before_end-to.ensures.before)
     c.count_below-from.ensures.within
     c.count_before_end-to.ensures.within low c.count_before_end-to.ensures.before)
+
+pub returns-clause-line : goal.returns-clause-line
+returns-clause-line c =
+    rw c.part.ensures (record {
+      within = part_within c.args.order.now (length c.args.items.now) c.count_below-from.result c.count_before_end-to.result c.count_before_end-to.ensures.within c.requires.indexed.within;
+      sorted = pairs_within (InOrder (key_at c.args.items.now)) c.args.order.now c.count_below-from.result c.count_before_end-to.result c.count_before_end-to.ensures.within c.requires.indexed.sorted;
+    })

@@ -3,7 +3,8 @@ use Rattle.mv_values.specs.declared.value.Value.{Value}
 use Rattle.mv_values.specs.Patching.{placed}
 use Rattle.mv_undo.specs.declared.owned.Owned.{Owned}
 use Rattle.mv_undo.specs.Indexing.{lined}
-use Rattle.mv_undo.proofs.Owning.{gathered, gathered_wanted, found_keys}
+use Rattle.mv_undo.specs.Taking.{gathered}
+use Rattle.mv_undo.proofs.Owning.{gathered_wanted, found_keys}
 use Rattle.mv_undo.proofs.Looking.{lined_step, lined_past}
 use Rattle.mv_undo.proofs.lookup.keys_at.Goals as goal
 

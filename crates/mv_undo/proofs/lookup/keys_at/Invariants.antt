@@ -1,6 +1,6 @@
 use Rattle.std.proofs.Common.{◌≡◌, drop, []}
 use Rattle.mv_undo.specs.Indexing.{lined}
-use Rattle.mv_undo.proofs.Owning.{gathered}
+use Rattle.mv_undo.specs.Taking.{gathered}
 use Rattle.mv_undo.proofs.lookup.keys_at.Given as goal
 
 abbrev pub invariant-loop-place : goal.invariant-loop-place
