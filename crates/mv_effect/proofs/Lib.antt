@@ -9,3 +9,5 @@ pub mod WellNamed
 pub mod AllRows
 pub mod Different
 pub mod Told
+pub mod Foremost
+pub mod OwnKeys

@@ -4,7 +4,6 @@ use Rattle.mv_values.specs.declared.value.Value.{Value}
 use Rattle.mv_values.specs.declared.rows.Keyed.{Keyed}
 use Rattle.mv_values.specs.declared.patch.Write.{Write}
 use Rattle.mv_values.specs.declared.pred.Pred.{Pred}
-use Rattle.mv_values.specs.declared.schema.TableInfo.{TableInfo}
 use Rattle.mv_values.specs.Patching.{row_of, applied, found_by}
 use Rattle.mv_values.specs.Tables.{rows_at}
 use Rattle.mv_record.specs.Writes.{AreRising}
@@ -12,9 +11,6 @@ use Rattle.mv_record.specs.Admitting.{Admitted}
 use Rattle.mv_undo.specs.declared.owned.Owned.{Owned}
 use Rattle.mv_undo.specs.Owning.{earlier, AreSought}
 use Rattle.mv_undo.proofs.Laying.{laid_found}
-use Rattle.mv_recorded.specs.Asking.{KnowsKey}
-use Rattle.mv_recorded.proofs.Matching.{admitted}
-use Rattle.mv_effect.specs.Looking.{Stands}
 
 -- where there are no writes, no key is sought
 pub nothing_sought : (pred : Pred) (number : ℕ) (undo : List Owned) (keys : List (List Value)) → undo ≡ [] → keys ≡ [] → AreSought pred (earlier number undo) keys
@@ -39,10 +35,3 @@ none_written pred ws rows keys db sought none rising table found before behind =
       before = before;
       behind = behind;
     })
-
--- the same of the tables of a program
-pub unwritten : (tables : List TableInfo) (ws : List Write) (db : List (List Keyed)) (pred : Pred) (keys : List (List Value)) → Stands tables ws db → KnowsKey tables pred → AreSought pred ws keys → length keys ≡ 0
-    → found_by pred db ≡ found_by pred (applied ws db)
-unwritten tables ws db pred keys stands knows sought none =
-    none_written pred ws (found_by pred db) keys db sought none stands.database.rising (subst (λ n. pred.table < n) (sym stands.database.size) knows.table) refl
-    (admitted tables pred db knows stands.database.keys) (admitted tables pred (applied ws db) knows stands.behind)

@@ -4,3 +4,4 @@ pub mod Naming
 pub mod Looking
 pub mod Choosing
 pub mod Totalling
+pub mod Firsts

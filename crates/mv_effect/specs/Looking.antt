@@ -63,7 +63,7 @@ pub record OnlyAsks {A : Type 0} (before after : Sight) (result : Result A Refus
   pub may_refuse : MayAnswer before after result
   pub passes_on : PassesOn before after result
 
--- the view got at most so many calls of `rows` and of `row`
+-- the view got at most so many calls of `rows` or `foremost`, and of `row`
 pub record AskedAtMost (rows row : ℕ) (before after : Sight) : Type 0 where
   pub for_rows : after.rows_calls ≤ before.rows_calls + rows
   pub for_row : after.row_calls ≤ before.row_calls + row

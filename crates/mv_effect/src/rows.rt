@@ -2,15 +2,18 @@
 
 ghost use Rattle.std.specs.Prelude.{◌≡◌, ◌<◌, None, IfOk, OnOk, length, if◌then◌else◌, List};
 ghost use Rattle.mv_values.specs.declared.value.Value.{Value};
+ghost use Rattle.std.specs.Option.{option_copied};
 ghost use Rattle.mv_values.specs.Patching.{row_of, placed, applied, found_by};
+ghost use Rattle.mv_values.specs.Preds.{matched};
 ghost use Rattle.mv_values.specs.Tables.{rows_at};
 ghost use Rattle.mv_table.specs.Scans.{foremost};
 ghost use Rattle.mv_alone.specs.Rows.{is_some_row};
 ghost use Rattle.mv_record.specs.Admitting.{Admitted};
 ghost use Rattle.mv_record.specs.Writes.{AreRising};
-ghost use Rattle.mv_undo.specs.Owning.{earlier, is_among, AreSought};
+ghost use Rattle.mv_undo.specs.Owning.{earlier, is_among, is_sought, touches, AreSought};
 ghost use Rattle.mv_view.specs.Viewing.{MayAnswer, answered, with_row_call};
-ghost use Rattle.mv_effect.specs.Looking.{different, Stands, OnlyAsks, AskedAtMost};
+ghost use Rattle.mv_effect.specs.Looking.{different, Stands, OnlyAsks, AskedAtMost, IsSameView, PassesOn};
+ghost use Rattle.mv_effect.specs.Firsts.{is_met_before, IsFirstOf};
 ghost use Rattle.mv_recorded.specs.Asking.{KnowsKey};
 
 use crate::context::Context;
@@ -22,7 +25,8 @@ use mv_values::list::List;
 use mv_values::memory::NoMemory;
 use mv_values::pred::Pred;
 use mv_values::rows::{Keyed, Rows};
-use mv_values::value::Key;
+use mv_values::value::{Key, Row, compare_keys};
+use mv_view::key_set::KeySet;
 use mv_view::view::{Refused, View};
 use std::alloc::Global;
 
@@ -121,23 +125,134 @@ pub(crate) fn visible_rows<V: View>(
     look(alloc, pred, context.undo, context.number, view)
 }
 
-/// Returns a copy of the row that a scan of these rows in this direction meets first.
-fn copy_foremost(
-    alloc: Global,
-    rows: &[Keyed],
-    direction: Direction,
-) -> Result<Option<Keyed>, NoMemory>
-    ensures { IfOk result (λ row. row ≡ foremost direction rows.now) }
-{
-    match direction.split(rows) {
-        Some((item, _others)) => Ok(Some(item.copy(alloc)?)),
-        None => Ok(None),
+/// The keys of a table that the own writes of records with smaller numbers are on.
+#[derive(Drop)]
+struct OwnKeys<'a> {
+    undo: &'a Undo,
+    number: usize,
+    table: u8,
+}
+
+impl<'a> KeySet for OwnKeys<'a> {
+    ghost has = { λ o key. touches o.table key (earlier o.number o.undo.now) };
+
+    fn contains(&self, key: &Key) -> bool {
+        self.undo.touched(self.number, self.table, key)
     }
 }
 
-/// Returns the first row in this direction of those that `visible_rows` returns. Asks the view for that row alone if
-/// none of the call's own writes that the statement sees is on a key that the predicate admits. Otherwise it asks as
-/// `visible_rows` does.
+/// Whether a scan in this direction meets the key before the row, if there is one.
+fn is_met_before(direction: Direction, key: &Key, other: Option<&Keyed>) -> bool
+    ensures { result ≡ is_met_before direction key.now (option_copied other.entry) }
+{
+    let Some(item) = other else {
+        return true;
+    };
+    match direction {
+        Direction::Forward => compare_keys(key.as_slice(), item.key.as_slice()).is_lt(),
+        Direction::Backward => compare_keys(item.key.as_slice(), key.as_slice()).is_lt(),
+    }
+}
+
+/// Returns the row if the predicate matches it.
+fn matched(pred: &Pred, row: Option<Row>) -> Option<Row>
+    ensures { result ≡ matched pred.now row }
+{
+    match row {
+        Some(row) if pred.matches(&row) => Some(row),
+        _ => None,
+    }
+}
+
+/// Returns the row under a key after the own writes of records with smaller numbers, if the predicate matches it. Asks
+/// the view once, for the row before them.
+fn own_row<V: View>(
+    alloc: Global,
+    pred: &Pred,
+    undo: &Undo,
+    number: usize,
+    key: &Key,
+    view: &mut V,
+) -> Result<Option<Row>, Refused>
+    requires rising { AreRising (V.sight view.old).database }
+    requires table { pred.now.table < length (V.sight view.old).database }
+    ensures found { IfOk result (λ row. row ≡ row_of (found_by pred.now (applied (earlier number undo.now) (V.sight view.old).database)) key.now) }
+    ensures counts { V.sight view.new ≡ answered result (with_row_call (V.sight view.old)) }
+    ensures stale { MayAnswer (V.sight view.old) (V.sight view.new) result }
+{
+    let was = view.row(alloc, pred.table, key)?;
+    let row = undo.row_behind(alloc, number, pred.table, key, was.as_ref())?;
+    Ok(matched(pred, row))
+}
+
+/// Returns the first row in this direction, of those that the predicate matches after the own writes of records with
+/// smaller numbers and whose keys these writes are on, if a scan meets it before another row. Asks the view for the row
+/// under each such key that the scan meets until then.
+fn first_own<V: View>(
+    alloc: Global,
+    pred: &Pred,
+    undo: &Undo,
+    number: usize,
+    direction: Direction,
+    other: Option<&Keyed>,
+    view: &mut V,
+) -> Result<Option<Keyed>, Refused>
+    requires rising { AreRising (V.sight view.old).database }
+    requires table { pred.now.table < length (V.sight view.old).database }
+    ensures found { IfOk result (IsFirstOf direction (is_sought pred.now (earlier number undo.now)) (found_by pred.now (applied (earlier number undo.now) (V.sight view.old).database)) (option_copied other.entry)) }
+    ensures refused { MayAnswer (V.sight view.old) (V.sight view.new) result }
+    ensures stale { PassesOn (V.sight view.old) (V.sight view.new) result }
+    ensures same { IsSameView (V.sight view.old) (V.sight view.new) }
+    ensures looks { AskedAtMost 0 (different (earlier number undo.now)) (V.sight view.old) (V.sight view.new) }
+{
+    let mut keys = undo.sought_keys(alloc, number, pred)?;
+    while let Some(key) = keys.take_next(direction) {
+        if !is_met_before(direction, key, other) {
+            return Ok(None);
+        }
+        if let Some(row) = own_row(alloc, pred, undo, number, key, view)? {
+            let key = key.copy(alloc)?;
+            return Ok(Some(Keyed { key, row }));
+        }
+    }
+    Ok(None)
+}
+
+/// Returns the first row in this direction of those that the predicate matches after the own writes of records with
+/// smaller numbers. Asks the view once for its first row under a key that these writes aren't on, and then for the row
+/// under each of their keys that a scan meets before that one, until it has met a row.
+fn first_after<V: View>(
+    alloc: Global,
+    pred: &Pred,
+    undo: &Undo,
+    number: usize,
+    direction: Direction,
+    view: &mut V,
+) -> Result<Option<Keyed>, Refused>
+    requires rising { AreRising (V.sight view.old).database }
+    requires table { pred.now.table < length (V.sight view.old).database }
+    requires before { Admitted pred.now (rows_at (V.sight view.old).database pred.now.table) }
+    requires behind { Admitted pred.now (rows_at (applied (earlier number undo.now) (V.sight view.old).database) pred.now.table) }
+    ensures found { IfOk result (λ row. row ≡ foremost direction (found_by pred.now (applied (earlier number undo.now) (V.sight view.old).database))) }
+    ensures refused { MayAnswer (V.sight view.old) (V.sight view.new) result }
+    ensures stale { PassesOn (V.sight view.old) (V.sight view.new) result }
+    ensures same { IsSameView (V.sight view.old) (V.sight view.new) }
+    ensures looks { AskedAtMost 1 (different (earlier number undo.now)) (V.sight view.old) (V.sight view.new) }
+{
+    let table = pred.table;
+    let own_keys = OwnKeys {
+        undo,
+        number,
+        table,
+    };
+    let other = view.foremost(alloc, pred, direction, &own_keys)?;
+    let own = first_own(alloc, pred, undo, number, direction, other.as_ref(), view)?;
+    Ok(own.or(other))
+}
+
+/// Returns the first row in this direction of those that `visible_rows` returns. Asks the view once for its first row
+/// under a key that the call's own writes aren't on. Then it asks for the row under each of their keys that a scan meets
+/// before that one, until it has met a row.
 pub(crate) fn first_visible<V: View>(
     alloc: Global,
     context: &Context<'_>,
@@ -151,12 +266,7 @@ pub(crate) fn first_visible<V: View>(
     ensures view { OnlyAsks (V.sight view.old) (V.sight view.new) result }
     ensures looks { AskedAtMost 1 (different (earlier context.now.number context.now.undo.now)) (V.sight view.old) (V.sight view.new) }
 {
-    let keys = written_keys(alloc, pred, context.undo, context.number)?;
-    if keys.as_slice().is_empty() {
-        return view.foremost(alloc, pred, direction);
-    }
-    let rows = visible_rows(alloc, context, pred, view)?;
-    Ok(copy_foremost(alloc, rows.as_slice(), direction)?)
+    first_after(alloc, pred, context.undo, context.number, direction, view)
 }
 
 /// Whether there are any rows.

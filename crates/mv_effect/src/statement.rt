@@ -114,8 +114,8 @@ fn own_effect<V: View>(
 /// Returns the effect of a statement, given the variables before it, over the view and the own writes of records with
 /// smaller numbers. An IF only evaluates its condition, once, and a FOR only fixes its rows.
 ///
-/// The view is asked once for the rows of the table that the statement reads, and at most once for each key that these
-/// writes are on.
+/// The view is asked at most once for the rows of the table that the statement reads, or for the first of them, and at
+/// most once for the row under each key that these writes are on.
 ///
 /// Fails with `NoMemory` if memory runs out, and with `Stale` if the view answers `Stale`.
 pub fn effect<V: View>(

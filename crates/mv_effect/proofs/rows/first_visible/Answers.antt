@@ -1,23 +1,34 @@
-use Rattle.std.proofs.Common.{rules, ◌≡◌, length, refl, sym, ap, subst, ◌∙◌}
-use Rattle.std.specs.Prelude.{IfOk}
-use Rattle.mv_values.specs.Patching.{applied, found_by}
-use Rattle.mv_table.specs.Scans.{foremost}
+use Rattle.std.proofs.Common.{◌<◌, subst, sym}
 use Rattle.mv_undo.specs.Owning.{earlier}
-use Rattle.mv_effect.proofs.Unwritten.{unwritten}
+use Rattle.mv_values.specs.Patching.{applied}
 use Rattle.mv_recorded.proofs.Matching.{admitted}
 use Rattle.mv_effect.proofs.rows.first_visible.Goals as goal
 
-pub foremost-requires : goal.foremost-requires
-foremost-requires g c =
+pub first_after-requires-clause-table : goal.first_after-requires-clause-table
+first_after-requires-clause-table g c = subst (λ n. c.args.pred.now.table < n) (sym c.requires.stands.database.size) c.requires.knows.table
+
+pub first_after-requires-clause-before : goal.first_after-requires-clause-before
+first_after-requires-clause-before g c =
     admitted c.args.context.now.tables.now c.args.pred.now (g.V.View.sight c.args.view.now).database c.requires.knows c.requires.stands.database.keys
 
-pub returns-then-is_empty-clause-found : goal.returns-then-is_empty-clause-found
-returns-then-is_empty-clause-found g c =
-    let none : length c.in_ok-keys.keys ≡ 0 = search rules in
-    let same =
-    unwritten c.args.context.now.tables.now (earlier c.args.context.now.number c.args.context.now.undo.now) (g.V.View.sight c.args.view.now).database c.args.pred.now c.in_ok-keys.keys c.requires.stands c.requires.knows
-    c.in_ok-keys.ensures none in
-    subst (λ rows. IfOk c.foremost.result (λ row. row ≡ foremost c.args.direction rows)) same c.foremost.ensures.found
+pub first_after-requires-clause-behind : goal.first_after-requires-clause-behind
+first_after-requires-clause-behind g c =
+    admitted c.args.context.now.tables.now c.args.pred.now (applied (earlier c.args.context.now.number c.args.context.now.undo.now) (g.V.View.sight c.args.view.now).database) c.requires.knows c.requires.stands.behind
+
+pub first_after-requires-clause-rising : goal.first_after-requires-clause-rising
+first_after-requires-clause-rising g c = c.requires.stands.database.rising
 
 pub returns-clause-found : goal.returns-clause-found
-returns-clause-found g c = c.in_ok-copy_foremost.ensures ∙ ap (foremost c.args.direction) (c.as_slice-2.ensures.items ∙ c.in_ok-rows.ensures.found)
+returns-clause-found g c = c.first_after.ensures.found
+
+pub returns-clause-refused : goal.returns-clause-refused
+returns-clause-refused g c = c.first_after.ensures.refused
+
+pub returns-clause-stale : goal.returns-clause-stale
+returns-clause-stale g c = c.first_after.ensures.stale
+
+pub returns-clause-same : goal.returns-clause-same
+returns-clause-same g c = c.first_after.ensures.same
+
+pub returns-clause-looks : goal.returns-clause-looks
+returns-clause-looks g c = c.first_after.ensures.looks
