@@ -475,6 +475,61 @@ const STATEMENTS: &[Stated] = &[
         4,
         Some("1,5,b\n1,7,z\n2,5,z\n3,1,c\n"),
     ),
+    // So do those that look for the first or for the last row.
+    (
+        "INSERT INTO t VALUES (1, 9, 'z'); SELECT MAX(k) INTO :n FROM t WHERE g = 1;",
+        "done\n9,'q',1",
+        3,
+        Some("1,5,b\n1,7,a\n1,9,z\n2,5,a\n3,1,c\n"),
+    ),
+    (
+        "INSERT INTO t VALUES (1, 6, 'z'); SELECT MAX(k) INTO :n FROM t WHERE g = 1;",
+        "done\n7,'q',1",
+        3,
+        Some("1,5,b\n1,6,z\n1,7,a\n2,5,a\n3,1,c\n"),
+    ),
+    (
+        "DELETE FROM t WHERE g = 1 AND k = 7; SELECT MAX(k) INTO :n FROM t WHERE g = 1;",
+        "done\n5,'q',1",
+        3,
+        Some("1,5,b\n2,5,a\n3,1,c\n"),
+    ),
+    (
+        "DELETE FROM t WHERE g = 1; SELECT MIN(k) INTO :n FROM t WHERE g = 1;",
+        "done\n7,'q',0",
+        3,
+        Some("2,5,a\n3,1,c\n"),
+    ),
+    (
+        "UPDATE t SET x = 'z' WHERE g = 1 AND k = 7; SELECT x INTO :s FROM t WHERE g = 1 ORDER BY k DESC;",
+        "done\n7,'z',1",
+        3,
+        Some("1,5,b\n1,7,z\n2,5,a\n3,1,c\n"),
+    ),
+    (
+        "UPDATE t SET x = 'z' WHERE g = 1; SELECT k, x INTO :n, :s FROM t WHERE x = 'a';",
+        "done\n5,'a',1",
+        3,
+        Some("1,5,z\n1,7,z\n2,5,a\n3,1,c\n"),
+    ),
+    (
+        "INSERT INTO t VALUES (3, 0, 'n'); INSERT INTO t VALUES (3, 2, 'o'); SELECT k, x INTO :n, :s FROM t ORDER BY g DESC;",
+        "done\n0,'n',1",
+        4,
+        Some("1,5,b\n1,7,a\n2,5,a\n3,0,n\n3,1,c\n3,2,o\n"),
+    ),
+    (
+        "DELETE FROM t WHERE g = 3; SELECT k, x INTO :n, :s FROM t ORDER BY g DESC; INSERT INTO t VALUES (3, 1, 'n'); SELECT x INTO :s FROM t WHERE g = 3;",
+        "done\n5,'n',1",
+        5,
+        Some("1,5,b\n1,7,a\n2,5,a\n3,1,n\n"),
+    ),
+    (
+        "SELECT k INTO :n FROM t; DELETE FROM t WHERE g = 1 AND k = :n; SELECT k INTO :n FROM t; DELETE FROM t WHERE g = 1 AND k = :n; SELECT k INTO :n FROM t;",
+        "done\n5,'q',1",
+        6,
+        Some("2,5,a\n3,1,c\n"),
+    ),
 ];
 
 fn prints_and_leaves<R: Threads + Wait + Sync>(
@@ -493,4 +548,29 @@ fn statements_print_and_leave_rows(rt: HostRuntime) -> Result<(), Fail> {
         prints_and_leaves(&rt, rt.alloc(), case)?;
     }
     Ok(())
+}
+
+/// A procedure on a table whose key is a text.
+const TEXTS: &str = "CREATE TABLE u (w TEXT(3), PRIMARY KEY (w)) VALUES ('b'), ('ba'), ('c');
+CREATE PROCEDURE p () DECLARE :s = ''; BEGIN
+  DELETE FROM u WHERE w = 'c';
+  INSERT INTO u VALUES ('bz');
+  INSERT INTO u VALUES ('');
+  SELECT MAX(w) INTO :s FROM u;
+  PRINT :s;
+  SELECT MIN(w) INTO :s FROM u WHERE w > '';
+  PRINT :s;
+  DELETE FROM u WHERE w = :s;
+  SELECT w INTO :s FROM u WHERE w > '';
+  PRINT :s;
+  SELECT w INTO :s FROM u WHERE w < 'bz' ORDER BY w DESC;
+  PRINT :s;
+END;
+CALL p();
+";
+
+#[test]
+fn texts_are_first_and_last(rt: HostRuntime) -> Result<(), Fail> {
+    let want = "reply 0 done\n'bz'\n'b'\n'ba'\n'ba'\ntable u\n\"\"\nba\nbz\nend\n";
+    answers(&rt, rt.alloc(), "serial", TEXTS, want)
 }

@@ -9,13 +9,16 @@ ghost use Rattle.mv_view.specs.Viewing.{with_row_call};
 use crate::cases::{ensure, ensure_at};
 use crate::reports::accounts;
 use crate::values::row;
+use mv_store::store::Store;
+use mv_store::view::StoreView;
 use mv_table::scan::Direction;
 use mv_values::list::List;
 use mv_values::memory::NoMemory;
 use mv_values::op::Op;
 use mv_values::pred::{Pred, Test};
 use mv_values::rows::{Database, Keyed};
-use mv_values::value::{Row, Value};
+use mv_values::value::{Key, Row, Value};
+use mv_view::key_set::KeySet;
 use mv_view::plain::Plain;
 use mv_view::view::View;
 use std::alloc::Global;
@@ -121,44 +124,89 @@ fn rows_are_found_by_their_tests(rt: HostRuntime) -> Result<(), Fail> {
     found_as_told(rt.alloc(), &tables)
 }
 
-/// A column, its comparison with a number, and the numbers of the first and of the last row that is found.
-type Ends = (u8, Op, i64, Option<i64>, Option<i64>);
+/// The keys that a predicate admits.
+#[derive(Drop)]
+struct AdmittedKeys<'a> {
+    pred: &'a Pred,
+}
+
+impl<'a> KeySet for AdmittedKeys<'a> {
+    ghost has = { λ k key. admits k.pred.now key };
+
+    fn contains(&self, key: &Key) -> bool {
+        self.pred.admits(key)
+    }
+}
+
+/// A column, its comparison with a number, a comparison of the keys that are passed over, and the numbers of the first
+/// and of the last row that is found.
+type Ends = (u8, Op, i64, (Op, i64), Option<i64>, Option<i64>);
+
+const NO_KEY: (Op, i64) = (Op::Lt, 0);
 
 const ENDS: &[Ends] = &[
-    (0, Op::Eq, 3, Some(3), Some(3)),
-    (0, Op::Eq, 9, None, None),
-    (0, Op::Lt, 2, Some(0), Some(1)),
-    (1, Op::Eq, 100, Some(1), Some(4)),
-    (1, Op::Le, 99, Some(0), Some(0)),
+    (0, Op::Eq, 3, NO_KEY, Some(3), Some(3)),
+    (0, Op::Eq, 9, NO_KEY, None, None),
+    (0, Op::Lt, 2, NO_KEY, Some(0), Some(1)),
+    (1, Op::Eq, 100, NO_KEY, Some(1), Some(4)),
+    (1, Op::Le, 99, NO_KEY, Some(0), Some(0)),
+    (0, Op::Eq, 3, (Op::Eq, 3), None, None),
+    (0, Op::Lt, 2, (Op::Eq, 0), Some(1), Some(1)),
+    (0, Op::Lt, 2, (Op::Ge, 0), None, None),
+    (1, Op::Eq, 100, (Op::Ge, 3), Some(1), Some(2)),
+    (1, Op::Eq, 100, (Op::Lt, 3), Some(3), Some(4)),
+    (1, Op::Eq, 100, (Op::Ne, 2), Some(2), Some(2)),
 ];
 
-/// Returns the number of the first row in this direction.
-fn end(
+/// Returns the number of the first row in this direction outside the keys that are passed over.
+fn end<V: View>(
     alloc: Global,
-    tables: &Database,
     pred: &Pred,
     direction: Direction,
+    passed: &Pred,
+    view: &mut V,
 ) -> Result<Option<i64>, Fail>
-    requires { Admitted pred.now (rows_at tables.now pred.now.table) }
+    requires { Admitted pred.now (rows_at (V.sight view.old).database pred.now.table) }
 {
-    let mut view = Plain::new(tables);
-    match view.foremost(alloc, pred, direction) {
+    match view.foremost(alloc, pred, direction, &AdmittedKeys { pred: passed }) {
         Ok(Some(item)) => Ok(number(&item.row, 0)),
         Ok(None) => Ok(None),
         Err(_) => Err("no answer".into()),
     }
 }
 
+/// Returns the ends that a view in memory finds, and those that a view of a store finds.
+fn ends_found(
+    alloc: Global,
+    tables: &Database,
+    pred: &Pred,
+    direction: Direction,
+    passed: &Pred,
+) -> Result<(Option<i64>, Option<i64>), Fail>
+    requires { Admitted pred.now (rows_at tables.now pred.now.table) }
+{
+    let store = Store::new(alloc, tables)?;
+    let in_memory = end(alloc, pred, direction, passed, &mut Plain::new(tables))?;
+    let in_store = end(
+        alloc,
+        pred,
+        direction,
+        passed,
+        &mut StoreView::new(&store, 0),
+    )?;
+    Ok((in_memory, in_store))
+}
+
 fn has_ends(alloc: Global, tables: &Database, case: &Ends) -> Result<bool, Fail> {
-    let (column, op, value, first, last) = *case;
+    let (column, op, value, (key_op, key), first, last) = *case;
     let pred = where_is(alloc, column, op, value)?;
+    let passed = where_is(alloc, 0, key_op, key)?;
     if !has_admitted(&pred, tables) {
         return Err("a row that the predicate doesn't admit".into());
     }
-    Ok(
-        end(alloc, tables, &pred, Direction::Forward)? == first
-            && end(alloc, tables, &pred, Direction::Backward)? == last,
-    )
+    let forward = ends_found(alloc, tables, &pred, Direction::Forward, &passed)?;
+    let backward = ends_found(alloc, tables, &pred, Direction::Backward, &passed)?;
+    Ok(forward == (first, first) && backward == (last, last))
 }
 
 fn ends_as_told(alloc: Global, tables: &Database) -> Result<(), Fail> {
