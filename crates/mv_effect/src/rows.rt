@@ -12,7 +12,7 @@ ghost use Rattle.mv_record.specs.Admitting.{Admitted};
 ghost use Rattle.mv_record.specs.Writes.{AreRising};
 ghost use Rattle.mv_undo.specs.Owning.{earlier, is_among, is_sought, touches, AreSought};
 ghost use Rattle.mv_view.specs.Viewing.{MayAnswer, answered, with_row_call};
-ghost use Rattle.mv_effect.specs.Looking.{different, Stands, OnlyAsks, AskedAtMost, IsSameView, PassesOn};
+ghost use Rattle.mv_effect.specs.Looking.{different, Stands, OnlyAsks, AskedAtMost};
 ghost use Rattle.mv_effect.specs.Firsts.{is_met_before, IsFirstOf};
 ghost use Rattle.mv_recorded.specs.Asking.{KnowsKey};
 
@@ -200,9 +200,7 @@ fn first_own<V: View>(
     requires rising { AreRising (V.sight view.old).database }
     requires table { pred.now.table < length (V.sight view.old).database }
     ensures found { IfOk result (IsFirstOf direction (is_sought pred.now (earlier number undo.now)) (found_by pred.now (applied (earlier number undo.now) (V.sight view.old).database)) (option_copied other.entry)) }
-    ensures refused { MayAnswer (V.sight view.old) (V.sight view.new) result }
-    ensures stale { PassesOn (V.sight view.old) (V.sight view.new) result }
-    ensures same { IsSameView (V.sight view.old) (V.sight view.new) }
+    ensures view { OnlyAsks (V.sight view.old) (V.sight view.new) result }
     ensures looks { AskedAtMost 0 (different (earlier number undo.now)) (V.sight view.old) (V.sight view.new) }
 {
     let mut keys = undo.sought_keys(alloc, number, pred)?;
@@ -234,9 +232,7 @@ fn first_after<V: View>(
     requires before { Admitted pred.now (rows_at (V.sight view.old).database pred.now.table) }
     requires behind { Admitted pred.now (rows_at (applied (earlier number undo.now) (V.sight view.old).database) pred.now.table) }
     ensures found { IfOk result (λ row. row ≡ foremost direction (found_by pred.now (applied (earlier number undo.now) (V.sight view.old).database))) }
-    ensures refused { MayAnswer (V.sight view.old) (V.sight view.new) result }
-    ensures stale { PassesOn (V.sight view.old) (V.sight view.new) result }
-    ensures same { IsSameView (V.sight view.old) (V.sight view.new) }
+    ensures view { OnlyAsks (V.sight view.old) (V.sight view.new) result }
     ensures looks { AskedAtMost 1 (different (earlier number undo.now)) (V.sight view.old) (V.sight view.new) }
 {
     let table = pred.table;

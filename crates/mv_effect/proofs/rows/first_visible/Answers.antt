@@ -21,14 +21,8 @@ first_after-requires-clause-rising g c = c.requires.stands.database.rising
 pub returns-clause-found : goal.returns-clause-found
 returns-clause-found g c = c.first_after.ensures.found
 
-pub returns-clause-refused : goal.returns-clause-refused
-returns-clause-refused g c = c.first_after.ensures.refused
-
-pub returns-clause-stale : goal.returns-clause-stale
-returns-clause-stale g c = c.first_after.ensures.stale
-
-pub returns-clause-same : goal.returns-clause-same
-returns-clause-same g c = c.first_after.ensures.same
+pub returns-clause-view : goal.returns-clause-view
+returns-clause-view g c = c.first_after.ensures.view
 
 pub returns-clause-looks : goal.returns-clause-looks
 returns-clause-looks g c = c.first_after.ensures.looks
