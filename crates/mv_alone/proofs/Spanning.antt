@@ -52,6 +52,10 @@ one_test_more keys checks tests new i check place v lt is within at same made h 
 pub admit_own : (keys : List ℕ) (tests : List Test) (checks : List Check) (rows : List Keyed) → StandUnder keys rows → ((row : List Value) → meets checks row ≡ true → Admits tests (columns_of row keys)) → AdmitMatches tests checks rows
 admit_own keys tests checks rows own admits k d lt so = subst (Admits tests) (sym (own k d lt)) (admits (slice_index_or rows k d).row so)
 
+-- so do they where they are borrowed
+pub admit_lent : (keys : List ℕ) (tests list : List Test) (checks : List Check) (rows : List Keyed) → tests ≡ list → StandUnder keys rows → ((row : List Value) → meets checks row ≡ true → Admits list (columns_of row keys)) → AdmitMatches tests checks rows
+admit_lent keys tests list checks rows is own admits = subst (λ ts. AdmitMatches ts checks rows) (sym is) (admit_own keys list checks rows own admits)
+
 -- a filter through what is seen
 pub filter_seen : {A : Type 0} (seen : A → Keyed) (p : Keyed → Bool) (xs : List A) → map seen (filter (λ x. p (seen x)) xs) ≡ filter p (map seen xs)
 filter_seen seen p [] = refl
