@@ -1,5 +1,5 @@
 -- Names and types, and the opening rows, answer exactly.
-use Rattle.std.proofs.Common.{◌≡◌, ◌⊎◌, ◌<◌, ◌≤◌, inl, inr, ℕ, false, List, [], ◌∷◌, ◌++◌, Result, Ok, Err, refl, sym, ap, subst, ◌∙◌, arith, length, nat_lt, ◌==◌, ◌&&◌, ◌||◌}
+use Rattle.std.proofs.Common.{◌≡◌, ◌⊎◌, inl, inr, ℕ, false, List, [], ◌∷◌, ◌++◌, Result, Ok, Err, refl, sym, ap, subst, ◌∙◌, arith, length, nat_lt, ◌==◌, ◌&&◌, ◌||◌}
 use Rattle.std.proofs.Math.Seq.{get_or-append_seam}
 use Rattle.std.proofs.lemmas.List.{length-append}
 use Rattle.std.specs.Prelude.{All}
@@ -20,10 +20,9 @@ use Rattle.mv_opening.specs.declared.fault.OpeningFault.TheVariants as opening
 use Rattle.mv_opening.specs.Opening.{IsOpening, HasNoOpening}
 use Rattle.mv_record.specs.Runs.{Tables}
 use Rattle.mv_accept.specs.declared.refusal.Refusal.{Refusal}
-use Rattle.mv_accept.specs.declared.refusal.Refusal.TheVariants as why
 use Rattle.mv_accept.specs.declared.accept.NotAccepted.{NotAccepted}
 use Rattle.mv_accept.specs.declared.accept.NotAccepted.TheVariants.{Refused, NoMemory}
-use Rattle.mv_accept.specs.Exact.{Exact, HasCause, Tells}
+use Rattle.mv_accept.specs.Exact.{Exact, HasCause}
 use Rattle.mv_accept.specs.Accepting.{Means, HasFault, refusal_at, Opens, TellsOfRows, HasNoRows}
 use Rattle.mv_accept.specs.Telling.{of_naming, OfOpening}
 

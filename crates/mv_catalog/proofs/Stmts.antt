@@ -38,8 +38,8 @@ use Rattle.mv_catalog.specs.Building as build
 use Rattle.mv_catalog.specs.Building.{Built, built, build_all, loops_in, slot, small, table_place, columns_in, column_number, numbers_of, number_of, conds_of, sorts_of, agg_of, items_of, plain, plains, maybe_plain, names_of, slot_named, fields_in, table_of}
 use Rattle.mv_catalog.specs.Types.{Kind, int, declared, Vars}
 use Rattle.mv_catalog.specs.Statements as well
-use Rattle.mv_catalog.specs.Statements.{all_well, stmt_step, IsWell, Gives, Takes, IsTest, IsSort, IsTotal, with_turn, rows_step, rows_in, rows_of, CountsFrom, Well, kinds_of, IsItem}
-use Rattle.mv_catalog.proofs.Lists.{nothing_left, nothing_right, not_when, not_false, small_is, map_map}
+use Rattle.mv_catalog.specs.Statements.{all_well, stmt_step, IsWell, Gives, Takes, IsTest, IsSort, IsTotal, with_turn, rows_step, rows_in, rows_of, CountsFrom}
+use Rattle.mv_catalog.proofs.Lists.{nothing_left, nothing_right, not_when, small_is, map_map}
 use Rattle.mv_catalog.proofs.Scopes.{Matches}
 use Rattle.mv_catalog.proofs.Typed as typed
 use Rattle.mv_catalog.proofs.Parts.{gives, tests_of, sorts_are, offset_is, target_is, taking, targets_take, total_is, values_are, printed}

@@ -1,5 +1,5 @@
 -- The nodes of statements, added one after another.
-use Rattle.std.proofs.Common.{◌≡◌, ℕ, suc, ◌+◌, ◌<◌, ◌≤◌, List, [], ◌∷◌, ◌++◌, Option, Some, map, length, drop, slice_index_or, refl, sym, ap, subst, ◌∙◌, arith, append_assoc, length-append}
+use Rattle.std.proofs.Common.{◌≡◌, ℕ, suc, ◌+◌, ◌<◌, List, [], ◌∷◌, ◌++◌, Option, Some, map, length, drop, slice_index_or, sym, ap, ◌∙◌, arith, append_assoc, length-append}
 use Rattle.std.proofs.Math.Seq.{drop-cons}
 use Rattle.mv_catalog.specs.Statements.{size, total_size}
 use Rattle.mv_catalog.specs.declared.resolved.RStmt.{RStmt, out-RStmt, out-roll-RStmt}
@@ -8,7 +8,7 @@ use Rattle.mv_catalog.specs.declared.resolved.RStmt.TheVariants.{Branch, rolls-B
 use Rattle.mv_catalog.specs.declared.resolved.RExpr.{RExpr}
 use Rattle.mv_graph.specs.declared.graph.Node.{Node}
 use Rattle.mv_graph.specs.Nodes.{own_node, nodes_of, nodes_inside, body_nodes}
-use Rattle.mv_graph.proofs.Sizes.{nodes_count, body_counts, nodes_out}
+use Rattle.mv_graph.proofs.Sizes.{nodes_count, nodes_out}
 
 branches : (params found : ℕ) (nodes first second : List Node) (ys ns : List RStmt) (holder : Option ℕ) (loops : List ℕ)
     → first ≡ nodes ++ body_nodes params found ys (length nodes + 1) holder loops → second ≡ first ++ body_nodes params found ns (length first + 1) holder loops

@@ -8,6 +8,7 @@ use Rattle.std.specs.Ordering.{is_eq, is_lt}
 use Rattle.std.specs.declared.cmp.Ordering.TheVariants.{Less}
 use Rattle.mv_values.specs.declared.value.Value.{Value}
 use Rattle.mv_values.specs.declared.rows.Keyed.{Keyed}
+use Rattle.mv_values.specs.declared.pred.Pred.{Pred}
 use Rattle.mv_values.specs.Order.{key_order}
 use Rattle.mv_values.specs.Patching.{row_of}
 use Rattle.mv_values.proofs.KeyOrder.{exact_keys}
@@ -15,7 +16,8 @@ use Rattle.mv_table.specs.declared.scan.Direction.{Direction}
 use Rattle.mv_table.specs.declared.scan.Direction.TheVariants.{Forward, Backward}
 use Rattle.mv_table.specs.Scans.{with_foremost}
 use Rattle.mv_undo.specs.Taking.{meets_first}
-use Rattle.mv_undo.specs.Owning.{is_among}
+use Rattle.mv_undo.specs.declared.owned.Owned.{Owned}
+use Rattle.mv_undo.specs.Owning.{earlier, is_among, is_sought}
 use Rattle.mv_undo.proofs.Taking.{never_itself}
 use Rattle.mv_undo.proofs.KeyPlaces.{equal_is}
 use Rattle.mv_view.specs.Viewing.{Sight, one_more, with_row_call, answered}
@@ -137,6 +139,11 @@ none_left d sought rows keys other is each x so before = elim (each x so) [
   | inl none ↦ none
   | inr among ↦ absurd (clash false (subst (λ ks. is_among ks x ≡ true) is among) refl)
 ]
+
+-- without writes there is none
+pub none_written : (number : ℕ) (undo : List Owned) (d : Direction) (pred : Pred) (rows : List Keyed) (other : Option Keyed) → length undo ≡ 0 → IsFirstOf d (is_sought pred (earlier number undo)) rows other None
+none_written number [] d pred rows other none key so before = absurd (clash false so refl)
+none_written number (o ∷ os) d pred rows other none key so before = absurd (omega (arith, none))
 
 -- What was asked for them
 

@@ -203,6 +203,9 @@ fn first_own<V: View>(
     ensures view { OnlyAsks (V.sight view.old) (V.sight view.new) result }
     ensures looks { AskedAtMost 0 (different (earlier number undo.now)) (V.sight view.old) (V.sight view.new) }
 {
+    if undo.as_slice().is_empty() {
+        return Ok(None);
+    }
     let mut keys = undo.sought_keys(alloc, number, pred)?;
     while let Some(key) = keys.take_next(direction) {
         if !is_met_before(direction, key, other) {

@@ -3,7 +3,6 @@ use Rattle.std.proofs.Common.{ℕ, ◌≤◌, List, length, arith, length-append
 use Rattle.mv_lex.proofs.Pieces.{some_bytes}
 use Rattle.mv_lex.specs.Tokens.{Reads, stop, blank, comment, token, AreTokens}
 use Rattle.mv_lex.specs.declared.token.Token.{Token}
-use Rattle.mv_lex.specs.declared.token.Kind.TheVariants as kind
 
 few : {place end : ℕ} {bytes rest : List ℕ} {tokens : List Token} → Reads place bytes tokens end rest → length tokens ≤ length bytes
 few stop = omega arith

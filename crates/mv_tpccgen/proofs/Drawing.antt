@@ -1,9 +1,9 @@
 -- Draws one after another.
-use Rattle.std.proofs.Common.{◌≡◌, ◌≢◌, ◌⊎◌, ◌≤◌, ◌<◌, ◌+◌, ◌++◌, ◌∷◌, [], ℕ, suc, Bool, true, false, List, refl, ap, ◌∙◌, add-one, arith}
+use Rattle.std.proofs.Common.{◌≡◌, ◌≢◌, ◌⊎◌, ◌≤◌, ◌<◌, ◌+◌, ◌++◌, ◌∷◌, [], ℕ, Bool, true, false, List, refl, ap, ◌∙◌, add-one, arith}
 use Rattle.std.specs.Prelude.{nat_le, nat_lt, ◌==◌, ◌&&◌, if◌then◌else◌}
 use Rattle.std.proofs.lemmas.Bool.Decides.{nat_tests}
 use Rattle.rand_core.specs.Stream.{Stream}
-use Rattle.mv_tpccgen.specs.Draws.{Draw, done, ◌>>=◌, each}
+use Rattle.mv_tpccgen.specs.Draws.{◌>>=◌, each}
 
 pub follows : {A B : Type 0} (draw : Stream → A × Stream) (more : A → Stream → B × Stream) (s t u : Stream) (x : A) (y : B)
     → (x, t) ≡ draw s → (y, u) ≡ more x t → (y, u) ≡ ◌>>=◌ draw more s

@@ -1,4 +1,4 @@
-use Rattle.std.proofs.Common.{◌≡◌, ◌<◌, ◌-◌, None, Some, inr, length, sym, ap, subst, ◌∙◌, arith}
+use Rattle.std.proofs.Common.{rules, ◌≡◌, ◌<◌, ◌-◌, None, Some, inr, length, sym, ap, subst, ◌∙◌, arith}
 use Rattle.std.specs.Option.{option_copied}
 use Rattle.mv_values.specs.Patching.{row_of, applied, found_by}
 use Rattle.mv_record.specs.Writes.{AreRising}
@@ -6,8 +6,15 @@ use Rattle.mv_undo.specs.Owning.{earlier, is_sought}
 use Rattle.mv_effect.specs.Firsts.{IsFirstOf}
 use Rattle.mv_effect.specs.Looking.{different}
 use Rattle.mv_effect.proofs.Few.{sought_few}
-use Rattle.mv_effect.proofs.OwnKeys.{one_fewer, rises_later, each_later, none_before, first_with_row, asked_nothing, asked_again}
+use Rattle.mv_effect.proofs.OwnKeys.{one_fewer, rises_later, each_later, none_before, first_with_row, none_written, asked_nothing, asked_again}
 use Rattle.mv_effect.proofs.rows.first_own.Goals as goal
+
+pub returns-then-is_empty-clause-found : goal.returns-then-is_empty-clause-found
+returns-then-is_empty-clause-found g c =
+    let ws = earlier c.args.number c.args.undo.now in
+    let none : length c.as_slice.result.now ≡ 0 = search rules in
+    none_written c.args.number c.args.undo.now c.args.direction c.args.pred.now (found_by c.args.pred.now (applied ws (g.V.View.sight c.args.view.now).database)) (option_copied c.args.other)
+    (ap length (sym c.as_slice.ensures.items) ∙ none)
 
 pub loop-key-init : goal.loop-key-init
 loop-key-init g c =
