@@ -17,7 +17,7 @@ use Rattle.mv_recorded.specs.Reading.{Loop, each_once, last_place, loop_of, sets
 use Rattle.mv_recorded.specs.Recorded.{Site}
 use Rattle.mv_record.specs.declared.effect.Effect.{Effect}
 use Rattle.mv_history.specs.Kept.{Path, Placed, among, path_at, is_kept, same_path, reads_stay}
-use Rattle.mv_recorded.specs.Own.{Each, Within, Ground, Here, LoopsHold, sets_in, rows_of, row_in}
+use Rattle.mv_recorded.specs.Own.{Each, Within, Ground, IsAtSite, LoopsHold, sets_in, rows_of, row_in}
 use Rattle.mv_recorded.proofs.Slots.{get_same, get_other, kept_within, once_within}
 use Rattle.mv_recorded.proofs.Held.{slots_alike, slots_both, OwnSlots}
 use Rattle.mv_record.specs.Effects.{effect_in}
@@ -202,7 +202,7 @@ definers_same kept fo more ns d e a b same h k stay =
 
 -- a variable holds the same in both
 pub held_same : (g : Ground) (new : List (List _)) (kept : List Path) (fo more ns : List Placed) (site other : Site) (rs : List ℕ) (st nst : State) (x : ℕ) → g.params ≤ g.base
-    → Here g site rs (its fo) st → Here (record g { db = new }) other rs (its ns) nst → site.turns ≡ other.turns → KeptSame kept (fo ++ more) ns → (x < g.base) ⊎ Within x rs
+    → IsAtSite g site rs (its fo) st → IsAtSite (record g { db = new }) other rs (its ns) nst → site.turns ≡ other.turns → KeptSame kept (fo ++ more) ns → (x < g.base) ⊎ Within x rs
     → (g.params ≤ x → Stay kept (fo ++ more) ns (definer site.loops (its fo) x) (definer other.loops (its ns) x)) → held_at st.env x ≡ held_at nst.env x
 held_same g new kept fo more ns site other rs st nst x below h k turns same (inl lt) stay = by (nat_le g.params x) refl
   where

@@ -28,7 +28,7 @@ use Rattle.mv_recorded.specs.Recorded.{Site, own_record}
 use Rattle.mv_record.specs.Databases.{IsDatabaseOf}
 use Rattle.mv_record.specs.Effects.{effect_in}
 use Rattle.mv_recorded.specs.Alike.{Agree, OverAgrees, SeenAlike}
-use Rattle.mv_recorded.specs.Own.{Bare, Stated, Each, Within, Suits, Ground, Here, StandsAt, IsOwn, OverSuits}
+use Rattle.mv_recorded.specs.Own.{Bare, Stated, Each, Within, Suits, Ground, IsAtSite, StandsAt, IsOwn, OverSuits}
 use Rattle.mv_recorded.proofs.Congruent.{congruent}
 use Rattle.mv_recorded.proofs.Matching.{places_of}
 use Rattle.mv_history.specs.declared.change.Change.{Change}
@@ -150,14 +150,14 @@ over_agrees g (Rollback reason) e f h k = tt
 
 -- the same record, in the state before it in both runs
 pub own_same : (g : Ground) (new : Tables) (changes : List Change) (kept : List Path) (fo more fn : List Placed) (or nr : Record) → g.params ≤ g.base → Bases g.tables g.db (its fo) → Bases g.tables new (its fn) → Covers changes g.db new
-    → IsOwn g (its fo) or → (b : IsOwn (record g { db = new }) (its fn) nr) → (s : Stated) (n : ℕ) (site : Site) (st : State) → StandsAt g.text n (s ∷ []) → Suits g.tables g.params g.base s → Here g site s.rows (its fo) st
+    → IsOwn g (its fo) or → (b : IsOwn (record g { db = new }) (its fn) nr) → (s : Stated) (n : ℕ) (site : Site) (st : State) → StandsAt g.text n (s ∷ []) → Suits g.tables g.params g.base s → IsAtSite g site s.rows (its fo) st
     → or ≡ own_record g.tables g.params s.it n site (its fo) st → s ≡ b.s → site.turns ≡ b.site.turns
     → KeptSame kept (fo ++ more) fn → reads_stay kept (fo ++ more) or.reads fn nr.reads ≡ true
     → Each (λ p. Each (λ c. hits_by (writes_in (its fo)) c p ≡ false) changes × Merged p (writes_in (its fo)) (writes_in (its fn))) or.preds
     → effect_in or ≡ effect_in nr
 own_same g new changes kept fo more fn or nr below bases nbases covers a b s n site st stands suits here is same turns kept' stay free =
     let k : Ground = record g { db = new } in
-    let other : Here k b.site s.rows (its fn) b.st = subst (λ (t : Stated). Here k b.site t.rows (its fn) b.st) (sym same) b.here in
+    let other : IsAtSite k b.site s.rows (its fn) b.st = subst (λ (t : Stated). IsAtSite k b.site t.rows (its fn) b.st) (sym same) b.here in
     let are : nr ≡ own_record g.tables g.params s.it b.n b.site (its fn) b.st = b.is ∙ ap (λ (t : Stated). own_record g.tables g.params t.it b.n b.site (its fn) b.st) (sym same) in
     let xs : List ℕ = flat_map variables (expressions s.it) in
     let stay' : reads_stay kept (fo ++ more) (reads_of g.params site.loops (its fo) (expressions s.it)) fn (reads_of g.params b.site.loops (its fn) (expressions s.it)) ≡ true =
@@ -177,7 +177,7 @@ own_same g new changes kept fo more fn or nr below bases nbases covers a b s n s
     }) ∙ sym (ap effect_in are))
   where
     seen_all : (ps : List Pred) → Each (Places g.tables) ps → Each (λ p. Each (λ c. hits_by (writes_in (its fo)) c p ≡ false) changes × Merged p (writes_in (its fo)) (writes_in (its fn))) ps
-        → Here (record g { db = new }) b.site s.rows (its fn) b.st → Each (λ p. SeenAlike p st.tables b.st.tables) ps
+        → IsAtSite (record g { db = new }) b.site s.rows (its fn) b.st → Each (λ p. SeenAlike p st.tables b.st.tables) ps
     seen_all [] h k other = tt
     seen_all (p ∷ ps) h k other = (
       subst (λ t. SeenAlike p t b.st.tables) (sym here.told.tables) (subst (λ t. SeenAlike p (applied (writes_in (its fo)) g.db) t) (sym other.told.tables)

@@ -28,7 +28,7 @@ use Rattle.mv_alone.specs.Outcome.{then_do}
 use Rattle.mv_alone.specs.Env.{held_at, with_found, with_held, turns_at}
 use Rattle.mv_alone.specs.Value.{value_of, is_so}
 use Rattle.mv_alone.specs.Rows.{checks_of}
-use Rattle.mv_alone.specs.Alone.{Does, alone, does, stmt_step, each_turn, loop_over, fixed, matches, is_turn}
+use Rattle.mv_alone.specs.Alone.{Does, alone, does, stmt_step, each_turn, loop_over, fixed, matching_in, is_turn}
 use Rattle.mv_alone.specs.TableAfter.{Tables, begun}
 use Rattle.mv_record.specs.declared.record.Record.{Record}
 use Rattle.mv_record.specs.Runs.{writes_in}
@@ -36,7 +36,7 @@ use Rattle.mv_recorded.specs.Asking.{on, preds_of}
 use Rattle.mv_recorded.specs.Doing.{itself, before_turns}
 use Rattle.mv_recorded.specs.Effect.{with_slots, behind, TellsEffect}
 use Rattle.mv_recorded.specs.Reading.{variables, expressions}
-use Rattle.mv_recorded.specs.Recorded.{Tells, Site, tell, tell_step, tell_turns, tell_loop, own_record, in_turn, within, within_loop, told, outside, recorded}
+use Rattle.mv_recorded.specs.Recorded.{Tells, Site, tell, tell_step, tell_turns, tell_loop, own_record, in_turn, within, within_loop, tell_statements, outside, recorded}
 use Rattle.mv_recorded.specs.Alike.{Agree, OverAgrees, SeenAlike}
 use Rattle.mv_recorded.specs.Own.{Bare, bare, Flat, flat, flat_step, flat_all, Each, Suits, AllSuit}
 use Rattle.mv_recorded.proofs.Congruent.{congruent}
@@ -300,13 +300,13 @@ Known g = (s : RStmt) × Steps g (flat s) (tell g.tables g.params s) (does g.tab
 abbrev plain : (g : Pair) → List (Known g) → List RStmt
 plain g known = map (λ k. k.0) known
 
-all_locked : (g : Pair) (known : List (Known g)) → Steps g (flat_all (plain g known)) (told g.tables g.params (plain g known)) (alone g.tables (plain g known))
+all_locked : (g : Pair) (known : List (Known g)) → Steps g (flat_all (plain g known)) (tell_statements g.tables g.params (plain g known)) (alone g.tables (plain g known))
 all_locked g [] rows n site before st nst suits twin u = (refl, subst (λ b. Twin g b st nst) (sym (append-nil before)) twin)
 all_locked g (k ∷ ks) rows n site before st nst suits twin u =
     let these : List Record = tell g.tables g.params k.0 n site before st in
     let split = each_both (Suits g.tables g.params g.base) (flat k.0 rows) (flat_all (plain g ks) rows) suits in
     let others : List Record = tell g.tables g.params k.0 n site before nst in
-    let rest : List Record → State → List Record = λ t. told g.tables g.params (plain g ks) (n + size k.0) site (before ++ t) in
+    let rest : List Record → State → List Record = λ t. tell_statements g.tables g.params (plain g ks) (n + size k.0) site (before ++ t) in
     let first = k.1 rows n site before st nst split.0 twin (sound_first g before these (on (does g.tables k.0 st) (rest these)) others (on (does g.tables k.0 nst) (rest others)) u) in
     then_locked g before these others (does g.tables k.0 st) (does g.tables k.0 nst) rest (alone g.tables (plain g ks)) first.0 first.1 u
     (λ a b t v. all_locked g ks rows (n + size k.0) site (before ++ these) a b split.1 t v)
@@ -337,44 +337,44 @@ step_locked g pair (ForSelect x once cs t conds sorts body) rows n site before s
     let ss : List RStmt = plain g body in
     let own : Record = own_record g.tables g.params y n site before st in
     let other : Record = own_record g.tables g.params y n site before nst in
-    let fix : State → Result (List (List Value)) End = λ s. then_do (checks_of conds s.env) (λ checks. Ok (fixed once cs sorts (matches t checks s))) in
-    let inner : Does → Record → State → List Record = λ b o s. on (fix s) (λ all. tell_loop x b (told g.tables g.params ss) all (n + 1) (within_loop x (length before) site) (before ++ o ∷ []) s) in
-    let out : State → Result State End = λ s. then_do (checks_of conds s.env) (λ checks. loop_over x (alone g.tables ss) (fixed once cs sorts (matches t checks s)) s) in
+    let fix : State → Result (List (List Value)) End = λ s. then_do (checks_of conds s.env) (λ checks. Ok (fixed once cs sorts (matching_in t checks s))) in
+    let inner : Does → Record → State → List Record = λ b o s. on (fix s) (λ all. tell_loop x b (tell_statements g.tables g.params ss) all (n + 1) (within_loop x (length before) site) (before ++ o ∷ []) s) in
+    let out : State → Result State End = λ s. then_do (checks_of conds s.env) (λ checks. loop_over x (alone g.tables ss) (fixed once cs sorts (matching_in t checks s)) s) in
     subst (λ b. Sound g before (own ∷ inner b own st) (other ∷ inner b other nst) → (other ∷ inner b other nst ≡ own ∷ inner b own st) × Ends g before (own ∷ inner b own st) (out st) (out nst)) (sym (again g ss))
     (λ v. let first = own_locked g z n site rows before st nst pair suits.0 twin (sound_first g before (own ∷ []) (inner (alone g.tables ss) own st) (other ∷ []) (inner (alone g.tables ss) other nst) v) in
     let same : fix st ≡ fix nst = rows_of_same (fix st) (fix nst) st nst (sym (ap (λ (r : Record). r.rows) first.0)) (sym (ap (λ (r : Record). r.end) first.0)) in
-    subst (λ o. (other ∷ inner (alone g.tables ss) other nst ≡ own ∷ inner (alone g.tables ss) own st) × Ends g before (own ∷ inner (alone g.tables ss) own st) o (out nst)) (then_loops (checks_of conds st.env) (λ checks. fixed once cs sorts (matches t checks st)) (λ all. loop_over x (alone g.tables ss) all st))
+    subst (λ o. (other ∷ inner (alone g.tables ss) other nst ≡ own ∷ inner (alone g.tables ss) own st) × Ends g before (own ∷ inner (alone g.tables ss) own st) o (out nst)) (then_loops (checks_of conds st.env) (λ checks. fixed once cs sorts (matching_in t checks st)) (λ all. loop_over x (alone g.tables ss) all st))
     (subst (λ o. (other ∷ inner (alone g.tables ss) other nst ≡ own ∷ inner (alone g.tables ss) own st) × Ends g before (own ∷ inner (alone g.tables ss) own st) (then_do (fix st) (λ all. loop_over x (alone g.tables ss) all st)) o)
-    (then_loops (checks_of conds nst.env) (λ checks. fixed once cs sorts (matches t checks nst)) (λ all. loop_over x (alone g.tables ss) all nst))
-    (subst (λ r. (other ∷ on r (λ all. tell_loop x (alone g.tables ss) (told g.tables g.params ss) all (n + 1) (within_loop x (length before) site) (before ++ other ∷ []) nst) ≡ own ∷ inner (alone g.tables ss) own st)
+    (then_loops (checks_of conds nst.env) (λ checks. fixed once cs sorts (matching_in t checks nst)) (λ all. loop_over x (alone g.tables ss) all nst))
+    (subst (λ r. (other ∷ on r (λ all. tell_loop x (alone g.tables ss) (tell_statements g.tables g.params ss) all (n + 1) (within_loop x (length before) site) (before ++ other ∷ []) nst) ≡ own ∷ inner (alone g.tables ss) own st)
     × Ends g before (own ∷ inner (alone g.tables ss) own st) (then_do (fix st) (λ all. loop_over x (alone g.tables ss) all st)) (then_do r (λ all. loop_over x (alone g.tables ss) all nst))) same
-    (loop_locked g x (flat_all ss) (alone g.tables ss) (told g.tables g.params ss) (all_locked g body) (fix st) own other (n + 1) (within_loop x (length before) site) (x ∷ rows) before st nst suits.1 first.0
+    (loop_locked g x (flat_all ss) (alone g.tables ss) (tell_statements g.tables g.params ss) (all_locked g body) (fix st) own other (n + 1) (within_loop x (length before) site) (x ∷ rows) before st nst suits.1 first.0
     (subst (λ r. Ends g before (own ∷ []) (before_turns (fix st) st) (before_turns r nst)) (sym same) first.1)
-    (subst (λ r. Sound g before (own ∷ inner (alone g.tables ss) own st) (other ∷ on r (λ all. tell_loop x (alone g.tables ss) (told g.tables g.params ss) all (n + 1) (within_loop x (length before) site) (before ++ other ∷ []) nst))) (sym same) v))))) u
+    (subst (λ r. Sound g before (own ∷ inner (alone g.tables ss) own st) (other ∷ on r (λ all. tell_loop x (alone g.tables ss) (tell_statements g.tables g.params ss) all (n + 1) (within_loop x (length before) site) (before ++ other ∷ []) nst))) (sym same) v))))) u
 step_locked g pair (ForRows x y body) rows n site before st nst suits twin u =
     let w : RStmt-F (RStmt × Tells) = telling g (ForRows x y body) in
     let z : Bare = bare (map-RStmt RStmt Flat flat (unknown g (ForRows x y body))) in
     let ss : List RStmt = plain g body in
     let own : Record = own_record g.tables g.params w n site before st in
     let other : Record = own_record g.tables g.params w n site before nst in
-    let inner : Does → Record → State → List Record = λ b o s. tell_loop x b (told g.tables g.params ss) (turns_at s.env y) (n + 1) (within_loop x (length before) site) (before ++ o ∷ []) s in
+    let inner : Does → Record → State → List Record = λ b o s. tell_loop x b (tell_statements g.tables g.params ss) (turns_at s.env y) (n + 1) (within_loop x (length before) site) (before ++ o ∷ []) s in
     let out : State → Result State End = λ s. loop_over x (alone g.tables ss) (turns_at s.env y) s in
     subst (λ b. Sound g before (own ∷ inner b own st) (other ∷ inner b other nst) → (other ∷ inner b other nst ≡ own ∷ inner b own st) × Ends g before (own ∷ inner b own st) (out st) (out nst)) (sym (again g ss))
     (λ v. let first = own_locked g z n site rows before st nst pair suits.0 twin (sound_first g before (own ∷ []) (inner (alone g.tables ss) own st) (other ∷ []) (inner (alone g.tables ss) other nst) v) in
     let same : turns_at st.env y ≡ turns_at nst.env y = ap (λ e. turns_at e y) twin.env in
-    subst (λ l. (other ∷ tell_loop x (alone g.tables ss) (told g.tables g.params ss) l (n + 1) (within_loop x (length before) site) (before ++ other ∷ []) nst ≡ own ∷ inner (alone g.tables ss) own st)
+    subst (λ l. (other ∷ tell_loop x (alone g.tables ss) (tell_statements g.tables g.params ss) l (n + 1) (within_loop x (length before) site) (before ++ other ∷ []) nst ≡ own ∷ inner (alone g.tables ss) own st)
     × Ends g before (own ∷ inner (alone g.tables ss) own st) (out st) (loop_over x (alone g.tables ss) l nst)) same
-    (loop_locked g x (flat_all ss) (alone g.tables ss) (told g.tables g.params ss) (all_locked g body) (Ok (turns_at st.env y)) own other (n + 1) (within_loop x (length before) site) (x ∷ rows) before st nst suits.1 first.0
+    (loop_locked g x (flat_all ss) (alone g.tables ss) (tell_statements g.tables g.params ss) (all_locked g body) (Ok (turns_at st.env y)) own other (n + 1) (within_loop x (length before) site) (x ∷ rows) before st nst suits.1 first.0
     (subst (λ l. Ends g before (own ∷ []) (before_turns (Ok (turns_at st.env y)) st) (before_turns (Ok l) nst)) (sym same) first.1)
-    (subst (λ l. Sound g before (own ∷ inner (alone g.tables ss) own st) (other ∷ tell_loop x (alone g.tables ss) (told g.tables g.params ss) l (n + 1) (within_loop x (length before) site) (before ++ other ∷ []) nst)) (sym same) v))) u
+    (subst (λ l. Sound g before (own ∷ inner (alone g.tables ss) own st) (other ∷ tell_loop x (alone g.tables ss) (tell_statements g.tables g.params ss) l (n + 1) (within_loop x (length before) site) (before ++ other ∷ []) nst)) (sym same) v))) u
 step_locked g pair (Branch e ys ns) rows n site before st nst suits twin u =
     let y : RStmt-F (RStmt × Tells) = telling g (Branch e ys ns) in
     let z : Bare = bare (map-RStmt RStmt Flat flat (unknown g (Branch e ys ns))) in
     let own : Record = own_record g.tables g.params y n site before st in
     let other : Record = own_record g.tables g.params y n site before nst in
     let m : ℕ = total_size (map (λ (s : RStmt × Tells). size s.0) (map (λ s. (s, tell g.tables g.params s)) (plain g ys))) in
-    let yes : List Record → State → List Record = told g.tables g.params (plain g ys) (n + 1) (within (length before) site) in
-    let not' : List Record → State → List Record = told g.tables g.params (plain g ns) (n + 1 + m) (within (length before) site) in
+    let yes : List Record → State → List Record = tell_statements g.tables g.params (plain g ys) (n + 1) (within (length before) site) in
+    let not' : List Record → State → List Record = tell_statements g.tables g.params (plain g ns) (n + 1 + m) (within (length before) site) in
     let split = each_both (Suits g.tables g.params g.base) (flat_all (plain g ys) rows) (flat_all (plain g ns) rows) suits.1 in
     let same : value_of e st.env [] ≡ value_of e nst.env [] = ap (λ v. value_of e v []) twin.env in
     let either : Record → State → Value → List Record = λ o s v. if is_so v then yes (before ++ o ∷ []) s else not' (before ++ o ∷ []) s in
@@ -411,8 +411,8 @@ known_firsts : (g : Pair) (pair : IsPair g) (ss : List RStmt) → map (λ (k : K
 known_firsts g pair [] = refl
 known_firsts g pair (s ∷ ss) = ap (λ l. s ∷ l) (known_firsts g pair ss)
 
-told_locked : (g : Pair) → IsPair g → (ss : List RStmt) → Steps g (flat_all ss) (told g.tables g.params ss) (alone g.tables ss)
-told_locked g pair ss = subst (λ ts. Steps g (flat_all ts) (told g.tables g.params ts) (alone g.tables ts)) (known_firsts g pair ss) (all_locked g (map (λ s. (s, statement_locked g pair s)) ss))
+told_locked : (g : Pair) → IsPair g → (ss : List RStmt) → Steps g (flat_all ss) (tell_statements g.tables g.params ss) (alone g.tables ss)
+told_locked g pair ss = subst (λ ts. Steps g (flat_all ts) (tell_statements g.tables g.params ts) (alone g.tables ts)) (known_firsts g pair ss) (all_locked g (map (λ s. (s, statement_locked g pair s)) ss))
 
 pub unhit_same : (tables : List TableInfo) (proc : ProcInfo) (call : Call) (db new : Tables) (changes : List Change) → AreRuns tables proc call db new changes
     → is_unhit changes [] (recorded tables proc call db) ≡ true → recorded tables proc call new ≡ recorded tables proc call db

@@ -27,7 +27,7 @@ use Rattle.mv_alone.specs.TableAfter.{Tables}
 use Rattle.mv_alone.specs.Value.{value_of}
 use Rattle.mv_alone.specs.Rows.{meets, fit, checks_of, is_some_row}
 use Rattle.mv_alone.specs.Changes.{with_column, set_row, updated, without, put_row_by, put_row, new_row, keyed}
-use Rattle.mv_alone.specs.Alone.{matches, with_rows, insert, update, delete}
+use Rattle.mv_alone.specs.Alone.{matching_in, with_rows, insert, update, delete}
 use Rattle.mv_alone.specs.Own.{StandUnder}
 
 abbrev pub New : Type 0
@@ -127,16 +127,16 @@ rows_stand infos t rows found st next h k is =
 pub update_keeps : (infos : List TableInfo) (t : ℕ) (items : List RSetItem) (conds : List RCond) (st next : State) → KeysStand infos st.tables → update infos t items conds st ≡ Ok next → KeysStand infos next.tables
 update_keeps infos t items conds st next h is =
     let new : New = λ row. set_row (columns_at infos t) (key_columns infos t) st.env row items row in
-    let go : List Check → Result State End = λ checks. then_do (updated new checks (rows_at st.tables t)) (λ rows. Ok (with_rows t rows (is_some_row (matches t checks st)) st)) in
+    let go : List Check → Result State End = λ checks. then_do (updated new checks (rows_at st.tables t)) (λ rows. Ok (with_rows t rows (is_some_row (matching_in t checks st)) st)) in
     let checked = goes_to (checks_of conds st.env) go next is in
-    let made = goes_to (updated new checked.0 (rows_at st.tables t)) (λ rows. Ok (with_rows t rows (is_some_row (matches t checked.0 st)) st)) next checked.2 in
-    rows_stand infos t made.0 (is_some_row (matches t checked.0 st)) st next h
+    let made = goes_to (updated new checked.0 (rows_at st.tables t)) (λ rows. Ok (with_rows t rows (is_some_row (matching_in t checked.0 st)) st)) next checked.2 in
+    rows_stand infos t made.0 (is_some_row (matching_in t checked.0 st)) st next h
     (updated_stand new (key_columns infos t) checked.0 (λ row made is. set_row_keeps (columns_at infos t) (key_columns infos t) st.env row items row made is) (rows_at st.tables t) made.0 (h t) made.1) made.2
 
 pub delete_keeps : (infos : List TableInfo) (t : ℕ) (conds : List RCond) (st next : State) → KeysStand infos st.tables → delete t conds st ≡ Ok next → KeysStand infos next.tables
 delete_keeps infos t conds st next h is =
-    let checked = goes_to (checks_of conds st.env) (λ checks. Ok (with_rows t (without checks (rows_at st.tables t)) (is_some_row (matches t checks st)) st)) next is in
-    rows_stand infos t (without checked.0 (rows_at st.tables t)) (is_some_row (matches t checked.0 st)) st next h
+    let checked = goes_to (checks_of conds st.env) (λ checks. Ok (with_rows t (without checks (rows_at st.tables t)) (is_some_row (matching_in t checks st)) st)) next is in
+    rows_stand infos t (without checked.0 (rows_at st.tables t)) (is_some_row (matching_in t checked.0 st)) st next h
     (All-filter (λ item. not (meets checked.0 item.row)) (Stands (key_columns infos t)) (rows_at st.tables t) (h t)) checked.2
 
 pub insert_keeps : (infos : List TableInfo) (t : ℕ) (es : List RExpr) (st next : State) → KeysStand infos st.tables → insert infos t es st ≡ Ok next → KeysStand infos next.tables

@@ -43,8 +43,8 @@ each_turn x body [] st = Ok st
 each_turn x body (row ∷ rows) st = then_do (body (record st { env = with_held st.env x (Turn row) })) (each_turn x body rows)
 
 -- the rows of a table that pass the tests
-abbrev pub matches : ℕ → List Check → State → List Keyed
-matches t checks st = matching checks (rows_at st.tables t)
+abbrev pub matching_in : ℕ → List Check → State → List Keyed
+matching_in t checks st = matching checks (rows_at st.tables t)
 
 -- the state with the rows of a table changed, and `:found`
 abbrev pub with_rows : ℕ → List Keyed → Bool → State → State
@@ -55,9 +55,9 @@ offset_of None env = Ok (Int (pos 0))
 offset_of (Some e) env = value_of e env []
 
 -- the targets take the row's columns, and `:found` says whether there is a row
-abbrev pub taken : List ℕ → List ℕ → Option Keyed → Env → Env
-taken cs xs None env = with_found env false
-taken cs xs (Some item) env = with_found (with_values env xs (columns_of item.row cs)) true
+abbrev pub with_selected : List ℕ → List ℕ → Option Keyed → Env → Env
+with_selected cs xs None env = with_found env false
+with_selected cs xs (Some item) env = with_found (with_values env xs (columns_of item.row cs)) true
 
 -- the target takes the total, if there is one
 abbrev pub totalled : ℕ → Option Value → Env → Env
@@ -85,18 +85,18 @@ assign x e st = then_do (value_of e st.env []) (λ v. Ok (record st { env = with
 abbrev pub select : List ℕ → List ℕ → ℕ → List RCond → List RSort → Option RExpr → Does
 select cs xs t conds sorts offset st =
     then_do (checks_of conds st.env) (λ checks. then_do (offset_of offset st.env) (λ n.
-    Ok (record st { env = taken cs xs (item_at (ordered sorts (matches t checks st)) (number n)) st.env })))
+    Ok (record st { env = with_selected cs xs (item_at (ordered sorts (matching_in t checks st)) (number n)) st.env })))
 
 -- SELECT with an aggregate
 abbrev pub sum_up : RAgg → ℕ → ℕ → List RCond → Does
 sum_up agg x t conds st =
-    then_do (checks_of conds st.env) (λ checks. then_do (aggregate agg (matches t checks st)) (λ v.
-    Ok (record st { env = with_found (totalled x v st.env) (is_some_row (matches t checks st)) })))
+    then_do (checks_of conds st.env) (λ checks. then_do (aggregate agg (matching_in t checks st)) (λ v.
+    Ok (record st { env = with_found (totalled x v st.env) (is_some_row (matching_in t checks st)) })))
 
 -- FOR over SELECT
 abbrev pub for_select : ℕ → Bool → List ℕ → ℕ → List RCond → List RSort → Does → Does
 for_select x once cs t conds sorts body st =
-    then_do (checks_of conds st.env) (λ checks. loop_over x body (fixed once cs sorts (matches t checks st)) st)
+    then_do (checks_of conds st.env) (λ checks. loop_over x body (fixed once cs sorts (matching_in t checks st)) st)
 
 -- FOR over a ROWS parameter
 abbrev pub for_rows : ℕ → ℕ → Does → Does
@@ -117,13 +117,13 @@ abbrev pub update : List TableInfo → ℕ → List RSetItem → List RCond → 
 update tables t items conds st =
     then_do (checks_of conds st.env) (λ checks.
     then_do (updated (λ row. set_row (columns_at tables t) (key_columns tables t) st.env row items row) checks (rows_at st.tables t)) (λ rows.
-    Ok (with_rows t rows (is_some_row (matches t checks st)) st)))
+    Ok (with_rows t rows (is_some_row (matching_in t checks st)) st)))
 
 -- DELETE
 abbrev pub delete : ℕ → List RCond → Does
 delete t conds st =
     then_do (checks_of conds st.env) (λ checks.
-    Ok (with_rows t (without checks (rows_at st.tables t)) (is_some_row (matches t checks st)) st))
+    Ok (with_rows t (without checks (rows_at st.tables t)) (is_some_row (matching_in t checks st)) st))
 
 -- PRINT
 abbrev pub print : List RExpr → Does

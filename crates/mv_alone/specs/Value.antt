@@ -94,10 +94,10 @@ abbrev pub two_of : TwoOp → Result Value End → Result Value End → Result V
 two_of op a b = then_do a (λ v. if needs_right op v then then_do b (λ w. both_of op v w) else Ok (truth (is_so v)))
 
 -- the value of an expression for the variables and the row of an UPDATE
-abbrev pub Meaning : Type 0
-Meaning = Env → List Value → Result Value End
+abbrev pub Evaluation : Type 0
+Evaluation = Env → List Value → Result Value End
 
-abbrev pub kind_step : RExprKind-F Meaning Meaning → Meaning
+abbrev pub kind_step : RExprKind-F Evaluation Evaluation → Evaluation
 kind_step (Const v) env row = Ok v
 kind_step (Var x) env row = Ok (scalar_at env x)
 kind_step (Field x c) env row = Ok (column_of (turn_at env x) c)
@@ -105,12 +105,12 @@ kind_step (Col c) env row = Ok (column_of row c)
 kind_step (One op a) env row = then_do (a env row) (λ v. one_of op v)
 kind_step (Two op a b) env row = two_of op (a env row) (b env row)
 
-abbrev pub expr_step : RExpr-F Meaning Meaning → Meaning
+abbrev pub expr_step : RExpr-F Evaluation Evaluation → Evaluation
 expr_step e env row = e.kind env row
 
 -- the value of an expression, or its fault
-abbrev pub value_of : RExpr → Meaning
-value_of = fold-RExpr Meaning Meaning kind_step expr_step
+abbrev pub value_of : RExpr → Evaluation
+value_of = fold-RExpr Evaluation Evaluation kind_step expr_step
 
 -- the values of expressions in order, up to the first fault
 abbrev pub values_of : List RExpr → Env → Result (List Value) End

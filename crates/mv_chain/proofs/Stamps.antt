@@ -8,7 +8,7 @@ use Rattle.mv_values.specs.declared.patch.Patch.{Patch}
 use Rattle.mv_values.specs.declared.patch.Patch.TheVariants.{Insert, Set, Delete}
 use Rattle.mv_values.specs.Patching.{patched}
 use Rattle.mv_chain.specs.declared.pending.Pending.{Pending}
-use Rattle.mv_chain.specs.Versions.{Versions, Commit, row_after, row_at, newest_of, newest, own_of, patched_by_own, without, with_own, joined, stamped, stamped_by, IsNext}
+use Rattle.mv_chain.specs.Versions.{Versions, Commit, row_after, row_at, newest_of, newest, own_of, patched_by_own, without, with_own, joined, stamped, stamped_by, IsAboveAll}
 use Rattle.mv_chain.proofs.Columns.{set_all}
 use Rattle.mv_chain.proofs.Compact.{compact_is}
 
@@ -95,7 +95,7 @@ read_before call n m v h = by (own_of call v.own)
     by None = refl
     by (Some patch) = last_before m v.base v.commits (record { number = n; row = patched patch (newest v) }) h
 
-pub read_after : (call n m : ℕ) (v : Versions) → IsNext n v → n ≤ m → row_at (stamped call n v) m ≡ patched_by_own (own_of call v.own) (newest v)
+pub read_after : (call n m : ℕ) (v : Versions) → IsAboveAll n v → n ≤ m → row_at (stamped call n v) m ≡ patched_by_own (own_of call v.own) (newest v)
 read_after call n m v next h = by (own_of call v.own)
   where
     by : (found : Option Patch) → row_at (stamped_by found call n v) m ≡ patched_by_own found (newest v)

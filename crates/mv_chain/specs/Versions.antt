@@ -50,8 +50,8 @@ abbrev pub newest : Versions → Option (List Value)
 newest v = newest_of v.base v.commits
 
 -- all commits have smaller numbers
-abbrev pub IsNext : ℕ → Versions → Type 0
-IsNext n v = All (λ c. c.number < n) v.commits
+abbrev pub IsAboveAll : ℕ → Versions → Type 0
+IsAboveAll n v = All (λ c. c.number < n) v.commits
 
 -- Patches that are not committed
 

@@ -3,7 +3,7 @@
 ghost use Rattle.std.specs.Prelude.{◌≡◌, ◌↔◌, IsTrue, ◌<◌, ◌≤◌, ℕ, [], IfOk, OnOk, OnErr, OnSome, IfSome, length, slice_get};
 ghost use Rattle.std.specs.Option.{is_some, option_and_then, option_copied};
 ghost use Rattle.mv_values.specs.Preds.{matched};
-ghost use Rattle.mv_chain.specs.Versions.{row_at, newest, IsNext, own_of, without, with_own, stamped, collected, is_blank};
+ghost use Rattle.mv_chain.specs.Versions.{row_at, newest, IsAboveAll, own_of, without, with_own, stamped, collected, is_blank};
 ghost use Rattle.mv_chain.specs.Holding.{versions_of, is_plain};
 
 use crate::history::{History, copy_of_match};
@@ -152,7 +152,7 @@ impl Chain {
 
     /// Whether all commits have numbers below n, so that `stamp` accepts n. Takes constant time.
     pub fn is_next(&self, n: u32) -> bool
-        ensures { IsTrue result ↔ IsNext n self.now }
+        ensures { IsTrue result ↔ IsAboveAll n self.now }
     {
         match &self.held {
             Held::Nothing | Held::Only(_) => true,
@@ -163,7 +163,7 @@ impl Chain {
     /// Turns a call's patch into commit n, if it has one. The number n must be above those of all commits. It allocates
     /// no memory.
     pub fn stamp(&mut self, call: u32, n: u32)
-        requires { OnSome (own_of call self.old.own) (IsNext n self.old) }
+        requires { OnSome (own_of call self.old.own) (IsAboveAll n self.old) }
         ensures { self.new ≡ stamped call n self.old }
     {
         if let Held::History(history) = &mut self.held {

@@ -4,7 +4,7 @@ ghost use Rattle.std.specs.Prelude.{◌≡◌, ◌↔◌, ◌==◌, ◌&&◌, no
 ghost use Rattle.std.specs.Vec.{vec_capacity};
 ghost use Rattle.std.specs.Option.{is_some, option_and_then, option_copied};
 ghost use Rattle.mv_values.specs.Preds.{matched};
-ghost use Rattle.mv_chain.specs.Versions.{row_at, newest, IsNext, own_of, without, with_own, stamped, collected, is_blank, blank};
+ghost use Rattle.mv_chain.specs.Versions.{row_at, newest, IsAboveAll, own_of, without, with_own, stamped, collected, is_blank, blank};
 ghost use Rattle.mv_chain.specs.Holding.{is_plain};
 
 use crate::commit::do_patch;
@@ -173,7 +173,7 @@ impl History {
 
     /// Whether all commits have numbers below n, so that `stamp` accepts n. Takes constant time.
     pub(crate) fn is_next(&self, n: u32) -> bool
-        ensures { IsTrue result ↔ IsNext n self.now }
+        ensures { IsTrue result ↔ IsAboveAll n self.now }
     {
         are_below(self.undos.as_slice(), n)
     }
@@ -181,7 +181,7 @@ impl History {
     /// Turns a call's patch into commit n, if it has one. The number n must be above those of all commits. It allocates
     /// no memory.
     pub(crate) fn stamp(&mut self, call: u32, n: u32)
-        requires { OnSome (own_of call self.old.own) (IsNext n self.old) }
+        requires { OnSome (own_of call self.old.own) (IsAboveAll n self.old) }
         ensures { self.new ≡ stamped call n self.old }
     {
         let Some(at) = place_of(self.own.as_slice(), call) else {

@@ -5,7 +5,7 @@ ghost use Rattle.mv_values.specs.declared.value.Value.{Value};
 ghost use Rattle.mv_values.specs.declared.patch.Patch.{Patch};
 ghost use Rattle.mv_values.specs.Patching.{patched};
 ghost use Rattle.mv_chain.specs.declared.pending.Pending.{Pending};
-ghost use Rattle.mv_chain.specs.Versions.{Versions, row_at, newest, own_of, patched_by_own, without, with_own, stamped, IsNext};
+ghost use Rattle.mv_chain.specs.Versions.{Versions, row_at, newest, own_of, patched_by_own, without, with_own, stamped, IsAboveAll};
 
 /// A call's own patches are applied one after another. Adding or dropping a patch of one call changes no other call's
 /// patch.
@@ -20,5 +20,5 @@ pub fn own_patches_are_done_in_turn()
 /// call's patch applied.
 pub fn stamps_are_read_from_their_number_on()
     ensures before { (call n m : ℕ) (v : Versions) → m < n → row_at (stamped call n v) m ≡ row_at v m }
-    ensures after { (call n m : ℕ) (v : Versions) → IsNext n v → n ≤ m → row_at (stamped call n v) m ≡ patched_by_own (own_of call v.own) (newest v) }
+    ensures after { (call n m : ℕ) (v : Versions) → IsAboveAll n v → n ≤ m → row_at (stamped call n v) m ≡ patched_by_own (own_of call v.own) (newest v) }
 {}

@@ -16,8 +16,8 @@ use Rattle.mv_history.specs.declared.change.Change.{Change}
 use Rattle.mv_history.specs.Changes.{is_same, place}
 
 -- the change of a key by one write of its row
-abbrev pub changed : Write → Option (List Value) → Change
-changed w before = record { table = w.table; key = w.key; before = before; after = patched w.patch before }
+abbrev pub change_of_write : Write → Option (List Value) → Change
+change_of_write w before = record { table = w.table; key = w.key; before = before; after = patched w.patch before }
 
 -- the change of a key with one more write
 abbrev pub changed_more : Write → Change → Change
@@ -25,7 +25,7 @@ changed_more w c = record c { after = patched w.patch c.after }
 
 -- the same, given the key's change by the writes before, if any
 abbrev pub changed_by : Write → Option Change → Option (List Value) → Change
-changed_by w None before = changed w before
+changed_by w None before = change_of_write w before
 changed_by w (Some c) before = changed_more w c
 
 -- a key from one database to another, if it was written

@@ -9,7 +9,7 @@ ghost use Rattle.mv_record.specs.Writes.{AreRising};
 ghost use Rattle.mv_values.specs.declared.patch.Write.{Write};
 ghost use Rattle.mv_table.specs.Entries.{KeysRise};
 ghost use Rattle.mv_history.specs.Changes.{changes_between, is_same, place};
-ghost use Rattle.mv_changes.specs.Drafting.{IsDraft, HasAsked, changed, changed_more, changed_by, differing};
+ghost use Rattle.mv_changes.specs.Drafting.{IsDraft, HasAsked, change_of_write, changed_more, changed_by, differing};
 
 use crate::changes::Changes;
 use mv_history::change::Change;
@@ -34,7 +34,7 @@ fn place_of(alloc: Global, table: u8, key: &Key) -> Result<Key, NoMemory>
 
 /// Returns the change of a key by its first write: from its row in the view's database to the row after the write.
 fn first_change<V: View>(alloc: Global, write: &Write, view: &mut V) -> Result<Change, Refused>
-    ensures change { IfOk result (λ change. change ≡ changed write.now (row_of (rows_at (V.sight view.old).database write.now.table) write.now.key)) }
+    ensures change { IfOk result (λ change. change ≡ change_of_write write.now (row_of (rows_at (V.sight view.old).database write.now.table) write.now.key)) }
     ensures asks { HasAsked 1 (V.sight view.old) (V.sight view.new) result }
 {
     let before = view.row(alloc, write.table, &write.key)?;

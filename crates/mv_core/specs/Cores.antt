@@ -116,7 +116,7 @@ abbrev pub IsTaskIn : Booked → ℕ → Running → Type 0
 IsTaskIn b c running = (l : Live) → IsLive b.course c l → IsLiveTask b.script b.course.order c l running
 
 -- the task ran on, in the same round
-pub record HasRun (old new : Running) : Type 0 where
+pub record HasRunOn (old new : Running) : Type 0 where
   pub count : new.count ≡ old.count
   pub task : CountsAll old.task new.task
 

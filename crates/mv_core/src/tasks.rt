@@ -21,7 +21,7 @@ ghost use Rattle.mv_core.specs.Told.{writes_told};
 ghost use Rattle.mv_core.specs.Scripts.{IsScript};
 ghost use Rattle.mv_core.specs.Calls.{IsLive, IsLiveCall, due_number};
 ghost use Rattle.mv_core.specs.Books.{work_in, last_tables, last_run, last_changes, commit_event, own_number, Made, IsSame, IsSettled, IsNotStale, IsOwnNumber, AreRecordsOf, IsAnswer};
-ghost use Rattle.mv_core.specs.Cores.{RunsOn, IsStoreOf, IsTaskIn, IsRunning, HasRun, HasRunOne, IsLiveTask, IsRepaired, HasStep, IsPrepared, HasCommitted, HasMovedAndCommitted, HasCollected, count_or};
+ghost use Rattle.mv_core.specs.Cores.{RunsOn, IsStoreOf, IsTaskIn, IsRunning, HasRunOn, HasRunOne, IsLiveTask, IsRepaired, HasStep, IsPrepared, HasCommitted, HasMovedAndCommitted, HasCollected, count_or};
 
 use crate::book::{Book, Check};
 use crate::running::{find_call, has_more, repair_over, run_all, run_next};
@@ -112,7 +112,7 @@ pub fn step_task(
     ensures one { OnOk result ((l : Live) → IsLive book.now.course call l → l.steps ≡ length running.old.task.records → HasRunOne running.old.task running.new.task) }
     ensures err { OnErr result (IsUnchanged running.old.task running.new.task) }
     ensures task { IsTaskIn book.now call running.new }
-    ensures ran { HasRun running.old running.new }
+    ensures ran { HasRunOn running.old running.new }
 {
     if running.task.records().len() <= book.steps(call) {
         let mut view = StoreView::new(store, book.start(call));

@@ -8,7 +8,7 @@ ghost use Rattle.mv_catalog.specs.declared.resolved.RStmt.TheOpen as layer;
 ghost use Rattle.mv_alone.specs.Changes.{keyed};
 ghost use Rattle.mv_alone.specs.Outcome.{Gives, then_do};
 ghost use Rattle.mv_alone.specs.Rows.{is_some_row};
-ghost use Rattle.mv_recorded.specs.Doing.{changed, write};
+ghost use Rattle.mv_recorded.specs.Doing.{set_patch, write};
 ghost use Rattle.mv_undo.specs.Owning.{earlier};
 ghost use Rattle.mv_recorded.specs.Effects.{IsEffect, asked_then, changes, inserting, new_of, writing};
 ghost use Rattle.mv_effect.specs.Looking.{Stands, OnlyAsks, different, AskedAtMost, AskedFor};
@@ -184,7 +184,7 @@ pub(crate) fn delete<V: View>(
 /// Returns the columns of SET, with their values in the row after it.
 fn assigns(alloc: Global, items: &[RSetItem], row: &[Value]) -> Result<List<Assign>, NoMemory>
     requires { All (λ (i : RSetItem). i.column < 256) items.now }
-    ensures { IfOk result (λ all. patch.Set all ≡ changed items.now row.now) }
+    ensures { IfOk result (λ all. patch.Set all ≡ set_patch items.now row.now) }
 {
     let mut all = List::new(alloc);
     for item in items {
@@ -205,7 +205,7 @@ fn set_write(
     row: &[Value],
 ) -> Result<Write, NoMemory>
     requires { All (λ (i : RSetItem). i.column < 256) items.now }
-    ensures { IfOk result (λ w. w ≡ write table key.now (changed items.now row.now)) }
+    ensures { IfOk result (λ w. w ≡ write table key.now (set_patch items.now row.now)) }
 {
     let patch = Patch::Set(assigns(alloc, items, row)?);
     Ok(Write {
@@ -226,7 +226,7 @@ fn write_for(
 ) -> Result<Write, Stop>
     requires table { table < 256 }
     requires columns { All (λ (i : RSetItem). i.column < 256) items.now }
-    ensures { Gives result (then_do (new_of tables.now table env.now items.now item.now.row) (λ row. Ok (write table item.now.key (changed items.now row)))) }
+    ensures { Gives result (then_do (new_of tables.now table env.now items.now item.now.row) (λ row. Ok (write table item.now.key (set_patch items.now row)))) }
 {
     let columns = columns_in(tables, table);
     let row = row_after_set(alloc, columns, key_in(tables, table), env, &item.row, items)?;

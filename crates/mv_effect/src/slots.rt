@@ -5,7 +5,7 @@ ghost use Rattle.std.specs.Option.{is_some, option_copied};
 ghost use Rattle.mv_values.specs.declared.value.Value.{Value};
 ghost use Rattle.mv_values.specs.Columns.{columns_of};
 ghost use Rattle.mv_alone.specs.Env.{scalar_at, truth, with_values, with_found};
-ghost use Rattle.mv_alone.specs.Alone.{taken, totalled};
+ghost use Rattle.mv_alone.specs.Alone.{with_selected, totalled};
 ghost use Rattle.mv_recorded.specs.Doing.{when};
 ghost use Rattle.mv_recorded.specs.Reading.{each_once};
 ghost use Rattle.mv_effect.specs.Targets.{last_column};
@@ -160,7 +160,7 @@ pub(crate) fn select_slots(
     item: Option<&Keyed>,
 ) -> Result<List<Slot>, NoMemory>
     requires { env.now.found < 2 ^ 16 }
-    ensures { IfOk result (λ sets. sets ≡ slots_behind (taken columns.now to.now (option_copied item.entry) env.now) (when (is_some (option_copied item.entry)) (each_once to.now) ++ env.now.found ∷ [])) }
+    ensures { IfOk result (λ sets. sets ≡ slots_behind (with_selected columns.now to.now (option_copied item.entry) env.now) (when (is_some (option_copied item.entry)) (each_once to.now) ++ env.now.found ∷ [])) }
 {
     match item {
         Some(item) => row_slots(alloc, env, columns, to, item.row.as_slice()),

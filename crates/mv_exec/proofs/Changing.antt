@@ -7,7 +7,7 @@ use Rattle.mv_alone.proofs.Putting.{pad_full, put_padded}
 use Rattle.mv_record.specs.declared.record.Slot.{Slot}
 use Rattle.mv_recorded.specs.Effect.{with_slots}
 use Rattle.mv_exec.specs.declared.changes.Change.{Change}
-use Rattle.mv_exec.specs.Env.{CallVariables, with_changes, changed, room, of_slot}
+use Rattle.mv_exec.specs.Env.{CallVariables, with_changes, with_changed, room, of_slot}
 
 pub room_next : (most needed r : ℕ) → max most (max needed r) ≡ max (max most needed) r
 room_next most needed r = omega arith
@@ -72,11 +72,11 @@ room_all : (env : Env) (cs rest : List Change) (c : Change) → cs ≡ c ∷ res
 room_all env cs rest c e le = subst (λ ds. room ds ≤ length env.held) e le
 
 pub set_step : (vs new : CallVariables) (cs rest : List Change) (c : Change) → cs ≡ c ∷ rest → room cs ≤ length vs.env.held
-    → new ≡ (let e : Env = vs.env in record vs { env = record e { held = slice_set e.held c.slot c.held } }) → changed rest new ≡ changed cs vs
+    → new ≡ (let e : Env = vs.env in record vs { env = record e { held = slice_set e.held c.slot c.held } }) → with_changed rest new ≡ with_changed cs vs
 set_step vs new cs rest c e le is =
-    ap (changed rest) is
+    ap (with_changed rest) is
     ∙ (ap (λ env. record vs { env = with_changes rest env }) (set_next vs.env c.slot c.held (room_here c.slot (room rest) (length vs.env.held) (room_all vs.env cs rest c e le)))
-    ∙ ap (λ ds. changed ds vs) (sym e))
+    ∙ ap (λ ds. with_changed ds vs) (sym e))
 
 pub room_step : (vs new : CallVariables) (cs rest : List Change) (c : Change) → cs ≡ c ∷ rest → room cs ≤ length vs.env.held
     → new ≡ (let e : Env = vs.env in record vs { env = record e { held = slice_set e.held c.slot c.held } }) → room rest ≤ length new.env.held

@@ -10,7 +10,7 @@ use Rattle.mv_alone.specs.TableAfter.{Tables, entered}
 use Rattle.mv_record.specs.declared.record.Record.{Record}
 use Rattle.mv_record.specs.Runs.{writes_in}
 use Rattle.mv_record.specs.Writes.{AreRising}
-use Rattle.mv_recorded.specs.Recorded.{recorded, told, outside}
+use Rattle.mv_recorded.specs.Recorded.{recorded, tell_statements, outside}
 use Rattle.mv_view.specs.Viewing.{Sight}
 use Rattle.mv_effect.specs.Looking.{AskedFor}
 use Rattle.mv_graph.specs.declared.graph.Graph.{Graph}
@@ -18,7 +18,7 @@ use Rattle.mv_graph.specs.Nodes.{IsSound, meaning_of}
 use Rattle.mv_exec.specs.declared.task.Ahead.{Ahead}
 use Rattle.mv_exec.specs.declared.task.Task.{Task}
 use Rattle.mv_exec.specs.Tasks.{left_of, run_of, IsTask, StandsAsBefore, BeginsCall, TellsEnd}
-use Rattle.mv_exec.specs.Running.{Leaves, IsTaskOf, IsTaskOn, IsRunningOn, IsSameCall, IsSameCallOn, IsUnchanged, Foresees, IsNext, HasContent, HasAdopted, GoesOnWith, HasRun, EndsExactly, KeysKept, count_left}
+use Rattle.mv_exec.specs.Running.{Leaves, IsTaskOf, IsTaskOn, IsRunningOn, IsSameCall, IsSameCallOn, IsUnchanged, Foresees, IsAhead, HasContent, HasAdopted, GoesOnWith, HasRun, EndsExactly, KeysKept, count_left}
 use Rattle.mv_exec.specs.Ahead.{ForeseesLeft}
 use Rattle.mv_exec.specs.Steps.{HasAdded, HasExecuted}
 use Rattle.mv_exec.proofs.Adopting.{added_before, none_ended, some_ahead}
@@ -94,8 +94,8 @@ grows g call old new r whole added found is = record {
 -- of two calls that a task may be, the full runs are the same
 pub one_run : (g : Graph) (c d : Call) (task : Task) (db : Tables) → IsTaskOf g c task → IsTaskOf g d task → (meaning_of g c db).records ≡ (meaning_of g d db).records
 one_run g c d task db a b =
-    ap (λ n. told g.tables n g.procedure.body 1 outside [] (record { env = entered g.procedure c; tables = db; lines = [] })) (sym a.begins.1 ∙ b.begins.1)
-    ∙ ap (λ (e : Env). told g.tables (length d.arguments) g.procedure.body 1 outside [] (record { env = e; tables = db; lines = [] })) (sym a.begins.0 ∙ b.begins.0)
+    ap (λ n. tell_statements g.tables n g.procedure.body 1 outside [] (record { env = entered g.procedure c; tables = db; lines = [] })) (sym a.begins.1 ∙ b.begins.1)
+    ∙ ap (λ (e : Env). tell_statements g.tables (length d.arguments) g.procedure.body 1 outside [] (record { env = e; tables = db; lines = [] })) (sym a.begins.0 ∙ b.begins.0)
 
 -- The end
 
@@ -116,7 +116,7 @@ finished g db task rise on ended call is =
 
 -- What is ahead
 
-pub foresees : (g : Graph) (task : Task) (ahead : Option Ahead) → ForeseesLeft g.procedure task ahead → IsNext g task ahead
+pub foresees : (g : Graph) (task : Task) (ahead : Option Ahead) → ForeseesLeft g.procedure task ahead → IsAhead g task ahead
 foresees g task ahead h call db rest is rise leaves = subst (Foresees ahead) (is.left db rest rise leaves) (h g.tables db)
 
 -- nothing is ahead exactly of a call that has ended
@@ -202,7 +202,7 @@ adopted g old new ahead given r next is added executed =
       next = r;
       records = added.records;
       content = is ∙ ap (λ (q : Record). record given { spot = q.spot; parent = q.parent; reads = q.reads }) (sym is);
-      place = subst (λ a. IsNext g old (Some a)) at (foresees g old (Some ahead) next);
+      place = subst (λ a. IsAhead g old (Some a)) at (foresees g old (Some ahead) next);
       executed = executed;
     }
 

@@ -20,7 +20,7 @@ use Rattle.mv_exec.specs.declared.places.Holder.TheVariants as by
 use Rattle.mv_effect.specs.Choosing.{Chooses}
 use Rattle.mv_exec.specs.declared.places.Place.{Place}
 use Rattle.mv_exec.specs.Left.{Job, run, turns, left, inside}
-use Rattle.mv_exec.specs.Places.{body_in, branch_in, block_in, holder_of, site_of, some_run, some_turns, rows_at, jobs_left}
+use Rattle.mv_exec.specs.Places.{body_in, branch_in, block_in, holder_of, site_of, some_run, some_turns, loop_rows, jobs_left}
 use Rattle.mv_exec.specs.Moves.{branch_place, loop_place, inner_places, after_turns, after_empty_body, after_empty_loop}
 use Rattle.mv_exec.proofs.Leaving.{turn_begins, run_ends, turns_end}
 use Rattle.mv_exec.proofs.Placing.{jobs_more}
@@ -110,18 +110,18 @@ entered_jobs proc rs os number b first (s ∷ ss) e =
 
 looped_jobs : (proc : ProcInfo) (rs : List Record) (os : List Place) (number x first : ℕ) (body : List RStmt)
     → block_in proc (by.Loop number x 0) (holder_of proc None os) ≡ body
-    → jobs_left proc rs (os ++ loop_place number x first body) ≡ over (within_loop x number (site_of outside os)) first x body (rows_at rs number) ++ jobs_left proc rs os
+    → jobs_left proc rs (os ++ loop_place number x first body) ≡ over (within_loop x number (site_of outside os)) first x body (loop_rows rs number) ++ jobs_left proc rs os
 looped_jobs proc rs os number x first [] e = ap (jobs_left proc rs) (append-nil os)
 looped_jobs proc rs os number x first (s ∷ ss) e =
     let loop : Site = within_loop x number (site_of outside os) in
     jobs_more proc rs None outside os (record { holder = by.Loop number x 0; first = first; at = length (s ∷ ss); number = first })
-    ∙ (ap (λ bl. (some_run (in_turn 0 loop) first (drop (length (s ∷ ss)) bl) ++ some_turns loop first x bl (rows_at rs number) 1) ++ jobs_left proc rs os) e
-    ∙ ap (λ bl. (some_run (in_turn 0 loop) first bl ++ some_turns loop first x (s ∷ ss) (rows_at rs number) 1) ++ jobs_left proc rs os) (all_dropped ss))
+    ∙ (ap (λ bl. (some_run (in_turn 0 loop) first (drop (length (s ∷ ss)) bl) ++ some_turns loop first x bl (loop_rows rs number) 1) ++ jobs_left proc rs os) e
+    ∙ ap (λ bl. (some_run (in_turn 0 loop) first bl ++ some_turns loop first x (s ∷ ss) (loop_rows rs number) 1) ++ jobs_left proc rs os) (all_dropped ss))
 
 -- a place inside a statement is left what the statement holds
 pub inner_left : (proc : ProcInfo) (rs : List Record) (os : List Place) (s : RStmt) (y : RStmt-F RStmt) (number n : ℕ) (b : Bool)
     → holder_of proc None os ≡ Some s → out-RStmt s ≡ y
-    → jobs_left proc rs (os ++ inner_places number n b y) ≡ inner_jobs number n b (site_of outside os) (rows_at rs number) y ++ jobs_left proc rs os
+    → jobs_left proc rs (os ++ inner_places number n b y) ≡ inner_jobs number n b (site_of outside os) (loop_rows rs number) y ++ jobs_left proc rs os
 inner_left proc rs os s (Assign x e) number n b at is = ap (jobs_left proc rs) (append-nil os)
 inner_left proc rs os s (Select cs xs t conds sorts offset) number n b at is = ap (jobs_left proc rs) (append-nil os)
 inner_left proc rs os s (Total agg x t conds) number n b at is = ap (jobs_left proc rs) (append-nil os)

@@ -14,12 +14,12 @@ use Rattle.mv_alone.specs.Outcome.{then_do}
 use Rattle.mv_alone.specs.Env.{with_found, with_held, turns_at}
 use Rattle.mv_alone.specs.Value.{value_of, is_so}
 use Rattle.mv_alone.specs.Rows.{checks_of}
-use Rattle.mv_alone.specs.Alone.{Does, alone, does, stmt_step, each_turn, loop_over, fixed, matches, is_turn}
+use Rattle.mv_alone.specs.Alone.{Does, alone, does, stmt_step, each_turn, loop_over, fixed, matching_in, is_turn}
 use Rattle.mv_alone.specs.TableAfter.{Tables, begun}
 use Rattle.mv_record.specs.declared.record.Record.{Record}
 use Rattle.mv_recorded.specs.Asking.{on}
 use Rattle.mv_recorded.specs.Doing.{fixed_rows, itself, before_turns}
-use Rattle.mv_recorded.specs.Recorded.{Tells, Site, tell, tell_step, tell_turns, tell_loop, told, own_record, outside, recorded, within, within_loop, in_turn}
+use Rattle.mv_recorded.specs.Recorded.{Tells, Site, tell, tell_step, tell_turns, tell_loop, tell_statements, own_record, outside, recorded, within, within_loop, in_turn}
 use Rattle.mv_recorded.proofs.Following.{firsts}
 use Rattle.mv_exec.specs.Left.{Job, run, turns, left, inside}
 
@@ -50,8 +50,8 @@ pub turn_begins : (tables : List TableInfo) (params : ℕ) (site : Site) (n x : 
     ≡ left tables params (run (in_turn k site) n body ∷ turns site n x body rows (k + 1) ∷ js) before (record st { env = with_held st.env x (Turn row) })
 turn_begins tables params site n x body row rows k js before st =
     let next : State = record st { env = with_held st.env x (Turn row) } in
-    let these : List Record = told tables params body n (in_turn k site) before next in
-    in_turns these before (alone tables body next) (tell_turns x (alone tables body) (told tables params body) rows (k + 1) n site (before ++ these))
+    let these : List Record = tell_statements tables params body n (in_turn k site) before next in
+    in_turns these before (alone tables body next) (tell_turns x (alone tables body) (tell_statements tables params body) rows (k + 1) n site (before ++ these))
     (each_turn x (alone tables body) rows) (left tables params js)
 
 -- the first of statements, behind which the others are left
@@ -60,7 +60,7 @@ pub first_of_run : (tables : List TableInfo) (params : ℕ) (site : Site) (n : �
     left tables params (run site n (s ∷ ss) ∷ js) before st ≡ these ++ on (does tables s st) (left tables params (run site (n + size s) ss ∷ js) (before ++ these))
 first_of_run tables params site n s ss js before st =
     let these : List Record = tell tables params s n site before st in
-    in_turns these before (does tables s st) (told tables params ss (n + size s) site (before ++ these)) (alone tables ss) (left tables params js)
+    in_turns these before (does tables s st) (tell_statements tables params ss (n + size s) site (before ++ these)) (alone tables ss) (left tables params js)
 
 -- A statement
 
@@ -89,30 +89,30 @@ Begins tables params y n site before st js =
 -- what is told inside a statement behind its own record
 inner_turns : (tables : List TableInfo) (params : ℕ) (own : Record) (before : List Record) (r : Result (List (List Value)) End) (x : ℕ) (body : List RStmt) (n : ℕ) (site : Site) (st : State) (js : List Job)
     (number : ℕ) (again : Does) → again ≡ alone tables body
-    → let tells : Tells = told tables params body in
+    → let tells : Tells = tell_statements tables params body in
     Split tables params (own ∷ on r (λ rows. tell_loop x again tells rows n site (before ++ own ∷ []) st)) (then_do r (λ rows. loop_over x (alone tables body) rows st)) js before
     ≡ own ∷ on (before_turns r st) (left tables params (on r (λ rows. turns site n x body rows 1 ∷ []) ++ js) (before ++ own ∷ []))
 inner_turns tables params own before (Ok rows) x body n site st js number again same =
     let next : State = record st { env = with_found st.env (is_turn rows) } in
-    subst (λ d. Split tables params (own ∷ tell_loop x d (told tables params body) rows n site (before ++ own ∷ []) st) (loop_over x (alone tables body) rows st) js before
+    subst (λ d. Split tables params (own ∷ tell_loop x d (tell_statements tables params body) rows n site (before ++ own ∷ []) st) (loop_over x (alone tables body) rows st) js before
     ≡ own ∷ left tables params (turns site n x body rows 1 ∷ js) (before ++ own ∷ []) next) (sym same)
-    (ap (λ rs. own ∷ (tell_turns x (alone tables body) (told tables params body) rows 1 n site (before ++ own ∷ []) next ++ on (each_turn x (alone tables body) rows next) (left tables params js rs)))
-    (sym (append_assoc before (own ∷ []) (tell_turns x (alone tables body) (told tables params body) rows 1 n site (before ++ own ∷ []) next))))
+    (ap (λ rs. own ∷ (tell_turns x (alone tables body) (tell_statements tables params body) rows 1 n site (before ++ own ∷ []) next ++ on (each_turn x (alone tables body) rows next) (left tables params js rs)))
+    (sym (append_assoc before (own ∷ []) (tell_turns x (alone tables body) (tell_statements tables params body) rows 1 n site (before ++ own ∷ []) next))))
 inner_turns tables params own before (Err e) x body n site st js number again same = refl
 
 -- a branch behind its IF's own record
 branch_runs : (tables : List TableInfo) (params : ℕ) (own : Record) (before : List Record) (b : Bool) (ys ns : List RStmt) (m n : ℕ) (site : Site) (st : State) (js : List Job)
-    → Split tables params (own ∷ (if b then told tables params ys m site (before ++ own ∷ []) st else told tables params ns n site (before ++ own ∷ []) st)) (if b then alone tables ys st else alone tables ns st) js before
+    → Split tables params (own ∷ (if b then tell_statements tables params ys m site (before ++ own ∷ []) st else tell_statements tables params ns n site (before ++ own ∷ []) st)) (if b then alone tables ys st else alone tables ns st) js before
     ≡ own ∷ left tables params ((if b then run site m ys else run site n ns) ∷ js) (before ++ own ∷ []) st
 branch_runs tables params own before true ys ns m n site st js =
-    ap (λ rs. own ∷ (told tables params ys m site (before ++ own ∷ []) st ++ on (alone tables ys st) (left tables params js rs)))
-    (sym (append_assoc before (own ∷ []) (told tables params ys m site (before ++ own ∷ []) st)))
+    ap (λ rs. own ∷ (tell_statements tables params ys m site (before ++ own ∷ []) st ++ on (alone tables ys st) (left tables params js rs)))
+    (sym (append_assoc before (own ∷ []) (tell_statements tables params ys m site (before ++ own ∷ []) st)))
 branch_runs tables params own before false ys ns m n site st js =
-    ap (λ rs. own ∷ (told tables params ns n site (before ++ own ∷ []) st ++ on (alone tables ns st) (left tables params js rs)))
-    (sym (append_assoc before (own ∷ []) (told tables params ns n site (before ++ own ∷ []) st)))
+    ap (λ rs. own ∷ (tell_statements tables params ns n site (before ++ own ∷ []) st ++ on (alone tables ns st) (left tables params js rs)))
+    (sym (append_assoc before (own ∷ []) (tell_statements tables params ns n site (before ++ own ∷ []) st)))
 
 branch_begins : (tables : List TableInfo) (params : ℕ) (own : Record) (before : List Record) (r : Result Value End) (ys ns : List RStmt) (m n : ℕ) (site : Site) (st : State) (js : List Job)
-    → Split tables params (own ∷ on r (λ v. if is_so v then told tables params ys m site (before ++ own ∷ []) st else told tables params ns n site (before ++ own ∷ []) st))
+    → Split tables params (own ∷ on r (λ v. if is_so v then tell_statements tables params ys m site (before ++ own ∷ []) st else tell_statements tables params ns n site (before ++ own ∷ []) st))
     (then_do r (λ v. if is_so v then alone tables ys st else alone tables ns st)) js before
     ≡ own ∷ on (then_do r (λ v. Ok st)) (left tables params (on r (λ v. (if is_so v then run site m ys else run site n ns) ∷ []) ++ js) (before ++ own ∷ []))
 branch_begins tables params own before (Ok v) ys ns m n site st js = branch_runs tables params own before (is_so v) ys ns m n site st js
@@ -142,7 +142,7 @@ statement_begins tables params (ForSelect x once cs t conds sorts body) n site b
     let rows : Result (List (List Value)) End = fixed_rows (ForSelect x once cs t conds sorts body) st in
     let number : ℕ = length before in
     ap (λ out. Split tables params (tell_step tables params (with_tells tables params (ForSelect x once cs t conds sorts body)) n site before st) out js before)
-    (sym (then_loops (checks_of conds st.env) (λ checks. fixed once cs sorts (matches t checks st)) (λ rows. loop_over x (alone tables body) rows st)))
+    (sym (then_loops (checks_of conds st.env) (λ checks. fixed once cs sorts (matching_in t checks st)) (λ rows. loop_over x (alone tables body) rows st)))
     ∙ inner_turns tables params own before rows x body (n + 1) (within_loop x number site) st js number _ (again_is tables params body)
 statement_begins tables params (ForRows x y body) n site before st js =
     let own : Record = own_record tables params (ForRows x y body) n site before st in
@@ -151,8 +151,8 @@ statement_begins tables params (ForRows x y body) n site before st js =
 statement_begins tables params (Branch e ys ns) n site before st js =
     let own : Record = own_record tables params (Branch e ys ns) n site before st in
     let number : ℕ = length before in
-    ap (λ m. Split tables params (own ∷ on (value_of e st.env []) (λ v. if is_so v then told tables params ys (n + 1) (within number site) (before ++ own ∷ []) st
-    else told tables params ns (n + 1 + m) (within number site) (before ++ own ∷ []) st)) (then_do (value_of e st.env []) (λ v. if is_so v then alone tables ys st else alone tables ns st)) js before)
+    ap (λ m. Split tables params (own ∷ on (value_of e st.env []) (λ v. if is_so v then tell_statements tables params ys (n + 1) (within number site) (before ++ own ∷ []) st
+    else tell_statements tables params ns (n + 1 + m) (within number site) (before ++ own ∷ []) st)) (then_do (value_of e st.env []) (λ v. if is_so v then alone tables ys st else alone tables ns st)) js before)
     (sizes_same tables params ys)
     ∙ branch_begins tables params own before (value_of e st.env []) ys ns (n + 1) (n + 1 + size_of ys) (within number site) st js
 statement_begins tables params (Insert t es) n site before st js = refl

@@ -10,7 +10,7 @@ use Rattle.mv_recorded.specs.Recorded.{Site, outside}
 use Rattle.mv_exec.specs.declared.places.Holder.{Holder}
 use Rattle.mv_exec.specs.declared.places.Holder.TheVariants as by
 use Rattle.mv_exec.specs.declared.places.Place.{Place}
-use Rattle.mv_exec.specs.Places.{block_in, block_of, statement_before, holder_of, site_in, site_of, turns_of, rows_at, jobs_here, jobs_of, jobs_left, has_turn, is_left, StaysTo}
+use Rattle.mv_exec.specs.Places.{block_in, block_of, statement_before, holder_of, site_in, site_of, turns_of, loop_rows, jobs_here, jobs_of, jobs_left, has_turn, is_left, StaysTo}
 
 -- Lists
 
@@ -65,7 +65,7 @@ jobs_more proc rs s site (q ∷ ps) p =
 no_turns : (rs : List Record) (block : List RStmt) (site : Site) (first : ℕ) (h : Holder) → has_turn rs h ≡ false → turns_of rs site block first h ≡ []
 no_turns rs block site first by.Procedure e = refl
 no_turns rs block site first (by.Branch number b) e = refl
-no_turns rs block site first (by.Loop number x k) e = rw (none_past (rows_at rs number) k e) refl
+no_turns rs block site first (by.Loop number x k) e = rw (none_past (loop_rows rs number) k e) refl
 
 -- nothing is left where neither a statement nor a turn is
 pub none_here : (rs : List Record) (block : List RStmt) (site : Site) (p : Place) → is_left rs block p ≡ false → jobs_here rs block site p ≡ []

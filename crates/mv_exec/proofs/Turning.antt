@@ -15,7 +15,7 @@ use Rattle.mv_exec.specs.declared.places.Holder.TheVariants as by
 use Rattle.mv_exec.specs.declared.places.Place.{Place}
 use Rattle.mv_exec.specs.declared.task.Task.{Task}
 use Rattle.mv_exec.specs.Left.{Job, run, turns, left}
-use Rattle.mv_exec.specs.Places.{block_in, block_of, statement_before, holder_of, site_in, site_of, some_run, some_turns, turns_of, rows_at, jobs_left, has_turn, is_left, EndsLeft, Every, IsFilled, AreFilled, IsNumbered, AreNumbered, in_next_turn, next_turn, with_turn, with_next_row}
+use Rattle.mv_exec.specs.Places.{block_in, block_of, statement_before, holder_of, site_in, site_of, some_run, some_turns, turns_of, loop_rows, jobs_left, has_turn, is_left, EndsLeft, Every, IsFilled, AreFilled, IsNumbered, AreNumbered, in_next_turn, next_turn, with_turn, with_next_row}
 use Rattle.mv_exec.specs.Tasks.{standing, places_of, beginning, state_of, IsTask, StandsAsBefore, IsHeldBefore, AreHeldBefore}
 use Rattle.mv_exec.proofs.Leaving.{turn_begins}
 use Rattle.mv_exec.proofs.Placing.{same_last, none_past, jobs_more}
@@ -125,7 +125,7 @@ turn_by tables params rs block site by.Procedure start at number js some none tu
 turn_by tables params rs block site (by.Branch n b) start at number js some none turn before st = cc
 turn_by tables params rs block site (by.Loop n x k) start at number js some none turn before st =
     let loop : Site = within_loop x n site in
-    let rows : List (List Value) = rows_at rs n in
+    let rows : List (List Value) = loop_rows rs n in
     let f : FirstOf (List Value) rows k = first_of rows k turn in
     let next : State = record st { env = with_held st.env x (Turn f.it) } in
     ap (λ ss. left tables params ((some_run (in_turn k loop) number ss ++ some_turns loop start x block (drop k rows) (k + 1)) ++ js) before st) none

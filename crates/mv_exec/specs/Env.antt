@@ -46,8 +46,8 @@ with_changes [] env = env
 with_changes (c ∷ cs) env = with_changes cs (with_held env c.slot c.held)
 
 -- the same of the variables of a running call
-abbrev pub changed : List Change → CallVariables → CallVariables
-changed cs vs = record vs { env = with_changes cs vs.env }
+abbrev pub with_changed : List Change → CallVariables → CallVariables
+with_changed cs vs = record vs { env = with_changes cs vs.env }
 
 -- as many variables as changes need
 abbrev pub room : List Change → ℕ

@@ -11,7 +11,7 @@ use Rattle.mv_alone.specs.Alone.{Does, alone, each_turn}
 use Rattle.mv_record.specs.declared.record.Record.{Record}
 use Rattle.mv_recorded.specs.Asking.{on}
 use Rattle.mv_recorded.specs.Doing.{fixed_rows}
-use Rattle.mv_recorded.specs.Recorded.{Site, told, tell_turns, within, within_loop}
+use Rattle.mv_recorded.specs.Recorded.{Site, tell_statements, tell_turns, within, within_loop}
 
 -- a part of what is left: statements one after another, of which the first has this number in the text; or turns of a
 -- loop, of which the first has this number
@@ -26,8 +26,8 @@ does_job tables (turns site n x body rows k) = each_turn x (alone tables body) r
 
 -- the records that a job adds after others
 abbrev pub tells_job : List TableInfo → ℕ → Job → List Record → State → List Record
-tells_job tables params (run site n ss) before st = told tables params ss n site before st
-tells_job tables params (turns site n x body rows k) before st = tell_turns x (alone tables body) (told tables params body) rows k n site before st
+tells_job tables params (run site n ss) before st = tell_statements tables params ss n site before st
+tells_job tables params (turns site n x body rows k) before st = tell_turns x (alone tables body) (tell_statements tables params body) rows k n site before st
 
 -- the records that these jobs add, one after another
 abbrev pub left : List TableInfo → ℕ → List Job → List Record → State → List Record

@@ -72,8 +72,8 @@ abbrev pub rows_in : Option Record → List (List Value)
 rows_in None = []
 rows_in (Some r) = r.rows
 
-abbrev pub rows_at : List Record → ℕ → List (List Value)
-rows_at rs number = rows_in (slice_get rs number)
+abbrev pub loop_rows : List Record → ℕ → List (List Value)
+loop_rows rs number = rows_in (slice_get rs number)
 
 abbrev pub some_run : Site → ℕ → List RStmt → List Job
 some_run site n [] = []
@@ -87,7 +87,7 @@ some_turns site n x body (row ∷ rows) k = turns site n x body (row ∷ rows) k
 abbrev pub turns_of : List Record → Site → List RStmt → ℕ → Holder → List Job
 turns_of rs site block first by.Procedure = []
 turns_of rs site block first (by.Branch number b) = []
-turns_of rs site block first (by.Loop number x k) = some_turns (within_loop x number site) first x block (drop k (rows_at rs number)) (k + 1)
+turns_of rs site block first (by.Loop number x k) = some_turns (within_loop x number site) first x block (drop k (loop_rows rs number)) (k + 1)
 
 -- what is left at a place in this list: the statements from it on, and the turns after this one
 abbrev pub jobs_here : List Record → List RStmt → Site → Place → List Job
@@ -105,7 +105,7 @@ jobs_left proc rs ps = jobs_of proc rs None outside ps
 abbrev pub has_turn : List Record → Holder → Bool
 has_turn rs by.Procedure = false
 has_turn rs (by.Branch number b) = false
-has_turn rs (by.Loop number x k) = nat_lt k (length (rows_at rs number))
+has_turn rs (by.Loop number x k) = nat_lt k (length (loop_rows rs number))
 
 -- there is a statement at the place or after it, or a turn
 abbrev pub is_left : List Record → List RStmt → Place → Bool
@@ -172,4 +172,4 @@ with_turn x (Some row) env = with_held env x (Turn row)
 abbrev pub with_next_row : List Record → Holder → Env → Env
 with_next_row rs by.Procedure env = env
 with_next_row rs (by.Branch number b) env = env
-with_next_row rs (by.Loop number x k) env = with_turn x (slice_get (rows_at rs number) k) env
+with_next_row rs (by.Loop number x k) env = with_turn x (slice_get (loop_rows rs number) k) env

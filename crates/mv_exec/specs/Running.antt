@@ -83,8 +83,8 @@ Foresees (Some ahead) [] = ⊥
 Foresees (Some ahead) (r ∷ rs) = (r.spot ≡ ahead.spot) × (r.parent ≡ ahead.parent) × (r.reads ≡ ahead.reads)
 
 -- this is ahead of the call, on each database where its records are the first ones of its full run
-abbrev pub IsNext : Graph → Task → Option Ahead → Type 0
-IsNext g task ahead = (call : Call) (db : Tables) (rest : List Record) → IsTaskOf g call task → AreRising db → Leaves g call db task rest → Foresees ahead rest
+abbrev pub IsAhead : Graph → Task → Option Ahead → Type 0
+IsAhead g task ahead = (call : Call) (db : Tables) (rest : List Record) → IsTaskOf g call task → AreRising db → Leaves g call db task rest → Foresees ahead rest
 
 -- a record has the content of another one: all but its place, its controller and its definers
 abbrev pub HasContent : Record → Record → Type 0
@@ -96,7 +96,7 @@ pub record HasAdopted (g : Graph) (old : Task) (given : Record) (new : Task) : T
   pub next : Record
   pub records : new.records ≡ old.records ++ next ∷ []
   pub content : HasContent given next
-  pub place : IsNext g old (Some (record { spot = next.spot; parent = next.parent; reads = next.reads }))
+  pub place : IsAhead g old (Some (record { spot = next.spot; parent = next.parent; reads = next.reads }))
   pub executed : new.executed ≡ old.executed
 
 -- if a full run of the call continues with a record of this content, the rest of that run is left

@@ -4,7 +4,7 @@ ghost use Rattle.std.specs.Prelude.{◌≡◌, ◌<◌, ◌≤◌, ◌+◌, ◌+
 ghost use Rattle.mv_catalog.specs.Statements.{size_of};
 ghost use Rattle.mv_record.specs.declared.record.Record.{Record};
 ghost use Rattle.mv_exec.specs.declared.places.Place.{Place};
-ghost use Rattle.mv_exec.specs.Env.{with_changes, changed};
+ghost use Rattle.mv_exec.specs.Env.{with_changes, with_changed};
 ghost use Rattle.mv_exec.specs.Keeping.{define, slot_room};
 ghost use Rattle.mv_catalog.specs.declared.resolved.RStmt.{out-RStmt};
 ghost use Rattle.mv_recorded.specs.Effect.{HasColumns};
@@ -68,7 +68,7 @@ fn push_rest(
     changes: Vec<Change>,
     inner: Option<Place>,
 ) -> Result<(), NoMemory>
-    ensures ok { OnOk result (task.new ≡ record task.old { variables = changed changes.items task.old.variables; records = task.old.records ++ given ∷ []; places = task.old.places ++ option_to_list inner }) }
+    ensures ok { OnOk result (task.new ≡ record task.old { variables = with_changed changes.items task.old.variables; records = task.old.records ++ given ∷ []; places = task.old.places ++ option_to_list inner }) }
     ensures err { OnErr result (HasFronts task.old task.new) }
 {
     push_place(&mut task.places, inner)?;

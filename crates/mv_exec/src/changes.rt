@@ -5,7 +5,7 @@ ghost use Rattle.mv_values.specs.declared.value.Value.{Value};
 ghost use Rattle.mv_catalog.specs.declared.resolved.RStmt.{out-RStmt};
 ghost use Rattle.mv_alone.specs.declared.state.Env.{Env};
 ghost use Rattle.mv_recorded.specs.Effect.{with_slots};
-ghost use Rattle.mv_exec.specs.Env.{changed, room, of_slot};
+ghost use Rattle.mv_exec.specs.Env.{with_changed, room, of_slot};
 ghost use Rattle.mv_exec.specs.Moves.{after_empty_loop, after_turns};
 
 use crate::variables::Variables;
@@ -43,7 +43,7 @@ fn room_for(changes: &[Change]) -> usize
 #[tactic(auto, using(crate::proofs::Changing::room_here))]
 fn set_all(variables: &mut Variables, changes: Vec<Change>)
     requires { room changes.items ≤ length variables.old.env.held }
-    ensures { variables.new ≡ changed changes.items variables.old }
+    ensures { variables.new ≡ with_changed changes.items variables.old }
 {
     for change in changes {
         variables.put(change.slot as usize, change.held);
@@ -53,7 +53,7 @@ fn set_all(variables: &mut Variables, changes: Vec<Change>)
 /// Makes changes, in order. On `NoMemory` the variables are unchanged.
 #[tactic(auto, using(crate::proofs::Changing::padded_changes, mv_alone::proofs::Putting::padded_long))]
 pub(crate) fn make_changes(variables: &mut Variables, changes: Vec<Change>) -> Result<(), NoMemory>
-    ensures ok { OnOk result (variables.new ≡ changed changes.items variables.old) }
+    ensures ok { OnOk result (variables.new ≡ with_changed changes.items variables.old) }
     ensures err { OnErr result (variables.new ≡ variables.old) }
 {
     variables.widen(room_for(&changes))?;

@@ -5,7 +5,7 @@ ghost use Rattle.std.specs.Option.{option_copied};
 ghost use Rattle.mv_recorded.specs.Reading.{loop_of};
 ghost use Rattle.mv_recorded.specs.Recorded.{outside};
 ghost use Rattle.mv_exec.specs.declared.places.Place.{Place};
-ghost use Rattle.mv_exec.specs.Places.{branch_of, body_of, block_in, statement_before, holder_of, has_turn, is_left, rows_at, StaysTo, site_of};
+ghost use Rattle.mv_exec.specs.Places.{branch_of, body_of, block_in, statement_before, holder_of, has_turn, is_left, loop_rows, StaysTo, site_of};
 
 use mv_catalog::resolved::{ProcInfo, RStmt};
 use mv_record::record::Record;
@@ -111,7 +111,7 @@ pub(crate) fn holder_of<'p>(procedure: &'p ProcInfo, places: &[Place]) -> Option
 
 /// Returns the rows of the loop whose FOR's record has this number.
 pub(crate) fn rows_of(records: &[Record], number: usize) -> &[Row]
-    ensures { result.now ≡ rows_at records.now number }
+    ensures { result.now ≡ loop_rows records.now number }
 {
     match records.get(number) {
         Some(record) => record.rows.as_slice(),

@@ -7,7 +7,7 @@ ghost use Rattle.mv_record.specs.Runs.{writes_in};
 ghost use Rattle.mv_graph.specs.Nodes.{IsSound, meaning_of};
 ghost use Rattle.mv_record.specs.Databases.{IsDatabaseOf};
 ghost use Rattle.mv_effect.specs.Looking.{AskedAtMost, OnlyAsks, different};
-ghost use Rattle.mv_exec.specs.Running.{IsRunning, IsRunningOn, IsSameCall, IsSameCallOn, IsTaskOf, IsTaskOn, IsUnchanged, IsNext, GoesOnWith, HasAdopted, HasRun, HasRunTo, refusals, stepped, EndsExactly, KeysKept};
+ghost use Rattle.mv_exec.specs.Running.{IsRunning, IsRunningOn, IsSameCall, IsSameCallOn, IsTaskOf, IsTaskOn, IsUnchanged, IsAhead, GoesOnWith, HasAdopted, HasRun, HasRunTo, refusals, stepped, EndsExactly, KeysKept};
 
 use crate::add::add;
 use crate::ahead::{come_to, foresee};
@@ -43,7 +43,7 @@ impl Task {
 pub fn peek(alloc: Global, graph: &Graph, task: &Task) -> Result<Option<Ahead>, NoMemory>
     requires sound { IsSound graph.now }
     requires running { IsRunning graph.now task.now }
-    ensures next { IfOk result (IsNext graph.now task.now) }
+    ensures next { IfOk result (IsAhead graph.now task.now) }
     ensures ended { IfOk result (λ ahead. (task.now.ended ≡ true) ↔ (ahead ≡ None)) }
 {
     let ahead = foresee(alloc, graph, task)?;

@@ -20,7 +20,7 @@ use Rattle.mv_core.specs.declared.tasks.Running.{Running}
 use Rattle.mv_core.specs.Scripts.{work_of}
 use Rattle.mv_core.specs.Calls.{IsLive, IsLiveCall, turns_in, due_number}
 use Rattle.mv_core.specs.Books.{Booked, work_in, Made, IsSame, HasRounds, IsNotStale, IsFirstNumber}
-use Rattle.mv_core.specs.Cores.{RunsOn, IsStoreOf, HasTurns, HasStep, HasRun, HasRunOne, count_or, IsCounted, IsLiveTask, IsTaskIn, IsRunning}
+use Rattle.mv_core.specs.Cores.{RunsOn, IsStoreOf, HasTurns, HasStep, HasRunOn, HasRunOne, count_or, IsCounted, IsLiveTask, IsTaskIn, IsRunning}
 use Rattle.mv_core.proofs.Refusing.{begun_number, used_rounds}
 use Rattle.mv_core.proofs.Taking.{one_live, due_live, due_first, first_number, task_given, task_writes}
 use Rattle.mv_core.proofs.Changed.{step_used, live_stepped}
@@ -47,7 +47,7 @@ counted_here w seen order c start from count l p le same h is e =
     ∙ (sym e.1 ∙ (ap (count_or count) (sym (whole_prefix w seen order c start p le)) ∙ ap (λ n. count_or count (whole_run w order c n)) same)))))
 
 -- a whole run that went on executed all its records
-runs_on : (w : Work) (seen : List ℕ) (c start : ℕ) (from : Option ℕ) (old new : Running) → from ≡ None → IsExecuted w seen c from start old → HasRun old new → IsExecuted w seen c from start new
+runs_on : (w : Work) (seen : List ℕ) (c start : ℕ) (from : Option ℕ) (old new : Running) → from ≡ None → IsExecuted w seen c from start old → HasRunOn old new → IsExecuted w seen c from start new
 runs_on w seen c start None old new none e ran = (ran.count ∙ e.0, ran.task.executed e.1)
 runs_on w seen c start (Some from) old new none e ran = absurd (search (rules, none))
 
@@ -70,7 +70,7 @@ task_here s b store gate h d holds p k =
     })
 
 task_back : (s : BoardScript) (b : Booked) (store : Versioned) (gate : Knows) (h : Holding) (r : Running) → IsDesk s b store gate → IsHeld s h → IsPrefix h.knows.seen b.course.order → (k : IsKnown b h) → has_step (work_in b) b.course h.call k.live ≡ true
-    → IsLiveTask b.script b.course.order h.call k.live r → HasRun h.running r → IsHeld s (record h { running = r })
+    → IsLiveTask b.script b.course.order h.call k.live r → HasRunOn h.running r → IsHeld s (record h { running = r })
 task_back s b store gate h r d holds p k step task ran =
     let t : IsLiveTask (script_in s) b.course.order h.call k.live r = subst (λ (x : Script). IsLiveTask x b.course.order h.call k.live r) d.script task in
     record {

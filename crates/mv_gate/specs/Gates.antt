@@ -18,7 +18,7 @@ use Rattle.mv_core.specs.declared.tasks.Running.{Running}
 use Rattle.mv_core.specs.Scripts.{work_of}
 use Rattle.mv_core.specs.Calls.{IsLive, IsLiveCall}
 use Rattle.mv_core.specs.Books.{Booked, work_in, Made, IsSame, IsNotStale, AreRecordsOf}
-use Rattle.mv_core.specs.Cores.{RunsOn, IsStoreOf, HasTurns, HasStep, HasRun, IsTaskIn}
+use Rattle.mv_core.specs.Cores.{RunsOn, IsStoreOf, HasTurns, HasStep, HasRunOn, IsTaskIn}
 use Rattle.mv_gate.specs.declared.answers.Answer.{Answer}
 use Rattle.mv_gate.specs.declared.answers.Answer.TheVariants as answer
 
@@ -143,7 +143,7 @@ pub record IsKnown (b : Booked) (h : Holding) : Type 0 where
 pub record HasCall (s : BoardScript) (b : Booked) (h : Holding) : Type 0 where
   pub call : IsUnderWay b h.call h.running
   pub start : (l : Live) → IsLive b.course h.call l → h.start ≡ l.start
-  pub back : HasStep b h.call → (r : Running) → IsTaskIn b h.call r → HasRun h.running r → IsHeld s (record h { running = r })
+  pub back : HasStep b h.call → (r : Running) → IsTaskIn b h.call r → HasRunOn h.running r → IsHeld s (record h { running = r })
 
 -- Results of events
 

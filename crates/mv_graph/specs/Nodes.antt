@@ -7,7 +7,7 @@ use Rattle.mv_catalog.specs.declared.resolved.ProcInfo.{ProcInfo}
 use Rattle.mv_catalog.specs.declared.resolved.RStmt.{RStmt, out-RStmt}
 use Rattle.mv_catalog.specs.declared.resolved.RStmt.TheOpen.{RStmt-F, Assign, Select, Total, ForSelect, ForRows, Branch, Insert, Update, Delete, Print, Rollback}
 use Rattle.mv_catalog.specs.declared.resolved.RStmt.TheFolds.{fold-RStmt, map-RStmt}
-use Rattle.mv_record.specs.Runs.{Meaning}
+use Rattle.mv_record.specs.Runs.{Behavior}
 use Rattle.mv_recorded.specs.Reading.{expressions, each_once, read_variables}
 use Rattle.mv_recorded.specs.Recorded.{meaning}
 use Rattle.mv_graph.specs.declared.graph.Graph.{Graph}
@@ -160,7 +160,7 @@ abbrev pub IsGraph : Graph → Type 0
 IsGraph g = g.nodes ≡ nodes_in g.procedure
 
 -- its meaning is its procedure's
-abbrev pub meaning_of : Graph → Meaning
+abbrev pub meaning_of : Graph → Behavior
 meaning_of g = meaning g.tables g.procedure
 
 -- its tables and its procedure fit together, as those of a program do, and its nodes are those of its procedure

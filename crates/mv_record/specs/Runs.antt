@@ -22,8 +22,8 @@ pub record Run : Type 0 where
   pub tables : Tables
 
 -- the results of the calls of a procedure
-abbrev pub Meaning : Type 0
-Meaning = Call → Tables → Run
+abbrev pub Behavior : Type 0
+Behavior = Call → Tables → Run
 
 -- Lines and the end
 

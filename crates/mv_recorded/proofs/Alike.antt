@@ -23,7 +23,7 @@ use Rattle.mv_alone.specs.Value.{value_of}
 use Rattle.mv_alone.specs.Rows.{is_some_row, then_by, sort_order, put_in, ordered, item_at, distinct, projected, column, aggregate, total, sum_of, least, greatest, fit}
 use Rattle.mv_alone.specs.Changes.{with_column, set_row}
 use Rattle.mv_recorded.specs.Asking.{with_sorts, column_in, columns_in}
-use Rattle.mv_recorded.specs.Doing.{write, changed}
+use Rattle.mv_recorded.specs.Doing.{write, set_patch}
 use Rattle.mv_recorded.specs.Reading.{each_once, variables}
 use Rattle.mv_recorded.specs.Effects.{changes}
 use Rattle.mv_recorded.specs.Own.{Each, Within}
@@ -259,11 +259,11 @@ changes_same t columns keys width e f items (x ∷ xs) (y ∷ ys) h k plain wx w
   where
     by : (p q : Result (List Value) End) → RowsSame items x.row y.row p q
         → changes t items (λ row. set_row columns keys e row items row) xs ≡ changes t items (λ row. set_row columns keys f row items row) ys
-        → then_do p (λ row. then_do (changes t items (λ row. set_row columns keys e row items row) xs) (λ ws. Ok (write t x.key (changed items row) ∷ ws)))
-        ≡ then_do q (λ row. then_do (changes t items (λ row. set_row columns keys f row items row) ys) (λ ws. Ok (write t y.key (changed items row) ∷ ws)))
+        → then_do p (λ row. then_do (changes t items (λ row. set_row columns keys e row items row) xs) (λ ws. Ok (write t x.key (set_patch items row) ∷ ws)))
+        ≡ then_do q (λ row. then_do (changes t items (λ row. set_row columns keys f row items row) ys) (λ ws. Ok (write t y.key (set_patch items row) ∷ ws)))
     by (Ok p) (Ok q) same rest =
-        ap (λ r. then_do r (λ ws. Ok (write t x.key (changed items p) ∷ ws))) rest
-        ∙ (ap (λ l. then_do (changes t items (λ row. set_row columns keys f row items row) ys) (λ ws. Ok (write t l (changed items p) ∷ ws))) k.0
+        ap (λ r. then_do r (λ ws. Ok (write t x.key (set_patch items p) ∷ ws))) rest
+        ∙ (ap (λ l. then_do (changes t items (λ row. set_row columns keys f row items row) ys) (λ ws. Ok (write t l (set_patch items p) ∷ ws))) k.0
         ∙ ap (λ l. then_do (changes t items (λ row. set_row columns keys f row items row) ys) (λ ws. Ok (write t y.key (patch.Set l) ∷ ws))) (changed_same items p q (λ c w. same c (inr w))))
     by (Err d) (Err g) same rest = ap Err same
     by (Ok p) (Err g) same rest = absurd same

@@ -32,7 +32,7 @@ use Rattle.mv_alone.specs.Changes.{new_row, updated, put_row, put_row_by, keyed}
 use Rattle.mv_record.specs.declared.record.Slot.{Slot}
 use Rattle.mv_record.proofs.Rising.{Above, Rises, rises_from, turned, lower}
 use Rattle.mv_recorded.specs.Asking.{on, pred_of, same_key, columns_in}
-use Rattle.mv_recorded.specs.Doing.{write, changed}
+use Rattle.mv_recorded.specs.Doing.{write, set_patch}
 use Rattle.mv_record.specs.declared.effect.Effect.{Effect}
 use Rattle.mv_recorded.specs.Effects.{IsEffect, asks, asked_then, changes, writing, new_of, inserting, only_end, slots_behind}
 use Rattle.mv_recorded.proofs.Chosen.{asked_of, then_err, same_ok, rows_asked}
@@ -67,8 +67,8 @@ set_all t items new checks (r ∷ rs) ws h = by (λ vs k. set_all t items new ch
         → (b : Bool) → changes t items new (cond b (r ∷ matching checks rs) (matching checks rs)) ≡ Ok ws
         → (out : List Keyed) × ((if b then then_do (new r.row) (λ row. then_do (updated new checks rs) (λ rest. Ok (record r { row = row } ∷ rest))) else then_do (updated new checks rs) (λ rest. Ok (r ∷ rest))) ≡ Ok out)
     by ih true k =
-        let made = goes_to (new r.row) (λ row. then_do (changes t items new (matching checks rs)) (λ vs. Ok (write t r.key (changed items row) ∷ vs))) ws k in
-        let later = goes_to (changes t items new (matching checks rs)) (λ vs. Ok (write t r.key (changed items made.0) ∷ vs)) ws made.2 in
+        let made = goes_to (new r.row) (λ row. then_do (changes t items new (matching checks rs)) (λ vs. Ok (write t r.key (set_patch items row) ∷ vs))) ws k in
+        let later = goes_to (changes t items new (matching checks rs)) (λ vs. Ok (write t r.key (set_patch items made.0) ∷ vs)) ws made.2 in
         let rest = ih later.0 later.1 in (
           record r { row = made.0 } ∷ rest.0,
           ap (λ o. then_do o (λ row. then_do (updated new checks rs) (λ more. Ok (record r { row = row } ∷ more)))) made.1
@@ -81,9 +81,9 @@ set_stops : (t : ℕ) (items : List RSetItem) (new : New) (checks : List Check) 
 set_stops t items new checks [] e h = cc
 set_stops t items new checks (r ∷ rs) e h = by (λ k. set_stops t items new checks rs e k) (meets checks r.row) h
   where
-    made : (changes t items new (matching checks rs) ≡ Err e → updated new checks rs ≡ Err e) → (o : Result (List Value) End) → then_do o (λ row. then_do (changes t items new (matching checks rs)) (λ vs. Ok (write t r.key (changed items row) ∷ vs))) ≡ Err e
+    made : (changes t items new (matching checks rs) ≡ Err e → updated new checks rs ≡ Err e) → (o : Result (List Value) End) → then_do o (λ row. then_do (changes t items new (matching checks rs)) (λ vs. Ok (write t r.key (set_patch items row) ∷ vs))) ≡ Err e
         → then_do o (λ row. then_do (updated new checks rs) (λ rest. Ok (record r { row = row } ∷ rest))) ≡ Err e
-    made ih (Ok row) k = rw (ih (then_err (changes t items new (matching checks rs)) (λ vs. write t r.key (changed items row) ∷ vs) e k)) refl
+    made ih (Ok row) k = rw (ih (then_err (changes t items new (matching checks rs)) (λ vs. write t r.key (set_patch items row) ∷ vs) e k)) refl
     made ih (Err d) k = cc
 
     by : (changes t items new (matching checks rs) ≡ Err e → updated new checks rs ≡ Err e)
@@ -94,16 +94,16 @@ set_stops t items new checks (r ∷ rs) e h = by (λ k. set_stops t items new ch
 
 -- the changes of rows of which new ones are made
 abbrev written_of : ℕ → List RSetItem → New → List Keyed → List Write
-written_of t items new rows = flat_map (λ item. on (new item.row) (λ row. write t item.key (changed items row) ∷ [])) rows
+written_of t items new rows = flat_map (λ item. on (new item.row) (λ row. write t item.key (set_patch items row) ∷ [])) rows
 
 -- what was written are the changes of all rows, where a row is made of each
 writes_are : (t : ℕ) (items : List RSetItem) (new : New) (rows : List Keyed) (ws : List Write) → changes t items new rows ≡ Ok ws → ws ≡ written_of t items new rows
 writes_are t items new [] ws h = sym (same_ok h)
 writes_are t items new (r ∷ rs) ws h =
-    let made = goes_to (new r.row) (λ row. then_do (changes t items new rs) (λ vs. Ok (write t r.key (changed items row) ∷ vs))) ws h in
-    let later = goes_to (changes t items new rs) (λ vs. Ok (write t r.key (changed items made.0) ∷ vs)) ws made.2 in
-    sym (same_ok later.2) ∙ (ap (λ l. write t r.key (changed items made.0) ∷ l) (writes_are t items new rs later.0 later.1)
-    ∙ ap (λ o. on o (λ row. write t r.key (changed items row) ∷ []) ++ written_of t items new rs) (sym made.1))
+    let made = goes_to (new r.row) (λ row. then_do (changes t items new rs) (λ vs. Ok (write t r.key (set_patch items row) ∷ vs))) ws h in
+    let later = goes_to (changes t items new rs) (λ vs. Ok (write t r.key (set_patch items made.0) ∷ vs)) ws made.2 in
+    sym (same_ok later.2) ∙ (ap (λ l. write t r.key (set_patch items made.0) ∷ l) (writes_are t items new rs later.0 later.1)
+    ∙ ap (λ o. on o (λ row. write t r.key (set_patch items row) ∷ []) ++ written_of t items new rs) (sym made.1))
 
 -- what an UPDATE does that ends at a row that it found
 update_unset : (tables : List TableInfo) (t : ℕ) (items : List RSetItem) (conds : List RCond) (env : Env) (db : List (List Keyed)) (pred : Pred) (rows : List Keyed) (e : End)

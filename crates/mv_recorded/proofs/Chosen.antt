@@ -22,7 +22,7 @@ use Rattle.mv_alone.specs.Outcome.{then_do}
 use Rattle.mv_alone.specs.Env.{scalar_at, with_value, with_values, with_found}
 use Rattle.mv_alone.specs.Value.{number, is_so}
 use Rattle.mv_alone.specs.Rows.{checks_of, matching, ordered, item_at, aggregate, is_some_row}
-use Rattle.mv_alone.specs.Alone.{offset_of, taken, totalled, fixed}
+use Rattle.mv_alone.specs.Alone.{offset_of, with_selected, totalled, fixed}
 use Rattle.mv_record.specs.declared.record.Slot.{Slot}
 use Rattle.mv_recorded.specs.Asking.{pred_of, with_sorts, column_in}
 use Rattle.mv_recorded.specs.Doing.{when, gives_always, effect_of}
@@ -68,7 +68,7 @@ abbrev taken_names : List ℕ → Env → List ℕ
 taken_names xs next = when (is_so (scalar_at next next.found)) (each_once xs) ++ next.found ∷ []
 
 -- a SELECT sets the same variables by the row that it chose and by the state behind it
-taken_named : (env : Env) (cs xs : List ℕ) (item : Option Keyed) → when (is_some item) (each_once xs) ++ env.found ∷ [] ≡ taken_names xs (taken cs xs item env)
+taken_named : (env : Env) (cs xs : List ℕ) (item : Option Keyed) → when (is_some item) (each_once xs) ++ env.found ∷ [] ≡ taken_names xs (with_selected cs xs item env)
 taken_named env cs xs None = ap (λ b. when b (each_once xs) ++ env.found ∷ []) (sym (found_is env false))
 taken_named env cs xs (Some item) =
     let first : Env = with_values env xs (columns_of item.row cs) in
@@ -115,7 +115,7 @@ select_goes tables cs xs t conds sorts offset env db pred z rows h k found = λ 
     rw (a.are, v.1)
     (ap (λ p. taking p cs xs chosen env) a.is
     ∙ (ap (λ o. taking (pred_of tables t a.checks (with_sorts cs sorts)) cs xs o env) same
-    ∙ ap (λ ns. made (pred_of tables t a.checks (with_sorts cs sorts) ∷ []) (slots_behind (taken cs xs item env) ns) []) (taken_named env cs xs item)))
+    ∙ ap (λ ns. made (pred_of tables t a.checks (with_sorts cs sorts) ∷ []) (slots_behind (with_selected cs xs item env) ns) []) (taken_named env cs xs item)))
 
 -- what a SELECT does that is stopped before it looks at rows
 pub select_unasked : (tables : List TableInfo) (cs xs : List ℕ) (t : ℕ) (conds : List RCond) (sorts : List RSort) (offset : Option RExpr) (env : Env) (db : List (List Keyed)) (e : Effect)

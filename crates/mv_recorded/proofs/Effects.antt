@@ -28,7 +28,7 @@ use Rattle.mv_alone.specs.Env.{scalar_at, turns_at, with_value, with_values, wit
 use Rattle.mv_alone.specs.Value.{value_of, values_of, fitted, is_so, number}
 use Rattle.mv_alone.specs.Rows.{checks_of, aggregate, total, sum_of, distinct, projected, column, is_some_row, ordered, item_at}
 use Rattle.mv_alone.specs.Changes.{new_row, put_row, keyed, updated, set_row}
-use Rattle.mv_alone.specs.Alone.{matches, offset_of, taken, totalled, is_turn}
+use Rattle.mv_alone.specs.Alone.{matching_in, offset_of, with_selected, totalled, is_turn}
 use Rattle.mv_record.specs.declared.record.Record.{Record}
 use Rattle.mv_recorded.specs.Asking.{on}
 use Rattle.mv_recorded.specs.Doing.{itself, fixed_rows, before_turns, writes_of, printed_line, gives_always, when, set_variables, sets_of}
@@ -79,7 +79,7 @@ found_is env b = ap is_so (set_has env env.found (truth b)) ∙ truth_is_so b
 
 -- what a SELECT sets
 taken_sets : (env : Env) (cs xs : List ℕ) (item : Option Keyed) → length xs ≤ length cs
-    → SetsAll env (when (is_so (scalar_at (taken cs xs item env) (taken cs xs item env).found)) (each_once xs) ++ (taken cs xs item env).found ∷ []) (taken cs xs item env)
+    → SetsAll env (when (is_so (scalar_at (with_selected cs xs item env) (with_selected cs xs item env).found)) (each_once xs) ++ (with_selected cs xs item env).found ∷ []) (with_selected cs xs item env)
 taken_sets env cs xs None le =
     subst (λ b. SetsAll env (when b (each_once xs) ++ env.found ∷ []) (with_found env false)) (sym (found_is env false)) (one_set env env.found (truth false))
 taken_sets env cs xs (Some item) le =
@@ -125,12 +125,12 @@ env_told {X} tables (Select cs xs t conds sorts offset) st next has h =
     let checks = goes_to (checks_of conds st.env) _ next h in
     let at = goes_to (offset_of offset st.env) _ next checks.2 in
     subst (λ n. SetsAll st.env (set_variables {X = X} (Select cs xs t conds sorts offset) n) n.env) (state_ok at.2)
-    (taken_sets st.env cs xs (item_at (ordered sorts (matches t checks.0 st)) (number at.0)) has)
+    (taken_sets st.env cs xs (item_at (ordered sorts (matching_in t checks.0 st)) (number at.0)) has)
 env_told {X} tables (Total agg x t conds) st next has h =
     let checks = goes_to (checks_of conds st.env) _ next h in
-    let v = goes_to (aggregate agg (matches t checks.0 st)) _ next checks.2 in
+    let v = goes_to (aggregate agg (matching_in t checks.0 st)) _ next checks.2 in
     subst (λ n. SetsAll st.env (set_variables {X = X} (Total agg x t conds) n) n.env) (state_ok v.2)
-    (total_sets st.env x v.0 (gives_always agg) (is_some_row (matches t checks.0 st)) (gives agg (matches t checks.0 st) v.0 v.1))
+    (total_sets st.env x v.0 (gives_always agg) (is_some_row (matching_in t checks.0 st)) (gives agg (matching_in t checks.0 st) v.0 v.1))
 env_told tables (ForSelect x once cs t conds sorts body) st next has h =
     let rows = goes_to (fixed_rows (ForSelect x once cs t conds sorts body) st) _ next h in
     subst (λ n. SetsAll st.env (n.env.found ∷ []) n.env) (state_ok rows.2) (found_set st.env (is_turn rows.0))
@@ -146,10 +146,10 @@ env_told tables (Insert t es) st next has h =
 env_told tables (Update t items conds) st next has h =
     let checks = goes_to (checks_of conds st.env) _ next h in
     let rows = goes_to (updated (λ row. set_row (columns_at tables t) (key_columns tables t) st.env row items row) checks.0 (rows_at st.tables t)) _ next checks.2 in
-    subst (λ n. SetsAll st.env (n.env.found ∷ []) n.env) (state_ok rows.2) (found_set st.env (is_some_row (matches t checks.0 st)))
+    subst (λ n. SetsAll st.env (n.env.found ∷ []) n.env) (state_ok rows.2) (found_set st.env (is_some_row (matching_in t checks.0 st)))
 env_told tables (Delete t conds) st next has h =
     let checks = goes_to (checks_of conds st.env) _ next h in
-    subst (λ n. SetsAll st.env (n.env.found ∷ []) n.env) (state_ok checks.2) (found_set st.env (is_some_row (matches t checks.0 st)))
+    subst (λ n. SetsAll st.env (n.env.found ∷ []) n.env) (state_ok checks.2) (found_set st.env (is_some_row (matching_in t checks.0 st)))
 env_told tables (Print es) st next has h =
     let vs = goes_to (values_of es st.env) _ next h in
     subst (λ n. SetsAll st.env [] n.env) (state_ok vs.2) refl

@@ -11,8 +11,8 @@ use Rattle.mv_alone.specs.declared.state.State.{State}
 use Rattle.mv_alone.specs.declared.state.Held.{Held}
 use Rattle.mv_alone.specs.declared.state.Held.TheVariants.{Scalar, Turns, Turn}
 use Rattle.mv_record.specs.Samples.{account}
-use Rattle.mv_recorded.specs.Examples.{var, col, field, constant, acc, add_amount, set_balance, tell_balance, read_balance, add_read, add_sum, add_write, add_line, AddsFive, greatest, add_overflow, AddOverflows, raise_balance, UpdateOverflows, tell_found, look_read, look_line, LooksInVain, no_funds, look_at_funds, take_amount, give_amount, take_fee, read_first, looked, rolled_back, taken, given, fee_taken, Transfers, TransferRollsBack, add_line_amount, over_lines, lines, loop_record, first_turn, AddsUp}
-use Rattle.mv_recorded.specs.Recorded.{Site, told, outside, within, within_loop, in_turn}
+use Rattle.mv_recorded.specs.Examples.{var, col, field, constant, acc, add_amount, set_balance, tell_balance, read_balance, add_read, add_sum, add_write, add_line, AddsFive, greatest, add_overflow, AddOverflows, raise_balance, UpdateOverflows, tell_found, look_read, look_line, LooksInVain, no_funds, look_at_funds, take_amount, give_amount, take_fee, read_first, looked, rolled_back, debited, given, fee_taken, Transfers, TransferRollsBack, add_line_amount, over_lines, lines, loop_record, first_turn, AddsUp}
+use Rattle.mv_recorded.specs.Recorded.{Site, tell_statements, outside, within, within_loop, in_turn}
 use Rattle.mv_recorded.proofs.Unrolled.{value_var, value_two, value_col, value_field, value_constant, variables_var, variables_two, variables_col, variables_field, variables_constant, columns_var, columns_two, columns_col, columns_constant, told_first, tell_is, does_is, size_is}
 
 abbrev scalar : ℕ → Held
@@ -26,20 +26,20 @@ with_accounts held found rows = record { env = record { held = held; found = fou
 abbrev at_add : ℕ → ℕ → ℕ → ℕ → State
 at_add x b found bal = with_accounts (scalar 1 ∷ scalar x ∷ scalar b ∷ scalar found ∷ []) 3 (account 0 0 ∷ account 1 bal ∷ account 2 100 ∷ [])
 
-reads_first : (x : ℕ) (ss : List RStmt) → told acc 2 (roll-RStmt (read_balance 2) ∷ ss) 1 outside [] (at_add x 0 0 100) ≡ add_read ∷ told acc 2 ss 2 outside (add_read ∷ []) (at_add x 100 1 100)
+reads_first : (x : ℕ) (ss : List RStmt) → tell_statements acc 2 (roll-RStmt (read_balance 2) ∷ ss) 1 outside [] (at_add x 0 0 100) ≡ add_read ∷ tell_statements acc 2 ss 2 outside (add_read ∷ []) (at_add x 100 1 100)
 reads_first x ss = told_first acc 2 (read_balance 2) ss 1 outside [] (at_add x 0 0 100) ∙ rw (value_var 0 (at_add x 0 0 100).env [], variables_var 0) refl
 
-adds_then : (ss : List RStmt) → told acc 2 (roll-RStmt add_amount ∷ ss) 2 outside (add_read ∷ []) (at_add 5 100 1 100)
-    ≡ add_sum ∷ told acc 2 ss 3 outside (add_read ∷ add_sum ∷ []) (at_add 5 105 1 100)
+adds_then : (ss : List RStmt) → tell_statements acc 2 (roll-RStmt add_amount ∷ ss) 2 outside (add_read ∷ []) (at_add 5 100 1 100)
+    ≡ add_sum ∷ tell_statements acc 2 ss 3 outside (add_read ∷ add_sum ∷ []) (at_add 5 105 1 100)
 adds_then ss = told_first acc 2 add_amount ss 2 outside (add_read ∷ []) (at_add 5 100 1 100)
     ∙ rw (value_two Add (var 2) (var 1) (at_add 5 100 1 100).env [], value_var 2 (at_add 5 100 1 100).env [], value_var 1 (at_add 5 100 1 100).env [], variables_two Add (var 2) (var 1), variables_var 2, variables_var 1) refl
 
-writes_then : (ss : List RStmt) → told acc 2 (roll-RStmt set_balance ∷ ss) 3 outside (add_read ∷ add_sum ∷ []) (at_add 5 105 1 100)
-    ≡ add_write ∷ told acc 2 ss 4 outside (add_read ∷ add_sum ∷ add_write ∷ []) (at_add 5 105 1 105)
+writes_then : (ss : List RStmt) → tell_statements acc 2 (roll-RStmt set_balance ∷ ss) 3 outside (add_read ∷ add_sum ∷ []) (at_add 5 105 1 100)
+    ≡ add_write ∷ tell_statements acc 2 ss 4 outside (add_read ∷ add_sum ∷ add_write ∷ []) (at_add 5 105 1 105)
 writes_then ss = told_first acc 2 set_balance ss 3 outside (add_read ∷ add_sum ∷ []) (at_add 5 105 1 100)
     ∙ rw (value_var 0 (at_add 5 105 1 100).env [], value_var 2 (at_add 5 105 1 100).env (account 1 100).row, variables_var 0, variables_var 2, columns_var 2) refl
 
-tells_then : told acc 2 (roll-RStmt tell_balance ∷ []) 4 outside (add_read ∷ add_sum ∷ add_write ∷ []) (at_add 5 105 1 105) ≡ add_line ∷ []
+tells_then : tell_statements acc 2 (roll-RStmt tell_balance ∷ []) 4 outside (add_read ∷ add_sum ∷ add_write ∷ []) (at_add 5 105 1 105) ≡ add_line ∷ []
 unfolding digits
 tells_then = told_first acc 2 tell_balance [] 4 outside (add_read ∷ add_sum ∷ add_write ∷ []) (at_add 5 105 1 105)
     ∙ rw (value_var 2 (at_add 5 105 1 105).env [], variables_var 2) refl
@@ -50,7 +50,7 @@ adds_five = reads_first 5 (roll-RStmt add_amount ∷ roll-RStmt set_balance ∷ 
     ∙ (ap (λ rs. add_read ∷ add_sum ∷ rs) (writes_then (roll-RStmt tell_balance ∷ []))
     ∙ ap (λ rs. add_read ∷ add_sum ∷ add_write ∷ rs) tells_then))
 
-overflows_then : (ss : List RStmt) → told acc 2 (roll-RStmt add_amount ∷ ss) 2 outside (add_read ∷ []) (at_add greatest 100 1 100) ≡ add_overflow ∷ []
+overflows_then : (ss : List RStmt) → tell_statements acc 2 (roll-RStmt add_amount ∷ ss) 2 outside (add_read ∷ []) (at_add greatest 100 1 100) ≡ add_overflow ∷ []
 overflows_then ss = told_first acc 2 add_amount ss 2 outside (add_read ∷ []) (at_add greatest 100 1 100)
     ∙ rw (
       value_two Add (var 2) (var 1) (at_add greatest 100 1 100).env [],
@@ -91,10 +91,10 @@ update_overflows = told_first acc 2 raise_balance [] 1 outside [] at_raise
 abbrev at_look : State
 at_look = with_accounts (scalar 7 ∷ scalar 0 ∷ scalar 0 ∷ []) 2 (account 0 0 ∷ account 1 100 ∷ account 2 100 ∷ [])
 
-finds_none : (ss : List RStmt) → told acc 1 (roll-RStmt (read_balance 1) ∷ ss) 1 outside [] at_look ≡ look_read ∷ told acc 1 ss 2 outside (look_read ∷ []) at_look
+finds_none : (ss : List RStmt) → tell_statements acc 1 (roll-RStmt (read_balance 1) ∷ ss) 1 outside [] at_look ≡ look_read ∷ tell_statements acc 1 ss 2 outside (look_read ∷ []) at_look
 finds_none ss = told_first acc 1 (read_balance 1) ss 1 outside [] at_look ∙ rw (value_var 0 at_look.env [], variables_var 0) refl
 
-tells_none : told acc 1 (roll-RStmt tell_found ∷ []) 2 outside (look_read ∷ []) at_look ≡ look_line ∷ []
+tells_none : tell_statements acc 1 (roll-RStmt tell_found ∷ []) 2 outside (look_read ∷ []) at_look ≡ look_line ∷ []
 unfolding digits
 tells_none = told_first acc 1 tell_found [] 2 outside (look_read ∷ []) at_look
     ∙ rw (value_var 1 at_look.env [], value_var 2 at_look.env [], variables_var 1, variables_var 2) refl
@@ -107,12 +107,12 @@ looks_in_vain = finds_none (roll-RStmt tell_found ∷ []) ∙ ap (λ rs. look_re
 abbrev at_transfer : ℕ → ℕ → ℕ → ℕ → ℕ → ℕ → State
 at_transfer x b found fee from to = with_accounts (scalar 1 ∷ scalar 2 ∷ scalar x ∷ scalar b ∷ scalar found ∷ []) 4 (account 0 fee ∷ account 1 from ∷ account 2 to ∷ [])
 
-transfer_reads : (x : ℕ) (ss : List RStmt) → told acc 3 (roll-RStmt (read_balance 3) ∷ ss) 1 outside [] (at_transfer x 0 0 0 100 100)
-    ≡ read_first ∷ told acc 3 ss 2 outside (read_first ∷ []) (at_transfer x 100 1 0 100 100)
+transfer_reads : (x : ℕ) (ss : List RStmt) → tell_statements acc 3 (roll-RStmt (read_balance 3) ∷ ss) 1 outside [] (at_transfer x 0 0 0 100 100)
+    ≡ read_first ∷ tell_statements acc 3 ss 2 outside (read_first ∷ []) (at_transfer x 100 1 0 100 100)
 transfer_reads x ss = told_first acc 3 (read_balance 3) ss 1 outside [] (at_transfer x 0 0 0 100 100) ∙ rw (value_var 0 (at_transfer x 0 0 0 100 100).env [], variables_var 0) refl
 
-looks_then : (ss : List RStmt) → told acc 3 (roll-RStmt look_at_funds ∷ ss) 2 outside (read_first ∷ []) (at_transfer 10 100 1 0 100 100)
-    ≡ looked ∷ told acc 3 ss 4 outside (read_first ∷ looked ∷ []) (at_transfer 10 100 1 0 100 100)
+looks_then : (ss : List RStmt) → tell_statements acc 3 (roll-RStmt look_at_funds ∷ ss) 2 outside (read_first ∷ []) (at_transfer 10 100 1 0 100 100)
+    ≡ looked ∷ tell_statements acc 3 ss 4 outside (read_first ∷ looked ∷ []) (at_transfer 10 100 1 0 100 100)
 looks_then ss = told_first acc 3 look_at_funds ss 2 outside (read_first ∷ []) (at_transfer 10 100 1 0 100 100)
     ∙ rw (
       value_two (Compare Lt) (var 3) (var 2) (at_transfer 10 100 1 0 100 100).env [],
@@ -124,8 +124,8 @@ looks_then ss = told_first acc 3 look_at_funds ss 2 outside (read_first ∷ []) 
       size_is (Rollback no_funds),
     ) refl
 
-takes_then : (ss : List RStmt) → told acc 3 (roll-RStmt take_amount ∷ ss) 4 outside (read_first ∷ looked ∷ []) (at_transfer 10 100 1 0 100 100)
-    ≡ taken ∷ told acc 3 ss 5 outside (read_first ∷ looked ∷ taken ∷ []) (at_transfer 10 100 1 0 90 100)
+takes_then : (ss : List RStmt) → tell_statements acc 3 (roll-RStmt take_amount ∷ ss) 4 outside (read_first ∷ looked ∷ []) (at_transfer 10 100 1 0 100 100)
+    ≡ debited ∷ tell_statements acc 3 ss 5 outside (read_first ∷ looked ∷ debited ∷ []) (at_transfer 10 100 1 0 90 100)
 takes_then ss = told_first acc 3 take_amount ss 4 outside (read_first ∷ looked ∷ []) (at_transfer 10 100 1 0 100 100)
     ∙ rw (
       value_var 0 (at_transfer 10 100 1 0 100 100).env [],
@@ -141,9 +141,9 @@ takes_then ss = told_first acc 3 take_amount ss 4 outside (read_first ∷ looked
       columns_var 2,
     ) refl
 
-gives_then : (ss : List RStmt) → told acc 3 (roll-RStmt give_amount ∷ ss) 5 outside (read_first ∷ looked ∷ taken ∷ []) (at_transfer 10 100 1 0 90 100)
-    ≡ given ∷ told acc 3 ss 6 outside (read_first ∷ looked ∷ taken ∷ given ∷ []) (at_transfer 10 100 1 0 90 110)
-gives_then ss = told_first acc 3 give_amount ss 5 outside (read_first ∷ looked ∷ taken ∷ []) (at_transfer 10 100 1 0 90 100)
+gives_then : (ss : List RStmt) → tell_statements acc 3 (roll-RStmt give_amount ∷ ss) 5 outside (read_first ∷ looked ∷ debited ∷ []) (at_transfer 10 100 1 0 90 100)
+    ≡ given ∷ tell_statements acc 3 ss 6 outside (read_first ∷ looked ∷ debited ∷ given ∷ []) (at_transfer 10 100 1 0 90 110)
+gives_then ss = told_first acc 3 give_amount ss 5 outside (read_first ∷ looked ∷ debited ∷ []) (at_transfer 10 100 1 0 90 100)
     ∙ rw (
       value_var 1 (at_transfer 10 100 1 0 90 100).env [],
       value_two Add (col 1) (var 2) (at_transfer 10 100 1 0 90 100).env (account 2 100).row,
@@ -158,8 +158,8 @@ gives_then ss = told_first acc 3 give_amount ss 5 outside (read_first ∷ looked
       columns_var 2,
     ) refl
 
-takes_fee : told acc 3 (roll-RStmt take_fee ∷ []) 6 outside (read_first ∷ looked ∷ taken ∷ given ∷ []) (at_transfer 10 100 1 0 90 110) ≡ fee_taken ∷ []
-takes_fee = told_first acc 3 take_fee [] 6 outside (read_first ∷ looked ∷ taken ∷ given ∷ []) (at_transfer 10 100 1 0 90 110)
+takes_fee : tell_statements acc 3 (roll-RStmt take_fee ∷ []) 6 outside (read_first ∷ looked ∷ debited ∷ given ∷ []) (at_transfer 10 100 1 0 90 110) ≡ fee_taken ∷ []
+takes_fee = told_first acc 3 take_fee [] 6 outside (read_first ∷ looked ∷ debited ∷ given ∷ []) (at_transfer 10 100 1 0 90 110)
     ∙ rw (
       value_constant (Int (pos 0)) (at_transfer 10 100 1 0 90 110).env [],
       value_two Add (col 1) (constant (Int (pos 1))) (at_transfer 10 100 1 0 90 110).env (account 0 0).row,
@@ -178,10 +178,10 @@ pub transfers : Transfers
 transfers = transfer_reads 10 (roll-RStmt look_at_funds ∷ roll-RStmt take_amount ∷ roll-RStmt give_amount ∷ roll-RStmt take_fee ∷ [])
     ∙ (ap (λ rs. read_first ∷ rs) (looks_then (roll-RStmt take_amount ∷ roll-RStmt give_amount ∷ roll-RStmt take_fee ∷ []))
     ∙ (ap (λ rs. read_first ∷ looked ∷ rs) (takes_then (roll-RStmt give_amount ∷ roll-RStmt take_fee ∷ []))
-    ∙ (ap (λ rs. read_first ∷ looked ∷ taken ∷ rs) (gives_then (roll-RStmt take_fee ∷ []))
-    ∙ ap (λ rs. read_first ∷ looked ∷ taken ∷ given ∷ rs) takes_fee)))
+    ∙ (ap (λ rs. read_first ∷ looked ∷ debited ∷ rs) (gives_then (roll-RStmt take_fee ∷ []))
+    ∙ ap (λ rs. read_first ∷ looked ∷ debited ∷ given ∷ rs) takes_fee)))
 
-rolls_back_then : (ss : List RStmt) → told acc 3 (roll-RStmt look_at_funds ∷ ss) 2 outside (read_first ∷ []) (at_transfer 150 100 1 0 100 100) ≡ looked ∷ rolled_back ∷ []
+rolls_back_then : (ss : List RStmt) → tell_statements acc 3 (roll-RStmt look_at_funds ∷ ss) 2 outside (read_first ∷ []) (at_transfer 150 100 1 0 100 100) ≡ looked ∷ rolled_back ∷ []
 rolls_back_then ss = told_first acc 3 look_at_funds ss 2 outside (read_first ∷ []) (at_transfer 150 100 1 0 100 100)
     ∙ rw (
       value_two (Compare Lt) (var 3) (var 2) (at_transfer 150 100 1 0 100 100).env [],

@@ -13,12 +13,12 @@ use Rattle.mv_alone.specs.Outcome.{then_do}
 use Rattle.mv_alone.specs.Env.{with_found, with_held, turns_at}
 use Rattle.mv_alone.specs.Value.{value_of, is_so}
 use Rattle.mv_alone.specs.Rows.{checks_of}
-use Rattle.mv_alone.specs.Alone.{Does, alone, does, stmt_step, each_turn, loop_over, fixed, matches, is_turn}
+use Rattle.mv_alone.specs.Alone.{Does, alone, does, stmt_step, each_turn, loop_over, fixed, matching_in, is_turn}
 use Rattle.mv_record.specs.declared.record.Record.{Record}
 use Rattle.mv_recorded.specs.Asking.{on}
 use Rattle.mv_recorded.specs.Doing.{itself, before_turns}
 use Rattle.mv_catalog.specs.Statements.{size}
-use Rattle.mv_recorded.specs.Recorded.{Tells, Site, tell, tell_step, tell_turns, tell_loop, own_record, in_turn, within_loop, told}
+use Rattle.mv_recorded.specs.Recorded.{Tells, Site, tell, tell_step, tell_turns, tell_loop, own_record, in_turn, within_loop, tell_statements}
 
 pub firsts : {B : Type 0} (f : RStmt → B) (ss : List RStmt) → map (λ (s : RStmt × B). s.0) (map (λ s. (s, f s)) ss) ≡ ss
 firsts f [] = refl
@@ -82,11 +82,11 @@ if_follows R law (Err e) own st ys ns a c h k o = o
 abbrev Known : Claim → List TableInfo → ℕ → Type 0
 Known R tables params = (s : RStmt) × Follows R (tell tables params s) (does tables s)
 
-all_follow : (R : Claim) → IsLaw R → (tables : List TableInfo) (params : ℕ) (known : List (Known R tables params)) → Follows R (told tables params (map (λ k. k.0) known)) (alone tables (map (λ k. k.0) known))
+all_follow : (R : Claim) → IsLaw R → (tables : List TableInfo) (params : ℕ) (known : List (Known R tables params)) → Follows R (tell_statements tables params (map (λ k. k.0) known)) (alone tables (map (λ k. k.0) known))
 all_follow R law tables params [] n site before st = law.none st
 all_follow R law tables params (k ∷ ks) n site before st =
     let these : List Record = tell tables params k.0 n site before st in
-    then_follows R law st these (does tables k.0 st) (told tables params (map (λ k. k.0) ks) (n + size k.0) site (before ++ these)) (alone tables (map (λ k. k.0) ks))
+    then_follows R law st these (does tables k.0 st) (tell_statements tables params (map (λ k. k.0) ks) (n + size k.0) site (before ++ these)) (alone tables (map (λ k. k.0) ks))
     (k.1 n site before st) (all_follow R law tables params ks (n + size k.0) site (before ++ these))
 
 -- a statement, with what those that it holds leave
@@ -104,16 +104,16 @@ step_follows R law tables params (Total agg x t conds) n site before st = law.ow
 step_follows R law tables params (ForSelect x once cs t conds sorts body) n site before st =
     let ss : List RStmt = map (λ k. k.0) body in
     let own : Record = own_record tables params (telling R tables params (ForSelect x once cs t conds sorts body)) n site before st in
-    subst (λ b. R st (own ∷ on (then_do (checks_of conds st.env) (λ checks. Ok (fixed once cs sorts (matches t checks st)))) (λ all. tell_loop x b (told tables params ss) all (n + 1) (within_loop x (length before) site) (before ++ own ∷ []) st))
-    (then_do (checks_of conds st.env) (λ checks. loop_over x (alone tables ss) (fixed once cs sorts (matches t checks st)) st))) (sym (body_is tables params ss))
-    (fixed_follow R law x (alone tables ss) (told tables params ss) (all_follow R law tables params body) (checks_of conds st.env) (λ checks. fixed once cs sorts (matches t checks st)) own (n + 1) _ _ st
+    subst (λ b. R st (own ∷ on (then_do (checks_of conds st.env) (λ checks. Ok (fixed once cs sorts (matching_in t checks st)))) (λ all. tell_loop x b (tell_statements tables params ss) all (n + 1) (within_loop x (length before) site) (before ++ own ∷ []) st))
+    (then_do (checks_of conds st.env) (λ checks. loop_over x (alone tables ss) (fixed once cs sorts (matching_in t checks st)) st))) (sym (body_is tables params ss))
+    (fixed_follow R law x (alone tables ss) (tell_statements tables params ss) (all_follow R law tables params body) (checks_of conds st.env) (λ checks. fixed once cs sorts (matching_in t checks st)) own (n + 1) _ _ st
     (law.own tables params (telling R tables params (ForSelect x once cs t conds sorts body)) n site before st))
 step_follows R law tables params (ForRows x y body) n site before st =
     let ss : List RStmt = map (λ k. k.0) body in
     let own : Record = own_record tables params (telling R tables params (ForRows x y body)) n site before st in
-    subst (λ b. R st (own ∷ tell_loop x b (told tables params ss) (turns_at st.env y) (n + 1) (within_loop x (length before) site) (before ++ own ∷ []) st)
+    subst (λ b. R st (own ∷ tell_loop x b (tell_statements tables params ss) (turns_at st.env y) (n + 1) (within_loop x (length before) site) (before ++ own ∷ []) st)
     (loop_over x (alone tables ss) (turns_at st.env y) st)) (sym (body_is tables params ss))
-    (loop_follows R law x (alone tables ss) (told tables params ss) (all_follow R law tables params body) (turns_at st.env y) own (n + 1) _ _ st
+    (loop_follows R law x (alone tables ss) (tell_statements tables params ss) (all_follow R law tables params body) (turns_at st.env y) own (n + 1) _ _ st
     (law.own tables params (telling R tables params (ForRows x y body)) n site before st))
 step_follows R law tables params (Branch e ys ns) n site before st =
     let own : Record = own_record tables params (telling R tables params (Branch e ys ns)) n site before st in
@@ -138,6 +138,6 @@ known_firsts R law tables params [] = refl
 known_firsts R law tables params (s ∷ ss) = ap (λ l. s ∷ l) (known_firsts R law tables params ss)
 
 -- the law holds of a list of statements
-pub told_follows : (R : Claim) → IsLaw R → (tables : List TableInfo) (params : ℕ) (ss : List RStmt) → Follows R (told tables params ss) (alone tables ss)
-told_follows R law tables params ss = subst (λ ts. Follows R (told tables params ts) (alone tables ts)) (known_firsts R law tables params ss)
+pub told_follows : (R : Claim) → IsLaw R → (tables : List TableInfo) (params : ℕ) (ss : List RStmt) → Follows R (tell_statements tables params ss) (alone tables ss)
+told_follows R law tables params ss = subst (λ ts. Follows R (tell_statements tables params ts) (alone tables ts)) (known_firsts R law tables params ss)
     (all_follow R law tables params (map (λ s. (s, statement_follows R law tables params s)) ss))

@@ -33,7 +33,7 @@ use Rattle.mv_record.specs.Runs.{writes_in}
 use Rattle.mv_recorded.specs.Asking.{on}
 use Rattle.mv_recorded.specs.Doing.{itself, fixed_rows, writes_of}
 use Rattle.mv_recorded.specs.Laws.{DatabaseKept, FrontsAreDatabases, TablesAfterAre}
-use Rattle.mv_recorded.specs.Recorded.{Tells, Site, tell, tell_inner, tell_step, tell_turns, own_record, in_turn, within, within_loop, body_of, told, outside, recorded}
+use Rattle.mv_recorded.specs.Recorded.{Tells, Site, tell, tell_inner, tell_step, tell_turns, own_record, in_turn, within, within_loop, body_of, tell_statements, outside, recorded}
 use Rattle.mv_recorded.specs.Typed.{OfKinds, IsEnvOf}
 use Rattle.mv_recorded.proofs.CallsTyped.{entered_fits}
 use Rattle.mv_recorded.proofs.Following.{Follows, firsts, statement_follows, told_follows}
@@ -169,18 +169,18 @@ module _ (tables : List TableInfo) (params : ℕ) where
   abbrev Known : Type 0
   Known = (s : RStmt) × Claim s
 
-  all_last : (ks : List Known) (vars : Vars) → all_well (IsWell tables) (map (λ p. p.0) ks) vars → LastsOf vars (told tables params (map (λ p. p.0) ks))
+  all_last : (ks : List Known) (vars : Vars) → all_well (IsWell tables) (map (λ p. p.0) ks) vars → LastsOf vars (tell_statements tables params (map (λ p. p.0) ks))
   all_last [] vars h n site before st s = s.database
   all_last (k ∷ ks) vars h n site before st s =
       let these : List Record = tell tables params k.0 n site before st in
-      then_lasts vars st these (does tables k.0 st) (told tables params (map (λ p. p.0) ks) (n + size k.0) site (before ++ these)) s (statement_follows LeadsTo leads_law tables params k.0 n site before st)
+      then_lasts vars st these (does tables k.0 st) (tell_statements tables params (map (λ p. p.0) ks) (n + size k.0) site (before ++ these)) s (statement_follows LeadsTo leads_law tables params k.0 n site before st)
       (does_kept tables k.0 vars h.0 st (typed vars st s)) (k.1 vars h.0 n site before st s) (λ next t. all_last ks vars h.1 (n + size k.0) site (before ++ these) next t)
 
   body_walks : (ks : List Known) (vars : Vars) → all_well (IsWell tables) (map (λ p. p.0) ks) vars
-      → Walks vars (told tables params (map (λ p. p.0) ks)) (body_of tables (map (λ s. (s, tell tables params s)) (map (λ p. p.0) ks)))
+      → Walks vars (tell_statements tables params (map (λ p. p.0) ks)) (body_of tables (map (λ s. (s, tell tables params s)) (map (λ p. p.0) ks)))
   body_walks ks vars h =
       let ss : List RStmt = map (λ p. p.0) ks in
-      subst (λ (body : List RStmt). Walks vars (told tables params ss) (alone tables body)) (sym (firsts (tell tables params) ss))
+      subst (λ (body : List RStmt). Walks vars (tell_statements tables params ss) (alone tables body)) (sym (firsts (tell tables params) ss))
       (record { leads = told_follows LeadsTo leads_law tables params ss; keeps = alone_kept tables ss vars h; lasts = all_last ks vars h })
 
   -- a statement, with what those that it holds leave
@@ -200,7 +200,7 @@ module _ (tables : List TableInfo) (params : ℕ) where
       let own : Record = own_record tables params z n site before st in
       inside own (tell_inner tables z (length before) (n + 1) site (before ++ own ∷ []) st) st.tables (nothing (itself tables z st)) s.database
       (fixed_last (fixed_rows z st) _ st.tables s.database (λ rows is.
-      turns_last x h.2.3.0 vars _ (told tables params (map (λ p. p.0) body)) h.2.2 (body_walks body (with_turn vars x h.2.3.0) h.2.3.2) rows
+      turns_last x h.2.3.0 vars _ (tell_statements tables params (map (λ p. p.0) body)) h.2.2 (body_walks body (with_turn vars x h.2.3.0) h.2.3.2) rows
       (chosen_kinds tables (λ p. p) (IsWell tables) x once cs t conds sorts (map (λ p. p.0) body) vars st rows h (typed vars st s) is) 1 (n + 1) (within_loop x (length before) site) (before ++ own ∷ []) (record st { env = with_found st.env (is_turn rows) })
       (record { fit = fit_found vars st.env (is_turn rows) s.fit; database = s.database })))
   step_last (ForRows x y body) vars h n site before st s =
@@ -208,7 +208,7 @@ module _ (tables : List TableInfo) (params : ℕ) where
       let own : Record = own_record tables params z n site before st in
       let rows : List (List Value) = turns_at st.env y in
       inside own (tell_inner tables z (length before) (n + 1) site (before ++ own ∷ []) st) st.tables refl s.database
-      (turns_last x h.0 vars _ (told tables params (map (λ p. p.0) body)) h.2 (body_walks body (with_turn vars x h.0) h.3) rows (s.fit.holds y (types.rows h.0) h.1) 1 (n + 1) (within_loop x (length before) site) (before ++ own ∷ [])
+      (turns_last x h.0 vars _ (tell_statements tables params (map (λ p. p.0) body)) h.2 (body_walks body (with_turn vars x h.0) h.3) rows (s.fit.holds y (types.rows h.0) h.1) 1 (n + 1) (within_loop x (length before) site) (before ++ own ∷ [])
       (record st { env = with_found st.env (is_turn rows) }) (record { fit = fit_found vars st.env (is_turn rows) s.fit; database = s.database }))
   step_last (Branch e ys ns) vars h n site before st s =
       let z : RStmt-F (RStmt × Tells) = telling (Branch e ys ns) in
@@ -232,11 +232,11 @@ module _ (tables : List TableInfo) (params : ℕ) where
   statement_lasts : (s : RStmt) → Claim s
   statement_lasts = ind-RStmt Claim rolled
 
-  list_lasts : (ss : List RStmt) (vars : Vars) → all_well (IsWell tables) ss vars → LastsOf vars (told tables params ss)
+  list_lasts : (ss : List RStmt) (vars : Vars) → all_well (IsWell tables) ss vars → LastsOf vars (tell_statements tables params ss)
   list_lasts [] vars h n site before st s = s.database
   list_lasts (x ∷ xs) vars h n site before st s =
       let these : List Record = tell tables params x n site before st in
-      then_lasts vars st these (does tables x st) (told tables params xs (n + size x) site (before ++ these)) s (statement_follows LeadsTo leads_law tables params x n site before st)
+      then_lasts vars st these (does tables x st) (tell_statements tables params xs (n + size x) site (before ++ these)) s (statement_follows LeadsTo leads_law tables params x n site before st)
       (does_kept tables x vars h.0 st (typed vars st s)) (statement_lasts x vars h.0 n site before st s) (λ next t. list_lasts xs vars h.1 (n + size x) site (before ++ these) next t)
 
 -- Calls

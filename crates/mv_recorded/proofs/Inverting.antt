@@ -20,7 +20,7 @@ use Rattle.mv_alone.specs.Outcome.{then_do}
 use Rattle.mv_alone.specs.Env.{held_at, with_found, with_held, turns_at}
 use Rattle.mv_alone.specs.Value.{value_of, is_so}
 use Rattle.mv_alone.specs.Rows.{checks_of}
-use Rattle.mv_alone.specs.Alone.{Does, alone, does, stmt_step, each_turn, loop_over, fixed, matches, is_turn}
+use Rattle.mv_alone.specs.Alone.{Does, alone, does, stmt_step, each_turn, loop_over, fixed, matching_in, is_turn}
 use Rattle.mv_alone.specs.TableAfter.{Tables, entered}
 use Rattle.mv_values.specs.declared.calls.Call.{Call}
 use Rattle.mv_catalog.specs.declared.resolved.ProcInfo.{ProcInfo}
@@ -33,10 +33,10 @@ use Rattle.mv_recorded.specs.Asking.{on}
 use Rattle.mv_recorded.specs.Doing.{itself, before_turns, sets_of}
 use Rattle.mv_recorded.specs.Effect.{with_slots, TellsEffect}
 use Rattle.mv_recorded.specs.Reading.{Loop}
-use Rattle.mv_recorded.specs.Recorded.{Tells, Site, tell, tell_step, tell_turns, tell_loop, own_record, in_turn, within, within_loop, told, outside, recorded}
+use Rattle.mv_recorded.specs.Recorded.{Tells, Site, tell, tell_step, tell_turns, tell_loop, own_record, in_turn, within, within_loop, tell_statements, outside, recorded}
 use Rattle.mv_recorded.proofs.Effects.{effect_known}
 use Rattle.mv_recorded.proofs.Following.{firsts}
-use Rattle.mv_recorded.specs.Own.{Bare, bare, Stated, Flat, flat, flat_step, flat_all, Each, Within, Suits, Ground, Told, sets_in, rows_of, row_in, LoopsHold, ParentHolds, Here, StandsAt, AllOwn, AllSuit, ground_of}
+use Rattle.mv_recorded.specs.Own.{Bare, bare, Stated, Flat, flat, flat_step, flat_all, Each, Within, Suits, Ground, Told, sets_in, rows_of, row_in, LoopsHold, ParentHolds, IsAtSite, StandsAt, AllOwn, AllSuit, ground_of}
 use Rattle.mv_recorded.proofs.Slots.{get_same, get_other}
 use Rattle.mv_recorded.proofs.Held.{slots_alike, slots_both, slots_found, slots_high, own_slots, OwnSlots, get_front, get_last}
 
@@ -93,10 +93,10 @@ parent_later : (before these : List Record) (parent : Option ℕ) (turns : List 
 parent_later before these None turns h = h
 parent_later before these (Some p) turns h = (h.0, get_front before these p (slice_get_within before p h.0 h.1) ∙ h.1, h.2)
 
-here_later : (g : Ground) (site : Site) (rows : List ℕ) (before these : List Record) (st next : State) → Here g site rows before st → Told g (before ++ these) next → Keeps rows st next
-    → Here g site rows (before ++ these) next
-here_later g site rows before these st next here told keeps = record {
-  told = told;
+here_later : (g : Ground) (site : Site) (rows : List ℕ) (before these : List Record) (st next : State) → IsAtSite g site rows before st → Told g (before ++ these) next → Keeps rows st next
+    → IsAtSite g site rows (before ++ these) next
+here_later g site rows before these st next here tell_statements keeps = record {
+  tell_statements = tell_statements;
   around = here.around;
   high = here.high;
   loops = loops_later before these st.env next.env site.loops site.turns (λ x w. keeps x (subst (Within x) here.around w)) here.loops;
@@ -107,7 +107,7 @@ here_later g site rows before these st next here told keeps = record {
 
 abbrev Traces : Ground → Flat → Tells → Does → Type 0
 Traces g flat tells body =
-    (rows : List ℕ) (n : ℕ) (site : Site) (before : List Record) (st : State) → StandsAt g.text n (flat rows) → Each (Suits g.tables g.params g.base) (flat rows) → Here g site rows before st
+    (rows : List ℕ) (n : ℕ) (site : Site) (before : List Record) (st : State) → StandsAt g.text n (flat rows) → Each (Suits g.tables g.params g.base) (flat rows) → IsAtSite g site rows before st
     → AllOwn g before (tells n site before st) × Exits g before (tells n site before st) rows st (body st)
 
 all_join : (g : Ground) (before rs ss : List Record) → AllOwn g before rs → AllOwn g (before ++ rs) ss → AllOwn g before (rs ++ ss)
@@ -134,7 +134,7 @@ then_traced g before rs rows st (Err e) go next h k = (all_join g before rs [] h
 -- Turns
 
 turns_trace : (g : Ground) (x : ℕ) (F : Flat) (body : Does) (tells : Tells) → Traces g F tells body → (rows : List (List Value)) (passed : List (List Value)) (k : ℕ) (os : List ℕ) (n : ℕ) (site : Site) (number : ℕ)
-    (before : List Record) (st : State) → StandsAt g.text n (F (x ∷ os)) → Each (Suits g.tables g.params g.base) (F (x ∷ os)) → g.base ≤ x → (Within x os → ⊥) → Here g site os before st → number < length before
+    (before : List Record) (st : State) → StandsAt g.text n (F (x ∷ os)) → Each (Suits g.tables g.params g.base) (F (x ∷ os)) → g.base ≤ x → (Within x os → ⊥) → IsAtSite g site os before st → number < length before
     → (own : Record) → slice_get before number ≡ Some own → own.spot.turns ≡ site.turns → own.rows ≡ passed ++ rows → k ≡ length passed + 1
     → Traced g before (tell_turns x body tells rows k n (within_loop x number site) before st) os st (each_turn x body rows st)
 turns_trace g x F body tells h [] passed k os n site number before st stands suits high apart here lt own found same are at = (tt, (subst (λ b. Told g b st) (sym (append-nil before)) here.told, λ y w. refl))
@@ -146,8 +146,8 @@ turns_trace g x F body tells h (row ∷ rows) passed k os n site number before s
     let there : row_in before number k ≡ row =
     ap (λ o. slice_index_or (rows_of o) (k - 1) []) found ∙ (ap (λ l. slice_index_or l (k - 1) []) are ∙ (ap (λ i. slice_index_or (passed ++ row ∷ rows) i []) (let e : k - 1 ≡ length passed = omega (arith, at) in e) ∙ seam passed)) in
     let loops : LoopsHold (before ++ []) next.env site.loops site.turns = loops_later before [] st.env next.env site.loops site.turns (λ y w. others y (subst (Within y) here.around w)) here.loops in
-    let inside : Here g inner (x ∷ os) before next = record {
-      told = record {
+    let inside : IsAtSite g inner (x ∷ os) before next = record {
+      tell_statements = record {
         tables = here.told.tables;
         held = λ y ly. get_other st.env.held x y (Turn row) (λ same. omega (arith, same, ly, high)) ∙ here.told.held y ly;
         found = here.told.found;
@@ -162,7 +162,7 @@ turns_trace g x F body tells h (row ∷ rows) passed k os n site number before s
     let first = h (x ∷ os) n inner before next stands suits inside in
     let outer : Traced g before these os st (body next) = (first.0, weaker these next (body next) others first.1) in
     then_traced g before these os st (body next) (tell_turns x body tells rows (k + 1) n (within_loop x number site) (before ++ these)) (each_turn x body rows) outer
-    (λ mid told keeps. turns_trace g x F body tells h rows (passed ++ row ∷ []) (k + 1) os n site number (before ++ these) mid stands suits high apart (here_later g site os before these st mid here told keeps)
+    (λ mid tell_statements keeps. turns_trace g x F body tells h rows (passed ++ row ∷ []) (k + 1) os n site number (before ++ these) mid stands suits high apart (here_later g site os before these st mid here tell_statements keeps)
     (omega (arith, lt, length-append before these)) own (get_front before these number lt ∙ found) same (are ∙ sym (append_assoc passed (row ∷ []) rows)) (omega (arith, at, length-append passed (row ∷ []))))
   where
     seam : (ps : List (List Value)) → slice_index_or (ps ++ row ∷ rows) (length ps) [] ≡ row
@@ -175,7 +175,7 @@ turns_trace g x F body tells h (row ∷ rows) passed k os n site number before s
 
 -- A statement's own record
 
-own_step : {X : Type 0} (g : Ground) (z : Bare) (y : RStmt-F X) (n : ℕ) (site : Site) (rows : List ℕ) (before : List Record) (st : State) → IsGround g → Suits g.tables g.params g.base (record { it = z; rows = rows }) → Here g site rows before st
+own_step : {X : Type 0} (g : Ground) (z : Bare) (y : RStmt-F X) (n : ℕ) (site : Site) (rows : List ℕ) (before : List Record) (st : State) → IsGround g → Suits g.tables g.params g.base (record { it = z; rows = rows }) → IsAtSite g site rows before st
     → own_record g.tables g.params z n site before st ≡ own_record g.tables g.params y n site before st → itself g.tables z st ≡ itself g.tables y st
     → Exits g before (own_record g.tables g.params y n site before st ∷ []) rows st (itself g.tables y st)
 own_step g z y n site rows before st ground suits here same does' =
@@ -215,7 +215,7 @@ own_step g z y n site rows before st ground suits here same does' =
         all_high (z ∷ zs) h x (inr w) = all_high zs h.1 x w
 
 leaf_trace : {X : Type 0} (g : Ground) (z : Bare) (y : RStmt-F X) (n : ℕ) (site : Site) (rows : List ℕ) (before : List Record) (st : State) → IsGround g → StandsAt g.text n (record { it = z; rows = rows } ∷ [])
-    → Suits g.tables g.params g.base (record { it = z; rows = rows }) → Here g site rows before st
+    → Suits g.tables g.params g.base (record { it = z; rows = rows }) → IsAtSite g site rows before st
     → own_record g.tables g.params z n site before st ≡ own_record g.tables g.params y n site before st → itself g.tables z st ≡ itself g.tables y st
     → Traced g before (own_record g.tables g.params y n site before st ∷ []) rows st (itself g.tables y st)
 leaf_trace g z y n site rows before st ground stands suits here same does' = (
@@ -230,7 +230,7 @@ own_then g before own rs rows st mid out h k = ((h.0.0, k.0), exits_join g befor
 -- What a statement holds
 
 loop_trace : (g : Ground) (x : ℕ) (F : Flat) (body : Does) (tells : Tells) → Traces g F tells body → (all : List (List Value)) (own : Record) (n : ℕ) (site : Site) (os : List ℕ) (before : List Record) (st : State)
-    → StandsAt g.text n (F (x ∷ os)) → Each (Suits g.tables g.params g.base) (F (x ∷ os)) → g.base ≤ x → (Within x os → ⊥) → Here g site os before st → own.rows ≡ all → own.spot.turns ≡ site.turns
+    → StandsAt g.text n (F (x ∷ os)) → Each (Suits g.tables g.params g.base) (F (x ∷ os)) → g.base ≤ x → (Within x os → ⊥) → IsAtSite g site os before st → own.rows ≡ all → own.spot.turns ≡ site.turns
     → Traced g before (own ∷ []) os st (Ok (record st { env = with_found st.env (is_turn all) }))
     → Traced g before (own ∷ tell_loop x body tells all n (within_loop x (length before) site) (before ++ own ∷ []) st) os st (loop_over x body all st)
 loop_trace g x F body tells h all own n site os before st stands suits high apart here are same k =
@@ -241,7 +241,7 @@ loop_trace g x F body tells h all own n site os before st stands suits high apar
 
 fixed_trace : (g : Ground) (x : ℕ) (F : Flat) (body : Does) (tells : Tells) → Traces g F tells body → (checks : Result (List Check) End) (rows : List Check → List (List Value)) (own : Record) (n : ℕ) (site : Site)
     (os : List ℕ) (before : List Record) (st : State)
-    → StandsAt g.text n (F (x ∷ os)) → Each (Suits g.tables g.params g.base) (F (x ∷ os)) → g.base ≤ x → (Within x os → ⊥) → Here g site os before st → own.rows ≡ on (then_do checks (λ c. Ok (rows c))) (λ all. all) → own.spot.turns ≡ site.turns
+    → StandsAt g.text n (F (x ∷ os)) → Each (Suits g.tables g.params g.base) (F (x ∷ os)) → g.base ≤ x → (Within x os → ⊥) → IsAtSite g site os before st → own.rows ≡ on (then_do checks (λ c. Ok (rows c))) (λ all. all) → own.spot.turns ≡ site.turns
     → Traced g before (own ∷ []) os st (before_turns (then_do checks (λ c. Ok (rows c))) st)
     → Traced g before (own ∷ on (then_do checks (λ c. Ok (rows c))) (λ all. tell_loop x body tells all n (within_loop x (length before) site) (before ++ own ∷ []) st)) os st (then_do checks (λ c. loop_over x body (rows c) st))
 fixed_trace g x F body tells h (Ok c) rows own n site os before st stands suits high apart here are same k =
@@ -262,7 +262,7 @@ if_trace g (Ok v) own before rows st ys ns a c h k =
     own_then g before own (if is_so v then ys else ns) rows st st (if is_so v then a else c) k (either_traced g (is_so v) (before ++ own ∷ []) ys ns rows st a c both.0 both.1)
 if_trace g (Err e) own before rows st ys ns a c h k = k
 
-here_within : (g : Ground) (number : ℕ) (site : Site) (rows : List ℕ) (before : List Record) (st : State) → ParentHolds before (Some number) site.turns → Here g site rows before st → Here g (within number site) rows before st
+here_within : (g : Ground) (number : ℕ) (site : Site) (rows : List ℕ) (before : List Record) (st : State) → ParentHolds before (Some number) site.turns → IsAtSite g site rows before st → IsAtSite g (within number site) rows before st
 here_within g number site rows before st parent here = record { told = here.told; around = here.around; high = here.high; loops = here.loops; parent = parent }
 
 -- Numbers
@@ -313,15 +313,15 @@ Known g = (s : RStmt) × Traces g (flat s) (tell g.tables g.params s) (does g.ta
 abbrev plain : (g : Ground) → List (Known g) → List RStmt
 plain g known = map (λ k. k.0) known
 
-all_trace : (g : Ground) (known : List (Known g)) → Traces g (flat_all (plain g known)) (told g.tables g.params (plain g known)) (alone g.tables (plain g known))
+all_trace : (g : Ground) (known : List (Known g)) → Traces g (flat_all (plain g known)) (tell_statements g.tables g.params (plain g known)) (alone g.tables (plain g known))
 all_trace g [] rows n site before st stands suits here = (tt, (subst (λ b. Told g b st) (sym (append-nil before)) here.told, λ x w. refl))
 all_trace g (k ∷ ks) rows n site before st stands suits here =
     let these : List Record = tell g.tables g.params k.0 n site before st in
     let split = each_both (Suits g.tables g.params g.base) (flat k.0 rows) (flat_all (plain g ks) rows) suits in
-    then_traced g before these rows st (does g.tables k.0 st) (told g.tables g.params (plain g ks) (n + size k.0) site (before ++ these)) (alone g.tables (plain g ks))
+    then_traced g before these rows st (does g.tables k.0 st) (tell_statements g.tables g.params (plain g ks) (n + size k.0) site (before ++ these)) (alone g.tables (plain g ks))
     (k.1 rows n site before st (stands_first g.text n (flat k.0 rows) (flat_all (plain g ks) rows) stands) split.0 here)
-    (λ mid told keeps. all_trace g ks rows (n + size k.0) site (before ++ these) mid
-    (stands_second g.text n (size k.0) (flat k.0 rows) (flat_all (plain g ks) rows) (flat_sized k.0 rows) stands) split.1 (here_later g site rows before these st mid here told keeps))
+    (λ mid tell_statements keeps. all_trace g ks rows (n + size k.0) site (before ++ these) mid
+    (stands_second g.text n (size k.0) (flat k.0 rows) (flat_all (plain g ks) rows) (flat_sized k.0 rows) stands) split.1 (here_later g site rows before these st mid here tell_statements keeps))
 
 abbrev unknown : (g : Ground) → RStmt-F (Known g) → RStmt-F RStmt
 unknown g y = map-RStmt (Known g) RStmt (λ k. k.0) y
@@ -350,9 +350,9 @@ step_trace g ground (ForSelect x once cs t conds sorts body) rows n site before 
     let ss : List RStmt = plain g body in
     let own : Record = own_record g.tables g.params y n site before st in
     let here' : List Stated = record { it = z; rows = rows } ∷ [] in
-    subst (λ b. Traced g before (own ∷ on (then_do (checks_of conds st.env) (λ checks. Ok (fixed once cs sorts (matches t checks st)))) (λ all. tell_loop x b (told g.tables g.params ss) all (n + 1) (within_loop x (length before) site) (before ++ own ∷ []) st)) rows st
-    (then_do (checks_of conds st.env) (λ checks. loop_over x (alone g.tables ss) (fixed once cs sorts (matches t checks st)) st))) (sym (again g ss))
-    (fixed_trace g x (flat_all ss) (alone g.tables ss) (told g.tables g.params ss) (all_trace g body) (checks_of conds st.env) (λ checks. fixed once cs sorts (matches t checks st)) own (n + 1) site rows before st
+    subst (λ b. Traced g before (own ∷ on (then_do (checks_of conds st.env) (λ checks. Ok (fixed once cs sorts (matching_in t checks st)))) (λ all. tell_loop x b (tell_statements g.tables g.params ss) all (n + 1) (within_loop x (length before) site) (before ++ own ∷ []) st)) rows st
+    (then_do (checks_of conds st.env) (λ checks. loop_over x (alone g.tables ss) (fixed once cs sorts (matching_in t checks st)) st))) (sym (again g ss))
+    (fixed_trace g x (flat_all ss) (alone g.tables ss) (tell_statements g.tables g.params ss) (all_trace g body) (checks_of conds st.env) (λ checks. fixed once cs sorts (matching_in t checks st)) own (n + 1) site rows before st
     (stands_second g.text n 1 here' (flat_all ss (x ∷ rows)) refl stands) suits.1 suits.0.loop.0 suits.0.loop.1 here refl refl
     (leaf_trace g z y n site rows before st ground (stands_first g.text n here' (flat_all ss (x ∷ rows)) stands) suits.0 here refl refl))
 step_trace g ground (ForRows x y body) rows n site before st stands suits here =
@@ -361,9 +361,9 @@ step_trace g ground (ForRows x y body) rows n site before st stands suits here =
     let ss : List RStmt = plain g body in
     let own : Record = own_record g.tables g.params w n site before st in
     let here' : List Stated = record { it = z; rows = rows } ∷ [] in
-    subst (λ b. Traced g before (own ∷ tell_loop x b (told g.tables g.params ss) (turns_at st.env y) (n + 1) (within_loop x (length before) site) (before ++ own ∷ []) st) rows st
+    subst (λ b. Traced g before (own ∷ tell_loop x b (tell_statements g.tables g.params ss) (turns_at st.env y) (n + 1) (within_loop x (length before) site) (before ++ own ∷ []) st) rows st
     (loop_over x (alone g.tables ss) (turns_at st.env y) st)) (sym (again g ss))
-    (loop_trace g x (flat_all ss) (alone g.tables ss) (told g.tables g.params ss) (all_trace g body) (turns_at st.env y) own (n + 1) site rows before st
+    (loop_trace g x (flat_all ss) (alone g.tables ss) (tell_statements g.tables g.params ss) (all_trace g body) (turns_at st.env y) own (n + 1) site rows before st
     (stands_second g.text n 1 here' (flat_all ss (x ∷ rows)) refl stands) suits.1 suits.0.loop.0 suits.0.loop.1 here refl refl
     (leaf_trace g z w n site rows before st ground (stands_first g.text n here' (flat_all ss (x ∷ rows)) stands) suits.0 here refl refl))
 step_trace g ground (Branch e ys ns) rows n site before st stands suits here =
@@ -377,7 +377,7 @@ step_trace g ground (Branch e ys ns) rows n site before st stands suits here =
     let split = each_both (Suits g.tables g.params g.base) yes not suits.1 in
     let long : length yes ≡ total_size (map (λ (s : RStmt × Tells). size s.0) (map (λ s. (s, tell g.tables g.params s)) (plain g ys))) = all_sized (plain g ys) rows ∙ sym (sizes_of g (plain g ys)) in
     if_trace g (value_of e st.env []) own before rows st _ _ _ _
-    (λ told. let at : Here g (within (length before) site) rows (before ++ own ∷ []) st = here_within g (length before) site rows (before ++ own ∷ []) st (own, get_last before own [], inl refl) (here_later g site rows before (own ∷ []) st st here told (λ x w. refl)) in (
+    (λ tell_statements. let at : IsAtSite g (within (length before) site) rows (before ++ own ∷ []) st = here_within g (length before) site rows (before ++ own ∷ []) st (own, get_last before own [], inl refl) (here_later g site rows before (own ∷ []) st st here tell_statements (λ x w. refl)) in (
       all_trace g ys rows (n + 1) (within (length before) site) (before ++ own ∷ []) st (stands_first g.text (n + 1) yes not behind) split.0 at,
       all_trace g ns rows _ (within (length before) site) (before ++ own ∷ []) st (stands_second g.text (n + 1) _ yes not long behind) split.1 at,
     ))
@@ -406,18 +406,18 @@ known_firsts : (g : Ground) (ground : IsGround g) (ss : List RStmt) → map (λ 
 known_firsts g ground [] = refl
 known_firsts g ground (s ∷ ss) = ap (λ l. s ∷ l) (known_firsts g ground ss)
 
-pub told_trace : (g : Ground) → IsGround g → (ss : List RStmt) → Traces g (flat_all ss) (told g.tables g.params ss) (alone g.tables ss)
-told_trace g ground ss = subst (λ ts. Traces g (flat_all ts) (told g.tables g.params ts) (alone g.tables ts)) (known_firsts g ground ss) (all_trace g (map (λ s. (s, statement_trace g ground s)) ss))
+pub told_trace : (g : Ground) → IsGround g → (ss : List RStmt) → Traces g (flat_all ss) (tell_statements g.tables g.params ss) (alone g.tables ss)
+told_trace g ground ss = subst (λ ts. Traces g (flat_all ts) (tell_statements g.tables g.params ts) (alone g.tables ts)) (known_firsts g ground ss) (all_trace g (map (λ s. (s, statement_trace g ground s)) ss))
 
 -- Full runs
 
 pub all_own : (g : Ground) → IsGround g → (ss : List RStmt) → g.text ≡ flat_all ss [] → Each (Suits g.tables g.params g.base) (flat_all ss []) → (env : Env) → g.first ≡ env
-    → AllOwn g [] (told g.tables g.params ss 1 outside [] (record { env = env; tables = g.db; lines = [] }))
+    → AllOwn g [] (tell_statements g.tables g.params ss 1 outside [] (record { env = env; tables = g.db; lines = [] }))
 all_own g ground ss text suits env first =
     (told_trace g ground ss [] 1 outside [] (record { env = env; tables = g.db; lines = [] })
     ([], [], text ∙ sym (append-nil (flat_all ss [])), refl) suits
     (record {
-      told = record { tables = refl; held = λ x lt. ap (λ e. held_at e x) (sym first); found = ap (λ (e : Env). e.found) (sym first); slots = tt; rising = ground.rising };
+      tell_statements = record { tables = refl; held = λ x lt. ap (λ e. held_at e x) (sym first); found = ap (λ (e : Env). e.found) (sym first); slots = tt; rising = ground.rising };
       around = refl;
       high = tt;
       loops = refl;

@@ -22,7 +22,7 @@ use Rattle.mv_alone.specs.Outcome.{then_do}
 use Rattle.mv_alone.specs.Value.{value_of, values_of}
 use Rattle.mv_alone.specs.Rows.{checks_of, aggregate, is_some_row}
 use Rattle.mv_alone.specs.Changes.{new_row, put_row, keyed, updated, set_row, without}
-use Rattle.mv_alone.specs.Alone.{matches, offset_of, fixed, with_rows}
+use Rattle.mv_alone.specs.Alone.{matching_in, offset_of, fixed, with_rows}
 use Rattle.mv_record.specs.declared.record.Record.{Record}
 use Rattle.mv_record.specs.Runs.{Tables, writes_in}
 use Rattle.mv_alone.proofs.Standing.{New}
@@ -107,35 +107,35 @@ new_of tables t items st = λ row. set_row (columns_at tables t) (key_columns ta
 
 abbrev update_made : List TableInfo → ℕ → List RSetItem → State → Result (List Check) End → Result State End
 update_made tables t items st checks =
-    then_do checks (λ c. then_do (updated (new_of tables t items st) c (rows_at st.tables t)) (λ rows. Ok (with_rows t rows (is_some_row (matches t c st)) st)))
+    then_do checks (λ c. then_do (updated (new_of tables t items st) c (rows_at st.tables t)) (λ rows. Ok (with_rows t rows (is_some_row (matching_in t c st)) st)))
 
 updates_with : (tables : List TableInfo) (t : ℕ) (items : List RSetItem) (st : State) (c : List Check) (r : Result (List Keyed) End) → updated (new_of tables t items st) c (rows_at st.tables t) ≡ r
-    → LeadsBy st (on (then_do r (λ rows. Ok (with_rows t rows (is_some_row (matches t c st)) st))) (λ next. set_writes t items (new_of tables t items st) (matches t c st)) ++ [])
-    (then_do r (λ rows. Ok (with_rows t rows (is_some_row (matches t c st)) st)))
+    → LeadsBy st (on (then_do r (λ rows. Ok (with_rows t rows (is_some_row (matching_in t c st)) st))) (λ next. set_writes t items (new_of tables t items st) (matching_in t c st)) ++ [])
+    (then_do r (λ rows. Ok (with_rows t rows (is_some_row (matching_in t c st)) st)))
 updates_with tables t items st c (Ok rows) is rise =
     let new : New = new_of tables t items st in
-    let ws : List Write = set_writes t items new (matches t c st) in
+    let ws : List Write = set_writes t items new (matching_in t c st) in
     let same = sets_lead t items new (set_row_makes (columns_at tables t) (key_columns tables t) st.env items) c (rows_at st.tables t) rows (rise t) is in (
-      ap (slice_set st.tables t) (sym same) ∙ (sym (applied_on t ws st.tables (sets_on t items new (matches t c st))) ∙ ap (λ vs. applied vs st.tables) (sym (append-nil ws))),
+      ap (slice_set st.tables t) (sym same) ∙ (sym (applied_on t ws st.tables (sets_on t items new (matching_in t c st))) ∙ ap (λ vs. applied vs st.tables) (sym (append-nil ws))),
       rise_set st.tables t rows rise (updated_rises new c (rows_at st.tables t) rows (rise t) is),
     )
 updates_with tables t items st c (Err e) is rise = tt
 
 updates : (tables : List TableInfo) (t : ℕ) (items : List RSetItem) (st : State) (checks : Result (List Check) End)
-    → LeadsBy st (on (update_made tables t items st checks) (λ next. on checks (λ c. set_writes t items (new_of tables t items st) (matches t c st))) ++ []) (update_made tables t items st checks)
+    → LeadsBy st (on (update_made tables t items st checks) (λ next. on checks (λ c. set_writes t items (new_of tables t items st) (matching_in t c st))) ++ []) (update_made tables t items st checks)
 updates tables t items st (Ok c) = updates_with tables t items st c (updated (new_of tables t items st) c (rows_at st.tables t)) refl
 updates tables t items st (Err e) = λ rise. tt
 
 -- DELETE
 
 abbrev delete_made : ℕ → State → Result (List Check) End → Result State End
-delete_made t st checks = then_do checks (λ c. Ok (with_rows t (without c (rows_at st.tables t)) (is_some_row (matches t c st)) st))
+delete_made t st checks = then_do checks (λ c. Ok (with_rows t (without c (rows_at st.tables t)) (is_some_row (matching_in t c st)) st))
 
 deletes : (t : ℕ) (st : State) (checks : Result (List Check) End)
-    → LeadsBy st (on (delete_made t st checks) (λ next. on checks (λ c. map (λ item. write t item.key patch.Delete) (matches t c st))) ++ []) (delete_made t st checks)
+    → LeadsBy st (on (delete_made t st checks) (λ next. on checks (λ c. map (λ item. write t item.key patch.Delete) (matching_in t c st))) ++ []) (delete_made t st checks)
 deletes t st (Ok c) rise =
-    let ws : List Write = map (λ item. write t item.key patch.Delete) (matches t c st) in (
-      ap (slice_set st.tables t) (sym (deletes_lead t c (rows_at st.tables t) (rise t))) ∙ (sym (applied_on t ws st.tables (deletes_on t (matches t c st))) ∙ ap (λ vs. applied vs st.tables) (sym (append-nil ws))),
+    let ws : List Write = map (λ item. write t item.key patch.Delete) (matching_in t c st) in (
+      ap (slice_set st.tables t) (sym (deletes_lead t c (rows_at st.tables t) (rise t))) ∙ (sym (applied_on t ws st.tables (deletes_on t (matching_in t c st))) ∙ ap (λ vs. applied vs st.tables) (sym (append-nil ws))),
       rise_set st.tables t (without c (rows_at st.tables t)) rise (without_rises c (rows_at st.tables t) (rise t)),
     )
 deletes t st (Err e) rise = tt
@@ -151,9 +151,9 @@ leads_own {X} tables params (Assign x e) n site before st = still (itself {X = X
 leads_own {X} tables params (Select cs xs t conds sorts offset) n site before st =
     still (itself {X = X} tables (Select cs xs t conds sorts offset) st) st (then_keeps (checks_of conds st.env) _ st (λ checks. then_keeps (offset_of offset st.env) _ st (λ at. refl)))
 leads_own {X} tables params (Total agg x t conds) n site before st =
-    still (itself {X = X} tables (Total agg x t conds) st) st (then_keeps (checks_of conds st.env) _ st (λ checks. then_keeps (aggregate agg (matches t checks st)) _ st (λ v. refl)))
+    still (itself {X = X} tables (Total agg x t conds) st) st (then_keeps (checks_of conds st.env) _ st (λ checks. then_keeps (aggregate agg (matching_in t checks st)) _ st (λ v. refl)))
 leads_own {X} tables params (ForSelect x once cs t conds sorts body) n site before st =
-    still (itself {X = X} tables (ForSelect x once cs t conds sorts body) st) st (then_keeps (then_do (checks_of conds st.env) (λ checks. Ok (fixed once cs sorts (matches t checks st)))) _ st (λ rows. refl))
+    still (itself {X = X} tables (ForSelect x once cs t conds sorts body) st) st (then_keeps (then_do (checks_of conds st.env) (λ checks. Ok (fixed once cs sorts (matching_in t checks st)))) _ st (λ rows. refl))
 leads_own {X} tables params (ForRows x y body) n site before st = still (itself {X = X} tables (ForRows x y body) st) st refl
 leads_own {X} tables params (Branch e ys ns) n site before st = still (itself {X = X} tables (Branch e ys ns) st) st (then_keeps (value_of e st.env []) _ st (λ v. refl))
 leads_own {X} tables params (Insert t es) n site before st = inserts tables t st (new_row (columns_at tables t) es st.env)

@@ -21,7 +21,7 @@ use Rattle.mv_recorded.specs.Asking.{on}
 use Rattle.mv_recorded.specs.Doing.{fixed_rows}
 use Rattle.mv_recorded.specs.Reading.{Loop, loop_of, last_place, sets_variable, definer, read_variables, reads_of, expressions}
 use Rattle.mv_catalog.specs.Statements.{size}
-use Rattle.mv_recorded.specs.Recorded.{Tells, Site, tell, tell_inner, tell_step, tell_turns, own_record, in_turn, within, within_loop, body_of, told, outside, recorded}
+use Rattle.mv_recorded.specs.Recorded.{Tells, Site, tell, tell_inner, tell_step, tell_turns, own_record, in_turn, within, within_loop, body_of, tell_statements, outside, recorded}
 
 -- the loops around began earlier
 abbrev LoopsEarlier : ℕ → List Loop → Type 0
@@ -106,11 +106,11 @@ turns_earlier x body tells h (row ∷ rows) k n site before st s =
 abbrev Known : List TableInfo → ℕ → Type 0
 Known tables params = (s : RStmt) × Names (tell tables params s)
 
-all_earlier : (tables : List TableInfo) (params : ℕ) (known : List (Known tables params)) → Names (told tables params (map (λ k. k.0) known))
+all_earlier : (tables : List TableInfo) (params : ℕ) (known : List (Known tables params)) → Names (tell_statements tables params (map (λ k. k.0) known))
 all_earlier tables params [] n site before st s = tt
 all_earlier tables params (k ∷ ks) n site before st s =
     let these : List Record = tell tables params k.0 n site before st in
-    follows_earlier before these (does tables k.0 st) (told tables params (map (λ k. k.0) ks) (n + size k.0) site (before ++ these)) (k.1 n site before st s)
+    follows_earlier before these (does tables k.0 st) (tell_statements tables params (map (λ k. k.0) ks) (n + size k.0) site (before ++ these)) (k.1 n site before st s)
     (λ next. all_earlier tables params ks (n + size k.0) site (before ++ these) next (site_later (length before) (length (before ++ these)) (longer before these) site s))
   where
     longer : (xs ys : List Record) → length xs ≤ length (xs ++ ys)
@@ -150,11 +150,11 @@ inner_names tables params (Select cs xs t conds sorts offset) n site before own 
 inner_names tables params (Total agg x t conds) n site before own st s = tt
 inner_names tables params (ForSelect x once cs t conds sorts body) n site before own st s =
     nothing_earlier (length (before ++ own ∷ [])) (fixed_rows (telling tables params (ForSelect x once cs t conds sorts body)) st) _
-    (λ rows. turns_earlier x (body_of tables (map (λ s. (s, tell tables params s)) (map (λ k. k.0) body))) (told tables params (map (λ k. k.0) body)) (all_earlier tables params body) rows 1 n (within_loop x (length before) site) (before ++ own ∷ []) (record st { env = with_found st.env (is_turn rows) })
+    (λ rows. turns_earlier x (body_of tables (map (λ s. (s, tell tables params s)) (map (λ k. k.0) body))) (tell_statements tables params (map (λ k. k.0) body)) (all_earlier tables params body) rows 1 n (within_loop x (length before) site) (before ++ own ∷ []) (record st { env = with_found st.env (is_turn rows) })
     (loop_inside_earlier x before own site s))
 inner_names tables params (ForRows x y body) n site before own st s =
     nothing_earlier (length (before ++ own ∷ [])) (fixed_rows (telling tables params (ForRows x y body)) st) _
-    (λ rows. turns_earlier x (body_of tables (map (λ s. (s, tell tables params s)) (map (λ k. k.0) body))) (told tables params (map (λ k. k.0) body)) (all_earlier tables params body) rows 1 n (within_loop x (length before) site) (before ++ own ∷ []) (record st { env = with_found st.env (is_turn rows) })
+    (λ rows. turns_earlier x (body_of tables (map (λ s. (s, tell tables params s)) (map (λ k. k.0) body))) (tell_statements tables params (map (λ k. k.0) body)) (all_earlier tables params body) rows 1 n (within_loop x (length before) site) (before ++ own ∷ []) (record st { env = with_found st.env (is_turn rows) })
     (loop_inside_earlier x before own site s))
 inner_names tables params (Branch e ys ns) n site before own st s =
     nothing_earlier (length (before ++ own ∷ [])) (value_of e st.env []) _ (λ v. either_earlier (length (before ++ own ∷ [])) (is_so v) _ _
@@ -182,8 +182,8 @@ known_firsts : (tables : List TableInfo) (params : ℕ) (ss : List RStmt) → ma
 known_firsts tables params [] = refl
 known_firsts tables params (s ∷ ss) = ap (λ l. s ∷ l) (known_firsts tables params ss)
 
-pub told_names : (tables : List TableInfo) (params : ℕ) (ss : List RStmt) → Names (told tables params ss)
-told_names tables params ss = subst (λ ts. Names (told tables params ts)) (known_firsts tables params ss) (all_earlier tables params (map (λ s. (s, statement_names tables params s)) ss))
+pub told_names : (tables : List TableInfo) (params : ℕ) (ss : List RStmt) → Names (tell_statements tables params ss)
+told_names tables params ss = subst (λ ts. Names (tell_statements tables params ts)) (known_firsts tables params ss) (all_earlier tables params (map (λ s. (s, statement_names tables params s)) ss))
 
 -- the controller and the definers of each record are earlier records
 pub recorded_names : (tables : List TableInfo) (proc : ProcInfo) (call : Call) (db : Tables) → NamesEarlier 0 (recorded tables proc call db)

@@ -21,7 +21,7 @@ use Rattle.mv_record.specs.declared.record.Spot.{Spot}
 use Rattle.mv_record.specs.Paths.{Nest, path, nest_of, nests_behind}
 use Rattle.mv_recorded.specs.Asking.{on}
 use Rattle.mv_recorded.specs.Doing.{fixed_rows}
-use Rattle.mv_recorded.specs.Recorded.{Tells, Site, tell, tell_step, tell_turns, own_record, in_turn, within, within_loop, size_of, body_of, told, outside, recorded}
+use Rattle.mv_recorded.specs.Recorded.{Tells, Site, tell, tell_step, tell_turns, own_record, in_turn, within, within_loop, size_of, body_of, tell_statements, outside, recorded}
 use Rattle.mv_recorded.specs.Laws.{OnePlaceOnePath}
 use Rattle.mv_recorded.specs.Posts.{Post, Posts, posts, posts_all, posts_step, posts_of, in_branch, in_for, weave, path_held, path_above}
 use Rattle.mv_recorded.proofs.Nesting.{AsMany, more_as_many, Stands, stands_on, stands_here, stands_within, stands_in_turns, own_number}
@@ -193,14 +193,14 @@ module _ (text : List Post) (tables : List TableInfo) (params : ℕ) where
   abbrev plain : List Known → List RStmt
   plain known = map (λ k. k.0) known
 
-  all_posted : (known : List Known) → Posted text (posts_all (map posts (plain known))) (told tables params (plain known))
+  all_posted : (known : List Known) → Posted text (posts_all (map posts (plain known))) (tell_statements tables params (plain known))
   all_posted [] n site before st nests post stands many s = tt
   all_posted (k ∷ ks) n site before st nests post stands many s =
       let these : List Record = tell tables params k.0 n site before st in
       let own : List Post = posts k.0 n post in
       let rest : List Post = posts_all (map posts (plain ks)) (n + length own) post in
       let at : n + length own ≡ n + size k.0 = ap (λ m. n + m) (posts_sized k.0 n post) in
-      follow_posted text nests these (does tables k.0 st) (told tables params (plain ks) (n + size k.0) site (before ++ these)) (k.1 n site before st nests post (first_stand text n own rest stands) many s)
+      follow_posted text nests these (does tables k.0 st) (tell_statements tables params (plain ks) (n + size k.0) site (before ++ these)) (k.1 n site before st nests post (first_stand text n own rest stands) many s)
       (λ next. all_posted ks (n + size k.0) site (before ++ these) next (nests ++ nests_behind nests these) post
       (subst (λ m. StandAt text m (posts_all (map posts (plain ks)) m post)) at (second_stand text n (length own) own rest refl stands)) (more_as_many nests before these many) (sits_on nests (nests_behind nests these) site post s))
 
@@ -217,10 +217,10 @@ module _ (text : List Post) (tables : List TableInfo) (params : ℕ) where
   loop_posted : (z : RStmt-F (RStmt × Tells)) (body : List Known) (x n : ℕ) (site : Site) (before : List Record) (st : State) (nests : List Nest) (post : Post) (does' : Does) (rows : List (List Value))
       → StandAt text n (post ∷ posts_all (map posts (plain body)) (n + 1) (in_for n post)) → AsMany nests before → Sits nests site post
       → let own : Record = own_record tables params z n site before st in
-      AllPosted text (nests ++ nest_of nests own ∷ []) (tell_turns x does' (told tables params (plain body)) rows 1 (n + 1) (within_loop x (length before) site) (before ++ own ∷ []) (record st { env = with_found st.env (is_turn rows) }))
+      AllPosted text (nests ++ nest_of nests own ∷ []) (tell_turns x does' (tell_statements tables params (plain body)) rows 1 (n + 1) (within_loop x (length before) site) (before ++ own ∷ []) (record st { env = with_found st.env (is_turn rows) }))
   loop_posted z body x n site before st nests post does' rows stands many s =
       let own : Record = own_record tables params z n site before st in
-      turns_posted text x does' (posts_all (map posts (plain body))) (told tables params (plain body)) (all_posted body) rows 1 (n + 1) (within_loop x (length before) site) (before ++ own ∷ [])
+      turns_posted text x does' (posts_all (map posts (plain body))) (tell_statements tables params (plain body)) (all_posted body) rows 1 (n + 1) (within_loop x (length before) site) (before ++ own ∷ [])
       (record st { env = with_found st.env (is_turn rows) }) (nests ++ nest_of nests own ∷ []) (in_for n post) (second_stand text n 1 (post ∷ []) _ refl stands) (many_own nests before own many)
       (λ j. sits_in_turn nests own x site post (length before) j (sym many) refl (stands_here nests site (weave post.fors site.turns) s.stands) s)
 
@@ -272,8 +272,8 @@ module _ (text : List Post) (tables : List TableInfo) (params : ℕ) where
   known_firsts [] = refl
   known_firsts (s ∷ ss) = ap (λ l. s ∷ l) (known_firsts ss)
 
-  pub told_posted : (ss : List RStmt) → Posted text (posts_all (map posts ss)) (told tables params ss)
-  told_posted ss = subst (λ ts. Posted text (posts_all (map posts ts)) (told tables params ts)) (known_firsts ss) (all_posted (map (λ s. (s, statement_posted s)) ss))
+  pub told_posted : (ss : List RStmt) → Posted text (posts_all (map posts ss)) (tell_statements tables params ss)
+  told_posted ss = subst (λ ts. Posted text (posts_all (map posts ts)) (tell_statements tables params ts)) (known_firsts ss) (all_posted (map (λ s. (s, statement_posted s)) ss))
 
 -- each record of a full run stands where its path says
 pub recorded_posted : (tables : List TableInfo) (proc : ProcInfo) (call : Call) (db : Tables) → AllPosted (posts_of proc) [] (recorded tables proc call db)

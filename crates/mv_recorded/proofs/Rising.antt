@@ -19,7 +19,7 @@ use Rattle.mv_record.specs.Paths.{Nest, path, nest_of, nests_behind, paths, IsEa
 use Rattle.mv_recorded.specs.Asking.{on}
 use Rattle.mv_recorded.specs.Doing.{fixed_rows}
 use Rattle.mv_catalog.specs.Statements.{size, size_step, total_size}
-use Rattle.mv_recorded.specs.Recorded.{Tells, Site, tell, tell_step, tell_turns, own_record, in_turn, within, within_loop, size_of, body_of, told, outside, recorded}
+use Rattle.mv_recorded.specs.Recorded.{Tells, Site, tell, tell_step, tell_turns, own_record, in_turn, within, within_loop, size_of, body_of, tell_statements, outside, recorded}
 use Rattle.mv_recorded.proofs.Nesting.{paths_behind, paths_join, AsMany, more_as_many, Stands, stands_on, StandsInTurns, stands_here, stands_within, stands_in_turns}
 use Rattle.mv_recorded.proofs.Climbing.{front_earlier, less_earlier, behind_same, NotLater, earlier_not_later, number_not_later, Climb, climb_on, climb_from, climb_join, climb_to, climb_pairs}
 
@@ -83,15 +83,15 @@ at_most around m n le = by_test (nat_lt m n) refl
     by_test true is = number_not_later around m n (grind (arith, nat_tests))
     by_test false is = number_same around m n (grind (arith, nat_tests))
 
-all_rise : (tables : List TableInfo) (params : ℕ) (known : List (Known tables params)) → Rises (told tables params (plain tables params known)) (total_size (map size (plain tables params known)))
+all_rise : (tables : List TableInfo) (params : ℕ) (known : List (Known tables params)) → Rises (tell_statements tables params (plain tables params known)) (total_size (map size (plain tables params known)))
 all_rise tables params [] n site before st nests around as_many stands = at_most around n (n + 0) (omega arith)
 all_rise tables params (k ∷ ks) n site before st nests around as_many stands =
     let these : List Record = tell tables params k.0 n site before st in
     let rest : ℕ = total_size (map size (plain tables params ks)) in
     let one_more = first_size (size k.0) (map size (plain tables params ks)) in
     let same : n + size k.0 + rest ≡ n + total_size (map size (plain tables params (k ∷ ks))) = omega (arith, one_more) in
-    subst (λ m. Climb (around ++ n ∷ []) (paths_behind nests (told tables params (plain tables params (k ∷ ks)) n site before st)) (around ++ m ∷ [])) same
-    (follow_rises nests these (does tables k.0 st) (told tables params (plain tables params ks) (n + size k.0) site (before ++ these)) (around ++ n ∷ []) (around ++ (n + size k.0) ∷ []) (around ++ (n + size k.0 + rest) ∷ [])
+    subst (λ m. Climb (around ++ n ∷ []) (paths_behind nests (tell_statements tables params (plain tables params (k ∷ ks)) n site before st)) (around ++ m ∷ [])) same
+    (follow_rises nests these (does tables k.0 st) (tell_statements tables params (plain tables params ks) (n + size k.0) site (before ++ these)) (around ++ n ∷ []) (around ++ (n + size k.0) ∷ []) (around ++ (n + size k.0 + rest) ∷ [])
     (k.1 n site before st nests around as_many stands) (at_most around (n + size k.0) (n + size k.0 + rest) (omega arith))
     (λ next. all_rise tables params ks (n + size k.0) site (before ++ these) next (nests ++ nests_behind nests these) around (more_as_many nests before these as_many)
     (stands_on nests (nests_behind nests these) site around stands)))
@@ -148,7 +148,7 @@ loop_rises x body tells many h rows own n site before st nests around as_many st
 -- the branch of an IF behind its own record
 branch_rises : (tables : List TableInfo) (params : ℕ) (known : List (Known tables params)) (m : ℕ) (own : Record) (site : Site) (before : List Record) (st : State)
     (nests : List Nest) (around : List ℕ) → AsMany nests before → (nest_of nests own).around ≡ around → own.spot.turns ≡ site.turns
-    → Climb (around ++ m ∷ []) (paths_behind (nests ++ nest_of nests own ∷ []) (told tables params (plain tables params known) m (within (length before) site) (before ++ own ∷ []) st))
+    → Climb (around ++ m ∷ []) (paths_behind (nests ++ nest_of nests own ∷ []) (tell_statements tables params (plain tables params known) m (within (length before) site) (before ++ own ∷ []) st))
     (around ++ (m + total_size (map size (plain tables params known))) ∷ [])
 branch_rises tables params known m own site before st nests around as_many stands same =
     all_rise tables params known m (within (length before) site) (before ++ own ∷ []) st (nests ++ nest_of nests own ∷ []) around (more_as_many nests before (own ∷ []) as_many)
@@ -169,7 +169,7 @@ step_rises tables params (ForSelect x once cs t conds sorts body) n site before 
     own_rises nests own _ around n (around ++ n ∷ 1 ∷ []) (around ++ (n + (1 + many)) ∷ []) (ap (λ a. a ++ n ∷ []) here) (first_turn around n 1)
     (on_rises (nests ++ nest_of nests own ∷ []) (fixed_rows (telling tables params (ForSelect x once cs t conds sorts body)) st) _ (around ++ n ∷ 1 ∷ []) (around ++ (n + (1 + many)) ∷ [])
     (earlier_not_later (around ++ n ∷ 1 ∷ []) (around ++ (n + (1 + many)) ∷ []) (turn_before around n 1 many))
-    (λ rows. loop_rises x (body_of tables (map (λ s. (s, tell tables params s)) (plain tables params body))) (told tables params (plain tables params body)) many (all_rise tables params body) rows own n site before
+    (λ rows. loop_rises x (body_of tables (map (λ s. (s, tell tables params s)) (plain tables params body))) (tell_statements tables params (plain tables params body)) many (all_rise tables params body) rows own n site before
     (record st { env = with_found st.env (is_turn rows) }) nests around as_many here refl refl))
 step_rises tables params (ForRows x y body) n site before st nests around as_many stands =
     let own : Record = own_record tables params (telling tables params (ForRows x y body)) n site before st in
@@ -178,7 +178,7 @@ step_rises tables params (ForRows x y body) n site before st nests around as_man
     own_rises nests own _ around n (around ++ n ∷ 1 ∷ []) (around ++ (n + (1 + many)) ∷ []) (ap (λ a. a ++ n ∷ []) here) (first_turn around n 1)
     (on_rises (nests ++ nest_of nests own ∷ []) (fixed_rows (telling tables params (ForRows x y body)) st) _ (around ++ n ∷ 1 ∷ []) (around ++ (n + (1 + many)) ∷ [])
     (earlier_not_later (around ++ n ∷ 1 ∷ []) (around ++ (n + (1 + many)) ∷ []) (turn_before around n 1 many))
-    (λ rows. loop_rises x (body_of tables (map (λ s. (s, tell tables params s)) (plain tables params body))) (told tables params (plain tables params body)) many (all_rise tables params body) rows own n site before
+    (λ rows. loop_rises x (body_of tables (map (λ s. (s, tell tables params s)) (plain tables params body))) (tell_statements tables params (plain tables params body)) many (all_rise tables params body) rows own n site before
     (record st { env = with_found st.env (is_turn rows) }) nests around as_many here refl refl))
 step_rises tables params (Branch e ys ns) n site before st nests around as_many stands =
     let own : Record = own_record tables params (telling tables params (Branch e ys ns)) n site before st in
@@ -221,9 +221,9 @@ known_firsts : (tables : List TableInfo) (params : ℕ) (ss : List RStmt) → ma
 known_firsts tables params [] = refl
 known_firsts tables params (s ∷ ss) = ap (λ l. s ∷ l) (known_firsts tables params ss)
 
-pub told_rises : (tables : List TableInfo) (params : ℕ) (ss : List RStmt) → Rises (told tables params ss) (total_size (map size ss))
+pub told_rises : (tables : List TableInfo) (params : ℕ) (ss : List RStmt) → Rises (tell_statements tables params ss) (total_size (map size ss))
 told_rises tables params ss =
-    subst (λ ts. Rises (told tables params ts) (total_size (map size ts))) (known_firsts tables params ss) (all_rise tables params (map (λ s. (s, statement_rises tables params s)) ss))
+    subst (λ ts. Rises (tell_statements tables params ts) (total_size (map size ts))) (known_firsts tables params ss) (all_rise tables params (map (λ s. (s, statement_rises tables params s)) ss))
 
 -- each record's path comes before those of the records behind it
 pub recorded_rises : (tables : List TableInfo) (proc : ProcInfo) (call : Call) (db : Tables) → PathsRise (recorded tables proc call db)

@@ -36,7 +36,7 @@ use Rattle.mv_alone.specs.Env.{with_value, with_values}
 use Rattle.mv_alone.specs.Value.{value_of, fitted}
 use Rattle.mv_alone.specs.Rows.{meets, sorted, ordered, sort_order, item_at, put_by, put_once, distinct, projected, column, lesser, least, greater, greatest, total, sum_of, aggregate, fit_kind, fit}
 use Rattle.mv_alone.specs.Changes.{with_column, set_row, updated, new_row, put_row, put_row_by}
-use Rattle.mv_alone.specs.Alone.{fixed, taken}
+use Rattle.mv_alone.specs.Alone.{fixed, with_selected}
 use Rattle.mv_alone.specs.TableAfter.{Tables}
 use Rattle.mv_record.specs.Databases.{AreTyped, HasRow}
 use Rattle.mv_recorded.specs.Typed.{OfKinds, IsEnvOf}
@@ -123,7 +123,7 @@ module _ (table : TableInfo) where
       values_fit vars (with_value env x (column_of row c)) row cs xs (fit_value vars env x h.0.0 (column_of row c) fit h.0.2 (typed c h.0.0 h.0.1)) typed h.1
 
   taken_by : (vars : Vars) (env : Env) (cs xs : List ℕ) (o : Option Keyed) → IsEnvOf vars env → ((item : Keyed) → o ≡ Some item → HasRow table item) → AllZip (Takes vars (kinds_of table)) cs xs
-      → IsEnvOf vars (taken cs xs o env)
+      → IsEnvOf vars (with_selected cs xs o env)
   taken_by vars env cs xs None fit has h = fit_found vars env false fit
   taken_by vars env cs xs (Some item) fit has h =
       fit_found vars (with_values env xs (columns_of item.row cs)) true (values_fit vars env item.row cs xs fit (table_kinds table item.row (has item refl)) h)
@@ -133,7 +133,7 @@ module _ (table : TableInfo) where
   item_all rows (negsuc n) item all h = cc
 
   pub taken_fits : (vars : Vars) (env : Env) (cs xs : List ℕ) (sorts : List RSort) (rows : List Keyed) (z : ℤ) → IsEnvOf vars env → All (HasRow table) rows → AllZip (Takes vars (kinds_of table)) cs xs
-      → IsEnvOf vars (taken cs xs (item_at (ordered sorts rows) z) env)
+      → IsEnvOf vars (with_selected cs xs (item_at (ordered sorts rows) z) env)
   taken_fits vars env cs xs sorts rows z fit all h =
       taken_by vars env cs xs (item_at (ordered sorts rows) z) fit (λ item. item_all (ordered sorts rows) z item (sorted_all (sort_order sorts) (HasRow table) rows all)) h
 

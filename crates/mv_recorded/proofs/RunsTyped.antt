@@ -33,7 +33,7 @@ use Rattle.mv_alone.specs.Value.{value_of, values_of, is_so, number}
 use Rattle.mv_alone.specs.Rows.{checks_of, meets, is_some_row, item_at, ordered, aggregate}
 use Rattle.mv_alone.specs.Changes.{set_row, updated, without, new_row, put_row, keyed}
 use Rattle.mv_alone.specs.Line.{line_of}
-use Rattle.mv_alone.specs.Alone.{Does, all_of, each_turn, matches, with_rows, offset_of, taken, totalled, fixed, is_turn, loop_over, does, alone, stmt_step}
+use Rattle.mv_alone.specs.Alone.{Does, all_of, each_turn, matching_in, with_rows, offset_of, with_selected, totalled, fixed, is_turn, loop_over, does, alone, stmt_step}
 use Rattle.mv_alone.specs.Alone as alone'
 use Rattle.mv_record.specs.Databases.{AreTyped, HasRow}
 use Rattle.mv_recorded.specs.Typed.{OfKinds, IsEnvOf}
@@ -51,7 +51,7 @@ module _ (tables : List TableInfo) where
   kept : (vars : Vars) (st : State) → IsEnvOf vars st.env → AreTyped tables st.tables → Kept vars st
   kept vars st fit typed = record { fit = fit; typed = typed }
 
-  pub matches_all : (vars : Vars) (st : State) (n : ℕ) (table : TableInfo) (checks : List Check) → Kept vars st → slice_get tables n ≡ Some table → All (HasRow table) (matches n checks st)
+  pub matches_all : (vars : Vars) (st : State) (n : ℕ) (table : TableInfo) (checks : List Check) → Kept vars st → slice_get tables n ≡ Some table → All (HasRow table) (matching_in n checks st)
   matches_all vars st n table checks k at = All-filter (λ (item : Keyed). meets checks item.row) (HasRow table) (rows_at st.tables n) (rows_typed tables st.tables n table k.typed at)
 
   -- other rows for a table
@@ -69,11 +69,11 @@ module _ (tables : List TableInfo) where
       → IfOk (alone'.select cs xs n conds sorts offset st) (Kept vars)
   select_kept cs xs n conds sorts offset vars st h k =
       let table = h.0.0 in
-      let env' : List Check → Value → Env = λ checks m. taken cs xs (item_at (ordered sorts (matches n checks st)) (number m)) st.env in
+      let env' : List Check → Value → Env = λ checks m. with_selected cs xs (item_at (ordered sorts (matching_in n checks st)) (number m)) st.env in
       then_any (checks_of conds st.env) (λ checks. then_do (offset_of offset st.env) (λ m. Ok (record st { env = env' checks m }))) (Kept vars)
       (λ checks. then_any (offset_of offset st.env) (λ m. Ok (record st { env = env' checks m })) (Kept vars)
       (λ m. kept vars (record st { env = env' checks m })
-      (taken_fits table vars st.env cs xs sorts (matches n checks st) (number m) k.fit (matches_all vars st n table checks k h.0.1) h.0.2.0) k.typed))
+      (taken_fits table vars st.env cs xs sorts (matching_in n checks st) (number m) k.fit (matches_all vars st n table checks k h.0.1) h.0.2.0) k.typed))
 
   totalled_fits : (vars : Vars) (env : Env) (x : ℕ) (t : Kind) (o : Option Value) → IsEnvOf vars env → vars x ≡ Some (declared t) → MayHave t o → IsEnvOf vars (totalled x o env)
   totalled_fits vars env x t None fit at has = fit
@@ -83,12 +83,12 @@ module _ (tables : List TableInfo) where
   total_kept agg x n conds vars st h k =
       let table = h.0 in
       let t = h.2.0.0 in
-      let env' : List Check → Option Value → Env = λ checks v. with_found (totalled x v st.env) (is_some_row (matches n checks st)) in
-      then_any (checks_of conds st.env) (λ checks. then_do (aggregate agg (matches n checks st)) (λ v. Ok (record st { env = env' checks v }))) (Kept vars)
-      (λ checks. then_ok (aggregate agg (matches n checks st)) (λ v. Ok (record st { env = env' checks v })) (MayHave t) (Kept vars)
-      (aggregate_kind table (matches n checks st) (matches_all vars st n table checks k h.1) agg t h.2.0.1)
+      let env' : List Check → Option Value → Env = λ checks v. with_found (totalled x v st.env) (is_some_row (matching_in n checks st)) in
+      then_any (checks_of conds st.env) (λ checks. then_do (aggregate agg (matching_in n checks st)) (λ v. Ok (record st { env = env' checks v }))) (Kept vars)
+      (λ checks. then_ok (aggregate agg (matching_in n checks st)) (λ v. Ok (record st { env = env' checks v })) (MayHave t) (Kept vars)
+      (aggregate_kind table (matching_in n checks st) (matches_all vars st n table checks k h.1) agg t h.2.0.1)
       (λ v has. kept vars (record st { env = env' checks v })
-      (fit_found vars (totalled x v st.env) (is_some_row (matches n checks st)) (totalled_fits vars st.env x t v k.fit h.2.0.2 has)) k.typed))
+      (fit_found vars (totalled x v st.env) (is_some_row (matching_in n checks st)) (totalled_fits vars st.env x t v k.fit h.2.0.2 has)) k.typed))
 
   insert_kept : (n : ℕ) (es : List RExpr) (vars : Vars) (st : State) → well.insert tables n es vars → Kept vars st → IfOk (alone'.insert tables n es st) (Kept vars)
   insert_kept n es vars st h k =
@@ -109,16 +109,16 @@ module _ (tables : List TableInfo) where
       let new : List Value → Result (List Value) End = λ row. set_row (columns_at tables n) keys st.env row items row in
       let is_row : (row : List Value) → IsRow (types_of table) row → IfOk (new row) (IsRow (types_of table)) =
       λ row is. subst (λ columns. IfOk (set_row columns keys st.env row items row) (IsRow (types_of table))) (sym there) (set_row_is vars st.env k.fit table keys row items row is h.2.0 is) in
-      then_any (checks_of conds st.env) (λ checks. then_do (updated new checks (rows_at st.tables n)) (λ made. Ok (with_rows n made (is_some_row (matches n checks st)) st))) (Kept vars)
-      (λ checks. then_ok (updated new checks (rows_at st.tables n)) (λ made. Ok (with_rows n made (is_some_row (matches n checks st)) st)) (All (HasRow table)) (Kept vars)
+      then_any (checks_of conds st.env) (λ checks. then_do (updated new checks (rows_at st.tables n)) (λ made. Ok (with_rows n made (is_some_row (matching_in n checks st)) st))) (Kept vars)
+      (λ checks. then_ok (updated new checks (rows_at st.tables n)) (λ made. Ok (with_rows n made (is_some_row (matching_in n checks st)) st)) (All (HasRow table)) (Kept vars)
       (updated_all table new checks is_row (rows_at st.tables n) (rows_typed tables st.tables n table k.typed h.1))
-      (λ made all. rows_kept vars st n table made (is_some_row (matches n checks st)) k h.1 all))
+      (λ made all. rows_kept vars st n table made (is_some_row (matching_in n checks st)) k h.1 all))
 
   delete_kept : (n : ℕ) (conds : List RCond) (vars : Vars) (st : State) → well.delete tables n conds vars → Kept vars st → IfOk (alone'.delete n conds st) (Kept vars)
   delete_kept n conds vars st h k =
       let table = h.0 in
-      then_any (checks_of conds st.env) (λ checks. Ok (with_rows n (without checks (rows_at st.tables n)) (is_some_row (matches n checks st)) st)) (Kept vars)
-      (λ checks. rows_kept vars st n table (without checks (rows_at st.tables n)) (is_some_row (matches n checks st)) k h.1
+      then_any (checks_of conds st.env) (λ checks. Ok (with_rows n (without checks (rows_at st.tables n)) (is_some_row (matching_in n checks st)) st)) (Kept vars)
+      (λ checks. rows_kept vars st n table (without checks (rows_at st.tables n)) (is_some_row (matching_in n checks st)) k h.1
       (All-filter (λ (item : Keyed). not (meets checks item.row)) (HasRow table) (rows_at st.tables n) (rows_typed tables st.tables n table k.typed h.1)))
 
   print_kept : (es : List RExpr) (vars : Vars) (st : State) → Kept vars st → IfOk (alone'.print es st) (Kept vars)
@@ -173,9 +173,9 @@ module _ (tables : List TableInfo) where
       let table = h.0 in
       let ts = h.2.3.0 in
       let run : Does = all_of (map (does tables) (map (λ p. p.0) body)) in
-      then_any (checks_of conds st.env) (λ checks. loop_over x run (fixed once cs sorts (matches n checks st)) st) (Kept vars)
-      (λ checks. loop_kept x ts run vars h.2.2 (all_kept body (with_turn vars x ts) h.2.3.2) (fixed once cs sorts (matches n checks st))
-      (fixed_kinds table once cs sorts ts (matches n checks st) h.2.3.1 (matches_all vars st n table checks k h.1)) st k)
+      then_any (checks_of conds st.env) (λ checks. loop_over x run (fixed once cs sorts (matching_in n checks st)) st) (Kept vars)
+      (λ checks. loop_kept x ts run vars h.2.2 (all_kept body (with_turn vars x ts) h.2.3.2) (fixed once cs sorts (matching_in n checks st))
+      (fixed_kinds table once cs sorts ts (matching_in n checks st) h.2.3.1 (matches_all vars st n table checks k h.1)) st k)
   step_kept (open'.ForRows x y body) vars h st k =
       loop_kept x h.0 (all_of (map (does tables) (map (λ p. p.0) body))) vars h.2 (all_kept body (with_turn vars x h.0) h.3) (turns_at st.env y) (k.fit.holds y (rows h.0) h.1) st k
   step_kept (open'.Branch e ys ns) vars h st k =
@@ -206,8 +206,8 @@ module _ (tables : List TableInfo) where
       → (h : well.stmt_step tables X v w (open'.ForSelect x once cs n conds sorts body) vars) → Kept vars st → fixed_rows (open'.ForSelect x once cs n conds sorts body) st ≡ Ok all → All (OfKinds h.2.3.0) all
   chosen_kinds v w x once cs n conds sorts body vars st all h k is =
       let table = h.0 in
-      let c = goes_to (checks_of conds st.env) (λ checks. Ok (fixed once cs sorts (matches n checks st))) all is in
-      subst (All (OfKinds h.2.3.0)) (same_rows c.2) (fixed_kinds table once cs sorts h.2.3.0 (matches n c.0 st) h.2.3.1 (matches_all vars st n table c.0 k h.1))
+      let c = goes_to (checks_of conds st.env) (λ checks. Ok (fixed once cs sorts (matching_in n checks st))) all is in
+      subst (All (OfKinds h.2.3.0)) (same_rows c.2) (fixed_kinds table once cs sorts h.2.3.0 (matching_in n c.0 st) h.2.3.1 (matches_all vars st n table c.0 k h.1))
     where
       same_rows : {a b : List (List Value)} → ◌≡◌ {A = Result (List (List Value)) End} (Ok a) (Ok b) → a ≡ b
       same_rows e = cc

@@ -23,7 +23,7 @@ use Rattle.mv_alone.specs.Value.{value_of}
 use Rattle.mv_alone.specs.Rows.{meets, matching, fit}
 use Rattle.mv_alone.specs.Changes.{with_column, set_row, updated}
 use Rattle.mv_recorded.specs.Asking.{on}
-use Rattle.mv_recorded.specs.Doing.{write, changed}
+use Rattle.mv_recorded.specs.Doing.{write, set_patch}
 use Rattle.mv_recorded.proofs.Patched.{AllPast, all_pass, patched_all, OnTable, on_both, changes_first, row_ok}
 
 -- One row
@@ -86,7 +86,7 @@ assigns_lead (i ∷ is) row new h =
 -- All rows
 
 abbrev pub set_write : ℕ → List RSetItem → Keyed → Result (List Value) End → List Write
-set_write t items item r = on r (λ row. write t item.key (changed items row) ∷ [])
+set_write t items item r = on r (λ row. write t item.key (set_patch items row) ∷ [])
 
 abbrev pub set_writes : ℕ → List RSetItem → New → List Keyed → List Write
 set_writes t items new rows = flat_map (λ item. set_write t items item (new item.row)) rows

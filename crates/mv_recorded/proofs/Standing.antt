@@ -8,7 +8,7 @@ use Rattle.mv_alone.specs.declared.state.State.{State}
 use Rattle.mv_alone.specs.Outcome.{then_do}
 use Rattle.mv_alone.specs.Value.{value_of, values_of}
 use Rattle.mv_alone.specs.Rows.{checks_of, aggregate}
-use Rattle.mv_alone.specs.Alone.{matches, offset_of, fixed}
+use Rattle.mv_alone.specs.Alone.{matching_in, offset_of, fixed}
 use Rattle.mv_alone.proofs.Standing.{insert_keeps, update_keeps, delete_keeps}
 use Rattle.mv_recorded.specs.Doing.{itself}
 use Rattle.mv_recorded.proofs.Leading.{KeepsTables, then_keeps}
@@ -31,9 +31,9 @@ stands_behind {X} tables (Assign x e) st h = kept tables (itself {X = X} tables 
 stands_behind {X} tables (Select cs xs t conds sorts offset) st h =
     kept tables (itself {X = X} tables (Select cs xs t conds sorts offset) st) st h (then_keeps (checks_of conds st.env) _ st (λ checks. then_keeps (offset_of offset st.env) _ st (λ at. refl)))
 stands_behind {X} tables (Total agg x t conds) st h =
-    kept tables (itself {X = X} tables (Total agg x t conds) st) st h (then_keeps (checks_of conds st.env) _ st (λ checks. then_keeps (aggregate agg (matches t checks st)) _ st (λ v. refl)))
+    kept tables (itself {X = X} tables (Total agg x t conds) st) st h (then_keeps (checks_of conds st.env) _ st (λ checks. then_keeps (aggregate agg (matching_in t checks st)) _ st (λ v. refl)))
 stands_behind {X} tables (ForSelect x once cs t conds sorts body) st h =
-    kept tables (itself {X = X} tables (ForSelect x once cs t conds sorts body) st) st h (then_keeps (then_do (checks_of conds st.env) (λ checks. Ok (fixed once cs sorts (matches t checks st)))) _ st (λ rows. refl))
+    kept tables (itself {X = X} tables (ForSelect x once cs t conds sorts body) st) st h (then_keeps (then_do (checks_of conds st.env) (λ checks. Ok (fixed once cs sorts (matching_in t checks st)))) _ st (λ rows. refl))
 stands_behind {X} tables (ForRows x y body) st h = kept tables (itself {X = X} tables (ForRows x y body) st) st h refl
 stands_behind {X} tables (Branch e ys ns) st h = kept tables (itself {X = X} tables (Branch e ys ns) st) st h (then_keeps (value_of e st.env []) _ st (λ v. refl))
 stands_behind {X} tables (Insert t es) st h = made tables (itself {X = X} tables (Insert t es) st) (λ next is. insert_keeps tables t es st next h is)

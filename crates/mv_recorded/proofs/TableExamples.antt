@@ -9,7 +9,7 @@ use Rattle.mv_alone.specs.declared.state.Held.{Held}
 use Rattle.mv_alone.specs.declared.state.Held.TheVariants.{Scalar, Turn}
 use Rattle.mv_record.specs.Samples.{account}
 use Rattle.mv_recorded.specs.Examples.{var, constant, acc, delete_found, over_accounts, sum_up_balances, open_account, for_record, deleted, sum_record, opened, Closes, read_twice, ReadsTwice, delete_wrong, DividesByZero}
-use Rattle.mv_recorded.specs.Recorded.{Site, told, outside, within_loop, in_turn}
+use Rattle.mv_recorded.specs.Recorded.{Site, tell_statements, outside, within_loop, in_turn}
 use Rattle.mv_recorded.proofs.Unrolled.{value_var, value_two, value_field, value_constant, variables_var, variables_two, variables_field, variables_constant, told_first, tell_is, does_is, size_is}
 
 abbrev scalar : ℕ → Held
@@ -44,8 +44,8 @@ fourth = at_close 7 1 (turn_of 1) (account 0 7 ∷ [])
 abbrev turn : ℕ → Site
 turn k = in_turn k (within_loop 3 0 outside)
 
-goes_through : (ss : List RStmt) → told acc 1 (roll-RStmt over_accounts ∷ ss) 1 outside [] begins
-    ≡ for_record ∷ deleted 1 2 ∷ deleted 2 1 ∷ told acc 1 ss 3 outside (for_record ∷ deleted 1 2 ∷ deleted 2 1 ∷ []) third
+goes_through : (ss : List RStmt) → tell_statements acc 1 (roll-RStmt over_accounts ∷ ss) 1 outside [] begins
+    ≡ for_record ∷ deleted 1 2 ∷ deleted 2 1 ∷ tell_statements acc 1 ss 3 outside (for_record ∷ deleted 1 2 ∷ deleted 2 1 ∷ []) third
 goes_through ss = told_first acc 1 over_accounts ss 1 outside [] begins
     ∙ rw (
       value_var 0 begins.env [],
@@ -61,11 +61,11 @@ goes_through ss = told_first acc 1 over_accounts ss 1 outside [] begins
       variables_field 3 0,
     ) refl
 
-sums_up : (ss : List RStmt) → told acc 1 (roll-RStmt sum_up_balances ∷ ss) 3 outside (for_record ∷ deleted 1 2 ∷ deleted 2 1 ∷ []) third
-    ≡ sum_record ∷ told acc 1 ss 4 outside (for_record ∷ deleted 1 2 ∷ deleted 2 1 ∷ sum_record ∷ []) fourth
+sums_up : (ss : List RStmt) → tell_statements acc 1 (roll-RStmt sum_up_balances ∷ ss) 3 outside (for_record ∷ deleted 1 2 ∷ deleted 2 1 ∷ []) third
+    ≡ sum_record ∷ tell_statements acc 1 ss 4 outside (for_record ∷ deleted 1 2 ∷ deleted 2 1 ∷ sum_record ∷ []) fourth
 sums_up ss = told_first acc 1 sum_up_balances ss 3 outside (for_record ∷ deleted 1 2 ∷ deleted 2 1 ∷ []) third
 
-opens : told acc 1 (roll-RStmt open_account ∷ []) 4 outside (for_record ∷ deleted 1 2 ∷ deleted 2 1 ∷ sum_record ∷ []) fourth ≡ opened ∷ []
+opens : tell_statements acc 1 (roll-RStmt open_account ∷ []) 4 outside (for_record ∷ deleted 1 2 ∷ deleted 2 1 ∷ sum_record ∷ []) fourth ≡ opened ∷ []
 opens = told_first acc 1 open_account [] 4 outside (for_record ∷ deleted 1 2 ∷ deleted 2 1 ∷ sum_record ∷ []) fourth
     ∙ rw (
       value_constant (Int (pos 9)) fourth.env [],

@@ -18,7 +18,7 @@ use Rattle.mv_alone.specs.Value.{value_of, values_of}
 use Rattle.mv_alone.specs.Rows.{checks_of, aggregate}
 use Rattle.mv_alone.specs.Changes.{new_row, put_row, keyed, updated, set_row}
 use Rattle.mv_alone.specs.Line.{line_of}
-use Rattle.mv_alone.specs.Alone.{alone, matches, offset_of, fixed}
+use Rattle.mv_alone.specs.Alone.{alone, matching_in, offset_of, fixed}
 use Rattle.mv_alone.specs.TableAfter.{Tables, begun}
 use Rattle.mv_record.specs.declared.record.Record.{Record}
 use Rattle.mv_record.specs.Runs.{lines_in, end_in, StopsWith}
@@ -90,10 +90,10 @@ tells_own {X} tables params (Select cs xs t conds sorts offset) n site before st
     (then_keeps (checks_of conds st.env) _ st (λ checks. then_keeps (offset_of offset st.env) _ st (λ at. refl)))
 tells_own {X} tables params (Total agg x t conds) n site before st =
     quiet (itself {X = X} tables (Total agg x t conds) st) (own_record {X = X} tables params (Total agg x t conds) n site before st) st refl refl
-    (then_keeps (checks_of conds st.env) _ st (λ checks. then_keeps (aggregate agg (matches t checks st)) _ st (λ v. refl)))
+    (then_keeps (checks_of conds st.env) _ st (λ checks. then_keeps (aggregate agg (matching_in t checks st)) _ st (λ v. refl)))
 tells_own {X} tables params (ForSelect x once cs t conds sorts body) n site before st =
     quiet (itself {X = X} tables (ForSelect x once cs t conds sorts body) st) (own_record {X = X} tables params (ForSelect x once cs t conds sorts body) n site before st) st refl refl
-    (then_keeps (then_do (checks_of conds st.env) (λ checks. Ok (fixed once cs sorts (matches t checks st)))) _ st (λ rows. refl))
+    (then_keeps (then_do (checks_of conds st.env) (λ checks. Ok (fixed once cs sorts (matching_in t checks st)))) _ st (λ rows. refl))
 tells_own {X} tables params (ForRows x y body) n site before st =
     quiet (itself {X = X} tables (ForRows x y body) st) (own_record {X = X} tables params (ForRows x y body) n site before st) st refl refl refl
 tells_own {X} tables params (Branch e ys ns) n site before st =

@@ -16,14 +16,14 @@ use Rattle.mv_catalog.specs.declared.resolved.RStmt.TheOpen.{RStmt-F}
 use Rattle.mv_alone.specs.declared.state.State.{State}
 use Rattle.mv_alone.specs.declared.state.Env.{Env}
 use Rattle.mv_alone.specs.Env.{scalar_at, turn_at}
-use Rattle.mv_alone.specs.Value.{Meaning, kind_step, expr_step, value_of, two_of}
+use Rattle.mv_alone.specs.Value.{Evaluation, kind_step, expr_step, value_of, two_of}
 use Rattle.mv_alone.specs.Alone.{Does, does, stmt_step}
 use Rattle.mv_record.specs.declared.record.Record.{Record}
 use Rattle.mv_recorded.specs.Asking.{on, columns_in, kind_columns}
 use Rattle.mv_recorded.specs.Examples.{expr, var, two, constant, field, col}
 use Rattle.mv_recorded.specs.Reading.{variables, kind_variables}
 use Rattle.mv_catalog.specs.Statements.{size, size_step}
-use Rattle.mv_recorded.specs.Recorded.{Tells, Site, tell, tell_step, told}
+use Rattle.mv_recorded.specs.Recorded.{Tells, Site, tell, tell_step, tell_statements}
 
 -- a statement with what it holds
 abbrev pub with_tells : List TableInfo → ℕ → RStmt-F RStmt → RStmt-F (RStmt × Tells)
@@ -41,10 +41,10 @@ size_is y = fold-roll-RStmt ℕ size_step y
 
 -- what a list leaves whose first statement leaves these records
 abbrev pub told_after : List TableInfo → ℕ → List Record → Result State End → ℕ → List RStmt → ℕ → Site → List Record → List Record
-told_after tables params these outcome more ss n site before = these ++ on outcome (told tables params ss (n + more) site (before ++ these))
+told_after tables params these outcome more ss n site before = these ++ on outcome (tell_statements tables params ss (n + more) site (before ++ these))
 
 pub told_first : (tables : List TableInfo) (params : ℕ) (y : RStmt-F RStmt) (ss : List RStmt) (n : ℕ) (site : Site) (before : List Record) (st : State)
-    → told tables params (roll-RStmt y ∷ ss) n site before st
+    → tell_statements tables params (roll-RStmt y ∷ ss) n site before st
     ≡ told_after tables params (tell_step tables params (with_tells tables params y) n site before st) (stmt_step tables (map-RStmt RStmt Does (does tables) y) st) (size_step (map-RStmt RStmt ℕ size y)) ss n site before
 told_first tables params y ss n site before st =
     ap (λ these. told_after tables params these (does tables (roll-RStmt y) st) (size (roll-RStmt y)) ss n site before) (tell_is tables params y n site before st)
@@ -57,10 +57,10 @@ expr_fold A B step out d = ap (fold-RExpr A B step out) (sym (rolls-RExpr' (reco
     ∙ (fold-roll-RExpr A B step out (record { kind = roll-RExprKind d }) ∙ ap (λ k. out (record { kind = k })) (fold-roll-RExprKind A B step out d))
 
 pub value_var : (x : ℕ) (env : Env) (row : List Value) → value_of (var x) env row ≡ Ok (scalar_at env x)
-value_var x env row = ap (λ f. f env row) (expr_fold Meaning Meaning kind_step expr_step (open'.Var x))
+value_var x env row = ap (λ f. f env row) (expr_fold Evaluation Evaluation kind_step expr_step (open'.Var x))
 
 pub value_constant : (v : Value) (env : Env) (row : List Value) → value_of (constant v) env row ≡ Ok v
-value_constant v env row = ap (λ f. f env row) (expr_fold Meaning Meaning kind_step expr_step (open'.Const v))
+value_constant v env row = ap (λ f. f env row) (expr_fold Evaluation Evaluation kind_step expr_step (open'.Const v))
 
 pub variables_constant : (v : Value) → variables (constant v) ≡ []
 variables_constant v = expr_fold (List ℕ) (List ℕ) kind_variables (λ e. e.kind) (open'.Const v)
@@ -69,10 +69,10 @@ pub columns_constant : (v : Value) → columns_in (constant v) ≡ []
 columns_constant v = expr_fold (List ℕ) (List ℕ) kind_columns (λ e. e.kind) (open'.Const v)
 
 pub value_field : (x c : ℕ) (env : Env) (row : List Value) → value_of (field x c) env row ≡ Ok (column_of (turn_at env x) c)
-value_field x c env row = ap (λ f. f env row) (expr_fold Meaning Meaning kind_step expr_step (open'.Field x c))
+value_field x c env row = ap (λ f. f env row) (expr_fold Evaluation Evaluation kind_step expr_step (open'.Field x c))
 
 pub value_col : (c : ℕ) (env : Env) (row : List Value) → value_of (col c) env row ≡ Ok (column_of row c)
-value_col c env row = ap (λ f. f env row) (expr_fold Meaning Meaning kind_step expr_step (open'.Col c))
+value_col c env row = ap (λ f. f env row) (expr_fold Evaluation Evaluation kind_step expr_step (open'.Col c))
 
 pub variables_field : (x c : ℕ) → variables (field x c) ≡ x ∷ []
 variables_field x c = expr_fold (List ℕ) (List ℕ) kind_variables (λ e. e.kind) (open'.Field x c)
@@ -87,7 +87,7 @@ pub columns_two : (op : TwoOp) (a b : RExpr) → columns_in (two op a b) ≡ col
 columns_two op a b = expr_fold (List ℕ) (List ℕ) kind_columns (λ e. e.kind) (open'.Two op a b)
 
 pub value_two : (op : TwoOp) (a b : RExpr) (env : Env) (row : List Value) → value_of (two op a b) env row ≡ two_of op (value_of a env row) (value_of b env row)
-value_two op a b env row = ap (λ f. f env row) (expr_fold Meaning Meaning kind_step expr_step (open'.Two op a b))
+value_two op a b env row = ap (λ f. f env row) (expr_fold Evaluation Evaluation kind_step expr_step (open'.Two op a b))
 
 pub variables_var : (x : ℕ) → variables (var x) ≡ x ∷ []
 variables_var x = expr_fold (List ℕ) (List ℕ) kind_variables (λ e. e.kind) (open'.Var x)

@@ -25,7 +25,7 @@ use Rattle.mv_alone.specs.declared.state.Held.{Held}
 use Rattle.mv_alone.specs.Outcome.{then_do}
 use Rattle.mv_alone.specs.Env.{held_at, scalar_in, turn_in, truth}
 use Rattle.mv_alone.specs.Value as value
-use Rattle.mv_alone.specs.Value.{value_of, is_so, number, Meaning, kind_step, expr_step, fitted, quotient, remainder, joined, one_of, both_of, two_of, needs_right}
+use Rattle.mv_alone.specs.Value.{value_of, is_so, number, Evaluation, kind_step, expr_step, fitted, quotient, remainder, joined, one_of, both_of, two_of, needs_right}
 use Rattle.mv_recorded.specs.Typed.{OfKinds, Holds, IsEnvOf}
 
 abbrev pub IsKind : Kind → Value → Type 0
@@ -116,21 +116,21 @@ field_kind (Some (fixed k)) h c t holds is = cc
 field_kind (Some (declared k)) h c t holds is = cc
 field_kind None h c t holds is = cc
 
-kind_value : RExprKind → Meaning
-kind_value = fold-RExprKind Meaning Meaning kind_step expr_step
+kind_value : RExprKind → Evaluation
+kind_value = fold-RExprKind Evaluation Evaluation kind_step expr_step
 
 value_is : (d : RExprKind-F RExprKind RExpr) (env : Env) (row : List Value)
-    → value_of (record { kind = roll-RExprKind d }) env row ≡ kind_step (map-RExprKind RExprKind RExpr Meaning Meaning kind_value value_of d) env row
+    → value_of (record { kind = roll-RExprKind d }) env row ≡ kind_step (map-RExprKind RExprKind RExpr Evaluation Evaluation kind_value value_of d) env row
 unfolding kind_value
 value_is d env row =
     ap (λ e. value_of e env row) (sym (rolls-RExpr' (record { kind = roll-RExprKind d })))
-    ∙ (ap (λ f. f env row) (fold-roll-RExpr Meaning Meaning kind_step expr_step (record { kind = roll-RExprKind d }))
-    ∙ ap (λ f. f env row) (fold-roll-RExprKind Meaning Meaning kind_step expr_step d))
+    ∙ (ap (λ f. f env row) (fold-roll-RExpr Evaluation Evaluation kind_step expr_step (record { kind = roll-RExprKind d }))
+    ∙ ap (λ f. f env row) (fold-roll-RExprKind Evaluation Evaluation kind_step expr_step d))
 
 module _ (vars : Vars) (columns : List Kind) (env : Env) (row : List Value) (fit : IsEnvOf vars env) (typed : OfKinds columns row) where
   step_kind : (d : RExprKind-F RExprKind RExpr) (t : Kind)
       → types.kind_step vars columns RExprKind RExpr (λ y. y) (λ y. y) (HasKind vars columns) (HasType vars columns) d t
-      → IfOk (kind_step (map-RExprKind RExprKind RExpr Meaning Meaning kind_value value_of d) env row) (IsKind t)
+      → IfOk (kind_step (map-RExprKind RExprKind RExpr Evaluation Evaluation kind_value value_of d) env row) (IsKind t)
   step_kind (open'.Const v) t h = h
   step_kind (open'.Var x) t h = scalar_kind (vars x) (held_at env x) t (fit.holds x) h
   step_kind (open'.Field x c) t h = field_kind (vars x) (held_at env x) c t (fit.holds x) h

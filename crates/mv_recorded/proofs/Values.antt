@@ -16,7 +16,7 @@ use Rattle.mv_catalog.specs.declared.resolved.RCond.{RCond}
 use Rattle.mv_alone.specs.declared.state.Env.{Env}
 use Rattle.mv_alone.specs.Outcome.{then_do}
 use Rattle.mv_alone.specs.Env.{held_at, scalar_in, turn_in}
-use Rattle.mv_alone.specs.Value.{Meaning, kind_step, expr_step, value_of, values_of, one_of, two_of}
+use Rattle.mv_alone.specs.Value.{Evaluation, kind_step, expr_step, value_of, values_of, one_of, two_of}
 use Rattle.mv_alone.specs.Rows.{checks_of, fit_kind}
 use Rattle.mv_alone.specs.Changes.{new_row}
 use Rattle.mv_alone.specs.Alone.{offset_of}
@@ -30,10 +30,10 @@ kinds_variables = fold-RExprKind (List ℕ) (List ℕ) kind_variables (λ e. e.k
 abbrev kinds_columns : RExprKind → List ℕ
 kinds_columns = fold-RExprKind (List ℕ) (List ℕ) kind_columns (λ e. e.kind)
 
-abbrev kinds_value : RExprKind → Meaning
-kinds_value = fold-RExprKind Meaning Meaning kind_step expr_step
+abbrev kinds_value : RExprKind → Evaluation
+kinds_value = fold-RExprKind Evaluation Evaluation kind_step expr_step
 
-abbrev Same : List ℕ → List ℕ → Meaning → Type 0
+abbrev Same : List ℕ → List ℕ → Evaluation → Type 0
 Same xs cs m = (e f : Env) (a b : List Value) → Agree e f xs → AgreeIn a b cs → m e a ≡ m f b
 
 abbrev KindClaim : RExprKind → Type 0
@@ -54,7 +54,7 @@ bare y = map-RExprKind InnerKind Inner RExprKind RExpr (λ p. p.0) (λ p. p.0) y
 kind_same : (y : RExprKind-F InnerKind Inner)
     → Same (kind_variables (map-RExprKind RExprKind RExpr (List ℕ) (List ℕ) kinds_variables variables (bare y)))
     (kind_columns (map-RExprKind RExprKind RExpr (List ℕ) (List ℕ) kinds_columns columns_in (bare y)))
-    (kind_step (map-RExprKind RExprKind RExpr Meaning Meaning kinds_value value_of (bare y)))
+    (kind_step (map-RExprKind RExprKind RExpr Evaluation Evaluation kinds_value value_of (bare y)))
 kind_same (kind.Const v) e f a b h k = refl
 kind_same (kind.Var x) e f a b h k = ap (λ g. Ok (scalar_in g)) h.0
 kind_same (kind.Field x c) e f a b h k = ap (λ g. Ok (column_of (turn_in g) c)) h.0
@@ -65,7 +65,7 @@ kind_same (kind.Two op x y) e f a b h k =
     let ks = each_both (λ c. column_of a c ≡ column_of b c) (columns_in x.0) (columns_in y.0) k in
     ap (λ r. two_of op r (value_of y.0 e a)) (x.1 e f a b hs.0 ks.0) ∙ ap (two_of op (value_of x.0 f b)) (y.1 e f a b hs.1 ks.1)
 
-same_by : (xs ys cs ds : List ℕ) (m n : Meaning) → xs ≡ ys → cs ≡ ds → m ≡ n → Same ys ds n → Same xs cs m
+same_by : (xs ys cs ds : List ℕ) (m n : Evaluation) → xs ≡ ys → cs ≡ ds → m ≡ n → Same ys ds n → Same xs cs m
 same_by xs ys cs ds m n p q r h = subst (λ xs. Same xs cs m) (sym p) (subst (λ cs. Same ys cs m) (sym q) (subst (λ m. Same ys ds m) (sym r) h))
 
 kind_rolled : (x : RExprKind-F RExprKind RExpr) (y : RExprKind-F InnerKind Inner) → bare y ≡ x → KindClaim (roll-RExprKind x)
@@ -73,14 +73,14 @@ kind_rolled x y is =
     let d = bare y in
     subst (λ z. KindClaim (roll-RExprKind z)) is
     (same_by (kinds_variables (roll-RExprKind d)) _ (kinds_columns (roll-RExprKind d)) _ (kinds_value (roll-RExprKind d)) _ (fold-roll-RExprKind (List ℕ) (List ℕ) kind_variables (λ e. e.kind) d)
-    (fold-roll-RExprKind (List ℕ) (List ℕ) kind_columns (λ e. e.kind) d) (fold-roll-RExprKind Meaning Meaning kind_step expr_step d) (kind_same y))
+    (fold-roll-RExprKind (List ℕ) (List ℕ) kind_columns (λ e. e.kind) d) (fold-roll-RExprKind Evaluation Evaluation kind_step expr_step d) (kind_same y))
 
 expr_rolled : (x : RExpr-F RExprKind RExpr) (y : RExpr-F InnerKind Inner) → map-RExpr InnerKind Inner RExprKind RExpr (λ p. p.0) (λ p. p.0) y ≡ x → ExprClaim (roll-RExpr x)
 expr_rolled x y is =
     let d = map-RExpr InnerKind Inner RExprKind RExpr (λ p. p.0) (λ p. p.0) y in
     subst (λ z. ExprClaim (roll-RExpr z)) is
     (same_by (variables (roll-RExpr d)) _ (columns_in (roll-RExpr d)) _ (value_of (roll-RExpr d)) _ (fold-roll-RExpr (List ℕ) (List ℕ) kind_variables (λ e. e.kind) d)
-    (fold-roll-RExpr (List ℕ) (List ℕ) kind_columns (λ e. e.kind) d) (fold-roll-RExpr Meaning Meaning kind_step expr_step d) y.kind.1)
+    (fold-roll-RExpr (List ℕ) (List ℕ) kind_columns (λ e. e.kind) d) (fold-roll-RExpr Evaluation Evaluation kind_step expr_step d) y.kind.1)
 
 pub value_same : (x : RExpr) → ExprClaim x
 value_same = ind-RExpr KindClaim ExprClaim kind_rolled expr_rolled

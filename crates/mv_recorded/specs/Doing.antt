@@ -23,7 +23,7 @@ use Rattle.mv_alone.specs.Value.{value_of, values_of, is_so}
 use Rattle.mv_alone.specs.Rows.{checks_of}
 use Rattle.mv_alone.specs.Changes.{new_row, set_row}
 use Rattle.mv_alone.specs.Line.{line_of}
-use Rattle.mv_alone.specs.Alone.{matches, fixed, is_turn, assign, select, sum_up, insert, update, delete, print}
+use Rattle.mv_alone.specs.Alone.{matching_in, fixed, is_turn, assign, select, sum_up, insert, update, delete, print}
 use Rattle.mv_record.specs.declared.record.Slot.{Slot}
 use Rattle.mv_record.specs.declared.effect.Effect.{Effect}
 use Rattle.mv_recorded.specs.Reading.{each_once}
@@ -31,7 +31,7 @@ use Rattle.mv_recorded.specs.Asking.{on, preds_of}
 
 -- the rows that a FOR iterates over
 abbrev pub fixed_rows : {X : Type 0} → RStmt-F X → State → Result (List (List Value)) End
-fixed_rows (ForSelect x once cs t conds sorts body) st = then_do (checks_of conds st.env) (λ checks. Ok (fixed once cs sorts (matches t checks st)))
+fixed_rows (ForSelect x once cs t conds sorts body) st = then_do (checks_of conds st.env) (λ checks. Ok (fixed once cs sorts (matching_in t checks st)))
 fixed_rows (ForRows x y body) st = Ok (turns_at st.env y)
 fixed_rows s st = Ok []
 
@@ -95,8 +95,8 @@ abbrev pub write : ℕ → List Value → Patch → Write
 write t key p = record { table = t; key = key; patch = p }
 
 -- the columns of SET, with their values in the row after it
-abbrev pub changed : List RSetItem → List Value → Patch
-changed items row = patch.Set (map (λ i. record { column = i.column; value = column_of row i.column }) items)
+abbrev pub set_patch : List RSetItem → List Value → Patch
+set_patch items row = patch.Set (map (λ i. record { column = i.column; value = column_of row i.column }) items)
 
 -- the writes of a statement that doesn't fault, in key order
 abbrev pub writes_of : {X : Type 0} → List TableInfo → RStmt-F X → State → List Write
@@ -104,9 +104,9 @@ writes_of tables (Insert t es) st =
     on (new_row (columns_at tables t) es st.env) (λ row. write t (columns_of row (key_columns tables t)) (patch.Insert row) ∷ [])
 writes_of tables (Update t items conds) st =
     on (checks_of conds st.env) (λ checks. flat_map (λ item.
-    on (set_row (columns_at tables t) (key_columns tables t) st.env item.row items item.row) (λ row. write t item.key (changed items row) ∷ []))
-    (matches t checks st))
-writes_of tables (Delete t conds) st = on (checks_of conds st.env) (λ checks. map (λ item. write t item.key patch.Delete) (matches t checks st))
+    on (set_row (columns_at tables t) (key_columns tables t) st.env item.row items item.row) (λ row. write t item.key (set_patch items row) ∷ []))
+    (matching_in t checks st))
+writes_of tables (Delete t conds) st = on (checks_of conds st.env) (λ checks. map (λ item. write t item.key patch.Delete) (matching_in t checks st))
 writes_of tables s st = []
 
 -- the line of a PRINT

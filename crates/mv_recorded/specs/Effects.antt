@@ -19,13 +19,13 @@ use Rattle.mv_alone.specs.Outcome.{then_do}
 use Rattle.mv_alone.specs.declared.state.Env.{Env}
 use Rattle.mv_alone.specs.Env.{scalar_at, with_found}
 use Rattle.mv_alone.specs.Value.{number}
-use Rattle.mv_alone.specs.Alone.{offset_of, taken, totalled, is_turn}
+use Rattle.mv_alone.specs.Alone.{offset_of, with_selected, totalled, is_turn}
 use Rattle.mv_alone.specs.Rows.{checks_of}
 use Rattle.mv_alone.specs.Changes.{set_row, keyed}
 use Rattle.mv_record.specs.declared.record.Slot.{Slot}
 use Rattle.mv_recorded.specs.Asking.{pred_of}
 use Rattle.mv_recorded.specs.Reading.{each_once}
-use Rattle.mv_recorded.specs.Doing.{effect_of, when, write, changed}
+use Rattle.mv_recorded.specs.Doing.{effect_of, when, write, set_patch}
 use Rattle.mv_record.specs.declared.effect.Effect.{Effect}
 
 -- the effect of the statement with these variables on a database, whatever lines come before it
@@ -73,7 +73,7 @@ row_number offset env = then_do (offset_of offset env) (λ v. Ok (number v))
 
 -- a statement after its query that takes this row
 abbrev pub taking : Pred → List ℕ → List ℕ → Option Keyed → Env → Effect
-taking pred cs xs item env = record (only_asks pred) { sets = slots_behind (taken cs xs item env) (when (is_some item) (each_once xs) ++ env.found ∷ []) }
+taking pred cs xs item env = record (only_asks pred) { sets = slots_behind (with_selected cs xs item env) (when (is_some item) (each_once xs) ++ env.found ∷ []) }
 
 -- a statement after its query that stores this aggregate
 abbrev pub totalling : Pred → ℕ → Option Value → Bool → Env → Effect
@@ -90,7 +90,7 @@ writing pred found ws env = record (only_asks pred) { sets = slots_behind (with_
 -- the writes of SET to rows, or the first fault
 abbrev pub changes : ℕ → List RSetItem → (List Value → Result (List Value) End) → List Keyed → Result (List Write) End
 changes t items new [] = Ok []
-changes t items new (item ∷ rest) = then_do (new item.row) (λ row. then_do (changes t items new rest) (λ ws. Ok (write t item.key (changed items row) ∷ ws)))
+changes t items new (item ∷ rest) = then_do (new item.row) (λ row. then_do (changes t items new rest) (λ ws. Ok (write t item.key (set_patch items row) ∷ ws)))
 
 -- a row of a table after SET
 abbrev pub new_of : List TableInfo → ℕ → Env → List RSetItem → List Value → Result (List Value) End

@@ -194,8 +194,8 @@ looked = record (blank 2) { reads = reads 3 0 ∷ [] }
 abbrev pub rolled_back : Record
 rolled_back = record (blank 3) { parent = Some 1; end = Some (Own no_funds) }
 
-abbrev pub taken : Record
-taken = record (blank 4) { preds = asks 1 (1 ∷ []); sets = sets 4 1 ∷ []; writes = writes_balance 1 90 }
+abbrev pub debited : Record
+debited = record (blank 4) { preds = asks 1 (1 ∷ []); sets = sets 4 1 ∷ []; writes = writes_balance 1 90 }
 
 abbrev pub given : Record
 given = record (blank 5) { preds = asks 2 (1 ∷ []); sets = sets 4 1 ∷ []; writes = writes_balance 2 110 }
@@ -205,7 +205,7 @@ fee_taken = record (blank 6) { preds = asks 0 (1 ∷ []); sets = sets 4 1 ∷ []
 
 -- the statements in the IF aren't executed, but they count in the numbers of the statements after it
 abbrev pub Transfers : Type 0
-Transfers = recorded acc transfer (call_transfer 10) bank ≡ read_first ∷ looked ∷ taken ∷ given ∷ fee_taken ∷ []
+Transfers = recorded acc transfer (call_transfer 10) bank ≡ read_first ∷ looked ∷ debited ∷ given ∷ fee_taken ∷ []
 
 -- no record follows the ROLLBACK; an IF adds nothing to the paths of the statements in it
 abbrev pub TransferRollsBack : Type 0

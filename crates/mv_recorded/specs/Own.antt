@@ -150,7 +150,7 @@ ParentHolds before None turns = turns ≡ []
 ParentHolds before (Some p) turns = (r : Record) × (slice_get before p ≡ Some r) × GoesOn r.spot.turns turns
 
 -- the state is one at the site, after these records
-pub record Here (g : Ground) (site : Site) (rows : List ℕ) (before : List Record) (st : State) : Type 0 where
+pub record IsAtSite (g : Ground) (site : Site) (rows : List ℕ) (before : List Record) (st : State) : Type 0 where
   pub told : Told g before st
   pub around : map (λ l. l.row) site.loops ≡ rows
   pub high : Each (λ x. g.base ≤ x) rows
@@ -169,7 +169,7 @@ pub record IsOwn (g : Ground) (before : List Record) (r : Record) : Type 0 where
   pub st : State
   pub stands : StandsAt g.text n (s ∷ [])
   pub suits : Suits g.tables g.params g.base s
-  pub here : Here g site s.rows before st
+  pub here : IsAtSite g site s.rows before st
   pub is : r ≡ own_record g.tables g.params s.it n site before st
 
 abbrev pub AllOwn : Ground → List Record → List Record → Type 0

@@ -18,7 +18,7 @@ use Rattle.mv_alone.specs.Value.{value_of, is_so}
 use Rattle.mv_alone.specs.Alone.{Does, alone, does, is_turn}
 use Rattle.mv_alone.specs.TableAfter.{Tables, begun, reply_in, tables_left}
 use Rattle.mv_record.specs.declared.record.Record.{Record}
-use Rattle.mv_record.specs.Runs.{Meaning}
+use Rattle.mv_record.specs.Runs.{Behavior}
 use Rattle.mv_record.specs.Effects.{record_of}
 use Rattle.mv_recorded.specs.Reading.{Loop, expressions, reads_of}
 use Rattle.mv_recorded.specs.Asking.{on}
@@ -98,8 +98,8 @@ abbrev pub tell : List TableInfo → ℕ → RStmt → Tells
 tell tables params = para-RStmt Tells (tell_step tables params)
 
 -- the records of a list of statements
-abbrev pub told : List TableInfo → ℕ → List RStmt → Tells
-told tables params ss = tell_all tables (map (λ s. (s, tell tables params s)) ss)
+abbrev pub tell_statements : List TableInfo → ℕ → List RStmt → Tells
+tell_statements tables params ss = tell_all tables (map (λ s. (s, tell tables params s)) ss)
 
 -- the site outside all statements
 abbrev pub outside : Site
@@ -107,7 +107,7 @@ outside = record { parent = None; loops = []; turns = [] }
 
 -- the records of a full run of a call of a procedure on a database
 abbrev pub recorded : List TableInfo → ProcInfo → Call → Tables → List Record
-recorded tables proc call db = told tables (length call.arguments) proc.body 1 outside [] (begun proc call db)
+recorded tables proc call db = tell_statements tables (length call.arguments) proc.body 1 outside [] (begun proc call db)
 
 -- the records of a call on a database; none if the procedure doesn't exist
 abbrev pub records_in : Program → Option ProcInfo → Call → Tables → List Record
@@ -123,7 +123,7 @@ records p c db = records_at p (slice_get p.resolved.calls c) db
 
 -- the results of the calls of a procedure: these records, and the reply and the database of the machine that runs the
 -- call alone
-abbrev pub meaning : List TableInfo → ProcInfo → Meaning
+abbrev pub meaning : List TableInfo → ProcInfo → Behavior
 meaning tables proc call db =
     let outcome : Result State End = alone tables proc.body (begun proc call db) in
     record { records = recorded tables proc call db; reply = reply_in outcome; tables = tables_left db outcome }

@@ -18,7 +18,7 @@ use Rattle.mv_history.specs.Kept.{Path, Placed, with_paths, is_path, among, othe
 use Rattle.mv_alike.proofs.Keeping.{Climbs, among_new}
 use Rattle.mv_alike.proofs.Placing.{apart}
 use Rattle.mv_repair.specs.declared.walk.OldRun.{OldRun}
-use Rattle.mv_repair.specs.Walking.{any_write, noted, hollow, is_before, hits_in, writes_of, taken, next_writes, noted_next, AreKnown, HasAdded, IsOld, HasPassed, writes_at}
+use Rattle.mv_repair.specs.Walking.{any_write, noted, hollow, is_before, hits_in, writes_of, without_next, next_writes, noted_next, AreKnown, HasAdded, IsOld, HasPassed, writes_at}
 use Rattle.mv_recorded.proofs.Inverting.{each_join}
 use Rattle.mv_alike.proofs.Lasting.{each_map}
 use Rattle.mv_repair.proofs.Lists.{first_dropped, none_dropped, next_dropped, set_dropped, writes_apart}
@@ -151,7 +151,7 @@ climbs_at : (os xs : List Record) (passed : List Placed) (o : Placed) (cs : List
 climbs_at os xs passed o cs climbs is = (climbs_around passed o cs (subst Climbs is climbs)).1
 
 pub old_kept : (changes : List Change) (os : List Record) (kept : List Path) (b : Placed) (more : List Placed) (old : OldRun) (o : Placed) (cs : List Placed) → Climbs (with_paths os)
-    → (h : IsOld changes os kept (b ∷ more) old) → h.coming ≡ o ∷ cs → o.path ≡ b.path → Each (λ (c : Placed). IsEarlierPath b.path c.path) more → IsOld changes os (kept ++ b.path ∷ []) more (taken old)
+    → (h : IsOld changes os kept (b ∷ more) old) → h.coming ≡ o ∷ cs → o.path ≡ b.path → Each (λ (c : Placed). IsEarlierPath b.path c.path) more → IsOld changes os (kept ++ b.path ∷ []) more (without_next old)
 old_kept changes os kept b more old o cs climbs h e same later =
     let records : drop old.at old.records ≡ o.it ∷ its cs = h.records ∙ ap its e in
     let is : with_paths os ≡ h.passed ++ o ∷ cs = h.split ∙ ap (λ l. h.passed ++ l) e in

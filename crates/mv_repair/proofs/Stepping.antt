@@ -22,7 +22,7 @@ use Rattle.mv_graph.specs.declared.graph.Graph.{Graph}
 use Rattle.mv_graph.specs.Nodes.{meaning_of}
 use Rattle.mv_exec.specs.declared.task.Ahead.{Ahead}
 use Rattle.mv_exec.specs.declared.task.Task.{Task}
-use Rattle.mv_exec.specs.Running.{IsTaskOf, IsTaskOn, IsSameCall, IsSameCallOn, Leaves, Foresees, IsNext, HasContent, HasRun}
+use Rattle.mv_exec.specs.Running.{IsTaskOf, IsTaskOn, IsSameCall, IsSameCallOn, Leaves, Foresees, IsAhead, HasContent, HasRun}
 use Rattle.mv_exec.proofs.Adding.{first_same}
 use Rattle.mv_exec.proofs.Fronts.{fewer_left}
 use Rattle.mv_history.specs.declared.change.Change.{Change}
@@ -67,7 +67,7 @@ pub record Comes (g : Graph) (changes : List Change) (db : Tables) (os : List Re
   pub early : IsEarlier (length task.records) r.parent
   pub early_reads : ReadsEarlier (length task.records) r.reads
 
-pub comes : (g : Graph) (changes : List Change) (db : Tables) (os : List Record) (task : Task) (old : OldRun) (new : NewRun) (u : IsUnderway g changes db os task old new) (ahead : Ahead) (p : Path) → IsNext g task (Some ahead)
+pub comes : (g : Graph) (changes : List Change) (db : Tables) (os : List Record) (task : Task) (old : OldRun) (new : NewRun) (u : IsUnderway g changes db os task old new) (ahead : Ahead) (p : Path) → IsAhead g task (Some ahead)
     → p ≡ path_behind task.records ahead.spot ahead.parent → Comes g changes db os task old new u ahead p
 comes g changes db os task old new u ahead p next is = by u.left refl (next u.call db u.left u.is u.runs.new_is.rising u.leaves)
   where
@@ -287,10 +287,10 @@ alike g changes db os task old new u ahead p c o found h =
 -- What the walk decides
 
 -- the keys of the others are known
-pub known_old : (g : Graph) (db : Tables) (task : Task) (old mid : OldRun) (new : NewRun) (o : Option Ahead) (ahead : Ahead) (p q : Path) (rs : List Record) → IsOnWay g db task old new → IsNext g task o → o ≡ Some ahead
+pub known_old : (g : Graph) (db : Tables) (task : Task) (old mid : OldRun) (new : NewRun) (o : Option Ahead) (ahead : Ahead) (p q : Path) (rs : List Record) → IsOnWay g db task old new → IsAhead g task o → o ≡ Some ahead
     → rs ≡ task.records → p ≡ path_behind rs ahead.spot ahead.parent → q ≡ p → HasPassed old q mid → is_before (slice_get mid.paths mid.at) q ≡ false → AreKnown mid.keys (writes_at mid.records mid.others)
 known_old g db task old mid new o ahead p q rs w next some first path second passed stops =
-    let c = comes g w.changes db w.os task old new w.underway ahead p (subst (IsNext g task) some next) (subst (λ (xs : List Record). p ≡ path_behind xs ahead.spot ahead.parent) first path) in
+    let c = comes g w.changes db w.os task old new w.underway ahead p (subst (IsAhead g task) some next) (subst (λ (xs : List Record). p ≡ path_behind xs ahead.spot ahead.parent) first path) in
     (decides g w.changes db w.os task old mid new w.underway ahead p c (subst (λ (x : Path). HasPassed old x mid) second passed) (subst (λ (x : Path). is_before (slice_get mid.paths mid.at) x ≡ false) second stops)).beside.known
 
 pub known_new : (g : Graph) (db : Tables) (task : Task) (old : OldRun) (new now : NewRun) (rs : List Record) → IsOnWay g db task old new → HasCaughtUp task.records new now → rs ≡ task.records → AreKnown now.keys (writes_at rs now.others)
@@ -301,18 +301,18 @@ known_new g db task old new now rs w k is =
 
 -- the old run was passed up to the path of the next record, and the walk has decided whether that record stays
 pub record HasDecided (g : Graph) (task : Task) (old mid : OldRun) (new : NewRun) (ahead : Ahead) (p : Path) (b : Bool) : Type 0 where
-  pub next : IsNext g task (Some ahead)
+  pub next : IsAhead g task (Some ahead)
   pub path : p ≡ path_behind task.records ahead.spot ahead.parent
   pub passed : HasPassed old p mid
   pub stops : is_before (slice_get mid.paths mid.at) p ≡ false
   pub stays : stays_at mid new task.records ahead p ≡ b
 
 -- the same of what `step` has
-pub has_decided : (g : Graph) (task : Task) (old mid : OldRun) (new : NewRun) (o : Option Ahead) (ahead : Ahead) (p q u : Path) (rs ss : List Record) (r b : Bool) → IsNext g task o → o ≡ Some ahead
+pub has_decided : (g : Graph) (task : Task) (old mid : OldRun) (new : NewRun) (o : Option Ahead) (ahead : Ahead) (p q u : Path) (rs ss : List Record) (r b : Bool) → IsAhead g task o → o ≡ Some ahead
     → rs ≡ task.records → p ≡ path_behind rs ahead.spot ahead.parent → q ≡ p → HasPassed old q mid → is_before (slice_get mid.paths mid.at) q ≡ false
     → ss ≡ task.records → u ≡ p → r ≡ stays_at mid new ss ahead u → r ≡ b → HasDecided g task old mid new ahead p b
 has_decided g task old mid new o ahead p q u rs ss r b next some first path second passed stops third fourth stays is = record {
-  next = subst (IsNext g task) some next;
+  next = subst (IsAhead g task) some next;
   path = subst (λ (xs : List Record). p ≡ path_behind xs ahead.spot ahead.parent) first path;
   passed = subst (λ (x : Path). HasPassed old x mid) second passed;
   stops = subst (λ (x : Path). is_before (slice_get mid.paths mid.at) x ≡ false) second stops;

@@ -153,8 +153,8 @@ stays_at old new ns ahead p = is_there (slice_get old.paths old.at) p && next_st
 -- How the walk goes on
 
 -- the next record was taken out of the old run
-abbrev pub taken : OldRun → OldRun
-taken old = record old { records = slice_set old.records old.at hollow; at = old.at + 1 }
+abbrev pub without_next : OldRun → OldRun
+without_next old = record old { records = slice_set old.records old.at hollow; at = old.at + 1 }
 
 -- the writes of the next record of the old run
 abbrev pub next_writes : OldRun → List Write
@@ -246,7 +246,7 @@ pub record HasCaughtUp (ns : List Record) (old new : NewRun) : Type 0 where
 pub record HasKept (g : Graph) (task : Task) (old : OldRun) (new : NewRun) (path : Path) (task' : Task) (old' : OldRun) (new' : NewRun) : Type 0 where
   pub given : Record
   pub there : slice_get old.records old.at ≡ Some given
-  pub old_is : old' ≡ taken old
+  pub old_is : old' ≡ without_next old
   pub new_is : new' ≡ added path (Some old.at) new
   pub adopted : HasAdopted g task given task'
   pub goes_on : GoesOnWith g task given task'

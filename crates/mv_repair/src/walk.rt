@@ -2,7 +2,7 @@
 
 ghost use Rattle.std.specs.Prelude.{◌≡◌, ◌<◌, ◌≤◌, ◌&&◌, ◌||◌, not, ◌+◌, ◌++◌, ◌∷◌, [], ℕ, List as Seq, None, Some, true, false, length, slice_get, IsSome, IfOk, OnOk};
 ghost use Rattle.std.specs.Option.{option_copied};
-ghost use Rattle.mv_repair.specs.Walking.{any_write, writes_of, noted, hollow, is_before, is_there, is_kept_by, kept_as, next_stays, reads_by, same_definer, stays_at, is_touched, next_writes, noted_next, writes_at, taken, added, renewed, AreFirst, AreKnown, HasAdded, HasCaughtUp, HasPassed};
+ghost use Rattle.mv_repair.specs.Walking.{any_write, writes_of, noted, hollow, is_before, is_there, is_kept_by, kept_as, next_stays, reads_by, same_definer, stays_at, is_touched, next_writes, noted_next, writes_at, without_next, added, renewed, AreFirst, AreKnown, HasAdded, HasCaughtUp, HasPassed};
 
 use crate::paths::{Path, is_earlier, is_path, item};
 use crate::touch::{add_keys, is_touched, writes_of};
@@ -144,7 +144,7 @@ impl OldRun {
     /// Takes the next record out, if there is one.
     pub(crate) fn take(&mut self, alloc: Global) -> Option<Record>
         ensures record { result ≡ slice_get self.old.records self.old.at }
-        ensures old { IsSome result → self.new ≡ taken self.old }
+        ensures old { IsSome result → self.new ≡ without_next self.old }
     {
         if self.at >= self.records.len() {
             return None;

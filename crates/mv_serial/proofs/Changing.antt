@@ -14,7 +14,7 @@ use Rattle.mv_values.specs.Tables.{rows_at}
 use Rattle.mv_values.proofs.KeyOrder.{exact_keys}
 use Rattle.mv_record.proofs.Patching.{rows_same, row_of-placed_same, placed_other, rising_placed}
 use Rattle.mv_serial.specs.declared.change.Change.{Change}
-use Rattle.mv_serial.specs.Changing.{changed, changed_by, KeepsUndo}
+use Rattle.mv_serial.specs.Changing.{changed_in, changed_by, KeepsUndo}
 
 abbrev pub Tables : Type 0
 Tables = List (List Keyed)
@@ -55,7 +55,7 @@ changed_again db t rows key row =
 
 -- a change is taken back by the row that was there
 pub taken_back : (t : ℕ) (key : List Value) (row was : Option (List Value)) (db new : Tables) → IsRising (rows_at db t) → new ≡ slice_set db t (placed key row (rows_at db t)) → was ≡ row_of (rows_at db t) key
-    → changed (record { table = t; key = key; row = was }) new ≡ db
+    → changed_in (record { table = t; key = key; row = was }) new ≡ db
 taken_back t key row was db new rising is before =
     ap (λ (d : Tables). slice_set d t (placed key was (rows_at d t))) is
     ∙ (changed_again db t (placed key row (rows_at db t)) key was
@@ -63,10 +63,10 @@ taken_back t key row was db new rising is before =
     ∙ (ap (slice_set db t) (placed_back (rows_at db t) key row rising) ∙ set-get_or db t [])))
 
 -- the last of changes is made first
-pub changed_last : (cs : List Change) (c : Change) (db : Tables) → changed_by (cs ++ c ∷ []) db ≡ changed_by cs (changed c db)
+pub changed_last : (cs : List Change) (c : Change) (db : Tables) → changed_by (cs ++ c ∷ []) db ≡ changed_by cs (changed_in c db)
 changed_last [] c db = refl
-changed_last (d ∷ cs) c db = ap (changed d) (changed_last cs c db)
+changed_last (d ∷ cs) c db = ap (changed_in d) (changed_last cs c db)
 
 -- a change that takes back what was done is remembered
-pub keeps : (us : List Change) (u : Change) (db new : Tables) → changed u new ≡ db → KeepsUndo us db (us ++ u ∷ []) new
+pub keeps : (us : List Change) (u : Change) (db new : Tables) → changed_in u new ≡ db → KeepsUndo us db (us ++ u ∷ []) new
 keeps us u db new back = changed_last us u new ∙ ap (changed_by us) back

@@ -14,7 +14,7 @@ use Rattle.mv_alone.specs.Outcome.{then_do, Fails}
 use Rattle.mv_alone.specs.Env.{with_found}
 use Rattle.mv_alone.specs.Rows.{checks_of, is_some_row}
 use Rattle.mv_alone.specs.Changes.{set_row, updated, without}
-use Rattle.mv_alone.specs.Alone.{update, delete, matches, with_rows}
+use Rattle.mv_alone.specs.Alone.{update, delete, matching_in, with_rows}
 use Rattle.mv_serial.proofs.Changing.{Tables}
 
 -- the database with the rows that a table gets
@@ -38,20 +38,20 @@ abbrev pub updated_at : List TableInfo → ℕ → List RSetItem → List Check 
 updated_at tables t items checks st = updated (λ row. set_row (columns_at tables t) (key_columns tables t) st.env row items row) checks (rows_at st.tables t)
 
 update_on : (tables : List TableInfo) (t : ℕ) (items : List RSetItem) (conds : List RCond) (st : State) (checks : List Check) → checks_of conds st.env ≡ Ok checks
-    → update tables t items conds st ≡ then_do (updated_at tables t items checks st) (λ rows. Ok (with_rows t rows (is_some_row (matches t checks st)) st))
+    → update tables t items conds st ≡ then_do (updated_at tables t items checks st) (λ rows. Ok (with_rows t rows (is_some_row (matching_in t checks st)) st))
 update_on tables t items conds st checks h = rw h refl
 
 pub update_ok : (tables : List TableInfo) (t : ℕ) (items : List RSetItem) (conds : List RCond) (st : State) (checks : List Check) (new : Tables) → checks_of conds st.env ≡ Ok checks
     → table_with st.tables t (updated_at tables t items checks st) ≡ Ok new
-    → update tables t items conds st ≡ Ok (record st { env = with_found st.env (is_some_row (matches t checks st)); tables = new })
-update_ok tables t items conds st checks new h k = update_on tables t items conds st checks h ∙ state_made (updated_at tables t items checks st) t (is_some_row (matches t checks st)) st new k
+    → update tables t items conds st ≡ Ok (record st { env = with_found st.env (is_some_row (matching_in t checks st)); tables = new })
+update_ok tables t items conds st checks new h k = update_on tables t items conds st checks h ∙ state_made (updated_at tables t items checks st) t (is_some_row (matching_in t checks st)) st new k
 
 pub update_fails : (tables : List TableInfo) (t : ℕ) (items : List RSetItem) (conds : List RCond) (st : State) (checks : List Check) (s : Stop) → checks_of conds st.env ≡ Ok checks
     → Fails s (table_with st.tables t (updated_at tables t items checks st)) → Fails s (update tables t items conds st)
 update_fails tables t items conds st checks Memory h k = tt
 update_fails tables t items conds st checks (Ended e) h k =
-    update_on tables t items conds st checks h ∙ state_failed (updated_at tables t items checks st) st.tables t (λ rows. Ok (with_rows t rows (is_some_row (matches t checks st)) st)) e k
+    update_on tables t items conds st checks h ∙ state_failed (updated_at tables t items checks st) st.tables t (λ rows. Ok (with_rows t rows (is_some_row (matching_in t checks st)) st)) e k
 
 pub delete_ok : (t : ℕ) (conds : List RCond) (st : State) (checks : List Check) (new : Tables) → checks_of conds st.env ≡ Ok checks → new ≡ slice_set st.tables t (without checks (rows_at st.tables t))
-    → delete t conds st ≡ Ok (record st { env = with_found st.env (is_some_row (matches t checks st)); tables = new })
-delete_ok t conds st checks new h is = rw h (ap (λ (d : Tables). Ok (record st { env = with_found st.env (is_some_row (matches t checks st)); tables = d })) (sym is))
+    → delete t conds st ≡ Ok (record st { env = with_found st.env (is_some_row (matching_in t checks st)); tables = new })
+delete_ok t conds st checks new h is = rw h (ap (λ (d : Tables). Ok (record st { env = with_found st.env (is_some_row (matching_in t checks st)); tables = d })) (sym is))

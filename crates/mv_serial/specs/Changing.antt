@@ -11,13 +11,13 @@ use Rattle.mv_alone.specs.declared.state.Stop.{Stop}
 use Rattle.mv_alone.specs.declared.state.Stop.TheVariants.{Memory, Ended}
 
 -- the database after a change
-abbrev pub changed : Change → List (List Keyed) → List (List Keyed)
-changed c db = slice_set db c.table (placed c.key c.row (rows_at db c.table))
+abbrev pub changed_in : Change → List (List Keyed) → List (List Keyed)
+changed_in c db = slice_set db c.table (placed c.key c.row (rows_at db c.table))
 
 -- the database after changes, the last of which is made first
 abbrev pub changed_by : List Change → List (List Keyed) → List (List Keyed)
 changed_by [] db = db
-changed_by (c ∷ cs) db = changed c (changed_by cs db)
+changed_by (c ∷ cs) db = changed_in c (changed_by cs db)
 
 -- the changes that make rows anew, up to the first fault
 abbrev pub renewals : ℕ → (List Value → Result (List Value) End) → List Keyed → Result (List Change) End

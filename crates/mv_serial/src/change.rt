@@ -4,7 +4,7 @@ ghost use Rattle.std.specs.Prelude.{◌≡◌, [], Some, slice_set, IfOk, OnOk};
 ghost use Rattle.mv_values.specs.Keys.{IsRising};
 ghost use Rattle.mv_values.specs.Patching.{row_of, placed};
 ghost use Rattle.mv_values.specs.Tables.{rows_at};
-ghost use Rattle.mv_serial.specs.Changing.{changed, changed_by, KeepsUndo};
+ghost use Rattle.mv_serial.specs.Changing.{changed_in, changed_by, KeepsUndo};
 
 use mv_table::table::{Table, Tables};
 use mv_values::copied::Copied;
@@ -77,8 +77,8 @@ fn set_row(
 
 /// Makes a change, and returns the one that undoes it. Takes logarithmic time.
 fn make(alloc: Global, tables: &mut Tables, change: Change) -> Result<Change, NoMemory>
-    ensures tables { OnOk result (tables.new ≡ changed change tables.old) }
-    ensures back { IfOk result (λ back. changed back tables.new ≡ tables.old) }
+    ensures tables { OnOk result (tables.new ≡ changed_in change tables.old) }
+    ensures back { IfOk result (λ back. changed_in back tables.new ≡ tables.old) }
 {
     let Change { table, key, row } = change;
     let mut rows = take_table(alloc, tables, table);
@@ -98,7 +98,7 @@ pub(crate) fn add(
     ensures rising { IsRising (rows_at tables.old table) }
     ensures tables { OnOk result (tables.new ≡ slice_set tables.old table (placed item.key (Some item.row) (rows_at tables.old table))) }
     ensures was { IfOk result (λ back. back.row ≡ row_of (rows_at tables.old table) item.key) }
-    ensures back { IfOk result (λ back. changed back tables.new ≡ tables.old) }
+    ensures back { IfOk result (λ back. changed_in back tables.new ≡ tables.old) }
 {
     let Keyed { key, row } = item;
     let mut rows = take_table(alloc, tables, table);

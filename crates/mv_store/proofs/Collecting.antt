@@ -7,11 +7,11 @@ use Rattle.std.proofs.lemmas.Bool.{ne_eqb}
 use Rattle.std.proofs.lemmas.List.Elements.{All-head, All-tail, All-weaker, All-filter, filter_passes}
 use Rattle.mv_values.specs.declared.value.Value.{Value}
 use Rattle.mv_chain.specs.declared.pending.Pending.{Pending}
-use Rattle.mv_chain.specs.Versions.{Versions, Commit, IsNext, own_of, collected, row_after, row_at}
+use Rattle.mv_chain.specs.Versions.{Versions, Commit, IsAboveAll, own_of, collected, row_after, row_at}
 use Rattle.mv_store.specs.Stored.{Entries}
 use Rattle.mv_store.specs.declared.spots.Written.{Written}
 use Rattle.mv_store.specs.declared.change.Change.TheVariants.{Collect}
-use Rattle.mv_store.specs.Kept.{versions_at, Noted, is_spot, is_due, spots_of, HasSpot, HasEntry, Climb, IsKept, changed, KeepsRows, done_at, AreDone, AreCollected}
+use Rattle.mv_store.specs.Kept.{versions_at, Noted, is_spot, is_due, spots_of, HasSpot, HasEntry, Climb, IsKept, after_change, KeepsRows, done_at, AreDone, AreCollected}
 use Rattle.mv_store.proofs.Noted.{entry_rest, climb_from, none_due}
 use Rattle.mv_store.proofs.Done.{done_hit, done_miss, rows_then}
 
@@ -56,14 +56,14 @@ pub none_collected : (low : ℕ) (old : List Entries) → IsUnderway low old old
 none_collected low old = record { size = refl; same = λ u key. refl; rows = λ u key n le. refl }
 
 -- the keys of the first commit are collected
-module _ (low : ℕ) (now new : List Entries) (w : Written) (done : AreDone (changed (Collect low)) w.spots now new) where
+module _ (low : ℕ) (now new : List Entries) (w : Written) (done : AreDone (after_change (Collect low)) w.spots now new) where
   -- versions of these keys are collected, and all others are unchanged
   here : (u : ℕ) (key : List Value) → versions_at new u key ≡ cond (list_any (is_spot u key) w.spots) (collected low (versions_at now u key)) (versions_at now u key)
   here u key = done.at u key ∙ by (list_any (is_spot u key) w.spots) refl
     where
-      by : (b : Bool) → list_any (is_spot u key) w.spots ≡ b → ◌≡◌ {A = Versions} (done_at (changed (Collect low)) w.spots u key (versions_at now u key)) (cond b (collected low (versions_at now u key)) (versions_at now u key))
-      by true e = done_hit (changed (Collect low)) w.spots u key (versions_at now u key) (collected_twice low (versions_at now u key)) e
-      by false e = done_miss (changed (Collect low)) w.spots u key (versions_at now u key) e
+      by : (b : Bool) → list_any (is_spot u key) w.spots ≡ b → ◌≡◌ {A = Versions} (done_at (after_change (Collect low)) w.spots u key (versions_at now u key)) (cond b (collected low (versions_at now u key)) (versions_at now u key))
+      by true e = done_hit (after_change (Collect low)) w.spots u key (versions_at now u key) (collected_twice low (versions_at now u key)) e
+      by false e = done_miss (after_change (Collect low)) w.spots u key (versions_at now u key) e
 
   same_then : (u : ℕ) (key : List Value) → collected low (versions_at new u key) ≡ collected low (versions_at now u key)
   same_then u key = ap (collected low) (here u key) ∙ by (list_any (is_spot u key) w.spots)
@@ -79,10 +79,10 @@ module _ (low : ℕ) (now new : List Entries) (w : Written) (done : AreDone (cha
       by true v = refl
       by false v = refl
 
-  numbers_then : (n u : ℕ) (key : List Value) → IsNext n (versions_at now u key) → IsNext n (versions_at new u key)
-  numbers_then n u key h = subst (IsNext n) (sym (here u key)) (by (list_any (is_spot u key) w.spots) (versions_at now u key) h)
+  numbers_then : (n u : ℕ) (key : List Value) → IsAboveAll n (versions_at now u key) → IsAboveAll n (versions_at new u key)
+  numbers_then n u key h = subst (IsAboveAll n) (sym (here u key)) (by (list_any (is_spot u key) w.spots) (versions_at now u key) h)
     where
-      by : (b : Bool) (v : Versions) → IsNext n v → IsNext n (cond b (collected low v) v)
+      by : (b : Bool) (v : Versions) → IsAboveAll n v → IsAboveAll n (cond b (collected low v) v)
       by true v g = All-filter (λ c. nat_lt low c.number) (λ c. c.number < n) v.commits g
       by false v g = g
 

@@ -16,7 +16,7 @@ use Rattle.mv_table.specs.Entries.{item_of, KeysRise}
 use Rattle.mv_table.specs.Lending.{HasItem}
 use Rattle.mv_table.proofs.Picking.{same_key}
 use Rattle.mv_chain.specs.declared.pending.Pending.{Pending}
-use Rattle.mv_chain.specs.Versions.{Versions, blank, is_blank, IsNext, own_of, row_at, without, stamped, stamped_by}
+use Rattle.mv_chain.specs.Versions.{Versions, blank, is_blank, IsAboveAll, own_of, row_at, without, stamped, stamped_by}
 use Rattle.mv_chain.proofs.Blank.{blank_only}
 use Rattle.mv_chain.proofs.Stamps.{is_dropped, others_are_kept}
 use Rattle.mv_store.specs.Stored.{Entries}
@@ -25,7 +25,7 @@ use Rattle.mv_store.specs.declared.change.Fate.{Fate}
 use Rattle.mv_store.specs.declared.change.Fate.TheVariants.{Commit, Gone}
 use Rattle.mv_store.specs.declared.change.Change.{Change}
 use Rattle.mv_store.specs.declared.change.Change.TheVariants.{Settle, Collect}
-use Rattle.mv_store.specs.Kept.{versions_in, versions_of, entries_at, versions_at, AllRise, AreFilled, AllFilled, IsChanged, AreChanged, AllChanged, Noted, is_spot, HasSpot, spots_of, IsCovered, settled, changed, MayChange, KeepsRows, done_at, AreDone}
+use Rattle.mv_store.specs.Kept.{versions_in, versions_of, entries_at, versions_at, AllRise, AreFilled, AllFilled, IsChanged, AreChanged, AllChanged, Noted, is_spot, HasSpot, spots_of, IsCovered, settled, after_change, MayChange, KeepsRows, done_at, AreDone}
 
 some_none : {A : Type 0} {a : A} → ◌≡◌ {A = Option A} (Some a) None → ⊥
 some_none e = cc
@@ -217,21 +217,21 @@ settled_others Gone call other v h = others_are_kept call other v.own h
 
 -- Changes
 
-pub changed_blank : (to : Change) → changed to blank ≡ blank
+pub changed_blank : (to : Change) → after_change to blank ≡ blank
 changed_blank (Settle call (Commit n)) = refl
 changed_blank (Settle call Gone) = refl
 changed_blank (Collect low) = refl
 
-may_again : (to : Change) (v : Versions) → MayChange to (changed to v)
-may_again (Settle call (Commit n)) v = subst (λ o. OnSome o (IsNext n (stamped call n v))) (sym (settled_gone (Commit n) call v)) tt
+may_again : (to : Change) (v : Versions) → MayChange to (after_change to v)
+may_again (Settle call (Commit n)) v = subst (λ o. OnSome o (IsAboveAll n (stamped call n v))) (sym (settled_gone (Commit n) call v)) tt
 may_again (Settle call Gone) v = tt
 may_again (Collect low) v = tt
 
-pub may_done : (to : Change) (ss : List Spot) (t : ℕ) (key : List Value) (v : Versions) → MayChange to v → MayChange to (done_at (changed to) ss t key v)
+pub may_done : (to : Change) (ss : List Spot) (t : ℕ) (key : List Value) (v : Versions) → MayChange to v → MayChange to (done_at (after_change to) ss t key v)
 may_done to [] t key v h = h
-may_done to (s ∷ ss) t key v h = may_done to ss t key (cond (is_spot t key s) (changed to v) v) (by (is_spot t key s))
+may_done to (s ∷ ss) t key v h = may_done to ss t key (cond (is_spot t key s) (after_change to v) v) (by (is_spot t key s))
   where
-    by : (b : Bool) → MayChange to (cond b (changed to v) v)
+    by : (b : Bool) → MayChange to (cond b (after_change to v) v)
     by true = may_again to v
     by false = h
 
@@ -244,9 +244,9 @@ rows_then (Settle call fate) u v w h g = tt
 rows_then (Collect low) u v w h g = λ n le. g n le ∙ h n le
 
 -- rows are kept under each key where they are under the one that was changed
-pub rows_at : (to : Change) (t : ℕ) (key : List Value) (old new : List Entries) → AreChanged t key (changed to) old new → KeepsRows to (versions_at old t key) (versions_at new t key)
+pub rows_changed : (to : Change) (t : ℕ) (key : List Value) (old new : List Entries) → AreChanged t key (after_change to) old new → KeepsRows to (versions_at old t key) (versions_at new t key)
     → (u : ℕ) (other : List Value) → KeepsRows to (versions_at old u other) (versions_at new u other)
-rows_at to t key old new change rows u other = elim (cases_Bool (t == u)) [
+rows_changed to t key old new change rows u other = elim (cases_Bool (t == u)) [
   | inl e ↦ elim (cases_Bool (is_eq (key_order key other))) [
     | inl k ↦
         subst (λ x. KeepsRows to (versions_at old x other) (versions_at new x other)) (eqb-true t u e)

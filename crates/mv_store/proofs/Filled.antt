@@ -12,7 +12,7 @@ use Rattle.mv_table.specs.Lending.{HasItem}
 use Rattle.mv_table.proofs.Picking.{entries_same, picked_rising, picked_item}
 use Rattle.mv_chain.specs.declared.pending.Pending.{Pending}
 use Rattle.mv_chain.specs.Versions.{Versions, is_blank, with_own, joined, collected}
-use Rattle.mv_store.specs.Stored.{Entries, held, unless_blank, tables_from}
+use Rattle.mv_store.specs.Stored.{Entries, picked_in, unless_blank, tables_from}
 use Rattle.mv_store.specs.Kept.{AllRise, AreFilled, AreFilledBut, AllFilled, AllChanged, with_patch}
 use Rattle.mv_store.proofs.Keys.{cons_same, held_same}
 
@@ -74,10 +74,10 @@ full_item : (o : Option Versions) → IfSome o IsFull → option_and_then unless
 full_item None h = refl
 full_item (Some v) h = rw h refl
 
-pub all_held : (tables : List Entries) → AllRise tables → AllFilled tables → held unless_blank tables ≡ tables
+pub all_held : (tables : List Entries) → AllRise tables → AllFilled tables → picked_in unless_blank tables ≡ tables
 all_held [] r f = refl
 all_held (es ∷ ts) r f =
-    cons_same (picked unless_blank es) es (held unless_blank ts) ts
+    cons_same (picked unless_blank es) es (picked_in unless_blank ts) ts
     (entries_same (picked unless_blank es) es (picked_rising unless_blank es (r 0)) (r 0) (λ key. picked_item unless_blank es key (r 0) ∙ full_item (item_of es key) (f 0 key)))
     (all_held ts (λ u. r (suc u)) (λ u. f (suc u)))
 

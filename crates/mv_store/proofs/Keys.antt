@@ -12,7 +12,7 @@ use Rattle.mv_table.proofs.Storing.{stored_row, stored_rising}
 use Rattle.mv_record.specs.Writes.{AreRising}
 use Rattle.mv_record.proofs.Patching.{rows_same}
 use Rattle.mv_chain.specs.Versions.{Versions, row_at, blank}
-use Rattle.mv_store.specs.Stored.{Entries, held, table_at}
+use Rattle.mv_store.specs.Stored.{Entries, picked_in, table_at}
 use Rattle.mv_store.specs.Kept.{versions_in, versions_at, AllRise}
 
 pub nil_rises : {T : Type 0} → KeysRise {T = T} []
@@ -28,31 +28,31 @@ at_versions f None h = sym h
 at_versions f (Some v) h = refl
 
 -- what is held under a key is what f picks of the versions there
-pub held_at : {B : Type 0} (f : Versions → Option B) (tables : List Entries) (t : ℕ) (key : List Value) → f blank ≡ None → AllRise tables → item_of (slice_index_or (held f tables) t []) key ≡ f (versions_at tables t key)
+pub held_at : {B : Type 0} (f : Versions → Option B) (tables : List Entries) (t : ℕ) (key : List Value) → f blank ≡ None → AllRise tables → item_of (slice_index_or (picked_in f tables) t []) key ≡ f (versions_at tables t key)
 held_at f [] t key h r = sym h
 held_at f (es ∷ ts) zero key h r = picked_item f es key (r 0) ∙ at_versions f (item_of es key) h
 held_at f (es ∷ ts) (suc t) key h r = held_at f ts t key h (λ u. r (suc u))
 
-pub held_rises : {B : Type 0} (f : Versions → Option B) (tables : List Entries) → AllRise tables → (t : ℕ) → KeysRise (slice_index_or (held f tables) t [])
+pub held_rises : {B : Type 0} (f : Versions → Option B) (tables : List Entries) → AllRise tables → (t : ℕ) → KeysRise (slice_index_or (picked_in f tables) t [])
 held_rises f [] r t = nil_rises
 held_rises f (es ∷ ts) r zero = picked_rising f es (r 0)
 held_rises f (es ∷ ts) r (suc t) = held_rises f ts (λ u. r (suc u)) t
 
 -- what is held is the same where it is the same under each key
 pub held_same : {B : Type 0} (f g : Versions → Option B) (a b : List Entries) → length a ≡ length b → AllRise a → AllRise b → f blank ≡ None → g blank ≡ None
-    → ((t : ℕ) (key : List Value) → f (versions_at a t key) ≡ g (versions_at b t key)) → held f a ≡ held g b
+    → ((t : ℕ) (key : List Value) → f (versions_at a t key) ≡ g (versions_at b t key)) → picked_in f a ≡ picked_in g b
 held_same f g [] [] size r s hf hg h = refl
 held_same f g [] (y ∷ ys) size r s hf hg h = absurd (omega (arith, size))
 held_same f g (x ∷ xs) [] size r s hf hg h = absurd (omega (arith, size))
 held_same f g (x ∷ xs) (y ∷ ys) size r s hf hg h =
-    cons_same (picked f x) (picked g y) (held f xs) (held g ys)
+    cons_same (picked f x) (picked g y) (picked_in f xs) (picked_in g ys)
     (entries_same (picked f x) (picked g y) (picked_rising f x (r 0)) (picked_rising g y (s 0)) (λ key.
     picked_item f x key (r 0) ∙ (at_versions f (item_of x key) hf ∙ (h 0 key ∙ (sym (at_versions g (item_of y key) hg) ∙ sym (picked_item g y key (s 0)))))))
     (held_same f g xs ys (omega (arith, size)) (λ u. r (suc u)) (λ u. s (suc u)) hf hg (λ t key. h (suc t) key))
 
 -- Databases
 
-database_is : (n : ℕ) (tables : List Entries) → map (table_at n) tables ≡ map stored (held (λ v. row_at v n) tables)
+database_is : (n : ℕ) (tables : List Entries) → map (table_at n) tables ≡ map stored (picked_in (λ v. row_at v n) tables)
 database_is n [] = refl
 database_is n (es ∷ ts) = ap (λ l. table_at n es ∷ l) (database_is n ts)
 

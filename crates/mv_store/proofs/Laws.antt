@@ -16,9 +16,9 @@ use Rattle.mv_values.specs.Patching.{row_of, patched, applied, written}
 use Rattle.mv_values.specs.Tables.{rows_at}
 use Rattle.mv_record.specs.Writes.{writes_on, patched_by, AreRising}
 use Rattle.mv_record.proofs.Patching.{row_applied, rising_applied, length_applied, written_nowhere}
-use Rattle.mv_chain.specs.Versions.{Versions, IsNext, own_of, patched_by_own, stamped, stamped_by, row_at, newest as newest_row}
+use Rattle.mv_chain.specs.Versions.{Versions, IsAboveAll, own_of, patched_by_own, stamped, stamped_by, row_at, newest as newest_row}
 use Rattle.mv_chain.proofs.Stamps.{composes, others_stay, all_read, read_before, read_after}
-use Rattle.mv_store.specs.Stored.{Entries, Versioned, held, table_at, database_at, newest, writes_from, own_writes, IsLike}
+use Rattle.mv_store.specs.Stored.{Entries, Versioned, picked_in, table_at, database_at, newest, writes_from, own_writes, IsLike}
 use Rattle.mv_store.specs.Changes.{IsAsBefore, HasPut, HasDropped, HasStamped, HasRaised}
 use Rattle.mv_store.specs.declared.spots.Spot.{Spot}
 use Rattle.mv_store.specs.declared.spots.Written.{Written}
@@ -40,7 +40,7 @@ right_true true b e = e
 right_true false b e = absurd (no_truth e)
 
 abbrev own_in : ℕ → List Entries → List Write
-own_in call tables = writes_from 0 (held (λ v. own_of call v.own) tables)
+own_in call tables = writes_from 0 (picked_in (λ v. own_of call v.own) tables)
 
 -- A write is put
 
@@ -81,9 +81,9 @@ module _ (t : ℕ) (key : List Value) (call : ℕ) (patch : Patch) (old new : Li
       by false v r = refl
 
   put_numbers : (last : ℕ) → AreUpTo last old → AreUpTo last new
-  put_numbers last h u k = subst (IsNext (last + 1)) (sym (change.at u k)) (by ((t == u) && is_eq (key_order key k)) (versions_at old u k) (h u k))
+  put_numbers last h u k = subst (IsAboveAll (last + 1)) (sym (change.at u k)) (by ((t == u) && is_eq (key_order key k)) (versions_at old u k) (h u k))
     where
-      by : (b : Bool) (v : Versions) → IsNext (last + 1) v → IsNext (last + 1) (cond b (with_patch call patch v) v)
+      by : (b : Bool) (v : Versions) → IsAboveAll (last + 1) v → IsAboveAll (last + 1) (cond b (with_patch call patch v) v)
       by true v g = g
       by false v g = g
 
@@ -233,30 +233,30 @@ pub dropped_kept : (call last : ℕ) (old new : List Entries) (spots now : Noted
 dropped_kept call last old new spots now kept change are same = record {
   rising = change.rising kept.rising;
   filled = change.filled kept.filled;
-  numbers = λ u k. subst (IsNext (last + 1)) (sym (change.at u k)) (kept.numbers u k);
+  numbers = λ u k. subst (IsAboveAll (last + 1)) (sym (change.at u k)) (kept.numbers u k);
   covered = settled_covered Gone call old new kept.rising change spots now kept.covered are;
   listed = listed_still old new spots.commits now.commits (λ u k. ap (λ v. v.commits) (change.at u k)) same kept.listed;
   climb = subst (λ ws. Climb 0 ws last) (sym same) kept.climb;
 }
 
 -- the last commit left the newest row
-last_row : (last m : ℕ) (v : Versions) → IsNext (last + 1) v → last ≤ m → row_at v m ≡ newest_row v
+last_row : (last m : ℕ) (v : Versions) → IsAboveAll (last + 1) v → last ≤ m → row_at v m ≡ newest_row v
 last_row last m v next le =
     let all : All (λ c. c.number ≤ m) v.commits = All-weaker (λ c. c.number < last + 1) (λ c. c.number ≤ m) (λ c lt. omega (arith, lt, le)) v.commits next in
     all_read m v.base v.commits all
 
-stamped_row : (call n m last : ℕ) (v : Versions) → IsNext (last + 1) v → last < n → n ≤ m → row_at (stamped call n v) m ≡ patched_by_own (own_of call v.own) (row_at v last)
+stamped_row : (call n m last : ℕ) (v : Versions) → IsAboveAll (last + 1) v → last < n → n ≤ m → row_at (stamped call n v) m ≡ patched_by_own (own_of call v.own) (row_at v last)
 stamped_row call n m last v next lt le =
     read_after call n m v (All-weaker (λ c. c.number < last + 1) (λ c. c.number < n) (λ c h. omega (arith, h, lt)) v.commits next) le
     ∙ ap (patched_by_own (own_of call v.own)) (sym (last_row last last v next (omega arith)))
 
-stamped_numbers : (call n last : ℕ) (v : Versions) → IsNext (last + 1) v → last < n → IsNext (n + 1) (stamped call n v)
+stamped_numbers : (call n last : ℕ) (v : Versions) → IsAboveAll (last + 1) v → last < n → IsAboveAll (n + 1) (stamped call n v)
 stamped_numbers call n last v next lt = by (own_of call v.own)
   where
-    old : IsNext (n + 1) v
+    old : IsAboveAll (n + 1) v
     old = All-weaker (λ c. c.number < last + 1) (λ c. c.number < n + 1) (λ c h. omega (arith, h, lt)) v.commits next
 
-    by : (o : Option Patch) → IsNext (n + 1) (stamped_by o call n v)
+    by : (o : Option Patch) → IsAboveAll (n + 1) (stamped_by o call n v)
     by None = old
     by (Some patch) = All-push (λ c. c.number < n + 1) v.commits (record { number = n; row = patched patch (newest_row v) }) old (omega arith)
 
@@ -296,7 +296,7 @@ pub stamped_kept : (call n last : ℕ) (old new : List Entries) (spots now : Not
 stamped_kept call n last old new spots now kept lt change are more = record {
   rising = change.rising kept.rising;
   filled = change.filled kept.filled;
-  numbers = λ u k. subst (IsNext (n + 1)) (sym (change.at u k)) (stamped_numbers call n last (versions_at old u k) (kept.numbers u k) lt);
+  numbers = λ u k. subst (IsAboveAll (n + 1)) (sym (change.at u k)) (stamped_numbers call n last (versions_at old u k) (kept.numbers u k) lt);
   covered = settled_covered (Commits n) call old new kept.rising change spots now kept.covered are;
   listed = λ u k.
       subst (λ ws. All (λ c. HasEntry c.number u k ws) (versions_at new u k).commits) (sym more)
@@ -340,7 +340,7 @@ pub same_kept : (t last : ℕ) (key : List Value) (old new : List Entries) (spot
 same_kept t last key old new spots now kept change keeps = record {
   rising = change.rising kept.rising;
   filled = change.filled kept.filled;
-  numbers = λ u k. subst (IsNext (last + 1)) (sym (same_at t key old new kept.rising change u k)) (kept.numbers u k);
+  numbers = λ u k. subst (IsAboveAll (last + 1)) (sym (same_at t key old new kept.rising change u k)) (kept.numbers u k);
   covered = λ c u k some. keeps.calls c u k (kept.covered c u k (subst (λ v. is_some (own_of c v.own) ≡ true) (same_at t key old new kept.rising change u k) some));
   listed = listed_still old new spots.commits now.commits (λ u k. ap (λ v. v.commits) (same_at t key old new kept.rising change u k)) keeps.commits kept.listed;
   climb = subst (λ ws. Climb 0 ws last) (sym keeps.commits) kept.climb;
@@ -362,7 +362,7 @@ like_is s n rise = record { size = size_is n s.tables; rising = rows_rise n s.ta
 pub may_commit : (call n last : ℕ) (tables : List Entries) → AreUpTo last tables → last < n → (t : ℕ) (key : List Value) → MaySettle (Commits n) call (versions_at tables t key)
 may_commit call n last tables numbers lt t key = by (own_of call (versions_at tables t key).own)
   where
-    by : (o : Option Patch) → OnSome o (IsNext n (versions_at tables t key))
+    by : (o : Option Patch) → OnSome o (IsAboveAll n (versions_at tables t key))
     by None = tt
     by (Some patch) = All-weaker (λ c. c.number < last + 1) (λ c. c.number < n) (λ c h. omega (arith, h, lt)) (versions_at tables t key).commits (numbers t key)
 

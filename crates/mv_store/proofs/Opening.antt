@@ -14,7 +14,7 @@ use Rattle.mv_table.specs.Entries.{item_of, with_item, KeysRise}
 use Rattle.mv_table.proofs.Picking.{put_last}
 use Rattle.mv_table.proofs.Storing.{taken_below}
 use Rattle.mv_chain.specs.Versions.{Versions, own_of}
-use Rattle.mv_store.specs.Stored.{Entries, held, table_at, writes_from}
+use Rattle.mv_store.specs.Stored.{Entries, picked_in, table_at, writes_from}
 use Rattle.mv_store.specs.Kept.{versions_in, versions_of, versions_at, AllRise, AreFilled, AllFilled, Noted, HasEntry, Climb, IsKept}
 use Rattle.mv_store.specs.Opened.{opened}
 use Rattle.mv_store.proofs.Keys.{nil_rises}
@@ -102,7 +102,7 @@ all_full [] t key = tt
 all_full (x ∷ xs) zero key = opened_full x key
 all_full (x ∷ xs) (suc t) key = all_full xs t key
 
-pub opened_own : (call : ℕ) (db : List (List Keyed)) → AllRise (map opened db) → writes_from 0 (held (λ v. own_of call v.own) (map opened db)) ≡ []
+pub opened_own : (call : ℕ) (db : List (List Keyed)) → AllRise (map opened db) → writes_from 0 (picked_in (λ v. own_of call v.own) (map opened db)) ≡ []
 opened_own call db r = own_none call (map opened db) r (λ t key. ap (own_of call) (all_new db t key).1)
 
 pub opened_kept : (db : List (List Keyed)) (tables : List Entries) (spots : Noted) → tables ≡ map opened db → AllRise tables → spots.commits ≡ [] → IsKept tables spots 0

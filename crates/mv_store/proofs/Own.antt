@@ -16,7 +16,7 @@ use Rattle.mv_table.proofs.Picking.{Above, Rise, rise_from, turned}
 use Rattle.mv_record.specs.Writes.{is_on, writes_on, patched_by, AreRising}
 use Rattle.mv_record.proofs.Patching.{row_applied}
 use Rattle.mv_chain.specs.Versions.{Versions, own_of, patched_by_own}
-use Rattle.mv_store.specs.Stored.{Entries, held, writes_to, writes_from}
+use Rattle.mv_store.specs.Stored.{Entries, picked_in, writes_to, writes_from}
 use Rattle.mv_store.specs.Kept.{versions_at, AllRise}
 use Rattle.mv_store.proofs.Keys.{held_at, held_rises, held_same}
 
@@ -80,15 +80,15 @@ at_from (es ∷ ts) u t (suc k) key r e rise =
 
 -- the row under a key behind the writes of a call
 pub row_done : (tables : List Entries) (call : ℕ) (db : List (List Keyed)) (t : ℕ) (key : List Value) → t < length db → AreRising db → AllRise tables
-    → row_of (rows_at (applied (writes_from 0 (held (λ v. own_of call v.own) tables)) db) t) key ≡ patched_by_own (own_of call (versions_at tables t key).own) (row_of (rows_at db t) key)
+    → row_of (rows_at (applied (writes_from 0 (picked_in (λ v. own_of call v.own) tables)) db) t) key ≡ patched_by_own (own_of call (versions_at tables t key).own) (row_of (rows_at db t) key)
 row_done tables call db t key lt rising rise =
-    row_applied (writes_from 0 (held (λ v. own_of call v.own) tables)) db t key lt rising
-    ∙ (at_from (held (λ v. own_of call v.own) tables) 0 t t key (row_of (rows_at db t) key) (omega arith) (held_rises (λ v. own_of call v.own) tables rise)
+    row_applied (writes_from 0 (picked_in (λ v. own_of call v.own) tables)) db t key lt rising
+    ∙ (at_from (picked_in (λ v. own_of call v.own) tables) 0 t t key (row_of (rows_at db t) key) (omega arith) (held_rises (λ v. own_of call v.own) tables rise)
     ∙ ap (λ o. patched_by_own o (row_of (rows_at db t) key)) (held_at (λ v. own_of call v.own) tables t key refl rise))
 
 -- what calls wrote is the same where it is the same under each key
 pub own_same : (call : ℕ) (a b : List Entries) → length a ≡ length b → AllRise a → AllRise b → ((t : ℕ) (key : List Value) → own_of call (versions_at a t key).own ≡ own_of call (versions_at b t key).own)
-    → writes_from 0 (held (λ v. own_of call v.own) a) ≡ writes_from 0 (held (λ v. own_of call v.own) b)
+    → writes_from 0 (picked_in (λ v. own_of call v.own) a) ≡ writes_from 0 (picked_in (λ v. own_of call v.own) b)
 own_same call a b size r s h = ap (writes_from 0) (held_same (λ v. own_of call v.own) (λ v. own_of call v.own) a b size r s refl refl h)
 
 abbrev no_patch : Versions → Option Patch
@@ -98,10 +98,10 @@ none_picked : (es : Entries) → picked no_patch es ≡ []
 none_picked [] = refl
 none_picked (e ∷ es) = none_picked es
 
-none_held : (u : ℕ) (tables : List Entries) → writes_from u (held no_patch tables) ≡ []
+none_held : (u : ℕ) (tables : List Entries) → writes_from u (picked_in no_patch tables) ≡ []
 none_held u [] = refl
-none_held u (es ∷ ts) = ap (λ l. writes_to u l ++ writes_from (u + 1) (held no_patch ts)) (none_picked es) ∙ none_held (u + 1) ts
+none_held u (es ∷ ts) = ap (λ l. writes_to u l ++ writes_from (u + 1) (picked_in no_patch ts)) (none_picked es) ∙ none_held (u + 1) ts
 
 -- a call without patches has no writes
-pub own_none : (call : ℕ) (tables : List Entries) → AllRise tables → ((t : ℕ) (key : List Value) → own_of call (versions_at tables t key).own ≡ None) → writes_from 0 (held (λ v. own_of call v.own) tables) ≡ []
+pub own_none : (call : ℕ) (tables : List Entries) → AllRise tables → ((t : ℕ) (key : List Value) → own_of call (versions_at tables t key).own ≡ None) → writes_from 0 (picked_in (λ v. own_of call v.own) tables) ≡ []
 own_none call tables r h = ap (writes_from 0) (held_same (λ v. own_of call v.own) no_patch tables tables refl r r refl refl h) ∙ none_held 0 tables

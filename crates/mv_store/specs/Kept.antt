@@ -9,7 +9,7 @@ use Rattle.mv_values.specs.declared.value.Value.{Value}
 use Rattle.mv_values.specs.declared.patch.Patch.{Patch}
 use Rattle.mv_values.specs.Order.{key_order}
 use Rattle.mv_table.specs.Entries.{item_of, KeysRise}
-use Rattle.mv_chain.specs.Versions.{Versions, IsNext, blank, is_blank, own_of, without, with_own, stamped, collected, row_at}
+use Rattle.mv_chain.specs.Versions.{Versions, IsAboveAll, blank, is_blank, own_of, without, with_own, stamped, collected, row_at}
 use Rattle.mv_store.specs.Stored.{Entries}
 use Rattle.mv_store.specs.declared.spots.Spot.{Spot}
 use Rattle.mv_store.specs.declared.spots.Written.{Written}
@@ -132,7 +132,7 @@ IsListed tables ws = (t : ℕ) (key : List Value) → All (λ c. HasEntry c.numb
 
 -- no commit has a number above the last
 abbrev pub AreUpTo : ℕ → List Entries → Type 0
-AreUpTo last tables = (t : ℕ) (key : List Value) → IsNext (last + 1) (versions_at tables t key)
+AreUpTo last tables = (t : ℕ) (key : List Value) → IsAboveAll (last + 1) (versions_at tables t key)
 
 -- the invariant of the parts of a store
 pub record IsKept (tables : List Entries) (spots : Noted) (last : ℕ) : Type 0 where
@@ -156,13 +156,13 @@ settled Gone call v = record v { own = without call v.own }
 
 -- the number of a commit is above those of all others, if there is a patch to commit
 abbrev pub MaySettle : Fate → ℕ → Versions → Type 0
-MaySettle (Commit n) call v = OnSome (own_of call v.own) (IsNext n v)
+MaySettle (Commit n) call v = OnSome (own_of call v.own) (IsAboveAll n v)
 MaySettle Gone call v = ⊤
 
 -- a change of versions
-abbrev pub changed : Change → Versions → Versions
-changed (Settle call fate) v = settled fate call v
-changed (Collect low) v = collected low v
+abbrev pub after_change : Change → Versions → Versions
+after_change (Settle call fate) v = settled fate call v
+after_change (Collect low) v = collected low v
 
 abbrev pub MayChange : Change → Versions → Type 0
 MayChange (Settle call fate) v = MaySettle fate call v

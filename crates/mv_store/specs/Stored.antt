@@ -21,8 +21,8 @@ pub record Versioned : Type 0 where
   pub low : ℕ
 
 -- what f picks of the versions under each key
-abbrev pub held : {B : Type 0} → (Versions → Option B) → List Entries → List (List (List Value × B))
-held f tables = map (picked f) tables
+abbrev pub picked_in : {B : Type 0} → (Versions → Option B) → List Entries → List (List (List Value × B))
+picked_in f tables = map (picked f) tables
 
 -- the versions, or none if they are blank
 abbrev pub unless_blank : Versions → Option Versions
@@ -30,7 +30,7 @@ unless_blank v = if is_blank v then None else Some v
 
 -- the tables with all versions collected up to low, without the keys whose versions are blank then
 abbrev pub tables_from : ℕ → List Entries → List Entries
-tables_from low tables = held (λ v. unless_blank (collected low v)) tables
+tables_from low tables = picked_in (λ v. unless_blank (collected low v)) tables
 
 -- the rows of a table after commit n
 abbrev pub table_at : ℕ → Entries → List Keyed
@@ -55,7 +55,7 @@ writes_from t (es ∷ tables) = writes_to t es ++ writes_from (t + 1) tables
 
 -- the uncommitted writes of a call: one for each key, by table and key
 abbrev pub own_writes : Versioned → ℕ → List Write
-own_writes s call = writes_from 0 (held (λ v. own_of call v.own) s.tables)
+own_writes s call = writes_from 0 (picked_in (λ v. own_of call v.own) s.tables)
 
 -- a database with as many tables, each with rising keys
 pub record IsLike (s : Versioned) (db : List (List Keyed)) : Type 0 where

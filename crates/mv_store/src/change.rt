@@ -4,7 +4,7 @@ ghost use Rattle.std.specs.Prelude.{◌≡◌, ℕ, false, true, List as Seq};
 ghost use Rattle.std.specs.Option.{option_copied};
 ghost use Rattle.mv_values.specs.declared.value.Value.{Value};
 ghost use Rattle.mv_chain.specs.Versions.{is_blank};
-ghost use Rattle.mv_store.specs.Kept.{versions_of, versions_at, spots_in, settled, MaySettle, changed, MayChange, KeepsRows, AreFilled, AreFilledBut, IsChanged, AreChanged, AreDone};
+ghost use Rattle.mv_store.specs.Kept.{versions_of, versions_at, spots_in, settled, MaySettle, after_change, MayChange, KeepsRows, AreFilled, AreFilledBut, IsChanged, AreChanged, AreDone};
 
 use crate::spots::Spot;
 use mv_chain::chain::Chain;
@@ -42,7 +42,7 @@ fn settle(chain: &mut Chain, call: u32, fate: Fate)
 /// Makes a change. It allocates no memory.
 fn make(chain: &mut Chain, change: Change)
     requires { MayChange change chain.old }
-    ensures versions { chain.new ≡ changed change chain.old }
+    ensures versions { chain.new ≡ after_change change chain.old }
     ensures rows { KeepsRows change chain.old chain.new }
 {
     match change {
@@ -54,7 +54,7 @@ fn make(chain: &mut Chain, change: Change)
 /// Changes the versions under a key of a table. Returns whether blank versions are under the key then.
 fn change_item(table: &mut KeyMap<Chain>, key: &Key, to: Change) -> bool
     requires { MayChange to (versions_of table.old key.now) }
-    ensures versions { IsChanged key.now (changed to) table.old table.new }
+    ensures versions { IsChanged key.now (after_change to) table.old table.new }
     ensures rows { KeepsRows to (versions_of table.old key.now) (versions_of table.new key.now) }
     ensures blank { result ≡ true → is_blank (versions_of table.new key.now) ≡ true }
     ensures filled { result ≡ false → AreFilled table.old → AreFilled table.new }
@@ -80,7 +80,7 @@ fn remove_blank(table: &mut KeyMap<Chain>, key: &Key)
 /// Changes the versions under a key of a table, and removes the key if they are blank then.
 fn change_under(table: &mut KeyMap<Chain>, key: &Key, to: Change)
     requires { MayChange to (versions_of table.old key.now) }
-    ensures versions { IsChanged key.now (changed to) table.old table.new }
+    ensures versions { IsChanged key.now (after_change to) table.old table.new }
     ensures rows { KeepsRows to (versions_of table.old key.now) (versions_of table.new key.now) }
     ensures filled { AreFilled table.old → AreFilled table.new }
 {
@@ -92,7 +92,7 @@ fn change_under(table: &mut KeyMap<Chain>, key: &Key, to: Change)
 /// Changes the versions at a spot.
 fn change_at(tables: &mut Vec<KeyMap<Chain>>, spot: &Spot, to: Change)
     requires { MayChange to (versions_at tables.old.items spot.now.table spot.now.key) }
-    ensures versions { AreChanged spot.now.table spot.now.key (changed to) tables.old.items tables.new.items }
+    ensures versions { AreChanged spot.now.table spot.now.key (after_change to) tables.old.items tables.new.items }
     ensures rows { KeepsRows to (versions_at tables.old.items spot.now.table spot.now.key) (versions_at tables.new.items spot.now.table spot.now.key) }
 {
     let at = spot.table as usize;
@@ -105,7 +105,7 @@ fn change_at(tables: &mut Vec<KeyMap<Chain>>, spot: &Spot, to: Change)
 /// spot.
 pub(crate) fn change_all(tables: &mut Vec<KeyMap<Chain>>, spots: &[Spot], to: Change)
     requires { (t : ℕ) (key : Seq Value) → MayChange to (versions_at tables.old.items t key) }
-    ensures versions { AreDone (changed to) spots.now tables.old.items tables.new.items }
+    ensures versions { AreDone (after_change to) spots.now tables.old.items tables.new.items }
     ensures rows { (t : ℕ) (key : Seq Value) → KeepsRows to (versions_at tables.old.items t key) (versions_at tables.new.items t key) }
 {
     for spot in spots {

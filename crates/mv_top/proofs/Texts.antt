@@ -20,7 +20,7 @@ use Rattle.mv_alone.specs.Value.{value_of, values_of}
 use Rattle.mv_alone.specs.Rows.{checks_of, aggregate}
 use Rattle.mv_alone.specs.Changes.{new_row, put_row, keyed, updated, set_row}
 use Rattle.mv_alone.specs.Line.{line_of}
-use Rattle.mv_alone.specs.Alone.{alone, matches, offset_of}
+use Rattle.mv_alone.specs.Alone.{alone, matching_in, offset_of}
 use Rattle.mv_alone.specs.TableAfter.{Tables, begun, outcome, outcome_at, outcome_in, reply_in as reply_from}
 use Rattle.mv_record.specs.declared.record.Record.{Record}
 use Rattle.mv_recorded.specs.Doing.{itself, fixed_rows}
@@ -113,7 +113,7 @@ then_prints (Err e) go st rs h = tt
 prints_own : {Y : Type 0} (tables : List TableInfo) (y : RStmt-F Y) (st : State) (rs : List Record) → Prints st rs (itself tables y st)
 prints_own tables (Assign x e) st rs = then_prints (value_of e st.env []) _ st rs (λ v h. h)
 prints_own tables (Select cs xs t conds sorts offset) st rs = then_prints (checks_of conds st.env) _ st rs (λ checks. then_prints (offset_of offset st.env) _ st rs (λ at h. h))
-prints_own tables (Total agg x t conds) st rs = then_prints (checks_of conds st.env) _ st rs (λ checks. then_prints (aggregate agg (matches t checks st)) _ st rs (λ v h. h))
+prints_own tables (Total agg x t conds) st rs = then_prints (checks_of conds st.env) _ st rs (λ checks. then_prints (aggregate agg (matching_in t checks st)) _ st rs (λ v h. h))
 prints_own {Y} tables (ForSelect x once cs t conds sorts body) st rs = then_prints (fixed_rows {X = Y} (ForSelect x once cs t conds sorts body) st) _ st rs (λ rows h. h)
 prints_own tables (ForRows x y body) st rs = λ h. h
 prints_own tables (Branch e ys ns) st rs = then_prints (value_of e st.env []) _ st rs (λ v h. h)

@@ -1,11 +1,11 @@
 use Rattle.std.proofs.Common.{refl, sym, subst, take}
-use Rattle.mv_store.specs.Kept.{versions_at, changed, MayChange}
-use Rattle.mv_store.proofs.Done.{may_done, done_none, done_one, rows_same, rows_then, rows_at}
+use Rattle.mv_store.specs.Kept.{versions_at, after_change, MayChange}
+use Rattle.mv_store.proofs.Done.{may_done, done_none, done_one, rows_same, rows_then, rows_changed}
 use Rattle.mv_store.proofs.change.change_all.Goals as goal
 
 pub loop-spot-init : goal.loop-spot-init
 loop-spot-init c = record {
-  versions = done_none (changed c.args.to) c.args.tables.now.items;
+  versions = done_none (after_change c.args.to) c.args.tables.now.items;
   rows = λ t key. rows_same c.args.to (versions_at c.args.tables.now.items t key) (versions_at c.args.tables.now.items t key) refl;
 }
 
@@ -23,8 +23,8 @@ loop-spot-preserved c =
     let now = c.loop-spot.tables.items in
     let new = c.change_at.new.tables.items in
     record {
-      versions = done_one (changed c.args.to) c.args.spots.now c.loop-spot.spot-index s old now new c.loop-spot-test.true c.spot-item.is c.loop-spot.invariant.versions c.change_at.ensures.versions;
+      versions = done_one (after_change c.args.to) c.args.spots.now c.loop-spot.spot-index s old now new c.loop-spot-test.true c.spot-item.is c.loop-spot.invariant.versions c.change_at.ensures.versions;
       rows = λ t key.
           rows_then c.args.to (versions_at old t key) (versions_at now t key) (versions_at new t key) (c.loop-spot.invariant.rows t key)
-          (rows_at c.args.to s.table s.key now new c.change_at.ensures.versions c.change_at.ensures.rows t key);
+          (rows_changed c.args.to s.table s.key now new c.change_at.ensures.versions c.change_at.ensures.rows t key);
     }

@@ -1,10 +1,10 @@
 use Rattle.std.proofs.Common.{ℕ, List, take}
 use Rattle.mv_values.specs.declared.value.Value.{Value}
-use Rattle.mv_store.specs.Kept.{versions_at, changed, KeepsRows, AreDone}
+use Rattle.mv_store.specs.Kept.{versions_at, after_change, KeepsRows, AreDone}
 use Rattle.mv_store.proofs.change.change_all.Given as goal
 
 abbrev pub invariant-loop-spot : goal.invariant-loop-spot
 invariant-loop-spot l = record {
-  versions : AreDone (changed l.to) (take l.spot-index l.spots) l.fn.tables.items l.tables.items;
+  versions : AreDone (after_change l.to) (take l.spot-index l.spots) l.fn.tables.items l.tables.items;
   rows : (t : ℕ) (key : List Value) → KeepsRows l.to (versions_at l.fn.tables.items t key) (versions_at l.tables.items t key);
 }

@@ -2,7 +2,7 @@ use Rattle.std.proofs.Common.{sym, ap, subst, ◌∙◌}
 use Rattle.std.specs.Option.{OnSome}
 use Rattle.mv_table.specs.Lending.{HasItem}
 use Rattle.mv_chain.specs.Versions.{is_blank}
-use Rattle.mv_store.specs.Kept.{versions_in, versions_of, changed, KeepsRows, AreFilled, AreFilledBut}
+use Rattle.mv_store.specs.Kept.{versions_in, versions_of, after_change, KeepsRows, AreFilled, AreFilledBut}
 use Rattle.mv_store.proofs.Filled.{filled_but, filled_there, filled_others}
 use Rattle.mv_store.proofs.Done.{changed_there, changed_nowhere, changed_blank, item_there}
 use Rattle.mv_store.proofs.change.change_item.Goals as goal
@@ -12,11 +12,11 @@ lent c = subst (λ o. OnSome o (HasItem c.args.key.now c.make.new.chain c.args.t
 
 pub returns-in_default-clause-versions : goal.returns-in_default-clause-versions
 returns-in_default-clause-versions c =
-    changed_nowhere c.args.key.now (changed c.args.to) c.args.table.now c.get_mut.follows.lender-at-none (sym c.in_default.ensures.item) (changed_blank c.args.to) c.get_mut.follows.holds-at-none
+    changed_nowhere c.args.key.now (after_change c.args.to) c.args.table.now c.get_mut.follows.lender-at-none (sym c.in_default.ensures.item) (changed_blank c.args.to) c.get_mut.follows.holds-at-none
 
 pub returns-clause-versions : goal.returns-clause-versions
 returns-clause-versions c =
-    changed_there c.args.key.now (changed c.args.to) c.in-Some.chain.now c.make.new.chain c.args.table.now (c.get_mut.follows.lender c.make.new.chain) (sym c.in-Some.ensures.item) c.make.ensures.versions (lent c)
+    changed_there c.args.key.now (after_change c.args.to) c.in-Some.chain.now c.make.new.chain c.args.table.now (c.get_mut.follows.lender c.make.new.chain) (sym c.in-Some.ensures.item) c.make.ensures.versions (lent c)
 
 pub returns-clause-rows : goal.returns-clause-rows
 returns-clause-rows c =

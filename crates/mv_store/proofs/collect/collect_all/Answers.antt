@@ -1,6 +1,6 @@
 use Rattle.std.proofs.Common.{sym, subst}
 use Rattle.mv_store.specs.declared.change.Change.TheVariants.{Collect}
-use Rattle.mv_store.specs.Kept.{IsKept, changed, AreDone}
+use Rattle.mv_store.specs.Kept.{IsKept, after_change, AreDone}
 use Rattle.mv_store.proofs.Collecting.{none_collected, one_collected, one_kept, all_collected, noted_same}
 use Rattle.mv_store.proofs.collect.collect_all.Goals as goal
 
@@ -13,7 +13,7 @@ loop-written-preserved c = λ last kept.
     let now = c.loop-written.tables.items in
     let new = c.change_all.new.tables.items in
     let before = c.loop-written.invariant last kept in
-    let done = subst (λ ss. AreDone (changed (Collect c.args.low)) ss now new) c.as_slice.ensures c.change_all.ensures.versions in (
+    let done = subst (λ ss. AreDone (after_change (Collect c.args.low)) ss now new) c.as_slice.ensures c.change_all.ensures.versions in (
       one_collected c.args.low now new w done c.args.tables.now.items c.change_all.ensures.rows before.0,
       one_kept c.args.low now new w done c.loop-written.spots c.take_due.new.self last before.1 c.in-Some.ensures.calls c.in-Some.ensures.due.0 c.in-Some.ensures.due.1,
     )

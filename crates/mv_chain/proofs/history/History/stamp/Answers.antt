@@ -2,7 +2,7 @@ use Rattle.std.proofs.Common.{◌≡◌, ◌∙◌, ◌≤◌, ◌+◌, ◌∷�
 use Rattle.std.specs.Prelude.{OnSome, Option}
 use Rattle.mv_values.specs.declared.patch.Patch.{Patch}
 use Rattle.mv_chain.specs.declared.undo.Undo.{Undo}
-use Rattle.mv_chain.specs.Versions.{Versions, IsNext, own_of, without, stamped}
+use Rattle.mv_chain.specs.Versions.{Versions, IsAboveAll, own_of, without, stamped}
 use Rattle.mv_chain.proofs.Versions.{shown, stamp_stays, stamp_is, rises_push}
 use Rattle.mv_chain.proofs.Places.{IsSpot, absent, none_there, at_spot, out_of, own_is, fewer}
 use Rattle.mv_chain.proofs.history.History.stamp.Goals as goal
@@ -37,8 +37,8 @@ invariant_of-self c =
     let entry : Undo = record { commit = c.args.n; patch = c.do_patch-done.result.undo } in
     let few : length (without c.args.call c.self.inside.own.items) + 1 ≤ length c.self.inside.own.items = fewer c.args.call c.self.inside.own.items c.in-Some.at (spot c) in
     let before : Versions = shown us c.self.inside.row c.self.inside.own.items in
-    let given : OnSome (own_of c.args.call before.own) (IsNext c.args.n before) = subst (λ v. OnSome (own_of c.args.call v.own) (IsNext c.args.n v)) (sym c.self.view_is) c.requires in
-    let next : IsNext c.args.n before = on_some (own_of c.args.call before.own) c.replace-patch.result (IsNext c.args.n before) (own c) given in
+    let given : OnSome (own_of c.args.call before.own) (IsAboveAll c.args.n before) = subst (λ v. OnSome (own_of c.args.call v.own) (IsAboveAll c.args.n v)) (sym c.self.view_is) c.requires in
+    let next : IsAboveAll c.args.n before = on_some (own_of c.args.call before.own) c.replace-patch.result (IsAboveAll c.args.n before) (own c) given in
     rw (c.push_within.ensures.items, left c)
     (rises_push us entry c.self.inside.row c.self.invariant.0 next, omega (arith, few, length-append us (entry ∷ []), c.self.invariant.1, c.push_within.ensures.room))
 

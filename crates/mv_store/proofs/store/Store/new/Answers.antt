@@ -1,6 +1,6 @@
 use Rattle.std.proofs.Common.{ap, subst, ◌∙◌, map}
 use Rattle.mv_chain.specs.Versions.{own_of}
-use Rattle.mv_store.specs.Stored.{held, table_at, writes_from}
+use Rattle.mv_store.specs.Stored.{picked_in, table_at, writes_from}
 use Rattle.mv_store.specs.Kept.{AllRise}
 use Rattle.mv_store.proofs.Opening.{opened_kept, opened_all, opened_own}
 use Rattle.mv_store.proofs.store.Store.new.Goals as goal
@@ -13,5 +13,5 @@ returns-clause-database c n = ap (map (table_at n)) c.in_ok-tables.ensures.opene
 
 pub returns-clause-own : goal.returns-clause-own
 returns-clause-own c call =
-    ap (λ ts. writes_from 0 (held (λ v. own_of call v.own) ts)) c.in_ok-tables.ensures.opened
+    ap (λ ts. writes_from 0 (picked_in (λ v. own_of call v.own) ts)) c.in_ok-tables.ensures.opened
     ∙ opened_own call c.args.opening.now (subst AllRise c.in_ok-tables.ensures.opened c.in_ok-tables.ensures.rising)
