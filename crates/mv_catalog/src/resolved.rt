@@ -70,6 +70,15 @@ pub struct RSort {
     pub descending: bool,
 }
 
+/// What a SELECT and a FOR have in common: columns of the rows of a table that pass WHERE, in the order of ORDER BY.
+#[derive(Drop)]
+pub struct Query<'a> {
+    pub table: u16,
+    pub columns: &'a [u16],
+    pub conds: &'a [RCond],
+    pub sorts: &'a [RSort],
+}
+
 #[derive(Clone, Copy)]
 pub enum RAgg {
     CountAll,

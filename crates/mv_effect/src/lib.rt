@@ -7,7 +7,6 @@ mod effect;
 mod numbers;
 mod predicates;
 mod queries;
-mod query;
 mod rows;
 mod slots;
 pub mod statement;

@@ -12,12 +12,11 @@ ghost use Rattle.mv_recorded.specs.Effects.{asks};
 ghost use Rattle.mv_effect.specs.Naming.{Tests, AreColumns};
 
 use crate::numbers::{columns_once, key_place, narrow};
-use crate::query::Query;
 use mv_alone::env::column_value;
 use mv_alone::expr::value;
 use mv_alone::find::key_in;
 use mv_alone::state::{Env, Stop};
-use mv_catalog::resolved::{RAgg, RCond, RExpr, RExprKind, RSetItem, RSort};
+use mv_catalog::resolved::{Query, RAgg, RCond, RExpr, RExprKind, RSetItem, RSort};
 use mv_values::list::List;
 use mv_values::memory::NoMemory;
 use mv_values::op::Op;

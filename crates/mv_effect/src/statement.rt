@@ -11,10 +11,9 @@ ghost use Rattle.mv_effect.specs.Looking.{IsExecutable, OnlyAsks, different, Ask
 use crate::changes::{delete, insert, update};
 use crate::context::Context;
 use crate::queries::{for_select, select, total};
-use crate::query::Query;
 use crate::tableless::{assign, branch, decide, for_rows, print, rollback};
 use mv_alone::state::Env;
-use mv_catalog::resolved::RStmt;
+use mv_catalog::resolved::{Query, RStmt};
 use mv_record::effect::Effect;
 use mv_undo::undo::Undo;
 use mv_values::schema::TableInfo;

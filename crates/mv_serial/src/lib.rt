@@ -5,7 +5,6 @@ pub mod calls;
 mod change;
 mod deleting;
 mod inserting;
-mod query;
 mod run;
 mod statements;
 mod tables;

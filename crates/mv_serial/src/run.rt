@@ -5,14 +5,13 @@ ghost use Rattle.mv_values.specs.Tables.{KeysStand};
 ghost use Rattle.mv_alone.specs.Outcome.{Leaves};
 ghost use Rattle.mv_alone.specs.Alone.{assign, select, print};
 
-use crate::query::Query;
 use mv_alone::chosen::chosen_in;
 use mv_alone::env::{set_columns, set_found, set_value};
 use mv_alone::expr::{number_in, offset, value, values};
 use mv_alone::find::checks_from;
 use mv_alone::line::line_from;
 use mv_alone::state::{State, Stop};
-use mv_catalog::resolved::RExpr;
+use mv_catalog::resolved::{Query, RExpr};
 use mv_values::schema::TableInfo;
 use std::alloc::Global;
 
