@@ -13,16 +13,21 @@ use Rattle.mv_seats.proofs.pass.Pass.TheSendSync as pass
 use Rattle.mv_core.proofs.Crossing.{book_send}
 use Rattle.mv_gate.specs.contracts.desk.Desk as Desk
 use Rattle.mv_gate.specs.contracts.desk.Desk.TheInside as Inside
+use Rattle.mv_gate.specs.contracts.guarded.Guarded as Guarded
 use Rattle.mv_gate.specs.contracts.gate.Gate as Gate
 
--- what lies behind the lock
-pub desk_send : (N : RattleType) (m : Ghosts N.Denot) → IsSend (Desk.the_row N m)
+-- what the lock guards
+desk_send : (N : RattleType) (m : Ghosts N.Denot) → IsSend (Desk.the_row N m)
 desk_send N m =
     view_send (Inside.the_row N m) _ _ _ _
-    (recorded_send (Inside.the_field N m).row _ _ (Inside.the_type N m).to_one (struct_send (shape (Inside.the_type N m)) (book_send, (store.the_send, (pass.the_send N m, (search (std.crosses, sendable) depth 60 fits 20000, tt))))))
+    (recorded_send (Inside.the_field N m).row _ _ (Inside.the_type N m).to_one (struct_send (shape (Inside.the_type N m)) (book_send, (store.the_send, (pass.the_send N m, tt)))))
+
+guarded_send : (N : RattleType) (m : Ghosts N.Denot) → IsSend (Guarded.the_row N m)
+guarded_send N m =
+    recorded_send (Guarded.the_field N m).row _ _ (Guarded.the_type N m).to_one (struct_send (shape (Guarded.the_type N m)) (desk_send N m, (search (std.crosses, sendable) depth 60 fits 20000, tt)))
 
 gate_field_sync : (N : RattleType) (m : Ghosts N.Denot) → IsSync (Gate.the_field N m).row
-gate_field_sync N m = struct_sync (shape (Gate.the_type N m)) (board.the_field_sync N m, (mutex.the_sync (Desk.the_row N m) (desk_send N m), tt))
+gate_field_sync N m = struct_sync (shape (Gate.the_type N m)) (board.the_field_sync N m, (mutex.the_sync (Guarded.the_row N m) (guarded_send N m), tt))
 
 -- threads may share a gate
 pub gate_sync : (N : RattleType) (m : Ghosts N.Denot) → IsSync (Gate.the_row N m)

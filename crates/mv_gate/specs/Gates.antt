@@ -32,7 +32,7 @@ script_in s = record { graphs = s.graphs; calls = s.calls; opening = s.opening; 
 abbrev pub work : BoardScript → Work
 work s = work_of (script_in s)
 
--- Behind the lock
+-- At the desk
 
 -- each call that has begun has its rounds, the last of which has its start
 abbrev pub HaveTurns : Course → Type 0
@@ -77,7 +77,7 @@ pub record IsHeld (s : BoardScript) (h : Holding) : Type 0 where
   pub runs : RunsOn (script_in s) h.call (table_at (work s) h.knows.seen h.start) h.running.task
   pub executed : IsExecuted (work s) h.knows.seen h.call h.from h.start h.running
 
--- Behind the lock, in one hold
+-- At the desk, in one hold
 
 -- a live call of the script, and its task
 pub record IsUnderWay (b : Booked) (c : ℕ) (r : Running) : Type 0 where
@@ -203,6 +203,13 @@ GivesBack old (answer.Committed n) (Some h) new = ⊥
 GivesBack old (answer.Committed n) None new = Unit {0}
 GivesBack old answer.Lost (Some h) new = ⊥
 GivesBack old answer.Lost None new = Unit {0}
+
+-- The mark of the lock
+
+-- whether a hold has found no memory, after one more with this result
+abbrev pub marked : {T : Type 0} → Result T NoMemory → Bool → Bool
+marked (Ok x) before = before
+marked (Err e) before = true
 
 -- The end
 

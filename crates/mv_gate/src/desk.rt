@@ -1,4 +1,4 @@
-//! What lies behind the gate's lock: the history of a run and its tables.
+//! The history of a run and its tables, in which events are made.
 
 ghost use Rattle.std.specs.Prelude.{◌≡◌, ◌≢◌, ◌↔◌, ◌<◌, ◌≤◌, ◌+◌, [], None, Some, true, false, IsTrue, IfOk, OnOk, OnErr, length};
 ghost use mathlib.Core.List.{IsPrefix};
@@ -31,14 +31,12 @@ use mv_values::memory::NoMemory;
 use std::alloc::Global;
 use std::marker::Model;
 
-/// What lies behind the gate's lock: the history of a run, its tables, and the gate's pass. Contracts see the history.
+/// The history of a run, its tables, and the gate's pass. Contracts see the history.
 #[derive(Drop)]
 pub struct Desk<N: Making> {
     book: Book,
     store: Store,
     pass: Pass<N>,
-    /// Whether a hold has found no memory.
-    wants_memory: bool,
 }
 
 impl<N: Making> Model for Desk<N> {
@@ -68,12 +66,7 @@ impl<N: Making> Desk<N> {
     {
         let store = Store::new(alloc, &script.opening)?;
         let book = Book::new(alloc, script);
-        Ok(Desk {
-            book,
-            store,
-            pass,
-            wants_memory: false,
-        })
+        Ok(Desk { book, store, pass })
     }
 
     /// Event B. Begins the next call, after all commits, and hands it out. It copies the call's arguments. Returns `None`
@@ -95,18 +88,6 @@ impl<N: Making> Desk<N> {
             running: Running { task, count: None },
             pass: note(&mut self.pass, board),
         }))
-    }
-
-    /// Whether a hold has found no memory. Then no worker begins a call, and nothing is collected.
-    pub fn wants_memory(&self) -> bool {
-        self.wants_memory
-    }
-
-    /// Notes that a hold has found no memory.
-    pub fn mark(&mut self)
-        ensures { self.new ≡ self.old }
-    {
-        self.wants_memory = true;
     }
 
     /// Splits off a plain pass that has seen all commits.

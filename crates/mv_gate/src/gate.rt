@@ -8,6 +8,7 @@ ghost use Rattle.mv_gate.specs.Gates.{script_in, work, IsOutcome};
 
 use crate::answers::Answer;
 use crate::desk::Desk;
+use crate::guarded::Guarded;
 use crate::held::Held;
 use crate::notes::note;
 use mv_core::script::Script;
@@ -32,7 +33,7 @@ const COLLECTION_INTERVAL: u32 = 64;
 #[derive(Drop)]
 pub struct Gate<N: Making> {
     board: Board<N>,
-    desk: Mutex<Desk<N>>,
+    guarded: Mutex<Guarded<N>>,
 }
 
 /// The post of a worker: its pass and its number.
@@ -57,33 +58,22 @@ impl<N: Making> Gate<N> {
         let (board, pass) = blank.open::<N>();
         let mut desk = Desk::new(alloc, script, pass)?;
         let pass = desk.pass_for(&board);
-        let desk = Mutex::new(desk);
-        Ok((Gate { board, desk }, pass))
+        let guarded = Mutex::new(Guarded::new(desk));
+        Ok((Gate { board, guarded }, pass))
     }
 
     /// Event B, as one hold. Returns `None` too once a hold has found no memory.
     fn begin<R: Wait>(&self, rt: &R, alloc: Global) -> Result<Option<Held<N>>, NoMemory> {
-        let mut desk = self.desk.lock(rt);
-        if desk.wants_memory() {
-            return Ok(None);
-        }
-        let begun = desk.begin(alloc, &self.board);
-        if begun.is_err() {
-            desk.mark();
-        }
-        begun
+        let mut guarded = self.guarded.lock(rt);
+        guarded.begin(alloc, &self.board)
     }
 
     /// Event S, as one hold.
     fn step<R: Wait>(&self, rt: &R, alloc: Global, held: &mut Held<N>) -> Result<bool, NoMemory>
         ensures { held.new.call ≡ held.old.call }
     {
-        let mut desk = self.desk.lock(rt);
-        let ran = desk.step(alloc, &self.board, held);
-        if ran.is_err() {
-            desk.mark();
-        }
-        ran
+        let mut guarded = self.guarded.lock(rt);
+        guarded.step(alloc, &self.board, held)
     }
 
     /// Event C, A, X or M, or M and C, as one hold.
@@ -93,12 +83,8 @@ impl<N: Making> Gate<N> {
         alloc: Global,
         held: Held<N>,
     ) -> Result<(Answer, Option<Held<N>>), NoMemory> {
-        let mut desk = self.desk.lock(rt);
-        let tried = desk.attempt(alloc, &self.board, held);
-        if tried.is_err() {
-            desk.mark();
-        }
-        tried
+        let mut guarded = self.guarded.lock(rt);
+        guarded.attempt(alloc, &self.board, held)
     }
 
     /// Event G, as one hold, after each commit whose number is a multiple of `COLLECTION_INTERVAL`, unless a hold has found
@@ -107,13 +93,8 @@ impl<N: Making> Gate<N> {
         if commit % COLLECTION_INTERVAL != 0 {
             return;
         }
-        let mut desk = self.desk.lock(rt);
-        if desk.wants_memory() {
-            return;
-        }
-        if desk.collect().is_err() {
-            desk.mark();
-        }
+        let mut guarded = self.guarded.lock(rt);
+        let _collected = guarded.collect();
     }
 }
 
@@ -248,8 +229,9 @@ pub fn run_all<N: Making + Send + Sync, R: Threads + Wait + Sync, P: Pace>(
         workers as usize,
         &|_, post: &mut Post<N>| work_at(rt, alloc, shared, post, pace),
     );
-    let Gate { board, desk } = gate;
-    let mut desk = desk.into_inner();
+    let Gate { board, guarded } = gate;
+    let guarded = guarded.into_inner();
+    let mut desk = guarded.into_desk();
     desk.finish(alloc, &board)?;
     desk.outcome(alloc)
 }

@@ -4,6 +4,7 @@
 pub mod answers;
 pub mod desk;
 pub mod gate;
+mod guarded;
 pub mod held;
 mod notes;
 mod rounds;
