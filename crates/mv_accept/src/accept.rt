@@ -70,7 +70,10 @@ impl From<ParseFault> for NotAccepted {
     fn from(fault: ParseFault) -> NotAccepted {
         match fault {
             ParseFault::Syntax { token } => NotAccepted::Refused(Refusal::Syntax { token }),
-            ParseFault::Limit { which, token } => NotAccepted::Refused(Refusal::Limit { which, token }),
+            ParseFault::Limit { which, token } => NotAccepted::Refused(Refusal::Limit {
+                which,
+                token,
+            }),
             ParseFault::NoMemory => NotAccepted::NoMemory,
         }
     }
@@ -84,10 +87,14 @@ impl From<NameFault> for NotAccepted {
 
     fn from(fault: NameFault) -> NotAccepted {
         match fault {
-            NameFault::UnknownName { token } => NotAccepted::Refused(Refusal::UnknownName { token }),
+            NameFault::UnknownName { token } => NotAccepted::Refused(Refusal::UnknownName {
+                token,
+            }),
             NameFault::DoubleName { token } => NotAccepted::Refused(Refusal::DoubleName { token }),
             NameFault::WrongType { token } => NotAccepted::Refused(Refusal::WrongType { token }),
-            NameFault::KeyAssigned { token } => NotAccepted::Refused(Refusal::KeyAssigned { token }),
+            NameFault::KeyAssigned { token } => NotAccepted::Refused(Refusal::KeyAssigned {
+                token,
+            }),
             NameFault::Late { token } => NotAccepted::Refused(Refusal::Late { token }),
             NameFault::NoMemory => NotAccepted::NoMemory,
         }

@@ -41,7 +41,10 @@ fn compare<R: Stored>(sorts: &[RSort], a: &R, b: &R) -> Ordering
 }
 
 /// Borrows each of the rows.
-pub(crate) fn references<'a, R: Stored>(alloc: Global, rows: &'a [R]) -> Result<Vec<&'a R>, NoMemory>
+pub(crate) fn references<'a, R: Stored>(
+    alloc: Global,
+    rows: &'a [R],
+) -> Result<Vec<&'a R>, NoMemory>
     ensures { IfOk result (λ v. map (λ r. R.keyed r.now) v.items ≡ map R.keyed rows.now) }
 {
     let mut all = Vec::new(alloc);

@@ -37,7 +37,11 @@ impl Reader<'_> {
 
     /// Parses zero or more tokens of this kind.
     #[tactic(auto, using(crate::proofs::Turns::more_turn, crate::proofs::Turns::more_stop))]
-    pub(crate) fn repeated(&self, at: usize, kind: Terminal) -> Result<(List<Lexeme>, usize), Failure>
+    pub(crate) fn repeated(
+        &self,
+        at: usize,
+        kind: Terminal,
+    ) -> Result<(List<Lexeme>, usize), Failure>
         ensures { Reads self.now at (λ _. many (one kind)) result }
     {
         let mut all = List::new(self.alloc);

@@ -8,7 +8,7 @@ ghost use Rattle.mv_ast.specs.declared.tree.Script.{Script};
 ghost use Rattle.mv_ast.specs.Lexemes.{IsScript, PassesLimit, CannotStand, lexemes};
 ghost use Rattle.mv_parser.specs.Whole.{parsed, Answers, Tells};
 
-use crate::fault::{ParseFault, Failure};
+use crate::fault::{Failure, ParseFault};
 use crate::lexing::lexemes_of;
 use crate::reader::Reader;
 use mv_ast::limit::Passed;
