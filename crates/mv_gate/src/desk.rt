@@ -160,6 +160,7 @@ impl<N: Making> Desk<N> {
     ) -> Result<bool, NoMemory>
         ensures made { StepsOn held.old result self.old self.new }
         ensures one { IfOk result (λ ran. ran ≡ true → HasRunOne held.old.running.task held.new.running.task) }
+        ensures none { IfOk result (λ ran. ran ≡ false → held.new ≡ held.old) }
         ensures known { IsKnown self.old held.old → IsKnown self.new held.new }
         ensures call { held.new.call ≡ held.old.call }
         ensures start { held.new.start ≡ held.old.start }
@@ -268,7 +269,7 @@ impl<N: Making> Desk<N> {
     }
 
     /// Events M and C of a call whose start is below low. All memory is taken before the first event. So no call is left
-    /// that has moved here and hasn't committed, and collections may go on after a want of memory.
+    /// that has moved here and hasn't committed.
     fn move_and_commit(
         &mut self,
         alloc: Global,

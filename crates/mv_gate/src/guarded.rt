@@ -12,7 +12,7 @@ use mv_seats::board::{Board, Making};
 use mv_values::memory::NoMemory;
 use std::alloc::Global;
 
-/// A desk, and whether a hold has found no memory. From then on no call begins, and nothing is collected.
+/// A desk, and whether a hold has found no memory. From then on no worker begins a call, and nothing is collected.
 #[derive(Drop)]
 pub(crate) struct Guarded<N: Making> {
     desk: Desk<N>,
@@ -58,6 +58,7 @@ impl<N: Making> Guarded<N> {
     ) -> Result<bool, NoMemory>
         ensures made { StepsOn held.old result self.old.desk self.new.desk }
         ensures one { IfOk result (λ ran. ran ≡ true → HasRunOne held.old.running.task held.new.running.task) }
+        ensures none { IfOk result (λ ran. ran ≡ false → held.new ≡ held.old) }
         ensures known { IsKnown self.old.desk held.old → IsKnown self.new.desk held.new }
         ensures call { held.new.call ≡ held.old.call }
         ensures start { held.new.start ≡ held.old.start }
