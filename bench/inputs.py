@@ -140,6 +140,11 @@ def insertions_in_random_order(n):
     return [NUMBERS, procedure], repeated(n, lambda number: f"p({keys[number]})")
 
 
+def insertions_with_falling_keys(n):
+    procedure = "CREATE PROCEDURE p (:k INT) BEGIN INSERT INTO t VALUES (:k, 0); END;\n"
+    return [NUMBERS, procedure], repeated(n, lambda number: f"p({n - number})")
+
+
 def deletions_in_random_order(n):
     keys = in_random_order(n)
     procedure = "CREATE PROCEDURE p (:k INT) BEGIN DELETE FROM t WHERE id = :k; END;\n"

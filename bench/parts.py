@@ -353,7 +353,13 @@ GROWTH = {  # with n by `serial` and by `run`
     "n calls of INSERT with random keys": (inputs.insertions_in_random_order, 50_000, 50_000),
     "COPY, and n calls of DELETE with random keys": (inputs.deletions_in_random_order, 50_000, 50_000),
 }
-LONG_GROWTH = {"n INSERTs with falling keys, many more": (inputs.falling_insertions, 100_000, 100_000)}
+LONG_GROWTH = {
+    "20 UPDATEs of n rows in a call, more": (inputs.updates_in_a_call, 8_000, 8_000),
+    "n INSERTs with falling keys in a call, more": (inputs.falling_insertions, 100_000, 100_000),
+    "n calls of INSERT with falling keys": (inputs.insertions_with_falling_keys, 100_000, 100_000),
+    "n calls of the last of 256 procedures, more": (inputs.last_of_many_procedures, 150_000, 150_000),
+    "n statements in nested loops, more": (inputs.nested_loops, 500_000, 500_000),
+}
 
 
 def growth(bench):
