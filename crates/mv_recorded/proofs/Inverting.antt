@@ -95,8 +95,8 @@ parent_later before these (Some p) turns h = (h.0, get_front before these p (sli
 
 here_later : (g : Ground) (site : Site) (rows : List ℕ) (before these : List Record) (st next : State) → IsAtSite g site rows before st → Told g (before ++ these) next → Keeps rows st next
     → IsAtSite g site rows (before ++ these) next
-here_later g site rows before these st next here tell_statements keeps = record {
-  tell_statements = tell_statements;
+here_later g site rows before these st next here told keeps = record {
+  told = told;
   around = here.around;
   high = here.high;
   loops = loops_later before these st.env next.env site.loops site.turns (λ x w. keeps x (subst (Within x) here.around w)) here.loops;
@@ -147,7 +147,7 @@ turns_trace g x F body tells h (row ∷ rows) passed k os n site number before s
     ap (λ o. slice_index_or (rows_of o) (k - 1) []) found ∙ (ap (λ l. slice_index_or l (k - 1) []) are ∙ (ap (λ i. slice_index_or (passed ++ row ∷ rows) i []) (let e : k - 1 ≡ length passed = omega (arith, at) in e) ∙ seam passed)) in
     let loops : LoopsHold (before ++ []) next.env site.loops site.turns = loops_later before [] st.env next.env site.loops site.turns (λ y w. others y (subst (Within y) here.around w)) here.loops in
     let inside : IsAtSite g inner (x ∷ os) before next = record {
-      tell_statements = record {
+      told = record {
         tables = here.told.tables;
         held = λ y ly. get_other st.env.held x y (Turn row) (λ same. omega (arith, same, ly, high)) ∙ here.told.held y ly;
         found = here.told.found;
@@ -417,7 +417,7 @@ all_own g ground ss text suits env first =
     (told_trace g ground ss [] 1 outside [] (record { env = env; tables = g.db; lines = [] })
     ([], [], text ∙ sym (append-nil (flat_all ss [])), refl) suits
     (record {
-      tell_statements = record { tables = refl; held = λ x lt. ap (λ e. held_at e x) (sym first); found = ap (λ (e : Env). e.found) (sym first); slots = tt; rising = ground.rising };
+      told = record { tables = refl; held = λ x lt. ap (λ e. held_at e x) (sym first); found = ap (λ (e : Env). e.found) (sym first); slots = tt; rising = ground.rising };
       around = refl;
       high = tt;
       loops = refl;
