@@ -162,7 +162,7 @@ turns_trace g x F body tells h (row ∷ rows) passed k os n site number before s
     let first = h (x ∷ os) n inner before next stands suits inside in
     let outer : Traced g before these os st (body next) = (first.0, weaker these next (body next) others first.1) in
     then_traced g before these os st (body next) (tell_turns x body tells rows (k + 1) n (within_loop x number site) (before ++ these)) (each_turn x body rows) outer
-    (λ mid tell_statements keeps. turns_trace g x F body tells h rows (passed ++ row ∷ []) (k + 1) os n site number (before ++ these) mid stands suits high apart (here_later g site os before these st mid here tell_statements keeps)
+    (λ mid told keeps. turns_trace g x F body tells h rows (passed ++ row ∷ []) (k + 1) os n site number (before ++ these) mid stands suits high apart (here_later g site os before these st mid here told keeps)
     (omega (arith, lt, length-append before these)) own (get_front before these number lt ∙ found) same (are ∙ sym (append_assoc passed (row ∷ []) rows)) (omega (arith, at, length-append passed (row ∷ []))))
   where
     seam : (ps : List (List Value)) → slice_index_or (ps ++ row ∷ rows) (length ps) [] ≡ row
@@ -320,8 +320,8 @@ all_trace g (k ∷ ks) rows n site before st stands suits here =
     let split = each_both (Suits g.tables g.params g.base) (flat k.0 rows) (flat_all (plain g ks) rows) suits in
     then_traced g before these rows st (does g.tables k.0 st) (tell_statements g.tables g.params (plain g ks) (n + size k.0) site (before ++ these)) (alone g.tables (plain g ks))
     (k.1 rows n site before st (stands_first g.text n (flat k.0 rows) (flat_all (plain g ks) rows) stands) split.0 here)
-    (λ mid tell_statements keeps. all_trace g ks rows (n + size k.0) site (before ++ these) mid
-    (stands_second g.text n (size k.0) (flat k.0 rows) (flat_all (plain g ks) rows) (flat_sized k.0 rows) stands) split.1 (here_later g site rows before these st mid here tell_statements keeps))
+    (λ mid told keeps. all_trace g ks rows (n + size k.0) site (before ++ these) mid
+    (stands_second g.text n (size k.0) (flat k.0 rows) (flat_all (plain g ks) rows) (flat_sized k.0 rows) stands) split.1 (here_later g site rows before these st mid here told keeps))
 
 abbrev unknown : (g : Ground) → RStmt-F (Known g) → RStmt-F RStmt
 unknown g y = map-RStmt (Known g) RStmt (λ k. k.0) y
@@ -377,7 +377,7 @@ step_trace g ground (Branch e ys ns) rows n site before st stands suits here =
     let split = each_both (Suits g.tables g.params g.base) yes not suits.1 in
     let long : length yes ≡ total_size (map (λ (s : RStmt × Tells). size s.0) (map (λ s. (s, tell g.tables g.params s)) (plain g ys))) = all_sized (plain g ys) rows ∙ sym (sizes_of g (plain g ys)) in
     if_trace g (value_of e st.env []) own before rows st _ _ _ _
-    (λ tell_statements. let at : IsAtSite g (within (length before) site) rows (before ++ own ∷ []) st = here_within g (length before) site rows (before ++ own ∷ []) st (own, get_last before own [], inl refl) (here_later g site rows before (own ∷ []) st st here tell_statements (λ x w. refl)) in (
+    (λ told. let at : IsAtSite g (within (length before) site) rows (before ++ own ∷ []) st = here_within g (length before) site rows (before ++ own ∷ []) st (own, get_last before own [], inl refl) (here_later g site rows before (own ∷ []) st st here told (λ x w. refl)) in (
       all_trace g ys rows (n + 1) (within (length before) site) (before ++ own ∷ []) st (stands_first g.text (n + 1) yes not behind) split.0 at,
       all_trace g ns rows _ (within (length before) site) (before ++ own ∷ []) st (stands_second g.text (n + 1) _ yes not long behind) split.1 at,
     ))
