@@ -1,6 +1,6 @@
 //! What the gate's lock guards: a desk, and whether a hold has found no memory.
 
-ghost use Rattle.std.specs.Prelude.{◌≡◌, ◌×◌, ◌→◌, Ok, None, true, false, IfOk};
+ghost use Rattle.std.specs.Prelude.{◌≡◌, Ok, None, true, false, IfOk};
 ghost use Rattle.mv_core.specs.Cores.{HasRunOne, HasCollected};
 ghost use Rattle.mv_gate.specs.declared.answers.Answer.TheVariants as Answer;
 ghost use Rattle.mv_gate.specs.Gates.{IsKnown, HandsOut, StepsOn, Tries, answer_in, GivesBack, marked};
