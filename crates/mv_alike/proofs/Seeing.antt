@@ -19,10 +19,10 @@ use Rattle.mv_values.specs.Columns.{column_of, columns_of}
 use Rattle.mv_values.specs.Order.{key_order}
 use Rattle.mv_values.specs.Patching.{with_columns, patched}
 use Rattle.mv_values.specs.Preds.{admits, names, sees}
-use Rattle.mv_values.proofs.KeyOrder.{key_order_total}
+use Rattle.mv_values.proofs.KeyOrder.{key_order_total, tied}
 use Rattle.mv_record.specs.Writes.{is_on, writes_on, patched_by}
 use Rattle.mv_history.proofs.Alike.{alike_sees}
-use Rattle.mv_history.proofs.Listing.{tied, same_is}
+use Rattle.mv_history.proofs.Listing.{same_is}
 use Rattle.mv_history.specs.declared.change.Change.{Change}
 use Rattle.mv_history.specs.Changes.{is_of, Leads, is_same}
 use Rattle.mv_history.specs.Hits.{named_columns, is_alike, reaches, touches_predicate}

@@ -19,17 +19,16 @@ use Rattle.mv_values.specs.declared.patch.Write.{Write}
 use Rattle.mv_values.specs.Order.{key_order}
 use Rattle.mv_values.specs.Patching.{row_of, patched, applied}
 use Rattle.mv_values.specs.Tables.{rows_at}
-use Rattle.mv_values.proofs.KeyOrder.{exact_keys}
+use Rattle.mv_values.proofs.KeyOrder.{exact_keys, tied, same_key}
 use Rattle.mv_record.specs.declared.record.Record.{Record}
 use Rattle.mv_record.specs.Runs.{Tables, writes_in}
 use Rattle.mv_record.specs.Writes.{AreRising, is_on, writes_on, patched_by}
 use Rattle.mv_record.proofs.Patching.{row_applied, rising_applied, length_applied, applied_append}
-use Rattle.mv_record.proofs.Rising.{same_key}
 use Rattle.mv_table.specs.Entries.{item_of, put_by, with_item, KeysRise}
 use Rattle.mv_undo.specs.Owning.{touches}
 use Rattle.mv_history.specs.declared.change.Change.{Change}
 use Rattle.mv_history.specs.Changes.{is_same, change_of, changes_between, is_of, place, InOrder, ListsChanges}
-use Rattle.mv_history.proofs.Listing.{tied, same_itself, After, Ordered, in_order, none_after, place_of, only_these}
+use Rattle.mv_history.proofs.Listing.{same_itself, After, Ordered, in_order, none_after, place_of, only_these}
 use Rattle.mv_changes.specs.Drafting.{changed_by, drafted, IsDraft, differing}
 
 abbrev pub Entry : Type 0

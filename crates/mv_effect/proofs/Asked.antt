@@ -3,8 +3,6 @@ use Rattle.std.proofs.Common.{◌≡◌, ◌≤◌, ◌+◌, ℕ, Bool, true, fa
 use Rattle.std.specs.Prelude.{◌||◌}
 use Rattle.std.proofs.lemmas.List.{drop_all}
 use Rattle.std.specs.Ordering.{is_eq}
-use Rattle.std.specs.declared.cmp.Ordering.{Ordering}
-use Rattle.std.specs.declared.cmp.Ordering.TheVariants.{Less, Equal, Greater}
 use Rattle.mv_values.specs.declared.value.Value.{Value}
 use Rattle.mv_values.specs.declared.rows.Keyed.{Keyed}
 use Rattle.mv_values.specs.declared.pred.Pred.{Pred}
@@ -15,7 +13,7 @@ use Rattle.mv_alone.specs.declared.state.Env.{Env}
 use Rattle.mv_values.specs.Keys.{IsRising}
 use Rattle.mv_values.specs.Order.{key_order}
 use Rattle.mv_values.specs.Patching.{row_of, placed}
-use Rattle.mv_values.proofs.KeyOrder.{exact_keys}
+use Rattle.mv_values.proofs.KeyOrder.{tied}
 use Rattle.mv_record.proofs.Patching.{row_of-placed_same, placed_other, rising_placed}
 use Rattle.mv_undo.specs.Owning.{is_among}
 use Rattle.mv_view.specs.Viewing.{Sight, one_more, with_rows_call}
@@ -58,16 +56,11 @@ rows_under_all rows own [] key h = refl
 rows_under_all rows own (k ∷ ks) key h =
     rows_under_all rows (placed k (row_of rows k) own) ks key (rising_placed k (row_of rows k) own h) ∙ by (is_among ks key) (is_eq (key_order k key)) refl
   where
-    equal : (o : Ordering) → is_eq o ≡ true → o ≡ Equal
-    equal Less e = cc
-    equal Equal e = refl
-    equal Greater e = cc
-
     by : (b c : Bool) → is_eq (key_order k key) ≡ c → picked b (row_of rows key) (row_of (placed k (row_of rows k) own) key) ≡ picked (c || b) (row_of rows key) (row_of own key)
     by true true e = refl
     by true false e = refl
     by false true e =
-        let same = exact_keys k key (equal (key_order k key) e) in
+        let same = tied k key e in
         subst (λ z. row_of (placed k (row_of rows k) own) z ≡ row_of rows z) same (row_of-placed_same k (row_of rows k) own h)
     by false false e = placed_other k (row_of rows k) own key e
 

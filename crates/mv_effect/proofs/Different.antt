@@ -5,9 +5,10 @@ use Rattle.std.specs.Ordering.{is_eq, ordering_reverse}
 use Rattle.std.specs.declared.cmp.Ordering.{Ordering}
 use Rattle.std.specs.declared.cmp.Ordering.TheVariants.{Less, Equal, Greater}
 use Rattle.std.proofs.lemmas.Bool.Decides.{nat_tests, eqb_tells}
+use Rattle.std.proofs.lemmas.Bool.{and_parts}
 use Rattle.mv_values.specs.declared.patch.Write.{Write}
 use Rattle.mv_values.specs.Order.{key_order}
-use Rattle.mv_values.proofs.KeyOrder.{key_order_total, exact_keys}
+use Rattle.mv_values.proofs.KeyOrder.{key_order_total, tied}
 use Rattle.mv_record.specs.Writes.{is_on}
 use Rattle.mv_undo.specs.Owning.{touches}
 use Rattle.mv_effect.specs.Looking.{different}
@@ -26,22 +27,13 @@ on_either_way v w =
     ap (λ b. b && is_eq (key_order w.key v.key)) (table_either_way w.table v.table)
     ∙ ap (λ b. (v.table == w.table) && b) (ap is_eq (key_order_total.antisymm w.key v.key) ∙ same_either_way (key_order v.key w.key))
 
-both_true : (b c : Bool) → (b && c) ≡ true → (b ≡ true) × (c ≡ true)
-both_true true c e = (refl, e)
-both_true false c e = cc
-
-equal_order : (o : Ordering) → is_eq o ≡ true → o ≡ Equal
-equal_order Less e = cc
-equal_order Equal e = refl
-equal_order Greater e = cc
-
 -- where a write is on the key of another one, the same writes touch both
 touched_alike : (v w : Write) (ws : List Write) → is_on v.table v.key w ≡ true → touches v.table v.key ws ≡ touches w.table w.key ws
 touched_alike v w ws on =
-    let both : ((w.table == v.table) ≡ true) × (is_eq (key_order w.key v.key) ≡ true) = both_true (w.table == v.table) (is_eq (key_order w.key v.key)) on in
+    let both : ((w.table == v.table) ≡ true) × (is_eq (key_order w.key v.key) ≡ true) = and_parts (w.table == v.table) (is_eq (key_order w.key v.key)) on in
     let table : (w.table == v.table) ≡ true = both.0 in
     let same : w.table ≡ v.table = grind (arith, eqb_tells) in
-    let key : w.key ≡ v.key = exact_keys w.key v.key (equal_order (key_order w.key v.key) both.1) in
+    let key : w.key ≡ v.key = tied w.key v.key both.1 in
     ap (λ t. touches t v.key ws) (sym same) ∙ ap (λ k. touches w.table k ws) (sym key)
 
 or_last : (b c : Bool) → (b || (c || false)) ≡ (b || c)

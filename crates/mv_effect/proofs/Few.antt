@@ -1,12 +1,12 @@
 -- Lists of things that are all different are no longer than what they are of.
 use Rattle.std.proofs.Common.{◌≡◌, ◌≤◌, ◌<◌, ℕ, zero, suc, ◌==◌, Bool, true, false, cond, not, List, [], ◌∷◌, All, length, refl, sym, ap, subst, ◌∙◌, arith, if◌then◌else◌}
-use Rattle.std.specs.Prelude.{AllPairs, ◌&&◌, ◌||◌}
+use Rattle.std.specs.Prelude.{AllPairs, ◌||◌}
 use Rattle.std.proofs.lemmas.Bool.Decides.{eqb_tells}
 use Rattle.std.specs.List.{filter}
 use Rattle.std.proofs.lemmas.List.Elements.{All-weaker}
 use Rattle.std.specs.Ordering.{is_eq}
-use Rattle.std.specs.declared.cmp.Ordering.{Ordering}
-use Rattle.std.specs.declared.cmp.Ordering.TheVariants.{Less, Equal, Greater}
+use Rattle.std.specs.declared.cmp.Ordering.TheVariants.{Less, Equal}
+use Rattle.std.proofs.lemmas.Bool.{and_parts}
 use Rattle.mv_values.specs.declared.value.Value.{Value}
 use Rattle.mv_values.specs.declared.patch.Write.{Write}
 use Rattle.mv_values.specs.declared.pred.Pred.{Pred}
@@ -14,10 +14,9 @@ use Rattle.mv_values.specs.declared.schema.TableInfo.{TableInfo}
 use Rattle.mv_values.specs.Order.{key_order}
 use Rattle.mv_values.specs.Preds.{admits}
 use Rattle.mv_values.specs.Tables.{key_columns, columns_at}
-use Rattle.mv_values.proofs.KeyOrder.{exact_keys}
+use Rattle.mv_values.proofs.KeyOrder.{tied, same_key}
 use Rattle.mv_catalog.specs.Text.{IsTable}
 use Rattle.mv_record.specs.Writes.{is_on}
-use Rattle.mv_record.proofs.Rising.{same_key}
 use Rattle.mv_undo.specs.Owning.{touches, is_among, AreSought}
 use Rattle.mv_effect.specs.Looking.{different}
 
@@ -137,20 +136,11 @@ keys_few t [] [] h w = omega arith
 keys_few t [] (k ∷ ks) h w = cc
 keys_few t (w ∷ ws) ks h all = by (λ l p q. keys_few t ws l p q) (touches w.table w.key ws) refl
   where
-    equal : (o : Ordering) → is_eq o ≡ true → o ≡ Equal
-    equal Less e = cc
-    equal Equal e = refl
-    equal Greater e = cc
-
-    both : (b c : Bool) → (b && c) ≡ true → (b ≡ true) × (c ≡ true)
-    both true c e = (refl, e)
-    both false c e = cc
-
     here_key : (k : List Value) → is_on t k w ≡ true → w.key ≡ k
-    here_key k e = exact_keys w.key k (equal (key_order w.key k) (both (w.table == t) (is_eq (key_order w.key k)) e).1)
+    here_key k e = tied w.key k (and_parts (w.table == t) (is_eq (key_order w.key k)) e).1
 
     here_table : (k : List Value) → is_on t k w ≡ true → w.table ≡ t
-    here_table k e = let n : (w.table == t) ≡ true = (both (w.table == t) (is_eq (key_order w.key k)) e).0 in grind (arith, eqb_tells)
+    here_table k e = let n : (w.table == t) ≡ true = (and_parts (w.table == t) (is_eq (key_order w.key k)) e).0 in grind (arith, eqb_tells)
 
     by : ((l : List (List Value)) → Pairs (λ a b. key_order a b ≡ Less) l → Each (λ k. touches t k ws ≡ true) l → length l ≤ different ws)
         → (b : Bool) → touches w.table w.key ws ≡ b → length ks ≤ (if b then different ws else suc (different ws))
@@ -175,10 +165,6 @@ keys_few t (w ∷ ws) ks h all = by (λ l p q. keys_few t ws l p q) (touches w.t
 pub sought_few : (pred : Pred) (ws : List Write) (ks : List (List Value)) → AreSought pred ws ks → length ks ≤ different ws
 sought_few pred ws ks h = keys_few pred.table ws ks (pairs_of (λ a b. key_order a b ≡ Less) ks h.rising) (touched ks (λ k e. e))
   where
-    front : (b c : Bool) → (b && c) ≡ true → b ≡ true
-    front true c e = refl
-    front false c e = cc
-
     among_first : (k : List Value) (l : List (List Value)) → is_among (k ∷ l) k ≡ true
     among_first k l = ap (λ o. is_eq o || is_among l k) (same_key k)
 
@@ -192,7 +178,7 @@ sought_few pred ws ks h = keys_few pred.table ws ks (pairs_of (λ a b. key_order
     touched : (l : List (List Value)) → ((k : List Value) → is_among l k ≡ true → is_among ks k ≡ true) → Each (λ k. touches pred.table k ws ≡ true) l
     touched [] sub = tt
     touched (k ∷ l) sub =
-        (front (touches pred.table k ws) (admits pred k) (sym (h.are k) ∙ sub k (among_first k l)), touched l (λ z e. sub z (among_later z k l e)))
+        ((and_parts (touches pred.table k ws) (admits pred k) (sym (h.are k) ∙ sub k (among_first k l))).0, touched l (λ z e. sub z (among_later z k l e)))
 
 -- a table has no more than 32 columns
 pub columns_few : (tables : List TableInfo) (t : ℕ) → All IsTable tables → length (columns_at tables t) ≤ 32

@@ -1,10 +1,10 @@
 -- The first row of rising rows, and the nearer one of two parts of them.
-use Rattle.std.proofs.Common.{◌≡◌, ◌<◌, ◌⊎◌, inl, inr, ℕ, suc, Bool, true, false, cond, not, List, [], ◌∷◌, ◌++◌, Option, Some, None, length, refl, sym, ap, subst, ◌∙◌, arith}
-use Rattle.std.specs.Prelude.{◌&&◌, ◌||◌}
+use Rattle.std.proofs.Common.{◌≡◌, ◌<◌, ◌⊎◌, inl, inr, Bool, true, false, cond, not, List, [], ◌∷◌, ◌++◌, Option, Some, None, length, refl, sym, ap, subst, ◌∙◌}
 use Rattle.std.specs.Option.{option_or}
-use Rattle.std.specs.Ordering.{is_eq, is_lt, ordering_reverse}
-use Rattle.std.specs.declared.cmp.Ordering.{Ordering}
-use Rattle.std.specs.declared.cmp.Ordering.TheVariants.{Less, Equal, Greater}
+use Rattle.std.specs.Ordering.{is_eq, is_lt}
+use Rattle.std.specs.declared.cmp.Ordering.TheVariants.{Less}
+use Rattle.std.proofs.lemmas.Bool.{both_ways}
+use Rattle.std.proofs.lemmas.Option.{none-some}
 use Rattle.mv_values.specs.declared.value.Value.{Value}
 use Rattle.mv_values.specs.declared.rows.Keyed.{Keyed}
 use Rattle.mv_values.specs.declared.patch.Write.{Write}
@@ -14,42 +14,31 @@ use Rattle.mv_values.specs.Order.{key_order}
 use Rattle.mv_values.specs.Patching.{row_of, applied, found_by}
 use Rattle.mv_values.specs.Preds.{admits, matched}
 use Rattle.mv_values.specs.Tables.{rows_at}
-use Rattle.mv_values.proofs.KeyOrder.{key_order_total, exact_keys}
+use Rattle.mv_values.proofs.KeyOrder.{key_order_total, tied, same_key}
+use Rattle.mv_values.proofs.Deciding.{less_is}
 use Rattle.mv_table.specs.declared.scan.Direction.{Direction}
 use Rattle.mv_table.specs.declared.scan.Direction.TheVariants.{Forward, Backward}
 use Rattle.mv_table.specs.Scans.{foremost, with_foremost}
 use Rattle.mv_table.proofs.Scanning.{foremost_there, foremost_none}
 use Rattle.mv_record.specs.Admitting.{Admitted}
-use Rattle.mv_record.specs.Writes.{is_on, writes_on, patched_by, AreRising}
+use Rattle.mv_record.specs.Writes.{writes_on, patched_by, AreRising}
 use Rattle.mv_record.proofs.Patching.{row_of-found, rising_found, rising_filter, row_applied, rising_applied}
-use Rattle.mv_record.proofs.Rising.{same_key, Above, Rises, rises_from, filter_row, kept, unadmitted}
+use Rattle.mv_record.proofs.Rising.{Above, Rises, rises_from, filter_row, kept, unadmitted, keyed_same}
 use Rattle.mv_undo.specs.Taking.{meets_first}
 use Rattle.mv_undo.specs.Owning.{touches, is_sought}
 use Rattle.mv_undo.proofs.Taking.{row_with, never_itself}
-use Rattle.mv_undo.proofs.KeyPlaces.{equal_is}
 use Rattle.mv_undo.proofs.Laying.{untouched}
 use Rattle.mv_view.specs.Narrowing.{outside}
 use Rattle.mv_effect.specs.Firsts.{is_met_before, IsFirstOf}
 
-pub clash : (b : Bool) → b ≡ true → b ≡ false → ⊥
-clash b h g = cc
-
-none_some : {A : Type 0} (o : Option A) (x : A) → o ≡ None → o ≡ Some x → ⊥
-none_some o x h g = cc
-
 -- Keys in a direction
 
-less_of : (o : Ordering) → is_lt o ≡ true → o ≡ Less
-less_of Less h = refl
-less_of Equal h = cc
-less_of Greater h = cc
-
 pub met_after : (d : Direction) (a b c : List Value) → meets_first d a b ≡ true → meets_first d b c ≡ true → meets_first d a c ≡ true
-met_after Forward a b c h g = ap is_lt (key_order_total.trans a b c (less_of _ h) (less_of _ g))
-met_after Backward a b c h g = ap is_lt (key_order_total.trans c b a (less_of _ g) (less_of _ h))
+met_after Forward a b c h g = ap is_lt (key_order_total.trans a b c (less_is _ h) (less_is _ g))
+met_after Backward a b c h g = ap is_lt (key_order_total.trans c b a (less_is _ g) (less_is _ h))
 
 pub not_both : (d : Direction) (a b : List Value) → meets_first d a b ≡ true → meets_first d b a ≡ true → ⊥
-not_both d a b h g = clash (meets_first d a a) (met_after d a b a h g) (never_itself d a)
+not_both d a b h g = both_ways (meets_first d a a) (never_itself d a) (met_after d a b a h g)
 
 -- The first of rising rows
 
@@ -58,7 +47,7 @@ above_row key [] k row h is = cc
 above_row key (x ∷ xs) k row h is = by (is_eq (key_order x.key k)) refl is (above_row key xs k row h.1)
   where
     by : (b : Bool) → is_eq (key_order x.key k) ≡ b → cond b (Some x.row) (row_of xs k) ≡ Some row → (row_of xs k ≡ Some row → key_order key k ≡ Less) → key_order key k ≡ Less
-    by true e is more = subst (λ j. key_order key j ≡ Less) (exact_keys x.key k (equal_is (key_order x.key k) e)) h.0
+    by true e is more = subst (λ j. key_order key j ≡ Less) (tied x.key k e) h.0
     by false e is more = more is
 
 above_last : (key : List Value) (xs : List Keyed) (y : Keyed) → Above key (xs ++ y ∷ []) → key_order key y.key ≡ Less
@@ -75,7 +64,7 @@ first_apart Forward [] h = inl refl
 first_apart Forward (x ∷ xs) h = inr (x, xs, record { whole = refl; later = λ key row is. ap is_lt (above_row x.key xs key row h.0 is) })
 first_apart Backward [] h = inl refl
 first_apart Backward (x ∷ xs) h = elim (first_apart Backward xs h.1) [
-  | inl none ↦ inr (x, [], record { whole = ap (λ l. x ∷ l) none; later = λ key row is. absurd (none_some None row refl is) })
+  | inl none ↦ inr (x, [], record { whole = ap (λ l. x ∷ l) none; later = λ key row is. absurd (none-some row (sym refl ∙ is)) })
   | inr more ↦
       let last : Keyed = more.0 in
       let rest : List Keyed = more.1 in
@@ -86,7 +75,7 @@ first_apart Backward (x ∷ xs) h = elim (first_apart Backward xs h.1) [
   where
     by : (last : Keyed) (rest : List Keyed) → key_order x.key last.key ≡ Less → ((key row : List Value) → row_of rest key ≡ Some row → is_lt (key_order key last.key) ≡ true) → (key row : List Value) (b : Bool) → is_eq (key_order x.key key) ≡ b
         → cond b (Some x.row) (row_of rest key) ≡ Some row → is_lt (key_order key last.key) ≡ true
-    by last rest behind more key row true e found = subst (λ k. is_lt (key_order k last.key) ≡ true) (exact_keys x.key key (equal_is (key_order x.key key) e)) (ap is_lt behind)
+    by last rest behind more key row true e found = subst (λ k. is_lt (key_order k last.key) ≡ true) (tied x.key key e) (ap is_lt behind)
     by last rest behind more key row false e found = more key row found
 
 module _ (d : Direction) (xs : List Keyed) where
@@ -95,7 +84,7 @@ module _ (d : Direction) (xs : List Keyed) where
     where
       by : (o : Option (List Value)) → row_of rest x.key ≡ o → o ≡ None
       by None is = refl
-      by (Some row) is = absurd (clash (meets_first d x.key x.key) (leads.later x.key row is) (never_itself d x.key))
+      by (Some row) is = absurd (both_ways (meets_first d x.key x.key) (never_itself d x.key) (leads.later x.key row is))
 
   row_at : (x : Keyed) (rest : List Keyed) → Leads d x rest xs → (key : List Value) → row_of xs key ≡ cond (is_eq (key_order x.key key)) (Some x.row) (row_of rest key)
   row_at x rest leads key = ap (λ l. row_of l key) leads.whole ∙ row_with d x rest key (rest_lacks x rest leads)
@@ -111,41 +100,38 @@ module _ (d : Direction) (xs : List Keyed) where
     where
       by : (b : Bool) → is_eq (key_order x.key key) ≡ b → (o : Option (List Value)) → row_of rest key ≡ o → cond b (Some x.row) (row_of rest key) ≡ None
       by true e o is =
-          let same : x.key ≡ key = exact_keys x.key key (equal_is (key_order x.key key) e) in
-          absurd (clash (meets_first d key x.key) before (ap (λ k. meets_first d k x.key) (sym same) ∙ never_itself d x.key))
+          let same : x.key ≡ key = tied x.key key e in
+          absurd (both_ways (meets_first d key x.key) (ap (λ k. meets_first d k x.key) (sym same) ∙ never_itself d x.key) before)
       by false e None is = is
       by false e (Some row) is = absurd (not_both d key x.key before (leads.later key row is))
 
 -- a row before which there is none is the first
 foremost_is : (d : Direction) (xs : List Keyed) (item : Keyed) → IsRising xs → row_of xs item.key ≡ Some item.row → ((key : List Value) → meets_first d key item.key ≡ true → row_of xs key ≡ None) → foremost d xs ≡ Some item
 foremost_is d xs item rising there before = elim (first_apart d xs (rises_from xs rising)) [
-  | inl none ↦ absurd (none_some (row_of xs item.key) item.row (ap (λ l. row_of l item.key) none) there)
+  | inl none ↦ absurd (none-some item.row (sym (ap (λ l. row_of l item.key) none) ∙ there))
   | inr more ↦
       let x : Keyed = more.0 in
       let leads : Leads d x more.1 xs = more.2 in
       is_first d xs x more.1 leads ∙ ap (λ i. Some i) (by x more.1 leads (is_eq (key_order x.key item.key)) refl (sym (row_at d xs x more.1 leads item.key) ∙ there))
 ]
   where
-    same_item : (x y : Keyed) → x.key ≡ y.key → x.row ≡ y.row → x ≡ y
-    same_item x y h k = λ i. record { key = h i; row = k i }
-
     some_same : (a b : List Value) → ◌≡◌ {A = Option (List Value)} (Some a) (Some b) → a ≡ b
     some_same a b e = cc
 
     by : (x : Keyed) (rest : List Keyed) → Leads d x rest xs → (b : Bool) → is_eq (key_order x.key item.key) ≡ b → cond b (Some x.row) (row_of rest item.key) ≡ Some item.row → x ≡ item
-    by x rest leads true e is = same_item x item (exact_keys x.key item.key (equal_is (key_order x.key item.key) e)) (some_same x.row item.row is)
-    by x rest leads false e is = absurd (none_some (row_of xs x.key) x.row (before x.key (leads.later item.key item.row is)) (own_row d xs x rest leads))
+    by x rest leads true e is = keyed_same x item (tied x.key item.key e) (some_same x.row item.row is)
+    by x rest leads false e is = absurd (none-some x.row (sym (before x.key (leads.later item.key item.row is)) ∙ (own_row d xs x rest leads)))
 
 -- where there are no rows there is no first
 foremost_nothing : (d : Direction) (xs : List Keyed) → IsRising xs → ((key : List Value) → row_of xs key ≡ None) → foremost d xs ≡ None
 foremost_nothing d xs rising none = elim (first_apart d xs (rises_from xs rising)) [
   | inl empty ↦ ap (foremost d) empty ∙ foremost_none d
-  | inr more ↦ absurd (none_some (row_of xs more.0.key) more.0.row (none more.0.key) (own_row d xs more.0 more.1 more.2))
+  | inr more ↦ absurd (none-some more.0.row (sym (none more.0.key) ∙ (own_row d xs more.0 more.1 more.2)))
 ]
 
 first_there : (d : Direction) (xs : List Keyed) (item : Keyed) → IsRising xs → foremost d xs ≡ Some item → (row_of xs item.key ≡ Some item.row) × ((key : List Value) → meets_first d key item.key ≡ true → row_of xs key ≡ None)
 first_there d xs item rising is = elim (first_apart d xs (rises_from xs rising)) [
-  | inl empty ↦ absurd (none_some (foremost d xs) item (ap (foremost d) empty ∙ foremost_none d) is)
+  | inl empty ↦ absurd (none-some item (sym (ap (foremost d) empty ∙ foremost_none d) ∙ is))
   | inr more ↦
       let same : more.0 ≡ item = some_same more.0 item (sym (is_first d xs more.0 more.1 more.2) ∙ is) in
       subst (λ (i : Keyed). (row_of xs i.key ≡ Some i.row) × ((key : List Value) → meets_first d key i.key ≡ true → row_of xs key ≡ None)) same
@@ -158,7 +144,7 @@ first_there d xs item rising is = elim (first_apart d xs (rises_from xs rising))
 none_there : (d : Direction) (xs : List Keyed) → IsRising xs → foremost d xs ≡ None → (key : List Value) → row_of xs key ≡ None
 none_there d xs rising is key = elim (first_apart d xs (rises_from xs rising)) [
   | inl empty ↦ ap (λ l. row_of l key) empty
-  | inr more ↦ absurd (none_some (foremost d xs) more.0 is (is_first d xs more.0 more.1 more.2))
+  | inr more ↦ absurd (none-some more.0 (sym is ∙ (is_first d xs more.0 more.1 more.2)))
 ]
 
 -- The first of the view's rows and of those that own writes leave
@@ -225,5 +211,5 @@ module _ (d : Direction) (pred : Pred) (ws : List Write) (db : List (List Keyed)
       sym (foremost_is d (found_by pred (applied ws db)) b after_rising (same_free b.key free ∙ there.0) (λ key before. nothing_at key (λ e. there.1 key before) (λ so. first key so before)))
     where
       by : (c : Bool) → touches pred.table b.key ws ≡ c → row_of (outside (λ k. touches pred.table k ws) (found_by pred db)) b.key ≡ Some b.row → touches pred.table b.key ws ≡ false
-      by true e is = absurd (none_some (row_of (outside (λ k. touches pred.table k ws) (found_by pred db)) b.key) b.row (free_row b.key true e) is)
+      by true e is = absurd (none-some b.row (sym (free_row b.key true e) ∙ is))
       by false e is = e

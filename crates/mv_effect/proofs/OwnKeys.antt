@@ -1,17 +1,18 @@
 -- Own keys that are taken one after another, and what they were asked for.
-use Rattle.std.proofs.Common.{◌≡◌, ◌<◌, ◌≤◌, ◌+◌, ◌-◌, ◌⊎◌, inl, inr, ℕ, suc, Bool, true, false, List, [], ◌∷◌, ◌++◌, Option, Some, None, Result, Ok, Err, All, length, slice_index_or, refl, sym, ap, subst, ◌∙◌, arith}
+use Rattle.std.proofs.Common.{◌≡◌, ◌≤◌, ◌+◌, ◌-◌, ◌⊎◌, inl, inr, ℕ, suc, Bool, true, false, List, [], ◌∷◌, ◌++◌, Option, Some, None, Result, Ok, Err, All, length, slice_index_or, refl, sym, ap, subst, ◌∙◌, arith}
 use Rattle.std.proofs.Math.ListN.{get_or-append}
 use Rattle.std.proofs.Math.Seq.{get_or-append_seam}
 use Rattle.std.proofs.lemmas.List.{length-append}
 use Rattle.std.specs.Prelude.{AllPairs, ◌||◌}
 use Rattle.std.specs.Ordering.{is_eq, is_lt}
 use Rattle.std.specs.declared.cmp.Ordering.TheVariants.{Less}
+use Rattle.std.proofs.lemmas.Bool.{both_ways}
 use Rattle.mv_values.specs.declared.value.Value.{Value}
 use Rattle.mv_values.specs.declared.rows.Keyed.{Keyed}
 use Rattle.mv_values.specs.declared.pred.Pred.{Pred}
 use Rattle.mv_values.specs.Order.{key_order}
 use Rattle.mv_values.specs.Patching.{row_of}
-use Rattle.mv_values.proofs.KeyOrder.{exact_keys}
+use Rattle.mv_values.proofs.KeyOrder.{tied}
 use Rattle.mv_table.specs.declared.scan.Direction.{Direction}
 use Rattle.mv_table.specs.declared.scan.Direction.TheVariants.{Forward, Backward}
 use Rattle.mv_table.specs.Scans.{with_foremost}
@@ -19,14 +20,13 @@ use Rattle.mv_undo.specs.Taking.{meets_first}
 use Rattle.mv_undo.specs.declared.owned.Owned.{Owned}
 use Rattle.mv_undo.specs.Owning.{earlier, is_among, is_sought}
 use Rattle.mv_undo.proofs.Taking.{never_itself}
-use Rattle.mv_undo.proofs.KeyPlaces.{equal_is}
 use Rattle.mv_view.specs.Viewing.{Sight, one_more, with_row_call, answered}
 use Rattle.mv_view.specs.declared.view.Refused.{Refused}
 use Rattle.mv_view.specs.declared.view.Refused.TheVariants.{NoMemory, Stale}
 use Rattle.mv_effect.specs.Firsts.{is_met_before, IsFirstOf}
-use Rattle.mv_effect.specs.Looking.{IsSameView, WasNeverStale, AskedAtMost}
+use Rattle.mv_effect.specs.Looking.{AskedAtMost}
 use Rattle.mv_effect.proofs.Asked.{WasAsked}
-use Rattle.mv_effect.proofs.Foremost.{clash, met_after, not_both}
+use Rattle.mv_effect.proofs.Foremost.{met_after, not_both}
 
 -- One key and the others
 
@@ -41,12 +41,12 @@ among_with : (d : Direction) (k x : List Value) (rest : List (List Value)) → i
 among_with Forward k x rest h = by (is_eq (key_order k x)) refl h
   where
     by : (b : Bool) → is_eq (key_order k x) ≡ b → b || is_among rest x ≡ true → (x ≡ k) ⊎ (is_among rest x ≡ true)
-    by true e h = inl (sym (exact_keys k x (equal_is (key_order k x) e)))
+    by true e h = inl (sym (tied k x e))
     by false e h = inr h
 among_with Backward k x [] h = by (is_eq (key_order k x)) refl h
   where
     by : (b : Bool) → is_eq (key_order k x) ≡ b → b || false ≡ true → (x ≡ k) ⊎ (false ≡ true)
-    by true e h = inl (sym (exact_keys k x (equal_is (key_order k x) e)))
+    by true e h = inl (sym (tied k x e))
     by false e h = inr h
 among_with Backward k x (y ∷ ys) h = by (is_eq (key_order y x)) h (among_with Backward k x ys)
   where
@@ -56,11 +56,11 @@ among_with Backward k x (y ∷ ys) h = by (is_eq (key_order y x)) h (among_with 
 
 -- a fact on all keys is one on each that is among them
 all_among : (P : List Value → Type 0) (keys : List (List Value)) (x : List Value) → All P keys → is_among keys x ≡ true → P x
-all_among P [] x h e = absurd (clash false e refl)
+all_among P [] x h e = absurd (both_ways false refl e)
 all_among P (k ∷ ks) x h e = by (is_eq (key_order k x)) refl e (all_among P ks x (λ i d lt. h (suc i) d (omega (arith, lt))))
   where
     by : (b : Bool) → is_eq (key_order k x) ≡ b → b || is_among ks x ≡ true → (is_among ks x ≡ true → P x) → P x
-    by true g e more = subst P (exact_keys k x (equal_is (key_order k x) g)) (h 0 k (omega arith))
+    by true g e more = subst P (tied k x g) (h 0 k (omega arith))
     by false g e more = more e
 
 rest_rises : (d : Direction) (k : List Value) (rest : List (List Value)) → AllPairs (λ a b. key_order a b ≡ Less) (with_foremost d k rest) → AllPairs (λ a b. key_order a b ≡ Less) rest
@@ -110,7 +110,7 @@ module _ (d : Direction) (sought : List Value → Bool) (rows : List Keyed) (k :
   pub none_before : (other : Option Keyed) → is_met_before d k other ≡ false → IsFirstOf d sought rows other None
   none_before other behind x so before = elim (first_or_later x so) [
     | inl none ↦ none
-    | inr more ↦ absurd (clash (is_met_before d k other) (by other before more) behind)
+    | inr more ↦ absurd (both_ways (is_met_before d k other) behind (by other before more))
   ]
     where
       by : (other : Option Keyed) → is_met_before d x other ≡ true → (x ≡ k) ⊎ (meets_first d k x ≡ true) → is_met_before d k other ≡ true
@@ -130,19 +130,19 @@ module _ (d : Direction) (sought : List Value → Bool) (rows : List Keyed) (k :
   )
     where
       by : (x : List Value) → meets_first d x k ≡ true → (x ≡ k) ⊎ (meets_first d k x ≡ true) → ⊥
-      by x met (inl here) = clash (meets_first d k k) (ap (λ j. meets_first d j k) (sym here) ∙ met) (never_itself d k)
+      by x met (inl here) = both_ways (meets_first d k k) (never_itself d k) (ap (λ j. meets_first d j k) (sym here) ∙ met)
       by x met (inr later) = not_both d x k met later
 
 -- none is left
 pub none_left : (d : Direction) (sought : List Value → Bool) (rows : List Keyed) (keys : List (List Value)) (other : Option Keyed) → keys ≡ [] → EachLeft sought rows keys → IsFirstOf d sought rows other None
 none_left d sought rows keys other is each x so before = elim (each x so) [
   | inl none ↦ none
-  | inr among ↦ absurd (clash false (subst (λ ks. is_among ks x ≡ true) is among) refl)
+  | inr among ↦ absurd (both_ways false refl (subst (λ ks. is_among ks x ≡ true) is among))
 ]
 
 -- without writes there is none
 pub none_written : (number : ℕ) (undo : List Owned) (d : Direction) (pred : Pred) (rows : List Keyed) (other : Option Keyed) → length undo ≡ 0 → IsFirstOf d (is_sought pred (earlier number undo)) rows other None
-none_written number [] d pred rows other none key so before = absurd (clash false so refl)
+none_written number [] d pred rows other none key so before = absurd (both_ways false refl so)
 none_written number (o ∷ os) d pred rows other none key so before = absurd (omega (arith, none))
 
 -- What was asked for them

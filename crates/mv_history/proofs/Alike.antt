@@ -8,8 +8,8 @@ use Rattle.mv_values.specs.declared.pred.Pred.{Pred}
 use Rattle.mv_values.specs.declared.pred.Test.{Test}
 use Rattle.mv_values.specs.Columns.{column_of, columns_of}
 use Rattle.mv_values.specs.Preds.{allows, passes, matches, sees}
+use Rattle.mv_values.proofs.KeyOrder.{tied}
 use Rattle.mv_history.specs.Hits.{named_columns, is_alike}
-use Rattle.mv_history.proofs.Listing.{tied}
 
 columns_parts : (a b : List Value) (cs ds : List ℕ) → columns_of a (cs ++ ds) ≡ columns_of b (cs ++ ds) → (columns_of a cs ≡ columns_of b cs) × (columns_of a ds ≡ columns_of b ds)
 columns_parts a b [] ds h = (refl, h)

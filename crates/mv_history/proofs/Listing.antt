@@ -2,33 +2,27 @@
 use Rattle.std.proofs.Common.{◌≡◌, ◌<◌, ℕ, zero, suc, ◌+◌, Bool, true, false, List, [], ◌∷◌, ◌++◌, Option, Some, None, All, length, if◌then◌else◌, refl, sym, ap, subst, ◌∙◌, arith, append-nil, append_assoc}
 use Rattle.std.specs.Prelude.{◌==◌, ◌&&◌, nat_lt, pos}
 use Rattle.std.specs.List.{filter, flat_map}
-use Rattle.std.specs.Ordering.{is_eq, ordering_then}
+use Rattle.std.specs.Ordering.{is_eq}
 use Rattle.std.specs.declared.cmp.Ordering.{Ordering}
 use Rattle.std.specs.declared.cmp.Ordering.TheVariants.{Less, Equal, Greater}
 use Rattle.std.proofs.lemmas.Bool.Decides.{nat_tests}
-use Rattle.std.proofs.lemmas.Cmp.{tied_itself}
 use Rattle.std.proofs.lemmas.List.Elements.{filter-append, All-nil, All-cons}
 use Rattle.std.proofs.lemmas.List.Kept.{AllPairs-cons}
-use Rattle.std.specs.Cmp.{Equal-is}
-use Rattle.std.proofs.lemmas.Bool.{eqb-true, eq-eqb, ne_eqb, and_right}
+use Rattle.std.proofs.lemmas.Bool.{eqb-true, eq-eqb, ne_eqb, and_right, and_parts}
 use Rattle.mv_values.specs.declared.value.Value.{Value}
 use Rattle.mv_values.specs.declared.value.Value.TheVariants.{Int}
 use Rattle.mv_values.specs.declared.rows.Keyed.{Keyed}
-use Rattle.mv_values.specs.Order.{value_order, key_order}
+use Rattle.mv_values.specs.Order.{key_order}
 use Rattle.mv_values.specs.Patching.{row_of, placed}
 use Rattle.mv_values.specs.Tables.{rows_at}
-use Rattle.mv_values.proofs.KeyOrder.{value_order_total, key_order_total, exact_keys}
+use Rattle.mv_values.proofs.KeyOrder.{key_order_total, exact_keys, tied, same_key, turned, same_table}
 use Rattle.mv_record.specs.Writes.{AreRising}
 use Rattle.mv_record.proofs.Patching.{placed_other, placed_rises, row_of-placed_same}
-use Rattle.mv_record.proofs.Rising.{Above, Rises, rises_from, rising_from, same_key, turned, row_here, row_later, row_below}
+use Rattle.mv_record.proofs.Rising.{Above, Rises, rises_from, rising_from, row_here, row_later, row_below}
 use Rattle.mv_history.specs.declared.change.Change.{Change}
 use Rattle.mv_history.specs.Changes.{is_same, change_of, united, changes_of, changes_upwards, changes_between, is_of, place, InOrder, ListsChanges}
 
 -- One key
-
--- keys in no order but their own are one key
-pub tied : (a b : List Value) → is_eq (key_order a b) ≡ true → a ≡ b
-tied a b h = exact_keys a b ((Equal-is (key_order a b)).0 h)
 
 pub same_is : (a b : Option (List Value)) → is_same a b ≡ true → a ≡ b
 same_is None None h = refl
@@ -195,12 +189,6 @@ after_append : (low : List Value) (cs ds : List Change) → After low cs → Aft
 after_append low [] ds h k = k
 after_append low (c ∷ cs) ds h k = (h.0, after_append low cs ds h.1 k)
 
-equal_first : (o p : Ordering) → o ≡ Equal → ordering_then o p ≡ p
-equal_first o p h = rw h refl
-
-same_table : (t : ℕ) (a b : List Value) → key_order (Int (pos t) ∷ a) (Int (pos t) ∷ b) ≡ key_order a b
-same_table t a b = equal_first (value_order (Int (pos t)) (Int (pos t))) (key_order a b) (tied_itself value_order_total (Int (pos t)))
-
 lower_table : (t u : ℕ) (a b : List Value) → t < u → key_order (Int (pos t) ∷ a) (Int (pos u) ∷ b) ≡ Less
 lower_table t u a b h = let lt : nat_lt t u ≡ true = grind (arith, nat_tests) in rw lt refl
 
@@ -263,12 +251,8 @@ changes_listed old new h g len = record {
 
 pub place_of : (t : ℕ) (key : List Value) (c : Change) → is_of t key c ≡ true → place c ≡ Int (pos t) ∷ key
 place_of t key c h =
-    let two = both_so (c.table == t) (is_eq (key_order c.key key)) h in
+    let two = and_parts (c.table == t) (is_eq (key_order c.key key)) h in
     ap (λ n. Int (pos n) ∷ c.key) (eqb-true c.table t two.0) ∙ ap (λ k. Int (pos t) ∷ k) (tied c.key key two.1)
-  where
-    both_so : (a b : Bool) → a && b ≡ true → (a ≡ true) × (b ≡ true)
-    both_so true b h = (refl, h)
-    both_so false b h = cc
 
 not_less : (low : List Value) (c : Change) → place c ≡ low → key_order low (place c) ≡ Less → ⊥
 not_less low c e h = let same : key_order low (place c) ≡ Equal = ap (key_order low) e ∙ same_key low in clash (sym same ∙ h)

@@ -18,9 +18,9 @@ use Rattle.mv_values.specs.Order.{key_order}
 use Rattle.mv_values.specs.Patching.{row_of, patched, standing, placed, patched_rows, written, applied, found_by}
 use Rattle.mv_values.specs.Preds.{matches, matched}
 use Rattle.mv_values.specs.Tables.{rows_at}
-use Rattle.mv_values.proofs.KeyOrder.{exact_keys}
+use Rattle.mv_values.proofs.KeyOrder.{exact_keys, tied, same_key, turned}
 use Rattle.mv_record.specs.Writes.{is_on, writes_on, patched_by, AreRising, HasAppliedFront}
-use Rattle.mv_record.proofs.Rising.{same_key, turned, Above, Rises, rises_from, rising_from, lower, row_here, row_later, row_below, same_rows, filter_rises, matching_row, stands_found, found_stands}
+use Rattle.mv_record.proofs.Rising.{Above, Rises, rises_from, rising_from, lower, row_here, row_later, row_below, same_rows, filter_rises, matching_row, stands_found, found_stands}
 
 -- A row put under a key
 
@@ -186,18 +186,13 @@ row_written w db t key lt h = by (w.table == t) refl (is_eq (key_order w.key key
         let same = eqb-true w.table t e in
         subst (λ u. rows_at (written w db) u ≡ patched_rows w.key w.patch (rows_at db u)) same (table_same w db (subst (λ u. u < length db) (sym same) lt))
 
-    equal : (o : Ordering) → is_eq o ≡ true → o ≡ Equal
-    equal Less e = cc
-    equal Equal e = refl
-    equal Greater e = cc
-
     on : (b c : Bool) → (w.table == t) ≡ b → is_eq (key_order w.key key) ≡ c → is_on t key w ≡ b && c
     on b c e f = rw (e, f) refl
 
     by : (b : Bool) → (w.table == t) ≡ b → (c : Bool) → is_eq (key_order w.key key) ≡ c
         → row_of (rows_at (written w db) t) key ≡ cond (is_on t key w) (patched w.patch (row_of (rows_at db t) key)) (row_of (rows_at db t) key)
     by true e true f =
-        let same = exact_keys w.key key (equal (key_order w.key key) f) in
+        let same = tied w.key key f in
         rw (on true true e f) (ap (λ l. row_of l key) (at_table e)
         ∙ subst (λ k. row_of (patched_rows w.key w.patch (rows_at db t)) k ≡ patched w.patch (row_of (rows_at db t) k)) same
         (row_of-placed_same w.key (patched w.patch (row_of (rows_at db t) w.key)) (rows_at db t) (h t)))

@@ -2,13 +2,13 @@
 use Rattle.std.proofs.Common.{◌≡◌, ◌<◌, ℕ, zero, suc, Bool, true, false, cond, List, [], ◌∷◌, Option, Some, None, All, length, refl, sym, ap, subst, ◌∙◌, arith}
 use Rattle.std.specs.Prelude.{Contains, slice_index_or}
 use Rattle.std.specs.List.{filter}
-use Rattle.std.specs.Ordering.{is_eq, ordering_reverse}
+use Rattle.std.specs.Ordering.{is_eq}
 use Rattle.std.specs.declared.cmp.Ordering.{Ordering}
 use Rattle.std.specs.declared.cmp.Ordering.TheVariants.{Less, Equal, Greater}
-use Rattle.std.proofs.lemmas.Cmp.{tied_itself}
 use Rattle.std.proofs.lemmas.List.Elements.{All-nil, All-cons}
 use Rattle.std.proofs.lemmas.List.Kept.{AllPairs-cons}
 use Rattle.std.proofs.lemmas.Option.{none-some}
+use Rattle.std.proofs.lemmas.Bool.{both_ways}
 use Rattle.mv_values.specs.declared.value.Value.{Value}
 use Rattle.mv_values.specs.declared.rows.Keyed.{Keyed}
 use Rattle.mv_values.specs.declared.pred.Pred.{Pred}
@@ -16,16 +16,10 @@ use Rattle.mv_values.specs.Keys.{IsRising, IsBelow}
 use Rattle.mv_values.specs.Order.{key_order}
 use Rattle.mv_values.specs.Patching.{row_of}
 use Rattle.mv_values.specs.Preds.{matches, matched, admits}
-use Rattle.mv_values.proofs.KeyOrder.{key_order_total, exact_keys}
+use Rattle.mv_values.proofs.KeyOrder.{key_order_total, exact_keys, same_key, turned}
 use Rattle.mv_record.specs.Admitting.{Admitted}
 
 -- Keys
-
-pub same_key : (a : List Value) → key_order a a ≡ Equal
-same_key a = tied_itself key_order_total a
-
-pub turned : (a b : List Value) (o : Ordering) → key_order a b ≡ o → key_order b a ≡ ordering_reverse o
-turned a b o h = key_order_total.antisymm b a ∙ ap ordering_reverse h
 
 -- Rising, by recursion
 
@@ -72,7 +66,7 @@ pub row_below : (key : List Value) (xs : List Keyed) → Above key xs → row_of
 row_below key [] h = refl
 row_below key (x ∷ xs) h = row_later x xs key (ap is_eq (turned key x.key Less h.0)) ∙ row_below key xs h.1
 
-keyed_same : (x y : Keyed) → x.key ≡ y.key → x.row ≡ y.row → x ≡ y
+pub keyed_same : (x y : Keyed) → x.key ≡ y.key → x.row ≡ y.row → x ≡ y
 keyed_same x y h k = λ i. record { key = h i; row = k i }
 
 -- rising rows that have the same row under each key are one list
@@ -194,9 +188,6 @@ matching_row pred xs key h = filter_row (λ item. matches pred item.row) xs key 
 pub unadmitted : (pred : Pred) (rows : List Keyed) (key : List Value) → Admitted pred rows → admits pred key ≡ false → matched pred (row_of rows key) ≡ None
 unadmitted pred rows key h not' = by (row_of rows key) refl
   where
-    clash : (b : Bool) → b ≡ true → b ≡ false → ⊥
-    clash b p q = cc
-
     some : (row : List Value) → row_of rows key ≡ Some row → (b : Bool) → matches pred row ≡ b → cond b (Some row) None ≡ None
     some row is false e = refl
     some row is true e =
@@ -204,7 +195,7 @@ unadmitted pred rows key h not' = by (row_of rows key) refl
         let item : Keyed = record { key = key; row = row } in
         let fits : matches pred (slice_index_or rows at.0 item).row ≡ true = ap (λ (i : Keyed). matches pred i.row) at.2 ∙ e in
         let admitted : admits pred key ≡ true = ap (λ (i : Keyed). admits pred i.key) (sym at.2) ∙ h at.0 item at.1 fits in
-        absurd (clash (admits pred key) admitted not')
+        absurd (both_ways (admits pred key) not' admitted)
 
     by : (o : Option (List Value)) → row_of rows key ≡ o → matched pred o ≡ None
     by None is = refl

@@ -19,6 +19,7 @@ use Rattle.mv_values.specs.Keys.{IsRising}
 use Rattle.mv_values.specs.Order.{value_order, key_order}
 use Rattle.mv_values.specs.Patching.{found_by}
 use Rattle.mv_values.specs.Tables.{rows_at, columns_at, key_columns, KeysStand}
+use Rattle.mv_values.proofs.KeyOrder.{turned}
 use Rattle.mv_catalog.specs.declared.resolved.RExpr.{RExpr}
 use Rattle.mv_catalog.specs.declared.resolved.RCond.{RCond}
 use Rattle.mv_catalog.specs.declared.resolved.RSetItem.{RSetItem}
@@ -30,7 +31,7 @@ use Rattle.mv_alone.specs.Env.{with_found}
 use Rattle.mv_alone.specs.Rows.{meets, matching, is_some_row}
 use Rattle.mv_alone.specs.Changes.{new_row, updated, put_row, put_row_by, keyed}
 use Rattle.mv_record.specs.declared.record.Slot.{Slot}
-use Rattle.mv_record.proofs.Rising.{Above, Rises, rises_from, turned, lower}
+use Rattle.mv_record.proofs.Rising.{Above, Rises, rises_from, lower}
 use Rattle.mv_recorded.specs.Asking.{on, pred_of, same_key, columns_in}
 use Rattle.mv_recorded.specs.Doing.{write, set_patch}
 use Rattle.mv_record.specs.declared.effect.Effect.{Effect}

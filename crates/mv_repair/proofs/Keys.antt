@@ -12,8 +12,8 @@ use Rattle.mv_values.specs.declared.patch.Patch.TheVariants.{Delete}
 use Rattle.mv_values.specs.declared.patch.Write.{Write}
 use Rattle.mv_values.specs.Order.{key_order}
 use Rattle.mv_values.specs.Preds.{admits}
+use Rattle.mv_values.proofs.KeyOrder.{same_key}
 use Rattle.mv_record.specs.Writes.{is_on}
-use Rattle.mv_record.proofs.Rising.{same_key}
 use Rattle.mv_alike.proofs.Lasting.{each_map}
 use Rattle.mv_recorded.proofs.Inverting.{each_join}
 use Rattle.mv_undo.specs.declared.owned.Owned.{Owned}

@@ -3,6 +3,7 @@ use Rattle.std.proofs.Common.{◌≡◌, ◌<◌, ℕ, zero, suc, ◌==◌, Bool
 use Rattle.std.specs.Prelude.{◌&&◌, ◌||◌, slice_get}
 use Rattle.std.specs.Option.{option_map}
 use Rattle.std.proofs.lemmas.Bool.Decides.{eqb_tells}
+use Rattle.std.proofs.lemmas.Bool.{both_ways}
 use Rattle.mv_record.specs.declared.record.Read.{Read}
 use Rattle.mv_record.specs.Paths.{IsEarlierPath}
 use Rattle.mv_record.specs.Runs.{IsEarlier, ReadsEarlier}
@@ -92,13 +93,11 @@ both_is kept os m o b (Some k) rest climbs there h = ap (λ x. is_path o.path b.
     by false e true f =
         let one : k ≡ m = grind (arith, eqb_tells) in
         let same : h.1.0 ≡ o = some_same h.1.0 o (sym h.1.1 ∙ (ap (slice_get os) one ∙ there)) in
-        absurd (clash (is_path o.path b.path) (ap (λ (z : Placed). is_path z.path b.path) (sym same) ∙ (ap (λ p. is_path p b.path) h.1.2 ∙ path_self b.path)) e)
+        absurd (both_ways (is_path o.path b.path) e (ap (λ (z : Placed). is_path z.path b.path) (sym same) ∙ (ap (λ p. is_path p b.path) h.1.2 ∙ path_self b.path)))
       where
         some_same : (a c : Placed) → Some a ≡ Some c → a ≡ c
         some_same a c e = cc
 
-        clash : (x : Bool) → x ≡ true → x ≡ false → ⊥
-        clash x h k = cc
 
 one_read : (kept : List Path) (os ns : List Placed) (ms : List (Option ℕ)) (a b : Option ℕ) (rest : Bool) → Climbs os → AreMarked kept os ns ms → IsEarlier (length os) a → IsEarlier (length ns) b
     → (same_path (path_at os a) (path_at ns b) && (is_kept kept (path_at ns b) && rest)) ≡ (same_definer ms a b && rest)

@@ -3,14 +3,13 @@ use Rattle.std.proofs.Common.{◌≡◌, ◌<◌, ◌≤◌, ◌*◌, ℕ, ◌+�
 use Rattle.std.specs.Prelude.{◌&&◌, slice_get}
 use Rattle.std.proofs.lemmas.List.{append_cancel_left, take_all}
 use Rattle.std.proofs.lemmas.Option.{slice_get_within}
-use Rattle.mv_values.specs.declared.calls.Call.{Call}
 use Rattle.std.proofs.lemmas.Grind.{flat_map-append}
+use Rattle.std.proofs.lemmas.Bool.{both_ways}
 use Rattle.mv_record.specs.declared.record.Record.{Record}
 use Rattle.mv_record.specs.declared.record.Spot.{Spot}
 use Rattle.mv_record.specs.Effects.{record_of, effect_in}
 use Rattle.mv_record.specs.Paths.{paths, IsEarlierPath}
 use Rattle.mv_record.specs.Runs.{Tables, writes_in, IsEarlier, ReadsEarlier, NamesEarlier}
-use Rattle.mv_record.specs.Writes.{AreRising}
 use Rattle.mv_recorded.specs.Own.{Each}
 use Rattle.mv_recorded.proofs.Held.{get_last}
 use Rattle.mv_recorded.proofs.Naming.{recorded_names}
@@ -458,9 +457,6 @@ renewed_step g db task old mid new ahead p task' new' now after k w = record {
 
 -- What the step needs
 
-clash : (b : Bool) → b ≡ true → b ≡ false → ⊥
-clash b h k = cc
-
 -- a record that stays is there
 pub stays_within : (old : OldRun) (new : NewRun) (ns : List Record) (ahead : Ahead) (p : Path) (r : Bool) → r ≡ stays_at old new ns ahead p → r ≡ true → old.at < length old.records
 stays_within old new ns ahead p r is h = by (slice_get old.records old.at) refl
@@ -473,5 +469,5 @@ stays_within old new ns ahead p r is h = by (slice_get old.records old.at) refl
     next = second (is_there (slice_get old.paths old.at) p) (next_stays old new ns ahead (slice_get old.records old.at) (slice_get old.hits old.at)) (sym is ∙ h)
 
     by : (o : Option Record) → slice_get old.records old.at ≡ o → old.at < length old.records
-    by None e = absurd (clash (next_stays old new ns ahead (slice_get old.records old.at) (slice_get old.hits old.at)) next (ap (λ o. next_stays old new ns ahead o (slice_get old.hits old.at)) e))
+    by None e = absurd (both_ways (next_stays old new ns ahead (slice_get old.records old.at) (slice_get old.hits old.at)) (ap (λ o. next_stays old new ns ahead o (slice_get old.hits old.at)) e) next)
     by (Some r) e = slice_get_within old.records old.at r e

@@ -1,8 +1,6 @@
 -- Changes of tables, and those that take changes back.
-use Rattle.std.proofs.Common.{◌≡◌, ◌<◌, ◌≤◌, ℕ, zero, suc, Bool, true, false, List, [], ◌∷◌, ◌++◌, Option, length, slice_set, refl, sym, ap, subst, ◌∙◌, inl, inr, arith}
+use Rattle.std.proofs.Common.{◌≡◌, ◌≤◌, ℕ, zero, suc, Bool, true, false, List, [], ◌∷◌, ◌++◌, Option, length, slice_set, refl, sym, ap, subst, ◌∙◌, inl, inr, arith}
 use Rattle.std.specs.Ordering.{is_eq}
-use Rattle.std.specs.declared.cmp.Ordering.{Ordering}
-use Rattle.std.specs.declared.cmp.Ordering.TheVariants.{Less, Equal, Greater}
 use Rattle.std.proofs.lemmas.Bool.{cases_lt}
 use Rattle.std.proofs.lemmas.List.{set-set, get_or-set_same, set-get_or}
 use Rattle.mv_values.specs.declared.value.Value.{Value}
@@ -11,7 +9,7 @@ use Rattle.mv_values.specs.Keys.{IsRising}
 use Rattle.mv_values.specs.Order.{key_order}
 use Rattle.mv_values.specs.Patching.{row_of, placed}
 use Rattle.mv_values.specs.Tables.{rows_at}
-use Rattle.mv_values.proofs.KeyOrder.{exact_keys}
+use Rattle.mv_values.proofs.KeyOrder.{tied}
 use Rattle.mv_record.proofs.Patching.{rows_same, row_of-placed_same, placed_other, rising_placed}
 use Rattle.mv_serial.specs.declared.change.Change.{Change}
 use Rattle.mv_serial.specs.Changing.{changed_in, changed_by, KeepsUndo}
@@ -23,11 +21,6 @@ Tables = List (List Keyed)
 pub put_back : (db : Tables) (t : ℕ) (rows : List Keyed) → slice_set (slice_set db t []) t rows ≡ slice_set db t rows
 put_back db t rows = set-set db t [] rows
 
-equal_is : (o : Ordering) → is_eq o ≡ true → o ≡ Equal
-equal_is Less h = cc
-equal_is Equal h = refl
-equal_is Greater h = cc
-
 -- what was under a key, put there again
 placed_back : (rows : List Keyed) (key : List Value) (row : Option (List Value)) → IsRising rows → placed key (row_of rows key) (placed key row rows) ≡ rows
 placed_back rows key row rising =
@@ -35,7 +28,7 @@ placed_back rows key row rising =
   where
     by : (other : List Value) (b : Bool) → is_eq (key_order key other) ≡ b → row_of (placed key (row_of rows key) (placed key row rows)) other ≡ row_of rows other
     by other true e =
-        let same : key ≡ other = exact_keys key other (equal_is (key_order key other) e) in
+        let same : key ≡ other = tied key other e in
         subst (λ k. row_of (placed key (row_of rows key) (placed key row rows)) k ≡ row_of rows k) same
         (row_of-placed_same key (row_of rows key) (placed key row rows) (rising_placed key row rows rising))
     by other false e = placed_other key (row_of rows key) (placed key row rows) other e ∙ placed_other key row rows other e

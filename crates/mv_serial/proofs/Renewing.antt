@@ -6,6 +6,7 @@ use Rattle.std.specs.Ordering.{is_eq}
 use Rattle.std.proofs.lemmas.List.{set-get_or}
 use Rattle.std.specs.declared.cmp.Ordering.{Ordering}
 use Rattle.std.specs.declared.cmp.Ordering.TheVariants.{Less, Equal, Greater}
+use Rattle.std.proofs.lemmas.Option.{none-some}
 use Rattle.mv_values.specs.declared.value.Value.{Value}
 use Rattle.mv_values.specs.declared.rows.Keyed.{Keyed}
 use Rattle.mv_values.specs.declared.calls.End.{End}
@@ -14,7 +15,8 @@ use Rattle.mv_values.specs.Keys.{IsRising}
 use Rattle.mv_values.specs.Order.{key_order}
 use Rattle.mv_values.specs.Patching.{row_of, placed}
 use Rattle.mv_values.specs.Tables.{rows_at}
-use Rattle.mv_record.proofs.Rising.{Above, Rises, rises_from, filter_above, same_key, turned, lower, row_here, row_later, row_below}
+use Rattle.mv_values.proofs.KeyOrder.{same_key, turned}
+use Rattle.mv_record.proofs.Rising.{Above, Rises, rises_from, filter_above, lower, row_here, row_later, row_below}
 use Rattle.mv_alone.specs.declared.state.Check.{Check}
 use Rattle.mv_alone.specs.declared.state.Stop.{Stop}
 use Rattle.mv_alone.specs.declared.state.Stop.TheVariants.{Memory, Ended}
@@ -181,9 +183,6 @@ some_removed t (x ∷ items) = positive (length (removals t items))
 
 -- INSERT
 
-none_some : {A : Type 0} (o : Option A) (a : A) → o ≡ None → o ≡ Some a → ⊥
-none_some o a h k = cc
-
 put_first : (new x : Keyed) (rows : List Keyed) → key_order new.key x.key ≡ Less → put_row new (x ∷ rows) ≡ Ok (new ∷ x ∷ rows)
 put_first new x rows h = rw h refl
 
@@ -205,7 +204,7 @@ put_new (x ∷ rows) new h = by (key_order x.key new.key) refl (put_new rows new
     by Less e more =
         put_later new x rows (turned x.key new.key Less e)
         ∙ (ap (λ r. then_do r (λ rest. Ok (x ∷ rest))) (more (sym (row_later x rows new.key (ap is_eq e)) ∙ h)) ∙ ap Ok (sym (before x new.key (Some new.row) rows e)))
-    by Equal e more = absurd (none_some (row_of (x ∷ rows) new.key) x.row h (row_here x rows new.key e))
+    by Equal e more = absurd (none-some x.row (sym h ∙ (row_here x rows new.key e)))
     by Greater e more = put_first new x rows (turned x.key new.key Greater e) ∙ ap Ok (sym (past new x rows e))
 
 -- one whose key is there is a duplicate
@@ -219,7 +218,7 @@ put_there (x ∷ rows) new row rises h = by (key_order x.key new.key) refl (put_
     by Equal e more = put_same new x rows (turned x.key new.key Equal e)
     by Greater e more =
         let back : key_order new.key x.key ≡ Less = turned x.key new.key Greater e in
-        absurd (none_some (row_of (x ∷ rows) new.key) row (row_below new.key (x ∷ rows) (back, lower new.key x.key rows back rises.0)) h)
+        absurd (none-some row (sym (row_below new.key (x ∷ rows) (back, lower new.key x.key rows back rises.0)) ∙ h))
 
 -- the row that was under the new key tells whether INSERT puts its row or ends
 abbrev pub Puts : Option (List Value) → Keyed → Tables → Tables → ℕ → Type 0

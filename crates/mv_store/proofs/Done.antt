@@ -4,17 +4,14 @@ use Rattle.std.specs.Prelude.{OnSome, ◌||◌}
 use Rattle.std.specs.List.{list_any}
 use Rattle.std.specs.Option.{is_some}
 use Rattle.std.specs.Ordering.{is_eq}
-use Rattle.std.specs.declared.cmp.Ordering.{Ordering}
-use Rattle.std.specs.declared.cmp.Ordering.TheVariants.{Less, Equal, Greater}
 use Rattle.std.proofs.lemmas.Bool.{cases_Bool, eqb-true, eq-eqb}
 use Rattle.std.proofs.lemmas.List.{take_more, get_or-set_same, get_or-set_other, length-set}
 use Rattle.mv_values.specs.declared.value.Value.{Value}
 use Rattle.mv_values.specs.declared.patch.Patch.{Patch}
 use Rattle.mv_values.specs.Order.{key_order}
-use Rattle.mv_values.proofs.KeyOrder.{exact_keys}
+use Rattle.mv_values.proofs.KeyOrder.{tied, same_key}
 use Rattle.mv_table.specs.Entries.{item_of, KeysRise}
 use Rattle.mv_table.specs.Lending.{HasItem}
-use Rattle.mv_table.proofs.Picking.{same_key}
 use Rattle.mv_chain.specs.declared.pending.Pending.{Pending}
 use Rattle.mv_chain.specs.Versions.{Versions, blank, is_blank, IsAboveAll, own_of, row_at, without, stamped, stamped_by}
 use Rattle.mv_chain.proofs.Blank.{blank_only}
@@ -36,14 +33,6 @@ no_truth e = cc
 pub differ : (a b : ℕ) → a ≡ b → (a == b) ≡ false → ⊥
 differ a b same h = no_truth (sym h ∙ eq-eqb a b same)
 
-equal_only : (o : Ordering) → is_eq o ≡ true → o ≡ Equal
-equal_only Less e = cc
-equal_only Equal e = refl
-equal_only Greater e = cc
-
-pub same_keys : (a b : List Value) → is_eq (key_order a b) ≡ true → a ≡ b
-same_keys a b e = exact_keys a b (equal_only (key_order a b) e)
-
 past : (tables : List Entries) (t : ℕ) → length tables ≤ t → entries_at tables t ≡ []
 past [] t h = refl
 past (x ∷ xs) zero h = absurd (omega (arith, h))
@@ -58,14 +47,14 @@ at_key false f o p w h is = ap versions_in is
 -- the item under a key was changed in place
 pub changed_there : (key : List Value) (f : Versions → Versions) (was w : Versions) (old new : Entries) → item_of old key ≡ Some was → w ≡ f was → HasItem key w old new → IsChanged key f old new
 changed_there key f was w old new there is h = record {
-  at = λ other. at_key (is_eq (key_order key other)) f (item_of new other) (item_of old other) w (λ e. is ∙ ap (λ o. f (versions_in o)) (sym there ∙ ap (item_of old) (same_keys key other e))) (h.at other);
+  at = λ other. at_key (is_eq (key_order key other)) f (item_of new other) (item_of old other) w (λ e. is ∙ ap (λ o. f (versions_in o)) (sym there ∙ ap (item_of old) (tied key other e))) (h.at other);
   rising = λ r. h.rising;
 }
 
 -- where nothing is under a key, nothing changes that leaves blank versions blank
 pub changed_nowhere : (key : List Value) (f : Versions → Versions) (old new : Entries) → item_of old key ≡ None → f blank ≡ blank → new ≡ old → IsChanged key f old new
 changed_nowhere key f old new none h is = record {
-  at = λ other. ap (λ es. versions_of es other) is ∙ by other (is_eq (key_order key other)) (λ e. ap (item_of old) (sym (same_keys key other e)) ∙ none);
+  at = λ other. ap (λ es. versions_of es other) is ∙ by other (is_eq (key_order key other)) (λ e. ap (item_of old) (sym (tied key other e)) ∙ none);
   rising = λ r. subst KeysRise (sym is) r;
 }
   where
@@ -89,7 +78,7 @@ pub removed : (key : List Value) (old new : Entries) → is_blank (versions_of o
 removed key old new none at rising = record { at = λ other. ap versions_in (at other) ∙ by other (is_eq (key_order key other)) (λ e. e); rising = λ r. rising }
   where
     by : (other : List Value) (b : Bool) → (b ≡ true → is_eq (key_order key other) ≡ true) → versions_in (cond b None (item_of old other)) ≡ cond b (versions_of old other) (versions_of old other)
-    by other true h = sym (blank_only (versions_of old other) (subst (λ k. is_blank (versions_of old k) ≡ true) (same_keys key other (h refl)) none))
+    by other true h = sym (blank_only (versions_of old other) (subst (λ k. is_blank (versions_of old k) ≡ true) (tied key other (h refl)) none))
     by other false h = refl
 
 -- a change, and then none
@@ -107,7 +96,7 @@ changed_not key old new is = record { at = λ other. ap (λ es. versions_of es o
 -- an item was put under a key where there was none
 pub changed_new : (key : List Value) (f : Versions → Versions) (w : Versions) (old new : Entries) → item_of old key ≡ None → w ≡ f blank → ((other : List Value) → item_of new other ≡ cond (is_eq (key_order key other)) (Some w) (item_of old other)) → KeysRise new → IsChanged key f old new
 changed_new key f w old new none is at rising = record {
-  at = λ other. at_key (is_eq (key_order key other)) f (item_of new other) (item_of old other) w (λ e. is ∙ ap (λ o. f (versions_in o)) (sym none ∙ ap (item_of old) (same_keys key other e))) (at other);
+  at = λ other. at_key (is_eq (key_order key other)) f (item_of new other) (item_of old other) w (λ e. is ∙ ap (λ o. f (versions_in o)) (sym none ∙ ap (item_of old) (tied key other e))) (at other);
   rising = λ r. rising;
 }
 
@@ -250,7 +239,7 @@ rows_changed to t key old new change rows u other = elim (cases_Bool (t == u)) [
   | inl e ↦ elim (cases_Bool (is_eq (key_order key other))) [
     | inl k ↦
         subst (λ x. KeepsRows to (versions_at old x other) (versions_at new x other)) (eqb-true t u e)
-        (subst (λ x. KeepsRows to (versions_at old t x) (versions_at new t x)) (same_keys key other k) rows)
+        (subst (λ x. KeepsRows to (versions_at old t x) (versions_at new t x)) (tied key other k) rows)
     | inr k ↦ rows_same to (versions_at old u other) (versions_at new u other) (change.at u other ∙ rw (e, k) refl)
   ]
   | inr e ↦ rows_same to (versions_at old u other) (versions_at new u other) (change.at u other ∙ rw e refl)

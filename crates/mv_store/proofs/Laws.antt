@@ -14,6 +14,7 @@ use Rattle.mv_values.specs.declared.patch.Write.{Write}
 use Rattle.mv_values.specs.Order.{key_order}
 use Rattle.mv_values.specs.Patching.{row_of, patched, applied, written}
 use Rattle.mv_values.specs.Tables.{rows_at}
+use Rattle.mv_values.proofs.KeyOrder.{tied}
 use Rattle.mv_record.specs.Writes.{writes_on, patched_by, AreRising}
 use Rattle.mv_record.proofs.Patching.{row_applied, rising_applied, length_applied, written_nowhere}
 use Rattle.mv_chain.specs.Versions.{Versions, IsAboveAll, own_of, patched_by_own, stamped, stamped_by, row_at, newest as newest_row}
@@ -29,7 +30,7 @@ use Rattle.mv_store.proofs.Keys.{database_same, databases_same, row_in, rows_ris
 use Rattle.mv_store.proofs.Own.{row_done, own_same, own_none}
 use Rattle.mv_store.proofs.Filled.{tables_collected}
 use Rattle.mv_store.proofs.Noted.{entry_left, entry_last, climb_push}
-use Rattle.mv_store.proofs.Done.{settled_gone, settled_others, same_keys, differ, no_truth, tables_changed}
+use Rattle.mv_store.proofs.Done.{settled_gone, settled_others, differ, no_truth, tables_changed}
 
 left_true : (a b : Bool) → a && b ≡ true → a ≡ true
 left_true true b e = refl
@@ -98,7 +99,7 @@ module _ (t : ℕ) (key : List Value) (call : ℕ) (patch : Patch) (old new : Li
       there e same true h = before h
       there e same false h =
           let st : t ≡ u = eqb-true t u (left_true (t == u) (is_eq (key_order key k)) e) in
-          let sk : key ≡ k = same_keys key k (right_true (t == u) (is_eq (key_order key k)) e) in
+          let sk : key ≡ k = tied key k (right_true (t == u) (is_eq (key_order key k)) e) in
           let none : is_some (own_of call (versions_at old t key).own) ≡ false =
           subst (λ x. is_some (own_of x (versions_at old t key).own) ≡ false) (sym same) (subst (λ x. is_some (own_of c (versions_at old x key).own) ≡ false) (sym st) (subst (λ x. is_some (own_of c (versions_at old u x).own) ≡ false) (sym sk) h)) in
           subst (λ x. HasSpot u k (spots_of now x)) same (subst (λ x. HasSpot x k (spots_of now call)) st (subst (λ x. HasSpot t x (spots_of now call)) sk (noted none)))

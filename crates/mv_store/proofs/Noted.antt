@@ -4,7 +4,7 @@ use Rattle.std.specs.Prelude.{OnOk, Result, Ok, Err, ◌||◌, nat_le}
 use Rattle.std.specs.List.{list_any}
 use Rattle.std.proofs.lemmas.Bool.{cases_Bool, eq-eqb, eqb-true}
 use Rattle.mv_values.specs.declared.value.Value.{Value}
-use Rattle.mv_table.proofs.Picking.{same_key}
+use Rattle.mv_values.proofs.KeyOrder.{same_key}
 use Rattle.mv_store.specs.declared.spots.Spot.{Spot}
 use Rattle.mv_store.specs.declared.spots.Written.{Written}
 use Rattle.mv_store.specs.Kept.{spots_in, is_spot, is_entry, is_due, written_at, HasSpot, HasEntry, Climb}

@@ -10,9 +10,9 @@ use Rattle.mv_values.specs.declared.patch.Write.{Write}
 use Rattle.mv_values.specs.Order.{key_order}
 use Rattle.mv_values.specs.Patching.{row_of, patched, applied}
 use Rattle.mv_values.specs.Tables.{rows_at}
-use Rattle.mv_values.proofs.KeyOrder.{exact_keys}
+use Rattle.mv_values.proofs.KeyOrder.{exact_keys, turned}
 use Rattle.mv_table.specs.Entries.{item_of, picked, KeysRise}
-use Rattle.mv_table.proofs.Picking.{Above, Rise, rise_from, turned}
+use Rattle.mv_table.proofs.Picking.{Above, Rise, rise_from}
 use Rattle.mv_record.specs.Writes.{is_on, writes_on, patched_by, AreRising}
 use Rattle.mv_record.proofs.Patching.{row_applied}
 use Rattle.mv_chain.specs.Versions.{Versions, own_of, patched_by_own}

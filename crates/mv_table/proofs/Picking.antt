@@ -1,24 +1,17 @@
 -- What is picked of entries whose keys rise.
 use Rattle.std.proofs.Common.{◌≡◌, ◌<◌, ℕ, suc, Bool, true, false, cond, List, [], ◌∷◌, ◌++◌, Option, Some, None, All, length, slice_index_or, refl, sym, ap, subst, ◌∙◌, arith}
 use Rattle.std.specs.List.{filter}
-use Rattle.std.specs.Ordering.{is_eq, ordering_reverse}
+use Rattle.std.specs.Ordering.{is_eq}
 use Rattle.std.specs.Option.{option_and_then}
 use Rattle.std.specs.declared.cmp.Ordering.{Ordering}
 use Rattle.std.specs.declared.cmp.Ordering.TheVariants.{Less, Equal, Greater}
-use Rattle.std.proofs.lemmas.Cmp.{tied_itself}
 use Rattle.std.proofs.lemmas.List.Elements.{All-nil, All-cons}
 use Rattle.std.proofs.lemmas.List.Kept.{AllPairs-cons}
 use Rattle.std.proofs.lemmas.Option.{none-some}
 use Rattle.mv_values.specs.declared.value.Value.{Value}
 use Rattle.mv_values.specs.Order.{key_order}
-use Rattle.mv_values.proofs.KeyOrder.{key_order_total, exact_keys}
+use Rattle.mv_values.proofs.KeyOrder.{key_order_total, exact_keys, same_key, turned}
 use Rattle.mv_table.specs.Entries.{item_of, with_item, alone_at, picked, KeysRise}
-
-pub same_key : (a : List Value) → key_order a a ≡ Equal
-same_key a = tied_itself key_order_total a
-
-pub turned : (a b : List Value) (o : Ordering) → key_order a b ≡ o → key_order b a ≡ ordering_reverse o
-turned a b o h = key_order_total.antisymm b a ∙ ap ordering_reverse h
 
 module _ {T : Type 0} where
   -- the key is below those of the entries

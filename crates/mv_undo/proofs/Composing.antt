@@ -8,7 +8,7 @@ use Rattle.std.specs.declared.cmp.Ordering.{Ordering}
 use Rattle.std.specs.declared.cmp.Ordering.TheVariants.{Less, Equal, Greater}
 use Rattle.std.proofs.Math.ListN.{get_or-append, get_or-map}
 use Rattle.std.proofs.Math.Seq.{get_or-append_seam}
-use Rattle.std.proofs.lemmas.Bool.{cases_lt, eq-eqb}
+use Rattle.std.proofs.lemmas.Bool.{cases_lt, eq-eqb, both_ways, and_parts, eqb-true, false_from_ne_true, lt-ltb, le-ltb, ltb-true}
 use Rattle.std.proofs.lemmas.Bool.Decides.{nat_tests}
 use Rattle.std.proofs.lemmas.Cmp.{tied_itself}
 use Rattle.std.proofs.lemmas.List.{append_assoc, append-nil, get_or-take, get_or-drop, length-take, length-drop, length-map}
@@ -21,19 +21,16 @@ use Rattle.mv_values.specs.declared.patch.Patch.TheVariants.{Insert, Delete}
 use Rattle.mv_values.specs.declared.patch.Write.{Write}
 use Rattle.mv_values.specs.Order.{key_order}
 use Rattle.mv_values.specs.Patching.{patched}
-use Rattle.mv_values.proofs.KeyOrder.{key_order_total, exact_keys}
+use Rattle.mv_values.proofs.KeyOrder.{key_order_total, exact_keys, tied}
 use Rattle.mv_record.specs.Writes.{is_on, writes_on, patched_by}
 use Rattle.mv_undo.specs.declared.owned.Owned.{Owned}
 use Rattle.mv_undo.specs.Owning.{IsInOrder, before, earlier}
 use Rattle.mv_undo.specs.Indexing.{owned_at, lined, writes_at, full_key, key_at, owned_on, IsIndexed, IsCut, is_up_to, counts_before, is_earlier_up_to, Does, patch_or, patch_at, DoesUpTo, AreComposed, IsComposed}
-use Rattle.mv_undo.proofs.KeyPlaces.{both_so, equal_is, alike, lt_trans}
-use Rattle.mv_undo.proofs.Indexing.{Searched, on_full, above_misses, off, none_on, on_append, at_more, at_last, at_take}
+use Rattle.mv_undo.proofs.KeyPlaces.{lt_trans}
+use Rattle.mv_undo.proofs.Indexing.{Searched, on_full, above_misses, none_on, on_append, at_more, at_last, at_take}
 use Rattle.mv_undo.proofs.Looking.{writes_are}
 
 -- Writes on a key
-
-clash : (b : Bool) → b ≡ true → b ≡ false → ⊥
-clash b p q = cc
 
 on_own : (t : ℕ) (key : List Value) (o : Owned) → full_key o ≡ Int (pos t) ∷ key → is_on t key o.write ≡ true
 on_own t key o is = by parts.0 parts.1
@@ -120,7 +117,7 @@ kept_before items composed order index place d t key h low high is on =
     all = let last : suc (index - 1) ≡ index = omega (arith, low) in sym (taken_more items order (index - 1) d (omega (arith, low, high))) ∙ ap (λ n. writes_at items (take n order)) last
 
     two : (o.write.table ≡ t) × (o.write.key ≡ key)
-    two = let both = both_so (o.write.table == t) (is_eq (key_order o.write.key key)) there in (alike o.write.table t both.0, exact_keys o.write.key key (equal_is (key_order o.write.key key) both.1))
+    two = let both = and_parts (o.write.table == t) (is_eq (key_order o.write.key key)) there in (eqb-true o.write.table t both.0, tied o.write.key key both.1)
 
     same : writes_on o.write.table o.write.key (writes_at items (take (index - 1) order) ++ o.write ∷ []) ≡ writes_on t key (writes_at items (take index order))
     same = ap (writes_on o.write.table o.write.key) all ∙ (ap (λ u. writes_on u o.write.key (writes_at items (take index order))) two.0 ∙ ap (λ k. writes_on t k (writes_at items (take index order))) two.1)
@@ -137,7 +134,7 @@ le_both a b h g = by (key_order a b) refl h
 pub none_before : (items : List Owned) (order : List ℕ) (index place d t : ℕ) (key : List Value) → IsIndexed items order → 0 < index → index ≤ length order → place ≡ slice_index_or order (index - 1) d
     → All (λ p. is_le (key_order (key_at items p) (Int (pos t) ∷ key)) ≡ true) (take index order) → is_on t key (owned_at items place).write ≡ false → writes_on t key (writes_at items (take index order)) ≡ []
 none_before items order index place d t key ix low high is up_to not' =
-    writes_lined t key (lined items (take index order)) ∙ ap (map (λ (o : Owned). o.write)) (none_on items t key (take index order) (λ k e lt. off _ (λ on. nowhere k e lt on)))
+    writes_lined t key (lined items (take index order)) ∙ ap (map (λ (o : Owned). o.write)) (none_on items t key (take index order) (λ k e lt. false_from_ne_true _ (λ on. nowhere k e lt on)))
   where
     within : (k e : ℕ) → k < length (take index order) → k < index
     within k e lt = omega (arith, lt, length-take index order)
@@ -165,7 +162,7 @@ none_before items order index place d t key ix low high is up_to not' =
     nowhere : (k e : ℕ) → k < length (take index order) → is_on t key (owned_at items (slice_index_or (take index order) k e)).write ≡ true → ⊥
     nowhere k e lt on =
         let same : place ≡ slice_index_or order (index - 1) e = is ∙ any_default order (index - 1) d e (omega (arith, low, high)) in
-        clash (is_on t key (owned_at items place).write) (on_own t key (owned_at items place) (ap (key_at items) same ∙ lands k e lt on)) not'
+        both_ways (is_on t key (owned_at items place).write) not' (on_own t key (owned_at items place) (ap (key_at items) same ∙ lands k e lt on))
 
 pub none_at_all : (items : List Owned) (order : List ℕ) (index t : ℕ) (key : List Value) → index ≡ 0 → writes_on t key (writes_at items (take index order)) ≡ []
 none_at_all items order index t key is = ap (λ n. writes_on t key (writes_at items (take n order))) is
@@ -258,7 +255,7 @@ composed_more items composed order o made at ix kept cut does = record {
         ∙ sym (writes_both o.write.table o.write.key (writes_at items (take at order)) (o.write ∷ [])))
 
     others : (k d : ℕ) → at ≤ k → k < length order → is_on (owned_at items (slice_index_or order k d)).write.table (owned_at items (slice_index_or order k d)).write.key o.write ≡ false
-    others k d low lt = off _ (λ on.
+    others k d low lt = false_from_ne_true _ (λ on.
         above_misses (key_order (key_at items (slice_index_or order k d)) (full_key o)) (cut.1 k d low lt)
         (ap (key_order (key_at items (slice_index_or order k d))) (on_full (owned_at items (slice_index_or order k d)).write.table (owned_at items (slice_index_or order k d)).write.key o on)
         ∙ tied_itself key_order_total (key_at items (slice_index_or order k d))))
@@ -424,15 +421,6 @@ writes_before items order n at t key ix high cut =
 
 -- Fewer writes
 
-below : (p n : ℕ) → p < n → nat_lt p n ≡ true
-below p n lt = grind (arith, nat_tests)
-
-not_below : (p n : ℕ) → n ≤ p → nat_lt p n ≡ false
-not_below p n le = grind (arith, nat_tests)
-
-lower : (p n : ℕ) → nat_lt p n ≡ true → p < n
-lower p n h = grind (arith, nat_tests)
-
 at_default : (items : List Owned) (p : ℕ) (d : Owned) → p < length items → owned_at items p ≡ slice_index_or items p d
 at_default [] p d lt = absurd (omega (arith, lt))
 at_default (x ∷ xs) zero d lt = refl
@@ -447,8 +435,8 @@ tells items number len p point lt =
     let d : Owned = owned_at items p in
     let at : owned_at items p ≡ slice_index_or items p d = at_default items p d lt in
     elim (cases_lt p len) [
-      | inl low ↦ below p len low ∙ sym (ap (λ (o : Owned). nat_lt o.number number) at ∙ point.0 p d (omega arith) low)
-      | inr back ↦ not_below p len back ∙ sym (ap (λ (o : Owned). nat_lt o.number number) at ∙ point.1 p d back lt)
+      | inl low ↦ lt-ltb p len low ∙ sym (ap (λ (o : Owned). nat_lt o.number number) at ∙ point.0 p d (omega arith) low)
+      | inr back ↦ le-ltb p len back ∙ sym (ap (λ (o : Owned). nat_lt o.number number) at ∙ point.1 p d back lt)
     ]
 
 abbrev left : ℕ → List ℕ → List ℕ
@@ -470,7 +458,7 @@ left_on items len t key (x ∷ xs) h = by (nat_lt x len) (is_on t key (owned_at 
         → owned_on t key (lined items (cond a (x ∷ left len xs) (left len xs))) ≡ cond b (owned_at items x ∷ rest) rest
     by true true e f more = rw f (ap (λ l. owned_at items x ∷ l) more)
     by true false e f more = rw f more
-    by false true e f more = absurd (clash (nat_lt x len) (h 0 x (omega arith) f) e)
+    by false true e f more = absurd (both_ways (nat_lt x len) e (h 0 x (omega arith) f))
     by false false e f more = more
 
 left_writes : (items : List Owned) (number len : ℕ) (order xs ys : List ℕ) (p : ℕ) → IsIndexed items order → IsInOrder items → IsFront items number len → order ≡ xs ++ p ∷ ys → nat_lt p len ≡ true
@@ -523,8 +511,8 @@ left_composed items composed number len order xs (p ∷ ps) ix numbers point is 
         → AreComposed (take len items) (take len composed) (writes_at items (left len xs)) (cond b (p ∷ left len ps) (left len ps))
     by false e rest = subst (λ l. AreComposed (take len items) (take len composed) (writes_at items l) (left len ps)) (left_more len p xs false e ∙ append-nil (left len xs)) rest
     by true e rest =
-        let here : owned_at (take len items) p ≡ owned_at items p = at_take items len p (lower p len e) in
-        let kept : slice_index_or (take len composed) p None ≡ slice_index_or composed p None = get_or-take len composed p None (lower p len e) in
+        let here : owned_at (take len items) p ≡ owned_at items p = at_take items len p (ltb-true p len e) in
+        let kept : slice_index_or (take len composed) p None ≡ slice_index_or composed p None = get_or-take len composed p None (ltb-true p len e) in
         let seen = left_writes items number len order xs ps p ix numbers point is e in
         let same : writes_at items (left len (xs ++ p ∷ [])) ≡ writes_at items (left len xs) ++ (owned_at items p).write ∷ [] = ap (writes_at items) (left_more len p xs true e) ∙ writes_more items (left len xs) p in (
           subst (λ (x : Owned). DoesUpTo x (slice_index_or (take len composed) p None) (writes_at items (left len xs))) (sym here)

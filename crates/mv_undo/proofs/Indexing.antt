@@ -6,8 +6,7 @@ use Rattle.std.specs.List.Sorted.{IsPartitionPoint, IsPartitionedBy}
 use Rattle.std.specs.Ordering.{is_lt, is_le, is_eq, is_gt}
 use Rattle.std.specs.declared.cmp.Ordering.{Ordering}
 use Rattle.std.specs.declared.cmp.Ordering.TheVariants.{Equal}
-use Rattle.std.proofs.lemmas.Bool.{cases_lt}
-use Rattle.std.proofs.lemmas.Bool.Decides.{nat_tests}
+use Rattle.std.proofs.lemmas.Bool.{cases_lt, and_parts, eqb-true, false_from_ne_true, lt-ltb, le-ltb, ltb-true}
 use Rattle.std.proofs.lemmas.Cmp.{tied_itself}
 use Rattle.std.proofs.lemmas.List.{get_or-take, get_or-drop, length-take, length-drop, drop-drop, append-nil, map-append}
 use Rattle.std.proofs.lemmas.List.Elements.{filter-append, filter_passes, All-nil, All-cons}
@@ -15,31 +14,27 @@ use Rattle.std.proofs.lemmas.List.Kept.{AllPairs-cons, AllPairs-filter}
 use Rattle.mv_values.specs.declared.value.Value.{Value}
 use Rattle.mv_values.specs.declared.value.Value.TheVariants.{Int}
 use Rattle.mv_values.specs.Order.{key_order}
-use Rattle.mv_values.proofs.KeyOrder.{key_order_total, exact_keys}
+use Rattle.mv_values.proofs.KeyOrder.{key_order_total, tied, same_table}
 use Rattle.mv_record.specs.Writes.{is_on}
 use Rattle.mv_undo.specs.declared.owned.Owned.{Owned}
 use Rattle.mv_undo.specs.Owning.{before}
 use Rattle.mv_table.specs.declared.span.Span.{Span}
 use Rattle.mv_table.specs.Spans.{is_past, is_within, RunsTo, IsForward}
 use Rattle.mv_undo.specs.Indexing.{owned_at, lined, full_key, key_at, owned_on, IsIndexed, IsCut, is_below, is_up_to, end_of, end_in}
-use Rattle.mv_undo.proofs.KeyPlaces.{parted_below, parted_by_key, above_le, below_more, lt_le, not_under, under_end, same_table, next_table, both_so, equal_is, alike}
+use Rattle.mv_undo.proofs.KeyPlaces.{parted_below, parted_by_key, above_le, below_more, lt_le, not_under, under_end, next_table}
 
 -- A write on a key
 
 pub on_full : (t : ℕ) (key : List Value) (o : Owned) → is_on t key o.write ≡ true → full_key o ≡ Int (pos t) ∷ key
 on_full t key o on =
-    let two = both_so (o.write.table == t) (is_eq (key_order o.write.key key)) on in
-    ap (λ n. Int (pos n) ∷ o.write.key) (alike o.write.table t two.0) ∙ ap (λ k. Int (pos t) ∷ k) (exact_keys o.write.key key (equal_is (key_order o.write.key key) two.1))
+    let two = and_parts (o.write.table == t) (is_eq (key_order o.write.key key)) on in
+    ap (λ n. Int (pos n) ∷ o.write.key) (eqb-true o.write.table t two.0) ∙ ap (λ k. Int (pos t) ∷ k) (tied o.write.key key two.1)
 
 below_misses : (o : Ordering) → is_lt o ≡ true → o ≡ Equal → ⊥
 below_misses o lt e = let no : is_lt Equal ≡ true = subst (λ p. is_lt p ≡ true) e lt in cc
 
 pub above_misses : (o : Ordering) → is_le o ≡ false → o ≡ Equal → ⊥
 above_misses o le e = let no : is_le Equal ≡ false = subst (λ p. is_le p ≡ false) e le in cc
-
-pub off : (b : Bool) → (b ≡ true → ⊥) → b ≡ false
-off true h = absurd (h refl)
-off false h = refl
 
 -- Places one after another
 
@@ -92,11 +87,11 @@ cut_same items order p q from to t key ix le low high first last under over =
     (none_on items t key (take from order) (λ k d lt.
     let inside : k < from = omega (arith, lt, length-take from order) in
     let is : slice_index_or (take from order) k d ≡ slice_index_or order k d = get_or-take from order k d inside in
-    rw is (off _ (λ on. under (slice_index_or order k d) on (first.0 k d (omega arith) inside)))))
+    rw is (false_from_ne_true _ (λ on. under (slice_index_or order k d) on (first.0 k d (omega arith) inside)))))
     (none_on items t key (drop to order) (λ k d lt.
     let inside : to + k < length order = omega (arith, lt, length-drop to order) in
     let is : slice_index_or (drop to order) k d ≡ slice_index_or order (to + k) d = get_or-drop to order k d in
-    rw is (off _ (λ on. over (slice_index_or order (to + k) d) on (last.1 (to + k) d (omega arith) inside)))))
+    rw is (false_from_ne_true _ (λ on. over (slice_index_or order (to + k) d) on (last.1 (to + k) d (omega arith) inside)))))
     ∙ ix.each t key
 
 -- the places on a key
@@ -134,7 +129,7 @@ cut_in items order from to t span ix le low high first last key within =
     (λ n on above. let no : false ≡ true = sym above ∙ (ap (λ k. is_lt (key_order k (end_in t span))) (on_full t key (owned_at items n) on) ∙ before_end t span.high key parts.1) in cc)
   where
     parts : (is_le (key_order span.low key) ≡ true) × (not (is_past span.high key) ≡ true)
-    parts = both_so (is_le (key_order span.low key)) (not (is_past span.high key)) within
+    parts = and_parts (is_le (key_order span.low key)) (not (is_past span.high key)) within
 
 pub part_within : (order : List ℕ) (n from to : ℕ) → to ≤ length order → All (λ p. p < n) order → All (λ p. p < n) (slice_range order from to)
 part_within order n from to high h k d lt =
@@ -254,7 +249,7 @@ indexed_more items order o at ix high search' = record { within = inside; sorted
     none_behind t key on = none_on items t key (drop at order) (λ k d lt.
         let back : at + k < length order = omega (arith, lt, length-drop at order) in
         let is : slice_index_or (drop at order) k d ≡ slice_index_or order (at + k) d = get_or-drop at order k d in
-        rw is (off _ (λ there.
+        rw is (false_from_ne_true _ (λ there.
         above_misses (key_order (key_at items (slice_index_or order (at + k) d)) (full_key o)) (point.1 (at + k) d (omega arith) back)
         (ap (λ j. key_order j (full_key o)) (on_full t key (owned_at items (slice_index_or order (at + k) d)) there)
         ∙ (ap (key_order (Int (pos t) ∷ key)) (on_full t key o on) ∙ tied_itself key_order_total (Int (pos t) ∷ key))))))
@@ -279,15 +274,6 @@ at_index : (items : List Owned) (p : ℕ) (d : Owned) → p < length items → o
 at_index [] p d lt = absurd (omega (arith, lt))
 at_index (x ∷ xs) zero d lt = refl
 at_index (x ∷ xs) (suc p) d lt = at_index xs p d (omega (arith, lt))
-
-below : (p n : ℕ) → p < n → nat_lt p n ≡ true
-below p n lt = grind (arith, nat_tests)
-
-not_below : (p n : ℕ) → n ≤ p → nat_lt p n ≡ false
-not_below p n le = grind (arith, nat_tests)
-
-lower : (p n : ℕ) → nat_lt p n ≡ true → p < n
-lower p n h = grind (arith, nat_tests)
 
 lined_filter : (f : ℕ → Owned) (test : ℕ → Bool) (q : Owned → Bool) (xs : List ℕ) → ((k d : ℕ) → k < length xs → test (slice_index_or xs k d) ≡ q (f (slice_index_or xs k d))) → map f (filter test xs) ≡ filter q (map f xs)
 lined_filter f test q [] h = refl
@@ -317,7 +303,7 @@ indexed_less items order number len ix high point is = record { within = inside;
     kept = filter (λ p. nat_lt p len) order
 
     front : (k d : ℕ) → k < length (filter (λ p. nat_lt p len) order) → slice_index_or (filter (λ p. nat_lt p len) order) k d < len
-    front k d lt = lower _ _ (filter_passes (λ p. nat_lt p len) order k d lt)
+    front k d lt = ltb-true _ _ (filter_passes (λ p. nat_lt p len) order k d lt)
 
     inside : All (λ p. p < length (take len items)) (filter (λ p. nat_lt p len) order)
     inside k d lt = omega (arith, front k d lt, length-take len items, high)
@@ -333,8 +319,8 @@ indexed_less items order number len ix high point is = record { within = inside;
         let d : Owned = owned_at items p in
         let at : owned_at items p ≡ slice_index_or items p d = at_index items p d lt in
         elim (cases_lt p len) [
-          | inl low ↦ below p len low ∙ sym (ap (λ (o : Owned). nat_lt o.number number) at ∙ point.0 p d (omega arith) low)
-          | inr back ↦ not_below p len back ∙ sym (ap (λ (o : Owned). nat_lt o.number number) at ∙ point.1 p d back lt)
+          | inl low ↦ lt-ltb p len low ∙ sym (ap (λ (o : Owned). nat_lt o.number number) at ∙ point.0 p d (omega arith) low)
+          | inr back ↦ le-ltb p len back ∙ sym (ap (λ (o : Owned). nat_lt o.number number) at ∙ point.1 p d back lt)
         ]
 
     all : lined (take len items) (filter (λ p. nat_lt p len) order) ≡ before number (lined items order)

@@ -1,17 +1,16 @@
 -- Places in the order of the keys at them.
-use Rattle.std.proofs.Common.{◌≡◌, ℕ, ◌+◌, Bool, true, false, ◌&&◌, ◌==◌, List, [], ◌∷◌, slice_index_or, refl, sym, ap, subst, ◌∙◌, inl, inr, arith}
+use Rattle.std.proofs.Common.{◌≡◌, ℕ, ◌+◌, true, false, List, [], ◌∷◌, slice_index_or, refl, sym, ap, subst, ◌∙◌, inl, inr, arith}
 use Rattle.std.specs.Prelude.{AllPairs, pos, not, nat_lt}
 use Rattle.std.proofs.lemmas.Bool.{cases_lt}
-use Rattle.std.proofs.lemmas.Bool.Decides.{eqb_tells, nat_tests}
-use Rattle.std.proofs.lemmas.Cmp.{tied_itself}
+use Rattle.std.proofs.lemmas.Bool.Decides.{nat_tests}
 use Rattle.std.specs.List.Sorted.{IsPartitionedBy}
-use Rattle.std.specs.Ordering.{ordering_then, ordering_reverse, is_lt, is_le, is_eq, is_gt, int_cmp}
+use Rattle.std.specs.Ordering.{ordering_reverse, is_lt, is_le, is_gt, int_cmp}
 use Rattle.std.specs.declared.cmp.Ordering.{Ordering}
 use Rattle.std.specs.declared.cmp.Ordering.TheVariants.{Less, Equal, Greater}
 use Rattle.mv_values.specs.declared.value.Value.{Value}
 use Rattle.mv_values.specs.declared.value.Value.TheVariants.{Int}
-use Rattle.mv_values.specs.Order.{value_order, key_order}
-use Rattle.mv_values.proofs.KeyOrder.{value_order_total, key_order_total, exact_keys}
+use Rattle.mv_values.specs.Order.{key_order}
+use Rattle.mv_values.proofs.KeyOrder.{key_order_total, exact_keys}
 
 le_trans : (a b k : List Value) → is_le (key_order a b) ≡ true → is_le (key_order b k) ≡ true → is_le (key_order a k) ≡ true
 le_trans a b k h g = by (key_order a b) (key_order b k) refl refl h g
@@ -22,9 +21,6 @@ le_trans a b k h g = by (key_order a b) (key_order b k) refl refl h g
     by Less Equal e f h g = subst (λ x. is_le (key_order a x) ≡ true) (exact_keys b k f) (ap is_le e)
     by Less Greater e f h g = cc
     by Greater p e f h g = cc
-
-pub equal_first : (o p : Ordering) → o ≡ Equal → ordering_then o p ≡ p
-equal_first o p h = rw h refl
 
 pub parted_by_key : (K : ℕ → List Value) (key : List Value) (order : List ℕ) → AllPairs (λ p q. is_le (key_order (K p) (K q)) ≡ true) order → IsPartitionedBy (λ p. is_le (key_order (K p) key)) order
 parted_by_key K key order sorted i j d le lt h =
@@ -41,18 +37,6 @@ above_le a k h = by (key_order a k) refl h
     by Less e g = cc
     by Equal e g = cc
     by Greater e g = ap is_le (key_order_total.antisymm k a ∙ ap ordering_reverse e)
-
-pub both_so : (a b : Bool) → a && b ≡ true → (a ≡ true) × (b ≡ true)
-both_so true b h = (refl, h)
-both_so false b h = cc
-
-pub equal_is : (o : Ordering) → is_eq o ≡ true → o ≡ Equal
-equal_is Less h = cc
-equal_is Equal h = refl
-equal_is Greater h = cc
-
-pub alike : (a b : ℕ) → (a == b) ≡ true → a ≡ b
-alike a b h = grind (arith, eqb_tells)
 
 pub lt_trans : (a b k : List Value) → is_le (key_order a b) ≡ true → is_lt (key_order b k) ≡ true → is_lt (key_order a k) ≡ true
 lt_trans a b k h g = by (key_order a b) (key_order b k) refl refl h g
@@ -106,9 +90,6 @@ under_end end' key h = by (key_order end' key) refl h
     by Greater e h = ap is_lt (key_order_total.antisymm key end' ∙ ap ordering_reverse e)
 
 -- keys of one table stand as they do, and those of the next table behind them
-
-pub same_table : (t : ℕ) (a b : List Value) → key_order (Int (pos t) ∷ a) (Int (pos t) ∷ b) ≡ key_order a b
-same_table t a b = equal_first (value_order (Int (pos t)) (Int (pos t))) (key_order a b) (tied_itself value_order_total (Int (pos t)))
 
 next_number : (t : ℕ) → int_cmp (pos t) (pos (t + 1)) ≡ Less
 next_number t = let lt : nat_lt t (t + 1) ≡ true = grind (arith, nat_tests) in rw lt refl

@@ -12,13 +12,12 @@ use Rattle.mv_values.specs.Order.{key_order}
 use Rattle.mv_values.specs.Patching.{row_of, placed, applied, found_by}
 use Rattle.mv_values.specs.Preds.{admits, matched}
 use Rattle.mv_values.specs.Tables.{rows_at}
-use Rattle.mv_values.proofs.KeyOrder.{exact_keys}
+use Rattle.mv_values.proofs.KeyOrder.{tied}
 use Rattle.mv_record.specs.Writes.{is_on, writes_on, patched_by, AreRising}
 use Rattle.mv_record.proofs.Rising.{unadmitted}
 use Rattle.mv_record.proofs.Patching.{row_of-placed_same, placed_other, rising_placed, rows_same, row_of-found, rising_found, row_applied, rising_applied}
 use Rattle.mv_undo.specs.Owning.{touches, is_among, AreSought}
 use Rattle.mv_undo.specs.Overlaying.{IsSeen}
-use Rattle.mv_undo.proofs.KeyPlaces.{equal_is}
 
 -- the row that the predicate finds under a key behind writes, from the row before them
 abbrev pub new_row : Pred → List Write → List Keyed → List Value → Option (List Value)
@@ -42,7 +41,7 @@ laid_row pred ws own (k ∷ ks) rows key h =
   where
     one : (b : Bool) → is_eq (key_order k key) ≡ b → row_of (placed k (new_row pred ws own k) rows) key ≡ cond b (new_row pred ws own key) (row_of rows key)
     one true e =
-        subst (λ j. row_of (placed k (new_row pred ws own k) rows) j ≡ new_row pred ws own j) (exact_keys k key (equal_is (key_order k key) e)) (row_of-placed_same k (new_row pred ws own k) rows h)
+        subst (λ j. row_of (placed k (new_row pred ws own k) rows) j ≡ new_row pred ws own j) (tied k key e) (row_of-placed_same k (new_row pred ws own k) rows h)
     one false e = placed_other k (new_row pred ws own k) rows key e
 
     join : (b c : Bool) → cond c (new_row pred ws own key) (cond b (new_row pred ws own key) (row_of rows key)) ≡ cond (b || c) (new_row pred ws own key) (row_of rows key)

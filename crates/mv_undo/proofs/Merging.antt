@@ -13,10 +13,9 @@ use Rattle.mv_values.specs.declared.rows.Keyed.{Keyed}
 use Rattle.mv_values.specs.Keys.{IsRising, IsBelow}
 use Rattle.mv_values.specs.Order.{key_order}
 use Rattle.mv_values.specs.Patching.{row_of, placed, standing}
-use Rattle.mv_values.proofs.KeyOrder.{key_order_total, exact_keys}
+use Rattle.mv_values.proofs.KeyOrder.{key_order_total, tied}
 use Rattle.mv_record.proofs.Patching.{row_of-placed_same, placed_other, rising_placed, rows_same}
 use Rattle.mv_undo.specs.Overlaying.{begins_up_to}
-use Rattle.mv_undo.proofs.KeyPlaces.{equal_is}
 
 -- A row put under a key
 
@@ -59,7 +58,7 @@ put_again key was row rows h =
 
     by : (other : List Value) (b : Bool) → is_eq (key_order key other) ≡ b → row_of (placed key row (placed key was rows)) other ≡ row_of (placed key row rows) other
     by other true e =
-        subst (λ k. row_of (placed key row (placed key was rows)) k ≡ row_of (placed key row rows) k) (exact_keys key other (equal_is (key_order key other) e))
+        subst (λ k. row_of (placed key row (placed key was rows)) k ≡ row_of (placed key row rows) k) (tied key other e)
         (row_of-placed_same key row (placed key was rows) once ∙ sym (row_of-placed_same key row rows h))
     by other false e = placed_other key row (placed key was rows) other e ∙ (placed_other key was rows other e ∙ sym (placed_other key row rows other e))
 
@@ -91,11 +90,6 @@ pub at_key : (o : Ordering) → is_le o ≡ true → is_lt o ≡ false → o ≡
 at_key Less h g = cc
 at_key Equal h g = refl
 at_key Greater h g = cc
-
-pub under_key : (o : Ordering) → is_lt o ≡ true → o ≡ Less
-under_key Less h = refl
-under_key Equal h = cc
-under_key Greater h = cc
 
 -- what is below a key is below each greater one
 pub below_later : (key later : List Value) (xs : List Keyed) → key_order key later ≡ Less → All (IsBelow key) xs → All (IsBelow later) xs

@@ -17,14 +17,13 @@ use Rattle.mv_values.specs.Keys.{IsRising}
 use Rattle.mv_values.specs.Order.{key_order}
 use Rattle.mv_values.specs.Patching.{row_of, placed}
 use Rattle.mv_values.specs.Preds.{admits}
-use Rattle.mv_values.proofs.KeyOrder.{exact_keys}
+use Rattle.mv_values.proofs.KeyOrder.{tied}
 use Rattle.mv_table.proofs.Points.{parted}
 use Rattle.mv_record.specs.Writes.{is_on, writes_on}
 use Rattle.mv_record.proofs.Patching.{row_of-placed_same, placed_other, rising_placed}
 use Rattle.mv_undo.specs.declared.owned.Owned.{Owned}
 use Rattle.mv_undo.specs.Owning.{IsInOrder, before, earlier, is_earlier_on, touches, is_sought, is_wanted, is_among, AreSought}
 use Rattle.mv_undo.specs.Taking.{gathered}
-use Rattle.mv_undo.proofs.KeyPlaces.{equal_is}
 
 -- Those before a number
 
@@ -83,7 +82,7 @@ gathered_rising pred n (o ∷ os) found h = gathered_rising pred n os (cond (is_
 gathered_one : (pred : Pred) (n : ℕ) (o : Owned) (found : List Keyed) (key : List Value) → IsRising found → (w : Bool) (k : Bool) → is_eq (key_order o.write.key key) ≡ k
     → row_of (cond w (placed o.write.key (Some []) found) found) key ≡ cond (w && k) (Some []) (row_of found key)
 gathered_one pred n o found key h true true e =
-    subst (λ j. row_of (placed o.write.key (Some []) found) j ≡ Some []) (exact_keys o.write.key key (equal_is (key_order o.write.key key) e)) (row_of-placed_same o.write.key (Some []) found h)
+    subst (λ j. row_of (placed o.write.key (Some []) found) j ≡ Some []) (tied o.write.key key e) (row_of-placed_same o.write.key (Some []) found h)
 gathered_one pred n o found key h true false e = placed_other o.write.key (Some []) found key e
 gathered_one pred n o found key h false k e = refl
 
@@ -126,7 +125,7 @@ gathered_row pred n (o ∷ os) found key h =
     by false = h
 
     admitted : is_eq (key_order o.write.key key) ≡ true → admits pred o.write.key ≡ admits pred key
-    admitted e = ap (admits pred) (exact_keys o.write.key key (equal_is (key_order o.write.key key) e))
+    admitted e = ap (admits pred) (tied o.write.key key e)
 
     touched : is_earlier_on n pred.table key o || touches pred.table key (earlier n os) ≡ touches pred.table key (earlier n (o ∷ os))
     touched = ap (λ b. is_earlier_on n pred.table key o || b) (sym (touches_earlier n pred.table key os)) ∙ touches_earlier n pred.table key (o ∷ os)

@@ -12,6 +12,8 @@ use Rattle.std.specs.List.{filter, list_any}
 use Rattle.std.specs.Ordering.{is_eq, is_le, is_lt}
 use Rattle.std.specs.declared.cmp.Ordering.{Ordering}
 use Rattle.std.specs.declared.cmp.Ordering.TheVariants.{Less, Equal, Greater}
+use Rattle.std.specs.Cmp.{Equal-is}
+use Rattle.std.proofs.lemmas.Bool.{both_ways, and_parts, eqb-true}
 use Rattle.mv_values.specs.declared.value.Value.{Value}
 use Rattle.mv_values.specs.declared.value.Value.TheVariants.{Int}
 use Rattle.mv_values.specs.declared.rows.Keyed.{Keyed}
@@ -20,7 +22,8 @@ use Rattle.mv_values.specs.Keys.{IsRising, IsBelow}
 use Rattle.mv_values.specs.Order.{key_order}
 use Rattle.mv_values.specs.Patching.{row_of}
 use Rattle.mv_values.specs.Preds.{admits}
-use Rattle.mv_values.proofs.KeyOrder.{exact_keys}
+use Rattle.mv_values.proofs.KeyOrder.{exact_keys, tied, same_key, turned, same_table}
+use Rattle.mv_values.proofs.Deciding.{less_is}
 use Rattle.mv_table.specs.declared.scan.Direction.{Direction}
 use Rattle.mv_table.specs.declared.scan.Direction.TheVariants.{Forward, Backward}
 use Rattle.mv_table.specs.Scans.{with_foremost}
@@ -28,17 +31,13 @@ use Rattle.mv_table.proofs.Points.{IsPoint}
 use Rattle.mv_table.proofs.Scanning.{with_mapped}
 use Rattle.mv_record.specs.Writes.{is_on}
 use Rattle.mv_record.proofs.Patching.{rows_same}
-use Rattle.mv_record.proofs.Rising.{same_key, turned, row_here, row_later}
+use Rattle.mv_record.proofs.Rising.{row_here, row_later}
 use Rattle.mv_undo.specs.declared.owned.Owned.{Owned}
 use Rattle.mv_undo.specs.Taking.{meets_first, gathered, sought_keys, AreInLine}
 use Rattle.mv_undo.specs.Indexing.{owned_at, lined, full_key, key_at}
 use Rattle.mv_undo.specs.Owning.{earlier, is_earlier_on, touches, is_sought, is_wanted}
 use Rattle.mv_undo.proofs.Indexing.{on_full}
-use Rattle.mv_undo.proofs.KeyPlaces.{both_so, equal_is, alike, same_table}
 use Rattle.mv_undo.proofs.Owning.{touches_earlier, gathered_rising, gathered_row}
-
-clash : (b : Bool) → b ≡ true → b ≡ false → ⊥
-clash b h g = cc
 
 -- The two parts of a list at a point
 
@@ -104,13 +103,13 @@ met_or_same Forward a b h = by (key_order a b) refl h
     by : (o : Ordering) → key_order a b ≡ o → is_le o ≡ true → (is_lt (key_order a b) ≡ true) ⊎ (a ≡ b)
     by Less e g = inl (ap is_lt e)
     by Equal e g = inr (exact_keys a b e)
-    by Greater e g = absurd (clash (is_le Greater) g refl)
+    by Greater e g = absurd (both_ways (is_le Greater) refl g)
 met_or_same Backward a b h = by (key_order b a) refl h
   where
     by : (o : Ordering) → key_order b a ≡ o → is_le o ≡ true → (is_lt (key_order b a) ≡ true) ⊎ (a ≡ b)
     by Less e g = inl (ap is_lt e)
     by Equal e g = inr (sym (exact_keys b a e))
-    by Greater e g = absurd (clash (is_le Greater) g refl)
+    by Greater e g = absurd (both_ways (is_le Greater) refl g)
 
 same_met : (d : Direction) (t : ℕ) (a b : List Value) → meets_first d (Int (pos t) ∷ a) (Int (pos t) ∷ b) ≡ meets_first d a b
 same_met Forward t a b = ap is_lt (same_table t a b)
@@ -204,14 +203,14 @@ any_kept f q (x ∷ xs) h = by (q x) (f x) refl refl (any_kept f q xs (λ k d lt
   where
     by : (b c : Bool) → q x ≡ b → f x ≡ c → list_any f (filter q xs) ≡ list_any f xs → list_any f (cond b (x ∷ filter q xs) (filter q xs)) ≡ f x || list_any f xs
     by true c e g more = ap (λ b. f x || b) more
-    by false true e g more = absurd (clash (q x) (h 0 x (omega arith) g) e)
+    by false true e g more = absurd (both_ways (q x) e (h 0 x (omega arith) g))
     by false false e g more = more ∙ sym (ap (λ b. b || list_any f xs) g)
 
 touched_kept : (n t : ℕ) (key : List Value) (q : Owned → Bool) (os : List Owned) → All (λ x. is_earlier_on n t key x ≡ true → q x ≡ true) os → touches t key (earlier n (filter q os)) ≡ touches t key (earlier n os)
 touched_kept n t key q os h = sym (touches_earlier n t key (filter q os)) ∙ (any_kept (is_earlier_on n t key) q os h ∙ touches_earlier n t key os)
 
 any_by : {R : Type 0} (f : Owned → Bool) (P : Owned → Type 0) (os : List Owned) → All P os → ((x : Owned) → f x ≡ true → P x → R) → list_any f os ≡ true → R
-any_by {R = R} f P [] h go e = absurd (clash false e refl)
+any_by {R = R} f P [] h go e = absurd (both_ways false refl e)
 any_by {R = R} f P (x ∷ xs) h go e = by (f x) refl e (any_by f P xs (λ k d lt. h (suc k) d (omega (arith, lt))) go)
   where
     by : (b : Bool) → f x ≡ b → b || list_any f xs ≡ true → (list_any f xs ≡ true → R) → R
@@ -220,7 +219,7 @@ any_by {R = R} f P (x ∷ xs) h go e = by (f x) refl e (any_by f P xs (λ k d lt
 
 -- a write on a key has the key, with its table
 on_key : (n t : ℕ) (key : List Value) (o : Owned) → is_earlier_on n t key o ≡ true → full_key o ≡ Int (pos t) ∷ key
-on_key n t key o e = on_full t key o (both_so (nat_lt o.number n) (is_on t key o.write) e).1
+on_key n t key o e = on_full t key o (and_parts (nat_lt o.number n) (is_on t key o.write) e).1
 
 -- A wanted write
 
@@ -243,9 +242,9 @@ wanted_on pred n o w =
 
 on_wanted : (pred : Pred) (n : ℕ) (o : Owned) (key : List Value) → is_earlier_on n pred.table key o ≡ true → admits pred key ≡ true → is_wanted pred n o ≡ true
 on_wanted pred n o key e a =
-    let front = both_so (nat_lt o.number n) (is_on pred.table key o.write) e in
-    let back = both_so (o.write.table == pred.table) (is_eq (key_order o.write.key key)) front.1 in
-    so_all (nat_lt o.number n) (o.write.table == pred.table) (admits pred o.write.key) front.0 back.0 (ap (admits pred) (exact_keys o.write.key key (equal_is (key_order o.write.key key) back.1)) ∙ a)
+    let front = and_parts (nat_lt o.number n) (is_on pred.table key o.write) e in
+    let back = and_parts (o.write.table == pred.table) (is_eq (key_order o.write.key key)) front.1 in
+    so_all (nat_lt o.number n) (o.write.table == pred.table) (admits pred o.write.key) front.0 back.0 (ap (admits pred) (tied o.write.key key back.1) ∙ a)
 
 nothing : IsRising []
 nothing = λ i j d lt within. absurd (omega (arith, within))
@@ -265,7 +264,7 @@ passed_over d pred n o os un =
     off false false = refl
 
     same : (key : List Value) (b : Bool) → is_earlier_on n pred.table key o ≡ b → (a : Bool) → admits pred key ≡ a → is_sought pred (earlier n (with_foremost d o os)) key ≡ is_sought pred (earlier n os) key
-    same key true e true f = absurd (clash (is_wanted pred n o) (on_wanted pred n o key e f) un)
+    same key true e true f = absurd (both_ways (is_wanted pred n o) un (on_wanted pred n o key e f))
     same key true e false f = rw f (off (touches pred.table key (earlier n (with_foremost d o os))) (touches pred.table key (earlier n os)))
     same key false e a f = ap (λ b. b && admits pred key) (touched_with d n pred.table key o os ∙ ap (λ b. b || touches pred.table key (earlier n os)) e)
 
@@ -278,8 +277,8 @@ row_last (y ∷ ys) x key none = by (is_eq (key_order y.key x.key)) refl none (r
     here : is_eq (key_order y.key x.key) ≡ false → (b : Bool) → is_eq (key_order y.key key) ≡ b → (c : Bool) → is_eq (key_order x.key key) ≡ c → row_of (ys ++ x ∷ []) key ≡ cond (is_eq (key_order x.key key)) (Some x.row) (row_of ys key)
         → cond b (Some y.row) (row_of (ys ++ x ∷ []) key) ≡ cond c (Some x.row) (cond b (Some y.row) (row_of ys key))
     here e true f true g more =
-        let same : x.key ≡ key = exact_keys x.key key (equal_is (key_order x.key key) g) in
-        absurd (clash (is_eq (key_order y.key x.key)) (ap (λ k. is_eq (key_order y.key k)) same ∙ f) e)
+        let same : x.key ≡ key = tied x.key key g in
+        absurd (both_ways (is_eq (key_order y.key x.key)) e (ap (λ k. is_eq (key_order y.key k)) same ∙ f))
     here e true f false g more = refl
     here e false f c g more = more ∙ ap (λ b. cond b (Some x.row) (row_of ys key)) g
 
@@ -293,14 +292,9 @@ pub row_with : (d : Direction) (x : Keyed) (xs : List Keyed) (key : List Value) 
 row_with Forward x xs key none = refl
 row_with Backward x xs key none = row_last xs x key none
 
-less_of : (o : Ordering) → is_lt o ≡ true → o ≡ Less
-less_of Less h = refl
-less_of Equal h = cc
-less_of Greater h = cc
-
 rising_with : (d : Direction) (x : Keyed) (xs : List Keyed) → All (λ y. meets_first d x.key y.key ≡ true) xs → IsRising xs → IsRising (with_foremost d x xs)
-rising_with Forward x xs h rising = AllPairs-cons (λ a b. IsBelow b.key a) x xs (λ k e lt. less_of _ (h k e lt)) rising
-rising_with Backward x xs h rising = all_pairs_push (λ a b. IsBelow b.key a) xs x rising (λ k e lt. less_of _ (h k e lt))
+rising_with Forward x xs h rising = AllPairs-cons (λ a b. IsBelow b.key a) x xs (λ k e lt. less_is _ (h k e lt)) rising
+rising_with Backward x xs h rising = all_pairs_push (λ a b. IsBelow b.key a) xs x rising (λ k e lt. less_is _ (h k e lt))
 
 -- what is so of each key with a row is so of the key of each row
 each_key : (P : List Value → Type 0) (xs : List Keyed) → ((key row : List Value) → row_of xs key ≡ Some row → P key) → All (λ y. P y.key) xs
@@ -308,7 +302,7 @@ each_key P [] h = All-nil (λ y. P y.key)
 each_key P (x ∷ xs) h = All-cons (λ y. P y.key) x xs (h x.key x.row (row_here x xs x.key (same_key x.key))) (each_key P xs (λ key row is. by key row is (is_eq (key_order x.key key)) refl))
   where
     by : (key row : List Value) → row_of xs key ≡ Some row → (b : Bool) → is_eq (key_order x.key key) ≡ b → P key
-    by key row is true e = h key x.row (row_here x xs key (equal_is (key_order x.key key) e))
+    by key row is true e = h key x.row (row_here x xs key ((Equal-is (key_order x.key key)).0 e))
     by key row is false e = h key row (row_later x xs key e ∙ is)
 
 -- the writes to keys that a scan meets after that of a write
@@ -334,7 +328,7 @@ taken_first d pred n o os wanted line =
     parts = all_so (nat_lt o.number n) (o.write.table == pred.table) (admits pred o.write.key) wanted
 
     full : full_key o ≡ Int (pos pred.table) ∷ o.write.key
-    full = ap (λ m. Int (pos m) ∷ o.write.key) (alike o.write.table pred.table parts.1)
+    full = ap (λ m. Int (pos m) ∷ o.write.key) (eqb-true o.write.table pred.table parts.1)
 
     rest_row : (key : List Value) → row_of (gathered pred n (later_writes d o os) []) key ≡ cond (is_sought pred (earlier n (later_writes d o os)) key) (Some []) None
     rest_row key = gathered_row pred n (later_writes d o os) [] key nothing
@@ -343,7 +337,7 @@ taken_first d pred n o os wanted line =
     later key so =
         any_by (is_earlier_on n pred.table key) (λ x. meets_first d (full_key o) (full_key x) ≡ true) (later_writes d o os) (filter_passes (λ x. meets_first d (full_key o) (full_key x)) os)
         (λ x e past. sym (same_met d pred.table o.write.key key) ∙ (sym (ap (λ k. meets_first d k (Int (pos pred.table) ∷ key)) full) ∙ (sym (ap (meets_first d (full_key o)) (on_key n pred.table key x e)) ∙ past)))
-        (touches_earlier n pred.table key (later_writes d o os) ∙ (both_so (touches pred.table key (earlier n (later_writes d o os))) (admits pred key) so).0)
+        (touches_earlier n pred.table key (later_writes d o os) ∙ (and_parts (touches pred.table key (earlier n (later_writes d o os))) (admits pred key) so).0)
 
     some_so : (b : Bool) (row : List Value) → cond {A = Option (List Value)} b (Some []) None ≡ Some row → b ≡ true
     some_so true row h = refl
@@ -357,7 +351,7 @@ taken_first d pred n o os wanted line =
     none = rest_row o.write.key ∙ by (is_sought pred (earlier n (later_writes d o os)) o.write.key) refl
       where
         by : (b : Bool) → is_sought pred (earlier n (later_writes d o os)) o.write.key ≡ b → cond {A = Option (List Value)} b (Some []) None ≡ None
-        by true e = absurd (clash (meets_first d o.write.key o.write.key) (later o.write.key e) (never_itself d o.write.key))
+        by true e = absurd (both_ways (meets_first d o.write.key o.write.key) (never_itself d o.write.key) (later o.write.key e))
         by false e = refl
 
     -- a write on another key isn't passed over
@@ -372,12 +366,12 @@ taken_first d pred n o os wanted line =
         by x on (inr same) =
             let whole : Int (pos pred.table) ∷ o.write.key ≡ Int (pos pred.table) ∷ key = sym full ∙ (same ∙ on_key n pred.table key x on) in
             let keys : o.write.key ≡ key = tail_same o.write.key key whole in
-            absurd (clash (is_eq (key_order o.write.key key)) (ap (λ k. is_eq (key_order o.write.key k)) (sym keys) ∙ ap is_eq (same_key o.write.key)) other)
+            absurd (both_ways (is_eq (key_order o.write.key key)) other (ap (λ k. is_eq (key_order o.write.key k)) (sym keys) ∙ ap is_eq (same_key o.write.key)))
 
     core : (key : List Value) (c : Bool) → is_eq (key_order o.write.key key) ≡ c
         → cond (is_sought pred (earlier n (with_foremost d o os)) key) (Some []) None ≡ cond (is_eq (key_order o.write.key key)) (Some []) (row_of (gathered pred n (later_writes d o os) []) key)
     core key true e =
-        let same : o.write.key ≡ key = exact_keys o.write.key key (equal_is (key_order o.write.key key) e) in
+        let same : o.write.key ≡ key = tied o.write.key key e in
         let on : is_earlier_on n pred.table key o ≡ true = subst (λ k. is_earlier_on n pred.table k o ≡ true) same (wanted_on pred n o wanted) in
         let touched : touches pred.table key (earlier n (with_foremost d o os)) ≡ true = touched_with d n pred.table key o os ∙ ap (λ b. b || touches pred.table key (earlier n os)) on in
         let admitted : admits pred key ≡ true = ap (admits pred) (sym same) ∙ parts.2 in

@@ -3,7 +3,8 @@ use Rattle.std.proofs.lemmas.List.Elements.{All-push}
 use Rattle.mv_values.specs.Keys.{IsRising, IsBelow}
 use Rattle.mv_values.specs.Order.{key_order}
 use Rattle.mv_values.specs.Patching.{placed, standing}
-use Rattle.mv_undo.proofs.Merging.{below_next, put_between, taken_same, pushed_same, dropped_rising, dropped_same, at_key, under_key}
+use Rattle.mv_values.proofs.Deciding.{less_is}
+use Rattle.mv_undo.proofs.Merging.{below_next, put_between, taken_same, pushed_same, dropped_rising, dropped_same, at_key}
 use Rattle.mv_undo.proofs.merge.Merge.pass.Goals as goal
 
 pub push-requires : goal.push-requires
@@ -22,7 +23,7 @@ loop-item-preserved-in-Continue-1 c =
     let item = c.in-Some.item in
     let is = c.in_ok-push.ensures.ok in
     let same = pushed_same was.done was.ahead.items new.done new.ahead.items c.push.new.self item (c.in-Some.ensures.done, c.in-Some.ensures.taken.1) is in
-    let low = under_key (key_order item.key key) (sym c.is_below.ensures ∙ c.if-is_below.true) in
+    let low = less_is (key_order item.key key) (sym c.is_below.ensures ∙ c.if-is_below.true) in
     record {
       rising = subst IsRising (sym same) c.loop-item.invariant.rising;
       below = subst (All (IsBelow key)) (sym is) (All-push (IsBelow key) new.done item (subst (All (IsBelow key)) (sym c.in-Some.ensures.done) c.loop-item.invariant.below) low);
