@@ -9,12 +9,13 @@ use Rattle.mv_record.specs.Runs.{writes_in}
 use Rattle.mv_recorded.specs.Alike.{SeenAlike}
 use Rattle.mv_recorded.specs.Asking.{KnowsKey}
 use Rattle.mv_recorded.specs.Own.{Each}
+use Rattle.mv_recorded.proofs.Inverting.{each_map}
 use Rattle.mv_history.specs.declared.change.Change.{Change}
 use Rattle.mv_history.specs.Hits.{any_hits, hits, hits_predicate}
 use Rattle.mv_alike.specs.Laws.{AreAsked}
 use Rattle.mv_alike.proofs.Seeing.{hits_by, merged_itself}
 use Rattle.mv_alike.proofs.Finding.{seen_alike}
-use Rattle.mv_alike.proofs.Lasting.{none_of, each_map, swap}
+use Rattle.mv_alike.proofs.Lasting.{none_of, swap}
 
 -- no change hits one of its predicates
 unhit_each : (changes : List Change) (before : List Record) (r : Record) → any_hits changes before r ≡ false → Each (λ p. Each (λ c. hits_by (writes_in before) c p ≡ false) changes) r.preds

@@ -21,6 +21,7 @@ use Rattle.mv_recorded.specs.Own.{Each, Within, Ground, IsAtSite, LoopsHold, set
 use Rattle.mv_recorded.proofs.Slots.{get_same, get_other, kept_within, once_within}
 use Rattle.mv_recorded.proofs.Held.{slots_alike, slots_both, OwnSlots}
 use Rattle.mv_record.specs.Effects.{effect_in}
+use Rattle.mv_recorded.proofs.Inverting.{each_within}
 use Rattle.mv_alike.proofs.Placing.{path_is, its}
 
 -- Which record last set a variable
@@ -252,14 +253,9 @@ held_same g new kept fo more ns site other rs st nst x below h k turns same (inr
     let b = get_some (its ns) it.m it.new in
     let s : Stay kept (fo ++ more) ns (Some it.n) (Some it.m) =
     subst (λ o. Stay kept (fo ++ more) ns (option_or o (last_place (sets_variable x) 0 (its fo))) (Some it.m)) it.first
-    (subst (λ o. Stay kept (fo ++ more) ns (definer site.loops (its fo) x) (option_or o (last_place (sets_variable x) 0 (its ns)))) it.second (stay (omega (arith, below, all_high rs h.high x w)))) in
+    (subst (λ o. Stay kept (fo ++ more) ns (definer site.loops (its fo) x) (option_or o (last_place (sets_variable x) 0 (its ns)))) it.second (stay (omega (arith, below, each_within (λ i. g.base ≤ i) rs h.high x w)))) in
     let tells = definers_same kept fo more ns it.n it.m a.0 b.0 same a.1 b.1 s in
     it.held ∙ (ap Turn (ap (λ o. slice_index_or (rows_of o) (it.k - 1) []) a.1 ∙ (ap (λ (e : Effect). slice_index_or e.rows (it.k - 1) []) tells ∙ sym (ap (λ o. slice_index_or (rows_of o) (it.k - 1) []) b.1))) ∙ sym it.holds)
-  where
-    all_high : (xs : List ℕ) → Each (λ x. g.base ≤ x) xs → (x : ℕ) → Within x xs → g.base ≤ x
-    all_high [] h x w = absurd w
-    all_high (z ∷ zs) h x (inl e) = subst (λ i. g.base ≤ i) (sym e) h.0
-    all_high (z ∷ zs) h x (inr w) = all_high zs h.1 x w
 
 -- What is read
 

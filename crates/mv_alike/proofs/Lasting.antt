@@ -31,6 +31,7 @@ use Rattle.mv_recorded.specs.Alike.{Agree, OverAgrees, SeenAlike}
 use Rattle.mv_recorded.specs.Own.{Bare, Stated, Each, Within, Suits, Ground, IsAtSite, StandsAt, IsOwn, OverSuits}
 use Rattle.mv_recorded.proofs.Congruent.{congruent}
 use Rattle.mv_recorded.proofs.Matching.{places_of}
+use Rattle.mv_recorded.proofs.Inverting.{each_map}
 use Rattle.mv_history.specs.declared.change.Change.{Change}
 use Rattle.mv_history.specs.Changes.{Covers}
 use Rattle.mv_history.specs.Hits.{hits_predicate, hits, touches_predicate, touches}
@@ -92,10 +93,6 @@ places_preds tables (Rollback reason) st = tt
 pub none_of : {A : Type 0} (f : A → Bool) (xs : List A) → list_any f xs ≡ false → Each (λ x. f x ≡ false) xs
 none_of f [] h = tt
 none_of f (x ∷ xs) h = let both = or_parts (f x) (list_any f xs) h in (both.0, none_of f xs both.1)
-
-pub each_map : {A : Type 0} (P Q : A → Type 0) (xs : List A) → ((x : A) → P x → Q x) → Each P xs → Each Q xs
-each_map P Q [] f h = tt
-each_map P Q (x ∷ xs) f h = (f x h.0, each_map P Q xs f h.1)
 
 -- of each predicate, and each of other things
 pub swap : {A B : Type 0} (P : A → B → Type 0) (as' : List A) (bs : List B) → Each (λ a. Each (λ b. P a b) bs) as' → Each (λ b. Each (λ a. P a b) as') bs

@@ -1,5 +1,5 @@
 -- Records of two runs among others, by their paths.
-use Rattle.std.proofs.Common.{◌≡◌, ℕ, zero, suc, Bool, true, false, List, [], ◌∷◌, ◌++◌, Option, Some, None, map, length, refl, sym, ap, subst, ◌∙◌, arith, append_assoc, append-nil}
+use Rattle.std.proofs.Common.{◌≡◌, ℕ, zero, suc, true, false, List, [], ◌∷◌, ◌++◌, Option, Some, None, map, length, refl, sym, ap, subst, ◌∙◌, arith, append_assoc, append-nil}
 use Rattle.std.specs.Prelude.{slice_get}
 use Rattle.std.specs.Option.{option_map, option_and_then}
 use Rattle.std.specs.Ordering.{is_eq, nat_cmp}
@@ -8,6 +8,7 @@ use Rattle.std.specs.declared.cmp.Ordering.{Ordering}
 use Rattle.std.specs.declared.cmp.Ordering.TheVariants.{Less, Equal, Greater}
 use Rattle.std.proofs.lemmas.Cmp.{tied_itself, nat_list_cmp_total}
 use Rattle.std.proofs.lemmas.Map.Lookups.{exact_bytes}
+use Rattle.std.proofs.lemmas.Bool.{false_from_ne_true}
 use Rattle.mv_record.specs.declared.record.Record.{Record}
 use Rattle.mv_record.specs.Paths.{Nest, path, nests_behind, paths, IsEarlierPath}
 use Rattle.mv_recorded.specs.Own.{Stated, Ground, StandsAt, IsOwn, AllOwn}
@@ -39,11 +40,7 @@ pub apart : (a b : Path) → IsEarlierPath a b → is_path a b ≡ false
 apart a b h = ap is_eq h
 
 pub apart_back : (a b : Path) → IsEarlierPath a b → is_path b a ≡ false
-apart_back a b h = by (is_path b a) (λ e. not_itself a b (sym (path_is b a e)) h)
-  where
-    by : (x : Bool) → (x ≡ true → ⊥) → x ≡ false
-    by true f = absurd (f refl)
-    by false f = refl
+apart_back a b h = false_from_ne_true (is_path b a) (λ e. not_itself a b (sym (path_is b a e)) h)
 
 -- A record among others
 

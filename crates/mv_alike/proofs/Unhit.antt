@@ -43,7 +43,7 @@ use Rattle.mv_recorded.proofs.Congruent.{congruent}
 use Rattle.mv_recorded.proofs.Effects.{effect_known}
 use Rattle.mv_recorded.proofs.Following.{firsts}
 use Rattle.mv_recorded.proofs.Fronts.{fronts_are}
-use Rattle.mv_recorded.proofs.Inverting.{each_both}
+use Rattle.mv_recorded.proofs.Inverting.{each_both, each_map}
 use Rattle.mv_recorded.proofs.Wellness.{procedure_suits}
 use Rattle.mv_record.specs.Databases.{IsDatabaseOf}
 use Rattle.mv_record.specs.Effects.{effect_in, record_of}
@@ -53,7 +53,7 @@ use Rattle.mv_history.specs.Hits.{hits, hits_predicate, is_unhit}
 use Rattle.mv_alike.specs.Laws.{AreRuns}
 use Rattle.mv_alike.proofs.Seeing.{hits_by, merged_itself}
 use Rattle.mv_alike.proofs.Finding.{Places, seen_alike}
-use Rattle.mv_alike.proofs.Lasting.{Lasting, each_map, places_preds, none_of, swap}
+use Rattle.mv_alike.proofs.Lasting.{Lasting, places_preds, none_of, swap}
 
 -- the calls' ground
 pub record Pair : Type 0 where

@@ -18,12 +18,12 @@ use Rattle.mv_recorded.specs.Own.{Each, Stated, Ground, IsOwn, AllOwn}
 use Rattle.mv_recorded.specs.Reading.{expressions, read_variables, definer}
 use Rattle.mv_recorded.specs.Posts.{IsAt, path_above}
 use Rattle.mv_recorded.proofs.Held.{get_front, get_last}
-use Rattle.mv_recorded.proofs.Inverting.{each_join, each_both}
+use Rattle.mv_recorded.proofs.Inverting.{each_join, each_both, each_map}
 use Rattle.mv_alike.specs.Laws.{AreAlike}
 use Rattle.mv_alike.proofs.Seeing.{Merged, hits_by}
 use Rattle.mv_alike.proofs.Placing.{its, its_all, own_at, is_at, at_paths, same_statement, path_is, apart, apart_back}
 use Rattle.mv_alike.proofs.Keeping.{Climbs, Sides, Aligned, stay, come, ends, aligned_join, all_gone, aligned_more, among_new, each_get, touch_parts, kept_same, merged_of, distinct, Partner, partner}
-use Rattle.mv_alike.proofs.Lasting.{Lasting, front_lasts, Untouched, untouched, own_same, each_map}
+use Rattle.mv_alike.proofs.Lasting.{Lasting, front_lasts, Untouched, untouched, own_same}
 
 -- Lists
 
@@ -31,11 +31,11 @@ its_both : (xs ys : List Placed) → its (xs ++ ys) ≡ its xs ++ its ys
 its_both [] ys = refl
 its_both (x ∷ xs) ys = ap (λ l. x.it ∷ l) (its_both xs ys)
 
-earlier_then : (a b c : Path) → IsEarlierPath a b → IsEarlierPath b c → IsEarlierPath a c
+pub earlier_then : (a b c : Path) → IsEarlierPath a b → IsEarlierPath b c → IsEarlierPath a c
 earlier_then a b c h k = nat_list_cmp_total.trans a b c h k
 
 -- in a list whose paths climb: those in front of one are earlier, those behind it later
-climbs_parts : (xs : List Placed) (o : Placed) (ys : List Placed) → Climbs (xs ++ o ∷ ys) → Each (λ (a : Placed). IsEarlierPath a.path o.path) xs × Each (λ (b : Placed). IsEarlierPath o.path b.path) ys
+pub climbs_parts : (xs : List Placed) (o : Placed) (ys : List Placed) → Climbs (xs ++ o ∷ ys) → Each (λ (a : Placed). IsEarlierPath a.path o.path) xs × Each (λ (b : Placed). IsEarlierPath o.path b.path) ys
 climbs_parts [] o ys h = (tt, h.0)
 climbs_parts (x ∷ xs) o ys h =
     let rest = climbs_parts xs o ys h.1 in
@@ -55,7 +55,7 @@ at_split p (x ∷ xs) o h = by (λ k. at_split p xs o k) (is_path x.path p) refl
     by go true e k = let same : x ≡ o = cc in (xs, ap (λ z. z ∷ xs) same, sym (ap (λ (z : Placed). z.path) same) ∙ path_is x.path p e)
     by go false e k = let it = go k in (it.0, ap (λ l. x ∷ l) it.1, it.2)
 
-at_past : (p : Path) (xs ys : List Placed) → Each (λ (a : Placed). is_path a.path p ≡ false) xs → (at p (xs ++ ys) ≡ at p ys) × (front p (xs ++ ys) ≡ xs ++ front p ys)
+pub at_past : (p : Path) (xs ys : List Placed) → Each (λ (a : Placed). is_path a.path p ≡ false) xs → (at p (xs ++ ys) ≡ at p ys) × (front p (xs ++ ys) ≡ xs ++ front p ys)
 at_past p [] ys h = (refl, refl)
 at_past p (x ∷ xs) ys h =
     let rest = at_past p xs ys h.1 in

@@ -13,7 +13,7 @@ use Rattle.mv_chain.specs.Undoing.{before, commits_of}
 use Rattle.mv_chain.proofs.Versions.{shown}
 use Rattle.mv_chain.proofs.Places.{absent, at_spot, none_there, there}
 
-nonzero : {A : Type 0} (x : A) (xs : List A) → (length (x ∷ xs) == 0) ≡ false
+pub nonzero : {A : Type 0} (x : A) (xs : List A) → (length (x ∷ xs) == 0) ≡ false
 nonzero x xs = ne_eqb (length (x ∷ xs)) 0 (λ e. absurd (omega (arith, e)))
 
 pub blank_is : (us : List Undo) (now : Option (List Value)) (own : List Pending) → (length us == 0) && (length own == 0) && not (is_some now) ≡ is_blank (shown us now own)

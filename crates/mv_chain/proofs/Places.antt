@@ -1,11 +1,12 @@
 -- The patches of calls, by place.
-use Rattle.std.proofs.Common.{◌≡◌, ◌∷◌, ◌++◌, ◌+◌, ◌<◌, ◌≤◌, ℕ, suc, Bool, true, false, inl, inr, List, [], length, get_or, Some, None, refl, ap, sym, ◌∙◌, arith, rules}
+use Rattle.std.proofs.Common.{◌≡◌, ◌∷◌, ◌++◌, ◌+◌, ◌<◌, ◌≤◌, ℕ, suc, Bool, false, inl, inr, List, [], length, get_or, Some, None, refl, ap, sym, ◌∙◌, arith, rules}
 use Rattle.std.specs.Prelude.{if◌then◌else◌, ◌==◌, slice_set, nat_lt}
 use Rattle.std.specs.List.{position, position_or_len}
 use Rattle.std.proofs.lemmas.Bool.{cases_Bool}
 use Rattle.std.proofs.lemmas.List.Recursion.{is_position_or_len}
 use Rattle.std.proofs.lemmas.Option.{cond_some}
 use Rattle.mv_values.specs.declared.patch.Patch.{Patch}
+use Rattle.mv_values.proofs.Deciding.{none_where}
 use Rattle.mv_chain.specs.declared.pending.Pending.{Pending}
 use Rattle.mv_chain.specs.Versions.{own_of, without, joined, with_own}
 
@@ -19,10 +20,6 @@ spot call (p ∷ ps) = if p.call == call then 0 else 1 + spot call ps
 spot_is : (call : ℕ) (ps : List Pending) → spot call ps ≡ position_or_len (Is call) ps
 spot_is call ps = is_position_or_len (spot call) (Is call) refl (λ p ps. refl) ps
 
-where_not : (b : Bool) (n : ℕ) → (if b then Some n else None) ≡ None → b ≡ false
-where_not true n h = cc
-where_not false n h = refl
-
 -- no patch is the call's
 pub IsAbsent : ℕ → List Pending → Type 0
 IsAbsent call ps = length ps ≤ spot call ps
@@ -34,7 +31,7 @@ IsSpot call ps at = (at ≡ spot call ps) × (at < length ps)
 pub absent : (call : ℕ) (ps : List Pending) → position (Is call) ps ≡ None → IsAbsent call ps
 unfolding IsAbsent
 absent call ps h =
-    let f : nat_lt (position_or_len (Is call) ps) (length ps) ≡ false = where_not _ (position_or_len (Is call) ps) h in
+    let f : nat_lt (position_or_len (Is call) ps) (length ps) ≡ false = none_where _ (position_or_len (Is call) ps) h in
     let over : length ps ≤ position_or_len (Is call) ps = search (rules, f) in
     omega (arith, over, spot_is call ps)
 

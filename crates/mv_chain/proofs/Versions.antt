@@ -1,5 +1,5 @@
 -- What versions are, by the newest row and what takes commits back.
-use Rattle.std.proofs.Common.{◌≡◌, ◌∷◌, ◌++◌, ◌<◌, ◌≤◌, ℕ, zero, suc, true, false, inl, inr, List, [], length, take, drop, get_or, Option, Some, None, refl, ap, sym, ◌∙◌, arith, rules, ◌-◌, length-drop}
+use Rattle.std.proofs.Common.{◌≡◌, ◌∷◌, ◌++◌, ◌<◌, ◌≤◌, ℕ, zero, suc, true, false, inl, inr, List, [], length, take, drop, get_or, Option, Some, None, refl, ap, sym, ◌∙◌, arith, rules, ◌-◌, length-drop, le_trans}
 use Rattle.std.specs.Prelude.{nat_le, nat_lt, All, ◌↔◌}
 use Rattle.std.specs.List.{filter}
 use Rattle.std.specs.List.Sorted.{IsPartitionPoint, IsPartitionedBy}
@@ -90,12 +90,9 @@ rises_later low (u ∷ us) h = elim (cases_Bool (nat_le u.commit low)) [
 pub reads_stay : (low n : ℕ) (us : List Undo) → low ≤ n → later n (later low us) ≡ later n us
 reads_stay low n [] h = refl
 reads_stay low n (u ∷ us) h = elim (cases_Bool (nat_le u.commit low)) [
-  | inl t ↦ let small : u.commit ≤ low = search (rules, t) in let gone : nat_le u.commit n ≡ true = search (rules, leq small h) in rw (t, gone) (reads_stay low n us h)
+  | inl t ↦ let small : u.commit ≤ low = search (rules, t) in let gone : nat_le u.commit n ≡ true = search (rules, le_trans small h) in rw (t, gone) (reads_stay low n us h)
   | inr f ↦ rw f refl
 ]
-  where
-    leq : {a b c : ℕ} → a ≤ b → b ≤ c → a ≤ c
-    leq p q = omega arith
 
 -- a commit more
 

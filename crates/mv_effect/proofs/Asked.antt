@@ -1,5 +1,5 @@
 -- What a view was asked so far, and rows put together one by one.
-use Rattle.std.proofs.Common.{◌≡◌, ◌≤◌, ◌+◌, ℕ, Bool, true, false, List, [], ◌∷◌, Option, None, Result, Ok, Err, length, drop, refl, sym, ap, subst, ◌∙◌, arith, if◌then◌else◌}
+use Rattle.std.proofs.Common.{◌≡◌, ◌≤◌, ◌+◌, ℕ, Bool, true, false, List, [], ◌∷◌, Option, None, length, drop, refl, sym, ap, subst, ◌∙◌, arith, if◌then◌else◌}
 use Rattle.std.specs.Prelude.{◌||◌}
 use Rattle.std.proofs.lemmas.List.{drop_all}
 use Rattle.std.specs.Ordering.{is_eq}
@@ -7,9 +7,6 @@ use Rattle.mv_values.specs.declared.value.Value.{Value}
 use Rattle.mv_values.specs.declared.rows.Keyed.{Keyed}
 use Rattle.mv_values.specs.declared.pred.Pred.{Pred}
 use Rattle.mv_values.specs.declared.patch.Write.{Write}
-use Rattle.mv_values.specs.declared.schema.TableInfo.{TableInfo}
-use Rattle.mv_values.specs.declared.calls.End.{End}
-use Rattle.mv_alone.specs.declared.state.Env.{Env}
 use Rattle.mv_values.specs.Keys.{IsRising}
 use Rattle.mv_values.specs.Order.{key_order}
 use Rattle.mv_values.specs.Patching.{row_of, placed}
@@ -17,8 +14,6 @@ use Rattle.mv_values.proofs.KeyOrder.{tied}
 use Rattle.mv_record.proofs.Patching.{row_of-placed_same, placed_other, rising_placed}
 use Rattle.mv_undo.specs.Owning.{is_among}
 use Rattle.mv_view.specs.Viewing.{Sight, one_more, with_rows_call}
-use Rattle.mv_record.specs.declared.effect.Effect.{Effect}
-use Rattle.mv_recorded.specs.Effects.{asked_then, inserting}
 use Rattle.mv_effect.specs.Looking.{IsSameView, WasNeverStale, AskedAtMost, AskedFor, different}
 
 -- it was asked so often, and none of its answers was Stale
@@ -78,13 +73,3 @@ rows_under_none rows own ks i key le is =
 -- a statement that asked one predicate
 pub asked_one : (preds : List Pred) (pred : Pred) (ws : List Write) (s t : Sight) → preds ≡ pred ∷ [] → AskedAtMost 1 (different ws) s t → AskedFor preds ws s t
 asked_one preds pred ws s t is h = subst (λ ps. AskedFor ps ws s t) (sym is) (record { for_rows = h.for_rows; for_row = omega (arith, h.for_row) })
-
--- whether or not there was a value, this was asked
-pub then_asks : {A : Type 0} (pred : Pred) (r : Result A End) (go : A → Effect) → ((x : A) → (go x).preds ≡ pred ∷ []) → (asked_then pred r go).preds ≡ pred ∷ []
-then_asks pred (Ok x) go h = h x
-then_asks pred (Err e) go h = refl
-
--- so it was by an INSERT
-pub insert_asks : (tables : List TableInfo) (t : ℕ) (row : List Value) (pred : Pred) (there : Bool) (env : Env) → (inserting tables t row pred there env).preds ≡ pred ∷ []
-insert_asks tables t row pred true env = refl
-insert_asks tables t row pred false env = refl

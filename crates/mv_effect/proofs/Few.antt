@@ -18,14 +18,11 @@ use Rattle.mv_values.proofs.KeyOrder.{tied, same_key}
 use Rattle.mv_catalog.specs.Text.{IsTable}
 use Rattle.mv_record.specs.Writes.{is_on}
 use Rattle.mv_undo.specs.Owning.{touches, is_among, AreSought}
+use Rattle.mv_recorded.specs.Own.{Each}
+use Rattle.mv_recorded.proofs.Inverting.{each_map}
 use Rattle.mv_effect.specs.Looking.{different}
 
 -- By recursion
-
--- it is so of each
-abbrev Each : {A : Type 0} → (A → Type 0) → List A → Type 0
-Each P [] = Unit {0}
-Each P (x ∷ xs) = P x × Each P xs
 
 -- it is so of each with each later one
 abbrev Pairs : {A : Type 0} → (A → A → Type 0) → List A → Type 0
@@ -43,15 +40,10 @@ pairs_of R [] h = tt
 pairs_of R (x ∷ xs) h =
     (each_of (R x) xs (λ j d lt. h 0 (suc j) d (omega arith) (omega (arith, lt))), pairs_of R xs (λ i j d lt within. h (suc i) (suc j) d (omega (arith, lt)) (omega (arith, within))))
 
--- what follows from a fact on each item is so of each
-each_weaker : {A : Type 0} (P Q : A → Type 0) (xs : List A) → ((x : A) → P x → Q x) → Each P xs → Each Q xs
-each_weaker P Q [] f h = tt
-each_weaker P Q (x ∷ xs) f h = (f x h.0, each_weaker P Q xs f h.1)
-
 -- what follows from a fact on each pair is so of each
 pairs_weaker : {A : Type 0} (R S : A → A → Type 0) (xs : List A) → ((x y : A) → R x y → S x y) → Pairs R xs → Pairs S xs
 pairs_weaker R S [] f h = tt
-pairs_weaker R S (x ∷ xs) f h = (each_weaker (R x) (S x) xs (f x) h.0, pairs_weaker R S xs f h.1)
+pairs_weaker R S (x ∷ xs) f h = (each_map (R x) (S x) xs (f x) h.0, pairs_weaker R S xs f h.1)
 
 -- what is so of each is so of those that are kept
 each_kept : {A : Type 0} (p : A → Bool) (P Q : A → Type 0) (xs : List A) → ((x : A) → p x ≡ true → P x → Q x) → Each P xs → Each Q (filter p xs)
@@ -96,7 +88,7 @@ one_goes p [] h = omega arith
 one_goes p (x ∷ xs) h = by (p x) refl (one_goes p xs h.1)
   where
     by : (b : Bool) → p x ≡ b → length xs ≤ suc (length (without p xs)) → length (x ∷ xs) ≤ suc (length (cond (not b) (x ∷ without p xs) (without p xs)))
-    by true e more = omega (arith, all_stay p xs (each_weaker (NotBoth p x) (λ y. p y ≡ true → ⊥) xs (λ y n. n e) h.0))
+    by true e more = omega (arith, all_stay p xs (each_map (NotBoth p x) (λ y. p y ≡ true → ⊥) xs (λ y n. n e) h.0))
     by false e more = omega (arith, more)
 
 -- Different numbers
@@ -144,7 +136,7 @@ keys_few t (w ∷ ws) ks h all = by (λ l p q. keys_few t ws l p q) (touches w.t
 
     by : ((l : List (List Value)) → Pairs (λ a b. key_order a b ≡ Less) l → Each (λ k. touches t k ws ≡ true) l → length l ≤ different ws)
         → (b : Bool) → touches w.table w.key ws ≡ b → length ks ≤ (if b then different ws else suc (different ws))
-    by fewer true e = fewer ks h (each_weaker (λ k. touches t k (w ∷ ws) ≡ true) (λ k. touches t k ws ≡ true) ks (λ k there. later k (is_on t k w) refl there) all)
+    by fewer true e = fewer ks h (each_map (λ k. touches t k (w ∷ ws) ≡ true) (λ k. touches t k ws ≡ true) ks (λ k there. later k (is_on t k w) refl there) all)
       where
         later : (k : List Value) (b : Bool) → is_on t k w ≡ b → (b || touches t k ws) ≡ true → touches t k ws ≡ true
         later k true on there = subst (λ u. touches u k ws ≡ true) (here_table k on) (subst (λ l. touches w.table l ws ≡ true) (here_key k on) e)

@@ -5,14 +5,11 @@ use Rattle.mv_catalog.specs.declared.resolved.RStmt.{RStmt}
 use Rattle.mv_catalog.specs.declared.resolved.RStmt.TheOpen.{RStmt-F, ForSelect, ForRows}
 use Rattle.mv_alone.specs.declared.state.Env.{Env}
 use Rattle.mv_alone.specs.declared.state.Held.TheVariants.{Turn}
-use Rattle.mv_alone.specs.Env.{with_held, with_value}
+use Rattle.mv_alone.specs.Env.{with_held}
 use Rattle.mv_record.specs.declared.record.Slot.{Slot}
 use Rattle.mv_recorded.specs.Effect.{with_slots}
+use Rattle.mv_recorded.proofs.Held.{slots_found}
 use Rattle.mv_exec.specs.Moves.{after_turns, after_empty_body, after_empty_loop}
-
-slots_found : (ss : List Slot) (e : Env) → (with_slots ss e).found ≡ e.found
-slots_found [] e = refl
-slots_found (s ∷ ss) e = slots_found ss (with_value e s.slot s.value)
 
 empty_body_found : (x : ℕ) (body : List RStmt) (rows : List (List Value)) (e : Env) → (after_empty_body x body rows e).found ≡ e.found
 empty_body_found x [] rows e = turns_found rows e

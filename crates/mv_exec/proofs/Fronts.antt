@@ -142,10 +142,6 @@ pub on_err : {T E : Type 0} (r : Result T E) (P Q : Type 0) → (P → Q) → On
 on_err (Ok x) P Q f h = h
 on_err (Err e) P Q f h = f h
 
-pub if_err : {T E : Type 0} (r : Result T E) (P : Type 0) → P → OnErr r P
-if_err (Ok x) P h = tt
-if_err (Err e) P h = h
-
 pub either : {T E : Type 0} (r : Result T E) (P Q R : Type 0) → OnOk r P → OnErr r Q → (P → R) → (Q → R) → R
 either (Ok x) P Q R p q f h = f p
 either (Err e) P Q R p q f h = h q

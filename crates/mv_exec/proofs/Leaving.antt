@@ -6,7 +6,7 @@ use Rattle.mv_values.specs.declared.schema.TableInfo.{TableInfo}
 use Rattle.mv_values.specs.declared.calls.Call.{Call}
 use Rattle.mv_values.specs.declared.calls.End.{End}
 use Rattle.mv_catalog.specs.declared.resolved.ProcInfo.{ProcInfo}
-use Rattle.mv_catalog.specs.declared.resolved.RStmt.{RStmt, roll-RStmt, map-RStmt, fold-roll-RStmt, para-roll-RStmt}
+use Rattle.mv_catalog.specs.declared.resolved.RStmt.{RStmt, roll-RStmt, map-RStmt}
 use Rattle.mv_catalog.specs.declared.resolved.RStmt.TheOpen.{RStmt-F, Assign, Select, Total, ForSelect, ForRows, Branch, Insert, Update, Delete, Print, Rollback}
 use Rattle.mv_alone.specs.declared.state.State.{State}
 use Rattle.mv_alone.specs.declared.state.Held.TheVariants.{Turn}
@@ -20,7 +20,8 @@ use Rattle.mv_record.specs.declared.record.Record.{Record}
 use Rattle.mv_recorded.specs.Asking.{on}
 use Rattle.mv_recorded.specs.Doing.{fixed_rows, itself, before_turns}
 use Rattle.mv_recorded.specs.Recorded.{Tells, Site, tell, tell_step, tell_turns, tell_loop, tell_statements, own_record, outside, recorded, within, within_loop, in_turn}
-use Rattle.mv_recorded.proofs.Following.{firsts}
+use Rattle.mv_recorded.proofs.Following.{body_is}
+use Rattle.mv_recorded.proofs.Unrolled.{with_tells, tell_is, does_is}
 use Rattle.mv_exec.specs.Left.{Job, run, turns, left, inside}
 
 -- One after another
@@ -63,17 +64,6 @@ first_of_run tables params site n s ss js before st =
     in_turns these before (does tables s st) (tell_statements tables params ss (n + size s) site (before ++ these)) (alone tables ss) (left tables params js)
 
 -- A statement
-
--- a statement with what it holds
-abbrev with_tells : List TableInfo → ℕ → RStmt-F RStmt → RStmt-F (RStmt × Tells)
-with_tells tables params y = map-RStmt RStmt (RStmt × Tells) (λ s. (s, tell tables params s)) y
-
-tell_is : (tables : List TableInfo) (params : ℕ) (y : RStmt-F RStmt) (n : ℕ) (site : Site) (before : List Record) (st : State)
-    → tell tables params (roll-RStmt y) n site before st ≡ tell_step tables params (with_tells tables params y) n site before st
-tell_is tables params y n site before st = ap (λ f. f n site before st) (para-roll-RStmt Tells (tell_step tables params) y)
-
-does_is : (tables : List TableInfo) (y : RStmt-F RStmt) (st : State) → does tables (roll-RStmt y) st ≡ stmt_step tables (map-RStmt RStmt Does (does tables) y) st
-does_is tables y st = ap (λ f. f st) (fold-roll-RStmt Does (stmt_step tables) y)
 
 -- what it leaves, and what is left behind it
 abbrev Split : List TableInfo → ℕ → List Record → Result State End → List Job → List Record → List Record
@@ -130,9 +120,6 @@ sizes_map tables params (s ∷ ss) = ap (λ l. size s ∷ l) (sizes_map tables p
 sizes_same : (tables : List TableInfo) (params : ℕ) (ss : List RStmt) → total_size (map (λ (s : RStmt × Tells). size s.0) (map (λ s. (s, tell tables params s)) ss)) ≡ size_of ss
 sizes_same tables params ss = ap total_size (sizes_map tables params ss)
 
-again_is : (tables : List TableInfo) (params : ℕ) (ss : List RStmt) → alone tables (map (λ (s : RStmt × Tells). s.0) (map (λ s. (s, tell tables params s)) ss)) ≡ alone tables ss
-again_is tables params ss = ap (alone tables) (firsts (tell tables params) ss)
-
 statement_begins : (tables : List TableInfo) (params : ℕ) (y : RStmt-F RStmt) (n : ℕ) (site : Site) (before : List Record) (st : State) (js : List Job) → Begins tables params y n site before st js
 statement_begins tables params (Assign x e) n site before st js = refl
 statement_begins tables params (Select cs xs t conds sorts offset) n site before st js = refl
@@ -143,11 +130,11 @@ statement_begins tables params (ForSelect x once cs t conds sorts body) n site b
     let number : ℕ = length before in
     ap (λ out. Split tables params (tell_step tables params (with_tells tables params (ForSelect x once cs t conds sorts body)) n site before st) out js before)
     (sym (then_loops (checks_of conds st.env) (λ checks. fixed once cs sorts (matching_in t checks st)) (λ rows. loop_over x (alone tables body) rows st)))
-    ∙ inner_turns tables params own before rows x body (n + 1) (within_loop x number site) st js number _ (again_is tables params body)
+    ∙ inner_turns tables params own before rows x body (n + 1) (within_loop x number site) st js number _ (body_is tables params body)
 statement_begins tables params (ForRows x y body) n site before st js =
     let own : Record = own_record tables params (ForRows x y body) n site before st in
     let number : ℕ = length before in
-    inner_turns tables params own before (Ok (turns_at st.env y)) x body (n + 1) (within_loop x number site) st js number _ (again_is tables params body)
+    inner_turns tables params own before (Ok (turns_at st.env y)) x body (n + 1) (within_loop x number site) st js number _ (body_is tables params body)
 statement_begins tables params (Branch e ys ns) n site before st js =
     let own : Record = own_record tables params (Branch e ys ns) n site before st in
     let number : ℕ = length before in

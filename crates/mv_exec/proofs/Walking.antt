@@ -1,10 +1,10 @@
 -- Variables behind the turns of a loop whose body is empty.
-use Rattle.std.proofs.Common.{◌≡◌, ℕ, zero, suc, List, [], ◌∷◌, ◌++◌, refl, sym, ap, ◌∙◌}
+use Rattle.std.proofs.Common.{◌≡◌, ℕ, List, [], ◌∷◌, ◌++◌, refl, sym, ap, ◌∙◌}
 use Rattle.mv_values.specs.declared.value.Value.{Value}
-use Rattle.mv_alone.specs.declared.state.Held.{Held}
 use Rattle.mv_alone.specs.declared.state.Held.TheVariants.{Turn}
 use Rattle.mv_alone.specs.declared.state.Env.{Env}
-use Rattle.mv_alone.specs.Env.{put_at, unset, with_held}
+use Rattle.mv_alone.specs.Env.{with_held}
+use Rattle.mv_recorded.proofs.Slots.{put_same}
 use Rattle.mv_exec.specs.declared.changes.Change.{Change}
 use Rattle.mv_exec.specs.Env.{with_changes}
 use Rattle.mv_exec.specs.Moves.{after_turns}
@@ -13,16 +13,10 @@ changes_more : (cs : List Change) (c : Change) (e : Env) → with_changes (cs ++
 changes_more [] c e = refl
 changes_more (d ∷ cs) c e = changes_more cs c (with_held e d.slot d.held)
 
-put_twice : (hs : List Held) (x : ℕ) (a b : Held) → put_at (put_at hs x a) x b ≡ put_at hs x b
-put_twice [] zero a b = refl
-put_twice [] (suc x) a b = ap (λ l. unset ∷ l) (put_twice [] x a b)
-put_twice (g ∷ gs) zero a b = refl
-put_twice (g ∷ gs) (suc x) a b = ap (λ l. g ∷ l) (put_twice gs x a b)
-
 -- only the last turn counts
 turns_last : (x : ℕ) (rows : List (List Value)) (row : List Value) (e : Env) → after_turns x (rows ++ row ∷ []) e ≡ with_held e x (Turn row)
 turns_last x [] row e = refl
-turns_last x (r ∷ rows) row e = turns_last x rows row (with_held e x (Turn r)) ∙ ap (λ hs. record e { held = hs }) (put_twice e.held x (Turn r) (Turn row))
+turns_last x (r ∷ rows) row e = turns_last x rows row (with_held e x (Turn r)) ∙ ap (λ hs. record e { held = hs }) (put_same e.held x (Turn r) (Turn row))
 
 -- so one change does for all turns
 pub last_turn : (cs new : List Change) (x : ℕ) (rows front : List (List Value)) (row : List Value) → new ≡ cs ++ record { slot = x; held = Turn row } ∷ [] → rows ≡ front ++ row ∷ []

@@ -1,6 +1,6 @@
 -- The lines of bytes.
-use Rattle.std.proofs.Common.{◌≡◌, ◌∷◌, ◌++◌, ◌+◌, ◌-◌, ◌<◌, ◌≤◌, rules, ℕ, Bool, true, false, List, [], length, take, drop, Some, None, refl, ap, sym, ◌∙◌, subst, arith, get_or, append_assoc, append-nil}
-use Rattle.std.specs.Prelude.{if◌then◌else◌, ◌==◌, nat_lt}
+use Rattle.std.proofs.Common.{◌≡◌, ◌∷◌, ◌++◌, ◌+◌, ◌-◌, ◌<◌, ◌≤◌, rules, ℕ, Bool, false, List, [], length, take, drop, Some, None, refl, ap, sym, ◌∙◌, subst, arith, get_or, append_assoc, append-nil}
+use Rattle.std.specs.Prelude.{◌==◌, nat_lt}
 use Rattle.std.specs.List.{slice_split, position, position_or_len, before_first, after_first, All}
 use Rattle.std.specs.Str.Lines.{lines, lines_of_parts, strip_carriage_return}
 use Rattle.std.specs.Prelude.{decimal, ◌^◌}
@@ -18,6 +18,7 @@ use Rattle.std.proofs.lemmas.List.{take_more}
 use Rattle.std.proofs.lemmas.List.Sums.{fails_before_first}
 use Rattle.std.proofs.lemmas.List.Splits.{slice_split_first, slice_split_none, slice_split_at, length-slice_split}
 use Rattle.std.proofs.lemmas.Option.{cond_some}
+use Rattle.mv_values.proofs.Deciding.{none_where}
 
 abbrev IsEnd : ℕ → Bool
 IsEnd b = b == 10
@@ -38,14 +39,10 @@ more_lines bs at h =
     ∙ parts_more (before_first IsEnd bs) (slice_split IsEnd (after_first IsEnd bs)) (some_parts (after_first IsEnd bs))
     ∙ rw (w.1) refl
 
-where_not : (b : Bool) (n : ℕ) → (if b then Some n else None) ≡ None → b ≡ false
-where_not true n h = cc
-where_not false n h = refl
-
 -- bytes without an LF are one line
 pub one_line : (bs : List ℕ) → 0 < length bs → position IsEnd bs ≡ None → lines bs ≡ bs ∷ []
 one_line bs some h =
-    let over : length bs ≤ position_or_len IsEnd bs = search (rules, where_not (nat_lt (position_or_len IsEnd bs) (length bs)) (position_or_len IsEnd bs) h) in
+    let over : length bs ≤ position_or_len IsEnd bs = search (rules, none_where (nat_lt (position_or_len IsEnd bs) (length bs)) (position_or_len IsEnd bs) h) in
     let all : All (λ b. IsEnd b ≡ false) bs = All-from_get_or (λ b. IsEnd b ≡ false) bs 0 (λ i within. fails_before_first IsEnd bs i 0 (omega arith)) in
     ap lines_of_parts (slice_split_none IsEnd bs all) ∙ by bs some
   where

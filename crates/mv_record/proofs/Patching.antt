@@ -1,5 +1,5 @@
 -- What patches do to rows whose keys rise, and writes to a database.
-use Rattle.std.proofs.Common.{◌≡◌, ◌<◌, ◌≤◌, ℕ, zero, suc, Bool, true, false, cond, List, [], ◌∷◌, ◌++◌, Option, Some, None, length, refl, sym, ap, subst, ◌∙◌, arith, take, drop, take-append-drop, add-one, ◌+◌, Result, Ok, Err, MatchResult, OnErr}
+use Rattle.std.proofs.Common.{◌≡◌, ◌<◌, ◌≤◌, ℕ, zero, suc, Bool, true, false, cond, List, [], ◌∷◌, ◌++◌, Option, Some, None, length, refl, sym, ap, subst, ◌∙◌, arith, take, drop, take-append-drop, add-one, ◌+◌, Result, Ok, Err, MatchResult}
 use Rattle.std.specs.Prelude.{◌↔◌, Contains, ◌==◌, ◌&&◌, slice_index_or, slice_get, slice_set, All, insert, remove}
 use Rattle.std.specs.List.{filter}
 use Rattle.std.specs.Ordering.{is_eq}
@@ -8,6 +8,7 @@ use Rattle.std.specs.declared.cmp.Ordering.TheVariants.{Less, Equal, Greater}
 use Rattle.std.proofs.lemmas.List.{set-set, set-get_or, get_or-set_same, get_or-set_other, length-set}
 use Rattle.std.proofs.lemmas.Bool.{eqb-true, eqb-false}
 use Rattle.std.proofs.lemmas.Option.{slice_get_within}
+use Rattle.std.proofs.lemmas.List.Elements.{filter-append}
 use Rattle.mv_values.specs.declared.value.Value.{Value}
 use Rattle.mv_values.specs.declared.rows.Keyed.{Keyed}
 use Rattle.mv_values.specs.declared.patch.Patch.{Patch}
@@ -24,13 +25,13 @@ use Rattle.mv_record.proofs.Rising.{Above, Rises, rises_from, rising_from, lower
 
 -- A row put under a key
 
-placed_before : (key : List Value) (row : Option (List Value)) (x : Keyed) (xs : List Keyed) → key_order x.key key ≡ Less → placed key row (x ∷ xs) ≡ x ∷ placed key row xs
+pub placed_before : (key : List Value) (row : Option (List Value)) (x : Keyed) (xs : List Keyed) → key_order x.key key ≡ Less → placed key row (x ∷ xs) ≡ x ∷ placed key row xs
 placed_before key row x xs h = rw h refl
 
-placed_here : (key : List Value) (row : Option (List Value)) (x : Keyed) (xs : List Keyed) → key_order x.key key ≡ Equal → placed key row (x ∷ xs) ≡ standing key row ++ xs
+pub placed_here : (key : List Value) (row : Option (List Value)) (x : Keyed) (xs : List Keyed) → key_order x.key key ≡ Equal → placed key row (x ∷ xs) ≡ standing key row ++ xs
 placed_here key row x xs h = rw h refl
 
-placed_past : (key : List Value) (row : Option (List Value)) (x : Keyed) (xs : List Keyed) → key_order x.key key ≡ Greater → placed key row (x ∷ xs) ≡ standing key row ++ x ∷ xs
+pub placed_past : (key : List Value) (row : Option (List Value)) (x : Keyed) (xs : List Keyed) → key_order x.key key ≡ Greater → placed key row (x ∷ xs) ≡ standing key row ++ x ∷ xs
 placed_past key row x xs h = rw h refl
 
 placed_none : (key : List Value) (row : Option (List Value)) → placed key row [] ≡ standing key row ++ []
@@ -140,6 +141,13 @@ length_written w db = simp length-set
 pub applied_append : (vs ws : List Write) (db : List (List Keyed)) → applied (vs ++ ws) db ≡ applied ws (applied vs db)
 applied_append [] ws db = refl
 applied_append (v ∷ vs) ws db = applied_append vs ws (written v db)
+
+pub writes_append : (t : ℕ) (key : List Value) (vs ws : List Write) → writes_on t key (vs ++ ws) ≡ writes_on t key vs ++ writes_on t key ws
+writes_append t key vs ws = filter-append (is_on t key) vs ws
+
+pub patched_append : (vs ws : List Write) (was : Option (List Value)) → patched_by (vs ++ ws) was ≡ patched_by ws (patched_by vs was)
+patched_append [] ws was = refl
+patched_append (v ∷ vs) ws was = patched_append vs ws (patched v.patch was)
 
 pub length_applied : (ws : List Write) (db : List (List Keyed)) → length (applied ws db) ≡ length db
 length_applied [] db = refl
@@ -337,10 +345,6 @@ put_between rows key row place at rising is h =
 
 pub put_nothing : (rows : List Keyed) (key : List Value) (place : Result ℕ ℕ) (at : ℕ) → place ≡ Err at → IsPlace rows key place → rows ≡ placed key None rows
 put_nothing rows key place at is h = sym (placed_nothing key rows at (absent rows key place at is h))
-
-pub always_err : {A E : Type 0} (r : Result A E) (P : Type 0) → P → OnErr r P
-always_err (Ok a) P h = tt
-always_err (Err e) P h = h
 
 -- One table
 

@@ -189,7 +189,7 @@ seen_of : (tables : List TableInfo) (s : RStmt-F RStmt) (st new : State) (p : Pr
     → SeenAlike p st.tables new.tables
 seen_of tables s st new p e is asked h = (subst (Each (λ q. SeenAlike q st.tables new.tables)) (sym (ap (λ (e : Effect). e.preds) is) ∙ asked) h).0
 
-then_preds : {A : Type 0} (p : Pred) (r : Result A End) (go : A → Effect) → ((x : A) → (go x).preds ≡ p ∷ []) → (asked_then p r go).preds ≡ p ∷ []
+pub then_preds : {A : Type 0} (p : Pred) (r : Result A End) (go : A → Effect) → ((x : A) → (go x).preds ≡ p ∷ []) → (asked_then p r go).preds ≡ p ∷ []
 then_preds p (Ok x) go h = h x
 then_preds p (Err e) go h = refl
 
@@ -326,7 +326,7 @@ update_same tables t items conds st new plain m =
     ∙ (ap (λ b. asked_then p (changes t items (new_of tables t new.env items) rows') (λ ws. writing p b ws st.env)) (some_same cs rows rows' alike)
     ∙ (then_same p (changes t items (new_of tables t new.env items) rows') (λ ws. writing p (is_some_row rows') ws st.env) (λ ws. writing p (is_some_row rows') ws new.env) (λ ws. writing_same p (is_some_row rows') ws st.env new.env m.found) ∙ two))))
 
-insert_preds : (tables : List TableInfo) (t : ℕ) (row : List Value) (p : Pred) (b : Bool) (e : Env) → (inserting tables t row p b e).preds ≡ p ∷ []
+pub insert_preds : (tables : List TableInfo) (t : ℕ) (row : List Value) (p : Pred) (b : Bool) (e : Env) → (inserting tables t row p b e).preds ≡ p ∷ []
 insert_preds tables t row p true e = refl
 insert_preds tables t row p false e = refl
 

@@ -93,7 +93,7 @@ all_follow R law tables params (k ∷ ks) n site before st =
 abbrev telling : (R : Claim) (tables : List TableInfo) (params : ℕ) → RStmt-F (Known R tables params) → RStmt-F (RStmt × Tells)
 telling R tables params y = map-RStmt RStmt (RStmt × Tells) (λ s. (s, tell tables params s)) (map-RStmt (Known R tables params) RStmt (λ k. k.0) y)
 
-body_is : (tables : List TableInfo) (params : ℕ) (ss : List RStmt) → alone tables (map (λ (s : RStmt × Tells). s.0) (map (λ s. (s, tell tables params s)) ss)) ≡ alone tables ss
+pub body_is : (tables : List TableInfo) (params : ℕ) (ss : List RStmt) → alone tables (map (λ (s : RStmt × Tells). s.0) (map (λ s. (s, tell tables params s)) ss)) ≡ alone tables ss
 body_is tables params ss = ap (alone tables) (firsts (tell tables params) ss)
 
 step_follows : (R : Claim) → IsLaw R → (tables : List TableInfo) (params : ℕ) (y : RStmt-F (Known R tables params))

@@ -47,6 +47,16 @@ pub record IsGround (g : Ground) : Type 0 where
 
 -- Lists
 
+pub each_map : {A : Type 0} (P Q : A → Type 0) (xs : List A) → ((x : A) → P x → Q x) → Each P xs → Each Q xs
+each_map P Q [] f h = tt
+each_map P Q (x ∷ xs) f h = (f x h.0, each_map P Q xs f h.1)
+
+-- what is so of each of the numbers is so of one within them
+pub each_within : (P : ℕ → Type 0) (xs : List ℕ) → Each P xs → (x : ℕ) → Within x xs → P x
+each_within P [] h x w = absurd w
+each_within P (z ∷ zs) h x (inl e) = subst P (sym e) h.0
+each_within P (z ∷ zs) h x (inr w) = each_within P zs h.1 x w
+
 pub each_join : {A : Type 0} (P : A → Type 0) (xs ys : List A) → Each P xs → Each P ys → Each P (xs ++ ys)
 each_join P [] ys h k = k
 each_join P (x ∷ xs) ys h k = (h.0, each_join P xs ys h.1 k)
@@ -206,13 +216,8 @@ own_step g z y n site rows before st ground suits here same does' =
             slots = subst (OwnSlots g.params g.base) (ap (λ l. sets_in before ++ l) (sym (append-nil own.sets)) ∙ sym (flat_map-append (λ (r : Record). r.sets) before (own ∷ []))) (each_join (λ (s : Slot). (g.params ≤ s.slot) × (s.slot < g.base)) (sets_in before) own.sets here.told.slots slots);
             rising = subst AreRising (sym (ap (λ (s : State). s.tables) tells.1)) (rising_applied own.writes st.tables here.told.rising);
           },
-          λ x w. ap (λ (s : State). held_at s.env x) tells.1 ∙ slots_high g.params g.base own.sets st.env x slots (all_high rows here.high x w),
+          λ x w. ap (λ (s : State). held_at s.env x) tells.1 ∙ slots_high g.params g.base own.sets st.env x slots (each_within (λ i. g.base ≤ i) rows here.high x w),
         )
-      where
-        all_high : (xs : List ℕ) → Each (λ x. g.base ≤ x) xs → (x : ℕ) → Within x xs → g.base ≤ x
-        all_high [] h x w = absurd w
-        all_high (z ∷ zs) h x (inl e) = subst (λ i. g.base ≤ i) (sym e) h.0
-        all_high (z ∷ zs) h x (inr w) = all_high zs h.1 x w
 
 leaf_trace : {X : Type 0} (g : Ground) (z : Bare) (y : RStmt-F X) (n : ℕ) (site : Site) (rows : List ℕ) (before : List Record) (st : State) → IsGround g → StandsAt g.text n (record { it = z; rows = rows } ∷ [])
     → Suits g.tables g.params g.base (record { it = z; rows = rows }) → IsAtSite g site rows before st

@@ -1,11 +1,12 @@
 -- The rows that a predicate of tests of WHERE finds, and the keys that it admits.
-use Rattle.std.proofs.Common.{◌≡◌, ℕ, zero, suc, ◌==◌, Bool, true, false, List, [], ◌∷◌, Option, Some, None, Result, Ok, Err, All, map, slice_index_or, pos, refl, sym, ap, subst, ◌∙◌, arith}
+use Rattle.std.proofs.Common.{◌≡◌, ℕ, zero, suc, ◌==◌, true, List, [], ◌∷◌, Option, Some, None, Result, Ok, Err, All, map, slice_index_or, pos, refl, sym, ap, subst, ◌∙◌, arith}
 use Rattle.std.specs.Prelude.{◌&&◌}
 use Rattle.std.specs.List.{list_all, position}
 use Rattle.std.proofs.lemmas.Bool.Decides.{eqb_tells}
 use Rattle.std.proofs.lemmas.List.{get_or-map}
 use Rattle.std.proofs.lemmas.List.Elements.{All-weaker, filter_agree}
 use Rattle.std.proofs.lemmas.List.Quantifiers.{position-Some}
+use Rattle.std.proofs.lemmas.Bool.{and_parts}
 use Rattle.mv_values.specs.declared.value.Value.{Value}
 use Rattle.mv_values.specs.declared.value.Value.TheVariants.{Int}
 use Rattle.mv_values.specs.declared.rows.Keyed.{Keyed}
@@ -67,12 +68,8 @@ agrees_where keys row test is h = by test.key_place is
 pub all_agree : (keys : List ℕ) (row : List Value) (tests : List Test) → All (Placed keys) tests → list_all (passes row) tests ≡ true → list_all (agrees (columns_of row keys)) tests ≡ true
 all_agree keys row [] places h = refl
 all_agree keys row (t ∷ ts) places h =
-    let both = parts (passes row t) (list_all (passes row) ts) h in
+    let both = and_parts (passes row t) (list_all (passes row) ts) h in
     rw (agrees_where keys row t (places 0 t (omega arith)) both.0) (all_agree keys row ts (λ k d lt. places (suc k) d (omega (arith, lt))) both.1)
-  where
-    parts : (b c : Bool) → (b && c) ≡ true → (b ≡ true) × (c ≡ true)
-    parts true c e = (refl, e)
-    parts false c e = cc
 
 -- rows under their own keys stand where the predicate looks for them
 pub admitted : (tables : List TableInfo) (pred : Pred) (db : List (List Keyed)) → KnowsKey tables pred → KeysStand tables db → Admitted pred (rows_at db pred.table)

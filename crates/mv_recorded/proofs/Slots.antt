@@ -14,7 +14,7 @@ use Rattle.mv_recorded.specs.Reading.{each_once}
 
 -- Places
 
-put_same : (hs : List Held) (x : ℕ) (g h : Held) → put_at (put_at hs x g) x h ≡ put_at hs x h
+pub put_same : (hs : List Held) (x : ℕ) (g h : Held) → put_at (put_at hs x g) x h ≡ put_at hs x h
 put_same [] zero g h = refl
 put_same [] (suc x) g h = ap (λ l. unset ∷ l) (put_same [] x g h)
 put_same (k ∷ hs) zero g h = refl

@@ -24,20 +24,14 @@ use Rattle.mv_alike.proofs.Placing.{path_is, apart_back, its_all}
 use Rattle.mv_repair.specs.declared.walk.OldRun.{OldRun}
 use Rattle.mv_repair.specs.declared.walk.NewRun.{NewRun}
 use Rattle.mv_repair.specs.Walking.{is_before, is_there, writes_at, hits_in, is_touched, is_kept_by, reads_by, record_stays, next_stays, stays_at, IsOld, IsNew}
-use Rattle.mv_recorded.proofs.Inverting.{each_join}
-use Rattle.mv_alike.proofs.Lasting.{each_map}
+use Rattle.mv_recorded.proofs.Inverting.{each_join, each_map}
+use Rattle.mv_alike.proofs.Walking.{earlier_then, climbs_parts, at_past}
 use Rattle.mv_repair.proofs.Lists.{first_dropped, none_dropped, any_of_all}
-use Rattle.mv_repair.proofs.Placing.{many_placed, earlier_then, climbs_around}
+use Rattle.mv_repair.proofs.Placing.{many_placed}
 use Rattle.mv_repair.proofs.Marking.{controller_is, definers_are}
 use Rattle.mv_repair.proofs.Passing.{all_apart, old_lower}
 
 -- The old record of a path
-
-at_past : (p : Path) (xs ys : List Placed) → Each (λ (a : Placed). is_path a.path p ≡ false) xs → (at p (xs ++ ys) ≡ at p ys) × (front p (xs ++ ys) ≡ xs ++ front p ys)
-at_past p [] ys h = (refl, refl)
-at_past p (x ∷ xs) ys h =
-    let rest = at_past p xs ys h.1 in
-    (ap (λ b. if b then Some x else at p (xs ++ ys)) h.0 ∙ rest.0, ap (λ b. if b then [] else x ∷ front p (xs ++ ys)) h.0 ∙ ap (λ l. x ∷ l) rest.1)
 
 at_none : (p : Path) (xs : List Placed) → Each (λ (a : Placed). is_path a.path p ≡ false) xs → at p xs ≡ None
 at_none p [] h = refl
@@ -162,7 +156,7 @@ decided changes os kept ns b more ahead old new d = by d.beside.coming refl
             ∙ here_is changes os kept ns b more ahead old new d o cs e same)))
         there false other =
             let later : IsEarlierPath b.path o.path = after o.path b.path (sym (ap (λ q. is_before q b.path) path) ∙ d.stops) other in
-            let rest = (climbs_around d.beside.passed o cs (subst Climbs is d.climbs)).1 in
+            let rest = (climbs_parts d.beside.passed o cs (subst Climbs is d.climbs)).1 in
             let highs : Each (λ (a : Placed). is_path a.path b.path ≡ false) cs =
             each_map (λ (a : Placed). IsEarlierPath o.path a.path) (λ (a : Placed). is_path a.path b.path ≡ false) cs (λ a k. apart_back b.path a.path (earlier_then b.path o.path a.path later k)) rest in
             ap (λ q. is_there q b.path && next_stays old new ns ahead (slice_get old.records old.at) (slice_get old.hits old.at)) path

@@ -14,8 +14,7 @@ use Rattle.mv_values.specs.Order.{key_order}
 use Rattle.mv_values.specs.Preds.{admits}
 use Rattle.mv_values.proofs.KeyOrder.{same_key}
 use Rattle.mv_record.specs.Writes.{is_on}
-use Rattle.mv_alike.proofs.Lasting.{each_map}
-use Rattle.mv_recorded.proofs.Inverting.{each_join}
+use Rattle.mv_recorded.proofs.Inverting.{each_join, each_map}
 use Rattle.mv_undo.specs.declared.owned.Owned.{Owned}
 use Rattle.mv_undo.specs.Owning.{earlier, touches, AreSought}
 use Rattle.mv_history.specs.Hits.{reaches, touches_predicate}

@@ -10,7 +10,7 @@ use Rattle.mv_record.specs.declared.record.Read.{Read}
 use Rattle.mv_record.specs.declared.record.Record.{Record}
 use Rattle.mv_recorded.specs.Own.{Each}
 use Rattle.mv_recorded.proofs.Held.{get_front}
-use Rattle.mv_alike.proofs.Lasting.{each_map}
+use Rattle.mv_recorded.proofs.Inverting.{each_map}
 use Rattle.mv_history.specs.Hits.{touches, touches_predicate}
 use Rattle.mv_repair.specs.Walking.{writes_of, writes_at, is_touched, same_definer, reads_by}
 

@@ -98,7 +98,6 @@ both_is kept os m o b (Some k) rest climbs there h = ap (λ x. is_path o.path b.
         some_same : (a c : Placed) → Some a ≡ Some c → a ≡ c
         some_same a c e = cc
 
-
 one_read : (kept : List Path) (os ns : List Placed) (ms : List (Option ℕ)) (a b : Option ℕ) (rest : Bool) → Climbs os → AreMarked kept os ns ms → IsEarlier (length os) a → IsEarlier (length ns) b
     → (same_path (path_at os a) (path_at ns b) && (is_kept kept (path_at ns b) && rest)) ≡ (same_definer ms a b && rest)
 one_read kept os ns ms None None rest climbs h l k = refl

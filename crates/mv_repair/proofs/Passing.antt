@@ -1,13 +1,12 @@
 -- The old run beside the new one: records that are passed, kept or left.
 use Rattle.std.proofs.Common.{◌≡◌, ◌≤◌, ◌<◌, ℕ, ◌+◌, true, false, List, [], ◌∷◌, ◌++◌, Some, map, drop, if◌then◌else◌, refl, sym, ap, subst, ◌∙◌, arith, append_assoc, append-nil, length-append, Bool, length, take}
 use Rattle.std.specs.Prelude.{slice_get}
-use Rattle.std.specs.Ordering.{is_lt, nat_cmp}
+use Rattle.std.specs.Ordering.{nat_cmp}
 use Rattle.std.specs.Cmp.Lexicographic.{slice_cmp}
-use Rattle.std.specs.declared.cmp.Ordering.{Ordering}
-use Rattle.std.specs.declared.cmp.Ordering.TheVariants.{Less, Equal, Greater}
 use Rattle.std.proofs.lemmas.Grind.{flat_map-append}
 use Rattle.std.proofs.lemmas.List.{map-append, take-append-le}
 use Rattle.mv_values.specs.declared.patch.Write.{Write}
+use Rattle.mv_values.proofs.Deciding.{less_is}
 use Rattle.mv_record.specs.declared.record.Record.{Record}
 use Rattle.mv_record.specs.Paths.{IsEarlierPath}
 use Rattle.mv_recorded.specs.Own.{Each}
@@ -16,17 +15,13 @@ use Rattle.mv_history.specs.declared.change.Change.{Change}
 use Rattle.mv_history.specs.Hits.{any_hits}
 use Rattle.mv_history.specs.Kept.{Path, Placed, with_paths, is_path, among, other_writes}
 use Rattle.mv_alike.proofs.Keeping.{Climbs, among_new}
-use Rattle.mv_alike.proofs.Placing.{apart}
+use Rattle.mv_alike.proofs.Placing.{apart, its}
 use Rattle.mv_repair.specs.declared.walk.OldRun.{OldRun}
 use Rattle.mv_repair.specs.Walking.{any_write, noted, hollow, is_before, hits_in, writes_of, without_next, next_writes, noted_next, AreKnown, HasAdded, IsOld, HasPassed, writes_at}
-use Rattle.mv_recorded.proofs.Inverting.{each_join}
-use Rattle.mv_alike.proofs.Lasting.{each_map}
+use Rattle.mv_recorded.proofs.Inverting.{each_join, each_map}
+use Rattle.mv_alike.proofs.Walking.{earlier_then, climbs_parts}
 use Rattle.mv_repair.proofs.Lists.{first_dropped, none_dropped, next_dropped, set_dropped, writes_apart}
-use Rattle.mv_repair.proofs.Placing.{earlier_then, climbs_around}
 use Rattle.mv_repair.proofs.Marking.{not_among, among_still}
-
-abbrev its : List Placed → List Record
-its ps = map (λ (p : Placed). p.it) ps
 
 abbrev all_before : List Placed → List Placed → Type 0
 all_before xs ys = Each (λ (a : Placed). Each (λ (b : Placed). IsEarlierPath a.path b.path) ys) xs
@@ -96,14 +91,6 @@ more_below at ns h = each_map (λ n. n < at) (λ n. n < at + 1) ns (λ n lt. ome
 
 -- One record that is passed
 
-less_is : (p q : Path) → is_lt (slice_cmp nat_cmp p q) ≡ true → IsEarlierPath p q
-less_is p q h = by (slice_cmp nat_cmp p q) h
-  where
-    by : (o : Ordering) → is_lt o ≡ true → o ≡ Less
-    by Less e = refl
-    by Equal e = cc
-    by Greater e = cc
-
 pub passed_next : (old : OldRun) (p : Path) (keys : List Owned) → HasAdded old.keys (next_writes old) keys → is_before (slice_get old.paths old.at) p ≡ true → HasPassed old p (record (noted_next keys old) { at = old.at + 1 })
 passed_next old p keys added yes' changes os kept b more is later h = by h.coming refl
   where
@@ -114,7 +101,7 @@ passed_next old p keys added yes' changes os kept b more is later h = by h.comin
         clash k l = cc
     by (o ∷ cs) e =
         let path : slice_get old.paths old.at ≡ Some o.path = first_dropped old.at old.paths o.path (map (λ (p : Placed). p.path) cs) (h.paths ∙ ap (map (λ (p : Placed). p.path)) e) in
-        let less : IsEarlierPath o.path b.path = subst (IsEarlierPath o.path) (sym is) (less_is o.path p (sym (ap (λ q. is_before q p) path) ∙ yes')) in
+        let less : IsEarlierPath o.path b.path = subst (IsEarlierPath o.path) (sym is) (less_is (slice_cmp nat_cmp o.path p) (sym (ap (λ q. is_before q p) path) ∙ yes')) in
         let records : drop old.at old.records ≡ o.it ∷ its cs = h.records ∙ ap its e in
         let behind : Each (λ k. Each (λ (a : Placed). IsEarlierPath k a.path) (o ∷ cs)) kept = subst (λ l. Each (λ k. Each (λ (a : Placed). IsEarlierPath k a.path) l) kept) e h.behind in
         let written : writes_of (slice_get old.records old.at) ≡ o.it.writes = ap writes_of (first_dropped old.at old.records o.it (its cs) records) in
@@ -148,7 +135,7 @@ passed_then old mid new p f g changes os kept b more is later h = g changes os k
 -- A record that is kept, and one that is executed
 
 climbs_at : (os xs : List Record) (passed : List Placed) (o : Placed) (cs : List Placed) → Climbs (with_paths os) → with_paths os ≡ passed ++ o ∷ cs → Each (λ (c : Placed). IsEarlierPath o.path c.path) cs
-climbs_at os xs passed o cs climbs is = (climbs_around passed o cs (subst Climbs is climbs)).1
+climbs_at os xs passed o cs climbs is = (climbs_parts passed o cs (subst Climbs is climbs)).1
 
 pub old_kept : (changes : List Change) (os : List Record) (kept : List Path) (b : Placed) (more : List Placed) (old : OldRun) (o : Placed) (cs : List Placed) → Climbs (with_paths os)
     → (h : IsOld changes os kept (b ∷ more) old) → h.coming ≡ o ∷ cs → o.path ≡ b.path → Each (λ (c : Placed). IsEarlierPath b.path c.path) more → IsOld changes os (kept ++ b.path ∷ []) more (without_next old)

@@ -3,16 +3,12 @@ use Rattle.std.proofs.Common.{◌≡◌, ℕ, zero, suc, ◌+◌, List, [], ◌�
 use Rattle.std.specs.Prelude.{slice_get}
 use Rattle.std.specs.Option.{option_and_then}
 use Rattle.std.proofs.lemmas.List.{length-map, map_push, nil_from_length}
-use Rattle.std.proofs.lemmas.Cmp.{nat_list_cmp_total}
 use Rattle.mv_record.specs.declared.record.Record.{Record}
 use Rattle.mv_record.specs.declared.record.Spot.{Spot}
-use Rattle.mv_record.specs.Paths.{Nest, path, inside, nest_of, nests_behind, paths, IsEarlierPath}
-use Rattle.mv_recorded.specs.Own.{Each}
+use Rattle.mv_record.specs.Paths.{Nest, path, inside, nest_of, nests_behind, paths}
 use Rattle.mv_recorded.proofs.Nesting.{many_nests}
 use Rattle.mv_history.specs.Kept.{Path, Placed, zip_paths, with_paths, next_placed}
 use Rattle.mv_history.proofs.Joining.{placed_front}
-use Rattle.mv_alike.proofs.Keeping.{Climbs}
-use Rattle.mv_recorded.proofs.Inverting.{each_both}
 use Rattle.mv_repair.specs.Walking.{path_behind}
 
 -- How many there are
@@ -54,15 +50,6 @@ paths_more xs r =
     ∙ (map_push (λ (p : Placed). p.path) (with_paths xs) (next_placed xs r) ∙ ap (λ l. l ++ path_behind xs r.spot r.parent ∷ []) (placed_paths xs)))
 
 -- The order of paths
-
-pub earlier_then : (a b c : Path) → IsEarlierPath a b → IsEarlierPath b c → IsEarlierPath a c
-earlier_then a b c h k = nat_list_cmp_total.trans a b c h k
-
-pub climbs_around : (xs : List Placed) (o : Placed) (ys : List Placed) → Climbs (xs ++ o ∷ ys) → Each (λ (a : Placed). IsEarlierPath a.path o.path) xs × Each (λ (b : Placed). IsEarlierPath o.path b.path) ys
-climbs_around [] o ys h = (tt, h.0)
-climbs_around (x ∷ xs) o ys h =
-    let rest = climbs_around xs o ys h.1 in
-    (((each_both (λ (b : Placed). IsEarlierPath x.path b.path) xs (o ∷ ys) h.0).1.0, rest.0), rest.1)
 
 -- The path of one record
 

@@ -37,12 +37,12 @@ use Rattle.mv_repair.specs.Walking.{path_behind, is_before, writes_of, next_stay
 use Rattle.mv_repair.specs.Stepping.{HasStepped, IsOnWay}
 use Rattle.mv_repair.proofs.Asking.{one, keys_within, keys_more, executed_counts, kept_counts, still_queried, queried_once, asked_one}
 use Rattle.mv_repair.proofs.Deciding.{Decides, Found, decided, found_old, names_at}
-use Rattle.mv_recorded.proofs.Inverting.{each_join}
-use Rattle.mv_alike.proofs.Lasting.{each_map}
+use Rattle.mv_recorded.proofs.Inverting.{each_join, each_map}
+use Rattle.mv_alike.proofs.Walking.{climbs_parts}
 use Rattle.mv_repair.proofs.Lists.{writes_before, each_take, got_there}
 use Rattle.mv_repair.proofs.Marking.{not_among, marks_more, marks_still}
 use Rattle.mv_repair.proofs.Passing.{all_apart, behind_first, others_both, others_still, one_other, no_other, noted_writes, noted_below, noted_longer, noted_take, old_kept, old_left}
-use Rattle.mv_repair.proofs.Placing.{placed_more, paths_more, climbs_around}
+use Rattle.mv_repair.proofs.Placing.{placed_more, paths_more}
 
 -- The next record of the full run
 
@@ -76,7 +76,7 @@ comes g changes db os task old new u ahead p next is = by u.left refl (next u.ca
         let all : (meaning_of g u.call db).records ≡ task.records ++ r ∷ tail = u.leaves ∙ ap (λ l. task.records ++ l) e in
         let it = placed_front task.records r tail in
         let placed : with_paths (meaning_of g u.call db).records ≡ with_paths task.records ++ next_placed task.records r ∷ it.0 = ap with_paths all ∙ it.1 in
-        let around = climbs_around (with_paths task.records) (next_placed task.records r) it.0 (subst Climbs placed (climbs_of (meaning_of g u.call db).records (recorded_rises g.tables g.procedure u.call db))) in
+        let around = climbs_parts (with_paths task.records) (next_placed task.records r) it.0 (subst Climbs placed (climbs_of (meaning_of g u.call db).records (recorded_rises g.tables g.procedure u.call db))) in
         let names = names_at task.records r tail (length task.records) refl (subst (NamesEarlier 0) all (recorded_names g.tables g.procedure u.call db)) in
         record {
           r = r;

@@ -1,9 +1,8 @@
 -- Versions that are not blank.
-use Rattle.std.proofs.Common.{◌≡◌, ◌==◌, ◌&&◌, ℕ, suc, Bool, true, false, cond, List, [], ◌∷◌, Option, Some, None, length, refl, sym, ap, subst, ◌∙◌, arith}
+use Rattle.std.proofs.Common.{◌≡◌, ◌==◌, ◌&&◌, ℕ, suc, Bool, true, false, cond, List, [], ◌∷◌, Option, Some, None, length, refl, sym, ap, subst, ◌∙◌}
 use Rattle.std.specs.Prelude.{IfSome, OnOk, OnErr, Result, Ok, Err, not}
 use Rattle.std.specs.Option.{is_some, option_and_then}
 use Rattle.std.specs.Ordering.{is_eq}
-use Rattle.std.proofs.lemmas.Bool.{ne_eqb}
 use Rattle.mv_values.specs.declared.value.Value.{Value}
 use Rattle.mv_values.specs.declared.patch.Patch.{Patch}
 use Rattle.mv_values.specs.Order.{key_order}
@@ -12,15 +11,13 @@ use Rattle.mv_table.specs.Lending.{HasItem}
 use Rattle.mv_table.proofs.Picking.{entries_same, picked_rising, picked_item}
 use Rattle.mv_chain.specs.declared.pending.Pending.{Pending}
 use Rattle.mv_chain.specs.Versions.{Versions, is_blank, with_own, joined, collected}
+use Rattle.mv_chain.proofs.Blank.{nonzero}
 use Rattle.mv_store.specs.Stored.{Entries, picked_in, unless_blank, tables_from}
 use Rattle.mv_store.specs.Kept.{AllRise, AreFilled, AreFilledBut, AllFilled, AllChanged, with_patch}
 use Rattle.mv_store.proofs.Keys.{cons_same, held_same}
 
 abbrev pub IsFull : Versions → Type 0
 IsFull v = is_blank v ≡ false
-
-nonzero : {A : Type 0} (x : A) (xs : List A) → (length (x ∷ xs) == 0) ≡ false
-nonzero x xs = ne_eqb (length (x ∷ xs)) 0 (λ e. absurd (omega (arith, e)))
 
 own_left : (call : ℕ) (patch : Patch) (ps : List Pending) → (length (with_own call patch ps) == 0) ≡ false
 own_left call patch [] = nonzero {A = Pending} (record { call = call; patch = patch }) []

@@ -16,7 +16,7 @@ use Rattle.mv_values.specs.Patching.{row_of, patched, applied, written}
 use Rattle.mv_values.specs.Tables.{rows_at}
 use Rattle.mv_values.proofs.KeyOrder.{tied}
 use Rattle.mv_record.specs.Writes.{writes_on, patched_by, AreRising}
-use Rattle.mv_record.proofs.Patching.{row_applied, rising_applied, length_applied, written_nowhere}
+use Rattle.mv_record.proofs.Patching.{row_applied, rising_applied, length_applied, written_nowhere, applied_append}
 use Rattle.mv_chain.specs.Versions.{Versions, IsAboveAll, own_of, patched_by_own, stamped, stamped_by, row_at, newest as newest_row}
 use Rattle.mv_chain.proofs.Stamps.{composes, others_stay, all_read, read_before, read_after}
 use Rattle.mv_store.specs.Stored.{Entries, Versioned, picked_in, table_at, database_at, newest, writes_from, own_writes, IsLike}
@@ -165,10 +165,6 @@ spots_kept last tables spots now kept keeps = record {
 }
 
 -- Several writes
-
-applied_append : (xs ys : List Write) (db : List (List Keyed)) → applied (xs ++ ys) db ≡ applied ys (applied xs db)
-applied_append [] ys db = refl
-applied_append (x ∷ xs) ys db = applied_append xs ys (written x db)
 
 pub put_nothing : (call : ℕ) (s : Versioned) → HasPut call [] s s
 put_nothing call s = record { reads = record { database = λ n. refl; last = refl; low = refl }; others = λ other ne. refl; own = λ db like. refl }

@@ -1,5 +1,5 @@
 -- Keys that are noted.
-use Rattle.std.proofs.Common.{◌≡◌, ◌<◌, ◌≤◌, ◌++◌, ◌==◌, ℕ, Bool, true, false, inl, inr, List, [], ◌∷◌, Option, Some, None, refl, sym, arith, rules}
+use Rattle.std.proofs.Common.{◌≡◌, ◌<◌, ◌≤◌, ◌++◌, ◌==◌, ℕ, Bool, true, false, inl, inr, List, [], ◌∷◌, Option, Some, None, refl, sym, arith, rules, le_trans}
 use Rattle.std.specs.Prelude.{OnOk, Result, Ok, Err, ◌||◌, nat_le}
 use Rattle.std.specs.List.{list_any}
 use Rattle.std.proofs.lemmas.Bool.{cases_Bool, eq-eqb, eqb-true}
@@ -53,17 +53,14 @@ entry_rest n t key w ws differs h = by (is_entry n t key w) differs h
     by true e g = absurd (no_truth (sym e))
     by false e g = g
 
-leq : {a b c : ℕ} → a ≤ b → b ≤ c → a ≤ c
-leq h g = omega arith
-
 pub climb_push : (first last n : ℕ) (ws : List Written) (o : Option (List Spot)) → Climb first ws last → last ≤ n → Climb first (ws ++ written_at n o) n
-climb_push first last n [] None h le = leq h le
-climb_push first last n [] (Some spots) h le = (leq h le, omega arith)
+climb_push first last n [] None h le = le_trans h le
+climb_push first last n [] (Some spots) h le = (le_trans h le, omega arith)
 climb_push first last n (w ∷ ws) o h le = (h.0, climb_push w.commit last n ws o h.1 le)
 
 pub climb_from : (low first last : ℕ) (ws : List Written) → low ≤ first → Climb first ws last → Climb low ws last
-climb_from low first last [] le h = leq le h
-climb_from low first last (w ∷ ws) le h = (leq le h.0, h.1)
+climb_from low first last [] le h = le_trans le h
+climb_from low first last (w ∷ ws) le h = (le_trans le h.0, h.1)
 
 entry_above : (low first last n t : ℕ) (key : List Value) (ws : List Written) → low < first → Climb first ws last → HasEntry n t key ws → low < n
 entry_above low first last n t key [] lt h e = absurd (no_truth e)

@@ -6,31 +6,18 @@ use Rattle.std.proofs.lemmas.Bool.{eq-eqb, ne_eqb}
 use Rattle.mv_values.specs.declared.value.Value.{Value}
 use Rattle.mv_values.specs.declared.rows.Keyed.{Keyed}
 use Rattle.mv_values.specs.declared.patch.Patch.{Patch}
-use Rattle.mv_values.specs.declared.patch.Write.{Write}
 use Rattle.mv_values.specs.Order.{key_order}
 use Rattle.mv_values.specs.Patching.{row_of, patched, applied}
 use Rattle.mv_values.specs.Tables.{rows_at}
 use Rattle.mv_values.proofs.KeyOrder.{exact_keys, turned}
 use Rattle.mv_table.specs.Entries.{item_of, picked, KeysRise}
 use Rattle.mv_table.proofs.Picking.{Above, Rise, rise_from}
-use Rattle.mv_record.specs.Writes.{is_on, writes_on, patched_by, AreRising}
-use Rattle.mv_record.proofs.Patching.{row_applied}
+use Rattle.mv_record.specs.Writes.{writes_on, patched_by, AreRising}
+use Rattle.mv_record.proofs.Patching.{row_applied, writes_append, patched_append}
 use Rattle.mv_chain.specs.Versions.{Versions, own_of, patched_by_own}
 use Rattle.mv_store.specs.Stored.{Entries, picked_in, writes_to, writes_from}
 use Rattle.mv_store.specs.Kept.{versions_at, AllRise}
 use Rattle.mv_store.proofs.Keys.{held_at, held_rises, held_same}
-
-on_append : (t : ℕ) (key : List Value) (xs ys : List Write) → writes_on t key (xs ++ ys) ≡ writes_on t key xs ++ writes_on t key ys
-on_append t key [] ys = refl
-on_append t key (x ∷ xs) ys = by (is_on t key x) (on_append t key xs ys)
-  where
-    by : (b : Bool) → writes_on t key (xs ++ ys) ≡ writes_on t key xs ++ writes_on t key ys → cond b (x ∷ writes_on t key (xs ++ ys)) (writes_on t key (xs ++ ys)) ≡ cond b (x ∷ writes_on t key xs) (writes_on t key xs) ++ writes_on t key ys
-    by true more = ap (λ l. x ∷ l) more
-    by false more = more
-
-by_append : (xs ys : List Write) (r : Option (List Value)) → patched_by (xs ++ ys) r ≡ patched_by ys (patched_by xs r)
-by_append [] ys r = refl
-by_append (x ∷ xs) ys r = by_append xs ys (patched x.patch r)
 
 elsewhere : (u t : ℕ) (key : List Value) (es : List (List Value × Patch)) → (u == t) ≡ false → writes_on t key (writes_to u es) ≡ []
 elsewhere u t key [] h = refl
@@ -39,7 +26,7 @@ elsewhere u t key (e ∷ es) h = rw h (elsewhere u t key es h)
 later_ones : (u t : ℕ) (key : List Value) (tables : List (List (List Value × Patch))) → t < u → writes_on t key (writes_from u tables) ≡ []
 later_ones u t key [] h = refl
 later_ones u t key (es ∷ ts) h =
-    on_append t key (writes_to u es) (writes_from (u + 1) ts)
+    writes_append t key (writes_to u es) (writes_from (u + 1) ts)
     ∙ (ap (λ l. l ++ writes_on t key (writes_from (u + 1) ts)) (elsewhere u t key es (ne_eqb u t (λ e. omega (arith, e, h)))) ∙ later_ones (u + 1) t key ts (omega (arith, h)))
 
 above_none : (t : ℕ) (key : List Value) (es : List (List Value × Patch)) → Above key es → writes_on t key (writes_to t es) ≡ []
@@ -68,13 +55,13 @@ at_from : (tables : List (List (List Value × Patch))) (u t k : ℕ) (key : List
 at_from [] u t k key r e rise = refl
 at_from (es ∷ ts) u t zero key r e rise =
     let same : u ≡ t = omega (arith, e) in
-    ap (λ l. patched_by l r) (on_append t key (writes_to u es) (writes_from (u + 1) ts))
-    ∙ (by_append (writes_on t key (writes_to u es)) (writes_on t key (writes_from (u + 1) ts)) r
+    ap (λ l. patched_by l r) (writes_append t key (writes_to u es) (writes_from (u + 1) ts))
+    ∙ (patched_append (writes_on t key (writes_to u es)) (writes_on t key (writes_from (u + 1) ts)) r
     ∙ (ap (λ l. patched_by l (patched_by (writes_on t key (writes_to u es)) r)) (later_ones (u + 1) t key ts (omega (arith, same)))
     ∙ subst (λ v. patched_by (writes_on t key (writes_to v es)) r ≡ patched_by_own (item_of es key) r) (sym same) (only_one t key es r (rise_from es (rise 0)))))
 at_from (es ∷ ts) u t (suc k) key r e rise =
-    ap (λ l. patched_by l r) (on_append t key (writes_to u es) (writes_from (u + 1) ts))
-    ∙ (by_append (writes_on t key (writes_to u es)) (writes_on t key (writes_from (u + 1) ts)) r
+    ap (λ l. patched_by l r) (writes_append t key (writes_to u es) (writes_from (u + 1) ts))
+    ∙ (patched_append (writes_on t key (writes_to u es)) (writes_on t key (writes_from (u + 1) ts)) r
     ∙ (ap (λ l. patched_by (writes_on t key (writes_from (u + 1) ts)) (patched_by l r)) (elsewhere u t key es (ne_eqb u t (λ f. omega (arith, e, f))))
     ∙ at_from ts (u + 1) t k key r (omega (arith, e)) (λ i. rise (suc i))))
 

@@ -23,6 +23,7 @@ use Rattle.mv_values.specs.Order.{key_order}
 use Rattle.mv_values.specs.Patching.{patched}
 use Rattle.mv_values.proofs.KeyOrder.{key_order_total, exact_keys, tied}
 use Rattle.mv_record.specs.Writes.{is_on, writes_on, patched_by}
+use Rattle.mv_record.proofs.Patching.{writes_append, patched_append}
 use Rattle.mv_undo.specs.declared.owned.Owned.{Owned}
 use Rattle.mv_undo.specs.Owning.{IsInOrder, before, earlier}
 use Rattle.mv_undo.specs.Indexing.{owned_at, lined, writes_at, full_key, key_at, owned_on, IsIndexed, IsCut, is_up_to, counts_before, is_earlier_up_to, Does, patch_or, patch_at, DoesUpTo, AreComposed, IsComposed}
@@ -55,23 +56,16 @@ writes_lined t key (y ∷ ys) = by (is_on t key y.write) (writes_lined t key ys)
     by true more = ap (λ l. y.write ∷ l) more
     by false more = more
 
-writes_both : (t : ℕ) (key : List Value) (xs ys : List Write) → writes_on t key (xs ++ ys) ≡ writes_on t key xs ++ writes_on t key ys
-writes_both t key xs ys = filter-append (is_on t key) xs ys
-
 write_on : (t : ℕ) (key : List Value) (w : Write) → is_on t key w ≡ true → writes_on t key (w ∷ []) ≡ w ∷ []
 write_on t key w h = ap (λ b. cond b (w ∷ []) []) h
 
 write_off : (t : ℕ) (key : List Value) (w : Write) → is_on t key w ≡ false → writes_on t key (w ∷ []) ≡ []
 write_off t key w h = ap (λ b. cond b (w ∷ []) []) h
 
-patched_both : (xs ys : List Write) (was : Option (List Value)) → patched_by (xs ++ ys) was ≡ patched_by ys (patched_by xs was)
-patched_both [] ys was = refl
-patched_both (x ∷ xs) ys was = patched_both xs ys (patched x.patch was)
-
 -- the same writes to its key, and then the write itself
 up_to_same : (o : Owned) (made : Option Patch) (seen other : List Write) → writes_on o.write.table o.write.key other ≡ writes_on o.write.table o.write.key seen → DoesUpTo o made seen → DoesUpTo o made other
 up_to_same o made seen other same h was =
-    h was ∙ ap (λ ws. patched_by ws was) (writes_both t key seen (o.write ∷ []) ∙ (ap (λ l. l ++ writes_on t key (o.write ∷ [])) (sym same) ∙ sym (writes_both t key other (o.write ∷ []))))
+    h was ∙ ap (λ ws. patched_by ws was) (writes_append t key seen (o.write ∷ []) ∙ (ap (λ l. l ++ writes_on t key (o.write ∷ [])) (sym same) ∙ sym (writes_append t key other (o.write ∷ []))))
   where
     t : ℕ
     t = o.write.table
@@ -170,16 +164,16 @@ none_at_all items order index t key is = ap (λ n. writes_on t key (writes_at it
 -- A write behind others
 
 pub whole_last : (w : Write) (ws : List Write) (row : List Value) → w.patch ≡ Insert row → Does w.patch (ws ++ w ∷ [])
-whole_last w ws row is was = ap (λ p. patched p was) is ∙ sym (patched_both ws (w ∷ []) was ∙ ap (λ p. patched p (patched_by ws was)) is)
+whole_last w ws row is was = ap (λ p. patched p was) is ∙ sym (patched_append ws (w ∷ []) was ∙ ap (λ p. patched p (patched_by ws was)) is)
 
 pub delete_last : (w : Write) (ws : List Write) → w.patch ≡ Delete → Does w.patch (ws ++ w ∷ [])
-delete_last w ws is was = ap (λ p. patched p was) is ∙ sym (patched_both ws (w ∷ []) was ∙ ap (λ p. patched p (patched_by ws was)) is)
+delete_last w ws is was = ap (λ p. patched p was) is ∙ sym (patched_append ws (w ∷ []) was ∙ ap (λ p. patched p (patched_by ws was)) is)
 
 pub first_alone : (w : Write) (ws : List Write) → ws ≡ [] → Does w.patch (ws ++ w ∷ [])
 first_alone w ws none was = sym (ap (λ l. patched_by (l ++ w ∷ []) was) none)
 
 pub both_last : (first both : Patch) (w : Write) (ws : List Write) → Does first ws → ((was : Option (List Value)) → patched both was ≡ patched w.patch (patched first was)) → Does both (ws ++ w ∷ [])
-both_last first both w ws h made was = made was ∙ (ap (patched w.patch) (h was) ∙ sym (patched_both ws (w ∷ []) was))
+both_last first both w ws h made was = made was ∙ (ap (patched w.patch) (h was) ∙ sym (patched_append ws (w ∷ []) was))
 
 -- One more write
 
@@ -197,9 +191,9 @@ same_places items composed o made seen other (p ∷ ps) size within same h =
       subst (λ (x : Owned). AreComposed (items ++ o ∷ []) (composed ++ made ∷ []) (other ++ x.write ∷ []) ps) (sym here)
           (same_places items composed o made (seen ++ w ∷ []) (other ++ w ∷ []) ps size (λ k d lt. within (suc k) d (omega (arith, lt)))
           (λ k d lt.
-          writes_both (owned_at items (slice_index_or ps k d)).write.table (owned_at items (slice_index_or ps k d)).write.key other (w ∷ [])
+          writes_append (owned_at items (slice_index_or ps k d)).write.table (owned_at items (slice_index_or ps k d)).write.key other (w ∷ [])
           ∙ (ap (λ l. l ++ writes_on (owned_at items (slice_index_or ps k d)).write.table (owned_at items (slice_index_or ps k d)).write.key (w ∷ [])) (same (suc k) d (omega (arith, lt)))
-          ∙ sym (writes_both (owned_at items (slice_index_or ps k d)).write.table (owned_at items (slice_index_or ps k d)).write.key seen (w ∷ [])))) h.1),
+          ∙ sym (writes_append (owned_at items (slice_index_or ps k d)).write.table (owned_at items (slice_index_or ps k d)).write.key seen (w ∷ [])))) h.1),
     )
 
 -- the new place in front of others
@@ -213,7 +207,7 @@ placed_first items composed o made seen ps size within new others h =
       subst (λ (x : Owned). AreComposed (items ++ o ∷ []) (composed ++ made ∷ []) (seen ++ x.write ∷ []) ps) (sym here)
           (same_places items composed o made seen (seen ++ o.write ∷ []) ps size within
           (λ k d lt.
-          writes_both (owned_at items (slice_index_or ps k d)).write.table (owned_at items (slice_index_or ps k d)).write.key seen (o.write ∷ [])
+          writes_append (owned_at items (slice_index_or ps k d)).write.table (owned_at items (slice_index_or ps k d)).write.key seen (o.write ∷ [])
           ∙ (ap (λ l. writes_on (owned_at items (slice_index_or ps k d)).write.table (owned_at items (slice_index_or ps k d)).write.key seen ++ l)
           (write_off (owned_at items (slice_index_or ps k d)).write.table (owned_at items (slice_index_or ps k d)).write.key o.write (others k d lt))
           ∙ append-nil (writes_on (owned_at items (slice_index_or ps k d)).write.table (owned_at items (slice_index_or ps k d)).write.key seen))) h),
@@ -252,7 +246,7 @@ composed_more items composed order o made at ix kept cut does = record {
         does was
         ∙ ap (λ ws. patched_by ws was)
         (ap (λ l. writes_on o.write.table o.write.key (writes_at items (take at order)) ++ l) (sym (write_on o.write.table o.write.key o.write (on_itself o)))
-        ∙ sym (writes_both o.write.table o.write.key (writes_at items (take at order)) (o.write ∷ [])))
+        ∙ sym (writes_append o.write.table o.write.key (writes_at items (take at order)) (o.write ∷ [])))
 
     others : (k d : ℕ) → at ≤ k → k < length order → is_on (owned_at items (slice_index_or order k d)).write.table (owned_at items (slice_index_or order k d)).write.key o.write ≡ false
     others k d low lt = false_from_ne_true _ (λ on.

@@ -14,25 +14,16 @@ use Rattle.mv_values.specs.Keys.{IsRising, IsBelow}
 use Rattle.mv_values.specs.Order.{key_order}
 use Rattle.mv_values.specs.Patching.{row_of, placed, standing}
 use Rattle.mv_values.proofs.KeyOrder.{key_order_total, tied}
-use Rattle.mv_record.proofs.Patching.{row_of-placed_same, placed_other, rising_placed, rows_same}
+use Rattle.mv_record.proofs.Patching.{row_of-placed_same, placed_other, rising_placed, rows_same, placed_before, placed_here, placed_past}
 use Rattle.mv_undo.specs.Overlaying.{begins_up_to}
 
 -- A row put under a key
-
-put_before : (key : List Value) (row : Option (List Value)) (x : Keyed) (xs : List Keyed) → key_order x.key key ≡ Less → placed key row (x ∷ xs) ≡ x ∷ placed key row xs
-put_before key row x xs h = rw h refl
-
-put_here : (key : List Value) (row : Option (List Value)) (x : Keyed) (xs : List Keyed) → key_order x.key key ≡ Equal → placed key row (x ∷ xs) ≡ standing key row ++ xs
-put_here key row x xs h = rw h refl
-
-put_past : (key : List Value) (row : Option (List Value)) (x : Keyed) (xs : List Keyed) → key_order x.key key ≡ Greater → placed key row (x ∷ xs) ≡ standing key row ++ x ∷ xs
-put_past key row x xs h = rw h refl
 
 -- behind rows below its key
 put_behind : (key : List Value) (row : Option (List Value)) (done ahead : List Keyed) → All (IsBelow key) done → placed key row (done ++ ahead) ≡ done ++ placed key row ahead
 put_behind key row [] ahead h = refl
 put_behind key row (x ∷ xs) ahead h =
-    put_before key row x (xs ++ ahead) (All-head (IsBelow key) x xs h) ∙ ap (λ l. x ∷ l) (put_behind key row xs ahead (All-tail (IsBelow key) x xs h))
+    placed_before key row x (xs ++ ahead) (All-head (IsBelow key) x xs h) ∙ ap (λ l. x ∷ l) (put_behind key row xs ahead (All-tail (IsBelow key) x xs h))
 
 -- in front of rows above its key
 put_front : (key : List Value) (row : Option (List Value)) (ahead : List Keyed) → begins_up_to key ahead ≡ false → placed key row ahead ≡ standing key row ++ ahead
@@ -42,7 +33,7 @@ put_front key row (x ∷ xs) h = by (key_order x.key key) refl h
     by : (o : Ordering) → key_order x.key key ≡ o → is_le o ≡ false → placed key row (x ∷ xs) ≡ standing key row ++ x ∷ xs
     by Less e g = cc
     by Equal e g = cc
-    by Greater e g = put_past key row x xs e
+    by Greater e g = placed_past key row x xs e
 
 pub put_between : (key : List Value) (row : Option (List Value)) (done ahead rest : List Keyed) → All (IsBelow key) done → begins_up_to key ahead ≡ false → rest ≡ ahead → placed key row (done ++ ahead) ≡ done ++ standing key row ++ rest
 put_between key row done ahead rest below past same =
@@ -77,7 +68,7 @@ moved xs x ys = append_assoc xs (x ∷ []) ys
 
 -- the rows that are left where one isn't moved on
 without : (xs : List Keyed) (x : Keyed) (ys : List Keyed) (key : List Value) → key_order x.key key ≡ Equal → All (IsBelow key) xs → placed key None (xs ++ x ∷ ys) ≡ xs ++ ys
-without xs x ys key e below = put_behind key None xs (x ∷ ys) below ∙ ap (λ l. xs ++ l) (put_here key None x ys e)
+without xs x ys key e below = put_behind key None xs (x ∷ ys) below ∙ ap (λ l. xs ++ l) (placed_here key None x ys e)
 
 pub dropped_rising : (xs : List Keyed) (x : Keyed) (ys : List Keyed) (key : List Value) → key_order x.key key ≡ Equal → All (IsBelow key) xs → IsRising (xs ++ x ∷ ys) → IsRising (xs ++ ys)
 dropped_rising xs x ys key e below h = subst IsRising (without xs x ys key e below) (rising_placed key None (xs ++ x ∷ ys) h)

@@ -1,5 +1,5 @@
 use Rattle.std.proofs.Common.{◌∙◌}
-use Rattle.mv_record.proofs.Patching.{always_err}
+use Rattle.mv_values.proofs.Deciding.{always_err}
 use Rattle.mv_core.proofs.Stored.{stored_dropped, stored_stamped, last_reply, last_made}
 use Rattle.mv_core.proofs.tasks.prepare.Goals as goal
 

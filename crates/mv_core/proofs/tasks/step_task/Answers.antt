@@ -1,6 +1,6 @@
-use Rattle.std.proofs.Common.{arith, ◌+◌, ◌∙◌, length, refl, sym, ap, subst}
+use Rattle.std.proofs.Common.{arith, ◌+◌, length, refl, ap, subst}
+use Rattle.mv_values.proofs.Deciding.{always_err}
 use Rattle.mv_lawful.specs.Lawful.{Live}
-use Rattle.mv_record.proofs.Patching.{always_err}
 use Rattle.mv_core.specs.Cores.{HasRunOne, IsLiveTask}
 use Rattle.mv_core.proofs.Stored.{Shows, shows_start, database_shown}
 use Rattle.mv_core.proofs.Taking.{runs_shown, runs_back, counts_same, counts_one, task_kept, task_ran, task_named, goes_on, one_live}

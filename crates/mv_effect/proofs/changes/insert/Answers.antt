@@ -7,8 +7,9 @@ use Rattle.mv_recorded.specs.Asking.{pred_of, same_key}
 use Rattle.mv_undo.specs.Owning.{earlier}
 use Rattle.mv_recorded.specs.Effects.{inserting}
 use Rattle.mv_record.specs.declared.effect.Effect.{Effect}
-use Rattle.mv_effect.proofs.Asked.{asked_one, insert_asks}
+use Rattle.mv_effect.proofs.Asked.{asked_one}
 use Rattle.mv_recorded.proofs.Altered.{insert_done}
+use Rattle.mv_recorded.proofs.Congruent.{insert_preds}
 use Rattle.mv_effect.proofs.changes.insert.Goals as goal
 
 pub returns-clause-effect : goal.returns-clause-effect
@@ -27,4 +28,4 @@ returns-clause-effect g c = λ lines.
 pub returns-clause-looks : goal.returns-clause-looks
 returns-clause-looks g c =
     asked_one c.in_ok-insert_effect.field-0.preds c.in_ok-pred.pred (earlier c.args.context.now.number c.args.context.now.undo.now) (g.V.View.sight c.args.view.now) (g.V.View.sight c.visible_rows.new.view)
-    (ap (λ (e : Effect). e.preds) c.in_ok-insert_effect.ensures ∙ insert_asks c.args.context.now.tables.now c.args.table c.in-Ok.row c.in_ok-pred.pred c.is_any.result c.args.context.now.env.now) c.in_ok-rows.ensures.looks
+    (ap (λ (e : Effect). e.preds) c.in_ok-insert_effect.ensures ∙ insert_preds c.args.context.now.tables.now c.args.table c.in-Ok.row c.in_ok-pred.pred c.is_any.result c.args.context.now.env.now) c.in_ok-rows.ensures.looks

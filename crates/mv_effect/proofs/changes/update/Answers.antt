@@ -3,9 +3,10 @@ use Rattle.mv_values.specs.Patching.{applied}
 use Rattle.mv_catalog.specs.declared.resolved.RSetItem.{RSetItem}
 use Rattle.mv_undo.specs.Owning.{earlier}
 use Rattle.mv_record.specs.declared.effect.Effect.{Effect}
-use Rattle.mv_effect.proofs.Asked.{asked_one, then_asks}
+use Rattle.mv_effect.proofs.Asked.{asked_one}
 use Rattle.mv_effect.proofs.Few.{bytes_of}
 use Rattle.mv_recorded.proofs.Altered.{update_done}
+use Rattle.mv_recorded.proofs.Congruent.{then_preds}
 use Rattle.mv_effect.proofs.changes.update.Goals as goal
 
 pub update_effect-requires-clause-columns : goal.update_effect-requires-clause-columns
@@ -20,4 +21,4 @@ returns-clause-effect g c = λ lines.
 pub returns-clause-looks : goal.returns-clause-looks
 returns-clause-looks g c =
     asked_one c.in_ok-update_effect.field-0.preds c.in-Ok.pred (earlier c.args.context.now.number c.args.context.now.undo.now) (g.V.View.sight c.args.view.now) (g.V.View.sight c.visible_rows.new.view)
-    (ap (λ (e : Effect). e.preds) c.in_ok-update_effect.ensures ∙ then_asks c.in-Ok.pred _ _ (λ ws. refl)) c.in_ok-rows.ensures.looks
+    (ap (λ (e : Effect). e.preds) c.in_ok-update_effect.ensures ∙ then_preds c.in-Ok.pred _ _ (λ ws. refl)) c.in_ok-rows.ensures.looks

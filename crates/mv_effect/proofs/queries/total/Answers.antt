@@ -3,7 +3,8 @@ use Rattle.std.proofs.lemmas.Result.{IfOk-weaker}
 use Rattle.mv_values.specs.Patching.{applied}
 use Rattle.mv_undo.specs.Owning.{earlier}
 use Rattle.mv_record.specs.declared.effect.Effect.{Effect}
-use Rattle.mv_effect.proofs.Asked.{asked_one, then_asks}
+use Rattle.mv_recorded.proofs.Congruent.{then_preds}
+use Rattle.mv_effect.proofs.Asked.{asked_one}
 use Rattle.mv_effect.proofs.Told.{total_found_done}
 use Rattle.mv_effect.proofs.queries.total.Goals as goal
 
@@ -18,5 +19,5 @@ returns-clause-looks g c =
     IfOk-weaker c.aggregate_asked.result _ _
     (λ e is.
     asked_one e.preds c.in-Ok.pred (earlier c.args.context.now.number c.args.context.now.undo.now) (g.V.View.sight c.args.view.now) (g.V.View.sight c.aggregate_asked.new.view)
-    (ap (λ (f : Effect). f.preds) is ∙ then_asks c.in-Ok.pred _ _ (λ total. refl)) c.aggregate_asked.ensures.looks)
+    (ap (λ (f : Effect). f.preds) is ∙ then_preds c.in-Ok.pred _ _ (λ total. refl)) c.aggregate_asked.ensures.looks)
     c.aggregate_asked.ensures.effect

@@ -3,6 +3,7 @@ use Rattle.std.proofs.lemmas.Result.{err_from_is_err_and}
 use Rattle.mv_values.specs.declared.patch.Write.{Write}
 use Rattle.mv_values.specs.Patching.{applied}
 use Rattle.mv_values.specs.Tables.{KeysStand}
+use Rattle.mv_values.proofs.Deciding.{always_err}
 use Rattle.mv_record.specs.declared.record.Record.{Record}
 use Rattle.mv_record.specs.Runs.{writes_in}
 use Rattle.mv_effect.specs.Looking.{AskedAtMost, different}
@@ -11,7 +12,7 @@ use Rattle.mv_exec.specs.Steps.{HasExecuted}
 use Rattle.mv_exec.specs.Tasks.{StandsAsBefore}
 use Rattle.mv_exec.proofs.Adopting.{before_both}
 use Rattle.mv_exec.proofs.Writing.{own_writes}
-use Rattle.mv_exec.proofs.Fronts.{both, on_err, if_err, either, stays, stays_on, grows, unchanged, executed_before, executed_on, running_on, has_run, small_found, params_of}
+use Rattle.mv_exec.proofs.Fronts.{both, on_err, either, stays, stays_on, grows, unchanged, executed_before, executed_on, running_on, has_run, small_found, params_of}
 use Rattle.mv_exec.proofs.running.next.Goals as goal
 use Rattle.mv_exec.proofs.running.next.Goals.{After-execute, After-from_residual}
 
@@ -104,7 +105,7 @@ returns-in_err-ahead-clause-running g c =
 
 pub returns-in_err-ahead-clause-err : goal.returns-in_err-ahead-clause-err
 returns-in_err-ahead-clause-err g c =
-    if_err c.from_residual.result (IsUnchanged c.args.task.now c.come_to.new.task)
+    always_err c.from_residual.result (IsUnchanged c.args.task.now c.come_to.new.task)
     (unchanged c.args.graph.now.procedure c.args.task.now c.come_to.new.task c.requires.running.1.is.whole c.come_to.ensures.task c.come_to.ensures.same)
 
 pub returns-in_err-ahead-clause-view : goal.returns-in_err-ahead-clause-view

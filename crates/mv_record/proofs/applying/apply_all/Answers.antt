@@ -1,7 +1,8 @@
 use Rattle.std.proofs.Common.{◌∙◌, ap, sym}
 use Rattle.mv_values.specs.Patching.{written}
+use Rattle.mv_values.proofs.Deciding.{always_err}
 use Rattle.mv_record.specs.Writes.{HasAppliedFront}
-use Rattle.mv_record.proofs.Patching.{always_err, applied_front, applied_more}
+use Rattle.mv_record.proofs.Patching.{applied_front, applied_more}
 use Rattle.mv_record.proofs.applying.apply_all.Goals as goal
 
 pub returns-in_err-apply-clause-err : goal.returns-in_err-apply-clause-err

@@ -1,8 +1,8 @@
 use Rattle.std.proofs.Common.{◌≡◌, Some, None, sym, ap, subst, ◌∙◌, arith}
+use Rattle.mv_values.proofs.Deciding.{always_err}
 use Rattle.mv_journal.specs.declared.event.Event.TheVariants.{A}
 use Rattle.mv_journal.specs.declared.outcome.Mark.TheVariants.{Plain}
 use Rattle.mv_lawful.specs.Lawful.{refusal}
-use Rattle.mv_record.proofs.Patching.{always_err}
 use Rattle.mv_core.specs.Books.{Booked, work_in, IsSame}
 use Rattle.mv_core.proofs.Stored.{stored_same}
 use Rattle.mv_core.proofs.Changed.{allowed_same, due_restarted, same_both, made_after, room_less}

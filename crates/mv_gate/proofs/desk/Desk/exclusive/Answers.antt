@@ -1,10 +1,10 @@
 use Rattle.std.proofs.Common.{◌≡◌, ◌<◌, ◌++◌, ◌∷◌, ℕ, List, [], Some, None, false, length, refl, sym, ap, subst, ◌∙◌}
 use Rattle.std.specs.List.{list_any}
 use lib.Dec.{eqb}
+use Rattle.mv_values.proofs.Deciding.{always_err}
 use Rattle.mv_journal.specs.declared.event.Event.TheVariants.{X}
 use Rattle.mv_lawful.specs.Lawful.{refusal}
 use Rattle.mv_seats.specs.Knowing.{Knows}
-use Rattle.mv_record.proofs.Patching.{always_err}
 use Rattle.mv_core.specs.declared.script.Script.{Script}
 use Rattle.mv_core.specs.Books.{Booked, work_in, Made, IsSame}
 use Rattle.mv_core.proofs.Stored.{stored_same}
