@@ -2,9 +2,10 @@
 use Rattle.std.proofs.Common.{◌≡◌, ◌<◌, ℕ, zero, suc, Bool, true, false, List, [], ◌∷◌, ◌++◌, Some, length, if◌then◌else◌, refl, sym, ap, subst, ◌∙◌, arith}
 use Rattle.std.specs.Prelude.{◌||◌, slice_get, slice_index_or, AllPairs}
 use Rattle.std.proofs.lemmas.Option.{same_Some}
-use Rattle.std.proofs.lemmas.Bool.{both_ways}
+use Rattle.std.proofs.lemmas.Bool.{both_ways, or_right}
 use Rattle.mv_values.specs.declared.pred.Pred.{Pred}
 use Rattle.mv_values.specs.declared.patch.Write.{Write}
+use Rattle.mv_values.proofs.Deciding.{or_none}
 use Rattle.mv_record.specs.declared.record.Record.{Record}
 use Rattle.mv_record.specs.Paths.{paths, IsEarlierPath, PathsRise}
 use Rattle.mv_record.specs.Runs.{writes_in}
@@ -83,11 +84,7 @@ all_gone u kept (x ∷ xs) h = gone x xs [] h.0 (all_gone u kept xs h.1)
 
 -- one path more is kept, which none of them has
 pub among_more : (kept : List Path) (p q : Path) → among (kept ++ p ∷ []) q ≡ (among kept q || is_path q p)
-among_more [] p q = by (is_path q p)
-  where
-    by : (b : Bool) → (b || false) ≡ b
-    by true = refl
-    by false = refl
+among_more [] p q = or_none (is_path q p)
 among_more (k ∷ ks) p q = by (is_path q k) (among_more ks p q)
   where
     by : (b : Bool) → among (ks ++ p ∷ []) q ≡ (among ks q || is_path q p) → (b || among (ks ++ p ∷ []) q) ≡ ((b || among ks q) || is_path q p)
@@ -101,11 +98,7 @@ among_not : (kept : List Path) (p q : Path) → among kept q ≡ false → is_pa
 among_not kept p q h k = among_more kept p q ∙ (ap (λ b. b || is_path q p) h ∙ k)
 
 pub among_new : (kept : List Path) (p : Path) → among (kept ++ p ∷ []) p ≡ true
-among_new kept p = among_more kept p p ∙ (ap (λ b. among kept p || b) (path_self p) ∙ by (among kept p))
-  where
-    by : (b : Bool) → (b || true) ≡ true
-    by true = refl
-    by false = refl
+among_new kept p = among_more kept p p ∙ (ap (λ b. among kept p || b) (path_self p) ∙ or_right (among kept p) true refl)
 
 pub aligned_more : (u : Sides) (kept : List Path) (p : Path) (xs ys : List Placed) → Each (λ (a : Placed). is_path a.path p ≡ false) xs → Each (λ (b : Placed). is_path b.path p ≡ false) ys → Aligned u kept xs ys → Aligned u (kept ++ p ∷ []) xs ys
 aligned_more u kept p _ _ h k ends = ends

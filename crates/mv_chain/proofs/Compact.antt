@@ -1,7 +1,7 @@
 -- Items without those whose column a later one sets.
 use Rattle.std.proofs.Common.{◌≡◌, ◌∷◌, ◌++◌, ◌+◌, ◌<◌, ◌≤◌, ◌==◌, ℕ, zero, suc, true, false, cond, inl, inr, List, [], length, take, drop, get_or, refl, ap, sym, subst, ◌∙◌, arith, append_assoc, append-nil}
 use Rattle.std.specs.Prelude.{slice_set, slice_get, Some}
-use Rattle.std.proofs.lemmas.Bool.{cases_Bool, eqb-true, eq-eqb, false≢true}
+use Rattle.std.proofs.lemmas.Bool.{cases_Bool, eqb-true, false≢true, eqb-false}
 use Rattle.std.proofs.lemmas.List.{take_more_set, drop-set-lt, drop_all, length-set, drop_more}
 use Rattle.std.proofs.lemmas.Option.{get_or_from_slice_get}
 use Rattle.mv_values.specs.declared.value.Value.{Value}
@@ -32,11 +32,8 @@ overwritten c v (b ∷ bs) row h = elim (cases_Bool (b.column == c)) [
       ap (with_columns bs) (subst (λ x. slice_set (slice_set row x v) b.column b.value ≡ slice_set row b.column b.value) same (set_again row b.column v b.value))
   | inr f ↦
       let rest : is_set c bs ≡ true = rw f at h in
-      ap (with_columns bs) (set_apart row c b.column v b.value (λ e. differ b.column c (sym e) f)) ∙ overwritten c v bs (slice_set row b.column b.value) rest
+      ap (with_columns bs) (set_apart row c b.column v b.value (λ e. eqb-false b.column c f (sym e))) ∙ overwritten c v bs (slice_set row b.column b.value) rest
 ]
-  where
-    differ : (a b : ℕ) → a ≡ b → (a == b) ≡ false → ⊥
-    differ a b e f = false≢true (sym f ∙ eq-eqb a b e)
 
 pub compact_is : (items : List Assign) (row : List Value) → with_columns (compact items) row ≡ with_columns items row
 compact_is [] row = refl

@@ -12,7 +12,7 @@ use Rattle.std.proofs.Math.Seq.{get_or-append_seam}
 use Rattle.std.proofs.lemmas.Bool.Decides.{eqb_tells, nat_tests}
 use Rattle.std.proofs.lemmas.List.Elements.{filter-append, All-from_recursion, recursion_from_All, All-nil}
 use Rattle.std.proofs.lemmas.List.Folds.{list_any-append}
-use Rattle.std.proofs.lemmas.Bool.{and_parts, eqb-true, ltb-true, lt-ltb, and_right}
+use Rattle.std.proofs.lemmas.Bool.{and_parts, eqb-true, ltb-true, lt-ltb, and_right, or_right}
 use Rattle.mv_values.specs.declared.value.Value.{Value}
 use Rattle.mv_values.specs.declared.value.Value.TheVariants.{Int}
 use Rattle.mv_values.specs.declared.patch.Write.{Write}
@@ -20,6 +20,7 @@ use Rattle.mv_values.specs.Order.{key_order}
 use Rattle.mv_values.specs.Patching.{row_of, patched, applied}
 use Rattle.mv_values.specs.Tables.{rows_at}
 use Rattle.mv_values.proofs.KeyOrder.{exact_keys, tied, same_key}
+use Rattle.mv_values.proofs.Deciding.{or_none}
 use Rattle.mv_record.specs.declared.record.Record.{Record}
 use Rattle.mv_record.specs.Runs.{Tables, writes_in}
 use Rattle.mv_record.specs.Writes.{AreRising, is_on, writes_on, patched_by}
@@ -69,11 +70,7 @@ off w t key h = by (is_on t key w) refl
 -- Writes one after another
 
 touches_more : (ws : List Write) (w : Write) (t : ℕ) (key : List Value) (b : Bool) → is_on t key w ≡ b → touches t key (ws ++ w ∷ []) ≡ (touches t key ws || b)
-touches_more ws w t key b h = list_any-append (is_on t key) ws (w ∷ []) ∙ (ap (λ x. touches t key ws || (x || false)) h ∙ ap (λ x. touches t key ws || x) (or_no b))
-  where
-    or_no : (b : Bool) → (b || false) ≡ b
-    or_no true = refl
-    or_no false = refl
+touches_more ws w t key b h = list_any-append (is_on t key) ws (w ∷ []) ∙ (ap (λ x. touches t key ws || (x || false)) h ∙ ap (λ x. touches t key ws || x) (or_none b))
 
 none_on : (t : ℕ) (key : List Value) (ws : List Write) → touches t key ws ≡ false → writes_on t key ws ≡ []
 none_on t key [] h = refl
@@ -157,12 +154,8 @@ change_now ws w db was lt rising is =
 other_now : (ws : List Write) (w : Write) (db : Tables) (t : ℕ) (key : List Value) → AreRising db → is_on t key w ≡ false
     → drafted (nat_lt t (length db) && touches t key ws) t key db (applied ws db) ≡ drafted (nat_lt t (length db) && touches t key (ws ++ w ∷ [])) t key db (applied (ws ++ w ∷ []) db)
 other_now ws w db t key rising h =
-    by (nat_lt t (length db)) refl ∙ ap (λ b. drafted (nat_lt t (length db) && b) t key db (applied (ws ++ w ∷ []) db)) (sym (touches_more ws w t key false h ∙ or_no (touches t key ws)))
+    by (nat_lt t (length db)) refl ∙ ap (λ b. drafted (nat_lt t (length db) && b) t key db (applied (ws ++ w ∷ []) db)) (sym (touches_more ws w t key false h ∙ or_none (touches t key ws)))
   where
-    or_no : (b : Bool) → (b || false) ≡ b
-    or_no true = refl
-    or_no false = refl
-
     by : (b : Bool) → nat_lt t (length db) ≡ b → drafted (b && touches t key ws) t key db (applied ws db) ≡ drafted (b && touches t key ws) t key db (applied (ws ++ w ∷ []) db)
     by true e = at (touches t key ws)
       where
@@ -191,11 +184,7 @@ draft_more es mid new ws w db was c lt rising draft had taken without put with' 
         here : drafted (nat_lt w.table (length db) && touches w.table w.key (ws ++ w ∷ [])) w.table w.key db (applied (ws ++ w ∷ []) db) ≡ Some c
         here =
             ap (λ b. drafted (b && touches w.table w.key (ws ++ w ∷ [])) w.table w.key db (applied (ws ++ w ∷ []) db)) (lt-ltb w.table (length db) lt)
-            ∙ (ap (λ b. drafted b w.table w.key db (applied (ws ++ w ∷ []) db)) (touches_more ws w w.table w.key true (on_itself w) ∙ or_yes (touches w.table w.key ws)) ∙ ap Some (sym this))
-          where
-            or_yes : (b : Bool) → (b || true) ≡ true
-            or_yes true = refl
-            or_yes false = refl
+            ∙ (ap (λ b. drafted b w.table w.key db (applied (ws ++ w ∷ []) db)) (touches_more ws w w.table w.key true (on_itself w) ∙ or_right (touches w.table w.key ws) true refl) ∙ ap Some (sym this))
 
         by : (b : Bool) → is_eq (key_order (full w) (Int (pos t) ∷ key)) ≡ b → cond b (Some c) (item_of mid (Int (pos t) ∷ key)) ≡ drafted (nat_lt t (length db) && touches t key (ws ++ w ∷ [])) t key db (applied (ws ++ w ∷ []) db)
         by true e =

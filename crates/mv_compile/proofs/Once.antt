@@ -1,8 +1,9 @@
 -- Numbers taken one after another, each once.
-use Rattle.std.proofs.Common.{◌≡◌, ℕ, suc, Bool, true, false, not, ◌&&◌, ◌==◌, ◌||◌, ◌<◌, ◌+◌, cond, List, [], ◌∷◌, ◌++◌, length, drop, slice_index_or, refl, sym, ap, subst, ◌∙◌, append_assoc, add-one, rules, arith}
-use Rattle.std.specs.List.{filter, list_any}
+use Rattle.std.proofs.Common.{◌≡◌, ℕ, suc, Bool, true, false, not, ◌&&◌, ◌==◌, ◌||◌, ◌<◌, ◌+◌, cond, List, [], ◌∷◌, ◌++◌, length, drop, slice_index_or, refl, sym, ap, ◌∙◌, append_assoc, rules, arith}
+use Rattle.std.specs.List.{filter}
 use Rattle.std.proofs.lemmas.List.Folds.{list_any-append}
 use Rattle.std.proofs.Math.Seq.{drop-cons}
+use Rattle.std.proofs.lemmas.Cmp.{nat_eq_equiv}
 use Rattle.mv_recorded.specs.Reading.{each_once}
 use Rattle.mv_compile.specs.Adding.{is_in, with_new}
 
@@ -25,11 +26,8 @@ filter_twice p q r (m ∷ ms) h = by (q m) refl (p m) refl (filter_twice p q r m
 
 -- the other numbers that are new to a list with this one
 others : (all : List ℕ) (n m : ℕ) → not (is_in (all ++ n ∷ []) m) ≡ not (m == n) && not (is_in all m)
-others all n m = ap not (list_any-append (λ k. k == m) all (n ∷ [])) ∙ by (is_in all m) (n == m) (m == n) (turned n m)
+others all n m = ap not (list_any-append (λ k. k == m) all (n ∷ [])) ∙ by (is_in all m) (n == m) (m == n) (nat_eq_equiv.symm n m)
   where
-    turned : (a b : ℕ) → (a == b) ≡ (b == a)
-    turned a b = grind arith
-
     by : (a b c : Bool) → b ≡ c → not (a || (b || false)) ≡ not c && not a
     by true true c e = cc
     by true false c e = cc

@@ -3,7 +3,7 @@ use Rattle.std.proofs.Common.{◌≡◌, ℕ, ◌+◌, ◌<◌, ◌≤◌, Bool,
 use Rattle.std.specs.Prelude.{slice_get, ◌==◌, ◌≢◌, Ok, Err, not, IfSome, IsErrAnd, nat_le, nat_lt, nat_eq}
 use Rattle.std.specs.Option.{is_some}
 use Rattle.std.proofs.lemmas.Bool.Decides.{eqb_tells}
-use Rattle.std.proofs.lemmas.Bool.{and_parts, eqb-true, le-ltb}
+use Rattle.std.proofs.lemmas.Bool.{and_parts, eqb-true, le-ltb, ltb-true}
 use Rattle.mv_values.specs.declared.calls.Call.{Call}
 use Rattle.mv_values.specs.declared.memory.NoMemory.{NoMemory}
 use Rattle.mv_record.specs.declared.record.Record.{Record}
@@ -250,12 +250,10 @@ pub stale_told : (b : Booked) (c start low : ℕ) (a : Check) (l : Live) → ((m
     → IsStaleAt b c start low
 stale_told b c start low a l told is live =
     let h : IsAnswer (check.Stale start low) (work_in b) b.course c l = subst (λ (x : Check). IsAnswer x (work_in b) b.course c l) is (told l live) in
-    let lt = below l.start b.course.low (refused_stale (work_in b) b.course c l live h.0) in
+    let lt = ltb-true l.start b.course.low (refused_stale (work_in b) b.course c l live h.0) in
     let at = h.1 in
     let to = h.2 in
-    record { live = l; is_live = live; start_is = at; low_is = to; stale = omega (arith, lt, at, to) } where
-      below : (n m : ℕ) → nat_lt n m ≡ true → n < m
-      below n m e = grind (arith, e)
+    record { live = l; is_live = live; start_is = at; low_is = to; stale = omega (arith, lt, at, to) }
 
 pub same_self : (b : Booked) → IsSame b b
 same_self b = record { script = refl; course = refl; settled = λ c has. has; journal = refl }

@@ -3,7 +3,7 @@ use Rattle.std.proofs.Common.{◌≡◌, ◌⊎◌, inl, inr, ℕ, zero, suc, �
 use Rattle.std.specs.Prelude.{slice_get, ◌==◌, ◌&&◌, ◌↔◌, ◌≢◌, nat_lt, not}
 use Rattle.std.specs.List.{flat_map}
 use Rattle.std.proofs.lemmas.Option.{slice_get_within, slice_get_read}
-use Rattle.std.proofs.lemmas.Bool.{and_parts, cases_eq}
+use Rattle.std.proofs.lemmas.Bool.{and_parts, cases_eq, ltb-false, lt-ltb}
 use Rattle.std.proofs.lemmas.List.{length-set, set-set}
 use Rattle.mv_values.specs.declared.calls.Call.{Call}
 use Rattle.mv_record.specs.declared.record.Record.{Record}
@@ -490,11 +490,8 @@ number_ran s course c l t k lt live task first none = due_live (work_of s) cours
   many : length all ≡ length t.task.records + length way.rest
   many = ap length (ap (λ (r : Run). r.records) (run_is s c call.0 call.1 db call.2) ∙ way.leaves) ∙ length-append t.task.records way.rest
 
-  not_less : (n m : ℕ) → nat_lt n m ≡ false → m ≤ n
-  not_less n m h = grind (arith, h)
-
   past : length all ≤ l.steps
-  past = not_less l.steps (length all) (sym (ap (λ b. b && nat_lt l.steps (length all)) (eq-eqb (used l) 0 first)) ∙ none)
+  past = ltb-false l.steps (length all) (sym (ap (λ b. b && nat_lt l.steps (length all)) (eq-eqb (used l) 0 first)) ∙ none)
 
   by : (o : Option ℕ) → t.count ≡ o → count_or o (length all) ≡ count_or o (length t.task.records)
   by (Some n) is = refl
@@ -512,9 +509,6 @@ left_told g call db t rest steps is rise leaves here = by t.ended refl where
   not_less : (n m : ℕ) → m ≡ n → nat_lt n m ≡ false
   not_less n m e = grind (arith, e)
 
-  less : (n m : ℕ) → n < m → nat_lt n m ≡ true
-  less n m e = grind (arith, e)
-
   more : (rs : List Record) → rest ≡ rs → (rs ≡ [] → ⊥) → 0 < length rest
   more [] e none = absurd (none refl)
   more (r ∷ rs) e none = let l = ap length e in omega (arith, l)
@@ -526,7 +520,7 @@ left_told g call db t rest steps is rise leaves here = by t.ended refl where
   by false e =
       let both : rest ≡ [] → ⊥ = λ none. let h : true ≡ false = sym (exact.1 none) ∙ e in search (rules, h) in
       let some = more rest refl both in
-      ap not e ∙ sym (less steps (length (meaning_of g call db).records) (omega (arith, many, some, here)))
+      ap not e ∙ sym (lt-ltb steps (length (meaning_of g call db).records) (omega (arith, many, some, here)))
 
 -- a repair has run on the last tables, and executed as many records as Runs says
 pub task_repaired : (b : Booked) (c n : ℕ) (s : Script) (v : Sight) (l : Live) (old new : Task) (commits : List (List Change)) → s ≡ b.script → Shows b.script b.course.order (length b.course.order) v

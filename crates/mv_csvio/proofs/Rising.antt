@@ -5,19 +5,19 @@ use Rattle.std.proofs.Common.{◌≡◌, ◌++◌, ◌∷◌, ◌<◌, ◌⊎◌
 use Rattle.std.specs.Prelude.{Contains, slice_index_or}
 use Rattle.std.specs.List.{IsDistinct}
 use Rattle.std.specs.Ordering.{ordering_reverse, is_eq}
-use Rattle.std.specs.declared.cmp.Ordering.{Ordering}
-use Rattle.std.specs.declared.cmp.Ordering.TheVariants.{Less, Equal, Greater}
+use Rattle.std.specs.declared.cmp.Ordering.TheVariants.{Less, Greater}
 use Rattle.std.proofs.Math.ListN.{get_or-map}
 use Rattle.std.proofs.lemmas.List.{length-map, map-append}
 use Rattle.std.proofs.lemmas.List.Sorted.{Contains-permutation, IsPermutation-map, IsPermutation-sym, IsPermutation-trans}
 use Rattle.std.proofs.lemmas.Map.Keys.{IsDistinct-from_apart, IsDistinct-IsPermutation, apart_from_distinct}
+use Rattle.std.proofs.lemmas.Cmp.{eq_by_cmp_equiv}
 use Rattle.mv_values.specs.declared.value.Value.{Value}
 use Rattle.mv_values.specs.declared.rows.Keyed.{Keyed}
 use Rattle.mv_values.specs.declared.schema.TableInfo.{TableInfo}
 use Rattle.mv_values.specs.Columns.{columns_of}
 use Rattle.mv_values.specs.Keys.{IsRising}
 use Rattle.mv_values.specs.Order.{key_order}
-use Rattle.mv_values.proofs.KeyOrder.{key_order_total}
+use Rattle.mv_values.proofs.KeyOrder.{key_order_total, same_key}
 use Rattle.mv_csvio.specs.Joining.{HasJoined, HasKey, under_key}
 
 not_back : (a b : List Value) → key_order a b ≡ Less → key_order b a ≡ Less → ⊥
@@ -82,21 +82,11 @@ joined_once table before rows one two h g =
 abbrev alike : List Value → List Value → Bool
 alike a b = is_eq (key_order a b)
 
-reversed : (o : Ordering) → is_eq (ordering_reverse o) ≡ is_eq o
-reversed Less = refl
-reversed Equal = refl
-reversed Greater = refl
-
 alike_both : (a b : List Value) → alike a b ≡ alike b a
-alike_both a b = ap is_eq (key_order_total.antisymm a b) ∙ reversed (key_order b a)
-
-own_reverse : (o : Ordering) → o ≡ ordering_reverse o → is_eq o ≡ true
-own_reverse Less e = cc e
-own_reverse Equal e = refl
-own_reverse Greater e = cc e
+alike_both a b = (eq_by_cmp_equiv key_order_total).symm a b
 
 alike_self : (a : List Value) → alike a a ≡ true
-alike_self a = own_reverse (key_order a a) (key_order_total.antisymm a a)
+alike_self a = ap is_eq (same_key a)
 
 abbrev keys : List Keyed → List (List Value)
 keys rows = map (λ item. item.key) rows

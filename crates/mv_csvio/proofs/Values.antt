@@ -1,17 +1,19 @@
 -- What fields are to columns.
-use Rattle.std.proofs.Common.{w64, inl, inr, ◌≡◌, ◌∷◌, ◌<◌, ◌≤◌, ◌^◌, ◌==◌, rules, ℕ, zero, suc, Bool, true, false, List, [], length, Some, None, Result, Ok, Err, ℤ, pos, neg_ℤ, refl, arith}
+use Rattle.std.proofs.Common.{w64, inl, inr, ◌≡◌, ◌∷◌, ◌<◌, ◌≤◌, ◌^◌, ◌==◌, rules, ℕ, zero, suc, true, false, List, [], length, None, Result, Ok, Err, ℤ, pos, neg_ℤ, refl, arith}
 use Rattle.std.specs.Prelude.{All}
 use Rattle.std.specs.List.{list_all}
 use Rattle.std.proofs.lemmas.List.Elements.{All-nil, All-cons}
 use Rattle.mv_values.specs.Printable.{IsPrintable}
-use Rattle.std.specs.Prelude.{slice_index, MatchResult, if◌then◌else◌}
+use Rattle.std.specs.Prelude.{slice_index, MatchResult}
 use Rattle.std.specs.Result.{OkIff, result_ok}
-use Rattle.std.specs.Str.{all_ascii_digits, IsAscii, IsUtf8}
+use Rattle.std.specs.Str.{IsAscii, IsUtf8}
 use Rattle.std.proofs.lemmas.Str.{IsUtf8-from_ascii}
 use Rattle.std.proofs.lemmas.Fmt.{IsAscii-from_digits}
 use Rattle.std.specs.Str.Parse.{digits_value, ParsesSigned}
 use Rattle.std.proofs.lemmas.Bool.{cases_Bool, eqb-true, eqb-false, and_parts, and_from}
-use Rattle.std.proofs.lemmas.Str.Parse.{IsNumeralModel, numerals_by_value, tells_all_ascii_digits, parse_signed_plain, parse_signed_minus}
+use Rattle.std.proofs.lemmas.Str.Parse.{parse_signed_plain, parse_signed_minus}
+use Rattle.mv_values.proofs.Deciding.{nothing_where, some_where}
+use Rattle.mv_values.proofs.Numerals.{Digits, numerals}
 use Rattle.mv_csvio.specs.Fields.{are_digits, is_printable, number_in, natural, negative}
 
 printable : (b : ℕ) → is_printable b ≡ true → IsPrintable b
@@ -26,27 +28,13 @@ pub plus_none : (bs : List ℕ) → (slice_index bs 0 == 43) ≡ true → None �
 plus_none [] h = refl
 plus_none (b ∷ bs) h = rw (eqb-true b 43 h) refl
 
-one_way : (b : Bool) (z : ℤ) → (b ≡ true → ⊥) → None ≡ (if b then Some z else None)
-one_way true z n = absurd (n refl)
-one_way false z n = refl
-
-other_way : (b : Bool) (y z : ℤ) → b ≡ true → y ≡ z → Some y ≡ (if b then Some z else None)
-other_way b y z h e = rw (h, e) refl
-
--- the digits test of the standard library
-abbrev Digits : List ℕ → Type 0
-Digits ds = all_ascii_digits ds ≡ true
-
-numerals : IsNumeralModel Digits (digits_value 10)
-numerals = numerals_by_value Digits tells_all_ascii_digits
-
 natural_is : {E : Type 0} (ds : List ℕ) (r : Result ℤ E) → OkIff r (Digits ds × (0 < length ds) × (digits_value 10 ds < 2 ^ 63)) (pos (digits_value 10 ds)) → result_ok r ≡ natural ds
-natural_is ds (Ok z) h = other_way _ z _ (and_from _ _ (and_from _ _ h.0.0 (search (rules, h.0.1))) (search (rules, h.0.2))) h.1
-natural_is ds (Err e) h = one_way _ _ (λ t. let k = and_parts _ _ t in let d = and_parts _ _ k.0 in h (d.0, search (rules, d.1), search (rules, k.1)))
+natural_is ds (Ok z) h = some_where _ z _ (and_from _ _ (and_from _ _ h.0.0 (search (rules, h.0.1))) (search (rules, h.0.2))) h.1
+natural_is ds (Err e) h = nothing_where _ _ (λ t. let k = and_parts _ _ t in let d = and_parts _ _ k.0 in h (d.0, search (rules, d.1), search (rules, k.1)))
 
 negative_is : {E : Type 0} (ds : List ℕ) (r : Result ℤ E) → OkIff r (Digits ds × (0 < length ds) × (digits_value 10 ds ≤ 2 ^ 63)) (neg_ℤ (pos (digits_value 10 ds))) → result_ok r ≡ negative ds
-negative_is ds (Ok z) h = other_way _ z _ (and_from _ _ (and_from _ _ h.0.0 (search (rules, h.0.1))) (search (rules, h.0.2))) h.1
-negative_is ds (Err e) h = one_way _ _ (λ t. let k = and_parts _ _ t in let d = and_parts _ _ k.0 in h (d.0, search (rules, d.1), search (rules, k.1)))
+negative_is ds (Ok z) h = some_where _ z _ (and_from _ _ (and_from _ _ h.0.0 (search (rules, h.0.1))) (search (rules, h.0.2))) h.1
+negative_is ds (Err e) h = nothing_where _ _ (λ t. let k = and_parts _ _ t in let d = and_parts _ _ k.0 in h (d.0, search (rules, d.1), search (rules, k.1)))
 
 none_there : {E : Type 0} (r : Result ℤ E) → OkIff r (Digits [] × (0 < 0) × (digits_value 10 [] < 2 ^ 63)) (pos 0) → result_ok r ≡ None
 none_there (Ok z) h = absurd (omega (arith, h.0.1))
@@ -73,8 +61,8 @@ utf8_none [] n = refl
 utf8_none (b ∷ bs) n = elim (cases_Bool (b == 45)) [
   | inl minus ↦
       let first = eqb-true b 45 minus in
-      rw minus (one_way _ _ (λ t. n (rw first (IsUtf8-from_ascii (45 ∷ bs) (ascii_behind bs (and_parts _ _ t).0)))))
-  | inr other ↦ rw other (one_way _ _ (λ t. n (IsUtf8-from_ascii (b ∷ bs) (ascii (b ∷ bs) (and_parts _ _ t).0))))
+      rw minus (nothing_where _ _ (λ t. n (rw first (IsUtf8-from_ascii (45 ∷ bs) (ascii_behind bs (and_parts _ _ t).0)))))
+  | inr other ↦ rw other (nothing_where _ _ (λ t. n (IsUtf8-from_ascii (b ∷ bs) (ascii (b ∷ bs) (and_parts _ _ t).0))))
 ]
 
 -- what the test of a field for UTF-8 says

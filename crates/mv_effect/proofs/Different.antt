@@ -1,31 +1,23 @@
 -- How many different keys writes are on, where more writes follow.
 use Rattle.std.proofs.Common.{◌≡◌, ◌≤◌, ℕ, suc, ◌==◌, Bool, true, false, List, [], ◌∷◌, ◌++◌, if◌then◌else◌, refl, sym, ap, subst, ◌∙◌, arith, append_assoc}
 use Rattle.std.specs.Prelude.{◌||◌, ◌&&◌}
-use Rattle.std.specs.Ordering.{is_eq, ordering_reverse}
-use Rattle.std.specs.declared.cmp.Ordering.{Ordering}
-use Rattle.std.specs.declared.cmp.Ordering.TheVariants.{Less, Equal, Greater}
-use Rattle.std.proofs.lemmas.Bool.Decides.{nat_tests, eqb_tells}
+use Rattle.std.specs.Ordering.{is_eq}
+use Rattle.std.proofs.lemmas.Bool.Decides.{eqb_tells}
 use Rattle.std.proofs.lemmas.Bool.{and_parts}
+use Rattle.std.proofs.lemmas.Cmp.{nat_eq_equiv, eq_by_cmp_equiv}
 use Rattle.mv_values.specs.declared.patch.Write.{Write}
 use Rattle.mv_values.specs.Order.{key_order}
 use Rattle.mv_values.proofs.KeyOrder.{key_order_total, tied}
+use Rattle.mv_values.proofs.Deciding.{or_none}
 use Rattle.mv_record.specs.Writes.{is_on}
 use Rattle.mv_undo.specs.Owning.{touches}
 use Rattle.mv_effect.specs.Looking.{different}
 
-same_either_way : (o : Ordering) → is_eq (ordering_reverse o) ≡ is_eq o
-same_either_way Less = refl
-same_either_way Equal = refl
-same_either_way Greater = refl
-
-table_either_way : (m n : ℕ) → (m == n) ≡ (n == m)
-table_either_way m n = grind (arith, nat_tests)
-
 -- two writes are each on the key of the other, or neither is
 on_either_way : (v w : Write) → is_on v.table v.key w ≡ is_on w.table w.key v
 on_either_way v w =
-    ap (λ b. b && is_eq (key_order w.key v.key)) (table_either_way w.table v.table)
-    ∙ ap (λ b. (v.table == w.table) && b) (ap is_eq (key_order_total.antisymm w.key v.key) ∙ same_either_way (key_order v.key w.key))
+    ap (λ b. b && is_eq (key_order w.key v.key)) (nat_eq_equiv.symm w.table v.table)
+    ∙ ap (λ b. (v.table == w.table) && b) ((eq_by_cmp_equiv key_order_total).symm w.key v.key)
 
 -- where a write is on the key of another one, the same writes touch both
 touched_alike : (v w : Write) (ws : List Write) → is_on v.table v.key w ≡ true → touches v.table v.key ws ≡ touches w.table w.key ws
@@ -60,14 +52,10 @@ new_key (x ∷ ws) w h = by (is_on w.table w.key x) refl h (λ e. new_key ws w e
     by false off e go =
         let rest : different (ws ++ w ∷ []) ≡ suc (different ws) = go e in
         let same : touches x.table x.key (ws ++ w ∷ []) ≡ touches x.table x.key ws =
-        touched_last x ws w ∙ (ap (λ b. touches x.table x.key ws || b) (on_either_way x w ∙ off) ∙ none (touches x.table x.key ws)) in
+        touched_last x ws w ∙ (ap (λ b. touches x.table x.key ws || b) (on_either_way x w ∙ off) ∙ or_none (touches x.table x.key ws)) in
         ap (λ b. if b then different (ws ++ w ∷ []) else suc (different (ws ++ w ∷ []))) same
         ∙ (ap (λ n. if touches x.table x.key ws then n else suc n) rest ∙ out (touches x.table x.key ws) (different ws))
       where
-        none : (b : Bool) → (b || false) ≡ b
-        none true = refl
-        none false = refl
-
         out : (b : Bool) (n : ℕ) → (if b then suc n else suc (suc n)) ≡ suc (if b then n else suc n)
         out true n = refl
         out false n = refl

@@ -4,7 +4,7 @@ use Rattle.std.specs.Option.{option_or}
 use Rattle.std.specs.Ordering.{is_eq, is_lt}
 use Rattle.std.specs.declared.cmp.Ordering.TheVariants.{Less}
 use Rattle.std.proofs.lemmas.Bool.{both_ways}
-use Rattle.std.proofs.lemmas.Option.{none-some}
+use Rattle.std.proofs.lemmas.Option.{none-some, same_Some}
 use Rattle.mv_values.specs.declared.value.Value.{Value}
 use Rattle.mv_values.specs.declared.rows.Keyed.{Keyed}
 use Rattle.mv_values.specs.declared.patch.Write.{Write}
@@ -115,11 +115,8 @@ foremost_is d xs item rising there before = elim (first_apart d xs (rises_from x
       is_first d xs x more.1 leads ∙ ap (λ i. Some i) (by x more.1 leads (is_eq (key_order x.key item.key)) refl (sym (row_at d xs x more.1 leads item.key) ∙ there))
 ]
   where
-    some_same : (a b : List Value) → ◌≡◌ {A = Option (List Value)} (Some a) (Some b) → a ≡ b
-    some_same a b e = cc
-
     by : (x : Keyed) (rest : List Keyed) → Leads d x rest xs → (b : Bool) → is_eq (key_order x.key item.key) ≡ b → cond b (Some x.row) (row_of rest item.key) ≡ Some item.row → x ≡ item
-    by x rest leads true e is = keyed_same x item (tied x.key item.key e) (some_same x.row item.row is)
+    by x rest leads true e is = keyed_same x item (tied x.key item.key e) (same_Some x.row item.row is)
     by x rest leads false e is = absurd (none-some x.row (sym (before x.key (leads.later item.key item.row is)) ∙ (own_row d xs x rest leads)))
 
 -- where there are no rows there is no first
@@ -133,13 +130,13 @@ first_there : (d : Direction) (xs : List Keyed) (item : Keyed) → IsRising xs �
 first_there d xs item rising is = elim (first_apart d xs (rises_from xs rising)) [
   | inl empty ↦ absurd (none-some item (sym (ap (foremost d) empty ∙ foremost_none d) ∙ is))
   | inr more ↦
-      let same : more.0 ≡ item = some_same more.0 item (sym (is_first d xs more.0 more.1 more.2) ∙ is) in
+      let same : more.0 ≡ item = same_Some more.0 item (sym (is_first d xs more.0 more.1 more.2) ∙ is) in
       subst (λ (i : Keyed). (row_of xs i.key ≡ Some i.row) × ((key : List Value) → meets_first d key i.key ≡ true → row_of xs key ≡ None)) same
       (own_row d xs more.0 more.1 more.2, nothing_before d xs more.0 more.1 more.2)
 ]
   where
-    some_same : (a b : Keyed) → ◌≡◌ {A = Option Keyed} (Some a) (Some b) → a ≡ b
-    some_same a b e = cc
+    same_Some : (a b : Keyed) → ◌≡◌ {A = Option Keyed} (Some a) (Some b) → a ≡ b
+    same_Some a b e = cc
 
 none_there : (d : Direction) (xs : List Keyed) → IsRising xs → foremost d xs ≡ None → (key : List Value) → row_of xs key ≡ None
 none_there d xs rising is key = elim (first_apart d xs (rises_from xs rising)) [

@@ -1,9 +1,10 @@
 -- A statement that is well formed names tables and columns that are there.
-use Rattle.std.proofs.Common.{◌≡◌, ◌<◌, ℕ, zero, suc, List, [], ◌∷◌, Some, All, length, map, refl, sym, ap, subst, ◌∙◌, arith}
+use Rattle.std.proofs.Common.{◌≡◌, ◌<◌, ℕ, suc, List, [], ◌∷◌, Some, All, length, map, refl, sym, ap, subst, ◌∙◌, arith}
 use Rattle.std.specs.Prelude.{slice_get}
 use Rattle.std.specs.List.{AllZip, flat_map}
 use Rattle.std.proofs.lemmas.List.{length-map}
 use Rattle.std.proofs.lemmas.List.Elements.{All-nil, All-cons, All-append, All-map, All-weaker}
+use Rattle.std.proofs.lemmas.Option.{slice_get_within}
 use Rattle.mv_values.specs.declared.schema.Column.{Column}
 use Rattle.mv_values.specs.declared.schema.TableInfo.{TableInfo}
 use Rattle.mv_values.specs.Tables.{columns_in, columns_at}
@@ -52,12 +53,6 @@ Inner vars columns = (e : RExpr) × ExprClaim vars columns e
 abbrev InnerKind : Vars → List Kind → Type 0
 InnerKind vars columns = (k : RExprKind) × KindClaim vars columns k
 
--- a place that has an item is within the list
-there : {A : Type 0} (xs : List A) (i : ℕ) (x : A) → slice_get xs i ≡ Some x → i < length xs
-there [] i x h = cc
-there (y ∷ ys) zero x h = omega arith
-there (y ∷ ys) (suc i) x h = omega (arith, there ys i x h)
-
 -- one column that is there
 one_within : (columns : List Kind) (c : ℕ) → c < length columns → Within columns (c ∷ [])
 one_within columns c lt = All-cons (λ c. c < length columns) c [] lt (All-nil (λ c. c < length columns))
@@ -73,7 +68,7 @@ kind_claim : (vars : Vars) (columns : List Kind) (y : RExprKind-F (InnerKind var
 kind_claim vars columns (kind.Const v) t h = All-nil (λ c. c < length columns)
 kind_claim vars columns (kind.Var x) t h = All-nil (λ c. c < length columns)
 kind_claim vars columns (kind.Field x c) t h = All-nil (λ c. c < length columns)
-kind_claim vars columns (kind.Col c) t h = one_within columns c (there columns c t h)
+kind_claim vars columns (kind.Col c) t h = one_within columns c (slice_get_within columns c t h)
 kind_claim vars columns (kind.One op a) t h = a.1 h.0 h.1
 kind_claim vars columns (kind.Two op a b) t h = All-append (λ c. c < length columns) (columns_of_expr a.0) (columns_of_expr b.0) (a.1 h.0 h.2) (b.1 h.1 h.3)
 
@@ -111,8 +106,8 @@ as_columns number tables t info xs is h =
 -- tests of WHERE test columns of the table
 tests_of : (vars : Vars) (tables : List TableInfo) (t : ℕ) (info : TableInfo) (conds : List RCond) → slice_get tables t ≡ Some info → All (IsTest vars (kinds_of info)) conds → Tests tables t conds
 tests_of vars tables t info conds is h = record {
-  table = there tables t info is;
-  columns = as_columns (λ (c : RCond). c.column) tables t info conds is (All-weaker (IsTest vars (kinds_of info)) (λ (c : RCond). c.column < length (kinds_of info)) (λ c k. there (kinds_of info) c.column k.0 k.1) conds h);
+  table = slice_get_within tables t info is;
+  columns = as_columns (λ (c : RCond). c.column) tables t info conds is (All-weaker (IsTest vars (kinds_of info)) (λ (c : RCond). c.column < length (kinds_of info)) (λ c k. slice_get_within (kinds_of info) c.column k.0 k.1) conds h);
 }
 
 -- the selected columns and those of ORDER BY are columns of the table
@@ -126,7 +121,7 @@ taken_within : (vars : Vars) (columns : List Kind) (cs xs : List ℕ) → AllZip
 taken_within vars columns [] [] h = All-nil (λ c. c < length columns)
 taken_within vars columns [] (x ∷ xs) h = absurd h
 taken_within vars columns (c ∷ cs) [] h = absurd h
-taken_within vars columns (c ∷ cs) (x ∷ xs) h = All-cons (λ c. c < length columns) c cs (there columns c h.0.0 h.0.1) (taken_within vars columns cs xs h.1)
+taken_within vars columns (c ∷ cs) (x ∷ xs) h = All-cons (λ c. c < length columns) c cs (slice_get_within columns c h.0.0 h.0.1) (taken_within vars columns cs xs h.1)
 
 -- columns that have types are there
 kinds_within : (columns : List Kind) (cs : List ℕ) (ts : List Kind) → map (slice_get columns) cs ≡ map Some ts → Within columns cs
@@ -135,15 +130,15 @@ kinds_within columns (c ∷ cs) [] h = cc
 kinds_within columns (c ∷ cs) (t ∷ ts) h =
     let head : slice_get columns c ≡ Some t = cc in
     let tail : map (slice_get columns) cs ≡ map Some ts = cc in
-    All-cons (λ c. c < length columns) c cs (there columns c t head) (kinds_within columns cs ts tail)
+    All-cons (λ c. c < length columns) c cs (slice_get_within columns c t head) (kinds_within columns cs ts tail)
 
 -- the column of an aggregate that has a type is there
 total_within : (columns : List Kind) (agg : RAgg) (k : Kind) → IsTotal columns agg k → Within columns (column_in agg)
 total_within columns CountAll k h = All-nil (λ c. c < length columns)
 total_within columns (CountDistinct c) k h = one_within columns c h.1
-total_within columns (Sum c) k h = one_within columns c (there columns c int h.1)
-total_within columns (Min c) k h = one_within columns c (there columns c k h)
-total_within columns (Max c) k h = one_within columns c (there columns c k h)
+total_within columns (Sum c) k h = one_within columns c (slice_get_within columns c int h.1)
+total_within columns (Min c) k h = one_within columns c (slice_get_within columns c k h)
+total_within columns (Max c) k h = one_within columns c (slice_get_within columns c k h)
 
 -- the right sides of SET name columns that are there
 rights_within : (vars : Vars) (info : TableInfo) (items : List RSetItem) → All (IsItem vars info) items → Within (kinds_of info) (flat_map (λ i. columns_of_expr i.right) items)
@@ -156,7 +151,7 @@ rights_within vars info (i ∷ is) h =
 -- SET sets columns of the table, and its right sides name such
 sets_of : (vars : Vars) (tables : List TableInfo) (t : ℕ) (info : TableInfo) (items : List RSetItem) → slice_get tables t ≡ Some info → All (IsItem vars info) items → Sets tables t items
 sets_of vars tables t info items is h = record {
-  columns = as_columns (λ (i : RSetItem). i.column) tables t info items is (All-weaker (IsItem vars info) (λ (i : RSetItem). i.column < length (kinds_of info)) (λ i k. there (kinds_of info) i.column k.0 k.1) items h);
+  columns = as_columns (λ (i : RSetItem). i.column) tables t info items is (All-weaker (IsItem vars info) (λ (i : RSetItem). i.column < length (kinds_of info)) (λ i k. slice_get_within (kinds_of info) i.column k.0 k.1) items h);
   rights = as_columns (λ c. c) tables t info (flat_map (λ i. columns_of_expr i.right) items) is (rights_within vars info items h);
 }
 
@@ -171,7 +166,7 @@ step_names tables (stmt.ForSelect row once cs t conds sorts body) vars h =
     (tests_of vars tables t h.0 conds h.1 h.2.0, sorted_of tables t h.0 cs sorts h.1 (kinds_within (kinds_of h.0) cs h.2.3.0 h.2.3.1) h.2.1)
 step_names tables (stmt.ForRows row over body) vars h = tt
 step_names tables (stmt.Branch test ys ns) vars h = tt
-step_names tables (stmt.Insert t values) vars h = there tables t h.0 h.1
+step_names tables (stmt.Insert t values) vars h = slice_get_within tables t h.0 h.1
 step_names tables (stmt.Update t items conds) vars h = (tests_of vars tables t h.0 conds h.1 h.2.2, sets_of vars tables t h.0 items h.1 h.2.0)
 step_names tables (stmt.Delete t conds) vars h = tests_of vars tables t h.0 conds h.1 h.2
 step_names tables (stmt.Print values) vars h = tt

@@ -2,6 +2,8 @@
 use Rattle.std.proofs.Common.{◌≡◌, ℕ, zero, suc, ◌+◌, ◌-◌, ◌<◌, Bool, List, [], ◌∷◌, ◌++◌, Option, Some, None, Result, Ok, Err, option_to_list, length, drop, slice_get, refl, sym, ap, subst, ◌∙◌, arith, append-nil, append_assoc}
 use Rattle.std.specs.Result.{result_err}
 use Rattle.std.proofs.lemmas.Grind.{flat_map-append}
+use Rattle.std.proofs.lemmas.Bool.{lt-ltb}
+use Rattle.std.proofs.lemmas.Option.{slice_get_within}
 use Rattle.mv_catalog.specs.Statements.{size}
 use Rattle.mv_values.specs.declared.calls.End.{End}
 use Rattle.mv_values.specs.declared.patch.Write.{Write}
@@ -34,7 +36,7 @@ use Rattle.mv_exec.specs.Tasks.{places_of, state_of, left_of, IsTask, IsHeldBefo
 use Rattle.mv_exec.proofs.Leaving.{statement_first}
 use Rattle.mv_exec.proofs.Placing.{jobs_more, holding_more, site_more}
 use Rattle.mv_exec.proofs.Going.{same_all_behind, same_run}
-use Rattle.mv_exec.proofs.Turning.{FirstOf, first_of, is_below, held_last, held_outer}
+use Rattle.mv_exec.proofs.Turning.{FirstOf, first_of, held_last, held_outer}
 use Rattle.mv_exec.proofs.Inside.{inner_jobs, inside_left, inner_left}
 
 -- Records behind others
@@ -99,14 +101,9 @@ first_is tables params y s site n ss js before st e =
 some_is : {A : Type 0} (a b : A) (o : Option A) → o ≡ Some a → o ≡ Some b → a ≡ b
 some_is a b o h k = cc
 
-pub within_list : {A : Type 0} (xs : List A) (n : ℕ) (x : A) → slice_get xs n ≡ Some x → n < length xs
-within_list [] n x h = cc
-within_list (y ∷ xs) zero x h = omega arith
-within_list (y ∷ xs) (suc n) x h = let k : n < length xs = within_list xs n x h in omega arith
-
 pub from_first : {A : Type 0} (xs : List A) (n : ℕ) (x : A) → slice_get xs n ≡ Some x → drop n xs ≡ x ∷ drop (n + 1) xs
 from_first xs n x h =
-    let f : FirstOf _ xs n = first_of xs n (is_below n (length xs) (within_list xs n x h)) in
+    let f : FirstOf _ xs n = first_of xs n (lt-ltb n (length xs) (slice_get_within xs n x h)) in
     f.rest ∙ ap (λ (y : _). y ∷ drop (n + 1) xs) (some_is f.it x (slice_get xs n) f.there h)
 
 -- what a task will leave: the next statement's own record, and what comes behind it

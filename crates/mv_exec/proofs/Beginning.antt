@@ -1,5 +1,6 @@
 -- A call before its first statement.
 use Rattle.std.proofs.Common.{◌≡◌, ℕ, ◌<◌, Bool, true, false, ◌||◌, List, [], ◌∷◌, ◌++◌, Option, None, length, take, slice_set, if◌then◌else◌, refl, sym, ap, subst, ◌∙◌, arith}
+use Rattle.std.proofs.lemmas.Bool.{le-ltb, lt-ltb}
 use Rattle.mv_values.specs.declared.calls.Call.{Call}
 use Rattle.mv_values.specs.declared.schema.TableInfo.{TableInfo}
 use Rattle.mv_catalog.specs.declared.resolved.ProcInfo.{ProcInfo}
@@ -17,11 +18,9 @@ use Rattle.mv_exec.specs.Left.{left}
 use Rattle.mv_exec.specs.Env.{CallVariables, at_beginning}
 use Rattle.mv_exec.specs.Places.{block_of, holder_of, some_run, jobs_left, is_left, AreFilled, AreNumbered, EndsLeft}
 use Rattle.mv_exec.specs.Tasks.{standing, first_place, none_in, run_of, IsTask, AreHeldBefore, BeginsCall, fresh_task}
-use Rattle.mv_exec.proofs.Defining.{below_no}
 use Rattle.mv_exec.proofs.Leaving.{all_left}
 use Rattle.mv_exec.proofs.Going.{same_run}
 use Rattle.mv_exec.proofs.Placing.{no_last, same_last}
-use Rattle.mv_exec.proofs.Turning.{is_below}
 
 filled : (proc : ProcInfo) (body : List RStmt) → proc.body ≡ body → AreFilled proc None (standing (none_in body) (first_place ∷ []))
 filled proc [] e = tt
@@ -36,7 +35,7 @@ ends proc [] e outer p h = absurd (no_last outer p (sym h))
 ends proc (s ∷ ss) e outer p h =
     let k : ([] ≡ outer) × (first_place ≡ p) = same_last [] outer first_place p h in
     subst (λ q. is_left [] (block_of proc (holder_of proc None outer) q) q ≡ true) k.1
-    (ap (λ (bl : List RStmt). is_left [] bl first_place) e ∙ ap (λ b. b || false) (is_below 0 (length (s ∷ ss)) (omega arith)))
+    (ap (λ (bl : List RStmt). is_left [] bl first_place) e ∙ ap (λ b. b || false) (lt-ltb 0 (length (s ∷ ss)) (omega arith)))
 
 holders : (b : Bool) → AreHeldBefore 0 (standing b (first_place ∷ []))
 holders true = tt
@@ -73,7 +72,7 @@ fresh_run proc tables call db params env empty e v n =
 -- no write was made by a record before the first
 pub none_before : (all : List Owned) → before 0 all ≡ []
 none_before [] = refl
-none_before (o ∷ all) = ap (λ b. if b then o ∷ before 0 all else before 0 all) (below_no o.number 0 (omega arith)) ∙ none_before all
+none_before (o ∷ all) = ap (λ b. if b then o ∷ before 0 all else before 0 all) (le-ltb o.number 0 (omega arith)) ∙ none_before all
 
 pub only_first : (ps : List Place) → 0 < length ps → slice_set (take 1 ps) 0 first_place ≡ first_place ∷ []
 only_first [] lt = absurd (omega (arith, lt))

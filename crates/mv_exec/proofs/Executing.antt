@@ -1,5 +1,6 @@
 -- The record of a statement that is executed is the next one.
 use Rattle.std.proofs.Common.{◌≡◌, ℕ, ◌+◌, ◌-◌, List, [], ◌∷◌, ◌++◌, Some, None, length, drop, sym, ap, subst, ◌∙◌, arith}
+use Rattle.std.proofs.lemmas.List.{length_push}
 use Rattle.mv_values.specs.declared.schema.TableInfo.{TableInfo}
 use Rattle.mv_values.specs.Patching.{applied}
 use Rattle.mv_catalog.specs.declared.resolved.ProcInfo.{ProcInfo}
@@ -28,7 +29,6 @@ use Rattle.mv_exec.specs.Tasks.{places_of, state_of, left_of, IsTask}
 use Rattle.mv_exec.specs.Ahead.{ForeseesLeft, ahead_in}
 use Rattle.mv_exec.specs.Steps.{HasAdded, HasExecuted, record_of}
 use Rattle.mv_exec.specs.Running.{Foresees}
-use Rattle.mv_exec.proofs.Stepping.{one_more}
 use Rattle.mv_exec.proofs.Adding.{left_next}
 use Rattle.mv_exec.proofs.Writing.{own_writes}
 
@@ -69,7 +69,7 @@ effect_next proc tables task db outer p s ahead e t at next effect =
 pub counts_one : (proc : ProcInfo) (old : Task) (r : Record) (new : Task) (all number : ℕ) → HasAdded proc old r new → new.executed ≡ old.executed → all ≡ length new.records → number ≡ length old.records
     → new.executed + (all - number) ≡ old.executed + 1
 counts_one proc old r new all number h same is was =
-    let more : length new.records ≡ length old.records + 1 = ap length h.records ∙ one_more old.records r in
+    let more : length new.records ≡ length old.records + 1 = ap length h.records ∙ length_push old.records r in
     omega (arith, more, is, was, same)
 
 -- the same record was added to the call with another count

@@ -1,5 +1,6 @@
 -- The numbers of the statements that are left.
 use Rattle.std.proofs.Common.{◌≡◌, ℕ, ◌+◌, ◌^◌, ◌<◌, ◌≤◌, Bool, true, false, List, [], ◌∷◌, ◌++◌, Some, None, length, drop, slice_get, refl, sym, ap, subst, ◌∙◌, arith, append-nil}
+use Rattle.std.proofs.lemmas.Option.{slice_get_within}
 use Rattle.mv_catalog.specs.Statements.{size, size_of}
 use Rattle.mv_catalog.specs.declared.resolved.ProcInfo.{ProcInfo}
 use Rattle.mv_catalog.specs.declared.resolved.RStmt.{RStmt, out-RStmt}
@@ -12,7 +13,7 @@ use Rattle.mv_exec.specs.declared.places.Place.{Place}
 use Rattle.mv_exec.specs.Places.{body_in, branch_in, block_in, block_of, holder_of, IsNumbered, AreNumbered, StandsAt}
 use Rattle.mv_exec.specs.Moves.{branch_place, loop_place, inner_places, place_after}
 use Rattle.mv_exec.proofs.Turning.{every_last, every_outer, every_more}
-use Rattle.mv_exec.proofs.Adding.{within_list, from_first, held_statement}
+use Rattle.mv_exec.proofs.Adding.{from_first, held_statement}
 
 -- the statement at a place, and those after it
 text_at : (proc : ProcInfo) (block : List RStmt) (p : Place) (s : RStmt) → IsNumbered proc block p → slice_get block p.at ≡ Some s → HasText proc p.number (s ∷ drop (p.at + 1) block)
@@ -88,5 +89,5 @@ small_next proc ps outer p s h at short =
     let last : IsNumbered proc block p = every_last (IsNumbered proc) proc None outer p (subst (AreNumbered proc None) at.are h) in
     let rest : List RStmt = drop (p.at + 1) block in (
       omega (arith, text_fits proc p.number (s ∷ rest) (text_at proc block p s last at.stands), short),
-      omega (arith, text_fits proc p.first block last.0, long_enough block, within_list block p.at s at.stands, short),
+      omega (arith, text_fits proc p.first block last.0, long_enough block, slice_get_within block p.at s at.stands, short),
     )

@@ -1,8 +1,9 @@
 -- Places one inside another, and how many of them stay.
-use Rattle.std.proofs.Common.{◌≡◌, ℕ, zero, suc, ◌+◌, ◌-◌, ◌<◌, ◌≤◌, Bool, true, false, ◌||◌, nat_lt, List, [], ◌∷◌, ◌++◌, Option, Some, None, length, take, drop, ◌⊎◌, inl, inr, refl, sym, ap, subst, ◌∙◌, arith, append-nil, append_assoc, add-one, slice_get}
+use Rattle.std.proofs.Common.{◌≡◌, ℕ, ◌+◌, ◌-◌, ◌<◌, Bool, true, false, nat_lt, List, [], ◌∷◌, ◌++◌, Option, Some, None, length, take, drop, ◌⊎◌, inl, inr, refl, sym, ap, subst, ◌∙◌, arith, append-nil, append_assoc, add-one, slice_get}
 use Rattle.std.proofs.Math.Seq.{take-suc}
-use Rattle.std.proofs.lemmas.Bool.Decides.{nat_tests}
 use Rattle.std.specs.Prelude.{slice_index_or}
+use Rattle.std.proofs.lemmas.Bool.{ltb-false, or_parts}
+use Rattle.std.proofs.lemmas.List.{drop_all}
 use Rattle.mv_catalog.specs.declared.resolved.ProcInfo.{ProcInfo}
 use Rattle.mv_catalog.specs.declared.resolved.RStmt.{RStmt}
 use Rattle.mv_record.specs.declared.record.Record.{Record}
@@ -27,21 +28,8 @@ same_last (a ∷ xs) (b ∷ ys) x y e =
     let k : a ≡ b = cc in
     (cc, h.1)
 
-not_below : (n m : ℕ) → nat_lt n m ≡ false → m ≤ n
-not_below n m h = grind (arith, nat_tests)
-
-pub drop_past : {A : Type 0} (xs : List A) (n : ℕ) → length xs ≤ n → drop n xs ≡ []
-drop_past [] zero h = refl
-drop_past [] (suc n) h = refl
-drop_past (x ∷ xs) zero h = absurd (omega (arith, h))
-drop_past (x ∷ xs) (suc n) h = drop_past xs n (omega (arith, h))
-
 pub none_past : {A : Type 0} (xs : List A) (n : ℕ) → nat_lt n (length xs) ≡ false → drop n xs ≡ []
-none_past xs n h = drop_past xs n (not_below n (length xs) h)
-
-neither : (a b : Bool) → a || b ≡ false → (a ≡ false) × (b ≡ false)
-neither true b h = cc
-neither false b h = (refl, h)
+none_past xs n h = drop_all n xs (ltb-false n (length xs) h)
 
 -- Places
 
@@ -70,7 +58,7 @@ no_turns rs block site first (by.Loop number x k) e = rw (none_past (loop_rows r
 -- nothing is left where neither a statement nor a turn is
 pub none_here : (rs : List Record) (block : List RStmt) (site : Site) (p : Place) → is_left rs block p ≡ false → jobs_here rs block site p ≡ []
 none_here rs block site p e =
-    let h : (nat_lt p.at (length block) ≡ false) × (has_turn rs p.holder ≡ false) = neither (nat_lt p.at (length block)) (has_turn rs p.holder) e in
+    let h : (nat_lt p.at (length block) ≡ false) × (has_turn rs p.holder ≡ false) = or_parts (nat_lt p.at (length block)) (has_turn rs p.holder) e in
     rw (none_past block p.at h.0) (no_turns rs block site p.first p.holder h.1)
 
 -- How many stay

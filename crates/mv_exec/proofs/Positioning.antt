@@ -1,5 +1,6 @@
 -- Where a call goes on there is a statement, which has a node.
 use Rattle.std.proofs.Common.{◌≡◌, ℕ, ◌+◌, ◌-◌, ◌<◌, ◌≤◌, ◌^◌, Bool, true, false, not, nat_lt, List, [], ◌∷◌, ◌++◌, Some, None, length, drop, slice_get, refl, sym, ap, subst, ◌∙◌, arith}
+use Rattle.std.proofs.lemmas.Bool.{lt-ltb, not-false, not-true}
 use Rattle.mv_catalog.specs.Statements.{size, size_of}
 use Rattle.mv_catalog.specs.declared.resolved.ProcInfo.{ProcInfo}
 use Rattle.mv_catalog.specs.declared.resolved.RExpr.{RExpr}
@@ -16,7 +17,7 @@ use Rattle.mv_exec.specs.declared.task.Task.{Task}
 use Rattle.mv_exec.specs.Places.{block_of, holder_of, has_turn, next_turn, place_due, AreFilled}
 use Rattle.mv_exec.specs.Tasks.{places_of, IsTask}
 use Rattle.mv_exec.specs.Ahead.{GoesOn}
-use Rattle.mv_exec.proofs.Turning.{FirstOf, first_of, is_below, standing_live, turn_owed, turned_task, same_block, filled_last}
+use Rattle.mv_exec.proofs.Turning.{FirstOf, first_of, standing_live, turn_owed, turned_task, same_block, filled_last}
 use Rattle.mv_exec.proofs.Numbering.{text_next}
 use Rattle.mv_exec.proofs.Foreseeing.{due_turn, in_turn, stands_here}
 
@@ -24,20 +25,12 @@ use Rattle.mv_exec.proofs.Foreseeing.{due_turn, in_turn, stands_here}
 pub some_place : (proc : ProcInfo) (task : Task) (ps : List Place) → IsTask proc task → ps ≡ task.places → ps ≡ [] → ⊥
 some_place proc task ps t is none = let l : length task.places ≡ 0 = ap length (sym is ∙ none) in absurd (omega (arith, t.some, l))
 
-not_so : (b : Bool) → not b ≡ true → b ≡ false
-not_so true e = cc
-not_so false e = refl
-
-so : (b : Bool) → not b ≡ false → b ≡ true
-so true e = refl
-so false e = cc
-
 -- a turn that is due is there
 pub turn_there : (proc : ProcInfo) (task : Task) (rs : List Record) (ps outer : List Place) (last : Place) (block : List RStmt) (b : Bool) → IsTask proc task → task.ended ≡ false → ps ≡ task.places
     → rs ≡ task.records → ps ≡ outer ++ last ∷ [] → block ≡ block_of proc (holder_of proc None outer) last → b ≡ nat_lt last.at (length block) → not b ≡ true → has_turn rs last.holder ≡ true
 turn_there proc task rs ps outer last block b t live same records are is at due =
     turn_owed proc task rs ps outer last t live same records are
-    (ap (λ (bl : List RStmt). nat_lt last.at (length bl)) (sym is) ∙ (sym at ∙ not_so b due))
+    (ap (λ (bl : List RStmt). nat_lt last.at (length bl)) (sym is) ∙ (sym at ∙ not-true b due))
 
 filled_here : (proc : ProcInfo) (task : Task) (outer : List Place) (last : Place) → IsTask proc task → task.ended ≡ false → task.places ≡ outer ++ last ∷ []
     → 0 < length (block_of proc (holder_of proc None outer) last)
@@ -48,9 +41,9 @@ within_block : (proc : ProcInfo) (task : Task) (outer : List Place) (last place 
     → block ≡ block_of proc (holder_of proc None outer) last → b ≡ nat_lt last.at (length block) → turn ≡ not b → place ≡ place_due turn last → nat_lt place.at (length block) ≡ true
 within_block proc task outer last place block b true t live are is at due where_is =
     ap (λ (p : Place). nat_lt p.at (length block)) where_is
-    ∙ is_below 0 (length block) (subst (λ (bl : List RStmt). 0 < length bl) (sym is) (filled_here proc task outer last t live are))
+    ∙ lt-ltb 0 (length block) (subst (λ (bl : List RStmt). 0 < length bl) (sym is) (filled_here proc task outer last t live are))
 within_block proc task outer last place block b false t live are is at due where_is =
-    ap (λ (p : Place). nat_lt p.at (length block)) where_is ∙ (sym at ∙ so b (sym due))
+    ap (λ (p : Place). nat_lt p.at (length block)) where_is ∙ (sym at ∙ not-false b (sym due))
 
 pub none_there : (proc : ProcInfo) (task : Task) (ps outer : List Place) (last place : Place) (block : List RStmt) (b turn : Bool) → IsTask proc task → task.ended ≡ false → ps ≡ task.places
     → ps ≡ outer ++ last ∷ [] → block ≡ block_of proc (holder_of proc None outer) last → b ≡ nat_lt last.at (length block) → turn ≡ not b → place ≡ place_due turn last
@@ -138,7 +131,7 @@ none_size g n s ss is none text =
 pub text_further : (proc : ProcInfo) (n m : ℕ) (ss : List RStmt) (i : ℕ) → i < length ss → HasText proc n (drop i ss) → ((s : RStmt) (rest : List RStmt) → HasText proc n (s ∷ rest) → m ≡ size s)
     → (HasText proc (n + m) (drop (i + 1) ss)) × (n + m + size_of (drop (i + 1) ss) ≡ n + size_of (drop i ss))
 text_further proc n m ss i lt text sized =
-    let f : FirstOf RStmt ss i = first_of ss i (is_below i (length ss) lt) in
+    let f : FirstOf RStmt ss i = first_of ss i (lt-ltb i (length ss) lt) in
     let s : RStmt = f.it in
     let split : drop i ss ≡ s ∷ drop (i + 1) ss = f.rest in
     let here : HasText proc n (s ∷ drop (i + 1) ss) = subst (HasText proc n) split text in

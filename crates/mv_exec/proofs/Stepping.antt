@@ -1,7 +1,8 @@
 -- A call behind one record more.
-use Rattle.std.proofs.Common.{◌≡◌, ◌≢◌, ℕ, ◌+◌, ◌<◌, ◌≤◌, Bool, true, false, List, [], ◌∷◌, ◌++◌, Option, Some, None, All, length, take, slice_get, slice_set, if◌then◌else◌, ◌==◌, refl, sym, ap, subst, ◌∙◌, arith, append-nil, length-append}
+use Rattle.std.proofs.Common.{◌≡◌, ◌≢◌, ℕ, ◌+◌, ◌<◌, ◌≤◌, Bool, true, false, List, [], ◌∷◌, ◌++◌, Option, Some, None, All, length, take, slice_get, slice_set, if◌then◌else◌, ◌==◌, refl, sym, ap, subst, ◌∙◌, arith, append-nil}
 use Rattle.std.specs.List.{list_any}
 use Rattle.std.specs.Option.{is_some}
+use Rattle.std.proofs.lemmas.List.{length_push}
 use Rattle.mv_catalog.specs.Statements.{size, size_of}
 use Rattle.mv_values.specs.declared.calls.End.{End}
 use Rattle.mv_values.specs.declared.schema.TableInfo.{TableInfo}
@@ -143,9 +144,6 @@ pub record IsKept (proc : ProcInfo) (task : Task) : Type 0 where
   pub definers : (x : ℕ) → definer_in task.definers x ≡ last_place (sets_variable x) 0 task.records
   pub counted : task.executed ≤ length task.records
 
-pub one_more : (rs : List Record) (r : Record) → length (rs ++ r ∷ []) ≡ length rs + 1
-one_more rs r = omega (arith, length-append rs (r ∷ []))
-
 undo_then : (rs : List Record) (r : Record) → undo_of_all 0 (rs ++ r ∷ []) ≡ undo_of_all 0 rs ++ undo_of (length rs) r.writes
 undo_then rs r = undo_more 0 rs r ∙ ap (λ n. undo_of_all 0 rs ++ undo_of n r.writes) (let e : 0 + length rs ≡ length rs = omega arith in e)
 
@@ -166,12 +164,12 @@ pub going_kept : (proc : ProcInfo) (task : Task) (r : Record) (env : Env) (outer
 going_kept proc task r env outer p s b t at = record {
   filled = going_filled proc (length task.records) (places_of task) outer p s b at t.filled;
   numbers = numbered_on proc (places_of task) outer p s (length task.records) b t.numbers at;
-  holders = subst (λ n. AreHeldBefore n (going (length task.records) outer p s b)) (sym (one_more task.records r)) (going_held proc (length task.records) (places_of task) outer p s b at t.holders);
+  holders = subst (λ n. AreHeldBefore n (going (length task.records) outer p s b)) (sym (length_push task.records r)) (going_held proc (length task.records) (places_of task) outer p s b at t.holders);
   some = going_some (length task.records) outer p s b;
   empty = t.empty;
   undo = ap (λ os. os ++ undo_of (length task.records) r.writes) t.undo ∙ sym (undo_then task.records r);
   definers = definers_then task.definers task.records r t.definers;
-  counted = omega (arith, t.counted, one_more task.records r);
+  counted = omega (arith, t.counted, length_push task.records r);
 }
 
 trimmed_task : (proc : ProcInfo) (mid new : Task) → IsKept proc mid → IsTrimmed proc mid new → IsTask proc new

@@ -1,6 +1,6 @@
 -- A loop's next turn.
 use Rattle.std.proofs.Common.{◌≡◌, ℕ, zero, suc, ◌+◌, ◌-◌, ◌<◌, Bool, true, false, ◌||◌, nat_lt, List, [], ◌∷◌, ◌++◌, Option, Some, None, length, drop, slice_get, slice_set, refl, sym, ap, subst, ◌∙◌, arith, add-one, length-append}
-use Rattle.std.proofs.lemmas.Bool.Decides.{nat_tests}
+use Rattle.std.proofs.lemmas.Bool.{lt-ltb, ltb-true}
 use Rattle.mv_values.specs.declared.value.Value.{Value}
 use Rattle.mv_values.specs.declared.schema.TableInfo.{TableInfo}
 use Rattle.mv_catalog.specs.declared.resolved.ProcInfo.{ProcInfo}
@@ -23,12 +23,6 @@ use Rattle.mv_exec.proofs.Going.{same_behind, same_turns}
 
 -- Lists
 
-below : (n m : ℕ) → nat_lt n m ≡ true → n < m
-below n m h = grind (arith, nat_tests)
-
-pub is_below : (n m : ℕ) → n < m → nat_lt n m ≡ true
-is_below n m h = grind (arith, nat_tests)
-
 record First (A : Type 0) (xs : List A) (n : ℕ) : Type 0 where
   it : A
   rest : drop n xs ≡ it ∷ drop (suc n) xs
@@ -45,7 +39,7 @@ pub record FirstOf (A : Type 0) (xs : List A) (n : ℕ) : Type 0 where
   pub there : slice_get xs n ≡ Some it
 
 pub first_of : {A : Type 0} (xs : List A) (n : ℕ) → nat_lt n (length xs) ≡ true → FirstOf A xs n
-first_of xs n h = let f : First _ xs n = first xs n (below n (length xs) h) in record { it = f.it; rest = rw add-one f.rest; there = f.there }
+first_of xs n h = let f : First _ xs n = first xs n (ltb-true n (length xs) h) in record { it = f.it; rest = rw add-one f.rest; there = f.there }
 
 pub set_last : {A : Type 0} (xs : List A) (x y : A) → slice_set (xs ++ x ∷ []) (length (xs ++ x ∷ []) - 1) y ≡ xs ++ y ∷ []
 set_last xs x y = subst (λ n. slice_set (xs ++ x ∷ []) n y ≡ xs ++ y ∷ []) (omega (arith, length-append xs (x ∷ []))) (at xs)
@@ -172,7 +166,7 @@ turned_task proc old outer p t due =
           let h : (outer ≡ o) × (next_turn p ≡ q) = same_last outer o (next_turn p) q e in
           subst (λ r. is_left old.records (block_of proc (holder_of proc None o) r) r ≡ true) h.1
           (subst (λ os. is_left old.records (block_of proc (holder_of proc None os) (next_turn p)) (next_turn p) ≡ true) h.0
-          (one_left (nat_lt 0 (length (block_of proc (holder_of proc None outer) (next_turn p)))) (has_turn old.records (in_next_turn p.holder)) (is_below 0 _ filled)));
+          (one_left (nat_lt 0 (length (block_of proc (holder_of proc None outer) (next_turn p)))) (has_turn old.records (in_next_turn p.holder)) (lt-ltb 0 _ filled)));
       holders = held_more (length old.records) outer (next_turn p) (held_outer (length old.records) outer p (subst (AreHeldBefore (length old.records)) due.are t.holders))
           (same_holder (length old.records) p.holder (held_last (length old.records) outer p (subst (AreHeldBefore (length old.records)) due.are t.holders)));
       some = omega (arith, length-append outer (next_turn p ∷ []));
@@ -185,7 +179,7 @@ turned_task proc old outer p t due =
 -- a statement is there
 pub turned_first : (proc : ProcInfo) (old : Task) (outer : List Place) (p : Place) → IsTask proc old → IsDue proc (places_of old) outer p
     → nat_lt 0 (length (block_of proc (holder_of proc None outer) (next_turn p))) ≡ true
-turned_first proc old outer p t due = is_below 0 _ (next_filled proc old outer p t due)
+turned_first proc old outer p t due = lt-ltb 0 _ (next_filled proc old outer p t due)
 
 pub turned_before : (proc : ProcInfo) (old : Task) (outer : List Place) (p : Place) → IsTask proc old → IsDue proc (places_of old) outer p → StandsAsBefore proc old (after_turn old outer p)
 turned_before proc old outer p t due = record {

@@ -1,6 +1,7 @@
 -- A call's own writes are those of its records.
 use Rattle.std.proofs.Common.{◌≡◌, ◌≤◌, ◌<◌, ◌+◌, ℕ, zero, suc, Bool, true, false, List, [], ◌∷◌, ◌++◌, map, length, take, nat_lt, if◌then◌else◌, refl, sym, ap, subst, ◌∙◌, arith}
 use Rattle.std.proofs.lemmas.List.{take_all}
+use Rattle.std.proofs.lemmas.Bool.{lt-ltb, le-ltb}
 use Rattle.mv_values.specs.declared.patch.Write.{Write}
 use Rattle.mv_values.specs.declared.schema.TableInfo.{TableInfo}
 use Rattle.mv_values.specs.Patching.{applied}
@@ -14,7 +15,6 @@ use Rattle.mv_undo.specs.Owning.{before, earlier, HasWritesOf}
 use Rattle.mv_exec.specs.declared.task.Task.{Task}
 use Rattle.mv_exec.specs.Keeping.{undo_of, undo_of_all}
 use Rattle.mv_exec.specs.Tasks.{IsTask}
-use Rattle.mv_exec.proofs.Defining.{below_yes, below_no}
 
 -- the writes that are earlier than a number, in two lists
 earlier_both : (number : ℕ) (xs ys : List Owned) → earlier number (xs ++ ys) ≡ earlier number xs ++ earlier number ys
@@ -30,13 +30,13 @@ earlier_both number (x ∷ xs) ys = by (nat_lt x.number number) (earlier_both nu
 earlier_undo : (number n : ℕ) (ws : List Write) → n < number → earlier number (undo_of n ws) ≡ ws
 earlier_undo number n [] lt = refl
 earlier_undo number n (w ∷ ws) lt =
-    ap (λ b. let o : Owned = record { number = n; write = w } in map (λ (o : Owned). o.write) (if b then o ∷ before number (undo_of n ws) else before number (undo_of n ws))) (below_yes n number lt)
+    ap (λ b. let o : Owned = record { number = n; write = w } in map (λ (o : Owned). o.write) (if b then o ∷ before number (undo_of n ws) else before number (undo_of n ws))) (lt-ltb n number lt)
     ∙ ap (λ vs. w ∷ vs) (earlier_undo number n ws lt)
 
 later_undo : (number n : ℕ) (ws : List Write) → number ≤ n → earlier number (undo_of n ws) ≡ []
 later_undo number n [] le = refl
 later_undo number n (w ∷ ws) le =
-    ap (λ b. let o : Owned = record { number = n; write = w } in map (λ (o : Owned). o.write) (if b then o ∷ before number (undo_of n ws) else before number (undo_of n ws))) (below_no n number le)
+    ap (λ b. let o : Owned = record { number = n; write = w } in map (λ (o : Owned). o.write) (if b then o ∷ before number (undo_of n ws) else before number (undo_of n ws))) (le-ltb n number le)
     ∙ later_undo number n ws le
 
 none_earlier : (number n : ℕ) (rs : List Record) → number ≤ n → earlier number (undo_of_all n rs) ≡ []

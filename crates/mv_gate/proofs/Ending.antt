@@ -20,6 +20,7 @@ use Rattle.mv_core.specs.declared.script.Script.{Script}
 use Rattle.mv_core.specs.Scripts.{work_of}
 use Rattle.mv_core.specs.Calls.{IsLiveCall}
 use Rattle.mv_values.specs.declared.memory.NoMemory.{NoMemory}
+use Rattle.mv_values.proofs.Deciding.{some_at}
 use Rattle.mv_core.specs.declared.book.Begun.{Begun}
 use Rattle.mv_core.specs.Books.{Booked, work_in, Made, IsSame, HasBegun as HasNext}
 use Rattle.mv_core.specs.Cores.{HasMovedAndCommitted}
@@ -53,11 +54,6 @@ pub events_both : (a b c : List Event) → IsPrefix a b → IsPrefix b c → IsP
 events_both a b c p q = subst (IsPrefix a) q.1 (prefix_more a b q.0 p)
 
 -- Calls that have committed
-
-get_there : {T : Type 0} (xs : List T) (c : ℕ) → c < length xs → (x : T) × (slice_get xs c ≡ Some x)
-get_there [] c lt = absurd (omega (arith, lt))
-get_there (x ∷ xs) zero lt = (x, refl)
-get_there (x ∷ xs) (suc c) lt = get_there xs c (omega (arith, lt))
 
 done_still : (ls : List Live) (c : ℕ) (f : Live → Live) (l : Live) → slice_get ls c ≡ Some l → l.done ≡ false → (d : ℕ) → (m : Live) × (slice_get ls d ≡ Some m) × (m.done ≡ true)
     → (m : Live) × (slice_get (change_live (slice_get ls c) f ls c) d ≡ Some m) × (m.done ≡ true)
@@ -185,7 +181,7 @@ keeps_commit (Err e) c old new made same live = keeps_same old new same
 
 -- a call that has begun and isn't live has committed
 pub shut : (s : Course) (c : ℕ) → c < length s.calls → (IsLiveCall s c → ⊥) → IsDone s c
-shut s c lt never = there (get_there s.calls c lt) where
+shut s c lt never = there (some_at s.calls c lt) where
   ended : (l : Live) → slice_get s.calls c ≡ Some l → (b : Bool) → l.done ≡ b → b ≡ true
   ended l at true is = refl
   ended l at false is = absurd (never (l, record { at = at; live = is }))

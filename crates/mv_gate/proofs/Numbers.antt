@@ -1,9 +1,9 @@
 -- How the last round of a call came about, and its number.
-use Rattle.std.proofs.Common.{◌≡◌, ℕ, zero, suc, ◌-◌, ◌≤◌, ◌<◌, Bool, true, false, not, List, [], ◌∷◌, Option, Some, None, length, refl, sym, ap, ◌∙◌, arith, rules}
+use Rattle.std.proofs.Common.{◌≡◌, ℕ, zero, suc, ◌-◌, ◌≤◌, ◌<◌, true, false, not, List, [], ◌∷◌, Option, Some, None, length, refl, sym, ap, ◌∙◌, arith, rules}
 use Rattle.std.specs.Prelude.{slice_index_or}
 use Rattle.std.specs.Option.{option_eq}
 use Rattle.std.proofs.lemmas.Bool.Decides.{eqb_tells}
-use Rattle.std.proofs.lemmas.Bool.{eqb-true}
+use Rattle.std.proofs.lemmas.Bool.{eqb-true, not-false}
 use lib.Dec.{eqb}
 use Rattle.mv_journal.specs.declared.outcome.Mark.{Mark}
 use Rattle.mv_journal.specs.declared.outcome.Mark.TheVariants.{Plain, Exclusive, Moved}
@@ -80,10 +80,7 @@ pub same_starts : (a b : Option ℕ) → not (option_eq eqb a b) ≡ false → a
 same_starts None None h = refl
 same_starts None (Some y) h = absurd (search (rules, h))
 same_starts (Some x) None h = absurd (search (rules, h))
-same_starts (Some x) (Some y) h = ap Some (eqb-true x y (by (eqb x y) h)) where
-  by : (t : Bool) → not t ≡ false → t ≡ true
-  by true e = refl
-  by false e = absurd (search (rules, e))
+same_starts (Some x) (Some y) h = ap Some (eqb-true x y (not-false (eqb x y) h))
 
 pub starts_apart : (a b : Option ℕ) → not (option_eq eqb a b) ≡ true → a ≡ b → ⊥
 starts_apart None None h e = search (rules, h)

@@ -6,6 +6,7 @@ use Rattle.std.specs.Option.{option_map, is_some}
 use Rattle.std.proofs.lemmas.Bool.Decides.{eqb_tells}
 use Rattle.std.proofs.lemmas.Grind.{flat_map-append}
 use Rattle.std.proofs.lemmas.List.Elements.{filter-append}
+use Rattle.std.proofs.lemmas.Bool.{le-ltb}
 use Rattle.mv_record.specs.declared.record.Record.{Record}
 use Rattle.mv_record.specs.Runs.{Tables}
 use Rattle.mv_journal.specs.declared.event.Event.{Event}
@@ -152,13 +153,10 @@ begin_free w n less = ap (λ b. unless (b && nat_lt n w.count) Order None) next 
     room : nat_lt n w.count ≡ true
     room = grind (arith, less)
 
-not_before : (n : ℕ) → nat_lt n 0 ≡ false
-not_before n = grind arith
-
 commit_free : (w : Work) (n : ℕ) → refusal w (one_live n n) (C n) ≡ None
 commit_free w n =
     ap (λ o. of_live o (λ l. unless (not (nat_lt l.start 0)) Stale (unless (not (is_some (hit_of w (numbers n) l.start n))) Conflict None))) (at_end (done_calls n) (begin n) n (length_calls n))
-    ∙ (ap (λ b. unless (not b) Stale (unless (not (is_some (hit_of w (numbers n) n n))) Conflict None)) (not_before n) ∙ ap (λ h. unless (not (is_some h)) Conflict None) (no_hit w n n))
+    ∙ (ap (λ b. unless (not b) Stale (unless (not (is_some (hit_of w (numbers n) n n))) Conflict None)) (le-ltb n 0 (omega arith)) ∙ ap (λ h. unless (not (is_some h)) Conflict None) (no_hit w n n))
 
 commit_done : (w : Work) (n : ℕ) → after w (one_live n n) (C n) ≡ turned (suc n)
 commit_done w n =

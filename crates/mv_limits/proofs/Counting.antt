@@ -3,6 +3,7 @@ use Rattle.std.proofs.Common.{◌≡◌, ◌<◌, ◌≤◌, ℕ, ◌+◌, ◌-�
 use Rattle.std.specs.Prelude.{slice_get}
 use Rattle.std.proofs.Math.Seq.{drop-cons}
 use Rattle.std.proofs.lemmas.List.{drop_all, take_all}
+use Rattle.mv_values.proofs.Deciding.{from_place}
 use Rattle.mv_ast.specs.declared.lexeme.Lexeme.{Lexeme}
 use Rattle.mv_ast.specs.declared.tree.Item.{Item}
 use Rattle.mv_ast.specs.declared.limit.Passed.{Passed}
@@ -12,7 +13,7 @@ use Rattle.mv_ast.specs.Texts.{spelling}
 use Rattle.mv_ast.specs.Limits.{at_token, sooner, soonest, own_passes, size_passes, token_passes, too_many, too_many_items, is_counted}
 use Rattle.mv_limits.specs.declared.cursor.Cursor.{Cursor}
 use Rattle.mv_limits.specs.Places.{place_of, seek}
-use Rattle.mv_limits.proofs.Joining.{soonest_joined, soonest_none, found_at, from_place}
+use Rattle.mv_limits.proofs.Joining.{soonest_joined, soonest_none, found_at}
 
 token_step : (bytes : List ℕ) (l : Lexeme) (rest : List Lexeme) (b middle next all : Option Passed) → middle ≡ soonest b (own_passes l.kind (spelling bytes l) l.number)
     → next ≡ soonest middle (size_passes bytes (l ∷ rest)) → soonest b (token_passes bytes (l ∷ rest)) ≡ all → soonest next (token_passes bytes rest) ≡ all

@@ -1,8 +1,8 @@
 -- Walks over lists that are joined.
-use Rattle.std.proofs.Common.{◌≡◌, ◌<◌, ◌≤◌, ℕ, zero, suc, ◌+◌, List, [], ◌∷◌, ◌++◌, Option, Some, None, refl, sym, ap, ◌∙◌, length, map, drop, get_or, add-one}
+use Rattle.std.proofs.Common.{◌≡◌, ◌<◌, ◌≤◌, ℕ, zero, suc, ◌+◌, List, [], ◌∷◌, ◌++◌, Option, Some, None, refl, sym, ap, ◌∙◌, length, map, drop, get_or}
 use Rattle.std.specs.Prelude.{slice_get}
-use Rattle.std.proofs.Math.Seq.{drop-cons}
 use Rattle.std.proofs.lemmas.List.{drop_all}
+use Rattle.mv_values.proofs.Deciding.{from_place}
 use Rattle.mv_ast.specs.declared.tree.Expr.{Expr}
 use Rattle.mv_ast.specs.declared.tree.Stmt.{Stmt}
 use Rattle.mv_ast.specs.declared.tree.Stmt.TheOpen as open'
@@ -30,10 +30,6 @@ seek_joined p (t ∷ ts) us = seek_joined (step p t) ts us
 pub seek_none : (p : Cursor) → seek p [] ≡ p
 unfolding seek
 seek_none p = refl
-
--- a list from a place on
-pub from_place : {A : Type 0} (xs : List A) (k : ℕ) (x : A) → k < length xs → x ≡ get_or xs k x → drop k xs ≡ x ∷ drop (k + 1) xs
-from_place xs k x h is = drop-cons xs k x h ∙ (ap (λ y. y ∷ drop (suc k) xs) (sym is) ∙ ap (λ n. x ∷ drop n xs) (sym (add-one k)))
 
 -- one item further, in a walk that takes the items in turn
 turn : {A B S : Type 0} (F : S → List B → S) (f : A → List B) (xs : List A) (k : ℕ) (x : A) (s next all : S) → ((s : S) (ps qs : List B) → F s (ps ++ qs) ≡ F (F s ps) qs)

@@ -1,7 +1,6 @@
 -- An expression is read at each level from its pieces there, if it is at its own.
 use Rattle.std.proofs.Common.{◌≡◌, ◌⊎◌, ℕ, zero, suc, ◌+◌, ◌-◌, ◌≤◌, Bool, true, false, nat_lt, List, [], ◌∷◌, ◌++◌, None, refl, sym, ap, subst, ◌∙◌, append-nil, arith, inl, inr}
-use Rattle.std.proofs.lemmas.Bool.{ltb-false}
-use Rattle.std.proofs.lemmas.Bool.Decides.{nat_tests}
+use Rattle.std.proofs.lemmas.Bool.{ltb-false, le-ltb}
 use Rattle.mv_ast.specs.declared.lexeme.Lexeme.{Lexeme}
 use Rattle.mv_ast.specs.declared.lexeme.Terminal.TheVariants as word
 use Rattle.mv_ast.specs.declared.tree.Expr.{Expr, out-Expr, fold_out-Expr}
@@ -133,13 +132,10 @@ printable_at {text = text} {e = e} level n false b h c =
 printable_at {text = text} {e = e} level n true b h c =
     subst (λ r. Prints text (part_at n text) (Same e) r) (sym (c.within n h b)) (prints_down 7 n h (prints_parens e (prints_down level 0 (omega arith) c.prints)))
 
-not_below : (n : ℕ) → nat_lt n 0 ≡ false
-not_below n = grind (arith, nat_tests)
-
 wrapped_at : {text : List ℕ} {e : Expr} (level n : ℕ) (b : Bool) → nat_lt level n ≡ b → n ≤ 7 → Core text e level
     → (expr_pieces e n ≡ expr_pieces e 0) ⊎ (expr_pieces e n ≡ key word.Open ∷ (expr_pieces e 0 ++ key word.Close ∷ []))
-wrapped_at level n false b h c = inl (c.bare n h b ∙ sym (c.bare 0 (omega arith) (not_below level)))
-wrapped_at level n true b h c = inr (c.within n h b ∙ ap (λ r. key word.Open ∷ (r ++ key word.Close ∷ [])) (sym (c.bare 0 (omega arith) (not_below level))))
+wrapped_at level n false b h c = inl (c.bare n h b ∙ sym (c.bare 0 (omega arith) (le-ltb level 0 (omega arith))))
+wrapped_at level n true b h c = inr (c.within n h b ∙ ap (λ r. key word.Open ∷ (r ++ key word.Close ∷ [])) (sym (c.bare 0 (omega arith) (le-ltb level 0 (omega arith)))))
 
 pub printable_of : {text : List ℕ} {e : Expr} (level : ℕ) → Core text e level → Printable text e
 printable_of level c = (λ n h. printable_at level n (nat_lt level n) refl h c, λ n h. wrapped_at level n (nat_lt level n) refl h c)

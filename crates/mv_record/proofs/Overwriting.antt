@@ -1,7 +1,7 @@
 -- Items that set columns, one list after another.
 use Rattle.std.proofs.Common.{◌≡◌, ◌==◌, ℕ, Bool, true, false, List, [], ◌∷◌, ◌++◌, refl, sym, ap, subst, ◌∙◌, inl, inr}
 use Rattle.std.specs.Prelude.{◌||◌, slice_set}
-use Rattle.std.proofs.lemmas.Bool.{cases_Bool, eqb-true, eq-eqb}
+use Rattle.std.proofs.lemmas.Bool.{cases_Bool, eqb-true, eqb-false, false≢true}
 use Rattle.std.proofs.lemmas.List.{set-set, set_comm}
 use Rattle.mv_values.specs.declared.value.Value.{Value}
 use Rattle.mv_values.specs.declared.patch.Assign.{Assign}
@@ -20,23 +20,17 @@ set_either : (c : ℕ) (xs ys : List Assign) → is_set c ys ≡ true → is_set
 set_either c [] ys h = h
 set_either c (x ∷ xs) ys h = either (x.column == c) (is_set c (xs ++ ys)) (set_either c xs ys h)
 
-no_truth : false ≡ true → ⊥
-no_truth e = cc
-
 -- a value that a later item overwrites
 overwritten : (c : ℕ) (v : Value) (items : List Assign) (row : List Value) → is_set c items ≡ true → with_columns items (slice_set row c v) ≡ with_columns items row
-overwritten c v [] row h = absurd (no_truth h)
+overwritten c v [] row h = absurd (false≢true h)
 overwritten c v (b ∷ bs) row h = elim (cases_Bool (b.column == c)) [
   | inl t ↦
       let same : b.column ≡ c = eqb-true b.column c t in
       ap (with_columns bs) (subst (λ x. slice_set (slice_set row x v) b.column b.value ≡ slice_set row b.column b.value) same (set-set row b.column v b.value))
   | inr f ↦
       let rest : is_set c bs ≡ true = rw f at h in
-      ap (with_columns bs) (set_comm row c b.column v b.value (λ e. differ b.column c (sym e) f)) ∙ overwritten c v bs (slice_set row b.column b.value) rest
+      ap (with_columns bs) (set_comm row c b.column v b.value (λ e. eqb-false b.column c f (sym e))) ∙ overwritten c v bs (slice_set row b.column b.value) rest
 ]
-  where
-    differ : (a b : ℕ) → a ≡ b → (a == b) ≡ false → ⊥
-    differ a b e f = no_truth (sym f ∙ eq-eqb a b e)
 
 -- the items left, and then the next ones, do what all do
 left_is : (xs next : List Assign) (row : List Value) → with_columns next (with_columns (left_by next xs) row) ≡ with_columns next (with_columns xs row)

@@ -7,7 +7,7 @@ use Rattle.std.specs.declared.cmp.Ordering.{Ordering}
 use Rattle.std.specs.declared.cmp.Ordering.TheVariants.{Less, Equal, Greater}
 use Rattle.std.proofs.lemmas.List.Elements.{All-nil, All-cons}
 use Rattle.std.proofs.lemmas.List.Kept.{AllPairs-cons}
-use Rattle.std.proofs.lemmas.Option.{none-some}
+use Rattle.std.proofs.lemmas.Option.{none-some, same_Some}
 use Rattle.std.proofs.lemmas.Bool.{both_ways}
 use Rattle.mv_values.specs.declared.value.Value.{Value}
 use Rattle.mv_values.specs.declared.rows.Keyed.{Keyed}
@@ -84,9 +84,6 @@ same_rows (x ∷ xs) (y ∷ ys) h g f = by (key_order x.key y.key) refl (same_ro
     tails e key Less is = sym (row_later x xs key (ap is_eq is)) ∙ (f key ∙ row_later y ys key (ap (λ k. is_eq (key_order k key)) (sym (exact_keys x.key y.key e)) ∙ ap is_eq is))
     tails e key Greater is = sym (row_later x xs key (ap is_eq is)) ∙ (f key ∙ row_later y ys key (ap (λ k. is_eq (key_order k key)) (sym (exact_keys x.key y.key e)) ∙ ap is_eq is))
 
-    some_same : {A : Type 0} (a b : A) → ◌≡◌ {A = Option A} (Some a) (Some b) → a ≡ b
-    some_same a b e = cc
-
     by : (o : Ordering) → key_order x.key y.key ≡ o → (((key : List Value) → row_of xs key ≡ row_of ys key) → xs ≡ ys) → x ∷ xs ≡ y ∷ ys
     by Less e more =
         absurd (none-some x.row (sym (f x.key ∙ row_below x.key (y ∷ ys) (e, lower x.key y.key ys e g.0)) ∙ row_here x xs x.key (same_key x.key)))
@@ -94,7 +91,7 @@ same_rows (x ∷ xs) (y ∷ ys) h g f = by (key_order x.key y.key) refl (same_ro
         let back = turned x.key y.key Greater e in
         absurd (none-some y.row (sym (sym (f y.key) ∙ row_below y.key (x ∷ xs) (back, lower y.key x.key xs back h.0)) ∙ row_here y ys y.key (same_key y.key)))
     by Equal e more =
-        let rows : x.row ≡ y.row = some_same x.row y.row (sym (row_here x xs x.key (same_key x.key)) ∙ (f x.key ∙ row_here y ys x.key (turned x.key y.key Equal e))) in
+        let rows : x.row ≡ y.row = same_Some x.row y.row (sym (row_here x xs x.key (same_key x.key)) ∙ (f x.key ∙ row_here y ys x.key (turned x.key y.key Equal e))) in
         let head : x ≡ y = keyed_same x y (exact_keys x.key y.key e) rows in
         let tail : xs ≡ ys = more (λ key. tails e key (key_order x.key key) refl) in
         cc

@@ -7,6 +7,7 @@ use Rattle.std.proofs.lemmas.Bool.Decides.{eqb_tells}
 use Rattle.std.proofs.lemmas.List.{map-append}
 use Rattle.std.proofs.lemmas.List.Elements.{filter-append}
 use Rattle.std.proofs.lemmas.List.Folds.{list_any-append}
+use Rattle.std.proofs.lemmas.Bool.{or_left, or_from, or_parts, and_right}
 use Rattle.mv_values.specs.declared.pred.Pred.{Pred}
 use Rattle.mv_values.specs.declared.patch.Patch.TheVariants.{Delete}
 use Rattle.mv_values.specs.declared.patch.Write.{Write}
@@ -27,10 +28,6 @@ first_on w = record { number = 0; write = record { table = w.table; key = w.key;
 earlier_more : (keys : List Owned) (w : Write) → earlier 1 (keys ++ first_on w ∷ []) ≡ earlier 1 keys ++ (first_on w).write ∷ []
 earlier_more keys w = ap (map (λ (o : Owned). o.write)) (filter-append _ keys (first_on w ∷ [])) ∙ map-append (λ (o : Owned). o.write) _ (first_on w ∷ [])
 
-so_still : (a b : Bool) → a ≡ true → (a || b) ≡ true
-so_still true b h = refl
-so_still false b h = cc
-
 so_last : (a b : Bool) → b ≡ true → (a || (b || false)) ≡ true
 so_last true b h = refl
 so_last false b h = ap (λ x. x || false) h
@@ -42,7 +39,7 @@ still_known : (keys : List Owned) (w : Write) (vs : List Write) → AreKnown key
 still_known keys w vs h =
     each_map (λ v. touches v.table v.key (earlier 1 keys) ≡ true) (λ v. touches v.table v.key (earlier 1 (keys ++ first_on w ∷ [])) ≡ true) vs
     (λ v k. ap (touches v.table v.key) (earlier_more keys w)
-    ∙ (list_any-append (is_on v.table v.key) (earlier 1 keys) ((first_on w).write ∷ []) ∙ so_still (touches v.table v.key (earlier 1 keys)) (touches v.table v.key ((first_on w).write ∷ [])) k)) h
+    ∙ (list_any-append (is_on v.table v.key) (earlier 1 keys) ((first_on w).write ∷ []) ∙ or_left (touches v.table v.key (earlier 1 keys)) (touches v.table v.key ((first_on w).write ∷ [])) k)) h
 
 pub known_more : (keys : List Owned) (w : Write) (vs : List Write) → AreKnown keys vs → AreKnown (keys ++ first_on w ∷ []) (vs ++ w ∷ [])
 known_more keys w vs h =
@@ -63,11 +60,7 @@ none_sought p ws h w on = by (w.table == p.table) refl
         let table : w.table ≡ p.table = grind (arith, eqb_tells) in
         let there : touches p.table w.key ws ≡ true = ap (λ t. touches t w.key ws) (sym table) ∙ on in
         let out : admits p w.key ≡ false = sym (h.are w.key ∙ ap (λ b. b && admits p w.key) there) in
-        ap (λ b. (w.table == p.table) && (b && reaches p w.patch)) out ∙ nothing (w.table == p.table)
-      where
-        nothing : (b : Bool) → (b && false) ≡ false
-        nothing true = refl
-        nothing false = refl
+        ap (λ b. (w.table == p.table) && (b && reaches p w.patch)) out ∙ and_right (w.table == p.table) false refl
 
 abbrev pub any_touch : List Pred → List Write → Bool
 any_touch ps ws = list_any (λ w. list_any (touches_predicate w) ps) ws
@@ -76,18 +69,11 @@ pub none_touches : (ws : List Write) → any_touch [] ws ≡ false
 none_touches [] = refl
 none_touches (w ∷ ws) = none_touches ws
 
-both_false : (a b : Bool) → a ≡ false → b ≡ false → (a || b) ≡ false
-both_false a b h k = ap (λ x. x || b) h ∙ k
-
-parts_false : (a b : Bool) → (a || b) ≡ false → (a ≡ false) × (b ≡ false)
-parts_false true b h = cc
-parts_false false b h = (refl, h)
-
 -- one predicate more, which admits none of the keys
 pub no_touch_more : (keys : List Owned) (ps : List Pred) (p : Pred) (ws : List Write) → AreSought p (earlier 1 keys) [] → AreKnown keys ws → any_touch ps ws ≡ false → any_touch (ps ++ p ∷ []) ws ≡ false
 no_touch_more keys ps p [] s k h = refl
 no_touch_more keys ps p (w ∷ ws) s k h =
-    let parts = parts_false (list_any (touches_predicate w) ps) (any_touch ps ws) h in
-    both_false (list_any (touches_predicate w) (ps ++ p ∷ [])) (any_touch (ps ++ p ∷ []) ws)
-    (list_any-append (touches_predicate w) ps (p ∷ []) ∙ both_false (list_any (touches_predicate w) ps) (touches_predicate w p || false) parts.0 (both_false (touches_predicate w p) false (none_sought p (earlier 1 keys) s w k.0) refl))
+    let parts = or_parts (list_any (touches_predicate w) ps) (any_touch ps ws) h in
+    or_from (list_any (touches_predicate w) (ps ++ p ∷ [])) (any_touch (ps ++ p ∷ []) ws)
+    (list_any-append (touches_predicate w) ps (p ∷ []) ∙ or_from (list_any (touches_predicate w) ps) (touches_predicate w p || false) parts.0 (or_from (touches_predicate w p) false (none_sought p (earlier 1 keys) s w k.0) refl))
     (no_touch_more keys ps p ws s k.1 parts.1)

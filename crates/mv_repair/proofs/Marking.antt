@@ -3,7 +3,9 @@ use Rattle.std.proofs.Common.{◌≡◌, ◌<◌, ℕ, zero, suc, ◌==◌, Bool
 use Rattle.std.specs.Prelude.{◌&&◌, ◌||◌, slice_get}
 use Rattle.std.specs.Option.{option_map}
 use Rattle.std.proofs.lemmas.Bool.Decides.{eqb_tells}
-use Rattle.std.proofs.lemmas.Bool.{both_ways}
+use Rattle.std.proofs.lemmas.Bool.{both_ways, and_right}
+use Rattle.std.proofs.lemmas.Option.{same_Some}
+use Rattle.mv_values.proofs.Deciding.{or_none, some_at}
 use Rattle.mv_record.specs.declared.record.Read.{Read}
 use Rattle.mv_record.specs.Paths.{IsEarlierPath}
 use Rattle.mv_record.specs.Runs.{IsEarlier, ReadsEarlier}
@@ -21,11 +23,7 @@ not_among [] p h = refl
 not_among (k ∷ ks) p h = ap (λ b. b || among ks p) (apart_back k p h.0) ∙ not_among ks p h.1
 
 pub among_still : (kept : List Path) (p q : Path) → is_path q p ≡ false → among (kept ++ p ∷ []) q ≡ among kept q
-among_still kept p q h = among_more kept p q ∙ (ap (λ b. among kept q || b) h ∙ by (among kept q))
-  where
-    by : (b : Bool) → (b || false) ≡ b
-    by true = refl
-    by false = refl
+among_still kept p q h = among_more kept p q ∙ (ap (λ b. among kept q || b) h ∙ or_none (among kept q))
 
 -- Marks
 
@@ -70,18 +68,9 @@ controller_is kept os ns ms (Some n) h lt =
     let it : HasMark kept os ns ms n = mark_at kept os ns ms n lt h in
     ap (λ o. is_kept kept (option_map (λ (r : Placed). r.path) o)) it.there ∙ kept_by kept os it.b (kept_as ms n) it.mark
 
-get_there : (xs : List Placed) (n : ℕ) → n < length xs → (x : Placed) × (slice_get xs n ≡ Some x)
-get_there [] n lt = absurd (omega (arith, lt))
-get_there (x ∷ xs) zero lt = (x, refl)
-get_there (x ∷ xs) (suc n) lt = get_there xs n (omega (arith, lt))
-
 -- both paths are equal and kept, or not
 both_is : (kept : List Path) (os : List Placed) (m : ℕ) (o b : Placed) (mark : Option ℕ) (rest : Bool) → Climbs os → slice_get os m ≡ Some o → IsMarked kept os b mark → (is_path o.path b.path && (among kept b.path && rest)) ≡ (is_old mark m && rest)
-both_is kept os m o b None rest climbs there h = ap (λ x. is_path o.path b.path && (x && rest)) h ∙ by (is_path o.path b.path)
-  where
-    by : (x : Bool) → (x && false) ≡ false
-    by true = refl
-    by false = refl
+both_is kept os m o b None rest climbs there h = ap (λ x. is_path o.path b.path && (x && rest)) h ∙ and_right (is_path o.path b.path) false refl
 both_is kept os m o b (Some k) rest climbs there h = ap (λ x. is_path o.path b.path && (x && rest)) h.0 ∙ ap (λ x. x && rest) (by (is_path o.path b.path) refl (k == m) refl)
   where
     by : (x : Bool) → is_path o.path b.path ≡ x → (y : Bool) → (k == m) ≡ y → x ≡ y
@@ -92,11 +81,8 @@ both_is kept os m o b (Some k) rest climbs there h = ap (λ x. is_path o.path b.
         grind (arith, eqb_tells)
     by false e true f =
         let one : k ≡ m = grind (arith, eqb_tells) in
-        let same : h.1.0 ≡ o = some_same h.1.0 o (sym h.1.1 ∙ (ap (slice_get os) one ∙ there)) in
+        let same : h.1.0 ≡ o = same_Some h.1.0 o (sym h.1.1 ∙ (ap (slice_get os) one ∙ there)) in
         absurd (both_ways (is_path o.path b.path) e (ap (λ (z : Placed). is_path z.path b.path) (sym same) ∙ (ap (λ p. is_path p b.path) h.1.2 ∙ path_self b.path)))
-      where
-        some_same : (a c : Placed) → Some a ≡ Some c → a ≡ c
-        some_same a c e = cc
 
 one_read : (kept : List Path) (os ns : List Placed) (ms : List (Option ℕ)) (a b : Option ℕ) (rest : Bool) → Climbs os → AreMarked kept os ns ms → IsEarlier (length os) a → IsEarlier (length ns) b
     → (same_path (path_at os a) (path_at ns b) && (is_kept kept (path_at ns b) && rest)) ≡ (same_definer ms a b && rest)
@@ -105,10 +91,10 @@ one_read kept os ns ms None (Some n) rest climbs h l k =
     let it : HasMark kept os ns ms n = mark_at kept os ns ms n k h in
     ap (λ o. same_path None (option_map (λ (r : Placed). r.path) o) && (is_kept kept (option_map (λ (r : Placed). r.path) o) && rest)) it.there
 one_read kept os ns ms (Some m) None rest climbs h l k =
-    let it = get_there os m l in
+    let it = some_at os m l in
     ap (λ o. same_path (option_map (λ (r : Placed). r.path) o) None && (true && rest)) it.1
 one_read kept os ns ms (Some m) (Some n) rest climbs h l k =
-    let o = get_there os m l in
+    let o = some_at os m l in
     let it : HasMark kept os ns ms n = mark_at kept os ns ms n k h in
     ap (λ x. same_path (option_map (λ (r : Placed). r.path) x) (path_at ns (Some n)) && (is_kept kept (path_at ns (Some n)) && rest)) o.1
     ∙ (ap (λ x. same_path (Some o.0.path) (option_map (λ (r : Placed). r.path) x) && (is_kept kept (option_map (λ (r : Placed). r.path) x) && rest)) it.there

@@ -80,7 +80,7 @@ after_all p q ys h k = each_map (λ (c : Placed). IsEarlierPath q c.path) (λ (c
 pub same_before : (p q : Path) (ys : List Placed) → p ≡ q → Each (λ (c : Placed). IsEarlierPath q c.path) ys → Each (λ (c : Placed). IsEarlierPath p c.path) ys
 same_before p q ys is k = subst (λ z. Each (λ (c : Placed). IsEarlierPath z c.path) ys) (sym is) k
 
-behind_rest : (o : Placed) (cs : List Placed) (ks : List Path) → Each (λ k. Each (λ (a : Placed). IsEarlierPath k a.path) (o ∷ cs)) ks → Each (λ k. Each (λ (a : Placed). IsEarlierPath k a.path) cs) ks
+pub behind_rest : (o : Placed) (cs : List Placed) (ks : List Path) → Each (λ k. Each (λ (a : Placed). IsEarlierPath k a.path) (o ∷ cs)) ks → Each (λ k. Each (λ (a : Placed). IsEarlierPath k a.path) cs) ks
 behind_rest o cs ks h = each_map (λ k. Each (λ (a : Placed). IsEarlierPath k a.path) (o ∷ cs)) (λ k. Each (λ (a : Placed). IsEarlierPath k a.path) cs) ks (λ k l. l.1) h
 
 pub behind_first : (o : Placed) (cs : List Placed) (ks : List Path) → Each (λ k. Each (λ (a : Placed). IsEarlierPath k a.path) (o ∷ cs)) ks → Each (λ k. IsEarlierPath k o.path) ks

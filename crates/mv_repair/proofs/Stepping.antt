@@ -1,7 +1,7 @@
 -- One record more of a repair.
 use Rattle.std.proofs.Common.{◌≡◌, ◌<◌, ◌≤◌, ◌*◌, ℕ, ◌+◌, Bool, true, false, List, [], ◌∷◌, ◌++◌, Option, Some, None, length, take, if◌then◌else◌, refl, sym, ap, subst, ◌∙◌, arith, append_assoc, append-nil, length-append}
 use Rattle.std.specs.Prelude.{◌&&◌, slice_get}
-use Rattle.std.proofs.lemmas.List.{append_cancel_left, take_all}
+use Rattle.std.proofs.lemmas.List.{append_cancel_left, take_all, length_push}
 use Rattle.std.proofs.lemmas.Option.{slice_get_within}
 use Rattle.std.proofs.lemmas.Grind.{flat_map-append}
 use Rattle.std.proofs.lemmas.Bool.{both_ways}
@@ -41,7 +41,7 @@ use Rattle.mv_recorded.proofs.Inverting.{each_join, each_map}
 use Rattle.mv_alike.proofs.Walking.{climbs_parts}
 use Rattle.mv_repair.proofs.Lists.{writes_before, each_take, got_there}
 use Rattle.mv_repair.proofs.Marking.{not_among, marks_more, marks_still}
-use Rattle.mv_repair.proofs.Passing.{all_apart, behind_first, others_both, others_still, one_other, no_other, noted_writes, noted_below, noted_longer, noted_take, old_kept, old_left}
+use Rattle.mv_repair.proofs.Passing.{all_apart, behind_first, others_both, others_still, one_other, no_other, noted_writes, noted_below, noted_longer, noted_take, old_kept, old_left, behind_rest}
 use Rattle.mv_repair.proofs.Placing.{placed_more, paths_more}
 
 -- The next record of the full run
@@ -114,14 +114,8 @@ kept_is changes os ns r b h =
 
 -- The new run with one record more
 
-rest_behind : (b : Placed) (more : List Placed) (ks : List Path) → Each (λ k. Each (λ (c : Placed). IsEarlierPath k c.path) (b ∷ more)) ks → Each (λ k. Each (λ (c : Placed). IsEarlierPath k c.path) more) ks
-rest_behind b more ks h = each_map (λ k. Each (λ (c : Placed). IsEarlierPath k c.path) (b ∷ more)) (λ k. Each (λ (c : Placed). IsEarlierPath k c.path) more) ks (λ k l. l.1) h
-
 numbers_more : (m n : ℕ) (ks : List ℕ) → n ≡ m + 1 → Each (λ k. k < m) ks → Each (λ k. k < n) ks
 numbers_more m n ks e h = each_map (λ k. k < m) (λ k. k < n) ks (λ k lt. omega (arith, e, lt)) h
-
-long : (ns : List Record) (r : Record) → length (ns ++ r ∷ []) ≡ length ns + 1
-long ns r = length-append ns (r ∷ [])
 
 new_kept : (os ns : List Record) (r : Record) (kept : List Path) (more : List Placed) (new : NewRun) (p : Path) (number : ℕ) (o : Placed) → IsNew os kept (next_placed ns r ∷ more) ns new → (next_placed ns r).path ≡ p
     → Each (λ (a : Placed). IsEarlierPath a.path (next_placed ns r).path) (with_paths ns) → Each (λ (c : Placed). IsEarlierPath (next_placed ns r).path c.path) more
@@ -141,11 +135,11 @@ new_kept os ns r kept more new p number o h is before later there same =
           ∙ (sym (append-nil (other_writes others (with_paths ns)))
           ∙ (ap (λ ws. other_writes others (with_paths ns) ++ ws) (sym (no_other others b (among_new kept b.path)))
           ∙ (sym (others_both others (with_paths ns) (b ∷ [])) ∙ ap (other_writes others) (sym (placed_more ns r)))))));
-      numbers = numbers_more (length ns) (length (ns ++ r ∷ [])) new.others (long ns r) h.numbers;
+      numbers = numbers_more (length ns) (length (ns ++ r ∷ [])) new.others (length_push ns r) h.numbers;
       first = h.first;
       within = h.within;
       known = subst (AreKnown new.keys) (sym (writes_before ns (r ∷ []) (take new.known new.others) (each_take (λ n. n < length ns) new.known new.others h.numbers))) h.known;
-      behind = each_join (λ k. Each (λ (c : Placed). IsEarlierPath k c.path) more) kept (b.path ∷ []) (rest_behind b more kept h.behind) (later, tt);
+      behind = each_join (λ k. Each (λ (c : Placed). IsEarlierPath k c.path) more) kept (b.path ∷ []) (behind_rest b more kept h.behind) (later, tt);
     }
 
 new_executed : (os ns : List Record) (r : Record) (kept : List Path) (more : List Placed) (new : NewRun) (p : Path) → IsNew os kept (next_placed ns r ∷ more) ns new → (next_placed ns r).path ≡ p
@@ -161,13 +155,13 @@ new_executed os ns r kept more new p h is =
           ∙ (ap (λ ws. ws ++ r.writes) (writes_before ns (r ∷ []) new.others h.numbers ∙ h.others)
           ∙ (ap (λ ws. other_writes kept (with_paths ns) ++ ws) (sym (one_other kept b fresh))
           ∙ (sym (others_both kept (with_paths ns) (b ∷ [])) ∙ ap (other_writes kept) (sym (placed_more ns r)))));
-      numbers = noted_below (length ns) (length (ns ++ r ∷ [])) new.others (any_write r.writes) (let e = long ns r in omega (arith, e)) (numbers_more (length ns) (length (ns ++ r ∷ [])) new.others (long ns r) h.numbers);
+      numbers = noted_below (length ns) (length (ns ++ r ∷ [])) new.others (any_write r.writes) (let e = length_push ns r in omega (arith, e)) (numbers_more (length ns) (length (ns ++ r ∷ [])) new.others (length_push ns r) h.numbers);
       first = h.first;
       within = noted_longer new.known (length ns) new.others (any_write r.writes) h.within;
       known =
           subst (λ l. AreKnown new.keys (writes_at (ns ++ r ∷ []) l)) (sym (noted_take new.known (length ns) new.others (any_write r.writes) h.within))
           (subst (AreKnown new.keys) (sym (writes_before ns (r ∷ []) (take new.known new.others) (each_take (λ n. n < length ns) new.known new.others h.numbers))) h.known);
-      behind = rest_behind b more kept h.behind;
+      behind = behind_rest b more kept h.behind;
     }
 
 -- more keys are known

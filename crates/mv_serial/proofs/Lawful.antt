@@ -4,6 +4,7 @@ use Rattle.std.proofs.lemmas.List.{get_or-set_other}
 use Rattle.std.proofs.lemmas.List.Elements.{All-cons, All-nil}
 use Rattle.std.proofs.lemmas.List.Kept.{AllPairs-cons}
 use Rattle.std.specs.Prelude.{slice_index}
+use Rattle.std.proofs.lemmas.Option.{same_Some}
 use Rattle.mv_values.specs.declared.rows.Keyed.{Keyed}
 use Rattle.mv_values.specs.declared.calls.Reply.{Reply}
 use Rattle.mv_values.specs.declared.calls.End.{End}
@@ -13,9 +14,6 @@ use Rattle.mv_alone.specs.TableAfter.{Tables, outcome, tables_left, reply_in, re
 use Rattle.mv_alone.specs.Changes.{OthersStay}
 use Rattle.mv_serial.proofs.Tabling.{table_with}
 
-some_same : {X : Type 0} (x y : X) → Some x ≡ Some y → x ≡ y
-some_same x y h = cc
-
 stopped : (db : Tables) (o : Result State End) (r : Reply) (e : End) → r ≡ reply_in o → r.end ≡ Some e → (r.lines ≡ []) × (tables_left db o ≡ db)
 stopped db (Ok st) r e is h = let no : None ≡ Some e = sym (ap (λ (q : Reply). q.end) is) ∙ h in cc
 stopped db (Err f) r e is h = (ap (λ (q : Reply). q.lines) is, refl)
@@ -23,7 +21,7 @@ stopped db (Err f) r e is h = (ap (λ (q : Reply). q.lines) is, refl)
 pub stopped_unchanged : (p : Program) (order : List ℕ) (replies : List Reply) → RepliesOf p order replies → StoppedUnchanged p order replies
 stopped_unchanged p order replies told k lt r e is h =
     stopped (table_after p order k) (outcome p (slice_index order k) (table_after p order k)) r e
-    (some_same r (reply_of p order (suc k)) (sym is ∙ told k lt)) h
+    (same_Some r (reply_of p order (suc k)) (sym is ∙ told k lt)) h
 
 others_set : (db : Tables) (t : ℕ) (rows : List Keyed) → OthersStay t db (slice_set db t rows)
 others_set db t rows u other = get_or-set_other db t u rows [] other

@@ -1,10 +1,10 @@
 -- One statement or one row further in a list of them.
-use Rattle.std.proofs.Common.{◌≡◌, ◌<◌, ℕ, suc, ◌+◌, List, ◌∷◌, Ok, Err, ap, sym, ◌∙◌, length, drop, get_or, add-one}
+use Rattle.std.proofs.Common.{◌≡◌, ◌<◌, ℕ, ◌+◌, List, Ok, Err, ap, sym, ◌∙◌, length, drop, get_or}
 use Rattle.std.specs.Prelude.{Result}
-use Rattle.std.proofs.Math.Seq.{drop-cons}
 use Rattle.mv_values.specs.declared.calls.End.{End}
 use Rattle.mv_values.specs.declared.value.Value.{Value}
 use Rattle.mv_values.specs.declared.schema.TableInfo.{TableInfo}
+use Rattle.mv_values.proofs.Deciding.{from_place}
 use Rattle.mv_catalog.specs.declared.resolved.RStmt.{RStmt}
 use Rattle.mv_alone.specs.declared.state.State.{State}
 use Rattle.mv_alone.specs.declared.state.Held.TheVariants.{Turn}
@@ -13,9 +13,6 @@ use Rattle.mv_alone.specs.declared.state.Stop.TheVariants.{Memory, Ended}
 use Rattle.mv_alone.specs.Outcome.{then_do, Fails}
 use Rattle.mv_alone.specs.Env.{with_held}
 use Rattle.mv_alone.specs.Alone.{Does, does, alone, each_turn}
-
-from_place : {A : Type 0} (xs : List A) (k : ℕ) (x : A) → k < length xs → x ≡ get_or xs k x → drop k xs ≡ x ∷ drop (k + 1) xs
-from_place xs k x h is = drop-cons xs k x h ∙ (ap (λ y. y ∷ drop (suc k) xs) (sym is) ∙ ap (λ n. x ∷ drop n xs) (sym (add-one k)))
 
 pub next_statement : (tables : List TableInfo) (ss : List RStmt) (k : ℕ) (s : RStmt) (st next : State) (all : Result State End) → k < length ss → s ≡ get_or ss k s
     → does tables s st ≡ Ok next → alone tables (drop k ss) st ≡ all → alone tables (drop (k + 1) ss) next ≡ all

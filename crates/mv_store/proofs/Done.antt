@@ -4,7 +4,7 @@ use Rattle.std.specs.Prelude.{OnSome, ◌||◌}
 use Rattle.std.specs.List.{list_any}
 use Rattle.std.specs.Option.{is_some}
 use Rattle.std.specs.Ordering.{is_eq}
-use Rattle.std.proofs.lemmas.Bool.{cases_Bool, eqb-true, eq-eqb}
+use Rattle.std.proofs.lemmas.Bool.{cases_Bool, eqb-true, eqb-false, false≢true}
 use Rattle.std.proofs.lemmas.List.{take_more, get_or-set_same, get_or-set_other, length-set}
 use Rattle.mv_values.specs.declared.value.Value.{Value}
 use Rattle.mv_values.specs.declared.patch.Patch.{Patch}
@@ -26,12 +26,6 @@ use Rattle.mv_store.specs.Kept.{versions_in, versions_of, entries_at, versions_a
 
 some_none : {A : Type 0} {a : A} → ◌≡◌ {A = Option A} (Some a) None → ⊥
 some_none e = cc
-
-pub no_truth : false ≡ true → ⊥
-no_truth e = cc
-
-pub differ : (a b : ℕ) → a ≡ b → (a == b) ≡ false → ⊥
-differ a b same h = no_truth (sym h ∙ eq-eqb a b same)
 
 past : (tables : List Entries) (t : ℕ) → length tables ≤ t → entries_at tables t ≡ []
 past [] t h = refl
@@ -118,7 +112,7 @@ tables_changed t key f old new es lt h full is = record {
     | inl e ↦ let same : t ≡ u = eqb-true t u e in
         rw e (subst (λ v. versions_at (slice_set old t es) v other ≡ cond (is_eq (key_order key other)) (f (versions_at old v other)) (versions_at old v other)) same
         (ap (λ l. versions_of l other) (get_or-set_same old t es [] lt) ∙ h.at other))
-    | inr e ↦ rw e (ap (λ l. versions_of l other) (get_or-set_other old t u es [] (λ same. differ t u (sym same) e)))
+    | inr e ↦ rw e (ap (λ l. versions_of l other) (get_or-set_other old t u es [] (λ same. eqb-false t u e (sym same))))
   ];
   rising = λ r. subst AllRise (sym is) (each_set KeysRise old t es h.rising r);
   filled = λ r. subst AllFilled (sym is) (each_set AreFilled old t es full r);
@@ -156,12 +150,12 @@ done_miss f [] t key v h = refl
 done_miss f (s ∷ ss) t key v h = by (is_spot t key s) h (done_miss f ss t key v)
   where
     by : (b : Bool) → b || list_any (is_spot t key) ss ≡ false → (list_any (is_spot t key) ss ≡ false → done_at f ss t key v ≡ v) → done_at f ss t key (cond b (f v) v) ≡ v
-    by true e more = absurd (no_truth (sym e))
+    by true e more = absurd (false≢true (sym e))
     by false e more = more e
 
 -- what is done again changes nothing
 pub done_hit : (f : Versions → Versions) (ss : List Spot) (t : ℕ) (key : List Value) (v : Versions) → f (f v) ≡ f v → HasSpot t key ss → done_at f ss t key v ≡ f v
-done_hit f [] t key v h there = absurd (no_truth there)
+done_hit f [] t key v h there = absurd (false≢true there)
 done_hit f (s ∷ ss) t key v h there = by (is_spot t key s) there (done_hit f ss t key v h)
   where
     by : (b : Bool) → b || list_any (is_spot t key) ss ≡ true → (HasSpot t key ss → done_at f ss t key v ≡ f v) → done_at f ss t key (cond b (f v) v) ≡ f v

@@ -5,7 +5,7 @@ use Rattle.std.specs.Result.{is_err}
 use Rattle.std.proofs.lemmas.List.{take_more}
 use Rattle.std.specs.Option.{is_some}
 use Rattle.std.specs.Ordering.{is_eq}
-use Rattle.std.proofs.lemmas.Bool.{cases_Bool, eqb-true}
+use Rattle.std.proofs.lemmas.Bool.{cases_Bool, eqb-true, eqb-false, false≢true}
 use Rattle.std.proofs.lemmas.List.Elements.{All-weaker, All-push}
 use Rattle.mv_values.specs.declared.value.Value.{Value}
 use Rattle.mv_values.specs.declared.rows.Keyed.{Keyed}
@@ -30,7 +30,7 @@ use Rattle.mv_store.proofs.Keys.{database_same, databases_same, row_in, rows_ris
 use Rattle.mv_store.proofs.Own.{row_done, own_same, own_none}
 use Rattle.mv_store.proofs.Filled.{tables_collected}
 use Rattle.mv_store.proofs.Noted.{entry_left, entry_last, climb_push}
-use Rattle.mv_store.proofs.Done.{settled_gone, settled_others, differ, no_truth, tables_changed}
+use Rattle.mv_store.proofs.Done.{settled_gone, settled_others, tables_changed}
 
 left_true : (a b : Bool) → a && b ≡ true → a ≡ true
 left_true true b e = refl
@@ -38,7 +38,7 @@ left_true false b e = e
 
 right_true : (a b : Bool) → a && b ≡ true → b ≡ true
 right_true true b e = e
-right_true false b e = absurd (no_truth e)
+right_true false b e = absurd (false≢true e)
 
 abbrev own_in : ℕ → List Entries → List Write
 own_in call tables = writes_from 0 (picked_in (λ v. own_of call v.own) tables)
@@ -108,7 +108,7 @@ module _ (t : ℕ) (key : List Value) (call : ℕ) (patch : Patch) (old new : Li
       by false e h = before h
       by true e h = elim (cases_Bool (call == c)) [
         | inl same ↦ there e (eqb-true call c same) (is_some (own_of c (versions_at old u k).own)) refl
-        | inr ne ↦ before (ap is_some (sym (others_stay call c patch (versions_at old u k).own (λ same. differ call c same ne))) ∙ h)
+        | inr ne ↦ before (ap is_some (sym (others_stay call c patch (versions_at old u k).own (λ same. eqb-false call c ne same))) ∙ h)
       ]
 
   put_commits : (u : ℕ) (k : List Value) → (versions_at new u k).commits ≡ (versions_at old u k).commits
@@ -208,9 +208,9 @@ module _ (fate : Fate) (call : ℕ) (old new : List Entries) (rise : AllRise old
       elim (cases_Bool (call == c)) [
         | inl same ↦
             let gone : own_of c (settled fate call (versions_at old u k)).own ≡ None = subst (λ x. own_of x (settled fate call (versions_at old u k)).own ≡ None) (eqb-true call c same) (settled_gone fate call (versions_at old u k)) in
-            absurd (no_truth (sym (ap is_some gone) ∙ here))
+            absurd (false≢true (sym (ap is_some gone) ∙ here))
         | inr ne ↦
-            let stays = settled_others fate call c (versions_at old u k) (λ same. differ call c same ne) in
+            let stays = settled_others fate call c (versions_at old u k) (λ same. eqb-false call c ne same) in
             let noted : HasSpot u k (spots_of spots c) = covered c u k (ap is_some (sym stays) ∙ here) in
             subst (HasSpot u k) (sym (are c ∙ ap (λ b. cond b [] (spots_of spots c)) ne)) noted
       ]
@@ -367,10 +367,10 @@ may_commit call n last tables numbers lt t key = by (own_of call (versions_at ta
 
 pub ok_from : {A E : Type 0} (r : Result A E) (P : Type 0) → is_err r ≡ false → OnOk r P → P
 ok_from (Ok x) P e h = h
-ok_from (Err e) P f h = absurd (no_truth (sym f))
+ok_from (Err e) P f h = absurd (false≢true (sym f))
 
 pub err_from : {A E : Type 0} (r : Result A E) (P : Type 0) → is_err r ≡ true → OnErr r P → P
-err_from (Ok x) P e h = absurd (no_truth e)
+err_from (Ok x) P e h = absurd (false≢true e)
 err_from (Err e) P f h = h
 
 pub write_more : (call i : ℕ) (ws : List Write) (w : Write) (old mid new : Versioned) → i < length ws → w ≡ slice_index_or ws i w → HasPut call (take i ws) old mid → HasPut call (w ∷ []) mid new → HasPut call (take (i + 1) ws) old new

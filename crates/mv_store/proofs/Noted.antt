@@ -2,13 +2,12 @@
 use Rattle.std.proofs.Common.{◌≡◌, ◌<◌, ◌≤◌, ◌++◌, ◌==◌, ℕ, Bool, true, false, inl, inr, List, [], ◌∷◌, Option, Some, None, refl, sym, arith, rules, le_trans}
 use Rattle.std.specs.Prelude.{OnOk, Result, Ok, Err, ◌||◌, nat_le}
 use Rattle.std.specs.List.{list_any}
-use Rattle.std.proofs.lemmas.Bool.{cases_Bool, eq-eqb, eqb-true}
+use Rattle.std.proofs.lemmas.Bool.{cases_Bool, eq-eqb, eqb-true, false≢true}
 use Rattle.mv_values.specs.declared.value.Value.{Value}
 use Rattle.mv_values.proofs.KeyOrder.{same_key}
 use Rattle.mv_store.specs.declared.spots.Spot.{Spot}
 use Rattle.mv_store.specs.declared.spots.Written.{Written}
 use Rattle.mv_store.specs.Kept.{spots_in, is_spot, is_entry, is_due, written_at, HasSpot, HasEntry, Climb}
-use Rattle.mv_store.proofs.Done.{no_truth}
 
 at_itself : (s : Spot) → is_spot s.table s.key s ≡ true
 at_itself s = rw (eq-eqb s.table s.table refl, same_key s.key) refl
@@ -28,7 +27,7 @@ on_sure (Err e) P h = tt
 -- Keys of commits
 
 pub entry_left : (n t : ℕ) (key : List Value) (ws more : List Written) → HasEntry n t key ws → HasEntry n t key (ws ++ more)
-entry_left n t key [] more h = absurd (no_truth h)
+entry_left n t key [] more h = absurd (false≢true h)
 entry_left n t key (w ∷ ws) more h = by (is_entry n t key w) h (entry_left n t key ws more)
   where
     by : (b : Bool) → b || list_any (is_entry n t key) ws ≡ true → (HasEntry n t key ws → HasEntry n t key (ws ++ more)) → b || list_any (is_entry n t key) (ws ++ more) ≡ true
@@ -37,7 +36,7 @@ entry_left n t key (w ∷ ws) more h = by (is_entry n t key w) h (entry_left n t
 
 -- the keys of a call are those of its commit
 pub entry_last : (n t : ℕ) (key : List Value) (ws : List Written) (o : Option (List Spot)) → HasSpot t key (spots_in o) → HasEntry n t key (ws ++ written_at n o)
-entry_last n t key [] None h = absurd (no_truth h)
+entry_last n t key [] None h = absurd (false≢true h)
 entry_last n t key [] (Some spots) h = let there : list_any (is_spot t key) spots ≡ true = h in rw (eq-eqb n n refl, there) refl
 entry_last n t key (w ∷ ws) o h = by (is_entry n t key w) (entry_last n t key ws o h)
   where
@@ -50,7 +49,7 @@ pub entry_rest : (n t : ℕ) (key : List Value) (w : Written) (ws : List Written
 entry_rest n t key w ws differs h = by (is_entry n t key w) differs h
   where
     by : (b : Bool) → b ≡ false → b || list_any (is_entry n t key) ws ≡ true → HasEntry n t key ws
-    by true e g = absurd (no_truth (sym e))
+    by true e g = absurd (false≢true (sym e))
     by false e g = g
 
 pub climb_push : (first last n : ℕ) (ws : List Written) (o : Option (List Spot)) → Climb first ws last → last ≤ n → Climb first (ws ++ written_at n o) n
@@ -63,7 +62,7 @@ climb_from low first last [] le h = le_trans le h
 climb_from low first last (w ∷ ws) le h = (le_trans le h.0, h.1)
 
 entry_above : (low first last n t : ℕ) (key : List Value) (ws : List Written) → low < first → Climb first ws last → HasEntry n t key ws → low < n
-entry_above low first last n t key [] lt h e = absurd (no_truth e)
+entry_above low first last n t key [] lt h e = absurd (false≢true e)
 entry_above low first last n t key (w ∷ ws) lt h e = elim (cases_Bool (w.commit == n)) [
   | inl same ↦ let is : w.commit ≡ n = eqb-true w.commit n same in let up : first ≤ w.commit = h.0 in omega (arith, lt, is, up)
   | inr differs ↦ let up : first ≤ w.commit = h.0 in entry_above low w.commit last n t key ws (omega (arith, lt, up)) h.1 (entry_rest n t key w ws (rw differs refl) e)
@@ -71,7 +70,7 @@ entry_above low first last n t key (w ∷ ws) lt h e = elim (cases_Bool (w.commi
 
 -- where the first commit is not due, none is
 pub none_due : (low last n t : ℕ) (key : List Value) (ws : List Written) → is_due low ws ≡ false → Climb 0 ws last → HasEntry n t key ws → low < n
-none_due low last n t key [] due h e = absurd (no_truth e)
+none_due low last n t key [] due h e = absurd (false≢true e)
 none_due low last n t key (w ∷ ws) due h e =
     let after : nat_le w.commit low ≡ false = due in
     let lt : low < w.commit = search (rules, after) in

@@ -6,6 +6,7 @@ use Rattle.std.specs.Ordering.{is_eq}
 use Rattle.std.specs.declared.cmp.Ordering.TheVariants.{Less}
 use Rattle.std.proofs.lemmas.List.{take_more}
 use Rattle.std.proofs.lemmas.List.Elements.{All-nil, All-cons, All-head, All-tail}
+use Rattle.std.proofs.lemmas.Bool.{false≢true}
 use Rattle.mv_values.specs.declared.value.Value.{Value}
 use Rattle.mv_values.specs.declared.rows.Keyed.{Keyed}
 use Rattle.mv_values.specs.Keys.{IsRising, IsBelow}
@@ -20,7 +21,6 @@ use Rattle.mv_store.specs.Opened.{opened}
 use Rattle.mv_store.proofs.Keys.{nil_rises}
 use Rattle.mv_store.proofs.Filled.{IsFull}
 use Rattle.mv_store.proofs.Own.{own_none}
-use Rattle.mv_store.proofs.Done.{no_truth}
 
 abbrev first_of : List Value → Versions
 first_of row = record { base = Some row; commits = []; own = [] }
@@ -110,7 +110,7 @@ opened_kept db tables spots is rise none = record {
   rising = rise;
   filled = subst AllFilled (sym is) (all_full db);
   numbers = λ t key. subst (λ cs. All (λ c. c.number < 0 + 1) cs) (sym (no_commits t key)) (All-nil (λ c. c.number < 0 + 1));
-  covered = λ call t key some. absurd (no_truth (sym (ap is_some (ap (own_of call) (ap (λ ts. (versions_at ts t key).own) is ∙ (all_new db t key).1))) ∙ some));
+  covered = λ call t key some. absurd (false≢true (sym (ap is_some (ap (own_of call) (ap (λ ts. (versions_at ts t key).own) is ∙ (all_new db t key).1))) ∙ some));
   listed = λ t key. subst (λ cs. All (λ c. HasEntry c.number t key spots.commits) cs) (sym (no_commits t key)) (All-nil (λ c. HasEntry c.number t key spots.commits));
   climb = subst (λ ws. Climb 0 ws 0) (sym none) (omega arith);
 }

@@ -1,11 +1,12 @@
 -- A program's script: its calls run by the graphs of their procedures.
-use Rattle.std.proofs.Common.{◌≡◌, ◌≤◌, ◌<◌, ℕ, zero, suc, List, [], ◌∷◌, Option, Some, None, length, slice_get, refl, sym, ap, subst, ◌∙◌, arith}
+use Rattle.std.proofs.Common.{◌≡◌, ◌≤◌, ◌<◌, ℕ, List, Option, Some, None, length, slice_get, refl, sym, ap, subst, ◌∙◌, arith}
 use Rattle.std.specs.List.{AllZip}
 use Rattle.std.proofs.lemmas.Slice.Zip.{AllZip-long}
 use Rattle.std.proofs.lemmas.Option.{slice_get-map}
 use Rattle.std.specs.Option.{option_map}
 use Rattle.mv_values.specs.declared.calls.Call.{Call}
 use Rattle.mv_values.specs.declared.calls.Options.{Options}
+use Rattle.mv_values.proofs.Deciding.{some_at}
 use Rattle.mv_catalog.specs.declared.resolved.ProcInfo.{ProcInfo}
 use Rattle.mv_catalog.specs.declared.resolved.Program.{Program}
 use Rattle.mv_catalog.specs.Text.{FitsText, IsCall, IsProcedure, Suits}
@@ -22,11 +23,6 @@ use Rattle.mv_core.specs.Scripts.{run_by, run_in, IsCallOf, CanRun, IsScript, wo
 use Rattle.mv_top.specs.History.{work_of}
 
 -- What a list has at a place
-
-some_at : {A : Type 0} (xs : List A) (n : ℕ) → n < length xs → (x : A) × (slice_get xs n ≡ Some x)
-some_at [] n lt = absurd (omega (arith, lt))
-some_at (y ∷ xs) zero lt = (y, refl)
-some_at (y ∷ xs) (suc n) lt = some_at xs n (omega (arith, lt))
 
 -- The script
 

@@ -1,3 +1,4 @@
 pub mod KeyOrder
 pub mod Deciding
 pub mod Places
+pub mod Numerals
