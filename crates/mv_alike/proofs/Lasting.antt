@@ -9,7 +9,7 @@ use Rattle.mv_values.specs.declared.patch.Write.{Write}
 use Rattle.mv_values.specs.declared.schema.TableInfo.{TableInfo}
 use Rattle.mv_values.specs.declared.calls.End.{End}
 use Rattle.mv_values.specs.Patching.{applied}
-use Rattle.mv_values.specs.Tables.{key_columns, columns_at}
+use Rattle.mv_values.specs.Tables.{key_columns, columns_at, Tables}
 use Rattle.mv_catalog.specs.declared.resolved.RCond.{RCond}
 use Rattle.mv_catalog.specs.declared.resolved.RStmt.TheOpen.{Assign, Select, Total, ForSelect, ForRows, Branch, Insert, Update, Delete, Print, Rollback}
 use Rattle.mv_alone.specs.declared.state.Check.{Check}
@@ -19,7 +19,6 @@ use Rattle.mv_alone.specs.Env.{held_at}
 use Rattle.mv_alone.specs.Alone.{offset_of}
 use Rattle.mv_alone.specs.Changes.{new_row}
 use Rattle.mv_alone.specs.Rows.{checks_of}
-use Rattle.mv_alone.specs.TableAfter.{Tables}
 use Rattle.mv_record.specs.declared.record.Record.{Record}
 use Rattle.mv_record.specs.Runs.{writes_in}
 use Rattle.mv_recorded.specs.Asking.{on, asked, pred_of, preds_of, test_of, same_key}

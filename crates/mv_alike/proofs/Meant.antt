@@ -6,8 +6,8 @@ use Rattle.mv_values.specs.declared.calls.Call.{Call}
 use Rattle.mv_catalog.specs.declared.resolved.ProcInfo.{ProcInfo}
 use Rattle.mv_catalog.specs.Text.{Suits}
 use Rattle.std.proofs.lemmas.Slice.Zip.{AllZip-long}
+use Rattle.mv_values.specs.Tables.{Tables}
 use Rattle.mv_alike.proofs.Definers.{front_get}
-use Rattle.mv_alone.specs.TableAfter.{Tables}
 use Rattle.mv_record.specs.declared.record.Record.{Record}
 use Rattle.mv_recorded.specs.Recorded.{recorded}
 use Rattle.mv_recorded.proofs.Rising.{recorded_rises}

@@ -4,8 +4,8 @@ use Rattle.std.specs.Prelude.{◌||◌, slice_get}
 use Rattle.std.specs.Option.{option_map}
 use Rattle.std.proofs.lemmas.Cmp.{nat_list_cmp_total}
 use Rattle.std.proofs.lemmas.Bool.{and_parts}
+use Rattle.mv_values.specs.Tables.{Tables}
 use Rattle.mv_alike.proofs.Definers.{front_get}
-use Rattle.mv_alone.specs.TableAfter.{Tables}
 use Rattle.mv_record.specs.declared.record.Read.{Read}
 use Rattle.mv_record.specs.declared.record.Record.{Record}
 use Rattle.mv_record.specs.declared.record.Spot.{Spot}

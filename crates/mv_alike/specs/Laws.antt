@@ -6,9 +6,9 @@ use Rattle.std.specs.List.{AllZip}
 use Rattle.mv_values.specs.declared.schema.TableInfo.{TableInfo}
 use Rattle.mv_values.specs.declared.calls.Call.{Call}
 use Rattle.mv_values.specs.Patching.{applied}
+use Rattle.mv_values.specs.Tables.{Tables}
 use Rattle.mv_catalog.specs.declared.resolved.ProcInfo.{ProcInfo}
 use Rattle.mv_catalog.specs.Text.{IsProcedure, Suits}
-use Rattle.mv_alone.specs.TableAfter.{Tables}
 use Rattle.mv_record.specs.declared.record.Record.{Record}
 use Rattle.mv_record.specs.Databases.{IsDatabaseOf}
 use Rattle.mv_record.specs.Effects.{effect_in}

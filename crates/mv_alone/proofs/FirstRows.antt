@@ -15,12 +15,12 @@ use Rattle.mv_values.specs.declared.value.Value.{Value}
 use Rattle.mv_values.specs.declared.pred.Test.{Test}
 use Rattle.mv_values.specs.declared.rows.Keyed.{Keyed}
 use Rattle.mv_values.specs.Columns.{column_of, columns_of}
-use Rattle.mv_values.specs.Keys.{IsRising, IsBelow}
+use Rattle.mv_values.specs.Keys.{IsRising, IsBelow, stored, as_row}
 use Rattle.mv_values.specs.Order.{value_order, key_order}
 use Rattle.mv_table.specs.declared.table.Entry.{Entry}
 use Rattle.mv_table.specs.declared.scan.Direction.{Direction}
 use Rattle.mv_table.specs.declared.scan.Direction.TheVariants.{Forward, Backward}
-use Rattle.mv_table.specs.Entries.{stored, seen}
+use Rattle.mv_table.specs.Entries.{seen}
 use Rattle.mv_table.specs.Scans.{first, last, foremost, with_foremost, NeverFallsAt, RisesAt}
 use Rattle.mv_table.specs.Spans.{Admits, are_fixed_before}
 use Rattle.mv_table.proofs.Scanning.{foremost_kept, foremost_passed, foremost_mapped, with_mapped}
@@ -301,9 +301,6 @@ first_chosen (Ok row) sorts keys tests checks rows d at none own admit leads is 
 first_chosen (Err e) sorts keys tests checks rows d at none own admit leads is rising = tt
 
 -- The first of stored rows
-
-abbrev as_row : List Value × List Value → Keyed
-as_row e = record { key = e.0; row = e.1 }
 
 pub stored_met : (checks : List Check) (d : Direction) (key row : List Value) (left rest : List (List Value × List Value)) (all : Option Keyed) → left ≡ with_foremost d (key, row) rest → meets checks row ≡ true
     → foremost d (matching checks (stored left)) ≡ all → Some (record { key = key; row = row }) ≡ all

@@ -15,7 +15,7 @@ use Rattle.mv_values.specs.declared.schema.TableInfo.{TableInfo}
 use Rattle.mv_values.specs.declared.calls.End.{End}
 use Rattle.mv_values.specs.Columns.{column_of, columns_of}
 use Rattle.mv_values.specs.Order.{key_order}
-use Rattle.mv_values.specs.Tables.{key_columns, columns_at, rows_at, KeysStand}
+use Rattle.mv_values.specs.Tables.{key_columns, columns_at, rows_at, KeysStand, Tables}
 use Rattle.mv_catalog.specs.declared.resolved.RCond.{RCond}
 use Rattle.mv_catalog.specs.declared.resolved.RExpr.{RExpr}
 use Rattle.mv_catalog.specs.declared.resolved.RSetItem.{RSetItem}
@@ -23,7 +23,6 @@ use Rattle.mv_alone.specs.declared.state.Check.{Check}
 use Rattle.mv_alone.specs.declared.state.Env.{Env}
 use Rattle.mv_alone.specs.declared.state.State.{State}
 use Rattle.mv_alone.specs.Outcome.{then_do}
-use Rattle.mv_alone.specs.TableAfter.{Tables}
 use Rattle.mv_alone.specs.Value.{value_of}
 use Rattle.mv_alone.specs.Rows.{meets, fit, checks_of, is_some_row}
 use Rattle.mv_alone.specs.Changes.{with_column, set_row, updated, without, put_row_by, put_row, new_row, keyed}

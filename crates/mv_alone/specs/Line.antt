@@ -1,18 +1,14 @@
 -- The line that PRINT adds. This project's own.
-use Rattle.std.specs.Prelude.{ℕ, List, [], ◌∷◌, ◌++◌, if◌then◌else◌, ◌==◌}
+use Rattle.std.specs.Prelude.{ℕ, List, [], ◌∷◌, ◌++◌}
 use Rattle.std.specs.Fmt.{signed_decimal}
 use Rattle.mv_values.specs.declared.value.Value.{Value}
 use Rattle.mv_values.specs.declared.value.Value.TheVariants.{Int, Text}
-
--- each quote doubled
-abbrev pub doubled : List ℕ → List ℕ
-doubled [] = []
-doubled (b ∷ bs) = if b == 39 then 39 ∷ 39 ∷ doubled bs else b ∷ doubled bs
+use Rattle.mv_values.specs.Texts.{quoted}
 
 -- a number in decimal digits, a text in single quotes
 abbrev pub printed : Value → List ℕ
 printed (Int z) = signed_decimal z
-printed (Text t) = 39 ∷ (doubled t ++ 39 ∷ [])
+printed (Text t) = quoted t
 
 -- a comma before each value
 abbrev pub printed_after : List Value → List ℕ

@@ -1,11 +1,11 @@
 -- Calls that run alone, one after another: their replies, and the database after each of them. This project's own.
 use Rattle.std.specs.Prelude.{◌≡◌, ℕ, zero, suc, ◌+◌, ◌<◌, List, [], ◌∷◌, ◌++◌, Option, Some, None, Result, Ok, Err, All, AllPairs, map, length, slice_get, slice_index}
-use Rattle.mv_values.specs.declared.rows.Keyed.{Keyed}
 use Rattle.mv_values.specs.declared.calls.Argument.{Argument}
 use Rattle.mv_values.specs.declared.calls.Argument.TheVariants.{One, Many}
 use Rattle.mv_values.specs.declared.calls.Call.{Call}
 use Rattle.mv_values.specs.declared.calls.Reply.{Reply}
 use Rattle.mv_values.specs.declared.calls.End.{End}
+use Rattle.mv_values.specs.Tables.{Tables}
 use Rattle.mv_catalog.specs.declared.resolved.Program.{Program}
 use Rattle.mv_catalog.specs.declared.resolved.ProcInfo.{ProcInfo}
 use Rattle.mv_alone.specs.declared.state.Held.{Held}
@@ -14,9 +14,6 @@ use Rattle.mv_alone.specs.declared.state.Env.{Env}
 use Rattle.mv_alone.specs.declared.state.State.{State}
 use Rattle.mv_alone.specs.Env.{unset}
 use Rattle.mv_alone.specs.Alone.{alone}
-
-abbrev pub Tables : Type 0
-Tables = List (List Keyed)
 
 abbrev pub argument_held : Argument → Held
 argument_held (One v) = Scalar v

@@ -2,9 +2,9 @@
 
 ghost use Rattle.std.specs.Prelude.{◌≡◌, true, IfOk};
 ghost use Rattle.std.specs.Option.{option_map};
-ghost use Rattle.mv_values.specs.Keys.{IsRising};
+ghost use Rattle.mv_values.specs.Keys.{IsRising, stored};
 ghost use Rattle.mv_values.specs.Tables.{rows_at};
-ghost use Rattle.mv_table.specs.Entries.{seen, stored};
+ghost use Rattle.mv_table.specs.Entries.{seen};
 ghost use Rattle.mv_table.specs.Scans.{foremost};
 ghost use Rattle.mv_alone.specs.Rows.{matching};
 ghost use Rattle.mv_alone.specs.FirstRows.{NeverFalls, Rises, AdmitMatches, does_order, does_rank};

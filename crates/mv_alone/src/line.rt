@@ -2,7 +2,8 @@
 
 ghost use Rattle.std.specs.Prelude.{◌≡◌, ◌++◌, All, OnOk, IfOk};
 ghost use Rattle.mv_values.specs.Printable.{IsPrintable};
-ghost use Rattle.mv_alone.specs.Line.{doubled, printed, line_of};
+ghost use Rattle.mv_values.specs.Texts.{doubled};
+ghost use Rattle.mv_alone.specs.Line.{printed, line_of};
 
 use crate::expr::digits;
 use mv_values::memory::NoMemory;

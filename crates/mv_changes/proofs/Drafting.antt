@@ -18,11 +18,11 @@ use Rattle.mv_values.specs.declared.value.Value.TheVariants.{Int}
 use Rattle.mv_values.specs.declared.patch.Write.{Write}
 use Rattle.mv_values.specs.Order.{key_order}
 use Rattle.mv_values.specs.Patching.{row_of, patched, applied}
-use Rattle.mv_values.specs.Tables.{rows_at}
+use Rattle.mv_values.specs.Tables.{rows_at, Tables}
 use Rattle.mv_values.proofs.KeyOrder.{exact_keys, tied, same_key}
 use Rattle.mv_values.proofs.Deciding.{or_none}
 use Rattle.mv_record.specs.declared.record.Record.{Record}
-use Rattle.mv_record.specs.Runs.{Tables, writes_in}
+use Rattle.mv_record.specs.Runs.{writes_in}
 use Rattle.mv_record.specs.Writes.{AreRising, is_on, writes_on, patched_by}
 use Rattle.mv_record.proofs.Patching.{row_applied, rising_applied, length_applied, applied_append}
 use Rattle.mv_table.specs.Entries.{item_of, put_by, with_item, KeysRise}

@@ -2,9 +2,9 @@
 use Rattle.std.specs.Prelude.{◌≡◌, List, map}
 use Rattle.mv_values.specs.declared.schema.TableInfo.{TableInfo}
 use Rattle.mv_values.specs.declared.calls.Call.{Call}
+use Rattle.mv_values.specs.Tables.{Tables}
 use Rattle.mv_catalog.specs.declared.resolved.ProcInfo.{ProcInfo}
 use Rattle.mv_catalog.specs.declared.resolved.Resolved.{Resolved}
-use Rattle.mv_record.specs.Runs.{Tables}
 use Rattle.mv_recorded.specs.Recorded.{meaning}
 use Rattle.mv_graph.specs.declared.graph.Graph.{Graph}
 use Rattle.mv_graph.specs.Nodes.{nodes_in, meaning_of}

@@ -6,8 +6,9 @@ use Rattle.std.proofs.lemmas.Bool.{le-ltb, ltb-false, cases_eq}
 use Rattle.mv_values.specs.declared.calls.Call.{Call}
 use Rattle.mv_values.specs.declared.schema.TableInfo.{TableInfo}
 use Rattle.mv_values.specs.Patching.{applied}
+use Rattle.mv_values.specs.Tables.{Tables}
 use Rattle.mv_record.specs.declared.record.Record.{Record}
-use Rattle.mv_record.specs.Runs.{Tables, Run}
+use Rattle.mv_record.specs.Runs.{Run}
 use Rattle.mv_record.specs.Databases.{IsDatabaseOf}
 use Rattle.mv_record.specs.Writes.{AreRising}
 use Rattle.mv_recorded.proofs.Fronts.{left_is}

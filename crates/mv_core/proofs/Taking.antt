@@ -6,8 +6,9 @@ use Rattle.std.proofs.lemmas.Option.{slice_get_within, slice_get_read}
 use Rattle.std.proofs.lemmas.Bool.{and_parts, cases_eq, ltb-false, lt-ltb}
 use Rattle.std.proofs.lemmas.List.{length-set, set-set}
 use Rattle.mv_values.specs.declared.calls.Call.{Call}
+use Rattle.mv_values.specs.Tables.{Tables}
 use Rattle.mv_record.specs.declared.record.Record.{Record}
-use Rattle.mv_record.specs.Runs.{Tables, Run}
+use Rattle.mv_record.specs.Runs.{Run}
 use Rattle.mv_record.specs.Writes.{AreRising}
 use Rattle.mv_graph.specs.declared.graph.Graph.{Graph}
 use Rattle.mv_graph.specs.Nodes.{meaning_of}

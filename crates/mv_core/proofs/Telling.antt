@@ -5,8 +5,9 @@ use Rattle.mv_values.specs.declared.calls.Call.{Call}
 use Rattle.mv_values.specs.declared.calls.End.{End}
 use Rattle.mv_values.specs.declared.calls.Reply.{Reply}
 use Rattle.mv_values.specs.Patching.{applied}
+use Rattle.mv_values.specs.Tables.{Tables}
 use Rattle.mv_record.specs.declared.record.Record.{Record}
-use Rattle.mv_record.specs.Runs.{Tables, Run, end_in, StopsWith, Tells, TellsAll}
+use Rattle.mv_record.specs.Runs.{Run, end_in, StopsWith, Tells, TellsAll}
 use Rattle.mv_record.specs.Writes.{AreRising}
 use Rattle.mv_recorded.proofs.Meant.{meaning_tells}
 use Rattle.mv_graph.specs.declared.graph.Graph.{Graph}

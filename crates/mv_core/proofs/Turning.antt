@@ -6,7 +6,7 @@ use Rattle.std.proofs.lemmas.Grind.{flat_map-append}
 use Rattle.std.proofs.lemmas.List.Elements.{filter-append}
 use Rattle.std.proofs.lemmas.Option.{slice_get_within}
 use Rattle.std.proofs.lemmas.List.{length-set}
-use Rattle.mv_record.specs.Runs.{Tables}
+use Rattle.mv_values.specs.Tables.{Tables}
 use Rattle.mv_history.specs.declared.change.Change.{Change}
 use Rattle.mv_history.specs.declared.change.Hit.{Hit}
 use Rattle.mv_history.specs.Hits.{first_hit}

@@ -3,9 +3,10 @@ use Rattle.std.specs.Prelude.{◌≡◌, ◌≤◌, ◌<◌, ◌^◌, ℕ, List,
 use Rattle.std.specs.List.{AllZip}
 use Rattle.mv_values.specs.declared.calls.Call.{Call}
 use Rattle.mv_values.specs.declared.schema.TableInfo.{TableInfo}
+use Rattle.mv_values.specs.Tables.{Tables}
 use Rattle.mv_catalog.specs.Text.{Suits}
 use Rattle.mv_record.specs.Databases.{IsDatabaseOf}
-use Rattle.mv_record.specs.Runs.{Tables, Run}
+use Rattle.mv_record.specs.Runs.{Run}
 use Rattle.mv_graph.specs.declared.graph.Graph.{Graph}
 use Rattle.mv_graph.specs.Nodes.{IsSound, meaning_of}
 use Rattle.mv_lawful.specs.Work.{Work}

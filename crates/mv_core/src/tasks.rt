@@ -4,8 +4,8 @@ ghost use Rattle.std.specs.Prelude.{◌≡◌, ◌<◌, ◌≤◌, ◌+◌, ℕ,
 ghost use Rattle.std.specs.Option.{option_copied};
 ghost use Rattle.mv_values.specs.declared.calls.Call.{Call};
 ghost use Rattle.mv_values.specs.Patching.{applied};
+ghost use Rattle.mv_values.specs.Tables.{Tables};
 ghost use Rattle.mv_record.specs.declared.record.Record.{Record};
-ghost use Rattle.mv_record.specs.Runs.{Tables};
 ghost use Rattle.mv_record.specs.Writes.{AreRising};
 ghost use Rattle.mv_graph.specs.declared.graph.Graph.{Graph};
 ghost use Rattle.mv_graph.specs.Nodes.{meaning_of};

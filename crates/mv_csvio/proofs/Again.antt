@@ -26,9 +26,10 @@ use Rattle.mv_values.specs.declared.schema.Column.{Column}
 use Rattle.mv_values.specs.declared.schema.TableInfo.{TableInfo}
 use Rattle.mv_values.specs.Columns.{columns_of}
 use Rattle.mv_values.specs.Keys.{IsRising}
-use Rattle.mv_values.specs.Printable.{IsPrintable}
+use Rattle.mv_values.specs.Printable.{IsPrintable, is_printable}
+use Rattle.mv_values.proofs.Printing.{passes_printable}
 use Rattle.mv_csvio.specs.Csv.{field_of, row_csv, rows_csv}
-use Rattle.mv_csvio.specs.Fields.{IsRow, are_digits, is_printable, is_text, natural, negative, number_in, value_in, values_in}
+use Rattle.mv_csvio.specs.Fields.{IsRow, are_digits, is_text, natural, negative, number_in, value_in, values_in}
 use Rattle.mv_csvio.specs.Fitting.{AllFit, FitsTable, FitsType}
 use Rattle.mv_csvio.specs.Joining.{under_key}
 use Rattle.mv_csvio.specs.Loading.{HasLoaded, Record, records_of}
@@ -68,12 +69,9 @@ decimal_in (negsuc n) h =
 
 -- A value's field is that value
 
-printable : (b : ℕ) → IsPrintable b → is_printable b ≡ true
-printable b h = and_from _ _ (le-leb 32 b h.0) (le-leb b 126 h.1)
-
 all_printable : (t : List ℕ) → All IsPrintable t → list_all is_printable t ≡ true
 all_printable [] h = refl
-all_printable (b ∷ bs) h = and_from _ _ (printable b (All-head IsPrintable b bs h)) (all_printable bs (All-tail IsPrintable b bs h))
+all_printable (b ∷ bs) h = and_from _ _ (passes_printable b (All-head IsPrintable b bs h)) (all_printable bs (All-tail IsPrintable b bs h))
 
 field_back : (k : ColType) (v : Value) → FitsType k v → value_in k (field_of v) ≡ Some v
 field_back column.Int (value.Int z) h = rw (decimal_in z h) refl

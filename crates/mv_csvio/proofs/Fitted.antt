@@ -15,7 +15,8 @@ use Rattle.mv_values.specs.declared.schema.ColType.TheVariants as column
 use Rattle.mv_values.specs.declared.schema.Column.{Column}
 use Rattle.mv_values.specs.declared.schema.TableInfo.{TableInfo}
 use Rattle.mv_values.specs.Columns.{columns_of}
-use Rattle.mv_csvio.specs.Fields.{IsRow, are_digits, is_printable, is_text, natural, negative, number_in, value_in, values_in}
+use Rattle.mv_values.specs.Printable.{is_printable}
+use Rattle.mv_csvio.specs.Fields.{IsRow, are_digits, is_text, natural, negative, number_in, value_in, values_in}
 use Rattle.mv_csvio.specs.Fitting.{FitsTable, FitsType, HasTypes}
 use Rattle.mv_csvio.specs.Joining.{HasJoined, under_key}
 use Rattle.mv_csvio.specs.Loading.{HasLoaded, Record}

@@ -3,7 +3,7 @@ use Rattle.std.proofs.Common.{w64, inl, inr, ◌≡◌, ◌∷◌, ◌<◌, ◌�
 use Rattle.std.specs.Prelude.{All}
 use Rattle.std.specs.List.{list_all}
 use Rattle.std.proofs.lemmas.List.Elements.{All-nil, All-cons}
-use Rattle.mv_values.specs.Printable.{IsPrintable}
+use Rattle.mv_values.specs.Printable.{IsPrintable, is_printable}
 use Rattle.std.specs.Prelude.{slice_index, MatchResult}
 use Rattle.std.specs.Result.{OkIff, result_ok}
 use Rattle.std.specs.Str.{IsAscii, IsUtf8}
@@ -14,10 +14,8 @@ use Rattle.std.proofs.lemmas.Bool.{cases_Bool, eqb-true, eqb-false, and_parts, a
 use Rattle.std.proofs.lemmas.Str.Parse.{parse_signed_plain, parse_signed_minus}
 use Rattle.mv_values.proofs.Deciding.{nothing_where, some_where}
 use Rattle.mv_values.proofs.Numerals.{Digits, numerals}
-use Rattle.mv_csvio.specs.Fields.{are_digits, is_printable, number_in, natural, negative}
-
-printable : (b : ℕ) → is_printable b ≡ true → IsPrintable b
-printable b h = search rules
+use Rattle.mv_values.proofs.Printing.{printable}
+use Rattle.mv_csvio.specs.Fields.{are_digits, number_in, natural, negative}
 
 pub all_printable : (field : List ℕ) → list_all is_printable field ≡ true → All IsPrintable field
 all_printable [] h = All-nil IsPrintable

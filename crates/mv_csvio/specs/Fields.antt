@@ -10,6 +10,7 @@ use Rattle.mv_values.specs.declared.value.Value.TheVariants as value
 use Rattle.mv_values.specs.declared.schema.ColType.{ColType}
 use Rattle.mv_values.specs.declared.schema.ColType.TheVariants as column
 use Rattle.mv_values.specs.declared.schema.Column.{Column}
+use Rattle.mv_values.specs.Printable.{is_printable}
 use Rattle.mv_csvio.specs.declared.fault.CopyFault.{CopyFault}
 use Rattle.mv_csvio.specs.declared.fault.CopyFault.TheVariants as fault
 
@@ -28,10 +29,6 @@ negative digits = if are_digits digits && nat_le (digits_value 10 digits) (2 ^ 6
 abbrev pub number_in : List ℕ → Option ℤ
 number_in [] = None
 number_in (b ∷ bs) = if b == 45 then negative bs else natural (b ∷ bs)
-
--- a byte that a text may contain
-abbrev pub is_printable : ℕ → Bool
-is_printable b = nat_le 32 b && nat_le b 126
 
 -- the field is a printable text of at most n bytes
 abbrev pub is_text : ℕ → List ℕ → Bool

@@ -1,5 +1,4 @@
 pub mod Csv
-pub mod Entries
 pub mod Fields
 pub mod Fitting
 pub mod Joining

@@ -2,8 +2,8 @@
 
 ghost use Rattle.std.specs.Prelude.{◌≡◌, ◌==◌, All, IfOk, IsTrue, slice_index};
 ghost use Rattle.std.specs.List.{list_all};
-ghost use Rattle.mv_values.specs.Printable.{IsPrintable};
-ghost use Rattle.mv_csvio.specs.Fields.{is_printable, is_text, number_in, value_in};
+ghost use Rattle.mv_values.specs.Printable.{IsPrintable, is_printable};
+ghost use Rattle.mv_csvio.specs.Fields.{is_text, number_in, value_in};
 
 use mv_values::memory::NoMemory;
 use mv_values::schema::ColType;

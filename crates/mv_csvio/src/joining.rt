@@ -22,11 +22,11 @@ pub struct Joining {
 impl Model for Joining {
     ghost use Rattle.std.specs.Prelude.{List as Seq};
     ghost use Rattle.mv_values.specs.declared.rows.Keyed.{Keyed};
-    ghost use Rattle.mv_csvio.specs.Entries.{keyed};
+    ghost use Rattle.mv_values.specs.Keys.{stored};
 
     ghost Value = { Seq Keyed };
 
-    ghost view = { λ j. keyed j.rows.entries };
+    ghost view = { λ j. stored j.rows.entries };
 }
 
 impl Joining {

@@ -1,17 +1,5 @@
 -- The effect of a read or a write on the bytes that are left or written, if these are told, and on a count of faults.
-use Rattle.std.specs.Prelude.{◌≡◌, ◌<◌, ◌+◌, ◌-◌, ◌^◌, ◌⊎◌, ◌++◌, ◌∷◌, [], ℕ, List, Option, Some, None, min}
-
--- the greatest value of a count, at which it stops
-abbrev pub greatest_count : ℕ
-greatest_count = 2 ^ 64 - 1
-
--- a count after one more
-abbrev pub one_more : ℕ → ℕ
-one_more count = min (count + 1) greatest_count
-
--- a count rose; one that was at its greatest value counts as risen
-abbrev pub Rose : ℕ → ℕ → Type 0
-Rose before after = (before < after) ⊎ (before ≡ greatest_count)
+use Rattle.std.specs.Prelude.{◌≡◌, ◌+◌, ◌++◌, ◌∷◌, [], ℕ, List, Option, Some, None}
 
 -- these bytes were the next of those that were left; nothing is claimed if the bytes aren't told
 abbrev pub Reads : Option (List ℕ) → Option (List ℕ) → List ℕ → Type 0

@@ -1,7 +1,8 @@
 //! Sources and sinks of bytes.
 
 ghost use Rattle.std.specs.Prelude.{◌≡◌, ◌<◌, ◌≤◌, ℕ, List, Option, length, take, IfOk, OnOk, OnErr};
-ghost use Rattle.mv_edge.specs.Edge.{Rose, greatest_count, Reads, IsAtEnd, Writes};
+ghost use Rattle.mv_values.specs.Counts.{greatest_count, Rose};
+ghost use Rattle.mv_edge.specs.Edge.{Reads, IsAtEnd, Writes};
 
 /// A read or a write failed.
 #[derive(Clone, Copy, PartialEq, Eq)]

@@ -1,7 +1,7 @@
 //! Plans of failing calls, for sources and sinks in memory.
 
 ghost use Rattle.std.specs.Prelude.{◌≡◌, ◌≤◌, ◌↔◌, Contains, IsTrue, IsErr, OnOk, OnErr};
-ghost use Rattle.mv_edge.specs.Edge.{Rose, one_more};
+ghost use Rattle.mv_values.specs.Counts.{one_more, Rose};
 
 use crate::edge::Failed;
 use mv_values::list::List;

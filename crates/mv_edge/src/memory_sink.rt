@@ -1,7 +1,8 @@
 //! A sink in memory. It fails at listed calls and when it is full.
 
 ghost use Rattle.std.specs.Prelude.{◌≡◌, ◌<◌, ◌≤◌, ◌+◌, ◌↔◌, ◌⊎◌, Some, Contains, take, [], length, min, IfOk, OnOk, OnErr, IsErr};
-ghost use Rattle.mv_edge.specs.Edge.{Rose, greatest_count, one_more, Writes};
+ghost use Rattle.mv_values.specs.Counts.{greatest_count, one_more, Rose};
+ghost use Rattle.mv_edge.specs.Edge.{Writes};
 ghost use Rattle.mv_edge.specs.Memory.{IsTooFull};
 
 use crate::edge::{Failed, Sink};

@@ -1,7 +1,8 @@
 //! A source in memory. It fails at listed calls.
 
 ghost use Rattle.std.specs.Prelude.{◌≡◌, ◌<◌, ◌≤◌, ◌↔◌, Some, Contains, take, length, min, IfOk, OnOk, OnErr, IsErr};
-ghost use Rattle.mv_edge.specs.Edge.{Rose, greatest_count, one_more, Reads, IsAtEnd};
+ghost use Rattle.mv_values.specs.Counts.{greatest_count, one_more, Rose};
+ghost use Rattle.mv_edge.specs.Edge.{Reads, IsAtEnd};
 
 use crate::edge::{Failed, Source};
 use crate::fault_plan::FaultPlan;

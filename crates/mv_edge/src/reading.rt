@@ -2,7 +2,7 @@
 
 ghost use Rattle.std.specs.Prelude.{◌≡◌, ◌≤◌, Some, take, drop, IfOk, OnOk, IsErrOf};
 ghost use Rattle.std.specs.Option.{ForSome};
-ghost use Rattle.mv_edge.specs.Edge.{Rose};
+ghost use Rattle.mv_values.specs.Counts.{Rose};
 
 use crate::edge::{Failed, Source};
 use mv_values::list::List;

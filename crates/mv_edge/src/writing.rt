@@ -1,7 +1,8 @@
 //! Writing all of some bytes.
 
 ghost use Rattle.std.specs.Prelude.{◌≡◌, ◌≤◌, OnOk, OnErr};
-ghost use Rattle.mv_edge.specs.Edge.{Rose, Writes, WritesFront};
+ghost use Rattle.mv_values.specs.Counts.{Rose};
+ghost use Rattle.mv_edge.specs.Edge.{Writes, WritesFront};
 
 use crate::edge::{Failed, Sink};
 

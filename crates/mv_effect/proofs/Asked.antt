@@ -10,10 +10,11 @@ use Rattle.mv_values.specs.declared.patch.Write.{Write}
 use Rattle.mv_values.specs.Keys.{IsRising}
 use Rattle.mv_values.specs.Order.{key_order}
 use Rattle.mv_values.specs.Patching.{row_of, placed}
+use Rattle.mv_values.specs.Counts.{one_more}
 use Rattle.mv_values.proofs.KeyOrder.{tied}
 use Rattle.mv_record.proofs.Patching.{row_of-placed_same, placed_other, rising_placed}
 use Rattle.mv_undo.specs.Owning.{is_among}
-use Rattle.mv_view.specs.Viewing.{Sight, one_more, with_rows_call}
+use Rattle.mv_view.specs.Viewing.{Sight, with_rows_call}
 use Rattle.mv_effect.specs.Looking.{IsSameView, WasNeverStale, AskedAtMost, AskedFor, different}
 
 -- it was asked so often, and none of its answers was Stale

@@ -12,6 +12,7 @@ use Rattle.mv_values.specs.declared.rows.Keyed.{Keyed}
 use Rattle.mv_values.specs.declared.pred.Pred.{Pred}
 use Rattle.mv_values.specs.Order.{key_order}
 use Rattle.mv_values.specs.Patching.{row_of}
+use Rattle.mv_values.specs.Counts.{one_more}
 use Rattle.mv_values.proofs.KeyOrder.{tied}
 use Rattle.mv_table.specs.declared.scan.Direction.{Direction}
 use Rattle.mv_table.specs.declared.scan.Direction.TheVariants.{Forward, Backward}
@@ -20,7 +21,7 @@ use Rattle.mv_undo.specs.Taking.{meets_first}
 use Rattle.mv_undo.specs.declared.owned.Owned.{Owned}
 use Rattle.mv_undo.specs.Owning.{earlier, is_among, is_sought}
 use Rattle.mv_undo.proofs.Taking.{never_itself}
-use Rattle.mv_view.specs.Viewing.{Sight, one_more, with_row_call, answered}
+use Rattle.mv_view.specs.Viewing.{Sight, with_row_call, answered}
 use Rattle.mv_view.specs.declared.view.Refused.{Refused}
 use Rattle.mv_view.specs.declared.view.Refused.TheVariants.{NoMemory, Stale}
 use Rattle.mv_effect.specs.Firsts.{is_met_before, IsFirstOf}

@@ -6,12 +6,13 @@ use Rattle.mv_values.specs.declared.patch.Write.{Write}
 use Rattle.mv_values.specs.declared.schema.TableInfo.{TableInfo}
 use Rattle.mv_values.specs.Patching.{applied}
 use Rattle.mv_values.specs.Tables.{KeysStand}
+use Rattle.mv_values.specs.Counts.{one_more}
 use Rattle.mv_catalog.specs.declared.resolved.RStmt.{RStmt, out-RStmt}
 use Rattle.mv_catalog.specs.Text.{IsTable}
 use Rattle.mv_alone.specs.declared.state.Env.{Env}
 use Rattle.mv_record.specs.Databases.{IsDatabaseOf}
 use Rattle.mv_undo.specs.Owning.{touches}
-use Rattle.mv_view.specs.Viewing.{Sight, one_more, MayAnswer}
+use Rattle.mv_view.specs.Viewing.{Sight, MayAnswer}
 use Rattle.mv_view.specs.declared.view.Refused.{Refused}
 use Rattle.mv_view.specs.declared.view.Refused.TheVariants.{NoMemory, Stale}
 use Rattle.mv_effect.specs.Naming.{NamesColumns}

@@ -9,12 +9,12 @@ use Rattle.mv_values.specs.declared.calls.End.{End}
 use Rattle.mv_values.specs.declared.patch.Write.{Write}
 use Rattle.mv_values.specs.declared.schema.TableInfo.{TableInfo}
 use Rattle.mv_values.specs.Patching.{applied, written}
+use Rattle.mv_values.specs.Tables.{Tables}
 use Rattle.mv_catalog.specs.declared.resolved.ProcInfo.{ProcInfo}
 use Rattle.mv_catalog.specs.declared.resolved.RStmt.{RStmt, out-RStmt, roll-RStmt, roll-out-RStmt}
 use Rattle.mv_catalog.specs.declared.resolved.RStmt.TheOpen.{RStmt-F}
 use Rattle.mv_alone.specs.declared.state.Env.{Env}
 use Rattle.mv_alone.specs.declared.state.State.{State}
-use Rattle.mv_alone.specs.TableAfter.{Tables}
 use Rattle.mv_record.specs.declared.record.Record.{Record}
 use Rattle.mv_record.specs.Runs.{lines_in, writes_in}
 use Rattle.mv_record.specs.Writes.{AreRising}
@@ -23,6 +23,7 @@ use Rattle.mv_recorded.specs.Asking.{on}
 use Rattle.mv_recorded.specs.Doing.{itself}
 use Rattle.mv_recorded.specs.Recorded.{Site, own_record, outside, within_loop}
 use Rattle.mv_recorded.specs.Effect.{with_slots, behind, EndsOnly, TellsEffect, HasColumns}
+use Rattle.mv_recorded.specs.Own.{rows_of}
 use Rattle.mv_recorded.proofs.Effects.{effect_known}
 use Rattle.mv_exec.specs.declared.places.Holder.{Holder}
 use Rattle.mv_exec.specs.declared.places.Holder.TheVariants as by
@@ -30,7 +31,7 @@ use Rattle.mv_effect.specs.Choosing.{Chooses}
 use Rattle.mv_exec.specs.declared.places.Place.{Place}
 use Rattle.mv_exec.specs.declared.task.Task.{Task}
 use Rattle.mv_exec.specs.Left.{Job, run, left, inside}
-use Rattle.mv_exec.specs.Places.{block_of, statement_before, holder_of, site_in, site_of, some_run, some_turns, turns_of, rows_in, jobs_here, jobs_of, jobs_left, StandsAt}
+use Rattle.mv_exec.specs.Places.{block_of, statement_before, holder_of, site_in, site_of, some_run, some_turns, turns_of, jobs_here, jobs_of, jobs_left, StandsAt}
 use Rattle.mv_exec.specs.Moves.{inner_places, after_empty_loop, place_after}
 use Rattle.mv_exec.specs.Tasks.{places_of, state_of, left_of, IsTask, IsHeldBefore, AreHeldBefore}
 use Rattle.mv_exec.proofs.Leaving.{statement_first}
@@ -56,7 +57,7 @@ same_turns_of : (rs : List Record) (r : Record) (site : Site) (block : List RStm
 same_turns_of rs r site block first by.Procedure lt = refl
 same_turns_of rs r site block first (by.Branch number b) lt = refl
 same_turns_of rs r site block first (by.Loop number x k) lt =
-    ap (λ o. some_turns (within_loop x number site) first x block (drop k (rows_in o)) (k + 1)) (get_front rs r number lt)
+    ap (λ o. some_turns (within_loop x number site) first x block (drop k (rows_of o)) (k + 1)) (get_front rs r number lt)
 
 same_jobs : (proc : ProcInfo) (rs : List Record) (r : Record) (s : Option RStmt) (site : Site) (ps : List Place) → AreHeldBefore (length rs) ps
     → jobs_of proc (rs ++ r ∷ []) s site ps ≡ jobs_of proc rs s site ps
@@ -149,7 +150,7 @@ new_jobs proc task r outer p s b t at =
     let runs : List Job = some_run (site_in p.holder site) (p.number + size s) (drop (p.at + 1) block) in
     let holders : AreHeldBefore number (outer ++ p ∷ []) = subst (AreHeldBefore number) at.are t.holders in
     inner_left proc rs (outer ++ q ∷ []) s (out-RStmt s) number p.number b (held_statement proc (places_of task) outer p s (size s) at) refl
-    ∙ (ap (λ o. inner_jobs number p.number b (site_of outside (outer ++ q ∷ [])) (rows_in o) (out-RStmt s) ++ jobs_left proc rs (outer ++ q ∷ [])) (get_last task.records r)
+    ∙ (ap (λ o. inner_jobs number p.number b (site_of outside (outer ++ q ∷ [])) (rows_of o) (out-RStmt s) ++ jobs_left proc rs (outer ++ q ∷ [])) (get_last task.records r)
     ∙ (ap (λ i. inner_jobs number p.number b i r.rows (out-RStmt s) ++ jobs_left proc rs (outer ++ q ∷ [])) (site_more outside outer q)
     ∙ ap (λ js. inner_jobs number p.number b (site_in p.holder site) r.rows (out-RStmt s) ++ js)
     (jobs_more proc rs None outside outer q

@@ -3,11 +3,11 @@ use Rattle.std.proofs.Common.{◌≡◌, ℕ, ◌+◌, ◌-◌, List, [], ◌∷
 use Rattle.std.proofs.lemmas.List.{length_push}
 use Rattle.mv_values.specs.declared.schema.TableInfo.{TableInfo}
 use Rattle.mv_values.specs.Patching.{applied}
+use Rattle.mv_values.specs.Tables.{Tables}
 use Rattle.mv_catalog.specs.declared.resolved.ProcInfo.{ProcInfo}
 use Rattle.mv_catalog.specs.declared.resolved.RStmt.{RStmt, out-RStmt}
 use Rattle.mv_catalog.specs.Statements.{size}
 use Rattle.mv_alone.specs.declared.state.State.{State}
-use Rattle.mv_alone.specs.TableAfter.{Tables}
 use Rattle.mv_record.specs.declared.record.Record.{Record}
 use Rattle.mv_record.specs.Runs.{writes_in}
 use Rattle.mv_record.specs.Writes.{AreRising}
@@ -18,6 +18,7 @@ use Rattle.mv_recorded.specs.Recorded.{Site, own_record, outside}
 use Rattle.mv_undo.specs.Owning.{earlier}
 use Rattle.mv_view.specs.Viewing.{Sight}
 use Rattle.mv_record.specs.declared.effect.Effect.{Effect}
+use Rattle.mv_record.specs.Effects.{record_of}
 use Rattle.mv_recorded.specs.Effects.{IsEffect}
 use Rattle.mv_effect.specs.Looking.{AskedFor}
 use Rattle.mv_exec.specs.declared.places.Place.{Place}
@@ -27,7 +28,7 @@ use Rattle.mv_exec.specs.Left.{run, left, inside}
 use Rattle.mv_exec.specs.Places.{block_of, holder_of, site_in, site_of, turns_of, jobs_left, StandsAt}
 use Rattle.mv_exec.specs.Tasks.{places_of, state_of, left_of, IsTask}
 use Rattle.mv_exec.specs.Ahead.{ForeseesLeft, ahead_in}
-use Rattle.mv_exec.specs.Steps.{HasAdded, HasExecuted, record_of}
+use Rattle.mv_exec.specs.Steps.{HasAdded, HasExecuted}
 use Rattle.mv_exec.specs.Running.{Foresees}
 use Rattle.mv_exec.proofs.Adding.{left_next}
 use Rattle.mv_exec.proofs.Writing.{own_writes}
@@ -46,7 +47,7 @@ pub record LeavesNext (proc : ProcInfo) (tables : List TableInfo) (task : Task) 
 -- the record of the next statement's effect is the next one
 effect_next : (proc : ProcInfo) (tables : List TableInfo) (task : Task) (db : Tables) (outer : List Place) (p : Place) (s : RStmt) (ahead : Ahead) (e : Effect)
     → IsTask proc task → StandsAt proc (places_of task) outer p s → ForeseesLeft proc task (Some ahead)
-    → IsEffect tables (out-RStmt s) task.variables.env (applied (earlier (length task.records) task.undo) db) e → LeavesNext proc tables task db (record_of ahead e)
+    → IsEffect tables (out-RStmt s) task.variables.env (applied (earlier (length task.records) task.undo) db) e → LeavesNext proc tables task db (record_of ahead.spot ahead.parent ahead.reads e)
 effect_next proc tables task db outer p s ahead e t at next effect =
     let st : State = state_of task db in
     let site : Site = site_in p.holder (site_of outside outer) in
@@ -57,7 +58,7 @@ effect_next proc tables task db outer p s ahead e t at next effect =
     let leaves : left_of proc tables task db ≡ own ∷ rest = left_next proc tables task db outer p s at in
     let foreseen : Foresees (Some ahead) (own ∷ rest) = subst (Foresees (Some ahead)) leaves (next tables db) in
     let is : e ≡ effect_of tables (out-RStmt s) st = subst (λ ws. IsEffect tables (out-RStmt s) task.variables.env (applied ws db) e) (own_writes proc task t) effect st.lines in
-    let same : own ≡ record_of ahead e = ap (λ a. record_of a (effect_of tables (out-RStmt s) st)) (same_ahead (ahead_in own) ahead foreseen.0 foreseen.1 foreseen.2) ∙ ap (record_of ahead) (sym is) in
+    let same : own ≡ record_of ahead.spot ahead.parent ahead.reads e = ap (λ (a : Ahead). record_of a.spot a.parent a.reads (effect_of tables (out-RStmt s) st)) (same_ahead (ahead_in own) ahead foreseen.0 foreseen.1 foreseen.2) ∙ ap (record_of ahead.spot ahead.parent ahead.reads) (sym is) in
     record {
       tail = rest;
       left = leaves ∙ ap (λ r. r ∷ rest) same;
@@ -81,9 +82,9 @@ pub executed_next : (proc : ProcInfo) (tables : List TableInfo) (old new : Task)
     → IsTask proc old → StandsAt proc (places_of old) outer p s → HasColumns (out-RStmt s) → AreRising before.database → ForeseesLeft proc old (Some ahead)
     → IsEffect tables (out-RStmt s) old.variables.env (applied (earlier (length old.records) old.undo) before.database) e
     → AskedFor e.preds (earlier (length old.records) old.undo) before after
-    → r ≡ record_of ahead e → HasAdded proc old r new → HasExecuted tables proc old (record new { executed = n }) before after
+    → r ≡ record_of ahead.spot ahead.parent ahead.reads e → HasAdded proc old r new → HasExecuted tables proc old (record new { executed = n }) before after
 executed_next proc tables old new before after n outer p s ahead e r t at has rise next effect asked is added =
-    let it : LeavesNext proc tables old before.database (record_of ahead e) = effect_next proc tables old before.database outer p s ahead e t at next effect in
+    let it : LeavesNext proc tables old before.database (record_of ahead.spot ahead.parent ahead.reads e) = effect_next proc tables old before.database outer p s ahead e t at next effect in
     let left : left_of proc tables old before.database ≡ r ∷ it.tail = it.left ∙ ap (λ q. q ∷ it.tail) (sym is) in
     record {
       next = r;

@@ -3,10 +3,10 @@ use Rattle.std.proofs.Common.{◌≡◌, ◌↔◌, ◌<◌, ◌^◌, ◌+◌, f
 use Rattle.mv_values.specs.declared.calls.Call.{Call}
 use Rattle.mv_values.specs.declared.schema.TableInfo.{TableInfo}
 use Rattle.mv_values.specs.Patching.{applied}
-use Rattle.mv_values.specs.Tables.{KeysStand}
+use Rattle.mv_values.specs.Tables.{KeysStand, Tables}
 use Rattle.mv_catalog.specs.declared.resolved.ProcInfo.{ProcInfo}
 use Rattle.mv_alone.specs.declared.state.Env.{Env}
-use Rattle.mv_alone.specs.TableAfter.{Tables, entered}
+use Rattle.mv_alone.specs.TableAfter.{entered}
 use Rattle.mv_record.specs.declared.record.Record.{Record}
 use Rattle.mv_record.specs.Runs.{writes_in}
 use Rattle.mv_record.specs.Writes.{AreRising}
@@ -18,7 +18,7 @@ use Rattle.mv_graph.specs.Nodes.{IsSound, meaning_of}
 use Rattle.mv_exec.specs.declared.task.Ahead.{Ahead}
 use Rattle.mv_exec.specs.declared.task.Task.{Task}
 use Rattle.mv_exec.specs.Tasks.{left_of, run_of, IsTask, StandsAsBefore, BeginsCall, TellsEnd}
-use Rattle.mv_exec.specs.Running.{Leaves, IsTaskOf, IsTaskOn, IsRunningOn, IsSameCall, IsSameCallOn, IsUnchanged, Foresees, IsAhead, HasContent, HasAdopted, GoesOnWith, HasRun, EndsExactly, KeysKept, count_left}
+use Rattle.mv_exec.specs.Running.{Leaves, IsTaskOf, IsTaskOn, IsRunningOn, IsSameCall, IsSameCallOn, IsUnchanged, Foresees, IsAhead, HasContent, HasAdopted, GoesOnWith, HasRun, EndsExactly, count_left}
 use Rattle.mv_exec.specs.Ahead.{ForeseesLeft}
 use Rattle.mv_exec.specs.Steps.{HasAdded, HasExecuted}
 use Rattle.mv_exec.proofs.Adopting.{added_before, none_ended, some_ahead}
@@ -104,9 +104,6 @@ ends_exactly g call db task rest is rise leaves =
     let exact : TellsEnd g.procedure task task.ended = ending.ends_exactly g.procedure task is.whole in
     let left : left_of g.procedure g.tables task db ≡ rest = is.left db rest rise leaves in
     (λ e. sym left ∙ (exact g.tables db).0 e, λ none. (exact g.tables db).1 (left ∙ none))
-
-pub keys_kept : KeysKept
-keys_kept g db task base on = on.1.is.keys db on.1.rest base on.1.leaves
 
 -- a call that has ended has all records of its full run
 pub finished : (g : Graph) (db : Tables) (task : Task) → AreRising db → IsRunningOn g db task → task.ended ≡ true → (call : Call) → IsTaskOf g call task → task.records ≡ (meaning_of g call db).records

@@ -5,9 +5,8 @@ use Rattle.std.proofs.lemmas.Bool.{lt-ltb, le-ltb}
 use Rattle.mv_values.specs.declared.patch.Write.{Write}
 use Rattle.mv_values.specs.declared.schema.TableInfo.{TableInfo}
 use Rattle.mv_values.specs.Patching.{applied}
-use Rattle.mv_values.specs.Tables.{KeysStand}
+use Rattle.mv_values.specs.Tables.{KeysStand, Tables}
 use Rattle.mv_catalog.specs.declared.resolved.ProcInfo.{ProcInfo}
-use Rattle.mv_alone.specs.TableAfter.{Tables}
 use Rattle.mv_record.specs.declared.record.Record.{Record}
 use Rattle.mv_record.specs.Runs.{writes_in}
 use Rattle.mv_undo.specs.declared.owned.Owned.{Owned}

@@ -2,9 +2,9 @@
 use Rattle.std.specs.Prelude.{◌≡◌, ℕ, Bool, not, nat_lt, List, [], ◌∷◌, ◌++◌, Option, Some, None, map, length, slice_get}
 use Rattle.std.specs.Option.{option_or}
 use Rattle.mv_values.specs.declared.schema.TableInfo.{TableInfo}
+use Rattle.mv_values.specs.Tables.{Tables}
 use Rattle.mv_catalog.specs.declared.resolved.ProcInfo.{ProcInfo}
 use Rattle.mv_catalog.specs.declared.resolved.RStmt.{RStmt}
-use Rattle.mv_alone.specs.TableAfter.{Tables}
 use Rattle.mv_record.specs.declared.record.Record.{Record}
 use Rattle.mv_recorded.specs.Reading.{loop_of}
 use Rattle.mv_recorded.specs.Recorded.{Site}

@@ -9,6 +9,7 @@ use Rattle.mv_alone.specs.declared.state.Held.TheVariants.{Turn}
 use Rattle.mv_alone.specs.Env.{with_held}
 use Rattle.mv_record.specs.declared.record.Record.{Record}
 use Rattle.mv_recorded.specs.Recorded.{Site, outside, within, within_loop, in_turn}
+use Rattle.mv_recorded.specs.Own.{rows_of}
 use Rattle.mv_exec.specs.declared.places.Holder.{Holder}
 use Rattle.mv_exec.specs.declared.places.Holder.TheVariants as by
 use Rattle.mv_exec.specs.declared.places.Place.{Place}
@@ -67,13 +68,8 @@ site_of site (p ∷ ps) = site_of (site_in p.holder site) ps
 
 -- What is left
 
--- the rows of a loop are those of its FOR's record
-abbrev pub rows_in : Option Record → List (List Value)
-rows_in None = []
-rows_in (Some r) = r.rows
-
 abbrev pub loop_rows : List Record → ℕ → List (List Value)
-loop_rows rs number = rows_in (slice_get rs number)
+loop_rows rs number = rows_of (slice_get rs number)
 
 abbrev pub some_run : Site → ℕ → List RStmt → List Job
 some_run site n [] = []

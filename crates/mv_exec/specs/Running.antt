@@ -2,8 +2,8 @@
 use Rattle.std.specs.Prelude.{◌≡◌, ◌↔◌, ◌+◌, ◌*◌, ℕ, Bool, true, false, List, [], ◌∷◌, ◌++◌, Option, Some, None, Result, Ok, Err, length}
 use Rattle.mv_values.specs.declared.calls.Call.{Call}
 use Rattle.mv_values.specs.Patching.{applied}
-use Rattle.mv_values.specs.Tables.{KeysStand}
-use Rattle.mv_alone.specs.TableAfter.{Tables, entered}
+use Rattle.mv_values.specs.Tables.{KeysStand, Tables}
+use Rattle.mv_alone.specs.TableAfter.{entered}
 use Rattle.mv_record.specs.declared.record.Record.{Record}
 use Rattle.mv_record.specs.Runs.{writes_in}
 use Rattle.mv_record.specs.Writes.{AreRising}
@@ -131,7 +131,3 @@ pub record HasRunTo (old new : Task) (vain : ℕ) (before after : Sight) : Type 
 -- that run
 abbrev pub EndsExactly : Type 0
 EndsExactly = (g : Graph) (call : Call) (db : Tables) (task : Task) (rest : List Record) → IsTaskOf g call task → AreRising db → Leaves g call db task rest → (task.ended ≡ true) ↔ (rest ≡ [])
-
--- the writes of the first records of a full run leave each row under its own values of the key columns
-abbrev pub KeysKept : Type 0
-KeysKept = (g : Graph) (db : Tables) (task : Task) → IsDatabaseOf g.tables db → IsRunningOn g db task → KeysStand g.tables (applied (writes_in task.records) db)

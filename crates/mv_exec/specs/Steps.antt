@@ -2,18 +2,15 @@
 use Rattle.std.specs.Prelude.{◌≡◌, ℕ, List, [], ◌∷◌, ◌++◌, length, take}
 use Rattle.mv_values.specs.declared.schema.TableInfo.{TableInfo}
 use Rattle.mv_values.specs.Patching.{applied}
-use Rattle.mv_values.specs.Tables.{KeysStand}
+use Rattle.mv_values.specs.Tables.{KeysStand, Tables}
 use Rattle.mv_catalog.specs.declared.resolved.ProcInfo.{ProcInfo}
 use Rattle.mv_alone.specs.declared.state.Env.{Env}
-use Rattle.mv_alone.specs.TableAfter.{Tables}
 use Rattle.mv_record.specs.declared.record.Record.{Record}
 use Rattle.mv_record.specs.Runs.{writes_in}
 use Rattle.mv_record.specs.Writes.{AreRising}
 use Rattle.mv_view.specs.Viewing.{Sight}
-use Rattle.mv_record.specs.declared.effect.Effect.{Effect}
 use Rattle.mv_effect.specs.Looking.{AskedFor}
 use Rattle.mv_exec.specs.declared.places.Place.{Place}
-use Rattle.mv_exec.specs.declared.task.Ahead.{Ahead}
 use Rattle.mv_exec.specs.declared.task.Task.{Task}
 use Rattle.mv_exec.specs.Keeping.{undo_of, with_room, define, slot_room}
 use Rattle.mv_exec.specs.Tasks.{beginning, left_of, definer_in}
@@ -57,20 +54,6 @@ pub record HasAdded (proc : ProcInfo) (old : Task) (r : Record) (new : Task) : T
   pub left : (tables : List TableInfo) (db : Tables) (tail : List Record) → AreRising db → left_of proc tables old db ≡ r ∷ tail → left_of proc tables new db ≡ tail
   pub keys : (tables : List TableInfo) (db : Tables) (tail : List Record) → AreRising db → left_of proc tables old db ≡ r ∷ tail
       → KeysStand tables (applied (writes_in old.records) db) → KeysStand tables (applied (writes_in new.records) db)
-
--- the record of an effect, given what is ahead
-abbrev pub record_of : Ahead → Effect → Record
-record_of ahead e = record {
-  spot = ahead.spot;
-  parent = ahead.parent;
-  reads = ahead.reads;
-  preds = e.preds;
-  sets = e.sets;
-  rows = e.rows;
-  writes = e.writes;
-  line = e.line;
-  end = e.end;
-}
 
 -- the next record of the run on a view's database was added; the view was queried for its predicates, over the writes
 -- of earlier records

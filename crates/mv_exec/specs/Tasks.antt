@@ -3,11 +3,12 @@ use Rattle.std.specs.Prelude.{◌≡◌, ◌↔◌, ◌<◌, ◌≤◌, ℕ, Boo
 use Rattle.mv_values.specs.declared.calls.Call.{Call}
 use Rattle.mv_values.specs.declared.schema.TableInfo.{TableInfo}
 use Rattle.mv_values.specs.Patching.{applied}
+use Rattle.mv_values.specs.Tables.{Tables}
 use Rattle.mv_catalog.specs.declared.resolved.ProcInfo.{ProcInfo}
 use Rattle.mv_catalog.specs.declared.resolved.RStmt.{RStmt}
 use Rattle.mv_alone.specs.declared.state.Env.{Env}
 use Rattle.mv_alone.specs.declared.state.State.{State}
-use Rattle.mv_alone.specs.TableAfter.{Tables, entered}
+use Rattle.mv_alone.specs.TableAfter.{entered}
 use Rattle.mv_record.specs.declared.record.Record.{Record}
 use Rattle.mv_record.specs.Runs.{lines_in, writes_in}
 use Rattle.mv_recorded.specs.Reading.{last_place, sets_variable}

@@ -7,11 +7,12 @@ ghost use Rattle.mv_graph.specs.Nodes.{IsSound, TellsOf};
 ghost use Rattle.mv_record.specs.Runs.{writes_in};
 ghost use Rattle.mv_undo.specs.Owning.{earlier};
 ghost use Rattle.mv_record.specs.Databases.{IsDatabaseOf};
+ghost use Rattle.mv_record.specs.Effects.{record_of};
 ghost use Rattle.mv_effect.specs.Looking.{OnlyAsks, AskedAtMost, different};
 ghost use Rattle.mv_exec.specs.Places.{IsAt};
 ghost use Rattle.mv_exec.specs.Ahead.{ForeseesLeft};
 ghost use Rattle.mv_exec.specs.Running.{stepped};
-ghost use Rattle.mv_exec.specs.Steps.{record_of, HasExecuted};
+ghost use Rattle.mv_exec.specs.Steps.{HasExecuted};
 ghost use Rattle.mv_exec.specs.Tasks.{places_of, IsTask, StandsAsBefore};
 
 use crate::add::add;
@@ -27,7 +28,7 @@ use std::alloc::Global;
 
 /// Returns the record of an effect, with the place, controller and definers that are ahead.
 fn record_of(ahead: Ahead, effect: Effect) -> Record
-    ensures { result ≡ record_of ahead effect }
+    ensures { result ≡ record_of ahead.spot ahead.parent ahead.reads effect }
 {
     Record {
         spot: ahead.spot,

@@ -1,13 +1,13 @@
 //! Running calls of a graph: one statement at a time over a view, or to the end.
 
 ghost use Rattle.std.specs.Prelude.{◌≡◌, ◌↔◌, ◌≤◌, [], None, false, true, length, IfOk, OnOk, OnErr};
-ghost use Rattle.mv_alone.specs.TableAfter.{Tables};
 ghost use Rattle.mv_values.specs.declared.calls.Call.{Call};
+ghost use Rattle.mv_values.specs.Tables.{Tables};
 ghost use Rattle.mv_record.specs.Runs.{writes_in};
 ghost use Rattle.mv_graph.specs.Nodes.{IsSound, meaning_of};
 ghost use Rattle.mv_record.specs.Databases.{IsDatabaseOf};
 ghost use Rattle.mv_effect.specs.Looking.{AskedAtMost, OnlyAsks, different};
-ghost use Rattle.mv_exec.specs.Running.{IsRunning, IsRunningOn, IsSameCall, IsSameCallOn, IsTaskOf, IsTaskOn, IsUnchanged, IsAhead, GoesOnWith, HasAdopted, HasRun, HasRunTo, refusals, stepped, EndsExactly, KeysKept};
+ghost use Rattle.mv_exec.specs.Running.{IsRunning, IsRunningOn, IsSameCall, IsSameCallOn, IsTaskOf, IsTaskOn, IsUnchanged, IsAhead, GoesOnWith, HasAdopted, HasRun, HasRunTo, refusals, stepped, EndsExactly};
 
 use crate::add::add;
 use crate::ahead::{come_to, foresee};
@@ -54,17 +54,11 @@ pub fn peek(alloc: Global, graph: &Graph, task: &Task) -> Result<Option<Ahead>, 
 fn record_at(ahead: Ahead, given: Record) -> Record
     ensures { result ≡ record given { spot = ahead.spot; parent = ahead.parent; reads = ahead.reads } }
 {
-    Record {
-        spot: ahead.spot,
-        parent: ahead.parent,
-        reads: ahead.reads,
-        preds: given.preds,
-        sets: given.sets,
-        rows: given.rows,
-        writes: given.writes,
-        line: given.line,
-        end: given.end,
-    }
+    let mut record = given;
+    record.spot = ahead.spot;
+    record.parent = ahead.parent;
+    record.reads = ahead.reads;
+    record
 }
 
 /// Adds a given record for the next statement, without executing it. The record gets that statement's place, controller
@@ -154,10 +148,4 @@ pub fn finish<V: View>(
 #[tactic(auto, using(crate::proofs::Fronts::ends_exactly))]
 pub fn calls_end_exactly()
     ensures { EndsExactly }
-{}
-
-/// The writes of a call's first records leave each row under its own key.
-#[tactic(auto, using(crate::proofs::Fronts::keys_kept))]
-pub fn keys_are_kept()
-    ensures { KeysKept }
 {}

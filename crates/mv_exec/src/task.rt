@@ -3,9 +3,10 @@
 ghost use Rattle.std.specs.Prelude.{◌≡◌, ◌<◌, [], ◌∷◌, length, IfOk, List};
 ghost use Rattle.mv_values.specs.declared.schema.TableInfo.{TableInfo};
 ghost use Rattle.mv_values.specs.declared.calls.Call.{Call};
+ghost use Rattle.mv_values.specs.Tables.{Tables};
 ghost use Rattle.mv_catalog.specs.declared.resolved.ProcInfo.{ProcInfo};
 ghost use Rattle.mv_catalog.specs.declared.resolved.RStmt.{RStmt};
-ghost use Rattle.mv_alone.specs.TableAfter.{Tables, entered};
+ghost use Rattle.mv_alone.specs.TableAfter.{entered};
 ghost use Rattle.mv_recorded.specs.Recorded.{recorded};
 ghost use Rattle.mv_graph.specs.declared.graph.Graph.{Graph};
 ghost use Rattle.mv_exec.specs.Env.{at_beginning};

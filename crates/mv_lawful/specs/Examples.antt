@@ -14,10 +14,10 @@ use Rattle.mv_values.specs.declared.calls.Reply.{Reply}
 use Rattle.mv_values.specs.declared.patch.Patch.TheVariants as patch
 use Rattle.mv_values.specs.declared.rows.Keyed.{Keyed}
 use Rattle.mv_values.specs.Patching.{row_of, applied}
-use Rattle.mv_values.specs.Tables.{rows_at}
+use Rattle.mv_values.specs.Tables.{rows_at, Tables}
 use Rattle.mv_record.specs.declared.record.Record.{Record}
 use Rattle.mv_record.specs.declared.record.Read.{Read}
-use Rattle.mv_record.specs.Runs.{Tables, Run, writes_in, lines_in, end_in}
+use Rattle.mv_record.specs.Runs.{Run, writes_in, lines_in, end_in}
 use Rattle.mv_record.specs.Samples.{key, account, asks, test, writes_column, writes_balance, reads, reads_default, sets, blank, look, change, print}
 use Rattle.mv_journal.specs.declared.event.Event.{Event}
 use Rattle.mv_journal.specs.declared.event.Event.TheVariants.{B, S, A, M, C, X, G}

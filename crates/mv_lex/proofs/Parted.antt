@@ -2,8 +2,10 @@
 use Rattle.std.proofs.Common.{◌≡◌, ◌⊎◌, inl, inr, ℕ, ◌+◌, Bool, true, false, ◌==◌, ◌&&◌, ◌||◌, List, [], ◌∷◌, ◌++◌, Some, None, length, refl, sym, ap, subst, ◌∙◌, arith, append_assoc, length-append}
 use Rattle.std.specs.List.{list_all}
 use Rattle.std.proofs.lemmas.Bool.{and_parts, and_right, or_from, eqb-true}
-use Rattle.mv_lex.specs.Bytes.{is_printable, is_digit, begins_word, continues_word, is_short_symbol, is_long_symbol}
-use Rattle.mv_lex.specs.Spelling.{is_word, is_number, is_variable, is_symbol, stands_alone, doubled, quoted, IsText, IsSpelled}
+use Rattle.mv_values.specs.Texts.{doubled, quoted}
+use Rattle.mv_values.specs.Printable.{is_printable}
+use Rattle.mv_lex.specs.Bytes.{is_digit, begins_word, continues_word, is_short_symbol, is_long_symbol}
+use Rattle.mv_lex.specs.Spelling.{is_word, is_number, is_variable, is_symbol, stands_alone, IsText, IsSpelled}
 use Rattle.mv_lex.specs.Tokens.{IsLongest, is_parted}
 use Rattle.mv_lex.specs.Reading.{text_len, word_len, symbol_len, of_kind, token_of}
 use Rattle.mv_lex.specs.declared.token.Kind.{Kind}

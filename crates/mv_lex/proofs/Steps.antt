@@ -2,7 +2,7 @@
 use Rattle.std.proofs.Common.{◌≡◌, ℕ, ◌+◌, ◌<◌, ◌≤◌, Bool, true, false, cond, ◌==◌, List, [], ◌∷◌, Option, Some, None, length, get_or, drop, refl, sym, ap, ◌∙◌, arith, eq-eqb, ne_eqb}
 use Rattle.std.proofs.lemmas.List.{at_drop_more, at_drop_all}
 use Rattle.std.specs.Prelude.{IfSome}
-use Rattle.mv_lex.specs.Bytes.{is_printable}
+use Rattle.mv_values.specs.Printable.{is_printable}
 use Rattle.mv_lex.specs.Reading.{past, either, text_len, closing_len, block_len}
 
 pub past_past : (i : ℕ) (o : Option ℕ) → past i (past 1 o) ≡ past (i + 1) o

@@ -2,8 +2,8 @@
 use Rattle.std.proofs.Common.{◌≡◌, ℕ, ◌+◌, ◌≤◌, Bool, true, false, ◌==◌, List, [], ◌∷◌, ◌++◌, Option, Some, None, length, refl, sym, ap, arith}
 use Rattle.std.specs.List.{list_all}
 use Rattle.std.proofs.lemmas.Bool.{and_parts, and_from, eqb-true}
-use Rattle.mv_lex.specs.Bytes.{is_printable}
-use Rattle.mv_lex.specs.Spelling.{doubled}
+use Rattle.mv_values.specs.Texts.{doubled}
+use Rattle.mv_values.specs.Printable.{is_printable}
 use Rattle.mv_lex.specs.Reading.{past, either, text_len}
 
 pub past_some : (i n : ℕ) (o : Option ℕ) → past i o ≡ Some n → (m : ℕ) × (o ≡ Some m) × (n ≡ i + m)

@@ -1,5 +1,6 @@
 -- The classes of bytes in a script. All of this is the language's own.
 use Rattle.std.specs.Prelude.{ℕ, Bool, not, ◌&&◌, ◌||◌, ◌==◌, nat_le}
+use Rattle.mv_values.specs.Printable.{is_printable}
 
 -- the byte is from `low` to `high`, both included
 abbrev pub is_from : ℕ → ℕ → ℕ → Bool
@@ -12,10 +13,6 @@ is_blank b = b == 9 || b == 10 || b == 13 || b == 32
 -- a byte that a line may contain: any but LF
 abbrev pub is_in_line : ℕ → Bool
 is_in_line b = not (b == 10)
-
--- a byte that a text may contain
-abbrev pub is_printable : ℕ → Bool
-is_printable b = is_from 32 126 b
 
 -- a byte that a script may contain
 abbrev pub is_allowed : ℕ → Bool

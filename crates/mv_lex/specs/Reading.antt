@@ -1,7 +1,8 @@
 -- The parts of the lexer as functions on lists: what each returns for the front of the bytes.
 use Rattle.std.specs.Prelude.{ℕ, ◌+◌, ◌<◌, ◌≤◌, Bool, true, false, ◌&&◌, ◌==◌, List, [], ◌∷◌, length, drop, Option, Some, None, if◌then◌else◌}
 use Rattle.std.specs.List.{prefix_len}
-use Rattle.mv_lex.specs.Bytes.{is_blank, is_in_line, is_printable, is_digit, begins_word, continues_word, is_short_symbol, is_long_symbol}
+use Rattle.mv_values.specs.Printable.{is_printable}
+use Rattle.mv_lex.specs.Bytes.{is_blank, is_in_line, is_digit, begins_word, continues_word, is_short_symbol, is_long_symbol}
 use Rattle.mv_lex.specs.Spelling.{is_inner_blank, stands_alone}
 use Rattle.mv_lex.specs.Tokens.{begins_comment}
 use Rattle.mv_lex.specs.declared.token.Kind.{Kind}

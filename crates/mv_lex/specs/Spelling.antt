@@ -1,7 +1,9 @@
 -- How tokens of each kind are spelled. All of this is the language's own.
-use Rattle.std.specs.Prelude.{◌≡◌, ◌≢◌, ◌⊎◌, ℕ, Bool, true, false, not, ◌&&◌, ◌||◌, ◌==◌, List, [], ◌∷◌, ◌++◌, IsTrue, if◌then◌else◌}
+use Rattle.std.specs.Prelude.{◌≡◌, ◌≢◌, ◌⊎◌, ℕ, Bool, true, false, not, ◌&&◌, ◌||◌, ◌==◌, List, [], ◌∷◌, ◌++◌, IsTrue}
 use Rattle.std.specs.List.{list_all, flat_map, AllByRecursion}
-use Rattle.mv_lex.specs.Bytes.{is_blank, is_in_line, is_printable, is_digit, begins_word, continues_word, is_short_symbol, is_long_symbol}
+use Rattle.mv_values.specs.Texts.{quoted}
+use Rattle.mv_values.specs.Printable.{is_printable}
+use Rattle.mv_lex.specs.Bytes.{is_blank, is_in_line, is_digit, begins_word, continues_word, is_short_symbol, is_long_symbol}
 use Rattle.mv_lex.specs.declared.token.Kind.{Kind}
 use Rattle.mv_lex.specs.declared.token.Kind.TheVariants.{Word, Number, Text, Variable, Symbol, Block, OpenBlock}
 
@@ -25,15 +27,6 @@ abbrev pub is_symbol : List ℕ → Bool
 is_symbol (a ∷ []) = is_short_symbol a
 is_symbol (a ∷ b ∷ []) = is_long_symbol a b
 is_symbol _ = false
-
--- a text with each quote doubled
-abbrev pub doubled : List ℕ → List ℕ
-doubled [] = []
-doubled (b ∷ bs) = if b == 39 then 39 ∷ 39 ∷ doubled bs else b ∷ doubled bs
-
--- a text as it is written: between quotes, with each quote doubled
-abbrev pub quoted : List ℕ → List ℕ
-quoted content = 39 ∷ (doubled content ++ 39 ∷ [])
 
 -- the bytes are a text as it is written
 pub record IsText (text : List ℕ) : Type 0 where

@@ -13,13 +13,14 @@ use Rattle.mv_values.specs.declared.schema.Column.{Column}
 use Rattle.mv_values.specs.declared.schema.TableInfo.{TableInfo}
 use Rattle.mv_values.specs.Keys.{IsRising}
 use Rattle.mv_values.specs.Tables.{KeysStand, key_columns, key_in, rows_at}
+use Rattle.mv_values.specs.Printable.{is_printable}
 use Rattle.mv_catalog.specs.declared.resolved.CopyInfo.{CopyInfo}
 use Rattle.mv_catalog.specs.declared.resolved.Resolved.{Resolved}
 use Rattle.mv_catalog.specs.Text.{FitsText, IsOf, RowsFit, types_of}
 use Rattle.mv_catalog.specs.Text as text
 use Rattle.mv_record.specs.Databases.{AreTyped, HasRow, IsDatabaseOf}
 use Rattle.mv_record.specs.Writes.{AreRising}
-use Rattle.mv_csvio.specs.Fields.{IsRow, is_printable, number_in, value_in, values_in}
+use Rattle.mv_csvio.specs.Fields.{IsRow, number_in, value_in, values_in}
 use Rattle.mv_csvio.specs.Joining.{HasJoined, under_key}
 use Rattle.mv_csvio.specs.Loading.{Record, records_of}
 use Rattle.mv_csvio.proofs.Fitted.{StandsUnder, joined_keys, loaded_keys}

@@ -4,8 +4,10 @@ use Rattle.std.proofs.lemmas.Bool.Decides.{nat_tests}
 use Rattle.std.proofs.lemmas.Bool.{le-leb, and_parts, and_from}
 use Rattle.std.specs.Prelude.{nat_le}
 use Rattle.std.specs.List.{list_all}
-use Rattle.mv_lex.specs.Bytes.{is_printable, is_digit, begins_word, continues_word, is_short_symbol, is_long_symbol}
-use Rattle.mv_lex.specs.Spelling.{IsSpelled, is_word, is_number, is_variable, is_symbol, stands_alone, IsText, doubled}
+use Rattle.mv_values.specs.Texts.{doubled}
+use Rattle.mv_values.specs.Printable.{is_printable}
+use Rattle.mv_lex.specs.Bytes.{is_digit, begins_word, continues_word, is_short_symbol, is_long_symbol}
+use Rattle.mv_lex.specs.Spelling.{IsSpelled, is_word, is_number, is_variable, is_symbol, stands_alone, IsText}
 use Rattle.mv_lex.specs.Tokens.{IsSpelledIn}
 use Rattle.mv_lex.specs.declared.token.Token.{Token}
 use Rattle.mv_lex.specs.declared.token.Kind.{Kind}

@@ -2,17 +2,14 @@
 use Rattle.std.proofs.Common.{◌≡◌, ℕ, zero, suc, ◌+◌, ◌-◌, ◌*◌, ◌<◌, ◌≤◌, min, true, false, cond, IsTrue, nat_eq, List, [], ◌∷◌, ◌++◌, length, take, drop, get_or, slice_range, Option, Some, None, refl, sym, ap, ◌∙◌, arith, append_assoc, append-nil}
 use Rattle.std.specs.Char.{to_ascii_lowercase}
 use Rattle.std.specs.List.{list_all, All, AllByRecursion, position}
-use Rattle.std.proofs.lemmas.Bool.{leb-true, and_parts}
+use Rattle.std.proofs.lemmas.Bool.{and_parts}
 use Rattle.std.proofs.lemmas.List.{drop_all}
 use Rattle.std.proofs.lemmas.List.Elements.{All-from_recursion}
 use Rattle.std.proofs.lemmas.List.Quantifiers.{position-Some}
-use Rattle.mv_lex.specs.Bytes.{is_printable}
-use Rattle.mv_values.specs.Printable.{IsPrintable}
+use Rattle.mv_values.specs.Printable.{IsPrintable, is_printable}
+use Rattle.mv_values.proofs.Printing.{printable}
 use Rattle.mv_limits.proofs.TextLaws.{undoubled_none, capped_turn}
 use Rattle.mv_ast.specs.Texts.{lower, number_from, greatest, undoubled, unquoted, first_line, line_end}
-
-printable : (b : ℕ) → is_printable b ≡ true → IsPrintable b
-printable b h = grind (arith, leb-true)
 
 lower_byte : (b : ℕ) → IsPrintable b → IsPrintable (to_ascii_lowercase b)
 lower_byte b h = grind arith

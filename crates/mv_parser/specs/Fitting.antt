@@ -1,7 +1,7 @@
 -- Tokens within the bytes.
 use Rattle.std.specs.Prelude.{ℕ, ◌+◌, Bool, true, ◌&&◌, List, length, slice_range, nat_le, nat_lt}
 use Rattle.std.specs.List.{list_all}
-use Rattle.mv_lex.specs.Bytes.{is_printable}
+use Rattle.mv_values.specs.Printable.{is_printable}
 use Rattle.mv_ast.specs.declared.lexeme.Lexeme.{Lexeme}
 use Rattle.mv_ast.specs.declared.lexeme.Terminal.{Terminal}
 use Rattle.mv_ast.specs.declared.lexeme.Terminal.TheVariants as word

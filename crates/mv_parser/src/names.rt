@@ -2,7 +2,7 @@
 
 ghost use Rattle.std.specs.Prelude.{◌≡◌, ◌+◌, ℕ, ℤ, pos, drop, IsTrue, IfOk};
 ghost use Rattle.std.specs.List.{list_all};
-ghost use Rattle.mv_lex.specs.Bytes.{is_printable};
+ghost use Rattle.mv_values.specs.Printable.{is_printable};
 ghost use Rattle.mv_ast.specs.declared.lexeme.Terminal.TheVariants as word;
 ghost use Rattle.mv_ast.specs.Parts.{give, one};
 ghost use Rattle.mv_ast.specs.Texts.{spelling, lower};

@@ -2,7 +2,7 @@
 
 ghost use Rattle.std.specs.Prelude.{◌≡◌, ◌≤◌, ◌<◌, ◌-◌, ◌∷◌, IfOk, IfSome, IsTrue, ◌==◌, drop, length, pos, slice_range, slice_index};
 ghost use Rattle.std.specs.List.{list_all, All, position};
-ghost use Rattle.mv_lex.specs.Bytes.{is_printable};
+ghost use Rattle.mv_values.specs.Printable.{is_printable};
 ghost use Rattle.mv_ast.specs.Texts.{lower, number, undoubled, unquoted, first_line, last_line};
 
 use mv_limits::texts::{behind_letter, between};

@@ -4,7 +4,7 @@ use Rattle.std.specs.List.{list_all, ends_with, prefix_len}
 use Rattle.std.proofs.lemmas.Bool.{and_parts, and_from, lt-ltb}
 use Rattle.std.proofs.lemmas.List.{take_at, drop_at, drop-drop, take-append-drop, length-map}
 use Rattle.std.specs.Cmp.Lexicographic.{pointwise}
-use Rattle.mv_lex.specs.Bytes.{is_allowed, is_blank, is_in_line, is_printable}
+use Rattle.mv_lex.specs.Bytes.{is_allowed, is_blank, is_in_line}
 use Rattle.mv_lex.specs.Spelling.{IsSpelled, is_word, is_variable, IsText, IsClosing, is_inner_blank, opening}
 use Rattle.mv_lex.specs.declared.token.Kind.{Kind}
 use Rattle.mv_lex.specs.declared.token.Kind.TheVariants as token
@@ -20,6 +20,7 @@ use Rattle.mv_ast.specs.declared.limit.Passed.{Passed}
 use Rattle.mv_ast.specs.declared.limit.Which.TheVariants as limit
 use Rattle.mv_ast.specs.Limits.{at_token, when, own_passes, is_size_of, is_size}
 use Rattle.std.specs.Char.{to_ascii_lowercase}
+use Rattle.mv_values.specs.Printable.{is_printable}
 use Rattle.mv_print.proofs.Building.{Goodness}
 use Rattle.mv_print.proofs.Sounding.{IsContent, IsName, IsVariable, lower_word, lower_twice, unquoted_back}
 

@@ -8,8 +8,10 @@ use Rattle.std.proofs.lemmas.Bool.Decides.{nat_tests}
 use Rattle.std.proofs.lemmas.Fmt.{decimal_by_steps}
 use Rattle.std.proofs.lemmas.List.{take_at}
 use Rattle.std.proofs.lemmas.List.Folds.{list_all-append}
-use Rattle.mv_lex.specs.Bytes.{is_allowed, is_printable, is_digit, begins_word, continues_word}
-use Rattle.mv_lex.specs.Spelling.{is_word, is_number, is_symbol, stands_alone, doubled, quoted}
+use Rattle.mv_values.specs.Texts.{doubled, quoted}
+use Rattle.mv_values.specs.Printable.{is_printable}
+use Rattle.mv_lex.specs.Bytes.{is_allowed, is_digit, begins_word, continues_word}
+use Rattle.mv_lex.specs.Spelling.{is_word, is_number, is_symbol, stands_alone}
 use Rattle.mv_lex.specs.declared.token.Kind.TheVariants as token
 use Rattle.mv_lex.proofs.Parted.{parted_longest}
 use Rattle.mv_ast.specs.declared.lexeme.Terminal.{Terminal}

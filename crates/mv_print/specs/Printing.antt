@@ -1,12 +1,12 @@
 -- How a script is printed: the tokens of its tree, and the whitespace after each. All of this is the project's own.
 use Rattle.std.specs.Prelude.{ℕ, suc, ◌+◌, pos, negsuc, Bool, true, false, nat_lt, List, [], ◌∷◌, ◌++◌, Option, Some, None, map, slice_range, codes, decimal, if◌then◌else◌}
-use Rattle.mv_lex.specs.Spelling.{quoted}
 use Rattle.mv_values.specs.declared.schema.ColType.{ColType}
 use Rattle.mv_values.specs.declared.schema.ColType.TheVariants as column
 use Rattle.mv_values.specs.declared.value.Value.{Value}
 use Rattle.mv_values.specs.declared.value.Value.TheVariants as value
 use Rattle.mv_values.specs.declared.op.Op.{Op}
 use Rattle.mv_values.specs.declared.op.Op.TheVariants.{Eq, Ne, Lt, Le, Gt, Ge}
+use Rattle.mv_values.specs.Texts.{quoted}
 use Rattle.mv_ast.specs.declared.lexeme.Terminal.{Terminal}
 use Rattle.mv_ast.specs.declared.lexeme.Terminal.TheVariants as word
 use Rattle.mv_ast.specs.declared.tree.Agg.{Agg}

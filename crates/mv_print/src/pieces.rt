@@ -1,7 +1,7 @@
 //! Prints single tokens.
 
 ghost use Rattle.std.specs.Prelude.{◌≡◌, ◌++◌, ◌∷◌, [], ℕ, pos, codes, decimal, slice_range, OnOk};
-ghost use Rattle.mv_lex.specs.Spelling.{doubled, quoted};
+ghost use Rattle.mv_values.specs.Texts.{doubled, quoted};
 ghost use Rattle.mv_print.specs.Printing.{key, line_end, name_piece, variable_piece, number_piece, text_piece, block_piece, put, written, value_pieces, spelled};
 
 use crate::words::spelled;

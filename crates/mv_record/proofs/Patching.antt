@@ -1,11 +1,11 @@
 -- What patches do to rows whose keys rise, and writes to a database.
-use Rattle.std.proofs.Common.{◌≡◌, ◌<◌, ◌≤◌, ℕ, zero, suc, Bool, true, false, cond, List, [], ◌∷◌, ◌++◌, Option, Some, None, length, refl, sym, ap, subst, ◌∙◌, arith, take, drop, take-append-drop, add-one, ◌+◌, Result, Ok, Err, MatchResult}
+use Rattle.std.proofs.Common.{◌≡◌, ◌<◌, ◌≤◌, ℕ, zero, suc, Bool, true, false, cond, List, [], ◌∷◌, ◌++◌, Option, Some, None, length, refl, sym, ap, subst, ◌∙◌, arith, ◌+◌, Result, Ok, Err, MatchResult}
 use Rattle.std.specs.Prelude.{◌↔◌, Contains, ◌==◌, ◌&&◌, slice_index_or, slice_get, slice_set, All, insert, remove}
 use Rattle.std.specs.List.{filter}
 use Rattle.std.specs.Ordering.{is_eq}
 use Rattle.std.specs.declared.cmp.Ordering.{Ordering}
 use Rattle.std.specs.declared.cmp.Ordering.TheVariants.{Less, Equal, Greater}
-use Rattle.std.proofs.lemmas.List.{set-set, set-get_or, get_or-set_same, get_or-set_other, length-set}
+use Rattle.std.proofs.lemmas.List.{set-set, set-get_or, get_or-set_same, get_or-set_other, length-set, set_past}
 use Rattle.std.proofs.lemmas.Bool.{eqb-true, eqb-false}
 use Rattle.std.proofs.lemmas.Option.{slice_get_within}
 use Rattle.std.proofs.lemmas.List.Elements.{filter-append}
@@ -20,7 +20,7 @@ use Rattle.mv_values.specs.Patching.{row_of, patched, standing, placed, patched_
 use Rattle.mv_values.specs.Preds.{matches, matched}
 use Rattle.mv_values.specs.Tables.{rows_at}
 use Rattle.mv_values.proofs.KeyOrder.{exact_keys, tied, same_key, turned}
-use Rattle.mv_record.specs.Writes.{is_on, writes_on, patched_by, AreRising, HasAppliedFront}
+use Rattle.mv_record.specs.Writes.{is_on, writes_on, patched_by, AreRising}
 use Rattle.mv_record.proofs.Rising.{Above, Rises, rises_from, rising_from, lower, row_here, row_later, row_below, same_rows, filter_rises, matching_row, stands_found, found_stands}
 
 -- A row put under a key
@@ -368,21 +368,3 @@ put_back t db after rows new is there same = is ∙ (ap (slice_set (slice_set db
 -- a write to a table that isn't there
 pub written_nowhere : (w : Write) (db : List (List Keyed)) → length db ≤ w.table → db ≡ written w db
 written_nowhere w db le = sym (set_past db w.table (patched_rows w.key w.patch (rows_at db w.table)) le)
-  where
-    set_past : (db : List (List Keyed)) (t : ℕ) (rows : List Keyed) → length db ≤ t → slice_set db t rows ≡ db
-    set_past [] t rows le = refl
-    set_past (r ∷ db) zero rows le = absurd (omega (arith, le))
-    set_past (r ∷ db) (suc t) rows le = ap (λ l. r ∷ l) (set_past db t rows (omega (arith, le)))
-
--- Writes one after another
-
-applied_next : (ws : List Write) (db : List (List Keyed)) (i : ℕ) (w : Write) → i < length ws → w ≡ slice_index_or ws i w → applied (take (suc i) ws) db ≡ written w (applied (take i ws) db)
-applied_next [] db i w lt is = absurd (omega (arith, lt))
-applied_next (v ∷ ws) db zero w lt is = ap (λ (u : Write). written u db) (sym is)
-applied_next (v ∷ ws) db (suc i) w lt is = applied_next ws (written v db) i w (omega (arith, lt)) is
-
-pub applied_more : (ws : List Write) (db : List (List Keyed)) (i : ℕ) (w : Write) → i < length ws → w ≡ slice_index_or ws i w → applied (take (i + 1) ws) db ≡ written w (applied (take i ws) db)
-applied_more ws db i w lt is = rw add-one (applied_next ws db i w lt is)
-
-pub applied_front : (ws : List Write) (db : List (List Keyed)) (i : ℕ) (new : List (List Keyed)) → new ≡ applied (take i ws) db → HasAppliedFront ws db new
-applied_front ws db i new is = (take i ws, drop i ws, sym (take-append-drop i ws), is)

@@ -1,5 +1,5 @@
 -- The effect of writes on one row of a table.
-use Rattle.std.specs.Prelude.{◌≡◌, ℕ, Bool, ◌&&◌, ◌==◌, List, [], ◌∷◌, ◌++◌, Option}
+use Rattle.std.specs.Prelude.{ℕ, Bool, ◌&&◌, ◌==◌, List, [], ◌∷◌, Option}
 use Rattle.std.specs.List.{filter}
 use Rattle.std.specs.Ordering.{is_eq}
 use Rattle.mv_values.specs.declared.value.Value.{Value}
@@ -7,7 +7,7 @@ use Rattle.mv_values.specs.declared.rows.Keyed.{Keyed}
 use Rattle.mv_values.specs.declared.patch.Write.{Write}
 use Rattle.mv_values.specs.Keys.{IsRising}
 use Rattle.mv_values.specs.Order.{key_order}
-use Rattle.mv_values.specs.Patching.{patched, applied}
+use Rattle.mv_values.specs.Patching.{patched}
 use Rattle.mv_values.specs.Tables.{rows_at}
 
 -- the write is to this key of this table
@@ -26,7 +26,3 @@ patched_by (w ∷ ws) was = patched_by ws (patched w.patch was)
 -- the keys of each table rise
 abbrev pub AreRising : List (List Keyed) → Type 0
 AreRising db = (t : ℕ) → IsRising (rows_at db t)
-
--- the first part of the writes was applied, and the rest was not
-abbrev pub HasAppliedFront : List Write → List (List Keyed) → List (List Keyed) → Type 0
-HasAppliedFront ws old new = (front rest : List Write) × (ws ≡ front ++ rest) × (new ≡ applied front old)

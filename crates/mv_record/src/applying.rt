@@ -4,9 +4,8 @@ ghost use Rattle.std.specs.Prelude.{◌≡◌, ◌<◌, ◌≤◌, length, [], L
 ghost use Rattle.std.specs.Option.{option_copied};
 ghost use Rattle.mv_values.specs.declared.value.Value.{Value};
 ghost use Rattle.mv_values.specs.Keys.{IsRising, IsPlaceOf, IsGapFor};
-ghost use Rattle.mv_values.specs.Patching.{row_of, with_columns, patched, placed, patched_rows, written, applied};
+ghost use Rattle.mv_values.specs.Patching.{row_of, with_columns, patched, placed, patched_rows, written};
 ghost use Rattle.mv_values.specs.Tables.{rows_at};
-ghost use Rattle.mv_record.specs.Writes.{HasAppliedFront};
 
 use mv_values::copied::Copied;
 use mv_values::memory::NoMemory;
@@ -125,15 +124,4 @@ pub fn apply(alloc: Global, database: &mut Database, write: &Write) -> Result<()
     let done = patch_rows(alloc, &mut rows, &write.key, &write.patch);
     database.set(table, rows);
     done
-}
-
-/// Applies writes in order. If memory runs out, only some first part of the writes has been applied.
-pub fn apply_all(alloc: Global, database: &mut Database, writes: &[Write]) -> Result<(), NoMemory>
-    ensures ok { OnOk result (database.new ≡ applied writes.now database.old) }
-    ensures err { OnErr result (HasAppliedFront writes.now database.old database.new) }
-{
-    for write in writes {
-        apply(alloc, database, write)?;
-    }
-    Ok(())
 }

@@ -10,7 +10,7 @@ use Rattle.mv_values.specs.declared.schema.TableInfo.{TableInfo}
 use Rattle.mv_values.specs.declared.calls.Call.{Call}
 use Rattle.mv_values.specs.declared.calls.End.{End}
 use Rattle.mv_values.specs.Patching.{applied}
-use Rattle.mv_values.specs.Tables.{rows_at}
+use Rattle.mv_values.specs.Tables.{rows_at, Tables}
 use Rattle.mv_catalog.specs.declared.resolved.ProcInfo.{ProcInfo}
 use Rattle.mv_catalog.specs.declared.resolved.RStmt.{RStmt, roll-RStmt, map-RStmt, ind-RStmt, para-roll-RStmt}
 use Rattle.mv_catalog.specs.declared.resolved.RStmt.TheOpen.{RStmt-F, Assign, Select, Total, ForSelect, ForRows, Branch, Insert, Update, Delete, Print, Rollback}
@@ -24,7 +24,7 @@ use Rattle.mv_alone.specs.declared.state.Held.TheVariants.{Turn}
 use Rattle.mv_alone.specs.Env.{with_found, with_held, turns_at}
 use Rattle.mv_alone.specs.Value.{value_of, is_so}
 use Rattle.mv_alone.specs.Alone.{Does, alone, does, is_turn}
-use Rattle.mv_alone.specs.TableAfter.{Tables, begun, outcome, outcome_at, outcome_in, tables_left, table_after}
+use Rattle.mv_alone.specs.TableAfter.{begun, outcome, outcome_at, outcome_in, tables_left, table_after}
 use Rattle.mv_record.specs.declared.record.Record.{Record}
 use Rattle.mv_record.specs.Databases.{IsDatabaseOf}
 use Rattle.mv_record.specs.Writes.{AreRising}

@@ -11,7 +11,7 @@ use Rattle.mv_values.specs.declared.schema.TableInfo.{TableInfo}
 use Rattle.mv_values.specs.declared.calls.End.{End}
 use Rattle.mv_values.specs.Columns.{columns_of}
 use Rattle.mv_values.specs.Patching.{applied, patched_rows}
-use Rattle.mv_values.specs.Tables.{key_columns, columns_at, rows_at}
+use Rattle.mv_values.specs.Tables.{key_columns, columns_at, rows_at, Tables}
 use Rattle.mv_catalog.specs.declared.resolved.RSetItem.{RSetItem}
 use Rattle.mv_catalog.specs.declared.resolved.RStmt.{RStmt}
 use Rattle.mv_catalog.specs.declared.resolved.RStmt.TheOpen.{RStmt-F, Assign, Select, Total, ForSelect, ForRows, Branch, Insert, Update, Delete, Print, Rollback}
@@ -24,7 +24,7 @@ use Rattle.mv_alone.specs.Rows.{checks_of, aggregate, is_some_row}
 use Rattle.mv_alone.specs.Changes.{new_row, put_row, keyed, updated, set_row, without}
 use Rattle.mv_alone.specs.Alone.{matching_in, offset_of, fixed, with_rows}
 use Rattle.mv_record.specs.declared.record.Record.{Record}
-use Rattle.mv_record.specs.Runs.{Tables, writes_in}
+use Rattle.mv_record.specs.Runs.{writes_in}
 use Rattle.mv_alone.proofs.Standing.{New}
 use Rattle.mv_recorded.specs.Asking.{on}
 use Rattle.mv_recorded.specs.Doing.{itself, write}

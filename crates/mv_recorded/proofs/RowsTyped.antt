@@ -24,7 +24,7 @@ use Rattle.mv_catalog.specs.declared.resolved.RAgg.{RAgg}
 use Rattle.mv_catalog.specs.declared.resolved.RAgg.TheVariants.{CountAll, CountDistinct, Sum, Min, Max}
 use Rattle.mv_catalog.specs.declared.resolved.RSetItem.{RSetItem}
 use Rattle.mv_catalog.specs.declared.resolved.RSort.{RSort}
-use Rattle.mv_values.specs.Tables.{rows_at}
+use Rattle.mv_values.specs.Tables.{rows_at, Tables}
 use Rattle.mv_catalog.specs.Types.{Kind, int, Vars, kind_of_column}
 use Rattle.mv_catalog.specs.Statements.{kinds_of, Gives, Takes, IsItem, IsTotal}
 use Rattle.mv_catalog.specs.Text.{IsOf, IsRow, types_of}
@@ -37,7 +37,6 @@ use Rattle.mv_alone.specs.Value.{value_of, fitted}
 use Rattle.mv_alone.specs.Rows.{meets, sorted, ordered, sort_order, item_at, put_by, put_once, distinct, projected, column, lesser, least, greater, greatest, total, sum_of, aggregate, fit_kind, fit}
 use Rattle.mv_alone.specs.Changes.{with_column, set_row, updated, new_row, put_row, put_row_by}
 use Rattle.mv_alone.specs.Alone.{fixed, with_selected}
-use Rattle.mv_alone.specs.TableAfter.{Tables}
 use Rattle.mv_record.specs.Databases.{AreTyped, HasRow}
 use Rattle.mv_recorded.specs.Typed.{OfKinds, IsEnvOf}
 use Rattle.mv_recorded.proofs.Typing.{fit_value, fit_found}

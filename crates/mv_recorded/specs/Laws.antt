@@ -5,7 +5,7 @@ use Rattle.mv_values.specs.declared.schema.TableInfo.{TableInfo}
 use Rattle.mv_values.specs.declared.calls.Call.{Call}
 use Rattle.mv_values.specs.Keys.{IsRising}
 use Rattle.mv_values.specs.Patching.{applied}
-use Rattle.mv_values.specs.Tables.{rows_at, KeysStand}
+use Rattle.mv_values.specs.Tables.{rows_at, KeysStand, Tables}
 use Rattle.mv_catalog.specs.Statements.{IsWell, stmt_step}
 use Rattle.mv_catalog.specs.Text.{IsProcedure, Suits}
 use Rattle.mv_catalog.specs.Types.{Vars}
@@ -14,7 +14,7 @@ use Rattle.mv_catalog.specs.declared.resolved.ProcInfo.{ProcInfo}
 use Rattle.mv_catalog.specs.declared.resolved.RStmt.{RStmt}
 use Rattle.mv_catalog.specs.declared.resolved.RStmt.TheOpen.{RStmt-F}
 use Rattle.mv_alone.specs.declared.state.State.{State}
-use Rattle.mv_alone.specs.TableAfter.{Tables, table_after}
+use Rattle.mv_alone.specs.TableAfter.{table_after}
 use Rattle.mv_record.specs.Runs.{TellsAll, NamesEarlier, writes_in}
 use Rattle.mv_record.specs.Databases.{IsDatabaseOf, IsProgram}
 use Rattle.mv_record.specs.Paths.{PathsRise}

@@ -4,7 +4,7 @@ use Rattle.std.specs.List.{flat_map, list_any}
 use Rattle.mv_values.specs.declared.value.Value.{Value}
 use Rattle.mv_values.specs.declared.schema.TableInfo.{TableInfo}
 use Rattle.mv_values.specs.Patching.{applied}
-use Rattle.mv_values.specs.Tables.{columns_at, key_columns}
+use Rattle.mv_values.specs.Tables.{columns_at, key_columns, Tables}
 use Rattle.mv_values.specs.declared.calls.Call.{Call}
 use Rattle.mv_catalog.specs.declared.resolved.ProcInfo.{ProcInfo}
 use Rattle.mv_catalog.specs.declared.resolved.RSetItem.{RSetItem}
@@ -15,7 +15,7 @@ use Rattle.mv_alone.specs.declared.state.Env.{Env}
 use Rattle.mv_alone.specs.declared.state.Held.TheVariants.{Turn}
 use Rattle.mv_alone.specs.declared.state.State.{State}
 use Rattle.mv_alone.specs.Env.{held_at}
-use Rattle.mv_alone.specs.TableAfter.{Tables, entered}
+use Rattle.mv_alone.specs.TableAfter.{entered}
 use Rattle.mv_record.specs.Writes.{AreRising}
 use Rattle.mv_record.specs.declared.record.Slot.{Slot}
 use Rattle.mv_record.specs.declared.record.Record.{Record}

@@ -2,9 +2,10 @@
 use Rattle.std.proofs.Common.{◌≡◌, ℕ, ◌+◌, ◌*◌, Bool, true, Option, List, [], ◌++◌, length, refl, sym, ap, subst, ◌∙◌, arith, append-nil}
 use Rattle.std.proofs.lemmas.List.Elements.{All-nil}
 use Rattle.mv_values.specs.declared.calls.Call.{Call}
+use Rattle.mv_values.specs.Tables.{Tables}
 use Rattle.mv_record.specs.declared.record.Record.{Record}
 use Rattle.mv_record.specs.Paths.{paths}
-use Rattle.mv_record.specs.Runs.{Tables, writes_in}
+use Rattle.mv_record.specs.Runs.{writes_in}
 use Rattle.mv_record.specs.Writes.{AreRising}
 use Rattle.mv_undo.specs.declared.owned.Owned.{Owned}
 use Rattle.mv_view.specs.Viewing.{Sight}

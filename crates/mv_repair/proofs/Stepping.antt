@@ -5,11 +5,12 @@ use Rattle.std.proofs.lemmas.List.{append_cancel_left, take_all, length_push}
 use Rattle.std.proofs.lemmas.Option.{slice_get_within}
 use Rattle.std.proofs.lemmas.Grind.{flat_map-append}
 use Rattle.std.proofs.lemmas.Bool.{both_ways}
+use Rattle.mv_values.specs.Tables.{Tables}
 use Rattle.mv_record.specs.declared.record.Record.{Record}
 use Rattle.mv_record.specs.declared.record.Spot.{Spot}
 use Rattle.mv_record.specs.Effects.{record_of, effect_in}
 use Rattle.mv_record.specs.Paths.{paths, IsEarlierPath}
-use Rattle.mv_record.specs.Runs.{Tables, writes_in, IsEarlier, ReadsEarlier, NamesEarlier}
+use Rattle.mv_record.specs.Runs.{writes_in, IsEarlier, ReadsEarlier, NamesEarlier}
 use Rattle.mv_recorded.specs.Own.{Each}
 use Rattle.mv_recorded.proofs.Held.{get_last}
 use Rattle.mv_recorded.proofs.Naming.{recorded_names}

@@ -6,8 +6,9 @@ use Rattle.std.specs.List.{filter, flat_map}
 use Rattle.mv_values.specs.declared.calls.Call.{Call}
 use Rattle.mv_values.specs.declared.pred.Pred.{Pred}
 use Rattle.mv_values.specs.declared.patch.Write.{Write}
+use Rattle.mv_values.specs.Tables.{Tables}
 use Rattle.mv_record.specs.declared.record.Record.{Record}
-use Rattle.mv_record.specs.Runs.{Tables, writes_in}
+use Rattle.mv_record.specs.Runs.{writes_in}
 use Rattle.mv_view.specs.Viewing.{Sight}
 use Rattle.mv_effect.specs.Looking.{AskedAtMost, different}
 use Rattle.mv_graph.specs.declared.graph.Graph.{Graph}

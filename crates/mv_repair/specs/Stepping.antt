@@ -1,7 +1,7 @@
 -- Defines one step of a repair. This project's own.
 use Rattle.std.specs.Prelude.{◌<◌, List}
+use Rattle.mv_values.specs.Tables.{Tables}
 use Rattle.mv_record.specs.declared.record.Record.{Record}
-use Rattle.mv_record.specs.Runs.{Tables}
 use Rattle.mv_view.specs.Viewing.{Sight}
 use Rattle.mv_graph.specs.declared.graph.Graph.{Graph}
 use Rattle.mv_exec.specs.declared.task.Task.{Task}

@@ -6,11 +6,11 @@ use Rattle.std.specs.Ordering.{is_lt, nat_cmp}
 use Rattle.std.specs.Cmp.Lexicographic.{slice_cmp}
 use Rattle.mv_values.specs.declared.calls.Call.{Call}
 use Rattle.mv_values.specs.declared.patch.Write.{Write}
+use Rattle.mv_values.specs.Tables.{Tables}
 use Rattle.mv_record.specs.declared.record.Read.{Read}
 use Rattle.mv_record.specs.declared.record.Record.{Record}
 use Rattle.mv_record.specs.declared.record.Spot.{Spot}
 use Rattle.mv_record.specs.Paths.{inside, nests_behind, paths, IsEarlierPath}
-use Rattle.mv_record.specs.Runs.{Tables}
 use Rattle.mv_recorded.specs.Own.{Each}
 use Rattle.mv_undo.specs.declared.owned.Owned.{Owned}
 use Rattle.mv_undo.specs.Owning.{earlier, touches as is_on_key}

@@ -13,13 +13,14 @@ use Rattle.mv_values.specs.declared.calls.End.{End}
 use Rattle.mv_values.specs.declared.calls.End.TheVariants.{Own, Duplicate, Overflow, ZeroDivisor, TooLong}
 use Rattle.mv_values.specs.declared.calls.Reply.{Reply}
 use Rattle.mv_values.specs.declared.schema.TableInfo.{TableInfo}
+use Rattle.mv_values.specs.Texts.{line, doubled}
 use Rattle.mv_journal.specs.declared.outcome.Mark.{Mark}
 use Rattle.mv_journal.specs.declared.outcome.Mark.TheVariants.{Plain, Exclusive, Moved}
 use Rattle.mv_journal.specs.declared.outcome.Round.{Round}
 use Rattle.mv_journal.specs.declared.outcome.HistoryLine.{HistoryLine}
 use Rattle.mv_journal.specs.declared.outcome.Outcome.{Outcome}
-use Rattle.mv_alone.specs.Line.{doubled, printed, printed_after, line_of}
-use Rattle.mv_report.specs.Text.{line, in_quotes, reason_text, answer_text, reply_text, replies_text, mark_text, count_text, starts_text, counts_text, rounds_text, commit_text, history_text, journal_text, tables_text, text_of}
+use Rattle.mv_alone.specs.Line.{printed, printed_after, line_of}
+use Rattle.mv_report.specs.Text.{in_quotes, reason_text, answer_text, reply_text, replies_text, mark_text, count_text, starts_text, counts_text, rounds_text, commit_text, history_text, journal_text, tables_text, text_of}
 use Rattle.mv_report.specs.Shown.{IsPrinted}
 
 -- Reading

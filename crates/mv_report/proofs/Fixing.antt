@@ -6,10 +6,11 @@ use Rattle.std.proofs.lemmas.Fmt.{decimal_injective}
 use Rattle.std.proofs.lemmas.List.Elements.{All-head, All-tail}
 use Rattle.mv_values.specs.declared.rows.Keyed.{Keyed}
 use Rattle.mv_values.specs.declared.schema.TableInfo.{TableInfo}
+use Rattle.mv_values.specs.Texts.{line}
 use Rattle.mv_journal.specs.declared.event.Event.{Event}
 use Rattle.mv_journal.specs.declared.event.Event.TheVariants.{B, S, A, M, C, X, G}
 use Rattle.mv_journal.specs.Events.{IsInRange}
-use Rattle.mv_report.specs.Text.{line, event_line, journal_text, tables_text}
+use Rattle.mv_report.specs.Text.{event_line, journal_text, tables_text}
 use Rattle.mv_report.specs.Shown.{has_line, shown, TextFixesEvents}
 use Rattle.mv_report.proofs.Finding.{ArePlain, decimal_plain, found, found_journal, rest_of}
 

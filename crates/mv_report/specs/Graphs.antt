@@ -1,6 +1,7 @@
 -- The text of graphs: which statements each statement may depend on. Its form is this project's own.
 use Rattle.std.specs.Prelude.{ℕ, Bool, true, false, List, [], ◌++◌, codes, decimal}
 use Rattle.std.specs.List.{flat_map, enumerate_from, zip}
+use Rattle.mv_values.specs.Texts.{line}
 use Rattle.mv_catalog.specs.declared.resolved.ProcInfo.{ProcInfo}
 use Rattle.mv_catalog.specs.declared.resolved.Resolved.{Resolved}
 use Rattle.mv_graph.specs.declared.graph.Graph.{Graph}
@@ -11,7 +12,6 @@ use Rattle.mv_graph.specs.declared.graph.Keyword.TheVariants as keyword
 use Rattle.mv_graph.specs.Edges.{edges}
 use Rattle.mv_report.specs.declared.render_graphs.Kind.{Kind}
 use Rattle.mv_report.specs.declared.render_graphs.Kind.TheVariants.{Control, Variable, Table}
-use Rattle.mv_report.specs.Text.{line}
 
 -- a keyword in lower case
 abbrev pub keyword_text : Keyword → List ℕ

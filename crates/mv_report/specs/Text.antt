@@ -6,6 +6,7 @@ use Rattle.mv_values.specs.declared.calls.End.TheVariants.{Own, Duplicate, Overf
 use Rattle.mv_values.specs.declared.calls.Reply.{Reply}
 use Rattle.mv_values.specs.declared.rows.Keyed.{Keyed}
 use Rattle.mv_values.specs.declared.schema.TableInfo.{TableInfo}
+use Rattle.mv_values.specs.Texts.{line}
 use Rattle.mv_csvio.specs.Csv.{rows_csv}
 use Rattle.mv_journal.specs.declared.event.Event.{Event}
 use Rattle.mv_journal.specs.declared.event.Event.TheVariants.{S, G}
@@ -15,10 +16,6 @@ use Rattle.mv_journal.specs.declared.outcome.Round.{Round}
 use Rattle.mv_journal.specs.declared.outcome.HistoryLine.{HistoryLine}
 use Rattle.mv_journal.specs.declared.outcome.Outcome.{Outcome}
 use Rattle.mv_journal.specs.Events.{event_text}
-
--- a line ends with LF
-abbrev pub line : List ℕ → List ℕ
-line text = text ++ (10 ∷ [])
 
 -- a byte of a text in single quotes. A quote is doubled
 abbrev pub in_quotes : ℕ → List ℕ

@@ -2,7 +2,8 @@
 
 ghost use Rattle.std.specs.Prelude.{◌≡◌, ◌++◌, ◌∷◌, [], codes, OnOk};
 ghost use Rattle.std.specs.List.{flat_map};
-ghost use Rattle.mv_report.specs.Text.{line, in_quotes, reason_text, answer_text, reply_text, replies_text};
+ghost use Rattle.mv_values.specs.Texts.{line};
+ghost use Rattle.mv_report.specs.Text.{in_quotes, reason_text, answer_text, reply_text, replies_text};
 
 use crate::number::write_number;
 use mv_values::calls::{End, Reply};

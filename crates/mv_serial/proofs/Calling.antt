@@ -2,10 +2,11 @@
 use Rattle.std.proofs.Common.{◌≡◌, ◌<◌, ℕ, ap, sym, ◌∙◌, length, get_or, refl}
 use Rattle.std.proofs.lemmas.Option.{slice_get_read}
 use Rattle.mv_values.specs.declared.calls.Call.{Call}
+use Rattle.mv_values.specs.Tables.{Tables}
 use Rattle.mv_catalog.specs.declared.resolved.Program.{Program}
 use Rattle.mv_catalog.specs.declared.resolved.ProcInfo.{ProcInfo}
 use Rattle.mv_alone.specs.Alone.{alone}
-use Rattle.mv_alone.specs.TableAfter.{Tables, begun, outcome, outcome_at, outcome_in}
+use Rattle.mv_alone.specs.TableAfter.{begun, outcome, outcome_at, outcome_in}
 
 pub called : (p : Program) (number : ℕ) (call : Call) (procedure : ProcInfo) (db : Tables) → number < length p.resolved.calls → call ≡ get_or p.resolved.calls number call
     → call.procedure < length p.resolved.procedures → procedure ≡ get_or p.resolved.procedures call.procedure procedure

@@ -1,21 +1,18 @@
 -- Changes of tables, and those that take changes back.
-use Rattle.std.proofs.Common.{◌≡◌, ◌≤◌, ℕ, zero, suc, Bool, true, false, List, [], ◌∷◌, ◌++◌, Option, length, slice_set, refl, sym, ap, subst, ◌∙◌, inl, inr, arith}
+use Rattle.std.proofs.Common.{◌≡◌, ℕ, Bool, true, false, List, [], ◌∷◌, ◌++◌, Option, length, slice_set, refl, sym, ap, subst, ◌∙◌, inl, inr}
 use Rattle.std.specs.Ordering.{is_eq}
 use Rattle.std.proofs.lemmas.Bool.{cases_lt}
-use Rattle.std.proofs.lemmas.List.{set-set, get_or-set_same, set-get_or}
+use Rattle.std.proofs.lemmas.List.{set-set, get_or-set_same, set-get_or, set_past}
 use Rattle.mv_values.specs.declared.value.Value.{Value}
 use Rattle.mv_values.specs.declared.rows.Keyed.{Keyed}
 use Rattle.mv_values.specs.Keys.{IsRising}
 use Rattle.mv_values.specs.Order.{key_order}
 use Rattle.mv_values.specs.Patching.{row_of, placed}
-use Rattle.mv_values.specs.Tables.{rows_at}
+use Rattle.mv_values.specs.Tables.{rows_at, Tables}
 use Rattle.mv_values.proofs.KeyOrder.{tied}
 use Rattle.mv_record.proofs.Patching.{rows_same, row_of-placed_same, placed_other, rising_placed}
 use Rattle.mv_serial.specs.declared.change.Change.{Change}
 use Rattle.mv_serial.specs.Changing.{changed_in, changed_by, KeepsUndo}
-
-abbrev pub Tables : Type 0
-Tables = List (List Keyed)
 
 -- a table that was taken out, put back
 pub put_back : (db : Tables) (t : ℕ) (rows : List Keyed) → slice_set (slice_set db t []) t rows ≡ slice_set db t rows
@@ -32,11 +29,6 @@ placed_back rows key row rising =
         subst (λ k. row_of (placed key (row_of rows key) (placed key row rows)) k ≡ row_of rows k) same
         (row_of-placed_same key (row_of rows key) (placed key row rows) (rising_placed key row rows rising))
     by other false e = placed_other key (row_of rows key) (placed key row rows) other e ∙ placed_other key row rows other e
-
-set_past : (db : Tables) (t : ℕ) (rows : List Keyed) → length db ≤ t → slice_set db t rows ≡ db
-set_past [] t rows le = refl
-set_past (r ∷ db) zero rows le = absurd (omega (arith, le))
-set_past (r ∷ db) (suc t) rows le = ap (λ d. r ∷ d) (set_past db t rows (omega (arith, le)))
 
 -- a key changed in a table that was set
 pub changed_again : (db : Tables) (t : ℕ) (rows : List Keyed) (key : List Value) (row : Option (List Value)) → slice_set (slice_set db t rows) t (placed key row (rows_at (slice_set db t rows) t)) ≡ slice_set db t (placed key row rows)

@@ -8,9 +8,10 @@ use Rattle.std.proofs.lemmas.Option.{same_Some}
 use Rattle.mv_values.specs.declared.rows.Keyed.{Keyed}
 use Rattle.mv_values.specs.declared.calls.Reply.{Reply}
 use Rattle.mv_values.specs.declared.calls.End.{End}
+use Rattle.mv_values.specs.Tables.{Tables}
 use Rattle.mv_catalog.specs.declared.resolved.Program.{Program}
 use Rattle.mv_alone.specs.declared.state.State.{State}
-use Rattle.mv_alone.specs.TableAfter.{Tables, outcome, tables_left, reply_in, reply_of, table_after, IsOrder, RepliesOf, StoppedUnchanged}
+use Rattle.mv_alone.specs.TableAfter.{outcome, tables_left, reply_in, reply_of, table_after, IsOrder, RepliesOf, StoppedUnchanged}
 use Rattle.mv_alone.specs.Changes.{OthersStay}
 use Rattle.mv_serial.proofs.Tabling.{table_with}
 

@@ -1,7 +1,7 @@
 -- Tables moved out of a list, one after another.
-use Rattle.std.proofs.Common.{◌≡◌, ℕ, zero, suc, ◌+◌, List, [], ◌∷◌, ◌++◌, Some, drop, slice_get, slice_set, refl, sym, ap, subst, ◌∙◌, append_assoc, add-one}
+use Rattle.std.proofs.Common.{◌≡◌, ℕ, zero, suc, ◌+◌, List, [], ◌∷◌, ◌++◌, Some, drop, slice_get, slice_set, refl, sym, ap, ◌∙◌, append_assoc, add-one}
 use Rattle.mv_values.specs.declared.rows.Keyed.{Keyed}
-use Rattle.mv_serial.proofs.Changing.{Tables}
+use Rattle.mv_values.specs.Tables.{Tables}
 
 opened : (db : Tables) (t : ℕ) (rows : List Keyed) → slice_get db t ≡ Some rows → drop t db ≡ rows ∷ drop (suc t) db
 opened [] t rows h = cc

@@ -14,7 +14,7 @@ use Rattle.mv_values.specs.declared.calls.End.TheVariants.{Duplicate}
 use Rattle.mv_values.specs.Keys.{IsRising}
 use Rattle.mv_values.specs.Order.{key_order}
 use Rattle.mv_values.specs.Patching.{row_of, placed}
-use Rattle.mv_values.specs.Tables.{rows_at}
+use Rattle.mv_values.specs.Tables.{rows_at, Tables}
 use Rattle.mv_values.proofs.KeyOrder.{same_key, turned}
 use Rattle.mv_record.proofs.Rising.{Above, Rises, rises_from, filter_above, lower, row_here, row_later, row_below}
 use Rattle.mv_alone.specs.declared.state.Check.{Check}
@@ -25,7 +25,7 @@ use Rattle.mv_alone.specs.Rows.{meets, matching, is_some_row}
 use Rattle.mv_alone.specs.Changes.{updated, without, put_row}
 use Rattle.mv_serial.specs.declared.change.Change.{Change}
 use Rattle.mv_serial.specs.Changing.{changed_by, renewals, removals}
-use Rattle.mv_serial.proofs.Changing.{Tables, changed_again}
+use Rattle.mv_serial.proofs.Changing.{changed_again}
 use Rattle.mv_serial.proofs.Tabling.{table_with}
 
 -- Changes of one table

@@ -6,7 +6,7 @@ use Rattle.mv_values.specs.declared.rows.Keyed.{Keyed}
 use Rattle.mv_values.specs.declared.schema.TableInfo.{TableInfo}
 use Rattle.mv_values.specs.declared.calls.End.{End}
 use Rattle.mv_values.specs.Columns.{columns_of}
-use Rattle.mv_values.specs.Tables.{key_columns, columns_at, rows_at, KeysStand}
+use Rattle.mv_values.specs.Tables.{key_columns, columns_at, rows_at, KeysStand, Tables}
 use Rattle.mv_catalog.specs.declared.resolved.RSetItem.{RSetItem}
 use Rattle.mv_alone.specs.declared.state.Check.{Check}
 use Rattle.mv_alone.specs.declared.state.State.{State}
@@ -14,7 +14,6 @@ use Rattle.mv_alone.specs.Rows.{meets}
 use Rattle.mv_alone.specs.Changes.{set_row, without, put_row}
 use Rattle.mv_alone.specs.Own.{StandUnder}
 use Rattle.mv_alone.proofs.Standing.{stand_set, set_row_keeps, updated_stand, put_stands}
-use Rattle.mv_serial.proofs.Changing.{Tables}
 use Rattle.mv_serial.proofs.Tabling.{table_with, updated_at}
 
 abbrev Stands : List ℕ → Keyed → Type 0

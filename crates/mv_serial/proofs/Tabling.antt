@@ -3,7 +3,7 @@ use Rattle.std.proofs.Common.{◌≡◌, ℕ, Bool, List, Result, Ok, Err, slice
 use Rattle.mv_values.specs.declared.rows.Keyed.{Keyed}
 use Rattle.mv_values.specs.declared.schema.TableInfo.{TableInfo}
 use Rattle.mv_values.specs.declared.calls.End.{End}
-use Rattle.mv_values.specs.Tables.{key_columns, columns_at, rows_at}
+use Rattle.mv_values.specs.Tables.{key_columns, columns_at, rows_at, Tables}
 use Rattle.mv_catalog.specs.declared.resolved.RCond.{RCond}
 use Rattle.mv_catalog.specs.declared.resolved.RSetItem.{RSetItem}
 use Rattle.mv_alone.specs.declared.state.Check.{Check}
@@ -15,7 +15,6 @@ use Rattle.mv_alone.specs.Env.{with_found}
 use Rattle.mv_alone.specs.Rows.{checks_of, is_some_row}
 use Rattle.mv_alone.specs.Changes.{set_row, updated, without}
 use Rattle.mv_alone.specs.Alone.{update, delete, matching_in, with_rows}
-use Rattle.mv_serial.proofs.Changing.{Tables}
 
 -- the database with the rows that a table gets
 abbrev pub table_with : Tables → ℕ → Result (List Keyed) End → Result Tables End

@@ -8,10 +8,10 @@ use Rattle.std.proofs.lemmas.List.Elements.{filter-append}
 use Rattle.mv_values.specs.declared.value.Value.{Value}
 use Rattle.mv_values.specs.declared.rows.Keyed.{Keyed}
 use Rattle.mv_values.specs.declared.pred.Pred.{Pred}
-use Rattle.mv_values.specs.Keys.{IsRising, IsBelow}
+use Rattle.mv_values.specs.Keys.{IsRising, IsBelow, stored, as_row}
 use Rattle.mv_values.specs.Preds.{matches, matched}
 use Rattle.mv_table.specs.declared.span.Span.{Span}
-use Rattle.mv_table.specs.Entries.{alone_at, picked, stored, KeysRise}
+use Rattle.mv_table.specs.Entries.{alone_at, picked, KeysRise}
 use Rattle.mv_table.specs.declared.scan.Direction.{Direction}
 use Rattle.mv_table.specs.declared.scan.Direction.TheVariants.{Forward, Backward}
 use Rattle.mv_table.specs.Scans.{foremost, with_foremost}
@@ -83,9 +83,6 @@ rows_below f rows key v row rest all is h rising = by row (ap (λ o. rows ++ sto
     by (Some r) same = front_below rows (stored (picked f rest)) (record { key = key; row = r }) (subst IsRising (sym same) rising)
 
 -- The first of a scan
-
-abbrev as_row : List Value × List Value → Keyed
-as_row e = record { key = e.0; row = e.1 }
 
 first_there : (f : Versions → Option (List Value)) (d : Direction) (key : List Value) (v : Versions) (left rest : Entries) (row : List Value) (all : Option Keyed) → left ≡ with_foremost d (key, v) rest → f v ≡ Some row
     → foremost d (stored (picked f left)) ≡ all → Some (record { key = key; row = row }) ≡ all

@@ -3,10 +3,10 @@ use Rattle.std.proofs.Common.{◌≡◌, ◌<◌, ℕ, zero, suc, List, [], ◌�
 use Rattle.std.specs.Option.{option_and_then}
 use Rattle.mv_values.specs.declared.value.Value.{Value}
 use Rattle.mv_values.specs.declared.rows.Keyed.{Keyed}
-use Rattle.mv_values.specs.Keys.{IsRising}
+use Rattle.mv_values.specs.Keys.{IsRising, stored}
 use Rattle.mv_values.specs.Patching.{row_of}
 use Rattle.mv_values.specs.Tables.{rows_at}
-use Rattle.mv_table.specs.Entries.{item_of, picked, stored, KeysRise}
+use Rattle.mv_table.specs.Entries.{item_of, picked, KeysRise}
 use Rattle.mv_table.proofs.Picking.{entries_same, picked_rising, picked_item}
 use Rattle.mv_table.proofs.Storing.{stored_row, stored_rising}
 use Rattle.mv_record.specs.Writes.{AreRising}

@@ -2,9 +2,10 @@
 use Rattle.std.proofs.Common.{◌≡◌, ◌<◌, ◌≤◌, ◌^◌, ℕ, inl, inr, sym, ap, subst, ◌∙◌, arith, rules}
 use Rattle.std.specs.Prelude.{nat_lt, Result, Err}
 use Rattle.std.proofs.lemmas.Bool.{cases_lt}
+use Rattle.mv_values.specs.Counts.{greatest_count, one_more, Rose}
 use Rattle.mv_view.specs.declared.view.Refused.{Refused}
 use Rattle.mv_view.specs.declared.view.Refused.TheVariants.{NoMemory, Stale}
-use Rattle.mv_view.specs.Viewing.{Sight, Rose, one_more, greatest_count, answered, MayAnswer}
+use Rattle.mv_view.specs.Viewing.{Sight, answered, MayAnswer}
 
 risen : (n : ℕ) → n < 2 ^ 64 → Rose n (one_more n)
 risen n h = elim (cases_lt n greatest_count) [

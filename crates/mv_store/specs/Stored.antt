@@ -6,7 +6,8 @@ use Rattle.mv_values.specs.declared.value.Value.{Value}
 use Rattle.mv_values.specs.declared.rows.Keyed.{Keyed}
 use Rattle.mv_values.specs.declared.patch.Patch.{Patch}
 use Rattle.mv_values.specs.declared.patch.Write.{Write}
-use Rattle.mv_table.specs.Entries.{picked, stored}
+use Rattle.mv_values.specs.Keys.{stored}
+use Rattle.mv_table.specs.Entries.{picked}
 use Rattle.mv_chain.specs.Versions.{Versions, row_at, own_of, is_blank, collected}
 use Rattle.mv_record.specs.Writes.{AreRising}
 

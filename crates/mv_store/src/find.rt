@@ -1,10 +1,10 @@
 //! Finds rows as of a commit.
 
 ghost use Rattle.std.specs.Prelude.{◌≡◌, ◌++◌, All, map, IfOk, OnOk, OnSome};
-ghost use Rattle.mv_values.specs.Keys.{IsBelow};
+ghost use Rattle.mv_values.specs.Keys.{IsBelow, stored};
 ghost use Rattle.mv_values.specs.Patching.{row_of};
 ghost use Rattle.mv_values.specs.Preds.{matched};
-ghost use Rattle.mv_table.specs.Entries.{alone_at, picked, stored, KeysRise};
+ghost use Rattle.mv_table.specs.Entries.{alone_at, picked, KeysRise};
 ghost use Rattle.mv_table.specs.Scans.{foremost};
 ghost use Rattle.mv_table.specs.Spans.{Covers, IsForward};
 ghost use Rattle.mv_record.specs.Admitting.{Admitted};

@@ -13,11 +13,11 @@ use Rattle.std.proofs.lemmas.List.{take_more, get_or-take, length-take, get_or_d
 use Rattle.mv_values.specs.contracts.value.ValueOrd.TheImpl.{cmp-value}
 use Rattle.mv_values.specs.declared.value.Value.{Value}
 use Rattle.mv_values.specs.declared.rows.Keyed.{Keyed}
-use Rattle.mv_values.specs.Keys.{IsRising, IsBelow}
+use Rattle.mv_values.specs.Keys.{IsRising, IsBelow, stored}
 use Rattle.mv_values.specs.Order.{key_order}
 use Rattle.mv_values.specs.Patching.{row_of, placed}
 use Rattle.mv_values.proofs.KeyOrder.{key_order_total, exact_keys}
-use Rattle.mv_table.specs.Entries.{item_of, with_item, KeysRise, stored}
+use Rattle.mv_table.specs.Entries.{item_of, with_item, KeysRise}
 use Rattle.mv_table.proofs.Entries.{keys_alike}
 
 abbrev pub Pair : Type 0

@@ -1,5 +1,5 @@
 -- Defines the entries of a map by key, in key order.
-use Rattle.std.specs.Prelude.{◌≡◌, List, [], ◌∷◌, ◌++◌, Option, Some, None, AllPairs, if◌then◌else◌, map}
+use Rattle.std.specs.Prelude.{◌≡◌, List, [], ◌∷◌, ◌++◌, Option, Some, None, AllPairs, if◌then◌else◌}
 use Rattle.std.specs.Ordering.{is_eq}
 use Rattle.std.specs.declared.cmp.Ordering.{Ordering}
 use Rattle.std.specs.declared.cmp.Ordering.TheVariants.{Less, Equal, Greater}
@@ -37,10 +37,6 @@ module _ {T : Type 0} where
 abbrev pub picked : {A B : Type 0} → (A → Option B) → List (List Value × A) → List (List Value × B)
 picked f [] = []
 picked f (e ∷ es) = alone_at e.0 (f e.1) ++ picked f es
-
--- the rows of a table, as the entries of a map
-abbrev pub stored : List (List Value × List Value) → List Keyed
-stored es = map (λ e. record { key = e.0; row = e.1 }) es
 
 -- the row that an entry of a table borrows, with its key
 abbrev pub seen : Entry → Keyed

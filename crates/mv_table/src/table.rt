@@ -3,9 +3,9 @@
 ghost use Rattle.std.specs.Prelude.{◌≡◌, [], length, map, None, Some, OnOk, OnErr, IfOk, IfErr};
 ghost use Rattle.std.specs.List.{filter};
 ghost use Rattle.std.specs.Option.{option_copied};
-ghost use Rattle.mv_values.specs.Keys.{IsRising};
+ghost use Rattle.mv_values.specs.Keys.{IsRising, stored};
 ghost use Rattle.mv_values.specs.Patching.{row_of, placed};
-ghost use Rattle.mv_table.specs.Entries.{stored, seen};
+ghost use Rattle.mv_table.specs.Entries.{seen};
 ghost use Rattle.mv_table.specs.Spans.{is_within, IsForward};
 
 use crate::key_map::KeyMap;
@@ -75,7 +75,7 @@ pub struct Table {
 impl Model for Table {
     ghost use Rattle.std.specs.Prelude.{List as Seq};
     ghost use Rattle.mv_values.specs.declared.rows.Keyed.{Keyed};
-    ghost use Rattle.mv_table.specs.Entries.{stored};
+    ghost use Rattle.mv_values.specs.Keys.{stored};
 
     ghost Value = { Seq Keyed };
 

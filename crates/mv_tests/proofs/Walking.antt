@@ -1,7 +1,7 @@
 -- A call that is walked through with records of another run of it.
 use Rattle.std.proofs.Common.{◌≡◌, ◌<◌, false, true, List, [], ◌∷◌, ◌++◌, length, slice_index_or, refl, sym, ap, subst, ◌∙◌, arith, append-nil, length-append}
 use Rattle.mv_values.specs.declared.calls.Call.{Call}
-use Rattle.mv_alone.specs.TableAfter.{Tables}
+use Rattle.mv_values.specs.Tables.{Tables}
 use Rattle.mv_record.specs.declared.record.Record.{Record}
 use Rattle.mv_record.specs.Writes.{AreRising}
 use Rattle.mv_graph.specs.declared.graph.Graph.{Graph}

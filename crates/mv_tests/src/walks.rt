@@ -1,7 +1,7 @@
 //! A walk through a call that adopts some of its records and executes the others.
 
 ghost use Rattle.std.specs.Prelude.{◌≡◌, ◌<◌, ◌+◌, IfOk, OnOk, false, true, length};
-ghost use Rattle.mv_alone.specs.TableAfter.{Tables};
+ghost use Rattle.mv_values.specs.Tables.{Tables};
 ghost use Rattle.mv_record.specs.Writes.{AreRising};
 ghost use Rattle.mv_graph.specs.Nodes.{IsSound, meaning_of};
 ghost use Rattle.mv_record.specs.Databases.{IsDatabaseOf};

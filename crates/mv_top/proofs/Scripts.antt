@@ -6,12 +6,13 @@ use Rattle.std.proofs.lemmas.Option.{slice_get-map}
 use Rattle.std.specs.Option.{option_map}
 use Rattle.mv_values.specs.declared.calls.Call.{Call}
 use Rattle.mv_values.specs.declared.calls.Options.{Options}
+use Rattle.mv_values.specs.Tables.{Tables}
 use Rattle.mv_values.proofs.Deciding.{some_at}
 use Rattle.mv_catalog.specs.declared.resolved.ProcInfo.{ProcInfo}
 use Rattle.mv_catalog.specs.declared.resolved.Program.{Program}
 use Rattle.mv_catalog.specs.Text.{FitsText, IsCall, IsProcedure, Suits}
 use Rattle.mv_accept.specs.Accepting.{most_calls}
-use Rattle.mv_alone.specs.TableAfter.{Tables, outcome, outcome_in, outcome_at, tables_left, reply_in}
+use Rattle.mv_alone.specs.TableAfter.{outcome, outcome_in, outcome_at, tables_left, reply_in}
 use Rattle.mv_record.specs.Runs.{Run}
 use Rattle.mv_record.specs.Databases.{IsProgram}
 use Rattle.mv_recorded.specs.Recorded.{records, records_in, records_at}

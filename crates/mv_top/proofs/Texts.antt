@@ -8,7 +8,8 @@ use Rattle.mv_values.specs.declared.calls.Call.{Call}
 use Rattle.mv_values.specs.declared.calls.End.{End}
 use Rattle.mv_values.specs.declared.calls.Options.{Options}
 use Rattle.mv_values.specs.declared.calls.Reply.{Reply}
-use Rattle.mv_values.specs.Tables.{key_columns, columns_at, rows_at}
+use Rattle.mv_values.specs.Tables.{key_columns, columns_at, rows_at, Tables}
+use Rattle.mv_values.specs.Texts.{line}
 use Rattle.mv_catalog.specs.declared.resolved.Program.{Program}
 use Rattle.mv_catalog.specs.declared.resolved.ProcInfo.{ProcInfo}
 use Rattle.mv_catalog.specs.declared.resolved.RStmt.TheOpen.{RStmt-F, Assign, Select, Total, ForSelect, ForRows, Branch, Insert, Update, Delete, Print, Rollback}
@@ -21,7 +22,7 @@ use Rattle.mv_alone.specs.Rows.{checks_of, aggregate}
 use Rattle.mv_alone.specs.Changes.{new_row, put_row, keyed, updated, set_row}
 use Rattle.mv_alone.specs.Line.{line_of}
 use Rattle.mv_alone.specs.Alone.{alone, matching_in, offset_of}
-use Rattle.mv_alone.specs.TableAfter.{Tables, begun, outcome, outcome_at, outcome_in, reply_in as reply_from}
+use Rattle.mv_alone.specs.TableAfter.{begun, outcome, outcome_at, outcome_in, reply_in as reply_from}
 use Rattle.mv_record.specs.declared.record.Record.{Record}
 use Rattle.mv_recorded.specs.Doing.{itself, fixed_rows}
 use Rattle.mv_recorded.specs.Recorded.{own_record, recorded, outside}
@@ -38,7 +39,7 @@ use Rattle.mv_lawful.proofs.Collections.{collections_are_unseen}
 use Rattle.mv_lawful.proofs.Serial.{lawful_names_calls}
 use Rattle.mv_lawful.proofs.Turns.{in_turn_is_lawful}
 use Rattle.mv_report.specs.Shown.{IsPrinted, IsPlain}
-use Rattle.mv_report.specs.Text.{line, replies_text, history_text, event_line, journal_text, tables_text, text_of}
+use Rattle.mv_report.specs.Text.{replies_text, history_text, event_line, journal_text, tables_text, text_of}
 use Rattle.mv_report.proofs.Fixing.{text_fixes}
 use Rattle.mv_gate.specs.Gates.{IsOutcome}
 use Rattle.mv_top.specs.History.{work_of, text, in_turn as turns_of, TextFixesJournal}

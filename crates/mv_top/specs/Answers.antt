@@ -1,13 +1,14 @@
 -- The answer to a command and its input, and what is written of it.
 use Rattle.std.specs.Prelude.{◌≡◌, ◌≤◌, ◌⊎◌, ℕ, true, false, List, Option, Some, None, codes}
 use Rattle.std.specs.Option.{ForSome}
-use Rattle.mv_edge.specs.Edge.{Rose, Writes, WritesFront}
+use Rattle.mv_edge.specs.Edge.{Writes, WritesFront}
 use Rattle.mv_values.specs.declared.calls.Options.{Options}
+use Rattle.mv_values.specs.Counts.{Rose}
+use Rattle.mv_values.specs.Texts.{line}
 use Rattle.mv_catalog.specs.declared.resolved.Program.{Program}
 use Rattle.mv_journal.specs.declared.event.Event.{Event}
 use Rattle.mv_accept.specs.declared.refusal.Refusal.{Refusal as ScriptRefusal}
 use Rattle.mv_accept.specs.Accepting.{Accepts, Refuses}
-use Rattle.mv_report.specs.Text.{line}
 use Rattle.mv_top.specs.declared.refusal.Refusal.{Refusal}
 use Rattle.mv_top.specs.declared.refusal.Refusal.TheVariants.{Script}
 use Rattle.mv_top.specs.Refusals.{number_of, line_of}

@@ -2,7 +2,7 @@
 
 ghost use Rattle.std.specs.Prelude.{◌≡◌, Some, drop, IfOk, OnOk, IsErrOf};
 ghost use Rattle.std.specs.Option.{ForSome};
-ghost use Rattle.mv_edge.specs.Edge.{Rose};
+ghost use Rattle.mv_values.specs.Counts.{Rose};
 ghost use Rattle.mv_words.specs.Words.{HasLoad};
 ghost use Rattle.mv_top.specs.Inputs.{IsReader, input_of, IsTaken};
 

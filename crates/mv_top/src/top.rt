@@ -2,14 +2,14 @@
 
 ghost use Rattle.std.specs.Prelude.{◌≡◌, ◌⊎◌, ℕ, List as Seq, Some, drop, IfOk};
 ghost use Rattle.std.specs.Option.{ForSome};
-ghost use Rattle.mv_edge.specs.Edge.{Rose};
+ghost use Rattle.mv_values.specs.Counts.{Rose};
+ghost use Rattle.mv_values.specs.Texts.{line};
 ghost use Rattle.mv_catalog.specs.declared.resolved.Program.{Program};
 ghost use Rattle.mv_words.specs.declared.command.Command.{Command as Task};
 ghost use Rattle.mv_top.specs.declared.refusal.Refusal.{Refusal as Why};
 ghost use Rattle.mv_top.specs.Refusals.{line_of};
 ghost use Rattle.mv_top.specs.Inputs.{IsReader, input_of};
 ghost use Rattle.mv_top.specs.Answers.{IsAnswered, Puts, Wrote, WroteOr, StandFor, TakesBytes, IsNoCommand, IsNoReader, IsTextOf, IsRefusedBy, words_of, usage_line};
-ghost use Rattle.mv_report.specs.Text.{line};
 
 use crate::answer::answer;
 use crate::input::take_input;

@@ -1,18 +1,15 @@
 -- The summary of a run of the workload. Its form is this project's own.
-use Rattle.std.specs.Prelude.{ℕ, Bool, List, [], ◌∷◌, ◌++◌, length, codes, decimal, if◌then◌else◌}
+use Rattle.std.specs.Prelude.{ℕ, Bool, List, ◌++◌, length, codes, decimal, if◌then◌else◌}
 use Rattle.std.specs.Fmt.{signed_decimal}
 use Rattle.mv_values.specs.declared.rows.Keyed.{Keyed}
 use Rattle.mv_values.specs.declared.schema.TableInfo.{TableInfo}
+use Rattle.mv_values.specs.Texts.{line}
 use Rattle.mv_catalog.specs.declared.resolved.Resolved.{Resolved}
 use Rattle.mv_journal.specs.declared.outcome.Outcome.{Outcome}
 use Rattle.mv_tpccgen.specs.declared.load.Load.{Load}
 use Rattle.mv_tpccsum.specs.Tables.{column, rows_of, sum_of}
 use Rattle.mv_tpccsum.specs.Calls.{calls_of, ends_of}
 use Rattle.mv_tpccsum.specs.Consistent.{agrees, books}
-
--- a line ends with LF
-abbrev pub line : List ℕ → List ℕ
-line text = text ++ 10 ∷ []
 
 -- what was asked for
 unfoldable pub load_line : Load → List ℕ

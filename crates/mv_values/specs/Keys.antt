@@ -1,5 +1,5 @@
 -- The rows of a table, sorted by key. Rows are kept in key order: this project's own rule.
-use Rattle.std.specs.Prelude.{◌≡◌, ◌≤◌, ℕ, zero, suc, List, [], ◌∷◌, AllPairs, length, slice_get, Some}
+use Rattle.std.specs.Prelude.{◌≡◌, ◌≤◌, ℕ, zero, suc, List, [], ◌∷◌, AllPairs, length, map, slice_get, Some}
 use Rattle.std.specs.List.Sorted.{IsPartitionPoint}
 use Rattle.std.specs.declared.cmp.Ordering.TheVariants.{Less, Greater}
 use Rattle.mv_values.specs.declared.value.Value.{Value}
@@ -17,6 +17,14 @@ IsAbove key item = key_order item.key key ≡ Greater
 -- each key is less than those after it
 abbrev pub IsRising : List Keyed → Type 0
 IsRising rows = AllPairs (λ a b. IsBelow b.key a) rows
+
+-- an entry of a map from keys to rows, as a row under its key
+abbrev pub as_row : List Value × List Value → Keyed
+as_row e = record { key = e.0; row = e.1 }
+
+-- the entries of such a map, as rows under their keys
+abbrev pub stored : List (List Value × List Value) → List Keyed
+stored es = map as_row es
 
 -- the row at this index has the key
 abbrev pub IsPlaceOf : List Keyed → List Value → ℕ → Type 0

@@ -5,6 +5,10 @@ use Rattle.mv_values.specs.declared.schema.TableInfo.{TableInfo}
 use Rattle.mv_values.specs.declared.rows.Keyed.{Keyed}
 use Rattle.mv_values.specs.Columns.{columns_of}
 
+-- the rows of each table
+abbrev pub Tables : Type 0
+Tables = List (List Keyed)
+
 -- the key columns of a table; none if there is no such table
 abbrev pub key_in : Option TableInfo → List ℕ
 key_in None = []
@@ -22,9 +26,9 @@ abbrev pub columns_at : List TableInfo → ℕ → List Column
 columns_at tables t = columns_in (slice_get tables t)
 
 -- the rows of a table
-abbrev pub rows_at : List (List Keyed) → ℕ → List Keyed
+abbrev pub rows_at : Tables → ℕ → List Keyed
 rows_at db t = slice_index_or db t []
 
 -- the key of each row is its values in the key columns
-abbrev pub KeysStand : List TableInfo → List (List Keyed) → Type 0
+abbrev pub KeysStand : List TableInfo → Tables → Type 0
 KeysStand tables db = (t : ℕ) → All (λ item. item.key ≡ columns_of item.row (key_columns tables t)) (rows_at db t)

@@ -1,6 +1,7 @@
 -- Views, and how calls change them. That a look-up may be too late for its snapshot is this project's own.
-use Rattle.std.specs.Prelude.{◌≡◌, ◌<◌, ◌+◌, ◌-◌, ◌^◌, ◌⊎◌, ⊤, ℕ, Bool, IsTrue, List, Result, Ok, Err, min}
+use Rattle.std.specs.Prelude.{◌≡◌, ◌<◌, ⊤, ℕ, Bool, IsTrue, List, Result, Ok, Err}
 use Rattle.mv_values.specs.declared.rows.Keyed.{Keyed}
+use Rattle.mv_values.specs.Counts.{one_more, Rose}
 use Rattle.mv_view.specs.declared.view.Refused.{Refused}
 use Rattle.mv_view.specs.declared.view.Refused.TheVariants.{NoMemory, Stale}
 
@@ -14,18 +15,6 @@ pub record Sight : Type 0 where
   pub last_low : ℕ
   pub rows_calls : ℕ
   pub row_calls : ℕ
-
--- where a count stops
-abbrev pub greatest_count : ℕ
-greatest_count = 2 ^ 64 - 1
-
--- a count increased by one
-abbrev pub one_more : ℕ → ℕ
-one_more count = min (count + 1) greatest_count
-
--- a count rose, or was at its maximum
-abbrev pub Rose : ℕ → ℕ → Type 0
-Rose before after = (before < after) ⊎ (before ≡ greatest_count)
 
 -- the view after one more call of `rows` or `foremost`, and of `row`
 abbrev pub with_rows_call : Sight → Sight

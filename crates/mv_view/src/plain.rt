@@ -1,7 +1,6 @@
 //! A view of a database in memory.
 
 ghost use Rattle.std.specs.Prelude.{◌≡◌, false, IfOk};
-ghost use Rattle.std.specs.Option.{option_copied};
 ghost use Rattle.mv_values.specs.Keys.{IsRising};
 ghost use Rattle.mv_values.specs.Patching.{found_by, row_of};
 ghost use Rattle.mv_values.specs.Tables.{rows_at};
@@ -10,12 +9,13 @@ ghost use Rattle.mv_table.specs.Scans.{foremost};
 use crate::key_set::KeySet;
 use crate::narrow::{find, find_foremost};
 use crate::view::{Refused, View};
+use mv_record::applying::find_row;
 use mv_table::scan::Direction;
 use mv_values::copied::Copied;
 use mv_values::memory::NoMemory;
 use mv_values::pred::Pred;
 use mv_values::rows::{Database, Keyed, Rows};
-use mv_values::value::{Key, Row, Value};
+use mv_values::value::{Key, Row};
 use std::alloc::Global;
 use std::marker::Model;
 
@@ -60,16 +60,6 @@ fn rows_in(tables: &Database, table: u8) -> &[Keyed]
     }
 }
 
-/// Returns the row with the key. Costs the logarithm of the number of rows.
-fn row_under<'a>(rows: &'a Rows, key: &[Value]) -> Option<&'a Row>
-    ensures { option_copied result ≡ row_of rows.now key.now }
-{
-    match rows.place_of(key) {
-        Ok(at) => Some(&rows.as_slice()[at].row),
-        Err(_) => None,
-    }
-}
-
 /// Returns a copy of the row of a table with the key.
 fn copy_row(alloc: Global, tables: &Database, table: u8, key: &Key) -> Result<Option<Row>, NoMemory>
     ensures { IfOk result (λ row. row ≡ row_of (rows_at tables.now table) key.now) }
@@ -77,7 +67,7 @@ fn copy_row(alloc: Global, tables: &Database, table: u8, key: &Key) -> Result<Op
     let Some(rows) = tables.as_slice().get(table as usize) else {
         return Ok(None);
     };
-    match row_under(rows, key.as_slice()) {
+    match find_row(rows, key) {
         Some(row) => Ok(Some(row.copy(alloc)?)),
         None => Ok(None),
     }

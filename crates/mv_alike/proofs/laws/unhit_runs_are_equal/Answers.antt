@@ -1,8 +1,8 @@
 use Rattle.std.proofs.Common.{true, ◌≡◌, List, [], subst}
 use Rattle.mv_values.specs.declared.schema.TableInfo.{TableInfo}
 use Rattle.mv_values.specs.declared.calls.Call.{Call}
+use Rattle.mv_values.specs.Tables.{Tables}
 use Rattle.mv_catalog.specs.declared.resolved.ProcInfo.{ProcInfo}
-use Rattle.mv_alone.specs.TableAfter.{Tables}
 use Rattle.mv_record.specs.declared.record.Record.{Record}
 use Rattle.mv_record.specs.Runs.{TellsAll}
 use Rattle.mv_recorded.specs.Recorded.{recorded, meaning}

@@ -1,5 +1,5 @@
 use Rattle.std.proofs.Common.{◌≡◌, length}
-use Rattle.mv_table.specs.Entries.{stored}
+use Rattle.mv_values.specs.Keys.{stored}
 use Rattle.mv_table.specs.Scans.{foremost}
 use Rattle.mv_alone.specs.Rows.{matching}
 use Rattle.mv_alone.proofs.foremost.foremost_match.Given as goal

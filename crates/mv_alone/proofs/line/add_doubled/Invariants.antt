@@ -1,5 +1,5 @@
 use Rattle.std.proofs.Common.{◌≡◌, ◌++◌, drop}
-use Rattle.mv_alone.specs.Line.{doubled}
+use Rattle.mv_values.specs.Texts.{doubled}
 use Rattle.mv_alone.proofs.line.add_doubled.Given as goal
 
 abbrev pub invariant-loop-byte : goal.invariant-loop-byte

@@ -2,7 +2,8 @@ use Rattle.std.proofs.Common.{arith, subst, refl, ◌∙◌, length, ◌-◌, dr
 use Rattle.std.proofs.lemmas.List.{take_all, length-drop}
 use Rattle.std.proofs.lemmas.Result.{err_from_is_err_and}
 use Rattle.std.proofs.lemmas.Grind.{common_steps}
-use Rattle.mv_edge.specs.Edge.{Rose, Writes}
+use Rattle.mv_values.specs.Counts.{Rose}
+use Rattle.mv_edge.specs.Edge.{Writes}
 use Rattle.mv_edge.proofs.Steps.{writes_none, writes_at, writes_front}
 use Rattle.mv_edge.proofs.writing.write_all.Goals as goal
 

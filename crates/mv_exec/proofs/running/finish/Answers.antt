@@ -1,5 +1,5 @@
 use Rattle.std.proofs.Common.{◌≡◌, false, true, rules, subst, ◌∙◌}
-use Rattle.mv_alone.specs.TableAfter.{Tables}
+use Rattle.mv_values.specs.Tables.{Tables}
 use Rattle.mv_exec.specs.Running.{IsRunningOn, IsSameCallOn}
 use Rattle.mv_exec.proofs.Counting.{run_on}
 use Rattle.mv_exec.proofs.Fronts.{finished}

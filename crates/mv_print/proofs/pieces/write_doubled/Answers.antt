@@ -1,7 +1,7 @@
 use Rattle.std.proofs.Common.{◌≡◌, ◌<◌, ℕ, ◌+◌, List, [], ◌∷◌, ◌++◌, sym, ap, ◌∙◌, length, drop, get_or, append_assoc, if◌then◌else◌}
 use Rattle.std.proofs.lemmas.Bool.{ne_eqb}
 use Rattle.std.proofs.lemmas.List.{drop_more}
-use Rattle.mv_lex.specs.Spelling.{doubled}
+use Rattle.mv_values.specs.Texts.{doubled}
 use Rattle.mv_print.proofs.pieces.write_doubled.Goals as goal
 use Rattle.mv_print.proofs.pieces.write_doubled.Goals.{then-byte-eq39+in_ok-push, else-byte-eq39}
 

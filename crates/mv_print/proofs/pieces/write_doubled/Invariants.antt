@@ -1,5 +1,5 @@
 use Rattle.std.proofs.Common.{◌≡◌, ◌++◌, drop}
-use Rattle.mv_lex.specs.Spelling.{doubled}
+use Rattle.mv_values.specs.Texts.{doubled}
 use Rattle.mv_print.proofs.pieces.write_doubled.Given as goal
 
 abbrev pub invariant-loop-byte : goal.invariant-loop-byte

@@ -1,6 +1,6 @@
 use Rattle.std.proofs.Common.{◌≡◌, ◌++◌, take}
 use Rattle.std.specs.List.{flat_map}
-use Rattle.mv_report.specs.Text.{line}
+use Rattle.mv_values.specs.Texts.{line}
 use Rattle.mv_report.proofs.replies.write_lines.Given as goal
 
 abbrev pub invariant-loop-line : goal.invariant-loop-line

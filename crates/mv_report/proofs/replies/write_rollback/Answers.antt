@@ -1,7 +1,8 @@
 use Rattle.std.proofs.Common.{◌++◌, ◌∷◌, [], codes, refl}
 use Rattle.std.proofs.lemmas.Result.{on_ok_weaker}
+use Rattle.mv_values.specs.Texts.{line}
 use Rattle.mv_report.proofs.Steps.{grew}
-use Rattle.mv_report.specs.Text.{line, reason_text}
+use Rattle.mv_report.specs.Text.{reason_text}
 use Rattle.mv_report.proofs.replies.write_rollback.Goals as goal
 
 pub returns : goal.returns

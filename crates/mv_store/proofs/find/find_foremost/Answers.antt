@@ -1,6 +1,7 @@
-use Rattle.std.proofs.Common.{◌≡◌, sym, ap, subst, ◌∙◌}
+use Rattle.std.proofs.Common.{◌≡◌, ap, subst, ◌∙◌}
 use Rattle.std.specs.Prelude.{IfOk}
-use Rattle.mv_table.specs.Entries.{picked, stored}
+use Rattle.mv_values.specs.Keys.{stored}
+use Rattle.mv_table.specs.Entries.{picked}
 use Rattle.mv_table.specs.Scans.{foremost}
 use Rattle.mv_table.specs.Spans.{Covers}
 use Rattle.mv_view.specs.Narrowing.{outside}

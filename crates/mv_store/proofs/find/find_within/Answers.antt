@@ -1,5 +1,6 @@
 use Rattle.std.proofs.Common.{◌++◌, sym, ap, ◌∙◌}
-use Rattle.mv_table.specs.Entries.{picked, stored}
+use Rattle.mv_values.specs.Keys.{stored}
+use Rattle.mv_table.specs.Entries.{picked}
 use Rattle.mv_view.specs.Narrowing.{matching}
 use Rattle.mv_store.specs.Stored.{table_at}
 use Rattle.mv_store.proofs.Found.{found_in, found_within, found_rises, rows_more, rows_below}

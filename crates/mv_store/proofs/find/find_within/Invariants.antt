@@ -1,6 +1,6 @@
 use Rattle.std.proofs.Common.{◌≡◌, ◌++◌}
-use Rattle.mv_values.specs.Keys.{IsRising}
-use Rattle.mv_table.specs.Entries.{picked, stored}
+use Rattle.mv_values.specs.Keys.{IsRising, stored}
+use Rattle.mv_table.specs.Entries.{picked}
 use Rattle.mv_view.specs.Narrowing.{matching}
 use Rattle.mv_store.specs.Stored.{table_at}
 use Rattle.mv_store.proofs.Found.{found_in}

@@ -1,5 +1,6 @@
 use Rattle.std.proofs.Common.{◌≡◌, length}
-use Rattle.mv_table.specs.Entries.{picked, stored}
+use Rattle.mv_values.specs.Keys.{stored}
+use Rattle.mv_table.specs.Entries.{picked}
 use Rattle.mv_table.specs.Scans.{foremost}
 use Rattle.mv_view.specs.Narrowing.{outside}
 use Rattle.mv_store.proofs.Found.{found_in}

@@ -1,8 +1,8 @@
 use Rattle.std.proofs.lemmas.Grind.{common_steps}
 use Rattle.std.proofs.Common.{◌∙◌, ap, subst, refl, arith}
+use Rattle.mv_values.specs.Texts.{line}
 use Rattle.mv_top.specs.declared.status.Fault.{Fault}
 use Rattle.mv_top.specs.Answers.{IsToldBy}
-use Rattle.mv_report.specs.Text.{line}
 use Rattle.mv_top.proofs.top.answered.Goals as goal
 
 pub returns-in-Ok-clause-told : goal.returns-in-Ok-clause-told

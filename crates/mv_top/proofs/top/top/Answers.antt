@@ -1,11 +1,11 @@
 use Rattle.std.proofs.Common.{rules, subst, sym, ◌≡◌, ◌∙◌, List, ℕ}
 use Rattle.std.specs.Option.{ForSome}
+use Rattle.mv_values.specs.Texts.{line}
 use Rattle.mv_words.specs.declared.command.Command.{Command}
 use Rattle.mv_top.specs.Refusals.{line_of}
 use Rattle.mv_top.specs.declared.status.Status.TheVariants.{Done, Refused, Usage}
 use Rattle.mv_top.specs.Inputs.{input_of, IsTaken}
 use Rattle.mv_top.specs.Answers.{IsAnswered, IsTextOf, TakesBytes, IsRefusedBy, Puts, usage, words_of, usage_line}
-use Rattle.mv_report.specs.Text.{line}
 use Rattle.mv_top.proofs.Answering.{wrote_by, put_by, answer_of_input, all_taken, cause_of_taken, same_command, no_command}
 use Rattle.mv_top.proofs.top.top.Goals as goal
 

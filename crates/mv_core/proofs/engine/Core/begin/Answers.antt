@@ -1,6 +1,6 @@
 use Rattle.std.proofs.Common.{◌≡◌, ◌∷◌, [], List, Option, Some, None, Ok, take, length, sym, ap, subst, ◌∙◌, refl}
 use Rattle.std.proofs.lemmas.List.{take_at}
-use Rattle.mv_record.specs.Runs.{Tables}
+use Rattle.mv_values.specs.Tables.{Tables}
 use Rattle.mv_core.specs.declared.tasks.Running.{Running}
 use Rattle.mv_journal.specs.declared.event.Event.TheVariants.{B}
 use Rattle.mv_core.specs.declared.script.Script.{Script}

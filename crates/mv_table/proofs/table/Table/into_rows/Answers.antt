@@ -1,6 +1,5 @@
 use Rattle.std.proofs.Common.{◌++◌, sym, ap, ◌∙◌, subst}
-use Rattle.mv_values.specs.Keys.{IsRising}
-use Rattle.mv_table.specs.Entries.{stored}
+use Rattle.mv_values.specs.Keys.{IsRising, stored}
 use Rattle.mv_table.proofs.Storing.{stored_rising, front_below}
 use Rattle.mv_table.proofs.table.Table.into_rows.Goals as goal
 

@@ -1,6 +1,5 @@
 use Rattle.std.proofs.Common.{◌≡◌, ◌++◌}
-use Rattle.mv_values.specs.Keys.{IsRising}
-use Rattle.mv_table.specs.Entries.{stored}
+use Rattle.mv_values.specs.Keys.{IsRising, stored}
 use Rattle.mv_table.proofs.table.Table.into_rows.Given as goal
 
 abbrev pub invariant-loop-key : goal.invariant-loop-key

@@ -1,7 +1,6 @@
 use Rattle.std.proofs.Common.{ap, ◌∙◌, subst}
 use Rattle.std.specs.List.{filter}
-use Rattle.mv_values.specs.Keys.{IsRising}
-use Rattle.mv_table.specs.Entries.{stored}
+use Rattle.mv_values.specs.Keys.{IsRising, stored}
 use Rattle.mv_table.specs.Spans.{is_within}
 use Rattle.mv_table.proofs.Storing.{stored_rising, stored_filter}
 use Rattle.mv_table.proofs.table.Table.part.Goals as goal

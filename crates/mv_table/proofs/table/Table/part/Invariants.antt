@@ -1,6 +1,7 @@
 use Rattle.std.proofs.Common.{◌≡◌, ◌++◌, map}
 use Rattle.std.specs.List.{filter}
-use Rattle.mv_table.specs.Entries.{stored, seen}
+use Rattle.mv_values.specs.Keys.{stored}
+use Rattle.mv_table.specs.Entries.{seen}
 use Rattle.mv_table.specs.Spans.{is_within}
 use Rattle.mv_table.proofs.table.Table.part.Given as goal
 

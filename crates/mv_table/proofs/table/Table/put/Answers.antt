@@ -1,6 +1,6 @@
 use Rattle.std.proofs.Common.{◌≡◌, ap, ◌∙◌, subst, Some}
 use Rattle.mv_values.specs.Patching.{row_of, placed}
-use Rattle.mv_table.specs.Entries.{stored}
+use Rattle.mv_values.specs.Keys.{stored}
 use Rattle.mv_table.proofs.Storing.{stored_row, stored_with}
 use Rattle.mv_table.proofs.table.Table.put.Goals as goal
 

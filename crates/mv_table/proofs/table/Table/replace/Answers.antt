@@ -1,7 +1,7 @@
 use Rattle.std.proofs.Common.{◌≡◌, sym, ap, ◌∙◌, subst, Some, None}
 use Rattle.std.proofs.lemmas.Result.{on_ok_weaker, IfOk-weaker, IfErr-weaker}
 use Rattle.mv_values.specs.Patching.{row_of, placed}
-use Rattle.mv_table.specs.Entries.{stored}
+use Rattle.mv_values.specs.Keys.{stored}
 use Rattle.mv_table.proofs.Storing.{stored_row, stored_with}
 use Rattle.mv_table.proofs.table.Table.replace.Goals as goal
 
