@@ -1,7 +1,7 @@
 -- Columns that are set and set back.
-use Rattle.std.proofs.Common.{◌≡◌, ◌∷◌, ◌++◌, ◌+◌, ◌<◌, ◌≤◌, ℕ, zero, suc, List, [], length, take, get_or, refl, ap, sym, ◌∙◌, arith, append_assoc, append-nil}
+use Rattle.std.proofs.Common.{◌≡◌, ◌∷◌, ◌++◌, ◌+◌, ◌<◌, ◌≤◌, ℕ, List, [], length, take, get_or, refl, ap, sym, ◌∙◌, arith, append_assoc, append-nil}
 use Rattle.std.specs.Prelude.{slice_set}
-use Rattle.std.proofs.lemmas.List.{take_more, take_more_set, take_all, take_at, get_or-set_other, length-set}
+use Rattle.std.proofs.lemmas.List.{take_more, take_more_set, take_all, take_at, get_or-set_other, length-set, set-get_or}
 use Rattle.mv_values.specs.declared.value.Value.{Value}
 use Rattle.mv_values.specs.declared.patch.Assign.{Assign}
 use Rattle.mv_values.specs.Patching.{with_columns}
@@ -11,18 +11,9 @@ pub set_more : (items : List Assign) (a : Assign) (row : List Value) → with_co
 set_more [] a row = refl
 set_more (b ∷ bs) a row = set_more bs a (slice_set row b.column b.value)
 
-pub set_all : (items others : List Assign) (row : List Value) → with_columns (items ++ others) row ≡ with_columns others (with_columns items row)
-set_all [] others row = refl
-set_all (b ∷ bs) others row = set_all bs others (slice_set row b.column b.value)
-
 back_more : (items : List Assign) (a : Assign) (row : List Value) → set_back (items ++ a ∷ []) row ≡ set_back items (slice_set row a.column a.value)
 back_more [] a row = refl
 back_more (b ∷ bs) a row = ap (λ r. slice_set r b.column b.value) (back_more bs a row)
-
-there_and_back : (row : List Value) (c : ℕ) (v : Value) → slice_set (slice_set row c v) c (get_or row c v) ≡ row
-there_and_back [] c v = refl
-there_and_back (w ∷ ws) zero v = refl
-there_and_back (w ∷ ws) (suc c) v = ap (λ r. w ∷ r) (there_and_back ws c v)
 
 -- One item more is exchanged
 
@@ -56,7 +47,7 @@ one_exchanged items first at now next row after d h within row_is items_are =
           ∙ ap (λ is. set_back is after) (take_more_set now at y there)
           ∙ back_more (take at now) y after
           ∙ ap (λ r. set_back (take at now) (slice_set r a.column (get_or row a.column a.value))) row_is
-          ∙ ap (set_back (take at now)) (there_and_back row a.column a.value)
+          ∙ ap (set_back (take at now)) (set-get_or row a.column a.value)
           ∙ h.back;
       rest = λ k e later. ap (λ is. get_or is k e) items_are ∙ get_or-set_other now at k y e (λ e. omega arith) ∙ h.rest k e (omega arith);
       many = ap length items_are ∙ length-set now at y ∙ h.many;
@@ -98,8 +89,3 @@ all_added before more at left now h all = h.are ∙ ap (λ l. before ++ l) (take
 
 pub only_before : (before more : List Assign) (at : ℕ) (left now cut : List Assign) → IsAdded before more at left now → cut ≡ take (length before) now → cut ≡ before
 only_before before more at left now cut h is = is ∙ ap (take (length before)) h.are ∙ take_at before (take at more) (length before) refl
-
-pub set_twice : (xs : List Assign) (at : ℕ) (x y : Assign) → slice_set (slice_set xs at x) at y ≡ slice_set xs at y
-set_twice [] at x y = refl
-set_twice (z ∷ zs) zero x y = refl
-set_twice (z ∷ zs) (suc at) x y = ap (λ l. z ∷ l) (set_twice zs at x y)

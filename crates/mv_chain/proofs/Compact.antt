@@ -1,39 +1,17 @@
 -- Items without those whose column a later one sets.
-use Rattle.std.proofs.Common.{◌≡◌, ◌∷◌, ◌++◌, ◌+◌, ◌<◌, ◌≤◌, ◌==◌, ℕ, zero, suc, true, false, cond, inl, inr, List, [], length, take, drop, get_or, refl, ap, sym, subst, ◌∙◌, arith, append_assoc, append-nil}
+use Rattle.std.proofs.Common.{◌≡◌, ◌∷◌, ◌++◌, ◌+◌, ◌<◌, ◌≤◌, ℕ, zero, suc, true, false, cond, inl, inr, List, [], length, take, drop, get_or, refl, ap, sym, ◌∙◌, arith, append_assoc, append-nil}
 use Rattle.std.specs.Prelude.{slice_set, slice_get, Some}
-use Rattle.std.proofs.lemmas.Bool.{cases_Bool, eqb-true, false≢true, eqb-false}
+use Rattle.std.proofs.lemmas.Bool.{cases_Bool}
 use Rattle.std.proofs.lemmas.List.{take_more_set, drop-set-lt, drop_all, length-set, drop_more}
 use Rattle.std.proofs.lemmas.Option.{get_or_from_slice_get}
 use Rattle.mv_values.specs.declared.value.Value.{Value}
 use Rattle.mv_values.specs.declared.patch.Assign.{Assign}
-use Rattle.mv_values.specs.Patching.{with_columns}
-use Rattle.mv_chain.specs.Versions.{is_set, compact}
+use Rattle.mv_values.specs.Patching.{with_columns, is_set}
+use Rattle.mv_values.proofs.Setting.{overwritten}
+use Rattle.mv_chain.specs.Versions.{compact}
 use Rattle.mv_chain.specs.Keeping.{HasKept, IsCompacted}
 
 -- Meaning
-
-set_again : (row : List Value) (c : ℕ) (v w : Value) → slice_set (slice_set row c v) c w ≡ slice_set row c w
-set_again [] c v w = refl
-set_again (x ∷ xs) zero v w = refl
-set_again (x ∷ xs) (suc c) v w = ap (λ l. x ∷ l) (set_again xs c v w)
-
-set_apart : (row : List Value) (c d : ℕ) (v w : Value) → (c ≡ d → ⊥) → slice_set (slice_set row c v) d w ≡ slice_set (slice_set row d w) c v
-set_apart [] c d v w h = refl
-set_apart (x ∷ xs) zero zero v w h = absurd (h refl)
-set_apart (x ∷ xs) zero (suc d) v w h = refl
-set_apart (x ∷ xs) (suc c) zero v w h = refl
-set_apart (x ∷ xs) (suc c) (suc d) v w h = ap (λ l. x ∷ l) (set_apart xs c d v w (λ e. h (ap suc e)))
-
-overwritten : (c : ℕ) (v : Value) (items : List Assign) (row : List Value) → is_set c items ≡ true → with_columns items (slice_set row c v) ≡ with_columns items row
-overwritten c v [] row h = absurd (false≢true h)
-overwritten c v (b ∷ bs) row h = elim (cases_Bool (b.column == c)) [
-  | inl t ↦
-      let same : b.column ≡ c = eqb-true b.column c t in
-      ap (with_columns bs) (subst (λ x. slice_set (slice_set row x v) b.column b.value ≡ slice_set row b.column b.value) same (set_again row b.column v b.value))
-  | inr f ↦
-      let rest : is_set c bs ≡ true = rw f at h in
-      ap (with_columns bs) (set_apart row c b.column v b.value (λ e. eqb-false b.column c f (sym e))) ∙ overwritten c v bs (slice_set row b.column b.value) rest
-]
 
 pub compact_is : (items : List Assign) (row : List Value) → with_columns (compact items) row ≡ with_columns items row
 compact_is [] row = refl

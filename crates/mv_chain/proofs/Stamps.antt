@@ -7,9 +7,9 @@ use Rattle.mv_values.specs.declared.value.Value.{Value}
 use Rattle.mv_values.specs.declared.patch.Patch.{Patch}
 use Rattle.mv_values.specs.declared.patch.Patch.TheVariants.{Insert, Set, Delete}
 use Rattle.mv_values.specs.Patching.{patched}
+use Rattle.mv_values.proofs.Setting.{columns_append}
 use Rattle.mv_chain.specs.declared.pending.Pending.{Pending}
 use Rattle.mv_chain.specs.Versions.{Versions, Commit, row_after, row_at, newest_of, newest, own_of, patched_by_own, without, with_own, joined, stamped, stamped_by, IsAboveAll}
-use Rattle.mv_chain.proofs.Columns.{set_all}
 use Rattle.mv_chain.proofs.Compact.{compact_is}
 
 -- the joined patch does what the first does and then what the second does
@@ -17,7 +17,7 @@ joined_is : (p q : Patch) (row : Option (List Value)) → patched (joined p q) r
 joined_is p (Insert made) row = refl
 joined_is (Insert made) (Set items) row = refl
 joined_is (Set earlier) (Set items) None = refl
-joined_is (Set earlier) (Set items) (Some row) = ap (λ r. Some r) (compact_is (earlier ++ items) row ∙ set_all earlier items row)
+joined_is (Set earlier) (Set items) (Some row) = ap (λ r. Some r) (compact_is (earlier ++ items) row ∙ columns_append earlier items row)
 joined_is Delete (Set items) row = refl
 joined_is (Insert made) Delete row = refl
 joined_is (Set earlier) Delete row = refl

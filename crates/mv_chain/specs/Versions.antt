@@ -2,12 +2,12 @@
 -- versions are patches of columns, and that a patch sees the row as of its commit, is this project's own rule.
 use Rattle.std.specs.Prelude.{◌<◌, ◌==◌, ◌++◌, ◌&&◌, ◌∷◌, ℕ, Bool, not, length, nat_le, nat_lt, if◌then◌else◌, List, [], All, Option, Some, None}
 use Rattle.std.specs.Option.{is_some}
-use Rattle.std.specs.List.{filter, list_any}
+use Rattle.std.specs.List.{filter}
 use Rattle.mv_values.specs.declared.value.Value.{Value}
 use Rattle.mv_values.specs.declared.patch.Assign.{Assign}
 use Rattle.mv_values.specs.declared.patch.Patch.{Patch}
 use Rattle.mv_values.specs.declared.patch.Patch.TheVariants.{Insert, Set, Delete}
-use Rattle.mv_values.specs.Patching.{with_columns, patched}
+use Rattle.mv_values.specs.Patching.{with_columns, patched, is_set}
 use Rattle.mv_chain.specs.declared.pending.Pending.{Pending}
 
 -- a commit, and the row after it
@@ -66,10 +66,6 @@ patched_by_own (Some patch) row = patched patch row
 
 abbrev pub without : ℕ → List Pending → List Pending
 without call ps = filter (λ p. not (p.call == call)) ps
-
--- one of the items sets the column
-abbrev pub is_set : ℕ → List Assign → Bool
-is_set c items = list_any (λ a. a.column == c) items
 
 -- the items but for those whose column a later one sets
 abbrev pub compact : List Assign → List Assign

@@ -3,14 +3,14 @@
 ghost use Rattle.std.specs.Prelude.{◌≡◌, ◌<◌, ◌≤◌, ◌+◌, ◌++◌, drop, Option, Some, List, OnOk, OnErr, length, slice_set, slice_index_or, option_map};
 ghost use Rattle.mv_values.specs.declared.patch.Assign.{Assign};
 ghost use Rattle.mv_values.specs.declared.value.Value.{Value};
-ghost use Rattle.mv_values.specs.Patching.{with_columns, patched};
+ghost use Rattle.mv_values.specs.Patching.{with_columns, patched, is_set};
 ghost use Rattle.mv_chain.specs.Undoing.{set_back, undone};
-ghost use Rattle.mv_chain.specs.Versions.{is_set, compact};
+ghost use Rattle.mv_chain.specs.Versions.{compact};
 ghost use Rattle.mv_chain.specs.Keeping.{HasKept, IsCompacted};
 
 use mv_values::list::List as Listed;
 use mv_values::memory::NoMemory;
-use mv_values::patch::{Assign, Patch};
+use mv_values::patch::{Assign, Patch, is_set};
 use mv_values::value::{Row, Value};
 
 /// A row after a patch, and the patch that undoes it.
@@ -122,13 +122,6 @@ fn add_items(items: &mut Listed<Assign>, more: Listed<Assign>) -> Result<(), NoM
         }
     }
     Ok(())
-}
-
-/// Returns whether one of the items sets the column.
-fn is_set(items: &[Assign], column: u8) -> bool
-    ensures { result ≡ is_set column items.now }
-{
-    items.iter().any(|item| item.column == column)
 }
 
 /// Returns whether a later item sets the column of the one at a place.

@@ -4,21 +4,14 @@ ghost use Rattle.std.specs.Prelude.{◌≡◌, ◌++◌, List, Option, IfOk, OnO
 ghost use Rattle.std.specs.Option.{option_map};
 ghost use Rattle.mv_values.specs.declared.value.Value.{Value};
 ghost use Rattle.mv_values.specs.Patching.{with_columns, patched};
-ghost use Rattle.mv_record.specs.Composing.{is_set, left_by};
+ghost use Rattle.mv_record.specs.Composing.{left_by};
 
 use crate::applying::set_columns;
 use mv_values::copied::Copied;
 use mv_values::list::List;
 use mv_values::memory::NoMemory;
-use mv_values::patch::{Assign, Patch};
+use mv_values::patch::{Assign, Patch, is_set};
 use std::alloc::Global;
-
-/// Whether one of the items sets the column.
-fn is_set(items: &[Assign], column: u8) -> bool
-    ensures { result ≡ is_set column items.now }
-{
-    items.iter().any(|item| item.column == column)
-}
 
 /// Returns copies of the items whose columns the next ones don't set.
 fn items_left(alloc: Global, items: &[Assign], next: &[Assign]) -> Result<List<Assign>, NoMemory>
@@ -63,8 +56,8 @@ fn compose_set(alloc: Global, first: &Patch, items: &[Assign]) -> Result<Patch, 
     }
 }
 
-/// Returns the patch that does what two patches do, one after the other. Fails if memory runs out. Costs the sizes of
-/// both; of items that set a column, only the next patch's are kept.
+/// Returns the patch that does what two patches do, one after the other. Both stay as they are, for who still reads
+/// them. Fails if memory runs out. Costs the sizes of both; of items that set a column, only the next patch's are kept.
 pub fn compose(alloc: Global, first: &Patch, next: &Patch) -> Result<Patch, NoMemory>
     ensures { IfOk result (λ both. (was : Option (List Value)) → patched both was ≡ patched next.now (patched first.now was)) }
 {

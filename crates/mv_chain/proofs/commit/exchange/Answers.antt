@@ -1,7 +1,7 @@
 use Rattle.std.proofs.Common.{◌≡◌, ◌∙◌, ap}
 use Rattle.std.specs.Prelude.{slice_index_or, slice_set}
 use Rattle.std.proofs.lemmas.Option.{get_or_from_slice_get}
-use Rattle.mv_chain.proofs.Columns.{set_twice}
+use Rattle.std.proofs.lemmas.List.{set-set}
 use Rattle.mv_chain.proofs.commit.exchange.Goals as goal
 
 pub returns : goal.returns
@@ -11,6 +11,6 @@ returns c d =
       c.swap_column-value.ensures.row,
       c.set.ensures
           ∙ ap (λ l. slice_set l c.args.at (record { column = c.replace-column.result.column; value = c.swap_column-value.result })) c.replace-column.ensures.items
-          ∙ set_twice c.args.items.now c.args.at c.placeholder.result (record { column = c.replace-column.result.column; value = c.swap_column-value.result })
+          ∙ set-set c.args.items.now c.args.at c.placeholder.result (record { column = c.replace-column.result.column; value = c.swap_column-value.result })
           ∙ ap (λ v. slice_set c.args.items.now c.args.at (record { column = c.replace-column.result.column; value = v })) c.swap_column-value.ensures.was,
     )

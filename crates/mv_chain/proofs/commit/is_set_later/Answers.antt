@@ -1,7 +1,7 @@
 use Rattle.std.proofs.Common.{◌+◌, ap, ◌∙◌, drop, get_or}
 use Rattle.std.proofs.lemmas.List.{get_or_default, take_rest}
 use Rattle.mv_values.specs.declared.patch.Assign.{Assign}
-use Rattle.mv_chain.specs.Versions.{is_set}
+use Rattle.mv_values.specs.Patching.{is_set}
 use Rattle.mv_chain.proofs.commit.is_set_later.Goals as goal
 
 pub returns : goal.returns
