@@ -1,5 +1,5 @@
 -- A statement that is well formed names tables and columns that are there.
-use Rattle.std.proofs.Common.{◌≡◌, ◌<◌, ℕ, suc, List, [], ◌∷◌, Some, All, length, map, refl, sym, ap, subst, ◌∙◌, arith}
+use Rattle.std.proofs.Common.{◌≡◌, ◌<◌, ℕ, suc, List, [], ◌∷◌, Some, All, length, map, sym, ap, subst, ◌∙◌, arith}
 use Rattle.std.specs.Prelude.{slice_get}
 use Rattle.std.specs.List.{AllZip, flat_map}
 use Rattle.std.proofs.lemmas.List.{length-map}
@@ -8,11 +8,7 @@ use Rattle.std.proofs.lemmas.Option.{slice_get_within}
 use Rattle.mv_values.specs.declared.schema.Column.{Column}
 use Rattle.mv_values.specs.declared.schema.TableInfo.{TableInfo}
 use Rattle.mv_values.specs.Tables.{columns_in, columns_at}
-use Rattle.mv_catalog.specs.declared.resolved.RExpr.{RExpr, RExpr-F, roll-RExpr, map-RExpr, fold-roll-RExpr, ind-RExpr, rolls-RExpr'}
-use Rattle.mv_catalog.specs.declared.resolved.RExprKind.{RExprKind}
-use Rattle.mv_catalog.specs.declared.resolved.RExprKind.TheFolds.{map-RExprKind, fold-RExprKind, fold-roll-RExprKind}
-use Rattle.mv_catalog.specs.declared.resolved.RExprKind.TheViews.{roll-RExprKind}
-use Rattle.mv_catalog.specs.declared.resolved.RExprKind.TheOpen.{RExprKind-F}
+use Rattle.mv_catalog.specs.declared.resolved.RExpr.{RExpr}
 use Rattle.mv_catalog.specs.declared.resolved.RExprKind.TheOpen as kind
 use Rattle.mv_catalog.specs.declared.resolved.RCond.{RCond}
 use Rattle.mv_catalog.specs.declared.resolved.RSort.{RSort}
@@ -21,50 +17,25 @@ use Rattle.mv_catalog.specs.declared.resolved.RAgg.{RAgg}
 use Rattle.mv_catalog.specs.declared.resolved.RAgg.TheVariants.{CountAll, CountDistinct, Sum, Min, Max}
 use Rattle.mv_catalog.specs.declared.resolved.RStmt.{RStmt, out-RStmt, roll-out-RStmt}
 use Rattle.mv_catalog.specs.declared.resolved.RStmt.TheOpen as stmt
-use Rattle.mv_catalog.specs.Types.{Kind, int, Vars, kind_of_column, kind_step, HasType}
+use Rattle.mv_catalog.specs.Types.{Kind, int, Vars, kind_of_column, HasType}
 use Rattle.mv_catalog.specs.Statements.{stmt_step, IsWell, kinds_of, Takes, IsTest, IsSort, IsItem, IsTotal}
-use Rattle.mv_catalog.proofs.Typed.{HasKind, typed_by, well_by}
+use Rattle.mv_catalog.proofs.Typed.{well_by}
+use Rattle.mv_catalog.proofs.Named.{named_by, AtEachKind}
 use Rattle.mv_recorded.specs.Asking.{kind_columns, columns_in as columns_of_expr, column_in, with_sorts}
 use Rattle.mv_effect.specs.Naming.{NamesColumns, AreColumns, Tests, Sets}
 
 -- Expressions
 
--- the columns in a kind of expression
-abbrev kinds_in : RExprKind → List ℕ
-kinds_in = fold-RExprKind (List ℕ) (List ℕ) kind_columns (λ e. e.kind)
-
 -- they are numbers of columns
 abbrev Within : List Kind → List ℕ → Type 0
 Within columns cs = All (λ c. c < length columns) cs
-
--- a kind of expression that has a type names columns that are there
-abbrev KindClaim : Vars → List Kind → RExprKind → Type 0
-KindClaim vars columns k = (t : Kind) → HasType vars columns (record { kind = k }) t → Within columns (kinds_in k)
-
--- an expression that has a type does
-abbrev ExprClaim : Vars → List Kind → RExpr → Type 0
-ExprClaim vars columns e = (t : Kind) → HasType vars columns e t → Within columns (columns_of_expr e)
-
--- an expression inside another, with what is claimed of it
-abbrev Inner : Vars → List Kind → Type 0
-Inner vars columns = (e : RExpr) × ExprClaim vars columns e
-
--- a kind of one, with what is claimed of it
-abbrev InnerKind : Vars → List Kind → Type 0
-InnerKind vars columns = (k : RExprKind) × KindClaim vars columns k
 
 -- one column that is there
 one_within : (columns : List Kind) (c : ℕ) → c < length columns → Within columns (c ∷ [])
 one_within columns c lt = All-cons (λ c. c < length columns) c [] lt (All-nil (λ c. c < length columns))
 
--- a kind of expression, without what is claimed of its parts
-abbrev bare : (vars : Vars) (columns : List Kind) → RExprKind-F (InnerKind vars columns) (Inner vars columns) → RExprKind-F RExprKind RExpr
-bare vars columns y = map-RExprKind (InnerKind vars columns) (Inner vars columns) RExprKind RExpr (λ p. p.0) (λ p. p.0) y
-
 -- the claim at each kind of expression
-kind_claim : (vars : Vars) (columns : List Kind) (y : RExprKind-F (InnerKind vars columns) (Inner vars columns)) (t : Kind)
-    → kind_step vars columns RExprKind RExpr (λ z. z) (λ z. z) (HasKind vars columns) (HasType vars columns) (bare vars columns y) t
-    → Within columns (kind_columns (map-RExprKind RExprKind RExpr (List ℕ) (List ℕ) kinds_in columns_of_expr (bare vars columns y)))
+kind_claim : (vars : Vars) (columns : List Kind) → AtEachKind vars columns kind_columns (Within columns)
 kind_claim vars columns (kind.Const v) t h = All-nil (λ c. c < length columns)
 kind_claim vars columns (kind.Var x) t h = All-nil (λ c. c < length columns)
 kind_claim vars columns (kind.Field x c) t h = All-nil (λ c. c < length columns)
@@ -72,24 +43,9 @@ kind_claim vars columns (kind.Col c) t h = one_within columns c (slice_get_withi
 kind_claim vars columns (kind.One op a) t h = a.1 h.0 h.1
 kind_claim vars columns (kind.Two op a b) t h = All-append (λ c. c < length columns) (columns_of_expr a.0) (columns_of_expr b.0) (a.1 h.0 h.2) (b.1 h.1 h.3)
 
--- the claim of a kind of expression follows from those of its parts
-kind_rolled : (vars : Vars) (columns : List Kind) (x : RExprKind-F RExprKind RExpr) (y : RExprKind-F (InnerKind vars columns) (Inner vars columns)) → bare vars columns y ≡ x → KindClaim vars columns (roll-RExprKind x)
-kind_rolled vars columns x y is =
-    let d = bare vars columns y in
-    subst (λ z. KindClaim vars columns (roll-RExprKind z)) is (λ t h.
-    subst (Within columns) (sym (fold-roll-RExprKind (List ℕ) (List ℕ) kind_columns (λ e. e.kind) d)) (kind_claim vars columns y t (typed_by vars columns d (roll-RExprKind d) t refl h)))
-
--- the claim of an expression follows from that of its kind
-expr_rolled : (vars : Vars) (columns : List Kind) (x : RExpr-F RExprKind RExpr) (y : RExpr-F (InnerKind vars columns) (Inner vars columns))
-    → map-RExpr (InnerKind vars columns) (Inner vars columns) RExprKind RExpr (λ p. p.0) (λ p. p.0) y ≡ x → ExprClaim vars columns (roll-RExpr x)
-expr_rolled vars columns x y is =
-    let d = map-RExpr (InnerKind vars columns) (Inner vars columns) RExprKind RExpr (λ p. p.0) (λ p. p.0) y in
-    subst (λ z. ExprClaim vars columns (roll-RExpr z)) is (λ t h.
-    subst (Within columns) (sym (fold-roll-RExpr (List ℕ) (List ℕ) kind_columns (λ e. e.kind) d)) (y.kind.1 t (subst (λ r. HasType vars columns r t) (rolls-RExpr' d) h)))
-
 -- an expression that has a type names columns that are there
-expr_within : (vars : Vars) (columns : List Kind) (e : RExpr) → ExprClaim vars columns e
-expr_within vars columns = ind-RExpr (KindClaim vars columns) (ExprClaim vars columns) (kind_rolled vars columns) (expr_rolled vars columns)
+expr_within : (vars : Vars) (columns : List Kind) (e : RExpr) (t : Kind) → HasType vars columns e t → Within columns (columns_of_expr e)
+expr_within vars columns = named_by vars columns kind_columns (Within columns) (kind_claim vars columns)
 
 -- Statements
 

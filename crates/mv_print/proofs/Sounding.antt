@@ -8,6 +8,7 @@ use Rattle.std.proofs.lemmas.Bool.Decides.{nat_tests}
 use Rattle.std.proofs.lemmas.Fmt.{decimal_by_steps}
 use Rattle.std.proofs.lemmas.List.{take_at}
 use Rattle.std.proofs.lemmas.List.Folds.{list_all-append}
+use Rattle.std.proofs.lemmas.Str.Ascii.{lowercase-lowercase}
 use Rattle.mv_values.specs.Texts.{doubled, quoted}
 use Rattle.mv_values.specs.Printable.{is_printable}
 use Rattle.mv_lex.specs.Bytes.{is_allowed, is_digit, begins_word, continues_word}
@@ -103,13 +104,9 @@ number_allowed (b ∷ bs) h =
     let k = and_parts (is_digit b) (list_all is_digit bs) h in
     and_from (is_allowed b) (list_all is_allowed bs) (digit_allowed b k.0) (each_by is_digit is_allowed digit_allowed bs k.1)
 
--- letters in lower case
-lower_twice_byte : (b : ℕ) → to_ascii_lowercase (to_ascii_lowercase b) ≡ to_ascii_lowercase b
-lower_twice_byte b = grind (arith, nat_tests)
-
 pub lower_twice : (t : List ℕ) → lower (lower t) ≡ lower t
 lower_twice [] = refl
-lower_twice (b ∷ bs) = ap (λ c. c ∷ lower (lower bs)) (lower_twice_byte b) ∙ ap (λ r. to_ascii_lowercase b ∷ r) (lower_twice bs)
+lower_twice (b ∷ bs) = ap (λ c. c ∷ lower (lower bs)) (lowercase-lowercase b) ∙ ap (λ r. to_ascii_lowercase b ∷ r) (lower_twice bs)
 
 lower_begins : (b : ℕ) → begins_word b ≡ true → begins_word (to_ascii_lowercase b) ≡ true
 lower_begins b h = grind (arith, nat_tests)

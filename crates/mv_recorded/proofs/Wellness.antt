@@ -11,24 +11,21 @@ use Rattle.mv_values.specs.declared.schema.TableInfo.{TableInfo}
 use Rattle.mv_values.specs.declared.calls.Call.{Call}
 use Rattle.mv_values.specs.Tables.{columns_in, columns_at, key_in, key_columns}
 use Rattle.mv_catalog.specs.declared.resolved.ProcInfo.{ProcInfo}
-use Rattle.mv_catalog.specs.declared.resolved.RExpr.{RExpr, RExpr-F, roll-RExpr, map-RExpr, fold-roll-RExpr, ind-RExpr, rolls-RExpr'}
-use Rattle.mv_catalog.specs.declared.resolved.RExprKind.{RExprKind}
-use Rattle.mv_catalog.specs.declared.resolved.RExprKind.TheFolds.{map-RExprKind, fold-RExprKind, fold-roll-RExprKind}
-use Rattle.mv_catalog.specs.declared.resolved.RExprKind.TheViews.{roll-RExprKind}
-use Rattle.mv_catalog.specs.declared.resolved.RExprKind.TheOpen.{RExprKind-F}
+use Rattle.mv_catalog.specs.declared.resolved.RExpr.{RExpr}
 use Rattle.mv_catalog.specs.declared.resolved.RExprKind.TheOpen as kind
 use Rattle.mv_catalog.specs.declared.resolved.RCond.{RCond}
 use Rattle.mv_catalog.specs.declared.resolved.RSetItem.{RSetItem}
 use Rattle.mv_catalog.specs.declared.resolved.RStmt.{RStmt, roll-RStmt, map-RStmt, ind-RStmt, fold-roll-RStmt}
 use Rattle.mv_catalog.specs.declared.resolved.RStmt.TheOpen.{RStmt-F, Assign, Select, Total, ForSelect, ForRows, Branch, Insert, Update, Delete, Print, Rollback}
-use Rattle.mv_catalog.specs.Types.{Kind, Var, fixed, declared, rows, turn, Vars, read, field, kind_of_column, kind_step, HasType}
+use Rattle.mv_catalog.specs.Types.{Kind, Var, fixed, declared, rows, turn, Vars, read, field, kind_of_column, HasType}
 use Rattle.mv_catalog.specs.Statements.{all_well, stmt_step, IsWell, kinds_of, IsTest, IsItem, IsOffset, Gives, with_turn, rows_step, rows_in, rows_of, CountsFrom}
-use Rattle.mv_catalog.proofs.Typed.{HasKind, typed_by, well_by}
+use Rattle.mv_catalog.proofs.Typed.{well_by}
 use Rattle.mv_catalog.specs.Types.{int, kind_of_value}
 use Rattle.mv_catalog.specs.Text.{IsProcedure, param_var, own_vars, vars_of}
 use Rattle.mv_catalog.specs.declared.resolved.ParamInfo.{ParamInfo}
 use Rattle.mv_catalog.specs.declared.resolved.ParamInfo.TheVariants as param
 use Rattle.mv_values.specs.declared.value.Value.{Value}
+use Rattle.mv_catalog.proofs.Named.{named_by, AtEachKind}
 use Rattle.mv_recorded.specs.Reading.{kind_variables, variables, rights}
 use Rattle.mv_recorded.proofs.Effects.{columns_there}
 use Rattle.mv_recorded.specs.Own.{Flat, flat, flat_step, flat_all, Each, Within, Suits, AllSuit}
@@ -39,24 +36,6 @@ use Rattle.mv_recorded.proofs.Inverting.{each_join, each_both}
 abbrev Known : Vars → ℕ → Type 0
 Known vars x = (v : Var) × (vars x ≡ Some v)
 
-abbrev kinds_in : RExprKind → List ℕ
-kinds_in = fold-RExprKind (List ℕ) (List ℕ) kind_variables (λ e. e.kind)
-
-abbrev KindClaim : Vars → List Kind → RExprKind → Type 0
-KindClaim vars columns k = (t : Kind) → HasType vars columns (record { kind = k }) t → Each (Known vars) (kinds_in k)
-
-abbrev ExprClaim : Vars → List Kind → RExpr → Type 0
-ExprClaim vars columns e = (t : Kind) → HasType vars columns e t → Each (Known vars) (variables e)
-
-abbrev Inner : Vars → List Kind → Type 0
-Inner vars columns = (e : RExpr) × ExprClaim vars columns e
-
-abbrev InnerKind : Vars → List Kind → Type 0
-InnerKind vars columns = (k : RExprKind) × KindClaim vars columns k
-
-abbrev bared : (vars : Vars) (columns : List Kind) → RExprKind-F (InnerKind vars columns) (Inner vars columns) → RExprKind-F RExprKind RExpr
-bared vars columns y = map-RExprKind (InnerKind vars columns) (Inner vars columns) RExprKind RExpr (λ p. p.0) (λ p. p.0) y
-
 read_known : (o : Option Var) (t : Kind) → read o ≡ Some t → (v : Var) × (o ≡ Some v)
 read_known (Some v) t h = (v, refl)
 read_known None t h = cc
@@ -65,9 +44,7 @@ field_known : (o : Option Var) (c : ℕ) (t : Kind) → field o c ≡ Some t →
 field_known (Some v) c t h = (v, refl)
 field_known None c t h = cc
 
-kind_claim : (vars : Vars) (columns : List Kind) (y : RExprKind-F (InnerKind vars columns) (Inner vars columns)) (t : Kind)
-    → kind_step vars columns RExprKind RExpr (λ z. z) (λ z. z) (HasKind vars columns) (HasType vars columns) (bared vars columns y) t
-    → Each (Known vars) (kind_variables (map-RExprKind RExprKind RExpr (List ℕ) (List ℕ) kinds_in variables (bared vars columns y)))
+kind_claim : (vars : Vars) (columns : List Kind) → AtEachKind vars columns kind_variables (Each (Known vars))
 kind_claim vars columns (kind.Const v) t h = tt
 kind_claim vars columns (kind.Var x) t h = (read_known (vars x) t h, tt)
 kind_claim vars columns (kind.Field x c) t h = (field_known (vars x) c t h, tt)
@@ -75,21 +52,8 @@ kind_claim vars columns (kind.Col c) t h = tt
 kind_claim vars columns (kind.One op a) t h = a.1 h.0 h.1
 kind_claim vars columns (kind.Two op a b) t h = each_join (Known vars) (variables a.0) (variables b.0) (a.1 h.0 h.2) (b.1 h.1 h.3)
 
-kind_rolled : (vars : Vars) (columns : List Kind) (x : RExprKind-F RExprKind RExpr) (y : RExprKind-F (InnerKind vars columns) (Inner vars columns)) → bared vars columns y ≡ x → KindClaim vars columns (roll-RExprKind x)
-kind_rolled vars columns x y is =
-    let d = bared vars columns y in
-    subst (λ z. KindClaim vars columns (roll-RExprKind z)) is (λ t h.
-    subst (Each (Known vars)) (sym (fold-roll-RExprKind (List ℕ) (List ℕ) kind_variables (λ e. e.kind) d)) (kind_claim vars columns y t (typed_by vars columns d (roll-RExprKind d) t refl h)))
-
-expr_rolled : (vars : Vars) (columns : List Kind) (x : RExpr-F RExprKind RExpr) (y : RExpr-F (InnerKind vars columns) (Inner vars columns))
-    → map-RExpr (InnerKind vars columns) (Inner vars columns) RExprKind RExpr (λ p. p.0) (λ p. p.0) y ≡ x → ExprClaim vars columns (roll-RExpr x)
-expr_rolled vars columns x y is =
-    let d = map-RExpr (InnerKind vars columns) (Inner vars columns) RExprKind RExpr (λ p. p.0) (λ p. p.0) y in
-    subst (λ z. ExprClaim vars columns (roll-RExpr z)) is (λ t h.
-    subst (Each (Known vars)) (sym (fold-roll-RExpr (List ℕ) (List ℕ) kind_variables (λ e. e.kind) d)) (y.kind.1 t (subst (λ r. HasType vars columns r t) (rolls-RExpr' d) h)))
-
-expr_known : (vars : Vars) (columns : List Kind) (e : RExpr) → ExprClaim vars columns e
-expr_known vars columns = ind-RExpr (KindClaim vars columns) (ExprClaim vars columns) (kind_rolled vars columns) (expr_rolled vars columns)
+expr_known : (vars : Vars) (columns : List Kind) (e : RExpr) (t : Kind) → HasType vars columns e t → Each (Known vars) (variables e)
+expr_known vars columns = named_by vars columns kind_variables (Each (Known vars)) (kind_claim vars columns)
 
 -- Lists of expressions
 
