@@ -15,7 +15,7 @@ use Rattle.mv_values.specs.declared.schema.TableInfo.{TableInfo}
 use Rattle.mv_values.specs.declared.calls.End.{End}
 use Rattle.mv_values.specs.Columns.{column_of, columns_of}
 use Rattle.mv_values.specs.Order.{key_order}
-use Rattle.mv_values.specs.Tables.{key_columns, columns_at, rows_at, KeysStand, Tables}
+use Rattle.mv_values.specs.Tables.{key_columns, columns_at, rows_at, KeysStand, Tables, StandsUnder}
 use Rattle.mv_catalog.specs.declared.resolved.RCond.{RCond}
 use Rattle.mv_catalog.specs.declared.resolved.RExpr.{RExpr}
 use Rattle.mv_catalog.specs.declared.resolved.RSetItem.{RSetItem}
@@ -31,9 +31,6 @@ use Rattle.mv_alone.specs.Own.{StandUnder}
 
 abbrev pub New : Type 0
 New = List Value → Result (List Value) End
-
-abbrev Stands : List ℕ → Keyed → Type 0
-Stands keys item = item.key ≡ columns_of item.row keys
 
 -- what holds of each table holds where one gets rows of which it holds
 set_at : (P : ℕ → List Keyed → Type 0) (db : Tables) (t : ℕ) (rows : List Keyed) → ((u : ℕ) → P u (rows_at db u)) → P t rows → (u : ℕ) → P u (rows_at (slice_set db t rows) u)
@@ -80,13 +77,13 @@ pub updated_stand : (new : New) (keys : List ℕ) (checks : List Check) → ((ro
     → (items made : List Keyed) → StandUnder keys items → updated new checks items ≡ Ok made → StandUnder keys made
 updated_stand new keys checks keeps [] made h is = let none : [] ≡ made = cc in subst (StandUnder keys) none h
 updated_stand new keys checks keeps (item ∷ items) made h is =
-    by (meets checks item.row) (new item.row) refl (updated new checks items) (λ rest. updated_stand new keys checks keeps items rest (All-tail (Stands keys) _ _ h)) is
+    by (meets checks item.row) (new item.row) refl (updated new checks items) (λ rest. updated_stand new keys checks keeps items rest (All-tail (StandsUnder keys) _ _ h)) is
   where
-    first : Stands keys item
-    first = All-head (Stands keys) _ _ h
+    first : StandsUnder keys item
+    first = All-head (StandsUnder keys) _ _ h
 
-    kept : (head : Keyed) → Stands keys head → (s : Result (List Keyed) End) → ((rest : List Keyed) → s ≡ Ok rest → StandUnder keys rest) → then_do s (λ rest. Ok (head ∷ rest)) ≡ Ok made → StandUnder keys made
-    kept head p (Ok rest) later is = let same : head ∷ rest ≡ made = cc in subst (StandUnder keys) same (All-cons (Stands keys) head rest p (later rest refl))
+    kept : (head : Keyed) → StandsUnder keys head → (s : Result (List Keyed) End) → ((rest : List Keyed) → s ≡ Ok rest → StandUnder keys rest) → then_do s (λ rest. Ok (head ∷ rest)) ≡ Ok made → StandUnder keys made
+    kept head p (Ok rest) later is = let same : head ∷ rest ≡ made = cc in subst (StandUnder keys) same (All-cons (StandsUnder keys) head rest p (later rest refl))
     kept head p (Err e) later is = cc
 
     changed : (r : Result (List Value) End) → new item.row ≡ r → (s : Result (List Keyed) End) → ((rest : List Keyed) → s ≡ Ok rest → StandUnder keys rest)
@@ -99,16 +96,16 @@ updated_stand new keys checks keeps (item ∷ items) made h is =
     by true r e s later is = changed r e s later is
     by false r e s later is = kept item first s later is
 
-pub put_stands : (keys : List ℕ) (new : Keyed) (rows made : List Keyed) → Stands keys new → StandUnder keys rows → put_row new rows ≡ Ok made → StandUnder keys made
-put_stands keys new [] made p h is = let same : new ∷ [] ≡ made = cc in subst (StandUnder keys) same (All-cons (Stands keys) new [] p h)
+pub put_stands : (keys : List ℕ) (new : Keyed) (rows made : List Keyed) → StandsUnder keys new → StandUnder keys rows → put_row new rows ≡ Ok made → StandUnder keys made
+put_stands keys new [] made p h is = let same : new ∷ [] ≡ made = cc in subst (StandUnder keys) same (All-cons (StandsUnder keys) new [] p h)
 put_stands keys new (item ∷ items) made p h is =
-    by (key_order new.key item.key) (put_row new items) (λ rest. put_stands keys new items rest p (All-tail (Stands keys) _ _ h)) is
+    by (key_order new.key item.key) (put_row new items) (λ rest. put_stands keys new items rest p (All-tail (StandsUnder keys) _ _ h)) is
   where
     by : (o : Ordering) (s : Result (List Keyed) End) → ((rest : List Keyed) → s ≡ Ok rest → StandUnder keys rest) → put_row_by o new item items s ≡ Ok made → StandUnder keys made
-    by Less s later is = let same : new ∷ item ∷ items ≡ made = cc in subst (StandUnder keys) same (All-cons (Stands keys) new (item ∷ items) p h)
+    by Less s later is = let same : new ∷ item ∷ items ≡ made = cc in subst (StandUnder keys) same (All-cons (StandsUnder keys) new (item ∷ items) p h)
     by Equal s later is = cc
     by Greater (Ok rest) later is =
-        let same : item ∷ rest ≡ made = cc in subst (StandUnder keys) same (All-cons (Stands keys) item rest (All-head (Stands keys) _ _ h) (later rest refl))
+        let same : item ∷ rest ≡ made = cc in subst (StandUnder keys) same (All-cons (StandsUnder keys) item rest (All-head (StandsUnder keys) _ _ h) (later rest refl))
     by Greater (Err e) later is = cc
 
 -- what an outcome goes on to where it isn't an end
@@ -136,7 +133,7 @@ pub delete_keeps : (infos : List TableInfo) (t : ℕ) (conds : List RCond) (st n
 delete_keeps infos t conds st next h is =
     let checked = goes_to (checks_of conds st.env) (λ checks. Ok (with_rows t (without checks (rows_at st.tables t)) (is_some_row (matching_in t checks st)) st)) next is in
     rows_stand infos t (without checked.0 (rows_at st.tables t)) (is_some_row (matching_in t checked.0 st)) st next h
-    (All-filter (λ item. not (meets checked.0 item.row)) (Stands (key_columns infos t)) (rows_at st.tables t) (h t)) checked.2
+    (All-filter (λ item. not (meets checked.0 item.row)) (StandsUnder (key_columns infos t)) (rows_at st.tables t) (h t)) checked.2
 
 pub insert_keeps : (infos : List TableInfo) (t : ℕ) (es : List RExpr) (st next : State) → KeysStand infos st.tables → insert infos t es st ≡ Ok next → KeysStand infos next.tables
 insert_keeps infos t es st next h is =

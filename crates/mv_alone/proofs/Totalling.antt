@@ -3,8 +3,7 @@ use Rattle.std.proofs.Common.{◌≡◌, ℕ, ◌+◌, ◌<◌, ℤ, ◌+ℤ◌,
 use Rattle.std.proofs.Math.IntN.{+ℤ_assoc}
 use Rattle.std.proofs.lemmas.List.{drop_more}
 use Rattle.mv_values.specs.declared.rows.Keyed.{Keyed}
-use Rattle.mv_values.specs.Columns.{column_of}
-use Rattle.mv_alone.specs.Value.{number}
+use Rattle.mv_values.specs.Columns.{column_of, number}
 use Rattle.mv_alone.specs.Rows.{column, sum_of}
 
 module _ {A : Type 0} (seen : A → Keyed) where

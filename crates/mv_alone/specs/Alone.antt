@@ -7,7 +7,7 @@ use Rattle.mv_values.specs.declared.rows.Keyed.{Keyed}
 use Rattle.mv_values.specs.declared.schema.TableInfo.{TableInfo}
 use Rattle.mv_values.specs.declared.calls.End.{End}
 use Rattle.mv_values.specs.declared.calls.End.TheVariants.{Own}
-use Rattle.mv_values.specs.Columns.{columns_of}
+use Rattle.mv_values.specs.Columns.{columns_of, number}
 use Rattle.mv_values.specs.Tables.{key_columns, columns_at, rows_at}
 use Rattle.mv_catalog.specs.declared.resolved.RExpr.{RExpr}
 use Rattle.mv_catalog.specs.declared.resolved.RCond.{RCond}
@@ -23,7 +23,7 @@ use Rattle.mv_alone.specs.declared.state.State.{State}
 use Rattle.mv_alone.specs.Outcome.{then_do}
 use Rattle.mv_alone.specs.Env.{with_value, with_values, with_found, with_held, turns_at}
 use Rattle.mv_alone.specs.declared.state.Held.TheVariants.{Turn}
-use Rattle.mv_alone.specs.Value.{value_of, values_of, is_so, number}
+use Rattle.mv_alone.specs.Value.{value_of, values_of, is_so}
 use Rattle.mv_alone.specs.Rows.{checks_of, matching, is_some_row, ordered, item_at, distinct, projected, aggregate}
 use Rattle.mv_alone.specs.Changes.{set_row, updated, without, new_row, put_row, keyed}
 use Rattle.mv_alone.specs.Line.{line_of}

@@ -14,7 +14,7 @@ use Rattle.mv_values.specs.declared.calls.End.{End}
 use Rattle.mv_values.specs.declared.calls.End.TheVariants.{TooLong}
 use Rattle.mv_values.specs.Comparing.{op_holds}
 use Rattle.mv_values.specs.Order.{value_order, key_order}
-use Rattle.mv_values.specs.Columns.{column_of, columns_of}
+use Rattle.mv_values.specs.Columns.{column_of, columns_of, number}
 use Rattle.mv_catalog.specs.declared.resolved.RCond.{RCond}
 use Rattle.mv_catalog.specs.declared.resolved.RSort.{RSort}
 use Rattle.mv_catalog.specs.declared.resolved.RAgg.{RAgg}
@@ -22,7 +22,7 @@ use Rattle.mv_catalog.specs.declared.resolved.RAgg.TheVariants.{CountAll, CountD
 use Rattle.mv_alone.specs.declared.state.Check.{Check}
 use Rattle.mv_alone.specs.declared.state.Env.{Env}
 use Rattle.mv_alone.specs.Outcome.{then_do}
-use Rattle.mv_alone.specs.Value.{value_of, number, fitted}
+use Rattle.mv_alone.specs.Value.{value_of, fitted}
 
 -- the tests of WHERE with their right sides evaluated in order, before any row is read
 abbrev pub checks_of : List RCond → Env → Result (List Check) End

@@ -6,6 +6,7 @@ use Rattle.mv_values.specs.declared.calls.Call.{Call}
 use Rattle.mv_values.specs.declared.calls.Reply.{Reply}
 use Rattle.mv_values.specs.declared.calls.End.{End}
 use Rattle.mv_values.specs.Tables.{Tables}
+use Rattle.mv_values.specs.Counts.{first_numbers}
 use Rattle.mv_catalog.specs.declared.resolved.Program.{Program}
 use Rattle.mv_catalog.specs.declared.resolved.ProcInfo.{ProcInfo}
 use Rattle.mv_alone.specs.declared.state.Held.{Held}
@@ -65,11 +66,6 @@ table_after p order (suc k) = tables_left (table_after p order k) (outcome p (sl
 abbrev pub reply_of : Program → List ℕ → ℕ → Reply
 reply_of p order zero = no_reply
 reply_of p order (suc k) = reply_in (outcome p (slice_index order k) (table_after p order k))
-
--- the numbers below n in order
-abbrev pub first_numbers : ℕ → List ℕ
-first_numbers zero = []
-first_numbers (suc n) = first_numbers n ++ n ∷ []
 
 -- all calls of the program in order
 abbrev pub call_order : Program → List ℕ

@@ -9,7 +9,7 @@ use Rattle.mv_values.specs.declared.calls.End.{End}
 use Rattle.mv_values.specs.declared.calls.End.TheVariants.{Overflow, ZeroDivisor, TooLong}
 use Rattle.mv_values.specs.Comparing.{op_holds}
 use Rattle.mv_values.specs.Order.{value_order}
-use Rattle.mv_values.specs.Columns.{column_of}
+use Rattle.mv_values.specs.Columns.{column_of, number}
 use Rattle.mv_ast.specs.declared.tree.OneOp.{OneOp}
 use Rattle.mv_ast.specs.declared.tree.OneOp.TheVariants.{Neg, Not, TextOf}
 use Rattle.mv_ast.specs.declared.tree.TwoOp.{TwoOp}
@@ -19,11 +19,6 @@ use Rattle.mv_catalog.specs.declared.resolved.RExprKind.TheOpen.{RExprKind-F, Co
 use Rattle.mv_alone.specs.declared.state.Env.{Env}
 use Rattle.mv_alone.specs.Outcome.{then_do}
 use Rattle.mv_alone.specs.Env.{scalar_at, turn_at, truth}
-
--- the number of an INT
-abbrev pub number : Value → ℤ
-number (Int z) = z
-number (Text t) = pos 0
 
 -- the bytes of a TEXT
 abbrev pub text : Value → List ℕ

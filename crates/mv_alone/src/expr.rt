@@ -4,8 +4,9 @@ ghost use Rattle.std.specs.Prelude.{◌≡◌, ◌++◌, ◌+ℤ◌, ◌-ℤ◌,
 ghost use Rattle.mv_values.specs.declared.value.Value.TheVariants.{Text};
 ghost use Rattle.mv_values.specs.Printable.{IsPrintable};
 ghost use Rattle.std.specs.Fmt.{signed_decimal};
+ghost use Rattle.mv_values.specs.Columns.{number};
 ghost use Rattle.mv_alone.specs.Outcome.{Gives};
-ghost use Rattle.mv_alone.specs.Value.{value_of, values_of, number, text, is_so, fitted, quotient, remainder, joined, left_of, contains, one_of, both_of, needs_right};
+ghost use Rattle.mv_alone.specs.Value.{value_of, values_of, text, is_so, fitted, quotient, remainder, joined, left_of, contains, one_of, both_of, needs_right};
 ghost use Rattle.mv_alone.specs.Alone.{offset_of};
 
 use crate::env::{column_value, scalar, truth_of, turn};

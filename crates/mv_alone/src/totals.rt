@@ -2,9 +2,8 @@
 
 ghost use Rattle.std.specs.Prelude.{◌≡◌, ◌≤ℤ◌, ◌+ℤ◌, ◌^◌, ◌-◌, neg_ℤ, pos, map, IfOk, if◌then◌else◌};
 ghost use Rattle.std.specs.Option.{option_copied, option_map};
-ghost use Rattle.mv_values.specs.Columns.{column_of};
+ghost use Rattle.mv_values.specs.Columns.{column_of, number};
 ghost use Rattle.mv_alone.specs.Outcome.{Gives};
-ghost use Rattle.mv_alone.specs.Value.{number};
 ghost use Rattle.mv_alone.specs.Rows.{column, sum_of, lesser, greater, least, greatest, total, aggregate};
 
 use crate::env::column_value;

@@ -85,6 +85,10 @@ abbrev pub with_own : ℕ → Patch → List Pending → List Pending
 with_own call patch [] = record { call = call; patch = patch } ∷ []
 with_own call patch (p ∷ ps) = if p.call == call then record p { patch = joined p.patch patch } ∷ ps else p ∷ with_own call patch ps
 
+-- one more patch of a call
+abbrev pub with_patch : ℕ → Patch → Versions → Versions
+with_patch call patch v = record v { own = with_own call patch v.own }
+
 -- Calls of chains
 
 -- the call's patch becomes commit n, if it has one

@@ -7,6 +7,7 @@ use Rattle.std.proofs.lemmas.List.{map-append, length-map, take_all, drop_more}
 use Rattle.std.proofs.lemmas.Option.{slice_get-map, slice_get_within, slice_get-get_or, slice_get_read}
 use Rattle.mv_lawful.proofs.Turns.{only_open}
 use Rattle.mv_values.specs.declared.calls.Reply.{Reply}
+use Rattle.mv_values.specs.Counts.{first_numbers}
 use Rattle.mv_journal.specs.declared.event.Event.{Event}
 use Rattle.mv_journal.specs.declared.outcome.HistoryLine.{HistoryLine}
 use Rattle.mv_journal.specs.declared.outcome.Outcome.{Outcome}
@@ -14,7 +15,7 @@ use Rattle.mv_journal.specs.declared.outcome.Round.{Round}
 use Rattle.mv_lawful.specs.declared.fault.Wrong.TheVariants.{Open}
 use Rattle.mv_lawful.specs.Lawful.{Live, Course, beginning, course_of, open_call, Lawful}
 use Rattle.mv_lawful.specs.Rounds.{rounds_of}
-use Rattle.mv_lawful.specs.Outcomes.{reply_in, reply_after, turns_of, history_line, numbers, outcome_at, outcome_of}
+use Rattle.mv_lawful.specs.Outcomes.{reply_in, reply_after, turns_of, history_line, outcome_at, outcome_of}
 use Rattle.mv_core.specs.declared.book.Book.TheInside.{Inside}
 use Rattle.mv_core.specs.contracts.book.Book.{the_view}
 use Rattle.mv_core.specs.declared.script.Script.{Script}
@@ -74,7 +75,7 @@ take_next [] k x at = absurd (search (rules, at))
 take_next (y ∷ xs) zero x at = let one : y ≡ x = search (rules, at) in ap (λ z. z ∷ []) one
 take_next (y ∷ xs) (suc k) x at = ap (λ zs. y ∷ zs) (take_next xs k x at)
 
-front_replies : (s : Script) (order : List ℕ) (ps : List Progress) (k : ℕ) → k ≤ length ps → ((c : ℕ) → c < length ps → Done s order ps c) → replies_in (take k ps) ≡ map (reply_in (work_of s) order) (numbers k)
+front_replies : (s : Script) (order : List ℕ) (ps : List Progress) (k : ℕ) → k ≤ length ps → ((c : ℕ) → c < length ps → Done s order ps c) → replies_in (take k ps) ≡ map (reply_in (work_of s) order) (first_numbers k)
 front_replies s order ps zero le all = refl
 front_replies s order ps (suc k) le all =
     let d : Done s order ps k = all k (omega (arith, le)) in
@@ -82,8 +83,8 @@ front_replies s order ps (suc k) le all =
     ∙ (flat_map-append (λ (p : Progress). option_to_list p.reply) (take k ps) (d.p ∷ [])
     ∙ (ap (λ o. replies_in (take k ps) ++ (option_to_list o ++ [])) d.is
     ∙ (ap (λ rs. rs ++ d.reply ∷ []) (front_replies s order ps k (omega (arith, le)) all)
-    ∙ (ap (λ r. map (reply_in (work_of s) order) (numbers k) ++ r ∷ []) (sym (reply_is s order k d.reply d.told))
-    ∙ sym (map-append (reply_in (work_of s) order) (numbers k) (k ∷ []))))))
+    ∙ (ap (λ r. map (reply_in (work_of s) order) (first_numbers k) ++ r ∷ []) (sym (reply_is s order k d.reply d.told))
+    ∙ sym (map-append (reply_in (work_of s) order) (first_numbers k) (k ∷ []))))))
 
 -- Rounds
 
@@ -114,11 +115,11 @@ done_inside i k shut c lt =
     done_at i.script i.order.items i.low i.calls.items i.journal.items c k d.0 d.1 d.2
 
 replies_inside : (i : Inside) → IsInside i → open_call (work_of i.script) (the_course i.order.items i.low (map live_of i.calls.items)) ≡ None
-    → replies_in i.calls.items ≡ map (reply_in (work_of i.script) i.order.items) (numbers (length i.script.calls))
+    → replies_in i.calls.items ≡ map (reply_in (work_of i.script) i.order.items) (first_numbers (length i.script.calls))
 replies_inside i k shut =
     ap replies_in (sym (take_all (length i.calls.items) i.calls.items (omega arith)))
     ∙ (front_replies i.script i.order.items i.calls.items (length i.calls.items) (omega arith) (done_inside i k shut)
-    ∙ ap (λ n. map (reply_in (work_of i.script) i.order.items) (numbers n)) (all_there i.script i.order.items i.low i.calls.items i.journal.items k shut))
+    ∙ ap (λ n. map (reply_in (work_of i.script) i.order.items) (first_numbers n)) (all_there i.script i.order.items i.low i.calls.items i.journal.items k shut))
 
 pub ends_lawful : (i : Inside) → IsInside i → open_call (work_of i.script) (the_course i.order.items i.low (map live_of i.calls.items)) ≡ None → Lawful (work_of i.script) i.journal.items
 ends_lawful i k shut =
@@ -149,13 +150,13 @@ history_told i old is k = lines_are i.script i.order.items i.order.items i.low i
 
 -- the replies, where each call has committed
 pub replies_told : (i : Inside) (old : Booked) → the_view i ≡ old → IsInside i → open_call (work_in old) old.course ≡ None
-    → replies_in i.calls.items ≡ map (reply_in (work_in old) old.course.order) (numbers (work_in old).count)
+    → replies_in i.calls.items ≡ map (reply_in (work_in old) old.course.order) (first_numbers (work_in old).count)
 replies_told i old is k shut =
     replies_inside i k (subst (λ (b : Booked). open_call (work_in b) b.course ≡ None) (sym is) shut)
-    ∙ ap (λ (b : Booked). map (reply_in (work_in b) b.course.order) (numbers (work_in b).count)) is
+    ∙ ap (λ (b : Booked). map (reply_in (work_in b) b.course.order) (first_numbers (work_in b).count)) is
 
 pub outcome_told : (i : Inside) (old : Booked) (o : Outcome) → the_view i ≡ old → IsInside i
-    → o.replies ≡ map (reply_in (work_in old) old.course.order) (numbers (work_in old).count) → o.history ≡ map (history_line (work_in old) old.course) old.course.order
+    → o.replies ≡ map (reply_in (work_in old) old.course.order) (first_numbers (work_in old).count) → o.history ≡ map (history_line (work_in old) old.course) old.course.order
     → o.journal ≡ old.journal → o.tables ≡ last_tables old → o ≡ outcome_of (work_in old) old.journal
 outcome_told i old o is k replies history journal tables =
     ap (λ x. record { replies = x; history = o.history; journal = o.journal; tables = o.tables }) replies
@@ -164,7 +165,7 @@ outcome_told i old o is k replies history journal tables =
     ∙ (ap (λ x. record { replies = all; history = lines; journal = old.journal; tables = x }) tables
     ∙ ap (λ (c : Course). outcome_at (work_in old) c old.journal) (subst (λ (b : Booked). b.course ≡ course_of (work_in b) b.journal) is k.reaches)))) where
       all : List Reply
-      all = map (reply_in (work_in old) old.course.order) (numbers (work_in old).count)
+      all = map (reply_in (work_in old) old.course.order) (first_numbers (work_in old).count)
 
       lines : List HistoryLine
       lines = map (history_line (work_in old) old.course) old.course.order

@@ -7,6 +7,7 @@ use Rattle.std.proofs.lemmas.List.Elements.{filter-append}
 use Rattle.std.proofs.lemmas.Option.{slice_get_within}
 use Rattle.std.proofs.lemmas.List.{length-set}
 use Rattle.mv_values.specs.Tables.{Tables}
+use Rattle.mv_values.specs.Counts.{first_numbers}
 use Rattle.mv_history.specs.declared.change.Change.{Change}
 use Rattle.mv_history.specs.declared.change.Hit.{Hit}
 use Rattle.mv_history.specs.Hits.{first_hit}
@@ -16,7 +17,7 @@ use Rattle.mv_journal.specs.declared.outcome.Outcome.{Outcome}
 use Rattle.mv_lawful.specs.declared.fault.Wrong.TheVariants as wrong
 use Rattle.mv_lawful.specs.Work.{Work, changes_after, records_at, hit_of}
 use Rattle.mv_lawful.specs.Lawful.{Live, Course, beginning, begin, finish, change_live, after, reach, open_call, wrong_from}
-use Rattle.mv_lawful.specs.Outcomes.{numbers, turn, in_turn, is_of_call, without_collections, IsOutcomeInTurn, outcome_of}
+use Rattle.mv_lawful.specs.Outcomes.{turn, in_turn, is_of_call, without_collections, IsOutcomeInTurn, outcome_of}
 use Rattle.mv_lawful.proofs.Collections.{collections_unseen}
 use Rattle.mv_lawful.proofs.Turns.{at_end, turned, turns_reach, closed, no_commits, only_open}
 use Rattle.mv_core.specs.declared.engine.Attempt.{Attempt}
@@ -120,7 +121,7 @@ pub many_turned : (c : ℕ) (old mid new : Booked) → Made (B c) old mid → Ma
 many_turned c old mid new a b = ap (λ (s : Course). length s.calls) b.course ∙ (as_many (work_in mid) mid.course c ∙ many_begun c old mid a)
 
 turn_more : (k : ℕ) → (in_turn k ++ B k ∷ []) ++ C k ∷ [] ≡ in_turn (suc k)
-turn_more k = append_assoc (in_turn k) (B k ∷ []) (C k ∷ []) ∙ sym (flat_map-append turn (numbers k) (k ∷ []))
+turn_more k = append_assoc (in_turn k) (B k ∷ []) (C k ∷ []) ∙ sym (flat_map-append turn (first_numbers k) (k ∷ []))
 
 without_more : (es : List Event) (e : Event) → without_collections (es ++ e ∷ []) ≡ without_collections es ++ without_collections (e ∷ [])
 without_more es e = filter-append is_of_call es (e ∷ [])

@@ -2,9 +2,10 @@
 
 ghost use Rattle.std.specs.Prelude.{◌≡◌, ◌<◌, ◌≤◌, ◌+◌, ◌++◌, ◌∷◌, ◌^◌, ◌≢◌, [], None, Some, length, map, IfOk, IfSome, IfNone, OnOk};
 ghost use Rattle.std.specs.Option.{option_copied};
+ghost use Rattle.mv_values.specs.Counts.{first_numbers};
 ghost use Rattle.mv_lawful.specs.Work.{since};
 ghost use Rattle.mv_lawful.specs.Lawful.{Live, Lawful, beginning, course_of, open_call, refusal, oldest, floor, next_low, AllAllowed};
-ghost use Rattle.mv_lawful.specs.Outcomes.{history_line, numbers, outcome_of, reply_in};
+ghost use Rattle.mv_lawful.specs.Outcomes.{history_line, outcome_of, reply_in};
 ghost use Rattle.mv_changes.specs.Commits.{changes_in, AreNumbered};
 ghost use Rattle.mv_store.specs.Changes.{HasRaised};
 ghost use Rattle.mv_undo.specs.Owning.{HasWritesOf};
@@ -427,7 +428,7 @@ impl Book {
     /// Returns the replies, by call.
     fn replies(self, alloc: Global) -> Result<List<Reply>, NoMemory>
         requires { open_call (work_in self) self.course ≡ None }
-        ensures { IfOk result (λ replies. replies ≡ map (reply_in (work_in self) self.course.order) (numbers (work_in self).count)) }
+        ensures { IfOk result (λ replies. replies ≡ map (reply_in (work_in self) self.course.order) (first_numbers (work_in self).count)) }
     {
         replies_of(alloc, self.calls)
     }

@@ -14,8 +14,8 @@ use Rattle.mv_values.specs.declared.schema.ColType.{ColType}
 use Rattle.mv_values.specs.declared.schema.ColType.TheVariants as column
 use Rattle.mv_values.specs.declared.schema.Column.{Column}
 use Rattle.mv_values.specs.declared.schema.TableInfo.{TableInfo}
-use Rattle.mv_values.specs.Columns.{columns_of}
 use Rattle.mv_values.specs.Printable.{is_printable}
+use Rattle.mv_values.specs.Tables.{StandsUnder}
 use Rattle.mv_csvio.specs.Fields.{IsRow, are_digits, is_text, natural, negative, number_in, value_in, values_in}
 use Rattle.mv_csvio.specs.Fitting.{FitsTable, FitsType, HasTypes}
 use Rattle.mv_csvio.specs.Joining.{HasJoined, under_key}
@@ -26,10 +26,6 @@ use Rattle.mv_csvio.proofs.Values.{all_printable}
 joined_all : (P : Keyed → Type 0) (table : TableInfo) (before : List Keyed) (rows : List (List Value)) (after : List Keyed) → All P before → All (λ row. P (under_key table row)) rows → HasJoined table before rows after → All P after
 joined_all P table before rows after old new h =
     All-permutation P (before ++ map (under_key table) rows) after h.1 (All-append P before (map (under_key table) rows) old (All-map P (under_key table) rows new))
-
--- the row stands under its values of these columns
-abbrev pub StandsUnder : List ℕ → Keyed → Type 0
-StandsUnder key item = item.key ≡ columns_of item.row key
 
 pub joined_keys : (table : TableInfo) (before : List Keyed) (rows : List (List Value)) (after : List Keyed) → All (StandsUnder table.key) before → HasJoined table before rows after → All (StandsUnder table.key) after
 joined_keys table before rows after old h = joined_all (StandsUnder table.key) table before rows after old (λ k d within. refl) h

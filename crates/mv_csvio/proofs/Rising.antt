@@ -15,7 +15,7 @@ use Rattle.mv_values.specs.declared.value.Value.{Value}
 use Rattle.mv_values.specs.declared.rows.Keyed.{Keyed}
 use Rattle.mv_values.specs.declared.schema.TableInfo.{TableInfo}
 use Rattle.mv_values.specs.Columns.{columns_of}
-use Rattle.mv_values.specs.Keys.{IsRising}
+use Rattle.mv_values.specs.Keys.{IsRising, keys}
 use Rattle.mv_values.specs.Order.{key_order}
 use Rattle.mv_values.proofs.KeyOrder.{key_order_total, same_key}
 use Rattle.mv_csvio.specs.Joining.{HasJoined, HasKey, under_key}
@@ -87,9 +87,6 @@ alike_both a b = (eq_by_cmp_equiv key_order_total).symm a b
 
 alike_self : (a : List Value) → alike a a ≡ true
 alike_self a = ap is_eq (same_key a)
-
-abbrev keys : List Keyed → List (List Value)
-keys rows = map (λ item. item.key) rows
 
 rising_apart : (rows : List Keyed) → IsRising rows → IsDistinct alike (keys rows)
 rising_apart rows h = IsDistinct-from_apart alike (keys rows) apart

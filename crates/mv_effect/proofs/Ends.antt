@@ -4,13 +4,13 @@ use Rattle.mv_values.specs.declared.memory.NoMemory.{NoMemory}
 use Rattle.mv_values.specs.declared.value.Value.{Value}
 use Rattle.mv_values.specs.declared.pred.Pred.{Pred}
 use Rattle.mv_values.specs.declared.calls.End.{End}
+use Rattle.mv_values.specs.Columns.{number}
 use Rattle.mv_catalog.specs.declared.resolved.RExpr.{RExpr}
 use Rattle.mv_alone.specs.declared.state.Env.{Env}
 use Rattle.mv_alone.specs.declared.state.Stop.{Stop}
 use Rattle.mv_alone.specs.declared.state.Stop.TheVariants.{Memory, Ended}
 use Rattle.mv_alone.specs.Outcome.{Fails, then_do}
 use Rattle.mv_alone.specs.Alone.{offset_of}
-use Rattle.mv_alone.specs.Value.{number}
 use Rattle.mv_record.specs.declared.effect.Effect.{Effect}
 use Rattle.mv_effect.specs.Stops.{EndsBy}
 use Rattle.mv_recorded.specs.Effects.{asked_then, asked_by, row_number, only_end}

@@ -8,6 +8,7 @@ use Rattle.std.proofs.lemmas.Grind.{flat_map-append}
 use Rattle.std.proofs.lemmas.List.Elements.{filter-append}
 use Rattle.std.proofs.lemmas.Bool.{le-ltb}
 use Rattle.mv_values.specs.Tables.{Tables}
+use Rattle.mv_values.specs.Counts.{first_numbers}
 use Rattle.mv_record.specs.declared.record.Record.{Record}
 use Rattle.mv_journal.specs.declared.event.Event.{Event}
 use Rattle.mv_journal.specs.declared.event.Event.TheVariants.{B, C}
@@ -18,7 +19,7 @@ use Rattle.mv_lawful.specs.declared.fault.Wrong.TheVariants.{Open}
 use Rattle.mv_lawful.specs.Work.{Work, tables_after, changes_after, since, hit_of, records_at}
 use Rattle.mv_lawful.specs.Lawful.{Live, Course, beginning, change_live, begin, finish, unless, of_live, refusal, after, reach, first_open, open_call, or_refused, wrong_from, AllAllowed}
 use Rattle.mv_lawful.specs.Rounds.{is_round, MovesLate}
-use Rattle.mv_lawful.specs.Outcomes.{numbers, turn, in_turn}
+use Rattle.mv_lawful.specs.Outcomes.{turn, in_turn}
 use Rattle.mv_lawful.specs.Laws.{IsInTurn}
 
 -- Journals one after another
@@ -41,9 +42,9 @@ only_open w n s (e ∷ es) h = ap (λ o. or_refused n o (wrong_from w (n + 1) (a
 
 -- Numbers and calls
 
-length_numbers : (n : ℕ) → length (numbers n) ≡ n
+length_numbers : (n : ℕ) → length (first_numbers n) ≡ n
 length_numbers zero = refl
-length_numbers (suc n) = let l = length-append (numbers n) (n ∷ []) in let k = length_numbers n in omega (arith, l, k)
+length_numbers (suc n) = let l = length-append (first_numbers n) (n ∷ []) in let k = length_numbers n in omega (arith, l, k)
 
 -- before any event no call has begun
 pub none_at : (c : ℕ) (l : Live) → slice_get beginning.calls c ≡ Some l → ⊥
@@ -102,10 +103,10 @@ pub no_commits : (number : ℕ) (before rs : List Record) → first_hit number [
 no_commits number before [] = refl
 no_commits number before (r ∷ rs) = no_commits number (before ++ r ∷ []) rs
 
-no_hit : (w : Work) (n c : ℕ) → hit_of w (numbers n) n c ≡ None
+no_hit : (w : Work) (n c : ℕ) → hit_of w (first_numbers n) n c ≡ None
 no_hit w n c =
-    let none : since w (numbers n) n ≡ [] = drop_past (changes_after w w.opening (numbers n)) n (length_changes w w.opening (numbers n) ∙ length_numbers n) in
-    ap (λ css. first_hit (n + 1) css [] (records_at w (numbers n) n c)) none ∙ no_commits (n + 1) [] (records_at w (numbers n) n c)
+    let none : since w (first_numbers n) n ≡ [] = drop_past (changes_after w w.opening (first_numbers n)) n (length_changes w w.opening (first_numbers n) ∙ length_numbers n) in
+    ap (λ css. first_hit (n + 1) css [] (records_at w (first_numbers n) n c)) none ∙ no_commits (n + 1) [] (records_at w (first_numbers n) n c)
 
 -- One turn
 
@@ -138,11 +139,11 @@ course order calls = record { order = order; calls = calls; low = 0 }
 
 -- after the first n turns
 abbrev pub turned : ℕ → Course
-turned n = course (numbers n) (done_calls n)
+turned n = course (first_numbers n) (done_calls n)
 
 -- and after the next begin, at some start
 abbrev one_live : ℕ → ℕ → Course
-one_live n start = course (numbers n) (done_calls n ++ begin start ∷ [])
+one_live n start = course (first_numbers n) (done_calls n ++ begin start ∷ [])
 
 begin_free : (w : Work) (n : ℕ) → n < w.count → refusal w (turned n) (B n) ≡ None
 begin_free w n less = ap (λ b. unless (b && nat_lt n w.count) Order None) next ∙ ap (λ b. unless b Order None) room
@@ -155,13 +156,13 @@ begin_free w n less = ap (λ b. unless (b && nat_lt n w.count) Order None) next 
 
 commit_free : (w : Work) (n : ℕ) → refusal w (one_live n n) (C n) ≡ None
 commit_free w n =
-    ap (λ o. of_live o (λ l. unless (not (nat_lt l.start 0)) Stale (unless (not (is_some (hit_of w (numbers n) l.start n))) Conflict None))) (at_end (done_calls n) (begin n) n (length_calls n))
-    ∙ (ap (λ b. unless (not b) Stale (unless (not (is_some (hit_of w (numbers n) n n))) Conflict None)) (le-ltb n 0 (omega arith)) ∙ ap (λ h. unless (not (is_some h)) Conflict None) (no_hit w n n))
+    ap (λ o. of_live o (λ l. unless (not (nat_lt l.start 0)) Stale (unless (not (is_some (hit_of w (first_numbers n) l.start n))) Conflict None))) (at_end (done_calls n) (begin n) n (length_calls n))
+    ∙ (ap (λ b. unless (not b) Stale (unless (not (is_some (hit_of w (first_numbers n) n n))) Conflict None)) (le-ltb n 0 (omega arith)) ∙ ap (λ h. unless (not (is_some h)) Conflict None) (no_hit w n n))
 
 commit_done : (w : Work) (n : ℕ) → after w (one_live n n) (C n) ≡ turned (suc n)
 commit_done w n =
     let ls : List Live = done_calls n ++ begin n ∷ [] in
-    ap (course (numbers n ++ n ∷ [])) (ap (λ o. change_live o finish ls n) (at_end (done_calls n) (begin n) n (length_calls n)) ∙ set_end (done_calls n) (begin n) (finish (begin n)) n (length_calls n))
+    ap (course (first_numbers n ++ n ∷ [])) (ap (λ o. change_live o finish ls n) (at_end (done_calls n) (begin n) n (length_calls n)) ∙ set_end (done_calls n) (begin n) (finish (begin n)) n (length_calls n))
 
 pub turn_free : (w : Work) (n : ℕ) → n < w.count → AllAllowed w (turned n) (turn n)
 turn_free w n less = (begin_free w n less, (subst (λ k. refusal w (one_live n k) (C n) ≡ None) (sym (length_numbers n)) (commit_free w n), tt))
@@ -172,7 +173,7 @@ turn_done w n = subst (λ k. after w (one_live n k) (C n) ≡ turned (suc n)) (s
 -- All turns
 
 pub turns_more : (n : ℕ) → in_turn (suc n) ≡ in_turn n ++ turn n
-turns_more n = flat_map-append turn (numbers n) (n ∷ []) ∙ ap (λ l. in_turn n ++ l) (append-nil (turn n))
+turns_more n = flat_map-append turn (first_numbers n) (n ∷ []) ∙ ap (λ l. in_turn n ++ l) (append-nil (turn n))
 
 pub turns_reach : (w : Work) (n : ℕ) → reach w beginning (in_turn n) ≡ turned n
 turns_reach w zero = refl

@@ -1,12 +1,13 @@
 -- The laws of journals. This project's own.
 use Rattle.std.specs.Prelude.{◌≡◌, ◌≤◌, ◌<◌, ℕ, true, false, List, [], ◌∷◌, Some, None, length, slice_get}
 use Rattle.std.specs.List.{All, AllPairs, Contains, filter}
+use Rattle.mv_values.specs.Counts.{first_numbers}
 use Rattle.mv_journal.specs.declared.event.Event.{Event}
 use Rattle.mv_journal.specs.declared.event.Event.TheVariants.{B, S, A, M, C, X, G}
 use Rattle.mv_lawful.specs.Work.{Work}
 use Rattle.mv_lawful.specs.Lawful.{Turn, Live, Course, Lawful, AllAllowed, beginning, after, course_of, is_stale, used}
 use Rattle.mv_lawful.specs.Rounds.{is_round, is_repair, IsPast, IsBounded}
-use Rattle.mv_lawful.specs.Outcomes.{numbers, in_turn, without_collections, outcome_of}
+use Rattle.mv_lawful.specs.Outcomes.{in_turn, without_collections, outcome_of}
 
 -- Low
 
@@ -74,7 +75,7 @@ LawfulNamesCalls = (w : Work) (es : List Event) → Lawful w es → All (IsOfCal
 pub record IsInTurn (w : Work) (es : List Event) : Type 0 where
   pub lawful : Lawful w es
   pub bounded : IsBounded w es
-  pub order : (course_of w es).order ≡ numbers w.count
+  pub order : (course_of w es).order ≡ first_numbers w.count
 
 -- the journal of one worker is such a journal, whatever the calls do
 abbrev pub InTurnIsLawful : Type 0

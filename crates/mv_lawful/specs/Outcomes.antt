@@ -1,7 +1,8 @@
 -- The outcome of a journal: replies, commits with their rounds, events and last tables. This project's own.
-use Rattle.std.specs.Prelude.{◌≡◌, ℕ, zero, suc, ◌==◌, Bool, true, false, List, [], ◌∷◌, ◌++◌, Option, Some, None, map, length, slice_get}
+use Rattle.std.specs.Prelude.{◌≡◌, ℕ, ◌==◌, Bool, true, false, List, [], ◌∷◌, Option, Some, None, map, length, slice_get}
 use Rattle.std.specs.List.{filter, position, flat_map}
 use Rattle.mv_values.specs.declared.calls.Reply.{Reply}
+use Rattle.mv_values.specs.Counts.{first_numbers}
 use Rattle.mv_journal.specs.declared.event.Event.{Event}
 use Rattle.mv_journal.specs.declared.event.Event.TheVariants.{B, S, A, M, C, X, G}
 use Rattle.mv_journal.specs.declared.outcome.HistoryLine.{HistoryLine}
@@ -27,14 +28,9 @@ turns_of (Some l) = l.turns
 abbrev pub history_line : Work → Course → ℕ → HistoryLine
 history_line w s c = record { call = c; rounds = rounds_of w s.order c (turns_of (slice_get s.calls c)) }
 
--- the numbers below n
-abbrev pub numbers : ℕ → List ℕ
-numbers zero = []
-numbers (suc n) = numbers n ++ n ∷ []
-
 abbrev pub outcome_at : Work → Course → List Event → Outcome
 outcome_at w s es = record {
-  replies = map (reply_in w s.order) (numbers w.count);
+  replies = map (reply_in w s.order) (first_numbers w.count);
   history = map (history_line w s) s.order;
   journal = es;
   tables = table_at w s.order (length s.order);
@@ -52,7 +48,7 @@ turn c = B c ∷ C c ∷ []
 
 -- each of the first n calls begins and commits before the next begins
 abbrev pub in_turn : ℕ → List Event
-in_turn n = flat_map turn (numbers n)
+in_turn n = flat_map turn (first_numbers n)
 
 -- whether the event isn't a collection
 abbrev pub is_of_call : Event → Bool

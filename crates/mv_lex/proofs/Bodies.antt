@@ -2,8 +2,9 @@
 use Rattle.std.proofs.Common.{◌≡◌, ◌⊎◌, inl, inr, ℕ, zero, suc, ◌+◌, ◌≤◌, true, false, ◌==◌, List, [], ◌∷◌, ◌++◌, Option, Some, None, length, refl, sym, ap, subst, ◌∙◌, arith, append_assoc, append-nil, length-append}
 use Rattle.std.specs.List.{list_all, AllByRecursion}
 use Rattle.std.proofs.lemmas.Bool.{eqb-true, not-false}
+use Rattle.mv_values.specs.Texts.{lines_text}
 use Rattle.mv_lex.specs.Bytes.{is_in_line}
-use Rattle.mv_lex.specs.Spelling.{IsInnerLine, IsLastLine, IsClosing, lines_text}
+use Rattle.mv_lex.specs.Spelling.{IsInnerLine, IsLastLine, IsClosing}
 use Rattle.mv_lex.specs.Reading.{past, closing_len, block_len}
 use Rattle.mv_lex.proofs.Runs.{Stops, run_of}
 use Rattle.mv_lex.proofs.Blocks.{in_line, closing_seen, closing_takes, inner_unseen, last_unseen, inner_from, last_from}

@@ -3,9 +3,9 @@ use Rattle.std.proofs.Common.{◌≡◌, ◌⊎◌, inl, inr, ℕ, ◌+◌, ◌<
 use Rattle.std.specs.List.{list_all, prefix_len}
 use Rattle.std.proofs.lemmas.Bool.{and_parts, and_from, or_cases, or_parts, or_from, eqb-true, not-true, leb-true, lt-leb}
 use Rattle.std.proofs.Math.Seq.{drop-append_seam}
-use Rattle.mv_values.specs.Texts.{doubled, quoted}
+use Rattle.mv_values.specs.Texts.{doubled, quoted, lines_text}
 use Rattle.mv_lex.specs.Bytes.{is_from, is_digit, begins_word, continues_word, is_short_symbol, is_long_symbol}
-use Rattle.mv_lex.specs.Spelling.{is_word, is_number, is_variable, is_symbol, stands_alone, IsText, lines_text, opening, is_inner_blank, IsBlock, IsBareOpening, IsUnclosed, IsSpelled}
+use Rattle.mv_lex.specs.Spelling.{is_word, is_number, is_variable, is_symbol, stands_alone, IsText, opening, is_inner_blank, IsBlock, IsBareOpening, IsUnclosed, IsSpelled}
 use Rattle.mv_lex.specs.Reading.{past, text_len, block_len, body_of, block_after, block_of, word_len, symbol_len, begins_block, of_kind, past_mark, token_of}
 use Rattle.mv_lex.specs.declared.token.Kind.{Kind}
 use Rattle.mv_lex.specs.declared.token.Kind.TheVariants.{Word, Number, Text, Variable, Symbol, Block, OpenBlock}

@@ -1,7 +1,7 @@
 -- How tokens of each kind are spelled. All of this is the language's own.
 use Rattle.std.specs.Prelude.{◌≡◌, ◌≢◌, ◌⊎◌, ℕ, Bool, true, false, not, ◌&&◌, ◌||◌, ◌==◌, List, [], ◌∷◌, ◌++◌, IsTrue}
-use Rattle.std.specs.List.{list_all, flat_map, AllByRecursion}
-use Rattle.mv_values.specs.Texts.{quoted}
+use Rattle.std.specs.List.{list_all, AllByRecursion}
+use Rattle.mv_values.specs.Texts.{quoted, lines_text}
 use Rattle.mv_values.specs.Printable.{is_printable}
 use Rattle.mv_lex.specs.Bytes.{is_blank, is_in_line, is_digit, begins_word, continues_word, is_short_symbol, is_long_symbol}
 use Rattle.mv_lex.specs.declared.token.Kind.{Kind}
@@ -41,10 +41,6 @@ is_inner_blank b = is_blank b && is_in_line b
 -- the first line of a block, without its LF: `<<` and blanks
 abbrev pub opening : List ℕ → List ℕ
 opening blanks = 60 ∷ 60 ∷ blanks
-
--- lines, each with the LF that ends it
-abbrev pub lines_text : List (List ℕ) → List ℕ
-lines_text lines = flat_map (λ line. line ++ 10 ∷ []) lines
 
 -- a line within a block, without its LF: it is neither `>>` nor `>>` with a CR
 pub record IsInnerLine (line : List ℕ) : Type 0 where

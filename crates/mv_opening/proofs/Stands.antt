@@ -12,7 +12,7 @@ use Rattle.mv_values.specs.declared.schema.ColType.TheVariants as column
 use Rattle.mv_values.specs.declared.schema.Column.{Column}
 use Rattle.mv_values.specs.declared.schema.TableInfo.{TableInfo}
 use Rattle.mv_values.specs.Keys.{IsRising}
-use Rattle.mv_values.specs.Tables.{KeysStand, key_columns, key_in, rows_at}
+use Rattle.mv_values.specs.Tables.{KeysStand, key_columns, key_in, rows_at, StandsUnder}
 use Rattle.mv_values.specs.Printable.{is_printable}
 use Rattle.mv_catalog.specs.declared.resolved.CopyInfo.{CopyInfo}
 use Rattle.mv_catalog.specs.declared.resolved.Resolved.{Resolved}
@@ -23,7 +23,7 @@ use Rattle.mv_record.specs.Writes.{AreRising}
 use Rattle.mv_csvio.specs.Fields.{IsRow, number_in, value_in, values_in}
 use Rattle.mv_csvio.specs.Joining.{HasJoined, under_key}
 use Rattle.mv_csvio.specs.Loading.{Record, records_of}
-use Rattle.mv_csvio.proofs.Fitted.{StandsUnder, joined_keys, loaded_keys}
+use Rattle.mv_csvio.proofs.Fitted.{joined_keys, loaded_keys}
 use Rattle.mv_csvio.proofs.Joined.{rising_none}
 use Rattle.mv_opening.specs.Opening.{HasCopied, HaveCopied, HaveGathered, IsOpening, block_of}
 use Rattle.mv_opening.proofs.Opened.{opening_sized}

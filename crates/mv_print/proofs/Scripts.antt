@@ -3,8 +3,9 @@ use Rattle.std.proofs.Common.{◌≡◌, ℕ, ◌+◌, ◌≤◌, Bool, true, fa
 use Rattle.std.specs.List.{list_all}
 use Rattle.std.proofs.lemmas.Bool.{and_parts, and_from}
 use Rattle.std.proofs.lemmas.List.Folds.{list_all-append}
+use Rattle.mv_values.specs.Texts.{lines_text}
 use Rattle.mv_lex.specs.Bytes.{is_allowed}
-use Rattle.mv_lex.specs.Spelling.{IsSpelled, IsBlock, IsUnclosed, IsBareOpening, opening, lines_text}
+use Rattle.mv_lex.specs.Spelling.{IsSpelled, IsBlock, IsUnclosed, IsBareOpening, opening}
 use Rattle.mv_lex.specs.Tokens.{IsLongest}
 use Rattle.mv_lex.specs.declared.token.Kind.TheVariants as token
 use Rattle.mv_lex.proofs.Fronts.{block_is}
@@ -32,7 +33,7 @@ use Rattle.mv_ast.specs.Parts.{Part, give, both, either, Is, Pieces, joined}
 use Rattle.mv_ast.specs.Trees.{table_of, procedure_of, copy_of, journal_of, script_of}
 use Rattle.mv_ast.specs.Texts.{spelling}
 use Rattle.mv_ast.specs.Grammar as rule
-use Rattle.mv_ast.specs.Grammar.{inner, added, place, closed_of, open_of, ◌⊛◌, ◌▸◌}
+use Rattle.mv_ast.specs.Grammar.{inner, added, place, closed_of, open_of, ◌⊛◌}
 use Rattle.mv_print.specs.Printing.{Piece, key, line_end, name_piece, name_pieces, listed, row_pieces, column_pieces, column_and_comma, values_pieces, param_kind_pieces, param_pieces, declared_pieces, statements_pieces, block_piece, span_piece, arg_pieces, item_pieces, pieces_of, script_pieces}
 use Rattle.mv_print.specs.Same.{placeless_row, placeless_column, placeless_param_kind, placeless_param, placeless_variable, placeless_argument, placeless_span, placeless_kind, placeless, span_bytes, block_bytes, SameButPlaces}
 use Rattle.mv_print.proofs.Light.{kinds, Light, light_plain}

@@ -7,7 +7,7 @@ use Rattle.mv_values.specs.declared.pred.Pred.{Pred}
 use Rattle.mv_values.specs.declared.rows.Keyed.{Keyed}
 use Rattle.mv_values.specs.declared.schema.TableInfo.{TableInfo}
 use Rattle.mv_values.specs.declared.calls.End.{End}
-use Rattle.mv_values.specs.Columns.{columns_of}
+use Rattle.mv_values.specs.Columns.{columns_of, number}
 use Rattle.mv_values.specs.Patching.{found_by}
 use Rattle.mv_values.specs.Tables.{rows_at}
 use Rattle.mv_catalog.specs.declared.resolved.RExpr.{RExpr}
@@ -20,7 +20,7 @@ use Rattle.mv_alone.specs.declared.state.Check.{Check}
 use Rattle.mv_alone.specs.declared.state.Env.{Env}
 use Rattle.mv_alone.specs.Outcome.{then_do}
 use Rattle.mv_alone.specs.Env.{scalar_at, with_value, with_values, with_found}
-use Rattle.mv_alone.specs.Value.{number, is_so}
+use Rattle.mv_alone.specs.Value.{is_so}
 use Rattle.mv_alone.specs.Rows.{checks_of, matching, ordered, item_at, aggregate, is_some_row}
 use Rattle.mv_alone.specs.Alone.{offset_of, with_selected, totalled, fixed}
 use Rattle.mv_record.specs.declared.record.Slot.{Slot}

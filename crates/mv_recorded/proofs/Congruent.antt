@@ -8,7 +8,7 @@ use Rattle.mv_values.specs.declared.patch.Write.{Write}
 use Rattle.mv_values.specs.declared.patch.Patch.TheVariants as patch
 use Rattle.mv_values.specs.declared.schema.TableInfo.{TableInfo}
 use Rattle.mv_values.specs.declared.calls.End.{End}
-use Rattle.mv_values.specs.Columns.{columns_of}
+use Rattle.mv_values.specs.Columns.{columns_of, number}
 use Rattle.mv_values.specs.Patching.{found_by}
 use Rattle.mv_values.specs.Tables.{columns_at, key_columns, rows_at}
 use Rattle.mv_catalog.specs.declared.resolved.RAgg.{RAgg}
@@ -24,7 +24,7 @@ use Rattle.mv_alone.specs.declared.state.Held.TheVariants.{Scalar}
 use Rattle.mv_alone.specs.declared.state.State.{State}
 use Rattle.mv_alone.specs.Outcome.{then_do}
 use Rattle.mv_alone.specs.Env.{held_at, scalar_in, scalar_at, turns_in, truth, with_held, with_value, with_values, with_found, turns_at}
-use Rattle.mv_alone.specs.Value.{value_of, values_of, number}
+use Rattle.mv_alone.specs.Value.{value_of, values_of}
 use Rattle.mv_alone.specs.Rows.{checks_of, ordered, item_at, matching, aggregate, is_some_row, distinct}
 use Rattle.mv_alone.specs.Changes.{new_row}
 use Rattle.mv_alone.specs.Alone.{fixed, is_turn}

@@ -11,7 +11,7 @@ use Rattle.mv_values.specs.declared.value.Value.{Value}
 use Rattle.mv_values.specs.declared.rows.Keyed.{Keyed}
 use Rattle.mv_values.specs.declared.schema.TableInfo.{TableInfo}
 use Rattle.mv_values.specs.declared.calls.End.{End}
-use Rattle.mv_values.specs.Columns.{column_of, columns_of}
+use Rattle.mv_values.specs.Columns.{column_of, columns_of, number}
 use Rattle.mv_values.specs.Keys.{IsRising}
 use Rattle.mv_values.specs.Patching.{applied}
 use Rattle.mv_values.specs.Tables.{rows_at, key_columns, columns_at}
@@ -25,7 +25,7 @@ use Rattle.mv_alone.specs.declared.state.Env.{Env}
 use Rattle.mv_alone.specs.declared.state.State.{State}
 use Rattle.mv_alone.specs.Outcome.{then_do}
 use Rattle.mv_alone.specs.Env.{scalar_at, turns_at, with_value, with_values, with_found, truth}
-use Rattle.mv_alone.specs.Value.{value_of, values_of, fitted, is_so, number}
+use Rattle.mv_alone.specs.Value.{value_of, values_of, fitted, is_so}
 use Rattle.mv_alone.specs.Rows.{checks_of, aggregate, total, sum_of, distinct, projected, column, is_some_row, ordered, item_at}
 use Rattle.mv_alone.specs.Changes.{new_row, put_row, keyed, updated, set_row}
 use Rattle.mv_alone.specs.Alone.{matching_in, offset_of, with_selected, totalled, is_turn}
@@ -35,7 +35,8 @@ use Rattle.mv_recorded.specs.Doing.{itself, fixed_rows, before_turns, writes_of,
 use Rattle.mv_recorded.specs.Effect.{with_slots, behind, TellsEffect, HasColumns}
 use Rattle.mv_recorded.specs.Reading.{each_once}
 use Rattle.mv_recorded.specs.Recorded.{Site, own_record}
-use Rattle.mv_recorded.proofs.Slots.{is_set, stays_set, all_stay_set, values_set, slots_in, absorbed, all_absorbed, nothing_new, last_within, all_within_once, once_and_last_set, set_has}
+use Rattle.mv_recorded.specs.Effects.{slots_behind}
+use Rattle.mv_recorded.proofs.Slots.{is_set, stays_set, all_stay_set, values_set, absorbed, all_absorbed, nothing_new, last_within, all_within_once, once_and_last_set, set_has}
 use Rattle.mv_recorded.proofs.Telling.{TellsOf, tells_own}
 use Rattle.mv_recorded.proofs.Leading.{LeadsTo, leads_own}
 
@@ -46,7 +47,7 @@ state_ok h = cc
 
 -- what is set behind these variables are their values
 abbrev SetsAll : Env → List ℕ → Env → Type 0
-SetsAll env xs next = next ≡ with_slots (slots_in next xs) env
+SetsAll env xs next = next ≡ with_slots (slots_behind next xs) env
 
 one_set : (env : Env) (x : ℕ) (v : Value) → SetsAll env (x ∷ []) (with_value env x v)
 one_set env x v =

@@ -17,8 +17,9 @@ use Rattle.mv_catalog.specs.declared.resolved.RStmt.TheOpen as open'
 use Rattle.mv_catalog.specs.declared.resolved.RStmt.TheViews.{roll-RStmt}
 use Rattle.mv_catalog.specs.declared.resolved.RStmt.TheFolds.{fold-roll-RStmt, map-RStmt, ind-RStmt}
 use Rattle.mv_values.specs.Tables.{key_columns, columns_in, columns_at, rows_at}
+use Rattle.mv_values.specs.Columns.{number}
 use Rattle.mv_catalog.specs.Types.{Kind, declared, rows, Vars}
-use Rattle.mv_catalog.specs.Statements.{all_well, IsWell, Well, kinds_of, Gives, with_turn}
+use Rattle.mv_catalog.specs.Statements.{all_well, IsWell, Well, with_turn}
 use Rattle.mv_recorded.specs.Doing.{itself, fixed_rows}
 use Rattle.mv_catalog.specs.Statements as well
 use Rattle.mv_catalog.specs.Text.{IsRow, types_of}
@@ -29,7 +30,7 @@ use Rattle.mv_alone.specs.declared.state.State.{State}
 use Rattle.mv_alone.specs.declared.state.Env.{Env}
 use Rattle.mv_alone.specs.Outcome.{then_do}
 use Rattle.mv_alone.specs.Env.{with_held, with_value, with_found, turns_at}
-use Rattle.mv_alone.specs.Value.{value_of, values_of, is_so, number}
+use Rattle.mv_alone.specs.Value.{value_of, values_of, is_so}
 use Rattle.mv_alone.specs.Rows.{checks_of, meets, is_some_row, item_at, ordered, aggregate}
 use Rattle.mv_alone.specs.Changes.{set_row, updated, without, new_row, put_row, keyed}
 use Rattle.mv_alone.specs.Line.{line_of}

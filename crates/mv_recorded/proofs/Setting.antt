@@ -66,7 +66,7 @@ set_there (x ∷ xs) [] c h = absurd (omega (arith, h))
 set_there (x ∷ xs) (y ∷ ys) zero h = refl
 set_there (x ∷ xs) (y ∷ ys) (suc c) h = set_there xs ys c (omega (arith, h))
 
-abbrev value_in : List Value → RSetItem → Assign
+abbrev pub value_in : List Value → RSetItem → Assign
 value_in new i = record { column = i.column; value = column_of new i.column }
 
 assigns_lead : (items : List RSetItem) (row new : List Value) → AgreeBut items row new → with_columns (map (value_in new) items) row ≡ new

@@ -1,5 +1,5 @@
 -- Variables that are set to the values that they have behind a statement, each once.
-use Rattle.std.proofs.Common.{◌≡◌, ◌⊎◌, inl, inr, ℕ, zero, suc, ◌==◌, ◌≤◌, Bool, true, false, cond, not, List, [], ◌∷◌, ◌++◌, map, length, slice_index_or, refl, sym, ap, subst, ◌∙◌, arith}
+use Rattle.std.proofs.Common.{◌≡◌, ◌⊎◌, inl, inr, ℕ, zero, suc, ◌==◌, ◌≤◌, Bool, true, false, cond, not, List, [], ◌∷◌, ◌++◌, length, slice_index_or, refl, sym, ap, subst, ◌∙◌, arith}
 use Rattle.std.proofs.lemmas.Bool.Decides.{eqb_tells}
 use Rattle.std.specs.List.{filter}
 use Rattle.mv_values.specs.declared.value.Value.{Value}
@@ -7,10 +7,10 @@ use Rattle.mv_alone.specs.declared.state.Env.{Env}
 use Rattle.mv_alone.specs.declared.state.Held.{Held}
 use Rattle.mv_alone.specs.declared.state.Held.TheVariants.{Scalar}
 use Rattle.mv_alone.specs.Env.{unset, put_at, scalar_in, scalar_at, truth, with_value, with_values, with_found}
-use Rattle.mv_record.specs.declared.record.Slot.{Slot}
 use Rattle.mv_recorded.specs.Effect.{with_slots}
 use Rattle.mv_recorded.specs.Own.{Within}
 use Rattle.mv_recorded.specs.Reading.{each_once}
+use Rattle.mv_recorded.specs.Effects.{slots_behind}
 
 -- Places
 
@@ -106,37 +106,33 @@ abbrev pub AllWithin : List ℕ → List ℕ → Type 0
 AllWithin [] ys = Unit {0}
 AllWithin (x ∷ xs) ys = Within x ys × AllWithin xs ys
 
--- what each has behind the statement
-abbrev pub slots_in : Env → List ℕ → List Slot
-slots_in next xs = map (λ x. record { slot = x; value = scalar_at next x }) xs
-
 -- a variable that is set later was not set in vain
-pub absorbed : (env next : Env) (x : ℕ) (v : Value) (xs : List ℕ) → Within x xs → with_slots (slots_in next xs) (with_value env x v) ≡ with_slots (slots_in next xs) env
+pub absorbed : (env next : Env) (x : ℕ) (v : Value) (xs : List ℕ) → Within x xs → with_slots (slots_behind next xs) (with_value env x v) ≡ with_slots (slots_behind next xs) env
 absorbed env next x v [] h = absurd h
 absorbed env next x v (y ∷ ys) h = by_test (x == y) refl h (absorbed (with_value env y (scalar_at next y)) next x v ys)
   where
     by_test : (b : Bool) → (x == y) ≡ b → (x ≡ y) ⊎ Within x ys
-        → (Within x ys → with_slots (slots_in next ys) (with_value (with_value env y (scalar_at next y)) x v) ≡ with_slots (slots_in next ys) (with_value env y (scalar_at next y)))
-        → with_slots (slots_in next ys) (with_value (with_value env x v) y (scalar_at next y)) ≡ with_slots (slots_in next ys) (with_value env y (scalar_at next y))
+        → (Within x ys → with_slots (slots_behind next ys) (with_value (with_value env y (scalar_at next y)) x v) ≡ with_slots (slots_behind next ys) (with_value env y (scalar_at next y)))
+        → with_slots (slots_behind next ys) (with_value (with_value env x v) y (scalar_at next y)) ≡ with_slots (slots_behind next ys) (with_value env y (scalar_at next y))
     by_test true e k rest =
         let same : x ≡ y = grind (arith, eqb_tells) in
-        ap (with_slots (slots_in next ys)) (subst (λ z. with_value (with_value env z v) y (scalar_at next y) ≡ with_value env y (scalar_at next y)) (sym same)
+        ap (with_slots (slots_behind next ys)) (subst (λ z. with_value (with_value env z v) y (scalar_at next y) ≡ with_value env y (scalar_at next y)) (sym same)
         (ap (with_place env) (put_same env.held y (Scalar v) (Scalar (scalar_at next y)))))
     by_test false e (inl same) rest = absurd (let apart : x ≡ y → ⊥ = λ s. grind (arith, eqb_tells) in apart same)
     by_test false e (inr k) rest =
         let apart : x ≡ y → ⊥ = λ same. grind (arith, eqb_tells) in
-        ap (with_slots (slots_in next ys)) (ap (with_place env) (put_other env.held x y (Scalar v) (Scalar (scalar_at next y)) apart))
+        ap (with_slots (slots_behind next ys)) (ap (with_place env) (put_other env.held x y (Scalar v) (Scalar (scalar_at next y)) apart))
         ∙ rest k
 
 pub all_absorbed : (env next : Env) (ys : List ℕ) (vs : List Value) (xs : List ℕ) → AllWithin ys xs
-    → with_slots (slots_in next xs) (with_values env ys vs) ≡ with_slots (slots_in next xs) env
+    → with_slots (slots_behind next xs) (with_values env ys vs) ≡ with_slots (slots_behind next xs) env
 all_absorbed env next [] vs xs h = refl
 all_absorbed env next (y ∷ ys) [] xs h = refl
 all_absorbed env next (y ∷ ys) (v ∷ vs) xs h = all_absorbed (with_value env y v) next ys vs xs h.1 ∙ absorbed env next y v xs h.0
 
-pub nothing_new : (env : Env) (xs : List ℕ) → AllSet env xs → with_slots (slots_in env xs) env ≡ env
+pub nothing_new : (env : Env) (xs : List ℕ) → AllSet env xs → with_slots (slots_behind env xs) env ≡ env
 nothing_new env [] h = refl
-nothing_new env (x ∷ xs) h = ap (with_slots (slots_in env xs)) h.0 ∙ nothing_new env xs h.1
+nothing_new env (x ∷ xs) h = ap (with_slots (slots_behind env xs)) h.0 ∙ nothing_new env xs h.1
 
 -- Each once
 

@@ -6,17 +6,12 @@ use Rattle.mv_ast.specs.declared.tree.TwoOp.TheVariants.{Div}
 use Rattle.mv_catalog.specs.declared.resolved.RStmt.{RStmt, roll-RStmt}
 use Rattle.mv_alone.specs.declared.state.State.{State}
 use Rattle.mv_alone.specs.declared.state.Held.{Held}
-use Rattle.mv_alone.specs.declared.state.Held.TheVariants.{Scalar, Turn}
+use Rattle.mv_alone.specs.declared.state.Held.TheVariants.{Turn}
 use Rattle.mv_record.specs.Samples.{account}
 use Rattle.mv_recorded.specs.Examples.{var, constant, acc, delete_found, over_accounts, sum_up_balances, open_account, for_record, deleted, sum_record, opened, Closes, read_twice, ReadsTwice, delete_wrong, DividesByZero}
-use Rattle.mv_recorded.specs.Recorded.{Site, tell_statements, outside, within_loop, in_turn}
+use Rattle.mv_recorded.specs.Recorded.{tell_statements, outside}
 use Rattle.mv_recorded.proofs.Unrolled.{value_var, value_two, value_field, value_constant, variables_var, variables_two, variables_field, variables_constant, told_first, tell_is, does_is, size_is}
-
-abbrev scalar : ℕ → Held
-scalar n = Scalar (Int (pos n))
-
-abbrev with_accounts : List Held → ℕ → List Keyed → State
-with_accounts held found rows = record { env = record { held = held; found = found }; tables = rows ∷ []; lines = [] }
+use Rattle.mv_recorded.proofs.Examples.{scalar, with_accounts, turn}
 
 -- close
 
@@ -40,9 +35,6 @@ third = at_close 0 1 (turn_of 1) (account 0 7 ∷ [])
 
 abbrev fourth : State
 fourth = at_close 7 1 (turn_of 1) (account 0 7 ∷ [])
-
-abbrev turn : ℕ → Site
-turn k = in_turn k (within_loop 3 0 outside)
 
 goes_through : (ss : List RStmt) → tell_statements acc 1 (roll-RStmt over_accounts ∷ ss) 1 outside [] begins
     ≡ for_record ∷ deleted 1 2 ∷ deleted 2 1 ∷ tell_statements acc 1 ss 3 outside (for_record ∷ deleted 1 2 ∷ deleted 2 1 ∷ []) third

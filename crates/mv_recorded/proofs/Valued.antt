@@ -5,7 +5,7 @@ use Rattle.std.specs.Ordering.{int_eq}
 use Rattle.mv_values.specs.declared.value.Value.{Value}
 use Rattle.mv_values.specs.declared.value.Value.TheVariants.{Int, Text}
 use Rattle.mv_values.specs.declared.calls.End.{End}
-use Rattle.mv_values.specs.Columns.{column_of}
+use Rattle.mv_values.specs.Columns.{column_of, number}
 use Rattle.mv_values.specs.declared.calls.End.TheVariants.{Overflow, ZeroDivisor, TooLong}
 use Rattle.mv_ast.specs.declared.tree.OneOp.{OneOp}
 use Rattle.mv_ast.specs.declared.tree.OneOp.TheVariants.{Neg, Not, TextOf}
@@ -25,7 +25,7 @@ use Rattle.mv_alone.specs.declared.state.Held.{Held}
 use Rattle.mv_alone.specs.Outcome.{then_do}
 use Rattle.mv_alone.specs.Env.{held_at, scalar_in, turn_in, truth}
 use Rattle.mv_alone.specs.Value as value
-use Rattle.mv_alone.specs.Value.{value_of, is_so, number, Evaluation, kind_step, expr_step, fitted, quotient, remainder, joined, one_of, both_of, two_of, needs_right}
+use Rattle.mv_alone.specs.Value.{value_of, is_so, Evaluation, kind_step, expr_step, fitted, quotient, remainder, joined, one_of, both_of, two_of, needs_right}
 use Rattle.mv_recorded.specs.Typed.{OfKinds, Holds, IsEnvOf}
 
 abbrev pub IsKind : Kind → Value → Type 0

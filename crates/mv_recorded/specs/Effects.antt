@@ -10,6 +10,7 @@ use Rattle.mv_values.specs.declared.calls.End.{End}
 use Rattle.mv_values.specs.declared.calls.End.TheVariants.{Duplicate}
 use Rattle.mv_values.specs.declared.patch.Patch.TheVariants.{Insert}
 use Rattle.mv_values.specs.Tables.{columns_at, key_columns}
+use Rattle.mv_values.specs.Columns.{number}
 use Rattle.mv_catalog.specs.declared.resolved.RStmt.{RStmt}
 use Rattle.mv_catalog.specs.declared.resolved.RStmt.TheOpen.{RStmt-F}
 use Rattle.mv_catalog.specs.declared.resolved.RExpr.{RExpr}
@@ -18,7 +19,6 @@ use Rattle.mv_catalog.specs.declared.resolved.RCond.{RCond}
 use Rattle.mv_alone.specs.Outcome.{then_do}
 use Rattle.mv_alone.specs.declared.state.Env.{Env}
 use Rattle.mv_alone.specs.Env.{scalar_at, with_found}
-use Rattle.mv_alone.specs.Value.{number}
 use Rattle.mv_alone.specs.Alone.{offset_of, with_selected, totalled, is_turn}
 use Rattle.mv_alone.specs.Rows.{checks_of}
 use Rattle.mv_alone.specs.Changes.{set_row, keyed}

@@ -13,6 +13,7 @@ use Rattle.mv_values.specs.declared.schema.TableInfo.{TableInfo}
 use Rattle.mv_values.specs.declared.schema.ColType.TheVariants as column
 use Rattle.mv_ast.specs.declared.tree.TwoOp.{TwoOp}
 use Rattle.mv_ast.specs.declared.tree.TwoOp.TheVariants.{Add, Sub, Div, Compare}
+use Rattle.mv_ast.specs.Texts.{greatest}
 use Rattle.mv_catalog.specs.declared.resolved.RExpr.{RExpr}
 use Rattle.mv_catalog.specs.declared.resolved.RExprKind.{RExprKind}
 use Rattle.mv_catalog.specs.declared.resolved.RExprKind.TheViews.{roll-RExprKind}
@@ -112,9 +113,6 @@ add_line = record (blank 4) { reads = reads 2 1 ∷ []; line = Some (49 ∷ 48 �
 -- the UPDATE and the PRINT read the sum
 abbrev pub AddsFive : Type 0
 AddsFive = recorded acc add (call_of (number_of 1 ∷ number_of 5 ∷ [])) bank ≡ add_read ∷ add_sum ∷ add_write ∷ add_line ∷ []
-
-abbrev pub greatest : ℕ
-greatest = 9223372036854775807
 
 abbrev pub add_overflow : Record
 add_overflow = record (blank 2) { reads = reads 2 0 ∷ []; end = Some Overflow }

@@ -23,6 +23,7 @@ use Rattle.mv_alone.specs.declared.state.Stop.TheVariants.{Memory, Ended}
 use Rattle.mv_alone.specs.Outcome.{then_do, Fails}
 use Rattle.mv_alone.specs.Rows.{meets, matching, is_some_row}
 use Rattle.mv_alone.specs.Changes.{updated, without, put_row}
+use Rattle.mv_alone.proofs.Standing.{New}
 use Rattle.mv_serial.specs.declared.change.Change.{Change}
 use Rattle.mv_serial.specs.Changing.{changed_by, renewals, removals}
 use Rattle.mv_serial.proofs.Changing.{changed_again}
@@ -65,9 +66,6 @@ gone : (x : Keyed) (rows : List Keyed) → placed x.key None (x ∷ rows) ≡ ro
 gone x rows = let same : key_order x.key x.key ≡ Equal = same_key x.key in rw same refl
 
 -- UPDATE
-
-abbrev pub New : Type 0
-New = List Value → Result (List Value) End
 
 -- the changes make of the rows what is meant
 record Renewed (t : ℕ) (rows : List Keyed) (meant : Result (List Keyed) End) (cs : List Change) : Type 0 where

@@ -6,7 +6,7 @@ use Rattle.mv_values.specs.declared.rows.Keyed.{Keyed}
 use Rattle.mv_values.specs.declared.schema.TableInfo.{TableInfo}
 use Rattle.mv_values.specs.declared.calls.End.{End}
 use Rattle.mv_values.specs.Columns.{columns_of}
-use Rattle.mv_values.specs.Tables.{key_columns, columns_at, rows_at, KeysStand, Tables}
+use Rattle.mv_values.specs.Tables.{key_columns, columns_at, rows_at, KeysStand, Tables, StandsUnder}
 use Rattle.mv_catalog.specs.declared.resolved.RSetItem.{RSetItem}
 use Rattle.mv_alone.specs.declared.state.Check.{Check}
 use Rattle.mv_alone.specs.declared.state.State.{State}
@@ -15,9 +15,6 @@ use Rattle.mv_alone.specs.Changes.{set_row, without, put_row}
 use Rattle.mv_alone.specs.Own.{StandUnder}
 use Rattle.mv_alone.proofs.Standing.{stand_set, set_row_keeps, updated_stand, put_stands}
 use Rattle.mv_serial.proofs.Tabling.{table_with, updated_at}
-
-abbrev Stands : List ℕ → Keyed → Type 0
-Stands keys item = item.key ≡ columns_of item.row keys
 
 -- a table with rows that stand under their keys
 with_stands : (infos : List TableInfo) (db new : Tables) (t : ℕ) (r : Result (List Keyed) End) → KeysStand infos db → ((rows : List Keyed) → r ≡ Ok rows → StandUnder (key_columns infos t) rows)
@@ -36,7 +33,7 @@ update_stands infos t items checks st new h is =
 -- DELETE
 pub delete_stands : (infos : List TableInfo) (t : ℕ) (checks : List Check) (db new : Tables) → KeysStand infos db → new ≡ slice_set db t (without checks (rows_at db t)) → KeysStand infos new
 delete_stands infos t checks db new h is =
-    subst (KeysStand infos) (sym is) (stand_set infos db t (without checks (rows_at db t)) h (All-filter (λ item. not (meets checks item.row)) (Stands (key_columns infos t)) (rows_at db t) (h t)))
+    subst (KeysStand infos) (sym is) (stand_set infos db t (without checks (rows_at db t)) h (All-filter (λ item. not (meets checks item.row)) (StandsUnder (key_columns infos t)) (rows_at db t) (h t)))
 
 -- INSERT
 pub insert_stands : (infos : List TableInfo) (t : ℕ) (item : Keyed) (db new : Tables) → KeysStand infos db → item.key ≡ columns_of item.row (key_columns infos t) → table_with db t (put_row item (rows_at db t)) ≡ Ok new
@@ -45,5 +42,5 @@ insert_stands infos t item db new h p is = with_stands infos db new t (put_row i
 
 -- in a database of one table with no rows each row stands under its key
 pub none_stand : (infos : List TableInfo) → KeysStand infos ([] ∷ [])
-none_stand infos zero = All-nil (Stands (key_columns infos 0))
-none_stand infos (suc t) = All-nil (Stands (key_columns infos (suc t)))
+none_stand infos zero = All-nil (StandsUnder (key_columns infos 0))
+none_stand infos (suc t) = All-nil (StandsUnder (key_columns infos (suc t)))

@@ -10,10 +10,10 @@ use Rattle.mv_table.specs.Entries.{item_of, picked}
 use Rattle.mv_table.specs.Lending.{HasItem}
 use Rattle.mv_table.proofs.Picking.{entries_same, picked_rising, picked_item}
 use Rattle.mv_chain.specs.declared.pending.Pending.{Pending}
-use Rattle.mv_chain.specs.Versions.{Versions, is_blank, with_own, joined, collected}
+use Rattle.mv_chain.specs.Versions.{Versions, is_blank, with_own, joined, collected, with_patch}
 use Rattle.mv_chain.proofs.Blank.{nonzero}
 use Rattle.mv_store.specs.Stored.{Entries, picked_in, unless_blank, tables_from}
-use Rattle.mv_store.specs.Kept.{AllRise, AreFilled, AreFilledBut, AllFilled, AllChanged, with_patch}
+use Rattle.mv_store.specs.Kept.{AllRise, AreFilled, AreFilledBut, AllFilled, AllChanged}
 use Rattle.mv_store.proofs.Keys.{cons_same, held_same}
 
 abbrev pub IsFull : Versions → Type 0

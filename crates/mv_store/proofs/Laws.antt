@@ -17,7 +17,7 @@ use Rattle.mv_values.specs.Tables.{rows_at}
 use Rattle.mv_values.proofs.KeyOrder.{tied}
 use Rattle.mv_record.specs.Writes.{writes_on, patched_by, AreRising}
 use Rattle.mv_record.proofs.Patching.{row_applied, rising_applied, length_applied, written_nowhere, applied_append}
-use Rattle.mv_chain.specs.Versions.{Versions, IsAboveAll, own_of, patched_by_own, stamped, stamped_by, row_at, newest as newest_row}
+use Rattle.mv_chain.specs.Versions.{Versions, IsAboveAll, own_of, patched_by_own, stamped, stamped_by, row_at, newest as newest_row, with_patch}
 use Rattle.mv_chain.proofs.Stamps.{composes, others_stay, all_read, read_before, read_after}
 use Rattle.mv_store.specs.Stored.{Entries, Versioned, picked_in, table_at, database_at, newest, writes_from, own_writes, IsLike}
 use Rattle.mv_store.specs.Changes.{IsAsBefore, HasPut, HasDropped, HasStamped, HasRaised}
@@ -25,7 +25,7 @@ use Rattle.mv_store.specs.declared.spots.Spot.{Spot}
 use Rattle.mv_store.specs.declared.spots.Written.{Written}
 use Rattle.mv_store.specs.declared.change.Fate.{Fate}
 use Rattle.mv_store.specs.declared.change.Fate.TheVariants.{Commit as Commits, Gone}
-use Rattle.mv_store.specs.Kept.{versions_of, versions_at, entries_at, AllRise, AreFilled, AllFilled, IsChanged, AreChanged, AllChanged, Noted, IsCovered, IsListed, AreUpTo, IsKept, HasSpot, HasEntry, KeepsSpots, spots_of, spots_in, noted_for, written_at, Climb, with_patch, settled, MaySettle, AreCollected}
+use Rattle.mv_store.specs.Kept.{versions_of, versions_at, entries_at, AllRise, AreFilled, AllFilled, IsChanged, AreChanged, AllChanged, Noted, IsCovered, IsListed, AreUpTo, IsKept, HasSpot, HasEntry, KeepsSpots, spots_of, spots_in, noted_for, written_at, Climb, settled, MaySettle, AreCollected}
 use Rattle.mv_store.proofs.Keys.{database_same, databases_same, row_in, rows_rise, size_is}
 use Rattle.mv_store.proofs.Own.{row_done, own_same, own_none}
 use Rattle.mv_store.proofs.Filled.{tables_collected}

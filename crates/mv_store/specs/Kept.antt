@@ -6,10 +6,9 @@ use Rattle.std.specs.Ordering.{is_eq, nat_cmp}
 use Rattle.std.specs.BTreeMap.{is_at}
 use Rattle.std.specs.Map.{lookup}
 use Rattle.mv_values.specs.declared.value.Value.{Value}
-use Rattle.mv_values.specs.declared.patch.Patch.{Patch}
 use Rattle.mv_values.specs.Order.{key_order}
 use Rattle.mv_table.specs.Entries.{item_of, KeysRise}
-use Rattle.mv_chain.specs.Versions.{Versions, IsAboveAll, blank, is_blank, own_of, without, with_own, stamped, collected, row_at}
+use Rattle.mv_chain.specs.Versions.{Versions, IsAboveAll, blank, is_blank, own_of, without, stamped, collected, row_at}
 use Rattle.mv_store.specs.Stored.{Entries}
 use Rattle.mv_store.specs.declared.spots.Spot.{Spot}
 use Rattle.mv_store.specs.declared.spots.Written.{Written}
@@ -144,10 +143,6 @@ pub record IsKept (tables : List Entries) (spots : Noted) (last : ℕ) : Type 0 
   pub climb : Climb 0 spots.commits last
 
 -- Changes
-
--- one more patch of a call
-abbrev pub with_patch : ℕ → Patch → Versions → Versions
-with_patch call patch v = record v { own = with_own call patch v.own }
 
 -- the call's patch becomes a commit, or is dropped
 abbrev pub settled : Fate → ℕ → Versions → Versions

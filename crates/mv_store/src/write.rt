@@ -2,8 +2,8 @@
 
 ghost use Rattle.std.specs.Prelude.{◌≡◌, false, OnOk, OnErr};
 ghost use Rattle.std.specs.Option.{is_some};
-ghost use Rattle.mv_chain.specs.Versions.{own_of};
-ghost use Rattle.mv_store.specs.Kept.{versions_of, spots_of, with_patch, AreFilled, IsChanged, HasSpot, KeepsSpots};
+ghost use Rattle.mv_chain.specs.Versions.{own_of, with_patch};
+ghost use Rattle.mv_store.specs.Kept.{versions_of, spots_of, AreFilled, IsChanged, HasSpot, KeepsSpots};
 
 use crate::spots::{Spot, Spots};
 use mv_chain::chain::Chain;

@@ -1,7 +1,7 @@
 -- Numbers in order, and lists that are told place by place.
 use Rattle.std.proofs.Common.{◌≡◌, ◌<◌, ◌≤◌, ◌+◌, ℕ, zero, suc, List, [], ◌∷◌, ◌++◌, length, map, Some, refl, sym, ap, ◌∙◌, add-zero, zero-add, arith}
 use Rattle.std.specs.Prelude.{slice_get, slice_index}
-use Rattle.mv_alone.specs.TableAfter.{first_numbers}
+use Rattle.mv_values.specs.Counts.{first_numbers}
 
 -- n numbers from a on
 abbrev pub numbers_from : ℕ → ℕ → List ℕ

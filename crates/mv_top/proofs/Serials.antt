@@ -4,9 +4,10 @@ use Rattle.std.proofs.lemmas.Grind.{get_or_default_zero}
 use Rattle.std.specs.Prelude.{slice_get, slice_index_or}
 use Rattle.mv_values.specs.declared.calls.Reply.{Reply}
 use Rattle.mv_values.specs.Tables.{Tables}
+use Rattle.mv_values.specs.Counts.{first_numbers}
 use Rattle.mv_catalog.specs.declared.resolved.Program.{Program}
 use Rattle.mv_report.specs.Serial.{serial_text}
-use Rattle.mv_alone.specs.TableAfter.{table_after, reply_of, call_order, first_numbers, IsOrder, RepliesOf}
+use Rattle.mv_alone.specs.TableAfter.{table_after, reply_of, call_order, IsOrder, RepliesOf}
 use Rattle.mv_top.specs.Serial.{serial_replies, serial}
 use Rattle.mv_top.proofs.Numbers.{length_numbers, index_numbers, told_numbers}
 

@@ -10,6 +10,7 @@ use Rattle.mv_values.specs.declared.calls.Options.{Options}
 use Rattle.mv_values.specs.declared.calls.Reply.{Reply}
 use Rattle.mv_values.specs.Tables.{key_columns, columns_at, rows_at, Tables}
 use Rattle.mv_values.specs.Texts.{line}
+use Rattle.mv_values.specs.Counts.{first_numbers}
 use Rattle.mv_catalog.specs.declared.resolved.Program.{Program}
 use Rattle.mv_catalog.specs.declared.resolved.ProcInfo.{ProcInfo}
 use Rattle.mv_catalog.specs.declared.resolved.RStmt.TheOpen.{RStmt-F, Assign, Select, Total, ForSelect, ForRows, Branch, Insert, Update, Delete, Print, Rollback}
@@ -34,7 +35,7 @@ use Rattle.mv_journal.specs.Events.{IsInRange}
 use Rattle.mv_lawful.specs.Work.{Work}
 use Rattle.mv_lawful.specs.Lawful.{Lawful, course_of}
 use Rattle.mv_lawful.specs.Laws.{IsOfCalls}
-use Rattle.mv_lawful.specs.Outcomes.{numbers, reply_in, reply_after, without_collections, IsOutcomeInTurn, outcome_of}
+use Rattle.mv_lawful.specs.Outcomes.{reply_in, reply_after, without_collections, IsOutcomeInTurn, outcome_of}
 use Rattle.mv_lawful.proofs.Collections.{collections_are_unseen}
 use Rattle.mv_lawful.proofs.Serial.{lawful_names_calls}
 use Rattle.mv_lawful.proofs.Turns.{in_turn_is_lawful}
@@ -166,7 +167,7 @@ in_range n G few h = tt
 
 is_plain : (p : Program) (options : Options) (journal : List Event) → length p.resolved.calls ≤ most_calls → Lawful (work_of p options) journal → IsPlain (outcome_of (work_of p options) journal)
 is_plain p options journal few lawful = record {
-  lines = All-map (λ (reply : Reply). All IsPrinted reply.lines) (reply_in w order) (numbers w.count) (λ k d lt. by_place _ (position (λ d. d == _) order));
+  lines = All-map (λ (reply : Reply). All IsPrinted reply.lines) (reply_in w order) (first_numbers w.count) (λ k d lt. by_place _ (position (λ d. d == _) order));
   calls = All-weaker (IsOfCalls w.count) IsInRange (λ e. in_range w.count e few) journal (lawful_names_calls w journal lawful);
 }
   where

@@ -1,9 +1,9 @@
 //! Runs the calls of a program alone, in call order.
 
 ghost use Rattle.std.specs.Prelude.{◌≡◌, ◌≤◌, length, IfOk};
+ghost use Rattle.mv_values.specs.Counts.{first_numbers};
 ghost use Rattle.mv_accept.specs.Accepting.{most_calls};
 ghost use Rattle.mv_record.specs.Databases.{IsProgram};
-ghost use Rattle.mv_alone.specs.TableAfter.{first_numbers};
 ghost use Rattle.mv_top.specs.Serial.{serial};
 
 use mv_catalog::resolved::Program;

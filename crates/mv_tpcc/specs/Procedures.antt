@@ -1,10 +1,10 @@
 -- The procedures of TPC-C 5.11 as this project has them, each with an empty line before it.
 use Rattle.std.specs.Prelude.{ℕ, List, [], ◌∷◌, codes}
-use Rattle.mv_tpcc.specs.Tables.{lined}
+use Rattle.mv_values.specs.Texts.{lines_text}
 
 -- enters an order of several lines
 unfoldable pub new_order : List ℕ
-new_order = lined (
+new_order = lines_text (
     codes "" ∷
     codes "CREATE PROCEDURE new_order (:w INT, :d INT, :c INT, :date INT, :lines ROWS (i INT, s INT, q INT))" ∷
     codes "DECLARE :wtax = 0; DECLARE :dtax = 0; DECLARE :o = 0; DECLARE :disc = 0; DECLARE :last = '';" ∷
@@ -52,7 +52,7 @@ new_order = lined (
 
 -- takes a payment of a customer
 unfoldable pub payment : List ℕ
-payment = lined (
+payment = lines_text (
     codes "" ∷
     codes "CREATE PROCEDURE payment (:w INT, :d INT, :cw INT, :cd INT, :c INT, :last TEXT(16)," ∷
     codes "  :amount INT, :date INT, :h INT)" ∷
@@ -86,7 +86,7 @@ payment = lined (
 
 -- tells a customer's last order
 unfoldable pub order_status : List ℕ
-order_status = lined (
+order_status = lines_text (
     codes "" ∷
     codes "CREATE PROCEDURE order_status (:w INT, :d INT, :c INT, :last TEXT(16))" ∷
     codes "DECLARE :id = 0; DECLARE :n = 0; DECLARE :bal = 0; DECLARE :first = ''; DECLARE :lname = '';" ∷
@@ -115,7 +115,7 @@ order_status = lined (
 
 -- delivers the oldest order of each district
 unfoldable pub delivery : List ℕ
-delivery = lined (
+delivery = lines_text (
     codes "" ∷
     codes "CREATE PROCEDURE delivery (:w INT, :carrier INT, :date INT)" ∷
     codes "DECLARE :o = 0; DECLARE :c = 0; DECLARE :sum = 0;" ∷
@@ -140,7 +140,7 @@ delivery = lined (
 
 -- counts the items of the last twenty orders that run short
 unfoldable pub stock_level : List ℕ
-stock_level = lined (
+stock_level = lines_text (
     codes "" ∷
     codes "CREATE PROCEDURE stock_level (:w INT, :d INT, :t INT)" ∷
     codes "DECLARE :o = 0; DECLARE :k = 0; DECLARE :n = 0;" ∷

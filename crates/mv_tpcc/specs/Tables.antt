@@ -1,13 +1,9 @@
 -- The tables of TPC-C 5.11 as this project has them. docs/TPCC.md says what was left out.
-use Rattle.std.specs.Prelude.{ℕ, List, [], ◌∷◌, ◌++◌, codes}
-use Rattle.std.specs.List.{flat_map}
-
--- the lines, each with a line feed after it
-abbrev pub lined : List (List ℕ) → List ℕ
-lined lines = flat_map (λ line. line ++ 10 ∷ []) lines
+use Rattle.std.specs.Prelude.{ℕ, List, [], ◌∷◌, codes}
+use Rattle.mv_values.specs.Texts.{lines_text}
 
 unfoldable pub tables : List ℕ
-tables = lined (
+tables = lines_text (
     codes "CREATE TABLE warehouse (w_id INT, w_name TEXT(10), w_tax INT, w_ytd INT, PRIMARY KEY (w_id));" ∷
     codes "CREATE TABLE district (d_w_id INT, d_id INT, d_name TEXT(10), d_tax INT, d_ytd INT," ∷
     codes "  d_next_o_id INT, PRIMARY KEY (d_w_id, d_id));" ∷

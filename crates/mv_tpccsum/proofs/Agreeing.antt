@@ -5,11 +5,11 @@ use Rattle.std.specs.Option.{option_map_or}
 use Rattle.std.specs.Ordering.{int_eq}
 use Rattle.mv_values.specs.declared.value.Value.{Value}
 use Rattle.mv_values.specs.declared.rows.Keyed.{Keyed}
-use Rattle.mv_values.specs.Columns.{column_of, columns_of}
+use Rattle.mv_values.specs.Columns.{column_of, columns_of, number}
 use Rattle.mv_table.specs.Entries.{item_of}
 use Rattle.mv_tpccsum.specs.declared.totals.Totals.{Totals}
 use Rattle.mv_tpccsum.specs.declared.consistent.Orders.{Orders}
-use Rattle.mv_tpccsum.specs.Tables.{Entry, entry_of, number, sum_of}
+use Rattle.mv_tpccsum.specs.Tables.{Entry, entry_of, sum_of}
 use Rattle.mv_tpccsum.specs.Consistent.{Books, district_agrees, has_largest, is_dense, is_queue, numbers_of, smallest, warehouse_agrees}
 use Rattle.mv_tpccsum.proofs.Loops.{drop_at}
 use Rattle.mv_tpccsum.specs.Grouping.{IsGroups, IsOrders, IsTotalsOf, Tells, count_at, ends_at, is_sum, orders_agree, queues, sum_at}

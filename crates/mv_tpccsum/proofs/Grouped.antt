@@ -9,12 +9,12 @@ use Rattle.std.proofs.lemmas.List.Sums.{fold_push}
 use Rattle.std.specs.Cmp.{Equal-is}
 use Rattle.mv_values.specs.declared.value.Value.{Value}
 use Rattle.mv_values.specs.declared.rows.Keyed.{Keyed}
-use Rattle.mv_values.specs.Columns.{column_of, columns_of}
+use Rattle.mv_values.specs.Columns.{column_of, columns_of, number}
 use Rattle.mv_values.specs.Order.{key_order}
 use Rattle.mv_values.proofs.KeyOrder.{exact_keys}
 use Rattle.mv_table.specs.Entries.{item_of}
 use Rattle.mv_tpccsum.specs.declared.totals.Totals.{Totals}
-use Rattle.mv_tpccsum.specs.Tables.{Entry, entry_of, number, sum_of}
+use Rattle.mv_tpccsum.specs.Tables.{Entry, entry_of, sum_of}
 use Rattle.mv_tpccsum.specs.Consistent.{largest, smallest, numbers_of}
 use Rattle.mv_tpccsum.specs.Grouping.{IsGroups, IsSmall, IsTotalsOf, Tells, with_number}
 

@@ -4,9 +4,9 @@ use Rattle.std.specs.Option.{option_map, option_and_then}
 use Rattle.std.proofs.lemmas.List.{drop_more}
 use Rattle.std.proofs.Math.IntN.{+ℤ_assoc}
 use Rattle.mv_values.specs.declared.rows.Keyed.{Keyed}
-use Rattle.mv_values.specs.Columns.{column_of}
+use Rattle.mv_values.specs.Columns.{column_of, number}
 use Rattle.mv_values.specs.declared.schema.Column.{Column}
-use Rattle.mv_tpccsum.specs.Tables.{Entry, column_place, column_places, entry_of, number, sum_of}
+use Rattle.mv_tpccsum.specs.Tables.{Entry, column_place, column_places, entry_of, sum_of}
 
 -- the item at a place is the first of those from there on
 pub drop_at : {X : Type 0} (xs : List X) (i : ℕ) (x : X) → i < length xs → x ≡ slice_index_or xs i x → drop i xs ≡ x ∷ drop (i + 1) xs

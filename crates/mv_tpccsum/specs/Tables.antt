@@ -5,13 +5,12 @@ use Rattle.std.specs.List.{position}
 use Rattle.std.specs.Option.{option_and_then, option_map, option_map_or}
 use Rattle.std.specs.Str.{bytes_eq}
 use Rattle.mv_values.specs.declared.value.Value.{Value}
-use Rattle.mv_values.specs.declared.value.Value.TheVariants.{Int, Text}
 use Rattle.mv_values.specs.declared.rows.Keyed.{Keyed}
 use Rattle.mv_values.specs.declared.schema.ColType.{ColType}
 use Rattle.mv_values.specs.declared.schema.ColType.TheVariants as kind
 use Rattle.mv_values.specs.declared.schema.Column.{Column}
 use Rattle.mv_values.specs.declared.schema.TableInfo.{TableInfo}
-use Rattle.mv_values.specs.Columns.{column_of, columns_of}
+use Rattle.mv_values.specs.Columns.{column_of, columns_of, number}
 
 -- the place of the table with a name
 abbrev pub table_place : List TableInfo → List ℕ → Option ℕ
@@ -38,11 +37,6 @@ column_place columns name = position (λ c. is_int c.kind && bytes_eq c.name nam
 abbrev pub column_places : List Column → List (List ℕ) → Option (List ℕ)
 column_places columns [] = Some []
 column_places columns (name ∷ names) = option_and_then (λ place. option_map (λ places. place ∷ places) (column_places columns names)) (column_place columns name)
-
--- the number of an INT
-abbrev pub number : Value → ℤ
-number (Int z) = z
-number (Text t) = pos 0
 
 -- a number, with the values by which it is grouped
 abbrev pub Entry : Type 0

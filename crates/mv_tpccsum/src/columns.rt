@@ -1,8 +1,8 @@
 //! The numbers of tables that are found by name.
 
 ghost use Rattle.std.specs.Prelude.{◌≡◌, ◌≤ℤ◌, ◌+ℤ◌, ◌^◌, ◌-◌, neg_ℤ, pos, IfOk, map};
-ghost use Rattle.mv_values.specs.Columns.{column_of, columns_of};
-ghost use Rattle.mv_tpccsum.specs.Tables.{table_place, found_columns, found_rows, rows_of, is_int, column_place, column_places, number, entries, column, sum_of};
+ghost use Rattle.mv_values.specs.Columns.{column_of, columns_of, number};
+ghost use Rattle.mv_tpccsum.specs.Tables.{table_place, found_columns, found_rows, rows_of, is_int, column_place, column_places, entries, column, sum_of};
 ghost use Rattle.mv_tpccsum.specs.Grouping.{entries_of};
 
 use mv_values::copied::Copied;

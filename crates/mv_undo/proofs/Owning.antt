@@ -13,7 +13,7 @@ use Rattle.std.proofs.lemmas.List.Kept.{AllPairs-filter}
 use Rattle.mv_values.specs.declared.value.Value.{Value}
 use Rattle.mv_values.specs.declared.rows.Keyed.{Keyed}
 use Rattle.mv_values.specs.declared.pred.Pred.{Pred}
-use Rattle.mv_values.specs.Keys.{IsRising}
+use Rattle.mv_values.specs.Keys.{IsRising, keys}
 use Rattle.mv_values.specs.Order.{key_order}
 use Rattle.mv_values.specs.Patching.{row_of, placed}
 use Rattle.mv_values.specs.Preds.{admits}
@@ -129,9 +129,6 @@ gathered_row pred n (o ∷ os) found key h =
 
     touched : is_earlier_on n pred.table key o || touches pred.table key (earlier n os) ≡ touches pred.table key (earlier n (o ∷ os))
     touched = ap (λ b. is_earlier_on n pred.table key o || b) (sym (touches_earlier n pred.table key os)) ∙ touches_earlier n pred.table key (o ∷ os)
-
-abbrev pub keys : List Keyed → List (List Value)
-keys rows = map (λ item. item.key) rows
 
 rising_keys : (rows : List Keyed) → IsRising rows → AllPairs (λ a b. key_order a b ≡ Less) (keys rows)
 rising_keys rows h i j d lt within =

@@ -1,8 +1,7 @@
 use Rattle.std.proofs.Common.{rules, ◌≡◌, ◌+ℤ◌, ℤ, to_z, of_z, arith}
 use Rattle.std.proofs.lemmas.Int.{ints}
 use mir.Syntax.{w128}
-use Rattle.mv_values.specs.Columns.{column_of}
-use Rattle.mv_alone.specs.Value.{number}
+use Rattle.mv_values.specs.Columns.{column_of, number}
 use Rattle.mv_alone.proofs.Totalling.{sum_step}
 use Rattle.mv_alone.proofs.totals.sum_in.Goals as goal
 

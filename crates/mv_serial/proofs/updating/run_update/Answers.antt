@@ -2,8 +2,9 @@ use Rattle.std.proofs.lemmas.Result.{err_from_is_err_and}
 use Rattle.mv_values.specs.Tables.{key_columns, columns_at, rows_at}
 use Rattle.mv_alone.specs.Rows.{matching}
 use Rattle.mv_alone.specs.Changes.{set_row}
+use Rattle.mv_alone.proofs.Standing.{New}
 use Rattle.mv_serial.proofs.Lawful.{others_stay}
-use Rattle.mv_serial.proofs.Renewing.{New, renewals_make, renewals_fail, some_renewed}
+use Rattle.mv_serial.proofs.Renewing.{renewals_make, renewals_fail, some_renewed}
 use Rattle.mv_serial.proofs.Standing.{update_stands}
 use Rattle.mv_serial.proofs.Tabling.{updated_at, update_ok, update_fails}
 use Rattle.mv_serial.proofs.updating.run_update.Goals as goal

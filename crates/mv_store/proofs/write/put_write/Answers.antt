@@ -2,8 +2,7 @@ use Rattle.std.proofs.Common.{sym, ap, subst, ◌∙◌, Some}
 use Rattle.std.proofs.lemmas.Result.{on_ok_weaker, on_err_weaker}
 use Rattle.std.specs.Option.{OnSome}
 use Rattle.mv_table.specs.Lending.{HasItem}
-use Rattle.mv_chain.specs.Versions.{is_blank}
-use Rattle.mv_store.specs.Kept.{with_patch}
+use Rattle.mv_chain.specs.Versions.{is_blank, with_patch}
 use Rattle.mv_store.proofs.Done.{changed_there, changed_new}
 use Rattle.mv_store.proofs.Filled.{put_under, patch_fills, filled_but, filled_by, filled_put}
 use Rattle.mv_store.proofs.write.put_write.Goals as goal

@@ -1,5 +1,5 @@
 use Rattle.std.proofs.Common.{◌≡◌, ◌++◌}
-use Rattle.mv_undo.proofs.Owning.{keys}
+use Rattle.mv_values.specs.Keys.{keys}
 use Rattle.mv_undo.proofs.lookup.keys_of.Given as goal
 
 abbrev pub invariant-loop-item : goal.invariant-loop-item

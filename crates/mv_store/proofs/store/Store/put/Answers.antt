@@ -1,8 +1,9 @@
 use Rattle.std.proofs.Common.{◌≡◌, ◌<◌, ◌≤◌, length, refl, subst, ◌∷◌, [], slice_set, rules}
 use Rattle.std.proofs.lemmas.Result.{on_ok_weaker, on_err_weaker}
+use Rattle.mv_chain.specs.Versions.{with_patch}
 use Rattle.mv_store.specs.Stored.{Versioned}
 use Rattle.mv_store.specs.Changes.{HasPut, IsAsBefore}
-use Rattle.mv_store.specs.Kept.{entries_at, with_patch, AreFilled, IsChanged}
+use Rattle.mv_store.specs.Kept.{entries_at, AreFilled, IsChanged}
 use Rattle.mv_store.proofs.Done.{tables_changed}
 use Rattle.mv_store.proofs.Rows.{at_place}
 use Rattle.mv_store.proofs.Laws.{put_one, put_none, put_any, all_same}

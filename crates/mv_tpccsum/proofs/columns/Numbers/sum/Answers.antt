@@ -1,8 +1,7 @@
 use Rattle.std.proofs.Common.{rules, ◌≡◌, ◌+ℤ◌, ℤ, to_z, of_z, arith}
 use Rattle.std.proofs.lemmas.Int.{ints}
 use mir.Syntax.{w128}
-use Rattle.mv_values.specs.Columns.{column_of}
-use Rattle.mv_tpccsum.specs.Tables.{number}
+use Rattle.mv_values.specs.Columns.{column_of, number}
 use Rattle.mv_tpccsum.proofs.Loops.{number_at_place, sum_one}
 use Rattle.mv_tpccsum.proofs.columns.Numbers.sum.Goals as goal
 
