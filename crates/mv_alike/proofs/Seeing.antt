@@ -6,7 +6,7 @@ use Rattle.std.proofs.lemmas.Cmp.{tied_itself}
 use Rattle.std.proofs.lemmas.List.{get_or-set_other, length-set}
 use Rattle.std.specs.List.{filter, list_any}
 use Rattle.std.specs.Ordering.{is_eq}
-use Rattle.std.proofs.lemmas.Bool.{and_parts, not-false}
+use Rattle.std.proofs.lemmas.Bool.{and_parts, not-false, eqb-true}
 use Rattle.mv_values.specs.declared.value.Value.{Value}
 use Rattle.mv_values.specs.declared.value.Value.TheVariants.{Int}
 use Rattle.mv_values.specs.declared.pred.Pred.{Pred}
@@ -20,7 +20,7 @@ use Rattle.mv_values.specs.Order.{key_order}
 use Rattle.mv_values.specs.Patching.{with_columns, patched}
 use Rattle.mv_values.specs.Preds.{admits, names, sees}
 use Rattle.mv_values.proofs.KeyOrder.{key_order_total, tied}
-use Rattle.mv_record.specs.Writes.{is_on, writes_on, patched_by}
+use Rattle.mv_record.specs.Writes.{is_on, writes_on, patched_by, touches}
 use Rattle.mv_history.proofs.Alike.{alike_sees}
 use Rattle.mv_history.proofs.Listing.{same_is}
 use Rattle.mv_history.specs.declared.change.Change.{Change}
@@ -205,30 +205,23 @@ cols_then p (Some a) (Some b) None h k = absurd k
 cols_then p None (Some b) c h k = absurd h
 cols_then p (Some a) None c h k = absurd h
 
--- whether the call has written the key
-abbrev pub wrote : ℕ → List Value → List Write → Bool
-wrote t key ws = list_any (is_on t key) ws
-
 -- no change hits the predicate, by what the call wrote
 abbrev pub hits_by : List Write → Change → Pred → Bool
 hits_by ws c p =
-    (c.table == p.table) && (if wrote c.table c.key ws then admits p c.key && not (is_alike p c.before c.after) else not (is_same (sees p c.before) (sees p c.after)))
+    (c.table == p.table) && (if touches c.table c.key ws then admits p c.key && not (is_alike p c.before c.after) else not (is_same (sees p c.before) (sees p c.after)))
 
 -- of one change of the key
 unhit : (p : Pred) (key : List Value) (ws : List Write) (c : Change) → is_of p.table key c ≡ true → hits_by ws c p ≡ false
-    → (if wrote p.table key ws then admits p key && not (is_alike p c.before c.after) else not (is_same (sees p c.before) (sees p c.after))) ≡ false
+    → (if touches p.table key ws then admits p key && not (is_alike p c.before c.after) else not (is_same (sees p c.before) (sees p c.after))) ≡ false
 unhit p key ws c of' h =
     let both = and_parts (c.table == p.table) (is_eq (key_order c.key key)) of' in
-    let table : c.table ≡ p.table = same_number c.table p.table both.0 in
+    let table : c.table ≡ p.table = eqb-true c.table p.table both.0 in
     let at : c.key ≡ key = tied c.key key both.1 in
-    subst (λ k. (if wrote p.table k ws then admits p k && not (is_alike p c.before c.after) else not (is_same (sees p c.before) (sees p c.after))) ≡ false) at
-    (subst (λ t. (if wrote t c.key ws then admits p c.key && not (is_alike p c.before c.after) else not (is_same (sees p c.before) (sees p c.after))) ≡ false) table
-    (sym (ap (λ b. b && (if wrote c.table c.key ws then admits p c.key && not (is_alike p c.before c.after) else not (is_same (sees p c.before) (sees p c.after)))) both.0) ∙ h))
-  where
-    same_number : (a b : ℕ) → (a == b) ≡ true → a ≡ b
-    same_number a b h = grind (arith, eqb_tells)
+    subst (λ k. (if touches p.table k ws then admits p k && not (is_alike p c.before c.after) else not (is_same (sees p c.before) (sees p c.after))) ≡ false) at
+    (subst (λ t. (if touches t c.key ws then admits p c.key && not (is_alike p c.before c.after) else not (is_same (sees p c.before) (sees p c.after))) ≡ false) table
+    (sym (ap (λ b. b && (if touches c.table c.key ws then admits p c.key && not (is_alike p c.before c.after) else not (is_same (sees p c.before) (sees p c.after)))) both.0) ∙ h))
 
-seen_through : (p : Pred) (key : List Value) (ws : List Write) (cs : List Change) (a b : Option (List Value)) → wrote p.table key ws ≡ false → Each (λ c. hits_by ws c p ≡ false) cs
+seen_through : (p : Pred) (key : List Value) (ws : List Write) (cs : List Change) (a b : Option (List Value)) → touches p.table key ws ≡ false → Each (λ c. hits_by ws c p ≡ false) cs
     → Leads (filter (is_of p.table key) cs) a b → sees p a ≡ sees p b
 seen_through p key ws [] a b w h l = ap (sees p) l
 seen_through p key ws (c ∷ cs) a b w h l = by (λ a l. seen_through p key ws cs a b w h.1 l) (is_of p.table key c) refl l
@@ -241,7 +234,7 @@ seen_through p key ws (c ∷ cs) a b w h l = by (λ a l. seen_through p key ws c
         let same : sees p c.before ≡ sees p c.after = same_is (sees p c.before) (sees p c.after) (not-false (is_same (sees p c.before) (sees p c.after)) (sym (ap (λ b. if b then admits p key && not (is_alike p c.before c.after) else not (is_same (sees p c.before) (sees p c.after))) w) ∙ no)) in
         ap (sees p) (sym l.0) ∙ (same ∙ go c.after l.1)
 
-cols_through : (p : Pred) (key : List Value) (ws : List Write) (cs : List Change) (a b : Option (List Value)) → wrote p.table key ws ≡ true → admits p key ≡ true → Each (λ c. hits_by ws c p ≡ false) cs
+cols_through : (p : Pred) (key : List Value) (ws : List Write) (cs : List Change) (a b : Option (List Value)) → touches p.table key ws ≡ true → admits p key ≡ true → Each (λ c. hits_by ws c p ≡ false) cs
     → Leads (filter (is_of p.table key) cs) a b → ColsAlike p a b
 cols_through p key ws [] a b w adm h l = subst (ColsAlike p a) l ((alike_self p a).0)
 cols_through p key ws (c ∷ cs) a b w adm h l = by (λ a l. cols_through p key ws cs a b w adm h.1 l) (is_of p.table key c) refl l
@@ -255,20 +248,20 @@ cols_through p key ws (c ∷ cs) a b w adm h l = by (λ a l. cols_through p key 
         (sym (ap (λ b. if b then admits p key && not (is_alike p c.before c.after) else not (is_same (sees p c.before) (sees p c.after))) w ∙ ap (λ b. b && not (is_alike p c.before c.after)) adm) ∙ no)) in
         cols_then p a c.after b (subst (λ r. ColsAlike p r c.after) l.0 same) (go c.after l.1)
 
-none_on : (t : ℕ) (key : List Value) (ws : List Write) → wrote t key ws ≡ false → writes_on t key ws ≡ []
+none_on : (t : ℕ) (key : List Value) (ws : List Write) → touches t key ws ≡ false → writes_on t key ws ≡ []
 none_on t key [] h = refl
 none_on t key (w ∷ ws) h = by (λ k. none_on t key ws k) (is_on t key w) h
   where
-    by : (wrote t key ws ≡ false → writes_on t key ws ≡ []) → (b : Bool) → (b || wrote t key ws) ≡ false → cond b (w ∷ writes_on t key ws) (writes_on t key ws) ≡ []
+    by : (touches t key ws ≡ false → writes_on t key ws ≡ []) → (b : Bool) → (b || touches t key ws) ≡ false → cond b (w ∷ writes_on t key ws) (writes_on t key ws) ≡ []
     by go true k = cc
     by go false k = go k
 
 -- one key that the predicate admits
 pub key_seen : (p : Pred) (key : List Value) (vs ws : List Write) (cs : List Change) (a b : Option (List Value)) → admits p key ≡ true → Merged p vs ws → Each (λ c. hits_by vs c p ≡ false) cs
     → Leads (filter (is_of p.table key) cs) a b → LongAlike a b → sees p (patched_by (writes_on p.table key vs) a) ≡ sees p (patched_by (writes_on p.table key ws) b)
-key_seen p key vs ws cs a b adm m h l long = by (wrote p.table key vs) refl
+key_seen p key vs ws cs a b adm m h l long = by (touches p.table key vs) refl
   where
-    by : (t : Bool) → wrote p.table key vs ≡ t → sees p (patched_by (writes_on p.table key vs) a) ≡ sees p (patched_by (writes_on p.table key ws) b)
+    by : (t : Bool) → touches p.table key vs ≡ t → sees p (patched_by (writes_on p.table key vs) a) ≡ sees p (patched_by (writes_on p.table key ws) b)
     by true w = sees_alike p (patched_by (writes_on p.table key vs) a) (patched_by (writes_on p.table key ws) b) (merged_alike p key vs ws adm m a b (cols_through p key vs cs a b w adm h l, long)).0
     by false w =
         let none : writes_on p.table key vs ≡ [] = none_on p.table key vs w in

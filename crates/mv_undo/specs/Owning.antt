@@ -11,6 +11,7 @@ use Rattle.mv_values.specs.Preds.{admits}
 use Rattle.mv_record.specs.declared.record.Record.{Record}
 use Rattle.mv_record.specs.Runs.{writes_in}
 use Rattle.mv_record.specs.Writes.{is_on}
+pub use Rattle.mv_record.specs.Writes.{touches}
 use Rattle.mv_undo.specs.declared.owned.Owned.{Owned}
 
 -- the numbers never decrease
@@ -32,10 +33,6 @@ HasWritesOf undo records = (number : ℕ) → number ≤ length records → earl
 -- a write to this key of this table, by a record with a smaller number
 abbrev pub is_earlier_on : ℕ → ℕ → List Value → Owned → Bool
 is_earlier_on number t key o = nat_lt o.number number && is_on t key o.write
-
--- some write is to this key of this table
-abbrev pub touches : ℕ → List Value → List Write → Bool
-touches t key ws = list_any (is_on t key) ws
 
 -- some write is to this key of the predicate's table, and the predicate admits the key
 abbrev pub is_sought : Pred → List Write → List Value → Bool
