@@ -21,6 +21,7 @@ use Rattle.mv_values.specs.Patching.{with_columns, patched}
 use Rattle.mv_values.specs.Preds.{admits, names, sees}
 use Rattle.mv_values.proofs.KeyOrder.{key_order_total, tied}
 use Rattle.mv_record.specs.Writes.{is_on, writes_on, patched_by, touches}
+use Rattle.mv_record.proofs.Patching.{none_on}
 use Rattle.mv_history.proofs.Alike.{alike_sees}
 use Rattle.mv_history.proofs.Listing.{same_is}
 use Rattle.mv_history.specs.declared.change.Change.{Change}
@@ -247,14 +248,6 @@ cols_through p key ws (c ∷ cs) a b w adm h l = by (λ a l. cols_through p key 
         let same : ColsAlike p c.before c.after = alike_is p c.before c.after (not-false (is_alike p c.before c.after)
         (sym (ap (λ b. if b then admits p key && not (is_alike p c.before c.after) else not (is_same (sees p c.before) (sees p c.after))) w ∙ ap (λ b. b && not (is_alike p c.before c.after)) adm) ∙ no)) in
         cols_then p a c.after b (subst (λ r. ColsAlike p r c.after) l.0 same) (go c.after l.1)
-
-none_on : (t : ℕ) (key : List Value) (ws : List Write) → touches t key ws ≡ false → writes_on t key ws ≡ []
-none_on t key [] h = refl
-none_on t key (w ∷ ws) h = by (λ k. none_on t key ws k) (is_on t key w) h
-  where
-    by : (touches t key ws ≡ false → writes_on t key ws ≡ []) → (b : Bool) → (b || touches t key ws) ≡ false → cond b (w ∷ writes_on t key ws) (writes_on t key ws) ≡ []
-    by go true k = cc
-    by go false k = go k
 
 -- one key that the predicate admits
 pub key_seen : (p : Pred) (key : List Value) (vs ws : List Write) (cs : List Change) (a b : Option (List Value)) → admits p key ≡ true → Merged p vs ws → Each (λ c. hits_by vs c p ≡ false) cs

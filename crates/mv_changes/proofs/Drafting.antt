@@ -24,7 +24,7 @@ use Rattle.mv_values.proofs.Deciding.{or_none}
 use Rattle.mv_record.specs.declared.record.Record.{Record}
 use Rattle.mv_record.specs.Runs.{writes_in}
 use Rattle.mv_record.specs.Writes.{AreRising, is_on, writes_on, patched_by}
-use Rattle.mv_record.proofs.Patching.{row_applied, rising_applied, length_applied, applied_append}
+use Rattle.mv_record.proofs.Patching.{row_applied, rising_applied, length_applied, applied_append, none_on}
 use Rattle.mv_table.specs.Entries.{item_of, put_by, with_item, KeysRise}
 use Rattle.mv_undo.specs.Owning.{touches}
 use Rattle.mv_history.specs.declared.change.Change.{Change}
@@ -71,14 +71,6 @@ off w t key h = by (is_on t key w) refl
 
 touches_more : (ws : List Write) (w : Write) (t : ℕ) (key : List Value) (b : Bool) → is_on t key w ≡ b → touches t key (ws ++ w ∷ []) ≡ (touches t key ws || b)
 touches_more ws w t key b h = list_any-append (is_on t key) ws (w ∷ []) ∙ (ap (λ x. touches t key ws || (x || false)) h ∙ ap (λ x. touches t key ws || x) (or_none b))
-
-none_on : (t : ℕ) (key : List Value) (ws : List Write) → touches t key ws ≡ false → writes_on t key ws ≡ []
-none_on t key [] h = refl
-none_on t key (w ∷ ws) h = by (none_on t key ws) (is_on t key w) h
-  where
-    by : (touches t key ws ≡ false → writes_on t key ws ≡ []) → (b : Bool) → (b || touches t key ws) ≡ false → cond b (w ∷ writes_on t key ws) (writes_on t key ws) ≡ []
-    by go true k = cc
-    by go false k = go k
 
 -- the row of a key that no write has
 unwritten : (ws : List Write) (db : Tables) (t : ℕ) (key : List Value) → t < length db → AreRising db → touches t key ws ≡ false → row_of (rows_at (applied ws db) t) key ≡ row_of (rows_at db t) key

@@ -42,7 +42,7 @@ only_open w n s (e ∷ es) h = ap (λ o. or_refused n o (wrong_from w (n + 1) (a
 
 -- Numbers and calls
 
-length_numbers : (n : ℕ) → length (first_numbers n) ≡ n
+pub length_numbers : (n : ℕ) → length (first_numbers n) ≡ n
 length_numbers zero = refl
 length_numbers (suc n) = let l = length-append (first_numbers n) (n ∷ []) in let k = length_numbers n in omega (arith, l, k)
 

@@ -1,6 +1,6 @@
 -- What patches do to rows whose keys rise, and writes to a database.
 use Rattle.std.proofs.Common.{◌≡◌, ◌<◌, ◌≤◌, ℕ, zero, suc, Bool, true, false, cond, List, [], ◌∷◌, ◌++◌, Option, Some, None, length, refl, sym, ap, subst, ◌∙◌, arith, ◌+◌, Result, Ok, Err, MatchResult}
-use Rattle.std.specs.Prelude.{◌↔◌, Contains, ◌==◌, ◌&&◌, slice_index_or, slice_get, slice_set, All, insert, remove}
+use Rattle.std.specs.Prelude.{◌↔◌, Contains, ◌==◌, ◌&&◌, slice_index_or, slice_get, slice_set, All, insert, remove, ◌||◌}
 use Rattle.std.specs.List.{filter}
 use Rattle.std.specs.Ordering.{is_eq}
 use Rattle.std.specs.declared.cmp.Ordering.{Ordering}
@@ -20,7 +20,7 @@ use Rattle.mv_values.specs.Patching.{row_of, patched, standing, placed, patched_
 use Rattle.mv_values.specs.Preds.{matches, matched}
 use Rattle.mv_values.specs.Tables.{rows_at}
 use Rattle.mv_values.proofs.KeyOrder.{exact_keys, tied, same_key, turned}
-use Rattle.mv_record.specs.Writes.{is_on, writes_on, patched_by, AreRising}
+use Rattle.mv_record.specs.Writes.{is_on, writes_on, patched_by, AreRising, touches}
 use Rattle.mv_record.proofs.Rising.{Above, Rises, rises_from, rising_from, lower, row_here, row_later, row_below, same_rows, filter_rises, matching_row, stands_found, found_stands}
 
 -- A row put under a key
@@ -144,6 +144,14 @@ applied_append (v ∷ vs) ws db = applied_append vs ws (written v db)
 
 pub writes_append : (t : ℕ) (key : List Value) (vs ws : List Write) → writes_on t key (vs ++ ws) ≡ writes_on t key vs ++ writes_on t key ws
 writes_append t key vs ws = filter-append (is_on t key) vs ws
+
+pub none_on : (t : ℕ) (key : List Value) (ws : List Write) → touches t key ws ≡ false → writes_on t key ws ≡ []
+none_on t key [] h = refl
+none_on t key (w ∷ ws) h = by (none_on t key ws) (is_on t key w) h
+  where
+    by : (touches t key ws ≡ false → writes_on t key ws ≡ []) → (b : Bool) → (b || touches t key ws) ≡ false → cond b (w ∷ writes_on t key ws) (writes_on t key ws) ≡ []
+    by go true k = cc
+    by go false k = go k
 
 pub patched_append : (vs ws : List Write) (was : Option (List Value)) → patched_by (vs ++ ws) was ≡ patched_by ws (patched_by vs was)
 patched_append [] ws was = refl

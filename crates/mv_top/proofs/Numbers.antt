@@ -18,13 +18,6 @@ pub first_numbers_are : (n : ℕ) → first_numbers n ≡ numbers_from 0 n
 first_numbers_are zero = refl
 first_numbers_are (suc n) = ap (λ ms. ms ++ n ∷ []) (first_numbers_are n) ∙ (ap (λ m. numbers_from 0 n ++ m ∷ []) (sym (zero-add n)) ∙ numbers_last 0 n)
 
-length_from : (a n : ℕ) → length (numbers_from a n) ≡ n
-length_from a zero = refl
-length_from a (suc n) = ap suc (length_from (a + 1) n)
-
-pub length_numbers : (n : ℕ) → length (first_numbers n) ≡ n
-length_numbers n = ap length (first_numbers_are n) ∙ length_from 0 n
-
 index_from : (a n k : ℕ) → k < n → slice_index (numbers_from a n) k ≡ a + k
 index_from a zero k lt = absurd (omega arith)
 index_from a (suc n) zero lt = sym (add-zero a)
