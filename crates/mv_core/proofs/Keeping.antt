@@ -111,6 +111,11 @@ kept_begun s order low n ps journal longer q k lt is fresh adds = (free, kept_ev
   by d x (inl h) = k.tells d x h
   by d x (inr h) = subst (TellsCall (work_of s) order d) h.1 (tells d)
 
+pub same_calls : (ps : List Progress) (c : ℕ) (p q : Progress) → slice_get ps c ≡ Some p → live_of q ≡ live_of p → map live_of (slice_set ps c q) ≡ map live_of ps
+same_calls [] c p q at new = refl
+same_calls (x ∷ ps) zero p q at new = let one : x ≡ p = search (rules, at) in ap (λ l. l ∷ map live_of ps) (new ∙ ap live_of (sym one))
+same_calls (x ∷ ps) (suc c) p q at new = ap (λ ls. live_of x ∷ ls) (same_calls ps c p q at new)
+
 -- no event, and nothing that is told is changed
 pub kept_same : (s : Script) (order orders : List ℕ) (low c : ℕ) (ps : List Progress) (journal same : List Event) (p q : Progress)
     → IsKept s (the_course order low (map live_of ps)) ps journal → orders ≡ order → same ≡ journal → slice_get ps c ≡ Some p → live_of q ≡ live_of p → TellsCall (work_of s) order c q
@@ -120,14 +125,9 @@ kept_same s order orders low c ps journal same p q k o j at new tells =
     (subst (λ (x : List Event). IsKept s (the_course order low (map live_of (slice_set ps c q))) (slice_set ps c q) x) (sym j) (record {
       few = k.few;
       allowed = k.allowed;
-      reaches = ap (the_course order low) (set_back ps c p q at new) ∙ k.reaches;
+      reaches = ap (the_course order low) (same_calls ps c p q at new) ∙ k.reaches;
       tells = λ d x there. by d x (get_set ps c d q x there);
     })) where
-      set_back : (ps : List Progress) (c : ℕ) (p q : Progress) → slice_get ps c ≡ Some p → live_of q ≡ live_of p → map live_of (slice_set ps c q) ≡ map live_of ps
-      set_back [] c p q at new = refl
-      set_back (x ∷ ps) zero p q at new = let one : x ≡ p = search (rules, at) in ap (λ l. l ∷ map live_of ps) (new ∙ ap live_of (sym one))
-      set_back (x ∷ ps) (suc c) p q at new = ap (λ ls. live_of x ∷ ls) (set_back ps c p q at new)
-
       by : (d : ℕ) (x : Progress) → ((d ≡ c) × (q ≡ x)) ⊎ ((d ≡ c → ⊥) × (slice_get ps d ≡ Some x)) → TellsCall (work_of s) order d x
       by d x (inl h) = subst (λ n. TellsCall (work_of s) order n x) (sym h.0) (subst (TellsCall (work_of s) order c) h.1 tells)
       by d x (inr h) = k.tells d x h.1
@@ -490,11 +490,6 @@ rounds_committed s order low c ps journal own p k at silent has number = by own 
     left = ap (λ rs. rs ++ record { start = length order; count = Some n; mark = Exclusive } ∷ []) (full ∙ ap (rounds_of (work_of s) longer c) known.turns)
 
 -- What is as before
-
-pub same_calls : (ps : List Progress) (c : ℕ) (p q : Progress) → slice_get ps c ≡ Some p → live_of q ≡ live_of p → map live_of (slice_set ps c q) ≡ map live_of ps
-same_calls [] c p q at new = refl
-same_calls (x ∷ ps) zero p q at new = let one : x ≡ p = search (rules, at) in ap (λ l. l ∷ map live_of ps) (new ∙ ap live_of (sym one))
-same_calls (x ∷ ps) (suc c) p q at new = ap (λ ls. live_of x ∷ ls) (same_calls ps c p q at new)
 
 pub kept_same_told : (s : Script) (order orders : List ℕ) (low c : ℕ) (ps : List Progress) (journal same : List Event) (p q : Progress)
     → IsKept s (the_course order low (map live_of ps)) ps journal → orders ≡ order → same ≡ journal → slice_get ps c ≡ Some p → live_of q ≡ live_of p → q.rounds.items ≡ p.rounds.items → q.reply ≡ p.reply
