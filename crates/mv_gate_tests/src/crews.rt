@@ -4,18 +4,12 @@ ghost use Rattle.std.specs.Prelude.{◌<◌, ◌≤◌};
 
 use crate::records::{Overtaking, Record, are_in_turn, are_points_of, letters_of};
 use crate::scripts::{CASES, Case, run_by, run_plainly, script_of};
+use mv_cases::accounts::TRANSFERS;
+use mv_cases::ensure::ensure;
 use std::alloc::Global;
 use std::sync::Wait;
 use std::test::Fail;
 use std::thread::Threads;
-
-/// Fails with the text of a case unless the condition holds.
-fn ensure(alloc: Global, holds: bool, case: &str) -> Result<(), Fail> {
-    if holds {
-        return Ok(());
-    }
-    Err(String::from_str(alloc, case)?.into())
-}
 
 /// Checks that one worker leaves the text that the calls leave without a gate, and tells the pace of each call in turn. A
 /// worker that gave its calls up would leave the same text, since the gate commits what is left. The pace would miss it.
@@ -77,11 +71,7 @@ fn two_workers_commit_each_call_once(rt: HostRuntime) -> Result<(), Fail> {
 
 /// Two calls with a common row, and their letters when call 1 overtakes call 0, which is then repaired.
 const OVERTAKEN: (Case, &str, &str) = (
-    (
-        "an overtaken call",
-        "CALL transfer(1, 2, 10); CALL transfer(3, 4, 10);",
-        1,
-    ),
+    ("an overtaken call", TRANSFERS, 1),
     "BRRRRRTTA",
     "BRRRRRTA",
 );

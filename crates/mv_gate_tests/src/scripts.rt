@@ -5,6 +5,7 @@ ghost use Rattle.mv_accept.specs.Accepting.{most_calls};
 ghost use Rattle.mv_core.specs.Scripts.{IsScript};
 
 use mv_accept::accept::accept;
+use mv_cases::accounts::{ADD, OTHERS};
 use mv_core::runs::run_in_turn;
 use mv_edge::pace::Pace;
 use mv_gate::gate;
@@ -18,24 +19,8 @@ use std::sync::Wait;
 use std::test::Fail;
 use std::thread::Threads;
 
-/// The table of accounts, and its procedures.
-const ACCOUNTS: &str = "CREATE TABLE acc (id INT, bal INT, note TEXT(20), PRIMARY KEY (id))
-  VALUES (0, 0, ''), (1, 100, ''), (2, 100, ''), (3, 100, ''), (4, 100, '');
-CREATE PROCEDURE add (:a INT, :x INT) DECLARE :b = 0; BEGIN
-  SELECT bal INTO :b FROM acc WHERE id = :a;  SET :b = :b + :x;
-  UPDATE acc SET bal = :b WHERE id = :a;  PRINT :b;  END;
-CREATE PROCEDURE transfer (:a INT, :c INT, :x INT) DECLARE :b = 0; BEGIN
-  SELECT bal INTO :b FROM acc WHERE id = :a;
-  IF :b < :x THEN ROLLBACK 'no funds'; END IF;
-  UPDATE acc SET bal = bal - :x WHERE id = :a;
-  UPDATE acc SET bal = bal + :x WHERE id = :c;
-  UPDATE acc SET bal = bal + 1 WHERE id = 0;  END;
-CREATE PROCEDURE put (:k INT, :v INT) BEGIN
-  INSERT INTO acc VALUES (:k, :v, '');  END;
-CREATE PROCEDURE rich () DECLARE :n = 0; BEGIN
-  SELECT COUNT(*) INTO :n FROM acc WHERE bal >= 100;  PRINT :n;  END;
-CREATE PROCEDURE rest () BEGIN END;
-";
+/// A procedure without statements.
+const REST: &str = "CREATE PROCEDURE rest () BEGIN END;\n";
 
 /// What a case shows, a text of calls, and how often it is repeated.
 pub(crate) type Case = (&'static str, &'static str, u32);
@@ -84,7 +69,9 @@ pub(crate) const CASES: &[Case] = &[
 /// Returns the script of a case.
 pub(crate) fn script_of(alloc: Global, case: &Case) -> Result<String, Fail> {
     let (_, calls, times) = *case;
-    let mut script = String::from_str(alloc, ACCOUNTS)?;
+    let mut script = String::from_str(alloc, ADD)?;
+    script.push_str(OTHERS)?;
+    script.push_str(REST)?;
     for _ in 0..times {
         script.push_str(calls)?;
     }

@@ -1,14 +1,15 @@
 //! A call after the commit of another one: which record is hit, by which commit, and what its rounds execute.
 
-use crate::commands::{ADD, OTHERS};
-use crate::crews::TRANSFERS;
-use crate::whole::{ensure, joined};
+use crate::whole::joined;
 use mv_accept::accept::accept;
+use mv_cases::accounts::{ADD, OTHERS, TRANSFERS};
+use mv_cases::ensure::ensure;
 use mv_core::drive::{DriveFault, drive};
 use mv_core::engine::{Attempt, Core};
 use mv_journal::event::Event;
 use mv_top::script::{Prepared, prepare};
 use mv_values::calls::Options;
+use mv_values::list::List;
 use mv_values::memory::NoMemory;
 use std::alloc::Global;
 use std::test::Fail;
@@ -26,56 +27,48 @@ CREATE PROCEDURE sd () DECLARE :n = 0; BEGIN
   PRINT :n;  END;
 ";
 
+/// The first events of a journal, the number of statements of call 1 after them, and the last events.
+type Steps = (&'static [Event], u32, &'static [Event]);
+
+/// Returns the events of a journal.
+fn listed(alloc: Global, steps: &Steps) -> Result<List<Event>, NoMemory> {
+    let (first, count, last) = *steps;
+    let mut events = List::new(alloc);
+    events.append(first)?;
+    for _ in 0..count {
+        events.push(Event::S(1))?;
+    }
+    events.append(last)?;
+    Ok(events)
+}
+
+/// Both calls begin, and call 0 commits.
+const OVERTAKEN: &[Event] = &[Event::B(0), Event::B(1), Event::C(0)];
+
+/// Both calls begin, and call 1 executes a statement before call 0 commits.
+const OVERTAKEN_LATER: &[Event] = &[Event::B(0), Event::B(1), Event::S(1), Event::C(0)];
+
 /// What a case shows, the procedures and the calls of its script, the events before the attempt, and the record of call 1
 /// that commit 1 hits.
-type Case = (&'static str, [&'static str; 3], &'static [Event], usize);
-
-/// Both calls begin, call 0 commits, and call 1 executes all its four statements.
-const FOUR_STEPS: &[Event] = &[
-    Event::B(0),
-    Event::B(1),
-    Event::C(0),
-    Event::S(1),
-    Event::S(1),
-    Event::S(1),
-    Event::S(1),
-];
-
-/// Both calls begin, call 1 executes its count before the commit of call 0, and its other statement after it.
-const STEPS_AROUND: &[Event] = &[
-    Event::B(0),
-    Event::B(1),
-    Event::S(1),
-    Event::C(0),
-    Event::S(1),
-];
-
-/// Both calls begin, call 0 commits, and call 1 executes two of its three statements.
-const TWO_STEPS: &[Event] = &[
-    Event::B(0),
-    Event::B(1),
-    Event::C(0),
-    Event::S(1),
-    Event::S(1),
-];
+type Case = (&'static str, [&'static str; 3], Steps, usize);
 
 const CASES: &[Case] = &[
     (
         "a row that was read has changed",
         [ADD, OTHERS, "CALL add(1, 5); CALL add(1, 7);"],
-        FOUR_STEPS,
+        (OVERTAKEN, 4, &[]),
         0,
     ),
     (
         "a new row passes the test of a count",
         [ADD, OTHERS, "CALL put(7, 100); CALL rich();"],
-        STEPS_AROUND,
+        (OVERTAKEN_LATER, 1, &[]),
         0,
     ),
     (
         "the call's own write makes a changed row count",
         [MARKS, MARKING, "CALL se(); CALL sd();"],
-        TWO_STEPS,
+        (OVERTAKEN, 2, &[]),
         1,
     ),
 ];
@@ -117,9 +110,10 @@ fn attempt_after(
     Ok(Some(core.attempt(alloc, 1)?))
 }
 
-fn hits(alloc: Global, parts: &[&str], events: &[Event], record: usize) -> Result<bool, Fail> {
+fn hits(alloc: Global, parts: &[&str], steps: &Steps, record: usize) -> Result<bool, Fail> {
     let script = joined(alloc, parts)?;
-    match attempt_after(alloc, script.as_str(), events)? {
+    let events = listed(alloc, steps)?;
+    match attempt_after(alloc, script.as_str(), events.as_slice())? {
         Some(Attempt::Hit { number, commit }) => Ok(number == record && commit == 1),
         _ => Ok(false),
     }
@@ -128,8 +122,8 @@ fn hits(alloc: Global, parts: &[&str], events: &[Event], record: usize) -> Resul
 #[test]
 fn an_attempt_names_the_first_record_that_is_hit(rt: HostRuntime) -> Result<(), Fail> {
     let alloc = rt.alloc();
-    for (what, parts, events, record) in CASES {
-        let holds = hits(alloc, parts, events, *record)?;
+    for (what, parts, steps, record) in CASES {
+        let holds = hits(alloc, parts, steps, *record)?;
         ensure(alloc, holds, what)?;
     }
     Ok(())
@@ -137,56 +131,27 @@ fn an_attempt_names_the_first_record_that_is_hit(rt: HostRuntime) -> Result<(), 
 
 /// What a case shows, the events of two transfers that share one account, and the number of records that the last round
 /// of call 1 has executed. There is none while a statement of the call is left.
-type Round = (&'static str, &'static [Event], Option<usize>);
+type Round = (&'static str, Steps, Option<usize>);
 
 const ROUNDS: &[Round] = &[
-    (
-        "no statement has run",
-        &[Event::B(0), Event::B(1), Event::C(0)],
-        None,
-    ),
-    ("statements are left", FOUR_STEPS, None),
-    ("all statements have run", FIVE_STEPS, Some(5)),
+    ("no statement has run", (OVERTAKEN, 0, &[]), None),
+    ("statements are left", (OVERTAKEN, 4, &[]), None),
+    ("all statements have run", (OVERTAKEN, 5, &[]), Some(5)),
     (
         "a repair executes what depends on the commit",
-        REPAIRED,
+        (OVERTAKEN, 5, &[Event::A(1)]),
         Some(1),
     ),
     (
         "a repair executes the rest of the call first",
-        &[Event::B(0), Event::B(1), Event::C(0), Event::A(1)],
+        (OVERTAKEN, 0, &[Event::A(1)]),
         Some(1),
     ),
     (
         "a move executes all statements",
-        &[Event::B(0), Event::B(1), Event::C(0), Event::M(1)],
+        (OVERTAKEN, 0, &[Event::M(1)]),
         Some(5),
     ),
-];
-
-/// Both calls begin, call 0 commits, and call 1 executes all its five statements.
-const FIVE_STEPS: &[Event] = &[
-    Event::B(0),
-    Event::B(1),
-    Event::C(0),
-    Event::S(1),
-    Event::S(1),
-    Event::S(1),
-    Event::S(1),
-    Event::S(1),
-];
-
-/// The same, and call 1 is repaired.
-const REPAIRED: &[Event] = &[
-    Event::B(0),
-    Event::B(1),
-    Event::C(0),
-    Event::S(1),
-    Event::S(1),
-    Event::S(1),
-    Event::S(1),
-    Event::S(1),
-    Event::A(1),
 ];
 
 /// Returns the number of records that the last round of call 1 of the script has executed after these events. Returns
@@ -212,8 +177,9 @@ fn executed_after(
 fn a_round_has_its_number_once_its_statements_have_run(rt: HostRuntime) -> Result<(), Fail> {
     let alloc = rt.alloc();
     let script = joined(alloc, &[ADD, OTHERS, TRANSFERS])?;
-    for (what, events, executed) in ROUNDS {
-        let holds = executed_after(alloc, script.as_str(), events)? == *executed;
+    for (what, steps, executed) in ROUNDS {
+        let events = listed(alloc, steps)?;
+        let holds = executed_after(alloc, script.as_str(), events.as_slice())? == *executed;
         ensure(alloc, holds, what)?;
     }
     Ok(())

@@ -1,6 +1,7 @@
 //! Whole runs of the commands: scripts of accounts, refusals, wrong words, and sources and sinks that fail.
 
-use crate::whole::{SOUND, answers, joined, refuses, runs};
+use crate::whole::{SOUND, answers, joined, run_text, runs};
+use mv_cases::accounts::{ADD, OTHERS};
 use mv_top::status::Status;
 use mv_values::list::List;
 use std::alloc::Global;
@@ -8,39 +9,10 @@ use std::sync::Wait;
 use std::test::Fail;
 use std::thread::Threads;
 
-/// The table of accounts, and the procedure `add`.
-pub(crate) const ADD: &str = "CREATE TABLE acc (id INT, bal INT, note TEXT(20), PRIMARY KEY (id))
-  VALUES (0, 0, ''), (1, 100, ''), (2, 100, ''), (3, 100, ''), (4, 100, '');
-CREATE PROCEDURE add (:a INT, :x INT) DECLARE :b = 0; BEGIN
-  SELECT bal INTO :b FROM acc WHERE id = :a;  SET :b = :b + :x;
-  UPDATE acc SET bal = :b WHERE id = :a;  PRINT :b;  END;
-";
+/// The accounts before any call.
+const OPENING: &str = "table acc\n0,0,\n1,100,\n2,100,\n3,100,\n4,100,\n";
 
-/// More procedures on the accounts.
-pub(crate) const OTHERS: &str =
-    "CREATE PROCEDURE transfer (:a INT, :c INT, :x INT) DECLARE :b = 0; BEGIN
-  SELECT bal INTO :b FROM acc WHERE id = :a;
-  IF :b < :x THEN ROLLBACK 'no funds'; END IF;
-  UPDATE acc SET bal = bal - :x WHERE id = :a;
-  UPDATE acc SET bal = bal + :x WHERE id = :c;
-  UPDATE acc SET bal = bal + 1 WHERE id = 0;  END;
-CREATE PROCEDURE mark (:a INT, :t TEXT(20)) BEGIN
-  UPDATE acc SET note = :t WHERE id = :a;  END;
-CREATE PROCEDURE put (:k INT, :v INT) BEGIN
-  INSERT INTO acc VALUES (:k, :v, '');  END;
-CREATE PROCEDURE rich () DECLARE :n = 0; BEGIN
-  SELECT COUNT(*) INTO :n FROM acc WHERE bal >= 100;  PRINT :n;  END;
-CREATE PROCEDURE tell () DECLARE :b = 0; DECLARE :x = 0; DECLARE :z = 0; BEGIN
-  SELECT bal INTO :b FROM acc WHERE id = 1;
-  IF :b > 100 THEN SET :x = 1; END IF;
-  SELECT bal INTO :z FROM acc WHERE id = 2;  PRINT :x;  PRINT :z;  END;
-";
-
-/// The text of the accounts before any call, and the end line.
-const OPENING: &str = "table acc\n0,0,\n1,100,\n2,100,\n3,100,\n4,100,\nend\n";
-
-/// What a case shows, its calls, and the parts of its text: the replies, the history, the journal's lines, and the
-/// accounts with the end line.
+/// What a case shows, its calls, and the parts of its text: the replies, the history, the journal and the table.
 type Run = [&'static str; 6];
 
 const RUNS: &[Run] = &[
@@ -48,23 +20,23 @@ const RUNS: &[Run] = &[
         "one call",
         "CALL add(1, 5);",
         "reply 0 done\n105\n",
-        "history\n1 0 starts 0 runs 4\n",
+        "1 0 starts 0 runs 4\n",
         "B 0\nC 0\n",
-        "table acc\n0,0,\n1,105,\n2,100,\n3,100,\n4,100,\nend\n",
+        "table acc\n0,0,\n1,105,\n2,100,\n3,100,\n4,100,\n",
     ],
     [
         "two calls on one row",
         "CALL add(1, 5); CALL add(1, 7);",
         "reply 0 done\n105\nreply 1 done\n112\n",
-        "history\n1 0 starts 0 runs 4\n2 1 starts 1 runs 4\n",
+        "1 0 starts 0 runs 4\n2 1 starts 1 runs 4\n",
         "B 0\nC 0\nB 1\nC 1\n",
-        "table acc\n0,0,\n1,112,\n2,100,\n3,100,\n4,100,\nend\n",
+        "table acc\n0,0,\n1,112,\n2,100,\n3,100,\n4,100,\n",
     ],
     [
         "no such row",
         "CALL add(9, 5);",
         "reply 0 done\n5\n",
-        "history\n1 0 starts 0 runs 4\n",
+        "1 0 starts 0 runs 4\n",
         "B 0\nC 0\n",
         OPENING,
     ],
@@ -72,7 +44,7 @@ const RUNS: &[Run] = &[
         "overflow rolls back",
         "CALL add(1, 9223372036854775807);",
         "reply 0 rolled back overflow\n",
-        "history\n1 0 starts 0 runs 2\n",
+        "1 0 starts 0 runs 2\n",
         "B 0\nC 0\n",
         OPENING,
     ],
@@ -80,75 +52,75 @@ const RUNS: &[Run] = &[
         "negative numbers",
         "call ADD ( - 1 , 5 ) ; -- no such row\nCALL add(0, -7);",
         "reply 0 done\n5\nreply 1 done\n-7\n",
-        "history\n1 0 starts 0 runs 4\n2 1 starts 1 runs 4\n",
+        "1 0 starts 0 runs 4\n2 1 starts 1 runs 4\n",
         "B 0\nC 0\nB 1\nC 1\n",
-        "table acc\n0,-7,\n1,100,\n2,100,\n3,100,\n4,100,\nend\n",
+        "table acc\n0,-7,\n1,100,\n2,100,\n3,100,\n4,100,\n",
     ],
     [
         "a row of the same key",
         "CALL put(7, 1); CALL put(7, 2);",
         "reply 0 done\nreply 1 rolled back duplicate key\n",
-        "history\n1 0 starts 0 runs 1\n2 1 starts 1 runs 1\n",
+        "1 0 starts 0 runs 1\n2 1 starts 1 runs 1\n",
         "B 0\nC 0\nB 1\nC 1\n",
-        "table acc\n0,0,\n1,100,\n2,100,\n3,100,\n4,100,\n7,1,\nend\n",
+        "table acc\n0,0,\n1,100,\n2,100,\n3,100,\n4,100,\n7,1,\n",
     ],
     [
         "a reason of its own, and both branches",
         "CALL transfer(1, 2, 150); CALL tell(); CALL add(1, 1); CALL tell();",
         "reply 0 rolled back 'no funds'\nreply 1 done\n0\n100\nreply 2 done\n101\nreply 3 done\n1\n100\n",
-        "history\n1 0 starts 0 runs 3\n2 1 starts 1 runs 5\n3 2 starts 2 runs 4\n4 3 starts 3 runs 6\n",
+        "1 0 starts 0 runs 3\n2 1 starts 1 runs 5\n3 2 starts 2 runs 4\n4 3 starts 3 runs 6\n",
         "B 0\nC 0\nB 1\nC 1\nB 2\nC 2\nB 3\nC 3\n",
-        "table acc\n0,0,\n1,101,\n2,100,\n3,100,\n4,100,\nend\n",
+        "table acc\n0,0,\n1,101,\n2,100,\n3,100,\n4,100,\n",
     ],
     [
         "other columns of one row",
         "CALL mark(1, 'x'); CALL add(1, 5);",
         "reply 0 done\nreply 1 done\n105\n",
-        "history\n1 0 starts 0 runs 1\n2 1 starts 1 runs 4\n",
+        "1 0 starts 0 runs 1\n2 1 starts 1 runs 4\n",
         "B 0\nC 0\nB 1\nC 1\n",
-        "table acc\n0,0,\n1,105,x\n2,100,\n3,100,\n4,100,\nend\n",
+        "table acc\n0,0,\n1,105,x\n2,100,\n3,100,\n4,100,\n",
     ],
     [
         "a sum that stays",
         "CALL add(1, 0); CALL add(1, 7);",
         "reply 0 done\n100\nreply 1 done\n107\n",
-        "history\n1 0 starts 0 runs 4\n2 1 starts 1 runs 4\n",
+        "1 0 starts 0 runs 4\n2 1 starts 1 runs 4\n",
         "B 0\nC 0\nB 1\nC 1\n",
-        "table acc\n0,0,\n1,107,\n2,100,\n3,100,\n4,100,\nend\n",
+        "table acc\n0,0,\n1,107,\n2,100,\n3,100,\n4,100,\n",
     ],
     [
         "one row that both change",
         "CALL transfer(1, 2, 10); CALL transfer(3, 4, 10);",
         "reply 0 done\nreply 1 done\n",
-        "history\n1 0 starts 0 runs 5\n2 1 starts 1 runs 5\n",
+        "1 0 starts 0 runs 5\n2 1 starts 1 runs 5\n",
         "B 0\nC 0\nB 1\nC 1\n",
-        "table acc\n0,2,\n1,90,\n2,110,\n3,90,\n4,110,\nend\n",
+        "table acc\n0,2,\n1,90,\n2,110,\n3,90,\n4,110,\n",
     ],
     [
         "a row that a count tests",
         "CALL put(7, 100); CALL rich();",
         "reply 0 done\nreply 1 done\n5\n",
-        "history\n1 0 starts 0 runs 1\n2 1 starts 1 runs 2\n",
+        "1 0 starts 0 runs 1\n2 1 starts 1 runs 2\n",
         "B 0\nC 0\nB 1\nC 1\n",
-        "table acc\n0,0,\n1,100,\n2,100,\n3,100,\n4,100,\n7,100,\nend\n",
+        "table acc\n0,0,\n1,100,\n2,100,\n3,100,\n4,100,\n7,100,\n",
     ],
     [
         "a sum that a condition tests",
         "CALL add(1, 5); CALL tell();",
         "reply 0 done\n105\nreply 1 done\n1\n100\n",
-        "history\n1 0 starts 0 runs 4\n2 1 starts 1 runs 6\n",
+        "1 0 starts 0 runs 4\n2 1 starts 1 runs 6\n",
         "B 0\nC 0\nB 1\nC 1\n",
-        "table acc\n0,0,\n1,105,\n2,100,\n3,100,\n4,100,\nend\n",
+        "table acc\n0,0,\n1,105,\n2,100,\n3,100,\n4,100,\n",
     ],
     [
         "a reason of its own, and a call after it",
         "CALL transfer(1, 2, 150); CALL add(1, 60);",
         "reply 0 rolled back 'no funds'\nreply 1 done\n160\n",
-        "history\n1 0 starts 0 runs 3\n2 1 starts 1 runs 4\n",
+        "1 0 starts 0 runs 3\n2 1 starts 1 runs 4\n",
         "B 0\nC 0\nB 1\nC 1\n",
-        "table acc\n0,0,\n1,160,\n2,100,\n3,100,\n4,100,\nend\n",
+        "table acc\n0,0,\n1,160,\n2,100,\n3,100,\n4,100,\n",
     ],
-    ["no call", "", "", "history\n", "", OPENING],
+    ["no call", "", "", "", "", OPENING],
 ];
 
 /// A command, a script, and its text.
@@ -185,14 +157,14 @@ CALL se(); CALL sd();",
 ];
 
 /// Checks that `run` gives this text, `replay` the same text from its journal, and `serial` the replies and the
-/// accounts. `run` and `serial` pass over the journal.
+/// table. `run` and `serial` pass over the journal.
 fn commands_give<R: Threads + Wait + Sync>(rt: &R, alloc: Global, case: &Run) -> Result<(), Fail> {
-    let [_, calls, replies, history, journal, accounts] = *case;
+    let [_, calls, replies, history, journal, table] = *case;
     let parts = [ADD, OTHERS, calls, "\nJOURNAL <<\n", journal, ">>\n"];
     let input = joined(alloc, &parts)?;
-    let alone = joined(alloc, &[replies, accounts])?;
+    let alone = joined(alloc, &[replies, table, "end\n"])?;
     answers(rt, alloc, "serial", input.as_str(), alone.as_str())?;
-    let text = joined(alloc, &[replies, history, "journal\n", journal, accounts])?;
+    let text = run_text(alloc, &[replies, history, journal, table])?;
     answers(rt, alloc, "run", input.as_str(), text.as_str())?;
     answers(rt, alloc, "replay", input.as_str(), text.as_str())
 }
@@ -444,7 +416,7 @@ fn refused_by_all<R: Threads + Wait + Sync>(
     want: &str,
 ) -> Result<(), Fail> {
     for command in COMMANDS {
-        refuses(rt, alloc, command, input, want)?;
+        answers(rt, alloc, command, input, want)?;
     }
     Ok(())
 }
@@ -518,7 +490,7 @@ const LIMITS: &[Limit] = &[
 fn refused_at<R: Threads + Wait + Sync>(rt: &R, alloc: Global, case: &Limit) -> Result<(), Fail> {
     let (front, part, count, back, want) = *case;
     let input = repeated(alloc, front, part, count, back)?;
-    refuses(rt, alloc, "run", input.as_str(), want)
+    answers(rt, alloc, "run", input.as_str(), want)
 }
 
 #[test]

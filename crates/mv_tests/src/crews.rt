@@ -1,7 +1,8 @@
 //! Runs by several workers, and the options of commands.
 
-use crate::commands::{ADD, OTHERS};
-use crate::whole::{SOUND, ensure, joined, runs, runs_at};
+use crate::whole::{Parts, SOUND, joined, run_text, runs, runs_at};
+use mv_cases::accounts::{ADD, OTHERS, TRANSFERS};
+use mv_cases::ensure::ensure;
 use mv_edge::pace::{Moment, Pace, Point};
 use mv_top::status::Status;
 use std::alloc::Global;
@@ -80,157 +81,83 @@ const TWO: Words = (&["run", "--threads", "2"], &["replay"]);
 
 const THREE: Words = (&["run", "--threads", "3"], &["replay"]);
 
-/// Checks that workers that are held to an order write this text, and that the replay of its journal gives it too.
+/// Checks that workers that are held to an order write the text of these parts, and that the replay of its journal gives
+/// it too.
 fn commit_in<R: Threads + Wait + Sync>(
     rt: &R,
     alloc: Global,
     order: &'static [u32],
     words: Words,
     calls: &str,
-    want: (&str, &str),
+    parts: &[&str; 4],
 ) -> Result<(), Fail> {
     let (run, replay) = words;
-    let (journal, text) = want;
+    let [_, _, journal, _] = *parts;
+    let text = run_text(alloc, parts)?;
     let pace = InOrder::new(order);
     let input = joined(alloc, &[ADD, OTHERS, calls])?;
-    runs_at(rt, alloc, &pace, run, input.as_bytes(), text)?;
+    runs_at(rt, alloc, &pace, run, input.as_bytes(), text.as_str())?;
     ensure(alloc, pace.have_all_answered(), "no answer")?;
     let input = joined(alloc, &[input.as_str(), "\nJOURNAL <<\n", journal, ">>\n"])?;
-    let done = (Status::Done, text);
+    let done = (Status::Done, text.as_str());
     runs(rt, alloc, replay, input.as_bytes(), SOUND, done)
 }
 
 /// Call 1 commits while call 0 is held, and the worker of call 0 repairs and commits it.
-const OVERTAKEN: &str = "B 0\nB 1\nC 1\nA 0\nC 0\n";
-
-pub(crate) const TRANSFERS: &str = "CALL transfer(1, 2, 10); CALL transfer(3, 4, 10);";
-
-const REPAIRED: &str = "reply 0 done
-reply 1 done
-history
-1 1 starts 0 runs 5
-2 0 starts 0,1 runs 5+1
-journal
-B 0
-B 1
-C 1
-A 0
-C 0
-table acc
-0,2,
-1,90,
-2,110,
-3,90,
-4,110,
-end
-";
+const REPAIRED: Parts = [
+    "reply 0 done\nreply 1 done\n",
+    "1 1 starts 0 runs 5\n2 0 starts 0,1 runs 5+1\n",
+    "B 0\nB 1\nC 1\nA 0\nC 0\n",
+    "table acc\n0,2,\n1,90,\n2,110,\n3,90,\n4,110,\n",
+];
 
 #[test]
 fn a_held_call_is_overtaken_and_repaired(rt: HostRuntime) -> Result<(), Fail> {
-    let want = (OVERTAKEN, REPAIRED);
-    commit_in(&rt, rt.alloc(), &[1, 0], TWO, TRANSFERS, want)?;
-    commit_in(&rt, rt.alloc(), &[1, 0], THREE, TRANSFERS, want)
+    commit_in(&rt, rt.alloc(), &[1, 0], TWO, TRANSFERS, &REPAIRED)?;
+    commit_in(&rt, rt.alloc(), &[1, 0], THREE, TRANSFERS, &REPAIRED)
 }
 
 /// The text of a call whose first run has more statements than its repair.
-const SHORTER: &str = "reply 0 rolled back 'no funds'
-reply 1 done
-history
-1 1 starts 0 runs 5
-2 0 starts 0,1 runs 5+3
-journal
-B 0
-B 1
-C 1
-A 0
-C 0
-table acc
-0,1,
-1,40,
-2,100,
-3,160,
-4,100,
-end
-";
+const SHORTER: Parts = [
+    "reply 0 rolled back 'no funds'\nreply 1 done\n",
+    "1 1 starts 0 runs 5\n2 0 starts 0,1 runs 5+3\n",
+    "B 0\nB 1\nC 1\nA 0\nC 0\n",
+    "table acc\n0,1,\n1,40,\n2,100,\n3,160,\n4,100,\n",
+];
 
 #[test]
 fn a_held_call_is_repaired_to_fewer_statements(rt: HostRuntime) -> Result<(), Fail> {
     let calls = "CALL transfer(1, 2, 60); CALL transfer(1, 3, 60);";
-    let want = (OVERTAKEN, SHORTER);
-    commit_in(&rt, rt.alloc(), &[1, 0], TWO, calls, want)
+    commit_in(&rt, rt.alloc(), &[1, 0], TWO, calls, &SHORTER)
 }
 
 /// The text of three calls that have all begun before the last of them commits, then the second, and then the first.
-const REVERSED: &str = "reply 0 done
-reply 1 done
-reply 2 done
-history
-1 2 starts 0 runs 5
-2 1 starts 0,1 runs 5+4
-3 0 starts 0,2 runs 5+2
-journal
-B 0
-B 1
-B 2
-C 2
-A 1
-C 1
-A 0
-C 0
-table acc
-0,3,
-1,90,
-2,100,
-3,100,
-4,110,
-end
-";
+const REVERSED: Parts = [
+    "reply 0 done\nreply 1 done\nreply 2 done\n",
+    "1 2 starts 0 runs 5\n2 1 starts 0,1 runs 5+4\n3 0 starts 0,2 runs 5+2\n",
+    "B 0\nB 1\nB 2\nC 2\nA 1\nC 1\nA 0\nC 0\n",
+    "table acc\n0,3,\n1,90,\n2,100,\n3,100,\n4,110,\n",
+];
 
 #[test]
 fn three_workers_commit_in_reverse(rt: HostRuntime) -> Result<(), Fail> {
     let calls = joined(rt.alloc(), &[TRANSFERS, "CALL transfer(2, 3, 10);"])?;
-    let journal = "B 0\nB 1\nB 2\nC 2\nA 1\nC 1\nA 0\nC 0\n";
-    let want = (journal, REVERSED);
-    commit_in(&rt, rt.alloc(), &[2, 1, 0], THREE, calls.as_str(), want)
+    let calls = calls.as_str();
+    commit_in(&rt, rt.alloc(), &[2, 1, 0], THREE, calls, &REVERSED)
 }
 
 /// The text of a call that begins first and stays behind, until the other worker has committed all others.
-const BEHIND: &str = "reply 0 done
-reply 1 done
-105
-reply 2 done
-107
-reply 3 done
-history
-1 1 starts 0 runs 4
-2 2 starts 1 runs 4
-3 3 starts 2 runs 5
-4 0 starts 0,3 runs 5+4
-journal
-B 0
-B 1
-C 1
-B 2
-C 2
-B 3
-C 3
-A 0
-C 0
-table acc
-0,2,
-1,97,
-2,110,
-3,104,
-4,101,
-end
-";
+const BEHIND: Parts = [
+    "reply 0 done\nreply 1 done\n105\nreply 2 done\n107\nreply 3 done\n",
+    "1 1 starts 0 runs 4\n2 2 starts 1 runs 4\n3 3 starts 2 runs 5\n4 0 starts 0,3 runs 5+4\n",
+    "B 0\nB 1\nC 1\nB 2\nC 2\nB 3\nC 3\nA 0\nC 0\n",
+    "table acc\n0,2,\n1,97,\n2,110,\n3,104,\n4,101,\n",
+];
 
 #[test]
 fn a_call_that_stays_behind_commits_last(rt: HostRuntime) -> Result<(), Fail> {
     let calls = "CALL transfer(1, 2, 10); CALL add(3, 5); CALL add(1, 7); CALL transfer(3, 4, 1);";
-    let journal = "B 0\nB 1\nC 1\nB 2\nC 2\nB 3\nC 3\nA 0\nC 0\n";
-    let want = (journal, BEHIND);
-    commit_in(&rt, rt.alloc(), &[3, 0], TWO, calls, want)
+    commit_in(&rt, rt.alloc(), &[3, 0], TWO, calls, &BEHIND)
 }
 
 /// How many calls overtake call 0. The workers collect after commit 64, when call 0 is live.
@@ -244,19 +171,23 @@ fn overtaking_calls(alloc: Global) -> Result<String, Fail> {
     Ok(calls)
 }
 
-fn overtaking_replies(text: &mut String) -> Result<(), Fail> {
+fn overtaking_replies(alloc: Global) -> Result<String, Fail> {
+    let mut replies = String::from_str(alloc, "reply 0 done\n105\n")?;
     for call in 1..=OVERTAKING {
-        write!(text, "reply {call} done\n{}\n", call.saturating_add(100))?;
+        write!(replies, "reply {call} done\n{}\n", call.saturating_add(100))?;
     }
-    Ok(())
+    Ok(replies)
 }
 
-fn overtaking_history(text: &mut String) -> Result<(), Fail> {
+/// Returns the history of calls that overtake call 0, of which it has this line.
+fn overtaking_history(alloc: Global, line: &str) -> Result<String, Fail> {
+    let mut history = String::new(alloc);
     for call in 1..=OVERTAKING {
         let start = call.saturating_sub(1);
-        write!(text, "{call} {call} starts {start} runs 4\n")?;
+        write!(history, "{call} {call} starts {start} runs 4\n")?;
     }
-    Ok(())
+    history.push_str(line)?;
+    Ok(history)
 }
 
 /// Returns the journal of calls that overtake call 0, and of its last events.
@@ -269,18 +200,8 @@ fn overtaking_journal(alloc: Global, last: &str) -> Result<String, Fail> {
     Ok(journal)
 }
 
-/// Returns the text of calls that overtake call 0, of which the history has this line.
-fn overtaking_text(alloc: Global, line: &str, journal: &str) -> Result<String, Fail> {
-    let mut text = String::from_str(alloc, "reply 0 done\n105\n")?;
-    overtaking_replies(&mut text)?;
-    text.push_str("history\n")?;
-    overtaking_history(&mut text)?;
-    text.push_str(line)?;
-    text.push_str("journal\n")?;
-    text.push_str(journal)?;
-    text.push_str("table acc\n0,0,\n1,105,\n2,165,\n3,100,\n4,100,\nend\n")?;
-    Ok(text)
-}
+/// The table after calls that overtake call 0.
+const OVERTAKEN: &str = "table acc\n0,0,\n1,105,\n2,165,\n3,100,\n4,100,\n";
 
 /// The line of a moved call 0 in the history, and its last events.
 const MOVED: (&str, &str) = ("66 0 starts 0,65 runs -+4m\n", "M 0\nC 0\n");
@@ -317,11 +238,17 @@ const HORIZONS: &[(Words, (&str, &str))] = &[
 fn a_call_behind_the_horizon_is_moved(rt: HostRuntime) -> Result<(), Fail> {
     let alloc = rt.alloc();
     let calls = overtaking_calls(alloc)?;
+    let replies = overtaking_replies(alloc)?;
     for (words, (line, last)) in HORIZONS {
+        let history = overtaking_history(alloc, line)?;
         let journal = overtaking_journal(alloc, last)?;
-        let text = overtaking_text(alloc, line, journal.as_str())?;
-        let want = (journal.as_str(), text.as_str());
-        commit_in(&rt, alloc, &[OVERTAKING, 0], *words, calls.as_str(), want)?;
+        let parts = [
+            replies.as_str(),
+            history.as_str(),
+            journal.as_str(),
+            OVERTAKEN,
+        ];
+        commit_in(&rt, alloc, &[OVERTAKING, 0], *words, calls.as_str(), &parts)?;
     }
     Ok(())
 }
@@ -391,21 +318,12 @@ fn a_load_without_calls(rt: HostRuntime) -> Result<(), Fail> {
 }
 
 /// The text of one call.
-const ONE: &str = "reply 0 done
-105
-history
-1 0 starts 0 runs 4
-journal
-B 0
-C 0
-table acc
-0,0,
-1,105,
-2,100,
-3,100,
-4,100,
-end
-";
+const ONE: Parts = [
+    "reply 0 done\n105\n",
+    "1 0 starts 0 runs 4\n",
+    "B 0\nC 0\n",
+    "table acc\n0,0,\n1,105,\n2,100,\n3,100,\n4,100,\n",
+];
 
 const ACCEPTED: &[&[&str]] = &[
     &["run", "--threads", "1"],
@@ -425,54 +343,10 @@ const ACCEPTED: &[&[&str]] = &[
 fn options_of_commands(rt: HostRuntime) -> Result<(), Fail> {
     let calls = "CALL add(1, 5);\nJOURNAL <<\nB 0\nC 0\n>>\n";
     let input = joined(rt.alloc(), &[ADD, calls])?;
+    let text = run_text(rt.alloc(), &ONE)?;
     for words in ACCEPTED {
-        let want = (Status::Done, ONE);
+        let want = (Status::Done, text.as_str());
         runs(&rt, rt.alloc(), words, input.as_bytes(), SOUND, want)?;
     }
     Ok(())
-}
-
-/// The text of a call that is repaired in the step that commits it.
-const EXCLUSIVE: &str = "reply 0 done
-reply 1 done
-history
-1 0 starts 0 runs 5
-2 1 starts 0,1 runs 5+1x
-journal
-B 0
-B 1
-C 0
-X 1
-table acc
-0,2,
-1,90,
-2,110,
-3,90,
-4,110,
-end
-";
-
-#[test]
-fn rounds_of_a_replay(rt: HostRuntime) -> Result<(), Fail> {
-    let journal = "\nJOURNAL <<\nB 0\nB 1\nC 0\nX 1\n>>\n";
-    let input = joined(rt.alloc(), &[ADD, OTHERS, TRANSFERS, journal])?;
-    let input = input.as_bytes();
-    let done = (Status::Done, EXCLUSIVE);
-    let refused = (Status::Refused, "refused 19 journal line 4\n");
-    runs(
-        &rt,
-        rt.alloc(),
-        &["replay", "--rounds", "0"],
-        input,
-        SOUND,
-        done,
-    )?;
-    runs(
-        &rt,
-        rt.alloc(),
-        &["replay", "--rounds", "1"],
-        input,
-        SOUND,
-        refused,
-    )
 }

@@ -2,8 +2,9 @@
 //! hand.
 
 use crate::attempts::{MARKING, MARKS};
-use crate::commands::{ADD, OTHERS};
-use crate::whole::{ensure, joined, tells};
+use crate::whole::{Parts, joined, run_text, tells};
+use mv_cases::accounts::{ADD, OTHERS, TRANSFERS};
+use mv_cases::ensure::ensure;
 use mv_top::answer::replay;
 use mv_top::status::Fault;
 use mv_values::list::List;
@@ -13,401 +14,242 @@ use std::sync::Wait;
 use std::test::Fail;
 use std::thread::Threads;
 
-/// What a case shows, the calls of its script, the script's JOURNAL item, and the text or the line of the refusal.
-type Case = [&'static str; 4];
+/// What a case shows, the calls of its script and the lines of its journal, and the parts of its text.
+type Case = ([&'static str; 3], Parts);
+
+/// What a case shows, the calls of its script, the script's JOURNAL item, and the line of the refusal.
+type Refusal = [&'static str; 4];
 
 /// Two calls on one row.
 const PAIR: &str = "CALL add(1, 5); CALL add(1, 7);";
 
 /// The text of two calls on one row, where the second one moves behind the commit of the first one.
-const MOVED: &str = "reply 0 done
-105
-reply 1 done
-112
-history
-1 0 starts 0 runs 4
-2 1 starts 0,1 runs -+4m
-journal
-B 0
-B 1
-C 0
-M 1
-C 1
-table acc
-0,0,
-1,112,
-2,100,
-3,100,
-4,100,
-end
-";
+const MOVED: Parts = [
+    "reply 0 done\n105\nreply 1 done\n112\n",
+    "1 0 starts 0 runs 4\n2 1 starts 0,1 runs -+4m\n",
+    "B 0\nB 1\nC 0\nM 1\nC 1\n",
+    "table acc\n0,0,\n1,112,\n2,100,\n3,100,\n4,100,\n",
+];
 
 /// Three calls, of which each two write a common row.
 const THREE: &str = "CALL transfer(1, 2, 10); CALL transfer(3, 4, 10); CALL transfer(2, 3, 10);";
 
 /// The text of three calls that run before the first commit, where the others are repaired.
-const REPAIRED: &str = "reply 0 done
-reply 1 done
-reply 2 done
-history
-1 0 starts 0 runs 5
-2 1 starts 0,1 runs 5+1
-3 2 starts 0,2 runs 5+5
-journal
-B 0
-B 1
-B 2
-C 0
-A 1
-C 1
-A 2
-C 2
-table acc
-0,3,
-1,90,
-2,100,
-3,100,
-4,110,
-end
-";
-
-const TEXTS: &[Case] = &[
-    [
-        "a call that moves behind the commit of another",
-        PAIR,
-        "JOURNAL <<\nB 0\nB 1\nC 0\nM 1\nC 1\n>>\n",
-        MOVED,
-    ],
-    [
-        "statements before the move",
-        PAIR,
-        "JOURNAL <<\nB 0\nS 0\nS 0\nB 1\nS 1\nS 1\nS 0\nS 0\nC 0\nS 1\nM 1\nC 1\n>>\n",
-        MOVED,
-    ],
-    [
-        "a call that moves twice",
-        PAIR,
-        "JOURNAL <<\nB 0\nB 1\nC 0\nM 1\nM 1\nC 1\n>>\n",
-        "reply 0 done
-105
-reply 1 done
-112
-history
-1 0 starts 0 runs 4
-2 1 starts 0,1,1 runs -+-+4m
-journal
-B 0
-B 1
-C 0
-M 1
-M 1
-C 1
-table acc
-0,0,
-1,112,
-2,100,
-3,100,
-4,100,
-end
-",
-    ],
-    [
-        "a repair that executes the statements that a commit hit",
-        "CALL transfer(1, 2, 10); CALL transfer(3, 4, 10);",
-        "JOURNAL <<\nB 0\nB 1\nC 0\nG\nA 1\nC 1\nG\n>>\n",
-        "reply 0 done
-reply 1 done
-history
-1 0 starts 0 runs 5
-2 1 starts 0,1 runs 5+1
-journal
-B 0
-B 1
-C 0
-A 1
-C 1
-table acc
-0,2,
-1,90,
-2,110,
-3,90,
-4,110,
-end
-",
-    ],
-    [
-        "a repair after which a variable has another definer",
-        "CALL add(1, 5); CALL tell();",
-        "JOURNAL <<\nB 0\nB 1\nS 1\nC 0\nA 1\nC 1\n>>\n",
-        "reply 0 done
-105
-reply 1 done
-1
-100
-history
-1 0 starts 0 runs 4
-2 1 starts 0,1 runs 5+4
-journal
-B 0
-B 1
-C 0
-A 1
-C 1
-table acc
-0,0,
-1,105,
-2,100,
-3,100,
-4,100,
-end
-",
-    ],
-    [
-        "calls that commit in another order",
-        "CALL add(1, 5); CALL add(2, 7);",
-        "JOURNAL <<\nB 0\nB 1\nC 1\nC 0\n>>\n",
-        "reply 0 done
-105
-reply 1 done
-107
-history
-1 1 starts 0 runs 4
-2 0 starts 0 runs 4
-journal
-B 0
-B 1
-C 1
-C 0
-table acc
-0,0,
-1,105,
-2,107,
-3,100,
-4,100,
-end
-",
-    ],
-    [
-        "a commit that changes another column of the row",
-        "CALL mark(1, 'x'); CALL add(1, 5);",
-        "JOURNAL <<\nB 0\nB 1\nC 0\nC 1\n>>\n",
-        "reply 0 done
-reply 1 done
-105
-history
-1 0 starts 0 runs 1
-2 1 starts 0 runs 4
-journal
-B 0
-B 1
-C 0
-C 1
-table acc
-0,0,
-1,105,x
-2,100,
-3,100,
-4,100,
-end
-",
-    ],
-    [
-        "a commit that leaves the value as it was",
-        "CALL add(1, 0); CALL add(1, 7);",
-        "JOURNAL <<\nB 0\nB 1\nC 0\nC 1\n>>\n",
-        "reply 0 done
-100
-reply 1 done
-107
-history
-1 0 starts 0 runs 4
-2 1 starts 0 runs 4
-journal
-B 0
-B 1
-C 0
-C 1
-table acc
-0,0,
-1,107,
-2,100,
-3,100,
-4,100,
-end
-",
-    ],
-    [
-        "a repair from the first statement on",
-        PAIR,
-        "JOURNAL <<\nB 0\nB 1\nC 0\nA 1\nC 1\n>>\n",
-        "reply 0 done
-105
-reply 1 done
-112
-history
-1 0 starts 0 runs 4
-2 1 starts 0,1 runs 4+4
-journal
-B 0
-B 1
-C 0
-A 1
-C 1
-table acc
-0,0,
-1,112,
-2,100,
-3,100,
-4,100,
-end
-",
-    ],
-    [
-        "a repair of a count, after a row that it counts",
-        "CALL put(7, 100); CALL rich();",
-        "JOURNAL <<\nB 0\nB 1\nC 0\nA 1\nC 1\n>>\n",
-        "reply 0 done
-reply 1 done
-5
-history
-1 0 starts 0 runs 1
-2 1 starts 0,1 runs 2+2
-journal
-B 0
-B 1
-C 0
-A 1
-C 1
-table acc
-0,0,
-1,100,
-2,100,
-3,100,
-4,100,
-7,100,
-end
-",
-    ],
-    [
-        "a repair in which a call that was rolled back goes through",
-        "CALL transfer(1, 2, 150); CALL add(1, 60);",
-        "JOURNAL <<\nB 0\nB 1\nC 1\nA 0\nC 0\n>>\n",
-        "reply 0 done
-reply 1 done
-160
-history
-1 1 starts 0 runs 4
-2 0 starts 0,1 runs 3+5
-journal
-B 0
-B 1
-C 1
-A 0
-C 0
-table acc
-0,1,
-1,10,
-2,250,
-3,100,
-4,100,
-end
-",
-    ],
-    [
-        "a call that is rolled back, and one after it",
-        "CALL transfer(1, 2, 150); CALL add(1, 60);",
-        "JOURNAL <<\nB 0\nC 0\nB 1\nC 1\n>>\n",
-        "reply 0 rolled back 'no funds'
-reply 1 done
-160
-history
-1 0 starts 0 runs 3
-2 1 starts 1 runs 4
-journal
-B 0
-C 0
-B 1
-C 1
-table acc
-0,0,
-1,160,
-2,100,
-3,100,
-4,100,
-end
-",
-    ],
-    [
-        "a repair in which a call is rolled back",
-        "CALL put(7, 1); CALL put(7, 2);",
-        "JOURNAL <<\nB 0\nB 1\nC 0\nA 1\nC 1\n>>\n",
-        "reply 0 done
-reply 1 rolled back duplicate key
-history
-1 0 starts 0 runs 1
-2 1 starts 0,1 runs 1+1
-journal
-B 0
-B 1
-C 0
-A 1
-C 1
-table acc
-0,0,
-1,100,
-2,100,
-3,100,
-4,100,
-7,1,
-end
-",
-    ],
-    [
-        "a call that overflows",
-        "CALL add(1, 9223372036854775807);",
-        "JOURNAL <<\nB 0\nC 0\n>>\n",
-        "reply 0 rolled back overflow
-history
-1 0 starts 0 runs 2
-journal
-B 0
-C 0
-table acc
-0,0,
-1,100,
-2,100,
-3,100,
-4,100,
-end
-",
-    ],
-    [
-        "three calls that run before the first commit, and collections",
-        THREE,
-        "JOURNAL <<\nB 0\nB 1\nB 2\nS 0\nS 0\nS 0\nS 0\nS 0\nS 1\nS 1\nS 1\nS 1\nS 1\nS 2\nS 2\nS 2\nS 2\nS 2\nG\nC 0\nG\nA 1\nG\nC 1\nA 2\nC 2\n>>\n",
-        REPAIRED,
-    ],
-    [
-        "the same without statements",
-        THREE,
-        "JOURNAL <<\nB 0\nB 1\nB 2\nG\nC 0\nG\nA 1\nG\nC 1\nA 2\nC 2\n>>\n",
-        REPAIRED,
-    ],
-    [
-        "the same without collections",
-        THREE,
-        "JOURNAL <<\nB 0\nB 1\nB 2\nS 0\nS 0\nS 0\nS 0\nS 0\nS 1\nS 1\nS 1\nS 1\nS 1\nS 2\nS 2\nS 2\nS 2\nS 2\nC 0\nA 1\nC 1\nA 2\nC 2\n>>\n",
-        REPAIRED,
-    ],
-    [
-        "the same without either",
-        THREE,
-        "JOURNAL <<\nB 0\nB 1\nB 2\nC 0\nA 1\nC 1\nA 2\nC 2\n>>\n",
-        REPAIRED,
-    ],
+const REPAIRED: Parts = [
+    "reply 0 done\nreply 1 done\nreply 2 done\n",
+    "1 0 starts 0 runs 5\n2 1 starts 0,1 runs 5+1\n3 2 starts 0,2 runs 5+5\n",
+    "B 0\nB 1\nB 2\nC 0\nA 1\nC 1\nA 2\nC 2\n",
+    "table acc\n0,3,\n1,90,\n2,100,\n3,100,\n4,110,\n",
 ];
 
-const REFUSALS: &[Case] = &[
+const TEXTS: &[Case] = &[
+    (
+        [
+            "a call that moves behind the commit of another",
+            PAIR,
+            "B 0\nB 1\nC 0\nM 1\nC 1\n",
+        ],
+        MOVED,
+    ),
+    (
+        [
+            "statements before the move",
+            PAIR,
+            "B 0\nS 0\nS 0\nB 1\nS 1\nS 1\nS 0\nS 0\nC 0\nS 1\nM 1\nC 1\n",
+        ],
+        MOVED,
+    ),
+    (
+        [
+            "a call that moves twice",
+            PAIR,
+            "B 0\nB 1\nC 0\nM 1\nM 1\nC 1\n",
+        ],
+        [
+            "reply 0 done\n105\nreply 1 done\n112\n",
+            "1 0 starts 0 runs 4\n2 1 starts 0,1,1 runs -+-+4m\n",
+            "B 0\nB 1\nC 0\nM 1\nM 1\nC 1\n",
+            "table acc\n0,0,\n1,112,\n2,100,\n3,100,\n4,100,\n",
+        ],
+    ),
+    (
+        [
+            "a repair that executes the statements that a commit hit",
+            "CALL transfer(1, 2, 10); CALL transfer(3, 4, 10);",
+            "B 0\nB 1\nC 0\nG\nA 1\nC 1\nG\n",
+        ],
+        [
+            "reply 0 done\nreply 1 done\n",
+            "1 0 starts 0 runs 5\n2 1 starts 0,1 runs 5+1\n",
+            "B 0\nB 1\nC 0\nA 1\nC 1\n",
+            "table acc\n0,2,\n1,90,\n2,110,\n3,90,\n4,110,\n",
+        ],
+    ),
+    (
+        [
+            "a repair after which a variable has another definer",
+            "CALL add(1, 5); CALL tell();",
+            "B 0\nB 1\nS 1\nC 0\nA 1\nC 1\n",
+        ],
+        [
+            "reply 0 done\n105\nreply 1 done\n1\n100\n",
+            "1 0 starts 0 runs 4\n2 1 starts 0,1 runs 5+4\n",
+            "B 0\nB 1\nC 0\nA 1\nC 1\n",
+            "table acc\n0,0,\n1,105,\n2,100,\n3,100,\n4,100,\n",
+        ],
+    ),
+    (
+        [
+            "calls that commit in another order",
+            "CALL add(1, 5); CALL add(2, 7);",
+            "B 0\nB 1\nC 1\nC 0\n",
+        ],
+        [
+            "reply 0 done\n105\nreply 1 done\n107\n",
+            "1 1 starts 0 runs 4\n2 0 starts 0 runs 4\n",
+            "B 0\nB 1\nC 1\nC 0\n",
+            "table acc\n0,0,\n1,105,\n2,107,\n3,100,\n4,100,\n",
+        ],
+    ),
+    (
+        [
+            "a commit that changes another column of the row",
+            "CALL mark(1, 'x'); CALL add(1, 5);",
+            "B 0\nB 1\nC 0\nC 1\n",
+        ],
+        [
+            "reply 0 done\nreply 1 done\n105\n",
+            "1 0 starts 0 runs 1\n2 1 starts 0 runs 4\n",
+            "B 0\nB 1\nC 0\nC 1\n",
+            "table acc\n0,0,\n1,105,x\n2,100,\n3,100,\n4,100,\n",
+        ],
+    ),
+    (
+        [
+            "a commit that leaves the value as it was",
+            "CALL add(1, 0); CALL add(1, 7);",
+            "B 0\nB 1\nC 0\nC 1\n",
+        ],
+        [
+            "reply 0 done\n100\nreply 1 done\n107\n",
+            "1 0 starts 0 runs 4\n2 1 starts 0 runs 4\n",
+            "B 0\nB 1\nC 0\nC 1\n",
+            "table acc\n0,0,\n1,107,\n2,100,\n3,100,\n4,100,\n",
+        ],
+    ),
+    (
+        [
+            "a repair from the first statement on",
+            PAIR,
+            "B 0\nB 1\nC 0\nA 1\nC 1\n",
+        ],
+        [
+            "reply 0 done\n105\nreply 1 done\n112\n",
+            "1 0 starts 0 runs 4\n2 1 starts 0,1 runs 4+4\n",
+            "B 0\nB 1\nC 0\nA 1\nC 1\n",
+            "table acc\n0,0,\n1,112,\n2,100,\n3,100,\n4,100,\n",
+        ],
+    ),
+    (
+        [
+            "a repair of a count, after a row that it counts",
+            "CALL put(7, 100); CALL rich();",
+            "B 0\nB 1\nC 0\nA 1\nC 1\n",
+        ],
+        [
+            "reply 0 done\nreply 1 done\n5\n",
+            "1 0 starts 0 runs 1\n2 1 starts 0,1 runs 2+2\n",
+            "B 0\nB 1\nC 0\nA 1\nC 1\n",
+            "table acc\n0,0,\n1,100,\n2,100,\n3,100,\n4,100,\n7,100,\n",
+        ],
+    ),
+    (
+        [
+            "a repair in which a call that was rolled back goes through",
+            "CALL transfer(1, 2, 150); CALL add(1, 60);",
+            "B 0\nB 1\nC 1\nA 0\nC 0\n",
+        ],
+        [
+            "reply 0 done\nreply 1 done\n160\n",
+            "1 1 starts 0 runs 4\n2 0 starts 0,1 runs 3+5\n",
+            "B 0\nB 1\nC 1\nA 0\nC 0\n",
+            "table acc\n0,1,\n1,10,\n2,250,\n3,100,\n4,100,\n",
+        ],
+    ),
+    (
+        [
+            "a call that is rolled back, and one after it",
+            "CALL transfer(1, 2, 150); CALL add(1, 60);",
+            "B 0\nC 0\nB 1\nC 1\n",
+        ],
+        [
+            "reply 0 rolled back 'no funds'\nreply 1 done\n160\n",
+            "1 0 starts 0 runs 3\n2 1 starts 1 runs 4\n",
+            "B 0\nC 0\nB 1\nC 1\n",
+            "table acc\n0,0,\n1,160,\n2,100,\n3,100,\n4,100,\n",
+        ],
+    ),
+    (
+        [
+            "a repair in which a call is rolled back",
+            "CALL put(7, 1); CALL put(7, 2);",
+            "B 0\nB 1\nC 0\nA 1\nC 1\n",
+        ],
+        [
+            "reply 0 done\nreply 1 rolled back duplicate key\n",
+            "1 0 starts 0 runs 1\n2 1 starts 0,1 runs 1+1\n",
+            "B 0\nB 1\nC 0\nA 1\nC 1\n",
+            "table acc\n0,0,\n1,100,\n2,100,\n3,100,\n4,100,\n7,1,\n",
+        ],
+    ),
+    (
+        [
+            "a call that overflows",
+            "CALL add(1, 9223372036854775807);",
+            "B 0\nC 0\n",
+        ],
+        [
+            "reply 0 rolled back overflow\n",
+            "1 0 starts 0 runs 2\n",
+            "B 0\nC 0\n",
+            "table acc\n0,0,\n1,100,\n2,100,\n3,100,\n4,100,\n",
+        ],
+    ),
+    (
+        [
+            "three calls that run before the first commit, and collections",
+            THREE,
+            "B 0\nB 1\nB 2\nS 0\nS 0\nS 0\nS 0\nS 0\nS 1\nS 1\nS 1\nS 1\nS 1\nS 2\nS 2\nS 2\nS 2\nS 2\nG\nC 0\nG\nA 1\nG\nC 1\nA 2\nC 2\n",
+        ],
+        REPAIRED,
+    ),
+    (
+        [
+            "the same without statements",
+            THREE,
+            "B 0\nB 1\nB 2\nG\nC 0\nG\nA 1\nG\nC 1\nA 2\nC 2\n",
+        ],
+        REPAIRED,
+    ),
+    (
+        [
+            "the same without collections",
+            THREE,
+            "B 0\nB 1\nB 2\nS 0\nS 0\nS 0\nS 0\nS 0\nS 1\nS 1\nS 1\nS 1\nS 1\nS 2\nS 2\nS 2\nS 2\nS 2\nC 0\nA 1\nC 1\nA 2\nC 2\n",
+        ],
+        REPAIRED,
+    ),
+    (
+        [
+            "the same without either",
+            THREE,
+            "B 0\nB 1\nB 2\nC 0\nA 1\nC 1\nA 2\nC 2\n",
+        ],
+        REPAIRED,
+    ),
+];
+
+const REFUSALS: &[Refusal] = &[
     [
         "a commit after one that changed the row",
         PAIR,
@@ -579,16 +421,39 @@ pub(crate) fn replays<R: Threads + Wait + Sync>(
     given_replays(rt, alloc, PLAIN, script, want)
 }
 
-fn case_replays<R: Threads + Wait + Sync>(rt: &R, alloc: Global, case: &Case) -> Result<(), Fail> {
+/// Checks the text of a case.
+fn gives<R: Threads + Wait + Sync>(
+    rt: &R,
+    alloc: Global,
+    given: Given,
+    case: &Case,
+) -> Result<(), Fail> {
+    let (texts, parts) = *case;
+    let [_, calls, journal] = texts;
+    let script = joined(
+        alloc,
+        &[ADD, OTHERS, calls, "\nJOURNAL <<\n", journal, ">>\n"],
+    )?;
+    let want = run_text(alloc, &parts)?;
+    given_replays(rt, alloc, given, script.as_str(), want.as_str())
+}
+
+/// Checks the refusal of a case.
+fn refuses<R: Threads + Wait + Sync>(
+    rt: &R,
+    alloc: Global,
+    given: Given,
+    case: &Refusal,
+) -> Result<(), Fail> {
     let [_, calls, journal, want] = *case;
     let script = joined(alloc, &[ADD, OTHERS, calls, "\n", journal])?;
-    replays(rt, alloc, script.as_str(), want)
+    given_replays(rt, alloc, given, script.as_str(), want)
 }
 
 #[test]
 fn journals_give_their_text(rt: HostRuntime) -> Result<(), Fail> {
     for case in TEXTS {
-        case_replays(&rt, rt.alloc(), case)?;
+        gives(&rt, rt.alloc(), PLAIN, case)?;
     }
     Ok(())
 }
@@ -596,86 +461,42 @@ fn journals_give_their_text(rt: HostRuntime) -> Result<(), Fail> {
 #[test]
 fn journals_are_refused(rt: HostRuntime) -> Result<(), Fail> {
     for case in REFUSALS {
-        case_replays(&rt, rt.alloc(), case)?;
+        refuses(&rt, rt.alloc(), PLAIN, case)?;
     }
     Ok(())
 }
 
 /// The text of two calls that set a mark each, where the count of the second one is repaired.
-const MARKED: &str = "reply 0 done
-reply 1 done
-1
-history
-1 0 starts 0 runs 1
-2 1 starts 0,1 runs 3+2
-journal
-B 0
-B 1
-C 0
-A 1
-C 1
-table m
-1,1,1
-end
-";
+const MARKED: Parts = [
+    "reply 0 done\nreply 1 done\n1\n",
+    "1 0 starts 0 runs 1\n2 1 starts 0,1 runs 3+2\n",
+    "B 0\nB 1\nC 0\nA 1\nC 1\n",
+    "table m\n1,1,1\n",
+];
 
 #[test]
 fn an_own_write_makes_a_changed_row_count(rt: HostRuntime) -> Result<(), Fail> {
     let calls = "CALL se(); CALL sd();\nJOURNAL <<\nB 0\nB 1\nC 0\nA 1\nC 1\n>>\n";
     let script = joined(rt.alloc(), &[MARKS, MARKING, calls])?;
-    replays(&rt, rt.alloc(), script.as_str(), MARKED)
+    let want = run_text(rt.alloc(), &MARKED)?;
+    replays(&rt, rt.alloc(), script.as_str(), want.as_str())
 }
 
 /// The text of two calls with a common row, where the second one is repaired and commits in one step.
-const DECIDED: &str = "reply 0 done
-reply 1 done
-history
-1 0 starts 0 runs 5
-2 1 starts 0,1 runs 5+1x
-journal
-B 0
-B 1
-C 0
-X 1
-table acc
-0,2,
-1,90,
-2,110,
-3,90,
-4,110,
-end
-";
+const DECIDED: Parts = [
+    "reply 0 done\nreply 1 done\n",
+    "1 0 starts 0 runs 5\n2 1 starts 0,1 runs 5+1x\n",
+    "B 0\nB 1\nC 0\nX 1\n",
+    "table acc\n0,2,\n1,90,\n2,110,\n3,90,\n4,110,\n",
+];
 
 /// The text of three calls, where the third one moves behind the commits of the others.
-const BEHIND: &str = "reply 0 done
-105
-reply 1 done
-105
-reply 2 done
-105
-history
-1 0 starts 0 runs 4
-2 1 starts 0 runs 4
-3 2 starts 0,2 runs -+4m
-journal
-B 0
-B 1
-B 2
-C 0
-C 1
-M 2
-C 2
-table acc
-0,0,
-1,105,
-2,105,
-3,105,
-4,100,
-end
-";
-
-/// Two transfers with a common row.
-const TRANSFERS: &str = "CALL transfer(1, 2, 10); CALL transfer(3, 4, 10);";
+const BEHIND: Parts = [
+    "reply 0 done\n105\nreply 1 done\n105\nreply 2 done\n105\n",
+    "1 0 starts 0 runs 4\n2 1 starts 0 runs 4\n3 2 starts 0,2 runs -+4m\n",
+    "B 0\nB 1\nB 2\nC 0\nC 1\nM 2\nC 2\n",
+    "table acc\n0,0,\n1,105,\n2,105,\n3,105,\n4,100,\n",
+];
 
 /// Three calls on one row each.
 const ADDS: &str = "CALL add(1, 5); CALL add(2, 5); CALL add(3, 5);";
@@ -686,16 +507,32 @@ const ONE_ROUND: Given = (&["replay", "--rounds", "1"], 1, None);
 
 const HORIZON: Given = (&["replay", "--horizon", "1"], 3, Some(1));
 
-const GIVEN: &[(Given, Case)] = &[
+const GIVEN_TEXTS: &[(Given, Case)] = &[
     (
         NO_ROUNDS,
-        [
-            "a repair that commits, without rounds",
-            TRANSFERS,
-            "JOURNAL <<\nB 0\nB 1\nC 0\nX 1\n>>\n",
+        (
+            [
+                "a repair that commits, without rounds",
+                TRANSFERS,
+                "B 0\nB 1\nC 0\nX 1\n",
+            ],
             DECIDED,
-        ],
+        ),
     ),
+    (
+        HORIZON,
+        (
+            [
+                "a move of a stale call",
+                ADDS,
+                "B 0\nB 1\nB 2\nC 0\nC 1\nG\nM 2\nC 2\n",
+            ],
+            BEHIND,
+        ),
+    ),
+];
+
+const GIVEN_REFUSALS: &[(Given, Refusal)] = &[
     (
         ONE_ROUND,
         [
@@ -712,15 +549,6 @@ const GIVEN: &[(Given, Case)] = &[
             TRANSFERS,
             "JOURNAL <<\nB 0\nB 1\nC 0\nA 1\nC 1\n>>\n",
             "refused 19 journal line 4\n",
-        ],
-    ),
-    (
-        HORIZON,
-        [
-            "a move of a stale call",
-            ADDS,
-            "JOURNAL <<\nB 0\nB 1\nB 2\nC 0\nC 1\nG\nM 2\nC 2\n>>\n",
-            BEHIND,
         ],
     ),
     (
@@ -745,10 +573,16 @@ const GIVEN: &[(Given, Case)] = &[
 
 #[test]
 fn journals_with_other_options_give_their_text(rt: HostRuntime) -> Result<(), Fail> {
-    for (given, case) in GIVEN {
-        let [_, calls, journal, want] = *case;
-        let script = joined(rt.alloc(), &[ADD, OTHERS, calls, "\n", journal])?;
-        given_replays(&rt, rt.alloc(), *given, script.as_str(), want)?;
+    for (given, case) in GIVEN_TEXTS {
+        gives(&rt, rt.alloc(), *given, case)?;
+    }
+    Ok(())
+}
+
+#[test]
+fn journals_with_other_options_are_refused(rt: HostRuntime) -> Result<(), Fail> {
+    for (given, case) in GIVEN_REFUSALS {
+        refuses(&rt, rt.alloc(), *given, case)?;
     }
     Ok(())
 }

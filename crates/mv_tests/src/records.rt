@@ -6,9 +6,10 @@ ghost use Rattle.mv_record.specs.Databases.{IsDatabaseOf, IsProgram};
 ghost use Rattle.mv_exec.specs.Running.{IsRunning};
 
 use crate::walks::{is_adopted, placeless, run, run_and_walk};
-use crate::whole::{ensure, joined};
+use crate::whole::joined;
 use mv_accept::accept::accept;
 use mv_alone::line::line_from;
+use mv_cases::ensure::ensure;
 use mv_catalog::resolved::Program;
 use mv_compile::compile::compile;
 use mv_exec::running::{adopt, peek};

@@ -1,8 +1,9 @@
 //! Scripts, and the line with which each is refused, worked out by hand from the rules of the language.
 
-use crate::whole::{ensure, joined};
+use crate::whole::joined;
 use mv_accept::accept::{NotAccepted, accept};
 use mv_accept::refusal::Refusal;
+use mv_cases::ensure::ensure;
 use mv_values::memory::NoMemory;
 use std::alloc::Global;
 use std::test::Fail;

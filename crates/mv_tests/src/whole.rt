@@ -1,5 +1,6 @@
 //! Whole runs over a source and a sink in memory.
 
+use mv_cases::ensure::ensure;
 use mv_edge::memory_sink::MemorySink;
 use mv_edge::memory_source::MemorySource;
 use mv_edge::pace::{NoPace, Pace};
@@ -21,12 +22,14 @@ pub(crate) fn joined(alloc: Global, parts: &[&str]) -> Result<String, Fail> {
     Ok(text)
 }
 
-/// Fails with the text of a case unless the condition holds.
-pub(crate) fn ensure(alloc: Global, holds: bool, case: &str) -> Result<(), Fail> {
-    if holds {
-        return Ok(());
-    }
-    Err(String::from_str(alloc, case)?.into())
+/// The parts of a run's text: the replies, the history, the journal and the tables.
+pub(crate) type Parts = [&'static str; 4];
+
+/// Returns the text of a run from its parts.
+pub(crate) fn run_text(alloc: Global, parts: &[&str; 4]) -> Result<String, Fail> {
+    let [replies, history, journal, tables] = *parts;
+    let front = joined(alloc, &[replies, "history\n", history, "journal\n"])?;
+    joined(alloc, &[front.as_str(), journal, tables, "end\n"])
 }
 
 /// Returns a source of these bytes. Its reads with these numbers fail.
@@ -112,42 +115,6 @@ pub(crate) fn runs_at<R: Threads + Wait + Sync, P: Pace>(
 /// A source without faults, and a sink with enough room.
 pub(crate) const SOUND: (&[u64], usize) = (&[], 1_000_000);
 
-/// Checks that a command answers an input with this text.
-pub(crate) fn answers<R: Threads + Wait + Sync>(
-    rt: &R,
-    alloc: Global,
-    command: &str,
-    input: &str,
-    want: &str,
-) -> Result<(), Fail> {
-    runs(
-        rt,
-        alloc,
-        &[command],
-        input.as_bytes(),
-        SOUND,
-        (Status::Done, want),
-    )
-}
-
-/// Checks that a command refuses an input with this line.
-pub(crate) fn refuses<R: Threads + Wait + Sync>(
-    rt: &R,
-    alloc: Global,
-    command: &str,
-    input: &str,
-    want: &str,
-) -> Result<(), Fail> {
-    runs(
-        rt,
-        alloc,
-        &[command],
-        input.as_bytes(),
-        SOUND,
-        (Status::Refused, want),
-    )
-}
-
 /// Checks that a run with these words answers an input with this text, or refuses it with this line.
 pub(crate) fn tells<R: Threads + Wait + Sync>(
     rt: &R,
@@ -162,4 +129,15 @@ pub(crate) fn tells<R: Threads + Wait + Sync>(
         Status::Done
     };
     runs(rt, alloc, words, input.as_bytes(), SOUND, (status, want))
+}
+
+/// Checks that a command answers an input with this text, or refuses it with this line.
+pub(crate) fn answers<R: Threads + Wait + Sync>(
+    rt: &R,
+    alloc: Global,
+    command: &str,
+    input: &str,
+    want: &str,
+) -> Result<(), Fail> {
+    tells(rt, alloc, &[command], input, want)
 }

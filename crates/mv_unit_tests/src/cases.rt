@@ -3,15 +3,7 @@
 use std::alloc::Global;
 use std::test::Fail;
 
-/// Fails with the text of a case unless the condition holds.
-pub(crate) fn ensure(alloc: Global, holds: bool, case: &str) -> Result<(), Fail> {
-    if holds {
-        return Ok(());
-    }
-    Err(String::from_str(alloc, case)?.into())
-}
-
-/// The same with the number of the case in its table, from 0.
+/// Fails with the number of a case in its table, from 0, unless the condition holds.
 pub(crate) fn ensure_at(alloc: Global, holds: bool, case: usize) -> Result<(), Fail> {
     if holds {
         return Ok(());

@@ -3,8 +3,9 @@
 ghost use Rattle.std.specs.Prelude.{◌≡◌, ◌≤◌, [], All, IfOk, length};
 ghost use Rattle.mv_record.specs.Writes.{AreRising};
 
-use crate::cases::{ensure, ensure_at};
+use crate::cases::ensure_at;
 use crate::values::row;
+use mv_cases::ensure::ensure;
 use mv_changes::changes::Changes;
 use mv_changes::commit::changes_of_commit;
 use mv_changes::hit::hit;

@@ -3,10 +3,10 @@
 ghost use Rattle.std.specs.Prelude.{◌≡◌, ◌≤◌, ◌+◌, ◌∷◌, [], None, length, List as Seq, Option as Opt};
 ghost use Rattle.mv_values.specs.declared.value.Value.{Value as Val};
 
-use crate::cases::ensure;
 use crate::changes::three;
 use crate::stores::{look_up, opening};
 use crate::values::row;
+use mv_cases::ensure::ensure;
 use mv_changes::recent::Recent;
 use mv_collect::collect::collect;
 use mv_store::store::Store;

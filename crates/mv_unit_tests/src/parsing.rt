@@ -1,7 +1,8 @@
 //! Scripts, expressions and grammar faults, worked out by hand.
 
-use crate::cases::{between, ensure};
+use crate::cases::between;
 use mv_ast::tree::{Expr, ExprKind, Item, ItemKind, Script, Stmt};
+use mv_cases::ensure::ensure;
 use mv_lex::lexer::lex;
 use mv_parser::fault::{ParseFault, Which};
 use mv_parser::parse::parse;

@@ -1,8 +1,9 @@
 //! Prints of scripts, worked out by hand.
 
-use crate::cases::{between, ensure};
+use crate::cases::between;
 use crate::parsing::read;
 use crate::scripts;
+use mv_cases::ensure::ensure;
 use mv_print::print::print_script;
 use std::alloc::Global;
 use std::test::Fail;
@@ -141,6 +142,7 @@ fn items_end_their_lines(rt: HostRuntime) -> Result<(), Fail> {
 
 #[test]
 fn whole_scripts_are_printed_and_read_back(rt: HostRuntime) -> Result<(), Fail> {
-    prints(rt.alloc(), scripts::WRITTEN, scripts::PRINTED)?;
+    let written = scripts::written(rt.alloc())?;
+    prints(rt.alloc(), written.as_str(), scripts::PRINTED)?;
     prints(rt.alloc(), scripts::PRINTED, scripts::PRINTED)
 }

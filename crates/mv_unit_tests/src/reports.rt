@@ -3,8 +3,8 @@
 ghost use Rattle.std.specs.Prelude.{◌≡◌, ◌∷◌, [], IfOk};
 ghost use Rattle.mv_values.specs.declared.value.Value.TheVariants.{Int};
 
-use crate::cases::ensure;
 use crate::values::txt;
+use mv_cases::ensure::ensure;
 use mv_journal::event::Event;
 use mv_journal::outcome::{HistoryLine, Mark, Outcome, Round};
 use mv_report::render::render;

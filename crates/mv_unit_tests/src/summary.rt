@@ -1,7 +1,8 @@
 //! Summaries of small outcomes, worked out by hand.
 
-use crate::cases::{ensure, ensure_at};
+use crate::cases::ensure_at;
 use mv_accept::accept::accept;
+use mv_cases::ensure::ensure;
 use mv_journal::outcome::Outcome;
 use mv_tpccgen::load::Load;
 use mv_tpccsum::summary::summary;

@@ -3,8 +3,8 @@
 
 ghost use Rattle.mv_tpccgen.specs.Loads.{IsLoad};
 
-use crate::cases::ensure;
 use crate::parsing::read;
+use mv_cases::ensure::ensure;
 use mv_lex::lexer::lex;
 use mv_lex::token::{Kind, Token};
 use mv_print::print::print_script;

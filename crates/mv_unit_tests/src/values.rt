@@ -3,7 +3,8 @@
 ghost use Rattle.std.specs.Prelude.{◌↔◌, IsTrue, All};
 ghost use Rattle.mv_values.specs.Printable.{IsPrintable};
 
-use crate::cases::{ensure, ensure_at};
+use crate::cases::ensure_at;
+use mv_cases::ensure::ensure;
 use mv_values::copied::Copied;
 use mv_values::list::List;
 use mv_values::memory::NoMemory;

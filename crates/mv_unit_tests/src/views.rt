@@ -6,9 +6,10 @@ ghost use Rattle.mv_values.specs.Tables.{rows_at};
 ghost use Rattle.mv_record.specs.Admitting.{Admitted};
 ghost use Rattle.mv_view.specs.Viewing.{with_row_call};
 
-use crate::cases::{ensure, ensure_at};
+use crate::cases::ensure_at;
 use crate::reports::accounts;
 use crate::values::row;
+use mv_cases::ensure::ensure;
 use mv_store::store::Store;
 use mv_store::view::StoreView;
 use mv_table::scan::Direction;
