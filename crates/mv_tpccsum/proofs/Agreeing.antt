@@ -61,18 +61,18 @@ warehouses_told b n es shares groups are shares_are h =
     ap (int_eq e.1) (sum_told n (numbers_of shares e.0) (item_of groups e.0) (h e.0) ∙ ap (λ (l : List Entry). sum_of (numbers_of l e.0)) shares_are)) es
     ∙ ap (list_all (warehouse_agrees b)) are
 
--- an item that passes leaves the rest to decide
-pub all_at : {X : Type 0} (p : X → Bool) (old rest : List X) (e : X) (whole : Bool) → old ≡ e ∷ rest → p e ≡ true → list_all p old ≡ whole → list_all p rest ≡ whole
-all_at p old rest e whole shape passes so_far = sym (ap (λ b. b && list_all p rest) passes) ∙ (sym (ap (list_all p) shape) ∙ so_far)
-
--- an item that fails decides
-pub none_at : {X : Type 0} (p : X → Bool) (old rest : List X) (e : X) (whole : Bool) → old ≡ e ∷ rest → p e ≡ false → list_all p old ≡ whole → false ≡ whole
-none_at p old rest e whole shape fails so_far = sym (ap (λ b. b && list_all p rest) fails) ∙ (sym (ap (list_all p) shape) ∙ so_far)
-
 -- the entry of a row is the first of those from there on
-pub entry_at : (places : List ℕ) (place : ℕ) (rows : List Keyed) (i : ℕ) (item : Keyed) (key : List Value) (z : ℤ) → i < length rows → item ≡ slice_index_or rows i item
+entry_at : (places : List ℕ) (place : ℕ) (rows : List Keyed) (i : ℕ) (item : Keyed) (key : List Value) (z : ℤ) → i < length rows → item ≡ slice_index_or rows i item
     → columns_of item.row places ≡ key → number (column_of item.row place) ≡ z
     → map (entry_of places place) (drop i rows) ≡ (key, z) ∷ map (entry_of places place) (drop (i + 1) rows)
 entry_at places place rows i item key z lt is key_is z_is =
     ap (map (entry_of places place)) (drop_at rows i item lt is)
     ∙ ap₂ (λ (k : List Value) (n : ℤ). (k, n) ∷ map (entry_of places place) (drop (i + 1) rows)) key_is z_is
+
+-- a row that passes leaves the rest to decide, and one that fails decides
+pub row_told : (p : Entry → Bool) (places : List ℕ) (place : ℕ) (rows : List Keyed) (i : ℕ) (item : Keyed) (key : List Value) (z : ℤ) (told whole : Bool) → i < length rows
+    → item ≡ slice_index_or rows i item → columns_of item.row places ≡ key → number (column_of item.row place) ≡ z → p (key, z) ≡ told
+    → list_all p (map (entry_of places place) (drop i rows)) ≡ whole → (told && list_all p (map (entry_of places place) (drop (i + 1) rows))) ≡ whole
+row_told p places place rows i item key z told whole lt is key_is z_is tells so_far =
+    sym (ap (λ b. b && list_all p (map (entry_of places place) (drop (i + 1) rows))) tells)
+    ∙ (sym (ap (list_all p) (entry_at places place rows i item key z lt is key_is z_is)) ∙ so_far)
