@@ -1,4 +1,4 @@
--- What is done at spots, one after another.
+-- What is done at keys of tables, one after another.
 use Rattle.std.proofs.Common.{◌≡◌, ◌<◌, ◌≤◌, ◌+◌, ◌++◌, ◌==◌, ◌&&◌, ℕ, zero, suc, Bool, true, false, cond, inl, inr, List, [], ◌∷◌, Option, Some, None, length, take, slice_index_or, slice_set, refl, sym, ap, subst, ◌∙◌, arith}
 use Rattle.std.specs.Prelude.{OnSome, ◌||◌}
 use Rattle.std.specs.List.{list_any}
@@ -17,12 +17,12 @@ use Rattle.mv_chain.specs.Versions.{Versions, blank, is_blank, IsAboveAll, own_o
 use Rattle.mv_chain.proofs.Blank.{blank_only}
 use Rattle.mv_chain.proofs.Stamps.{is_dropped, others_are_kept}
 use Rattle.mv_store.specs.Stored.{Entries}
-use Rattle.mv_store.specs.declared.spots.Spot.{Spot}
+use Rattle.mv_store.specs.declared.written_keys.TableKey.{TableKey}
 use Rattle.mv_store.specs.declared.change.Fate.{Fate}
 use Rattle.mv_store.specs.declared.change.Fate.TheVariants.{Commit, Gone}
 use Rattle.mv_store.specs.declared.change.Change.{Change}
 use Rattle.mv_store.specs.declared.change.Change.TheVariants.{Settle, Collect}
-use Rattle.mv_store.specs.Kept.{versions_in, versions_of, entries_at, versions_at, AllRise, AreFilled, AllFilled, IsChanged, AreChanged, AllChanged, Noted, is_spot, HasSpot, spots_of, IsCovered, settled, after_change, MayChange, KeepsRows, done_at, AreDone}
+use Rattle.mv_store.specs.Kept.{versions_in, versions_of, entries_at, versions_at, AllRise, AreFilled, AllFilled, IsChanged, AreChanged, AllChanged, Noted, is_table_key, HasTableKey, table_keys_of, IsCovered, settled, after_change, MayChange, KeepsRows, done_at, AreDone}
 
 some_none : {A : Type 0} {a : A} → ◌≡◌ {A = Option A} (Some a) None → ⊥
 some_none e = cc
@@ -133,38 +133,38 @@ tables_unchanged t key f old le h = record { size = refl; at = λ u other. by u 
         both (is_eq (key_order key other)) (versions_at old u other) none
     by u other false e = refl
 
--- Spots
+-- Keys of tables
 
 -- nothing is done where it changes nothing
-pub done_fixed : (f : Versions → Versions) (ss : List Spot) (t : ℕ) (key : List Value) (v : Versions) → f v ≡ v → done_at f ss t key v ≡ v
+pub done_fixed : (f : Versions → Versions) (ss : List TableKey) (t : ℕ) (key : List Value) (v : Versions) → f v ≡ v → done_at f ss t key v ≡ v
 done_fixed f [] t key v h = refl
-done_fixed f (s ∷ ss) t key v h = ap (done_at f ss t key) (by (is_spot t key s)) ∙ done_fixed f ss t key v h
+done_fixed f (s ∷ ss) t key v h = ap (done_at f ss t key) (by (is_table_key t key s)) ∙ done_fixed f ss t key v h
   where
     by : (b : Bool) → cond b (f v) v ≡ v
     by true = h
     by false = refl
 
 -- nothing is done elsewhere
-pub done_miss : (f : Versions → Versions) (ss : List Spot) (t : ℕ) (key : List Value) (v : Versions) → list_any (is_spot t key) ss ≡ false → done_at f ss t key v ≡ v
+pub done_miss : (f : Versions → Versions) (ss : List TableKey) (t : ℕ) (key : List Value) (v : Versions) → list_any (is_table_key t key) ss ≡ false → done_at f ss t key v ≡ v
 done_miss f [] t key v h = refl
-done_miss f (s ∷ ss) t key v h = by (is_spot t key s) h (done_miss f ss t key v)
+done_miss f (s ∷ ss) t key v h = by (is_table_key t key s) h (done_miss f ss t key v)
   where
-    by : (b : Bool) → b || list_any (is_spot t key) ss ≡ false → (list_any (is_spot t key) ss ≡ false → done_at f ss t key v ≡ v) → done_at f ss t key (cond b (f v) v) ≡ v
+    by : (b : Bool) → b || list_any (is_table_key t key) ss ≡ false → (list_any (is_table_key t key) ss ≡ false → done_at f ss t key v ≡ v) → done_at f ss t key (cond b (f v) v) ≡ v
     by true e more = absurd (false≢true (sym e))
     by false e more = more e
 
 -- what is done again changes nothing
-pub done_hit : (f : Versions → Versions) (ss : List Spot) (t : ℕ) (key : List Value) (v : Versions) → f (f v) ≡ f v → HasSpot t key ss → done_at f ss t key v ≡ f v
+pub done_hit : (f : Versions → Versions) (ss : List TableKey) (t : ℕ) (key : List Value) (v : Versions) → f (f v) ≡ f v → HasTableKey t key ss → done_at f ss t key v ≡ f v
 done_hit f [] t key v h there = absurd (false≢true there)
-done_hit f (s ∷ ss) t key v h there = by (is_spot t key s) there (done_hit f ss t key v h)
+done_hit f (s ∷ ss) t key v h there = by (is_table_key t key s) there (done_hit f ss t key v h)
   where
-    by : (b : Bool) → b || list_any (is_spot t key) ss ≡ true → (HasSpot t key ss → done_at f ss t key v ≡ f v) → done_at f ss t key (cond b (f v) v) ≡ f v
+    by : (b : Bool) → b || list_any (is_table_key t key) ss ≡ true → (HasTableKey t key ss → done_at f ss t key v ≡ f v) → done_at f ss t key (cond b (f v) v) ≡ f v
     by true e more = done_fixed f ss t key (f v) h
     by false e more = more e
 
-pub done_more : (f : Versions → Versions) (ss : List Spot) (s : Spot) (t : ℕ) (key : List Value) (v : Versions) → done_at f (ss ++ s ∷ []) t key v ≡ cond (is_spot t key s) (f (done_at f ss t key v)) (done_at f ss t key v)
+pub done_more : (f : Versions → Versions) (ss : List TableKey) (s : TableKey) (t : ℕ) (key : List Value) (v : Versions) → done_at f (ss ++ s ∷ []) t key v ≡ cond (is_table_key t key s) (f (done_at f ss t key v)) (done_at f ss t key v)
 done_more f [] s t key v = refl
-done_more f (x ∷ ss) s t key v = done_more f ss s t key (cond (is_spot t key x) (f v) v)
+done_more f (x ∷ ss) s t key v = done_more f ss s t key (cond (is_table_key t key x) (f v) v)
 
 -- Fates
 
@@ -210,9 +210,9 @@ may_again (Settle call (Commit n)) v = subst (λ o. OnSome o (IsAboveAll n (stam
 may_again (Settle call Gone) v = tt
 may_again (Collect low) v = tt
 
-pub may_done : (to : Change) (ss : List Spot) (t : ℕ) (key : List Value) (v : Versions) → MayChange to v → MayChange to (done_at (after_change to) ss t key v)
+pub may_done : (to : Change) (ss : List TableKey) (t : ℕ) (key : List Value) (v : Versions) → MayChange to v → MayChange to (done_at (after_change to) ss t key v)
 may_done to [] t key v h = h
-may_done to (s ∷ ss) t key v h = may_done to ss t key (cond (is_spot t key s) (after_change to v) v) (by (is_spot t key s))
+may_done to (s ∷ ss) t key v h = may_done to ss t key (cond (is_table_key t key s) (after_change to v) v) (by (is_table_key t key s))
   where
     by : (b : Bool) → MayChange to (cond b (after_change to v) v)
     by true = may_again to v
@@ -239,25 +239,25 @@ rows_changed to t key old new change rows u other = elim (cases_Bool (t == u)) [
   | inr e ↦ rows_same to (versions_at old u other) (versions_at new u other) (change.at u other ∙ rw e refl)
 ]
 
--- The loop over spots
+-- The loop over keys of tables
 
 pub done_none : (f : Versions → Versions) (old : List Entries) → AreDone f [] old old
 done_none f old = record { size = refl; at = λ u key. refl; rising = λ r. r; filled = λ r. r }
 
-pub done_one : (f : Versions → Versions) (ss : List Spot) (i : ℕ) (s : Spot) (old now new : List Entries) → i < length ss → s ≡ slice_index_or ss i s → AreDone f (take i ss) old now → AreChanged s.table s.key f now new → AreDone f (take (i + 1) ss) old new
+pub done_one : (f : Versions → Versions) (ss : List TableKey) (i : ℕ) (s : TableKey) (old now new : List Entries) → i < length ss → s ≡ slice_index_or ss i s → AreDone f (take i ss) old now → AreChanged s.table s.key f now new → AreDone f (take (i + 1) ss) old new
 done_one f ss i s old now new lt is done change = record {
   size = change.size ∙ done.size;
   at = λ u key.
       change.at u key
-      ∙ (ap (λ v. cond (is_spot u key s) (f v) v) (done.at u key)
+      ∙ (ap (λ v. cond (is_table_key u key s) (f v) v) (done.at u key)
       ∙ (sym (done_more f (take i ss) s u key (versions_at old u key)) ∙ ap (λ l. done_at f l u key (versions_at old u key)) (ap (λ x. take i ss ++ x ∷ []) is ∙ sym (take_more ss i s lt))));
   rising = λ r. change.rising (done.rising r);
   filled = λ r. change.filled (done.filled r);
 }
 
 -- all that a call has written is settled, where it was noted
-pub all_settled : (fate : Fate) (call : ℕ) (spots : Noted) (ss : List Spot) (old new : List Entries) → IsCovered old spots → ss ≡ spots_of spots call → AreDone (settled fate call) ss old new → AllChanged (settled fate call) old new
-all_settled fate call spots ss old new covered is done = record {
+pub all_settled : (fate : Fate) (call : ℕ) (table_keys : Noted) (ss : List TableKey) (old new : List Entries) → IsCovered old table_keys → ss ≡ table_keys_of table_keys call → AreDone (settled fate call) ss old new → AllChanged (settled fate call) old new
+all_settled fate call table_keys ss old new covered is done = record {
   size = done.size;
   at = λ u key. done.at u key ∙ by u key (own_of call (versions_at old u key).own) refl;
   rising = done.rising;
@@ -269,4 +269,4 @@ all_settled fate call spots ss old new covered is done = record {
         let stays = settled_stays fate call (versions_at old u key) e in
         done_fixed (settled fate call) ss u key (versions_at old u key) stays ∙ sym stays
     by u key (Some patch) e =
-        done_hit (settled fate call) ss u key (versions_at old u key) (settled_twice fate call (versions_at old u key)) (subst (HasSpot u key) (sym is) (covered call u key (ap is_some e)))
+        done_hit (settled fate call) ss u key (versions_at old u key) (settled_twice fate call (versions_at old u key)) (subst (HasTableKey u key) (sym is) (covered call u key (ap is_some e)))

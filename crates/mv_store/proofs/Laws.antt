@@ -21,11 +21,11 @@ use Rattle.mv_chain.specs.Versions.{Versions, IsAboveAll, own_of, patched_by_own
 use Rattle.mv_chain.proofs.Stamps.{composes, others_stay, all_read, read_before, read_after}
 use Rattle.mv_store.specs.Stored.{Entries, Versioned, picked_in, table_at, database_at, newest, writes_from, own_writes, IsLike}
 use Rattle.mv_store.specs.Changes.{IsAsBefore, HasPut, HasDropped, HasStamped, HasRaised}
-use Rattle.mv_store.specs.declared.spots.Spot.{Spot}
-use Rattle.mv_store.specs.declared.spots.Written.{Written}
+use Rattle.mv_store.specs.declared.written_keys.TableKey.{TableKey}
+use Rattle.mv_store.specs.declared.written_keys.Written.{Written}
 use Rattle.mv_store.specs.declared.change.Fate.{Fate}
 use Rattle.mv_store.specs.declared.change.Fate.TheVariants.{Commit as Commits, Gone}
-use Rattle.mv_store.specs.Kept.{versions_of, versions_at, entries_at, AllRise, AreFilled, AllFilled, IsChanged, AreChanged, AllChanged, Noted, IsCovered, IsListed, AreUpTo, IsKept, HasSpot, HasEntry, KeepsSpots, spots_of, spots_in, noted_for, written_at, Climb, settled, MaySettle, AreCollected}
+use Rattle.mv_store.specs.Kept.{versions_of, versions_at, entries_at, AllRise, AreFilled, AllFilled, IsChanged, AreChanged, AllChanged, Noted, IsCovered, IsListed, AreUpTo, IsKept, HasEntry, noted_for, written_at, Climb, settled, MaySettle, AreCollected, HasTableKey, KeepsTableKeys, table_keys_of, table_keys_in}
 use Rattle.mv_store.proofs.Keys.{database_same, databases_same, row_in, rows_rise, size_is}
 use Rattle.mv_store.proofs.Own.{row_done, own_same, own_none}
 use Rattle.mv_store.proofs.Filled.{tables_collected}
@@ -88,23 +88,23 @@ module _ (t : ℕ) (key : List Value) (call : ℕ) (patch : Patch) (old new : Li
       by true v g = g
       by false v g = g
 
-  put_covered : (spots now : Noted) → IsCovered old spots → KeepsSpots spots now → (is_some (own_of call (versions_at old t key).own) ≡ false → HasSpot t key (spots_of now call)) → IsCovered new now
-  put_covered spots now covered keeps noted c u k some =
+  put_covered : (table_keys now : Noted) → IsCovered old table_keys → KeepsTableKeys table_keys now → (is_some (own_of call (versions_at old t key).own) ≡ false → HasTableKey t key (table_keys_of now call)) → IsCovered new now
+  put_covered table_keys now covered keeps noted c u k some =
       by ((t == u) && is_eq (key_order key k)) refl (subst (λ v. is_some (own_of c v.own) ≡ true) (change.at u k) some)
     where
-      before : is_some (own_of c (versions_at old u k).own) ≡ true → HasSpot u k (spots_of now c)
+      before : is_some (own_of c (versions_at old u k).own) ≡ true → HasTableKey u k (table_keys_of now c)
       before e = keeps.calls c u k (covered c u k e)
 
-      there : (t == u) && is_eq (key_order key k) ≡ true → call ≡ c → (b : Bool) → is_some (own_of c (versions_at old u k).own) ≡ b → HasSpot u k (spots_of now c)
+      there : (t == u) && is_eq (key_order key k) ≡ true → call ≡ c → (b : Bool) → is_some (own_of c (versions_at old u k).own) ≡ b → HasTableKey u k (table_keys_of now c)
       there e same true h = before h
       there e same false h =
           let st : t ≡ u = eqb-true t u (left_true (t == u) (is_eq (key_order key k)) e) in
           let sk : key ≡ k = tied key k (right_true (t == u) (is_eq (key_order key k)) e) in
           let none : is_some (own_of call (versions_at old t key).own) ≡ false =
           subst (λ x. is_some (own_of x (versions_at old t key).own) ≡ false) (sym same) (subst (λ x. is_some (own_of c (versions_at old x key).own) ≡ false) (sym st) (subst (λ x. is_some (own_of c (versions_at old u x).own) ≡ false) (sym sk) h)) in
-          subst (λ x. HasSpot u k (spots_of now x)) same (subst (λ x. HasSpot x k (spots_of now call)) st (subst (λ x. HasSpot t x (spots_of now call)) sk (noted none)))
+          subst (λ x. HasTableKey u k (table_keys_of now x)) same (subst (λ x. HasTableKey x k (table_keys_of now call)) st (subst (λ x. HasTableKey t x (table_keys_of now call)) sk (noted none)))
 
-      by : (b : Bool) → (t == u) && is_eq (key_order key k) ≡ b → is_some (own_of c (cond b (with_patch call patch (versions_at old u k)) (versions_at old u k)).own) ≡ true → HasSpot u k (spots_of now c)
+      by : (b : Bool) → (t == u) && is_eq (key_order key k) ≡ b → is_some (own_of c (cond b (with_patch call patch (versions_at old u k)) (versions_at old u k)).own) ≡ true → HasTableKey u k (table_keys_of now c)
       by false e h = before h
       by true e h = elim (cases_Bool (call == c)) [
         | inl same ↦ there e (eqb-true call c same) (is_some (own_of c (versions_at old u k).own)) refl
@@ -143,19 +143,19 @@ put_none call w s le = record {
 pub as_before : (s : Versioned) → IsAsBefore s s
 as_before s = record { reads = record { database = λ n. refl; last = refl; low = refl }; own = λ call. refl }
 
-pub put_kept : (t call last : ℕ) (key : List Value) (patch : Patch) (old new : List Entries) (spots now : Noted) → IsKept old spots last → AreChanged t key (with_patch call patch) old new
-    → KeepsSpots spots now → (is_some (own_of call (versions_at old t key).own) ≡ false → HasSpot t key (spots_of now call)) → IsKept new now last
-put_kept t call last key patch old new spots now kept change keeps noted = record {
+pub put_kept : (t call last : ℕ) (key : List Value) (patch : Patch) (old new : List Entries) (table_keys now : Noted) → IsKept old table_keys last → AreChanged t key (with_patch call patch) old new
+    → KeepsTableKeys table_keys now → (is_some (own_of call (versions_at old t key).own) ≡ false → HasTableKey t key (table_keys_of now call)) → IsKept new now last
+put_kept t call last key patch old new table_keys now kept change keeps noted = record {
   rising = change.rising kept.rising;
   filled = change.filled kept.filled;
   numbers = put_numbers t key call patch old new kept.rising change last kept.numbers;
-  covered = put_covered t key call patch old new kept.rising change spots now kept.covered keeps noted;
-  listed = listed_still old new spots.commits now.commits (put_commits t key call patch old new kept.rising change) keeps.commits kept.listed;
+  covered = put_covered t key call patch old new kept.rising change table_keys now kept.covered keeps noted;
+  listed = listed_still old new table_keys.commits now.commits (put_commits t key call patch old new kept.rising change) keeps.commits kept.listed;
   climb = subst (λ ws. Climb 0 ws last) (sym keeps.commits) kept.climb;
 }
 
-pub spots_kept : (last : ℕ) (tables : List Entries) (spots now : Noted) → IsKept tables spots last → KeepsSpots spots now → IsKept tables now last
-spots_kept last tables spots now kept keeps = record {
+pub table_keys_kept : (last : ℕ) (tables : List Entries) (table_keys now : Noted) → IsKept tables table_keys last → KeepsTableKeys table_keys now → IsKept tables now last
+table_keys_kept last tables table_keys now kept keeps = record {
   rising = kept.rising;
   filled = kept.filled;
   numbers = kept.numbers;
@@ -202,8 +202,8 @@ module _ (fate : Fate) (call : ℕ) (old new : List Entries) (rise : AllRise old
   settled_rest : (other : ℕ) → (call ≡ other → ⊥) → own_in other new ≡ own_in other old
   settled_rest other ne = own_same other new old change.size (change.rising rise) rise (λ u k. ap (λ v. own_of other v.own) (change.at u k) ∙ settled_others fate call other (versions_at old u k) ne)
 
-  settled_covered : (spots now : Noted) → IsCovered old spots → ((other : ℕ) → spots_of now other ≡ cond (call == other) [] (spots_of spots other)) → IsCovered new now
-  settled_covered spots now covered are c u k some =
+  settled_covered : (table_keys now : Noted) → IsCovered old table_keys → ((other : ℕ) → table_keys_of now other ≡ cond (call == other) [] (table_keys_of table_keys other)) → IsCovered new now
+  settled_covered table_keys now covered are c u k some =
       let here : is_some (own_of c (settled fate call (versions_at old u k)).own) ≡ true = subst (λ v. is_some (own_of c v.own) ≡ true) (change.at u k) some in
       elim (cases_Bool (call == c)) [
         | inl same ↦
@@ -211,8 +211,8 @@ module _ (fate : Fate) (call : ℕ) (old new : List Entries) (rise : AllRise old
             absurd (false≢true (sym (ap is_some gone) ∙ here))
         | inr ne ↦
             let stays = settled_others fate call c (versions_at old u k) (λ same. eqb-false call c ne same) in
-            let noted : HasSpot u k (spots_of spots c) = covered c u k (ap is_some (sym stays) ∙ here) in
-            subst (HasSpot u k) (sym (are c ∙ ap (λ b. cond b [] (spots_of spots c)) ne)) noted
+            let noted : HasTableKey u k (table_keys_of table_keys c) = covered c u k (ap is_some (sym stays) ∙ here) in
+            subst (HasTableKey u k) (sym (are c ∙ ap (λ b. cond b [] (table_keys_of table_keys c)) ne)) noted
       ]
 
 pub all_dropped : (call : ℕ) (old new : Versioned) → AllRise old.tables → AllChanged (settled Gone call) old.tables new.tables → new.last ≡ old.last → new.low ≡ old.low → HasDropped call old new
@@ -226,13 +226,13 @@ all_dropped call old new rise change last low = record {
   own = settled_own Gone call old.tables new.tables rise change;
 }
 
-pub dropped_kept : (call last : ℕ) (old new : List Entries) (spots now : Noted) → IsKept old spots last → AllChanged (settled Gone call) old new → ((other : ℕ) → spots_of now other ≡ cond (call == other) [] (spots_of spots other)) → now.commits ≡ spots.commits → IsKept new now last
-dropped_kept call last old new spots now kept change are same = record {
+pub dropped_kept : (call last : ℕ) (old new : List Entries) (table_keys now : Noted) → IsKept old table_keys last → AllChanged (settled Gone call) old new → ((other : ℕ) → table_keys_of now other ≡ cond (call == other) [] (table_keys_of table_keys other)) → now.commits ≡ table_keys.commits → IsKept new now last
+dropped_kept call last old new table_keys now kept change are same = record {
   rising = change.rising kept.rising;
   filled = change.filled kept.filled;
   numbers = λ u k. subst (IsAboveAll (last + 1)) (sym (change.at u k)) (kept.numbers u k);
-  covered = settled_covered Gone call old new kept.rising change spots now kept.covered are;
-  listed = listed_still old new spots.commits now.commits (λ u k. ap (λ v. v.commits) (change.at u k)) same kept.listed;
+  covered = settled_covered Gone call old new kept.rising change table_keys now kept.covered are;
+  listed = listed_still old new table_keys.commits now.commits (λ u k. ap (λ v. v.commits) (change.at u k)) same kept.listed;
   climb = subst (λ ws. Climb 0 ws last) (sym same) kept.climb;
 }
 
@@ -278,7 +278,7 @@ all_stamped call n old new rise numbers lt change last low = record {
 }
 
 -- a commit is noted where its call's keys were
-stamped_listed : (call n t : ℕ) (key : List Value) (v : Versions) (ws : List Written) (o : Option (List Spot)) → (is_some (own_of call v.own) ≡ true → HasSpot t key (spots_in o)) → All (λ c. HasEntry c.number t key ws) v.commits
+stamped_listed : (call n t : ℕ) (key : List Value) (v : Versions) (ws : List Written) (o : Option (List TableKey)) → (is_some (own_of call v.own) ≡ true → HasTableKey t key (table_keys_in o)) → All (λ c. HasEntry c.number t key ws) v.commits
     → All (λ c. HasEntry c.number t key (ws ++ written_at n o)) (stamped call n v).commits
 stamped_listed call n t key v ws o covered h = by (own_of call v.own) refl
   where
@@ -289,17 +289,17 @@ stamped_listed call n t key v ws o covered h = by (own_of call v.own) refl
     by None e = old
     by (Some patch) e = All-push (λ c. HasEntry c.number t key (ws ++ written_at n o)) v.commits (record { number = n; row = patched patch (newest_row v) }) old (entry_last n t key ws o (covered (ap is_some e)))
 
-pub stamped_kept : (call n last : ℕ) (old new : List Entries) (spots now : Noted) → IsKept old spots last → last < n → AllChanged (settled (Commits n) call) old new → ((other : ℕ) → spots_of now other ≡ cond (call == other) [] (spots_of spots other)) → now.commits ≡ spots.commits ++ written_at n (noted_for spots call) → IsKept new now n
-stamped_kept call n last old new spots now kept lt change are more = record {
+pub stamped_kept : (call n last : ℕ) (old new : List Entries) (table_keys now : Noted) → IsKept old table_keys last → last < n → AllChanged (settled (Commits n) call) old new → ((other : ℕ) → table_keys_of now other ≡ cond (call == other) [] (table_keys_of table_keys other)) → now.commits ≡ table_keys.commits ++ written_at n (noted_for table_keys call) → IsKept new now n
+stamped_kept call n last old new table_keys now kept lt change are more = record {
   rising = change.rising kept.rising;
   filled = change.filled kept.filled;
   numbers = λ u k. subst (IsAboveAll (n + 1)) (sym (change.at u k)) (stamped_numbers call n last (versions_at old u k) (kept.numbers u k) lt);
-  covered = settled_covered (Commits n) call old new kept.rising change spots now kept.covered are;
+  covered = settled_covered (Commits n) call old new kept.rising change table_keys now kept.covered are;
   listed = λ u k.
       subst (λ ws. All (λ c. HasEntry c.number u k ws) (versions_at new u k).commits) (sym more)
-      (subst (λ v. All (λ c. HasEntry c.number u k (spots.commits ++ written_at n (noted_for spots call))) v.commits) (sym (change.at u k))
-      (stamped_listed call n u k (versions_at old u k) spots.commits (noted_for spots call) (kept.covered call u k) (kept.listed u k)));
-  climb = subst (λ ws. Climb 0 ws n) (sym more) (climb_push 0 last n spots.commits (noted_for spots call) kept.climb (omega (arith, lt)));
+      (subst (λ v. All (λ c. HasEntry c.number u k (table_keys.commits ++ written_at n (noted_for table_keys call))) v.commits) (sym (change.at u k))
+      (stamped_listed call n u k (versions_at old u k) table_keys.commits (noted_for table_keys call) (kept.covered call u k) (kept.listed u k)));
+  climb = subst (λ ws. Climb 0 ws n) (sym more) (climb_push 0 last n table_keys.commits (noted_for table_keys call) kept.climb (omega (arith, lt)));
 }
 
 -- Old versions are forgotten
@@ -333,25 +333,25 @@ all_same t key old new rise change last low = record {
   own = λ call. own_same call new.tables old.tables change.size (change.rising rise) rise (λ u k. ap (λ v. own_of call v.own) (same_at t key old.tables new.tables rise change u k));
 }
 
-pub same_kept : (t last : ℕ) (key : List Value) (old new : List Entries) (spots now : Noted) → IsKept old spots last → AreChanged t key (λ v. v) old new → KeepsSpots spots now → IsKept new now last
-same_kept t last key old new spots now kept change keeps = record {
+pub same_kept : (t last : ℕ) (key : List Value) (old new : List Entries) (table_keys now : Noted) → IsKept old table_keys last → AreChanged t key (λ v. v) old new → KeepsTableKeys table_keys now → IsKept new now last
+same_kept t last key old new table_keys now kept change keeps = record {
   rising = change.rising kept.rising;
   filled = change.filled kept.filled;
   numbers = λ u k. subst (IsAboveAll (last + 1)) (sym (same_at t key old new kept.rising change u k)) (kept.numbers u k);
   covered = λ c u k some. keeps.calls c u k (kept.covered c u k (subst (λ v. is_some (own_of c v.own) ≡ true) (same_at t key old new kept.rising change u k) some));
-  listed = listed_still old new spots.commits now.commits (λ u k. ap (λ v. v.commits) (same_at t key old new kept.rising change u k)) keeps.commits kept.listed;
+  listed = listed_still old new table_keys.commits now.commits (λ u k. ap (λ v. v.commits) (same_at t key old new kept.rising change u k)) keeps.commits kept.listed;
   climb = subst (λ ws. Climb 0 ws last) (sym keeps.commits) kept.climb;
 }
 
-pub put_any : {E : Type 0} (r : Result (Unit {0}) E) (t call last : ℕ) (key : List Value) (patch : Patch) (old new : List Entries) (was es : Entries) (spots now : Noted) → IsKept old spots last → t < length old → was ≡ entries_at old t
-    → OnOk r (IsChanged key (with_patch call patch) was es) → OnErr r (IsChanged key (λ v. v) was es) → (AreFilled was → AreFilled es) → KeepsSpots spots now → OnOk r (is_some (own_of call (versions_of was key).own) ≡ false → HasSpot t key (spots_of now call))
+pub put_any : {E : Type 0} (r : Result (Unit {0}) E) (t call last : ℕ) (key : List Value) (patch : Patch) (old new : List Entries) (was es : Entries) (table_keys now : Noted) → IsKept old table_keys last → t < length old → was ≡ entries_at old t
+    → OnOk r (IsChanged key (with_patch call patch) was es) → OnErr r (IsChanged key (λ v. v) was es) → (AreFilled was → AreFilled es) → KeepsTableKeys table_keys now → OnOk r (is_some (own_of call (versions_of was key).own) ≡ false → HasTableKey t key (table_keys_of now call))
     → new ≡ slice_set old t es → IsKept new now last
-put_any (Ok x) t call last key patch old new was es spots now kept lt is ok err full keeps noted set =
-    put_kept t call last key patch old new spots now kept
+put_any (Ok x) t call last key patch old new was es table_keys now kept lt is ok err full keeps noted set =
+    put_kept t call last key patch old new table_keys now kept
     (tables_changed t key (with_patch call patch) old new es lt (subst (λ l. IsChanged key (with_patch call patch) l es) is ok) (subst (λ l. AreFilled l → AreFilled es) is full) set) keeps
-    (subst (λ l. is_some (own_of call (versions_of l key).own) ≡ false → HasSpot t key (spots_of now call)) is noted)
-put_any (Err e) t call last key patch old new was es spots now kept lt is ok err full keeps noted set =
-    same_kept t last key old new spots now kept (tables_changed t key (λ v. v) old new es lt (subst (λ l. IsChanged key (λ v. v) l es) is err) (subst (λ l. AreFilled l → AreFilled es) is full) set) keeps
+    (subst (λ l. is_some (own_of call (versions_of l key).own) ≡ false → HasTableKey t key (table_keys_of now call)) is noted)
+put_any (Err e) t call last key patch old new was es table_keys now kept lt is ok err full keeps noted set =
+    same_kept t last key old new table_keys now kept (tables_changed t key (λ v. v) old new es lt (subst (λ l. IsChanged key (λ v. v) l es) is err) (subst (λ l. AreFilled l → AreFilled es) is full) set) keeps
 
 pub like_is : (s : Versioned) (n : ℕ) → AllRise s.tables → IsLike s (database_at s n)
 like_is s n rise = record { size = size_is n s.tables; rising = rows_rise n s.tables rise }

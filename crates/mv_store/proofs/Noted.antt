@@ -5,18 +5,18 @@ use Rattle.std.specs.List.{list_any}
 use Rattle.std.proofs.lemmas.Bool.{cases_Bool, eq-eqb, eqb-true, false≢true}
 use Rattle.mv_values.specs.declared.value.Value.{Value}
 use Rattle.mv_values.proofs.KeyOrder.{same_key}
-use Rattle.mv_store.specs.declared.spots.Spot.{Spot}
-use Rattle.mv_store.specs.declared.spots.Written.{Written}
-use Rattle.mv_store.specs.Kept.{spots_in, is_spot, is_entry, is_due, written_at, HasSpot, HasEntry, Climb}
+use Rattle.mv_store.specs.Kept.{is_entry, is_due, written_at, HasEntry, Climb, table_keys_in, is_table_key, HasTableKey}
+use Rattle.mv_store.specs.declared.written_keys.TableKey.{TableKey}
+use Rattle.mv_store.specs.declared.written_keys.Written.{Written}
 
-at_itself : (s : Spot) → is_spot s.table s.key s ≡ true
+at_itself : (s : TableKey) → is_table_key s.table s.key s ≡ true
 at_itself s = rw (eq-eqb s.table s.table refl, same_key s.key) refl
 
-pub last_noted : (ss : List Spot) (s : Spot) → HasSpot s.table s.key (ss ++ s ∷ [])
+pub last_noted : (ss : List TableKey) (s : TableKey) → HasTableKey s.table s.key (ss ++ s ∷ [])
 last_noted [] s = rw (at_itself s) refl
-last_noted (x ∷ ss) s = by (is_spot s.table s.key x) (last_noted ss s)
+last_noted (x ∷ ss) s = by (is_table_key s.table s.key x) (last_noted ss s)
   where
-    by : (b : Bool) → HasSpot s.table s.key (ss ++ s ∷ []) → b || list_any (is_spot s.table s.key) (ss ++ s ∷ []) ≡ true
+    by : (b : Bool) → HasTableKey s.table s.key (ss ++ s ∷ []) → b || list_any (is_table_key s.table s.key) (ss ++ s ∷ []) ≡ true
     by true more = refl
     by false more = more
 
@@ -35,9 +35,9 @@ entry_left n t key (w ∷ ws) more h = by (is_entry n t key w) h (entry_left n t
     by false e rest = rest e
 
 -- the keys of a call are those of its commit
-pub entry_last : (n t : ℕ) (key : List Value) (ws : List Written) (o : Option (List Spot)) → HasSpot t key (spots_in o) → HasEntry n t key (ws ++ written_at n o)
+pub entry_last : (n t : ℕ) (key : List Value) (ws : List Written) (o : Option (List TableKey)) → HasTableKey t key (table_keys_in o) → HasEntry n t key (ws ++ written_at n o)
 entry_last n t key [] None h = absurd (false≢true h)
-entry_last n t key [] (Some spots) h = let there : list_any (is_spot t key) spots ≡ true = h in rw (eq-eqb n n refl, there) refl
+entry_last n t key [] (Some table_keys) h = let there : list_any (is_table_key t key) table_keys ≡ true = h in rw (eq-eqb n n refl, there) refl
 entry_last n t key (w ∷ ws) o h = by (is_entry n t key w) (entry_last n t key ws o h)
   where
     by : (b : Bool) → HasEntry n t key (ws ++ written_at n o) → b || list_any (is_entry n t key) (ws ++ written_at n o) ≡ true
@@ -52,9 +52,9 @@ entry_rest n t key w ws differs h = by (is_entry n t key w) differs h
     by true e g = absurd (false≢true (sym e))
     by false e g = g
 
-pub climb_push : (first last n : ℕ) (ws : List Written) (o : Option (List Spot)) → Climb first ws last → last ≤ n → Climb first (ws ++ written_at n o) n
+pub climb_push : (first last n : ℕ) (ws : List Written) (o : Option (List TableKey)) → Climb first ws last → last ≤ n → Climb first (ws ++ written_at n o) n
 climb_push first last n [] None h le = le_trans h le
-climb_push first last n [] (Some spots) h le = (le_trans h le, omega arith)
+climb_push first last n [] (Some table_keys) h le = (le_trans h le, omega arith)
 climb_push first last n (w ∷ ws) o h le = (h.0, climb_push w.commit last n ws o h.1 le)
 
 pub climb_from : (low first last : ℕ) (ws : List Written) → low ≤ first → Climb first ws last → Climb low ws last

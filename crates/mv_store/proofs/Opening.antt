@@ -105,13 +105,13 @@ all_full (x ∷ xs) (suc t) key = all_full xs t key
 pub opened_own : (call : ℕ) (db : List (List Keyed)) → AllRise (map opened db) → writes_from 0 (picked_in (λ v. own_of call v.own) (map opened db)) ≡ []
 opened_own call db r = own_none call (map opened db) r (λ t key. ap (own_of call) (all_new db t key).1)
 
-pub opened_kept : (db : List (List Keyed)) (tables : List Entries) (spots : Noted) → tables ≡ map opened db → AllRise tables → spots.commits ≡ [] → IsKept tables spots 0
-opened_kept db tables spots is rise none = record {
+pub opened_kept : (db : List (List Keyed)) (tables : List Entries) (table_keys : Noted) → tables ≡ map opened db → AllRise tables → table_keys.commits ≡ [] → IsKept tables table_keys 0
+opened_kept db tables table_keys is rise none = record {
   rising = rise;
   filled = subst AllFilled (sym is) (all_full db);
   numbers = λ t key. subst (λ cs. All (λ c. c.number < 0 + 1) cs) (sym (no_commits t key)) (All-nil (λ c. c.number < 0 + 1));
   covered = λ call t key some. absurd (false≢true (sym (ap is_some (ap (own_of call) (ap (λ ts. (versions_at ts t key).own) is ∙ (all_new db t key).1))) ∙ some));
-  listed = λ t key. subst (λ cs. All (λ c. HasEntry c.number t key spots.commits) cs) (sym (no_commits t key)) (All-nil (λ c. HasEntry c.number t key spots.commits));
+  listed = λ t key. subst (λ cs. All (λ c. HasEntry c.number t key table_keys.commits) cs) (sym (no_commits t key)) (All-nil (λ c. HasEntry c.number t key table_keys.commits));
   climb = subst (λ ws. Climb 0 ws 0) (sym none) (omega arith);
 }
   where

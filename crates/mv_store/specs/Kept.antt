@@ -10,8 +10,8 @@ use Rattle.mv_values.specs.Order.{key_order}
 use Rattle.mv_table.specs.Entries.{item_of, KeysRise}
 use Rattle.mv_chain.specs.Versions.{Versions, IsAboveAll, blank, is_blank, own_of, without, stamped, collected, row_at}
 use Rattle.mv_store.specs.Stored.{Entries}
-use Rattle.mv_store.specs.declared.spots.Spot.{Spot}
-use Rattle.mv_store.specs.declared.spots.Written.{Written}
+use Rattle.mv_store.specs.declared.written_keys.TableKey.{TableKey}
+use Rattle.mv_store.specs.declared.written_keys.Written.{Written}
 use Rattle.mv_store.specs.declared.change.Fate.{Fate}
 use Rattle.mv_store.specs.declared.change.Fate.TheVariants.{Commit, Gone}
 use Rattle.mv_store.specs.declared.change.Change.{Change}
@@ -73,39 +73,39 @@ pub record AllChanged (f : Versions → Versions) (old new : List Entries) : Typ
 
 -- the keys that each call has written and not committed, and those of the commits that aren't collected
 pub record Noted : Type 0 where
-  pub calls : List (ℕ × List Spot)
+  pub calls : List (ℕ × List TableKey)
   pub commits : List Written
 
-abbrev pub spots_in : Option (List Spot) → List Spot
-spots_in None = []
-spots_in (Some spots) = spots
+abbrev pub table_keys_in : Option (List TableKey) → List TableKey
+table_keys_in None = []
+table_keys_in (Some table_keys) = table_keys
 
 -- the keys that are noted for a call, if there are any
-abbrev pub noted_for : Noted → ℕ → Option (List Spot)
+abbrev pub noted_for : Noted → ℕ → Option (List TableKey)
 noted_for s call = lookup (is_at (nat_cmp call)) s.calls
 
-abbrev pub spots_of : Noted → ℕ → List Spot
-spots_of s call = spots_in (noted_for s call)
+abbrev pub table_keys_of : Noted → ℕ → List TableKey
+table_keys_of s call = table_keys_in (noted_for s call)
 
-abbrev pub is_spot : ℕ → List Value → Spot → Bool
-is_spot t key spot = (spot.table == t) && is_eq (key_order spot.key key)
+abbrev pub is_table_key : ℕ → List Value → TableKey → Bool
+is_table_key t key table_key = (table_key.table == t) && is_eq (key_order table_key.key key)
 
 -- a key is among those noted
-abbrev pub HasSpot : ℕ → List Value → List Spot → Type 0
-HasSpot t key spots = list_any (is_spot t key) spots ≡ true
+abbrev pub HasTableKey : ℕ → List Value → List TableKey → Type 0
+HasTableKey t key table_keys = list_any (is_table_key t key) table_keys ≡ true
 
 -- all noted keys are still noted
-pub record KeepsSpots (old new : Noted) : Type 0 where
-  pub calls : (call t : ℕ) (key : List Value) → HasSpot t key (spots_of old call) → HasSpot t key (spots_of new call)
+pub record KeepsTableKeys (old new : Noted) : Type 0 where
+  pub calls : (call t : ℕ) (key : List Value) → HasTableKey t key (table_keys_of old call) → HasTableKey t key (table_keys_of new call)
   pub commits : new.commits ≡ old.commits
 
 -- the keys of a call, as those of a commit
-abbrev pub written_at : ℕ → Option (List Spot) → List Written
+abbrev pub written_at : ℕ → Option (List TableKey) → List Written
 written_at n None = []
-written_at n (Some spots) = record { commit = n; spots = spots } ∷ []
+written_at n (Some table_keys) = record { commit = n; table_keys = table_keys } ∷ []
 
 abbrev pub is_entry : ℕ → ℕ → List Value → Written → Bool
-is_entry n t key w = (w.commit == n) && list_any (is_spot t key) w.spots
+is_entry n t key w = (w.commit == n) && list_any (is_table_key t key) w.table_keys
 
 -- a key is among those of commit n
 abbrev pub HasEntry : ℕ → ℕ → List Value → List Written → Type 0
@@ -123,7 +123,7 @@ Climb first (w ∷ ws) last = (first ≤ w.commit) × Climb w.commit ws last
 
 -- each key that a call has written is noted for it
 abbrev pub IsCovered : List Entries → Noted → Type 0
-IsCovered tables spots = (call t : ℕ) (key : List Value) → is_some (own_of call (versions_at tables t key).own) ≡ true → HasSpot t key (spots_of spots call)
+IsCovered tables table_keys = (call t : ℕ) (key : List Value) → is_some (own_of call (versions_at tables t key).own) ≡ true → HasTableKey t key (table_keys_of table_keys call)
 
 -- the key of each commit that is stored is noted for it
 abbrev pub IsListed : List Entries → List Written → Type 0
@@ -134,13 +134,13 @@ abbrev pub AreUpTo : ℕ → List Entries → Type 0
 AreUpTo last tables = (t : ℕ) (key : List Value) → IsAboveAll (last + 1) (versions_at tables t key)
 
 -- the invariant of the parts of a store
-pub record IsKept (tables : List Entries) (spots : Noted) (last : ℕ) : Type 0 where
+pub record IsKept (tables : List Entries) (table_keys : Noted) (last : ℕ) : Type 0 where
   pub rising : AllRise tables
   pub filled : AllFilled tables
   pub numbers : AreUpTo last tables
-  pub covered : IsCovered tables spots
-  pub listed : IsListed tables spots.commits
-  pub climb : Climb 0 spots.commits last
+  pub covered : IsCovered tables table_keys
+  pub listed : IsListed tables table_keys.commits
+  pub climb : Climb 0 table_keys.commits last
 
 -- Changes
 
@@ -168,14 +168,14 @@ abbrev pub KeepsRows : Change → Versions → Versions → Type 0
 KeepsRows (Settle call fate) old new = ⊤
 KeepsRows (Collect low) old new = (n : ℕ) → low ≤ n → row_at new n ≡ row_at old n
 
--- f at each of these spots, one after another
-abbrev pub done_at : (Versions → Versions) → List Spot → ℕ → List Value → Versions → Versions
+-- f at each of these keys, one after another
+abbrev pub done_at : (Versions → Versions) → List TableKey → ℕ → List Value → Versions → Versions
 done_at f [] t key v = v
-done_at f (s ∷ ss) t key v = done_at f ss t key (if is_spot t key s then f v else v)
+done_at f (s ∷ ss) t key v = done_at f ss t key (if is_table_key t key s then f v else v)
 
-pub record AreDone (f : Versions → Versions) (spots : List Spot) (old new : List Entries) : Type 0 where
+pub record AreDone (f : Versions → Versions) (table_keys : List TableKey) (old new : List Entries) : Type 0 where
   pub size : length new ≡ length old
-  pub at : (u : ℕ) (key : List Value) → versions_at new u key ≡ done_at f spots u key (versions_at old u key)
+  pub at : (u : ℕ) (key : List Value) → versions_at new u key ≡ done_at f table_keys u key (versions_at old u key)
   pub rising : AllRise old → AllRise new
   pub filled : AllFilled old → AllFilled new
 

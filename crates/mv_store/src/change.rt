@@ -4,9 +4,9 @@ ghost use Rattle.std.specs.Prelude.{◌≡◌, ℕ, false, true, List as Seq};
 ghost use Rattle.std.specs.Option.{option_copied};
 ghost use Rattle.mv_values.specs.declared.value.Value.{Value};
 ghost use Rattle.mv_chain.specs.Versions.{is_blank};
-ghost use Rattle.mv_store.specs.Kept.{versions_of, versions_at, spots_in, settled, MaySettle, after_change, MayChange, KeepsRows, AreFilled, AreFilledBut, IsChanged, AreChanged, AreDone};
+ghost use Rattle.mv_store.specs.Kept.{versions_of, versions_at, table_keys_in, settled, MaySettle, after_change, MayChange, KeepsRows, AreFilled, AreFilledBut, IsChanged, AreChanged, AreDone};
 
-use crate::spots::Spot;
+use crate::written_keys::TableKey;
 use mv_chain::chain::Chain;
 use mv_table::key_map::KeyMap;
 use mv_values::list::List;
@@ -89,41 +89,41 @@ fn change_under(table: &mut KeyMap<Chain>, key: &Key, to: Change)
     }
 }
 
-/// Changes the versions at a spot.
-fn change_at(tables: &mut Vec<KeyMap<Chain>>, spot: &Spot, to: Change)
-    requires { MayChange to (versions_at tables.old.items spot.now.table spot.now.key) }
-    ensures versions { AreChanged spot.now.table spot.now.key (after_change to) tables.old.items tables.new.items }
-    ensures rows { KeepsRows to (versions_at tables.old.items spot.now.table spot.now.key) (versions_at tables.new.items spot.now.table spot.now.key) }
+/// Changes the versions at a key of a table.
+fn change_at(tables: &mut Vec<KeyMap<Chain>>, table_key: &TableKey, to: Change)
+    requires { MayChange to (versions_at tables.old.items table_key.now.table table_key.now.key) }
+    ensures versions { AreChanged table_key.now.table table_key.now.key (after_change to) tables.old.items tables.new.items }
+    ensures rows { KeepsRows to (versions_at tables.old.items table_key.now.table table_key.now.key) (versions_at tables.new.items table_key.now.table table_key.now.key) }
 {
-    let at = spot.table as usize;
+    let at = table_key.table as usize;
     if at < tables.len() {
-        change_under(&mut tables[at], &spot.key, to);
+        change_under(&mut tables[at], &table_key.key, to);
     }
 }
 
-/// Changes the versions at these spots. It allocates no memory. Takes time logarithmic in the number of rows for each
-/// spot.
-pub(crate) fn change_all(tables: &mut Vec<KeyMap<Chain>>, spots: &[Spot], to: Change)
+/// Changes the versions at these keys. It allocates no memory. Takes time logarithmic in the number of rows for each
+/// key.
+pub(crate) fn change_all(tables: &mut Vec<KeyMap<Chain>>, table_keys: &[TableKey], to: Change)
     requires { (t : ℕ) (key : Seq Value) → MayChange to (versions_at tables.old.items t key) }
-    ensures versions { AreDone (after_change to) spots.now tables.old.items tables.new.items }
+    ensures versions { AreDone (after_change to) table_keys.now tables.old.items tables.new.items }
     ensures rows { (t : ℕ) (key : Seq Value) → KeepsRows to (versions_at tables.old.items t key) (versions_at tables.new.items t key) }
 {
-    for spot in spots {
-        change_at(tables, spot, to);
+    for table_key in table_keys {
+        change_at(tables, table_key, to);
     }
 }
 
-/// Settles the patches of a call at the spots that are noted for it.
+/// Settles the patches of a call at the keys that are noted for it.
 pub(crate) fn settle_noted(
     tables: &mut Vec<KeyMap<Chain>>,
-    noted: Option<&List<Spot>>,
+    noted: Option<&List<TableKey>>,
     call: u32,
     fate: Fate,
 )
     requires { (t : ℕ) (key : Seq Value) → MaySettle fate call (versions_at tables.old.items t key) }
-    ensures { AreDone (settled fate call) (spots_in (option_copied noted.entry)) tables.old.items tables.new.items }
+    ensures { AreDone (settled fate call) (table_keys_in (option_copied noted.entry)) tables.old.items tables.new.items }
 {
-    if let Some(spots) = noted {
-        change_all(tables, spots.as_slice(), Change::Settle(call, fate));
+    if let Some(table_keys) = noted {
+        change_all(tables, table_keys.as_slice(), Change::Settle(call, fate));
     }
 }

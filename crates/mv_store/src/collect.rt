@@ -4,17 +4,17 @@ ghost use Rattle.std.specs.Prelude.{ℕ};
 ghost use Rattle.mv_store.specs.Kept.{IsKept, AreCollected};
 
 use crate::change::{Change, change_all};
-use crate::spots::Spots;
+use crate::written_keys::WrittenKeys;
 use mv_chain::chain::Chain;
 use mv_table::key_map::KeyMap;
 
 /// Drops the rows of all tables before commit `low`, and the keys that have no versions left. It visits only the keys
 /// that the commits up to `low` have written, and forgets them. It allocates no memory. Takes time logarithmic in the
 /// number of rows for each of these keys.
-pub(crate) fn collect_all(tables: &mut Vec<KeyMap<Chain>>, spots: &mut Spots, low: u32)
-    ensures { (last : ℕ) → IsKept tables.old.items spots.old last → AreCollected low tables.old.items tables.new.items × IsKept tables.new.items spots.new last }
+pub(crate) fn collect_all(tables: &mut Vec<KeyMap<Chain>>, table_keys: &mut WrittenKeys, low: u32)
+    ensures { (last : ℕ) → IsKept tables.old.items table_keys.old last → AreCollected low tables.old.items tables.new.items × IsKept tables.new.items table_keys.new last }
 {
-    while let Some(written) = spots.take_due(low) {
-        change_all(tables, written.spots.as_slice(), Change::Collect(low));
+    while let Some(written) = table_keys.take_due(low) {
+        change_all(tables, written.table_keys.as_slice(), Change::Collect(low));
     }
 }

@@ -9,7 +9,7 @@ mod change;
 mod collect;
 mod find;
 mod open;
-mod spots;
 pub mod store;
 pub mod view;
 mod write;
+mod written_keys;

@@ -14,8 +14,8 @@ use crate::change::{Fate, settle_noted};
 use crate::collect::collect_all;
 use crate::find::{copy_tables, find, find_foremost, find_row};
 use crate::open::open_all;
-use crate::spots::Spots;
 use crate::write::put_write;
+use crate::written_keys::WrittenKeys;
 use mv_chain::chain::Chain;
 use mv_table::key_map::KeyMap;
 use mv_table::scan::Direction;
@@ -33,7 +33,7 @@ use std::marker::Model;
 #[derive(Drop)]
 pub struct Store {
     tables: Vec<KeyMap<Chain>>,
-    spots: Spots,
+    table_keys: WrittenKeys,
     last: u32,
     low: u32,
 }
@@ -46,7 +46,7 @@ impl Model for Store {
 
     ghost view = { λ s. record { tables = s.tables.items; last = s.last; low = s.low } };
 
-    ghost invariant = { λ s. IsKept s.tables.items s.spots s.last };
+    ghost invariant = { λ s. IsKept s.tables.items s.table_keys s.last };
 }
 
 impl Store {
@@ -60,7 +60,7 @@ impl Store {
         let tables = open_all(alloc, opening)?;
         Ok(Store {
             tables,
-            spots: Spots::new(alloc),
+            table_keys: WrittenKeys::new(alloc),
             last: 0,
             low: 0,
         })
@@ -91,12 +91,7 @@ impl Store {
         ensures stale { n < self.now.low → result ≡ Err (Stale n self.now.low) }
         ensures fresh { self.now.low ≤ n → IfErr result (λ e. e ≡ Wanting) }
     {
-        if n < self.low {
-            return Err(Refused::Stale {
-                start: n,
-                low: self.low,
-            });
-        }
+        self.check_fresh(n)?;
         let found = self.find(alloc, n, pred)?;
         Ok(found)
     }
@@ -118,12 +113,7 @@ impl Store {
         ensures stale { n < self.now.low → result ≡ Err (Stale n self.now.low) }
         ensures fresh { self.now.low ≤ n → IfErr result (λ e. e ≡ Wanting) }
     {
-        if n < self.low {
-            return Err(Refused::Stale {
-                start: n,
-                low: self.low,
-            });
-        }
+        self.check_fresh(n)?;
         let row = self.find_foremost(alloc, n, pred, direction, passed)?;
         Ok(row)
     }
@@ -142,12 +132,7 @@ impl Store {
         ensures stale { n < self.now.low → result ≡ Err (Stale n self.now.low) }
         ensures fresh { self.now.low ≤ n → IfErr result (λ e. e ≡ Wanting) }
     {
-        if n < self.low {
-            return Err(Refused::Stale {
-                start: n,
-                low: self.low,
-            });
-        }
+        self.check_fresh(n)?;
         let row = self.find_row(alloc, n, table, key)?;
         Ok(row)
     }
@@ -159,6 +144,20 @@ impl Store {
         ensures { IfOk result (λ tables. tables ≡ database_at self.now n) }
     {
         copy_tables(alloc, self.tables.as_slice(), n)
+    }
+
+    /// Fails with `Stale` exactly if n is below low.
+    fn check_fresh(&self, n: u32) -> Result<(), Refused>
+        ensures ok { OnOk result (self.now.low ≤ n) }
+        ensures stale { IfErr result (λ e. (n < self.now.low) × (e ≡ Stale n self.now.low)) }
+    {
+        if n < self.low {
+            return Err(Refused::Stale {
+                start: n,
+                low: self.low,
+            });
+        }
+        Ok(())
     }
 
     fn find(&self, alloc: Global, n: u32, pred: &Pred) -> Result<Rows, NoMemory>
@@ -208,7 +207,13 @@ impl Store {
         if at >= self.tables.len() {
             return Ok(());
         }
-        put_write(alloc, &mut self.tables[at], &mut self.spots, call, write)
+        put_write(
+            alloc,
+            &mut self.tables[at],
+            &mut self.table_keys,
+            call,
+            write,
+        )
     }
 
     /// Adds writes of a call, in order, after the call's earlier ones. If memory runs out, all writes of the call are
@@ -232,9 +237,9 @@ impl Store {
         requires { self.old.last < n }
         ensures { HasStamped call n self.old self.new }
     {
-        let noted = self.spots.of_call(call);
+        let noted = self.table_keys.of_call(call);
         settle_noted(&mut self.tables, noted, call, Fate::Commit(n));
-        self.spots.commit(call, n);
+        self.table_keys.commit(call, n);
         self.last = n;
     }
 
@@ -242,9 +247,9 @@ impl Store {
     pub fn drop_of(&mut self, call: u32)
         ensures { HasDropped call self.old self.new }
     {
-        let noted = self.spots.of_call(call);
+        let noted = self.table_keys.of_call(call);
         settle_noted(&mut self.tables, noted, call, Fate::Gone);
-        self.spots.forget(call);
+        self.table_keys.forget(call);
     }
 
     /// Drops the tables before commit `low`. The number must not be below that of an earlier call. Of each key it keeps
@@ -255,7 +260,7 @@ impl Store {
         requires { self.old.low ≤ low }
         ensures { HasRaised low self.old self.new }
     {
-        collect_all(&mut self.tables, &mut self.spots, low);
+        collect_all(&mut self.tables, &mut self.table_keys, low);
         self.low = low;
     }
 }

@@ -3,8 +3,8 @@ use Rattle.mv_values.specs.declared.value.Value.{Value}
 use Rattle.mv_store.specs.Kept.{versions_at, after_change, KeepsRows, AreDone}
 use Rattle.mv_store.proofs.change.change_all.Given as goal
 
-abbrev pub invariant-loop-spot : goal.invariant-loop-spot
-invariant-loop-spot l = record {
-  versions : AreDone (after_change l.to) (take l.spot-index l.spots) l.fn.tables.items l.tables.items;
+abbrev pub invariant-loop-table_key : goal.invariant-loop-table_key
+invariant-loop-table_key l = record {
+  versions : AreDone (after_change l.to) (take l.table_key-index l.table_keys) l.fn.tables.items l.tables.items;
   rows : (t : ℕ) (key : List Value) → KeepsRows l.to (versions_at l.fn.tables.items t key) (versions_at l.tables.items t key);
 }

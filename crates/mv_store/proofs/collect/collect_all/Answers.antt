@@ -15,13 +15,13 @@ loop-written-preserved c = λ last kept.
     let before = c.loop-written.invariant last kept in
     let done = subst (λ ss. AreDone (after_change (Collect c.args.low)) ss now new) c.as_slice.ensures c.change_all.ensures.versions in (
       one_collected c.args.low now new w done c.args.tables.now.items c.change_all.ensures.rows before.0,
-      one_kept c.args.low now new w done c.loop-written.spots c.take_due.new.self last before.1 c.in-Some.ensures.calls c.in-Some.ensures.due.0 c.in-Some.ensures.due.1,
+      one_kept c.args.low now new w done c.loop-written.table_keys c.take_due.new.self last before.1 c.in-Some.ensures.calls c.in-Some.ensures.due.0 c.in-Some.ensures.due.1,
     )
 
 pub returns : goal.returns
 returns c = λ last kept.
     let now = c.loop-written.tables.items in
     let before = c.loop-written.invariant last kept in (
-      all_collected c.args.low last c.args.tables.now.items now c.loop-written.spots before.1 c.in_default.ensures.rest.1 before.0,
-      subst (λ s. IsKept now s last) (sym (noted_same c.take_due.new.self c.loop-written.spots c.in_default.ensures.calls c.in_default.ensures.rest.0)) before.1,
+      all_collected c.args.low last c.args.tables.now.items now c.loop-written.table_keys before.1 c.in_default.ensures.rest.1 before.0,
+      subst (λ s. IsKept now s last) (sym (noted_same c.take_due.new.self c.loop-written.table_keys c.in_default.ensures.calls c.in_default.ensures.rest.0)) before.1,
     )

@@ -4,7 +4,7 @@ use Rattle.mv_store.proofs.Collecting.{IsUnderway}
 use Rattle.mv_store.proofs.collect.collect_all.Given as goal
 
 abbrev pub invariant-loop-written : goal.invariant-loop-written
-invariant-loop-written l = (last : ℕ) → IsKept l.fn.tables.items l.fn.spots last → IsUnderway l.low l.fn.tables.items l.tables.items × IsKept l.tables.items l.spots last
+invariant-loop-written l = (last : ℕ) → IsKept l.fn.tables.items l.fn.table_keys last → IsUnderway l.low l.fn.tables.items l.tables.items × IsKept l.tables.items l.table_keys last
 
 abbrev pub decreases-loop-written : goal.decreases-loop-written
-decreases-loop-written l = length l.spots.commits
+decreases-loop-written l = length l.table_keys.commits

@@ -1,18 +1,18 @@
 use Rattle.std.proofs.Common.{refl, ap, subst}
 use Rattle.mv_store.specs.Stored.{Versioned}
 use Rattle.mv_store.specs.Changes.{HasDropped}
-use Rattle.mv_store.specs.Kept.{AllChanged, spots_in, settled}
+use Rattle.mv_store.specs.Kept.{AllChanged, table_keys_in, settled}
 use Rattle.mv_store.specs.declared.change.Fate.TheVariants.{Gone}
 use Rattle.mv_store.proofs.Done.{all_settled}
 use Rattle.mv_store.proofs.Laws.{all_dropped, dropped_kept}
 use Rattle.mv_store.proofs.store.Store.drop_of.Goals as goal
 
 changed : (c : goal.After-forget) → AllChanged (settled Gone c.args.call) c.self.inside.tables.items c.settle_noted.new.tables.items
-changed c = all_settled Gone c.args.call c.self.inside.spots _ c.self.inside.tables.items c.settle_noted.new.tables.items c.self.invariant.covered (ap spots_in c.of_call-noted.ensures) c.settle_noted.ensures
+changed c = all_settled Gone c.args.call c.self.inside.table_keys _ c.self.inside.tables.items c.settle_noted.new.tables.items c.self.invariant.covered (ap table_keys_in c.of_call-noted.ensures) c.settle_noted.ensures
 
 pub invariant_of-self : goal.invariant_of-self
 invariant_of-self c =
-    dropped_kept c.args.call c.self.inside.last c.self.inside.tables.items c.settle_noted.new.tables.items c.self.inside.spots c.forget.new.self c.self.invariant (changed c) c.forget.ensures.calls c.forget.ensures.commits
+    dropped_kept c.args.call c.self.inside.last c.self.inside.tables.items c.settle_noted.new.tables.items c.self.inside.table_keys c.forget.new.self c.self.invariant (changed c) c.forget.ensures.calls c.forget.ensures.commits
 
 pub returns : goal.returns
 returns c =

@@ -24,7 +24,7 @@ filled c = subst (λ es. AreFilled es → AreFilled c.put_write.new.table) (ther
 pub invariant_of-self : goal.invariant_of-self
 invariant_of-self c =
     let w = c.args.write.now in
-    put_any c.put_write.result w.table c.args.call c.self.inside.last w.key w.patch c.self.inside.tables.items _ c.index_mut.result.now c.put_write.new.table c.self.inside.spots c.put_write.new.spots c.self.invariant
+    put_any c.put_write.result w.table c.args.call c.self.inside.last w.key w.patch c.self.inside.tables.items _ c.index_mut.result.now c.put_write.new.table c.self.inside.table_keys c.put_write.new.table_keys c.self.invariant
     (within c) (there c) c.put_write.ensures.ok c.put_write.ensures.err c.put_write.ensures.filled c.put_write.ensures.kept c.put_write.ensures.noted refl
 
 pub returns-clause-ok : goal.returns-clause-ok

@@ -1,7 +1,7 @@
 use Rattle.std.proofs.Common.{◌<◌, refl, sym, ap, subst}
 use Rattle.mv_store.specs.Stored.{Versioned}
 use Rattle.mv_store.specs.Changes.{HasStamped}
-use Rattle.mv_store.specs.Kept.{AllChanged, spots_in, settled}
+use Rattle.mv_store.specs.Kept.{AllChanged, table_keys_in, settled}
 use Rattle.mv_store.specs.declared.change.Fate.TheVariants.{Commit}
 use Rattle.mv_store.proofs.Done.{all_settled}
 use Rattle.mv_store.proofs.Laws.{may_commit, all_stamped, stamped_kept}
@@ -14,11 +14,11 @@ pub settle_noted-requires : goal.settle_noted-requires
 settle_noted-requires c = may_commit c.args.call c.args.n c.self.inside.last c.self.inside.tables.items c.self.invariant.numbers (subst (λ v. v.last < c.args.n) (sym c.self.view_is) c.requires)
 
 changed : (c : goal.After-self-1) → AllChanged (settled (Commit c.args.n) c.args.call) c.self.inside.tables.items c.settle_noted.new.tables.items
-changed c = all_settled (Commit c.args.n) c.args.call c.self.inside.spots _ c.self.inside.tables.items c.settle_noted.new.tables.items c.self.invariant.covered (ap spots_in c.of_call-noted.ensures) c.settle_noted.ensures
+changed c = all_settled (Commit c.args.n) c.args.call c.self.inside.table_keys _ c.self.inside.tables.items c.settle_noted.new.tables.items c.self.invariant.covered (ap table_keys_in c.of_call-noted.ensures) c.settle_noted.ensures
 
 pub invariant_of-self : goal.invariant_of-self
 invariant_of-self c =
-    stamped_kept c.args.call c.args.n c.self.inside.last c.self.inside.tables.items c.settle_noted.new.tables.items c.self.inside.spots c.commit.new.self c.self.invariant (below c) (changed c) c.commit.ensures.calls c.commit.ensures.commits
+    stamped_kept c.args.call c.args.n c.self.inside.last c.self.inside.tables.items c.settle_noted.new.tables.items c.self.inside.table_keys c.commit.new.self c.self.invariant (below c) (changed c) c.commit.ensures.calls c.commit.ensures.commits
 
 pub returns : goal.returns
 returns c =
