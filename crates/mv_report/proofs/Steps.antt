@@ -33,19 +33,29 @@ zip_more (a ∷ xs) (b ∷ ys) (suc i) x y lt le is at =
     rw e (ap (λ (ps : List _). (a, b) ∷ ps) (zip_more xs ys i x y (omega arith) (omega arith) is at))
 
 -- the text of one more pair
-pub zipped_more : {A B : Type 0} (f : A × B → List ℕ) (xs : List A) (ys : List B) (i : ℕ) (x : A) (y : B) → i < length xs → i < length ys → x ≡ get_or xs i x → y ≡ get_or ys i y
+zipped_more : {A B : Type 0} (f : A × B → List ℕ) (xs : List A) (ys : List B) (i : ℕ) (x : A) (y : B) → i < length xs → i < length ys → x ≡ get_or xs i x → y ≡ get_or ys i y
     → flat_map f (zip (take (i + 1) xs) (take (i + 1) ys)) ≡ flat_map f (zip (take i xs) (take i ys)) ++ f (x, y)
 zipped_more f xs ys i x y lt le is at =
     rw (zip_more xs ys i x y lt le is at, flat_map-append f (zip (take i xs) (take i ys)) ((x, y) ∷ []), append-nil (f (x, y))) refl
 
 -- pairs end with the shorter list
-pub zip_whole : {A B : Type 0} (xs : List A) (ys : List B) (n : ℕ) → n ≡ min (length xs) (length ys) → zip (take n xs) (take n ys) ≡ zip xs ys
+zip_whole : {A B : Type 0} (xs : List A) (ys : List B) (n : ℕ) → n ≡ min (length xs) (length ys) → zip (take n xs) (take n ys) ≡ zip xs ys
 zip_whole [] ys zero h = refl
 zip_whole [] ys (suc n) h = absurd (omega arith)
 zip_whole (x ∷ xs) [] zero h = refl
 zip_whole (x ∷ xs) [] (suc n) h = absurd (omega arith)
 zip_whole (x ∷ xs) (y ∷ ys) zero h = absurd (omega arith)
 zip_whole (x ∷ xs) (y ∷ ys) (suc n) h = ap (λ (ps : List _). (x, y) ∷ ps) (zip_whole xs ys n (omega arith))
+
+-- a text that grew by one more pair
+pub pair_grew : {A B : Type 0} (f : A × B → List ℕ) (xs : List A) (ys : List B) (i : ℕ) (x : A) (y : B) (old mid new : List ℕ) → i < length xs → i < length ys → x ≡ get_or xs i x → y ≡ get_or ys i y
+    → mid ≡ old ++ flat_map f (zip (take i xs) (take i ys)) → new ≡ mid ++ f (x, y) → new ≡ old ++ flat_map f (zip (take (i + 1) xs) (take (i + 1) ys))
+pair_grew f xs ys i x y old mid new lt le is at so_far more = grew old mid new (flat_map f (zip (take i xs) (take i ys))) (f (x, y)) _ so_far more (zipped_more f xs ys i x y lt le is at)
+
+-- a text that grew by all pairs
+pub pairs_grew : {A B : Type 0} (f : A × B → List ℕ) (xs : List A) (ys : List B) (n : ℕ) (old new : List ℕ) → n ≡ min (length xs) (length ys)
+    → new ≡ old ++ flat_map f (zip (take n xs) (take n ys)) → new ≡ old ++ flat_map f (zip xs ys)
+pairs_grew f xs ys n old new all so_far = so_far ∙ ap (λ both. old ++ flat_map f both) (zip_whole xs ys n all)
 
 -- joined texts are the first one, and the others each behind a separator
 pub joined : {X : Type 0} (f : X → List ℕ) (sep : List ℕ) (xs : List X) → 0 < length xs
