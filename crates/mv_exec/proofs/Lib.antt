@@ -20,6 +20,7 @@ pub mod Numbering
 pub mod Ending
 pub mod Kept
 pub mod Counting
+pub mod Viewing
 pub mod Fronts
 pub mod Positioning
 pub mod Restoring

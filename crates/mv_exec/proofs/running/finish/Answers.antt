@@ -1,8 +1,9 @@
-use Rattle.std.proofs.Common.{◌≡◌, false, true, rules, subst, ◌∙◌}
+use Rattle.std.proofs.Common.{◌≡◌, false, true, rules, subst}
 use Rattle.mv_values.specs.Tables.{Tables}
 use Rattle.mv_exec.specs.Running.{IsRunningOn, IsSameCallOn}
 use Rattle.mv_exec.proofs.Counting.{run_on}
 use Rattle.mv_exec.proofs.Fronts.{finished}
+use Rattle.mv_exec.proofs.Viewing.{never_on, same_on}
 use Rattle.mv_exec.proofs.running.finish.Goals as goal
 
 pub loop-alloc-preserved : goal.loop-alloc-preserved
@@ -15,15 +16,8 @@ loop-alloc-preserved g c =
           subst (λ (db : Tables). IsSameCallOn c.args.graph.now db c.loop-alloc.task c.next.new.task) c.loop-alloc.invariant.same.database c.next.ensures.goes_on call (c.loop-alloc.invariant.goes_on call on);
       ran = run_on c.args.task.now c.loop-alloc.task c.next.new.task (g.V.View.sight c.args.view.now) (g.V.View.sight c.loop-alloc.view) (g.V.View.sight c.next.new.view)
           c.loop-alloc.invariant.ran (c.in_ok-next.ensures.ran live) c.next.ensures.bounded;
-      same = record {
-        database = c.next.ensures.view.same.database ∙ c.loop-alloc.invariant.same.database;
-        start = c.next.ensures.view.same.start ∙ c.loop-alloc.invariant.same.start;
-        may_be_stale = c.next.ensures.view.same.may_be_stale ∙ c.loop-alloc.invariant.same.may_be_stale;
-      };
-      never = record {
-        answers = c.in_ok-next.ensures.view.passes_on.answers ∙ c.loop-alloc.invariant.never.answers;
-        last_low = c.in_ok-next.ensures.view.passes_on.last_low ∙ c.loop-alloc.invariant.never.last_low;
-      };
+      same = same_on (g.V.View.sight c.args.view.now) (g.V.View.sight c.loop-alloc.view) (g.V.View.sight c.next.new.view) c.next.ensures.view.same c.loop-alloc.invariant.same;
+      never = never_on (g.V.View.sight c.args.view.now) (g.V.View.sight c.loop-alloc.view) (g.V.View.sight c.next.new.view) c.in_ok-next.ensures.view.passes_on c.loop-alloc.invariant.never;
     }
 
 pub returns-clause-records : goal.returns-clause-records

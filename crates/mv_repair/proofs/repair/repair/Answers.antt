@@ -5,6 +5,7 @@ use Rattle.mv_record.specs.Paths.{paths}
 use Rattle.mv_undo.specs.declared.owned.Owned.{Owned}
 use Rattle.mv_undo.specs.Owning.{HasWritesOf}
 use Rattle.mv_exec.specs.Running.{refusals}
+use Rattle.mv_exec.proofs.Viewing.{never_on, same_on}
 use Rattle.mv_repair.specs.Repairing.{changes_since, HasQueried}
 use Rattle.mv_repair.specs.Stepping.{HasStepped}
 use Rattle.mv_repair.specs.Walking.{hits_in}
@@ -39,15 +40,8 @@ loop-alloc-preserved g c =
       underway = stepped.went (changes_since c.args.since.now) c.args.task.now.records c.loop-alloc.invariant.underway;
       call = λ call is. c.step.ensures.call call (c.loop-alloc.invariant.call call is);
       queried = stepped.queried (changes_since c.args.since.now) c.args.task.now.records (g.V.View.sight c.args.view.now) c.loop-alloc.invariant.underway c.loop-alloc.invariant.queried;
-      same = record {
-        database = c.step.ensures.view.same.database ∙ c.loop-alloc.invariant.same.database;
-        start = c.step.ensures.view.same.start ∙ c.loop-alloc.invariant.same.start;
-        may_be_stale = c.step.ensures.view.same.may_be_stale ∙ c.loop-alloc.invariant.same.may_be_stale;
-      };
-      never = record {
-        answers = c.in_ok-step.ensures.view.passes_on.answers ∙ c.loop-alloc.invariant.never.answers;
-        last_low = c.in_ok-step.ensures.view.passes_on.last_low ∙ c.loop-alloc.invariant.never.last_low;
-      };
+      same = same_on (g.V.View.sight c.args.view.now) (g.V.View.sight c.loop-alloc.view) (g.V.View.sight c.step.new.view) c.step.ensures.view.same c.loop-alloc.invariant.same;
+      never = never_on (g.V.View.sight c.args.view.now) (g.V.View.sight c.loop-alloc.view) (g.V.View.sight c.step.new.view) c.in_ok-step.ensures.view.passes_on c.loop-alloc.invariant.never;
     }
 
 pub returns-clause-on : goal.returns-clause-on
