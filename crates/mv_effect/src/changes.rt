@@ -15,7 +15,7 @@ ghost use Rattle.mv_effect.specs.Looking.{Stands, OnlyAsks, different, AskedAtMo
 ghost use Rattle.mv_effect.specs.Naming.{Tests, Sets};
 
 use crate::context::Context;
-use crate::effect::{end_effect, one, set_effect, stop_effect, stop_result};
+use crate::effect::{end_effect, set_effect, stop_effect, stop_result};
 use crate::numbers::narrow;
 use crate::predicates::{key_pred, pred_from, update_pred};
 use crate::rows::{is_any, visible_rows};
@@ -60,13 +60,12 @@ fn insertion(alloc: Global, table: u8, keys: &[u8], row: Row) -> Result<List<Wri
     ensures { IfOk result (λ writes. writes ≡ write table (keyed keys.now row).key (patch.Insert row) ∷ []) }
 {
     let item = under_key(alloc, keys, row)?;
-    let mut writes = List::new(alloc);
-    writes.push(Write {
+    let write = Write {
         table,
         key: item.key,
         patch: Patch::Insert(item.row),
-    })?;
-    Ok(writes)
+    };
+    List::of(alloc, write)
 }
 
 /// Returns the effect of an INSERT of this row that asked this. `there` is whether a row with its key exists.
@@ -84,7 +83,7 @@ fn insert_effect(
     ensures { IfOk result (λ e. e ≡ inserting tables.now table row pred there env.now) }
 {
     if there {
-        return Ok(end_effect(alloc, one(alloc, pred)?, End::Duplicate));
+        return Ok(end_effect(alloc, List::of(alloc, pred)?, End::Duplicate));
     }
     let writes = insertion(alloc, narrow(table), key_in(tables, table), row)?;
     write_effect(alloc, env, pred, true, writes)
@@ -128,7 +127,7 @@ pub(crate) fn insert<V: View>(
 fn deletes(alloc: Global, table: u8, rows: Rows) -> Result<List<Write>, NoMemory>
     ensures { IfOk result (λ writes. writes ≡ map (λ item. write table item.key patch.Delete) rows) }
 {
-    let mut writes = List::new(alloc);
+    let mut writes = List::with_room(alloc, rows.as_slice().len())?;
     for item in rows.into_items() {
         writes.push(Write {
             table,
@@ -186,7 +185,7 @@ fn assigns(alloc: Global, items: &[RSetItem], row: &[Value]) -> Result<List<Assi
     requires { All (λ (i : RSetItem). i.column < 256) items.now }
     ensures { IfOk result (λ all. patch.Set all ≡ set_patch items.now row.now) }
 {
-    let mut all = List::new(alloc);
+    let mut all = List::with_room(alloc, items.len())?;
     for item in items {
         all.push(Assign {
             column: narrow(item.column),
@@ -246,7 +245,7 @@ fn set_writes(
     requires columns { All (λ (i : RSetItem). i.column < 256) items.now }
     ensures { Gives result (changes table items.now (new_of tables.now table env.now items.now) rows.now) }
 {
-    let mut writes = List::new(alloc);
+    let mut writes = List::with_room(alloc, rows.len())?;
     for item in rows {
         let write = write_for(alloc, tables, table, env, items, item)?;
         writes.push(write)?;
@@ -271,7 +270,7 @@ fn update_effect(
 {
     match set_writes(alloc, tables, table, env, items, rows.as_slice()) {
         Ok(writes) => write_effect(alloc, env, pred, is_any(rows), writes),
-        Err(stop) => stop_effect(alloc, one(alloc, pred)?, stop),
+        Err(stop) => stop_effect(alloc, List::of(alloc, pred)?, stop),
     }
 }
 

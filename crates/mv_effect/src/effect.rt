@@ -28,21 +28,12 @@ pub(crate) fn nothing(alloc: Global) -> Effect
     }
 }
 
-/// Returns a list of one predicate.
-pub(crate) fn one(alloc: Global, pred: Pred) -> Result<List<Pred>, NoMemory>
-    ensures { IfOk result (λ preds. preds ≡ pred ∷ []) }
-{
-    let mut preds = List::new(alloc);
-    preds.push(pred)?;
-    Ok(preds)
-}
-
 /// Returns the effect of a statement that only asks this.
 pub(crate) fn query_effect(alloc: Global, pred: Pred) -> Result<Effect, NoMemory>
     ensures { IfOk result (λ e. e ≡ only_asks pred) }
 {
     let mut effect = nothing(alloc);
-    effect.preds = one(alloc, pred)?;
+    effect.preds = List::of(alloc, pred)?;
     Ok(effect)
 }
 

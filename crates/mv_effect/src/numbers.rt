@@ -29,7 +29,7 @@ pub(crate) fn columns_once(alloc: Global, columns: &[u16]) -> Result<List<u8>, N
     requires { All (λ c. c < 256) columns.now }
     ensures { IfOk result (λ once. once ≡ each_once columns.now) }
 {
-    let mut once = List::new(alloc);
+    let mut once = List::with_room(alloc, columns.len())?;
     for (i, column) in columns.iter().enumerate() {
         if is_among_first(columns, i, *column) {
             continue;

@@ -31,7 +31,7 @@ fn tests_from(alloc: Global, keys: &[u8], conds: &[RCond], env: &Env) -> Result<
     requires columns { All (λ (c : RCond). c.column < 256) conds.now }
     ensures { Gives result (then_do (checks_of conds.now env.now) (λ checks. Ok (map (test_of keys.now) checks))) }
 {
-    let mut tests = List::new(alloc);
+    let mut tests = List::with_room(alloc, conds.len())?;
     for cond in conds {
         let value = value(alloc, &cond.right, env, &[])?;
         tests.push(Test {
@@ -112,14 +112,12 @@ pub(crate) fn select_pred(
 fn aggregate_columns(alloc: Global, agg: RAgg) -> Result<List<u16>, NoMemory>
     ensures { IfOk result (λ all. all ≡ column_in agg) }
 {
-    let mut all = List::new(alloc);
     match agg {
-        RAgg::CountAll => {}
+        RAgg::CountAll => Ok(List::new(alloc)),
         RAgg::CountDistinct(column) | RAgg::Sum(column) | RAgg::Min(column) | RAgg::Max(column) => {
-            all.push(column)?;
+            List::of(alloc, column)
         }
     }
-    Ok(all)
 }
 
 /// Returns the predicate of an aggregate. Fails with the first right side of WHERE that is stopped.
@@ -194,7 +192,7 @@ fn key_tests(alloc: Global, keys: &[u8], row: &[Value]) -> Result<List<Test>, No
     requires { length keys.now ≤ 256 }
     ensures { IfOk result (λ tests. tests ≡ map (test_of keys.now) (same_key keys.now row.now)) }
 {
-    let mut tests = List::new(alloc);
+    let mut tests = List::with_room(alloc, keys.len())?;
     for column in keys {
         tests.push(Test {
             column: *column,

@@ -20,7 +20,7 @@ ghost use Rattle.mv_effect.specs.Naming.{Tests, AreColumns};
 ghost use Rattle.mv_effect.specs.Totalling.{total_asked};
 
 use crate::context::Context;
-use crate::effect::{one, set_effect, stop_effect, stop_result};
+use crate::effect::{set_effect, stop_effect, stop_result};
 use crate::predicates::{aggregate_pred, select_pred};
 use crate::rows::{first_visible, visible_rows};
 use crate::slots::{found_alone, select_slots, total_slots};
@@ -198,7 +198,7 @@ fn aggregate_effect(
 {
     match aggregate_of(alloc, agg, rows) {
         Ok(total) => total_effect(alloc, env, to, pred, total, !rows.is_empty()),
-        Err(stop) => stop_effect(alloc, one(alloc, pred)?, stop),
+        Err(stop) => stop_effect(alloc, List::of(alloc, pred)?, stop),
     }
 }
 

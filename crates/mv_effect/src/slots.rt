@@ -69,9 +69,7 @@ pub(crate) fn found_alone(alloc: Global, env: &Env, found: bool) -> Result<List<
     requires { env.now.found < 2 ^ 16 }
     ensures { IfOk result (λ sets. sets ≡ slots_behind (with_found env.now found) (env.now.found ∷ [])) }
 {
-    let mut sets = List::new(alloc);
-    sets.push(found_slot(env, found))?;
-    Ok(sets)
+    List::of(alloc, found_slot(env, found))
 }
 
 /// Returns what an aggregate sets: its target, if there is a total, and `:found`.
@@ -89,7 +87,7 @@ pub(crate) fn total_slots(
     let Some(value) = total else {
         return found_alone(alloc, env, found);
     };
-    let mut sets = List::new(alloc);
+    let mut sets = List::with_room(alloc, 2)?;
     sets.push(slot_before_found(env, found, to, value))?;
     sets.push(found_slot(env, found))?;
     Ok(sets)
@@ -139,7 +137,7 @@ fn row_slots(
     requires { env.now.found < 2 ^ 16 }
     ensures { IfOk result (λ sets. sets ≡ slots_behind (with_found (with_values env.now to.now (columns_of row.now columns.now)) true) (each_once to.now ++ env.now.found ∷ [])) }
 {
-    let mut sets = List::new(alloc);
+    let mut sets = List::with_room(alloc, to.len().saturating_add(1))?;
     for (i, x) in to.iter().enumerate() {
         if is_among_first(to, i, *x) {
             continue;

@@ -39,7 +39,7 @@ pub(crate) fn assign(alloc: Global, to: u16, right: &RExpr, env: &Env) -> Result
         Err(stop) => return stop_result(alloc, List::new(alloc), stop),
     };
     let mut effect = nothing(alloc);
-    effect.sets.push(Slot { slot: to, value })?;
+    effect.sets = List::of(alloc, Slot { slot: to, value })?;
     Ok(effect)
 }
 

@@ -12,7 +12,7 @@ returns-in-Ok c =
     c.total_effect.result (totalling c.args.pred c.args.to c.in-Ok.total (not c.is_empty.result) c.args.env.now) (ap (aggregate c.args.agg) (sym (all_rows c.args.rows.now)) ∙ c.in-Ok.ensures) c.total_effect.ensures
     (ap (λ b. totalling c.args.pred c.args.to c.in-Ok.total b c.args.env.now) (ap not c.is_empty.ensures ∙ some_row c.args.rows.now))
 
-pub returns-in_ok-one-in-Err : goal.returns-in_ok-one-in-Err
-returns-in_ok-one-in-Err c =
+pub returns-in_ok-of-in-Err : goal.returns-in_ok-of-in-Err
+returns-in_ok-of-in-Err c =
     ends_there c.args.pred (aggregate c.args.agg (matching [] c.args.rows.now)) (λ total. totalling c.args.pred c.args.to total (is_some_row (matching [] c.args.rows.now)) c.args.env.now)
-    c.in_ok-one-in-Err.field-0 c.in-Err.stop c.stop_effect.result c.in_ok-one-in-Err.ensures c.stop_effect.ensures (subst (λ l. Fails c.in-Err.stop (aggregate c.args.agg l)) (all_rows c.args.rows.now) c.in-Err.ensures)
+    c.in_ok-of-in-Err.field-0 c.in-Err.stop c.stop_effect.result c.in_ok-of-in-Err.ensures c.stop_effect.ensures (subst (λ l. Fails c.in-Err.stop (aggregate c.args.agg l)) (all_rows c.args.rows.now) c.in-Err.ensures)
