@@ -23,11 +23,11 @@ fn contents_of(alloc: Global, argument: &Argument) -> Result<Held, NoMemory>
     }
 }
 
-/// Returns what the variables of the parameters hold.
-fn parameters(alloc: Global, arguments: &[Argument]) -> Result<List<Held>, NoMemory>
+/// Returns what the variables of the parameters hold, with room for so many variables.
+fn parameters(alloc: Global, arguments: &[Argument], room: usize) -> Result<List<Held>, NoMemory>
     ensures { IfOk result (λ all. all ≡ map argument_held arguments.now) }
 {
-    let mut all = List::new(alloc);
+    let mut all = List::with_room(alloc, room)?;
     for argument in arguments {
         all.push(contents_of(alloc, argument)?)?;
     }
@@ -49,8 +49,14 @@ fn add_declared(alloc: Global, all: &mut List<Held>, values: &[Value]) -> Result
 pub fn variables_for(alloc: Global, procedure: &ProcInfo, call: &Call) -> Result<Env, NoMemory>
     ensures { IfOk result (λ env. env ≡ entered procedure.now call.now) }
 {
-    let mut all = parameters(alloc, call.arguments.as_slice())?;
-    add_declared(alloc, &mut all, procedure.defaults.as_slice())?;
+    let arguments = call.arguments.as_slice();
+    let defaults = procedure.defaults.as_slice();
+    let room = arguments
+        .len()
+        .saturating_add(defaults.len())
+        .saturating_add(1);
+    let mut all = parameters(alloc, arguments, room)?;
+    add_declared(alloc, &mut all, defaults)?;
     let found = all.len();
     all.push(Held::Scalar(Value::Int(0)))?;
     Ok(Env { held: all, found })

@@ -231,7 +231,7 @@ pub fn value(alloc: Global, e: &RExpr, env: &Env, row: &[Value]) -> Result<Value
 pub fn values(alloc: Global, exprs: &[RExpr], env: &Env) -> Result<Row, Stop>
     ensures { Gives result (values_of exprs.now env.now) }
 {
-    let mut all = List::new(alloc);
+    let mut all = List::with_room(alloc, exprs.len())?;
     for expr in exprs {
         all.push(value(alloc, expr, env, &[])?)?;
     }

@@ -51,7 +51,7 @@ pub fn key_in(tables: &[TableInfo], table: u16) -> &[u8]
 pub fn checks_from(alloc: Global, conds: &[RCond], env: &Env) -> Result<List<Check>, Stop>
     ensures { Gives result (checks_of conds.now env.now) }
 {
-    let mut checks = List::new(alloc);
+    let mut checks = List::with_room(alloc, conds.len())?;
     for cond in conds {
         let value = value(alloc, &cond.right, env, &[])?;
         checks.push(Check {

@@ -24,7 +24,7 @@ use std::cmp::Ordering;
 fn projection(alloc: Global, row: &[Value], columns: &[u16]) -> Result<Row, NoMemory>
     ensures { IfOk result (λ r. r ≡ columns_of row.now columns.now) }
 {
-    let mut values = List::new(alloc);
+    let mut values = List::with_room(alloc, columns.len())?;
     for c in columns {
         values.push(column_value(alloc, row, *c)?)?;
     }
@@ -53,7 +53,7 @@ fn projections<R: Stored>(
 ) -> Result<List<Row>, NoMemory>
     ensures { IfOk result (λ v. v ≡ projected columns.now (map (λ r. R.keyed r.now) items.now)) }
 {
-    let mut all = List::new(alloc);
+    let mut all = List::with_room(alloc, items.len())?;
     for item in items {
         all.push(projection(alloc, item.row().as_slice(), columns)?)?;
     }

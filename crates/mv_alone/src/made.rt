@@ -92,7 +92,7 @@ pub fn row_after_set(
 pub fn made_row(alloc: Global, columns: &[Column], exprs: &[RExpr], env: &Env) -> Result<Row, Stop>
     ensures { Gives result (new_row columns.now exprs.now env.now) }
 {
-    let mut row = List::new(alloc);
+    let mut row = List::with_room(alloc, columns.len())?;
     for (i, column) in columns.iter().enumerate() {
         let Some(expr) = exprs.get(i) else {
             return Ok(row);
