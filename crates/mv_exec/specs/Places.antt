@@ -57,6 +57,11 @@ holder_of proc s (p ∷ ps) = holder_of proc (statement_before proc s p) ps
 
 -- Sites
 
+abbrev pub is_loop : Holder → Bool
+is_loop by.Procedure = false
+is_loop (by.Branch number b) = false
+is_loop (by.Loop number x k) = true
+
 abbrev pub site_in : Holder → Site → Site
 site_in by.Procedure site = site
 site_in (by.Branch number b) site = within number site

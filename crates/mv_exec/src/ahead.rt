@@ -57,7 +57,7 @@ fn with_definers(
 ) -> Result<List<Read>, NoMemory>
     ensures { IfOk result (λ reads. reads ≡ map (λ x. record { slot = x; definer = option_or (loop_of x (site_in holder (site_of outside places.now)).loops) (definer_in definers.now x) }) variables.now) }
 {
-    let mut reads = List::new(alloc);
+    let mut reads = List::with_room(alloc, variables.len())?;
     for slot in variables {
         let definer = definer_of(places, holder, definers, *slot);
         reads.push(Read {

@@ -1,9 +1,9 @@
 //! What is around the statement at a place: the record that holds it, and the loops with their turns.
 
-ghost use Rattle.std.specs.Prelude.{◌≡◌, IfOk, OnOk};
+ghost use Rattle.std.specs.Prelude.{◌≡◌, count_by, IfOk, OnOk};
 ghost use Rattle.mv_recorded.specs.Reading.{loop_of};
 ghost use Rattle.mv_recorded.specs.Recorded.{Site, outside};
-ghost use Rattle.mv_exec.specs.Places.{site_in, site_of};
+ghost use Rattle.mv_exec.specs.Places.{is_loop, site_in, site_of};
 
 use crate::places::{Holder, Place};
 use mv_values::list::List;
@@ -76,6 +76,33 @@ pub(crate) fn loop_at(places: &[Place], holder: Holder, variable: u16) -> Option
     loop_in(holder, variable, loop_around(places, variable))
 }
 
+/// Whether a holder is a loop.
+fn is_loop(holder: Holder) -> bool
+    ensures { result ≡ is_loop holder }
+{
+    match holder {
+        Holder::Loop { .. } => true,
+        _ => false,
+    }
+}
+
+/// Returns the number of loops around the innermost place.
+fn loops_around(places: &[Place]) -> usize
+    ensures { result ≡ count_by (λ place. is_loop place.holder) places.now }
+{
+    places.iter().filter(|place| is_loop(place.holder)).count()
+}
+
+/// Returns the number of loops around a place with this holder inside these places.
+fn loops_at(places: &[Place], holder: Holder) -> usize {
+    let around = loops_around(places);
+    if is_loop(holder) {
+        around.saturating_add(1)
+    } else {
+        around
+    }
+}
+
 /// Adds the turn of a holder if it is a loop.
 fn add_turn(turns: &mut List<usize>, holder: Holder) -> Result<(), NoMemory>
     ensures { OnOk result ((site : Site) → turns.old ≡ site.turns → turns.new ≡ (site_in holder site).turns) }
@@ -94,16 +121,16 @@ pub(crate) fn turns_at(
 ) -> Result<List<usize>, NoMemory>
     ensures { IfOk result (λ turns. turns ≡ (site_in holder (site_of outside places.now)).turns) }
 {
-    let mut turns = turns_around(alloc, places)?;
+    let mut turns = turns_around(alloc, places, loops_at(places, holder))?;
     add_turn(&mut turns, holder)?;
     Ok(turns)
 }
 
-/// Returns the turns of the loops around the innermost place, from the outside in.
-fn turns_around(alloc: Global, places: &[Place]) -> Result<List<usize>, NoMemory>
+/// Returns the turns of the loops around the innermost place, from the outside in, with room for so many.
+fn turns_around(alloc: Global, places: &[Place], room: usize) -> Result<List<usize>, NoMemory>
     ensures { IfOk result (λ turns. turns ≡ (site_of outside places.now).turns) }
 {
-    let mut turns = List::new(alloc);
+    let mut turns = List::with_room(alloc, room)?;
     for place in places {
         add_turn(&mut turns, place.holder)?;
     }

@@ -83,9 +83,11 @@ fn fresh_task(
     alloc: Global,
     parameters: usize,
     variables: Variables,
+    records: List<Record>,
     places: List<Place>,
     empty: bool,
 ) -> Task
+    requires records { records ≡ [] }
     requires places { places ≡ first_place ∷ [] }
     requires beginning { variables ≡ at_beginning variables.initial }
     ensures { result ≡ fresh parameters variables.initial empty }
@@ -93,7 +95,7 @@ fn fresh_task(
     Task {
         parameters,
         variables,
-        records: List::new(alloc),
+        records,
         executed: 0,
         undo: Undo::new(alloc),
         definers: List::new(alloc),
@@ -115,7 +117,8 @@ fn go_back(places: &mut List<Place>)
 }
 
 impl Task {
-    /// Returns a call of a procedure before its first statement. It copies the arguments.
+    /// Returns a call of a procedure before its first statement. It copies the arguments, and takes room for a record of
+    /// each statement that is in no other.
     #[tactic(auto, using(crate::proofs::Beginning::new_begins, crate::proofs::Beginning::new_run))]
     pub(crate) fn of(alloc: Global, procedure: &ProcInfo, call: &Call) -> Result<Task, NoMemory>
         ensures task { IfOk result (λ t. IsTask procedure.now t) }
@@ -130,8 +133,9 @@ impl Task {
         let empty = is_empty(procedure.body.as_slice());
         let mut places = List::new(alloc);
         places.push(before_all())?;
+        let records = List::with_room(alloc, procedure.body.len())?;
         let parameters = call.arguments.len();
-        let task = fresh_task(alloc, parameters, variables, places, empty);
+        let task = fresh_task(alloc, parameters, variables, records, places, empty);
         Ok(task)
     }
 
