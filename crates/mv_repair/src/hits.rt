@@ -40,7 +40,7 @@ pub(crate) fn hits_of(
     requires { HasWritesOf undo.now records.now }
     ensures { IfOk result (λ flags. flags ≡ hits_in (changes_since since.now) [] records.now) }
 {
-    let mut flags = List::new(alloc);
+    let mut flags = List::with_room(alloc, records.len())?;
     for number in 0..records.len() {
         flags.push(is_hit(&records[number], number, undo, since))?;
     }

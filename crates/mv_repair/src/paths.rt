@@ -99,7 +99,7 @@ pub(crate) fn path_of(
 pub(crate) fn paths_of(alloc: Global, records: &[Record]) -> Result<List<Path>, NoMemory>
     ensures { IfOk result (λ ps. ps ≡ paths records.now) }
 {
-    let mut all = List::new(alloc);
+    let mut all = List::with_room(alloc, records.len())?;
     for number in 0..records.len() {
         let record = &records[number];
         let path = path_of(
