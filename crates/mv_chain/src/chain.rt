@@ -76,6 +76,18 @@ impl Chain {
         }
     }
 
+    /// Moves the row after commit n out, if there is one. Takes time linear in the size of the patches after n, and
+    /// logarithmic in the number of commits.
+    pub fn into_row_at(self, alloc: Global, n: u32) -> Result<Option<Row>, NoMemory>
+        ensures { IfOk result (λ row. row ≡ row_at self n) }
+    {
+        match self.held {
+            Held::Nothing => Ok(None),
+            Held::Only(row) => Ok(Some(row)),
+            Held::History(history) => Box::into_inner(history).into_row_at(alloc, n),
+        }
+    }
+
     /// Returns a copy of the row after commit n, if there is one and the predicate matches it. At the newest number it
     /// copies the row only if it matches. Otherwise it takes as long as `row_at`.
     pub fn found_at(&self, alloc: Global, n: u32, pred: &Pred) -> Result<Option<Row>, NoMemory>

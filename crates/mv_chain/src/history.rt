@@ -10,7 +10,7 @@ ghost use Rattle.mv_chain.specs.Holding.{is_plain};
 use crate::commit::do_patch;
 use crate::compose::compose;
 use crate::pending::{Pending, place_of};
-use crate::undo::{Undo, are_below, place_after, stood_before, take_back, value_before};
+use crate::undo::{Undo, are_below, place_after, row_before, stood_before, value_before};
 use mv_values::copied::Copied;
 use mv_values::memory::NoMemory;
 use mv_values::patch::Patch;
@@ -65,14 +65,11 @@ impl History {
     pub(crate) fn row_at(&self, alloc: Global, n: u32) -> Result<Option<Row>, NoMemory>
         ensures { IfOk result (λ row. row ≡ row_at self.now n) }
     {
-        let first = place_after(self.undos.as_slice(), n);
-        let mut row = copy_of(alloc, self.row.as_ref())?;
-        let mut at = self.undos.len();
-        while first < at {
-            at -= 1;
-            row = take_back(alloc, row, &self.undos[at].patch)?;
-        }
-        Ok(row)
+        let undos = self.undos.as_slice();
+        let first = place_after(undos, n);
+        let row = copy_of(alloc, self.row.as_ref())?;
+        let was = row_before(alloc, row, undos, first)?;
+        Ok(was)
     }
 
     /// Returns a copy of the row after commit n, if there is one and the predicate matches it. At the newest number it
@@ -142,6 +139,17 @@ impl History {
     {
         let History { row, .. } = self;
         row
+    }
+
+    /// Moves the row after commit n out, if there is one. Takes time linear in the size of the patches after n, and
+    /// logarithmic in the number of commits.
+    pub(crate) fn into_row_at(self, alloc: Global, n: u32) -> Result<Option<Row>, NoMemory>
+        ensures { IfOk result (λ row. row ≡ row_at self n) }
+    {
+        let History { row, undos, .. } = self;
+        let first = place_after(undos.as_slice(), n);
+        let was = row_before(alloc, row, undos.as_slice(), first)?;
+        Ok(was)
     }
 
     /// Whether there is no row at any number, and no patch.

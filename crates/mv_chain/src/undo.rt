@@ -69,6 +69,26 @@ pub(crate) fn take_back(
     }
 }
 
+/// Returns the row before the commits from this place on, given the row after them. Takes time linear in the size of
+/// their patches.
+pub(crate) fn row_before(
+    alloc: Global,
+    row: Option<Row>,
+    undos: &[Undo],
+    first: usize,
+) -> Result<Option<Row>, NoMemory>
+    requires { first ≤ length undos.now }
+    ensures { IfOk result (λ was. was ≡ before (drop first undos.now) row) }
+{
+    let mut was = row;
+    let mut at = undos.len();
+    while first < at {
+        at -= 1;
+        was = take_back(alloc, was, &undos[at].patch)?;
+    }
+    Ok(was)
+}
+
 /// Whether there was a row before these commits. It stops at the last of them that inserted or deleted.
 pub(crate) fn stood_before(undos: &[Undo], now: Option<&Row>) -> bool
     ensures { result ≡ is_some (before undos.now (option_copied now.entry)) }

@@ -329,8 +329,10 @@ impl Core {
         ensures outcome { IfOk result (λ outcome. outcome ≡ outcome_of (work_in self) self.journal) }
         ensures lawful { OnOk result (Lawful (work_in self) self.journal) }
     {
-        let tables = self.store.tables_at(alloc, self.store.last())?;
-        self.book.outcome(alloc, tables)
+        let Core { book, store, .. } = self;
+        let last = store.last();
+        let tables = store.into_tables_at(alloc, last)?;
+        book.outcome(alloc, tables)
     }
 }
 

@@ -554,15 +554,16 @@ impl<N: Making> Desk<N> {
         Ok(())
     }
 
-    /// Turns the history into the outcome of its events. Each call must have committed. It copies the tables and the
-    /// events. Fails with `NoMemory` if memory runs out.
+    /// Turns the history into the outcome of its events. Each call must have committed. It copies the events. Fails with
+    /// `NoMemory` if memory runs out.
     pub fn outcome(self, alloc: Global) -> Result<Outcome, NoMemory>
         requires { open_call (work_in self) self.course ≡ None }
         ensures outcome { IfOk result (IsOutcome (work N.script)) }
         ensures journal { IfOk result (λ outcome. outcome.journal ≡ self.journal) }
     {
         let Desk { book, store, .. } = self;
-        let tables = store.tables_at(alloc, store.last())?;
+        let last = store.last();
+        let tables = store.into_tables_at(alloc, last)?;
         book.outcome(alloc, tables)
     }
 }

@@ -1,6 +1,6 @@
 //! Finds rows as of a commit.
 
-ghost use Rattle.std.specs.Prelude.{◌≡◌, ◌++◌, All, map, IfOk, OnOk, OnSome};
+ghost use Rattle.std.specs.Prelude.{◌≡◌, ◌++◌, All, IfOk, OnOk, OnSome};
 ghost use Rattle.mv_values.specs.Keys.{IsBelow, stored};
 ghost use Rattle.mv_values.specs.Patching.{row_of};
 ghost use Rattle.mv_values.specs.Preds.{matched};
@@ -17,10 +17,9 @@ use mv_table::key_map::KeyMap;
 use mv_table::scan::Direction;
 use mv_table::span::Span;
 use mv_values::copied::Copied;
-use mv_values::list::List;
 use mv_values::memory::NoMemory;
 use mv_values::pred::Pred;
-use mv_values::rows::{Database, Keyed, Rows};
+use mv_values::rows::{Keyed, Rows};
 use mv_values::value::{Key, Row};
 use mv_view::key_set::KeySet;
 use std::alloc::Global;
@@ -132,31 +131,4 @@ pub(crate) fn find_row(
         Some(chain) => chain.row_at(alloc, n),
         None => Ok(None),
     }
-}
-
-/// Returns copies of all rows of a table after commit n.
-fn all_rows(alloc: Global, table: &KeyMap<Chain>, n: u32) -> Result<Rows, NoMemory>
-    ensures { IfOk result (λ rows. rows ≡ table_at n table.now) }
-{
-    let all = Pred {
-        table: 0,
-        tests: List::new(alloc),
-        columns: List::new(alloc),
-    };
-    find(alloc, table, n, &all)
-}
-
-/// Returns copies of all tables after commit n.
-pub(crate) fn copy_tables(
-    alloc: Global,
-    tables: &[KeyMap<Chain>],
-    n: u32,
-) -> Result<Database, NoMemory>
-    ensures { IfOk result (λ database. database ≡ map (table_at n) tables.now) }
-{
-    let mut database = Database::new(alloc);
-    for table in tables {
-        database.push(all_rows(alloc, table, n)?)?;
-    }
-    Ok(database)
 }

@@ -6,6 +6,7 @@
 #![tactic(auto)]
 
 mod change;
+mod close;
 mod collect;
 mod find;
 mod open;

@@ -11,8 +11,9 @@ ghost use Rattle.mv_store.specs.Stored.{database_at, own_writes, IsLike};
 ghost use Rattle.mv_store.specs.Changes.{IsAsBefore, HasPut, HasDropped, HasStamped, HasRaised};
 
 use crate::change::{Fate, settle_noted};
+use crate::close::close_all;
 use crate::collect::collect_all;
-use crate::find::{copy_tables, find, find_foremost, find_row};
+use crate::find::{find, find_foremost, find_row};
 use crate::open::open_all;
 use crate::write::put_write;
 use crate::written_keys::WrittenKeys;
@@ -137,13 +138,14 @@ impl Store {
         Ok(row)
     }
 
-    /// Returns copies of all tables after commit n, which may not be below the store's low. Fails with `NoMemory` if
-    /// memory runs out. Takes time linear in the number of rows and of their later patches.
-    pub fn tables_at(&self, alloc: Global, n: u32) -> Result<Database, NoMemory>
-        requires { self.now.low ≤ n }
-        ensures { IfOk result (λ tables. tables ≡ database_at self.now n) }
+    /// Moves all tables after commit n out, which may not be below the store's low. Fails with `NoMemory` if memory runs
+    /// out. Takes time linear in the number of rows and of their later patches.
+    pub fn into_tables_at(self, alloc: Global, n: u32) -> Result<Database, NoMemory>
+        requires { self.low ≤ n }
+        ensures { IfOk result (λ tables. tables ≡ database_at self n) }
     {
-        copy_tables(alloc, self.tables.as_slice(), n)
+        let Store { tables, .. } = self;
+        close_all(alloc, tables, n)
     }
 
     /// Fails with `Stale` exactly if n is below low.

@@ -1,9 +1,9 @@
 use Rattle.std.proofs.Common.{◌≡◌, ◌≤◌, length, drop}
 use Rattle.mv_chain.specs.Undoing.{before}
-use Rattle.mv_chain.proofs.history.History.row_at.Given as goal
+use Rattle.mv_chain.proofs.undo.row_before.Given as goal
 
 abbrev pub invariant-loop-at : goal.invariant-loop-at
-invariant-loop-at l = (l.row ≡ before (drop l.at l.self-inside.undos.items) l.self-inside.row) × (l.at ≤ length l.self-inside.undos.items) × (l.first ≤ l.at)
+invariant-loop-at l = (l.was ≡ before (drop l.at l.undos) l.fn.row) × (l.at ≤ length l.undos) × (l.first ≤ l.at)
 
 abbrev pub decreases-loop-at : goal.decreases-loop-at
 decreases-loop-at l = l.at
