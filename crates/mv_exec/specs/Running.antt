@@ -1,6 +1,8 @@
 -- Defines all that public contracts say of running calls. This project's own.
 use Rattle.std.specs.Prelude.{◌≡◌, ◌↔◌, ◌+◌, ◌*◌, ℕ, Bool, true, false, List, [], ◌∷◌, ◌++◌, Option, Some, None, Result, Ok, Err, length}
+use Rattle.std.specs.List.{flat_map}
 use Rattle.mv_values.specs.declared.calls.Call.{Call}
+use Rattle.mv_values.specs.declared.pred.Pred.{Pred}
 use Rattle.mv_values.specs.Patching.{applied}
 use Rattle.mv_values.specs.Tables.{KeysStand, Tables}
 use Rattle.mv_alone.specs.TableAfter.{entered}
@@ -117,13 +119,17 @@ abbrev pub refusals : {A E : Type 0} → Result A E → ℕ
 refusals (Ok x) = 0
 refusals (Err e) = 1
 
--- records were added by executing their statements, and then this many more were tried and refused; for each the view
--- was asked for rows once, and once for each key that the call has written
+-- the predicates of these records
+abbrev pub preds_in : List Record → List Pred
+preds_in rs = flat_map (λ r. r.preds) rs
+
+-- records were added by executing their statements, and then this many more were tried and refused; the view was asked
+-- at most once for each predicate of these records and for each refusal, and then for each key that the call has written
 pub record HasRunTo (old new : Task) (vain : ℕ) (before after : Sight) : Type 0 where
   pub more : List Record
   pub records : new.records ≡ old.records ++ more
   pub executed : new.executed ≡ old.executed + length more
-  pub asked : AskedAtMost (length more + vain) ((length more + vain) * different (writes_in new.records)) before after
+  pub asked : AskedAtMost (length (preds_in more) + vain) ((length (preds_in more) + vain) * different (writes_in new.records)) before after
 
 -- Laws
 

@@ -15,7 +15,7 @@ loop-alloc-preserved g c =
       goes_on = λ call on.
           subst (λ (db : Tables). IsSameCallOn c.args.graph.now db c.loop-alloc.task c.next.new.task) c.loop-alloc.invariant.same.database c.next.ensures.goes_on call (c.loop-alloc.invariant.goes_on call on);
       ran = run_on c.args.task.now c.loop-alloc.task c.next.new.task (g.V.View.sight c.args.view.now) (g.V.View.sight c.loop-alloc.view) (g.V.View.sight c.next.new.view)
-          c.loop-alloc.invariant.ran (c.in_ok-next.ensures.ran live) c.next.ensures.bounded;
+          c.loop-alloc.invariant.ran (c.in_ok-next.ensures.ran live);
       same = same_on (g.V.View.sight c.args.view.now) (g.V.View.sight c.loop-alloc.view) (g.V.View.sight c.next.new.view) c.next.ensures.view.same c.loop-alloc.invariant.same;
       never = never_on (g.V.View.sight c.args.view.now) (g.V.View.sight c.loop-alloc.view) (g.V.View.sight c.next.new.view) c.in_ok-next.ensures.view.passes_on c.loop-alloc.invariant.never;
     }
