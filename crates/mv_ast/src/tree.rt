@@ -149,6 +149,15 @@ pub struct SetItem {
     pub right: Expr,
 }
 
+/// What a SELECT and a FOR have in common: columns of the rows of a table that pass WHERE, in the order of ORDER BY.
+#[derive(Drop)]
+pub struct Selection<'a> {
+    pub table: &'a Name,
+    pub columns: &'a [Name],
+    pub conds: &'a [Cond],
+    pub sorts: &'a [Sort],
+}
+
 /// A statement. Its token is its first word.
 #[derive(Drop)]
 pub enum Stmt {

@@ -11,7 +11,7 @@ use crate::build_names::{
 };
 use crate::resolved::RStmt;
 use crate::slot::Slot;
-use mv_ast::tree::{Agg, Cond, Expr, Name, SetItem, Sort, Stmt};
+use mv_ast::tree::{Agg, Cond, Expr, Name, Selection, SetItem, Stmt};
 use mv_names::index::Index;
 use mv_names::nested::Scope;
 use mv_names::tables::Table;
@@ -44,22 +44,19 @@ fn select(
     alloc: Global,
     tables: &Index<'_, Table<'_>>,
     slots: &Scope<'_, Slot>,
-    selected: &[Name],
+    selection: &Selection<'_>,
     to: &[Name],
-    name: &Name,
-    tests: &[Cond],
-    order: &[Sort],
     skip: &Option<Expr>,
 ) -> Result<RStmt, NoMemory>
-    ensures { IfOk result (λ s. let own = columns_named tables.now name.now in s ≡ r_stmt.Select (map (column_number own) selected.now) (numbers_of slots.now to.now) (small (table_place tables.now name.now)) (conds_of slots.now own tests.now) (sorts_of own order.now) (maybe_plain slots.now skip.now)) }
+    ensures { IfOk result (λ s. let own = columns_named tables.now selection.now.table.now in s ≡ r_stmt.Select (map (column_number own) selection.now.columns.now) (numbers_of slots.now to.now) (small (table_place tables.now selection.now.table.now)) (conds_of slots.now own selection.now.conds.now) (sorts_of own selection.now.sorts.now) (maybe_plain slots.now skip.now)) }
 {
-    let (number, own) = numbered_table(tables, name);
+    let (number, own) = numbered_table(tables, selection.table);
     Ok(RStmt::Select {
-        columns: columns(alloc, own, selected)?,
+        columns: columns(alloc, own, selection.columns)?,
         to: variables(alloc, slots, to)?,
         table: number,
-        conds: conds(alloc, slots, own, tests)?,
-        sorts: sorts(alloc, own, order)?,
+        conds: conds(alloc, slots, own, selection.conds)?,
+        sorts: sorts(alloc, own, selection.sorts)?,
         offset: offset(alloc, slots, skip)?,
     })
 }
@@ -180,22 +177,19 @@ fn select_loop(
     slots: &Scope<'_, Slot>,
     number: usize,
     distinct: bool,
-    selected: &[Name],
-    name: &Name,
-    tests: &[Cond],
-    order: &[Sort],
+    selection: &Selection<'_>,
     body: List<RStmt>,
 ) -> Result<RStmt, NoMemory>
-    ensures { IfOk result (λ s. let own = columns_named tables.now name.now in s ≡ r_stmt.ForSelect (small number) distinct (map (column_number own) selected.now) (small (table_place tables.now name.now)) (conds_of slots.now own tests.now) (sorts_of own order.now) body) }
+    ensures { IfOk result (λ s. let own = columns_named tables.now selection.now.table.now in s ≡ r_stmt.ForSelect (small number) distinct (map (column_number own) selection.now.columns.now) (small (table_place tables.now selection.now.table.now)) (conds_of slots.now own selection.now.conds.now) (sorts_of own selection.now.sorts.now) body) }
 {
-    let (source, own) = numbered_table(tables, name);
+    let (source, own) = numbered_table(tables, selection.table);
     Ok(RStmt::ForSelect {
         row: small_number(number),
         distinct,
-        columns: columns(alloc, own, selected)?,
+        columns: columns(alloc, own, selection.columns)?,
         table: source,
-        conds: conds(alloc, slots, own, tests)?,
-        sorts: sorts(alloc, own, order)?,
+        conds: conds(alloc, slots, own, selection.conds)?,
+        sorts: sorts(alloc, own, selection.sorts)?,
         body,
     })
 }
@@ -263,11 +257,13 @@ fn statement<'a>(
             offset,
             ..
         } => {
-            let (columns, to) = (columns.as_slice(), to.as_slice());
-            let (conds, sorts) = (conds.as_slice(), sorts.as_slice());
-            select(
-                alloc, tables, seen, columns, to, table, conds, sorts, offset,
-            )
+            let selection = Selection {
+                table,
+                columns: columns.as_slice(),
+                conds: conds.as_slice(),
+                sorts: sorts.as_slice(),
+            };
+            select(alloc, tables, seen, &selection, to.as_slice(), offset)
         }
         Stmt::Total {
             agg,
@@ -286,11 +282,14 @@ fn statement<'a>(
             body,
             ..
         } => {
-            let (columns, conds) = (columns.as_slice(), conds.as_slice());
-            let (sorts, body) = (sorts.as_slice(), body.as_slice());
-            over_select(
-                alloc, tables, row, *distinct, columns, table, conds, sorts, body, slots, next,
-            )
+            let selection = Selection {
+                table,
+                columns: columns.as_slice(),
+                conds: conds.as_slice(),
+                sorts: sorts.as_slice(),
+            };
+            let body = body.as_slice();
+            over_select(alloc, tables, row, *distinct, &selection, body, slots, next)
         }
         Stmt::ForRows {
             row,
@@ -353,24 +352,19 @@ fn over_select<'a>(
     tables: &Index<'_, Table<'_>>,
     row: &'a Name,
     distinct: bool,
-    selected: &[Name],
-    name: &Name,
-    tests: &[Cond],
-    order: &[Sort],
+    selection: &Selection<'_>,
     body: &'a [Stmt],
     slots: &mut Scope<'a, Slot>,
     next: &mut usize,
 ) -> Result<RStmt, NoMemory>
-    ensures built { IfOk result (λ r. r ≡ (for_select tables.now row.now distinct selected.now name.now tests.now order.now (map (built tables.now) body.now)).build slots.old next.old) }
+    ensures built { IfOk result (λ r. r ≡ (for_select tables.now row.now distinct selection.now.columns.now selection.now.table.now selection.now.conds.now selection.now.sorts.now (map (built tables.now) body.now)).build slots.old next.old) }
     ensures slots { IfOk result (λ r. slots.new ≡ slots.old) }
     ensures next { IfOk result (λ r. next.new ≡ next.old + (1 + loops_of tables.now body.now)) }
 {
     let number = *next;
-    let slot = slot_at(alloc, number, &row.text, texts(alloc, selected)?)?;
+    let slot = slot_at(alloc, number, &row.text, texts(alloc, selection.columns)?)?;
     let body = body_under(alloc, tables, row, slot, body, slots, next)?;
-    select_loop(
-        alloc, tables, slots, number, distinct, selected, name, tests, order, body,
-    )
+    select_loop(alloc, tables, slots, number, distinct, selection, body)
 }
 
 /// Builds a FOR over a ROWS parameter.

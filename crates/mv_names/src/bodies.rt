@@ -13,7 +13,7 @@ use crate::statements::{
     check_total, check_turn_name, check_update, check_values, fields_of, turn_with,
 };
 use crate::tables::Table;
-use mv_ast::tree::{Cond, Name, Sort, Stmt};
+use mv_ast::tree::{Name, Selection, Stmt};
 use mv_values::list::List;
 use mv_values::memory::NoMemory;
 use std::alloc::Global;
@@ -58,18 +58,24 @@ fn check_statement<'a>(
             sorts,
             offset,
             ..
-        } => check_select(
-            alloc,
-            scope,
-            tables.find(&table.text),
-            columns.as_slice(),
-            to.as_slice(),
-            table,
-            conds.as_slice(),
-            sorts.as_slice(),
-            offset,
-            faults,
-        ),
+        } => {
+            let selection = Selection {
+                table,
+                columns: columns.as_slice(),
+                conds: conds.as_slice(),
+                sorts: sorts.as_slice(),
+            };
+            let found = tables.find(&table.text);
+            check_select(
+                alloc,
+                scope,
+                found,
+                &selection,
+                to.as_slice(),
+                offset,
+                faults,
+            )
+        }
         Stmt::Total {
             agg,
             to,
@@ -94,14 +100,17 @@ fn check_statement<'a>(
             body,
             ..
         } => {
+            let selection = Selection {
+                table,
+                columns: columns.as_slice(),
+                conds: conds.as_slice(),
+                sorts: sorts.as_slice(),
+            };
             check_for_select(
                 alloc,
                 tables,
                 row,
-                columns.as_slice(),
-                table,
-                conds.as_slice(),
-                sorts.as_slice(),
+                &selection,
                 body.as_slice(),
                 scope,
                 faults,
@@ -157,20 +166,17 @@ fn check_for_select<'a>(
     alloc: Global,
     tables: &Index<'_, Table<'_>>,
     turn: &'a Name,
-    columns: &[Name],
-    table: &Name,
-    conds: &[Cond],
-    sorts: &[Sort],
+    selection: &Selection<'_>,
     body: &'a [Stmt],
     scope: &mut Scope<'a, Entry>,
     faults: &mut List<Fault>,
 ) -> Result<(), NoMemory>
-    ensures faults { OnOk result (faults.new ≡ faults.old ++ for_select (table_named tables.now table.now.text) turn.now columns.now table.now conds.now sorts.now (statements tables.now body.now) scope.old) }
+    ensures faults { OnOk result (faults.new ≡ faults.old ++ for_select (table_named tables.now selection.now.table.now.text) turn.now selection.now.columns.now selection.now.table.now selection.now.conds.now selection.now.sorts.now (statements tables.now body.now) scope.old) }
     ensures scope { OnOk result (scope.new ≡ scope.old) }
 {
-    let found = tables.find(&table.text);
+    let found = tables.find(&selection.table.text);
     check_turn_name(scope, turn, faults)?;
-    let fields = check_selected(alloc, scope, found, columns, table, conds, sorts, faults)?;
+    let fields = check_selected(alloc, scope, found, selection, faults)?;
     let entry = turn_with(alloc, turn, fields)?;
     check_body(alloc, tables, turn, entry, body, scope, faults)
 }

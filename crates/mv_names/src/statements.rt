@@ -16,7 +16,7 @@ use crate::named::has_name;
 use crate::nested::Scope;
 use crate::scope::{Entry, Field, Meaning, ValueType};
 use crate::tables::Table;
-use mv_ast::tree::{Agg, ColDef, Cond, Expr, Name, SetItem, Sort};
+use mv_ast::tree::{Agg, ColDef, Cond, Expr, Name, Selection, SetItem, Sort};
 use mv_values::copied::Copied;
 use mv_values::list::List;
 use mv_values::memory::NoMemory;
@@ -384,24 +384,26 @@ pub(crate) fn check_select(
     alloc: Global,
     scope: &Scope<'_, Entry>,
     table: Option<&Table<'_>>,
-    columns: &[Name],
+    selection: &Selection<'_>,
     to: &[Name],
-    name: &Name,
-    conds: &[Cond],
-    sorts: &[Sort],
     offset: &Option<Expr>,
     faults: &mut List<Fault>,
 ) -> Result<(), NoMemory>
-    ensures { OnOk result (faults.new ≡ faults.old ++ select (option_copied table.entry) columns.now to.now name.now conds.now sorts.now offset.now scope.now) }
+    ensures { OnOk result (faults.new ≡ faults.old ++ select (option_copied table.entry) selection.now.columns.now to.now selection.now.table.now selection.now.conds.now selection.now.sorts.now offset.now scope.now) }
 {
     let own = columns_in(table);
+    let name = selection.table;
     check_table(table, name.token, faults)?;
-    let kinds = check_columns(alloc, own, columns, faults)?;
+    let kinds = check_columns(alloc, own, selection.columns, faults)?;
     let token = token_of_names(to, name.token);
-    add_if(faults, columns.len() != to.len(), Fault::wrong(token))?;
+    add_if(
+        faults,
+        selection.columns.len() != to.len(),
+        Fault::wrong(token),
+    )?;
     check_targets(scope, kinds.as_slice(), to, faults)?;
-    check_where(scope, own, conds, faults)?;
-    check_order(own, sorts, faults)?;
+    check_where(scope, own, selection.conds, faults)?;
+    check_order(own, selection.sorts, faults)?;
     check_offset(scope, offset, faults)
 }
 
@@ -410,20 +412,17 @@ pub(crate) fn check_selected(
     alloc: Global,
     scope: &Scope<'_, Entry>,
     table: Option<&Table<'_>>,
-    columns: &[Name],
-    name: &Name,
-    conds: &[Cond],
-    sorts: &[Sort],
+    selection: &Selection<'_>,
     faults: &mut List<Fault>,
 ) -> Result<List<Field>, NoMemory>
-    ensures fields { IfOk result (λ all. all ≡ map (selected_field (columns_of (option_copied table.entry))) columns.now) }
-    ensures faults { OnOk result (let own = columns_of (option_copied table.entry) in faults.new ≡ faults.old ++ missing_table name.now.token (option_copied table.entry) ++ flat_map (column_faults own) columns.now ++ where_faults scope.now own conds.now ++ order_faults own sorts.now) }
+    ensures fields { IfOk result (λ all. all ≡ map (selected_field (columns_of (option_copied table.entry))) selection.now.columns.now) }
+    ensures faults { OnOk result (let own = columns_of (option_copied table.entry) in faults.new ≡ faults.old ++ missing_table selection.now.table.now.token (option_copied table.entry) ++ flat_map (column_faults own) selection.now.columns.now ++ where_faults scope.now own selection.now.conds.now ++ order_faults own selection.now.sorts.now) }
 {
     let own = columns_in(table);
-    check_table(table, name.token, faults)?;
-    let fields = selected_fields(alloc, own, columns, faults)?;
-    check_where(scope, own, conds, faults)?;
-    check_order(own, sorts, faults)?;
+    check_table(table, selection.table.token, faults)?;
+    let fields = selected_fields(alloc, own, selection.columns, faults)?;
+    check_where(scope, own, selection.conds, faults)?;
+    check_order(own, selection.sorts, faults)?;
     Ok(fields)
 }
 

@@ -13,7 +13,7 @@ statement-returns-in-Assign-clause-next t c = rw (built_is c.args.tables.now c.a
 
 pub statement-returns-in-Select-clause-built : goal.statement-returns-in-Select-clause-built
 statement-returns-in-Select-clause-built t c =
-    let k = rw (c.as_slice-columns.ensures, c.as_slice-to.ensures, c.as_slice-conds.ensures, c.as_slice-sorts.ensures) at c.select.ensures in
+    let k = rw (c.as_slice.ensures, c.as_slice-in-Select.ensures, c.as_slice-in-Select-2.ensures, c.as_slice-in-Select-3.ensures) at c.select.ensures in
     rw (built_is c.args.tables.now c.args.s.now (layer.Select c.in-Select.token c.in-Select.columns c.in-Select.to c.in-Select.table c.in-Select.conds c.in-Select.sorts c.in-Select.offset) _ c.in-Select.is (rolls-Select c.in-Select.token c.in-Select.columns c.in-Select.to c.in-Select.table c.in-Select.conds c.in-Select.sorts c.in-Select.offset)) k
 
 pub statement-returns-in-Select-clause-next : goal.statement-returns-in-Select-clause-next
@@ -21,7 +21,7 @@ statement-returns-in-Select-clause-next t c = rw (built_is c.args.tables.now c.a
 
 pub statement-returns-in-Total-clause-built : goal.statement-returns-in-Total-clause-built
 statement-returns-in-Total-clause-built t c =
-    let k = rw (c.as_slice.ensures) at c.total.ensures in
+    let k = rw (c.as_slice-in-Total.ensures) at c.total.ensures in
     rw (built_is c.args.tables.now c.args.s.now (layer.Total c.in-Total.token c.in-Total.agg c.in-Total.to c.in-Total.table c.in-Total.conds) _ c.in-Total.is (rolls-Total c.in-Total.token c.in-Total.agg c.in-Total.to c.in-Total.table c.in-Total.conds)) k
 
 pub statement-returns-in-Total-clause-next : goal.statement-returns-in-Total-clause-next
@@ -29,7 +29,7 @@ statement-returns-in-Total-clause-next t c = rw (built_is c.args.tables.now c.ar
 
 pub statement-returns-in-ForSelect-clause-built : goal.statement-returns-in-ForSelect-clause-built
 statement-returns-in-ForSelect-clause-built t c =
-    let k = rw (c.as_slice-columns-in-ForSelect.ensures, c.as_slice-conds-in-ForSelect.ensures, c.as_slice-sorts-in-ForSelect.ensures, c.as_slice-body.ensures) at c.over_select.ensures.built in
+    let k = rw (c.as_slice-in-ForSelect.ensures, c.as_slice-in-ForSelect-2.ensures, c.as_slice-in-ForSelect-3.ensures, c.as_slice-body.ensures) at c.over_select.ensures.built in
     rw (built_is c.args.tables.now c.args.s.now (layer.ForSelect c.in-ForSelect.token c.in-ForSelect.row c.in-ForSelect.distinct c.in-ForSelect.columns c.in-ForSelect.table c.in-ForSelect.conds c.in-ForSelect.sorts c.in-ForSelect.body) _ c.in-ForSelect.is (rolls-ForSelect c.in-ForSelect.token c.in-ForSelect.row c.in-ForSelect.distinct c.in-ForSelect.columns c.in-ForSelect.table c.in-ForSelect.conds c.in-ForSelect.sorts c.in-ForSelect.body)) k
 
 pub statement-returns-in-ForSelect-clause-next : goal.statement-returns-in-ForSelect-clause-next

@@ -10,12 +10,12 @@ check_statement-returns-in-Assign-clause-faults t c =
 
 pub check_statement-returns-in-Select-clause-faults : goal.check_statement-returns-in-Select-clause-faults
 check_statement-returns-in-Select-clause-faults t c =
-    let k = rw (c.as_slice.ensures, c.as_slice-in-Select.ensures, c.as_slice-in-Select-2.ensures, c.as_slice-in-Select-3.ensures, c.find.ensures) at c.check_select.ensures in
+    let k = rw (c.as_slice.ensures, c.as_slice-in-Select.ensures, c.as_slice-in-Select-2.ensures, c.as_slice-in-Select-3.ensures, c.find-found.ensures) at c.check_select.ensures in
     rw (faults_is c.args.tables.now c.args.statement.now (layer.Select c.in-Select.token c.in-Select.columns c.in-Select.to c.in-Select.table c.in-Select.conds c.in-Select.sorts c.in-Select.offset) _ c.in-Select.is (rolls-Select c.in-Select.token c.in-Select.columns c.in-Select.to c.in-Select.table c.in-Select.conds c.in-Select.sorts c.in-Select.offset)) k
 
 pub check_statement-returns-in-Total-clause-faults : goal.check_statement-returns-in-Total-clause-faults
 check_statement-returns-in-Total-clause-faults t c =
-    let k = rw (c.as_slice-in-Total.ensures, c.find-in-Total.ensures) at c.check_total.ensures in
+    let k = rw (c.as_slice-in-Total.ensures, c.find.ensures) at c.check_total.ensures in
     rw (faults_is c.args.tables.now c.args.statement.now (layer.Total c.in-Total.token c.in-Total.agg c.in-Total.to c.in-Total.table c.in-Total.conds) _ c.in-Total.is (rolls-Total c.in-Total.token c.in-Total.agg c.in-Total.to c.in-Total.table c.in-Total.conds)) k
 
 pub check_statement-returns-in-ForSelect-clause-faults : goal.check_statement-returns-in-ForSelect-clause-faults
