@@ -3,7 +3,7 @@ use Rattle.std.proofs.Common.{◌≡◌, ℕ, ◌+◌, ◌<◌, ◌≤◌, Bool,
 use Rattle.std.specs.Prelude.{slice_get, ◌==◌, ◌≢◌, Ok, Err, not, IfSome, IsErrAnd, nat_le, nat_lt, nat_eq}
 use Rattle.std.specs.Option.{is_some}
 use Rattle.std.proofs.lemmas.Bool.Decides.{eqb_tells}
-use Rattle.std.proofs.lemmas.Bool.{and_parts, eqb-true, le-ltb, ltb-true}
+use Rattle.std.proofs.lemmas.Bool.{and_parts, eqb-true, le-ltb, ltb-true, lt-ltb}
 use Rattle.mv_values.specs.declared.calls.Call.{Call}
 use Rattle.mv_values.specs.declared.memory.NoMemory.{NoMemory}
 use Rattle.mv_values.specs.Tables.{Tables}
@@ -20,8 +20,8 @@ use Rattle.mv_journal.specs.declared.outcome.Round.{Round}
 use Rattle.mv_lawful.specs.Rounds.{later_run, repair_run, rounds_of}
 use Rattle.mv_lawful.specs.Outcomes.{turns_of}
 use Rattle.mv_lawful.specs.Work.{Work, records_at}
-use Rattle.mv_lawful.specs.declared.fault.Fault.TheVariants.{Idle, Stale, Rounds}
-use Rattle.mv_lawful.specs.Lawful.{Live, Course, again, finish, change_live, used, has_step, has_round, is_stale, unless, refusal, after}
+use Rattle.mv_lawful.specs.declared.fault.Fault.TheVariants.{Idle, Order, Stale, Rounds}
+use Rattle.mv_lawful.specs.Lawful.{Live, Course, again, finish, change_live, used, has_step, has_round, is_hit, is_stale, unless, refusal, after}
 use Rattle.mv_core.specs.declared.script.Script.{Script}
 use Rattle.mv_core.specs.Rooms.{Filled}
 use Rattle.mv_core.specs.Scripts.{work_of, IsScript}
@@ -33,15 +33,15 @@ use Rattle.mv_core.specs.declared.engine.Attempt.{Attempt}
 use Rattle.mv_view.specs.declared.view.Refused.{Refused}
 use Rattle.mv_view.specs.declared.view.Refused.TheVariants as refused
 use Rattle.mv_core.specs.declared.book.Check.TheVariants as check
-use Rattle.mv_core.specs.Drives.{HasMade, TellsRound}
+use Rattle.mv_core.specs.Drives.{HasMade, HasTaken, TellsRound, of_view}
 use Rattle.mv_core.specs.declared.drive.Refusal.TheVariants as drive
-use Rattle.mv_core.specs.Cores.{IsAllowedIfFresh, IsHitAt, IsStaleAt, IsLiveTask, IsRunning, HasTurns, HasStep, MayStep, HasTried, HasCommitted, HasRepaired, IsStoreOf, IsCore}
+use Rattle.mv_core.specs.Cores.{IsAllowedIfFresh, IsHitAt, IsStaleAt, IsLiveTask, IsRunning, HasTurns, HasStep, MayStep, HasTried, HasCommitted, HasRefused, HasRepaired, IsStoreOf, IsCore}
 use Rattle.mv_core.proofs.Numbers.{repair_stays}
 use Rattle.mv_core.proofs.Journals.{changed_at, set_there}
 use Rattle.mv_core.proofs.Keeping.{restart_after}
 use Rattle.mv_core.proofs.Stored.{stored_same}
 use Rattle.mv_core.proofs.Taking.{tasks_same, number_again, one_live}
-use Rattle.mv_core.proofs.Refusing.{Repairs, repairs_again, repairs_last, step_is, same_made, refused_stale, fresh_allowed, told_idle, told_stale, told_hit}
+use Rattle.mv_core.proofs.Refusing.{Repairs, repairs_again, repairs_last, step_is, same_made, refused_stale, fresh_allowed, live_is, told_idle, told_stale, told_hit}
 use Rattle.mv_store.specs.Stored.{Versioned}
 
 -- No event
@@ -320,6 +320,39 @@ round_allowed old new e may same law can f refused =
     let none = allowed_same e old new same.script same.course (law ∙ ap (λ b. unless b Rounds None) can) in
     let both : None ≡ Some f = sym none ∙ refused in
     absurd (search (rules, both))
+
+-- An event whose view refuses
+
+-- nothing happened, and the law calls the call stale if the view does
+left_as_is : (e : Event) (c : ℕ) (old mid new : Booked) (why : Refused) → ((l : Live) → IsLive old.course c l → is_stale old.course l ≡ true → refusal (work_in old) old.course e ≡ Some Stale)
+    → IsSame old mid → HasRefused c why mid new → HasTaken e old new (Err (of_view why))
+left_as_is e c old mid new refused.NoMemory law same left = same_made old new (same_both old mid new same left)
+left_as_is e c old mid new (refused.Stale start low) law same left =
+    let at = left.0 in
+    let low_is : mid.course.low ≡ old.course.low = ap (λ (s : Course). s.low) same.course in (
+      law at.live (subst (λ (s : Course). IsLive s c at.live) same.course at.is_live)
+          (lt-ltb at.live.start old.course.low (let start_is = at.start_is in let is = at.low_is in let stale = at.stale in omega (arith, start_is, is, stale, low_is))),
+      same_made old new (same_both old mid new same left.1),
+    )
+
+pub step_refused : (c : ℕ) (old new : Booked) (why : Refused) → HasStep old c → HasRefused c why old new → HasTaken (S c) old new (Err (of_view why))
+step_refused c old new why has left =
+    left_as_is (S c) c old old new why
+    (λ l live stale. live_is old.course c (λ x. unless (has_step (work_in old) old.course c x) Order (unless (not (is_stale old.course x)) Stale None)) l live
+    ∙ (ap (λ b. unless b Order (unless (not (is_stale old.course l)) Stale None)) (has l live) ∙ ap (λ b. unless (not b) Stale None) stale))
+    (same_self old) left
+
+pub again_refused : (c : ℕ) (old mid new : Booked) (why : Refused) → IsSame old mid → HasRefused c why mid new → HasTaken (A c) old new (Err (of_view why))
+again_refused c old mid new why same left =
+    left_as_is (A c) c old mid new why
+    (λ l live stale. (again_law old c l live).law ∙ ap (λ b. unless (not b) Stale (unless (is_hit (work_in old) old.course c l) Idle (unless (has_round (work_in old) l) Rounds None))) stale)
+    same left
+
+pub last_refused : (c : ℕ) (old mid new : Booked) (why : Refused) → IsSame old mid → HasRefused c why mid new → HasTaken (X c) old new (Err (of_view why))
+last_refused c old mid new why same left =
+    left_as_is (X c) c old mid new why
+    (λ l live stale. (last_law old c l live).law ∙ ap (λ b. unless (not b) Stale (unless (is_hit (work_in old) old.course c l) Idle (unless (not (has_round (work_in old) l)) Rounds None))) stale)
+    same left
 
 -- there are rounds
 pub some_rounds : {A : Type 0} {P : A → Type 0} {Q : Type 0} (o : Option A) → IfSome o P → is_some o ≡ true → ((x : A) → P x → Q) → Q

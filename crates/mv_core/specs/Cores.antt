@@ -180,11 +180,15 @@ pub record IsStaleAt (b : Booked) (c start low : ℕ) : Type 0 where
 abbrev pub TellsStep : Booked → ℕ → Stepped → Type 0
 TellsStep b c it = (l : Live) → IsLive b.course c l → it ≡ stepped (not (has_step (work_in b) b.course c l))
 
+-- nothing happened, and the call is stale if its view says so
+abbrev pub HasRefused : ℕ → Refused → Booked → Booked → Type 0
+HasRefused c refused.NoMemory old new = IsSame old new
+HasRefused c (refused.Stale start low) old new = IsStaleAt old c start low × IsSame old new
+
 -- a statement was executed, and `Ended` says that none is left
 abbrev pub HasStepped : ℕ → Result Stepped Refused → Booked → Booked → Type 0
 HasStepped c (Ok it) old new = Made (S c) old new × TellsStep new c it
-HasStepped c (Err refused.NoMemory) old new = IsSame old new
-HasStepped c (Err (refused.Stale start low)) old new = IsStaleAt old c start low × IsSame old new
+HasStepped c (Err why) old new = HasRefused c why old new
 
 -- a commit after the call's start hits one of its records; these are the least such record, and the first such commit
 pub record IsHitAt (b : Booked) (c : ℕ) (hit : Hit) : Type 0 where
@@ -217,14 +221,12 @@ IsAllowedIfFresh b e = (f : Fault) → refusal (work_in b) b.course e ≡ Some f
 -- the call was repaired, and executed as many records as Runs says
 abbrev pub HasRepaired : ℕ → Result ℕ Refused → Booked → Booked → Type 0
 HasRepaired c (Ok n) old new = Made (A c) old new × (due_number (work_in new) new.course c ≡ Some n)
-HasRepaired c (Err refused.NoMemory) old new = IsSame old new
-HasRepaired c (Err (refused.Stale start low)) old new = IsStaleAt old c start low × IsSame old new
+HasRepaired c (Err why) old new = HasRefused c why old new
 
 -- the call was repaired and committed in one step
 abbrev pub HasDecided : ℕ → Result ℕ Refused → Booked → Booked → Type 0
 HasDecided c (Ok n) old new = Made (X c) old new × (n ≡ length old.course.order + 1)
-HasDecided c (Err refused.NoMemory) old new = IsSame old new
-HasDecided c (Err (refused.Stale start low)) old new = IsStaleAt old c start low × IsSame old new
+HasDecided c (Err why) old new = HasRefused c why old new
 
 -- old versions were collected, or nothing happened
 abbrev pub HasCollected : Result (Unit {0}) NoMemory → Booked → Booked → Type 0

@@ -3,7 +3,9 @@ use Rattle.std.specs.Prelude.{◌≡◌, ℕ, ◌-◌, Bool, not, List, [], ◌+
 use Rattle.mv_journal.specs.declared.event.Event.{Event}
 use Rattle.mv_journal.specs.declared.event.Event.TheVariants.{A, X}
 use Rattle.mv_journal.specs.declared.outcome.Outcome.{Outcome}
-use Rattle.mv_lawful.specs.declared.fault.Fault.TheVariants.{Rounds}
+use Rattle.mv_view.specs.declared.view.Refused.{Refused as ViewRefused}
+use Rattle.mv_view.specs.declared.view.Refused.TheVariants as view
+use Rattle.mv_lawful.specs.declared.fault.Fault.TheVariants.{Stale, Rounds}
 use Rattle.mv_lawful.specs.declared.fault.Wrong.TheVariants as wrong
 use Rattle.mv_lawful.specs.Work.{Work}
 use Rattle.mv_lawful.specs.Lawful.{refusal, unless, reach, wrong_from, wrong_with, AllAllowed, Lawful}
@@ -29,6 +31,11 @@ pub record HasTurned (old new : Booked) : Type 0 where
   pub events : List Event
   pub turns : without_collections events ≡ in_turn (length old.script.calls)
   pub made : HasMade events old new
+
+-- the refusal of an event whose view refuses
+abbrev pub of_view : ViewRefused → Refusal
+of_view view.NoMemory = NoMemory
+of_view (view.Stale start low) = Refused Stale
 
 -- an event was made exactly if the law of journals allows it; otherwise nothing changed, and the refusal is the law's
 abbrev pub HasTaken : Event → Booked → Booked → Result (Unit {0}) Refusal → Type 0

@@ -8,6 +8,7 @@ ghost use Rattle.mv_core.specs.Drives.{HasTaken, Driven, fault_at};
 use mv_journal::event::Event;
 use mv_lawful::fault::Fault;
 use mv_values::memory::NoMemory;
+use mv_view::view::Refused;
 use std::alloc::Global;
 
 /// The reasons why an event isn't made.
@@ -27,6 +28,20 @@ impl From<NoMemory> for Refusal {
 
     fn from(_error: NoMemory) -> Refusal {
         Refusal::NoMemory
+    }
+}
+
+impl From<Refused> for Refusal {
+    ghost use Rattle.std.specs.Prelude.{◌≡◌};
+    ghost use Rattle.mv_core.specs.Drives.{of_view};
+
+    ghost from_gives = { λ refused e. e ≡ of_view refused };
+
+    fn from(refused: Refused) -> Refusal {
+        match refused {
+            Refused::Stale { .. } => Refusal::Refused(Fault::Stale),
+            Refused::NoMemory => Refusal::NoMemory,
+        }
     }
 }
 

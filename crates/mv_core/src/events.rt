@@ -8,7 +8,6 @@ use crate::drive::{Events, Refusal};
 use crate::engine::{Attempt, Core};
 use mv_journal::event::Event;
 use mv_lawful::fault::Fault;
-use mv_view::view::Refused;
 use std::alloc::Global;
 
 /// Begins a call, if it is the next one.
@@ -29,11 +28,8 @@ fn step_event(core: &mut Core, alloc: Global, call: u32) -> Result<(), Refusal>
     if !core.may_step(call) {
         return Err(Refusal::Refused(Fault::Order));
     }
-    match core.step(alloc, call) {
-        Ok(_) => Ok(()),
-        Err(Refused::Stale { .. }) => Err(Refusal::Refused(Fault::Stale)),
-        Err(Refused::NoMemory) => Err(Refusal::NoMemory),
-    }
+    core.step(alloc, call)?;
+    Ok(())
 }
 
 /// Moves a call, if it is live.
@@ -85,11 +81,8 @@ fn repair_event(core: &mut Core, alloc: Global, call: u32) -> Result<(), Refusal
     if !more {
         return Err(Refusal::Refused(Fault::Rounds));
     }
-    match core.again(alloc, call) {
-        Ok(_) => Ok(()),
-        Err(Refused::Stale { .. }) => Err(Refusal::Refused(Fault::Stale)),
-        Err(Refused::NoMemory) => Err(Refusal::NoMemory),
-    }
+    core.again(alloc, call)?;
+    Ok(())
 }
 
 /// Repairs and commits a call in one step, if it is live and hit, and has used its rounds.
@@ -100,11 +93,8 @@ fn decide_event(core: &mut Core, alloc: Global, call: u32) -> Result<(), Refusal
     if more {
         return Err(Refusal::Refused(Fault::Rounds));
     }
-    match core.exclusive(alloc, call) {
-        Ok(_) => Ok(()),
-        Err(Refused::Stale { .. }) => Err(Refusal::Refused(Fault::Stale)),
-        Err(Refused::NoMemory) => Err(Refusal::NoMemory),
-    }
+    core.exclusive(alloc, call)?;
+    Ok(())
 }
 
 /// Collects old versions.

@@ -8,6 +8,9 @@ use Rattle.mv_catalog.specs.declared.resolved.Program.{Program}
 use Rattle.mv_accept.specs.declared.refusal.Refusal.{Refusal as ScriptRefusal}
 use Rattle.mv_accept.specs.Accepting.{most_bytes, Accepts, Refuses}
 use Rattle.mv_top.specs.declared.refusal.Refusal.{Refusal}
+use Rattle.mv_top.specs.declared.refusal.NoText.{NoText}
+use Rattle.mv_top.specs.declared.refusal.NoText.TheVariants as no_text
+use Rattle.mv_top.specs.Refusing.{Causes, Tells}
 use Rattle.mv_accept.proofs.Sizes.{accepted_are_few, too_many_are_told, too_many_are_refused}
 use Rattle.mv_values.specs.declared.calls.Options.{Options}
 use Rattle.mv_values.specs.Counts.{Rose}
@@ -22,7 +25,7 @@ use Rattle.mv_top.specs.declared.status.Fault.TheVariants as fault
 use Rattle.mv_top.specs.declared.status.Status.{Status}
 use Rattle.mv_top.specs.declared.status.Status.TheVariants.{Done, Refused, Usage, NoMemory, ReadFault, WriteFault}
 use Rattle.mv_top.specs.Inputs.{IsReader, input_of, IsTaken}
-use Rattle.mv_top.specs.Answers.{IsTextFor, IsRefusal, HasCause, IsToldBy, IsAnswer, refused, done, IsAnswered, Puts, Wrote, WroteOr, StandFor, IsNoCommand, IsRefusedBy, by_script, by_program}
+use Rattle.mv_top.specs.Answers.{IsTextFor, IsRefusal, HasCause, IsToldBy, IsFaultFor, IsAnswer, refused, done, IsAnswered, Puts, Wrote, WroteOr, StandFor, IsNoCommand, IsRefusedBy, by_script, by_program}
 
 -- the first bytes of an input, as many as are read, are taken of it
 front_is_taken : (all bytes : List ℕ) → bytes ≡ take MOST all → IsTaken all bytes
@@ -113,6 +116,19 @@ put_by old new f g status want answer IsWanted result s a no_fault (inr p) = abs
 pub has_cause : (command : Command) (bytes : List ℕ) (refusal : Refusal) (f : Fault) → IsRefusedBy command bytes refusal → IsToldBy refusal f → HasCause command bytes f
 has_cause command bytes refusal (fault.Refused number what) cause told = (refusal, cause, told.0, told.1)
 has_cause command bytes refusal fault.NoMemory cause told = told
+
+-- what tells why there is no text
+
+pub fault_only : (w : NoText) (f : Fault) → IsFaultFor w f → w ≡ no_text.NoMemory → f ≡ fault.NoMemory
+fault_only w f is none = subst (λ (x : NoText). IsFaultFor x f) none is
+
+pub fault_caused : (command : Command) (bytes : List ℕ) (w : NoText) (f : Fault) → IsFaultFor w f → Causes (IsRefusedBy command bytes) w → HasCause command bytes f
+fault_caused command bytes (no_text.Refused refusal) f is cause = has_cause command bytes refusal f cause is
+fault_caused command bytes no_text.NoMemory f is cause = subst (HasCause command bytes) (sym is) tt
+
+pub fault_tells : (refusal : Refusal) (w : NoText) (f : Fault) → IsFaultFor w f → Tells refusal w → IsToldBy refusal f
+fault_tells refusal (no_text.Refused other) f is same = subst (λ (r : Refusal). IsToldBy r f) same is
+fault_tells refusal no_text.NoMemory f is told = subst (IsToldBy refusal) (sym is) tt
 
 -- words stand for one command
 pub same_command : (words : List (List ℕ)) (a b : Command) → StandFor words a → StandFor words b → a ≡ b

@@ -1,11 +1,14 @@
 -- A program's journal has one answer: its events are lawful, or there is one refusal.
-use Rattle.std.proofs.Common.{◌≡◌, ℕ, List, None, Result, Ok, Err, refl, sym, ap, subst, ◌∙◌}
+use Rattle.std.proofs.Common.{◌≡◌, ◌⊎◌, inl, inr, ℕ, List, None, Result, Ok, Err, refl, sym, ap, subst, ◌∙◌}
 use Rattle.std.proofs.lemmas.Option.{none-some, same_Some}
 use Rattle.std.specs.Prelude.{IfOk, IfErr, MatchResult}
 use Rattle.mv_values.specs.declared.calls.Options.{Options}
 use Rattle.mv_catalog.specs.declared.resolved.Program.{Program}
 use Rattle.mv_accept.specs.declared.refusal.Refusal.{Refusal as ScriptRefusal}
 use Rattle.mv_accept.specs.Accepting.{Accepts, Refuses}
+use Rattle.mv_accept.specs.Exact.{HasCause}
+use Rattle.mv_accept.specs.declared.accept.NotAccepted.{NotAccepted}
+use Rattle.mv_accept.specs.declared.accept.NotAccepted.TheVariants as accept
 use Rattle.mv_journal.specs.declared.event.Event.{Event}
 use Rattle.mv_journal.proofs.Reading.{same_events, same_number, not_both}
 use Rattle.mv_lawful.specs.Lawful.{wrong_with}
@@ -17,7 +20,7 @@ use Rattle.mv_words.specs.declared.command.Command.{Command}
 use Rattle.mv_words.specs.declared.command.Command.TheVariants.{Run, Replay, Serial, Graph, Tpcc}
 use Rattle.mv_top.specs.History.{work_of}
 use Rattle.mv_top.specs.Journals.{journal_lines, refusal_of, HasLawfulJournal, RefusesJournal, line, unlawful}
-use Rattle.mv_top.specs.Refusing.{Causes, Tells}
+use Rattle.mv_top.specs.Refusing.{Causes, Tells, of_accept}
 use Rattle.mv_top.specs.Answers.{IsTextOf, Takes, RefusesProgram, IsRefusedBy, by_script, by_program}
 
 -- a lawful journal isn't refused
@@ -96,3 +99,18 @@ text_told command bytes p r never same (by_program q s accepted why) = subst (λ
 pub script_told : (command : Command) (bytes : List ℕ) (it : ScriptRefusal) → ((r : ScriptRefusal) → Refuses bytes r → it ≡ r) → ((q : Program) → Accepts bytes q → ⊥) → (r : Refusal) → IsRefusedBy command bytes r → why.Script it ≡ r
 script_told command bytes it same never r (by_script s cause) = ap (λ x. why.Script x) (same s cause)
 script_told command bytes it same never r (by_program q s accepted cause) = absurd (never q accepted)
+
+-- a script that isn't accepted
+
+pub not_accepted_only : (f : NotAccepted) → f ≡ accept.NoMemory → of_accept f ≡ NoMemory
+not_accepted_only f is = ap of_accept is
+
+pub not_accepted_refused : (command : Command) (bytes : List ℕ) (f : NotAccepted) → HasCause (Refuses bytes) f → Causes (IsRefusedBy command bytes) (of_accept f)
+not_accepted_refused command bytes (accept.Refused r) cause = by_script r cause
+not_accepted_refused command bytes accept.NoMemory cause = tt
+
+pub not_accepted_told : (command : Command) (bytes : List ℕ) (f : NotAccepted) → ((r : ScriptRefusal) → Refuses bytes r → (f ≡ accept.Refused r) ⊎ (f ≡ accept.NoMemory)) → ((q : Program) → Accepts bytes q → f ≡ accept.NoMemory)
+    → (r : Refusal) → IsRefusedBy command bytes r → Tells r (of_accept f)
+not_accepted_told command bytes (accept.Refused it) told only r cause =
+    script_told command bytes it (λ s because. elim (told s because) [ inl e ↦ cc | inr e ↦ cc ]) (λ q accepted. (let e = only q accepted in cc)) r cause
+not_accepted_told command bytes accept.NoMemory told only r cause = tt

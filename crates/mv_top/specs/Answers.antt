@@ -11,6 +11,8 @@ use Rattle.mv_accept.specs.declared.refusal.Refusal.{Refusal as ScriptRefusal}
 use Rattle.mv_accept.specs.Accepting.{Accepts, Refuses}
 use Rattle.mv_top.specs.declared.refusal.Refusal.{Refusal}
 use Rattle.mv_top.specs.declared.refusal.Refusal.TheVariants.{Script}
+use Rattle.mv_top.specs.declared.refusal.NoText.{NoText}
+use Rattle.mv_top.specs.declared.refusal.NoText.TheVariants as why
 use Rattle.mv_top.specs.Refusals.{number_of, line_of}
 use Rattle.mv_top.specs.History.{text, in_turn, IsRunText}
 use Rattle.mv_top.specs.Journals.{HasLawfulJournal, IsJournalText, RefusesJournal}
@@ -86,6 +88,11 @@ HasCause command bytes fault.NoMemory = Unit {0}
 abbrev pub IsToldBy : Refusal → Fault → Type 0
 IsToldBy refusal (fault.Refused number line) = (number ≡ number_of refusal) × (line ≡ line_of refusal)
 IsToldBy refusal fault.NoMemory = Unit {0}
+
+-- it tells why there is no text
+abbrev pub IsFaultFor : NoText → Fault → Type 0
+IsFaultFor (why.Refused refusal) it = IsToldBy refusal it
+IsFaultFor why.NoMemory it = it ≡ fault.NoMemory
 
 -- the words of a command line say this command
 abbrev pub StandFor : List (List ℕ) → Command → Type 0

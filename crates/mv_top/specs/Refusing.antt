@@ -2,7 +2,11 @@
 use Rattle.std.specs.Prelude.{◌≡◌, ℕ, List, Some}
 use Rattle.mv_values.specs.declared.calls.Options.{Options}
 use Rattle.mv_catalog.specs.declared.resolved.Program.{Program}
+use Rattle.mv_accept.specs.declared.accept.NotAccepted.{NotAccepted}
+use Rattle.mv_accept.specs.declared.accept.NotAccepted.TheVariants as accept
 use Rattle.mv_journal.specs.declared.event.Event.{Event}
+use Rattle.mv_journal.specs.declared.fault.LineFault.{LineFault}
+use Rattle.mv_journal.specs.declared.fault.LineFault.TheVariants as fault
 use Rattle.mv_lawful.specs.declared.fault.Wrong.{Wrong}
 use Rattle.mv_lawful.specs.Work.{Work}
 use Rattle.mv_lawful.specs.Lawful.{wrong_with}
@@ -23,6 +27,14 @@ Causes Cause NoMemory = Unit {0}
 abbrev pub Tells : Refusal → NoText → Type 0
 Tells refusal (Refused told) = told ≡ refusal
 Tells refusal NoMemory = Unit {0}
+
+abbrev pub of_accept : NotAccepted → NoText
+of_accept (accept.Refused refusal) = Refused (why.Script refusal)
+of_accept accept.NoMemory = NoMemory
+
+abbrev pub of_line : LineFault → NoText
+of_line (fault.Line n) = Refused (why.Line n)
+of_line fault.NoMemory = NoMemory
 
 abbrev pub of_drive : DriveFault → NoText
 of_drive (drive.Refused n fault) = Refused (why.Event n fault)

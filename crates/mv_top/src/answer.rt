@@ -8,7 +8,7 @@ ghost use Rattle.mv_values.specs.declared.calls.Options.{Options as Given};
 ghost use Rattle.mv_words.specs.declared.command.Command.{Command as Task};
 ghost use Rattle.mv_words.specs.declared.command.Command.TheVariants as command;
 ghost use Rattle.mv_top.specs.declared.refusal.Refusal.{Refusal as Why};
-ghost use Rattle.mv_top.specs.Answers.{IsTextFor, IsTextOf, Takes, TakesBytes, IsRefusedBy, RefusesProgram, HasCause, IsToldBy};
+ghost use Rattle.mv_top.specs.Answers.{IsTextFor, IsTextOf, Takes, TakesBytes, IsRefusedBy, RefusesProgram, HasCause, IsToldBy, IsFaultFor};
 ghost use Rattle.mv_top.specs.Refusing.{Causes, Tells};
 
 use crate::graphs::graph_text;
@@ -47,8 +47,7 @@ pub fn answer<R: Threads + Wait + Sync, P: Pace>(
 {
     match text_for(rt, alloc, command, bytes, pace) {
         Ok(text) => Ok(text),
-        Err(NoText::NoMemory) => Err(Fault::NoMemory),
-        Err(NoText::Refused(refusal)) => Err(fault_of(alloc, &refusal)),
+        Err(why) => Err(fault_for(alloc, &why)),
     }
 }
 
@@ -66,8 +65,7 @@ pub fn replay(
 {
     match replay_text(alloc, Options { rounds, horizon }, bytes) {
         Ok(text) => Ok(text),
-        Err(NoText::NoMemory) => Err(Fault::NoMemory),
-        Err(NoText::Refused(refusal)) => Err(fault_of(alloc, &refusal)),
+        Err(why) => Err(fault_for(alloc, &why)),
     }
 }
 
@@ -84,10 +82,8 @@ fn text_for<R: Threads + Wait + Sync, P: Pace>(
     ensures refused { IfErr result (Causes (IsRefusedBy command.now bytes.now)) }
     ensures told { (refusal : Why) → IsRefusedBy command.now bytes.now refusal → MatchResult result (λ answer. ⊥) (Tells refusal) }
 {
-    match program_of(alloc, bytes) {
-        Ok(program) => text_of(rt, alloc, command, bytes, program, pace),
-        Err(why) => Err(why),
-    }
+    let program = program_of(alloc, bytes)?;
+    text_of(rt, alloc, command, bytes, program, pace)
 }
 
 /// Returns the text of the journal in these bytes, or why there is none.
@@ -97,10 +93,8 @@ fn replay_text(alloc: Global, options: Options, bytes: &[u8]) -> Result<List<u8>
     ensures refused { IfErr result (Causes (IsRefusedBy (command.Replay options) bytes.now)) }
     ensures told { (refusal : Why) → IsRefusedBy (command.Replay options) bytes.now refusal → MatchResult result (λ answer. ⊥) (Tells refusal) }
 {
-    match program_of(alloc, bytes) {
-        Ok(program) => journal_text(alloc, options, bytes, program),
-        Err(why) => Err(why),
-    }
+    let program = program_of(alloc, bytes)?;
+    journal_text(alloc, options, bytes, program)
 }
 
 /// Returns the program of these bytes, or why there is none: the same for every command.
@@ -113,10 +107,20 @@ fn program_of(alloc: Global, bytes: &[u8]) -> Result<Program, NoText>
     ensures few { IfOk result (λ p. length p.resolved.calls ≤ most_calls) }
     ensures size { IfOk result (λ p. length bytes.now < 2 ^ 32) }
 {
-    match accept(alloc, bytes) {
-        Ok(program) => Ok(program),
-        Err(NotAccepted::NoMemory) => Err(NoText::NoMemory),
-        Err(NotAccepted::Refused(refusal)) => Err(NoText::Refused(Refusal::Script(refusal))),
+    Ok(accept(alloc, bytes)?)
+}
+
+impl From<NotAccepted> for NoText {
+    ghost use Rattle.std.specs.Prelude.{◌≡◌};
+    ghost use Rattle.mv_top.specs.Refusing.{of_accept};
+
+    ghost from_gives = { λ why e. e ≡ of_accept why };
+
+    fn from(why: NotAccepted) -> NoText {
+        match why {
+            NotAccepted::Refused(refusal) => NoText::Refused(Refusal::Script(refusal)),
+            NotAccepted::NoMemory => NoText::NoMemory,
+        }
     }
 }
 
@@ -165,6 +169,16 @@ fn text_of<R: Threads + Wait + Sync, P: Pace>(
             };
             Ok(summary_text(rt, alloc, load, crew, program, pace)?)
         }
+    }
+}
+
+/// Returns the fault that tells why there is no text.
+fn fault_for(alloc: Global, why: &NoText) -> Fault
+    ensures { IsFaultFor why.now result }
+{
+    match why {
+        NoText::Refused(refusal) => fault_of(alloc, refusal),
+        NoText::NoMemory => Fault::NoMemory,
     }
 }
 

@@ -51,10 +51,20 @@ fn events_of(
     ensures few { IfOk result (λ events. length events < 2 ^ 32) }
     ensures refused { IfErr result (TellsJournal options bytes.now program.now) }
 {
-    match read_journal(alloc, block_in(bytes, &program.resolved.journal)) {
-        Ok(events) => Ok(events),
-        Err(LineFault::Line { n }) => Err(NoText::Refused(Refusal::Line { n })),
-        Err(LineFault::NoMemory) => Err(NoText::NoMemory),
+    Ok(read_journal(alloc, block_in(bytes, &program.resolved.journal))?)
+}
+
+impl From<LineFault> for NoText {
+    ghost use Rattle.std.specs.Prelude.{◌≡◌};
+    ghost use Rattle.mv_top.specs.Refusing.{of_line};
+
+    ghost from_gives = { λ fault e. e ≡ of_line fault };
+
+    fn from(fault: LineFault) -> NoText {
+        match fault {
+            LineFault::Line { n } => NoText::Refused(Refusal::Line { n }),
+            LineFault::NoMemory => NoText::NoMemory,
+        }
     }
 }
 

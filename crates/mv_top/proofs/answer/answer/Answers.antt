@@ -1,14 +1,11 @@
-use Rattle.std.proofs.Common.{subst}
-use Rattle.mv_top.specs.declared.refusal.NoText.{NoText}
-use Rattle.mv_top.specs.Refusing.{Causes}
-use Rattle.mv_top.specs.Answers.{IsRefusedBy}
-use Rattle.mv_top.proofs.Answering.{has_cause}
+use Rattle.mv_top.proofs.Answering.{fault_only, fault_caused, fault_tells}
 use Rattle.mv_top.proofs.answer.answer.Goals as goal
 
-pub returns-in-Err-Refused-clause-refused : goal.returns-in-Err-Refused-clause-refused
-returns-in-Err-Refused-clause-refused g c =
-    has_cause c.args.command.now c.args.bytes.now c.in-Err-Refused.refusal c.fault_of.result
-    (subst (λ (f : NoText). Causes (IsRefusedBy c.args.command.now c.args.bytes.now) f) c.in-Err-Refused.field-0-is c.in-Err-Refused.ensures.refused) c.fault_of.ensures
+pub returns-in-Err-clause-only : goal.returns-in-Err-clause-only
+returns-in-Err-clause-only g c = λ program takes. fault_only c.in-Err.why c.fault_for.result c.fault_for.ensures (c.in-Err.ensures.only program takes)
 
-pub returns-in-Err-Refused-clause-only : goal.returns-in-Err-Refused-clause-only
-returns-in-Err-Refused-clause-only g c = λ program takes. (let is = c.in-Err-Refused.field-0-is in let want = c.in-Err-Refused.ensures.only program takes in cc)
+pub returns-in-Err-clause-refused : goal.returns-in-Err-clause-refused
+returns-in-Err-clause-refused g c = fault_caused c.args.command.now c.args.bytes.now c.in-Err.why c.fault_for.result c.fault_for.ensures c.in-Err.ensures.refused
+
+pub returns-in-Err-clause-told : goal.returns-in-Err-clause-told
+returns-in-Err-clause-told g c = λ refusal cause. fault_tells refusal c.in-Err.why c.fault_for.result c.fault_for.ensures (c.in-Err.ensures.told refusal cause)

@@ -1,25 +1,22 @@
-use Rattle.std.proofs.Common.{inl, inr, subst}
-use Rattle.mv_accept.specs.declared.accept.NotAccepted.{NotAccepted}
-use Rattle.mv_accept.specs.Exact.{HasCause}
-use Rattle.mv_accept.specs.Accepting.{Refuses}
-use Rattle.mv_top.specs.Answers.{by_script}
-use Rattle.mv_top.proofs.Judging.{text_told, script_told}
+use Rattle.std.proofs.lemmas.Result.{err_from_is_err_and}
+use Rattle.mv_top.proofs.Judging.{text_told, not_accepted_only, not_accepted_refused, not_accepted_told}
 use Rattle.mv_top.proofs.answer.program_of.Goals as goal
 
-pub returns-in-Ok-clause-told : goal.returns-in-Ok-clause-told
-returns-in-Ok-clause-told c =
-    λ command refusal cause. text_told command c.args.bytes.now c.in-Ok.program refusal (λ r because. c.in-Ok.ensures.exact.told r because) (λ q accepted. c.in-Ok.ensures.exact.only q accepted) cause
+pub returns-in_ok-accept-clause-told : goal.returns-in_ok-accept-clause-told
+returns-in_ok-accept-clause-told c =
+    λ command refusal cause. text_told command c.args.bytes.now c.in_ok-accept.field-0 refusal (λ r because. c.in_ok-accept.ensures.exact.told r because) (λ q accepted. c.in_ok-accept.ensures.exact.only q accepted) cause
 
-pub returns-in-Err-Refused-clause-only : goal.returns-in-Err-Refused-clause-only
-returns-in-Err-Refused-clause-only c = λ program accepted. (let is = c.in-Err-Refused.field-0-is in let want = c.in-Err-Refused.ensures.exact.only program accepted in cc)
+pub returns-in_err-accept-clause-only : goal.returns-in_err-accept-clause-only
+returns-in_err-accept-clause-only c =
+    let p = err_from_is_err_and c.from_residual.result c.from_residual.ensures.1 in
+    λ program accepted. rw (p.1, p.2) (not_accepted_only c.in_err-accept.field-0.0 (c.in_err-accept.ensures.exact.only program accepted))
 
-pub returns-in-Err-Refused-clause-refused : goal.returns-in-Err-Refused-clause-refused
-returns-in-Err-Refused-clause-refused c =
-    λ command. by_script c.in-Err-Refused.refusal (subst (λ (f : NotAccepted). HasCause (Refuses c.args.bytes.now) f) c.in-Err-Refused.field-0-is c.in-Err-Refused.ensures.exact.refused)
+pub returns-in_err-accept-clause-refused : goal.returns-in_err-accept-clause-refused
+returns-in_err-accept-clause-refused c =
+    let p = err_from_is_err_and c.from_residual.result c.from_residual.ensures.1 in
+    λ command. rw (p.1, p.2) (not_accepted_refused command c.args.bytes.now c.in_err-accept.field-0.0 c.in_err-accept.ensures.exact.refused)
 
-pub returns-in-Err-Refused-clause-told : goal.returns-in-Err-Refused-clause-told
-returns-in-Err-Refused-clause-told c =
-    λ command refusal cause. script_told command c.args.bytes.now c.in-Err-Refused.refusal
-    (λ r because. (let is = c.in-Err-Refused.field-0-is in elim (c.in-Err-Refused.ensures.exact.told r because) [ inl e ↦ cc | inr e ↦ cc ]))
-    (λ q accepted. (let is = c.in-Err-Refused.field-0-is in let want = c.in-Err-Refused.ensures.exact.only q accepted in cc))
-    refusal cause
+pub returns-in_err-accept-clause-told : goal.returns-in_err-accept-clause-told
+returns-in_err-accept-clause-told c =
+    let p = err_from_is_err_and c.from_residual.result c.from_residual.ensures.1 in
+    λ command refusal cause. rw (p.1, p.2) (not_accepted_told command c.args.bytes.now c.in_err-accept.field-0.0 c.in_err-accept.ensures.exact.told c.in_err-accept.ensures.exact.only refusal cause)
