@@ -94,6 +94,14 @@ pub struct RSetItem {
     pub right: RExpr,
 }
 
+/// What an UPDATE sets in the rows of a table that pass WHERE.
+#[derive(Drop)]
+pub struct Update<'a> {
+    pub table: u16,
+    pub items: &'a [RSetItem],
+    pub conds: &'a [RCond],
+}
+
 #[derive(Drop)]
 pub enum RStmt {
     Assign {

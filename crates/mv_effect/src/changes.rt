@@ -24,7 +24,7 @@ use mv_alone::env::column_value;
 use mv_alone::find::{columns_in, key_in};
 use mv_alone::made::{made_row, row_after_set, under_key};
 use mv_alone::state::{Env, Stop};
-use mv_catalog::resolved::{RCond, RExpr, RSetItem};
+use mv_catalog::resolved::{RCond, RExpr, RSetItem, Update};
 use mv_record::effect::Effect;
 use mv_values::calls::End;
 use mv_values::copied::Copied;
@@ -218,36 +218,41 @@ fn set_write(
 fn write_for(
     alloc: Global,
     tables: &[TableInfo],
-    table: u16,
     env: &Env,
-    items: &[RSetItem],
+    update: &Update<'_>,
     item: &Keyed,
 ) -> Result<Write, Stop>
-    requires table { table < 256 }
-    requires columns { All (λ (i : RSetItem). i.column < 256) items.now }
-    ensures { Gives result (then_do (new_of tables.now table env.now items.now item.now.row) (λ row. Ok (write table item.now.key (set_patch items.now row)))) }
+    requires table { update.now.table < 256 }
+    requires columns { All (λ (i : RSetItem). i.column < 256) update.now.items.now }
+    ensures { Gives result (then_do (new_of tables.now update.now.table env.now update.now.items.now item.now.row) (λ row. Ok (write update.now.table item.now.key (set_patch update.now.items.now row)))) }
 {
-    let columns = columns_in(tables, table);
-    let row = row_after_set(alloc, columns, key_in(tables, table), env, &item.row, items)?;
-    Ok(set_write(alloc, narrow(table), &item.key, items, row.as_slice())?)
+    let columns = columns_in(tables, update.table);
+    let keys = key_in(tables, update.table);
+    let row = row_after_set(alloc, columns, keys, env, &item.row, update.items)?;
+    Ok(set_write(
+        alloc,
+        narrow(update.table),
+        &item.key,
+        update.items,
+        row.as_slice(),
+    )?)
 }
 
 /// Returns what SET writes to the rows. Fails with the first new row that is stopped, so that nothing is written.
 fn set_writes(
     alloc: Global,
     tables: &[TableInfo],
-    table: u16,
     env: &Env,
-    items: &[RSetItem],
+    update: &Update<'_>,
     rows: &[Keyed],
 ) -> Result<List<Write>, Stop>
-    requires table { table < 256 }
-    requires columns { All (λ (i : RSetItem). i.column < 256) items.now }
-    ensures { Gives result (changes table items.now (new_of tables.now table env.now items.now) rows.now) }
+    requires table { update.now.table < 256 }
+    requires columns { All (λ (i : RSetItem). i.column < 256) update.now.items.now }
+    ensures { Gives result (changes update.now.table update.now.items.now (new_of tables.now update.now.table env.now update.now.items.now) rows.now) }
 {
     let mut writes = List::with_room(alloc, rows.len())?;
     for item in rows {
-        let write = write_for(alloc, tables, table, env, items, item)?;
+        let write = write_for(alloc, tables, env, update, item)?;
         writes.push(write)?;
     }
     Ok(writes)
@@ -257,18 +262,17 @@ fn set_writes(
 fn update_effect(
     alloc: Global,
     tables: &[TableInfo],
-    table: u16,
     env: &Env,
-    items: &[RSetItem],
+    update: &Update<'_>,
     pred: Pred,
     rows: &Rows,
 ) -> Result<Effect, NoMemory>
-    requires table { table < 256 }
-    requires columns { All (λ (i : RSetItem). i.column < 256) items.now }
+    requires table { update.now.table < 256 }
+    requires columns { All (λ (i : RSetItem). i.column < 256) update.now.items.now }
     requires found { env.now.found < 2 ^ 16 }
-    ensures { IfOk result (λ e. e ≡ asked_then pred (changes table items.now (new_of tables.now table env.now items.now) rows.now) (λ ws. writing pred (is_some_row rows.now) ws env.now)) }
+    ensures { IfOk result (λ e. e ≡ asked_then pred (changes update.now.table update.now.items.now (new_of tables.now update.now.table env.now update.now.items.now) rows.now) (λ ws. writing pred (is_some_row rows.now) ws env.now)) }
 {
-    match set_writes(alloc, tables, table, env, items, rows.as_slice()) {
+    match set_writes(alloc, tables, env, update, rows.as_slice()) {
         Ok(writes) => write_effect(alloc, env, pred, is_any(rows), writes),
         Err(stop) => stop_effect(alloc, List::of(alloc, pred)?, stop),
     }
@@ -279,32 +283,22 @@ fn update_effect(
 pub(crate) fn update<V: View>(
     alloc: Global,
     context: &Context<'_>,
-    table: u16,
-    items: &[RSetItem],
-    conds: &[RCond],
+    update: &Update<'_>,
     view: &mut V,
 ) -> Result<Effect, Refused>
     requires stands { Stands context.now.tables.now (earlier context.now.number context.now.undo.now) (V.sight view.old).database }
     requires found { context.now.env.now.found < 2 ^ 16 }
-    requires tests { Tests context.now.tables.now table conds.now }
-    requires sets { Sets context.now.tables.now table items.now }
-    ensures effect { IfOk result (IsEffect context.now.tables.now (layer.Update table items.now conds.now) context.now.env.now (applied (earlier context.now.number context.now.undo.now) (V.sight view.old).database)) }
+    requires tests { Tests context.now.tables.now update.now.table update.now.conds.now }
+    requires sets { Sets context.now.tables.now update.now.table update.now.items.now }
+    ensures effect { IfOk result (IsEffect context.now.tables.now (layer.Update update.now.table update.now.items.now update.now.conds.now) context.now.env.now (applied (earlier context.now.number context.now.undo.now) (V.sight view.old).database)) }
     ensures view { OnlyAsks (V.sight view.old) (V.sight view.new) result }
     ensures bounded { AskedAtMost 1 (different (earlier context.now.number context.now.undo.now)) (V.sight view.old) (V.sight view.new) }
     ensures looks { IfOk result (λ e. AskedFor e.preds (earlier context.now.number context.now.undo.now) (V.sight view.old) (V.sight view.new)) }
 {
-    let pred = match update_pred(alloc, context.tables, table, items, conds, context.env) {
+    let pred = match update_pred(alloc, context.tables, update, context.env) {
         Ok(pred) => pred,
         Err(stop) => return stop_result(alloc, List::new(alloc), stop),
     };
     let rows = visible_rows(alloc, context, &pred, view)?;
-    Ok(update_effect(
-        alloc,
-        context.tables,
-        table,
-        context.env,
-        items,
-        pred,
-        &rows,
-    )?)
+    Ok(update_effect(alloc, context.tables, context.env, update, pred, &rows)?)
 }

@@ -16,7 +16,7 @@ use mv_alone::env::column_value;
 use mv_alone::expr::value;
 use mv_alone::find::key_in;
 use mv_alone::state::{Env, Stop};
-use mv_catalog::resolved::{Query, RAgg, RCond, RExpr, RExprKind, RSetItem, RSort};
+use mv_catalog::resolved::{Query, RAgg, RCond, RExpr, RExprKind, RSetItem, RSort, Update};
 use mv_values::list::List;
 use mv_values::memory::NoMemory;
 use mv_values::op::Op;
@@ -171,20 +171,25 @@ fn right_columns(alloc: Global, items: &[RSetItem]) -> Result<List<u16>, NoMemor
 pub(crate) fn update_pred(
     alloc: Global,
     tables: &[TableInfo],
-    table: u16,
-    items: &[RSetItem],
-    conds: &[RCond],
+    update: &Update<'_>,
     env: &Env,
 ) -> Result<Pred, Stop>
     requires few { length tables.now ≤ 64 }
     requires each { All IsTable tables.now }
-    requires tests { Tests tables.now table conds.now }
-    requires columns { AreColumns tables.now table (flat_map (λ i. columns_in i.right) items.now) }
-    ensures asks { Gives result (asks tables.now table conds.now (flat_map (λ i. columns_in i.right) items.now) env.now) }
+    requires tests { Tests tables.now update.now.table update.now.conds.now }
+    requires columns { AreColumns tables.now update.now.table (flat_map (λ i. columns_in i.right) update.now.items.now) }
+    ensures asks { Gives result (asks tables.now update.now.table update.now.conds.now (flat_map (λ i. columns_in i.right) update.now.items.now) env.now) }
     ensures knows { IfOk result (KnowsKey tables.now) }
 {
-    let asked = right_columns(alloc, items)?;
-    pred_from(alloc, tables, table, conds, asked.as_slice(), env)
+    let asked = right_columns(alloc, update.items)?;
+    pred_from(
+        alloc,
+        tables,
+        update.table,
+        update.conds,
+        asked.as_slice(),
+        env,
+    )
 }
 
 /// Returns the tests that each key column equals that of the row.

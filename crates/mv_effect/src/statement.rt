@@ -13,7 +13,7 @@ use crate::context::Context;
 use crate::queries::{for_select, select, total};
 use crate::tableless::{assign, branch, decide, for_rows, print, rollback};
 use mv_alone::state::Env;
-use mv_catalog::resolved::{Query, RStmt};
+use mv_catalog::resolved::{Query, RStmt, Update};
 use mv_record::effect::Effect;
 use mv_undo::undo::Undo;
 use mv_values::schema::TableInfo;
@@ -96,14 +96,14 @@ fn own_effect<V: View>(
             table,
             items,
             conds,
-        } => update(
-            alloc,
-            &context,
-            *table,
-            items.as_slice(),
-            conds.as_slice(),
-            view,
-        ),
+        } => {
+            let parts = Update {
+                table: *table,
+                items: items.as_slice(),
+                conds: conds.as_slice(),
+            };
+            update(alloc, &context, &parts, view)
+        }
         RStmt::Delete { table, conds } => delete(alloc, &context, *table, conds.as_slice(), view),
         RStmt::Print { values } => print(alloc, values.as_slice(), env),
         RStmt::Rollback { reason } => rollback(alloc, reason),

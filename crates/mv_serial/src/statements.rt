@@ -20,7 +20,7 @@ use mv_alone::expr::{holds, value};
 use mv_alone::find::{checks_from, matches_in};
 use mv_alone::fixing::fixed_rows;
 use mv_alone::state::{Env, Held, State, Stop};
-use mv_catalog::resolved::{Query, RExpr, RStmt};
+use mv_catalog::resolved::{Query, RExpr, RStmt, Update};
 use mv_values::calls::End;
 use mv_values::copied::Copied;
 use mv_values::list::List;
@@ -142,15 +142,14 @@ fn run_one(
             table,
             items,
             conds,
-        } => run_update(
-            alloc,
-            tables,
-            *table,
-            items.as_slice(),
-            conds.as_slice(),
-            state,
-            undo,
-        ),
+        } => {
+            let update = Update {
+                table: *table,
+                items: items.as_slice(),
+                conds: conds.as_slice(),
+            };
+            run_update(alloc, tables, &update, state, undo)
+        }
         RStmt::Print { values } => run_print(alloc, values.as_slice(), state),
         RStmt::Rollback { reason } => Err(Stop::Ended(End::Own(reason.copy(alloc)?))),
         RStmt::Insert { table, values } => {

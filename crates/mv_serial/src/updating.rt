@@ -7,7 +7,7 @@ ghost use Rattle.mv_table.specs.Entries.{seen};
 ghost use Rattle.mv_alone.specs.Outcome.{Gives, Leaves};
 ghost use Rattle.mv_alone.specs.Rows.{matching};
 ghost use Rattle.mv_alone.specs.Changes.{set_row, OthersStay};
-ghost use Rattle.mv_alone.specs.Alone.{update};
+ghost use Rattle.mv_alone.specs.Alone as alone;
 ghost use Rattle.mv_serial.specs.Changing.{renewals, StaysUndoable};
 
 use crate::change::{Change, make_all};
@@ -15,7 +15,7 @@ use mv_alone::env::set_found;
 use mv_alone::find::{checks_from, columns_in, key_in, matches_in};
 use mv_alone::made::row_after_set;
 use mv_alone::state::{Check, Env, State, Stop};
-use mv_catalog::resolved::{RCond, RSetItem};
+use mv_catalog::resolved::Update;
 use mv_table::table::Entry;
 use mv_values::copied::Copied;
 use mv_values::list::List;
@@ -28,17 +28,16 @@ fn renewals_of(
     columns: &[Column],
     keys: &[u8],
     env: &Env,
-    items: &[RSetItem],
-    table: u16,
+    update: &Update<'_>,
     rows: &[Entry<'_>],
 ) -> Result<List<Change>, Stop>
-    ensures { Gives result (renewals table (λ row. set_row columns.now keys.now env.now row items.now row) (map seen rows.now)) }
+    ensures { Gives result (renewals update.now.table (λ row. set_row columns.now keys.now env.now row update.now.items.now row) (map seen rows.now)) }
 {
     let mut changes = List::new(alloc);
     for entry in rows {
-        let row = row_after_set(alloc, columns, keys, env, entry.row, items)?;
+        let row = row_after_set(alloc, columns, keys, env, entry.row, update.items)?;
         changes.push(Change {
-            table,
+            table: update.table,
             key: entry.key.copy(alloc)?,
             row: Some(row),
         })?;
@@ -50,23 +49,21 @@ fn renewals_of(
 fn renewals_in(
     alloc: Global,
     tables: &[TableInfo],
-    table: u16,
-    items: &[RSetItem],
+    update: &Update<'_>,
     checks: &[Check],
     state: &State,
 ) -> Result<List<Change>, Stop>
     requires { KeysStand tables.now state.now.tables }
-    ensures changes { Gives result (renewals table (λ row. set_row (columns_at tables.now table) (key_columns tables.now table) state.now.env row items.now row) (matching checks.now (rows_at state.now.tables table))) }
-    ensures rising { IfOk result (λ changes. IsRising (rows_at state.now.tables table)) }
+    ensures changes { Gives result (renewals update.now.table (λ row. set_row (columns_at tables.now update.now.table) (key_columns tables.now update.now.table) state.now.env row update.now.items.now row) (matching checks.now (rows_at state.now.tables update.now.table))) }
+    ensures rising { IfOk result (λ changes. IsRising (rows_at state.now.tables update.now.table)) }
 {
-    let found = matches_in(alloc, tables, &state.tables, table, checks)?;
+    let found = matches_in(alloc, tables, &state.tables, update.table, checks)?;
     renewals_of(
         alloc,
-        columns_in(tables, table),
-        key_in(tables, table),
+        columns_in(tables, update.table),
+        key_in(tables, update.table),
         &state.env,
-        items,
-        table,
+        update,
         found.as_slice(),
     )
 }
@@ -75,20 +72,18 @@ fn renewals_in(
 pub(crate) fn run_update(
     alloc: Global,
     tables: &[TableInfo],
-    table: u16,
-    items: &[RSetItem],
-    conds: &[RCond],
+    update: &Update<'_>,
     state: &mut State,
     undo: &mut List<Change>,
 ) -> Result<(), Stop>
     requires { KeysStand tables.now state.old.tables }
-    ensures does { Leaves result state.new (update tables.now table items.now conds.now state.old) }
+    ensures does { Leaves result state.new (alone.update tables.now update.now.table update.now.items.now update.now.conds.now state.old) }
     ensures keys { OnOk result (KeysStand tables.now state.new.tables) }
-    ensures others { OnOk result (OthersStay table state.old.tables state.new.tables) }
+    ensures others { OnOk result (OthersStay update.now.table state.old.tables state.new.tables) }
     ensures undo { StaysUndoable result undo.old state.old.tables undo.new state.new.tables }
 {
-    let checks = checks_from(alloc, conds, &state.env)?;
-    let changes = renewals_in(alloc, tables, table, items, checks.as_slice(), state)?;
+    let checks = checks_from(alloc, update.conds, &state.env)?;
+    let changes = renewals_in(alloc, tables, update, checks.as_slice(), state)?;
     let found = changes.len() > 0;
     make_all(alloc, &mut state.tables, undo, changes)?;
     set_found(&mut state.env, found)?;

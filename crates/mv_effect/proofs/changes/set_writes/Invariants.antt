@@ -5,5 +5,5 @@ use Rattle.mv_effect.proofs.changes.set_writes.Given as goal
 
 abbrev pub invariant-loop-item : goal.invariant-loop-item
 invariant-loop-item l =
-    then_do (changes l.table l.items (new_of l.tables l.table l.env l.items) (drop l.item-index l.rows)) (λ ws. Ok (l.writes ++ ws))
-    ≡ changes l.table l.items (new_of l.tables l.table l.env l.items) l.rows
+    then_do (changes l.update.table l.update.items.now (new_of l.tables l.update.table l.env l.update.items.now) (drop l.item-index l.rows)) (λ ws. Ok (l.writes ++ ws))
+    ≡ changes l.update.table l.update.items.now (new_of l.tables l.update.table l.env l.update.items.now) l.rows

@@ -10,13 +10,13 @@ use Rattle.mv_recorded.proofs.Congruent.{then_preds}
 use Rattle.mv_effect.proofs.changes.update.Goals as goal
 
 pub update_effect-requires-clause-columns : goal.update_effect-requires-clause-columns
-update_effect-requires-clause-columns g c = bytes_of (λ (i : RSetItem). i.column) c.args.context.now.tables.now c.args.table c.args.items.now c.requires.stands.each c.requires.sets.columns
+update_effect-requires-clause-columns g c = bytes_of (λ (i : RSetItem). i.column) c.args.context.now.tables.now c.args.update.now.table c.args.update.now.items.now c.requires.stands.each c.requires.sets.columns
 
 pub returns-clause-effect : goal.returns-clause-effect
 returns-clause-effect g c = λ lines.
     let db = applied (earlier c.args.context.now.number c.args.context.now.undo.now) (g.V.View.sight c.args.view.now).database in
     c.in_ok-update_effect.ensures
-    ∙ update_done c.args.context.now.tables.now c.args.table c.args.items.now c.args.conds.now c.args.context.now.env.now db c.in-Ok.pred c.in_ok-rows.rows c.in-Ok.ensures.asks c.in_ok-rows.ensures.found lines
+    ∙ update_done c.args.context.now.tables.now c.args.update.now.table c.args.update.now.items.now c.args.update.now.conds.now c.args.context.now.env.now db c.in-Ok.pred c.in_ok-rows.rows c.in-Ok.ensures.asks c.in_ok-rows.ensures.found lines
 
 pub returns-clause-looks : goal.returns-clause-looks
 returns-clause-looks g c =

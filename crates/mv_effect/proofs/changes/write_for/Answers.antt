@@ -10,8 +10,8 @@ use Rattle.mv_effect.proofs.changes.write_for.Goals as goal
 pub returns : goal.returns
 returns c =
     let env = c.args.env.now in
-    let items = c.args.items.now in
+    let items = c.args.update.now.items.now in
     let row = c.args.item.now.row in
-    let same = ap (λ cs. set_row cs c.key_in.result.now env row items row) c.columns_in-columns.ensures ∙ ap (λ ks. set_row (columns_at c.args.tables.now c.args.table) ks env row items row) c.key_in.ensures in
+    let same = ap (λ cs. set_row cs c.key_in-keys.result.now env row items row) c.columns_in-columns.ensures ∙ ap (λ ks. set_row (columns_at c.args.tables.now c.args.update.now.table) ks env row items row) c.key_in-keys.ensures in
     let is = c.in_ok-set_write.ensures ∙ (ap (λ r. write c.narrow.result c.args.item.now.key (set_patch items r)) c.as_slice.ensures ∙ ap (λ t. write t c.args.item.now.key (set_patch items c.in_ok-row.row)) c.narrow.ensures) in
-    ap (λ (o : Result (List Value) End). then_do o (λ r. Ok (write c.args.table c.args.item.now.key (set_patch items r)))) (sym same ∙ c.in_ok-row.ensures) ∙ sym (ap (λ l. Ok l) is)
+    ap (λ (o : Result (List Value) End). then_do o (λ r. Ok (write c.args.update.now.table c.args.item.now.key (set_patch items r)))) (sym same ∙ c.in_ok-row.ensures) ∙ sym (ap (λ l. Ok l) is)

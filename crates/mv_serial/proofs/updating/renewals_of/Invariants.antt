@@ -7,5 +7,5 @@ use Rattle.mv_serial.proofs.updating.renewals_of.Given as goal
 
 abbrev pub invariant-loop-entry : goal.invariant-loop-entry
 invariant-loop-entry l =
-    then_do (renewals l.table (λ row. set_row l.columns l.keys l.env row l.items row) (map seen (drop l.entry-index l.rows))) (λ rest. Ok (l.changes ++ rest))
-    ≡ renewals l.table (λ row. set_row l.columns l.keys l.env row l.items row) (map seen l.rows)
+    then_do (renewals l.update.table (λ row. set_row l.columns l.keys l.env row l.update.items.now row) (map seen (drop l.entry-index l.rows))) (λ rest. Ok (l.changes ++ rest))
+    ≡ renewals l.update.table (λ row. set_row l.columns l.keys l.env row l.update.items.now row) (map seen l.rows)

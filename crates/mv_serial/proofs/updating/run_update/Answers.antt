@@ -11,40 +11,40 @@ use Rattle.mv_serial.proofs.updating.run_update.Goals as goal
 
 pub returns-clause-does : goal.returns-clause-does
 returns-clause-does c =
-    let t = c.args.table in
+    let t = c.args.update.now.table in
     let st = c.args.state.now in
-    let new : New = λ row. set_row (columns_at c.args.tables.now t) (key_columns c.args.tables.now t) st.env row c.args.items.now row in
+    let new : New = λ row. set_row (columns_at c.args.tables.now t) (key_columns c.args.tables.now t) st.env row c.args.update.now.items.now row in
     let is = rw c.as_slice.ensures at c.in_ok-changes.ensures.changes in
     let made = renewals_make t new c.in_ok-checks.checks st.tables c.make_all.new.tables c.in_ok-changes.changes c.in_ok-changes.ensures.rising is c.in_ok-make_all.ensures.tables in
     let some = some_renewed t new (matching c.in_ok-checks.checks (rows_at st.tables t)) c.in_ok-changes.changes is in
     rw (c.in_ok-set_found.ensures.ok, c.len-found.ensures, some)
-    (update_ok c.args.tables.now t c.args.items.now c.args.conds.now st c.in_ok-checks.checks c.make_all.new.tables c.in_ok-checks.ensures made)
+    (update_ok c.args.tables.now t c.args.update.now.items.now c.args.update.now.conds.now st c.in_ok-checks.checks c.make_all.new.tables c.in_ok-checks.ensures made)
 
 pub returns-in_err-changes-clause-does : goal.returns-in_err-changes-clause-does
 returns-in_err-changes-clause-does c =
-    let t = c.args.table in
+    let t = c.args.update.now.table in
     let st = c.args.state.now in
-    let new : New = λ row. set_row (columns_at c.args.tables.now t) (key_columns c.args.tables.now t) st.env row c.args.items.now row in
+    let new : New = λ row. set_row (columns_at c.args.tables.now t) (key_columns c.args.tables.now t) st.env row c.args.update.now.items.now row in
     let failed = rw c.as_slice.ensures at c.in_err-changes.ensures.changes in
     let p = err_from_is_err_and c.from_residual-in_err-changes.result c.from_residual-in_err-changes.ensures.1 in
     rw (p.1, p.2)
-    (update_fails c.args.tables.now t c.args.items.now c.args.conds.now st c.in_ok-checks.checks c.in_err-changes.field-0.0 c.in_ok-checks.ensures
+    (update_fails c.args.tables.now t c.args.update.now.items.now c.args.update.now.conds.now st c.in_ok-checks.checks c.in_err-changes.field-0.0 c.in_ok-checks.ensures
     (renewals_fail t new c.in_ok-checks.checks st.tables c.in_err-changes.field-0.0 failed))
 
 pub returns-clause-keys : goal.returns-clause-keys
 returns-clause-keys c =
-    let t = c.args.table in
+    let t = c.args.update.now.table in
     let st = c.args.state.now in
-    let new : New = λ row. set_row (columns_at c.args.tables.now t) (key_columns c.args.tables.now t) st.env row c.args.items.now row in
+    let new : New = λ row. set_row (columns_at c.args.tables.now t) (key_columns c.args.tables.now t) st.env row c.args.update.now.items.now row in
     let is = rw c.as_slice.ensures at c.in_ok-changes.ensures.changes in
     let made = renewals_make t new c.in_ok-checks.checks st.tables c.make_all.new.tables c.in_ok-changes.changes c.in_ok-changes.ensures.rising is c.in_ok-make_all.ensures.tables in
-    update_stands c.args.tables.now t c.args.items.now c.in_ok-checks.checks st c.make_all.new.tables c.requires made
+    update_stands c.args.tables.now t c.args.update.now.items.now c.in_ok-checks.checks st c.make_all.new.tables c.requires made
 
 pub returns-clause-others : goal.returns-clause-others
 returns-clause-others c =
-    let t = c.args.table in
+    let t = c.args.update.now.table in
     let st = c.args.state.now in
-    let new : New = λ row. set_row (columns_at c.args.tables.now t) (key_columns c.args.tables.now t) st.env row c.args.items.now row in
+    let new : New = λ row. set_row (columns_at c.args.tables.now t) (key_columns c.args.tables.now t) st.env row c.args.update.now.items.now row in
     let is = rw c.as_slice.ensures at c.in_ok-changes.ensures.changes in
     let made = renewals_make t new c.in_ok-checks.checks st.tables c.make_all.new.tables c.in_ok-changes.changes c.in_ok-changes.ensures.rising is c.in_ok-make_all.ensures.tables in
-    others_stay st.tables c.make_all.new.tables t (updated_at c.args.tables.now t c.args.items.now c.in_ok-checks.checks st) made
+    others_stay st.tables c.make_all.new.tables t (updated_at c.args.tables.now t c.args.update.now.items.now c.in_ok-checks.checks st) made
