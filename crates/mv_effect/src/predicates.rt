@@ -97,6 +97,9 @@ pub(crate) fn select_pred(
     ensures asks { Gives result (asks tables.now query.now.table query.now.conds.now (with_sorts query.now.columns.now query.now.sorts.now) env.now) }
     ensures knows { IfOk result (KnowsKey tables.now) }
 {
+    if query.sorts.is_empty() {
+        return pred_from(alloc, tables, query.table, query.conds, query.columns, env);
+    }
     let asked = sorted_columns(alloc, query.columns, query.sorts)?;
     pred_from(
         alloc,
