@@ -1,15 +1,17 @@
 //! Which writes touch a record.
 
-ghost use Rattle.std.specs.Prelude.{◌≡◌, List, false, IfOk, OnOk};
+ghost use Rattle.std.specs.Prelude.{◌≡◌, List, [], false, IfOk, OnOk};
 ghost use Rattle.std.specs.List.{list_any};
 ghost use Rattle.std.specs.Option.{option_copied};
 ghost use Rattle.mv_values.specs.declared.patch.Write.{Write};
 ghost use Rattle.mv_values.specs.Preds.{names};
+ghost use Rattle.mv_undo.specs.Owning.{earlier, AreSought};
 ghost use Rattle.mv_history.specs.Hits.{reaches, touches, touches_predicate};
 ghost use Rattle.mv_repair.specs.Walking.{is_touched, writes_at, writes_of, AreFirst, AreKnown, HasAdded};
 
 use crate::paths::item;
 use mv_record::record::Record;
+use mv_table::scan::Direction;
 use mv_undo::undo::Undo;
 use mv_values::copied::Copied;
 use mv_values::memory::NoMemory;
@@ -89,12 +91,21 @@ pub(crate) fn add_keys(alloc: Global, keys: &mut Undo, writes: &[Write]) -> Resu
     Ok(())
 }
 
+/// Whether the predicate admits one of the keys. Costs the logarithm of their number, and a look at each key that it
+/// passes over.
+fn admits_one(alloc: Global, keys: &Undo, pred: &Pred) -> Result<bool, NoMemory>
+    ensures { IfOk result (λ some. some ≡ false → AreSought pred.now (earlier 1 keys.now) []) }
+{
+    let mut sought = keys.sought_keys(alloc, 1, pred)?;
+    Ok(sought.take_next(Direction::Forward).is_some())
+}
+
 /// Whether a predicate of the record admits one of the keys. If not, no write on these keys touches the record.
 fn admits_some(alloc: Global, record: &Record, keys: &Undo) -> Result<bool, NoMemory>
     ensures { IfOk result (λ some. some ≡ false → (ws : List Write) → AreKnown keys.now ws → list_any (touches record.now) ws ≡ false) }
 {
     for pred in record.preds.as_slice() {
-        if keys.keys(alloc, 1, pred)?.len() > 0 {
+        if admits_one(alloc, keys, pred)? {
             return Ok(true);
         }
     }

@@ -1,5 +1,5 @@
-use Rattle.std.proofs.Common.{◌≡◌, ◌+◌, ◌++◌, ◌∷◌, [], false, List, sym, ap, subst, ◌∙◌, take, arith}
-use Rattle.std.proofs.lemmas.List.{nil_from_length, take_more}
+use Rattle.std.proofs.Common.{◌≡◌, ◌+◌, ◌++◌, ◌∷◌, [], false, List, sym, ap, subst, ◌∙◌, take, rules}
+use Rattle.std.proofs.lemmas.List.{take_more}
 use Rattle.mv_values.specs.declared.pred.Pred.{Pred}
 use Rattle.mv_undo.specs.Owning.{earlier, AreSought}
 use Rattle.mv_repair.proofs.Keys.{any_touch, none_touches, no_touch_more}
@@ -13,8 +13,8 @@ loop-pred-preserved c ws known =
     let p : Pred = c.pred-item.result in
     let i = c.loop-pred.pred-index in
     let ps : List Pred = c.args.record.now.preds in
-    let none : c.in_ok-keys.field-0 ≡ [] = nil_from_length c.in_ok-keys.field-0 (let len = c.len-in-loop-pred.ensures in let few = c.if-len-gt0.false in omega (arith, len, few)) in
-    let sought : AreSought p (earlier 1 c.args.keys.now) [] = subst (AreSought p (earlier 1 c.args.keys.now)) none c.in_ok-keys.ensures in
+    let none : c.in_ok-admits_one.field-0 ≡ false = search rules in
+    let sought : AreSought p (earlier 1 c.args.keys.now) [] = c.in_ok-admits_one.ensures none in
     let all : List Pred = c.as_slice-pred-items.result.now in
     let more : take i ps ++ p ∷ [] ≡ take (i + 1) ps =
     subst (λ (l : List Pred). take i l ++ p ∷ [] ≡ take (i + 1) l) c.as_slice-pred-items.ensures (ap (λ (x : Pred). take i all ++ x ∷ []) c.pred-item.is ∙ sym (take_more all i p c.loop-pred-test.true)) in
