@@ -17,6 +17,7 @@ use mv_record::applying::patch_row;
 use mv_record::record::Record;
 use mv_table::key_map::KeyMap;
 use mv_values::copied::Copied;
+use mv_values::list::List;
 use mv_values::memory::NoMemory;
 use mv_values::patch::Write;
 use mv_values::value::{Key, Row, Value, compare_keys};
@@ -27,8 +28,11 @@ use std::alloc::Global;
 fn place_of(alloc: Global, table: u8, key: &Key) -> Result<Key, NoMemory>
     ensures { IfOk result (λ place. place ≡ Int (pos table) ∷ key.now) }
 {
-    let mut place = key.copy(alloc)?;
-    place.insert(0, Value::Int(table as i64))?;
+    let mut place = List::new(alloc);
+    place.push(Value::Int(table as i64))?;
+    for value in key.as_slice() {
+        place.push(value.copy(alloc)?)?;
+    }
     Ok(place)
 }
 
