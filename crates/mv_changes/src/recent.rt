@@ -26,9 +26,9 @@ impl Copied for Committed {
     }
 }
 
-/// The changes of the commits after number `low`, which `trim` raises. Contracts see `low`, the changes of each commit
-/// after it, in order, and the room for more commits. The first item is commit `dropped + 1`; the commits up to `low`
-/// are dropped when they are half of all stored commits.
+/// The changes of the commits after number `low`, which `trim` raises and `pass` sets. Contracts see `low`, the changes
+/// of each commit after it, in order, and the room for more commits. The first item is commit `dropped + 1`; the commits
+/// up to `low` are dropped when they are half of all stored commits.
 #[derive(Drop)]
 pub struct Recent {
     items: Vec<Committed>,
@@ -107,8 +107,19 @@ impl Recent {
         Ok(())
     }
 
-    /// Borrows the commits after number `start`, in order. `start` may not be below the `low` of the last `trim`. Costs
-    /// constant time.
+    /// Drops all commits, and begins after number `commit`: the next one has the number after it. Allocates nothing.
+    pub fn pass(&mut self, commit: u32)
+        ensures low { self.new.low ≡ commit }
+        ensures commits { self.new.commits ≡ [] }
+        ensures room { self.old.room ≤ self.new.room }
+    {
+        self.items.truncate(0);
+        self.dropped = commit;
+        self.low = commit;
+    }
+
+    /// Borrows the commits after number `start`, in order. `start` may not be below the number of the last `trim` or
+    /// `pass`. Costs constant time.
     pub fn since(&self, start: u32) -> &[Committed]
         requires { self.now.low ≤ start }
         ensures changes { changes_in result.now ≡ drop (start - self.now.low) self.now.commits }

@@ -1,10 +1,13 @@
 -- The numbers of live calls.
 use Rattle.std.proofs.Common.{◌≡◌, ◌⊎◌, inl, inr, ℕ, zero, suc, ◌+◌, ◌<◌, ◌≤◌, Bool, true, false, cond, List, [], ◌∷◌, ◌++◌, Some, map, length, min, get_or, slice_set, if◌then◌else◌, refl, sym, ap, subst, ◌∙◌, arith, zero-add, rules}
-use Rattle.std.specs.Prelude.{slice_get, All, slice_index_or}
+use Rattle.std.specs.Prelude.{slice_get, All, slice_index_or, ◌||◌}
+use Rattle.std.specs.List.{list_any}
 use Rattle.std.specs.Option.{option_map}
 use Rattle.std.specs.Ordering.{is_eq, nat_cmp, match_ordering}
-use Rattle.std.specs.declared.cmp.Ordering.TheVariants.{Equal, Greater}
+use Rattle.std.specs.declared.cmp.Ordering.{Ordering}
+use Rattle.std.specs.declared.cmp.Ordering.TheVariants.{Less, Equal, Greater}
 use Rattle.std.specs.Cmp.{nat_cmp_is}
+use Rattle.std.specs.FinMap.{nat_cmp-IsAntisymmetric}
 use Rattle.std.specs.BTreeSet.{insert_key}
 use Rattle.std.proofs.lemmas.Option.{slice_get-map, slice_get_read}
 use Rattle.mv_lawful.proofs.Lows.{oldest_most}
@@ -81,6 +84,26 @@ gone c (suc k) n l m (x ∷ ls) is at live ended = by x.done (gone (c + 1) k n l
       → (if b then live_from (c + 1) (slice_set ls k m) else c ∷ live_from (c + 1) (slice_set ls k m)) ≡ without n (if b then live_from (c + 1) ls else c ∷ live_from (c + 1) ls)
   by true h = h
   by false h = ap (λ ds. c ∷ ds) h ∙ sym (ap (λ b. cond b (live_from (c + 1) ls) (c ∷ without n (live_from (c + 1) ls))) (apart n c (omega (arith, is))))
+
+-- no number but this one
+pub without_only : (c : ℕ) → without c (c ∷ []) ≡ []
+without_only c = ap (λ b. cond b [] (c ∷ [])) (itself c)
+
+is_number : (c d : ℕ) (rest : Bool) → (is_eq (nat_cmp c d) || rest) ≡ true → rest ≡ false → c ≡ d
+is_number c d false h none = nat_cmp-IsAntisymmetric c d (equal (nat_cmp c d) h) where
+  equal : (o : Ordering) → (is_eq o || false) ≡ true → o ≡ Equal
+  equal Equal e = refl
+  equal Less e = absurd (search (rules, e))
+  equal Greater e = absurd (search (rules, e))
+is_number c d true h none = absurd (search (rules, none))
+
+pub only_from : (c : ℕ) (cs : List ℕ) → length cs ≡ 1 → list_any (λ d. is_eq (nat_cmp c d)) cs ≡ true → cs ≡ c ∷ []
+only_from c [] one h = absurd (omega (arith, one))
+only_from c (d ∷ []) one h = ap (λ e. e ∷ []) (sym (is_number c d false h refl))
+only_from c (d ∷ e ∷ cs) one h = absurd (omega (arith, one))
+
+pub only_has : (c : ℕ) (cs : List ℕ) → cs ≡ c ∷ [] → (length cs ≡ 1) × (list_any (λ d. is_eq (nat_cmp c d)) cs ≡ true)
+only_has c cs is = (ap length is, ap (list_any (λ d. is_eq (nat_cmp c d))) is ∙ ap (λ b. b || false) (itself c))
 
 pub live_gone : (k : ℕ) (l m : Live) (ls : List Live) → slice_get ls k ≡ Some l → l.done ≡ false → m.done ≡ true → live_numbers (slice_set ls k m) ≡ without k (live_numbers ls)
 live_gone k l m ls at live ended = gone 0 k k l m ls (omega arith) at live ended

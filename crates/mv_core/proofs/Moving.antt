@@ -10,9 +10,11 @@ use Rattle.mv_lawful.specs.Rounds.{whole_run, later_run, round, rounds_of}
 use Rattle.mv_lawful.specs.Outcomes.{turns_of}
 use Rattle.mv_store.specs.Stored.{Versioned}
 use Rattle.mv_core.specs.Calls.{IsLive, closed, last_number}
-use Rattle.mv_core.specs.Books.{Booked, work_in, Made, due_after}
+use Rattle.mv_core.specs.Lives.{live_numbers}
+use Rattle.mv_core.specs.Books.{Booked, work_in, Made, IsAlone, due_after}
 use Rattle.mv_core.specs.Cores.{IsStoreOf}
 use Rattle.mv_core.proofs.Numbers.{last_start, last_of_end, rounds_more}
+use Rattle.mv_core.proofs.Lives.{live_kept}
 use Rattle.mv_core.proofs.Refusing.{may_commit}
 use Rattle.mv_core.proofs.Turning.{none_hit}
 use Rattle.mv_core.proofs.Journals.{changed_at, set_there}
@@ -24,6 +26,12 @@ apart e = search (rules, e)
 -- it starts after all commits
 pub live_moved : (c : ℕ) (old new : Booked) (l : Live) → IsLive old.course c l → Made (M c) old new → IsLive new.course c (again (length old.course.order) Moved l)
 live_moved c old new l live made = live_restarted Moved c old new l apart live made
+
+-- a live call that is alone stays so
+pub still_alone : (c : ℕ) (old new : Booked) (l : Live) → IsLive old.course c l → Made (M c) old new → IsAlone old c → IsAlone new c
+still_alone c old new l live made alone =
+    let f : Live → Live = again (length old.course.order) Moved in
+    ap (λ (s : Course). live_numbers s.calls) made.course ∙ (ap live_numbers (changed_at old.course.calls c f l live.at) ∙ (live_kept 0 c l (f l) old.course.calls live.at refl ∙ alone))
 
 -- the number of a round that a move began is that of the records of a full run, whatever rounds were before it
 moved_number : (w : Work) (order : List ℕ) (c n : ℕ) (ts : List Turn) → last_number (rounds_of w order c (ts ++ record { start = n; mark = Moved } ∷ [])) ≡ Some (whole_run w order c n)

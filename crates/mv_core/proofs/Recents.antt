@@ -1,7 +1,7 @@
 -- The changes of the last commits, and what they say of a call.
 use Rattle.std.proofs.Common.{◌≡◌, ℕ, ◌+◌, ◌-◌, ◌<◌, ◌≤◌, max, Bool, true, false, not, List, [], ◌∷◌, ◌++◌, Option, Some, None, map, length, drop, slice_set, is_some, refl, sym, ap, subst, ◌∙◌, arith, length-append, rules}
 use Rattle.std.specs.Prelude.{slice_get}
-use Rattle.std.proofs.lemmas.List.{drop-drop, drop-append-le, length-drop, map-append, take_all}
+use Rattle.std.proofs.lemmas.List.{drop-drop, drop-append-le, drop_all, length-drop, map-append, take_all}
 use Rattle.mv_lawful.proofs.Lows.{oldest_most}
 use Rattle.mv_lawful.proofs.Turns.{length_changes}
 use Rattle.mv_values.specs.declared.calls.Reply.{Reply}
@@ -21,9 +21,10 @@ use Rattle.mv_core.specs.declared.book.Check.TheVariants as check
 use Rattle.mv_core.specs.contracts.book.Book.{the_view}
 use Rattle.mv_core.specs.Scripts.{work_of}
 use Rattle.mv_core.specs.Calls.{live_of, IsLive, IsFresh}
-use Rattle.mv_core.specs.Books.{Booked, IsRecent, IsAnswer, work_in}
+use Rattle.mv_core.specs.Lives.{live_numbers, least_start}
+use Rattle.mv_core.specs.Books.{Booked, IsRecent, Remembers, IsAnswer, work_in}
 use Rattle.mv_core.proofs.Numbers.{changes_more}
-use Rattle.mv_core.proofs.Lives.{oldest_below, oldest_begun, oldest_set}
+use Rattle.mv_core.proofs.Lives.{oldest_below, oldest_begun, oldest_is, oldest_set}
 use Rattle.mv_core.proofs.Keeping.{the_course, set_map, live_here}
 
 pub recent_since : (w : Work) (s : Course) (start : ℕ) (r : Window) → IsRecent w s r → r.low ≤ start → drop (start - r.low) r.commits ≡ since w s.order start
@@ -100,7 +101,7 @@ recent_set w order low c ps p q r k at going up =
     recent_rises w order low (map live_of ps) (map live_of (slice_set ps c q)) r k (call_rises (length order) (length order) c ps p q (omega arith) at going (λ e. up))
 
 -- a call commits
-pub recent_commit : (w : Work) (order orders : List ℕ) (low c : ℕ) (ps : List Progress) (p q : Progress) (reply : Reply) (old new : Window) (changes : List Change)
+recent_commit : (w : Work) (order orders : List ℕ) (low c : ℕ) (ps : List Progress) (p q : Progress) (reply : Reply) (old new : Window) (changes : List Change)
     → IsRecent w (the_course order low (map live_of ps)) old → orders ≡ order ++ c ∷ [] → slice_get ps c ≡ Some p → p.reply ≡ None → q.reply ≡ Some reply
     → new.low ≡ old.low → new.commits ≡ old.commits ++ changes ∷ []
     → changes ≡ changes_between (table_at w order (length order)) (w.run c (table_at w order (length order))).tables
@@ -127,6 +128,26 @@ recent_commit w order orders low c ps p q reply old new changes k more at going 
 
   own : changes ≡ changes_between (tables_after w w.opening order) (w.run c (tables_after w w.opening order)).tables
   own = are ∙ ap (λ os. changes_between (tables_after w w.opening os) (w.run c (tables_after w w.opening os)).tables) (take_all (length order) order (omega arith))
+
+-- no call is live after it, and all changes are dropped
+recent_passed : (w : Work) (orders : List ℕ) (low : ℕ) (ls : List Live) (new : Window) → low ≤ length orders → live_numbers ls ≡ [] → new.low ≡ length orders → new.commits ≡ [] → IsRecent w (the_course orders low ls) new
+recent_passed w orders low ls new within none from dropped = record {
+  within = within;
+  from = omega (arith, within, from);
+  needed = let all : oldest (length orders) ls ≡ length orders = oldest_is (length orders) ls ∙ ap (least_start (length orders) ls) none in omega (arith, from, all);
+  commits = dropped ∙ sym (drop_all new.low (changes_after w w.opening orders) (let n = length_changes w w.opening orders in omega (arith, n, from)));
+}
+
+pub recent_remembered : (w : Work) (order orders : List ℕ) (low c number : ℕ) (ps : List Progress) (p q : Progress) (reply : Reply) (cs : List ℕ) (old new : Window) (changes : List Change)
+    → IsRecent w (the_course order low (map live_of ps)) old → orders ≡ order ++ c ∷ [] → slice_get ps c ≡ Some p → p.reply ≡ None → q.reply ≡ Some reply
+    → cs ≡ live_numbers (map live_of (slice_set ps c q)) → number ≡ length order + 1 → Remembers cs number changes old new
+    → ((cs ≡ [] → ⊥) → changes ≡ changes_between (table_at w order (length order)) (w.run c (table_at w order (length order))).tables)
+    → IsRecent w (the_course orders low (map live_of (slice_set ps c q))) new
+recent_remembered w order orders low c number ps p q reply [] old new changes k more at going told live is has own =
+    let longer : length orders ≡ length order + 1 = ap length more ∙ length-append order (c ∷ []) in
+    recent_passed w orders low (map live_of (slice_set ps c q)) new (let le = k.within in omega (arith, le, longer)) (sym live) (has.0 ∙ (is ∙ sym longer)) has.1
+recent_remembered w order orders low c number ps p q reply (d ∷ ds) old new changes k more at going told live is has own =
+    recent_commit w order orders low c ps p q reply old new changes k more at going told has.0 has.1 (own (λ none. absurd (search (rules, none))))
 
 -- changes are dropped, up to a number that no live call needs
 pub recent_trimmed : (w : Work) (order : List ℕ) (low next n : ℕ) (ls : List Live) (old new : Window) → IsRecent w (the_course order low ls) old → next ≤ length order → next ≤ n

@@ -88,6 +88,15 @@ last_run b c = (work_in b).run c (last_tables b)
 abbrev pub last_changes : Booked → ℕ → List Change
 last_changes b c = changes_between (last_tables b) (last_run b c).tables
 
+-- this call is live, and no other is
+abbrev pub IsAlone : Booked → ℕ → Type 0
+IsAlone b c = live_numbers b.course.calls ≡ c ∷ []
+
+-- the changes of the commit with this number were added; or all were dropped, since no call is live
+abbrev pub Remembers : List ℕ → ℕ → List Change → Window → Window → Type 0
+Remembers [] number changes old new = (new.low ≡ number) × (new.commits ≡ [])
+Remembers (c ∷ cs) number changes old new = (new.low ≡ old.low) × (new.commits ≡ old.commits ++ changes ∷ [])
+
 -- Events
 
 -- the event was allowed, and was made

@@ -1,6 +1,6 @@
 //! The history of a run: its events, and their outcome so far.
 
-ghost use Rattle.std.specs.Prelude.{◌≡◌, ◌<◌, ◌≤◌, ◌+◌, ◌++◌, ◌∷◌, ◌^◌, ◌≢◌, [], None, Some, length, map, IfOk, IfSome, IfNone, OnOk};
+ghost use Rattle.std.specs.Prelude.{◌≡◌, ◌<◌, ◌≤◌, ◌+◌, ◌++◌, ◌∷◌, ◌^◌, ◌≢◌, ◌↔◌, [], None, Some, length, map, IsTrue, IfOk, IfSome, IfNone, OnOk};
 ghost use Rattle.std.specs.Option.{option_copied};
 ghost use Rattle.mv_values.specs.Counts.{first_numbers};
 ghost use Rattle.mv_lawful.specs.Work.{since};
@@ -10,7 +10,7 @@ ghost use Rattle.mv_changes.specs.Commits.{changes_in, AreNumbered};
 ghost use Rattle.mv_store.specs.Changes.{HasRaised};
 ghost use Rattle.mv_undo.specs.Owning.{HasWritesOf};
 ghost use Rattle.mv_core.specs.Calls.{IsLive, IsLiveCall, due_number};
-ghost use Rattle.mv_core.specs.Books.{work_in, IsSettled, last_run, last_tables, last_changes, Made, IsSame, HasBegun, round_event, due_after, IsFirstNumber, commit_event, own_number, IsOwnNumber, HasRoom, UsesOne, KeepsRoom, HasRounds, IsNotStale, AreRecordsOf, IsAnswer};
+ghost use Rattle.mv_core.specs.Books.{work_in, IsSettled, last_run, last_tables, last_changes, Made, IsSame, HasBegun, round_event, due_after, IsFirstNumber, commit_event, own_number, IsOwnNumber, HasRoom, UsesOne, KeepsRoom, HasRounds, IsNotStale, IsAlone, Remembers, AreRecordsOf, IsAnswer};
 ghost use Rattle.mv_journal.specs.declared.event.Event.TheVariants.{S, G};
 ghost use Rattle.mv_journal.specs.declared.outcome.Mark.TheVariants.{Plain, Exclusive};
 
@@ -208,9 +208,17 @@ impl Book {
         self.calls[call as usize].settle(task.executed());
     }
 
-    /// Commits a call with this reply and these changes. If a task is given, the call was repaired in the same step, in
-    /// a round of its own. Returns the number of the commit. Drops the changes that no live call needs. Over all commits,
-    /// that takes time linear in the number of calls.
+    /// Whether this call is live, and no other is.
+    pub fn is_alone(&self, call: u32) -> bool
+        ensures { IsTrue result ↔ IsAlone self.now call }
+    {
+        self.live.is_only(call)
+    }
+
+    /// Commits a call with this reply and these changes. If no other call is live, the changes may be any, since no call
+    /// needs them. If a task is given, the call was repaired in the same step, in a round of its own. Returns the number
+    /// of the commit. Drops the changes that no live call needs. Over all commits, that takes time linear in the number
+    /// of calls.
     pub fn commit(
         &mut self,
         call: u32,
@@ -220,7 +228,7 @@ impl Book {
     ) -> u32
         requires allowed { refusal (work_in self.old) self.old.course (commit_event (own_number (option_copied exclusive)) call) ≡ None }
         requires reply { reply ≡ (last_run self.old call).reply }
-        requires changes { changes ≡ last_changes self.old call }
+        requires changes { (IsAlone self.old call → ⊥) → changes ≡ last_changes self.old call }
         requires settled { IsSettled self.old call }
         requires number { IsOwnNumber (own_number (option_copied exclusive)) self.old call }
         requires room { HasRoom self.old call 1 }
@@ -243,7 +251,7 @@ impl Book {
     ) -> u32
         requires allowed { refusal (work_in self.old) self.old.course (commit_event (own_number (option_copied exclusive)) call) ≡ None }
         requires reply { reply ≡ (last_run self.old call).reply }
-        requires changes { changes ≡ last_changes self.old call }
+        requires changes { (IsAlone self.old call → ⊥) → changes ≡ last_changes self.old call }
         requires settled { IsSettled self.old call }
         requires number { IsOwnNumber (own_number (option_copied exclusive)) self.old call }
         requires room { HasRoom self.old call 1 }
@@ -257,7 +265,7 @@ impl Book {
         self.calls[call as usize].commit(start, reply, own);
         self.live.remove(call);
         self.order.put(call);
-        remember(&mut self.recent, number, changes);
+        remember(&mut self.recent, &self.live, number, changes);
         self.journal.put(commit_event(own, call));
         number
     }
@@ -453,7 +461,7 @@ impl Book {
 }
 
 /// Adds the changes of a commit. There must be room for it.
-fn remember(recent: &mut Recent, number: u32, changes: Changes)
+fn add(recent: &mut Recent, number: u32, changes: Changes)
     requires next { number ≡ recent.old.low + length recent.old.commits + 1 }
     requires room { 0 < recent.old.room }
     ensures low { recent.new.low ≡ recent.old.low }
@@ -462,6 +470,20 @@ fn remember(recent: &mut Recent, number: u32, changes: Changes)
 {
     if let Err(_) = recent.push(number, changes) {
         unreachable!();
+    }
+}
+
+/// Adds the changes of a commit, for which there must be room. If no call is live after it, drops all changes instead.
+fn remember(recent: &mut Recent, live: &LiveCalls, number: u32, changes: Changes)
+    requires next { number ≡ recent.old.low + length recent.old.commits + 1 }
+    requires room { 0 < recent.old.room }
+    ensures remembers { Remembers live.now number changes recent.old recent.new }
+    ensures room { recent.old.room ≤ recent.new.room + 1 }
+{
+    if live.is_empty() {
+        recent.pass(number);
+    } else {
+        add(recent, number, changes);
     }
 }
 

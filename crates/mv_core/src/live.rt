@@ -1,6 +1,6 @@
 //! Which calls are live.
 
-ghost use Rattle.std.specs.Prelude.{◌≡◌, ◌<◌, ◌++◌, ◌∷◌, [], All, OnOk, OnErr, length, map};
+ghost use Rattle.std.specs.Prelude.{◌≡◌, ◌<◌, ◌↔◌, ◌++◌, ◌∷◌, [], All, IsTrue, OnOk, OnErr, length, map};
 ghost use Rattle.mv_core.specs.Calls.{live_of};
 ghost use Rattle.mv_core.specs.Lives.{without, least_start};
 
@@ -49,6 +49,20 @@ impl LiveCalls {
         ensures { self.new ≡ without call self.old }
     {
         self.numbers.remove(&call);
+    }
+
+    /// Whether no call is live.
+    pub(crate) fn is_empty(&self) -> bool
+        ensures { IsTrue result ↔ (self.now ≡ []) }
+    {
+        self.numbers.is_empty()
+    }
+
+    /// Whether this call is live, and no other is.
+    pub(crate) fn is_only(&self, call: u32) -> bool
+        ensures { IsTrue result ↔ (self.now ≡ call ∷ []) }
+    {
+        self.numbers.len() == 1 && self.numbers.contains(&call)
     }
 
     /// Returns the least start of these calls, or n.

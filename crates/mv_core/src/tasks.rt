@@ -20,7 +20,7 @@ ghost use Rattle.mv_core.specs.declared.book.Check.TheVariants.{Free as IsFree};
 ghost use Rattle.mv_core.specs.Told.{writes_told};
 ghost use Rattle.mv_core.specs.Scripts.{IsScript};
 ghost use Rattle.mv_core.specs.Calls.{IsLive, IsLiveCall, due_number};
-ghost use Rattle.mv_core.specs.Books.{work_in, last_tables, last_run, last_changes, commit_event, own_number, Made, IsSame, IsSettled, IsNotStale, IsOwnNumber, AreRecordsOf, IsAnswer};
+ghost use Rattle.mv_core.specs.Books.{work_in, last_tables, last_run, last_changes, commit_event, own_number, Made, IsSame, IsSettled, IsNotStale, IsAlone, IsOwnNumber, AreRecordsOf, IsAnswer};
 ghost use Rattle.mv_core.specs.Cores.{RunsOn, IsStoreOf, IsTaskIn, IsRunning, HasRunOn, HasRunOne, IsLiveTask, IsRepaired, HasStep, IsPrepared, HasCommitted, HasMovedAndCommitted, HasCollected, count_or};
 
 use crate::book::{Book, Check};
@@ -244,18 +244,22 @@ pub fn whole_task(
     Ok(task)
 }
 
-/// Returns the changes that a call with these records makes to the last tables.
+/// Returns the changes that a call with these records makes to the last tables, or none if no other call is live.
 fn changes_made(
     alloc: Global,
     book: &Book,
     store: &Store,
+    call: u32,
     records: &[Record],
 ) -> Result<Changes, NoMemory>
     requires { IsStoreOf book.now store.now }
-    ensures changes { IfOk result (λ changes. changes ≡ changes_between (last_tables book.now) (applied (writes_told records.now) (last_tables book.now))) }
+    ensures changes { IfOk result (λ changes. (IsAlone book.now call → ⊥) → changes ≡ changes_between (last_tables book.now) (applied (writes_told records.now) (last_tables book.now))) }
     ensures like { IsLike store.now (last_tables book.now) }
 {
     let mut view = StoreView::new(store, store.last());
+    if book.is_alone(call) {
+        return Ok(Changes::new(alloc));
+    }
     changes_told(alloc, book.script().opening.len(), records, &mut view)
 }
 
@@ -267,7 +271,8 @@ struct Prepared {
 }
 
 /// Prepares the commit of a call with these records, which are those of a full run on the last tables: puts its writes,
-/// and returns its reply and its changes. If memory runs out, the call has no writes.
+/// and returns its reply and its changes, or no changes if no other call is live. If memory runs out, the call has no
+/// writes.
 fn prepare(
     alloc: Global,
     book: &Book,
@@ -279,12 +284,12 @@ fn prepare(
     requires number { call < length book.now.script.calls }
     requires whole { records.now ≡ records_at (work_in book.now) book.now.course.order (length book.now.course.order) call }
     ensures reply { IfOk result (λ prepared. prepared.reply ≡ (last_run book.now call).reply) }
-    ensures changes { IfOk result (λ prepared. prepared.changes ≡ last_changes book.now call) }
+    ensures changes { IfOk result (λ prepared. (IsAlone book.now call → ⊥) → prepared.changes ≡ last_changes book.now call) }
     ensures ok { OnOk result (IsPrepared book.now call store.new) }
     ensures err { OnErr result (IsStoreOf book.now store.new) }
 {
     let reply = reply_of(alloc, records)?;
-    let changes = changes_made(alloc, book, store, records)?;
+    let changes = changes_made(alloc, book, store, call, records)?;
     put_told(alloc, store, call, records)?;
     Ok(Prepared { reply, changes })
 }

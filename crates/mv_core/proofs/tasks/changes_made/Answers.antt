@@ -13,3 +13,9 @@ changes_told-requires-clause-rising c = rising_shown c.args.book.now (length c.a
 
 pub returns-clause-like : goal.returns-clause-like
 returns-clause-like c = like_last c.args.book.now c.args.store.now c.requires c.last.ensures.like
+
+pub returns-then-is_alone-clause-changes : goal.returns-then-is_alone-clause-changes
+returns-then-is_alone-clause-changes c others = absurd (others (c.is_alone.ensures.0 c.if-is_alone.true))
+
+pub returns-then-is_alone-clause-like : goal.returns-then-is_alone-clause-like
+returns-then-is_alone-clause-like c = like_last c.args.book.now c.args.store.now c.requires c.last.ensures.like

@@ -11,7 +11,7 @@ pub returns-clause-reply : goal.returns-clause-reply
 returns-clause-reply c = c.in_ok-reply.ensures ∙ last_reply c.args.book.now c.args.store.now c.args.call c.args.records.now c.requires.stored c.requires.number c.requires.whole
 
 pub returns-clause-changes : goal.returns-clause-changes
-returns-clause-changes c = last_made c.args.book.now c.args.store.now c.args.call c.args.records.now c.in_ok-changes.changes c.requires.stored c.requires.number c.requires.whole c.in_ok-changes.ensures.changes
+returns-clause-changes c others = last_made c.args.book.now c.args.store.now c.args.call c.args.records.now c.in_ok-changes.changes c.requires.stored c.requires.number c.requires.whole (c.in_ok-changes.ensures.changes others)
 
 pub returns-clause-ok : goal.returns-clause-ok
 returns-clause-ok c = record {

@@ -3,12 +3,13 @@ use Rattle.std.specs.Option.{option_copied}
 use Rattle.mv_journal.specs.declared.outcome.Round.{Round}
 use Rattle.mv_lawful.specs.Lawful.{Live}
 use Rattle.mv_lawful.specs.Rounds.{rounds_of}
-use Rattle.mv_core.specs.Lives.{without}
+use Rattle.mv_core.specs.Lives.{live_numbers, without}
 use Rattle.mv_core.specs.Calls.{IsLive, live_of, turns_in, committed, with_own}
-use Rattle.mv_core.specs.Books.{Booked, last_run, last_changes, commit_event, own_number, IsOwnNumber}
+use Rattle.mv_core.specs.Books.{Booked, last_run, last_changes, commit_event, own_number, IsAlone, IsOwnNumber}
 use Rattle.mv_core.specs.Scripts.{work_of}
 use Rattle.mv_core.proofs.Keeping.{live_leaves, the_course, here_at, Here, few_inside, within, commit_live, number_fits, room_here, settled_here, rounds_committed, kept_commit, commit_after, map_changed, made_on, free_on, room_left}
-use Rattle.mv_core.proofs.Recents.{recent_long, recent_commit}
+use Rattle.mv_core.proofs.Lives.{without_only}
+use Rattle.mv_core.proofs.Recents.{recent_long, recent_remembered}
 use Rattle.mv_core.proofs.book.Book.add_commit.Goals as goal
 
 pub overflow_cast-start : goal.overflow_cast-start
@@ -53,6 +54,14 @@ known c =
     (settled_here c.self.inside c.args.self.now c.args.call c.index_mut.result.now c.self.view_is (here c).2.at c.requires.settled)
     (subst (λ (b : Booked). IsOwnNumber (own_number (option_copied c.args.exclusive)) b c.args.call) (sym c.self.view_is) c.requires.number))
 
+gone : (c : goal.After-put-2) → c.remove.new.self ≡ live_numbers (map live_of (slice_set c.self.inside.calls.items c.args.call c.commit.new.self))
+gone c = c.remove.ensures ∙ (ap (without c.args.call) c.self.invariant.live ∙ sym (live_leaves c.self.inside.calls.items c.args.call c.index_mut.result.now c.commit.new.self c.args.reply (here c).2.at (here c).2.going c.commit.ensures.reply))
+
+-- where some call is live afterwards, the call that commits wasn't alone
+others : (c : goal.After-put-2) → (c.remove.new.self ≡ [] → ⊥) → IsAlone c.args.self.now c.args.call → ⊥
+others c some alone =
+    some (c.remove.ensures ∙ (ap (without c.args.call) (c.self.invariant.live ∙ (ap (λ (b : Booked). live_numbers b.course.calls) c.self.view_is ∙ alone)) ∙ without_only c.args.call))
+
 pub invariant_of-self : goal.invariant_of-self
 invariant_of-self c = record {
   kept =
@@ -62,10 +71,11 @@ invariant_of-self c = record {
       (commit_after (work_of c.self.inside.script) c.self.inside.order.items c.self.inside.low (map live_of c.self.inside.calls.items) (own_number (option_copied c.args.exclusive)) c.args.call)
       c.put.ensures.items (search (rules, c.put-2.ensures.items, c.commit_event.ensures, own c)) (here c).2.at (here c).2.going (live c) c.commit.ensures.reply (known c)
       (c.requires.reply ∙ ap (λ (b : Booked). (last_run b c.args.call).reply) (sym c.self.view_is));
-  live = c.remove.ensures ∙ (ap (without c.args.call) c.self.invariant.live ∙ sym (live_leaves c.self.inside.calls.items c.args.call c.index_mut.result.now c.commit.new.self c.args.reply (here c).2.at (here c).2.going c.commit.ensures.reply));
+  live = gone c;
   recent =
-      recent_commit (work_of c.self.inside.script) c.self.inside.order.items _ c.self.inside.low c.args.call c.self.inside.calls.items c.index_mut.result.now c.commit.new.self c.args.reply c.self.inside.recent c.remember.new.recent c.args.changes c.self.invariant.recent
-      c.put.ensures.items (here c).2.at (here c).2.going c.commit.ensures.reply c.remember.ensures.low c.remember.ensures.commits (c.requires.changes ∙ ap (λ (b : Booked). last_changes b c.args.call) (sym c.self.view_is));
+      recent_remembered (work_of c.self.inside.script) c.self.inside.order.items _ c.self.inside.low c.args.call _ c.self.inside.calls.items c.index_mut.result.now c.commit.new.self c.args.reply _ c.self.inside.recent c.remember.new.recent c.args.changes c.self.invariant.recent
+      c.put.ensures.items (here c).2.at (here c).2.going c.commit.ensures.reply (gone c) (ap (λ n. n + 1) c.len-start.ensures) c.remember.ensures.remembers
+      (λ some. c.requires.changes (others c some) ∙ ap (λ (b : Booked). last_changes b c.args.call) (sym c.self.view_is));
 }
 
 pub returns-clause-made : goal.returns-clause-made
