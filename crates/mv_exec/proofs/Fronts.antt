@@ -187,7 +187,7 @@ goes_on g old new given has call db r rest is rise leaves content =
     let same : r ≡ has.next = same_in given r has.next content has.content sees.0 sees.1 sees.2 in
     more_leaves g call db old new (has.next ∷ []) rest has.records (subst (λ q. Leaves g call db old (q ∷ rest)) same leaves)
 
-pub adopted : (g : Graph) (old new : Task) (ahead : Ahead) (given r : Record) → ForeseesLeft g.procedure old (Some ahead) → r ≡ record given { spot = ahead.spot; parent = ahead.parent; reads = ahead.reads }
+pub adopted : (g : Graph) (old new : Task) (ahead : Ahead) (given r : Record) → IsAhead g old (Some ahead) → r ≡ record given { spot = ahead.spot; parent = ahead.parent; reads = ahead.reads }
     → HasAdded g.procedure old r new → new.executed ≡ old.executed → HasAdopted g old given new
 adopted g old new ahead given r next is added executed =
     let at : ahead ≡ record { spot = r.spot; parent = r.parent; reads = r.reads } = ap (λ (q : Record). (let a : Ahead = record { spot = q.spot; parent = q.parent; reads = q.reads } in a)) (sym is) in
@@ -195,7 +195,7 @@ adopted g old new ahead given r next is added executed =
       next = r;
       records = added.records;
       content = is ∙ ap (λ (q : Record). record given { spot = q.spot; parent = q.parent; reads = q.reads }) (sym is);
-      place = subst (λ a. IsAhead g old (Some a)) at (foresees g old (Some ahead) next);
+      place = subst (λ a. IsAhead g old (Some a)) at next;
       executed = executed;
     }
 

@@ -136,8 +136,29 @@ pub(crate) fn foresee(alloc: Global, graph: &Graph, task: &Task) -> Result<Optio
 }
 
 /// Moves a call to its next statement. The place of the statement becomes the innermost one. If a loop's turn begins
-/// with it, the row of the loop is set. Returns what is ahead, and where the call continues. On `NoMemory` the call is
-/// unchanged.
+/// with it, the row of the loop is set. Returns where the call continues. On `NoMemory` the call is unchanged.
+pub(crate) fn move_on<'g>(
+    alloc: Global,
+    graph: &'g Graph,
+    task: &mut Task,
+) -> Result<Position<'g>, NoMemory>
+    requires nodes { IsGraph graph.now }
+    requires task { IsTask graph.now.procedure task.old }
+    requires live { task.old.ended ≡ false }
+    ensures at { IfOk result (λ r. IsAt graph.now.procedure (places_of task.new) r.place r.statement.now) }
+    ensures node { IfOk result (λ r. TellsOf graph.now.procedure r.statement.now r.node.now) }
+    ensures task { IsTask graph.now.procedure task.new }
+    ensures same { StandsAsBefore graph.now.procedure task.old task.new }
+    ensures live { task.new.ended ≡ false }
+    ensures found { task.new.variables.env.found ≡ task.old.variables.env.found }
+{
+    let position = next_position(graph, task);
+    settle(alloc, task, position.place, position.turn)?;
+    Ok(position)
+}
+
+/// Moves a call to its next statement, as `move_on` does. Returns what is ahead, and where the call continues. On
+/// `NoMemory` the call is unchanged.
 pub(crate) fn come_to<'g>(
     alloc: Global,
     graph: &'g Graph,

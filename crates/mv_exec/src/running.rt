@@ -1,6 +1,6 @@
 //! Running calls of a graph: one statement at a time over a view, or to the end.
 
-ghost use Rattle.std.specs.Prelude.{◌≡◌, ◌↔◌, ◌≤◌, [], None, false, true, length, IfOk, OnOk, OnErr};
+ghost use Rattle.std.specs.Prelude.{◌≡◌, ◌↔◌, ◌≤◌, [], None, false, true, length, IfOk, OnOk, OnErr, Some};
 ghost use Rattle.mv_values.specs.declared.calls.Call.{Call};
 ghost use Rattle.mv_values.specs.Tables.{Tables};
 ghost use Rattle.mv_record.specs.Runs.{writes_in};
@@ -10,7 +10,7 @@ ghost use Rattle.mv_effect.specs.Looking.{AskedAtMost, OnlyAsks, different};
 ghost use Rattle.mv_exec.specs.Running.{IsRunning, IsRunningOn, IsSameCall, IsSameCallOn, IsTaskOf, IsTaskOn, IsUnchanged, IsAhead, GoesOnWith, HasAdopted, HasRun, HasRunTo, refusals, stepped, EndsExactly};
 
 use crate::add::add;
-use crate::ahead::{come_to, foresee};
+use crate::ahead::{come_to, foresee, move_on};
 use crate::execute::execute;
 use crate::moves::branch;
 use crate::step::Stepped;
@@ -80,7 +80,33 @@ pub fn adopt(
     ensures tells { IfOk result (λ it. it ≡ stepped task.new.ended) }
     ensures err { OnErr result (IsUnchanged task.old task.new) }
 {
-    let (ahead, position) = come_to(alloc, graph, task)?;
+    let Some(ahead) = peek(alloc, graph, task)? else {
+        unreachable!();
+    };
+    adopt_ahead(alloc, graph, task, ahead, given)
+}
+
+/// Adds a given record for the next statement, as `adopt` does. `ahead` is what `peek` returns for the call, so that
+/// nothing of it is found twice.
+pub fn adopt_ahead(
+    alloc: Global,
+    graph: &Graph,
+    task: &mut Task,
+    ahead: Ahead,
+    given: Record,
+) -> Result<Stepped, NoMemory>
+    requires sound { IsSound graph.now }
+    requires running { IsRunning graph.now task.old }
+    requires live { task.old.ended ≡ false }
+    requires next { IsAhead graph.now task.old (Some ahead) }
+    ensures running { IsRunning graph.now task.new }
+    ensures call { IsSameCall graph.now task.old task.new }
+    ensures adopted { OnOk result (HasAdopted graph.now task.old given task.new) }
+    ensures goes_on { OnOk result (GoesOnWith graph.now task.old given task.new) }
+    ensures tells { IfOk result (λ it. it ≡ stepped task.new.ended) }
+    ensures err { OnErr result (IsUnchanged task.old task.new) }
+{
+    let position = move_on(alloc, graph, task)?;
     let yes = branch(alloc, position.statement, task.variables.env())?;
     add(alloc, graph, task, record_at(ahead, given), position, yes)
 }

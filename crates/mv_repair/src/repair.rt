@@ -6,7 +6,7 @@ ghost use Rattle.mv_record.specs.Runs.{writes_in};
 ghost use Rattle.mv_record.specs.Databases.{IsDatabaseOf};
 ghost use Rattle.mv_effect.specs.Looking.{AskedAtMost, OnlyAsks, different};
 ghost use Rattle.mv_graph.specs.Nodes.{IsSound, meaning_of};
-ghost use Rattle.mv_exec.specs.Running.{IsRunning, IsRunningOn, IsSameCall, IsSameCallOn, IsTaskOf, IsTaskOn, IsUnchanged, HasRun, refusals};
+ghost use Rattle.mv_exec.specs.Running.{IsRunning, IsRunningOn, IsSameCall, IsSameCallOn, IsTaskOf, IsTaskOn, IsUnchanged, IsAhead, HasRun, refusals};
 ghost use Rattle.mv_history.specs.Kept.{executions};
 ghost use Rattle.mv_repair.specs.Repairing.{changes_since, IsRepairable, HasQueried};
 ghost use Rattle.mv_repair.specs.Walking.{any_write, writes_of, renewed, HasKept};
@@ -16,8 +16,8 @@ use crate::hits::hits_of;
 use crate::paths::{Path, item, path_of, paths_of};
 use crate::walk::{NewRun, OldRun, stays};
 use mv_changes::recent::Committed;
-use mv_exec::running::{adopt, next, peek};
-use mv_exec::task::Task;
+use mv_exec::running::{adopt_ahead, next, peek};
+use mv_exec::task::{Ahead, Task};
 use mv_graph::graph::Graph;
 use mv_undo::undo::Undo;
 use mv_values::list::List;
@@ -25,11 +25,13 @@ use mv_values::memory::NoMemory;
 use mv_view::view::{Refused, View};
 use std::alloc::Global;
 
-/// Keeps the next record of the old run as the next one of the new run, which has this path.
+/// Keeps the next record of the old run as the next one of the new run, which has this path. `ahead` is what `peek`
+/// returns for the call.
 fn keep(
     alloc: Global,
     graph: &Graph,
     task: &mut Task,
+    ahead: Ahead,
     old: &mut OldRun,
     new: &mut NewRun,
     path: Path,
@@ -37,6 +39,7 @@ fn keep(
     requires sound { IsSound graph.now }
     requires running { IsRunning graph.now task.old }
     requires live { task.old.ended ≡ false }
+    requires next { IsAhead graph.now task.old (Some ahead) }
     requires there { old.old.at < length old.old.records }
     ensures call { IsSameCall graph.now task.old task.new }
     ensures kept { OnOk result (HasKept graph.now task.old old.old new.old path task.new old.new new.new) }
@@ -46,7 +49,7 @@ fn keep(
     let Some(given) = old.take(alloc) else {
         unreachable!();
     };
-    adopt(alloc, graph, task, given)?;
+    adopt_ahead(alloc, graph, task, ahead, given)?;
     Ok(())
 }
 
@@ -110,7 +113,7 @@ fn step<V: View>(
     new.catch_up(alloc, task.records())?;
     let keeps = stays(alloc, old, new, task.records(), &ahead, path.as_slice())?;
     if keeps {
-        keep(alloc, graph, task, old, new, path)?;
+        keep(alloc, graph, task, ahead, old, new, path)?;
         return Ok(());
     }
     renew(alloc, graph, task, new, path, view)

@@ -1,7 +1,7 @@
 use Rattle.std.proofs.Common.{◌≡◌, true, false, List, subst, length}
 use Rattle.std.specs.Prelude.{slice_get}
 use Rattle.mv_record.specs.declared.record.Record.{Record}
-use Rattle.mv_exec.specs.Running.{HasRun}
+use Rattle.mv_exec.specs.Running.{HasRun, IsAhead}
 use Rattle.mv_exec.proofs.Fronts.{both}
 use Rattle.mv_history.specs.Kept.{Path}
 use Rattle.mv_repair.specs.Walking.{any_write, writes_of, renewed, HasCaughtUp}
@@ -18,6 +18,9 @@ pub stays-requires-clause-new : goal.stays-requires-clause-new
 stays-requires-clause-new g c =
     known_new c.args.graph.now (g.V.View.sight c.args.view.now).database c.args.task.now c.args.old.now c.args.new.now c.catch_up.new.self c.records-3.result.now c.requires.on_way
     (subst (λ (rs : List Record). HasCaughtUp rs c.args.new.now c.catch_up.new.self) c.records-2.ensures c.in_ok-catch_up.ensures) c.records-3.ensures
+
+pub keep-requires-clause-next : goal.keep-requires-clause-next
+keep-requires-clause-next g c = subst (IsAhead c.args.graph.now c.args.task.now) c.in-Some.is c.in_ok-ahead.ensures.next
 
 pub keep-requires-clause-there : goal.keep-requires-clause-there
 keep-requires-clause-there g c =
