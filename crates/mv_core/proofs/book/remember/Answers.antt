@@ -6,8 +6,8 @@ use Rattle.mv_core.specs.Books.{Remembers}
 use Rattle.mv_core.proofs.book.remember.Goals as goal
 
 remembers_more : (cs : List ℕ) (number : ℕ) (changes : List Change) (old new : Window) (b : Bool) → (IsTrue b ↔ (cs ≡ [])) → b ≡ false → new.low ≡ old.low → new.commits ≡ old.commits ++ changes ∷ [] → Remembers cs number changes old new
-remembers_more [] number changes old new b tells no low commits = absurd (let yes : b ≡ true = tells.1 refl in search (rules, sym yes ∙ no))
-remembers_more (c ∷ cs) number changes old new b tells no low commits = (low, commits)
+remembers_more [] number changes old new b tells others low commits = let empty : b ≡ true = tells.1 refl in absurd (search (rules, sym empty ∙ others))
+remembers_more (c ∷ cs) number changes old new b tells others low commits = (low, commits)
 
 pub returns-then-is_empty-clause-remembers : goal.returns-then-is_empty-clause-remembers
 returns-then-is_empty-clause-remembers c =
