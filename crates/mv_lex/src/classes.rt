@@ -2,6 +2,7 @@
 
 ghost use Rattle.std.specs.Prelude.{◌≡◌};
 ghost use Rattle.mv_lex.specs.Bytes as class;
+ghost use Rattle.mv_values.specs.Printable as printable;
 
 /// Whether the byte is a tab, LF, CR or space.
 pub(crate) fn is_blank(byte: u8) -> bool
@@ -12,7 +13,7 @@ pub(crate) fn is_blank(byte: u8) -> bool
 
 /// Whether a text may contain the byte.
 pub(crate) fn is_printable(byte: u8) -> bool
-    ensures { result ≡ class.is_printable byte }
+    ensures { result ≡ printable.is_printable byte }
 {
     b' ' <= byte && byte <= b'~'
 }

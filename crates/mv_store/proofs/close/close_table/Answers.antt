@@ -1,5 +1,6 @@
 use Rattle.std.proofs.Common.{◌++◌, ap, sym, ◌∙◌}
-use Rattle.mv_table.specs.Entries.{picked, stored}
+use Rattle.mv_values.specs.Keys.{stored}
+use Rattle.mv_table.specs.Entries.{picked}
 use Rattle.mv_chain.specs.Versions.{row_at}
 use Rattle.mv_store.specs.Stored.{table_at}
 use Rattle.mv_store.proofs.Found.{rows_more, rows_below}
