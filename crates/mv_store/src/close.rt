@@ -1,9 +1,8 @@
 //! Turns versions into rows.
 
 ghost use Rattle.std.specs.Prelude.{◌≡◌, ◌++◌, All, map, IfOk, OnOk, OnSome};
-ghost use Rattle.mv_values.specs.Keys.{IsBelow};
+ghost use Rattle.mv_values.specs.Keys.{IsBelow, stored};
 ghost use Rattle.mv_table.specs.Entries.{alone_at};
-ghost use Rattle.mv_values.specs.Keys.{stored};
 ghost use Rattle.mv_store.specs.Stored.{table_at};
 
 use mv_chain::chain::Chain;

@@ -1,6 +1,5 @@
 use Rattle.std.proofs.Common.{◌≡◌, ◌++◌}
-use Rattle.mv_values.specs.Keys.{IsRising}
-use Rattle.mv_values.specs.Keys.{stored}
+use Rattle.mv_values.specs.Keys.{IsRising, stored}
 use Rattle.mv_table.specs.Entries.{picked}
 use Rattle.mv_chain.specs.Versions.{row_at}
 use Rattle.mv_store.specs.Stored.{table_at}
