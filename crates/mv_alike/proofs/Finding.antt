@@ -1,14 +1,14 @@
 -- Where no change hits a predicate and no write that isn't in both runs touches it, it finds the same in both.
-use Rattle.std.proofs.Common.{◌≡◌, ◌<◌, ◌≤◌, ℕ, zero, suc, ◌==◌, Bool, true, false, cond, List, [], ◌∷◌, Option, Some, None, All, map, length, refl, sym, ap, subst, ◌∙◌, arith}
+use Rattle.std.proofs.Common.{◌≡◌, ◌<◌, ◌≤◌, ℕ, zero, suc, Bool, true, false, cond, List, [], ◌∷◌, Option, Some, None, All, map, length, refl, sym, ap, subst, ◌∙◌, arith}
 use Rattle.std.specs.Prelude.{nat_lt, slice_index_or}
 use Rattle.std.proofs.lemmas.Bool.Decides.{nat_tests}
-use Rattle.std.specs.List.{filter, position}
+use Rattle.std.specs.List.{filter}
 use Rattle.std.specs.Option.{option_map}
 use Rattle.std.specs.Ordering.{is_eq}
+use Rattle.mv_alone.specs.Rows.{IsPlaced}
 use Rattle.mv_values.specs.declared.value.Value.{Value}
 use Rattle.mv_values.specs.declared.rows.Keyed.{Keyed}
 use Rattle.mv_values.specs.declared.pred.Pred.{Pred}
-use Rattle.mv_values.specs.declared.pred.Test.{Test}
 use Rattle.mv_values.specs.declared.patch.Write.{Write}
 use Rattle.mv_values.specs.declared.schema.TableInfo.{TableInfo}
 use Rattle.mv_values.specs.Columns.{columns_of}
@@ -99,7 +99,7 @@ long_alike n (Some a) None h k = tt
 -- The law
 
 abbrev pub Places : List TableInfo → Pred → Type 0
-Places tables p = All (λ (test : Test). test.key_place ≡ position (λ k. k == test.column) (key_columns tables p.table)) p.tests
+Places tables p = All (IsPlaced (key_columns tables p.table)) p.tests
 
 past : {A : Type 0} (xs : List (List A)) (n : ℕ) → length xs ≤ n → slice_index_or xs n [] ≡ []
 past [] n h = refl

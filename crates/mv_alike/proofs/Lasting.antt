@@ -3,6 +3,7 @@ use Rattle.std.proofs.Common.{◌≡◌, ◌⊎◌, inl, inr, ◌<◌, ◌≤◌
 use Rattle.std.specs.Prelude.{◌&&◌}
 use Rattle.std.specs.List.{flat_map, list_any}
 use Rattle.std.proofs.lemmas.Bool.{and_parts, or_parts, not-true}
+use Rattle.mv_values.specs.declared.pred.Test.{Test}
 use Rattle.mv_values.specs.declared.value.Value.{Value}
 use Rattle.mv_values.specs.declared.pred.Pred.{Pred}
 use Rattle.mv_values.specs.declared.patch.Write.{Write}
@@ -12,16 +13,16 @@ use Rattle.mv_values.specs.Patching.{applied}
 use Rattle.mv_values.specs.Tables.{key_columns, columns_at, Tables}
 use Rattle.mv_catalog.specs.declared.resolved.RCond.{RCond}
 use Rattle.mv_catalog.specs.declared.resolved.RStmt.TheOpen.{Assign, Select, Total, ForSelect, ForRows, Branch, Insert, Update, Delete, Print, Rollback}
-use Rattle.mv_alone.specs.declared.state.Check.{Check}
+use Rattle.mv_alone.proofs.Spanning.{tests_placed}
 use Rattle.mv_alone.specs.declared.state.Env.{Env}
 use Rattle.mv_alone.specs.declared.state.State.{State}
 use Rattle.mv_alone.specs.Env.{held_at}
 use Rattle.mv_alone.specs.Alone.{offset_of}
 use Rattle.mv_alone.specs.Changes.{new_row}
-use Rattle.mv_alone.specs.Rows.{checks_of}
+use Rattle.mv_alone.specs.Rows.{tests_of}
 use Rattle.mv_record.specs.declared.record.Record.{Record}
 use Rattle.mv_record.specs.Runs.{writes_in}
-use Rattle.mv_recorded.specs.Asking.{on, asked, pred_of, preds_of, test_of, same_key}
+use Rattle.mv_recorded.specs.Asking.{on, asked, pred_of, preds_of, same_key}
 use Rattle.mv_recorded.specs.Reading.{variables, expressions, reads_of}
 use Rattle.mv_recorded.specs.Recorded.{Site, own_record}
 use Rattle.mv_record.specs.Databases.{IsDatabaseOf}
@@ -29,7 +30,7 @@ use Rattle.mv_record.specs.Effects.{effect_in}
 use Rattle.mv_recorded.specs.Alike.{Agree, OverAgrees, SeenAlike}
 use Rattle.mv_recorded.specs.Own.{Bare, Stated, Each, Within, Suits, Ground, IsAtSite, StandsAt, IsOwn, OverSuits}
 use Rattle.mv_recorded.proofs.Congruent.{congruent}
-use Rattle.mv_recorded.proofs.Matching.{places_of}
+use Rattle.mv_recorded.proofs.Matching.{key_placed}
 use Rattle.mv_recorded.proofs.Inverting.{each_map}
 use Rattle.mv_history.specs.declared.change.Change.{Change}
 use Rattle.mv_history.specs.Changes.{Covers}
@@ -56,15 +57,12 @@ front_lasts tables db rs front rest is h = (h [] rs refl, h front rest is)
 
 -- Predicates have the places of their tests
 
-places_asked : (tables : List TableInfo) (t : ℕ) (checks : List Check) (cs : List ℕ) → Places tables (pred_of tables t checks cs)
-places_asked tables t checks cs = places_of (key_columns tables t) (Ok checks) (map (test_of (key_columns tables t)) checks) refl
-
 places_where : (tables : List TableInfo) (t : ℕ) (conds : List RCond) (cs : List ℕ) (st : State) → Each (Places tables) (asked tables t conds cs st)
-places_where tables t conds cs st = by (checks_of conds st.env)
+places_where tables t conds cs st = by (tests_of (key_columns tables t) conds st.env) refl
   where
-    by : (r : Result (List Check) End) → Each (Places tables) (on r (λ checks. pred_of tables t checks cs ∷ []))
-    by (Ok checks) = (places_asked tables t checks cs, tt)
-    by (Err e) = tt
+    by : (r : Result (List Test) End) → tests_of (key_columns tables t) conds st.env ≡ r → Each (Places tables) (on r (λ tests. pred_of t tests cs ∷ []))
+    by (Ok tests) is = (tests_placed (key_columns tables t) conds st.env tests is, tt)
+    by (Err e) is = tt
 
 pub places_preds : (tables : List TableInfo) (y : Bare) (st : State) → Each (Places tables) (preds_of tables y st)
 places_preds tables (Select cs xs t conds sorts offset) st = by (offset_of offset st.env)
@@ -76,8 +74,8 @@ places_preds tables (Total agg x t conds) st = places_where tables t conds _ st
 places_preds tables (ForSelect x once cs t conds sorts body) st = places_where tables t conds _ st
 places_preds tables (Insert t es) st = by (new_row (columns_at tables t) es st.env)
   where
-    by : (r : Result (List Value) End) → Each (Places tables) (on r (λ row. pred_of tables t (same_key (key_columns tables t) row) [] ∷ []))
-    by (Ok row) = (places_asked tables t (same_key (key_columns tables t) row) [], tt)
+    by : (r : Result (List Value) End) → Each (Places tables) (on r (λ row. pred_of t (same_key (key_columns tables t) row) [] ∷ []))
+    by (Ok row) = (key_placed (key_columns tables t) row, tt)
     by (Err e) = tt
 places_preds tables (Update t items conds) st = places_where tables t conds _ st
 places_preds tables (Delete t conds) st = places_where tables t conds [] st

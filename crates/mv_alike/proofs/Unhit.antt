@@ -8,6 +8,8 @@ use Rattle.std.proofs.lemmas.Slice.Zip.{AllZip-long}
 use Rattle.std.proofs.lemmas.Bool.{and_parts, not-true}
 use Rattle.mv_record.proofs.Patching.{applied_append}
 use Rattle.mv_catalog.specs.Text as text
+use Rattle.mv_values.specs.Tables.{key_columns}
+use Rattle.mv_values.specs.declared.pred.Test.{Test}
 use Rattle.mv_values.specs.declared.value.Value.{Value}
 use Rattle.mv_values.specs.declared.pred.Pred.{Pred}
 use Rattle.mv_values.specs.declared.patch.Write.{Write}
@@ -22,13 +24,12 @@ use Rattle.mv_catalog.specs.declared.resolved.ProcInfo.{ProcInfo}
 use Rattle.mv_catalog.specs.declared.resolved.RStmt.{RStmt, roll-RStmt, map-RStmt, ind-RStmt, para-roll-RStmt, fold-roll-RStmt}
 use Rattle.mv_catalog.specs.declared.resolved.RStmt.TheOpen.{RStmt-F, Assign, Select, Total, ForSelect, ForRows, Branch, Insert, Update, Delete, Print, Rollback}
 use Rattle.mv_alone.specs.declared.state.Env.{Env}
-use Rattle.mv_alone.specs.declared.state.Check.{Check}
 use Rattle.mv_alone.specs.declared.state.State.{State}
 use Rattle.mv_alone.specs.declared.state.Held.TheVariants.{Turn}
 use Rattle.mv_alone.specs.Outcome.{then_do}
 use Rattle.mv_alone.specs.Env.{held_at, with_found, with_held, turns_at}
 use Rattle.mv_alone.specs.Value.{value_of, is_so}
-use Rattle.mv_alone.specs.Rows.{checks_of}
+use Rattle.mv_alone.specs.Rows.{tests_of}
 use Rattle.mv_alone.specs.Alone.{Does, alone, does, stmt_step, each_turn, loop_over, fixed, matching_in, is_turn}
 use Rattle.mv_alone.specs.TableAfter.{begun}
 use Rattle.mv_record.specs.declared.record.Record.{Record}
@@ -267,7 +268,7 @@ rows_of_same (Err e) (Err f) st nst h k = let same : e ≡ f = cc in ap Err same
 rows_of_same (Ok a) (Err f) st nst h k = cc
 rows_of_same (Err e) (Ok b) st nst h k = cc
 
-then_loops : (r : Result (List Check) End) (rows : List Check → List (List Value)) (d : List (List Value) → Result State End) → then_do (then_do r (λ a. Ok (rows a))) d ≡ then_do r (λ a. d (rows a))
+then_loops : (r : Result (List Test) End) (rows : List Test → List (List Value)) (d : List (List Value) → Result State End) → then_do (then_do r (λ a. Ok (rows a))) d ≡ then_do r (λ a. d (rows a))
 then_loops (Ok a) rows d = refl
 then_loops (Err e) rows d = refl
 
@@ -338,15 +339,15 @@ step_locked g pair (ForSelect x once cs t conds sorts body) rows n site before s
     let ss : List RStmt = plain g body in
     let own : Record = own_record g.tables g.params y n site before st in
     let other : Record = own_record g.tables g.params y n site before nst in
-    let fix : State → Result (List (List Value)) End = λ s. then_do (checks_of conds s.env) (λ checks. Ok (fixed once cs sorts (matching_in t checks s))) in
+    let fix : State → Result (List (List Value)) End = λ s. then_do (tests_of (key_columns g.tables t) conds s.env) (λ tests. Ok (fixed once cs sorts (matching_in t tests s))) in
     let inner : Does → Record → State → List Record = λ b o s. on (fix s) (λ all. tell_loop x b (tell_statements g.tables g.params ss) all (n + 1) (within_loop x (length before) site) (before ++ o ∷ []) s) in
-    let out : State → Result State End = λ s. then_do (checks_of conds s.env) (λ checks. loop_over x (alone g.tables ss) (fixed once cs sorts (matching_in t checks s)) s) in
+    let out : State → Result State End = λ s. then_do (tests_of (key_columns g.tables t) conds s.env) (λ tests. loop_over x (alone g.tables ss) (fixed once cs sorts (matching_in t tests s)) s) in
     subst (λ b. Sound g before (own ∷ inner b own st) (other ∷ inner b other nst) → (other ∷ inner b other nst ≡ own ∷ inner b own st) × Ends g before (own ∷ inner b own st) (out st) (out nst)) (sym (again g ss))
     (λ v. let first = own_locked g z n site rows before st nst pair suits.0 twin (sound_first g before (own ∷ []) (inner (alone g.tables ss) own st) (other ∷ []) (inner (alone g.tables ss) other nst) v) in
     let same : fix st ≡ fix nst = rows_of_same (fix st) (fix nst) st nst (sym (ap (λ (r : Record). r.rows) first.0)) (sym (ap (λ (r : Record). r.end) first.0)) in
-    subst (λ o. (other ∷ inner (alone g.tables ss) other nst ≡ own ∷ inner (alone g.tables ss) own st) × Ends g before (own ∷ inner (alone g.tables ss) own st) o (out nst)) (then_loops (checks_of conds st.env) (λ checks. fixed once cs sorts (matching_in t checks st)) (λ all. loop_over x (alone g.tables ss) all st))
+    subst (λ o. (other ∷ inner (alone g.tables ss) other nst ≡ own ∷ inner (alone g.tables ss) own st) × Ends g before (own ∷ inner (alone g.tables ss) own st) o (out nst)) (then_loops (tests_of (key_columns g.tables t) conds st.env) (λ tests. fixed once cs sorts (matching_in t tests st)) (λ all. loop_over x (alone g.tables ss) all st))
     (subst (λ o. (other ∷ inner (alone g.tables ss) other nst ≡ own ∷ inner (alone g.tables ss) own st) × Ends g before (own ∷ inner (alone g.tables ss) own st) (then_do (fix st) (λ all. loop_over x (alone g.tables ss) all st)) o)
-    (then_loops (checks_of conds nst.env) (λ checks. fixed once cs sorts (matching_in t checks nst)) (λ all. loop_over x (alone g.tables ss) all nst))
+    (then_loops (tests_of (key_columns g.tables t) conds nst.env) (λ tests. fixed once cs sorts (matching_in t tests nst)) (λ all. loop_over x (alone g.tables ss) all nst))
     (subst (λ r. (other ∷ on r (λ all. tell_loop x (alone g.tables ss) (tell_statements g.tables g.params ss) all (n + 1) (within_loop x (length before) site) (before ++ other ∷ []) nst) ≡ own ∷ inner (alone g.tables ss) own st)
     × Ends g before (own ∷ inner (alone g.tables ss) own st) (then_do (fix st) (λ all. loop_over x (alone g.tables ss) all st)) (then_do r (λ all. loop_over x (alone g.tables ss) all nst))) same
     (loop_locked g x (flat_all ss) (alone g.tables ss) (tell_statements g.tables g.params ss) (all_locked g body) (fix st) own other (n + 1) (within_loop x (length before) site) (x ∷ rows) before st nst suits.1 first.0

@@ -27,7 +27,6 @@ use Rattle.mv_table.proofs.Scanning.{foremost_kept, foremost_passed, foremost_ma
 use Rattle.mv_catalog.specs.declared.resolved.RAgg.{RAgg}
 use Rattle.mv_catalog.specs.declared.resolved.RAgg.TheVariants.{Min, Max}
 use Rattle.mv_catalog.specs.declared.resolved.RSort.{RSort}
-use Rattle.mv_alone.specs.declared.state.Check.{Check}
 use Rattle.mv_alone.specs.FirstRows.{AreAdmitted, NeverFalls, Rises, Tells, Leads, AdmitMatches, total_found, is_next_fixed, is_last_of, does_rank}
 use Rattle.mv_alone.specs.Own.{StandUnder}
 use Rattle.mv_alone.specs.Rows.{meets, matching, column, lesser, greater, least, greatest, aggregate, is_some_row, item_at, ordered, sorted, put_in, sort_order, then_by}
@@ -254,11 +253,11 @@ kept_all p P (x ∷ rows) h = by (p x) refl (kept_all p P rows (All-tail (λ ite
     by true is rest = All-cons P x (filter p rows) (All-head (λ item. p item ≡ true → P item) x rows h is) rest
     by false is rest = rest
 
-pub matches_admitted : (keys : List ℕ) (tests : List Test) (checks : List Check) (rows : List Keyed) → IsRising rows → StandUnder keys rows → AdmitMatches tests checks rows → AreAdmitted keys tests (matching checks rows)
-matches_admitted keys tests checks rows rising own admit = record {
-  rising = AllPairs-filter (λ a b. IsBelow b.key a) (λ item. meets checks item.row) rows rising;
-  own = All-filter (λ item. meets checks item.row) (λ item. item.key ≡ columns_of item.row keys) rows own;
-  admitted = kept_all (λ item. meets checks item.row) (λ item. Admits tests item.key) rows admit;
+pub matches_admitted : (keys : List ℕ) (tests : List Test) (rows : List Keyed) → IsRising rows → StandUnder keys rows → AdmitMatches tests rows → AreAdmitted keys tests (matching tests rows)
+matches_admitted keys tests rows rising own admit = record {
+  rising = AllPairs-filter (λ a b. IsBelow b.key a) (λ item. meets tests item.row) rows rising;
+  own = All-filter (λ item. meets tests item.row) (λ item. item.key ≡ columns_of item.row keys) rows own;
+  admitted = kept_all (λ item. meets tests item.row) (λ item. Admits tests item.key) rows admit;
 }
 
 -- there is a first row exactly if there are rows
@@ -285,31 +284,31 @@ some_of f (x ∷ xs) items h =
 pub total_is : (agg : RAgg) (rows : List Keyed) (value : Option Value) (some : Bool) → aggregate agg rows ≡ Ok value → some ≡ is_some_row rows → total_found agg rows ≡ Ok (value, some)
 total_is agg rows value some h is = rw h (ap (λ b. Ok (value, b)) (sym is))
 
-pub told_is : (agg : RAgg) (keys : List ℕ) (tests : List Test) (checks : List Check) (rows : List Keyed) (c : ℕ) (d : Direction) (row : Option Keyed) (value : Option Value) (some : Bool) → IsRising rows → StandUnder keys rows
-    → AdmitMatches tests checks rows → Tells agg keys tests c d → row ≡ foremost d (matching checks rows) → value ≡ option_map (λ (item : Keyed). column_of item.row c) row → some ≡ is_some row → total_found agg (matching checks rows) ≡ Ok (value, some)
-told_is agg keys tests checks rows c d row value some rising own admit tells is holds any =
-    let found : List Keyed = matching checks rows in
+pub told_is : (agg : RAgg) (keys : List ℕ) (tests : List Test) (rows : List Keyed) (c : ℕ) (d : Direction) (row : Option Keyed) (value : Option Value) (some : Bool) → IsRising rows → StandUnder keys rows
+    → AdmitMatches tests rows → Tells agg keys tests c d → row ≡ foremost d (matching tests rows) → value ≡ option_map (λ (item : Keyed). column_of item.row c) row → some ≡ is_some row → total_found agg (matching tests rows) ≡ Ok (value, some)
+told_is agg keys tests rows c d row value some rising own admit tells is holds any =
+    let found : List Keyed = matching tests rows in
     total_is agg found value some
-    (tells found (matches_admitted keys tests checks rows rising own admit) ∙ ap (λ o. Ok o) (ap (option_map (λ (item : Keyed). column_of item.row c)) (sym is) ∙ sym holds))
+    (tells found (matches_admitted keys tests rows rising own admit) ∙ ap (λ o. Ok o) (ap (option_map (λ (item : Keyed). column_of item.row c)) (sym is) ∙ sym holds))
     (any ∙ (ap (λ (o : Option Keyed). is_some o) is ∙ some_foremost d found))
 
-pub first_chosen : {E : Type 0} (r : Result (Option Entry) E) (sorts : List RSort) (keys : List ℕ) (tests : List Test) (checks : List Check) (rows : List Keyed) (d : Direction) (at : ℤ) → at ≡ pos 0 → StandUnder keys rows
-    → AdmitMatches tests checks rows → Leads sorts keys tests d → IfOk r (λ row. option_map seen row ≡ foremost d (matching checks rows)) → IfOk r (λ row. IsRising rows)
-    → IfOk r (λ row. option_map seen row ≡ item_at (ordered sorts (matching checks rows)) at)
-first_chosen (Ok row) sorts keys tests checks rows d at none own admit leads is rising =
-    is ∙ (sym (leads (matching checks rows) (matches_admitted keys tests checks rows rising own admit)) ∙ ap (item_at (ordered sorts (matching checks rows))) (sym none))
-first_chosen (Err e) sorts keys tests checks rows d at none own admit leads is rising = tt
+pub first_chosen : {E : Type 0} (r : Result (Option Entry) E) (sorts : List RSort) (keys : List ℕ) (tests : List Test) (rows : List Keyed) (d : Direction) (at : ℤ) → at ≡ pos 0 → StandUnder keys rows
+    → AdmitMatches tests rows → Leads sorts keys tests d → IfOk r (λ row. option_map seen row ≡ foremost d (matching tests rows)) → IfOk r (λ row. IsRising rows)
+    → IfOk r (λ row. option_map seen row ≡ item_at (ordered sorts (matching tests rows)) at)
+first_chosen (Ok row) sorts keys tests rows d at none own admit leads is rising =
+    is ∙ (sym (leads (matching tests rows) (matches_admitted keys tests rows rising own admit)) ∙ ap (item_at (ordered sorts (matching tests rows))) (sym none))
+first_chosen (Err e) sorts keys tests rows d at none own admit leads is rising = tt
 
 -- The first of stored rows
 
-pub stored_met : (checks : List Check) (d : Direction) (key row : List Value) (left rest : List (List Value × List Value)) (all : Option Keyed) → left ≡ with_foremost d (key, row) rest → meets checks row ≡ true
-    → foremost d (matching checks (stored left)) ≡ all → Some (record { key = key; row = row }) ≡ all
-stored_met checks d key row left rest all is met so =
-    sym (foremost_kept (λ item. meets checks item.row) d (record { key = key; row = row }) (stored rest) met)
-    ∙ (sym (ap (λ es. foremost d (matching checks (stored es))) is ∙ ap (λ l. foremost d (matching checks l)) (with_mapped as_row d (key, row) rest)) ∙ so)
+pub stored_met : (tests : List Test) (d : Direction) (key row : List Value) (left rest : List (List Value × List Value)) (all : Option Keyed) → left ≡ with_foremost d (key, row) rest → meets tests row ≡ true
+    → foremost d (matching tests (stored left)) ≡ all → Some (record { key = key; row = row }) ≡ all
+stored_met tests d key row left rest all is met so =
+    sym (foremost_kept (λ item. meets tests item.row) d (record { key = key; row = row }) (stored rest) met)
+    ∙ (sym (ap (λ es. foremost d (matching tests (stored es))) is ∙ ap (λ l. foremost d (matching tests l)) (with_mapped as_row d (key, row) rest)) ∙ so)
 
-pub stored_passed : (checks : List Check) (d : Direction) (key row : List Value) (left rest : List (List Value × List Value)) (all : Option Keyed) → left ≡ with_foremost d (key, row) rest → meets checks row ≡ false
-    → foremost d (matching checks (stored left)) ≡ all → foremost d (matching checks (stored rest)) ≡ all
-stored_passed checks d key row left rest all is fails so =
-    sym (foremost_passed (λ item. meets checks item.row) d (record { key = key; row = row }) (stored rest) fails)
-    ∙ (sym (ap (λ es. foremost d (matching checks (stored es))) is ∙ ap (λ l. foremost d (matching checks l)) (with_mapped as_row d (key, row) rest)) ∙ so)
+pub stored_passed : (tests : List Test) (d : Direction) (key row : List Value) (left rest : List (List Value × List Value)) (all : Option Keyed) → left ≡ with_foremost d (key, row) rest → meets tests row ≡ false
+    → foremost d (matching tests (stored left)) ≡ all → foremost d (matching tests (stored rest)) ≡ all
+stored_passed tests d key row left rest all is fails so =
+    sym (foremost_passed (λ item. meets tests item.row) d (record { key = key; row = row }) (stored rest) fails)
+    ∙ (sym (ap (λ es. foremost d (matching tests (stored es))) is ∙ ap (λ l. foremost d (matching tests l)) (with_mapped as_row d (key, row) rest)) ∙ so)

@@ -7,3 +7,4 @@ pub mod Spanning
 pub mod Ranking
 pub mod Standing
 pub mod FirstRows
+pub mod Few

@@ -1,25 +1,25 @@
 -- The rows in the span of keys that the tests leave.
-use Rattle.std.proofs.Common.{◌≡◌, ℕ, zero, suc, ◌<◌, Bool, true, false, List, [], ◌∷◌, ◌++◌, Some, length, slice_index_or, refl, sym, ap, subst, ◌∙◌, arith}
-use Rattle.std.specs.Prelude.{◌==◌, map, if◌then◌else◌}
-use Rattle.std.specs.List.{filter, list_all, position}
+use Rattle.std.proofs.Common.{◌≡◌, ℕ, zero, suc, ◌<◌, Bool, true, false, List, [], ◌∷◌, Option, Some, None, Result, Ok, Err, All, length, slice_index_or, refl, sym, ap, subst, ◌∙◌, arith}
+use Rattle.std.specs.Prelude.{◌==◌, IfOk, map, if◌then◌else◌}
+use Rattle.std.specs.List.{filter, position}
 use Rattle.std.proofs.lemmas.Bool.{eqb-true, and_parts}
+use Rattle.std.proofs.lemmas.List.Elements.{All-nil, All-cons, All-head, All-tail}
 use Rattle.std.proofs.lemmas.List.Quantifiers.{position-Some}
 use Rattle.mv_values.specs.declared.value.Value.{Value}
 use Rattle.mv_values.specs.declared.pred.Test.{Test}
 use Rattle.mv_values.specs.declared.rows.Keyed.{Keyed}
+use Rattle.mv_values.specs.declared.calls.End.{End}
 use Rattle.mv_values.specs.Columns.{column_of, columns_of}
-use Rattle.mv_values.specs.Preds.{agrees}
+use Rattle.mv_values.specs.Preds.{allows, passes, holds_at, agrees}
 use Rattle.mv_table.specs.Spans.{Admits}
-use Rattle.mv_alone.specs.declared.state.Check.{Check}
+use Rattle.mv_catalog.specs.declared.resolved.RCond.{RCond}
+use Rattle.mv_alone.specs.declared.state.Env.{Env}
+use Rattle.mv_alone.specs.declared.state.Stop.{Stop}
 use Rattle.mv_alone.specs.FirstRows.{AdmitMatches}
+use Rattle.mv_alone.specs.Outcome.{Gives, then_do}
 use Rattle.mv_alone.specs.Own.{StandUnder}
-use Rattle.mv_alone.specs.Rows.{passes, meets}
-
--- a row that meets all tests passes each
-passes_at : (checks : List Check) (row : List Value) (i : ℕ) (d : Check) → i < length checks → meets checks row ≡ true → passes row (slice_index_or checks i d) ≡ true
-passes_at [] row i d lt h = absurd (omega (arith, lt))
-passes_at (check ∷ checks) row zero d lt h = (and_parts (passes row check) (meets checks row) h).0
-passes_at (check ∷ checks) row (suc i) d lt h = passes_at checks row i d (omega (arith, lt)) (and_parts (passes row check) (meets checks row) h).1
+use Rattle.mv_alone.specs.Rows.{test_on, tests_of, IsPlaced, meets}
+use Rattle.mv_alone.specs.Value.{value_of}
 
 -- a key column is at its place
 pub place_there : (keys : List ℕ) (c place : ℕ) → Some place ≡ position (λ k. k == c) keys → (place < length keys) × (slice_index_or keys place 0 ≡ c)
@@ -33,28 +33,43 @@ key_column row [] place lt = absurd (omega (arith, lt))
 key_column row (k ∷ ks) zero lt = refl
 key_column row (k ∷ ks) (suc place) lt = key_column row ks place (omega (arith, lt))
 
-all_more : (p : Test → Bool) (xs : List Test) (x : Test) → list_all p xs ≡ true → p x ≡ true → list_all p (xs ++ x ∷ []) ≡ true
-all_more p [] x h k = rw k refl
-all_more p (y ∷ ys) x h k = let two = and_parts (p y) (list_all p ys) h in rw two.0 (all_more p ys x two.1 k)
+-- where a row stands under its own key, a test that it passes admits the key
+test_admits : (keys : List ℕ) (row : List Value) (test : Test) → IsPlaced keys test → passes row test ≡ true → agrees (columns_of row keys) test ≡ true
+test_admits keys row test is h = by test.key_place is
+  where
+    by : (place : Option ℕ) → place ≡ position (λ k. k == test.column) keys → holds_at place test (columns_of row keys) ≡ true
+    by None e = refl
+    by (Some place) e =
+        let there = place_there keys test.column place e in
+        ap (allows test) (key_column row keys place there.0 ∙ ap (column_of row) there.1) ∙ h
 
--- a test of a key column, as a test of the key
-pub one_test_more : (keys : List ℕ) (checks : List Check) (tests new : List Test) (i : ℕ) (check : Check) (place : ℕ) (v : Value) → i < length checks → check ≡ slice_index_or checks i check → place < length keys → slice_index_or keys place 0 ≡ check.column
-    → v ≡ check.value → new ≡ tests ++ record { column = place; key_place = Some place; op = check.op; value = v } ∷ []
-    → ((row : List Value) → meets checks row ≡ true → Admits tests (columns_of row keys)) → (row : List Value) → meets checks row ≡ true → Admits new (columns_of row keys)
-one_test_more keys checks tests new i check place v lt is within at same made h row so =
-    let test : Test = record { column = place; key_place = Some place; op = check.op; value = v } in
-    let passed : passes row check ≡ true = ap (passes row) is ∙ passes_at checks row i check lt so in
-    let there : column_of (columns_of row keys) place ≡ column_of row check.column = key_column row keys place within ∙ ap (column_of row) at in
-    let agreed : agrees (columns_of row keys) test ≡ true = rw (there, same) passed in
-    ap (list_all (agrees (columns_of row keys))) made ∙ all_more (agrees (columns_of row keys)) tests test (h row so) agreed
+-- so do all tests that it passes
+pub tests_admit : (keys : List ℕ) (row : List Value) (tests : List Test) → All (IsPlaced keys) tests → meets tests row ≡ true → Admits tests (columns_of row keys)
+tests_admit keys row [] places h = refl
+tests_admit keys row (t ∷ ts) places h =
+    let two = and_parts (passes row t) (meets ts row) h in
+    rw (test_admits keys row t (All-head (IsPlaced keys) t ts places) two.0) (tests_admit keys row ts (All-tail (IsPlaced keys) t ts places) two.1)
 
--- where each row stands under its own key, the tests of the key columns admit the keys of the rows that match
-pub admit_own : (keys : List ℕ) (tests : List Test) (checks : List Check) (rows : List Keyed) → StandUnder keys rows → ((row : List Value) → meets checks row ≡ true → Admits tests (columns_of row keys)) → AdmitMatches tests checks rows
-admit_own keys tests checks rows own admits k d lt so = subst (Admits tests) (sym (own k d lt)) (admits (slice_index_or rows k d).row so)
+-- where each row stands under its own key, the tests admit the keys of the rows that match
+pub placed_admit : (keys : List ℕ) (tests : List Test) (rows : List Keyed) → All (IsPlaced keys) tests → StandUnder keys rows → AdmitMatches tests rows
+placed_admit keys tests rows places own k d lt so = subst (Admits tests) (sym (own k d lt)) (tests_admit keys (slice_index_or rows k d).row tests places so)
 
--- so do they where they are borrowed
-pub admit_lent : (keys : List ℕ) (tests list : List Test) (checks : List Check) (rows : List Keyed) → tests ≡ list → StandUnder keys rows → ((row : List Value) → meets checks row ≡ true → Admits list (columns_of row keys)) → AdmitMatches tests checks rows
-admit_lent keys tests list checks rows is own admits = subst (λ ts. AdmitMatches ts checks rows) (sym is) (admit_own keys list checks rows own admits)
+-- the tests of WHERE have their places
+pub tests_placed : (keys : List ℕ) (conds : List RCond) (env : Env) (tests : List Test) → tests_of keys conds env ≡ Ok tests → All (IsPlaced keys) tests
+tests_placed keys [] env tests h = let none : [] ≡ tests = cc in subst (All (IsPlaced keys)) none (All-nil (IsPlaced keys))
+tests_placed keys (c ∷ cs) env tests h = by (value_of c.right env []) (tests_of keys cs env) (λ rest is. tests_placed keys cs env rest is) h
+  where
+    by : (v : Result Value End) (r : Result (List Test) End) → ((rest : List Test) → r ≡ Ok rest → All (IsPlaced keys) rest) → then_do v (λ v. then_do r (λ more. Ok (test_on keys c.column c.op v ∷ more))) ≡ Ok tests → All (IsPlaced keys) tests
+    by (Ok v) (Ok rest) later h =
+        let same : test_on keys c.column c.op v ∷ rest ≡ tests = cc in
+        subst (All (IsPlaced keys)) same (All-cons (IsPlaced keys) (test_on keys c.column c.op v) rest refl (later rest refl))
+    by (Ok v) (Err e) later h = cc
+    by (Err e) r later h = cc
+
+-- so have those that were made of it
+pub placed_where : (keys : List ℕ) (conds : List RCond) (env : Env) (r : Result (List Test) Stop) → Gives r (tests_of keys conds env) → IfOk r (All (IsPlaced keys))
+placed_where keys conds env (Ok tests) h = tests_placed keys conds env tests h
+placed_where keys conds env (Err s) h = tt
 
 -- a filter through what is seen
 pub filter_seen : {A : Type 0} (seen : A → Keyed) (p : Keyed → Bool) (xs : List A) → map seen (filter (λ x. p (seen x)) xs) ≡ filter p (map seen xs)

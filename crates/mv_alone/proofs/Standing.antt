@@ -9,6 +9,7 @@ use Rattle.std.specs.declared.cmp.Ordering.TheVariants.{Less, Equal, Greater}
 use Rattle.std.proofs.lemmas.Bool.{or_parts, eqb-false}
 use Rattle.mv_values.specs.declared.value.Value.{Value}
 use Rattle.mv_values.specs.declared.value.Value.TheVariants.{Int}
+use Rattle.mv_values.specs.declared.pred.Test.{Test}
 use Rattle.mv_values.specs.declared.rows.Keyed.{Keyed}
 use Rattle.mv_values.specs.declared.schema.Column.{Column}
 use Rattle.mv_values.specs.declared.schema.TableInfo.{TableInfo}
@@ -19,12 +20,11 @@ use Rattle.mv_values.specs.Tables.{key_columns, columns_at, rows_at, KeysStand, 
 use Rattle.mv_catalog.specs.declared.resolved.RCond.{RCond}
 use Rattle.mv_catalog.specs.declared.resolved.RExpr.{RExpr}
 use Rattle.mv_catalog.specs.declared.resolved.RSetItem.{RSetItem}
-use Rattle.mv_alone.specs.declared.state.Check.{Check}
 use Rattle.mv_alone.specs.declared.state.Env.{Env}
 use Rattle.mv_alone.specs.declared.state.State.{State}
 use Rattle.mv_alone.specs.Outcome.{then_do}
 use Rattle.mv_alone.specs.Value.{value_of}
-use Rattle.mv_alone.specs.Rows.{meets, fit, checks_of, is_some_row}
+use Rattle.mv_alone.specs.Rows.{meets, fit, tests_of, is_some_row}
 use Rattle.mv_alone.specs.Changes.{with_column, set_row, updated, without, put_row_by, put_row, new_row, keyed}
 use Rattle.mv_alone.specs.Alone.{matching_in, with_rows, insert, update, delete}
 use Rattle.mv_alone.specs.Own.{StandUnder}
@@ -73,11 +73,11 @@ set_row_keeps columns keys env was (i ∷ is) row made h = by (value_of i.right 
     by (Ok v) h later = fitting (fit columns i.column v) h later
     by (Err e) h later = cc
 
-pub updated_stand : (new : New) (keys : List ℕ) (checks : List Check) → ((row made : List Value) → new row ≡ Ok made → columns_of made keys ≡ columns_of row keys)
-    → (items made : List Keyed) → StandUnder keys items → updated new checks items ≡ Ok made → StandUnder keys made
-updated_stand new keys checks keeps [] made h is = let none : [] ≡ made = cc in subst (StandUnder keys) none h
-updated_stand new keys checks keeps (item ∷ items) made h is =
-    by (meets checks item.row) (new item.row) refl (updated new checks items) (λ rest. updated_stand new keys checks keeps items rest (All-tail (StandsUnder keys) _ _ h)) is
+pub updated_stand : (new : New) (keys : List ℕ) (tests : List Test) → ((row made : List Value) → new row ≡ Ok made → columns_of made keys ≡ columns_of row keys)
+    → (items made : List Keyed) → StandUnder keys items → updated new tests items ≡ Ok made → StandUnder keys made
+updated_stand new keys tests keeps [] made h is = let none : [] ≡ made = cc in subst (StandUnder keys) none h
+updated_stand new keys tests keeps (item ∷ items) made h is =
+    by (meets tests item.row) (new item.row) refl (updated new tests items) (λ rest. updated_stand new keys tests keeps items rest (All-tail (StandsUnder keys) _ _ h)) is
   where
     first : StandsUnder keys item
     first = All-head (StandsUnder keys) _ _ h
@@ -123,15 +123,15 @@ rows_stand infos t rows found st next h k is =
 pub update_keeps : (infos : List TableInfo) (t : ℕ) (items : List RSetItem) (conds : List RCond) (st next : State) → KeysStand infos st.tables → update infos t items conds st ≡ Ok next → KeysStand infos next.tables
 update_keeps infos t items conds st next h is =
     let new : New = λ row. set_row (columns_at infos t) (key_columns infos t) st.env row items row in
-    let go : List Check → Result State End = λ checks. then_do (updated new checks (rows_at st.tables t)) (λ rows. Ok (with_rows t rows (is_some_row (matching_in t checks st)) st)) in
-    let checked = goes_to (checks_of conds st.env) go next is in
+    let go : List Test → Result State End = λ tests. then_do (updated new tests (rows_at st.tables t)) (λ rows. Ok (with_rows t rows (is_some_row (matching_in t tests st)) st)) in
+    let checked = goes_to (tests_of (key_columns infos t) conds st.env) go next is in
     let made = goes_to (updated new checked.0 (rows_at st.tables t)) (λ rows. Ok (with_rows t rows (is_some_row (matching_in t checked.0 st)) st)) next checked.2 in
     rows_stand infos t made.0 (is_some_row (matching_in t checked.0 st)) st next h
     (updated_stand new (key_columns infos t) checked.0 (λ row made is. set_row_keeps (columns_at infos t) (key_columns infos t) st.env row items row made is) (rows_at st.tables t) made.0 (h t) made.1) made.2
 
-pub delete_keeps : (infos : List TableInfo) (t : ℕ) (conds : List RCond) (st next : State) → KeysStand infos st.tables → delete t conds st ≡ Ok next → KeysStand infos next.tables
+pub delete_keeps : (infos : List TableInfo) (t : ℕ) (conds : List RCond) (st next : State) → KeysStand infos st.tables → delete infos t conds st ≡ Ok next → KeysStand infos next.tables
 delete_keeps infos t conds st next h is =
-    let checked = goes_to (checks_of conds st.env) (λ checks. Ok (with_rows t (without checks (rows_at st.tables t)) (is_some_row (matching_in t checks st)) st)) next is in
+    let checked = goes_to (tests_of (key_columns infos t) conds st.env) (λ tests. Ok (with_rows t (without tests (rows_at st.tables t)) (is_some_row (matching_in t tests st)) st)) next is in
     rows_stand infos t (without checked.0 (rows_at st.tables t)) (is_some_row (matching_in t checked.0 st)) st next h
     (All-filter (λ item. not (meets checked.0 item.row)) (StandsUnder (key_columns infos t)) (rows_at st.tables t) (h t)) checked.2
 

@@ -3,6 +3,7 @@
 use Rattle.std.specs.Prelude.{ℕ, pos, Bool, true, false, List, [], ◌∷◌, ◌++◌, Option, Some, None, Result, Ok, Err, map, slice_set, if◌then◌else◌}
 use Rattle.mv_values.specs.declared.value.Value.{Value}
 use Rattle.mv_values.specs.declared.value.Value.TheVariants.{Int}
+use Rattle.mv_values.specs.declared.pred.Test.{Test}
 use Rattle.mv_values.specs.declared.rows.Keyed.{Keyed}
 use Rattle.mv_values.specs.declared.schema.TableInfo.{TableInfo}
 use Rattle.mv_values.specs.declared.calls.End.{End}
@@ -18,13 +19,12 @@ use Rattle.mv_catalog.specs.declared.resolved.RStmt.{RStmt}
 use Rattle.mv_catalog.specs.declared.resolved.RStmt.TheOpen.{RStmt-F, Assign, Select, Total, ForSelect, ForRows, Branch, Insert, Update, Delete, Print, Rollback}
 use Rattle.mv_catalog.specs.declared.resolved.RStmt.TheFolds.{fold-RStmt}
 use Rattle.mv_alone.specs.declared.state.Env.{Env}
-use Rattle.mv_alone.specs.declared.state.Check.{Check}
 use Rattle.mv_alone.specs.declared.state.State.{State}
 use Rattle.mv_alone.specs.Outcome.{then_do}
 use Rattle.mv_alone.specs.Env.{with_value, with_values, with_found, with_held, turns_at}
 use Rattle.mv_alone.specs.declared.state.Held.TheVariants.{Turn}
 use Rattle.mv_alone.specs.Value.{value_of, values_of, is_so}
-use Rattle.mv_alone.specs.Rows.{checks_of, matching, is_some_row, ordered, item_at, distinct, projected, aggregate}
+use Rattle.mv_alone.specs.Rows.{matching, is_some_row, ordered, item_at, distinct, projected, aggregate, tests_of}
 use Rattle.mv_alone.specs.Changes.{set_row, updated, without, new_row, put_row, keyed}
 use Rattle.mv_alone.specs.Line.{line_of}
 
@@ -43,8 +43,8 @@ each_turn x body [] st = Ok st
 each_turn x body (row ∷ rows) st = then_do (body (record st { env = with_held st.env x (Turn row) })) (each_turn x body rows)
 
 -- the rows of a table that pass the tests
-abbrev pub matching_in : ℕ → List Check → State → List Keyed
-matching_in t checks st = matching checks (rows_at st.tables t)
+abbrev pub matching_in : ℕ → List Test → State → List Keyed
+matching_in t tests st = matching tests (rows_at st.tables t)
 
 -- the state with the rows of a table changed, and `:found`
 abbrev pub with_rows : ℕ → List Keyed → Bool → State → State
@@ -82,21 +82,21 @@ abbrev pub assign : ℕ → RExpr → Does
 assign x e st = then_do (value_of e st.env []) (λ v. Ok (record st { env = with_value st.env x v }))
 
 -- SELECT INTO
-abbrev pub select : List ℕ → List ℕ → ℕ → List RCond → List RSort → Option RExpr → Does
-select cs xs t conds sorts offset st =
-    then_do (checks_of conds st.env) (λ checks. then_do (offset_of offset st.env) (λ n.
-    Ok (record st { env = with_selected cs xs (item_at (ordered sorts (matching_in t checks st)) (number n)) st.env })))
+abbrev pub select : List TableInfo → List ℕ → List ℕ → ℕ → List RCond → List RSort → Option RExpr → Does
+select tables cs xs t conds sorts offset st =
+    then_do (tests_of (key_columns tables t) conds st.env) (λ tests. then_do (offset_of offset st.env) (λ n.
+    Ok (record st { env = with_selected cs xs (item_at (ordered sorts (matching_in t tests st)) (number n)) st.env })))
 
 -- SELECT with an aggregate
-abbrev pub sum_up : RAgg → ℕ → ℕ → List RCond → Does
-sum_up agg x t conds st =
-    then_do (checks_of conds st.env) (λ checks. then_do (aggregate agg (matching_in t checks st)) (λ v.
-    Ok (record st { env = with_found (totalled x v st.env) (is_some_row (matching_in t checks st)) })))
+abbrev pub sum_up : List TableInfo → RAgg → ℕ → ℕ → List RCond → Does
+sum_up tables agg x t conds st =
+    then_do (tests_of (key_columns tables t) conds st.env) (λ tests. then_do (aggregate agg (matching_in t tests st)) (λ v.
+    Ok (record st { env = with_found (totalled x v st.env) (is_some_row (matching_in t tests st)) })))
 
 -- FOR over SELECT
-abbrev pub for_select : ℕ → Bool → List ℕ → ℕ → List RCond → List RSort → Does → Does
-for_select x once cs t conds sorts body st =
-    then_do (checks_of conds st.env) (λ checks. loop_over x body (fixed once cs sorts (matching_in t checks st)) st)
+abbrev pub for_select : List TableInfo → ℕ → Bool → List ℕ → ℕ → List RCond → List RSort → Does → Does
+for_select tables x once cs t conds sorts body st =
+    then_do (tests_of (key_columns tables t) conds st.env) (λ tests. loop_over x body (fixed once cs sorts (matching_in t tests st)) st)
 
 -- FOR over a ROWS parameter
 abbrev pub for_rows : ℕ → ℕ → Does → Does
@@ -115,15 +115,15 @@ insert tables t es st =
 -- UPDATE
 abbrev pub update : List TableInfo → ℕ → List RSetItem → List RCond → Does
 update tables t items conds st =
-    then_do (checks_of conds st.env) (λ checks.
-    then_do (updated (λ row. set_row (columns_at tables t) (key_columns tables t) st.env row items row) checks (rows_at st.tables t)) (λ rows.
-    Ok (with_rows t rows (is_some_row (matching_in t checks st)) st)))
+    then_do (tests_of (key_columns tables t) conds st.env) (λ tests.
+    then_do (updated (λ row. set_row (columns_at tables t) (key_columns tables t) st.env row items row) tests (rows_at st.tables t)) (λ rows.
+    Ok (with_rows t rows (is_some_row (matching_in t tests st)) st)))
 
 -- DELETE
-abbrev pub delete : ℕ → List RCond → Does
-delete t conds st =
-    then_do (checks_of conds st.env) (λ checks.
-    Ok (with_rows t (without checks (rows_at st.tables t)) (is_some_row (matching_in t checks st)) st))
+abbrev pub delete : List TableInfo → ℕ → List RCond → Does
+delete tables t conds st =
+    then_do (tests_of (key_columns tables t) conds st.env) (λ tests.
+    Ok (with_rows t (without tests (rows_at st.tables t)) (is_some_row (matching_in t tests st)) st))
 
 -- PRINT
 abbrev pub print : List RExpr → Does
@@ -132,14 +132,14 @@ print es st = then_do (values_of es st.env) (λ vs. Ok (record st { lines = st.l
 -- what a statement does, given what the statements in it do
 abbrev pub stmt_step : List TableInfo → RStmt-F Does → Does
 stmt_step tables (Assign x e) = assign x e
-stmt_step tables (Select cs xs t conds sorts offset) = select cs xs t conds sorts offset
-stmt_step tables (Total agg x t conds) = sum_up agg x t conds
-stmt_step tables (ForSelect x once cs t conds sorts body) = for_select x once cs t conds sorts (all_of body)
+stmt_step tables (Select cs xs t conds sorts offset) = select tables cs xs t conds sorts offset
+stmt_step tables (Total agg x t conds) = sum_up tables agg x t conds
+stmt_step tables (ForSelect x once cs t conds sorts body) = for_select tables x once cs t conds sorts (all_of body)
 stmt_step tables (ForRows x y body) = for_rows x y (all_of body)
 stmt_step tables (Branch e ys ns) = branch e (all_of ys) (all_of ns)
 stmt_step tables (Insert t es) = insert tables t es
 stmt_step tables (Update t items conds) = update tables t items conds
-stmt_step tables (Delete t conds) = delete t conds
+stmt_step tables (Delete t conds) = delete tables t conds
 stmt_step tables (Print es) = print es
 stmt_step tables (Rollback reason) = λ st. Err (Own reason)
 

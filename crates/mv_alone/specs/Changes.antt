@@ -4,6 +4,7 @@ use Rattle.std.specs.List.{filter, list_any}
 use Rattle.std.specs.declared.cmp.Ordering.{Ordering}
 use Rattle.std.specs.declared.cmp.Ordering.TheVariants.{Less, Equal, Greater}
 use Rattle.mv_values.specs.declared.value.Value.{Value}
+use Rattle.mv_values.specs.declared.pred.Test.{Test}
 use Rattle.mv_values.specs.declared.rows.Keyed.{Keyed}
 use Rattle.mv_values.specs.declared.schema.Column.{Column}
 use Rattle.mv_values.specs.declared.calls.End.{End}
@@ -13,7 +14,6 @@ use Rattle.mv_values.specs.Columns.{columns_of}
 use Rattle.mv_values.specs.Tables.{rows_at}
 use Rattle.mv_catalog.specs.declared.resolved.RExpr.{RExpr}
 use Rattle.mv_catalog.specs.declared.resolved.RSetItem.{RSetItem}
-use Rattle.mv_alone.specs.declared.state.Check.{Check}
 use Rattle.mv_alone.specs.declared.state.Env.{Env}
 use Rattle.mv_alone.specs.Outcome.{then_do}
 use Rattle.mv_alone.specs.Value.{value_of}
@@ -30,15 +30,15 @@ set_row columns keys env was (i ∷ is) row =
     then_do (value_of i.right env was) (λ v. then_do (fit columns i.column v) (λ w. set_row columns keys env was is (with_column keys i.column w row)))
 
 -- the rows after each matching one is made anew, in key order up to the first fault
-abbrev pub updated : (List Value → Result (List Value) End) → List Check → List Keyed → Result (List Keyed) End
-updated new checks [] = Ok []
-updated new checks (item ∷ items) =
-    if meets checks item.row then then_do (new item.row) (λ row. then_do (updated new checks items) (λ rest. Ok (record item { row = row } ∷ rest)))
-    else then_do (updated new checks items) (λ rest. Ok (item ∷ rest))
+abbrev pub updated : (List Value → Result (List Value) End) → List Test → List Keyed → Result (List Keyed) End
+updated new tests [] = Ok []
+updated new tests (item ∷ items) =
+    if meets tests item.row then then_do (new item.row) (λ row. then_do (updated new tests items) (λ rest. Ok (record item { row = row } ∷ rest)))
+    else then_do (updated new tests items) (λ rest. Ok (item ∷ rest))
 
 -- the rows that don't match
-abbrev pub without : List Check → List Keyed → List Keyed
-without checks rows = filter (λ item. not (meets checks item.row)) rows
+abbrev pub without : List Test → List Keyed → List Keyed
+without tests rows = filter (λ item. not (meets tests item.row)) rows
 
 -- the values of a new row, evaluated and fitted column by column
 abbrev pub new_row : List Column → List RExpr → Env → Result (List Value) End

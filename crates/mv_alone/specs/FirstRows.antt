@@ -19,7 +19,6 @@ use Rattle.mv_table.specs.Spans.{Admits, are_fixed_before}
 use Rattle.mv_catalog.specs.declared.resolved.RAgg.{RAgg}
 use Rattle.mv_catalog.specs.declared.resolved.RAgg.TheVariants.{Min, Max}
 use Rattle.mv_catalog.specs.declared.resolved.RSort.{RSort}
-use Rattle.mv_alone.specs.declared.state.Check.{Check}
 use Rattle.mv_alone.specs.Outcome.{then_do}
 use Rattle.mv_alone.specs.Own.{StandUnder}
 use Rattle.mv_alone.specs.Rows.{meets, aggregate, is_some_row, item_at, ordered}
@@ -29,8 +28,8 @@ abbrev pub total_found : RAgg → List Keyed → Result (Option Value × Bool) E
 total_found agg rows = then_do (aggregate agg rows) (λ v. Ok (v, is_some_row rows))
 
 -- the tests admit the key of each row that matches
-abbrev pub AdmitMatches : List Test → List Check → List Keyed → Type 0
-AdmitMatches tests checks rows = All (λ item. meets checks item.row ≡ true → Admits tests item.key) rows
+abbrev pub AdmitMatches : List Test → List Keyed → Type 0
+AdmitMatches tests rows = All (λ item. meets tests item.row ≡ true → Admits tests item.key) rows
 
 -- rows in key order, each under its own key, which the tests admit
 pub record AreAdmitted (keys : List ℕ) (tests : List Test) (rows : List Keyed) : Type 0 where

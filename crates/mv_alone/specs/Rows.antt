@@ -1,46 +1,51 @@
 -- The rows of a table: which ones match, their order, and their aggregates. This project's own.
-use Rattle.std.specs.Prelude.{ℕ, ℤ, pos, negsuc, ◌+ℤ◌, Bool, true, false, ◌&&◌, List, [], ◌∷◌, Option, Some, None, Result, Ok, Err, map, length, slice_get, if◌then◌else◌, nat_le}
-use Rattle.std.specs.List.{filter}
+use Rattle.std.specs.Prelude.{◌≡◌, ◌==◌, ℕ, ℤ, pos, negsuc, ◌+ℤ◌, Bool, true, false, List, [], ◌∷◌, Option, Some, None, Result, Ok, Err, map, length, slice_get, if◌then◌else◌, nat_le}
+use Rattle.std.specs.List.{filter, list_all, position}
 use Rattle.std.specs.Ordering.{is_gt, is_le, ordering_reverse}
 use Rattle.std.specs.declared.cmp.Ordering.{Ordering}
 use Rattle.std.specs.declared.cmp.Ordering.TheVariants.{Less, Equal, Greater}
 use Rattle.mv_values.specs.declared.value.Value.{Value}
 use Rattle.mv_values.specs.declared.value.Value.TheVariants.{Int, Text}
+use Rattle.mv_values.specs.declared.op.Op.{Op}
+use Rattle.mv_values.specs.declared.pred.Test.{Test}
 use Rattle.mv_values.specs.declared.rows.Keyed.{Keyed}
 use Rattle.mv_values.specs.declared.schema.ColType.{ColType}
 use Rattle.mv_values.specs.declared.schema.ColType.TheVariants as kind
 use Rattle.mv_values.specs.declared.schema.Column.{Column}
 use Rattle.mv_values.specs.declared.calls.End.{End}
 use Rattle.mv_values.specs.declared.calls.End.TheVariants.{TooLong}
-use Rattle.mv_values.specs.Comparing.{op_holds}
+use Rattle.mv_values.specs.Preds.{passes}
 use Rattle.mv_values.specs.Order.{value_order, key_order}
 use Rattle.mv_values.specs.Columns.{column_of, columns_of, number}
 use Rattle.mv_catalog.specs.declared.resolved.RCond.{RCond}
 use Rattle.mv_catalog.specs.declared.resolved.RSort.{RSort}
 use Rattle.mv_catalog.specs.declared.resolved.RAgg.{RAgg}
 use Rattle.mv_catalog.specs.declared.resolved.RAgg.TheVariants.{CountAll, CountDistinct, Sum, Min, Max}
-use Rattle.mv_alone.specs.declared.state.Check.{Check}
 use Rattle.mv_alone.specs.declared.state.Env.{Env}
 use Rattle.mv_alone.specs.Outcome.{then_do}
 use Rattle.mv_alone.specs.Value.{value_of, fitted}
 
--- the tests of WHERE with their right sides evaluated in order, before any row is read
-abbrev pub checks_of : List RCond → Env → Result (List Check) End
-checks_of [] env = Ok []
-checks_of (c ∷ cs) env = then_do (value_of c.right env []) (λ v. then_do (checks_of cs env) (λ checks. Ok (record { column = c.column; op = c.op; value = v } ∷ checks)))
+-- a test of a column of a table with these key columns
+abbrev pub test_on : List ℕ → ℕ → Op → Value → Test
+test_on keys c op v = record { column = c; key_place = position (λ k. k == c) keys; op = op; value = v }
 
--- the row passes the test
-abbrev pub passes : List Value → Check → Bool
-passes row check = op_holds check.op (value_order (column_of row check.column) check.value)
+-- the tests of WHERE over a table with these key columns, with their right sides evaluated in order, before any row is
+-- read
+abbrev pub tests_of : List ℕ → List RCond → Env → Result (List Test) End
+tests_of keys [] env = Ok []
+tests_of keys (c ∷ cs) env = then_do (value_of c.right env []) (λ v. then_do (tests_of keys cs env) (λ tests. Ok (test_on keys c.column c.op v ∷ tests)))
+
+-- the test has the place of its column in the key
+abbrev pub IsPlaced : List ℕ → Test → Type 0
+IsPlaced keys test = test.key_place ≡ position (λ k. k == test.column) keys
 
 -- the row passes every test
-abbrev pub meets : List Check → List Value → Bool
-meets [] row = true
-meets (check ∷ checks) row = passes row check && meets checks row
+abbrev pub meets : List Test → List Value → Bool
+meets tests row = list_all (passes row) tests
 
 -- the rows that match, in key order
-abbrev pub matching : List Check → List Keyed → List Keyed
-matching checks rows = filter (λ item. meets checks item.row) rows
+abbrev pub matching : List Test → List Keyed → List Keyed
+matching tests rows = filter (λ item. meets tests item.row) rows
 
 abbrev pub is_some_row : List Keyed → Bool
 is_some_row [] = false

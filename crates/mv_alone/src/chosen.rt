@@ -1,16 +1,15 @@
 //! Chooses the row at an index in ORDER BY order. The first one may be the first or the last in key order.
 
-ghost use Rattle.std.specs.Prelude.{◌≡◌, ◌∷◌, [], IfOk, IfSome};
+ghost use Rattle.std.specs.Prelude.{◌≡◌, ◌∷◌, [], All, IfOk, IfSome};
 ghost use Rattle.std.specs.Option.{option_map};
-ghost use Rattle.mv_values.specs.Tables.{rows_at, KeysStand};
+ghost use Rattle.mv_values.specs.Tables.{rows_at, key_columns, KeysStand};
 ghost use Rattle.mv_table.specs.Entries.{seen};
-ghost use Rattle.mv_alone.specs.Rows.{item_at, matching, ordered};
+ghost use Rattle.mv_alone.specs.Rows.{IsPlaced, item_at, matching, ordered};
 ghost use Rattle.mv_alone.specs.FirstRows.{Leads, AdmitMatches, leading_by, leading};
 
-use crate::find::{key_in, key_tests, matches_by};
+use crate::find::{key_in, matches_in};
 use crate::foremost::{foremost_in, never_falls, rises};
 use crate::order::chosen_row;
-use crate::state::Check;
 use mv_catalog::resolved::RSort;
 use mv_table::scan::Direction;
 use mv_table::table::{Entry, Tables};
@@ -53,14 +52,13 @@ fn chosen_of_all<'a>(
     tables: &'a Tables,
     table: u16,
     tests: &[Test],
-    checks: &[Check],
     sorts: &[RSort],
     at: i64,
 ) -> Result<Option<Entry<'a>>, NoMemory>
-    requires { AdmitMatches tests.now checks.now (rows_at tables.now table) }
-    ensures { IfOk result (λ row. option_map seen row ≡ item_at (ordered sorts.now (matching checks.now (rows_at tables.now table))) at) }
+    requires { AdmitMatches tests.now (rows_at tables.now table) }
+    ensures { IfOk result (λ row. option_map seen row ≡ item_at (ordered sorts.now (matching tests.now (rows_at tables.now table))) at) }
 {
-    let found = matches_by(alloc, tables, table, tests, checks)?;
+    let found = matches_in(alloc, tables, table, tests)?;
     Ok(chosen_row(alloc, sorts, found.as_slice(), at)?.copied())
 }
 
@@ -73,20 +71,19 @@ pub fn chosen_in<'a>(
     infos: &[TableInfo],
     tables: &'a Tables,
     table: u16,
-    checks: &[Check],
+    tests: &[Test],
     sorts: &[RSort],
     at: i64,
 ) -> Result<Option<Entry<'a>>, NoMemory>
-    requires { KeysStand infos.now tables.now }
-    ensures { IfOk result (λ row. option_map seen row ≡ item_at (ordered sorts.now (matching checks.now (rows_at tables.now table))) at) }
+    requires keys { KeysStand infos.now tables.now }
+    requires places { All (IsPlaced (key_columns infos.now table)) tests.now }
+    ensures { IfOk result (λ row. option_map seen row ≡ item_at (ordered sorts.now (matching tests.now (rows_at tables.now table))) at) }
 {
     let keys = key_in(infos, table);
-    let list = key_tests(alloc, keys, checks)?;
-    let tests = list.as_slice();
     if at == 0 {
         if let Some(direction) = leading(sorts, keys, tests) {
-            return foremost_in(alloc, tables, table, tests, checks, direction);
+            return foremost_in(alloc, tables, table, tests, direction);
         }
     }
-    chosen_of_all(alloc, tables, table, tests, checks, sorts, at)
+    chosen_of_all(alloc, tables, table, tests, sorts, at)
 }

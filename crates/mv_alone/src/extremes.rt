@@ -1,15 +1,15 @@
 //! Evaluates aggregates over the rows of a table that match. MIN or MAX of a key column needs only one of them.
 
-ghost use Rattle.std.specs.Prelude.{◌≡◌, IfSome};
+ghost use Rattle.std.specs.Prelude.{◌≡◌, All, IfSome};
 ghost use Rattle.std.specs.Bool.{then_some};
-ghost use Rattle.mv_values.specs.Tables.{rows_at, KeysStand};
+ghost use Rattle.mv_values.specs.Tables.{rows_at, key_columns, KeysStand};
 ghost use Rattle.mv_alone.specs.Outcome.{Gives};
-ghost use Rattle.mv_alone.specs.Rows.{matching};
+ghost use Rattle.mv_alone.specs.Rows.{IsPlaced, matching};
 ghost use Rattle.mv_alone.specs.FirstRows.{NeverFalls, Tells, AdmitMatches, does_order, telling, total_found};
 
-use crate::find::{key_in, key_tests, matches_by};
+use crate::find::{key_in, matches_in};
 use crate::foremost::{foremost_in, never_falls};
-use crate::state::{Check, Stop};
+use crate::state::Stop;
 use crate::totals::{aggregate_of, value_in};
 use mv_catalog::resolved::RAgg;
 use mv_table::scan::Direction;
@@ -54,12 +54,11 @@ fn total_of_all(
     agg: RAgg,
     table: u16,
     tests: &[Test],
-    checks: &[Check],
 ) -> Result<(Option<Value>, bool), Stop>
-    requires { AdmitMatches tests.now checks.now (rows_at tables.now table) }
-    ensures { Gives result (total_found agg (matching checks.now (rows_at tables.now table))) }
+    requires { AdmitMatches tests.now (rows_at tables.now table) }
+    ensures { Gives result (total_found agg (matching tests.now (rows_at tables.now table))) }
 {
-    let found = matches_by(alloc, tables, table, tests, checks)?;
+    let found = matches_in(alloc, tables, table, tests)?;
     let rows = found.as_slice();
     let value = aggregate_of(alloc, agg, rows)?;
     Ok((value, !rows.is_empty()))
@@ -74,18 +73,17 @@ pub fn total_of(
     tables: &Tables,
     agg: RAgg,
     table: u16,
-    checks: &[Check],
+    tests: &[Test],
 ) -> Result<(Option<Value>, bool), Stop>
-    requires { KeysStand infos.now tables.now }
-    ensures { Gives result (total_found agg (matching checks.now (rows_at tables.now table))) }
+    requires keys { KeysStand infos.now tables.now }
+    requires places { All (IsPlaced (key_columns infos.now table)) tests.now }
+    ensures { Gives result (total_found agg (matching tests.now (rows_at tables.now table))) }
 {
     let keys = key_in(infos, table);
-    let list = key_tests(alloc, keys, checks)?;
-    let tests = list.as_slice();
     let Some((column, direction)) = telling(agg, keys, tests) else {
-        return total_of_all(alloc, tables, agg, table, tests, checks);
+        return total_of_all(alloc, tables, agg, table, tests);
     };
-    let row = foremost_in(alloc, tables, table, tests, checks, direction)?;
+    let row = foremost_in(alloc, tables, table, tests, direction)?;
     let value = value_in(alloc, column, row.as_ref())?;
     Ok((value, row.is_some()))
 }

@@ -10,7 +10,6 @@ ghost use Rattle.mv_alone.specs.Rows.{matching};
 ghost use Rattle.mv_alone.specs.FirstRows.{NeverFalls, Rises, AdmitMatches, does_order, does_rank};
 
 use crate::find::{is_match, place_in_key};
-use crate::state::Check;
 use mv_table::scan::Direction;
 use mv_table::span::{Span, is_fixed_before};
 use mv_table::table::{Entry, Table, Tables};
@@ -47,14 +46,14 @@ pub(crate) fn rises(keys: &[u8], tests: &[Test], column: u16) -> bool
 /// Borrows the first of these rows in this direction that matches.
 fn foremost_match<'a>(
     rows: Range<'a, Key, Row>,
-    checks: &[Check],
+    tests: &[Test],
     direction: Direction,
 ) -> Option<Entry<'a>>
-    ensures { option_map seen result ≡ foremost direction (matching checks.now (stored rows.entry)) }
+    ensures { option_map seen result ≡ foremost direction (matching tests.now (stored rows.entry)) }
 {
     let mut left = rows;
     while let Some((key, row)) = direction.take_next(&mut left) {
-        if is_match(checks, row.as_slice()) {
+        if is_match(tests, row.as_slice()) {
             return Some(Entry { key, row });
         }
     }
@@ -67,15 +66,14 @@ fn foremost_of<'a>(
     alloc: Global,
     table: &'a Table,
     tests: &[Test],
-    checks: &[Check],
     direction: Direction,
 ) -> Result<Option<Entry<'a>>, NoMemory>
-    requires { AdmitMatches tests.now checks.now table.now }
-    ensures row { IfOk result (λ row. option_map seen row ≡ foremost direction (matching checks.now table.now)) }
+    requires { AdmitMatches tests.now table.now }
+    ensures row { IfOk result (λ row. option_map seen row ≡ foremost direction (matching tests.now table.now)) }
     ensures rising { IfOk result (λ row. IsRising table.now) }
 {
     let span = Span::of(alloc, tests)?;
-    Ok(foremost_match(table.range(&span), checks, direction))
+    Ok(foremost_match(table.range(&span), tests, direction))
 }
 
 /// Does the same by the number of the table. Borrows none if there is no such table.
@@ -84,15 +82,14 @@ pub(crate) fn foremost_in<'a>(
     tables: &'a Tables,
     table: u16,
     tests: &[Test],
-    checks: &[Check],
     direction: Direction,
 ) -> Result<Option<Entry<'a>>, NoMemory>
-    requires { AdmitMatches tests.now checks.now (rows_at tables.now table) }
-    ensures row { IfOk result (λ row. option_map seen row ≡ foremost direction (matching checks.now (rows_at tables.now table))) }
+    requires { AdmitMatches tests.now (rows_at tables.now table) }
+    ensures row { IfOk result (λ row. option_map seen row ≡ foremost direction (matching tests.now (rows_at tables.now table))) }
     ensures rising { IfOk result (λ row. IsRising (rows_at tables.now table)) }
 {
     match tables.as_slice().get(table as usize) {
-        Some(rows) => foremost_of(alloc, rows, tests, checks, direction),
+        Some(rows) => foremost_of(alloc, rows, tests, direction),
         None => Ok(None),
     }
 }

@@ -4,7 +4,6 @@ use mv_table::table::Tables;
 use mv_values::calls::End;
 use mv_values::list::List;
 use mv_values::memory::NoMemory;
-use mv_values::op::Op;
 use mv_values::txt::Txt;
 use mv_values::value::{Row, Value};
 
@@ -29,14 +28,6 @@ pub struct State {
     pub env: Env,
     pub tables: Tables,
     pub lines: List<Txt>,
-}
-
-/// A test of WHERE with its right side evaluated.
-#[derive(Drop)]
-pub struct Check {
-    pub column: u16,
-    pub op: Op,
-    pub value: Value,
 }
 
 /// Why statements stopped: memory ran out, or the call was rolled back.

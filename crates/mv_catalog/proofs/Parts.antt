@@ -1,6 +1,7 @@
 -- The clauses of statements without faults.
 use Rattle.std.proofs.Common.{◌≡◌, ℕ, ◌≤◌, false, List, [], ◌∷◌, ◌++◌, Option, Some, None, refl, ap, subst, ◌∙◌, map, length, slice_get, arith, All}
 use Rattle.std.specs.List.{flat_map, AllZip}
+use Rattle.std.proofs.lemmas.List.{length-map}
 use Rattle.std.proofs.lemmas.List.Elements.{All-nil, All-cons}
 use Rattle.std.proofs.lemmas.Option.{slice_get_within}
 use Rattle.mv_ast.specs.declared.tree.Name.{Name}
@@ -21,10 +22,10 @@ use Rattle.mv_names.specs.Scope.{entry_of, type_in, type_among, types_of}
 use Rattle.mv_names.specs.Typing.{clash, misfit, placed, judged, column_faults}
 use Rattle.mv_names.specs.Statements as names
 use Rattle.mv_catalog.specs.declared.slot.Slot.{Slot}
-use Rattle.mv_catalog.specs.Building.{slot_named, number_in, number_of, numbers_of, plain, plains, maybe_plain, conds_of, sorts_of, agg_of, column_number}
+use Rattle.mv_catalog.specs.Building.{slot_named, number_in, number_of, numbers_of, plain, plains, maybe_plain, cond_of, conds_of, sorts_of, agg_of, column_number}
 use Rattle.mv_catalog.specs.Types.{Kind, int, text, Var, declared, Vars, kind_of_column}
 use Rattle.mv_catalog.specs.Statements.{Gives, Takes, IsTest, IsSort, IsOffset, IsTotal}
-use Rattle.mv_catalog.proofs.Lists.{nothing_left, nothing_right, not_when, all_mapped}
+use Rattle.mv_catalog.proofs.Lists.{nothing_left, nothing_right, not_when, all_mapped, tiny_is}
 use Rattle.mv_catalog.proofs.Scopes.{known, Means, Same, Matches, kinds_in, column_typed, type_known}
 use Rattle.mv_catalog.proofs.Exprs.{expr_claim, in_its_place}
 
@@ -50,17 +51,19 @@ gives scope slots vars m k place e is h =
 
 -- tests, orders and offsets
 test_of : (scope : List Entry) (slots : List Slot) (vars : Vars) (columns : List ColDef) → Matches scope slots vars → length columns ≤ 32 → (c : Cond)
-    → names.cond_faults scope (Some columns) c ≡ [] → IsTest vars (kinds_in columns) (record { column = column_number columns c.column; op = c.op; right = plain slots c.right })
+    → names.cond_faults scope (Some columns) c ≡ [] → IsTest vars (kinds_in columns) (cond_of slots columns c)
 test_of scope slots vars columns m few c h =
     let place = type_among (Some columns) c.column.text in
     let own = column_faults (Some columns) c.column in
     let t = column_typed columns c.column few (nothing_left own (placed place scope c.right) h) in
-    (t.0, t.2, gives scope slots vars m t.0 place c.right t.1 (nothing_right own (placed place scope c.right) h))
+    let within = slice_get_within (kinds_in columns) (column_number columns c.column) t.0 t.2 in
+    let short : length (kinds_in columns) ≡ length columns = length-map columns (λ (d : ColDef). kind_of_column d.kind) in
+    (t.0, rw (tiny_is (column_number columns c.column) (omega (arith, within, short, few))) t.2, gives scope slots vars m t.0 place c.right t.1 (nothing_right own (placed place scope c.right) h))
 
 pub tests_of : (scope : List Entry) (slots : List Slot) (vars : Vars) (columns : List ColDef) → Matches scope slots vars → length columns ≤ 32 → (cs : List Cond)
     → names.where_faults scope (Some columns) cs ≡ [] → All (IsTest vars (kinds_in columns)) (conds_of slots columns cs)
 tests_of scope slots vars columns m few cs h =
-    all_mapped (names.cond_faults scope (Some columns)) (λ (c : Cond). record { column = column_number columns c.column; op = c.op; right = plain slots c.right })
+    all_mapped (names.cond_faults scope (Some columns)) (cond_of slots columns)
     (IsTest vars (kinds_in columns)) (test_of scope slots vars columns m few) cs h
 
 sort_of : (columns : List ColDef) → length columns ≤ 32 → (s : Sort) → column_faults (Some columns) s.column ≡ []

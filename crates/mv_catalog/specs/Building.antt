@@ -164,8 +164,11 @@ maybe_plain slots (Some e) = Some (plain slots e)
 
 -- Clauses
 
+abbrev pub cond_of : List Slot → List ColDef → Cond → RCond
+cond_of slots columns c = record { column = tiny (column_number columns c.column); op = c.op; right = plain slots c.right }
+
 abbrev pub conds_of : List Slot → List ColDef → List Cond → List RCond
-conds_of slots columns cs = map (λ (c : Cond). record { column = column_number columns c.column; op = c.op; right = plain slots c.right }) cs
+conds_of slots columns cs = map (cond_of slots columns) cs
 
 abbrev pub sorts_of : List ColDef → List Sort → List RSort
 sorts_of columns ss = map (λ (s : Sort). record { column = column_number columns s.column; descending = s.descending }) ss

@@ -4,7 +4,7 @@ ghost use Rattle.std.specs.Prelude.{◌≡◌, IfOk};
 ghost use Rattle.std.specs.Option.{option_copied};
 ghost use Rattle.mv_catalog.specs.Building.{columns_in, expr_of, plain, plains, maybe_plain, conds_of, sorts_of, agg_of, items_of};
 
-use crate::build_names::{column, field, number_in, variable};
+use crate::build_names::{column, field, number_in, tiny_number, variable};
 use crate::resolved::{RAgg, RCond, RExpr, RExprKind, RSetItem, RSort};
 use crate::slot::Slot;
 use mv_ast::tree::{Agg, Cond, Expr, ExprKind, SetItem, Sort};
@@ -103,7 +103,7 @@ pub(crate) fn conds(
     for cond in conds {
         let right = plain_expr(alloc, slots, &cond.right)?;
         all.push(RCond {
-            column: column(table, &cond.column),
+            column: tiny_number(column(table, &cond.column) as usize),
             op: cond.op,
             right,
         })?;

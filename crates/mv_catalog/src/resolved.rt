@@ -59,7 +59,7 @@ pub struct Program {
 /// A condition of WHERE.
 #[derive(Drop)]
 pub struct RCond {
-    pub column: u16,
+    pub column: u8,
     pub op: Op,
     pub right: RExpr,
 }

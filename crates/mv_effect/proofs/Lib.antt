@@ -1,6 +1,5 @@
 pub mod Once
 pub mod Variables
-pub mod Checks
 pub mod Asked
 pub mod Unwritten
 pub mod Few

@@ -1,7 +1,7 @@
 //! Numbers of tables and columns in one byte.
 
-ghost use Rattle.std.specs.Prelude.{◌≡◌, ◌<◌, ◌≤◌, ◌==◌, IfOk, IfSome, All, take, length};
-ghost use Rattle.std.specs.List.{list_any, position};
+ghost use Rattle.std.specs.Prelude.{◌≡◌, ◌<◌, ◌==◌, IfOk, All, take};
+ghost use Rattle.std.specs.List.{list_any};
 ghost use Rattle.mv_recorded.specs.Reading.{each_once};
 
 use mv_values::list::List;
@@ -37,23 +37,4 @@ pub(crate) fn columns_once(alloc: Global, columns: &[u16]) -> Result<List<u8>, N
         once.push(narrow(*column))?;
     }
     Ok(once)
-}
-
-/// Returns the place of a column in the key.
-fn place_in(keys: &[u8], column: u16) -> Option<usize>
-    ensures place { result ≡ position (λ k. k == column) keys.now }
-    ensures within { IfSome result (λ place. place < length keys.now) }
-{
-    keys.iter().position(|k| *k as u16 == column)
-}
-
-/// Returns the place of a column in the key, from 0, if it is a key column.
-pub(crate) fn key_place(keys: &[u8], column: u16) -> Option<u8>
-    requires { length keys.now ≤ 256 }
-    ensures { result ≡ position (λ k. k == column) keys.now }
-{
-    match place_in(keys, column) {
-        Some(place) => Some(place as u8),
-        None => None,
-    }
 }

@@ -1,20 +1,17 @@
 //! The predicates that statements ask their tables.
 
-ghost use Rattle.std.specs.Prelude.{◌≡◌, ◌<◌, ◌≤◌, ◌++◌, IfOk, OnOk, All, map, length, Ok, [], ◌∷◌};
+ghost use Rattle.std.specs.Prelude.{◌≡◌, ◌<◌, ◌≤◌, ◌++◌, IfOk, OnOk, All, length, []};
 ghost use Rattle.std.specs.List.{flat_map};
-ghost use Rattle.mv_catalog.specs.declared.resolved.RCond.{RCond};
-ghost use Rattle.mv_alone.specs.Outcome.{Gives, then_do};
-ghost use Rattle.mv_alone.specs.Rows.{checks_of};
-ghost use Rattle.mv_recorded.specs.Asking.{test_of, pred_of, same_key, columns_in, column_in, with_sorts, KnowsKey};
+ghost use Rattle.mv_alone.specs.Outcome.{Gives};
+ghost use Rattle.mv_recorded.specs.Asking.{pred_of, same_key, columns_in, column_in, with_sorts, KnowsKey};
 ghost use Rattle.mv_values.specs.Tables.{key_columns};
 ghost use Rattle.mv_catalog.specs.Text.{IsTable};
 ghost use Rattle.mv_recorded.specs.Effects.{asks};
 ghost use Rattle.mv_effect.specs.Naming.{Tests, AreColumns};
 
-use crate::numbers::{columns_once, key_place, narrow};
+use crate::numbers::{columns_once, narrow};
 use mv_alone::env::column_value;
-use mv_alone::expr::value;
-use mv_alone::find::key_in;
+use mv_alone::find::{key_in, test_on, tests_from};
 use mv_alone::state::{Env, Stop};
 use mv_catalog::resolved::{Query, RAgg, RCond, RExpr, RExprKind, RSetItem, RSort, Update};
 use mv_values::list::List;
@@ -24,25 +21,6 @@ use mv_values::pred::{Pred, Test};
 use mv_values::schema::TableInfo;
 use mv_values::value::Value;
 use std::alloc::Global;
-
-/// Returns the tests of WHERE with their right sides evaluated. Fails with the first right side that is stopped.
-fn tests_from(alloc: Global, keys: &[u8], conds: &[RCond], env: &Env) -> Result<List<Test>, Stop>
-    requires key { length keys.now ≤ 256 }
-    requires columns { All (λ (c : RCond). c.column < 256) conds.now }
-    ensures { Gives result (then_do (checks_of conds.now env.now) (λ checks. Ok (map (test_of keys.now) checks))) }
-{
-    let mut tests = List::with_room(alloc, conds.len())?;
-    for cond in conds {
-        let value = value(alloc, &cond.right, env, &[])?;
-        tests.push(Test {
-            column: narrow(cond.column),
-            key_place: key_place(keys, cond.column),
-            op: cond.op,
-            value,
-        })?;
-    }
-    Ok(tests)
-}
 
 /// Returns the predicate for the rows of a table that pass WHERE, with these columns selected. Fails with the first
 /// right side of WHERE that is stopped.
@@ -61,7 +39,7 @@ pub(crate) fn pred_from(
     ensures asks { Gives result (asks tables.now table conds.now columns.now env.now) }
     ensures knows { IfOk result (KnowsKey tables.now) }
 {
-    let tests = tests_from(alloc, key_in(tables, table), conds, env)?;
+    let tests = tests_from(alloc, tables, table, conds, env)?;
     let columns = columns_once(alloc, columns)?;
     Ok(Pred {
         table: narrow(table),
@@ -198,16 +176,12 @@ pub(crate) fn update_pred(
 /// Returns the tests that each key column equals that of the row.
 fn key_tests(alloc: Global, keys: &[u8], row: &[Value]) -> Result<List<Test>, NoMemory>
     requires { length keys.now ≤ 256 }
-    ensures { IfOk result (λ tests. tests ≡ map (test_of keys.now) (same_key keys.now row.now)) }
+    ensures { IfOk result (λ tests. tests ≡ same_key keys.now row.now) }
 {
     let mut tests = List::with_room(alloc, keys.len())?;
     for column in keys {
-        tests.push(Test {
-            column: *column,
-            key_place: key_place(keys, *column as u16),
-            op: Op::Eq,
-            value: column_value(alloc, row, *column as u16)?,
-        })?;
+        let value = column_value(alloc, row, *column as u16)?;
+        tests.push(test_on(keys, *column, Op::Eq, value))?;
     }
     Ok(tests)
 }
@@ -222,7 +196,7 @@ pub(crate) fn key_pred(
     requires few { length tables.now ≤ 64 }
     requires each { All IsTable tables.now }
     requires table { table < length tables.now }
-    ensures asks { IfOk result (λ pred. pred ≡ pred_of tables.now table (same_key (key_columns tables.now table) row.now) []) }
+    ensures asks { IfOk result (λ pred. pred ≡ pred_of table (same_key (key_columns tables.now table) row.now) []) }
     ensures knows { IfOk result (KnowsKey tables.now) }
 {
     let tests = key_tests(alloc, key_in(tables, table), row)?;

@@ -93,10 +93,10 @@ state_more rs r was env db =
 first_is : (tables : List TableInfo) (params : ℕ) (y : RStmt-F RStmt) (s : RStmt) (site : Site) (n : ℕ) (ss : List RStmt) (js : List Job) (before : List Record) (st : State)
     → roll-RStmt y ≡ s
     → left tables params (run site n (s ∷ ss) ∷ js) before st
-    ≡ own_record tables params y n site before st ∷ on (itself tables y st) (left tables params (inside (length before) y n site st ++ run site (n + size s) ss ∷ js) (before ++ own_record tables params y n site before st ∷ []))
+    ≡ own_record tables params y n site before st ∷ on (itself tables y st) (left tables params (inside tables (length before) y n site st ++ run site (n + size s) ss ∷ js) (before ++ own_record tables params y n site before st ∷ []))
 first_is tables params y s site n ss js before st e =
     subst (λ s. left tables params (run site n (s ∷ ss) ∷ js) before st
-    ≡ own_record tables params y n site before st ∷ on (itself tables y st) (left tables params (inside (length before) y n site st ++ run site (n + size s) ss ∷ js) (before ++ own_record tables params y n site before st ∷ []))) e
+    ≡ own_record tables params y n site before st ∷ on (itself tables y st) (left tables params (inside tables (length before) y n site st ++ run site (n + size s) ss ∷ js) (before ++ own_record tables params y n site before st ∷ []))) e
     (statement_first tables params y site n ss js before st)
 
 some_is : {A : Type 0} (a b : A) (o : Option A) → o ≡ Some a → o ≡ Some b → a ≡ b
@@ -114,7 +114,7 @@ pub left_next : (proc : ProcInfo) (tables : List TableInfo) (task : Task) (db : 
     let own : Record = own_record tables task.parameters (out-RStmt s) p.number (site_in p.holder site) task.records st in
     left_of proc tables task db
     ≡ own ∷ on (itself tables (out-RStmt s) st) (left tables task.parameters
-    (inside (length task.records) (out-RStmt s) p.number (site_in p.holder site) st ++ run (site_in p.holder site) (p.number + size s) (drop (p.at + 1) (block_of proc (holder_of proc None outer) p))
+    (inside tables (length task.records) (out-RStmt s) p.number (site_in p.holder site) st ++ run (site_in p.holder site) (p.number + size s) (drop (p.at + 1) (block_of proc (holder_of proc None outer) p))
     ∷ (turns_of task.records site (block_of proc (holder_of proc None outer) p) p.first p.holder ++ jobs_left proc task.records outer)) (task.records ++ own ∷ []))
 left_next proc tables task db outer p s at =
     let block : List RStmt = block_of proc (holder_of proc None outer) p in
@@ -175,7 +175,7 @@ own_goes : (proc : ProcInfo) (tables : List TableInfo) (task : Task) (db : Table
     let own : Record = own_record tables task.parameters (out-RStmt s) p.number site task.records st in
     itself tables (out-RStmt s) st ≡ Ok next → next ≡ behind own st
     → on (itself tables (out-RStmt s) st) (left tables task.parameters
-    (inside (length task.records) (out-RStmt s) p.number site st ++ run site (p.number + size s) (drop (p.at + 1) (block_of proc (holder_of proc None outer) p))
+    (inside tables (length task.records) (out-RStmt s) p.number site st ++ run site (p.number + size s) (drop (p.at + 1) (block_of proc (holder_of proc None outer) p))
     ∷ (turns_of task.records (site_of outside outer) (block_of proc (holder_of proc None outer) p) p.first p.holder ++ jobs_left proc task.records outer)) (task.records ++ own ∷ [])) ≡ tail
     → Goes proc tables task db own tail outer p s b
 own_goes proc tables task db tail outer p s b next t at chosen ok is tails =
@@ -196,8 +196,8 @@ own_goes proc tables task db tail outer p s b next t at chosen ok is tails =
     ∙ (ap (left tables params (inner ++ (some_run site (p.number + size s) rest ++ more)) rs) (sym (state_more task.records own task.variables.env (after_empty_loop y own.rows (with_slots own.sets task.variables.env)) db))
     ∙ (sym (same_all_behind tables params inner (run site (p.number + size s) rest ∷ more) (some_run site (p.number + size s) rest ++ more) (same_run tables params site (p.number + size s) rest more) rs walk)
     ∙ (sym (inside_left tables params y number p.number site b (run site (p.number + size s) rest ∷ more) rs st next to ok chosen)
-    ∙ (ap (left tables params (inside number y p.number site st ++ run site (p.number + size s) rest ∷ more) rs) (sym is)
-    ∙ (sym (ap (λ out. on out (left tables params (inside number y p.number site st ++ run site (p.number + size s) rest ∷ more) rs)) ok) ∙ tails)))))
+    ∙ (ap (left tables params (inside tables number y p.number site st ++ run site (p.number + size s) rest ∷ more) rs) (sym is)
+    ∙ (sym (ap (λ out. on out (left tables params (inside tables number y p.number site st ++ run site (p.number + size s) rest ∷ more) rs)) ok) ∙ tails)))))
 
 -- a record that is the next one leads to where the rest is left
 pub goes_on : (proc : ProcInfo) (tables : List TableInfo) (task : Task) (db : Tables) (r : Record) (tail : List Record) (outer : List Place) (p : Place) (s : RStmt) (b : Bool)
@@ -219,7 +219,7 @@ goes_on proc tables task db r tail outer p s b t at chosen has rise leaves ends 
 
     more : List Record
     more = on (itself tables y st) (left tables task.parameters
-        (inside (length task.records) y p.number site st ++ run site (p.number + size s) (drop (p.at + 1) (block_of proc (holder_of proc None outer) p))
+        (inside tables (length task.records) y p.number site st ++ run site (p.number + size s) (drop (p.at + 1) (block_of proc (holder_of proc None outer) p))
         ∷ (turns_of task.records (site_of outside outer) (block_of proc (holder_of proc None outer) p) p.first p.holder ++ jobs_left proc task.records outer)) (task.records ++ own ∷ []))
 
     both : (own ≡ r) × (more ≡ tail)
@@ -253,7 +253,7 @@ ends_all proc tables task db r tail outer p s e at leaves ends = by (itself tabl
 
     rest : State → List Record
     rest = left tables task.parameters
-        (inside (length task.records) (out-RStmt s) p.number site st ++ run site (p.number + size s) (drop (p.at + 1) (block_of proc (holder_of proc None outer) p))
+        (inside tables (length task.records) (out-RStmt s) p.number site st ++ run site (p.number + size s) (drop (p.at + 1) (block_of proc (holder_of proc None outer) p))
         ∷ (turns_of task.records (site_of outside outer) (block_of proc (holder_of proc None outer) p) p.first p.holder ++ jobs_left proc task.records outer)) (task.records ++ own ∷ [])
 
     both : (own ≡ r) × (on (itself tables (out-RStmt s) st) rest ≡ tail)

@@ -53,7 +53,7 @@ effect_next proc tables task db outer p s ahead e t at next effect =
     let site : Site = site_in p.holder (site_of outside outer) in
     let own : Record = own_record tables task.parameters (out-RStmt s) p.number site task.records st in
     let rest : List Record = on (itself tables (out-RStmt s) st) (left tables task.parameters
-    (inside (length task.records) (out-RStmt s) p.number site st ++ run site (p.number + size s) (drop (p.at + 1) (block_of proc (holder_of proc None outer) p))
+    (inside tables (length task.records) (out-RStmt s) p.number site st ++ run site (p.number + size s) (drop (p.at + 1) (block_of proc (holder_of proc None outer) p))
     ∷ (turns_of task.records (site_of outside outer) (block_of proc (holder_of proc None outer) p) p.first p.holder ++ jobs_left proc task.records outer)) (task.records ++ own ∷ [])) in
     let leaves : left_of proc tables task db ≡ own ∷ rest = left_next proc tables task db outer p s at in
     let foreseen : Foresees (Some ahead) (own ∷ rest) = subst (Foresees (Some ahead)) leaves (next tables db) in

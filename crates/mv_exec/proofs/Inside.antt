@@ -71,18 +71,18 @@ value_ok (Err e) st next h = cc
 -- what a statement holds, where it goes on
 pub inside_left : (tables : List TableInfo) (params : ℕ) (y : RStmt-F RStmt) (number n : ℕ) (site : Site) (b : Bool) (js : List Job) (before : List Record) (st next to : State)
     → itself tables y st ≡ Ok next → Chooses st.env b y
-    → left tables params (inside number y n site st ++ js) before to
-    ≡ left tables params (inner_jobs number n b site (on (fixed_rows y st) (λ rows. rows)) y ++ js) before (record to { env = after_empty_loop y (on (fixed_rows y st) (λ rows. rows)) to.env })
+    → left tables params (inside tables number y n site st ++ js) before to
+    ≡ left tables params (inner_jobs number n b site (on (fixed_rows tables y st) (λ rows. rows)) y ++ js) before (record to { env = after_empty_loop y (on (fixed_rows tables y st) (λ rows. rows)) to.env })
 inside_left tables params (Assign x e) number n site b js before st next to h c = refl
 inside_left tables params (Select cs xs t conds sorts offset) number n site b js before st next to h c = refl
 inside_left tables params (Total agg x t conds) number n site b js before st next to h c = refl
 inside_left tables params (ForSelect x once cs t conds sorts body) number n site b js before st next to h c =
-    let fixed : Result (List (List Value)) End = fixed_rows (ForSelect x once cs t conds sorts body) st in
+    let fixed : Result (List (List Value)) End = fixed_rows tables (ForSelect x once cs t conds sorts body) st in
     let rows : List (List Value) = on fixed (λ rows. rows) in
     ap (λ r. left tables params (on r (λ rows. turns (within_loop x number site) (n + 1) x body rows 1 ∷ []) ++ js) before to) (fixed_ok fixed st next h)
     ∙ all_turns tables params (within_loop x number site) (n + 1) x body rows js before to
 inside_left tables params (ForRows x y body) number n site b js before st next to h c =
-    all_turns tables params (within_loop x number site) (n + 1) x body (on (fixed_rows (ForRows x y body) st) (λ rows. rows)) js before to
+    all_turns tables params (within_loop x number site) (n + 1) x body (on (fixed_rows tables (ForRows x y body) st) (λ rows. rows)) js before to
 inside_left tables params (Branch e ys ns) number n site b js before st next to h c =
     let v : (v : Value) × (value_of e st.env [] ≡ Ok v) = value_ok (value_of e st.env []) st next h in
     ap (λ r. left tables params (on r (λ v. (if is_so v then run (within number site) (n + 1) ys else run (within number site) (n + 1 + size_of ys) ns) ∷ []) ++ js) before to) v.1

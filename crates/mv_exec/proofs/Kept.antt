@@ -41,7 +41,7 @@ keys_after proc tables task db r tail outer p s at has rise leaves keys =
     let site : Site = site_in p.holder (site_of outside outer) in
     let own : Record = own_record tables task.parameters (out-RStmt s) p.number site task.records st in
     let rest : List Record = on (itself tables (out-RStmt s) st) (left tables task.parameters
-    (inside (length task.records) (out-RStmt s) p.number site st ++ run site (p.number + size s) (drop (p.at + 1) (block_of proc (holder_of proc None outer) p))
+    (inside tables (length task.records) (out-RStmt s) p.number site st ++ run site (p.number + size s) (drop (p.at + 1) (block_of proc (holder_of proc None outer) p))
     ∷ (turns_of task.records (site_of outside outer) (block_of proc (holder_of proc None outer) p) p.first p.holder ++ jobs_left proc task.records outer)) (task.records ++ own ∷ [])) in
     let both : (own ≡ r) × (rest ≡ tail) = first_same own r rest tail (sym (left_next proc tables task db outer p s at) ∙ leaves) in
     let known : TellsEffect own st (itself tables (out-RStmt s) st) =

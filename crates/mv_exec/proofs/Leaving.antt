@@ -1,6 +1,7 @@
 -- What is left of a run from its next statement on.
 use Rattle.std.proofs.Common.{◌≡◌, ℕ, ◌+◌, Bool, true, false, List, [], ◌∷◌, ◌++◌, Result, Ok, Err, map, length, if◌then◌else◌, refl, sym, ap, subst, ◌∙◌, append-nil, append_assoc}
 use Rattle.mv_catalog.specs.Statements.{size, total_size, size_of}
+use Rattle.mv_values.specs.Tables.{key_columns}
 use Rattle.mv_values.specs.declared.value.Value.{Value}
 use Rattle.mv_values.specs.declared.schema.TableInfo.{TableInfo}
 use Rattle.mv_values.specs.declared.calls.Call.{Call}
@@ -14,7 +15,7 @@ use Rattle.mv_alone.specs.declared.state.Held.TheVariants.{Turn}
 use Rattle.mv_alone.specs.Outcome.{then_do}
 use Rattle.mv_alone.specs.Env.{with_found, with_held, turns_at}
 use Rattle.mv_alone.specs.Value.{value_of, is_so}
-use Rattle.mv_alone.specs.Rows.{checks_of}
+use Rattle.mv_alone.specs.Rows.{tests_of}
 use Rattle.mv_alone.specs.Alone.{Does, alone, does, stmt_step, each_turn, loop_over, fixed, matching_in, is_turn}
 use Rattle.mv_alone.specs.TableAfter.{begun}
 use Rattle.mv_record.specs.declared.record.Record.{Record}
@@ -75,7 +76,7 @@ abbrev Begins : List TableInfo → ℕ → RStmt-F RStmt → ℕ → Site → Li
 Begins tables params y n site before st js =
     Split tables params (tell_step tables params (with_tells tables params y) n site before st) (stmt_step tables (map-RStmt RStmt Does (does tables) y) st) js before
     ≡ own_record tables params y n site before st
-    ∷ on (itself tables y st) (left tables params (inside (length before) y n site st ++ js) (before ++ own_record tables params y n site before st ∷ []))
+    ∷ on (itself tables y st) (left tables params (inside tables (length before) y n site st ++ js) (before ++ own_record tables params y n site before st ∷ []))
 
 -- what is told inside a statement behind its own record
 inner_turns : (tables : List TableInfo) (params : ℕ) (own : Record) (before : List Record) (r : Result (List (List Value)) End) (x : ℕ) (body : List RStmt) (n : ℕ) (site : Site) (st : State) (js : List Job)
@@ -127,10 +128,10 @@ statement_begins tables params (Select cs xs t conds sorts offset) n site before
 statement_begins tables params (Total agg x t conds) n site before st js = refl
 statement_begins tables params (ForSelect x once cs t conds sorts body) n site before st js =
     let own : Record = own_record tables params (ForSelect x once cs t conds sorts body) n site before st in
-    let rows : Result (List (List Value)) End = fixed_rows (ForSelect x once cs t conds sorts body) st in
+    let rows : Result (List (List Value)) End = fixed_rows tables (ForSelect x once cs t conds sorts body) st in
     let number : ℕ = length before in
     ap (λ out. Split tables params (tell_step tables params (with_tells tables params (ForSelect x once cs t conds sorts body)) n site before st) out js before)
-    (sym (then_loops (checks_of conds st.env) (λ checks. fixed once cs sorts (matching_in t checks st)) (λ rows. loop_over x (alone tables body) rows st)))
+    (sym (then_loops (tests_of (key_columns tables t) conds st.env) (λ tests. fixed once cs sorts (matching_in t tests st)) (λ rows. loop_over x (alone tables body) rows st)))
     ∙ inner_turns tables params own before rows x body (n + 1) (within_loop x number site) st js number _ (body_is tables params body)
 statement_begins tables params (ForRows x y body) n site before st js =
     let own : Record = own_record tables params (ForRows x y body) n site before st in
@@ -153,7 +154,7 @@ statement_begins tables params (Rollback reason) n site before st js = refl
 pub statement_first : (tables : List TableInfo) (params : ℕ) (y : RStmt-F RStmt) (site : Site) (n : ℕ) (ss : List RStmt) (js : List Job) (before : List Record) (st : State)
     → let own : Record = own_record tables params y n site before st in
     left tables params (run site n (roll-RStmt y ∷ ss) ∷ js) before st
-    ≡ own ∷ on (itself tables y st) (left tables params (inside (length before) y n site st ++ run site (n + size (roll-RStmt y)) ss ∷ js) (before ++ own ∷ []))
+    ≡ own ∷ on (itself tables y st) (left tables params (inside tables (length before) y n site st ++ run site (n + size (roll-RStmt y)) ss ∷ js) (before ++ own ∷ []))
 statement_first tables params y site n ss js before st =
     let behind : List Job = run site (n + size (roll-RStmt y)) ss ∷ js in
     first_of_run tables params site n (roll-RStmt y) ss js before st

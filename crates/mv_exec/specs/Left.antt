@@ -38,11 +38,11 @@ left tables params (j ∷ js) before st =
 
 -- the jobs inside a statement whose record has this number, from the state before it: the branch that it takes, or all
 -- its turns
-abbrev pub inside : ℕ → RStmt-F RStmt → ℕ → Site → State → List Job
-inside number (ForSelect x once cs t conds sorts body) n site st =
-    on (fixed_rows (ForSelect x once cs t conds sorts body) st) (λ rows. turns (within_loop x number site) (n + 1) x body rows 1 ∷ [])
-inside number (ForRows x y body) n site st =
-    on (fixed_rows (ForRows x y body) st) (λ rows. turns (within_loop x number site) (n + 1) x body rows 1 ∷ [])
-inside number (Branch e ys ns) n site st =
+abbrev pub inside : List TableInfo → ℕ → RStmt-F RStmt → ℕ → Site → State → List Job
+inside tables number (ForSelect x once cs t conds sorts body) n site st =
+    on (fixed_rows tables (ForSelect x once cs t conds sorts body) st) (λ rows. turns (within_loop x number site) (n + 1) x body rows 1 ∷ [])
+inside tables number (ForRows x y body) n site st =
+    on (fixed_rows tables (ForRows x y body) st) (λ rows. turns (within_loop x number site) (n + 1) x body rows 1 ∷ [])
+inside tables number (Branch e ys ns) n site st =
     on (value_of e st.env []) (λ v. (if is_so v then run (within number site) (n + 1) ys else run (within number site) (n + 1 + size_of ys) ns) ∷ [])
-inside number s n site st = []
+inside tables number s n site st = []

@@ -6,6 +6,8 @@ use Rattle.std.specs.Ordering.{is_eq, ordering_then}
 use Rattle.std.specs.declared.cmp.Ordering.{Ordering}
 use Rattle.std.specs.declared.cmp.Ordering.TheVariants.{Less, Equal, Greater}
 use Rattle.mv_alone.proofs.Standing.{New, goes_to}
+use Rattle.mv_values.specs.declared.op.Op.TheVariants.{Eq}
+use Rattle.mv_values.specs.declared.pred.Test.{Test}
 use Rattle.mv_values.specs.declared.value.Value.{Value}
 use Rattle.mv_values.specs.declared.pred.Pred.{Pred}
 use Rattle.mv_values.specs.declared.patch.Patch.TheVariants as patch
@@ -24,11 +26,10 @@ use Rattle.mv_catalog.specs.declared.resolved.RExpr.{RExpr}
 use Rattle.mv_catalog.specs.declared.resolved.RCond.{RCond}
 use Rattle.mv_catalog.specs.declared.resolved.RSetItem.{RSetItem}
 use Rattle.mv_catalog.specs.declared.resolved.RStmt.TheOpen.{Insert, Update, Delete}
-use Rattle.mv_alone.specs.declared.state.Check.{Check}
 use Rattle.mv_alone.specs.declared.state.Env.{Env}
 use Rattle.mv_alone.specs.Outcome.{then_do}
 use Rattle.mv_alone.specs.Env.{with_found}
-use Rattle.mv_alone.specs.Rows.{meets, matching, is_some_row}
+use Rattle.mv_alone.specs.Rows.{meets, matching, is_some_row, test_on}
 use Rattle.mv_alone.specs.Changes.{new_row, updated, put_row, put_row_by, keyed}
 use Rattle.mv_record.specs.declared.record.Slot.{Slot}
 use Rattle.mv_record.proofs.Rising.{Above, Rises, rises_from, lower}
@@ -50,46 +51,46 @@ pub delete_goes : (tables : List TableInfo) (t : ℕ) (conds : List RCond) (env 
     → IsEffect tables (Delete t conds) env db (writing pred (is_some_row rows) (map (λ item. write t item.key patch.Delete) rows) env)
 delete_goes tables t conds env db pred rows h found = λ lines.
     let a = asked_of tables t conds [] env pred h in
-    let rows_are = rows_asked tables t a.checks [] pred db rows a.is found in
+    let rows_are = rows_asked t a.tests [] pred db rows a.is found in
     rw a.are
     (ap (λ p. altered (p ∷ []) (slots_behind (with_found env (is_some_row rows)) (env.found ∷ [])) (map (λ item. write t item.key patch.Delete) rows)) a.is
-    ∙ ap (λ l. altered (pred_of tables t a.checks [] ∷ []) (slots_behind (with_found env (is_some_row l)) (env.found ∷ [])) (map (λ item. write t item.key patch.Delete) l)) rows_are)
+    ∙ ap (λ l. altered (pred_of t a.tests [] ∷ []) (slots_behind (with_found env (is_some_row l)) (env.found ∷ [])) (map (λ item. write t item.key patch.Delete) l)) rows_are)
 
 -- UPDATE
 
 -- what SET makes of a row
 -- where a row is made of each that matches, the table has rows behind it
-set_all : (t : ℕ) (items : List RSetItem) (new : New) (checks : List Check) (rows : List Keyed) (ws : List Write) → changes t items new (matching checks rows) ≡ Ok ws
-    → (out : List Keyed) × (updated new checks rows ≡ Ok out)
-set_all t items new checks [] ws h = ([], refl)
-set_all t items new checks (r ∷ rs) ws h = by (λ vs k. set_all t items new checks rs vs k) (meets checks r.row) h
+set_all : (t : ℕ) (items : List RSetItem) (new : New) (tests : List Test) (rows : List Keyed) (ws : List Write) → changes t items new (matching tests rows) ≡ Ok ws
+    → (out : List Keyed) × (updated new tests rows ≡ Ok out)
+set_all t items new tests [] ws h = ([], refl)
+set_all t items new tests (r ∷ rs) ws h = by (λ vs k. set_all t items new tests rs vs k) (meets tests r.row) h
   where
-    by : ((vs : List Write) → changes t items new (matching checks rs) ≡ Ok vs → (out : List Keyed) × (updated new checks rs ≡ Ok out))
-        → (b : Bool) → changes t items new (cond b (r ∷ matching checks rs) (matching checks rs)) ≡ Ok ws
-        → (out : List Keyed) × ((if b then then_do (new r.row) (λ row. then_do (updated new checks rs) (λ rest. Ok (record r { row = row } ∷ rest))) else then_do (updated new checks rs) (λ rest. Ok (r ∷ rest))) ≡ Ok out)
+    by : ((vs : List Write) → changes t items new (matching tests rs) ≡ Ok vs → (out : List Keyed) × (updated new tests rs ≡ Ok out))
+        → (b : Bool) → changes t items new (cond b (r ∷ matching tests rs) (matching tests rs)) ≡ Ok ws
+        → (out : List Keyed) × ((if b then then_do (new r.row) (λ row. then_do (updated new tests rs) (λ rest. Ok (record r { row = row } ∷ rest))) else then_do (updated new tests rs) (λ rest. Ok (r ∷ rest))) ≡ Ok out)
     by ih true k =
-        let made = goes_to (new r.row) (λ row. then_do (changes t items new (matching checks rs)) (λ vs. Ok (write t r.key (set_patch items row) ∷ vs))) ws k in
-        let later = goes_to (changes t items new (matching checks rs)) (λ vs. Ok (write t r.key (set_patch items made.0) ∷ vs)) ws made.2 in
+        let made = goes_to (new r.row) (λ row. then_do (changes t items new (matching tests rs)) (λ vs. Ok (write t r.key (set_patch items row) ∷ vs))) ws k in
+        let later = goes_to (changes t items new (matching tests rs)) (λ vs. Ok (write t r.key (set_patch items made.0) ∷ vs)) ws made.2 in
         let rest = ih later.0 later.1 in (
           record r { row = made.0 } ∷ rest.0,
-          ap (λ o. then_do o (λ row. then_do (updated new checks rs) (λ more. Ok (record r { row = row } ∷ more)))) made.1
+          ap (λ o. then_do o (λ row. then_do (updated new tests rs) (λ more. Ok (record r { row = row } ∷ more)))) made.1
               ∙ ap (λ o. then_do o (λ more. Ok (record r { row = made.0 } ∷ more))) rest.1,
         )
     by ih false k = let rest = ih ws k in (r ∷ rest.0, ap (λ o. then_do o (λ more. Ok (r ∷ more))) rest.1)
 
 -- where no row is made of one that matches, the statement ends so
-set_stops : (t : ℕ) (items : List RSetItem) (new : New) (checks : List Check) (rows : List Keyed) (e : End) → changes t items new (matching checks rows) ≡ Err e → updated new checks rows ≡ Err e
-set_stops t items new checks [] e h = cc
-set_stops t items new checks (r ∷ rs) e h = by (λ k. set_stops t items new checks rs e k) (meets checks r.row) h
+set_stops : (t : ℕ) (items : List RSetItem) (new : New) (tests : List Test) (rows : List Keyed) (e : End) → changes t items new (matching tests rows) ≡ Err e → updated new tests rows ≡ Err e
+set_stops t items new tests [] e h = cc
+set_stops t items new tests (r ∷ rs) e h = by (λ k. set_stops t items new tests rs e k) (meets tests r.row) h
   where
-    made : (changes t items new (matching checks rs) ≡ Err e → updated new checks rs ≡ Err e) → (o : Result (List Value) End) → then_do o (λ row. then_do (changes t items new (matching checks rs)) (λ vs. Ok (write t r.key (set_patch items row) ∷ vs))) ≡ Err e
-        → then_do o (λ row. then_do (updated new checks rs) (λ rest. Ok (record r { row = row } ∷ rest))) ≡ Err e
-    made ih (Ok row) k = rw (ih (then_err (changes t items new (matching checks rs)) (λ vs. write t r.key (set_patch items row) ∷ vs) e k)) refl
+    made : (changes t items new (matching tests rs) ≡ Err e → updated new tests rs ≡ Err e) → (o : Result (List Value) End) → then_do o (λ row. then_do (changes t items new (matching tests rs)) (λ vs. Ok (write t r.key (set_patch items row) ∷ vs))) ≡ Err e
+        → then_do o (λ row. then_do (updated new tests rs) (λ rest. Ok (record r { row = row } ∷ rest))) ≡ Err e
+    made ih (Ok row) k = rw (ih (then_err (changes t items new (matching tests rs)) (λ vs. write t r.key (set_patch items row) ∷ vs) e k)) refl
     made ih (Err d) k = cc
 
-    by : (changes t items new (matching checks rs) ≡ Err e → updated new checks rs ≡ Err e)
-        → (b : Bool) → changes t items new (cond b (r ∷ matching checks rs) (matching checks rs)) ≡ Err e
-        → (if b then then_do (new r.row) (λ row. then_do (updated new checks rs) (λ rest. Ok (record r { row = row } ∷ rest))) else then_do (updated new checks rs) (λ rest. Ok (r ∷ rest))) ≡ Err e
+    by : (changes t items new (matching tests rs) ≡ Err e → updated new tests rs ≡ Err e)
+        → (b : Bool) → changes t items new (cond b (r ∷ matching tests rs) (matching tests rs)) ≡ Err e
+        → (if b then then_do (new r.row) (λ row. then_do (updated new tests rs) (λ rest. Ok (record r { row = row } ∷ rest))) else then_do (updated new tests rs) (λ rest. Ok (r ∷ rest))) ≡ Err e
     by ih true k = made ih (new r.row) k
     by ih false k = rw (ih k) refl
 
@@ -112,8 +113,8 @@ update_unset : (tables : List TableInfo) (t : ℕ) (items : List RSetItem) (cond
     → IsEffect tables (Update t items conds) env db (only_end (pred ∷ []) e)
 update_unset tables t items conds env db pred rows e h found k = λ lines.
     let a = asked_of tables t conds (flat_map (λ i. columns_in i.right) items) env pred h in
-    let rows_are = rows_asked tables t a.checks (flat_map (λ i. columns_in i.right) items) pred db rows a.is found in
-    let stops = set_stops t items (new_of tables t env items) a.checks (rows_at db t) e (ap (changes t items (new_of tables t env items)) (sym rows_are) ∙ k) in
+    let rows_are = rows_asked t a.tests (flat_map (λ i. columns_in i.right) items) pred db rows a.is found in
+    let stops = set_stops t items (new_of tables t env items) a.tests (rows_at db t) e (ap (changes t items (new_of tables t env items)) (sym rows_are) ∙ k) in
     rw (a.are, stops) (ap (λ p. only_end (p ∷ []) e) a.is)
 
 -- what an UPDATE does that found these rows and makes new ones of all
@@ -123,13 +124,13 @@ update_goes : (tables : List TableInfo) (t : ℕ) (items : List RSetItem) (conds
 update_goes tables t items conds env db pred rows ws h found k = λ lines.
     let cs : List ℕ = flat_map (λ i. columns_in i.right) items in
     let a = asked_of tables t conds cs env pred h in
-    let rows_are = rows_asked tables t a.checks cs pred db rows a.is found in
+    let rows_are = rows_asked t a.tests cs pred db rows a.is found in
     let new : New = new_of tables t env items in
-    let all = set_all t items new a.checks (rows_at db t) ws (ap (changes t items new) (sym rows_are) ∙ k) in
+    let all = set_all t items new a.tests (rows_at db t) ws (ap (changes t items new) (sym rows_are) ∙ k) in
     rw (a.are, all.1)
     (ap (λ p. altered (p ∷ []) (slots_behind (with_found env (is_some_row rows)) (env.found ∷ [])) ws) a.is
-    ∙ (ap (λ l. altered (pred_of tables t a.checks cs ∷ []) (slots_behind (with_found env (is_some_row rows)) (env.found ∷ [])) l) (writes_are t items new rows ws k)
-    ∙ ap (λ l. altered (pred_of tables t a.checks cs ∷ []) (slots_behind (with_found env (is_some_row l)) (env.found ∷ [])) (written_of t items new l)) rows_are))
+    ∙ (ap (λ l. altered (pred_of t a.tests cs ∷ []) (slots_behind (with_found env (is_some_row rows)) (env.found ∷ [])) l) (writes_are t items new rows ws k)
+    ∙ ap (λ l. altered (pred_of t a.tests cs ∷ []) (slots_behind (with_found env (is_some_row l)) (env.found ∷ [])) (written_of t items new l)) rows_are))
 
 -- what an UPDATE does that found these rows
 pub update_done : (tables : List TableInfo) (t : ℕ) (items : List RSetItem) (conds : List RCond) (env : Env) (db : List (List Keyed)) (pred : Pred) (rows : List Keyed)
@@ -149,12 +150,16 @@ eq_then Less b = refl
 eq_then Equal b = refl
 eq_then Greater b = refl
 
--- a row passes the tests of a key exactly where it has that key
-meets_key : (keys : List ℕ) (row a : List Value) → meets (same_key keys row) a ≡ is_eq (key_order (columns_of a keys) (columns_of row keys))
-meets_key [] row a = refl
-meets_key (k ∷ ks) row a =
-    ap (λ b. is_eq (value_order (column_of a k) (column_of row k)) && b) (meets_key ks row a)
+-- a row passes the tests of some columns of a key exactly where it has the same values there
+meets_columns : (keys cs : List ℕ) (row a : List Value) → meets (map (λ c. test_on keys c Eq (column_of row c)) cs) a ≡ is_eq (key_order (columns_of a cs) (columns_of row cs))
+meets_columns keys [] row a = refl
+meets_columns keys (k ∷ ks) row a =
+    ap (λ b. is_eq (value_order (column_of a k) (column_of row k)) && b) (meets_columns keys ks row a)
     ∙ eq_then (value_order (column_of a k) (column_of row k)) (key_order (columns_of a ks) (columns_of row ks))
+
+-- it passes the tests of a key exactly where it has that key
+meets_key : (keys : List ℕ) (row a : List Value) → meets (same_key keys row) a ≡ is_eq (key_order (columns_of a keys) (columns_of row keys))
+meets_key keys row a = meets_columns keys keys row a
 
 -- the rows stand under their own keys
 abbrev Own : List ℕ → List Keyed → Type 0
@@ -227,12 +232,12 @@ put_twice keys row (r ∷ rs) x xs own rises h = by (λ k. put_twice keys row rs
 
 -- a row with the key is found
 found_key : (tables : List TableInfo) (t : ℕ) (row : List Value) (pred : Pred) (db : List (List Keyed)) (rows : List Keyed)
-    → pred ≡ pred_of tables t (same_key (key_columns tables t) row) [] → rows ≡ found_by pred db → matching (same_key (key_columns tables t) row) (rows_at db t) ≡ rows
-found_key tables t row pred db rows is found = sym (rows_asked tables t (same_key (key_columns tables t) row) [] pred db rows is found)
+    → pred ≡ pred_of t (same_key (key_columns tables t) row) [] → rows ≡ found_by pred db → matching (same_key (key_columns tables t) row) (rows_at db t) ≡ rows
+found_key tables t row pred db rows is found = sym (rows_asked t (same_key (key_columns tables t) row) [] pred db rows is found)
 
 -- what an INSERT does that found a row with its key
 insert_twice : (tables : List TableInfo) (t : ℕ) (es : List RExpr) (env : Env) (db : List (List Keyed)) (row : List Value) (pred : Pred) (rows : List Keyed)
-    → KeysStand tables db → IsRising (rows_at db t) → new_row (columns_at tables t) es env ≡ Ok row → pred ≡ pred_of tables t (same_key (key_columns tables t) row) []
+    → KeysStand tables db → IsRising (rows_at db t) → new_row (columns_at tables t) es env ≡ Ok row → pred ≡ pred_of t (same_key (key_columns tables t) row) []
     → rows ≡ found_by pred db → is_some_row rows ≡ true → IsEffect tables (Insert t es) env db (only_end (pred ∷ []) Duplicate)
 insert_twice tables t es env db row pred rows stand rising made is found some = λ lines.
     let there = by rows some (found_key tables t row pred db rows is found) in
@@ -244,14 +249,14 @@ insert_twice tables t es env db row pred rows stand rising made is found some = 
 
 -- what an INSERT does that found none
 insert_goes : (tables : List TableInfo) (t : ℕ) (es : List RExpr) (env : Env) (db : List (List Keyed)) (row : List Value) (pred : Pred) (rows : List Keyed) (item : Keyed)
-    → KeysStand tables db → new_row (columns_at tables t) es env ≡ Ok row → pred ≡ pred_of tables t (same_key (key_columns tables t) row) []
+    → KeysStand tables db → new_row (columns_at tables t) es env ≡ Ok row → pred ≡ pred_of t (same_key (key_columns tables t) row) []
     → rows ≡ found_by pred db → is_some_row rows ≡ false → item ≡ keyed (key_columns tables t) row
     → IsEffect tables (Insert t es) env db (altered (pred ∷ []) (slots_behind (with_found env true) (env.found ∷ [])) (write t item.key (patch.Insert item.row) ∷ []))
 insert_goes tables t es env db row pred rows item stand made is found none same = λ lines.
     let put = put_new (key_columns tables t) row (rows_at db t) (own_of (key_columns tables t) (rows_at db t) (stand t)) (found_key tables t row pred db rows is found ∙ empty rows none) in
     rw (made, put.1)
     (ap (λ p. altered (p ∷ []) (slots_behind (with_found env true) (env.found ∷ [])) (write t item.key (patch.Insert item.row) ∷ [])) is
-    ∙ ap (λ (i : Keyed). altered (pred_of tables t (same_key (key_columns tables t) row) [] ∷ []) (slots_behind (with_found env true) (env.found ∷ [])) (write t i.key (patch.Insert i.row) ∷ [])) same)
+    ∙ ap (λ (i : Keyed). altered (pred_of t (same_key (key_columns tables t) row) [] ∷ []) (slots_behind (with_found env true) (env.found ∷ [])) (write t i.key (patch.Insert i.row) ∷ [])) same)
   where
     empty : (l : List Keyed) → is_some_row l ≡ false → l ≡ []
     empty [] e = refl
@@ -259,7 +264,7 @@ insert_goes tables t es env db row pred rows item stand made is found none same 
 
 -- what an INSERT does that found these rows under its key
 pub insert_done : (tables : List TableInfo) (t : ℕ) (es : List RExpr) (env : Env) (db : List (List Keyed)) (row : List Value) (pred : Pred) (rows : List Keyed)
-    → KeysStand tables db → IsRising (rows_at db t) → new_row (columns_at tables t) es env ≡ Ok row → pred ≡ pred_of tables t (same_key (key_columns tables t) row) []
+    → KeysStand tables db → IsRising (rows_at db t) → new_row (columns_at tables t) es env ≡ Ok row → pred ≡ pred_of t (same_key (key_columns tables t) row) []
     → rows ≡ found_by pred db → IsEffect tables (Insert t es) env db (inserting tables t row pred (is_some_row rows) env)
 insert_done tables t es env db row pred rows stand rising made is found = by (is_some_row rows) refl
   where

@@ -2,6 +2,7 @@
 use Rattle.std.proofs.Common.{◌≡◌, ℕ, ℤ, Bool, true, false, ◌||◌, List, [], ◌∷◌, ◌++◌, Option, Some, None, Result, Ok, Err, refl, sym, ap, ◌∙◌}
 use Rattle.std.specs.Option.{is_some}
 use Rattle.mv_alone.proofs.Standing.{goes_to}
+use Rattle.mv_values.specs.declared.pred.Test.{Test}
 use Rattle.mv_values.specs.declared.value.Value.{Value}
 use Rattle.mv_values.specs.declared.pred.Pred.{Pred}
 use Rattle.mv_values.specs.declared.rows.Keyed.{Keyed}
@@ -9,19 +10,18 @@ use Rattle.mv_values.specs.declared.schema.TableInfo.{TableInfo}
 use Rattle.mv_values.specs.declared.calls.End.{End}
 use Rattle.mv_values.specs.Columns.{columns_of, number}
 use Rattle.mv_values.specs.Patching.{found_by}
-use Rattle.mv_values.specs.Tables.{rows_at}
+use Rattle.mv_values.specs.Tables.{rows_at, key_columns}
 use Rattle.mv_catalog.specs.declared.resolved.RExpr.{RExpr}
 use Rattle.mv_catalog.specs.declared.resolved.RCond.{RCond}
 use Rattle.mv_catalog.specs.declared.resolved.RSort.{RSort}
 use Rattle.mv_catalog.specs.declared.resolved.RAgg.{RAgg}
 use Rattle.mv_catalog.specs.declared.resolved.RStmt.{RStmt}
 use Rattle.mv_catalog.specs.declared.resolved.RStmt.TheOpen.{Select, Total, ForSelect}
-use Rattle.mv_alone.specs.declared.state.Check.{Check}
 use Rattle.mv_alone.specs.declared.state.Env.{Env}
 use Rattle.mv_alone.specs.Outcome.{then_do}
 use Rattle.mv_alone.specs.Env.{scalar_at, with_value, with_values, with_found}
 use Rattle.mv_alone.specs.Value.{is_so}
-use Rattle.mv_alone.specs.Rows.{checks_of, matching, ordered, item_at, aggregate, is_some_row}
+use Rattle.mv_alone.specs.Rows.{matching, ordered, item_at, aggregate, is_some_row, tests_of}
 use Rattle.mv_alone.specs.Alone.{offset_of, with_selected, totalled, fixed}
 use Rattle.mv_record.specs.declared.record.Slot.{Slot}
 use Rattle.mv_recorded.specs.Asking.{pred_of, with_sorts, column_in}
@@ -31,15 +31,15 @@ use Rattle.mv_record.specs.declared.effect.Effect.{Effect}
 use Rattle.mv_recorded.specs.Effects.{IsEffect, asks, asked_by, asked_then, row_number, taking, totalling, going, only_end, slots_behind}
 use Rattle.mv_recorded.proofs.Slots.{same_found}
 use Rattle.mv_recorded.proofs.Effects.{found_is, gives}
-use Rattle.mv_recorded.proofs.Matching.{found_matching, matching_all}
+use Rattle.mv_recorded.proofs.Matching.{matching_all}
 
 -- What was asked
 
 -- the tests of what was asked
 pub record Asks (tables : List TableInfo) (t : ℕ) (conds : List RCond) (cs : List ℕ) (env : Env) (pred : Pred) : Type 0 where
-  pub checks : List Check
-  pub are : checks_of conds env ≡ Ok checks
-  pub is : pred ≡ pred_of tables t checks cs
+  pub tests : List Test
+  pub are : tests_of (key_columns tables t) conds env ≡ Ok tests
+  pub is : pred ≡ pred_of t tests cs
 
 -- two values are the same where the answers with them are
 pub same_ok : {A : Type 0} {x y : A} → ◌≡◌ {A = Result A End} (Ok x) (Ok y) → x ≡ y
@@ -48,8 +48,8 @@ same_ok h = cc
 -- what was asked has the tests of WHERE with their values
 pub asked_of : (tables : List TableInfo) (t : ℕ) (conds : List RCond) (cs : List ℕ) (env : Env) (pred : Pred) → asks tables t conds cs env ≡ Ok pred → Asks tables t conds cs env pred
 asked_of tables t conds cs env pred h =
-    let c = goes_to (checks_of conds env) (λ checks. Ok (pred_of tables t checks cs)) pred h in
-    record { checks = c.0; are = c.1; is = sym (same_ok c.2) }
+    let c = goes_to (tests_of (key_columns tables t) conds env) (λ tests. Ok (pred_of t tests cs)) pred h in
+    record { tests = c.0; are = c.1; is = sym (same_ok c.2) }
 
 -- what goes on with a value ends only where there was none
 pub then_err : {A B : Type 0} (r : Result A End) (f : A → B) (e : End) → then_do r (λ x. Ok (f x)) ≡ Err e → r ≡ Err e
@@ -57,9 +57,9 @@ then_err (Ok x) f e h = cc
 then_err (Err d) f e h = cc
 
 -- the rows that were found are those that pass WHERE
-pub rows_asked : (tables : List TableInfo) (t : ℕ) (checks : List Check) (cs : List ℕ) (pred : Pred) (db : List (List Keyed)) (rows : List Keyed) → pred ≡ pred_of tables t checks cs → rows ≡ found_by pred db
-    → rows ≡ matching checks (rows_at db t)
-rows_asked tables t checks cs pred db rows is found = found ∙ (ap (λ p. found_by p db) is ∙ found_matching tables t checks cs db)
+pub rows_asked : (t : ℕ) (tests : List Test) (cs : List ℕ) (pred : Pred) (db : List (List Keyed)) (rows : List Keyed) → pred ≡ pred_of t tests cs → rows ≡ found_by pred db
+    → rows ≡ matching tests (rows_at db t)
+rows_asked t tests cs pred db rows is found = found ∙ ap (λ p. found_by p db) is
 
 -- Variables
 
@@ -108,22 +108,22 @@ select_goes tables cs xs t conds sorts offset env db pred z rows h k found = λ 
     let a = asked_of tables t conds (with_sorts cs sorts) env pred h in
     let v = goes_to (offset_of offset env) (λ v. Ok (number v)) z k in
     let at : number v.0 ≡ z = same_ok v.2 in
-    let rows_are = rows_asked tables t a.checks (with_sorts cs sorts) pred db rows a.is found in
+    let rows_are = rows_asked t a.tests (with_sorts cs sorts) pred db rows a.is found in
     let chosen : Option Keyed = item_at (ordered sorts (matching [] rows)) z in
-    let item : Option Keyed = item_at (ordered sorts (matching a.checks (rows_at db t))) (number v.0) in
-    let same : chosen ≡ item = ap (λ l. item_at (ordered sorts l) z) (matching_all rows ∙ rows_are) ∙ ap (item_at (ordered sorts (matching a.checks (rows_at db t)))) (sym at) in
+    let item : Option Keyed = item_at (ordered sorts (matching a.tests (rows_at db t))) (number v.0) in
+    let same : chosen ≡ item = ap (λ l. item_at (ordered sorts l) z) (matching_all rows ∙ rows_are) ∙ ap (item_at (ordered sorts (matching a.tests (rows_at db t)))) (sym at) in
     rw (a.are, v.1)
     (ap (λ p. taking p cs xs chosen env) a.is
-    ∙ (ap (λ o. taking (pred_of tables t a.checks (with_sorts cs sorts)) cs xs o env) same
-    ∙ ap (λ ns. made (pred_of tables t a.checks (with_sorts cs sorts) ∷ []) (slots_behind (with_selected cs xs item env) ns) []) (taken_named env cs xs item)))
+    ∙ (ap (λ o. taking (pred_of t a.tests (with_sorts cs sorts)) cs xs o env) same
+    ∙ ap (λ ns. made (pred_of t a.tests (with_sorts cs sorts) ∷ []) (slots_behind (with_selected cs xs item env) ns) []) (taken_named env cs xs item)))
 
 -- what a SELECT does that is stopped before it looks at rows
 pub select_unasked : (tables : List TableInfo) (cs xs : List ℕ) (t : ℕ) (conds : List RCond) (sorts : List RSort) (offset : Option RExpr) (env : Env) (db : List (List Keyed)) (e : Effect)
     → Err e ≡ asked_by (asks tables t conds (with_sorts cs sorts) env) (row_number offset env) → IsEffect tables (Select cs xs t conds sorts offset) env db e
-select_unasked tables cs xs t conds sorts offset env db e h = by (checks_of conds env) refl (offset_of offset env) refl h
+select_unasked tables cs xs t conds sorts offset env db e h = by (tests_of (key_columns tables t) conds env) refl (offset_of offset env) refl h
   where
-    by : (r : Result (List Check) End) → checks_of conds env ≡ r → (o : Result Value End) → offset_of offset env ≡ o
-        → Err e ≡ asked_by (then_do r (λ checks. Ok (pred_of tables t checks (with_sorts cs sorts)))) (then_do o (λ v. Ok (number v)))
+    by : (r : Result (List Test) End) → tests_of (key_columns tables t) conds env ≡ r → (o : Result Value End) → offset_of offset env ≡ o
+        → Err e ≡ asked_by (then_do r (λ tests. Ok (pred_of t tests (with_sorts cs sorts)))) (then_do o (λ v. Ok (number v)))
         → (lines : List (List ℕ)) → e ≡ effect_of {X = RStmt} tables (Select cs xs t conds sorts offset) (record { env = env; tables = db; lines = lines })
     by (Ok cs') are (Ok v) is k lines = cc
     by (Ok cs') are (Err d) is k lines = rw (are, is) (same_err k)
@@ -137,8 +137,8 @@ total_unfit : (tables : List TableInfo) (agg : RAgg) (x t : ℕ) (conds : List R
     → asks tables t conds (column_in agg) env ≡ Ok pred → rows ≡ found_by pred db → aggregate agg (matching [] rows) ≡ Err e → IsEffect tables (Total agg x t conds) env db (only_end (pred ∷ []) e)
 total_unfit tables agg x t conds env db pred rows e h found k = λ lines.
     let a = asked_of tables t conds (column_in agg) env pred h in
-    let rows_are = matching_all rows ∙ rows_asked tables t a.checks (column_in agg) pred db rows a.is found in
-    let fails : aggregate agg (matching a.checks (rows_at db t)) ≡ Err e = ap (aggregate agg) (sym rows_are) ∙ k in
+    let rows_are = matching_all rows ∙ rows_asked t a.tests (column_in agg) pred db rows a.is found in
+    let fails : aggregate agg (matching a.tests (rows_at db t)) ≡ Err e = ap (aggregate agg) (sym rows_are) ∙ k in
     rw (a.are, fails) (ap (λ p. only_end (p ∷ []) e) a.is)
 
 -- what an aggregate does that found these rows and gives this total
@@ -147,14 +147,14 @@ total_goes : (tables : List TableInfo) (agg : RAgg) (x t : ℕ) (conds : List RC
     → IsEffect tables (Total agg x t conds) env db (made (pred ∷ []) (slots_behind (with_found (totalled x o env) (is_some_row (matching [] rows))) (when (is_some o) (x ∷ []) ++ env.found ∷ [])) [])
 total_goes tables agg x t conds env db pred rows o h found k = λ lines.
     let a = asked_of tables t conds (column_in agg) env pred h in
-    let rows_are = matching_all rows ∙ rows_asked tables t a.checks (column_in agg) pred db rows a.is found in
-    let gives_here : aggregate agg (matching a.checks (rows_at db t)) ≡ Ok o = ap (aggregate agg) (sym rows_are) ∙ k in
-    let p : Pred = pred_of tables t a.checks (column_in agg) in
-    let some : Bool = is_some_row (matching a.checks (rows_at db t)) in
+    let rows_are = matching_all rows ∙ rows_asked t a.tests (column_in agg) pred db rows a.is found in
+    let gives_here : aggregate agg (matching a.tests (rows_at db t)) ≡ Ok o = ap (aggregate agg) (sym rows_are) ∙ k in
+    let p : Pred = pred_of t a.tests (column_in agg) in
+    let some : Bool = is_some_row (matching a.tests (rows_at db t)) in
     rw (a.are, gives_here)
     (ap (λ q. made (q ∷ []) (slots_behind (with_found (totalled x o env) (is_some_row (matching [] rows))) (when (is_some o) (x ∷ []) ++ env.found ∷ [])) []) a.is
     ∙ (ap (λ l. made (p ∷ []) (slots_behind (with_found (totalled x o env) (is_some_row l)) (when (is_some o) (x ∷ []) ++ env.found ∷ [])) []) rows_are
-    ∙ ap (λ ns. made (p ∷ []) (slots_behind (with_found (totalled x o env) some) ns) []) (total_named env x o (gives_always agg) some (gives agg (matching a.checks (rows_at db t)) o gives_here))))
+    ∙ ap (λ ns. made (p ∷ []) (slots_behind (with_found (totalled x o env) some) ns) []) (total_named env x o (gives_always agg) some (gives agg (matching a.tests (rows_at db t)) o gives_here))))
 
 -- what an aggregate does that found these rows
 pub total_done : (tables : List TableInfo) (agg : RAgg) (x t : ℕ) (conds : List RCond) (env : Env) (db : List (List Keyed)) (pred : Pred) (rows : List Keyed)
@@ -175,7 +175,7 @@ pub for_goes : (tables : List TableInfo) (x : ℕ) (once : Bool) (cs : List ℕ)
     → IsEffect tables (ForSelect x once cs t conds sorts body) env db (going pred (fixed once cs sorts (matching [] rows)) env)
 for_goes tables x once cs t conds sorts body env db pred rows h found = λ lines.
     let a = asked_of tables t conds (with_sorts cs sorts) env pred h in
-    let rows_are = matching_all rows ∙ rows_asked tables t a.checks (with_sorts cs sorts) pred db rows a.is found in
+    let rows_are = matching_all rows ∙ rows_asked t a.tests (with_sorts cs sorts) pred db rows a.is found in
     rw a.are
     (ap (λ p. going p (fixed once cs sorts (matching [] rows)) env) a.is
-    ∙ ap (λ l. going (pred_of tables t a.checks (with_sorts cs sorts)) (fixed once cs sorts l) env) rows_are)
+    ∙ ap (λ l. going (pred_of t a.tests (with_sorts cs sorts)) (fixed once cs sorts l) env) rows_are)

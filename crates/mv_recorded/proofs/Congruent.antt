@@ -1,6 +1,7 @@
 -- A statement does the same where what it reads and what its predicate finds are the same.
 use Rattle.std.proofs.Common.{◌≡◌, ◌≤◌, inl, inr, ℕ, ℤ, zero, suc, Bool, true, false, ◌==◌, cond, not, List, [], ◌∷◌, ◌++◌, Option, Some, None, Result, Ok, Err, map, length, refl, sym, ap, subst, ◌∙◌, arith}
 use Rattle.std.specs.List.{filter, flat_map}
+use Rattle.mv_values.specs.declared.pred.Test.{Test}
 use Rattle.mv_values.specs.declared.value.Value.{Value}
 use Rattle.mv_values.specs.declared.rows.Keyed.{Keyed}
 use Rattle.mv_values.specs.declared.pred.Pred.{Pred}
@@ -18,14 +19,13 @@ use Rattle.mv_catalog.specs.declared.resolved.RSort.{RSort}
 use Rattle.mv_catalog.specs.declared.resolved.RSetItem.{RSetItem}
 use Rattle.mv_catalog.specs.declared.resolved.RStmt.{RStmt}
 use Rattle.mv_catalog.specs.declared.resolved.RStmt.TheOpen.{RStmt-F, Assign, Select, Total, ForSelect, ForRows, Branch, Insert, Update, Delete, Print, Rollback}
-use Rattle.mv_alone.specs.declared.state.Check.{Check}
 use Rattle.mv_alone.specs.declared.state.Env.{Env}
 use Rattle.mv_alone.specs.declared.state.Held.TheVariants.{Scalar}
 use Rattle.mv_alone.specs.declared.state.State.{State}
 use Rattle.mv_alone.specs.Outcome.{then_do}
 use Rattle.mv_alone.specs.Env.{held_at, scalar_in, scalar_at, turns_in, truth, with_held, with_value, with_values, with_found, turns_at}
 use Rattle.mv_alone.specs.Value.{value_of, values_of}
-use Rattle.mv_alone.specs.Rows.{checks_of, ordered, item_at, matching, aggregate, is_some_row, distinct}
+use Rattle.mv_alone.specs.Rows.{ordered, item_at, matching, aggregate, is_some_row, distinct, tests_of}
 use Rattle.mv_alone.specs.Changes.{new_row}
 use Rattle.mv_alone.specs.Alone.{fixed, is_turn}
 use Rattle.mv_recorded.specs.Asking.{pred_of, with_sorts, column_in, columns_in, preds_of, same_key}
@@ -49,7 +49,7 @@ use Rattle.std.proofs.lemmas.Slice.Zip.{AllZip-long}
 use Rattle.mv_recorded.proofs.Inverting.{each_join}
 use Rattle.mv_recorded.proofs.Slots.{get_same, same_found}
 use Rattle.mv_recorded.proofs.Held.{held_alike}
-use Rattle.mv_recorded.proofs.Values.{value_alike, values_alike, checks_alike, offset_alike, new_row_alike}
+use Rattle.mv_recorded.proofs.Values.{value_alike, values_alike, tests_alike, offset_alike, new_row_alike}
 use Rattle.mv_recorded.proofs.Alike.{ItemAlike, agree_parts, agree_once, columns_same, alike_by, ordered_alike, item_alike, projected_same, some_same, aggregate_same, deletes_same, changes_same, Plain}
 
 -- Variables
@@ -172,9 +172,9 @@ flat_parts e f (x ∷ xs) ys h =
     join (a ∷ as') h k = (h.0, join as' h.1 k)
 
 -- the rows that a predicate with these tests finds agree in the columns that were named
-seen_rows : (tables : List TableInfo) (t : ℕ) (checks : List Check) (cs : List ℕ) (p : Pred) (db new : List (List Keyed)) → p ≡ pred_of tables t checks cs → SeenAlike p db new
+seen_rows : (t : ℕ) (tests : List Test) (cs : List ℕ) (p : Pred) (db new : List (List Keyed)) → p ≡ pred_of t tests cs → SeenAlike p db new
     → Alike cs (matching [] (found_by p db)) (matching [] (found_by p new))
-seen_rows tables t checks cs p db new is h =
+seen_rows t tests cs p db new is h =
     subst (λ l. Alike cs l (matching [] (found_by p new))) (sym (matching_all (found_by p db)))
     (subst (λ l. Alike cs (found_by p db) l) (sym (matching_all (found_by p new)))
     (alike_by (each_once cs) cs (λ a b. agree_once a b cs) (found_by p db) (found_by p new) (subst (λ ds. Alike ds (found_by p db) (found_by p new)) (ap (λ (q : Pred). q.columns) is) h)))
@@ -197,7 +197,7 @@ abbrev SameEffect : List TableInfo → RStmt-F RStmt → State → State → Typ
 SameEffect tables s st new = effect_of tables s st ≡ effect_of tables s new
 
 asks_same : (tables : List TableInfo) (t : ℕ) (conds : List RCond) (cs : List ℕ) (e f : Env) → Agree e f (flat_map variables (rights conds)) → asks tables t conds cs e ≡ asks tables t conds cs f
-asks_same tables t conds cs e f h = ap (λ r. then_do r (λ checks. Ok (pred_of tables t checks cs))) (checks_alike conds e f h)
+asks_same tables t conds cs e f h = ap (λ r. then_do r (λ tests. Ok (pred_of t tests cs))) (tests_alike (key_columns tables t) conds e f h)
 
 select_same : (tables : List TableInfo) (cs xs : List ℕ) (t : ℕ) (conds : List RCond) (sorts : List RSort) (offset : Option RExpr) (st new : State) → length xs ≤ length cs
     → ReadsAlike tables (Select cs xs t conds sorts offset) st new → SameEffect tables (Select cs xs t conds sorts offset) st new
@@ -218,37 +218,37 @@ select_same tables cs xs t conds sorts offset st new le m =
         let two = select_goes tables cs xs t conds sorts offset new.env new.tables q.0 q.1 (found_by q.0 new.tables) b.0 b.1 refl new.lines in
         let asked = asked_of tables t conds (with_sorts cs sorts) st.env q.0 a.0 in
         let seen : SeenAlike q.0 st.tables new.tables = seen_of tables (Select cs xs t conds sorts offset) st new q.0 _ one refl m.seen in
-        let rows = seen_rows tables t asked.checks (with_sorts cs sorts) q.0 st.tables new.tables asked.is seen in
+        let rows = seen_rows t asked.tests (with_sorts cs sorts) q.0 st.tables new.tables asked.is seen in
         let xs' = ordered sorts (matching [] (found_by q.0 st.tables)) in
         let ys' = ordered sorts (matching [] (found_by q.0 new.tables)) in
         let ordered' : Alike cs xs' ys' = alike_by (with_sorts cs sorts) cs (λ a b k. (agree_parts a b cs _ k).0) xs' ys' (ordered_alike cs sorts (matching [] (found_by q.0 st.tables)) (matching [] (found_by q.0 new.tables)) rows) in
         sym one ∙ (taking_same q.0 cs xs (item_at xs' q.1) (item_at ys' q.1) st.env new.env le m.found (item_alike cs xs' ys' q.1 ordered') ∙ two)
 
 -- statements that ask by WHERE, where it has no value
-abbrev Unasked : List TableInfo → RStmt-F RStmt → State → State → List RCond → Type 0
-Unasked tables s st new conds = (e : End) → checks_of conds st.env ≡ Err e → checks_of conds new.env ≡ Err e → SameEffect tables s st new
+abbrev Unasked : List TableInfo → RStmt-F RStmt → State → State → ℕ → List RCond → Type 0
+Unasked tables s st new t conds = (e : End) → tests_of (key_columns tables t) conds st.env ≡ Err e → tests_of (key_columns tables t) conds new.env ≡ Err e → SameEffect tables s st new
 
 abbrev Asked : List TableInfo → RStmt-F RStmt → State → State → ℕ → List RCond → List ℕ → Type 0
-Asked tables s st new t conds cs = (p : Pred) (checks : List Check) → p ≡ pred_of tables t checks cs → asks tables t conds cs st.env ≡ Ok p → asks tables t conds cs new.env ≡ Ok p → SameEffect tables s st new
+Asked tables s st new t conds cs = (p : Pred) (tests : List Test) → p ≡ pred_of t tests cs → asks tables t conds cs st.env ≡ Ok p → asks tables t conds cs new.env ≡ Ok p → SameEffect tables s st new
 
-by_where : (tables : List TableInfo) (s : RStmt-F RStmt) (st new : State) (t : ℕ) (conds : List RCond) (cs : List ℕ) → Agree st.env new.env (flat_map variables (rights conds)) → Unasked tables s st new conds
+by_where : (tables : List TableInfo) (s : RStmt-F RStmt) (st new : State) (t : ℕ) (conds : List RCond) (cs : List ℕ) → Agree st.env new.env (flat_map variables (rights conds)) → Unasked tables s st new t conds
     → Asked tables s st new t conds cs → SameEffect tables s st new
-by_where tables s st new t conds cs h none some = by (checks_of conds st.env) refl (sym (checks_alike conds st.env new.env h))
+by_where tables s st new t conds cs h none some = by (tests_of (key_columns tables t) conds st.env) refl (sym (tests_alike (key_columns tables t) conds st.env new.env h))
   where
-    by : (r : Result (List Check) End) → checks_of conds st.env ≡ r → checks_of conds new.env ≡ checks_of conds st.env → SameEffect tables s st new
+    by : (r : Result (List Test) End) → tests_of (key_columns tables t) conds st.env ≡ r → tests_of (key_columns tables t) conds new.env ≡ tests_of (key_columns tables t) conds st.env → SameEffect tables s st new
     by (Err e) is same = none e is (same ∙ is)
-    by (Ok checks) is same =
-        some (pred_of tables t checks cs) checks refl (ap (λ r. then_do r (λ checks. Ok (pred_of tables t checks cs))) is) (ap (λ r. then_do r (λ checks. Ok (pred_of tables t checks cs))) (same ∙ is))
+    by (Ok tests) is same =
+        some (pred_of t tests cs) tests refl (ap (λ r. then_do r (λ tests. Ok (pred_of t tests cs))) is) (ap (λ r. then_do r (λ tests. Ok (pred_of t tests cs))) (same ∙ is))
 
 total_same : (tables : List TableInfo) (agg : RAgg) (x t : ℕ) (conds : List RCond) (st new : State) → ReadsAlike tables (Total agg x t conds) st new → SameEffect tables (Total agg x t conds) st new
 total_same tables agg x t conds st new m =
-    by_where tables (Total agg x t conds) st new t conds (column_in agg) m.reads (λ e p q. rw (p, q) refl) (λ p checks is a b.
+    by_where tables (Total agg x t conds) st new t conds (column_in agg) m.reads (λ e p q. rw (p, q) refl) (λ p tests is a b.
     let rows : List Keyed = found_by p st.tables in
     let rows' : List Keyed = found_by p new.tables in
     let one = total_done tables agg x t conds st.env st.tables p rows a refl st.lines in
     let two = total_done tables agg x t conds new.env new.tables p rows' b refl new.lines in
     let seen : SeenAlike p st.tables new.tables = seen_of tables (Total agg x t conds) st new p _ one (then_preds p (aggregate agg (matching [] rows)) _ (λ o. refl)) m.seen in
-    let alike = seen_rows tables t checks (column_in agg) p st.tables new.tables is seen in
+    let alike = seen_rows t tests (column_in agg) p st.tables new.tables is seen in
     sym one
     ∙ (ap (λ r. asked_then p r (λ o. totalling p x o (is_some_row (matching [] rows)) st.env)) (aggregate_same agg (matching [] rows) (matching [] rows') alike)
     ∙ (ap (λ b. asked_then p (aggregate agg (matching [] rows')) (λ o. totalling p x o b st.env)) (some_same (column_in agg) (matching [] rows) (matching [] rows') alike)
@@ -258,18 +258,18 @@ total_same tables agg x t conds st new m =
 for_same : (tables : List TableInfo) (x : ℕ) (once : Bool) (cs : List ℕ) (t : ℕ) (conds : List RCond) (sorts : List RSort) (st new : State) → ReadsAlike tables (ForSelect x once cs t conds sorts []) st new
     → SameEffect tables (ForSelect x once cs t conds sorts []) st new
 for_same tables x once cs t conds sorts st new m =
-    by_where tables (ForSelect x once cs t conds sorts []) st new t conds (with_sorts cs sorts) m.reads (λ e p q. rw (p, q) refl) (λ p checks is a b.
+    by_where tables (ForSelect x once cs t conds sorts []) st new t conds (with_sorts cs sorts) m.reads (λ e p q. rw (p, q) refl) (λ p tests is a b.
     let rows : List Keyed = found_by p st.tables in
     let rows' : List Keyed = found_by p new.tables in
     let one = for_goes tables x once cs t conds sorts [] st.env st.tables p rows a refl st.lines in
     let two = for_goes tables x once cs t conds sorts [] new.env new.tables p rows' b refl new.lines in
     let seen : SeenAlike p st.tables new.tables = seen_of tables (ForSelect x once cs t conds sorts []) st new p _ one refl m.seen in
-    let alike = seen_rows tables t checks (with_sorts cs sorts) p st.tables new.tables is seen in
+    let alike = seen_rows t tests (with_sorts cs sorts) p st.tables new.tables is seen in
     sym one ∙ (ap (λ l. going p l st.env) (fixed_same once cs sorts (matching [] rows) (matching [] rows') alike) ∙ (going_same p _ st.env new.env m.found ∙ two)))
 
 delete_same : (tables : List TableInfo) (t : ℕ) (conds : List RCond) (st new : State) → ReadsAlike tables (Delete t conds) st new → SameEffect tables (Delete t conds) st new
 delete_same tables t conds st new m =
-    by_where tables (Delete t conds) st new t conds [] m.reads (λ e p q. rw (p, q) refl) (λ p checks is a b.
+    by_where tables (Delete t conds) st new t conds [] m.reads (λ e p q. rw (p, q) refl) (λ p tests is a b.
     let rows : List Keyed = found_by p st.tables in
     let rows' : List Keyed = found_by p new.tables in
     let one = delete_goes tables t conds st.env st.tables p rows a refl st.lines in
@@ -312,7 +312,7 @@ update_same : (tables : List TableInfo) (t : ℕ) (items : List RSetItem) (conds
 update_same tables t items conds st new plain m =
     let cs : List ℕ = flat_map (λ i. columns_in i.right) items in
     let hs = flat_parts st.env new.env (map (λ i. i.right) items) (rights conds) m.reads in
-    by_where tables (Update t items conds) st new t conds cs hs.1 (λ e p q. rw (p, q) refl) (λ p checks is a b.
+    by_where tables (Update t items conds) st new t conds cs hs.1 (λ e p q. rw (p, q) refl) (λ p tests is a b.
     let rows : List Keyed = found_by p st.tables in
     let rows' : List Keyed = found_by p new.tables in
     let one = update_done tables t items conds st.env st.tables p rows a refl st.lines in
@@ -336,7 +336,7 @@ insert_same tables t es st new m = by (new_row (columns_at tables t) es st.env) 
     by : (r : Result (List Value) End) → new_row (columns_at tables t) es st.env ≡ r → new_row (columns_at tables t) es new.env ≡ new_row (columns_at tables t) es st.env → SameEffect tables (Insert t es) st new
     by (Err e) is same = let is' : new_row (columns_at tables t) es new.env ≡ Err e = same ∙ is in rw (is, is') refl
     by (Ok row) is same =
-        let p : Pred = pred_of tables t (same_key (key_columns tables t) row) [] in
+        let p : Pred = pred_of t (same_key (key_columns tables t) row) [] in
         let rows : List Keyed = found_by p st.tables in
         let rows' : List Keyed = found_by p new.tables in
         let one = insert_done tables t es st.env st.tables row p rows m.databases.0.keys (m.databases.0.rising t) is refl refl st.lines in

@@ -26,7 +26,7 @@ use Rattle.mv_alone.specs.declared.state.State.{State}
 use Rattle.mv_alone.specs.Outcome.{then_do}
 use Rattle.mv_alone.specs.Env.{scalar_at, turns_at, with_value, with_values, with_found, truth}
 use Rattle.mv_alone.specs.Value.{value_of, values_of, fitted, is_so}
-use Rattle.mv_alone.specs.Rows.{checks_of, aggregate, total, sum_of, distinct, projected, column, is_some_row, ordered, item_at}
+use Rattle.mv_alone.specs.Rows.{aggregate, total, sum_of, distinct, projected, column, is_some_row, ordered, item_at, tests_of}
 use Rattle.mv_alone.specs.Changes.{new_row, put_row, keyed, updated, set_row}
 use Rattle.mv_alone.specs.Alone.{matching_in, offset_of, with_selected, totalled, is_turn}
 use Rattle.mv_record.specs.declared.record.Record.{Record}
@@ -123,17 +123,17 @@ env_told tables (Assign x e) st next has h =
     let v = goes_to (value_of e st.env []) _ next h in
     subst (λ n. SetsAll st.env (x ∷ []) n.env) (state_ok v.2) (one_set st.env x v.0)
 env_told {X} tables (Select cs xs t conds sorts offset) st next has h =
-    let checks = goes_to (checks_of conds st.env) _ next h in
-    let at = goes_to (offset_of offset st.env) _ next checks.2 in
+    let tests = goes_to (tests_of (key_columns tables t) conds st.env) _ next h in
+    let at = goes_to (offset_of offset st.env) _ next tests.2 in
     subst (λ n. SetsAll st.env (set_variables {X = X} (Select cs xs t conds sorts offset) n) n.env) (state_ok at.2)
-    (taken_sets st.env cs xs (item_at (ordered sorts (matching_in t checks.0 st)) (number at.0)) has)
+    (taken_sets st.env cs xs (item_at (ordered sorts (matching_in t tests.0 st)) (number at.0)) has)
 env_told {X} tables (Total agg x t conds) st next has h =
-    let checks = goes_to (checks_of conds st.env) _ next h in
-    let v = goes_to (aggregate agg (matching_in t checks.0 st)) _ next checks.2 in
+    let tests = goes_to (tests_of (key_columns tables t) conds st.env) _ next h in
+    let v = goes_to (aggregate agg (matching_in t tests.0 st)) _ next tests.2 in
     subst (λ n. SetsAll st.env (set_variables {X = X} (Total agg x t conds) n) n.env) (state_ok v.2)
-    (total_sets st.env x v.0 (gives_always agg) (is_some_row (matching_in t checks.0 st)) (gives agg (matching_in t checks.0 st) v.0 v.1))
+    (total_sets st.env x v.0 (gives_always agg) (is_some_row (matching_in t tests.0 st)) (gives agg (matching_in t tests.0 st) v.0 v.1))
 env_told tables (ForSelect x once cs t conds sorts body) st next has h =
-    let rows = goes_to (fixed_rows (ForSelect x once cs t conds sorts body) st) _ next h in
+    let rows = goes_to (fixed_rows tables (ForSelect x once cs t conds sorts body) st) _ next h in
     subst (λ n. SetsAll st.env (n.env.found ∷ []) n.env) (state_ok rows.2) (found_set st.env (is_turn rows.0))
 env_told tables (ForRows x y body) st next has h =
     subst (λ n. SetsAll st.env (n.env.found ∷ []) n.env) (state_ok h) (found_set st.env (is_turn (turns_at st.env y)))
@@ -145,12 +145,12 @@ env_told tables (Insert t es) st next has h =
     let rows = goes_to (put_row (keyed (key_columns tables t) row.0) (rows_at st.tables t)) _ next row.2 in
     subst (λ n. SetsAll st.env (n.env.found ∷ []) n.env) (state_ok rows.2) (found_set st.env true)
 env_told tables (Update t items conds) st next has h =
-    let checks = goes_to (checks_of conds st.env) _ next h in
-    let rows = goes_to (updated (λ row. set_row (columns_at tables t) (key_columns tables t) st.env row items row) checks.0 (rows_at st.tables t)) _ next checks.2 in
-    subst (λ n. SetsAll st.env (n.env.found ∷ []) n.env) (state_ok rows.2) (found_set st.env (is_some_row (matching_in t checks.0 st)))
+    let tests = goes_to (tests_of (key_columns tables t) conds st.env) _ next h in
+    let rows = goes_to (updated (λ row. set_row (columns_at tables t) (key_columns tables t) st.env row items row) tests.0 (rows_at st.tables t)) _ next tests.2 in
+    subst (λ n. SetsAll st.env (n.env.found ∷ []) n.env) (state_ok rows.2) (found_set st.env (is_some_row (matching_in t tests.0 st)))
 env_told tables (Delete t conds) st next has h =
-    let checks = goes_to (checks_of conds st.env) _ next h in
-    subst (λ n. SetsAll st.env (n.env.found ∷ []) n.env) (state_ok checks.2) (found_set st.env (is_some_row (matching_in t checks.0 st)))
+    let tests = goes_to (tests_of (key_columns tables t) conds st.env) _ next h in
+    subst (λ n. SetsAll st.env (n.env.found ∷ []) n.env) (state_ok tests.2) (found_set st.env (is_some_row (matching_in t tests.0 st)))
 env_told tables (Print es) st next has h =
     let vs = goes_to (values_of es st.env) _ next h in
     subst (λ n. SetsAll st.env [] n.env) (state_ok vs.2) refl
@@ -187,8 +187,8 @@ no_line tables (Print es) st e h = by_values (values_of es st.env) h
     by_values (Err f) k = refl
 no_line tables y st e h = refl
 
-no_rows : {X : Type 0} (tables : List TableInfo) (y : RStmt-F X) (st : State) (e : End) → itself tables y st ≡ Err e → on (fixed_rows y st) (λ rows. rows) ≡ []
-no_rows tables (ForSelect x once cs t conds sorts body) st e h = by_rows (fixed_rows (ForSelect x once cs t conds sorts body) st) h
+no_rows : {X : Type 0} (tables : List TableInfo) (y : RStmt-F X) (st : State) (e : End) → itself tables y st ≡ Err e → on (fixed_rows tables y st) (λ rows. rows) ≡ []
+no_rows tables (ForSelect x once cs t conds sorts body) st e h = by_rows (fixed_rows tables (ForSelect x once cs t conds sorts body) st) h
   where
     by_rows : (rows : Result (List (List Value)) End) → before_turns rows st ≡ Err e → on rows (λ rows. rows) ≡ []
     by_rows (Ok rows) k = cc

@@ -1,5 +1,7 @@
 -- A law of runs that holds of each statement itself, and of one run after another, holds of full runs.
 use Rattle.std.proofs.Common.{◌≡◌, ℕ, ◌+◌, Bool, true, false, List, [], ◌∷◌, ◌++◌, Result, Ok, Err, map, length, if◌then◌else◌, refl, sym, ap, subst, append-nil}
+use Rattle.mv_values.specs.Tables.{key_columns}
+use Rattle.mv_values.specs.declared.pred.Test.{Test}
 use Rattle.mv_values.specs.declared.value.Value.{Value}
 use Rattle.mv_values.specs.declared.schema.TableInfo.{TableInfo}
 use Rattle.mv_values.specs.declared.calls.End.{End}
@@ -7,12 +9,11 @@ use Rattle.mv_catalog.specs.declared.resolved.RStmt.{RStmt, roll-RStmt, map-RStm
 use Rattle.mv_catalog.specs.declared.resolved.RStmt.TheOpen.{RStmt-F, Assign, Select, Total, ForSelect, ForRows, Branch, Insert, Update, Delete, Print, Rollback}
 use Rattle.mv_alone.specs.declared.state.Env.{Env}
 use Rattle.mv_alone.specs.declared.state.State.{State}
-use Rattle.mv_alone.specs.declared.state.Check.{Check}
 use Rattle.mv_alone.specs.declared.state.Held.TheVariants.{Turn}
 use Rattle.mv_alone.specs.Outcome.{then_do}
 use Rattle.mv_alone.specs.Env.{with_found, with_held, turns_at}
 use Rattle.mv_alone.specs.Value.{value_of, is_so}
-use Rattle.mv_alone.specs.Rows.{checks_of}
+use Rattle.mv_alone.specs.Rows.{tests_of}
 use Rattle.mv_alone.specs.Alone.{Does, alone, does, stmt_step, each_turn, loop_over, fixed, matching_in, is_turn}
 use Rattle.mv_record.specs.declared.record.Record.{Record}
 use Rattle.mv_recorded.specs.Asking.{on}
@@ -61,10 +62,10 @@ loop_follows R law x body tells h rows own n site before st k =
     let next : State = record st { env = with_found st.env (is_turn rows) } in
     law.more st next (own ∷ []) (tell_turns x body tells rows 1 n site before next) (each_turn x body rows next) k (turns_follow R law x body tells h rows 1 n site before next)
 
-fixed_follow : (R : Claim) → IsLaw R → (x : ℕ) (body : Does) (tells : Tells) → Follows R tells body → (checks : Result (List Check) End) (rows : List Check → List (List Value))
+fixed_follow : (R : Claim) → IsLaw R → (x : ℕ) (body : Does) (tells : Tells) → Follows R tells body → (tests : Result (List Test) End) (rows : List Test → List (List Value))
     → (own : Record) (n : ℕ) (site : Site) (before : List Record) (st : State)
-    → R st (own ∷ []) (before_turns (then_do checks (λ c. Ok (rows c))) st)
-    → R st (own ∷ on (then_do checks (λ c. Ok (rows c))) (λ all. tell_loop x body tells all n site before st)) (then_do checks (λ c. loop_over x body (rows c) st))
+    → R st (own ∷ []) (before_turns (then_do tests (λ c. Ok (rows c))) st)
+    → R st (own ∷ on (then_do tests (λ c. Ok (rows c))) (λ all. tell_loop x body tells all n site before st)) (then_do tests (λ c. loop_over x body (rows c) st))
 fixed_follow R law x body tells h (Ok c) rows own n site before st k = loop_follows R law x body tells h (rows c) own n site before st k
 fixed_follow R law x body tells h (Err e) rows own n site before st k = k
 
@@ -104,9 +105,9 @@ step_follows R law tables params (Total agg x t conds) n site before st = law.ow
 step_follows R law tables params (ForSelect x once cs t conds sorts body) n site before st =
     let ss : List RStmt = map (λ k. k.0) body in
     let own : Record = own_record tables params (telling R tables params (ForSelect x once cs t conds sorts body)) n site before st in
-    subst (λ b. R st (own ∷ on (then_do (checks_of conds st.env) (λ checks. Ok (fixed once cs sorts (matching_in t checks st)))) (λ all. tell_loop x b (tell_statements tables params ss) all (n + 1) (within_loop x (length before) site) (before ++ own ∷ []) st))
-    (then_do (checks_of conds st.env) (λ checks. loop_over x (alone tables ss) (fixed once cs sorts (matching_in t checks st)) st))) (sym (body_is tables params ss))
-    (fixed_follow R law x (alone tables ss) (tell_statements tables params ss) (all_follow R law tables params body) (checks_of conds st.env) (λ checks. fixed once cs sorts (matching_in t checks st)) own (n + 1) _ _ st
+    subst (λ b. R st (own ∷ on (then_do (tests_of (key_columns tables t) conds st.env) (λ tests. Ok (fixed once cs sorts (matching_in t tests st)))) (λ all. tell_loop x b (tell_statements tables params ss) all (n + 1) (within_loop x (length before) site) (before ++ own ∷ []) st))
+    (then_do (tests_of (key_columns tables t) conds st.env) (λ tests. loop_over x (alone tables ss) (fixed once cs sorts (matching_in t tests st)) st))) (sym (body_is tables params ss))
+    (fixed_follow R law x (alone tables ss) (tell_statements tables params ss) (all_follow R law tables params body) (tests_of (key_columns tables t) conds st.env) (λ tests. fixed once cs sorts (matching_in t tests st)) own (n + 1) _ _ st
     (law.own tables params (telling R tables params (ForSelect x once cs t conds sorts body)) n site before st))
 step_follows R law tables params (ForRows x y body) n site before st =
     let ss : List RStmt = map (λ k. k.0) body in

@@ -199,7 +199,7 @@ module _ (tables : List TableInfo) (params : ℕ) where
       let z : RStmt-F (RStmt × Tells) = telling (ForSelect x once cs t conds sorts body) in
       let own : Record = own_record tables params z n site before st in
       inside own (tell_inner tables z (length before) (n + 1) site (before ++ own ∷ []) st) st.tables (nothing (itself tables z st)) s.database
-      (fixed_last (fixed_rows z st) _ st.tables s.database (λ rows is.
+      (fixed_last (fixed_rows tables z st) _ st.tables s.database (λ rows is.
       turns_last x h.2.3.0 vars _ (tell_statements tables params (map (λ p. p.0) body)) h.2.2 (body_walks body (with_turn vars x h.2.3.0) h.2.3.2) rows
       (chosen_kinds tables (λ p. p) (IsWell tables) x once cs t conds sorts (map (λ p. p.0) body) vars st rows h (typed vars st s) is) 1 (n + 1) (within_loop x (length before) site) (before ++ own ∷ []) (record st { env = with_found st.env (is_turn rows) })
       (record { fit = fit_found vars st.env (is_turn rows) s.fit; database = s.database })))

@@ -3,23 +3,23 @@ use Rattle.std.proofs.Common.{◌≡◌, inl, inr, ℕ, suc, ◌+◌, ◌-◌, �
 use Rattle.std.specs.Prelude.{⊤, slice_get}
 use Rattle.std.proofs.lemmas.Option.{slice_get_within}
 use Rattle.std.proofs.lemmas.Grind.{flat_map-append}
+use Rattle.mv_values.specs.declared.pred.Test.{Test}
 use Rattle.mv_values.specs.declared.value.Value.{Value}
 use Rattle.mv_values.specs.declared.schema.TableInfo.{TableInfo}
 use Rattle.mv_values.specs.declared.calls.End.{End}
 use Rattle.mv_values.specs.Keys.{IsRising}
-use Rattle.mv_values.specs.Tables.{rows_at, Tables}
+use Rattle.mv_values.specs.Tables.{rows_at, Tables, key_columns}
 use Rattle.mv_values.specs.Patching.{applied}
 use Rattle.mv_catalog.specs.Statements.{size, size_step, total_size}
 use Rattle.mv_catalog.specs.declared.resolved.RStmt.{RStmt, roll-RStmt, map-RStmt, ind-RStmt, para-roll-RStmt, fold-roll-RStmt}
 use Rattle.mv_catalog.specs.declared.resolved.RStmt.TheOpen.{RStmt-F, Assign, Select, Total, ForSelect, ForRows, Branch, Insert, Update, Delete, Print, Rollback}
 use Rattle.mv_alone.specs.declared.state.Env.{Env}
-use Rattle.mv_alone.specs.declared.state.Check.{Check}
 use Rattle.mv_alone.specs.declared.state.State.{State}
 use Rattle.mv_alone.specs.declared.state.Held.TheVariants.{Turn}
 use Rattle.mv_alone.specs.Outcome.{then_do}
 use Rattle.mv_alone.specs.Env.{held_at, with_found, with_held, turns_at}
 use Rattle.mv_alone.specs.Value.{value_of, is_so}
-use Rattle.mv_alone.specs.Rows.{checks_of}
+use Rattle.mv_alone.specs.Rows.{tests_of}
 use Rattle.mv_alone.specs.Alone.{Does, alone, does, stmt_step, each_turn, loop_over, fixed, matching_in, is_turn}
 use Rattle.mv_alone.specs.TableAfter.{entered}
 use Rattle.mv_values.specs.declared.calls.Call.{Call}
@@ -244,11 +244,11 @@ loop_trace g x F body tells h all own n site os before st stands suits high apar
     (turns_trace g x F body tells h all [] 1 os n site (length before) (before ++ own ∷ []) mid stands suits high apart (here_later g site os before (own ∷ []) st mid here k.1.0 k.1.1)
     (omega (arith, length-append before (own ∷ []))) own (get_last before own []) same are (omega arith))
 
-fixed_trace : (g : Ground) (x : ℕ) (F : Flat) (body : Does) (tells : Tells) → Traces g F tells body → (checks : Result (List Check) End) (rows : List Check → List (List Value)) (own : Record) (n : ℕ) (site : Site)
+fixed_trace : (g : Ground) (x : ℕ) (F : Flat) (body : Does) (tells : Tells) → Traces g F tells body → (tests : Result (List Test) End) (rows : List Test → List (List Value)) (own : Record) (n : ℕ) (site : Site)
     (os : List ℕ) (before : List Record) (st : State)
-    → StandsAt g.text n (F (x ∷ os)) → Each (Suits g.tables g.params g.base) (F (x ∷ os)) → g.base ≤ x → (Within x os → ⊥) → IsAtSite g site os before st → own.rows ≡ on (then_do checks (λ c. Ok (rows c))) (λ all. all) → own.spot.turns ≡ site.turns
-    → Traced g before (own ∷ []) os st (before_turns (then_do checks (λ c. Ok (rows c))) st)
-    → Traced g before (own ∷ on (then_do checks (λ c. Ok (rows c))) (λ all. tell_loop x body tells all n (within_loop x (length before) site) (before ++ own ∷ []) st)) os st (then_do checks (λ c. loop_over x body (rows c) st))
+    → StandsAt g.text n (F (x ∷ os)) → Each (Suits g.tables g.params g.base) (F (x ∷ os)) → g.base ≤ x → (Within x os → ⊥) → IsAtSite g site os before st → own.rows ≡ on (then_do tests (λ c. Ok (rows c))) (λ all. all) → own.spot.turns ≡ site.turns
+    → Traced g before (own ∷ []) os st (before_turns (then_do tests (λ c. Ok (rows c))) st)
+    → Traced g before (own ∷ on (then_do tests (λ c. Ok (rows c))) (λ all. tell_loop x body tells all n (within_loop x (length before) site) (before ++ own ∷ []) st)) os st (then_do tests (λ c. loop_over x body (rows c) st))
 fixed_trace g x F body tells h (Ok c) rows own n site os before st stands suits high apart here are same k =
     loop_trace g x F body tells h (rows c) own n site os before st stands suits high apart here are same k
 fixed_trace g x F body tells h (Err e) rows own n site os before st stands suits high apart here are same k = k
@@ -355,9 +355,9 @@ step_trace g ground (ForSelect x once cs t conds sorts body) rows n site before 
     let ss : List RStmt = plain g body in
     let own : Record = own_record g.tables g.params y n site before st in
     let here' : List Stated = record { it = z; rows = rows } ∷ [] in
-    subst (λ b. Traced g before (own ∷ on (then_do (checks_of conds st.env) (λ checks. Ok (fixed once cs sorts (matching_in t checks st)))) (λ all. tell_loop x b (tell_statements g.tables g.params ss) all (n + 1) (within_loop x (length before) site) (before ++ own ∷ []) st)) rows st
-    (then_do (checks_of conds st.env) (λ checks. loop_over x (alone g.tables ss) (fixed once cs sorts (matching_in t checks st)) st))) (sym (again g ss))
-    (fixed_trace g x (flat_all ss) (alone g.tables ss) (tell_statements g.tables g.params ss) (all_trace g body) (checks_of conds st.env) (λ checks. fixed once cs sorts (matching_in t checks st)) own (n + 1) site rows before st
+    subst (λ b. Traced g before (own ∷ on (then_do (tests_of (key_columns g.tables t) conds st.env) (λ tests. Ok (fixed once cs sorts (matching_in t tests st)))) (λ all. tell_loop x b (tell_statements g.tables g.params ss) all (n + 1) (within_loop x (length before) site) (before ++ own ∷ []) st)) rows st
+    (then_do (tests_of (key_columns g.tables t) conds st.env) (λ tests. loop_over x (alone g.tables ss) (fixed once cs sorts (matching_in t tests st)) st))) (sym (again g ss))
+    (fixed_trace g x (flat_all ss) (alone g.tables ss) (tell_statements g.tables g.params ss) (all_trace g body) (tests_of (key_columns g.tables t) conds st.env) (λ tests. fixed once cs sorts (matching_in t tests st)) own (n + 1) site rows before st
     (stands_second g.text n 1 here' (flat_all ss (x ∷ rows)) refl stands) suits.1 suits.0.loop.0 suits.0.loop.1 here refl refl
     (leaf_trace g z y n site rows before st ground (stands_first g.text n here' (flat_all ss (x ∷ rows)) stands) suits.0 here refl refl))
 step_trace g ground (ForRows x y body) rows n site before st stands suits here =

@@ -3,6 +3,7 @@ use Rattle.std.proofs.Common.{◌≡◌, ℕ, zero, suc, true, List, [], ◌∷�
 use Rattle.std.proofs.lemmas.Grind.{flat_map-append}
 use Rattle.mv_record.proofs.Rising.{Rises}
 use Rattle.mv_record.proofs.Patching.{applied_append}
+use Rattle.mv_values.specs.declared.pred.Test.{Test}
 use Rattle.mv_values.specs.declared.value.Value.{Value}
 use Rattle.mv_values.specs.declared.rows.Keyed.{Keyed}
 use Rattle.mv_values.specs.declared.patch.Patch.TheVariants as patch
@@ -16,11 +17,10 @@ use Rattle.mv_catalog.specs.declared.resolved.RSetItem.{RSetItem}
 use Rattle.mv_catalog.specs.declared.resolved.RStmt.{RStmt}
 use Rattle.mv_catalog.specs.declared.resolved.RStmt.TheOpen.{RStmt-F, Assign, Select, Total, ForSelect, ForRows, Branch, Insert, Update, Delete, Print, Rollback}
 use Rattle.mv_alone.specs.declared.state.Env.{Env}
-use Rattle.mv_alone.specs.declared.state.Check.{Check}
 use Rattle.mv_alone.specs.declared.state.State.{State}
 use Rattle.mv_alone.specs.Outcome.{then_do}
 use Rattle.mv_alone.specs.Value.{value_of, values_of}
-use Rattle.mv_alone.specs.Rows.{checks_of, aggregate, is_some_row}
+use Rattle.mv_alone.specs.Rows.{tests_of, aggregate, is_some_row}
 use Rattle.mv_alone.specs.Changes.{new_row, put_row, keyed, updated, set_row, without}
 use Rattle.mv_alone.specs.Alone.{matching_in, offset_of, fixed, with_rows}
 use Rattle.mv_record.specs.declared.record.Record.{Record}
@@ -105,11 +105,11 @@ inserts tables t st (Err e) = λ rise. tt
 abbrev new_of : List TableInfo → ℕ → List RSetItem → State → New
 new_of tables t items st = λ row. set_row (columns_at tables t) (key_columns tables t) st.env row items row
 
-abbrev update_made : List TableInfo → ℕ → List RSetItem → State → Result (List Check) End → Result State End
-update_made tables t items st checks =
-    then_do checks (λ c. then_do (updated (new_of tables t items st) c (rows_at st.tables t)) (λ rows. Ok (with_rows t rows (is_some_row (matching_in t c st)) st)))
+abbrev update_made : List TableInfo → ℕ → List RSetItem → State → Result (List Test) End → Result State End
+update_made tables t items st tests =
+    then_do tests (λ c. then_do (updated (new_of tables t items st) c (rows_at st.tables t)) (λ rows. Ok (with_rows t rows (is_some_row (matching_in t c st)) st)))
 
-updates_with : (tables : List TableInfo) (t : ℕ) (items : List RSetItem) (st : State) (c : List Check) (r : Result (List Keyed) End) → updated (new_of tables t items st) c (rows_at st.tables t) ≡ r
+updates_with : (tables : List TableInfo) (t : ℕ) (items : List RSetItem) (st : State) (c : List Test) (r : Result (List Keyed) End) → updated (new_of tables t items st) c (rows_at st.tables t) ≡ r
     → LeadsBy st (on (then_do r (λ rows. Ok (with_rows t rows (is_some_row (matching_in t c st)) st))) (λ next. set_writes t items (new_of tables t items st) (matching_in t c st)) ++ [])
     (then_do r (λ rows. Ok (with_rows t rows (is_some_row (matching_in t c st)) st)))
 updates_with tables t items st c (Ok rows) is rise =
@@ -121,18 +121,18 @@ updates_with tables t items st c (Ok rows) is rise =
     )
 updates_with tables t items st c (Err e) is rise = tt
 
-updates : (tables : List TableInfo) (t : ℕ) (items : List RSetItem) (st : State) (checks : Result (List Check) End)
-    → LeadsBy st (on (update_made tables t items st checks) (λ next. on checks (λ c. set_writes t items (new_of tables t items st) (matching_in t c st))) ++ []) (update_made tables t items st checks)
+updates : (tables : List TableInfo) (t : ℕ) (items : List RSetItem) (st : State) (tests : Result (List Test) End)
+    → LeadsBy st (on (update_made tables t items st tests) (λ next. on tests (λ c. set_writes t items (new_of tables t items st) (matching_in t c st))) ++ []) (update_made tables t items st tests)
 updates tables t items st (Ok c) = updates_with tables t items st c (updated (new_of tables t items st) c (rows_at st.tables t)) refl
 updates tables t items st (Err e) = λ rise. tt
 
 -- DELETE
 
-abbrev delete_made : ℕ → State → Result (List Check) End → Result State End
-delete_made t st checks = then_do checks (λ c. Ok (with_rows t (without c (rows_at st.tables t)) (is_some_row (matching_in t c st)) st))
+abbrev delete_made : ℕ → State → Result (List Test) End → Result State End
+delete_made t st tests = then_do tests (λ c. Ok (with_rows t (without c (rows_at st.tables t)) (is_some_row (matching_in t c st)) st))
 
-deletes : (t : ℕ) (st : State) (checks : Result (List Check) End)
-    → LeadsBy st (on (delete_made t st checks) (λ next. on checks (λ c. map (λ item. write t item.key patch.Delete) (matching_in t c st))) ++ []) (delete_made t st checks)
+deletes : (t : ℕ) (st : State) (tests : Result (List Test) End)
+    → LeadsBy st (on (delete_made t st tests) (λ next. on tests (λ c. map (λ item. write t item.key patch.Delete) (matching_in t c st))) ++ []) (delete_made t st tests)
 deletes t st (Ok c) rise =
     let ws : List Write = map (λ item. write t item.key patch.Delete) (matching_in t c st) in (
       ap (slice_set st.tables t) (sym (deletes_lead t c (rows_at st.tables t) (rise t))) ∙ (sym (applied_on t ws st.tables (deletes_on t (matching_in t c st))) ∙ ap (λ vs. applied vs st.tables) (sym (append-nil ws))),
@@ -149,16 +149,16 @@ pub leads_own : {X : Type 0} (tables : List TableInfo) (params : ℕ) (y : RStmt
     → LeadsTo st (own_record tables params y n site before st ∷ []) (itself tables y st)
 leads_own {X} tables params (Assign x e) n site before st = still (itself {X = X} tables (Assign x e) st) st (then_keeps (value_of e st.env []) _ st (λ v. refl))
 leads_own {X} tables params (Select cs xs t conds sorts offset) n site before st =
-    still (itself {X = X} tables (Select cs xs t conds sorts offset) st) st (then_keeps (checks_of conds st.env) _ st (λ checks. then_keeps (offset_of offset st.env) _ st (λ at. refl)))
+    still (itself {X = X} tables (Select cs xs t conds sorts offset) st) st (then_keeps (tests_of (key_columns tables t) conds st.env) _ st (λ tests. then_keeps (offset_of offset st.env) _ st (λ at. refl)))
 leads_own {X} tables params (Total agg x t conds) n site before st =
-    still (itself {X = X} tables (Total agg x t conds) st) st (then_keeps (checks_of conds st.env) _ st (λ checks. then_keeps (aggregate agg (matching_in t checks st)) _ st (λ v. refl)))
+    still (itself {X = X} tables (Total agg x t conds) st) st (then_keeps (tests_of (key_columns tables t) conds st.env) _ st (λ tests. then_keeps (aggregate agg (matching_in t tests st)) _ st (λ v. refl)))
 leads_own {X} tables params (ForSelect x once cs t conds sorts body) n site before st =
-    still (itself {X = X} tables (ForSelect x once cs t conds sorts body) st) st (then_keeps (then_do (checks_of conds st.env) (λ checks. Ok (fixed once cs sorts (matching_in t checks st)))) _ st (λ rows. refl))
+    still (itself {X = X} tables (ForSelect x once cs t conds sorts body) st) st (then_keeps (then_do (tests_of (key_columns tables t) conds st.env) (λ tests. Ok (fixed once cs sorts (matching_in t tests st)))) _ st (λ rows. refl))
 leads_own {X} tables params (ForRows x y body) n site before st = still (itself {X = X} tables (ForRows x y body) st) st refl
 leads_own {X} tables params (Branch e ys ns) n site before st = still (itself {X = X} tables (Branch e ys ns) st) st (then_keeps (value_of e st.env []) _ st (λ v. refl))
 leads_own {X} tables params (Insert t es) n site before st = inserts tables t st (new_row (columns_at tables t) es st.env)
-leads_own {X} tables params (Update t items conds) n site before st = updates tables t items st (checks_of conds st.env)
-leads_own {X} tables params (Delete t conds) n site before st = deletes t st (checks_of conds st.env)
+leads_own {X} tables params (Update t items conds) n site before st = updates tables t items st (tests_of (key_columns tables t) conds st.env)
+leads_own {X} tables params (Delete t conds) n site before st = deletes t st (tests_of (key_columns tables t) conds st.env)
 leads_own {X} tables params (Print es) n site before st = still (itself {X = X} tables (Print es) st) st (then_keeps (values_of es st.env) _ st (λ vs. refl))
 leads_own {X} tables params (Rollback reason) n site before st = still (itself {X = X} tables (Rollback reason) st) st tt
 

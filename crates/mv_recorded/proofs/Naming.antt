@@ -150,11 +150,11 @@ inner_names tables params (Assign x e) n site before own st s = tt
 inner_names tables params (Select cs xs t conds sorts offset) n site before own st s = tt
 inner_names tables params (Total agg x t conds) n site before own st s = tt
 inner_names tables params (ForSelect x once cs t conds sorts body) n site before own st s =
-    nothing_earlier (length (before ++ own ∷ [])) (fixed_rows (telling tables params (ForSelect x once cs t conds sorts body)) st) _
+    nothing_earlier (length (before ++ own ∷ [])) (fixed_rows tables (telling tables params (ForSelect x once cs t conds sorts body)) st) _
     (λ rows. turns_earlier x (body_of tables (map (λ s. (s, tell tables params s)) (map (λ k. k.0) body))) (tell_statements tables params (map (λ k. k.0) body)) (all_earlier tables params body) rows 1 n (within_loop x (length before) site) (before ++ own ∷ []) (record st { env = with_found st.env (is_turn rows) })
     (loop_inside_earlier x before own site s))
 inner_names tables params (ForRows x y body) n site before own st s =
-    nothing_earlier (length (before ++ own ∷ [])) (fixed_rows (telling tables params (ForRows x y body)) st) _
+    nothing_earlier (length (before ++ own ∷ [])) (fixed_rows tables (telling tables params (ForRows x y body)) st) _
     (λ rows. turns_earlier x (body_of tables (map (λ s. (s, tell tables params s)) (map (λ k. k.0) body))) (tell_statements tables params (map (λ k. k.0) body)) (all_earlier tables params body) rows 1 n (within_loop x (length before) site) (before ++ own ∷ []) (record st { env = with_found st.env (is_turn rows) })
     (loop_inside_earlier x before own site s))
 inner_names tables params (Branch e ys ns) n site before own st s =

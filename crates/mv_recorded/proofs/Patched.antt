@@ -5,6 +5,7 @@ use Rattle.std.specs.Ordering.{is_eq, ordering_reverse}
 use Rattle.std.specs.declared.cmp.Ordering.{Ordering}
 use Rattle.std.specs.declared.cmp.Ordering.TheVariants.{Less, Equal, Greater}
 use Rattle.mv_record.proofs.Rising.{lower, Above, Rises}
+use Rattle.mv_values.specs.declared.pred.Test.{Test}
 use Rattle.mv_values.specs.declared.value.Value.{Value}
 use Rattle.mv_values.specs.declared.rows.Keyed.{Keyed}
 use Rattle.mv_values.specs.declared.patch.Patch.{Patch}
@@ -15,7 +16,6 @@ use Rattle.mv_values.specs.Order.{key_order}
 use Rattle.mv_values.specs.Patching.{row_of, patched, standing, placed, placed_by, patched_rows, applied}
 use Rattle.mv_values.specs.Tables.{rows_at, Tables}
 use Rattle.mv_values.proofs.KeyOrder.{key_order_total}
-use Rattle.mv_alone.specs.declared.state.Check.{Check}
 use Rattle.mv_alone.specs.Rows.{meets, matching}
 use Rattle.mv_alone.specs.Changes.{without, put_row, put_row_by}
 use Rattle.mv_recorded.specs.Doing.{write}
@@ -90,38 +90,38 @@ pub deletes_on : (t : ℕ) (items : List Keyed) → OnTable t (deletes_of t item
 deletes_on t [] = tt
 deletes_on t (i ∷ is) = (refl, deletes_on t is)
 
-deletes_past : (t : ℕ) (checks : List Check) (key : List Value) (rows : List Keyed) → Above key rows → AllPast key (deletes_of t (matching checks rows))
-deletes_past t checks key [] h = tt
-deletes_past t checks key (r ∷ rs) h = either (meets checks r.row) (deletes_past t checks key rs h.1)
+deletes_past : (t : ℕ) (tests : List Test) (key : List Value) (rows : List Keyed) → Above key rows → AllPast key (deletes_of t (matching tests rows))
+deletes_past t tests key [] h = tt
+deletes_past t tests key (r ∷ rs) h = either (meets tests r.row) (deletes_past t tests key rs h.1)
   where
-    either : (b : Bool) → AllPast key (deletes_of t (matching checks rs)) → AllPast key (deletes_of t (cond b (r ∷ matching checks rs) (matching checks rs)))
+    either : (b : Bool) → AllPast key (deletes_of t (matching tests rs)) → AllPast key (deletes_of t (cond b (r ∷ matching tests rs) (matching tests rs)))
     either true k = (h.0, k)
     either false k = k
 
-pub deletes_lead : (t : ℕ) (checks : List Check) (rows : List Keyed) → Rises rows → patched_all (deletes_of t (matching checks rows)) rows ≡ without checks rows
-deletes_lead t checks [] h = refl
-deletes_lead t checks (r ∷ rs) h = either (meets checks r.row) (deletes_lead t checks rs h.1)
+pub deletes_lead : (t : ℕ) (tests : List Test) (rows : List Keyed) → Rises rows → patched_all (deletes_of t (matching tests rows)) rows ≡ without tests rows
+deletes_lead t tests [] h = refl
+deletes_lead t tests (r ∷ rs) h = either (meets tests r.row) (deletes_lead t tests rs h.1)
   where
-    either : (b : Bool) → patched_all (deletes_of t (matching checks rs)) rs ≡ without checks rs
-        → patched_all (deletes_of t (cond b (r ∷ matching checks rs) (matching checks rs))) (r ∷ rs) ≡ cond (not b) (r ∷ without checks rs) (without checks rs)
-    either true k = ap (patched_all (deletes_of t (matching checks rs))) (changes_first r Delete rs) ∙ k
-    either false k = all_pass r (deletes_of t (matching checks rs)) rs (deletes_past t checks r.key rs h.0) ∙ ap (λ l. r ∷ l) k
+    either : (b : Bool) → patched_all (deletes_of t (matching tests rs)) rs ≡ without tests rs
+        → patched_all (deletes_of t (cond b (r ∷ matching tests rs) (matching tests rs))) (r ∷ rs) ≡ cond (not b) (r ∷ without tests rs) (without tests rs)
+    either true k = ap (patched_all (deletes_of t (matching tests rs))) (changes_first r Delete rs) ∙ k
+    either false k = all_pass r (deletes_of t (matching tests rs)) rs (deletes_past t tests r.key rs h.0) ∙ ap (λ l. r ∷ l) k
 
-after_without : (k : List Value) (checks : List Check) (rows : List Keyed) → Above k rows → Above k (without checks rows)
-after_without k checks [] h = tt
-after_without k checks (r ∷ rs) h = either (meets checks r.row) (after_without k checks rs h.1)
+after_without : (k : List Value) (tests : List Test) (rows : List Keyed) → Above k rows → Above k (without tests rows)
+after_without k tests [] h = tt
+after_without k tests (r ∷ rs) h = either (meets tests r.row) (after_without k tests rs h.1)
   where
-    either : (b : Bool) → Above k (without checks rs) → Above k (cond (not b) (r ∷ without checks rs) (without checks rs))
+    either : (b : Bool) → Above k (without tests rs) → Above k (cond (not b) (r ∷ without tests rs) (without tests rs))
     either true rest = rest
     either false rest = (h.0, rest)
 
-pub without_rises : (checks : List Check) (rows : List Keyed) → Rises rows → Rises (without checks rows)
-without_rises checks [] h = tt
-without_rises checks (r ∷ rs) h = either (meets checks r.row) (without_rises checks rs h.1)
+pub without_rises : (tests : List Test) (rows : List Keyed) → Rises rows → Rises (without tests rows)
+without_rises tests [] h = tt
+without_rises tests (r ∷ rs) h = either (meets tests r.row) (without_rises tests rs h.1)
   where
-    either : (b : Bool) → Rises (without checks rs) → Rises (cond (not b) (r ∷ without checks rs) (without checks rs))
+    either : (b : Bool) → Rises (without tests rs) → Rises (cond (not b) (r ∷ without tests rs) (without tests rs))
     either true rest = rest
-    either false rest = (after_without r.key checks rs h.0, rest)
+    either false rest = (after_without r.key tests rs h.0, rest)
 
 -- INSERT
 

@@ -233,13 +233,13 @@ module _ (text : List Post) (tables : List TableInfo) (params : ℕ) where
       let z : RStmt-F (RStmt × Tells) = telling (ForSelect x once cs t conds sorts body) in
       let own : Record = own_record tables params z n site before st in (
         own_posted text tables params z n site before st nests post (first_stand text n (post ∷ []) _ stands) s,
-        on_posted text (nests ++ nest_of nests own ∷ []) (fixed_rows z st) _ (λ rows. loop_posted z body x n site before st nests post (body_of tables (map (λ s. (s, tell tables params s)) (plain body))) rows stands many s),
+        on_posted text (nests ++ nest_of nests own ∷ []) (fixed_rows tables z st) _ (λ rows. loop_posted z body x n site before st nests post (body_of tables (map (λ s. (s, tell tables params s)) (plain body))) rows stands many s),
       )
   step_posted (ForRows x y body) n site before st nests post stands many s =
       let z : RStmt-F (RStmt × Tells) = telling (ForRows x y body) in
       let own : Record = own_record tables params z n site before st in (
         own_posted text tables params z n site before st nests post (first_stand text n (post ∷ []) _ stands) s,
-        on_posted text (nests ++ nest_of nests own ∷ []) (fixed_rows z st) _ (λ rows. loop_posted z body x n site before st nests post (body_of tables (map (λ s. (s, tell tables params s)) (plain body))) rows stands many s),
+        on_posted text (nests ++ nest_of nests own ∷ []) (fixed_rows tables z st) _ (λ rows. loop_posted z body x n site before st nests post (body_of tables (map (λ s. (s, tell tables params s)) (plain body))) rows stands many s),
       )
   step_posted (Branch e ys ns) n site before st nests post stands many s =
       let z : RStmt-F (RStmt × Tells) = telling (Branch e ys ns) in

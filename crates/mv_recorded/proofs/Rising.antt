@@ -168,7 +168,7 @@ step_rises tables params (ForSelect x once cs t conds sorts body) n site before 
     let here = stands_here nests site around stands in
     let many : ℕ = total_size (map size (plain tables params body)) in
     own_rises nests own _ around n (around ++ n ∷ 1 ∷ []) (around ++ (n + (1 + many)) ∷ []) (ap (λ a. a ++ n ∷ []) here) (first_turn around n 1)
-    (on_rises (nests ++ nest_of nests own ∷ []) (fixed_rows (telling tables params (ForSelect x once cs t conds sorts body)) st) _ (around ++ n ∷ 1 ∷ []) (around ++ (n + (1 + many)) ∷ [])
+    (on_rises (nests ++ nest_of nests own ∷ []) (fixed_rows tables (telling tables params (ForSelect x once cs t conds sorts body)) st) _ (around ++ n ∷ 1 ∷ []) (around ++ (n + (1 + many)) ∷ [])
     (earlier_not_later (around ++ n ∷ 1 ∷ []) (around ++ (n + (1 + many)) ∷ []) (turn_before around n 1 many))
     (λ rows. loop_rises x (body_of tables (map (λ s. (s, tell tables params s)) (plain tables params body))) (tell_statements tables params (plain tables params body)) many (all_rise tables params body) rows own n site before
     (record st { env = with_found st.env (is_turn rows) }) nests around as_many here refl refl))
@@ -177,7 +177,7 @@ step_rises tables params (ForRows x y body) n site before st nests around as_man
     let here = stands_here nests site around stands in
     let many : ℕ = total_size (map size (plain tables params body)) in
     own_rises nests own _ around n (around ++ n ∷ 1 ∷ []) (around ++ (n + (1 + many)) ∷ []) (ap (λ a. a ++ n ∷ []) here) (first_turn around n 1)
-    (on_rises (nests ++ nest_of nests own ∷ []) (fixed_rows (telling tables params (ForRows x y body)) st) _ (around ++ n ∷ 1 ∷ []) (around ++ (n + (1 + many)) ∷ [])
+    (on_rises (nests ++ nest_of nests own ∷ []) (fixed_rows tables (telling tables params (ForRows x y body)) st) _ (around ++ n ∷ 1 ∷ []) (around ++ (n + (1 + many)) ∷ [])
     (earlier_not_later (around ++ n ∷ 1 ∷ []) (around ++ (n + (1 + many)) ∷ []) (turn_before around n 1 many))
     (λ rows. loop_rises x (body_of tables (map (λ s. (s, tell tables params s)) (plain tables params body))) (tell_statements tables params (plain tables params body)) many (all_rise tables params body) rows own n site before
     (record st { env = with_found st.env (is_turn rows) }) nests around as_many here refl refl))

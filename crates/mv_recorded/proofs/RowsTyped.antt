@@ -8,6 +8,7 @@ use Rattle.std.specs.List.{AllZip, list_any}
 use Rattle.std.specs.Ordering.{is_le}
 use Rattle.std.specs.declared.cmp.Ordering.{Ordering}
 use Rattle.std.specs.declared.cmp.Ordering.TheVariants.{Less, Equal, Greater}
+use Rattle.mv_values.specs.declared.pred.Test.{Test}
 use Rattle.mv_values.specs.declared.value.Value.{Value}
 use Rattle.mv_values.specs.declared.value.Value.TheVariants.{Int, Text}
 use Rattle.mv_values.specs.declared.rows.Keyed.{Keyed}
@@ -29,7 +30,6 @@ use Rattle.mv_catalog.specs.Types.{Kind, int, Vars, kind_of_column}
 use Rattle.mv_catalog.specs.Statements.{kinds_of, Gives, Takes, IsItem, IsTotal}
 use Rattle.mv_catalog.specs.Text.{IsOf, IsRow, types_of}
 use Rattle.mv_catalog.proofs.Lists.{map_map}
-use Rattle.mv_alone.specs.declared.state.Check.{Check}
 use Rattle.mv_alone.specs.declared.state.Env.{Env}
 use Rattle.mv_alone.specs.Outcome.{then_do}
 use Rattle.mv_alone.specs.Env.{with_value, with_values}
@@ -260,23 +260,23 @@ module _ (vars : Vars) (env : Env) (fit' : IsEnvOf vars env) where
 -- Tables
 
 module _ (table : TableInfo) where
-  pub updated_all : (new : List Value → Result (List Value) End) (checks : List Check) → ((row : List Value) → IsRow (types_of table) row → IfOk (new row) (IsRow (types_of table)))
-      → (items : List Keyed) → All (HasRow table) items → IfOk (updated new checks items) (All (HasRow table))
-  updated_all new checks keeps [] all = All-nil (HasRow table)
-  updated_all new checks keeps (item ∷ items) all = by (meets checks item.row) (updated_all new checks keeps items (All-tail (HasRow table) item items all))
+  pub updated_all : (new : List Value → Result (List Value) End) (tests : List Test) → ((row : List Value) → IsRow (types_of table) row → IfOk (new row) (IsRow (types_of table)))
+      → (items : List Keyed) → All (HasRow table) items → IfOk (updated new tests items) (All (HasRow table))
+  updated_all new tests keeps [] all = All-nil (HasRow table)
+  updated_all new tests keeps (item ∷ items) all = by (meets tests item.row) (updated_all new tests keeps items (All-tail (HasRow table) item items all))
     where
       first : HasRow table item
       first = All-head (HasRow table) item items all
 
-      behind : (head : Keyed) → HasRow table head → IfOk (updated new checks items) (All (HasRow table)) → IfOk (then_do (updated new checks items) (λ rest. Ok (head ∷ rest))) (All (HasRow table))
+      behind : (head : Keyed) → HasRow table head → IfOk (updated new tests items) (All (HasRow table)) → IfOk (then_do (updated new tests items) (λ rest. Ok (head ∷ rest))) (All (HasRow table))
       behind head p later =
-          then_ok (updated new checks items) (λ rest. Ok (head ∷ rest)) (All (HasRow table)) (All (HasRow table)) later (λ rest h. All-cons (HasRow table) head rest p h)
+          then_ok (updated new tests items) (λ rest. Ok (head ∷ rest)) (All (HasRow table)) (All (HasRow table)) later (λ rest h. All-cons (HasRow table) head rest p h)
 
-      by : (b : Bool) → IfOk (updated new checks items) (All (HasRow table))
-          → IfOk (if b then then_do (new item.row) (λ row. then_do (updated new checks items) (λ rest. Ok (record item { row = row } ∷ rest))) else then_do (updated new checks items) (λ rest. Ok (item ∷ rest)))
+      by : (b : Bool) → IfOk (updated new tests items) (All (HasRow table))
+          → IfOk (if b then then_do (new item.row) (λ row. then_do (updated new tests items) (λ rest. Ok (record item { row = row } ∷ rest))) else then_do (updated new tests items) (λ rest. Ok (item ∷ rest)))
           (All (HasRow table))
       by true later =
-          then_ok (new item.row) (λ row. then_do (updated new checks items) (λ rest. Ok (record item { row = row } ∷ rest))) (IsRow (types_of table)) (All (HasRow table)) (keeps item.row first)
+          then_ok (new item.row) (λ row. then_do (updated new tests items) (λ rest. Ok (record item { row = row } ∷ rest))) (IsRow (types_of table)) (All (HasRow table)) (keeps item.row first)
           (λ row h. behind (record item { row = row }) h later)
       by false later = behind item first later
 

@@ -3,6 +3,7 @@ use Rattle.std.proofs.Common.{◌≡◌, ℕ, Bool, true, false, List, [], ◌�
 use Rattle.std.proofs.lemmas.List.Elements.{All-head, All-tail, All-filter}
 use Rattle.std.specs.Prelude.{not, ◌++◌}
 use Rattle.mv_alone.proofs.Standing.{goes_to}
+use Rattle.mv_values.specs.declared.pred.Test.{Test}
 use Rattle.mv_values.specs.declared.value.Value.{Value}
 use Rattle.mv_values.specs.declared.rows.Keyed.{Keyed}
 use Rattle.mv_values.specs.declared.schema.TableInfo.{TableInfo}
@@ -24,14 +25,13 @@ use Rattle.mv_recorded.specs.Doing.{itself, fixed_rows}
 use Rattle.mv_catalog.specs.Statements as well
 use Rattle.mv_catalog.specs.Text.{IsRow, types_of}
 use Rattle.mv_catalog.proofs.Typed.{well_by}
-use Rattle.mv_alone.specs.declared.state.Check.{Check}
 use Rattle.mv_alone.specs.declared.state.Held.TheVariants.{Turn}
 use Rattle.mv_alone.specs.declared.state.State.{State}
 use Rattle.mv_alone.specs.declared.state.Env.{Env}
 use Rattle.mv_alone.specs.Outcome.{then_do}
 use Rattle.mv_alone.specs.Env.{with_held, with_value, with_found, turns_at}
 use Rattle.mv_alone.specs.Value.{value_of, values_of, is_so}
-use Rattle.mv_alone.specs.Rows.{checks_of, meets, is_some_row, item_at, ordered, aggregate}
+use Rattle.mv_alone.specs.Rows.{meets, is_some_row, item_at, ordered, aggregate, tests_of}
 use Rattle.mv_alone.specs.Changes.{set_row, updated, without, new_row, put_row, keyed}
 use Rattle.mv_alone.specs.Line.{line_of}
 use Rattle.mv_alone.specs.Alone.{Does, all_of, each_turn, matching_in, with_rows, offset_of, with_selected, totalled, fixed, is_turn, loop_over, does, alone, stmt_step}
@@ -52,8 +52,8 @@ module _ (tables : List TableInfo) where
   kept : (vars : Vars) (st : State) → IsEnvOf vars st.env → AreTyped tables st.tables → Kept vars st
   kept vars st fit typed = record { fit = fit; typed = typed }
 
-  pub matches_all : (vars : Vars) (st : State) (n : ℕ) (table : TableInfo) (checks : List Check) → Kept vars st → slice_get tables n ≡ Some table → All (HasRow table) (matching_in n checks st)
-  matches_all vars st n table checks k at = All-filter (λ (item : Keyed). meets checks item.row) (HasRow table) (rows_at st.tables n) (rows_typed tables st.tables n table k.typed at)
+  pub matches_all : (vars : Vars) (st : State) (n : ℕ) (table : TableInfo) (tests : List Test) → Kept vars st → slice_get tables n ≡ Some table → All (HasRow table) (matching_in n tests st)
+  matches_all vars st n table tests k at = All-filter (λ (item : Keyed). meets tests item.row) (HasRow table) (rows_at st.tables n) (rows_typed tables st.tables n table k.typed at)
 
   -- other rows for a table
   rows_kept : (vars : Vars) (st : State) (n : ℕ) (table : TableInfo) (made : List Keyed) (found : Bool) → Kept vars st → slice_get tables n ≡ Some table → All (HasRow table) made
@@ -67,29 +67,29 @@ module _ (tables : List TableInfo) where
       (λ v is. kept vars (record st { env = with_value st.env x v }) (fit_value vars st.env x h.0 v k.fit h.1 is) k.typed)
 
   select_kept : (cs xs : List ℕ) (n : ℕ) (conds : List RCond) (sorts : List RSort) (offset : Option RExpr) (vars : Vars) (st : State) → well.select tables cs xs n conds sorts offset vars → Kept vars st
-      → IfOk (alone'.select cs xs n conds sorts offset st) (Kept vars)
+      → IfOk (alone'.select tables cs xs n conds sorts offset st) (Kept vars)
   select_kept cs xs n conds sorts offset vars st h k =
       let table = h.0.0 in
-      let env' : List Check → Value → Env = λ checks m. with_selected cs xs (item_at (ordered sorts (matching_in n checks st)) (number m)) st.env in
-      then_any (checks_of conds st.env) (λ checks. then_do (offset_of offset st.env) (λ m. Ok (record st { env = env' checks m }))) (Kept vars)
-      (λ checks. then_any (offset_of offset st.env) (λ m. Ok (record st { env = env' checks m })) (Kept vars)
-      (λ m. kept vars (record st { env = env' checks m })
-      (taken_fits table vars st.env cs xs sorts (matching_in n checks st) (number m) k.fit (matches_all vars st n table checks k h.0.1) h.0.2.0) k.typed))
+      let env' : List Test → Value → Env = λ tests m. with_selected cs xs (item_at (ordered sorts (matching_in n tests st)) (number m)) st.env in
+      then_any (tests_of (key_columns tables n) conds st.env) (λ tests. then_do (offset_of offset st.env) (λ m. Ok (record st { env = env' tests m }))) (Kept vars)
+      (λ tests. then_any (offset_of offset st.env) (λ m. Ok (record st { env = env' tests m })) (Kept vars)
+      (λ m. kept vars (record st { env = env' tests m })
+      (taken_fits table vars st.env cs xs sorts (matching_in n tests st) (number m) k.fit (matches_all vars st n table tests k h.0.1) h.0.2.0) k.typed))
 
   totalled_fits : (vars : Vars) (env : Env) (x : ℕ) (t : Kind) (o : Option Value) → IsEnvOf vars env → vars x ≡ Some (declared t) → MayHave t o → IsEnvOf vars (totalled x o env)
   totalled_fits vars env x t None fit at has = fit
   totalled_fits vars env x t (Some v) fit at has = fit_value vars env x t v fit at has
 
-  total_kept : (agg : RAgg) (x n : ℕ) (conds : List RCond) (vars : Vars) (st : State) → well.total tables agg x n conds vars → Kept vars st → IfOk (alone'.sum_up agg x n conds st) (Kept vars)
+  total_kept : (agg : RAgg) (x n : ℕ) (conds : List RCond) (vars : Vars) (st : State) → well.total tables agg x n conds vars → Kept vars st → IfOk (alone'.sum_up tables agg x n conds st) (Kept vars)
   total_kept agg x n conds vars st h k =
       let table = h.0 in
       let t = h.2.0.0 in
-      let env' : List Check → Option Value → Env = λ checks v. with_found (totalled x v st.env) (is_some_row (matching_in n checks st)) in
-      then_any (checks_of conds st.env) (λ checks. then_do (aggregate agg (matching_in n checks st)) (λ v. Ok (record st { env = env' checks v }))) (Kept vars)
-      (λ checks. then_ok (aggregate agg (matching_in n checks st)) (λ v. Ok (record st { env = env' checks v })) (MayHave t) (Kept vars)
-      (aggregate_kind table (matching_in n checks st) (matches_all vars st n table checks k h.1) agg t h.2.0.1)
-      (λ v has. kept vars (record st { env = env' checks v })
-      (fit_found vars (totalled x v st.env) (is_some_row (matching_in n checks st)) (totalled_fits vars st.env x t v k.fit h.2.0.2 has)) k.typed))
+      let env' : List Test → Option Value → Env = λ tests v. with_found (totalled x v st.env) (is_some_row (matching_in n tests st)) in
+      then_any (tests_of (key_columns tables n) conds st.env) (λ tests. then_do (aggregate agg (matching_in n tests st)) (λ v. Ok (record st { env = env' tests v }))) (Kept vars)
+      (λ tests. then_ok (aggregate agg (matching_in n tests st)) (λ v. Ok (record st { env = env' tests v })) (MayHave t) (Kept vars)
+      (aggregate_kind table (matching_in n tests st) (matches_all vars st n table tests k h.1) agg t h.2.0.1)
+      (λ v has. kept vars (record st { env = env' tests v })
+      (fit_found vars (totalled x v st.env) (is_some_row (matching_in n tests st)) (totalled_fits vars st.env x t v k.fit h.2.0.2 has)) k.typed))
 
   insert_kept : (n : ℕ) (es : List RExpr) (vars : Vars) (st : State) → well.insert tables n es vars → Kept vars st → IfOk (alone'.insert tables n es st) (Kept vars)
   insert_kept n es vars st h k =
@@ -110,17 +110,17 @@ module _ (tables : List TableInfo) where
       let new : List Value → Result (List Value) End = λ row. set_row (columns_at tables n) keys st.env row items row in
       let is_row : (row : List Value) → IsRow (types_of table) row → IfOk (new row) (IsRow (types_of table)) =
       λ row is. subst (λ columns. IfOk (set_row columns keys st.env row items row) (IsRow (types_of table))) (sym there) (set_row_is vars st.env k.fit table keys row items row is h.2.0 is) in
-      then_any (checks_of conds st.env) (λ checks. then_do (updated new checks (rows_at st.tables n)) (λ made. Ok (with_rows n made (is_some_row (matching_in n checks st)) st))) (Kept vars)
-      (λ checks. then_ok (updated new checks (rows_at st.tables n)) (λ made. Ok (with_rows n made (is_some_row (matching_in n checks st)) st)) (All (HasRow table)) (Kept vars)
-      (updated_all table new checks is_row (rows_at st.tables n) (rows_typed tables st.tables n table k.typed h.1))
-      (λ made all. rows_kept vars st n table made (is_some_row (matching_in n checks st)) k h.1 all))
+      then_any (tests_of (key_columns tables n) conds st.env) (λ tests. then_do (updated new tests (rows_at st.tables n)) (λ made. Ok (with_rows n made (is_some_row (matching_in n tests st)) st))) (Kept vars)
+      (λ tests. then_ok (updated new tests (rows_at st.tables n)) (λ made. Ok (with_rows n made (is_some_row (matching_in n tests st)) st)) (All (HasRow table)) (Kept vars)
+      (updated_all table new tests is_row (rows_at st.tables n) (rows_typed tables st.tables n table k.typed h.1))
+      (λ made all. rows_kept vars st n table made (is_some_row (matching_in n tests st)) k h.1 all))
 
-  delete_kept : (n : ℕ) (conds : List RCond) (vars : Vars) (st : State) → well.delete tables n conds vars → Kept vars st → IfOk (alone'.delete n conds st) (Kept vars)
+  delete_kept : (n : ℕ) (conds : List RCond) (vars : Vars) (st : State) → well.delete tables n conds vars → Kept vars st → IfOk (alone'.delete tables n conds st) (Kept vars)
   delete_kept n conds vars st h k =
       let table = h.0 in
-      then_any (checks_of conds st.env) (λ checks. Ok (with_rows n (without checks (rows_at st.tables n)) (is_some_row (matching_in n checks st)) st)) (Kept vars)
-      (λ checks. rows_kept vars st n table (without checks (rows_at st.tables n)) (is_some_row (matching_in n checks st)) k h.1
-      (All-filter (λ (item : Keyed). not (meets checks item.row)) (HasRow table) (rows_at st.tables n) (rows_typed tables st.tables n table k.typed h.1)))
+      then_any (tests_of (key_columns tables n) conds st.env) (λ tests. Ok (with_rows n (without tests (rows_at st.tables n)) (is_some_row (matching_in n tests st)) st)) (Kept vars)
+      (λ tests. rows_kept vars st n table (without tests (rows_at st.tables n)) (is_some_row (matching_in n tests st)) k h.1
+      (All-filter (λ (item : Keyed). not (meets tests item.row)) (HasRow table) (rows_at st.tables n) (rows_typed tables st.tables n table k.typed h.1)))
 
   print_kept : (es : List RExpr) (vars : Vars) (st : State) → Kept vars st → IfOk (alone'.print es st) (Kept vars)
   print_kept es vars st k =
@@ -174,9 +174,9 @@ module _ (tables : List TableInfo) where
       let table = h.0 in
       let ts = h.2.3.0 in
       let run : Does = all_of (map (does tables) (map (λ p. p.0) body)) in
-      then_any (checks_of conds st.env) (λ checks. loop_over x run (fixed once cs sorts (matching_in n checks st)) st) (Kept vars)
-      (λ checks. loop_kept x ts run vars h.2.2 (all_kept body (with_turn vars x ts) h.2.3.2) (fixed once cs sorts (matching_in n checks st))
-      (fixed_kinds table once cs sorts ts (matching_in n checks st) h.2.3.1 (matches_all vars st n table checks k h.1)) st k)
+      then_any (tests_of (key_columns tables n) conds st.env) (λ tests. loop_over x run (fixed once cs sorts (matching_in n tests st)) st) (Kept vars)
+      (λ tests. loop_kept x ts run vars h.2.2 (all_kept body (with_turn vars x ts) h.2.3.2) (fixed once cs sorts (matching_in n tests st))
+      (fixed_kinds table once cs sorts ts (matching_in n tests st) h.2.3.1 (matches_all vars st n table tests k h.1)) st k)
   step_kept (open'.ForRows x y body) vars h st k =
       loop_kept x h.0 (all_of (map (does tables) (map (λ p. p.0) body))) vars h.2 (all_kept body (with_turn vars x h.0) h.3) (turns_at st.env y) (k.fit.holds y (rows h.0) h.1) st k
   step_kept (open'.Branch e ys ns) vars h st k =
@@ -204,10 +204,10 @@ module _ (tables : List TableInfo) where
   -- The rows of a loop over a table
 
   pub chosen_kinds : {X : Type 0} (v : X → RStmt) (w : X → Well) (x : ℕ) (once : Bool) (cs : List ℕ) (n : ℕ) (conds : List RCond) (sorts : List RSort) (body : List X) (vars : Vars) (st : State) (all : List (List Value))
-      → (h : well.stmt_step tables X v w (open'.ForSelect x once cs n conds sorts body) vars) → Kept vars st → fixed_rows (open'.ForSelect x once cs n conds sorts body) st ≡ Ok all → All (OfKinds h.2.3.0) all
+      → (h : well.stmt_step tables X v w (open'.ForSelect x once cs n conds sorts body) vars) → Kept vars st → fixed_rows tables (open'.ForSelect x once cs n conds sorts body) st ≡ Ok all → All (OfKinds h.2.3.0) all
   chosen_kinds v w x once cs n conds sorts body vars st all h k is =
       let table = h.0 in
-      let c = goes_to (checks_of conds st.env) (λ checks. Ok (fixed once cs sorts (matching_in n checks st))) all is in
+      let c = goes_to (tests_of (key_columns tables n) conds st.env) (λ tests. Ok (fixed once cs sorts (matching_in n tests st))) all is in
       subst (All (OfKinds h.2.3.0)) (same_rows c.2) (fixed_kinds table once cs sorts h.2.3.0 (matching_in n c.0 st) h.2.3.1 (matches_all vars st n table c.0 k h.1))
     where
       same_rows : {a b : List (List Value)} → ◌≡◌ {A = Result (List (List Value)) End} (Ok a) (Ok b) → a ≡ b
@@ -220,7 +220,7 @@ module _ (tables : List TableInfo) where
   itself_kept v w (open'.Select cs xs n conds sorts offset) vars st h k = select_kept cs xs n conds sorts offset vars st h k
   itself_kept v w (open'.Total agg x n conds) vars st h k = total_kept agg x n conds vars st h k
   itself_kept v w (open'.ForSelect x once cs n conds sorts body) vars st h k =
-      then_any (fixed_rows (open'.ForSelect x once cs n conds sorts body) st) (λ all. Ok (record st { env = with_found st.env (is_turn all) })) (Kept vars)
+      then_any (fixed_rows tables (open'.ForSelect x once cs n conds sorts body) st) (λ all. Ok (record st { env = with_found st.env (is_turn all) })) (Kept vars)
       (λ all. kept vars (record st { env = with_found st.env (is_turn all) }) (fit_found vars st.env (is_turn all) k.fit) k.typed)
   itself_kept v w (open'.ForRows x y body) vars st h k =
       let all : List (List Value) = turns_at st.env y in

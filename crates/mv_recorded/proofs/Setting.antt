@@ -5,6 +5,7 @@ use Rattle.std.proofs.lemmas.List.{get_or-set_other, length-set, ext_get_or}
 use Rattle.std.specs.List.{flat_map, list_any}
 use Rattle.mv_record.proofs.Rising.{Above, Rises}
 use Rattle.mv_alone.proofs.Standing.{New, goes_to}
+use Rattle.mv_values.specs.declared.pred.Test.{Test}
 use Rattle.mv_values.specs.declared.value.Value.{Value}
 use Rattle.mv_values.specs.declared.value.Value.TheVariants.{Int}
 use Rattle.mv_values.specs.declared.rows.Keyed.{Keyed}
@@ -16,7 +17,6 @@ use Rattle.mv_values.specs.declared.calls.End.{End}
 use Rattle.mv_values.specs.Columns.{column_of}
 use Rattle.mv_values.specs.Patching.{with_columns}
 use Rattle.mv_catalog.specs.declared.resolved.RSetItem.{RSetItem}
-use Rattle.mv_alone.specs.declared.state.Check.{Check}
 use Rattle.mv_alone.specs.declared.state.Env.{Env}
 use Rattle.mv_alone.specs.Outcome.{then_do}
 use Rattle.mv_alone.specs.Value.{value_of}
@@ -99,15 +99,15 @@ sets_on t items new (r ∷ rs) = on_both t (set_write t items r (new r.row)) (se
     one (Ok row) = (refl, tt)
     one (Err e) = tt
 
-sets_past : (t : ℕ) (items : List RSetItem) (new : New) (checks : List Check) (key : List Value) (rows : List Keyed) → Above key rows → AllPast key (set_writes t items new (matching checks rows))
-sets_past t items new checks key [] h = tt
-sets_past t items new checks key (r ∷ rs) h = either (meets checks r.row) (sets_past t items new checks key rs h.1)
+sets_past : (t : ℕ) (items : List RSetItem) (new : New) (tests : List Test) (key : List Value) (rows : List Keyed) → Above key rows → AllPast key (set_writes t items new (matching tests rows))
+sets_past t items new tests key [] h = tt
+sets_past t items new tests key (r ∷ rs) h = either (meets tests r.row) (sets_past t items new tests key rs h.1)
   where
-    one : (made : Result (List Value) End) → AllPast key (set_writes t items new (matching checks rs)) → AllPast key (set_write t items r made ++ set_writes t items new (matching checks rs))
+    one : (made : Result (List Value) End) → AllPast key (set_writes t items new (matching tests rs)) → AllPast key (set_write t items r made ++ set_writes t items new (matching tests rs))
     one (Ok row) rest = (h.0, rest)
     one (Err e) rest = rest
 
-    either : (b : Bool) → AllPast key (set_writes t items new (matching checks rs)) → AllPast key (set_writes t items new (cond b (r ∷ matching checks rs) (matching checks rs)))
+    either : (b : Bool) → AllPast key (set_writes t items new (matching tests rs)) → AllPast key (set_writes t items new (cond b (r ∷ matching tests rs) (matching tests rs)))
     either true rest = one (new r.row) rest
     either false rest = rest
 
@@ -115,37 +115,37 @@ sets_past t items new checks key (r ∷ rs) h = either (meets checks r.row) (set
 abbrev pub Makes : List RSetItem → New → Type 0
 Makes items new = (row made : List Value) → new row ≡ Ok made → with_columns (map (value_in made) items) row ≡ made
 
-pub sets_lead : (t : ℕ) (items : List RSetItem) (new : New) → Makes items new → (checks : List Check) (rows out : List Keyed) → Rises rows → updated new checks rows ≡ Ok out
-    → patched_all (set_writes t items new (matching checks rows)) rows ≡ out
-sets_lead t items new makes checks [] out h is = row_ok is
-sets_lead t items new makes checks (r ∷ rs) out h is = either (meets checks r.row) (updated new checks rs) (λ rest e. sets_lead t items new makes checks rs rest h.1 e) is
+pub sets_lead : (t : ℕ) (items : List RSetItem) (new : New) → Makes items new → (tests : List Test) (rows out : List Keyed) → Rises rows → updated new tests rows ≡ Ok out
+    → patched_all (set_writes t items new (matching tests rows)) rows ≡ out
+sets_lead t items new makes tests [] out h is = row_ok is
+sets_lead t items new makes tests (r ∷ rs) out h is = either (meets tests r.row) (updated new tests rs) (λ rest e. sets_lead t items new makes tests rs rest h.1 e) is
   where
-    one : (made : Result (List Value) End) → new r.row ≡ made → (later : Result (List Keyed) End) → ((rest : List Keyed) → later ≡ Ok rest → patched_all (set_writes t items new (matching checks rs)) rs ≡ rest)
+    one : (made : Result (List Value) End) → new r.row ≡ made → (later : Result (List Keyed) End) → ((rest : List Keyed) → later ≡ Ok rest → patched_all (set_writes t items new (matching tests rs)) rs ≡ rest)
         → then_do made (λ row. then_do later (λ rest. Ok (record r { row = row } ∷ rest))) ≡ Ok out
-        → patched_all (set_write t items r made ++ set_writes t items new (matching checks rs)) (r ∷ rs) ≡ out
+        → patched_all (set_write t items r made ++ set_writes t items new (matching tests rs)) (r ∷ rs) ≡ out
     one (Ok row) made (Ok rest) k e =
-        ap (patched_all (set_writes t items new (matching checks rs))) (changes_first r (Set (map (value_in row) items)) rs)
-        ∙ (ap (λ v. patched_all (set_writes t items new (matching checks rs)) (record r { row = v } ∷ rs)) (makes r.row row made)
-        ∙ (all_pass (record r { row = row }) (set_writes t items new (matching checks rs)) rs (sets_past t items new checks r.key rs h.0)
+        ap (patched_all (set_writes t items new (matching tests rs))) (changes_first r (Set (map (value_in row) items)) rs)
+        ∙ (ap (λ v. patched_all (set_writes t items new (matching tests rs)) (record r { row = v } ∷ rs)) (makes r.row row made)
+        ∙ (all_pass (record r { row = row }) (set_writes t items new (matching tests rs)) rs (sets_past t items new tests r.key rs h.0)
         ∙ (ap (λ l. record r { row = row } ∷ l) (k rest refl) ∙ row_ok e)))
     one (Ok row) made (Err f) k e = cc
     one (Err f) made later k e = cc
 
-    either : (b : Bool) (later : Result (List Keyed) End) → ((rest : List Keyed) → later ≡ Ok rest → patched_all (set_writes t items new (matching checks rs)) rs ≡ rest)
+    either : (b : Bool) (later : Result (List Keyed) End) → ((rest : List Keyed) → later ≡ Ok rest → patched_all (set_writes t items new (matching tests rs)) rs ≡ rest)
         → (if b then then_do (new r.row) (λ row. then_do later (λ rest. Ok (record r { row = row } ∷ rest))) else then_do later (λ rest. Ok (r ∷ rest))) ≡ Ok out
-        → patched_all (set_writes t items new (cond b (r ∷ matching checks rs) (matching checks rs))) (r ∷ rs) ≡ out
+        → patched_all (set_writes t items new (cond b (r ∷ matching tests rs) (matching tests rs))) (r ∷ rs) ≡ out
     either true later k e = one (new r.row) refl later k e
     either false (Ok rest) k e =
-        all_pass r (set_writes t items new (matching checks rs)) rs (sets_past t items new checks r.key rs h.0) ∙ (ap (λ l. r ∷ l) (k rest refl) ∙ row_ok e)
+        all_pass r (set_writes t items new (matching tests rs)) rs (sets_past t items new tests r.key rs h.0) ∙ (ap (λ l. r ∷ l) (k rest refl) ∙ row_ok e)
     either false (Err f) k e = cc
 
 pub set_row_makes : (columns : List Column) (keys : List ℕ) (env : Env) (items : List RSetItem) → Makes items (λ row. set_row columns keys env row items row)
 set_row_makes columns keys env items row made h = assigns_lead items row made (made_agrees columns keys env row items row made h)
 
 -- the keys stay
-updated_after : (new : New) (checks : List Check) (k : List Value) (rows out : List Keyed) → Above k rows → updated new checks rows ≡ Ok out → Above k out
-updated_after new checks k [] out h is = subst (Above k) (row_ok is) tt
-updated_after new checks k (r ∷ rs) out h is = either (meets checks r.row) (new r.row) (updated new checks rs) (λ rest e. updated_after new checks k rs rest h.1 e) is
+updated_after : (new : New) (tests : List Test) (k : List Value) (rows out : List Keyed) → Above k rows → updated new tests rows ≡ Ok out → Above k out
+updated_after new tests k [] out h is = subst (Above k) (row_ok is) tt
+updated_after new tests k (r ∷ rs) out h is = either (meets tests r.row) (new r.row) (updated new tests rs) (λ rest e. updated_after new tests k rs rest h.1 e) is
   where
     either : (b : Bool) (made : Result (List Value) End) (later : Result (List Keyed) End) → ((rest : List Keyed) → later ≡ Ok rest → Above k rest)
         → (if b then then_do made (λ row. then_do later (λ rest. Ok (record r { row = row } ∷ rest))) else then_do later (λ rest. Ok (r ∷ rest))) ≡ Ok out → Above k out
@@ -155,9 +155,9 @@ updated_after new checks k (r ∷ rs) out h is = either (meets checks r.row) (ne
     either false made (Ok rest) go e = subst (Above k) (row_ok e) (h.0, go rest refl)
     either false made (Err f) go e = cc
 
-pub updated_rises : (new : New) (checks : List Check) (rows out : List Keyed) → Rises rows → updated new checks rows ≡ Ok out → Rises out
-updated_rises new checks [] out h is = subst Rises (row_ok is) tt
-updated_rises new checks (r ∷ rs) out h is = either (meets checks r.row) (new r.row) (updated new checks rs) (λ rest e. (updated_after new checks r.key rs rest h.0 e, updated_rises new checks rs rest h.1 e)) is
+pub updated_rises : (new : New) (tests : List Test) (rows out : List Keyed) → Rises rows → updated new tests rows ≡ Ok out → Rises out
+updated_rises new tests [] out h is = subst Rises (row_ok is) tt
+updated_rises new tests (r ∷ rs) out h is = either (meets tests r.row) (new r.row) (updated new tests rs) (λ rest e. (updated_after new tests r.key rs rest h.0 e, updated_rises new tests rs rest h.1 e)) is
   where
     either : (b : Bool) (made : Result (List Value) End) (later : Result (List Keyed) End) → ((rest : List Keyed) → later ≡ Ok rest → Above r.key rest × Rises rest)
         → (if b then then_do made (λ row. then_do later (λ rest. Ok (record r { row = row } ∷ rest))) else then_do later (λ rest. Ok (r ∷ rest))) ≡ Ok out → Rises out

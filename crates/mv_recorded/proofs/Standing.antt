@@ -2,12 +2,12 @@
 use Rattle.std.proofs.Common.{◌≡◌, List, [], Result, Ok, Err, refl, sym, subst}
 use Rattle.mv_values.specs.declared.calls.End.{End}
 use Rattle.mv_values.specs.declared.schema.TableInfo.{TableInfo}
-use Rattle.mv_values.specs.Tables.{KeysStand}
+use Rattle.mv_values.specs.Tables.{KeysStand, key_columns}
 use Rattle.mv_catalog.specs.declared.resolved.RStmt.TheOpen.{RStmt-F, Assign, Select, Total, ForSelect, ForRows, Branch, Insert, Update, Delete, Print, Rollback}
 use Rattle.mv_alone.specs.declared.state.State.{State}
 use Rattle.mv_alone.specs.Outcome.{then_do}
 use Rattle.mv_alone.specs.Value.{value_of, values_of}
-use Rattle.mv_alone.specs.Rows.{checks_of, aggregate}
+use Rattle.mv_alone.specs.Rows.{tests_of, aggregate}
 use Rattle.mv_alone.specs.Alone.{matching_in, offset_of, fixed}
 use Rattle.mv_alone.proofs.Standing.{insert_keeps, update_keeps, delete_keeps}
 use Rattle.mv_recorded.specs.Doing.{itself}
@@ -29,11 +29,11 @@ made tables (Err e) h = tt
 stands_behind : {X : Type 0} (tables : List TableInfo) (y : RStmt-F X) (st : State) → KeysStand tables st.tables → StandsBehind tables (itself tables y st)
 stands_behind {X} tables (Assign x e) st h = kept tables (itself {X = X} tables (Assign x e) st) st h (then_keeps (value_of e st.env []) _ st (λ v. refl))
 stands_behind {X} tables (Select cs xs t conds sorts offset) st h =
-    kept tables (itself {X = X} tables (Select cs xs t conds sorts offset) st) st h (then_keeps (checks_of conds st.env) _ st (λ checks. then_keeps (offset_of offset st.env) _ st (λ at. refl)))
+    kept tables (itself {X = X} tables (Select cs xs t conds sorts offset) st) st h (then_keeps (tests_of (key_columns tables t) conds st.env) _ st (λ tests. then_keeps (offset_of offset st.env) _ st (λ at. refl)))
 stands_behind {X} tables (Total agg x t conds) st h =
-    kept tables (itself {X = X} tables (Total agg x t conds) st) st h (then_keeps (checks_of conds st.env) _ st (λ checks. then_keeps (aggregate agg (matching_in t checks st)) _ st (λ v. refl)))
+    kept tables (itself {X = X} tables (Total agg x t conds) st) st h (then_keeps (tests_of (key_columns tables t) conds st.env) _ st (λ tests. then_keeps (aggregate agg (matching_in t tests st)) _ st (λ v. refl)))
 stands_behind {X} tables (ForSelect x once cs t conds sorts body) st h =
-    kept tables (itself {X = X} tables (ForSelect x once cs t conds sorts body) st) st h (then_keeps (then_do (checks_of conds st.env) (λ checks. Ok (fixed once cs sorts (matching_in t checks st)))) _ st (λ rows. refl))
+    kept tables (itself {X = X} tables (ForSelect x once cs t conds sorts body) st) st h (then_keeps (then_do (tests_of (key_columns tables t) conds st.env) (λ tests. Ok (fixed once cs sorts (matching_in t tests st)))) _ st (λ rows. refl))
 stands_behind {X} tables (ForRows x y body) st h = kept tables (itself {X = X} tables (ForRows x y body) st) st h refl
 stands_behind {X} tables (Branch e ys ns) st h = kept tables (itself {X = X} tables (Branch e ys ns) st) st h (then_keeps (value_of e st.env []) _ st (λ v. refl))
 stands_behind {X} tables (Insert t es) st h = made tables (itself {X = X} tables (Insert t es) st) (λ next is. insert_keeps tables t es st next h is)

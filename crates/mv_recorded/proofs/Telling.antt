@@ -15,7 +15,7 @@ use Rattle.mv_alone.specs.declared.state.Env.{Env}
 use Rattle.mv_alone.specs.declared.state.State.{State}
 use Rattle.mv_alone.specs.Outcome.{then_do}
 use Rattle.mv_alone.specs.Value.{value_of, values_of}
-use Rattle.mv_alone.specs.Rows.{checks_of, aggregate}
+use Rattle.mv_alone.specs.Rows.{tests_of, aggregate}
 use Rattle.mv_alone.specs.Changes.{new_row, put_row, keyed, updated, set_row}
 use Rattle.mv_alone.specs.Line.{line_of}
 use Rattle.mv_alone.specs.Alone.{alone, matching_in, offset_of, fixed}
@@ -87,13 +87,13 @@ tells_own {X} tables params (Assign x e) n site before st =
     (then_keeps (value_of e st.env []) _ st (λ v. refl))
 tells_own {X} tables params (Select cs xs t conds sorts offset) n site before st =
     quiet (itself {X = X} tables (Select cs xs t conds sorts offset) st) (own_record {X = X} tables params (Select cs xs t conds sorts offset) n site before st) st refl refl
-    (then_keeps (checks_of conds st.env) _ st (λ checks. then_keeps (offset_of offset st.env) _ st (λ at. refl)))
+    (then_keeps (tests_of (key_columns tables t) conds st.env) _ st (λ tests. then_keeps (offset_of offset st.env) _ st (λ at. refl)))
 tells_own {X} tables params (Total agg x t conds) n site before st =
     quiet (itself {X = X} tables (Total agg x t conds) st) (own_record {X = X} tables params (Total agg x t conds) n site before st) st refl refl
-    (then_keeps (checks_of conds st.env) _ st (λ checks. then_keeps (aggregate agg (matching_in t checks st)) _ st (λ v. refl)))
+    (then_keeps (tests_of (key_columns tables t) conds st.env) _ st (λ tests. then_keeps (aggregate agg (matching_in t tests st)) _ st (λ v. refl)))
 tells_own {X} tables params (ForSelect x once cs t conds sorts body) n site before st =
     quiet (itself {X = X} tables (ForSelect x once cs t conds sorts body) st) (own_record {X = X} tables params (ForSelect x once cs t conds sorts body) n site before st) st refl refl
-    (then_keeps (then_do (checks_of conds st.env) (λ checks. Ok (fixed once cs sorts (matching_in t checks st)))) _ st (λ rows. refl))
+    (then_keeps (then_do (tests_of (key_columns tables t) conds st.env) (λ tests. Ok (fixed once cs sorts (matching_in t tests st)))) _ st (λ rows. refl))
 tells_own {X} tables params (ForRows x y body) n site before st =
     quiet (itself {X = X} tables (ForRows x y body) st) (own_record {X = X} tables params (ForRows x y body) n site before st) st refl refl refl
 tells_own {X} tables params (Branch e ys ns) n site before st =
@@ -104,11 +104,11 @@ tells_own {X} tables params (Insert t es) n site before st =
     (then_keeps (new_row (columns_at tables t) es st.env) _ st (λ row. then_keeps (put_row (keyed (key_columns tables t) row) (rows_at st.tables t)) _ st (λ rows. refl)))
 tells_own {X} tables params (Update t items conds) n site before st =
     quiet (itself {X = X} tables (Update t items conds) st) (own_record {X = X} tables params (Update t items conds) n site before st) st refl refl
-    (then_keeps (checks_of conds st.env) _ st (λ checks.
-    then_keeps (updated (λ row. set_row (columns_at tables t) (key_columns tables t) st.env row items row) checks (rows_at st.tables t)) _ st (λ rows. refl)))
+    (then_keeps (tests_of (key_columns tables t) conds st.env) _ st (λ tests.
+    then_keeps (updated (λ row. set_row (columns_at tables t) (key_columns tables t) st.env row items row) tests (rows_at st.tables t)) _ st (λ rows. refl)))
 tells_own {X} tables params (Delete t conds) n site before st =
     quiet (itself {X = X} tables (Delete t conds) st) (own_record {X = X} tables params (Delete t conds) n site before st) st refl refl
-    (then_keeps (checks_of conds st.env) _ st (λ checks. refl))
+    (then_keeps (tests_of (key_columns tables t) conds st.env) _ st (λ tests. refl))
 tells_own {X} tables params (Print es) n site before st = prints (values_of es st.env) (own_record {X = X} tables params (Print es) n site before st) st refl refl
 tells_own {X} tables params (Rollback reason) n site before st =
     record { front = []; last = own_record {X = X} tables params (Rollback reason) n site before st; are = refl; goes_on = refl; ends = refl }

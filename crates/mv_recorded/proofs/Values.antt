@@ -17,7 +17,7 @@ use Rattle.mv_alone.specs.declared.state.Env.{Env}
 use Rattle.mv_alone.specs.Outcome.{then_do}
 use Rattle.mv_alone.specs.Env.{held_at, scalar_in, turn_in}
 use Rattle.mv_alone.specs.Value.{Evaluation, kind_step, expr_step, value_of, values_of, one_of, two_of}
-use Rattle.mv_alone.specs.Rows.{checks_of, fit_kind}
+use Rattle.mv_alone.specs.Rows.{tests_of, fit_kind, test_on}
 use Rattle.mv_alone.specs.Changes.{new_row}
 use Rattle.mv_alone.specs.Alone.{offset_of}
 use Rattle.mv_recorded.specs.Asking.{kind_columns, columns_in}
@@ -101,12 +101,12 @@ values_alike (x ∷ xs) e f h =
     ap (λ r. then_do r (λ v. then_do (values_of xs e) (λ vs. Ok (v ∷ vs)))) (value_alike x e f [] hs.0)
     ∙ ap (λ r. then_do (value_of x f []) (λ v. then_do r (λ vs. Ok (v ∷ vs)))) (values_alike xs e f hs.1)
 
-pub checks_alike : (cs : List RCond) (e f : Env) → Agree e f (flat_map variables (rights cs)) → checks_of cs e ≡ checks_of cs f
-checks_alike [] e f h = refl
-checks_alike (c ∷ cs) e f h =
+pub tests_alike : (keys : List ℕ) (cs : List RCond) (e f : Env) → Agree e f (flat_map variables (rights cs)) → tests_of keys cs e ≡ tests_of keys cs f
+tests_alike keys [] e f h = refl
+tests_alike keys (c ∷ cs) e f h =
     let hs = each_both (λ z. held_at e z ≡ held_at f z) (variables c.right) (flat_map variables (rights cs)) h in
-    ap (λ r. then_do r (λ v. then_do (checks_of cs e) (λ checks. Ok (record { column = c.column; op = c.op; value = v } ∷ checks)))) (value_alike c.right e f [] hs.0)
-    ∙ ap (λ r. then_do (value_of c.right f []) (λ v. then_do r (λ checks. Ok (record { column = c.column; op = c.op; value = v } ∷ checks)))) (checks_alike cs e f hs.1)
+    ap (λ r. then_do r (λ v. then_do (tests_of keys cs e) (λ tests. Ok (test_on keys c.column c.op v ∷ tests)))) (value_alike c.right e f [] hs.0)
+    ∙ ap (λ r. then_do (value_of c.right f []) (λ v. then_do r (λ tests. Ok (test_on keys c.column c.op v ∷ tests)))) (tests_alike keys cs e f hs.1)
 
 pub offset_alike : (o : Option RExpr) (e f : Env) → Agree e f (flat_map variables (option_to_list o)) → offset_of o e ≡ offset_of o f
 offset_alike None e f h = refl

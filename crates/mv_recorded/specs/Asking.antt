@@ -1,7 +1,7 @@
 -- The predicates with which a statement queries tables. That predicates represent what was read is the paper's (Dashti,
 -- Basil John, Shaikhha and Koch, SIGMOD 2017); their tests and columns are this project's own.
-use Rattle.std.specs.Prelude.{◌≡◌, ◌<◌, ℕ, ◌==◌, All, length, List, [], ◌∷◌, ◌++◌, Result, Ok, Err, map}
-use Rattle.std.specs.List.{flat_map, position}
+use Rattle.std.specs.Prelude.{◌<◌, ℕ, All, length, List, [], ◌∷◌, ◌++◌, Result, Ok, Err, map}
+use Rattle.std.specs.List.{flat_map}
 use Rattle.mv_values.specs.declared.value.Value.{Value}
 use Rattle.mv_values.specs.declared.op.Op.TheVariants.{Eq}
 use Rattle.mv_values.specs.declared.pred.Pred.{Pred}
@@ -18,10 +18,9 @@ use Rattle.mv_catalog.specs.declared.resolved.RAgg.TheVariants.{CountAll, CountD
 use Rattle.mv_catalog.specs.declared.resolved.RCond.{RCond}
 use Rattle.mv_catalog.specs.declared.resolved.RSort.{RSort}
 use Rattle.mv_catalog.specs.declared.resolved.RStmt.TheOpen.{RStmt-F, Assign, Select, Total, ForSelect, ForRows, Branch, Insert, Update, Delete, Print, Rollback}
-use Rattle.mv_alone.specs.declared.state.Check.{Check}
 use Rattle.mv_alone.specs.declared.state.State.{State}
 use Rattle.mv_alone.specs.Alone.{offset_of}
-use Rattle.mv_alone.specs.Rows.{checks_of}
+use Rattle.mv_alone.specs.Rows.{tests_of, test_on, IsPlaced}
 use Rattle.mv_alone.specs.Changes.{new_row}
 use Rattle.mv_recorded.specs.Reading.{each_once}
 
@@ -30,13 +29,9 @@ abbrev pub on : {A B : Type 0} → Result A End → (A → List B) → List B
 on (Ok x) go = go x
 on (Err e) go = []
 
--- a test, with the position of its column in the key
-abbrev pub test_of : List ℕ → Check → Test
-test_of keys check = record { column = check.column; key_place = position (λ k. k == check.column) keys; op = check.op; value = check.value }
-
 -- the rows of a table that pass the tests, and the columns selected from them
-abbrev pub pred_of : List TableInfo → ℕ → List Check → List ℕ → Pred
-pred_of tables t checks cs = record { table = t; tests = map (test_of (key_columns tables t)) checks; columns = each_once cs }
+abbrev pub pred_of : ℕ → List Test → List ℕ → Pred
+pred_of t tests cs = record { table = t; tests = tests; columns = each_once cs }
 
 -- the bare columns in an expression, in the order of the text
 abbrev pub kind_columns : RExprKind-F (List ℕ) (List ℕ) → List ℕ
@@ -59,12 +54,12 @@ column_in (Min c) = c ∷ []
 column_in (Max c) = c ∷ []
 
 -- each key column equals the row's value
-abbrev pub same_key : List ℕ → List Value → List Check
-same_key keys row = map (λ c. record { column = c; op = Eq; value = column_of row c }) keys
+abbrev pub same_key : List ℕ → List Value → List Test
+same_key keys row = map (λ c. test_on keys c Eq (column_of row c)) keys
 
 -- the predicate with the tests of WHERE and these selected columns
 abbrev pub asked : List TableInfo → ℕ → List RCond → List ℕ → State → List Pred
-asked tables t conds cs st = on (checks_of conds st.env) (λ checks. pred_of tables t checks cs ∷ [])
+asked tables t conds cs st = on (tests_of (key_columns tables t) conds st.env) (λ tests. pred_of t tests cs ∷ [])
 
 -- the listed columns, followed by those of ORDER BY
 abbrev pub with_sorts : List ℕ → List RSort → List ℕ
@@ -76,7 +71,7 @@ preds_of tables (Select cs xs t conds sorts offset) st = on (offset_of offset st
 preds_of tables (Total agg x t conds) st = asked tables t conds (column_in agg) st
 preds_of tables (ForSelect x once cs t conds sorts body) st = asked tables t conds (with_sorts cs sorts) st
 preds_of tables (Insert t es) st =
-    on (new_row (columns_at tables t) es st.env) (λ row. pred_of tables t (same_key (key_columns tables t) row) [] ∷ [])
+    on (new_row (columns_at tables t) es st.env) (λ row. pred_of t (same_key (key_columns tables t) row) [] ∷ [])
 preds_of tables (Update t items conds) st = asked tables t conds (flat_map (λ i. columns_in i.right) items) st
 preds_of tables (Delete t conds) st = asked tables t conds [] st
 preds_of tables (Assign x e) st = []
@@ -88,4 +83,4 @@ preds_of tables (Rollback reason) st = []
 -- the predicate's table exists, and each of its tests has the position of its column in the key
 pub record KnowsKey (tables : List TableInfo) (pred : Pred) : Type 0 where
   pub table : pred.table < length tables
-  pub places : All (λ (test : Test). test.key_place ≡ position (λ k. k == test.column) (key_columns tables pred.table)) pred.tests
+  pub places : All (IsPlaced (key_columns tables pred.table)) pred.tests

@@ -20,7 +20,7 @@ use Rattle.mv_alone.specs.declared.state.State.{State}
 use Rattle.mv_alone.specs.Outcome.{then_do}
 use Rattle.mv_alone.specs.Env.{scalar_at, with_found, turns_at}
 use Rattle.mv_alone.specs.Value.{value_of, values_of, is_so}
-use Rattle.mv_alone.specs.Rows.{checks_of}
+use Rattle.mv_alone.specs.Rows.{tests_of}
 use Rattle.mv_alone.specs.Changes.{new_row, set_row}
 use Rattle.mv_alone.specs.Line.{line_of}
 use Rattle.mv_alone.specs.Alone.{matching_in, fixed, is_turn, assign, select, sum_up, insert, update, delete, print}
@@ -30,10 +30,10 @@ use Rattle.mv_recorded.specs.Reading.{each_once}
 use Rattle.mv_recorded.specs.Asking.{on, preds_of}
 
 -- the rows that a FOR iterates over
-abbrev pub fixed_rows : {X : Type 0} → RStmt-F X → State → Result (List (List Value)) End
-fixed_rows (ForSelect x once cs t conds sorts body) st = then_do (checks_of conds st.env) (λ checks. Ok (fixed once cs sorts (matching_in t checks st)))
-fixed_rows (ForRows x y body) st = Ok (turns_at st.env y)
-fixed_rows s st = Ok []
+abbrev pub fixed_rows : {X : Type 0} → List TableInfo → RStmt-F X → State → Result (List (List Value)) End
+fixed_rows tables (ForSelect x once cs t conds sorts body) st = then_do (tests_of (key_columns tables t) conds st.env) (λ tests. Ok (fixed once cs sorts (matching_in t tests st)))
+fixed_rows tables (ForRows x y body) st = Ok (turns_at st.env y)
+fixed_rows tables s st = Ok []
 
 -- `:found` tells whether there is an iteration
 abbrev pub before_turns : Result (List (List Value)) End → State → Result State End
@@ -42,14 +42,14 @@ before_turns fixed st = then_do fixed (λ rows. Ok (record st { env = with_found
 -- the state after a statement itself, or its end
 abbrev pub itself : {X : Type 0} → List TableInfo → RStmt-F X → State → Result State End
 itself tables (Assign x e) st = assign x e st
-itself tables (Select cs xs t conds sorts offset) st = select cs xs t conds sorts offset st
-itself tables (Total agg x t conds) st = sum_up agg x t conds st
-itself tables (ForSelect x once cs t conds sorts body) st = before_turns (fixed_rows (ForSelect x once cs t conds sorts body) st) st
-itself tables (ForRows x y body) st = before_turns (fixed_rows (ForRows x y body) st) st
+itself tables (Select cs xs t conds sorts offset) st = select tables cs xs t conds sorts offset st
+itself tables (Total agg x t conds) st = sum_up tables agg x t conds st
+itself tables (ForSelect x once cs t conds sorts body) st = before_turns (fixed_rows tables (ForSelect x once cs t conds sorts body) st) st
+itself tables (ForRows x y body) st = before_turns (fixed_rows tables (ForRows x y body) st) st
 itself tables (Branch e ys ns) st = then_do (value_of e st.env []) (λ v. Ok st)
 itself tables (Insert t es) st = insert tables t es st
 itself tables (Update t items conds) st = update tables t items conds st
-itself tables (Delete t conds) st = delete t conds st
+itself tables (Delete t conds) st = delete tables t conds st
 itself tables (Print es) st = print es st
 itself tables (Rollback reason) st = Err (Own reason)
 
@@ -103,10 +103,10 @@ abbrev pub writes_of : {X : Type 0} → List TableInfo → RStmt-F X → State �
 writes_of tables (Insert t es) st =
     on (new_row (columns_at tables t) es st.env) (λ row. write t (columns_of row (key_columns tables t)) (patch.Insert row) ∷ [])
 writes_of tables (Update t items conds) st =
-    on (checks_of conds st.env) (λ checks. flat_map (λ item.
+    on (tests_of (key_columns tables t) conds st.env) (λ tests. flat_map (λ item.
     on (set_row (columns_at tables t) (key_columns tables t) st.env item.row items item.row) (λ row. write t item.key (set_patch items row) ∷ []))
-    (matching_in t checks st))
-writes_of tables (Delete t conds) st = on (checks_of conds st.env) (λ checks. map (λ item. write t item.key patch.Delete) (matching_in t checks st))
+    (matching_in t tests st))
+writes_of tables (Delete t conds) st = on (tests_of (key_columns tables t) conds st.env) (λ tests. map (λ item. write t item.key patch.Delete) (matching_in t tests st))
 writes_of tables s st = []
 
 -- the line of a PRINT
@@ -121,7 +121,7 @@ abbrev pub effect_of : {X : Type 0} → List TableInfo → RStmt-F X → State �
 effect_of tables s st = record {
   preds = preds_of tables s st;
   sets = on (itself tables s st) (λ next. sets_of s next);
-  rows = on (fixed_rows s st) (λ rows. rows);
+  rows = on (fixed_rows tables s st) (λ rows. rows);
   writes = on (itself tables s st) (λ next. writes_of tables s st);
   line = printed_line s st;
   end = result_err (itself tables s st);

@@ -20,7 +20,7 @@ use Rattle.mv_alone.specs.Outcome.{then_do}
 use Rattle.mv_alone.specs.declared.state.Env.{Env}
 use Rattle.mv_alone.specs.Env.{scalar_at, with_found}
 use Rattle.mv_alone.specs.Alone.{offset_of, with_selected, totalled, is_turn}
-use Rattle.mv_alone.specs.Rows.{checks_of}
+use Rattle.mv_alone.specs.Rows.{tests_of}
 use Rattle.mv_alone.specs.Changes.{set_row, keyed}
 use Rattle.mv_record.specs.declared.record.Slot.{Slot}
 use Rattle.mv_recorded.specs.Asking.{pred_of}
@@ -59,7 +59,7 @@ slots_behind env xs = map (λ x. record { slot = x; value = scalar_at env x }) x
 
 -- the predicate of a statement, if the right sides of WHERE have values
 abbrev pub asks : List TableInfo → ℕ → List RCond → List ℕ → Env → Result Pred End
-asks tables t conds cs env = then_do (checks_of conds env) (λ checks. Ok (pred_of tables t checks cs))
+asks tables t conds cs env = then_do (tests_of (key_columns tables t) conds env) (λ tests. Ok (pred_of t tests cs))
 
 -- the predicate of a statement and a value that it needs before it queries, or its effect if it ends before
 abbrev pub asked_by : {A B : Type 0} → Result A End → Result B End → Result (A × B) Effect

@@ -81,9 +81,9 @@ size_of body = total_size (map (λ s. size s.0) body)
 -- the records of the statements in a statement whose own record has this number
 abbrev pub tell_inner : List TableInfo → RStmt-F (RStmt × Tells) → ℕ → Tells
 tell_inner tables (ForSelect x once cs t conds sorts body) number n site before st =
-    on (fixed_rows (ForSelect x once cs t conds sorts body) st) (λ rows. tell_loop x (body_of tables body) (tell_all tables body) rows n (within_loop x number site) before st)
+    on (fixed_rows tables (ForSelect x once cs t conds sorts body) st) (λ rows. tell_loop x (body_of tables body) (tell_all tables body) rows n (within_loop x number site) before st)
 tell_inner tables (ForRows x y body) number n site before st =
-    on (fixed_rows (ForRows x y body) st) (λ rows. tell_loop x (body_of tables body) (tell_all tables body) rows n (within_loop x number site) before st)
+    on (fixed_rows tables (ForRows x y body) st) (λ rows. tell_loop x (body_of tables body) (tell_all tables body) rows n (within_loop x number site) before st)
 tell_inner tables (Branch e ys ns) number n site before st =
     on (value_of e st.env []) (λ v. if is_so v then tell_all tables ys n (within number site) before st
     else tell_all tables ns (n + size_of ys) (within number site) before st)

@@ -8,6 +8,7 @@ use Rattle.std.specs.declared.cmp.Ordering.{Ordering}
 use Rattle.std.specs.declared.cmp.Ordering.TheVariants.{Less, Equal, Greater}
 use Rattle.std.proofs.lemmas.Option.{none-some}
 use Rattle.mv_values.specs.declared.value.Value.{Value}
+use Rattle.mv_values.specs.declared.pred.Test.{Test}
 use Rattle.mv_values.specs.declared.rows.Keyed.{Keyed}
 use Rattle.mv_values.specs.declared.calls.End.{End}
 use Rattle.mv_values.specs.declared.calls.End.TheVariants.{Duplicate}
@@ -17,7 +18,6 @@ use Rattle.mv_values.specs.Patching.{row_of, placed}
 use Rattle.mv_values.specs.Tables.{rows_at, Tables}
 use Rattle.mv_values.proofs.KeyOrder.{same_key, turned}
 use Rattle.mv_record.proofs.Rising.{Above, Rises, rises_from, filter_above, lower, row_here, row_later, row_below}
-use Rattle.mv_alone.specs.declared.state.Check.{Check}
 use Rattle.mv_alone.specs.declared.state.Stop.{Stop}
 use Rattle.mv_alone.specs.declared.state.Stop.TheVariants.{Memory, Ended}
 use Rattle.mv_alone.specs.Outcome.{then_do, Fails}
@@ -77,9 +77,9 @@ abbrev Renews : ℕ → List Keyed → Result (List Keyed) End → Result (List 
 Renews t rows meant (Ok cs) = Renewed t rows meant cs
 Renews t rows meant (Err e) = meant ≡ Err e
 
-renewed : (t : ℕ) (new : New) (checks : List Check) (rows : List Keyed) → Rises rows → Renews t rows (updated new checks rows) (renewals t new (matching checks rows))
-renewed t new checks [] h = record { made = refl; one = tt; above = λ key k. tt }
-renewed t new checks (x ∷ rows) h = by (meets checks x.row) (renewed t new checks rows h.1)
+renewed : (t : ℕ) (new : New) (tests : List Test) (rows : List Keyed) → Rises rows → Renews t rows (updated new tests rows) (renewals t new (matching tests rows))
+renewed t new tests [] h = record { made = refl; one = tt; above = λ key k. tt }
+renewed t new tests (x ∷ rows) h = by (meets tests x.row) (renewed t new tests rows h.1)
   where
     kept : (meant : Result (List Keyed) End) (r : Result (List Change) End) → Renews t rows meant r → Renews t (x ∷ rows) (then_do meant (λ rest. Ok (x ∷ rest))) r
     kept meant (Ok cs) m = record {
@@ -100,23 +100,23 @@ renewed t new checks (x ∷ rows) h = by (meets checks x.row) (renewed t new che
       above = λ key k. (k.0, m.above key k.1);
     }
 
-    by : (b : Bool) → Renews t rows (updated new checks rows) (renewals t new (matching checks rows))
-        → Renews t (x ∷ rows) (cond b (then_do (new x.row) (λ row. then_do (updated new checks rows) (λ rest. Ok (record x { row = row } ∷ rest)))) (then_do (updated new checks rows) (λ rest. Ok (x ∷ rest))))
-        (renewals t new (cond b (x ∷ matching checks rows) (matching checks rows)))
-    by true m = made_anew (updated new checks rows) (renewals t new (matching checks rows)) (new x.row) m
-    by false m = kept (updated new checks rows) (renewals t new (matching checks rows)) m
+    by : (b : Bool) → Renews t rows (updated new tests rows) (renewals t new (matching tests rows))
+        → Renews t (x ∷ rows) (cond b (then_do (new x.row) (λ row. then_do (updated new tests rows) (λ rest. Ok (record x { row = row } ∷ rest)))) (then_do (updated new tests rows) (λ rest. Ok (x ∷ rest))))
+        (renewals t new (cond b (x ∷ matching tests rows) (matching tests rows)))
+    by true m = made_anew (updated new tests rows) (renewals t new (matching tests rows)) (new x.row) m
+    by false m = kept (updated new tests rows) (renewals t new (matching tests rows)) m
 
 -- the changes of UPDATE make its rows
-pub renewals_make : (t : ℕ) (new : New) (checks : List Check) (db after : Tables) (cs : List Change) → IsRising (rows_at db t) → renewals t new (matching checks (rows_at db t)) ≡ Ok cs → after ≡ changed_by cs db
-    → table_with db t (updated new checks (rows_at db t)) ≡ Ok after
-renewals_make t new checks db after cs rising is made =
-    let m : Renewed t (rows_at db t) (updated new checks (rows_at db t)) cs = subst (Renews t (rows_at db t) (updated new checks (rows_at db t))) is (renewed t new checks (rows_at db t) (rises_from (rows_at db t) rising)) in
+pub renewals_make : (t : ℕ) (new : New) (tests : List Test) (db after : Tables) (cs : List Change) → IsRising (rows_at db t) → renewals t new (matching tests (rows_at db t)) ≡ Ok cs → after ≡ changed_by cs db
+    → table_with db t (updated new tests (rows_at db t)) ≡ Ok after
+renewals_make t new tests db after cs rising is made =
+    let m : Renewed t (rows_at db t) (updated new tests (rows_at db t)) cs = subst (Renews t (rows_at db t) (updated new tests (rows_at db t))) is (renewed t new tests (rows_at db t) (rises_from (rows_at db t) rising)) in
     ap (table_with db t) m.made ∙ ap Ok (sym (at_table t cs db m.one) ∙ sym made)
 
 -- the fault that stops them stops it
-pub renewals_stop : (new : New) (t : ℕ) (checks : List Check) (rows : List Keyed) (e : End) → renewals t new (matching checks rows) ≡ Err e → updated new checks rows ≡ Err e
-renewals_stop new t checks [] e h = cc
-renewals_stop new t checks (x ∷ rows) e h = by (meets checks x.row) (renewals_stop new t checks rows e) h
+pub renewals_stop : (new : New) (t : ℕ) (tests : List Test) (rows : List Keyed) (e : End) → renewals t new (matching tests rows) ≡ Err e → updated new tests rows ≡ Err e
+renewals_stop new t tests [] e h = cc
+renewals_stop new t tests (x ∷ rows) e h = by (meets tests x.row) (renewals_stop new t tests rows e) h
   where
     first : (o : Result (List Value) End) (r : Result (List Change) End) (u : Result (List Keyed) End) → (r ≡ Err e → u ≡ Err e) → then_do o (λ row. then_do r (λ rest. Ok (record { table = t; key = x.key; row = Some row } ∷ rest))) ≡ Err e
         → then_do o (λ row. then_do u (λ rest. Ok (record x { row = row } ∷ rest))) ≡ Err e
@@ -124,14 +124,14 @@ renewals_stop new t checks (x ∷ rows) e h = by (meets checks x.row) (renewals_
     first (Ok row) (Ok cs) u more k = cc
     first (Ok row) (Err f) u more k = let same : f ≡ e = cc in ap (λ o. then_do o (λ rest. Ok (record x { row = row } ∷ rest))) (more (ap Err same))
 
-    by : (b : Bool) → (renewals t new (matching checks rows) ≡ Err e → updated new checks rows ≡ Err e) → renewals t new (cond b (x ∷ matching checks rows) (matching checks rows)) ≡ Err e
-        → cond b (then_do (new x.row) (λ row. then_do (updated new checks rows) (λ rest. Ok (record x { row = row } ∷ rest)))) (then_do (updated new checks rows) (λ rest. Ok (x ∷ rest))) ≡ Err e
-    by true more k = first (new x.row) (renewals t new (matching checks rows)) (updated new checks rows) more k
+    by : (b : Bool) → (renewals t new (matching tests rows) ≡ Err e → updated new tests rows ≡ Err e) → renewals t new (cond b (x ∷ matching tests rows) (matching tests rows)) ≡ Err e
+        → cond b (then_do (new x.row) (λ row. then_do (updated new tests rows) (λ rest. Ok (record x { row = row } ∷ rest)))) (then_do (updated new tests rows) (λ rest. Ok (x ∷ rest))) ≡ Err e
+    by true more k = first (new x.row) (renewals t new (matching tests rows)) (updated new tests rows) more k
     by false more k = ap (λ o. then_do o (λ rest. Ok (x ∷ rest))) (more k)
 
-pub renewals_fail : (t : ℕ) (new : New) (checks : List Check) (db : Tables) (s : Stop) → Fails s (renewals t new (matching checks (rows_at db t))) → Fails s (table_with db t (updated new checks (rows_at db t)))
-renewals_fail t new checks db Memory h = tt
-renewals_fail t new checks db (Ended e) h = ap (table_with db t) (renewals_stop new t checks (rows_at db t) e h)
+pub renewals_fail : (t : ℕ) (new : New) (tests : List Test) (db : Tables) (s : Stop) → Fails s (renewals t new (matching tests (rows_at db t))) → Fails s (table_with db t (updated new tests (rows_at db t)))
+renewals_fail t new tests db Memory h = tt
+renewals_fail t new tests db (Ended e) h = ap (table_with db t) (renewals_stop new t tests (rows_at db t) e h)
 
 positive : (n : ℕ) → nat_lt 0 (suc n) ≡ true
 positive n = search rules
@@ -156,24 +156,24 @@ removals_one : (t : ℕ) (items : List Keyed) → AllAt t (removals t items)
 removals_one t [] = tt
 removals_one t (x ∷ items) = (refl, removals_one t items)
 
-removed : (t : ℕ) (checks : List Check) (rows : List Keyed) → Rises rows → all_placed (removals t (matching checks rows)) rows ≡ without checks rows
-removed t checks [] h = refl
-removed t checks (x ∷ rows) h = by (meets checks x.row) (removed t checks rows h.1)
+removed : (t : ℕ) (tests : List Test) (rows : List Keyed) → Rises rows → all_placed (removals t (matching tests rows)) rows ≡ without tests rows
+removed t tests [] h = refl
+removed t tests (x ∷ rows) h = by (meets tests x.row) (removed t tests rows h.1)
   where
-    same : all_placed (removals t (matching checks rows)) (x ∷ rows) ≡ x ∷ all_placed (removals t (matching checks rows)) rows
-    same = later x (removals t (matching checks rows)) rows (removals_past t x.key (matching checks rows) (filter_above (λ item. meets checks item.row) x.key rows h.0))
+    same : all_placed (removals t (matching tests rows)) (x ∷ rows) ≡ x ∷ all_placed (removals t (matching tests rows)) rows
+    same = later x (removals t (matching tests rows)) rows (removals_past t x.key (matching tests rows) (filter_above (λ item. meets tests item.row) x.key rows h.0))
 
-    by : (b : Bool) → all_placed (removals t (matching checks rows)) rows ≡ without checks rows
-        → all_placed (removals t (cond b (x ∷ matching checks rows) (matching checks rows))) (x ∷ rows) ≡ cond (not b) (x ∷ without checks rows) (without checks rows)
-    by true more = ap (placed x.key None) same ∙ (gone x (all_placed (removals t (matching checks rows)) rows) ∙ more)
+    by : (b : Bool) → all_placed (removals t (matching tests rows)) rows ≡ without tests rows
+        → all_placed (removals t (cond b (x ∷ matching tests rows) (matching tests rows))) (x ∷ rows) ≡ cond (not b) (x ∷ without tests rows) (without tests rows)
+    by true more = ap (placed x.key None) same ∙ (gone x (all_placed (removals t (matching tests rows)) rows) ∙ more)
     by false more = same ∙ ap (λ l. x ∷ l) more
 
 -- the changes of DELETE leave the rows that don't match
-pub removals_make : (t : ℕ) (checks : List Check) (db after : Tables) (cs : List Change) → IsRising (rows_at db t) → cs ≡ removals t (matching checks (rows_at db t)) → after ≡ changed_by cs db → after ≡ slice_set db t (without checks (rows_at db t))
-removals_make t checks db after cs rising is made =
+pub removals_make : (t : ℕ) (tests : List Test) (db after : Tables) (cs : List Change) → IsRising (rows_at db t) → cs ≡ removals t (matching tests (rows_at db t)) → after ≡ changed_by cs db → after ≡ slice_set db t (without tests (rows_at db t))
+removals_make t tests db after cs rising is made =
     made
     ∙ (ap (λ (l : List Change). changed_by l db) is
-    ∙ (at_table t (removals t (matching checks (rows_at db t))) db (removals_one t (matching checks (rows_at db t))) ∙ ap (slice_set db t) (removed t checks (rows_at db t) (rises_from (rows_at db t) rising))))
+    ∙ (at_table t (removals t (matching tests (rows_at db t))) db (removals_one t (matching tests (rows_at db t))) ∙ ap (slice_set db t) (removed t tests (rows_at db t) (rises_from (rows_at db t) rising))))
 
 pub some_removed : (t : ℕ) (items : List Keyed) → nat_lt 0 (length (removals t items)) ≡ is_some_row items
 some_removed t [] = refl

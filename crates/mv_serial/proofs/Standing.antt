@@ -2,13 +2,13 @@
 use Rattle.std.proofs.Common.{◌≡◌, ℕ, zero, suc, List, [], ◌∷◌, Result, Ok, Err, slice_set, refl, sym, subst}
 use Rattle.std.proofs.lemmas.List.Elements.{All-nil, All-filter}
 use Rattle.std.specs.Prelude.{not}
+use Rattle.mv_values.specs.declared.pred.Test.{Test}
 use Rattle.mv_values.specs.declared.rows.Keyed.{Keyed}
 use Rattle.mv_values.specs.declared.schema.TableInfo.{TableInfo}
 use Rattle.mv_values.specs.declared.calls.End.{End}
 use Rattle.mv_values.specs.Columns.{columns_of}
 use Rattle.mv_values.specs.Tables.{key_columns, columns_at, rows_at, KeysStand, Tables, StandsUnder}
 use Rattle.mv_catalog.specs.declared.resolved.RSetItem.{RSetItem}
-use Rattle.mv_alone.specs.declared.state.Check.{Check}
 use Rattle.mv_alone.specs.declared.state.State.{State}
 use Rattle.mv_alone.specs.Rows.{meets}
 use Rattle.mv_alone.specs.Changes.{set_row, without, put_row}
@@ -23,17 +23,17 @@ with_stands infos db new t (Ok rows) h made is = let same : slice_set db t rows 
 with_stands infos db new t (Err e) h made is = cc
 
 -- UPDATE
-pub update_stands : (infos : List TableInfo) (t : ℕ) (items : List RSetItem) (checks : List Check) (st : State) (new : Tables) → KeysStand infos st.tables
-    → table_with st.tables t (updated_at infos t items checks st) ≡ Ok new → KeysStand infos new
-update_stands infos t items checks st new h is =
-    with_stands infos st.tables new t (updated_at infos t items checks st) h
-    (λ rows made. updated_stand (λ row. set_row (columns_at infos t) (key_columns infos t) st.env row items row) (key_columns infos t) checks
+pub update_stands : (infos : List TableInfo) (t : ℕ) (items : List RSetItem) (tests : List Test) (st : State) (new : Tables) → KeysStand infos st.tables
+    → table_with st.tables t (updated_at infos t items tests st) ≡ Ok new → KeysStand infos new
+update_stands infos t items tests st new h is =
+    with_stands infos st.tables new t (updated_at infos t items tests st) h
+    (λ rows made. updated_stand (λ row. set_row (columns_at infos t) (key_columns infos t) st.env row items row) (key_columns infos t) tests
     (λ row made is. set_row_keeps (columns_at infos t) (key_columns infos t) st.env row items row made is) (rows_at st.tables t) rows (h t) made) is
 
 -- DELETE
-pub delete_stands : (infos : List TableInfo) (t : ℕ) (checks : List Check) (db new : Tables) → KeysStand infos db → new ≡ slice_set db t (without checks (rows_at db t)) → KeysStand infos new
-delete_stands infos t checks db new h is =
-    subst (KeysStand infos) (sym is) (stand_set infos db t (without checks (rows_at db t)) h (All-filter (λ item. not (meets checks item.row)) (StandsUnder (key_columns infos t)) (rows_at db t) (h t)))
+pub delete_stands : (infos : List TableInfo) (t : ℕ) (tests : List Test) (db new : Tables) → KeysStand infos db → new ≡ slice_set db t (without tests (rows_at db t)) → KeysStand infos new
+delete_stands infos t tests db new h is =
+    subst (KeysStand infos) (sym is) (stand_set infos db t (without tests (rows_at db t)) h (All-filter (λ item. not (meets tests item.row)) (StandsUnder (key_columns infos t)) (rows_at db t) (h t)))
 
 -- INSERT
 pub insert_stands : (infos : List TableInfo) (t : ℕ) (item : Keyed) (db new : Tables) → KeysStand infos db → item.key ≡ columns_of item.row (key_columns infos t) → table_with db t (put_row item (rows_at db t)) ≡ Ok new

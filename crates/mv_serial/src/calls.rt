@@ -1,6 +1,7 @@
 //! Runs whole calls, one after another.
 
-ghost use Rattle.std.specs.Prelude.{◌≡◌, [], Some, IfOk, length, replicate};
+ghost use Rattle.std.specs.Prelude.{◌≡◌, [], Some, All, IfOk, length, replicate};
+ghost use Rattle.mv_catalog.specs.Text.{IsTable};
 ghost use Rattle.mv_alone.specs.Alone.{alone};
 ghost use Rattle.mv_values.specs.Tables.{KeysStand};
 ghost use Rattle.mv_record.specs.Databases.{IsProgram};
@@ -61,7 +62,8 @@ fn run_procedure(
     call: &Call,
     tables: Tables,
 ) -> Result<Left, NoMemory>
-    requires { KeysStand program.now.resolved.tables tables }
+    requires keys { KeysStand program.now.resolved.tables tables }
+    requires each { All IsTable program.now.resolved.tables }
     ensures tables { IfOk result (λ l. l.tables ≡ tables_left tables (alone program.now.resolved.tables procedure.now.body (begun procedure.now call.now tables))) }
     ensures reply { IfOk result (λ l. l.reply ≡ reply_in (alone program.now.resolved.tables procedure.now.body (begun procedure.now call.now tables))) }
     ensures keys { IfOk result (λ l. KeysStand program.now.resolved.tables l.tables) }
@@ -107,7 +109,8 @@ fn run_call(
     number: usize,
     tables: Tables,
 ) -> Result<Left, NoMemory>
-    requires { KeysStand program.now.resolved.tables tables }
+    requires keys { KeysStand program.now.resolved.tables tables }
+    requires each { All IsTable program.now.resolved.tables }
     ensures tables { IfOk result (λ l. l.tables ≡ tables_left tables (outcome program.now number tables)) }
     ensures reply { IfOk result (λ l. l.reply ≡ reply_in (outcome program.now number tables)) }
     ensures keys { IfOk result (λ l. KeysStand program.now.resolved.tables l.tables) }

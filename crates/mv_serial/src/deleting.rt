@@ -1,24 +1,27 @@
 //! Executes DELETE.
 
-ghost use Rattle.std.specs.Prelude.{◌≡◌, map, IfOk, OnOk};
+ghost use Rattle.std.specs.Prelude.{◌≡◌, All, map, IfOk, OnOk};
 ghost use Rattle.mv_values.specs.Keys.{IsRising};
 ghost use Rattle.mv_values.specs.Tables.{rows_at, KeysStand};
 ghost use Rattle.mv_table.specs.Entries.{seen};
+ghost use Rattle.mv_catalog.specs.Text.{IsTable};
 ghost use Rattle.mv_alone.specs.Outcome.{Leaves};
 ghost use Rattle.mv_alone.specs.Rows.{matching};
+ghost use Rattle.mv_alone.specs.FirstRows.{AdmitMatches};
 ghost use Rattle.mv_alone.specs.Changes.{OthersStay};
 ghost use Rattle.mv_alone.specs.Alone.{delete};
 ghost use Rattle.mv_serial.specs.Changing.{removals, StaysUndoable};
 
 use crate::change::{Change, make_all};
 use mv_alone::env::set_found;
-use mv_alone::find::{checks_from, matches_in};
-use mv_alone::state::{Check, State, Stop};
+use mv_alone::find::{matches_in, tests_from};
+use mv_alone::state::{State, Stop};
 use mv_catalog::resolved::RCond;
 use mv_table::table::{Entry, Tables};
 use mv_values::copied::Copied;
 use mv_values::list::List;
 use mv_values::memory::NoMemory;
+use mv_values::pred::Test;
 use mv_values::schema::TableInfo;
 use std::alloc::Global;
 
@@ -40,16 +43,15 @@ fn removals_of(alloc: Global, table: u16, rows: &[Entry<'_>]) -> Result<List<Cha
 /// Returns the changes that remove each matching row.
 fn removals_in(
     alloc: Global,
-    infos: &[TableInfo],
     tables: &Tables,
     table: u16,
-    checks: &[Check],
+    tests: &[Test],
 ) -> Result<List<Change>, NoMemory>
-    requires { KeysStand infos.now tables.now }
-    ensures changes { IfOk result (λ changes. changes ≡ removals table (matching checks.now (rows_at tables.now table))) }
+    requires { AdmitMatches tests.now (rows_at tables.now table) }
+    ensures changes { IfOk result (λ changes. changes ≡ removals table (matching tests.now (rows_at tables.now table))) }
     ensures rising { IfOk result (λ changes. IsRising (rows_at tables.now table)) }
 {
-    let found = matches_in(alloc, infos, tables, table, checks)?;
+    let found = matches_in(alloc, tables, table, tests)?;
     removals_of(alloc, table, found.as_slice())
 }
 
@@ -62,14 +64,15 @@ pub(crate) fn run_delete(
     state: &mut State,
     undo: &mut List<Change>,
 ) -> Result<(), Stop>
-    requires { KeysStand infos.now state.old.tables }
-    ensures does { Leaves result state.new (delete table conds.now state.old) }
+    requires keys { KeysStand infos.now state.old.tables }
+    requires each { All IsTable infos.now }
+    ensures does { Leaves result state.new (delete infos.now table conds.now state.old) }
     ensures keys { OnOk result (KeysStand infos.now state.new.tables) }
     ensures others { OnOk result (OthersStay table state.old.tables state.new.tables) }
     ensures undo { StaysUndoable result undo.old state.old.tables undo.new state.new.tables }
 {
-    let checks = checks_from(alloc, conds, &state.env)?;
-    let changes = removals_in(alloc, infos, &state.tables, table, checks.as_slice())?;
+    let tests = tests_from(alloc, infos, table, conds, &state.env)?;
+    let changes = removals_in(alloc, &state.tables, table, tests.as_slice())?;
     let found = changes.len() > 0;
     make_all(alloc, &mut state.tables, undo, changes)?;
     set_found(&mut state.env, found)?;

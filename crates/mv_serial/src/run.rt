@@ -1,14 +1,15 @@
 //! Executes statements that hold no others.
 
-ghost use Rattle.std.specs.Prelude.{◌≡◌};
+ghost use Rattle.std.specs.Prelude.{◌≡◌, All};
 ghost use Rattle.mv_values.specs.Tables.{KeysStand};
+ghost use Rattle.mv_catalog.specs.Text.{IsTable};
 ghost use Rattle.mv_alone.specs.Outcome.{Leaves};
 ghost use Rattle.mv_alone.specs.Alone.{assign, select, print};
 
 use mv_alone::chosen::chosen_in;
 use mv_alone::env::{set_columns, set_found, set_value};
 use mv_alone::expr::{number_in, offset, value, values};
-use mv_alone::find::checks_from;
+use mv_alone::find::tests_from;
 use mv_alone::line::line_from;
 use mv_alone::state::{State, Stop};
 use mv_catalog::resolved::{Query, RExpr};
@@ -39,18 +40,19 @@ pub(crate) fn run_select(
     skip: &Option<RExpr>,
     state: &mut State,
 ) -> Result<(), Stop>
-    requires { KeysStand infos.now state.old.tables }
+    requires keys { KeysStand infos.now state.old.tables }
+    requires each { All IsTable infos.now }
     ensures tables { state.new.tables ≡ state.old.tables }
-    ensures does { Leaves result state.new (select query.now.columns.now to.now query.now.table query.now.conds.now query.now.sorts.now skip.now state.old) }
+    ensures does { Leaves result state.new (select infos.now query.now.columns.now to.now query.now.table query.now.conds.now query.now.sorts.now skip.now state.old) }
 {
-    let checks = checks_from(alloc, query.conds, &state.env)?;
+    let tests = tests_from(alloc, infos, query.table, query.conds, &state.env)?;
     let at = offset(alloc, skip, &state.env)?;
     let found = chosen_in(
         alloc,
         infos,
         &state.tables,
         query.table,
-        checks.as_slice(),
+        tests.as_slice(),
         query.sorts,
         number_in(&at),
     )?;

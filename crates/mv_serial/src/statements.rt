@@ -1,8 +1,9 @@
 //! Executes statements one after another, and those that hold others.
 
-ghost use Rattle.std.specs.Prelude.{◌≡◌, ◌++◌, [], drop, Ok, OnOk};
-ghost use Rattle.mv_values.specs.Tables.{rows_at, KeysStand};
-ghost use Rattle.mv_alone.specs.Rows.{checks_of, matching};
+ghost use Rattle.std.specs.Prelude.{◌≡◌, ◌++◌, [], drop, All, Ok, OnOk};
+ghost use Rattle.mv_values.specs.Tables.{rows_at, key_columns, KeysStand};
+ghost use Rattle.mv_catalog.specs.Text.{IsTable};
+ghost use Rattle.mv_alone.specs.Rows.{tests_of, matching};
 ghost use Rattle.mv_alone.specs.Outcome.{Gives, Leaves, then_do};
 ghost use Rattle.mv_alone.specs.Value.{value_of, is_so};
 ghost use Rattle.mv_alone.specs.Env.{with_found};
@@ -17,7 +18,7 @@ use crate::totals::run_total;
 use crate::updating::run_update;
 use mv_alone::env::{copied_turns, set_found, set_held};
 use mv_alone::expr::{holds, value};
-use mv_alone::find::{checks_from, matches_in};
+use mv_alone::find::{matches_in, tests_from};
 use mv_alone::fixing::fixed_rows;
 use mv_alone::state::{Env, Held, State, Stop};
 use mv_catalog::resolved::{Query, RExpr, RStmt, Update};
@@ -53,7 +54,8 @@ pub(crate) fn run_all(
     state: &mut State,
     undo: &mut List<Change>,
 ) -> Result<(), Stop>
-    requires { KeysStand tables.now state.old.tables }
+    requires keys { KeysStand tables.now state.old.tables }
+    requires each { All IsTable tables.now }
     ensures does { Leaves result state.new (alone tables.now statements.now state.old) }
     ensures keys { OnOk result (KeysStand tables.now state.new.tables) }
     ensures undo { StaysUndoable result undo.old state.old.tables undo.new state.new.tables }
@@ -73,7 +75,8 @@ fn run_one(
     state: &mut State,
     undo: &mut List<Change>,
 ) -> Result<(), Stop>
-    requires { KeysStand tables.now state.old.tables }
+    requires keys { KeysStand tables.now state.old.tables }
+    requires each { All IsTable tables.now }
     ensures does { Leaves result state.new (does tables.now statement.now state.old) }
     ensures keys { OnOk result (KeysStand tables.now state.new.tables) }
     ensures undo { StaysUndoable result undo.old state.old.tables undo.new state.new.tables }
@@ -169,11 +172,12 @@ fn turns_of(
     query: &Query<'_>,
     state: &State,
 ) -> Result<List<Row>, Stop>
-    requires { KeysStand tables.now state.now.tables }
-    ensures { Gives result (then_do (checks_of query.now.conds.now state.now.env) (λ checks. Ok (fixed once query.now.columns.now query.now.sorts.now (matching checks (rows_at state.now.tables query.now.table))))) }
+    requires keys { KeysStand tables.now state.now.tables }
+    requires each { All IsTable tables.now }
+    ensures { Gives result (then_do (tests_of (key_columns tables.now query.now.table) query.now.conds.now state.now.env) (λ tests. Ok (fixed once query.now.columns.now query.now.sorts.now (matching tests (rows_at state.now.tables query.now.table))))) }
 {
-    let checks = checks_from(alloc, query.conds, &state.env)?;
-    let found = matches_in(alloc, tables, &state.tables, query.table, checks.as_slice())?;
+    let tests = tests_from(alloc, tables, query.table, query.conds, &state.env)?;
+    let found = matches_in(alloc, &state.tables, query.table, tests.as_slice())?;
     Ok(fixed_rows(alloc, once, query.columns, query.sorts, found.as_slice())?)
 }
 
@@ -189,8 +193,9 @@ fn run_turns(
     state: &mut State,
     undo: &mut List<Change>,
 ) -> Result<(), Stop>
-    requires { KeysStand tables.now state.old.tables }
-    ensures does { Leaves result state.new (for_select row once query.now.columns.now query.now.table query.now.conds.now query.now.sorts.now (alone tables.now body.now) state.old) }
+    requires keys { KeysStand tables.now state.old.tables }
+    requires each { All IsTable tables.now }
+    ensures does { Leaves result state.new (for_select tables.now row once query.now.columns.now query.now.table query.now.conds.now query.now.sorts.now (alone tables.now body.now) state.old) }
     ensures keys { OnOk result (KeysStand tables.now state.new.tables) }
     ensures undo { StaysUndoable result undo.old state.old.tables undo.new state.new.tables }
 {
@@ -209,7 +214,8 @@ fn run_rows(
     state: &mut State,
     undo: &mut List<Change>,
 ) -> Result<(), Stop>
-    requires { KeysStand tables.now state.old.tables }
+    requires keys { KeysStand tables.now state.old.tables }
+    requires each { All IsTable tables.now }
     ensures does { Leaves result state.new (for_rows row parameter (alone tables.now body.now) state.old) }
     ensures keys { OnOk result (KeysStand tables.now state.new.tables) }
     ensures undo { StaysUndoable result undo.old state.old.tables undo.new state.new.tables }
@@ -229,7 +235,8 @@ fn run_loop(
     state: &mut State,
     undo: &mut List<Change>,
 ) -> Result<(), Stop>
-    requires { KeysStand tables.now state.old.tables }
+    requires keys { KeysStand tables.now state.old.tables }
+    requires each { All IsTable tables.now }
     ensures does { Leaves result state.new (loop_over row (alone tables.now body.now) rows.now state.old) }
     ensures keys { OnOk result (KeysStand tables.now state.new.tables) }
     ensures undo { StaysUndoable result undo.old state.old.tables undo.new state.new.tables }

@@ -1,14 +1,15 @@
 //! Executes SELECT with an aggregate.
 
-ghost use Rattle.std.specs.Prelude.{◌≡◌, OnOk};
+ghost use Rattle.std.specs.Prelude.{◌≡◌, All, OnOk};
 ghost use Rattle.mv_values.specs.Tables.{KeysStand};
+ghost use Rattle.mv_catalog.specs.Text.{IsTable};
 ghost use Rattle.mv_alone.specs.Outcome.{Leaves};
 ghost use Rattle.mv_alone.specs.Alone.{sum_up, totalled};
 ghost use Rattle.mv_alone.specs.Env.{with_found};
 
 use mv_alone::env::{set_found, set_value};
 use mv_alone::extremes::total_of;
-use mv_alone::find::checks_from;
+use mv_alone::find::tests_from;
 use mv_alone::state::{Env, State, Stop};
 use mv_catalog::resolved::{RAgg, RCond};
 use mv_values::memory::NoMemory;
@@ -39,12 +40,13 @@ pub(crate) fn run_total(
     conds: &[RCond],
     state: &mut State,
 ) -> Result<(), Stop>
-    requires { KeysStand infos.now state.old.tables }
+    requires keys { KeysStand infos.now state.old.tables }
+    requires each { All IsTable infos.now }
     ensures tables { state.new.tables ≡ state.old.tables }
-    ensures does { Leaves result state.new (sum_up agg to table conds.now state.old) }
+    ensures does { Leaves result state.new (sum_up infos.now agg to table conds.now state.old) }
 {
-    let checks = checks_from(alloc, conds, &state.env)?;
-    let (value, found) = total_of(alloc, infos, &state.tables, agg, table, checks.as_slice())?;
+    let tests = tests_from(alloc, infos, table, conds, &state.env)?;
+    let (value, found) = total_of(alloc, infos, &state.tables, agg, table, tests.as_slice())?;
     store_total(&mut state.env, to, value, found)?;
     Ok(())
 }

@@ -1,24 +1,27 @@
 //! Executes UPDATE.
 
-ghost use Rattle.std.specs.Prelude.{◌≡◌, map, IfOk, OnOk};
+ghost use Rattle.std.specs.Prelude.{◌≡◌, All, map, IfOk, OnOk};
 ghost use Rattle.mv_values.specs.Keys.{IsRising};
 ghost use Rattle.mv_values.specs.Tables.{rows_at, columns_at, key_columns, KeysStand};
 ghost use Rattle.mv_table.specs.Entries.{seen};
+ghost use Rattle.mv_catalog.specs.Text.{IsTable};
 ghost use Rattle.mv_alone.specs.Outcome.{Gives, Leaves};
 ghost use Rattle.mv_alone.specs.Rows.{matching};
+ghost use Rattle.mv_alone.specs.FirstRows.{AdmitMatches};
 ghost use Rattle.mv_alone.specs.Changes.{set_row, OthersStay};
 ghost use Rattle.mv_alone.specs.Alone as alone;
 ghost use Rattle.mv_serial.specs.Changing.{renewals, StaysUndoable};
 
 use crate::change::{Change, make_all};
 use mv_alone::env::set_found;
-use mv_alone::find::{checks_from, columns_in, key_in, matches_in};
+use mv_alone::find::{columns_in, key_in, matches_in, tests_from};
 use mv_alone::made::row_after_set;
-use mv_alone::state::{Check, Env, State, Stop};
+use mv_alone::state::{Env, State, Stop};
 use mv_catalog::resolved::Update;
 use mv_table::table::Entry;
 use mv_values::copied::Copied;
 use mv_values::list::List;
+use mv_values::pred::Test;
 use mv_values::schema::{Column, TableInfo};
 use std::alloc::Global;
 
@@ -50,14 +53,14 @@ fn renewals_in(
     alloc: Global,
     tables: &[TableInfo],
     update: &Update<'_>,
-    checks: &[Check],
+    tests: &[Test],
     state: &State,
 ) -> Result<List<Change>, Stop>
-    requires { KeysStand tables.now state.now.tables }
-    ensures changes { Gives result (renewals update.now.table (λ row. set_row (columns_at tables.now update.now.table) (key_columns tables.now update.now.table) state.now.env row update.now.items.now row) (matching checks.now (rows_at state.now.tables update.now.table))) }
+    requires { AdmitMatches tests.now (rows_at state.now.tables update.now.table) }
+    ensures changes { Gives result (renewals update.now.table (λ row. set_row (columns_at tables.now update.now.table) (key_columns tables.now update.now.table) state.now.env row update.now.items.now row) (matching tests.now (rows_at state.now.tables update.now.table))) }
     ensures rising { IfOk result (λ changes. IsRising (rows_at state.now.tables update.now.table)) }
 {
-    let found = matches_in(alloc, tables, &state.tables, update.table, checks)?;
+    let found = matches_in(alloc, &state.tables, update.table, tests)?;
     renewals_of(
         alloc,
         columns_in(tables, update.table),
@@ -76,14 +79,15 @@ pub(crate) fn run_update(
     state: &mut State,
     undo: &mut List<Change>,
 ) -> Result<(), Stop>
-    requires { KeysStand tables.now state.old.tables }
+    requires keys { KeysStand tables.now state.old.tables }
+    requires each { All IsTable tables.now }
     ensures does { Leaves result state.new (alone.update tables.now update.now.table update.now.items.now update.now.conds.now state.old) }
     ensures keys { OnOk result (KeysStand tables.now state.new.tables) }
     ensures others { OnOk result (OthersStay update.now.table state.old.tables state.new.tables) }
     ensures undo { StaysUndoable result undo.old state.old.tables undo.new state.new.tables }
 {
-    let checks = checks_from(alloc, update.conds, &state.env)?;
-    let changes = renewals_in(alloc, tables, update, checks.as_slice(), state)?;
+    let tests = tests_from(alloc, tables, update.table, update.conds, &state.env)?;
+    let changes = renewals_in(alloc, tables, update, tests.as_slice(), state)?;
     let found = changes.len() > 0;
     make_all(alloc, &mut state.tables, undo, changes)?;
     set_found(&mut state.env, found)?;

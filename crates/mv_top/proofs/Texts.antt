@@ -19,7 +19,7 @@ use Rattle.mv_alone.specs.declared.state.Env.{Env}
 use Rattle.mv_alone.specs.declared.state.State.{State}
 use Rattle.mv_alone.specs.Outcome.{then_do}
 use Rattle.mv_alone.specs.Value.{value_of, values_of}
-use Rattle.mv_alone.specs.Rows.{checks_of, aggregate}
+use Rattle.mv_alone.specs.Rows.{tests_of, aggregate}
 use Rattle.mv_alone.specs.Changes.{new_row, put_row, keyed, updated, set_row}
 use Rattle.mv_alone.specs.Line.{line_of}
 use Rattle.mv_alone.specs.Alone.{alone, matching_in, offset_of}
@@ -114,17 +114,17 @@ then_prints (Err e) go st rs h = tt
 
 prints_own : {Y : Type 0} (tables : List TableInfo) (y : RStmt-F Y) (st : State) (rs : List Record) → Prints st rs (itself tables y st)
 prints_own tables (Assign x e) st rs = then_prints (value_of e st.env []) _ st rs (λ v h. h)
-prints_own tables (Select cs xs t conds sorts offset) st rs = then_prints (checks_of conds st.env) _ st rs (λ checks. then_prints (offset_of offset st.env) _ st rs (λ at h. h))
-prints_own tables (Total agg x t conds) st rs = then_prints (checks_of conds st.env) _ st rs (λ checks. then_prints (aggregate agg (matching_in t checks st)) _ st rs (λ v h. h))
-prints_own {Y} tables (ForSelect x once cs t conds sorts body) st rs = then_prints (fixed_rows {X = Y} (ForSelect x once cs t conds sorts body) st) _ st rs (λ rows h. h)
+prints_own tables (Select cs xs t conds sorts offset) st rs = then_prints (tests_of (key_columns tables t) conds st.env) _ st rs (λ tests. then_prints (offset_of offset st.env) _ st rs (λ at h. h))
+prints_own tables (Total agg x t conds) st rs = then_prints (tests_of (key_columns tables t) conds st.env) _ st rs (λ tests. then_prints (aggregate agg (matching_in t tests st)) _ st rs (λ v h. h))
+prints_own {Y} tables (ForSelect x once cs t conds sorts body) st rs = then_prints (fixed_rows {X = Y} tables (ForSelect x once cs t conds sorts body) st) _ st rs (λ rows h. h)
 prints_own tables (ForRows x y body) st rs = λ h. h
 prints_own tables (Branch e ys ns) st rs = then_prints (value_of e st.env []) _ st rs (λ v h. h)
 prints_own tables (Insert t es) st rs =
     then_prints (new_row (columns_at tables t) es st.env) _ st rs (λ row. then_prints (put_row (keyed (key_columns tables t) row) (rows_at st.tables t)) _ st rs (λ rows h. h))
 prints_own tables (Update t items conds) st rs =
-    then_prints (checks_of conds st.env) _ st rs (λ checks.
-    then_prints (updated (λ row. set_row (columns_at tables t) (key_columns tables t) st.env row items row) checks (rows_at st.tables t)) _ st rs (λ rows h. h))
-prints_own tables (Delete t conds) st rs = then_prints (checks_of conds st.env) _ st rs (λ checks h. h)
+    then_prints (tests_of (key_columns tables t) conds st.env) _ st rs (λ tests.
+    then_prints (updated (λ row. set_row (columns_at tables t) (key_columns tables t) st.env row items row) tests (rows_at st.tables t)) _ st rs (λ rows h. h))
+prints_own tables (Delete t conds) st rs = then_prints (tests_of (key_columns tables t) conds st.env) _ st rs (λ tests h. h)
 prints_own tables (Print es) st rs = then_prints (values_of es st.env) _ st rs (λ vs h. All-push IsPrinted st.lines (line_of vs) h (vs, refl))
 prints_own tables (Rollback reason) st rs = tt
 

@@ -4,26 +4,25 @@ use Rattle.mv_values.specs.declared.rows.Keyed.{Keyed}
 use Rattle.mv_values.specs.Columns.{column_of}
 use Rattle.mv_values.specs.Tables.{key_columns, rows_at}
 use Rattle.mv_table.specs.Entries.{seen}
-use Rattle.mv_alone.proofs.Spanning.{admit_lent}
+use Rattle.mv_alone.proofs.Spanning.{placed_admit}
 use Rattle.mv_alone.proofs.FirstRows.{told_is, some_mapped, twice_mapped}
 use Rattle.mv_alone.proofs.extremes.total_of.Goals as goal
 
 pub total_of_all-requires : goal.total_of_all-requires
 total_of_all-requires c =
-    admit_lent (key_columns c.args.infos.now c.args.table) c.as_slice-tests.result.now c.in_ok-list.list c.args.checks.now (rows_at c.args.tables.now c.args.table) c.as_slice-tests.ensures (c.requires c.args.table) (rw c.key_in-keys.ensures at c.in_ok-list.ensures)
+    placed_admit (key_columns c.args.infos.now c.args.table) c.args.tests.now (rows_at c.args.tables.now c.args.table) c.requires.places (c.requires.keys c.args.table)
 
 pub foremost_in-requires : goal.foremost_in-requires
 foremost_in-requires c =
-    admit_lent (key_columns c.args.infos.now c.args.table) c.as_slice-tests.result.now c.in_ok-list.list c.args.checks.now (rows_at c.args.tables.now c.args.table) c.as_slice-tests.ensures (c.requires c.args.table) (rw c.key_in-keys.ensures at c.in_ok-list.ensures)
+    placed_admit (key_columns c.args.infos.now c.args.table) c.args.tests.now (rows_at c.args.tables.now c.args.table) c.requires.places (c.requires.keys c.args.table)
 
 pub returns : goal.returns
 returns c =
     let keys = key_columns c.args.infos.now c.args.table in
-    let checks = c.args.checks.now in
     let rows = rows_at c.args.tables.now c.args.table in
     let tells = rw c.key_in-keys.ensures at c.in-Some.ensures.tells in
-    told_is c.args.agg keys c.as_slice-tests.result.now checks rows c.in-Some.column c.in-Some.direction (option_map seen c.in_ok-row.row) c.in_ok-value.value c.is_some.result c.in_ok-row.ensures.rising (c.requires c.args.table)
-    (admit_lent (key_columns c.args.infos.now c.args.table) c.as_slice-tests.result.now c.in_ok-list.list c.args.checks.now (rows_at c.args.tables.now c.args.table) c.as_slice-tests.ensures (c.requires c.args.table) (rw c.key_in-keys.ensures at c.in_ok-list.ensures)) tells c.in_ok-row.ensures.row
+    told_is c.args.agg keys c.args.tests.now rows c.in-Some.column c.in-Some.direction (option_map seen c.in_ok-row.row) c.in_ok-value.value c.is_some.result c.in_ok-row.ensures.rising (c.requires.keys c.args.table)
+    (placed_admit (key_columns c.args.infos.now c.args.table) c.args.tests.now (rows_at c.args.tables.now c.args.table) c.requires.places (c.requires.keys c.args.table)) tells c.in_ok-row.ensures.row
     (c.in_ok-value.ensures
     ∙ (ap (option_map (λ i. column_of (seen i).row c.in-Some.column)) c.as_ref.ensures.value ∙ twice_mapped seen (λ (item : Keyed). column_of item.row c.in-Some.column) c.in_ok-row.row))
     (c.is_some.ensures ∙ sym (some_mapped seen c.in_ok-row.row))

@@ -11,14 +11,14 @@ use Rattle.mv_alone.proofs.find.matches_of.Goals as goal
 
 pub returns-clause-rows : goal.returns-clause-rows
 returns-clause-rows c =
-    let checks = c.args.checks.now in
+    let tests = c.args.tests.now in
     let found = c.in_ok-found.found.items in
-    let kept : c.retain.new.self.items ≡ filter (λ e. meets checks (seen e).row) found = filter_same _ (λ e. meets checks (seen e).row) _ (λ x b f r. search rules) _ _ c.retain.ensures.filtered in
+    let kept : c.retain.new.self.items ≡ filter (λ e. meets tests (seen e).row) found = filter_same _ (λ e. meets tests (seen e).row) _ (λ x b f r. search rules) _ _ c.retain.ensures.filtered in
     ap (λ es. map seen es) kept
-    ∙ (filter_seen seen (λ item. meets checks item.row) found
-    ∙ (ap (matching checks) c.in_ok-found.ensures.rows ∙ covered c.args.tests.now c.in_ok-span.span c.args.table.now c.in_ok-span.ensures.covers (λ item. meets checks item.row) c.requires))
+    ∙ (filter_seen seen (λ item. meets tests item.row) found
+    ∙ (ap (matching tests) c.in_ok-found.ensures.rows ∙ covered c.args.tests.now c.in_ok-span.span c.args.table.now c.in_ok-span.ensures.covers (λ item. meets tests item.row) c.requires))
 
 pub returns-clause-rising : goal.returns-clause-rising
 returns-clause-rising c =
-    let checks = c.args.checks.now in
-    subst IsRising (sym (returns-clause-rows c)) (AllPairs-filter (λ a b. IsBelow b.key a) (λ item. meets checks item.row) c.args.table.now c.in_ok-found.ensures.rising)
+    let tests = c.args.tests.now in
+    subst IsRising (sym (returns-clause-rows c)) (AllPairs-filter (λ a b. IsBelow b.key a) (λ item. meets tests item.row) c.args.table.now c.in_ok-found.ensures.rising)

@@ -5,10 +5,10 @@ use Rattle.mv_alone.proofs.foremost.foremost_match.Goals as goal
 
 pub returns-then-is_match : goal.returns-then-is_match
 returns-then-is_match c =
-    stored_met c.args.checks.now c.args.direction c.in-Some.key.now c.in-Some.row.now c.loop-key.left c.take_next.new.range _ c.in-Some.ensures
-    (ap (meets c.args.checks.now) (sym c.as_slice.ensures) ∙ (sym c.is_match.ensures ∙ c.if-is_match.true)) c.loop-key.invariant
+    stored_met c.args.tests.now c.args.direction c.in-Some.key.now c.in-Some.row.now c.loop-key.left c.take_next.new.range _ c.in-Some.ensures
+    (ap (meets c.args.tests.now) (sym c.as_slice.ensures) ∙ (sym c.is_match.ensures ∙ c.if-is_match.true)) c.loop-key.invariant
 
 pub loop-key-preserved : goal.loop-key-preserved
 loop-key-preserved c =
-    stored_passed c.args.checks.now c.args.direction c.in-Some.key.now c.in-Some.row.now c.loop-key.left c.take_next.new.range _ c.in-Some.ensures
-    (ap (meets c.args.checks.now) (sym c.as_slice.ensures) ∙ (sym c.is_match.ensures ∙ c.if-is_match.false)) c.loop-key.invariant
+    stored_passed c.args.tests.now c.args.direction c.in-Some.key.now c.in-Some.row.now c.loop-key.left c.take_next.new.range _ c.in-Some.ensures
+    (ap (meets c.args.tests.now) (sym c.as_slice.ensures) ∙ (sym c.is_match.ensures ∙ c.if-is_match.false)) c.loop-key.invariant

@@ -5,7 +5,7 @@ use Rattle.mv_alone.specs.Rows.{matching}
 use Rattle.mv_alone.proofs.foremost.foremost_match.Given as goal
 
 abbrev pub invariant-loop-key : goal.invariant-loop-key
-invariant-loop-key l = foremost l.direction (matching l.checks (stored l.left)) ≡ foremost l.direction (matching l.checks (stored l.fn.rows))
+invariant-loop-key l = foremost l.direction (matching l.tests (stored l.left)) ≡ foremost l.direction (matching l.tests (stored l.fn.rows))
 
 abbrev pub decreases-loop-key : goal.decreases-loop-key
 decreases-loop-key l = length l.left

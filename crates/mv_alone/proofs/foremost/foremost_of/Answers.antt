@@ -8,4 +8,4 @@ pub returns-clause-row : goal.returns-clause-row
 returns-clause-row c =
     c.foremost_match.ensures
     ∙ ap (foremost c.args.direction)
-    (ap (matching c.args.checks.now) c.range.ensures.rows ∙ covered c.args.tests.now c.in_ok-span.span c.args.table.now c.in_ok-span.ensures.covers (λ item. meets c.args.checks.now item.row) c.requires)
+    (ap (matching c.args.tests.now) c.range.ensures.rows ∙ covered c.args.tests.now c.in_ok-span.span c.args.table.now c.in_ok-span.ensures.covers (λ item. meets c.args.tests.now item.row) c.requires)

@@ -19,7 +19,7 @@ returns-clause-effect g c = λ lines.
     let ws = earlier c.args.context.now.number c.args.context.now.undo.now in
     let before = (g.V.View.sight c.args.view.now).database in
     let made = ap (λ cs. new_row cs c.args.exprs.now env) (sym c.columns_in.ensures) ∙ c.in-Ok.ensures in
-    let is = c.in_ok-pred.ensures.asks ∙ ap (λ r. pred_of tables c.args.table (same_key (key_columns tables c.args.table) r) []) c.as_slice.ensures in
+    let is = c.in_ok-pred.ensures.asks ∙ ap (λ r. pred_of c.args.table (same_key (key_columns tables c.args.table) r) []) c.as_slice.ensures in
     c.in_ok-insert_effect.ensures
     ∙ (ap (λ b. inserting tables c.args.table c.in-Ok.row c.in_ok-pred.pred b env) c.is_any.ensures
     ∙ insert_done tables c.args.table c.args.exprs.now env (applied ws before) c.in-Ok.row c.in_ok-pred.pred c.in_ok-rows.rows c.requires.stands.behind (rising_applied ws before c.requires.stands.database.rising c.args.table)

@@ -1,9 +1,9 @@
-use Rattle.std.proofs.Common.{◌≤◌, ◌<◌, length, Ok, ap, sym, subst, ◌∙◌, arith}
+use Rattle.std.proofs.Common.{◌≤◌, ◌<◌, length, ap, sym, subst, ◌∙◌, arith}
 use Rattle.std.specs.List.{All}
 use Rattle.mv_values.specs.Tables.{key_columns}
-use Rattle.mv_recorded.specs.Asking.{same_key}
-use Rattle.mv_effect.proofs.Few.{key_few}
-use Rattle.mv_recorded.proofs.Matching.{Placed, places_of}
+use Rattle.mv_alone.specs.Rows.{IsPlaced}
+use Rattle.mv_alone.proofs.Few.{key_few}
+use Rattle.mv_recorded.proofs.Matching.{key_placed}
 use Rattle.mv_effect.proofs.predicates.key_pred.Goals as goal
 
 pub key_tests-requires : goal.key_tests-requires
@@ -16,5 +16,7 @@ returns-clause-knows c =
     let same = c.key_in.ensures ∙ ap (key_columns c.args.tables.now) (sym c.narrow.ensures) in
     record {
       table = subst (λ t. t < length c.args.tables.now) (sym c.narrow.ensures) c.requires.table;
-      places = subst (λ ks. All (Placed ks) c.in_ok-tests.tests) same (places_of c.key_in.result.now (Ok (same_key c.key_in.result.now c.args.row.now)) c.in_ok-tests.tests (ap (λ l. Ok l) (sym c.in_ok-tests.ensures)));
+      places =
+          subst (λ ks. All (IsPlaced ks) c.in_ok-tests.tests) same
+          (subst (All (IsPlaced c.key_in.result.now)) (sym c.in_ok-tests.ensures) (key_placed c.key_in.result.now c.args.row.now));
     }

@@ -33,3 +33,6 @@ returns-clause-others c =
 
 pub returns-clause-stopped : goal.returns-clause-stopped
 returns-clause-stopped c = stopped_unchanged c.args.program.now c.args.order.now c.loop-i.replies (returns-clause-replies c)
+
+pub run_call-requires-clause-each : goal.run_call-requires-clause-each
+run_call-requires-clause-each c = c.requires.whole.text.tables

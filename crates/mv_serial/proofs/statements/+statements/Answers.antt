@@ -2,13 +2,13 @@ use Rattle.std.proofs.Common.{◌∙◌, ap, subst}
 use Rattle.mv_serial.proofs.Turning.{next_statement, next_turn, fixed_first, fixed_fails}
 use Rattle.mv_alone.specs.Outcome.{Leaves}
 use Rattle.mv_alone.specs.Alone.{alone, fixed, loop_over}
-use Rattle.mv_alone.specs.Rows.{checks_of, matching}
-use Rattle.mv_values.specs.Tables.{rows_at}
+use Rattle.mv_alone.specs.Rows.{tests_of, matching}
+use Rattle.mv_values.specs.Tables.{key_columns, rows_at}
 use Rattle.mv_serial.proofs.statements.+statements.Goals as goal
 
 pub run_turns-returns-clause-does : goal.run_turns-returns-clause-does
 run_turns-returns-clause-does t c =
-    rw (fixed_first (checks_of c.args.query.now.conds.now c.args.state.now.env) (λ checks. fixed c.args.once c.args.query.now.columns.now c.args.query.now.sorts.now (matching checks (rows_at c.args.state.now.tables c.args.query.now.table)))
+    rw (fixed_first (tests_of (key_columns c.args.tables.now c.args.query.now.table) c.args.query.now.conds.now c.args.state.now.env) (λ tests. fixed c.args.once c.args.query.now.columns.now c.args.query.now.sorts.now (matching tests (rows_at c.args.state.now.tables c.args.query.now.table)))
     (λ rows. loop_over c.args.row (alone c.args.tables.now c.args.body.now) rows c.args.state.now) c.in_ok-rows.rows c.in_ok-rows.ensures)
     (rw c.as_slice.ensures at c.run_loop.ensures.does)
 

@@ -1,6 +1,9 @@
+use Rattle.std.proofs.Common.{sym, subst}
 use Rattle.std.proofs.lemmas.Result.{err_from_is_err_and}
 use Rattle.mv_values.specs.Tables.{key_columns, columns_at, rows_at}
 use Rattle.mv_alone.specs.Rows.{matching}
+use Rattle.mv_alone.specs.FirstRows.{AdmitMatches}
+use Rattle.mv_alone.proofs.Spanning.{placed_admit}
 use Rattle.mv_alone.specs.Changes.{set_row}
 use Rattle.mv_alone.proofs.Standing.{New}
 use Rattle.mv_serial.proofs.Lawful.{others_stay}
@@ -15,10 +18,10 @@ returns-clause-does c =
     let st = c.args.state.now in
     let new : New = λ row. set_row (columns_at c.args.tables.now t) (key_columns c.args.tables.now t) st.env row c.args.update.now.items.now row in
     let is = rw c.as_slice.ensures at c.in_ok-changes.ensures.changes in
-    let made = renewals_make t new c.in_ok-checks.checks st.tables c.make_all.new.tables c.in_ok-changes.changes c.in_ok-changes.ensures.rising is c.in_ok-make_all.ensures.tables in
-    let some = some_renewed t new (matching c.in_ok-checks.checks (rows_at st.tables t)) c.in_ok-changes.changes is in
+    let made = renewals_make t new c.in_ok-tests.tests st.tables c.make_all.new.tables c.in_ok-changes.changes c.in_ok-changes.ensures.rising is c.in_ok-make_all.ensures.tables in
+    let some = some_renewed t new (matching c.in_ok-tests.tests (rows_at st.tables t)) c.in_ok-changes.changes is in
     rw (c.in_ok-set_found.ensures.ok, c.len-found.ensures, some)
-    (update_ok c.args.tables.now t c.args.update.now.items.now c.args.update.now.conds.now st c.in_ok-checks.checks c.make_all.new.tables c.in_ok-checks.ensures made)
+    (update_ok c.args.tables.now t c.args.update.now.items.now c.args.update.now.conds.now st c.in_ok-tests.tests c.make_all.new.tables c.in_ok-tests.ensures.tests made)
 
 pub returns-in_err-changes-clause-does : goal.returns-in_err-changes-clause-does
 returns-in_err-changes-clause-does c =
@@ -28,8 +31,8 @@ returns-in_err-changes-clause-does c =
     let failed = rw c.as_slice.ensures at c.in_err-changes.ensures.changes in
     let p = err_from_is_err_and c.from_residual-in_err-changes.result c.from_residual-in_err-changes.ensures.1 in
     rw (p.1, p.2)
-    (update_fails c.args.tables.now t c.args.update.now.items.now c.args.update.now.conds.now st c.in_ok-checks.checks c.in_err-changes.field-0.0 c.in_ok-checks.ensures
-    (renewals_fail t new c.in_ok-checks.checks st.tables c.in_err-changes.field-0.0 failed))
+    (update_fails c.args.tables.now t c.args.update.now.items.now c.args.update.now.conds.now st c.in_ok-tests.tests c.in_err-changes.field-0.0 c.in_ok-tests.ensures.tests
+    (renewals_fail t new c.in_ok-tests.tests st.tables c.in_err-changes.field-0.0 failed))
 
 pub returns-clause-keys : goal.returns-clause-keys
 returns-clause-keys c =
@@ -37,8 +40,8 @@ returns-clause-keys c =
     let st = c.args.state.now in
     let new : New = λ row. set_row (columns_at c.args.tables.now t) (key_columns c.args.tables.now t) st.env row c.args.update.now.items.now row in
     let is = rw c.as_slice.ensures at c.in_ok-changes.ensures.changes in
-    let made = renewals_make t new c.in_ok-checks.checks st.tables c.make_all.new.tables c.in_ok-changes.changes c.in_ok-changes.ensures.rising is c.in_ok-make_all.ensures.tables in
-    update_stands c.args.tables.now t c.args.update.now.items.now c.in_ok-checks.checks st c.make_all.new.tables c.requires made
+    let made = renewals_make t new c.in_ok-tests.tests st.tables c.make_all.new.tables c.in_ok-changes.changes c.in_ok-changes.ensures.rising is c.in_ok-make_all.ensures.tables in
+    update_stands c.args.tables.now t c.args.update.now.items.now c.in_ok-tests.tests st c.make_all.new.tables c.requires.keys made
 
 pub returns-clause-others : goal.returns-clause-others
 returns-clause-others c =
@@ -46,5 +49,11 @@ returns-clause-others c =
     let st = c.args.state.now in
     let new : New = λ row. set_row (columns_at c.args.tables.now t) (key_columns c.args.tables.now t) st.env row c.args.update.now.items.now row in
     let is = rw c.as_slice.ensures at c.in_ok-changes.ensures.changes in
-    let made = renewals_make t new c.in_ok-checks.checks st.tables c.make_all.new.tables c.in_ok-changes.changes c.in_ok-changes.ensures.rising is c.in_ok-make_all.ensures.tables in
-    others_stay st.tables c.make_all.new.tables t (updated_at c.args.tables.now t c.args.update.now.items.now c.in_ok-checks.checks st) made
+    let made = renewals_make t new c.in_ok-tests.tests st.tables c.make_all.new.tables c.in_ok-changes.changes c.in_ok-changes.ensures.rising is c.in_ok-make_all.ensures.tables in
+    others_stay st.tables c.make_all.new.tables t (updated_at c.args.tables.now t c.args.update.now.items.now c.in_ok-tests.tests st) made
+
+pub renewals_in-requires : goal.renewals_in-requires
+renewals_in-requires c =
+    let rows = rows_at c.args.state.now.tables c.args.update.now.table in
+    subst (λ tests. AdmitMatches tests rows) (sym c.as_slice.ensures)
+    (placed_admit (key_columns c.args.tables.now c.args.update.now.table) c.in_ok-tests.tests rows c.in_ok-tests.ensures.places (c.requires.keys c.args.update.now.table))
