@@ -11,6 +11,7 @@ use Rattle.std.proofs.lemmas.Bool.Decides.{eqb_tells}
 use Rattle.std.proofs.lemmas.List.{length-map}
 use Rattle.std.proofs.lemmas.List.Elements.{All-nil, All-cons, All-head, All-tail, All-filter}
 use Rattle.std.proofs.lemmas.List.Kept.{AllPairs-filter}
+use Rattle.mv_values.specs.Preds.{meets}
 use Rattle.mv_values.specs.declared.value.Value.{Value}
 use Rattle.mv_values.specs.declared.pred.Test.{Test}
 use Rattle.mv_values.specs.declared.rows.Keyed.{Keyed}
@@ -29,7 +30,7 @@ use Rattle.mv_catalog.specs.declared.resolved.RAgg.TheVariants.{Min, Max}
 use Rattle.mv_catalog.specs.declared.resolved.RSort.{RSort}
 use Rattle.mv_alone.specs.FirstRows.{AreAdmitted, NeverFalls, Rises, Tells, Leads, AdmitMatches, total_found, is_next_fixed, is_last_of, does_rank}
 use Rattle.mv_alone.specs.Own.{StandUnder}
-use Rattle.mv_alone.specs.Rows.{meets, matching, column, lesser, greater, least, greatest, aggregate, is_some_row, item_at, ordered, sorted, put_in, sort_order, then_by}
+use Rattle.mv_alone.specs.Rows.{matching, column, lesser, greater, least, greatest, aggregate, is_some_row, item_at, ordered, sorted, put_in, sort_order, then_by}
 use Rattle.mv_alone.proofs.Sorting.{sorted_rising}
 use Rattle.mv_alone.proofs.Spanning.{key_column}
 

@@ -10,7 +10,7 @@ use Rattle.mv_values.specs.declared.pred.Test.{Test}
 use Rattle.mv_values.specs.declared.rows.Keyed.{Keyed}
 use Rattle.mv_values.specs.declared.calls.End.{End}
 use Rattle.mv_values.specs.Columns.{column_of, columns_of}
-use Rattle.mv_values.specs.Preds.{allows, passes, holds_at, agrees}
+use Rattle.mv_values.specs.Preds.{allows, passes, holds_at, agrees, meets}
 use Rattle.mv_table.specs.Spans.{Admits}
 use Rattle.mv_catalog.specs.declared.resolved.RCond.{RCond}
 use Rattle.mv_alone.specs.declared.state.Env.{Env}
@@ -18,7 +18,7 @@ use Rattle.mv_alone.specs.declared.state.Stop.{Stop}
 use Rattle.mv_alone.specs.FirstRows.{AdmitMatches}
 use Rattle.mv_alone.specs.Outcome.{Gives, then_do}
 use Rattle.mv_alone.specs.Own.{StandUnder}
-use Rattle.mv_alone.specs.Rows.{test_on, tests_of, IsPlaced, meets}
+use Rattle.mv_alone.specs.Rows.{test_on, tests_of, IsPlaced}
 use Rattle.mv_alone.specs.Value.{value_of}
 
 -- a key column is at its place

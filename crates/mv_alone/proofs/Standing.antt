@@ -7,6 +7,7 @@ use Rattle.std.specs.List.{list_any}
 use Rattle.std.specs.declared.cmp.Ordering.{Ordering}
 use Rattle.std.specs.declared.cmp.Ordering.TheVariants.{Less, Equal, Greater}
 use Rattle.std.proofs.lemmas.Bool.{or_parts, eqb-false}
+use Rattle.mv_values.specs.Preds.{meets}
 use Rattle.mv_values.specs.declared.value.Value.{Value}
 use Rattle.mv_values.specs.declared.value.Value.TheVariants.{Int}
 use Rattle.mv_values.specs.declared.pred.Test.{Test}
@@ -24,7 +25,7 @@ use Rattle.mv_alone.specs.declared.state.Env.{Env}
 use Rattle.mv_alone.specs.declared.state.State.{State}
 use Rattle.mv_alone.specs.Outcome.{then_do}
 use Rattle.mv_alone.specs.Value.{value_of}
-use Rattle.mv_alone.specs.Rows.{meets, fit, tests_of, is_some_row}
+use Rattle.mv_alone.specs.Rows.{fit, tests_of, is_some_row}
 use Rattle.mv_alone.specs.Changes.{with_column, set_row, updated, without, put_row_by, put_row, new_row, keyed}
 use Rattle.mv_alone.specs.Alone.{matching_in, with_rows, insert, update, delete}
 use Rattle.mv_alone.specs.Own.{StandUnder}

@@ -3,6 +3,7 @@ use Rattle.std.specs.Prelude.{◌≡◌, ℕ, not, List, [], ◌∷◌, Result, 
 use Rattle.std.specs.List.{filter, list_any}
 use Rattle.std.specs.declared.cmp.Ordering.{Ordering}
 use Rattle.std.specs.declared.cmp.Ordering.TheVariants.{Less, Equal, Greater}
+use Rattle.mv_values.specs.Preds.{meets}
 use Rattle.mv_values.specs.declared.value.Value.{Value}
 use Rattle.mv_values.specs.declared.pred.Test.{Test}
 use Rattle.mv_values.specs.declared.rows.Keyed.{Keyed}
@@ -17,7 +18,7 @@ use Rattle.mv_catalog.specs.declared.resolved.RSetItem.{RSetItem}
 use Rattle.mv_alone.specs.declared.state.Env.{Env}
 use Rattle.mv_alone.specs.Outcome.{then_do}
 use Rattle.mv_alone.specs.Value.{value_of}
-use Rattle.mv_alone.specs.Rows.{meets, fit, fit_kind}
+use Rattle.mv_alone.specs.Rows.{fit, fit_kind}
 
 -- sets a column, but never a key column
 abbrev pub with_column : List ℕ → ℕ → Value → List Value → List Value

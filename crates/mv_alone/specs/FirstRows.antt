@@ -5,6 +5,7 @@ use Rattle.std.specs.List.{position}
 use Rattle.std.specs.Option.{option_map}
 use Rattle.std.specs.Ordering.{is_le}
 use Rattle.std.specs.declared.cmp.Ordering.TheVariants.{Less}
+use Rattle.mv_values.specs.Preds.{meets}
 use Rattle.mv_values.specs.declared.value.Value.{Value}
 use Rattle.mv_values.specs.declared.pred.Test.{Test}
 use Rattle.mv_values.specs.declared.rows.Keyed.{Keyed}
@@ -21,7 +22,7 @@ use Rattle.mv_catalog.specs.declared.resolved.RAgg.TheVariants.{Min, Max}
 use Rattle.mv_catalog.specs.declared.resolved.RSort.{RSort}
 use Rattle.mv_alone.specs.Outcome.{then_do}
 use Rattle.mv_alone.specs.Own.{StandUnder}
-use Rattle.mv_alone.specs.Rows.{meets, aggregate, is_some_row, item_at, ordered}
+use Rattle.mv_alone.specs.Rows.{aggregate, is_some_row, item_at, ordered}
 
 -- the value of an aggregate over rows, and whether there are any
 abbrev pub total_found : RAgg → List Keyed → Result (Option Value × Bool) End

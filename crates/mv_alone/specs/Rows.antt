@@ -1,6 +1,6 @@
 -- The rows of a table: which ones match, their order, and their aggregates. This project's own.
 use Rattle.std.specs.Prelude.{◌≡◌, ◌==◌, ℕ, ℤ, pos, negsuc, ◌+ℤ◌, Bool, true, false, List, [], ◌∷◌, Option, Some, None, Result, Ok, Err, map, length, slice_get, if◌then◌else◌, nat_le}
-use Rattle.std.specs.List.{filter, list_all, position}
+use Rattle.std.specs.List.{filter, position}
 use Rattle.std.specs.Ordering.{is_gt, is_le, ordering_reverse}
 use Rattle.std.specs.declared.cmp.Ordering.{Ordering}
 use Rattle.std.specs.declared.cmp.Ordering.TheVariants.{Less, Equal, Greater}
@@ -14,7 +14,7 @@ use Rattle.mv_values.specs.declared.schema.ColType.TheVariants as kind
 use Rattle.mv_values.specs.declared.schema.Column.{Column}
 use Rattle.mv_values.specs.declared.calls.End.{End}
 use Rattle.mv_values.specs.declared.calls.End.TheVariants.{TooLong}
-use Rattle.mv_values.specs.Preds.{passes}
+use Rattle.mv_values.specs.Preds.{meets}
 use Rattle.mv_values.specs.Order.{value_order, key_order}
 use Rattle.mv_values.specs.Columns.{column_of, columns_of, number}
 use Rattle.mv_catalog.specs.declared.resolved.RCond.{RCond}
@@ -38,10 +38,6 @@ tests_of keys (c ∷ cs) env = then_do (value_of c.right env []) (λ v. then_do 
 -- the test has the place of its column in the key
 abbrev pub IsPlaced : List ℕ → Test → Type 0
 IsPlaced keys test = test.key_place ≡ position (λ k. k == test.column) keys
-
--- the row passes every test
-abbrev pub meets : List Test → List Value → Bool
-meets tests row = list_all (passes row) tests
 
 -- the rows that match, in key order
 abbrev pub matching : List Test → List Keyed → List Keyed

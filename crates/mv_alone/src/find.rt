@@ -2,6 +2,7 @@
 
 ghost use Rattle.std.specs.Prelude.{◌≡◌, ◌<◌, ◌≤◌, ◌==◌, List, All, map, length, IfOk, IfSome};
 ghost use Rattle.std.specs.List.{position};
+ghost use Rattle.mv_values.specs.Preds.{meets};
 ghost use Rattle.mv_values.specs.Order.{value_order};
 ghost use Rattle.mv_values.specs.Columns.{column_of};
 ghost use Rattle.mv_values.specs.Keys.{IsRising};
@@ -9,7 +10,7 @@ ghost use Rattle.mv_values.specs.Tables.{rows_at, columns_at, key_columns};
 ghost use Rattle.mv_table.specs.Entries.{seen};
 ghost use Rattle.mv_catalog.specs.Text.{IsTable};
 ghost use Rattle.mv_alone.specs.Outcome.{Gives};
-ghost use Rattle.mv_alone.specs.Rows.{test_on, tests_of, IsPlaced, meets, matching};
+ghost use Rattle.mv_alone.specs.Rows.{test_on, tests_of, IsPlaced, matching};
 ghost use Rattle.mv_alone.specs.FirstRows.{AdmitMatches};
 
 use crate::expr::value;
@@ -20,7 +21,7 @@ use mv_table::table::{Entry, Table, Tables};
 use mv_values::list::List;
 use mv_values::memory::NoMemory;
 use mv_values::op::Op;
-use mv_values::pred::Test;
+use mv_values::pred::{Test, meets};
 use mv_values::schema::{Column, TableInfo};
 use mv_values::value::Value;
 use std::alloc::Global;
@@ -54,21 +55,6 @@ pub(crate) fn order_of(row: &[Value], c: u16, other: &Value) -> Ordering
         Some(v) => v.order(other),
         None => Value::Int(0).order(other),
     }
-}
-
-/// Whether the row passes every test.
-pub(crate) fn is_match(tests: &[Test], row: &[Value]) -> bool
-    ensures { result ≡ meets tests.now row.now }
-{
-    for test in tests {
-        if !test
-            .op
-            .allows(order_of(row, test.column as u16, &test.value))
-        {
-            return false;
-        }
-    }
-    true
 }
 
 /// Returns the place of a column in the key, if it is a key column.
@@ -148,7 +134,7 @@ fn matches_of<'a>(
     found.retain(
         |entry: &Entry<'_>| -> bool
             ensures { result ≡ meets tests.entry.now (seen entry.now).row }
-        { is_match(tests, entry.row.as_slice()) },
+        { meets(tests, entry.row.as_slice()) },
     );
     Ok(found)
 }

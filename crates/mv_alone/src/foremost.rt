@@ -9,12 +9,12 @@ ghost use Rattle.mv_table.specs.Scans.{foremost};
 ghost use Rattle.mv_alone.specs.Rows.{matching};
 ghost use Rattle.mv_alone.specs.FirstRows.{NeverFalls, Rises, AdmitMatches, does_order, does_rank};
 
-use crate::find::{is_match, place_in_key};
+use crate::find::place_in_key;
 use mv_table::scan::Direction;
 use mv_table::span::{Span, is_fixed_before};
 use mv_table::table::{Entry, Table, Tables};
 use mv_values::memory::NoMemory;
-use mv_values::pred::Test;
+use mv_values::pred::{Test, meets};
 use mv_values::value::{Key, Row};
 use std::alloc::Global;
 use std::collections::btree_map::Range;
@@ -53,7 +53,7 @@ fn foremost_match<'a>(
 {
     let mut left = rows;
     while let Some((key, row)) = direction.take_next(&mut left) {
-        if is_match(tests, row.as_slice()) {
+        if meets(tests, row.as_slice()) {
             return Some(Entry { key, row });
         }
     }

@@ -6,6 +6,7 @@ use Rattle.std.specs.Ordering.{is_eq, ordering_then}
 use Rattle.std.specs.declared.cmp.Ordering.{Ordering}
 use Rattle.std.specs.declared.cmp.Ordering.TheVariants.{Less, Equal, Greater}
 use Rattle.mv_alone.proofs.Standing.{New, goes_to}
+use Rattle.mv_values.specs.Preds.{meets}
 use Rattle.mv_values.specs.declared.op.Op.TheVariants.{Eq}
 use Rattle.mv_values.specs.declared.pred.Test.{Test}
 use Rattle.mv_values.specs.declared.value.Value.{Value}
@@ -29,7 +30,7 @@ use Rattle.mv_catalog.specs.declared.resolved.RStmt.TheOpen.{Insert, Update, Del
 use Rattle.mv_alone.specs.declared.state.Env.{Env}
 use Rattle.mv_alone.specs.Outcome.{then_do}
 use Rattle.mv_alone.specs.Env.{with_found}
-use Rattle.mv_alone.specs.Rows.{meets, matching, is_some_row, test_on}
+use Rattle.mv_alone.specs.Rows.{matching, is_some_row, test_on}
 use Rattle.mv_alone.specs.Changes.{new_row, updated, put_row, put_row_by, keyed}
 use Rattle.mv_record.specs.declared.record.Slot.{Slot}
 use Rattle.mv_record.proofs.Rising.{Above, Rises, rises_from, lower}

@@ -5,6 +5,7 @@ use Rattle.std.specs.Ordering.{is_eq, ordering_reverse}
 use Rattle.std.specs.declared.cmp.Ordering.{Ordering}
 use Rattle.std.specs.declared.cmp.Ordering.TheVariants.{Less, Equal, Greater}
 use Rattle.mv_record.proofs.Rising.{lower, Above, Rises}
+use Rattle.mv_values.specs.Preds.{meets}
 use Rattle.mv_values.specs.declared.pred.Test.{Test}
 use Rattle.mv_values.specs.declared.value.Value.{Value}
 use Rattle.mv_values.specs.declared.rows.Keyed.{Keyed}
@@ -16,7 +17,7 @@ use Rattle.mv_values.specs.Order.{key_order}
 use Rattle.mv_values.specs.Patching.{row_of, patched, standing, placed, placed_by, patched_rows, applied}
 use Rattle.mv_values.specs.Tables.{rows_at, Tables}
 use Rattle.mv_values.proofs.KeyOrder.{key_order_total}
-use Rattle.mv_alone.specs.Rows.{meets, matching}
+use Rattle.mv_alone.specs.Rows.{matching}
 use Rattle.mv_alone.specs.Changes.{without, put_row, put_row_by}
 use Rattle.mv_recorded.specs.Doing.{write}
 

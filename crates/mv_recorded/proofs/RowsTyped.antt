@@ -8,6 +8,7 @@ use Rattle.std.specs.List.{AllZip, list_any}
 use Rattle.std.specs.Ordering.{is_le}
 use Rattle.std.specs.declared.cmp.Ordering.{Ordering}
 use Rattle.std.specs.declared.cmp.Ordering.TheVariants.{Less, Equal, Greater}
+use Rattle.mv_values.specs.Preds.{meets}
 use Rattle.mv_values.specs.declared.pred.Test.{Test}
 use Rattle.mv_values.specs.declared.value.Value.{Value}
 use Rattle.mv_values.specs.declared.value.Value.TheVariants.{Int, Text}
@@ -34,7 +35,7 @@ use Rattle.mv_alone.specs.declared.state.Env.{Env}
 use Rattle.mv_alone.specs.Outcome.{then_do}
 use Rattle.mv_alone.specs.Env.{with_value, with_values}
 use Rattle.mv_alone.specs.Value.{value_of, fitted}
-use Rattle.mv_alone.specs.Rows.{meets, sorted, ordered, sort_order, item_at, put_by, put_once, distinct, projected, column, lesser, least, greater, greatest, total, sum_of, aggregate, fit_kind, fit}
+use Rattle.mv_alone.specs.Rows.{sorted, ordered, sort_order, item_at, put_by, put_once, distinct, projected, column, lesser, least, greater, greatest, total, sum_of, aggregate, fit_kind, fit}
 use Rattle.mv_alone.specs.Changes.{with_column, set_row, updated, new_row, put_row, put_row_by}
 use Rattle.mv_alone.specs.Alone.{fixed, with_selected}
 use Rattle.mv_record.specs.Databases.{AreTyped, HasRow}

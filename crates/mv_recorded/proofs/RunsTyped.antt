@@ -3,6 +3,7 @@ use Rattle.std.proofs.Common.{◌≡◌, ℕ, Bool, true, false, List, [], ◌�
 use Rattle.std.proofs.lemmas.List.Elements.{All-head, All-tail, All-filter}
 use Rattle.std.specs.Prelude.{not, ◌++◌}
 use Rattle.mv_alone.proofs.Standing.{goes_to}
+use Rattle.mv_values.specs.Preds.{meets}
 use Rattle.mv_values.specs.declared.pred.Test.{Test}
 use Rattle.mv_values.specs.declared.value.Value.{Value}
 use Rattle.mv_values.specs.declared.rows.Keyed.{Keyed}
@@ -31,7 +32,7 @@ use Rattle.mv_alone.specs.declared.state.Env.{Env}
 use Rattle.mv_alone.specs.Outcome.{then_do}
 use Rattle.mv_alone.specs.Env.{with_held, with_value, with_found, turns_at}
 use Rattle.mv_alone.specs.Value.{value_of, values_of, is_so}
-use Rattle.mv_alone.specs.Rows.{meets, is_some_row, item_at, ordered, aggregate, tests_of}
+use Rattle.mv_alone.specs.Rows.{is_some_row, item_at, ordered, aggregate, tests_of}
 use Rattle.mv_alone.specs.Changes.{set_row, updated, without, new_row, put_row, keyed}
 use Rattle.mv_alone.specs.Line.{line_of}
 use Rattle.mv_alone.specs.Alone.{Does, all_of, each_turn, matching_in, with_rows, offset_of, with_selected, totalled, fixed, is_turn, loop_over, does, alone, stmt_step}

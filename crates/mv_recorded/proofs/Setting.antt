@@ -5,6 +5,7 @@ use Rattle.std.proofs.lemmas.List.{get_or-set_other, length-set, ext_get_or}
 use Rattle.std.specs.List.{flat_map, list_any}
 use Rattle.mv_record.proofs.Rising.{Above, Rises}
 use Rattle.mv_alone.proofs.Standing.{New, goes_to}
+use Rattle.mv_values.specs.Preds.{meets}
 use Rattle.mv_values.specs.declared.pred.Test.{Test}
 use Rattle.mv_values.specs.declared.value.Value.{Value}
 use Rattle.mv_values.specs.declared.value.Value.TheVariants.{Int}
@@ -20,7 +21,7 @@ use Rattle.mv_catalog.specs.declared.resolved.RSetItem.{RSetItem}
 use Rattle.mv_alone.specs.declared.state.Env.{Env}
 use Rattle.mv_alone.specs.Outcome.{then_do}
 use Rattle.mv_alone.specs.Value.{value_of}
-use Rattle.mv_alone.specs.Rows.{meets, matching, fit}
+use Rattle.mv_alone.specs.Rows.{matching, fit}
 use Rattle.mv_alone.specs.Changes.{with_column, set_row, updated}
 use Rattle.mv_recorded.specs.Asking.{on}
 use Rattle.mv_recorded.specs.Doing.{write, set_patch}

@@ -7,6 +7,7 @@ use Rattle.std.proofs.lemmas.List.{set-get_or}
 use Rattle.std.specs.declared.cmp.Ordering.{Ordering}
 use Rattle.std.specs.declared.cmp.Ordering.TheVariants.{Less, Equal, Greater}
 use Rattle.std.proofs.lemmas.Option.{none-some}
+use Rattle.mv_values.specs.Preds.{meets}
 use Rattle.mv_values.specs.declared.value.Value.{Value}
 use Rattle.mv_values.specs.declared.pred.Test.{Test}
 use Rattle.mv_values.specs.declared.rows.Keyed.{Keyed}
@@ -21,7 +22,7 @@ use Rattle.mv_record.proofs.Rising.{Above, Rises, rises_from, filter_above, lowe
 use Rattle.mv_alone.specs.declared.state.Stop.{Stop}
 use Rattle.mv_alone.specs.declared.state.Stop.TheVariants.{Memory, Ended}
 use Rattle.mv_alone.specs.Outcome.{then_do, Fails}
-use Rattle.mv_alone.specs.Rows.{meets, matching, is_some_row}
+use Rattle.mv_alone.specs.Rows.{matching, is_some_row}
 use Rattle.mv_alone.specs.Changes.{updated, without, put_row}
 use Rattle.mv_alone.proofs.Standing.{New}
 use Rattle.mv_serial.specs.declared.change.Change.{Change}

@@ -2,6 +2,7 @@
 use Rattle.std.proofs.Common.{◌≡◌, ℕ, zero, suc, List, [], ◌∷◌, Result, Ok, Err, slice_set, refl, sym, subst}
 use Rattle.std.proofs.lemmas.List.Elements.{All-nil, All-filter}
 use Rattle.std.specs.Prelude.{not}
+use Rattle.mv_values.specs.Preds.{meets}
 use Rattle.mv_values.specs.declared.pred.Test.{Test}
 use Rattle.mv_values.specs.declared.rows.Keyed.{Keyed}
 use Rattle.mv_values.specs.declared.schema.TableInfo.{TableInfo}
@@ -10,7 +11,6 @@ use Rattle.mv_values.specs.Columns.{columns_of}
 use Rattle.mv_values.specs.Tables.{key_columns, columns_at, rows_at, KeysStand, Tables, StandsUnder}
 use Rattle.mv_catalog.specs.declared.resolved.RSetItem.{RSetItem}
 use Rattle.mv_alone.specs.declared.state.State.{State}
-use Rattle.mv_alone.specs.Rows.{meets}
 use Rattle.mv_alone.specs.Changes.{set_row, without, put_row}
 use Rattle.mv_alone.specs.Own.{StandUnder}
 use Rattle.mv_alone.proofs.Standing.{stand_set, set_row_keeps, updated_stand, put_stands}

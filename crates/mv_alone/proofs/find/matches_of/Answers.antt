@@ -2,10 +2,11 @@ use Rattle.std.proofs.Common.{rules, ◌≡◌, map, ap, sym, subst, ◌∙◌}
 use Rattle.std.specs.List.{filter}
 use Rattle.std.proofs.lemmas.Fn.{filter_same}
 use Rattle.std.proofs.lemmas.List.Kept.{AllPairs-filter}
+use Rattle.mv_values.specs.Preds.{meets}
 use Rattle.mv_values.specs.Keys.{IsRising, IsBelow}
 use Rattle.mv_table.specs.Entries.{seen}
 use Rattle.mv_table.proofs.Covering.{covered}
-use Rattle.mv_alone.specs.Rows.{meets, matching}
+use Rattle.mv_alone.specs.Rows.{matching}
 use Rattle.mv_alone.proofs.Spanning.{filter_seen}
 use Rattle.mv_alone.proofs.find.matches_of.Goals as goal
 

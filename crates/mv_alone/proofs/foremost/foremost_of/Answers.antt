@@ -1,7 +1,8 @@
 use Rattle.std.proofs.Common.{ap, ◌∙◌}
+use Rattle.mv_values.specs.Preds.{meets}
 use Rattle.mv_table.specs.Scans.{foremost}
 use Rattle.mv_table.proofs.Covering.{covered}
-use Rattle.mv_alone.specs.Rows.{meets, matching}
+use Rattle.mv_alone.specs.Rows.{matching}
 use Rattle.mv_alone.proofs.foremost.foremost_of.Goals as goal
 
 pub returns-clause-row : goal.returns-clause-row
