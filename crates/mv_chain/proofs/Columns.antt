@@ -1,7 +1,7 @@
 -- Columns that are set and set back.
 use Rattle.std.proofs.Common.{◌≡◌, ◌∷◌, ◌++◌, ◌+◌, ◌<◌, ◌≤◌, ℕ, List, [], length, take, get_or, refl, ap, sym, ◌∙◌, arith, append_assoc, append-nil}
 use Rattle.std.specs.Prelude.{slice_set}
-use Rattle.std.proofs.lemmas.List.{take_more, take_more_set, take_all, take_at, get_or-set_other, length-set, set-get_or}
+use Rattle.std.proofs.lemmas.List.{take_more, take_more_set, take_all, take_at, get_or-set_other, length-set, set-set, set-get_or}
 use Rattle.mv_values.specs.declared.value.Value.{Value}
 use Rattle.mv_values.specs.declared.patch.Assign.{Assign}
 use Rattle.mv_values.specs.Patching.{with_columns}
@@ -47,7 +47,7 @@ one_exchanged items first at now next row after d h within row_is items_are =
           ∙ ap (λ is. set_back is after) (take_more_set now at y there)
           ∙ back_more (take at now) y after
           ∙ ap (λ r. set_back (take at now) (slice_set r a.column (get_or row a.column a.value))) row_is
-          ∙ ap (set_back (take at now)) (set-get_or row a.column a.value)
+          ∙ ap (set_back (take at now)) (set-set row a.column a.value (get_or row a.column a.value) ∙ set-get_or row a.column a.value)
           ∙ h.back;
       rest = λ k e later. ap (λ is. get_or is k e) items_are ∙ get_or-set_other now at k y e (λ e. omega arith) ∙ h.rest k e (omega arith);
       many = ap length items_are ∙ length-set now at y ∙ h.many;

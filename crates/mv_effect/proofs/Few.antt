@@ -18,8 +18,6 @@ use Rattle.mv_catalog.specs.Text.{IsTable}
 use Rattle.mv_alone.proofs.Few.{Each, Pairs, NotBoth, without, pairs_of, each_weaker, pairs_weaker, each_kept, pairs_kept, one_goes}
 use Rattle.mv_record.specs.Writes.{is_on}
 use Rattle.mv_undo.specs.Owning.{touches, is_among, AreSought}
-use Rattle.mv_recorded.specs.Own.{Each}
-use Rattle.mv_recorded.proofs.Inverting.{each_map}
 use Rattle.mv_effect.specs.Looking.{different}
 
 -- Different keys
