@@ -4,7 +4,7 @@ use Rattle.std.specs.Prelude.{IfOk, IfErr, MatchResult}
 use Rattle.mv_accept.specs.declared.refusal.Refusal.{Refusal}
 use Rattle.mv_accept.specs.declared.accept.NotAccepted.{NotAccepted}
 use Rattle.mv_accept.specs.declared.accept.NotAccepted.TheVariants.{Refused, NoMemory}
-use Rattle.mv_accept.specs.Exact.{Exact, HasCause, Tells}
+use Rattle.mv_accept.specs.Exact.{Exact, HasCause, RefusesWith}
 
 module _ {A B : Type 0} (P : A → Type 0) (C : Refusal → Type 0) (Q : A → B → Type 0) (D : A → Refusal → Type 0) where
   -- what there is behind what there is

@@ -15,7 +15,7 @@ use Rattle.mv_accept.specs.declared.refusal.Refusal.{Refusal}
 use Rattle.mv_accept.specs.declared.refusal.Refusal.TheVariants as why
 use Rattle.mv_accept.specs.declared.accept.NotAccepted.{NotAccepted}
 use Rattle.mv_accept.specs.declared.accept.NotAccepted.TheVariants.{Refused, NoMemory}
-use Rattle.mv_accept.specs.Exact.{Exact, HasCause, Tells}
+use Rattle.mv_accept.specs.Exact.{Exact, HasCause, RefusesWith}
 use Rattle.mv_accept.specs.Accepting.{most_bytes, HasTokens, HasNoTokens, too_long, bad_byte, bad_token, IsNoScript, syntax, limit}
 use Rattle.mv_accept.specs.Telling.{of_lexing, of_parsing}
 

@@ -10,9 +10,9 @@ HasCause Causes (Refused refusal) = Causes refusal
 HasCause Causes NoMemory = Unit {0}
 
 -- this refusal is returned, or memory ran out
-abbrev pub Tells : {A : Type 0} → Refusal → Result A NotAccepted → Type 0
-Tells refusal (Ok x) = ⊥
-Tells refusal (Err f) = (f ≡ Refused refusal) ⊎ (f ≡ NoMemory)
+abbrev pub RefusesWith : {A : Type 0} → Refusal → Result A NotAccepted → Type 0
+RefusesWith refusal (Ok x) = ⊥
+RefusesWith refusal (Err f) = (f ≡ Refused refusal) ⊎ (f ≡ NoMemory)
 
 -- A returned value is the right one, and a right value is returned. A refusal is returned if and only if its cause
 -- holds. Only `NoMemory` may be returned instead of either.
@@ -20,4 +20,4 @@ pub record Exact {A : Type 0} (Is : A → Type 0) (Causes : Refusal → Type 0) 
   pub found : IfOk result Is
   pub only : (x : A) → Is x → MatchResult result (λ y. y ≡ x) (λ f. f ≡ NoMemory)
   pub refused : IfErr result (HasCause Causes)
-  pub told : (refusal : Refusal) → Causes refusal → Tells refusal result
+  pub told : (refusal : Refusal) → Causes refusal → RefusesWith refusal result

@@ -28,7 +28,7 @@ use Rattle.mv_recorded.specs.Recorded.{Site, own_record}
 use Rattle.mv_record.specs.Databases.{IsDatabaseOf}
 use Rattle.mv_record.specs.Effects.{effect_in}
 use Rattle.mv_recorded.specs.Alike.{Agree, OverAgrees, SeenAlike}
-use Rattle.mv_recorded.specs.Own.{Bare, Stated, Each, Within, Suits, Ground, IsAtSite, StandsAt, IsOwn, OverSuits}
+use Rattle.mv_recorded.specs.Own.{Bare, Stated, Each, Within, IsStatedWell, Ground, IsAtSite, HasStatements, IsOwn, OverSuits}
 use Rattle.mv_recorded.proofs.Congruent.{congruent}
 use Rattle.mv_recorded.proofs.Matching.{key_placed}
 use Rattle.mv_recorded.proofs.Inverting.{each_map}
@@ -144,7 +144,7 @@ over_agrees g (Rollback reason) e f h k = tt
 
 -- the same record, in the state before it in both runs
 pub own_same : (g : Ground) (new : Tables) (changes : List Change) (kept : List Path) (fo more fn : List Placed) (or nr : Record) → g.params ≤ g.base → Bases g.tables g.db (its fo) → Bases g.tables new (its fn) → Covers changes g.db new
-    → IsOwn g (its fo) or → (b : IsOwn (record g { db = new }) (its fn) nr) → (s : Stated) (n : ℕ) (site : Site) (st : State) → StandsAt g.text n (s ∷ []) → Suits g.tables g.params g.base s → IsAtSite g site s.rows (its fo) st
+    → IsOwn g (its fo) or → (b : IsOwn (record g { db = new }) (its fn) nr) → (s : Stated) (n : ℕ) (site : Site) (st : State) → HasStatements g.text n (s ∷ []) → IsStatedWell g.tables g.params g.base s → IsAtSite g site s.rows (its fo) st
     → or ≡ own_record g.tables g.params s.it n site (its fo) st → s ≡ b.s → site.turns ≡ b.site.turns
     → KeptSame kept (fo ++ more) fn → reads_stay kept (fo ++ more) or.reads fn nr.reads ≡ true
     → Each (λ p. Each (λ c. hits_by (writes_in (its fo)) c p ≡ false) changes × Merged p (writes_in (its fo)) (writes_in (its fn))) or.preds

@@ -21,14 +21,14 @@ use Rattle.mv_history.specs.declared.change.Change.{Change}
 use Rattle.mv_history.specs.Kept.{Placed, with_paths, among, kept_paths}
 use Rattle.mv_alike.specs.Laws.{AreRuns, HasAlike, KeptRecordsAreAlike, NextRecordIsAlike}
 use Rattle.mv_alike.proofs.Keeping.{climbs_of, ends, Partner, partner}
-use Rattle.mv_alike.proofs.Walking.{Runs, Stage, sides, walked, next_stays}
+use Rattle.mv_alike.proofs.Walking.{WalksAlong, Stage, sides, walked, next_stays}
 
 each_number : (P : Placed → Type 0) (xs : List Placed) → ((e : ℕ) (b : Placed) → slice_get xs e ≡ Some b → P b) → Each P xs
 each_number P [] h = tt
 each_number P (x ∷ xs) h = (h 0 x refl, each_number P xs (λ e b is. h (suc e) b is))
 
 runs_of : (tables : List TableInfo) (proc : ProcInfo) (call : Call) (db new : Tables) (changes : List Change) → AreRuns tables proc call db new changes
-    → Runs (ground_of tables proc call db) new changes (recorded tables proc call db) (recorded tables proc call new)
+    → WalksAlong (ground_of tables proc call db) new changes (recorded tables proc call db) (recorded tables proc call new)
 runs_of tables proc call db new changes r =
     let suits : AllSuit tables proc call = procedure_suits tables proc call r.procedure (AllZip-long Suits proc.params call.arguments r.arguments) in
     record {

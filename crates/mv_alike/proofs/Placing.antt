@@ -11,8 +11,8 @@ use Rattle.std.proofs.lemmas.Map.Lookups.{exact_bytes}
 use Rattle.std.proofs.lemmas.Bool.{false_from_ne_true}
 use Rattle.mv_record.specs.declared.record.Record.{Record}
 use Rattle.mv_record.specs.Paths.{Nest, path, nests_behind, paths, IsEarlierPath}
-use Rattle.mv_recorded.specs.Own.{Stated, Ground, StandsAt, IsOwn, AllOwn}
-use Rattle.mv_recorded.specs.Posts.{IsAt}
+use Rattle.mv_recorded.specs.Own.{Stated, Ground, HasStatements, IsOwn, AllOwn}
+use Rattle.mv_recorded.specs.Posts.{IsRecordAt}
 use Rattle.mv_recorded.proofs.Held.{get_last}
 use Rattle.mv_recorded.proofs.Nesting.{many_nests}
 use Rattle.mv_history.specs.Kept.{Path, Placed, zip_paths, with_paths, path_at, is_path}
@@ -75,7 +75,7 @@ zip_at (p ∷ ps) (r ∷ rs) [] o back is =
 zip_at (p ∷ ps) (r ∷ rs) (f ∷ fr) o back is = let rest : zip_paths ps rs ≡ fr ++ o ∷ back = cc in zip_at ps rs fr o back rest
 
 -- its number is that of the records before it
-pub is_at : (rs : List Record) (fr : List Placed) (o : Placed) (back : List Placed) → with_paths rs ≡ fr ++ o ∷ back → IsAt rs (length fr) o.it o.path
+pub is_at : (rs : List Record) (fr : List Placed) (o : Placed) (back : List Placed) → with_paths rs ≡ fr ++ o ∷ back → IsRecordAt rs (length fr) o.it o.path
 is_at rs fr o back is = let both = zip_at (paths rs) rs fr o back is in record { there = both.0; path = both.1 }
 
 -- the path of a number
@@ -90,7 +90,7 @@ at_paths rs (Some k) = got (paths rs) rs k (long_paths (nests_behind [] rs) ∙ 
     got (p ∷ ps) (r ∷ rs) (suc k) h = got ps rs k (let e : length ps ≡ length rs = omega (arith, h) in e)
 
 -- one statement stands at a number of the text
-pub same_statement : (text : List Stated) (n m : ℕ) (a b : Stated) → n ≡ m → StandsAt text n (a ∷ []) → StandsAt text m (b ∷ []) → a ≡ b
+pub same_statement : (text : List Stated) (n m : ℕ) (a b : Stated) → n ≡ m → HasStatements text n (a ∷ []) → HasStatements text m (b ∷ []) → a ≡ b
 same_statement text n m a b same h k = found (sym (at a h.0 h.1 h.2) ∙ (ap (slice_get text) (let e : length h.0 ≡ length k.0 = omega (arith, h.3, k.3, same) in e) ∙ at b k.0 k.1 k.2))
   where
     at : (x : Stated) (front back : List Stated) → text ≡ front ++ (x ∷ [] ++ back) → slice_get text (length front) ≡ Some x

@@ -38,9 +38,9 @@ use Rattle.mv_recorded.specs.Asking.{on, preds_of}
 use Rattle.mv_recorded.specs.Doing.{itself, before_turns}
 use Rattle.mv_recorded.specs.Effect.{with_slots, behind, TellsEffect}
 use Rattle.mv_recorded.specs.Reading.{variables, expressions}
-use Rattle.mv_recorded.specs.Recorded.{Tells, Site, tell, tell_step, tell_turns, tell_loop, own_record, in_turn, within, within_loop, tell_statements, outside, recorded}
+use Rattle.mv_recorded.specs.Recorded.{Recorder, Site, tell, tell_step, tell_turns, tell_loop, own_record, in_turn, within, within_loop, tell_statements, outside, recorded}
 use Rattle.mv_recorded.specs.Alike.{Agree, OverAgrees, SeenAlike}
-use Rattle.mv_recorded.specs.Own.{Bare, bare, Flat, flat, flat_step, flat_all, Each, Suits, AllSuit}
+use Rattle.mv_recorded.specs.Own.{Bare, bare, Flat, flat, flat_step, flat_all, Each, IsStatedWell, AllSuit}
 use Rattle.mv_recorded.proofs.Congruent.{congruent}
 use Rattle.mv_recorded.proofs.Effects.{effect_known}
 use Rattle.mv_recorded.proofs.Following.{firsts}
@@ -89,9 +89,9 @@ Ends g before rs (Err e) (Err f) = ⊤
 Ends g before rs (Ok a) (Err f) = ⊥
 Ends g before rs (Err e) (Ok b) = ⊥
 
-abbrev Steps : Pair → Flat → Tells → Does → Type 0
+abbrev Steps : Pair → Flat → Recorder → Does → Type 0
 Steps g F tells body =
-    (rows : List ℕ) (n : ℕ) (site : Site) (before : List Record) (st nst : State) → Each (Suits g.tables g.params g.base) (F rows) → Twin g before st nst → Sound g before (tells n site before st) (tells n site before nst)
+    (rows : List ℕ) (n : ℕ) (site : Site) (before : List Record) (st nst : State) → Each (IsStatedWell g.tables g.params g.base) (F rows) → Twin g before st nst → Sound g before (tells n site before st) (tells n site before nst)
     → (tells n site before nst ≡ tells n site before st) × Ends g before (tells n site before st) (body st) (body nst)
 
 unhit_parts : (cs : List Change) (before rs ss : List Record) → is_unhit cs before (rs ++ ss) ≡ true → (is_unhit cs before rs ≡ true) × (is_unhit cs (before ++ rs) ss ≡ true)
@@ -163,7 +163,7 @@ seen_itself g ws st nst (p ∷ ps) pair a b f k places h = (
   seen_itself g ws st nst ps pair a b f k places.1 h.1,
 )
 
-own_locked : (g : Pair) (z : Bare) (n : ℕ) (site : Site) (rows : List ℕ) (before : List Record) (st nst : State) → IsPair g → Suits g.tables g.params g.base (record { it = z; rows = rows }) → Twin g before st nst
+own_locked : (g : Pair) (z : Bare) (n : ℕ) (site : Site) (rows : List ℕ) (before : List Record) (st nst : State) → IsPair g → IsStatedWell g.tables g.params g.base (record { it = z; rows = rows }) → Twin g before st nst
     → Sound g before (own_record g.tables g.params z n site before st ∷ []) (own_record g.tables g.params z n site before nst ∷ [])
     → (own_record g.tables g.params z n site before nst ≡ own_record g.tables g.params z n site before st)
     × Ends g before (own_record g.tables g.params z n site before st ∷ []) (itself g.tables z st) (itself g.tables z nst)
@@ -226,7 +226,7 @@ own_locked g z n site rows before st nst pair suits twin h =
 turn_twin : (g : Pair) (before : List Record) (st nst : State) (x : ℕ) (row : List Value) → Twin g before st nst → Twin g before (record st { env = with_held st.env x (Turn row) }) (record nst { env = with_held nst.env x (Turn row) })
 turn_twin g before st nst x row t = record { env = ap (λ e. with_held e x (Turn row)) t.env; old = t.old; new = t.new }
 
-turns_locked : (g : Pair) (x : ℕ) (F : Flat) (body : Does) (tells : Tells) → Steps g F tells body → (all : List (List Value)) (k n : ℕ) (site : Site) (os : List ℕ) (before : List Record) (st nst : State) → Each (Suits g.tables g.params g.base) (F os)
+turns_locked : (g : Pair) (x : ℕ) (F : Flat) (body : Does) (tells : Recorder) → Steps g F tells body → (all : List (List Value)) (k n : ℕ) (site : Site) (os : List ℕ) (before : List Record) (st nst : State) → Each (IsStatedWell g.tables g.params g.base) (F os)
     → Twin g before st nst → Sound g before (tell_turns x body tells all k n site before st) (tell_turns x body tells all k n site before nst)
     → (tell_turns x body tells all k n site before nst ≡ tell_turns x body tells all k n site before st) × Ends g before (tell_turns x body tells all k n site before st) (each_turn x body all st) (each_turn x body all nst)
 turns_locked g x F body tells h [] k n site os before st nst suits twin u = (refl, subst (λ b. Twin g b st nst) (sym (append-nil before)) twin)
@@ -244,8 +244,8 @@ turns_locked g x F body tells h (row ∷ all) k n site os before st nst suits tw
 own_then : (g : Pair) (before : List Record) (own other : Record) (rs os : List Record) (a b : Result State End) → other ≡ own → (os ≡ rs) × Ends g (before ++ own ∷ []) rs a b → (other ∷ os ≡ own ∷ rs) × Ends g before (own ∷ rs) a b
 own_then g before own other rs os a b same h = (ap (λ o. o ∷ os) same ∙ ap (λ l. own ∷ l) h.0, ends_join g before (own ∷ []) rs a b h.1)
 
-loop_locked : (g : Pair) (x : ℕ) (F : Flat) (body : Does) (tells : Tells) → Steps g F tells body → (r : Result (List (List Value)) End) (own other : Record) (n : ℕ) (site : Site) (os : List ℕ) (before : List Record) (st nst : State)
-    → Each (Suits g.tables g.params g.base) (F os) → other ≡ own → Ends g before (own ∷ []) (before_turns r st) (before_turns r nst)
+loop_locked : (g : Pair) (x : ℕ) (F : Flat) (body : Does) (tells : Recorder) → Steps g F tells body → (r : Result (List (List Value)) End) (own other : Record) (n : ℕ) (site : Site) (os : List ℕ) (before : List Record) (st nst : State)
+    → Each (IsStatedWell g.tables g.params g.base) (F os) → other ≡ own → Ends g before (own ∷ []) (before_turns r st) (before_turns r nst)
     → Sound g before (own ∷ on r (λ all. tell_loop x body tells all n site (before ++ own ∷ []) st)) (other ∷ on r (λ all. tell_loop x body tells all n site (before ++ other ∷ []) nst))
     → (other ∷ on r (λ all. tell_loop x body tells all n site (before ++ other ∷ []) nst) ≡ own ∷ on r (λ all. tell_loop x body tells all n site (before ++ own ∷ []) st))
     × Ends g before (own ∷ on r (λ all. tell_loop x body tells all n site (before ++ own ∷ []) st)) (then_do r (λ all. loop_over x body all st)) (then_do r (λ all. loop_over x body all nst))
@@ -306,7 +306,7 @@ all_locked : (g : Pair) (known : List (Known g)) → Steps g (flat_all (plain g 
 all_locked g [] rows n site before st nst suits twin u = (refl, subst (λ b. Twin g b st nst) (sym (append-nil before)) twin)
 all_locked g (k ∷ ks) rows n site before st nst suits twin u =
     let these : List Record = tell g.tables g.params k.0 n site before st in
-    let split = each_both (Suits g.tables g.params g.base) (flat k.0 rows) (flat_all (plain g ks) rows) suits in
+    let split = each_both (IsStatedWell g.tables g.params g.base) (flat k.0 rows) (flat_all (plain g ks) rows) suits in
     let others : List Record = tell g.tables g.params k.0 n site before nst in
     let rest : List Record → State → List Record = λ t. tell_statements g.tables g.params (plain g ks) (n + size k.0) site (before ++ t) in
     let first = k.1 rows n site before st nst split.0 twin (sound_first g before these (on (does g.tables k.0 st) (rest these)) others (on (does g.tables k.0 nst) (rest others)) u) in
@@ -316,10 +316,10 @@ all_locked g (k ∷ ks) rows n site before st nst suits twin u =
 abbrev unknown : (g : Pair) → RStmt-F (Known g) → RStmt-F RStmt
 unknown g y = map-RStmt (Known g) RStmt (λ k. k.0) y
 
-abbrev telling : (g : Pair) → RStmt-F (Known g) → RStmt-F (RStmt × Tells)
-telling g y = map-RStmt RStmt (RStmt × Tells) (λ s. (s, tell g.tables g.params s)) (unknown g y)
+abbrev telling : (g : Pair) → RStmt-F (Known g) → RStmt-F (RStmt × Recorder)
+telling g y = map-RStmt RStmt (RStmt × Recorder) (λ s. (s, tell g.tables g.params s)) (unknown g y)
 
-again : (g : Pair) (ss : List RStmt) → alone g.tables (map (λ (s : RStmt × Tells). s.0) (map (λ s. (s, tell g.tables g.params s)) ss)) ≡ alone g.tables ss
+again : (g : Pair) (ss : List RStmt) → alone g.tables (map (λ (s : RStmt × Recorder). s.0) (map (λ s. (s, tell g.tables g.params s)) ss)) ≡ alone g.tables ss
 again g ss = ap (alone g.tables) (firsts (tell g.tables g.params) ss)
 
 leaf_locked : (g : Pair) (own other : Record) (before : List Record) (a b : Result State End) → (other ≡ own) × Ends g before (own ∷ []) a b → (other ∷ [] ≡ own ∷ []) × Ends g before (own ∷ []) a b
@@ -334,7 +334,7 @@ step_locked g pair (Select cs xs t conds sorts offset) rows n site before st nst
 step_locked g pair (Total agg x t conds) rows n site before st nst suits twin u =
     leaf_locked g _ _ before _ _ (own_locked g (Total agg x t conds) n site rows before st nst pair suits.0 twin u)
 step_locked g pair (ForSelect x once cs t conds sorts body) rows n site before st nst suits twin u =
-    let y : RStmt-F (RStmt × Tells) = telling g (ForSelect x once cs t conds sorts body) in
+    let y : RStmt-F (RStmt × Recorder) = telling g (ForSelect x once cs t conds sorts body) in
     let z : Bare = bare (map-RStmt RStmt Flat flat (unknown g (ForSelect x once cs t conds sorts body))) in
     let ss : List RStmt = plain g body in
     let own : Record = own_record g.tables g.params y n site before st in
@@ -354,7 +354,7 @@ step_locked g pair (ForSelect x once cs t conds sorts body) rows n site before s
     (subst (λ r. Ends g before (own ∷ []) (before_turns (fix st) st) (before_turns r nst)) (sym same) first.1)
     (subst (λ r. Sound g before (own ∷ inner (alone g.tables ss) own st) (other ∷ on r (λ all. tell_loop x (alone g.tables ss) (tell_statements g.tables g.params ss) all (n + 1) (within_loop x (length before) site) (before ++ other ∷ []) nst))) (sym same) v))))) u
 step_locked g pair (ForRows x y body) rows n site before st nst suits twin u =
-    let w : RStmt-F (RStmt × Tells) = telling g (ForRows x y body) in
+    let w : RStmt-F (RStmt × Recorder) = telling g (ForRows x y body) in
     let z : Bare = bare (map-RStmt RStmt Flat flat (unknown g (ForRows x y body))) in
     let ss : List RStmt = plain g body in
     let own : Record = own_record g.tables g.params w n site before st in
@@ -370,14 +370,14 @@ step_locked g pair (ForRows x y body) rows n site before st nst suits twin u =
     (subst (λ l. Ends g before (own ∷ []) (before_turns (Ok (turns_at st.env y)) st) (before_turns (Ok l) nst)) (sym same) first.1)
     (subst (λ l. Sound g before (own ∷ inner (alone g.tables ss) own st) (other ∷ tell_loop x (alone g.tables ss) (tell_statements g.tables g.params ss) l (n + 1) (within_loop x (length before) site) (before ++ other ∷ []) nst)) (sym same) v))) u
 step_locked g pair (Branch e ys ns) rows n site before st nst suits twin u =
-    let y : RStmt-F (RStmt × Tells) = telling g (Branch e ys ns) in
+    let y : RStmt-F (RStmt × Recorder) = telling g (Branch e ys ns) in
     let z : Bare = bare (map-RStmt RStmt Flat flat (unknown g (Branch e ys ns))) in
     let own : Record = own_record g.tables g.params y n site before st in
     let other : Record = own_record g.tables g.params y n site before nst in
-    let m : ℕ = total_size (map (λ (s : RStmt × Tells). size s.0) (map (λ s. (s, tell g.tables g.params s)) (plain g ys))) in
+    let m : ℕ = total_size (map (λ (s : RStmt × Recorder). size s.0) (map (λ s. (s, tell g.tables g.params s)) (plain g ys))) in
     let yes : List Record → State → List Record = tell_statements g.tables g.params (plain g ys) (n + 1) (within (length before) site) in
     let not' : List Record → State → List Record = tell_statements g.tables g.params (plain g ns) (n + 1 + m) (within (length before) site) in
-    let split = each_both (Suits g.tables g.params g.base) (flat_all (plain g ys) rows) (flat_all (plain g ns) rows) suits.1 in
+    let split = each_both (IsStatedWell g.tables g.params g.base) (flat_all (plain g ys) rows) (flat_all (plain g ns) rows) suits.1 in
     let same : value_of e st.env [] ≡ value_of e nst.env [] = ap (λ v. value_of e v []) twin.env in
     let either : Record → State → Value → List Record = λ o s v. if is_so v then yes (before ++ o ∷ []) s else not' (before ++ o ∷ []) s in
     let first = own_locked g z n site rows before st nst pair suits.0 twin (sound_first g before (own ∷ []) (on (value_of e st.env []) (either own st)) (other ∷ []) (on (value_of e nst.env []) (either other nst)) u) in
@@ -405,7 +405,7 @@ statement_locked g pair = ind-RStmt (λ s. Steps g (flat s) (tell g.tables g.par
     subst (λ z. Steps g (flat (roll-RStmt z)) (tell g.tables g.params (roll-RStmt z)) (does g.tables (roll-RStmt z))) is
     (let z : RStmt-F RStmt = unknown g y in
     subst (λ F. Steps g F (tell g.tables g.params (roll-RStmt z)) (does g.tables (roll-RStmt z))) (sym (fold-roll-RStmt Flat flat_step z))
-    (subst (λ t. Steps g (flat_step (map-RStmt RStmt Flat flat z)) t (does g.tables (roll-RStmt z))) (sym (para-roll-RStmt Tells (tell_step g.tables g.params) z))
+    (subst (λ t. Steps g (flat_step (map-RStmt RStmt Flat flat z)) t (does g.tables (roll-RStmt z))) (sym (para-roll-RStmt Recorder (tell_step g.tables g.params) z))
     (subst (λ d. Steps g (flat_step (map-RStmt RStmt Flat flat z)) (tell_step g.tables g.params (telling g y)) d) (sym (fold-roll-RStmt Does (stmt_step g.tables) z))
     (step_locked g pair y)))))
 

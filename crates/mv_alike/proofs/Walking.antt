@@ -16,7 +16,7 @@ use Rattle.mv_history.specs.Changes.{Covers}
 use Rattle.mv_history.specs.Kept.{Path, Placed, with_paths, is_path, among, at, front, is_kept, path_at, same_path, reads_stay, other_writes, stays_with, stays, keep}
 use Rattle.mv_recorded.specs.Own.{Each, Stated, Ground, IsOwn, AllOwn}
 use Rattle.mv_recorded.specs.Reading.{expressions, read_variables, definer}
-use Rattle.mv_recorded.specs.Posts.{IsAt, path_above}
+use Rattle.mv_recorded.specs.Posts.{IsRecordAt, path_above}
 use Rattle.mv_recorded.proofs.Held.{get_front, get_last}
 use Rattle.mv_recorded.proofs.Inverting.{each_join, each_both, each_map}
 use Rattle.mv_alike.specs.Laws.{AreAlike}
@@ -136,20 +136,20 @@ abbrev pub sides : List Record → List Record → Sides
 sides os ns = record { old = with_paths os; new = with_paths ns }
 
 -- what is known of two runs
-pub record Runs (g : Ground) (new : Tables) (changes : List Change) (os ns : List Record) : Type 0 where
+pub record WalksAlong (g : Ground) (new : Tables) (changes : List Change) (os ns : List Record) : Type 0 where
   pub below : g.params ≤ g.base
   pub lasts : Lasting g.tables g.db [] os
   pub nlasts : Lasting g.tables new [] ns
   pub covers : Covers changes g.db new
   pub old : AllOwn g [] os
   pub own : AllOwn (record g { db = new }) [] ns
-  pub places : (i j : ℕ) (o r : Record) (p q : Path) → IsAt os i o p → IsAt ns j r q → p ≡ q → (o.spot ≡ r.spot) × (path_above os o ≡ path_above ns r)
+  pub places : (i j : ℕ) (o r : Record) (p q : Path) → IsRecordAt os i o p → IsRecordAt ns j r q → p ≡ q → (o.spot ≡ r.spot) × (path_above os o ≡ path_above ns r)
   pub names : NamesEarlier 0 ns
   pub climbs : Climbs (with_paths os)
   pub nclimbs : Climbs (with_paths ns)
 
 -- one record that stays
-stays_same : (g : Ground) (new : Tables) (changes : List Change) (os ns : List Record) (kept : List Path) (fo : List Placed) (o : Placed) (bo fn : List Placed) (r : Placed) (bn : List Placed) → Runs g new changes os ns
+stays_same : (g : Ground) (new : Tables) (changes : List Change) (os ns : List Record) (kept : List Path) (fo : List Placed) (o : Placed) (bo fn : List Placed) (r : Placed) (bn : List Placed) → WalksAlong g new changes os ns
     → with_paths os ≡ fo ++ o ∷ bo → with_paths ns ≡ fn ++ r ∷ bn → o.path ≡ r.path → Aligned (sides os ns) kept fo fn → stays_with changes kept (with_paths os) fo fn r.it (Some o) ≡ true → AreAlike (with_paths os) (with_paths ns) o.it r.it
 stays_same g new changes os ns kept fo o bo fn r bn runs is are same aligned h =
     let k : Ground = record g { db = new } in
@@ -220,7 +220,7 @@ each_over [] ys zs h = tt
 each_over (x ∷ xs) ys zs h = ((each_both (λ (b : Placed). IsEarlierPath x.path b.path) ys zs h.0).0, each_over xs ys zs h.1)
 
 -- a record that stays
-stage_on : (g : Ground) (new : Tables) (changes : List Change) (os ns : List Record) (kept : List Path) (done rest fn : List Placed) (r : Placed) (bn : List Placed) (o : Placed) → Runs g new changes os ns → with_paths ns ≡ fn ++ r ∷ bn
+stage_on : (g : Ground) (new : Tables) (changes : List Change) (os ns : List Record) (kept : List Path) (done rest fn : List Placed) (r : Placed) (bn : List Placed) (o : Placed) → WalksAlong g new changes os ns → with_paths ns ≡ fn ++ r ∷ bn
     → Stage (sides os ns) kept done rest fn (r ∷ bn) → at r.path (with_paths os) ≡ Some o → stays_with changes kept (with_paths os) (front r.path (with_paths os)) fn r.it (Some o) ≡ true
     → (d : List Placed) × (b : List Placed) × Stage (sides os ns) (kept ++ r.path ∷ []) d b (fn ++ r ∷ []) bn
 stage_on g new changes os ns kept done rest fn r bn o runs are s found h =
@@ -256,7 +256,7 @@ stage_on g new changes os ns kept done rest fn r bn o runs are s found h =
     )
 
 -- the walk over some records, behind which others come
-pub walked : (g : Ground) (new : Tables) (changes : List Change) (os ns : List Record) (mid bn fn : List Placed) (kept : List Path) (done rest : List Placed) → Runs g new changes os ns → with_paths ns ≡ fn ++ (mid ++ bn)
+pub walked : (g : Ground) (new : Tables) (changes : List Change) (os ns : List Record) (mid bn fn : List Placed) (kept : List Path) (done rest : List Placed) → WalksAlong g new changes os ns → with_paths ns ≡ fn ++ (mid ++ bn)
     → Stage (sides os ns) kept done rest fn (mid ++ bn) → (d : List Placed) × (b : List Placed) × Stage (sides os ns) (keep changes (with_paths os) kept fn mid) d b (fn ++ mid) bn
 walked g new changes os ns [] bn fn kept done rest runs are s = (done, rest, subst (λ l. Stage (sides os ns) kept done rest l bn) (sym (append-nil fn)) s)
 walked g new changes os ns (r ∷ mid) bn fn kept done rest runs are s =
@@ -276,7 +276,7 @@ walked g new changes os ns (r ∷ mid) bn fn kept done rest runs are s =
     by go true is = let on = found (at r.path (with_paths os)) refl is in go (kept ++ r.path ∷ []) on.0 on.1 on.2
 
 -- the next record, where it stays
-pub next_stays : (g : Ground) (new : Tables) (changes : List Change) (os ns : List Record) (fn : List Placed) (r : Placed) (bn : List Placed) → Runs g new changes os ns → with_paths ns ≡ fn ++ r ∷ bn
+pub next_stays : (g : Ground) (new : Tables) (changes : List Change) (os ns : List Record) (fn : List Placed) (r : Placed) (bn : List Placed) → WalksAlong g new changes os ns → with_paths ns ≡ fn ++ r ∷ bn
     → (o : Placed) → at r.path (with_paths os) ≡ Some o → stays changes (keep changes (with_paths os) [] [] fn) (with_paths os) fn r ≡ true → AreAlike (with_paths os) (with_paths ns) o.it r.it
 next_stays g new changes os ns fn r bn runs are o found h =
     let kept : List Path = keep changes (with_paths os) [] [] fn in

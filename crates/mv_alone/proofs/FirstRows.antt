@@ -28,7 +28,7 @@ use Rattle.mv_table.proofs.Scanning.{foremost_kept, foremost_passed, foremost_ma
 use Rattle.mv_catalog.specs.declared.resolved.RAgg.{RAgg}
 use Rattle.mv_catalog.specs.declared.resolved.RAgg.TheVariants.{Min, Max}
 use Rattle.mv_catalog.specs.declared.resolved.RSort.{RSort}
-use Rattle.mv_alone.specs.FirstRows.{AreAdmitted, NeverFalls, Rises, Tells, Leads, AdmitMatches, total_found, is_next_fixed, is_last_of, does_rank}
+use Rattle.mv_alone.specs.FirstRows.{AreAdmitted, NeverFalls, Rises, IsFromEnd, Leads, AdmitMatches, total_found, is_next_fixed, is_last_of, does_rank}
 use Rattle.mv_alone.specs.Own.{StandUnder}
 use Rattle.mv_alone.specs.Rows.{matching, column, lesser, greater, least, greatest, aggregate, is_some_row, item_at, ordered, sorted, put_in, sort_order, then_by}
 use Rattle.mv_alone.proofs.Sorting.{sorted_rising}
@@ -109,27 +109,27 @@ greatest_last (v ∷ vs) h = ap (λ o. Some (greater v o)) (greatest_last vs h.1
     by [] u = refl
     by (w ∷ ws) u = rw (under_last w ws u.0 u.1) refl
 
-pub min_told : (keys : List ℕ) (tests : List Test) (c : ℕ) → NeverFalls keys tests c → Tells (Min c) keys tests c Forward
+pub min_told : (keys : List ℕ) (tests : List Test) (c : ℕ) → NeverFalls keys tests c → IsFromEnd (Min c) keys tests c Forward
 min_told keys tests c h rows are = ap (λ o. Ok o) (least_first (column c rows) (climbs c rows (h rows are)) ∙ foremost_mapped (λ item. column_of item.row c) Forward rows)
 
-pub max_told : (keys : List ℕ) (tests : List Test) (c : ℕ) → NeverFalls keys tests c → Tells (Max c) keys tests c Backward
+pub max_told : (keys : List ℕ) (tests : List Test) (c : ℕ) → NeverFalls keys tests c → IsFromEnd (Max c) keys tests c Backward
 max_told keys tests c h rows are = ap (λ o. Ok o) (greatest_last (column c rows) (climbs c rows (h rows are)) ∙ foremost_mapped (λ item. column_of item.row c) Backward rows)
 
-from_first : (agg : RAgg) (keys : List ℕ) (tests : List Test) (c : ℕ) (d : Direction) (r : Option (ℕ × Direction)) → (NeverFalls keys tests c → Tells agg keys tests c d)
-    → IfSome r (λ t. (t.0 ≡ c) × (t.1 ≡ d) × NeverFalls keys tests c) → IfSome r (λ t. Tells agg keys tests t.0 t.1)
+from_first : (agg : RAgg) (keys : List ℕ) (tests : List Test) (c : ℕ) (d : Direction) (r : Option (ℕ × Direction)) → (NeverFalls keys tests c → IsFromEnd agg keys tests c d)
+    → IfSome r (λ t. (t.0 ≡ c) × (t.1 ≡ d) × NeverFalls keys tests c) → IfSome r (λ t. IsFromEnd agg keys tests t.0 t.1)
 from_first agg keys tests c d None told h = tt
-from_first agg keys tests c d (Some t) told h = subst (λ x. Tells agg keys tests x t.1) (sym h.0) (subst (Tells agg keys tests c) (sym h.1) (told h.2))
+from_first agg keys tests c d (Some t) told h = subst (λ x. IsFromEnd agg keys tests x t.1) (sym h.0) (subst (IsFromEnd agg keys tests c) (sym h.1) (told h.2))
 
 -- where a column is told only if it never falls
 pub told_if : (keys : List ℕ) (tests : List Test) (c : ℕ) (d : Direction) (so : Bool) (r : Option (ℕ × Direction)) → r ≡ then_some so (c, d) → (so ≡ true → NeverFalls keys tests c) → IfSome r (λ t. (t.0 ≡ c) × (t.1 ≡ d) × NeverFalls keys tests c)
 told_if keys tests c d true r is h = rw is (refl, refl, h refl)
 told_if keys tests c d false r is h = rw is tt
 
-pub min_from : (agg : RAgg) (keys : List ℕ) (tests : List Test) (c : ℕ) (r : Option (ℕ × Direction)) → agg ≡ Min c → IfSome r (λ t. (t.0 ≡ c) × (t.1 ≡ Forward) × NeverFalls keys tests c) → IfSome r (λ t. Tells agg keys tests t.0 t.1)
-min_from agg keys tests c r is = from_first agg keys tests c Forward r (λ h. subst (λ a. Tells a keys tests c Forward) (sym is) (min_told keys tests c h))
+pub min_from : (agg : RAgg) (keys : List ℕ) (tests : List Test) (c : ℕ) (r : Option (ℕ × Direction)) → agg ≡ Min c → IfSome r (λ t. (t.0 ≡ c) × (t.1 ≡ Forward) × NeverFalls keys tests c) → IfSome r (λ t. IsFromEnd agg keys tests t.0 t.1)
+min_from agg keys tests c r is = from_first agg keys tests c Forward r (λ h. subst (λ a. IsFromEnd a keys tests c Forward) (sym is) (min_told keys tests c h))
 
-pub max_from : (agg : RAgg) (keys : List ℕ) (tests : List Test) (c : ℕ) (r : Option (ℕ × Direction)) → agg ≡ Max c → IfSome r (λ t. (t.0 ≡ c) × (t.1 ≡ Backward) × NeverFalls keys tests c) → IfSome r (λ t. Tells agg keys tests t.0 t.1)
-max_from agg keys tests c r is = from_first agg keys tests c Backward r (λ h. subst (λ a. Tells a keys tests c Backward) (sym is) (max_told keys tests c h))
+pub max_from : (agg : RAgg) (keys : List ℕ) (tests : List Test) (c : ℕ) (r : Option (ℕ × Direction)) → agg ≡ Max c → IfSome r (λ t. (t.0 ≡ c) × (t.1 ≡ Backward) × NeverFalls keys tests c) → IfSome r (λ t. IsFromEnd agg keys tests t.0 t.1)
+max_from agg keys tests c r is = from_first agg keys tests c Backward r (λ h. subst (λ a. IsFromEnd a keys tests c Backward) (sym is) (max_told keys tests c h))
 
 -- ORDER BY
 
@@ -286,7 +286,7 @@ pub total_is : (agg : RAgg) (rows : List Keyed) (value : Option Value) (some : B
 total_is agg rows value some h is = rw h (ap (λ b. Ok (value, b)) (sym is))
 
 pub told_is : (agg : RAgg) (keys : List ℕ) (tests : List Test) (rows : List Keyed) (c : ℕ) (d : Direction) (row : Option Keyed) (value : Option Value) (some : Bool) → IsRising rows → StandUnder keys rows
-    → AdmitMatches tests rows → Tells agg keys tests c d → row ≡ foremost d (matching tests rows) → value ≡ option_map (λ (item : Keyed). column_of item.row c) row → some ≡ is_some row → total_found agg (matching tests rows) ≡ Ok (value, some)
+    → AdmitMatches tests rows → IsFromEnd agg keys tests c d → row ≡ foremost d (matching tests rows) → value ≡ option_map (λ (item : Keyed). column_of item.row c) row → some ≡ is_some row → total_found agg (matching tests rows) ≡ Ok (value, some)
 told_is agg keys tests rows c d row value some rising own admit tells is holds any =
     let found : List Keyed = matching tests rows in
     total_is agg found value some

@@ -47,8 +47,8 @@ abbrev pub Rises : List ℕ → List Test → ℕ → Type 0
 Rises keys tests c = (rows : List Keyed) → AreAdmitted keys tests rows → AllPairs (λ (a b : Keyed). value_order (column_of a.row c) (column_of b.row c) ≡ Less) rows
 
 -- of such rows the first one in this direction has the value of the aggregate in the column
-abbrev pub Tells : RAgg → List ℕ → List Test → ℕ → Direction → Type 0
-Tells agg keys tests c direction = (rows : List Keyed) → AreAdmitted keys tests rows → aggregate agg rows ≡ Ok (option_map (λ item. column_of item.row c) (foremost direction rows))
+abbrev pub IsFromEnd : RAgg → List ℕ → List Test → ℕ → Direction → Type 0
+IsFromEnd agg keys tests c direction = (rows : List Keyed) → AreAdmitted keys tests rows → aggregate agg rows ≡ Ok (option_map (λ item. column_of item.row c) (foremost direction rows))
 
 -- of such rows the first one in this direction is the first in ORDER BY order
 abbrev pub Leads : List RSort → List ℕ → List Test → Direction → Type 0

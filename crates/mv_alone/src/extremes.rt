@@ -5,7 +5,7 @@ ghost use Rattle.std.specs.Bool.{then_some};
 ghost use Rattle.mv_values.specs.Tables.{rows_at, key_columns, KeysStand};
 ghost use Rattle.mv_alone.specs.Outcome.{Gives};
 ghost use Rattle.mv_alone.specs.Rows.{IsPlaced, matching};
-ghost use Rattle.mv_alone.specs.FirstRows.{NeverFalls, Tells, AdmitMatches, does_order, telling, total_found};
+ghost use Rattle.mv_alone.specs.FirstRows.{NeverFalls, IsFromEnd, AdmitMatches, does_order, telling, total_found};
 
 use crate::find::{key_in, matches_in};
 use crate::foremost::{foremost_in, never_falls};
@@ -37,7 +37,7 @@ fn told_by(
 /// Returns none if more rows may be needed. Takes time linear in the number of key columns times that of tests.
 pub fn telling(agg: RAgg, keys: &[u8], tests: &[Test]) -> Option<(u16, Direction)>
     ensures is { result ≡ telling agg keys.now tests.now }
-    ensures tells { IfSome result (λ t. Tells agg keys.now tests.now t.0 t.1) }
+    ensures tells { IfSome result (λ t. IsFromEnd agg keys.now tests.now t.0 t.1) }
 {
     match agg {
         RAgg::Min(column) => told_by(keys, tests, column, Direction::Forward),

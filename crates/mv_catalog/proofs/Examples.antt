@@ -14,7 +14,7 @@ use Rattle.mv_catalog.specs.declared.resolved.RExprKind.TheVariants.{Const, Fiel
 use Rattle.mv_catalog.specs.declared.resolved.RStmt.TheOpen as stmt
 use Rattle.mv_catalog.specs.declared.resolved.RStmt.TheVariants.{Assign, Insert, Update, Delete, rolls-Assign, rolls-Insert, rolls-Update, rolls-Delete}
 use Rattle.mv_catalog.specs.Types.{Kind, int, text, fixed, declared, Vars, HasType, field, two_gives}
-use Rattle.mv_catalog.specs.Statements.{IsWell, Gives, kinds_of}
+use Rattle.mv_catalog.specs.Statements.{IsWell, IsOfKind, kinds_of}
 use Rattle.mv_catalog.proofs.Typed.{typed_by, well_by}
 
 abbrev pub one : RExpr
@@ -58,7 +58,7 @@ pub no_row_of_another_length : (tables : List TableInfo) (t : TableInfo) (vars :
 no_row_of_another_length tables t vars n values is other k =
     let r = well_by tables (stmt.Insert n values) (Insert n values) vars (rolls-Insert n values) k in
     let same : r.0 ≡ t = (let e : Some r.0 ≡ Some t = sym r.1 ∙ is in cc) in
-    let long : length values ≡ length (kinds_of r.0) = AllZip-long (Gives vars) (kinds_of r.0) values r.2 in
+    let long : length values ≡ length (kinds_of r.0) = AllZip-long (IsOfKind vars) (kinds_of r.0) values r.2 in
     other (long ∙ ap (λ u. length (kinds_of u)) same ∙ length-map t.columns _)
 
 -- a column of the key isn't set

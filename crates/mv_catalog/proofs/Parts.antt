@@ -24,7 +24,7 @@ use Rattle.mv_names.specs.Statements as names
 use Rattle.mv_catalog.specs.declared.slot.Slot.{Slot}
 use Rattle.mv_catalog.specs.Building.{slot_named, number_in, number_of, numbers_of, plain, plains, maybe_plain, cond_of, conds_of, sorts_of, agg_of, column_number}
 use Rattle.mv_catalog.specs.Types.{Kind, int, text, Var, declared, Vars, kind_of_column}
-use Rattle.mv_catalog.specs.Statements.{Gives, Takes, IsTest, IsSort, IsOffset, IsTotal}
+use Rattle.mv_catalog.specs.Statements.{IsOfKind, Takes, IsTest, IsSort, IsOffset, IsTotal}
 use Rattle.mv_catalog.proofs.Lists.{nothing_left, nothing_right, not_when, all_mapped, tiny_is}
 use Rattle.mv_catalog.proofs.Scopes.{known, Means, Same, Matches, kinds_in, column_typed, type_known}
 use Rattle.mv_catalog.proofs.Exprs.{expr_claim, in_its_place}
@@ -38,16 +38,16 @@ same_kind text text h = refl
 
 -- an expression in a place of any type, of this type, and one in which the columns stand by themselves
 pub gives_some : (scope : List Entry) (slots : List Slot) (vars : Vars) → Matches scope slots vars → (place : ValueType) (e : Expr) → placed place scope e ≡ []
-    → (t : Kind) × (clash place (known t) ≡ false) × Gives vars t (plain slots e)
+    → (t : Kind) × (clash place (known t) ≡ false) × IsOfKind vars t (plain slots e)
 gives_some scope slots vars m place e h =
     let r = expr_claim e scope slots vars [] m (omega arith) (nothing_left _ _ h) in
     (r.0, in_its_place place (judged e scope (Some [])) r.0 r.1 h, r.2)
 
 pub gives : (scope : List Entry) (slots : List Slot) (vars : Vars) → Matches scope slots vars → (k : Kind) (place : ValueType) (e : Expr) → place ≡ known k → placed place scope e ≡ []
-    → Gives vars k (plain slots e)
+    → IsOfKind vars k (plain slots e)
 gives scope slots vars m k place e is h =
     let r = gives_some scope slots vars m place e h in
-    subst (λ t. Gives vars t (plain slots e)) (same_kind k r.0 (subst (λ p. clash p (known r.0) ≡ false) is r.1)) r.2
+    subst (λ t. IsOfKind vars t (plain slots e)) (same_kind k r.0 (subst (λ p. clash p (known r.0) ≡ false) is r.1)) r.2
 
 -- tests, orders and offsets
 test_of : (scope : List Entry) (slots : List Slot) (vars : Vars) (columns : List ColDef) → Matches scope slots vars → length columns ≤ 32 → (c : Cond)
@@ -144,7 +144,7 @@ total_is columns (Max n) few h = column_typed columns n few h
 
 -- values of INSERT and PRINT
 pub values_are : (scope : List Entry) (slots : List Slot) (vars : Vars) → Matches scope slots vars → (columns : List ColDef) (es : List Expr) → length es ≡ length columns
-    → names.values_faults scope columns es ≡ [] → AllZip (Gives vars) (kinds_in columns) (plains slots es)
+    → names.values_faults scope columns es ≡ [] → AllZip (IsOfKind vars) (kinds_in columns) (plains slots es)
 values_are scope slots vars m [] [] e h = tt
 values_are scope slots vars m [] (x ∷ xs) e h = cc
 values_are scope slots vars m (c ∷ cs) [] e h = cc
@@ -155,9 +155,9 @@ values_are scope slots vars m (c ∷ cs) (x ∷ xs) e h =
     )
 
 pub printed : (scope : List Entry) (slots : List Slot) (vars : Vars) → Matches scope slots vars → (es : List Expr) → names.values_faults scope [] es ≡ []
-    → All (λ e. (t : Kind) × Gives vars t e) (plains slots es)
-printed scope slots vars m [] h = All-nil (λ e. (t : Kind) × Gives vars t e)
+    → All (λ e. (t : Kind) × IsOfKind vars t e) (plains slots es)
+printed scope slots vars m [] h = All-nil (λ e. (t : Kind) × IsOfKind vars t e)
 printed scope slots vars m (x ∷ xs) h =
     let own = placed type'.Unknown scope x in
     let r = gives_some scope slots vars m type'.Unknown x (nothing_left own (names.values_faults scope [] xs) h) in
-    All-cons (λ e. (t : Kind) × Gives vars t e) (plain slots x) (plains slots xs) (r.0, r.2) (printed scope slots vars m xs (nothing_right own (names.values_faults scope [] xs) h))
+    All-cons (λ e. (t : Kind) × IsOfKind vars t e) (plain slots x) (plains slots xs) (r.0, r.2) (printed scope slots vars m xs (nothing_right own (names.values_faults scope [] xs) h))

@@ -38,7 +38,7 @@ use Rattle.mv_catalog.specs.Building as build
 use Rattle.mv_catalog.specs.Building.{Built, built, build_all, loops_in, slot, small, table_place, columns_in, column_number, numbers_of, number_of, conds_of, sorts_of, agg_of, items_of, plain, plains, maybe_plain, names_of, slot_named, fields_in, table_of}
 use Rattle.mv_catalog.specs.Types.{Kind, int, declared, Vars}
 use Rattle.mv_catalog.specs.Statements as well
-use Rattle.mv_catalog.specs.Statements.{all_well, stmt_step, IsWell, Gives, Takes, IsTest, IsSort, IsTotal, with_turn, rows_step, rows_in, rows_of, CountsFrom}
+use Rattle.mv_catalog.specs.Statements.{all_well, stmt_step, IsWell, IsOfKind, Takes, IsTest, IsSort, IsTotal, with_turn, rows_step, rows_in, rows_of, CountsFrom}
 use Rattle.mv_catalog.proofs.Lists.{nothing_left, nothing_right, not_when, small_is, map_map}
 use Rattle.mv_catalog.proofs.Scopes.{Matches}
 use Rattle.mv_catalog.proofs.Typed as typed
@@ -112,7 +112,7 @@ module _ (infos : List TableInfo) (scope : List Entry) (slots : List Slot) (vars
       let b = names.values_faults scope t.columns values in (
         table_of t,
         here.0,
-        subst (λ ks. AllZip (Gives vars) ks (plains slots values)) (same_kinds t)
+        subst (λ ks. AllZip (IsOfKind vars) ks (plains slots values)) (same_kinds t)
             (values_are scope slots vars m t.columns values (one_length values t.columns (wrong (names.values_token values table.token)) (nothing_left a b h)) (nothing_right a b h)),
       )
 

@@ -26,8 +26,8 @@ abbrev pub OfTable : List TableInfo → ℕ → (TableInfo → Type 0) → Type 
 OfTable tables n P = (t : TableInfo) × (slice_get tables n ≡ Some t) × P t
 
 -- the expression has the type and contains no bare column
-abbrev pub Gives : Vars → Kind → RExpr → Type 0
-Gives vars t e = HasType vars [] e t
+abbrev pub IsOfKind : Vars → Kind → RExpr → Type 0
+IsOfKind vars t e = HasType vars [] e t
 
 -- a declared variable has the type of the column
 abbrev pub Takes : Vars → List Kind → ℕ → ℕ → Type 0
@@ -35,7 +35,7 @@ Takes vars columns c x = (t : Kind) × (slice_get columns c ≡ Some t) × (vars
 
 -- a condition of WHERE compares a column with a value of its type
 abbrev pub IsTest : Vars → List Kind → RCond → Type 0
-IsTest vars columns c = (t : Kind) × (slice_get columns c.column ≡ Some t) × Gives vars t c.right
+IsTest vars columns c = (t : Kind) × (slice_get columns c.column ≡ Some t) × IsOfKind vars t c.right
 
 -- ORDER BY names columns
 abbrev pub IsSort : List Kind → RSort → Type 0
@@ -43,7 +43,7 @@ IsSort columns s = s.column < length columns
 
 abbrev pub IsOffset : Vars → Option RExpr → Type 0
 IsOffset vars None = ⊤
-IsOffset vars (Some e) = Gives vars int e
+IsOffset vars (Some e) = IsOfKind vars int e
 
 -- the type of an aggregate; only INT columns have a sum
 abbrev pub IsTotal : List Kind → RAgg → Kind → Type 0
@@ -73,7 +73,7 @@ all_well well [] vars = ⊤
 all_well well (s ∷ ss) vars = well s vars × all_well well ss vars
 
 abbrev pub assign : ℕ → RExpr → Well
-assign to right vars = (t : Kind) × (vars to ≡ Some (declared t)) × Gives vars t right
+assign to right vars = (t : Kind) × (vars to ≡ Some (declared t)) × IsOfKind vars t right
 
 abbrev pub select : List TableInfo → List ℕ → List ℕ → ℕ → List RCond → List RSort → Option RExpr → Well
 select tables columns to table conds sorts offset vars =
@@ -95,11 +95,11 @@ abbrev pub for_rows : ℕ → ℕ → Well → Well
 for_rows row over body vars = (ts : List Kind) × (vars over ≡ Some (rows ts)) × (vars row ≡ None) × body (with_turn vars row ts)
 
 abbrev pub branch : RExpr → Well → Well → Well
-branch test ys ns vars = Gives vars int test × ys vars × ns vars
+branch test ys ns vars = IsOfKind vars int test × ys vars × ns vars
 
 -- a value for each column
 abbrev pub insert : List TableInfo → ℕ → List RExpr → Well
-insert tables table values vars = OfTable tables table (λ t. AllZip (Gives vars) (kinds_of t) values)
+insert tables table values vars = OfTable tables table (λ t. AllZip (IsOfKind vars) (kinds_of t) values)
 
 -- each item sets a different column
 abbrev pub update : List TableInfo → ℕ → List RSetItem → List RCond → Well
@@ -110,7 +110,7 @@ delete tables table conds vars = OfTable tables table (λ t. All (IsTest vars (k
 
 -- the values may have any types
 abbrev pub print : List RExpr → Well
-print values vars = All (λ e. (t : Kind) × Gives vars t e) values
+print values vars = All (λ e. (t : Kind) × IsOfKind vars t e) values
 
 -- the rules, given which of the inner statements are well formed
 abbrev pub stmt_step : List TableInfo → (X : Type 0) → (X → RStmt) → (X → Well) → RStmt-F X → Well

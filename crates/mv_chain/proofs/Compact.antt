@@ -9,7 +9,7 @@ use Rattle.mv_values.specs.declared.patch.Assign.{Assign}
 use Rattle.mv_values.specs.Patching.{with_columns, is_set}
 use Rattle.mv_values.proofs.Setting.{overwritten}
 use Rattle.mv_chain.specs.Versions.{compact}
-use Rattle.mv_chain.specs.Keeping.{HasKept, IsCompacted}
+use Rattle.mv_chain.specs.Keeping.{HasKeptColumn, IsCompacted}
 
 -- Meaning
 
@@ -28,7 +28,7 @@ take_before (x ∷ xs) zero i y h = refl
 take_before (x ∷ xs) (suc k) zero y h = absurd (omega (arith, h))
 take_before (x ∷ xs) (suc k) (suc i) y h = ap (λ l. x ∷ l) (take_before xs k i y (omega (arith, h)))
 
-pub has_kept : (to at : ℕ) (d item hole : Assign) (old mid new : List Assign) → to ≤ at → at < length old → slice_get old at ≡ Some item → mid ≡ slice_set old at hole → new ≡ slice_set mid to item → HasKept to at d old new
+pub has_kept : (to at : ℕ) (d item hole : Assign) (old mid new : List Assign) → to ≤ at → at < length old → slice_get old at ≡ Some item → mid ≡ slice_set old at hole → new ≡ slice_set mid to item → HasKeptColumn to at d old new
 has_kept to at d item hole old mid new order within is first second = record {
   many = ap length second ∙ (length-set mid to item ∙ (ap length first ∙ length-set old at hole));
   taken =
@@ -66,7 +66,7 @@ one_dropped old kept at now d h lt set =
       rest = same.1;
     }
 
-pub one_kept : (old : List Assign) (kept at : ℕ) (now new : List Assign) (d : Assign) → IsCompacted old kept at now → at < length old → is_set (get_or now at d).column (drop (at + 1) now) ≡ false → HasKept kept at d now new → IsCompacted old (kept + 1) (at + 1) new
+pub one_kept : (old : List Assign) (kept at : ℕ) (now new : List Assign) (d : Assign) → IsCompacted old kept at now → at < length old → is_set (get_or now at d).column (drop (at + 1) now) ≡ false → HasKeptColumn kept at d now new → IsCompacted old (kept + 1) (at + 1) new
 one_kept old kept at now new d h lt set move =
     let same = at_place old kept at now d h lt in
     let later : is_set (get_or old at d).column (drop (at + 1) old) ≡ false = sym (ap (λ (a : Assign). is_set a.column (drop (at + 1) now)) same.0 ∙ ap (is_set (get_or old at d).column) same.1) ∙ set in
@@ -83,7 +83,7 @@ one_kept old kept at now new d h lt set move =
 pub all_compacted : (old : List Assign) (kept at : ℕ) (now new : List Assign) → IsCompacted old kept at now → length old ≤ at → new ≡ take kept now → new ≡ compact old
 all_compacted old kept at now new h all is = is ∙ (sym (append-nil (take kept now)) ∙ (ap (λ l. take kept now ++ compact l) (sym (drop_all at old all)) ∙ h.are))
 
-pub kept_one : (all : List Assign) (kept at : ℕ) (now new : List Assign) (d : Assign) → IsCompacted all kept at now → at < length now → is_set (get_or now at d).column (drop (at + 1) now) ≡ false → HasKept kept at d now new → IsCompacted all (kept + 1) (at + 1) new
+pub kept_one : (all : List Assign) (kept at : ℕ) (now new : List Assign) (d : Assign) → IsCompacted all kept at now → at < length now → is_set (get_or now at d).column (drop (at + 1) now) ≡ false → HasKeptColumn kept at d now new → IsCompacted all (kept + 1) (at + 1) new
 kept_one all kept at now new d h lt set move = one_kept all kept at now new d h (omega (arith, lt, h.many)) set move
 
 pub dropped_one : (all : List Assign) (kept at : ℕ) (now : List Assign) (d : Assign) → IsCompacted all kept at now → at < length now → is_set (get_or now at d).column (drop (at + 1) now) ≡ true → IsCompacted all kept (at + 1) now

@@ -4,7 +4,7 @@ use Rattle.mv_values.specs.declared.patch.Assign.{Assign}
 use Rattle.mv_chain.specs.Versions.{compact}
 
 -- the item at a place stands after the first ones, and the items after the place are as they were
-pub record HasKept (to at : ℕ) (d : Assign) (old new : List Assign) : Type 0 where
+pub record HasKeptColumn (to at : ℕ) (d : Assign) (old new : List Assign) : Type 0 where
   pub many : length new ≡ length old
   pub taken : take (to + 1) new ≡ take to old ++ slice_index_or old at d ∷ []
   pub rest : drop (at + 1) new ≡ drop (at + 1) old

@@ -6,7 +6,7 @@ ghost use Rattle.mv_values.specs.declared.value.Value.{Value};
 ghost use Rattle.mv_values.specs.Patching.{with_columns, patched, is_set};
 ghost use Rattle.mv_chain.specs.Undoing.{set_back, undone};
 ghost use Rattle.mv_chain.specs.Versions.{compact};
-ghost use Rattle.mv_chain.specs.Keeping.{HasKept, IsCompacted};
+ghost use Rattle.mv_chain.specs.Keeping.{HasKeptColumn, IsCompacted};
 
 use mv_values::list::List as Listed;
 use mv_values::memory::NoMemory;
@@ -136,7 +136,7 @@ fn is_set_later(items: &[Assign], at: usize) -> bool
 fn keep(items: &mut Listed<Assign>, to: usize, at: usize)
     requires order { to ≤ at }
     requires within { at < length items.old }
-    ensures { (d : Assign) → HasKept to at d items.old items.new }
+    ensures { (d : Assign) → HasKeptColumn to at d items.old items.new }
 {
     let item = items.replace(at, placeholder());
     items.set(to, item);

@@ -11,7 +11,7 @@ use Rattle.mv_record.specs.declared.record.Record.{Record}
 use Rattle.mv_record.specs.Writes.{AreRising}
 use Rattle.mv_graph.specs.declared.graph.Graph.{Graph}
 use Rattle.mv_graph.specs.Nodes.{meaning_of}
-use Rattle.mv_exec.specs.Running.{IsTaskOf, Leaves}
+use Rattle.mv_exec.specs.Running.{IsTaskOf, HasLeft}
 use Rattle.mv_journal.specs.declared.event.Event.{Event}
 use Rattle.mv_journal.specs.declared.event.Event.TheVariants.{S, A, C, X}
 use Rattle.mv_journal.specs.declared.outcome.Mark.{Mark}
@@ -35,7 +35,7 @@ use Rattle.mv_view.specs.declared.view.Refused.TheVariants as refused
 use Rattle.mv_core.specs.declared.book.Check.TheVariants as check
 use Rattle.mv_core.specs.Drives.{HasMade, HasTaken, TellsRound, of_view}
 use Rattle.mv_core.specs.declared.drive.Refusal.TheVariants as drive
-use Rattle.mv_core.specs.Cores.{IsAllowedIfFresh, IsHitAt, IsStaleAt, IsLiveTask, IsRunning, HasTurns, HasStep, MayStep, HasTried, HasCommitted, HasRefused, HasRepaired, IsStoreOf, IsCore}
+use Rattle.mv_core.specs.Cores.{IsAllowedIfFresh, IsHitAt, IsStaleAt, IsLiveTask, IsRunningIn, HasTurns, HasStep, MayStep, HasTried, HasCommitted, HasRefused, HasRepaired, IsStoreOf, IsCore}
 use Rattle.mv_core.proofs.Numbers.{repair_stays}
 use Rattle.mv_core.proofs.Journals.{changed_at, set_there}
 use Rattle.mv_core.proofs.Keeping.{restart_after}
@@ -76,7 +76,7 @@ on_new P old new same p = subst (λ s. P s new.course) (sym same.script) (subst 
 pub on_old : (P : Script → Course → Type 0) (old new : Booked) → IsSame old new → P new.script new.course → P old.script old.course
 on_old P old new same p = subst (λ s. P s old.course) same.script (subst (P new.script) same.course p)
 
-pub running_same : (old new : Booked) (store : Versioned) (c : ℕ) (t : Running) → IsSame old new → IsRunning old store c t → IsRunning new store c t
+pub running_same : (old new : Booked) (store : Versioned) (c : ℕ) (t : Running) → IsSame old new → IsRunningIn old store c t → IsRunningIn new store c t
 running_same old new store c t same r = record {
   stored = stored_same old new store r.stored same;
   live = on_new (λ s x. IsLiveCall x c) old new same r.live;
@@ -191,7 +191,7 @@ fresh_now b store c start low k at low_at fresh l live = le-ltb l.start b.course
 pub step_told : (b new : Booked) (store : Versioned) (c : ℕ) (l : Live) (t : Running) (steps : ℕ) (more : Bool) → IsStoreOf b store → c < length b.script.calls → IsLive b.course c l → Made (S c) b new
     → IsLiveTask b.script b.course.order c (record l { steps = l.steps + 1 }) t → used l ≡ 0 → ((m : Live) → IsLive new.course c m → steps ≡ m.steps)
     → ((n : ℕ) → t.count ≡ Some n → more ≡ nat_lt steps n)
-    → (t.count ≡ None → (g : Graph) (call : Call) (db : Tables) (rest : List Record) → IsTaskOf g call t.task → AreRising db → Leaves g call db t.task rest → more ≡ nat_lt steps (length (meaning_of g call db).records))
+    → (t.count ≡ None → (g : Graph) (call : Call) (db : Tables) (rest : List Record) → IsTaskOf g call t.task → AreRising db → HasLeft g call db t.task rest → more ≡ nat_lt steps (length (meaning_of g call db).records))
     → (m : Live) → IsLive new.course c m → has_step (work_in new) new.course c m ≡ more
 step_told b new store c l t steps more k lt live made task first counts known told m at =
     let now : Live = record l { steps = l.steps + 1 } in

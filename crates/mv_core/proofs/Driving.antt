@@ -33,14 +33,14 @@ made_none es old mid new a b = record {
 }
 
 -- what is wrong with all of them is wrong with the rest
-pub record Stands (es : List Event) (n : ℕ) (old mid : Booked) : Type 0 where
+pub record IsDriven (es : List Event) (n : ℕ) (old mid : Booked) : Type 0 where
   pub made : HasMade (take n es) old mid
   pub same : wrong_from (work_of old.script) 1 old.course es ≡ wrong_from (work_of old.script) (n + 1) mid.course (drop n es)
 
-pub stands_first : (es : List Event) (old : Booked) → Stands es 0 old old
+pub stands_first : (es : List Event) (old : Booked) → IsDriven es 0 old old
 stands_first es old = record { made = none_made old; same = refl }
 
-pub stands_more : (es : List Event) (n : ℕ) (e : Event) (old mid new : Booked) → n < length es → e ≡ get_or es n e → Stands es n old mid → Made e mid new → Stands es (n + 1) old new
+pub stands_more : (es : List Event) (n : ℕ) (e : Event) (old mid new : Booked) → n < length es → e ≡ get_or es n e → IsDriven es n old mid → Made e mid new → IsDriven es (n + 1) old new
 stands_more es n e old mid new lt is s m = record {
   made = subst (λ (xs : List Event). HasMade xs old new) (sym (take_more es n e lt ∙ ap (λ x. take n es ++ x ∷ []) (sym is))) (made_more (take n es) e old mid new s.made m);
   same = s.same ∙ (ap (wrong_from (work_of old.script) (n + 1) mid.course) (drop_more es n e lt ∙ ap (λ x. x ∷ drop (n + 1) es) (sym is))
@@ -48,7 +48,7 @@ stands_more es n e old mid new lt is s m = record {
       ∙ ap (λ c. wrong_from (work_of old.script) (n + 1 + 1) c (drop (n + 1) es)) (sym (m.course ∙ ap (λ x. after (work_of x) mid.course e) s.made.script))));
 }
 
-pub stops_at : (es : List Event) (n : ℕ) (e : Event) (old mid new : Booked) (r : Refusal) → n < length es → e ≡ get_or es n e → Stands es n old mid → HasTaken e mid new (Err r)
+pub stops_at : (es : List Event) (n : ℕ) (e : Event) (old mid new : Booked) (r : Refusal) → n < length es → e ≡ get_or es n e → IsDriven es n old mid → HasTaken e mid new (Err r)
     → Stops es old new (fault_at (n + 1) r)
 stops_at es n e old mid new (Refused f) lt is s t = (
   s.same ∙ (ap (wrong_from (work_of old.script) (n + 1) mid.course) (drop_more es n e lt ∙ ap (λ x. x ∷ drop (n + 1) es) (sym is))
@@ -59,13 +59,13 @@ stops_at es n e old mid new (Refused f) lt is s t = (
   less n = omega arith
 stops_at es n e old mid new NoMemory lt is s t = (take n es, drop n es, sym (take-append-drop n es), made_none (take n es) old mid new s.made t)
 
-pub ends_well : (es : List Event) (n : ℕ) (old mid : Booked) → length es ≤ n → Stands es n old mid → open_call (work_of mid.script) mid.course ≡ None → Driven es old mid (Ok tt)
+pub ends_well : (es : List Event) (n : ℕ) (old mid : Booked) → length es ≤ n → IsDriven es n old mid → open_call (work_of mid.script) mid.course ≡ None → Driven es old mid (Ok tt)
 ends_well es n old mid le s o = (
   s.same ∙ (ap (wrong_from (work_of old.script) (n + 1) mid.course) (drop_all n es le) ∙ ap (option_map wrong.Open) (subst (λ x. open_call (work_of x) mid.course ≡ None) s.made.script o)),
   subst (λ (xs : List Event). HasMade xs old mid) (take_all n es le) s.made,
 )
 
-pub ends_open : (es : List Event) (n c : ℕ) (old mid : Booked) → length es ≤ n → Stands es n old mid → open_call (work_of mid.script) mid.course ≡ Some c → Stops es old mid (fault.Open c)
+pub ends_open : (es : List Event) (n c : ℕ) (old mid : Booked) → length es ≤ n → IsDriven es n old mid → open_call (work_of mid.script) mid.course ≡ Some c → Stops es old mid (fault.Open c)
 ends_open es n c old mid le s o = (
   s.same ∙ (ap (wrong_from (work_of old.script) (n + 1) mid.course) (drop_all n es le) ∙ ap (λ c. option_map wrong.Open c) (subst (λ x. open_call (work_of x) mid.course ≡ Some c) s.made.script o)),
   subst (λ (xs : List Event). HasMade xs old mid) (take_all n es le) s.made,

@@ -22,7 +22,7 @@ use Rattle.mv_core.specs.declared.script.Script.{Script}
 use Rattle.mv_core.specs.declared.progress.Progress.{Progress}
 use Rattle.mv_core.specs.Scripts.{work_of}
 use Rattle.mv_core.specs.Calls.{turns_in, live_of, TellsBy, IsReply, rounds_by, line_of, replies_in}
-use Rattle.mv_core.specs.Books.{Booked, IsKept, work_in, last_tables}
+use Rattle.mv_core.specs.Books.{Booked, IsBookKept, work_in, last_tables}
 use Rattle.mv_core.proofs.Journals.{Facts, all_done}
 use Rattle.mv_core.proofs.Keeping.{the_course, facts, map_get, IsInside}
 
@@ -35,7 +35,7 @@ record Done (s : Script) (order : List ℕ) (ps : List Progress) (c : ℕ) : Typ
   rounds : p.rounds.items ≡ rounds_of (work_of s) order c (turns_in p.rounds.items)
   told : IsReply (work_of s) order c reply
 
-done_at : (s : Script) (order : List ℕ) (low : ℕ) (ps : List Progress) (journal : List Event) (c : ℕ) → IsKept s (the_course order low (map live_of ps)) ps journal
+done_at : (s : Script) (order : List ℕ) (low : ℕ) (ps : List Progress) (journal : List Event) (c : ℕ) → IsBookKept s (the_course order low (map live_of ps)) ps journal
     → (l : Live) → slice_get (map live_of ps) c ≡ Some l → l.done ≡ true → Done s order ps c
 done_at s order low ps journal c k l at done = by h.0.reply refl (ap (λ (x : Live). x.done) h.2 ∙ done) (k.tells c h.0 h.1) where
   h : (p : Progress) × (slice_get ps c ≡ Some p) × (live_of p ≡ l)
@@ -47,7 +47,7 @@ done_at s order low ps journal c k l at done = by h.0.reply refl (ap (λ (x : Li
       let both = subst (TellsBy (work_of s) order c h.0.rounds.items) is tells in
       record { p = h.0; at = h.1; reply = reply; is = is; rounds = both.0; told = both.1 }
 
-all_there : (s : Script) (order : List ℕ) (low : ℕ) (ps : List Progress) (journal : List Event) → IsKept s (the_course order low (map live_of ps)) ps journal
+all_there : (s : Script) (order : List ℕ) (low : ℕ) (ps : List Progress) (journal : List Event) → IsBookKept s (the_course order low (map live_of ps)) ps journal
     → open_call (work_of s) (the_course order low (map live_of ps)) ≡ None → length ps ≡ length s.calls
 all_there s order low ps journal k shut = by f.count where
   f : Facts (work_of s) (length journal) (the_course order low (map live_of ps))

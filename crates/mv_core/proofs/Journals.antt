@@ -14,7 +14,7 @@ use Rattle.mv_lawful.specs.declared.fault.Fault.{Fault}
 use Rattle.mv_lawful.specs.declared.fault.Fault.TheVariants.{Order}
 use Rattle.mv_lawful.specs.Work.{Work}
 use Rattle.mv_lawful.specs.Lawful.{Turn, Live, Course, beginning, change_live, with_call, begin, again, finish, unless, of_live, refusal, after, reach, course_of, first_open, open_call, AllAllowed}
-use Rattle.mv_core.specs.Calls.{Within, IsLive}
+use Rattle.mv_core.specs.Calls.{WithinRounds, IsLive}
 use Rattle.mv_core.proofs.Numbers.{within_more, within_end}
 
 -- Lists
@@ -124,7 +124,7 @@ pub record CallFacts (commits events : ℕ) (l : Live) : Type 0 where
   pub first : Turn
   pub rest : List Turn
   pub turns : l.turns ≡ first ∷ rest
-  pub within : Within commits l.turns
+  pub within : WithinRounds commits l.turns
   pub start : l.start ≤ commits
   pub steps : l.steps ≤ events
 

@@ -22,8 +22,8 @@ use Rattle.mv_core.specs.declared.book.Book.TheInside.{Inside}
 use Rattle.mv_core.specs.contracts.book.Book.{the_view}
 use Rattle.mv_core.specs.Rooms.{Filled}
 use Rattle.mv_core.specs.Scripts.{work_of}
-use Rattle.mv_core.specs.Calls.{Within, turn_of, turns_in, live_of, IsLive, IsLiveCall, numbered, last_number, closed, counted, uncounted, due_number, committed, with_own, AreRounds, IsReply, TellsBy, TellsCall, IsFresh}
-use Rattle.mv_core.specs.Books.{Booked, IsKept, IsSame, work_in, kept_rounds, Made, HasBegun, HasRoom, HasRounds, IsSettled, IsFirstNumber, IsOwnBy, round_event, commit_event}
+use Rattle.mv_core.specs.Calls.{WithinRounds, turn_of, turns_in, live_of, IsLive, IsLiveCall, numbered, last_number, closed, counted, uncounted, due_number, committed, with_own, AreRounds, IsReply, TellsBy, TellsCall, IsFresh}
+use Rattle.mv_core.specs.Books.{Booked, IsBookKept, IsSame, work_in, kept_rounds, Made, HasBegun, HasRoom, HasRounds, IsSettled, IsFirstNumber, IsOwnBy, round_event, commit_event}
 use Rattle.mv_core.proofs.Numbers.{turns_numbered, turns_closed, last_numbered, table_stays, rounds_stay, last_of_end, closes, settled, settles, rounds_end, all_known}
 use Rattle.mv_core.specs.Lives.{live_numbers, without}
 use Rattle.mv_core.proofs.Lives.{live_kept, live_gone, live_begun, live_below}
@@ -32,7 +32,7 @@ use Rattle.mv_core.proofs.Journals.{get_last, get_set, set_there, facts_of, Fact
 abbrev pub the_course : List ℕ → ℕ → List Live → Course
 the_course order low ls = record { order = order; calls = ls; low = low }
 
-pub facts : (s : Script) (course : Course) (ps : List Progress) (journal : List Event) → IsKept s course ps journal → Facts (work_of s) (length journal) course
+pub facts : (s : Script) (course : Course) (ps : List Progress) (journal : List Event) → IsBookKept s course ps journal → Facts (work_of s) (length journal) course
 facts s course ps journal k = subst (Facts (work_of s) (length journal)) (sym k.reaches) (facts_of (work_of s) journal k.allowed)
 
 -- A call
@@ -41,7 +41,7 @@ pub live_here : (ps : List Progress) (c : ℕ) (p : Progress) → slice_get ps c
 live_here ps c p at = slice_get-map live_of ps c ∙ ap (option_map live_of) at
 
 -- what is told of a call stays when another one commits
-grows_by : (w : Work) (order : List ℕ) (d c : ℕ) (kept : List Round) (o : Option Reply) → Within (length order) (turns_in kept) → TellsBy w order c kept o → TellsBy w (order ++ d ∷ []) c kept o
+grows_by : (w : Work) (order : List ℕ) (d c : ℕ) (kept : List Round) (o : Option Reply) → WithinRounds (length order) (turns_in kept) → TellsBy w order c kept o → TellsBy w (order ++ d ∷ []) c kept o
 grows_by w order d c kept None h are = subst (AreRounds kept) (sym (rounds_stay w order d c (turns_in kept) h)) are
 grows_by w order d c kept (Some reply) h t = (t.0 ∙ sym (rounds_stay w order d c (turns_in kept) h), reply_grows t.1) where
   reply_grows : IsReply w order c reply → IsReply w (order ++ d ∷ []) c reply
@@ -53,9 +53,9 @@ grows_by w order d c kept (Some reply) h t = (t.0 ∙ sym (rounds_stay w order d
 -- Events
 
 pub kept_event : (s : Script) (course new : Course) (ps qs : List Progress) (journal longer : List Event) (e : Event)
-    → IsKept s course ps journal → refusal (work_of s) course e ≡ None → new ≡ after (work_of s) course e → longer ≡ journal ++ e ∷ []
+    → IsBookKept s course ps journal → refusal (work_of s) course e ≡ None → new ≡ after (work_of s) course e → longer ≡ journal ++ e ∷ []
     → ((c : ℕ) (p : Progress) → slice_get qs c ≡ Some p → TellsCall (work_of s) new.order c p)
-    → IsKept s new qs longer
+    → IsBookKept s new qs longer
 kept_event s course new ps qs journal longer e k free is adds tells = record {
   few = k.few;
   allowed = subst (λ (es : List Event). AllAllowed (work_of s) beginning es) (sym adds) (allowed_more (work_of s) beginning journal e k.allowed (subst (λ (x : Course). refusal (work_of s) x e ≡ None) k.reaches free));
@@ -76,10 +76,10 @@ map_changed f ps c p q at is =
 
 -- an event that changes one call and is no commit
 pub kept_one : (s : Script) (order : List ℕ) (low c : ℕ) (ps : List Progress) (journal longer : List Event) (e : Event) (f : Live → Live) (p q : Progress)
-    → IsKept s (the_course order low (map live_of ps)) ps journal → refusal (work_of s) (the_course order low (map live_of ps)) e ≡ None
+    → IsBookKept s (the_course order low (map live_of ps)) ps journal → refusal (work_of s) (the_course order low (map live_of ps)) e ≡ None
     → after (work_of s) (the_course order low (map live_of ps)) e ≡ with_call (the_course order low (map live_of ps)) c f
     → longer ≡ journal ++ e ∷ [] → slice_get ps c ≡ Some p → live_of q ≡ f (live_of p) → TellsCall (work_of s) order c q
-    → IsKept s (the_course order low (map live_of (slice_set ps c q))) (slice_set ps c q) longer
+    → IsBookKept s (the_course order low (map live_of (slice_set ps c q))) (slice_set ps c q) longer
 kept_one s order low c ps journal longer e f p q k free is adds at new tells =
     kept_event s _ _ ps (slice_set ps c q) journal longer e k free (ap (the_course order low) (map_changed f ps c p q at new) ∙ sym is) adds
     (λ d x there. by d x (get_set ps c d q x there)) where
@@ -89,8 +89,8 @@ kept_one s order low c ps journal longer e f p q k free is adds at new tells =
 
 -- the next call begins
 pub kept_begun : (s : Script) (order : List ℕ) (low n : ℕ) (ps : List Progress) (journal longer : List Event) (q : Progress)
-    → IsKept s (the_course order low (map live_of ps)) ps journal → length ps < length s.calls → n ≡ length ps → IsFresh (length order) q → longer ≡ journal ++ B n ∷ []
-    → (refusal (work_of s) (the_course order low (map live_of ps)) (B n) ≡ None) × IsKept s (the_course order low (map live_of (ps ++ q ∷ []))) (ps ++ q ∷ []) longer
+    → IsBookKept s (the_course order low (map live_of ps)) ps journal → length ps < length s.calls → n ≡ length ps → IsFresh (length order) q → longer ≡ journal ++ B n ∷ []
+    → (refusal (work_of s) (the_course order low (map live_of ps)) (B n) ≡ None) × IsBookKept s (the_course order low (map live_of (ps ++ q ∷ []))) (ps ++ q ∷ []) longer
 kept_begun s order low n ps journal longer q k lt is fresh adds = (free, kept_event s _ _ ps (ps ++ q ∷ []) journal longer (B n) k free (ap (the_course order low) calls) adds (λ d x at. by d x (get_last ps q d x at))) where
   long : length (map live_of ps) ≡ length ps
   long = length-map ps live_of
@@ -118,11 +118,11 @@ same_calls (x ∷ ps) (suc c) p q at new = ap (λ ls. live_of x ∷ ls) (same_ca
 
 -- no event, and nothing that is told is changed
 pub kept_same : (s : Script) (order orders : List ℕ) (low c : ℕ) (ps : List Progress) (journal same : List Event) (p q : Progress)
-    → IsKept s (the_course order low (map live_of ps)) ps journal → orders ≡ order → same ≡ journal → slice_get ps c ≡ Some p → live_of q ≡ live_of p → TellsCall (work_of s) order c q
-    → IsKept s (the_course orders low (map live_of (slice_set ps c q))) (slice_set ps c q) same
+    → IsBookKept s (the_course order low (map live_of ps)) ps journal → orders ≡ order → same ≡ journal → slice_get ps c ≡ Some p → live_of q ≡ live_of p → TellsCall (work_of s) order c q
+    → IsBookKept s (the_course orders low (map live_of (slice_set ps c q))) (slice_set ps c q) same
 kept_same s order orders low c ps journal same p q k o j at new tells =
-    subst (λ (x : List ℕ). IsKept s (the_course x low (map live_of (slice_set ps c q))) (slice_set ps c q) same) (sym o)
-    (subst (λ (x : List Event). IsKept s (the_course order low (map live_of (slice_set ps c q))) (slice_set ps c q) x) (sym j) (record {
+    subst (λ (x : List ℕ). IsBookKept s (the_course x low (map live_of (slice_set ps c q))) (slice_set ps c q) same) (sym o)
+    (subst (λ (x : List Event). IsBookKept s (the_course order low (map live_of (slice_set ps c q))) (slice_set ps c q) x) (sym j) (record {
       few = k.few;
       allowed = k.allowed;
       reaches = ap (the_course order low) (same_calls ps c p q at new) ∙ k.reaches;
@@ -134,14 +134,14 @@ kept_same s order orders low c ps journal same p q k o j at new tells =
 
 -- a call commits
 pub kept_commit : (s : Script) (order orders : List ℕ) (low c : ℕ) (ps : List Progress) (journal longer : List Event) (e : Event) (f : Live → Live) (p q : Progress) (reply : Reply)
-    → IsKept s (the_course order low (map live_of ps)) ps journal → refusal (work_of s) (the_course order low (map live_of ps)) e ≡ None
+    → IsBookKept s (the_course order low (map live_of ps)) ps journal → refusal (work_of s) (the_course order low (map live_of ps)) e ≡ None
     → after (work_of s) (the_course order low (map live_of ps)) e ≡ with_call (the_course (order ++ c ∷ []) low (map live_of ps)) c f
     → orders ≡ order ++ c ∷ [] → longer ≡ journal ++ e ∷ [] → slice_get ps c ≡ Some p → p.reply ≡ None → live_of q ≡ f (live_of p)
     → q.reply ≡ Some reply → q.rounds.items ≡ rounds_of (work_of s) (order ++ c ∷ []) c (turns_in q.rounds.items)
     → reply ≡ ((work_of s).run c (table_at (work_of s) order (length order))).reply
-    → IsKept s (the_course orders low (map live_of (slice_set ps c q))) (slice_set ps c q) longer
+    → IsBookKept s (the_course orders low (map live_of (slice_set ps c q))) (slice_set ps c q) longer
 kept_commit s order orders low c ps journal longer e f p q reply k free is more adds at live new answered rounds told =
-    subst (λ (x : List ℕ). IsKept s (the_course x low (map live_of (slice_set ps c q))) (slice_set ps c q) longer) (sym more)
+    subst (λ (x : List ℕ). IsBookKept s (the_course x low (map live_of (slice_set ps c q))) (slice_set ps c q) longer) (sym more)
     (kept_event s _ _ ps (slice_set ps c q) journal longer e k free (ap (the_course (order ++ c ∷ []) low) (map_changed f ps c p q at new) ∙ sym is) adds
     (λ d x there. by d x (get_set ps c d q x there))) where
       known : Facts (work_of s) (length journal) (the_course order low (map live_of ps))
@@ -171,7 +171,7 @@ kept_commit s order orders low c ps journal longer e f p q reply k free is more 
 -- Inside
 
 abbrev pub IsInside : Inside → Type 0
-IsInside i = IsKept i.script (the_course i.order.items i.low (map live_of i.calls.items)) i.calls.items i.journal.items
+IsInside i = IsBookKept i.script (the_course i.order.items i.low (map live_of i.calls.items)) i.calls.items i.journal.items
 
 pub few_inside : (i : Inside) → IsInside i → length i.order.items < 2 ^ 32
 few_inside i k =
@@ -180,7 +180,7 @@ few_inside i k =
     omega (arith, le, k.few, f.count, f.done)
 
 -- a live call, as it is kept
-pub record Here (ps : List Progress) (c : ℕ) (l : Live) (p : Progress) : Type 0 where
+pub record IsProgressAt (ps : List Progress) (c : ℕ) (l : Live) (p : Progress) : Type 0 where
   pub at : slice_get ps c ≡ Some p
   pub is : live_of p ≡ l
   pub going : p.reply ≡ None
@@ -194,13 +194,13 @@ map_get f [] c y at = absurd (search (rules, at))
 map_get f (x ∷ xs) zero y at = (x, refl, search (rules, at))
 map_get f (x ∷ xs) (suc c) y at = map_get f xs c y at
 
-pub at_call : (i : Inside) (old : Booked) (c : ℕ) (l : Live) → the_view i ≡ old → IsLive old.course c l → (p : Progress) × Here i.calls.items c l p
+pub at_call : (i : Inside) (old : Booked) (c : ℕ) (l : Live) → the_view i ≡ old → IsLive old.course c l → (p : Progress) × IsProgressAt i.calls.items c l p
 at_call i old c l is live =
     let here : IsLive (the_view i).course c l = subst (λ (b : Booked). IsLive b.course c l) (sym is) live in
     let h = map_get live_of i.calls.items c l here.at in
     (h.0, record { at = h.1; is = h.2; going = none_of h.0.reply (ap (λ (x : Live). x.done) h.2 ∙ here.live) })
 
-pub here_at : (i : Inside) (old : Booked) (c : ℕ) (x : Progress) → the_view i ≡ old → IsLiveCall old.course c → x ≡ get_or i.calls.items c x → (l : Live) × IsLive old.course c l × Here i.calls.items c l x
+pub here_at : (i : Inside) (old : Booked) (c : ℕ) (x : Progress) → the_view i ≡ old → IsLiveCall old.course c → x ≡ get_or i.calls.items c x → (l : Live) × IsLive old.course c l × IsProgressAt i.calls.items c l x
 here_at i old c x is live read =
     let h = at_call i old c live.0 is live.1 in
     let lt : c < length i.calls.items = slice_get_within i.calls.items c h.0 h.1.at in
@@ -344,12 +344,12 @@ restarted n k m p q start steps rounds reply = live_made (live_of q) (again n m 
   turns = ap turns_in rounds ∙ (map-append turn_of (closed m p.rounds.items) (counted n m k ∷ []) ∙ ap (λ ts. ts ++ record { start = n; mark = m } ∷ []) (turns_closed m p.rounds.items))
 
 pub kept_restart : (s : Script) (order : List ℕ) (low c n : ℕ) (ps : List Progress) (journal longer : List Event) (m : Mark) (p q : Progress)
-    → IsKept s (the_course order low (map live_of ps)) ps journal → m ≢ Exclusive → refusal (work_of s) (the_course order low (map live_of ps)) (round_event m c) ≡ None
+    → IsBookKept s (the_course order low (map live_of ps)) ps journal → m ≢ Exclusive → refusal (work_of s) (the_course order low (map live_of ps)) (round_event m c) ≡ None
     → (m ≡ Plain → IsSome (last_number p.rounds.items)) → due_number (work_of s) (after (work_of s) (the_course order low (map live_of ps)) (round_event m c)) c ≡ Some n
     → slice_get ps c ≡ Some p → p.reply ≡ None
     → q.start ≡ length order → q.steps ≡ p.steps → q.rounds.items ≡ closed m p.rounds.items ++ counted (length order) m n ∷ [] → q.reply ≡ p.reply
     → longer ≡ journal ++ round_event m c ∷ []
-    → IsKept s (the_course order low (map live_of (slice_set ps c q))) (slice_set ps c q) longer
+    → IsBookKept s (the_course order low (map live_of (slice_set ps c q))) (slice_set ps c q) longer
 kept_restart s order low c n ps journal longer m p q k ne free has due at silent start steps rounds reply adds =
     kept_one s order low c ps journal longer (round_event m c) (again (length order) m) p q k free restarts adds at new
     (subst (TellsBy (work_of s) order c q.rounds.items) (sym (reply ∙ silent)) (inl known)) where
@@ -398,10 +398,10 @@ pub settled_live : (n : Option ℕ) (p q : Progress) → q.start ≡ p.start →
 settled_live n p q start steps rounds reply = live_made (live_of q) (live_of p) start (ap turns_in rounds ∙ turns_numbered n p.rounds.items) steps (ap is_some reply)
 
 pub kept_settled : (s : Script) (order : List ℕ) (low c : ℕ) (ps : List Progress) (journal : List Event) (n : ℕ) (p q : Progress)
-    → IsKept s (the_course order low (map live_of ps)) ps journal → slice_get ps c ≡ Some p → p.reply ≡ None
+    → IsBookKept s (the_course order low (map live_of ps)) ps journal → slice_get ps c ≡ Some p → p.reply ≡ None
     → due_number (work_of s) (the_course order low (map live_of ps)) c ≡ Some n
     → q.start ≡ p.start → q.steps ≡ p.steps → q.rounds.items ≡ numbered (Some n) p.rounds.items → q.reply ≡ p.reply
-    → IsKept s (the_course order low (map live_of (slice_set ps c q))) (slice_set ps c q) journal
+    → IsBookKept s (the_course order low (map live_of (slice_set ps c q))) (slice_set ps c q) journal
 kept_settled s order low c ps journal n p q k at silent due start steps rounds reply =
     kept_same s order order low c ps journal journal p q k refl refl at (settled_live (Some n) p q start steps rounds reply)
     (subst (TellsBy (work_of s) order c q.rounds.items) (sym (reply ∙ silent)) (inl known)) where
@@ -415,7 +415,7 @@ kept_settled s order low c ps journal n p q k at silent due start steps rounds r
 
 -- a number that was set
 pub number_set : (s : Script) (order : List ℕ) (low c : ℕ) (ps : List Progress) (journal : List Event) (n : ℕ) (p q : Progress)
-    → IsKept s (the_course order low (map live_of ps)) ps journal → slice_get ps c ≡ Some p → q.rounds.items ≡ numbered (Some n) p.rounds.items → last_number q.rounds.items ≡ Some n
+    → IsBookKept s (the_course order low (map live_of ps)) ps journal → slice_get ps c ≡ Some p → q.rounds.items ≡ numbered (Some n) p.rounds.items → last_number q.rounds.items ≡ Some n
 number_set s order low c ps journal n p q k at rounds = ap last_number rounds ∙ numbered_some p.rounds.items own.first own.rest own.turns where
   own : CallFacts (length order) (length journal) (live_of p)
   own = (facts s _ ps journal k).each c (live_of p) (live_here ps c p at)
@@ -451,7 +451,7 @@ commit_after w order low ls (Some k) c = refl
 
 -- the rounds of a call that commits are Runs'
 pub rounds_committed : (s : Script) (order : List ℕ) (low c : ℕ) (ps : List Progress) (journal : List Event) (own : Option ℕ) (p : Progress)
-    → IsKept s (the_course order low (map live_of ps)) ps journal → slice_get ps c ≡ Some p → p.reply ≡ None → IsSome (last_number p.rounds.items)
+    → IsBookKept s (the_course order low (map live_of ps)) ps journal → slice_get ps c ≡ Some p → p.reply ≡ None → IsSome (last_number p.rounds.items)
     → IsOwnBy own (work_of s) (the_course order low (map live_of ps)) c
     → with_own (length order) own p.rounds.items ≡ rounds_of (work_of s) (order ++ c ∷ []) c (turns_in (with_own (length order) own p.rounds.items))
 rounds_committed s order low c ps journal own p k at silent has number = by own number where
@@ -492,8 +492,8 @@ rounds_committed s order low c ps journal own p k at silent has number = by own 
 -- What is as before
 
 pub kept_same_told : (s : Script) (order orders : List ℕ) (low c : ℕ) (ps : List Progress) (journal same : List Event) (p q : Progress)
-    → IsKept s (the_course order low (map live_of ps)) ps journal → orders ≡ order → same ≡ journal → slice_get ps c ≡ Some p → live_of q ≡ live_of p → q.rounds.items ≡ p.rounds.items → q.reply ≡ p.reply
-    → IsKept s (the_course orders low (map live_of (slice_set ps c q))) (slice_set ps c q) same
+    → IsBookKept s (the_course order low (map live_of ps)) ps journal → orders ≡ order → same ≡ journal → slice_get ps c ≡ Some p → live_of q ≡ live_of p → q.rounds.items ≡ p.rounds.items → q.reply ≡ p.reply
+    → IsBookKept s (the_course orders low (map live_of (slice_set ps c q))) (slice_set ps c q) same
 kept_same_told s order orders low c ps journal same p q k o j at new rounds reply =
     kept_same s order orders low c ps journal same p q k o j at new
     (subst (TellsBy (work_of s) order c q.rounds.items) (sym reply) (subst (λ (rs : List Round). TellsBy (work_of s) order c rs p.reply) (sym rounds) (k.tells c p at)))
@@ -553,7 +553,7 @@ rounds_told i old c p is k at silent = subst (λ (b : Booked). HasRounds b c p.r
 })
 
 -- the number of a call's last round, as it is kept
-pub number_kept : (i : Inside) (old : Booked) (c n : ℕ) (l : Live) (p : Progress) → the_view i ≡ old → IsInside i → Here i.calls.items c l p → last_number p.rounds.items ≡ Some n → due_number (work_in old) old.course c ≡ Some n
+pub number_kept : (i : Inside) (old : Booked) (c n : ℕ) (l : Live) (p : Progress) → the_view i ≡ old → IsInside i → IsProgressAt i.calls.items c l p → last_number p.rounds.items ≡ Some n → due_number (work_in old) old.course c ≡ Some n
 number_kept i old c n l p is k here has = subst (λ (b : Booked). due_number (work_in b) b.course c ≡ Some n) is (due_here (work_of i.script) i.order.items i.low c i.calls.items p here.at ∙ (sym (ap last_number (settled p.rounds.items all n are has)) ∙ has)) where
   all : List Round
   all = rounds_of (work_of i.script) i.order.items c (turns_in p.rounds.items)
@@ -562,7 +562,7 @@ number_kept i old c n l p is k here has = subst (λ (b : Booked). due_number (wo
   are = subst (TellsBy (work_of i.script) i.order.items c p.rounds.items) here.going (k.tells c p here.at)
 
 -- a call without it is in its first round
-pub first_kept : (i : Inside) (c : ℕ) (l : Live) (p : Progress) → IsInside i → Here i.calls.items c l p → last_number p.rounds.items ≡ None → used l ≡ 0
+pub first_kept : (i : Inside) (c : ℕ) (l : Live) (p : Progress) → IsInside i → IsProgressAt i.calls.items c l p → last_number p.rounds.items ≡ None → used l ≡ 0
 first_kept i c l p k here none = by (subst (TellsBy (work_of i.script) i.order.items c p.rounds.items) here.going (k.tells c p here.at)) where
   own : CallFacts (length i.order.items) (length i.journal.items) (live_of p)
   own = (facts i.script _ i.calls.items i.journal.items k).each c (live_of p) (live_here i.calls.items c p here.at)
@@ -577,7 +577,7 @@ first_kept i c l p k here none = by (subst (TellsBy (work_of i.script) i.order.i
       omega (arith, one, many, same)
 
 -- the number of a first round that has none yet
-pub first_due : (i : Inside) (old : Booked) (c n : ℕ) (p : Progress) (o : Option ℕ) → the_view i ≡ old → IsInside i → (l : Live) → IsLive old.course c l → Here i.calls.items c l p → o ≡ last_number p.rounds.items → is_some o ≡ false → IsFirstNumber n old c
+pub first_due : (i : Inside) (old : Booked) (c n : ℕ) (p : Progress) (o : Option ℕ) → the_view i ≡ old → IsInside i → (l : Live) → IsLive old.course c l → IsProgressAt i.calls.items c l p → o ≡ last_number p.rounds.items → is_some o ≡ false → IsFirstNumber n old c
     → due_number (work_of i.script) (the_course i.order.items i.low (map live_of i.calls.items)) c ≡ Some n
 first_due i old c n p o is k l live here last unknown first =
     subst (λ (b : Booked). due_number (work_in b) b.course c ≡ Some n) (sym is) (first l live (first_kept i c l p k here (sym last ∙ none_of o unknown)))

@@ -12,15 +12,15 @@ use Rattle.mv_core.specs.declared.progress.Progress.{Progress}
 use Rattle.mv_core.specs.Scripts.{work_of}
 use Rattle.mv_core.specs.Calls.{live_of}
 use Rattle.mv_core.specs.Lives.{live_numbers, least_start}
-use Rattle.mv_core.specs.Books.{Booked, IsKept, work_in}
+use Rattle.mv_core.specs.Books.{Booked, IsBookKept, work_in}
 use Rattle.mv_core.specs.declared.book.Book.TheInside.{Inside}
 use Rattle.mv_core.specs.contracts.book.Book.{the_view}
 use Rattle.mv_core.proofs.Lives.{oldest_is}
 use Rattle.mv_core.proofs.Keeping.{the_course, kept_event}
 
 pub kept_low : (s : Script) (order : List ℕ) (low next : ℕ) (ps : List Progress) (journal longer : List Event)
-    → IsKept s (the_course order low (map live_of ps)) ps journal → next ≡ next_low (work_of s) (the_course order low (map live_of ps)) → longer ≡ journal ++ G ∷ []
-    → IsKept s (the_course order next (map live_of ps)) ps longer
+    → IsBookKept s (the_course order low (map live_of ps)) ps journal → next ≡ next_low (work_of s) (the_course order low (map live_of ps)) → longer ≡ journal ++ G ∷ []
+    → IsBookKept s (the_course order next (map live_of ps)) ps longer
 kept_low s order low next ps journal longer k is adds = kept_event s _ _ ps ps journal longer G k refl (ap (λ n. the_course order n (map live_of ps)) is) adds k.tells
 
 -- what the live calls tell

@@ -14,7 +14,7 @@ use Rattle.mv_history.specs.Kept.{executions}
 use Rattle.mv_lawful.specs.Work.{Work, tables_after, table_at, records_at, changes_after, changes_up_to}
 use Rattle.mv_lawful.specs.Lawful.{Turn}
 use Rattle.mv_lawful.specs.Rounds.{whole_run, repair_run, later_run, unless_moved, round, later_rounds, rounds_of}
-use Rattle.mv_core.specs.Calls.{Within, turn_of, turns_in, numbered, last_number, closed, counted, AreRounds}
+use Rattle.mv_core.specs.Calls.{WithinRounds, turn_of, turns_in, numbered, last_number, closed, counted, AreRounds}
 
 -- Numbers in a list
 
@@ -121,21 +121,21 @@ later_stays w order d c old start Plain lo ln = repair_stays w order d c old sta
 later_stays w order d c old start Exclusive lo ln = repair_stays w order d c old start lo ln
 later_stays w order d c old start Moved lo ln = whole_stays w order d c start ln
 
-pub within_more : (n m : ℕ) (ts : List Turn) → n ≤ m → Within n ts → Within m ts
+pub within_more : (n m : ℕ) (ts : List Turn) → n ≤ m → WithinRounds n ts → WithinRounds m ts
 within_more n m [] le h = tt
 within_more n m (t ∷ ts) le h = let a = h.0 in (omega (arith, a, le), within_more n m ts le h.1)
 
-pub within_end : (n : ℕ) (ts : List Turn) (t : Turn) → Within n ts → t.start ≤ n → Within n (ts ++ t ∷ [])
+pub within_end : (n : ℕ) (ts : List Turn) (t : Turn) → WithinRounds n ts → t.start ≤ n → WithinRounds n (ts ++ t ∷ [])
 within_end n [] t h le = (le, tt)
 within_end n (u ∷ ts) t h le = (h.0, within_end n ts t h.1 le)
 
-later_rounds_stay : (w : Work) (order : List ℕ) (d c old : ℕ) (ts : List Turn) → old ≤ length order → Within (length order) ts → later_rounds w (order ++ d ∷ []) c old ts ≡ later_rounds w order c old ts
+later_rounds_stay : (w : Work) (order : List ℕ) (d c old : ℕ) (ts : List Turn) → old ≤ length order → WithinRounds (length order) ts → later_rounds w (order ++ d ∷ []) c old ts ≡ later_rounds w order c old ts
 later_rounds_stay w order d c old [] lo h = refl
 later_rounds_stay w order d c old (t ∷ ts) lo h =
     ap (λ n. round t (unless_moved n ts) ∷ later_rounds w (order ++ d ∷ []) c t.start ts) (later_stays w order d c old t.start t.mark lo h.0)
     ∙ ap (λ rs. round t (unless_moved (later_run w order c old t.start t.mark) ts) ∷ rs) (later_rounds_stay w order d c t.start ts h.0 h.1)
 
-pub rounds_stay : (w : Work) (order : List ℕ) (d c : ℕ) (ts : List Turn) → Within (length order) ts → rounds_of w (order ++ d ∷ []) c ts ≡ rounds_of w order c ts
+pub rounds_stay : (w : Work) (order : List ℕ) (d c : ℕ) (ts : List Turn) → WithinRounds (length order) ts → rounds_of w (order ++ d ∷ []) c ts ≡ rounds_of w order c ts
 rounds_stay w order d c [] h = refl
 rounds_stay w order d c (t ∷ ts) h =
     ap (λ n. round t (unless_moved n ts) ∷ later_rounds w (order ++ d ∷ []) c t.start ts) (whole_stays w order d c t.start h.0)

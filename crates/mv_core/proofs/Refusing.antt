@@ -13,7 +13,7 @@ use Rattle.mv_values.specs.declared.calls.Call.{Call}
 use Rattle.mv_values.specs.Tables.{Tables}
 use Rattle.mv_graph.specs.declared.graph.Graph.{Graph}
 use Rattle.mv_graph.specs.Nodes.{meaning_of}
-use Rattle.mv_exec.specs.Running.{IsTaskOf, Leaves}
+use Rattle.mv_exec.specs.Running.{IsTaskOf, HasLeft}
 use Rattle.mv_journal.specs.declared.event.Event.{Event}
 use Rattle.mv_journal.specs.declared.event.Event.TheVariants.{B, A, C, X}
 use Rattle.mv_journal.specs.declared.outcome.Round.{Round}
@@ -125,7 +125,7 @@ fresh_allowed b c l e may r allowed fresh = by (is_hit (work_in b) b.course c l)
 -- what a task's records and its end tell of the full run
 pub step_is : (s : Script) (course : Course) (c : ℕ) (l : Live) (t : Running) (more : Bool) → IsScript s → c < length s.calls → IsLiveTask s course.order c l t → used l ≡ 0
     → ((n : ℕ) → t.count ≡ Some n → more ≡ nat_lt l.steps n)
-    → (t.count ≡ None → (g : Graph) (call : Call) (db : Tables) (rest : List Record) → IsTaskOf g call t.task → AreRising db → Leaves g call db t.task rest → more ≡ nat_lt l.steps (length (meaning_of g call db).records))
+    → (t.count ≡ None → (g : Graph) (call : Call) (db : Tables) (rest : List Record) → IsTaskOf g call t.task → AreRising db → HasLeft g call db t.task rest → more ≡ nat_lt l.steps (length (meaning_of g call db).records))
     → has_step (work_of s) course c l ≡ more
 step_is s course c l t more k lt task first known told = ap (λ b. b && nat_lt l.steps all) (eq-eqb (used l) 0 first) ∙ by t.count refl where
   all : ℕ

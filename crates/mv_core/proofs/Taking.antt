@@ -14,7 +14,7 @@ use Rattle.mv_graph.specs.declared.graph.Graph.{Graph}
 use Rattle.mv_graph.specs.Nodes.{meaning_of}
 use Rattle.mv_undo.specs.Owning.{HasWritesOf}
 use Rattle.mv_exec.specs.declared.task.Task.{Task}
-use Rattle.mv_exec.specs.Running.{IsTaskOf, IsTaskOn, IsUnchanged, Leaves}
+use Rattle.mv_exec.specs.Running.{IsTaskOf, IsTaskOn, IsUnchanged, HasLeft}
 use Rattle.mv_exec.proofs.Fronts.{ends_exactly}
 use Rattle.mv_journal.specs.declared.outcome.Mark.{Mark}
 use Rattle.mv_journal.specs.declared.outcome.Mark.TheVariants.{Plain, Exclusive, Moved}
@@ -32,7 +32,7 @@ use Rattle.mv_core.specs.Calls.{IsLive, IsLiveCall, closed, committed, last_numb
 use Rattle.mv_core.specs.Books.{Booked, work_in, Made, round_event, commit_event, IsFirstNumber, AreRecordsOf}
 use Rattle.mv_store.specs.Stored.{Versioned}
 use Rattle.mv_view.specs.Viewing.{Sight}
-use Rattle.mv_core.specs.Cores.{RunsOn, IsTaskFor, HasRunOne, CountsAll, HasTurns, last_start, count_or, IsLiveTask, IsTaskIn, IsRunning, IsRepaired, HasTasks, IsCore}
+use Rattle.mv_core.specs.Cores.{RunsOn, IsTaskFor, HasRunOne, CountsAll, HasTurns, last_start, count_or, IsLiveTask, IsTaskIn, IsRunningIn, IsRepaired, HasTasks, IsCore}
 use Rattle.mv_core.proofs.Numbers.{last_start as start_after, last_of_end, rounds_more, rounds_stay, table_stays, within_more, within_end}
 use Rattle.mv_core.proofs.Stored.{run_is, table_database, changes_to_last, Shows}
 use Rattle.mv_core.proofs.Keeping.{commit_after, restart_after}
@@ -417,7 +417,7 @@ call_within s course ts c k live =
     omega (arith, a, b)
 
 -- a live call of a core, and its task
-pub running_in : (b : Booked) (store : Versioned) (ts : List (Option Running)) (c : ℕ) (o : Option Running) (t : Running) → IsCore b store ts → IsLiveCall b.course c → o ≡ get_or ts c o → o ≡ Some t → IsRunning b store c t
+pub running_in : (b : Booked) (store : Versioned) (ts : List (Option Running)) (c : ℕ) (o : Option Running) (t : Running) → IsCore b store ts → IsLiveCall b.course c → o ≡ get_or ts c o → o ≡ Some t → IsRunningIn b store c t
 running_in b store ts c o t k live read some = record {
   stored = k.stored;
   live = live;
@@ -499,7 +499,7 @@ number_ran s course c l t k lt live task first none = due_live (work_of s) cours
   by None is = let ran = task.steps is first in let le = past in let both = many in omega (arith, ran, le, both)
 
 -- what is left of a call all of whose records are counted
-pub left_told : (g : Graph) (call : Call) (db : Tables) (t : Task) (rest : List Record) (steps : ℕ) → IsTaskOf g call t → AreRising db → Leaves g call db t rest → steps ≡ length t.records → not t.ended ≡ nat_lt steps (length (meaning_of g call db).records)
+pub left_told : (g : Graph) (call : Call) (db : Tables) (t : Task) (rest : List Record) (steps : ℕ) → IsTaskOf g call t → AreRising db → HasLeft g call db t rest → steps ≡ length t.records → not t.ended ≡ nat_lt steps (length (meaning_of g call db).records)
 left_told g call db t rest steps is rise leaves here = by t.ended refl where
   exact : (t.ended ≡ true) ↔ (rest ≡ [])
   exact = ends_exactly g call db t rest is rise leaves

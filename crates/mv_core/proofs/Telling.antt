@@ -7,7 +7,7 @@ use Rattle.mv_values.specs.declared.calls.Reply.{Reply}
 use Rattle.mv_values.specs.Patching.{applied}
 use Rattle.mv_values.specs.Tables.{Tables}
 use Rattle.mv_record.specs.declared.record.Record.{Record}
-use Rattle.mv_record.specs.Runs.{Run, end_in, StopsWith, Tells, TellsAll}
+use Rattle.mv_record.specs.Runs.{Run, end_in, StopsWith, HasEnd, TellsAll}
 use Rattle.mv_record.specs.Writes.{AreRising}
 use Rattle.mv_recorded.proofs.Meant.{meaning_tells}
 use Rattle.mv_graph.specs.declared.graph.Graph.{Graph}
@@ -31,13 +31,13 @@ reply_made reply (Some x) rs e l = ap (λ o. record { lines = reply.lines; end =
 
 reply_is_told : (db : Tables) (run : Run) → TellsAll db run → run.reply ≡ reply_told run.records
 reply_is_told db run h = by run.reply.end refl h where
-  by : (o : Option End) → run.reply.end ≡ o → Tells o db run → run.reply ≡ reply_told run.records
+  by : (o : Option End) → run.reply.end ≡ o → HasEnd o db run → run.reply ≡ reply_told run.records
   by None is t = reply_made run.reply None run.records is t.lines ∙ sym (ap (λ o. reply_with o run.records) t.goes_on)
   by (Some e) is t = reply_made run.reply (Some e) run.records is t.lines ∙ sym (ap (λ o. reply_with o run.records) (stopped run.records e t.stops))
 
 tables_are_told : (db : Tables) (run : Run) → TellsAll db run → run.tables ≡ applied (writes_told run.records) db
 tables_are_told db run h = by run.reply.end h where
-  by : (o : Option End) → Tells o db run → run.tables ≡ applied (writes_told run.records) db
+  by : (o : Option End) → HasEnd o db run → run.tables ≡ applied (writes_told run.records) db
   by None t = t.tables ∙ sym (ap (λ o. applied (writes_with o run.records) db) t.goes_on)
   by (Some e) t = t.tables ∙ sym (ap (λ o. applied (writes_with o run.records) db) (stopped run.records e t.stops))
 

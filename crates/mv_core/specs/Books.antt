@@ -56,7 +56,7 @@ abbrev pub IsSettled : Booked → ℕ → Type 0
 IsSettled b c = ForSome (rounds_at b c) (λ rs. IsSome (last_number rs))
 
 -- no event of the journal is refused, the course is what they come to, and each call has its rounds and its reply
-pub record IsKept (s : Script) (course : Course) (calls : List Progress) (journal : List Event) : Type 0 where
+pub record IsBookKept (s : Script) (course : Course) (calls : List Progress) (journal : List Event) : Type 0 where
   pub few : length s.calls < 2 ^ 32
   pub allowed : AllAllowed (work_of s) beginning journal
   pub reaches : course ≡ course_of (work_of s) journal
@@ -72,7 +72,7 @@ pub record IsRecent (w : Work) (course : Course) (window : Window) : Type 0 wher
 
 -- all that, and the numbers of the live calls
 pub record IsBook (s : Script) (course : Course) (calls : List Progress) (journal : List Event) (numbers : List ℕ) (window : Window) : Type 0 where
-  pub kept : IsKept s course calls journal
+  pub kept : IsBookKept s course calls journal
   pub live : numbers ≡ live_numbers course.calls
   pub recent : IsRecent (work_of s) course window
 

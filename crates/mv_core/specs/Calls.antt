@@ -33,9 +33,9 @@ abbrev pub IsLiveCall : Course → ℕ → Type 0
 IsLiveCall s c = (l : Live) × IsLive s c l
 
 -- each round began after at most so many commits
-abbrev pub Within : ℕ → List Turn → Type 0
-Within n [] = Unit {0}
-Within n (t ∷ ts) = (t.start ≤ n) × Within n ts
+abbrev pub WithinRounds : ℕ → List Turn → Type 0
+WithinRounds n [] = Unit {0}
+WithinRounds n (t ∷ ts) = (t.start ≤ n) × WithinRounds n ts
 
 -- Numbers
 

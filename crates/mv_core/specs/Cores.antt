@@ -27,7 +27,7 @@ use Rattle.mv_core.specs.declared.engine.Attempt.TheVariants as attempt
 use Rattle.mv_core.specs.declared.script.Script.{Script}
 use Rattle.mv_core.specs.Scripts.{IsCallOf, IsScript, work_of}
 use Rattle.mv_core.specs.declared.tasks.Running.{Running}
-use Rattle.mv_core.specs.Calls.{IsLive, IsLiveCall, Within, last_number, due_number}
+use Rattle.mv_core.specs.Calls.{IsLive, IsLiveCall, WithinRounds, last_number, due_number}
 use Rattle.mv_core.specs.Books.{Booked, work_in, Made, IsSame}
 
 -- Tables
@@ -90,7 +90,7 @@ pub record HasTurns (n : ℕ) (l : Live) : Type 0 where
   pub rest : List Turn
   pub turns : l.turns ≡ first ∷ rest
   pub last : last_start l.turns ≡ l.start
-  pub within : Within n l.turns
+  pub within : WithinRounds n l.turns
   pub past : l.start ≤ n
 
 -- the count, or else this number
@@ -121,7 +121,7 @@ pub record HasRunOn (old new : Running) : Type 0 where
   pub task : CountsAll old.task new.task
 
 -- a live call and its task, over a store with the tables of the history
-pub record IsRunning (b : Booked) (store : Versioned) (c : ℕ) (running : Running) : Type 0 where
+pub record IsRunningIn (b : Booked) (store : Versioned) (c : ℕ) (running : Running) : Type 0 where
   pub stored : IsStoreOf b store
   pub live : IsLiveCall b.course c
   pub number : c < length b.script.calls

@@ -8,7 +8,7 @@ ghost use Rattle.mv_record.specs.declared.record.Record.{Record};
 ghost use Rattle.mv_record.specs.Writes.{AreRising};
 ghost use Rattle.mv_graph.specs.declared.graph.Graph.{Graph};
 ghost use Rattle.mv_graph.specs.Nodes.{meaning_of};
-ghost use Rattle.mv_exec.specs.Running.{IsTaskOf, IsUnchanged, Leaves};
+ghost use Rattle.mv_exec.specs.Running.{IsTaskOf, IsUnchanged, HasLeft};
 ghost use Rattle.mv_core.specs.Scripts.{IsScript, IsCallOf, work_of};
 ghost use Rattle.mv_history.specs.Kept.{executions};
 ghost use Rattle.mv_repair.specs.Repairing.{changes_since};
@@ -144,7 +144,7 @@ pub(crate) fn repair_over(
 /// Whether a full run of the call has more records than this many. The call must have executed so many.
 pub(crate) fn has_more(task: &Task, steps: usize) -> bool
     requires { steps ≤ length task.now.records }
-    ensures { (g : Graph) (call : Call) (db : Tables) (rest : List Record) → IsTaskOf g call task.now → AreRising db → Leaves g call db task.now rest → result ≡ nat_lt steps (length (meaning_of g call db).records) }
+    ensures { (g : Graph) (call : Call) (db : Tables) (rest : List Record) → IsTaskOf g call task.now → AreRising db → HasLeft g call db task.now rest → result ≡ nat_lt steps (length (meaning_of g call db).records) }
 {
     steps < task.records().len() || !task.ended()
 }

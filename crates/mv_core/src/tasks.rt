@@ -9,7 +9,7 @@ ghost use Rattle.mv_record.specs.declared.record.Record.{Record};
 ghost use Rattle.mv_record.specs.Writes.{AreRising};
 ghost use Rattle.mv_graph.specs.declared.graph.Graph.{Graph};
 ghost use Rattle.mv_graph.specs.Nodes.{meaning_of};
-ghost use Rattle.mv_exec.specs.Running.{IsTaskOf, IsTaskOn, IsUnchanged, Leaves};
+ghost use Rattle.mv_exec.specs.Running.{IsTaskOf, IsTaskOn, IsUnchanged, HasLeft};
 ghost use Rattle.mv_history.specs.Changes.{changes_between};
 ghost use Rattle.mv_journal.specs.declared.event.Event.TheVariants.{A, X};
 ghost use Rattle.mv_lawful.specs.Work.{records_at, table_at};
@@ -21,7 +21,7 @@ ghost use Rattle.mv_core.specs.Told.{writes_told};
 ghost use Rattle.mv_core.specs.Scripts.{IsScript};
 ghost use Rattle.mv_core.specs.Calls.{IsLive, IsLiveCall, due_number};
 ghost use Rattle.mv_core.specs.Books.{work_in, last_tables, last_run, last_changes, commit_event, own_number, Made, IsSame, IsSettled, IsNotStale, IsAlone, IsOwnNumber, AreRecordsOf, IsAnswer};
-ghost use Rattle.mv_core.specs.Cores.{RunsOn, IsStoreOf, IsTaskIn, IsRunning, HasRunOn, HasRunOne, IsLiveTask, IsRepaired, HasStep, IsPrepared, HasCommitted, HasMovedAndCommitted, HasCollected, count_or};
+ghost use Rattle.mv_core.specs.Cores.{RunsOn, IsStoreOf, IsTaskIn, IsRunningIn, HasRunOn, HasRunOne, IsLiveTask, IsRepaired, HasStep, IsPrepared, HasCommitted, HasMovedAndCommitted, HasCollected, count_or};
 
 use crate::book::{Book, Check};
 use crate::running::{find_call, has_more, repair_over, run_all, run_next};
@@ -72,7 +72,7 @@ impl Running {
     pub fn has_more(&self, steps: usize) -> bool
         requires { self.now.count ≡ None → steps ≤ length self.now.task.records }
         ensures known { (k : ℕ) → self.now.count ≡ Some k → result ≡ nat_lt steps k }
-        ensures unknown { self.now.count ≡ None → (g : Graph) (call : Call) (db : Tables) (rest : List Record) → IsTaskOf g call self.now.task → AreRising db → Leaves g call db self.now.task rest → result ≡ nat_lt steps (length (meaning_of g call db).records) }
+        ensures unknown { self.now.count ≡ None → (g : Graph) (call : Call) (db : Tables) (rest : List Record) → IsTaskOf g call self.now.task → AreRising db → HasLeft g call db self.now.task rest → result ≡ nat_lt steps (length (meaning_of g call db).records) }
     {
         match self.count {
             Some(count) => steps < count,
@@ -105,7 +105,7 @@ pub fn step_task(
     call: u32,
     running: &mut Running,
 ) -> Result<(), NoMemory>
-    requires call { IsRunning book.now store.now call running.old }
+    requires call { IsRunningIn book.now store.now call running.old }
     requires fresh { IsNotStale book.now call }
     requires left { HasStep book.now call }
     ensures ok { OnOk result ((l : Live) → IsLive book.now.course call l → IsLiveTask book.now.script book.now.course.order call (record l { steps = l.steps + 1 }) running.new) }
@@ -130,7 +130,7 @@ pub fn finish_task(
     call: u32,
     running: &mut Running,
 ) -> Result<(), NoMemory>
-    requires call { IsRunning book.now store.now call running.old }
+    requires call { IsRunningIn book.now store.now call running.old }
     requires fresh { IsNotStale book.now call }
     ensures ok { OnOk result (AreRecordsOf book.now call running.new.task.records) }
     ensures ended { OnOk result (running.new.task.ended ≡ true) }
@@ -148,7 +148,7 @@ pub(crate) fn validate_task(
     call: u32,
     running: &mut Running,
 ) -> Result<Check, NoMemory>
-    requires call { IsRunning book.now store.now call running.old }
+    requires call { IsRunningIn book.now store.now call running.old }
     ensures answer { IfOk result (λ check. (l : Live) → IsLive book.now.course call l → IsAnswer check (work_in book.now) book.now.course call l) }
     ensures records { IfOk result (λ check. check ≡ IsFree → AreRecordsOf book.now call running.new.task.records) }
     ensures task { IsTaskIn book.now call running.new }
@@ -171,7 +171,7 @@ pub fn repair_task(
     call: u32,
     running: &mut Running,
 ) -> Result<(), NoMemory>
-    requires call { IsRunning book.now store.now call running.old }
+    requires call { IsRunningIn book.now store.now call running.old }
     requires fresh { IsNotStale book.now call }
     requires whole { AreRecordsOf book.now call running.old.task.records }
     requires ended { running.old.task.ended ≡ true }
@@ -205,7 +205,7 @@ pub(crate) fn rerun_task(
     call: u32,
     running: &mut Running,
 ) -> Result<usize, NoMemory>
-    requires call { IsRunning book.old store.now call running.old }
+    requires call { IsRunningIn book.old store.now call running.old }
     requires fresh { IsNotStale book.old call }
     requires allowed { refusal (work_in book.old) book.old.course (A call) ≡ None }
     ensures made { IfOk result (λ n. Made (A call) book.old book.new × (due_number (work_in book.new) book.new.course call ≡ Some n)) }
@@ -355,7 +355,7 @@ pub(crate) fn decide_task(
     call: u32,
     running: &mut Running,
 ) -> Result<u32, NoMemory>
-    requires call { IsRunning book.old store.old call running.old }
+    requires call { IsRunningIn book.old store.old call running.old }
     requires fresh { IsNotStale book.old call }
     requires allowed { refusal (work_in book.old) book.old.course (X call) ≡ None }
     ensures made { HasCommitted (X call) result book.old book.new }

@@ -7,7 +7,7 @@ use Rattle.csv.specs.Records.{Row, fields_of}
 use Rattle.csv.specs.declared.parser.State.{State}
 use Rattle.csv.specs.declared.reader.Reader.{Reader}
 use Rattle.csv.proofs.ReadFacts.{rows-end, rows-more}
-use Rattle.mv_csvio.specs.Reading.{HasRead, StandsAt, bytes_of}
+use Rattle.mv_csvio.specs.Reading.{HasRead, ReadsFrom, bytes_of}
 
 one_reached : (at' to : State) (bytes rest : List ℕ) (fields : List (List ℕ)) → Reached default_config at' bytes (fields ∷ []) to rest → next_record default_config at' [] [] bytes ≡ Some (fields, to, rest)
 unfolding Reached
@@ -17,7 +17,7 @@ start : (at' : State) (bytes : List ℕ) → Reached default_config at' bytes []
 unfolding Reached
 start at' bytes = (refl, refl)
 
-pub read_one : (old new : Reader (Bor (List ℕ))) (found : Bool) (row : Row) (at' : State) (bytes : List ℕ) → StandsAt old at' bytes → ReadRecord bytes_of old new found (fields_of row) → took_first new ≡ true
+pub read_one : (old new : Reader (Bor (List ℕ))) (found : Bool) (row : Row) (at' : State) (bytes : List ℕ) → ReadsFrom old at' bytes → ReadRecord bytes_of old new found (fields_of row) → took_first new ≡ true
     → MatchBool found (HasRead at' bytes row new) (next_record default_config at' [] [] bytes ≡ None)
 read_one old new true row at' bytes h r taken =
     let k = rows-more bytes_of old new (fields_of row) default_config at' bytes bytes [] h.config h.bytes (subst (λ (s : State). Reached default_config at' bytes [] s bytes) (sym h.state) (start at' bytes)) r in (

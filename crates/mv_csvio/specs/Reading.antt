@@ -13,7 +13,7 @@ abbrev pub bytes_of : Bor (List ℕ) → Option (List ℕ)
 bytes_of slice = Some slice.now
 
 -- the reader has the default configuration and is in this state, with these bytes left
-pub record StandsAt (reader : Reader (Bor (List ℕ))) (at' : State) (left : List ℕ) : Type 0 where
+pub record ReadsFrom (reader : Reader (Bor (List ℕ))) (at' : State) (left : List ℕ) : Type 0 where
   pub config : reader_config reader ≡ default_config
   pub trim : reader_trim reader ≡ untrimmed.None
   pub ready : Ready reader
@@ -23,7 +23,7 @@ pub record StandsAt (reader : Reader (Bor (List ℕ))) (at' : State) (left : Lis
 -- the next record was read, and the reader is after it
 abbrev pub HasRead : State → List ℕ → Row → Reader (Bor (List ℕ)) → Type 0
 HasRead at' left row after =
-    (next : State) × (rest : List ℕ) × (next_record default_config at' [] [] left ≡ Some (fields_of row, next, rest)) × StandsAt after next rest
+    (next : State) × (rest : List ℕ) × (next_record default_config at' [] [] left ≡ Some (fields_of row, next, rest)) × ReadsFrom after next rest
 
 -- the number of bytes left
 abbrev pub size_of : Option (List ℕ) → ℕ

@@ -11,7 +11,7 @@ ghost use Rattle.mv_values.specs.declared.rows.Keyed.{Keyed};
 ghost use Rattle.mv_csvio.specs.declared.fault.CopyFault.{CopyFault};
 ghost use Rattle.mv_csvio.specs.declared.fault.CopyFault.TheVariants as fault;
 ghost use Rattle.mv_csvio.specs.Loading.{HasLoaded, IsFirstBad, records_of};
-ghost use Rattle.mv_csvio.specs.Reading.{HasRead, StandsAt};
+ghost use Rattle.mv_csvio.specs.Reading.{HasRead, ReadsFrom};
 
 use crate::fault::CopyFault;
 use crate::gather::join_row;
@@ -80,7 +80,7 @@ pub fn join_records(
 
 /// Returns a reader of the records of a block. Records may differ in length, and none is a header.
 fn reader_of(alloc: Global, block: &[u8]) -> Reader<&[u8]>
-    ensures { StandsAt result state.StartRecord (strip_bom block.now) }
+    ensures { ReadsFrom result state.StartRecord (strip_bom block.now) }
 {
     ReaderBuilder::new()
         .has_headers(false)
@@ -90,7 +90,7 @@ fn reader_of(alloc: Global, block: &[u8]) -> Reader<&[u8]>
 
 /// Reads the next record. Returns whether there was one.
 fn has_read(reader: &mut Reader<&[u8]>, fields: &mut ByteRecord) -> Result<bool, NoMemory>
-    ensures { (at : State) (bytes : Seq ℕ) → StandsAt reader.old at bytes → IfOk result (λ found. MatchBool found (HasRead at bytes fields.new reader.new) (next_record default_config at [] [] bytes ≡ None)) }
+    ensures { (at : State) (bytes : Seq ℕ) → ReadsFrom reader.old at bytes → IfOk result (λ found. MatchBool found (HasRead at bytes fields.new reader.new) (next_record default_config at [] [] bytes ≡ None)) }
 {
     let Ok(found) = reader.read_byte_record(fields) else {
         return Err(NoMemory);

@@ -18,7 +18,7 @@ use Rattle.mv_catalog.specs.declared.resolved.RExpr.{RExpr}
 use Rattle.mv_catalog.specs.declared.resolved.RSort.{RSort}
 use Rattle.mv_catalog.specs.declared.resolved.RStmt.TheOpen.{Select, Total}
 use Rattle.mv_alone.specs.declared.state.Env.{Env}
-use Rattle.mv_alone.specs.FirstRows.{AreAdmitted, Tells, Leads}
+use Rattle.mv_alone.specs.FirstRows.{AreAdmitted, IsFromEnd, Leads}
 use Rattle.mv_alone.specs.Rows.{is_some_row, item_at, ordered}
 use Rattle.mv_alone.proofs.FirstRows.{kept_all, some_foremost}
 use Rattle.mv_record.specs.Writes.{AreRising}
@@ -27,12 +27,12 @@ use Rattle.mv_recorded.specs.Asking.{column_in, with_sorts, KnowsKey}
 use Rattle.mv_recorded.specs.Effects.{IsEffect, asks, asked_then, row_number, taking, totalling}
 use Rattle.mv_recorded.proofs.Chosen.{select_goes, total_done}
 use Rattle.mv_recorded.proofs.Matching.{admitted, matching_all}
-use Rattle.mv_effect.specs.Looking.{Stands}
+use Rattle.mv_effect.specs.Looking.{AreSoundTables}
 use Rattle.mv_effect.specs.Totalling.{total_asked}
 use Rattle.std.proofs.lemmas.List.Elements.{All-filter}
 
 -- the rows that a predicate finds behind these writes stand under keys that it admits
-found_admitted : (tables : List TableInfo) (ws : List Write) (db : List (List Keyed)) (pred : Pred) → Stands tables ws db → KnowsKey tables pred → AreAdmitted (key_columns tables pred.table) pred.tests (found_by pred (applied ws db))
+found_admitted : (tables : List TableInfo) (ws : List Write) (db : List (List Keyed)) (pred : Pred) → AreSoundTables tables ws db → KnowsKey tables pred → AreAdmitted (key_columns tables pred.table) pred.tests (found_by pred (applied ws db))
 found_admitted tables ws db pred stands knows =
     let behind : List (List Keyed) = applied ws db in
     record {
@@ -43,7 +43,7 @@ found_admitted tables ws db pred stands knows =
 
 -- of these rows one tells the aggregate
 pub total_told : (tables : List TableInfo) (ws : List Write) (db : List (List Keyed)) (agg : RAgg) (x c : ℕ) (d : Direction) (pred : Pred) (env : Env) (row : Option Keyed)
-    → Stands tables ws db → KnowsKey tables pred → Tells agg (key_columns tables pred.table) pred.tests c d → row ≡ foremost d (found_by pred (applied ws db))
+    → AreSoundTables tables ws db → KnowsKey tables pred → IsFromEnd agg (key_columns tables pred.table) pred.tests c d → row ≡ foremost d (found_by pred (applied ws db))
     → totalling pred x (option_map (λ (item : Keyed). column_of item.row c) row) (is_some row) env ≡ total_asked agg x pred (found_by pred (applied ws db)) env
 total_told tables ws db agg x c d pred env row stands knows tells is =
     let rows : List Keyed = found_by pred (applied ws db) in
@@ -54,7 +54,7 @@ total_told tables ws db agg x c d pred env row stands knows tells is =
 
 -- of these rows the first one is the one that a SELECT takes
 pub select_led : (tables : List TableInfo) (ws : List Write) (db : List (List Keyed)) (cs xs : List ℕ) (sorts : List RSort) (d : Direction) (pred : Pred) (at : ℤ) (env : Env) (row : Option Keyed)
-    → Stands tables ws db → KnowsKey tables pred → Leads sorts (key_columns tables pred.table) pred.tests d → at ≡ pos 0 → row ≡ foremost d (found_by pred (applied ws db))
+    → AreSoundTables tables ws db → KnowsKey tables pred → Leads sorts (key_columns tables pred.table) pred.tests d → at ≡ pos 0 → row ≡ foremost d (found_by pred (applied ws db))
     → taking pred cs xs row env ≡ taking pred cs xs (item_at (ordered sorts (found_by pred (applied ws db))) at) env
 select_led tables ws db cs xs sorts d pred at env row stands knows leads none is =
     let rows : List Keyed = found_by pred (applied ws db) in

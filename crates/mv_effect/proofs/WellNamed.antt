@@ -27,15 +27,15 @@ use Rattle.mv_effect.specs.Naming.{NamesColumns, AreColumns, Tests, Sets}
 -- Expressions
 
 -- they are numbers of columns
-abbrev Within : List Kind → List ℕ → Type 0
-Within columns cs = All (λ c. c < length columns) cs
+abbrev WithinKinds : List Kind → List ℕ → Type 0
+WithinKinds columns cs = All (λ c. c < length columns) cs
 
 -- one column that is there
-one_within : (columns : List Kind) (c : ℕ) → c < length columns → Within columns (c ∷ [])
+one_within : (columns : List Kind) (c : ℕ) → c < length columns → WithinKinds columns (c ∷ [])
 one_within columns c lt = All-cons (λ c. c < length columns) c [] lt (All-nil (λ c. c < length columns))
 
 -- the claim at each kind of expression
-kind_claim : (vars : Vars) (columns : List Kind) → AtEachKind vars columns kind_columns (Within columns)
+kind_claim : (vars : Vars) (columns : List Kind) → AtEachKind vars columns kind_columns (WithinKinds columns)
 kind_claim vars columns (kind.Const v) t h = All-nil (λ c. c < length columns)
 kind_claim vars columns (kind.Var x) t h = All-nil (λ c. c < length columns)
 kind_claim vars columns (kind.Field x c) t h = All-nil (λ c. c < length columns)
@@ -44,8 +44,8 @@ kind_claim vars columns (kind.One op a) t h = a.1 h.0 h.1
 kind_claim vars columns (kind.Two op a b) t h = All-append (λ c. c < length columns) (columns_of_expr a.0) (columns_of_expr b.0) (a.1 h.0 h.2) (b.1 h.1 h.3)
 
 -- an expression that has a type names columns that are there
-expr_within : (vars : Vars) (columns : List Kind) (e : RExpr) (t : Kind) → HasType vars columns e t → Within columns (columns_of_expr e)
-expr_within vars columns = named_by vars columns kind_columns (Within columns) (kind_claim vars columns)
+expr_within : (vars : Vars) (columns : List Kind) (e : RExpr) (t : Kind) → HasType vars columns e t → WithinKinds columns (columns_of_expr e)
+expr_within vars columns = named_by vars columns kind_columns (WithinKinds columns) (kind_claim vars columns)
 
 -- Statements
 
@@ -67,20 +67,20 @@ tests_of vars tables t info conds is h = record {
 }
 
 -- the selected columns and those of ORDER BY are columns of the table
-sorted_of : (tables : List TableInfo) (t : ℕ) (info : TableInfo) (cs : List ℕ) (sorts : List RSort) → slice_get tables t ≡ Some info → Within (kinds_of info) cs → All (IsSort (kinds_of info)) sorts → AreColumns tables t (with_sorts cs sorts)
+sorted_of : (tables : List TableInfo) (t : ℕ) (info : TableInfo) (cs : List ℕ) (sorts : List RSort) → slice_get tables t ≡ Some info → WithinKinds (kinds_of info) cs → All (IsSort (kinds_of info)) sorts → AreColumns tables t (with_sorts cs sorts)
 sorted_of tables t info cs sorts is h k =
     as_columns (λ c. c) tables t info (with_sorts cs sorts) is
     (All-append (λ c. c < length (kinds_of info)) cs (map (λ s. s.column) sorts) h (All-map (λ c. c < length (kinds_of info)) (λ (s : RSort). s.column) sorts k))
 
 -- targets take columns that are there
-taken_within : (vars : Vars) (columns : List Kind) (cs xs : List ℕ) → AllZip (Takes vars columns) cs xs → Within columns cs
+taken_within : (vars : Vars) (columns : List Kind) (cs xs : List ℕ) → AllZip (Takes vars columns) cs xs → WithinKinds columns cs
 taken_within vars columns [] [] h = All-nil (λ c. c < length columns)
 taken_within vars columns [] (x ∷ xs) h = absurd h
 taken_within vars columns (c ∷ cs) [] h = absurd h
 taken_within vars columns (c ∷ cs) (x ∷ xs) h = All-cons (λ c. c < length columns) c cs (slice_get_within columns c h.0.0 h.0.1) (taken_within vars columns cs xs h.1)
 
 -- columns that have types are there
-kinds_within : (columns : List Kind) (cs : List ℕ) (ts : List Kind) → map (slice_get columns) cs ≡ map Some ts → Within columns cs
+kinds_within : (columns : List Kind) (cs : List ℕ) (ts : List Kind) → map (slice_get columns) cs ≡ map Some ts → WithinKinds columns cs
 kinds_within columns [] ts h = All-nil (λ c. c < length columns)
 kinds_within columns (c ∷ cs) [] h = cc
 kinds_within columns (c ∷ cs) (t ∷ ts) h =
@@ -89,7 +89,7 @@ kinds_within columns (c ∷ cs) (t ∷ ts) h =
     All-cons (λ c. c < length columns) c cs (slice_get_within columns c t head) (kinds_within columns cs ts tail)
 
 -- the column of an aggregate that has a type is there
-total_within : (columns : List Kind) (agg : RAgg) (k : Kind) → IsTotal columns agg k → Within columns (column_in agg)
+total_within : (columns : List Kind) (agg : RAgg) (k : Kind) → IsTotal columns agg k → WithinKinds columns (column_in agg)
 total_within columns CountAll k h = All-nil (λ c. c < length columns)
 total_within columns (CountDistinct c) k h = one_within columns c h.1
 total_within columns (Sum c) k h = one_within columns c (slice_get_within columns c int h.1)
@@ -97,7 +97,7 @@ total_within columns (Min c) k h = one_within columns c (slice_get_within column
 total_within columns (Max c) k h = one_within columns c (slice_get_within columns c k h)
 
 -- the right sides of SET name columns that are there
-rights_within : (vars : Vars) (info : TableInfo) (items : List RSetItem) → All (IsItem vars info) items → Within (kinds_of info) (flat_map (λ i. columns_of_expr i.right) items)
+rights_within : (vars : Vars) (info : TableInfo) (items : List RSetItem) → All (IsItem vars info) items → WithinKinds (kinds_of info) (flat_map (λ i. columns_of_expr i.right) items)
 rights_within vars info [] h = All-nil (λ c. c < length (kinds_of info))
 rights_within vars info (i ∷ is) h =
     let first = h 0 i (omega arith) in

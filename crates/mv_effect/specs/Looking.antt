@@ -18,7 +18,7 @@ use Rattle.mv_view.specs.declared.view.Refused.TheVariants.{NoMemory, Stale}
 use Rattle.mv_effect.specs.Naming.{NamesColumns}
 
 -- the tables of a program, and a database of them before these writes and after them
-pub record Stands (tables : List TableInfo) (ws : List Write) (db : List (List Keyed)) : Type 0 where
+pub record AreSoundTables (tables : List TableInfo) (ws : List Write) (db : List (List Keyed)) : Type 0 where
   pub few : length tables ≤ 64
   pub each : All IsTable tables
   pub database : IsDatabaseOf tables db
@@ -26,7 +26,7 @@ pub record Stands (tables : List TableInfo) (ws : List Write) (db : List (List K
 
 -- a statement may be executed with these variables, after these writes to a database
 pub record IsExecutable (tables : List TableInfo) (s : RStmt) (env : Env) (ws : List Write) (db : List (List Keyed)) : Type 0 where
-  pub stands : Stands tables ws db
+  pub stands : AreSoundTables tables ws db
   pub names : NamesColumns tables (out-RStmt s)
   pub found : env.found < 2 ^ 16
 

@@ -11,7 +11,7 @@ ghost use Rattle.mv_alone.specs.Rows.{is_some_row};
 ghost use Rattle.mv_recorded.specs.Doing.{set_patch, write};
 ghost use Rattle.mv_undo.specs.Owning.{earlier};
 ghost use Rattle.mv_recorded.specs.Effects.{IsEffect, asked_then, changes, inserting, new_of, writing};
-ghost use Rattle.mv_effect.specs.Looking.{Stands, OnlyAsks, different, AskedAtMost, AskedFor};
+ghost use Rattle.mv_effect.specs.Looking.{AreSoundTables, OnlyAsks, different, AskedAtMost, AskedFor};
 ghost use Rattle.mv_effect.specs.Naming.{Tests, Sets};
 
 use crate::context::Context;
@@ -98,7 +98,7 @@ pub(crate) fn insert<V: View>(
     exprs: &[RExpr],
     view: &mut V,
 ) -> Result<Effect, Refused>
-    requires stands { Stands context.now.tables.now (earlier context.now.number context.now.undo.now) (V.sight view.old).database }
+    requires stands { AreSoundTables context.now.tables.now (earlier context.now.number context.now.undo.now) (V.sight view.old).database }
     requires found { context.now.env.now.found < 2 ^ 16 }
     requires table { table < length context.now.tables.now }
     ensures effect { IfOk result (IsEffect context.now.tables.now (layer.Insert table exprs.now) context.now.env.now (applied (earlier context.now.number context.now.undo.now) (V.sight view.old).database)) }
@@ -164,7 +164,7 @@ pub(crate) fn delete<V: View>(
     conds: &[RCond],
     view: &mut V,
 ) -> Result<Effect, Refused>
-    requires stands { Stands context.now.tables.now (earlier context.now.number context.now.undo.now) (V.sight view.old).database }
+    requires stands { AreSoundTables context.now.tables.now (earlier context.now.number context.now.undo.now) (V.sight view.old).database }
     requires found { context.now.env.now.found < 2 ^ 16 }
     requires tests { Tests context.now.tables.now table conds.now }
     ensures effect { IfOk result (IsEffect context.now.tables.now (layer.Delete table conds.now) context.now.env.now (applied (earlier context.now.number context.now.undo.now) (V.sight view.old).database)) }
@@ -286,7 +286,7 @@ pub(crate) fn update<V: View>(
     update: &Update<'_>,
     view: &mut V,
 ) -> Result<Effect, Refused>
-    requires stands { Stands context.now.tables.now (earlier context.now.number context.now.undo.now) (V.sight view.old).database }
+    requires stands { AreSoundTables context.now.tables.now (earlier context.now.number context.now.undo.now) (V.sight view.old).database }
     requires found { context.now.env.now.found < 2 ^ 16 }
     requires tests { Tests context.now.tables.now update.now.table update.now.conds.now }
     requires sets { Sets context.now.tables.now update.now.table update.now.items.now }

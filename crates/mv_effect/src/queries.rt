@@ -15,7 +15,7 @@ ghost use Rattle.mv_alone.specs.Rows.{aggregate, is_some_row, item_at, matching,
 ghost use Rattle.mv_recorded.specs.Asking.{column_in, with_sorts, KnowsKey};
 ghost use Rattle.mv_undo.specs.Owning.{earlier};
 ghost use Rattle.mv_recorded.specs.Effects.{IsEffect, asks, asked_by, asked_then, row_number, going, taking, totalling};
-ghost use Rattle.mv_effect.specs.Looking.{Stands, OnlyAsks, different, AskedAtMost, AskedFor};
+ghost use Rattle.mv_effect.specs.Looking.{AreSoundTables, OnlyAsks, different, AskedAtMost, AskedFor};
 ghost use Rattle.mv_effect.specs.Naming.{Tests, AreColumns};
 ghost use Rattle.mv_effect.specs.Totalling.{total_asked};
 
@@ -127,7 +127,7 @@ fn select_asked<V: View>(
     asked: (Pred, i64),
     view: &mut V,
 ) -> Result<Effect, Refused>
-    requires stands { Stands context.now.tables.now (earlier context.now.number context.now.undo.now) (V.sight view.old).database }
+    requires stands { AreSoundTables context.now.tables.now (earlier context.now.number context.now.undo.now) (V.sight view.old).database }
     requires found { context.now.env.now.found < 2 ^ 16 }
     requires knows { KnowsKey context.now.tables.now asked.0 }
     ensures effect { IfOk result (λ e. e ≡ taking asked.0 query.now.columns.now to.now (item_at (ordered query.now.sorts.now (found_by asked.0 (applied (earlier context.now.number context.now.undo.now) (V.sight view.old).database))) asked.1) context.now.env.now) }
@@ -152,7 +152,7 @@ pub(crate) fn select<V: View>(
     at: &Option<RExpr>,
     view: &mut V,
 ) -> Result<Effect, Refused>
-    requires stands { Stands context.now.tables.now (earlier context.now.number context.now.undo.now) (V.sight view.old).database }
+    requires stands { AreSoundTables context.now.tables.now (earlier context.now.number context.now.undo.now) (V.sight view.old).database }
     requires found { context.now.env.now.found < 2 ^ 16 }
     requires tests { Tests context.now.tables.now query.now.table query.now.conds.now }
     requires columns { AreColumns context.now.tables.now query.now.table (with_sorts query.now.columns.now query.now.sorts.now) }
@@ -228,7 +228,7 @@ fn aggregate_asked<V: View>(
     pred: Pred,
     view: &mut V,
 ) -> Result<Effect, Refused>
-    requires stands { Stands context.now.tables.now (earlier context.now.number context.now.undo.now) (V.sight view.old).database }
+    requires stands { AreSoundTables context.now.tables.now (earlier context.now.number context.now.undo.now) (V.sight view.old).database }
     requires found { context.now.env.now.found < 2 ^ 16 }
     requires knows { KnowsKey context.now.tables.now pred }
     ensures effect { IfOk result (λ e. e ≡ total_asked agg to pred (found_by pred (applied (earlier context.now.number context.now.undo.now) (V.sight view.old).database)) context.now.env.now) }
@@ -255,7 +255,7 @@ pub(crate) fn total<V: View>(
     conds: &[RCond],
     view: &mut V,
 ) -> Result<Effect, Refused>
-    requires stands { Stands context.now.tables.now (earlier context.now.number context.now.undo.now) (V.sight view.old).database }
+    requires stands { AreSoundTables context.now.tables.now (earlier context.now.number context.now.undo.now) (V.sight view.old).database }
     requires found { context.now.env.now.found < 2 ^ 16 }
     requires tests { Tests context.now.tables.now table conds.now }
     requires columns { AreColumns context.now.tables.now table (column_in agg) }
@@ -308,7 +308,7 @@ pub(crate) fn for_select<V: View>(
     query: &Query<'_>,
     view: &mut V,
 ) -> Result<Effect, Refused>
-    requires stands { Stands context.now.tables.now (earlier context.now.number context.now.undo.now) (V.sight view.old).database }
+    requires stands { AreSoundTables context.now.tables.now (earlier context.now.number context.now.undo.now) (V.sight view.old).database }
     requires found { context.now.env.now.found < 2 ^ 16 }
     requires tests { Tests context.now.tables.now query.now.table query.now.conds.now }
     requires columns { AreColumns context.now.tables.now query.now.table (with_sorts query.now.columns.now query.now.sorts.now) }

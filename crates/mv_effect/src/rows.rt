@@ -12,7 +12,7 @@ ghost use Rattle.mv_record.specs.Admitting.{Admitted};
 ghost use Rattle.mv_record.specs.Writes.{AreRising};
 ghost use Rattle.mv_undo.specs.Owning.{earlier, is_among, is_sought, touches, AreSought};
 ghost use Rattle.mv_view.specs.Viewing.{MayAnswer, answered, with_row_call};
-ghost use Rattle.mv_effect.specs.Looking.{different, Stands, OnlyAsks, AskedAtMost};
+ghost use Rattle.mv_effect.specs.Looking.{different, AreSoundTables, OnlyAsks, AskedAtMost};
 ghost use Rattle.mv_effect.specs.Firsts.{is_met_before, IsFirstOf};
 ghost use Rattle.mv_recorded.specs.Asking.{KnowsKey};
 
@@ -116,7 +116,7 @@ pub(crate) fn visible_rows<V: View>(
     pred: &Pred,
     view: &mut V,
 ) -> Result<Rows, Refused>
-    requires stands { Stands context.now.tables.now (earlier context.now.number context.now.undo.now) (V.sight view.old).database }
+    requires stands { AreSoundTables context.now.tables.now (earlier context.now.number context.now.undo.now) (V.sight view.old).database }
     requires knows { KnowsKey context.now.tables.now pred.now }
     ensures found { IfOk result (λ rows. rows ≡ found_by pred.now (applied (earlier context.now.number context.now.undo.now) (V.sight view.old).database)) }
     ensures view { OnlyAsks (V.sight view.old) (V.sight view.new) result }
@@ -259,7 +259,7 @@ pub(crate) fn first_visible<V: View>(
     direction: Direction,
     view: &mut V,
 ) -> Result<Option<Keyed>, Refused>
-    requires stands { Stands context.now.tables.now (earlier context.now.number context.now.undo.now) (V.sight view.old).database }
+    requires stands { AreSoundTables context.now.tables.now (earlier context.now.number context.now.undo.now) (V.sight view.old).database }
     requires knows { KnowsKey context.now.tables.now pred.now }
     ensures found { IfOk result (λ row. row ≡ foremost direction (found_by pred.now (applied (earlier context.now.number context.now.undo.now) (V.sight view.old).database))) }
     ensures view { OnlyAsks (V.sight view.old) (V.sight view.new) result }

@@ -31,7 +31,7 @@ use Rattle.mv_effect.specs.Choosing.{Chooses}
 use Rattle.mv_exec.specs.declared.places.Place.{Place}
 use Rattle.mv_exec.specs.declared.task.Task.{Task}
 use Rattle.mv_exec.specs.Left.{Job, run, left, inside}
-use Rattle.mv_exec.specs.Places.{block_of, statement_before, holder_of, site_in, site_of, some_run, some_turns, turns_of, jobs_here, jobs_of, jobs_left, StandsAt}
+use Rattle.mv_exec.specs.Places.{block_of, statement_before, holder_of, site_in, site_of, some_run, some_turns, turns_of, jobs_here, jobs_of, jobs_left, HoldsPlace}
 use Rattle.mv_exec.specs.Moves.{inner_places, after_empty_loop, place_after}
 use Rattle.mv_exec.specs.Tasks.{places_of, state_of, left_of, IsTask, IsHeldBefore, AreHeldBefore}
 use Rattle.mv_exec.proofs.Leaving.{statement_first}
@@ -108,7 +108,7 @@ from_first xs n x h =
     f.rest ∙ ap (λ (y : _). y ∷ drop (n + 1) xs) (some_is f.it x (slice_get xs n) f.there h)
 
 -- what a task will leave: the next statement's own record, and what comes behind it
-pub left_next : (proc : ProcInfo) (tables : List TableInfo) (task : Task) (db : Tables) (outer : List Place) (p : Place) (s : RStmt) → StandsAt proc (places_of task) outer p s
+pub left_next : (proc : ProcInfo) (tables : List TableInfo) (task : Task) (db : Tables) (outer : List Place) (p : Place) (s : RStmt) → HoldsPlace proc (places_of task) outer p s
     → let site : Site = site_of outside outer in
     let st : State = state_of task db in
     let own : Record = own_record tables task.parameters (out-RStmt s) p.number (site_in p.holder site) task.records st in
@@ -130,12 +130,12 @@ left_next proc tables task db outer p s at =
 -- Where a record has been added
 
 -- the statement that the innermost place has passed
-pub held_statement : (proc : ProcInfo) (ps outer : List Place) (p : Place) (s : RStmt) (m : ℕ) → StandsAt proc ps outer p s → holder_of proc None (outer ++ place_after m p ∷ []) ≡ Some s
+pub held_statement : (proc : ProcInfo) (ps outer : List Place) (p : Place) (s : RStmt) (m : ℕ) → HoldsPlace proc ps outer p s → holder_of proc None (outer ++ place_after m p ∷ []) ≡ Some s
 held_statement proc ps outer p s m at =
     holding_more proc None outer (place_after m p)
     ∙ (ap (slice_get (block_of proc (holder_of proc None outer) p)) (let e : p.at + 1 - 1 ≡ p.at = omega arith in e) ∙ at.stands)
 
-new_jobs : (proc : ProcInfo) (task : Task) (r : Record) (outer : List Place) (p : Place) (s : RStmt) (b : Bool) → IsTask proc task → StandsAt proc (places_of task) outer p s
+new_jobs : (proc : ProcInfo) (task : Task) (r : Record) (outer : List Place) (p : Place) (s : RStmt) (b : Bool) → IsTask proc task → HoldsPlace proc (places_of task) outer p s
     → let site : Site = site_of outside outer in
     let block : List RStmt = block_of proc (holder_of proc None outer) p in
     jobs_left proc (task.records ++ r ∷ []) ((outer ++ place_after (size s) p ∷ []) ++ inner_places (length task.records) p.number b (out-RStmt s))
@@ -169,7 +169,7 @@ pub first_same : (r q : Record) (rs qs : List Record) → r ∷ rs ≡ q ∷ qs 
 first_same r q rs qs h = (cc, cc)
 
 own_goes : (proc : ProcInfo) (tables : List TableInfo) (task : Task) (db : Tables) (tail : List Record) (outer : List Place) (p : Place) (s : RStmt) (b : Bool) (next : State)
-    → IsTask proc task → StandsAt proc (places_of task) outer p s → Chooses task.variables.env b (out-RStmt s)
+    → IsTask proc task → HoldsPlace proc (places_of task) outer p s → Chooses task.variables.env b (out-RStmt s)
     → let site : Site = site_in p.holder (site_of outside outer) in
     let st : State = state_of task db in
     let own : Record = own_record tables task.parameters (out-RStmt s) p.number site task.records st in
@@ -201,7 +201,7 @@ own_goes proc tables task db tail outer p s b next t at chosen ok is tails =
 
 -- a record that is the next one leads to where the rest is left
 pub goes_on : (proc : ProcInfo) (tables : List TableInfo) (task : Task) (db : Tables) (r : Record) (tail : List Record) (outer : List Place) (p : Place) (s : RStmt) (b : Bool)
-    → IsTask proc task → StandsAt proc (places_of task) outer p s → Chooses task.variables.env b (out-RStmt s) → HasColumns (out-RStmt s) → AreRising db
+    → IsTask proc task → HoldsPlace proc (places_of task) outer p s → Chooses task.variables.env b (out-RStmt s) → HasColumns (out-RStmt s) → AreRising db
     → left_of proc tables task db ≡ r ∷ tail → r.end ≡ None → Goes proc tables task db r tail outer p s b
 goes_on proc tables task db r tail outer p s b t at chosen has rise leaves ends = by (itself tables y st) refl
   where
@@ -239,7 +239,7 @@ goes_on proc tables task db r tail outer p s b t at chosen has rise leaves ends 
 
 -- behind a record that ends the call nothing is left
 pub ends_all : (proc : ProcInfo) (tables : List TableInfo) (task : Task) (db : Tables) (r : Record) (tail : List Record) (outer : List Place) (p : Place) (s : RStmt) (e : End)
-    → StandsAt proc (places_of task) outer p s → left_of proc tables task db ≡ r ∷ tail → r.end ≡ Some e → tail ≡ []
+    → HoldsPlace proc (places_of task) outer p s → left_of proc tables task db ≡ r ∷ tail → r.end ≡ Some e → tail ≡ []
 ends_all proc tables task db r tail outer p s e at leaves ends = by (itself tables (out-RStmt s) (state_of task db)) (ap (λ (q : Record). q.end) both.0 ∙ ends) both.1
   where
     site : Site

@@ -8,7 +8,7 @@ use Rattle.mv_record.specs.Runs.{writes_in}
 use Rattle.mv_exec.specs.declared.task.Task.{Task}
 use Rattle.mv_exec.specs.Tasks.{left_of, IsTask, StandsAsBefore}
 use Rattle.mv_exec.specs.Ahead.{ForeseesLeft}
-use Rattle.mv_exec.specs.Steps.{HasAdded}
+use Rattle.mv_exec.specs.Steps.{HasAddedRecord}
 use Rattle.mv_exec.proofs.Stepping.{some_left}
 
 -- something is ahead of a call that hasn't ended
@@ -26,7 +26,7 @@ still_live proc old new t live before = by new.ended refl
     by true e = absurd (some_left proc old t live [] [] (sym (before.left [] []) ∙ none_ended proc new e [] []))
     by false e = e
 
-pub added_before : (proc : ProcInfo) (old mid : Task) (r : Record) (new : Task) → StandsAsBefore proc old mid → HasAdded proc mid r new → HasAdded proc old r new
+pub added_before : (proc : ProcInfo) (old mid : Task) (r : Record) (new : Task) → StandsAsBefore proc old mid → HasAddedRecord proc mid r new → HasAddedRecord proc old r new
 added_before proc old mid r new before added = record {
   parameters = added.parameters ∙ before.parameters;
   records = added.records ∙ ap (λ rs. rs ++ r ∷ []) before.records;

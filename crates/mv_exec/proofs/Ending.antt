@@ -6,13 +6,13 @@ use Rattle.mv_catalog.specs.declared.resolved.ProcInfo.{ProcInfo}
 use Rattle.mv_catalog.specs.declared.resolved.RStmt.{RStmt}
 use Rattle.mv_exec.specs.declared.places.Place.{Place}
 use Rattle.mv_exec.specs.declared.task.Task.{Task}
-use Rattle.mv_exec.specs.Places.{block_of, holder_of, next_turn, StandsAt}
+use Rattle.mv_exec.specs.Places.{block_of, holder_of, next_turn, HoldsPlace}
 use Rattle.mv_exec.specs.Tasks.{places_of, left_of, IsTask, StandsAsBefore, TellsEnd}
 use Rattle.mv_exec.proofs.Turning.{FirstOf, first_of, IsDue, standing_live, after_turn, turned_before, turned_first}
 use Rattle.mv_exec.proofs.Adding.{left_next}
 
 -- a statement that stands at the innermost place is left
-stands_left : (proc : ProcInfo) (tables : List TableInfo) (task : Task) (db : Tables) (outer : List Place) (p : Place) (s : RStmt) → StandsAt proc (places_of task) outer p s
+stands_left : (proc : ProcInfo) (tables : List TableInfo) (task : Task) (db : Tables) (outer : List Place) (p : Place) (s : RStmt) → HoldsPlace proc (places_of task) outer p s
     → left_of proc tables task db ≡ [] → ⊥
 stands_left proc tables task db outer p s at none = let e = sym (left_next proc tables task db outer p s at) ∙ none in cc
 

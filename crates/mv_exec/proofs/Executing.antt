@@ -25,10 +25,10 @@ use Rattle.mv_exec.specs.declared.places.Place.{Place}
 use Rattle.mv_exec.specs.declared.task.Ahead.{Ahead}
 use Rattle.mv_exec.specs.declared.task.Task.{Task}
 use Rattle.mv_exec.specs.Left.{run, left, inside}
-use Rattle.mv_exec.specs.Places.{block_of, holder_of, site_in, site_of, turns_of, jobs_left, StandsAt}
+use Rattle.mv_exec.specs.Places.{block_of, holder_of, site_in, site_of, turns_of, jobs_left, HoldsPlace}
 use Rattle.mv_exec.specs.Tasks.{places_of, state_of, left_of, IsTask}
 use Rattle.mv_exec.specs.Ahead.{ForeseesLeft, ahead_in}
-use Rattle.mv_exec.specs.Steps.{HasAdded, HasExecuted}
+use Rattle.mv_exec.specs.Steps.{HasAddedRecord, HasExecuted}
 use Rattle.mv_exec.specs.Running.{Foresees}
 use Rattle.mv_exec.proofs.Adding.{left_next}
 use Rattle.mv_exec.proofs.Writing.{own_writes}
@@ -46,7 +46,7 @@ pub record LeavesNext (proc : ProcInfo) (tables : List TableInfo) (task : Task) 
 
 -- the record of the next statement's effect is the next one
 effect_next : (proc : ProcInfo) (tables : List TableInfo) (task : Task) (db : Tables) (outer : List Place) (p : Place) (s : RStmt) (ahead : Ahead) (e : Effect)
-    → IsTask proc task → StandsAt proc (places_of task) outer p s → ForeseesLeft proc task (Some ahead)
+    → IsTask proc task → HoldsPlace proc (places_of task) outer p s → ForeseesLeft proc task (Some ahead)
     → IsEffect tables (out-RStmt s) task.variables.env (applied (earlier (length task.records) task.undo) db) e → LeavesNext proc tables task db (record_of ahead.spot ahead.parent ahead.reads e)
 effect_next proc tables task db outer p s ahead e t at next effect =
     let st : State = state_of task db in
@@ -67,22 +67,22 @@ effect_next proc tables task db outer p s ahead e t at next effect =
 -- What was executed
 
 -- a record more was counted
-pub counts_one : (proc : ProcInfo) (old : Task) (r : Record) (new : Task) (all number : ℕ) → HasAdded proc old r new → new.executed ≡ old.executed → all ≡ length new.records → number ≡ length old.records
+pub counts_one : (proc : ProcInfo) (old : Task) (r : Record) (new : Task) (all number : ℕ) → HasAddedRecord proc old r new → new.executed ≡ old.executed → all ≡ length new.records → number ≡ length old.records
     → new.executed + (all - number) ≡ old.executed + 1
 counts_one proc old r new all number h same is was =
     let more : length new.records ≡ length old.records + 1 = ap length h.records ∙ length_push old.records r in
     omega (arith, more, is, was, same)
 
 -- the same record was added to the call with another count
-recounted : (proc : ProcInfo) (old : Task) (r : Record) (new : Task) (n : ℕ) → HasAdded proc old r new → HasAdded proc old r (record new { executed = n })
+recounted : (proc : ProcInfo) (old : Task) (r : Record) (new : Task) (n : ℕ) → HasAddedRecord proc old r new → HasAddedRecord proc old r (record new { executed = n })
 recounted proc old r new n h = record { parameters = h.parameters; records = h.records; beginning = h.beginning; left = h.left; keys = h.keys }
 
 -- the next record of the run was added
 pub executed_next : (proc : ProcInfo) (tables : List TableInfo) (old new : Task) (before after : Sight) (n : ℕ) (outer : List Place) (p : Place) (s : RStmt) (ahead : Ahead) (e : Effect) (r : Record)
-    → IsTask proc old → StandsAt proc (places_of old) outer p s → HasColumns (out-RStmt s) → AreRising before.database → ForeseesLeft proc old (Some ahead)
+    → IsTask proc old → HoldsPlace proc (places_of old) outer p s → HasColumns (out-RStmt s) → AreRising before.database → ForeseesLeft proc old (Some ahead)
     → IsEffect tables (out-RStmt s) old.variables.env (applied (earlier (length old.records) old.undo) before.database) e
     → AskedFor e.preds (earlier (length old.records) old.undo) before after
-    → r ≡ record_of ahead.spot ahead.parent ahead.reads e → HasAdded proc old r new → HasExecuted tables proc old (record new { executed = n }) before after
+    → r ≡ record_of ahead.spot ahead.parent ahead.reads e → HasAddedRecord proc old r new → HasExecuted tables proc old (record new { executed = n }) before after
 executed_next proc tables old new before after n outer p s ahead e r t at has rise next effect asked is added =
     let it : LeavesNext proc tables old before.database (record_of ahead.spot ahead.parent ahead.reads e) = effect_next proc tables old before.database outer p s ahead e t at next effect in
     let left : left_of proc tables old before.database ≡ r ∷ it.tail = it.left ∙ ap (λ q. q ∷ it.tail) (sym is) in

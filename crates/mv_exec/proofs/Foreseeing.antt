@@ -14,10 +14,10 @@ use Rattle.mv_graph.specs.Nodes.{TellsOf}
 use Rattle.mv_exec.specs.declared.places.Place.{Place}
 use Rattle.mv_exec.specs.declared.task.Task.{Task}
 use Rattle.mv_exec.specs.Env.{CallVariables}
-use Rattle.mv_exec.specs.Places.{site_in, site_of, next_turn, place_due, with_next_row, StandsAt, IsAt}
+use Rattle.mv_exec.specs.Places.{site_in, site_of, next_turn, place_due, with_next_row, HoldsPlace, IsPlacedAt}
 use Rattle.mv_exec.specs.Tasks.{places_of, left_of, definer_in, in_turn_at, task_at, IsTask, StandsAsBefore}
 use Rattle.mv_exec.specs.Running.{Foresees}
-use Rattle.mv_exec.specs.Ahead.{GoesOn, ahead_at, ForeseesLeft}
+use Rattle.mv_exec.specs.Ahead.{IsNextPlace, ahead_at, ForeseesLeft}
 use Rattle.mv_exec.proofs.Turning.{IsDue, standing_live, after_turn, turned_task, turned_before}
 use Rattle.mv_exec.proofs.Adding.{left_next}
 
@@ -37,7 +37,7 @@ reads_same params loops records definers y h =
 -- at the place at which a call goes on, whatever its variables are there
 foresees_at : (proc : ProcInfo) (task : Task) (variables : CallVariables) (ps : List Place) (ended : Bool) (outer : List Place) (p : Place) (s : RStmt) (xs : List ℕ) → IsTask proc task
     → let then : Task = record task { variables = variables; places = ps; ended = ended } in
-    ((tables : List TableInfo) (db : Tables) → left_of proc tables then db ≡ left_of proc tables task db) → StandsAt proc (places_of then) outer p s
+    ((tables : List TableInfo) (db : Tables) → left_of proc tables then db ≡ left_of proc tables task db) → HoldsPlace proc (places_of then) outer p s
     → xs ≡ read_variables task.parameters (expressions (out-RStmt s)) → ForeseesLeft proc task (Some (ahead_at task.definers (site_in p.holder (site_of outside outer)) p.number xs))
 foresees_at proc task variables ps ended outer p s xs t left at are tables db =
     let then : Task = record task { variables = variables; places = ps; ended = ended } in
@@ -50,13 +50,13 @@ foresees_at proc task variables ps ended outer p s xs t left at are tables db =
     )
 
 -- the turn that is due
-pub due_turn : (proc : ProcInfo) (task : Task) (place : Place) (s : RStmt) (turn : Bool) → task.ended ≡ false → (go : GoesOn proc task place s turn) → turn ≡ true → IsDue proc (places_of task) go.outer go.last
+pub due_turn : (proc : ProcInfo) (task : Task) (place : Place) (s : RStmt) (turn : Bool) → task.ended ≡ false → (go : IsNextPlace proc task place s turn) → turn ≡ true → IsDue proc (places_of task) go.outer go.last
 due_turn proc task place s turn live go e = record { are = standing_live task.ended task.places live ∙ go.are; none = go.due ∙ ap not e }
 
-pub in_turn : (proc : ProcInfo) (task : Task) (place : Place) (s : RStmt) (turn : Bool) (go : GoesOn proc task place s turn) → turn ≡ true → next_turn go.last ≡ place
+pub in_turn : (proc : ProcInfo) (task : Task) (place : Place) (s : RStmt) (turn : Bool) (go : IsNextPlace proc task place s turn) → turn ≡ true → next_turn go.last ≡ place
 in_turn proc task place s turn go e = sym (go.is ∙ ap (λ b. place_due b go.last) e)
 
-pub stands_here : (proc : ProcInfo) (task : Task) (place : Place) (s : RStmt) (turn : Bool) → task.ended ≡ false → (go : GoesOn proc task place s turn) → turn ≡ false → StandsAt proc (places_of task) go.outer place s
+pub stands_here : (proc : ProcInfo) (task : Task) (place : Place) (s : RStmt) (turn : Bool) → task.ended ≡ false → (go : IsNextPlace proc task place s turn) → turn ≡ false → HoldsPlace proc (places_of task) go.outer place s
 stands_here proc task place s turn live go e = record {
   are = standing_live task.ended task.places live ∙ (go.are ∙ ap (λ q. go.outer ++ q ∷ []) (sym (go.is ∙ ap (λ b. place_due b go.last) e)));
   stands = go.stands;
@@ -64,7 +64,7 @@ stands_here proc task place s turn live go e = record {
 
 -- what is ahead is as the node of the statement tells
 pub foresees : (proc : ProcInfo) (task : Task) (place : Place) (s : RStmt) (turn : Bool) (node : Node) → IsTask proc task → task.ended ≡ false → task.parameters ≡ length proc.params
-    → (go : GoesOn proc task place s turn) → TellsOf proc s node → ForeseesLeft proc task (Some (ahead_at task.definers (site_in place.holder (site_of outside go.outer)) place.number node.reads))
+    → (go : IsNextPlace proc task place s turn) → TellsOf proc s node → ForeseesLeft proc task (Some (ahead_at task.definers (site_in place.holder (site_of outside go.outer)) place.number node.reads))
 foresees proc task place s turn node t live params go tells = by turn refl
   where
     reads : node.reads ≡ read_variables task.parameters (expressions (out-RStmt s))
@@ -86,9 +86,9 @@ foresees proc task place s turn node t live params go tells = by turn refl
 pub record IsCome (proc : ProcInfo) (old new : Task) (place : Place) (s : RStmt) : Type 0 where
   pub whole : IsTask proc new
   pub same : StandsAsBefore proc old new
-  pub at : IsAt proc (places_of new) place s
+  pub at : IsPlacedAt proc (places_of new) place s
 
-turned_come : (proc : ProcInfo) (task : Task) (place : Place) (s : RStmt) (go : GoesOn proc task place s true) → IsTask proc task → task.ended ≡ false
+turned_come : (proc : ProcInfo) (task : Task) (place : Place) (s : RStmt) (go : IsNextPlace proc task place s true) → IsTask proc task → task.ended ≡ false
     → IsCome proc task (in_turn_at task go.outer go.last place) place s
 turned_come proc task place s go t live =
     let due : IsDue proc (places_of task) go.outer go.last = due_turn proc task place s true live go refl in
@@ -105,14 +105,14 @@ turned_come proc task place s go t live =
       at = (go.outer, record { are = ap (λ q. go.outer ++ q ∷ []) (in_turn proc task place s true go refl); stands = go.stands });
     })
 
-here_come : (proc : ProcInfo) (task : Task) (place : Place) (s : RStmt) (go : GoesOn proc task place s false) → IsTask proc task → task.ended ≡ false → IsCome proc task task place s
+here_come : (proc : ProcInfo) (task : Task) (place : Place) (s : RStmt) (go : IsNextPlace proc task place s false) → IsTask proc task → task.ended ≡ false → IsCome proc task task place s
 here_come proc task place s go t live = record {
   whole = t;
   same = record { parameters = refl; records = refl; executed = refl; undo = refl; beginning = refl; left = λ tables db. refl };
   at = (go.outer, stands_here proc task place s false live go refl);
 }
 
-pub come : (proc : ProcInfo) (task : Task) (place : Place) (s : RStmt) (turn : Bool) (new : Task) → IsTask proc task → task.ended ≡ false → (go : GoesOn proc task place s turn)
+pub come : (proc : ProcInfo) (task : Task) (place : Place) (s : RStmt) (turn : Bool) (new : Task) → IsTask proc task → task.ended ≡ false → (go : IsNextPlace proc task place s turn)
     → new ≡ task_at task go.outer go.last place turn → IsCome proc task new place s
 come proc task place s true new t live go is = subst (λ u. IsCome proc task u place s) (sym is) (turned_come proc task place s go t live)
 come proc task place s false new t live go is = subst (λ u. IsCome proc task u place s) (sym is) (here_come proc task place s go t live)

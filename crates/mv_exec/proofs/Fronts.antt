@@ -18,9 +18,9 @@ use Rattle.mv_graph.specs.Nodes.{IsSound, meaning_of}
 use Rattle.mv_exec.specs.declared.task.Ahead.{Ahead}
 use Rattle.mv_exec.specs.declared.task.Task.{Task}
 use Rattle.mv_exec.specs.Tasks.{left_of, run_of, IsTask, StandsAsBefore, BeginsCall, TellsEnd}
-use Rattle.mv_exec.specs.Running.{Leaves, IsTaskOf, IsTaskOn, IsRunningOn, IsSameCall, IsSameCallOn, IsUnchanged, Foresees, IsAhead, HasContent, HasAdopted, GoesOnWith, HasRun, EndsExactly, count_left}
+use Rattle.mv_exec.specs.Running.{HasLeft, IsTaskOf, IsTaskOn, IsRunningOn, IsSameCall, IsSameCallOn, IsUnchanged, Foresees, IsAhead, HasContent, HasAdopted, GoesOnWith, HasRun, EndsExactly, count_left}
 use Rattle.mv_exec.specs.Ahead.{ForeseesLeft}
-use Rattle.mv_exec.specs.Steps.{HasAdded, HasExecuted}
+use Rattle.mv_exec.specs.Steps.{HasAddedRecord, HasExecuted}
 use Rattle.mv_exec.proofs.Adopting.{added_before, none_ended, some_ahead}
 use Rattle.mv_exec.proofs.Ending as ending
 use Rattle.mv_exec.proofs.Writing.{has_writes}
@@ -28,13 +28,13 @@ use Rattle.mv_exec.proofs.Writing.{has_writes}
 -- Records after those of a task
 
 -- fewer records of a run leave more of it
-less_leaves : (g : Graph) (call : Call) (db : Tables) (old new : Task) (more rest : List Record) → new.records ≡ old.records ++ more → Leaves g call db new rest → Leaves g call db old (more ++ rest)
+less_leaves : (g : Graph) (call : Call) (db : Tables) (old new : Task) (more rest : List Record) → new.records ≡ old.records ++ more → HasLeft g call db new rest → HasLeft g call db old (more ++ rest)
 less_leaves g call db old new more rest is h = h ∙ (ap (λ rs. rs ++ rest) is ∙ append_assoc old.records more rest)
 
-more_leaves : (g : Graph) (call : Call) (db : Tables) (old new : Task) (more rest : List Record) → new.records ≡ old.records ++ more → Leaves g call db old (more ++ rest) → Leaves g call db new rest
+more_leaves : (g : Graph) (call : Call) (db : Tables) (old new : Task) (more rest : List Record) → new.records ≡ old.records ++ more → HasLeft g call db old (more ++ rest) → HasLeft g call db new rest
 more_leaves g call db old new more rest is h = h ∙ (sym (append_assoc old.records more rest) ∙ ap (λ rs. rs ++ rest) (sym is))
 
-same_leaves : (g : Graph) (call : Call) (db : Tables) (old new : Task) (rest : List Record) → new.records ≡ old.records → Leaves g call db new rest → Leaves g call db old rest
+same_leaves : (g : Graph) (call : Call) (db : Tables) (old new : Task) (rest : List Record) → new.records ≡ old.records → HasLeft g call db new rest → HasLeft g call db old rest
 same_leaves g call db old new rest is h = h ∙ ap (λ rs. rs ++ rest) is
 
 -- The same call
@@ -78,7 +78,7 @@ pub running_on : (g : Graph) (db : Tables) (old new : Task) → IsSameCallOn g d
 running_on g db old new same on = (on.0, same on.0 on.1)
 
 -- a call with one record more
-pub grows : (g : Graph) (call : Call) (old new : Task) (r : Record) → IsTask g.procedure new → HasAdded g.procedure old r new → new.variables.env.found ≡ old.variables.env.found → IsTaskOf g call old → IsTaskOf g call new
+pub grows : (g : Graph) (call : Call) (old new : Task) (r : Record) → IsTask g.procedure new → HasAddedRecord g.procedure old r new → new.variables.env.found ≡ old.variables.env.found → IsTaskOf g call old → IsTaskOf g call new
 grows g call old new r whole added found is = record {
   whole = whole;
   begins = (added.beginning ∙ is.begins.0, added.parameters ∙ is.begins.1);
@@ -87,7 +87,7 @@ grows g call old new r whole added found is = record {
   left = λ db rest rise h. added.left g.tables db rest rise (is.left db (r ∷ rest) rise (less_leaves g call db old new (r ∷ []) rest added.records h));
   writes = has_writes g.procedure new whole;
   keys = λ db rest base h.
-      let before : Leaves g call db old (r ∷ rest) = less_leaves g call db old new (r ∷ []) rest added.records h in
+      let before : HasLeft g call db old (r ∷ rest) = less_leaves g call db old new (r ∷ []) rest added.records h in
       added.keys g.tables db rest base.rising (is.left db (r ∷ rest) base.rising before) (is.keys db (r ∷ rest) base before);
 }
 
@@ -185,10 +185,10 @@ pub goes_on : (g : Graph) (old new : Task) (given : Record) → HasAdopted g old
 goes_on g old new given has call db r rest is rise leaves content =
     let sees = has.place call db (r ∷ rest) is rise leaves in
     let same : r ≡ has.next = same_in given r has.next content has.content sees.0 sees.1 sees.2 in
-    more_leaves g call db old new (has.next ∷ []) rest has.records (subst (λ q. Leaves g call db old (q ∷ rest)) same leaves)
+    more_leaves g call db old new (has.next ∷ []) rest has.records (subst (λ q. HasLeft g call db old (q ∷ rest)) same leaves)
 
 pub adopted : (g : Graph) (old new : Task) (ahead : Ahead) (given r : Record) → IsAhead g old (Some ahead) → r ≡ record given { spot = ahead.spot; parent = ahead.parent; reads = ahead.reads }
-    → HasAdded g.procedure old r new → new.executed ≡ old.executed → HasAdopted g old given new
+    → HasAddedRecord g.procedure old r new → new.executed ≡ old.executed → HasAdopted g old given new
 adopted g old new ahead given r next is added executed =
     let at : ahead ≡ record { spot = r.spot; parent = r.parent; reads = r.reads } = ap (λ (q : Record). (let a : Ahead = record { spot = q.spot; parent = q.parent; reads = q.reads } in a)) (sym is) in
     record {
@@ -208,14 +208,14 @@ executed_on g old new before after rise same it call on =
     record {
       is = same call on.is;
       rest = left_of g.procedure g.tables new before.database;
-      leaves = more_leaves g call before.database old new (it.next ∷ []) (left_of g.procedure g.tables new before.database) it.added.records (subst (Leaves g call before.database old) left on.leaves);
+      leaves = more_leaves g call before.database old new (it.next ∷ []) (left_of g.procedure g.tables new before.database) it.added.records (subst (HasLeft g call before.database old) left on.leaves);
     }
 
 pub has_run : (g : Graph) (old new : Task) (before after : Sight) → HasExecuted g.tables g.procedure old new before after → new.executed ≡ old.executed + 1 → HasRun old new before after
 has_run g old new before after it counted = record { next = it.next; records = it.added.records; executed = counted; asked = it.asked }
 
 -- a call that has added the next record of its full run will still add fewer
-pub fewer_left : (g : Graph) (call : Call) (db : Tables) (old new : Task) (r : Record) (rest : List Record) → AreRising db → IsTaskOf g call old → IsTaskOf g call new → Leaves g call db old (r ∷ rest) → Leaves g call db new rest
+pub fewer_left : (g : Graph) (call : Call) (db : Tables) (old new : Task) (r : Record) (rest : List Record) → AreRising db → IsTaskOf g call old → IsTaskOf g call new → HasLeft g call db old (r ∷ rest) → HasLeft g call db new rest
     → count_left g db new < count_left g db old
 fewer_left g call db old new r rest rise was is before after = omega (arith, ap length (was.left db (r ∷ rest) rise before), ap length (is.left db rest rise after))
 

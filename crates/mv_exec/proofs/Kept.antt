@@ -22,7 +22,7 @@ use Rattle.mv_recorded.proofs.Standing.{itself_stands}
 use Rattle.mv_exec.specs.declared.places.Place.{Place}
 use Rattle.mv_exec.specs.declared.task.Task.{Task}
 use Rattle.mv_exec.specs.Left.{run, left, inside}
-use Rattle.mv_exec.specs.Places.{block_of, holder_of, site_in, site_of, turns_of, jobs_left, StandsAt}
+use Rattle.mv_exec.specs.Places.{block_of, holder_of, site_in, site_of, turns_of, jobs_left, HoldsPlace}
 use Rattle.mv_exec.specs.Tasks.{places_of, state_of, left_of}
 use Rattle.mv_exec.proofs.Adding.{left_next, first_same, applied_both, writes_more}
 
@@ -34,7 +34,7 @@ keys_told tables y r st (Err e) is keys tells = subst (λ ws. KeysStand tables (
 
 -- so does the record that is left next
 pub keys_after : (proc : ProcInfo) (tables : List TableInfo) (task : Task) (db : Tables) (r : Record) (tail : List Record) (outer : List Place) (p : Place) (s : RStmt)
-    → StandsAt proc (places_of task) outer p s → HasColumns (out-RStmt s) → AreRising db → left_of proc tables task db ≡ r ∷ tail
+    → HoldsPlace proc (places_of task) outer p s → HasColumns (out-RStmt s) → AreRising db → left_of proc tables task db ≡ r ∷ tail
     → KeysStand tables (applied (writes_in task.records) db) → KeysStand tables (applied (writes_in (task.records ++ r ∷ [])) db)
 keys_after proc tables task db r tail outer p s at has rise leaves keys =
     let st : State = state_of task db in

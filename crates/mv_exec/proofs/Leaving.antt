@@ -21,7 +21,7 @@ use Rattle.mv_alone.specs.TableAfter.{begun}
 use Rattle.mv_record.specs.declared.record.Record.{Record}
 use Rattle.mv_recorded.specs.Asking.{on}
 use Rattle.mv_recorded.specs.Doing.{fixed_rows, itself, before_turns}
-use Rattle.mv_recorded.specs.Recorded.{Tells, Site, tell, tell_step, tell_turns, tell_loop, tell_statements, own_record, outside, recorded, within, within_loop, in_turn}
+use Rattle.mv_recorded.specs.Recorded.{Recorder, Site, tell, tell_step, tell_turns, tell_loop, tell_statements, own_record, outside, recorded, within, within_loop, in_turn}
 use Rattle.mv_recorded.proofs.Following.{body_is}
 use Rattle.mv_recorded.proofs.Unrolled.{with_tells, tell_is, does_is}
 use Rattle.mv_exec.specs.Left.{Job, run, turns, left, inside}
@@ -81,7 +81,7 @@ Begins tables params y n site before st js =
 -- what is told inside a statement behind its own record
 inner_turns : (tables : List TableInfo) (params : ℕ) (own : Record) (before : List Record) (r : Result (List (List Value)) End) (x : ℕ) (body : List RStmt) (n : ℕ) (site : Site) (st : State) (js : List Job)
     (number : ℕ) (again : Does) → again ≡ alone tables body
-    → let tells : Tells = tell_statements tables params body in
+    → let tells : Recorder = tell_statements tables params body in
     Split tables params (own ∷ on r (λ rows. tell_loop x again tells rows n site (before ++ own ∷ []) st)) (then_do r (λ rows. loop_over x (alone tables body) rows st)) js before
     ≡ own ∷ on (before_turns r st) (left tables params (on r (λ rows. turns site n x body rows 1 ∷ []) ++ js) (before ++ own ∷ []))
 inner_turns tables params own before (Ok rows) x body n site st js number again same =
@@ -115,11 +115,11 @@ then_loops : {A : Type 0} (r : Result A End) (rows : A → List (List Value)) (d
 then_loops (Ok a) rows d = refl
 then_loops (Err e) rows d = refl
 
-sizes_map : (tables : List TableInfo) (params : ℕ) (ss : List RStmt) → map (λ (s : RStmt × Tells). size s.0) (map (λ s. (s, tell tables params s)) ss) ≡ map size ss
+sizes_map : (tables : List TableInfo) (params : ℕ) (ss : List RStmt) → map (λ (s : RStmt × Recorder). size s.0) (map (λ s. (s, tell tables params s)) ss) ≡ map size ss
 sizes_map tables params [] = refl
 sizes_map tables params (s ∷ ss) = ap (λ l. size s ∷ l) (sizes_map tables params ss)
 
-sizes_same : (tables : List TableInfo) (params : ℕ) (ss : List RStmt) → total_size (map (λ (s : RStmt × Tells). size s.0) (map (λ s. (s, tell tables params s)) ss)) ≡ size_of ss
+sizes_same : (tables : List TableInfo) (params : ℕ) (ss : List RStmt) → total_size (map (λ (s : RStmt × Recorder). size s.0) (map (λ s. (s, tell tables params s)) ss)) ≡ size_of ss
 sizes_same tables params ss = ap total_size (sizes_map tables params ss)
 
 statement_begins : (tables : List TableInfo) (params : ℕ) (y : RStmt-F RStmt) (n : ℕ) (site : Site) (before : List Record) (st : State) (js : List Job) → Begins tables params y n site before st js

@@ -10,7 +10,7 @@ use Rattle.mv_graph.proofs.Sizes.{some_size}
 use Rattle.mv_graph.proofs.Texts.{no_text, text_after, select_text, rows_text, yes_text, no_branch_text, text_fits}
 use Rattle.mv_exec.specs.declared.places.Holder.TheVariants as by
 use Rattle.mv_exec.specs.declared.places.Place.{Place}
-use Rattle.mv_exec.specs.Places.{body_in, branch_in, block_in, block_of, holder_of, IsNumbered, AreNumbered, StandsAt}
+use Rattle.mv_exec.specs.Places.{body_in, branch_in, block_in, block_of, holder_of, IsNumbered, AreNumbered, HoldsPlace}
 use Rattle.mv_exec.specs.Moves.{branch_place, loop_place, inner_places, place_after}
 use Rattle.mv_exec.proofs.Turning.{every_last, every_outer, every_more}
 use Rattle.mv_exec.proofs.Adding.{from_first, held_statement}
@@ -61,13 +61,13 @@ numbered_inside proc os s (Print es) number n b ss h at is text = subst (AreNumb
 numbered_inside proc os s (Rollback reason) number n b ss h at is text = subst (AreNumbered proc None) (sym (append-nil os)) h
 
 -- the text of the next statement, and of those after it in its list
-pub text_next : (proc : ProcInfo) (ps outer : List Place) (p : Place) (s : RStmt) → AreNumbered proc None ps → StandsAt proc ps outer p s
+pub text_next : (proc : ProcInfo) (ps outer : List Place) (p : Place) (s : RStmt) → AreNumbered proc None ps → HoldsPlace proc ps outer p s
     → HasText proc p.number (s ∷ drop (p.at + 1) (block_of proc (holder_of proc None outer) p))
 text_next proc ps outer p s h at =
     text_at proc (block_of proc (holder_of proc None outer) p) p s (every_last (IsNumbered proc) proc None outer p (subst (AreNumbered proc None) at.are h)) at.stands
 
 -- after a statement and inside it
-pub numbered_on : (proc : ProcInfo) (ps outer : List Place) (p : Place) (s : RStmt) (number : ℕ) (b : Bool) → AreNumbered proc None ps → StandsAt proc ps outer p s
+pub numbered_on : (proc : ProcInfo) (ps outer : List Place) (p : Place) (s : RStmt) (number : ℕ) (b : Bool) → AreNumbered proc None ps → HoldsPlace proc ps outer p s
     → AreNumbered proc None ((outer ++ place_after (size s) p ∷ []) ++ inner_places number p.number b (out-RStmt s))
 numbered_on proc ps outer p s number b h at =
     let block : List RStmt = block_of proc (holder_of proc None outer) p in
@@ -82,7 +82,7 @@ long_enough [] = omega arith
 long_enough (s ∷ block) = omega (arith, some_size s, long_enough block)
 
 -- the numbers of the next statement and of its place fit
-pub small_next : (proc : ProcInfo) (ps outer : List Place) (p : Place) (s : RStmt) → AreNumbered proc None ps → StandsAt proc ps outer p s → size_of proc.body ≤ 1000
+pub small_next : (proc : ProcInfo) (ps outer : List Place) (p : Place) (s : RStmt) → AreNumbered proc None ps → HoldsPlace proc ps outer p s → size_of proc.body ≤ 1000
     → (p.number + size s < 2 ^ 16) × (p.at < 2 ^ 16)
 small_next proc ps outer p s h at short =
     let block : List RStmt = block_of proc (holder_of proc None outer) p in

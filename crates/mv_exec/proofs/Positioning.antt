@@ -16,7 +16,7 @@ use Rattle.mv_exec.specs.declared.places.Place.{Place}
 use Rattle.mv_exec.specs.declared.task.Task.{Task}
 use Rattle.mv_exec.specs.Places.{block_of, holder_of, has_turn, next_turn, place_due, AreFilled}
 use Rattle.mv_exec.specs.Tasks.{places_of, IsTask}
-use Rattle.mv_exec.specs.Ahead.{GoesOn}
+use Rattle.mv_exec.specs.Ahead.{IsNextPlace}
 use Rattle.mv_exec.proofs.Turning.{FirstOf, first_of, standing_live, turn_owed, turned_task, same_block, filled_last}
 use Rattle.mv_exec.proofs.Numbering.{text_next}
 use Rattle.mv_exec.proofs.Foreseeing.{due_turn, in_turn, stands_here}
@@ -64,7 +64,7 @@ twice_not false c e = sym (ap not e)
 
 pub goes_on : (proc : ProcInfo) (task : Task) (ps outer : List Place) (last place : Place) (block : List RStmt) (s : RStmt) (b turn : Bool) → ps ≡ task.places → ps ≡ outer ++ last ∷ []
     → block ≡ block_of proc (holder_of proc None outer) last → b ≡ nat_lt last.at (length block) → turn ≡ not b → place ≡ place_due turn last → Some s ≡ slice_get block place.at
-    → GoesOn proc task place s turn
+    → IsNextPlace proc task place s turn
 goes_on proc task ps outer last place block s b turn same are is at due where_is found = record {
   outer = outer;
   last = last;
@@ -76,7 +76,7 @@ goes_on proc task ps outer last place block s b turn same are is at due where_is
 
 -- The node of the statement
 
-pub text_there : (proc : ProcInfo) (task : Task) (place : Place) (s : RStmt) (turn : Bool) → IsTask proc task → task.ended ≡ false → (go : GoesOn proc task place s turn)
+pub text_there : (proc : ProcInfo) (task : Task) (place : Place) (s : RStmt) (turn : Bool) → IsTask proc task → task.ended ≡ false → (go : IsNextPlace proc task place s turn)
     → HasText proc place.number (s ∷ drop (place.at + 1) (block_of proc (holder_of proc None go.outer) place))
 text_there proc task place s turn t live go = by turn refl
   where
@@ -87,18 +87,18 @@ text_there proc task place s turn t live go = by turn refl
         (record { are = ap (λ q. go.outer ++ q ∷ []) (in_turn proc task place s turn go e); stands = go.stands })
     by false e = text_next proc (places_of task) go.outer place s t.numbers (stands_here proc task place s turn live go e)
 
-node_there : (g : Graph) (task : Task) (place : Place) (s : RStmt) (turn : Bool) → IsTask g.procedure task → task.ended ≡ false → GoesOn g.procedure task place s turn → NodeAt g.procedure place.number s
+node_there : (g : Graph) (task : Task) (place : Place) (s : RStmt) (turn : Bool) → IsTask g.procedure task → task.ended ≡ false → IsNextPlace g.procedure task place s turn → NodeAt g.procedure place.number s
 node_there g task place s turn t live go =
     node_of_text g.procedure place.number s (drop (place.at + 1) (block_of g.procedure (holder_of g.procedure None go.outer) place)) (text_there g.procedure task place s turn t live go)
 
-pub some_node : (g : Graph) (task : Task) (place : Place) (s : RStmt) (turn : Bool) → IsGraph g → IsTask g.procedure task → task.ended ≡ false → GoesOn g.procedure task place s turn
+pub some_node : (g : Graph) (task : Task) (place : Place) (s : RStmt) (turn : Bool) → IsGraph g → IsTask g.procedure task → task.ended ≡ false → IsNextPlace g.procedure task place s turn
     → None ≡ slice_get g.nodes (place.number - 1) → ⊥
 some_node g task place s turn is t live go none =
     let it : NodeAt g.procedure place.number s = node_there g task place s turn t live go in
     let there : None ≡ Some it.node = none ∙ (ap (λ ns. slice_get ns (place.number - 1)) is ∙ it.there) in
     cc
 
-pub node_tells : (g : Graph) (task : Task) (place : Place) (s : RStmt) (turn : Bool) (node : Node) → IsGraph g → IsTask g.procedure task → task.ended ≡ false → GoesOn g.procedure task place s turn
+pub node_tells : (g : Graph) (task : Task) (place : Place) (s : RStmt) (turn : Bool) (node : Node) → IsGraph g → IsTask g.procedure task → task.ended ≡ false → IsNextPlace g.procedure task place s turn
     → Some node ≡ slice_get g.nodes (place.number - 1) → TellsOf g.procedure s node
 node_tells g task place s turn node is t live go found =
     let it : NodeAt g.procedure place.number s = node_there g task place s turn t live go in
@@ -107,7 +107,7 @@ node_tells g task place s turn node is t live go found =
     subst (TellsOf g.procedure s) same it.tells
 
 -- its number
-pub small_here : (proc : ProcInfo) (task : Task) (place : Place) (s : RStmt) (turn : Bool) → IsTask proc task → task.ended ≡ false → GoesOn proc task place s turn → size_of proc.body ≤ 1000
+pub small_here : (proc : ProcInfo) (task : Task) (place : Place) (s : RStmt) (turn : Bool) → IsTask proc task → task.ended ≡ false → IsNextPlace proc task place s turn → size_of proc.body ≤ 1000
     → place.number < 2 ^ 16
 small_here proc task place s turn t live go short =
     omega (arith, text_fits proc place.number (s ∷ drop (place.at + 1) (block_of proc (holder_of proc None go.outer) place)) (text_there proc task place s turn t live go), short)

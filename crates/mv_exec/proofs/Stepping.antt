@@ -28,9 +28,9 @@ use Rattle.mv_exec.specs.declared.task.Task.{Task}
 use Rattle.mv_exec.specs.Left.{left}
 use Rattle.mv_exec.specs.Keeping.{undo_of_all, undo_of, with_room, define, slot_room}
 use Rattle.mv_exec.specs.Moves.{branch_place, loop_place, inner_places, place_after, after_empty_loop}
-use Rattle.mv_exec.specs.Places.{body_in, branch_in, block_in, holder_of, AreFilled, IsNumbered, AreNumbered, StandsAt}
+use Rattle.mv_exec.specs.Places.{body_in, branch_in, block_in, holder_of, AreFilled, IsNumbered, AreNumbered, HoldsPlace}
 use Rattle.mv_exec.specs.Tasks.{none_in, places_of, beginning, state_of, left_of, definer_in, IsTask, IsHeldBefore, AreHeldBefore, IsTrimmed}
-use Rattle.mv_exec.specs.Steps.{with_writes, with_record, HasFronts, IsWidened, HasAdded}
+use Rattle.mv_exec.specs.Steps.{with_writes, with_record, HasFronts, IsWidened, HasAddedRecord}
 use Rattle.mv_exec.proofs.Ending.{ends_exactly}
 use Rattle.mv_exec.proofs.Found.{record_found}
 use Rattle.mv_exec.proofs.Kept.{keys_after}
@@ -114,13 +114,13 @@ inner_held n os m b (Delete t conds) h = subst (AreHeldBefore (n + 1)) (sym (app
 inner_held n os m b (Print es) h = subst (AreHeldBefore (n + 1)) (sym (append-nil os)) h
 inner_held n os m b (Rollback reason) h = subst (AreHeldBefore (n + 1)) (sym (append-nil os)) h
 
-going_filled : (proc : ProcInfo) (number : ℕ) (ps outer : List Place) (p : Place) (s : RStmt) (b : Bool) → StandsAt proc ps outer p s → AreFilled proc None ps → AreFilled proc None (going number outer p s b)
+going_filled : (proc : ProcInfo) (number : ℕ) (ps outer : List Place) (p : Place) (s : RStmt) (b : Bool) → HoldsPlace proc ps outer p s → AreFilled proc None ps → AreFilled proc None (going number outer p s b)
 going_filled proc number ps outer p s b at h =
     let were : AreFilled proc None (outer ++ p ∷ []) = subst (AreFilled proc None) at.are h in
     inner_filled proc (outer ++ place_after (size s) p ∷ []) s (out-RStmt s) number p.number b (held_statement proc ps outer p s (size s) at) refl
     (filled_more proc None outer (place_after (size s) p) (filled_outer proc None outer p were) (filled_last proc None outer p were))
 
-going_held : (proc : ProcInfo) (number : ℕ) (ps outer : List Place) (p : Place) (s : RStmt) (b : Bool) → StandsAt proc ps outer p s → AreHeldBefore number ps → AreHeldBefore (number + 1) (going number outer p s b)
+going_held : (proc : ProcInfo) (number : ℕ) (ps outer : List Place) (p : Place) (s : RStmt) (b : Bool) → HoldsPlace proc ps outer p s → AreHeldBefore number ps → AreHeldBefore (number + 1) (going number outer p s b)
 going_held proc number ps outer p s b at h =
     let were : AreHeldBefore (number + 1) (outer ++ p ∷ []) = held_later number (outer ++ p ∷ []) (subst (AreHeldBefore number) at.are h) in
     inner_held number (outer ++ place_after (size s) p ∷ []) p.number b (out-RStmt s)
@@ -133,7 +133,7 @@ going_some number (q ∷ outer) p s b = omega arith
 -- What a call keeps
 
 -- what it keeps wherever it stands
-pub record IsKept (proc : ProcInfo) (task : Task) : Type 0 where
+pub record IsTaskKept (proc : ProcInfo) (task : Task) : Type 0 where
   pub filled : AreFilled proc None task.places
   pub numbers : AreNumbered proc None task.places
   pub holders : AreHeldBefore (length task.records) task.places
@@ -158,8 +158,8 @@ definers_then ds rs r h x =
     ∙ (ap (λ n. if list_any (λ (s : Slot). s.slot == x) r.sets then Some n else last_place (sets_variable x) 0 rs) (let e : length rs ≡ 0 + length rs = omega arith in e)
     ∙ sym (last_more (sets_variable x) 0 rs r)))
 
-pub going_kept : (proc : ProcInfo) (task : Task) (r : Record) (env : Env) (outer : List Place) (p : Place) (s : RStmt) (b : Bool) → IsTask proc task → StandsAt proc (places_of task) outer p s
-    → IsKept proc (with_record task r env (going (length task.records) outer p s b))
+pub going_kept : (proc : ProcInfo) (task : Task) (r : Record) (env : Env) (outer : List Place) (p : Place) (s : RStmt) (b : Bool) → IsTask proc task → HoldsPlace proc (places_of task) outer p s
+    → IsTaskKept proc (with_record task r env (going (length task.records) outer p s b))
 going_kept proc task r env outer p s b t at = record {
   filled = going_filled proc (length task.records) (places_of task) outer p s b at t.filled;
   numbers = numbered_on proc (places_of task) outer p s (length task.records) b t.numbers at;
@@ -171,7 +171,7 @@ going_kept proc task r env outer p s b t at = record {
   counted = omega (arith, t.counted, length_push task.records r);
 }
 
-trimmed_task : (proc : ProcInfo) (mid new : Task) → IsKept proc mid → IsTrimmed proc mid new → IsTask proc new
+trimmed_task : (proc : ProcInfo) (mid new : Task) → IsTaskKept proc mid → IsTrimmed proc mid new → IsTask proc new
 trimmed_task proc mid new k t = subst (IsTask proc) (sym t.rest) (record {
   filled = subst (AreFilled proc None) (sym t.front) (filled_front proc None t.stay mid.places k.filled);
   numbers = subst (AreNumbered proc None) (sym t.front) (every_front (IsNumbered proc) proc None t.stay mid.places k.numbers);
@@ -184,7 +184,7 @@ trimmed_task proc mid new k t = subst (IsTask proc) (sym t.rest) (record {
   counted = k.counted;
 })
 
-ended_task : (proc : ProcInfo) (mid : Task) → IsKept proc mid → IsTask proc (record mid { ended = true })
+ended_task : (proc : ProcInfo) (mid : Task) → IsTaskKept proc mid → IsTask proc (record mid { ended = true })
 ended_task proc mid k = record {
   filled = tt;
   numbers = tt;
@@ -204,8 +204,8 @@ abbrev pub behind_record : Task → Record → List Place → Place → RStmt �
 behind_record task r outer p s b = with_record task r (after_empty_loop (out-RStmt s) r.rows (with_slots r.sets task.variables.env)) (going (length task.records) outer p s b)
 
 trimmed_added : (proc : ProcInfo) (task : Task) (r : Record) (outer : List Place) (p : Place) (s : RStmt) (b : Bool) (new : Task)
-    → IsTask proc task → StandsAt proc (places_of task) outer p s → Chooses task.variables.env b (out-RStmt s) → HasColumns (out-RStmt s) → r.end ≡ None
-    → IsTrimmed proc (behind_record task r outer p s b) new → HasAdded proc task r new
+    → IsTask proc task → HoldsPlace proc (places_of task) outer p s → Chooses task.variables.env b (out-RStmt s) → HasColumns (out-RStmt s) → r.end ≡ None
+    → IsTrimmed proc (behind_record task r outer p s b) new → HasAddedRecord proc task r new
 trimmed_added proc task r outer p s b new t at chosen has ends trim =
     let mid : Task = behind_record task r outer p s b in
     record {
@@ -222,8 +222,8 @@ trimmed_added proc task r outer p s b new t at chosen has ends trim =
     }
 
 ended_added : (proc : ProcInfo) (task : Task) (r : Record) (outer : List Place) (p : Place) (s : RStmt) (b : Bool) (e : End)
-    → StandsAt proc (places_of task) outer p s → HasColumns (out-RStmt s) → r.end ≡ Some e
-    → HasAdded proc task r (let mid : Task = behind_record task r outer p s b in record mid { ended = true })
+    → HoldsPlace proc (places_of task) outer p s → HasColumns (out-RStmt s) → r.end ≡ Some e
+    → HasAddedRecord proc task r (let mid : Task = behind_record task r outer p s b in record mid { ended = true })
 ended_added proc task r outer p s b e at has ends = record {
   parameters = refl;
   records = refl;
@@ -242,7 +242,7 @@ some_left proc task t live tables db none = let ended : task.ended ≡ true = (e
 
 -- that a record was added to this call at this statement, up to its end or the dropping of places
 pub record IsPast (proc : ProcInfo) (task : Task) (r : Record) (outer : List Place) (p : Place) (s : RStmt) (b : Bool) (mid new : Task) (ends : Bool) : Type 0 where
-  pub stands : StandsAt proc (places_of task) outer p s
+  pub stands : HoldsPlace proc (places_of task) outer p s
   pub is : mid ≡ behind_record task r outer p s b
   pub ended : ends ≡ true → new ≡ record mid { ended = true }
   pub trimmed : ends ≡ false → IsTrimmed proc mid new
@@ -251,19 +251,19 @@ pub past_task : (proc : ProcInfo) (task : Task) (r : Record) (outer : List Place
     → IsPast proc task r outer p s b mid new ends → IsTask proc new
 past_task proc task r outer p s b mid new ends t past = by ends refl
   where
-    kept : IsKept proc mid
-    kept = subst (IsKept proc) (sym past.is) (going_kept proc task r (after_empty_loop (out-RStmt s) r.rows (with_slots r.sets task.variables.env)) outer p s b t past.stands)
+    kept : IsTaskKept proc mid
+    kept = subst (IsTaskKept proc) (sym past.is) (going_kept proc task r (after_empty_loop (out-RStmt s) r.rows (with_slots r.sets task.variables.env)) outer p s b t past.stands)
 
     by : (e : Bool) → ends ≡ e → IsTask proc new
     by true e = subst (IsTask proc) (sym (past.ended e)) (ended_task proc mid kept)
     by false e = trimmed_task proc mid new kept (past.trimmed e)
 
 pub past_added : (proc : ProcInfo) (task : Task) (r : Record) (outer : List Place) (p : Place) (s : RStmt) (b : Bool) (mid new : Task) (end : Option End) (ends : Bool) → IsTask proc task
-    → Chooses task.variables.env b (out-RStmt s) → HasColumns (out-RStmt s) → r.end ≡ end → ends ≡ is_some end → IsPast proc task r outer p s b mid new ends → HasAdded proc task r new
+    → Chooses task.variables.env b (out-RStmt s) → HasColumns (out-RStmt s) → r.end ≡ end → ends ≡ is_some end → IsPast proc task r outer p s b mid new ends → HasAddedRecord proc task r new
 past_added proc task r outer p s b mid new None ends t chosen has end are past =
     trimmed_added proc task r outer p s b new t past.stands chosen has end (subst (λ m. IsTrimmed proc m new) past.is (past.trimmed are))
 past_added proc task r outer p s b mid new (Some e) ends t chosen has end are past =
-    subst (HasAdded proc task r) (sym (past.ended are ∙ ap (λ (m : Task). record m { ended = true }) past.is)) (ended_added proc task r outer p s b e past.stands has end)
+    subst (HasAddedRecord proc task r) (sym (past.ended are ∙ ap (λ (m : Task). record m { ended = true }) past.is)) (ended_added proc task r outer p s b e past.stands has end)
 
 pub past_found : (proc : ProcInfo) (task : Task) (r : Record) (outer : List Place) (p : Place) (s : RStmt) (b : Bool) (mid new : Task) (ends : Bool)
     → IsPast proc task r outer p s b mid new ends → new.variables.env.found ≡ task.variables.env.found

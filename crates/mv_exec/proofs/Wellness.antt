@@ -14,7 +14,7 @@ use Rattle.mv_recorded.proofs.Effects.{columns_there}
 use Rattle.mv_exec.specs.declared.places.Holder.{Holder}
 use Rattle.mv_exec.specs.declared.places.Holder.TheVariants as by
 use Rattle.mv_exec.specs.declared.places.Place.{Place}
-use Rattle.mv_exec.specs.Places.{body_in, branch_in, block_in, block_of, statement_before, holder_of, IsAt}
+use Rattle.mv_exec.specs.Places.{body_in, branch_in, block_in, block_of, statement_before, holder_of, IsPlacedAt}
 
 -- for some variables
 abbrev AllWell : List TableInfo → List RStmt → Type 0
@@ -63,7 +63,7 @@ well_at tables proc outer p s is stands =
     subst (SomeWell tables) stands (get_well tables (block_of proc (holder_of proc None outer) p) p.at block.0 block.1)
 
 -- it has a column for each target
-pub columns_at : (tables : List TableInfo) (proc : ProcInfo) (ps : List Place) (p : Place) (s : RStmt) → IsProcedure tables proc → IsAt proc ps p s → HasColumns (out-RStmt s)
+pub columns_at : (tables : List TableInfo) (proc : ProcInfo) (ps : List Place) (p : Place) (s : RStmt) → IsProcedure tables proc → IsPlacedAt proc ps p s → HasColumns (out-RStmt s)
 columns_at tables proc ps p s is at =
     let well : (vars : Vars) × IsWell tables s vars = well_at tables proc at.0 p s is at.1.stands in
     columns_there tables (λ s. s) (IsWell tables) (out-RStmt s) well.0 (well_by tables (out-RStmt s) s well.0 (roll-out-RStmt s) well.1)

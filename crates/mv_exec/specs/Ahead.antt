@@ -16,7 +16,7 @@ use Rattle.mv_exec.specs.Tasks.{left_of, definer_in}
 use Rattle.mv_exec.specs.Running.{Foresees}
 
 -- a call continues at this place, before this statement. If a turn is due, it is the place in that turn.
-pub record GoesOn (proc : ProcInfo) (task : Task) (place : Place) (s : RStmt) (turn : Bool) : Type 0 where
+pub record IsNextPlace (proc : ProcInfo) (task : Task) (place : Place) (s : RStmt) (turn : Bool) : Type 0 where
   pub outer : List Place
   pub last : Place
   pub are : task.places ≡ outer ++ last ∷ []

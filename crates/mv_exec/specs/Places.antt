@@ -142,12 +142,12 @@ abbrev pub AreNumbered : ProcInfo → Option RStmt → List Place → Type 0
 AreNumbered proc = Every (IsNumbered proc) proc
 
 -- this is the innermost place, after those outside it, and it is before this statement
-pub record StandsAt (proc : ProcInfo) (ps outer : List Place) (p : Place) (s : RStmt) : Type 0 where
+pub record HoldsPlace (proc : ProcInfo) (ps outer : List Place) (p : Place) (s : RStmt) : Type 0 where
   pub are : ps ≡ outer ++ p ∷ []
   pub stands : slice_get (block_of proc (holder_of proc None outer) p) p.at ≡ Some s
 
-abbrev pub IsAt : ProcInfo → List Place → Place → RStmt → Type 0
-IsAt proc ps p s = (outer : List Place) × StandsAt proc ps outer p s
+abbrev pub IsPlacedAt : ProcInfo → List Place → Place → RStmt → Type 0
+IsPlacedAt proc ps p s = (outer : List Place) × HoldsPlace proc ps outer p s
 
 -- Turns
 

@@ -24,8 +24,8 @@ use Rattle.mv_exec.specs.Tasks.{IsTask, BeginsCall, left_of}
 -- What a running call is
 
 -- the full run of the call on a database adds these records after those of the task
-abbrev pub Leaves : Graph → Call → Tables → Task → List Record → Type 0
-Leaves g call db task rest = (meaning_of g call db).records ≡ task.records ++ rest
+abbrev pub HasLeft : Graph → Call → Tables → Task → List Record → Type 0
+HasLeft g call db task rest = (meaning_of g call db).records ≡ task.records ++ rest
 
 -- the task is this call of the graph, at some point of its run. What it keeps beside its records and its own writes is
 -- private.
@@ -34,15 +34,15 @@ pub record IsTaskOf (g : Graph) (call : Call) (task : Task) : Type 0 where
   pub begins : BeginsCall task g.procedure call
   pub fits : length call.arguments ≡ length g.procedure.params
   pub found : task.variables.env.found ≡ (entered g.procedure call).found
-  pub left : (db : Tables) (rest : List Record) → AreRising db → Leaves g call db task rest → left_of g.procedure g.tables task db ≡ rest
+  pub left : (db : Tables) (rest : List Record) → AreRising db → HasLeft g call db task rest → left_of g.procedure g.tables task db ≡ rest
   pub writes : HasWritesOf task.undo task.records
-  pub keys : (db : Tables) (rest : List Record) → IsDatabaseOf g.tables db → Leaves g call db task rest → KeysStand g.tables (applied (writes_in task.records) db)
+  pub keys : (db : Tables) (rest : List Record) → IsDatabaseOf g.tables db → HasLeft g call db task rest → KeysStand g.tables (applied (writes_in task.records) db)
 
 -- the task is this call of the graph, and its records are the first ones of its full run on a database
 pub record IsTaskOn (g : Graph) (call : Call) (db : Tables) (task : Task) : Type 0 where
   pub is : IsTaskOf g call task
   pub rest : List Record
-  pub leaves : Leaves g call db task rest
+  pub leaves : HasLeft g call db task rest
 
 -- it is a running call of the graph
 abbrev pub IsRunning : Graph → Task → Type 0
@@ -86,7 +86,7 @@ Foresees (Some ahead) (r ∷ rs) = (r.spot ≡ ahead.spot) × (r.parent ≡ ahea
 
 -- this is ahead of the call, on each database where its records are the first ones of its full run
 abbrev pub IsAhead : Graph → Task → Option Ahead → Type 0
-IsAhead g task ahead = (call : Call) (db : Tables) (rest : List Record) → IsTaskOf g call task → AreRising db → Leaves g call db task rest → Foresees ahead rest
+IsAhead g task ahead = (call : Call) (db : Tables) (rest : List Record) → IsTaskOf g call task → AreRising db → HasLeft g call db task rest → Foresees ahead rest
 
 -- a record has the content of another one: all but its place, its controller and its definers
 abbrev pub HasContent : Record → Record → Type 0
@@ -104,7 +104,7 @@ pub record HasAdopted (g : Graph) (old : Task) (given : Record) (new : Task) : T
 -- if a full run of the call continues with a record of this content, the rest of that run is left
 abbrev pub GoesOnWith : Graph → Task → Record → Task → Type 0
 GoesOnWith g old given new =
-    (call : Call) (db : Tables) (r : Record) (rest : List Record) → IsTaskOf g call old → AreRising db → Leaves g call db old (r ∷ rest) → HasContent given r → Leaves g call db new rest
+    (call : Call) (db : Tables) (r : Record) (rest : List Record) → IsTaskOf g call old → AreRising db → HasLeft g call db old (r ∷ rest) → HasContent given r → HasLeft g call db new rest
 
 -- a record was added by executing its statement; the view was queried for its predicates, over the writes of the
 -- records before it
@@ -136,4 +136,4 @@ pub record HasRunTo (old new : Task) (vain : ℕ) (before after : Sight) : Type 
 -- a call has ended exactly if its full run adds nothing more, on each database where its records are the first ones of
 -- that run
 abbrev pub EndsExactly : Type 0
-EndsExactly = (g : Graph) (call : Call) (db : Tables) (task : Task) (rest : List Record) → IsTaskOf g call task → AreRising db → Leaves g call db task rest → (task.ended ≡ true) ↔ (rest ≡ [])
+EndsExactly = (g : Graph) (call : Call) (db : Tables) (task : Task) (rest : List Record) → IsTaskOf g call task → AreRising db → HasLeft g call db task rest → (task.ended ≡ true) ↔ (rest ≡ [])

@@ -47,7 +47,7 @@ pub record IsWidened (old new : Task) : Type 0 where
 -- The call after it
 
 -- the record was added: if it was the next one, what comes after it is left, and each row stays under its own key
-pub record HasAdded (proc : ProcInfo) (old : Task) (r : Record) (new : Task) : Type 0 where
+pub record HasAddedRecord (proc : ProcInfo) (old : Task) (r : Record) (new : Task) : Type 0 where
   pub parameters : new.parameters ≡ old.parameters
   pub records : new.records ≡ old.records ++ r ∷ []
   pub beginning : beginning new ≡ beginning old
@@ -59,6 +59,6 @@ pub record HasAdded (proc : ProcInfo) (old : Task) (r : Record) (new : Task) : T
 -- of earlier records
 pub record HasExecuted (tables : List TableInfo) (proc : ProcInfo) (old new : Task) (before after : Sight) : Type 0 where
   pub next : Record
-  pub added : HasAdded proc old next new
+  pub added : HasAddedRecord proc old next new
   pub left : left_of proc tables old before.database ≡ next ∷ left_of proc tables new before.database
   pub asked : AskedFor next.preds (writes_in old.records) before after

@@ -10,8 +10,8 @@ ghost use Rattle.mv_catalog.specs.declared.resolved.RStmt.{out-RStmt};
 ghost use Rattle.mv_recorded.specs.Effect.{HasColumns};
 ghost use Rattle.mv_graph.specs.Nodes.{IsGraph, TellsOf};
 ghost use Rattle.mv_effect.specs.Choosing.{Chooses};
-ghost use Rattle.mv_exec.specs.Places.{IsAt};
-ghost use Rattle.mv_exec.specs.Steps.{HasAdded, HasFronts, IsWidened, with_writes};
+ghost use Rattle.mv_exec.specs.Places.{IsPlacedAt};
+ghost use Rattle.mv_exec.specs.Steps.{HasAddedRecord, HasFronts, IsWidened, with_writes};
 ghost use Rattle.mv_exec.specs.Running.{stepped};
 ghost use Rattle.mv_exec.specs.Tasks.{places_of, IsTask, StandsAsBefore, IsTrimmed};
 
@@ -150,13 +150,13 @@ pub(crate) fn add(
     requires nodes { IsGraph graph.now }
     requires task { IsTask graph.now.procedure task.old }
     requires live { task.old.ended ≡ false }
-    requires at { IsAt graph.now.procedure (places_of task.old) position.place position.statement.now }
+    requires at { IsPlacedAt graph.now.procedure (places_of task.old) position.place position.statement.now }
     requires node { TellsOf graph.now.procedure position.statement.now position.node.now }
     requires branch { Chooses task.old.variables.env yes (out-RStmt position.statement.now) }
     requires columns { HasColumns (out-RStmt position.statement.now) }
     requires short { size_of graph.now.procedure.body ≤ 1000 }
     ensures task { IsTask graph.now.procedure task.new }
-    ensures added { OnOk result (HasAdded graph.now.procedure task.old given task.new) }
+    ensures added { OnOk result (HasAddedRecord graph.now.procedure task.old given task.new) }
     ensures executed { OnOk result (task.new.executed ≡ task.old.executed) }
     ensures tells { IfOk result (λ s. s ≡ stepped task.new.ended) }
     ensures found { task.new.variables.env.found ≡ task.old.variables.env.found }

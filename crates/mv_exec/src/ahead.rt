@@ -7,9 +7,9 @@ ghost use Rattle.mv_recorded.specs.Reading.{loop_of};
 ghost use Rattle.mv_recorded.specs.Recorded.{outside};
 ghost use Rattle.mv_record.specs.declared.record.Read.{Read};
 ghost use Rattle.mv_graph.specs.Nodes.{IsGraph, TellsOf};
-ghost use Rattle.mv_exec.specs.Places.{site_in, site_of, IsAt};
+ghost use Rattle.mv_exec.specs.Places.{site_in, site_of, IsPlacedAt};
 ghost use Rattle.mv_exec.specs.Tasks.{places_of, IsTask, StandsAsBefore, definer_in};
-ghost use Rattle.mv_exec.specs.Ahead.{ForeseesLeft, GoesOn, ahead_at};
+ghost use Rattle.mv_exec.specs.Ahead.{ForeseesLeft, IsNextPlace, ahead_at};
 
 use crate::around::{loop_at, parent_at, turns_at};
 use crate::places::{Holder, Place, outer};
@@ -104,7 +104,7 @@ fn ahead_of(
     requires params { task.now.parameters ≡ length graph.now.procedure.params }
     requires live { task.now.ended ≡ false }
     requires short { size_of graph.now.procedure.body ≤ 1000 }
-    requires goes_on { GoesOn graph.now.procedure task.now position.place position.statement.now position.turn }
+    requires goes_on { IsNextPlace graph.now.procedure task.now position.place position.statement.now position.turn }
     requires node { TellsOf graph.now.procedure position.statement.now position.node.now }
     ensures { IfOk result (λ ahead. ForeseesLeft graph.now.procedure task.now (Some ahead)) }
 {
@@ -145,7 +145,7 @@ pub(crate) fn move_on<'g>(
     requires nodes { IsGraph graph.now }
     requires task { IsTask graph.now.procedure task.old }
     requires live { task.old.ended ≡ false }
-    ensures at { IfOk result (λ r. IsAt graph.now.procedure (places_of task.new) r.place r.statement.now) }
+    ensures at { IfOk result (λ r. IsPlacedAt graph.now.procedure (places_of task.new) r.place r.statement.now) }
     ensures node { IfOk result (λ r. TellsOf graph.now.procedure r.statement.now r.node.now) }
     ensures task { IsTask graph.now.procedure task.new }
     ensures same { StandsAsBefore graph.now.procedure task.old task.new }
@@ -170,7 +170,7 @@ pub(crate) fn come_to<'g>(
     requires live { task.old.ended ≡ false }
     requires short { size_of graph.now.procedure.body ≤ 1000 }
     ensures next { IfOk result (λ r. ForeseesLeft graph.now.procedure task.old (Some r.0)) }
-    ensures at { IfOk result (λ r. IsAt graph.now.procedure (places_of task.new) r.1.place r.1.statement.now) }
+    ensures at { IfOk result (λ r. IsPlacedAt graph.now.procedure (places_of task.new) r.1.place r.1.statement.now) }
     ensures node { IfOk result (λ r. TellsOf graph.now.procedure r.1.statement.now r.1.node.now) }
     ensures task { IsTask graph.now.procedure task.new }
     ensures same { StandsAsBefore graph.now.procedure task.old task.new }

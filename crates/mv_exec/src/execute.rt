@@ -9,7 +9,7 @@ ghost use Rattle.mv_undo.specs.Owning.{earlier};
 ghost use Rattle.mv_record.specs.Databases.{IsDatabaseOf};
 ghost use Rattle.mv_record.specs.Effects.{record_of};
 ghost use Rattle.mv_effect.specs.Looking.{OnlyAsks, AskedAtMost, different};
-ghost use Rattle.mv_exec.specs.Places.{IsAt};
+ghost use Rattle.mv_exec.specs.Places.{IsPlacedAt};
 ghost use Rattle.mv_exec.specs.Ahead.{ForeseesLeft};
 ghost use Rattle.mv_exec.specs.Running.{stepped};
 ghost use Rattle.mv_exec.specs.Steps.{HasExecuted};
@@ -56,7 +56,7 @@ pub(crate) fn execute<V: View>(
     requires sound { IsSound graph.now }
     requires task { IsTask graph.now.procedure task.old }
     requires live { task.old.ended ≡ false }
-    requires at { IsAt graph.now.procedure (places_of task.old) position.place position.statement.now }
+    requires at { IsPlacedAt graph.now.procedure (places_of task.old) position.place position.statement.now }
     requires node { TellsOf graph.now.procedure position.statement.now position.node.now }
     requires next { ForeseesLeft graph.now.procedure task.old (Some ahead) }
     requires found { task.old.variables.env.found < 2 ^ 16 }

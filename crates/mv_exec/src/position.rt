@@ -3,7 +3,7 @@
 ghost use Rattle.std.specs.Prelude.{◌≡◌, ◌-◌, true, false, slice_get};
 ghost use Rattle.std.specs.Option.{option_copied};
 ghost use Rattle.mv_graph.specs.Nodes.{IsGraph, TellsOf};
-ghost use Rattle.mv_exec.specs.Ahead.{GoesOn};
+ghost use Rattle.mv_exec.specs.Ahead.{IsNextPlace};
 ghost use Rattle.mv_exec.specs.Places.{has_turn, next_turn, place_due};
 ghost use Rattle.mv_exec.specs.Tasks.{IsTask};
 
@@ -72,7 +72,7 @@ pub(crate) fn next_position<'g>(graph: &'g Graph, task: &Task) -> Position<'g>
     requires nodes { IsGraph graph.now }
     requires task { IsTask graph.now.procedure task.now }
     requires live { task.now.ended ≡ false }
-    ensures goes_on { GoesOn graph.now.procedure task.now result.place result.statement.now result.turn }
+    ensures goes_on { IsNextPlace graph.now.procedure task.now result.place result.statement.now result.turn }
     ensures node { TellsOf graph.now.procedure result.statement.now result.node.now }
 {
     let Some((outer, last)) = innermost(task.places.as_slice()) else {

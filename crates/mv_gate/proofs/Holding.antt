@@ -20,7 +20,7 @@ use Rattle.mv_core.specs.declared.tasks.Running.{Running}
 use Rattle.mv_core.specs.Scripts.{work_of}
 use Rattle.mv_core.specs.Calls.{IsLive, IsLiveCall, turns_in, due_number}
 use Rattle.mv_core.specs.Books.{Booked, work_in, Made, IsSame, HasRounds, IsNotStale, IsFirstNumber}
-use Rattle.mv_core.specs.Cores.{RunsOn, IsStoreOf, HasTurns, HasStep, HasRunOn, HasRunOne, count_or, IsCounted, IsLiveTask, IsTaskIn, IsRunning}
+use Rattle.mv_core.specs.Cores.{RunsOn, IsStoreOf, HasTurns, HasStep, HasRunOn, HasRunOne, count_or, IsCounted, IsLiveTask, IsTaskIn, IsRunningIn}
 use Rattle.mv_core.proofs.Refusing.{begun_number, used_rounds}
 use Rattle.mv_core.proofs.Taking.{one_live, due_live, due_first, first_number, task_given, task_writes}
 use Rattle.mv_core.proofs.Changed.{step_used, live_stepped}
@@ -258,7 +258,7 @@ whole_same old new c r same h = record {
 }
 
 -- an open call over the store
-pub running_of : (b : Booked) (store : Versioned) (c : ℕ) (r : Running) → IsStoreOf b store → IsUnderWay b c r → IsRunning b store c r
+pub running_of : (b : Booked) (store : Versioned) (c : ℕ) (r : Running) → IsStoreOf b store → IsUnderWay b c r → IsRunningIn b store c r
 running_of b store c r k o = record { stored = k; live = o.live; number = o.there; task = o.task }
 
 -- the number of its first round

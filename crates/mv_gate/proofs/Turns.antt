@@ -6,7 +6,7 @@ use Rattle.mv_journal.specs.declared.event.Event.TheVariants.{B, S, A, M, C, X, 
 use Rattle.mv_journal.specs.declared.outcome.Mark.TheVariants.{Plain, Exclusive, Moved}
 use Rattle.mv_lawful.specs.Work.{Work}
 use Rattle.mv_lawful.specs.Lawful.{Live, Course, begin, again, finish, change_live, after}
-use Rattle.mv_core.specs.Calls.{Within}
+use Rattle.mv_core.specs.Calls.{WithinRounds}
 use Rattle.mv_core.specs.Cores.{HasTurns, last_start}
 use Rattle.mv_core.proofs.Taking.{turns_again, turns_begin, turns_grown}
 use Rattle.mv_core.proofs.Journals.{get_last, get_set}
@@ -18,7 +18,7 @@ turns_same n l m ts start h = record {
   rest = h.rest;
   turns = ts ∙ h.turns;
   last = ap last_start ts ∙ (h.last ∙ sym start);
-  within = subst (Within n) (sym ts) h.within;
+  within = subst (WithinRounds n) (sym ts) h.within;
   past = let a = h.past in omega (arith, a, start);
 }
 

@@ -6,8 +6,8 @@ use Rattle.std.proofs.lemmas.List.{drop-drop, take_at, drop_at, take-append-drop
 use Rattle.std.proofs.lemmas.List.Elements.{All-from_recursion}
 use Rattle.std.proofs.Math.Seq.{get_or-append_seam}
 use Rattle.mv_lex.specs.Bytes.{is_allowed}
-use Rattle.mv_lex.specs.Tokens.{Reads, stop, blank, comment, token, BeginsNothing, AreAllowed, AreTokens, IsBadByte, IsBadToken, IsSpelledIn}
-use Rattle.mv_lex.specs.Told.{Tells}
+use Rattle.mv_lex.specs.Tokens.{Lexes, stop, blank, comment, token, BeginsNothing, AreAllowed, AreTokens, IsBadByte, IsBadToken, IsSpelledIn}
+use Rattle.mv_lex.specs.Told.{LexesTo}
 use Rattle.mv_lex.specs.declared.token.Token.{Token}
 use Rattle.mv_lex.specs.declared.lexer.LexFault.{LexFault}
 use Rattle.mv_lex.specs.declared.lexer.LexFault.TheVariants.{BadByte, BadToken, NoMemory}
@@ -46,7 +46,7 @@ pub bad_not_allowed : (bytes : List ℕ) (place : ℕ) → IsBadByte bytes place
 bad_not_allowed bytes place b a = let l = b.0 in omega (arith, run_from_bad bytes place b, run_allowed bytes a)
 
 -- each token lies in the bytes and is spelled as its kind
-spelled_at : (whole : List ℕ) {place end : ℕ} {bytes rest : List ℕ} {tokens : List Token} → Reads place bytes tokens end rest
+spelled_at : (whole : List ℕ) {place end : ℕ} {bytes rest : List ℕ} {tokens : List Token} → Lexes place bytes tokens end rest
     → drop place whole ≡ bytes → place + length bytes ≡ length whole → AllByRecursion (IsSpelledIn whole) tokens
 spelled_at whole stop d l = tt
 spelled_at whole (blank {place = place} {b = b} {bytes = bytes} i s) d l =
@@ -65,11 +65,11 @@ pub all_spelled : (bytes : List ℕ) (tokens : List Token) → AreTokens bytes t
 all_spelled bytes tokens t = All-from_recursion (IsSpelledIn bytes) tokens (spelled_at bytes t.1 refl (omega arith))
 
 -- the clauses, of any answer that tells what is so
-pub tells_found : (bytes : List ℕ) (r : Result (List Token) LexFault) → Tells bytes r → IfOk r (λ tokens. AreTokens bytes tokens)
+pub tells_found : (bytes : List ℕ) (r : Result (List Token) LexFault) → LexesTo bytes r → IfOk r (λ tokens. AreTokens bytes tokens)
 tells_found bytes (Ok tokens) t = t
 tells_found bytes (Err e) t = tt
 
-pub tells_spelled : (bytes : List ℕ) (r : Result (List Token) LexFault) → Tells bytes r → IfOk r (λ tokens. All (IsSpelledIn bytes) tokens)
+pub tells_spelled : (bytes : List ℕ) (r : Result (List Token) LexFault) → LexesTo bytes r → IfOk r (λ tokens. All (IsSpelledIn bytes) tokens)
 tells_spelled bytes (Ok tokens) t = all_spelled bytes tokens t
 tells_spelled bytes (Err e) t = tt
 
@@ -78,7 +78,7 @@ not_both bytes place tokens (a, (before, rest, s, n)) t =
     let o = one_reading s (nothing_from rest n) t.1 nothing_at_end in
     subst BeginsNothing o.2 n
 
-pub tells_only : (bytes : List ℕ) (r : Result (List Token) LexFault) → Tells bytes r → (tokens : List Token) → AreTokens bytes tokens
+pub tells_only : (bytes : List ℕ) (r : Result (List Token) LexFault) → LexesTo bytes r → (tokens : List Token) → AreTokens bytes tokens
     → MatchResult r (λ answer. answer ≡ tokens) (λ fault. fault ≡ NoMemory)
 tells_only bytes (Ok answer) t tokens u = sym (one_reading t.1 nothing_at_end u.1 nothing_at_end).0
 tells_only bytes (Err (BadByte place)) t tokens u = absurd (bad_not_allowed bytes place t u.0)
@@ -88,22 +88,22 @@ tells_only bytes (Err NoMemory) t tokens u = refl
 abbrev Answer : Type 0
 Answer = Result (List Token) LexFault
 
-byte_told : (bytes : List ℕ) (r : Answer) → Tells bytes r → (place : ℕ) → r ≡ Err (BadByte place) → IsBadByte bytes place
+byte_told : (bytes : List ℕ) (r : Answer) → LexesTo bytes r → (place : ℕ) → r ≡ Err (BadByte place) → IsBadByte bytes place
 byte_told bytes (Ok answer) t place e = cc
 byte_told bytes (Err (BadByte other)) t place e = let f : other ≡ place = cc in subst (λ (k : ℕ). IsBadByte bytes k) f t
 byte_told bytes (Err (BadToken other)) t place e = cc
 byte_told bytes (Err NoMemory) t place e = cc
 
-tells_byte : (bytes : List ℕ) (r : Answer) → Tells bytes r → (place : ℕ) → IsBadByte bytes place → r ≡ Err (BadByte place)
+tells_byte : (bytes : List ℕ) (r : Answer) → LexesTo bytes r → (place : ℕ) → IsBadByte bytes place → r ≡ Err (BadByte place)
 tells_byte bytes (Ok answer) t place b = absurd (bad_not_allowed bytes place b t.0)
 tells_byte bytes (Err (BadByte other)) t place b = ap (λ (k : ℕ). Err (BadByte k)) (sym (run_from_bad bytes other t) ∙ run_from_bad bytes place b)
 tells_byte bytes (Err (BadToken other)) t place b = absurd (bad_not_allowed bytes place b t.0)
 tells_byte bytes (Err NoMemory) t place b = absurd (bad_not_allowed bytes place b t)
 
-pub tells_bad_byte : (bytes : List ℕ) (r : Answer) → Tells bytes r → (place : ℕ) → (r ≡ Err (BadByte place)) ↔ IsBadByte bytes place
+pub tells_bad_byte : (bytes : List ℕ) (r : Answer) → LexesTo bytes r → (place : ℕ) → (r ≡ Err (BadByte place)) ↔ IsBadByte bytes place
 tells_bad_byte bytes r t place = (byte_told bytes r t place, tells_byte bytes r t place)
 
-pub tells_bad_token : (bytes : List ℕ) (r : Answer) → Tells bytes r → (place : ℕ) → r ≡ Err (BadToken place) → IsBadToken bytes place
+pub tells_bad_token : (bytes : List ℕ) (r : Answer) → LexesTo bytes r → (place : ℕ) → r ≡ Err (BadToken place) → IsBadToken bytes place
 tells_bad_token bytes (Ok answer) t place e = cc
 tells_bad_token bytes (Err (BadByte other)) t place e = cc
 tells_bad_token bytes (Err (BadToken other)) t place e = let f : other ≡ place = cc in subst (λ (k : ℕ). IsBadToken bytes k) f t
@@ -112,7 +112,7 @@ tells_bad_token bytes (Err NoMemory) t place e = cc
 same_place : (bytes : List ℕ) (m n : ℕ) → IsBadToken bytes m → IsBadToken bytes n → m ≡ n
 same_place bytes m n (a, (before, rest, s, i)) (b, (others, over, r, j)) = (one_reading s (nothing_from rest i) r (nothing_from over j)).1
 
-pub tells_bad_token_told : (bytes : List ℕ) (r : Answer) → Tells bytes r → (place : ℕ) → IsBadToken bytes place → (r ≡ Err (BadToken place)) ⊎ (r ≡ Err NoMemory)
+pub tells_bad_token_told : (bytes : List ℕ) (r : Answer) → LexesTo bytes r → (place : ℕ) → IsBadToken bytes place → (r ≡ Err (BadToken place)) ⊎ (r ≡ Err NoMemory)
 tells_bad_token_told bytes (Ok answer) t place b = absurd (not_both bytes place answer b t)
 tells_bad_token_told bytes (Err (BadByte other)) t place b = absurd (bad_not_allowed bytes other t b.0)
 tells_bad_token_told bytes (Err (BadToken other)) t place b = inl (ap (λ (k : ℕ). Err (BadToken k)) (same_place bytes other place t b))

@@ -1,10 +1,10 @@
 -- There are no more tokens than bytes.
 use Rattle.std.proofs.Common.{ℕ, ◌≤◌, List, length, arith, length-append}
 use Rattle.mv_lex.proofs.Pieces.{some_bytes}
-use Rattle.mv_lex.specs.Tokens.{Reads, stop, blank, comment, token, AreTokens}
+use Rattle.mv_lex.specs.Tokens.{Lexes, stop, blank, comment, token, AreTokens}
 use Rattle.mv_lex.specs.declared.token.Token.{Token}
 
-few : {place end : ℕ} {bytes rest : List ℕ} {tokens : List Token} → Reads place bytes tokens end rest → length tokens ≤ length bytes
+few : {place end : ℕ} {bytes rest : List ℕ} {tokens : List Token} → Lexes place bytes tokens end rest → length tokens ≤ length bytes
 few stop = omega arith
 few (blank h r) = let k = few r in omega arith
 few (comment line bytes h k r) = let n = few r in omega (arith, length-append line bytes)

@@ -14,7 +14,7 @@ use Rattle.mv_lex.proofs.Texts.{past_some, text_takes, Reaches, text_reaches}
 use Rattle.mv_lex.proofs.Bodies.{Closed, Unended, body_is, closed_len, unended_len}
 
 -- a token of the kind and of n bytes is at the front
-pub record Takes (kind : Kind) (n : ℕ) (bytes : List ℕ) : Type 0 where
+pub record TakesFront (kind : Kind) (n : ℕ) (bytes : List ℕ) : Type 0 where
   pub text : List ℕ
   pub after : List ℕ
   pub splits : bytes ≡ text ++ after
@@ -76,13 +76,13 @@ block_regroup blanks lines closing after =
     ap (λ xs. blanks ++ 10 ∷ xs) (sym (append_assoc lines closing after)) ∙ sym (append_assoc blanks (10 ∷ (lines ++ closing)) after)
 
 closed_takes : (blanks body : List ℕ) (kind : Kind) (n : ℕ) → list_all is_inner_blank blanks ≡ true → Closed body
-    → ◌≡◌ {A = Option (Kind × ℕ)} (Some ((body_of body).0, length blanks + 1 + (body_of body).1)) (Some (kind, n)) → Takes kind (2 + n) (60 ∷ 60 ∷ (blanks ++ 10 ∷ body))
+    → ◌≡◌ {A = Option (Kind × ℕ)} (Some ((body_of body).0, length blanks + 1 + (body_of body).1)) (Some (kind, n)) → TakesFront kind (2 + n) (60 ∷ 60 ∷ (blanks ++ 10 ∷ body))
 closed_takes blanks body kind n a c h =
     let l = ap (block_len true) c.splits ∙ closed_len c.lines c.closing c.after c.inner c.closes in
     let e = rw (body_closed body _ l) at h in
     let p = same_token Block kind _ n e in
     let q = p.1 in
-    subst (λ k. Takes k (2 + n) (60 ∷ 60 ∷ (blanks ++ 10 ∷ body))) p.0 (record {
+    subst (λ k. TakesFront k (2 + n) (60 ∷ 60 ∷ (blanks ++ 10 ∷ body))) p.0 (record {
       text = opening blanks ++ 10 ∷ (lines_text c.lines ++ c.closing);
       after = c.after;
       splits = ap (λ xs. 60 ∷ 60 ∷ xs) (ap (λ xs. blanks ++ 10 ∷ xs) c.splits ∙ block_regroup blanks (lines_text c.lines) c.closing c.after);
@@ -91,13 +91,13 @@ closed_takes blanks body kind n a c h =
     })
 
 unended_takes : (blanks body : List ℕ) (kind : Kind) (n : ℕ) → list_all is_inner_blank blanks ≡ true → Unended body
-    → ◌≡◌ {A = Option (Kind × ℕ)} (Some ((body_of body).0, length blanks + 1 + (body_of body).1)) (Some (kind, n)) → Takes kind (2 + n) (60 ∷ 60 ∷ (blanks ++ 10 ∷ body))
+    → ◌≡◌ {A = Option (Kind × ℕ)} (Some ((body_of body).0, length blanks + 1 + (body_of body).1)) (Some (kind, n)) → TakesFront kind (2 + n) (60 ∷ 60 ∷ (blanks ++ 10 ∷ body))
 unended_takes blanks body kind n a u h =
     let l = ap (block_len true) u.splits ∙ unended_len u.lines u.last u.inner u.is_last in
     let e = rw (body_open body l) at h in
     let p = same_token OpenBlock kind _ n e in
     let q = p.1 in
-    subst (λ k. Takes k (2 + n) (60 ∷ 60 ∷ (blanks ++ 10 ∷ body))) p.0 (record {
+    subst (λ k. TakesFront k (2 + n) (60 ∷ 60 ∷ (blanks ++ 10 ∷ body))) p.0 (record {
       text = 60 ∷ 60 ∷ (blanks ++ 10 ∷ body);
       after = [];
       splits = sym (append-nil (60 ∷ 60 ∷ (blanks ++ 10 ∷ body)));
@@ -106,20 +106,20 @@ unended_takes blanks body kind n a u h =
     })
 
 line_takes : (blanks body : List ℕ) (c : ℕ) (kind : Kind) (n : ℕ) (q : Bool) → (c == 10) ≡ q → list_all is_inner_blank blanks ≡ true
-    → block_after (length blanks) (c ∷ body) ≡ Some (kind, n) → Takes kind (2 + n) (60 ∷ 60 ∷ (blanks ++ c ∷ body))
+    → block_after (length blanks) (c ∷ body) ≡ Some (kind, n) → TakesFront kind (2 + n) (60 ∷ 60 ∷ (blanks ++ c ∷ body))
 line_takes blanks body c kind n true q a h =
     let e = rw q at h in
-    let way : Takes kind (2 + n) (60 ∷ 60 ∷ (blanks ++ 10 ∷ body)) =
+    let way : TakesFront kind (2 + n) (60 ∷ 60 ∷ (blanks ++ 10 ∷ body)) =
     elim (body_is body) [ inl b ↦ closed_takes blanks body kind n a b e | inr b ↦ unended_takes blanks body kind n a b e ] in
     rw (eqb-true c 10 q) way
 line_takes blanks body c kind n false q a h = let e = rw q at h in cc
 
 head_takes : (blanks rest : List ℕ) (kind : Kind) (n : ℕ) → list_all is_inner_blank blanks ≡ true → block_after (length blanks) rest ≡ Some (kind, n)
-    → Takes kind (2 + n) (60 ∷ 60 ∷ (blanks ++ rest))
+    → TakesFront kind (2 + n) (60 ∷ 60 ∷ (blanks ++ rest))
 head_takes blanks [] kind n a h =
     let p = same_token OpenBlock kind (length blanks) n h in
     let q = p.1 in
-    subst (λ k. Takes k (2 + n) (60 ∷ 60 ∷ (blanks ++ []))) p.0 (record {
+    subst (λ k. TakesFront k (2 + n) (60 ∷ 60 ∷ (blanks ++ []))) p.0 (record {
       text = opening blanks;
       after = [];
       splits = refl;
@@ -128,12 +128,12 @@ head_takes blanks [] kind n a h =
     })
 head_takes blanks (c ∷ body) kind n a h = line_takes blanks body c kind n (c == 10) refl a h
 
-block_takes : (bytes : List ℕ) (kind : Kind) (n : ℕ) → block_of bytes ≡ Some (kind, n) → Takes kind (2 + n) (60 ∷ 60 ∷ bytes)
+block_takes : (bytes : List ℕ) (kind : Kind) (n : ℕ) → block_of bytes ≡ Some (kind, n) → TakesFront kind (2 + n) (60 ∷ 60 ∷ bytes)
 block_takes bytes kind n h =
     let r = run_of is_inner_blank bytes in
     let e = r.splits in
     let at_rest = sym (block_at r.front r.rest r.all r.stops) ∙ (sym (ap block_of e) ∙ h) in
-    subst (λ xs. Takes kind (2 + n) (60 ∷ 60 ∷ xs)) (sym e) (head_takes r.front r.rest kind n r.all at_rest)
+    subst (λ xs. TakesFront kind (2 + n) (60 ∷ 60 ∷ xs)) (sym e) (head_takes r.front r.rest kind n r.all at_rest)
 
 block_exact : (blanks lines closing after : List ℕ) (len : ℕ) (kind : Kind) → list_all is_inner_blank blanks ≡ true → body_of (lines ++ (closing ++ after)) ≡ (kind, len)
     → block_of ((blanks ++ 10 ∷ (lines ++ closing)) ++ after) ≡ Some (kind, length blanks + 1 + len)
@@ -346,19 +346,19 @@ pub chosen : {X : Type 0} (b : Bool) (x y z : X) → cond b x y ≡ z → ((b �
 chosen true x y z h = inl (refl, h)
 chosen false x y z h = inr (refl, h)
 
-takes_word : (b n : ℕ) (bytes : List ℕ) (kind : Kind) → of_kind Word (word_len (b ∷ bytes)) ≡ Some (kind, n) → Takes kind n (b ∷ bytes)
+takes_word : (b n : ℕ) (bytes : List ℕ) (kind : Kind) → of_kind Word (word_len (b ∷ bytes)) ≡ Some (kind, n) → TakesFront kind n (b ∷ bytes)
 takes_word b n bytes kind h =
     let p = of_kind_some Word kind n (word_len (b ∷ bytes)) h in
     let w = word_takes n (b ∷ bytes) p.1 in
-    subst (λ k. Takes k n (b ∷ bytes)) p.0 (record { text = w.text; after = w.after; splits = w.splits; count = w.count; spelled = w.word })
+    subst (λ k. TakesFront k n (b ∷ bytes)) p.0 (record { text = w.text; after = w.after; splits = w.splits; count = w.count; spelled = w.word })
 
-takes_number : (b n : ℕ) (bytes : List ℕ) (kind : Kind) → is_digit b ≡ true → ◌≡◌ {A = Option (Kind × ℕ)} (Some (Number, 1 + prefix_len is_digit bytes)) (Some (kind, n)) → Takes kind n (b ∷ bytes)
+takes_number : (b n : ℕ) (bytes : List ℕ) (kind : Kind) → is_digit b ≡ true → ◌≡◌ {A = Option (Kind × ℕ)} (Some (Number, 1 + prefix_len is_digit bytes)) (Some (kind, n)) → TakesFront kind n (b ∷ bytes)
 takes_number b n bytes kind d h =
     let p = same_token Number kind (1 + prefix_len is_digit bytes) n h in
     let r = run_of is_digit bytes in
     let e = r.count in
     let q = p.1 in
-    subst (λ k. Takes k n (b ∷ bytes)) p.0 (record {
+    subst (λ k. TakesFront k n (b ∷ bytes)) p.0 (record {
       text = b ∷ r.front;
       after = r.rest;
       splits = ap (λ xs. b ∷ xs) r.splits;
@@ -366,30 +366,30 @@ takes_number b n bytes kind d h =
       spelled = and_from (is_digit b) (list_all is_digit r.front) d r.all;
     })
 
-takes_text : (b n : ℕ) (bytes : List ℕ) (kind : Kind) → (b == 39) ≡ true → of_kind Text (past 1 (text_len false bytes)) ≡ Some (kind, n) → Takes kind n (b ∷ bytes)
+takes_text : (b n : ℕ) (bytes : List ℕ) (kind : Kind) → (b == 39) ≡ true → of_kind Text (past 1 (text_len false bytes)) ≡ Some (kind, n) → TakesFront kind n (b ∷ bytes)
 takes_text b n bytes kind q h =
     let p = of_kind_some Text kind n (past 1 (text_len false bytes)) h in
     let m = past_some 1 n (text_len false bytes) p.1 in
     let g = text_takes false bytes m.0 m.1 in
     let e = g.count in
     let f = m.2 in
-    let way : Takes Text n (39 ∷ bytes) = record {
+    let way : TakesFront Text n (39 ∷ bytes) = record {
       text = quoted g.content;
       after = g.after;
       splits = ap (λ xs. 39 ∷ xs) (g.splits ∙ sym (append_assoc (doubled g.content) (39 ∷ []) g.after));
       count = simp length-append (omega arith);
       spelled = record { content = g.content; printable = g.printable; written = refl };
     } in
-    subst (λ k. Takes k n (b ∷ bytes)) p.0 (subst (λ (x : ℕ). Takes Text n (x ∷ bytes)) (sym (eqb-true b 39 q)) way)
+    subst (λ k. TakesFront k n (b ∷ bytes)) p.0 (subst (λ (x : ℕ). TakesFront Text n (x ∷ bytes)) (sym (eqb-true b 39 q)) way)
 
-takes_variable : (b n : ℕ) (bytes : List ℕ) (kind : Kind) → (b == 58) ≡ true → of_kind Variable (past 1 (word_len bytes)) ≡ Some (kind, n) → Takes kind n (b ∷ bytes)
+takes_variable : (b n : ℕ) (bytes : List ℕ) (kind : Kind) → (b == 58) ≡ true → of_kind Variable (past 1 (word_len bytes)) ≡ Some (kind, n) → TakesFront kind n (b ∷ bytes)
 takes_variable b n bytes kind q h =
     let p = of_kind_some Variable kind n (past 1 (word_len bytes)) h in
     let m = past_some 1 n (word_len bytes) p.1 in
     let w = word_takes m.0 bytes m.1 in
     let e = w.count in
     let f = m.2 in
-    subst (λ k. Takes k n (b ∷ bytes)) p.0 (record {
+    subst (λ k. TakesFront k n (b ∷ bytes)) p.0 (record {
       text = b ∷ w.text;
       after = w.after;
       splits = ap (λ xs. b ∷ xs) w.splits;
@@ -403,16 +403,16 @@ past_mark_some (Some q) kind n h =
     let p = same_token q.0 kind (2 + q.1) n h in
     (q.1, ap (λ k. Some (k, q.1)) p.0, sym p.1)
 
-takes_block : (a b n : ℕ) (bytes : List ℕ) (kind : Kind) → (a == 60 && b == 60) ≡ true → past_mark (block_of bytes) ≡ Some (kind, n) → Takes kind n (a ∷ b ∷ bytes)
+takes_block : (a b n : ℕ) (bytes : List ℕ) (kind : Kind) → (a == 60 && b == 60) ≡ true → past_mark (block_of bytes) ≡ Some (kind, n) → TakesFront kind n (a ∷ b ∷ bytes)
 takes_block a b n bytes kind q h =
     let m = past_mark_some (block_of bytes) kind n h in
-    let t : Takes kind n (60 ∷ 60 ∷ bytes) = rw m.2 (block_takes bytes kind m.0 m.1) in
+    let t : TakesFront kind n (60 ∷ 60 ∷ bytes) = rw m.2 (block_takes bytes kind m.0 m.1) in
     let e = long_is 60 60 a b q in
     rw (e.0, e.1) t
 
 -- a byte that stands before another of its kind is no symbol
 takes_symbol_two : (a b n : ℕ) (bytes : List ℕ) (long short : Bool) → is_long_symbol a b ≡ long → (is_short_symbol a && stands_alone (a ∷ []) (b ∷ [])) ≡ short
-    → symbol_len (a ∷ b ∷ bytes) ≡ Some n → Takes Symbol n (a ∷ b ∷ bytes)
+    → symbol_len (a ∷ b ∷ bytes) ≡ Some n → TakesFront Symbol n (a ∷ b ∷ bytes)
 takes_symbol_two a b n bytes true short l s h =
     let e = rw l at h in
     record { text = a ∷ b ∷ []; after = bytes; splits = refl; count = (let i : 2 ≡ n = cc in sym i); spelled = and_from (is_long_symbol a b) true l refl }
@@ -421,24 +421,24 @@ takes_symbol_two a b n bytes false true l s h =
     record { text = a ∷ []; after = b ∷ bytes; splits = refl; count = (let i : 1 ≡ n = cc in sym i); spelled = s }
 takes_symbol_two a b n bytes false false l s h = let e = rw (l, s) at h in cc
 
-takes_symbol_one : (a n : ℕ) (short : Bool) → is_short_symbol a ≡ short → symbol_len (a ∷ []) ≡ Some n → Takes Symbol n (a ∷ [])
+takes_symbol_one : (a n : ℕ) (short : Bool) → is_short_symbol a ≡ short → symbol_len (a ∷ []) ≡ Some n → TakesFront Symbol n (a ∷ [])
 takes_symbol_one a n true s h =
     let e = rw s at h in
     record { text = a ∷ []; after = []; splits = refl; count = (let i : 1 ≡ n = cc in sym i); spelled = and_from (is_short_symbol a) true s refl }
 takes_symbol_one a n false s h = let e = rw s at h in cc
 
-symbol_takes : (n : ℕ) (bytes : List ℕ) → symbol_len bytes ≡ Some n → Takes Symbol n bytes
+symbol_takes : (n : ℕ) (bytes : List ℕ) → symbol_len bytes ≡ Some n → TakesFront Symbol n bytes
 symbol_takes n [] h = cc
 symbol_takes n (a ∷ []) h = takes_symbol_one a n (is_short_symbol a) refl h
 symbol_takes n (a ∷ b ∷ bytes) h = takes_symbol_two a b n bytes (is_long_symbol a b) (is_short_symbol a && stands_alone (a ∷ []) (b ∷ [])) refl refl h
 
-takes_symbol : (n : ℕ) (bytes : List ℕ) (kind : Kind) → of_kind Symbol (symbol_len bytes) ≡ Some (kind, n) → Takes kind n bytes
+takes_symbol : (n : ℕ) (bytes : List ℕ) (kind : Kind) → of_kind Symbol (symbol_len bytes) ≡ Some (kind, n) → TakesFront kind n bytes
 takes_symbol n bytes kind h =
     let p = of_kind_some Symbol kind n (symbol_len bytes) h in
-    subst (λ k. Takes k n bytes) p.0 (symbol_takes n bytes p.1)
+    subst (λ k. TakesFront k n bytes) p.0 (symbol_takes n bytes p.1)
 
 takes_mark : (b n : ℕ) (bytes : List ℕ) (kind : Kind)
-    → cond (begins_block (b ∷ bytes)) (past_mark (block_of (drop 1 bytes))) (of_kind Symbol (symbol_len (b ∷ bytes))) ≡ Some (kind, n) → Takes kind n (b ∷ bytes)
+    → cond (begins_block (b ∷ bytes)) (past_mark (block_of (drop 1 bytes))) (of_kind Symbol (symbol_len (b ∷ bytes))) ≡ Some (kind, n) → TakesFront kind n (b ∷ bytes)
 takes_mark b n [] kind h = takes_symbol n (b ∷ []) kind h
 takes_mark b n (c ∷ bytes) kind h =
     elim (chosen (b == 60 && c == 60) _ _ _ h) [
@@ -446,7 +446,7 @@ takes_mark b n (c ∷ bytes) kind h =
       | inr p ↦ takes_symbol n (b ∷ c ∷ bytes) kind p.1
     ]
 
-pub token_takes : (kind : Kind) (n : ℕ) (bytes : List ℕ) → token_of bytes ≡ Some (kind, n) → Takes kind n bytes
+pub token_takes : (kind : Kind) (n : ℕ) (bytes : List ℕ) → token_of bytes ≡ Some (kind, n) → TakesFront kind n bytes
 unfolding token_of
 token_takes kind n [] h = cc
 token_takes kind n (b ∷ bytes) h =

@@ -11,7 +11,7 @@ past_some i n None h = cc
 past_some i n (Some m) h = (m, refl, let e : i + m ≡ n = cc in sym e)
 
 -- a text behind its opening quote
-pub record GoesOn (bytes : List ℕ) (n : ℕ) : Type 0 where
+pub record TextGoesOn (bytes : List ℕ) (n : ℕ) : Type 0 where
   pub content : List ℕ
   pub after : List ℕ
   pub printable : list_all is_printable content ≡ true
@@ -20,10 +20,10 @@ pub record GoesOn (bytes : List ℕ) (n : ℕ) : Type 0 where
 
 -- the same where the byte before can close it: a second quote stands there
 abbrev pub GoesOnAfter : Bool → List ℕ → ℕ → Type 0
-GoesOnAfter false bytes n = GoesOn bytes n
-GoesOnAfter true bytes n = (bs : List ℕ) × (m : ℕ) × (bytes ≡ 39 ∷ bs) × (n ≡ 1 + m) × GoesOn bs m
+GoesOnAfter false bytes n = TextGoesOn bytes n
+GoesOnAfter true bytes n = (bs : List ℕ) × (m : ℕ) × (bytes ≡ 39 ∷ bs) × (n ≡ 1 + m) × TextGoesOn bs m
 
-add_byte : (b n : ℕ) (bs : List ℕ) → (b == 39) ≡ false → is_printable b ≡ true → GoesOn bs n → GoesOn (b ∷ bs) (1 + n)
+add_byte : (b n : ℕ) (bs : List ℕ) → (b == 39) ≡ false → is_printable b ≡ true → TextGoesOn bs n → TextGoesOn (b ∷ bs) (1 + n)
 add_byte b n bs q p g = record {
   content = b ∷ g.content;
   after = g.after;
@@ -32,7 +32,7 @@ add_byte b n bs q p g = record {
   count = (let e = g.count in rw q (omega arith));
 }
 
-add_quote : (n : ℕ) (bs : List ℕ) → GoesOn bs n → GoesOn (39 ∷ 39 ∷ bs) (2 + n)
+add_quote : (n : ℕ) (bs : List ℕ) → TextGoesOn bs n → TextGoesOn (39 ∷ 39 ∷ bs) (2 + n)
 add_quote n bs g = record {
   content = 39 ∷ g.content;
   after = g.after;
@@ -41,12 +41,12 @@ add_quote n bs g = record {
   count = (let e = g.count in omega arith);
 }
 
-at_quote : (n : ℕ) (bs : List ℕ) (o : Option ℕ) → ((m : ℕ) → o ≡ Some m → GoesOnAfter true bs m) → past 1 (either o (Some 0)) ≡ Some n → GoesOn (39 ∷ bs) n
+at_quote : (n : ℕ) (bs : List ℕ) (o : Option ℕ) → ((m : ℕ) → o ≡ Some m → GoesOnAfter true bs m) → past 1 (either o (Some 0)) ≡ Some n → TextGoesOn (39 ∷ bs) n
 at_quote n bs None f h = record { content = []; after = bs; printable = refl; splits = refl; count = (let e : 1 ≡ n = cc in sym e) }
 at_quote n bs (Some m) f h =
     let g = f m refl in
     let e : n ≡ 2 + g.1 = (let e' : 1 + m ≡ n = cc in let e'' = g.3 in omega arith) in
-    let q : GoesOn (39 ∷ 39 ∷ g.0) (2 + g.1) = add_quote g.1 g.0 g.4 in
+    let q : TextGoesOn (39 ∷ 39 ∷ g.0) (2 + g.1) = add_quote g.1 g.0 g.4 in
     rw (e, g.2) q
 
 text_cases : (closed : Bool) (b n : ℕ) (bs : List ℕ) (q p : Bool) → (b == 39) ≡ q → is_printable b ≡ p

@@ -4,7 +4,7 @@ use Rattle.std.specs.List.{prefix_len}
 use Rattle.std.proofs.lemmas.List.{drop_more, take_rest, drop-drop, drop_at}
 use Rattle.mv_lex.specs.Bytes.{is_blank, is_in_line}
 use Rattle.mv_lex.specs.Spelling.{IsSpelled}
-use Rattle.mv_lex.specs.Tokens.{begins_comment, token_at, Reads, stop, blank, comment, token, BeginsNothing}
+use Rattle.mv_lex.specs.Tokens.{begins_comment, token_at, Lexes, stop, blank, comment, token, BeginsNothing}
 use Rattle.mv_lex.specs.Reading.{token_of, gap_len, piece_from, piece_of, found}
 use Rattle.mv_lex.specs.declared.token.Kind.{Kind}
 use Rattle.mv_lex.specs.declared.token.Token.{Token}
@@ -16,7 +16,7 @@ use Rattle.mv_lex.proofs.Pieces.{some_bytes, found_longest, none_found, piece_bl
 
 -- one stretch after another
 pub reads_on : {place middle end : ℕ} {bytes between rest : List ℕ} {tokens : List Token} (more : List Token)
-    → Reads place bytes tokens middle between → Reads middle between more end rest → Reads place bytes (tokens ++ more) end rest
+    → Lexes place bytes tokens middle between → Lexes middle between more end rest → Lexes place bytes (tokens ++ more) end rest
 reads_on more stop r = r
 reads_on more (blank b s) r = blank b (reads_on more s r)
 reads_on more (comment line bytes l e s) r = comment line bytes l e (reads_on more s r)
@@ -24,8 +24,8 @@ reads_on more (token kind text bytes l s) r = token kind text bytes l (reads_on 
 
 -- what comes next where nothing begins at the end
 abbrev pub Next : ℕ → List ℕ → List Token → ℕ → List ℕ → Piece → Type 0
-Next place bytes tokens end rest (Gap n) = Reads (place + n) (drop n bytes) tokens end rest
-Next place bytes tokens end rest (Token_found kind n) = (more : List Token) × (tokens ≡ record { kind = kind; at = place; len = n } ∷ more) × Reads (place + n) (drop n bytes) more end rest
+Next place bytes tokens end rest (Gap n) = Lexes (place + n) (drop n bytes) tokens end rest
+Next place bytes tokens end rest (Token_found kind n) = (more : List Token) × (tokens ≡ record { kind = kind; at = place; len = n } ∷ more) × Lexes (place + n) (drop n bytes) more end rest
 Next place bytes tokens end rest Nothing = (tokens ≡ []) × (place ≡ end) × (bytes ≡ rest)
 
 next_at : (place end : ℕ) (bytes rest : List ℕ) (tokens : List Token) (p q : Piece) → p ≡ q → Next place bytes tokens end rest q → Next place bytes tokens end rest p
@@ -37,38 +37,38 @@ past_comment line bytes = sym (drop_at (45 ∷ 45 ∷ line) bytes (2 + length li
 past_token : (text bytes : List ℕ) → bytes ≡ drop (length text) (text ++ bytes)
 past_token text bytes = sym (drop_at text bytes (length text) refl)
 
-pub goes : {place end : ℕ} {bytes rest : List ℕ} {tokens : List Token} → Reads place bytes tokens end rest → piece_of rest ≡ Nothing → Next place bytes tokens end rest (piece_of bytes)
+pub goes : {place end : ℕ} {bytes rest : List ℕ} {tokens : List Token} → Lexes place bytes tokens end rest → piece_of rest ≡ Nothing → Next place bytes tokens end rest (piece_of bytes)
 goes (stop {place = place} {bytes = bytes}) h = next_at place place bytes bytes [] (piece_of bytes) Nothing h (refl, refl, refl)
 goes (blank {place = place} {end = end} {b = b} {bytes = bytes} {rest = rest} {tokens = tokens} i s) h =
     next_at place end (b ∷ bytes) rest tokens (piece_of (b ∷ bytes)) (Gap 1) (piece_blank b bytes i) s
 goes (comment {place = place} {end = end} {rest = rest} {tokens = tokens} line bytes l e s) h =
     next_at place end (45 ∷ 45 ∷ (line ++ bytes)) rest tokens (piece_of (45 ∷ 45 ∷ (line ++ bytes))) (Gap (2 + length line)) (piece_comment line bytes l e)
-    (subst (λ xs. Reads (place + (2 + length line)) xs tokens end rest) (past_comment line bytes) s)
+    (subst (λ xs. Lexes (place + (2 + length line)) xs tokens end rest) (past_comment line bytes) s)
 goes (token {place = place} {end = end} {rest = rest} {tokens = tokens} kind text bytes l s) h =
     next_at place end (text ++ bytes) rest (token_at kind place text ∷ tokens) (piece_of (text ++ bytes)) (Token_found kind (length text)) (piece_token kind text bytes l)
-    (tokens, refl, subst (λ xs. Reads (place + length text) xs tokens end rest) (past_token text bytes) s)
+    (tokens, refl, subst (λ xs. Lexes (place + length text) xs tokens end rest) (past_token text bytes) s)
 
 -- of two readings, the one that goes to where nothing begins goes on from the other
-abbrev pub GoesOn : List Token → ℕ → List ℕ → List Token → ℕ → List ℕ → Type 0
-GoesOn tokens end rest all last over = (more : List Token) × (all ≡ tokens ++ more) × Reads end rest more last over
+abbrev pub TokensGoOn : List Token → ℕ → List ℕ → List Token → ℕ → List ℕ → Type 0
+TokensGoOn tokens end rest all last over = (more : List Token) × (all ≡ tokens ++ more) × Lexes end rest more last over
 
 pub goes_on : {place end : ℕ} {bytes rest : List ℕ} {tokens : List Token} (all : List Token) (last : ℕ) (over : List ℕ)
-    → Reads place bytes tokens end rest → Reads place bytes all last over → piece_of over ≡ Nothing → GoesOn tokens end rest all last over
+    → Lexes place bytes tokens end rest → Lexes place bytes all last over → piece_of over ≡ Nothing → TokensGoOn tokens end rest all last over
 goes_on all last over stop r h = (all, refl, r)
 goes_on all last over (blank {place = place} {b = b} {bytes = bytes} i s) r h =
     let n = subst (λ x. Next place (b ∷ bytes) all last over x) (piece_blank b bytes i) (goes r h) in
     goes_on all last over s n h
 goes_on all last over (comment {place = place} line bytes l e s) r h =
     let n = subst (λ x. Next place (45 ∷ 45 ∷ (line ++ bytes)) all last over x) (piece_comment line bytes l e) (goes r h) in
-    goes_on all last over s (subst (λ xs. Reads (place + (2 + length line)) xs all last over) (sym (past_comment line bytes)) n) h
+    goes_on all last over s (subst (λ xs. Lexes (place + (2 + length line)) xs all last over) (sym (past_comment line bytes)) n) h
 goes_on all last over (token {place = place} kind text bytes l s) r h =
     let n = subst (λ x. Next place (text ++ bytes) all last over x) (piece_token kind text bytes l) (goes r h) in
-    let m = goes_on n.0 last over s (subst (λ xs. Reads (place + length text) xs n.0 last over) (sym (past_token text bytes)) n.2) h in
+    let m = goes_on n.0 last over s (subst (λ xs. Lexes (place + length text) xs n.0 last over) (sym (past_token text bytes)) n.2) h in
     (m.0, n.1 ∙ ap (λ ts. token_at kind place text ∷ ts) m.1, m.2)
 
 -- a whole reading is the only one
-pub one_reading : {place end last : ℕ} {bytes rest over : List ℕ} {tokens all : List Token} → Reads place bytes tokens end rest → piece_of rest ≡ Nothing
-    → Reads place bytes all last over → piece_of over ≡ Nothing → (all ≡ tokens) × (end ≡ last) × (rest ≡ over)
+pub one_reading : {place end last : ℕ} {bytes rest over : List ℕ} {tokens all : List Token} → Lexes place bytes tokens end rest → piece_of rest ≡ Nothing
+    → Lexes place bytes all last over → piece_of over ≡ Nothing → (all ≡ tokens) × (end ≡ last) × (rest ≡ over)
 one_reading {end = end} {last = last} {rest = rest} {over = over} {tokens = tokens} {all = all} s h r i =
     let g = goes_on all last over s r i in
     let n = subst (λ x. Next end rest g.0 last over x) h (goes g.2 i) in
@@ -114,21 +114,21 @@ nothing_to b bytes h =
 pub record GapStep (place n : ℕ) (bytes : List ℕ) : Type 0 where
   pub some : 0 < n
   pub within : n ≤ length bytes
-  pub reads : Reads place bytes [] (place + n) (drop n bytes)
+  pub reads : Lexes place bytes [] (place + n) (drop n bytes)
 
 comment_by : (place n : ℕ) (bytes : List ℕ) → n ≡ 2 + prefix_len is_in_line bytes → GapStep place n (45 ∷ 45 ∷ bytes)
 comment_by place n bytes e =
     let r = run_of is_in_line bytes in
     let c = r.count in
     let m : n ≡ 2 + length r.front = omega arith in
-    let s : Reads place (45 ∷ 45 ∷ (r.front ++ r.rest)) [] (place + (2 + length r.front)) r.rest = comment r.front r.rest r.all (stop_ends r.rest r.stops) stop in
-    let t : Reads place (45 ∷ 45 ∷ (r.front ++ r.rest)) [] (place + (2 + length r.front)) (drop (2 + length r.front) (45 ∷ 45 ∷ (r.front ++ r.rest)))
-    = subst (λ xs. Reads place (45 ∷ 45 ∷ (r.front ++ r.rest)) [] (place + (2 + length r.front)) xs) (past_comment r.front r.rest) s in
+    let s : Lexes place (45 ∷ 45 ∷ (r.front ++ r.rest)) [] (place + (2 + length r.front)) r.rest = comment r.front r.rest r.all (stop_ends r.rest r.stops) stop in
+    let t : Lexes place (45 ∷ 45 ∷ (r.front ++ r.rest)) [] (place + (2 + length r.front)) (drop (2 + length r.front) (45 ∷ 45 ∷ (r.front ++ r.rest)))
+    = subst (λ xs. Lexes place (45 ∷ 45 ∷ (r.front ++ r.rest)) [] (place + (2 + length r.front)) xs) (past_comment r.front r.rest) s in
     record {
       some = omega arith;
       within = omega (arith, ap length r.splits, length-append r.front r.rest);
-      reads = subst (λ (k : ℕ). Reads place (45 ∷ 45 ∷ bytes) [] (place + k) (drop k (45 ∷ 45 ∷ bytes))) (sym m)
-          (subst (λ xs. Reads place (45 ∷ 45 ∷ xs) [] (place + (2 + length r.front)) (drop (2 + length r.front) (45 ∷ 45 ∷ xs))) (sym r.splits) t);
+      reads = subst (λ (k : ℕ). Lexes place (45 ∷ 45 ∷ bytes) [] (place + k) (drop k (45 ∷ 45 ∷ bytes))) (sym m)
+          (subst (λ xs. Lexes place (45 ∷ 45 ∷ xs) [] (place + (2 + length r.front)) (drop (2 + length r.front) (45 ∷ 45 ∷ xs))) (sym r.splits) t);
     }
 
 blank_by : (place n b : ℕ) (bytes : List ℕ) → is_blank b ≡ true → Some 1 ≡ Some n → GapStep place n (b ∷ bytes)
@@ -155,16 +155,16 @@ gap_reads place n (b ∷ c ∷ bytes) h =
 pub record TokenStep (kind : Kind) (place n : ℕ) (bytes : List ℕ) : Type 0 where
   pub some : 0 < n
   pub within : n ≤ length bytes
-  pub reads : Reads place bytes (record { kind = kind; at = place; len = n } ∷ []) (place + n) (drop n bytes)
+  pub reads : Lexes place bytes (record { kind = kind; at = place; len = n } ∷ []) (place + n) (drop n bytes)
 
 token_by : (kind : Kind) (place n : ℕ) (text after : List ℕ) → n ≡ length text → IsSpelled kind text after → token_of (text ++ after) ≡ Some (kind, n) → TokenStep kind place n (text ++ after)
 token_by kind place n text after e s h =
     let l = found_longest kind n text after h e s in
-    let r : Reads place (text ++ after) (token_at kind place text ∷ []) (place + length text) after = token kind text after l stop in
+    let r : Lexes place (text ++ after) (token_at kind place text ∷ []) (place + length text) after = token kind text after l stop in
     subst (λ (k : ℕ). TokenStep kind place k (text ++ after)) (sym e) (record {
       some = some_bytes kind text after s;
       within = omega (arith, length-append text after);
-      reads = subst (λ xs. Reads place (text ++ after) (token_at kind place text ∷ []) (place + length text) xs) (past_token text after) r;
+      reads = subst (λ xs. Lexes place (text ++ after) (token_at kind place text ∷ []) (place + length text) xs) (past_token text after) r;
     })
 
 pub token_reads : (kind : Kind) (place n : ℕ) (bytes : List ℕ) → token_of bytes ≡ Some (kind, n) → TokenStep kind place n bytes
@@ -195,19 +195,19 @@ token_step kind place n bytes h = token_reads kind place n bytes (piece_is_token
 at_rest : (bytes : List ℕ) (at' : ℕ) (p : Piece) → p ≡ piece_of (take (length bytes - at') (drop at' bytes)) → piece_of (drop at' bytes) ≡ p
 at_rest bytes at' p e = ap piece_of (sym (take_rest bytes at')) ∙ sym e
 
-pub gap_so_far : (bytes : List ℕ) (at' n : ℕ) (tokens : List Token) → Reads 0 bytes tokens at' (drop at' bytes) → Gap n ≡ piece_of (take (length bytes - at') (drop at' bytes))
-    → Reads 0 bytes tokens (at' + n) (drop (at' + n) bytes)
+pub gap_so_far : (bytes : List ℕ) (at' n : ℕ) (tokens : List Token) → Lexes 0 bytes tokens at' (drop at' bytes) → Gap n ≡ piece_of (take (length bytes - at') (drop at' bytes))
+    → Lexes 0 bytes tokens (at' + n) (drop (at' + n) bytes)
 gap_so_far bytes at' n tokens r e =
     let s = gap_step at' n (drop at' bytes) (at_rest bytes at' (Gap n) e) in
-    let t : Reads 0 bytes (tokens ++ []) (at' + n) (drop n (drop at' bytes)) = reads_on [] r s.reads in
-    subst (λ xs. Reads 0 bytes tokens (at' + n) xs) (drop-drop n at' bytes) (subst (λ ts. Reads 0 bytes ts (at' + n) (drop n (drop at' bytes))) (append-nil tokens) t)
+    let t : Lexes 0 bytes (tokens ++ []) (at' + n) (drop n (drop at' bytes)) = reads_on [] r s.reads in
+    subst (λ xs. Lexes 0 bytes tokens (at' + n) xs) (drop-drop n at' bytes) (subst (λ ts. Lexes 0 bytes ts (at' + n) (drop n (drop at' bytes))) (append-nil tokens) t)
 
-pub token_so_far : (bytes : List ℕ) (at' n : ℕ) (kind : Kind) (tokens : List Token) → Reads 0 bytes tokens at' (drop at' bytes) → Token_found kind n ≡ piece_of (take (length bytes - at') (drop at' bytes))
-    → Reads 0 bytes (tokens ++ record { kind = kind; at = at'; len = n } ∷ []) (at' + n) (drop (at' + n) bytes)
+pub token_so_far : (bytes : List ℕ) (at' n : ℕ) (kind : Kind) (tokens : List Token) → Lexes 0 bytes tokens at' (drop at' bytes) → Token_found kind n ≡ piece_of (take (length bytes - at') (drop at' bytes))
+    → Lexes 0 bytes (tokens ++ record { kind = kind; at = at'; len = n } ∷ []) (at' + n) (drop (at' + n) bytes)
 token_so_far bytes at' n kind tokens r e =
     let s = token_step kind at' n (drop at' bytes) (at_rest bytes at' (Token_found kind n) e) in
     let t = reads_on (record { kind = kind; at = at'; len = n } ∷ []) r s.reads in
-    subst (λ xs. Reads 0 bytes (tokens ++ record { kind = kind; at = at'; len = n } ∷ []) (at' + n) xs) (drop-drop n at' bytes) t
+    subst (λ xs. Lexes 0 bytes (tokens ++ record { kind = kind; at = at'; len = n } ∷ []) (at' + n) xs) (drop-drop n at' bytes) t
 
 pub still_within : (bytes : List ℕ) (at' n : ℕ) → at' ≤ length bytes → n ≤ length (take (length bytes - at') (drop at' bytes)) → at' + n ≤ length bytes
 still_within bytes at' n l h = omega (arith, ap length (take_rest bytes at'), length-drop at' bytes)

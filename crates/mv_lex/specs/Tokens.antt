@@ -32,14 +32,14 @@ token_at kind place text = record { kind = kind; at = place; len = length text }
 
 -- `Reads place bytes tokens end rest`: the bytes begin at `place`. Up to `end` they are blanks, comments and these
 -- tokens, each the longest that fits. From `end` on they are `rest`.
-pub data Reads : ℕ → List ℕ → List Token → ℕ → List ℕ → Type 0 where
-  stop : {place : ℕ} {bytes : List ℕ} → Reads place bytes [] place bytes
+pub data Lexes : ℕ → List ℕ → List Token → ℕ → List ℕ → Type 0 where
+  stop : {place : ℕ} {bytes : List ℕ} → Lexes place bytes [] place bytes
   blank : {place end b : ℕ} {bytes rest : List ℕ} {tokens : List Token} → IsTrue (is_blank b)
-      → Reads (place + 1) bytes tokens end rest → Reads place (b ∷ bytes) tokens end rest
+      → Lexes (place + 1) bytes tokens end rest → Lexes place (b ∷ bytes) tokens end rest
   comment : {place end : ℕ} {rest : List ℕ} {tokens : List Token} (line bytes : List ℕ) → IsTrue (list_all is_in_line line) → IsTrue (ends_line bytes)
-      → Reads (place + (2 + length line)) bytes tokens end rest → Reads place (45 ∷ 45 ∷ (line ++ bytes)) tokens end rest
+      → Lexes (place + (2 + length line)) bytes tokens end rest → Lexes place (45 ∷ 45 ∷ (line ++ bytes)) tokens end rest
   token : {place end : ℕ} {rest : List ℕ} {tokens : List Token} (kind : Kind) (text bytes : List ℕ) → IsLongest kind text bytes
-      → Reads (place + length text) bytes tokens end rest → Reads place (text ++ bytes) (token_at kind place text ∷ tokens) end rest
+      → Lexes (place + length text) bytes tokens end rest → Lexes place (text ++ bytes) (token_at kind place text ∷ tokens) end rest
 
 -- a script may contain each of these bytes
 abbrev pub AreAllowed : List ℕ → Type 0
@@ -47,7 +47,7 @@ AreAllowed bytes = IsTrue (list_all is_allowed bytes)
 
 -- these are the tokens of the whole input
 abbrev pub AreTokens : List ℕ → List Token → Type 0
-AreTokens bytes tokens = AreAllowed bytes × Reads 0 bytes tokens (length bytes) []
+AreTokens bytes tokens = AreAllowed bytes × Lexes 0 bytes tokens (length bytes) []
 
 -- this is the position of the first byte that no script may contain
 abbrev pub IsBadByte : List ℕ → ℕ → Type 0
@@ -61,7 +61,7 @@ BeginsNothing (b ∷ bytes) = IsFalse (is_blank b) × IsFalse (begins_comment (b
 
 -- this is the first position without a token: tokens, blanks and comments come before it, and none begins at it
 abbrev pub IsBadToken : List ℕ → ℕ → Type 0
-IsBadToken bytes place = AreAllowed bytes × ((tokens : List Token) × (rest : List ℕ) × Reads 0 bytes tokens place rest × BeginsNothing rest)
+IsBadToken bytes place = AreAllowed bytes × ((tokens : List Token) × (rest : List ℕ) × Lexes 0 bytes tokens place rest × BeginsNothing rest)
 
 -- the token lies within the bytes and is spelled as its kind requires
 pub record IsSpelledIn (bytes : List ℕ) (token : Token) : Type 0 where

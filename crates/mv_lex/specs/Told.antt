@@ -6,8 +6,8 @@ use Rattle.mv_lex.specs.declared.lexer.LexFault.TheVariants.{BadByte, BadToken, 
 use Rattle.mv_lex.specs.Tokens.{AreAllowed, AreTokens, IsBadByte, IsBadToken}
 
 -- the result is correct for the bytes; memory runs out only if every byte is allowed
-abbrev pub Tells : List ℕ → Result (List Token) LexFault → Type 0
-Tells bytes (Ok tokens) = AreTokens bytes tokens
-Tells bytes (Err (BadByte place)) = IsBadByte bytes place
-Tells bytes (Err (BadToken place)) = IsBadToken bytes place
-Tells bytes (Err NoMemory) = AreAllowed bytes
+abbrev pub LexesTo : List ℕ → Result (List Token) LexFault → Type 0
+LexesTo bytes (Ok tokens) = AreTokens bytes tokens
+LexesTo bytes (Err (BadByte place)) = IsBadByte bytes place
+LexesTo bytes (Err (BadToken place)) = IsBadToken bytes place
+LexesTo bytes (Err NoMemory) = AreAllowed bytes

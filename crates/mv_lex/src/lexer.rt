@@ -3,7 +3,7 @@
 ghost use Rattle.std.specs.Prelude.{◌≡◌, ◌⊎◌, ◌↔◌, ◌≤◌, ◌^◌, ℕ, List as Seq, length, IfOk, MatchResult, Ok, Err};
 ghost use Rattle.std.specs.List.{All, prefix_len};
 ghost use Rattle.mv_lex.specs.Bytes.{is_allowed};
-ghost use Rattle.mv_lex.specs.Told.{Tells};
+ghost use Rattle.mv_lex.specs.Told.{LexesTo};
 ghost use Rattle.mv_lex.specs.declared.token.Token.{Token};
 ghost use Rattle.mv_lex.specs.Tokens.{AreTokens, IsSpelledIn, IsBadByte, IsBadToken};
 
@@ -48,7 +48,7 @@ fn allowed_run(bytes: &[u8]) -> usize
 /// Splits a script into tokens.
 fn read(alloc: Global, bytes: &[u8]) -> Result<List<Token>, LexFault>
     requires { length bytes.now ≤ 2 ^ 24 }
-    ensures { Tells bytes.now result }
+    ensures { LexesTo bytes.now result }
 {
     let allowed = allowed_run(bytes);
     if allowed < bytes.len() {

@@ -22,7 +22,7 @@ use Rattle.mv_names.specs.Items.{call_in, copy_in, lates, parts_of, table_in}
 use Rattle.mv_names.specs.Statements.{missing_table, table_named}
 use Rattle.mv_names.specs.Faults.{copy, faults, parts_faults}
 use Rattle.mv_catalog.specs.Building.{call_of, copy_of, described, resolved_of, row_of, rows_of, table_of, table_place}
-use Rattle.mv_opening.specs.Opening.{FitTogether, Stands}
+use Rattle.mv_opening.specs.Opening.{FitTogether, IsBlockAt}
 
 -- Parts of items
 
@@ -80,8 +80,8 @@ Narrow t = length t.columns ≤ 32
 abbrev Short : ℕ → TableDef → Type 0
 Short size t = length t.rows ≤ size
 
-abbrev Within : ℕ → CopyDef → Type 0
-Within size c = LiesIn size c.block
+abbrev WithinCopy : ℕ → CopyDef → Type 0
+WithinCopy size c = LiesIn size c.block
 
 narrow_in : (k : ItemKind) → item_passes k ≡ [] → All Narrow (table_in k)
 narrow_in (Table t) h = All-cons Narrow t [] (few limit.Columns columns_most column_token t.columns (nothing_left _ _ h).0) (All-nil Narrow)
@@ -97,12 +97,12 @@ short_in size (Copy c) h = All-nil (Short size)
 short_in size (Call c) h = All-nil (Short size)
 short_in size (Journal s) h = All-nil (Short size)
 
-within_in : (size : ℕ) (k : ItemKind) → FitsIn size k → All (Within size) (copy_in k)
-within_in size (Table t) h = All-nil (Within size)
-within_in size (Proc p) h = All-nil (Within size)
-within_in size (Copy c) h = All-cons (Within size) c [] h (All-nil (Within size))
-within_in size (Call c) h = All-nil (Within size)
-within_in size (Journal s) h = All-nil (Within size)
+within_in : (size : ℕ) (k : ItemKind) → FitsIn size k → All (WithinCopy size) (copy_in k)
+within_in size (Table t) h = All-nil (WithinCopy size)
+within_in size (Proc p) h = All-nil (WithinCopy size)
+within_in size (Copy c) h = All-cons (WithinCopy size) c [] h (All-nil (WithinCopy size))
+within_in size (Call c) h = All-nil (WithinCopy size)
+within_in size (Journal s) h = All-nil (WithinCopy size)
 
 narrow : (s : Script) → script_passes s ≡ [] → All Narrow (tables_of s)
 narrow s h = all_parts (λ (i : Item). item_passes i.kind ≡ []) Narrow (λ (i : Item). table_in i.kind) (λ i p. narrow_in i.kind p) s.items (items_kept s h)
@@ -110,8 +110,8 @@ narrow s h = all_parts (λ (i : Item). item_passes i.kind ≡ []) Narrow (λ (i 
 short : (size : ℕ) (s : Script) → StandsIn size s → All (Short size) (tables_of s)
 short size s h = all_parts (λ (i : Item). FitsIn size i.kind) (Short size) (λ (i : Item). table_in i.kind) (λ i p. short_in size i.kind p) s.items h
 
-within : (size : ℕ) (s : Script) → StandsIn size s → All (Within size) (copies_of s)
-within size s h = all_parts (λ (i : Item). FitsIn size i.kind) (Within size) (λ (i : Item). copy_in i.kind) (λ i p. within_in size i.kind p) s.items h
+within : (size : ℕ) (s : Script) → StandsIn size s → All (WithinCopy size) (copies_of s)
+within size s h = all_parts (λ (i : Item). FitsIn size i.kind) (WithinCopy size) (λ (i : Item). copy_in i.kind) (λ i p. within_in size i.kind p) s.items h
 
 -- Copies are of tables that are there
 
@@ -139,7 +139,7 @@ all_named s h =
 
 -- The whole
 
-stands_there : (tables : List TableDef) (size : ℕ) (c : CopyDef) → length tables ≤ 64 → Named tables c → Within size c → Stands (length (map table_of tables)) size (copy_of tables c)
+stands_there : (tables : List TableDef) (size : ℕ) (c : CopyDef) → length tables ≤ 64 → Named tables c → WithinCopy size c → IsBlockAt (length (map table_of tables)) size (copy_of tables c)
 stands_there tables size c few_of_them is lies = (omega (arith, length-map tables table_of), lies)
 
 pub fits_together : (bytes : List ℕ) (tokens : List Token) (s : Script) → length bytes ≤ 2 ^ 24 → AreTokens bytes tokens → IsScript bytes tokens s → faults s ≡ [] → FitTogether (resolved_of s) bytes
@@ -157,7 +157,7 @@ fits_together bytes tokens s size are is none =
           (All-weaker (Short (length bytes)) (λ t. length (rows_of t.rows) < 2 ^ 32) (λ t h. omega (arith, length-map t.rows row_of)) tables (short (length bytes) s standing));
       columns = All-map (λ table. length table.columns < 2 ^ 32) table_of tables
           (All-weaker Narrow (λ t. length (map described t.columns) < 2 ^ 32) (λ t h. omega (arith, length-map t.columns described)) tables (narrow s limits));
-      copies = All-map (Stands (length (map table_of tables)) (length bytes)) (copy_of tables) (copies_of s)
+      copies = All-map (IsBlockAt (length (map table_of tables)) (length bytes)) (copy_of tables) (copies_of s)
           (λ k d lt. stands_there tables (length bytes) (get_or (copies_of s) k d) number (are_named k d lt) (lies k d lt));
       size = omega arith;
     }

@@ -15,8 +15,8 @@ use Rattle.mv_opening.specs.declared.fault.OpeningFault.{OpeningFault}
 use Rattle.mv_opening.specs.declared.fault.OpeningFault.TheVariants as fault
 
 -- the copy has one of so many tables, and a block within so many bytes
-abbrev pub Stands : ℕ → ℕ → CopyInfo → Type 0
-Stands tables size c = (c.table < tables) × (c.at + c.len ≤ size)
+abbrev pub IsBlockAt : ℕ → ℕ → CopyInfo → Type 0
+IsBlockAt tables size c = (c.table < tables) × (c.at + c.len ≤ size)
 
 -- the script fits the bytes: each copy has a table and a block within the bytes, and no number is too large
 pub record FitTogether (resolved : Resolved) (bytes : List ℕ) : Type 0 where
@@ -24,7 +24,7 @@ pub record FitTogether (resolved : Resolved) (bytes : List ℕ) : Type 0 where
   pub values : length resolved.rows ≡ length resolved.tables
   pub rows : All (λ rows. length rows < 2 ^ 32) resolved.rows
   pub columns : All (λ table. length table.columns < 2 ^ 32) resolved.tables
-  pub copies : All (Stands (length resolved.tables) (length bytes)) resolved.copies
+  pub copies : All (IsBlockAt (length resolved.tables) (length bytes)) resolved.copies
   pub size : length bytes < 2 ^ 32
 
 -- the rows of VALUES of each table, with their keys

@@ -1,7 +1,7 @@
 //! Checks that a resolved script and its bytes fit together.
 
 ghost use Rattle.std.specs.Prelude.{◌≡◌, ◌<◌, ◌≤◌, ◌+◌, ◌^◌, ◌↔◌, All, IsTrue, length};
-ghost use Rattle.mv_opening.specs.Opening.{FitTogether, Stands};
+ghost use Rattle.mv_opening.specs.Opening.{FitTogether, IsBlockAt};
 
 use mv_catalog::resolved::{CopyInfo, Resolved};
 use mv_values::list::List;
@@ -39,14 +39,14 @@ fn are_narrow(tables: &[TableInfo]) -> bool
 
 /// Whether each copy has one of so many tables, and a block within so many bytes.
 fn all_stand(copies: &[CopyInfo], tables: usize, len: usize) -> bool
-    ensures { IsTrue result ↔ All (Stands tables len) copies.now }
+    ensures { IsTrue result ↔ All (IsBlockAt tables len) copies.now }
 {
     copies.iter().all(|copy| stands(copy, tables, len))
 }
 
 /// Whether the copy has one of so many tables, and a block within so many bytes.
 fn stands(copy: &CopyInfo, tables: usize, len: usize) -> bool
-    ensures { IsTrue result ↔ Stands tables len copy.now }
+    ensures { IsTrue result ↔ IsBlockAt tables len copy.now }
 {
     (copy.table as usize) < tables && copy.at as usize + copy.len as usize <= len
 }

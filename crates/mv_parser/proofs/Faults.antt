@@ -17,9 +17,9 @@ use Rattle.mv_ast.specs.declared.limit.Which.{Which}
 use Rattle.mv_parser.specs.declared.fault.ParseFault.{ParseFault}
 use Rattle.mv_parser.specs.declared.fault.ParseFault.TheVariants.{Syntax, Limit, NoMemory}
 use Rattle.mv_parser.specs.Reading.{inside, read}
-use Rattle.mv_parser.specs.Whole.{whole, parsed, Tells}
+use Rattle.mv_parser.specs.Whole.{whole, parsed, ParsesTo}
 use Rattle.mv_parser.proofs.Basics.{bind_err}
-use Rattle.mv_parser.proofs.Stops.{Stands, stops}
+use Rattle.mv_parser.proofs.Stops.{IsStop, stops}
 use Rattle.mv_parser.proofs.Begun.{whole_begins}
 use Rattle.mv_parser.proofs.ReadsOn.{Past, reads_on}
 use Rattle.mv_parser.proofs.Shorter.{shorter}
@@ -37,7 +37,7 @@ abbrev pub Begin : List ℕ → ℕ → List Lexeme → Type 0
 Begin bytes d ts = Begins (inner bytes d) (script bytes) ts
 
 -- the tokens before a fault begin a script
-pub script_stops : (bytes : List ℕ) (d : ℕ) (ts : List Lexeme) (n : ℕ) → parsed bytes d ts ≡ Err n → Stands (Begin bytes d) ts n
+pub script_stops : (bytes : List ℕ) (d : ℕ) (ts : List Lexeme) (n : ℕ) → parsed bytes d ts ≡ Err n → IsStop (Begin bytes d) ts n
 script_stops bytes d ts n h =
     elim (bind_err (read (inside bytes d) (script bytes) ts) (λ x. whole x.0 x.1) n h) [
       | inl e ↦ stops (inner bytes d) (inside bytes d) (level bytes d).takes (level bytes d).stops (script bytes) ts n e
@@ -135,7 +135,7 @@ one_token bytes tokens left t h c =
 
 -- what follows from what is told
 abbrev pub IsTold : List ℕ → List Token → Result Script ParseFault → Type 0
-IsTold bytes tokens r = Tells bytes (lexemes bytes tokens) (reading bytes tokens) r
+IsTold bytes tokens r = ParsesTo bytes (lexemes bytes tokens) (reading bytes tokens) r
 
 same_passed : (o : Option Passed) (v w : Which) (k token : ℕ) → o ≡ Some (at_token v k) → o ≡ Some (at_token w token) → (v ≡ w) × (k ≡ token)
 same_passed o v w k token h i = let e : at_token v k ≡ at_token w token = cc in (ap (λ (p : Passed). p.which) e, ap (λ (p : Passed). p.token) e)

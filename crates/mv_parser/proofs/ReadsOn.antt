@@ -28,8 +28,8 @@ chosen_past : {A : Type 0} (n : ℕ) (b : Bool) (x y : Read A) → Past n x → 
 chosen_past n true x y p q = p
 chosen_past n false x y p q = q
 
-abbrev pub Within : {A : Type 0} → (List Lexeme → Read A) → Type 0
-Within f = (ts : List Lexeme) → Past (length ts) (f ts)
+abbrev pub ReadsWithin : {A : Type 0} → (List Lexeme → Read A) → Type 0
+ReadsWithin f = (ts : List Lexeme) → Past (length ts) (f ts)
 
 abbrev pub ReadsOn : {A : Type 0} → (List Lexeme → Type 0) → (List Lexeme → Read A) → Type 0
 ReadsOn P f = (ts : List Lexeme) → P ts → (post : List Lexeme) → Past (length post) (f (ts ++ post))
@@ -44,24 +44,24 @@ pub record Level (R : Inner) (I : Inside) : Type 0 where
   pub expr_on : ReadsOn R.begins_expression I.expr
   pub stmt_on : ReadsOn R.begins_statement I.stmt
 
-within : {A : Type 0} (P : List Lexeme → A → Type 0) (Q : List Lexeme → Type 0) (f : List Lexeme → Read A) → TakesAll P f → StopsAll Q f → Within f
+within : {A : Type 0} (P : List Lexeme → A → Type 0) (Q : List Lexeme → Type 0) (f : List Lexeme → Read A) → TakesAll P f → StopsAll Q f → ReadsWithin f
 within {A = A} P Q f t s ts = go (f ts) refl
   where
     go : (r : Read A) → f ts ≡ r → Past (length ts) r
     go (Ok x) e = let i = t ts x.0 x.1 e in let n = ap length i.1 ∙ length-append i.0 x.1 in omega arith
     go (Err k) e = let i = s ts k e in let n = ap length i.2 ∙ length-append i.0 i.1 in let m = i.3 in omega arith
 
-part_within : {A : Type 0} (R : Inner) (I : Inside) → Level R I → (p : Part A) → Within (read I p)
+part_within : {A : Type 0} (R : Inner) (I : Inside) → Level R I → (p : Part A) → ReadsWithin (read I p)
 part_within R I c p = within (Is R p) (Begins R p) (read I p) (takes R I c.takes p) (stops R I c.takes c.stops p)
 
-more_within : {A B : Type 0} (m : ℕ) (f : A → B → A) (ks : List Terminal) (piece : List Lexeme → Read B) → Within piece → (a : A) → Within (more m f ks piece a)
+more_within : {A B : Type 0} (m : ℕ) (f : A → B → A) (ks : List Terminal) (piece : List Lexeme → Read B) → ReadsWithin piece → (a : A) → ReadsWithin (more m f ks piece a)
 unfolding more
 more_within zero f ks piece w a ts = omega arith
 more_within (suc m) f ks piece w a ts =
     chosen_past (length ts) (starts_with ks ts) (piece ts >>= (λ x. more m f ks piece (f a x.0) x.1)) (Ok (a, ts))
     (past_bind (length ts) (piece ts) (λ x. more m f ks piece (f a x.0) x.1) (w ts) (λ x. more_within m f ks piece w (f a x.0) x.1)) (omega arith)
 
-more_on_turn : {A B : Type 0} (m n : ℕ) (f : A → B → A) (ks : List Terminal) (piece : List Lexeme → Read B) (a : A) (ts : List Lexeme) → Within piece
+more_on_turn : {A B : Type 0} (m n : ℕ) (f : A → B → A) (ks : List Terminal) (piece : List Lexeme → Read B) (a : A) (ts : List Lexeme) → ReadsWithin piece
     → starts_with ks ts ≡ true → Past n (piece ts) → Past n (more (suc m) f ks piece a ts)
 unfolding more
 more_on_turn m n f ks piece a ts w s p = rw s (past_bind n (piece ts) (λ x. more m f ks piece (f a x.0) x.1) p (λ x. more_within m f ks piece w (f a x.0) x.1))
@@ -75,7 +75,7 @@ pub none_both : (xs ys : List Lexeme) → xs ++ ys ≡ [] → (xs ≡ []) × (ys
 none_both [] ys h = (refl, h)
 none_both (l ∷ xs) ys h = cc
 
-one_on : (R : Inner) (t : Terminal) → Within (read_one t) → ReadsOn (Begins R (one t)) (read_one t)
+one_on : (R : Inner) (t : Terminal) → ReadsWithin (read_one t) → ReadsOn (Begins R (one t)) (read_one t)
 one_on R t w ts b post =
     elim b [
       | inl e ↦ subst (λ zs. Past (length post) (read_one t (zs ++ post))) (sym e) (w post)
@@ -83,7 +83,7 @@ one_on R t w ts b post =
     ]
 
 -- two parts, from where the first is read to
-both_past : {A B C : Type 0} (I : Inside) (f : A → B → C) (p : Part A) (q : Part B) (n : ℕ) (ts : List Lexeme) → Within (read I q) → Past n (read I p ts) → Past n (read I (both f p q) ts)
+both_past : {A B C : Type 0} (I : Inside) (f : A → B → C) (p : Part A) (q : Part B) (n : ℕ) (ts : List Lexeme) → ReadsWithin (read I q) → Past n (read I p ts) → Past n (read I (both f p q) ts)
 both_past I f p q n ts w h =
     past_bind n (read I p ts) (λ x. read I q x.1 >>= (λ y. Ok (f x.0 y.0, y.1))) h
     (λ x. past_bind (length x.1) (read I q x.1) (λ y. Ok (f x.0 y.0, y.1)) (w x.1) (λ y. omega arith))
@@ -151,7 +151,7 @@ more_on R I c f q k n d rq (v ∷ bs) (suc m) a ys zs post p b le =
           (more_on R I c f q k n d rq bs m (f a v) p.1 zs post p.4 b (omega arith)))
     ])
 
-left_past : {A B : Type 0} (I : Inside) (f : A → B → A) (p : Part A) (q : Part B) (n : ℕ) (ts : List Lexeme) → Within (read I q) → Past n (read I p ts) → Past n (read I (left f p q) ts)
+left_past : {A B : Type 0} (I : Inside) (f : A → B → A) (p : Part A) (q : Part B) (n : ℕ) (ts : List Lexeme) → ReadsWithin (read I q) → Past n (read I p ts) → Past n (read I (left f p q) ts)
 left_past I f p q n ts w h =
     past_bind n (read I p ts) (λ x. more (length x.1) f (first q) (read I q) x.0 x.1) h (λ x. more_within (length x.1) f (first q) (read I q) w x.0 x.1)
 

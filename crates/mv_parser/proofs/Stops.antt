@@ -11,11 +11,11 @@ use Rattle.mv_parser.proofs.Basics.{bind_err}
 use Rattle.mv_parser.proofs.Takes.{TakesAll, InnerTakes, takes}
 
 -- a front of the tokens begins this, and so many are left behind it
-abbrev pub Stands : (List Lexeme → Type 0) → List Lexeme → ℕ → Type 0
-Stands P ts n = (front : List Lexeme) × (rest : List Lexeme) × (ts ≡ front ++ rest) × (length rest ≡ n) × P front
+abbrev pub IsStop : (List Lexeme → Type 0) → List Lexeme → ℕ → Type 0
+IsStop P ts n = (front : List Lexeme) × (rest : List Lexeme) × (ts ≡ front ++ rest) × (length rest ≡ n) × P front
 
 abbrev pub StopsAll : {A : Type 0} → (List Lexeme → Type 0) → (List Lexeme → Read A) → Type 0
-StopsAll P f = (ts : List Lexeme) (n : ℕ) → f ts ≡ Err n → Stands P ts n
+StopsAll P f = (ts : List Lexeme) (n : ℕ) → f ts ≡ Err n → IsStop P ts n
 
 pub record InnerStops (R : Inner) (I : Inside) : Type 0 where
   pub expr : StopsAll R.begins_expression I.expr
@@ -37,7 +37,7 @@ abbrev pub BeginsMore : {B : Type 0} → (List Lexeme → B → Type 0) → (Lis
 BeginsMore {B = B} P Q ts = (ys : List Lexeme) × (zs : List Lexeme) × (bs : List B) × (ts ≡ ys ++ zs) × Pieces P ys bs × Q zs
 
 more_stops : {A B : Type 0} (m : ℕ) (f : A → B → A) (ks : List Terminal) (P : List Lexeme → B → Type 0) (Q : List Lexeme → Type 0) (piece : List Lexeme → Read B)
-    → TakesAll P piece → StopsAll Q piece → (a : A) (ts : List Lexeme) (n : ℕ) → more m f ks piece a ts ≡ Err n → Stands (BeginsMore P Q) ts n
+    → TakesAll P piece → StopsAll Q piece → (a : A) (ts : List Lexeme) (n : ℕ) → more m f ks piece a ts ≡ Err n → IsStop (BeginsMore P Q) ts n
 unfolding more
 more_stops zero f ks P Q piece t s a ts n h = cc
 more_stops (suc m) f ks P Q piece t s a ts n h =

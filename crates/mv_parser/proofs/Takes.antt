@@ -10,11 +10,11 @@ use Rattle.mv_parser.specs.Reading.{◌>>=◌, Read, Inside, read, read_one, mor
 use Rattle.mv_parser.proofs.Basics.{bind_ok, same_read, same_kind}
 
 -- a front of the tokens is this, and the rest is left
-abbrev pub Takes : {A : Type 0} → (List Lexeme → A → Type 0) → List Lexeme → A → List Lexeme → Type 0
-Takes P ts v rest = (front : List Lexeme) × (ts ≡ front ++ rest) × P front v
+abbrev pub TakesLexemes : {A : Type 0} → (List Lexeme → A → Type 0) → List Lexeme → A → List Lexeme → Type 0
+TakesLexemes P ts v rest = (front : List Lexeme) × (ts ≡ front ++ rest) × P front v
 
 abbrev pub TakesAll : {A : Type 0} → (List Lexeme → A → Type 0) → (List Lexeme → Read A) → Type 0
-TakesAll {A = A} P f = (ts : List Lexeme) (v : A) (rest : List Lexeme) → f ts ≡ Ok (v, rest) → Takes P ts v rest
+TakesAll {A = A} P f = (ts : List Lexeme) (v : A) (rest : List Lexeme) → f ts ≡ Ok (v, rest) → TakesLexemes P ts v rest
 
 pub record InnerTakes (R : Inner) (I : Inside) : Type 0 where
   pub expr : TakesAll R.is_expression I.expr

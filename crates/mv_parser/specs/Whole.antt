@@ -28,10 +28,10 @@ Answers (Err (Wrong left)) reading = reading ≡ Err left
 -- The result for a script's tokens and for reading them, unless memory ran out. The checks are, in this order: the
 -- limits that need no tree, the grammar, and the other limits. The token of a syntax error is the first one of those
 -- left, counted from 1.
-abbrev pub Tells : List ℕ → List Lexeme → Result Script ℕ → Result Script ParseFault → Type 0
-Tells bytes ts reading (Ok s) = (first_early ts ≡ None) × (reading ≡ Ok s) × (first_late bytes ts s ≡ None)
-Tells bytes ts reading (Err NoMemory) = Unit {0}
-Tells bytes ts reading (Err (Syntax token)) = (first_early ts ≡ None) × (left : ℕ) × (reading ≡ Err left) × (token ≡ length ts - left + 1)
-Tells bytes ts reading (Err (Limit which token)) =
+abbrev pub ParsesTo : List ℕ → List Lexeme → Result Script ℕ → Result Script ParseFault → Type 0
+ParsesTo bytes ts reading (Ok s) = (first_early ts ≡ None) × (reading ≡ Ok s) × (first_late bytes ts s ≡ None)
+ParsesTo bytes ts reading (Err NoMemory) = Unit {0}
+ParsesTo bytes ts reading (Err (Syntax token)) = (first_early ts ≡ None) × (left : ℕ) × (reading ≡ Err left) × (token ≡ length ts - left + 1)
+ParsesTo bytes ts reading (Err (Limit which token)) =
     (first_early ts ≡ Some (at_token which token))
     ⊎ ((first_early ts ≡ None) × (s : Script) × (reading ≡ Ok s) × (first_late bytes ts s ≡ Some (at_token which token)))

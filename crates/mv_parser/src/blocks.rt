@@ -12,7 +12,7 @@ ghost use Rattle.mv_ast.specs.Parts.{statement};
 ghost use Rattle.mv_ast.specs.Grammar.{many, stmt, for_each, for_plain, for_distinct, for_rows, loop_body, branch, otherwise};
 ghost use Rattle.mv_parser.specs.Reading.{Read, read};
 ghost use Rattle.mv_parser.specs.Rests.{plain_rest, distinct_rest, branches};
-ghost use Rattle.mv_parser.specs.Answers.{Reads, ReadsFor, Gives, GivesBy, Completes, inside_of};
+ghost use Rattle.mv_parser.specs.Answers.{ReadsPart, ReadsFor, AnswersRead, GivesBy, Completes, inside_of};
 
 use crate::fault::Failure;
 use crate::reader::Reader;
@@ -25,7 +25,7 @@ impl Reader<'_> {
     #[cycle(stmt)]
     #[tactic(auto, using(crate::proofs::Inside::inside_stmt, crate::proofs::Inside::inside_no_stmt))]
     fn statement(&self, at: usize) -> Result<(Stmt, usize), Failure>
-        ensures { Reads self.now at (λ _. statement) result }
+        ensures { ReadsPart self.now at (λ _. statement) result }
     {
         if self.depth == 0 {
             return Err(self.wrong(at));
@@ -37,7 +37,7 @@ impl Reader<'_> {
     #[cycle(stmt)]
     #[tactic(auto, using(crate::proofs::Turns::more_turn, crate::proofs::Turns::more_stop))]
     pub(crate) fn statements(&self, at: usize) -> Result<(List<Stmt>, usize), Failure>
-        ensures { Reads self.now at (λ _. many statement) result }
+        ensures { ReadsPart self.now at (λ _. many statement) result }
     {
         let mut all = List::new(self.alloc);
         let mut here = at;
@@ -56,7 +56,7 @@ impl Reader<'_> {
     #[cycle(stmt)]
     #[tactic(auto, using(crate::proofs::Firsts::first_assign, crate::proofs::Firsts::first_select, crate::proofs::Firsts::first_for_each, crate::proofs::Firsts::first_branch, crate::proofs::Firsts::first_insert, crate::proofs::Firsts::first_update, crate::proofs::Firsts::first_delete, crate::proofs::Firsts::first_print), unfolding(mv_ast::specs::Grammar::stmt))]
     fn stmt(&self, at: usize) -> Result<(Stmt, usize), Failure>
-        ensures { Reads self.now at stmt result }
+        ensures { ReadsPart self.now at stmt result }
     {
         if self.has(at, Terminal::Set) {
             return self.assign(at);
@@ -89,7 +89,7 @@ impl Reader<'_> {
     #[cycle(stmt)]
     #[tactic(auto, using(crate::proofs::Firsts::first_for_distinct), unfolding(mv_ast::specs::Grammar::for_each))]
     fn for_each(&self, at: usize) -> Result<(Stmt, usize), Failure>
-        ensures { Reads self.now at for_each result }
+        ensures { ReadsPart self.now at for_each result }
     {
         let (token, at) = self.place(at, Terminal::For)?;
         let (row, at) = self.variable(at)?;
@@ -230,7 +230,7 @@ impl Reader<'_> {
     #[cycle(stmt)]
     #[tactic(auto, unfolding(mv_ast::specs::Grammar::loop_body))]
     fn loop_body(&self, at: usize) -> Result<(List<Stmt>, usize), Failure>
-        ensures { Reads self.now at loop_body result }
+        ensures { ReadsPart self.now at loop_body result }
     {
         let (_, at) = self.one(at, Terminal::Do)?;
         let (body, at) = self.statements(at)?;
@@ -241,7 +241,7 @@ impl Reader<'_> {
     #[cycle(stmt)]
     #[tactic(auto, unfolding(mv_ast::specs::Grammar::branch))]
     fn branch(&self, at: usize) -> Result<(Stmt, usize), Failure>
-        ensures { Reads self.now at branch result }
+        ensures { ReadsPart self.now at branch result }
     {
         let (token, at) = self.place(at, Terminal::If)?;
         let (test, at) = self.expression(at)?;
@@ -270,7 +270,7 @@ impl Reader<'_> {
         test: Expr,
         rest: Result<((List<Stmt>, List<Stmt>), usize), Failure>,
     ) -> Result<(Stmt, usize), Failure>
-        ensures { (reading : Read Stmt) → GivesBy self.now.lexemes.now (λ x. Branch token test x.0 x.1) rest reading → Gives self.now.lexemes.now result reading }
+        ensures { (reading : Read Stmt) → GivesBy self.now.lexemes.now (λ x. Branch token test x.0 x.1) rest reading → AnswersRead self.now.lexemes.now result reading }
     {
         let ((yes, no), at) = rest?;
         let branch = Stmt::Branch {
@@ -286,7 +286,7 @@ impl Reader<'_> {
     #[cycle(stmt)]
     #[tactic(auto, unfolding(mv_ast::specs::Grammar::otherwise))]
     fn otherwise(&self, at: usize) -> Result<(List<Stmt>, usize), Failure>
-        ensures { Reads self.now at otherwise result }
+        ensures { ReadsPart self.now at otherwise result }
     {
         if !self.has(at, Terminal::Else) {
             return Ok((List::new(self.alloc), at));

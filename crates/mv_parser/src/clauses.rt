@@ -5,7 +5,7 @@ ghost use Rattle.mv_ast.specs.Parts.{one, expression};
 ghost use Rattle.mv_ast.specs.declared.lexeme.Terminal.TheVariants as word;
 ghost use Rattle.mv_ast.specs.Grammar.{◌▸◌, optional, in_parens, cond, conds, sort, sorts, direction, set_item, counted, aggregate, name};
 ghost use Rattle.mv_parser.specs.Reading.{inside, read};
-ghost use Rattle.mv_parser.specs.Answers.{Reads};
+ghost use Rattle.mv_parser.specs.Answers.{ReadsPart};
 
 use crate::fault::Failure;
 use crate::level::Level;
@@ -51,7 +51,7 @@ impl Reader<'_> {
     /// Parses one test of WHERE.
     #[tactic(auto, unfolding(mv_ast::specs::Grammar::cond, mv_ast::specs::Grammar::sum))]
     fn cond(&self, at: usize) -> Result<(Cond, usize), Failure>
-        ensures { Reads self.now at cond result }
+        ensures { ReadsPart self.now at cond result }
     {
         let (column, at) = self.name(at)?;
         let (op, at) = self.comparison(at)?;
@@ -62,7 +62,7 @@ impl Reader<'_> {
     /// Parses an optional WHERE with its tests.
     #[tactic(auto, unfolding(mv_ast::specs::Grammar::conds))]
     pub(crate) fn conds(&self, at: usize) -> Result<(List<Cond>, usize), Failure>
-        ensures { Reads self.now at conds result }
+        ensures { ReadsPart self.now at conds result }
     {
         if !self.has(at, Terminal::Where) {
             return Ok((List::new(self.alloc), at));
@@ -74,7 +74,7 @@ impl Reader<'_> {
     /// Parses an optional ASC or DESC. Returns whether the order is descending.
     #[tactic(auto, unfolding(mv_ast::specs::Grammar::direction))]
     fn direction(&self, at: usize) -> Result<(bool, usize), Failure>
-        ensures { Reads self.now at direction result }
+        ensures { ReadsPart self.now at direction result }
     {
         if self.has(at, Terminal::Asc) {
             let (_, at) = self.one(at, Terminal::Asc)?;
@@ -90,7 +90,7 @@ impl Reader<'_> {
     /// Parses one column of ORDER BY.
     #[tactic(auto, unfolding(mv_ast::specs::Grammar::sort))]
     fn sort(&self, at: usize) -> Result<(Sort, usize), Failure>
-        ensures { Reads self.now at sort result }
+        ensures { ReadsPart self.now at sort result }
     {
         let (column, at) = self.name(at)?;
         let (descending, at) = self.direction(at)?;
@@ -100,7 +100,7 @@ impl Reader<'_> {
     /// Parses an optional ORDER BY with its columns.
     #[tactic(auto, unfolding(mv_ast::specs::Grammar::sorts))]
     pub(crate) fn sorts(&self, at: usize) -> Result<(List<Sort>, usize), Failure>
-        ensures { Reads self.now at sorts result }
+        ensures { ReadsPart self.now at sorts result }
     {
         if !self.has(at, Terminal::Order) {
             return Ok((List::new(self.alloc), at));
@@ -112,7 +112,7 @@ impl Reader<'_> {
 
     /// Parses an optional OFFSET with its expression.
     pub(crate) fn offset(&self, at: usize) -> Result<(Option<Expr>, usize), Failure>
-        ensures { Reads self.now at (λ _. optional (one word.Offset ▸ expression)) result }
+        ensures { ReadsPart self.now at (λ _. optional (one word.Offset ▸ expression)) result }
     {
         if !self.has(at, Terminal::Offset) {
             return Ok((None, at));
@@ -125,7 +125,7 @@ impl Reader<'_> {
     /// Parses one assignment of UPDATE.
     #[tactic(auto, unfolding(mv_ast::specs::Grammar::set_item))]
     fn set_item(&self, at: usize) -> Result<(SetItem, usize), Failure>
-        ensures { Reads self.now at set_item result }
+        ensures { ReadsPart self.now at set_item result }
     {
         let (column, at) = self.name(at)?;
         let (_, at) = self.one(at, Terminal::Equal)?;
@@ -136,7 +136,7 @@ impl Reader<'_> {
     /// Parses what COUNT counts, in parentheses.
     #[tactic(auto, unfolding(mv_ast::specs::Grammar::counted))]
     fn counted(&self, at: usize) -> Result<(Agg, usize), Failure>
-        ensures { Reads self.now at counted result }
+        ensures { ReadsPart self.now at counted result }
     {
         if self.has(at, Terminal::Star) {
             let (_, at) = self.one(at, Terminal::Star)?;
@@ -149,7 +149,7 @@ impl Reader<'_> {
 
     /// Parses a name in parentheses.
     fn name_in_parens(&self, at: usize) -> Result<(Name, usize), Failure>
-        ensures { Reads self.now at (λ bytes. in_parens (name bytes)) result }
+        ensures { ReadsPart self.now at (λ bytes. in_parens (name bytes)) result }
     {
         let (_, at) = self.one(at, Terminal::Open)?;
         let (name, at) = self.name(at)?;
@@ -159,7 +159,7 @@ impl Reader<'_> {
     /// Parses an aggregate: COUNT, SUM, MIN or MAX.
     #[tactic(auto, unfolding(mv_ast::specs::Grammar::aggregate))]
     pub(crate) fn aggregate(&self, at: usize) -> Result<(Agg, usize), Failure>
-        ensures { Reads self.now at aggregate result }
+        ensures { ReadsPart self.now at aggregate result }
     {
         if self.has(at, Terminal::Count) {
             let (_, at) = self.one(at, Terminal::Count)?;

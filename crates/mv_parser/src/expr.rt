@@ -5,7 +5,7 @@ ghost use Rattle.mv_ast.specs.Parts.{give, expression};
 ghost use Rattle.mv_ast.specs.Trees.{with_comparison};
 ghost use Rattle.mv_ast.specs.Grammar.{◌⊛◌, two_arguments, in_parentheses, text_of_call, prim, fac, op, sum, comp, neg};
 ghost use Rattle.mv_parser.specs.Levels.{operand, next, chain, with_compare};
-ghost use Rattle.mv_parser.specs.Answers.{Reads, ReadsFor};
+ghost use Rattle.mv_parser.specs.Answers.{ReadsPart, ReadsFor};
 
 use crate::fault::Failure;
 use crate::level::{Level, marks};
@@ -19,7 +19,7 @@ impl Reader<'_> {
     #[cycle(expr)]
     #[tactic(auto, using(crate::proofs::Inside::inside_expr, crate::proofs::Inside::inside_none, crate::proofs::Chains::chain_or))]
     pub(crate) fn expression(&self, at: usize) -> Result<(Expr, usize), Failure>
-        ensures { Reads self.now at (λ _. expression) result }
+        ensures { ReadsPart self.now at (λ _. expression) result }
     {
         if self.depth == 0 {
             return Err(self.wrong(at));
@@ -30,7 +30,7 @@ impl Reader<'_> {
     /// Parses the operands and operators of a level, left-associatively.
     #[cycle(expr)]
     pub(crate) fn chain(&self, at: usize, level: Level) -> Result<(Expr, usize), Failure>
-        ensures { Reads self.now at (λ bytes. chain bytes level) result }
+        ensures { ReadsPart self.now at (λ bytes. chain bytes level) result }
     {
         let (mut whole, at) = self.operand(at, level)?;
         let mut here = at;
@@ -49,7 +49,7 @@ impl Reader<'_> {
     /// Parses an operator of a level and the operand after it.
     #[cycle(expr)]
     fn next(&self, at: usize, level: Level) -> Result<((TwoOp, Expr), usize), Failure>
-        ensures { Reads self.now at (λ bytes. next bytes level) result }
+        ensures { ReadsPart self.now at (λ bytes. next bytes level) result }
     {
         let (op, at) = self.operator(at, level)?;
         let (right, at) = self.operand(at, level)?;
@@ -60,7 +60,7 @@ impl Reader<'_> {
     #[cycle(expr)]
     #[tactic(auto, using(crate::proofs::Chains::chain_and, crate::proofs::Chains::chain_term))]
     fn operand(&self, at: usize, level: Level) -> Result<(Expr, usize), Failure>
-        ensures { Reads self.now at (λ bytes. operand bytes level) result }
+        ensures { ReadsPart self.now at (λ bytes. operand bytes level) result }
     {
         match level {
             Level::Or => self.chain(at, Level::And),
@@ -74,7 +74,7 @@ impl Reader<'_> {
     #[cycle(expr)]
     #[tactic(auto, unfolding(mv_ast::specs::Grammar::neg))]
     fn neg(&self, at: usize) -> Result<(Expr, usize), Failure>
-        ensures { Reads self.now at neg result }
+        ensures { ReadsPart self.now at neg result }
     {
         let (words, at) = self.repeated(at, Terminal::Not)?;
         let (inner, at) = self.comp(at)?;
@@ -85,7 +85,7 @@ impl Reader<'_> {
     #[cycle(expr)]
     #[tactic(auto, unfolding(mv_ast::specs::Grammar::comp, mv_ast::specs::Grammar::sum, mv_ast::specs::Grammar::op))]
     fn comp(&self, at: usize) -> Result<(Expr, usize), Failure>
-        ensures { Reads self.now at comp result }
+        ensures { ReadsPart self.now at comp result }
     {
         let (left, at) = self.chain(at, Level::Sum)?;
         if !self.has_any(at, &COMPARISONS) {
@@ -110,7 +110,7 @@ impl Reader<'_> {
     #[cycle(expr)]
     #[tactic(auto, unfolding(mv_ast::specs::Grammar::fac))]
     fn fac(&self, at: usize) -> Result<(Expr, usize), Failure>
-        ensures { Reads self.now at fac result }
+        ensures { ReadsPart self.now at fac result }
     {
         let (signs, at) = self.repeated(at, Terminal::Minus)?;
         let (inner, at) = self.prim(at)?;
@@ -121,7 +121,7 @@ impl Reader<'_> {
     #[cycle(expr)]
     #[tactic(auto, using(crate::proofs::Firsts::first_variable_expr, crate::proofs::Firsts::first_name, crate::proofs::Firsts::first_in_parentheses, crate::proofs::Firsts::first_left_call, crate::proofs::Firsts::first_text_of_call), unfolding(mv_ast::specs::Grammar::prim, mv_ast::specs::Grammar::left_call, mv_ast::specs::Grammar::contains_call))]
     fn prim(&self, at: usize) -> Result<(Expr, usize), Failure>
-        ensures { Reads self.now at prim result }
+        ensures { ReadsPart self.now at prim result }
     {
         if self.has(at, Terminal::Number) {
             return self.number_expr(at);
@@ -151,7 +151,7 @@ impl Reader<'_> {
     #[cycle(expr)]
     #[tactic(auto, unfolding(mv_ast::specs::Grammar::in_parentheses))]
     fn in_parentheses(&self, at: usize) -> Result<(Expr, usize), Failure>
-        ensures { Reads self.now at in_parentheses result }
+        ensures { ReadsPart self.now at in_parentheses result }
     {
         let (token, at) = self.place(at, Terminal::Open)?;
         let (inner, at) = self.expression(at)?;
@@ -162,7 +162,7 @@ impl Reader<'_> {
     /// Parses a call with two arguments.
     #[cycle(expr)]
     fn two_arguments(&self, at: usize, op: TwoOp, word: Terminal) -> Result<(Expr, usize), Failure>
-        ensures { Reads self.now at (λ bytes. two_arguments bytes op word) result }
+        ensures { ReadsPart self.now at (λ bytes. two_arguments bytes op word) result }
     {
         let (token, at) = self.place(at, word)?;
         let (_, at) = self.one(at, Terminal::Open)?;
@@ -179,7 +179,7 @@ impl Reader<'_> {
     #[cycle(expr)]
     #[tactic(auto, unfolding(mv_ast::specs::Grammar::text_of_call))]
     fn text_of_call(&self, at: usize) -> Result<(Expr, usize), Failure>
-        ensures { Reads self.now at text_of_call result }
+        ensures { ReadsPart self.now at text_of_call result }
     {
         let (token, at) = self.place(at, Terminal::TextOf)?;
         let (_, at) = self.one(at, Terminal::Open)?;

@@ -5,7 +5,7 @@ ghost use Rattle.mv_ast.specs.declared.lexeme.Terminal.TheVariants as word;
 ghost use Rattle.mv_ast.specs.Parts.{one};
 ghost use Rattle.mv_ast.specs.Grammar.{◌◂◌, in_parens, col_def, many, or_none, commas, columns, table, param, param_kind, declaration, procedure, arg, create, copy, call, journal, an_item};
 ghost use Rattle.mv_parser.specs.Reading.{inside, read};
-ghost use Rattle.mv_parser.specs.Answers.{Reads};
+ghost use Rattle.mv_parser.specs.Answers.{ReadsPart};
 
 use crate::fault::Failure;
 use crate::lists::Parse;
@@ -35,7 +35,7 @@ impl Parse for Arg {
 impl Reader<'_> {
     /// Parses a column and the comma after it.
     fn column(&self, at: usize) -> Result<(ColDef, usize), Failure>
-        ensures { Reads self.now at (λ bytes. col_def bytes ◂ one word.Comma) result }
+        ensures { ReadsPart self.now at (λ bytes. col_def bytes ◂ one word.Comma) result }
     {
         let (column, at) = self.col_def(at)?;
         self.followed(column, at, Terminal::Comma)
@@ -44,7 +44,7 @@ impl Reader<'_> {
     /// Parses the columns of a table, each followed by a comma.
     #[tactic(auto, using(crate::proofs::Turns::more_turn, crate::proofs::Turns::more_stop, crate::proofs::Firsts::first_column), unfolding(mv_ast::specs::Grammar::columns))]
     fn columns(&self, at: usize) -> Result<(List<ColDef>, usize), Failure>
-        ensures { Reads self.now at columns result }
+        ensures { ReadsPart self.now at columns result }
     {
         let (first, at) = self.column(at)?;
         let mut all = List::new(self.alloc);
@@ -64,7 +64,7 @@ impl Reader<'_> {
     /// Parses a table, after CREATE.
     #[tactic(auto, unfolding(mv_ast::specs::Grammar::table))]
     fn table(&self, at: usize) -> Result<(ItemKind, usize), Failure>
-        ensures { Reads self.now at table result }
+        ensures { ReadsPart self.now at table result }
     {
         let (_, at) = self.one(at, Terminal::Table)?;
         let (name, at) = self.name(at)?;
@@ -87,7 +87,7 @@ impl Reader<'_> {
     /// Parses the kind of a parameter.
     #[tactic(auto, unfolding(mv_ast::specs::Grammar::param_kind))]
     fn param_kind(&self, at: usize) -> Result<(ParamKind, usize), Failure>
-        ensures { Reads self.now at param_kind result }
+        ensures { ReadsPart self.now at param_kind result }
     {
         if !self.has(at, Terminal::Rows) {
             let (kind, at) = self.column_type(at)?;
@@ -101,7 +101,7 @@ impl Reader<'_> {
     /// Parses a parameter.
     #[tactic(auto, unfolding(mv_ast::specs::Grammar::param))]
     fn param(&self, at: usize) -> Result<(Param, usize), Failure>
-        ensures { Reads self.now at param result }
+        ensures { ReadsPart self.now at param result }
     {
         let (name, at) = self.variable(at)?;
         let (kind, at) = self.param_kind(at)?;
@@ -111,7 +111,7 @@ impl Reader<'_> {
     /// Parses zero or more parameters, separated by commas.
     #[tactic(auto, unfolding(mv_ast::specs::Grammar::param, mv_ast::specs::Grammar::variable))]
     fn params(&self, at: usize) -> Result<(List<Param>, usize), Failure>
-        ensures { Reads self.now at (λ bytes. or_none (commas (param bytes))) result }
+        ensures { ReadsPart self.now at (λ bytes. or_none (commas (param bytes))) result }
     {
         if !self.has(at, Terminal::Variable) {
             return Ok((List::new(self.alloc), at));
@@ -121,7 +121,7 @@ impl Reader<'_> {
 
     /// Parses zero or more parameters in parentheses.
     fn params_in_parens(&self, at: usize) -> Result<(List<Param>, usize), Failure>
-        ensures { Reads self.now at (λ bytes. in_parens (or_none (commas (param bytes)))) result }
+        ensures { ReadsPart self.now at (λ bytes. in_parens (or_none (commas (param bytes)))) result }
     {
         let (_, at) = self.one(at, Terminal::Open)?;
         let (params, at) = self.params(at)?;
@@ -131,7 +131,7 @@ impl Reader<'_> {
     /// Parses DECLARE.
     #[tactic(auto, unfolding(mv_ast::specs::Grammar::declaration))]
     fn declaration(&self, at: usize) -> Result<(VarDef, usize), Failure>
-        ensures { Reads self.now at declaration result }
+        ensures { ReadsPart self.now at declaration result }
     {
         let (_, at) = self.one(at, Terminal::Declare)?;
         let (name, at) = self.variable(at)?;
@@ -143,7 +143,7 @@ impl Reader<'_> {
     /// Parses zero or more declarations.
     #[tactic(auto, using(crate::proofs::Turns::more_turn, crate::proofs::Turns::more_stop, crate::proofs::Firsts::first_declaration))]
     fn declarations(&self, at: usize) -> Result<(List<VarDef>, usize), Failure>
-        ensures { Reads self.now at (λ bytes. many (declaration bytes)) result }
+        ensures { ReadsPart self.now at (λ bytes. many (declaration bytes)) result }
     {
         let mut all = List::new(self.alloc);
         let mut here = at;
@@ -161,7 +161,7 @@ impl Reader<'_> {
     /// Parses a procedure, after CREATE.
     #[tactic(auto, unfolding(mv_ast::specs::Grammar::procedure))]
     fn procedure(&self, at: usize) -> Result<(ItemKind, usize), Failure>
-        ensures { Reads self.now at procedure result }
+        ensures { ReadsPart self.now at procedure result }
     {
         let (_, at) = self.one(at, Terminal::Procedure)?;
         let (name, at) = self.name(at)?;
@@ -182,7 +182,7 @@ impl Reader<'_> {
     /// Parses CREATE.
     #[tactic(auto, using(crate::proofs::Firsts::first_table), unfolding(mv_ast::specs::Grammar::create))]
     fn create(&self, at: usize) -> Result<(Item, usize), Failure>
-        ensures { Reads self.now at create result }
+        ensures { ReadsPart self.now at create result }
     {
         let (token, at) = self.place(at, Terminal::Create)?;
         if self.has(at, Terminal::Table) {
@@ -196,7 +196,7 @@ impl Reader<'_> {
     /// Parses COPY.
     #[tactic(auto, unfolding(mv_ast::specs::Grammar::copy))]
     fn copy(&self, at: usize) -> Result<(Item, usize), Failure>
-        ensures { Reads self.now at copy result }
+        ensures { ReadsPart self.now at copy result }
     {
         let (token, at) = self.place(at, Terminal::Copy)?;
         let (table, at) = self.name(at)?;
@@ -208,7 +208,7 @@ impl Reader<'_> {
     /// Parses one argument of a call.
     #[tactic(auto, using(crate::proofs::Firsts::first_lit_rows), unfolding(mv_ast::specs::Grammar::arg))]
     fn arg(&self, at: usize) -> Result<(Arg, usize), Failure>
-        ensures { Reads self.now at arg result }
+        ensures { ReadsPart self.now at arg result }
     {
         if self.has(at, Terminal::Rows) {
             let (rows, at) = self.lit_rows(at)?;
@@ -221,7 +221,7 @@ impl Reader<'_> {
     /// Parses zero or more arguments, separated by commas.
     #[tactic(auto, using(crate::proofs::Firsts::first_args))]
     fn args(&self, at: usize) -> Result<(List<Arg>, usize), Failure>
-        ensures { Reads self.now at (λ bytes. or_none (commas (arg bytes))) result }
+        ensures { ReadsPart self.now at (λ bytes. or_none (commas (arg bytes))) result }
     {
         if !self.has_any(at, &ARGUMENT_WORDS) {
             return Ok((List::new(self.alloc), at));
@@ -231,7 +231,7 @@ impl Reader<'_> {
 
     /// Parses zero or more arguments in parentheses.
     fn args_in_parens(&self, at: usize) -> Result<(List<Arg>, usize), Failure>
-        ensures { Reads self.now at (λ bytes. in_parens (or_none (commas (arg bytes)))) result }
+        ensures { ReadsPart self.now at (λ bytes. in_parens (or_none (commas (arg bytes)))) result }
     {
         let (_, at) = self.one(at, Terminal::Open)?;
         let (arguments, at) = self.args(at)?;
@@ -241,7 +241,7 @@ impl Reader<'_> {
     /// Parses CALL.
     #[tactic(auto, unfolding(mv_ast::specs::Grammar::call))]
     fn call(&self, at: usize) -> Result<(Item, usize), Failure>
-        ensures { Reads self.now at call result }
+        ensures { ReadsPart self.now at call result }
     {
         let (token, at) = self.place(at, Terminal::Call)?;
         let (name, at) = self.name(at)?;
@@ -253,7 +253,7 @@ impl Reader<'_> {
     /// Parses JOURNAL.
     #[tactic(auto, unfolding(mv_ast::specs::Grammar::journal))]
     fn journal(&self, at: usize) -> Result<(Item, usize), Failure>
-        ensures { Reads self.now at journal result }
+        ensures { ReadsPart self.now at journal result }
     {
         let (token, at) = self.place(at, Terminal::Journal)?;
         let (block, at) = self.block(at)?;
@@ -264,7 +264,7 @@ impl Reader<'_> {
     /// Parses one item of a script.
     #[tactic(auto, using(crate::proofs::Firsts::first_create, crate::proofs::Firsts::first_copy, crate::proofs::Firsts::first_call), unfolding(mv_ast::specs::Grammar::an_item))]
     pub(crate) fn item(&self, at: usize) -> Result<(Item, usize), Failure>
-        ensures { Reads self.now at an_item result }
+        ensures { ReadsPart self.now at an_item result }
     {
         if self.has(at, Terminal::Create) {
             return self.create(at);
@@ -281,7 +281,7 @@ impl Reader<'_> {
     /// Parses zero or more items.
     #[tactic(auto, using(crate::proofs::Turns::more_turn, crate::proofs::Turns::more_stop, crate::proofs::Firsts::first_an_item))]
     pub(crate) fn items(&self, at: usize) -> Result<(List<Item>, usize), Failure>
-        ensures { Reads self.now at (λ bytes. many (an_item bytes)) result }
+        ensures { ReadsPart self.now at (λ bytes. many (an_item bytes)) result }
     {
         let mut all = List::new(self.alloc);
         let mut here = at;

@@ -5,7 +5,7 @@ ghost use Rattle.mv_ast.specs.declared.lexeme.Lexeme.{Lexeme};
 ghost use Rattle.mv_ast.specs.declared.lexeme.Terminal.TheVariants as word;
 ghost use Rattle.mv_parser.specs.Reading.{Read};
 ghost use Rattle.mv_parser.specs.Lists.{read_separated, read_in_parens};
-ghost use Rattle.mv_parser.specs.Answers.{Gives};
+ghost use Rattle.mv_parser.specs.Answers.{AnswersRead};
 
 use crate::fault::Failure;
 use crate::reader::Reader;
@@ -17,13 +17,13 @@ pub(crate) trait Parse: Drop {
     ghost reading: { Seq ℕ → ℕ → Seq Lexeme → Read Self };
 
     fn parse(reader: &Reader, at: usize) -> Result<(Self, usize), Failure>
-        ensures { Gives reader.now.lexemes.now result (reading reader.now.bytes.now reader.now.depth (drop at reader.now.lexemes.now)) };
+        ensures { AnswersRead reader.now.lexemes.now result (reading reader.now.bytes.now reader.now.depth (drop at reader.now.lexemes.now)) };
 }
 
 impl Reader<'_> {
     /// Parses one or more parts in parentheses, separated by commas.
     pub(crate) fn in_parens<T: Parse>(&self, at: usize) -> Result<(List<T>, usize), Failure>
-        ensures { Gives self.now.lexemes.now result (read_in_parens (read_separated word.Comma (T.reading self.now.bytes.now self.now.depth)) (drop at self.now.lexemes.now)) }
+        ensures { AnswersRead self.now.lexemes.now result (read_in_parens (read_separated word.Comma (T.reading self.now.bytes.now self.now.depth)) (drop at self.now.lexemes.now)) }
     {
         let (_, at) = self.one(at, Terminal::Open)?;
         let (all, at) = self.separated(at, Terminal::Comma)?;
@@ -37,7 +37,7 @@ impl Reader<'_> {
         at: usize,
         mark: Terminal,
     ) -> Result<(List<T>, usize), Failure>
-        ensures { Gives self.now.lexemes.now result (read_separated mark (T.reading self.now.bytes.now self.now.depth) (drop at self.now.lexemes.now)) }
+        ensures { AnswersRead self.now.lexemes.now result (read_separated mark (T.reading self.now.bytes.now self.now.depth) (drop at self.now.lexemes.now)) }
     {
         let (first, at) = T::parse(self, at)?;
         let mut all = List::new(self.alloc);

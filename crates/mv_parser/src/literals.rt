@@ -6,7 +6,7 @@ ghost use Rattle.mv_ast.specs.declared.lexeme.Terminal.TheVariants as word;
 ghost use Rattle.mv_ast.specs.Grammar.{commas, or_none, in_parens, name, literal, lit_row, lit_rows, col_def, column_type, opening_rows, number_of};
 ghost use Rattle.mv_parser.specs.Fitting.{fits};
 ghost use Rattle.mv_parser.specs.Reading.{inside, read};
-ghost use Rattle.mv_parser.specs.Answers.{Reads};
+ghost use Rattle.mv_parser.specs.Answers.{ReadsPart};
 
 use crate::fault::Failure;
 use crate::lists::Parse;
@@ -53,7 +53,7 @@ impl Reader<'_> {
     /// Parses a literal.
     #[tactic(auto, unfolding(mv_ast::specs::Grammar::literal))]
     pub(crate) fn literal(&self, at: usize) -> Result<(Lit, usize), Failure>
-        ensures { Reads self.now at literal result }
+        ensures { ReadsPart self.now at literal result }
     {
         if self.has(at, Terminal::Minus) {
             let (token, at) = self.place(at, Terminal::Minus)?;
@@ -76,7 +76,7 @@ impl Reader<'_> {
     /// Parses a row of literals.
     #[tactic(auto, unfolding(mv_ast::specs::Grammar::lit_row))]
     pub(crate) fn lit_row(&self, at: usize) -> Result<(LitRow, usize), Failure>
-        ensures { Reads self.now at lit_row result }
+        ensures { ReadsPart self.now at lit_row result }
     {
         let (token, at) = self.place(at, Terminal::Open)?;
         let (values, at) = self.separated(at, Terminal::Comma)?;
@@ -86,7 +86,7 @@ impl Reader<'_> {
     /// Parses an argument that is a list of rows.
     #[tactic(auto, unfolding(mv_ast::specs::Grammar::lit_rows))]
     pub(crate) fn lit_rows(&self, at: usize) -> Result<(LitRows, usize), Failure>
-        ensures { Reads self.now at lit_rows result }
+        ensures { ReadsPart self.now at lit_rows result }
     {
         let (token, at) = self.place(at, Terminal::Rows)?;
         let (_, at) = self.one(at, Terminal::Open)?;
@@ -98,7 +98,7 @@ impl Reader<'_> {
     /// Parses the rows between the parentheses of an argument.
     #[tactic(auto, unfolding(mv_ast::specs::Grammar::lit_row))]
     fn rows_inside(&self, at: usize) -> Result<(List<LitRow>, usize), Failure>
-        ensures { Reads self.now at (λ bytes. or_none (commas (lit_row bytes))) result }
+        ensures { ReadsPart self.now at (λ bytes. or_none (commas (lit_row bytes))) result }
     {
         if !self.has(at, Terminal::Open) {
             return Ok((List::new(self.alloc), at));
@@ -109,7 +109,7 @@ impl Reader<'_> {
     /// Parses the initial rows of a table.
     #[tactic(auto, unfolding(mv_ast::specs::Grammar::opening_rows))]
     pub(crate) fn opening_rows(&self, at: usize) -> Result<(List<LitRow>, usize), Failure>
-        ensures { Reads self.now at opening_rows result }
+        ensures { ReadsPart self.now at opening_rows result }
     {
         if !self.has(at, Terminal::Values) {
             return Ok((List::new(self.alloc), at));
@@ -121,7 +121,7 @@ impl Reader<'_> {
     /// Parses a column: its name and its type.
     #[tactic(auto, unfolding(mv_ast::specs::Grammar::col_def))]
     pub(crate) fn col_def(&self, at: usize) -> Result<(ColDef, usize), Failure>
-        ensures { Reads self.now at col_def result }
+        ensures { ReadsPart self.now at col_def result }
     {
         let (name, at) = self.name(at)?;
         let (kind, at) = self.column_type(at)?;
@@ -131,7 +131,7 @@ impl Reader<'_> {
     /// Parses the type of a column.
     #[tactic(auto, unfolding(mv_ast::specs::Grammar::column_type))]
     pub(crate) fn column_type(&self, at: usize) -> Result<(ColType, usize), Failure>
-        ensures { Reads self.now at column_type result }
+        ensures { ReadsPart self.now at column_type result }
     {
         if self.has(at, Terminal::Int) {
             let (_, at) = self.one(at, Terminal::Int)?;

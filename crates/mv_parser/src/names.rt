@@ -8,7 +8,7 @@ ghost use Rattle.mv_ast.specs.Parts.{give, one};
 ghost use Rattle.mv_ast.specs.Texts.{spelling, lower};
 ghost use Rattle.mv_ast.specs.Grammar.{◌⊛◌, place, name, variable, block, number_of, text_of};
 ghost use Rattle.mv_parser.specs.Fitting.{fits};
-ghost use Rattle.mv_parser.specs.Answers.{Reads};
+ghost use Rattle.mv_parser.specs.Answers.{ReadsPart};
 
 use crate::fault::Failure;
 use crate::reader::Reader;
@@ -30,7 +30,7 @@ impl Reader<'_> {
 
     /// Parses a token of this kind and returns its number.
     pub(crate) fn place(&self, at: usize, kind: Terminal) -> Result<(u32, usize), Failure>
-        ensures { Reads self.now at (λ _. place kind) result }
+        ensures { ReadsPart self.now at (λ _. place kind) result }
     {
         let (lexeme, at) = self.one(at, kind)?;
         Ok((lexeme.number, at))
@@ -39,7 +39,7 @@ impl Reader<'_> {
     /// Parses a name.
     #[tactic(auto, unfolding(mv_ast::specs::Grammar::name))]
     pub(crate) fn name(&self, at: usize) -> Result<(Name, usize), Failure>
-        ensures { Reads self.now at name result }
+        ensures { ReadsPart self.now at name result }
     {
         let (lexeme, at) = self.one(at, Terminal::Name)?;
         let text = lowered(self.alloc, self.spelling(lexeme))?;
@@ -50,7 +50,7 @@ impl Reader<'_> {
     /// Parses a variable. Its name is without the colon.
     #[tactic(auto, using(crate::proofs::TextLaws::behind_printable), unfolding(mv_ast::specs::Grammar::variable))]
     pub(crate) fn variable(&self, at: usize) -> Result<(Name, usize), Failure>
-        ensures { Reads self.now at variable result }
+        ensures { ReadsPart self.now at variable result }
     {
         let (lexeme, at) = self.one(at, Terminal::Variable)?;
         let text = lowered(self.alloc, behind_first(self.spelling(lexeme)))?;
@@ -77,7 +77,7 @@ impl Reader<'_> {
 
     /// Parses a text.
     pub(crate) fn quoted(&self, at: usize) -> Result<(Txt, usize), Failure>
-        ensures { Reads self.now at (λ bytes. give (text_of bytes) ⊛ one word.Quoted) result }
+        ensures { ReadsPart self.now at (λ bytes. give (text_of bytes) ⊛ one word.Quoted) result }
     {
         let (lexeme, at) = self.one(at, Terminal::Quoted)?;
         let text = self.text_of(lexeme)?;
@@ -87,7 +87,7 @@ impl Reader<'_> {
     /// Parses a block.
     #[tactic(auto, unfolding(mv_ast::specs::Grammar::block))]
     pub(crate) fn block(&self, at: usize) -> Result<(Span, usize), Failure>
-        ensures { Reads self.now at block result }
+        ensures { ReadsPart self.now at block result }
     {
         let closed = self.has(at, Terminal::Block);
         let kind = if closed {

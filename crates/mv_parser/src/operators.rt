@@ -6,7 +6,7 @@ ghost use Rattle.mv_ast.specs.Parts.{give, one};
 ghost use Rattle.mv_ast.specs.Trees.{prefixed, paired, all_prefixed, column_named};
 ghost use Rattle.mv_ast.specs.Grammar.{◌⊛◌, many, name, const_number, const_text, op, term_op, sum_op, variable_expr};
 ghost use Rattle.mv_parser.specs.Levels.{operator};
-ghost use Rattle.mv_parser.specs.Answers.{Reads, Joins};
+ghost use Rattle.mv_parser.specs.Answers.{ReadsPart, Joins};
 
 use crate::fault::Failure;
 use crate::level::Level;
@@ -42,7 +42,7 @@ impl Reader<'_> {
         at: usize,
         kind: Terminal,
     ) -> Result<(List<Lexeme>, usize), Failure>
-        ensures { Reads self.now at (λ _. many (one kind)) result }
+        ensures { ReadsPart self.now at (λ _. many (one kind)) result }
     {
         let mut all = List::new(self.alloc);
         let mut here = at;
@@ -108,7 +108,7 @@ impl Reader<'_> {
     /// Parses a comparison operator.
     #[tactic(auto, unfolding(mv_ast::specs::Grammar::op))]
     pub(crate) fn comparison(&self, at: usize) -> Result<(Op, usize), Failure>
-        ensures { Reads self.now at op result }
+        ensures { ReadsPart self.now at op result }
     {
         if self.has(at, Terminal::Equal) {
             let (_, at) = self.one(at, Terminal::Equal)?;
@@ -137,7 +137,7 @@ impl Reader<'_> {
     /// Parses `*`, `/` or `%`.
     #[tactic(auto, unfolding(mv_ast::specs::Grammar::term_op))]
     pub(crate) fn term_operator(&self, at: usize) -> Result<(TwoOp, usize), Failure>
-        ensures { Reads self.now at term_op result }
+        ensures { ReadsPart self.now at term_op result }
     {
         if self.has(at, Terminal::Star) {
             let (_, at) = self.one(at, Terminal::Star)?;
@@ -154,7 +154,7 @@ impl Reader<'_> {
     /// Parses `+`, `-` or `||`.
     #[tactic(auto, unfolding(mv_ast::specs::Grammar::sum_op))]
     pub(crate) fn sum_operator(&self, at: usize) -> Result<(TwoOp, usize), Failure>
-        ensures { Reads self.now at sum_op result }
+        ensures { ReadsPart self.now at sum_op result }
     {
         if self.has(at, Terminal::Plus) {
             let (_, at) = self.one(at, Terminal::Plus)?;
@@ -170,7 +170,7 @@ impl Reader<'_> {
 
     /// Parses an operator of a level.
     pub(crate) fn operator(&self, at: usize, level: Level) -> Result<(TwoOp, usize), Failure>
-        ensures { Reads self.now at (λ bytes. operator bytes level) result }
+        ensures { ReadsPart self.now at (λ bytes. operator bytes level) result }
     {
         match level {
             Level::Or => {
@@ -188,7 +188,7 @@ impl Reader<'_> {
 
     /// Parses a number as an expression.
     pub(crate) fn number_expr(&self, at: usize) -> Result<(Expr, usize), Failure>
-        ensures { Reads self.now at (λ bytes. give (const_number bytes) ⊛ one word.Number) result }
+        ensures { ReadsPart self.now at (λ bytes. give (const_number bytes) ⊛ one word.Number) result }
     {
         let (lexeme, at) = self.one(at, Terminal::Number)?;
         let token = lexeme.number;
@@ -198,7 +198,7 @@ impl Reader<'_> {
 
     /// Parses a text as an expression.
     pub(crate) fn text_expr(&self, at: usize) -> Result<(Expr, usize), Failure>
-        ensures { Reads self.now at (λ bytes. give (const_text bytes) ⊛ one word.Quoted) result }
+        ensures { ReadsPart self.now at (λ bytes. give (const_text bytes) ⊛ one word.Quoted) result }
     {
         let (lexeme, at) = self.one(at, Terminal::Quoted)?;
         let token = lexeme.number;
@@ -208,7 +208,7 @@ impl Reader<'_> {
 
     /// Parses a column as an expression.
     pub(crate) fn column_expr(&self, at: usize) -> Result<(Expr, usize), Failure>
-        ensures { Reads self.now at (λ bytes. give column_named ⊛ name bytes) result }
+        ensures { ReadsPart self.now at (λ bytes. give column_named ⊛ name bytes) result }
     {
         let (name, at) = self.name(at)?;
         let token = name.token;
@@ -219,7 +219,7 @@ impl Reader<'_> {
     /// Parses a variable, or a column of a loop's row.
     #[tactic(auto, unfolding(mv_ast::specs::Grammar::variable_expr))]
     pub(crate) fn variable_expr(&self, at: usize) -> Result<(Expr, usize), Failure>
-        ensures { Reads self.now at variable_expr result }
+        ensures { ReadsPart self.now at variable_expr result }
     {
         let (name, at) = self.variable(at)?;
         let token = name.token;

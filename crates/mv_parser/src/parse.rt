@@ -6,7 +6,7 @@ ghost use Rattle.mv_lex.specs.Tokens.{AreTokens, IsSpelledIn};
 ghost use Rattle.mv_ast.specs.declared.limit.Which.{Which};
 ghost use Rattle.mv_ast.specs.declared.tree.Script.{Script};
 ghost use Rattle.mv_ast.specs.Lexemes.{IsScript, PassesLimit, CannotStand, lexemes};
-ghost use Rattle.mv_parser.specs.Whole.{parsed, Answers, Tells};
+ghost use Rattle.mv_parser.specs.Whole.{parsed, Answers, ParsesTo};
 
 use crate::fault::{Failure, ParseFault};
 use crate::lexing::lexemes_of;
@@ -55,7 +55,7 @@ fn read_script(alloc: Global, tokens: &List<Token>, bytes: &[u8]) -> Result<Scri
     requires size { length bytes.now ≤ 2 ^ 24 }
     requires few { length tokens.now ≤ 2 ^ 24 }
     requires spelled { All (IsSpelledIn bytes.now) tokens.now }
-    ensures { Tells bytes.now (lexemes bytes.now tokens.now) (parsed bytes.now (length (lexemes bytes.now tokens.now)) (lexemes bytes.now tokens.now)) result }
+    ensures { ParsesTo bytes.now (lexemes bytes.now tokens.now) (parsed bytes.now (length (lexemes bytes.now tokens.now)) (lexemes bytes.now tokens.now)) result }
 {
     let list = lexemes_of(alloc, tokens, bytes)?;
     let lexemes = list.as_slice();

@@ -6,7 +6,7 @@ ghost use Rattle.mv_ast.specs.Parts.{give, one};
 ghost use Rattle.mv_ast.specs.Grammar.{◌◂◌};
 ghost use Rattle.mv_parser.specs.Fitting.{fits};
 ghost use Rattle.mv_parser.specs.Reading.{starts_with, is_among};
-ghost use Rattle.mv_parser.specs.Answers.{Reads, Ahead};
+ghost use Rattle.mv_parser.specs.Answers.{ReadsPart, Ahead};
 
 use crate::fault::Failure;
 use crate::reader::Reader;
@@ -60,7 +60,7 @@ impl Reader<'_> {
 
     /// Parses one token of this kind.
     pub(crate) fn one(&self, at: usize, kind: Terminal) -> Result<(Lexeme, usize), Failure>
-        ensures reads { Reads self.now at (λ _. one kind) result }
+        ensures reads { ReadsPart self.now at (λ _. one kind) result }
         ensures fitting { IfOk result (λ x. IsTrue (fits self.now.bytes.now x.0)) }
         ensures kind { IfOk result (λ x. x.0.kind ≡ kind) }
     {
@@ -81,7 +81,7 @@ impl Reader<'_> {
         at: usize,
         kind: Terminal,
     ) -> Result<(T, usize), Failure>
-        ensures { Reads self.now at (λ _. give value ◂ one kind) result }
+        ensures { ReadsPart self.now at (λ _. give value ◂ one kind) result }
     {
         let (_, at) = self.one(at, kind)?;
         Ok((value, at))
@@ -94,7 +94,7 @@ impl Reader<'_> {
         at: usize,
         kind: Terminal,
     ) -> Result<(T, usize), Failure>
-        ensures { Reads self.now at (λ _. give value ◂ one word.End ◂ one kind ◂ one word.Semicolon) result }
+        ensures { ReadsPart self.now at (λ _. give value ◂ one word.End ◂ one kind ◂ one word.Semicolon) result }
     {
         let (value, at) = self.followed(value, at, Terminal::End)?;
         let (value, at) = self.followed(value, at, kind)?;

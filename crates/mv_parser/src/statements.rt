@@ -11,7 +11,7 @@ ghost use Rattle.mv_ast.specs.Trees.{select_of, total_of};
 ghost use Rattle.mv_parser.specs.Reading.{read};
 ghost use Rattle.mv_parser.specs.Rests.{select_rest, total_rest};
 ghost use Rattle.mv_ast.specs.Grammar.{commas, variable, assign, select_columns, total, select, insert, update, delete, print, rollback};
-ghost use Rattle.mv_parser.specs.Answers.{Reads, ReadsFor, GivesBy, Completes, inside_of};
+ghost use Rattle.mv_parser.specs.Answers.{ReadsPart, ReadsFor, GivesBy, Completes, inside_of};
 
 use crate::fault::Failure;
 use crate::reader::Reader;
@@ -23,7 +23,7 @@ impl Reader<'_> {
     /// Parses one or more variables, separated by commas.
     #[tactic(auto, using(crate::proofs::Turns::more_turn, crate::proofs::Turns::more_stop))]
     fn variables(&self, at: usize) -> Result<(List<Name>, usize), Failure>
-        ensures { Reads self.now at (λ bytes. commas (variable bytes)) result }
+        ensures { ReadsPart self.now at (λ bytes. commas (variable bytes)) result }
     {
         let (first, at) = self.variable(at)?;
         let mut all = List::new(self.alloc);
@@ -44,7 +44,7 @@ impl Reader<'_> {
     /// Parses SET of a variable.
     #[tactic(auto, unfolding(mv_ast::specs::Grammar::assign))]
     pub(crate) fn assign(&self, at: usize) -> Result<(Stmt, usize), Failure>
-        ensures { Reads self.now at assign result }
+        ensures { ReadsPart self.now at assign result }
     {
         let (token, at) = self.place(at, Terminal::Set)?;
         let (to, at) = self.variable(at)?;
@@ -56,7 +56,7 @@ impl Reader<'_> {
     /// Parses SELECT into variables.
     #[tactic(auto, using(crate::proofs::Firsts::first_select_columns), unfolding(mv_ast::specs::Grammar::select))]
     pub(crate) fn select(&self, at: usize) -> Result<(Stmt, usize), Failure>
-        ensures { Reads self.now at select result }
+        ensures { ReadsPart self.now at select result }
     {
         let (token, at) = self.place(at, Terminal::Select)?;
         if self.has(at, Terminal::Name) {
@@ -163,7 +163,7 @@ impl Reader<'_> {
     /// Parses INSERT.
     #[tactic(auto, unfolding(mv_ast::specs::Grammar::insert))]
     pub(crate) fn insert(&self, at: usize) -> Result<(Stmt, usize), Failure>
-        ensures { Reads self.now at insert result }
+        ensures { ReadsPart self.now at insert result }
     {
         let (token, at) = self.place(at, Terminal::Insert)?;
         let (_, at) = self.one(at, Terminal::Into)?;
@@ -181,7 +181,7 @@ impl Reader<'_> {
     /// Parses UPDATE.
     #[tactic(auto, unfolding(mv_ast::specs::Grammar::update))]
     pub(crate) fn update(&self, at: usize) -> Result<(Stmt, usize), Failure>
-        ensures { Reads self.now at update result }
+        ensures { ReadsPart self.now at update result }
     {
         let (token, at) = self.place(at, Terminal::Update)?;
         let (table, at) = self.name(at)?;
@@ -200,7 +200,7 @@ impl Reader<'_> {
     /// Parses DELETE.
     #[tactic(auto, unfolding(mv_ast::specs::Grammar::delete))]
     pub(crate) fn delete(&self, at: usize) -> Result<(Stmt, usize), Failure>
-        ensures { Reads self.now at delete result }
+        ensures { ReadsPart self.now at delete result }
     {
         let (token, at) = self.place(at, Terminal::Delete)?;
         let (_, at) = self.one(at, Terminal::From)?;
@@ -217,7 +217,7 @@ impl Reader<'_> {
     /// Parses PRINT.
     #[tactic(auto, unfolding(mv_ast::specs::Grammar::print))]
     pub(crate) fn print(&self, at: usize) -> Result<(Stmt, usize), Failure>
-        ensures { Reads self.now at print result }
+        ensures { ReadsPart self.now at print result }
     {
         let (token, at) = self.place(at, Terminal::Print)?;
         let (values, at) = self.separated(at, Terminal::Comma)?;
@@ -227,7 +227,7 @@ impl Reader<'_> {
     /// Parses ROLLBACK.
     #[tactic(auto, unfolding(mv_ast::specs::Grammar::rollback))]
     pub(crate) fn rollback(&self, at: usize) -> Result<(Stmt, usize), Failure>
-        ensures { Reads self.now at rollback result }
+        ensures { ReadsPart self.now at rollback result }
     {
         let (token, at) = self.place(at, Terminal::Rollback)?;
         let (reason, at) = self.quoted(at)?;

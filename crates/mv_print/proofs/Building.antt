@@ -150,16 +150,16 @@ Triple T l [] = Unit {0}
 Triple T l (b ∷ []) = Unit {0}
 Triple T l (b ∷ c ∷ ls) = T l b c
 
-abbrev pub Each : Goodness → List Lexeme → Type 0
-Each G [] = Unit {0}
-Each G (l ∷ ls) = G.one_good l × Triple G.three_good l ls × Each G ls
+abbrev pub AllGood : Goodness → List Lexeme → Type 0
+AllGood G [] = Unit {0}
+AllGood G (l ∷ ls) = G.one_good l × Triple G.three_good l ls × AllGood G ls
 
 triple_first : (T : Lexeme → Lexeme → Lexeme → Type 0) (l : Lexeme) (xs ys : List Lexeme) → Triple T l (xs ++ ys) → Triple T l xs
 triple_first T l [] ys h = tt
 triple_first T l (b ∷ []) ys h = tt
 triple_first T l (b ∷ c ∷ xs) ys h = h
 
-pub each_apart : (G : Goodness) (xs ys : List Lexeme) → Each G (xs ++ ys) → Each G xs × Each G ys
+pub each_apart : (G : Goodness) (xs ys : List Lexeme) → AllGood G (xs ++ ys) → AllGood G xs × AllGood G ys
 each_apart G [] ys h = (tt, h)
 each_apart G (x ∷ xs) ys h = let i = each_apart G xs ys h.2 in ((h.0, triple_first G.three_good x xs ys h.1, i.0), i.1)
 
@@ -192,7 +192,7 @@ abbrev pub Turned : {A : Type 0} → List ℕ → Part A → (List Piece → Typ
 Turned text p K Q ts = TurnedTo 0 0 text p K Q ts
 
 pub record TurnsTo {A : Type 0} (m n : ℕ) (G : Goodness) (bytes text : List ℕ) (d : ℕ) (p q : Part A) (K : A → List Piece → Type 0) (R : A → A → Type 0) : Type 0 where
-  pub turn : (ts : List Lexeme) (v : A) → Each G ts → Is (inner bytes d) p ts v → TurnedTo m n text q (K v) (R v) ts
+  pub turn : (ts : List Lexeme) (v : A) → AllGood G ts → Is (inner bytes d) p ts v → TurnedTo m n text q (K v) (R v) ts
 
 abbrev pub Turns : {A : Type 0} → Goodness → List ℕ → List ℕ → ℕ → Part A → Part A → (A → List Piece → Type 0) → (A → A → Type 0) → Type 0
 Turns G bytes text d p q K R = TurnsTo 0 0 G bytes text d p q K R
@@ -216,7 +216,7 @@ pub turns_level : {A B : Type 0} {m k n : ℕ} {G : Goodness} {bytes text : List
     → TurnsTo m n G bytes text d (p ⊛ q) (p' ⊛ q') K R
 turns_level {m = m} {k = c} {n = n} {G = G} {text = text} {K = K} {R = R} {p' = p'} {q' = q'} y x = record {
   turn = λ ts v g i. (
-      let g' = each_apart G i.0 i.1 (subst (Each G) i.4 g) in
+      let g' = each_apart G i.0 i.1 (subst (AllGood G) i.4 g) in
       let a = x.turn i.0 i.2 g'.0 i.5 in
       let b = y.turn i.1 i.3 g'.1 i.6 in
       let r : TurnedTo m n text (p' ⊛ q') (K (i.2 i.3)) (R (i.2 i.3)) ts = record {
@@ -267,7 +267,7 @@ pub turns_skip : {A : Type 0} {m k n : ℕ} {G : Goodness} {bytes text : List �
     → TurnsTo m k G bytes text d p p' (λ a ps. K a (ps ++ x ∷ [])) R → TurnsTo m n G bytes text d (p ◂ one t) (p' ◂ one t) K R
 turns_skip {m = m} {k = c} {n = n} {G = G} {text = text} {t = t} {K = K} {R = R} {p' = p'} x s e l z = record {
   turn = λ ts v g i. (
-      let g' = each_apart G i.0 i.1 (subst (Each G) i.4 g) in
+      let g' = each_apart G i.0 i.1 (subst (AllGood G) i.4 g) in
       let a = z.turn i.0 i.2 g'.0 i.5 in
       let r : TurnedTo m n text (p' ◂ one t) (K i.2) (R i.2) ts = record {
         pieces = a.pieces ++ x ∷ [];
@@ -284,9 +284,9 @@ pub turns_ends : {A : Type 0} {m n : ℕ} {G : Goodness} {bytes text : List ℕ}
     → TurnsTo m (suc n) G bytes text d p p' (λ a ps. K a ((ps ++ w ∷ []) ++ x ∷ [])) R → TurnsTo m n G bytes text d (p ◂ one word.End ◂ one t) (p' ◂ one word.End ◂ one t) K R
 turns_ends {m = m} {n = n} {G = G} {text = text} {t = t} {K = K} {R = R} {p' = p'} w x q s f e l z = record {
   turn = λ ts v g i. (
-      let g' = each_apart G i.0 i.1 (subst (Each G) i.4 g) in
+      let g' = each_apart G i.0 i.1 (subst (AllGood G) i.4 g) in
       let j = i.5 in
-      let h' = each_apart G j.0 j.1 (subst (Each G) j.4 g'.0) in
+      let h' = each_apart G j.0 j.1 (subst (AllGood G) j.4 g'.0) in
       let a = z.turn j.0 j.2 h'.0 j.5 in
       let all : ts ≡ j.0 ++ (j.3 ∷ i.3 ∷ []) = i.4 ∙ (ap (λ r. r ++ i.1) (j.4 ∙ ap (λ r. j.0 ++ r) j.6.0) ∙ (ap (λ r. (j.0 ++ j.3 ∷ []) ++ r) i.6.0 ∙ append_assoc j.0 (j.3 ∷ []) (i.3 ∷ []))) in
       let two : Light (suc n) n (j.3.kind ∷ i.3.kind ∷ []) (w.kind ∷ x.kind ∷ []) =
@@ -313,7 +313,7 @@ pub turns_behind : {A : Type 0} {m k n : ℕ} {G : Goodness} {bytes text : List 
     → TurnsTo k n G bytes text d p p' (λ a ps. K a (x ∷ ps)) R → TurnsTo m n G bytes text d (one t ▸ p) (one t ▸ p') K R
 turns_behind {m = m} {k = c} {n = n} {G = G} {text = text} {t = t} {K = K} {R = R} {p' = p'} x s e l z = record {
   turn = λ ts v g i. (
-      let g' = each_apart G i.0 i.1 (subst (Each G) i.4 g) in
+      let g' = each_apart G i.0 i.1 (subst (AllGood G) i.4 g) in
       let b = z.turn i.1 i.3 g'.1 i.6 in
       let r : TurnedTo m n text (one t ▸ p') (K i.3) (R i.3) ts = record {
         pieces = x ∷ b.pieces;
@@ -366,10 +366,10 @@ more_read text p c v vs ps qs d ls f g s =
 
 more_turned : {A B : Type 0} (G : Goodness) (bytes text : List ℕ) (d : ℕ) (p p' : Part A) (f : A → List Piece) (c : A → B)
     → Turns G bytes text d p p' (λ v ps. ps ≡ f v) (λ v w. c v ≡ c w)
-    → (vs : List A) (ts : List Lexeme) → Each G ts → Pieces (Is (inner bytes d) p) ts vs → More text p' c vs (together (map f vs)) ts
+    → (vs : List A) (ts : List Lexeme) → AllGood G ts → Pieces (Is (inner bytes d) p) ts vs → More text p' c vs (together (map f vs)) ts
 more_turned G bytes text d p p' f c x [] ts g i = record { sounds = tt; light = light_nothing 0 ts i; levels = 0; reads = λ e ls h s. ([], none_spelled text ls s, refl) }
 more_turned G bytes text d p p' f c x (v ∷ vs) ts g i =
-    let g' = each_apart G i.0 i.1 (subst (Each G) i.2 g) in
+    let g' = each_apart G i.0 i.1 (subst (AllGood G) i.2 g) in
     let t = x.turn i.0 v g'.0 i.3 in
     let a : Prints text p' (λ w. c v ≡ c w) (f v) = subst (λ r. Prints text p' (λ w. c v ≡ c w) r) t.is t.prints in
     let b = more_turned G bytes text d p p' f c x vs i.1 g'.1 i.4 in
@@ -401,7 +401,7 @@ pub turns_left : {A B : Type 0} {G : Goodness} {bytes text : List ℕ} {d : ℕ}
     → Turns G bytes text d (left added p q) (left added p' q') K (λ v w. map c v ≡ map c w)
 turns_left {G = G} {bytes = bytes} {text = text} {d = d} {K = K} {p' = p'} {q = q} {q' = q'} {f = f} {c = c} y x = record {
   turn = λ ts v g i. (
-      let g' = each_apart G i.0 i.1 (subst (Each G) i.4 g) in
+      let g' = each_apart G i.0 i.1 (subst (AllGood G) i.4 g) in
       let a = x.turn i.0 i.2 g'.0 i.5 in
       let b = more_turned G bytes text d q q' f c y i.3 i.1 g'.1 i.6 in
       let e : i.2 ++ i.3 ≡ v = sym (joined_added i.2 i.3) ∙ sym i.7 in
@@ -477,20 +477,20 @@ prints_more {ps = ps} {qs = qs} {f = f} {p = p} {q = q} x y k = record {
 
 -- what is so of each value that is read from good tokens as this part
 pub record Gives {A : Type 0} (G : Goodness) (bytes : List ℕ) (d : ℕ) (p : Part A) (H : List Lexeme → A → Type 0) : Type 0 where
-  pub given : (ts : List Lexeme) (v : A) → Each G ts → Is (inner bytes d) p ts v → H ts v
+  pub given : (ts : List Lexeme) (v : A) → AllGood G ts → Is (inner bytes d) p ts v → H ts v
 
 pub gives_give : {A : Type 0} {G : Goodness} {bytes : List ℕ} {d : ℕ} {H : List Lexeme → A → Type 0} {u : A} → H [] u → Gives G bytes d (give u) H
 gives_give {H = H} h = record { given = λ ts v g i. subst (λ r. H r v) (sym i.0) (subst (H []) (sym i.1) h) }
 
 pub gives_one : {G : Goodness} {bytes : List ℕ} {d : ℕ} {t : Terminal} {H : List Lexeme → Lexeme → Type 0} → ((l : Lexeme) → G.one_good l → l.kind ≡ t → H (l ∷ []) l) → Gives G bytes d (one t) H
-gives_one {G = G} {H = H} h = record { given = λ ts v g i. subst (λ r. H r v) (sym i.0) (h v (subst (Each G) i.0 g).0 i.1) }
+gives_one {G = G} {H = H} h = record { given = λ ts v g i. subst (λ r. H r v) (sym i.0) (h v (subst (AllGood G) i.0 g).0 i.1) }
 
 pub gives_both : {A B C : Type 0} {G : Goodness} {bytes : List ℕ} {d : ℕ} {P : List Lexeme → A → Type 0} {Q : List Lexeme → B → Type 0} {H : List Lexeme → C → Type 0}
     {f : A → B → C} {p : Part A} {q : Part B}
     → Gives G bytes d p P → Gives G bytes d q Q → ((xs ys : List Lexeme) (a : A) (b : B) → P xs a → Q ys b → H (xs ++ ys) (f a b)) → Gives G bytes d (both f p q) H
 gives_both {G = G} {H = H} {f = f} x y k = record {
   given = λ ts v g i. (
-      let g' = each_apart G i.0 i.1 (subst (Each G) i.4 g) in
+      let g' = each_apart G i.0 i.1 (subst (AllGood G) i.4 g) in
       subst (λ r. H r v) (sym i.4) (subst (H (i.0 ++ i.1)) (sym i.7) (k i.0 i.1 i.2 i.3 (x.given i.0 i.2 g'.0 i.5) (y.given i.1 i.3 g'.1 i.6))));
 }
 
@@ -507,10 +507,10 @@ abbrev Kept : {A B : Type 0} → (A → B → A) → (List Lexeme → A → Type
 Kept {A = A} {B = B} f P Q = (xs ys : List Lexeme) (a : A) (b : B) → P xs a → Q ys b → P (xs ++ ys) (f a b)
 
 gives_pieces : {A B : Type 0} (G : Goodness) (bytes : List ℕ) (d : ℕ) (P : List Lexeme → A → Type 0) (Q : List Lexeme → B → Type 0) (f : A → B → A) (q : Part B)
-    → Gives G bytes d q Q → Kept f P Q → (bs : List B) (xs ys : List Lexeme) (a : A) → P xs a → Each G ys → Pieces (Is (inner bytes d) q) ys bs → P (xs ++ ys) (joined f a bs)
+    → Gives G bytes d q Q → Kept f P Q → (bs : List B) (xs ys : List Lexeme) (a : A) → P xs a → AllGood G ys → Pieces (Is (inner bytes d) q) ys bs → P (xs ++ ys) (joined f a bs)
 gives_pieces G bytes d P Q f q y k [] xs ys a h g i = subst (λ r. P r a) (sym (append-nil xs) ∙ ap (λ r. xs ++ r) (sym i)) h
 gives_pieces G bytes d P Q f q y k (b ∷ bs) xs ys a h g i =
-    let g' = each_apart G i.0 i.1 (subst (Each G) i.2 g) in
+    let g' = each_apart G i.0 i.1 (subst (AllGood G) i.2 g) in
     let r = gives_pieces G bytes d P Q f q y k bs (xs ++ i.0) i.1 (f a b) (k xs i.0 a b h (y.given i.0 b g'.0 i.3)) g'.1 i.4 in
     subst (λ z. P z (joined f (f a b) bs)) (append_assoc xs i.0 i.1 ∙ ap (λ z. xs ++ z) (sym i.2)) r
 
@@ -518,7 +518,7 @@ pub gives_left : {A B : Type 0} {G : Goodness} {bytes : List ℕ} {d : ℕ} {P :
     → Gives G bytes d p P → Gives G bytes d q Q → Kept f P Q → Gives G bytes d (left f p q) P
 gives_left {G = G} {bytes = bytes} {d = d} {P = P} {Q = Q} {f = f} {q = q} x y k = record {
   given = λ ts v g i. (
-      let g' = each_apart G i.0 i.1 (subst (Each G) i.4 g) in
+      let g' = each_apart G i.0 i.1 (subst (AllGood G) i.4 g) in
       subst (λ r. P r v) (sym i.4) (subst (P (i.0 ++ i.1)) (sym i.7) (gives_pieces G bytes d P Q f q y k i.3 i.0 i.1 i.2 (x.given i.0 i.2 g'.0 i.5) g'.1 i.6)));
 }
 
@@ -531,7 +531,7 @@ pub turns_after : {A X : Type 0} {m n : ℕ} {G : Goodness} {bytes text : List �
     → TurnsTo m n G bytes text d p p' (λ a ps. K a (xs ++ ps)) R → TurnsTo m n G bytes text d (q ▸ p) (q' ▸ p') K R
 turns_after {m = m} {n = n} {G = G} {text = text} {K = K} {R = R} {q' = q'} {p' = p'} xs y z = record {
   turn = λ ts v g i. (
-      let g' = each_apart G i.0 i.1 (subst (Each G) i.4 g) in
+      let g' = each_apart G i.0 i.1 (subst (AllGood G) i.4 g) in
       let a = y.turn i.0 i.2 g'.0 i.5 in
       let b = z.turn i.1 i.3 g'.1 i.6 in
       let r : TurnedTo m n text (q' ▸ p') (K i.3) (R i.3) ts = record {

@@ -7,7 +7,7 @@ use Rattle.std.proofs.lemmas.List.{take_at, drop_at}
 use Rattle.mv_print.proofs.Sounding.{none_when}
 use Rattle.mv_lex.specs.Bytes.{is_allowed, is_blank}
 use Rattle.mv_lex.specs.Spelling.{IsSpelled}
-use Rattle.mv_lex.specs.Tokens.{IsLongest, Reads, stop, blank, comment, token, token_at}
+use Rattle.mv_lex.specs.Tokens.{IsLongest, Lexes, stop, blank, comment, token, token_at}
 use Rattle.mv_lex.specs.declared.token.Kind.{Kind}
 use Rattle.mv_lex.specs.declared.token.Kind.TheVariants as kind
 use Rattle.mv_lex.specs.declared.token.Token.{Token}
@@ -22,7 +22,7 @@ use Rattle.mv_ast.specs.Lexemes.{kind_of, lexeme_of, lexemes_from}
 use Rattle.mv_ast.proofs.Limited.{nothing_left}
 use Rattle.mv_print.specs.Printing.{Piece, put, written}
 use Rattle.mv_print.proofs.Light.{kinds}
-use Rattle.mv_print.proofs.Building.{marks, Fits, Spelled, is_type, Sounded, base_of, Sounds, Triple, Each}
+use Rattle.mv_print.proofs.Building.{marks, Fits, Spelled, is_type, Sounded, base_of, Sounds, Triple, AllGood}
 use Rattle.mv_print.proofs.Meaning.{Meant, Good, kind_behind, behind, never_when}
 use Rattle.mv_print.proofs.Scripts.{LastOpen, Last, Ended, allowed_parts, allowed_joined}
 
@@ -52,7 +52,7 @@ AllMeant bytes [] = Unit {0}
 AllMeant bytes (l ∷ ls) = Meant bytes l × AllMeant bytes ls
 
 pub all_meant : {place end : ℕ} {bytes rest : List ℕ} {tokens : List Token} (n : ℕ) (all before : List ℕ) → all ≡ before ++ bytes → place ≡ length before → list_all is_allowed bytes ≡ true
-    → Reads place bytes tokens end rest → AllMeant all (lexemes_from n all tokens)
+    → Lexes place bytes tokens end rest → AllMeant all (lexemes_from n all tokens)
 all_meant n all before e h a stop = tt
 all_meant n all before e h a (blank {b = b} {bytes = bytes} i r) =
     all_meant n all (before ++ b ∷ []) (e ∙ sym (append_assoc before (b ∷ []) bytes)) (omega (arith, length-append before (b ∷ []))) (allowed_parts (b ∷ []) bytes a).1 r
@@ -65,13 +65,13 @@ all_meant n all before e h a (token {place = place} k text bytes l r) = (
 )
 
 -- no token is left at the end
-none_left : {place end : ℕ} {bytes rest : List ℕ} {tokens : List Token} → Reads place bytes tokens end rest → bytes ≡ [] → tokens ≡ []
+none_left : {place end : ℕ} {bytes rest : List ℕ} {tokens : List Token} → Lexes place bytes tokens end rest → bytes ≡ [] → tokens ≡ []
 none_left stop e = refl
 none_left (blank i r) e = cc
 none_left (comment line bytes l i r) e = cc
 none_left (token k text bytes l r) e = absurd (omega (arith, some_bytes k text bytes l.spelled, ap length e, length-append text bytes))
 
-pub last_open : {place end : ℕ} {bytes rest : List ℕ} {tokens : List Token} (n : ℕ) (all : List ℕ) → Reads place bytes tokens end rest → LastOpen (lexemes_from n all tokens)
+pub last_open : {place end : ℕ} {bytes rest : List ℕ} {tokens : List Token} (n : ℕ) (all : List ℕ) → Lexes place bytes tokens end rest → LastOpen (lexemes_from n all tokens)
 last_open n all stop = tt
 last_open n all (blank i r) = last_open n all r
 last_open n all (comment line bytes l i r) = last_open n all r
@@ -96,24 +96,24 @@ written_flat before (p ∷ ps) = written_flat (before ++ (p.text ++ p.gap)) ps �
 -- the pieces are tokens behind these bytes
 pub record Lexed (before : List ℕ) (ps : List Piece) : Type 0 where
   pub tokens : List Token
-  pub reads : Reads (length before) (flat ps) tokens (length (before ++ flat ps)) []
+  pub reads : Lexes (length before) (flat ps) tokens (length (before ++ flat ps)) []
   pub spelled : (n : ℕ) → Spelled (before ++ flat ps) (lexemes_from n (before ++ flat ps) tokens) ps
   pub allowed : list_all is_allowed (flat ps) ≡ true
 
 lexed_none : (before : List ℕ) → Lexed before []
 lexed_none before = record {
   tokens = [];
-  reads = subst (λ (r : ℕ). Reads (length before) [] [] r []) (ap length (sym (append-nil before))) stop;
+  reads = subst (λ (r : ℕ). Lexes (length before) [] [] r []) (ap length (sym (append-nil before))) stop;
   spelled = λ n. tt;
   allowed = refl;
 }
 
-blanks_read : (gap bytes : List ℕ) (place end : ℕ) (tokens : List Token) → list_all is_blank gap ≡ true → Reads (place + length gap) bytes tokens end [] → Reads place (gap ++ bytes) tokens end []
-blanks_read [] bytes place end tokens h r = let e : place + 0 ≡ place = omega arith in subst (λ (n : ℕ). Reads n bytes tokens end []) e r
+blanks_read : (gap bytes : List ℕ) (place end : ℕ) (tokens : List Token) → list_all is_blank gap ≡ true → Lexes (place + length gap) bytes tokens end [] → Lexes place (gap ++ bytes) tokens end []
+blanks_read [] bytes place end tokens h r = let e : place + 0 ≡ place = omega arith in subst (λ (n : ℕ). Lexes n bytes tokens end []) e r
 blanks_read (b ∷ gap) bytes place end tokens h r =
     let k = and_parts (is_blank b) (list_all is_blank gap) h in
     let e : place + length (b ∷ gap) ≡ place + 1 + length gap = omega arith in
-    blank k.0 (blanks_read gap bytes (place + 1) end tokens k.1 (subst (λ (n : ℕ). Reads n bytes tokens end []) e r))
+    blank k.0 (blanks_read gap bytes (place + 1) end tokens k.1 (subst (λ (n : ℕ). Lexes n bytes tokens end []) e r))
 
 blank_allowed : (gap : List ℕ) → list_all is_blank gap ≡ true → list_all is_allowed gap ≡ true
 blank_allowed [] h = refl
@@ -135,13 +135,13 @@ lexed_more before k p ps l e a g x =
     let whole : (before ++ (p.text ++ p.gap)) ++ flat ps ≡ bytes = append_assoc before (p.text ++ p.gap) (flat ps) in
     let inner : p.text ++ (p.gap ++ flat ps) ≡ (p.text ++ p.gap) ++ flat ps = sym (append_assoc p.text p.gap (flat ps)) in
     let at' : length (before ++ (p.text ++ p.gap)) ≡ length before + length p.text + length p.gap = omega (arith, length-append before (p.text ++ p.gap), length-append p.text p.gap) in
-    let r : Reads (length before + length p.text + length p.gap) (flat ps) x.tokens (length bytes) [] =
-    subst (λ (m : ℕ). Reads m (flat ps) x.tokens (length bytes) []) at' (subst (λ b. Reads (length (before ++ (p.text ++ p.gap))) (flat ps) x.tokens (length b) []) whole x.reads) in
-    let t : Reads (length before) (p.text ++ (p.gap ++ flat ps)) (token_at k (length before) p.text ∷ x.tokens) (length bytes) [] =
+    let r : Lexes (length before + length p.text + length p.gap) (flat ps) x.tokens (length bytes) [] =
+    subst (λ (m : ℕ). Lexes m (flat ps) x.tokens (length bytes) []) at' (subst (λ b. Lexes (length (before ++ (p.text ++ p.gap))) (flat ps) x.tokens (length b) []) whole x.reads) in
+    let t : Lexes (length before) (p.text ++ (p.gap ++ flat ps)) (token_at k (length before) p.text ∷ x.tokens) (length bytes) [] =
     token k p.text (p.gap ++ flat ps) l (blanks_read p.gap (flat ps) (length before + length p.text) (length bytes) x.tokens g r) in
     record {
       tokens = token_at k (length before) p.text ∷ x.tokens;
-      reads = subst (λ b. Reads (length before) b (token_at k (length before) p.text ∷ x.tokens) (length bytes) []) inner t;
+      reads = subst (λ b. Lexes (length before) b (token_at k (length before) p.text ∷ x.tokens) (length bytes) []) inner t;
       spelled = λ n. (
         subst (λ b. Fits (before ++ b) (lexeme_of n (before ++ b) (token_at k (length before) p.text)) p) inner (piece_fits before (p.gap ++ flat ps) n k p e),
         subst (λ b. Spelled b (lexemes_from (n + 1) b x.tokens) ps) whole (x.spelled (n + 1)),
@@ -184,7 +184,7 @@ triple_good bytes l (b ∷ []) h = tt
 triple_good bytes l (b ∷ c ∷ ls) h =
     λ k. size_true (is_size_of l.kind b.kind c.kind) (is_size (number_from 0 (spelling bytes c))) (never_when (is_size_of l.kind b.kind c.kind && not (is_size (number_from 0 (spelling bytes c)))) (at_token limit.Text c.number) h) k
 
-pub all_good : (bytes : List ℕ) (ls : List Lexeme) → AllMeant bytes ls → token_passes bytes ls ≡ [] → Each (Good bytes) ls
+pub all_good : (bytes : List ℕ) (ls : List Lexeme) → AllMeant bytes ls → token_passes bytes ls ≡ [] → AllGood (Good bytes) ls
 unfolding token_passes
 all_good bytes [] m h = tt
 all_good bytes (l ∷ ls) m h =

@@ -30,7 +30,7 @@ use Rattle.mv_ast.specs.Grammar.{inner, in_parens, ◌⊛◌, ◌▸◌, number_
 use Rattle.mv_print.specs.Printing.{Piece, key, name_piece, name_pieces, variable_pieces, number_piece, text_piece, value_pieces, literal_pieces, row_pieces, type_pieces, column_pieces, whole_expr, expr_pieces, cond_pieces, conds_pieces, direction_pieces, sort_pieces, sorts_pieces, agg_pieces, set_pieces, op_word, listed}
 use Rattle.mv_print.specs.Same.{placeless_name, placeless_expr, placeless_literal, placeless_row, placeless_column, placeless_cond, placeless_sort, placeless_set, placeless_agg}
 use Rattle.mv_print.proofs.Light.{kinds, Light, light_none, light_joined, light_plain, light_drop, light_within}
-use Rattle.mv_print.proofs.Building.{Fits, Each, both_read, one_read, prints_skip, marks, light_both, light_nothing, gives_for, turns_deeper, Prints, Turns, Gives, gives_give, gives_one, gives_both, gives_next, gives_either, prints_give, prints_one, prints_next, prints_behind, prints_inl, prints_inr, prints_for, turns_give, turns_next, turns_either, turns_as}
+use Rattle.mv_print.proofs.Building.{Fits, AllGood, both_read, one_read, prints_skip, marks, light_both, light_nothing, gives_for, turns_deeper, Prints, Turns, Gives, gives_give, gives_one, gives_both, gives_next, gives_either, prints_give, prints_one, prints_next, prints_behind, prints_inl, prints_inr, prints_for, turns_give, turns_next, turns_either, turns_as}
 use Rattle.mv_print.proofs.Sounding.{IsContent, digits_back, IsName, IsVariable, sound_key, sound_number, sound_text}
 use Rattle.mv_print.proofs.Meaning.{Good, meant_text}
 use Rattle.mv_print.proofs.Tokens.{prints_token, prints_name, prints_variable, number_read, text_read}
@@ -215,7 +215,7 @@ module _ (bytes text : List ℕ) (d : ℕ) where
   turns_size = record {
     turn = λ ts v g i. (
         let f = found_size.given ts v g i in
-        let good = subst (Each (Good bytes)) f.4 g in
+        let good = subst (AllGood (Good bytes)) f.4 g in
         let n = number_from 0 (spelling bytes f.2) in
         let z : is_size n ≡ true = good.1 (is_size_text f.0 f.1 f.2 f.5.0 f.5.1 f.5.2) in
         let m = size_most n z in

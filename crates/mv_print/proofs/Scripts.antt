@@ -37,7 +37,7 @@ use Rattle.mv_ast.specs.Grammar.{inner, added, place, closed_of, open_of, ◌⊛
 use Rattle.mv_print.specs.Printing.{Piece, key, line_end, name_piece, name_pieces, listed, row_pieces, column_pieces, column_and_comma, values_pieces, param_kind_pieces, param_pieces, declared_pieces, statements_pieces, block_piece, span_piece, arg_pieces, item_pieces, pieces_of, script_pieces}
 use Rattle.mv_print.specs.Same.{placeless_row, placeless_column, placeless_param_kind, placeless_param, placeless_variable, placeless_argument, placeless_span, placeless_kind, placeless, span_bytes, block_bytes, SameButPlaces}
 use Rattle.mv_print.proofs.Light.{kinds, Light, light_plain}
-use Rattle.mv_print.proofs.Building.{marks, light_both, light_nothing, turns_then, Fits, Spelled, Sound, Sounds, sounds_joined, Each, each_apart, apart, one_spelled, none_spelled, Reading, Readings, Prints, Turned, Turns, Gives, gives_give, gives_one, gives_both, gives_next, gives_either, gives_any, both_read, joined_added, turns_give, turns_next, turns_either, turns_left, turns_as}
+use Rattle.mv_print.proofs.Building.{marks, light_both, light_nothing, turns_then, Fits, Spelled, Sound, Sounds, sounds_joined, AllGood, each_apart, apart, one_spelled, none_spelled, Reading, Readings, Prints, Turned, Turns, Gives, gives_give, gives_one, gives_both, gives_next, gives_either, gives_any, both_read, joined_added, turns_give, turns_next, turns_either, turns_left, turns_as}
 use Rattle.mv_print.proofs.Sounding.{sound_key}
 use Rattle.mv_print.proofs.Meaning.{Meant, Good, meant, closed_bytes, open_bytes, bare_bytes}
 use Rattle.mv_print.proofs.Turning.{plain_key, skip_open, skip_close, skip_end_line, skip, skip_end, behind_key, place_key, turns_parens, turns_many, turns_commas}
@@ -360,9 +360,9 @@ block_item bytes text ts xs ys h s p e a b =
 
 module _ (bytes text : List ℕ) (d : ℕ) where
   block_behind : {p q : Part (Span → Item)} → Turns (Good bytes) bytes text d p q (BeforeBlock bytes) (SameBefore bytes text)
-      → (ts : List Lexeme) (i : Item) → Each (Good bytes) ts → Is (inner bytes d) (p ⊛ rule.block bytes) ts i → ItemTurned bytes text (q ⊛ rule.block text) ts i
+      → (ts : List Lexeme) (i : Item) → AllGood (Good bytes) ts → Is (inner bytes d) (p ⊛ rule.block bytes) ts i → ItemTurned bytes text (q ⊛ rule.block text) ts i
   block_behind {q = q} x ts v g i =
-      let g' = each_apart (Good bytes) i.0 i.1 (subst (Each (Good bytes)) i.4 g) in
+      let g' = each_apart (Good bytes) i.0 i.1 (subst (AllGood (Good bytes)) i.4 g) in
       let a = x.turn i.0 i.2 g'.0 i.5 in
       let b = (gives_block bytes text d).given i.1 i.3 g'.1 i.6 in
       subst (λ r. ItemTurned bytes text (q ⊛ rule.block text) ts r) (sym i.7) (block_item bytes text ts i.0 i.1 i.2 i.3 q i.4 a b)
@@ -379,7 +379,7 @@ module _ (bytes text : List ℕ) (d : ℕ) where
   way_journal : Turns (Good bytes) bytes text d (give journal_of ⊛ place word.Journal) (give journal_of ⊛ place word.Journal) (BeforeBlock bytes) (SameBefore bytes text)
   way_journal = turns_next (place_key (plain_key word.Journal)) (turns_give (λ n s. refl) (λ n m u s w k. same2 journaled k.0 k.1))
 
-  way_item : (ts : List Lexeme) (i : Item) → Each (Good bytes) ts → Is (inner bytes d) (rule.an_item bytes) ts i → ItemTurned bytes text (rule.an_item text) ts i
+  way_item : (ts : List Lexeme) (i : Item) → AllGood (Good bytes) ts → Is (inner bytes d) (rule.an_item bytes) ts i → ItemTurned bytes text (rule.an_item text) ts i
   unfolding rule.an_item rule.copy rule.journal
   way_item ts v g i =
       elim i as (λ j. ItemTurned bytes text (rule.an_item text) ts v) [
@@ -445,10 +445,10 @@ placeless_read bytes text v vs ps qs d ls f g s =
     (a.0 ∷ b.0, (i.0, i.1, i.2, a.1, b.1), ap (λ r. r ∷ map (placeless bytes) vs) a.2 ∙ ap (λ r. placeless text a.0 ∷ r) b.2)
 
 -- no items are left behind an open block
-no_items : (bytes : List ℕ) (d : ℕ) (vs : List Item) (ts : List Lexeme) → Each (Good bytes) ts → Pieces (Is (inner bytes d) (rule.an_item bytes)) ts vs → ts ≡ [] → vs ≡ []
+no_items : (bytes : List ℕ) (d : ℕ) (vs : List Item) (ts : List Lexeme) → AllGood (Good bytes) ts → Pieces (Is (inner bytes d) (rule.an_item bytes)) ts vs → ts ≡ [] → vs ≡ []
 no_items bytes d [] ts g i e = refl
 no_items bytes d (v ∷ vs) ts g i e =
-    let g' = each_apart (Good bytes) i.0 i.1 (subst (Each (Good bytes)) i.2 g) in
+    let g' = each_apart (Good bytes) i.0 i.1 (subst (AllGood (Good bytes)) i.2 g) in
     let n = (some_item bytes [] d).given i.0 v g'.0 i.3 in
     absurd (omega (arith, ap length e, ap length i.2, length-append i.0 i.1))
 
@@ -464,10 +464,10 @@ items_sounds bytes ts xs ys ps vs e o (inr h) n k =
     let r : Ended (ps ++ []) = subst Ended (sym (append-nil ps)) h.0 in
     subst (λ z. Sounds (ps ++ together (map (pieces_of bytes) z)) ⊎ Ended (ps ++ together (map (pieces_of bytes) z))) (sym none) (inr r)
 
-items_turned : (bytes text : List ℕ) (d : ℕ) (vs : List Item) (ts : List Lexeme) → Each (Good bytes) ts → LastOpen ts → Pieces (Is (inner bytes d) (rule.an_item bytes)) ts vs → ItemsTurned bytes text vs ts
+items_turned : (bytes text : List ℕ) (d : ℕ) (vs : List Item) (ts : List Lexeme) → AllGood (Good bytes) ts → LastOpen ts → Pieces (Is (inner bytes d) (rule.an_item bytes)) ts vs → ItemsTurned bytes text vs ts
 items_turned bytes text d [] ts g o i = record { light = light_nothing 0 ts i; sounds = inl tt; levels = 0; reads = λ e ls h s. ([], none_spelled text ls s, refl) }
 items_turned bytes text d (v ∷ vs) ts g o i =
-    let g' = each_apart (Good bytes) i.0 i.1 (subst (Each (Good bytes)) i.2 g) in
+    let g' = each_apart (Good bytes) i.0 i.1 (subst (AllGood (Good bytes)) i.2 g) in
     let a = way_item bytes text d i.0 v g'.0 i.3 in
     let o' = open_behind i.0 i.1 (subst LastOpen i.2 o) in
     let b = items_turned bytes text d vs i.1 g'.1 o' i.4 in
@@ -495,7 +495,7 @@ script_read bytes text d ls s r = (
   r.2 ∙ ap (map (placeless text)) (sym (joined_added [] r.0)),
 )
 
-pub script_turned : (bytes text : List ℕ) (d : ℕ) (ts : List Lexeme) (s : Script) → Each (Good bytes) ts → LastOpen ts → Is (inner bytes d) (rule.script bytes) ts s → ScriptTurned bytes text ts s
+pub script_turned : (bytes text : List ℕ) (d : ℕ) (ts : List Lexeme) (s : Script) → AllGood (Good bytes) ts → LastOpen ts → Is (inner bytes d) (rule.script bytes) ts s → ScriptTurned bytes text ts s
 unfolding rule.script
 script_turned bytes text d ts s g o i =
     let m = i.6 in
@@ -504,6 +504,6 @@ script_turned bytes text d ts s g o i =
     let all : ts ≡ m.1 = i.4 ∙ (ap (λ r. r ++ i.1) none ∙ (m.4 ∙ ap (λ r. r ++ m.1) first)) in
     let list : i.3 ≡ m.3 = m.7 ∙ (joined_added m.2 m.3 ∙ ap (λ r. r ++ m.3) m.5.1) in
     let same : script_of m.3 ≡ s = ap script_of (sym list) ∙ (ap (λ f. f i.3) (sym i.5.1) ∙ sym i.7) in
-    let a = items_turned bytes text d m.3 m.1 (subst (Each (Good bytes)) all g) (subst LastOpen all o) m.6 in
+    let a = items_turned bytes text d m.3 m.1 (subst (AllGood (Good bytes)) all g) (subst LastOpen all o) m.6 in
     let r : ScriptTurned bytes text ts (script_of m.3) = record { light = subst (λ z. Light 0 0 (kinds z) (marks (script_pieces bytes (script_of m.3)))) (sym all) a.light; sounds = a.sounds; levels = a.levels; reads = λ e ls h z. script_read bytes text e ls (script_of m.3) (a.reads e ls h z) } in
     subst (ScriptTurned bytes text ts) same r

@@ -76,10 +76,10 @@ pub record IsRolledBack (e : End) (db : Tables) (run : Run) : Type 0 where
   pub lines : run.reply.lines ≡ []
   pub tables : run.tables ≡ db
 
-abbrev pub Tells : Option End → Tables → Run → Type 0
-Tells None db run = GoesThrough db run
-Tells (Some e) db run = IsRolledBack e db run
+abbrev pub HasEnd : Option End → Tables → Run → Type 0
+HasEnd None db run = GoesThrough db run
+HasEnd (Some e) db run = IsRolledBack e db run
 
 -- the records of a run determine its reply and the database after it
 abbrev pub TellsAll : Tables → Run → Type 0
-TellsAll db run = Tells run.reply.end db run
+TellsAll db run = HasEnd run.reply.end db run

@@ -19,7 +19,7 @@ use Rattle.mv_record.specs.declared.record.Record.{Record}
 use Rattle.mv_recorded.specs.Asking.{on}
 use Rattle.mv_recorded.specs.Doing.{itself, before_turns}
 use Rattle.mv_catalog.specs.Statements.{size}
-use Rattle.mv_recorded.specs.Recorded.{Tells, Site, tell, tell_step, tell_turns, tell_loop, own_record, in_turn, within_loop, tell_statements}
+use Rattle.mv_recorded.specs.Recorded.{Recorder, Site, tell, tell_step, tell_turns, tell_loop, own_record, in_turn, within_loop, tell_statements}
 
 pub firsts : {B : Type 0} (f : RStmt → B) (ss : List RStmt) → map (λ (s : RStmt × B). s.0) (map (λ s. (s, f s)) ss) ≡ ss
 firsts f [] = refl
@@ -33,11 +33,11 @@ pub record IsLaw (R : Claim) : Type 0 where
   pub none : (st : State) → R st [] (Ok st)
   pub more : (st next : State) (rs ss : List Record) (out : Result State End) → R st rs (Ok next) → R next ss out → R st (rs ++ ss) out
   pub enters : (st : State) (env : Env) (rs : List Record) (out : Result State End) → R (record st { env = env }) rs out → R st rs out
-  pub own : (tables : List TableInfo) (params : ℕ) (y : RStmt-F (RStmt × Tells)) (n : ℕ) (site : Site) (before : List Record) (st : State)
+  pub own : (tables : List TableInfo) (params : ℕ) (y : RStmt-F (RStmt × Recorder)) (n : ℕ) (site : Site) (before : List Record) (st : State)
       → R st (own_record tables params y n site before st ∷ []) (itself tables y st)
 
 -- the law holds of what is told of a statement
-abbrev pub Follows : Claim → Tells → Does → Type 0
+abbrev pub Follows : Claim → Recorder → Does → Type 0
 Follows R tells body = (n : ℕ) (site : Site) (before : List Record) (st : State) → R st (tells n site before st) (body st)
 
 then_follows : (R : Claim) → IsLaw R → (st : State) (rs : List Record) (out : Result State End) (go : State → List Record) (next : Does)
@@ -45,7 +45,7 @@ then_follows : (R : Claim) → IsLaw R → (st : State) (rs : List Record) (out 
 then_follows R law st rs (Ok s) go next h k = law.more st s rs (go s) (next s) h (k s)
 then_follows R law st rs (Err e) go next h k = subst (λ ss. R st ss (Err e)) (sym (append-nil rs)) h
 
-turns_follow : (R : Claim) → IsLaw R → (x : ℕ) (body : Does) (tells : Tells) → Follows R tells body → (rows : List (List Value)) (k : ℕ)
+turns_follow : (R : Claim) → IsLaw R → (x : ℕ) (body : Does) (tells : Recorder) → Follows R tells body → (rows : List (List Value)) (k : ℕ)
     → Follows R (tell_turns x body tells rows k) (each_turn x body rows)
 turns_follow R law x body tells h [] k n site before st = law.none st
 turns_follow R law x body tells h (row ∷ rows) k n site before st =
@@ -56,13 +56,13 @@ turns_follow R law x body tells h (row ∷ rows) k n site before st =
     (h n (in_turn k site) before next) (turns_follow R law x body tells h rows (k + 1) n site (before ++ these)))
 
 -- the turns of a loop behind its own record
-loop_follows : (R : Claim) → IsLaw R → (x : ℕ) (body : Does) (tells : Tells) → Follows R tells body → (rows : List (List Value)) (own : Record) (n : ℕ) (site : Site) (before : List Record) (st : State)
+loop_follows : (R : Claim) → IsLaw R → (x : ℕ) (body : Does) (tells : Recorder) → Follows R tells body → (rows : List (List Value)) (own : Record) (n : ℕ) (site : Site) (before : List Record) (st : State)
     → R st (own ∷ []) (Ok (record st { env = with_found st.env (is_turn rows) })) → R st (own ∷ tell_loop x body tells rows n site before st) (loop_over x body rows st)
 loop_follows R law x body tells h rows own n site before st k =
     let next : State = record st { env = with_found st.env (is_turn rows) } in
     law.more st next (own ∷ []) (tell_turns x body tells rows 1 n site before next) (each_turn x body rows next) k (turns_follow R law x body tells h rows 1 n site before next)
 
-fixed_follow : (R : Claim) → IsLaw R → (x : ℕ) (body : Does) (tells : Tells) → Follows R tells body → (tests : Result (List Test) End) (rows : List Test → List (List Value))
+fixed_follow : (R : Claim) → IsLaw R → (x : ℕ) (body : Does) (tells : Recorder) → Follows R tells body → (tests : Result (List Test) End) (rows : List Test → List (List Value))
     → (own : Record) (n : ℕ) (site : Site) (before : List Record) (st : State)
     → R st (own ∷ []) (before_turns (then_do tests (λ c. Ok (rows c))) st)
     → R st (own ∷ on (then_do tests (λ c. Ok (rows c))) (λ all. tell_loop x body tells all n site before st)) (then_do tests (λ c. loop_over x body (rows c) st))
@@ -91,10 +91,10 @@ all_follow R law tables params (k ∷ ks) n site before st =
     (k.1 n site before st) (all_follow R law tables params ks (n + size k.0) site (before ++ these))
 
 -- a statement, with what those that it holds leave
-abbrev telling : (R : Claim) (tables : List TableInfo) (params : ℕ) → RStmt-F (Known R tables params) → RStmt-F (RStmt × Tells)
-telling R tables params y = map-RStmt RStmt (RStmt × Tells) (λ s. (s, tell tables params s)) (map-RStmt (Known R tables params) RStmt (λ k. k.0) y)
+abbrev telling : (R : Claim) (tables : List TableInfo) (params : ℕ) → RStmt-F (Known R tables params) → RStmt-F (RStmt × Recorder)
+telling R tables params y = map-RStmt RStmt (RStmt × Recorder) (λ s. (s, tell tables params s)) (map-RStmt (Known R tables params) RStmt (λ k. k.0) y)
 
-pub body_is : (tables : List TableInfo) (params : ℕ) (ss : List RStmt) → alone tables (map (λ (s : RStmt × Tells). s.0) (map (λ s. (s, tell tables params s)) ss)) ≡ alone tables ss
+pub body_is : (tables : List TableInfo) (params : ℕ) (ss : List RStmt) → alone tables (map (λ (s : RStmt × Recorder). s.0) (map (λ s. (s, tell tables params s)) ss)) ≡ alone tables ss
 body_is tables params ss = ap (alone tables) (firsts (tell tables params) ss)
 
 step_follows : (R : Claim) → IsLaw R → (tables : List TableInfo) (params : ℕ) (y : RStmt-F (Known R tables params))
@@ -130,7 +130,7 @@ pub statement_follows : (R : Claim) → IsLaw R → (tables : List TableInfo) (p
 statement_follows R law tables params = ind-RStmt (λ s. Follows R (tell tables params s) (does tables s)) (λ x y is.
     subst (λ z. Follows R (tell tables params (roll-RStmt z)) (does tables (roll-RStmt z))) is (λ n site before st.
     let z : RStmt-F RStmt = map-RStmt (Known R tables params) RStmt (λ k. k.0) y in
-    subst (λ rs. R st rs (does tables (roll-RStmt z) st)) (sym (ap (λ f. f n site before st) (para-roll-RStmt Tells (tell_step tables params) z)))
+    subst (λ rs. R st rs (does tables (roll-RStmt z) st)) (sym (ap (λ f. f n site before st) (para-roll-RStmt Recorder (tell_step tables params) z)))
     (subst (λ out. R st (tell_step tables params (telling R tables params y) n site before st) out) (sym (ap (λ f. f st) (fold-roll-RStmt Does (stmt_step tables) z)))
     (step_follows R law tables params y n site before st))))
 

@@ -33,7 +33,7 @@ use Rattle.mv_record.specs.Runs.{writes_in}
 use Rattle.mv_recorded.specs.Asking.{on}
 use Rattle.mv_recorded.specs.Doing.{itself, fixed_rows, writes_of}
 use Rattle.mv_recorded.specs.Laws.{DatabaseKept, FrontsAreDatabases, TablesAfterAre}
-use Rattle.mv_recorded.specs.Recorded.{Tells, Site, tell, tell_inner, tell_step, tell_turns, own_record, in_turn, within, within_loop, body_of, tell_statements, outside, recorded}
+use Rattle.mv_recorded.specs.Recorded.{Recorder, Site, tell, tell_inner, tell_step, tell_turns, own_record, in_turn, within, within_loop, body_of, tell_statements, outside, recorded}
 use Rattle.mv_recorded.specs.Typed.{OfKinds, IsEnvOf}
 use Rattle.mv_recorded.proofs.CallsTyped.{entered_fits}
 use Rattle.mv_recorded.proofs.Following.{Follows, firsts, statement_follows, told_follows}
@@ -74,7 +74,7 @@ module _ (tables : List TableInfo) (params : ℕ) where
   typed vars st s = record { fit = s.fit; typed = s.database.rows }
 
   -- what is said of what a list of statements leaves, or a statement
-  record Walks (vars : Vars) (tells : Tells) (body : Does) : Type 0 where
+  record Walks (vars : Vars) (tells : Recorder) (body : Does) : Type 0 where
     leads : Follows LeadsTo tells body
     keeps : (st : State) → Kept tables vars st → IfOk (body st) (Kept tables vars)
     lasts : (n : ℕ) (site : Site) (before : List Record) (st : State) → Sound vars st → Lasts tables (tells n site before st) st.tables
@@ -96,7 +96,7 @@ module _ (tables : List TableInfo) (params : ℕ) where
 
   -- Loops
 
-  turns_last : (x : ℕ) (ts : List Kind) (vars : Vars) (body : Does) (tells : Tells) → vars x ≡ None → Walks (with_turn vars x ts) tells body → (all : List (List Value)) → All (OfKinds ts) all → (k n : ℕ) (site : Site) (before : List Record) (st : State)
+  turns_last : (x : ℕ) (ts : List Kind) (vars : Vars) (body : Does) (tells : Recorder) → vars x ≡ None → Walks (with_turn vars x ts) tells body → (all : List (List Value)) → All (OfKinds ts) all → (k n : ℕ) (site : Site) (before : List Record) (st : State)
       → Sound vars st → Lasts tables (tell_turns x body tells all k n site before st) st.tables
   turns_last x ts vars body tells none w [] typed k n site before st s = s.database
   turns_last x ts vars body tells none w (row ∷ later) typed k n site before st s =
@@ -160,7 +160,7 @@ module _ (tables : List TableInfo) (params : ℕ) where
 
   -- Statements
 
-  abbrev LastsOf : Vars → Tells → Type 0
+  abbrev LastsOf : Vars → Recorder → Type 0
   LastsOf vars tells = (n : ℕ) (site : Site) (before : List Record) (st : State) → Sound vars st → Lasts tables (tells n site before st) st.tables
 
   abbrev Claim : RStmt → Type 0
@@ -184,10 +184,10 @@ module _ (tables : List TableInfo) (params : ℕ) where
       (record { leads = told_follows LeadsTo leads_law tables params ss; keeps = alone_kept tables ss vars h; lasts = all_last ks vars h })
 
   -- a statement, with what those that it holds leave
-  abbrev telling : RStmt-F Known → RStmt-F (RStmt × Tells)
-  telling y = map-RStmt RStmt (RStmt × Tells) (λ s. (s, tell tables params s)) (map-RStmt Known RStmt (λ p. p.0) y)
+  abbrev telling : RStmt-F Known → RStmt-F (RStmt × Recorder)
+  telling y = map-RStmt RStmt (RStmt × Recorder) (λ s. (s, tell tables params s)) (map-RStmt Known RStmt (λ p. p.0) y)
 
-  leaf : (y : RStmt-F (RStmt × Tells)) (vars : Vars) (n : ℕ) (site : Site) (before : List Record) (st : State) → stmt_step tables (RStmt × Tells) (λ p. p.0) (λ p. IsWell tables p.0) y vars → Sound vars st
+  leaf : (y : RStmt-F (RStmt × Recorder)) (vars : Vars) (n : ℕ) (site : Site) (before : List Record) (st : State) → stmt_step tables (RStmt × Recorder) (λ p. p.0) (λ p. IsWell tables p.0) y vars → Sound vars st
       → Lasts tables (own_record tables params y n site before st ∷ []) st.tables
   leaf = leaf_lasts (λ p. p.0) (λ p. IsWell tables p.0)
 
@@ -196,7 +196,7 @@ module _ (tables : List TableInfo) (params : ℕ) where
   step_last (Select cs xs t conds sorts offset) vars h n site before st s = leaf (Select cs xs t conds sorts offset) vars n site before st h s
   step_last (Total agg x t conds) vars h n site before st s = leaf (Total agg x t conds) vars n site before st h s
   step_last (ForSelect x once cs t conds sorts body) vars h n site before st s =
-      let z : RStmt-F (RStmt × Tells) = telling (ForSelect x once cs t conds sorts body) in
+      let z : RStmt-F (RStmt × Recorder) = telling (ForSelect x once cs t conds sorts body) in
       let own : Record = own_record tables params z n site before st in
       inside own (tell_inner tables z (length before) (n + 1) site (before ++ own ∷ []) st) st.tables (nothing (itself tables z st)) s.database
       (fixed_last (fixed_rows tables z st) _ st.tables s.database (λ rows is.
@@ -204,14 +204,14 @@ module _ (tables : List TableInfo) (params : ℕ) where
       (chosen_kinds tables (λ p. p) (IsWell tables) x once cs t conds sorts (map (λ p. p.0) body) vars st rows h (typed vars st s) is) 1 (n + 1) (within_loop x (length before) site) (before ++ own ∷ []) (record st { env = with_found st.env (is_turn rows) })
       (record { fit = fit_found vars st.env (is_turn rows) s.fit; database = s.database })))
   step_last (ForRows x y body) vars h n site before st s =
-      let z : RStmt-F (RStmt × Tells) = telling (ForRows x y body) in
+      let z : RStmt-F (RStmt × Recorder) = telling (ForRows x y body) in
       let own : Record = own_record tables params z n site before st in
       let rows : List (List Value) = turns_at st.env y in
       inside own (tell_inner tables z (length before) (n + 1) site (before ++ own ∷ []) st) st.tables refl s.database
       (turns_last x h.0 vars _ (tell_statements tables params (map (λ p. p.0) body)) h.2 (body_walks body (with_turn vars x h.0) h.3) rows (s.fit.holds y (types.rows h.0) h.1) 1 (n + 1) (within_loop x (length before) site) (before ++ own ∷ [])
       (record st { env = with_found st.env (is_turn rows) }) (record { fit = fit_found vars st.env (is_turn rows) s.fit; database = s.database }))
   step_last (Branch e ys ns) vars h n site before st s =
-      let z : RStmt-F (RStmt × Tells) = telling (Branch e ys ns) in
+      let z : RStmt-F (RStmt × Recorder) = telling (Branch e ys ns) in
       let own : Record = own_record tables params z n site before st in
       inside own (tell_inner tables z (length before) (n + 1) site (before ++ own ∷ []) st) st.tables (nothing (itself tables z st)) s.database
       (fixed_last (value_of e st.env []) _ st.tables s.database (λ v is. either_last (is_so v) _ _ st.tables
@@ -226,7 +226,7 @@ module _ (tables : List TableInfo) (params : ℕ) where
   rolled x y is =
       let d = map-RStmt Known RStmt (λ p. p.0) y in
       subst (λ z. Claim (roll-RStmt z)) is (λ vars h n site before st s.
-      subst (λ rs. Lasts tables rs st.tables) (sym (ap (λ f. f n site before st) (para-roll-RStmt Tells (tell_step tables params) d)))
+      subst (λ rs. Lasts tables rs st.tables) (sym (ap (λ f. f n site before st) (para-roll-RStmt Recorder (tell_step tables params) d)))
       (step_last y vars (well_by tables d (roll-RStmt d) vars refl h) n site before st s))
 
   statement_lasts : (s : RStmt) → Claim s

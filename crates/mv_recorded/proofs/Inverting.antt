@@ -33,10 +33,10 @@ use Rattle.mv_recorded.specs.Asking.{on}
 use Rattle.mv_recorded.specs.Doing.{itself, before_turns, sets_of}
 use Rattle.mv_recorded.specs.Effect.{with_slots, TellsEffect}
 use Rattle.mv_recorded.specs.Reading.{Loop}
-use Rattle.mv_recorded.specs.Recorded.{Tells, Site, tell, tell_step, tell_turns, tell_loop, own_record, in_turn, within, within_loop, tell_statements, outside, recorded}
+use Rattle.mv_recorded.specs.Recorded.{Recorder, Site, tell, tell_step, tell_turns, tell_loop, own_record, in_turn, within, within_loop, tell_statements, outside, recorded}
 use Rattle.mv_recorded.proofs.Effects.{effect_known}
 use Rattle.mv_recorded.proofs.Following.{firsts}
-use Rattle.mv_recorded.specs.Own.{Bare, bare, Stated, Flat, flat, flat_step, flat_all, Each, Within, Suits, Ground, Told, sets_in, rows_of, row_in, LoopsHold, ParentHolds, IsAtSite, StandsAt, AllOwn, AllSuit, ground_of}
+use Rattle.mv_recorded.specs.Own.{Bare, bare, Stated, Flat, flat, flat_step, flat_all, Each, Within, IsStatedWell, Ground, Told, sets_in, rows_of, row_in, LoopsHold, ParentHolds, IsAtSite, HasStatements, AllOwn, AllSuit, ground_of}
 use Rattle.mv_recorded.proofs.Slots.{get_same, get_other}
 use Rattle.mv_recorded.proofs.Held.{slots_alike, slots_both, slots_found, slots_high, own_slots, OwnSlots, get_front, get_last}
 
@@ -66,10 +66,10 @@ each_both P [] ys h = (tt, h)
 each_both P (x ∷ xs) ys h = let rest = each_both P xs ys h.1 in ((h.0, rest.0), rest.1)
 
 -- where two lists stand, one behind the other
-stands_first : (text : List Stated) (n : ℕ) (xs ys : List Stated) → StandsAt text n (xs ++ ys) → StandsAt text n xs
+stands_first : (text : List Stated) (n : ℕ) (xs ys : List Stated) → HasStatements text n (xs ++ ys) → HasStatements text n xs
 stands_first text n xs ys h = (h.0, ys ++ h.1, h.2 ∙ ap (λ l. h.0 ++ l) (append_assoc xs ys h.1), h.3)
 
-stands_second : (text : List Stated) (n m : ℕ) (xs ys : List Stated) → length xs ≡ m → StandsAt text n (xs ++ ys) → StandsAt text (n + m) ys
+stands_second : (text : List Stated) (n m : ℕ) (xs ys : List Stated) → length xs ≡ m → HasStatements text n (xs ++ ys) → HasStatements text (n + m) ys
 stands_second text n m xs ys long h =
     (h.0 ++ xs, h.1, h.2 ∙ (ap (λ l. h.0 ++ l) (append_assoc xs ys h.1) ∙ sym (append_assoc h.0 xs (ys ++ h.1))), omega (arith, h.3, length-append h.0 xs, long))
 
@@ -115,9 +115,9 @@ here_later g site rows before these st next here told keeps = record {
 
 -- Runs
 
-abbrev Traces : Ground → Flat → Tells → Does → Type 0
+abbrev Traces : Ground → Flat → Recorder → Does → Type 0
 Traces g flat tells body =
-    (rows : List ℕ) (n : ℕ) (site : Site) (before : List Record) (st : State) → StandsAt g.text n (flat rows) → Each (Suits g.tables g.params g.base) (flat rows) → IsAtSite g site rows before st
+    (rows : List ℕ) (n : ℕ) (site : Site) (before : List Record) (st : State) → HasStatements g.text n (flat rows) → Each (IsStatedWell g.tables g.params g.base) (flat rows) → IsAtSite g site rows before st
     → AllOwn g before (tells n site before st) × Exits g before (tells n site before st) rows st (body st)
 
 all_join : (g : Ground) (before rs ss : List Record) → AllOwn g before rs → AllOwn g (before ++ rs) ss → AllOwn g before (rs ++ ss)
@@ -143,8 +143,8 @@ then_traced g before rs rows st (Err e) go next h k = (all_join g before rs [] h
 
 -- Turns
 
-turns_trace : (g : Ground) (x : ℕ) (F : Flat) (body : Does) (tells : Tells) → Traces g F tells body → (rows : List (List Value)) (passed : List (List Value)) (k : ℕ) (os : List ℕ) (n : ℕ) (site : Site) (number : ℕ)
-    (before : List Record) (st : State) → StandsAt g.text n (F (x ∷ os)) → Each (Suits g.tables g.params g.base) (F (x ∷ os)) → g.base ≤ x → (Within x os → ⊥) → IsAtSite g site os before st → number < length before
+turns_trace : (g : Ground) (x : ℕ) (F : Flat) (body : Does) (tells : Recorder) → Traces g F tells body → (rows : List (List Value)) (passed : List (List Value)) (k : ℕ) (os : List ℕ) (n : ℕ) (site : Site) (number : ℕ)
+    (before : List Record) (st : State) → HasStatements g.text n (F (x ∷ os)) → Each (IsStatedWell g.tables g.params g.base) (F (x ∷ os)) → g.base ≤ x → (Within x os → ⊥) → IsAtSite g site os before st → number < length before
     → (own : Record) → slice_get before number ≡ Some own → own.spot.turns ≡ site.turns → own.rows ≡ passed ++ rows → k ≡ length passed + 1
     → Traced g before (tell_turns x body tells rows k n (within_loop x number site) before st) os st (each_turn x body rows st)
 turns_trace g x F body tells h [] passed k os n site number before st stands suits high apart here lt own found same are at = (tt, (subst (λ b. Told g b st) (sym (append-nil before)) here.told, λ y w. refl))
@@ -185,7 +185,7 @@ turns_trace g x F body tells h (row ∷ rows) passed k os n site number before s
 
 -- A statement's own record
 
-own_step : {X : Type 0} (g : Ground) (z : Bare) (y : RStmt-F X) (n : ℕ) (site : Site) (rows : List ℕ) (before : List Record) (st : State) → IsGround g → Suits g.tables g.params g.base (record { it = z; rows = rows }) → IsAtSite g site rows before st
+own_step : {X : Type 0} (g : Ground) (z : Bare) (y : RStmt-F X) (n : ℕ) (site : Site) (rows : List ℕ) (before : List Record) (st : State) → IsGround g → IsStatedWell g.tables g.params g.base (record { it = z; rows = rows }) → IsAtSite g site rows before st
     → own_record g.tables g.params z n site before st ≡ own_record g.tables g.params y n site before st → itself g.tables z st ≡ itself g.tables y st
     → Exits g before (own_record g.tables g.params y n site before st ∷ []) rows st (itself g.tables y st)
 own_step g z y n site rows before st ground suits here same does' =
@@ -219,8 +219,8 @@ own_step g z y n site rows before st ground suits here same does' =
           λ x w. ap (λ (s : State). held_at s.env x) tells.1 ∙ slots_high g.params g.base own.sets st.env x slots (each_within (λ i. g.base ≤ i) rows here.high x w),
         )
 
-leaf_trace : {X : Type 0} (g : Ground) (z : Bare) (y : RStmt-F X) (n : ℕ) (site : Site) (rows : List ℕ) (before : List Record) (st : State) → IsGround g → StandsAt g.text n (record { it = z; rows = rows } ∷ [])
-    → Suits g.tables g.params g.base (record { it = z; rows = rows }) → IsAtSite g site rows before st
+leaf_trace : {X : Type 0} (g : Ground) (z : Bare) (y : RStmt-F X) (n : ℕ) (site : Site) (rows : List ℕ) (before : List Record) (st : State) → IsGround g → HasStatements g.text n (record { it = z; rows = rows } ∷ [])
+    → IsStatedWell g.tables g.params g.base (record { it = z; rows = rows }) → IsAtSite g site rows before st
     → own_record g.tables g.params z n site before st ≡ own_record g.tables g.params y n site before st → itself g.tables z st ≡ itself g.tables y st
     → Traced g before (own_record g.tables g.params y n site before st ∷ []) rows st (itself g.tables y st)
 leaf_trace g z y n site rows before st ground stands suits here same does' = (
@@ -234,8 +234,8 @@ own_then g before own rs rows st mid out h k = ((h.0.0, k.0), exits_join g befor
 
 -- What a statement holds
 
-loop_trace : (g : Ground) (x : ℕ) (F : Flat) (body : Does) (tells : Tells) → Traces g F tells body → (all : List (List Value)) (own : Record) (n : ℕ) (site : Site) (os : List ℕ) (before : List Record) (st : State)
-    → StandsAt g.text n (F (x ∷ os)) → Each (Suits g.tables g.params g.base) (F (x ∷ os)) → g.base ≤ x → (Within x os → ⊥) → IsAtSite g site os before st → own.rows ≡ all → own.spot.turns ≡ site.turns
+loop_trace : (g : Ground) (x : ℕ) (F : Flat) (body : Does) (tells : Recorder) → Traces g F tells body → (all : List (List Value)) (own : Record) (n : ℕ) (site : Site) (os : List ℕ) (before : List Record) (st : State)
+    → HasStatements g.text n (F (x ∷ os)) → Each (IsStatedWell g.tables g.params g.base) (F (x ∷ os)) → g.base ≤ x → (Within x os → ⊥) → IsAtSite g site os before st → own.rows ≡ all → own.spot.turns ≡ site.turns
     → Traced g before (own ∷ []) os st (Ok (record st { env = with_found st.env (is_turn all) }))
     → Traced g before (own ∷ tell_loop x body tells all n (within_loop x (length before) site) (before ++ own ∷ []) st) os st (loop_over x body all st)
 loop_trace g x F body tells h all own n site os before st stands suits high apart here are same k =
@@ -244,9 +244,9 @@ loop_trace g x F body tells h all own n site os before st stands suits high apar
     (turns_trace g x F body tells h all [] 1 os n site (length before) (before ++ own ∷ []) mid stands suits high apart (here_later g site os before (own ∷ []) st mid here k.1.0 k.1.1)
     (omega (arith, length-append before (own ∷ []))) own (get_last before own []) same are (omega arith))
 
-fixed_trace : (g : Ground) (x : ℕ) (F : Flat) (body : Does) (tells : Tells) → Traces g F tells body → (tests : Result (List Test) End) (rows : List Test → List (List Value)) (own : Record) (n : ℕ) (site : Site)
+fixed_trace : (g : Ground) (x : ℕ) (F : Flat) (body : Does) (tells : Recorder) → Traces g F tells body → (tests : Result (List Test) End) (rows : List Test → List (List Value)) (own : Record) (n : ℕ) (site : Site)
     (os : List ℕ) (before : List Record) (st : State)
-    → StandsAt g.text n (F (x ∷ os)) → Each (Suits g.tables g.params g.base) (F (x ∷ os)) → g.base ≤ x → (Within x os → ⊥) → IsAtSite g site os before st → own.rows ≡ on (then_do tests (λ c. Ok (rows c))) (λ all. all) → own.spot.turns ≡ site.turns
+    → HasStatements g.text n (F (x ∷ os)) → Each (IsStatedWell g.tables g.params g.base) (F (x ∷ os)) → g.base ≤ x → (Within x os → ⊥) → IsAtSite g site os before st → own.rows ≡ on (then_do tests (λ c. Ok (rows c))) (λ all. all) → own.spot.turns ≡ site.turns
     → Traced g before (own ∷ []) os st (before_turns (then_do tests (λ c. Ok (rows c))) st)
     → Traced g before (own ∷ on (then_do tests (λ c. Ok (rows c))) (λ all. tell_loop x body tells all n (within_loop x (length before) site) (before ++ own ∷ []) st)) os st (then_do tests (λ c. loop_over x body (rows c) st))
 fixed_trace g x F body tells h (Ok c) rows own n site os before st stands suits high apart here are same k =
@@ -322,7 +322,7 @@ all_trace : (g : Ground) (known : List (Known g)) → Traces g (flat_all (plain 
 all_trace g [] rows n site before st stands suits here = (tt, (subst (λ b. Told g b st) (sym (append-nil before)) here.told, λ x w. refl))
 all_trace g (k ∷ ks) rows n site before st stands suits here =
     let these : List Record = tell g.tables g.params k.0 n site before st in
-    let split = each_both (Suits g.tables g.params g.base) (flat k.0 rows) (flat_all (plain g ks) rows) suits in
+    let split = each_both (IsStatedWell g.tables g.params g.base) (flat k.0 rows) (flat_all (plain g ks) rows) suits in
     then_traced g before these rows st (does g.tables k.0 st) (tell_statements g.tables g.params (plain g ks) (n + size k.0) site (before ++ these)) (alone g.tables (plain g ks))
     (k.1 rows n site before st (stands_first g.text n (flat k.0 rows) (flat_all (plain g ks) rows) stands) split.0 here)
     (λ mid told keeps. all_trace g ks rows (n + size k.0) site (before ++ these) mid
@@ -331,26 +331,26 @@ all_trace g (k ∷ ks) rows n site before st stands suits here =
 abbrev unknown : (g : Ground) → RStmt-F (Known g) → RStmt-F RStmt
 unknown g y = map-RStmt (Known g) RStmt (λ k. k.0) y
 
-abbrev telling : (g : Ground) → RStmt-F (Known g) → RStmt-F (RStmt × Tells)
-telling g y = map-RStmt RStmt (RStmt × Tells) (λ s. (s, tell g.tables g.params s)) (unknown g y)
+abbrev telling : (g : Ground) → RStmt-F (Known g) → RStmt-F (RStmt × Recorder)
+telling g y = map-RStmt RStmt (RStmt × Recorder) (λ s. (s, tell g.tables g.params s)) (unknown g y)
 
-again : (g : Ground) (ss : List RStmt) → alone g.tables (map (λ (s : RStmt × Tells). s.0) (map (λ s. (s, tell g.tables g.params s)) ss)) ≡ alone g.tables ss
+again : (g : Ground) (ss : List RStmt) → alone g.tables (map (λ (s : RStmt × Recorder). s.0) (map (λ s. (s, tell g.tables g.params s)) ss)) ≡ alone g.tables ss
 again g ss = ap (alone g.tables) (firsts (tell g.tables g.params) ss)
 
-sizes_of : (g : Ground) (ss : List RStmt) → total_size (map (λ (s : RStmt × Tells). size s.0) (map (λ s. (s, tell g.tables g.params s)) ss)) ≡ total_size (map size ss)
+sizes_of : (g : Ground) (ss : List RStmt) → total_size (map (λ (s : RStmt × Recorder). size s.0) (map (λ s. (s, tell g.tables g.params s)) ss)) ≡ total_size (map size ss)
 sizes_of g [] = refl
 sizes_of g (s ∷ ss) = ap (λ n. size s + n) (sizes_of g ss)
 
 step_trace : (g : Ground) → IsGround g → (y : RStmt-F (Known g))
     → Traces g (flat_step (map-RStmt RStmt Flat flat (unknown g y))) (tell_step g.tables g.params (telling g y)) (stmt_step g.tables (map-RStmt RStmt Does (does g.tables) (unknown g y)))
 step_trace g ground (Assign x e) rows n site before st stands suits here =
-    leaf_trace {X = RStmt × Tells} g (Assign x e) (Assign x e) n site rows before st ground stands suits.0 here refl refl
+    leaf_trace {X = RStmt × Recorder} g (Assign x e) (Assign x e) n site rows before st ground stands suits.0 here refl refl
 step_trace g ground (Select cs xs t conds sorts offset) rows n site before st stands suits here =
-    leaf_trace {X = RStmt × Tells} g (Select cs xs t conds sorts offset) (Select cs xs t conds sorts offset) n site rows before st ground stands suits.0 here refl refl
+    leaf_trace {X = RStmt × Recorder} g (Select cs xs t conds sorts offset) (Select cs xs t conds sorts offset) n site rows before st ground stands suits.0 here refl refl
 step_trace g ground (Total agg x t conds) rows n site before st stands suits here =
-    leaf_trace {X = RStmt × Tells} g (Total agg x t conds) (Total agg x t conds) n site rows before st ground stands suits.0 here refl refl
+    leaf_trace {X = RStmt × Recorder} g (Total agg x t conds) (Total agg x t conds) n site rows before st ground stands suits.0 here refl refl
 step_trace g ground (ForSelect x once cs t conds sorts body) rows n site before st stands suits here =
-    let y : RStmt-F (RStmt × Tells) = telling g (ForSelect x once cs t conds sorts body) in
+    let y : RStmt-F (RStmt × Recorder) = telling g (ForSelect x once cs t conds sorts body) in
     let z : Bare = bare (map-RStmt RStmt Flat flat (unknown g (ForSelect x once cs t conds sorts body))) in
     let ss : List RStmt = plain g body in
     let own : Record = own_record g.tables g.params y n site before st in
@@ -361,7 +361,7 @@ step_trace g ground (ForSelect x once cs t conds sorts body) rows n site before 
     (stands_second g.text n 1 here' (flat_all ss (x ∷ rows)) refl stands) suits.1 suits.0.loop.0 suits.0.loop.1 here refl refl
     (leaf_trace g z y n site rows before st ground (stands_first g.text n here' (flat_all ss (x ∷ rows)) stands) suits.0 here refl refl))
 step_trace g ground (ForRows x y body) rows n site before st stands suits here =
-    let w : RStmt-F (RStmt × Tells) = telling g (ForRows x y body) in
+    let w : RStmt-F (RStmt × Recorder) = telling g (ForRows x y body) in
     let z : Bare = bare (map-RStmt RStmt Flat flat (unknown g (ForRows x y body))) in
     let ss : List RStmt = plain g body in
     let own : Record = own_record g.tables g.params w n site before st in
@@ -372,15 +372,15 @@ step_trace g ground (ForRows x y body) rows n site before st stands suits here =
     (stands_second g.text n 1 here' (flat_all ss (x ∷ rows)) refl stands) suits.1 suits.0.loop.0 suits.0.loop.1 here refl refl
     (leaf_trace g z w n site rows before st ground (stands_first g.text n here' (flat_all ss (x ∷ rows)) stands) suits.0 here refl refl))
 step_trace g ground (Branch e ys ns) rows n site before st stands suits here =
-    let y : RStmt-F (RStmt × Tells) = telling g (Branch e ys ns) in
+    let y : RStmt-F (RStmt × Recorder) = telling g (Branch e ys ns) in
     let z : Bare = bare (map-RStmt RStmt Flat flat (unknown g (Branch e ys ns))) in
     let own : Record = own_record g.tables g.params y n site before st in
     let here' : List Stated = record { it = z; rows = rows } ∷ [] in
     let yes : List Stated = flat_all (plain g ys) rows in
     let not : List Stated = flat_all (plain g ns) rows in
     let behind = stands_second g.text n 1 here' (yes ++ not) refl stands in
-    let split = each_both (Suits g.tables g.params g.base) yes not suits.1 in
-    let long : length yes ≡ total_size (map (λ (s : RStmt × Tells). size s.0) (map (λ s. (s, tell g.tables g.params s)) (plain g ys))) = all_sized (plain g ys) rows ∙ sym (sizes_of g (plain g ys)) in
+    let split = each_both (IsStatedWell g.tables g.params g.base) yes not suits.1 in
+    let long : length yes ≡ total_size (map (λ (s : RStmt × Recorder). size s.0) (map (λ s. (s, tell g.tables g.params s)) (plain g ys))) = all_sized (plain g ys) rows ∙ sym (sizes_of g (plain g ys)) in
     if_trace g (value_of e st.env []) own before rows st _ _ _ _
     (λ told. let at : IsAtSite g (within (length before) site) rows (before ++ own ∷ []) st = here_within g (length before) site rows (before ++ own ∷ []) st (own, get_last before own [], inl refl) (here_later g site rows before (own ∷ []) st st here told (λ x w. refl)) in (
       all_trace g ys rows (n + 1) (within (length before) site) (before ++ own ∷ []) st (stands_first g.text (n + 1) yes not behind) split.0 at,
@@ -388,22 +388,22 @@ step_trace g ground (Branch e ys ns) rows n site before st stands suits here =
     ))
     (leaf_trace g z y n site rows before st ground (stands_first g.text n here' (yes ++ not) stands) suits.0 here refl refl)
 step_trace g ground (Insert t es) rows n site before st stands suits here =
-    leaf_trace {X = RStmt × Tells} g (Insert t es) (Insert t es) n site rows before st ground stands suits.0 here refl refl
+    leaf_trace {X = RStmt × Recorder} g (Insert t es) (Insert t es) n site rows before st ground stands suits.0 here refl refl
 step_trace g ground (Update t items conds) rows n site before st stands suits here =
-    leaf_trace {X = RStmt × Tells} g (Update t items conds) (Update t items conds) n site rows before st ground stands suits.0 here refl refl
+    leaf_trace {X = RStmt × Recorder} g (Update t items conds) (Update t items conds) n site rows before st ground stands suits.0 here refl refl
 step_trace g ground (Delete t conds) rows n site before st stands suits here =
-    leaf_trace {X = RStmt × Tells} g (Delete t conds) (Delete t conds) n site rows before st ground stands suits.0 here refl refl
+    leaf_trace {X = RStmt × Recorder} g (Delete t conds) (Delete t conds) n site rows before st ground stands suits.0 here refl refl
 step_trace g ground (Print es) rows n site before st stands suits here =
-    leaf_trace {X = RStmt × Tells} g (Print es) (Print es) n site rows before st ground stands suits.0 here refl refl
+    leaf_trace {X = RStmt × Recorder} g (Print es) (Print es) n site rows before st ground stands suits.0 here refl refl
 step_trace g ground (Rollback reason) rows n site before st stands suits here =
-    leaf_trace {X = RStmt × Tells} g (Rollback reason) (Rollback reason) n site rows before st ground stands suits.0 here refl refl
+    leaf_trace {X = RStmt × Recorder} g (Rollback reason) (Rollback reason) n site rows before st ground stands suits.0 here refl refl
 
 pub statement_trace : (g : Ground) → IsGround g → (s : RStmt) → Traces g (flat s) (tell g.tables g.params s) (does g.tables s)
 statement_trace g ground = ind-RStmt (λ s. Traces g (flat s) (tell g.tables g.params s) (does g.tables s)) (λ x y is.
     subst (λ z. Traces g (flat (roll-RStmt z)) (tell g.tables g.params (roll-RStmt z)) (does g.tables (roll-RStmt z))) is
     (let z : RStmt-F RStmt = unknown g y in
     subst (λ F. Traces g F (tell g.tables g.params (roll-RStmt z)) (does g.tables (roll-RStmt z))) (sym (fold-roll-RStmt Flat flat_step z))
-    (subst (λ t. Traces g (flat_step (map-RStmt RStmt Flat flat z)) t (does g.tables (roll-RStmt z))) (sym (para-roll-RStmt Tells (tell_step g.tables g.params) z))
+    (subst (λ t. Traces g (flat_step (map-RStmt RStmt Flat flat z)) t (does g.tables (roll-RStmt z))) (sym (para-roll-RStmt Recorder (tell_step g.tables g.params) z))
     (subst (λ d. Traces g (flat_step (map-RStmt RStmt Flat flat z)) (tell_step g.tables g.params (telling g y)) d) (sym (fold-roll-RStmt Does (stmt_step g.tables) z))
     (step_trace g ground y)))))
 
@@ -416,7 +416,7 @@ told_trace g ground ss = subst (λ ts. Traces g (flat_all ts) (tell_statements g
 
 -- Full runs
 
-pub all_own : (g : Ground) → IsGround g → (ss : List RStmt) → g.text ≡ flat_all ss [] → Each (Suits g.tables g.params g.base) (flat_all ss []) → (env : Env) → g.first ≡ env
+pub all_own : (g : Ground) → IsGround g → (ss : List RStmt) → g.text ≡ flat_all ss [] → Each (IsStatedWell g.tables g.params g.base) (flat_all ss []) → (env : Env) → g.first ≡ env
     → AllOwn g [] (tell_statements g.tables g.params ss 1 outside [] (record { env = env; tables = g.db; lines = [] }))
 all_own g ground ss text suits env first =
     (told_trace g ground ss [] 1 outside [] (record { env = env; tables = g.db; lines = [] })

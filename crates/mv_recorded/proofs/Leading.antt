@@ -28,7 +28,7 @@ use Rattle.mv_record.specs.Runs.{writes_in}
 use Rattle.mv_alone.proofs.Standing.{New}
 use Rattle.mv_recorded.specs.Asking.{on}
 use Rattle.mv_recorded.specs.Doing.{itself, write}
-use Rattle.mv_recorded.specs.Recorded.{Tells, Site, own_record}
+use Rattle.mv_recorded.specs.Recorded.{Recorder, Site, own_record}
 use Rattle.mv_recorded.proofs.Following.{IsLaw}
 use Rattle.mv_recorded.proofs.Patched.{applied_on, deletes_on, deletes_lead, without_rises, put_leads, put_rises}
 use Rattle.mv_recorded.proofs.Setting.{set_writes, sets_on, sets_lead, set_row_makes, updated_rises}
@@ -163,4 +163,4 @@ leads_own {X} tables params (Print es) n site before st = still (itself {X = X} 
 leads_own {X} tables params (Rollback reason) n site before st = still (itself {X = X} tables (Rollback reason) st) st tt
 
 pub leads_law : IsLaw LeadsTo
-leads_law = record { none = leads_none; more = leads_more; enters = leads_inside; own = leads_own {X = RStmt × Tells} }
+leads_law = record { none = leads_none; more = leads_more; enters = leads_inside; own = leads_own {X = RStmt × Recorder} }

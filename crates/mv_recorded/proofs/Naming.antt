@@ -22,7 +22,7 @@ use Rattle.mv_recorded.specs.Asking.{on}
 use Rattle.mv_recorded.specs.Doing.{fixed_rows}
 use Rattle.mv_recorded.specs.Reading.{Loop, loop_of, last_place, sets_variable, definer, read_variables, reads_of, expressions}
 use Rattle.mv_catalog.specs.Statements.{size}
-use Rattle.mv_recorded.specs.Recorded.{Tells, Site, tell, tell_inner, tell_step, tell_turns, own_record, in_turn, within, within_loop, body_of, tell_statements, outside, recorded}
+use Rattle.mv_recorded.specs.Recorded.{Recorder, Site, tell, tell_inner, tell_step, tell_turns, own_record, in_turn, within, within_loop, body_of, tell_statements, outside, recorded}
 
 -- the loops around began earlier
 abbrev LoopsEarlier : ℕ → List Loop → Type 0
@@ -78,7 +78,7 @@ definers_earlier params loops before es h =
 
 -- Runs
 
-abbrev Names : Tells → Type 0
+abbrev Names : Recorder → Type 0
 Names tells = (n : ℕ) (site : Site) (before : List Record) (st : State) → SiteEarlier (length before) site → NamesEarlier (length before) (tells n site before st)
 
 both_earlier : (n : ℕ) (rs ss : List Record) → NamesEarlier n rs → NamesEarlier (n + length rs) ss → NamesEarlier n (rs ++ ss)
@@ -93,7 +93,7 @@ follows_earlier : {A : Type 0} (before these : List Record) (r : Result A End) (
 follows_earlier before these (Ok x) go h k = both_earlier (length before) these (go x) h (subst (λ m. NamesEarlier m (go x)) (length-append before these) (k x))
 follows_earlier before these (Err e) go h k = both_earlier (length before) these [] h tt
 
-turns_earlier : (x : ℕ) (body : Does) (tells : Tells) → Names tells → (rows : List (List Value)) (k : ℕ) → Names (tell_turns x body tells rows k)
+turns_earlier : (x : ℕ) (body : Does) (tells : Recorder) → Names tells → (rows : List (List Value)) (k : ℕ) → Names (tell_turns x body tells rows k)
 turns_earlier x body tells h [] k n site before st s = tt
 turns_earlier x body tells h (row ∷ rows) k n site before st s =
     let next : State = record st { env = with_held st.env x (Turn row) } in
@@ -131,8 +131,8 @@ either_earlier n true rs ss h k = h
 either_earlier n false rs ss h k = k
 
 -- a statement, with what those that it holds leave
-abbrev telling : (tables : List TableInfo) (params : ℕ) → RStmt-F (Known tables params) → RStmt-F (RStmt × Tells)
-telling tables params y = map-RStmt RStmt (RStmt × Tells) (λ s. (s, tell tables params s)) (map-RStmt (Known tables params) RStmt (λ k. k.0) y)
+abbrev telling : (tables : List TableInfo) (params : ℕ) → RStmt-F (Known tables params) → RStmt-F (RStmt × Recorder)
+telling tables params y = map-RStmt RStmt (RStmt × Recorder) (λ s. (s, tell tables params s)) (map-RStmt (Known tables params) RStmt (λ k. k.0) y)
 
 -- inside the statement whose record comes next
 inside_earlier : (before : List Record) (own : Record) (site : Site) → SiteEarlier (length before) site → SiteEarlier (length (before ++ own ∷ [])) (within (length before) site)
@@ -176,7 +176,7 @@ step_names tables params y n site before st s =
 pub statement_names : (tables : List TableInfo) (params : ℕ) (s : RStmt) → Names (tell tables params s)
 statement_names tables params = ind-RStmt (λ s. Names (tell tables params s)) (λ x y is.
     subst (λ z. Names (tell tables params (roll-RStmt z))) is (λ n site before st s.
-    subst (NamesEarlier (length before)) (sym (ap (λ f. f n site before st) (para-roll-RStmt Tells (tell_step tables params) (map-RStmt (Known tables params) RStmt (λ k. k.0) y))))
+    subst (NamesEarlier (length before)) (sym (ap (λ f. f n site before st) (para-roll-RStmt Recorder (tell_step tables params) (map-RStmt (Known tables params) RStmt (λ k. k.0) y))))
     (step_names tables params y n site before st s)))
 
 known_firsts : (tables : List TableInfo) (params : ℕ) (ss : List RStmt) → map (λ (k : Known tables params). k.0) (map (λ s. (s, statement_names tables params s)) ss) ≡ ss

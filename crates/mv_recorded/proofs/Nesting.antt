@@ -33,10 +33,10 @@ more_as_many nests before these h = omega (arith, length-append nests (nests_beh
 -- Sites
 
 -- these numbers and turns stand around what stands at the site
-abbrev pub Stands : List Nest → Site → List ℕ → Type 0
-Stands nests site around = (more : List Nest) → inside (option_and_then (slice_get (nests ++ more)) site.parent) site.turns ≡ around
+abbrev pub IsNested : List Nest → Site → List ℕ → Type 0
+IsNested nests site around = (more : List Nest) → inside (option_and_then (slice_get (nests ++ more)) site.parent) site.turns ≡ around
 
-pub stands_on : (nests more : List Nest) (site : Site) (around : List ℕ) → Stands nests site around → Stands (nests ++ more) site around
+pub stands_on : (nests more : List Nest) (site : Site) (around : List ℕ) → IsNested nests site around → IsNested (nests ++ more) site around
 stands_on nests more site around h others =
     ap (λ l. inside (option_and_then (slice_get l) site.parent) site.turns) (append_assoc nests more others) ∙ h (more ++ others)
 
@@ -62,13 +62,13 @@ one_deeper it turns k h =
 
 -- the loops' numbers and turns are those of its site, with this turn
 abbrev pub StandsInTurns : List Nest → Site → List ℕ → ℕ → Type 0
-StandsInTurns nests site around m = (k : ℕ) → Stands nests (in_turn k site) (around ++ m ∷ k ∷ [])
+StandsInTurns nests site around m = (k : ℕ) → IsNested nests (in_turn k site) (around ++ m ∷ k ∷ [])
 
-pub stands_here : (nests : List Nest) (site : Site) (around : List ℕ) → Stands nests site around → inside (option_and_then (slice_get nests) site.parent) site.turns ≡ around
+pub stands_here : (nests : List Nest) (site : Site) (around : List ℕ) → IsNested nests site around → inside (option_and_then (slice_get nests) site.parent) site.turns ≡ around
 stands_here nests site around stands = ap (λ l. inside (option_and_then (slice_get l) site.parent) site.turns) (sym (append-nil nests)) ∙ stands []
 
 -- in an IF nothing more stands around, in a FOR its number and the turn
-pub stands_within : (nests : List Nest) (it : Nest) (site : Site) (number : ℕ) → number ≡ length nests → it.spot.turns ≡ site.turns → Stands (nests ++ it ∷ []) (within number site) it.around
+pub stands_within : (nests : List Nest) (it : Nest) (site : Site) (number : ℕ) → number ≡ length nests → it.spot.turns ≡ site.turns → IsNested (nests ++ it ∷ []) (within number site) it.around
 stands_within nests it site number h same more = ap (λ o. inside o site.turns) (own_number nests it more number h) ∙ not_deeper it site.turns same
 
 pub stands_in_turns : (nests : List Nest) (it : Nest) (x : ℕ) (site : Site) (number : ℕ) → number ≡ length nests → it.spot.turns ≡ site.turns

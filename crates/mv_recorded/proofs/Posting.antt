@@ -22,10 +22,10 @@ use Rattle.mv_record.specs.declared.record.Spot.{Spot}
 use Rattle.mv_record.specs.Paths.{Nest, path, nest_of, nests_behind}
 use Rattle.mv_recorded.specs.Asking.{on}
 use Rattle.mv_recorded.specs.Doing.{fixed_rows}
-use Rattle.mv_recorded.specs.Recorded.{Tells, Site, tell, tell_step, tell_turns, own_record, in_turn, within, within_loop, size_of, body_of, tell_statements, outside, recorded}
+use Rattle.mv_recorded.specs.Recorded.{Recorder, Site, tell, tell_step, tell_turns, own_record, in_turn, within, within_loop, size_of, body_of, tell_statements, outside, recorded}
 use Rattle.mv_recorded.specs.Laws.{OnePlaceOnePath}
 use Rattle.mv_recorded.specs.Posts.{Post, Posts, posts, posts_all, posts_step, posts_of, in_branch, in_for, weave, path_held, path_above}
-use Rattle.mv_recorded.proofs.Nesting.{AsMany, more_as_many, Stands, stands_on, stands_here, stands_within, stands_in_turns, own_number}
+use Rattle.mv_recorded.proofs.Nesting.{AsMany, more_as_many, IsNested, stands_on, stands_here, stands_within, stands_in_turns, own_number}
 
 -- Weaving
 
@@ -74,7 +74,7 @@ posted_join text nests (r ∷ rs) ss h k =
 -- where statements stand, in the text and behind other records
 pub record Sits (nests : List Nest) (site : Site) (post : Post) : Type 0 where
   pub deep : length post.fors ≡ length site.turns
-  pub stands : Stands nests site (weave post.fors site.turns)
+  pub stands : IsNested nests site (weave post.fors site.turns)
   pub above : (more : List Nest) → option_map path (option_and_then (slice_get (nests ++ more)) site.parent) ≡ path_held post site.turns
 
 sits_on : (nests more : List Nest) (site : Site) (post : Post) → Sits nests site post → Sits (nests ++ more) site post
@@ -89,7 +89,7 @@ sits_within : (nests : List Nest) (own : Record) (site : Site) (post : Post) (nu
     → Sits (nests ++ nest_of nests own ∷ []) (within number site) (in_branch own.spot.statement post)
 sits_within nests own site post number at same around s = record {
   deep = s.deep;
-  stands = subst (Stands (nests ++ nest_of nests own ∷ []) (within number site)) around (stands_within nests (nest_of nests own) site number at same);
+  stands = subst (IsNested (nests ++ nest_of nests own ∷ []) (within number site)) around (stands_within nests (nest_of nests own) site number at same);
   above = λ more. ap (option_map path) (own_number nests (nest_of nests own) more number at) ∙ ap (λ a. Some (a ++ own.spot.statement ∷ [])) around;
 }
 
@@ -100,14 +100,14 @@ sits_in_turn nests own x site post number k at same around s =
     let m : ℕ = own.spot.statement in
     record {
       deep = omega (arith, s.deep, length-append post.fors (m ∷ []), length-append site.turns (k ∷ []));
-      stands = subst (Stands (nests ++ nest_of nests own ∷ []) (in_turn k (within_loop x number site))) (ap (λ a. a ++ m ∷ k ∷ []) around ∙ sym (weave_more post.fors site.turns m k s.deep))
+      stands = subst (IsNested (nests ++ nest_of nests own ∷ []) (in_turn k (within_loop x number site))) (ap (λ a. a ++ m ∷ k ∷ []) around ∙ sym (weave_more post.fors site.turns m k s.deep))
           (stands_in_turns nests (nest_of nests own) x site number at same k);
       above = λ more. ap (option_map path) (own_number nests (nest_of nests own) more number at) ∙ ap (λ a. Some (a ++ m ∷ [])) (around ∙ sym (weave_less post.fors site.turns k s.deep));
     }
 
 -- Runs
 
-abbrev Posted : List Post → Posts → Tells → Type 0
+abbrev Posted : List Post → Posts → Recorder → Type 0
 Posted text ps tells = (n : ℕ) (site : Site) (before : List Record) (st : State) (nests : List Nest) (post : Post) → StandAt text n (ps n post) → AsMany nests before → Sits nests site post → AllPosted text nests (tells n site before st)
 
 follow_posted : {A : Type 0} (text : List Post) (nests : List Nest) (these : List Record) (r : Result A End) (go : A → List Record) → AllPosted text nests these → ((x : A) → AllPosted text (nests ++ nests_behind nests these) (go x))
@@ -115,7 +115,7 @@ follow_posted : {A : Type 0} (text : List Post) (nests : List Nest) (these : Lis
 follow_posted text nests these (Ok x) go h k = posted_join text nests these (go x) h (k x)
 follow_posted text nests these (Err e) go h k = posted_join text nests these [] h tt
 
-turns_posted : (text : List Post) (x : ℕ) (body : Does) (ps : Posts) (tells : Tells) → Posted text ps tells → (rows : List (List Value)) (k n : ℕ) (site : Site) (before : List Record) (st : State) (nests : List Nest) (post : Post)
+turns_posted : (text : List Post) (x : ℕ) (body : Does) (ps : Posts) (tells : Recorder) → Posted text ps tells → (rows : List (List Value)) (k n : ℕ) (site : Site) (before : List Record) (st : State) (nests : List Nest) (post : Post)
     → StandAt text n (ps n post) → AsMany nests before → ((j : ℕ) → Sits nests (in_turn j site) post) → AllPosted text nests (tell_turns x body tells rows k n site before st)
 turns_posted text x body ps tells h [] k n site before st nests post stands many sits = tt
 turns_posted text x body ps tells h (row ∷ rows) k n site before st nests post stands many sits =
@@ -205,8 +205,8 @@ module _ (text : List Post) (tables : List TableInfo) (params : ℕ) where
       (λ next. all_posted ks (n + size k.0) site (before ++ these) next (nests ++ nests_behind nests these) post
       (subst (λ m. StandAt text m (posts_all (map posts (plain ks)) m post)) at (second_stand text n (length own) own rest refl stands)) (more_as_many nests before these many) (sits_on nests (nests_behind nests these) site post s))
 
-  abbrev telling : RStmt-F Known → RStmt-F (RStmt × Tells)
-  telling y = map-RStmt RStmt (RStmt × Tells) (λ s. (s, tell tables params s)) (map-RStmt Known RStmt (λ k. k.0) y)
+  abbrev telling : RStmt-F Known → RStmt-F (RStmt × Recorder)
+  telling y = map-RStmt RStmt (RStmt × Recorder) (λ s. (s, tell tables params s)) (map-RStmt Known RStmt (λ k. k.0) y)
 
   sizes_of : (ss : List RStmt) → size_of (map (λ s. (s, tell tables params s)) ss) ≡ total_size (map size ss)
   sizes_of [] = refl
@@ -215,7 +215,7 @@ module _ (text : List Post) (tables : List TableInfo) (params : ℕ) where
   many_own : (nests : List Nest) (before : List Record) (own : Record) → AsMany nests before → AsMany (nests ++ nest_of nests own ∷ []) (before ++ own ∷ [])
   many_own nests before own h = omega (arith, h, length-append nests (nest_of nests own ∷ []), length-append before (own ∷ []))
 
-  loop_posted : (z : RStmt-F (RStmt × Tells)) (body : List Known) (x n : ℕ) (site : Site) (before : List Record) (st : State) (nests : List Nest) (post : Post) (does' : Does) (rows : List (List Value))
+  loop_posted : (z : RStmt-F (RStmt × Recorder)) (body : List Known) (x n : ℕ) (site : Site) (before : List Record) (st : State) (nests : List Nest) (post : Post) (does' : Does) (rows : List (List Value))
       → StandAt text n (post ∷ posts_all (map posts (plain body)) (n + 1) (in_for n post)) → AsMany nests before → Sits nests site post
       → let own : Record = own_record tables params z n site before st in
       AllPosted text (nests ++ nest_of nests own ∷ []) (tell_turns x does' (tell_statements tables params (plain body)) rows 1 (n + 1) (within_loop x (length before) site) (before ++ own ∷ []) (record st { env = with_found st.env (is_turn rows) }))
@@ -230,19 +230,19 @@ module _ (text : List Post) (tables : List TableInfo) (params : ℕ) where
   step_posted (Select cs xs t conds sorts offset) n site before st nests post stands many s = (own_posted text tables params (telling (Select cs xs t conds sorts offset)) n site before st nests post stands s, tt)
   step_posted (Total agg x t conds) n site before st nests post stands many s = (own_posted text tables params (telling (Total agg x t conds)) n site before st nests post stands s, tt)
   step_posted (ForSelect x once cs t conds sorts body) n site before st nests post stands many s =
-      let z : RStmt-F (RStmt × Tells) = telling (ForSelect x once cs t conds sorts body) in
+      let z : RStmt-F (RStmt × Recorder) = telling (ForSelect x once cs t conds sorts body) in
       let own : Record = own_record tables params z n site before st in (
         own_posted text tables params z n site before st nests post (first_stand text n (post ∷ []) _ stands) s,
         on_posted text (nests ++ nest_of nests own ∷ []) (fixed_rows tables z st) _ (λ rows. loop_posted z body x n site before st nests post (body_of tables (map (λ s. (s, tell tables params s)) (plain body))) rows stands many s),
       )
   step_posted (ForRows x y body) n site before st nests post stands many s =
-      let z : RStmt-F (RStmt × Tells) = telling (ForRows x y body) in
+      let z : RStmt-F (RStmt × Recorder) = telling (ForRows x y body) in
       let own : Record = own_record tables params z n site before st in (
         own_posted text tables params z n site before st nests post (first_stand text n (post ∷ []) _ stands) s,
         on_posted text (nests ++ nest_of nests own ∷ []) (fixed_rows tables z st) _ (λ rows. loop_posted z body x n site before st nests post (body_of tables (map (λ s. (s, tell tables params s)) (plain body))) rows stands many s),
       )
   step_posted (Branch e ys ns) n site before st nests post stands many s =
-      let z : RStmt-F (RStmt × Tells) = telling (Branch e ys ns) in
+      let z : RStmt-F (RStmt × Recorder) = telling (Branch e ys ns) in
       let own : Record = own_record tables params z n site before st in
       let yes : List Post = posts_all (map posts (plain ys)) (n + 1) (in_branch n post) in
       let not : List Post = posts_all (map posts (plain ns)) (n + 1 + length yes) (in_branch n post) in
@@ -267,7 +267,7 @@ module _ (text : List Post) (tables : List TableInfo) (params : ℕ) where
       subst (λ z. Posted text (posts (roll-RStmt z)) (tell tables params (roll-RStmt z))) is
       (let z : RStmt-F RStmt = map-RStmt Known RStmt (λ k. k.0) y in
       subst (λ ps. Posted text ps (tell tables params (roll-RStmt z))) (sym (fold-roll-RStmt Posts posts_step z))
-      (subst (λ t. Posted text (posts_step (map-RStmt RStmt Posts posts z)) t) (sym (para-roll-RStmt Tells (tell_step tables params) z)) (step_posted y))))
+      (subst (λ t. Posted text (posts_step (map-RStmt RStmt Posts posts z)) t) (sym (para-roll-RStmt Recorder (tell_step tables params) z)) (step_posted y))))
 
   known_firsts : (ss : List RStmt) → map (λ (k : Known). k.0) (map (λ s. (s, statement_posted s)) ss) ≡ ss
   known_firsts [] = refl

@@ -20,15 +20,15 @@ use Rattle.mv_record.specs.Paths.{Nest, path, nest_of, nests_behind, paths, IsEa
 use Rattle.mv_recorded.specs.Asking.{on}
 use Rattle.mv_recorded.specs.Doing.{fixed_rows}
 use Rattle.mv_catalog.specs.Statements.{size, size_step, total_size}
-use Rattle.mv_recorded.specs.Recorded.{Tells, Site, tell, tell_step, tell_turns, own_record, in_turn, within, within_loop, size_of, body_of, tell_statements, outside, recorded}
-use Rattle.mv_recorded.proofs.Nesting.{paths_behind, paths_join, AsMany, more_as_many, Stands, stands_on, StandsInTurns, stands_here, stands_within, stands_in_turns}
+use Rattle.mv_recorded.specs.Recorded.{Recorder, Site, tell, tell_step, tell_turns, own_record, in_turn, within, within_loop, size_of, body_of, tell_statements, outside, recorded}
+use Rattle.mv_recorded.proofs.Nesting.{paths_behind, paths_join, AsMany, more_as_many, IsNested, stands_on, StandsInTurns, stands_here, stands_within, stands_in_turns}
 use Rattle.mv_recorded.proofs.Climbing.{front_earlier, less_earlier, behind_same, NotLater, earlier_not_later, number_not_later, Climb, climb_on, climb_from, climb_join, climb_to, climb_pairs}
 
 -- Runs
 
 -- the paths of these many statements rise, behind what stands around them
-abbrev Rises : Tells → ℕ → Type 0
-Rises tells many = (n : ℕ) (site : Site) (before : List Record) (st : State) (nests : List Nest) (around : List ℕ) → AsMany nests before → Stands nests site around
+abbrev Rises : Recorder → ℕ → Type 0
+Rises tells many = (n : ℕ) (site : Site) (before : List Record) (st : State) (nests : List Nest) (around : List ℕ) → AsMany nests before → IsNested nests site around
     → Climb (around ++ n ∷ []) (paths_behind nests (tells n site before st)) (around ++ (n + many) ∷ [])
 
 -- what follows on these records
@@ -45,7 +45,7 @@ turn_earlier : (around : List ℕ) (m k : ℕ) (ks : List ℕ) → IsEarlierPath
 turn_earlier around m k ks =
     behind_same around (m ∷ k ∷ ks) (m ∷ (k + 1) ∷ []) (behind_same (m ∷ []) (k ∷ ks) ((k + 1) ∷ []) (less_earlier k (k + 1) ks [] (omega arith)))
 
-turns_rise : (x : ℕ) (body : Does) (tells : Tells) (many : ℕ) → Rises tells many → (rows : List (List Value)) (k n : ℕ) (site : Site) (before : List Record) (st : State)
+turns_rise : (x : ℕ) (body : Does) (tells : Recorder) (many : ℕ) → Rises tells many → (rows : List (List Value)) (k n : ℕ) (site : Site) (before : List Record) (st : State)
     (nests : List Nest) (around : List ℕ) (m : ℕ) (high : List ℕ) → ((j : ℕ) → IsEarlierPath (around ++ m ∷ j ∷ []) high) → AsMany nests before → StandsInTurns nests site around m
     → Climb (around ++ m ∷ k ∷ []) (paths_behind nests (tell_turns x body tells rows k n site before st)) high
 turns_rise x body tells many h [] k n site before st nests around m high top as_many stands = earlier_not_later (around ++ m ∷ k ∷ []) high (top k)
@@ -98,8 +98,8 @@ all_rise tables params (k ∷ ks) n site before st nests around as_many stands =
     (stands_on nests (nests_behind nests these) site around stands)))
 
 -- a statement, with what those that it holds leave
-abbrev telling : (tables : List TableInfo) (params : ℕ) → RStmt-F (Known tables params) → RStmt-F (RStmt × Tells)
-telling tables params y = map-RStmt RStmt (RStmt × Tells) (λ s. (s, tell tables params s)) (map-RStmt (Known tables params) RStmt (λ k. k.0) y)
+abbrev telling : (tables : List TableInfo) (params : ℕ) → RStmt-F (Known tables params) → RStmt-F (RStmt × Recorder)
+telling tables params y = map-RStmt RStmt (RStmt × Recorder) (λ s. (s, tell tables params s)) (map-RStmt (Known tables params) RStmt (λ k. k.0) y)
 
 -- a record and what is behind it
 own_rises : (nests : List Nest) (own : Record) (rs : List Record) (around : List ℕ) (n : ℕ) (middle high : List ℕ) → path (nest_of nests own) ≡ around ++ n ∷ []
@@ -128,7 +128,7 @@ either_rises : (nests : List Nest) (b : Bool) (rs ss : List Record) (low high : 
 either_rises nests true rs ss low high h k = h
 either_rises nests false rs ss low high h k = k
 
-sizes : (f : RStmt → Tells) (ss : List RStmt) → size_of (map (λ s. (s, f s)) ss) ≡ total_size (map size ss)
+sizes : (f : RStmt → Recorder) (ss : List RStmt) → size_of (map (λ s. (s, f s)) ss) ≡ total_size (map size ss)
 sizes f [] = refl
 sizes f (s ∷ ss) =
     first_size (size s) (map (λ p. size p.0) (map (λ s. (s, f s)) ss)) ∙ (ap (λ n. size s + n) (sizes f ss) ∙ sym (first_size (size s) (map size ss)))
@@ -137,7 +137,7 @@ turn_before : (around : List ℕ) (n j many : ℕ) → IsEarlierPath (around ++ 
 turn_before around n j many = behind_same around (n ∷ j ∷ []) ((n + (1 + many)) ∷ []) (less_earlier n (n + (1 + many)) (j ∷ []) [] (omega arith))
 
 -- the turns of a FOR behind its own record
-loop_rises : (x : ℕ) (body : Does) (tells : Tells) (many : ℕ) → Rises tells many → (rows : List (List Value)) (own : Record) (n : ℕ) (site : Site) (before : List Record) (st : State)
+loop_rises : (x : ℕ) (body : Does) (tells : Recorder) (many : ℕ) → Rises tells many → (rows : List (List Value)) (own : Record) (n : ℕ) (site : Site) (before : List Record) (st : State)
     (nests : List Nest) (around : List ℕ) → AsMany nests before → (nest_of nests own).around ≡ around → own.spot.statement ≡ n → own.spot.turns ≡ site.turns
     → Climb (around ++ n ∷ 1 ∷ []) (paths_behind (nests ++ nest_of nests own ∷ []) (tell_turns x body tells rows 1 (n + 1) (within_loop x (length before) site) (before ++ own ∷ []) st)) (around ++ (n + (1 + many)) ∷ [])
 loop_rises x body tells many h rows own n site before st nests around as_many stands is same =
@@ -214,7 +214,7 @@ pub statement_rises : (tables : List TableInfo) (params : ℕ) (s : RStmt) → R
 statement_rises tables params = ind-RStmt (λ s. Rises (tell tables params s) (size s)) (λ x y is.
     subst (λ z. Rises (tell tables params (roll-RStmt z)) (size (roll-RStmt z))) is (λ n site before st nests around as_many stands.
     let z : RStmt-F RStmt = map-RStmt (Known tables params) RStmt (λ k. k.0) y in
-    subst (λ rs. Climb (around ++ n ∷ []) (paths_behind nests rs) (around ++ (n + size (roll-RStmt z)) ∷ [])) (sym (ap (λ f. f n site before st) (para-roll-RStmt Tells (tell_step tables params) z)))
+    subst (λ rs. Climb (around ++ n ∷ []) (paths_behind nests rs) (around ++ (n + size (roll-RStmt z)) ∷ [])) (sym (ap (λ f. f n site before st) (para-roll-RStmt Recorder (tell_step tables params) z)))
     (subst (λ m. Climb (around ++ n ∷ []) (paths_behind nests (tell_step tables params (telling tables params y) n site before st)) (around ++ (n + m) ∷ [])) (sym (fold-roll-RStmt ℕ size_step z))
     (step_rises tables params y n site before st nests around as_many stands))))
 

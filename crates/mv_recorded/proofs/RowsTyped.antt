@@ -28,7 +28,7 @@ use Rattle.mv_catalog.specs.declared.resolved.RSetItem.{RSetItem}
 use Rattle.mv_catalog.specs.declared.resolved.RSort.{RSort}
 use Rattle.mv_values.specs.Tables.{rows_at, Tables}
 use Rattle.mv_catalog.specs.Types.{Kind, int, Vars, kind_of_column}
-use Rattle.mv_catalog.specs.Statements.{kinds_of, Gives, Takes, IsItem, IsTotal}
+use Rattle.mv_catalog.specs.Statements.{kinds_of, IsOfKind, Takes, IsItem, IsTotal}
 use Rattle.mv_catalog.specs.Text.{IsOf, IsRow, types_of}
 use Rattle.mv_catalog.proofs.Lists.{map_map}
 use Rattle.mv_alone.specs.declared.state.Env.{Env}
@@ -230,11 +230,11 @@ module _ (vars : Vars) (env : Env) (fit' : IsEnvOf vars env) where
   no_columns c k at = cc
 
   -- the value of an expression in which no column stands
-  pub gives_kind : (e : RExpr) (k : Kind) → Gives vars k e → IfOk (value_of e env []) (IsKind k)
+  pub gives_kind : (e : RExpr) (k : Kind) → IsOfKind vars k e → IfOk (value_of e env []) (IsKind k)
   gives_kind e k h = value_kind vars [] env [] fit' no_columns e k h
 
   -- INSERT
-  pub new_row_is : (columns : List Column) (es : List RExpr) → AllZip (Gives vars) (map (λ (c : Column). kind_of_column c.kind) columns) es
+  pub new_row_is : (columns : List Column) (es : List RExpr) → AllZip (IsOfKind vars) (map (λ (c : Column). kind_of_column c.kind) columns) es
       → IfOk (new_row columns es env) (IsRow (map (λ (c : Column). c.kind) columns))
   new_row_is [] es h = tt
   new_row_is (c ∷ cs) [] h = absurd h

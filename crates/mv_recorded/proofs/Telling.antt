@@ -23,7 +23,7 @@ use Rattle.mv_alone.specs.TableAfter.{begun}
 use Rattle.mv_record.specs.declared.record.Record.{Record}
 use Rattle.mv_record.specs.Runs.{lines_in, end_in, StopsWith}
 use Rattle.mv_recorded.specs.Doing.{itself}
-use Rattle.mv_recorded.specs.Recorded.{Tells, Site, own_record, recorded, outside}
+use Rattle.mv_recorded.specs.Recorded.{Recorder, Site, own_record, recorded, outside}
 use Rattle.mv_recorded.proofs.Following.{IsLaw, told_follows}
 
 -- from a state on: no record ends the call, and their lines are those that were added; or the last one has the end that stopped it
@@ -118,7 +118,7 @@ tells_law = record {
   none = λ st. (refl, sym (append-nil st.lines));
   more = tells_more;
   enters = tells_inside;
-  own = tells_own {X = RStmt × Tells};
+  own = tells_own {X = RStmt × Recorder};
 }
 
 -- the lines and the end of a full run are the machine's

@@ -23,15 +23,15 @@ use Rattle.mv_recorded.specs.Asking.{on, columns_in, kind_columns}
 use Rattle.mv_recorded.specs.Examples.{expr, var, two, constant, field, col}
 use Rattle.mv_recorded.specs.Reading.{variables, kind_variables}
 use Rattle.mv_catalog.specs.Statements.{size, size_step}
-use Rattle.mv_recorded.specs.Recorded.{Tells, Site, tell, tell_step, tell_statements}
+use Rattle.mv_recorded.specs.Recorded.{Recorder, Site, tell, tell_step, tell_statements}
 
 -- a statement with what it holds
-abbrev pub with_tells : List TableInfo → ℕ → RStmt-F RStmt → RStmt-F (RStmt × Tells)
-with_tells tables params y = map-RStmt RStmt (RStmt × Tells) (λ s. (s, tell tables params s)) y
+abbrev pub with_tells : List TableInfo → ℕ → RStmt-F RStmt → RStmt-F (RStmt × Recorder)
+with_tells tables params y = map-RStmt RStmt (RStmt × Recorder) (λ s. (s, tell tables params s)) y
 
 pub tell_is : (tables : List TableInfo) (params : ℕ) (y : RStmt-F RStmt) (n : ℕ) (site : Site) (before : List Record) (st : State)
     → tell tables params (roll-RStmt y) n site before st ≡ tell_step tables params (with_tells tables params y) n site before st
-tell_is tables params y n site before st = ap (λ f. f n site before st) (para-roll-RStmt Tells (tell_step tables params) y)
+tell_is tables params y n site before st = ap (λ f. f n site before st) (para-roll-RStmt Recorder (tell_step tables params) y)
 
 pub does_is : (tables : List TableInfo) (y : RStmt-F RStmt) (st : State) → does tables (roll-RStmt y) st ≡ stmt_step tables (map-RStmt RStmt Does (does tables) y) st
 does_is tables y st = ap (λ f. f st) (fold-roll-RStmt Does (stmt_step tables) y)

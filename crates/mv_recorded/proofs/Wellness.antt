@@ -18,7 +18,7 @@ use Rattle.mv_catalog.specs.declared.resolved.RSetItem.{RSetItem}
 use Rattle.mv_catalog.specs.declared.resolved.RStmt.{RStmt, roll-RStmt, map-RStmt, ind-RStmt, fold-roll-RStmt}
 use Rattle.mv_catalog.specs.declared.resolved.RStmt.TheOpen.{RStmt-F, Assign, Select, Total, ForSelect, ForRows, Branch, Insert, Update, Delete, Print, Rollback}
 use Rattle.mv_catalog.specs.Types.{Kind, Var, fixed, declared, rows, turn, Vars, read, field, kind_of_column, HasType}
-use Rattle.mv_catalog.specs.Statements.{all_well, stmt_step, IsWell, kinds_of, IsTest, IsItem, IsOffset, Gives, with_turn, rows_step, rows_in, rows_of, CountsFrom}
+use Rattle.mv_catalog.specs.Statements.{all_well, stmt_step, IsWell, kinds_of, IsTest, IsItem, IsOffset, IsOfKind, with_turn, rows_step, rows_in, rows_of, CountsFrom}
 use Rattle.mv_catalog.proofs.Typed.{well_by}
 use Rattle.mv_catalog.specs.Types.{int, kind_of_value}
 use Rattle.mv_catalog.specs.Text.{IsProcedure, param_var, own_vars, vars_of}
@@ -28,7 +28,7 @@ use Rattle.mv_values.specs.declared.value.Value.{Value}
 use Rattle.mv_catalog.proofs.Named.{named_by, AtEachKind}
 use Rattle.mv_recorded.specs.Reading.{kind_variables, variables, rights}
 use Rattle.mv_recorded.proofs.Effects.{columns_there}
-use Rattle.mv_recorded.specs.Own.{Flat, flat, flat_step, flat_all, Each, Within, Suits, AllSuit}
+use Rattle.mv_recorded.specs.Own.{Flat, flat, flat_step, flat_all, Each, Within, IsStatedWell, AllSuit}
 use Rattle.mv_recorded.proofs.Inverting.{each_join, each_both}
 
 -- Expressions
@@ -82,7 +82,7 @@ items_known vars info (i ∷ is) h =
     let first = h 0 i (omega arith) in
     each_join (Known vars) (variables i.right) (flat_map variables (map (λ i. i.right) is)) (expr_known vars (kinds_of info) i.right first.0 first.3) (items_known vars info is (λ k d lt. h (suc k) d (omega (arith, lt))))
 
-values_known : (vars : Vars) (ks : List Kind) (es : List RExpr) → AllZip (Gives vars) ks es → AllKnown vars es × (length ks ≡ length es)
+values_known : (vars : Vars) (ks : List Kind) (es : List RExpr) → AllZip (IsOfKind vars) ks es → AllKnown vars es × (length ks ≡ length es)
 values_known vars [] [] h = (tt, refl)
 values_known vars (k ∷ ks) [] h = absurd h
 values_known vars [] (e ∷ es) h = absurd h
@@ -90,7 +90,7 @@ values_known vars (k ∷ ks) (e ∷ es) h =
     let rest = values_known vars ks es h.1 in
     (each_join (Known vars) (variables e) (flat_map variables es) (expr_known vars [] e k h.0) rest.0, ap suc rest.1)
 
-printed_known : (vars : Vars) (es : List RExpr) → All (λ e. (t : Kind) × Gives vars t e) es → AllKnown vars es
+printed_known : (vars : Vars) (es : List RExpr) → All (λ e. (t : Kind) × IsOfKind vars t e) es → AllKnown vars es
 printed_known vars [] h = tt
 printed_known vars (e ∷ es) h =
     let first = h 0 e (omega arith) in
@@ -171,7 +171,7 @@ targets_own params base vars around ks (c ∷ cs) (x ∷ xs) s h = (s.declares x
 
 abbrev Claim : List TableInfo → ℕ → ℕ → RStmt → Type 0
 Claim tables params base s =
-    (vars : Vars) (around : List ℕ) → IsWell tables s vars → Scope params base vars around → Each (λ x. base ≤ x) (rows_in s) → Each (Suits tables params base) (flat s around)
+    (vars : Vars) (around : List ℕ) → IsWell tables s vars → Scope params base vars around → Each (λ x. base ≤ x) (rows_in s) → Each (IsStatedWell tables params base) (flat s around)
 
 abbrev Suited : List TableInfo → ℕ → ℕ → Type 0
 Suited tables params base = (s : RStmt) × Claim tables params base s
@@ -180,18 +180,18 @@ abbrev plain : (tables : List TableInfo) (params base : ℕ) → List (Suited ta
 plain tables params base known = map (λ k. k.0) known
 
 all_suit : (tables : List TableInfo) (params base : ℕ) (known : List (Suited tables params base)) (vars : Vars) (around : List ℕ) → all_well (IsWell tables) (plain tables params base known) vars → Scope params base vars around
-    → Each (λ x. base ≤ x) (rows_of (plain tables params base known)) → Each (Suits tables params base) (flat_all (plain tables params base known) around)
+    → Each (λ x. base ≤ x) (rows_of (plain tables params base known)) → Each (IsStatedWell tables params base) (flat_all (plain tables params base known) around)
 all_suit tables params base [] vars around h s high = tt
 all_suit tables params base (k ∷ ks) vars around h s high =
     let split = each_both (λ x. base ≤ x) (rows_in k.0) (rows_of (plain tables params base ks)) high in
-    each_join (Suits tables params base) (flat k.0 around) (flat_all (plain tables params base ks) around) (k.1 vars around h.0 s split.0) (all_suit tables params base ks vars around h.1 s split.1)
+    each_join (IsStatedWell tables params base) (flat k.0 around) (flat_all (plain tables params base ks) around) (k.1 vars around h.0 s split.0) (all_suit tables params base ks vars around h.1 s split.1)
 
 abbrev unknown : (tables : List TableInfo) (params base : ℕ) → RStmt-F (Suited tables params base) → RStmt-F RStmt
 unknown tables params base y = map-RStmt (Suited tables params base) RStmt (λ k. k.0) y
 
 step_suits : (tables : List TableInfo) (params base : ℕ) (y : RStmt-F (Suited tables params base)) (vars : Vars) (around : List ℕ) → stmt_step tables RStmt (λ s. s) (IsWell tables) (unknown tables params base y) vars
     → Scope params base vars around → Each (λ x. base ≤ x) (rows_step (map-RStmt RStmt (List ℕ) rows_in (unknown tables params base y)))
-    → Each (Suits tables params base) (flat_step (map-RStmt RStmt Flat flat (unknown tables params base y)) around)
+    → Each (IsStatedWell tables params base) (flat_step (map-RStmt RStmt Flat flat (unknown tables params base y)) around)
 step_suits tables params base (Assign x e) vars around h s high =
     (record { columns = tt; targets = (s.declares x h.0 h.1, tt); loop = tt; over = tt; items = tt; reads = reads_in params base vars around _ s (known_one vars [] e h.0 h.2) }, tt)
 step_suits tables params base (Select cs xs t conds sorts offset) vars around h s high = (
@@ -218,7 +218,7 @@ step_suits tables params base (ForRows x y body) vars around h s high = (
 step_suits tables params base (Branch e ys ns) vars around h s high =
     let split = each_both (λ x. base ≤ x) (rows_of (plain tables params base ys)) (rows_of (plain tables params base ns)) high in (
       record { columns = tt; targets = tt; loop = tt; over = tt; items = tt; reads = reads_in params base vars around _ s (known_one vars [] e _ h.0) },
-      each_join (Suits tables params base) (flat_all (plain tables params base ys) around) (flat_all (plain tables params base ns) around) (all_suit tables params base ys vars around h.1 s split.0) (all_suit tables params base ns vars around h.2 s split.1),
+      each_join (IsStatedWell tables params base) (flat_all (plain tables params base ys) around) (flat_all (plain tables params base ns) around) (all_suit tables params base ys vars around h.1 s split.0) (all_suit tables params base ns vars around h.2 s split.1),
     )
 step_suits tables params base (Insert t es) vars around h s high =
     let all = values_known vars (kinds_of h.0) es h.2 in
@@ -244,16 +244,16 @@ statement_suits : (tables : List TableInfo) (params base : ℕ) (s : RStmt) → 
 statement_suits tables params base = ind-RStmt (Claim tables params base) (λ x y is.
     subst (λ z. Claim tables params base (roll-RStmt z)) is (λ vars around h s high.
     let z : RStmt-F RStmt = unknown tables params base y in
-    subst (Each (Suits tables params base)) (sym (ap (λ f. f around) (fold-roll-RStmt Flat flat_step z)))
+    subst (Each (IsStatedWell tables params base)) (sym (ap (λ f. f around) (fold-roll-RStmt Flat flat_step z)))
     (step_suits tables params base y vars around (well_by tables z (roll-RStmt z) vars refl h) s (subst (Each (λ x. base ≤ x)) (fold-roll-RStmt (List ℕ) rows_step z) high))))
 
 known_firsts : (tables : List TableInfo) (params base : ℕ) (ss : List RStmt) → map (λ (k : Suited tables params base). k.0) (map (λ s. (s, statement_suits tables params base s)) ss) ≡ ss
 known_firsts tables params base [] = refl
 known_firsts tables params base (s ∷ ss) = ap (λ l. s ∷ l) (known_firsts tables params base ss)
 
-pub body_suits : (tables : List TableInfo) (params base : ℕ) (ss : List RStmt) (vars : Vars) → all_well (IsWell tables) ss vars → Scope params base vars [] → Each (λ x. base ≤ x) (rows_of ss) → Each (Suits tables params base) (flat_all ss [])
+pub body_suits : (tables : List TableInfo) (params base : ℕ) (ss : List RStmt) (vars : Vars) → all_well (IsWell tables) ss vars → Scope params base vars [] → Each (λ x. base ≤ x) (rows_of ss) → Each (IsStatedWell tables params base) (flat_all ss [])
 body_suits tables params base ss vars h s high =
-    subst (λ ts. Each (Suits tables params base) (flat_all ts [])) (known_firsts tables params base ss)
+    subst (λ ts. Each (IsStatedWell tables params base) (flat_all ts [])) (known_firsts tables params base ss)
     (all_suit tables params base (map (λ s. (s, statement_suits tables params base s)) ss) vars [] (subst (λ ts. all_well (IsWell tables) ts vars) (sym (known_firsts tables params base ss)) h) s
     (subst (λ ts. Each (λ x. base ≤ x) (rows_of ts)) (sym (known_firsts tables params base ss)) high))
 
@@ -300,6 +300,6 @@ counts_high b n (m ∷ ms) le h = (omega (arith, le, h.0), counts_high b (n + 1)
 pub procedure_suits : (tables : List TableInfo) (proc : ProcInfo) (call : Call) → IsProcedure tables proc → length call.arguments ≡ length proc.params → AllSuit tables proc call
 procedure_suits tables proc call p many =
     let n : ℕ = length proc.params in
-    subst (λ k. Each (Suits tables k (k + length proc.defaults + 1)) (flat_all proc.body [])) (sym many)
+    subst (λ k. Each (IsStatedWell tables k (k + length proc.defaults + 1)) (flat_all proc.body [])) (sym many)
     (body_suits tables n (n + length proc.defaults + 1) proc.body (vars_of proc) p.body (scope_of proc.params proc.defaults)
     (counts_high (n + length proc.defaults + 1) (length (own_vars proc)) (rows_of proc.body) (let e = long_own proc.params proc.defaults in omega (arith, e)) p.loops))

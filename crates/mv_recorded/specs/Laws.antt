@@ -24,7 +24,7 @@ use Rattle.mv_recorded.specs.Alike.{ReadsAlike}
 use Rattle.mv_recorded.specs.Doing.{effect_of, itself}
 use Rattle.mv_recorded.specs.Effect.{TellsEffect, HasColumns}
 use Rattle.mv_recorded.specs.Own.{AllOwn, Bare, SetSuits, ground_of}
-use Rattle.mv_recorded.specs.Posts.{IsAt, path_above}
+use Rattle.mv_recorded.specs.Posts.{IsRecordAt, path_above}
 use Rattle.mv_recorded.specs.Recorded.{Site, own_record, recorded, meaning}
 use Rattle.mv_recorded.specs.Typed.{IsEnvOf}
 
@@ -86,5 +86,5 @@ EffectsRest = (tables : List TableInfo) (s : Bare) (st new : State) → HasColum
 abbrev pub OnePlaceOnePath : Type 0
 OnePlaceOnePath =
     (tables others : List TableInfo) (proc : ProcInfo) (call other : Call) (db new : Tables) (i j : ℕ) (o r : Record) (p q : List ℕ)
-    → IsAt (recorded tables proc call db) i o p → IsAt (recorded others proc other new) j r q
+    → IsRecordAt (recorded tables proc call db) i o p → IsRecordAt (recorded others proc other new) j r q
     → (p ≡ q → o.spot ≡ r.spot) × (o.spot ≡ r.spot → p ≡ q) × (p ≡ q → path_above (recorded tables proc call db) o ≡ path_above (recorded others proc other new) r)

@@ -95,7 +95,7 @@ SetSuits tables (Update t items conds) = Each (λ (i : RSetItem). (i.column < le
 SetSuits tables s = ⊤
 
 -- `base` is the first number after those of parameters, declared variables and `:found`
-pub record Suits (tables : List TableInfo) (params base : ℕ) (s : Stated) : Type 0 where
+pub record IsStatedWell (tables : List TableInfo) (params base : ℕ) (s : Stated) : Type 0 where
   pub columns : HasColumns s.it
   pub targets : Each (λ x. (params ≤ x) × (x < base)) (targets s.it)
   pub loop : LoopSuits base s.rows s.it
@@ -141,13 +141,13 @@ LoopsHold rs env (l ∷ ls) turns =
     (outer : List ℕ) × (k : ℕ) × (turns ≡ outer ++ k ∷ []) × (l.number < length rs) × (held_at env l.row ≡ Turn (row_in rs l.number k)) × LoopsHold rs env ls outer
 
 -- the iterations are these, or these and one more
-abbrev pub GoesOn : List ℕ → List ℕ → Type 0
-GoesOn outer turns = (turns ≡ outer) ⊎ ((k : ℕ) × (turns ≡ outer ++ k ∷ []))
+abbrev pub Continues : List ℕ → List ℕ → Type 0
+Continues outer turns = (turns ≡ outer) ⊎ ((k : ℕ) × (turns ≡ outer ++ k ∷ []))
 
 -- the iterations of a site extend those of its controller
 abbrev pub ParentHolds : List Record → Option ℕ → List ℕ → Type 0
 ParentHolds before None turns = turns ≡ []
-ParentHolds before (Some p) turns = (r : Record) × (slice_get before p ≡ Some r) × GoesOn r.spot.turns turns
+ParentHolds before (Some p) turns = (r : Record) × (slice_get before p ≡ Some r) × Continues r.spot.turns turns
 
 -- the state is one at the site, after these records
 pub record IsAtSite (g : Ground) (site : Site) (rows : List ℕ) (before : List Record) (st : State) : Type 0 where
@@ -158,8 +158,8 @@ pub record IsAtSite (g : Ground) (site : Site) (rows : List ℕ) (before : List 
   pub parent : ParentHolds before site.parent site.turns
 
 -- these statements occur in the text from this number on; numbers start at 1
-abbrev pub StandsAt : List Stated → ℕ → List Stated → Type 0
-StandsAt text n these = (front : List Stated) × (back : List Stated) × (text ≡ front ++ (these ++ back)) × (n ≡ length front + 1)
+abbrev pub HasStatements : List Stated → ℕ → List Stated → Type 0
+HasStatements text n these = (front : List Stated) × (back : List Stated) × (text ≡ front ++ (these ++ back)) × (n ≡ length front + 1)
 
 -- the record is the own record of a statement of the text, in the state after the records before it
 pub record IsOwn (g : Ground) (before : List Record) (r : Record) : Type 0 where
@@ -167,8 +167,8 @@ pub record IsOwn (g : Ground) (before : List Record) (r : Record) : Type 0 where
   pub s : Stated
   pub site : Site
   pub st : State
-  pub stands : StandsAt g.text n (s ∷ [])
-  pub suits : Suits g.tables g.params g.base s
+  pub stands : HasStatements g.text n (s ∷ [])
+  pub suits : IsStatedWell g.tables g.params g.base s
   pub here : IsAtSite g site s.rows before st
   pub is : r ≡ own_record g.tables g.params s.it n site before st
 
@@ -191,4 +191,4 @@ ground_of tables proc call db = record {
 
 -- each statement of the procedure fits its variables and tables
 abbrev pub AllSuit : List TableInfo → ProcInfo → Call → Type 0
-AllSuit tables proc call = Each (Suits tables (length call.arguments) (length call.arguments + length proc.defaults + 1)) (flat_all proc.body [])
+AllSuit tables proc call = Each (IsStatedWell tables (length call.arguments) (length call.arguments + length proc.defaults + 1)) (flat_all proc.body [])

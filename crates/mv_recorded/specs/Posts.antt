@@ -56,7 +56,7 @@ abbrev pub path_held : Post → List ℕ → Option (List ℕ)
 path_held post turns = option_map (λ m. weave post.outer turns ++ m ∷ []) post.holder
 
 -- the record with this number, and its path
-pub record IsAt (rs : List Record) (number : ℕ) (r : Record) (p : List ℕ) : Type 0 where
+pub record IsRecordAt (rs : List Record) (number : ℕ) (r : Record) (p : List ℕ) : Type 0 where
   pub there : slice_get rs number ≡ Some r
   pub path : slice_get (paths rs) number ≡ Some p
 

@@ -49,18 +49,18 @@ own_record tables params s n site before st =
     record_of (record { statement = n; turns = site.turns }) site.parent (reads_of params site.loops before (expressions s)) (effect_of tables s st)
 
 -- the records of statements, if the first statement has this number in the text
-abbrev pub Tells : Type 0
-Tells = ℕ → Site → List Record → State → List Record
+abbrev pub Recorder : Type 0
+Recorder = ℕ → Site → List Record → State → List Record
 
 -- the records of statements in order
-abbrev pub tell_all : List TableInfo → List (RStmt × Tells) → Tells
+abbrev pub tell_all : List TableInfo → List (RStmt × Recorder) → Recorder
 tell_all tables [] n site before st = []
 tell_all tables (s ∷ ss) n site before st =
     let these : List Record = s.1 n site before st in
     these ++ on (does tables s.0 st) (tell_all tables ss (n + size s.0) site (before ++ these))
 
 -- the records of the iterations of a loop, of which the first has number `k`
-abbrev pub tell_turns : ℕ → Does → Tells → List (List Value) → ℕ → Tells
+abbrev pub tell_turns : ℕ → Does → Recorder → List (List Value) → ℕ → Recorder
 tell_turns x body tells [] k n site before st = []
 tell_turns x body tells (row ∷ rows) k n site before st =
     let next : State = record st { env = with_held st.env x (Turn row) } in
@@ -68,18 +68,18 @@ tell_turns x body tells (row ∷ rows) k n site before st =
     these ++ on (body next) (tell_turns x body tells rows (k + 1) n site (before ++ these))
 
 -- the records of a loop over rows
-abbrev pub tell_loop : ℕ → Does → Tells → List (List Value) → Tells
+abbrev pub tell_loop : ℕ → Does → Recorder → List (List Value) → Recorder
 tell_loop x body tells rows n site before st = tell_turns x body tells rows 1 n site before (record st { env = with_found st.env (is_turn rows) })
 
 -- the effect of a list of statements, and its size
-abbrev pub body_of : List TableInfo → List (RStmt × Tells) → Does
+abbrev pub body_of : List TableInfo → List (RStmt × Recorder) → Does
 body_of tables body = alone tables (map (λ s. s.0) body)
 
-abbrev pub size_of : List (RStmt × Tells) → ℕ
+abbrev pub size_of : List (RStmt × Recorder) → ℕ
 size_of body = total_size (map (λ s. size s.0) body)
 
 -- the records of the statements in a statement whose own record has this number
-abbrev pub tell_inner : List TableInfo → RStmt-F (RStmt × Tells) → ℕ → Tells
+abbrev pub tell_inner : List TableInfo → RStmt-F (RStmt × Recorder) → ℕ → Recorder
 tell_inner tables (ForSelect x once cs t conds sorts body) number n site before st =
     on (fixed_rows tables (ForSelect x once cs t conds sorts body) st) (λ rows. tell_loop x (body_of tables body) (tell_all tables body) rows n (within_loop x number site) before st)
 tell_inner tables (ForRows x y body) number n site before st =
@@ -90,16 +90,16 @@ tell_inner tables (Branch e ys ns) number n site before st =
 tell_inner tables s number n site before st = []
 
 -- the record of a statement, followed by those of the statements in it
-abbrev pub tell_step : List TableInfo → ℕ → RStmt-F (RStmt × Tells) → Tells
+abbrev pub tell_step : List TableInfo → ℕ → RStmt-F (RStmt × Recorder) → Recorder
 tell_step tables params s n site before st =
     let own : Record = own_record tables params s n site before st in
     own ∷ tell_inner tables s (length before) (n + 1) site (before ++ own ∷ []) st
 
-abbrev pub tell : List TableInfo → ℕ → RStmt → Tells
-tell tables params = para-RStmt Tells (tell_step tables params)
+abbrev pub tell : List TableInfo → ℕ → RStmt → Recorder
+tell tables params = para-RStmt Recorder (tell_step tables params)
 
 -- the records of a list of statements
-abbrev pub tell_statements : List TableInfo → ℕ → List RStmt → Tells
+abbrev pub tell_statements : List TableInfo → ℕ → List RStmt → Recorder
 tell_statements tables params ss = tell_all tables (map (λ s. (s, tell tables params s)) ss)
 
 -- the site outside all statements

@@ -17,7 +17,7 @@ use Rattle.mv_history.specs.Kept.{Path, Placed, with_paths, is_path, among, othe
 use Rattle.mv_alike.proofs.Keeping.{Climbs, among_new}
 use Rattle.mv_alike.proofs.Placing.{apart, its}
 use Rattle.mv_repair.specs.declared.walk.OldRun.{OldRun}
-use Rattle.mv_repair.specs.Walking.{any_write, noted, hollow, is_before, hits_in, writes_of, without_next, next_writes, noted_next, AreKnown, HasAdded, IsOld, HasPassed, writes_at}
+use Rattle.mv_repair.specs.Walking.{any_write, noted, hollow, is_before, hits_in, writes_of, without_next, next_writes, noted_next, AreKnown, HasAddedWrites, IsOld, HasPassed, writes_at}
 use Rattle.mv_recorded.proofs.Inverting.{each_join, each_map}
 use Rattle.mv_alike.proofs.Walking.{earlier_then, climbs_parts}
 use Rattle.mv_repair.proofs.Lists.{first_dropped, none_dropped, next_dropped, set_dropped, writes_apart}
@@ -91,7 +91,7 @@ more_below at ns h = each_map (λ n. n < at) (λ n. n < at + 1) ns (λ n lt. ome
 
 -- One record that is passed
 
-pub passed_next : (old : OldRun) (p : Path) (keys : List Owned) → HasAdded old.keys (next_writes old) keys → is_before (slice_get old.paths old.at) p ≡ true → HasPassed old p (record (noted_next keys old) { at = old.at + 1 })
+pub passed_next : (old : OldRun) (p : Path) (keys : List Owned) → HasAddedWrites old.keys (next_writes old) keys → is_before (slice_get old.paths old.at) p ≡ true → HasPassed old p (record (noted_next keys old) { at = old.at + 1 })
 passed_next old p keys added yes' changes os kept b more is later h = by h.coming refl
   where
     by : (l : List Placed) → h.coming ≡ l → IsOld changes os kept (b ∷ more) (record (noted_next keys old) { at = old.at + 1 })

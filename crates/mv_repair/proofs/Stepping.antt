@@ -22,7 +22,7 @@ use Rattle.mv_graph.specs.declared.graph.Graph.{Graph}
 use Rattle.mv_graph.specs.Nodes.{meaning_of}
 use Rattle.mv_exec.specs.declared.task.Ahead.{Ahead}
 use Rattle.mv_exec.specs.declared.task.Task.{Task}
-use Rattle.mv_exec.specs.Running.{IsTaskOf, IsTaskOn, IsSameCall, IsSameCallOn, Leaves, Foresees, IsAhead, HasContent, HasRun}
+use Rattle.mv_exec.specs.Running.{IsTaskOf, IsTaskOn, IsSameCall, IsSameCallOn, HasLeft, Foresees, IsAhead, HasContent, HasRun}
 use Rattle.mv_exec.proofs.Adding.{first_same}
 use Rattle.mv_exec.proofs.Fronts.{fewer_left}
 use Rattle.mv_history.specs.declared.change.Change.{Change}
@@ -34,7 +34,7 @@ use Rattle.mv_alike.proofs.Meant.{next_same}
 use Rattle.mv_repair.specs.declared.walk.OldRun.{OldRun}
 use Rattle.mv_repair.specs.declared.walk.NewRun.{NewRun}
 use Rattle.mv_repair.specs.Repairing.{queried, HasQueried}
-use Rattle.mv_repair.specs.Walking.{path_behind, is_before, writes_of, next_stays, is_there, stays_at, added, renewed, IsOld, AreMarked, IsNew, IsUnderway, HasPassed, HasKept, any_write, writes_at, AreKnown, HasAdded, HasCaughtUp}
+use Rattle.mv_repair.specs.Walking.{path_behind, is_before, writes_of, next_stays, is_there, stays_at, added, renewed, IsOld, AreMarked, IsNew, IsUnderway, HasPassed, HasKept, any_write, writes_at, AreKnown, HasAddedWrites, HasCaughtUp}
 use Rattle.mv_repair.specs.Stepping.{HasStepped, IsOnWay}
 use Rattle.mv_repair.proofs.Asking.{one, keys_within, keys_more, executed_counts, kept_counts, still_queried, queried_once, asked_one}
 use Rattle.mv_repair.proofs.Deciding.{Decides, Found, decided, found_old, names_at}
@@ -166,7 +166,7 @@ new_executed os ns r kept more new p h is =
     }
 
 -- more keys are known
-pub caught_next : (os ns : List Record) (kept : List Path) (rest : List Placed) (new : NewRun) (number : ℕ) (keys : List Owned) → slice_get new.others new.known ≡ Some number → HasAdded new.keys (writes_of (slice_get ns number)) keys
+pub caught_next : (os ns : List Record) (kept : List Path) (rest : List Placed) (new : NewRun) (number : ℕ) (keys : List Owned) → slice_get new.others new.known ≡ Some number → HasAddedWrites new.keys (writes_of (slice_get ns number)) keys
     → IsNew os kept rest ns new → IsNew os kept rest ns (record new { keys = keys; known = new.known + 1 })
 caught_next os ns kept rest new number keys there more h = record {
   paths = h.paths;
@@ -212,7 +212,7 @@ caught_step g db task old new now task' old' new' before after k s = record {
 -- The walk goes on
 
 went_on : (g : Graph) (changes : List Change) (db : Tables) (os : List Record) (task : Task) (old : OldRun) (new : NewRun) (u : IsUnderway g changes db os task old new) (ahead : Ahead) (p : Path)
-    → (c : Comes g changes db os task old new u ahead p) → (task' : Task) (old' : OldRun) (new' : NewRun) (ks : List Path) → IsTaskOf g u.call task' → task'.records ≡ task.records ++ c.r ∷ [] → Leaves g u.call db task' c.tail
+    → (c : Comes g changes db os task old new u ahead p) → (task' : Task) (old' : OldRun) (new' : NewRun) (ks : List Path) → IsTaskOf g u.call task' → task'.records ≡ task.records ++ c.r ∷ [] → HasLeft g u.call db task' c.tail
     → kept_paths os (task.records ++ c.r ∷ []) changes ≡ ks → IsOld changes os ks c.more old' → IsNew os ks c.more (task.records ++ c.r ∷ []) new' → task'.executed + length ks ≡ length (task.records ++ c.r ∷ []) → IsUnderway g changes db os task' old' new'
 went_on g changes db os task old new u ahead p c task' old' new' ks is records leaves kept beside along count = record {
   call = u.call;
@@ -325,7 +325,7 @@ pub record Keeps (g : Graph) (task : Task) (old mid : OldRun) (new : NewRun) (ah
 record Kept (g : Graph) (changes : List Change) (db : Tables) (os : List Record) (task : Task) (old : OldRun) (new : NewRun) (u : IsUnderway g changes db os task old new) (ahead : Ahead) (p : Path) (task' : Task) (old' : OldRun) (new' : NewRun) : Type 0 where
   c : Comes g changes db os task old new u ahead p
   records : task'.records ≡ task.records ++ c.r ∷ []
-  leaves : Leaves g u.call db task' c.tail
+  leaves : HasLeft g u.call db task' c.tail
   kept : kept_paths os (task.records ++ c.r ∷ []) changes ≡ kept_paths os task.records changes ++ (next_placed task.records c.r).path ∷ []
   went : IsUnderway g changes db os task' old' new'
 
@@ -344,8 +344,8 @@ it_kept g changes db os task old mid new u ahead p task' old' new' k =
     (ap (stays_at mid new task.records ahead) c.path ∙ k.decided.stays) in
     let given : k.kept.given ≡ f.o.it = some_same k.kept.given f.o.it (sym k.kept.there ∙ f.old_record) in
     let content : HasContent k.kept.given c.r = subst (λ q. HasContent q c.r) (sym given) (alike g changes db os task old new u ahead p c f.o f.found h) in
-    let leaves : Leaves g u.call db task (c.r ∷ c.tail) = subst (Leaves g u.call db task) c.left_is u.leaves in
-    let leaves' : Leaves g u.call db task' c.tail = k.kept.goes_on u.call db c.r c.tail u.is u.runs.new_is.rising leaves content in
+    let leaves : HasLeft g u.call db task (c.r ∷ c.tail) = subst (HasLeft g u.call db task) c.left_is u.leaves in
+    let leaves' : HasLeft g u.call db task' c.tail = k.kept.goes_on u.call db c.r c.tail u.is u.runs.new_is.rising leaves content in
     let one = one_more (meaning_of g u.call db).records task.records k.kept.adopted.next c.r c.tail c.tail (leaves' ∙ ap (λ l. l ++ c.tail) k.kept.adopted.records) c.all in
     let records : task'.records ≡ task.records ++ c.r ∷ [] = k.kept.adopted.records ∙ ap (λ q. task.records ++ q ∷ []) one.0 in
     let kept : kept_paths os (task.records ++ c.r ∷ []) changes ≡ ks ++ b.path ∷ [] = kept_is changes os task.records c.r true h in
@@ -377,7 +377,7 @@ kept_step g db task old mid new ahead p task' old' new' now k w = record {
   less =
       let u : IsUnderway g w.changes db w.os task old new = w.underway in
       let it : Kept g w.changes db w.os task old new u ahead p task' old' new' = it_kept g w.changes db w.os task old mid new u ahead p task' old' new' k in
-      fewer_left g u.call db task task' it.c.r it.c.tail u.runs.new_is.rising u.is (k.same u.call u.is) (subst (Leaves g u.call db task) it.c.left_is u.leaves) it.leaves;
+      fewer_left g u.call db task task' it.c.r it.c.tail u.runs.new_is.rising u.is (k.same u.call u.is) (subst (HasLeft g u.call db task) it.c.left_is u.leaves) it.leaves;
 }
 
 -- A record that is executed
@@ -396,7 +396,7 @@ record Renewed (g : Graph) (changes : List Change) (db : Tables) (os : List Reco
   c : Comes g changes db os task old new u ahead p
   is : r ≡ c.r
   records : task'.records ≡ task.records ++ c.r ∷ []
-  leaves : Leaves g u.call db task' c.tail
+  leaves : HasLeft g u.call db task' c.tail
   kept : kept_paths os (task.records ++ c.r ∷ []) changes ≡ kept_paths os task.records changes
   behind : Each (λ k. IsEarlierPath k (next_placed task.records c.r).path) (kept_paths os task.records changes)
   went : IsUnderway g changes db os task' mid new'
@@ -412,7 +412,7 @@ it_renewed g changes db os task old mid new u ahead p task' new' now after k =
     let on : IsTaskOn g u.call db task' = k.goes_on u.call (record { is = u.is; rest = u.left; leaves = u.leaves }) in
     let one = one_more (meaning_of g u.call db).records task.records k.ran.next c.r on.rest c.tail (on.leaves ∙ ap (λ l. l ++ on.rest) k.ran.records) c.all in
     let records : task'.records ≡ task.records ++ c.r ∷ [] = k.ran.records ∙ ap (λ q. task.records ++ q ∷ []) one.0 in
-    let leaves : Leaves g u.call db task' c.tail = subst (Leaves g u.call db task') one.1 on.leaves in
+    let leaves : HasLeft g u.call db task' c.tail = subst (HasLeft g u.call db task') one.1 on.leaves in
     let kept : kept_paths os (task.records ++ c.r ∷ []) changes ≡ ks = kept_is changes os task.records c.r false h in
     record {
       c = c;
@@ -447,7 +447,7 @@ renewed_step g db task old mid new ahead p task' new' now after k w = record {
   less =
       let u : IsUnderway g w.changes db w.os task old new = w.underway in
       let it : Renewed g w.changes db w.os task old mid new u ahead p task' new' k.ran.next = it_renewed g w.changes db w.os task old mid new u ahead p task' new' now after k in
-      fewer_left g u.call db task task' it.c.r it.c.tail u.runs.new_is.rising u.is (k.same u.call u.is) (subst (Leaves g u.call db task) it.c.left_is u.leaves) it.leaves;
+      fewer_left g u.call db task task' it.c.r it.c.tail u.runs.new_is.rising u.is (k.same u.call u.is) (subst (HasLeft g u.call db task) it.c.left_is u.leaves) it.leaves;
 }
 
 -- What the step needs

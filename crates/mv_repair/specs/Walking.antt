@@ -18,7 +18,7 @@ use Rattle.mv_graph.specs.declared.graph.Graph.{Graph}
 use Rattle.mv_graph.specs.Nodes.{meaning_of}
 use Rattle.mv_exec.specs.declared.task.Ahead.{Ahead}
 use Rattle.mv_exec.specs.declared.task.Task.{Task}
-use Rattle.mv_exec.specs.Running.{IsTaskOf, Leaves, HasAdopted, GoesOnWith}
+use Rattle.mv_exec.specs.Running.{IsTaskOf, HasLeft, HasAdopted, GoesOnWith}
 use Rattle.mv_history.specs.declared.change.Change.{Change}
 use Rattle.mv_history.specs.Hits.{any_hits, touches}
 use Rattle.mv_history.specs.Kept.{Path, Placed, with_paths, is_path, among, other_writes, kept_paths}
@@ -99,7 +99,7 @@ abbrev pub AreKnown : List Owned → List Write → Type 0
 AreKnown keys ws = Each (λ w. is_on_key w.table w.key (earlier 1 keys) ≡ true) ws
 
 -- the keys of these writes were added
-pub record HasAdded (old : List Owned) (ws : List Write) (new : List Owned) : Type 0 where
+pub record HasAddedWrites (old : List Owned) (ws : List Write) (new : List Owned) : Type 0 where
   pub first : AreFirst new
   pub known : (vs : List Write) → AreKnown old vs → AreKnown new (vs ++ ws)
 
@@ -223,7 +223,7 @@ pub record IsUnderway (g : Graph) (changes : List Change) (db : Tables) (os : Li
   pub olds : os ≡ (meaning_of g call was).records
   pub is : IsTaskOf g call task
   pub left : List Record
-  pub leaves : Leaves g call db task left
+  pub leaves : HasLeft g call db task left
   pub rest : List Placed
   pub split : with_paths (meaning_of g call db).records ≡ with_paths task.records ++ rest
   pub beside : IsOld changes os (kept_paths os task.records changes) rest old

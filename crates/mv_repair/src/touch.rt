@@ -7,7 +7,7 @@ ghost use Rattle.mv_values.specs.declared.patch.Write.{Write};
 ghost use Rattle.mv_values.specs.Preds.{names};
 ghost use Rattle.mv_undo.specs.Owning.{earlier, AreSought};
 ghost use Rattle.mv_history.specs.Hits.{reaches, touches, touches_predicate};
-ghost use Rattle.mv_repair.specs.Walking.{is_touched, writes_at, writes_of, AreFirst, AreKnown, HasAdded};
+ghost use Rattle.mv_repair.specs.Walking.{is_touched, writes_at, writes_of, AreFirst, AreKnown, HasAddedWrites};
 
 use crate::paths::item;
 use mv_record::record::Record;
@@ -75,7 +75,7 @@ fn one_touches(record: &Record, writes: &[Write]) -> bool
 /// Adds the keys that writes are on. A deletion stands for each key.
 pub(crate) fn add_keys(alloc: Global, keys: &mut Undo, writes: &[Write]) -> Result<(), NoMemory>
     requires { AreFirst keys.old }
-    ensures { OnOk result (HasAdded keys.old writes.now keys.new) }
+    ensures { OnOk result (HasAddedWrites keys.old writes.now keys.new) }
 {
     for write in writes {
         let key = write.key.copy(alloc)?;

@@ -2,7 +2,7 @@
 
 ghost use Rattle.std.specs.Prelude.{◌≡◌, ◌<◌, ◌≤◌, ◌&&◌, ◌||◌, not, ◌+◌, ◌++◌, ◌∷◌, [], ℕ, List as Seq, None, Some, true, false, length, slice_get, IsSome, IfOk, OnOk};
 ghost use Rattle.std.specs.Option.{option_copied};
-ghost use Rattle.mv_repair.specs.Walking.{any_write, writes_of, noted, hollow, is_before, is_there, is_kept_by, kept_as, next_stays, reads_by, same_definer, stays_at, is_touched, next_writes, noted_next, writes_at, without_next, added, renewed, AreFirst, AreKnown, HasAdded, HasCaughtUp, HasPassed};
+ghost use Rattle.mv_repair.specs.Walking.{any_write, writes_of, noted, hollow, is_before, is_there, is_kept_by, kept_as, next_stays, reads_by, same_definer, stays_at, is_touched, next_writes, noted_next, writes_at, without_next, added, renewed, AreFirst, AreKnown, HasAddedWrites, HasCaughtUp, HasPassed};
 
 use crate::paths::{Path, is_earlier, is_path, item};
 use crate::touch::{add_keys, is_touched, writes_of};
@@ -115,7 +115,7 @@ impl OldRun {
     fn note(&mut self, alloc: Global) -> Result<(), NoMemory>
         requires { AreFirst self.old.keys }
         ensures noted { OnOk result (self.new ≡ noted_next self.new.keys self.old) }
-        ensures keys { OnOk result (HasAdded self.old.keys (next_writes self.old) self.new.keys) }
+        ensures keys { OnOk result (HasAddedWrites self.old.keys (next_writes self.old) self.new.keys) }
     {
         add_keys(
             alloc,

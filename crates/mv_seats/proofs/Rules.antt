@@ -23,8 +23,8 @@ pub record Fits (script : Script) (words history : List ℕ) (gate : ℕ) (owner
   pub exact : (q : ℕ) → has_role v.knows q ≡ true → IsExact words q v.knows
 
 -- what it says of all seats
-abbrev pub Each : Script → List ℕ → List ℕ → ℕ → (ℕ → ℕ) → List View → Type 0
-Each script words history gate owner views = (seat : ℕ) (v : View) → get_elem? views seat ≡ some v → v.knows.role ≢ Spent → Fits script words history gate owner seat v
+abbrev pub EachView : Script → List ℕ → List ℕ → ℕ → (ℕ → ℕ) → List View → Type 0
+EachView script words history gate owner views = (seat : ℕ) (v : View) → get_elem? views seat ≡ some v → v.knows.role ≢ Spent → Fits script words history gate owner seat v
 
 -- the gate's view is there
 abbrev pub HasGate : ℕ → List View → Type 0
@@ -33,7 +33,7 @@ HasGate gate views = (v : View) × (get_elem? views gate ≡ some v) × (v.knows
 not_spent : (r : Role) → r ≡ Gate → r ≢ Spent
 not_spent r gated e = absurd (cc (sym gated ∙ e))
 
-pub each_of : (script : Script) (s : State ℕ View) (r : Ruled script s) → Each script s.words r.history r.gate r.owner s.views
+pub each_of : (script : Script) (s : State ℕ View) (r : Ruled script s) → EachView script s.words r.history r.gate r.owner s.views
 each_of script s r seat v at live = record {
   of_script = r.one_script seat v (at, live);
   is_gate = r.one_of_each.one_gate seat v (at, live);
@@ -47,7 +47,7 @@ pub gate_of : (script : Script) (s : State ℕ View) (r : Ruled script s) → Ha
 gate_of script s r = let t = r.one_of_each.there in (t.0, t.1.0, t.2)
 
 pub ruled : (script : Script) (words : List ℕ) (homes : List (Option ℕ)) (views : List View) (history : List ℕ) (gate : ℕ) (owner : ℕ → ℕ)
-    → Each script words history gate owner views → HasGate gate views → AreCalls script history → slice_index words 0 ≡ length history → Sizes script words
+    → EachView script words history gate owner views → HasGate gate views → AreCalls script history → slice_index words 0 ≡ length history → Sizes script words
     → Ruled script record { words = words; homes = homes; views = views }
 ruled script words homes views history gate owner each there calls count sizes = record {
   history = history;
@@ -67,22 +67,22 @@ ruled script words homes views history gate owner each there calls count sizes =
 }
 
 -- one seat has another view, and the others fit what has become of the board
-pub each_step : (script : Script) (words words' history history' : List ℕ) (gate id : ℕ) (owner : ℕ → ℕ) (views : List View) (w : View) → Each script words history gate owner views
+pub each_step : (script : Script) (words words' history history' : List ℕ) (gate id : ℕ) (owner : ℕ → ℕ) (views : List View) (w : View) → EachView script words history gate owner views
     → (w.knows.role ≢ Spent → Fits script words' history' gate owner id w)
     → ((j : ℕ) (u : View) → j ≢ id → Fits script words history gate owner j u → Fits script words' history' gate owner j u)
-    → Each script words' history' gate owner (set views id w)
+    → EachView script words' history' gate owner (set views id w)
 each_step script words words' history history' gate id owner views w each fits others j u at live = ⊎_elim
     (λ (t : (j ≡ id) × (w ≡ u)). subst (λ (z : ℕ). Fits script words' history' gate owner z u) (sym t.0) (subst (λ (z : View). Fits script words' history' gate owner id z) t.1 (fits (subst (λ (z : View). z.knows.role ≢ Spent) (sym t.1) live))))
     (λ (t : (j ≢ id) × (get_elem? views j ≡ some u)). others j u t.0 (each j u t.1 live))
     (at_set views id j w u at)
 
 -- the same, where the board stays
-pub each_set : (script : Script) (words history : List ℕ) (gate id : ℕ) (owner : ℕ → ℕ) (views : List View) (w : View) → Each script words history gate owner views
-    → (w.knows.role ≢ Spent → Fits script words history gate owner id w) → Each script words history gate owner (set views id w)
+pub each_set : (script : Script) (words history : List ℕ) (gate id : ℕ) (owner : ℕ → ℕ) (views : List View) (w : View) → EachView script words history gate owner views
+    → (w.knows.role ≢ Spent → Fits script words history gate owner id w) → EachView script words history gate owner (set views id w)
 each_set script words history gate id owner views w each fits = each_step script words words history history gate id owner views w each fits (λ j u n f. f)
 
-pub each_push : (script : Script) (words history : List ℕ) (gate : ℕ) (owner : ℕ → ℕ) (views : List View) (w : View) → Each script words history gate owner views
-    → ((j : ℕ) → Fits script words history gate owner j w) → Each script words history gate owner (views ++ w ∷ [])
+pub each_push : (script : Script) (words history : List ℕ) (gate : ℕ) (owner : ℕ → ℕ) (views : List View) (w : View) → EachView script words history gate owner views
+    → ((j : ℕ) → Fits script words history gate owner j w) → EachView script words history gate owner (views ++ w ∷ [])
 each_push script words history gate owner views w each fits j u at live = ⊎_elim
     (λ (t : get_elem? views j ≡ some u). each j u t live)
     (λ (t : w ≡ u). subst (λ (z : View). Fits script words history gate owner j z) t (fits j))
@@ -114,7 +114,7 @@ none_distinct : IsDistinct eqb []
 unfolding IsDistinct
 none_distinct = tt
 
-first_each : (script : Script) (words : List ℕ) → ((k : ℕ) → slice_index words k ≡ 0) → Each script words [] 0 (λ q. 0) (first script ∷ [])
+first_each : (script : Script) (words : List ℕ) → ((k : ℕ) → slice_index words k ≡ 0) → EachView script words [] 0 (λ q. 0) (first script ∷ [])
 first_each script words zeros zero v at live = subst (λ (z : View). Fits script words [] 0 (λ q. 0) 0 z) (some-injective (first script) v at) record {
   of_script = refl;
   is_gate = λ e. refl;

@@ -68,18 +68,18 @@ abbrev pub word_of : ℕ → ℕ
 word_of q = q + 1
 
 -- the seat has this view, which isn't spent
-abbrev pub IsAt : State ℕ View → ℕ → View → Type 0
-IsAt s seat v = (get_elem? s.views seat ≡ some v) × (v.knows.role ≢ Spent)
+abbrev pub IsViewAt : State ℕ View → ℕ → View → Type 0
+IsViewAt s seat v = (get_elem? s.views seat ≡ some v) × (v.knows.role ≢ Spent)
 
 -- the property holds of each seat and its view, unless the view is spent
-abbrev pub Each : State ℕ View → (ℕ → View → Type 0) → Type 0
-Each s Fact = (seat : ℕ) (v : View) → IsAt s seat v → Fact seat v
+abbrev pub AllViews : State ℕ View → (ℕ → View → Type 0) → Type 0
+AllViews s Fact = (seat : ℕ) (v : View) → IsViewAt s seat v → Fact seat v
 
 -- the gate's seat has the gate's view, no other has one, and at most one seat has the role of each shard
 pub record OneOfEach (s : State ℕ View) (gate : ℕ) (owner : ℕ → ℕ) : Type 0 where
-  pub there : (v : View) × IsAt s gate v × (v.knows.role ≡ Gate)
-  pub one_gate : Each s (λ seat v. v.knows.role ≡ Gate → seat ≡ gate)
-  pub one_shard : Each s (λ seat v. (q : ℕ) → has_role v.knows q ≡ true → seat ≡ owner q)
+  pub there : (v : View) × IsViewAt s gate v × (v.knows.role ≡ Gate)
+  pub one_gate : AllViews s (λ seat v. v.knows.role ≡ Gate → seat ≡ gate)
+  pub one_shard : AllViews s (λ seat v. (q : ℕ) → has_role v.knows q ≡ true → seat ≡ owner q)
 
 -- each seen list begins the history, which is the list of the gate's view
 pub record BeginsIn (history : List ℕ) (v : View) : Type 0 where
@@ -113,17 +113,17 @@ pub record Ruled (script : Script) (s : State ℕ View) : Type 0 where
   pub gate : ℕ
   pub owner : ℕ → ℕ
   -- all views hold one script
-  pub one_script : Each s (λ _ v. v.script ≡ script)
+  pub one_script : AllViews s (λ _ v. v.script ≡ script)
   -- one view is the gate's, and at most one is each shard's
   pub one_of_each : OneOfEach s gate owner
   -- each seen list is a prefix of the gate's, whose numbers are distinct calls
-  pub prefixes : Each s (λ _ v. BeginsIn history v) × AreCalls script history
+  pub prefixes : AllViews s (λ _ v. BeginsIn history v) × AreCalls script history
   -- word 0 is the length of the gate's list
   pub count : slice_index s.words 0 ≡ length history
   -- each known mark is at most the word
-  pub marks : Each s (λ _ v. (q : ℕ) → IsBelow s.words q v.knows)
+  pub marks : AllViews s (λ _ v. (q : ℕ) → IsBelow s.words q v.knows)
   -- a shard's own known mark is exactly its word and at most the length of its seen list
-  pub own_marks : Each s (λ _ v. (q : ℕ) → has_role v.knows q ≡ true → IsExact s.words q v.knows)
+  pub own_marks : AllViews s (λ _ v. (q : ℕ) → has_role v.knows q ≡ true → IsExact s.words q v.knows)
   pub sizes : Sizes script s.words
 
 -- Steps

@@ -11,7 +11,7 @@ use Rattle.mv_chain.specs.Versions.{Versions, Commit, IsAboveAll, own_of, collec
 use Rattle.mv_store.specs.Stored.{Entries}
 use Rattle.mv_store.specs.declared.written_keys.Written.{Written}
 use Rattle.mv_store.specs.declared.change.Change.TheVariants.{Collect}
-use Rattle.mv_store.specs.Kept.{versions_at, Noted, is_table_key, is_due, table_keys_of, HasTableKey, HasEntry, Climb, IsKept, after_change, KeepsRows, done_at, AreDone, AreCollected}
+use Rattle.mv_store.specs.Kept.{versions_at, Noted, is_table_key, is_due, table_keys_of, HasTableKey, HasEntry, Climb, AreKeptVersions, after_change, KeepsRows, done_at, AreDone, AreCollected}
 use Rattle.mv_store.proofs.Noted.{entry_rest, climb_from, none_due}
 use Rattle.mv_store.proofs.Done.{done_hit, done_miss, rows_then}
 
@@ -109,7 +109,7 @@ module _ (low : ℕ) (now new : List Entries) (w : Written) (done : AreDone (aft
     rows = λ u key. rows_then (Collect low) (versions_at old u key) (versions_at now u key) (versions_at new u key) (h.rows u key) (rows u key);
   }
 
-  pub one_kept : (table_keys rest : Noted) (last : ℕ) → IsKept now table_keys last → rest.calls ≡ table_keys.calls → w.commit ≤ low → table_keys.commits ≡ w ∷ rest.commits → IsKept new rest last
+  pub one_kept : (table_keys rest : Noted) (last : ℕ) → AreKeptVersions now table_keys last → rest.calls ≡ table_keys.calls → w.commit ≤ low → table_keys.commits ≡ w ∷ rest.commits → AreKeptVersions new rest last
   one_kept table_keys rest last kept calls le is = record {
     rising = done.rising kept.rising;
     filled = done.filled kept.filled;
@@ -123,7 +123,7 @@ pub noted_same : (a b : Noted) → a.calls ≡ b.calls → a.commits ≡ b.commi
 noted_same a b h k = λ i. record { calls = h i; commits = k i }
 
 -- all that is due was collected
-pub all_collected : (low last : ℕ) (old now : List Entries) (table_keys : Noted) → IsKept now table_keys last → is_due low table_keys.commits ≡ false → IsUnderway low old now → AreCollected low old now
+pub all_collected : (low last : ℕ) (old now : List Entries) (table_keys : Noted) → AreKeptVersions now table_keys last → is_due low table_keys.commits ≡ false → IsUnderway low old now → AreCollected low old now
 all_collected low last old now table_keys kept due h = record {
   versions = record {
     size = h.size;

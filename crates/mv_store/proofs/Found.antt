@@ -15,7 +15,7 @@ use Rattle.mv_table.specs.Entries.{alone_at, picked, KeysRise}
 use Rattle.mv_table.specs.declared.scan.Direction.{Direction}
 use Rattle.mv_table.specs.declared.scan.Direction.TheVariants.{Forward, Backward}
 use Rattle.mv_table.specs.Scans.{foremost, with_foremost}
-use Rattle.mv_table.specs.Spans.{is_within, Covers}
+use Rattle.mv_table.specs.Spans.{is_within, CoversAdmitted}
 use Rattle.mv_table.proofs.Covering.{covered}
 use Rattle.mv_table.proofs.Picking.{picked_filter}
 use Rattle.mv_table.proofs.Scanning.{foremost_mapped, foremost_picked, foremost_unpicked}
@@ -46,7 +46,7 @@ matches_found n pred (e ∷ es) = by (row_at e.1 n) (matches_found n pred es)
         here false more = more
 
 -- what is found in the span that tests leave is all that there is
-pub found_within : (n : ℕ) (pred : Pred) (span : Span) (es : Entries) → Covers pred.tests span → Admitted pred (table_at n es) → stored (picked (found_in n pred) (filter (λ e. is_within span e.0) es)) ≡ matching pred (table_at n es)
+pub found_within : (n : ℕ) (pred : Pred) (span : Span) (es : Entries) → CoversAdmitted pred.tests span → Admitted pred (table_at n es) → stored (picked (found_in n pred) (filter (λ e. is_within span e.0) es)) ≡ matching pred (table_at n es)
 found_within n pred span es covers admitted =
     matches_found n pred (filter (λ e. is_within span e.0) es)
     ∙ (ap (λ l. matching pred (stored l)) (picked_filter (λ v. row_at v n) (is_within span) es)

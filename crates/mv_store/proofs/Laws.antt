@@ -25,7 +25,7 @@ use Rattle.mv_store.specs.declared.written_keys.TableKey.{TableKey}
 use Rattle.mv_store.specs.declared.written_keys.Written.{Written}
 use Rattle.mv_store.specs.declared.change.Fate.{Fate}
 use Rattle.mv_store.specs.declared.change.Fate.TheVariants.{Commit as Commits, Gone}
-use Rattle.mv_store.specs.Kept.{versions_of, versions_at, entries_at, AllRise, AreFilled, AllFilled, IsChanged, AreChanged, AllChanged, Noted, IsCovered, IsListed, AreUpTo, IsKept, HasEntry, noted_for, written_at, Climb, settled, MaySettle, AreCollected, HasTableKey, KeepsTableKeys, table_keys_of, table_keys_in}
+use Rattle.mv_store.specs.Kept.{versions_of, versions_at, entries_at, AllRise, AreFilled, AllFilled, IsChanged, AreChanged, AllChanged, Noted, IsCovered, IsListed, AreUpTo, AreKeptVersions, HasEntry, noted_for, written_at, Climb, settled, MaySettle, AreCollected, HasTableKey, KeepsTableKeys, table_keys_of, table_keys_in}
 use Rattle.mv_store.proofs.Keys.{database_same, databases_same, row_in, rows_rise, size_is}
 use Rattle.mv_store.proofs.Own.{row_done, own_same, own_none}
 use Rattle.mv_store.proofs.Filled.{tables_collected}
@@ -143,8 +143,8 @@ put_none call w s le = record {
 pub as_before : (s : Versioned) → IsAsBefore s s
 as_before s = record { reads = record { database = λ n. refl; last = refl; low = refl }; own = λ call. refl }
 
-pub put_kept : (t call last : ℕ) (key : List Value) (patch : Patch) (old new : List Entries) (table_keys now : Noted) → IsKept old table_keys last → AreChanged t key (with_patch call patch) old new
-    → KeepsTableKeys table_keys now → (is_some (own_of call (versions_at old t key).own) ≡ false → HasTableKey t key (table_keys_of now call)) → IsKept new now last
+pub put_kept : (t call last : ℕ) (key : List Value) (patch : Patch) (old new : List Entries) (table_keys now : Noted) → AreKeptVersions old table_keys last → AreChanged t key (with_patch call patch) old new
+    → KeepsTableKeys table_keys now → (is_some (own_of call (versions_at old t key).own) ≡ false → HasTableKey t key (table_keys_of now call)) → AreKeptVersions new now last
 put_kept t call last key patch old new table_keys now kept change keeps noted = record {
   rising = change.rising kept.rising;
   filled = change.filled kept.filled;
@@ -154,7 +154,7 @@ put_kept t call last key patch old new table_keys now kept change keeps noted = 
   climb = subst (λ ws. Climb 0 ws last) (sym keeps.commits) kept.climb;
 }
 
-pub table_keys_kept : (last : ℕ) (tables : List Entries) (table_keys now : Noted) → IsKept tables table_keys last → KeepsTableKeys table_keys now → IsKept tables now last
+pub table_keys_kept : (last : ℕ) (tables : List Entries) (table_keys now : Noted) → AreKeptVersions tables table_keys last → KeepsTableKeys table_keys now → AreKeptVersions tables now last
 table_keys_kept last tables table_keys now kept keeps = record {
   rising = kept.rising;
   filled = kept.filled;
@@ -226,7 +226,7 @@ all_dropped call old new rise change last low = record {
   own = settled_own Gone call old.tables new.tables rise change;
 }
 
-pub dropped_kept : (call last : ℕ) (old new : List Entries) (table_keys now : Noted) → IsKept old table_keys last → AllChanged (settled Gone call) old new → ((other : ℕ) → table_keys_of now other ≡ cond (call == other) [] (table_keys_of table_keys other)) → now.commits ≡ table_keys.commits → IsKept new now last
+pub dropped_kept : (call last : ℕ) (old new : List Entries) (table_keys now : Noted) → AreKeptVersions old table_keys last → AllChanged (settled Gone call) old new → ((other : ℕ) → table_keys_of now other ≡ cond (call == other) [] (table_keys_of table_keys other)) → now.commits ≡ table_keys.commits → AreKeptVersions new now last
 dropped_kept call last old new table_keys now kept change are same = record {
   rising = change.rising kept.rising;
   filled = change.filled kept.filled;
@@ -289,7 +289,7 @@ stamped_listed call n t key v ws o covered h = by (own_of call v.own) refl
     by None e = old
     by (Some patch) e = All-push (λ c. HasEntry c.number t key (ws ++ written_at n o)) v.commits (record { number = n; row = patched patch (newest_row v) }) old (entry_last n t key ws o (covered (ap is_some e)))
 
-pub stamped_kept : (call n last : ℕ) (old new : List Entries) (table_keys now : Noted) → IsKept old table_keys last → last < n → AllChanged (settled (Commits n) call) old new → ((other : ℕ) → table_keys_of now other ≡ cond (call == other) [] (table_keys_of table_keys other)) → now.commits ≡ table_keys.commits ++ written_at n (noted_for table_keys call) → IsKept new now n
+pub stamped_kept : (call n last : ℕ) (old new : List Entries) (table_keys now : Noted) → AreKeptVersions old table_keys last → last < n → AllChanged (settled (Commits n) call) old new → ((other : ℕ) → table_keys_of now other ≡ cond (call == other) [] (table_keys_of table_keys other)) → now.commits ≡ table_keys.commits ++ written_at n (noted_for table_keys call) → AreKeptVersions new now n
 stamped_kept call n last old new table_keys now kept lt change are more = record {
   rising = change.rising kept.rising;
   filled = change.filled kept.filled;
@@ -333,7 +333,7 @@ all_same t key old new rise change last low = record {
   own = λ call. own_same call new.tables old.tables change.size (change.rising rise) rise (λ u k. ap (λ v. own_of call v.own) (same_at t key old.tables new.tables rise change u k));
 }
 
-pub same_kept : (t last : ℕ) (key : List Value) (old new : List Entries) (table_keys now : Noted) → IsKept old table_keys last → AreChanged t key (λ v. v) old new → KeepsTableKeys table_keys now → IsKept new now last
+pub same_kept : (t last : ℕ) (key : List Value) (old new : List Entries) (table_keys now : Noted) → AreKeptVersions old table_keys last → AreChanged t key (λ v. v) old new → KeepsTableKeys table_keys now → AreKeptVersions new now last
 same_kept t last key old new table_keys now kept change keeps = record {
   rising = change.rising kept.rising;
   filled = change.filled kept.filled;
@@ -343,9 +343,9 @@ same_kept t last key old new table_keys now kept change keeps = record {
   climb = subst (λ ws. Climb 0 ws last) (sym keeps.commits) kept.climb;
 }
 
-pub put_any : {E : Type 0} (r : Result (Unit {0}) E) (t call last : ℕ) (key : List Value) (patch : Patch) (old new : List Entries) (was es : Entries) (table_keys now : Noted) → IsKept old table_keys last → t < length old → was ≡ entries_at old t
+pub put_any : {E : Type 0} (r : Result (Unit {0}) E) (t call last : ℕ) (key : List Value) (patch : Patch) (old new : List Entries) (was es : Entries) (table_keys now : Noted) → AreKeptVersions old table_keys last → t < length old → was ≡ entries_at old t
     → OnOk r (IsChanged key (with_patch call patch) was es) → OnErr r (IsChanged key (λ v. v) was es) → (AreFilled was → AreFilled es) → KeepsTableKeys table_keys now → OnOk r (is_some (own_of call (versions_of was key).own) ≡ false → HasTableKey t key (table_keys_of now call))
-    → new ≡ slice_set old t es → IsKept new now last
+    → new ≡ slice_set old t es → AreKeptVersions new now last
 put_any (Ok x) t call last key patch old new was es table_keys now kept lt is ok err full keeps noted set =
     put_kept t call last key patch old new table_keys now kept
     (tables_changed t key (with_patch call patch) old new es lt (subst (λ l. IsChanged key (with_patch call patch) l es) is ok) (subst (λ l. AreFilled l → AreFilled es) is full) set) keeps

@@ -16,7 +16,7 @@ use Rattle.mv_table.proofs.Picking.{put_last}
 use Rattle.mv_table.proofs.Storing.{taken_below}
 use Rattle.mv_chain.specs.Versions.{Versions, own_of}
 use Rattle.mv_store.specs.Stored.{Entries, picked_in, table_at, writes_from}
-use Rattle.mv_store.specs.Kept.{versions_in, versions_of, versions_at, AllRise, AreFilled, AllFilled, Noted, HasEntry, Climb, IsKept}
+use Rattle.mv_store.specs.Kept.{versions_in, versions_of, versions_at, AllRise, AreFilled, AllFilled, Noted, HasEntry, Climb, AreKeptVersions}
 use Rattle.mv_store.specs.Opened.{opened}
 use Rattle.mv_store.proofs.Keys.{nil_rises}
 use Rattle.mv_store.proofs.Filled.{IsFull}
@@ -105,7 +105,7 @@ all_full (x ∷ xs) (suc t) key = all_full xs t key
 pub opened_own : (call : ℕ) (db : List (List Keyed)) → AllRise (map opened db) → writes_from 0 (picked_in (λ v. own_of call v.own) (map opened db)) ≡ []
 opened_own call db r = own_none call (map opened db) r (λ t key. ap (own_of call) (all_new db t key).1)
 
-pub opened_kept : (db : List (List Keyed)) (tables : List Entries) (table_keys : Noted) → tables ≡ map opened db → AllRise tables → table_keys.commits ≡ [] → IsKept tables table_keys 0
+pub opened_kept : (db : List (List Keyed)) (tables : List Entries) (table_keys : Noted) → tables ≡ map opened db → AllRise tables → table_keys.commits ≡ [] → AreKeptVersions tables table_keys 0
 opened_kept db tables table_keys is rise none = record {
   rising = rise;
   filled = subst AllFilled (sym is) (all_full db);

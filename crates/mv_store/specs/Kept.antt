@@ -134,7 +134,7 @@ abbrev pub AreUpTo : ℕ → List Entries → Type 0
 AreUpTo last tables = (t : ℕ) (key : List Value) → IsAboveAll (last + 1) (versions_at tables t key)
 
 -- the invariant of the parts of a store
-pub record IsKept (tables : List Entries) (table_keys : Noted) (last : ℕ) : Type 0 where
+pub record AreKeptVersions (tables : List Entries) (table_keys : Noted) (last : ℕ) : Type 0 where
   pub rising : AllRise tables
   pub filled : AllFilled tables
   pub numbers : AreUpTo last tables

@@ -1,7 +1,7 @@
 //! Drops old versions.
 
 ghost use Rattle.std.specs.Prelude.{ℕ};
-ghost use Rattle.mv_store.specs.Kept.{IsKept, AreCollected};
+ghost use Rattle.mv_store.specs.Kept.{AreKeptVersions, AreCollected};
 
 use crate::change::{Change, change_all};
 use crate::written_keys::WrittenKeys;
@@ -12,7 +12,7 @@ use mv_table::key_map::KeyMap;
 /// that the commits up to `low` have written, and forgets them. It allocates no memory. Takes time logarithmic in the
 /// number of rows for each of these keys.
 pub(crate) fn collect_all(tables: &mut Vec<KeyMap<Chain>>, table_keys: &mut WrittenKeys, low: u32)
-    ensures { (last : ℕ) → IsKept tables.old.items table_keys.old last → AreCollected low tables.old.items tables.new.items × IsKept tables.new.items table_keys.new last }
+    ensures { (last : ℕ) → AreKeptVersions tables.old.items table_keys.old last → AreCollected low tables.old.items tables.new.items × AreKeptVersions tables.new.items table_keys.new last }
 {
     while let Some(written) = table_keys.take_due(low) {
         change_all(tables, written.table_keys.as_slice(), Change::Collect(low));

@@ -6,7 +6,7 @@ ghost use Rattle.mv_values.specs.Patching.{row_of};
 ghost use Rattle.mv_values.specs.Preds.{matched};
 ghost use Rattle.mv_table.specs.Entries.{alone_at, picked, KeysRise};
 ghost use Rattle.mv_table.specs.Scans.{foremost};
-ghost use Rattle.mv_table.specs.Spans.{Covers, IsForward};
+ghost use Rattle.mv_table.specs.Spans.{CoversAdmitted, IsForward};
 ghost use Rattle.mv_record.specs.Admitting.{Admitted};
 ghost use Rattle.mv_chain.specs.Versions.{row_at};
 ghost use Rattle.mv_view.specs.Narrowing.{matching, outside};
@@ -49,7 +49,7 @@ fn find_within(
     pred: &Pred,
 ) -> Result<Rows, NoMemory>
     requires forward { IsForward span.now }
-    requires covers { Covers pred.now.tests span.now }
+    requires covers { CoversAdmitted pred.now.tests span.now }
     requires admitted { Admitted pred.now (table_at n table.now) }
     ensures { IfOk result (λ rows. rows ≡ matching pred.now (table_at n table.now)) }
 {

@@ -41,13 +41,13 @@ pub struct Store {
 
 impl Model for Store {
     ghost use Rattle.mv_store.specs.Stored.{Versioned};
-    ghost use Rattle.mv_store.specs.Kept.{IsKept};
+    ghost use Rattle.mv_store.specs.Kept.{AreKeptVersions};
 
     ghost Value = { Versioned };
 
     ghost view = { λ s. record { tables = s.tables.items; last = s.last; low = s.low } };
 
-    ghost invariant = { λ s. IsKept s.tables.items s.table_keys s.last };
+    ghost invariant = { λ s. AreKeptVersions s.tables.items s.table_keys s.last };
 }
 
 impl Store {

@@ -37,8 +37,8 @@ abbrev pub Admits : List Test → List Value → Type 0
 Admits tests key = list_all (agrees key) tests ≡ true
 
 -- each key that the tests admit is in the span
-abbrev pub Covers : List Test → Span → Type 0
-Covers tests span = (key : List Value) → Admits tests key → is_within span key ≡ true
+abbrev pub CoversAdmitted : List Test → Span → Type 0
+CoversAdmitted tests span = (key : List Value) → Admits tests key → is_within span key ≡ true
 
 -- a predicate that holds only of rows whose keys the tests admit selects the same rows from the part as from all rows
 abbrev pub FindsAll : List Test → List Keyed → List Keyed → Type 0

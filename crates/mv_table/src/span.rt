@@ -15,7 +15,7 @@ ghost use Rattle.mv_values.specs.Order.{value_order, key_order};
 ghost use Rattle.mv_values.specs.Preds.{allows};
 ghost use Rattle.mv_table.specs.declared.span.Side.TheVariants.{Both, Low, High};
 ghost use Rattle.mv_table.specs.Scans.{NeverFallsAt, RisesAt};
-ghost use Rattle.mv_table.specs.Spans.{is_past, is_within, IsForward, Admits, Covers, FindsAll, Agrees, bounds, HoldsAt, is_place, is_bounded, are_fixed_before};
+ghost use Rattle.mv_table.specs.Spans.{is_past, is_within, IsForward, Admits, CoversAdmitted, FindsAll, Agrees, bounds, HoldsAt, is_place, is_bounded, are_fixed_before};
 
 use mv_values::copied::Copied;
 use mv_values::list::List;
@@ -261,7 +261,7 @@ impl Span {
     /// `>` and `>=` bound the key column after these. Takes time linear in the size of these values, and in the number
     /// of tests for each.
     pub fn of(alloc: Global, tests: &[Test]) -> Result<Span, NoMemory>
-        ensures covers { IfOk result (Covers tests.now) }
+        ensures covers { IfOk result (CoversAdmitted tests.now) }
         ensures forward { IfOk result IsForward }
     {
         let front = first_values(alloc, tests)?;
@@ -286,7 +286,7 @@ impl Span {
         requires forward { IsForward self.now }
         requires rising { IsRising rows.now }
         ensures part { result.now ≡ filter (λ item. is_within self.now item.key) rows.now }
-        ensures finds { (tests : List Test) → Covers tests self.now → FindsAll tests rows.now result.now }
+        ensures finds { (tests : List Test) → CoversAdmitted tests self.now → FindsAll tests rows.now result.now }
     {
         let from = rows.partition_point(
             |item: &Keyed| -> bool

@@ -7,7 +7,7 @@ use Rattle.mv_record.specs.Writes.{AreRising}
 use Rattle.mv_graph.specs.declared.graph.Graph.{Graph}
 use Rattle.mv_graph.specs.Nodes.{meaning_of}
 use Rattle.mv_exec.specs.declared.task.Task.{Task}
-use Rattle.mv_exec.specs.Running.{Leaves, IsTaskOn, IsSameCall, HasContent, GoesOnWith, EndsExactly}
+use Rattle.mv_exec.specs.Running.{HasLeft, IsTaskOn, IsSameCall, HasContent, GoesOnWith, EndsExactly}
 
 at_end : (xs ys : List Record) (x d : Record) → slice_index_or (xs ++ x ∷ ys) (length xs) d ≡ x
 at_end [] ys x d = refl
@@ -34,7 +34,7 @@ goes_on g call db old new given it one rise on all lt is content same goes = by 
         let are : given ≡ old.records = all ∙ (on.leaves ∙ (ap (λ l. old.records ++ l) e ∙ append-nil old.records)) in
         absurd (omega (arith, lt, ap length are))
     by (r ∷ rest) e =
-        let leaves : Leaves g call db old (r ∷ rest) = on.leaves ∙ ap (λ l. old.records ++ l) e in
+        let leaves : HasLeft g call db old (r ∷ rest) = on.leaves ∙ ap (λ l. old.records ++ l) e in
         let next : one ≡ r = is ∙ (ap (λ l. slice_index_or l (length old.records) one) (all ∙ leaves) ∙ at_end old.records rest r one) in
         record { is = same call on.is; rest = rest; leaves = goes call db r rest on.is rise leaves (subst (HasContent it) next content) }
 

@@ -10,7 +10,7 @@ use Rattle.mv_accept.specs.Accepting.{most_bytes, Accepts, Refuses}
 use Rattle.mv_top.specs.declared.refusal.Refusal.{Refusal}
 use Rattle.mv_top.specs.declared.refusal.NoText.{NoText}
 use Rattle.mv_top.specs.declared.refusal.NoText.TheVariants as no_text
-use Rattle.mv_top.specs.Refusing.{Causes, Tells}
+use Rattle.mv_top.specs.Refusing.{Causes, RefusesAs}
 use Rattle.mv_accept.proofs.Sizes.{accepted_are_few, too_many_are_told, too_many_are_refused}
 use Rattle.mv_values.specs.declared.calls.Options.{Options}
 use Rattle.mv_values.specs.Counts.{Rose}
@@ -19,7 +19,7 @@ use Rattle.mv_words.specs.declared.command.Command.{Command}
 use Rattle.mv_words.specs.declared.command.Command.TheVariants.{Run, Replay, Serial, Graph, Tpcc}
 use Rattle.mv_words.specs.declared.command.WordsFault.{WordsFault}
 use Rattle.mv_words.specs.declared.command.WordsFault.TheVariants as words_fault
-use Rattle.mv_words.specs.Words.{command_of, Reads}
+use Rattle.mv_words.specs.Words.{command_of, NamesCommand}
 use Rattle.mv_top.specs.declared.status.Fault.{Fault}
 use Rattle.mv_top.specs.declared.status.Fault.TheVariants as fault
 use Rattle.mv_top.specs.declared.status.Status.{Status}
@@ -126,7 +126,7 @@ pub fault_caused : (command : Command) (bytes : List ℕ) (w : NoText) (f : Faul
 fault_caused command bytes (no_text.Refused refusal) f is cause = has_cause command bytes refusal f cause is
 fault_caused command bytes no_text.NoMemory f is cause = subst (HasCause command bytes) (sym is) tt
 
-pub fault_tells : (refusal : Refusal) (w : NoText) (f : Fault) → IsFaultFor w f → Tells refusal w → IsToldBy refusal f
+pub fault_tells : (refusal : Refusal) (w : NoText) (f : Fault) → IsFaultFor w f → RefusesAs refusal w → IsToldBy refusal f
 fault_tells refusal (no_text.Refused other) f is same = subst (λ (r : Refusal). IsToldBy r f) same is
 fault_tells refusal no_text.NoMemory f is told = subst (IsToldBy refusal) (sym is) tt
 
@@ -135,5 +135,5 @@ pub same_command : (words : List (List ℕ)) (a b : Command) → StandFor words 
 same_command words a b x y = ap (λ o. unwrap_or o a) (sym x ∙ y)
 
 -- words that are read as no command say none
-pub no_command : (words : List (List ℕ)) (why : WordsFault) → why ≡ words_fault.Usage → Reads (command_of words) (Err why) → IsNoCommand words
-no_command words why is said = subst (λ (f : WordsFault). Reads (command_of words) (Err f)) is said
+pub no_command : (words : List (List ℕ)) (why : WordsFault) → why ≡ words_fault.Usage → NamesCommand (command_of words) (Err why) → IsNoCommand words
+no_command words why is said = subst (λ (f : WordsFault). NamesCommand (command_of words) (Err f)) is said

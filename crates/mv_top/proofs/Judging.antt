@@ -20,8 +20,8 @@ use Rattle.mv_words.specs.declared.command.Command.{Command}
 use Rattle.mv_words.specs.declared.command.Command.TheVariants.{Run, Replay, Serial, Graph, Tpcc}
 use Rattle.mv_top.specs.History.{work_of}
 use Rattle.mv_top.specs.Journals.{journal_lines, refusal_of, HasLawfulJournal, RefusesJournal, line, unlawful}
-use Rattle.mv_top.specs.Refusing.{Causes, Tells, of_accept}
-use Rattle.mv_top.specs.Answers.{IsTextOf, Takes, RefusesProgram, IsRefusedBy, by_script, by_program}
+use Rattle.mv_top.specs.Refusing.{Causes, RefusesAs, of_accept}
+use Rattle.mv_top.specs.Answers.{IsTextOf, AcceptsProgram, RefusesProgram, IsRefusedBy, by_script, by_program}
 
 -- a lawful journal isn't refused
 lawful_is_taken : (options : Options) (bytes : List ℕ) (p : Program) (es : List Event) (r : Refusal) → HasLawfulJournal options bytes p es → RefusesJournal options bytes p r → ⊥
@@ -46,7 +46,7 @@ text_is_taken Serial bytes answer p r t bad = bad
 text_is_taken Graph bytes answer p r t bad = bad
 text_is_taken (Tpcc load script threads options) bytes answer p r t bad = bad
 
-taken : (command : Command) (bytes : List ℕ) (p : Program) (r : Refusal) → Takes command bytes p → RefusesProgram command bytes p r → ⊥
+taken : (command : Command) (bytes : List ℕ) (p : Program) (r : Refusal) → AcceptsProgram command bytes p → RefusesProgram command bytes p r → ⊥
 taken (Run threads options) bytes p r t bad = bad
 taken (Replay options) bytes p r t bad = lawful_is_taken options bytes p t.0 r t.1 bad
 taken Serial bytes p r t bad = bad
@@ -62,14 +62,14 @@ one_refusal (Tpcc load script threads options) bytes p r q a b = absurd a
 
 -- a command that takes the program has a text, unless memory ran out
 pub only_of : (command : Command) (bytes : List ℕ) (p : Program) (result : Result (List ℕ) NoText) → IfErr result (Causes (RefusesProgram command bytes p))
-    → Takes command bytes p → IfErr result (λ f. f ≡ NoMemory)
+    → AcceptsProgram command bytes p → IfErr result (λ f. f ≡ NoMemory)
 only_of command bytes p (Ok answer) why t = tt
 only_of command bytes p (Err (Refused r)) why t = absurd (taken command bytes p r t why)
 only_of command bytes p (Err NoMemory) why t = refl
 
 -- a refusal that has its cause is told, unless memory ran out
 pub told_of : (command : Command) (bytes : List ℕ) (p : Program) (result : Result (List ℕ) NoText) → IfOk result (IsTextOf command bytes p) → IfErr result (Causes (RefusesProgram command bytes p))
-    → (r : Refusal) → RefusesProgram command bytes p r → MatchResult result (λ answer. ⊥) (Tells r)
+    → (r : Refusal) → RefusesProgram command bytes p r → MatchResult result (λ answer. ⊥) (RefusesAs r)
 told_of command bytes p (Ok answer) t why r bad = text_is_taken command bytes answer p r t bad
 told_of command bytes p (Err (Refused q)) t why r bad = one_refusal command bytes p q r why bad
 told_of command bytes p (Err NoMemory) t why r bad = tt
@@ -80,11 +80,11 @@ match_of : {A E : Type 0} (result : Result A E) (P : A → Type 0) (Q : E → Ty
 match_of (Ok x) P Q p q = p
 match_of (Err e) P Q p q = q
 
-pub text_only : (command : Command) (bytes : List ℕ) (p q : Program) (result : Result (List ℕ) NoText) → IfOk result (IsTextOf command bytes p) → (Takes command bytes p → IfErr result (λ f. f ≡ NoMemory))
-    → p ≡ q → Takes command bytes q → MatchResult result (IsTextOf command bytes q) (λ f. f ≡ NoMemory)
+pub text_only : (command : Command) (bytes : List ℕ) (p q : Program) (result : Result (List ℕ) NoText) → IfOk result (IsTextOf command bytes p) → (AcceptsProgram command bytes p → IfErr result (λ f. f ≡ NoMemory))
+    → p ≡ q → AcceptsProgram command bytes q → MatchResult result (IsTextOf command bytes q) (λ f. f ≡ NoMemory)
 text_only command bytes p q result text only same t =
     match_of result (IsTextOf command bytes q) (λ f. f ≡ NoMemory) (subst (λ (x : Program). IfOk result (IsTextOf command bytes x)) same text)
-    (only (subst (λ (x : Program). Takes command bytes x) (sym same) t))
+    (only (subst (λ (x : Program). AcceptsProgram command bytes x) (sym same) t))
 
 pub text_refused : (command : Command) (bytes : List ℕ) (p : Program) (result : Result (List ℕ) NoText) → Accepts bytes p → IfErr result (Causes (RefusesProgram command bytes p)) → IfErr result (Causes (IsRefusedBy command bytes))
 text_refused command bytes p (Ok answer) accepted why = tt
@@ -110,7 +110,7 @@ not_accepted_refused command bytes (accept.Refused r) cause = by_script r cause
 not_accepted_refused command bytes accept.NoMemory cause = tt
 
 pub not_accepted_told : (command : Command) (bytes : List ℕ) (f : NotAccepted) → ((r : ScriptRefusal) → Refuses bytes r → (f ≡ accept.Refused r) ⊎ (f ≡ accept.NoMemory)) → ((q : Program) → Accepts bytes q → f ≡ accept.NoMemory)
-    → (r : Refusal) → IsRefusedBy command bytes r → Tells r (of_accept f)
+    → (r : Refusal) → IsRefusedBy command bytes r → RefusesAs r (of_accept f)
 not_accepted_told command bytes (accept.Refused it) told only r cause =
     script_told command bytes it (λ s because. elim (told s because) [ inl e ↦ cc | inr e ↦ cc ]) (λ q accepted. (let e = only q accepted in cc)) r cause
 not_accepted_told command bytes accept.NoMemory told only r cause = tt

@@ -50,16 +50,16 @@ abbrev pub IsTextFor : Command → List ℕ → List ℕ → Type 0
 IsTextFor command bytes answer = (program : Program) × Accepts bytes program × IsTextOf command bytes program answer
 
 -- the command has a text for an accepted program: `replay` if its journal is lawful, the others always
-abbrev pub Takes : Command → List ℕ → Program → Type 0
-Takes (Run threads options) bytes program = Unit {0}
-Takes (Replay options) bytes program = (events : List Event) × HasLawfulJournal options bytes program events
-Takes Serial bytes program = Unit {0}
-Takes Graph bytes program = Unit {0}
-Takes (Tpcc load script threads options) bytes program = Unit {0}
+abbrev pub AcceptsProgram : Command → List ℕ → Program → Type 0
+AcceptsProgram (Run threads options) bytes program = Unit {0}
+AcceptsProgram (Replay options) bytes program = (events : List Event) × HasLawfulJournal options bytes program events
+AcceptsProgram Serial bytes program = Unit {0}
+AcceptsProgram Graph bytes program = Unit {0}
+AcceptsProgram (Tpcc load script threads options) bytes program = Unit {0}
 
 -- the command has a text for the program of these bytes
 abbrev pub TakesBytes : Command → List ℕ → Program → Type 0
-TakesBytes command bytes program = Accepts bytes program × Takes command bytes program
+TakesBytes command bytes program = Accepts bytes program × AcceptsProgram command bytes program
 
 -- why the command refuses an accepted program: `replay` for its journal, the others for nothing
 abbrev pub RefusesProgram : Command → List ℕ → Program → Refusal → Type 0

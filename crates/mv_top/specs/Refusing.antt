@@ -24,9 +24,9 @@ Causes Cause (Refused refusal) = Cause refusal
 Causes Cause NoMemory = Unit {0}
 
 -- it is this refusal, unless memory ran out
-abbrev pub Tells : Refusal → NoText → Type 0
-Tells refusal (Refused told) = told ≡ refusal
-Tells refusal NoMemory = Unit {0}
+abbrev pub RefusesAs : Refusal → NoText → Type 0
+RefusesAs refusal (Refused told) = told ≡ refusal
+RefusesAs refusal NoMemory = Unit {0}
 
 abbrev pub of_accept : NotAccepted → NoText
 of_accept (accept.Refused refusal) = Refused (why.Script refusal)

@@ -8,8 +8,8 @@ ghost use Rattle.mv_values.specs.declared.calls.Options.{Options as Given};
 ghost use Rattle.mv_words.specs.declared.command.Command.{Command as Task};
 ghost use Rattle.mv_words.specs.declared.command.Command.TheVariants as command;
 ghost use Rattle.mv_top.specs.declared.refusal.Refusal.{Refusal as Why};
-ghost use Rattle.mv_top.specs.Answers.{IsTextFor, IsTextOf, Takes, TakesBytes, IsRefusedBy, RefusesProgram, HasCause, IsToldBy, IsFaultFor};
-ghost use Rattle.mv_top.specs.Refusing.{Causes, Tells};
+ghost use Rattle.mv_top.specs.Answers.{IsTextFor, IsTextOf, AcceptsProgram, TakesBytes, IsRefusedBy, RefusesProgram, HasCause, IsToldBy, IsFaultFor};
+ghost use Rattle.mv_top.specs.Refusing.{Causes, RefusesAs};
 
 use crate::graphs::graph_text;
 use crate::journals::journal_text;
@@ -80,7 +80,7 @@ fn text_for<R: Threads + Wait + Sync, P: Pace>(
     ensures found { IfOk result (IsTextFor command.now bytes.now) }
     ensures only { (program : Whole) → TakesBytes command.now bytes.now program → MatchResult result (IsTextOf command.now bytes.now program) (λ f. f ≡ NoText.NoMemory) }
     ensures refused { IfErr result (Causes (IsRefusedBy command.now bytes.now)) }
-    ensures told { (refusal : Why) → IsRefusedBy command.now bytes.now refusal → MatchResult result (λ answer. ⊥) (Tells refusal) }
+    ensures told { (refusal : Why) → IsRefusedBy command.now bytes.now refusal → MatchResult result (λ answer. ⊥) (RefusesAs refusal) }
 {
     let program = program_of(alloc, bytes)?;
     text_of(rt, alloc, command, bytes, program, pace)
@@ -91,7 +91,7 @@ fn replay_text(alloc: Global, options: Options, bytes: &[u8]) -> Result<List<u8>
     ensures found { IfOk result (IsTextFor (command.Replay options) bytes.now) }
     ensures only { (program : Whole) → TakesBytes (command.Replay options) bytes.now program → MatchResult result (IsTextOf (command.Replay options) bytes.now program) (λ f. f ≡ NoText.NoMemory) }
     ensures refused { IfErr result (Causes (IsRefusedBy (command.Replay options) bytes.now)) }
-    ensures told { (refusal : Why) → IsRefusedBy (command.Replay options) bytes.now refusal → MatchResult result (λ answer. ⊥) (Tells refusal) }
+    ensures told { (refusal : Why) → IsRefusedBy (command.Replay options) bytes.now refusal → MatchResult result (λ answer. ⊥) (RefusesAs refusal) }
 {
     let program = program_of(alloc, bytes)?;
     journal_text(alloc, options, bytes, program)
@@ -102,7 +102,7 @@ fn program_of(alloc: Global, bytes: &[u8]) -> Result<Program, NoText>
     ensures found { IfOk result (Accepts bytes.now) }
     ensures only { (program : Whole) → Accepts bytes.now program → MatchResult result (λ p. p ≡ program) (λ f. f ≡ NoText.NoMemory) }
     ensures refused { (command : Task) → IfErr result (Causes (IsRefusedBy command bytes.now)) }
-    ensures told { (command : Task) (refusal : Why) → IsRefusedBy command bytes.now refusal → MatchResult result (λ p. RefusesProgram command bytes.now p refusal) (Tells refusal) }
+    ensures told { (command : Task) (refusal : Why) → IsRefusedBy command bytes.now refusal → MatchResult result (λ p. RefusesProgram command bytes.now p refusal) (RefusesAs refusal) }
     ensures whole { IfOk result IsProgram }
     ensures few { IfOk result (λ p. length p.resolved.calls ≤ most_calls) }
     ensures size { IfOk result (λ p. length bytes.now < 2 ^ 32) }
@@ -138,9 +138,9 @@ fn text_of<R: Threads + Wait + Sync, P: Pace>(
     requires few { length program.resolved.calls ≤ most_calls }
     requires size { length bytes.now < 2 ^ 32 }
     ensures found { IfOk result (IsTextOf command.now bytes.now program) }
-    ensures only { Takes command.now bytes.now program → IfErr result (λ f. f ≡ NoText.NoMemory) }
+    ensures only { AcceptsProgram command.now bytes.now program → IfErr result (λ f. f ≡ NoText.NoMemory) }
     ensures refused { IfErr result (Causes (RefusesProgram command.now bytes.now program)) }
-    ensures told { (refusal : Why) → RefusesProgram command.now bytes.now program refusal → MatchResult result (λ answer. ⊥) (Tells refusal) }
+    ensures told { (refusal : Why) → RefusesProgram command.now bytes.now program refusal → MatchResult result (λ answer. ⊥) (RefusesAs refusal) }
 {
     match command {
         Command::Run { threads, options } => {

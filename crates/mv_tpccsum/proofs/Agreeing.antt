@@ -12,17 +12,17 @@ use Rattle.mv_tpccsum.specs.declared.consistent.Orders.{Orders}
 use Rattle.mv_tpccsum.specs.Tables.{Entry, entry_of, sum_of}
 use Rattle.mv_tpccsum.specs.Consistent.{Books, district_agrees, has_largest, is_dense, is_queue, numbers_of, smallest, warehouse_agrees}
 use Rattle.mv_tpccsum.proofs.Loops.{drop_at}
-use Rattle.mv_tpccsum.specs.Grouping.{IsGroups, IsOrders, IsTotalsOf, Tells, count_at, ends_at, is_sum, orders_agree, queues, sum_at}
+use Rattle.mv_tpccsum.specs.Grouping.{IsGroups, IsOrders, IsTotalsOf, HasTotals, count_at, ends_at, is_sum, orders_agree, queues, sum_at}
 
-pub sum_told : (n : ℕ) (zs : List ℤ) (o : Option Totals) → Tells n zs o → sum_at o ≡ sum_of zs
+pub sum_told : (n : ℕ) (zs : List ℤ) (o : Option Totals) → HasTotals n zs o → sum_at o ≡ sum_of zs
 sum_told n zs None h = sym (ap sum_of h)
 sum_told n zs (Some t) h = h.sum
 
-count_told : (n : ℕ) (zs : List ℤ) (o : Option Totals) → Tells n zs o → count_at o ≡ length zs
+count_told : (n : ℕ) (zs : List ℤ) (o : Option Totals) → HasTotals n zs o → count_at o ≡ length zs
 count_told n zs None h = sym (ap (λ (l : List ℤ). length l) h)
 count_told n zs (Some t) h = h.count
 
-end_told : (n : ℕ) (zs : List ℤ) (o : Option Totals) (z : ℤ) → Tells n zs o → ends_at z o ≡ has_largest z zs
+end_told : (n : ℕ) (zs : List ℤ) (o : Option Totals) (z : ℤ) → HasTotals n zs o → ends_at z o ≡ has_largest z zs
 end_told n zs None z h = sym (ap (has_largest z) h)
 end_told n zs (Some t) z h = sym (ap (λ (m : Option ℤ). option_map_or (int_eq z) m false) h.most)
 
@@ -32,7 +32,7 @@ dense_told n zs t h =
     ∙ (ap (λ (m : Option ℤ). option_map_or (λ least. int_eq (t.most -ℤ least +ℤ pos 1) (pos (length zs))) m false) h.least
     ∙ ap (λ c. int_eq (t.most -ℤ t.least +ℤ pos 1) (pos c)) (sym h.count))
 
-queue_told : (n : ℕ) (zs : List ℤ) (o : Option Totals) (z : ℤ) → Tells n zs o → queues z o ≡ is_queue z zs
+queue_told : (n : ℕ) (zs : List ℤ) (o : Option Totals) (z : ℤ) → HasTotals n zs o → queues z o ≡ is_queue z zs
 queue_told n zs None z h = sym (ap (is_queue z) h)
 queue_told n zs (Some t) z h =
     ap (λ b. int_eq z t.most && b) (sym (dense_told n zs t h)) ∙ sym (ap (λ (m : Option ℤ). option_map_or (λ most. int_eq z most && is_dense zs) m true) h.most)

@@ -16,7 +16,7 @@ use Rattle.mv_table.specs.Entries.{item_of}
 use Rattle.mv_tpccsum.specs.declared.totals.Totals.{Totals}
 use Rattle.mv_tpccsum.specs.Tables.{Entry, entry_of, sum_of}
 use Rattle.mv_tpccsum.specs.Consistent.{largest, smallest, numbers_of}
-use Rattle.mv_tpccsum.specs.Grouping.{IsGroups, IsSmall, IsTotalsOf, Tells, with_number}
+use Rattle.mv_tpccsum.specs.Grouping.{IsGroups, IsSmall, IsTotalsOf, HasTotals, with_number}
 
 pub sum_more : (zs : List ℤ) (z : ℤ) → sum_of (zs ++ z ∷ []) ≡ sum_of zs +ℤ z
 sum_more [] z = omega (arith, ints)
@@ -36,7 +36,7 @@ smallest_more (y ∷ ys) z least e =
     let same : fold int_min y ys ≡ least = cc in
     ap Some (fold_push int_min y ys z ∙ ap (λ m. int_min m z) same)
 
-with_more : (n : ℕ) (zs : List ℤ) (z : ℤ) (o : Option Totals) → Tells n zs o → neg_ℤ (pos (2 ^ 63)) ≤ℤ z → z ≤ℤ pos (2 ^ 63) → IsTotalsOf (n + 1) (zs ++ z ∷ []) (with_number o z)
+with_more : (n : ℕ) (zs : List ℤ) (z : ℤ) (o : Option Totals) → HasTotals n zs o → neg_ℤ (pos (2 ^ 63)) ≤ℤ z → z ≤ℤ pos (2 ^ 63) → IsTotalsOf (n + 1) (zs ++ z ∷ []) (with_number o z)
 with_more n zs z None h lo hi =
     let alone : sum_of (z ∷ []) ≡ z = omega (arith, ints) in
     record {
@@ -58,7 +58,7 @@ with_more n zs z (Some t) h lo hi = record {
   high = omega (arith, ints, h.high);
 }
 
-still : (n : ℕ) (zs : List ℤ) (o : Option Totals) → Tells n zs o → Tells (n + 1) zs o
+still : (n : ℕ) (zs : List ℤ) (o : Option Totals) → HasTotals n zs o → HasTotals (n + 1) zs o
 still n zs None h = h
 still n zs (Some t) h = record {
   sum = h.sum;
@@ -86,28 +86,28 @@ numbers_more (x ∷ es) e key = go (is_eq (key_order x.0 key)) (numbers_more es 
 
 -- the groups with one more number
 pub one_more : (n : ℕ) (es : List Entry) (e : Entry) (old new : List (List Value × Totals)) (key : List Value)
-    → ((k : List Value) → Tells n (numbers_of es k) (item_of old k)) → neg_ℤ (pos (2 ^ 63)) ≤ℤ e.1 → e.1 ≤ℤ pos (2 ^ 63)
+    → ((k : List Value) → HasTotals n (numbers_of es k) (item_of old k)) → neg_ℤ (pos (2 ^ 63)) ≤ℤ e.1 → e.1 ≤ℤ pos (2 ^ 63)
     → item_of new key ≡ cond (is_eq (key_order e.0 key)) (Some (with_number (item_of old e.0) e.1)) (item_of old key)
-    → Tells (n + 1) (numbers_of (es ++ e ∷ []) key) (item_of new key)
+    → HasTotals (n + 1) (numbers_of (es ++ e ∷ []) key) (item_of new key)
 one_more n es e old new key told lo hi at = by_case (is_eq (key_order e.0 key)) refl
   where
-    by_case : (b : Bool) → is_eq (key_order e.0 key) ≡ b → Tells (n + 1) (numbers_of (es ++ e ∷ []) key) (item_of new key)
+    by_case : (b : Bool) → is_eq (key_order e.0 key) ≡ b → HasTotals (n + 1) (numbers_of (es ++ e ∷ []) key) (item_of new key)
     by_case true is =
         let same : e.0 ≡ key = exact_keys e.0 key ((Equal-is (key_order e.0 key)).0 is) in
         let numbers : numbers_of (es ++ e ∷ []) key ≡ numbers_of es key ++ e.1 ∷ [] = numbers_more es e key ∙ ap (λ b. numbers_of es key ++ cond b (e.1 ∷ []) []) is in
         let item : item_of new key ≡ Some (with_number (item_of old e.0) e.1) = at ∙ ap (λ b. cond b (Some (with_number (item_of old e.0) e.1)) (item_of old key)) is in
         let fresh = with_more n (numbers_of es e.0) e.1 (item_of old e.0) (told e.0) lo hi in
         let here = subst (λ (k : List Value). IsTotalsOf (n + 1) (numbers_of es k ++ e.1 ∷ []) (with_number (item_of old e.0) e.1)) same fresh in
-        subst (λ (zs : List ℤ). Tells (n + 1) zs (item_of new key)) (sym numbers)
-        (subst (λ (o : Option Totals). Tells (n + 1) (numbers_of es key ++ e.1 ∷ []) o) (sym item) here)
+        subst (λ (zs : List ℤ). HasTotals (n + 1) zs (item_of new key)) (sym numbers)
+        (subst (λ (o : Option Totals). HasTotals (n + 1) (numbers_of es key ++ e.1 ∷ []) o) (sym item) here)
     by_case false is =
         let numbers : numbers_of (es ++ e ∷ []) key ≡ numbers_of es key = numbers_more es e key ∙ (ap (λ b. numbers_of es key ++ cond b (e.1 ∷ []) []) is ∙ append-nil (numbers_of es key)) in
         let item : item_of new key ≡ item_of old key = at ∙ ap (λ b. cond b (Some (with_number (item_of old e.0) e.1)) (item_of old key)) is in
-        subst (λ (zs : List ℤ). Tells (n + 1) zs (item_of new key)) (sym numbers)
-        (subst (λ (o : Option Totals). Tells (n + 1) (numbers_of es key) o) (sym item) (still n (numbers_of es key) (item_of old key) (told key)))
+        subst (λ (zs : List ℤ). HasTotals (n + 1) zs (item_of new key)) (sym numbers)
+        (subst (λ (o : Option Totals). HasTotals (n + 1) (numbers_of es key) o) (sym item) (still n (numbers_of es key) (item_of old key) (told key)))
 
 -- one more number fits
-pub small : (n : ℕ) (zs : List ℤ) (o : Option Totals) → Tells n zs o → n + 1 < 2 ^ 64 → IsSmall o
+pub small : (n : ℕ) (zs : List ℤ) (o : Option Totals) → HasTotals n zs o → n + 1 < 2 ^ 64 → IsSmall o
 small n zs None h few = tt
 small n zs (Some t) h few = (omega (arith, h.few), omega (arith, ints, h.low), omega (arith, ints, h.high))
 
@@ -124,5 +124,5 @@ groups_more places place rows i item old new key z t lt is key_is z_is told lo h
     ∙ (map-append (entry_of places place) (take i rows) (item ∷ []) ∙ ap₂ (λ (k : List Value) (n : ℤ). map (entry_of places place) (take i rows) ++ (k, n) ∷ []) key_is z_is) in
     let item_is : item_of new other ≡ cond (is_eq (key_order key other)) (Some (with_number (item_of old key) z)) (item_of old other) =
     at other ∙ ap (λ (x : Totals). cond (is_eq (key_order key other)) (Some x) (item_of old other)) t_is in
-    subst (λ (es : List Entry). Tells (i + 1) (numbers_of es other) (item_of new other)) (sym more)
+    subst (λ (es : List Entry). HasTotals (i + 1) (numbers_of es other) (item_of new other)) (sym more)
     (one_more i (map (entry_of places place) (take i rows)) (key, z) old new other told lo hi item_is)

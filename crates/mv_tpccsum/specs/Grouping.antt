@@ -25,13 +25,13 @@ pub record IsTotalsOf (n : ℕ) (zs : List ℤ) (t : Totals) : Type 0 where
   pub high : t.sum ≤ℤ pos (n * 2 ^ 63)
 
 -- numbers have totals where there are any
-abbrev pub Tells : ℕ → List ℤ → Option Totals → Type 0
-Tells n zs None = zs ≡ []
-Tells n zs (Some t) = IsTotalsOf n zs t
+abbrev pub HasTotals : ℕ → List ℤ → Option Totals → Type 0
+HasTotals n zs None = zs ≡ []
+HasTotals n zs (Some t) = IsTotalsOf n zs t
 
 -- the totals of each group
 abbrev pub IsGroups : ℕ → List Entry → List (List Value × Totals) → Type 0
-IsGroups n es groups = (key : List Value) → Tells n (numbers_of es key) (item_of groups key)
+IsGroups n es groups = (key : List Value) → HasTotals n (numbers_of es key) (item_of groups key)
 
 -- the totals with one more number
 abbrev pub with_number : Option Totals → ℤ → Totals

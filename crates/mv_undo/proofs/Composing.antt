@@ -26,7 +26,7 @@ use Rattle.mv_record.specs.Writes.{is_on, writes_on, patched_by}
 use Rattle.mv_record.proofs.Patching.{writes_append, patched_append}
 use Rattle.mv_undo.specs.declared.owned.Owned.{Owned}
 use Rattle.mv_undo.specs.Owning.{IsInOrder, before, earlier}
-use Rattle.mv_undo.specs.Indexing.{owned_at, lined, writes_at, full_key, key_at, owned_on, IsIndexed, IsCut, is_up_to, counts_before, is_earlier_up_to, Does, patch_or, patch_at, DoesUpTo, AreComposed, IsComposed}
+use Rattle.mv_undo.specs.Indexing.{owned_at, lined, writes_at, full_key, key_at, owned_on, IsIndexed, IsCut, is_up_to, counts_before, is_earlier_up_to, IsComposedOf, patch_or, patch_at, DoesUpTo, AreComposed, IsComposed}
 use Rattle.mv_undo.proofs.KeyPlaces.{lt_trans}
 use Rattle.mv_undo.proofs.Indexing.{Searched, on_full, above_misses, none_on, on_append, at_more, at_last, at_take}
 use Rattle.mv_undo.proofs.Looking.{writes_are}
@@ -91,9 +91,9 @@ taken_more items (p ∷ ps) (suc i) d lt = ap (λ l. (owned_at items p).write �
 
 -- what is kept for the last place before an index, where that is on the key
 pub kept_before : (items : List Owned) (composed : List (Option Patch)) (order : List ℕ) (index place d t : ℕ) (key : List Value) → IsComposed items composed order → 0 < index → index ≤ length order → place ≡ slice_index_or order (index - 1) d
-    → is_on t key (owned_at items place).write ≡ true → Does (patch_at items composed place) (writes_on t key (writes_at items (take index order)))
+    → is_on t key (owned_at items place).write ≡ true → IsComposedOf (patch_at items composed place) (writes_on t key (writes_at items (take index order)))
 kept_before items composed order index place d t key h low high is on =
-    subst (λ p. Does (patch_at items composed p) (writes_on t key (writes_at items (take index order)))) (sym is) (λ was. kept was ∙ ap (λ ws. patched_by ws was) same)
+    subst (λ p. IsComposedOf (patch_at items composed p) (writes_on t key (writes_at items (take index order)))) (sym is) (λ was. kept was ∙ ap (λ ws. patched_by ws was) same)
   where
     p : ℕ
     p = slice_index_or order (index - 1) d
@@ -163,16 +163,16 @@ none_at_all items order index t key is = ap (λ n. writes_on t key (writes_at it
 
 -- A write behind others
 
-pub whole_last : (w : Write) (ws : List Write) (row : List Value) → w.patch ≡ Insert row → Does w.patch (ws ++ w ∷ [])
+pub whole_last : (w : Write) (ws : List Write) (row : List Value) → w.patch ≡ Insert row → IsComposedOf w.patch (ws ++ w ∷ [])
 whole_last w ws row is was = ap (λ p. patched p was) is ∙ sym (patched_append ws (w ∷ []) was ∙ ap (λ p. patched p (patched_by ws was)) is)
 
-pub delete_last : (w : Write) (ws : List Write) → w.patch ≡ Delete → Does w.patch (ws ++ w ∷ [])
+pub delete_last : (w : Write) (ws : List Write) → w.patch ≡ Delete → IsComposedOf w.patch (ws ++ w ∷ [])
 delete_last w ws is was = ap (λ p. patched p was) is ∙ sym (patched_append ws (w ∷ []) was ∙ ap (λ p. patched p (patched_by ws was)) is)
 
-pub first_alone : (w : Write) (ws : List Write) → ws ≡ [] → Does w.patch (ws ++ w ∷ [])
+pub first_alone : (w : Write) (ws : List Write) → ws ≡ [] → IsComposedOf w.patch (ws ++ w ∷ [])
 first_alone w ws none was = sym (ap (λ l. patched_by (l ++ w ∷ []) was) none)
 
-pub both_last : (first both : Patch) (w : Write) (ws : List Write) → Does first ws → ((was : Option (List Value)) → patched both was ≡ patched w.patch (patched first was)) → Does both (ws ++ w ∷ [])
+pub both_last : (first both : Patch) (w : Write) (ws : List Write) → IsComposedOf first ws → ((was : Option (List Value)) → patched both was ≡ patched w.patch (patched first was)) → IsComposedOf both (ws ++ w ∷ [])
 both_last first both w ws h made was = made was ∙ (ap (patched w.patch) (h was) ∙ sym (patched_append ws (w ∷ []) was))
 
 -- One more write
@@ -231,7 +231,7 @@ placed_more items composed o made seen (p ∷ ps) (suc at) size within new other
     )
 
 pub composed_more : (items : List Owned) (composed : List (Option Patch)) (order : List ℕ) (o : Owned) (made : Option Patch) (at : ℕ) → IsIndexed items order → IsComposed items composed order → IsCut (is_up_to items (full_key o)) order at
-    → Does (patch_or made o.write.patch) (writes_on o.write.table o.write.key (writes_at items (take at order)) ++ o.write ∷ []) → IsComposed (items ++ o ∷ []) (composed ++ made ∷ []) (insert order at (length items))
+    → IsComposedOf (patch_or made o.write.patch) (writes_on o.write.table o.write.key (writes_at items (take at order)) ++ o.write ∷ []) → IsComposed (items ++ o ∷ []) (composed ++ made ∷ []) (insert order at (length items))
 composed_more items composed order o made at ix kept cut does = record {
   size = omega (arith, kept.size, length_more composed made, length_more items o);
   each = placed_more items composed o made [] order at kept.size ix.within new others kept.each;

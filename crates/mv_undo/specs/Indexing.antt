@@ -78,13 +78,13 @@ end_in t span = end_of t span.high
 -- The patches of the writes to a key, one after the other
 
 -- the patch does what these writes do, one after the other
-abbrev pub Does : Patch → List Write → Type 0
-Does patch ws = (was : Option (List Value)) → patched patch was ≡ patched_by ws was
+abbrev pub IsComposedOf : Patch → List Write → Type 0
+IsComposedOf patch ws = (was : Option (List Value)) → patched patch was ≡ patched_by ws was
 
 -- the same, where there are writes
 abbrev pub DoesAll : Option Patch → List Write → Type 0
 DoesAll None ws = ws ≡ []
-DoesAll (Some patch) ws = Does patch ws
+DoesAll (Some patch) ws = IsComposedOf patch ws
 
 -- the patch that is kept, or the write's own where none is
 abbrev pub patch_or : Option Patch → Patch → Patch
@@ -96,7 +96,7 @@ patch_at items composed place = patch_or (slice_index_or composed place None) (o
 
 -- what is kept for a write does what these writes to its key and then itself do
 abbrev pub DoesUpTo : Owned → Option Patch → List Write → Type 0
-DoesUpTo o made seen = Does (patch_or made o.write.patch) (writes_on o.write.table o.write.key (seen ++ o.write ∷ []))
+DoesUpTo o made seen = IsComposedOf (patch_or made o.write.patch) (writes_on o.write.table o.write.key (seen ++ o.write ∷ []))
 
 -- so it is at each of these places, with the writes at the places before it, behind those already seen
 abbrev pub AreComposed : List Owned → List (Option Patch) → List Write → List ℕ → Type 0

@@ -11,7 +11,7 @@ ghost use Rattle.mv_values.specs.Order.{value_order, key_order};
 ghost use Rattle.mv_table.specs.Spans.{is_within, IsForward};
 ghost use Rattle.mv_record.specs.Writes.{writes_on};
 ghost use Rattle.mv_undo.specs.Owning.{IsInOrder, earlier};
-ghost use Rattle.mv_undo.specs.Indexing.{IsIndexed, IsComposed, IsCut, Does, is_below, is_up_to, is_earlier_up_to, end_in, key_at, lined, owned_at, owned_on, patch_or, writes_at};
+ghost use Rattle.mv_undo.specs.Indexing.{IsIndexed, IsComposed, IsCut, IsComposedOf, is_below, is_up_to, is_earlier_up_to, end_in, key_at, lined, owned_at, owned_on, patch_or, writes_at};
 ghost use Rattle.mv_undo.specs.Taking.{AreInLine};
 
 use crate::owned::Owned;
@@ -81,7 +81,7 @@ pub(crate) fn place_for(items: &[Owned], order: &[usize], write: &Write) -> usiz
     requires { IsIndexed items.now order.now }
     ensures within { result ≤ length order.now }
     ensures up_to { All (λ place. is_up_to items.now (Int (pos write.now.table) ∷ write.now.key) place ≡ true) (take result order.now) }
-    ensures composed { (number : ℕ) (composed : List (Option Patch)) (made : Option Patch) → IsComposed items.now composed order.now → Does (patch_or made write.now.patch) (writes_on write.now.table write.now.key (writes_at items.now (take result order.now)) ++ write.now ∷ []) → IsComposed (items.now ++ record { number = number; write = write.now } ∷ []) (composed ++ made ∷ []) (insert order.now result (length items.now)) }
+    ensures composed { (number : ℕ) (composed : List (Option Patch)) (made : Option Patch) → IsComposed items.now composed order.now → IsComposedOf (patch_or made write.now.patch) (writes_on write.now.table write.now.key (writes_at items.now (take result order.now)) ++ write.now ∷ []) → IsComposed (items.now ++ record { number = number; write = write.now } ∷ []) (composed ++ made ∷ []) (insert order.now result (length items.now)) }
     ensures indexed { (number : ℕ) → IsIndexed (items.now ++ record { number = number; write = write.now } ∷ []) (insert order.now result (length items.now)) }
 {
     order.partition_point(

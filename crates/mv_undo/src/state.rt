@@ -5,7 +5,7 @@ ghost use Rattle.std.specs.Option.{option_copied};
 ghost use Rattle.mv_values.specs.declared.value.Value.TheVariants.{Int};
 ghost use Rattle.mv_values.specs.declared.patch.Write.{Write};
 ghost use Rattle.mv_record.specs.Writes.{writes_on};
-ghost use Rattle.mv_undo.specs.Indexing.{IsIndexed, IsComposed, Does, DoesAll, is_up_to, patch_at, patch_or, writes_at};
+ghost use Rattle.mv_undo.specs.Indexing.{IsIndexed, IsComposed, IsComposedOf, DoesAll, is_up_to, patch_at, patch_or, writes_at};
 
 use crate::lookup::write_at;
 use crate::owned::Owned;
@@ -60,7 +60,7 @@ fn patch_after(
     first: Option<&Patch>,
     write: &Write,
 ) -> Result<Option<Patch>, NoMemory>
-    ensures { IfOk result (λ made. (ws : List Write) → DoesAll (option_copied first.entry) ws → Does (patch_or made write.now.patch) (ws ++ write.now ∷ [])) }
+    ensures { IfOk result (λ made. (ws : List Write) → DoesAll (option_copied first.entry) ws → IsComposedOf (patch_or made write.now.patch) (ws ++ write.now ∷ [])) }
 {
     match first {
         Some(patch) => Ok(Some(compose(alloc, patch, &write.patch)?)),
@@ -82,7 +82,7 @@ pub(crate) fn patch_with(
     requires composed { IsComposed items.now composed.now order.now }
     requires within { index ≤ length order.now }
     requires up_to { All (λ place. is_up_to items.now (Int (pos write.now.table) ∷ write.now.key) place ≡ true) (take index order.now) }
-    ensures { IfOk result (λ made. Does (patch_or made write.now.patch) (writes_on write.now.table write.now.key (writes_at items.now (take index order.now)) ++ write.now ∷ [])) }
+    ensures { IfOk result (λ made. IsComposedOf (patch_or made write.now.patch) (writes_on write.now.table write.now.key (writes_at items.now (take index order.now)) ++ write.now ∷ [])) }
 {
     match &write.patch {
         Patch::Insert(_) => Ok(None),

@@ -10,7 +10,7 @@ use Rattle.mv_words.specs.declared.command.Command.{Command}
 use Rattle.mv_words.specs.declared.command.Command.TheVariants.{Run, Replay, Serial, Graph}
 use Rattle.mv_words.specs.declared.command.WordsFault.{WordsFault}
 use Rattle.mv_words.specs.declared.reading.Given.{Given}
-use Rattle.mv_words.specs.Words.{within, number, nothing, once, given, is_equals, is_joined, with_script, given_by, gives_load, is_nothing, load_of, options_of, run_with, replay_with, tpcc_with, command_with, command_of, Reads, HasLoad}
+use Rattle.mv_words.specs.Words.{within, number, nothing, once, given, is_equals, is_joined, with_script, given_by, gives_load, is_nothing, load_of, options_of, run_with, replay_with, tpcc_with, command_with, command_of, NamesCommand, HasLoad}
 
 -- What holds of a value, whichever way it came
 
@@ -99,6 +99,6 @@ words_fit [] = tt
 words_fit (name ∷ words) = follow IsFit HasLoad (command_with name) (given_by nothing words) (given_by_fits nothing words (tt, tt)) (λ g fit. command_fits name g fit)
 
 -- a command that is read has a load in its range
-pub load_read : (words : List (List ℕ)) (r : Result Command WordsFault) → Reads (command_of words) r → IfOk r HasLoad
+pub load_read : (words : List (List ℕ)) (r : Result Command WordsFault) → NamesCommand (command_of words) r → IfOk r HasLoad
 load_read words (Ok command) said = subst (λ (o : Option Command). IfSome o HasLoad) said (words_fit words)
 load_read words (Err fault) said = tt

@@ -13,7 +13,7 @@ use Rattle.clap.specs.declared.parser.matches.ArgMatches.{ArgMatches}
 use Rattle.mv_words.specs.declared.command.Command.{Command}
 use Rattle.mv_words.specs.declared.command.WordsFault.{WordsFault}
 use Rattle.mv_words.specs.declared.command.WordsFault.TheVariants.{Usage, NoMemory}
-use Rattle.mv_words.specs.Words.{Reads, command_of}
+use Rattle.mv_words.specs.Words.{NamesCommand, command_of}
 use Rattle.mv_words.specs.Program.{command_in, has_escape, program}
 use Rattle.mv_words.proofs.Turns.{if_none}
 use Rattle.mv_words.proofs.Said.{said}
@@ -45,15 +45,15 @@ is_usage Usage = true
 is_usage NoMemory = false
 
 pub fault_said : (words : List Text) (a : App) (e : Error) (fault : WordsFault) → has_escape words ≡ false → a ≡ program → HasKind (fault_of a words) e → (kind_of e ≡ OutOfMemory → fault ≡ NoMemory)
-    → Reads (command_of words) (Err fault)
+    → NamesCommand (command_of words) (Err fault)
 fault_said words a e NoMemory plain is has memory = tt
 fault_said words a e Usage plain is (inl out) memory = absurd (true≢false (ap is_usage (memory out)))
 fault_said words a e Usage plain is (inr among) memory =
     sym (unescaped words plain) ∙ ap (λ (b : App). if_none (fault_of b words) (found words)) (sym is) ∙ some_fault (kind_of e) (fault_of a words) (found words) among
 
-pub told : (said o : Option Command) (r : Result Command WordsFault) → o ≡ said → r ≡ ok_or o Usage → Reads said r
-told said o r is answer = subst (Reads said) (sym (answer ∙ ap (λ x. ok_or x Usage) is)) (own said)
+pub told : (said o : Option Command) (r : Result Command WordsFault) → o ≡ said → r ≡ ok_or o Usage → NamesCommand said r
+told said o r is answer = subst (NamesCommand said) (sym (answer ∙ ap (λ x. ok_or x Usage) is)) (own said)
   where
-    own : (x : Option Command) → Reads x (ok_or x Usage)
+    own : (x : Option Command) → NamesCommand x (ok_or x Usage)
     own None = refl
     own (Some command) = refl

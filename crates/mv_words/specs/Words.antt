@@ -115,10 +115,10 @@ command_of [] = None
 command_of (name ∷ words) = option_and_then (command_with name) (given_by nothing words)
 
 -- what is read is the command that the words say; words that say none are a fault; memory may run out
-abbrev pub Reads : Option Command → Result Command WordsFault → Type 0
-Reads said (Ok command) = said ≡ Some command
-Reads said (Err Usage) = said ≡ None
-Reads said (Err NoMemory) = Unit {0}
+abbrev pub NamesCommand : Option Command → Result Command WordsFault → Type 0
+NamesCommand said (Ok command) = said ≡ Some command
+NamesCommand said (Err Usage) = said ≡ None
+NamesCommand said (Err NoMemory) = Unit {0}
 
 -- a script can be generated for the command's load
 abbrev pub HasLoad : Command → Type 0

@@ -4,7 +4,7 @@ ghost use Rattle.std.specs.Prelude.{◌≡◌, ◌≢◌, IfOk, map};
 ghost use Rattle.clap.specs.Words.{count_of, found_of, rows_of, subcommand_rows_of};
 ghost use Rattle.clap.specs.declared.error.kind.ErrorKind.TheVariants.{OutOfMemory};
 ghost use Rattle.mv_words.specs.declared.command.WordsFault.TheVariants.{Usage, NoMemory};
-ghost use Rattle.mv_words.specs.Words.{Reads, HasLoad, number, gives_load, is_nothing, usual, options_of, load_of, run_with, replay_with, tpcc_with, command_with, command_of, words_of};
+ghost use Rattle.mv_words.specs.Words.{NamesCommand, HasLoad, number, gives_load, is_nothing, usual, options_of, load_of, run_with, replay_with, tpcc_with, command_with, command_of, words_of};
 ghost use Rattle.mv_words.specs.Program.{command_in, flag_by, given_in, has_escape, number_by, values_of};
 
 use crate::command::{Command, WordsFault};
@@ -36,7 +36,7 @@ fn usual() -> Options
 /// 4294967295, and `--script`. The other commands take none. Fails with `Usage` for all other words, and with `NoMemory`
 /// when memory runs out.
 pub fn read_words(alloc: Global, words: &[String]) -> Result<Command, WordsFault>
-    ensures said { Reads (command_of (words_of words.now)) result }
+    ensures said { NamesCommand (command_of (words_of words.now)) result }
     ensures load { IfOk result HasLoad }
 {
     if has_escape(words) {

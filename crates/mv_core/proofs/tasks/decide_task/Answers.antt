@@ -7,7 +7,7 @@ use Rattle.mv_lawful.specs.Lawful.{Live, is_stale}
 use Rattle.mv_core.specs.Scripts.{work_of}
 use Rattle.mv_core.specs.Calls.{IsLive, IsLiveCall}
 use Rattle.mv_core.specs.Books.{work_in}
-use Rattle.mv_core.specs.Cores.{IsRunning, IsLiveTask, IsRepaired, HasTurns}
+use Rattle.mv_core.specs.Cores.{IsRunningIn, IsLiveTask, IsRepaired, HasTurns}
 use Rattle.mv_core.proofs.Stored.{stored_same}
 use Rattle.mv_core.proofs.Taking.{due_live, due_now, due_first, task_runs, task_back, task_given}
 use Rattle.mv_core.proofs.Changed.{on_new, on_old, running_same, allowed_same, due_decided, committed_after}
@@ -18,7 +18,7 @@ settle-requires-clause-number c = due_first c.args.book.now c.args.call c.finish
 
 pub repair_task-requires-clause-call : goal.repair_task-requires-clause-call
 repair_task-requires-clause-call c =
-    let r : IsRunning c.args.book.now c.args.store.now c.args.call c.finish_task.new.running =
+    let r : IsRunningIn c.args.book.now c.args.store.now c.args.call c.finish_task.new.running =
     record { stored = c.requires.call.stored; live = c.requires.call.live; number = c.requires.call.number; task = c.finish_task.ensures.task } in
     running_same c.args.book.now c.settle.new.self c.args.store.now c.args.call c.finish_task.new.running c.settle.ensures.same r
 

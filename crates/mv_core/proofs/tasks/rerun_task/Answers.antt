@@ -8,7 +8,7 @@ use Rattle.mv_lawful.specs.Lawful.{Live, is_stale}
 use Rattle.mv_core.specs.Scripts.{work_of}
 use Rattle.mv_core.specs.Calls.{IsLive, IsLiveCall}
 use Rattle.mv_core.specs.Books.{IsSame}
-use Rattle.mv_core.specs.Cores.{IsRunning, IsLiveTask, IsRepaired, HasTurns}
+use Rattle.mv_core.specs.Cores.{IsRunningIn, IsLiveTask, IsRepaired, HasTurns}
 use Rattle.mv_core.proofs.Taking.{due_first}
 use Rattle.mv_core.proofs.Changed.{same_both, on_new, on_old, running_same, allowed_same, room_less, due_restarted, due_made, made_after}
 use Rattle.mv_core.proofs.tasks.rerun_task.Goals as goal
@@ -30,7 +30,7 @@ returns-in_err-reserve-clause-task c = always_err c.from_residual-in_err-reserve
 
 pub repair_task-requires-clause-call : goal.repair_task-requires-clause-call
 repair_task-requires-clause-call c =
-    let r : IsRunning c.args.book.now c.args.store.now c.args.call c.finish_task.new.running =
+    let r : IsRunningIn c.args.book.now c.args.store.now c.args.call c.finish_task.new.running =
     record { stored = c.requires.call.stored; live = c.requires.call.live; number = c.requires.call.number; task = c.finish_task.ensures.task } in
     running_same c.args.book.now c.reserve.new.self c.args.store.now c.args.call c.finish_task.new.running (same_both c.args.book.now c.settle.new.self c.reserve.new.self c.settle.ensures.same c.reserve.ensures.same) r
 

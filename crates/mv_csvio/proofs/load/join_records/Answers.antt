@@ -4,7 +4,7 @@ use Rattle.csv.specs.Reading.{strip_bom}
 use Rattle.csv.specs.Records.{fields_of}
 use Rattle.csv.specs.declared.parser.State.TheVariants as st
 use Rattle.mv_csvio.specs.Fields.{IsRow}
-use Rattle.mv_csvio.specs.Reading.{StandsAt}
+use Rattle.mv_csvio.specs.Reading.{ReadsFrom}
 use Rattle.mv_csvio.proofs.Loaded.{counted, loaded_all, loaded_more, loaded_none, more_reached, none_reached, number_more, shorter, tells_duplicate, tells_no_row}
 use Rattle.mv_csvio.proofs.load.join_records.Goals as goal
 
@@ -37,7 +37,7 @@ loop-fields-smaller c =
     let inv = c.loop-fields.invariant in
     let read = rw c.if-branch.true at (c.in_ok-has_read.ensures inv.1 inv.2 inv.3) in
     let less = shorter c.args.block.now inv.0 inv.1 read.0 inv.2 read.1 (fields_of c.has_read.new.fields) inv.4 read.2 in
-    rw (StandsAt.bytes read.3, StandsAt.bytes inv.3) less
+    rw (ReadsFrom.bytes read.3, ReadsFrom.bytes inv.3) less
 
 pub loop-fields-preserved : goal.loop-fields-preserved
 loop-fields-preserved c =

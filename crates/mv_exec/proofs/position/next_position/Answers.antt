@@ -1,5 +1,5 @@
 use Rattle.std.proofs.Common.{not, refl, sym, ap, ◌∙◌}
-use Rattle.mv_exec.specs.Ahead.{GoesOn}
+use Rattle.mv_exec.specs.Ahead.{IsNextPlace}
 use Rattle.mv_exec.specs.Places.{block_in}
 use Rattle.mv_exec.proofs.Positioning.{some_place, turn_there, none_there, goes_on, some_node, node_tells}
 use Rattle.mv_exec.proofs.position.next_position.Goals as goal
@@ -20,7 +20,7 @@ unreachable-requires-in_default-statement_at c =
     (not c.is_before_end-turn.result) c.requires.task c.requires.live c.as_slice.ensures c.in-Some.ensures (c.block-block.ensures ∙ ap (block_in c.args.graph.now.procedure c.in-Some.last.holder) c.holder_of.ensures)
     c.is_before_end-turn.ensures refl c.place_due-place.ensures (sym c.in_default-statement_at.ensures)
 
-go : (c : After-node_at) → GoesOn c.args.graph.now.procedure c.args.task.now c.place_due-place.result c.in-Some-statement_at.statement.now (not c.is_before_end-turn.result)
+go : (c : After-node_at) → IsNextPlace c.args.graph.now.procedure c.args.task.now c.place_due-place.result c.in-Some-statement_at.statement.now (not c.is_before_end-turn.result)
 go c =
     goes_on c.args.graph.now.procedure c.args.task.now c.as_slice.result.now c.in-Some.outer.now c.in-Some.last c.place_due-place.result c.block-block.result.now c.in-Some-statement_at.statement.now
     c.is_before_end-turn.result (not c.is_before_end-turn.result) c.as_slice.ensures c.in-Some.ensures

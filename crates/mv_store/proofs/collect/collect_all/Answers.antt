@@ -1,6 +1,6 @@
 use Rattle.std.proofs.Common.{sym, subst}
 use Rattle.mv_store.specs.declared.change.Change.TheVariants.{Collect}
-use Rattle.mv_store.specs.Kept.{IsKept, after_change, AreDone}
+use Rattle.mv_store.specs.Kept.{AreKeptVersions, after_change, AreDone}
 use Rattle.mv_store.proofs.Collecting.{none_collected, one_collected, one_kept, all_collected, noted_same}
 use Rattle.mv_store.proofs.collect.collect_all.Goals as goal
 
@@ -23,5 +23,5 @@ returns c = λ last kept.
     let now = c.loop-written.tables.items in
     let before = c.loop-written.invariant last kept in (
       all_collected c.args.low last c.args.tables.now.items now c.loop-written.table_keys before.1 c.in_default.ensures.rest.1 before.0,
-      subst (λ s. IsKept now s last) (sym (noted_same c.take_due.new.self c.loop-written.table_keys c.in_default.ensures.calls c.in_default.ensures.rest.0)) before.1,
+      subst (λ s. AreKeptVersions now s last) (sym (noted_same c.take_due.new.self c.loop-written.table_keys c.in_default.ensures.calls c.in_default.ensures.rest.0)) before.1,
     )

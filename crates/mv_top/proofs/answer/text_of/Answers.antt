@@ -3,19 +3,19 @@ use Rattle.mv_words.specs.declared.command.Command.{Command}
 use Rattle.mv_words.specs.declared.command.Command.TheVariants.{Replay}
 use Rattle.mv_top.specs.declared.refusal.Refusal.{Refusal}
 use Rattle.mv_top.specs.declared.refusal.NoText.TheVariants.{NoMemory}
-use Rattle.mv_top.specs.Refusing.{Tells}
-use Rattle.mv_top.specs.Answers.{IsTextOf, Takes, RefusesProgram}
+use Rattle.mv_top.specs.Refusing.{RefusesAs}
+use Rattle.mv_top.specs.Answers.{IsTextOf, AcceptsProgram, RefusesProgram}
 use Rattle.mv_top.proofs.Judging.{only_of, told_of}
 use Rattle.mv_top.proofs.answer.text_of.Goals as goal
 
 pub returns-in-Replay-clause-only : goal.returns-in-Replay-clause-only
 returns-in-Replay-clause-only g c =
-    subst (λ (k : Command). Takes k c.args.bytes.now c.args.program → IfErr c.journal_text.result (λ f. f ≡ NoMemory)) (sym c.in-Replay.is)
+    subst (λ (k : Command). AcceptsProgram k c.args.bytes.now c.args.program → IfErr c.journal_text.result (λ f. f ≡ NoMemory)) (sym c.in-Replay.is)
     (only_of (Replay c.in-Replay.options) c.args.bytes.now c.args.program c.journal_text.result c.journal_text.ensures.refused)
 
 pub returns-in-Replay-clause-told : goal.returns-in-Replay-clause-told
 returns-in-Replay-clause-told g c =
-    subst (λ (k : Command). (refusal : Refusal) → RefusesProgram k c.args.bytes.now c.args.program refusal → MatchResult c.journal_text.result (λ answer. ⊥) (Tells refusal)) (sym c.in-Replay.is)
+    subst (λ (k : Command). (refusal : Refusal) → RefusesProgram k c.args.bytes.now c.args.program refusal → MatchResult c.journal_text.result (λ answer. ⊥) (RefusesAs refusal)) (sym c.in-Replay.is)
     (told_of (Replay c.in-Replay.options) c.args.bytes.now c.args.program c.journal_text.result c.journal_text.ensures.text c.journal_text.ensures.refused)
 
 pub returns-in_ok-run_text-in-Run-clause-found : goal.returns-in_ok-run_text-in-Run-clause-found

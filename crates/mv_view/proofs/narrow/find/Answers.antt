@@ -3,7 +3,7 @@ use Rattle.std.specs.Prelude.{IfOk}
 use Rattle.std.proofs.lemmas.List.Kept.{AllPairs-filter}
 use Rattle.mv_values.specs.Keys.{IsRising, IsBelow}
 use Rattle.mv_values.specs.Preds.{matches}
-use Rattle.mv_table.specs.Spans.{is_within, Covers}
+use Rattle.mv_table.specs.Spans.{is_within, CoversAdmitted}
 use Rattle.mv_view.proofs.narrow.find.Goals as goal
 
 pub copy_matches-requires : goal.copy_matches-requires
@@ -12,5 +12,5 @@ copy_matches-requires c =
 
 pub returns : goal.returns
 returns c =
-    let covers = subst (λ tests. Covers tests c.in_ok-span.span) c.as_slice.ensures c.in_ok-span.ensures.covers in
+    let covers = subst (λ tests. CoversAdmitted tests c.in_ok-span.span) c.as_slice.ensures c.in_ok-span.ensures.covers in
     subst (λ rows. IfOk c.copy_matches.result (λ found. found ≡ rows)) (c.part.ensures.finds c.args.pred.now.tests covers (λ item. matches c.args.pred.now item.row) c.requires.admitted) c.copy_matches.ensures

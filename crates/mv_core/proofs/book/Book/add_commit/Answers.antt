@@ -7,7 +7,7 @@ use Rattle.mv_core.specs.Lives.{live_numbers, without}
 use Rattle.mv_core.specs.Calls.{IsLive, live_of, turns_in, committed, with_own}
 use Rattle.mv_core.specs.Books.{Booked, last_run, last_changes, commit_event, own_number, IsAlone, IsOwnNumber}
 use Rattle.mv_core.specs.Scripts.{work_of}
-use Rattle.mv_core.proofs.Keeping.{live_leaves, the_course, here_at, Here, few_inside, within, commit_live, number_fits, room_here, settled_here, rounds_committed, kept_commit, commit_after, map_changed, made_on, free_on, room_left}
+use Rattle.mv_core.proofs.Keeping.{live_leaves, the_course, here_at, IsProgressAt, few_inside, within, commit_live, number_fits, room_here, settled_here, rounds_committed, kept_commit, commit_after, map_changed, made_on, free_on, room_left}
 use Rattle.mv_core.proofs.Lives.{without_only}
 use Rattle.mv_core.proofs.Recents.{recent_long, recent_remembered}
 use Rattle.mv_core.proofs.book.Book.add_commit.Goals as goal
@@ -18,13 +18,13 @@ overflow_cast-start c = let few : length c.self.inside.order.items < 2 ^ 32 = fe
 pub index_mut-requires : goal.index_mut-requires
 index_mut-requires c = let lt : c.args.call < length c.self.inside.calls.items = within c.self.inside c.args.self.now c.args.call c.self.view_is (commit_live c.args.self.now (own_number (option_copied c.args.exclusive)) c.args.call c.requires.allowed) in search (rules, lt)
 
-first : (c : goal.After-index_mut) → (l : Live) × IsLive c.args.self.now.course c.args.call l × Here c.self.inside.calls.items c.args.call l c.index_mut.result.now
+first : (c : goal.After-index_mut) → (l : Live) × IsLive c.args.self.now.course c.args.call l × IsProgressAt c.self.inside.calls.items c.args.call l c.index_mut.result.now
 first c = here_at c.self.inside c.args.self.now c.args.call c.index_mut.result.now c.self.view_is (commit_live c.args.self.now (own_number (option_copied c.args.exclusive)) c.args.call c.requires.allowed) c.index_mut.ensures.value
 
 pub commit-requires : goal.commit-requires
 commit-requires c = let has : 1 ≤ c.index_mut.result.now.rounds.room = room_here c.self.inside c.args.self.now c.args.call 1 c.index_mut.result.now c.self.view_is (first c).2.at c.requires.room in omega (arith, has)
 
-here : (c : goal.After-put-2) → (l : Live) × IsLive c.args.self.now.course c.args.call l × Here c.self.inside.calls.items c.args.call l c.index_mut.result.now
+here : (c : goal.After-put-2) → (l : Live) × IsLive c.args.self.now.course c.args.call l × IsProgressAt c.self.inside.calls.items c.args.call l c.index_mut.result.now
 here c = here_at c.self.inside c.args.self.now c.args.call c.index_mut.result.now c.self.view_is (commit_live c.args.self.now (own_number (option_copied c.args.exclusive)) c.args.call c.requires.allowed) c.index_mut.ensures.value
 
 pub overflow_add-number : goal.overflow_add-number

@@ -3,11 +3,11 @@ use Rattle.mv_journal.specs.declared.event.Event.TheVariants.{S}
 use Rattle.mv_lawful.specs.Lawful.{Live}
 use Rattle.mv_core.specs.Calls.{IsLive}
 use Rattle.mv_core.specs.Scripts.{work_of}
-use Rattle.mv_core.proofs.Keeping.{live_stays, the_course, here_at, Here, map_changed, kept_one, step_live, steps_fit, made_on, free_on, room_left}
+use Rattle.mv_core.proofs.Keeping.{live_stays, the_course, here_at, IsProgressAt, map_changed, kept_one, step_live, steps_fit, made_on, free_on, room_left}
 use Rattle.mv_core.proofs.Recents.{recent_set}
 use Rattle.mv_core.proofs.book.Book.ran.Goals as goal
 
-here : (c : goal.After-self-1) → (l : Live) × IsLive c.args.self.now.course c.args.call l × Here c.self.inside.calls.items c.args.call l c.index_mut.result.now
+here : (c : goal.After-self-1) → (l : Live) × IsLive c.args.self.now.course c.args.call l × IsProgressAt c.self.inside.calls.items c.args.call l c.index_mut.result.now
 here c = here_at c.self.inside c.args.self.now c.args.call c.index_mut.result.now c.self.view_is (step_live c.args.self.now c.args.call c.requires.allowed) c.index_mut.ensures.value
 
 pub overflow_add-index_mut : goal.overflow_add-index_mut

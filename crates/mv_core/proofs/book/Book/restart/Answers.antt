@@ -3,7 +3,7 @@ use Rattle.mv_lawful.specs.Lawful.{Live, again}
 use Rattle.mv_core.specs.Calls.{IsLive, live_of}
 use Rattle.mv_core.specs.Books.{Booked, round_event, due_after}
 use Rattle.mv_core.specs.Scripts.{work_of}
-use Rattle.mv_core.proofs.Keeping.{live_stays, the_course, here_at, Here, few_inside, within, round_live, room_here, settled_here, kept_restart, number_counted, restarted, restart_after, map_changed, made_on, free_on, room_left, start_past}
+use Rattle.mv_core.proofs.Keeping.{live_stays, the_course, here_at, IsProgressAt, few_inside, within, round_live, room_here, settled_here, kept_restart, number_counted, restarted, restart_after, map_changed, made_on, free_on, room_left, start_past}
 use Rattle.mv_core.proofs.Recents.{recent_set}
 use Rattle.mv_core.proofs.book.Book.restart.Goals as goal
 
@@ -13,13 +13,13 @@ overflow_cast-start c = let few : length c.self.inside.order.items < 2 ^ 32 = fe
 pub index_mut-requires : goal.index_mut-requires
 index_mut-requires c = let lt : c.args.call < length c.self.inside.calls.items = within c.self.inside c.args.self.now c.args.call c.self.view_is (round_live c.args.self.now c.args.mark c.args.call c.requires.allowed) in search (rules, lt)
 
-first : (c : goal.After-index_mut) → (l : Live) × IsLive c.args.self.now.course c.args.call l × Here c.self.inside.calls.items c.args.call l c.index_mut.result.now
+first : (c : goal.After-index_mut) → (l : Live) × IsLive c.args.self.now.course c.args.call l × IsProgressAt c.self.inside.calls.items c.args.call l c.index_mut.result.now
 first c = here_at c.self.inside c.args.self.now c.args.call c.index_mut.result.now c.self.view_is (round_live c.args.self.now c.args.mark c.args.call c.requires.allowed) c.index_mut.ensures.value
 
 pub restart-requires : goal.restart-requires
 restart-requires c = let has : 1 ≤ c.index_mut.result.now.rounds.room = room_here c.self.inside c.args.self.now c.args.call 1 c.index_mut.result.now c.self.view_is (first c).2.at c.requires.room in omega (arith, has)
 
-here : (c : goal.After-put) → (l : Live) × IsLive c.args.self.now.course c.args.call l × Here c.self.inside.calls.items c.args.call l c.index_mut.result.now
+here : (c : goal.After-put) → (l : Live) × IsLive c.args.self.now.course c.args.call l × IsProgressAt c.self.inside.calls.items c.args.call l c.index_mut.result.now
 here c = here_at c.self.inside c.args.self.now c.args.call c.index_mut.result.now c.self.view_is (round_live c.args.self.now c.args.mark c.args.call c.requires.allowed) c.index_mut.ensures.value
 
 start : (c : goal.After-put) → c.restart.new.self.start ≡ length c.self.inside.order.items

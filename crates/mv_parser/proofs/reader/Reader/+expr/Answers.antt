@@ -6,7 +6,7 @@ use Rattle.mv_ast.specs.Parts.{give}
 use Rattle.mv_ast.specs.Trees.{with_comparison}
 use Rattle.mv_ast.specs.Grammar.{◌⊛◌, op, sum}
 use Rattle.mv_parser.specs.Reading.{◌>>=◌, Read, read, starts_with}
-use Rattle.mv_parser.specs.Answers.{inside_of, Gives, Stops}
+use Rattle.mv_parser.specs.Answers.{inside_of, AnswersRead, Stops}
 use Rattle.mv_parser.specs.Levels.{marks, next, chain, with_compare}
 use Rattle.mv_parser.proofs.Chains.{chain_begins, chain_ends, chain_over, turn_joined, turn_stops, comp_read}
 use Rattle.mv_parser.proofs.reader.Reader.+expr.Goals as goal
@@ -66,6 +66,6 @@ comp-returns t c =
     let bytes = c.args.self.now.bytes.now in
     let inside = inside_of c.args.self.now in
     let behind = drop c.in_ok-left.at ts in
-    subst (λ (r : Read Expr). Gives ts c.joined.result r)
+    subst (λ (r : Read Expr). AnswersRead ts c.joined.result r)
     (comp_read inside bytes c.in_ok-left.left (drop c.args.at ts) behind c.in_ok-left.ensures (sym c.has_any.ensures ∙ c.if-not-has_any.false))
     (c.joined.ensures (read inside (give with_comparison ⊛ op bytes ⊛ sum bytes) behind >>= (λ x. Ok (with_compare x.0, x.1))) c.compared-next.ensures)

@@ -1,6 +1,6 @@
 use Rattle.std.proofs.Common.{◌∙◌, subst, List}
 use Rattle.mv_values.specs.declared.value.Value.{Value}
-use Rattle.mv_table.specs.Spans.{Covers}
+use Rattle.mv_table.specs.Spans.{CoversAdmitted}
 use Rattle.mv_undo.specs.Owning.{earlier, AreSought}
 use Rattle.mv_undo.specs.Indexing.{lined}
 use Rattle.mv_undo.specs.declared.owned.Owned.{Owned}
@@ -13,7 +13,7 @@ returns c =
     let part = lined items c.places_in-places.result.now in
     let pred = c.args.pred.now in
     let writes = c.places_in-places.ensures.writes in
-    let covers = subst (λ tests. Covers tests c.in_ok-span.span) c.as_slice.ensures c.in_ok-span.ensures.covers in
+    let covers = subst (λ tests. CoversAdmitted tests c.in_ok-span.span) c.as_slice.ensures c.in_ok-span.ensures.covers in
     if_ok c.keys_at.result (λ (keys : List (List Value)). AreSought pred (earlier c.args.number part) keys) (λ (keys : List (List Value)). AreSought pred (earlier c.args.number c.args.self.now) keys)
     (λ keys is.
     subst (λ (l : List Owned). AreSought pred (earlier c.args.number l) keys) (c.as_slice-items.ensures.value ∙ c.self.view_is)
