@@ -36,7 +36,7 @@ keys_few t (w ∷ ws) ks h all = by (λ l p q. keys_few t ws l p q) (touches w.t
 
     by : ((l : List (List Value)) → Pairs (λ a b. key_order a b ≡ Less) l → Each (λ k. touches t k ws ≡ true) l → length l ≤ different ws)
         → (b : Bool) → touches w.table w.key ws ≡ b → length ks ≤ (if b then different ws else suc (different ws))
-    by fewer true e = fewer ks h (each_map (λ k. touches t k (w ∷ ws) ≡ true) (λ k. touches t k ws ≡ true) ks (λ k there. later k (is_on t k w) refl there) all)
+    by fewer true e = fewer ks h (each_weaker (λ k. touches t k (w ∷ ws) ≡ true) (λ k. touches t k ws ≡ true) ks (λ k there. later k (is_on t k w) refl there) all)
       where
         later : (k : List Value) (b : Bool) → is_on t k w ≡ b → (b || touches t k ws) ≡ true → touches t k ws ≡ true
         later k true on there = subst (λ u. touches u k ws ≡ true) (here_table k on) (subst (λ l. touches w.table l ws ≡ true) (here_key k on) e)
