@@ -9,7 +9,6 @@ use Rattle.std.specs.declared.cmp.Ordering.TheVariants.{Less, Equal, Greater}
 use Rattle.std.proofs.Math.ListN.{get_or-append, get_or-map}
 use Rattle.std.proofs.Math.Seq.{get_or-append_seam}
 use Rattle.std.proofs.lemmas.Bool.{cases_lt, eq-eqb, both_ways, and_parts, eqb-true, false_from_ne_true, lt-ltb, le-ltb, ltb-true}
-use Rattle.std.proofs.lemmas.Bool.Decides.{nat_tests}
 use Rattle.std.proofs.lemmas.Cmp.{tied_itself}
 use Rattle.std.proofs.lemmas.List.{append_assoc, append-nil, get_or-take, get_or-drop, length-take, length-drop, length-map}
 use Rattle.std.proofs.lemmas.List.Elements.{filter-append, All-head, All-tail}
@@ -29,11 +28,12 @@ use Rattle.mv_undo.specs.Owning.{IsInOrder, before, earlier}
 use Rattle.mv_undo.specs.Indexing.{owned_at, lined, writes_at, full_key, key_at, owned_on, IsIndexed, IsCut, is_up_to, counts_before, is_earlier_up_to, IsComposedOf, patch_or, patch_at, DoesUpTo, AreComposed, IsComposed}
 use Rattle.mv_undo.proofs.KeyPlaces.{lt_trans}
 use Rattle.mv_undo.proofs.Indexing.{Searched, on_full, above_misses, none_on, on_append, at_more, at_last, at_take}
+use Rattle.mv_undo.proofs.Owning.{smaller}
 use Rattle.mv_undo.proofs.Looking.{writes_are}
 
 -- Writes on a key
 
-on_own : (t : ℕ) (key : List Value) (o : Owned) → full_key o ≡ Int (pos t) ∷ key → is_on t key o.write ≡ true
+pub on_own : (t : ℕ) (key : List Value) (o : Owned) → full_key o ≡ Int (pos t) ∷ key → is_on t key o.write ≡ true
 on_own t key o is = by parts.0 parts.1
   where
     parts : (o.write.table ≡ t) × (o.write.key ≡ key)
@@ -279,7 +279,7 @@ pair_kept R f (y ∷ ys) (suc i) (suc j) d h lt within a b = pair_kept R f ys i 
     by false h = h
 
 -- the numbers of the writes to one key never decrease
-numbers_on : (items : List Owned) (order : List ℕ) (i j d : ℕ) → IsIndexed items order → IsInOrder items → i < j → j < length order → key_at items (slice_index_or order i d) ≡ key_at items (slice_index_or order j d)
+pub numbers_on : (items : List Owned) (order : List ℕ) (i j d : ℕ) → IsIndexed items order → IsInOrder items → i < j → j < length order → key_at items (slice_index_or order i d) ≡ key_at items (slice_index_or order j d)
     → (owned_at items (slice_index_or order i d)).number ≤ (owned_at items (slice_index_or order j d)).number
 numbers_on items order i j d ix numbers lt within same =
     subst (λ (x : Owned). x.number ≤ (owned_at items (slice_index_or order j d)).number) (at i)
@@ -300,9 +300,6 @@ numbers_on items order i j d ix numbers lt within same =
     pairs = subst (AllPairs (λ (a b : Owned). a.number ≤ b.number)) (sym (ix.each last.write.table last.write.key)) (AllPairs-filter (λ (a b : Owned). a.number ≤ b.number) f items numbers)
 
 -- The writes of records with smaller numbers
-
-smaller : (a b n : ℕ) → a ≤ b → nat_lt b n ≡ true → nat_lt a n ≡ true
-smaller a b n le h = grind (arith, nat_tests)
 
 parted_earlier : (items : List Owned) (order : List ℕ) (n : ℕ) (key : List Value) → IsIndexed items order → IsInOrder items → IsPartitionedBy (λ p. is_earlier_up_to items n key p) order
 parted_earlier items order n key ix numbers i j d le lt h =

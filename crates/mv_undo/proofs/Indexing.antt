@@ -20,7 +20,7 @@ use Rattle.mv_undo.specs.declared.owned.Owned.{Owned}
 use Rattle.mv_undo.specs.Owning.{before}
 use Rattle.mv_table.specs.declared.span.Span.{Span}
 use Rattle.mv_table.specs.Spans.{is_past, is_within, RunsTo, IsForward}
-use Rattle.mv_undo.specs.Indexing.{owned_at, lined, full_key, key_at, owned_on, IsIndexed, IsCut, is_below, is_up_to, end_of, end_in}
+use Rattle.mv_undo.specs.Indexing.{owned_at, lined, full_key, key_at, owned_on, IsIndexed, IsCut, is_below, is_up_to, end_of, end_in, AreSorted}
 use Rattle.mv_undo.proofs.KeyPlaces.{parted_below, parted_by_key, above_le, below_more, lt_le, not_under, under_end, next_table}
 
 -- A write on a key
@@ -52,11 +52,11 @@ none_on items t key (x ∷ xs) h =
 abbrev pub Searched : (ℕ → Bool) → List ℕ → ℕ → Type 0
 Searched test order at = IsPartitionedBy test order → IsCut test order at
 
-pub cut_below : (items : List Owned) (order : List ℕ) (key : List Value) (at : ℕ) → IsIndexed items order → Searched (is_below items key) order at → IsCut (is_below items key) order at
-cut_below items order key at ix h = h (parted_below (key_at items) key order ix.sorted)
+pub cut_below : (items : List Owned) (order : List ℕ) (key : List Value) (at : ℕ) → AreSorted items order → Searched (is_below items key) order at → IsCut (is_below items key) order at
+cut_below items order key at sorted h = h (parted_below (key_at items) key order sorted)
 
-pub cut_up_to : (items : List Owned) (order : List ℕ) (key : List Value) (at : ℕ) → IsIndexed items order → Searched (is_up_to items key) order at → IsCut (is_up_to items key) order at
-cut_up_to items order key at ix h = h (parted_by_key (key_at items) key order ix.sorted)
+pub cut_up_to : (items : List Owned) (order : List ℕ) (key : List Value) (at : ℕ) → AreSorted items order → Searched (is_up_to items key) order at → IsCut (is_up_to items key) order at
+cut_up_to items order key at sorted h = h (parted_by_key (key_at items) key order sorted)
 
 pub cut_order : (p q : ℕ → Bool) (order : List ℕ) (from to : ℕ) → ((n : ℕ) → p n ≡ true → q n ≡ true) → from ≤ length order → IsCut p order from → IsCut q order to → from ≤ to
 cut_order p q order from to more low first last =

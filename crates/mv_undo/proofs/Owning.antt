@@ -1,6 +1,6 @@
 -- Own writes of records with smaller numbers.
 use Rattle.std.proofs.Math.ListN.{get_or-map}
-use Rattle.std.proofs.Common.{◌≡◌, ◌≤◌, ℕ, zero, suc, Bool, true, false, cond, List, [], ◌∷◌, Option, Some, None, length, take, map, refl, sym, ap, subst, ◌∙◌, arith, Result, Ok, Err, IfOk}
+use Rattle.std.proofs.Common.{◌≡◌, ◌≤◌, ℕ, zero, suc, Bool, true, false, cond, List, [], ◌∷◌, Option, Some, None, length, take, map, refl, sym, ap, subst, ◌∙◌, arith}
 use Rattle.std.specs.Prelude.{◌&&◌, ◌||◌, ◌==◌, nat_lt, AllPairs}
 use Rattle.std.specs.List.{filter, list_any}
 use Rattle.std.specs.List.Sorted.{IsPartitionPoint, IsPartitionedBy}
@@ -40,7 +40,7 @@ front_passes p (x ∷ xs) (suc n) le h =
     let first : p x ≡ true = h.0 0 x (omega arith) (omega arith) in
     rw first (ap (λ l. x ∷ l) more)
 
-smaller : (a b n : ℕ) → a ≤ b → nat_lt b n ≡ true → nat_lt a n ≡ true
+pub smaller : (a b n : ℕ) → a ≤ b → nat_lt b n ≡ true → nat_lt a n ≡ true
 smaller a b n le h = grind (arith, nat_tests)
 
 divided : (n : ℕ) (xs : List Owned) → IsInOrder xs → IsPartitionedBy (λ o. nat_lt o.number n) xs
@@ -156,19 +156,6 @@ gathered_sought pred n os =
     by : (b : Bool) → is_some (cond {A = Option (List Value)} b (Some []) None) ≡ b
     by true = refl
     by false = refl
-
-pub found_keys : {E : Type 0} (r : Result (List (List Value)) E) (pred : Pred) (n : ℕ) (os rest : List Owned) (found : List Keyed) → gathered pred n rest found ≡ gathered pred n os [] → rest ≡ []
-    → IfOk r (λ ks. ks ≡ keys found) → IfOk r (λ ks. AreSought pred (earlier n os) ks)
-found_keys (Err e) pred n os rest found h none is = tt
-found_keys (Ok ks) pred n os rest found h none is =
-    let all : found ≡ gathered pred n os [] = ap (λ l. gathered pred n l found) (sym none) ∙ h in
-    subst (AreSought pred (earlier n os)) (sym (is ∙ ap keys all)) (gathered_sought pred n os)
-
-pub gathered_wanted : (pred : Pred) (n : ℕ) (o : Owned) (os : List Owned) (found : List Keyed) → is_wanted pred n o ≡ true → gathered pred n (o ∷ os) found ≡ gathered pred n os (placed o.write.key (Some []) found)
-gathered_wanted pred n o os found h = ap (λ b. gathered pred n os (cond b (placed o.write.key (Some []) found) found)) h
-
-pub gathered_other : (pred : Pred) (n : ℕ) (o : Owned) (os : List Owned) (found : List Keyed) → is_wanted pred n o ≡ false → gathered pred n (o ∷ os) found ≡ gathered pred n os found
-gathered_other pred n o os found h = ap (λ b. gathered pred n os (cond b (placed o.write.key (Some []) found) found)) h
 
 pub order_before : (n len : ℕ) (xs : List Owned) → IsInOrder xs → take len xs ≡ before n xs → IsInOrder (take len xs)
 order_before n len xs order is = subst IsInOrder (sym is) (AllPairs-filter (λ a b. a.number ≤ b.number) (λ o. nat_lt o.number n) xs order)

@@ -1,14 +1,16 @@
 -- Keys that are taken from the ends of own writes.
 use Rattle.std.proofs.Common.{◌≡◌, ◌<◌, ◌≤◌, ◌⊎◌, inl, inr, ℕ, zero, suc, Bool, true, false, cond, List, [], ◌∷◌, ◌++◌, Option, Some, None, All, length, map, take, drop, slice_index_or, refl, sym, ap, subst, ◌∙◌, arith}
-use Rattle.std.proofs.Math.ListN.{get_or-append}
+use Rattle.std.proofs.Math.ListN.{get_or-map}
 use Rattle.std.proofs.Math.Seq.{get_or-append_seam}
 use Rattle.std.proofs.lemmas.List.Elements.{All-cons, All-nil, All-filter, filter_passes}
-use Rattle.std.proofs.lemmas.List.Folds.{list_any-append}
+use Rattle.std.proofs.lemmas.Bool.{cases_lt}
+use Rattle.std.proofs.lemmas.List.Folds.{list_any_at}
 use Rattle.std.proofs.lemmas.List.Kept.{AllPairs-cons, AllPairs-filter}
 use Rattle.std.proofs.lemmas.List.Quantifiers.{all_pairs_push}
-use Rattle.std.proofs.lemmas.List.{length-append}
-use Rattle.std.specs.Prelude.{◌&&◌, ◌||◌, ◌==◌, nat_lt, pos, AllPairs}
-use Rattle.std.specs.List.{filter, list_any}
+use Rattle.std.proofs.lemmas.List.Sums.{length-filter, count_by-le-length}
+use Rattle.std.proofs.lemmas.List.{length-append, length-map, get_or_default}
+use Rattle.std.specs.Prelude.{◌&&◌, ◌||◌, ◌==◌, nat_lt, pos}
+use Rattle.std.specs.List.{Contains, filter, list_any}
 use Rattle.std.specs.Ordering.{is_eq, is_le, is_lt}
 use Rattle.std.specs.declared.cmp.Ordering.{Ordering}
 use Rattle.std.specs.declared.cmp.Ordering.TheVariants.{Less, Equal, Greater}
@@ -33,11 +35,12 @@ use Rattle.mv_record.specs.Writes.{is_on}
 use Rattle.mv_record.proofs.Patching.{rows_same}
 use Rattle.mv_record.proofs.Rising.{row_here, row_later}
 use Rattle.mv_undo.specs.declared.owned.Owned.{Owned}
-use Rattle.mv_undo.specs.Taking.{meets_first, gathered, sought_keys, AreInLine}
-use Rattle.mv_undo.specs.Indexing.{owned_at, lined, full_key, key_at}
+use Rattle.mv_undo.specs.Taking.{meets_first, gathered, sought_keys, AreInLine, IsFirstMet, IsNextKey}
+use Rattle.mv_undo.specs.Indexing.{owned_at, lined, full_key, key_at, is_below, is_up_to, IsCut}
 use Rattle.mv_undo.specs.Owning.{earlier, is_earlier_on, touches, is_sought, is_wanted}
 use Rattle.mv_undo.proofs.Indexing.{on_full}
-use Rattle.mv_undo.proofs.Owning.{touches_earlier, gathered_rising, gathered_row}
+use Rattle.mv_undo.proofs.Owning.{touches_earlier, gathered_rising, gathered_row, smaller}
+use Rattle.mv_undo.proofs.Composing.{on_own}
 
 -- The two parts of a list at a point
 
@@ -92,24 +95,20 @@ above_not a k h = by (key_order a k) refl h
 
 -- Places in line
 
--- a scan in this direction doesn't meet the second key before the first
-abbrev NotAfter : Direction → List Value → List Value → Type 0
-NotAfter Forward a b = is_le (key_order a b) ≡ true
-NotAfter Backward a b = is_le (key_order b a) ≡ true
-
-met_or_same : (d : Direction) (a b : List Value) → NotAfter d a b → (meets_first d a b ≡ true) ⊎ (a ≡ b)
-met_or_same Forward a b h = by (key_order a b) refl h
+-- a key that a scan doesn't meet before another is that one, or it is met later
+met_or_same : (d : Direction) (a b : List Value) → meets_first d b a ≡ false → (meets_first d a b ≡ true) ⊎ (a ≡ b)
+met_or_same Forward a b h = by (key_order b a) refl h
   where
-    by : (o : Ordering) → key_order a b ≡ o → is_le o ≡ true → (is_lt (key_order a b) ≡ true) ⊎ (a ≡ b)
-    by Less e g = inl (ap is_lt e)
-    by Equal e g = inr (exact_keys a b e)
-    by Greater e g = absurd (both_ways (is_le Greater) refl g)
-met_or_same Backward a b h = by (key_order b a) refl h
-  where
-    by : (o : Ordering) → key_order b a ≡ o → is_le o ≡ true → (is_lt (key_order b a) ≡ true) ⊎ (a ≡ b)
-    by Less e g = inl (ap is_lt e)
+    by : (o : Ordering) → key_order b a ≡ o → is_lt o ≡ false → (is_lt (key_order a b) ≡ true) ⊎ (a ≡ b)
+    by Less e g = absurd (both_ways (is_lt Less) g refl)
     by Equal e g = inr (sym (exact_keys b a e))
-    by Greater e g = absurd (both_ways (is_le Greater) refl g)
+    by Greater e g = inl (ap is_lt (turned b a Greater e))
+met_or_same Backward a b h = by (key_order a b) refl h
+  where
+    by : (o : Ordering) → key_order a b ≡ o → is_lt o ≡ false → (is_lt (key_order b a) ≡ true) ⊎ (a ≡ b)
+    by Less e g = absurd (both_ways (is_lt Less) g refl)
+    by Equal e g = inr (exact_keys a b e)
+    by Greater e g = inl (ap is_lt (turned a b Greater e))
 
 same_met : (d : Direction) (t : ℕ) (a b : List Value) → meets_first d (Int (pos t) ∷ a) (Int (pos t) ∷ b) ≡ meets_first d a b
 same_met Forward t a b = ap is_lt (same_table t a b)
@@ -119,53 +118,13 @@ pub never_itself : (d : Direction) (a : List Value) → meets_first d a a ≡ fa
 never_itself Forward a = ap is_lt (same_key a)
 never_itself Backward a = ap is_lt (same_key a)
 
-all_others : (P : ℕ → Type 0) (d : Direction) (place : ℕ) (others : List ℕ) → All P (with_foremost d place others) → All P others
-all_others P Forward place others h = λ k e lt. h (suc k) e (omega (arith, lt))
-all_others P Backward place others h = λ k e lt.
-    let is : slice_index_or (others ++ place ∷ []) k e ≡ slice_index_or others k e = get_or-append others (place ∷ []) e k lt in
-    subst P is (h k e (omega (arith, lt, length-append others (place ∷ []))))
-
-pairs_of_others : (R : ℕ → ℕ → Type 0) (d : Direction) (place : ℕ) (others : List ℕ) → AllPairs R (with_foremost d place others) → AllPairs R others
-pairs_of_others R Forward place others h = λ i j e lt within. h (suc i) (suc j) e (omega (arith, lt)) (omega (arith, within))
-pairs_of_others R Backward place others h = λ i j e lt within.
-    let low : slice_index_or (others ++ place ∷ []) i e ≡ slice_index_or others i e = get_or-append others (place ∷ []) e i (omega (arith, lt, within)) in
-    let up : slice_index_or (others ++ place ∷ []) j e ≡ slice_index_or others j e = get_or-append others (place ∷ []) e j within in
-    subst (λ x. R x (slice_index_or others j e)) low (subst (R (slice_index_or (others ++ place ∷ []) i e)) up (h i j e lt (omega (arith, within, length-append others (place ∷ [])))))
-
-not_after : (items : List Owned) (d : Direction) (place : ℕ) (others : List ℕ) → AllPairs (λ p q. is_le (key_order (key_at items p) (key_at items q)) ≡ true) (with_foremost d place others)
-    → All (λ q. NotAfter d (key_at items place) (key_at items q)) others
-not_after items Forward place others h = λ k e lt. h 0 (suc k) e (omega arith) (omega (arith, lt))
-not_after items Backward place others h = λ k e lt.
-    let low : slice_index_or (others ++ place ∷ []) k e ≡ slice_index_or others k e = get_or-append others (place ∷ []) e k lt in
-    let last : slice_index_or (others ++ place ∷ []) (length others) e ≡ place = get_or-append_seam others place [] e in
-    let so : is_le (key_order (key_at items (slice_index_or (others ++ place ∷ []) k e)) (key_at items (slice_index_or (others ++ place ∷ []) (length others) e))) ≡ true =
-    h k (length others) e lt (omega (arith, length-append others (place ∷ []))) in
-    subst (λ x. is_le (key_order (key_at items x) (key_at items place)) ≡ true) low
-    (subst (λ x. is_le (key_order (key_at items (slice_index_or (others ++ place ∷ []) k e)) (key_at items x)) ≡ true) last so)
-
--- the places behind the first are in line
-pub line_later : (items : List Owned) (d : Direction) (place : ℕ) (left others : List ℕ) → left ≡ with_foremost d place others → AreInLine items left → AreInLine items others
-line_later items d place left others is line =
-    let whole : AreInLine items (with_foremost d place others) = subst (AreInLine items) is line in
-    record {
-      within = all_others (λ p. p < length items) d place others whole.within;
-      sorted = pairs_of_others (λ p q. is_le (key_order (key_at items p) (key_at items q)) ≡ true) d place others whole.sorted;
-    }
-
-all_of_foremost : (P : ℕ → Type 0) (d : Direction) (place : ℕ) (others : List ℕ) → All P (with_foremost d place others) → P place
-all_of_foremost P Forward place others h = h 0 place (omega arith)
-all_of_foremost P Backward place others h = subst P (get_or-append_seam others place [] place) (h (length others) place (omega (arith, length-append others (place ∷ []))))
-
--- the first place is that of a write
-pub first_within : (items : List Owned) (d : Direction) (place : ℕ) (left others : List ℕ) → left ≡ with_foremost d place others → AreInLine items left → place < length items
-first_within items d place left others is line = all_of_foremost (λ p. p < length items) d place others (subst (AreInLine items) is line).within
-
--- so are those that a test keeps
+-- places that a test keeps are in line
 pub line_kept : (items : List Owned) (q : ℕ → Bool) (others kept : List ℕ) → kept ≡ filter q others → AreInLine items others → AreInLine items kept
 line_kept items q others kept is line =
     subst (AreInLine items) (sym is) (record {
       within = All-filter q (λ p. p < length items) others line.within;
       sorted = AllPairs-filter (λ x y. is_le (key_order (key_at items x) (key_at items y)) ≡ true) q others line.sorted;
+      numbers = AllPairs-filter (λ x y. key_at items x ≡ key_at items y → (owned_at items x).number ≤ (owned_at items y).number) q others line.numbers;
     })
 
 lined_kept : (items : List Owned) (q : Owned → Bool) (places : List ℕ) → lined items (filter (λ p. q (owned_at items p)) places) ≡ filter q (lined items places)
@@ -182,20 +141,6 @@ all_lined items P [] h = All-nil P
 all_lined items P (x ∷ xs) h = All-cons P (owned_at items x) (lined items xs) (h 0 x (omega arith)) (all_lined items P xs (λ k d lt. h (suc k) d (omega (arith, lt))))
 
 -- Writes on a key
-
-any_with : (f : Owned → Bool) (d : Direction) (o : Owned) (os : List Owned) → list_any f (with_foremost d o os) ≡ f o || list_any f os
-any_with f Forward o os = refl
-any_with f Backward o os = list_any-append f os (o ∷ []) ∙ by (list_any f os) (f o)
-  where
-    by : (a b : Bool) → a || (b || false) ≡ b || a
-    by true true = refl
-    by true false = refl
-    by false true = refl
-    by false false = refl
-
-touched_with : (d : Direction) (n t : ℕ) (key : List Value) (o : Owned) (os : List Owned) → touches t key (earlier n (with_foremost d o os)) ≡ is_earlier_on n t key o || touches t key (earlier n os)
-touched_with d n t key o os =
-    sym (touches_earlier n t key (with_foremost d o os)) ∙ (any_with (is_earlier_on n t key) d o os ∙ ap (λ b. is_earlier_on n t key o || b) (touches_earlier n t key os))
 
 any_kept : (f q : Owned → Bool) (os : List Owned) → All (λ x. f x ≡ true → q x ≡ true) os → list_any f (filter q os) ≡ list_any f os
 any_kept f q [] h = refl
@@ -235,6 +180,9 @@ so_all a b c e f g = rw (e, f, g) refl
 on_all : (a b c : Bool) → a ≡ true → b ≡ true → c ≡ true → a && (b && c) ≡ true
 on_all a b c e f g = rw (e, f, g) refl
 
+so_both : (a b : Bool) → a ≡ true → b ≡ true → a && b ≡ true
+so_both a b e f = rw (e, f) refl
+
 wanted_on : (pred : Pred) (n : ℕ) (o : Owned) → is_wanted pred n o ≡ true → is_earlier_on n pred.table o.write.key o ≡ true
 wanted_on pred n o w =
     let parts = all_so (nat_lt o.number n) (o.write.table == pred.table) (admits pred o.write.key) w in
@@ -249,13 +197,17 @@ on_wanted pred n o key e a =
 nothing : IsRising []
 nothing = λ i j d lt within. absurd (omega (arith, within))
 
--- One write that isn't wanted
+-- the writes to keys that a scan meets after that of a write
+abbrev later_writes : Direction → Owned → List Owned → List Owned
+later_writes d o os = filter (λ x. meets_first d (full_key o) (full_key x)) os
 
-pub passed_over : (d : Direction) (pred : Pred) (n : ℕ) (o : Owned) (os : List Owned) → is_wanted pred n o ≡ false → gathered pred n (with_foremost d o os) [] ≡ gathered pred n os []
-passed_over d pred n o os un =
-    rows_same (gathered pred n (with_foremost d o os) []) (gathered pred n os []) (gathered_rising pred n (with_foremost d o os) [] nothing) (gathered_rising pred n os [] nothing)
-    (λ key. gathered_row pred n (with_foremost d o os) [] key nothing
-    ∙ (ap (λ b. cond b (Some []) None) (same key (is_earlier_on n pred.table key o) refl (admits pred key) refl) ∙ sym (gathered_row pred n os [] key nothing)))
+-- Where the first write isn't wanted
+
+passed_over : (d : Direction) (pred : Pred) (n : ℕ) (o : Owned) (os : List Owned) → IsFirstMet d os o → is_wanted pred n o ≡ false → gathered pred n (later_writes d o os) [] ≡ gathered pred n os []
+passed_over d pred n o os front un =
+    rows_same (gathered pred n (later_writes d o os) []) (gathered pred n os []) (gathered_rising pred n (later_writes d o os) [] nothing) (gathered_rising pred n os [] nothing)
+    (λ key. gathered_row pred n (later_writes d o os) [] key nothing
+    ∙ (ap (λ b. cond b (Some []) None) (same key (admits pred key) refl) ∙ sym (gathered_row pred n os [] key nothing)))
   where
     off : (a b : Bool) → a && false ≡ b && false
     off true true = refl
@@ -263,12 +215,23 @@ passed_over d pred n o os un =
     off false true = refl
     off false false = refl
 
-    same : (key : List Value) (b : Bool) → is_earlier_on n pred.table key o ≡ b → (a : Bool) → admits pred key ≡ a → is_sought pred (earlier n (with_foremost d o os)) key ≡ is_sought pred (earlier n os) key
-    same key true e true f = absurd (both_ways (is_wanted pred n o) un (on_wanted pred n o key e f))
-    same key true e false f = rw f (off (touches pred.table key (earlier n (with_foremost d o os))) (touches pred.table key (earlier n os)))
-    same key false e a f = ap (λ b. b && admits pred key) (touched_with d n pred.table key o os ∙ ap (λ b. b || touches pred.table key (earlier n os)) e)
+    -- a write on an admitted key isn't passed over
+    stays : (key : List Value) → admits pred key ≡ true → All (λ x. is_earlier_on n pred.table key x ≡ true → meets_first d (full_key o) (full_key x) ≡ true) os
+    stays key admitted k e lt = λ on. by (slice_index_or os k e) on (met_or_same d (full_key o) (full_key (slice_index_or os k e)) (front.foremost k e lt)) (front.earliest k e lt)
+      where
+        by : (x : Owned) → is_earlier_on n pred.table key x ≡ true → (meets_first d (full_key o) (full_key x) ≡ true) ⊎ (full_key o ≡ full_key x) → (full_key o ≡ full_key x → o.number ≤ x.number) → meets_first d (full_key o) (full_key x) ≡ true
+        by x on (inl past) low = past
+        by x on (inr is) low =
+            let parts = and_parts (nat_lt x.number n) (is_on pred.table key x.write) on in
+            let mine : is_on pred.table key o.write ≡ true = on_own pred.table key o (is ∙ on_full pred.table key x parts.1) in
+            let early : nat_lt o.number n ≡ true = smaller o.number x.number n (low is) parts.0 in
+            absurd (both_ways (is_wanted pred n o) un (on_wanted pred n o key (so_both (nat_lt o.number n) (is_on pred.table key o.write) early mine) admitted))
 
--- One that is
+    same : (key : List Value) (a : Bool) → admits pred key ≡ a → is_sought pred (earlier n (later_writes d o os)) key ≡ is_sought pred (earlier n os) key
+    same key true e = ap (λ b. b && admits pred key) (touched_kept n pred.table key (λ x. meets_first d (full_key o) (full_key x)) os (stays key e))
+    same key false e = rw e (off (touches pred.table key (earlier n (later_writes d o os))) (touches pred.table key (earlier n os)))
+
+-- Where it is
 
 row_last : (xs : List Keyed) (x : Keyed) (key : List Value) → row_of xs x.key ≡ None → row_of (xs ++ x ∷ []) key ≡ cond (is_eq (key_order x.key key)) (Some x.row) (row_of xs key)
 row_last [] x key none = refl
@@ -305,15 +268,10 @@ each_key P (x ∷ xs) h = All-cons (λ y. P y.key) x xs (h x.key x.row (row_here
     by key row is true e = h key x.row (row_here x xs key ((Equal-is (key_order x.key key)).0 e))
     by key row is false e = h key row (row_later x xs key e ∙ is)
 
--- the writes to keys that a scan meets after that of a write
-abbrev later_writes : Direction → Owned → List Owned → List Owned
-later_writes d o os = filter (λ x. meets_first d (full_key o) (full_key x)) os
-
-taken_first : (d : Direction) (pred : Pred) (n : ℕ) (o : Owned) (os : List Owned) → is_wanted pred n o ≡ true → All (λ x. NotAfter d (full_key o) (full_key x)) os
-    → gathered pred n (with_foremost d o os) [] ≡ with_foremost d (record { key = o.write.key; row = [] }) (gathered pred n (later_writes d o os) [])
-taken_first d pred n o os wanted line =
-    rows_same (gathered pred n (with_foremost d o os) []) (with_foremost d first rest) (gathered_rising pred n (with_foremost d o os) [] nothing) (rising_with d first rest met (gathered_rising pred n (later_writes d o os) [] nothing))
-    (λ key. gathered_row pred n (with_foremost d o os) [] key nothing ∙ (core key (is_eq (key_order o.write.key key)) refl ∙ sym (row_with d first rest key none)))
+taken_first : (d : Direction) (pred : Pred) (n : ℕ) (o : Owned) (os : List Owned) → is_wanted pred n o ≡ true → IsFirstMet d os o → gathered pred n os [] ≡ with_foremost d (record { key = o.write.key; row = [] }) (gathered pred n (later_writes d o os) [])
+taken_first d pred n o os wanted front =
+    rows_same (gathered pred n os []) (with_foremost d first rest) (gathered_rising pred n os [] nothing) (rising_with d first rest met (gathered_rising pred n (later_writes d o os) [] nothing))
+    (λ key. gathered_row pred n os [] key nothing ∙ (core key (is_eq (key_order o.write.key key)) refl ∙ sym (row_with d first rest key none)))
   where
     t : ℕ
     t = pred.table
@@ -356,7 +314,7 @@ taken_first d pred n o os wanted line =
 
     -- a write on another key isn't passed over
     stays : (key : List Value) → is_eq (key_order o.write.key key) ≡ false → All (λ x. is_earlier_on n pred.table key x ≡ true → meets_first d (full_key o) (full_key x) ≡ true) os
-    stays key other k e lt = λ on. by (slice_index_or os k e) on (met_or_same d (full_key o) (full_key (slice_index_or os k e)) (line k e lt))
+    stays key other k e lt = λ on. by (slice_index_or os k e) on (met_or_same d (full_key o) (full_key (slice_index_or os k e)) (front.foremost k e lt))
       where
         tail_same : (a b : List Value) → Int (pos pred.table) ∷ a ≡ Int (pos pred.table) ∷ b → a ≡ b
         tail_same a b h = cc
@@ -369,46 +327,155 @@ taken_first d pred n o os wanted line =
             absurd (both_ways (is_eq (key_order o.write.key key)) other (ap (λ k. is_eq (key_order o.write.key k)) (sym keys) ∙ ap is_eq (same_key o.write.key)))
 
     core : (key : List Value) (c : Bool) → is_eq (key_order o.write.key key) ≡ c
-        → cond (is_sought pred (earlier n (with_foremost d o os)) key) (Some []) None ≡ cond (is_eq (key_order o.write.key key)) (Some []) (row_of (gathered pred n (later_writes d o os) []) key)
+        → cond (is_sought pred (earlier n os) key) (Some []) None ≡ cond (is_eq (key_order o.write.key key)) (Some []) (row_of (gathered pred n (later_writes d o os) []) key)
     core key true e =
         let same : o.write.key ≡ key = tied o.write.key key e in
         let on : is_earlier_on n pred.table key o ≡ true = subst (λ k. is_earlier_on n pred.table k o ≡ true) same (wanted_on pred n o wanted) in
-        let touched : touches pred.table key (earlier n (with_foremost d o os)) ≡ true = touched_with d n pred.table key o os ∙ ap (λ b. b || touches pred.table key (earlier n os)) on in
+        let touched : touches pred.table key (earlier n os) ≡ true =
+        sym (touches_earlier n pred.table key os) ∙ list_any_at (is_earlier_on n pred.table key) os front.among.0 o front.among.1 (ap (is_earlier_on n pred.table key) front.among.2 ∙ on) in
         let admitted : admits pred key ≡ true = ap (admits pred) (sym same) ∙ parts.2 in
         rw (touched, admitted, e) refl
     core key false e =
-        let off : is_earlier_on n pred.table key o ≡ false = not_on key e in
-        ap (λ b. cond {A = Option (List Value)} (b && admits pred key) (Some []) None)
-        (touched_with d n pred.table key o os ∙ (ap (λ b. b || touches pred.table key (earlier n os)) off ∙ sym (touched_kept n pred.table key (λ x. meets_first d (full_key o) (full_key x)) os (stays key e))))
+        ap (λ b. cond {A = Option (List Value)} (b && admits pred key) (Some []) None) (sym (touched_kept n pred.table key (λ x. meets_first d (full_key o) (full_key x)) os (stays key e)))
         ∙ (sym (rest_row key) ∙ sym (ap (λ b. cond b (Some []) (row_of (gathered pred n (later_writes d o os) []) key)) e))
-      where
-        drop_last : (a b : Bool) → a && (b && false) ≡ false
-        drop_last true true = refl
-        drop_last true false = refl
-        drop_last false b = refl
-
-        not_on : (key : List Value) → is_eq (key_order o.write.key key) ≡ false → is_earlier_on n pred.table key o ≡ false
-        not_on key e = ap (λ b. nat_lt o.number n && ((o.write.table == pred.table) && b)) e ∙ drop_last (nat_lt o.number n) (o.write.table == pred.table)
 
 -- Of the writes at places
 
--- a write that isn't wanted is passed over
-pub later_sought : (items : List Owned) (left others : List ℕ) (place : ℕ) (o : Owned) (pred : Pred) (n : ℕ) (d : Direction) (whole : List Keyed) → left ≡ with_foremost d place others → o ≡ owned_at items place → is_wanted pred n o ≡ false
-    → gathered pred n (lined items left) [] ≡ whole → gathered pred n (lined items others) [] ≡ whole
-later_sought items left others place o pred n d whole is there un so =
-    sym (passed_over d pred n (owned_at items place) (lined items others) (ap (is_wanted pred n) (sym there) ∙ un))
-    ∙ (sym (ap (λ l. gathered pred n l []) (ap (lined items) is ∙ with_mapped (owned_at items) d place others)) ∙ so)
+-- a key whose first write isn't wanted is passed over
+pub later_sought : (items : List Owned) (left later : List ℕ) (o : Owned) (pred : Pred) (n : ℕ) (d : Direction) (whole : List (List Value)) → IsNextKey d items left o later → is_wanted pred n o ≡ false → sought_keys pred n (lined items left) ≡ whole
+    → sought_keys pred n (lined items later) ≡ whole
+later_sought items left later o pred n d whole next un so =
+    ap (sought_keys pred n) (ap (lined items) next.rest ∙ lined_kept items (λ x. meets_first d (full_key o) (full_key x)) left)
+    ∙ (ap (map (λ (item : Keyed). item.key)) (passed_over d pred n o (lined items left) next.first un) ∙ so)
 
--- the key of one that is wanted is the first
-pub taken_sought : (items : List Owned) (left others kept : List ℕ) (place : ℕ) (o : Owned) (pred : Pred) (n : ℕ) (d : Direction) (whole : List Keyed) → left ≡ with_foremost d place others → o ≡ owned_at items place → is_wanted pred n o ≡ true
-    → kept ≡ filter (λ p. meets_first d (full_key o) (key_at items p)) others → AreInLine items left → gathered pred n (lined items left) [] ≡ whole
-    → map (λ (item : Keyed). item.key) whole ≡ with_foremost d o.write.key (sought_keys pred n (lined items kept))
-taken_sought items left others kept place o pred n d whole is there wanted keeps line so =
-    ap (map (λ (item : Keyed). item.key))
-    (sym so ∙ (ap (λ l. gathered pred n l []) (ap (lined items) is ∙ (with_mapped (owned_at items) d place others ∙ ap (λ x. with_foremost d x (lined items others)) (sym there))) ∙ (taken_first d pred n o (lined items others) wanted behind
-    ∙ ap (λ l. with_foremost d (record { key = o.write.key; row = [] }) (gathered pred n l [])) (sym (ap (lined items) keeps ∙ lined_kept items (λ x. meets_first d (full_key o) (full_key x)) others)))))
-    ∙ with_mapped (λ (item : Keyed). item.key) d (record { key = o.write.key; row = [] }) (gathered pred n (lined items kept) [])
+-- one whose first write is wanted is taken
+pub taken_sought : (items : List Owned) (left later : List ℕ) (o : Owned) (pred : Pred) (n : ℕ) (d : Direction) (whole : List (List Value)) → IsNextKey d items left o later → is_wanted pred n o ≡ true → sought_keys pred n (lined items left) ≡ whole
+    → whole ≡ with_foremost d o.write.key (sought_keys pred n (lined items later))
+taken_sought items left later o pred n d whole next wanted so =
+    sym so
+    ∙ (ap (map (λ (item : Keyed). item.key)) (taken_first d pred n o (lined items left) wanted next.first)
+    ∙ (with_mapped (λ (item : Keyed). item.key) d (record { key = o.write.key; row = [] }) (gathered pred n (later_writes d o (lined items left)) [])
+    ∙ ap (λ l. with_foremost d o.write.key (sought_keys pred n l)) (sym (ap (lined items) next.rest ∙ lined_kept items (λ x. meets_first d (full_key o) (full_key x)) left))))
+
+-- fewer places are left
+kept_fewer : {X : Type 0} (q : X → Bool) (xs : List X) (k : ℕ) (d : X) → k < length xs → q (slice_index_or xs k d) ≡ false → length (filter q xs) < length xs
+kept_fewer q [] k d lt e = absurd (omega (arith, lt))
+kept_fewer q (x ∷ xs) zero d lt e = subst (λ b. length (cond b (x ∷ filter q xs) (filter q xs)) < length (x ∷ xs)) (sym e) none
   where
-    behind : All (λ x. NotAfter d (full_key o) (full_key x)) (lined items others)
-    behind = subst (λ x. All (λ y. NotAfter d (full_key x) (full_key y)) (lined items others)) (sym there)
-        (all_lined items (λ y. NotAfter d (full_key (owned_at items place)) (full_key y)) others (not_after items d place others (subst (AreInLine items) is line).sorted))
+    none : length (filter q xs) < length (x ∷ xs)
+    none = omega (arith, length-filter q xs, count_by-le-length q xs)
+kept_fewer q (x ∷ xs) (suc k) d lt e = by (q x) (kept_fewer q xs k d (omega (arith, lt)) e)
+  where
+    by : (b : Bool) → length (filter q xs) < length xs → length (cond b (x ∷ filter q xs) (filter q xs)) < length (x ∷ xs)
+    by true less = omega (arith, less)
+    by false less = omega (arith, less)
+
+pub later_fewer : (items : List Owned) (left later : List ℕ) (o : Owned) (d : Direction) → IsNextKey d items left o later → length later < length left
+later_fewer items left later o d next =
+    let same : length later ≡ length (later_writes d o (lined items left)) =
+    sym (length-map later (owned_at items)) ∙ ap length (ap (lined items) next.rest ∙ lined_kept items (λ x. meets_first d (full_key o) (full_key x)) left) in
+    let less = kept_fewer (λ x. meets_first d (full_key o) (full_key x)) (lined items left) next.first.among.0 o next.first.among.1 (ap (λ x. meets_first d (full_key o) (full_key x)) next.first.among.2 ∙ never_itself d (full_key o)) in
+    omega (arith, same, less, length-map left (owned_at items))
+
+-- The least key and the greatest
+
+contains_at : (items : List Owned) (places : List ℕ) (i p : ℕ) → i < length places → p ≡ slice_index_or places i p → Contains (lined items places) (owned_at items p)
+contains_at items places i p lt is = (i, omega (arith, lt, length-map places (owned_at items)), get_or-map (owned_at items) places i p ∙ ap (owned_at items) (sym is))
+
+least_first : (items : List Owned) (p : ℕ) (others : List ℕ) (at : ℕ) → AreInLine items (p ∷ others) → at ≤ length (p ∷ others) → IsCut (is_up_to items (key_at items p)) (p ∷ others) at
+    → IsNextKey Forward items (p ∷ others) (owned_at items p) (drop at (p ∷ others))
+least_first items p others at line within cut = record {
+  first = record {
+    among = contains_at items (p ∷ others) 0 p (omega arith) refl;
+    foremost = all_lined items (λ x. is_lt (key_order (full_key x) (key_at items p)) ≡ false) (p ∷ others) later;
+    earliest = all_lined items (λ x. key_at items p ≡ full_key x → (owned_at items p).number ≤ x.number) (p ∷ others) numbers;
+  };
+  rest =
+      part_behind (is_up_to items (key_at items p)) (λ q. is_lt (key_order (key_at items p) (key_at items q))) (λ q h. above_not (key_at items q) (key_at items p) h) (λ q h. above_is (key_at items q) (key_at items p) h) (p ∷ others) at within cut;
+}
+  where
+    later : (k e : ℕ) → k < length (p ∷ others) → is_lt (key_order (key_at items (slice_index_or (p ∷ others) k e)) (key_at items p)) ≡ false
+    later zero e lt = never_itself Forward (key_at items p)
+    later (suc k) e lt = above_not (key_at items p) (key_at items (slice_index_or others k e)) (line.sorted 0 (suc k) e (omega arith) lt)
+
+    numbers : (k e : ℕ) → k < length (p ∷ others) → key_at items p ≡ key_at items (slice_index_or (p ∷ others) k e) → (owned_at items p).number ≤ (owned_at items (slice_index_or (p ∷ others) k e)).number
+    numbers zero e lt same = omega arith
+    numbers (suc k) e lt same = line.numbers 0 (suc k) e (omega arith) lt same
+
+pub least_next : (items : List Owned) (places others later : List ℕ) (p at : ℕ) (o : Owned) → places ≡ p ∷ others → o ≡ owned_at items p → AreInLine items places → at ≤ length places → IsCut (is_up_to items (full_key o)) places at → later ≡ drop at places
+    → IsNextKey Forward items places o later
+least_next items places others later p at o is there line within cut rest =
+    subst (IsNextKey Forward items places o) (sym rest)
+    (subst (λ x. IsNextKey Forward items places x (drop at places)) (sym there)
+    (subst (λ ps. IsNextKey Forward items ps (owned_at items p) (drop at ps)) (sym is) (least_first items p others at (subst (AreInLine items) is line) (subst (λ ps. at ≤ length ps) is within) (subst (λ ps. IsCut (is_up_to items (key_at items p)) ps at) is (subst (λ x. IsCut (is_up_to items (full_key x)) places at) there cut)))))
+
+module _ (items : List Owned) (places others : List ℕ) (last at : ℕ) (is : places ≡ others ++ last ∷ []) (line : AreInLine items places) (within : at ≤ length places) (cut : IsCut (is_below items (key_at items last)) places at) where
+  size : length places ≡ suc (length others)
+  size = ap length is ∙ (length-append others (last ∷ []) ∙ omega arith)
+
+  at_end : (e : ℕ) → slice_index_or places (length others) e ≡ last
+  at_end e = ap (λ ps. slice_index_or ps (length others) e) is ∙ get_or-append_seam others last [] e
+
+  -- the last write isn't below its own key
+  below_size : at < length places
+  below_size = elim (cases_lt at (length places)) [
+    | inl below ↦ below
+    | inr past ↦
+        absurd (both_ways (is_below items (key_at items last) last) (never_itself Forward (key_at items last)) (ap (is_below items (key_at items last)) (sym (at_end 0)) ∙ cut.0 (length others) 0 (omega arith) (omega (arith, past, size))))
+  ]
+
+  up_to_last : (k e : ℕ) → k < length places → is_le (key_order (key_at items (slice_index_or places k e)) (key_at items last)) ≡ true
+  up_to_last k e lt = elim (cases_lt k (length others)) [
+    | inl below ↦ subst (λ p. is_le (key_order (key_at items (slice_index_or places k e)) (key_at items p)) ≡ true) (at_end e) (line.sorted k (length others) e below (omega (arith, size)))
+    | inr past ↦
+        let end' : k ≡ length others = omega (arith, past, lt, size) in
+        let here : slice_index_or places k e ≡ last = ap (λ j. slice_index_or places j e) end' ∙ at_end e in
+        ap (λ p. is_le (key_order (key_at items p) (key_at items last))) here ∙ ap is_le (same_key (key_at items last))
+  ]
+
+  module _ (p : ℕ) (there : p ≡ slice_index_or places at p) where
+    same_last : key_at items p ≡ key_at items last
+    same_last = elim (met_or_same Backward (key_at items p) (key_at items last) (subst (λ q. is_lt (key_order (key_at items q) (key_at items last)) ≡ false) (sym there) (cut.1 at p (omega arith) below_size))) [
+      | inl above ↦
+          absurd (both_ways (is_lt (key_order (key_at items last) (key_at items p))) (above_not (key_at items p) (key_at items last) (subst (λ q. is_le (key_order (key_at items q) (key_at items last)) ≡ true) (sym there) (up_to_last at p below_size))) above)
+      | inr same ↦ same
+    ]
+
+    foremost_last : (k e : ℕ) → k < length places → is_lt (key_order (key_at items p) (key_at items (slice_index_or places k e))) ≡ false
+    foremost_last k e lt = subst (λ key. is_lt (key_order key (key_at items (slice_index_or places k e))) ≡ false) (sym same_last) (above_not (key_at items (slice_index_or places k e)) (key_at items last) (up_to_last k e lt))
+
+    numbers_last : (k e : ℕ) → k < length places → key_at items p ≡ key_at items (slice_index_or places k e) → (owned_at items p).number ≤ (owned_at items (slice_index_or places k e)).number
+    numbers_last k e lt same = elim (cases_lt k at) [
+      | inl under ↦
+          absurd (both_ways (is_lt (key_order (key_at items last) (key_at items last))) (never_itself Forward (key_at items last)) (subst (λ key. is_lt (key_order key (key_at items last)) ≡ true) (sym same ∙ same_last) (cut.0 k e (omega arith) under)))
+      | inr from ↦ elim (cases_lt at k) [
+        | inl later ↦
+            subst (λ q. (owned_at items q).number ≤ (owned_at items (slice_index_or places k e)).number) mine
+            (line.numbers at k e later lt (ap (key_at items) mine ∙ same))
+        | inr up_to ↦
+            let here : slice_index_or places k e ≡ p = ap (λ j. slice_index_or places j e) (omega (arith, from, up_to)) ∙ mine in
+            subst (λ q. (owned_at items p).number ≤ (owned_at items q).number) (sym here) (omega arith)
+      ]
+    ]
+      where
+        mine : slice_index_or places at e ≡ p
+        mine = get_or_default places at e p below_size ∙ sym there
+
+    greatest_first : IsNextKey Backward items places (owned_at items p) (take at places)
+    greatest_first = record {
+      first = record {
+        among = contains_at items places at p below_size there;
+        foremost = all_lined items (λ x. is_lt (key_order (key_at items p) (full_key x)) ≡ false) places foremost_last;
+        earliest = all_lined items (λ x. key_at items p ≡ full_key x → (owned_at items p).number ≤ x.number) places numbers_last;
+      };
+      rest = part_in_front (is_below items (key_at items last)) places at within cut ∙ ap (λ key. filter (is_below items key) places) (sym same_last);
+    }
+
+pub greatest_within : (items : List Owned) (places others : List ℕ) (last at : ℕ) (x : Owned) → places ≡ others ++ last ∷ [] → x ≡ owned_at items last → AreInLine items places → at ≤ length places → IsCut (is_below items (full_key x)) places at → at < length places
+greatest_within items places others last at x is there line within cut = below_size items places others last at is line within (subst (λ y. IsCut (is_below items (full_key y)) places at) there cut)
+
+pub greatest_next : (items : List Owned) (places others later : List ℕ) (last at p : ℕ) (x o : Owned) → places ≡ others ++ last ∷ [] → x ≡ owned_at items last → AreInLine items places → at ≤ length places → IsCut (is_below items (full_key x)) places at
+    → p ≡ slice_index_or places at 0 → o ≡ owned_at items p → later ≡ take at places → IsNextKey Backward items places o later
+greatest_next items places others later last at p x o is there line within cut found here rest =
+    subst (IsNextKey Backward items places o) (sym rest)
+    (subst (λ y. IsNextKey Backward items places y (take at places)) (sym here) (greatest_first items places others last at is line within (subst (λ y. IsCut (is_below items (full_key y)) places at) there cut) p (found ∙ get_or_default places at 0 p (greatest_within items places others last at x is there line within cut))))

@@ -41,10 +41,14 @@ key_at items place = full_key (owned_at items place)
 abbrev pub owned_on : ℕ → List Value → List Owned → List Owned
 owned_on t key all = filter (λ o. is_on t key o.write) all
 
--- the places are in the order of their tables and keys, and those of one key in the order of the writes
+-- the places are in the order of their tables and keys
+abbrev pub AreSorted : List Owned → List ℕ → Type 0
+AreSorted items places = AllPairs (λ p q. is_le (key_order (key_at items p) (key_at items q)) ≡ true) places
+
+-- so are all places, and those of one key are in the order of the writes
 pub record IsIndexed (items : List Owned) (order : List ℕ) : Type 0 where
   pub within : All (λ place. place < length items) order
-  pub sorted : AllPairs (λ p q. is_le (key_order (key_at items p) (key_at items q)) ≡ true) order
+  pub sorted : AreSorted items order
   pub each : (t : ℕ) (key : List Value) → owned_on t key (lined items order) ≡ owned_on t key items
 
 -- the write at a place is to a key below this one, or up to and including it; each key has its table in front

@@ -1,67 +1,68 @@
 //! The keys of own writes, taken from either end.
 
-ghost use Rattle.std.specs.Prelude.{◌≡◌, [], ◌∷◌, pos, IfSome, MatchOption};
-ghost use Rattle.std.specs.List.{filter};
-ghost use Rattle.mv_values.specs.declared.value.Value.TheVariants.{Int};
+ghost use Rattle.std.specs.Prelude.{◌≡◌, [], IfSome, MatchOption};
 ghost use Rattle.mv_table.specs.Scans.{with_foremost};
 ghost use Rattle.mv_table.specs.declared.scan.Direction.TheVariants.{Forward, Backward};
-ghost use Rattle.mv_undo.specs.Taking.{meets_first, sought_keys, AreInLine};
-ghost use Rattle.mv_undo.specs.Indexing.{is_below, is_up_to, key_at, lined};
+ghost use Rattle.mv_undo.specs.Taking.{sought_keys, AreInLine, IsNextKey};
+ghost use Rattle.mv_undo.specs.Indexing.{lined};
 ghost use Rattle.mv_undo.specs.Owning.{earlier, AreSought};
 
-use crate::index::compare_at;
+use crate::index::{count_below, count_up_to};
 use crate::lookup::{is_sought, write_at};
 use crate::owned::Owned;
 use mv_table::scan::Direction;
-use mv_values::patch::Write;
 use mv_values::pred::Pred;
 use mv_values::value::Key;
 use std::marker::Model;
 
-/// Returns the places of the writes to keys above that of a write. Costs the logarithm of the number of places.
-fn places_above<'a>(items: &[Owned], places: &'a [usize], write: &Write) -> &'a [usize]
+/// Returns the first write to the least key, and the places of the writes to greater keys. Costs the logarithm of the
+/// number of places.
+fn least_key<'a>(items: &'a [Owned], places: &'a [usize]) -> Option<(&'a Owned, &'a [usize])>
     requires { AreInLine items.now places.now }
-    ensures { result.now ≡ filter (λ place. meets_first Forward (Int (pos write.now.table) ∷ write.now.key) (key_at items.now place)) places.now }
+    ensures { MatchOption result (places.now ≡ []) (λ next. IsNextKey Forward items.now places.now next.0.now next.1.now) }
 {
-    let at = places.partition_point(
-        |place: &usize| -> bool
-            ensures { result ≡ is_up_to items.entry.now (Int (pos write.entry.now.table) ∷ write.entry.now.key) place.now }
-        { compare_at(items, *place, write.table as u16, write.key.as_slice()).is_le() },
-    );
-    places.split_at(at).1
+    let Some((place, _)) = Direction::Forward.split(places) else {
+        return None;
+    };
+    let first = write_at(items, *place);
+    let write = &first.write;
+    let at = count_up_to(items, places, write.table as u16, write.key.as_slice());
+    Some((first, places.split_at(at).1))
 }
 
-/// Returns the places of the writes to keys below that of a write. Costs the logarithm of the number of places.
-fn places_below<'a>(items: &[Owned], places: &'a [usize], write: &Write) -> &'a [usize]
+/// Returns the first write to the greatest key, and the places of the writes to lower keys. Costs the logarithm of the
+/// number of places.
+fn greatest_key<'a>(items: &'a [Owned], places: &'a [usize]) -> Option<(&'a Owned, &'a [usize])>
     requires { AreInLine items.now places.now }
-    ensures { result.now ≡ filter (λ place. meets_first Backward (Int (pos write.now.table) ∷ write.now.key) (key_at items.now place)) places.now }
+    ensures { MatchOption result (places.now ≡ []) (λ next. IsNextKey Backward items.now places.now next.0.now next.1.now) }
 {
-    let at = places.partition_point(
-        |place: &usize| -> bool
-            ensures { result ≡ is_below items.entry.now (Int (pos write.entry.now.table) ∷ write.entry.now.key) place.now }
-        { compare_at(items, *place, write.table as u16, write.key.as_slice()).is_lt() },
-    );
-    places.split_at(at).0
+    let Some((place, _)) = Direction::Backward.split(places) else {
+        return None;
+    };
+    let write = &write_at(items, *place).write;
+    let at = count_below(items, places, write.table as u16, write.key.as_slice());
+    let first = write_at(items, places[at]);
+    Some((first, places.split_at(at).0))
 }
 
-/// Returns the places of the writes to keys that a scan in this direction meets after the key of a write.
-fn places_past<'a>(
-    items: &[Owned],
+/// Returns the first write to the key that a scan in this direction meets first, and the places of the writes to keys
+/// that it meets later.
+fn next_key<'a>(
+    items: &'a [Owned],
     places: &'a [usize],
     direction: Direction,
-    write: &Write,
-) -> &'a [usize]
+) -> Option<(&'a Owned, &'a [usize])>
     requires { AreInLine items.now places.now }
-    ensures { result.now ≡ filter (λ place. meets_first direction (Int (pos write.now.table) ∷ write.now.key) (key_at items.now place)) places.now }
+    ensures { MatchOption result (places.now ≡ []) (λ next. IsNextKey direction items.now places.now next.0.now next.1.now) }
 {
     match direction {
-        Direction::Forward => places_above(items, places, write),
-        Direction::Backward => places_below(items, places, write),
+        Direction::Forward => least_key(items, places),
+        Direction::Backward => greatest_key(items, places),
     }
 }
 
 /// Returns the key that a scan of the writes at these places meets first of those that a predicate seeks, and the
-/// places of the writes to keys that it meets later.
+/// places of the writes to keys that it meets later. A key is sought exactly if the first write to it is.
 fn first_sought<'a>(
     items: &'a [Owned],
     places: &'a [usize],
@@ -74,13 +75,11 @@ fn first_sought<'a>(
     ensures found { MatchOption result (sought_keys pred.now number (lined items.now places.now) ≡ []) (λ found. sought_keys pred.now number (lined items.now places.now) ≡ with_foremost direction found.0.now (sought_keys pred.now number (lined items.now found.1.now))) }
 {
     let mut left = places;
-    while let Some((place, others)) = direction.split(left) {
-        let owned = write_at(items, *place);
-        if is_sought(owned, number, pred) {
-            let later = places_past(items, others, direction, &owned.write);
-            return Some((&owned.write.key, later));
+    while let Some((first, later)) = next_key(items, left, direction) {
+        if is_sought(first, number, pred) {
+            return Some((&first.write.key, later));
         }
-        left = others;
+        left = later;
     }
     None
 }
@@ -126,8 +125,8 @@ impl<'a> SoughtKeys<'a> {
         }
     }
 
-    /// Takes the key that a scan in this direction meets first. Costs the logarithm of the number of writes, and a look
-    /// at each write that it passes over.
+    /// Takes the key that a scan in this direction meets first. Costs the logarithm of the number of writes, and as much
+    /// for each key that it passes over.
     pub fn take_next(&mut self, direction: Direction) -> Option<&'a Key>
         ensures { MatchOption result (self.old ≡ []) (λ key. self.old ≡ with_foremost direction key.now self.new) }
     {

@@ -11,7 +11,7 @@ ghost use Rattle.mv_values.specs.Order.{value_order, key_order};
 ghost use Rattle.mv_table.specs.Spans.{is_within, IsForward};
 ghost use Rattle.mv_record.specs.Writes.{writes_on};
 ghost use Rattle.mv_undo.specs.Owning.{IsInOrder, earlier};
-ghost use Rattle.mv_undo.specs.Indexing.{IsIndexed, IsComposed, IsCut, IsComposedOf, is_below, is_up_to, is_earlier_up_to, end_in, key_at, lined, owned_at, owned_on, patch_or, writes_at};
+ghost use Rattle.mv_undo.specs.Indexing.{IsIndexed, IsComposed, IsCut, IsComposedOf, is_below, is_up_to, is_earlier_up_to, end_in, key_at, lined, owned_at, owned_on, patch_or, writes_at, AreSorted};
 ghost use Rattle.mv_undo.specs.Taking.{AreInLine};
 
 use crate::owned::Owned;
@@ -46,7 +46,7 @@ fn compare(table: u8, key: &[Value], other: u16, other_key: &[Value]) -> Orderin
 }
 
 /// Compares the key of the write at a place with a key of a table.
-pub(crate) fn compare_at(items: &[Owned], place: usize, table: u16, key: &[Value]) -> Ordering
+fn compare_at(items: &[Owned], place: usize, table: u16, key: &[Value]) -> Ordering
     ensures { result ≡ key_order (key_at items.now place) (Int (pos table) ∷ key.now) }
 {
     match at(items, place) {
@@ -100,13 +100,13 @@ fn part(order: &[usize], from: usize, to: usize) -> &[usize]
     &order[from..to]
 }
 
-/// Counts the places whose writes are below a key of a table. Costs the logarithm of the number of writes.
-fn count_below(items: &[Owned], order: &[usize], table: u16, key: &[Value]) -> usize
-    requires { IsIndexed items.now order.now }
-    ensures within { result ≤ length order.now }
-    ensures below { IsCut (is_below items.now (Int (pos table) ∷ key.now)) order.now result }
+/// Counts the places whose writes are below a key of a table. Costs the logarithm of the number of places.
+pub(crate) fn count_below(items: &[Owned], places: &[usize], table: u16, key: &[Value]) -> usize
+    requires { AreSorted items.now places.now }
+    ensures within { result ≤ length places.now }
+    ensures below { IsCut (is_below items.now (Int (pos table) ∷ key.now)) places.now result }
 {
-    order.partition_point(
+    places.partition_point(
         |place: &usize| -> bool
             ensures { result ≡ is_below items.entry.now (Int (pos table) ∷ key.entry.now) place.now }
         { compare_at(items, *place, table, key).is_lt() },
@@ -114,13 +114,13 @@ fn count_below(items: &[Owned], order: &[usize], table: u16, key: &[Value]) -> u
 }
 
 /// Counts the places whose writes are up to and including a key of a table. Costs the logarithm of the number of
-/// writes.
-fn count_up_to(items: &[Owned], order: &[usize], table: u16, key: &[Value]) -> usize
-    requires { IsIndexed items.now order.now }
-    ensures within { result ≤ length order.now }
-    ensures up_to { IsCut (is_up_to items.now (Int (pos table) ∷ key.now)) order.now result }
+/// places.
+pub(crate) fn count_up_to(items: &[Owned], places: &[usize], table: u16, key: &[Value]) -> usize
+    requires { AreSorted items.now places.now }
+    ensures within { result ≤ length places.now }
+    ensures up_to { IsCut (is_up_to items.now (Int (pos table) ∷ key.now)) places.now result }
 {
-    order.partition_point(
+    places.partition_point(
         |place: &usize| -> bool
             ensures { result ≡ is_up_to items.entry.now (Int (pos table) ∷ key.entry.now) place.now }
         { compare_at(items, *place, table, key).is_le() },
@@ -185,8 +185,8 @@ pub(crate) fn places_in<'a>(
     span: &Span,
 ) -> &'a [usize]
     requires indexed { IsIndexed items.now order.now }
+    requires numbers { IsInOrder items.now }
     requires forward { IsForward span.now }
-    ensures within { All (λ place. place < length items.now) result.now }
     ensures line { AreInLine items.now result.now }
     ensures writes { (key : List Value) → is_within span.now key ≡ true → owned_on table key (lined items.now result.now) ≡ owned_on table key items.now }
 {

@@ -1,18 +1,15 @@
 //! Look-ups in the own writes at given places.
 
-ghost use Rattle.std.specs.Prelude.{◌≡◌, ◌<◌, length, map, All, IfOk};
+ghost use Rattle.std.specs.Prelude.{◌≡◌, ◌<◌, length, All, IfOk};
 ghost use Rattle.std.specs.List.{list_any};
 ghost use Rattle.std.specs.Option.{option_copied};
 ghost use Rattle.mv_undo.specs.Indexing.{owned_at, lined};
-ghost use Rattle.mv_undo.specs.Owning.{earlier, is_earlier_on, is_wanted, AreSought};
+ghost use Rattle.mv_undo.specs.Owning.{is_earlier_on, is_wanted};
 
 use crate::owned::Owned;
-use mv_record::applying::put_row;
 use mv_values::copied::Copied;
-use mv_values::list::List;
 use mv_values::memory::NoMemory;
 use mv_values::pred::Pred;
-use mv_values::rows::Rows;
 use mv_values::value::{Key, Row};
 use std::alloc::Global;
 
@@ -48,39 +45,6 @@ pub(crate) fn is_some_on(
         }
     }
     false
-}
-
-/// Returns the keys of the writes at these places that `is_sought` accepts, each once, in order.
-pub(crate) fn keys_at(
-    alloc: Global,
-    items: &[Owned],
-    places: &[usize],
-    number: usize,
-    pred: &Pred,
-) -> Result<List<Key>, NoMemory>
-    requires { All (λ place. place < length items.now) places.now }
-    ensures { IfOk result (λ keys. AreSought pred.now (earlier number (lined items.now places.now)) keys) }
-{
-    let mut found = Rows::new(alloc);
-    for place in places {
-        let owned = write_at(items, *place);
-        if !is_sought(owned, number, pred) {
-            continue;
-        }
-        put_row(alloc, &mut found, &owned.write.key, Some(List::new(alloc)))?;
-    }
-    keys_of(alloc, found)
-}
-
-/// Returns the keys of rows.
-fn keys_of(alloc: Global, rows: Rows) -> Result<List<Key>, NoMemory>
-    ensures { IfOk result (λ keys. keys ≡ map (λ item. item.key) rows) }
-{
-    let mut keys = List::new(alloc);
-    for item in rows.into_items() {
-        keys.push(item.key)?;
-    }
-    Ok(keys)
 }
 
 /// Returns a copy of a row, if any.

@@ -7,11 +7,13 @@ ghost use Rattle.mv_undo.specs.Owning.{IsInOrder, before, earlier, touches, AreS
 
 use crate::ends::SoughtKeys;
 use crate::index::{count_earlier, place_for, places_in, places_on};
-use crate::lookup::{copy_of, is_some_on, keys_at};
+use crate::lookup::{copy_of, is_some_on};
 use crate::owned::Owned;
 use crate::state::{patch_before, patch_with};
 use mv_record::applying::patch_row;
+use mv_table::scan::Direction;
 use mv_table::span::Span;
+use mv_values::copied::Copied;
 use mv_values::list::List;
 use mv_values::memory::NoMemory;
 use mv_values::patch::{Patch, Write};
@@ -117,15 +119,17 @@ impl Undo {
     }
 
     /// Returns the keys of the predicate's table that records below `number` wrote and that the predicate admits, each
-    /// once, in order. Fails if memory runs out. Looks only at writes to keys in the span that the predicate's tests
-    /// leave.
+    /// once, in order. Fails if memory runs out. Costs the logarithm of the number of writes for each written key in the
+    /// span that the predicate's tests leave.
     pub fn keys(&self, alloc: Global, number: usize, pred: &Pred) -> Result<List<Key>, NoMemory>
         ensures { IfOk result (λ keys. AreSought pred.now (earlier number self.now) keys) }
     {
-        let span = Span::of(alloc, pred.tests.as_slice())?;
-        let items = self.items.as_slice();
-        let places = places_in(items, self.order.as_slice(), pred.table, &span);
-        keys_at(alloc, items, places, number, pred)
+        let mut sought = self.sought_keys(alloc, number, pred)?;
+        let mut keys = List::new(alloc);
+        while let Some(key) = sought.take_next(Direction::Forward) {
+            keys.push(key.copy(alloc)?)?;
+        }
+        Ok(keys)
     }
 
     /// Returns the keys of the predicate's table that records below `number` wrote and that the predicate admits, to be

@@ -8,5 +8,5 @@ use Rattle.mv_undo.proofs.index.count_below.Goals as goal
 
 pub returns-clause-below : goal.returns-clause-below
 returns-clause-below c =
-    cut_below c.args.items.now c.args.order.now (Int (pos c.args.table) ∷ c.args.key.now) c.partition_point.result c.requires
+    cut_below c.args.items.now c.args.places.now (Int (pos c.args.table) ∷ c.args.key.now) c.partition_point.result c.requires
     (c.partition_point.ensures.partitioned (is_below c.args.items.now (Int (pos c.args.table) ∷ c.args.key.now)) (always_returns_same _ _ _ (λ a r f h. search rules)))

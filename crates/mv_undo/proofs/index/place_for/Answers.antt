@@ -13,13 +13,13 @@ pub returns-clause-up_to : goal.returns-clause-up_to
 returns-clause-up_to c =
     let key = Int (pos c.args.write.now.table) ∷ c.args.write.now.key in
     up_to_taken c.args.items.now c.args.order.now c.partition_point.result key c.partition_point.ensures.bound
-    (cut_up_to c.args.items.now c.args.order.now key c.partition_point.result c.requires (c.partition_point.ensures.partitioned (is_up_to c.args.items.now key) (always_returns_same _ _ _ (λ a r f h. search rules))))
+    (cut_up_to c.args.items.now c.args.order.now key c.partition_point.result c.requires.sorted (c.partition_point.ensures.partitioned (is_up_to c.args.items.now key) (always_returns_same _ _ _ (λ a r f h. search rules))))
 
 pub returns-clause-composed : goal.returns-clause-composed
 returns-clause-composed c = λ number composed made kept does.
     let key = Int (pos c.args.write.now.table) ∷ c.args.write.now.key in
     composed_more c.args.items.now composed c.args.order.now (record { number = number; write = c.args.write.now }) made c.partition_point.result c.requires kept
-    (cut_up_to c.args.items.now c.args.order.now key c.partition_point.result c.requires (c.partition_point.ensures.partitioned (is_up_to c.args.items.now key) (always_returns_same _ _ _ (λ a r f h. search rules)))) does
+    (cut_up_to c.args.items.now c.args.order.now key c.partition_point.result c.requires.sorted (c.partition_point.ensures.partitioned (is_up_to c.args.items.now key) (always_returns_same _ _ _ (λ a r f h. search rules)))) does
 
 pub returns-clause-indexed : goal.returns-clause-indexed
 returns-clause-indexed c = λ number.
