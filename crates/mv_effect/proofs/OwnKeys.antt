@@ -1,9 +1,9 @@
 -- Own keys that are taken one after another, and what they were asked for.
-use Rattle.std.proofs.Common.{◌≡◌, ◌≤◌, ◌+◌, ◌-◌, ◌⊎◌, inl, inr, ℕ, suc, Bool, true, false, List, [], ◌∷◌, ◌++◌, Option, Some, None, Result, Ok, Err, All, length, slice_index_or, refl, sym, ap, subst, ◌∙◌, arith}
+use Rattle.std.proofs.Common.{◌≡◌, ◌≤◌, ◌+◌, ◌-◌, ◌⊎◌, inl, inr, ℕ, suc, Bool, true, false, List, [], ◌∷◌, ◌++◌, Option, Some, None, Ok, Err, All, length, slice_index_or, refl, sym, ap, subst, ◌∙◌, arith}
 use Rattle.std.proofs.Math.ListN.{get_or-append}
 use Rattle.std.proofs.Math.Seq.{get_or-append_seam}
 use Rattle.std.proofs.lemmas.List.{length-append}
-use Rattle.std.specs.Prelude.{AllPairs, ◌||◌}
+use Rattle.std.specs.Prelude.{AllPairs, ◌||◌, IsTrue}
 use Rattle.std.specs.Ordering.{is_eq, is_lt}
 use Rattle.std.specs.declared.cmp.Ordering.TheVariants.{Less}
 use Rattle.std.proofs.lemmas.Bool.{both_ways}
@@ -12,7 +12,7 @@ use Rattle.mv_values.specs.declared.rows.Keyed.{Keyed}
 use Rattle.mv_values.specs.declared.pred.Pred.{Pred}
 use Rattle.mv_values.specs.Order.{key_order}
 use Rattle.mv_values.specs.Patching.{row_of}
-use Rattle.mv_values.specs.Counts.{one_more}
+use Rattle.mv_values.specs.Counts.{one_more, Rose}
 use Rattle.mv_values.proofs.KeyOrder.{tied}
 use Rattle.mv_table.specs.declared.scan.Direction.{Direction}
 use Rattle.mv_table.specs.declared.scan.Direction.TheVariants.{Forward, Backward}
@@ -21,11 +21,11 @@ use Rattle.mv_undo.specs.Taking.{meets_first}
 use Rattle.mv_undo.specs.declared.owned.Owned.{Owned}
 use Rattle.mv_undo.specs.Owning.{earlier, is_among, is_sought}
 use Rattle.mv_undo.proofs.Taking.{never_itself}
-use Rattle.mv_view.specs.Viewing.{Sight, with_row_call, answered}
+use Rattle.mv_view.specs.Viewing.{Sight}
 use Rattle.mv_view.specs.declared.view.Refused.{Refused}
 use Rattle.mv_view.specs.declared.view.Refused.TheVariants.{NoMemory, Stale}
 use Rattle.mv_effect.specs.Firsts.{is_met_before, IsFirstOf}
-use Rattle.mv_effect.specs.Looking.{AskedAtMost}
+use Rattle.mv_effect.specs.Looking.{AskedAtMost, IsSameView, OnlyAsks, WasNeverStale}
 use Rattle.mv_effect.proofs.Asked.{WasAsked}
 use Rattle.mv_effect.proofs.Foremost.{met_after, not_both}
 
@@ -155,21 +155,38 @@ asked_nothing n s = record {
   counts = record { for_rows = omega arith; for_row = omega arith };
 }
 
--- one more row
-pub asked_again : (n : ℕ) (d : Direction) (k : List Value) (keys rest : List (List Value)) (s t u : Sight) → keys ≡ with_foremost d k rest → length keys ≤ n → WasAsked 0 (n - length keys) s t → u ≡ with_row_call t → WasAsked 0 (n - length rest) s u
-asked_again n d k keys rest s t u is le asked call = record {
-  same = record {
-    database = ap (λ (v : Sight). v.database) call ∙ asked.same.database;
-    start = ap (λ (v : Sight). v.start) call ∙ asked.same.start;
-    may_be_stale = ap (λ (v : Sight). v.may_be_stale) call ∙ asked.same.may_be_stale;
+same_then : (s t u : Sight) → IsSameView s t → IsSameView t u → IsSameView s u
+same_then s t u same more = record { database = more.database ∙ same.database; start = more.start ∙ same.start; may_be_stale = more.may_be_stale ∙ same.may_be_stale }
+
+never_then : (s t u : Sight) → WasNeverStale s t → WasNeverStale t u → WasNeverStale s u
+never_then s t u never more = record { answers = more.answers ∙ never.answers; last_low = more.last_low ∙ never.last_low }
+
+-- a view that never answered Stale, and then was only asked
+pub asks_well : {A B : Type 0} (s t u : Sight) (x : A) (y : B) → IsSameView s t → WasNeverStale s t → OnlyAsks {A = A} t u (Ok x) → OnlyAsks {A = B} s u (Ok y)
+asks_well s t u x y same never only = record { same = same_then s t u same only.same; may_refuse = only.may_refuse; passes_on = never_then s t u never only.passes_on }
+
+pub asks_in_vain : {A B : Type 0} (s t u : Sight) (e : Refused) → IsSameView s t → WasNeverStale s t → OnlyAsks {A = A} t u (Err e) → OnlyAsks {A = B} s u (Err e)
+asks_in_vain s t u NoMemory same never only = record { same = same_then s t u same only.same; may_refuse = only.may_refuse; passes_on = never_then s t u never only.passes_on }
+asks_in_vain s t u (Stale start low) same never only = record {
+  same = same_then s t u same only.same;
+  may_refuse = record {
+    may_be = subst (λ b. IsTrue b) same.may_be_stale only.may_refuse.may_be;
+    own_start = only.may_refuse.own_start ∙ same.start;
+    too_late = only.may_refuse.too_late;
+    rose = subst (λ n. Rose n u.stale_answers) never.answers only.may_refuse.rose;
   };
-  stale = record { answers = ap (λ (v : Sight). v.stale_answers) call ∙ asked.stale.answers; last_low = ap (λ (v : Sight). v.last_low) call ∙ asked.stale.last_low };
+  passes_on = record { answers = only.passes_on.answers ∙ ap one_more never.answers; last_low = only.passes_on.last_low };
+}
+
+-- one more row
+pub asked_again : (n : ℕ) (d : Direction) (k : List Value) (keys rest : List (List Value)) (s t u : Sight) → keys ≡ with_foremost d k rest → length keys ≤ n → WasAsked 0 (n - length keys) s t → IsSameView t u → WasNeverStale t u → AskedAtMost 0 1 t u
+    → WasAsked 0 (n - length rest) s u
+asked_again n d k keys rest s t u is le asked same never looks = record {
+  same = same_then s t u asked.same same;
+  stale = never_then s t u asked.stale never;
   counts = record {
-    for_rows = let same : u.rows_calls ≡ t.rows_calls = ap (λ (v : Sight). v.rows_calls) call in omega (arith, same, asked.counts.for_rows);
-    for_row =
-        let one : u.row_calls ≡ one_more t.row_calls = ap (λ (v : Sight). v.row_calls) call in
-        let up : one_more t.row_calls ≤ t.row_calls + 1 = omega arith in
-        omega (arith, one, up, asked.counts.for_row, le, one_fewer d k keys rest is);
+    for_rows = omega (arith, looks.for_rows, asked.counts.for_rows);
+    for_row = omega (arith, looks.for_row, asked.counts.for_row, le, one_fewer d k keys rest is);
   };
 }
 
@@ -177,21 +194,7 @@ asked_again n d k keys rest s t u is le asked call = record {
 pub asked_within : (n m : ℕ) (s t : Sight) → WasAsked 0 (n - m) s t → AskedAtMost 0 n s t
 asked_within n m s t asked = record { for_rows = asked.counts.for_rows; for_row = omega (arith, asked.counts.for_row) }
 
--- so it is with a call that failed
-pub failed_within : {A : Type 0} (n : ℕ) (d : Direction) (k : List Value) (keys rest : List (List Value)) (s t u : Sight) (r : Result A Refused) → keys ≡ with_foremost d k rest → length keys ≤ n → WasAsked 0 (n - length keys) s t
-    → u ≡ answered r (with_row_call t) → AskedAtMost 0 n s u
-failed_within {A = A} n d k keys rest s t u r is le asked call =
-    let same : u.rows_calls ≡ t.rows_calls = ap (λ (v : Sight). v.rows_calls) call ∙ rows r in
-    let one : u.row_calls ≡ one_more t.row_calls = ap (λ (v : Sight). v.row_calls) call ∙ row r in
-    let up : one_more t.row_calls ≤ t.row_calls + 1 = omega arith in
-    record { for_rows = omega (arith, same, asked.counts.for_rows); for_row = omega (arith, one, up, asked.counts.for_row, le, one_fewer d k keys rest is) }
-  where
-    rows : (r : Result A Refused) → (answered r (with_row_call t)).rows_calls ≡ t.rows_calls
-    rows (Ok x) = refl
-    rows (Err NoMemory) = refl
-    rows (Err (Stale start low)) = refl
-
-    row : (r : Result A Refused) → (answered r (with_row_call t)).row_calls ≡ one_more t.row_calls
-    row (Ok x) = refl
-    row (Err NoMemory) = refl
-    row (Err (Stale start low)) = refl
+-- so it is with one more row
+pub failed_within : (n : ℕ) (d : Direction) (k : List Value) (keys rest : List (List Value)) (s t u : Sight) → keys ≡ with_foremost d k rest → length keys ≤ n → WasAsked 0 (n - length keys) s t → AskedAtMost 0 1 t u → AskedAtMost 0 n s u
+failed_within n d k keys rest s t u is le asked looks =
+    record { for_rows = omega (arith, looks.for_rows, asked.counts.for_rows); for_row = omega (arith, looks.for_row, asked.counts.for_row, le, one_fewer d k keys rest is) }

@@ -1,10 +1,10 @@
 -- Where no write is on a key that a predicate admits, the predicate finds the same rows as before the writes.
-use Rattle.std.proofs.Common.{◌≡◌, ◌<◌, ℕ, List, [], ◌∷◌, None, length, refl, sym, ap, subst, if◌then◌else◌, arith}
+use Rattle.std.proofs.Common.{◌≡◌, ◌<◌, ℕ, true, false, List, [], ◌∷◌, length, refl, sym, subst, ◌∙◌, arith}
 use Rattle.mv_values.specs.declared.value.Value.{Value}
 use Rattle.mv_values.specs.declared.rows.Keyed.{Keyed}
 use Rattle.mv_values.specs.declared.patch.Write.{Write}
 use Rattle.mv_values.specs.declared.pred.Pred.{Pred}
-use Rattle.mv_values.specs.Patching.{row_of, applied, found_by}
+use Rattle.mv_values.specs.Patching.{applied, found_by}
 use Rattle.mv_values.specs.Tables.{rows_at}
 use Rattle.mv_record.specs.Writes.{AreRising}
 use Rattle.mv_record.specs.Admitting.{Admitted}
@@ -31,7 +31,7 @@ none_written pred ws rows keys db sought none rising table found before behind =
       rising = rising;
       table = table;
       found = found;
-      old = λ key. ap (λ b. if b then row_of (rows_at db pred.table) key else None) (nothing.are key);
+      old = λ key so unfixed. let no : false ≡ true = nothing.are key ∙ so in cc;
       before = before;
       behind = behind;
     })

@@ -1,6 +1,6 @@
 //! The rows that a statement sees: those of a view, after the call's own writes.
 
-ghost use Rattle.std.specs.Prelude.{◌≡◌, ◌<◌, None, IfOk, OnOk, length, if◌then◌else◌, List};
+ghost use Rattle.std.specs.Prelude.{◌≡◌, ◌<◌, true, false, IfOk, OnOk, length, List};
 ghost use Rattle.mv_values.specs.declared.value.Value.{Value};
 ghost use Rattle.std.specs.Option.{option_copied};
 ghost use Rattle.mv_values.specs.Patching.{row_of, placed, applied, found_by};
@@ -9,8 +9,8 @@ ghost use Rattle.mv_values.specs.Tables.{rows_at};
 ghost use Rattle.mv_table.specs.Scans.{foremost};
 ghost use Rattle.mv_alone.specs.Rows.{is_some_row};
 ghost use Rattle.mv_record.specs.Admitting.{Admitted};
-ghost use Rattle.mv_record.specs.Writes.{AreRising};
-ghost use Rattle.mv_undo.specs.Owning.{earlier, is_among, is_sought, touches, AreSought};
+ghost use Rattle.mv_record.specs.Writes.{writes_on, AreRising};
+ghost use Rattle.mv_undo.specs.Owning.{earlier, is_among, is_fixed, is_sought, touches, AreSought};
 ghost use Rattle.mv_view.specs.Viewing.{MayAnswer, answered, with_row_call};
 ghost use Rattle.mv_effect.specs.Looking.{different, AreSoundTables, OnlyAsks, AskedAtMost};
 ghost use Rattle.mv_effect.specs.Firsts.{is_met_before, IsFirstOf};
@@ -47,19 +47,25 @@ fn add_row<V: View>(
     Ok(())
 }
 
-/// Returns the view's rows under these keys of a table. Asks the view once for each key.
+/// Returns the view's rows under those of these keys of a table whose rows the own writes of records with smaller numbers
+/// don't fix. Asks the view once for each of them.
 fn rows_under<V: View>(
     alloc: Global,
+    undo: &Undo,
+    number: usize,
     table: u8,
     keys: &[Key],
     view: &mut V,
 ) -> Result<Rows, Refused>
-    ensures found { IfOk result (λ own. (key : List Value) → row_of own key ≡ (if is_among keys.now key then row_of (rows_at (V.sight view.old).database table) key else None)) }
+    ensures found { IfOk result (λ own. (key : List Value) → is_among keys.now key ≡ true → is_fixed (writes_on table key (earlier number undo.now)) ≡ false → row_of own key ≡ row_of (rows_at (V.sight view.old).database table) key) }
     ensures view { OnlyAsks (V.sight view.old) (V.sight view.new) result }
     ensures looks { AskedAtMost 0 (length keys.now) (V.sight view.old) (V.sight view.new) }
 {
     let mut own = Rows::new(alloc);
     for key in keys {
+        if undo.fixes(number, table, key) {
+            continue;
+        }
         add_row(alloc, table, key, &mut own, view)?;
     }
     Ok(own)
@@ -82,7 +88,7 @@ fn written_keys(
 }
 
 /// Returns the predicate's rows after the own writes of records with smaller numbers, in key order. Asks the view once
-/// for its rows, and once for each key that these records wrote and the predicate admits.
+/// for its rows, and once for each key that these records wrote and the predicate admits, where they don't fix its row.
 fn look<V: View>(
     alloc: Global,
     pred: &Pred,
@@ -103,13 +109,14 @@ fn look<V: View>(
     if keys.as_slice().is_empty() {
         return Ok(rows);
     }
-    let own = rows_under(alloc, pred.table, keys.as_slice(), view)?;
-    let rows = undo.overlay(alloc, number, pred, rows, own)?;
+    let keys = keys.as_slice();
+    let own = rows_under(alloc, undo, number, pred.table, keys, view)?;
+    let rows = undo.overlay(alloc, number, pred, keys, rows, own)?;
     Ok(rows)
 }
 
 /// Returns the predicate's rows after the call's own writes that the statement sees, in key order. Asks the view once
-/// for its rows, and once for each key that these writes are on and the predicate admits.
+/// for its rows, and once for each key that these writes are on and the predicate admits, where they don't fix its row.
 pub(crate) fn visible_rows<V: View>(
     alloc: Global,
     context: &Context<'_>,
@@ -164,8 +171,29 @@ fn matched(pred: &Pred, row: Option<Row>) -> Option<Row>
     }
 }
 
+/// Returns the view's row under a key of a table, or `None` where the own writes of records with smaller numbers fix the
+/// row. Then it doesn't ask the view, else once.
+fn row_before<V: View>(
+    alloc: Global,
+    undo: &Undo,
+    number: usize,
+    table: u8,
+    key: &Key,
+    view: &mut V,
+) -> Result<Option<Row>, Refused>
+    ensures found { IfOk result (λ row. is_fixed (writes_on table key.now (earlier number undo.now)) ≡ false → row ≡ row_of (rows_at (V.sight view.old).database table) key.now) }
+    ensures view { OnlyAsks (V.sight view.old) (V.sight view.new) result }
+    ensures looks { AskedAtMost 0 1 (V.sight view.old) (V.sight view.new) }
+{
+    if undo.fixes(number, table, key) {
+        return Ok(None);
+    }
+    let was = view.row(alloc, table, key)?;
+    Ok(was)
+}
+
 /// Returns the row under a key after the own writes of records with smaller numbers, if the predicate matches it. Asks
-/// the view once, for the row before them.
+/// the view for the row before them, where they don't fix the row.
 fn own_row<V: View>(
     alloc: Global,
     pred: &Pred,
@@ -177,17 +205,17 @@ fn own_row<V: View>(
     requires rising { AreRising (V.sight view.old).database }
     requires table { pred.now.table < length (V.sight view.old).database }
     ensures found { IfOk result (λ row. row ≡ row_of (found_by pred.now (applied (earlier number undo.now) (V.sight view.old).database)) key.now) }
-    ensures counts { V.sight view.new ≡ answered result (with_row_call (V.sight view.old)) }
-    ensures stale { MayAnswer (V.sight view.old) (V.sight view.new) result }
+    ensures view { OnlyAsks (V.sight view.old) (V.sight view.new) result }
+    ensures looks { AskedAtMost 0 1 (V.sight view.old) (V.sight view.new) }
 {
-    let was = view.row(alloc, pred.table, key)?;
+    let was = row_before(alloc, undo, number, pred.table, key, view)?;
     let row = undo.row_behind(alloc, number, pred.table, key, was.as_ref())?;
     Ok(matched(pred, row))
 }
 
 /// Returns the first row in this direction, of those that the predicate matches after the own writes of records with
 /// smaller numbers and whose keys these writes are on, if a scan meets it before another row. Asks the view for the row
-/// under each such key that the scan meets until then.
+/// under each such key that the scan meets until then, where these writes don't fix the row.
 fn first_own<V: View>(
     alloc: Global,
     pred: &Pred,
@@ -221,7 +249,8 @@ fn first_own<V: View>(
 
 /// Returns the first row in this direction of those that the predicate matches after the own writes of records with
 /// smaller numbers. Asks the view once for its first row under a key that these writes aren't on, and then for the row
-/// under each of their keys that a scan meets before that one, until it has met a row.
+/// under each of their keys that a scan meets before that one, until it has met a row. It doesn't ask for a row that these
+/// writes fix.
 fn first_after<V: View>(
     alloc: Global,
     pred: &Pred,
@@ -251,7 +280,7 @@ fn first_after<V: View>(
 
 /// Returns the first row in this direction of those that `visible_rows` returns. Asks the view once for its first row
 /// under a key that the call's own writes aren't on. Then it asks for the row under each of their keys that a scan meets
-/// before that one, until it has met a row.
+/// before that one, until it has met a row. It doesn't ask for a row that these writes fix.
 pub(crate) fn first_visible<V: View>(
     alloc: Global,
     context: &Context<'_>,

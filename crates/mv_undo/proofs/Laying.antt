@@ -1,5 +1,5 @@
 -- The rows of a predicate behind own writes.
-use Rattle.std.proofs.Common.{◌≡◌, ◌≤◌, drop, slice_index_or, ℕ, zero, suc, ◌+◌, ◌<◌, Bool, true, false, cond, List, [], ◌∷◌, Option, None, length, refl, sym, ap, subst, ◌∙◌, arith}
+use Rattle.std.proofs.Common.{◌≡◌, ◌≤◌, drop, slice_index_or, ℕ, zero, suc, ◌+◌, ◌<◌, Bool, true, false, cond, List, [], ◌∷◌, Option, length, refl, sym, ap, subst, ◌∙◌, arith}
 use Rattle.std.proofs.lemmas.List.{drop_more}
 use Rattle.std.specs.Prelude.{◌&&◌, ◌||◌}
 use Rattle.std.specs.Ordering.{is_eq}
@@ -18,6 +18,7 @@ use Rattle.mv_record.proofs.Rising.{unadmitted}
 use Rattle.mv_record.proofs.Patching.{row_of-placed_same, placed_other, rising_placed, rows_same, row_of-found, rising_found, row_applied, rising_applied}
 use Rattle.mv_undo.specs.Owning.{touches, is_among, AreSought}
 use Rattle.mv_undo.specs.Overlaying.{IsSeen}
+use Rattle.mv_undo.proofs.Fixing.{fixed_or_same}
 
 -- the row that the predicate finds under a key behind writes, from the row before them
 abbrev pub new_row : Pred → List Write → List Keyed → List Value → Option (List Value)
@@ -80,14 +81,14 @@ laid_found pred ws rows own ks db sought seen =
     new : (key : List Value) → row_of (rows_at (applied ws db) pred.table) key ≡ patched_by (writes_on pred.table key ws) (row_of (rows_at db pred.table) key)
     new key = row_applied ws db pred.table key seen.table seen.rising
 
-    at_own : (key : List Value) → touches pred.table key ws ≡ true → admits pred key ≡ true → row_of own key ≡ row_of (rows_at db pred.table) key
-    at_own key p q = seen.old key ∙ ap (λ b. cond b (row_of (rows_at db pred.table) key) None) (ap (λ b. b && admits pred key) p ∙ q)
+    at_own : (key : List Value) → touches pred.table key ws ≡ true → admits pred key ≡ true → patched_by (writes_on pred.table key ws) (row_of own key) ≡ patched_by (writes_on pred.table key ws) (row_of (rows_at db pred.table) key)
+    at_own key p q = fixed_or_same (writes_on pred.table key ws) (row_of own key) (row_of (rows_at db pred.table) key) (seen.old key (ap (λ b. b && admits pred key) p ∙ q))
 
     by : (key : List Value) (b : Bool) → touches pred.table key ws ≡ b → (a : Bool) → admits pred key ≡ a
         → cond (touches pred.table key ws && admits pred key) (new_row pred ws own key) (row_of rows key) ≡ matched pred (row_of (rows_at (applied ws db) pred.table) key)
     by key true p true q =
         ap (λ b. cond b (new_row pred ws own key) (row_of rows key)) (ap (λ b. b && admits pred key) p ∙ q)
-        ∙ ap (matched pred) (ap (patched_by (writes_on pred.table key ws)) (at_own key p q) ∙ sym (new key))
+        ∙ ap (matched pred) (at_own key p q ∙ sym (new key))
     by key true p false q =
         ap (λ b. cond b (new_row pred ws own key) (row_of rows key)) (ap (λ b. b && admits pred key) p ∙ q)
         ∙ (old key ∙ (unadmitted pred (rows_at db pred.table) key seen.before q ∙ sym (unadmitted pred (rows_at (applied ws db) pred.table) key seen.behind q)))
@@ -107,7 +108,6 @@ laid_past pred ws own [] (suc i) rows le = refl
 laid_past pred ws own (k ∷ ks) zero rows le = absurd (omega (arith, le))
 laid_past pred ws own (k ∷ ks) (suc i) rows le = laid_past pred ws own ks i rows (omega (arith, le))
 
-pub laid_all : (pred : Pred) (ws : List Write) (rows own : List Keyed) (items ks : List (List Value)) (i : ℕ) (now : List Keyed) → laid pred ws own (drop i items) now ≡ laid pred ws own items rows → length items ≤ i → items ≡ ks
+pub laid_all : (pred : Pred) (ws : List Write) (rows own : List Keyed) (ks : List (List Value)) (i : ℕ) (now : List Keyed) → laid pred ws own (drop i ks) now ≡ laid pred ws own ks rows → length ks ≤ i
     → AreSought pred ws ks → (db : List (List Keyed)) → IsSeen pred ws rows own db → now ≡ found_by pred (applied ws db)
-laid_all pred ws rows own items ks i now h le same sought db seen =
-    sym (laid_past pred ws own items i now le) ∙ (h ∙ (ap (λ l. laid pred ws own l rows) same ∙ laid_found pred ws rows own ks db sought seen))
+laid_all pred ws rows own ks i now h le sought db seen = sym (laid_past pred ws own ks i now le) ∙ (h ∙ laid_found pred ws rows own ks db sought seen)

@@ -1,4 +1,5 @@
 pub mod Owning
+pub mod Fixing
 pub mod Laying
 pub mod Merging
 pub mod KeyPlaces

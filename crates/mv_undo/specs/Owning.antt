@@ -1,9 +1,11 @@
 -- The writes of a running call, each with the number of its record.
-use Rattle.std.specs.Prelude.{◌≡◌, ◌≤◌, ℕ, Bool, ◌&&◌, ◌==◌, nat_lt, List, map, AllPairs, length, take}
+use Rattle.std.specs.Prelude.{◌≡◌, ◌≤◌, ℕ, Bool, true, false, ◌&&◌, ◌==◌, nat_lt, List, map, AllPairs, length, take}
 use Rattle.std.specs.List.{filter, list_any}
 use Rattle.std.specs.Ordering.{is_eq}
 use Rattle.std.specs.declared.cmp.Ordering.TheVariants.{Less}
 use Rattle.mv_values.specs.declared.value.Value.{Value}
+use Rattle.mv_values.specs.declared.patch.Patch.{Patch}
+use Rattle.mv_values.specs.declared.patch.Patch.TheVariants.{Insert, Set, Delete}
 use Rattle.mv_values.specs.declared.patch.Write.{Write}
 use Rattle.mv_values.specs.declared.pred.Pred.{Pred}
 use Rattle.mv_values.specs.Order.{key_order}
@@ -33,6 +35,16 @@ HasWritesOf undo records = (number : ℕ) → number ≤ length records → earl
 -- a write to this key of this table, by a record with a smaller number
 abbrev pub is_earlier_on : ℕ → ℕ → List Value → Owned → Bool
 is_earlier_on number t key o = nat_lt o.number number && is_on t key o.write
+
+-- the patch leaves the same row, whatever row was there
+abbrev pub is_whole : Patch → Bool
+is_whole (Insert row) = true
+is_whole (Set items) = false
+is_whole Delete = true
+
+-- one of the writes does, so that they leave the same row, whatever row was there before them
+abbrev pub is_fixed : List Write → Bool
+is_fixed ws = list_any (λ w. is_whole w.patch) ws
 
 -- some write is to this key of the predicate's table, and the predicate admits the key
 abbrev pub is_sought : Pred → List Write → List Value → Bool

@@ -4,7 +4,7 @@ ghost use Rattle.std.specs.Prelude.{◌≡◌, List, IfOk};
 ghost use Rattle.mv_values.specs.declared.rows.Keyed.{Keyed};
 ghost use Rattle.mv_values.specs.Patching.{applied, found_by};
 ghost use Rattle.mv_values.specs.Preds.{matched};
-ghost use Rattle.mv_undo.specs.Owning.{earlier};
+ghost use Rattle.mv_undo.specs.Owning.{earlier, AreSought};
 ghost use Rattle.mv_undo.specs.Overlaying.{IsSeen};
 
 use crate::merge::Merge;
@@ -13,7 +13,7 @@ use mv_record::applying::find_row;
 use mv_values::memory::NoMemory;
 use mv_values::pred::Pred;
 use mv_values::rows::Rows;
-use mv_values::value::Row;
+use mv_values::value::{Key, Row};
 use std::alloc::Global;
 
 /// Returns the row if the predicate matches it.
@@ -27,22 +27,23 @@ fn matched(pred: &Pred, row: Option<Row>) -> Option<Row>
 }
 
 impl Undo {
-    /// Returns the predicate's rows after the writes of records below `number`. `rows` are its rows before these
-    /// writes. `own` are the database's rows before them at the keys that `keys` returns. Fails if memory runs out.
-    /// Moves each row once.
+    /// Returns the predicate's rows after the writes of records below `number`. `keys` are those that `Undo::keys`
+    /// returns. `rows` are the predicate's rows before these writes. `own` has the database's rows before them at those
+    /// keys for which `fixes` doesn't hold. Fails if memory runs out. Moves each row once.
     pub fn overlay(
         &self,
         alloc: Global,
         number: usize,
         pred: &Pred,
+        keys: &[Key],
         rows: Rows,
         own: Rows,
     ) -> Result<Rows, NoMemory>
+        requires { AreSought pred.now (earlier number self.now) keys.now }
         ensures { IfOk result (λ after. (db : List (List Keyed)) → IsSeen pred.now (earlier number self.now) rows own db → after ≡ found_by pred.now (applied (earlier number self.now) db)) }
     {
-        let keys = self.keys(alloc, number, pred)?;
         let mut merge = Merge::of(alloc, rows);
-        for key in keys.as_slice() {
+        for key in keys {
             let row = self.row_behind(alloc, number, pred.table, key, find_row(&own, key))?;
             merge.put(alloc, key, matched(pred, row))?;
         }

@@ -6,6 +6,7 @@ ghost use Rattle.mv_values.specs.declared.value.Value.TheVariants.{Int};
 ghost use Rattle.mv_values.specs.declared.patch.Write.{Write};
 ghost use Rattle.mv_record.specs.Writes.{writes_on};
 ghost use Rattle.mv_undo.specs.Indexing.{IsIndexed, IsComposed, IsComposedOf, DoesAll, is_up_to, patch_at, patch_or, writes_at};
+ghost use Rattle.mv_undo.specs.Owning.{is_whole};
 
 use crate::lookup::write_at;
 use crate::owned::Owned;
@@ -14,6 +15,17 @@ use mv_values::memory::NoMemory;
 use mv_values::patch::{Patch, Write};
 use mv_values::value::Key;
 use std::alloc::Global;
+
+/// Whether a patch leaves the same row, whatever row was there.
+pub(crate) fn is_whole(patch: &Patch) -> bool
+    ensures { result ≡ is_whole patch.now }
+{
+    match patch {
+        Patch::Insert(_) => true,
+        Patch::Set(_) => false,
+        Patch::Delete => true,
+    }
+}
 
 /// Returns the patch that is kept for the write at a place.
 fn patch_at<'a>(items: &'a [Owned], composed: &'a [Option<Patch>], place: usize) -> &'a Patch

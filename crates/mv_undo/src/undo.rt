@@ -3,13 +3,14 @@
 ghost use Rattle.std.specs.Prelude.{◌≡◌, ◌≤◌, nat_lt, [], ◌∷◌, ◌++◌, All, IfOk, OnOk, OnErr};
 ghost use Rattle.std.specs.Option.{option_copied};
 ghost use Rattle.mv_record.specs.Writes.{writes_on, patched_by};
-ghost use Rattle.mv_undo.specs.Owning.{IsInOrder, before, earlier, touches, AreSought};
+ghost use Rattle.mv_undo.specs.Owning.{IsInOrder, before, earlier, is_fixed, touches, AreSought};
+ghost use Rattle.mv_undo.specs.Indexing.{DoesAll};
 
 use crate::ends::SoughtKeys;
 use crate::index::{count_earlier, place_for, places_in, places_on};
 use crate::lookup::{copy_of, is_some_on};
 use crate::owned::Owned;
-use crate::state::{patch_before, patch_with};
+use crate::state::{is_whole, patch_before, patch_with};
 use mv_record::applying::patch_row;
 use mv_table::scan::Direction;
 use mv_table::span::Span;
@@ -148,8 +149,32 @@ impl Undo {
         Ok(SoughtKeys::new(items, places, number, pred))
     }
 
-    /// Returns the row after the writes to a key by records below `number`, given the row before them, if any. Fails if
-    /// memory runs out. Costs the logarithm of the number of writes, and the size of the row.
+    /// Returns the patch that does what the writes to a key by records below `number` do, or `None` if none did any.
+    fn patch_on(&self, number: usize, table: u8, key: &Key) -> Option<&Patch>
+        ensures { DoesAll (option_copied result) (writes_on table key.now (earlier number self.now)) }
+    {
+        let items = self.items.as_slice();
+        let composed = self.composed.as_slice();
+        let order = self.order.as_slice();
+        let index = count_earlier(items, order, number, table, key.as_slice());
+        patch_before(items, composed, order, index, table, key)
+    }
+
+    /// Whether the writes to a key by records below `number` leave the same row, whatever row was there before them. They
+    /// do exactly if one of them is a whole row or a deletion. Allocates nothing. Costs the logarithm of the number of
+    /// writes.
+    pub fn fixes(&self, number: usize, table: u8, key: &Key) -> bool
+        ensures { result ≡ is_fixed (writes_on table key.now (earlier number self.now)) }
+    {
+        match self.patch_on(number, table, key) {
+            Some(patch) => is_whole(patch),
+            None => false,
+        }
+    }
+
+    /// Returns the row after the writes to a key by records below `number`, given the row before them, if any. Where
+    /// `fixes` holds, any row may be given, or none. Fails if memory runs out. Costs the logarithm of the number of
+    /// writes, and the size of the row.
     pub fn row_behind(
         &self,
         alloc: Global,
@@ -160,11 +185,7 @@ impl Undo {
     ) -> Result<Option<Row>, NoMemory>
         ensures { IfOk result (λ row. row ≡ patched_by (writes_on table key.now (earlier number self.now)) (option_copied was.entry)) }
     {
-        let items = self.items.as_slice();
-        let composed = self.composed.as_slice();
-        let order = self.order.as_slice();
-        let index = count_earlier(items, order, number, table, key.as_slice());
-        match patch_before(items, composed, order, index, table, key) {
+        match self.patch_on(number, table, key) {
             Some(patch) => patch_row(alloc, patch, was),
             None => copy_of(alloc, was),
         }

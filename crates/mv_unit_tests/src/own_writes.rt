@@ -203,13 +203,16 @@ fn push_from(alloc: Global, undo: &mut Undo, from: usize) -> Result<(), Fail> {
     Ok(())
 }
 
-/// Returns the rows, each under its first number, that are of all keys or of those that a record's predecessors wrote.
+/// Returns the rows, each under its first number, that are of all keys, or of those that a record's predecessors wrote
+/// without fixing their rows.
 fn rows_of(alloc: Global, numbers: Numbers, own: Option<(&Undo, usize)>) -> Result<Rows, NoMemory> {
     let mut rows = Rows::new(alloc);
     for item in numbers {
         let key = row(alloc, &[item[0]])?;
         let is_wanted = match own {
-            Some((undo, number)) => undo.touched(number, 0, &key),
+            Some((undo, number)) => {
+                undo.touched(number, 0, &key) && !undo.fixes(number, 0, &key)
+            }
             None => true,
         };
         if is_wanted {
@@ -241,7 +244,8 @@ fn sees(alloc: Global, undo: &Undo, number: usize, want: Numbers) -> Result<bool
     };
     let rows = rows_of(alloc, BEFORE, None)?;
     let own = rows_of(alloc, BEFORE, Some((undo, number)))?;
-    let seen = undo.overlay(alloc, number, &pred, rows, own)?;
+    let keys = undo.keys(alloc, number, &pred)?;
+    let seen = undo.overlay(alloc, number, &pred, keys.as_slice(), rows, own)?;
     let want = rows_of(alloc, want, None)?;
     Ok(are_equal(seen.as_slice(), want.as_slice()))
 }

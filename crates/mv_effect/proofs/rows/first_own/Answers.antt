@@ -1,4 +1,4 @@
-use Rattle.std.proofs.Common.{rules, ◌≡◌, ◌<◌, ◌-◌, None, Some, inr, length, sym, ap, subst, ◌∙◌, arith}
+use Rattle.std.proofs.Common.{rules, ◌≡◌, ◌<◌, ◌-◌, Some, inr, length, sym, ap, subst, ◌∙◌, arith}
 use Rattle.std.specs.Option.{option_copied}
 use Rattle.mv_values.specs.Patching.{row_of, applied, found_by}
 use Rattle.mv_record.specs.Writes.{AreRising}
@@ -67,5 +67,5 @@ loop-key-preserved g c =
       few = omega (arith, c.loop-key.invariant.few, one_fewer d key keys rest c.in-Some.ensures);
       asked =
           asked_again (different ws) d key keys rest (g.V.View.sight c.args.view.now) (g.V.View.sight c.loop-key.view) (g.V.View.sight c.own_row.new.view) c.in-Some.ensures c.loop-key.invariant.few c.loop-key.invariant.asked
-          c.in_ok-row.ensures.counts;
+          c.in_ok-row.ensures.view.same c.in_ok-row.ensures.view.passes_on c.in_ok-row.ensures.looks;
     }

@@ -7,7 +7,7 @@ use Rattle.mv_undo.proofs.undo.Undo.overlay.Given as goal
 
 abbrev pub invariant-loop-key : goal.invariant-loop-key
 invariant-loop-key l = record {
-  rows : laid l.pred (earlier l.number l.self) l.fn.own (drop l.key-index l.key-items) (l.merge.done ++ l.merge.ahead.items) ≡ laid l.pred (earlier l.number l.self) l.fn.own l.key-items l.fn.rows;
+  rows : laid l.pred (earlier l.number l.self) l.fn.own (drop l.key-index l.keys) (l.merge.done ++ l.merge.ahead.items) ≡ laid l.pred (earlier l.number l.self) l.fn.own l.keys l.fn.rows;
   rising : IsRising (l.merge.done ++ l.merge.ahead.items);
-  below : (k : ℕ) (d : List Value) → l.key-index ≤ k → k < length l.key-items → All (IsBelow (slice_index_or l.key-items k d)) l.merge.done;
+  below : (k : ℕ) (d : List Value) → l.key-index ≤ k → k < length l.keys → All (IsBelow (slice_index_or l.keys k d)) l.merge.done;
 }
