@@ -29,15 +29,6 @@ parted_by_key K key order sorted i j d le lt h =
       | inr above ↦ let same : j ≡ i = omega (arith, le, above) in subst (λ k. is_le (key_order (K (slice_index_or order k d)) key) ≡ true) same h
     ]
 
--- what isn't at most a key is above it
-pub above_le : (a k : List Value) → is_le (key_order a k) ≡ false → is_le (key_order k a) ≡ true
-above_le a k h = by (key_order a k) refl h
-  where
-    by : (o : Ordering) → key_order a k ≡ o → is_le o ≡ false → is_le (key_order k a) ≡ true
-    by Less e g = cc
-    by Equal e g = cc
-    by Greater e g = ap is_le (key_order_total.antisymm k a ∙ ap ordering_reverse e)
-
 pub lt_trans : (a b k : List Value) → is_le (key_order a b) ≡ true → is_lt (key_order b k) ≡ true → is_lt (key_order a k) ≡ true
 lt_trans a b k h g = by (key_order a b) (key_order b k) refl refl h g
   where

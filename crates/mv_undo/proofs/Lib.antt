@@ -5,5 +5,7 @@ pub mod Merging
 pub mod KeyPlaces
 pub mod Indexing
 pub mod Looking
-pub mod Composing
+pub mod Linking
+pub mod Growing
+pub mod Shrinking
 pub mod Taking

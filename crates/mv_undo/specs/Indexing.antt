@@ -1,10 +1,8 @@
 -- The index of the own writes by table and key.
-use Rattle.std.specs.Prelude.{◌≡◌, ◌<◌, ◌+◌, ℕ, Bool, true, false, nat_lt, List, [], ◌∷◌, ◌++◌, Option, Some, None, All, AllPairs, length, map, slice_get, slice_index_or, pos}
-use Rattle.std.specs.List.{filter}
+use Rattle.std.specs.Prelude.{◌≡◌, ◌<◌, ◌+◌, ◌-◌, ◌⊎◌, ℕ, Bool, true, false, List, [], ◌∷◌, Option, Some, None, All, AllPairs, length, map, take, slice_get, slice_index_or, slice_set, pos}
+use Rattle.std.specs.List.{filter, insert}
 use Rattle.std.specs.List.Sorted.{IsPartitionPoint}
 use Rattle.std.specs.Ordering.{is_lt, is_le}
-use Rattle.std.specs.declared.cmp.Ordering.{Ordering}
-use Rattle.std.specs.declared.cmp.Ordering.TheVariants.{Less, Equal, Greater}
 use Rattle.mv_values.specs.declared.value.Value.{Value}
 use Rattle.mv_values.specs.declared.value.Value.TheVariants.{Int}
 use Rattle.mv_values.specs.declared.patch.Patch.{Patch}
@@ -13,8 +11,9 @@ use Rattle.mv_values.specs.declared.patch.Write.{Write}
 use Rattle.mv_values.specs.Order.{key_order}
 use Rattle.mv_values.specs.Patching.{patched}
 use Rattle.mv_table.specs.declared.span.Span.{Span}
-use Rattle.mv_record.specs.Writes.{is_on, writes_on, patched_by}
+use Rattle.mv_record.specs.Writes.{is_on, patched_by}
 use Rattle.mv_undo.specs.declared.owned.Owned.{Owned}
+use Rattle.mv_undo.specs.Owning.{before}
 
 -- the write at a place; a write to an empty key if there is none
 abbrev pub owned_or : Option Owned → Owned
@@ -27,9 +26,6 @@ owned_at items place = owned_or (slice_get items place)
 abbrev pub lined : List Owned → List ℕ → List Owned
 lined items places = map (owned_at items) places
 
-abbrev pub writes_at : List Owned → List ℕ → List Write
-writes_at items places = map (λ o. o.write) (lined items places)
-
 -- a key with its table in front
 abbrev pub full_key : Owned → List Value
 full_key o = Int (pos o.write.table) ∷ o.write.key
@@ -41,15 +37,33 @@ key_at items place = full_key (owned_at items place)
 abbrev pub owned_on : ℕ → List Value → List Owned → List Owned
 owned_on t key all = filter (λ o. is_on t key o.write) all
 
--- the places are in the order of their tables and keys
-abbrev pub AreSorted : List Owned → List ℕ → Type 0
-AreSorted items places = AllPairs (λ p q. is_le (key_order (key_at items p) (key_at items q)) ≡ true) places
+-- the write at this place is the last to this key of this table; or there is none
+abbrev pub IsLastOn : List Owned → ℕ → List Value → Option ℕ → Type 0
+IsLastOn items t key None = owned_on t key items ≡ []
+IsLastOn items t key (Some place) = (place < length items) × (is_on t key (owned_at items place).write ≡ true) × (owned_on t key items ≡ owned_on t key (take (place + 1) items))
 
--- so are all places, and those of one key are in the order of the writes
+-- the write at a place is the last to its key
+abbrev pub IsLast : List Owned → ℕ → Type 0
+IsLast items place = IsLastOn items (owned_at items place).write.table (owned_at items place).write.key (Some place)
+
+-- no write at these places is to this key of this table
+abbrev pub HasNone : List Owned → ℕ → List Value → List ℕ → Type 0
+HasNone items t key places = All (λ place. is_on t key (owned_at items place).write ≡ false) places
+
+-- the places are of the last writes to keys, in the order of their tables and keys, each key once
+pub record AreLast (items : List Owned) (places : List ℕ) : Type 0 where
+  pub last : All (IsLast items) places
+  pub sorted : AllPairs (λ p q. is_lt (key_order (key_at items p) (key_at items q)) ≡ true) places
+
+-- so it is for each key that has writes
 pub record IsIndexed (items : List Owned) (order : List ℕ) : Type 0 where
-  pub within : All (λ place. place < length items) order
-  pub sorted : AreSorted items order
-  pub each : (t : ℕ) (key : List Value) → owned_on t key (lined items order) ≡ owned_on t key items
+  pub are : AreLast items order
+  pub each : (t : ℕ) (key : List Value) → HasNone items t key order → owned_on t key items ≡ []
+
+-- with each write stands the place of the last write to its key before it
+pub record IsLinked (items : List Owned) (links : List (Option ℕ)) : Type 0 where
+  pub size : length links ≡ length items
+  pub each : (place : ℕ) → place < length items → IsLastOn (take place items) (owned_at items place).write.table (owned_at items place).write.key (slice_index_or links place None)
 
 -- the write at a place is to a key below this one, or up to and including it; each key has its table in front
 abbrev pub is_below : List Owned → List Value → ℕ → Bool
@@ -58,14 +72,21 @@ is_below items key place = is_lt (key_order (key_at items place) key)
 abbrev pub is_up_to : List Owned → List Value → ℕ → Bool
 is_up_to items key place = is_le (key_order (key_at items place) key)
 
--- the same, where a write to this very key counts only if a record with a smaller number made it
-abbrev pub counts_before : Ordering → Bool → Bool
-counts_before Less earlier = true
-counts_before Equal earlier = earlier
-counts_before Greater earlier = false
+-- the place of the last write to a key among these places, of which `at` are up to and including the key
+abbrev pub IsFound : List Owned → List ℕ → ℕ → ℕ → List Value → Option ℕ → Type 0
+IsFound items order at t key None = HasNone items t key order
+IsFound items order at t key (Some place) = (0 < at) × (slice_index_or order (at - 1) 0 ≡ place) × (is_on t key (owned_at items place).write ≡ true)
 
-abbrev pub is_earlier_up_to : List Owned → ℕ → List Value → ℕ → Bool
-is_earlier_up_to items number key place = counts_before (key_order (key_at items place) key) (nat_lt (owned_at items place).number number)
+-- the places with one more, which takes the place of the one that was found, or stands behind those up to its key
+abbrev pub renewed : List ℕ → ℕ → Option ℕ → ℕ → List ℕ
+renewed order at None last = insert order at last
+renewed order at (Some place) last = slice_set order (at - 1) last
+
+-- a place stands for the last write to its key by a record with a smaller number, if there is one, else for itself
+abbrev pub GoesBack : List Owned → ℕ → ℕ → ℕ → Type 0
+GoesBack items number place back =
+    IsLastOn (before number items) (owned_at items place).write.table (owned_at items place).write.key (Some back)
+    ⊎ ((owned_on (owned_at items place).write.table (owned_at items place).write.key (before number items) ≡ []) × (back ≡ place))
 
 -- the first `at` places pass a test, and the others fail it
 abbrev pub IsCut : (ℕ → Bool) → List ℕ → ℕ → Type 0
@@ -98,17 +119,8 @@ patch_or (Some made) own = made
 abbrev pub patch_at : List Owned → List (Option Patch) → ℕ → Patch
 patch_at items composed place = patch_or (slice_index_or composed place None) (owned_at items place).write.patch
 
--- what is kept for a write does what these writes to its key and then itself do
-abbrev pub DoesUpTo : Owned → Option Patch → List Write → Type 0
-DoesUpTo o made seen = IsComposedOf (patch_or made o.write.patch) (writes_on o.write.table o.write.key (seen ++ o.write ∷ []))
-
--- so it is at each of these places, with the writes at the places before it, behind those already seen
-abbrev pub AreComposed : List Owned → List (Option Patch) → List Write → List ℕ → Type 0
-AreComposed items composed seen [] = Unit {0}
-AreComposed items composed seen (place ∷ places) =
-    DoesUpTo (owned_at items place) (slice_index_or composed place None) seen × AreComposed items composed (seen ++ (owned_at items place).write ∷ []) places
-
--- at each place is kept what the writes to its key do up to it
-pub record IsComposed (items : List Owned) (composed : List (Option Patch)) (order : List ℕ) : Type 0 where
+-- with each write is kept a patch that does what the writes to its key do up to it
+pub record IsComposed (items : List Owned) (composed : List (Option Patch)) : Type 0 where
   pub size : length composed ≡ length items
-  pub each : AreComposed items composed [] order
+  pub each : (place : ℕ) → place < length items
+      → IsComposedOf (patch_at items composed place) (map (λ o. o.write) (owned_on (owned_at items place).write.table (owned_at items place).write.key (take (place + 1) items)))

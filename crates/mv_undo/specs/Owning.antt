@@ -1,5 +1,5 @@
 -- The writes of a running call, each with the number of its record.
-use Rattle.std.specs.Prelude.{◌≡◌, ◌≤◌, ℕ, Bool, true, false, ◌&&◌, ◌==◌, nat_lt, List, map, AllPairs, length, take}
+use Rattle.std.specs.Prelude.{◌≡◌, ◌≤◌, ℕ, Bool, true, false, ◌&&◌, nat_lt, List, map, AllPairs, length, take}
 use Rattle.std.specs.List.{filter, list_any}
 use Rattle.std.specs.Ordering.{is_eq}
 use Rattle.std.specs.declared.cmp.Ordering.TheVariants.{Less}
@@ -12,7 +12,6 @@ use Rattle.mv_values.specs.Order.{key_order}
 use Rattle.mv_values.specs.Preds.{admits}
 use Rattle.mv_record.specs.declared.record.Record.{Record}
 use Rattle.mv_record.specs.Runs.{writes_in}
-use Rattle.mv_record.specs.Writes.{is_on}
 pub use Rattle.mv_record.specs.Writes.{touches}
 use Rattle.mv_undo.specs.declared.owned.Owned.{Owned}
 
@@ -32,10 +31,6 @@ earlier number all = map (λ o. o.write) (before number all)
 abbrev pub HasWritesOf : List Owned → List Record → Type 0
 HasWritesOf undo records = (number : ℕ) → number ≤ length records → earlier number undo ≡ writes_in (take number records)
 
--- a write to this key of this table, by a record with a smaller number
-abbrev pub is_earlier_on : ℕ → ℕ → List Value → Owned → Bool
-is_earlier_on number t key o = nat_lt o.number number && is_on t key o.write
-
 -- the patch leaves the same row, whatever row was there
 abbrev pub is_whole : Patch → Bool
 is_whole (Insert row) = true
@@ -49,10 +44,6 @@ is_fixed ws = list_any (λ w. is_whole w.patch) ws
 -- some write is to this key of the predicate's table, and the predicate admits the key
 abbrev pub is_sought : Pred → List Write → List Value → Bool
 is_sought pred ws key = touches pred.table key ws && admits pred key
-
--- a write to a key of the predicate's table that the predicate admits, by a record with a smaller number
-abbrev pub is_wanted : Pred → ℕ → Owned → Bool
-is_wanted pred number o = nat_lt o.number number && (o.write.table == pred.table) && admits pred o.write.key
 
 abbrev pub is_among : List (List Value) → List Value → Bool
 is_among keys key = list_any (λ k. is_eq (key_order k key)) keys

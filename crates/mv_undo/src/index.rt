@@ -1,23 +1,18 @@
 //! An index of the own writes by table and key.
 
-ghost use Rattle.std.specs.Prelude.{◌≡◌, ◌<◌, ◌≤◌, ◌∷◌, ◌++◌, [], ℕ, true, nat_lt, pos, All, List, Option, length, take, slice_get, slice_range};
-ghost use Rattle.std.specs.List.{insert};
+ghost use Rattle.std.specs.Prelude.{◌≡◌, ◌<◌, ◌≤◌, ◌∷◌, [], true, pos, List, IfSome, OnOk, OnErr, length, slice_get, slice_range};
 ghost use Rattle.std.specs.Option.{option_copied};
-ghost use Rattle.std.specs.Ordering.{is_le};
-ghost use Rattle.mv_values.specs.declared.patch.Patch.{Patch};
 ghost use Rattle.mv_values.specs.declared.value.Value.{Value};
 ghost use Rattle.mv_values.specs.declared.value.Value.TheVariants.{Int};
 ghost use Rattle.mv_values.specs.Order.{value_order, key_order};
 ghost use Rattle.mv_table.specs.Spans.{is_within, IsForward};
-ghost use Rattle.mv_record.specs.Writes.{writes_on};
-ghost use Rattle.mv_undo.specs.Owning.{IsInOrder, earlier};
-ghost use Rattle.mv_undo.specs.Indexing.{IsIndexed, IsComposed, IsCut, IsComposedOf, is_below, is_up_to, is_earlier_up_to, end_in, key_at, lined, owned_at, owned_on, patch_or, writes_at, AreSorted};
-ghost use Rattle.mv_undo.specs.Taking.{AreInLine};
+ghost use Rattle.mv_undo.specs.Indexing.{AreLast, HasNone, IsIndexed, IsCut, IsFound, IsLastOn, is_below, is_up_to, end_in, key_at, owned_on, renewed};
 
+use crate::lookup::write_at;
 use crate::owned::Owned;
 use mv_table::span::Span;
-use mv_values::patch::Write;
-use mv_values::value::{Value, compare_keys};
+use mv_values::memory::NoMemory;
+use mv_values::value::{Key, Value, compare_keys};
 use std::cmp::Ordering;
 
 /// Returns the write at a place.
@@ -55,42 +50,6 @@ fn compare_at(items: &[Owned], place: usize, table: u16, key: &[Value]) -> Order
     }
 }
 
-/// Whether a record below `number` made the write at a place.
-fn is_earlier_at(items: &[Owned], place: usize, number: usize) -> bool
-    ensures { result ≡ nat_lt (owned_at items.now place).number number }
-{
-    match at(items, place) {
-        Some(owned) => owned.is_before(number),
-        None => 0 < number,
-    }
-}
-
-/// Whether the write at a place is to a lower key, or to this key of this table and by a record below `number`.
-fn is_earlier_up_to(items: &[Owned], place: usize, number: usize, table: u8, key: &[Value]) -> bool
-    ensures { result ≡ is_earlier_up_to items.now number (Int (pos table) ∷ key.now) place }
-{
-    match compare_at(items, place, table as u16, key) {
-        Ordering::Less => true,
-        Ordering::Equal => is_earlier_at(items, place, number),
-        Ordering::Greater => false,
-    }
-}
-
-/// Returns the index in `order` at which a new last write belongs. Costs the logarithm of the number of writes.
-pub(crate) fn place_for(items: &[Owned], order: &[usize], write: &Write) -> usize
-    requires { IsIndexed items.now order.now }
-    ensures within { result ≤ length order.now }
-    ensures up_to { All (λ place. is_up_to items.now (Int (pos write.now.table) ∷ write.now.key) place ≡ true) (take result order.now) }
-    ensures composed { (number : ℕ) (composed : List (Option Patch)) (made : Option Patch) → IsComposed items.now composed order.now → IsComposedOf (patch_or made write.now.patch) (writes_on write.now.table write.now.key (writes_at items.now (take result order.now)) ++ write.now ∷ []) → IsComposed (items.now ++ record { number = number; write = write.now } ∷ []) (composed ++ made ∷ []) (insert order.now result (length items.now)) }
-    ensures indexed { (number : ℕ) → IsIndexed (items.now ++ record { number = number; write = write.now } ∷ []) (insert order.now result (length items.now)) }
-{
-    order.partition_point(
-        |place: &usize| -> bool
-            ensures { result ≡ is_le (key_order (key_at items.entry.now place.now) (Int (pos write.entry.now.table) ∷ write.entry.now.key)) }
-        { compare_at(items, *place, write.table as u16, write.key.as_slice()).is_le() },
-    )
-}
-
 /// Returns the places from index `from` up to `to`.
 fn part(order: &[usize], from: usize, to: usize) -> &[usize]
     requires order { from ≤ to }
@@ -102,7 +61,7 @@ fn part(order: &[usize], from: usize, to: usize) -> &[usize]
 
 /// Counts the places whose writes are below a key of a table. Costs the logarithm of the number of places.
 pub(crate) fn count_below(items: &[Owned], places: &[usize], table: u16, key: &[Value]) -> usize
-    requires { AreSorted items.now places.now }
+    requires { AreLast items.now places.now }
     ensures within { result ≤ length places.now }
     ensures below { IsCut (is_below items.now (Int (pos table) ∷ key.now)) places.now result }
 {
@@ -116,7 +75,7 @@ pub(crate) fn count_below(items: &[Owned], places: &[usize], table: u16, key: &[
 /// Counts the places whose writes are up to and including a key of a table. Costs the logarithm of the number of
 /// places.
 pub(crate) fn count_up_to(items: &[Owned], places: &[usize], table: u16, key: &[Value]) -> usize
-    requires { AreSorted items.now places.now }
+    requires { AreLast items.now places.now }
     ensures within { result ≤ length places.now }
     ensures up_to { IsCut (is_up_to items.now (Int (pos table) ∷ key.now)) places.now result }
 {
@@ -127,47 +86,62 @@ pub(crate) fn count_up_to(items: &[Owned], places: &[usize], table: u16, key: &[
     )
 }
 
-/// Counts the places whose writes are below a key of a table, or on it and by records below `number`. Costs the
-/// logarithm of the number of writes.
-pub(crate) fn count_earlier(
+/// Returns the place of the last write to a key, if there is one. `at` counts the places whose writes are up to and
+/// including the key.
+pub(crate) fn found_at(
     items: &[Owned],
     order: &[usize],
-    number: usize,
+    at: usize,
     table: u8,
-    key: &[Value],
-) -> usize
+    key: &Key,
+) -> Option<usize>
     requires indexed { IsIndexed items.now order.now }
-    requires numbers { IsInOrder items.now }
-    ensures within { result ≤ length order.now }
-    ensures up_to { All (λ place. is_up_to items.now (Int (pos table) ∷ key.now) place ≡ true) (take result order.now) }
-    ensures writes { writes_on table key.now (writes_at items.now (take result order.now)) ≡ writes_on table key.now (earlier number items.now) }
+    requires within { at ≤ length order.now }
+    requires up_to { IsCut (is_up_to items.now (Int (pos table) ∷ key.now)) order.now at }
+    ensures { IsFound items.now order.now at table key.now result }
 {
-    order.partition_point(
-        |place: &usize| -> bool
-            ensures { result ≡ is_earlier_up_to items.entry.now number (Int (pos table) ∷ key.entry.now) place.now }
-        { is_earlier_up_to(items, *place, number, table, key) },
-    )
+    if at == 0 {
+        return None;
+    }
+    let place = order[at - 1];
+    if !write_at(items, place).is_on(table, key) {
+        return None;
+    }
+    Some(place)
 }
 
-/// Returns the places of the writes to a key of a table. Costs the logarithm of the number of writes.
-pub(crate) fn places_on<'a>(
-    items: &[Owned],
-    order: &'a [usize],
-    table: u8,
-    key: &[Value],
-) -> &'a [usize]
+/// Returns the place of the last write to a key, if there is one. Costs the logarithm of the number of written keys.
+pub(crate) fn last_on(items: &[Owned], order: &[usize], table: u8, key: &Key) -> Option<usize>
     requires { IsIndexed items.now order.now }
-    ensures within { All (λ place. place < length items.now) result.now }
-    ensures writes { owned_on table key.now (lined items.now result.now) ≡ owned_on table key.now items.now }
+    ensures { IsLastOn items.now table key.now result }
 {
-    let from = count_below(items, order, table as u16, key);
-    let to = count_up_to(items, order, table as u16, key);
-    part(order, from, to)
+    let at = count_up_to(items, order, table as u16, key.as_slice());
+    found_at(items, order, at, table, key)
+}
+
+/// Puts the place of a new last write into the order: instead of that of the last write to its key, if there is one, else
+/// behind the first `at` places. Moves the places behind a new one. Fails if memory runs out.
+pub(crate) fn renew(
+    order: &mut Vec<usize>,
+    at: usize,
+    found: Option<usize>,
+    last: usize,
+) -> Result<(), NoMemory>
+    requires within { at ≤ length order.old.items }
+    requires found { IfSome found (λ place. 0 < at) }
+    ensures ok { OnOk result (order.new.items ≡ renewed order.old.items at found last) }
+    ensures err { OnErr result (order.new.items ≡ order.old.items) }
+{
+    match found {
+        Some(_) => order[at - 1] = last,
+        None => order.insert(at, last)?,
+    }
+    Ok(())
 }
 
 /// Counts the places whose writes are to lower tables, or to the table before the end of a span of keys.
 fn count_before_end(items: &[Owned], order: &[usize], table: u8, span: &Span) -> usize
-    requires { IsIndexed items.now order.now }
+    requires { AreLast items.now order.now }
     ensures within { result ≤ length order.now }
     ensures before { IsCut (is_below items.now (end_in table span.now)) order.now result }
 {
@@ -177,7 +151,8 @@ fn count_before_end(items: &[Owned], order: &[usize], table: u8, span: &Span) ->
     }
 }
 
-/// Returns the places of the writes of a table to keys of a span. Costs the logarithm of the number of writes.
+/// Returns the places of the last writes to keys of a table that are in a span. Costs the logarithm of the number of
+/// written keys.
 pub(crate) fn places_in<'a>(
     items: &[Owned],
     order: &'a [usize],
@@ -185,10 +160,9 @@ pub(crate) fn places_in<'a>(
     span: &Span,
 ) -> &'a [usize]
     requires indexed { IsIndexed items.now order.now }
-    requires numbers { IsInOrder items.now }
     requires forward { IsForward span.now }
-    ensures line { AreInLine items.now result.now }
-    ensures writes { (key : List Value) → is_within span.now key ≡ true → owned_on table key (lined items.now result.now) ≡ owned_on table key items.now }
+    ensures last { AreLast items.now result.now }
+    ensures each { (key : List Value) → is_within span.now key ≡ true → HasNone items.now table key result.now → owned_on table key items.now ≡ [] }
 {
     let from = count_below(items, order, table as u16, span.low.as_slice());
     let to = count_before_end(items, order, table, span);

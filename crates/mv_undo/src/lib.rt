@@ -3,6 +3,7 @@
 
 pub mod ends;
 mod index;
+mod links;
 mod lookup;
 mod merge;
 mod overlay;

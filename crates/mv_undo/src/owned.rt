@@ -2,7 +2,6 @@
 
 ghost use Rattle.std.specs.Prelude.{◌≡◌, nat_lt};
 ghost use Rattle.mv_record.specs.Writes.{is_on};
-ghost use Rattle.mv_undo.specs.Owning.{is_earlier_on};
 
 use mv_values::patch::Write;
 use mv_values::value::{Key, compare_keys};
@@ -27,12 +26,5 @@ impl Owned {
         ensures { result ≡ is_on table key.now self.now.write }
     {
         self.write.table == table && compare_keys(self.write.key.as_slice(), key.as_slice()).is_eq()
-    }
-
-    /// Whether a record below `number` made the write, to this key of this table.
-    pub(crate) fn is_earlier_on(&self, number: usize, table: u8, key: &Key) -> bool
-        ensures { result ≡ is_earlier_on number table key.now self.now }
-    {
-        self.is_before(number) && self.is_on(table, key)
     }
 }

@@ -4,13 +4,14 @@ ghost use Rattle.std.specs.Prelude.{◌≡◌, ◌≤◌, nat_lt, [], ◌∷◌,
 ghost use Rattle.std.specs.Option.{option_copied};
 ghost use Rattle.mv_record.specs.Writes.{writes_on, patched_by};
 ghost use Rattle.mv_undo.specs.Owning.{IsInOrder, before, earlier, is_fixed, touches, AreSought};
-ghost use Rattle.mv_undo.specs.Indexing.{DoesAll};
+ghost use Rattle.mv_undo.specs.Indexing.{DoesAll, IsLastOn};
 
 use crate::ends::SoughtKeys;
-use crate::index::{count_earlier, place_for, places_in, places_on};
-use crate::lookup::{copy_of, is_some_on};
+use crate::index::{count_up_to, found_at, last_on, places_in, renew};
+use crate::links::{go_back, last_before};
+use crate::lookup::copy_of;
 use crate::owned::Owned;
-use crate::state::{is_whole, patch_before, patch_with};
+use crate::state::{is_whole, patch_up_to, patch_with};
 use mv_record::applying::patch_row;
 use mv_table::scan::Direction;
 use mv_table::span::Span;
@@ -24,13 +25,15 @@ use std::alloc::Global;
 use std::marker::Model;
 
 /// The writes of a running call, each with the number of its record. Contracts see them in the order of `push`. `order`
-/// has their places by table and key; writes to one key keep the order of `push`. `composed` has for each write the
-/// patch that does what the writes to its key do up to it, or `None` where its own patch does.
+/// has the place of the last write to each key, by table and key. `links` has for each write the place of the write to
+/// its key before it, if there is one. `composed` has for each write the patch that does what the writes to its key do up
+/// to it, or `None` where its own patch does.
 #[derive(Drop)]
 pub struct Undo {
     alloc: Global,
     items: Vec<Owned>,
     composed: Vec<Option<Patch>>,
+    links: Vec<Option<usize>>,
     order: Vec<usize>,
 }
 
@@ -38,13 +41,13 @@ impl Model for Undo {
     ghost use Rattle.std.specs.Prelude.{List as Seq};
     ghost use Rattle.mv_undo.specs.declared.owned.Owned.{Owned};
     ghost use Rattle.mv_undo.specs.Owning.{IsInOrder};
-    ghost use Rattle.mv_undo.specs.Indexing.{IsIndexed, IsComposed};
+    ghost use Rattle.mv_undo.specs.Indexing.{IsComposed, IsIndexed, IsLinked};
 
     ghost Value = { Seq Owned };
 
     ghost view = { λ u. u.items.items };
 
-    ghost invariant = { λ u. IsInOrder u.items.items × IsIndexed u.items.items u.order.items × IsComposed u.items.items u.composed.items u.order.items };
+    ghost invariant = { λ u. IsInOrder u.items.items × IsComposed u.items.items u.composed.items × IsLinked u.items.items u.links.items × IsIndexed u.items.items u.order.items };
 }
 
 impl Undo {
@@ -56,6 +59,7 @@ impl Undo {
             alloc,
             items: Vec::new(alloc),
             composed: Vec::new(alloc),
+            links: Vec::new(alloc),
             order: Vec::new(alloc),
         }
     }
@@ -69,8 +73,8 @@ impl Undo {
     }
 
     /// Appends a write. `number` may not be below that of the last write. Fails if memory runs out; nothing is then
-    /// added. Costs the logarithm of the number of writes, and moves one place for each write to a greater key. A
-    /// `Patch::Set` after another write to its key also costs the size of the row.
+    /// added. Costs the logarithm of the number of written keys. The first write to a key also moves one place for each
+    /// greater key. A `Patch::Set` after another write to its key also costs the size of the row.
     pub fn push(&mut self, number: usize, write: Write) -> Result<(), NoMemory>
         requires { All (λ o. o.number ≤ number) self.old }
         ensures ok { OnOk result (self.new ≡ self.old ++ record { number = number; write = write } ∷ []) }
@@ -78,30 +82,36 @@ impl Undo {
     {
         let items = self.items.as_slice();
         let order = self.order.as_slice();
-        let at = place_for(items, order, &write);
+        let at = count_up_to(items, order, write.table as u16, write.key.as_slice());
+        let before = found_at(items, order, at, write.table, &write.key);
         let composed = self.composed.as_slice();
-        let patch = patch_with(self.alloc, items, composed, order, at, &write)?;
+        let patch = patch_with(self.alloc, items, composed, before, &write)?;
         let last = self.items.len();
         self.items.reserve(1)?;
         self.composed.reserve(1)?;
-        self.order.insert(at, last)?;
+        self.links.reserve(1)?;
+        renew(&mut self.order, at, before, last)?;
         self.composed.push(patch)?;
+        self.links.push(before)?;
         self.items.push(Owned { number, write })?;
         Ok(())
     }
 
     /// Removes the writes of the record with this number and of later ones. Allocates nothing. Costs the number of
-    /// writes.
+    /// written keys and of removed writes.
     pub fn drop_from(&mut self, number: usize)
         ensures { self.new ≡ before number self.old }
     {
-        let len = self.items.as_slice().partition_point(
+        let items = self.items.as_slice();
+        let len = items.partition_point(
             |owned: &Owned| -> bool
                 ensures { result ≡ nat_lt owned.now.number number }
             { owned.is_before(number) },
         );
+        go_back(items, self.links.as_slice(), &mut self.order, number);
         self.items.truncate(len);
         self.composed.truncate(len);
+        self.links.truncate(len);
         self.order.retain(
             |place: &usize| -> bool
                 ensures { result ≡ nat_lt place.now len }
@@ -109,19 +119,27 @@ impl Undo {
         );
     }
 
-    /// Whether a record below `number` wrote the key. Allocates nothing. Costs the logarithm of the number of writes,
-    /// and a scan of the writes to the key.
+    /// Returns the place of the last write to a key by a record below `number`, if there is one. Costs the logarithm of
+    /// the number of written keys, and a step for each write to the key by another record.
+    fn last_earlier(&self, number: usize, table: u8, key: &Key) -> Option<usize>
+        ensures { IsLastOn (before number self.now) table key.now result }
+    {
+        let items = self.items.as_slice();
+        let last = last_on(items, self.order.as_slice(), table, key);
+        last_before(items, self.links.as_slice(), last, number)
+    }
+
+    /// Whether a record below `number` wrote the key. Allocates nothing. Costs the logarithm of the number of written
+    /// keys, and a step for each write to the key by another record.
     pub fn touched(&self, number: usize, table: u8, key: &Key) -> bool
         ensures { result ≡ touches table key.now (earlier number self.now) }
     {
-        let items = self.items.as_slice();
-        let places = places_on(items, self.order.as_slice(), table, key.as_slice());
-        is_some_on(items, places, number, table, key)
+        self.last_earlier(number, table, key).is_some()
     }
 
     /// Returns the keys of the predicate's table that records below `number` wrote and that the predicate admits, each
-    /// once, in order. Fails if memory runs out. Costs the logarithm of the number of writes for each written key in the
-    /// span that the predicate's tests leave.
+    /// once, in order. Fails if memory runs out. Costs a step for each written key in the span that the predicate's
+    /// tests leave, and for each write to these keys by other records than those below `number`.
     pub fn keys(&self, alloc: Global, number: usize, pred: &Pred) -> Result<List<Key>, NoMemory>
         ensures { IfOk result (λ keys. AreSought pred.now (earlier number self.now) keys) }
     {
@@ -134,7 +152,7 @@ impl Undo {
     }
 
     /// Returns the keys of the predicate's table that records below `number` wrote and that the predicate admits, to be
-    /// taken from either end. Fails if memory runs out. Finding them costs the logarithm of the number of writes.
+    /// taken from either end. Fails if memory runs out. Costs the logarithm of the number of written keys.
     pub fn sought_keys<'a>(
         &'a self,
         alloc: Global,
@@ -146,23 +164,20 @@ impl Undo {
         let span = Span::of(alloc, pred.tests.as_slice())?;
         let items = self.items.as_slice();
         let places = places_in(items, self.order.as_slice(), pred.table, &span);
-        Ok(SoughtKeys::new(items, places, number, pred))
+        let links = self.links.as_slice();
+        Ok(SoughtKeys::new(items, links, places, number, pred))
     }
 
     /// Returns the patch that does what the writes to a key by records below `number` do, or `None` if none did any.
     fn patch_on(&self, number: usize, table: u8, key: &Key) -> Option<&Patch>
         ensures { DoesAll (option_copied result) (writes_on table key.now (earlier number self.now)) }
     {
-        let items = self.items.as_slice();
-        let composed = self.composed.as_slice();
-        let order = self.order.as_slice();
-        let index = count_earlier(items, order, number, table, key.as_slice());
-        patch_before(items, composed, order, index, table, key)
+        let last = self.last_earlier(number, table, key);
+        patch_up_to(self.items.as_slice(), self.composed.as_slice(), last)
     }
 
     /// Whether the writes to a key by records below `number` leave the same row, whatever row was there before them. They
-    /// do exactly if one of them is a whole row or a deletion. Allocates nothing. Costs the logarithm of the number of
-    /// writes.
+    /// do exactly if one of them is a whole row or a deletion. Allocates nothing. Costs as much as `touched`.
     pub fn fixes(&self, number: usize, table: u8, key: &Key) -> bool
         ensures { result ≡ is_fixed (writes_on table key.now (earlier number self.now)) }
     {
@@ -173,8 +188,8 @@ impl Undo {
     }
 
     /// Returns the row after the writes to a key by records below `number`, given the row before them, if any. Where
-    /// `fixes` holds, any row may be given, or none. Fails if memory runs out. Costs the logarithm of the number of
-    /// writes, and the size of the row.
+    /// `fixes` holds, any row may be given, or none. Fails if memory runs out. Costs as much as `touched`, and the
+    /// size of the row.
     pub fn row_behind(
         &self,
         alloc: Global,

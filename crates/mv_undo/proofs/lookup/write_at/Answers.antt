@@ -1,5 +1,5 @@
 use Rattle.std.proofs.Common.{◌∙◌}
-use Rattle.mv_undo.proofs.Looking.{at_index}
+use Rattle.mv_undo.proofs.Linking.{at_index}
 use Rattle.mv_undo.proofs.lookup.write_at.Goals as goal
 
 pub returns : goal.returns

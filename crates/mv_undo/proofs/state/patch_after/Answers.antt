@@ -1,7 +1,7 @@
 use Rattle.std.proofs.Common.{subst}
 use Rattle.std.specs.Option.{option_copied}
 use Rattle.mv_undo.specs.Indexing.{DoesAll}
-use Rattle.mv_undo.proofs.Composing.{both_last}
+use Rattle.mv_undo.proofs.Growing.{both_last}
 use Rattle.mv_undo.proofs.state.patch_after.Goals as goal
 
 pub returns-in_ok-compose-in-Some : goal.returns-in_ok-compose-in-Some

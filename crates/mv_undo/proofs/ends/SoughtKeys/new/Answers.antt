@@ -1,6 +1,5 @@
-use Rattle.mv_undo.specs.Indexing.{lined}
-use Rattle.mv_undo.proofs.Owning.{gathered_sought}
+use Rattle.mv_undo.proofs.Taking.{sought_are}
 use Rattle.mv_undo.proofs.ends.SoughtKeys.new.Goals as goal
 
 pub returns : goal.returns
-returns c = gathered_sought c.args.pred.now c.args.number (lined c.args.items.now c.args.places.now)
+returns c = sought_are c.args.pred.now c.args.number c.args.items.now c.args.places.now c.requires.last c.requires.admitted

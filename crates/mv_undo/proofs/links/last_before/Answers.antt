@@ -1,0 +1,39 @@
+use Rattle.std.proofs.Common.{◌<◌, Option, None, ℕ, length, slice_index_or, refl, ap, subst, sym, ◌∙◌, arith}
+use Rattle.std.specs.Prelude.{nat_lt, IfSome}
+use Rattle.mv_undo.specs.declared.owned.Owned.{Owned}
+use Rattle.mv_undo.proofs.Linking.{IsUpTo, last_early, link_within, reach, reach_less, up_to_last, up_to_link, within_longer}
+use Rattle.mv_undo.proofs.links.last_before.Goals as goal
+
+pub loop-last-init : goal.loop-last-init
+loop-last-init c = record { within = c.requires.last; back = λ t key last. up_to_last c.args.number c.args.items.now t key c.args.last last }
+
+pub returns-then-is_before : goal.returns-then-is_before
+returns-then-is_before c = λ t key last.
+    last_early c.args.number c.args.items.now c.in-Some.place c.requires.numbers (ap (λ (o : Owned). nat_lt o.number c.args.number) (sym c.write_at.ensures) ∙ (sym c.is_before.ensures ∙ c.if-is_before.true)) t key
+    (subst (IsUpTo c.args.number c.args.items.now t key) c.in-Some.is (c.loop-last.invariant.back t key last))
+
+pub loop-last-preserved : goal.loop-last-preserved
+loop-last-preserved c =
+    let items = c.args.items.now in
+    let links = c.args.links.now in
+    let place = c.in-Some.place in
+    let link : Option ℕ = slice_index_or links place None in
+    let within : place < length items = subst (λ (m : Option ℕ). IfSome m (λ p. p < length items)) c.in-Some.is c.loop-last.invariant.within in
+    record {
+      within = within_longer place (length items) link (omega (arith, within)) (link_within items links place link c.requires.linked within refl);
+      back = λ t key last.
+          up_to_link c.args.number items links place link c.requires.linked within refl (ap (λ (o : Owned). nat_lt o.number c.args.number) (sym c.write_at.ensures) ∙ (sym c.is_before.ensures ∙ c.if-is_before.false)) t key
+          (subst (IsUpTo c.args.number items t key) c.in-Some.is (c.loop-last.invariant.back t key last));
+    }
+
+pub loop-last-smaller : goal.loop-last-smaller
+loop-last-smaller c =
+    let items = c.args.items.now in
+    let links = c.args.links.now in
+    let place = c.in-Some.place in
+    let link : Option ℕ = slice_index_or links place None in
+    let within : place < length items = subst (λ (m : Option ℕ). IfSome m (λ p. p < length items)) c.in-Some.is c.loop-last.invariant.within in
+    subst (λ (m : Option ℕ). reach link < reach m) (sym c.in-Some.is) (reach_less place link (link_within items links place link c.requires.linked within refl))
+
+pub returns : goal.returns
+returns c = λ t key last. subst (IsUpTo c.args.number c.args.items.now t key) c.in_default.is (c.loop-last.invariant.back t key last)
