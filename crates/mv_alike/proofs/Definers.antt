@@ -7,7 +7,7 @@ use Rattle.std.specs.Option.{option_or, option_map}
 use Rattle.std.proofs.lemmas.Bool.{and_parts}
 use Rattle.std.proofs.lemmas.List.{same_from_push}
 use Rattle.mv_alone.specs.declared.state.Env.{Env}
-use Rattle.mv_alone.specs.declared.state.Held.TheVariants.{Scalar, Turn}
+use Rattle.mv_alone.specs.declared.state.Content.TheVariants.{Scalar, Turn}
 use Rattle.mv_alone.specs.declared.state.State.{State}
 use Rattle.mv_alone.specs.Env.{held_at, with_held}
 use Rattle.mv_record.specs.declared.record.Slot.{Slot}

@@ -22,7 +22,7 @@ use Rattle.mv_alone.specs.Changes.{new_row}
 use Rattle.mv_alone.specs.Rows.{tests_of}
 use Rattle.mv_record.specs.declared.record.Record.{Record}
 use Rattle.mv_record.specs.Runs.{writes_in}
-use Rattle.mv_recorded.specs.Asking.{on, asked, pred_of, preds_of, same_key}
+use Rattle.mv_recorded.specs.Asking.{on, preds_for, pred_of, preds_of, same_key}
 use Rattle.mv_recorded.specs.Reading.{variables, expressions, reads_of}
 use Rattle.mv_recorded.specs.Recorded.{Site, own_record}
 use Rattle.mv_record.specs.Databases.{IsDatabaseOf}
@@ -57,7 +57,7 @@ front_lasts tables db rs front rest is h = (h [] rs refl, h front rest is)
 
 -- Predicates have the places of their tests
 
-places_where : (tables : List TableInfo) (t : ℕ) (conds : List RCond) (cs : List ℕ) (st : State) → Each (Places tables) (asked tables t conds cs st)
+places_where : (tables : List TableInfo) (t : ℕ) (conds : List RCond) (cs : List ℕ) (st : State) → Each (Places tables) (preds_for tables t conds cs st)
 places_where tables t conds cs st = by (tests_of (key_columns tables t) conds st.env) refl
   where
     by : (r : Result (List Test) End) → tests_of (key_columns tables t) conds st.env ≡ r → Each (Places tables) (on r (λ tests. pred_of t tests cs ∷ []))
@@ -67,7 +67,7 @@ places_where tables t conds cs st = by (tests_of (key_columns tables t) conds st
 pub places_preds : (tables : List TableInfo) (y : Bare) (st : State) → Each (Places tables) (preds_of tables y st)
 places_preds tables (Select cs xs t conds sorts offset) st = by (offset_of offset st.env)
   where
-    by : (r : Result Value End) → Each (Places tables) (on r (λ n. asked tables t conds (cs ++ map (λ s. s.column) sorts) st))
+    by : (r : Result Value End) → Each (Places tables) (on r (λ n. preds_for tables t conds (cs ++ map (λ s. s.column) sorts) st))
     by (Ok v) = places_where tables t conds (cs ++ map (λ s. s.column) sorts) st
     by (Err e) = tt
 places_preds tables (Total agg x t conds) st = places_where tables t conds _ st

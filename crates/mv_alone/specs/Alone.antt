@@ -22,7 +22,7 @@ use Rattle.mv_alone.specs.declared.state.Env.{Env}
 use Rattle.mv_alone.specs.declared.state.State.{State}
 use Rattle.mv_alone.specs.Outcome.{then_do}
 use Rattle.mv_alone.specs.Env.{with_value, with_values, with_found, with_held, turns_at}
-use Rattle.mv_alone.specs.declared.state.Held.TheVariants.{Turn}
+use Rattle.mv_alone.specs.declared.state.Content.TheVariants.{Turn}
 use Rattle.mv_alone.specs.Value.{value_of, values_of, is_so}
 use Rattle.mv_alone.specs.Rows.{matching, is_some_row, ordered, item_at, distinct, projected, aggregate, tests_of}
 use Rattle.mv_alone.specs.Changes.{set_row, updated, without, new_row, put_row, keyed}

@@ -2,28 +2,28 @@
 use Rattle.std.specs.Prelude.{ℕ, zero, suc, pos, Bool, List, [], ◌∷◌, slice_index_or, if◌then◌else◌}
 use Rattle.mv_values.specs.declared.value.Value.{Value}
 use Rattle.mv_values.specs.declared.value.Value.TheVariants.{Int}
-use Rattle.mv_alone.specs.declared.state.Held.{Held}
-use Rattle.mv_alone.specs.declared.state.Held.TheVariants.{Scalar, Turn, Turns}
+use Rattle.mv_alone.specs.declared.state.Content.{Content}
+use Rattle.mv_alone.specs.declared.state.Content.TheVariants.{Scalar, Turn, Turns}
 use Rattle.mv_alone.specs.declared.state.Env.{Env}
 
 -- a variable that was never set holds 0
-abbrev pub unset : Held
+abbrev pub unset : Content
 unset = Scalar (Int (pos 0))
 
-abbrev pub held_at : Env → ℕ → Held
+abbrev pub held_at : Env → ℕ → Content
 held_at env x = slice_index_or env.held x unset
 
-abbrev pub scalar_in : Held → Value
+abbrev pub scalar_in : Content → Value
 scalar_in (Scalar v) = v
 scalar_in (Turn row) = Int (pos 0)
 scalar_in (Turns rows) = Int (pos 0)
 
-abbrev pub turn_in : Held → List Value
+abbrev pub turn_in : Content → List Value
 turn_in (Scalar v) = []
 turn_in (Turn row) = row
 turn_in (Turns rows) = []
 
-abbrev pub turns_in : Held → List (List Value)
+abbrev pub turns_in : Content → List (List Value)
 turns_in (Scalar v) = []
 turns_in (Turn row) = []
 turns_in (Turns rows) = rows
@@ -41,19 +41,19 @@ abbrev pub turns_at : Env → ℕ → List (List Value)
 turns_at env x = turns_in (held_at env x)
 
 -- the list with this at the index; a shorter list is filled up with unset variables
-abbrev pub put_at : List Held → ℕ → Held → List Held
+abbrev pub put_at : List Content → ℕ → Content → List Content
 put_at [] zero h = h ∷ []
 put_at [] (suc x) h = unset ∷ put_at [] x h
 put_at (g ∷ gs) zero h = h ∷ gs
 put_at (g ∷ gs) (suc x) h = g ∷ put_at gs x h
 
 -- the list with at least this many items
-abbrev pub padded : ℕ → List Held → List Held
+abbrev pub padded : ℕ → List Content → List Content
 padded zero hs = hs
 padded (suc n) [] = unset ∷ padded n []
 padded (suc n) (h ∷ hs) = h ∷ padded n hs
 
-abbrev pub with_held : Env → ℕ → Held → Env
+abbrev pub with_held : Env → ℕ → Content → Env
 with_held env x h = record env { held = put_at env.held x h }
 
 -- sets a variable

@@ -73,16 +73,16 @@ abbrev pub does_rank : List ℕ → List Test → ℕ → Bool
 does_rank keys tests c = is_last_of keys (position (λ k. k == c) keys) && does_order keys tests c
 
 -- the column and the direction in which one row is enough for an aggregate, if one is
-abbrev pub telling : RAgg → List ℕ → List Test → Option (ℕ × Direction)
-telling (Min c) keys tests = then_some (does_order keys tests c) (c, Forward)
-telling (Max c) keys tests = then_some (does_order keys tests c) (c, Backward)
-telling agg keys tests = None
+abbrev pub aggregate_direction : RAgg → List ℕ → List Test → Option (ℕ × Direction)
+aggregate_direction (Min c) keys tests = then_some (does_order keys tests c) (c, Forward)
+aggregate_direction (Max c) keys tests = then_some (does_order keys tests c) (c, Backward)
+aggregate_direction agg keys tests = None
 
-abbrev pub leading_by : RSort → List ℕ → List Test → Option Direction
-leading_by sort keys tests = if sort.descending then then_some (does_rank keys tests sort.column) Backward else then_some (does_order keys tests sort.column) Forward
+abbrev pub sort_direction : RSort → List ℕ → List Test → Option Direction
+sort_direction sort keys tests = if sort.descending then then_some (does_rank keys tests sort.column) Backward else then_some (does_order keys tests sort.column) Forward
 
 -- the direction in which one row is enough for the first in ORDER BY order, if one is
-abbrev pub leading : List RSort → List ℕ → List Test → Option Direction
-leading [] keys tests = Some Forward
-leading (sort ∷ []) keys tests = leading_by sort keys tests
-leading (sort ∷ other ∷ sorts) keys tests = None
+abbrev pub order_direction : List RSort → List ℕ → List Test → Option Direction
+order_direction [] keys tests = Some Forward
+order_direction (sort ∷ []) keys tests = sort_direction sort keys tests
+order_direction (sort ∷ other ∷ sorts) keys tests = None

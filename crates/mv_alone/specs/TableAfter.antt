@@ -9,14 +9,14 @@ use Rattle.mv_values.specs.Tables.{Tables}
 use Rattle.mv_values.specs.Counts.{first_numbers}
 use Rattle.mv_catalog.specs.declared.resolved.Program.{Program}
 use Rattle.mv_catalog.specs.declared.resolved.ProcInfo.{ProcInfo}
-use Rattle.mv_alone.specs.declared.state.Held.{Held}
-use Rattle.mv_alone.specs.declared.state.Held.TheVariants.{Scalar, Turns}
+use Rattle.mv_alone.specs.declared.state.Content.{Content}
+use Rattle.mv_alone.specs.declared.state.Content.TheVariants.{Scalar, Turns}
 use Rattle.mv_alone.specs.declared.state.Env.{Env}
 use Rattle.mv_alone.specs.declared.state.State.{State}
 use Rattle.mv_alone.specs.Env.{unset}
 use Rattle.mv_alone.specs.Alone.{alone}
 
-abbrev pub argument_held : Argument → Held
+abbrev pub argument_held : Argument → Content
 argument_held (One v) = Scalar v
 argument_held (Many rows) = Turns rows
 

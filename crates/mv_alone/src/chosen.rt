@@ -5,7 +5,7 @@ ghost use Rattle.std.specs.Option.{option_map};
 ghost use Rattle.mv_values.specs.Tables.{rows_at, key_columns, KeysStand};
 ghost use Rattle.mv_table.specs.Entries.{seen};
 ghost use Rattle.mv_alone.specs.Rows.{IsPlaced, item_at, matching, ordered};
-ghost use Rattle.mv_alone.specs.FirstRows.{Leads, AdmitMatches, leading_by, leading};
+ghost use Rattle.mv_alone.specs.FirstRows.{Leads, AdmitMatches, sort_direction, order_direction};
 
 use crate::find::{key_in, matches_in};
 use crate::foremost::{foremost_in, never_falls, rises};
@@ -18,9 +18,9 @@ use mv_values::pred::Test;
 use mv_values::schema::TableInfo;
 use std::alloc::Global;
 
-/// Does what `leading` does, for ORDER BY one column.
-fn leading_by(sort: RSort, keys: &[u8], tests: &[Test]) -> Option<Direction>
-    ensures is { result ≡ leading_by sort keys.now tests.now }
+/// Does what `order_direction` does, for ORDER BY one column.
+fn sort_direction(sort: RSort, keys: &[u8], tests: &[Test]) -> Option<Direction>
+    ensures is { result ≡ sort_direction sort keys.now tests.now }
     ensures leads { IfSome result (Leads (sort ∷ []) keys.now tests.now) }
 {
     if sort.descending {
@@ -32,8 +32,8 @@ fn leading_by(sort: RSort, keys: &[u8], tests: &[Test]) -> Option<Direction>
 
 /// Returns the direction in which the first row that the tests admit is the first in ORDER BY order too. Returns none
 /// if more rows may be needed. Takes time linear in the number of key columns times that of tests.
-pub fn leading(sorts: &[RSort], keys: &[u8], tests: &[Test]) -> Option<Direction>
-    ensures is { result ≡ leading sorts.now keys.now tests.now }
+pub fn order_direction(sorts: &[RSort], keys: &[u8], tests: &[Test]) -> Option<Direction>
+    ensures is { result ≡ order_direction sorts.now keys.now tests.now }
     ensures leads { IfSome result (Leads sorts.now keys.now tests.now) }
 {
     let Some((sort, others)) = sorts.split_first() else {
@@ -42,7 +42,7 @@ pub fn leading(sorts: &[RSort], keys: &[u8], tests: &[Test]) -> Option<Direction
     if !others.is_empty() {
         return None;
     }
-    leading_by(*sort, keys, tests)
+    sort_direction(*sort, keys, tests)
 }
 
 /// Borrows the row at an index in ORDER BY order, of all rows that match. The tests must admit the key of each row that
@@ -81,7 +81,7 @@ pub fn chosen_in<'a>(
 {
     let keys = key_in(infos, table);
     if at == 0 {
-        if let Some(direction) = leading(sorts, keys, tests) {
+        if let Some(direction) = order_direction(sorts, keys, tests) {
             return foremost_in(alloc, tables, table, tests, direction);
         }
     }

@@ -1,10 +1,10 @@
 //! The variables that a call begins with.
 
 ghost use Rattle.std.specs.Prelude.{◌≡◌, ◌++◌, map, IfOk, OnOk};
-ghost use Rattle.mv_alone.specs.declared.state.Held.TheVariants.{Scalar};
+ghost use Rattle.mv_alone.specs.declared.state.Content.TheVariants.{Scalar};
 ghost use Rattle.mv_alone.specs.TableAfter.{argument_held, entered};
 
-use crate::state::{Env, Held};
+use crate::state::{Content, Env};
 use mv_catalog::resolved::ProcInfo;
 use mv_values::calls::{Argument, Call};
 use mv_values::copied::Copied;
@@ -14,17 +14,17 @@ use mv_values::value::Value;
 use std::alloc::Global;
 
 /// Returns what a variable holds after it is given the argument.
-fn contents_of(alloc: Global, argument: &Argument) -> Result<Held, NoMemory>
+fn contents_of(alloc: Global, argument: &Argument) -> Result<Content, NoMemory>
     ensures { IfOk result (λ h. h ≡ argument_held argument.now) }
 {
     match argument {
-        Argument::One(v) => Ok(Held::Scalar(v.copy(alloc)?)),
-        Argument::Many(rows) => Ok(Held::Turns(rows.copy(alloc)?)),
+        Argument::One(v) => Ok(Content::Scalar(v.copy(alloc)?)),
+        Argument::Many(rows) => Ok(Content::Turns(rows.copy(alloc)?)),
     }
 }
 
 /// Returns what the variables of the parameters hold, with room for so many variables.
-fn parameters(alloc: Global, arguments: &[Argument], room: usize) -> Result<List<Held>, NoMemory>
+fn parameters(alloc: Global, arguments: &[Argument], room: usize) -> Result<List<Content>, NoMemory>
     ensures { IfOk result (λ all. all ≡ map argument_held arguments.now) }
 {
     let mut all = List::with_room(alloc, room)?;
@@ -35,11 +35,11 @@ fn parameters(alloc: Global, arguments: &[Argument], room: usize) -> Result<List
 }
 
 /// Adds the declared variables, which begin with these values.
-fn add_declared(alloc: Global, all: &mut List<Held>, values: &[Value]) -> Result<(), NoMemory>
+fn add_declared(alloc: Global, all: &mut List<Content>, values: &[Value]) -> Result<(), NoMemory>
     ensures { OnOk result (all.new ≡ all.old ++ map Scalar values.now) }
 {
     for value in values {
-        all.push(Held::Scalar(value.copy(alloc)?))?;
+        all.push(Content::Scalar(value.copy(alloc)?))?;
     }
     Ok(())
 }
@@ -58,6 +58,6 @@ pub fn variables_for(alloc: Global, procedure: &ProcInfo, call: &Call) -> Result
     let mut all = parameters(alloc, arguments, room)?;
     add_declared(alloc, &mut all, defaults)?;
     let found = all.len();
-    all.push(Held::Scalar(Value::Int(0)))?;
+    all.push(Content::Scalar(Value::Int(0)))?;
     Ok(Env { held: all, found })
 }

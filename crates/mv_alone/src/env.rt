@@ -4,7 +4,7 @@ ghost use Rattle.std.specs.Prelude.{◌≡◌, IfOk, OnErr, OnOk, length, take};
 ghost use Rattle.mv_values.specs.Columns.{column_of, columns_of};
 ghost use Rattle.mv_alone.specs.Env.{scalar_at, turn_at, turns_at, padded, truth, with_held, with_value, with_values, with_found};
 
-use crate::state::{Env, Held};
+use crate::state::{Content, Env};
 use mv_values::copied::Copied;
 use mv_values::list::List;
 use mv_values::memory::NoMemory;
@@ -23,7 +23,7 @@ pub(crate) fn scalar(alloc: Global, env: &Env, x: u16) -> Result<Value, NoMemory
     ensures { IfOk result (λ v. v ≡ scalar_at env.now x) }
 {
     match env.held.as_slice().get(x as usize) {
-        Some(Held::Scalar(v)) => v.copy(alloc),
+        Some(Content::Scalar(v)) => v.copy(alloc),
         _ => Ok(Value::Int(0)),
     }
 }
@@ -33,7 +33,7 @@ pub fn turn(env: &Env, x: u16) -> &[Value]
     ensures { result.now ≡ turn_at env.now x }
 {
     match env.held.as_slice().get(x as usize) {
-        Some(Held::Turn(row)) => row.as_slice(),
+        Some(Content::Turn(row)) => row.as_slice(),
         _ => &[],
     }
 }
@@ -43,7 +43,7 @@ pub fn copied_turns(alloc: Global, env: &Env, x: u16) -> Result<List<Row>, NoMem
     ensures { IfOk result (λ rows. rows ≡ turns_at env.now x) }
 {
     match env.held.as_slice().get(x as usize) {
-        Some(Held::Turns(rows)) => rows.copy(alloc),
+        Some(Content::Turns(rows)) => rows.copy(alloc),
         _ => Ok(List::new(alloc)),
     }
 }
@@ -60,19 +60,19 @@ pub fn column_value(alloc: Global, row: &[Value], c: u16) -> Result<Value, NoMem
 
 /// Adds unset variables until there are this many.
 #[tactic(auto, using(crate::proofs::Putting::pad_longer, crate::proofs::Putting::pad_full, crate::proofs::Putting::front_longer))]
-fn add_unset(held: &mut List<Held>, len: usize) -> Result<(), NoMemory>
+fn add_unset(held: &mut List<Content>, len: usize) -> Result<(), NoMemory>
     ensures ok { OnOk result (held.new ≡ padded len held.old) }
     ensures err { OnErr result (take (length held.old) held.new ≡ held.old) }
 {
     while held.len() < len {
-        held.push(Held::Scalar(Value::Int(0)))?;
+        held.push(Content::Scalar(Value::Int(0)))?;
     }
     Ok(())
 }
 
 /// Adds unset variables until there are at least this many. If memory runs out, it fails and the variables are
 /// unchanged.
-pub fn pad(held: &mut List<Held>, len: usize) -> Result<(), NoMemory>
+pub fn pad(held: &mut List<Content>, len: usize) -> Result<(), NoMemory>
     ensures ok { OnOk result (held.new ≡ padded len held.old) }
     ensures err { OnErr result (held.new ≡ held.old) }
 {
@@ -89,7 +89,7 @@ pub fn pad(held: &mut List<Held>, len: usize) -> Result<(), NoMemory>
 /// Sets what a variable holds. Allocates only if there is no such variable yet. If memory runs out, it fails and the
 /// variables are unchanged.
 #[tactic(auto, using(crate::proofs::Putting::put_padded, crate::proofs::Putting::padded_long))]
-pub fn set_held(env: &mut Env, x: usize, what: Held) -> Result<(), NoMemory>
+pub fn set_held(env: &mut Env, x: usize, what: Content) -> Result<(), NoMemory>
     ensures ok { OnOk result (env.new ≡ with_held env.old x what) }
     ensures err { OnErr result (env.new ≡ env.old) }
 {
@@ -106,7 +106,7 @@ pub fn set_value(env: &mut Env, x: u16, value: Value) -> Result<(), NoMemory>
     ensures ok { OnOk result (env.new ≡ with_value env.old x value) }
     ensures err { OnErr result (env.new ≡ env.old) }
 {
-    set_held(env, x as usize, Held::Scalar(value))
+    set_held(env, x as usize, Content::Scalar(value))
 }
 
 /// Sets `:found`. If memory runs out, it fails and the variables are unchanged.
@@ -114,7 +114,7 @@ pub fn set_found(env: &mut Env, found: bool) -> Result<(), NoMemory>
     ensures ok { OnOk result (env.new ≡ with_found env.old found) }
     ensures err { OnErr result (env.new ≡ env.old) }
 {
-    set_held(env, env.found, Held::Scalar(truth_of(found)))
+    set_held(env, env.found, Content::Scalar(truth_of(found)))
 }
 
 /// Sets each variable to a copy of the column at the same place, up to the end of the shorter list. Fails if memory

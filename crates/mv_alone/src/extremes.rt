@@ -5,7 +5,7 @@ ghost use Rattle.std.specs.Bool.{then_some};
 ghost use Rattle.mv_values.specs.Tables.{rows_at, key_columns, KeysStand};
 ghost use Rattle.mv_alone.specs.Outcome.{Gives};
 ghost use Rattle.mv_alone.specs.Rows.{IsPlaced, matching};
-ghost use Rattle.mv_alone.specs.FirstRows.{NeverFalls, IsFromEnd, AdmitMatches, does_order, telling, total_found};
+ghost use Rattle.mv_alone.specs.FirstRows.{NeverFalls, IsFromEnd, AdmitMatches, does_order, aggregate_direction, total_found};
 
 use crate::find::{key_in, matches_in};
 use crate::foremost::{foremost_in, never_falls};
@@ -35,8 +35,8 @@ fn told_by(
 
 /// Returns the column of MIN or MAX, and the direction in which the first row that the tests admit tells its value.
 /// Returns none if more rows may be needed. Takes time linear in the number of key columns times that of tests.
-pub fn telling(agg: RAgg, keys: &[u8], tests: &[Test]) -> Option<(u16, Direction)>
-    ensures is { result ≡ telling agg keys.now tests.now }
+pub fn aggregate_direction(agg: RAgg, keys: &[u8], tests: &[Test]) -> Option<(u16, Direction)>
+    ensures is { result ≡ aggregate_direction agg keys.now tests.now }
     ensures tells { IfSome result (λ t. IsFromEnd agg keys.now tests.now t.0 t.1) }
 {
     match agg {
@@ -80,7 +80,7 @@ pub fn total_of(
     ensures { Gives result (total_found agg (matching tests.now (rows_at tables.now table))) }
 {
     let keys = key_in(infos, table);
-    let Some((column, direction)) = telling(agg, keys, tests) else {
+    let Some((column, direction)) = aggregate_direction(agg, keys, tests) else {
         return total_of_all(alloc, tables, agg, table, tests);
     };
     let row = foremost_in(alloc, tables, table, tests, direction)?;

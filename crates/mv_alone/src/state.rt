@@ -9,7 +9,7 @@ use mv_values::value::{Row, Value};
 
 /// What a variable holds: a value, the current row of a loop, or the rows of a ROWS parameter.
 #[derive(Drop)]
-pub enum Held {
+pub enum Content {
     Scalar(Value),
     Turn(Row),
     Turns(List<Row>),
@@ -18,7 +18,7 @@ pub enum Held {
 /// The variables of a call, by number. `found` is the number of `:found`.
 #[derive(Drop)]
 pub struct Env {
-    pub held: List<Held>,
+    pub held: List<Content>,
     pub found: usize,
 }
 

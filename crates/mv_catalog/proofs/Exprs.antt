@@ -18,8 +18,8 @@ use Rattle.mv_ast.specs.declared.tree.Expr.{roll-Expr}
 use Rattle.mv_ast.specs.declared.tree.ExprKind.TheFolds.{fold-ExprKind, fold-roll-ExprKind, map-ExprKind}
 use Rattle.mv_names.specs.declared.scope.ValueType.{ValueType}
 use Rattle.mv_names.specs.declared.scope.Field.{Field}
-use Rattle.mv_names.specs.declared.scope.Meaning.{Meaning}
-use Rattle.mv_names.specs.declared.scope.Meaning.TheVariants.{Fixed, Variable, Rows, Turn}
+use Rattle.mv_names.specs.declared.scope.Binding.{Binding}
+use Rattle.mv_names.specs.declared.scope.Binding.TheVariants.{Fixed, Variable, Rows, Turn}
 use Rattle.mv_names.specs.declared.scope.Entry.{Entry}
 use Rattle.mv_names.specs.First.{wrong}
 use Rattle.mv_names.specs.Named.{Text, place_named}
@@ -53,8 +53,8 @@ value_known (value.Int z) = refl
 value_known (value.Text t) = refl
 
 -- a name that is read
-variable_means : (m : Meaning) (v : Var) (fs : List Text) (token : ℕ) → Means m v fs → names.reading_faults token m ≡ []
-    → (t : Kind) × (names.type_of_meaning m ≡ known t) × (read (Some v) ≡ Some t)
+variable_means : (m : Binding) (v : Var) (fs : List Text) (token : ℕ) → Means m v fs → names.reading_faults token m ≡ []
+    → (t : Kind) × (names.type_of_binding m ≡ known t) × (read (Some v) ≡ Some t)
 variable_means (Fixed t) (fixed k) fs token means h = (k, means, refl)
 variable_means (Variable t) (declared k) fs token means h = (k, means, refl)
 variable_means (Rows fields) v fs token means h = cc
@@ -66,7 +66,7 @@ variable_same : (e : Option Entry) (s : Option Slot) (vars : Vars) (n : Name) (t
 variable_same None s vars n token same h = cc
 variable_same (Some e) None vars n token same h = absurd same
 variable_same (Some e) (Some s) vars n token same h =
-    let r = variable_means e.meaning same.0 s.fields token same.2 h in
+    let r = variable_means e.binding same.0 s.fields token same.2 h in
     (r.0, r.1, ap read same.1 ∙ r.2)
 
 const_claim : (v : Value) → KindClaim (names.kind_step (tree.Const v)) (build.kind_step (tree.Const v))
@@ -88,7 +88,7 @@ field_by fields ks fs n (Some g) same few is h =
     let lt : place_named (λ t. t) fs n.text < length ks = slice_get_within ks _ r.0 r.2 in
     (r.0, r.1, rw (small_is (place_named (λ t. t) fs n.text) (omega arith)) r.2)
 
-field_means : (m : Meaning) (v : Var) (fs : List Text) (n : Name) (token : ℕ) → Means m v fs → turn_faults token m n ≡ []
+field_means : (m : Binding) (v : Var) (fs : List Text) (n : Name) (token : ℕ) → Means m v fs → turn_faults token m n ≡ []
     → (t : Kind) × (turn_type m n ≡ known t) × (field (Some v) (small (place_named (λ t. t) fs n.text)) ≡ Some t)
 field_means (Turn fields) (turn ks) fs n token means h = field_by fields ks fs n (field_named fields n) means.0 means.1 refl h
 field_means (Turn fields) v fs n token means h = absurd means
@@ -99,7 +99,7 @@ field_same : (e : Option Entry) (s : Option Slot) (vars : Vars) (r n : Name) (to
 field_same None s vars r n token same h = cc
 field_same (Some e) None vars r n token same h = absurd same
 field_same (Some e) (Some s) vars r n token same h =
-    let f = field_means e.meaning same.0 s.fields n token same.2 h in
+    let f = field_means e.binding same.0 s.fields n token same.2 h in
     (f.0, f.1, ap (λ v. field v (small (place_named (λ t. t) s.fields n.text))) same.1 ∙ f.2)
 
 field_claim : (r n : Name) → KindClaim (names.kind_step (tree.Field r n)) (build.kind_step (tree.Field r n))

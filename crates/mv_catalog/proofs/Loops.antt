@@ -4,8 +4,8 @@ use Rattle.std.specs.List.{flat_map}
 use Rattle.std.proofs.lemmas.Bool.{eqb-false}
 use Rattle.mv_ast.specs.declared.tree.Name.{Name}
 use Rattle.mv_ast.specs.declared.tree.ColDef.{ColDef}
-use Rattle.mv_names.specs.declared.scope.Meaning.{Meaning}
-use Rattle.mv_names.specs.declared.scope.Meaning.TheVariants.{Rows}
+use Rattle.mv_names.specs.declared.scope.Binding.{Binding}
+use Rattle.mv_names.specs.declared.scope.Binding.TheVariants.{Rows}
 use Rattle.mv_names.specs.declared.scope.Entry.{Entry}
 use Rattle.mv_names.specs.Named.{Text, same_text, first_named}
 use Rattle.mv_names.specs.Scope.{entry_of, selected_field, fields_of, rows_in}
@@ -57,12 +57,12 @@ fresh_step vars row m ts false e lt none = none
 pub fresh_behind : (vars : Vars) (row : ℕ) (ts : List Kind) → Fresh vars row → Fresh (with_turn vars row ts) (row + 1)
 fresh_behind vars row ts fresh m le = fresh_step vars row m ts (nat_eq m row) refl le (fresh m (omega arith))
 
-one_more : (vars : Vars) (e : Entry) (s : Slot) (v : Var) (b : Bool) → vars s.number ≡ Some v → Means e.meaning v s.fields → Same vars (if b then Some e else None) (if b then Some s else None)
+one_more : (vars : Vars) (e : Entry) (s : Slot) (v : Var) (b : Bool) → vars s.number ≡ Some v → Means e.binding v s.fields → Same vars (if b then Some e else None) (if b then Some s else None)
 one_more vars e s v true at means = (v, at, means)
 one_more vars e s v false at means = tt
 
 module _ (scope : List Entry) (slots : List Slot) (vars : Vars) (e : Entry) (s : Slot) (ts : List Kind) where
-  within : (x : Text) (o : Option Entry) (q : Option Slot) → Fresh vars s.number → e.name ≡ s.name → Means e.meaning (turn ts) s.fields
+  within : (x : Text) (o : Option Entry) (q : Option Slot) → Fresh vars s.number → e.name ≡ s.name → Means e.binding (turn ts) s.fields
       → entry_of scope x ≡ o → slot_named slots x ≡ q → Same vars o q → Same (with_turn vars s.number ts) (entry_of (scope ++ e ∷ []) x) (slot_named (slots ++ s ∷ []) x)
   within x None None fresh name means io iq same =
       subst₂ (Same (with_turn vars s.number ts)) (sym (first_behind (λ (y : Entry). y.name) scope (e ∷ []) x io)) (sym (first_behind (λ (y : Slot). y.name) slots (s ∷ []) x iq))
@@ -75,7 +75,7 @@ module _ (scope : List Entry) (slots : List Slot) (vars : Vars) (e : Entry) (s :
       (same.0, turn_there vars s.number q.number ts same.0 (nat_eq q.number s.number) refl fresh same.1, same.2)
 
   -- the names with the row of a loop
-  pub matches_within : Matches scope slots vars → Fresh vars s.number → e.name ≡ s.name → Means e.meaning (turn ts) s.fields
+  pub matches_within : Matches scope slots vars → Fresh vars s.number → e.name ≡ s.name → Means e.binding (turn ts) s.fields
       → Matches (scope ++ e ∷ []) (slots ++ s ∷ []) (with_turn vars s.number ts)
   matches_within m fresh name means x = within x (entry_of scope x) (slot_named slots x) fresh name means refl refl (m x)
 
@@ -103,7 +103,7 @@ chosen columns few (n ∷ ns) h =
 abbrev pub Over : Vars → Option Entry → Option Slot → Type 0
 Over vars e s = (ts : List Kind) × (vars (number_in s) ≡ Some (rows ts)) × SameFields (fields_of e) ts (fields_in s) × (length ts ≤ 32)
 
-rows_means : (vars : Vars) (m : Meaning) (v : Var) (fs : List Text) (token x : ℕ) → vars x ≡ Some v → Means m v fs → not_rows token m ≡ []
+rows_means : (vars : Vars) (m : Binding) (v : Var) (fs : List Text) (token x : ℕ) → vars x ≡ Some v → Means m v fs → not_rows token m ≡ []
     → (ts : List Kind) × (vars x ≡ Some (rows ts)) × SameFields (rows_in m) ts fs × (length ts ≤ 32)
 rows_means vars (Rows fields) (rows ks) fs token x at means h = (ks, at, means.0, means.1)
 rows_means vars (Rows fields) v fs token x at means h = absurd means
@@ -112,7 +112,7 @@ rows_means vars m v fs token x at means h = cc
 pub rows_same : (e : Option Entry) (s : Option Slot) (vars : Vars) (token : ℕ) → Same vars e s → rows_faults token e ≡ [] → Over vars e s
 rows_same None s vars token same h = cc
 rows_same (Some e) None vars token same h = absurd same
-rows_same (Some e) (Some s) vars token same h = rows_means vars e.meaning same.0 s.fields token s.number same.1 same.2 h
+rows_same (Some e) (Some s) vars token same h = rows_means vars e.binding same.0 s.fields token s.number same.1 same.2 h
 
 -- numbers that count on
 pub counts_on : (n : ℕ) (xs ys : List ℕ) → CountsFrom n xs → CountsFrom (n + length xs) ys → CountsFrom n (xs ++ ys)

@@ -13,8 +13,8 @@ use Rattle.mv_ast.specs.declared.tree.Agg.TheVariants.{CountAll, CountDistinct, 
 use Rattle.mv_ast.specs.declared.tree.Expr.{Expr}
 use Rattle.mv_names.specs.declared.scope.ValueType.{ValueType}
 use Rattle.mv_names.specs.declared.scope.ValueType.TheVariants as type'
-use Rattle.mv_names.specs.declared.scope.Meaning.{Meaning}
-use Rattle.mv_names.specs.declared.scope.Meaning.TheVariants.{Variable}
+use Rattle.mv_names.specs.declared.scope.Binding.{Binding}
+use Rattle.mv_names.specs.declared.scope.Binding.TheVariants.{Variable}
 use Rattle.mv_names.specs.declared.scope.Entry.{Entry}
 use Rattle.mv_names.specs.First.{wrong}
 use Rattle.mv_names.specs.Named.{Text}
@@ -80,7 +80,7 @@ offset_is scope slots vars m None h = tt
 offset_is scope slots vars m (Some e) h = gives scope slots vars m int type'.Int e refl h
 
 -- targets
-set_means : (m : Meaning) (v : Var) (fs : List Text) (token : ℕ) → Means m v fs → names.set_faults token m ≡ [] → (t : Kind) × (names.set_type m ≡ known t) × (v ≡ declared t)
+set_means : (m : Binding) (v : Var) (fs : List Text) (token : ℕ) → Means m v fs → names.set_faults token m ≡ [] → (t : Kind) × (names.set_type m ≡ known t) × (v ≡ declared t)
 set_means (Variable t) (declared k) fs token means h = (k, means, refl)
 set_means (Variable t) v fs token means h = absurd means
 set_means m v fs token means h = cc
@@ -90,7 +90,7 @@ set_same : (e : Option Entry) (s : Option Slot) (vars : Vars) (token : ℕ) → 
 set_same None s vars token same h = cc
 set_same (Some e) None vars token same h = absurd same
 set_same (Some e) (Some s) vars token same h =
-    let r = set_means e.meaning same.0 s.fields token same.2 h in
+    let r = set_means e.binding same.0 s.fields token same.2 h in
     (r.0, r.1, same.1 ∙ ap Some r.2)
 
 pub target_is : (scope : List Entry) (slots : List Slot) (vars : Vars) → Matches scope slots vars → (n : Name) → names.target_faults n.token (entry_of scope n.text) ≡ []

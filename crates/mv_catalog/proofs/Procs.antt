@@ -24,7 +24,7 @@ use Rattle.mv_ast.proofs.Limited.{few}
 use Rattle.mv_names.specs.declared.scope.Entry.{Entry}
 use Rattle.mv_names.specs.First.{wrong}
 use Rattle.mv_names.specs.Named.{Text, same_text}
-use Rattle.mv_names.specs.Scope.{entry_of, found, parameter, variable, meaning_of, declared_field, scope_of}
+use Rattle.mv_names.specs.Scope.{entry_of, found, parameter, variable, binding_of, declared_field, scope_of}
 use Rattle.mv_names.specs.Statements.{doubles}
 use Rattle.mv_names.specs.Statements as names
 use Rattle.mv_names.specs.Faults as faults
@@ -68,10 +68,10 @@ at_right vars i (v ∷ vs) ws h =
 
 abbrev pub Pairs : Vars → List Entry → List Slot → Type 0
 Pairs vars [] [] = Unit {0}
-Pairs vars (e ∷ es) (s ∷ ss) = (e.name ≡ s.name) × ((v : Var) × (vars s.number ≡ Some v) × Means e.meaning v s.fields) × Pairs vars es ss
+Pairs vars (e ∷ es) (s ∷ ss) = (e.name ≡ s.name) × ((v : Var) × (vars s.number ≡ Some v) × Means e.binding v s.fields) × Pairs vars es ss
 Pairs vars es ss = ⊥
 
-pair_step : (vars : Vars) (e : Entry) (s : Slot) (b : Bool) (o : Option Entry) (q : Option Slot) → ((v : Var) × (vars s.number ≡ Some v) × Means e.meaning v s.fields) → Same vars o q
+pair_step : (vars : Vars) (e : Entry) (s : Slot) (b : Bool) (o : Option Entry) (q : Option Slot) → ((v : Var) × (vars s.number ≡ Some v) × Means e.binding v s.fields) → Same vars o q
     → Same vars (if b then Some e else o) (if b then Some s else q)
 pair_step vars e s true o q means h = means
 pair_step vars e s false o q means h = h
@@ -95,7 +95,7 @@ declared_fields : (columns : List ColDef) → SameFields (map declared_field col
 declared_fields [] = tt
 declared_fields (c ∷ cs) = (type_known c.kind, refl, declared_fields cs)
 
-param_means : (k : ParamKind) → kind_passes k ≡ [] → Means (meaning_of k) (param_var (param_of k)) (param_fields k)
+param_means : (k : ParamKind) → kind_passes k ≡ [] → Means (binding_of k) (param_var (param_of k)) (param_fields k)
 param_means (param.One type) h = type_known type
 param_means (param.Many columns) h =
     let most = few limit.Columns 32 column_token columns h in (

@@ -8,8 +8,8 @@ use Rattle.mv_ast.specs.declared.tree.ColDef.{ColDef}
 use Rattle.mv_names.specs.declared.scope.ValueType.{ValueType}
 use Rattle.mv_names.specs.declared.scope.ValueType.TheVariants as type'
 use Rattle.mv_names.specs.declared.scope.Field.{Field}
-use Rattle.mv_names.specs.declared.scope.Meaning.{Meaning}
-use Rattle.mv_names.specs.declared.scope.Meaning.TheVariants.{Fixed, Variable, Rows, Turn}
+use Rattle.mv_names.specs.declared.scope.Binding.{Binding}
+use Rattle.mv_names.specs.declared.scope.Binding.TheVariants.{Fixed, Variable, Rows, Turn}
 use Rattle.mv_names.specs.declared.scope.Entry.{Entry}
 use Rattle.mv_names.specs.Named.{Text, same_text, first_named, place_named}
 use Rattle.mv_names.specs.Scope.{entry_of, type_in, type_among, type_of_column}
@@ -31,7 +31,7 @@ SameFields (f ∷ fs) (k ∷ ks) (t ∷ ts) = (f.kind ≡ known k) × (f.name �
 SameFields fs ks ts = ⊥
 
 -- what an entry of the check's scope means in the program
-abbrev pub Means : Meaning → Var → List Text → Type 0
+abbrev pub Means : Binding → Var → List Text → Type 0
 Means (Fixed t) (fixed k) names = t ≡ known k
 Means (Variable t) (declared k) names = t ≡ known k
 Means (Rows fields) (rows ks) names = SameFields fields ks names × (length ks ≤ 32)
@@ -40,7 +40,7 @@ Means m v names = ⊥
 
 abbrev pub Same : Vars → Option Entry → Option Slot → Type 0
 Same vars None None = Unit {0}
-Same vars (Some e) (Some s) = (v : Var) × (vars s.number ≡ Some v) × Means e.meaning v s.fields
+Same vars (Some e) (Some s) = (v : Var) × (vars s.number ≡ Some v) × Means e.binding v s.fields
 Same vars e s = ⊥
 
 -- each name stands for the same

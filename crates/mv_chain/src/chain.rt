@@ -19,7 +19,7 @@ use std::mem;
 
 /// What a chain holds. Commits and patches stand behind a pointer, since most rows have none.
 #[derive(Drop)]
-enum Held {
+enum Form {
     Nothing,
     Only(Row),
     History(Box<History>),
@@ -30,7 +30,7 @@ enum Held {
 #[derive(Drop)]
 pub struct Chain {
     alloc: Global,
-    held: Held,
+    held: Form,
 }
 
 impl Model for Chain {
@@ -58,9 +58,9 @@ impl Chain {
         ensures { option_copied result ≡ newest self.now }
     {
         match &self.held {
-            Held::Nothing => None,
-            Held::Only(row) => Some(row),
-            Held::History(history) => history.newest(),
+            Form::Nothing => None,
+            Form::Only(row) => Some(row),
+            Form::History(history) => history.newest(),
         }
     }
 
@@ -70,9 +70,9 @@ impl Chain {
         ensures { IfOk result (λ row. row ≡ row_at self.now n) }
     {
         match &self.held {
-            Held::Nothing => Ok(None),
-            Held::Only(row) => Ok(Some(row.copy(alloc)?)),
-            Held::History(history) => history.row_at(alloc, n),
+            Form::Nothing => Ok(None),
+            Form::Only(row) => Ok(Some(row.copy(alloc)?)),
+            Form::History(history) => history.row_at(alloc, n),
         }
     }
 
@@ -82,9 +82,9 @@ impl Chain {
         ensures { IfOk result (λ row. row ≡ row_at self n) }
     {
         match self.held {
-            Held::Nothing => Ok(None),
-            Held::Only(row) => Ok(Some(row)),
-            Held::History(history) => Box::into_inner(history).into_row_at(alloc, n),
+            Form::Nothing => Ok(None),
+            Form::Only(row) => Ok(Some(row)),
+            Form::History(history) => Box::into_inner(history).into_row_at(alloc, n),
         }
     }
 
@@ -94,9 +94,9 @@ impl Chain {
         ensures { IfOk result (λ row. row ≡ matched pred.now (row_at self.now n)) }
     {
         match &self.held {
-            Held::Nothing => Ok(None),
-            Held::Only(row) => copy_of_match(alloc, Some(row), pred),
-            Held::History(history) => history.found_at(alloc, n, pred),
+            Form::Nothing => Ok(None),
+            Form::Only(row) => copy_of_match(alloc, Some(row), pred),
+            Form::History(history) => history.found_at(alloc, n, pred),
         }
     }
 
@@ -106,9 +106,9 @@ impl Chain {
         ensures { result ≡ is_some (row_at self.now n) }
     {
         match &self.held {
-            Held::Nothing => false,
-            Held::Only(_) => true,
-            Held::History(history) => history.exists_at(n),
+            Form::Nothing => false,
+            Form::Only(_) => true,
+            Form::History(history) => history.exists_at(n),
         }
     }
 
@@ -119,9 +119,9 @@ impl Chain {
         ensures { option_copied result ≡ option_and_then (λ row. slice_get row column) (row_at self.now n) }
     {
         match &self.held {
-            Held::Nothing => None,
-            Held::Only(row) => column_of(row, column),
-            Held::History(history) => history.value_at(n, column),
+            Form::Nothing => None,
+            Form::Only(row) => column_of(row, column),
+            Form::History(history) => history.value_at(n, column),
         }
     }
 
@@ -130,8 +130,8 @@ impl Chain {
         ensures { result ≡ is_some (own_of call self.now.own) }
     {
         match &self.held {
-            Held::Nothing | Held::Only(_) => false,
-            Held::History(history) => history.has_own(call),
+            Form::Nothing | Form::Only(_) => false,
+            Form::History(history) => history.has_own(call),
         }
     }
 
@@ -140,9 +140,9 @@ impl Chain {
         ensures { result ≡ is_blank self.now }
     {
         match &self.held {
-            Held::Nothing => true,
-            Held::Only(_) => false,
-            Held::History(history) => history.is_blank(),
+            Form::Nothing => true,
+            Form::Only(_) => false,
+            Form::History(history) => history.is_blank(),
         }
     }
 
@@ -152,13 +152,13 @@ impl Chain {
         ensures ok { OnOk result (self.new ≡ record self.old { own = with_own call patch self.old.own }) }
         ensures err { OnErr result (self.new ≡ self.old) }
     {
-        if let Held::History(history) = &mut self.held {
+        if let Form::History(history) = &mut self.held {
             return history.put(call, patch);
         }
         let mut history = Box::new(self.alloc, History::new(self.alloc))?;
         history.put(call, patch)?;
         history.set_base(take_newest(&mut self.held));
-        self.held = Held::History(history);
+        self.held = Form::History(history);
         Ok(())
     }
 
@@ -167,8 +167,8 @@ impl Chain {
         ensures { IsTrue result ↔ IsAboveAll n self.now }
     {
         match &self.held {
-            Held::Nothing | Held::Only(_) => true,
-            Held::History(history) => history.is_next(n),
+            Form::Nothing | Form::Only(_) => true,
+            Form::History(history) => history.is_next(n),
         }
     }
 
@@ -178,7 +178,7 @@ impl Chain {
         requires { OnSome (own_of call self.old.own) (IsAboveAll n self.old) }
         ensures { self.new ≡ stamped call n self.old }
     {
-        if let Held::History(history) = &mut self.held {
+        if let Form::History(history) = &mut self.held {
             history.stamp(call, n);
         }
     }
@@ -187,7 +187,7 @@ impl Chain {
     pub fn drop_of(&mut self, call: u32)
         ensures { self.new ≡ record self.old { own = without call self.old.own } }
     {
-        if let Held::History(history) = &mut self.held {
+        if let Form::History(history) = &mut self.held {
             history.drop_of(call);
         }
         settle(&mut self.held);
@@ -199,7 +199,7 @@ impl Chain {
         ensures versions { self.new ≡ collected low self.old }
         ensures reads { (n : ℕ) → low ≤ n → row_at self.new n ≡ row_at self.old n }
     {
-        if let Held::History(history) = &mut self.held {
+        if let Form::History(history) = &mut self.held {
             history.collect(low);
         }
         settle(&mut self.held);
@@ -207,38 +207,38 @@ impl Chain {
 }
 
 /// Returns what holds a row, or none, before any commit.
-fn held_of(row: Option<Row>) -> Held
+fn held_of(row: Option<Row>) -> Form
     ensures { versions_of result ≡ record { base = row; commits = []; own = [] } }
 {
     match row {
-        Some(row) => Held::Only(row),
-        None => Held::Nothing,
+        Some(row) => Form::Only(row),
+        None => Form::Nothing,
     }
 }
 
 /// Whether there are no commits and no patches.
-fn has_row_alone(held: &Held) -> bool
+fn has_row_alone(held: &Form) -> bool
     ensures { result ≡ is_plain (versions_of held.now) }
 {
     match held {
-        Held::Nothing | Held::Only(_) => true,
-        Held::History(history) => history.is_plain(),
+        Form::Nothing | Form::Only(_) => true,
+        Form::History(history) => history.is_plain(),
     }
 }
 
 /// Moves the row after the last commit out, if there is one, and leaves nothing.
-fn take_newest(held: &mut Held) -> Option<Row>
+fn take_newest(held: &mut Form) -> Option<Row>
     ensures { result ≡ newest (versions_of held.old) }
 {
-    match mem::replace(held, Held::Nothing) {
-        Held::Nothing => None,
-        Held::Only(row) => Some(row),
-        Held::History(history) => Box::into_inner(history).into_newest(),
+    match mem::replace(held, Form::Nothing) {
+        Form::Nothing => None,
+        Form::Only(row) => Some(row),
+        Form::History(history) => Box::into_inner(history).into_newest(),
     }
 }
 
 /// Holds the row alone, where there are no commits and no patches. It allocates no memory.
-fn settle(held: &mut Held)
+fn settle(held: &mut Form)
     ensures { versions_of held.new ≡ versions_of held.old }
 {
     if has_row_alone(held) {

@@ -34,14 +34,18 @@ fn end_of(records: &[Record]) -> Option<&End>
     None
 }
 
+/// Checks whether a record has a line.
+fn has_line(made: &Record) -> bool
+    ensures { result ≡ is_some made.now.line }
+{
+    made.line.is_some()
+}
+
 /// Returns the number of records that have a line.
 fn line_count(records: &[Record]) -> usize
     ensures { result ≡ count_by (λ r. is_some r.line) records.now }
 {
-    records
-        .iter()
-        .filter(|record| record.line.is_some())
-        .count()
+    records.iter().filter(|made| has_line(made)).count()
 }
 
 /// Copies the lines of records.

@@ -24,7 +24,7 @@ use Rattle.mv_alone.proofs.FirstRows.{kept_all, some_foremost}
 use Rattle.mv_record.specs.Writes.{AreRising}
 use Rattle.mv_record.proofs.Patching.{rising_found, rising_applied}
 use Rattle.mv_recorded.specs.Asking.{column_in, with_sorts, KnowsKey}
-use Rattle.mv_recorded.specs.Effects.{IsEffect, asks, asked_then, row_number, taking, totalling}
+use Rattle.mv_recorded.specs.Effects.{IsEffect, asks, effect_after, row_number, effect_of_select, effect_of_aggregate}
 use Rattle.mv_recorded.proofs.Chosen.{select_goes, total_done}
 use Rattle.mv_recorded.proofs.Matching.{admitted, matching_all}
 use Rattle.mv_effect.specs.Looking.{AreSoundTables}
@@ -44,21 +44,21 @@ found_admitted tables ws db pred stands knows =
 -- of these rows one tells the aggregate
 pub total_told : (tables : List TableInfo) (ws : List Write) (db : List (List Keyed)) (agg : RAgg) (x c : ℕ) (d : Direction) (pred : Pred) (env : Env) (row : Option Keyed)
     → AreSoundTables tables ws db → KnowsKey tables pred → IsFromEnd agg (key_columns tables pred.table) pred.tests c d → row ≡ foremost d (found_by pred (applied ws db))
-    → totalling pred x (option_map (λ (item : Keyed). column_of item.row c) row) (is_some row) env ≡ total_asked agg x pred (found_by pred (applied ws db)) env
+    → effect_of_aggregate pred x (option_map (λ (item : Keyed). column_of item.row c) row) (is_some row) env ≡ total_asked agg x pred (found_by pred (applied ws db)) env
 total_told tables ws db agg x c d pred env row stands knows tells is =
     let rows : List Keyed = found_by pred (applied ws db) in
     let told = tells rows (found_admitted tables ws db pred stands knows) in
-    ap (λ (o : Option Keyed). totalling pred x (option_map (λ (item : Keyed). column_of item.row c) o) (is_some o) env) is
-    ∙ (ap (λ b. totalling pred x (option_map (λ (item : Keyed). column_of item.row c) (foremost d rows)) b env) (some_foremost d rows)
-    ∙ sym (ap (λ r. asked_then pred r (λ total. totalling pred x total (is_some_row rows) env)) told))
+    ap (λ (o : Option Keyed). effect_of_aggregate pred x (option_map (λ (item : Keyed). column_of item.row c) o) (is_some o) env) is
+    ∙ (ap (λ b. effect_of_aggregate pred x (option_map (λ (item : Keyed). column_of item.row c) (foremost d rows)) b env) (some_foremost d rows)
+    ∙ sym (ap (λ r. effect_after pred r (λ total. effect_of_aggregate pred x total (is_some_row rows) env)) told))
 
 -- of these rows the first one is the one that a SELECT takes
 pub select_led : (tables : List TableInfo) (ws : List Write) (db : List (List Keyed)) (cs xs : List ℕ) (sorts : List RSort) (d : Direction) (pred : Pred) (at : ℤ) (env : Env) (row : Option Keyed)
     → AreSoundTables tables ws db → KnowsKey tables pred → Leads sorts (key_columns tables pred.table) pred.tests d → at ≡ pos 0 → row ≡ foremost d (found_by pred (applied ws db))
-    → taking pred cs xs row env ≡ taking pred cs xs (item_at (ordered sorts (found_by pred (applied ws db))) at) env
+    → effect_of_select pred cs xs row env ≡ effect_of_select pred cs xs (item_at (ordered sorts (found_by pred (applied ws db))) at) env
 select_led tables ws db cs xs sorts d pred at env row stands knows leads none is =
     let rows : List Keyed = found_by pred (applied ws db) in
-    ap (λ (o : Option Keyed). taking pred cs xs o env) (is ∙ (sym (leads rows (found_admitted tables ws db pred stands knows)) ∙ ap (item_at (ordered sorts rows)) (sym none)))
+    ap (λ (o : Option Keyed). effect_of_select pred cs xs o env) (is ∙ (sym (leads rows (found_admitted tables ws db pred stands knows)) ∙ ap (item_at (ordered sorts rows)) (sym none)))
 
 -- what an aggregate does that finds these rows
 pub total_found_done : (tables : List TableInfo) (agg : RAgg) (x t : ℕ) (conds : List RCond) (env : Env) (db : List (List Keyed)) (pred : Pred) → asks tables t conds (column_in agg) env ≡ Ok pred
@@ -68,7 +68,7 @@ total_found_done tables agg x t conds env db pred h =
 
 -- what a SELECT does that finds these rows
 pub select_found_done : (tables : List TableInfo) (cs xs : List ℕ) (t : ℕ) (conds : List RCond) (sorts : List RSort) (offset : Option RExpr) (env : Env) (db : List (List Keyed)) (pred : Pred) (z : ℤ)
-    → asks tables t conds (with_sorts cs sorts) env ≡ Ok pred → row_number offset env ≡ Ok z → IsEffect tables (Select cs xs t conds sorts offset) env db (taking pred cs xs (item_at (ordered sorts (found_by pred db)) z) env)
+    → asks tables t conds (with_sorts cs sorts) env ≡ Ok pred → row_number offset env ≡ Ok z → IsEffect tables (Select cs xs t conds sorts offset) env db (effect_of_select pred cs xs (item_at (ordered sorts (found_by pred db)) z) env)
 select_found_done tables cs xs t conds sorts offset env db pred z h k =
-    subst (λ rows. IsEffect tables (Select cs xs t conds sorts offset) env db (taking pred cs xs (item_at (ordered sorts rows) z) env)) (matching_all (found_by pred db))
+    subst (λ rows. IsEffect tables (Select cs xs t conds sorts offset) env db (effect_of_select pred cs xs (item_at (ordered sorts rows) z) env)) (matching_all (found_by pred db))
     (select_goes tables cs xs t conds sorts offset env db pred z (found_by pred db) h k refl)

@@ -6,8 +6,8 @@ use Rattle.mv_catalog.specs.declared.resolved.RAgg.{RAgg}
 use Rattle.mv_alone.specs.declared.state.Env.{Env}
 use Rattle.mv_alone.specs.Rows.{aggregate, is_some_row}
 use Rattle.mv_record.specs.declared.effect.Effect.{Effect}
-use Rattle.mv_recorded.specs.Effects.{asked_then, totalling}
+use Rattle.mv_recorded.specs.Effects.{effect_after, effect_of_aggregate}
 
 -- the effect of an aggregate that asked this and found these rows
 abbrev pub total_asked : RAgg → ℕ → Pred → List Keyed → Env → Effect
-total_asked agg x pred rows env = asked_then pred (aggregate agg rows) (λ total. totalling pred x total (is_some_row rows) env)
+total_asked agg x pred rows env = effect_after pred (aggregate agg rows) (λ total. effect_of_aggregate pred x total (is_some_row rows) env)

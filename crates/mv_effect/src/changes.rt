@@ -10,7 +10,7 @@ ghost use Rattle.mv_alone.specs.Outcome.{Gives, then_do};
 ghost use Rattle.mv_alone.specs.Rows.{is_some_row};
 ghost use Rattle.mv_recorded.specs.Doing.{set_patch, write};
 ghost use Rattle.mv_undo.specs.Owning.{earlier};
-ghost use Rattle.mv_recorded.specs.Effects.{IsEffect, asked_then, changes, inserting, new_of, writing};
+ghost use Rattle.mv_recorded.specs.Effects.{IsEffect, effect_after, changes, effect_of_insert, new_of, effect_of_writes};
 ghost use Rattle.mv_effect.specs.Looking.{AreSoundTables, OnlyAsks, different, AskedAtMost, AskedFor};
 ghost use Rattle.mv_effect.specs.Naming.{Tests, Sets};
 
@@ -47,7 +47,7 @@ fn write_effect(
     writes: List<Write>,
 ) -> Result<Effect, NoMemory>
     requires { env.now.found < 2 ^ 16 }
-    ensures { IfOk result (λ e. e ≡ writing pred found writes env.now) }
+    ensures { IfOk result (λ e. e ≡ effect_of_writes pred found writes env.now) }
 {
     let sets = found_alone(alloc, env, found)?;
     let mut effect = set_effect(alloc, pred, sets)?;
@@ -80,7 +80,7 @@ fn insert_effect(
 ) -> Result<Effect, NoMemory>
     requires table { table < 256 }
     requires found { env.now.found < 2 ^ 16 }
-    ensures { IfOk result (λ e. e ≡ inserting tables.now table row pred there env.now) }
+    ensures { IfOk result (λ e. e ≡ effect_of_insert tables.now table row pred there env.now) }
 {
     if there {
         return Ok(end_effect(alloc, List::of(alloc, pred)?, End::Duplicate));
@@ -148,7 +148,7 @@ fn delete_effect(
 ) -> Result<Effect, NoMemory>
     requires table { table < 256 }
     requires found { env.now.found < 2 ^ 16 }
-    ensures { IfOk result (λ e. e ≡ writing pred (is_some_row rows) (map (λ item. write table item.key patch.Delete) rows) env.now) }
+    ensures { IfOk result (λ e. e ≡ effect_of_writes pred (is_some_row rows) (map (λ item. write table item.key patch.Delete) rows) env.now) }
 {
     let found = is_any(&rows);
     let writes = deletes(alloc, narrow(table), rows)?;
@@ -270,7 +270,7 @@ fn update_effect(
     requires table { update.now.table < 256 }
     requires columns { All (λ (i : RSetItem). i.column < 256) update.now.items.now }
     requires found { env.now.found < 2 ^ 16 }
-    ensures { IfOk result (λ e. e ≡ asked_then pred (changes update.now.table update.now.items.now (new_of tables.now update.now.table env.now update.now.items.now) rows.now) (λ ws. writing pred (is_some_row rows.now) ws env.now)) }
+    ensures { IfOk result (λ e. e ≡ effect_after pred (changes update.now.table update.now.items.now (new_of tables.now update.now.table env.now update.now.items.now) rows.now) (λ ws. effect_of_writes pred (is_some_row rows.now) ws env.now)) }
 {
     match set_writes(alloc, tables, env, update, rows.as_slice()) {
         Ok(writes) => write_effect(alloc, env, pred, is_any(rows), writes),

@@ -14,7 +14,7 @@ ghost use Rattle.mv_alone.specs.FirstRows.{Leads};
 ghost use Rattle.mv_alone.specs.Rows.{aggregate, is_some_row, item_at, matching, ordered};
 ghost use Rattle.mv_recorded.specs.Asking.{column_in, with_sorts, KnowsKey};
 ghost use Rattle.mv_undo.specs.Owning.{earlier};
-ghost use Rattle.mv_recorded.specs.Effects.{IsEffect, asks, asked_by, asked_then, row_number, going, taking, totalling};
+ghost use Rattle.mv_recorded.specs.Effects.{IsEffect, asks, pred_with, effect_after, row_number, effect_of_loop, effect_of_select, effect_of_aggregate};
 ghost use Rattle.mv_effect.specs.Looking.{AreSoundTables, OnlyAsks, different, AskedAtMost, AskedFor};
 ghost use Rattle.mv_effect.specs.Naming.{Tests, AreColumns};
 ghost use Rattle.mv_effect.specs.Totalling.{total_asked};
@@ -25,9 +25,9 @@ use crate::predicates::{aggregate_pred, select_pred};
 use crate::rows::{first_visible, visible_rows};
 use crate::slots::{found_alone, select_slots, total_slots};
 use crate::tableless::has_turn;
-use mv_alone::chosen::leading;
+use mv_alone::chosen::order_direction;
 use mv_alone::expr::{number_in, offset};
-use mv_alone::extremes::telling;
+use mv_alone::extremes::aggregate_direction;
 use mv_alone::find::key_in;
 use mv_alone::fixing::fixed_rows;
 use mv_alone::order::chosen_row;
@@ -56,7 +56,7 @@ fn row_query(
     requires each { All IsTable context.now.tables.now }
     requires tests { Tests context.now.tables.now query.now.table query.now.conds.now }
     requires columns { AreColumns context.now.tables.now query.now.table (with_sorts query.now.columns.now query.now.sorts.now) }
-    ensures asks { IfOk result (λ asked. asked ≡ asked_by (asks context.now.tables.now query.now.table query.now.conds.now (with_sorts query.now.columns.now query.now.sorts.now) context.now.env.now) (row_number at.now context.now.env.now)) }
+    ensures asks { IfOk result (λ asked. asked ≡ pred_with (asks context.now.tables.now query.now.table query.now.conds.now (with_sorts query.now.columns.now query.now.sorts.now) context.now.env.now) (row_number at.now context.now.env.now)) }
     ensures knows { IfOk result (λ asked. IfOk asked (λ r. KnowsKey context.now.tables.now r.0)) }
 {
     let pred = match select_pred(alloc, context.tables, query, context.env) {
@@ -80,7 +80,7 @@ fn select_effect(
 ) -> Result<Effect, NoMemory>
     requires rising { IsRising rows.now }
     requires found { env.now.found < 2 ^ 16 }
-    ensures { IfOk result (λ e. e ≡ taking asked.0 query.now.columns.now to.now (item_at (ordered query.now.sorts.now (matching [] rows.now)) asked.1) env.now) }
+    ensures { IfOk result (λ e. e ≡ effect_of_select asked.0 query.now.columns.now to.now (item_at (ordered query.now.sorts.now (matching [] rows.now)) asked.1) env.now) }
 {
     let (pred, at) = asked;
     let item = chosen_row(alloc, query.sorts, rows, at)?;
@@ -98,7 +98,7 @@ fn taken_effect(
     row: Option<Keyed>,
 ) -> Result<Effect, NoMemory>
     requires { env.now.found < 2 ^ 16 }
-    ensures { IfOk result (λ e. e ≡ taking pred columns.now to.now row env.now) }
+    ensures { IfOk result (λ e. e ≡ effect_of_select pred columns.now to.now row env.now) }
 {
     let sets = select_slots(alloc, env, columns, to, row.as_ref())?;
     set_effect(alloc, pred, sets)
@@ -114,7 +114,7 @@ fn leading_at(context: &Context<'_>, sorts: &[RSort], pred: &Pred, at: i64) -> O
         return None;
     }
     let keys = key_in(context.tables, pred.table as u16);
-    leading(sorts, keys, pred.tests.as_slice())
+    order_direction(sorts, keys, pred.tests.as_slice())
 }
 
 /// Returns the effect of a SELECT that asks this and takes the row with this number. It asks the view for one row, where
@@ -130,7 +130,7 @@ fn select_asked<V: View>(
     requires stands { AreSoundTables context.now.tables.now (earlier context.now.number context.now.undo.now) (V.sight view.old).database }
     requires found { context.now.env.now.found < 2 ^ 16 }
     requires knows { KnowsKey context.now.tables.now asked.0 }
-    ensures effect { IfOk result (λ e. e ≡ taking asked.0 query.now.columns.now to.now (item_at (ordered query.now.sorts.now (found_by asked.0 (applied (earlier context.now.number context.now.undo.now) (V.sight view.old).database))) asked.1) context.now.env.now) }
+    ensures effect { IfOk result (λ e. e ≡ effect_of_select asked.0 query.now.columns.now to.now (item_at (ordered query.now.sorts.now (found_by asked.0 (applied (earlier context.now.number context.now.undo.now) (V.sight view.old).database))) asked.1) context.now.env.now) }
     ensures view { OnlyAsks (V.sight view.old) (V.sight view.new) result }
     ensures looks { AskedAtMost 1 (different (earlier context.now.number context.now.undo.now)) (V.sight view.old) (V.sight view.new) }
 {
@@ -178,7 +178,7 @@ fn total_effect(
     found: bool,
 ) -> Result<Effect, NoMemory>
     requires { env.now.found < 2 ^ 16 }
-    ensures { IfOk result (λ e. e ≡ totalling pred to total found env.now) }
+    ensures { IfOk result (λ e. e ≡ effect_of_aggregate pred to total found env.now) }
 {
     let sets = total_slots(alloc, env, to, total, found)?;
     set_effect(alloc, pred, sets)
@@ -194,7 +194,7 @@ fn aggregate_effect(
     rows: &[Keyed],
 ) -> Result<Effect, NoMemory>
     requires { env.now.found < 2 ^ 16 }
-    ensures { IfOk result (λ e. e ≡ asked_then pred (aggregate agg (matching [] rows.now)) (λ total. totalling pred to total (is_some_row (matching [] rows.now)) env.now)) }
+    ensures { IfOk result (λ e. e ≡ effect_after pred (aggregate agg (matching [] rows.now)) (λ total. effect_of_aggregate pred to total (is_some_row (matching [] rows.now)) env.now)) }
 {
     match aggregate_of(alloc, agg, rows) {
         Ok(total) => total_effect(alloc, env, to, pred, total, !rows.is_empty()),
@@ -212,7 +212,7 @@ fn told_effect(
     row: Option<Keyed>,
 ) -> Result<Effect, NoMemory>
     requires { env.now.found < 2 ^ 16 }
-    ensures { IfOk result (λ e. e ≡ totalling pred to (option_map (λ item. column_of item.row column) row) (is_some row) env.now) }
+    ensures { IfOk result (λ e. e ≡ effect_of_aggregate pred to (option_map (λ item. column_of item.row column) row) (is_some row) env.now) }
 {
     let total = value_in(alloc, column, row.as_ref())?;
     total_effect(alloc, env, to, pred, total, row.is_some())
@@ -236,7 +236,7 @@ fn aggregate_asked<V: View>(
     ensures looks { AskedAtMost 1 (different (earlier context.now.number context.now.undo.now)) (V.sight view.old) (V.sight view.new) }
 {
     let keys = key_in(context.tables, pred.table as u16);
-    if let Some((column, direction)) = telling(agg, keys, pred.tests.as_slice()) {
+    if let Some((column, direction)) = aggregate_direction(agg, keys, pred.tests.as_slice()) {
         let row = first_visible(alloc, context, &pred, direction, view)?;
         return Ok(told_effect(alloc, context.env, column, to, pred, row)?);
     }
@@ -274,7 +274,7 @@ pub(crate) fn total<V: View>(
 /// Returns the effect of a FOR that asked this and has these turns.
 fn turns_effect(alloc: Global, env: &Env, pred: Pred, turns: List<Row>) -> Result<Effect, NoMemory>
     requires { env.now.found < 2 ^ 16 }
-    ensures { IfOk result (λ e. e ≡ going pred turns env.now) }
+    ensures { IfOk result (λ e. e ≡ effect_of_loop pred turns env.now) }
 {
     let sets = found_alone(alloc, env, has_turn(&turns))?;
     let mut effect = set_effect(alloc, pred, sets)?;
@@ -293,7 +293,7 @@ fn loop_effect(
 ) -> Result<Effect, NoMemory>
     requires rising { IsRising rows.now }
     requires found { env.now.found < 2 ^ 16 }
-    ensures { IfOk result (λ e. e ≡ going pred (fixed once query.now.columns.now query.now.sorts.now (matching [] rows.now)) env.now) }
+    ensures { IfOk result (λ e. e ≡ effect_of_loop pred (fixed once query.now.columns.now query.now.sorts.now (matching [] rows.now)) env.now) }
 {
     let turns = fixed_rows(alloc, once, query.columns, query.sorts, rows)?;
     turns_effect(alloc, env, pred, turns)

@@ -13,7 +13,7 @@ ghost use Rattle.mv_recorded.specs.Effects.{slots_behind};
 
 use crate::numbers::is_among_first;
 use mv_alone::env::column_value;
-use mv_alone::state::{Env, Held};
+use mv_alone::state::{Content, Env};
 use mv_record::record::Slot;
 use mv_values::copied::Copied;
 use mv_values::list::List;
@@ -34,7 +34,7 @@ fn scalar(alloc: Global, env: &Env, x: u16) -> Result<Value, NoMemory>
     ensures { IfOk result (λ v. v ≡ scalar_at env.now x) }
 {
     match env.held.as_slice().get(x as usize) {
-        Some(Held::Scalar(v)) => v.copy(alloc),
+        Some(Content::Scalar(v)) => v.copy(alloc),
         _ => Ok(Value::Int(0)),
     }
 }

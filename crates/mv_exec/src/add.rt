@@ -15,7 +15,7 @@ ghost use Rattle.mv_exec.specs.Steps.{HasAddedRecord, HasFronts, IsWidened, with
 ghost use Rattle.mv_exec.specs.Running.{stepped};
 ghost use Rattle.mv_exec.specs.Tasks.{places_of, IsTask, StandsAsBefore, IsTrimmed};
 
-use crate::changes::{Change, make_changes};
+use crate::changes::{VariableChange, make_changes};
 use crate::keeping::{push_writes, set_definers, widen};
 use crate::moves::{inner_place, place_after};
 use crate::places::Place;
@@ -65,7 +65,7 @@ fn push_place(places: &mut List<Place>, inner: Option<Place>) -> Result<(), NoMe
 fn push_rest(
     task: &mut Task,
     given: Record,
-    changes: Vec<Change>,
+    changes: Vec<VariableChange>,
     inner: Option<Place>,
 ) -> Result<(), NoMemory>
     ensures ok { OnOk result (task.new ≡ record task.old { variables = with_changed changes.items task.old.variables; records = task.old.records ++ given ∷ []; places = task.old.places ++ option_to_list inner }) }
@@ -82,7 +82,7 @@ fn push_record(
     alloc: Global,
     task: &mut Task,
     given: Record,
-    changes: Vec<Change>,
+    changes: Vec<VariableChange>,
     inner: Option<Place>,
 ) -> Result<(), NoMemory>
     requires { All (λ o. o.number < length task.old.records) task.old.undo }

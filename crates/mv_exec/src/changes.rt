@@ -9,7 +9,7 @@ ghost use Rattle.mv_exec.specs.Env.{with_changed, room, of_slot};
 ghost use Rattle.mv_exec.specs.Moves.{after_empty_loop, after_turns};
 
 use crate::variables::Variables;
-use mv_alone::state::Held;
+use mv_alone::state::Content;
 use mv_catalog::resolved::RStmt;
 use mv_record::record::{Record, Slot};
 use mv_values::copied::Copied;
@@ -19,14 +19,14 @@ use std::alloc::Global;
 
 /// A variable, and its new value.
 #[derive(Drop)]
-pub struct Change {
+pub struct VariableChange {
     pub slot: u16,
-    pub held: Held,
+    pub held: Content,
 }
 
 /// Returns the number of variables that the changes need.
 #[tactic(auto, using(crate::proofs::Changing::room_next))]
-fn room_for(changes: &[Change]) -> usize
+fn room_for(changes: &[VariableChange]) -> usize
     ensures { result ≡ room changes.now }
 {
     let mut most = 0;
@@ -41,7 +41,7 @@ fn room_for(changes: &[Change]) -> usize
 
 /// Sets variables, in order.
 #[tactic(auto, using(crate::proofs::Changing::room_here))]
-fn set_all(variables: &mut Variables, changes: Vec<Change>)
+fn set_all(variables: &mut Variables, changes: Vec<VariableChange>)
     requires { room changes.items ≤ length variables.old.env.held }
     ensures { variables.new ≡ with_changed changes.items variables.old }
 {
@@ -52,7 +52,10 @@ fn set_all(variables: &mut Variables, changes: Vec<Change>)
 
 /// Makes changes, in order. On `NoMemory` the variables are unchanged.
 #[tactic(auto, using(crate::proofs::Changing::padded_changes, mv_alone::proofs::Putting::padded_long))]
-pub(crate) fn make_changes(variables: &mut Variables, changes: Vec<Change>) -> Result<(), NoMemory>
+pub(crate) fn make_changes(
+    variables: &mut Variables,
+    changes: Vec<VariableChange>,
+) -> Result<(), NoMemory>
     ensures ok { OnOk result (variables.new ≡ with_changed changes.items variables.old) }
     ensures err { OnErr result (variables.new ≡ variables.old) }
 {
@@ -62,13 +65,13 @@ pub(crate) fn make_changes(variables: &mut Variables, changes: Vec<Change>) -> R
 }
 
 /// Returns the changes that slots describe.
-pub(crate) fn changes_of(alloc: Global, slots: &[Slot]) -> Result<Vec<Change>, NoMemory>
+pub(crate) fn changes_of(alloc: Global, slots: &[Slot]) -> Result<Vec<VariableChange>, NoMemory>
     ensures { IfOk result (λ cs. cs.items ≡ map of_slot slots.now) }
 {
     let mut changes = Vec::with_capacity(alloc, slots.len())?;
     for slot in slots {
-        let held = Held::Scalar(slot.value.copy(alloc)?);
-        changes.push(Change {
+        let held = Content::Scalar(slot.value.copy(alloc)?);
+        changes.push(VariableChange {
             slot: slot.slot,
             held,
         })?;

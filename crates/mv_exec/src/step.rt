@@ -9,8 +9,8 @@ ghost use Rattle.mv_exec.specs.Env.{with_changes};
 ghost use Rattle.mv_exec.specs.Moves.{after_turns, after_empty_loop};
 ghost use Rattle.mv_exec.specs.Running.{stepped};
 
-use crate::changes::{Change, changes_of, row_of_empty};
-use mv_alone::state::Held;
+use crate::changes::{VariableChange, changes_of, row_of_empty};
+use mv_alone::state::Content;
 use mv_catalog::resolved::RStmt;
 use mv_record::record::Record;
 use mv_values::copied::Copied;
@@ -46,15 +46,15 @@ fn last_of(rows: &[Row]) -> Option<&Row>
 #[tactic(auto, using(crate::proofs::Walking::last_turn))]
 fn add_last_row(
     alloc: Global,
-    changes: &mut Vec<Change>,
+    changes: &mut Vec<VariableChange>,
     row: u16,
     rows: &[Row],
 ) -> Result<(), NoMemory>
     ensures { OnOk result ((e : Env) → with_changes changes.new.items e ≡ after_turns row rows.now (with_changes changes.old.items e)) }
 {
     if let Some(last) = last_of(rows) {
-        let held = Held::Turn(last.copy(alloc)?);
-        changes.push(Change { slot: row, held })?;
+        let held = Content::Turn(last.copy(alloc)?);
+        changes.push(VariableChange { slot: row, held })?;
     }
     Ok(())
 }
@@ -62,7 +62,7 @@ fn add_last_row(
 /// Adds the changes of a loop with an empty body, if the statement is one.
 fn add_turns(
     alloc: Global,
-    changes: &mut Vec<Change>,
+    changes: &mut Vec<VariableChange>,
     statement: &RStmt,
     rows: &[Row],
 ) -> Result<(), NoMemory>
@@ -80,7 +80,7 @@ pub(crate) fn changes_for(
     alloc: Global,
     statement: &RStmt,
     given: &Record,
-) -> Result<Vec<Change>, NoMemory>
+) -> Result<Vec<VariableChange>, NoMemory>
     ensures { IfOk result (λ cs. (e : Env) → with_changes cs.items e ≡ after_empty_loop (out-RStmt statement.now) given.now.rows (with_slots given.now.sets e)) }
 {
     let mut changes = changes_of(alloc, given.sets.as_slice())?;

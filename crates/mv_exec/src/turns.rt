@@ -8,7 +8,7 @@ ghost use Rattle.mv_exec.specs.declared.places.Place.{Place};
 use crate::places::{Holder, Place, innermost, rows_of};
 use crate::task::Task;
 use crate::variables::Variables;
-use mv_alone::state::Held;
+use mv_alone::state::Content;
 use mv_record::record::Record;
 use mv_values::copied::Copied;
 use mv_values::list::List;
@@ -31,7 +31,7 @@ fn set_row(
     let Some(values) = rows_of(records, record).get(turn) else {
         return Ok(());
     };
-    variables.set(row, Held::Turn(values.copy(alloc)?))
+    variables.set(row, Content::Turn(values.copy(alloc)?))
 }
 
 /// Replaces the innermost place.

@@ -1,12 +1,12 @@
 //! The variables of a running call. What they held at the beginning can be restored.
 
 ghost use Rattle.std.specs.Prelude.{◌≡◌, ◌<◌, ◌≤◌, List, Some, None, length, slice_get, slice_set, take, IfOk, OnOk, OnErr};
-ghost use Rattle.mv_alone.specs.declared.state.Held.{Held};
+ghost use Rattle.mv_alone.specs.declared.state.Content.{Content};
 ghost use Rattle.mv_alone.specs.Env.{padded, with_held};
 ghost use Rattle.mv_exec.specs.Env.{at_beginning, restored, is_unset, set_back, AreNone};
 
 use mv_alone::env::pad;
-use mv_alone::state::{Env, Held};
+use mv_alone::state::{Content, Env};
 use mv_values::list::List;
 use mv_values::memory::NoMemory;
 use std::alloc::Global;
@@ -17,7 +17,7 @@ use std::marker::Model;
 pub struct Variables {
     env: Env,
     /// For each initial variable what it held before it was first set. `None` if it wasn't set.
-    kept: Vec<Option<Held>>,
+    kept: Vec<Option<Content>>,
 }
 
 impl Model for Variables {
@@ -33,7 +33,7 @@ impl Model for Variables {
 
 /// Returns a list that keeps nothing of this many variables.
 #[tactic(auto, using(crate::proofs::Restoring::one_none))]
-fn nothing_kept(alloc: Global, len: usize) -> Result<Vec<Option<Held>>, NoMemory>
+fn nothing_kept(alloc: Global, len: usize) -> Result<Vec<Option<Content>>, NoMemory>
     ensures { IfOk result (λ kept. (length kept.items ≡ len) × AreNone len kept.items) }
 {
     let mut kept = Vec::with_capacity(alloc, len)?;
@@ -44,7 +44,7 @@ fn nothing_kept(alloc: Global, len: usize) -> Result<Vec<Option<Held>>, NoMemory
 }
 
 /// Whether a variable was there at the beginning, and nothing is kept of it.
-fn is_unset(kept: &[Option<Held>], variable: usize) -> bool
+fn is_unset(kept: &[Option<Content>], variable: usize) -> bool
     ensures { result ≡ is_unset (slice_get kept.now variable) }
 {
     match kept.get(variable) {
@@ -56,8 +56,8 @@ fn is_unset(kept: &[Option<Held>], variable: usize) -> bool
 /// Keeps what a variable held before it was set, unless it was set before. A variable that wasn't there at the
 /// beginning is ignored.
 #[tactic(auto, using(crate::proofs::Restoring::restored_first, crate::proofs::Restoring::restored_again, crate::proofs::Restoring::set_len))]
-fn keep(kept: &mut Vec<Option<Held>>, variable: usize, was: Held)
-    ensures initial { (hs : List Held) (now : Held) → slice_get hs variable ≡ Some was → restored kept.new.items (slice_set hs variable now) ≡ restored kept.old.items hs }
+fn keep(kept: &mut Vec<Option<Content>>, variable: usize, was: Content)
+    ensures initial { (hs : List Content) (now : Content) → slice_get hs variable ≡ Some was → restored kept.new.items (slice_set hs variable now) ≡ restored kept.old.items hs }
     ensures len { length kept.new.items ≡ length kept.old.items }
 {
     if is_unset(kept.as_slice(), variable) {
@@ -66,7 +66,7 @@ fn keep(kept: &mut Vec<Option<Held>>, variable: usize, was: Held)
 }
 
 /// Returns what is kept of a variable, which is then kept no longer.
-fn take(kept: &mut Vec<Option<Held>>, variable: usize) -> Option<Held>
+fn take(kept: &mut Vec<Option<Content>>, variable: usize) -> Option<Content>
     requires { variable < length kept.old.items }
     ensures items { kept.new.items ≡ slice_set kept.old.items variable None }
     ensures back { slice_get kept.old.items variable ≡ Some result }
@@ -75,7 +75,7 @@ fn take(kept: &mut Vec<Option<Held>>, variable: usize) -> Option<Held>
 }
 
 /// Sets a variable to what was kept of it. If nothing was, the variable is unchanged.
-fn set_back(held: &mut List<Held>, variable: usize, kept: Option<Held>)
+fn set_back(held: &mut List<Content>, variable: usize, kept: Option<Content>)
     requires { variable < length held.old }
     ensures { held.new ≡ set_back held.old variable kept }
 {
@@ -86,7 +86,7 @@ fn set_back(held: &mut List<Held>, variable: usize, kept: Option<Held>)
 
 /// Sets all variables to what was kept of them, which is then kept no longer.
 #[tactic(auto, using(crate::proofs::Restoring::restored_front))]
-fn set_all_back(held: &mut List<Held>, kept: &mut Vec<Option<Held>>)
+fn set_all_back(held: &mut List<Content>, kept: &mut Vec<Option<Content>>)
     requires { length kept.old.items ≤ length held.old }
     ensures kept { AreNone (length kept.old.items) kept.new.items }
     ensures len { length kept.new.items ≡ length kept.old.items }
@@ -127,7 +127,7 @@ impl Variables {
 
     /// Sets what a variable holds. It allocates no memory.
     #[tactic(auto, using(crate::proofs::Restoring::set_len))]
-    pub(crate) fn put(&mut self, variable: usize, what: Held)
+    pub(crate) fn put(&mut self, variable: usize, what: Content)
         requires { variable < length self.old.env.held }
         ensures { self.new ≡ (let was = self.old in let e = was.env in record was { env = record e { held = slice_set e.held variable what } }) }
     {
@@ -138,7 +138,7 @@ impl Variables {
     /// Sets what a variable holds. It allocates memory only if there is no such variable yet. On `NoMemory` the
     /// variables are unchanged.
     #[tactic(auto, using(mv_alone::proofs::Putting::put_padded, mv_alone::proofs::Putting::padded_long))]
-    pub(crate) fn set(&mut self, variable: u16, what: Held) -> Result<(), NoMemory>
+    pub(crate) fn set(&mut self, variable: u16, what: Content) -> Result<(), NoMemory>
         ensures ok { OnOk result (self.new ≡ (let was = self.old in record was { env = with_held was.env variable what })) }
         ensures err { OnErr result (self.new ≡ self.old) }
     {

@@ -16,8 +16,8 @@ use Rattle.mv_ast.specs.declared.tree.ProcDef.{ProcDef}
 use Rattle.mv_names.specs.declared.scope.ValueType.{ValueType}
 use Rattle.mv_names.specs.declared.scope.ValueType.TheVariants.{Int, Text, Unknown}
 use Rattle.mv_names.specs.declared.scope.Field.{Field}
-use Rattle.mv_names.specs.declared.scope.Meaning.{Meaning}
-use Rattle.mv_names.specs.declared.scope.Meaning.TheVariants.{Fixed, Variable, Rows, Turn}
+use Rattle.mv_names.specs.declared.scope.Binding.{Binding}
+use Rattle.mv_names.specs.declared.scope.Binding.TheVariants.{Fixed, Variable, Rows, Turn}
 use Rattle.mv_names.specs.declared.scope.Entry.{Entry}
 use Rattle.mv_names.specs.Named as named
 use Rattle.mv_names.specs.Named.{first_named}
@@ -51,21 +51,21 @@ type_among (Some columns) n = column_type columns n
 
 -- `:found`
 abbrev pub found : Entry
-found = record { name = codes "found"; meaning = Fixed Int }
+found = record { name = codes "found"; binding = Fixed Int }
 
 abbrev pub declared_field : ColDef → Field
 declared_field c = record { name = c.name.text; kind = type_in c.kind }
 
-abbrev pub meaning_of : ParamKind → Meaning
-meaning_of (param.One kind) = Fixed (type_in kind)
-meaning_of (param.Many columns) = Rows (map declared_field columns)
+abbrev pub binding_of : ParamKind → Binding
+binding_of (param.One kind) = Fixed (type_in kind)
+binding_of (param.Many columns) = Rows (map declared_field columns)
 
 abbrev pub parameter : Param → Entry
-parameter p = record { name = p.name.text; meaning = meaning_of p.kind }
+parameter p = record { name = p.name.text; binding = binding_of p.kind }
 
 -- a variable has the type of its initial literal
 abbrev pub variable : VarDef → Entry
-variable v = record { name = v.name.text; meaning = Variable (type_of_value v.initial.value) }
+variable v = record { name = v.name.text; binding = Variable (type_of_value v.initial.value) }
 
 -- the types of columns
 abbrev pub types_of : Option (List ColDef) → List Name → List ValueType
@@ -77,7 +77,7 @@ scope_of p = found ∷ map parameter p.params ++ map variable p.vars
 
 -- the row of a loop, with these fields
 abbrev pub turn_with : Name → List Field → Entry
-turn_with row fields = record { name = row.text; meaning = Turn fields }
+turn_with row fields = record { name = row.text; binding = Turn fields }
 
 -- a selected column as a field of the loop's row
 abbrev pub selected_field : Option (List ColDef) → Name → Field
@@ -88,13 +88,13 @@ abbrev pub select_turn : Name → Option (List ColDef) → List Name → Entry
 select_turn row columns names = turn_with row (map (selected_field columns) names)
 
 -- the columns of a ROWS parameter; empty for anything else
-abbrev pub rows_in : Meaning → List Field
+abbrev pub rows_in : Binding → List Field
 rows_in (Rows fields) = fields
 rows_in m = []
 
 abbrev pub fields_of : Option Entry → List Field
 fields_of None = []
-fields_of (Some e) = rows_in e.meaning
+fields_of (Some e) = rows_in e.binding
 
 -- the entry of a name
 abbrev pub entry_of : List Entry → named.Text → Option Entry

@@ -16,8 +16,8 @@ use Rattle.mv_ast.specs.declared.tree.Stmt.TheFolds.{fold-Stmt}
 use Rattle.mv_names.specs.declared.fault.Fault.{Fault}
 use Rattle.mv_names.specs.declared.scope.ValueType.{ValueType}
 use Rattle.mv_names.specs.declared.scope.ValueType.TheVariants.{Int, Unknown}
-use Rattle.mv_names.specs.declared.scope.Meaning.{Meaning}
-use Rattle.mv_names.specs.declared.scope.Meaning.TheVariants.{Variable, Rows}
+use Rattle.mv_names.specs.declared.scope.Binding.{Binding}
+use Rattle.mv_names.specs.declared.scope.Binding.TheVariants.{Variable, Rows}
 use Rattle.mv_names.specs.declared.scope.Entry.{Entry}
 use Rattle.mv_names.specs.First.{unknown, double, wrong, key_set, when}
 use Rattle.mv_names.specs.Named as named
@@ -42,21 +42,21 @@ missing_table token (Some t) = []
 
 -- Targets: declared variables
 
-abbrev pub set_type : Meaning → ValueType
+abbrev pub set_type : Binding → ValueType
 set_type (Variable t) = t
 set_type m = Unknown
 
 abbrev pub target_type : Option Entry → ValueType
 target_type None = Unknown
-target_type (Some e) = set_type e.meaning
+target_type (Some e) = set_type e.binding
 
-abbrev pub set_faults : ℕ → Meaning → List Fault
+abbrev pub set_faults : ℕ → Binding → List Fault
 set_faults token (Variable t) = []
 set_faults token m = wrong token ∷ []
 
 abbrev pub target_faults : ℕ → Option Entry → List Fault
 target_faults token None = unknown token ∷ []
-target_faults token (Some e) = set_faults token e.meaning
+target_faults token (Some e) = set_faults token e.binding
 
 -- a target that receives a value of this type
 abbrev pub target : List Entry → ValueType → Name → List Fault
@@ -112,13 +112,13 @@ agg_faults columns (Max n) = column_faults columns n
 abbrev pub turn_name : List Entry → Name → List Fault
 turn_name scope n = when (is_named (λ (e : Entry). e.name) scope n.text) (double n.token)
 
-abbrev pub not_rows : ℕ → Meaning → List Fault
+abbrev pub not_rows : ℕ → Binding → List Fault
 not_rows token (Rows fields) = []
 not_rows token m = wrong token ∷ []
 
 abbrev pub rows_faults : ℕ → Option Entry → List Fault
 rows_faults token None = unknown token ∷ []
-rows_faults token (Some e) = not_rows token e.meaning
+rows_faults token (Some e) = not_rows token e.binding
 
 -- a value for each column; a value without a column may have any type
 abbrev pub values_faults : List Entry → List ColDef → List Expr → List Fault

@@ -13,8 +13,8 @@ use Rattle.mv_names.specs.declared.fault.Fault.{Fault}
 use Rattle.mv_names.specs.declared.scope.ValueType.{ValueType}
 use Rattle.mv_names.specs.declared.scope.ValueType.TheVariants.{Int, Text, Unknown}
 use Rattle.mv_names.specs.declared.scope.Field.{Field}
-use Rattle.mv_names.specs.declared.scope.Meaning.{Meaning}
-use Rattle.mv_names.specs.declared.scope.Meaning.TheVariants.{Fixed, Variable, Rows, Turn}
+use Rattle.mv_names.specs.declared.scope.Binding.{Binding}
+use Rattle.mv_names.specs.declared.scope.Binding.TheVariants.{Fixed, Variable, Rows, Turn}
 use Rattle.mv_names.specs.declared.scope.Entry.{Entry}
 use Rattle.mv_names.specs.First.{unknown, wrong, when}
 use Rattle.mv_names.specs.Named.{first_named}
@@ -41,13 +41,13 @@ in_place place part = part.faults ++ misfit place part.token part.type
 
 -- a name read as a value is a parameter, a variable or `:found`. An undeclared name is a fault at the name. A ROWS
 -- parameter or a loop is a fault at the first token of the expression, which may be a `(`.
-abbrev pub type_of_meaning : Meaning → ValueType
-type_of_meaning (Fixed t) = t
-type_of_meaning (Variable t) = t
-type_of_meaning (Rows fields) = Unknown
-type_of_meaning (Turn fields) = Unknown
+abbrev pub type_of_binding : Binding → ValueType
+type_of_binding (Fixed t) = t
+type_of_binding (Variable t) = t
+type_of_binding (Rows fields) = Unknown
+type_of_binding (Turn fields) = Unknown
 
-abbrev pub reading_faults : ℕ → Meaning → List Fault
+abbrev pub reading_faults : ℕ → Binding → List Fault
 reading_faults token (Fixed t) = []
 reading_faults token (Variable t) = []
 reading_faults token (Rows fields) = wrong token ∷ []
@@ -55,11 +55,11 @@ reading_faults token (Turn fields) = wrong token ∷ []
 
 abbrev pub read_type : Option Entry → ValueType
 read_type None = Unknown
-read_type (Some e) = type_of_meaning e.meaning
+read_type (Some e) = type_of_binding e.binding
 
 abbrev pub read_faults : Name → ℕ → Option Entry → List Fault
 read_faults n token None = unknown n.token ∷ []
-read_faults n token (Some e) = reading_faults token e.meaning
+read_faults n token (Some e) = reading_faults token e.binding
 
 abbrev pub judged_variable : List Entry → Name → ℕ → Judged
 judged_variable scope n token = record {
@@ -80,21 +80,21 @@ missing_field token (Some f) = []
 abbrev pub field_named : List Field → Name → Option Field
 field_named fields n = first_named (λ (f : Field). f.name) fields n.text
 
-abbrev pub turn_type : Meaning → Name → ValueType
+abbrev pub turn_type : Binding → Name → ValueType
 turn_type (Turn fields) n = field_type (field_named fields n)
 turn_type m n = Unknown
 
-abbrev pub turn_faults : ℕ → Meaning → Name → List Fault
+abbrev pub turn_faults : ℕ → Binding → Name → List Fault
 turn_faults token (Turn fields) n = missing_field n.token (field_named fields n)
 turn_faults token m n = wrong token ∷ []
 
 abbrev pub of_turn_type : Option Entry → Name → ValueType
 of_turn_type None n = Unknown
-of_turn_type (Some e) n = turn_type e.meaning n
+of_turn_type (Some e) n = turn_type e.binding n
 
 abbrev pub of_turn_faults : Name → ℕ → Option Entry → Name → List Fault
 of_turn_faults r token None n = unknown r.token ∷ []
-of_turn_faults r token (Some e) n = turn_faults token e.meaning n
+of_turn_faults r token (Some e) n = turn_faults token e.binding n
 
 abbrev pub judged_field : List Entry → Name → Name → ℕ → Judged
 judged_field scope r n token = record {

@@ -9,7 +9,7 @@ use crate::fault::{Fault, add_if};
 use crate::index::Index;
 use crate::named::find;
 use crate::nested::Scope;
-use crate::scope::{Entry, Field, Meaning, ValueType};
+use crate::scope::{Binding, Entry, Field, ValueType};
 use mv_ast::tree::{ColDef, Expr, ExprKind, Name, OneOp, TwoOp};
 use mv_values::list::List;
 use mv_values::memory::NoMemory;
@@ -72,14 +72,14 @@ fn check_variable(
             faults.push(Fault::unknown(name.token))?;
             Ok(ValueType::Unknown)
         }
-        Some(entry) => match &entry.meaning {
-            Meaning::Fixed(kind) => Ok(*kind),
-            Meaning::Variable(kind) => Ok(*kind),
-            Meaning::Rows(_) => {
+        Some(entry) => match &entry.binding {
+            Binding::Fixed(kind) => Ok(*kind),
+            Binding::Variable(kind) => Ok(*kind),
+            Binding::Rows(_) => {
                 faults.push(Fault::wrong(token))?;
                 Ok(ValueType::Unknown)
             }
-            Meaning::Turn(_) => {
+            Binding::Turn(_) => {
                 faults.push(Fault::wrong(token))?;
                 Ok(ValueType::Unknown)
             }
@@ -121,8 +121,8 @@ fn check_field(
             faults.push(Fault::unknown(row.token))?;
             Ok(ValueType::Unknown)
         }
-        Some(entry) => match &entry.meaning {
-            Meaning::Turn(fields) => check_in_turn(fields.as_slice(), name, faults),
+        Some(entry) => match &entry.binding {
+            Binding::Turn(fields) => check_in_turn(fields.as_slice(), name, faults),
             _ => {
                 faults.push(Fault::wrong(token))?;
                 Ok(ValueType::Unknown)

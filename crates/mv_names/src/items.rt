@@ -2,7 +2,7 @@
 
 ghost use Rattle.std.specs.Prelude.{◌≡◌, ◌∷◌, ◌++◌, [], map, codes, length, OnOk, IfOk};
 ghost use Rattle.std.specs.List.{flat_map};
-ghost use Rattle.mv_names.specs.Scope.{parameter, variable, meaning_of, declared_field, scope_of};
+ghost use Rattle.mv_names.specs.Scope.{parameter, variable, binding_of, declared_field, scope_of};
 ghost use Rattle.mv_names.specs.Faults as meant;
 ghost use Rattle.mv_names.specs.Faults.{fits, begins, arg_token, arguments_token};
 
@@ -12,7 +12,7 @@ use crate::fault::{Fault, add_if};
 use crate::index::Index;
 use crate::labels::{Taken, check_doubles};
 use crate::nested::Scope;
-use crate::scope::{Entry, FOUND, Field, Meaning, ValueType};
+use crate::scope::{Binding, Entry, FOUND, Field, ValueType};
 use crate::statements::check_table;
 use crate::tables::Table;
 use mv_ast::tree::{
@@ -231,13 +231,13 @@ fn fields_of_columns(alloc: Global, columns: &[ColDef]) -> Result<List<Field>, N
     Ok(fields)
 }
 
-fn meaning_of_param(alloc: Global, kind: &ParamKind) -> Result<Meaning, NoMemory>
-    ensures { IfOk result (λ m. m ≡ meaning_of kind.now) }
+fn binding_of_param(alloc: Global, kind: &ParamKind) -> Result<Binding, NoMemory>
+    ensures { IfOk result (λ m. m ≡ binding_of kind.now) }
 {
     match kind {
-        ParamKind::One(kind) => Ok(Meaning::Fixed(column_kind(*kind))),
+        ParamKind::One(kind) => Ok(Binding::Fixed(column_kind(*kind))),
         ParamKind::Many(columns) => {
-            Ok(Meaning::Rows(fields_of_columns(alloc, columns.as_slice())?))
+            Ok(Binding::Rows(fields_of_columns(alloc, columns.as_slice())?))
         }
     }
 }
@@ -253,7 +253,7 @@ fn add_params<'a>(
         let name = &param.name.text;
         let entry = Entry {
             name: name.copy(alloc)?,
-            meaning: meaning_of_param(alloc, &param.kind)?,
+            binding: binding_of_param(alloc, &param.kind)?,
         };
         scope.push(name.as_slice(), entry)?;
     }
@@ -271,7 +271,7 @@ fn add_vars<'a>(
         let name = &var.name.text;
         let entry = Entry {
             name: name.copy(alloc)?,
-            meaning: Meaning::Variable(value_kind(&var.initial.value)),
+            binding: Binding::Variable(value_kind(&var.initial.value)),
         };
         scope.push(name.as_slice(), entry)?;
     }
@@ -288,7 +288,7 @@ fn names_of_procedure<'a>(
     let mut scope = Scope::new(alloc);
     let found = Entry {
         name: found_name(alloc)?,
-        meaning: Meaning::Fixed(ValueType::Int),
+        binding: Binding::Fixed(ValueType::Int),
     };
     scope.push(FOUND, found)?;
     add_params(alloc, &mut scope, procedure.params.as_slice())?;

@@ -28,7 +28,7 @@ pub struct Field {
 
 /// What a name of a procedure means.
 #[derive(Drop)]
-pub enum Meaning {
+pub enum Binding {
     /// A value that can be read and not set: a parameter, or `:found`.
     Fixed(ValueType),
     /// A declared variable.
@@ -43,7 +43,7 @@ pub enum Meaning {
 #[derive(Drop)]
 pub struct Entry {
     pub name: Txt,
-    pub meaning: Meaning,
+    pub binding: Binding,
 }
 
 impl Copied for Field {

@@ -14,7 +14,7 @@ use crate::index::Index;
 use crate::labels::check_doubles;
 use crate::named::has_name;
 use crate::nested::Scope;
-use crate::scope::{Entry, Field, Meaning, ValueType};
+use crate::scope::{Binding, Entry, Field, ValueType};
 use crate::tables::Table;
 use mv_ast::tree::{Agg, ColDef, Cond, Expr, Name, Selection, SetItem, Sort};
 use mv_values::copied::Copied;
@@ -62,8 +62,8 @@ fn check_target(
             faults.push(Fault::unknown(name.token))?;
             Ok(ValueType::Unknown)
         }
-        Some(entry) => match &entry.meaning {
-            Meaning::Variable(kind) => Ok(*kind),
+        Some(entry) => match &entry.binding {
+            Binding::Variable(kind) => Ok(*kind),
             _ => {
                 faults.push(Fault::wrong(name.token))?;
                 Ok(ValueType::Unknown)
@@ -317,8 +317,8 @@ pub(crate) fn check_rows(
 {
     match found {
         None => faults.push(Fault::unknown(token)),
-        Some(entry) => match &entry.meaning {
-            Meaning::Rows(_) => Ok(()),
+        Some(entry) => match &entry.binding {
+            Binding::Rows(_) => Ok(()),
             _ => faults.push(Fault::wrong(token)),
         },
     }
@@ -349,7 +349,7 @@ pub(crate) fn turn_with(alloc: Global, turn: &Name, fields: List<Field>) -> Resu
 {
     Ok(Entry {
         name: turn.text.copy(alloc)?,
-        meaning: Meaning::Turn(fields),
+        binding: Binding::Turn(fields),
     })
 }
 
@@ -359,8 +359,8 @@ pub(crate) fn fields_of(alloc: Global, found: Option<&Entry>) -> Result<List<Fie
 {
     match found {
         None => Ok(List::new(alloc)),
-        Some(entry) => match &entry.meaning {
-            Meaning::Rows(fields) => fields.copy(alloc),
+        Some(entry) => match &entry.binding {
+            Binding::Rows(fields) => fields.copy(alloc),
             _ => Ok(List::new(alloc)),
         },
     }

@@ -37,7 +37,7 @@ use Rattle.mv_record.proofs.Rising.{Above, Rises, rises_from, lower}
 use Rattle.mv_recorded.specs.Asking.{on, pred_of, same_key, columns_in}
 use Rattle.mv_recorded.specs.Doing.{write, set_patch}
 use Rattle.mv_record.specs.declared.effect.Effect.{Effect}
-use Rattle.mv_recorded.specs.Effects.{IsEffect, asks, asked_then, changes, writing, new_of, inserting, only_end, slots_behind}
+use Rattle.mv_recorded.specs.Effects.{IsEffect, asks, effect_after, changes, effect_of_writes, new_of, effect_of_insert, only_end, slots_behind}
 use Rattle.mv_recorded.proofs.Chosen.{asked_of, then_err, same_ok, rows_asked}
 
 -- an effect that asks, sets variables and changes rows
@@ -49,7 +49,7 @@ altered preds sets writes = record { preds = preds; sets = sets; rows = []; writ
 -- what a DELETE does that found these rows
 pub delete_goes : (tables : List TableInfo) (t : ℕ) (conds : List RCond) (env : Env) (db : List (List Keyed)) (pred : Pred) (rows : List Keyed)
     → asks tables t conds [] env ≡ Ok pred → rows ≡ found_by pred db
-    → IsEffect tables (Delete t conds) env db (writing pred (is_some_row rows) (map (λ item. write t item.key patch.Delete) rows) env)
+    → IsEffect tables (Delete t conds) env db (effect_of_writes pred (is_some_row rows) (map (λ item. write t item.key patch.Delete) rows) env)
 delete_goes tables t conds env db pred rows h found = λ lines.
     let a = asked_of tables t conds [] env pred h in
     let rows_are = rows_asked t a.tests [] pred db rows a.is found in
@@ -136,10 +136,10 @@ update_goes tables t items conds env db pred rows ws h found k = λ lines.
 -- what an UPDATE does that found these rows
 pub update_done : (tables : List TableInfo) (t : ℕ) (items : List RSetItem) (conds : List RCond) (env : Env) (db : List (List Keyed)) (pred : Pred) (rows : List Keyed)
     → asks tables t conds (flat_map (λ i. columns_in i.right) items) env ≡ Ok pred → rows ≡ found_by pred db
-    → IsEffect tables (Update t items conds) env db (asked_then pred (changes t items (new_of tables t env items) rows) (λ ws. writing pred (is_some_row rows) ws env))
+    → IsEffect tables (Update t items conds) env db (effect_after pred (changes t items (new_of tables t env items) rows) (λ ws. effect_of_writes pred (is_some_row rows) ws env))
 update_done tables t items conds env db pred rows h found = by (changes t items (new_of tables t env items) rows) refl
   where
-    by : (r : Result (List Write) End) → changes t items (new_of tables t env items) rows ≡ r → IsEffect tables (Update t items conds) env db (asked_then pred r (λ ws. writing pred (is_some_row rows) ws env))
+    by : (r : Result (List Write) End) → changes t items (new_of tables t env items) rows ≡ r → IsEffect tables (Update t items conds) env db (effect_after pred r (λ ws. effect_of_writes pred (is_some_row rows) ws env))
     by (Ok ws) k = update_goes tables t items conds env db pred rows ws h found k
     by (Err e) k = update_unset tables t items conds env db pred rows e h found k
 
@@ -266,9 +266,9 @@ insert_goes tables t es env db row pred rows item stand made is found none same 
 -- what an INSERT does that found these rows under its key
 pub insert_done : (tables : List TableInfo) (t : ℕ) (es : List RExpr) (env : Env) (db : List (List Keyed)) (row : List Value) (pred : Pred) (rows : List Keyed)
     → KeysStand tables db → IsRising (rows_at db t) → new_row (columns_at tables t) es env ≡ Ok row → pred ≡ pred_of t (same_key (key_columns tables t) row) []
-    → rows ≡ found_by pred db → IsEffect tables (Insert t es) env db (inserting tables t row pred (is_some_row rows) env)
+    → rows ≡ found_by pred db → IsEffect tables (Insert t es) env db (effect_of_insert tables t row pred (is_some_row rows) env)
 insert_done tables t es env db row pred rows stand rising made is found = by (is_some_row rows) refl
   where
-    by : (b : Bool) → is_some_row rows ≡ b → IsEffect tables (Insert t es) env db (inserting tables t row pred b env)
+    by : (b : Bool) → is_some_row rows ≡ b → IsEffect tables (Insert t es) env db (effect_of_insert tables t row pred b env)
     by true some = insert_twice tables t es env db row pred rows stand rising made is found some
     by false none = insert_goes tables t es env db row pred rows (keyed (key_columns tables t) row) stand made is found none refl

@@ -13,8 +13,8 @@ use Rattle.mv_catalog.specs.declared.resolved.ParamInfo.TheVariants as param
 use Rattle.mv_catalog.specs.declared.resolved.ProcInfo.{ProcInfo}
 use Rattle.mv_catalog.specs.Types.{int, Var, fixed, declared, kind_of_value, kind_of_column}
 use Rattle.mv_catalog.specs.Text.{IsRow, param_var, own_vars, vars_of, Suits}
-use Rattle.mv_alone.specs.declared.state.Held.{Held}
-use Rattle.mv_alone.specs.declared.state.Held.TheVariants.{Scalar}
+use Rattle.mv_alone.specs.declared.state.Content.{Content}
+use Rattle.mv_alone.specs.declared.state.Content.TheVariants.{Scalar}
 use Rattle.mv_alone.specs.Env.{unset}
 use Rattle.mv_alone.specs.TableAfter.{argument_held, entered}
 use Rattle.mv_recorded.specs.Typed.{OfKinds, Holds, IsEnvOf}
@@ -46,7 +46,7 @@ defaults_hold : (vs : List Value) → AllZip Holds (map (λ v. declared (kind_of
 defaults_hold [] = tt
 defaults_hold (v ∷ vs) = (refl, defaults_hold vs)
 
-holds_at : (vs : List Var) (hs : List Held) → AllZip Holds vs hs → (x : ℕ) (v : Var) → slice_get vs x ≡ Some v → Holds v (slice_index_or hs x unset)
+holds_at : (vs : List Var) (hs : List Content) → AllZip Holds vs hs → (x : ℕ) (v : Var) → slice_get vs x ≡ Some v → Holds v (slice_index_or hs x unset)
 holds_at [] hs h x v at = cc
 holds_at (w ∷ ws) [] h x v at = absurd h
 holds_at (w ∷ ws) (g ∷ gs) h zero v at = let same : w ≡ v = cc in subst (λ u. Holds u g) same h.0

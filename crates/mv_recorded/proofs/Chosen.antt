@@ -28,7 +28,7 @@ use Rattle.mv_recorded.specs.Asking.{pred_of, with_sorts, column_in}
 use Rattle.mv_recorded.specs.Doing.{when, gives_always, effect_of}
 use Rattle.mv_recorded.specs.Reading.{each_once}
 use Rattle.mv_record.specs.declared.effect.Effect.{Effect}
-use Rattle.mv_recorded.specs.Effects.{IsEffect, asks, asked_by, asked_then, row_number, taking, totalling, going, only_end, slots_behind}
+use Rattle.mv_recorded.specs.Effects.{IsEffect, asks, pred_with, effect_after, row_number, effect_of_select, effect_of_aggregate, effect_of_loop, only_end, slots_behind}
 use Rattle.mv_recorded.proofs.Slots.{same_found}
 use Rattle.mv_recorded.proofs.Effects.{found_is, gives}
 use Rattle.mv_recorded.proofs.Matching.{matching_all}
@@ -85,7 +85,7 @@ total_named env x (Some v) always some h =
 -- SELECT
 
 -- what was asked, with the value
-pub both_asked : {A B : Type 0} (r : Result A End) (o : Result B End) (x : A × B) → ◌≡◌ {A = Result (A × B) Effect} (Ok x) (asked_by r o) → (r ≡ Ok x.0) × (o ≡ Ok x.1)
+pub both_asked : {A B : Type 0} (r : Result A End) (o : Result B End) (x : A × B) → ◌≡◌ {A = Result (A × B) Effect} (Ok x) (pred_with r o) → (r ≡ Ok x.0) × (o ≡ Ok x.1)
 both_asked (Ok a) (Ok b) x h = (ap (λ p. Ok p.0) (sym (same_pair h)), ap (λ p. Ok p.1) (sym (same_pair h)))
   where
     same_pair : {C D : Type 0} {p q : C × D} → ◌≡◌ {A = Result (C × D) Effect} (Ok p) (Ok q) → p ≡ q
@@ -103,7 +103,7 @@ made preds sets rows = record { preds = preds; sets = sets; rows = rows; writes 
 -- what a SELECT does that found these rows
 pub select_goes : (tables : List TableInfo) (cs xs : List ℕ) (t : ℕ) (conds : List RCond) (sorts : List RSort) (offset : Option RExpr) (env : Env) (db : List (List Keyed)) (pred : Pred) (z : ℤ) (rows : List Keyed)
     → asks tables t conds (with_sorts cs sorts) env ≡ Ok pred → row_number offset env ≡ Ok z → rows ≡ found_by pred db
-    → IsEffect tables (Select cs xs t conds sorts offset) env db (taking pred cs xs (item_at (ordered sorts (matching [] rows)) z) env)
+    → IsEffect tables (Select cs xs t conds sorts offset) env db (effect_of_select pred cs xs (item_at (ordered sorts (matching [] rows)) z) env)
 select_goes tables cs xs t conds sorts offset env db pred z rows h k found = λ lines.
     let a = asked_of tables t conds (with_sorts cs sorts) env pred h in
     let v = goes_to (offset_of offset env) (λ v. Ok (number v)) z k in
@@ -113,17 +113,17 @@ select_goes tables cs xs t conds sorts offset env db pred z rows h k found = λ 
     let item : Option Keyed = item_at (ordered sorts (matching a.tests (rows_at db t))) (number v.0) in
     let same : chosen ≡ item = ap (λ l. item_at (ordered sorts l) z) (matching_all rows ∙ rows_are) ∙ ap (item_at (ordered sorts (matching a.tests (rows_at db t)))) (sym at) in
     rw (a.are, v.1)
-    (ap (λ p. taking p cs xs chosen env) a.is
-    ∙ (ap (λ o. taking (pred_of t a.tests (with_sorts cs sorts)) cs xs o env) same
+    (ap (λ p. effect_of_select p cs xs chosen env) a.is
+    ∙ (ap (λ o. effect_of_select (pred_of t a.tests (with_sorts cs sorts)) cs xs o env) same
     ∙ ap (λ ns. made (pred_of t a.tests (with_sorts cs sorts) ∷ []) (slots_behind (with_selected cs xs item env) ns) []) (taken_named env cs xs item)))
 
 -- what a SELECT does that is stopped before it looks at rows
 pub select_unasked : (tables : List TableInfo) (cs xs : List ℕ) (t : ℕ) (conds : List RCond) (sorts : List RSort) (offset : Option RExpr) (env : Env) (db : List (List Keyed)) (e : Effect)
-    → Err e ≡ asked_by (asks tables t conds (with_sorts cs sorts) env) (row_number offset env) → IsEffect tables (Select cs xs t conds sorts offset) env db e
+    → Err e ≡ pred_with (asks tables t conds (with_sorts cs sorts) env) (row_number offset env) → IsEffect tables (Select cs xs t conds sorts offset) env db e
 select_unasked tables cs xs t conds sorts offset env db e h = by (tests_of (key_columns tables t) conds env) refl (offset_of offset env) refl h
   where
     by : (r : Result (List Test) End) → tests_of (key_columns tables t) conds env ≡ r → (o : Result Value End) → offset_of offset env ≡ o
-        → Err e ≡ asked_by (then_do r (λ tests. Ok (pred_of t tests (with_sorts cs sorts)))) (then_do o (λ v. Ok (number v)))
+        → Err e ≡ pred_with (then_do r (λ tests. Ok (pred_of t tests (with_sorts cs sorts)))) (then_do o (λ v. Ok (number v)))
         → (lines : List (List ℕ)) → e ≡ effect_of {X = RStmt} tables (Select cs xs t conds sorts offset) (record { env = env; tables = db; lines = lines })
     by (Ok cs') are (Ok v) is k lines = cc
     by (Ok cs') are (Err d) is k lines = rw (are, is) (same_err k)
@@ -159,11 +159,11 @@ total_goes tables agg x t conds env db pred rows o h found k = λ lines.
 -- what an aggregate does that found these rows
 pub total_done : (tables : List TableInfo) (agg : RAgg) (x t : ℕ) (conds : List RCond) (env : Env) (db : List (List Keyed)) (pred : Pred) (rows : List Keyed)
     → asks tables t conds (column_in agg) env ≡ Ok pred → rows ≡ found_by pred db
-    → IsEffect tables (Total agg x t conds) env db (asked_then pred (aggregate agg (matching [] rows)) (λ total. totalling pred x total (is_some_row (matching [] rows)) env))
+    → IsEffect tables (Total agg x t conds) env db (effect_after pred (aggregate agg (matching [] rows)) (λ total. effect_of_aggregate pred x total (is_some_row (matching [] rows)) env))
 total_done tables agg x t conds env db pred rows h found = by (aggregate agg (matching [] rows)) refl
   where
     by : (r : Result (Option Value) End) → aggregate agg (matching [] rows) ≡ r
-        → IsEffect tables (Total agg x t conds) env db (asked_then pred r (λ total. totalling pred x total (is_some_row (matching [] rows)) env))
+        → IsEffect tables (Total agg x t conds) env db (effect_after pred r (λ total. effect_of_aggregate pred x total (is_some_row (matching [] rows)) env))
     by (Ok o) k = total_goes tables agg x t conds env db pred rows o h found k
     by (Err e) k = total_unfit tables agg x t conds env db pred rows e h found k
 
@@ -172,10 +172,10 @@ total_done tables agg x t conds env db pred rows h found = by (aggregate agg (ma
 -- what a FOR does that found these rows
 pub for_goes : (tables : List TableInfo) (x : ℕ) (once : Bool) (cs : List ℕ) (t : ℕ) (conds : List RCond) (sorts : List RSort) (body : List RStmt) (env : Env) (db : List (List Keyed)) (pred : Pred) (rows : List Keyed)
     → asks tables t conds (with_sorts cs sorts) env ≡ Ok pred → rows ≡ found_by pred db
-    → IsEffect tables (ForSelect x once cs t conds sorts body) env db (going pred (fixed once cs sorts (matching [] rows)) env)
+    → IsEffect tables (ForSelect x once cs t conds sorts body) env db (effect_of_loop pred (fixed once cs sorts (matching [] rows)) env)
 for_goes tables x once cs t conds sorts body env db pred rows h found = λ lines.
     let a = asked_of tables t conds (with_sorts cs sorts) env pred h in
     let rows_are = matching_all rows ∙ rows_asked t a.tests (with_sorts cs sorts) pred db rows a.is found in
     rw a.are
-    (ap (λ p. going p (fixed once cs sorts (matching [] rows)) env) a.is
-    ∙ ap (λ l. going (pred_of t a.tests (with_sorts cs sorts)) (fixed once cs sorts l) env) rows_are)
+    (ap (λ p. effect_of_loop p (fixed once cs sorts (matching [] rows)) env) a.is
+    ∙ ap (λ l. effect_of_loop (pred_of t a.tests (with_sorts cs sorts)) (fixed once cs sorts l) env) rows_are)

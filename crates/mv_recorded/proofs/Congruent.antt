@@ -20,7 +20,7 @@ use Rattle.mv_catalog.specs.declared.resolved.RSetItem.{RSetItem}
 use Rattle.mv_catalog.specs.declared.resolved.RStmt.{RStmt}
 use Rattle.mv_catalog.specs.declared.resolved.RStmt.TheOpen.{RStmt-F, Assign, Select, Total, ForSelect, ForRows, Branch, Insert, Update, Delete, Print, Rollback}
 use Rattle.mv_alone.specs.declared.state.Env.{Env}
-use Rattle.mv_alone.specs.declared.state.Held.TheVariants.{Scalar}
+use Rattle.mv_alone.specs.declared.state.Content.TheVariants.{Scalar}
 use Rattle.mv_alone.specs.declared.state.State.{State}
 use Rattle.mv_alone.specs.Outcome.{then_do}
 use Rattle.mv_alone.specs.Env.{held_at, scalar_in, scalar_at, turns_in, truth, with_held, with_value, with_values, with_found, turns_at}
@@ -33,7 +33,7 @@ use Rattle.mv_recorded.specs.Effect.{HasColumns}
 use Rattle.mv_recorded.specs.Reading.{each_once, variables, rights}
 use Rattle.mv_record.specs.declared.effect.Effect.{Effect}
 use Rattle.mv_recorded.specs.Doing.{effect_of}
-use Rattle.mv_recorded.specs.Effects.{asks, asked_by, asked_then, row_number, taking, totalling, going, writing, inserting, slots_behind, changes, new_of}
+use Rattle.mv_recorded.specs.Effects.{asks, pred_with, effect_after, row_number, effect_of_select, effect_of_aggregate, effect_of_loop, effect_of_writes, effect_of_insert, slots_behind, changes, new_of}
 use Rattle.mv_recorded.proofs.Chosen.{asked_of, both_asked, select_goes, select_unasked, total_done, for_goes}
 use Rattle.mv_recorded.proofs.Altered.{delete_goes, update_done, insert_done}
 use Rattle.mv_recorded.proofs.Matching.{matching_all}
@@ -110,7 +110,7 @@ long_columns row (c ∷ cs) = ap suc (long_columns row cs)
 
 -- Effects
 
-taking_same : (p : Pred) (cs xs : List ℕ) (a b : Option Keyed) (e f : Env) → length xs ≤ length cs → e.found ≡ f.found → ItemAlike cs a b → taking p cs xs a e ≡ taking p cs xs b f
+taking_same : (p : Pred) (cs xs : List ℕ) (a b : Option Keyed) (e f : Env) → length xs ≤ length cs → e.found ≡ f.found → ItemAlike cs a b → effect_of_select p cs xs a e ≡ effect_of_select p cs xs b f
 taking_same p cs xs None None e f le same h = ap (λ ss. record { preds = p ∷ []; sets = ss; rows = []; writes = []; line = None; end = None }) (only_found e f false same)
 taking_same p cs xs (Some a) (Some b) e f le same h =
     let vs : List Value = columns_of a.row cs in
@@ -130,7 +130,7 @@ taking_same p cs xs (Some a) (Some b) e f le same h =
 taking_same p cs xs None (Some b) e f le same h = absurd h
 taking_same p cs xs (Some a) None e f le same h = absurd h
 
-totalling_same : (p : Pred) (x : ℕ) (o : Option Value) (b : Bool) (e f : Env) → e.found ≡ f.found → totalling p x o b e ≡ totalling p x o b f
+totalling_same : (p : Pred) (x : ℕ) (o : Option Value) (b : Bool) (e f : Env) → e.found ≡ f.found → effect_of_aggregate p x o b e ≡ effect_of_aggregate p x o b f
 totalling_same p x None b e f same = ap (λ ss. record { preds = p ∷ []; sets = ss; rows = []; writes = []; line = None; end = None }) (only_found e f b same)
 totalling_same p x (Some v) b e f same =
     let one : Env = with_value e x v in
@@ -140,17 +140,17 @@ totalling_same p x (Some v) b e f same =
     (found_alike one two b x same (get_same e.held x (Scalar v) ∙ sym (get_same f.held x (Scalar v))), (found_agrees one two b e.found refl (sym same), tt))
     ∙ ap (λ n. slots_behind (with_found two b) (x ∷ n ∷ [])) same)
 
-going_same : (p : Pred) (turns : List (List Value)) (e f : Env) → e.found ≡ f.found → going p turns e ≡ going p turns f
+going_same : (p : Pred) (turns : List (List Value)) (e f : Env) → e.found ≡ f.found → effect_of_loop p turns e ≡ effect_of_loop p turns f
 going_same p turns e f same = ap (λ ss. record { preds = p ∷ []; sets = ss; rows = turns; writes = []; line = None; end = None }) (only_found e f (is_turn turns) same)
 
-writing_same : (p : Pred) (b : Bool) (ws : List Write) (e f : Env) → e.found ≡ f.found → writing p b ws e ≡ writing p b ws f
+writing_same : (p : Pred) (b : Bool) (ws : List Write) (e f : Env) → e.found ≡ f.found → effect_of_writes p b ws e ≡ effect_of_writes p b ws f
 writing_same p b ws e f same = ap (λ ss. record { preds = p ∷ []; sets = ss; rows = []; writes = ws; line = None; end = None }) (only_found e f b same)
 
-then_same : {A : Type 0} (p : Pred) (r : Result A End) (go back : A → Effect) → ((x : A) → go x ≡ back x) → asked_then p r go ≡ asked_then p r back
+then_same : {A : Type 0} (p : Pred) (r : Result A End) (go back : A → Effect) → ((x : A) → go x ≡ back x) → effect_after p r go ≡ effect_after p r back
 then_same p (Ok x) go back h = h x
 then_same p (Err e) go back h = refl
 
-inserting_same : (tables : List TableInfo) (t : ℕ) (row : List Value) (p : Pred) (b : Bool) (e f : Env) → e.found ≡ f.found → inserting tables t row p b e ≡ inserting tables t row p b f
+inserting_same : (tables : List TableInfo) (t : ℕ) (row : List Value) (p : Pred) (b : Bool) (e f : Env) → e.found ≡ f.found → effect_of_insert tables t row p b e ≡ effect_of_insert tables t row p b f
 inserting_same tables t row p true e f same = refl
 inserting_same tables t row p false e f same = writing_same p true _ e f same
 
@@ -189,7 +189,7 @@ seen_of : (tables : List TableInfo) (s : RStmt-F RStmt) (st new : State) (p : Pr
     → SeenAlike p st.tables new.tables
 seen_of tables s st new p e is asked h = (subst (Each (λ q. SeenAlike q st.tables new.tables)) (sym (ap (λ (e : Effect). e.preds) is) ∙ asked) h).0
 
-pub then_preds : {A : Type 0} (p : Pred) (r : Result A End) (go : A → Effect) → ((x : A) → (go x).preds ≡ p ∷ []) → (asked_then p r go).preds ≡ p ∷ []
+pub then_preds : {A : Type 0} (p : Pred) (r : Result A End) (go : A → Effect) → ((x : A) → (go x).preds ≡ p ∷ []) → (effect_after p r go).preds ≡ p ∷ []
 then_preds p (Ok x) go h = h x
 then_preds p (Err e) go h = refl
 
@@ -203,12 +203,12 @@ select_same : (tables : List TableInfo) (cs xs : List ℕ) (t : ℕ) (conds : Li
     → ReadsAlike tables (Select cs xs t conds sorts offset) st new → SameEffect tables (Select cs xs t conds sorts offset) st new
 select_same tables cs xs t conds sorts offset st new le m =
     let hs = flat_parts st.env new.env (rights conds) _ m.reads in
-    by (asked_by (asks tables t conds (with_sorts cs sorts) st.env) (row_number offset st.env)) refl
-    (ap (λ r. asked_by r (row_number offset st.env)) (asks_same tables t conds (with_sorts cs sorts) st.env new.env hs.0)
-    ∙ ap (λ (o : Result Value End). asked_by (asks tables t conds (with_sorts cs sorts) new.env) (then_do o (λ v. Ok (number v)))) (offset_alike offset st.env new.env hs.1))
+    by (pred_with (asks tables t conds (with_sorts cs sorts) st.env) (row_number offset st.env)) refl
+    (ap (λ r. pred_with r (row_number offset st.env)) (asks_same tables t conds (with_sorts cs sorts) st.env new.env hs.0)
+    ∙ ap (λ (o : Result Value End). pred_with (asks tables t conds (with_sorts cs sorts) new.env) (then_do o (λ v. Ok (number v)))) (offset_alike offset st.env new.env hs.1))
   where
-    by : (q : Result (Pred × ℤ) Effect) → q ≡ asked_by (asks tables t conds (with_sorts cs sorts) st.env) (row_number offset st.env)
-        → asked_by (asks tables t conds (with_sorts cs sorts) st.env) (row_number offset st.env) ≡ asked_by (asks tables t conds (with_sorts cs sorts) new.env) (row_number offset new.env)
+    by : (q : Result (Pred × ℤ) Effect) → q ≡ pred_with (asks tables t conds (with_sorts cs sorts) st.env) (row_number offset st.env)
+        → pred_with (asks tables t conds (with_sorts cs sorts) st.env) (row_number offset st.env) ≡ pred_with (asks tables t conds (with_sorts cs sorts) new.env) (row_number offset new.env)
         → SameEffect tables (Select cs xs t conds sorts offset) st new
     by (Err e) is same = sym (select_unasked tables cs xs t conds sorts offset st.env st.tables e is st.lines) ∙ select_unasked tables cs xs t conds sorts offset new.env new.tables e (is ∙ same) new.lines
     by (Ok q) is same =
@@ -250,9 +250,9 @@ total_same tables agg x t conds st new m =
     let seen : SeenAlike p st.tables new.tables = seen_of tables (Total agg x t conds) st new p _ one (then_preds p (aggregate agg (matching [] rows)) _ (λ o. refl)) m.seen in
     let alike = seen_rows t tests (column_in agg) p st.tables new.tables is seen in
     sym one
-    ∙ (ap (λ r. asked_then p r (λ o. totalling p x o (is_some_row (matching [] rows)) st.env)) (aggregate_same agg (matching [] rows) (matching [] rows') alike)
-    ∙ (ap (λ b. asked_then p (aggregate agg (matching [] rows')) (λ o. totalling p x o b st.env)) (some_same (column_in agg) (matching [] rows) (matching [] rows') alike)
-    ∙ (then_same p (aggregate agg (matching [] rows')) (λ o. totalling p x o (is_some_row (matching [] rows')) st.env) (λ o. totalling p x o (is_some_row (matching [] rows')) new.env)
+    ∙ (ap (λ r. effect_after p r (λ o. effect_of_aggregate p x o (is_some_row (matching [] rows)) st.env)) (aggregate_same agg (matching [] rows) (matching [] rows') alike)
+    ∙ (ap (λ b. effect_after p (aggregate agg (matching [] rows')) (λ o. effect_of_aggregate p x o b st.env)) (some_same (column_in agg) (matching [] rows) (matching [] rows') alike)
+    ∙ (then_same p (aggregate agg (matching [] rows')) (λ o. effect_of_aggregate p x o (is_some_row (matching [] rows')) st.env) (λ o. effect_of_aggregate p x o (is_some_row (matching [] rows')) new.env)
     (λ o. totalling_same p x o (is_some_row (matching [] rows')) st.env new.env m.found) ∙ two))))
 
 for_same : (tables : List TableInfo) (x : ℕ) (once : Bool) (cs : List ℕ) (t : ℕ) (conds : List RCond) (sorts : List RSort) (st new : State) → ReadsAlike tables (ForSelect x once cs t conds sorts []) st new
@@ -265,7 +265,7 @@ for_same tables x once cs t conds sorts st new m =
     let two = for_goes tables x once cs t conds sorts [] new.env new.tables p rows' b refl new.lines in
     let seen : SeenAlike p st.tables new.tables = seen_of tables (ForSelect x once cs t conds sorts []) st new p _ one refl m.seen in
     let alike = seen_rows t tests (with_sorts cs sorts) p st.tables new.tables is seen in
-    sym one ∙ (ap (λ l. going p l st.env) (fixed_same once cs sorts (matching [] rows) (matching [] rows') alike) ∙ (going_same p _ st.env new.env m.found ∙ two)))
+    sym one ∙ (ap (λ l. effect_of_loop p l st.env) (fixed_same once cs sorts (matching [] rows) (matching [] rows') alike) ∙ (going_same p _ st.env new.env m.found ∙ two)))
 
 delete_same : (tables : List TableInfo) (t : ℕ) (conds : List RCond) (st new : State) → ReadsAlike tables (Delete t conds) st new → SameEffect tables (Delete t conds) st new
 delete_same tables t conds st new m =
@@ -275,8 +275,8 @@ delete_same tables t conds st new m =
     let one = delete_goes tables t conds st.env st.tables p rows a refl st.lines in
     let two = delete_goes tables t conds new.env new.tables p rows' b refl new.lines in
     let seen : SeenAlike p st.tables new.tables = seen_of tables (Delete t conds) st new p _ one refl m.seen in
-    sym one ∙ (ap (λ b. writing p b (map (λ item. write' t item) rows) st.env) (some_same p.columns rows rows' seen)
-    ∙ (ap (λ l. writing p (is_some_row rows') l st.env) (deletes_same t p.columns rows rows' seen) ∙ (writing_same p (is_some_row rows') _ st.env new.env m.found ∙ two))))
+    sym one ∙ (ap (λ b. effect_of_writes p b (map (λ item. write' t item) rows) st.env) (some_same p.columns rows rows' seen)
+    ∙ (ap (λ l. effect_of_writes p (is_some_row rows') l st.env) (deletes_same t p.columns rows rows' seen) ∙ (writing_same p (is_some_row rows') _ st.env new.env m.found ∙ two))))
   where
     write' : ℕ → Keyed → Write
     write' t item = record { table = t; key = item.key; patch = patch.Delete }
@@ -322,11 +322,11 @@ update_same tables t items conds st new plain m =
     let alike : Alike cs rows rows' = alike_by (each_once cs) cs (λ a b. agree_once a b cs) rows rows' (subst (λ ds. Alike ds rows rows') (ap (λ (q : Pred). q.columns) is) seen) in
     let same = changes_same t (columns_at tables t) (key_columns tables t) (length (columns_at tables t)) st.env new.env items rows rows' hs.0 alike plain (wide_found tables t p st.tables at m.databases.0) (wide_found tables t p new.tables at m.databases.1) in
     sym one
-    ∙ (ap (λ r. asked_then p r (λ ws. writing p (is_some_row rows) ws st.env)) same
-    ∙ (ap (λ b. asked_then p (changes t items (new_of tables t new.env items) rows') (λ ws. writing p b ws st.env)) (some_same cs rows rows' alike)
-    ∙ (then_same p (changes t items (new_of tables t new.env items) rows') (λ ws. writing p (is_some_row rows') ws st.env) (λ ws. writing p (is_some_row rows') ws new.env) (λ ws. writing_same p (is_some_row rows') ws st.env new.env m.found) ∙ two))))
+    ∙ (ap (λ r. effect_after p r (λ ws. effect_of_writes p (is_some_row rows) ws st.env)) same
+    ∙ (ap (λ b. effect_after p (changes t items (new_of tables t new.env items) rows') (λ ws. effect_of_writes p b ws st.env)) (some_same cs rows rows' alike)
+    ∙ (then_same p (changes t items (new_of tables t new.env items) rows') (λ ws. effect_of_writes p (is_some_row rows') ws st.env) (λ ws. effect_of_writes p (is_some_row rows') ws new.env) (λ ws. writing_same p (is_some_row rows') ws st.env new.env m.found) ∙ two))))
 
-pub insert_preds : (tables : List TableInfo) (t : ℕ) (row : List Value) (p : Pred) (b : Bool) (e : Env) → (inserting tables t row p b e).preds ≡ p ∷ []
+pub insert_preds : (tables : List TableInfo) (t : ℕ) (row : List Value) (p : Pred) (b : Bool) (e : Env) → (effect_of_insert tables t row p b e).preds ≡ p ∷ []
 insert_preds tables t row p true e = refl
 insert_preds tables t row p false e = refl
 
@@ -342,7 +342,7 @@ insert_same tables t es st new m = by (new_row (columns_at tables t) es st.env) 
         let one = insert_done tables t es st.env st.tables row p rows m.databases.0.keys (m.databases.0.rising t) is refl refl st.lines in
         let two = insert_done tables t es new.env new.tables row p rows' m.databases.1.keys (m.databases.1.rising t) (same ∙ is) refl refl new.lines in
         let seen : SeenAlike p st.tables new.tables = seen_of tables (Insert t es) st new p _ one (insert_preds tables t row p (is_some_row rows) st.env) m.seen in
-        sym one ∙ (ap (λ b. inserting tables t row p b st.env) (some_same p.columns rows rows' seen) ∙ (inserting_same tables t row p (is_some_row rows') st.env new.env m.found ∙ two))
+        sym one ∙ (ap (λ b. effect_of_insert tables t row p b st.env) (some_same p.columns rows rows' seen) ∙ (inserting_same tables t row p (is_some_row rows') st.env new.env m.found ∙ two))
 
 assign_same : (tables : List TableInfo) (x : ℕ) (e : RExpr) (st new : State) → ReadsAlike tables (Assign x e) st new → SameEffect tables (Assign x e) st new
 assign_same tables x e st new m = by (value_of e st.env []) refl (sym (value_alike e st.env new.env [] (parts st.env new.env (variables e) [] m.reads).0))

@@ -9,17 +9,17 @@ use Rattle.mv_ast.specs.Texts.{greatest}
 use Rattle.mv_catalog.specs.declared.resolved.RStmt.{RStmt, roll-RStmt}
 use Rattle.mv_catalog.specs.declared.resolved.RStmt.TheOpen.{Rollback}
 use Rattle.mv_alone.specs.declared.state.State.{State}
-use Rattle.mv_alone.specs.declared.state.Held.{Held}
-use Rattle.mv_alone.specs.declared.state.Held.TheVariants.{Scalar, Turns, Turn}
+use Rattle.mv_alone.specs.declared.state.Content.{Content}
+use Rattle.mv_alone.specs.declared.state.Content.TheVariants.{Scalar, Turns, Turn}
 use Rattle.mv_record.specs.Samples.{account}
 use Rattle.mv_recorded.specs.Examples.{var, col, field, constant, acc, add_amount, set_balance, tell_balance, read_balance, add_read, add_sum, add_write, add_line, AddsFive, add_overflow, AddOverflows, raise_balance, UpdateOverflows, tell_found, look_read, look_line, LooksInVain, no_funds, look_at_funds, take_amount, give_amount, take_fee, read_first, looked, rolled_back, debited, given, fee_taken, Transfers, TransferRollsBack, add_line_amount, over_lines, lines, loop_record, first_turn, AddsUp}
 use Rattle.mv_recorded.specs.Recorded.{Site, tell_statements, outside, within, within_loop, in_turn}
 use Rattle.mv_recorded.proofs.Unrolled.{value_var, value_two, value_col, value_field, value_constant, variables_var, variables_two, variables_col, variables_field, variables_constant, columns_var, columns_two, columns_col, columns_constant, told_first, tell_is, does_is, size_is}
 
-abbrev pub scalar : ℕ → Held
+abbrev pub scalar : ℕ → Content
 scalar n = Scalar (Int (pos n))
 
-abbrev pub with_accounts : List Held → ℕ → List Keyed → State
+abbrev pub with_accounts : List Content → ℕ → List Keyed → State
 with_accounts held found rows = record { env = record { held = held; found = found }; tables = rows ∷ []; lines = [] }
 
 -- add
@@ -204,7 +204,7 @@ transfer_rolls_back = (
 
 -- total
 
-abbrev in_loop : ℕ → List Held → State
+abbrev in_loop : ℕ → List Content → State
 in_loop n held = record { env = record { held = Turns lines ∷ scalar n ∷ scalar 1 ∷ held; found = 2 }; tables = []; lines = [] }
 
 abbrev pub turn : ℕ → Site

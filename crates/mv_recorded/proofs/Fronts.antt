@@ -20,7 +20,7 @@ use Rattle.mv_catalog.specs.Statements.{size, Well, IsWell, all_well, with_turn,
 use Rattle.mv_catalog.specs.Text.{Suits, IsCall, IsProcedure, vars_of}
 use Rattle.mv_catalog.proofs.Typed.{well_by}
 use Rattle.mv_alone.specs.declared.state.State.{State}
-use Rattle.mv_alone.specs.declared.state.Held.TheVariants.{Turn}
+use Rattle.mv_alone.specs.declared.state.Content.TheVariants.{Turn}
 use Rattle.mv_alone.specs.Env.{with_found, with_held, turns_at}
 use Rattle.mv_alone.specs.Value.{value_of, is_so}
 use Rattle.mv_alone.specs.Alone.{Does, alone, does, is_turn}

@@ -4,8 +4,8 @@ use Rattle.std.specs.Prelude.{slice_get, Some}
 use Rattle.std.proofs.lemmas.Bool.Decides.{eqb_tells}
 use Rattle.std.specs.List.{filter}
 use Rattle.mv_alone.specs.declared.state.Env.{Env}
-use Rattle.mv_alone.specs.declared.state.Held.{Held}
-use Rattle.mv_alone.specs.declared.state.Held.TheVariants.{Scalar}
+use Rattle.mv_alone.specs.declared.state.Content.{Content}
+use Rattle.mv_alone.specs.declared.state.Content.TheVariants.{Scalar}
 use Rattle.mv_alone.specs.declared.state.State.{State}
 use Rattle.mv_alone.specs.Env.{held_at, scalar_at, with_held}
 use Rattle.mv_catalog.specs.declared.resolved.RStmt.TheOpen.{Assign, Select, Total, ForSelect, ForRows, Branch, Insert, Update, Delete, Print, Rollback}
@@ -17,7 +17,7 @@ use Rattle.mv_recorded.specs.Own.{Each, Bare, targets}
 use Rattle.mv_recorded.proofs.Slots.{get_same, get_other}
 
 -- the same variable is set in both
-pub held_alike : (e f : Env) (y : ℕ) (h : Held) (x : ℕ) → held_at e x ≡ held_at f x → held_at (with_held e y h) x ≡ held_at (with_held f y h) x
+pub held_alike : (e f : Env) (y : ℕ) (h : Content) (x : ℕ) → held_at e x ≡ held_at f x → held_at (with_held e y h) x ≡ held_at (with_held f y h) x
 held_alike e f y h x same = by_test (y == x) refl
   where
     by_test : (b : Bool) → (y == x) ≡ b → held_at (with_held e y h) x ≡ held_at (with_held f y h) x

@@ -26,7 +26,7 @@ use Rattle.mv_recorded.specs.Doing.{itself, fixed_rows}
 use Rattle.mv_catalog.specs.Statements as well
 use Rattle.mv_catalog.specs.Text.{IsRow, types_of}
 use Rattle.mv_catalog.proofs.Typed.{well_by}
-use Rattle.mv_alone.specs.declared.state.Held.TheVariants.{Turn}
+use Rattle.mv_alone.specs.declared.state.Content.TheVariants.{Turn}
 use Rattle.mv_alone.specs.declared.state.State.{State}
 use Rattle.mv_alone.specs.declared.state.Env.{Env}
 use Rattle.mv_alone.specs.Outcome.{then_do}

@@ -4,8 +4,8 @@ use Rattle.std.proofs.lemmas.Bool.Decides.{eqb_tells}
 use Rattle.std.specs.List.{filter}
 use Rattle.mv_values.specs.declared.value.Value.{Value}
 use Rattle.mv_alone.specs.declared.state.Env.{Env}
-use Rattle.mv_alone.specs.declared.state.Held.{Held}
-use Rattle.mv_alone.specs.declared.state.Held.TheVariants.{Scalar}
+use Rattle.mv_alone.specs.declared.state.Content.{Content}
+use Rattle.mv_alone.specs.declared.state.Content.TheVariants.{Scalar}
 use Rattle.mv_alone.specs.Env.{unset, put_at, scalar_in, scalar_at, truth, with_value, with_values, with_found}
 use Rattle.mv_recorded.specs.Effect.{with_slots}
 use Rattle.mv_recorded.specs.Own.{Within}
@@ -14,13 +14,13 @@ use Rattle.mv_recorded.specs.Effects.{slots_behind}
 
 -- Places
 
-pub put_same : (hs : List Held) (x : ℕ) (g h : Held) → put_at (put_at hs x g) x h ≡ put_at hs x h
+pub put_same : (hs : List Content) (x : ℕ) (g h : Content) → put_at (put_at hs x g) x h ≡ put_at hs x h
 put_same [] zero g h = refl
 put_same [] (suc x) g h = ap (λ l. unset ∷ l) (put_same [] x g h)
 put_same (k ∷ hs) zero g h = refl
 put_same (k ∷ hs) (suc x) g h = ap (λ l. k ∷ l) (put_same hs x g h)
 
-put_other : (hs : List Held) (x y : ℕ) (g h : Held) → (x ≡ y → ⊥) → put_at (put_at hs x g) y h ≡ put_at (put_at hs y h) x g
+put_other : (hs : List Content) (x y : ℕ) (g h : Content) → (x ≡ y → ⊥) → put_at (put_at hs x g) y h ≡ put_at (put_at hs y h) x g
 put_other [] zero zero g h apart = absurd (apart refl)
 put_other [] zero (suc y) g h apart = refl
 put_other [] (suc x) zero g h apart = refl
@@ -30,13 +30,13 @@ put_other (k ∷ hs) zero (suc y) g h apart = refl
 put_other (k ∷ hs) (suc x) zero g h apart = refl
 put_other (k ∷ hs) (suc x) (suc y) g h apart = ap (λ l. k ∷ l) (put_other hs x y g h (λ e. apart (ap suc e)))
 
-pub get_same : (hs : List Held) (x : ℕ) (h : Held) → slice_index_or (put_at hs x h) x unset ≡ h
+pub get_same : (hs : List Content) (x : ℕ) (h : Content) → slice_index_or (put_at hs x h) x unset ≡ h
 get_same [] zero h = refl
 get_same [] (suc x) h = get_same [] x h
 get_same (k ∷ hs) zero h = refl
 get_same (k ∷ hs) (suc x) h = get_same hs x h
 
-pub get_other : (hs : List Held) (x y : ℕ) (h : Held) → (x ≡ y → ⊥) → slice_index_or (put_at hs x h) y unset ≡ slice_index_or hs y unset
+pub get_other : (hs : List Content) (x y : ℕ) (h : Content) → (x ≡ y → ⊥) → slice_index_or (put_at hs x h) y unset ≡ slice_index_or hs y unset
 get_other [] zero zero h apart = absurd (apart refl)
 get_other [] zero (suc y) h apart = refl
 get_other [] (suc x) zero h apart = refl
@@ -48,7 +48,7 @@ get_other (k ∷ hs) (suc x) (suc y) h apart = get_other hs x y h (λ e. apart (
 
 -- Variables
 
-abbrev with_place : Env → List Held → Env
+abbrev with_place : Env → List Content → Env
 with_place env hs = record env { held = hs }
 
 pub set_has : (env : Env) (x : ℕ) (v : Value) → scalar_at (with_value env x v) x ≡ v

@@ -5,8 +5,8 @@ use Rattle.mv_values.specs.declared.rows.Keyed.{Keyed}
 use Rattle.mv_ast.specs.declared.tree.TwoOp.TheVariants.{Div}
 use Rattle.mv_catalog.specs.declared.resolved.RStmt.{RStmt, roll-RStmt}
 use Rattle.mv_alone.specs.declared.state.State.{State}
-use Rattle.mv_alone.specs.declared.state.Held.{Held}
-use Rattle.mv_alone.specs.declared.state.Held.TheVariants.{Turn}
+use Rattle.mv_alone.specs.declared.state.Content.{Content}
+use Rattle.mv_alone.specs.declared.state.Content.TheVariants.{Turn}
 use Rattle.mv_record.specs.Samples.{account}
 use Rattle.mv_recorded.specs.Examples.{var, constant, acc, delete_found, over_accounts, sum_up_balances, open_account, for_record, deleted, sum_record, opened, Closes, read_twice, ReadsTwice, delete_wrong, DividesByZero}
 use Rattle.mv_recorded.specs.Recorded.{tell_statements, outside}
@@ -15,10 +15,10 @@ use Rattle.mv_recorded.proofs.Examples.{scalar, with_accounts, turn}
 
 -- close
 
-abbrev at_close : ℕ → ℕ → List Held → List Keyed → State
+abbrev at_close : ℕ → ℕ → List Content → List Keyed → State
 at_close n found held rows = with_accounts (scalar 50 ∷ scalar n ∷ scalar found ∷ held) 2 rows
 
-abbrev turn_of : ℕ → List Held
+abbrev turn_of : ℕ → List Content
 turn_of a = Turn (Int (pos a) ∷ []) ∷ []
 
 abbrev begins : State

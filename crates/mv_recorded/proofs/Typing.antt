@@ -4,8 +4,8 @@ use Rattle.std.proofs.lemmas.Bool.{eqb-false, cases_eq}
 use Rattle.mv_values.specs.declared.value.Value.{Value}
 use Rattle.mv_catalog.specs.Types.{Kind, int, Var, fixed, declared, turn, Vars, kind_of_value}
 use Rattle.mv_catalog.specs.Statements.{with_turn}
-use Rattle.mv_alone.specs.declared.state.Held.{Held}
-use Rattle.mv_alone.specs.declared.state.Held.TheVariants.{Scalar, Turn}
+use Rattle.mv_alone.specs.declared.state.Content.{Content}
+use Rattle.mv_alone.specs.declared.state.Content.TheVariants.{Scalar, Turn}
 use Rattle.mv_alone.specs.declared.state.Env.{Env}
 use Rattle.mv_recorded.specs.Typed.{OfKinds, Holds, IsEnvOf}
 use Rattle.mv_recorded.proofs.Slots.{get_same, get_other}
@@ -15,14 +15,14 @@ same_var : (o : Option Var) (v w : Var) → o ≡ Some v → o ≡ Some w → v 
 same_var o v w h k = cc
 
 -- where a variable is set
-set_holds : (env : Env) (x y : ℕ) (w : Var) (h : Held) → (y ≡ x → Holds w h) → Holds w (held_at env y) → Holds w (held_at (with_held env x h) y)
+set_holds : (env : Env) (x y : ℕ) (w : Var) (h : Content) → (y ≡ x → Holds w h) → Holds w (held_at env y) → Holds w (held_at (with_held env x h) y)
 set_holds env x y w h here there = by (cases_eq y x)
   where
     by : (y ≡ x) ⊎ (y ≡ x → ⊥) → Holds w (held_at (with_held env x h) y)
     by (inl e) = subst (λ z. Holds w (held_at (with_held env x h) z)) (sym e) (subst (Holds w) (sym (get_same env.held x h)) (here e))
     by (inr other) = subst (Holds w) (sym (get_other env.held x y h (λ e. other (sym e)))) there
 
-pub fit_set : (vars : Vars) (env : Env) (x : ℕ) (v : Var) (h : Held) → IsEnvOf vars env → vars x ≡ Some v → Holds v h → IsEnvOf vars (with_held env x h)
+pub fit_set : (vars : Vars) (env : Env) (x : ℕ) (v : Var) (h : Content) → IsEnvOf vars env → vars x ≡ Some v → Holds v h → IsEnvOf vars (with_held env x h)
 fit_set vars env x v h fit at holds = record {
   holds = λ y w is.
       set_holds env x y w h (λ e. subst (λ u. Holds u h) (same_var (vars x) v w at (subst (λ z. vars z ≡ Some w) e is)) holds) (fit.holds y w is);

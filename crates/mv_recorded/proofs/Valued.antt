@@ -21,7 +21,7 @@ use Rattle.mv_catalog.specs.Types.{Kind, int, text, Var, fixed, declared, rows, 
 use Rattle.mv_catalog.specs.Types as types
 use Rattle.mv_catalog.proofs.Typed.{typed_by, HasKind}
 use Rattle.mv_alone.specs.declared.state.Env.{Env}
-use Rattle.mv_alone.specs.declared.state.Held.{Held}
+use Rattle.mv_alone.specs.declared.state.Content.{Content}
 use Rattle.mv_alone.specs.Outcome.{then_do}
 use Rattle.mv_alone.specs.Env.{held_at, scalar_in, turn_in, truth}
 use Rattle.mv_alone.specs.Value as value
@@ -102,14 +102,14 @@ two_kind op l r t (Ok v) b h = by (needs_right op v) refl b
 
 -- The value of an expression
 
-scalar_kind : (o : Option Var) (h : Held) (t : Kind) → ((v : Var) → o ≡ Some v → Holds v h) → read o ≡ Some t → IsKind t (scalar_in h)
+scalar_kind : (o : Option Var) (h : Content) (t : Kind) → ((v : Var) → o ≡ Some v → Holds v h) → read o ≡ Some t → IsKind t (scalar_in h)
 scalar_kind (Some (fixed k)) h t holds is = let same : k ≡ t = cc in subst (λ u. IsKind u (scalar_in h)) same (holds (fixed k) refl)
 scalar_kind (Some (declared k)) h t holds is = let same : k ≡ t = cc in subst (λ u. IsKind u (scalar_in h)) same (holds (declared k) refl)
 scalar_kind (Some (rows ks)) h t holds is = cc
 scalar_kind (Some (turn ks)) h t holds is = cc
 scalar_kind None h t holds is = cc
 
-field_kind : (o : Option Var) (h : Held) (c : ℕ) (t : Kind) → ((v : Var) → o ≡ Some v → Holds v h) → field o c ≡ Some t → IsKind t (column_of (turn_in h) c)
+field_kind : (o : Option Var) (h : Content) (c : ℕ) (t : Kind) → ((v : Var) → o ≡ Some v → Holds v h) → field o c ≡ Some t → IsKind t (column_of (turn_in h) c)
 field_kind (Some (turn ks)) h c t holds is = holds (turn ks) refl c t is
 field_kind (Some (rows ks)) h c t holds is = cc
 field_kind (Some (fixed k)) h c t holds is = cc

@@ -58,8 +58,8 @@ abbrev pub same_key : List ℕ → List Value → List Test
 same_key keys row = map (λ c. test_on keys c Eq (column_of row c)) keys
 
 -- the predicate with the tests of WHERE and these selected columns
-abbrev pub asked : List TableInfo → ℕ → List RCond → List ℕ → State → List Pred
-asked tables t conds cs st = on (tests_of (key_columns tables t) conds st.env) (λ tests. pred_of t tests cs ∷ [])
+abbrev pub preds_for : List TableInfo → ℕ → List RCond → List ℕ → State → List Pred
+preds_for tables t conds cs st = on (tests_of (key_columns tables t) conds st.env) (λ tests. pred_of t tests cs ∷ [])
 
 -- the listed columns, followed by those of ORDER BY
 abbrev pub with_sorts : List ℕ → List RSort → List ℕ
@@ -67,13 +67,13 @@ with_sorts cs sorts = cs ++ map (λ s. s.column) sorts
 
 -- the predicates of a statement; none if it faults before it looks at rows
 abbrev pub preds_of : {X : Type 0} → List TableInfo → RStmt-F X → State → List Pred
-preds_of tables (Select cs xs t conds sorts offset) st = on (offset_of offset st.env) (λ n. asked tables t conds (with_sorts cs sorts) st)
-preds_of tables (Total agg x t conds) st = asked tables t conds (column_in agg) st
-preds_of tables (ForSelect x once cs t conds sorts body) st = asked tables t conds (with_sorts cs sorts) st
+preds_of tables (Select cs xs t conds sorts offset) st = on (offset_of offset st.env) (λ n. preds_for tables t conds (with_sorts cs sorts) st)
+preds_of tables (Total agg x t conds) st = preds_for tables t conds (column_in agg) st
+preds_of tables (ForSelect x once cs t conds sorts body) st = preds_for tables t conds (with_sorts cs sorts) st
 preds_of tables (Insert t es) st =
     on (new_row (columns_at tables t) es st.env) (λ row. pred_of t (same_key (key_columns tables t) row) [] ∷ [])
-preds_of tables (Update t items conds) st = asked tables t conds (flat_map (λ i. columns_in i.right) items) st
-preds_of tables (Delete t conds) st = asked tables t conds [] st
+preds_of tables (Update t items conds) st = preds_for tables t conds (flat_map (λ i. columns_in i.right) items) st
+preds_of tables (Delete t conds) st = preds_for tables t conds [] st
 preds_of tables (Assign x e) st = []
 preds_of tables (ForRows x y body) st = []
 preds_of tables (Branch e ys ns) st = []

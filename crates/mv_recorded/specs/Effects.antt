@@ -49,9 +49,9 @@ abbrev pub only_end : List Pred → End → Effect
 only_end preds e = record { preds = preds; sets = []; rows = []; writes = []; line = None; end = Some e }
 
 -- a statement after its query: its effect if there is a value, or its end
-abbrev pub asked_then : {A : Type 0} → Pred → Result A End → (A → Effect) → Effect
-asked_then pred (Ok x) go = go x
-asked_then pred (Err e) go = only_end (pred ∷ []) e
+abbrev pub effect_after : {A : Type 0} → Pred → Result A End → (A → Effect) → Effect
+effect_after pred (Ok x) go = go x
+effect_after pred (Err e) go = only_end (pred ∷ []) e
 
 -- variables with their values after a statement
 abbrev pub slots_behind : Env → List ℕ → List Slot
@@ -62,30 +62,30 @@ abbrev pub asks : List TableInfo → ℕ → List RCond → List ℕ → Env →
 asks tables t conds cs env = then_do (tests_of (key_columns tables t) conds env) (λ tests. Ok (pred_of t tests cs))
 
 -- the predicate of a statement and a value that it needs before it queries, or its effect if it ends before
-abbrev pub asked_by : {A B : Type 0} → Result A End → Result B End → Result (A × B) Effect
-asked_by (Ok a) (Ok b) = Ok (a, b)
-asked_by (Ok a) (Err e) = Err (only_end [] e)
-asked_by (Err e) b = Err (only_end [] e)
+abbrev pub pred_with : {A B : Type 0} → Result A End → Result B End → Result (A × B) Effect
+pred_with (Ok a) (Ok b) = Ok (a, b)
+pred_with (Ok a) (Err e) = Err (only_end [] e)
+pred_with (Err e) b = Err (only_end [] e)
 
 -- the number of the row that a SELECT takes
 abbrev pub row_number : Option RExpr → Env → Result ℤ End
 row_number offset env = then_do (offset_of offset env) (λ v. Ok (number v))
 
 -- a statement after its query that takes this row
-abbrev pub taking : Pred → List ℕ → List ℕ → Option Keyed → Env → Effect
-taking pred cs xs item env = record (only_asks pred) { sets = slots_behind (with_selected cs xs item env) (when (is_some item) (each_once xs) ++ env.found ∷ []) }
+abbrev pub effect_of_select : Pred → List ℕ → List ℕ → Option Keyed → Env → Effect
+effect_of_select pred cs xs item env = record (only_asks pred) { sets = slots_behind (with_selected cs xs item env) (when (is_some item) (each_once xs) ++ env.found ∷ []) }
 
 -- a statement after its query that stores this aggregate
-abbrev pub totalling : Pred → ℕ → Option Value → Bool → Env → Effect
-totalling pred x total found env = record (only_asks pred) { sets = slots_behind (with_found (totalled x total env) found) (when (is_some total) (x ∷ []) ++ env.found ∷ []) }
+abbrev pub effect_of_aggregate : Pred → ℕ → Option Value → Bool → Env → Effect
+effect_of_aggregate pred x total found env = record (only_asks pred) { sets = slots_behind (with_found (totalled x total env) found) (when (is_some total) (x ∷ []) ++ env.found ∷ []) }
 
 -- a statement after its query that iterates over these rows
-abbrev pub going : Pred → List (List Value) → Env → Effect
-going pred turns env = record (only_asks pred) { sets = slots_behind (with_found env (is_turn turns)) (env.found ∷ []); rows = turns }
+abbrev pub effect_of_loop : Pred → List (List Value) → Env → Effect
+effect_of_loop pred turns env = record (only_asks pred) { sets = slots_behind (with_found env (is_turn turns)) (env.found ∷ []); rows = turns }
 
 -- a statement after its query that makes these writes; the flag tells whether it found a row
-abbrev pub writing : Pred → Bool → List Write → Env → Effect
-writing pred found ws env = record (only_asks pred) { sets = slots_behind (with_found env found) (env.found ∷ []); writes = ws }
+abbrev pub effect_of_writes : Pred → Bool → List Write → Env → Effect
+effect_of_writes pred found ws env = record (only_asks pred) { sets = slots_behind (with_found env found) (env.found ∷ []); writes = ws }
 
 -- the writes of SET to rows, or the first fault
 abbrev pub changes : ℕ → List RSetItem → (List Value → Result (List Value) End) → List Keyed → Result (List Write) End
@@ -97,6 +97,6 @@ abbrev pub new_of : List TableInfo → ℕ → Env → List RSetItem → List Va
 new_of tables t env items row = set_row (columns_at tables t) (key_columns tables t) env row items row
 
 -- an INSERT of a row after its query; the flag tells whether a row with its key exists
-abbrev pub inserting : List TableInfo → ℕ → List Value → Pred → Bool → Env → Effect
-inserting tables t row pred there env =
-    if there then only_end (pred ∷ []) Duplicate else writing pred true (write t (keyed (key_columns tables t) row).key (Insert row) ∷ []) env
+abbrev pub effect_of_insert : List TableInfo → ℕ → List Value → Pred → Bool → Env → Effect
+effect_of_insert tables t row pred there env =
+    if there then only_end (pred ∷ []) Duplicate else effect_of_writes pred true (write t (keyed (key_columns tables t) row).key (Insert row) ∷ []) env

@@ -13,7 +13,7 @@ use Rattle.mv_catalog.specs.declared.resolved.RStmt.TheOpen.{RStmt-F, ForSelect,
 use Rattle.mv_catalog.specs.declared.resolved.RStmt.TheFolds.{para-RStmt}
 use Rattle.mv_catalog.specs.Statements.{size, total_size}
 use Rattle.mv_alone.specs.declared.state.State.{State}
-use Rattle.mv_alone.specs.declared.state.Held.TheVariants.{Turn}
+use Rattle.mv_alone.specs.declared.state.Content.TheVariants.{Turn}
 use Rattle.mv_alone.specs.Env.{with_found, with_held}
 use Rattle.mv_alone.specs.Value.{value_of, is_so}
 use Rattle.mv_alone.specs.Alone.{Does, alone, does, is_turn}

@@ -3,7 +3,7 @@ use Rattle.std.specs.Prelude.{◌≡◌, ℕ, List, Some, All, slice_get}
 use Rattle.mv_values.specs.declared.value.Value.{Value}
 use Rattle.mv_values.specs.Columns.{column_of}
 use Rattle.mv_catalog.specs.Types.{Kind, int, Var, fixed, declared, rows, turn, Vars, kind_of_value}
-use Rattle.mv_alone.specs.declared.state.Held.{Held}
+use Rattle.mv_alone.specs.declared.state.Content.{Content}
 use Rattle.mv_alone.specs.declared.state.Env.{Env}
 use Rattle.mv_alone.specs.Env.{held_at, scalar_in, turn_in, turns_in}
 
@@ -12,7 +12,7 @@ abbrev pub OfKinds : List Kind → List Value → Type 0
 OfKinds ks row = (c : ℕ) (k : Kind) → slice_get ks c ≡ Some k → kind_of_value (column_of row c) ≡ k
 
 -- the variable's value has its type
-abbrev pub Holds : Var → Held → Type 0
+abbrev pub Holds : Var → Content → Type 0
 Holds (fixed k) h = kind_of_value (scalar_in h) ≡ k
 Holds (declared k) h = kind_of_value (scalar_in h) ≡ k
 Holds (rows ks) h = All (OfKinds ks) (turns_in h)

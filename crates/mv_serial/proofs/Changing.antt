@@ -11,7 +11,7 @@ use Rattle.mv_values.specs.Patching.{row_of, placed}
 use Rattle.mv_values.specs.Tables.{rows_at, Tables}
 use Rattle.mv_values.proofs.KeyOrder.{tied}
 use Rattle.mv_record.proofs.Patching.{rows_same, row_of-placed_same, placed_other, rising_placed}
-use Rattle.mv_serial.specs.declared.change.Change.{Change}
+use Rattle.mv_serial.specs.declared.change.RowChange.{RowChange}
 use Rattle.mv_serial.specs.Changing.{changed_in, changed_by, KeepsUndo}
 
 -- a table that was taken out, put back
@@ -48,10 +48,10 @@ taken_back t key row was db new rising is before =
     ∙ (ap (slice_set db t) (placed_back (rows_at db t) key row rising) ∙ set-get_or db t [])))
 
 -- the last of changes is made first
-pub changed_last : (cs : List Change) (c : Change) (db : Tables) → changed_by (cs ++ c ∷ []) db ≡ changed_by cs (changed_in c db)
+pub changed_last : (cs : List RowChange) (c : RowChange) (db : Tables) → changed_by (cs ++ c ∷ []) db ≡ changed_by cs (changed_in c db)
 changed_last [] c db = refl
 changed_last (d ∷ cs) c db = ap (changed_in d) (changed_last cs c db)
 
 -- a change that takes back what was done is remembered
-pub keeps : (us : List Change) (u : Change) (db new : Tables) → changed_in u new ≡ db → KeepsUndo us db (us ++ u ∷ []) new
+pub keeps : (us : List RowChange) (u : RowChange) (db new : Tables) → changed_in u new ≡ db → KeepsUndo us db (us ++ u ∷ []) new
 keeps us u db new back = changed_last us u new ∙ ap (changed_by us) back

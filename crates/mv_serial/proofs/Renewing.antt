@@ -25,7 +25,7 @@ use Rattle.mv_alone.specs.Outcome.{then_do, Fails}
 use Rattle.mv_alone.specs.Rows.{matching, is_some_row}
 use Rattle.mv_alone.specs.Changes.{updated, without, put_row}
 use Rattle.mv_alone.proofs.Standing.{New}
-use Rattle.mv_serial.specs.declared.change.Change.{Change}
+use Rattle.mv_serial.specs.declared.change.RowChange.{RowChange}
 use Rattle.mv_serial.specs.Changing.{changed_by, renewals, removals}
 use Rattle.mv_serial.proofs.Changing.{changed_again}
 use Rattle.mv_serial.proofs.Tabling.{table_with}
@@ -33,20 +33,20 @@ use Rattle.mv_serial.proofs.Tabling.{table_with}
 -- Changes of one table
 
 -- the rows of a table after changes
-abbrev pub all_placed : List Change → List Keyed → List Keyed
+abbrev pub all_placed : List RowChange → List Keyed → List Keyed
 all_placed [] rows = rows
 all_placed (c ∷ cs) rows = placed c.key c.row (all_placed cs rows)
 
-abbrev pub AllAt : ℕ → List Change → Type 0
+abbrev pub AllAt : ℕ → List RowChange → Type 0
 AllAt t [] = Unit {0}
 AllAt t (c ∷ cs) = (c.table ≡ t) × AllAt t cs
 
 -- the key is below those of the changes
-abbrev pub AllPast : List Value → List Change → Type 0
+abbrev pub AllPast : List Value → List RowChange → Type 0
 AllPast key [] = Unit {0}
 AllPast key (c ∷ cs) = (key_order key c.key ≡ Less) × AllPast key cs
 
-pub at_table : (t : ℕ) (cs : List Change) (db : Tables) → AllAt t cs → changed_by cs db ≡ slice_set db t (all_placed cs (rows_at db t))
+pub at_table : (t : ℕ) (cs : List RowChange) (db : Tables) → AllAt t cs → changed_by cs db ≡ slice_set db t (all_placed cs (rows_at db t))
 at_table t [] db h = sym (set-get_or db t [])
 at_table t (c ∷ cs) db h =
     ap (λ u. slice_set (changed_by cs db) u (placed c.key c.row (rows_at (changed_by cs db) u))) h.0
@@ -56,7 +56,7 @@ before : (x : Keyed) (key : List Value) (row : Option (List Value)) (rows : List
 before x key row rows h = rw h refl
 
 -- changes of greater keys leave a row
-later : (x : Keyed) (cs : List Change) (rows : List Keyed) → AllPast x.key cs → all_placed cs (x ∷ rows) ≡ x ∷ all_placed cs rows
+later : (x : Keyed) (cs : List RowChange) (rows : List Keyed) → AllPast x.key cs → all_placed cs (x ∷ rows) ≡ x ∷ all_placed cs rows
 later x [] rows h = refl
 later x (c ∷ cs) rows h = ap (placed c.key c.row) (later x cs rows h.1) ∙ before x c.key c.row (all_placed cs rows) h.0
 
@@ -69,12 +69,12 @@ gone x rows = let same : key_order x.key x.key ≡ Equal = same_key x.key in rw 
 -- UPDATE
 
 -- the changes make of the rows what is meant
-record Renewed (t : ℕ) (rows : List Keyed) (meant : Result (List Keyed) End) (cs : List Change) : Type 0 where
+record Renewed (t : ℕ) (rows : List Keyed) (meant : Result (List Keyed) End) (cs : List RowChange) : Type 0 where
   made : meant ≡ Ok (all_placed cs rows)
   one : AllAt t cs
   above : (key : List Value) → Above key rows → AllPast key cs
 
-abbrev Renews : ℕ → List Keyed → Result (List Keyed) End → Result (List Change) End → Type 0
+abbrev Renews : ℕ → List Keyed → Result (List Keyed) End → Result (List RowChange) End → Type 0
 Renews t rows meant (Ok cs) = Renewed t rows meant cs
 Renews t rows meant (Err e) = meant ≡ Err e
 
@@ -82,7 +82,7 @@ renewed : (t : ℕ) (new : New) (tests : List Test) (rows : List Keyed) → Rise
 renewed t new tests [] h = record { made = refl; one = tt; above = λ key k. tt }
 renewed t new tests (x ∷ rows) h = by (meets tests x.row) (renewed t new tests rows h.1)
   where
-    kept : (meant : Result (List Keyed) End) (r : Result (List Change) End) → Renews t rows meant r → Renews t (x ∷ rows) (then_do meant (λ rest. Ok (x ∷ rest))) r
+    kept : (meant : Result (List Keyed) End) (r : Result (List RowChange) End) → Renews t rows meant r → Renews t (x ∷ rows) (then_do meant (λ rest. Ok (x ∷ rest))) r
     kept meant (Ok cs) m = record {
       made = ap (λ o. then_do o (λ rest. Ok (x ∷ rest))) m.made ∙ ap Ok (sym (later x cs rows (m.above x.key h.0)));
       one = m.one;
@@ -90,7 +90,7 @@ renewed t new tests (x ∷ rows) h = by (meets tests x.row) (renewed t new tests
     }
     kept meant (Err e) m = ap (λ o. then_do o (λ rest. Ok (x ∷ rest))) m
 
-    made_anew : (meant : Result (List Keyed) End) (r : Result (List Change) End) (o : Result (List Value) End) → Renews t rows meant r
+    made_anew : (meant : Result (List Keyed) End) (r : Result (List RowChange) End) (o : Result (List Value) End) → Renews t rows meant r
         → Renews t (x ∷ rows) (then_do o (λ row. then_do meant (λ rest. Ok (record x { row = row } ∷ rest)))) (then_do o (λ row. then_do r (λ rest. Ok (record { table = t; key = x.key; row = Some row } ∷ rest))))
     made_anew meant r (Err e) m = refl
     made_anew meant (Err e) (Ok row) m = ap (λ o. then_do o (λ rest. Ok (record x { row = row } ∷ rest))) m
@@ -108,7 +108,7 @@ renewed t new tests (x ∷ rows) h = by (meets tests x.row) (renewed t new tests
     by false m = kept (updated new tests rows) (renewals t new (matching tests rows)) m
 
 -- the changes of UPDATE make its rows
-pub renewals_make : (t : ℕ) (new : New) (tests : List Test) (db after : Tables) (cs : List Change) → IsRising (rows_at db t) → renewals t new (matching tests (rows_at db t)) ≡ Ok cs → after ≡ changed_by cs db
+pub renewals_make : (t : ℕ) (new : New) (tests : List Test) (db after : Tables) (cs : List RowChange) → IsRising (rows_at db t) → renewals t new (matching tests (rows_at db t)) ≡ Ok cs → after ≡ changed_by cs db
     → table_with db t (updated new tests (rows_at db t)) ≡ Ok after
 renewals_make t new tests db after cs rising is made =
     let m : Renewed t (rows_at db t) (updated new tests (rows_at db t)) cs = subst (Renews t (rows_at db t) (updated new tests (rows_at db t))) is (renewed t new tests (rows_at db t) (rises_from (rows_at db t) rising)) in
@@ -119,7 +119,7 @@ pub renewals_stop : (new : New) (t : ℕ) (tests : List Test) (rows : List Keyed
 renewals_stop new t tests [] e h = cc
 renewals_stop new t tests (x ∷ rows) e h = by (meets tests x.row) (renewals_stop new t tests rows e) h
   where
-    first : (o : Result (List Value) End) (r : Result (List Change) End) (u : Result (List Keyed) End) → (r ≡ Err e → u ≡ Err e) → then_do o (λ row. then_do r (λ rest. Ok (record { table = t; key = x.key; row = Some row } ∷ rest))) ≡ Err e
+    first : (o : Result (List Value) End) (r : Result (List RowChange) End) (u : Result (List Keyed) End) → (r ≡ Err e → u ≡ Err e) → then_do o (λ row. then_do r (λ rest. Ok (record { table = t; key = x.key; row = Some row } ∷ rest))) ≡ Err e
         → then_do o (λ row. then_do u (λ rest. Ok (record x { row = row } ∷ rest))) ≡ Err e
     first (Err f) r u more k = let same : f ≡ e = cc in ap Err same
     first (Ok row) (Ok cs) u more k = cc
@@ -138,14 +138,14 @@ positive : (n : ℕ) → nat_lt 0 (suc n) ≡ true
 positive n = search rules
 
 -- there is a change where there is a row
-pub some_renewed : (t : ℕ) (new : New) (items : List Keyed) (cs : List Change) → renewals t new items ≡ Ok cs → nat_lt 0 (length cs) ≡ is_some_row items
+pub some_renewed : (t : ℕ) (new : New) (items : List Keyed) (cs : List RowChange) → renewals t new items ≡ Ok cs → nat_lt 0 (length cs) ≡ is_some_row items
 some_renewed t new [] cs h = let none : [] ≡ cs = cc in ap (λ l. nat_lt 0 (length l)) (sym none)
 some_renewed t new (x ∷ items) cs h = by (new x.row) (renewals t new items) h
   where
-    by : (o : Result (List Value) End) (r : Result (List Change) End) → then_do o (λ row. then_do r (λ rest. Ok (record { table = t; key = x.key; row = Some row } ∷ rest))) ≡ Ok cs → nat_lt 0 (length cs) ≡ true
+    by : (o : Result (List Value) End) (r : Result (List RowChange) End) → then_do o (λ row. then_do r (λ rest. Ok (record { table = t; key = x.key; row = Some row } ∷ rest))) ≡ Ok cs → nat_lt 0 (length cs) ≡ true
     by (Err f) r k = cc
     by (Ok row) (Err f) k = cc
-    by (Ok row) (Ok rest) k = let is : record { table = t; key = x.key; row = Some row } ∷ rest ≡ cs = cc in ap (λ (l : List Change). nat_lt 0 (length l)) (sym is) ∙ positive (length rest)
+    by (Ok row) (Ok rest) k = let is : record { table = t; key = x.key; row = Some row } ∷ rest ≡ cs = cc in ap (λ (l : List RowChange). nat_lt 0 (length l)) (sym is) ∙ positive (length rest)
 
 -- DELETE
 
@@ -170,10 +170,10 @@ removed t tests (x ∷ rows) h = by (meets tests x.row) (removed t tests rows h.
     by false more = same ∙ ap (λ l. x ∷ l) more
 
 -- the changes of DELETE leave the rows that don't match
-pub removals_make : (t : ℕ) (tests : List Test) (db after : Tables) (cs : List Change) → IsRising (rows_at db t) → cs ≡ removals t (matching tests (rows_at db t)) → after ≡ changed_by cs db → after ≡ slice_set db t (without tests (rows_at db t))
+pub removals_make : (t : ℕ) (tests : List Test) (db after : Tables) (cs : List RowChange) → IsRising (rows_at db t) → cs ≡ removals t (matching tests (rows_at db t)) → after ≡ changed_by cs db → after ≡ slice_set db t (without tests (rows_at db t))
 removals_make t tests db after cs rising is made =
     made
-    ∙ (ap (λ (l : List Change). changed_by l db) is
+    ∙ (ap (λ (l : List RowChange). changed_by l db) is
     ∙ (at_table t (removals t (matching tests (rows_at db t))) db (removals_one t (matching tests (rows_at db t))) ∙ ap (slice_set db t) (removed t tests (rows_at db t) (rises_from (rows_at db t) rising))))
 
 pub some_removed : (t : ℕ) (items : List Keyed) → nat_lt 0 (length (removals t items)) ≡ is_some_row items

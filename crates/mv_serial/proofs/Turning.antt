@@ -7,7 +7,7 @@ use Rattle.mv_values.specs.declared.schema.TableInfo.{TableInfo}
 use Rattle.mv_values.proofs.Deciding.{from_place}
 use Rattle.mv_catalog.specs.declared.resolved.RStmt.{RStmt}
 use Rattle.mv_alone.specs.declared.state.State.{State}
-use Rattle.mv_alone.specs.declared.state.Held.TheVariants.{Turn}
+use Rattle.mv_alone.specs.declared.state.Content.TheVariants.{Turn}
 use Rattle.mv_alone.specs.declared.state.Stop.{Stop}
 use Rattle.mv_alone.specs.declared.state.Stop.TheVariants.{Memory, Ended}
 use Rattle.mv_alone.specs.Outcome.{then_do, Fails}

@@ -8,7 +8,7 @@ ghost use Rattle.mv_record.specs.Databases.{IsProgram};
 ghost use Rattle.mv_serial.specs.Changing.{changed_by};
 ghost use Rattle.mv_alone.specs.TableAfter.{no_reply, outcome, begun, tables_left, reply_in, table_after, IsOrder, RepliesOf, OthersSilent, StoppedUnchanged};
 
-use crate::change::{Change, undo_all};
+use crate::change::{RowChange, undo_all};
 use crate::statements::run_all;
 use crate::tables::{database_of, tables_of};
 use mv_alone::enter::variables_for;
@@ -39,7 +39,7 @@ struct Left {
 fn rolled_back(
     alloc: Global,
     tables: Tables,
-    undo: List<Change>,
+    undo: List<RowChange>,
     end: End,
 ) -> Result<Left, NoMemory>
     ensures tables { IfOk result (λ l. l.tables ≡ changed_by undo tables) }

@@ -16,7 +16,7 @@ use std::alloc::Global;
 
 /// A change of a table: the row that is put under a key, or none to remove the row there.
 #[derive(Drop)]
-pub(crate) struct Change {
+pub(crate) struct RowChange {
     pub table: u16,
     pub key: Key,
     pub row: Option<Row>,
@@ -76,15 +76,15 @@ fn set_row(
 }
 
 /// Makes a change, and returns the one that undoes it. Takes logarithmic time.
-fn make(alloc: Global, tables: &mut Tables, change: Change) -> Result<Change, NoMemory>
+fn make(alloc: Global, tables: &mut Tables, change: RowChange) -> Result<RowChange, NoMemory>
     ensures tables { OnOk result (tables.new ≡ changed_in change tables.old) }
     ensures back { IfOk result (λ back. changed_in back tables.new ≡ tables.old) }
 {
-    let Change { table, key, row } = change;
+    let RowChange { table, key, row } = change;
     let mut rows = take_table(alloc, tables, table);
     let row = set_row(alloc, &mut rows, &key, row)?;
     put_table(tables, table, rows);
-    Ok(Change { table, key, row })
+    Ok(RowChange { table, key, row })
 }
 
 /// Puts a row under its key, and returns the change that undoes this, which has the row that was there. Takes
@@ -94,7 +94,7 @@ pub(crate) fn add(
     tables: &mut Tables,
     table: u16,
     item: Keyed,
-) -> Result<Change, NoMemory>
+) -> Result<RowChange, NoMemory>
     ensures rising { IsRising (rows_at tables.old table) }
     ensures tables { OnOk result (tables.new ≡ slice_set tables.old table (placed item.key (Some item.row) (rows_at tables.old table))) }
     ensures was { IfOk result (λ back. back.row ≡ row_of (rows_at tables.old table) item.key) }
@@ -105,15 +105,15 @@ pub(crate) fn add(
     let _len = rows.len();
     let row = rows.put(key.copy(alloc)?, row)?;
     put_table(tables, table, rows);
-    Ok(Change { table, key, row })
+    Ok(RowChange { table, key, row })
 }
 
 /// Makes all changes, from the last to the first, and remembers how to undo each.
 pub(crate) fn make_all(
     alloc: Global,
     tables: &mut Tables,
-    undo: &mut List<Change>,
-    changes: List<Change>,
+    undo: &mut List<RowChange>,
+    changes: List<RowChange>,
 ) -> Result<(), NoMemory>
     ensures tables { OnOk result (tables.new ≡ changed_by changes tables.old) }
     ensures undo { OnOk result (KeepsUndo undo.old tables.old undo.new tables.new) }
@@ -130,7 +130,7 @@ pub(crate) fn make_all(
 pub(crate) fn undo_all(
     alloc: Global,
     tables: &mut Tables,
-    undo: &mut List<Change>,
+    undo: &mut List<RowChange>,
 ) -> Result<(), NoMemory>
     ensures { OnOk result (tables.new ≡ changed_by undo.old tables.old) }
 {

@@ -12,7 +12,7 @@ ghost use Rattle.mv_alone.specs.Changes.{OthersStay};
 ghost use Rattle.mv_alone.specs.Alone.{delete};
 ghost use Rattle.mv_serial.specs.Changing.{removals, StaysUndoable};
 
-use crate::change::{Change, make_all};
+use crate::change::{RowChange, make_all};
 use mv_alone::env::set_found;
 use mv_alone::find::{matches_in, tests_from};
 use mv_alone::state::{State, Stop};
@@ -26,12 +26,12 @@ use mv_values::schema::TableInfo;
 use std::alloc::Global;
 
 /// Returns the changes that remove each of the rows.
-fn removals_of(alloc: Global, table: u16, rows: &[Entry<'_>]) -> Result<List<Change>, NoMemory>
+fn removals_of(alloc: Global, table: u16, rows: &[Entry<'_>]) -> Result<List<RowChange>, NoMemory>
     ensures { IfOk result (λ changes. changes ≡ removals table (map seen rows.now)) }
 {
     let mut changes = List::new(alloc);
     for entry in rows {
-        changes.push(Change {
+        changes.push(RowChange {
             table,
             key: entry.key.copy(alloc)?,
             row: None,
@@ -46,7 +46,7 @@ fn removals_in(
     tables: &Tables,
     table: u16,
     tests: &[Test],
-) -> Result<List<Change>, NoMemory>
+) -> Result<List<RowChange>, NoMemory>
     requires { AdmitMatches tests.now (rows_at tables.now table) }
     ensures changes { IfOk result (λ changes. changes ≡ removals table (matching tests.now (rows_at tables.now table))) }
     ensures rising { IfOk result (λ changes. IsRising (rows_at tables.now table)) }
@@ -62,7 +62,7 @@ pub(crate) fn run_delete(
     table: u16,
     conds: &[RCond],
     state: &mut State,
-    undo: &mut List<Change>,
+    undo: &mut List<RowChange>,
 ) -> Result<(), Stop>
     requires keys { KeysStand infos.now state.old.tables }
     requires each { All IsTable infos.now }

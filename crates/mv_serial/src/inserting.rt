@@ -7,7 +7,7 @@ ghost use Rattle.mv_alone.specs.Changes.{put_row, OthersStay};
 ghost use Rattle.mv_alone.specs.Alone.{insert};
 ghost use Rattle.mv_serial.specs.Changing.{StaysUndoable};
 
-use crate::change::{Change, add};
+use crate::change::{RowChange, add};
 use mv_alone::env::set_found;
 use mv_alone::find::{columns_in, key_in};
 use mv_alone::made::{made_row, under_key};
@@ -24,7 +24,7 @@ use std::alloc::Global;
 fn put_new(
     alloc: Global,
     tables: &mut Tables,
-    undo: &mut List<Change>,
+    undo: &mut List<RowChange>,
     table: u16,
     item: Keyed,
 ) -> Result<(), Stop>
@@ -47,7 +47,7 @@ pub(crate) fn run_insert(
     table: u16,
     values: &[RExpr],
     state: &mut State,
-    undo: &mut List<Change>,
+    undo: &mut List<RowChange>,
 ) -> Result<(), Stop>
     requires { KeysStand tables.now state.old.tables }
     ensures does { Leaves result state.new (insert tables.now table values.now state.old) }

@@ -10,7 +10,7 @@ ghost use Rattle.mv_alone.specs.Env.{with_found};
 ghost use Rattle.mv_alone.specs.Alone.{alone, does, fixed, is_turn, loop_over, for_rows, for_select};
 ghost use Rattle.mv_serial.specs.Changing.{StaysUndoable};
 
-use crate::change::Change;
+use crate::change::RowChange;
 use crate::deleting::run_delete;
 use crate::inserting::run_insert;
 use crate::run::{run_assign, run_print, run_select};
@@ -20,7 +20,7 @@ use mv_alone::env::{copied_turns, set_found, set_held};
 use mv_alone::expr::{holds, value};
 use mv_alone::find::{matches_in, tests_from};
 use mv_alone::fixing::fixed_rows;
-use mv_alone::state::{Env, Held, State, Stop};
+use mv_alone::state::{Content, Env, State, Stop};
 use mv_catalog::resolved::{Query, RExpr, RStmt, Update};
 use mv_values::calls::End;
 use mv_values::copied::Copied;
@@ -52,7 +52,7 @@ pub(crate) fn run_all(
     tables: &[TableInfo],
     statements: &[RStmt],
     state: &mut State,
-    undo: &mut List<Change>,
+    undo: &mut List<RowChange>,
 ) -> Result<(), Stop>
     requires keys { KeysStand tables.now state.old.tables }
     requires each { All IsTable tables.now }
@@ -73,7 +73,7 @@ fn run_one(
     tables: &[TableInfo],
     statement: &RStmt,
     state: &mut State,
-    undo: &mut List<Change>,
+    undo: &mut List<RowChange>,
 ) -> Result<(), Stop>
     requires keys { KeysStand tables.now state.old.tables }
     requires each { All IsTable tables.now }
@@ -191,7 +191,7 @@ fn run_turns(
     query: &Query<'_>,
     body: &[RStmt],
     state: &mut State,
-    undo: &mut List<Change>,
+    undo: &mut List<RowChange>,
 ) -> Result<(), Stop>
     requires keys { KeysStand tables.now state.old.tables }
     requires each { All IsTable tables.now }
@@ -212,7 +212,7 @@ fn run_rows(
     parameter: u16,
     body: &[RStmt],
     state: &mut State,
-    undo: &mut List<Change>,
+    undo: &mut List<RowChange>,
 ) -> Result<(), Stop>
     requires keys { KeysStand tables.now state.old.tables }
     requires each { All IsTable tables.now }
@@ -233,7 +233,7 @@ fn run_loop(
     body: &[RStmt],
     rows: &[Row],
     state: &mut State,
-    undo: &mut List<Change>,
+    undo: &mut List<RowChange>,
 ) -> Result<(), Stop>
     requires keys { KeysStand tables.now state.old.tables }
     requires each { All IsTable tables.now }
@@ -243,7 +243,11 @@ fn run_loop(
 {
     find_rows(rows, &mut state.env)?;
     for one in rows {
-        set_held(&mut state.env, row as usize, Held::Turn(one.copy(alloc)?))?;
+        set_held(
+            &mut state.env,
+            row as usize,
+            Content::Turn(one.copy(alloc)?),
+        )?;
         run_all(alloc, tables, body, state, undo)?;
     }
     Ok(())

@@ -12,7 +12,7 @@ ghost use Rattle.mv_alone.specs.Changes.{set_row, OthersStay};
 ghost use Rattle.mv_alone.specs.Alone as alone;
 ghost use Rattle.mv_serial.specs.Changing.{renewals, StaysUndoable};
 
-use crate::change::{Change, make_all};
+use crate::change::{RowChange, make_all};
 use mv_alone::env::set_found;
 use mv_alone::find::{columns_in, key_in, matches_in, tests_from};
 use mv_alone::made::row_after_set;
@@ -33,13 +33,13 @@ fn renewals_of(
     env: &Env,
     update: &Update<'_>,
     rows: &[Entry<'_>],
-) -> Result<List<Change>, Stop>
+) -> Result<List<RowChange>, Stop>
     ensures { Gives result (renewals update.now.table (λ row. set_row columns.now keys.now env.now row update.now.items.now row) (map seen rows.now)) }
 {
     let mut changes = List::new(alloc);
     for entry in rows {
         let row = row_after_set(alloc, columns, keys, env, entry.row, update.items)?;
-        changes.push(Change {
+        changes.push(RowChange {
             table: update.table,
             key: entry.key.copy(alloc)?,
             row: Some(row),
@@ -55,7 +55,7 @@ fn renewals_in(
     update: &Update<'_>,
     tests: &[Test],
     state: &State,
-) -> Result<List<Change>, Stop>
+) -> Result<List<RowChange>, Stop>
     requires { AdmitMatches tests.now (rows_at state.now.tables update.now.table) }
     ensures changes { Gives result (renewals update.now.table (λ row. set_row (columns_at tables.now update.now.table) (key_columns tables.now update.now.table) state.now.env row update.now.items.now row) (matching tests.now (rows_at state.now.tables update.now.table))) }
     ensures rising { IfOk result (λ changes. IsRising (rows_at state.now.tables update.now.table)) }
@@ -77,7 +77,7 @@ pub(crate) fn run_update(
     tables: &[TableInfo],
     update: &Update<'_>,
     state: &mut State,
-    undo: &mut List<Change>,
+    undo: &mut List<RowChange>,
 ) -> Result<(), Stop>
     requires keys { KeysStand tables.now state.old.tables }
     requires each { All IsTable tables.now }

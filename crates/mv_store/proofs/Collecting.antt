@@ -10,7 +10,7 @@ use Rattle.mv_chain.specs.declared.pending.Pending.{Pending}
 use Rattle.mv_chain.specs.Versions.{Versions, Commit, IsAboveAll, own_of, collected, row_after, row_at}
 use Rattle.mv_store.specs.Stored.{Entries}
 use Rattle.mv_store.specs.declared.written_keys.Written.{Written}
-use Rattle.mv_store.specs.declared.change.Change.TheVariants.{Collect}
+use Rattle.mv_store.specs.declared.change.VersionChange.TheVariants.{Collect}
 use Rattle.mv_store.specs.Kept.{versions_at, Noted, is_table_key, is_due, table_keys_of, HasTableKey, HasEntry, Climb, AreKeptVersions, after_change, KeepsRows, done_at, AreDone, AreCollected}
 use Rattle.mv_store.proofs.Noted.{entry_rest, climb_from, none_due}
 use Rattle.mv_store.proofs.Done.{done_hit, done_miss, rows_then}

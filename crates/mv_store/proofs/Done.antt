@@ -20,8 +20,8 @@ use Rattle.mv_store.specs.Stored.{Entries}
 use Rattle.mv_store.specs.declared.written_keys.TableKey.{TableKey}
 use Rattle.mv_store.specs.declared.change.Fate.{Fate}
 use Rattle.mv_store.specs.declared.change.Fate.TheVariants.{Commit, Gone}
-use Rattle.mv_store.specs.declared.change.Change.{Change}
-use Rattle.mv_store.specs.declared.change.Change.TheVariants.{Settle, Collect}
+use Rattle.mv_store.specs.declared.change.VersionChange.{VersionChange}
+use Rattle.mv_store.specs.declared.change.VersionChange.TheVariants.{Settle, Collect}
 use Rattle.mv_store.specs.Kept.{versions_in, versions_of, entries_at, versions_at, AllRise, AreFilled, AllFilled, IsChanged, AreChanged, AllChanged, Noted, is_table_key, HasTableKey, table_keys_of, IsCovered, settled, after_change, MayChange, KeepsRows, done_at, AreDone}
 
 some_none : {A : Type 0} {a : A} → ◌≡◌ {A = Option A} (Some a) None → ⊥
@@ -200,17 +200,17 @@ settled_others Gone call other v h = others_are_kept call other v.own h
 
 -- Changes
 
-pub changed_blank : (to : Change) → after_change to blank ≡ blank
+pub changed_blank : (to : VersionChange) → after_change to blank ≡ blank
 changed_blank (Settle call (Commit n)) = refl
 changed_blank (Settle call Gone) = refl
 changed_blank (Collect low) = refl
 
-may_again : (to : Change) (v : Versions) → MayChange to (after_change to v)
+may_again : (to : VersionChange) (v : Versions) → MayChange to (after_change to v)
 may_again (Settle call (Commit n)) v = subst (λ o. OnSome o (IsAboveAll n (stamped call n v))) (sym (settled_gone (Commit n) call v)) tt
 may_again (Settle call Gone) v = tt
 may_again (Collect low) v = tt
 
-pub may_done : (to : Change) (ss : List TableKey) (t : ℕ) (key : List Value) (v : Versions) → MayChange to v → MayChange to (done_at (after_change to) ss t key v)
+pub may_done : (to : VersionChange) (ss : List TableKey) (t : ℕ) (key : List Value) (v : Versions) → MayChange to v → MayChange to (done_at (after_change to) ss t key v)
 may_done to [] t key v h = h
 may_done to (s ∷ ss) t key v h = may_done to ss t key (cond (is_table_key t key s) (after_change to v) v) (by (is_table_key t key s))
   where
@@ -218,16 +218,16 @@ may_done to (s ∷ ss) t key v h = may_done to ss t key (cond (is_table_key t ke
     by true = may_again to v
     by false = h
 
-pub rows_same : (to : Change) (v w : Versions) → w ≡ v → KeepsRows to v w
+pub rows_same : (to : VersionChange) (v w : Versions) → w ≡ v → KeepsRows to v w
 rows_same (Settle call fate) v w e = tt
 rows_same (Collect low) v w e = λ n le. ap (λ x. row_at x n) e
 
-pub rows_then : (to : Change) (u v w : Versions) → KeepsRows to u v → KeepsRows to v w → KeepsRows to u w
+pub rows_then : (to : VersionChange) (u v w : Versions) → KeepsRows to u v → KeepsRows to v w → KeepsRows to u w
 rows_then (Settle call fate) u v w h g = tt
 rows_then (Collect low) u v w h g = λ n le. g n le ∙ h n le
 
 -- rows are kept under each key where they are under the one that was changed
-pub rows_changed : (to : Change) (t : ℕ) (key : List Value) (old new : List Entries) → AreChanged t key (after_change to) old new → KeepsRows to (versions_at old t key) (versions_at new t key)
+pub rows_changed : (to : VersionChange) (t : ℕ) (key : List Value) (old new : List Entries) → AreChanged t key (after_change to) old new → KeepsRows to (versions_at old t key) (versions_at new t key)
     → (u : ℕ) (other : List Value) → KeepsRows to (versions_at old u other) (versions_at new u other)
 rows_changed to t key old new change rows u other = elim (cases_Bool (t == u)) [
   | inl e ↦ elim (cases_Bool (is_eq (key_order key other))) [

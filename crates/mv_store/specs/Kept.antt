@@ -14,8 +14,8 @@ use Rattle.mv_store.specs.declared.written_keys.TableKey.{TableKey}
 use Rattle.mv_store.specs.declared.written_keys.Written.{Written}
 use Rattle.mv_store.specs.declared.change.Fate.{Fate}
 use Rattle.mv_store.specs.declared.change.Fate.TheVariants.{Commit, Gone}
-use Rattle.mv_store.specs.declared.change.Change.{Change}
-use Rattle.mv_store.specs.declared.change.Change.TheVariants.{Settle, Collect}
+use Rattle.mv_store.specs.declared.change.VersionChange.{VersionChange}
+use Rattle.mv_store.specs.declared.change.VersionChange.TheVariants.{Settle, Collect}
 
 -- Versions under a key
 
@@ -155,16 +155,16 @@ MaySettle (Commit n) call v = OnSome (own_of call v.own) (IsAboveAll n v)
 MaySettle Gone call v = ⊤
 
 -- a change of versions
-abbrev pub after_change : Change → Versions → Versions
+abbrev pub after_change : VersionChange → Versions → Versions
 after_change (Settle call fate) v = settled fate call v
 after_change (Collect low) v = collected low v
 
-abbrev pub MayChange : Change → Versions → Type 0
+abbrev pub MayChange : VersionChange → Versions → Type 0
 MayChange (Settle call fate) v = MaySettle fate call v
 MayChange (Collect low) v = ⊤
 
 -- each row from the number of a collection on is unchanged
-abbrev pub KeepsRows : Change → Versions → Versions → Type 0
+abbrev pub KeepsRows : VersionChange → Versions → Versions → Type 0
 KeepsRows (Settle call fate) old new = ⊤
 KeepsRows (Collect low) old new = (n : ℕ) → low ≤ n → row_at new n ≡ row_at old n
 

@@ -21,7 +21,7 @@ pub(crate) enum Fate {
 
 /// A change of the versions under a key.
 #[derive(Clone, Copy)]
-pub(crate) enum Change {
+pub(crate) enum VersionChange {
     /// Settles the patch of a call.
     Settle(u32, Fate),
     /// Drops the rows before a commit.
@@ -40,19 +40,19 @@ fn settle(chain: &mut Chain, call: u32, fate: Fate)
 }
 
 /// Makes a change. It allocates no memory.
-fn make(chain: &mut Chain, change: Change)
+fn make(chain: &mut Chain, change: VersionChange)
     requires { MayChange change chain.old }
     ensures versions { chain.new ≡ after_change change chain.old }
     ensures rows { KeepsRows change chain.old chain.new }
 {
     match change {
-        Change::Settle(call, fate) => settle(chain, call, fate),
-        Change::Collect(low) => chain.collect(low),
+        VersionChange::Settle(call, fate) => settle(chain, call, fate),
+        VersionChange::Collect(low) => chain.collect(low),
     }
 }
 
 /// Changes the versions under a key of a table. Returns whether blank versions are under the key then.
-fn change_item(table: &mut KeyMap<Chain>, key: &Key, to: Change) -> bool
+fn change_item(table: &mut KeyMap<Chain>, key: &Key, to: VersionChange) -> bool
     requires { MayChange to (versions_of table.old key.now) }
     ensures versions { IsChanged key.now (after_change to) table.old table.new }
     ensures rows { KeepsRows to (versions_of table.old key.now) (versions_of table.new key.now) }
@@ -78,7 +78,7 @@ fn remove_blank(table: &mut KeyMap<Chain>, key: &Key)
 }
 
 /// Changes the versions under a key of a table, and removes the key if they are blank then.
-fn change_under(table: &mut KeyMap<Chain>, key: &Key, to: Change)
+fn change_under(table: &mut KeyMap<Chain>, key: &Key, to: VersionChange)
     requires { MayChange to (versions_of table.old key.now) }
     ensures versions { IsChanged key.now (after_change to) table.old table.new }
     ensures rows { KeepsRows to (versions_of table.old key.now) (versions_of table.new key.now) }
@@ -90,7 +90,7 @@ fn change_under(table: &mut KeyMap<Chain>, key: &Key, to: Change)
 }
 
 /// Changes the versions at a key of a table.
-fn change_at(tables: &mut Vec<KeyMap<Chain>>, table_key: &TableKey, to: Change)
+fn change_at(tables: &mut Vec<KeyMap<Chain>>, table_key: &TableKey, to: VersionChange)
     requires { MayChange to (versions_at tables.old.items table_key.now.table table_key.now.key) }
     ensures versions { AreChanged table_key.now.table table_key.now.key (after_change to) tables.old.items tables.new.items }
     ensures rows { KeepsRows to (versions_at tables.old.items table_key.now.table table_key.now.key) (versions_at tables.new.items table_key.now.table table_key.now.key) }
@@ -103,7 +103,11 @@ fn change_at(tables: &mut Vec<KeyMap<Chain>>, table_key: &TableKey, to: Change)
 
 /// Changes the versions at these keys. It allocates no memory. Takes time logarithmic in the number of rows for each
 /// key.
-pub(crate) fn change_all(tables: &mut Vec<KeyMap<Chain>>, table_keys: &[TableKey], to: Change)
+pub(crate) fn change_all(
+    tables: &mut Vec<KeyMap<Chain>>,
+    table_keys: &[TableKey],
+    to: VersionChange,
+)
     requires { (t : ℕ) (key : Seq Value) → MayChange to (versions_at tables.old.items t key) }
     ensures versions { AreDone (after_change to) table_keys.now tables.old.items tables.new.items }
     ensures rows { (t : ℕ) (key : Seq Value) → KeepsRows to (versions_at tables.old.items t key) (versions_at tables.new.items t key) }
@@ -124,6 +128,10 @@ pub(crate) fn settle_noted(
     ensures { AreDone (settled fate call) (table_keys_in (option_copied noted.entry)) tables.old.items tables.new.items }
 {
     if let Some(table_keys) = noted {
-        change_all(tables, table_keys.as_slice(), Change::Settle(call, fate));
+        change_all(
+            tables,
+            table_keys.as_slice(),
+            VersionChange::Settle(call, fate),
+        );
     }
 }

@@ -3,7 +3,7 @@
 ghost use Rattle.std.specs.Prelude.{ℕ};
 ghost use Rattle.mv_store.specs.Kept.{AreKeptVersions, AreCollected};
 
-use crate::change::{Change, change_all};
+use crate::change::{VersionChange, change_all};
 use crate::written_keys::WrittenKeys;
 use mv_chain::chain::Chain;
 use mv_table::key_map::KeyMap;
@@ -15,6 +15,10 @@ pub(crate) fn collect_all(tables: &mut Vec<KeyMap<Chain>>, table_keys: &mut Writ
     ensures { (last : ℕ) → AreKeptVersions tables.old.items table_keys.old last → AreCollected low tables.old.items tables.new.items × AreKeptVersions tables.new.items table_keys.new last }
 {
     while let Some(written) = table_keys.take_due(low) {
-        change_all(tables, written.table_keys.as_slice(), Change::Collect(low));
+        change_all(
+            tables,
+            written.table_keys.as_slice(),
+            VersionChange::Collect(low),
+        );
     }
 }

@@ -23,9 +23,6 @@ owned_or (Some o) = o
 abbrev pub owned_at : List Owned → ℕ → Owned
 owned_at items place = owned_or (slice_get items place)
 
-abbrev pub lined : List Owned → List ℕ → List Owned
-lined items places = map (owned_at items) places
-
 -- a key with its table in front
 abbrev pub full_key : Owned → List Value
 full_key o = Int (pos o.write.table) ∷ o.write.key

@@ -1,5 +1,5 @@
 use Rattle.std.proofs.Common.{◌≡◌, ◌++◌, drop, map}
-use Rattle.mv_alone.specs.declared.state.Held.TheVariants.{Scalar}
+use Rattle.mv_alone.specs.declared.state.Content.TheVariants.{Scalar}
 use Rattle.mv_alone.proofs.enter.add_declared.Given as goal
 
 abbrev pub invariant-loop-value : goal.invariant-loop-value

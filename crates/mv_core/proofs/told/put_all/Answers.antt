@@ -13,4 +13,4 @@ loop-record-preserved c =
 
 pub returns-in_err-put_all-clause-err : goal.returns-in_err-put_all-clause-err
 returns-in_err-put_all-clause-err c =
-    always_err c.from_residual.result (drop_join c.args.call (writes_in (take c.loop-record.record-index c.args.records.now)) c.args.store.now c.loop-record.store c.put_all.new.self c.loop-record.invariant c.in_err-put_all.ensures.err)
+    always_err c.from_residual.result _ (drop_join c.args.call (writes_in (take c.loop-record.record-index c.args.records.now)) c.args.store.now c.loop-record.store c.put_all.new.self c.loop-record.invariant c.in_err-put_all.ensures.err)

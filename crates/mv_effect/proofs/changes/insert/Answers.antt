@@ -5,7 +5,7 @@ use Rattle.mv_alone.specs.Changes.{new_row}
 use Rattle.mv_record.proofs.Patching.{rising_applied}
 use Rattle.mv_recorded.specs.Asking.{pred_of, same_key}
 use Rattle.mv_undo.specs.Owning.{earlier}
-use Rattle.mv_recorded.specs.Effects.{inserting}
+use Rattle.mv_recorded.specs.Effects.{effect_of_insert}
 use Rattle.mv_record.specs.declared.effect.Effect.{Effect}
 use Rattle.mv_effect.proofs.Asked.{asked_one}
 use Rattle.mv_recorded.proofs.Altered.{insert_done}
@@ -21,7 +21,7 @@ returns-clause-effect g c = λ lines.
     let made = ap (λ cs. new_row cs c.args.exprs.now env) (sym c.columns_in.ensures) ∙ c.in-Ok.ensures in
     let is = c.in_ok-pred.ensures.asks ∙ ap (λ r. pred_of c.args.table (same_key (key_columns tables c.args.table) r) []) c.as_slice.ensures in
     c.in_ok-insert_effect.ensures
-    ∙ (ap (λ b. inserting tables c.args.table c.in-Ok.row c.in_ok-pred.pred b env) c.is_any.ensures
+    ∙ (ap (λ b. effect_of_insert tables c.args.table c.in-Ok.row c.in_ok-pred.pred b env) c.is_any.ensures
     ∙ insert_done tables c.args.table c.args.exprs.now env (applied ws before) c.in-Ok.row c.in_ok-pred.pred c.in_ok-rows.rows c.requires.stands.behind (rising_applied ws before c.requires.stands.database.rising c.args.table)
     made is c.in_ok-rows.ensures.found lines)
 

@@ -2,7 +2,7 @@ use Rattle.std.proofs.Common.{◌≡◌, IfOk, sym, ap, subst, ◌∙◌}
 use Rattle.std.proofs.lemmas.List.{map-id}
 use Rattle.mv_values.specs.Keys.{IsRising}
 use Rattle.mv_alone.specs.Alone.{fixed}
-use Rattle.mv_recorded.specs.Effects.{going}
+use Rattle.mv_recorded.specs.Effects.{effect_of_loop}
 use Rattle.mv_effect.proofs.AllRows.{all_rows}
 use Rattle.mv_effect.proofs.queries.loop_effect.Goals as goal
 
@@ -11,4 +11,4 @@ fixed_rows-requires c = subst IsRising (sym (map-id c.args.rows.now)) c.requires
 
 pub returns : goal.returns
 returns c =
-    subst (λ l. IfOk c.turns_effect.result (λ e. e ≡ going c.args.pred l c.args.env.now)) (c.in_ok-turns.ensures ∙ ap (fixed c.args.once c.args.query.now.columns.now c.args.query.now.sorts.now) (all_rows c.args.rows.now)) c.turns_effect.ensures
+    subst (λ l. IfOk c.turns_effect.result (λ e. e ≡ effect_of_loop c.args.pred l c.args.env.now)) (c.in_ok-turns.ensures ∙ ap (fixed c.args.once c.args.query.now.columns.now c.args.query.now.sorts.now) (all_rows c.args.rows.now)) c.turns_effect.ensures

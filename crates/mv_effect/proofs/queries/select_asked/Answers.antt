@@ -2,7 +2,7 @@ use Rattle.std.proofs.Common.{rules, ◌≡◌, to_z, of_z, sym, ap, ◌∙◌}
 use mir.Syntax.{w64}
 use Rattle.mv_alone.specs.Rows.{item_at, ordered}
 use Rattle.mv_undo.specs.Owning.{earlier}
-use Rattle.mv_recorded.specs.Effects.{taking}
+use Rattle.mv_recorded.specs.Effects.{effect_of_select}
 use Rattle.mv_recorded.proofs.Matching.{matching_all}
 use Rattle.mv_effect.proofs.Told.{select_led}
 use Rattle.mv_effect.proofs.queries.select_asked.Goals as goal
@@ -17,5 +17,5 @@ returns-in-Some-clause-effect g c =
 pub returns-clause-effect : goal.returns-clause-effect
 returns-clause-effect g c =
     c.in_ok-select_effect.ensures
-    ∙ ap (λ rows. taking c.args.asked.0 c.args.query.now.columns.now c.args.to.now (item_at (ordered c.args.query.now.sorts.now rows) c.args.asked.1) c.args.context.now.env.now)
+    ∙ ap (λ rows. effect_of_select c.args.asked.0 c.args.query.now.columns.now c.args.to.now (item_at (ordered c.args.query.now.sorts.now rows) c.args.asked.1) c.args.context.now.env.now)
     (matching_all c.as_slice.result.now ∙ (c.as_slice.ensures.items ∙ c.in_ok-rows.ensures.found))

@@ -6,7 +6,7 @@ use Rattle.std.proofs.lemmas.List.{map-id}
 use Rattle.mv_values.specs.declared.rows.Keyed.{Keyed}
 use Rattle.mv_values.specs.Keys.{IsRising}
 use Rattle.mv_alone.specs.Rows.{item_at, matching, ordered}
-use Rattle.mv_recorded.specs.Effects.{taking}
+use Rattle.mv_recorded.specs.Effects.{effect_of_select}
 use Rattle.mv_effect.proofs.AllRows.{all_rows}
 use Rattle.mv_effect.proofs.queries.select_effect.Goals as goal
 
@@ -19,4 +19,4 @@ returns c =
     let is =
     sym (option_map_id (option_copied c.in_ok-item.item))
     ∙ (c.in_ok-item.ensures ∙ (ap (λ rows. item_at (ordered c.args.query.now.sorts.now rows) (to_z w64 (of_z w64 c.args.asked.1))) (all_rows c.args.rows.now) ∙ ap (item_at (ordered c.args.query.now.sorts.now (matching [] c.args.rows.now))) at)) in
-    subst (λ (o : Option Keyed). IfOk c.set_effect.result (λ e. e ≡ taking c.args.asked.0 c.args.query.now.columns.now c.args.to.now o c.args.env.now)) is (rw c.in_ok-sets.ensures at c.set_effect.ensures)
+    subst (λ (o : Option Keyed). IfOk c.set_effect.result (λ e. e ≡ effect_of_select c.args.asked.0 c.args.query.now.columns.now c.args.to.now o c.args.env.now)) is (rw c.in_ok-sets.ensures at c.set_effect.ensures)

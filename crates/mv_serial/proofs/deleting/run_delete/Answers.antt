@@ -6,7 +6,7 @@ use Rattle.mv_alone.specs.FirstRows.{AdmitMatches}
 use Rattle.mv_alone.proofs.Spanning.{placed_admit}
 use Rattle.mv_serial.proofs.Lawful.{others_left}
 use Rattle.mv_serial.proofs.Renewing.{removals_make, some_removed}
-use Rattle.mv_serial.specs.declared.change.Change.{Change}
+use Rattle.mv_serial.specs.declared.change.RowChange.{RowChange}
 use Rattle.mv_serial.proofs.Standing.{delete_stands}
 use Rattle.mv_serial.proofs.Tabling.{delete_ok}
 use Rattle.mv_serial.proofs.deleting.run_delete.Goals as goal
@@ -17,7 +17,7 @@ returns-clause-does c =
     let st = c.args.state.now in
     let is = rw c.as_slice.ensures at c.in_ok-changes.ensures.changes in
     let made = removals_make t c.in_ok-tests.tests st.tables c.make_all.new.tables c.in_ok-changes.changes c.in_ok-changes.ensures.rising is c.in_ok-make_all.ensures.tables in
-    let some = ap (λ (l : List Change). nat_lt 0 (length l)) is ∙ some_removed t (matching c.in_ok-tests.tests (rows_at st.tables t)) in
+    let some = ap (λ (l : List RowChange). nat_lt 0 (length l)) is ∙ some_removed t (matching c.in_ok-tests.tests (rows_at st.tables t)) in
     rw (c.in_ok-set_found.ensures.ok, c.len-found.ensures, some) (delete_ok c.args.infos.now t c.args.conds.now st c.in_ok-tests.tests c.make_all.new.tables c.in_ok-tests.ensures.tests made)
 
 pub returns-clause-keys : goal.returns-clause-keys

@@ -1,5 +1,5 @@
 use Rattle.std.proofs.Common.{sym, subst}
-use Rattle.mv_store.specs.declared.change.Change.TheVariants.{Collect}
+use Rattle.mv_store.specs.declared.change.VersionChange.TheVariants.{Collect}
 use Rattle.mv_store.specs.Kept.{AreKeptVersions, after_change, AreDone}
 use Rattle.mv_store.proofs.Collecting.{none_collected, one_collected, one_kept, all_collected, noted_same}
 use Rattle.mv_store.proofs.collect.collect_all.Goals as goal

@@ -2,7 +2,7 @@ use Rattle.std.proofs.Common.{[], ◌∷◌, ap, ◌∙◌}
 use Rattle.std.specs.Bool.{then_some}
 use Rattle.mv_table.specs.declared.scan.Direction.TheVariants.{Forward, Backward}
 use Rattle.mv_alone.proofs.FirstRows.{led_if, leads_up, leads_down}
-use Rattle.mv_alone.proofs.chosen.leading_by.Goals as goal
+use Rattle.mv_alone.proofs.chosen.sort_direction.Goals as goal
 
 pub returns-then-sort-clause-is : goal.returns-then-sort-clause-is
 returns-then-sort-clause-is c = rw c.if-sort.true (c.then_some.ensures ∙ ap (λ b. then_some b Backward) c.rises.ensures.is)
