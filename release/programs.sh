@@ -132,6 +132,12 @@ END
     done
 }
 
+# Has the C library keep 256 freed blocks of each size at hand, and not seven: a call of a script frees and takes as many.
+# That spares `run` a tenth of its time. Tunables that are set already stay.
+keep_blocks() {
+    export GLIBC_TUNABLES="${GLIBC_TUNABLES-glibc.malloc.tcache_count=256}"
+}
+
 # Runs a program: the build of these sources, or the release of these sources, or what is built now.
 start() { # NAME WORDS..
     find_sources "$1" || exit 70
@@ -144,5 +150,6 @@ start() { # NAME WORDS..
         program=$top/crates/$1/out/$1
     fi
     shift
+    keep_blocks
     exec "$program" "$@"
 }

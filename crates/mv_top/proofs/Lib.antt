@@ -6,3 +6,4 @@ pub mod Driving
 pub mod Answering
 pub mod Texts
 pub mod Summaries
+pub mod Opening

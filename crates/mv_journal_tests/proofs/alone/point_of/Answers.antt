@@ -1,5 +1,5 @@
 use Rattle.std.proofs.Common.{◌∙◌}
-use Rattle.mv_journal_tests.proofs.Opening.{graphs_on}
+use Rattle.mv_top.proofs.Opening.{graphs_on}
 use Rattle.mv_journal_tests.proofs.alone.point_of.Goals as goal
 
 pub full_runs-requires-clause-databases : goal.full_runs-requires-clause-databases
