@@ -126,8 +126,8 @@ fn step<V: View>(
 /// or it has none. Each variable that it reads has the same definer in both runs, which stays, or in both its default.
 /// No change hits the old record. No write of an earlier record of either run that doesn't stay touches the old record.
 ///
-/// Fails with `NoMemory` if memory runs out, and with `Stale` if the view reports it. The call is then spent, and must
-/// begin again.
+/// Fails with `NoMemory` if memory runs out, and with `Stale` if the view reports it. The call's records are then of no
+/// use, and it must begin again.
 ///
 /// A kept record is moved, and no row or text of it is copied. Each record costs a comparison of paths, and one of its
 /// definers. A record with a predicate also costs what `validate` does for the commits. If few earlier records with
