@@ -449,6 +449,15 @@ pub commit_after : (w : Work) (order : List ℕ) (low : ℕ) (ls : List Live) (o
 commit_after w order low ls None c = refl
 commit_after w order low ls (Some k) c = refl
 
+pub made_committed : (own : Option ℕ) (c : ℕ) (i : Inside) (old new : Booked) (orders : List ℕ) (p q : Progress) → the_view i ≡ old → refusal (work_in old) old.course (commit_event own c) ≡ None
+    → slice_get i.calls.items c ≡ Some p → live_of q ≡ committed (length i.order.items) own (live_of p) → orders ≡ i.order.items ++ c ∷ []
+    → new.course ≡ the_course orders i.low (map live_of (slice_set i.calls.items c q)) → new.journal ≡ i.journal.items ++ commit_event own c ∷ [] → new.script ≡ i.script → Made (commit_event own c) old new
+made_committed own c i old new orders p q is free at live more course journal script =
+    made_on (commit_event own c) (the_view i) old new is free
+    (course ∙ (ap (λ (o : List ℕ). the_course o i.low (map live_of (slice_set i.calls.items c q))) more
+    ∙ (ap (λ (ls : List Live). the_course (i.order.items ++ c ∷ []) i.low ls) (map_changed (committed (length i.order.items) own) i.calls.items c p q at live)
+    ∙ sym (commit_after (work_of i.script) i.order.items i.low (map live_of i.calls.items) own c)))) journal script
+
 -- the rounds of a call that commits are Runs'
 pub rounds_committed : (s : Script) (order : List ℕ) (low c : ℕ) (ps : List Progress) (journal : List Event) (own : Option ℕ) (p : Progress)
     → IsBookKept s (the_course order low (map live_of ps)) ps journal → slice_get ps c ≡ Some p → p.reply ≡ None → IsSome (last_number p.rounds.items)

@@ -236,29 +236,6 @@ impl Book {
         ensures number { result ≡ length self.old.course.order + 1 }
         ensures room { UsesOne self.old self.new }
     {
-        let number = self.add_commit(call, reply, changes, exclusive);
-        self.trim();
-        number
-    }
-
-    /// Commits a call, as `commit` does, and drops no changes.
-    fn add_commit(
-        &mut self,
-        call: u32,
-        reply: Reply,
-        changes: Changes,
-        exclusive: Option<&Task>,
-    ) -> u32
-        requires allowed { refusal (work_in self.old) self.old.course (commit_event (own_number (option_copied exclusive)) call) ≡ None }
-        requires reply { reply ≡ (last_run self.old call).reply }
-        requires changes { (IsAlone self.old call → ⊥) → changes ≡ last_changes self.old call }
-        requires settled { IsSettled self.old call }
-        requires number { IsOwnNumber (own_number (option_copied exclusive)) self.old call }
-        requires room { HasRoom self.old call 1 }
-        ensures made { Made (commit_event (own_number (option_copied exclusive.entry)) call) self.old self.new }
-        ensures number { result ≡ length self.old.course.order + 1 }
-        ensures room { UsesOne self.old self.new }
-    {
         let start = self.order.len() as u32;
         let own = own_number(exclusive);
         let number = start + 1;
@@ -267,6 +244,7 @@ impl Book {
         self.order.put(call);
         remember(&mut self.recent, &self.live, number, changes);
         self.journal.put(commit_event(own, call));
+        self.trim();
         number
     }
 
