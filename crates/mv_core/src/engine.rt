@@ -1,14 +1,14 @@
 //! A history with its tables and its running calls.
 
-ghost use Rattle.std.specs.Prelude.{◌≡◌, ◌<◌, ◌≤◌, [], ◌==◌, ◌&&◌, not, nat_lt, length, None, IfOk, IfSome, IfNone, OnOk};
+ghost use Rattle.std.specs.Prelude.{◌≡◌, ◌<◌, ◌≤◌, [], ◌==◌, ◌&&◌, not, nat_lt, length, None, IfOk, IfErr, IfSome, IfNone, OnOk};
 ghost use Rattle.mv_journal.specs.declared.event.Event.TheVariants.{A, X};
 ghost use Rattle.mv_lawful.specs.Lawful.{Live, Lawful, beginning, course_of, has_step, has_round, open_call, AllAllowed};
 ghost use Rattle.mv_lawful.specs.Outcomes.{outcome_of};
 ghost use Rattle.mv_exec.specs.Running.{stepped};
 ghost use Rattle.mv_core.specs.Calls.{IsLive, IsLiveCall, due_number};
 ghost use Rattle.mv_core.specs.Scripts.{IsScript};
-ghost use Rattle.mv_core.specs.Books.{work_in, HasRounds, IsSame, IsAnswer};
-ghost use Rattle.mv_core.specs.Cores.{HasStep, HasEnded, MayStep, IsAllowedIfFresh, HasBegunCall, HasStepped, HasTried, HasRepaired, HasDecided, HasMovedUp, HasCollected};
+ghost use Rattle.mv_core.specs.Books.{work_in, HasRounds, IsSame, IsNotStale, IsAnswer};
+ghost use Rattle.mv_core.specs.Cores.{HasStep, HasEnded, MayStep, IsAllowedIfFresh, HasRefused, HasBegunCall, HasStepped, HasTried, HasRepaired, HasDecided, HasMovedUp, HasCollected};
 
 use crate::book::{Book, Check};
 use crate::script::Script;
@@ -96,6 +96,20 @@ impl Core {
         }
     }
 
+    /// Fails with `Stale` if the start of a live call is below low.
+    fn refuse_stale(&self, call: u32) -> Result<(), Refused>
+        requires { IsLiveCall self.now.course call }
+        ensures fresh { OnOk result (IsNotStale self.now call) }
+        ensures refused { IfErr result (λ why. HasRefused call why self.now self.now) }
+    {
+        let start = self.book.start(call);
+        let low = self.store.low();
+        if start < low {
+            return Err(Refused::Stale { start, low });
+        }
+        Ok(())
+    }
+
     /// Executes the next statement of a live call. It reads the tables at the call's start. The call's first run must
     /// have a statement left. Returns `Ended` exactly if it then has none. Fails with `Stale` exactly if the start is
     /// below low, and with `NoMemory` if memory runs out. On an error all is as before.
@@ -104,11 +118,7 @@ impl Core {
         requires left { HasStep self.old call }
         ensures { HasStepped call result self.old self.new }
     {
-        let start = self.book.start(call);
-        let low = self.store.low();
-        if start < low {
-            return Err(Refused::Stale { start, low });
-        }
+        self.refuse_stale(call)?;
         self.book.reserve(call)?;
         let Some(running) = &mut self.tasks[call as usize] else {
             unreachable!();
@@ -162,11 +172,7 @@ impl Core {
         requires allowed { IsAllowedIfFresh self.old (A call) }
         ensures { HasRepaired call result self.old self.new }
     {
-        let start = self.book.start(call);
-        let low = self.store.low();
-        if start < low {
-            return Err(Refused::Stale { start, low });
-        }
+        self.refuse_stale(call)?;
         let Some(running) = &mut self.tasks[call as usize] else {
             unreachable!();
         };
@@ -182,11 +188,7 @@ impl Core {
         requires allowed { IsAllowedIfFresh self.old (X call) }
         ensures { HasDecided call result self.old self.new }
     {
-        let start = self.book.start(call);
-        let low = self.store.low();
-        if start < low {
-            return Err(Refused::Stale { start, low });
-        }
+        self.refuse_stale(call)?;
         let Some(running) = &mut self.tasks[call as usize] else {
             unreachable!();
         };

@@ -1,14 +1,14 @@
-use Rattle.std.proofs.Common.{arith, rules, length, refl, subst}
+use Rattle.std.proofs.Common.{rules, length, refl, sym, subst}
 use Rattle.std.specs.Prelude.{◌≢◌}
 use Rattle.mv_journal.specs.declared.event.Event.TheVariants.{A}
 use Rattle.mv_journal.specs.declared.outcome.Mark.TheVariants.{Plain, Exclusive}
 use Rattle.mv_lawful.specs.Lawful.{has_round}
-use Rattle.mv_core.specs.Books.{Booked, work_in, Made}
+use Rattle.mv_core.specs.Books.{Booked, work_in, Made, IsNotStale}
 use Rattle.mv_core.specs.Cores.{HasTurns}
 use Rattle.mv_core.proofs.Stored.{stored_same, stored_made}
 use Rattle.mv_core.proofs.Taking.{task_there, task_again, tasks_set, tasks_same, restarted_on, running_in}
 use Rattle.mv_core.proofs.Refusing.{repairs_again}
-use Rattle.mv_core.proofs.Changed.{live_in, fresh_now, fresh_now_allowed}
+use Rattle.mv_core.proofs.Changed.{live_in, fresh_now_allowed}
 use Rattle.mv_core.proofs.engine.Core.again.Goals as goal
 
 apart : Plain ≢ Exclusive
@@ -22,12 +22,15 @@ pub rerun_task-requires-clause-call : goal.rerun_task-requires-clause-call
 rerun_task-requires-clause-call c =
     running_in c.self.inside.book c.self.inside.store c.self.inside.tasks.items c.args.call c.index_mut.result.now c.in-Some.running c.self.invariant (live_in c.self.inside.book c.args.self.now c.args.call c.self.view_is c.requires.live) c.index_mut.ensures.value c.in-Some.is
 
+pub rerun_task-requires-clause-fresh : goal.rerun_task-requires-clause-fresh
+rerun_task-requires-clause-fresh c = subst (λ (b : Booked). IsNotStale b c.args.call) (sym c.self.view_is) c.in_ok-refuse_stale.ensures.fresh
+
 pub rerun_task-requires-clause-allowed : goal.rerun_task-requires-clause-allowed
 rerun_task-requires-clause-allowed c =
     let live = live_in c.self.inside.book c.args.self.now c.args.call c.self.view_is c.requires.live in
     fresh_now_allowed c.self.inside.book c.args.self.now c.args.call live.0 (A c.args.call) (has_round (work_in c.self.inside.book) live.0) c.self.view_is
     (repairs_again (work_in c.self.inside.book) c.self.inside.book.course c.args.call live.0 live.1) c.requires.allowed
-    (fresh_now c.self.inside.book c.self.inside.store c.args.call c.start-start.result c.low-low.result c.self.invariant.stored c.start-start.ensures.value c.low-low.ensures (λ lt. let le = c.if-start-low.false in omega (arith, lt, le)) live.0 live.1)
+    (subst (λ (b : Booked). IsNotStale b c.args.call) (sym c.self.view_is) c.in_ok-refuse_stale.ensures.fresh live.0 live.1)
 
 pub invariant_of-self : goal.invariant_of-self
 invariant_of-self c = record {

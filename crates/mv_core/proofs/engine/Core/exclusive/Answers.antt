@@ -1,11 +1,11 @@
-use Rattle.std.proofs.Common.{arith, rules, ◌<◌, length}
+use Rattle.std.proofs.Common.{rules, ◌<◌, length, sym, subst}
 use Rattle.mv_journal.specs.declared.event.Event.TheVariants.{X}
 use Rattle.std.specs.Prelude.{not}
 use Rattle.mv_lawful.specs.Lawful.{has_round}
-use Rattle.mv_core.specs.Books.{work_in}
+use Rattle.mv_core.specs.Books.{Booked, work_in, IsNotStale}
 use Rattle.mv_core.proofs.Taking.{task_there, task_within, tasks_set, tasks_same, decided_on, running_in}
 use Rattle.mv_core.proofs.Refusing.{repairs_last}
-use Rattle.mv_core.proofs.Changed.{live_in, fresh_now, fresh_now_allowed}
+use Rattle.mv_core.proofs.Changed.{live_in, fresh_now_allowed}
 use Rattle.mv_core.proofs.engine.Core.exclusive.Goals as goal
 
 pub unreachable-requires : goal.unreachable-requires
@@ -16,12 +16,15 @@ pub decide_task-requires-clause-call : goal.decide_task-requires-clause-call
 decide_task-requires-clause-call c =
     running_in c.self.inside.book c.self.inside.store c.self.inside.tasks.items c.args.call c.index_mut.result.now c.in-Some.running c.self.invariant (live_in c.self.inside.book c.args.self.now c.args.call c.self.view_is c.requires.live) c.index_mut.ensures.value c.in-Some.is
 
+pub decide_task-requires-clause-fresh : goal.decide_task-requires-clause-fresh
+decide_task-requires-clause-fresh c = subst (λ (b : Booked). IsNotStale b c.args.call) (sym c.self.view_is) c.in_ok-refuse_stale.ensures.fresh
+
 pub decide_task-requires-clause-allowed : goal.decide_task-requires-clause-allowed
 decide_task-requires-clause-allowed c =
     let live = live_in c.self.inside.book c.args.self.now c.args.call c.self.view_is c.requires.live in
     fresh_now_allowed c.self.inside.book c.args.self.now c.args.call live.0 (X c.args.call) (not (has_round (work_in c.self.inside.book) live.0)) c.self.view_is
     (repairs_last (work_in c.self.inside.book) c.self.inside.book.course c.args.call live.0 live.1) c.requires.allowed
-    (fresh_now c.self.inside.book c.self.inside.store c.args.call c.start-start.result c.low-low.result c.self.invariant.stored c.start-start.ensures.value c.low-low.ensures (λ lt. let le = c.if-start-low.false in omega (arith, lt, le)) live.0 live.1)
+    (subst (λ (b : Booked). IsNotStale b c.args.call) (sym c.self.view_is) c.in_ok-refuse_stale.ensures.fresh live.0 live.1)
 
 pub invariant_of-self : goal.invariant_of-self
 invariant_of-self c = record {

@@ -1,9 +1,10 @@
-use Rattle.std.proofs.Common.{arith, ◌≡◌, ◌+◌, sym, ap, ◌∙◌, refl}
+use Rattle.std.proofs.Common.{arith, ◌≡◌, ◌+◌, false, sym, ap, subst, ◌∙◌, refl}
 use Rattle.std.specs.Prelude.{not}
 use Rattle.mv_journal.specs.declared.event.Event.TheVariants.{S}
-use Rattle.mv_lawful.specs.Lawful.{used}
+use Rattle.mv_lawful.specs.Lawful.{Live, Course, used, is_stale}
 use Rattle.mv_exec.specs.Running.{stepped}
-use Rattle.mv_core.specs.Books.{work_in}
+use Rattle.mv_core.specs.Calls.{IsLive}
+use Rattle.mv_core.specs.Books.{Booked, work_in}
 use Rattle.mv_core.proofs.Stored.{stored_made}
 use Rattle.mv_core.proofs.Taking.{task_there, call_within, stepped_on, running_in, core_set}
 use Rattle.mv_core.proofs.Changed.{core_same, live_now, step_now, step_used, live_stepped, step_told, made_now}
@@ -20,6 +21,10 @@ step_task-requires-clause-call c =
     let k = core_same c.self.inside.book c.reserve.new.self c.self.inside.store c.self.inside.tasks.items c.self.invariant c.reserve.ensures.same in
     running_in c.reserve.new.self c.self.inside.store c.self.inside.tasks.items c.args.call c.index_mut.result.now c.in-Some.running k
     (live_now c.self.inside.book c.args.self.now c.reserve.new.self c.args.call c.self.view_is c.requires.live c.reserve.ensures.same) c.index_mut.ensures.value c.in-Some.is
+
+pub step_task-requires-clause-fresh : goal.step_task-requires-clause-fresh
+step_task-requires-clause-fresh c =
+    subst (λ (s : Course). (l : Live) → IsLive s c.args.call l → is_stale s l ≡ false) (sym (c.reserve.ensures.same.course ∙ ap (λ (b : Booked). b.course) c.self.view_is)) c.in_ok-refuse_stale.ensures.fresh
 
 pub invariant_of-self-in_err-step_task : goal.invariant_of-self-in_err-step_task
 invariant_of-self-in_err-step_task c =
