@@ -163,13 +163,16 @@ due_first b c running taken are l live first =
 -- What was counted
 
 pub counts_same : (old new : Task) → IsUnchanged old new → CountsAll old new
-counts_same old new same = let long = ap length same.records in record { executed = λ all. same.executed ∙ (all ∙ sym long); more = omega (arith, long) }
+counts_same old new same =
+    let long = ap length same.records in
+    let executed = same.executed in
+    record { executed = omega (arith, long, executed); more = omega (arith, long) }
 
 pub counts_one : (old new : Task) → HasRunOne old new → CountsAll old new
 counts_one old new one =
     let records = one.records in
     let executed = one.executed in
-    record { executed = λ all. omega (arith, records, executed, all); more = omega (arith, records) }
+    record { executed = omega (arith, records, executed); more = omega (arith, records) }
 
 -- The task of a live call
 
@@ -179,7 +182,7 @@ pub task_kept : (s : Script) (order : List ℕ) (c : ℕ) (l : Live) (old : Runn
 task_kept s order c l old task t runs all = record {
   runs = runs;
   counted = t.counted;
-  executed = λ first. all.executed (t.executed first);
+  executed = λ first. let counts = all.executed in let was = t.executed first in omega (arith, counts, was);
   steps = λ none first. let le = t.steps none first in let more = all.more in omega (arith, le, more);
   turns = t.turns;
 }

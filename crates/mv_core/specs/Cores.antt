@@ -73,9 +73,9 @@ pub record HasRunOne (old new : Task) : Type 0 where
   pub records : length new.records ≡ length old.records + 1
   pub executed : new.executed ≡ old.executed + 1
 
--- a task that executed all its records did so with those that were added
+-- records were added, and each of them was executed
 pub record CountsAll (old new : Task) : Type 0 where
-  pub executed : old.executed ≡ length old.records → new.executed ≡ length new.records
+  pub executed : new.executed + length old.records ≡ old.executed + length new.records
   pub more : length old.records ≤ length new.records
 
 -- the start of the last round

@@ -121,8 +121,8 @@ pub fn step_task(
     Ok(())
 }
 
-/// Runs the rest of a live call at its start, which may not be below low. Fails with `NoMemory` if memory runs out, and
-/// then the task is still that of the call.
+/// Runs the rest of a live call at its start, which may not be below low, and executes nothing else. Fails with
+/// `NoMemory` if memory runs out, and then the task is still that of the call.
 pub fn finish_task(
     alloc: Global,
     book: &Book,
@@ -135,6 +135,7 @@ pub fn finish_task(
     ensures ok { OnOk result (AreRecordsOf book.now call running.new.task.records) }
     ensures ended { OnOk result (running.new.task.ended ≡ true) }
     ensures task { IsTaskIn book.now call running.new }
+    ensures ran { HasRunOn running.old running.new }
 {
     let mut view = StoreView::new(store, book.start(call));
     run_all(alloc, book.script(), call, &mut running.task, &mut view)

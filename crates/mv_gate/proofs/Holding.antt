@@ -48,7 +48,7 @@ counted_here w seen order c start from count l p le same h is e =
 
 -- a whole run that went on executed all its records
 runs_on : (w : Work) (seen : List ℕ) (c start : ℕ) (from : Option ℕ) (old new : Running) → from ≡ None → IsExecuted w seen c from start old → HasRunOn old new → IsExecuted w seen c from start new
-runs_on w seen c start None old new none e ran = (ran.count ∙ e.0, ran.task.executed e.1)
+runs_on w seen c start None old new none e ran = (ran.count ∙ e.0, (let counts = ran.task.executed in let all = e.1 in omega (arith, counts, all)))
 runs_on w seen c start (Some from) old new none e ran = absurd (search (rules, none))
 
 -- the task that a holder has of a call that is known is the call's

@@ -1,6 +1,6 @@
 use Rattle.mv_core.proofs.Stored.{Shows, shows_start, database_shown}
 use Rattle.mv_core.proofs.Taking.{runs_shown, runs_back, task_kept, one_live}
-use Rattle.std.proofs.Common.{subst}
+use Rattle.std.proofs.Common.{refl, subst}
 use Rattle.mv_lawful.specs.Lawful.{Live}
 use Rattle.mv_core.specs.Cores.{IsLiveTask}
 use Rattle.mv_core.proofs.tasks.finish_task.Goals as goal
@@ -24,3 +24,6 @@ returns-clause-task c l live =
     subst (λ (x : Live). IsLiveTask c.args.book.now.script c.args.book.now.course.order c.args.call x (record { task = c.run_all.new.task; count = c.args.running.now.count })) (one_live c.args.book.now.course c.args.call c.requires.call.live.0 l c.requires.call.live.1 live)
     (task_kept c.args.book.now.script c.args.book.now.course.order c.args.call c.requires.call.live.0 c.args.running.now c.run_all.new.task t
     (runs_back c.args.book.now c.args.call c.requires.call.live.0.start c.script.result.now c.new-view.result c.run_all.new.task c.script.ensures (after c) c.run_all.ensures.runs) c.run_all.ensures.counts)
+
+pub returns-clause-ran : goal.returns-clause-ran
+returns-clause-ran c = record { count = refl; task = c.run_all.ensures.counts }

@@ -71,7 +71,7 @@ pub returns-in_ok-run_next-clause-ran : goal.returns-in_ok-run_next-clause-ran
 returns-in_ok-run_next-clause-ran c = record { count = refl; task = counts_one c.args.running.now.task c.run_next.new.task (one_more c) }
 
 pub returns-else-records-steps-clause-ran : goal.returns-else-records-steps-clause-ran
-returns-else-records-steps-clause-ran c = record { count = refl; task = record { executed = λ all. all; more = omega arith } }
+returns-else-records-steps-clause-ran c = record { count = refl; task = record { executed = refl; more = omega arith } }
 
 pub returns-in_ok-run_next-clause-one : goal.returns-in_ok-run_next-clause-one
 returns-in_ok-run_next-clause-one c l live all = one_more c

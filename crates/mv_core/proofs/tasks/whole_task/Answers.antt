@@ -1,4 +1,4 @@
-use Rattle.std.proofs.Common.{length, sym, ap, subst, ◌∙◌}
+use Rattle.std.proofs.Common.{arith, length, sym, ap, subst, ◌∙◌}
 use Rattle.mv_core.specs.declared.script.Script.{Script}
 use Rattle.mv_core.specs.Cores.{RunsOn}
 use Rattle.mv_core.proofs.Stored.{Shows, shows, database_shown}
@@ -22,4 +22,8 @@ pub returns-clause-runs : goal.returns-clause-runs
 returns-clause-runs c = runs_back c.args.book.now c.args.call c.args.start c.script-2.result.now c.new-view.result c.run_all.new.task c.script-2.ensures (after c) c.in_ok-run_all.ensures.runs
 
 pub returns-clause-executed : goal.returns-clause-executed
-returns-clause-executed c = c.in_ok-run_all.ensures.counts.executed (c.in_ok-task.ensures.executed ∙ sym (ap length c.in_ok-task.ensures.records))
+returns-clause-executed c =
+    let fresh = c.in_ok-task.ensures.executed in
+    let none = ap length c.in_ok-task.ensures.records in
+    let counts = c.in_ok-run_all.ensures.counts.executed in
+    omega (arith, fresh, none, counts)
