@@ -306,11 +306,12 @@ impl Book {
         self.journal.reserve(1)
     }
 
-    /// Makes room for two events and for two rounds of a call.
+    /// Makes room for two events and for two rounds of a call. No room is lost, even if memory runs out.
     pub fn reserve(&mut self, call: u32) -> Result<(), NoMemory>
         requires live { IsLiveCall self.old.course call }
         ensures same { IsSame self.old self.new }
         ensures room { OnOk result (HasRoom self.new call 2) }
+        ensures kept { KeepsRoom self.old self.new }
     {
         self.recent.reserve(2)?;
         self.order.reserve(2)?;

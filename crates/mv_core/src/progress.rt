@@ -48,6 +48,7 @@ impl Progress {
         ensures rounds { self.new.rounds.items ≡ self.old.rounds.items }
         ensures reply { self.new.reply ≡ self.old.reply }
         ensures room { OnOk result (2 ≤ self.new.rounds.room) }
+        ensures kept { self.old.rounds.room ≤ self.new.rounds.room }
     {
         self.rounds.reserve(2)
     }

@@ -1,10 +1,10 @@
-use Rattle.std.proofs.Common.{arith, ◌≡◌, map, slice_set, List, ℕ, is_some, ap, sym, ◌∙◌}
+use Rattle.std.proofs.Common.{arith, ◌≡◌, map, slice_set, List, ℕ, is_some, refl, ap, sym, ◌∙◌}
 use Rattle.std.proofs.lemmas.Result.{on_ok_weaker}
 use Rattle.mv_lawful.specs.Lawful.{Live}
 use Rattle.mv_core.specs.Calls.{live_of, last_number}
 use Rattle.mv_core.specs.Scripts.{work_of}
 use Rattle.mv_core.specs.Books.{Booked}
-use Rattle.mv_core.proofs.Keeping.{live_stays, the_course, here_at, kept_same_told, same_calls, still_settled, room_set}
+use Rattle.mv_core.proofs.Keeping.{live_stays, the_course, here_at, kept_same_told, same_calls, still_settled, room_set, room_left, room_same}
 use Rattle.mv_core.proofs.Recents.{recent_same, recent_set}
 use Rattle.mv_core.proofs.book.Book.reserve.Goals as goal
 
@@ -40,3 +40,19 @@ returns-clause-room c = on_ok_weaker c.reserve-4.result (λ enough.
     let a = c.in_ok-reserve-2.ensures.room in
     let b = c.in_ok-reserve-3.ensures.room in
     (omega (arith, r, a, b), λ f there. room_set c.self.inside.calls.items c.args.call 2 c.index_mut.result.now c.reserve-4.new.self (here_at c.self.inside c.args.self.now c.args.call c.index_mut.result.now c.self.view_is c.requires.live c.index_mut.ensures.value).2.at enough f there)) c.reserve-4.ensures.room
+
+pub returns-in_err-reserve-clause-kept : goal.returns-in_err-reserve-clause-kept
+returns-in_err-reserve-clause-kept c x n has = room_same _ c.args.self.now _ x n n c.self.view_is (omega arith) (let r = c.reserve.ensures.room in omega (arith, r)) has
+
+pub returns-in_err-reserve-2-clause-kept : goal.returns-in_err-reserve-2-clause-kept
+returns-in_err-reserve-2-clause-kept c x n has =
+    room_same _ c.args.self.now _ x n n c.self.view_is (omega arith) (let r = c.reserve.ensures.room in let o = c.reserve-2.ensures.kept in omega (arith, r, o)) has
+
+pub returns-in_err-reserve-3-clause-kept : goal.returns-in_err-reserve-3-clause-kept
+returns-in_err-reserve-3-clause-kept c x n has =
+    room_same _ c.args.self.now _ x n n c.self.view_is (omega arith) (let r = c.reserve.ensures.room in let o = c.reserve-2.ensures.kept in let j = c.reserve-3.ensures.kept in omega (arith, r, o, j)) has
+
+pub returns-clause-kept : goal.returns-clause-kept
+returns-clause-kept c x n has =
+    room_left _ c.args.self.now _ c.self.inside.calls.items c.args.call x n n c.index_mut.result.now c.reserve-4.new.self c.self.view_is refl (here_at c.self.inside c.args.self.now c.args.call c.index_mut.result.now c.self.view_is c.requires.live c.index_mut.ensures.value).2.at
+    (omega arith) (let r = c.reserve.ensures.room in let o = c.reserve-2.ensures.kept in let j = c.reserve-3.ensures.kept in omega (arith, r, o, j)) (let r = c.reserve-4.ensures.kept in omega (arith, r)) has
