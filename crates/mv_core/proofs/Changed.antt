@@ -49,16 +49,14 @@ use Rattle.mv_store.specs.Stored.{Versioned}
 pub core_same : (old new : Booked) (store : Versioned) (ts : List (Option Running)) → IsCore old store ts → IsSame old new → IsCore new store ts
 core_same old new store ts k same = record { stored = stored_same old new store k.stored same; tasks = tasks_same old.script new.script old.course new.course ts k.tasks same.script same.course }
 
-pub made_from : (e : Event) (old mid new : Booked) → mid.script ≡ old.script → mid.course ≡ old.course → mid.journal ≡ old.journal → Made e mid new → Made e old new
-made_from e old mid new script course journal m = record {
-  allowed = subst (λ (s : Script). refusal (work_of s) old.course e ≡ None) script (subst (λ (s : Course). refusal (work_in mid) s e ≡ None) course m.allowed);
-  course = m.course ∙ (ap (λ s. after (work_in mid) s e) course ∙ ap (λ (s : Script). after (work_of s) old.course e) script);
-  journal = m.journal ∙ ap (λ j. j ++ e ∷ []) journal;
-  script = m.script ∙ script;
-}
-
 pub made_after : (e : Event) (old mid new : Booked) → IsSame old mid → Made e mid new → Made e old new
-made_after e old mid new same m = made_from e old mid new same.script same.course same.journal m
+made_after e old mid new same m = record {
+  allowed = subst (λ (s : Script). refusal (work_of s) old.course e ≡ None) same.script (subst (λ (s : Course). refusal (work_in mid) s e ≡ None) same.course m.allowed);
+  course = m.course ∙ (ap (λ s. after (work_in mid) s e) same.course ∙ ap (λ (s : Script). after (work_of s) old.course e) same.script);
+  settled = λ c live has. m.settled c (subst (λ (s : Course). IsLiveCall s c) (sym same.course) live) (same.settled c has);
+  journal = m.journal ∙ ap (λ j. j ++ e ∷ []) same.journal;
+  script = m.script ∙ same.script;
+}
 
 -- no event, twice
 pub same_both : (old mid new : Booked) → IsSame old mid → IsSame mid new → IsSame old new

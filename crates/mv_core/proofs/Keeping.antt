@@ -241,10 +241,11 @@ start_past i c p k at = let f = facts i.script _ i.calls.items i.journal.items k
 -- Contracts of events
 
 pub made_on : (e : Event) (view old new : Booked) → view ≡ old → refusal (work_in old) old.course e ≡ None → new.course ≡ after (work_in view) view.course e
-    → new.journal ≡ view.journal ++ e ∷ [] → new.script ≡ view.script → Made e old new
-made_on e view old new is free course journal script = record {
+    → ((d : ℕ) → IsLiveCall old.course d → IsSettled old d → IsSettled new d) → new.journal ≡ view.journal ++ e ∷ [] → new.script ≡ view.script → Made e old new
+made_on e view old new is free course settled journal script = record {
   allowed = free;
   course = course ∙ ap (λ (b : Booked). after (work_in b) b.course e) is;
+  settled = settled;
   journal = journal ∙ ap (λ (b : Booked). b.journal ++ e ∷ []) is;
   script = script ∙ ap (λ (b : Booked). b.script) is;
 }
@@ -286,6 +287,45 @@ room_left view old room ps c x n m p q is rounds at less all one has =
     let a : m ≤ view.room = here.0 in
     (omega (arith, a, all), λ f there. rooms_left ps c x n m p q at one (λ g is'. here.1 g (ap (λ fs. slice_get fs x) rounds ∙ is')) less f there)
 
+-- Numbers that are known
+
+in_room : (ps : List Progress) (c : ℕ) (p : Progress) → slice_get ps c ≡ Some p → slice_get (room_for ps) c ≡ Some p.rounds
+in_room ps c p at = slice_get-map (λ (y : Progress). y.rounds) ps c ∙ ap (option_map (λ (y : Progress). y.rounds)) at
+
+pub settled_here : (i : Inside) (old : Booked) (c : ℕ) (p : Progress) → the_view i ≡ old → slice_get i.calls.items c ≡ Some p → IsSettled old c → IsSome (last_number p.rounds.items)
+settled_here i old c p is at has =
+    let here : IsSettled (the_view i) c = subst (λ (b : Booked). IsSettled b c) (sym is) has in
+    here p.rounds.items (ap (option_map kept_rounds) (in_room i.calls.items c p at))
+
+-- the rounds that are kept of a call
+kept_at : (ps : List Progress) (d : ℕ) (rs : List Round) → option_map kept_rounds (slice_get (room_for ps) d) ≡ Some rs → (p : Progress) × (slice_get ps d ≡ Some p) × (p.rounds.items ≡ rs)
+kept_at ps d rs told =
+    let f = map_get kept_rounds (room_for ps) d rs (slice_get-map kept_rounds (room_for ps) d ∙ told) in
+    let p = map_get (λ (x : Progress). x.rounds) ps d f.0 f.1 in
+    (p.0, p.1, ap kept_rounds p.2 ∙ f.2)
+
+-- no number is lost where a call is changed whose own one isn't
+pub still_settled : (i : Inside) (old : Booked) (c d : ℕ) (p q : Progress) → the_view i ≡ old → slice_get i.calls.items c ≡ Some p → (IsSome (last_number p.rounds.items) → IsSome (last_number q.rounds.items)) → IsSettled old d
+    → (rs : List Round) → option_map kept_rounds (slice_get (room_for (slice_set i.calls.items c q)) d) ≡ Some rs → IsSome (last_number rs)
+still_settled i old c d p q is at keeps has rs told = by (get_set i.calls.items c d q y.0 y.1) where
+  y : (x : Progress) × (slice_get (slice_set i.calls.items c q) d ≡ Some x) × (x.rounds.items ≡ rs)
+  y = kept_at (slice_set i.calls.items c q) d rs told
+
+  by : ((d ≡ c) × (q ≡ y.0)) ⊎ ((d ≡ c → ⊥) × (slice_get i.calls.items d ≡ Some y.0)) → IsSome (last_number rs)
+  by (inl e) = subst (λ (r : List Round). IsSome (last_number r)) (ap (λ (x : Progress). x.rounds.items) e.1 ∙ y.2) (keeps (settled_here i old c p is at (subst (IsSettled old) e.0 has)))
+  by (inr e) = subst (λ (r : List Round). IsSome (last_number r)) y.2 (settled_here i old d y.0 is e.1 has)
+
+-- nor where a call begins
+begun_settled : (i : Inside) (old : Booked) (d : ℕ) (q : Progress) → the_view i ≡ old → IsLiveCall old.course d → IsSettled old d
+    → (rs : List Round) → option_map kept_rounds (slice_get (room_for (i.calls.items ++ q ∷ [])) d) ≡ Some rs → IsSome (last_number rs)
+begun_settled i old d q is live has rs told = by (get_last i.calls.items q d y.0 y.1) where
+  y : (x : Progress) × (slice_get (i.calls.items ++ q ∷ []) d ≡ Some x) × (x.rounds.items ≡ rs)
+  y = kept_at (i.calls.items ++ q ∷ []) d rs told
+
+  by : (slice_get i.calls.items d ≡ Some y.0) ⊎ ((d ≡ length i.calls.items) × (q ≡ y.0)) → IsSome (last_number rs)
+  by (inl at) = subst (λ (r : List Round). IsSome (last_number r)) y.2 (settled_here i old d y.0 is at has)
+  by (inr e) = let lt : d < length i.calls.items = within i old d is live in let at : d ≡ length i.calls.items = e.0 in absurd (omega (arith, lt, at))
+
 -- every call has begun
 pub all_begun : (i : Inside) (old : Booked) → the_view i ≡ old → IsInside i → length i.script.calls ≤ length i.calls.items → (length old.course.calls ≡ length old.script.calls) × IsSame old old
 all_begun i old is k le =
@@ -310,11 +350,12 @@ begun_none Q i old new ps (Err e) is same script course rounds journal h = recor
 
 -- the next call has begun
 pub begun_made : (i : Inside) (old new : Booked) (n : ℕ) (ps : List Progress) (q : Progress) → the_view i ≡ old → IsInside i → length i.calls.items < length i.script.calls → n ≡ length i.calls.items
-    → IsFresh (length i.order.items) q → ps ≡ i.calls.items ++ q ∷ [] → new.script ≡ i.script → new.course ≡ the_course i.order.items i.low (map live_of ps) → new.journal ≡ i.journal.items ++ B n ∷ []
+    → IsFresh (length i.order.items) q → ps ≡ i.calls.items ++ q ∷ [] → new.script ≡ i.script → new.course ≡ the_course i.order.items i.low (map live_of ps) → new.rounds ≡ room_for ps → new.journal ≡ i.journal.items ++ B n ∷ []
     → Made (B n) old new
-begun_made i old new n ps q is k lt number fresh more script course journal =
+begun_made i old new n ps q is k lt number fresh more script course rounds journal =
     made_on (B n) (the_view i) old new is (subst (λ (b : Booked). refusal (work_in b) b.course (B n) ≡ None) is free)
-    (course ∙ ap (the_course i.order.items i.low) (ap (map live_of) more ∙ (map-append live_of i.calls.items (q ∷ []) ∙ ap (λ l. map live_of i.calls.items ++ l ∷ []) fresh.live))) journal script where
+    (course ∙ ap (the_course i.order.items i.low) (ap (map live_of) more ∙ (map-append live_of i.calls.items (q ∷ []) ∙ ap (λ l. map live_of i.calls.items ++ l ∷ []) fresh.live)))
+    (λ d live has rs told. begun_settled i old d q is live has rs (ap (λ (fs : List (Filled Round)). option_map kept_rounds (slice_get fs d)) (sym (rounds ∙ ap room_for more)) ∙ told)) journal script where
       free : refusal (work_of i.script) (the_course i.order.items i.low (map live_of i.calls.items)) (B n) ≡ None
       free = (kept_begun i.script i.order.items i.low n i.calls.items i.journal.items new.journal q k lt number fresh journal).0
 
@@ -438,9 +479,15 @@ set_known ps c n p q at last rs is = subst IsSome (sym (ap last_number (sym one)
   one = search (rules, same)
 
 -- and after a repair or a move
+counted_last : (m : Mark) (start n : ℕ) (p q : Progress) → q.rounds.items ≡ closed m p.rounds.items ++ counted start m n ∷ [] → last_number q.rounds.items ≡ Some n
+counted_last m start n p q rounds = ap last_number rounds ∙ last_of_end (closed m p.rounds.items) (counted start m n)
+
+pub counted_known : (m : Mark) (start n : ℕ) (p q : Progress) → q.rounds.items ≡ closed m p.rounds.items ++ counted start m n ∷ [] → IsSome (last_number q.rounds.items)
+counted_known m start n p q rounds = ap is_some (counted_last m start n p q rounds)
+
 pub number_counted : (m : Mark) (ps : List Progress) (c start n : ℕ) (p q : Progress) → slice_get ps c ≡ Some p → q.rounds.items ≡ closed m p.rounds.items ++ counted start m n ∷ []
     → (rs : List Round) → option_map kept_rounds (slice_get (room_for (slice_set ps c q)) c) ≡ Some rs → IsSome (last_number rs)
-number_counted m ps c start n p q at rounds = set_known ps c n p q at (ap last_number rounds ∙ last_of_end (closed m p.rounds.items) (counted start m n))
+number_counted m ps c start n p q at rounds = set_known ps c n p q at (counted_last m start n p q rounds)
 
 -- A commit
 
@@ -451,12 +498,18 @@ commit_after w order low ls (Some k) c = refl
 
 pub made_committed : (own : Option ℕ) (c : ℕ) (i : Inside) (old new : Booked) (orders : List ℕ) (p q : Progress) → the_view i ≡ old → refusal (work_in old) old.course (commit_event own c) ≡ None
     → slice_get i.calls.items c ≡ Some p → live_of q ≡ committed (length i.order.items) own (live_of p) → orders ≡ i.order.items ++ c ∷ []
-    → new.course ≡ the_course orders i.low (map live_of (slice_set i.calls.items c q)) → new.journal ≡ i.journal.items ++ commit_event own c ∷ [] → new.script ≡ i.script → Made (commit_event own c) old new
-made_committed own c i old new orders p q is free at live more course journal script =
+    → new.course ≡ the_course orders i.low (map live_of (slice_set i.calls.items c q)) → ((d : ℕ) → IsLiveCall old.course d → IsSettled old d → IsSettled new d)
+    → new.journal ≡ i.journal.items ++ commit_event own c ∷ [] → new.script ≡ i.script → Made (commit_event own c) old new
+made_committed own c i old new orders p q is free at live more course settled journal script =
     made_on (commit_event own c) (the_view i) old new is free
     (course ∙ (ap (λ (o : List ℕ). the_course o i.low (map live_of (slice_set i.calls.items c q))) more
     ∙ (ap (λ (ls : List Live). the_course (i.order.items ++ c ∷ []) i.low ls) (map_changed (committed (length i.order.items) own) i.calls.items c p q at live)
-    ∙ sym (commit_after (work_of i.script) i.order.items i.low (map live_of i.calls.items) own c)))) journal script
+    ∙ sym (commit_after (work_of i.script) i.order.items i.low (map live_of i.calls.items) own c)))) settled journal script
+
+-- its number is known, with a round of its own or without
+pub own_known : (n : ℕ) (own : Option ℕ) (rs : List Round) → IsSome (last_number rs) → IsSome (last_number (with_own n own rs))
+own_known n None rs has = has
+own_known n (Some k) rs has = ap is_some (last_of_end rs (counted n Exclusive k))
 
 -- the rounds of a call that commits are Runs'
 pub rounds_committed : (s : Script) (order : List ℕ) (low c : ℕ) (ps : List Progress) (journal : List Event) (own : Option ℕ) (p : Progress)
@@ -516,18 +569,10 @@ room_set ps c n p q at enough f there =
 
 -- What is said of the view, inside
 
-in_room : (ps : List Progress) (c : ℕ) (p : Progress) → slice_get ps c ≡ Some p → slice_get (room_for ps) c ≡ Some p.rounds
-in_room ps c p at = slice_get-map (λ (y : Progress). y.rounds) ps c ∙ ap (option_map (λ (y : Progress). y.rounds)) at
-
 pub room_here : (i : Inside) (old : Booked) (c n : ℕ) (p : Progress) → the_view i ≡ old → slice_get i.calls.items c ≡ Some p → HasRoom old c n → n ≤ p.rounds.room
 room_here i old c n p is at has =
     let here : HasRoom (the_view i) c n = subst (λ (b : Booked). HasRoom b c n) (sym is) has in
     here.1 p.rounds (in_room i.calls.items c p at)
-
-pub settled_here : (i : Inside) (old : Booked) (c : ℕ) (p : Progress) → the_view i ≡ old → slice_get i.calls.items c ≡ Some p → IsSettled old c → IsSome (last_number p.rounds.items)
-settled_here i old c p is at has =
-    let here : IsSettled (the_view i) c = subst (λ (b : Booked). IsSettled b c) (sym is) has in
-    here p.rounds.items (ap (option_map kept_rounds) (in_room i.calls.items c p at))
 
 -- a call whose last round has its number
 pub settled_told : (i : Inside) (old : Booked) (c : ℕ) (p : Progress) → the_view i ≡ old → slice_get i.calls.items c ≡ Some p → IsSome (last_number p.rounds.items) → IsSettled old c
@@ -535,23 +580,6 @@ settled_told i old c p is at has = subst (λ (b : Booked). IsSettled b c) is (λ
     let both : Some p.rounds.items ≡ Some rs = sym (ap (option_map kept_rounds) (in_room i.calls.items c p at)) ∙ told in
     let one : p.rounds.items ≡ rs = search (rules, both) in
     subst (λ (r : List Round). IsSome (last_number r)) one has)
-
--- no number is lost where a call is changed whose own one isn't
-pub still_settled : (i : Inside) (old : Booked) (c d : ℕ) (p q : Progress) → the_view i ≡ old → slice_get i.calls.items c ≡ Some p → (IsSome (last_number p.rounds.items) → IsSome (last_number q.rounds.items)) → IsSettled old d
-    → (rs : List Round) → option_map kept_rounds (slice_get (room_for (slice_set i.calls.items c q)) d) ≡ Some rs → IsSome (last_number rs)
-still_settled i old c d p q is at keeps has rs told = by (get_set i.calls.items c d q y.0 y.1) where
-  f : (f : Filled Round) × (slice_get (room_for (slice_set i.calls.items c q)) d ≡ Some f) × (f.items ≡ rs)
-  f = map_get kept_rounds (room_for (slice_set i.calls.items c q)) d rs (slice_get-map kept_rounds (room_for (slice_set i.calls.items c q)) d ∙ told)
-
-  y : (x : Progress) × (slice_get (slice_set i.calls.items c q) d ≡ Some x) × (x.rounds ≡ f.0)
-  y = map_get (λ (x : Progress). x.rounds) (slice_set i.calls.items c q) d f.0 f.1
-
-  same : y.0.rounds.items ≡ rs
-  same = ap kept_rounds y.2 ∙ f.2
-
-  by : ((d ≡ c) × (q ≡ y.0)) ⊎ ((d ≡ c → ⊥) × (slice_get i.calls.items d ≡ Some y.0)) → IsSome (last_number rs)
-  by (inl e) = subst (λ (r : List Round). IsSome (last_number r)) (ap (λ (x : Progress). x.rounds.items) e.1 ∙ same) (keeps (settled_here i old c p is at (subst (IsSettled old) e.0 has)))
-  by (inr e) = subst (λ (r : List Round). IsSome (last_number r)) same (settled_here i old d y.0 is e.1 has)
 
 pub rounds_told : (i : Inside) (old : Booked) (c : ℕ) (p : Progress) → the_view i ≡ old → IsInside i → slice_get i.calls.items c ≡ Some p → p.reply ≡ None → HasRounds old c p.rounds.items
 rounds_told i old c p is k at silent = subst (λ (b : Booked). HasRounds b c p.rounds.items) is (record {

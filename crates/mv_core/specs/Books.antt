@@ -27,7 +27,7 @@ use Rattle.mv_core.specs.declared.book.Check.TheVariants.{Free, Hit, Stale}
 use Rattle.mv_core.specs.Rooms.{Filled}
 use Rattle.mv_core.specs.Scripts.{work_of}
 use Rattle.mv_core.specs.Lives.{live_numbers}
-use Rattle.mv_core.specs.Calls.{IsLive, AreRounds, TellsCall, turns_in, last_number, due_number}
+use Rattle.mv_core.specs.Calls.{IsLive, IsLiveCall, AreRounds, TellsCall, turns_in, last_number, due_number}
 
 -- A book
 
@@ -99,10 +99,11 @@ Remembers (c ∷ cs) number changes old new = (new.low ≡ old.low) × (new.comm
 
 -- Events
 
--- the event was allowed, and was made
+-- the event was allowed, and was made. No number of a live call's last round is lost
 pub record Made (e : Event) (old new : Booked) : Type 0 where
   pub allowed : refusal (work_in old) old.course e ≡ None
   pub course : new.course ≡ after (work_in old) old.course e
+  pub settled : (c : ℕ) → IsLiveCall old.course c → IsSettled old c → IsSettled new c
   pub journal : new.journal ≡ old.journal ++ e ∷ []
   pub script : new.script ≡ old.script
 

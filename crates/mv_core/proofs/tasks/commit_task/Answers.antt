@@ -1,9 +1,9 @@
-use Rattle.std.proofs.Common.{arith, ℕ, ap, ◌∙◌, Option}
+use Rattle.std.proofs.Common.{arith, ℕ, ◌+◌, length, ap, ◌∙◌, Option}
 use Rattle.std.specs.Option.{option_copied}
 use Rattle.mv_lawful.specs.Lawful.{Course}
-use Rattle.mv_core.specs.Books.{own_number}
+use Rattle.mv_core.specs.Books.{own_number, commit_event}
 use Rattle.mv_core.proofs.Stored.{stored_committed, last_records_on}
-use Rattle.mv_core.proofs.Changed.{own_same, room_less}
+use Rattle.mv_core.proofs.Changed.{own_same, room_less, made_after}
 use Rattle.mv_core.proofs.tasks.commit_task.Goals as goal
 
 pub prepare-requires-clause-whole : goal.prepare-requires-clause-whole
@@ -25,6 +25,12 @@ stamp-requires c =
     let last = c.in_ok-prepared.ensures.ok.last in
     let number = c.commit-commit.ensures.number in
     omega (arith, last, number)
+
+pub returns-clause-made : goal.returns-clause-made
+returns-clause-made c = (
+  made_after (commit_event (own_number (option_copied c.args.exclusive)) c.args.call) c.args.book.now c.reserve.new.self c.commit-commit.new.self c.reserve.ensures.same c.commit-commit.ensures.made,
+  c.commit-commit.ensures.number ∙ ap (λ (s : Course). length s.order + 1) c.reserve.ensures.same.course,
+)
 
 pub returns-clause-stored : goal.returns-clause-stored
 returns-clause-stored c =

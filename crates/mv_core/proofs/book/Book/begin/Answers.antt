@@ -60,6 +60,6 @@ invariant_of-self-2 c =
 
 pub returns : goal.returns
 returns c = (
-  begun_made c.self.inside c.args.self.now _ c.len-call.result c.push-2.new.self.items c.in_ok-progress.progress c.self.view_is c.self.invariant.kept (less c) (number c) (fresh c) (more c) refl refl (adds c),
+  begun_made c.self.inside c.args.self.now _ c.len-call.result c.push-2.new.self.items c.in_ok-progress.progress c.self.view_is c.self.invariant.kept (less c) (number c) (fresh c) (more c) refl refl refl (adds c),
   c.len-start.ensures ∙ ap (λ (b : Booked). length b.course.order) c.self.view_is,
 )

@@ -2,7 +2,7 @@ use Rattle.std.proofs.Common.{arith, ◌≡◌, ◌≤◌, ◌+◌, ◌∙◌, l
 use Rattle.mv_lawful.specs.Lawful.{next_low}
 use Rattle.mv_core.specs.Scripts.{work_of}
 use Rattle.mv_core.specs.Calls.{live_of}
-use Rattle.mv_core.specs.Books.{Booked, work_in}
+use Rattle.mv_core.specs.Books.{Booked, work_in, IsSettled}
 use Rattle.mv_journal.specs.declared.event.Event.TheVariants.{G}
 use Rattle.mv_core.proofs.Keeping.{made_on, the_course, room_same}
 use Rattle.mv_core.proofs.Lows.{kept_low, next_within, next_past}
@@ -45,7 +45,9 @@ invariant_of-self c = record {
 }
 
 pub returns-clause-made : goal.returns-clause-made
-returns-clause-made c = made_on G _ c.args.self.now _ c.self.view_is refl (ap (λ n. the_course c.self.inside.order.items n (map live_of c.self.inside.calls.items)) (low c)) c.put.ensures.items refl
+returns-clause-made c =
+    made_on G _ c.args.self.now _ c.self.view_is refl (ap (λ n. the_course c.self.inside.order.items n (map live_of c.self.inside.calls.items)) (low c))
+    (λ d live has. subst (λ (b : Booked). IsSettled b d) (sym c.self.view_is) has) c.put.ensures.items refl
 
 pub returns-clause-room : goal.returns-clause-room
 returns-clause-room c x n has = room_same _ c.args.self.now _ x n (n + 1) c.self.view_is (omega arith) (let r = c.put.ensures.room in let t = c.collect.ensures.room in omega (arith, r, t)) has

@@ -1,13 +1,14 @@
 use Rattle.std.proofs.Common.{arith, rules, ◌≡◌, ◌≤◌, ◌<◌, ◌^◌, ◌+◌, ◌++◌, ◌∷◌, [], List, map, slice_set, length, refl, ap, sym, subst, ◌∙◌}
+use Rattle.std.specs.Prelude.{IsSome}
 use Rattle.std.specs.Option.{option_copied}
 use Rattle.mv_journal.specs.declared.outcome.Round.{Round}
 use Rattle.mv_lawful.specs.Lawful.{Live}
 use Rattle.mv_lawful.specs.Rounds.{rounds_of}
 use Rattle.mv_core.specs.Lives.{live_numbers, without}
-use Rattle.mv_core.specs.Calls.{IsLive, live_of, turns_in, committed, with_own}
+use Rattle.mv_core.specs.Calls.{IsLive, live_of, turns_in, last_number, committed, with_own}
 use Rattle.mv_core.specs.Books.{Booked, last_run, last_changes, commit_event, own_number, IsAlone, IsOwnNumber}
 use Rattle.mv_core.specs.Scripts.{work_of}
-use Rattle.mv_core.proofs.Keeping.{live_leaves, the_course, here_at, IsProgressAt, few_inside, within, commit_live, number_fits, room_here, settled_here, rounds_committed, kept_commit, commit_after, made_committed, free_on, room_left}
+use Rattle.mv_core.proofs.Keeping.{live_leaves, the_course, here_at, IsProgressAt, few_inside, within, commit_live, number_fits, room_here, settled_here, rounds_committed, kept_commit, commit_after, made_committed, own_known, still_settled, free_on, room_left}
 use Rattle.mv_core.proofs.Lives.{without_only}
 use Rattle.mv_core.proofs.Recents.{recent_long, recent_remembered}
 use Rattle.mv_core.proofs.book.Book.commit.Goals as goal
@@ -83,9 +84,12 @@ returns-clause-made c =
     let own = c.own_number-own.ensures in
     let place = here_at c.self.inside c.args.self.now c.args.call c.index_mut.result.now c.self.view_is (commit_live c.args.self.now (own_number (option_copied c.args.exclusive)) c.args.call c.requires.allowed) c.index_mut.ensures.value in
     let changed : live_of c.commit.new.self ≡ committed (length c.self.inside.order.items) (own_number (option_copied c.args.exclusive)) (live_of c.index_mut.result.now) = search (rules, c.commit.ensures.live, c.len-start.ensures, own) in
+    let rounds : c.commit.new.self.rounds.items ≡ with_own (length c.self.inside.order.items) (own_number (option_copied c.args.exclusive)) c.index_mut.result.now.rounds.items = search (rules, c.commit.ensures.rounds, c.len-start.ensures, own) in
     let adds : c.put-2.new.self.items ≡ c.self.inside.journal.items ++ commit_event (own_number (option_copied c.args.exclusive)) c.args.call ∷ [] = search (rules, c.put-2.ensures.items, c.commit_event.ensures, own) in
     made_committed (own_number (option_copied c.args.exclusive)) c.args.call c.self.inside c.args.self.now _ _ c.index_mut.result.now c.commit.new.self c.self.view_is c.requires.allowed place.2.at changed c.put.ensures.items
-    c.trim.ensures.same.course (c.trim.ensures.same.journal ∙ adds) c.trim.ensures.same.script
+    c.trim.ensures.same.course
+    (λ d live has. c.trim.ensures.same.settled d (still_settled c.self.inside c.args.self.now c.args.call d c.index_mut.result.now c.commit.new.self c.self.view_is place.2.at (λ was. subst (λ (rs : List Round). IsSome (last_number rs)) (sym rounds) (own_known (length c.self.inside.order.items) (own_number (option_copied c.args.exclusive)) c.index_mut.result.now.rounds.items was)) has))
+    (c.trim.ensures.same.journal ∙ adds) c.trim.ensures.same.script
 
 pub returns-clause-room : goal.returns-clause-room
 returns-clause-room c x n has =

@@ -3,7 +3,7 @@ use Rattle.mv_lawful.specs.Lawful.{Live, again}
 use Rattle.mv_core.specs.Calls.{IsLive, live_of}
 use Rattle.mv_core.specs.Books.{Booked, round_event, due_after}
 use Rattle.mv_core.specs.Scripts.{work_of}
-use Rattle.mv_core.proofs.Keeping.{live_stays, the_course, here_at, IsProgressAt, few_inside, within, round_live, room_here, settled_here, kept_restart, number_counted, restarted, restart_after, map_changed, made_on, free_on, room_left, start_past}
+use Rattle.mv_core.proofs.Keeping.{live_stays, the_course, here_at, IsProgressAt, few_inside, within, round_live, room_here, settled_here, kept_restart, counted_known, number_counted, restarted, restart_after, map_changed, made_on, free_on, room_left, start_past, still_settled}
 use Rattle.mv_core.proofs.Recents.{recent_set}
 use Rattle.mv_core.proofs.book.Book.restart.Goals as goal
 
@@ -51,6 +51,8 @@ returns-clause-made c =
     made_on (round_event c.args.mark c.args.call) _ c.args.self.now _ c.self.view_is c.requires.allowed
     (ap (λ (ls : List Live). the_course c.self.inside.order.items c.self.inside.low ls) (map_changed (again (length c.self.inside.order.items) c.args.mark) c.self.inside.calls.items c.args.call c.index_mut.result.now c.restart.new.self (here c).2.at (live c))
     ∙ sym (restart_after (work_of c.self.inside.script) (the_course c.self.inside.order.items c.self.inside.low (map live_of c.self.inside.calls.items)) c.args.mark c.args.call c.requires.mark))
+    (λ d live has. still_settled c.self.inside c.args.self.now c.args.call d c.index_mut.result.now c.restart.new.self c.self.view_is (here c).2.at
+    (λ was. counted_known c.args.mark c.len-start.result c.executed-count.result c.index_mut.result.now c.restart.new.self c.restart.ensures.rounds) has)
     (search (rules, c.put.ensures.items, c.round_event.ensures)) refl
 
 pub returns-clause-room : goal.returns-clause-room

@@ -1,8 +1,8 @@
-use Rattle.std.proofs.Common.{rules, ◌<◌, length, sym, subst}
+use Rattle.std.proofs.Common.{rules, ◌<◌, ◌+◌, length, ap, sym, subst, ◌∙◌}
 use Rattle.mv_journal.specs.declared.event.Event.TheVariants.{X}
 use Rattle.std.specs.Prelude.{not}
 use Rattle.mv_lawful.specs.Lawful.{has_round}
-use Rattle.mv_core.specs.Books.{Booked, work_in, IsNotStale}
+use Rattle.mv_core.specs.Books.{Booked, work_in, Made, IsNotStale}
 use Rattle.mv_core.proofs.Taking.{task_there, task_within, tasks_set, tasks_same, decided_on, running_in}
 use Rattle.mv_core.proofs.Refusing.{repairs_last}
 use Rattle.mv_core.proofs.Changed.{live_in, fresh_now_allowed}
@@ -45,3 +45,6 @@ invariant_of-self-2 c =
       stored = c.decide_task.ensures.stored;
       tasks = decided_on c.self.inside.book c.decide_task.new.book c.self.inside.tasks.items c.args.call live.0 c.decide_task.new.running c.self.invariant.tasks live.1 c.in_ok-commit.ensures.made.0;
     }
+
+pub returns : goal.returns
+returns c = (subst (λ (b : Booked). Made (X c.args.call) b c.decide_task.new.book) c.self.view_is c.in_ok-commit.ensures.made.0, c.in_ok-commit.ensures.made.1 ∙ ap (λ (b : Booked). length b.course.order + 1) c.self.view_is)

@@ -5,7 +5,7 @@ use Rattle.mv_journal.specs.declared.outcome.Mark.TheVariants.{Plain}
 use Rattle.mv_lawful.specs.Lawful.{refusal}
 use Rattle.mv_core.specs.Books.{Booked, work_in, IsSame}
 use Rattle.mv_core.proofs.Stored.{stored_same}
-use Rattle.mv_core.proofs.Changed.{allowed_same, due_restarted, same_both, made_after, room_less}
+use Rattle.mv_core.proofs.Changed.{allowed_same, due_restarted, same_both, made_after, made_now, room_less}
 use Rattle.mv_gate.specs.Gates.{HaveTurns, IsWhole}
 use Rattle.mv_gate.proofs.Desks.{desk_again}
 use Rattle.mv_gate.proofs.Holding.{whole_same, running_of, first_whole}
@@ -58,6 +58,10 @@ invariant_of-self-2 g c =
     let same : IsSame c.self.inside.book c.reserve.new.self = same_both c.self.inside.book c.settle.new.self c.reserve.new.self c.settle.ensures.same c.reserve.ensures.same in
     desk_again g.N.Making.script c.self.inside.book c.restart.new.self c.self.inside.store c.self.inside.pass c.args.call c.self.invariant c.journal-events.ensures.allowed c.journal-events.ensures.reaches
     (made_after (A c.args.call) c.self.inside.book c.reserve.new.self c.restart.new.self same c.restart.ensures.made)
+
+pub returns-clause-ok : goal.returns-clause-ok
+returns-clause-ok g c =
+    made_now (A c.args.call) c.self.inside.book c.args.self.now c.reserve.new.self c.restart.new.self c.self.view_is (same_both c.self.inside.book c.settle.new.self c.reserve.new.self c.settle.ensures.same c.reserve.ensures.same) c.restart.ensures.made
 
 pub returns-clause-restarted : goal.returns-clause-restarted
 returns-clause-restarted g c =

@@ -1,8 +1,8 @@
 use Rattle.std.proofs.Common.{rules, refl, sym, subst, ◌∙◌}
 use Rattle.mv_journal.specs.declared.event.Event.TheVariants.{S}
-use Rattle.mv_core.specs.Books.{Booked, IsSame, IsNotStale}
+use Rattle.mv_core.specs.Books.{Booked, Made, IsSame, IsNotStale}
 use Rattle.mv_core.proofs.Stored.{stored_same, stored_made}
-use Rattle.mv_core.proofs.Changed.{same_self, step_now}
+use Rattle.mv_core.proofs.Changed.{same_self, made_after, step_now}
 use Rattle.mv_core.specs.Calls.{IsLiveCall}
 use Rattle.mv_core.specs.Cores.{HasRunOne, IsTaskIn}
 use Rattle.mv_gate.specs.Gates.{Holding, IsUnderWay, IsKnown, HasCall}
@@ -61,6 +61,11 @@ returns-then-is_stale-clause-made g c = (
       (record { call = c.held.inside.call; start = c.held.inside.start; from = c.held.inside.from; running = c.held.inside.running; knows = c.held.inside.pass }) c.is_stale.result c.see.ensures.same (c.held.view_is ∙ c.see.ensures.held)
       c.is_stale.ensures c.if-is_stale.true known fresh,
 )
+
+pub returns-clause-made : goal.returns-clause-made
+returns-clause-made g c =
+    subst (λ (h : Holding). Made (S h.call) c.args.self.now c.ran.new.self) (c.held.view_is ∙ c.see.ensures.held)
+    (subst (λ (b : Booked). Made (S c.held.inside.call) b c.ran.new.self) (c.self.view_is ∙ c.see.ensures.same) (made_after (S c.held.inside.call) c.self.inside.book c.reserve.new.self c.ran.new.self c.reserve.ensures.same c.ran.ensures.made))
 
 pub returns-clause-known : goal.returns-clause-known
 returns-clause-known g c known =
