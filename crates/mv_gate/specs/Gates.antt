@@ -112,6 +112,12 @@ pub record IsRestarted (old new : Booked) (c : ℕ) (r : Running) : Type 0 where
 abbrev pub IsStale : Booked → ℕ → Type 0
 IsStale b c = (l : Live) → IsLive b.course c l → is_stale b.course l ≡ true
 
+-- a live call of the script, whose start is below low
+pub record IsLate (b : Booked) (c : ℕ) : Type 0 where
+  pub live : IsLiveCall b.course c
+  pub there : c < length b.script.calls
+  pub stale : IsStale b c
+
 -- whether a live call may be repaired or moved once more
 abbrev pub HasRound : Bool → Booked → ℕ → Type 0
 HasRound more b c = (l : Live) → IsLive b.course c l → has_round (work_in b) l ≡ more

@@ -11,7 +11,7 @@ ghost use Rattle.mv_core.specs.Books.{work_in, Made, IsSame, IsNotStale};
 ghost use Rattle.mv_core.specs.Cores.{HasStep, HasRunOne, HasCollected, HasMovedAndCommitted};
 ghost use Rattle.mv_gate.specs.declared.answers.Answer.TheVariants as Answer;
 ghost use Rattle.mv_lawful.specs.declared.fault.Fault.TheVariants.{Conflict};
-ghost use Rattle.mv_gate.specs.Gates.{script_in, work, IsUnderWay, IsWhole, IsRestarted, IsLastRun, IsLatest, IsStale, HasRound, IsKnown, HasCall, HandsOut, StepsOn, Tries, answer_in, GivesBack, IsOutcome, IsDone, GoesOn};
+ghost use Rattle.mv_gate.specs.Gates.{script_in, work, IsUnderWay, IsWhole, IsRestarted, IsLastRun, IsLatest, IsLate, HasRound, IsKnown, HasCall, HandsOut, StepsOn, Tries, answer_in, GivesBack, IsOutcome, IsDone, GoesOn};
 
 use crate::answers::Answer;
 use crate::held::Held;
@@ -253,9 +253,7 @@ impl<N: Making> Desk<N> {
 
     /// Event M of a call whose start is below low. Runs it whole on the tables after all commits, and returns its task.
     fn move_up(&mut self, alloc: Global, call: u32) -> Result<Running, NoMemory>
-        requires live { IsLiveCall self.old.course call }
-        requires there { call < length self.old.script.calls }
-        requires stale { IsStale self.old call }
+        requires call { IsLate self.old call }
         requires left { HasRound true self.old call }
         ensures ok { OnOk result (Made (M call) self.old self.new) }
         ensures latest { IfOk result (IsLatest self.new call None) }
@@ -276,9 +274,7 @@ impl<N: Making> Desk<N> {
         board: &Board<N>,
         call: u32,
     ) -> Result<u32, NoMemory>
-        requires live { IsLiveCall self.old.course call }
-        requires there { call < length self.old.script.calls }
-        requires stale { IsStale self.old call }
+        requires { IsLate self.old call }
         ensures { HasMovedAndCommitted call result self.old self.new }
     {
         let _events = self.book.journal();
@@ -327,9 +323,7 @@ impl<N: Making> Desk<N> {
         call: u32,
         running: &mut Running,
     ) -> Result<Answer, NoMemory>
-        requires live { IsLiveCall self.old.course call }
-        requires there { call < length self.old.script.calls }
-        requires stale { IsStale self.old call }
+        requires { IsLate self.old call }
         ensures tried { Tries call result self.old self.new }
         ensures found { IfOk result (λ answer. (answer ≢ Answer.Lost) × (answer ≢ Answer.Repaired)) }
         ensures moved { IfOk result (λ answer. answer ≡ Answer.Moved → IsLatest self.new call None running.new) }

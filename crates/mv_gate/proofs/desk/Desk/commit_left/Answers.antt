@@ -3,8 +3,8 @@ use Rattle.mv_core.proofs.Changed.{same_self}
 use Rattle.mv_gate.proofs.Ending.{keeps_same, keeps_both, keeps_late, keeps_tried, keeps_commit, done_late, done_tried, done_committed}
 use Rattle.mv_gate.proofs.desk.Desk.commit_left.Goals as goal
 
-pub move_and_commit-requires-clause-stale : goal.move_and_commit-requires-clause-stale
-move_and_commit-requires-clause-stale g c l live = sym (c.is_stale.ensures l live) ∙ c.if-is_stale.true
+pub move_and_commit-requires : goal.move_and_commit-requires
+move_and_commit-requires g c = record { live = c.requires.live; there = c.requires.number; stale = λ l live. sym (c.is_stale.ensures l live) ∙ c.if-is_stale.true }
 
 pub renew-requires-clause-fresh : goal.renew-requires-clause-fresh
 renew-requires-clause-fresh g c l live = sym (c.is_stale.ensures l live) ∙ c.if-is_stale.false
