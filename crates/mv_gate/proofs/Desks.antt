@@ -1,6 +1,6 @@
 -- What lies behind the lock, after an event or none.
 use Rattle.std.proofs.Common.{◌≡◌, ℕ, suc, ◌+◌, Bool, true, false, not, List, [], ◌∷◌, ◌++◌, Option, Some, None, length, refl, sym, ap, subst, ◌∙◌, arith, rules}
-use Rattle.std.specs.Prelude.{slice_get, nat_lt, ◌||◌, Result, Ok, Err}
+use Rattle.std.specs.Prelude.{slice_get, nat_lt, ◌||◌, Result, Ok, Err, IsErrAnd}
 use Rattle.std.specs.List.{list_any}
 use Rattle.std.proofs.lemmas.Bool.Decides.{nat_tests}
 use lib.Dec.{eqb, leb}
@@ -21,7 +21,7 @@ use Rattle.mv_values.specs.declared.memory.NoMemory.{NoMemory}
 use Rattle.mv_core.specs.declared.book.Begun.{Begun}
 use Rattle.mv_core.specs.Calls.{IsLive, IsLiveCall}
 use Rattle.mv_core.specs.Books.{Booked, work_in, Made, IsSame, HasRounds, HasBegun}
-use Rattle.mv_core.specs.Cores.{IsStoreOf}
+use Rattle.mv_core.specs.Cores.{IsStoreOf, HasCommitted}
 use Rattle.mv_core.proofs.Journals.{Facts, facts_of, live_apart}
 use Rattle.mv_core.specs.Cores.{HasTurns}
 use Rattle.mv_core.proofs.Refusing.{live_is, used_rounds}
@@ -191,3 +191,9 @@ may_decide w s c l live hit none =
     live_is s c (λ x. unless (not (is_stale s x)) Stale (unless (is_hit w s c x) Idle (unless (not (has_round w x)) Rounds None))) l live
     ∙ (ap (λ b. unless (not b) Stale (unless (is_hit w s c l) Idle (unless (not (has_round w l)) Rounds None))) both.0
     ∙ (ap (λ b. unless b Idle (unless (not (has_round w l)) Rounds None)) both.1 ∙ ap (λ b. unless (not b) Rounds None) none))
+
+-- Where memory ran out
+
+pub commit_failed : (Q : NoMemory → Type 0) (e : Event) (r : Result ℕ NoMemory) (old new : Booked) → IsErrAnd r Q → IsSame old new → HasCommitted e r old new
+commit_failed Q e (Ok n) old new err same = absurd err
+commit_failed Q e (Err x) old new err same = same

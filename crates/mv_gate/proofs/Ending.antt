@@ -1,6 +1,6 @@
 -- The end of a run.
 use Rattle.std.proofs.Common.{◌≡◌, ◌⊎◌, inl, inr, ℕ, zero, suc, ◌+◌, ◌≤◌, ◌<◌, Bool, true, false, List, [], ◌∷◌, Option, Some, None, length, refl, sym, ap, subst, ◌∙◌, arith, rules}
-use Rattle.std.specs.Prelude.{slice_get, nat_lt, if◌then◌else◌, Result, Ok, Err, IfOk, OnErr}
+use Rattle.std.specs.Prelude.{slice_get, nat_lt, if◌then◌else◌, Result, Ok, Err, IfOk}
 use Rattle.std.proofs.lemmas.Bool.{ltb-true, cases_eq}
 use Rattle.std.proofs.lemmas.List.{length-set}
 use mathlib.Core.List.{IsPrefix}
@@ -23,7 +23,7 @@ use Rattle.mv_values.specs.declared.memory.NoMemory.{NoMemory}
 use Rattle.mv_values.proofs.Deciding.{some_at}
 use Rattle.mv_core.specs.declared.book.Begun.{Begun}
 use Rattle.mv_core.specs.Books.{Booked, work_in, Made, IsSame, HasBegun as HasNext}
-use Rattle.mv_core.specs.Cores.{HasMovedAndCommitted}
+use Rattle.mv_core.specs.Cores.{HasCommitted, HasMovedAndCommitted}
 use Rattle.mv_core.proofs.Moving.{live_moved}
 use Rattle.mv_core.proofs.Turning.{many_begun}
 use Rattle.mv_core.proofs.Journals.{get_front, set_there, set_apart, changed_at}
@@ -175,9 +175,9 @@ done_tried answer.Moved c old new h live found stays left = absurd (stays refl)
 done_tried answer.Lost c old new h live found stays left = absurd (found refl)
 
 -- a call that was repaired commits, or not
-pub keeps_commit : (r : Result ℕ NoMemory) (c : ℕ) (old new : Booked) → IfOk r (λ n. Made (C c) old new × (n ≡ length old.course.order + 1)) → OnErr r (IsSame old new) → IsLiveCall old.course c → GoesOn old new
-keeps_commit (Ok n) c old new made same live = keeps_committed c old new made.0 live
-keeps_commit (Err e) c old new made same live = keeps_same old new same
+pub keeps_commit : (r : Result ℕ NoMemory) (c : ℕ) (old new : Booked) → HasCommitted (C c) r old new → IsLiveCall old.course c → GoesOn old new
+keeps_commit (Ok n) c old new h live = keeps_committed c old new h.0 live
+keeps_commit (Err e) c old new h live = keeps_same old new h
 
 -- a call that has begun and isn't live has committed
 pub shut : (s : Course) (c : ℕ) → c < length s.calls → (IsLiveCall s c → ⊥) → IsDone s c

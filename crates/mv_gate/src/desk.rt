@@ -1,6 +1,6 @@
 //! The history of a run and its tables, in which events are made.
 
-ghost use Rattle.std.specs.Prelude.{◌≡◌, ◌≢◌, ◌↔◌, ◌<◌, ◌≤◌, ◌+◌, [], None, Some, true, false, IsTrue, IfOk, OnOk, OnErr, length};
+ghost use Rattle.std.specs.Prelude.{◌≡◌, ◌≢◌, ◌↔◌, ◌<◌, ◌≤◌, [], None, Some, true, false, IsTrue, IfOk, OnOk, OnErr, length};
 ghost use mathlib.Core.List.{IsPrefix};
 ghost use Rattle.mv_seats.specs.Knowing.{Plain, gate_pass};
 ghost use Rattle.mv_lawful.specs.Lawful.{Live, beginning, open_call, refusal, is_stale, has_round};
@@ -8,7 +8,7 @@ ghost use Rattle.mv_journal.specs.declared.event.Event.TheVariants.{A, M, C, X};
 ghost use Rattle.mv_core.specs.Scripts.{IsScript};
 ghost use Rattle.mv_core.specs.Calls.{IsLive, IsLiveCall};
 ghost use Rattle.mv_core.specs.Books.{work_in, Made, IsSame, IsNotStale};
-ghost use Rattle.mv_core.specs.Cores.{HasStep, HasRunOne, HasCollected, HasMovedAndCommitted};
+ghost use Rattle.mv_core.specs.Cores.{HasStep, HasRunOne, HasCommitted, HasCollected, HasMovedAndCommitted};
 ghost use Rattle.mv_gate.specs.declared.answers.Answer.TheVariants as Answer;
 ghost use Rattle.mv_lawful.specs.declared.fault.Fault.TheVariants.{Conflict};
 ghost use Rattle.mv_gate.specs.Gates.{script_in, work, IsUnderWay, IsWhole, IsRestarted, IsLastRun, IsLatest, IsLate, HasRound, IsKnown, HasCall, HandsOut, StepsOn, Tries, answer_in, GivesBack, IsOutcome, IsDone, GoesOn};
@@ -193,8 +193,7 @@ impl<N: Making> Desk<N> {
     ) -> Result<u32, NoMemory>
         requires whole { IsWhole self.old call running.now }
         requires allowed { refusal (work_in self.old) self.old.course (C call) ≡ None }
-        ensures ok { IfOk result (λ n. Made (C call) self.old self.new × (n ≡ length self.old.course.order + 1)) }
-        ensures err { OnErr result (IsSame self.old self.new) }
+        ensures { HasCommitted (C call) result self.old self.new }
     {
         let _events = self.book.journal();
         let task = &running.task;
@@ -232,8 +231,7 @@ impl<N: Making> Desk<N> {
         requires whole { IsWhole self.old call running.old }
         requires ended { running.old.task.ended ≡ true }
         requires allowed { refusal (work_in self.old) self.old.course (X call) ≡ None }
-        ensures ok { IfOk result (λ n. Made (X call) self.old self.new × (n ≡ length self.old.course.order + 1)) }
-        ensures err { OnErr result (IsSame self.old self.new) }
+        ensures { HasCommitted (X call) result self.old self.new }
     {
         let _events = self.book.journal();
         self.book.settle(call, &running.task);

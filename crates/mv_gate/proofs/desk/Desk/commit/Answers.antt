@@ -1,7 +1,6 @@
 use Rattle.std.proofs.Common.{◌≡◌, ◌<◌, ◌+◌, ◌++◌, ◌∷◌, ℕ, List, [], None, false, length, refl, sym, ap, subst, ◌∙◌}
 use Rattle.std.specs.List.{list_any}
 use lib.Dec.{eqb}
-use Rattle.mv_values.proofs.Deciding.{always_err}
 use Rattle.mv_journal.specs.declared.event.Event.TheVariants.{C}
 use Rattle.mv_lawful.specs.Lawful.{Course, refusal}
 use Rattle.mv_seats.specs.Knowing.{Knows}
@@ -10,7 +9,7 @@ use Rattle.mv_core.specs.Books.{Booked, work_in, Made, IsSame}
 use Rattle.mv_core.proofs.Stored.{stored_same, last_records}
 use Rattle.mv_core.proofs.Changed.{allowed_same, same_both, made_after, made_now}
 use Rattle.mv_gate.specs.Gates.{IsWhole}
-use Rattle.mv_gate.proofs.Desks.{desk_other, order_committed, fresh_call}
+use Rattle.mv_gate.proofs.Desks.{desk_other, order_committed, fresh_call, commit_failed}
 use Rattle.mv_gate.proofs.Holding.{whole_same, first_whole}
 use Rattle.mv_gate.proofs.desk.Desk.commit.Goals as goal
 
@@ -56,12 +55,13 @@ invariant_of-self-2 g c =
     (ap (λ (k : Knows). k.role) c.append.ensures ∙ c.self.invariant.role)
     (ap (λ (k : Knows). k.seen) c.append.ensures ∙ (ap (λ (xs : List ℕ). xs ++ c.args.call ∷ []) c.self.invariant.seen ∙ sym (order_committed c.args.call c.self.inside.book c.commit_task.new.book made)))
 
-pub returns-clause-ok : goal.returns-clause-ok
-returns-clause-ok g c = (
+pub returns : goal.returns
+returns g c = (
   made_now (C c.args.call) c.self.inside.book c.args.self.now c.settle.new.self c.commit_task.new.book c.self.view_is c.settle.ensures.same c.in_ok-commit.ensures.made.0,
   c.in_ok-commit.ensures.made.1 ∙ ap (λ (s : Course). length s.order + 1) (c.settle.ensures.same.course ∙ ap (λ (b : Booked). b.course) c.self.view_is),
 )
 
-pub returns-in_err-commit-clause-err : goal.returns-in_err-commit-clause-err
-returns-in_err-commit-clause-err g c =
-    always_err _ _ (subst (λ (b : Booked). IsSame b c.commit_task.new.book) c.self.view_is (same_both c.self.inside.book c.settle.new.self c.commit_task.new.book c.settle.ensures.same c.in_err-commit.ensures.made))
+pub returns-in_err-commit : goal.returns-in_err-commit
+returns-in_err-commit g c =
+    commit_failed _ (C c.args.call) c.from_residual.result c.args.self.now c.commit_task.new.book c.from_residual.ensures.1
+    (subst (λ (b : Booked). IsSame b c.commit_task.new.book) c.self.view_is (same_both c.self.inside.book c.settle.new.self c.commit_task.new.book c.settle.ensures.same c.in_err-commit.ensures.made))

@@ -40,12 +40,12 @@ commit-requires-clause-allowed g c = (c.in_ok-answer.ensures.restarted c.in-Repa
 pub returns-in_err-commit-clause-kept : goal.returns-in_err-commit-clause-kept
 returns-in_err-commit-clause-kept g c =
     keeps_both c.args.self.now c.decide.new.self c.commit.new.self (keeps_tried (Ok c.in_ok-answer.answer) c.args.call c.args.self.now c.decide.new.self c.in_ok-answer.ensures.tried c.requires.live)
-    (keeps_same c.decide.new.self c.commit.new.self c.in_err-commit.ensures.err)
+    (keeps_same c.decide.new.self c.commit.new.self c.in_err-commit.ensures)
 
 pub returns-clause-done : goal.returns-clause-done
-returns-clause-done g c = done_committed c.args.call c.decide.new.self c.commit.new.self c.in_ok-commit.ensures.ok.0 (c.in_ok-answer.ensures.restarted c.in-Repaired.is).whole.call.live
+returns-clause-done g c = done_committed c.args.call c.decide.new.self c.commit.new.self c.in_ok-commit.ensures.0 (c.in_ok-answer.ensures.restarted c.in-Repaired.is).whole.call.live
 
 pub returns-clause-kept : goal.returns-clause-kept
 returns-clause-kept g c =
     keeps_both c.args.self.now c.decide.new.self c.commit.new.self (keeps_tried (Ok c.in_ok-answer.answer) c.args.call c.args.self.now c.decide.new.self c.in_ok-answer.ensures.tried c.requires.live)
-    (keeps_commit c.commit.result c.args.call c.decide.new.self c.commit.new.self c.commit.ensures.ok c.commit.ensures.err (c.in_ok-answer.ensures.restarted c.in-Repaired.is).whole.call.live)
+    (keeps_commit c.commit.result c.args.call c.decide.new.self c.commit.new.self c.commit.ensures (c.in_ok-answer.ensures.restarted c.in-Repaired.is).whole.call.live)
