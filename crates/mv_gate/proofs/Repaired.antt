@@ -20,12 +20,12 @@ use Rattle.mv_core.proofs.Turning.{none_hit}
 use Rattle.mv_core.proofs.Refusing.{may_commit}
 use Rattle.mv_gate.specs.Gates.{IsLatest, IsRestarted}
 
-pub plainly : Plain ≡ Exclusive → ⊥
-plainly e = search (rules, e)
+pub plain_differs : Plain ≡ Exclusive → ⊥
+plain_differs e = search (rules, e)
 
 -- it starts after all commits
 pub live_again : (c : ℕ) (old new : Booked) (l : Live) → IsLive old.course c l → Made (A c) old new → IsLive new.course c (again (length old.course.order) Plain l)
-live_again c old new l live made = live_restarted Plain c old new l plainly live made
+live_again c old new l live made = live_restarted Plain c old new l plain_differs live made
 
 -- it has run whole after all commits
 latest_again : (b new : Booked) (c : ℕ) (l : Live) (r : Running) → c < length b.script.calls → Made (A c) b new → IsRepaired b.script b.course.order c l r → l.start ≤ length b.course.order → IsLatest new c (Some l.start) r

@@ -388,7 +388,7 @@ impl<N: Making> Desk<N> {
     /// low and it has used its rounds. Before C, A and X it runs the rest of the call at its start. After a repair or a
     /// move the call is given back. It then starts anew after all commits. Returns `Lost`, and does nothing, only if the
     /// history doesn't have the call as its holder knows it. Fails with `NoMemory` if memory runs out. Then no event was
-    /// made, and the call is left to `finish`.
+    /// made, and the call is left to `commit_all_left`.
     pub fn attempt(
         &mut self,
         alloc: Global,
@@ -536,7 +536,7 @@ impl<N: Making> Desk<N> {
 
     /// Begins the calls that haven't begun, and commits those that haven't committed, one after another. Fails with
     /// `NoMemory` if memory runs out.
-    pub fn finish(&mut self, alloc: Global, board: &Board<N>) -> Result<(), NoMemory>
+    pub fn commit_all_left(&mut self, alloc: Global, board: &Board<N>) -> Result<(), NoMemory>
         ensures ended { OnOk result (open_call (work_in self.new) self.new.course ≡ None) }
         ensures events { IsPrefix self.old.journal self.new.journal }
     {

@@ -232,7 +232,7 @@ pub fn run_all<N: Making + Send + Sync, R: Threads + Wait + Sync, P: Pace>(
     let Gate { board, guarded } = gate;
     let guarded = guarded.into_inner();
     let mut desk = guarded.into_desk();
-    desk.finish(alloc, &board)?;
+    desk.commit_all_left(alloc, &board)?;
     desk.outcome(alloc)
 }
 

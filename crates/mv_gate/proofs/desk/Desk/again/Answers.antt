@@ -9,7 +9,7 @@ use Rattle.mv_core.proofs.Changed.{allowed_same, due_restarted, same_both, made_
 use Rattle.mv_gate.specs.Gates.{HaveTurns, IsWhole}
 use Rattle.mv_gate.proofs.Desks.{desk_again}
 use Rattle.mv_gate.proofs.Holding.{whole_same, running_of, first_whole}
-use Rattle.mv_gate.proofs.Repaired.{plainly, restarted}
+use Rattle.mv_gate.proofs.Repaired.{plain_differs, restarted}
 use Rattle.mv_gate.proofs.desk.Desk.again.Goals as goal
 
 pub settle-requires-clause-live : goal.settle-requires-clause-live
@@ -51,7 +51,7 @@ restart-requires-clause-number g c =
     let same : IsSame c.self.inside.book c.reserve.new.self = same_both c.self.inside.book c.settle.new.self c.reserve.new.self c.settle.ensures.same c.reserve.ensures.same in
     let live = (whole_same c.self.inside.book c.reserve.new.self c.args.call c.args.running.now same (subst (λ (b : Booked). IsWhole b c.args.call c.args.running.now) (sym c.self.view_is) c.requires.whole)).call.live in
     let turns : HaveTurns c.reserve.new.self.course = subst HaveTurns (sym same.course) c.self.invariant.turns in
-    due_restarted Plain c.reserve.new.self c.args.call live.0 plainly live.1 (turns c.args.call live.0 live.1.at) ∙ ap Some (sym (c.in_ok-repair_task.ensures.ok live.0 live.1).executed)
+    due_restarted Plain c.reserve.new.self c.args.call live.0 plain_differs live.1 (turns c.args.call live.0 live.1.at) ∙ ap Some (sym (c.in_ok-repair_task.ensures.ok live.0 live.1).executed)
 
 pub invariant_of-self-2 : goal.invariant_of-self-2
 invariant_of-self-2 g c =

@@ -1,6 +1,6 @@
 use Rattle.std.proofs.Common.{◌<◌, ◌≤◌, ℕ, length}
 use Rattle.mv_gate.specs.Gates.{IsDone, GoesOn}
-use Rattle.mv_gate.proofs.desk.Desk.finish.Given as goal
+use Rattle.mv_gate.proofs.desk.Desk.commit_all_left.Given as goal
 
 abbrev pub invariant-loop-call : goal.invariant-loop-call
 invariant-loop-call g l = record {
