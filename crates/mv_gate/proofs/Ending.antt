@@ -17,6 +17,7 @@ use Rattle.mv_seats.specs.Knowing.{Knows}
 use Rattle.mv_seats.proofs.Prefixes.{prefix_self, prefix_more}
 use Rattle.mv_store.specs.Stored.{Versioned}
 use Rattle.mv_core.specs.declared.script.Script.{Script}
+use Rattle.mv_core.specs.declared.tasks.Running.{Running}
 use Rattle.mv_core.specs.Scripts.{work_of}
 use Rattle.mv_core.specs.Calls.{IsLiveCall}
 use Rattle.mv_values.specs.declared.memory.NoMemory.{NoMemory}
@@ -29,7 +30,7 @@ use Rattle.mv_core.proofs.Turning.{many_begun}
 use Rattle.mv_core.proofs.Journals.{get_front, set_there, set_apart, changed_at}
 use Rattle.mv_gate.specs.declared.answers.Answer.{Answer}
 use Rattle.mv_gate.specs.declared.answers.Answer.TheVariants as answer
-use Rattle.mv_gate.specs.Gates.{work, IsDesk, MovesAndCommits, Tries, IsOutcome, IsDone, GoesOn}
+use Rattle.mv_gate.specs.Gates.{work, IsDesk, MovesAndCommits, IsRestarted, Meets, IsOutcome, IsDone, GoesOn}
 
 pub outcome_told : (s : BoardScript) (b : Booked) (store : Versioned) (gate : Knows) (o : Outcome) → IsDesk s b store gate → Lawful (work_in b) b.journal → o ≡ outcome_of (work_in b) b.journal → IsOutcome (work s) o
 outcome_told s b store gate o d lawful is =
@@ -143,17 +144,17 @@ pub keeps_late : (r : Result ℕ NoMemory) (c : ℕ) (old new : Booked) → HasM
 keeps_late (Ok n) c old new h live = keeps_moved_and_committed c old h.0.0 new h.0.1 h.0.2 live
 keeps_late (Err e) c old new h live = keeps_same old new h
 
--- a call was decided, or repaired, or moved, or not
-pub keeps_tried : (r : Result Answer NoMemory) (c : ℕ) (old new : Booked) → Tries c r old new → IsLiveCall old.course c → GoesOn old new
-keeps_tried (Ok (answer.Committed n)) c old new h live = by h.0 where
+-- a call was decided, or repaired, or moved
+pub keeps_met : (r : Result Answer NoMemory) (c : ℕ) (t : Running) (old new : Booked) → Meets c t r old new → IsLiveCall old.course c → GoesOn old new
+keeps_met (Ok (answer.Committed n)) c t old new h live = by h.0 where
   by : Made (C c) old new ⊎ (Made (X c) old new ⊎ MovesAndCommits c old new) → GoesOn old new
   by (inl made) = keeps_committed c old new made live
   by (inr (inl made)) = keeps_decided c old new made live
   by (inr (inr both)) = keeps_moved_and_committed c old both.mid new both.moved both.committed live
-keeps_tried (Ok answer.Repaired) c old new h live = keeps_again c old new h live
-keeps_tried (Ok answer.Moved) c old new h live = keeps_moved c old new h.made live
-keeps_tried (Ok answer.Lost) c old new h live = keeps_same old new h
-keeps_tried (Err e) c old new h live = keeps_same old new h
+keeps_met (Ok answer.Repaired) c t old new h live = keeps_again c old new h.0 live
+keeps_met (Ok answer.Moved) c t old new h live = keeps_moved c old new h.0.made live
+keeps_met (Ok answer.Lost) c t old new h live = absurd h
+keeps_met (Err e) c t old new h live = keeps_same old new h
 
 done_by : (c : ℕ) (f : Live → Live) (old new : Booked) → new.course.calls ≡ change_live (slice_get old.course.calls c) f old.course.calls c → IsLiveCall old.course c → ((l : Live) → (f l).done ≡ true) → IsDone new.course c
 done_by c f old new is live ends = let h = done_now old.course.calls c f live.0 live.1.at (ends live.0) in (h.0, ap (λ ls. slice_get ls c) is ∙ h.1, h.2)
@@ -164,15 +165,18 @@ done_committed c old new made live = done_by c finish old new (ap (λ (s : Cours
 pub done_late : (c n : ℕ) (old new : Booked) → HasMovedAndCommitted c (Ok n) old new → IsLiveCall old.course c → IsDone new.course c
 done_late c n old new h live = done_committed c h.0.0 new h.0.2 (moved_live c old h.0.0 h.0.1 live)
 
-pub done_tried : (a : Answer) (c : ℕ) (old new : Booked) → Tries c (Ok a) old new → IsLiveCall old.course c → (a ≡ answer.Lost → ⊥) → (a ≡ answer.Moved → ⊥) → (a ≡ answer.Repaired → ⊥) → IsDone new.course c
-done_tried (answer.Committed n) c old new h live found stays left = by h.0 where
+pub done_met : (a : Answer) (c : ℕ) (t : Running) (old new : Booked) → Meets c t (Ok a) old new → IsLiveCall old.course c → (a ≡ answer.Moved → ⊥) → (a ≡ answer.Repaired → ⊥) → IsDone new.course c
+done_met (answer.Committed n) c t old new h live stays left = by h.0 where
   by : Made (C c) old new ⊎ (Made (X c) old new ⊎ MovesAndCommits c old new) → IsDone new.course c
   by (inl made) = done_committed c old new made live
   by (inr (inl made)) = done_by c (λ l. finish (again (length old.course.order) Exclusive l)) old new (ap (λ (s : Course). s.calls) made.course) live (λ l. refl)
   by (inr (inr both)) = done_committed c both.mid new both.committed (moved_live c old both.mid both.moved live)
-done_tried answer.Repaired c old new h live found stays left = absurd (left refl)
-done_tried answer.Moved c old new h live found stays left = absurd (stays refl)
-done_tried answer.Lost c old new h live found stays left = absurd (found refl)
+done_met answer.Repaired c t old new h live stays left = absurd (left refl)
+done_met answer.Moved c t old new h live stays left = absurd (stays refl)
+done_met answer.Lost c t old new h live stays left = absurd h
+
+pub met_repaired : (a : Answer) (c : ℕ) (t : Running) (old new : Booked) → Meets c t (Ok a) old new → a ≡ answer.Repaired → IsRestarted old new c t
+met_repaired a c t old new h is = (subst (λ x. Meets c t (Ok x) old new) is h).1
 
 -- a call that was repaired commits, or not
 pub keeps_commit : (r : Result ℕ NoMemory) (c : ℕ) (old new : Booked) → HasCommitted (C c) r old new → IsLiveCall old.course c → GoesOn old new

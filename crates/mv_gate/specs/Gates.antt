@@ -193,6 +193,14 @@ Tries c (Ok answer.Moved) old new = Moves c old new
 Tries c (Ok answer.Lost) old new = IsSame old new
 Tries c (Err e) old new = IsSame old new
 
+-- the same of a call that the history has, and its task: after a repair or a move it has run whole after all commits
+abbrev pub Meets : ℕ → Running → Result Answer NoMemory → Booked → Booked → Type 0
+Meets c r (Ok (answer.Committed n)) old new = Commits c n old new
+Meets c r (Ok answer.Repaired) old new = Made (A c) old new × IsRestarted old new c r
+Meets c r (Ok answer.Moved) old new = Moves c old new × IsLatest new c None r
+Meets c r (Ok answer.Lost) old new = ⊥
+Meets c r (Err e) old new = IsSame old new
+
 -- the answer of an attempt, without the call that it gives back
 abbrev pub answer_in : {H : Type 0} → Result (Answer × H) NoMemory → Result Answer NoMemory
 answer_in (Ok r) = Ok r.0

@@ -11,7 +11,7 @@ ghost use Rattle.mv_core.specs.Books.{work_in, Made, IsSame, IsNotStale};
 ghost use Rattle.mv_core.specs.Cores.{HasStep, HasRunOne, HasCommitted, HasCollected, HasMovedAndCommitted};
 ghost use Rattle.mv_gate.specs.declared.answers.Answer.TheVariants as Answer;
 ghost use Rattle.mv_lawful.specs.declared.fault.Fault.TheVariants.{Conflict};
-ghost use Rattle.mv_gate.specs.Gates.{script_in, work, IsUnderWay, IsWhole, IsRestarted, IsLastRun, IsLatest, IsLate, HasRound, IsKnown, HasCall, HandsOut, StepsOn, Tries, answer_in, GivesBack, IsOutcome, IsDone, GoesOn};
+ghost use Rattle.mv_gate.specs.Gates.{script_in, work, IsUnderWay, IsWhole, IsRestarted, IsLastRun, IsLatest, IsLate, HasRound, IsKnown, HasCall, HandsOut, StepsOn, Tries, Meets, answer_in, GivesBack, IsOutcome, IsDone, GoesOn};
 
 use crate::answers::Answer;
 use crate::held::Held;
@@ -302,10 +302,7 @@ impl<N: Making> Desk<N> {
         running: &mut Running,
     ) -> Result<Answer, NoMemory>
         requires { IsUnderWay self.old call running.old }
-        ensures tried { Tries call result self.old self.new }
-        ensures found { IfOk result (λ answer. answer ≢ Answer.Lost) }
-        ensures restarted { IfOk result (λ answer. answer ≡ Answer.Repaired → IsRestarted self.old self.new call running.new) }
-        ensures moved { IfOk result (λ answer. answer ≡ Answer.Moved → IsLatest self.new call None running.new) }
+        ensures { Meets call running.new result self.old self.new }
     {
         if self.is_stale(call) {
             return self.meet_stale(alloc, board, call, running);
@@ -322,9 +319,7 @@ impl<N: Making> Desk<N> {
         running: &mut Running,
     ) -> Result<Answer, NoMemory>
         requires { IsLate self.old call }
-        ensures tried { Tries call result self.old self.new }
-        ensures found { IfOk result (λ answer. (answer ≢ Answer.Lost) × (answer ≢ Answer.Repaired)) }
-        ensures moved { IfOk result (λ answer. answer ≡ Answer.Moved → IsLatest self.new call None running.new) }
+        ensures { Meets call running.new result self.old self.new }
     {
         if self.has_round(call) {
             *running = self.move_up(alloc, call)?;
@@ -346,9 +341,8 @@ impl<N: Making> Desk<N> {
     ) -> Result<Answer, NoMemory>
         requires call { IsUnderWay self.old call running.old }
         requires fresh { IsNotStale self.old call }
-        ensures tried { Tries call result self.old self.new }
-        ensures found { IfOk result (λ answer. (answer ≢ Answer.Lost) × (answer ≢ Answer.Moved)) }
-        ensures restarted { IfOk result (λ answer. answer ≡ Answer.Repaired → IsRestarted self.old self.new call running.new) }
+        ensures met { Meets call running.new result self.old self.new }
+        ensures stays { IfOk result (λ answer. answer ≢ Answer.Moved) }
     {
         finish_task(alloc, &self.book, &self.store, call, running)?;
         match self.book.check(call, &running.task) {
@@ -372,9 +366,8 @@ impl<N: Making> Desk<N> {
         requires whole { IsWhole self.old call running.old }
         requires ended { running.old.task.ended ≡ true }
         requires hit { refusal (work_in self.old) self.old.course (C call) ≡ Some Conflict }
-        ensures tried { Tries call result self.old self.new }
-        ensures found { IfOk result (λ answer. (answer ≢ Answer.Lost) × (answer ≢ Answer.Moved)) }
-        ensures restarted { IfOk result (λ answer. answer ≡ Answer.Repaired → IsRestarted self.old self.new call running.new) }
+        ensures met { Meets call running.new result self.old self.new }
+        ensures stays { IfOk result (λ answer. answer ≢ Answer.Moved) }
     {
         if self.has_round(call) {
             self.again(alloc, call, running)?;

@@ -1,6 +1,6 @@
 use Rattle.std.proofs.Common.{Ok, sym, ◌∙◌}
 use Rattle.mv_core.proofs.Changed.{same_self}
-use Rattle.mv_gate.proofs.Ending.{keeps_same, keeps_both, keeps_late, keeps_tried, keeps_commit, done_late, done_tried, done_committed}
+use Rattle.mv_gate.proofs.Ending.{keeps_same, keeps_both, keeps_late, keeps_met, keeps_commit, done_late, done_met, done_committed, met_repaired}
 use Rattle.mv_gate.proofs.desk.Desk.commit_left.Goals as goal
 
 pub move_and_commit-requires : goal.move_and_commit-requires
@@ -22,30 +22,30 @@ pub returns-in_err-running-clause-kept : goal.returns-in_err-running-clause-kept
 returns-in_err-running-clause-kept g c = keeps_same c.args.self.now c.args.self.now (same_self c.args.self.now)
 
 pub returns-in_err-answer-clause-kept : goal.returns-in_err-answer-clause-kept
-returns-in_err-answer-clause-kept g c = keeps_same c.args.self.now c.decide.new.self c.in_err-answer.ensures.tried
+returns-in_err-answer-clause-kept g c = keeps_same c.args.self.now c.decide.new.self c.in_err-answer.ensures.met
 
 pub returns-in_default-clause-done : goal.returns-in_default-clause-done
 returns-in_default-clause-done g c =
-    done_tried c.in_ok-answer.answer c.args.call c.args.self.now c.decide.new.self c.in_ok-answer.ensures.tried c.requires.live c.in_ok-answer.ensures.found.0 c.in_ok-answer.ensures.found.1 c.in_default.not-Repaired
+    done_met c.in_ok-answer.answer c.args.call c.decide.new.running c.args.self.now c.decide.new.self c.in_ok-answer.ensures.met c.requires.live c.in_ok-answer.ensures.stays c.in_default.not-Repaired
 
 pub returns-in_default-clause-kept : goal.returns-in_default-clause-kept
-returns-in_default-clause-kept g c = keeps_tried (Ok c.in_ok-answer.answer) c.args.call c.args.self.now c.decide.new.self c.in_ok-answer.ensures.tried c.requires.live
+returns-in_default-clause-kept g c = keeps_met (Ok c.in_ok-answer.answer) c.args.call c.decide.new.running c.args.self.now c.decide.new.self c.in_ok-answer.ensures.met c.requires.live
 
 pub commit-requires-clause-whole : goal.commit-requires-clause-whole
-commit-requires-clause-whole g c = (c.in_ok-answer.ensures.restarted c.in-Repaired.is).whole
+commit-requires-clause-whole g c = (met_repaired c.in_ok-answer.answer c.args.call c.decide.new.running c.args.self.now c.decide.new.self c.in_ok-answer.ensures.met c.in-Repaired.is).whole
 
 pub commit-requires-clause-allowed : goal.commit-requires-clause-allowed
-commit-requires-clause-allowed g c = (c.in_ok-answer.ensures.restarted c.in-Repaired.is).free
+commit-requires-clause-allowed g c = (met_repaired c.in_ok-answer.answer c.args.call c.decide.new.running c.args.self.now c.decide.new.self c.in_ok-answer.ensures.met c.in-Repaired.is).free
 
 pub returns-in_err-commit-clause-kept : goal.returns-in_err-commit-clause-kept
 returns-in_err-commit-clause-kept g c =
-    keeps_both c.args.self.now c.decide.new.self c.commit.new.self (keeps_tried (Ok c.in_ok-answer.answer) c.args.call c.args.self.now c.decide.new.self c.in_ok-answer.ensures.tried c.requires.live)
+    keeps_both c.args.self.now c.decide.new.self c.commit.new.self (keeps_met (Ok c.in_ok-answer.answer) c.args.call c.decide.new.running c.args.self.now c.decide.new.self c.in_ok-answer.ensures.met c.requires.live)
     (keeps_same c.decide.new.self c.commit.new.self c.in_err-commit.ensures)
 
 pub returns-clause-done : goal.returns-clause-done
-returns-clause-done g c = done_committed c.args.call c.decide.new.self c.commit.new.self c.in_ok-commit.ensures.0 (c.in_ok-answer.ensures.restarted c.in-Repaired.is).whole.call.live
+returns-clause-done g c = done_committed c.args.call c.decide.new.self c.commit.new.self c.in_ok-commit.ensures.0 (met_repaired c.in_ok-answer.answer c.args.call c.decide.new.running c.args.self.now c.decide.new.self c.in_ok-answer.ensures.met c.in-Repaired.is).whole.call.live
 
 pub returns-clause-kept : goal.returns-clause-kept
 returns-clause-kept g c =
-    keeps_both c.args.self.now c.decide.new.self c.commit.new.self (keeps_tried (Ok c.in_ok-answer.answer) c.args.call c.args.self.now c.decide.new.self c.in_ok-answer.ensures.tried c.requires.live)
-    (keeps_commit c.commit.result c.args.call c.decide.new.self c.commit.new.self c.commit.ensures (c.in_ok-answer.ensures.restarted c.in-Repaired.is).whole.call.live)
+    keeps_both c.args.self.now c.decide.new.self c.commit.new.self (keeps_met (Ok c.in_ok-answer.answer) c.args.call c.decide.new.running c.args.self.now c.decide.new.self c.in_ok-answer.ensures.met c.requires.live)
+    (keeps_commit c.commit.result c.args.call c.decide.new.self c.commit.new.self c.commit.ensures (met_repaired c.in_ok-answer.answer c.args.call c.decide.new.running c.args.self.now c.decide.new.self c.in_ok-answer.ensures.met c.in-Repaired.is).whole.call.live)
