@@ -1,4 +1,4 @@
-use Rattle.std.proofs.Common.{◌<◌, ◌≤◌, Some, length, sym, ap, subst}
+use Rattle.std.proofs.Common.{◌<◌, ◌≤◌, Some, length, sym, subst}
 use Rattle.std.proofs.lemmas.Bool.{ltb-false}
 use Rattle.mv_lawful.specs.Lawful.{Live}
 use Rattle.mv_core.specs.Calls.{IsLive, IsLiveCall}
