@@ -2,8 +2,8 @@ use Rattle.std.proofs.lemmas.Result.{err_from_is_err_and}
 use Rattle.mv_top.proofs.Judging.{text_told, not_accepted_only, not_accepted_refused, not_accepted_told}
 use Rattle.mv_top.proofs.answer.program_of.Goals as goal
 
-pub returns-in_ok-accept-clause-told : goal.returns-in_ok-accept-clause-told
-returns-in_ok-accept-clause-told c =
+pub returns-clause-told : goal.returns-clause-told
+returns-clause-told c =
     λ command refusal cause. text_told command c.args.bytes.now c.in_ok-accept.field-0 refusal (λ r because. c.in_ok-accept.ensures.exact.told r because) (λ q accepted. c.in_ok-accept.ensures.exact.only q accepted) cause
 
 pub returns-in_err-accept-clause-only : goal.returns-in_err-accept-clause-only
