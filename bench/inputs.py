@@ -158,29 +158,36 @@ def nested_loops(n):
 # Scripts that differ in a statement of a loop.
 
 TURNS = 50
-STATEMENTS = {  # with how often a turn has each
-    "SET": ("SET :x = :k; ", 4),
-    "IF": ("IF :k = 0 THEN END IF; ", 4),
-    "PRINT": ("PRINT :k; ", 4),
-    "SELECT of a key": ("SELECT v INTO :x FROM t WHERE id = :r.i; ", 4),
-    "SELECT COUNT of a key": ("SELECT COUNT(*) INTO :x FROM t WHERE id = :r.i; ", 4),
-    "UPDATE of a key": ("UPDATE t SET v = :k WHERE id = :r.i; ", 1),
-    "INSERT, and the text of its row": ("INSERT INTO u VALUES (:k, 0); ", 1),
-    "DELETE of a key, and the COPY of its row": ("DELETE FROM u WHERE id = :k; ", 1),
+STATEMENTS = {  # with how often a turn has each, and how the call ends
+    "SET": ("SET :x = :k; ", 4, ""),
+    "IF": ("IF :k = 0 THEN END IF; ", 4, ""),
+    "PRINT": ("PRINT :k; ", 4, ""),
+    "SELECT of a key": ("SELECT v INTO :x FROM t WHERE id = :r.i; ", 4, ""),
+    "SELECT COUNT of a key": ("SELECT COUNT(*) INTO :x FROM t WHERE id = :r.i; ", 4, ""),
+    "UPDATE of a key": ("UPDATE t SET v = :k WHERE id = :r.i; ", 1, ""),
+    "UPDATE of a key, rolled back": ("UPDATE t SET v = :k WHERE id = :r.i; ", 1, "ROLLBACK 'no'; "),
+    "INSERT, and the text of its row": ("INSERT INTO u VALUES (:k, 0); ", 1, ""),
+    "DELETE of a key, and the COPY of its row": ("DELETE FROM u WHERE id = :k; ", 1, ""),
 }
 
 
-def loop_with(text, calls):
-    """Calls that execute a text in each of 50 turns. Their keys rise from call to call. If the text deletes rows, they
-    have a COPY of these before them."""
+def loop_with(text, calls, end=""):
+    """Calls that execute a text in each of 50 turns, and then an end. Their keys rise from call to call. If the text
+    deletes rows, they have a COPY of these before them."""
     tables = "".join(f"CREATE TABLE {name} (id INT, v INT, PRIMARY KEY (id));\n" for name in "tu")
     procedure = f"""CREATE PROCEDURE p (:first INT, :rows ROWS (i INT)) DECLARE :k = 0; DECLARE :x = 0; BEGIN
   SET :k = :first - 1; FOR :r IN :rows DO SET :k = :k + 1; {text}END FOR;
-END;
+  {end}END;
 """
     rows = calls * TURNS if text.startswith("DELETE") else 0
     call = lambda number: f"p({number * TURNS}, {rows_of((number * TURNS + 7 * i) % ROWS for i in range(TURNS))})"
     return [tables, procedure, *numbered("t", ROWS)], chain(numbered("u", rows), repeated(calls, call))
+
+
+def loops(calls):
+    """The scripts of statements by name, and that of a loop without any."""
+    scripts = {name: loop_with(text * often, calls, end) for name, (text, often, end) in STATEMENTS.items()}
+    return {"loop": loop_with("", calls), **scripts}
 
 
 def empty_calls(count):

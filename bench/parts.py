@@ -394,9 +394,8 @@ def statements(bench):
 
 def times_of_statements(bench):
     calls = bench.size(2000)
-    scripts = {name: inputs.loop_with(text * often, calls) for name, (text, often) in inputs.STATEMENTS.items()}
-    taken = bench.costs({"loop": inputs.loop_with("", calls), **scripts}, ("run",), bench.more_rounds)
-    for name, (_, often) in inputs.STATEMENTS.items():
+    taken = bench.costs(inputs.loops(calls), ("run",), bench.more_rounds)
+    for name, (_, often, _) in inputs.STATEMENTS.items():
         yield name, taken[name].less(taken["loop"]).processor / (calls * inputs.TURNS * often)
 
 
