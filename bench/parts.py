@@ -343,7 +343,7 @@ GROWTH = {  # with n by `serial` and by `run`
     "n INSERTs with falling keys in a call": (inputs.falling_insertions, 20_000, 20_000),
     "n times MAX and INSERT in a call": (inputs.insertion_at_the_end_in_a_call, 10_000, 10_000),
     "a queue of n rows in a call": (inputs.queue_in_a_call, 5_000, 500),
-    "n UPDATEs of one counter in a call": (inputs.counter_in_a_call, 100_000, 10_000),
+    "n UPDATEs of one counter in a call": (inputs.counter_in_a_call, 100_000, 100_000),
     "n INSERTs and SELECTs of key 0 in a call": (inputs.own_write_and_zero, 20_000, 20_000),
     "n statements in nested loops": (inputs.nested_loops, 400_000, 400_000),
     "n calls of the last of 256 procedures": (inputs.last_of_many_procedures, 50_000, 50_000),
