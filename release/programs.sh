@@ -133,7 +133,7 @@ END
 }
 
 # Has the C library keep 256 freed blocks of each size at hand, and not seven: a call of a script frees and takes as many.
-# That spares `run` a tenth of its time. Tunables that are set already stay.
+# That spares `run` a tenth of its instructions. Tunables that are set already stay.
 keep_blocks() {
     export GLIBC_TUNABLES="${GLIBC_TUNABLES-glibc.malloc.tcache_count=256}"
 }
