@@ -1,10 +1,10 @@
 -- Two answers behind one another: where each is exact, so is the last.
-use Rattle.std.proofs.Common.{◌≡◌, ◌⊎◌, inl, inr, Result, Ok, Err, refl, sym, subst, ◌∙◌}
-use Rattle.std.specs.Prelude.{IfOk, IfErr, MatchResult}
+use Rattle.std.proofs.Common.{◌≡◌, ◌⊎◌, inl, inr, Result, Ok, Err, sym, subst}
+use Rattle.std.specs.Prelude.{IfOk, IfErr}
 use Rattle.mv_accept.specs.declared.refusal.Refusal.{Refusal}
 use Rattle.mv_accept.specs.declared.accept.NotAccepted.{NotAccepted}
 use Rattle.mv_accept.specs.declared.accept.NotAccepted.TheVariants.{Refused, NoMemory}
-use Rattle.mv_accept.specs.Exact.{Exact, HasCause, RefusesWith}
+use Rattle.mv_accept.specs.Exact.{Exact, HasCause}
 
 module _ {A B : Type 0} (P : A → Type 0) (C : Refusal → Type 0) (Q : A → B → Type 0) (D : A → Refusal → Type 0) where
   -- what there is behind what there is

@@ -1,7 +1,5 @@
 -- Each stage of the way answers exactly.
-use Rattle.std.proofs.Common.{◌≡◌, ◌⊎◌, ◌<◌, ◌≤◌, inl, inr, ◌↔◌, ℕ, List, Result, Ok, Err, [], refl, sym, ap, subst, ◌∙◌, arith, length}
-use Rattle.std.specs.Prelude.{IfOk, MatchResult}
-use Rattle.mv_values.specs.declared.rows.Keyed.{Keyed}
+use Rattle.std.proofs.Common.{◌≡◌, ◌⊎◌, ◌<◌, ◌≤◌, inl, inr, ◌↔◌, ℕ, List, Result, Ok, Err, refl, ap, arith, length}
 use Rattle.mv_lex.specs.declared.token.Token.{Token}
 use Rattle.mv_lex.specs.declared.lexer.LexFault.{LexFault}
 use Rattle.mv_lex.specs.declared.lexer.LexFault.TheVariants as lexing
@@ -13,9 +11,8 @@ use Rattle.mv_parser.specs.declared.fault.ParseFault.{ParseFault}
 use Rattle.mv_parser.specs.declared.fault.ParseFault.TheVariants as parsing
 use Rattle.mv_accept.specs.declared.refusal.Refusal.{Refusal}
 use Rattle.mv_accept.specs.declared.refusal.Refusal.TheVariants as why
-use Rattle.mv_accept.specs.declared.accept.NotAccepted.{NotAccepted}
 use Rattle.mv_accept.specs.declared.accept.NotAccepted.TheVariants.{Refused, NoMemory}
-use Rattle.mv_accept.specs.Exact.{Exact, HasCause, RefusesWith}
+use Rattle.mv_accept.specs.Exact.{Exact, HasCause}
 use Rattle.mv_accept.specs.Accepting.{most_bytes, HasTokens, HasNoTokens, too_long, bad_byte, bad_token, IsNoScript, syntax, limit}
 use Rattle.mv_accept.specs.Telling.{of_lexing, of_parsing}
 

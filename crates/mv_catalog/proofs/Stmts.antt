@@ -283,9 +283,9 @@ module _ (tables : List TableDef) (few_tables : length tables ≤ 64) (narrow : 
       }
 
   -- one without loops
-  plainly : (vars : Vars) (n : ℕ) (d : open'.RStmt-F RStmt) (s : RStmt) → roll-RStmt d ≡ s → rows_step (map-RStmt RStmt (List ℕ) rows_in d) ≡ []
+  without_rows : (vars : Vars) (n : ℕ) (d : open'.RStmt-F RStmt) (s : RStmt) → roll-RStmt d ≡ s → rows_step (map-RStmt RStmt (List ℕ) rows_in d) ≡ []
       → stmt_step (map table_of tables) RStmt (λ y. y) (IsWell (map table_of tables)) d vars → Done (map table_of tables) vars n 0 s
-  plainly vars n d s e none allowed =
+  without_rows vars n d s e none allowed =
       done (map table_of tables) vars n 0 d s e allowed (subst (CountsFrom n) (sym none) tt) (ap length none)
 
   here : (n : Name) → There (map table_of tables) (table_named tables n.text) (small (table_place tables n))
@@ -295,12 +295,12 @@ module _ (tables : List TableDef) (few_tables : length tables ≤ 64) (narrow : 
       Claim (map table_of tables) (names.stmt_step tables (map-Stmt Stmt Faults (statement_faults tables) d)) (statement_step (map-Stmt Stmt (List Passed) statement_passes d))
       (build.stmt_step tables (map-Stmt Stmt Built (built tables) d))
   step_claim (tree.Assign token to right) scope slots vars n m fresh le h k =
-      plainly vars n (open'.Assign _ _) _ (rolls-Assign _ _) refl (assign_well (map table_of tables) scope slots vars m to right h)
+      without_rows vars n (open'.Assign _ _) _ (rolls-Assign _ _) refl (assign_well (map table_of tables) scope slots vars m to right h)
   step_claim (tree.Select token columns to table conds sorts offset) scope slots vars n m fresh le h k =
-      plainly vars n (open'.Select _ _ _ _ _ _) _ (rolls-Select _ _ _ _ _ _) refl
+      without_rows vars n (open'.Select _ _ _ _ _ _) _ (rolls-Select _ _ _ _ _ _) refl
       (select_well (map table_of tables) scope slots vars m (table_named tables table.text) (small (table_place tables table)) columns to table conds sorts offset (here table) h)
   step_claim (tree.Total token agg to table conds) scope slots vars n m fresh le h k =
-      plainly vars n (open'.Total _ _ _ _) _ (rolls-Total _ _ _ _) refl
+      without_rows vars n (open'.Total _ _ _ _) _ (rolls-Total _ _ _ _) refl
       (total_well (map table_of tables) scope slots vars m (table_named tables table.text) (small (table_place tables table)) agg to table conds (here table) h)
   step_claim (tree.ForSelect token turn distinct columns table conds sorts body) scope slots vars n m fresh le h k =
       let ss = map (λ p. p.0) body in
@@ -319,17 +319,17 @@ module _ (tables : List TableDef) (few_tables : length tables ≤ 64) (narrow : 
       branch_done (map table_of tables) (names.all_faults (map (statement_faults tables) ss)) (names.all_faults (map (statement_faults tables) ts)) (together (map statement_passes ss))
       (together (map statement_passes ts)) (map (built tables) ss) (map (built tables) ts) (all_claim ys) (all_claim ns) test scope slots vars n m fresh le h k
   step_claim (tree.Insert token table values) scope slots vars n m fresh le h k =
-      plainly vars n (open'.Insert _ _) _ (rolls-Insert _ _) refl
+      without_rows vars n (open'.Insert _ _) _ (rolls-Insert _ _) refl
       (insert_well (map table_of tables) scope slots vars m (table_named tables table.text) (small (table_place tables table)) table values (here table) h)
   step_claim (tree.Update token table items conds) scope slots vars n m fresh le h k =
-      plainly vars n (open'.Update _ _ _) _ (rolls-Update _ _ _) refl
+      without_rows vars n (open'.Update _ _ _) _ (rolls-Update _ _ _) refl
       (update_well (map table_of tables) scope slots vars m (table_named tables table.text) (small (table_place tables table)) table items conds (here table) h)
   step_claim (tree.Delete token table conds) scope slots vars n m fresh le h k =
-      plainly vars n (open'.Delete _ _) _ (rolls-Delete _ _) refl
+      without_rows vars n (open'.Delete _ _) _ (rolls-Delete _ _) refl
       (delete_well (map table_of tables) scope slots vars m (table_named tables table.text) (small (table_place tables table)) table conds (here table) h)
   step_claim (tree.Print token values) scope slots vars n m fresh le h k =
-      plainly vars n (open'.Print _) _ (rolls-Print _) refl (printed scope slots vars m values h)
-  step_claim (tree.Rollback token reason) scope slots vars n m fresh le h k = plainly vars n (open'.Rollback reason) _ (rolls-Rollback reason) refl tt
+      without_rows vars n (open'.Print _) _ (rolls-Print _) refl (printed scope slots vars m values h)
+  step_claim (tree.Rollback token reason) scope slots vars n m fresh le h k = without_rows vars n (open'.Rollback reason) _ (rolls-Rollback reason) refl tt
 
   rolled : (x : tree.Stmt-F Stmt) (y : tree.Stmt-F Known) → map-Stmt Known Stmt (λ p. p.0) y ≡ x
       → Claim (map table_of tables) (statement_faults tables (roll-Stmt x)) (statement_passes (roll-Stmt x)) (built tables (roll-Stmt x))

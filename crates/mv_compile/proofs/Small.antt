@@ -1,5 +1,5 @@
 -- The procedures of a text of one piece keep within the limits of a script, and so do their graphs, which are of one piece too.
-use Rattle.std.proofs.Common.{ℕ, ◌≤◌, ◌+◌, List, [], None, map, length, refl, arith}
+use Rattle.std.proofs.Common.{◌+◌, List, [], None, length, refl, arith}
 use Rattle.std.specs.List.{All}
 use Rattle.std.proofs.lemmas.List.Elements.{All-map}
 use Rattle.mv_values.specs.declared.schema.TableInfo.{TableInfo}

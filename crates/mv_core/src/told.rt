@@ -1,7 +1,7 @@
 //! What the records of a call tell: its reply, and what it changes.
 
-ghost use Rattle.std.specs.Prelude.{◌≡◌, false, length, IfOk, OnOk, OnErr};
-ghost use Rattle.std.specs.Option.{option_copied};
+ghost use Rattle.std.specs.Prelude.{◌≡◌, count_by, false, length, IfOk, OnOk, OnErr};
+ghost use Rattle.std.specs.Option.{is_some, option_copied};
 ghost use Rattle.mv_values.specs.Patching.{applied};
 ghost use Rattle.mv_record.specs.Writes.{AreRising};
 ghost use Rattle.mv_history.specs.Changes.{changes_between};
@@ -34,11 +34,25 @@ fn end_of(records: &[Record]) -> Option<&End>
     None
 }
 
+/// Checks whether a record has a line.
+fn has_line(made: &Record) -> bool
+    ensures { result ≡ is_some made.now.line }
+{
+    made.line.is_some()
+}
+
+/// Returns the number of records that have a line.
+fn line_count(records: &[Record]) -> usize
+    ensures { result ≡ count_by (λ r. is_some r.line) records.now }
+{
+    records.iter().filter(|made| has_line(made)).count()
+}
+
 /// Copies the lines of records.
 fn lines_of(alloc: Global, records: &[Record]) -> Result<List<Txt>, NoMemory>
     ensures { IfOk result (λ lines. lines ≡ lines_in records.now) }
 {
-    let mut lines = List::new(alloc);
+    let mut lines = List::with_room(alloc, line_count(records))?;
     for record in records {
         if let Some(line) = &record.line {
             lines.push(line.copy(alloc)?)?;

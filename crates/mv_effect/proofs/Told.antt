@@ -8,7 +8,7 @@ use Rattle.mv_values.specs.declared.schema.TableInfo.{TableInfo}
 use Rattle.mv_values.specs.Columns.{column_of, columns_of}
 use Rattle.mv_values.specs.Patching.{applied, found_by}
 use Rattle.mv_values.specs.Preds.{matches}
-use Rattle.mv_values.specs.Tables.{key_columns, rows_at, KeysStand}
+use Rattle.mv_values.specs.Tables.{key_columns, rows_at}
 use Rattle.mv_table.specs.declared.scan.Direction.{Direction}
 use Rattle.mv_table.specs.Scans.{foremost}
 use Rattle.mv_table.specs.Spans.{Admits}
@@ -21,7 +21,6 @@ use Rattle.mv_alone.specs.declared.state.Env.{Env}
 use Rattle.mv_alone.specs.FirstRows.{AreAdmitted, IsFromEnd, Leads}
 use Rattle.mv_alone.specs.Rows.{is_some_row, item_at, ordered}
 use Rattle.mv_alone.proofs.FirstRows.{kept_all, some_foremost}
-use Rattle.mv_record.specs.Writes.{AreRising}
 use Rattle.mv_record.proofs.Patching.{rising_found, rising_applied}
 use Rattle.mv_recorded.specs.Asking.{column_in, with_sorts, KnowsKey}
 use Rattle.mv_recorded.specs.Effects.{IsEffect, asks, effect_after, row_number, effect_of_select, effect_of_aggregate}

@@ -5,7 +5,7 @@ use Rattle.mv_catalog.specs.declared.resolved.RStmt.TheOpen as open'
 use Rattle.mv_catalog.specs.declared.resolved.RStmt.{RStmt, roll-RStmt, out-RStmt, roll-out-RStmt}
 use Rattle.mv_catalog.specs.declared.resolved.RStmt.TheFolds.{fold-roll-RStmt, map-RStmt, ind-RStmt}
 use Rattle.mv_graph.specs.declared.graph.Node.{Node}
-use Rattle.mv_graph.specs.Nodes.{Nodes, all_nodes, inner_nodes, own_node, node_step, nodes_of, nodes_inside, body_nodes}
+use Rattle.mv_graph.specs.Nodes.{Nodes, all_nodes, own_node, node_step, nodes_of, nodes_inside, body_nodes}
 
 abbrev pub Counts : ℕ → ℕ → RStmt → Type 0
 Counts params found s = (n : ℕ) (holder : Option ℕ) (loops : List ℕ) → length (nodes_of params found s n holder loops) ≡ size s

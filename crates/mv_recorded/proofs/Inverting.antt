@@ -36,7 +36,7 @@ use Rattle.mv_recorded.specs.Reading.{Loop}
 use Rattle.mv_recorded.specs.Recorded.{Recorder, Site, tell, tell_step, tell_turns, tell_loop, own_record, in_turn, within, within_loop, tell_statements, outside, recorded}
 use Rattle.mv_recorded.proofs.Effects.{effect_known}
 use Rattle.mv_recorded.proofs.Following.{firsts}
-use Rattle.mv_recorded.specs.Own.{Bare, bare, Stated, Flat, flat, flat_step, flat_all, Each, Within, IsStatedWell, Ground, Told, sets_in, rows_of, row_in, LoopsHold, ParentHolds, IsAtSite, HasStatements, AllOwn, AllSuit, ground_of}
+use Rattle.mv_recorded.specs.Own.{Bare, bare, Stated, Flat, flat, flat_step, flat_all, Each, Within, IsStatedWell, Ground, LeadsTo, sets_in, rows_of, row_in, LoopsHold, ParentHolds, IsAtSite, HasStatements, AllOwn, AllSuit, ground_of}
 use Rattle.mv_recorded.proofs.Slots.{get_same, get_other}
 use Rattle.mv_recorded.proofs.Held.{slots_alike, slots_both, slots_found, slots_high, own_slots, OwnSlots, get_front, get_last}
 
@@ -80,7 +80,7 @@ abbrev Keeps : List ℕ → State → State → Type 0
 Keeps rows st next = (x : ℕ) → Within x rows → held_at next.env x ≡ held_at st.env x
 
 abbrev Exits : Ground → List Record → List Record → List ℕ → State → Result State End → Type 0
-Exits g before these rows st (Ok next) = Told g (before ++ these) next × Keeps rows st next
+Exits g before these rows st (Ok next) = LeadsTo g (before ++ these) next × Keeps rows st next
 Exits g before these rows st (Err e) = ⊤
 
 row_later : (before these : List Record) (number k : ℕ) → number < length before → row_in (before ++ these) number k ≡ row_in before number k
@@ -103,7 +103,7 @@ parent_later : (before these : List Record) (parent : Option ℕ) (turns : List 
 parent_later before these None turns h = h
 parent_later before these (Some p) turns h = (h.0, get_front before these p (slice_get_within before p h.0 h.1) ∙ h.1, h.2)
 
-here_later : (g : Ground) (site : Site) (rows : List ℕ) (before these : List Record) (st next : State) → IsAtSite g site rows before st → Told g (before ++ these) next → Keeps rows st next
+here_later : (g : Ground) (site : Site) (rows : List ℕ) (before these : List Record) (st next : State) → IsAtSite g site rows before st → LeadsTo g (before ++ these) next → Keeps rows st next
     → IsAtSite g site rows (before ++ these) next
 here_later g site rows before these st next here told keeps = record {
   told = told;
@@ -126,7 +126,7 @@ all_join g before (r ∷ rs) ss h k = (h.0, all_join g (before ++ r ∷ []) rs s
 
 exits_join : (g : Ground) (before rs ss : List Record) (rows : List ℕ) (st mid : State) (out : Result State End) → Exits g before rs rows st (Ok mid) → Exits g (before ++ rs) ss rows mid out
     → Exits g before (rs ++ ss) rows st out
-exits_join g before rs ss rows st mid (Ok next) h k = (subst (λ b. Told g b next) (append_assoc before rs ss) k.0, λ x w. k.1 x w ∙ h.1 x w)
+exits_join g before rs ss rows st mid (Ok next) h k = (subst (λ b. LeadsTo g b next) (append_assoc before rs ss) k.0, λ x w. k.1 x w ∙ h.1 x w)
 exits_join g before rs ss rows st mid (Err e) h k = tt
 
 -- one run after another
@@ -134,7 +134,7 @@ abbrev Traced : Ground → List Record → List Record → List ℕ → State �
 Traced g before rs rows st out = AllOwn g before rs × Exits g before rs rows st out
 
 then_traced : (g : Ground) (before rs : List Record) (rows : List ℕ) (st : State) (out : Result State End) (go : State → List Record) (next : Does) → Traced g before rs rows st out
-    → ((mid : State) → Told g (before ++ rs) mid → Keeps rows st mid → Traced g (before ++ rs) (go mid) rows mid (next mid))
+    → ((mid : State) → LeadsTo g (before ++ rs) mid → Keeps rows st mid → Traced g (before ++ rs) (go mid) rows mid (next mid))
     → Traced g before (rs ++ on out go) rows st (then_do out next)
 then_traced g before rs rows st (Ok mid) go next h k =
     let rest = k mid h.1.0 h.1.1 in
@@ -147,7 +147,7 @@ turns_trace : (g : Ground) (x : ℕ) (F : Flat) (body : Does) (tells : Recorder)
     (before : List Record) (st : State) → HasStatements g.text n (F (x ∷ os)) → Each (IsStatedWell g.tables g.params g.base) (F (x ∷ os)) → g.base ≤ x → (Within x os → ⊥) → IsAtSite g site os before st → number < length before
     → (own : Record) → slice_get before number ≡ Some own → own.spot.turns ≡ site.turns → own.rows ≡ passed ++ rows → k ≡ length passed + 1
     → Traced g before (tell_turns x body tells rows k n (within_loop x number site) before st) os st (each_turn x body rows st)
-turns_trace g x F body tells h [] passed k os n site number before st stands suits high apart here lt own found same are at = (tt, (subst (λ b. Told g b st) (sym (append-nil before)) here.told, λ y w. refl))
+turns_trace g x F body tells h [] passed k os n site number before st stands suits high apart here lt own found same are at = (tt, (subst (λ b. LeadsTo g b st) (sym (append-nil before)) here.told, λ y w. refl))
 turns_trace g x F body tells h (row ∷ rows) passed k os n site number before st stands suits high apart here lt own found same are at =
     let next : State = record st { env = with_held st.env x (Turn row) } in
     let inner : Site = in_turn k (within_loop x number site) in
@@ -259,7 +259,7 @@ either_traced g true before rs ss rows st a c h k = h
 either_traced g false before rs ss rows st a c h k = k
 
 if_trace : (g : Ground) (test : Result Value End) (own : Record) (before : List Record) (rows : List ℕ) (st : State) (ys ns : List Record) (a c : Result State End)
-    → (Told g (before ++ own ∷ []) st → Traced g (before ++ own ∷ []) ys rows st a × Traced g (before ++ own ∷ []) ns rows st c)
+    → (LeadsTo g (before ++ own ∷ []) st → Traced g (before ++ own ∷ []) ys rows st a × Traced g (before ++ own ∷ []) ns rows st c)
     → Traced g before (own ∷ []) rows st (then_do test (λ v. Ok st))
     → Traced g before (own ∷ on test (λ v. if is_so v then ys else ns)) rows st (then_do test (λ v. if is_so v then a else c))
 if_trace g (Ok v) own before rows st ys ns a c h k =
@@ -319,7 +319,7 @@ abbrev plain : (g : Ground) → List (Known g) → List RStmt
 plain g known = map (λ k. k.0) known
 
 all_trace : (g : Ground) (known : List (Known g)) → Traces g (flat_all (plain g known)) (tell_statements g.tables g.params (plain g known)) (alone g.tables (plain g known))
-all_trace g [] rows n site before st stands suits here = (tt, (subst (λ b. Told g b st) (sym (append-nil before)) here.told, λ x w. refl))
+all_trace g [] rows n site before st stands suits here = (tt, (subst (λ b. LeadsTo g b st) (sym (append-nil before)) here.told, λ x w. refl))
 all_trace g (k ∷ ks) rows n site before st stands suits here =
     let these : List Record = tell g.tables g.params k.0 n site before st in
     let split = each_both (IsStatedWell g.tables g.params g.base) (flat k.0 rows) (flat_all (plain g ks) rows) suits in

@@ -119,7 +119,7 @@ abbrev pub sets_in : List Record → List Slot
 sets_in rs = flat_map (λ r. r.sets) rs
 
 -- the state is one after these records
-pub record Told (g : Ground) (before : List Record) (st : State) : Type 0 where
+pub record LeadsTo (g : Ground) (before : List Record) (st : State) : Type 0 where
   pub tables : st.tables ≡ applied (writes_in before) g.db
   pub held : (x : ℕ) → x < g.base → held_at st.env x ≡ held_at (with_slots (sets_in before) g.first) x
   pub found : st.env.found ≡ g.first.found
@@ -151,7 +151,7 @@ ParentHolds before (Some p) turns = (r : Record) × (slice_get before p ≡ Some
 
 -- the state is one at the site, after these records
 pub record IsAtSite (g : Ground) (site : Site) (rows : List ℕ) (before : List Record) (st : State) : Type 0 where
-  pub told : Told g before st
+  pub told : LeadsTo g before st
   pub around : map (λ l. l.row) site.loops ≡ rows
   pub high : Each (λ x. g.base ≤ x) rows
   pub loops : LoopsHold before st.env site.loops site.turns

@@ -46,12 +46,12 @@ text_is_taken Serial bytes answer p r t bad = bad
 text_is_taken Graph bytes answer p r t bad = bad
 text_is_taken (Tpcc load script threads options) bytes answer p r t bad = bad
 
-taken : (command : Command) (bytes : List ℕ) (p : Program) (r : Refusal) → AcceptsProgram command bytes p → RefusesProgram command bytes p r → ⊥
-taken (Run threads options) bytes p r t bad = bad
-taken (Replay options) bytes p r t bad = lawful_is_taken options bytes p t.0 r t.1 bad
-taken Serial bytes p r t bad = bad
-taken Graph bytes p r t bad = bad
-taken (Tpcc load script threads options) bytes p r t bad = bad
+accepted_is_not_refused : (command : Command) (bytes : List ℕ) (p : Program) (r : Refusal) → AcceptsProgram command bytes p → RefusesProgram command bytes p r → ⊥
+accepted_is_not_refused (Run threads options) bytes p r t bad = bad
+accepted_is_not_refused (Replay options) bytes p r t bad = lawful_is_taken options bytes p t.0 r t.1 bad
+accepted_is_not_refused Serial bytes p r t bad = bad
+accepted_is_not_refused Graph bytes p r t bad = bad
+accepted_is_not_refused (Tpcc load script threads options) bytes p r t bad = bad
 
 one_refusal : (command : Command) (bytes : List ℕ) (p : Program) (r q : Refusal) → RefusesProgram command bytes p r → RefusesProgram command bytes p q → r ≡ q
 one_refusal (Run threads options) bytes p r q a b = absurd a
@@ -64,7 +64,7 @@ one_refusal (Tpcc load script threads options) bytes p r q a b = absurd a
 pub only_of : (command : Command) (bytes : List ℕ) (p : Program) (result : Result (List ℕ) NoText) → IfErr result (Causes (RefusesProgram command bytes p))
     → AcceptsProgram command bytes p → IfErr result (λ f. f ≡ NoMemory)
 only_of command bytes p (Ok answer) why t = tt
-only_of command bytes p (Err (Refused r)) why t = absurd (taken command bytes p r t why)
+only_of command bytes p (Err (Refused r)) why t = absurd (accepted_is_not_refused command bytes p r t why)
 only_of command bytes p (Err NoMemory) why t = refl
 
 -- a refusal that has its cause is told, unless memory ran out

@@ -1,4 +1,4 @@
-use Rattle.std.proofs.Common.{◌≡◌, ◌∙◌, ap, map, subst, sym}
+use Rattle.std.proofs.Common.{◌∙◌, ap, map, subst, sym}
 use Rattle.std.specs.List.{All}
 use Rattle.mv_graph.specs.Nodes.{IsSound}
 use Rattle.mv_compile.specs.Compiled.{graph_of}

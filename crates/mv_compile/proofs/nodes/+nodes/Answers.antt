@@ -1,7 +1,6 @@
-use Rattle.std.proofs.Common.{◌≡◌, ◌∙◌, rules, arith, ap, Some, ◌++◌, ◌+◌, length}
+use Rattle.std.proofs.Common.{◌∙◌, ap, ◌++◌, ◌+◌, length}
 use Rattle.std.proofs.lemmas.Result.{on_ok_weaker}
-use Rattle.mv_catalog.specs.declared.resolved.RStmt.{out-RStmt}
-use Rattle.mv_graph.specs.Nodes.{nodes_of, nodes_inside}
+use Rattle.mv_graph.specs.Nodes.{nodes_of}
 use Rattle.mv_compile.proofs.Adding.{both_branches, own_first, one_more, one_more_counted}
 use Rattle.mv_compile.proofs.nodes.+nodes.Goals as goal
 

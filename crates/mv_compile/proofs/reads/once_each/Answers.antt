@@ -1,4 +1,4 @@
-use Rattle.std.proofs.Common.{◌≡◌, ◌∙◌, ap, ◌++◌, ◌+◌, drop}
+use Rattle.std.proofs.Common.{◌∙◌, ap, ◌++◌, ◌+◌, drop}
 use Rattle.mv_recorded.specs.Reading.{each_once}
 use Rattle.mv_compile.proofs.Once.{new_to, all_new, one_number_more}
 use Rattle.mv_compile.proofs.reads.once_each.Goals as goal

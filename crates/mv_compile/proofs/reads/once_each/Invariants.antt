@@ -1,5 +1,4 @@
-use Rattle.std.proofs.Common.{◌≡◌, ◌++◌, ◌==◌, not, drop}
-use Rattle.std.specs.List.{filter, list_any}
+use Rattle.std.proofs.Common.{◌≡◌, ◌++◌, drop}
 use Rattle.mv_recorded.specs.Reading.{each_once}
 use Rattle.mv_compile.proofs.Once.{new_to}
 use Rattle.mv_compile.proofs.reads.once_each.Given as goal

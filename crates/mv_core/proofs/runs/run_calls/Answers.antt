@@ -1,4 +1,4 @@
-use Rattle.std.proofs.Common.{◌≡◌, ◌⊎◌, ℕ, Option, Ok, length, ap, subst, arith}
+use Rattle.std.proofs.Common.{◌≡◌, ℕ, Option, Ok, length, ap, subst, arith}
 use Rattle.mv_journal.specs.declared.event.Event.TheVariants.{B, C}
 use Rattle.mv_core.specs.declared.script.Script.{Script}
 use Rattle.mv_core.specs.Books.{Made, IsSame, work_in}

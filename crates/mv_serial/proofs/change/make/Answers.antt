@@ -1,5 +1,3 @@
-use Rattle.std.proofs.Common.{ap, ◌∙◌}
-use Rattle.mv_values.specs.Keys.{IsRising}
 use Rattle.mv_serial.proofs.Changing.{put_back, taken_back}
 use Rattle.mv_serial.proofs.change.make.Goals as goal
 

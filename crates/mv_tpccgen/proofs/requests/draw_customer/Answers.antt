@@ -1,4 +1,4 @@
-use Rattle.std.proofs.Common.{refl, arith}
+use Rattle.std.proofs.Common.{refl}
 use Rattle.mv_tpccgen.proofs.Drawing.{follows, one_way, other_way, le_holds, le_fails}
 use Rattle.mv_tpccgen.specs.Calls.{customer}
 use Rattle.mv_tpccgen.proofs.requests.draw_customer.Goals as goal

@@ -1,4 +1,4 @@
-use Rattle.std.proofs.Common.{◌≡◌, ◌+◌, ℕ}
+use Rattle.std.proofs.Common.{◌+◌}
 use Rattle.std.specs.Prelude.{◌==◌, ◌&&◌}
 use Rattle.mv_tpccgen.specs.Calls.{order_line}
 use Rattle.mv_tpccgen.specs.Draws.{IsDrawn, each}

@@ -1,5 +1,4 @@
 use Rattle.std.proofs.Common.{◌≡◌, Some, length, ap, sym, subst, ◌∙◌}
-use Rattle.mv_core.specs.declared.tasks.Running.{Running}
 use Rattle.mv_core.specs.Calls.{due_number}
 use Rattle.mv_core.specs.Books.{Booked, work_in}
 use Rattle.mv_core.specs.Cores.{HasEnded, count_or}
