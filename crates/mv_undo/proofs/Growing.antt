@@ -2,7 +2,7 @@
 use Rattle.std.proofs.Common.{◌≡◌, ◌⊎◌, ℕ, zero, suc, ◌+◌, ◌-◌, ◌<◌, ◌≤◌, true, false, cond, List, [], ◌∷◌, ◌++◌, Option, Some, None, All, insert, length, map, slice_index_or, take, refl, sym, ap, subst, ◌∙◌, inl, inr, arith}
 use Rattle.std.proofs.Math.ListN.{set, get_or-append}
 use Rattle.std.proofs.Math.Seq.{get_or-append_seam, take-append_seam}
-use Rattle.std.specs.Prelude.{AllPairs, slice_set}
+use Rattle.std.specs.Prelude.{AllPairs, IfSome, slice_set}
 use Rattle.std.specs.List.Sorted.{IsPartitionPoint}
 use Rattle.std.specs.Ordering.{is_lt, is_le, ordering_reverse}
 use Rattle.std.specs.declared.cmp.Ordering.{Ordering}
@@ -21,10 +21,11 @@ use Rattle.mv_values.specs.Patching.{patched}
 use Rattle.mv_values.proofs.KeyOrder.{exact_keys, key_order_total}
 use Rattle.mv_record.specs.Writes.{is_on, writes_on, patched_by}
 use Rattle.mv_record.proofs.Patching.{patched_append}
+use Rattle.mv_undo.specs.declared.links.Link.{Link}
 use Rattle.mv_undo.specs.declared.owned.Owned.{Owned}
-use Rattle.mv_undo.specs.Indexing.{owned_at, owned_on, full_key, key_at, HasNone, IsComposed, IsComposedOf, IsCut, IsFound, IsIndexed, IsLast, IsLastOn, IsLinked, is_up_to, patch_at, patch_or, renewed}
-use Rattle.mv_undo.proofs.Indexing.{below_misses, on_full, on_itself, on_own}
-use Rattle.mv_undo.proofs.Linking.{at_key, at_last, at_more, writes_lined}
+use Rattle.mv_undo.specs.Indexing.{owned_at, owned_on, full_key, key_at, link_at, no_link, AreToOneKey, HasNone, IsComposed, IsComposedOf, IsCut, IsFound, IsIndexed, IsLast, IsLastOn, IsLinked, is_up_to, patch_at, patch_or, renewed}
+use Rattle.mv_undo.proofs.Indexing.{below_misses, on_full, on_itself, on_own, on_parts}
+use Rattle.mv_undo.proofs.Linking.{at_key, at_last, at_more, some_weaker, writes_lined}
 
 -- A write behind others
 
@@ -255,20 +256,65 @@ found_last items order at t key (Some p) ix high found =
 
 -- Links and patches
 
-pub linked_more : (items : List Owned) (links : List (Option ℕ)) (o : Owned) (m : Option ℕ) → IsLinked items links → IsLastOn items o.write.table o.write.key m → IsLinked (items ++ o ∷ []) (links ++ m ∷ [])
-linked_more items links o m linked last = record { size = omega (arith, linked.size, length_more links m, length_more items o); each = λ p lt. by p (cases_lt p (length items)) lt }
+-- the place that a new write skips to is of a write to its key
+pub far_on : (items : List Owned) (o : Owned) (m far : Option ℕ) → IsLastOn items o.write.table o.write.key m → IfSome far (λ q. IfSome m (λ p. (q ≤ p) × AreToOneKey items p q)) → (m ≡ None → far ≡ None)
+    → IfSome far (λ q. (q < length items) × (is_on o.write.table o.write.key (owned_at items q).write ≡ true))
+far_on items o m None last h none = tt
+far_on items o None (Some q) last h none = absurd (no_place q (none refl))
   where
-    by : (p : ℕ) → (p < length items) ⊎ (length items ≤ p) → p < length (items ++ o ∷ []) → IsLastOn (take p (items ++ o ∷ [])) (owned_at (items ++ o ∷ []) p).write.table (owned_at (items ++ o ∷ []) p).write.key (slice_index_or (links ++ m ∷ []) p None)
+    no_place : (q : ℕ) → Some q ≡ None → ⊥
+    no_place q e = cc
+far_on items o (Some p) (Some q) last h none =
+    let two = on_parts o.write.table o.write.key (owned_at items p) last.1 in (
+      omega (arith, h.0, last.0),
+      subst (λ u. is_on u o.write.key (owned_at items q).write ≡ true) two.0 (subst (λ k. is_on (owned_at items p).write.table k (owned_at items q).write ≡ true) two.1 h.1),
+    )
+
+pub linked_more : (items : List Owned) (links : List Link) (o : Owned) (link : Link) → IsLinked items links → IsLastOn items o.write.table o.write.key link.before
+    → IfSome link.far (λ q. (q < length items) × (is_on o.write.table o.write.key (owned_at items q).write ≡ true)) → IsLinked (items ++ o ∷ []) (links ++ link ∷ [])
+linked_more items links o link linked last skips = record {
+  size = omega (arith, linked.size, length_more links link, length_more items o);
+  each = λ p lt. by p (cases_lt p (length items)) lt;
+  far = λ p lt. far_by p (cases_lt p (length items)) lt;
+}
+  where
+    kept : (p : ℕ) → p < length items → link_at links p ≡ link_at (links ++ link ∷ []) p
+    kept p low = sym (get_or-append links (link ∷ []) no_link p (omega (arith, low, linked.size)))
+
+    new : link ≡ link_at (links ++ link ∷ []) (length items)
+    new = sym (ap (λ n. slice_index_or (links ++ link ∷ []) n no_link) (sym linked.size) ∙ get_or-append_seam links link [] no_link)
+
+    by : (p : ℕ) → (p < length items) ⊎ (length items ≤ p) → p < length (items ++ o ∷ []) → IsLastOn (take p (items ++ o ∷ [])) (owned_at (items ++ o ∷ []) p).write.table (owned_at (items ++ o ∷ []) p).write.key (link_at (links ++ link ∷ []) p).before
     by p (inl low) lt =
-        subst (λ xs. IsLastOn xs (owned_at (items ++ o ∷ []) p).write.table (owned_at (items ++ o ∷ []) p).write.key (slice_index_or (links ++ m ∷ []) p None)) (sym (take-append-le p items (o ∷ []) (omega (arith, low))))
-        (subst (λ (x : Owned). IsLastOn (take p items) x.write.table x.write.key (slice_index_or (links ++ m ∷ []) p None)) (sym (at_more items o p low))
-        (subst (IsLastOn (take p items) (owned_at items p).write.table (owned_at items p).write.key) (sym (get_or-append links (m ∷ []) None p (omega (arith, low, linked.size)))) (linked.each p low)))
+        subst (λ xs. IsLastOn xs (owned_at (items ++ o ∷ []) p).write.table (owned_at (items ++ o ∷ []) p).write.key (link_at (links ++ link ∷ []) p).before) (sym (take-append-le p items (o ∷ []) (omega (arith, low))))
+        (subst (λ (x : Owned). IsLastOn (take p items) x.write.table x.write.key (link_at (links ++ link ∷ []) p).before) (sym (at_more items o p low))
+        (subst (λ (l : Link). IsLastOn (take p items) (owned_at items p).write.table (owned_at items p).write.key l.before) (kept p low) (linked.each p low)))
     by p (inr high) lt =
         let here : length items ≡ p = omega (arith, high, lt, length_more items o) in
-        subst (λ n. IsLastOn (take n (items ++ o ∷ [])) (owned_at (items ++ o ∷ []) n).write.table (owned_at (items ++ o ∷ []) n).write.key (slice_index_or (links ++ m ∷ []) n None)) here
-        (subst (λ xs. IsLastOn xs (owned_at (items ++ o ∷ []) (length items)).write.table (owned_at (items ++ o ∷ []) (length items)).write.key (slice_index_or (links ++ m ∷ []) (length items) None)) (sym (take-append_seam items (o ∷ [])))
-        (subst (λ (x : Owned). IsLastOn items x.write.table x.write.key (slice_index_or (links ++ m ∷ []) (length items) None)) (sym (at_last items o))
-        (subst (IsLastOn items o.write.table o.write.key) (sym (ap (λ n. slice_index_or (links ++ m ∷ []) n None) (sym linked.size) ∙ get_or-append_seam links m [] None)) last)))
+        subst (λ n. IsLastOn (take n (items ++ o ∷ [])) (owned_at (items ++ o ∷ []) n).write.table (owned_at (items ++ o ∷ []) n).write.key (link_at (links ++ link ∷ []) n).before) here
+        (subst (λ xs. IsLastOn xs (owned_at (items ++ o ∷ []) (length items)).write.table (owned_at (items ++ o ∷ []) (length items)).write.key (link_at (links ++ link ∷ []) (length items)).before) (sym (take-append_seam items (o ∷ [])))
+        (subst (λ (x : Owned). IsLastOn items x.write.table x.write.key (link_at (links ++ link ∷ []) (length items)).before) (sym (at_last items o))
+        (subst (λ (l : Link). IsLastOn items o.write.table o.write.key l.before) new last)))
+
+    far_by : (p : ℕ) → (p < length items) ⊎ (length items ≤ p) → p < length (items ++ o ∷ []) → IfSome (link_at (links ++ link ∷ []) p).far (λ q. (q < p) × AreToOneKey (items ++ o ∷ []) p q)
+    far_by p (inl low) lt =
+        some_weaker (link_at (links ++ link ∷ []) p).far (λ q. (q < p) × AreToOneKey items p q) (λ q. (q < p) × AreToOneKey (items ++ o ∷ []) p q)
+        (λ q h. (
+          h.0,
+          subst (λ (x : Owned). is_on x.write.table x.write.key (owned_at (items ++ o ∷ []) q).write ≡ true) (sym (at_more items o p low))
+              (subst (λ (x : Owned). is_on (owned_at items p).write.table (owned_at items p).write.key x.write ≡ true) (sym (at_more items o q (omega (arith, h.0, low)))) h.1),
+        ))
+        (subst (λ (l : Link). IfSome l.far (λ q. (q < p) × AreToOneKey items p q)) (kept p low) (linked.far p low))
+    far_by p (inr high) lt =
+        let here : length items ≡ p = omega (arith, high, lt, length_more items o) in
+        subst (λ n. IfSome (link_at (links ++ link ∷ []) n).far (λ q. (q < n) × AreToOneKey (items ++ o ∷ []) n q)) here
+        (some_weaker (link_at (links ++ link ∷ []) (length items)).far (λ q. (q < length items) × (is_on o.write.table o.write.key (owned_at items q).write ≡ true)) (λ q. (q < length items) × AreToOneKey (items ++ o ∷ []) (length items) q)
+        (λ q h. (
+          h.0,
+          subst (λ (x : Owned). is_on x.write.table x.write.key (owned_at (items ++ o ∷ []) q).write ≡ true) (sym (at_last items o))
+              (subst (λ (x : Owned). is_on o.write.table o.write.key x.write ≡ true) (sym (at_more items o q h.0)) h.1),
+        ))
+        (subst (λ (l : Link). IfSome l.far (λ q. (q < length items) × (is_on o.write.table o.write.key (owned_at items q).write ≡ true))) new skips))
 
 -- a patch does what those of these writes do that are to the key of this one
 abbrev Kept : Patch → Owned → List Owned → Type 0

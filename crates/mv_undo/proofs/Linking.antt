@@ -9,9 +9,10 @@ use Rattle.std.proofs.lemmas.List.Elements.{filter-append}
 use Rattle.mv_values.specs.declared.value.Value.{Value}
 use Rattle.mv_values.specs.declared.patch.Patch.{Patch}
 use Rattle.mv_record.specs.Writes.{is_on, writes_on, patched_by}
+use Rattle.mv_undo.specs.declared.links.Link.{Link}
 use Rattle.mv_undo.specs.declared.owned.Owned.{Owned}
 use Rattle.mv_undo.specs.Owning.{IsInOrder, before, earlier, touches}
-use Rattle.mv_undo.specs.Indexing.{owned_at, owned_on, IsLastOn, IsLinked, IsComposed, DoesAll, patch_at}
+use Rattle.mv_undo.specs.Indexing.{owned_at, owned_on, AreToOneKey, IsLastOn, IsLinked, IsUpTo, IsComposed, DoesAll, link_at, patch_at}
 use Rattle.mv_undo.proofs.Indexing.{on_parts}
 use Rattle.mv_undo.proofs.Owning.{smaller}
 
@@ -71,11 +72,6 @@ not_none (x ∷ xs) (suc p) t key lt on none = by (is_on t key x.write) none (no
 
 -- Those of earlier records
 
--- the last write to a key of those from the first to a place is the last of all by records with smaller numbers
-abbrev pub IsUpTo : ℕ → List Owned → ℕ → List Value → Option ℕ → Type 0
-IsUpTo n items t key None = owned_on t key (before n items) ≡ []
-IsUpTo n items t key (Some p) = (p < length items) × (is_on t key (owned_at items p).write ≡ true) × (owned_on t key (before n items) ≡ owned_on t key (before n (take (p + 1) items)))
-
 -- how far back it may go
 abbrev pub reach : Option ℕ → ℕ
 reach None = 0
@@ -86,7 +82,7 @@ up_to_last n items t key None h = on_before n t key items ∙ ap (before n) h
 up_to_last n items t key (Some p) h = (h.0, h.1, on_before n t key items ∙ (ap (before n) h.2 ∙ sym (on_before n t key (take (p + 1) items))))
 
 -- one step back
-pub up_to_link : (n : ℕ) (items : List Owned) (links : List (Option ℕ)) (p : ℕ) (m : Option ℕ) → IsLinked items links → p < length items → m ≡ slice_index_or links p None → nat_lt (owned_at items p).number n ≡ false
+pub up_to_link : (n : ℕ) (items : List Owned) (links : List Link) (p : ℕ) (m : Option ℕ) → IsLinked items links → p < length items → m ≡ (link_at links p).before → nat_lt (owned_at items p).number n ≡ false
     → (t : ℕ) (key : List Value) → IsUpTo n items t key (Some p) → IsUpTo n items t key m
 up_to_link n items links p m linked lt is late t key h = by m (at_key (take p items) (owned_at items p) t key m h.1 (subst (IsLastOn (take p items) (owned_at items p).write.table (owned_at items p).write.key) (sym is) (linked.each p lt)))
   where
@@ -111,6 +107,32 @@ up_to_link n items links p m linked lt is late t key h = by m (at_key (take p it
           subst (λ (x : Owned). is_on t key x.write ≡ true) (at_take items p q low) last.1,
           front ∙ (ap (before n) (last.2 ∙ ap (owned_on t key) (take-take (q + 1) p items (omega (arith, low)))) ∙ sym (on_before n t key (take (q + 1) items))),
         )
+
+all_late : (n : ℕ) (x : Owned) (xs : List Owned) → IsInOrder (x ∷ xs) → nat_lt x.number n ≡ false → before n xs ≡ []
+all_late n x [] order late = refl
+all_late n x (y ∷ ys) order late = by (nat_lt y.number n) refl (all_late n y ys (λ i j d lt within. order (suc i) (suc j) d (omega (arith, lt)) (omega (arith, within))))
+  where
+    by : (b : Bool) → nat_lt y.number n ≡ b → (nat_lt y.number n ≡ false → before n ys ≡ []) → cond b (y ∷ before n ys) (before n ys) ≡ []
+    by true e more = absurd (both_ways (nat_lt x.number n) late (smaller x.number y.number n (order 0 1 y (omega arith) (omega arith)) e))
+    by false e more = more e
+
+-- from a write by a record without a smaller number on, none is by one with a smaller number
+late_from : (n : ℕ) (items : List Owned) (p : ℕ) → IsInOrder items → p < length items → nat_lt (owned_at items p).number n ≡ false → before n items ≡ before n (take (suc p) items)
+late_from n [] p order lt late = absurd (omega (arith, lt))
+late_from n (x ∷ xs) zero order lt late = ap (λ l. cond (nat_lt x.number n) (x ∷ l) l) (all_late n x xs order late)
+late_from n (x ∷ xs) (suc p) order lt late = ap (λ l. cond (nat_lt x.number n) (x ∷ l) l) (late_from n xs p (λ i j d low within. order (suc i) (suc j) d (omega (arith, low)) (omega (arith, within))) (omega (arith, lt)) late)
+
+-- a skip to an earlier write to the key
+pub up_to_far : (n : ℕ) (items : List Owned) (p q : ℕ) → IsInOrder items → p < length items → q < p → AreToOneKey items p q → nat_lt (owned_at items q).number n ≡ false
+    → (t : ℕ) (key : List Value) → IsUpTo n items t key (Some p) → IsUpTo n items t key (Some q)
+up_to_far n items p q order lt low one late t key h =
+    let two = on_parts t key (owned_at items p) h.1 in
+    let there : q < length items = omega (arith, low, lt) in
+    let next : suc q ≡ q + 1 = omega arith in (
+      there,
+      subst (λ u. is_on u key (owned_at items q).write ≡ true) two.0 (subst (λ k. is_on (owned_at items p).write.table k (owned_at items q).write ≡ true) two.1 one),
+      ap (owned_on t key) (late_from n items q order there late ∙ ap (λ k. before n (take k items)) next),
+    )
 
 -- what a write of an earlier record has in front of it is by earlier records
 record IsFront (n : ℕ) (items : List Owned) (p : ℕ) : Type 0 where
@@ -221,8 +243,21 @@ pub within_longer : (n k : ℕ) (m : Option ℕ) → n ≤ k → IfSome m (λ p.
 within_longer n k None le h = tt
 within_longer n k (Some p) le h = omega (arith, le, h)
 
+-- a skip goes to an earlier write to the key
+pub skip_at : (items : List Owned) (links : List Link) (p q : ℕ) → IsLinked items links → p < length items → (link_at links p).far ≡ Some q → (q < p) × AreToOneKey items p q
+skip_at items links p q linked lt is = subst (λ m. IfSome m (λ q. (q < p) × AreToOneKey items p q)) is (linked.far p lt)
+
+pub one_key_through : (items : List Owned) (p q r : ℕ) → AreToOneKey items p q → AreToOneKey items q r → AreToOneKey items p r
+one_key_through items p q r h k =
+    let two = on_parts (owned_at items p).write.table (owned_at items p).write.key (owned_at items q) h in
+    subst (λ u. is_on u (owned_at items p).write.key (owned_at items r).write ≡ true) two.0 (subst (λ l. is_on (owned_at items q).write.table l (owned_at items r).write ≡ true) two.1 k)
+
+pub some_weaker : (m : Option ℕ) (F G : ℕ → Type 0) → ((q : ℕ) → F q → G q) → IfSome m F → IfSome m G
+some_weaker None F G f h = tt
+some_weaker (Some q) F G f h = f q h
+
 -- a link goes back
-pub link_within : (items : List Owned) (links : List (Option ℕ)) (p : ℕ) (m : Option ℕ) → IsLinked items links → p < length items → m ≡ slice_index_or links p None → IfSome m (λ q. q < p)
+pub link_within : (items : List Owned) (links : List Link) (p : ℕ) (m : Option ℕ) → IsLinked items links → p < length items → m ≡ (link_at links p).before → IfSome m (λ q. q < p)
 link_within items links p m linked lt is =
     within_longer (length (take p items)) p m (omega (arith, length-take p items)) (within_last (take p items) (owned_at items p).write.table (owned_at items p).write.key m (subst (IsLastOn (take p items) (owned_at items p).write.table (owned_at items p).write.key) (sym is) (linked.each p lt)))
 
@@ -231,14 +266,6 @@ reach_less p None h = omega arith
 reach_less p (Some q) h = omega (arith, h)
 
 -- The front of the writes
-
-all_late : (n : ℕ) (x : Owned) (xs : List Owned) → IsInOrder (x ∷ xs) → nat_lt x.number n ≡ false → before n xs ≡ []
-all_late n x [] order late = refl
-all_late n x (y ∷ ys) order late = by (nat_lt y.number n) refl (all_late n y ys (λ i j d lt within. order (suc i) (suc j) d (omega (arith, lt)) (omega (arith, within))))
-  where
-    by : (b : Bool) → nat_lt y.number n ≡ b → (nat_lt y.number n ≡ false → before n ys ≡ []) → cond b (y ∷ before n ys) (before n ys) ≡ []
-    by true e more = absurd (both_ways (nat_lt x.number n) late (smaller x.number y.number n (order 0 1 y (omega arith) (omega arith)) e))
-    by false e more = more e
 
 -- those of earlier records are the first ones
 pub front_is : (n : ℕ) (items : List Owned) → IsInOrder items → before n items ≡ take (length (before n items)) items

@@ -1,7 +1,7 @@
 -- Own writes without those of the last records.
 use Rattle.std.proofs.Common.{◌≡◌, ◌⊎◌, ℕ, suc, ◌+◌, ◌<◌, ◌≤◌, Bool, true, false, cond, List, [], ◌∷◌, ◌++◌, Option, Some, None, All, drop, length, map, slice_index_or, take, refl, sym, ap, subst, ◌∙◌, inl, inr, arith, take-append-drop}
 use Rattle.std.proofs.Math.ListN.{set}
-use Rattle.std.specs.Prelude.{AllPairs, nat_lt}
+use Rattle.std.specs.Prelude.{AllPairs, IfSome, nat_lt}
 use Rattle.std.specs.List.{filter}
 use Rattle.std.specs.Option.{unwrap_or}
 use Rattle.std.specs.Ordering.{is_lt}
@@ -13,11 +13,12 @@ use Rattle.mv_values.specs.declared.value.Value.{Value}
 use Rattle.mv_values.specs.declared.patch.Patch.{Patch}
 use Rattle.mv_values.specs.Order.{key_order}
 use Rattle.mv_record.specs.Writes.{is_on}
+use Rattle.mv_undo.specs.declared.links.Link.{Link}
 use Rattle.mv_undo.specs.declared.owned.Owned.{Owned}
 use Rattle.mv_undo.specs.Owning.{before}
-use Rattle.mv_undo.specs.Indexing.{owned_at, owned_on, full_key, key_at, GoesBack, HasNone, IsComposed, IsComposedOf, IsIndexed, IsLast, IsLastOn, IsLinked, patch_at, patch_or}
+use Rattle.mv_undo.specs.Indexing.{owned_at, owned_on, full_key, key_at, link_at, no_link, AreToOneKey, GoesBack, HasNone, IsComposed, IsComposedOf, IsIndexed, IsLast, IsLastOn, IsLinked, patch_at, patch_or}
 use Rattle.mv_undo.proofs.Indexing.{on_full, on_itself, on_parts}
-use Rattle.mv_undo.proofs.Linking.{at_key, at_take, not_none}
+use Rattle.mv_undo.proofs.Linking.{at_key, at_take, not_none, some_weaker}
 use Rattle.mv_undo.proofs.Growing.{rises_same}
 
 -- A part of the places
@@ -125,16 +126,31 @@ module _ (items : List Owned) (order back : List ℕ) (number len : ℕ) (ix : I
 
 -- Links and patches
 
-pub linked_less : (items : List Owned) (links : List (Option ℕ)) (len : ℕ) → IsLinked items links → IsLinked (take len items) (take len links)
+pub linked_less : (items : List Owned) (links : List Link) (len : ℕ) → IsLinked items links → IsLinked (take len items) (take len links)
 linked_less items links len linked = record {
   size = omega (arith, linked.size, length-take len items, length-take len links);
   each = λ p lt.
-      let low : p < len = omega (arith, lt, length-take len items) in
-      let inside : p < length items = omega (arith, lt, length-take len items) in
-      subst (λ xs. IsLastOn xs (owned_at (take len items) p).write.table (owned_at (take len items) p).write.key (slice_index_or (take len links) p None)) (sym (take-take p len items (omega (arith, low))))
-      (subst (λ (x : Owned). IsLastOn (take p items) x.write.table x.write.key (slice_index_or (take len links) p None)) (sym (at_take items len p low))
-      (subst (IsLastOn (take p items) (owned_at items p).write.table (owned_at items p).write.key) (sym (get_or-take len links p None low)) (linked.each p inside)));
+      subst (λ xs. IsLastOn xs (owned_at (take len items) p).write.table (owned_at (take len items) p).write.key (link_at (take len links) p).before) (sym (take-take p len items (omega (arith, low p lt))))
+      (subst (λ (x : Owned). IsLastOn (take p items) x.write.table x.write.key (link_at (take len links) p).before) (sym (at_take items len p (low p lt)))
+      (subst (λ (l : Link). IsLastOn (take p items) (owned_at items p).write.table (owned_at items p).write.key l.before) (kept p lt) (linked.each p (inside p lt))));
+  far = λ p lt.
+      some_weaker (link_at (take len links) p).far (λ q. (q < p) × AreToOneKey items p q) (λ q. (q < p) × AreToOneKey (take len items) p q)
+      (λ q h. (
+        h.0,
+        subst (λ (x : Owned). is_on x.write.table x.write.key (owned_at (take len items) q).write ≡ true) (sym (at_take items len p (low p lt)))
+            (subst (λ (x : Owned). is_on (owned_at items p).write.table (owned_at items p).write.key x.write ≡ true) (sym (at_take items len q (omega (arith, h.0, low p lt)))) h.1),
+      ))
+      (subst (λ (l : Link). IfSome l.far (λ q. (q < p) × AreToOneKey items p q)) (kept p lt) (linked.far p (inside p lt)));
 }
+  where
+    low : (p : ℕ) → p < length (take len items) → p < len
+    low p lt = omega (arith, lt, length-take len items)
+
+    inside : (p : ℕ) → p < length (take len items) → p < length items
+    inside p lt = omega (arith, lt, length-take len items)
+
+    kept : (p : ℕ) → p < length (take len items) → link_at links p ≡ link_at (take len links) p
+    kept p lt = sym (get_or-take len links p no_link (low p lt))
 
 pub composed_less : (items : List Owned) (composed : List (Option Patch)) (len : ℕ) → IsComposed items composed → IsComposed (take len items) (take len composed)
 composed_less items composed len kept = record {

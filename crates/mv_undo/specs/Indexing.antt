@@ -1,5 +1,5 @@
 -- The index of the own writes by table and key.
-use Rattle.std.specs.Prelude.{◌≡◌, ◌<◌, ◌+◌, ◌-◌, ◌⊎◌, ℕ, Bool, true, false, List, [], ◌∷◌, Option, Some, None, All, AllPairs, length, map, take, slice_get, slice_index_or, slice_set, pos}
+use Rattle.std.specs.Prelude.{◌≡◌, ◌<◌, ◌+◌, ◌-◌, ◌⊎◌, ℕ, Bool, true, false, List, [], ◌∷◌, Option, Some, None, All, AllPairs, IfSome, length, map, take, slice_get, slice_index_or, slice_set, pos}
 use Rattle.std.specs.List.{filter, insert}
 use Rattle.std.specs.List.Sorted.{IsPartitionPoint}
 use Rattle.std.specs.Ordering.{is_lt, is_le}
@@ -12,6 +12,7 @@ use Rattle.mv_values.specs.Order.{key_order}
 use Rattle.mv_values.specs.Patching.{patched}
 use Rattle.mv_table.specs.declared.span.Span.{Span}
 use Rattle.mv_record.specs.Writes.{is_on, patched_by}
+use Rattle.mv_undo.specs.declared.links.Link.{Link}
 use Rattle.mv_undo.specs.declared.owned.Owned.{Owned}
 use Rattle.mv_undo.specs.Owning.{before}
 
@@ -57,10 +58,23 @@ pub record IsIndexed (items : List Owned) (order : List ℕ) : Type 0 where
   pub are : AreLast items order
   pub each : (t : ℕ) (key : List Value) → HasNone items t key order → owned_on t key items ≡ []
 
--- with each write stands the place of the last write to its key before it
-pub record IsLinked (items : List Owned) (links : List (Option ℕ)) : Type 0 where
+-- the link of a write without earlier ones to its key
+abbrev pub no_link : Link
+no_link = record { before = None; far = None; depth = 0 }
+
+-- the link of the write at a place
+abbrev pub link_at : List Link → ℕ → Link
+link_at links place = slice_index_or links place no_link
+
+-- the writes at these places are to one key
+abbrev pub AreToOneKey : List Owned → ℕ → ℕ → Type 0
+AreToOneKey items place other = is_on (owned_at items place).write.table (owned_at items place).write.key (owned_at items other).write ≡ true
+
+-- with each write stands the place of the last write to its key before it, and that of an earlier write to its key
+pub record IsLinked (items : List Owned) (links : List Link) : Type 0 where
   pub size : length links ≡ length items
-  pub each : (place : ℕ) → place < length items → IsLastOn (take place items) (owned_at items place).write.table (owned_at items place).write.key (slice_index_or links place None)
+  pub each : (place : ℕ) → place < length items → IsLastOn (take place items) (owned_at items place).write.table (owned_at items place).write.key (link_at links place).before
+  pub far : (place : ℕ) → place < length items → IfSome (link_at links place).far (λ far. (far < place) × AreToOneKey items place far)
 
 -- the write at a place is to a key below this one, or up to and including it; each key has its table in front
 abbrev pub is_below : List Owned → List Value → ℕ → Bool
@@ -78,6 +92,11 @@ IsFound items order at t key (Some place) = (0 < at) × (slice_index_or order (a
 abbrev pub renewed : List ℕ → ℕ → Option ℕ → ℕ → List ℕ
 renewed order at None last = insert order at last
 renewed order at (Some place) last = slice_set order (at - 1) last
+
+-- no write to this key behind the place is by a record with a smaller number; or no such record wrote the key
+abbrev pub IsUpTo : ℕ → List Owned → ℕ → List Value → Option ℕ → Type 0
+IsUpTo n items t key None = owned_on t key (before n items) ≡ []
+IsUpTo n items t key (Some p) = (p < length items) × (is_on t key (owned_at items p).write ≡ true) × (owned_on t key (before n items) ≡ owned_on t key (before n (take (p + 1) items)))
 
 -- a place stands for the last write to its key by a record with a smaller number, if there is one, else for itself
 abbrev pub GoesBack : List Owned → ℕ → ℕ → ℕ → Type 0

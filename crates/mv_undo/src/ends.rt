@@ -6,7 +6,7 @@ ghost use Rattle.mv_undo.specs.Taking.{sought_keys, HasAdmitted};
 ghost use Rattle.mv_undo.specs.Indexing.{AreLast, IsLinked};
 ghost use Rattle.mv_undo.specs.Owning.{earlier, AreSought, IsInOrder};
 
-use crate::links::is_sought;
+use crate::links::{Link, is_sought};
 use crate::lookup::write_at;
 use crate::owned::Owned;
 use mv_table::scan::Direction;
@@ -18,7 +18,7 @@ use std::marker::Model;
 /// later.
 fn first_sought<'a>(
     items: &'a [Owned],
-    links: &[Option<usize>],
+    links: &[Link],
     places: &'a [usize],
     number: usize,
     pred: &Pred,
@@ -44,7 +44,7 @@ fn first_sought<'a>(
 #[derive(Drop)]
 pub struct SoughtKeys<'a> {
     items: &'a [Owned],
-    links: &'a [Option<usize>],
+    links: &'a [Link],
     places: &'a [usize],
     number: usize,
     pred: &'a Pred,
@@ -68,7 +68,7 @@ impl<'a> SoughtKeys<'a> {
     /// Returns the keys at these places that the predicate seeks.
     pub(crate) fn new(
         items: &'a [Owned],
-        links: &'a [Option<usize>],
+        links: &'a [Link],
         places: &'a [usize],
         number: usize,
         pred: &'a Pred,
@@ -88,8 +88,8 @@ impl<'a> SoughtKeys<'a> {
         }
     }
 
-    /// Takes the key that a scan in this direction meets first. Costs a step for each key that it passes over, and for
-    /// each write to these keys by other records than those below `number`.
+    /// Takes the key that a scan in this direction meets first. Costs a step for each key that it passes over, and the
+    /// logarithm of the number of writes to it.
     pub fn take_next(&mut self, direction: Direction) -> Option<&'a Key>
         ensures { MatchOption result (self.old ≡ []) (λ key. self.old ≡ with_foremost direction key.now self.new) }
     {

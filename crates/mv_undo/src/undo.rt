@@ -8,7 +8,7 @@ ghost use Rattle.mv_undo.specs.Indexing.{DoesAll, IsLastOn};
 
 use crate::ends::SoughtKeys;
 use crate::index::{count_up_to, found_at, last_on, places_in, renew};
-use crate::links::{go_back, last_before};
+use crate::links::{Link, go_back, last_before, link_to};
 use crate::lookup::copy_of;
 use crate::owned::Owned;
 use crate::state::{is_whole, patch_up_to, patch_with};
@@ -25,15 +25,15 @@ use std::alloc::Global;
 use std::marker::Model;
 
 /// The writes of a running call, each with the number of its record. Contracts see them in the order of `push`. `order`
-/// has the place of the last write to each key, by table and key. `links` has for each write the place of the write to
-/// its key before it, if there is one. `composed` has for each write the patch that does what the writes to its key do up
+/// has the place of the last write to each key, by table and key. `links` has for each write where the earlier writes
+/// to its key are. `composed` has for each write the patch that does what the writes to its key do up
 /// to it, or `None` where its own patch does.
 #[derive(Drop)]
 pub struct Undo {
     alloc: Global,
     items: Vec<Owned>,
     composed: Vec<Option<Patch>>,
-    links: Vec<Option<usize>>,
+    links: Vec<Link>,
     order: Vec<usize>,
 }
 
@@ -86,13 +86,14 @@ impl Undo {
         let before = found_at(items, order, at, write.table, &write.key);
         let composed = self.composed.as_slice();
         let patch = patch_with(self.alloc, items, composed, before, &write)?;
+        let link = link_to(items, self.links.as_slice(), before);
         let last = self.items.len();
         self.items.reserve(1)?;
         self.composed.reserve(1)?;
         self.links.reserve(1)?;
         renew(&mut self.order, at, before, last)?;
         self.composed.push(patch)?;
-        self.links.push(before)?;
+        self.links.push(link)?;
         self.items.push(Owned { number, write })?;
         Ok(())
     }
@@ -120,7 +121,7 @@ impl Undo {
     }
 
     /// Returns the place of the last write to a key by a record below `number`, if there is one. Costs the logarithm of
-    /// the number of written keys, and a step for each write to the key by another record.
+    /// the number of writes.
     fn last_earlier(&self, number: usize, table: u8, key: &Key) -> Option<usize>
         ensures { IsLastOn (before number self.now) table key.now result }
     {
@@ -129,8 +130,7 @@ impl Undo {
         last_before(items, self.links.as_slice(), last, number)
     }
 
-    /// Whether a record below `number` wrote the key. Allocates nothing. Costs the logarithm of the number of written
-    /// keys, and a step for each write to the key by another record.
+    /// Whether a record below `number` wrote the key. Allocates nothing. Costs the logarithm of the number of writes.
     pub fn touched(&self, number: usize, table: u8, key: &Key) -> bool
         ensures { result ≡ touches table key.now (earlier number self.now) }
     {
@@ -139,7 +139,7 @@ impl Undo {
 
     /// Returns the keys of the predicate's table that records below `number` wrote and that the predicate admits, each
     /// once, in order. Fails if memory runs out. Costs a step for each written key in the span that the predicate's
-    /// tests leave, and for each write to these keys by other records than those below `number`.
+    /// tests leave, and the logarithm of the number of writes to it.
     pub fn keys(&self, alloc: Global, number: usize, pred: &Pred) -> Result<List<Key>, NoMemory>
         ensures { IfOk result (λ keys. AreSought pred.now (earlier number self.now) keys) }
     {

@@ -1,7 +1,8 @@
-use Rattle.std.proofs.Common.{◌<◌, Option, None, ℕ, length, slice_index_or, refl, ap, subst, sym, ◌∙◌, arith}
+use Rattle.std.proofs.Common.{◌<◌, Option, ℕ, length, ap, subst, sym, ◌∙◌, arith}
 use Rattle.std.specs.Prelude.{nat_lt, IfSome}
 use Rattle.mv_undo.specs.declared.owned.Owned.{Owned}
-use Rattle.mv_undo.proofs.Linking.{IsUpTo, last_early, link_within, reach, reach_less, up_to_last, up_to_link, within_longer}
+use Rattle.mv_undo.specs.Indexing.{IsUpTo}
+use Rattle.mv_undo.proofs.Linking.{last_early, reach, reach_less, up_to_last, within_longer}
 use Rattle.mv_undo.proofs.links.last_before.Goals as goal
 
 pub loop-last-init : goal.loop-last-init
@@ -15,25 +16,15 @@ returns-then-is_before c = λ t key last.
 pub loop-last-preserved : goal.loop-last-preserved
 loop-last-preserved c =
     let items = c.args.items.now in
-    let links = c.args.links.now in
     let place = c.in-Some.place in
-    let link : Option ℕ = slice_index_or links place None in
     let within : place < length items = subst (λ (m : Option ℕ). IfSome m (λ p. p < length items)) c.in-Some.is c.loop-last.invariant.within in
     record {
-      within = within_longer place (length items) link (omega (arith, within)) (link_within items links place link c.requires.linked within refl);
-      back = λ t key last.
-          up_to_link c.args.number items links place link c.requires.linked within refl (ap (λ (o : Owned). nat_lt o.number c.args.number) (sym c.write_at.ensures) ∙ (sym c.is_before.ensures ∙ c.if-is_before.false)) t key
-          (subst (IsUpTo c.args.number items t key) c.in-Some.is (c.loop-last.invariant.back t key last));
+      within = within_longer place (length items) c.back_from-last.result (omega (arith, within)) c.back_from-last.ensures.within;
+      back = λ t key last. c.back_from-last.ensures.back t key (subst (IsUpTo c.args.number items t key) c.in-Some.is (c.loop-last.invariant.back t key last));
     }
 
 pub loop-last-smaller : goal.loop-last-smaller
-loop-last-smaller c =
-    let items = c.args.items.now in
-    let links = c.args.links.now in
-    let place = c.in-Some.place in
-    let link : Option ℕ = slice_index_or links place None in
-    let within : place < length items = subst (λ (m : Option ℕ). IfSome m (λ p. p < length items)) c.in-Some.is c.loop-last.invariant.within in
-    subst (λ (m : Option ℕ). reach link < reach m) (sym c.in-Some.is) (reach_less place link (link_within items links place link c.requires.linked within refl))
+loop-last-smaller c = subst (λ (m : Option ℕ). reach c.back_from-last.result < reach m) (sym c.in-Some.is) (reach_less c.in-Some.place c.back_from-last.result c.back_from-last.ensures.within)
 
 pub returns : goal.returns
 returns c = λ t key last. subst (IsUpTo c.args.number c.args.items.now t key) c.in_default.is (c.loop-last.invariant.back t key last)

@@ -1,8 +1,8 @@
 use Rattle.std.proofs.Common.{◌<◌, ℕ, List, length}
 use Rattle.std.specs.Prelude.{IfSome}
 use Rattle.mv_values.specs.declared.value.Value.{Value}
-use Rattle.mv_undo.specs.Indexing.{IsLastOn}
-use Rattle.mv_undo.proofs.Linking.{IsUpTo, reach}
+use Rattle.mv_undo.specs.Indexing.{IsLastOn, IsUpTo}
+use Rattle.mv_undo.proofs.Linking.{reach}
 use Rattle.mv_undo.proofs.links.last_before.Given as goal
 
 abbrev pub invariant-loop-last : goal.invariant-loop-last
