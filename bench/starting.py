@@ -10,7 +10,7 @@ from parts import TOP
 WHERE = """
 top=$1 && "$top/mv3c" serial </dev/null >/dev/null && . "$top/release/programs.sh" && find_sources mv3c || exit 70
 if is_built mv3c; then echo "$top/crates/mv3c/out/mv3c"; else echo "$top/release/mv3c"; fi
-keep_blocks
+tune_memory
 echo "$GLIBC_TUNABLES"
 """
 

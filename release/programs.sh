@@ -132,10 +132,11 @@ END
     done
 }
 
-# Has the C library keep 256 freed blocks of each size at hand, and not seven: a call of a script frees and takes as many.
-# That spares `run` a tenth of its instructions. Tunables that are set already stay.
-keep_blocks() {
-    export GLIBC_TUNABLES="${GLIBC_TUNABLES-glibc.malloc.tcache_count=256}"
+# Says how the C library takes memory. It keeps 256 freed blocks of each size at hand, and not seven: a call of a script
+# frees and takes as many. It asks the system for 16 MiB at a time, and for large pages: rows are read from all over the
+# memory. Tunables that are set already stay.
+tune_memory() {
+    export GLIBC_TUNABLES="${GLIBC_TUNABLES-glibc.malloc.tcache_count=256:glibc.malloc.hugetlb=1:glibc.malloc.top_pad=16777216}"
 }
 
 # Runs a program: the build of these sources, or the release of these sources, or what is built now.
@@ -150,6 +151,6 @@ start() { # NAME WORDS..
         program=$top/crates/$1/out/$1
     fi
     shift
-    keep_blocks
+    tune_memory
     exec "$program" "$@"
 }

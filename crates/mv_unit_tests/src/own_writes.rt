@@ -286,3 +286,47 @@ fn rows_are_seen_where_records_were_dropped_and_came_again(rt: HostRuntime) -> R
     }
     seen_as_told(alloc, &undo)
 }
+
+/// Adds a write of each of these records to one key: its number is in the row.
+fn push_numbers(alloc: Global, undo: &mut Undo, from: u32, to: u32) -> Result<(), Fail> {
+    for number in from..to {
+        let write = Write {
+            table: 0,
+            key: row(alloc, &[1])?,
+            patch: patch_of(alloc, 1, Kind::Insert(number as i64, 0))?,
+        };
+        push_write(undo, number as usize, write)?;
+    }
+    Ok(())
+}
+
+/// Whether a record finds the row that another one wrote.
+fn finds(alloc: Global, undo: &Undo, number: u32, other: u32) -> Result<bool, NoMemory> {
+    let want = row(alloc, &[1, other as i64, 0])?;
+    match undo.row_behind(alloc, number as usize, 0, &row(alloc, &[1])?, None)? {
+        Some(found) => Ok(are_same(found.as_slice(), want.as_slice())),
+        None => Ok(false),
+    }
+}
+
+/// Checks that each record finds what the one before it wrote, and that later ones find what the last one wrote.
+fn find_the_last(alloc: Global, undo: &Undo, records: u32) -> Result<(), Fail> {
+    for other in 0..records {
+        let is_found = finds(alloc, undo, other.saturating_add(1), other)?;
+        ensure_at(alloc, is_found, other as usize)?;
+    }
+    let last = records.saturating_sub(1);
+    ensure_at(alloc, finds(alloc, undo, 999, last)?, records as usize)
+}
+
+#[test]
+fn each_record_finds_the_last_write_to_a_key(rt: HostRuntime) -> Result<(), Fail> {
+    let alloc = rt.alloc();
+    let mut undo = Undo::new(alloc);
+    push_numbers(alloc, &mut undo, 0, 100)?;
+    find_the_last(alloc, &undo, 100)?;
+    undo.drop_from(37);
+    find_the_last(alloc, &undo, 37)?;
+    push_numbers(alloc, &mut undo, 37, 80)?;
+    find_the_last(alloc, &undo, 80)
+}
