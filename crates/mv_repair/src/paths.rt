@@ -1,6 +1,6 @@
 //! The paths of records.
 
-ghost use Rattle.std.specs.Prelude.{◌≡◌, ℕ, ◌++◌, ◌∷◌, [], List as Seq, drop, length, nat_lt, slice_get, IfOk, if◌then◌else◌};
+ghost use Rattle.std.specs.Prelude.{◌≡◌, ℕ, ◌++◌, ◌∷◌, [], List as Seq, drop, length, nat_lt, slice_get, IfOk, OnOk, if◌then◌else◌};
 ghost use Rattle.std.specs.Option.{option_and_then, option_copied};
 ghost use Rattle.std.specs.Ordering.{is_lt, nat_cmp};
 ghost use Rattle.std.specs.Cmp.Lexicographic.{slice_cmp};
@@ -11,10 +11,55 @@ ghost use Rattle.mv_repair.specs.Walking.{path_behind};
 use mv_record::record::{Record, Spot};
 use mv_values::list::List;
 use mv_values::memory::NoMemory;
+use smallvec::SmallVec;
 use std::alloc::Global;
+use std::marker::Model;
 
-/// The path of a record: the number and the iteration of each enclosing FOR, and the number of its statement.
-pub(crate) type Path = List<usize>;
+/// The path of a record: the number and the iteration of each enclosing FOR, and the number of its statement. In up to
+/// two FORs it allocates nothing.
+#[derive(Drop)]
+pub(crate) struct Path {
+    numbers: SmallVec<usize, 5>,
+}
+
+impl Model for Path {
+    ghost use Rattle.std.specs.Prelude.{ℕ, List as Seq};
+
+    ghost Value = { Seq ℕ };
+
+    ghost view = { λ p. p.numbers.items };
+}
+
+impl Path {
+    fn new(alloc: Global) -> Path
+        ensures { result ≡ [] }
+    {
+        Path {
+            numbers: SmallVec::new(alloc),
+        }
+    }
+
+    /// Borrows the numbers.
+    pub(crate) fn as_slice(&self) -> &[usize]
+        ensures { result.now ≡ self.now }
+    {
+        self.numbers.as_slice()
+    }
+
+    fn push(&mut self, number: usize) -> Result<(), NoMemory>
+        ensures { OnOk result (self.new ≡ self.old ++ number ∷ []) }
+    {
+        self.numbers.push(number)?;
+        Ok(())
+    }
+
+    fn append(&mut self, numbers: &[usize]) -> Result<(), NoMemory>
+        ensures { OnOk result (self.new ≡ self.old ++ numbers.now) }
+    {
+        self.numbers.extend_from_slice(numbers)?;
+        Ok(())
+    }
+}
 
 /// Returns the item at an index, if there is one.
 pub(crate) fn item<T>(items: &[T], at: usize) -> Option<&T>
@@ -42,7 +87,7 @@ pub(crate) fn is_earlier(a: &[usize], b: &[usize]) -> bool
 fn around(alloc: Global, path: &[usize], depth: usize, turns: &[usize]) -> Result<Path, NoMemory>
     ensures { IfOk result (λ p. (outer : Seq ℕ) (n : ℕ) → path.now ≡ outer ++ n ∷ [] → p ≡ (if nat_lt depth (length turns.now) then outer ++ n ∷ drop depth turns.now else outer)) }
 {
-    let mut part = List::new(alloc);
+    let mut part = Path::new(alloc);
     if depth < turns.len() {
         part.append(path)?;
         part.append(&turns[depth..])?;
@@ -66,10 +111,10 @@ fn around_of(
     ensures { IfOk result (λ p. p ≡ inside (option_and_then (slice_get (nests_behind [] records.now)) parent) turns.now) }
 {
     let Some(number) = parent else {
-        return Ok(List::new(alloc));
+        return Ok(Path::new(alloc));
     };
     let Some(path) = known.get(number) else {
-        return Ok(List::new(alloc));
+        return Ok(Path::new(alloc));
     };
     let Some(holder) = records.get(number) else {
         unreachable!();
