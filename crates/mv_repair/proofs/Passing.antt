@@ -17,10 +17,10 @@ use Rattle.mv_history.specs.Kept.{Path, Placed, with_paths, is_path, among, othe
 use Rattle.mv_alike.proofs.Keeping.{Climbs, among_new}
 use Rattle.mv_alike.proofs.Placing.{apart, its}
 use Rattle.mv_repair.specs.declared.walk.OldRun.{OldRun}
-use Rattle.mv_repair.specs.Walking.{any_write, noted, hollow, is_before, hits_in, writes_of, without_next, next_writes, noted_next, AreKnown, HasAddedWrites, IsOld, HasPassed, writes_at}
+use Rattle.mv_repair.specs.Walking.{any_write, noted, hollow, is_before, hits_in, writes_of, without_next, next_writes, noted_next, AreKnown, HasLearnt, IsOld, HasPassed, writes_at}
 use Rattle.mv_recorded.proofs.Inverting.{each_join, each_map}
 use Rattle.mv_alike.proofs.Walking.{earlier_then, climbs_parts}
-use Rattle.mv_repair.proofs.Lists.{first_dropped, none_dropped, next_dropped, set_dropped, writes_apart}
+use Rattle.mv_repair.proofs.Lists.{each_take, first_dropped, none_dropped, next_dropped, set_dropped, writes_apart}
 use Rattle.mv_repair.proofs.Marking.{not_among, among_still}
 
 abbrev all_before : List Placed → List Placed → Type 0
@@ -91,10 +91,10 @@ more_below at ns h = each_map (λ n. n < at) (λ n. n < at + 1) ns (λ n lt. ome
 
 -- One record that is passed
 
-pub passed_next : (old : OldRun) (p : Path) (keys : List Owned) → HasAddedWrites old.keys (next_writes old) keys → is_before (slice_get old.paths old.at) p ≡ true → HasPassed old p (record (noted_next keys old) { at = old.at + 1 })
-passed_next old p keys added yes' changes os kept b more is later h = by h.coming refl
+pub passed_next : (old : OldRun) (p : Path) → is_before (slice_get old.paths old.at) p ≡ true → HasPassed old p (record (noted_next old) { at = old.at + 1 })
+passed_next old p yes' changes os kept b more is later h = by h.coming refl
   where
-    by : (l : List Placed) → h.coming ≡ l → IsOld changes os kept (b ∷ more) (record (noted_next keys old) { at = old.at + 1 })
+    by : (l : List Placed) → h.coming ≡ l → IsOld changes os kept (b ∷ more) (record (noted_next old) { at = old.at + 1 })
     by [] e = absurd (clash (ap (λ o. is_before o p) (none_dropped old.at old.paths (h.paths ∙ ap (map (λ (p : Placed). p.path)) e))) yes')
       where
         clash : is_before (slice_get old.paths old.at) p ≡ false → is_before (slice_get old.paths old.at) p ≡ true → ⊥
@@ -120,8 +120,9 @@ passed_next old p keys added yes' changes os kept b more is later h = by h.comin
               ∙ (ap (λ ws. ws ++ o.it.writes) h.others
               ∙ (ap (λ ws. other_writes kept h.passed ++ ws) (sym (one_other kept o (not_among kept o.path (behind_first o cs kept behind)))) ∙ sym (others_both kept h.passed (o ∷ [])))));
           numbers = subst (λ w. Each (λ n. n < old.at + 1) (noted (any_write w) old.at old.others)) (sym written) (noted_below old.at (old.at + 1) old.others (any_write o.it.writes) (omega arith) (more_below old.at old.others h.numbers));
-          first = added.first;
-          known = subst (AreKnown keys) (sym (noted_writes old.records old.at old.others (next_writes old) refl)) (added.known (writes_at old.records old.others) h.known);
+          first = h.first;
+          within = noted_longer old.known old.at old.others (any_write (next_writes old)) h.within;
+          known = subst (λ l. AreKnown old.keys (writes_at old.records l)) (sym (noted_take old.known old.at old.others (any_write (next_writes old)) h.within)) h.known;
           below = each_join (λ (a : Placed). Each (λ (c : Placed). IsEarlierPath a.path c.path) (b ∷ more)) h.passed (o ∷ []) h.below ((less, after_all o.path b.path more less later), tt);
           behind = behind_rest o cs kept behind;
         }
@@ -131,6 +132,26 @@ passed_none old p changes os kept b more is later h = h
 
 pub passed_then : (old mid new : OldRun) (p : Path) → HasPassed old p mid → HasPassed mid p new → HasPassed old p new
 passed_then old mid new p f g changes os kept b more is later h = g changes os kept b more is later (f changes os kept b more is later h)
+
+-- more keys are known
+pub learnt_old : (changes : List Change) (os : List Record) (kept : List Path) (rest : List Placed) (old : OldRun) (keys : List Owned) (known : ℕ) → HasLearnt old.records old.others old.keys old.known keys known
+    → IsOld changes os kept rest old → IsOld changes os kept rest (record old { keys = keys; known = known })
+learnt_old changes os kept rest old keys known learnt h = record {
+  passed = h.passed;
+  coming = h.coming;
+  split = h.split;
+  at = h.at;
+  records = h.records;
+  paths = h.paths;
+  hits = h.hits;
+  others = h.others;
+  numbers = h.numbers;
+  first = learnt.first;
+  within = learnt.within;
+  known = learnt.still h.known;
+  below = h.below;
+  behind = h.behind;
+}
 
 -- A record that is kept, and one that is executed
 
@@ -161,7 +182,8 @@ old_kept changes os kept b more old o cs climbs h e same later =
           ∙ sym (others_both (kept ++ b.path ∷ []) h.passed (o ∷ []))))));
       numbers = more_below old.at old.others h.numbers;
       first = h.first;
-      known = subst (AreKnown old.keys) (sym (writes_apart old.records old.at hollow old.others h.numbers)) h.known;
+      within = h.within;
+      known = subst (AreKnown old.keys) (sym (writes_apart old.records old.at hollow (take old.known old.others) (each_take (λ n. n < old.at) old.known old.others h.numbers))) h.known;
       below = each_join (λ (a : Placed). Each (λ (c : Placed). IsEarlierPath a.path c.path) more) h.passed (o ∷ []) (lower_rest b more h.passed h.below) (same_before o.path b.path more same later, tt);
       behind = each_join (λ k. Each (λ (a : Placed). IsEarlierPath k a.path) cs) kept (b.path ∷ []) (behind_rest o cs kept behind) (same_before b.path o.path cs (sym same) (climbs_at os [] h.passed o cs climbs is), tt);
     }
@@ -178,6 +200,7 @@ old_left changes os kept b more old h = record {
   others = h.others;
   numbers = h.numbers;
   first = h.first;
+  within = h.within;
   known = h.known;
   below = lower_rest b more h.passed h.below;
   behind = h.behind;

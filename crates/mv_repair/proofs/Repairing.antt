@@ -35,7 +35,7 @@ all_of g call db task rise on ended =
 -- The beginning
 
 pub begins : (g : Graph) (changes : List Change) (db : Tables) (was task : Task) (old : OldRun) (new : NewRun) → IsRepairable g was changes db → IsSameCall g was task → task.records ≡ [] → task.executed ≡ 0
-    → old ≡ record { records = was.records; paths = paths was.records; hits = hits_in changes [] was.records; at = 0; others = []; keys = [] } → new ≡ record { paths = []; kept = []; others = []; keys = []; known = 0 }
+    → old ≡ record { records = was.records; paths = paths was.records; hits = hits_in changes [] was.records; at = 0; others = []; keys = []; known = 0 } → new ≡ record { paths = []; kept = []; others = []; keys = []; known = 0 }
     → IsUnderway g changes db was.records task old new
 begins g changes db was task old new r same none zero old_is new_is = record {
   call = r.call;
@@ -60,6 +60,7 @@ begins g changes db was task old new r same none zero old_is new_is = record {
         others = refl;
         numbers = tt;
         first = All-nil _;
+        within = omega arith;
         known = tt;
         below = tt;
         behind = tt;
@@ -74,13 +75,13 @@ begins g changes db was task old new r same none zero old_is new_is = record {
     rest = with_paths (meaning_of g r.call db).records
 
 same_old : (a b : List Record) (ps qs : List Path) (hs is : List Bool) (ns : List ℕ) (ks : List Owned) → a ≡ b → ps ≡ qs → hs ≡ is → ns ≡ [] → ks ≡ []
-    → ◌≡◌ {A = OldRun} (record { records = a; paths = ps; hits = hs; at = 0; others = ns; keys = ks }) (record { records = b; paths = qs; hits = is; at = 0; others = []; keys = [] })
+    → ◌≡◌ {A = OldRun} (record { records = a; paths = ps; hits = hs; at = 0; others = ns; keys = ks; known = 0 }) (record { records = b; paths = qs; hits = is; at = 0; others = []; keys = []; known = 0 })
 same_old a b ps qs hs is ns ks h k l m n =
-    ap (λ x. (let o : OldRun = record { records = x; paths = ps; hits = hs; at = 0; others = ns; keys = ks } in o)) h
-    ∙ (ap (λ x. (let o : OldRun = record { records = b; paths = x; hits = hs; at = 0; others = ns; keys = ks } in o)) k
-    ∙ (ap (λ x. (let o : OldRun = record { records = b; paths = qs; hits = x; at = 0; others = ns; keys = ks } in o)) l
-    ∙ (ap (λ x. (let o : OldRun = record { records = b; paths = qs; hits = is; at = 0; others = x; keys = ks } in o)) m
-    ∙ ap (λ x. (let o : OldRun = record { records = b; paths = qs; hits = is; at = 0; others = []; keys = x } in o)) n)))
+    ap (λ x. (let o : OldRun = record { records = x; paths = ps; hits = hs; at = 0; others = ns; keys = ks; known = 0 } in o)) h
+    ∙ (ap (λ x. (let o : OldRun = record { records = b; paths = x; hits = hs; at = 0; others = ns; keys = ks; known = 0 } in o)) k
+    ∙ (ap (λ x. (let o : OldRun = record { records = b; paths = qs; hits = x; at = 0; others = ns; keys = ks; known = 0 } in o)) l
+    ∙ (ap (λ x. (let o : OldRun = record { records = b; paths = qs; hits = is; at = 0; others = x; keys = ks; known = 0 } in o)) m
+    ∙ ap (λ x. (let o : OldRun = record { records = b; paths = qs; hits = is; at = 0; others = []; keys = x; known = 0 } in o)) n)))
 
 same_new : (ps : List Path) (ks : List (Option ℕ)) (ns : List ℕ) (ms : List Owned) → ps ≡ [] → ks ≡ [] → ns ≡ [] → ms ≡ []
     → ◌≡◌ {A = NewRun} (record { paths = ps; kept = ks; others = ns; keys = ms; known = 0 }) (record { paths = []; kept = []; others = []; keys = []; known = 0 })
@@ -94,7 +95,7 @@ same_new ps ks ns ms h k l m =
 pub begun : (g : Graph) (changes : List Change) (db : Tables) (was task : Task) (rs : List Record) (ps : List Path) (hs : List Bool) (ns : List ℕ) (us : List Owned) (qs : List Path) (ks : List (Option ℕ)) (ms : List ℕ) (vs : List Owned)
     → IsRepairable g was changes db → IsSameCall g was task → task.records ≡ [] → task.executed ≡ 0
     → rs ≡ was.records → ps ≡ paths was.records → hs ≡ hits_in changes [] was.records → ns ≡ [] → us ≡ [] → qs ≡ [] → ks ≡ [] → ms ≡ [] → vs ≡ []
-    → IsUnderway g changes db was.records task (record { records = rs; paths = ps; hits = hs; at = 0; others = ns; keys = us }) (record { paths = qs; kept = ks; others = ms; keys = vs; known = 0 })
+    → IsUnderway g changes db was.records task (record { records = rs; paths = ps; hits = hs; at = 0; others = ns; keys = us; known = 0 }) (record { paths = qs; kept = ks; others = ms; keys = vs; known = 0 })
 begun g changes db was task rs ps hs ns us qs ks ms vs r same none zero a b c d u e f h v =
     begins g changes db was task _ _ r same none zero (same_old rs was.records ps (paths was.records) hs (hits_in changes [] was.records) ns us a b c d u) (same_new qs ks ms vs e f h v)
 

@@ -3,7 +3,6 @@ use Rattle.std.proofs.Common.{◌≡◌, ◌<◌, ◌≤◌, ◌*◌, ℕ, ◌+�
 use Rattle.std.specs.Prelude.{◌&&◌, slice_get}
 use Rattle.std.proofs.lemmas.List.{append_cancel_left, take_all, length_push}
 use Rattle.std.proofs.lemmas.Option.{slice_get_within}
-use Rattle.std.proofs.lemmas.Grind.{flat_map-append}
 use Rattle.std.proofs.lemmas.Bool.{both_ways}
 use Rattle.mv_values.specs.Tables.{Tables}
 use Rattle.mv_record.specs.declared.record.Record.{Record}
@@ -34,13 +33,13 @@ use Rattle.mv_alike.proofs.Meant.{next_same}
 use Rattle.mv_repair.specs.declared.walk.OldRun.{OldRun}
 use Rattle.mv_repair.specs.declared.walk.NewRun.{NewRun}
 use Rattle.mv_repair.specs.Repairing.{queried, HasQueried}
-use Rattle.mv_repair.specs.Walking.{path_behind, is_before, writes_of, next_stays, is_there, stays_at, added, renewed, IsOld, AreMarked, IsNew, IsUnderway, HasPassed, HasKept, any_write, writes_at, AreKnown, HasAddedWrites, HasCaughtUp}
+use Rattle.mv_repair.specs.Walking.{path_behind, is_before, writes_of, next_stays, is_there, stays_at, added, renewed, IsOld, AreMarked, IsNew, IsUnderway, HasPassed, HasKept, any_write, writes_at, AreKnown, AreKnownIfMany, HasLearnt, HasCaughtUp}
 use Rattle.mv_repair.specs.Stepping.{HasStepped, IsOnWay}
 use Rattle.mv_repair.proofs.Asking.{one, keys_within, keys_more, executed_counts, kept_counts, still_queried, queried_once, asked_one}
 use Rattle.mv_repair.proofs.Deciding.{Decides, Found, decided, found_old, names_at}
 use Rattle.mv_recorded.proofs.Inverting.{each_join, each_map}
 use Rattle.mv_alike.proofs.Walking.{climbs_parts}
-use Rattle.mv_repair.proofs.Lists.{writes_before, each_take, got_there}
+use Rattle.mv_repair.proofs.Lists.{writes_before, each_take}
 use Rattle.mv_repair.proofs.Marking.{not_among, marks_more, marks_still}
 use Rattle.mv_repair.proofs.Passing.{all_apart, behind_first, others_both, others_still, one_other, no_other, noted_writes, noted_below, noted_longer, noted_take, old_kept, old_left, behind_rest}
 use Rattle.mv_repair.proofs.Placing.{placed_more, paths_more}
@@ -166,19 +165,16 @@ new_executed os ns r kept more new p h is =
     }
 
 -- more keys are known
-pub caught_next : (os ns : List Record) (kept : List Path) (rest : List Placed) (new : NewRun) (number : ℕ) (keys : List Owned) → slice_get new.others new.known ≡ Some number → HasAddedWrites new.keys (writes_of (slice_get ns number)) keys
-    → IsNew os kept rest ns new → IsNew os kept rest ns (record new { keys = keys; known = new.known + 1 })
-caught_next os ns kept rest new number keys there more h = record {
+pub learnt_new : (os ns : List Record) (kept : List Path) (rest : List Placed) (new : NewRun) (keys : List Owned) (known : ℕ) → HasLearnt ns new.others new.keys new.known keys known
+    → IsNew os kept rest ns new → IsNew os kept rest ns (record new { keys = keys; known = known })
+learnt_new os ns kept rest new keys known learnt h = record {
   paths = h.paths;
   marks = h.marks;
   others = h.others;
   numbers = h.numbers;
-  first = more.first;
-  within = let lt = slice_get_within new.others new.known number there in omega (arith, lt);
-  known =
-      subst (λ l. AreKnown keys (writes_at ns l)) (sym (got_there new.others new.known number there))
-      (subst (AreKnown keys) (sym (flat_map-append (λ n. writes_of (slice_get ns n)) (take new.known new.others) (number ∷ []) ∙ ap (λ ws. writes_at ns (take new.known new.others) ++ ws) (append-nil (writes_of (slice_get ns number)))))
-      (more.known (writes_at ns (take new.known new.others)) h.known));
+  first = learnt.first;
+  within = learnt.within;
+  known = learnt.still h.known;
   behind = h.behind;
 }
 
@@ -282,16 +278,17 @@ alike g changes db os task old new u ahead p c o found h =
 
 -- the keys of the others are known
 pub known_old : (g : Graph) (db : Tables) (task : Task) (old mid : OldRun) (new : NewRun) (o : Option Ahead) (ahead : Ahead) (p q : Path) (rs : List Record) → IsOnWay g db task old new → IsAhead g task o → o ≡ Some ahead
-    → rs ≡ task.records → p ≡ path_behind rs ahead.spot ahead.parent → q ≡ p → HasPassed old q mid → is_before (slice_get mid.paths mid.at) q ≡ false → AreKnown mid.keys (writes_at mid.records mid.others)
-known_old g db task old mid new o ahead p q rs w next some first path second passed stops =
+    → rs ≡ task.records → p ≡ path_behind rs ahead.spot ahead.parent → q ≡ p → HasPassed old q mid → is_before (slice_get mid.paths mid.at) q ≡ false → (16 < length mid.others → mid.known ≡ length mid.others) → AreKnownIfMany mid.keys mid.records mid.others
+known_old g db task old mid new o ahead p q rs w next some first path second passed stops all many =
     let c = comes g w.changes db w.os task old new w.underway ahead p (subst (IsAhead g task) some next) (subst (λ (xs : List Record). p ≡ path_behind xs ahead.spot ahead.parent) first path) in
-    (decides g w.changes db w.os task old mid new w.underway ahead p c (subst (λ (x : Path). HasPassed old x mid) second passed) (subst (λ (x : Path). is_before (slice_get mid.paths mid.at) x ≡ false) second stops)).beside.known
+    let it = decides g w.changes db w.os task old mid new w.underway ahead p c (subst (λ (x : Path). HasPassed old x mid) second passed) (subst (λ (x : Path). is_before (slice_get mid.paths mid.at) x ≡ false) second stops) in
+    subst (λ l. AreKnown mid.keys (writes_at mid.records l)) (take_all mid.known mid.others (omega (arith, all many))) it.beside.known
 
-pub known_new : (g : Graph) (db : Tables) (task : Task) (old : OldRun) (new now : NewRun) (rs : List Record) → IsOnWay g db task old new → HasCaughtUp task.records new now → rs ≡ task.records → AreKnown now.keys (writes_at rs now.others)
-known_new g db task old new now rs w k is =
+pub known_new : (g : Graph) (db : Tables) (task : Task) (old : OldRun) (new now : NewRun) (rs : List Record) → IsOnWay g db task old new → HasCaughtUp task.records new now → rs ≡ task.records → AreKnownIfMany now.keys rs now.others
+known_new g db task old new now rs w k is many =
     let u = caught g w.changes db w.os task old new now k w.underway in
     subst (λ (xs : List Record). AreKnown now.keys (writes_at xs now.others)) (sym is)
-    (subst (λ l. AreKnown now.keys (writes_at task.records l)) (take_all now.known now.others (omega (arith, k.all))) u.along.known)
+    (subst (λ l. AreKnown now.keys (writes_at task.records l)) (take_all now.known now.others (omega (arith, k.all many))) u.along.known)
 
 -- the old run was passed up to the path of the next record, and the walk has decided whether that record stays
 pub record HasDecided (g : Graph) (task : Task) (old mid : OldRun) (new : NewRun) (ahead : Ahead) (p : Path) (b : Bool) : Type 0 where

@@ -103,6 +103,17 @@ pub record HasAddedWrites (old : List Owned) (ws : List Write) (new : List Owned
   pub first : AreFirst new
   pub known : (vs : List Write) → AreKnown old vs → AreKnown new (vs ++ ws)
 
+-- if these numbers are many, the keys of the writes of their records are among the first ones
+abbrev pub AreKnownIfMany : List Owned → List Record → List ℕ → Type 0
+AreKnownIfMany keys rs numbers = 16 < length numbers → AreKnown keys (writes_at rs numbers)
+
+-- the keys of the first `known` of these records were known, and now those of more are, and of all if they are many
+pub record HasLearnt (rs : List Record) (numbers : List ℕ) (old : List Owned) (known : ℕ) (new : List Owned) (known' : ℕ) : Type 0 where
+  pub first : AreFirst new
+  pub within : known' ≤ length numbers
+  pub all : 16 < length numbers → known' ≡ length numbers
+  pub still : AreKnown old (writes_at rs (take known numbers)) → AreKnown new (writes_at rs (take known' numbers))
+
 -- What stays, by the numbers of the old records that new ones keep
 
 -- the number of the old record that the new one with this number keeps
@@ -160,9 +171,9 @@ without_next old = record old { records = slice_set old.records old.at hollow; a
 abbrev pub next_writes : OldRun → List Write
 next_writes old = writes_of (slice_get old.records old.at)
 
--- the next record of the old run is noted among the others, if it made writes; their keys are now these
-abbrev pub noted_next : List Owned → OldRun → OldRun
-noted_next keys old = record old { others = noted (any_write (next_writes old)) old.at old.others; keys = keys }
+-- the next record of the old run is noted among the others, if it made writes
+abbrev pub noted_next : OldRun → OldRun
+noted_next old = record old { others = noted (any_write (next_writes old)) old.at old.others }
 
 -- the new run has one record more, with this path, which keeps this old one
 abbrev pub added : Path → Option ℕ → NewRun → NewRun
@@ -187,7 +198,8 @@ pub record IsOld (changes : List Change) (os : List Record) (kept : List Path) (
   pub others : writes_at old.records old.others ≡ other_writes kept passed
   pub numbers : Each (λ n. n < old.at) old.others
   pub first : AreFirst old.keys
-  pub known : AreKnown old.keys (writes_at old.records old.others)
+  pub within : old.known ≤ length old.others
+  pub known : AreKnown old.keys (writes_at old.records (take old.known old.others))
   pub below : Each (λ (a : Placed). Each (λ (b : Placed). IsEarlierPath a.path b.path) rest) passed
   pub behind : Each (λ k. Each (λ (a : Placed). IsEarlierPath k a.path) coming) kept
 
@@ -236,10 +248,10 @@ HasPassed old p new =
     (changes : List Change) (os : List Record) (kept : List Path) (b : Placed) (more : List Placed) → b.path ≡ p → Each (λ (c : Placed). IsEarlierPath b.path c.path) more
     → IsOld changes os kept (b ∷ more) old → IsOld changes os kept (b ∷ more) new
 
--- the keys of all others of the new run are known
+-- the keys of all others of the new run are known, if they are many
 pub record HasCaughtUp (ns : List Record) (old new : NewRun) : Type 0 where
   pub rest : new ≡ record old { keys = new.keys; known = new.known }
-  pub all : new.known ≡ length new.others
+  pub all : 16 < length new.others → new.known ≡ length new.others
   pub still : (os : List Record) (kept : List Path) (rest : List Placed) → IsNew os kept rest ns old → IsNew os kept rest ns new
 
 -- the next record of the old run was kept

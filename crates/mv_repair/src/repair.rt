@@ -160,6 +160,7 @@ pub fn repair<V: View>(
         at: 0,
         others: List::new(alloc),
         keys: Undo::new(alloc),
+        known: 0,
     };
     let mut new = NewRun {
         paths: List::new(alloc),

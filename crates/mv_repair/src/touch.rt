@@ -1,13 +1,13 @@
 //! Which writes touch a record.
 
-ghost use Rattle.std.specs.Prelude.{◌≡◌, List, [], false, IfOk, OnOk};
+ghost use Rattle.std.specs.Prelude.{◌≡◌, ◌≤◌, List, [], false, length, IfOk, OnOk};
 ghost use Rattle.std.specs.List.{list_any};
 ghost use Rattle.std.specs.Option.{option_copied};
 ghost use Rattle.mv_values.specs.declared.patch.Write.{Write};
 ghost use Rattle.mv_values.specs.Preds.{names};
 ghost use Rattle.mv_undo.specs.Owning.{earlier, AreSought};
 ghost use Rattle.mv_history.specs.Hits.{reaches, touches, touches_predicate};
-ghost use Rattle.mv_repair.specs.Walking.{is_touched, writes_at, writes_of, AreFirst, AreKnown, HasAddedWrites};
+ghost use Rattle.mv_repair.specs.Walking.{is_touched, writes_of, AreFirst, AreKnown, AreKnownIfMany, HasAddedWrites, HasLearnt};
 
 use crate::paths::item;
 use mv_record::record::Record;
@@ -122,7 +122,30 @@ fn is_touched_at(record: &Record, records: &[Record], numbers: &[usize]) -> bool
 /// Up to this many records are tried without a search for their keys.
 const FEW: usize = 16;
 
-/// Whether a write of the records with these numbers touches the record. `keys` has the keys of these writes.
+/// Adds the keys of the writes of the records with these numbers, if they are more than `FEW`. Those of the first `known`
+/// are there. Returns how many have their keys there now.
+pub(crate) fn learn(
+    alloc: Global,
+    keys: &mut Undo,
+    known: usize,
+    records: &[Record],
+    numbers: &[usize],
+) -> Result<usize, NoMemory>
+    requires first { AreFirst keys.old }
+    requires within { known ≤ length numbers.now }
+    ensures { IfOk result (λ now. HasLearnt records.now numbers.now keys.old known keys.new now) }
+{
+    if numbers.len() <= FEW {
+        return Ok(known);
+    }
+    for at in known..numbers.len() {
+        add_keys(alloc, keys, writes_of(item(records, numbers[at])))?;
+    }
+    Ok(numbers.len())
+}
+
+/// Whether a write of the records with these numbers touches the record. If they are more than `FEW`, `keys` has the keys
+/// of these writes.
 pub(crate) fn is_touched(
     alloc: Global,
     record: &Record,
@@ -130,7 +153,7 @@ pub(crate) fn is_touched(
     numbers: &[usize],
     keys: &Undo,
 ) -> Result<bool, NoMemory>
-    requires { AreKnown keys.now (writes_at records.now numbers.now) }
+    requires { AreKnownIfMany keys.now records.now numbers.now }
     ensures { IfOk result (λ touched. touched ≡ is_touched record.now records.now numbers.now) }
 {
     if record.preds.len() == 0 {

@@ -2,10 +2,10 @@
 
 ghost use Rattle.std.specs.Prelude.{◌≡◌, ◌<◌, ◌≤◌, ◌&&◌, ◌||◌, not, ◌+◌, ◌++◌, ◌∷◌, [], ℕ, List as Seq, None, Some, true, false, length, slice_get, IsSome, IfOk, OnOk};
 ghost use Rattle.std.specs.Option.{option_copied};
-ghost use Rattle.mv_repair.specs.Walking.{any_write, writes_of, noted, hollow, is_before, is_there, is_kept_by, kept_as, next_stays, reads_by, same_definer, stays_at, is_touched, next_writes, noted_next, writes_at, without_next, added, renewed, AreFirst, AreKnown, HasAddedWrites, HasCaughtUp, HasPassed};
+ghost use Rattle.mv_repair.specs.Walking.{any_write, writes_of, noted, hollow, is_before, is_there, is_kept_by, kept_as, next_stays, reads_by, same_definer, stays_at, is_touched, noted_next, without_next, added, renewed, AreFirst, AreKnownIfMany, HasCaughtUp, HasPassed};
 
 use crate::paths::{Path, is_earlier, is_path, item};
-use crate::touch::{add_keys, is_touched, writes_of};
+use crate::touch::{is_touched, learn, writes_of};
 use mv_exec::task::Ahead;
 use mv_record::record::{Read, Record, Spot};
 use mv_undo::undo::Undo;
@@ -27,6 +27,8 @@ pub(crate) struct OldRun {
     pub(crate) others: List<usize>,
     /// Writes on the keys of the others, under number 0.
     pub(crate) keys: Undo,
+    /// How many of the others have their keys there.
+    pub(crate) known: usize,
 }
 
 /// The new run of a call.
@@ -112,16 +114,9 @@ impl OldRun {
     }
 
     /// Notes the next record among the others, if it made writes.
-    fn note(&mut self, alloc: Global) -> Result<(), NoMemory>
-        requires { AreFirst self.old.keys }
-        ensures noted { OnOk result (self.new ≡ noted_next self.new.keys self.old) }
-        ensures keys { OnOk result (HasAddedWrites self.old.keys (next_writes self.old) self.new.keys) }
+    fn note(&mut self) -> Result<(), NoMemory>
+        ensures { OnOk result (self.new ≡ noted_next self.old) }
     {
-        add_keys(
-            alloc,
-            &mut self.keys,
-            writes_of(item(self.records.as_slice(), self.at)),
-        )?;
         if has_writes(item(self.records.as_slice(), self.at)) {
             self.others.push(self.at)?;
         }
@@ -129,15 +124,34 @@ impl OldRun {
     }
 
     /// Passes the records with paths before this one. The new run doesn't keep them.
-    pub(crate) fn pass(&mut self, alloc: Global, path: &[usize]) -> Result<(), NoMemory>
-        requires { AreFirst self.old.keys }
+    fn pass_before(&mut self, path: &[usize]) -> Result<(), NoMemory>
+        requires first { AreFirst self.old.keys }
+        requires within { self.old.known ≤ length self.old.others }
         ensures passed { OnOk result (HasPassed self.old path.now self.new) }
         ensures stops { OnOk result (is_before (slice_get self.new.paths self.new.at) path.now ≡ false) }
+        ensures first { OnOk result (AreFirst self.new.keys) }
+        ensures within { OnOk result (self.new.known ≤ length self.new.others) }
     {
         while self.at < self.paths.len() && self.is_before(path) {
-            self.note(alloc)?;
+            self.note()?;
             self.at += 1;
         }
+        Ok(())
+    }
+
+    /// Passes the records with paths before this one. The new run doesn't keep them. Then the keys of all others are
+    /// known, if they are many.
+    pub(crate) fn pass(&mut self, alloc: Global, path: &[usize]) -> Result<(), NoMemory>
+        requires first { AreFirst self.old.keys }
+        requires within { self.old.known ≤ length self.old.others }
+        ensures passed { OnOk result (HasPassed self.old path.now self.new) }
+        ensures stops { OnOk result (is_before (slice_get self.new.paths self.new.at) path.now ≡ false) }
+        ensures all { OnOk result (16 < length self.new.others → self.new.known ≡ length self.new.others) }
+    {
+        self.pass_before(path)?;
+        let records = self.records.as_slice();
+        let others = self.others.as_slice();
+        self.known = learn(alloc, &mut self.keys, self.known, records, others)?;
         Ok(())
     }
 
@@ -172,17 +186,15 @@ impl NewRun {
         self.others.push(number)
     }
 
-    /// Adds the keys of the others that aren't known yet. `records` are those of the new run so far.
+    /// Adds the keys of the others that aren't known yet, if the others are many. `records` are those of the new run so
+    /// far.
     pub(crate) fn catch_up(&mut self, alloc: Global, records: &[Record]) -> Result<(), NoMemory>
         requires first { AreFirst self.old.keys }
         requires within { self.old.known ≤ length self.old.others }
         ensures { OnOk result (HasCaughtUp records.now self.old self.new) }
     {
-        while self.known < self.others.len() {
-            let number = self.others.as_slice()[self.known];
-            add_keys(alloc, &mut self.keys, writes_of(item(records, number)))?;
-            self.known += 1;
-        }
+        let others = self.others.as_slice();
+        self.known = learn(alloc, &mut self.keys, self.known, records, others)?;
         Ok(())
     }
 
@@ -256,8 +268,8 @@ fn is_touched_by_others(
     new: &NewRun,
     records: &[Record],
 ) -> Result<bool, NoMemory>
-    requires old { AreKnown old.now.keys (writes_at old.now.records old.now.others) }
-    requires new { AreKnown new.now.keys (writes_at records.now new.now.others) }
+    requires old { AreKnownIfMany old.now.keys old.now.records old.now.others }
+    requires new { AreKnownIfMany new.now.keys records.now new.now.others }
     ensures { IfOk result (λ touched. touched ≡ (is_touched record.now old.now.records old.now.others || is_touched record.now records.now new.now.others)) }
 {
     if is_touched(
@@ -291,8 +303,8 @@ fn next_stays(
     records: &[Record],
     ahead: &Ahead,
 ) -> Result<bool, NoMemory>
-    requires old { AreKnown old.now.keys (writes_at old.now.records old.now.others) }
-    requires new { AreKnown new.now.keys (writes_at records.now new.now.others) }
+    requires old { AreKnownIfMany old.now.keys old.now.records old.now.others }
+    requires new { AreKnownIfMany new.now.keys records.now new.now.others }
     ensures { IfOk result (λ stays. stays ≡ next_stays old.now new.now records.now ahead.now (slice_get old.now.records old.now.at) (slice_get old.now.hits old.now.at)) }
 {
     let Some(record) = item(old.records.as_slice(), old.at) else {
@@ -317,8 +329,8 @@ pub(crate) fn stays(
     ahead: &Ahead,
     path: &[usize],
 ) -> Result<bool, NoMemory>
-    requires old { AreKnown old.now.keys (writes_at old.now.records old.now.others) }
-    requires new { AreKnown new.now.keys (writes_at records.now new.now.others) }
+    requires old { AreKnownIfMany old.now.keys old.now.records old.now.others }
+    requires new { AreKnownIfMany new.now.keys records.now new.now.others }
     ensures { IfOk result (λ stays. stays ≡ stays_at old.now new.now records.now ahead.now path.now) }
 {
     if !old.is_at(path) {

@@ -12,7 +12,7 @@ use Rattle.mv_repair.proofs.repair.step.Goals as goal
 pub stays-requires-clause-old : goal.stays-requires-clause-old
 stays-requires-clause-old g c =
     known_old c.args.graph.now (g.V.View.sight c.args.view.now).database c.args.task.now c.args.old.now c.pass.new.self c.args.new.now c.in_ok-ahead.field-0 c.in-Some.ahead c.in_ok-path.path c.as_slice-2.result.now c.records.result.now
-    c.requires.on_way c.in_ok-ahead.ensures.next c.in-Some.is c.records.ensures c.in_ok-path.ensures c.as_slice-2.ensures c.in_ok-pass.ensures.passed c.in_ok-pass.ensures.stops
+    c.requires.on_way c.in_ok-ahead.ensures.next c.in-Some.is c.records.ensures c.in_ok-path.ensures c.as_slice-2.ensures c.in_ok-pass.ensures.passed c.in_ok-pass.ensures.stops c.in_ok-pass.ensures.all
 
 pub stays-requires-clause-new : goal.stays-requires-clause-new
 stays-requires-clause-new g c =

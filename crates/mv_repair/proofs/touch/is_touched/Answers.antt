@@ -10,4 +10,4 @@ returns-then-len-eq0 c = sym (untouched c.args.record.now c.args.records.now c.a
 pub returns-then-not-branch : goal.returns-then-not-branch
 returns-then-not-branch c =
     let none : c.in_ok-admits_some.field-0 ≡ false = search rules in
-    sym (sym (any_of_all (touches c.args.record.now) c.args.records.now c.args.numbers.now) ∙ c.in_ok-admits_some.ensures none (writes_at c.args.records.now c.args.numbers.now) c.requires)
+    sym (sym (any_of_all (touches c.args.record.now) c.args.records.now c.args.numbers.now) ∙ c.in_ok-admits_some.ensures none (writes_at c.args.records.now c.args.numbers.now) (c.requires c.if-numbers-gt-FEW.true))
