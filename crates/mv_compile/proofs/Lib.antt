@@ -2,3 +2,4 @@ pub mod Once
 pub mod Adding
 pub mod Meaning
 pub mod Small
+pub mod Stepped

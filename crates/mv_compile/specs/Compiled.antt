@@ -8,10 +8,11 @@ use Rattle.mv_catalog.specs.declared.resolved.Resolved.{Resolved}
 use Rattle.mv_recorded.specs.Recorded.{meaning}
 use Rattle.mv_graph.specs.declared.graph.Graph.{Graph}
 use Rattle.mv_graph.specs.Nodes.{nodes_in, meaning_of}
+use Rattle.mv_graph.specs.Steps.{steps_in}
 
 -- the graph of a procedure over these tables, with a node for each statement
 abbrev pub graph_of : List TableInfo → ProcInfo → Graph
-graph_of tables proc = record { tables = tables; procedure = proc; nodes = nodes_in proc }
+graph_of tables proc = record { tables = tables; procedure = proc; nodes = nodes_in proc; steps = steps_in proc }
 
 -- the graph of each procedure, in order
 abbrev pub graphs_of : Resolved → List Graph

@@ -4,12 +4,14 @@ ghost use Rattle.std.specs.Prelude.{◌≡◌, ◌+◌, length, IfOk, All, map};
 ghost use Rattle.std.specs.List.{AllZip};
 ghost use Rattle.mv_catalog.specs.Text.{FitsText};
 ghost use Rattle.mv_graph.specs.Nodes.{nodes_in, IsGraph, IsSmall, IsSound, HasFewNodes};
+ghost use Rattle.mv_graph.specs.Steps.{steps_in};
 ghost use Rattle.mv_compile.specs.Compiled.{graph_of, graphs_of, MeansText};
 
 use crate::copies::copy_procedure;
 use crate::nodes::{Slots, add_nodes};
+use crate::steps::add_steps;
 use mv_catalog::resolved::{ProcInfo, Resolved};
-use mv_graph::graph::{Graph, Node};
+use mv_graph::graph::{Graph, Node, Step};
 use mv_values::copied::Copied;
 use mv_values::list::List;
 use mv_values::memory::NoMemory;
@@ -48,6 +50,21 @@ fn nodes_in(alloc: Global, procedure: &ProcInfo) -> Result<List<Node>, NoMemory>
     Ok(nodes)
 }
 
+/// Returns the steps of a procedure, in the order of the text.
+fn steps_in(alloc: Global, procedure: &ProcInfo) -> Result<List<Step>, NoMemory>
+    requires { IsSmall procedure.now }
+    ensures { IfOk result (λ steps. steps ≡ steps_in procedure.now) }
+{
+    let mut steps = List::new(alloc);
+    add_steps(
+        alloc,
+        &mut steps,
+        procedure.params.len(),
+        procedure.body.as_slice(),
+    )?;
+    Ok(steps)
+}
+
 /// Returns the graph of a procedure over these tables.
 fn graph_of(
     alloc: Global,
@@ -58,12 +75,14 @@ fn graph_of(
     ensures { IfOk result (λ graph. graph ≡ graph_of tables.now procedure.now) }
 {
     let nodes = nodes_in(alloc, procedure)?;
+    let steps = steps_in(alloc, procedure)?;
     let tables = tables.copy(alloc)?;
     let procedure = copy_procedure(alloc, procedure)?;
     Ok(Graph {
         tables,
         procedure,
         nodes,
+        steps,
     })
 }
 

@@ -97,7 +97,7 @@ fn copy_sorts(alloc: Global, sorts: &[RSort]) -> Result<List<RSort>, NoMemory>
 // Statements
 
 /// Returns copies of the columns, the tests and the order of a query.
-fn copy_query(
+pub(crate) fn copy_query(
     alloc: Global,
     columns: &List<u16>,
     conds: &[RCond],
@@ -138,7 +138,7 @@ fn copy_select(
 }
 
 /// Returns a copy of an IF, given the copies of its branches.
-fn copy_branch(
+pub(crate) fn copy_branch(
     alloc: Global,
     test: &RExpr,
     yes: List<RStmt>,

@@ -6,3 +6,4 @@ pub mod copies;
 mod nodes;
 mod reads;
 mod sizes;
+mod steps;

@@ -29,7 +29,7 @@ filled proc (s ∷ ss) e = (subst (λ (ss : List RStmt). 0 < length ss) (sym e) 
 
 numbered : (proc : ProcInfo) (body : List RStmt) → AreNumbered proc None (standing (none_in body) (first_place ∷ []))
 numbered proc [] = tt
-numbered proc (s ∷ ss) = ((whole_text proc, whole_text proc), tt)
+numbered proc (s ∷ ss) = ((whole_text proc, refl), tt)
 
 ends : (proc : ProcInfo) (body : List RStmt) → proc.body ≡ body → EndsLeft proc [] (standing (none_in body) (first_place ∷ []))
 ends proc [] e outer p h = absurd (no_last outer p (sym h))

@@ -9,8 +9,8 @@ use Rattle.mv_catalog.specs.declared.resolved.RStmt.TheOpen.{RStmt-F}
 use Rattle.mv_record.specs.declared.record.Record.{Record}
 use Rattle.mv_recorded.specs.Reading.{Loop, loop_of, last_place, sets_variable, reads_of, expressions, read_variables}
 use Rattle.mv_recorded.specs.Recorded.{Site, outside}
-use Rattle.mv_graph.specs.declared.graph.Node.{Node}
-use Rattle.mv_graph.specs.Nodes.{TellsOf}
+use Rattle.mv_graph.specs.declared.graph.Step.{Step}
+use Rattle.mv_graph.specs.Steps.{TellsOf}
 use Rattle.mv_exec.specs.declared.places.Place.{Place}
 use Rattle.mv_exec.specs.declared.task.Task.{Task}
 use Rattle.mv_exec.specs.Env.{CallVariables}
@@ -62,23 +62,23 @@ stands_here proc task place s turn live go e = record {
   stands = go.stands;
 }
 
--- what is ahead is as the node of the statement tells
-pub foresees : (proc : ProcInfo) (task : Task) (place : Place) (s : RStmt) (turn : Bool) (node : Node) → IsTask proc task → task.ended ≡ false → task.parameters ≡ length proc.params
-    → (go : IsNextPlace proc task place s turn) → TellsOf proc s node → ForeseesLeft proc task (Some (ahead_at task.definers (site_in place.holder (site_of outside go.outer)) place.number node.reads))
-foresees proc task place s turn node t live params go tells = by turn refl
+-- what is ahead is as the step of the statement tells
+pub foresees : (proc : ProcInfo) (task : Task) (place : Place) (s : RStmt) (turn : Bool) (step : Step) → IsTask proc task → task.ended ≡ false → task.parameters ≡ length proc.params
+    → (go : IsNextPlace proc task place s turn) → TellsOf proc s step → ForeseesLeft proc task (Some (ahead_at task.definers (site_in place.holder (site_of outside go.outer)) place.number step.reads))
+foresees proc task place s turn step t live params go tells = by turn refl
   where
-    reads : node.reads ≡ read_variables task.parameters (expressions (out-RStmt s))
+    reads : step.reads ≡ read_variables task.parameters (expressions (out-RStmt s))
     reads = tells.reads ∙ ap (λ n. read_variables n (expressions (out-RStmt s))) (sym params)
 
-    by : (b : Bool) → turn ≡ b → ForeseesLeft proc task (Some (ahead_at task.definers (site_in place.holder (site_of outside go.outer)) place.number node.reads))
+    by : (b : Bool) → turn ≡ b → ForeseesLeft proc task (Some (ahead_at task.definers (site_in place.holder (site_of outside go.outer)) place.number step.reads))
     by true e =
         let due : IsDue proc (places_of task) go.outer go.last = due_turn proc task place s turn live go e in
         let before : StandsAsBefore proc task (after_turn task go.outer go.last) = turned_before proc task go.outer go.last t due in
         let was = task.variables in
-        foresees_at proc task (record was { env = with_next_row task.records go.last.holder was.env }) (go.outer ++ next_turn go.last ∷ []) false go.outer place s node.reads t before.left
+        foresees_at proc task (record was { env = with_next_row task.records go.last.holder was.env }) (go.outer ++ next_turn go.last ∷ []) false go.outer place s step.reads t before.left
         (record { are = ap (λ q. go.outer ++ q ∷ []) (in_turn proc task place s turn go e); stands = go.stands }) reads
     by false e =
-        foresees_at proc task task.variables task.places task.ended go.outer place s node.reads t (λ tables db. refl) (stands_here proc task place s turn live go e) reads
+        foresees_at proc task task.variables task.places task.ended go.outer place s step.reads t (λ tables db. refl) (stands_here proc task place s turn live go e) reads
 
 -- The place at which a call goes on
 

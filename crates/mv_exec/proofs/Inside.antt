@@ -24,6 +24,7 @@ use Rattle.mv_exec.specs.Places.{body_in, branch_in, block_in, holder_of, site_o
 use Rattle.mv_exec.specs.Moves.{branch_place, loop_place, inner_places, after_turns, after_empty_body, after_empty_loop}
 use Rattle.mv_exec.proofs.Leaving.{turn_begins, run_ends, turns_end}
 use Rattle.mv_exec.proofs.Placing.{jobs_more}
+use Rattle.mv_exec.proofs.Lists.{past_all}
 use Rattle.mv_exec.proofs.Going.{same_run, same_turns}
 
 -- turns over a body, none where it is empty
@@ -96,10 +97,6 @@ inside_left tables params (Rollback reason) number n site b js before st next to
 
 -- Places inside
 
-all_dropped : {A : Type 0} (xs : List A) → drop (length xs) xs ≡ []
-all_dropped [] = refl
-all_dropped (x ∷ xs) = all_dropped xs
-
 entered_jobs : (proc : ProcInfo) (rs : List Record) (os : List Place) (number : ℕ) (b : Bool) (first : ℕ) (block : List RStmt)
     → block_in proc (by.Branch number b) (holder_of proc None os) ≡ block
     → jobs_left proc rs (os ++ branch_place (by.Branch number b) first block) ≡ some_run (within number (site_of outside os)) first block ++ jobs_left proc rs os
@@ -114,9 +111,10 @@ looped_jobs : (proc : ProcInfo) (rs : List Record) (os : List Place) (number x f
 looped_jobs proc rs os number x first [] e = ap (jobs_left proc rs) (append-nil os)
 looped_jobs proc rs os number x first (s ∷ ss) e =
     let loop : Site = within_loop x number (site_of outside os) in
-    jobs_more proc rs None outside os (record { holder = by.Loop number x 0; first = first; at = length (s ∷ ss); number = first })
-    ∙ (ap (λ bl. (some_run (in_turn 0 loop) first (drop (length (s ∷ ss)) bl) ++ some_turns loop first x bl (loop_rows rs number) 1) ++ jobs_left proc rs os) e
-    ∙ ap (λ bl. (some_run (in_turn 0 loop) first bl ++ some_turns loop first x (s ∷ ss) (loop_rows rs number) 1) ++ jobs_left proc rs os) (all_dropped ss))
+    let n : ℕ = size_of (s ∷ ss) in
+    jobs_more proc rs None outside os (record { holder = by.Loop number x 0; first = first; at = n; number = first + n })
+    ∙ (ap (λ bl. (some_run (in_turn 0 loop) (first + n) (drop n bl) ++ some_turns loop first x bl (loop_rows rs number) 1) ++ jobs_left proc rs os) e
+    ∙ ap (λ bl. (some_run (in_turn 0 loop) (first + n) bl ++ some_turns loop first x (s ∷ ss) (loop_rows rs number) 1) ++ jobs_left proc rs os) (past_all (s ∷ ss)))
 
 -- a place inside a statement is left what the statement holds
 pub inner_left : (proc : ProcInfo) (rs : List Record) (os : List Place) (s : RStmt) (y : RStmt-F RStmt) (number n : ℕ) (b : Bool)

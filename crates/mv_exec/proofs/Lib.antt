@@ -24,3 +24,5 @@ pub mod Viewing
 pub mod Fronts
 pub mod Positioning
 pub mod Restoring
+pub mod Lists
+pub mod Held

@@ -5,41 +5,39 @@ use Rattle.mv_catalog.specs.Statements.{size, size_of}
 use Rattle.mv_catalog.specs.declared.resolved.ProcInfo.{ProcInfo}
 use Rattle.mv_catalog.specs.declared.resolved.RStmt.{RStmt, out-RStmt}
 use Rattle.mv_catalog.specs.declared.resolved.RStmt.TheOpen.{RStmt-F, Assign, Select, Total, ForSelect, ForRows, Branch, Insert, Update, Delete, Print, Rollback}
-use Rattle.mv_graph.specs.Nodes.{HasText}
-use Rattle.mv_graph.proofs.Sizes.{some_size}
-use Rattle.mv_graph.proofs.Texts.{no_text, text_after, select_text, rows_text, yes_text, no_branch_text, text_fits}
+use Rattle.mv_graph.specs.Steps.{HasText}
+use Rattle.mv_graph.proofs.Texts.{text_from, select_text, rows_text, yes_text, no_branch_text, text_fits}
 use Rattle.mv_exec.specs.declared.places.Holder.TheVariants as by
 use Rattle.mv_exec.specs.declared.places.Place.{Place}
 use Rattle.mv_exec.specs.Places.{body_in, branch_in, block_in, block_of, holder_of, IsNumbered, AreNumbered, HoldsPlace}
 use Rattle.mv_exec.specs.Moves.{branch_place, loop_place, inner_places, place_after}
 use Rattle.mv_exec.proofs.Turning.{every_last, every_outer, every_more}
 use Rattle.mv_exec.proofs.Adding.{from_first, held_statement}
+use Rattle.mv_exec.proofs.Lists.{long_enough, past_all}
 
 -- the statement at a place, and those after it
 text_at : (proc : ProcInfo) (block : List RStmt) (p : Place) (s : RStmt) → IsNumbered proc block p → slice_get block p.at ≡ Some s → HasText proc p.number (s ∷ drop (p.at + 1) block)
-text_at proc block p s h at = subst (HasText proc p.number) (from_first block p.at s at) h.1
+text_at proc block p s h at = subst (HasText proc p.number) (from_first block p.at s at) (text_from proc p.first block p.at h.0 p.number h.1)
 
 numbered_after : (proc : ProcInfo) (block : List RStmt) (p : Place) (s : RStmt) → IsNumbered proc block p → slice_get block p.at ≡ Some s → IsNumbered proc block (place_after (size s) p)
-numbered_after proc block p s h at = (h.0, text_after proc p.number s (drop (p.at + 1) block) (text_at proc block p s h at))
+numbered_after proc block p s h at =
+    let split : size_of (drop p.at block) ≡ size s + size_of (drop (p.at + 1) block) = ap size_of (from_first block p.at s at) in
+    (h.0, omega (arith, h.1, split))
 
 entered_numbered : (proc : ProcInfo) (os : List Place) (number : ℕ) (b : Bool) (first : ℕ) (block : List RStmt) → AreNumbered proc None os
     → block_in proc (by.Branch number b) (holder_of proc None os) ≡ block → HasText proc first block → AreNumbered proc None (os ++ branch_place (by.Branch number b) first block)
 entered_numbered proc os number b first [] h e text = subst (AreNumbered proc None) (sym (append-nil os)) h
 entered_numbered proc os number b first (s ∷ ss) h e text =
     let p : Place = record { holder = by.Branch number b; first = first; at = 0; number = first } in
-    every_more (IsNumbered proc) proc None os p h (subst (λ bl. IsNumbered proc bl p) (sym e) (text, text))
-
-all_dropped : (ss : List RStmt) → drop (length ss) ss ≡ []
-all_dropped [] = refl
-all_dropped (s ∷ ss) = all_dropped ss
+    every_more (IsNumbered proc) proc None os p h (subst (λ bl. IsNumbered proc bl p) (sym e) (text, refl))
 
 looped_numbered : (proc : ProcInfo) (os : List Place) (number x first : ℕ) (body : List RStmt) → AreNumbered proc None os
     → block_in proc (by.Loop number x 0) (holder_of proc None os) ≡ body → HasText proc first body → AreNumbered proc None (os ++ loop_place number x first body)
 looped_numbered proc os number x first [] h e text = subst (AreNumbered proc None) (sym (append-nil os)) h
 looped_numbered proc os number x first (s ∷ ss) h e text =
-    let p : Place = record { holder = by.Loop number x 0; first = first; at = length (s ∷ ss); number = first } in
-    every_more (IsNumbered proc) proc None os p h
-    (subst (λ bl. IsNumbered proc bl p) (sym e) (text, subst (HasText proc first) (sym (all_dropped (s ∷ ss))) (no_text proc first (s ∷ ss) text)))
+    let p : Place = record { holder = by.Loop number x 0; first = first; at = size_of (s ∷ ss); number = first + size_of (s ∷ ss) } in
+    let none : size_of (drop (size_of (s ∷ ss)) (s ∷ ss)) ≡ 0 = ap size_of (past_all (s ∷ ss)) in
+    every_more (IsNumbered proc) proc None os p h (subst (λ bl. IsNumbered proc bl p) (sym e) (text, omega (arith, none)))
 
 numbered_inside : (proc : ProcInfo) (os : List Place) (s : RStmt) (y : RStmt-F RStmt) (number n : ℕ) (b : Bool) (ss : List RStmt) → AreNumbered proc None os
     → holder_of proc None os ≡ Some s → out-RStmt s ≡ y → HasText proc n (s ∷ ss) → AreNumbered proc None (os ++ inner_places number n b y)
@@ -76,10 +74,6 @@ numbered_on proc ps outer p s number b h at =
     numbered_inside proc (outer ++ place_after (size s) p ∷ []) s (out-RStmt s) number p.number b (drop (p.at + 1) block)
     (every_more (IsNumbered proc) proc None outer (place_after (size s) p) (every_outer (IsNumbered proc) proc None outer p here) (numbered_after proc block p s last at.stands))
     (held_statement proc ps outer p s (size s) at) refl (text_at proc block p s last at.stands)
-
-long_enough : (block : List RStmt) → length block ≤ size_of block
-long_enough [] = omega arith
-long_enough (s ∷ block) = omega (arith, some_size s, long_enough block)
 
 -- the numbers of the next statement and of its place fit
 pub small_next : (proc : ProcInfo) (ps outer : List Place) (p : Place) (s : RStmt) → AreNumbered proc None ps → HoldsPlace proc ps outer p s → size_of proc.body ≤ 1000

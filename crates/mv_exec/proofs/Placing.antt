@@ -1,5 +1,5 @@
 -- Places one inside another, and how many of them stay.
-use Rattle.std.proofs.Common.{◌≡◌, ℕ, ◌+◌, ◌-◌, ◌<◌, Bool, true, false, nat_lt, List, [], ◌∷◌, ◌++◌, Option, Some, None, length, take, drop, ◌⊎◌, inl, inr, refl, sym, ap, subst, ◌∙◌, arith, append-nil, append_assoc, add-one, slice_get}
+use Rattle.std.proofs.Common.{◌≡◌, ℕ, zero, suc, ◌+◌, ◌<◌, ◌≤◌, Bool, true, false, nat_lt, List, [], ◌∷◌, ◌++◌, Option, None, length, take, drop, refl, sym, ap, subst, ◌∙◌, arith, append-nil, append_assoc, add-one, length-append}
 use Rattle.std.proofs.Math.Seq.{take-suc}
 use Rattle.std.specs.Prelude.{slice_index_or}
 use Rattle.std.proofs.lemmas.Bool.{ltb-false, or_parts}
@@ -11,7 +11,7 @@ use Rattle.mv_recorded.specs.Recorded.{Site, outside}
 use Rattle.mv_exec.specs.declared.places.Holder.{Holder}
 use Rattle.mv_exec.specs.declared.places.Holder.TheVariants as by
 use Rattle.mv_exec.specs.declared.places.Place.{Place}
-use Rattle.mv_exec.specs.Places.{block_in, block_of, statement_before, holder_of, site_in, site_of, turns_of, loop_rows, jobs_here, jobs_of, jobs_left, has_turn, is_left, StaysTo}
+use Rattle.mv_exec.specs.Places.{block_of, statement_before, holder_of, site_in, site_of, turns_of, loop_rows, jobs_here, jobs_of, jobs_left, has_turn, is_left, EndsLeft, StaysTo}
 
 -- Lists
 
@@ -66,56 +66,50 @@ none_here rs block site p e =
 one_more : (ps : List Place) (i : ℕ) (d : Place) → i < length ps → take (i + 1) ps ≡ take i ps ++ slice_index_or ps i d ∷ []
 one_more ps i d lt = rw add-one (take-suc ps i d lt)
 
--- past one more place, at which something is left or not
-stays_here : (proc : ProcInfo) (rs : List Record) (ps : List Place) (i : ℕ) (d : Place) → i < length ps
-    → is_left rs (block_of proc (holder_of proc None (take i ps)) (slice_index_or ps i d)) (slice_index_or ps i d) ≡ true → StaysTo proc rs ps (i + 1) (i + 1)
-stays_here proc rs ps i d lt left =
-    let p : Place = slice_index_or ps i d in
-    record {
-      within = omega arith;
-      same = refl;
-      ends = λ outer q e.
-          let h : (take i ps ≡ outer) × (p ≡ q) = same_last (take i ps) outer p q (sym (one_more ps i d lt) ∙ e) in
-          subst (λ o. is_left rs (block_of proc (holder_of proc None o) q) q ≡ true) h.0
-          (subst (λ r. is_left rs (block_of proc (holder_of proc None (take i ps)) r) r ≡ true) h.1 left);
-    }
-
-stays_on : (proc : ProcInfo) (rs : List Record) (ps : List Place) (i stay : ℕ) (d : Place) → i < length ps
-    → is_left rs (block_of proc (holder_of proc None (take i ps)) (slice_index_or ps i d)) (slice_index_or ps i d) ≡ false → StaysTo proc rs ps i stay → StaysTo proc rs ps (i + 1) stay
-stays_on proc rs ps i stay d lt gone stays =
-    let p : Place = slice_index_or ps i d in
-    record {
-      within = omega (arith, stays.within);
-      same =
-          stays.same
-          ∙ (ap (λ js. js ++ jobs_left proc rs (take i ps)) (sym (none_here rs (block_of proc (holder_of proc None (take i ps)) p) (site_of outside (take i ps)) p gone))
-          ∙ (sym (jobs_more proc rs None outside (take i ps) p) ∙ ap (jobs_left proc rs) (sym (one_more ps i d lt))));
-      ends = stays.ends;
-    }
-
-pub stays_more : (proc : ProcInfo) (rs : List Record) (ps : List Place) (i stay new : ℕ) (d : Place) (s : Option RStmt) (block : List RStmt) (b : Bool)
-    → i < length ps → s ≡ holder_of proc None (take i ps) → block ≡ block_in proc (slice_index_or ps i d).holder s → b ≡ is_left rs block (slice_index_or ps i d)
-    → (b ≡ true) × (new ≡ i + 1) ⊎ (b ≡ false) × (new ≡ stay) → StaysTo proc rs ps i stay → StaysTo proc rs ps (i + 1) new
-stays_more proc rs ps i stay new d s block b lt around is left which stays = by which
-  where
-    at : b ≡ is_left rs (block_of proc (holder_of proc None (take i ps)) (slice_index_or ps i d)) (slice_index_or ps i d)
-    at = left ∙ ap (λ bl. is_left rs bl (slice_index_or ps i d)) (is ∙ ap (block_in proc (slice_index_or ps i d).holder) around)
-
-    by : (b ≡ true) × (new ≡ i + 1) ⊎ (b ≡ false) × (new ≡ stay) → StaysTo proc rs ps (i + 1) new
-    by (inl h) = subst (StaysTo proc rs ps (i + 1)) (sym h.1) (stays_here proc rs ps i d lt (sym at ∙ h.0))
-    by (inr h) = subst (StaysTo proc rs ps (i + 1)) (sym h.1) (stays_on proc rs ps i stay d lt (sym at ∙ h.0) stays)
-
-pub passed_on : (proc : ProcInfo) (ps : List Place) (i : ℕ) (d : Place) (s next : Option RStmt) (block : List RStmt)
-    → i < length ps → s ≡ holder_of proc None (take i ps) → block ≡ block_in proc (slice_index_or ps i d).holder s → next ≡ slice_get block ((slice_index_or ps i d).at - 1)
-    → next ≡ holder_of proc None (take (i + 1) ps)
-passed_on proc ps i d s next block lt around is at =
-    at ∙ (ap (λ bl. slice_get bl ((slice_index_or ps i d).at - 1)) (is ∙ ap (block_in proc (slice_index_or ps i d).holder) around)
-    ∙ (sym (holding_more proc None (take i ps) (slice_index_or ps i d)) ∙ ap (holder_of proc None) (sym (one_more ps i d lt))))
-
 pub site_step : (ps : List Place) (i : ℕ) (d : Place) → i < length ps → site_of outside (take (i + 1) ps) ≡ site_in (slice_index_or ps i d).holder (site_of outside (take i ps))
 site_step ps i d lt = ap (site_of outside) (one_more ps i d lt) ∙ site_more outside (take i ps) (slice_index_or ps i d)
 
--- the statement that was found at a place
-pub stands_there : (proc : ProcInfo) (outer : List Place) (p : Place) (s : RStmt) (block : List RStmt) (around : Option RStmt) → Some s ≡ slice_get block p.at → block ≡ block_in proc p.holder around
-    → around ≡ holder_of proc None outer → slice_get (block_of proc (holder_of proc None outer) p) p.at ≡ Some s
-stands_there proc outer p s block around some is holds = sym (some ∙ ap (λ bl. slice_get bl p.at) (is ∙ ap (block_in proc p.holder) holds))
+take_front : {A : Type 0} (xs ys : List A) (n : ℕ) → n ≤ length xs → take n (xs ++ ys) ≡ take n xs
+take_front xs ys zero h = refl
+take_front [] ys (suc n) h = absurd (omega (arith, h))
+take_front (x ∷ xs) ys (suc n) h = ap (λ l. x ∷ l) (take_front xs ys n (omega (arith, h)))
+
+take_whole : {A : Type 0} (xs : List A) → take (length xs) xs ≡ xs
+take_whole [] = refl
+take_whole (x ∷ xs) = ap (λ l. x ∷ l) (take_whole xs)
+
+-- none of no places
+pub none_stay : (proc : ProcInfo) (rs : List Record) (ps : List Place) → ps ≡ [] → StaysTo proc rs ps (length ps) 0
+none_stay proc rs ps none = record {
+  within = omega arith;
+  same = ap (jobs_left proc rs) (sym (take_whole ps ∙ none));
+  ends = λ outer p e. absurd (no_last outer p (sym e));
+}
+
+-- all where something is left at the innermost one
+pub all_stay : (proc : ProcInfo) (rs : List Record) (ps outer : List Place) (p : Place) (n : ℕ) → ps ≡ outer ++ p ∷ []
+    → is_left rs (block_of proc (holder_of proc None outer) p) p ≡ true → n ≡ length ps → StaysTo proc rs ps (length ps) n
+all_stay proc rs ps outer p n are left is = subst (StaysTo proc rs ps (length ps)) (sym is) (record {
+  within = omega arith;
+  same = refl;
+  ends = λ o q e.
+      let h : (outer ≡ o) × (p ≡ q) = same_last outer o p q (sym are ∙ (sym (take_whole ps) ∙ e)) in
+      subst (λ os. is_left rs (block_of proc (holder_of proc None os) q) q ≡ true) h.0
+      (subst (λ r. is_left rs (block_of proc (holder_of proc None outer) r) r ≡ true) h.1 left);
+})
+
+-- as many as of the outer ones where nothing is left at the innermost one
+pub outer_stay : (proc : ProcInfo) (rs : List Record) (ps outer : List Place) (p : Place) (n : ℕ) → ps ≡ outer ++ p ∷ []
+    → is_left rs (block_of proc (holder_of proc None outer) p) p ≡ false → StaysTo proc rs outer (length outer) n → StaysTo proc rs ps (length ps) n
+outer_stay proc rs ps outer p n are none stays =
+    let front : take n ps ≡ take n outer = ap (take n) are ∙ take_front outer (p ∷ []) n stays.within in
+    record {
+      within = omega (arith, stays.within, ap length are, length-append outer (p ∷ []));
+      same =
+          ap (jobs_left proc rs) front
+          ∙ (stays.same
+          ∙ (ap (jobs_left proc rs) (take_whole outer)
+          ∙ (ap (λ js. js ++ jobs_left proc rs outer) (sym (none_here rs (block_of proc (holder_of proc None outer) p) (site_of outside outer) p none))
+          ∙ (sym (jobs_more proc rs None outside outer p) ∙ ap (jobs_left proc rs) (sym (take_whole ps ∙ are))))));
+      ends = subst (EndsLeft proc rs) (sym front) stays.ends;
+    }

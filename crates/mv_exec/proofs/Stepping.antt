@@ -64,7 +64,7 @@ looped_filled : (proc : ProcInfo) (os : List Place) (number x first : ℕ) (body
     → AreFilled proc None os → AreFilled proc None (os ++ loop_place number x first body)
 looped_filled proc os number x first [] e h = subst (AreFilled proc None) (sym (append-nil os)) h
 looped_filled proc os number x first (s ∷ ss) e h =
-    filled_more proc None os (record { holder = by.Loop number x 0; first = first; at = length (s ∷ ss); number = first }) h (subst (λ (bl : List RStmt). 0 < length bl) (sym e) (omega arith))
+    filled_more proc None os (record { holder = by.Loop number x 0; first = first; at = size_of (s ∷ ss); number = first + size_of (s ∷ ss) }) h (subst (λ (bl : List RStmt). 0 < length bl) (sym e) (omega arith))
 
 -- a place inside a statement lies in a list that isn't empty
 inner_filled : (proc : ProcInfo) (os : List Place) (s : RStmt) (y : RStmt-F RStmt) (number n : ℕ) (b : Bool) → holder_of proc None os ≡ Some s → out-RStmt s ≡ y
@@ -97,7 +97,7 @@ entered_held n os b first (s ∷ ss) h = held_more (n + 1) os (record { holder =
 
 looped_held : (n : ℕ) (os : List Place) (x first : ℕ) (body : List RStmt) → AreHeldBefore (n + 1) os → AreHeldBefore (n + 1) (os ++ loop_place n x first body)
 looped_held n os x first [] h = subst (AreHeldBefore (n + 1)) (sym (append-nil os)) h
-looped_held n os x first (s ∷ ss) h = held_more (n + 1) os (record { holder = by.Loop n x 0; first = first; at = length (s ∷ ss); number = first }) h (omega arith)
+looped_held n os x first (s ∷ ss) h = held_more (n + 1) os (record { holder = by.Loop n x 0; first = first; at = size_of (s ∷ ss); number = first + size_of (s ∷ ss) }) h (omega arith)
 
 -- a place inside a statement is held by its record
 inner_held : (n : ℕ) (os : List Place) (m : ℕ) (b : Bool) (y : RStmt-F RStmt) → AreHeldBefore (n + 1) os → AreHeldBefore (n + 1) (os ++ inner_places n m b y)

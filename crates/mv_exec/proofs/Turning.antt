@@ -154,7 +154,7 @@ next_numbered : (proc : ProcInfo) (outer : List Place) (p : Place) → AreNumber
 next_numbered proc outer p h =
     let last : IsNumbered proc (block_of proc (holder_of proc None outer) p) p = every_last (IsNumbered proc) proc None outer p h in
     every_more (IsNumbered proc) proc None outer (next_turn p) (every_outer (IsNumbered proc) proc None outer p h)
-    (subst (λ bl. IsNumbered proc bl (next_turn p)) (sym (same_block proc (holder_of proc None outer) p.holder)) (last.0, last.0))
+    (subst (λ bl. IsNumbered proc bl (next_turn p)) (sym (same_block proc (holder_of proc None outer) p.holder)) (last.0, refl))
 
 pub turned_task : (proc : ProcInfo) (old : Task) (outer : List Place) (p : Place) → IsTask proc old → IsDue proc (places_of old) outer p → IsTask proc (after_turn old outer p)
 turned_task proc old outer p t due =

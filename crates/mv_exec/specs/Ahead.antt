@@ -8,6 +8,8 @@ use Rattle.mv_catalog.specs.declared.resolved.RStmt.{RStmt}
 use Rattle.mv_record.specs.declared.record.Record.{Record}
 use Rattle.mv_recorded.specs.Reading.{loop_of}
 use Rattle.mv_recorded.specs.Recorded.{Site}
+use Rattle.mv_graph.specs.declared.graph.Step.{Step}
+use Rattle.mv_graph.specs.Steps.{TellsOf}
 use Rattle.mv_exec.specs.declared.places.Place.{Place}
 use Rattle.mv_exec.specs.declared.task.Ahead.{Ahead}
 use Rattle.mv_exec.specs.declared.task.Task.{Task}
@@ -23,6 +25,12 @@ pub record IsNextPlace (proc : ProcInfo) (task : Task) (place : Place) (s : RStm
   pub due : nat_lt last.at (length (block_of proc (holder_of proc None outer) last)) ≡ not turn
   pub is : place ≡ place_due turn last
   pub stands : slice_get (block_of proc (holder_of proc None outer) place) place.at ≡ Some s
+
+-- a call continues at this place, before the statement of this step
+pub record IsNextStep (proc : ProcInfo) (task : Task) (place : Place) (step : Step) (turn : Bool) : Type 0 where
+  pub s : RStmt
+  pub is : IsNextPlace proc task place s turn
+  pub tells : TellsOf proc s step
 
 -- what the record of a statement has before it is executed: the statement is at a site, has a number, and reads these
 -- variables

@@ -7,3 +7,4 @@ pub mod Moves
 pub mod Running
 pub mod Ahead
 pub mod Steps
+pub mod Holding

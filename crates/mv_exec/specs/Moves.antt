@@ -1,5 +1,5 @@
 -- Defines where a running call continues after a record. This project's own.
-use Rattle.std.specs.Prelude.{ℕ, ◌+◌, Bool, List, [], ◌∷◌, length, if◌then◌else◌}
+use Rattle.std.specs.Prelude.{ℕ, ◌+◌, Bool, List, [], ◌∷◌, if◌then◌else◌}
 use Rattle.mv_values.specs.declared.value.Value.{Value}
 use Rattle.mv_catalog.specs.Statements.{size_of}
 use Rattle.mv_catalog.specs.declared.resolved.RStmt.{RStmt}
@@ -16,10 +16,10 @@ abbrev pub branch_place : Holder → ℕ → List RStmt → List Place
 branch_place h first [] = []
 branch_place h first (s ∷ ss) = record { holder = h; first = first; at = 0; number = first } ∷ []
 
--- before the first turn of a loop whose body isn't empty
+-- before the first turn of a loop whose body isn't empty: past all its statements
 abbrev pub loop_place : ℕ → ℕ → ℕ → List RStmt → List Place
 loop_place number x first [] = []
-loop_place number x first (s ∷ ss) = record { holder = by.Loop number x 0; first = first; at = length (s ∷ ss); number = first } ∷ []
+loop_place number x first (s ∷ ss) = record { holder = by.Loop number x 0; first = first; at = size_of (s ∷ ss); number = first + size_of (s ∷ ss) } ∷ []
 
 -- the place inside a statement; the numbers are those of its record and of the statement, and an IF takes this branch
 abbrev pub inner_places : ℕ → ℕ → Bool → RStmt-F RStmt → List Place

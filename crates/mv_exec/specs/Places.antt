@@ -13,7 +13,9 @@ use Rattle.mv_recorded.specs.Own.{rows_of}
 use Rattle.mv_exec.specs.declared.places.Holder.{Holder}
 use Rattle.mv_exec.specs.declared.places.Holder.TheVariants as by
 use Rattle.mv_exec.specs.declared.places.Place.{Place}
-use Rattle.mv_graph.specs.Nodes.{HasText}
+use Rattle.mv_catalog.specs.Statements.{size_of}
+use Rattle.mv_graph.specs.declared.graph.Step.{Step}
+use Rattle.mv_graph.specs.Steps.{HasText, TellsOf}
 use Rattle.mv_exec.specs.Left.{Job, run, turns}
 
 -- Lists of statements
@@ -134,9 +136,9 @@ IsFilled block p = 0 < length block
 abbrev pub AreFilled : ProcInfo → Option RStmt → List Place → Type 0
 AreFilled = Every IsFilled
 
--- the text has the statements of its list, and those from it on, at its numbers
+-- the text has the statements of its list at their number, and the place's number tells how many of them are left
 abbrev pub IsNumbered : ProcInfo → List RStmt → Place → Type 0
-IsNumbered proc block p = HasText proc p.first block × HasText proc p.number (drop p.at block)
+IsNumbered proc block p = HasText proc p.first block × (p.number + size_of (drop p.at block) ≡ p.first + size_of block)
 
 abbrev pub AreNumbered : ProcInfo → Option RStmt → List Place → Type 0
 AreNumbered proc = Every (IsNumbered proc) proc
@@ -148,6 +150,12 @@ pub record HoldsPlace (proc : ProcInfo) (ps outer : List Place) (p : Place) (s :
 
 abbrev pub IsPlacedAt : ProcInfo → List Place → Place → RStmt → Type 0
 IsPlacedAt proc ps p s = (outer : List Place) × HoldsPlace proc ps outer p s
+
+-- the innermost place is before the statement of this step
+pub record IsAtStep (proc : ProcInfo) (ps : List Place) (p : Place) (step : Step) : Type 0 where
+  pub s : RStmt
+  pub at : IsPlacedAt proc ps p s
+  pub tells : TellsOf proc s step
 
 -- Turns
 

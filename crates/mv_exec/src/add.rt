@@ -1,16 +1,14 @@
 //! Adds a record to a running call.
 
-ghost use Rattle.std.specs.Prelude.{◌≡◌, ◌<◌, ◌≤◌, ◌+◌, ◌++◌, ◌∷◌, [], false, true, All, Some, List, length, slice_get, option_to_list, max, IfOk, OnOk, OnErr};
-ghost use Rattle.mv_catalog.specs.Statements.{size_of};
+ghost use Rattle.std.specs.Prelude.{◌≡◌, ◌<◌, ◌+◌, ◌++◌, ◌∷◌, [], None, false, true, All, Some, List, length, slice_get, option_to_list, max, IfOk, OnOk, OnErr};
 ghost use Rattle.mv_record.specs.declared.record.Record.{Record};
 ghost use Rattle.mv_exec.specs.declared.places.Place.{Place};
 ghost use Rattle.mv_exec.specs.Env.{with_changes, with_changed};
 ghost use Rattle.mv_exec.specs.Keeping.{define, slot_room};
 ghost use Rattle.mv_catalog.specs.declared.resolved.RStmt.{out-RStmt};
-ghost use Rattle.mv_recorded.specs.Effect.{HasColumns};
-ghost use Rattle.mv_graph.specs.Nodes.{IsGraph, TellsOf};
+ghost use Rattle.mv_graph.specs.Nodes.{IsGraph, IsSound};
 ghost use Rattle.mv_effect.specs.Choosing.{Chooses};
-ghost use Rattle.mv_exec.specs.Places.{IsPlacedAt};
+ghost use Rattle.mv_exec.specs.Places.{AreFilled, AreNumbered, IsAtStep};
 ghost use Rattle.mv_exec.specs.Steps.{HasAddedRecord, HasFronts, IsWidened, with_writes};
 ghost use Rattle.mv_exec.specs.Running.{stepped};
 ghost use Rattle.mv_exec.specs.Tasks.{places_of, IsTask, StandsAsBefore, IsTrimmed};
@@ -23,7 +21,6 @@ use crate::position::Position;
 use crate::step::{Stepped, answer, changes_for};
 use crate::task::Task;
 use crate::trim::trim;
-use mv_catalog::resolved::ProcInfo;
 use mv_graph::graph::Graph;
 use mv_record::record::{Record, Slot};
 use mv_values::list::List;
@@ -123,17 +120,20 @@ fn put_place(places: &mut List<Place>, at: usize, place: Place)
 }
 
 /// Ends a call, or drops the places at which nothing is left.
-fn end_or_trim(procedure: &ProcInfo, task: &mut Task, ends: bool) -> Stepped
-    requires { task.old.ended ≡ false }
+fn end_or_trim(graph: &Graph, task: &mut Task, ends: bool) -> Stepped
+    requires graph { IsGraph graph.now }
+    requires live { task.old.ended ≡ false }
+    requires filled { AreFilled graph.now.procedure None task.old.places }
+    requires numbers { AreNumbered graph.now.procedure None task.old.places }
     ensures ends { ends ≡ true → task.new ≡ record task.old { ended = true } }
-    ensures trims { ends ≡ false → IsTrimmed procedure.now task.old task.new }
+    ensures trims { ends ≡ false → IsTrimmed graph.now.procedure task.old task.new }
     ensures stepped { result ≡ stepped task.new.ended }
 {
     if ends {
         task.ended = true;
         return answer(task.ended);
     }
-    trim(procedure, task);
+    trim(graph, task);
     answer(task.ended)
 }
 
@@ -147,14 +147,11 @@ pub(crate) fn add(
     position: Position<'_>,
     yes: bool,
 ) -> Result<Stepped, NoMemory>
-    requires nodes { IsGraph graph.now }
+    requires sound { IsSound graph.now }
     requires task { IsTask graph.now.procedure task.old }
     requires live { task.old.ended ≡ false }
-    requires at { IsPlacedAt graph.now.procedure (places_of task.old) position.place position.statement.now }
-    requires node { TellsOf graph.now.procedure position.statement.now position.node.now }
-    requires branch { Chooses task.old.variables.env yes (out-RStmt position.statement.now) }
-    requires columns { HasColumns (out-RStmt position.statement.now) }
-    requires short { size_of graph.now.procedure.body ≤ 1000 }
+    requires at { IsAtStep graph.now.procedure (places_of task.old) position.place position.step.now }
+    requires branch { Chooses task.old.variables.env yes (out-RStmt position.step.now.statement) }
     ensures task { IsTask graph.now.procedure task.new }
     ensures added { OnOk result (HasAddedRecord graph.now.procedure task.old given task.new) }
     ensures executed { OnOk result (task.new.executed ≡ task.old.executed) }
@@ -165,8 +162,8 @@ pub(crate) fn add(
     let number = task.records.len();
     let depth = task.places.len();
     let ends = given.end.is_some();
-    let changes = changes_for(alloc, position.statement, &given)?;
-    let inner = inner_place(graph, position, number, yes);
+    let changes = changes_for(alloc, position.step, &given)?;
+    let inner = inner_place(position, number, yes);
     push_record(alloc, task, given, changes, inner)?;
     note_sets(&mut task.definers, task.records.as_slice(), number);
     put_place(
@@ -174,5 +171,5 @@ pub(crate) fn add(
         depth.saturating_sub(1),
         place_after(position),
     );
-    Ok(end_or_trim(&graph.procedure, task, ends))
+    Ok(end_or_trim(graph, task, ends))
 }

@@ -6,10 +6,10 @@ ghost use Rattle.mv_catalog.specs.Statements.{size_of};
 ghost use Rattle.mv_recorded.specs.Reading.{loop_of};
 ghost use Rattle.mv_recorded.specs.Recorded.{outside};
 ghost use Rattle.mv_record.specs.declared.record.Read.{Read};
-ghost use Rattle.mv_graph.specs.Nodes.{IsGraph, TellsOf};
-ghost use Rattle.mv_exec.specs.Places.{site_in, site_of, IsPlacedAt};
+ghost use Rattle.mv_graph.specs.Nodes.{IsGraph};
+ghost use Rattle.mv_exec.specs.Places.{site_in, site_of, IsAtStep};
 ghost use Rattle.mv_exec.specs.Tasks.{places_of, IsTask, StandsAsBefore, definer_in};
-ghost use Rattle.mv_exec.specs.Ahead.{ForeseesLeft, IsNextPlace, ahead_at};
+ghost use Rattle.mv_exec.specs.Ahead.{ForeseesLeft, IsNextStep, ahead_at};
 
 use crate::around::{loop_at, parent_at, turns_at};
 use crate::places::{Holder, Place, outer};
@@ -104,8 +104,7 @@ fn ahead_of(
     requires params { task.now.parameters ≡ length graph.now.procedure.params }
     requires live { task.now.ended ≡ false }
     requires short { size_of graph.now.procedure.body ≤ 1000 }
-    requires goes_on { IsNextPlace graph.now.procedure task.now position.place position.statement.now position.turn }
-    requires node { TellsOf graph.now.procedure position.statement.now position.node.now }
+    requires goes_on { IsNextStep graph.now.procedure task.now position.place position.step.now position.turn }
     ensures { IfOk result (λ ahead. ForeseesLeft graph.now.procedure task.now (Some ahead)) }
 {
     let places = outer(task.places.as_slice());
@@ -114,7 +113,7 @@ fn ahead_of(
         task,
         places,
         position.place,
-        position.node.reads.as_slice(),
+        position.step.reads.as_slice(),
     )?;
     Ok(ahead)
 }
@@ -145,8 +144,7 @@ pub(crate) fn move_on<'g>(
     requires nodes { IsGraph graph.now }
     requires task { IsTask graph.now.procedure task.old }
     requires live { task.old.ended ≡ false }
-    ensures at { IfOk result (λ r. IsPlacedAt graph.now.procedure (places_of task.new) r.place r.statement.now) }
-    ensures node { IfOk result (λ r. TellsOf graph.now.procedure r.statement.now r.node.now) }
+    ensures at { IfOk result (λ r. IsAtStep graph.now.procedure (places_of task.new) r.place r.step.now) }
     ensures task { IsTask graph.now.procedure task.new }
     ensures same { StandsAsBefore graph.now.procedure task.old task.new }
     ensures live { task.new.ended ≡ false }
@@ -170,8 +168,7 @@ pub(crate) fn come_to<'g>(
     requires live { task.old.ended ≡ false }
     requires short { size_of graph.now.procedure.body ≤ 1000 }
     ensures next { IfOk result (λ r. ForeseesLeft graph.now.procedure task.old (Some r.0)) }
-    ensures at { IfOk result (λ r. IsPlacedAt graph.now.procedure (places_of task.new) r.1.place r.1.statement.now) }
-    ensures node { IfOk result (λ r. TellsOf graph.now.procedure r.1.statement.now r.1.node.now) }
+    ensures at { IfOk result (λ r. IsAtStep graph.now.procedure (places_of task.new) r.1.place r.1.step.now) }
     ensures task { IsTask graph.now.procedure task.new }
     ensures same { StandsAsBefore graph.now.procedure task.old task.new }
     ensures live { task.new.ended ≡ false }

@@ -2,15 +2,18 @@
 
 ghost use Rattle.std.specs.Prelude.{◌≡◌, ◌≤◌, [], map, length, IfOk, OnOk, OnErr, MatchOption, option_to_list, List};
 ghost use Rattle.mv_values.specs.declared.value.Value.{Value};
-ghost use Rattle.mv_catalog.specs.declared.resolved.RStmt.{out-RStmt};
+ghost use Rattle.mv_catalog.specs.declared.resolved.ProcInfo.{ProcInfo};
+ghost use Rattle.mv_catalog.specs.declared.resolved.RStmt.{RStmt, out-RStmt};
+ghost use Rattle.mv_graph.specs.Steps.{TellsOf};
 ghost use Rattle.mv_alone.specs.declared.state.Env.{Env};
 ghost use Rattle.mv_recorded.specs.Effect.{with_slots};
 ghost use Rattle.mv_exec.specs.Env.{with_changed, room, of_slot};
 ghost use Rattle.mv_exec.specs.Moves.{after_empty_loop, after_turns};
 
+use crate::moves::{Holds, holds_in};
 use crate::variables::Variables;
 use mv_alone::state::Content;
-use mv_catalog::resolved::RStmt;
+use mv_graph::graph::Step;
 use mv_record::record::{Record, Slot};
 use mv_values::copied::Copied;
 use mv_values::memory::NoMemory;
@@ -80,18 +83,11 @@ pub(crate) fn changes_of(alloc: Global, slots: &[Slot]) -> Result<Vec<VariableCh
 }
 
 /// Returns the row variable of a loop with an empty body.
-pub(crate) fn row_of_empty(statement: &RStmt) -> Option<u16>
-    ensures { MatchOption result ((rows : List (List Value)) (env : Env) → after_empty_loop (out-RStmt statement.now) rows env ≡ env) (λ x. (rows : List (List Value)) (env : Env) → after_empty_loop (out-RStmt statement.now) rows env ≡ after_turns x rows env) }
+pub(crate) fn row_of_empty(step: &Step) -> Option<u16>
+    ensures { (proc : ProcInfo) (s : RStmt) → TellsOf proc s step.now → MatchOption result ((rows : List (List Value)) (env : Env) → after_empty_loop (out-RStmt s) rows env ≡ env) (λ x. (rows : List (List Value)) (env : Env) → after_empty_loop (out-RStmt s) rows env ≡ after_turns x rows env) }
 {
-    match statement {
-        RStmt::ForSelect { row, body, .. } => match body.as_slice() {
-            [] => Some(*row),
-            _ => None,
-        },
-        RStmt::ForRows { row, body, .. } => match body.as_slice() {
-            [] => Some(*row),
-            _ => None,
-        },
-        _ => None,
-    }
+    let Holds::Body { row } = holds_in(&step.statement) else {
+        return None;
+    };
+    if step.size > 1 { None } else { Some(row) }
 }

@@ -3,13 +3,13 @@
 ghost use Rattle.std.specs.Prelude.{◌≡◌, ◌<◌, ◌+◌, ◌^◌, Some, false, length, IfOk, OnOk, OnErr};
 ghost use Rattle.mv_values.specs.Patching.{applied};
 ghost use Rattle.mv_values.specs.Tables.{KeysStand};
-ghost use Rattle.mv_graph.specs.Nodes.{IsSound, TellsOf};
+ghost use Rattle.mv_graph.specs.Nodes.{IsSound};
 ghost use Rattle.mv_record.specs.Runs.{writes_in};
 ghost use Rattle.mv_undo.specs.Owning.{earlier};
 ghost use Rattle.mv_record.specs.Databases.{IsDatabaseOf};
 ghost use Rattle.mv_record.specs.Effects.{record_of};
 ghost use Rattle.mv_effect.specs.Looking.{OnlyAsks, AskedAtMost, different};
-ghost use Rattle.mv_exec.specs.Places.{IsPlacedAt};
+ghost use Rattle.mv_exec.specs.Places.{IsAtStep};
 ghost use Rattle.mv_exec.specs.Ahead.{ForeseesLeft};
 ghost use Rattle.mv_exec.specs.Running.{stepped};
 ghost use Rattle.mv_exec.specs.Steps.{HasExecuted};
@@ -56,8 +56,7 @@ pub(crate) fn execute<V: View>(
     requires sound { IsSound graph.now }
     requires task { IsTask graph.now.procedure task.old }
     requires live { task.old.ended ≡ false }
-    requires at { IsPlacedAt graph.now.procedure (places_of task.old) position.place position.statement.now }
-    requires node { TellsOf graph.now.procedure position.statement.now position.node.now }
+    requires at { IsAtStep graph.now.procedure (places_of task.old) position.place position.step.now }
     requires next { ForeseesLeft graph.now.procedure task.old (Some ahead) }
     requires found { task.old.variables.env.found < 2 ^ 16 }
     requires database { IsDatabaseOf graph.now.tables (V.sight view.old).database }
@@ -75,7 +74,7 @@ pub(crate) fn execute<V: View>(
     let Choice { effect, holds } = effect(
         alloc,
         graph.tables.as_slice(),
-        position.statement,
+        &position.step.statement,
         task.variables.env(),
         &task.undo,
         number,

@@ -1,19 +1,18 @@
 //! Where a running call continues after a record.
 
-ghost use Rattle.std.specs.Prelude.{◌≡◌, ◌<◌, ◌≤◌, ◌^◌, ◌+◌, ◌∷◌, List, IfOk, option_to_list};
+ghost use Rattle.std.specs.Prelude.{◌≡◌, ◌<◌, ◌^◌, IfOk, option_to_list};
+ghost use Rattle.mv_catalog.specs.declared.resolved.ProcInfo.{ProcInfo};
 ghost use Rattle.mv_catalog.specs.declared.resolved.RStmt.{RStmt, out-RStmt};
-ghost use Rattle.mv_catalog.specs.Statements.{size, size_of};
-ghost use Rattle.mv_graph.specs.Nodes.{IsGraph, HasText};
+ghost use Rattle.mv_graph.specs.Steps.{TellsOf};
 ghost use Rattle.mv_effect.specs.Choosing.{Chooses};
-ghost use Rattle.mv_exec.specs.Moves.{branch_place, loop_place, inner_places, place_after};
-ghost use Rattle.mv_exec.specs.declared.places.Holder.TheVariants.{Branch};
+ghost use Rattle.mv_exec.specs.Holding.{holds_in, some_branch, some_loop};
+ghost use Rattle.mv_exec.specs.Moves.{inner_places, place_after};
 
 use crate::places::{Holder, Place};
-use crate::position::{Position, node_at};
+use crate::position::Position;
 use mv_alone::expr::{holds, value};
 use mv_alone::state::{Env, Stop};
 use mv_catalog::resolved::RStmt;
-use mv_graph::graph::Graph;
 use mv_values::memory::NoMemory;
 use std::alloc::Global;
 
@@ -31,26 +30,48 @@ pub(crate) fn branch(alloc: Global, statement: &RStmt, env: &Env) -> Result<bool
     }
 }
 
-/// Returns the place before the first statement of a branch, or none if it has no statements.
-fn branch_place(record: usize, yes: bool, first: usize, block: &[RStmt]) -> Option<Place>
-    ensures { option_to_list result ≡ branch_place (Branch «record» yes) first block.now }
-{
-    if block.is_empty() {
-        return None;
-    }
-    Some(Place {
-        holder: Holder::Branch { record, yes },
-        first,
-        at: 0,
-        number: first,
-    })
+/// What a statement holds: nothing, the body of a FOR with this row, or the branches of an IF.
+#[derive(Clone, Copy)]
+pub enum Holds {
+    Nothing,
+    Body { row: u16 },
+    Branches,
 }
 
-/// Returns the place before the first turn of a loop, or none if its body has no statements.
-fn loop_place(record: usize, row: u16, first: usize, body: &[RStmt]) -> Option<Place>
-    ensures { option_to_list result ≡ loop_place «record» row first body.now }
+/// Returns what a statement holds.
+pub(crate) fn holds_in(statement: &RStmt) -> Holds
+    ensures { result ≡ holds_in (out-RStmt statement.now) }
 {
-    if body.is_empty() {
+    match statement {
+        RStmt::ForSelect { row, .. } => Holds::Body { row: *row },
+        RStmt::ForRows { row, .. } => Holds::Body { row: *row },
+        RStmt::Branch { .. } => Holds::Branches,
+        _ => Holds::Nothing,
+    }
+}
+
+/// Returns the place before the first statement of a branch, or none if it has no statements.
+fn branch_place(record: usize, yes: bool, first: usize, some: bool) -> Option<Place>
+    ensures { option_to_list result ≡ some_branch «record» yes first some }
+{
+    if some {
+        return Some(Place {
+            holder: Holder::Branch { record, yes },
+            first,
+            at: 0,
+            number: first,
+        });
+    }
+    None
+}
+
+/// Returns the place before the first turn of a loop, or none if its body has no statements. `size` counts those with
+/// what they hold.
+fn loop_place(record: usize, row: u16, first: usize, size: u16) -> Option<Place>
+    requires { first < 2 ^ 17 }
+    ensures { option_to_list result ≡ some_loop «record» row first size }
+{
+    if size == 0 {
         return None;
     }
     Some(Place {
@@ -60,78 +81,47 @@ fn loop_place(record: usize, row: u16, first: usize, body: &[RStmt]) -> Option<P
             turn: 0,
         },
         first,
-        at: body.len(),
-        number: first,
+        at: size as usize,
+        number: first + size as usize,
     })
 }
 
-/// Counts the statement with this number, nested ones included.
-fn size_at(graph: &Graph, number: usize) -> usize
-    requires { IsGraph graph.now }
-    ensures { (s : RStmt) (ss : List RStmt) → HasText graph.now.procedure number (s ∷ ss) → result ≡ size s }
-{
-    match node_at(graph, number) {
-        Some(node) => node.size as usize,
-        None => 0,
-    }
-}
-
-/// Returns the number of the statement after these, of which the first has this number.
-fn number_after(graph: &Graph, first: usize, statements: &[RStmt]) -> usize
-    requires nodes { IsGraph graph.now }
-    requires text { HasText graph.now.procedure first statements.now }
-    requires short { size_of graph.now.procedure.body ≤ 1000 }
-    ensures { result ≡ first + size_of statements.now }
-{
-    let mut number = first;
-    for _ in statements {
-        number += size_at(graph, number);
-    }
-    number
-}
-
 /// Returns the place inside a statement whose record has this number. An IF takes the given branch.
-pub(crate) fn inner_place(
-    graph: &Graph,
-    position: Position<'_>,
-    record: usize,
-    yes: bool,
-) -> Option<Place>
-    requires nodes { IsGraph graph.now }
-    requires text { (rest : List RStmt) × HasText graph.now.procedure position.place.number (position.statement.now ∷ rest) }
-    requires short { size_of graph.now.procedure.body ≤ 1000 }
-    ensures { option_to_list result ≡ inner_places «record» position.entry.place.number yes (out-RStmt position.entry.statement.now) }
+pub(crate) fn inner_place(position: Position<'_>, record: usize, yes: bool) -> Option<Place>
+    requires { position.place.number < 2 ^ 16 }
+    ensures { (proc : ProcInfo) (s : RStmt) → TellsOf proc s position.entry.step.now → option_to_list result ≡ inner_places «record» position.entry.place.number yes (out-RStmt s) }
 {
-    let first = position.place.number + 1;
-    match position.statement {
-        RStmt::ForSelect { row, body, .. } => loop_place(record, *row, first, body.as_slice()),
-        RStmt::ForRows { row, body, .. } => loop_place(record, *row, first, body.as_slice()),
-        RStmt::Branch {
-            yes: chosen,
-            no,
-            ..
-        } => {
+    let number = position.place.number;
+    let step = position.step;
+    match holds_in(&step.statement) {
+        Holds::Nothing => None,
+        Holds::Body { row } => loop_place(record, row, number + 1, step.size.saturating_sub(1)),
+        Holds::Branches => {
             if yes {
-                return branch_place(record, yes, first, chosen.as_slice());
+                branch_place(record, true, number + 1, 1 < step.skip)
+            } else {
+                branch_place(
+                    record,
+                    false,
+                    number + step.skip as usize,
+                    step.skip < step.size,
+                )
             }
-            let first = number_after(graph, first, chosen.as_slice());
-            branch_place(record, yes, first, no.as_slice())
         }
-        _ => None,
     }
 }
 
 /// Returns the place after a statement.
 pub(crate) fn place_after(position: Position<'_>) -> Place
-    requires number { position.place.number + position.node.now.size < 2 ^ 17 }
+    requires number { position.place.number < 2 ^ 16 }
     requires at { position.place.at < 2 ^ 16 }
-    ensures { result ≡ place_after position.entry.node.now.size position.entry.place }
+    ensures { result ≡ place_after position.entry.step.now.size position.entry.place }
 {
     let place = position.place;
     Place {
         holder: place.holder,
         first: place.first,
         at: place.at + 1,
-        number: place.number + position.node.size as usize,
+        number: place.number + position.step.size as usize,
     }
 }

@@ -1,18 +1,15 @@
 //! The position of a running call in its procedure.
 
-ghost use Rattle.std.specs.Prelude.{◌≡◌, ◌-◌, ◌++◌, ◌∷◌, [], None, Some, nat_lt, length, slice_get, List, MatchOption, IfOk};
+ghost use Rattle.std.specs.Prelude.{◌≡◌, ◌<◌, ◌-◌, ◌++◌, ◌∷◌, [], None, nat_lt, length, slice_get, List, MatchOption};
 ghost use Rattle.std.specs.Option.{option_copied};
-ghost use Rattle.mv_recorded.specs.Reading.{loop_of};
-ghost use Rattle.mv_recorded.specs.Recorded.{outside};
+ghost use Rattle.mv_catalog.specs.declared.resolved.RStmt.{RStmt};
+ghost use Rattle.mv_graph.specs.Nodes.{IsGraph};
 ghost use Rattle.mv_exec.specs.declared.places.Place.{Place};
-ghost use Rattle.mv_exec.specs.Places.{branch_of, body_of, block_in, statement_before, holder_of, has_turn, is_left, loop_rows, StaysTo, site_of};
+ghost use Rattle.mv_exec.specs.Places.{has_turn, is_left, loop_rows, AreFilled, AreNumbered, IsNumbered, StaysTo};
 
-use mv_catalog::resolved::{ProcInfo, RStmt};
+use mv_graph::graph::{Graph, Step};
 use mv_record::record::Record;
-use mv_values::list::List;
-use mv_values::memory::NoMemory;
 use mv_values::value::Row;
-use std::alloc::Global;
 
 /// What holds a list of statements: the procedure, a branch of an IF, or a FOR. `record` is the number of the record of
 /// the IF or FOR. `row` is the variable of a loop's row. `turn` is the number of the loop's turn, counted from 1. It is
@@ -41,74 +38,6 @@ pub struct Place {
     pub number: usize,
 }
 
-/// Returns a branch of an IF. For any other statement it is empty.
-pub(crate) fn branch(statement: &RStmt, yes: bool) -> &[RStmt]
-    ensures { result.now ≡ branch_of yes statement.now }
-{
-    match statement {
-        RStmt::Branch {
-            test: _,
-            yes: first,
-            no,
-        } => { if yes { first.as_slice() } else { no.as_slice() } }
-        _ => &[],
-    }
-}
-
-/// Returns the body of a FOR. For any other statement it is empty.
-pub(crate) fn body(statement: &RStmt) -> &[RStmt]
-    ensures { result.now ≡ body_of statement.now }
-{
-    match statement {
-        RStmt::ForSelect { body, .. } => body.as_slice(),
-        RStmt::ForRows { body, .. } => body.as_slice(),
-        _ => &[],
-    }
-}
-
-/// Returns the list of statements that a holder names: the procedure's body, or a list inside the statement that holds
-/// it.
-pub(crate) fn block<'p>(
-    procedure: &'p ProcInfo,
-    holder: Holder,
-    statement: Option<&'p RStmt>,
-) -> &'p [RStmt]
-    ensures { result.now ≡ block_in procedure.now holder (option_copied statement.entry) }
-{
-    match (holder, statement) {
-        (Holder::Procedure, _) => procedure.body.as_slice(),
-        (Holder::Branch { record: _, yes }, Some(statement)) => branch(statement, yes),
-        (Holder::Loop { .. }, Some(statement)) => body(statement),
-        _ => &[],
-    }
-}
-
-/// Returns the statement at a place in this list, counted from 0.
-pub(crate) fn statement_at(block: &[RStmt], at: usize) -> Option<&RStmt>
-    ensures { option_copied result ≡ slice_get block.now at }
-{
-    block.get(at)
-}
-
-/// Returns the statement before a place in this list.
-fn statement_before(block: &[RStmt], place: Place) -> Option<&RStmt>
-    ensures { option_copied result ≡ slice_get block.now (place.at - 1) }
-{
-    statement_at(block, place.at.saturating_sub(1))
-}
-
-/// Returns the statement that holds what lies inside the innermost place.
-pub(crate) fn holder_of<'p>(procedure: &'p ProcInfo, places: &[Place]) -> Option<&'p RStmt>
-    ensures { option_copied result ≡ holder_of procedure.now None places.now }
-{
-    let mut statement = None;
-    for place in places {
-        let block = block(procedure, place.holder, statement);
-        statement = statement_before(block, *place);
-    }
-    statement
-}
-
 /// Returns the rows of the loop whose FOR's record has this number.
 pub(crate) fn rows_of(records: &[Record], number: usize) -> &[Row]
     ensures { result.now ≡ loop_rows records.now number }
@@ -129,34 +58,48 @@ fn has_next_turn(records: &[Record], holder: Holder) -> bool
     }
 }
 
-/// Whether a statement is left in this list from a place on.
-pub(crate) fn is_before_end(block: &[RStmt], at: usize) -> bool
-    ensures { result ≡ nat_lt at (length block.now) }
+/// Returns the step of the statement with this number, counted from 1.
+pub(crate) fn step_at(graph: &Graph, number: usize) -> Option<&Step>
+    ensures { option_copied result ≡ slice_get graph.now.steps (number - 1) }
 {
-    at < block.len()
+    graph.steps.as_slice().get(number.saturating_sub(1))
 }
 
-/// Whether a statement or a turn is left at a place in this list.
-fn has_left(records: &[Record], block: &[RStmt], place: Place) -> bool
-    ensures { result ≡ is_left records.now block.now place }
+/// Whether a statement is left in its list from a place on. Takes constant time.
+pub(crate) fn is_before_end(graph: &Graph, place: Place) -> bool
+    requires { IsGraph graph.now }
+    ensures { (block : List RStmt) → IsNumbered graph.now.procedure block place → 0 < length block → result ≡ nat_lt place.at (length block) }
 {
-    is_before_end(block, place.at) || has_next_turn(records, place.holder)
-}
-
-/// Returns the number of places that stay. Nothing is left at the places inside them.
-pub(crate) fn staying(procedure: &ProcInfo, records: &[Record], places: &[Place]) -> usize
-    ensures { StaysTo procedure.now records.now places.now (length places.now) result }
-{
-    let mut stay = 0;
-    let mut statement = None;
-    for (i, place) in places.iter().enumerate() {
-        let block = block(procedure, place.holder, statement);
-        if has_left(records, block, *place) {
-            stay = i + 1;
-        }
-        statement = statement_before(block, *place);
+    match step_at(graph, place.first) {
+        Some(step) => place.number.saturating_sub(place.first) < step.left as usize,
+        None => false,
     }
-    stay
+}
+
+/// Whether a statement or a turn is left at a place. Takes constant time.
+fn has_left(graph: &Graph, records: &[Record], place: Place) -> bool
+    requires { IsGraph graph.now }
+    ensures { (block : List RStmt) → IsNumbered graph.now.procedure block place → 0 < length block → result ≡ is_left records.now block place }
+{
+    is_before_end(graph, place) || has_next_turn(records, place.holder)
+}
+
+/// Returns the number of places that stay. Nothing is left at the places inside them. Takes time proportional to the
+/// number of those.
+pub(crate) fn staying(graph: &Graph, records: &[Record], places: &[Place]) -> usize
+    requires graph { IsGraph graph.now }
+    requires filled { AreFilled graph.now.procedure None places.now }
+    requires numbers { AreNumbered graph.now.procedure None places.now }
+    ensures { StaysTo graph.now.procedure records.now places.now (length places.now) result }
+{
+    let Some((outer, last)) = innermost(places) else {
+        return 0;
+    };
+    if has_left(graph, records, last) {
+        places.len()
+    } else {
+        staying(graph, records, outer)
+    }
 }
 
 /// Returns the places around the innermost one.

@@ -1,27 +1,22 @@
 //! The next statement of a running call.
 
-ghost use Rattle.std.specs.Prelude.{◌≡◌, ◌-◌, true, false, slice_get};
-ghost use Rattle.std.specs.Option.{option_copied};
-ghost use Rattle.mv_graph.specs.Nodes.{IsGraph, TellsOf};
-ghost use Rattle.mv_exec.specs.Ahead.{IsNextPlace};
+ghost use Rattle.std.specs.Prelude.{◌≡◌, true, false};
+ghost use Rattle.mv_graph.specs.Nodes.{IsGraph};
+ghost use Rattle.mv_exec.specs.Ahead.{IsNextStep};
 ghost use Rattle.mv_exec.specs.Places.{has_turn, next_turn, place_due};
 ghost use Rattle.mv_exec.specs.Tasks.{IsTask};
 
-use crate::places::{
-    Holder, Place, block, holder_of, innermost, is_before_end, rows_of, statement_at,
-};
+use crate::places::{Holder, Place, innermost, is_before_end, rows_of, step_at};
 use crate::task::Task;
-use mv_catalog::resolved::{ProcInfo, RStmt};
-use mv_graph::graph::{Graph, Node};
+use mv_graph::graph::{Graph, Step};
 use mv_record::record::Record;
 
-/// The next statement of a call, with its node and its place. `turn` tells whether a loop's turn begins with it.
+/// The step of the next statement of a call, and its place. `turn` tells whether a loop's turn begins with it.
 #[derive(Clone, Copy)]
 pub(crate) struct Position<'g> {
     pub(crate) place: Place,
     pub(crate) turn: bool,
-    pub(crate) statement: &'g RStmt,
-    pub(crate) node: &'g Node,
+    pub(crate) step: &'g Step,
 }
 
 /// Returns the place before the first statement of the next turn.
@@ -60,38 +55,20 @@ fn place_due(records: &[Record], place: Place, turn: bool) -> Place
     }
 }
 
-/// Returns the node of the statement with this number, counted from 1.
-pub(crate) fn node_at(graph: &Graph, number: usize) -> Option<&Node>
-    ensures { option_copied result ≡ slice_get graph.now.nodes (number - 1) }
-{
-    graph.nodes.as_slice().get(number.saturating_sub(1))
-}
-
-/// Returns where a call continues. Takes time proportional to the depth of the statement.
+/// Returns where a call continues. Takes constant time.
 pub(crate) fn next_position<'g>(graph: &'g Graph, task: &Task) -> Position<'g>
     requires nodes { IsGraph graph.now }
     requires task { IsTask graph.now.procedure task.now }
     requires live { task.now.ended ≡ false }
-    ensures goes_on { IsNextPlace graph.now.procedure task.now result.place result.statement.now result.turn }
-    ensures node { TellsOf graph.now.procedure result.statement.now result.node.now }
+    ensures { IsNextStep graph.now.procedure task.now result.place result.step.now result.turn }
 {
-    let Some((outer, last)) = innermost(task.places.as_slice()) else {
+    let Some((_, last)) = innermost(task.places.as_slice()) else {
         unreachable!();
     };
-    let procedure = &graph.procedure;
-    let block = block(procedure, last.holder, holder_of(procedure, outer));
-    let turn = !is_before_end(block, last.at);
+    let turn = !is_before_end(graph, last);
     let place = place_due(task.records.as_slice(), last, turn);
-    let Some(statement) = statement_at(block, place.at) else {
+    let Some(step) = step_at(graph, place.number) else {
         unreachable!();
     };
-    let Some(node) = node_at(graph, place.number) else {
-        unreachable!();
-    };
-    Position {
-        place,
-        turn,
-        statement,
-        node,
-    }
+    Position { place, turn, step }
 }

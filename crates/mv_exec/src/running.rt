@@ -107,7 +107,7 @@ pub fn adopt_ahead(
     ensures err { OnErr result (IsUnchanged task.old task.new) }
 {
     let position = move_on(alloc, graph, task)?;
-    let yes = branch(alloc, position.statement, task.variables.env())?;
+    let yes = branch(alloc, &position.step.statement, task.variables.env())?;
     add(alloc, graph, task, record_at(ahead, given), position, yes)
 }
 

@@ -3,7 +3,9 @@
 ghost use Rattle.std.specs.Prelude.{◌≡◌, List, [], ◌∷◌, ◌++◌, IfOk, OnOk, MatchOption};
 ghost use Rattle.mv_values.specs.declared.value.Value.{Value};
 ghost use Rattle.mv_alone.specs.declared.state.Env.{Env};
-ghost use Rattle.mv_catalog.specs.declared.resolved.RStmt.{out-RStmt};
+ghost use Rattle.mv_catalog.specs.declared.resolved.ProcInfo.{ProcInfo};
+ghost use Rattle.mv_catalog.specs.declared.resolved.RStmt.{RStmt, out-RStmt};
+ghost use Rattle.mv_graph.specs.Steps.{TellsOf};
 ghost use Rattle.mv_recorded.specs.Effect.{with_slots};
 ghost use Rattle.mv_exec.specs.Env.{with_changes};
 ghost use Rattle.mv_exec.specs.Moves.{after_turns, after_empty_loop};
@@ -11,7 +13,7 @@ ghost use Rattle.mv_exec.specs.Running.{stepped};
 
 use crate::changes::{VariableChange, changes_of, row_of_empty};
 use mv_alone::state::Content;
-use mv_catalog::resolved::RStmt;
+use mv_graph::graph::Step;
 use mv_record::record::Record;
 use mv_values::copied::Copied;
 use mv_values::memory::NoMemory;
@@ -63,12 +65,12 @@ fn add_last_row(
 fn add_turns(
     alloc: Global,
     changes: &mut Vec<VariableChange>,
-    statement: &RStmt,
+    step: &Step,
     rows: &[Row],
 ) -> Result<(), NoMemory>
-    ensures { OnOk result ((e : Env) → with_changes changes.new.items e ≡ after_empty_loop (out-RStmt statement.now) rows.now (with_changes changes.old.items e)) }
+    ensures { OnOk result ((proc : ProcInfo) (s : RStmt) → TellsOf proc s step.now → (e : Env) → with_changes changes.new.items e ≡ after_empty_loop (out-RStmt s) rows.now (with_changes changes.old.items e)) }
 {
-    match row_of_empty(statement) {
+    match row_of_empty(step) {
         Some(row) => add_last_row(alloc, changes, row, rows),
         None => Ok(()),
     }
@@ -78,12 +80,12 @@ fn add_turns(
 #[tactic(auto, using(crate::proofs::Changing::slots_changes))]
 pub(crate) fn changes_for(
     alloc: Global,
-    statement: &RStmt,
+    step: &Step,
     given: &Record,
 ) -> Result<Vec<VariableChange>, NoMemory>
-    ensures { IfOk result (λ cs. (e : Env) → with_changes cs.items e ≡ after_empty_loop (out-RStmt statement.now) given.now.rows (with_slots given.now.sets e)) }
+    ensures { IfOk result (λ cs. (proc : ProcInfo) (s : RStmt) → TellsOf proc s step.now → (e : Env) → with_changes cs.items e ≡ after_empty_loop (out-RStmt s) given.now.rows (with_slots given.now.sets e)) }
 {
     let mut changes = changes_of(alloc, given.sets.as_slice())?;
-    add_turns(alloc, &mut changes, statement, given.rows.as_slice())?;
+    add_turns(alloc, &mut changes, step, given.rows.as_slice())?;
     Ok(changes)
 }

@@ -1,17 +1,22 @@
 //! Drops the places at which nothing is left.
 
-ghost use Rattle.std.specs.Prelude.{◌≡◌, false};
+ghost use Rattle.std.specs.Prelude.{◌≡◌, None, false};
+ghost use Rattle.mv_graph.specs.Nodes.{IsGraph};
+ghost use Rattle.mv_exec.specs.Places.{AreFilled, AreNumbered};
 ghost use Rattle.mv_exec.specs.Tasks.{IsTrimmed};
 
 use crate::places::staying;
 use crate::task::Task;
-use mv_catalog::resolved::ProcInfo;
+use mv_graph::graph::Graph;
 
 /// Drops the places at which nothing is left. The call has ended if none stays.
-pub(crate) fn trim(procedure: &ProcInfo, task: &mut Task)
-    ensures { task.old.ended ≡ false → IsTrimmed procedure.now task.old task.new }
+pub(crate) fn trim(graph: &Graph, task: &mut Task)
+    requires graph { IsGraph graph.now }
+    requires filled { AreFilled graph.now.procedure None task.old.places }
+    requires numbers { AreNumbered graph.now.procedure None task.old.places }
+    ensures { task.old.ended ≡ false → IsTrimmed graph.now.procedure task.old task.new }
 {
-    let stay = staying(procedure, task.records.as_slice(), task.places.as_slice());
+    let stay = staying(graph, task.records.as_slice(), task.places.as_slice());
     if stay == 0 {
         task.ended = true;
     } else {

@@ -12,6 +12,7 @@ use Rattle.mv_recorded.specs.Reading.{expressions, each_once, read_variables}
 use Rattle.mv_recorded.specs.Recorded.{meaning}
 use Rattle.mv_graph.specs.declared.graph.Graph.{Graph}
 use Rattle.mv_graph.specs.declared.graph.Node.{Node}
+use Rattle.mv_graph.specs.Steps.{steps_in}
 use Rattle.mv_graph.specs.declared.graph.Keyword.{Keyword}
 use Rattle.mv_graph.specs.declared.graph.Keyword.TheVariants as keyword
 
@@ -137,33 +138,18 @@ nodes_in proc =
     let params : ℕ = length proc.params in
     body_nodes params (params + length proc.defaults) proc.body 1 None []
 
--- The text of a procedure
-
--- it has these statements one after another, of which the first has this number: their nodes lie between others
-pub record HasText (proc : ProcInfo) (n : ℕ) (ss : List RStmt) : Type 0 where
-  pub front : List Node
-  pub holder : Option ℕ
-  pub loops : List ℕ
-  pub back : List Node
-  pub nodes : nodes_in proc ≡ front ++ (body_nodes (length proc.params) (length proc.params + length proc.defaults) ss n holder loops ++ back)
-  pub number : length front + 1 ≡ n
-
--- the node has what a statement reads, and how large it is
-pub record TellsOf (proc : ProcInfo) (s : RStmt) (node : Node) : Type 0 where
-  pub reads : node.reads ≡ read_variables (length proc.params) (expressions (out-RStmt s))
-  pub size : node.size ≡ size s
-
 -- Graphs
 
--- its nodes are those of its procedure
-abbrev pub IsGraph : Graph → Type 0
-IsGraph g = g.nodes ≡ nodes_in g.procedure
+-- its nodes and steps are those of its procedure
+pub record IsGraph (g : Graph) : Type 0 where
+  pub nodes : g.nodes ≡ nodes_in g.procedure
+  pub steps : g.steps ≡ steps_in g.procedure
 
 -- its meaning is its procedure's
 abbrev pub meaning_of : Graph → Behavior
 meaning_of g = meaning g.tables g.procedure
 
--- its tables and its procedure fit together, as those of a program do, and its nodes are those of its procedure
+-- its tables and its procedure fit together, as those of a program do, and its nodes and steps are those of its procedure
 pub record IsSound (g : Graph) : Type 0 where
   pub few : length g.tables ≤ 64
   pub tables : All IsTable g.tables

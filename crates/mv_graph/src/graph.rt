@@ -5,7 +5,7 @@ ghost use Rattle.std.specs.List.{list_any};
 ghost use Rattle.std.specs.Option.{option_copied};
 ghost use Rattle.mv_graph.specs.Edges.{is_number, is_same, node_at, has_common, comes_to, edges, edges_of};
 
-use mv_catalog::resolved::ProcInfo;
+use mv_catalog::resolved::{ProcInfo, RStmt};
 use mv_values::list::List;
 use mv_values::schema::TableInfo;
 
@@ -44,6 +44,21 @@ pub struct Node {
     pub size: u16,
 }
 
+/// A statement of the text as a running call needs it: itself, and where the statements inside it and after it are.
+#[derive(Drop)]
+pub struct Step {
+    /// The statement without those that it holds.
+    pub statement: RStmt,
+    /// The variables in its own expressions, parameters excluded.
+    pub reads: List<u16>,
+    /// The number of statements: itself and those that it holds.
+    pub size: u16,
+    /// What the number of the first statement of its ELSE is more than its own. It is 1 for all but an IF.
+    pub skip: u16,
+    /// The number of statements from it on to the end of its list, with those that they hold.
+    pub left: u16,
+}
+
 /// A procedure as a graph. It means what the procedure means over the tables.
 #[derive(Drop)]
 pub struct Graph {
@@ -53,6 +68,8 @@ pub struct Graph {
     pub procedure: ProcInfo,
     /// A node for each statement, in the order of the text.
     pub nodes: List<Node>,
+    /// A step for each statement, in the order of the text.
+    pub steps: List<Step>,
 }
 
 /// How a statement may depend on another: the other directly holds it, sets a variable that it reads, or changes the

@@ -72,6 +72,7 @@ fn graph(alloc: Global) -> Result<Graph, NoMemory> {
         tables: List::new(alloc),
         procedure,
         nodes: nodes(alloc)?,
+        steps: List::new(alloc),
     })
 }
 

@@ -8,15 +8,15 @@ use Rattle.mv_exec.proofs.ahead.ahead_of.Goals as goal
 
 pub ahead_at-requires : goal.ahead_at-requires
 ahead_at-requires c =
-    small_here c.args.graph.now.procedure c.args.task.now c.args.position.place c.args.position.statement.now c.args.position.turn c.requires.task c.requires.live c.requires.goes_on c.requires.short
+    small_here c.args.graph.now.procedure c.args.task.now c.args.position.place c.requires.goes_on.s c.args.position.turn c.requires.task c.requires.live c.requires.goes_on.is c.requires.short
 
 pub returns : goal.returns
 returns c =
-    let go = c.requires.goes_on in
+    let go = c.requires.goes_on.is in
     let places : c.outer-places.result.now ≡ go.outer = c.outer-places.ensures go.outer go.last (c.as_slice.ensures ∙ go.are) in
     subst (λ ahead. ForeseesLeft c.args.graph.now.procedure c.args.task.now (Some ahead))
     (sym (c.in_ok-ahead.ensures
     ∙ (ap (λ ps. ahead_at c.args.task.now.definers (site_in c.args.position.place.holder (site_of outside ps)) c.args.position.place.number c.as_slice-2.result.now) places
     ∙ ap (ahead_at c.args.task.now.definers (site_in c.args.position.place.holder (site_of outside go.outer)) c.args.position.place.number) c.as_slice-2.ensures)))
-    (foresees c.args.graph.now.procedure c.args.task.now c.args.position.place c.args.position.statement.now c.args.position.turn c.args.position.node.now c.requires.task c.requires.live c.requires.params
-    go c.requires.node)
+    (foresees c.args.graph.now.procedure c.args.task.now c.args.position.place c.requires.goes_on.s c.args.position.turn c.args.position.step.now c.requires.task c.requires.live c.requires.params
+    go c.requires.goes_on.tells)

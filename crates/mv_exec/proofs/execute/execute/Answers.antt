@@ -9,16 +9,17 @@ use Rattle.mv_effect.specs.Looking.{AskedFor, IsExecutable}
 use Rattle.mv_effect.proofs.WellNamed.{well_named}
 use Rattle.mv_exec.specs.Tasks.{places_of}
 use Rattle.mv_exec.proofs.Executing.{counts_one, executed_next}
+use Rattle.mv_exec.proofs.Held.{effect_told, names_told}
 use Rattle.mv_exec.proofs.Wellness.{well_at, columns_at}
 use Rattle.mv_exec.proofs.Writing.{keys_before}
 use Rattle.mv_exec.proofs.execute.execute.Goals as goal
 
 pub effect-requires : goal.effect-requires
 effect-requires g c =
-    let well = well_at c.args.graph.now.tables c.args.graph.now.procedure c.requires.at.0 c.args.position.place c.args.position.statement.now c.requires.sound.procedure c.requires.at.1.stands in
-    subst (λ (e : Env). IsExecutable c.as_slice.result.now c.args.position.statement.now e (earlier c.len-number.result c.args.task.now.undo) (g.V.View.sight c.args.view.now).database) (sym c.env.ensures)
-    (subst (λ (ts : List TableInfo). IsExecutable ts c.args.position.statement.now c.args.task.now.variables.env (earlier c.len-number.result c.args.task.now.undo) (g.V.View.sight c.args.view.now).database) (sym c.as_slice.ensures)
-    (subst (λ n. IsExecutable c.args.graph.now.tables c.args.position.statement.now c.args.task.now.variables.env (earlier n c.args.task.now.undo) (g.V.View.sight c.args.view.now).database) (sym c.len-number.ensures)
+    let well = well_at c.args.graph.now.tables c.args.graph.now.procedure c.requires.at.at.0 c.args.position.place c.requires.at.s c.requires.sound.procedure c.requires.at.at.1.stands in
+    subst (λ (e : Env). IsExecutable c.as_slice.result.now c.args.position.step.now.statement e (earlier c.len-number.result c.args.task.now.undo) (g.V.View.sight c.args.view.now).database) (sym c.env.ensures)
+    (subst (λ (ts : List TableInfo). IsExecutable ts c.args.position.step.now.statement c.args.task.now.variables.env (earlier c.len-number.result c.args.task.now.undo) (g.V.View.sight c.args.view.now).database) (sym c.as_slice.ensures)
+    (subst (λ n. IsExecutable c.args.graph.now.tables c.args.position.step.now.statement c.args.task.now.variables.env (earlier n c.args.task.now.undo) (g.V.View.sight c.args.view.now).database) (sym c.len-number.ensures)
     (record {
       stands = record {
         few = c.requires.sound.few;
@@ -26,26 +27,23 @@ effect-requires g c =
         database = c.requires.database;
         behind = keys_before c.args.graph.now.procedure c.args.graph.now.tables c.args.task.now (g.V.View.sight c.args.view.now).database c.requires.task c.requires.keys;
       };
-      names = well_named c.args.graph.now.tables c.args.position.statement.now well.0 well.1;
+      names = names_told c.args.graph.now.tables c.args.graph.now.procedure c.requires.at.s c.args.position.step.now c.requires.at.tells (well_named c.args.graph.now.tables c.requires.at.s well.0 well.1);
       found = c.requires.found;
     })))
-
-pub add-requires-clause-columns : goal.add-requires-clause-columns
-add-requires-clause-columns g c =
-    columns_at c.args.graph.now.tables c.args.graph.now.procedure (places_of c.args.task.now) c.args.position.place c.args.position.statement.now c.requires.sound.procedure c.requires.at
 
 pub returns-clause-executed : goal.returns-clause-executed
 returns-clause-executed g c =
     executed_next c.args.graph.now.procedure c.args.graph.now.tables c.args.task.now c.add.new.task (g.V.View.sight c.args.view.now) (g.V.View.sight c.effect.new.view) _
-    c.requires.at.0 c.args.position.place c.args.position.statement.now c.args.ahead c.in_ok-effect.field-0.effect c.record_of-record.result c.requires.task c.requires.at.1
-    (columns_at c.args.graph.now.tables c.args.graph.now.procedure (places_of c.args.task.now) c.args.position.place c.args.position.statement.now c.requires.sound.procedure c.requires.at)
+    c.requires.at.at.0 c.args.position.place c.requires.at.s c.args.ahead c.in_ok-effect.field-0.effect c.record_of-record.result c.requires.task c.requires.at.at.1
+    (columns_at c.args.graph.now.tables c.args.graph.now.procedure (places_of c.args.task.now) c.args.position.place c.requires.at.s c.requires.sound.procedure c.requires.at.at)
     c.requires.database.rising c.requires.next
-    (subst (λ (ts : List TableInfo). IsEffect ts (out-RStmt c.args.position.statement.now) c.args.task.now.variables.env (applied (earlier (length c.args.task.now.records) c.args.task.now.undo) (g.V.View.sight c.args.view.now).database) c.in_ok-effect.field-0.effect)
+    (effect_told c.args.graph.now.tables c.args.graph.now.procedure c.requires.at.s c.args.position.step.now c.args.task.now.variables.env (applied (earlier (length c.args.task.now.records) c.args.task.now.undo) (g.V.View.sight c.args.view.now).database) c.in_ok-effect.field-0.effect c.requires.at.tells
+    (subst (λ (ts : List TableInfo). IsEffect ts (out-RStmt c.args.position.step.now.statement) c.args.task.now.variables.env (applied (earlier (length c.args.task.now.records) c.args.task.now.undo) (g.V.View.sight c.args.view.now).database) c.in_ok-effect.field-0.effect)
     c.as_slice.ensures
-    (subst (λ n. IsEffect c.as_slice.result.now (out-RStmt c.args.position.statement.now) c.args.task.now.variables.env (applied (earlier n c.args.task.now.undo) (g.V.View.sight c.args.view.now).database) c.in_ok-effect.field-0.effect)
+    (subst (λ n. IsEffect c.as_slice.result.now (out-RStmt c.args.position.step.now.statement) c.args.task.now.variables.env (applied (earlier n c.args.task.now.undo) (g.V.View.sight c.args.view.now).database) c.in_ok-effect.field-0.effect)
     c.len-number.ensures
-    (subst (λ (e : Env). IsEffect c.as_slice.result.now (out-RStmt c.args.position.statement.now) e (applied (earlier c.len-number.result c.args.task.now.undo) (g.V.View.sight c.args.view.now).database) c.in_ok-effect.field-0.effect)
-    c.env.ensures c.in_ok-effect.ensures.effect)))
+    (subst (λ (e : Env). IsEffect c.as_slice.result.now (out-RStmt c.args.position.step.now.statement) e (applied (earlier c.len-number.result c.args.task.now.undo) (g.V.View.sight c.args.view.now).database) c.in_ok-effect.field-0.effect)
+    c.env.ensures c.in_ok-effect.ensures.effect))))
     (subst (λ n. AskedFor c.in_ok-effect.field-0.effect.preds (earlier n c.args.task.now.undo) (g.V.View.sight c.args.view.now) (g.V.View.sight c.effect.new.view)) c.len-number.ensures c.in_ok-effect.ensures.looks)
     c.record_of-record.ensures c.in_ok-stepped.ensures.added
 

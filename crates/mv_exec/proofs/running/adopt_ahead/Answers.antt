@@ -1,18 +1,14 @@
 use Rattle.std.proofs.Common.{◌≡◌, ◌∙◌}
 use Rattle.mv_exec.specs.Running.{IsTaskOf, IsSameCall, IsUnchanged, HasAdopted, GoesOnWith}
 use Rattle.mv_exec.specs.Steps.{HasAddedRecord}
-use Rattle.mv_exec.specs.Tasks.{places_of, StandsAsBefore}
+use Rattle.mv_exec.specs.Tasks.{StandsAsBefore}
 use Rattle.mv_exec.proofs.Adopting.{added_before, before_both}
 use Rattle.mv_exec.proofs.Fronts.{both, on_err, either, stays, grows, unchanged, adopted, goes_on}
-use Rattle.mv_exec.proofs.Wellness.{columns_at}
 use Rattle.mv_exec.proofs.running.adopt_ahead.Goals as goal
 use Rattle.mv_exec.proofs.running.adopt_ahead.Goals.{After-add}
 
 pub move_on-requires-clause-task : goal.move_on-requires-clause-task
 move_on-requires-clause-task c = c.requires.running.1.whole
-
-pub add-requires-clause-columns : goal.add-requires-clause-columns
-add-requires-clause-columns c = columns_at c.args.graph.now.tables c.args.graph.now.procedure (places_of c.move_on.new.task) _ _ c.requires.sound.procedure c.in_ok-position.ensures.at
 
 came : (c : After-add) → IsSameCall c.args.graph.now c.args.task.now c.move_on.new.task
 came c call is = stays c.args.graph.now call c.args.task.now c.move_on.new.task c.move_on.ensures.task c.move_on.ensures.same c.move_on.ensures.found is
