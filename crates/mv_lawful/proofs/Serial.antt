@@ -21,7 +21,7 @@ use Rattle.mv_lawful.proofs.Repairs.{first_allowed}
 
 -- Numbers in a list
 
-abbrev stands : ℕ → List ℕ → Bool
+abbrev pub stands : ℕ → List ℕ → Bool
 stands c cs = list_any (λ d. d == c) cs
 
 stands_same : (c : ℕ) (cs : List ℕ) → stands c (cs ++ c ∷ []) ≡ true
@@ -36,7 +36,7 @@ stands_other : (d c : ℕ) (cs : List ℕ) → (c ≡ d → ⊥) → stands d (c
 stands_other d c [] h = ap (λ b. b || false) (ne_eqb c d h)
 stands_other d c (x ∷ cs) h = ap (λ b. (x == d) || b) (stands_other d c cs h)
 
-stands_at : (cs : List ℕ) (k c : ℕ) → slice_get cs k ≡ Some c → stands c cs ≡ true
+pub stands_at : (cs : List ℕ) (k c : ℕ) → slice_get cs k ≡ Some c → stands c cs ≡ true
 stands_at [] k c is = cc
 stands_at (d ∷ cs) zero c is = let same : d ≡ c = cc in subst (λ x. ((x == c) || stands c cs) ≡ true) (sym same) (ap (λ b. b || stands c cs) (eq-eqb c c refl))
 stands_at (d ∷ cs) (suc k) c is = by (d == c) (stands_at cs k c is)
@@ -45,7 +45,7 @@ stands_at (d ∷ cs) (suc k) c is = by (d == c) (stands_at cs k c is)
     by true h = refl
     by false h = h
 
-contains_it : (c : ℕ) (cs : List ℕ) → stands c cs ≡ true → Contains cs c
+pub contains_it : (c : ℕ) (cs : List ℕ) → stands c cs ≡ true → Contains cs c
 contains_it c [] h = cc
 contains_it c (d ∷ cs) h = by (d == c) refl h (contains_it c cs)
   where
@@ -67,7 +67,7 @@ get_end (d ∷ cs) c (suc k) x is = by (get_end cs c k x is)
     by (inr h) = inr (ap suc h.0, h.1)
 
 -- each once
-abbrev Once : List ℕ → Type 0
+abbrev pub Once : List ℕ → Type 0
 Once [] = Unit {0}
 Once (c ∷ cs) = (stands c cs ≡ false) × Once cs
 
@@ -135,16 +135,33 @@ live_at ls c f h = by (slice_get ls c) refl h
 
 -- What events keep
 
-record Orderly (w : Work) (order : List ℕ) (calls : List Live) : Type 0 where
-  count : length calls ≤ w.count
-  once : Once order
-  done : (c : ℕ) (l : Live) → slice_get calls c ≡ Some l → l.done ≡ stands c order
-  within : (c : ℕ) → length calls ≤ c → stands c order ≡ false
-  starts : (c : ℕ) (l : Live) → slice_get calls c ≡ Some l → first_start l.turns ≤ length order
-  after_begin : (k c : ℕ) (l : Live) → slice_get order k ≡ Some c → slice_get calls c ≡ Some l → first_start l.turns ≤ k
+-- each round starts after at most this many commits
+abbrev pub StartBy : ℕ → List Turn → Type 0
+StartBy n [] = Unit {0}
+StartBy n (t ∷ ts) = (t.start ≤ n) × StartBy n ts
+
+start_later : (n m : ℕ) (ts : List Turn) → n ≤ m → StartBy n ts → StartBy m ts
+start_later n m [] le h = tt
+start_later n m (t ∷ ts) le h = (let first = h.0 in omega (arith, first, le), start_later n m ts le h.1)
+
+start_again : (n : ℕ) (mark : Mark) (ts : List Turn) → StartBy n ts → StartBy n (ts ++ record { start = n; mark = mark } ∷ [])
+start_again n mark [] h = (omega arith, tt)
+start_again n mark (t ∷ ts) h = (h.0, start_again n mark ts h.1)
+
+first_by : (n : ℕ) (ts : List Turn) → StartBy n ts → first_start ts ≤ n
+first_by n [] h = omega arith
+first_by n (t ∷ ts) h = h.0
+
+pub record Orderly (w : Work) (order : List ℕ) (calls : List Live) : Type 0 where
+  pub count : length calls ≤ w.count
+  pub once : Once order
+  pub done : (c : ℕ) (l : Live) → slice_get calls c ≡ Some l → l.done ≡ stands c order
+  pub within : (c : ℕ) → length calls ≤ c → stands c order ≡ false
+  starts : (c : ℕ) (l : Live) → slice_get calls c ≡ Some l → StartBy (length order) l.turns
+  pub after_begin : (k c : ℕ) (l : Live) → slice_get order k ≡ Some c → slice_get calls c ≡ Some l → StartBy k l.turns
 
 -- one live call changes and stays live
-changed : (w : Work) (order : List ℕ) (calls : List Live) (c : ℕ) (l m : Live) → Orderly w order calls → slice_get calls c ≡ Some l → l.done ≡ false → m.done ≡ false → first_start m.turns ≤ length order
+changed : (w : Work) (order : List ℕ) (calls : List Live) (c : ℕ) (l m : Live) → Orderly w order calls → slice_get calls c ≡ Some l → l.done ≡ false → m.done ≡ false → StartBy (length order) m.turns
     → Orderly w order (slice_set calls c m)
 changed w order calls c l m o is live still low = record {
   count = let n = same_length calls c m in let k = o.count in omega (arith, n, k);
@@ -162,23 +179,23 @@ changed w order calls c l m o is live still low = record {
     done_by d x (inl h) = subst (λ (y : Live). y.done ≡ stands d order) h.1 (still ∙ sym (subst (λ z. stands z order ≡ false) (sym h.0) away))
     done_by d x (inr h) = o.done d x h.1
 
-    starts_by : (d : ℕ) (x : Live) → ((d ≡ c) × (m ≡ x)) ⊎ ((d ≡ c → ⊥) × (slice_get calls d ≡ Some x)) → first_start x.turns ≤ length order
-    starts_by d x (inl h) = subst (λ (y : Live). first_start y.turns ≤ length order) h.1 low
+    starts_by : (d : ℕ) (x : Live) → ((d ≡ c) × (m ≡ x)) ⊎ ((d ≡ c → ⊥) × (slice_get calls d ≡ Some x)) → StartBy (length order) x.turns
+    starts_by d x (inl h) = subst (λ (y : Live). StartBy (length order) y.turns) h.1 low
     starts_by d x (inr h) = o.starts d x h.1
 
-    begin_by : (k d : ℕ) (x : Live) → slice_get order k ≡ Some d → ((d ≡ c) × (m ≡ x)) ⊎ ((d ≡ c → ⊥) × (slice_get calls d ≡ Some x)) → first_start x.turns ≤ k
+    begin_by : (k d : ℕ) (x : Live) → slice_get order k ≡ Some d → ((d ≡ c) × (m ≡ x)) ⊎ ((d ≡ c → ⊥) × (slice_get calls d ≡ Some x)) → StartBy k x.turns
     begin_by k d x at (inl h) = absurd (both_ways (stands c order) away (stands_at order k c (at ∙ ap Some h.0)))
     begin_by k d x at (inr h) = o.after_begin k d x at h.1
 
 -- one live call commits
-committed : (w : Work) (order : List ℕ) (calls : List Live) (c : ℕ) (l m : Live) → Orderly w order calls → slice_get calls c ≡ Some l → l.done ≡ false → m.done ≡ true → first_start m.turns ≤ length order
+committed : (w : Work) (order : List ℕ) (calls : List Live) (c : ℕ) (l m : Live) → Orderly w order calls → slice_get calls c ≡ Some l → l.done ≡ false → m.done ≡ true → StartBy (length order) m.turns
     → Orderly w (order ++ c ∷ []) (slice_set calls c m)
 committed w order calls c l m o is live finished low = record {
   count = let n = same_length calls c m in let k = o.count in omega (arith, n, k);
   once = once_more order c o.once away;
   done = λ d x got. done_by d x (get_cases calls c d m x got);
   within = λ d past. within_by d (let n = same_length calls c m in omega (arith, n, past));
-  starts = λ d x got. let n = longer in let k = starts_by d x (get_cases calls c d m x got) in omega (arith, n, k);
+  starts = λ d x got. start_later (length order) (length (order ++ c ∷ [])) x.turns (let n = longer in omega (arith, n)) (starts_by d x (get_cases calls c d m x got));
   after_begin = λ k d x at got. begin_by k d x (get_end order c k d at) (get_cases calls c d m x got);
 }
   where
@@ -198,14 +215,14 @@ committed w order calls c l m o is live finished low = record {
     within_by : (d : ℕ) → length calls ≤ d → stands d (order ++ c ∷ []) ≡ false
     within_by d past = stands_other d c order (λ e. let r = in_range in omega (arith, r, past, e)) ∙ o.within d past
 
-    starts_by : (d : ℕ) (x : Live) → ((d ≡ c) × (m ≡ x)) ⊎ ((d ≡ c → ⊥) × (slice_get calls d ≡ Some x)) → first_start x.turns ≤ length order
-    starts_by d x (inl h) = subst (λ (y : Live). first_start y.turns ≤ length order) h.1 low
+    starts_by : (d : ℕ) (x : Live) → ((d ≡ c) × (m ≡ x)) ⊎ ((d ≡ c → ⊥) × (slice_get calls d ≡ Some x)) → StartBy (length order) x.turns
+    starts_by d x (inl h) = subst (λ (y : Live). StartBy (length order) y.turns) h.1 low
     starts_by d x (inr h) = o.starts d x h.1
 
-    begin_by : (k d : ℕ) (x : Live) → (slice_get order k ≡ Some d) ⊎ ((k ≡ length order) × (c ≡ d)) → ((d ≡ c) × (m ≡ x)) ⊎ ((d ≡ c → ⊥) × (slice_get calls d ≡ Some x)) → first_start x.turns ≤ k
+    begin_by : (k d : ℕ) (x : Live) → (slice_get order k ≡ Some d) ⊎ ((k ≡ length order) × (c ≡ d)) → ((d ≡ c) × (m ≡ x)) ⊎ ((d ≡ c → ⊥) × (slice_get calls d ≡ Some x)) → StartBy k x.turns
     begin_by k d x (inl at) (inl h) = absurd (both_ways (stands c order) away (stands_at order k c (at ∙ ap Some h.0)))
     begin_by k d x (inl at) (inr h) = o.after_begin k d x at h.1
-    begin_by k d x (inr at) (inl h) = let s = subst (λ (y : Live). first_start y.turns ≤ length order) h.1 low in let e = at.0 in omega (arith, s, e)
+    begin_by k d x (inr at) (inl h) = subst (λ n. StartBy n x.turns) (sym at.0) (subst (λ (y : Live). StartBy (length order) y.turns) h.1 low)
     begin_by k d x (inr at) (inr h) = absurd (h.0 (sym at.1))
 
 -- a call begins
@@ -229,19 +246,15 @@ begun w order calls o room = record {
     done_by d x (inl h) = o.done d x h
     done_by d x (inr h) = subst (λ (y : Live). y.done ≡ stands d order) h.1 (sym (next_away d h.0))
 
-    starts_by : (d : ℕ) (x : Live) → (slice_get calls d ≡ Some x) ⊎ ((d ≡ length calls) × (begin (length order) ≡ x)) → first_start x.turns ≤ length order
+    starts_by : (d : ℕ) (x : Live) → (slice_get calls d ≡ Some x) ⊎ ((d ≡ length calls) × (begin (length order) ≡ x)) → StartBy (length order) x.turns
     starts_by d x (inl h) = o.starts d x h
-    starts_by d x (inr h) = subst (λ (y : Live). first_start y.turns ≤ length order) h.1 (omega arith)
+    starts_by d x (inr h) = subst (λ (y : Live). StartBy (length order) y.turns) h.1 (omega arith, tt)
 
-    begin_by : (k d : ℕ) (x : Live) → slice_get order k ≡ Some d → (slice_get calls d ≡ Some x) ⊎ ((d ≡ length calls) × (begin (length order) ≡ x)) → first_start x.turns ≤ k
+    begin_by : (k d : ℕ) (x : Live) → slice_get order k ≡ Some d → (slice_get calls d ≡ Some x) ⊎ ((d ≡ length calls) × (begin (length order) ≡ x)) → StartBy k x.turns
     begin_by k d x at (inl h) = o.after_begin k d x at h
     begin_by k d x at (inr h) = absurd (both_ways (stands d order) (next_away d h.0) (stands_at order k d at))
 
-first_again : (n most : ℕ) (mark : Mark) (ts : List Turn) → first_start ts ≤ most → n ≤ most → first_start (ts ++ record { start = n; mark = mark } ∷ []) ≤ most
-first_again n most mark [] h k = k
-first_again n most mark (t ∷ ts) h k = h
-
-abbrev OrderlyAt : Work → Course → Type 0
+abbrev pub OrderlyAt : Work → Course → Type 0
 OrderlyAt w s = Orderly w s.order s.calls
 
 at_call : (w : Work) (order : List ℕ) (calls : List Live) (c : ℕ) (f : Live → Live) (a : LiveAt calls c) → Orderly w order (slice_set calls c (f a.l)) → Orderly w order (change_live (slice_get calls c) f calls c)
@@ -258,7 +271,7 @@ room_of w n c h = by (c == n) (nat_lt c w.count) refl refl h
     by true false e k h = cc
     by false b e k h = cc
 
-orderly_after : (w : Work) (s : Course) (e : Event) → refusal w s e ≡ None → OrderlyAt w s → OrderlyAt w (after w s e)
+pub orderly_after : (w : Work) (s : Course) (e : Event) → refusal w s e ≡ None → OrderlyAt w s → OrderlyAt w (after w s e)
 orderly_after w s (B c) h o = begun w s.order s.calls o (room_of w (length s.calls) c h)
 orderly_after w s (S c) h o =
     let a = live_at s.calls c _ h in
@@ -266,28 +279,28 @@ orderly_after w s (S c) h o =
 orderly_after w s (A c) h o =
     let a = live_at s.calls c _ h in
     at_call w s.order s.calls c (again (length s.order) Plain) a
-    (changed w s.order s.calls c a.l (again (length s.order) Plain a.l) o a.is a.live a.live (first_again (length s.order) (length s.order) Plain a.l.turns (o.starts c a.l a.is) (omega arith)))
+    (changed w s.order s.calls c a.l (again (length s.order) Plain a.l) o a.is a.live a.live (start_again (length s.order) Plain a.l.turns (o.starts c a.l a.is)))
 orderly_after w s (M c) h o =
     let a = live_at s.calls c _ h in
     at_call w s.order s.calls c (again (length s.order) Moved) a
-    (changed w s.order s.calls c a.l (again (length s.order) Moved a.l) o a.is a.live a.live (first_again (length s.order) (length s.order) Moved a.l.turns (o.starts c a.l a.is) (omega arith)))
+    (changed w s.order s.calls c a.l (again (length s.order) Moved a.l) o a.is a.live a.live (start_again (length s.order) Moved a.l.turns (o.starts c a.l a.is)))
 orderly_after w s (C c) h o =
     let a = live_at s.calls c _ h in
     at_call w (s.order ++ c ∷ []) s.calls c finish a (committed w s.order s.calls c a.l (finish a.l) o a.is a.live refl (o.starts c a.l a.is))
 orderly_after w s (X c) h o =
     let a = live_at s.calls c _ h in
     at_call w (s.order ++ c ∷ []) s.calls c (λ l. finish (again (length s.order) Exclusive l)) a
-    (committed w s.order s.calls c a.l (finish (again (length s.order) Exclusive a.l)) o a.is a.live refl (first_again (length s.order) (length s.order) Exclusive a.l.turns (o.starts c a.l a.is) (omega arith)))
+    (committed w s.order s.calls c a.l (finish (again (length s.order) Exclusive a.l)) o a.is a.live refl (start_again (length s.order) Exclusive a.l.turns (o.starts c a.l a.is)))
 orderly_after w s G h o = o
 
 -- Whole journals
 
 -- orderly, with no call open
-record Ended (w : Work) (s : Course) : Type 0 where
-  orderly : OrderlyAt w s
-  closed : option_map Open (open_call w s) ≡ None
+pub record Ended (w : Work) (s : Course) : Type 0 where
+  pub orderly : OrderlyAt w s
+  pub closed : option_map Open (open_call w s) ≡ None
 
-ended_from : (w : Work) (n : ℕ) (s : Course) (es : List Event) → wrong_from w n s es ≡ None → OrderlyAt w s → Ended w (reach w s es)
+pub ended_from : (w : Work) (n : ℕ) (s : Course) (es : List Event) → wrong_from w n s es ≡ None → OrderlyAt w s → Ended w (reach w s es)
 ended_from w n s [] h o = record { orderly = o; closed = h }
 ended_from w n s (e ∷ es) h o =
     let parts = first_allowed n (refusal w s e) (wrong_from w (n + 1) (after w s e) es) h in
@@ -303,7 +316,7 @@ open_done n (l ∷ ls) i h = by l.done i refl h (open_done (n + 1) ls)
     by true (suc j) e h go = go j (omega (arith, h))
     by false i e h go = absurd (omega (arith, h))
 
-all_done : (w : Work) (s : Course) → option_map Open (open_call w s) ≡ None → (c : ℕ) → c < w.count → (l : Live) × (slice_get s.calls c ≡ Some l) × (l.done ≡ true)
+pub all_done : (w : Work) (s : Course) → option_map Open (open_call w s) ≡ None → (c : ℕ) → c < w.count → (l : Live) × (slice_get s.calls c ≡ Some l) × (l.done ≡ true)
 all_done w s h c less = open_done 0 s.calls c (below (first_open 0 s.calls) (closed (first_open 0 s.calls) h))
   where
     closed : (n : ℕ) → option_map Open (if nat_lt n w.count then Some n else None) ≡ None → nat_lt n w.count ≡ false
@@ -316,12 +329,12 @@ all_done w s h c less = open_done 0 s.calls c (below (first_open 0 s.calls) (clo
     below : (n : ℕ) → nat_lt n w.count ≡ false → 0 + c < n
     below n k = grind (arith, k, less)
 
-serial_of : (w : Work) (s : Course) → Ended w s → IsSerial w s
+pub serial_of : (w : Work) (s : Course) → Ended w s → IsSerial w s
 serial_of w s h = record {
   calls = λ k d within. below (slice_index_or s.order k d) (stands_at s.order k (slice_index_or s.order k d) (slice_get-get_or s.order k d within));
   once = once_pairs s.order o.once;
   each = λ c less. let it = all_done w s h.closed c less in contains_it c s.order (sym (o.done c it.0 it.1) ∙ it.2);
-  after_begin = o.after_begin;
+  after_begin = λ k c l at got. first_by k l.turns (o.after_begin k c l at got);
 }
   where
     o : OrderlyAt w s
@@ -341,7 +354,7 @@ serial_of w s h = record {
         by false e = absurd (both_ways (stands c s.order) (o.within c (past e)) k)
 
 -- before any event
-at_beginning : (w : Work) → OrderlyAt w beginning
+pub at_beginning : (w : Work) → OrderlyAt w beginning
 at_beginning w = record {
   count = omega arith;
   once = tt;
@@ -364,7 +377,7 @@ live_below w s c f o h =
     let count = o.count in
     omega (arith, within, count)
 
-next_below : (w : Work) (n c : ℕ) → unless ((c == n) && nat_lt c w.count) Order None ≡ None → c < w.count
+pub next_below : (w : Work) (n c : ℕ) → unless ((c == n) && nat_lt c w.count) Order None ≡ None → c < w.count
 next_below w n c h = by (c == n) (nat_lt c w.count) refl h
   where
     less : nat_lt c w.count ≡ true → c < w.count

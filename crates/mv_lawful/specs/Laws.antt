@@ -7,7 +7,7 @@ use Rattle.mv_journal.specs.declared.event.Event.TheVariants.{B, S, A, M, C, X, 
 use Rattle.mv_lawful.specs.Work.{Work}
 use Rattle.mv_lawful.specs.Lawful.{Turn, Live, Course, Lawful, AllAllowed, beginning, after, course_of, is_stale, used}
 use Rattle.mv_lawful.specs.Rounds.{is_round, is_repair, IsPast, IsBounded}
-use Rattle.mv_lawful.specs.Outcomes.{in_turn, without_collections, outcome_of}
+use Rattle.mv_lawful.specs.Outcomes.{in_turn, without_collections, shown, outcome_of}
 
 -- Low
 
@@ -84,3 +84,21 @@ InTurnIsLawful = (w : Work) → IsInTurn w (in_turn w.count)
 -- collections change nothing of an outcome but its events
 abbrev pub CollectionsAreUnseen : Type 0
 CollectionsAreUnseen = (w : Work) (es : List Event) → outcome_of w es ≡ record (outcome_of w (without_collections es)) { journal = es }
+
+-- Shown events
+
+-- a text has a line for each event that it shows
+abbrev pub ShownIsAllShown : Type 0
+ShownIsAllShown = (es : List Event) → shown (shown es) ≡ shown es
+
+-- the events that the text of a lawful journal shows are a lawful journal too
+abbrev pub ShownIsLawful : Type 0
+ShownIsLawful = (w : Work) (es : List Event) → Lawful w es → Lawful w (shown es)
+
+-- they have as few rounds, and move as late
+abbrev pub ShownIsBounded : Type 0
+ShownIsBounded = (w : Work) (es : List Event) → IsBounded w es → IsBounded w (shown es)
+
+-- they have the same outcome but for its events, whether the journal is lawful or not
+abbrev pub ShownHasTheOutcome : Type 0
+ShownHasTheOutcome = (w : Work) (es : List Event) → outcome_of w (shown es) ≡ record (outcome_of w es) { journal = shown es }

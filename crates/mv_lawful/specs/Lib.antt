@@ -3,4 +3,5 @@ pub mod Lawful
 pub mod Rounds
 pub mod Outcomes
 pub mod Laws
+pub mod Serializable
 pub mod Examples

@@ -64,6 +64,20 @@ is_of_call G = false
 abbrev pub without_collections : List Event → List Event
 without_collections = filter is_of_call
 
+-- whether a text has a line for the event: statements and collections have none
+abbrev pub has_line : Event → Bool
+has_line (B c) = true
+has_line (S c) = false
+has_line (A c) = true
+has_line (M c) = true
+has_line (C c) = true
+has_line (X c) = true
+has_line G = false
+
+-- the events that a text shows
+abbrev pub shown : List Event → List Event
+shown = filter has_line
+
 -- the outcome of one worker's journal, in which old versions may be collected between any events
 pub record IsOutcomeInTurn (w : Work) (n : ℕ) (o : Outcome) : Type 0 where
   pub journal : List Event

@@ -1,12 +1,20 @@
 //! The laws of journals.
 
 ghost use Rattle.mv_lawful.specs.Examples.{OnlyTheFee, AllAgain, NothingAdded, NewRowCounts, OwnWriteCounts, NewDefiner, OtherBranch, SameKey, KeptWriteStays, InOneStep, FirstFaults, StaleMoves, OldestStart};
-ghost use Rattle.mv_lawful.specs.Laws.{LowNeverFalls, NoneIsStale, StaleIsPast, RoundsAreCounted, RepairsAreFew, LawfulIsSerial, LawfulNamesCalls, InTurnIsLawful, CollectionsAreUnseen};
+ghost use Rattle.mv_lawful.specs.Laws.{LowNeverFalls, NoneIsStale, StaleIsPast, RoundsAreCounted, RepairsAreFew, LawfulIsSerial, LawfulNamesCalls, InTurnIsLawful, CollectionsAreUnseen, ShownIsAllShown, ShownIsLawful, ShownIsBounded, ShownHasTheOutcome};
+ghost use Rattle.mv_lawful.specs.Serializable.{LawfulIsSerializable};
 
 /// A lawful journal commits each call exactly once. No call has a greater start than the number of commits before its
 /// own, so a call that committed before another began is before it in the order of commits.
 pub fn lawful_is_serial()
     ensures { LawfulIsSerial }
+{}
+
+/// The outcome of a lawful journal is serializable. There is an order of the calls that has each exactly once. Each reply is
+/// that of the call alone on the tables that the calls before it leave, and the last tables are the outcome's. A call
+/// that had committed before another began stands before it.
+pub fn lawful_is_serializable()
+    ensures { LawfulIsSerializable }
 {}
 
 /// Each event of a lawful journal, collections aside, is of a call that exists.
@@ -24,6 +32,15 @@ pub fn in_turn_is_lawful()
 /// those of the journal without them.
 pub fn collections_are_unseen()
     ensures { CollectionsAreUnseen }
+{}
+
+/// The events that have a line in a text are a journal of their own. It is lawful and bounded if the whole one is, and has
+/// the same outcome but for its events: statements only move a call on, and collections only make calls stale.
+pub fn shown_is_enough()
+    ensures all { ShownIsAllShown }
+    ensures lawful { ShownIsLawful }
+    ensures bounded { ShownIsBounded }
+    ensures outcome { ShownHasTheOutcome }
 {}
 
 /// No event lowers low.
