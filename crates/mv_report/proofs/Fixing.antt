@@ -11,7 +11,8 @@ use Rattle.mv_journal.specs.declared.event.Event.{Event}
 use Rattle.mv_journal.specs.declared.event.Event.TheVariants.{B, S, A, M, C, X, G}
 use Rattle.mv_journal.specs.Events.{IsInRange}
 use Rattle.mv_report.specs.Text.{event_line, journal_text, tables_text}
-use Rattle.mv_report.specs.Shown.{has_line, shown, TextFixesEvents}
+use Rattle.mv_lawful.specs.Outcomes.{has_line, shown}
+use Rattle.mv_report.specs.Shown.{TextFixesEvents}
 use Rattle.mv_report.proofs.Finding.{ArePlain, decimal_plain, found, found_journal, rest_of}
 
 -- Numbers

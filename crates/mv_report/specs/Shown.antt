@@ -1,29 +1,13 @@
 -- A text fixes its journal: which events can be told from the text of a run. This project's own.
-use Rattle.std.specs.Prelude.{◌≡◌, ℕ, Bool, true, false, List, All}
-use Rattle.std.specs.List.{filter}
+use Rattle.std.specs.Prelude.{◌≡◌, ℕ, List, All}
 use Rattle.mv_values.specs.declared.value.Value.{Value}
 use Rattle.mv_values.specs.declared.calls.Reply.{Reply}
 use Rattle.mv_values.specs.declared.schema.TableInfo.{TableInfo}
-use Rattle.mv_journal.specs.declared.event.Event.{Event}
-use Rattle.mv_journal.specs.declared.event.Event.TheVariants.{B, S, A, M, C, X, G}
 use Rattle.mv_journal.specs.declared.outcome.Outcome.{Outcome}
 use Rattle.mv_journal.specs.Events.{IsInRange}
+use Rattle.mv_lawful.specs.Outcomes.{shown}
 use Rattle.mv_alone.specs.Line.{line_of}
 use Rattle.mv_report.specs.Text.{text_of}
-
--- statements and collections have no line
-abbrev pub has_line : Event → Bool
-has_line (S call) = false
-has_line G = false
-has_line (B call) = true
-has_line (A call) = true
-has_line (M call) = true
-has_line (C call) = true
-has_line (X call) = true
-
--- the events that the text has
-abbrev pub shown : List Event → List Event
-shown = filter has_line
 
 -- PRINT added the line
 abbrev pub IsPrinted : List ℕ → Type 0
