@@ -2,3 +2,4 @@ pub mod Text
 pub mod Serial
 pub mod Graphs
 pub mod Shown
+pub mod JournalLines
