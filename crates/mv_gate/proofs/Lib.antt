@@ -8,3 +8,4 @@ pub mod Desks
 pub mod Ending
 pub mod Repaired
 pub mod Crossing
+pub mod Serializing

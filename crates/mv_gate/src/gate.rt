@@ -3,6 +3,7 @@
 ghost use Rattle.std.specs.Prelude.{◌≡◌, ◌<◌, ◌≤◌, ◌^◌, [], IfOk, length};
 ghost use mathlib.Core.List.{IsPrefix};
 ghost use Rattle.mv_seats.specs.Knowing.{Plain};
+ghost use Rattle.mv_lawful.specs.Serializable.{IsSerializable};
 ghost use Rattle.mv_core.specs.Scripts.{IsScript, work_of};
 ghost use Rattle.mv_gate.specs.Gates.{script_in, work, IsOutcome};
 
@@ -203,7 +204,8 @@ fn work_at<N: Making, R: Threads + Wait + Sync, P: Pace>(
 }
 
 /// Runs the calls of a gate's script by 1 to 64 workers, and then those that they have left. Returns the outcome of a
-/// lawful and bounded journal, in which each call has committed. Fails with `NoMemory` if memory runs out.
+/// lawful and bounded journal, in which each call has committed. So the calls are serializable by the outcome. Fails with
+/// `NoMemory` if memory runs out.
 pub fn run_all<N: Making + Send + Sync, R: Threads + Wait + Sync, P: Pace>(
     rt: &R,
     alloc: Global,
@@ -214,7 +216,8 @@ pub fn run_all<N: Making + Send + Sync, R: Threads + Wait + Sync, P: Pace>(
 ) -> Result<Outcome, NoMemory>
     requires workers { (0 < workers) × (workers ≤ 64) }
     requires pass { pass.role ≡ Plain }
-    ensures { IfOk result (IsOutcome (work N.script)) }
+    ensures outcome { IfOk result (IsOutcome (work N.script)) }
+    ensures serializable { IfOk result (IsSerializable (work N.script)) }
 {
     let mut posts = Vec::new(alloc);
     for number in 0..workers {

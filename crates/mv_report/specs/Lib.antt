@@ -3,3 +3,4 @@ pub mod Serial
 pub mod Graphs
 pub mod Shown
 pub mod JournalLines
+pub mod History

@@ -14,7 +14,7 @@ use Rattle.mv_core.specs.declared.drive.DriveFault.TheVariants as drive
 use Rattle.mv_core.specs.Drives.{HasReplayed}
 use Rattle.mv_top.specs.declared.refusal.NoText.{NoText}
 use Rattle.mv_top.specs.declared.refusal.NoText.TheVariants.{Refused, NoMemory}
-use Rattle.mv_top.specs.History.{work_of as whole_work}
+use Rattle.mv_report.specs.History.{work_of as whole_work}
 use Rattle.mv_top.specs.Journals.{journal_lines, IsJournalOf, RefusesJournal, line, unlawful}
 use Rattle.mv_top.specs.Refusing.{of_line, of_drive, TellsWrong, TellsJournal}
 

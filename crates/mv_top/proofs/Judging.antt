@@ -18,7 +18,7 @@ use Rattle.mv_top.specs.declared.refusal.NoText.{NoText}
 use Rattle.mv_top.specs.declared.refusal.NoText.TheVariants.{Refused, NoMemory}
 use Rattle.mv_words.specs.declared.command.Command.{Command}
 use Rattle.mv_words.specs.declared.command.Command.TheVariants.{Run, Replay, Serial, Graph, Tpcc}
-use Rattle.mv_top.specs.History.{work_of}
+use Rattle.mv_report.specs.History.{work_of}
 use Rattle.mv_top.specs.Journals.{journal_lines, refusal_of, HasLawfulJournal, RefusesJournal, line, unlawful}
 use Rattle.mv_top.specs.Refusing.{Causes, RefusesAs, of_accept}
 use Rattle.mv_top.specs.Answers.{IsTextOf, AcceptsProgram, RefusesProgram, IsRefusedBy, by_script, by_program}

@@ -7,3 +7,4 @@ pub mod Answering
 pub mod Texts
 pub mod Summaries
 pub mod Opening
+pub mod Headlines

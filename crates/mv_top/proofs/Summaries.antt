@@ -11,7 +11,7 @@ use Rattle.mv_lawful.proofs.Collections.{collections_are_unseen}
 use Rattle.mv_lawful.proofs.Turns.{in_turn_is_lawful}
 use Rattle.mv_tpccgen.specs.declared.load.Load.{Load}
 use Rattle.mv_tpccsum.specs.Summary.{new_order_line, calls_text, summary}
-use Rattle.mv_top.specs.History.{work_of}
+use Rattle.mv_report.specs.History.{work_of}
 use Rattle.mv_top.specs.Workers.{IsLeftBy}
 use Rattle.mv_top.specs.Tpcc.{IsSummary}
 

@@ -34,26 +34,64 @@ use Rattle.mv_journal.specs.declared.outcome.Outcome.{Outcome}
 use Rattle.mv_journal.specs.Events.{IsInRange}
 use Rattle.mv_lawful.specs.Work.{Work}
 use Rattle.mv_lawful.specs.Lawful.{Lawful, course_of}
+use Rattle.mv_lawful.specs.Rounds.{IsBounded}
 use Rattle.mv_lawful.specs.Laws.{IsOfCalls}
-use Rattle.mv_lawful.specs.Outcomes.{reply_in, reply_after, without_collections, IsOutcomeInTurn, outcome_of}
+use Rattle.mv_lawful.specs.Outcomes.{reply_in, reply_after, without_collections, shown, IsOutcomeInTurn, outcome_of}
 use Rattle.mv_lawful.proofs.Collections.{collections_are_unseen}
 use Rattle.mv_lawful.proofs.Serial.{lawful_names_calls}
+use Rattle.mv_lawful.proofs.Showing.{shown_is_all_shown, shown_is_lawful, shown_is_bounded, shown_has_the_outcome}
 use Rattle.mv_lawful.proofs.Turns.{in_turn_is_lawful}
 use Rattle.mv_report.specs.Shown.{IsPrinted, IsPlain}
 use Rattle.mv_report.specs.Text.{replies_text, history_text, event_line, journal_text, tables_text, text_of}
+use Rattle.mv_report.specs.JournalLines.{journal_lines_in}
 use Rattle.mv_report.proofs.Fixing.{text_fixes}
+use Rattle.mv_report.proofs.Lining.{text_has_journal}
 use Rattle.mv_gate.specs.Gates.{IsOutcome}
-use Rattle.mv_top.specs.History.{work_of, text, in_turn as turns_of, TextFixesJournal}
+use Rattle.mv_report.specs.History.{work_of, text, in_turn as turns_of, IsRunText}
+use Rattle.mv_top.specs.History.{TextFixesJournal, TextHasItsJournal}
 use Rattle.mv_top.specs.Workers.{IsLeftBy}
 use Rattle.mv_top.specs.Answers.{IsTextOfWorkers}
 
+-- Shown events
+
+lines_shown : (es : List Event) → journal_text (shown es) ≡ journal_text es
+lines_shown [] = refl
+lines_shown (B c ∷ es) = ap (λ bytes. event_line (B c) ++ bytes) (lines_shown es)
+lines_shown (S c ∷ es) = lines_shown es
+lines_shown (A c ∷ es) = ap (λ bytes. event_line (A c) ++ bytes) (lines_shown es)
+lines_shown (M c ∷ es) = ap (λ bytes. event_line (M c) ++ bytes) (lines_shown es)
+lines_shown (C c ∷ es) = ap (λ bytes. event_line (C c) ++ bytes) (lines_shown es)
+lines_shown (X c ∷ es) = ap (λ bytes. event_line (X c) ++ bytes) (lines_shown es)
+lines_shown (G ∷ es) = lines_shown es
+
+-- a text that has the lines of an outcome's events
+abbrev with_lines : List TableInfo → Outcome → List ℕ → List ℕ
+with_lines tables o lines =
+    replies_text o.replies ++ line (codes "history") ++ history_text o.history ++ line (codes "journal") ++ lines ++ tables_text tables o.tables ++ line (codes "end")
+
+-- the events that are shown have the same text
+pub text_shown : (p : Program) (options : Options) (es : List Event) → text p options es ≡ text p options (shown es)
+text_shown p options es =
+    ap (with_lines p.resolved.tables (outcome_of (work_of p options) es)) (sym (lines_shown es))
+    ∙ ap (text_of p.resolved.tables) (sym (shown_has_the_outcome (work_of p options) es))
+
 -- Runs
+
+-- the text of a lawful and bounded journal, which is that of the events that it shows
+run_text : (p : Program) (options : Options) (es : List Event) (bytes : List ℕ) → Lawful (work_of p options) es → IsBounded (work_of p options) es → bytes ≡ text p options es → IsRunText p options bytes
+run_text p options es bytes lawful bounded is = record {
+  journal = shown es;
+  printed = shown_is_all_shown es;
+  lawful = shown_is_lawful (work_of p options) es lawful;
+  bounded = shown_is_bounded (work_of p options) es bounded;
+  text_is = is ∙ text_shown p options es;
+}
 
 -- the text of what several workers leave
 text_runs : (p : Program) (options : Options) (count : ℕ) (bytes : List ℕ) (left : Outcome) → 1 < count → IsOutcome (work_of p options) left → bytes ≡ text_of p.resolved.tables left
     → IsTextOfWorkers count options p bytes
 text_runs p options count bytes left more is h =
-    (record { journal = left.journal; lawful = is.lawful; bounded = is.bounded; text_is = h ∙ ap (text_of p.resolved.tables) is.outcome }, λ one. absurd (omega (arith, more, one)))
+    (run_text p options left.journal bytes is.lawful is.bounded (h ∙ ap (text_of p.resolved.tables) is.outcome), λ one. absurd (omega (arith, more, one)))
 
 -- collections have no line
 lines_unseen : (es : List Event) → journal_text (without_collections es) ≡ journal_text es
@@ -65,11 +103,6 @@ lines_unseen (M c ∷ es) = ap (λ bytes. event_line (M c) ++ bytes) (lines_unse
 lines_unseen (C c ∷ es) = ap (λ bytes. event_line (C c) ++ bytes) (lines_unseen es)
 lines_unseen (X c ∷ es) = ap (λ bytes. event_line (X c) ++ bytes) (lines_unseen es)
 lines_unseen (G ∷ es) = lines_unseen es
-
--- a text that has the lines of an outcome's events
-abbrev with_lines : List TableInfo → Outcome → List ℕ → List ℕ
-with_lines tables o lines =
-    replies_text o.replies ++ line (codes "history") ++ history_text o.history ++ line (codes "journal") ++ lines ++ tables_text tables o.tables ++ line (codes "end")
 
 text_unseen : (w : Work) (tables : List TableInfo) (es : List Event) → text_of tables (outcome_of w es) ≡ text_of tables (outcome_of w (without_collections es))
 text_unseen w tables es = ap (text_of tables) (collections_are_unseen w es) ∙ ap (with_lines tables (outcome_of w (without_collections es))) (sym (lines_unseen es))
@@ -85,7 +118,7 @@ text_turns p options bytes left is h =
 turns_are_run : (p : Program) (options : Options) (count : ℕ) (bytes : List ℕ) → bytes ≡ text p options (turns_of p) → IsTextOfWorkers count options p bytes
 turns_are_run p options count bytes is =
     let it = in_turn_is_lawful (work_of p options) in
-    (record { journal = turns_of p; lawful = it.lawful; bounded = it.bounded; text_is = is }, λ one. is)
+    (run_text p options (turns_of p) bytes it.lawful it.bounded is, λ one. is)
 
 -- the text of what any number of workers leave
 pub text_left : (p : Program) (options : Options) (count : ℕ) (bytes : List ℕ) (left : Outcome) → IsLeftBy count (work_of p options) (length p.resolved.calls) left → bytes ≡ text_of p.resolved.tables left
@@ -185,3 +218,8 @@ pub text_fixes_journal : TextFixesJournal
 text_fixes_journal bytes one other a b =
     text_fixes a.program.resolved.tables b.program.resolved.tables (outcome_of (work_of a.program a.options) one) (outcome_of (work_of b.program b.options) other)
     (is_plain a.program a.options one a.few a.lawful) (is_plain b.program b.options other b.few b.lawful) (sym a.text_is ∙ b.text_is)
+
+pub text_has_its_journal : TextHasItsJournal
+text_has_its_journal bytes journal a =
+    ap journal_lines_in a.text_is
+    ∙ text_has_journal a.program.resolved.tables (outcome_of (work_of a.program a.options) journal) (is_plain a.program a.options journal a.few a.lawful)

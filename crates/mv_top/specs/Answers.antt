@@ -14,7 +14,7 @@ use Rattle.mv_top.specs.declared.refusal.Refusal.TheVariants.{Script}
 use Rattle.mv_top.specs.declared.refusal.NoText.{NoText}
 use Rattle.mv_top.specs.declared.refusal.NoText.TheVariants as why
 use Rattle.mv_top.specs.Refusals.{number_of, line_of}
-use Rattle.mv_top.specs.History.{text, in_turn, IsRunText}
+use Rattle.mv_report.specs.History.{text, in_turn, IsRunText}
 use Rattle.mv_top.specs.Journals.{HasLawfulJournal, IsJournalText, RefusesJournal}
 use Rattle.mv_top.specs.Serial.{serial}
 use Rattle.mv_top.specs.Graphs.{graphs}

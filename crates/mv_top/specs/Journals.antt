@@ -12,7 +12,7 @@ use Rattle.mv_lawful.specs.declared.fault.Wrong.TheVariants as wrong
 use Rattle.mv_lawful.specs.Lawful.{Lawful, wrong_with}
 use Rattle.mv_top.specs.declared.refusal.Refusal.{Refusal}
 use Rattle.mv_top.specs.declared.refusal.Refusal.TheVariants as why
-use Rattle.mv_top.specs.History.{work_of, text}
+use Rattle.mv_report.specs.History.{work_of, text}
 
 -- the bytes of the journal's block; a script without a JOURNAL item has none
 abbrev pub block_in : List ℕ → Option CopyInfo → List ℕ

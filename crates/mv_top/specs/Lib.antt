@@ -9,3 +9,4 @@ pub mod Workers
 pub mod Tpcc
 pub mod Print
 pub mod Answers
+pub mod Headline

@@ -8,7 +8,7 @@ use Rattle.mv_lawful.specs.Rounds.{IsBounded}
 use Rattle.mv_lawful.specs.Outcomes.{outcome_of}
 use Rattle.mv_tpccgen.specs.declared.load.Load.{Load}
 use Rattle.mv_tpccsum.specs.Summary.{summary}
-use Rattle.mv_top.specs.History.{work_of}
+use Rattle.mv_report.specs.History.{work_of}
 
 -- the bytes are the summary of a lawful journal that repairs and moves no call too often
 pub record IsSummary (load : Load) (p : Program) (options : Options) (bytes : List ℕ) : Type 0 where

@@ -10,6 +10,7 @@ ghost use Rattle.mv_words.specs.declared.command.Command.TheVariants as command;
 ghost use Rattle.mv_top.specs.declared.refusal.Refusal.{Refusal as Why};
 ghost use Rattle.mv_top.specs.Answers.{IsTextFor, IsTextOf, AcceptsProgram, TakesBytes, IsRefusedBy, RefusesProgram, HasCause, IsToldBy, IsFaultFor};
 ghost use Rattle.mv_top.specs.Refusing.{Causes, RefusesAs};
+ghost use Rattle.mv_top.specs.Headline.{IsSerializableFor};
 
 use crate::graphs::graph_text;
 use crate::journals::journal_text;
@@ -58,6 +59,8 @@ pub fn replay(
     horizon: Option<u32>,
     bytes: &[u8],
 ) -> Result<List<u8>, Fault>
+    // The headline: the calls are serializable by the text.
+    ensures serializable { IfOk result (IsSerializableFor bytes.now) }
     ensures found { let options : Given = record { rounds = rounds; horizon = horizon } in IfOk result (IsTextFor (command.Replay options) bytes.now) }
     ensures only { let options : Given = record { rounds = rounds; horizon = horizon } in (program : Whole) → TakesBytes (command.Replay options) bytes.now program → MatchResult result (IsTextOf (command.Replay options) bytes.now program) (λ fault. fault ≡ Fault.NoMemory) }
     ensures refused { let options : Given = record { rounds = rounds; horizon = horizon } in IfErr result (HasCause (command.Replay options) bytes.now) }

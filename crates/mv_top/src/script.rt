@@ -5,7 +5,7 @@ ghost use Rattle.mv_accept.specs.Accepting.{most_calls};
 ghost use Rattle.mv_catalog.specs.declared.resolved.Program.{Program as Whole};
 ghost use Rattle.mv_record.specs.Databases.{IsProgram};
 ghost use Rattle.mv_core.specs.Scripts.{IsScript, work_of as script_work};
-ghost use Rattle.mv_top.specs.History.{work_of};
+ghost use Rattle.mv_report.specs.History.{work_of};
 
 use mv_catalog::resolved::{Program, Resolved};
 use mv_compile::compile::compile;

@@ -10,6 +10,7 @@ ghost use Rattle.mv_top.specs.declared.refusal.Refusal.{Refusal as Why};
 ghost use Rattle.mv_top.specs.Refusals.{line_of};
 ghost use Rattle.mv_top.specs.Inputs.{IsReader, input_of};
 ghost use Rattle.mv_top.specs.Answers.{IsAnswered, Puts, Wrote, WroteOr, StandFor, TakesBytes, IsNoCommand, IsNoReader, IsTextOf, IsRefusedBy, words_of, usage_line};
+ghost use Rattle.mv_top.specs.Headline.{IsSerializable};
 
 use crate::answer::answer;
 use crate::input::take_input;
@@ -41,6 +42,9 @@ pub fn top<R: Threads + Wait + Sync, S: Source, K: Sink, P: Pace>(
 ) -> Status
     // What was written, for each status: Done has a text of the command, Refused and Usage their line.
     ensures wrote { Wrote (words_of words.now) (S.left source.old) (K.written sink.old) (K.written sink.new) result }
+    // The headline: `run` with any number of workers, and `replay`, have written a text by which the calls are
+    // serializable.
+    ensures serializable { IsSerializable (words_of words.now) (S.left source.old) (K.written sink.old) (K.written sink.new) result }
     // Words that name no command get the usage line, unless the sink fails or memory runs out. Neither for them nor for
     // `tpcc` is the source read.
     ensures words { IsNoCommand (words_of words.now) → (result ≡ Status.Usage) ⊎ ((result ≡ Status.WriteFault) ⊎ (result ≡ Status.NoMemory)) }

@@ -4,7 +4,9 @@ use denote.Param.Send.{sendable, param_sync, arg_sync, shr_sync}
 use Rattle.std.specs.contracts.alloc.Global as Global
 use Rattle.std.proofs.alloc.Global.TheSendSync as global
 use Rattle.mv_gate.specs.contracts.gate.Gate as Gate
+use Rattle.mv_gate.specs.Gates.{work}
 use Rattle.mv_gate.proofs.Crossing.{four_sync, gate_sync}
+use Rattle.mv_gate.proofs.Serializing.{serializable_left}
 use Rattle.mv_gate.proofs.gate.run_all.Goals as goal
 
 pub for_each_mut-requires-sync-F : goal.for_each_mut-requires-sync-F
@@ -17,3 +19,6 @@ for_each_mut-requires-sync-F g c κs within =
     (shr_sync _ _ Global.the_row global.the_sync)
     (shr_sync _ _ (Gate.the_row n g.N.Making) (gate_sync n g.N.Making))
     (shr_sync _ _ (param 2 g.row.P) (search (p, sendable)))))
+
+pub returns-clause-serializable : goal.returns-clause-serializable
+returns-clause-serializable g c = serializable_left (work g.N.Making.script) c.outcome.result c.outcome.ensures.outcome

@@ -1,6 +1,7 @@
 use Rattle.mv_values.specs.declared.calls.Options.{Options}
 use Rattle.mv_words.specs.declared.command.Command.TheVariants.{Replay}
 use Rattle.mv_top.proofs.Answering.{fault_only, fault_caused, fault_tells}
+use Rattle.mv_top.proofs.Headlines.{replay_for}
 use Rattle.mv_top.proofs.answer.replay.Goals as goal
 
 pub returns-in-Err-clause-only : goal.returns-in-Err-clause-only
@@ -13,3 +14,6 @@ returns-in-Err-clause-refused c =
 
 pub returns-in-Err-clause-told : goal.returns-in-Err-clause-told
 returns-in-Err-clause-told c = λ refusal cause. fault_tells refusal c.in-Err.why c.fault_for.result c.fault_for.ensures (c.in-Err.ensures.told refusal cause)
+
+pub returns-in-Ok-clause-serializable : goal.returns-in-Ok-clause-serializable
+returns-in-Ok-clause-serializable c = replay_for (record { rounds = c.args.rounds; horizon = c.args.horizon }) c.args.bytes.now c.in-Ok.text c.in-Ok.ensures.found

@@ -7,6 +7,7 @@ use Rattle.mv_top.specs.declared.status.Status.TheVariants.{Done, Refused, Usage
 use Rattle.mv_top.specs.Inputs.{input_of, IsTaken}
 use Rattle.mv_top.specs.Answers.{IsAnswered, IsTextOf, TakesBytes, IsRefusedBy, Puts, usage, words_of, usage_line}
 use Rattle.mv_top.proofs.Answering.{wrote_by, put_by, answer_of_input, all_taken, cause_of_taken, same_command, no_command}
+use Rattle.mv_top.proofs.Headlines.{wrote_serializable}
 use Rattle.mv_top.proofs.top.top.Goals as goal
 
 pub returns-in-Err-Usage-clause-wrote : goal.returns-in-Err-Usage-clause-wrote
@@ -56,3 +57,11 @@ returns-in-Ok-answered-clause-refuses g c =
 
 pub returns-in-Err-Usage-clause-rest : goal.returns-in-Err-Usage-clause-rest
 returns-in-Err-Usage-clause-rest g c = λ command words reads not_read not_starved. absurd (let e = sym words ∙ (no_command (words_of c.args.words.now) c.in-Err-Usage.field-0 (search rules) c.in-Err-Usage.ensures.said) in cc)
+
+pub returns-in-Err-Usage-clause-serializable : goal.returns-in-Err-Usage-clause-serializable
+returns-in-Err-Usage-clause-serializable g c =
+    wrote_serializable (words_of c.args.words.now) (g.S.Source.left c.args.source.now) (g.K.Sink.written c.args.sink.now) (g.K.Sink.written c.put.new.sink) c.put.result (returns-in-Err-Usage-clause-wrote g c)
+
+pub returns-in-Ok-answered-clause-serializable : goal.returns-in-Ok-answered-clause-serializable
+returns-in-Ok-answered-clause-serializable g c =
+    wrote_serializable (words_of c.args.words.now) (g.S.Source.left c.args.source.now) (g.K.Sink.written c.args.sink.now) (g.K.Sink.written c.put-in-Ok-answered.new.sink) c.put-in-Ok-answered.result (returns-in-Ok-answered-clause-wrote g c)

@@ -3,7 +3,7 @@ use Rattle.std.proofs.lemmas.Result.{IfOk-weaker}
 use Rattle.mv_journal.specs.declared.outcome.Outcome.{Outcome}
 use Rattle.mv_lawful.specs.Work.{Work}
 use Rattle.mv_tpccsum.specs.Summary.{summary}
-use Rattle.mv_top.specs.History.{work_of}
+use Rattle.mv_report.specs.History.{work_of}
 use Rattle.mv_top.specs.Workers.{IsLeftBy}
 use Rattle.mv_top.specs.Tpcc.{IsSummary}
 use Rattle.mv_top.proofs.Summaries.{summary_left}

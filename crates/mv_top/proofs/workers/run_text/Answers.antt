@@ -4,7 +4,7 @@ use Rattle.mv_values.specs.declared.schema.TableInfo.{TableInfo}
 use Rattle.mv_journal.specs.declared.outcome.Outcome.{Outcome}
 use Rattle.mv_lawful.specs.Work.{Work}
 use Rattle.mv_report.specs.Text.{text_of}
-use Rattle.mv_top.specs.History.{work_of}
+use Rattle.mv_report.specs.History.{work_of}
 use Rattle.mv_top.specs.Workers.{IsLeftBy}
 use Rattle.mv_top.specs.Answers.{IsTextOfWorkers}
 use Rattle.mv_top.proofs.Texts.{text_left}

@@ -1,0 +1,39 @@
+-- What is written of a run: the text of a journal of a program's calls. Its form and its law are this project's own.
+use Rattle.std.specs.Prelude.{◌≡◌, ℕ, List, length}
+use Rattle.mv_values.specs.declared.calls.Options.{Options}
+use Rattle.mv_catalog.specs.declared.resolved.Program.{Program}
+use Rattle.mv_alone.specs.TableAfter.{outcome, tables_left, reply_in}
+use Rattle.mv_recorded.specs.Recorded.{records}
+use Rattle.mv_journal.specs.declared.event.Event.{Event}
+use Rattle.mv_lawful.specs.Work.{Work}
+use Rattle.mv_lawful.specs.Lawful.{Lawful}
+use Rattle.mv_lawful.specs.Rounds.{IsBounded}
+use Rattle.mv_lawful.specs.Outcomes.{outcome_of, shown, in_turn as turns}
+use Rattle.mv_report.specs.Text.{text_of}
+
+-- the work of a program: a call leaves the records of its full run, and the reply and the database of the whole-table
+-- machine
+abbrev pub work_of : Program → Options → Work
+work_of p options = record {
+  run = λ c db. record { records = records p c db; reply = reply_in (outcome p c db); tables = tables_left db (outcome p c db) };
+  count = length p.resolved.calls;
+  opening = p.opening;
+  options = options;
+}
+
+-- Text: the text of a journal
+abbrev pub text : Program → Options → List Event → List ℕ
+text p options journal = text_of p.resolved.tables (outcome_of (work_of p options) journal)
+
+-- the journal of one worker: each call begins and commits before the next begins
+abbrev pub in_turn : Program → List Event
+in_turn p = turns (length p.resolved.calls)
+
+-- RunText: the bytes are the text of a lawful journal that repairs and moves no call too often. Each of its events has a
+-- line in the text
+pub record IsRunText (p : Program) (options : Options) (bytes : List ℕ) : Type 0 where
+  pub journal : List Event
+  pub printed : shown journal ≡ journal
+  pub lawful : Lawful (work_of p options) journal
+  pub bounded : IsBounded (work_of p options) journal
+  pub text_is : bytes ≡ text p options journal

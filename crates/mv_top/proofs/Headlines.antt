@@ -1,0 +1,106 @@
+-- A lawful journal has a text by which its calls are serializable.
+use Rattle.std.proofs.Common.{◌≡◌, ◌≤◌, ◌<◌, ℕ, zero, suc, List, [], ◌∷◌, Option, Some, length, take, refl, ap, subst, ◌∙◌, arith}
+use Rattle.std.specs.Prelude.{slice_get, slice_index}
+use Rattle.std.specs.Option.{ForSome}
+use Rattle.std.proofs.lemmas.Option.{same_Some, slice_get-get_or, slice_get_within}
+use Rattle.mv_values.specs.declared.calls.Options.{Options}
+use Rattle.mv_values.specs.Tables.{Tables}
+use Rattle.mv_catalog.specs.declared.resolved.Program.{Program}
+use Rattle.mv_alone.specs.TableAfter.{outcome, tables_left, table_after, reply_in}
+use Rattle.mv_journal.specs.declared.event.Event.{Event}
+use Rattle.mv_journal.specs.declared.outcome.Outcome.{Outcome}
+use Rattle.mv_lawful.specs.Work.{Work, tables_after, table_at}
+use Rattle.mv_lawful.specs.Lawful.{Lawful}
+use Rattle.mv_lawful.specs.Outcomes.{outcome_of, shown}
+use Rattle.mv_lawful.specs.Serializable.{order_of, IsSerializable}
+use Rattle.mv_lawful.proofs.Serializing.{lawful_is_serializable}
+use Rattle.mv_lawful.proofs.Showing.{shown_is_all_shown, shown_is_lawful}
+use Rattle.mv_report.specs.History.{work_of, text}
+use Rattle.mv_words.specs.declared.command.Command.{Command}
+use Rattle.mv_words.specs.declared.command.Command.TheVariants.{Run, Replay}
+use Rattle.mv_top.specs.declared.status.Status.{Status}
+use Rattle.mv_top.specs.declared.status.Status.TheVariants.{Done}
+use Rattle.mv_top.specs.Inputs.{input_of}
+use Rattle.mv_top.specs.Answers.{IsTextFor, IsAnswer, usage, refused, done, StandFor, Wrote}
+use Rattle.mv_top.proofs.Answering.{same_command}
+use Rattle.mv_top.proofs.Texts.{text_shown}
+use Rattle.mv_top.specs.Headline.{IsSerializableText, IsSerializableFor, WroteSerializable, IsSerializable as IsHeadline}
+
+-- Tables
+
+-- the tables after one call more
+table_next : (w : Work) (db : Tables) (order : List ℕ) (k c : ℕ) → slice_get order k ≡ Some c → tables_after w db (take (suc k) order) ≡ (w.run c (tables_after w db (take k order))).tables
+table_next w db [] k c is = cc
+table_next w db (d ∷ order) zero c is = ap (λ x. (w.run x db).tables) (same_Some d c is)
+table_next w db (d ∷ order) (suc k) c is = table_next w (w.run d db).tables order k c is
+
+-- the machine leaves the tables of a program's work
+table_same : (p : Program) (options : Options) (order : List ℕ) (k : ℕ) → k ≤ length order → table_at (work_of p options) order k ≡ table_after p order k
+table_same p options order zero le = refl
+table_same p options order (suc k) le =
+    let w : Work = work_of p options in
+    let c : ℕ = slice_index order k in
+    let at : slice_get order k ≡ Some c = slice_get-get_or order k 0 (omega (arith, le)) in
+    table_next w w.opening order k c at ∙ ap (λ (db : Tables). tables_left db (outcome p c db)) (table_same p options order k (omega (arith, le)))
+
+-- Texts
+
+text_by : (p : Program) (options : Options) (es : List Event) (bytes : List ℕ) → shown es ≡ es → IsSerializable (work_of p options) (outcome_of (work_of p options) es) → bytes ≡ text p options es
+    → IsSerializableText p bytes
+text_by p options es bytes printed s is = record {
+  replies = o.replies;
+  history = o.history;
+  journal = es;
+  tables = o.tables;
+  text_is = is;
+  printed = printed;
+  order = order_of o.history;
+  order_is = refl;
+  calls = s.calls;
+  once = s.once;
+  count = s.count;
+  alone = λ k c at. s.replies k c at
+      ∙ ap (λ (db : Tables). Some (reply_in (outcome p c db))) (table_same p options (order_of o.history) k (let within : k < length (order_of o.history) = slice_get_within (order_of o.history) k c at in omega (arith, within)));
+  last = s.tables ∙ table_same p options (order_of o.history) (length (order_of o.history)) (omega arith);
+  begun = s.begun;
+  committed = s.committed;
+  between = s.between;
+  first = s.first;
+  starts = s.starts;
+}
+  where
+    o : Outcome
+    o = outcome_of (work_of p options) es
+
+pub text_of_lawful : (p : Program) (options : Options) (es : List Event) (bytes : List ℕ) → Lawful (work_of p options) es → bytes ≡ text p options es → IsSerializableText p bytes
+text_of_lawful p options es bytes lawful is =
+    text_by p options (shown es) bytes (shown_is_all_shown es) (lawful_is_serializable (work_of p options) (shown es) (shown_is_lawful (work_of p options) es lawful)) (is ∙ text_shown p options es)
+
+-- What is written
+
+run_for : (threads : ℕ) (options : Options) (script bytes : List ℕ) → IsTextFor (Run threads options) script bytes → IsSerializableFor script bytes
+run_for threads options script bytes t = let run = t.2.0 in (t.0, t.1, text_of_lawful t.0 options run.journal bytes run.lawful run.text_is)
+
+pub replay_for : (options : Options) (script bytes : List ℕ) → IsTextFor (Replay options) script bytes → IsSerializableFor script bytes
+replay_for options script bytes t = let it = t.2 in (t.0, t.1, text_of_lawful t.0 options it.events bytes it.is.lawful it.text_is)
+
+-- the answer of a command, if all its texts for a script are such texts
+answer_for : (words : List (List ℕ)) (left : Option (List ℕ)) (command : Command) (status : Status) (answer : List ℕ) → input_of command left ≡ left → ((script : List ℕ) → IsTextFor command script answer → IsSerializableFor script answer)
+    → StandFor words command → status ≡ Done → IsAnswer words left status answer → ForSome left (λ script. IsSerializableFor script answer)
+answer_for words left command status answer input texts stands is (usage none) = cc
+answer_for words left command status answer input texts stands is (refused other number what said why) = cc
+answer_for words left command status answer input texts stands is (done other text said found) =
+    let same : other ≡ command = same_command words other command said stands in
+    λ script at. texts script (subst (λ (k : Command). IsTextFor k script answer) same (found script (ap (λ (k : Command). input_of k left) same ∙ (input ∙ at))))
+
+wrote_for : (words : List (List ℕ)) (left old new : Option (List ℕ)) (command : Command) → input_of command left ≡ left → ((script answer : List ℕ) → IsTextFor command script answer → IsSerializableFor script answer)
+    → (status : Status) → Wrote words left old new status → WroteSerializable command words left old new status
+wrote_for words left old new command input texts status wrote stands is =
+    let w : Wrote words left old new Done = subst (Wrote words left old new) is wrote in
+    λ script at. (w.0, answer_for words left command Done w.0 input (λ s. texts s w.0) stands refl w.1 script at, w.2)
+
+pub wrote_serializable : (words : List (List ℕ)) (left old new : Option (List ℕ)) (status : Status) → Wrote words left old new status → IsHeadline words left old new status
+wrote_serializable words left old new status wrote = (
+  λ threads options. wrote_for words left old new (Run threads options) refl (run_for threads options) status wrote,
+  λ options. wrote_for words left old new (Replay options) refl (replay_for options) status wrote,
+)
