@@ -1,6 +1,6 @@
 -- The changes of the last commits, and what they say of a call.
 use Rattle.std.proofs.Common.{◌≡◌, ℕ, ◌+◌, ◌-◌, ◌<◌, ◌≤◌, max, Bool, true, false, not, List, [], ◌∷◌, ◌++◌, Option, Some, None, map, length, drop, slice_set, is_some, refl, sym, ap, subst, ◌∙◌, arith, length-append, rules}
-use Rattle.std.specs.Prelude.{slice_get}
+use Rattle.std.specs.Prelude.{slice_get, IfSome, IfNone}
 use Rattle.std.proofs.lemmas.List.{drop-drop, drop-append-le, drop_all, length-drop, map-append, take_all}
 use Rattle.mv_lawful.proofs.Lows.{oldest_most}
 use Rattle.mv_lawful.proofs.Turns.{length_changes}
@@ -138,16 +138,17 @@ recent_passed w orders low ls new within none from dropped = record {
   commits = dropped ∙ sym (drop_all new.low (changes_after w w.opening orders) (let n = length_changes w w.opening orders in omega (arith, n, from)));
 }
 
-pub recent_remembered : (w : Work) (order orders : List ℕ) (low c number : ℕ) (ps : List Progress) (p q : Progress) (reply : Reply) (cs : List ℕ) (old new : Window) (changes : List Change)
+pub recent_remembered : (w : Work) (order orders : List ℕ) (low c number : ℕ) (ps : List Progress) (p q : Progress) (reply : Reply) (old new : Window) (changes : Option (List Change))
     → IsRecent w (the_course order low (map live_of ps)) old → orders ≡ order ++ c ∷ [] → slice_get ps c ≡ Some p → p.reply ≡ None → q.reply ≡ Some reply
-    → cs ≡ live_numbers (map live_of (slice_set ps c q)) → number ≡ length order + 1 → Remembers cs number changes old new
-    → ((cs ≡ [] → ⊥) → changes ≡ changes_between (table_at w order (length order)) (w.run c (table_at w order (length order))).tables)
+    → number ≡ length order + 1 → Remembers number changes old new
+    → IfNone changes (live_numbers (map live_of (slice_set ps c q)) ≡ [])
+    → IfSome changes (λ told. told ≡ changes_between (table_at w order (length order)) (w.run c (table_at w order (length order))).tables)
     → IsRecent w (the_course orders low (map live_of (slice_set ps c q))) new
-recent_remembered w order orders low c number ps p q reply [] old new changes k more at going told live is has own =
+recent_remembered w order orders low c number ps p q reply old new None k more at going told is has none own =
     let longer : length orders ≡ length order + 1 = ap length more ∙ length-append order (c ∷ []) in
-    recent_passed w orders low (map live_of (slice_set ps c q)) new (let le = k.within in omega (arith, le, longer)) (sym live) (has.0 ∙ (is ∙ sym longer)) has.1
-recent_remembered w order orders low c number ps p q reply (d ∷ ds) old new changes k more at going told live is has own =
-    recent_commit w order orders low c ps p q reply old new changes k more at going told has.0 has.1 (own (λ none. absurd (search (rules, none))))
+    recent_passed w orders low (map live_of (slice_set ps c q)) new (let le = k.within in omega (arith, le, longer)) none (has.0 ∙ (is ∙ sym longer)) has.1
+recent_remembered w order orders low c number ps p q reply old new (Some changes) k more at going told is has none own =
+    recent_commit w order orders low c ps p q reply old new changes k more at going told has.0 has.1 own
 
 -- changes are dropped, up to a number that no live call needs
 pub recent_trimmed : (w : Work) (order : List ℕ) (low next n : ℕ) (ls : List Live) (old new : Window) → IsRecent w (the_course order low ls) old → next ≤ length order → next ≤ n

@@ -92,10 +92,10 @@ last_changes b c = changes_between (last_tables b) (last_run b c).tables
 abbrev pub IsAlone : Booked → ℕ → Type 0
 IsAlone b c = live_numbers b.course.calls ≡ c ∷ []
 
--- the changes of the commit with this number were added; or all were dropped, since no call is live
-abbrev pub Remembers : List ℕ → ℕ → List Change → Window → Window → Type 0
-Remembers [] number changes old new = (new.low ≡ number) × (new.commits ≡ [])
-Remembers (c ∷ cs) number changes old new = (new.low ≡ old.low) × (new.commits ≡ old.commits ++ changes ∷ [])
+-- the changes of the commit with this number were added; without them, all were dropped
+abbrev pub Remembers : ℕ → Option (List Change) → Window → Window → Type 0
+Remembers number None old new = (new.low ≡ number) × (new.commits ≡ [])
+Remembers number (Some changes) old new = (new.low ≡ old.low) × (new.commits ≡ old.commits ++ changes ∷ [])
 
 -- Events
 

@@ -7,7 +7,6 @@ ghost use Rattle.mv_lawful.specs.Work.{since};
 ghost use Rattle.mv_lawful.specs.Lawful.{Live, Lawful, beginning, course_of, open_call, refusal, oldest, floor, next_low, AllAllowed};
 ghost use Rattle.mv_lawful.specs.Outcomes.{history_line, outcome_of, reply_in};
 ghost use Rattle.mv_changes.specs.Commits.{changes_in, AreNumbered};
-ghost use Rattle.mv_store.specs.Changes.{HasRaised};
 ghost use Rattle.mv_undo.specs.Owning.{HasWritesOf};
 ghost use Rattle.mv_core.specs.Calls.{IsLive, IsLiveCall, due_number};
 ghost use Rattle.mv_core.specs.Books.{work_in, IsSettled, last_run, last_tables, last_changes, Made, IsSame, HasBegun, round_event, due_after, IsFirstNumber, commit_event, own_number, IsOwnNumber, HasRoom, UsesOne, KeepsRoom, HasRounds, IsNotStale, IsAlone, Remembers, AreRecordsOf, IsAnswer};
@@ -20,11 +19,9 @@ use crate::roomy::{Roomy, last_number};
 use crate::script::Script;
 use mv_changes::changes::Changes;
 use mv_changes::recent::{Committed, Recent};
-use mv_collect::collect::collect;
 use mv_exec::task::Task;
 use mv_journal::event::Event;
 use mv_journal::outcome::{HistoryLine, Mark, Outcome, Round};
-use mv_store::store::Store;
 use mv_values::calls::Reply;
 use mv_values::list::List;
 use mv_values::memory::NoMemory;
@@ -215,20 +212,21 @@ impl Book {
         self.live.is_only(call)
     }
 
-    /// Commits a call with this reply and these changes. If no other call is live, the changes may be any, since no call
-    /// needs them. If a task is given, the call was repaired in the same step, in a round of its own. Returns the number
-    /// of the commit. Drops the changes that no live call needs. Over all commits, that takes time linear in the number
-    /// of calls.
+    /// Commits a call with this reply and these changes. The changes may be left out if no other call is live: then no call
+    /// needs them, nor those of the commits before. If a task is given, the call was repaired in the same step, in a round
+    /// of its own. Returns the number of the commit. Drops the changes that no live call needs. Over all commits, that
+    /// takes time linear in the number of calls.
     pub fn commit(
         &mut self,
         call: u32,
         reply: Reply,
-        changes: Changes,
+        changes: Option<Changes>,
         exclusive: Option<&Task>,
     ) -> u32
         requires allowed { refusal (work_in self.old) self.old.course (commit_event (own_number (option_copied exclusive)) call) ≡ None }
         requires reply { reply ≡ (last_run self.old call).reply }
-        requires changes { (IsAlone self.old call → ⊥) → changes ≡ last_changes self.old call }
+        requires changes { IfSome changes (λ told. told ≡ last_changes self.old call) }
+        requires alone { IfNone changes (IsAlone self.old call) }
         requires settled { IsSettled self.old call }
         requires number { IsOwnNumber (own_number (option_copied exclusive)) self.old call }
         requires room { HasRoom self.old call 1 }
@@ -242,7 +240,7 @@ impl Book {
         self.calls[call as usize].commit(start, reply, own);
         self.live.remove(call);
         self.order.put(call);
-        remember(&mut self.recent, &self.live, number, changes);
+        remember(&mut self.recent, number, changes);
         self.journal.put(commit_event(own, call));
         self.trim();
         number
@@ -278,19 +276,17 @@ impl Book {
         self.low.max(self.oldest_start().max(floor))
     }
 
-    /// Collects the versions of the history's tables before the new low, and the changes up to it. Returns the new low.
-    /// The store's low may not be above the history's. Takes time linear in the number of live calls and of the keys
-    /// that the commits up to low have written, and over all collections, in the number of commits.
-    pub fn collect(&mut self, store: &mut Store) -> u32
-        requires room { 0 < self.old.room }
-        requires store { store.old.low ≤ self.old.course.low }
+    /// Raises low as far as a collection may, and drops the changes of the commits up to it. Returns the new low. Takes
+    /// time linear in the number of live calls, and over all collections, in the number of commits.
+    pub fn collect(&mut self) -> u32
+        requires { 0 < self.old.room }
         ensures made { Made G self.old self.new }
         ensures low { result ≡ self.new.course.low }
-        ensures raised { HasRaised self.new.course.low store.old store.new }
+        ensures rises { self.old.course.low ≤ result }
         ensures room { UsesOne self.old self.new }
     {
         let low = self.next_low();
-        collect(store, &mut self.recent, low);
+        self.recent.trim(low);
         self.low = low;
         self.journal.put(Event::G);
         low
@@ -452,17 +448,16 @@ fn add(recent: &mut Recent, number: u32, changes: Changes)
     }
 }
 
-/// Adds the changes of a commit, for which there must be room. If no call is live after it, drops all changes instead.
-fn remember(recent: &mut Recent, live: &LiveCalls, number: u32, changes: Changes)
+/// Adds the changes of a commit, for which there must be room. If they are left out, drops all changes.
+fn remember(recent: &mut Recent, number: u32, changes: Option<Changes>)
     requires next { number ≡ recent.old.low + length recent.old.commits + 1 }
     requires room { 0 < recent.old.room }
-    ensures remembers { Remembers live.now number changes recent.old recent.new }
+    ensures remembers { Remembers number changes recent.old recent.new }
     ensures room { recent.old.room ≤ recent.new.room + 1 }
 {
-    if live.is_empty() {
-        recent.pass(number);
-    } else {
-        add(recent, number, changes);
+    match changes {
+        Some(changes) => add(recent, number, changes),
+        None => recent.pass(number),
     }
 }
 

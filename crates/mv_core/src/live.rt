@@ -51,13 +51,6 @@ impl LiveCalls {
         self.numbers.remove(&call);
     }
 
-    /// Whether no call is live.
-    pub(crate) fn is_empty(&self) -> bool
-        ensures { IsTrue result ↔ (self.now ≡ []) }
-    {
-        self.numbers.is_empty()
-    }
-
     /// Whether this call is live, and no other is.
     pub(crate) fn is_only(&self, call: u32) -> bool
         ensures { IsTrue result ↔ (self.now ≡ call ∷ []) }

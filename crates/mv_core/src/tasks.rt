@@ -1,6 +1,6 @@
 //! Running calls over a history and its tables: their statements, repairs and commits.
 
-ghost use Rattle.std.specs.Prelude.{◌≡◌, ◌<◌, ◌≤◌, ◌+◌, ℕ, List, [], None, Some, nat_lt, length, true, IfOk, OnOk, OnErr};
+ghost use Rattle.std.specs.Prelude.{◌≡◌, ◌<◌, ◌≤◌, ◌+◌, ℕ, List, [], None, Some, nat_lt, length, true, IfOk, IfSome, IfNone, OnOk, OnErr};
 ghost use Rattle.std.specs.Option.{option_copied};
 ghost use Rattle.mv_values.specs.declared.calls.Call.{Call};
 ghost use Rattle.mv_values.specs.Patching.{applied};
@@ -245,35 +245,37 @@ pub fn whole_task(
     Ok(task)
 }
 
-/// Returns the changes that a call with these records makes to the last tables, or none if no other call is live.
+/// Returns the changes that a call with these records makes to the last tables. Leaves them out if no other call is live.
 fn changes_made(
     alloc: Global,
     book: &Book,
     store: &Store,
     call: u32,
     records: &[Record],
-) -> Result<Changes, NoMemory>
+) -> Result<Option<Changes>, NoMemory>
     requires { IsStoreOf book.now store.now }
-    ensures changes { IfOk result (λ changes. (IsAlone book.now call → ⊥) → changes ≡ changes_between (last_tables book.now) (applied (writes_told records.now) (last_tables book.now))) }
+    ensures changes { IfOk result (λ changes. IfSome changes (λ told. told ≡ changes_between (last_tables book.now) (applied (writes_told records.now) (last_tables book.now)))) }
+    ensures alone { IfOk result (λ changes. IfNone changes (IsAlone book.now call)) }
     ensures like { IsLike store.now (last_tables book.now) }
 {
     let mut view = StoreView::new(store, store.last());
     if book.is_alone(call) {
-        return Ok(Changes::new(alloc));
+        return Ok(None);
     }
-    changes_told(alloc, book.script().opening.len(), records, &mut view)
+    let changes = changes_told(alloc, book.script().opening.len(), records, &mut view)?;
+    Ok(Some(changes))
 }
 
 /// What a commit tells and changes.
 #[derive(Drop)]
 struct Prepared {
     reply: Reply,
-    changes: Changes,
+    changes: Option<Changes>,
 }
 
 /// Prepares the commit of a call with these records, which are those of a full run on the last tables: puts its writes,
-/// and returns its reply and its changes, or no changes if no other call is live. If memory runs out, the call has no
-/// writes.
+/// and returns its reply and its changes. Leaves out the changes if no other call is live. If memory runs out, the call
+/// has no writes.
 fn prepare(
     alloc: Global,
     book: &Book,
@@ -285,7 +287,8 @@ fn prepare(
     requires number { call < length book.now.script.calls }
     requires whole { records.now ≡ records_at (work_in book.now) book.now.course.order (length book.now.course.order) call }
     ensures reply { IfOk result (λ prepared. prepared.reply ≡ (last_run book.now call).reply) }
-    ensures changes { IfOk result (λ prepared. (IsAlone book.now call → ⊥) → prepared.changes ≡ last_changes book.now call) }
+    ensures changes { IfOk result (λ prepared. IfSome prepared.changes (λ told. told ≡ last_changes book.now call)) }
+    ensures alone { IfOk result (λ prepared. IfNone prepared.changes (IsAlone book.now call)) }
     ensures ok { OnOk result (IsPrepared book.now call store.new) }
     ensures err { OnErr result (IsStoreOf book.now store.new) }
 {
@@ -385,6 +388,7 @@ pub fn collect_versions(book: &mut Book, store: &mut Store) -> Result<(), NoMemo
     ensures stored { IsStoreOf book.new store.new }
 {
     book.reserve_event()?;
-    book.collect(store);
+    let low = book.collect();
+    store.raise(low);
     Ok(())
 }

@@ -14,8 +14,11 @@ changes_told-requires-clause-rising c = rising_shown c.args.book.now (length c.a
 pub returns-clause-like : goal.returns-clause-like
 returns-clause-like c = like_last c.args.book.now c.args.store.now c.requires c.last.ensures.like
 
-pub returns-then-is_alone-clause-changes : goal.returns-then-is_alone-clause-changes
-returns-then-is_alone-clause-changes c others = absurd (others (c.is_alone.ensures.0 c.if-is_alone.true))
+pub returns-then-is_alone-clause-alone : goal.returns-then-is_alone-clause-alone
+returns-then-is_alone-clause-alone c = c.is_alone.ensures.0 c.if-is_alone.true
+
+pub returns-in_err-changes-clause-like : goal.returns-in_err-changes-clause-like
+returns-in_err-changes-clause-like c = like_last c.args.book.now c.args.store.now c.requires c.last.ensures.like
 
 pub returns-then-is_alone-clause-like : goal.returns-then-is_alone-clause-like
 returns-then-is_alone-clause-like c = like_last c.args.book.now c.args.store.now c.requires c.last.ensures.like

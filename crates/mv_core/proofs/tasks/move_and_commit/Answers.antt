@@ -5,6 +5,7 @@ use Rattle.mv_lawful.specs.Work.{records_at}
 use Rattle.mv_lawful.specs.Lawful.{Course, after}
 use Rattle.mv_core.specs.Books.{work_in}
 use Rattle.mv_core.proofs.Stored.{stored_same, stored_committed, stamped_on, last_run_on, last_changes_on, last_records_on}
+use Rattle.mv_core.proofs.Given.{some_then, none_then}
 use Rattle.mv_core.proofs.Moving.{due_moved, moved_free, still_alone}
 use Rattle.mv_core.proofs.Changed.{live_now, made_after, room_less}
 use Rattle.mv_core.proofs.tasks.move_and_commit.Goals as goal
@@ -39,10 +40,14 @@ commit-commit-requires-clause-reply c =
     ∙ sym (ap (λ (r : Run). r.reply) (last_run_on c.reserve.new.self c.restart.new.self c.args.call c.restart.ensures.made.script (ap (λ (s : Course). s.order) c.restart.ensures.made.course)))
 
 pub commit-commit-requires-clause-changes : goal.commit-commit-requires-clause-changes
-commit-commit-requires-clause-changes c others =
+commit-commit-requires-clause-changes c =
+    some_then c.in_ok-prepared.prepared.changes c.in_ok-prepared.ensures.changes
+    (λ told is. is ∙ sym (last_changes_on c.reserve.new.self c.restart.new.self c.args.call c.restart.ensures.made.script (ap (λ (s : Course). s.order) c.restart.ensures.made.course)))
+
+pub commit-commit-requires-clause-alone : goal.commit-commit-requires-clause-alone
+commit-commit-requires-clause-alone c =
     let live = live_now c.args.book.now c.args.book.now c.reserve.new.self c.args.call refl c.requires.live c.reserve.ensures.same in
-    c.in_ok-prepared.ensures.changes (λ alone. others (still_alone c.args.call c.reserve.new.self c.restart.new.self live.0 live.1 c.restart.ensures.made alone))
-    ∙ sym (last_changes_on c.reserve.new.self c.restart.new.self c.args.call c.restart.ensures.made.script (ap (λ (s : Course). s.order) c.restart.ensures.made.course))
+    none_then c.in_ok-prepared.prepared.changes c.in_ok-prepared.ensures.alone (still_alone c.args.call c.reserve.new.self c.restart.new.self live.0 live.1 c.restart.ensures.made)
 
 pub commit-commit-requires-clause-room : goal.commit-commit-requires-clause-room
 commit-commit-requires-clause-room c = c.restart.ensures.room c.args.call 1 c.in_ok-reserve.ensures.room

@@ -1,5 +1,6 @@
 use Rattle.std.proofs.Common.{◌∙◌}
 use Rattle.mv_values.proofs.Deciding.{always_err}
+use Rattle.mv_core.proofs.Given.{some_then}
 use Rattle.mv_core.proofs.Stored.{stored_dropped, stored_stamped, last_reply, last_made}
 use Rattle.mv_core.proofs.tasks.prepare.Goals as goal
 
@@ -11,7 +12,7 @@ pub returns-clause-reply : goal.returns-clause-reply
 returns-clause-reply c = c.in_ok-reply.ensures ∙ last_reply c.args.book.now c.args.store.now c.args.call c.args.records.now c.requires.stored c.requires.number c.requires.whole
 
 pub returns-clause-changes : goal.returns-clause-changes
-returns-clause-changes c others = last_made c.args.book.now c.args.store.now c.args.call c.args.records.now c.in_ok-changes.changes c.requires.stored c.requires.number c.requires.whole (c.in_ok-changes.ensures.changes others)
+returns-clause-changes c = some_then c.in_ok-changes.changes c.in_ok-changes.ensures.changes (λ told is. last_made c.args.book.now c.args.store.now c.args.call c.args.records.now told c.requires.stored c.requires.number c.requires.whole is)
 
 pub returns-clause-ok : goal.returns-clause-ok
 returns-clause-ok c = record {

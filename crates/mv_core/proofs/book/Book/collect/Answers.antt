@@ -12,27 +12,23 @@ use Rattle.mv_core.proofs.book.Book.collect.Goals as goal
 low : (c : goal.After-put) → c.next_low-low.result ≡ next_low (work_of c.self.inside.script) (the_course c.self.inside.order.items c.self.inside.low (map live_of c.self.inside.calls.items))
 low c = c.next_low-low.ensures ∙ ap (λ (b : Booked). next_low (work_in b) b.course) (sym c.self.view_is)
 
-bounds : (c : goal.After-collect-arg-2-1) → (c.self.inside.low ≤ c.next_low-low.result) × (c.next_low-low.result ≤ length c.self.inside.order.items)
-bounds c =
-    next_within c.self.inside.script c.self.inside.order.items c.self.inside.low c.next_low-low.result c.self.inside.calls.items c.self.invariant.recent.within
-    (c.next_low-low.ensures ∙ ap (λ (b : Booked). next_low (work_in b) b.course) (sym c.self.view_is))
-
-pub collect-requires-clause-low : goal.collect-requires-clause-low
-collect-requires-clause-low c =
-    let below = subst (λ (b : Booked). c.args.store.now.low ≤ b.course.low) (sym c.self.view_is) c.requires.store in
-    let rises = (bounds c).0 in
-    omega (arith, below, rises)
-
-pub collect-requires-clause-rises : goal.collect-requires-clause-rises
-collect-requires-clause-rises c =
+pub trim-requires-clause-rises : goal.trim-requires-clause-rises
+trim-requires-clause-rises c =
     recent_below (work_of c.self.inside.script) (the_course c.self.inside.order.items c.self.inside.low (map live_of c.self.inside.calls.items)) c.next_low-low.result c.self.inside.recent c.self.invariant.recent
     (next_past c.self.inside.script c.self.inside.order.items c.self.inside.low c.next_low-low.result c.self.inside.calls.items (c.next_low-low.ensures ∙ ap (λ (b : Booked). next_low (work_in b) b.course) (sym c.self.view_is)))
 
-pub collect-requires-clause-within : goal.collect-requires-clause-within
-collect-requires-clause-within c =
+pub trim-requires-clause-within : goal.trim-requires-clause-within
+trim-requires-clause-within c =
     let long = recent_long (work_of c.self.inside.script) (the_course c.self.inside.order.items c.self.inside.low (map live_of c.self.inside.calls.items)) c.self.inside.recent c.self.invariant.recent in
-    let within = (bounds c).1 in
+    let within =
+    (next_within c.self.inside.script c.self.inside.order.items c.self.inside.low c.next_low-low.result c.self.inside.calls.items c.self.invariant.recent.within
+    (c.next_low-low.ensures ∙ ap (λ (b : Booked). next_low (work_in b) b.course) (sym c.self.view_is))).1 in
     omega (arith, long, within)
+
+pub returns-clause-rises : goal.returns-clause-rises
+returns-clause-rises c =
+    subst (λ (b : Booked). b.course.low ≤ c.next_low-low.result) c.self.view_is
+    (next_within c.self.inside.script c.self.inside.order.items c.self.inside.low c.next_low-low.result c.self.inside.calls.items c.self.invariant.recent.within (low c)).0
 
 pub invariant_of-self : goal.invariant_of-self
 invariant_of-self c = record {
@@ -40,8 +36,8 @@ invariant_of-self c = record {
   live = c.self.invariant.live;
   recent =
       let within = next_within c.self.inside.script c.self.inside.order.items c.self.inside.low c.next_low-low.result c.self.inside.calls.items c.self.invariant.recent.within (low c) in
-      recent_trimmed (work_of c.self.inside.script) c.self.inside.order.items c.self.inside.low c.next_low-low.result c.next_low-low.result (map live_of c.self.inside.calls.items) c.self.inside.recent c.collect.new.recent c.self.invariant.recent
-      within.1 (omega arith) (omega arith) (next_past c.self.inside.script c.self.inside.order.items c.self.inside.low c.next_low-low.result c.self.inside.calls.items (low c)) c.collect.ensures.low c.collect.ensures.changes;
+      recent_trimmed (work_of c.self.inside.script) c.self.inside.order.items c.self.inside.low c.next_low-low.result c.next_low-low.result (map live_of c.self.inside.calls.items) c.self.inside.recent c.trim.new.self c.self.invariant.recent
+      within.1 (omega arith) (omega arith) (next_past c.self.inside.script c.self.inside.order.items c.self.inside.low c.next_low-low.result c.self.inside.calls.items (low c)) c.trim.ensures.low c.trim.ensures.commits;
 }
 
 pub returns-clause-made : goal.returns-clause-made
@@ -50,4 +46,4 @@ returns-clause-made c =
     (λ d live has. subst (λ (b : Booked). IsSettled b d) (sym c.self.view_is) has) c.put.ensures.items refl
 
 pub returns-clause-room : goal.returns-clause-room
-returns-clause-room c x n has = room_same _ c.args.self.now _ x n (n + 1) c.self.view_is (omega arith) (let r = c.put.ensures.room in let t = c.collect.ensures.room in omega (arith, r, t)) has
+returns-clause-room c x n has = room_same _ c.args.self.now _ x n (n + 1) c.self.view_is (omega arith) (let r = c.put.ensures.room in let t = c.trim.ensures.room in omega (arith, r, t)) has

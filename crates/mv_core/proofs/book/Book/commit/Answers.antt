@@ -9,6 +9,7 @@ use Rattle.mv_core.specs.Calls.{IsLive, live_of, turns_in, last_number, committe
 use Rattle.mv_core.specs.Books.{Booked, last_run, last_changes, commit_event, own_number, IsAlone, IsOwnNumber}
 use Rattle.mv_core.specs.Scripts.{work_of}
 use Rattle.mv_core.proofs.Keeping.{live_leaves, the_course, here_at, IsProgressAt, few_inside, within, commit_live, number_fits, room_here, settled_here, rounds_committed, kept_commit, commit_after, made_committed, own_known, still_settled, free_on, room_left}
+use Rattle.mv_core.proofs.Given.{some_then, none_then}
 use Rattle.mv_core.proofs.Lives.{without_only}
 use Rattle.mv_core.proofs.Recents.{recent_long, recent_remembered}
 use Rattle.mv_core.proofs.book.Book.commit.Goals as goal
@@ -58,10 +59,10 @@ known c =
 gone : (c : goal.After-put-2) → c.remove.new.self ≡ live_numbers (map live_of (slice_set c.self.inside.calls.items c.args.call c.commit.new.self))
 gone c = c.remove.ensures ∙ (ap (without c.args.call) c.self.invariant.live ∙ sym (live_leaves c.self.inside.calls.items c.args.call c.index_mut.result.now c.commit.new.self c.args.reply (here c).2.at (here c).2.going c.commit.ensures.reply))
 
--- where some call is live afterwards, the call that commits wasn't alone
-others : (c : goal.After-put-2) → (c.remove.new.self ≡ [] → ⊥) → IsAlone c.args.self.now c.args.call → ⊥
-others c some alone =
-    some (c.remove.ensures ∙ (ap (without c.args.call) (c.self.invariant.live ∙ (ap (λ (b : Booked). live_numbers b.course.calls) c.self.view_is ∙ alone)) ∙ without_only c.args.call))
+-- if the call that commits was alone, no call is live afterwards
+nobody : (c : goal.After-put-2) → IsAlone c.args.self.now c.args.call → live_numbers (map live_of (slice_set c.self.inside.calls.items c.args.call c.commit.new.self)) ≡ []
+nobody c alone =
+    sym (gone c) ∙ (c.remove.ensures ∙ (ap (without c.args.call) (c.self.invariant.live ∙ (ap (λ (b : Booked). live_numbers b.course.calls) c.self.view_is ∙ alone)) ∙ without_only c.args.call))
 
 pub invariant_of-self : goal.invariant_of-self
 invariant_of-self c = record {
@@ -74,9 +75,9 @@ invariant_of-self c = record {
       (c.requires.reply ∙ ap (λ (b : Booked). (last_run b c.args.call).reply) (sym c.self.view_is));
   live = gone c;
   recent =
-      recent_remembered (work_of c.self.inside.script) c.self.inside.order.items _ c.self.inside.low c.args.call _ c.self.inside.calls.items c.index_mut.result.now c.commit.new.self c.args.reply _ c.self.inside.recent c.remember.new.recent c.args.changes c.self.invariant.recent
-      c.put.ensures.items (here c).2.at (here c).2.going c.commit.ensures.reply (gone c) (ap (λ n. n + 1) c.len-start.ensures) c.remember.ensures.remembers
-      (λ some. c.requires.changes (others c some) ∙ ap (λ (b : Booked). last_changes b c.args.call) (sym c.self.view_is));
+      recent_remembered (work_of c.self.inside.script) c.self.inside.order.items _ c.self.inside.low c.args.call _ c.self.inside.calls.items c.index_mut.result.now c.commit.new.self c.args.reply c.self.inside.recent c.remember.new.recent c.args.changes c.self.invariant.recent
+      c.put.ensures.items (here c).2.at (here c).2.going c.commit.ensures.reply (ap (λ n. n + 1) c.len-start.ensures) c.remember.ensures.remembers
+      (none_then c.args.changes c.requires.alone (nobody c)) (some_then c.args.changes c.requires.changes (λ told is. is ∙ ap (λ (b : Booked). last_changes b c.args.call) (sym c.self.view_is)));
 }
 
 pub returns-clause-made : goal.returns-clause-made
