@@ -35,7 +35,7 @@ use Rattle.mv_view.specs.declared.view.Refused.TheVariants as refused
 use Rattle.mv_core.specs.declared.book.Check.TheVariants as check
 use Rattle.mv_core.specs.Drives.{HasMade, HasTaken, TellsRound, of_view}
 use Rattle.mv_core.specs.declared.drive.Refusal.TheVariants as drive
-use Rattle.mv_core.specs.Cores.{IsAllowedIfFresh, IsHitAt, IsStaleAt, IsLiveTask, IsRunningIn, HasTurns, HasStep, MayStep, HasTried, HasCommitted, HasRefused, HasRepaired, IsStoreOf, IsCore}
+use Rattle.mv_core.specs.Cores.{Cored, IsAllowedIfFresh, IsHitAt, IsStaleAt, IsLiveTask, IsRunningIn, HasTurns, HasStep, MayStep, HasTried, HasCommitted, HasRefused, HasRepaired, IsStoreOf, IsCore}
 use Rattle.mv_core.proofs.Numbers.{repair_stays}
 use Rattle.mv_core.proofs.Journals.{changed_at, set_there}
 use Rattle.mv_core.proofs.Keeping.{restart_after}
@@ -43,6 +43,14 @@ use Rattle.mv_core.proofs.Stored.{stored_same}
 use Rattle.mv_core.proofs.Taking.{tasks_same, number_again, one_live}
 use Rattle.mv_core.proofs.Refusing.{Repairs, repairs_again, repairs_last, step_is, same_made, refused_stale, fresh_allowed, live_is, told_idle, told_stale, told_hit}
 use Rattle.mv_store.specs.Stored.{Versioned}
+
+-- What contracts see of a core
+
+abbrev pub book_in : Cored → Booked
+book_in k = k.book
+
+abbrev pub tasks_in : Cored → List (Option Running)
+tasks_in k = k.tasks
 
 -- No event
 

@@ -15,5 +15,6 @@ pub mod Taking
 pub mod Refusing
 pub mod Beginning
 pub mod Changed
+pub mod Recorded
 pub mod Turning
 pub mod Crossing

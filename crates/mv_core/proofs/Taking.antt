@@ -274,7 +274,7 @@ task_grows s order d c l running t = record {
 pub tasks_same : (s t : Script) (course new : Course) (ts : List (Option Running)) → HasTasks s course ts → t ≡ s → new ≡ course → HasTasks t new ts
 tasks_same s t course new ts k a b = subst (λ (x : Script). HasTasks x new ts) (sym a) (subst (λ (x : Course). HasTasks s x ts) (sym b) k)
 
-get_end : {A : Type 0} (xs : List A) (y : A) (n : ℕ) → n ≡ length xs → slice_get (xs ++ y ∷ []) n ≡ Some y
+pub get_end : {A : Type 0} (xs : List A) (y : A) (n : ℕ) → n ≡ length xs → slice_get (xs ++ y ∷ []) n ≡ Some y
 get_end [] y zero is = refl
 get_end [] y (suc n) is = absurd (omega (arith, is))
 get_end (x ∷ xs) y zero is = absurd (omega (arith, is))

@@ -1,8 +1,10 @@
 -- Defines what a core keeps beside its history: the tables after each commit, and running calls. This project's own.
 use Rattle.std.specs.Prelude.{◌≡◌, ◌<◌, ◌≤◌, ◌+◌, ℕ, Bool, true, false, not, List, [], ◌∷◌, ◌++◌, Option, Some, None, Result, Ok, Err, length, slice_get}
+use mathlib.Core.List.{IsPrefix}
 use Rattle.mv_values.specs.declared.memory.NoMemory.{NoMemory}
 use Rattle.mv_values.specs.declared.calls.Call.{Call}
 use Rattle.mv_values.specs.Tables.{Tables}
+use Rattle.mv_record.specs.declared.record.Record.{Record}
 use Rattle.mv_record.specs.Databases.{IsDatabaseOf}
 use Rattle.mv_journal.specs.declared.event.Event.{Event}
 use Rattle.mv_journal.specs.declared.event.Event.TheVariants.{B, S, A, M, C, X, G}
@@ -28,7 +30,7 @@ use Rattle.mv_core.specs.declared.script.Script.{Script}
 use Rattle.mv_core.specs.Scripts.{IsCallOf, IsScript, work_of}
 use Rattle.mv_core.specs.declared.tasks.Running.{Running}
 use Rattle.mv_core.specs.Calls.{IsLive, IsLiveCall, WithinRounds, last_number, due_number}
-use Rattle.mv_core.specs.Books.{Booked, work_in, Made, IsSame}
+use Rattle.mv_core.specs.Books.{Booked, work_in, Made, IsSame, AreRecordsOf}
 
 -- Tables
 
@@ -142,6 +144,34 @@ pub record HasTasks (s : Script) (course : Course) (tasks : List (Option Running
 
 -- A core
 
+-- what contracts see of a core: its history, and the tasks of the calls that have begun, by number. A call that has
+-- committed has none
+pub record Cored : Type 0 where
+  pub book : Booked
+  pub tasks : List (Option Running)
+
+-- the records of a task
+abbrev pub records_by : Option (Option Running) → List Record
+records_by None = []
+records_by (Some None) = []
+records_by (Some (Some running)) = running.task.records
+
+-- the records of a call, as far as its task has run
+abbrev pub records_in : Cored → ℕ → List Record
+records_in k c = records_by (slice_get k.tasks c)
+
+-- the records are the first ones of a full run of a live call at its start
+abbrev pub AreFirstOf : Booked → ℕ → List Record → Type 0
+AreFirstOf b c rs = (l : Live) → IsLive b.course c l → IsPrefix rs (records_at (work_in b) b.course.order l.start c)
+
+-- a live call's task has run whole at its start
+abbrev pub HasAllRecords : Cored → ℕ → Type 0
+HasAllRecords k c = AreRecordsOf k.book c (records_in k c)
+
+-- each other call has the same task as before
+abbrev pub KeepsOtherTasks : ℕ → Cored → Cored → Type 0
+KeepsOtherTasks c old new = (d : ℕ) → (d ≡ c → ⊥) → slice_get new.tasks d ≡ slice_get old.tasks d
+
 -- its store has the tables of its history, and each live call has its task
 pub record IsCore (b : Booked) (store : Versioned) (ts : List (Option Running)) : Type 0 where
   pub stored : IsStoreOf b store
@@ -167,6 +197,28 @@ abbrev pub HasBegunCall : Result (Option ℕ) NoMemory → Booked → Booked →
 HasBegunCall (Ok (Some c)) old new = Made (B c) old new
 HasBegunCall (Ok None) old new = (length old.course.calls ≡ length old.script.calls) × IsSame old new
 HasBegunCall (Err e) old new = IsSame old new
+
+-- the next call has a task without records; or there is no other task
+abbrev pub BeginsTask : Result (Option ℕ) NoMemory → Cored → Cored → Type 0
+BeginsTask (Ok (Some c)) old new = (records_in new c ≡ []) × KeepsOtherTasks c old new
+BeginsTask (Ok None) old new = new.tasks ≡ old.tasks
+BeginsTask (Err e) old new = new.tasks ≡ old.tasks
+
+-- exactly one statement of a live call was executed, and added one record. But if the task has a record that the journal
+-- doesn't name yet, nothing was executed
+pub record RunsOne (c : ℕ) (old new : Cored) : Type 0 where
+  pub before : Running
+  pub after : Running
+  pub had : slice_get old.tasks c ≡ Some (Some before)
+  pub has : slice_get new.tasks c ≡ Some (Some after)
+  pub one : (l : Live) → IsLive old.book.course c l → length before.task.records ≤ l.steps → HasRunOne before.task after.task
+  pub named : (l : Live) → IsLive old.book.course c l → l.steps < length before.task.records → after ≡ before
+
+-- a call that is hit has run whole
+abbrev pub RunsWhole : ℕ → Attempt → Cored → Type 0
+RunsWhole c (attempt.Committed n) k = Unit {0}
+RunsWhole c (attempt.Hit number commit) k = HasAllRecords k c
+RunsWhole c (attempt.Stale start low) k = Unit {0}
 
 -- the call's start is below low
 pub record IsStaleAt (b : Booked) (c start low : ℕ) : Type 0 where

@@ -8,7 +8,7 @@ ghost use Rattle.mv_exec.specs.Running.{stepped};
 ghost use Rattle.mv_core.specs.Calls.{IsLive, IsLiveCall, due_number};
 ghost use Rattle.mv_core.specs.Scripts.{IsScript};
 ghost use Rattle.mv_core.specs.Books.{work_in, HasRounds, IsSame, IsNotStale, IsAnswer};
-ghost use Rattle.mv_core.specs.Cores.{HasStep, HasEnded, MayStep, IsAllowedIfFresh, HasRefused, HasBegunCall, HasStepped, HasTried, HasRepaired, HasDecided, HasMovedUp, HasCollected};
+ghost use Rattle.mv_core.specs.Cores.{HasStep, HasEnded, MayStep, IsAllowedIfFresh, HasRefused, HasBegunCall, HasStepped, HasTried, HasRepaired, HasDecided, HasMovedUp, HasCollected, AreFirstOf, HasAllRecords, KeepsOtherTasks, BeginsTask, RunsOne, RunsWhole, records_in};
 
 use crate::book::{Book, Check};
 use crate::script::Script;
@@ -19,6 +19,7 @@ use crate::tasks::{
 use mv_exec::step::Stepped;
 use mv_journal::event::Event;
 use mv_journal::outcome::{Mark, Outcome, Round};
+use mv_record::record::Record;
 use mv_store::store::Store;
 use mv_values::memory::NoMemory;
 use mv_view::view::Refused;
@@ -36,7 +37,8 @@ pub enum Attempt {
     Stale { start: u32, low: u32 },
 }
 
-/// A history, its tables after each commit from low on, and its running calls.
+/// A history, its tables after each commit from low on, and its running calls. Contracts see the history and the running
+/// calls.
 #[derive(Drop)]
 pub struct Core {
     book: Book,
@@ -48,14 +50,13 @@ pub struct Core {
 impl Model for Core {
     ghost use Rattle.std.specs.Coded.{codes};
     ghost use Rattle.mv_catalog.specs.contracts.resolved.RStmt as statement;
-    ghost use Rattle.mv_core.specs.Books.{Booked};
-    ghost use Rattle.mv_core.specs.Cores.{IsCore};
+    ghost use Rattle.mv_core.specs.Cores.{Cored, IsCore};
 
-    ghost Value = { Booked };
+    ghost Value = { Cored };
 
     ghost coded = { Prim.hlevel (codes, statement.the_row.coded) };
 
-    ghost view = { λ c. c.book };
+    ghost view = { λ c. record { book = c.book; tasks = c.tasks.items } };
 
     ghost invariant = { λ c. IsCore c.book c.store c.tasks.items };
 }
@@ -64,9 +65,10 @@ impl Core {
     /// Returns a core without events. It copies the opening database. Fails with `NoMemory` if memory runs out.
     pub fn new(alloc: Global, script: Script) -> Result<Core, NoMemory>
         requires { IsScript script }
-        ensures script { IfOk result (λ core. core.script ≡ script) }
-        ensures course { IfOk result (λ core. core.course ≡ beginning) }
-        ensures journal { IfOk result (λ core. core.journal ≡ []) }
+        ensures script { IfOk result (λ core. core.book.script ≡ script) }
+        ensures course { IfOk result (λ core. core.book.course ≡ beginning) }
+        ensures journal { IfOk result (λ core. core.book.journal ≡ []) }
+        ensures tasks { IfOk result (λ core. core.tasks ≡ []) }
     {
         let store = Store::new(alloc, &script.opening)?;
         Ok(Core {
@@ -79,7 +81,8 @@ impl Core {
     /// Begins the next call, after all commits. Returns `None` exactly if each call has begun. Fails with `NoMemory` if
     /// memory runs out.
     pub fn begin(&mut self, alloc: Global) -> Result<Option<u32>, NoMemory>
-        ensures { HasBegunCall result self.old self.new }
+        ensures made { HasBegunCall result self.old.book self.new.book }
+        ensures task { BeginsTask result self.old self.new }
     {
         let Some(call) = self.book.next_call() else {
             return Ok(None);
@@ -98,9 +101,9 @@ impl Core {
 
     /// Fails with `Stale` if the start of a live call is below low.
     fn refuse_stale(&self, call: u32) -> Result<(), Refused>
-        requires { IsLiveCall self.now.course call }
-        ensures fresh { OnOk result (IsNotStale self.now call) }
-        ensures refused { IfErr result (λ why. HasRefused call why self.now self.now) }
+        requires { IsLiveCall self.now.book.course call }
+        ensures fresh { OnOk result (IsNotStale self.now.book call) }
+        ensures refused { IfErr result (λ why. HasRefused call why self.now.book self.now.book) }
     {
         let start = self.book.start(call);
         let low = self.store.low();
@@ -110,13 +113,16 @@ impl Core {
         Ok(())
     }
 
-    /// Executes the next statement of a live call. It reads the tables at the call's start. The call's first run must
-    /// have a statement left. Returns `Ended` exactly if it then has none. Fails with `Stale` exactly if the start is
-    /// below low, and with `NoMemory` if memory runs out. On an error all is as before.
+    /// Executes the next statement of a live call, and no other. It reads the tables at the call's start. The call's first
+    /// run must have a statement left. Returns `Ended` exactly if it then has none. If an attempt to commit has executed
+    /// the statement before, nothing is executed. Fails with `Stale` exactly if the start is below low, and with
+    /// `NoMemory` if memory runs out. On an error all is as before.
     pub fn step(&mut self, alloc: Global, call: u32) -> Result<Stepped, Refused>
-        requires live { IsLiveCall self.old.course call }
-        requires left { HasStep self.old call }
-        ensures { HasStepped call result self.old self.new }
+        requires live { IsLiveCall self.old.book.course call }
+        requires left { HasStep self.old.book call }
+        ensures made { HasStepped call result self.old.book self.new.book }
+        ensures one { OnOk result (RunsOne call self.old self.new) }
+        ensures others { KeepsOtherTasks call self.old self.new }
     {
         self.refuse_stale(call)?;
         self.book.reserve(call)?;
@@ -132,8 +138,10 @@ impl Core {
     /// after the start hits a record of the call, and `Stale` exactly if the start is below low. Then nothing is
     /// committed, as after `NoMemory`, which comes if memory runs out.
     pub fn attempt(&mut self, alloc: Global, call: u32) -> Result<Attempt, NoMemory>
-        requires { IsLiveCall self.old.course call }
-        ensures { HasTried call result self.old self.new }
+        requires { IsLiveCall self.old.book.course call }
+        ensures made { HasTried call result self.old.book self.new.book }
+        ensures whole { IfOk result (λ attempt. RunsWhole call attempt self.new) }
+        ensures others { KeepsOtherTasks call self.old self.new }
     {
         let Some(running) = &mut self.tasks[call as usize] else {
             unreachable!();
@@ -153,9 +161,9 @@ impl Core {
 
     /// Validates a live call. First it runs the rest of the call at its start, unless that is below low.
     pub(crate) fn validate(&mut self, alloc: Global, call: u32) -> Result<Check, NoMemory>
-        requires { IsLiveCall self.old.course call }
-        ensures answer { IfOk result (λ check. (l : Live) → IsLive self.old.course call l → IsAnswer check (work_in self.old) self.old.course call l) }
-        ensures same { IsSame self.old self.new }
+        requires { IsLiveCall self.old.book.course call }
+        ensures answer { IfOk result (λ check. (l : Live) → IsLive self.old.book.course call l → IsAnswer check (work_in self.old.book) self.old.book.course call l) }
+        ensures same { IsSame self.old.book self.new.book }
     {
         let Some(running) = &mut self.tasks[call as usize] else {
             unreachable!();
@@ -168,9 +176,11 @@ impl Core {
     /// executed records. Fails with `Stale` exactly if the start is below low, and with `NoMemory` if memory runs out. On
     /// an error all is as before, but the call may have lost its records. It then runs again from its first statement.
     pub fn again(&mut self, alloc: Global, call: u32) -> Result<usize, Refused>
-        requires live { IsLiveCall self.old.course call }
-        requires allowed { IsAllowedIfFresh self.old (A call) }
-        ensures { HasRepaired call result self.old self.new }
+        requires live { IsLiveCall self.old.book.course call }
+        requires allowed { IsAllowedIfFresh self.old.book (A call) }
+        ensures made { HasRepaired call result self.old.book self.new.book }
+        ensures whole { OnOk result (HasAllRecords self.new call) }
+        ensures others { KeepsOtherTasks call self.old self.new }
     {
         self.refuse_stale(call)?;
         let Some(running) = &mut self.tasks[call as usize] else {
@@ -184,9 +194,10 @@ impl Core {
     /// all its rounds. First it runs the rest of the call at its start. Returns the number of the commit. Fails as
     /// `again` does.
     pub fn exclusive(&mut self, alloc: Global, call: u32) -> Result<u32, Refused>
-        requires live { IsLiveCall self.old.course call }
-        requires allowed { IsAllowedIfFresh self.old (X call) }
-        ensures { HasDecided call result self.old self.new }
+        requires live { IsLiveCall self.old.book.course call }
+        requires allowed { IsAllowedIfFresh self.old.book (X call) }
+        ensures made { HasDecided call result self.old.book self.new.book }
+        ensures others { KeepsOtherTasks call self.old self.new }
     {
         self.refuse_stale(call)?;
         let Some(running) = &mut self.tasks[call as usize] else {
@@ -200,8 +211,10 @@ impl Core {
     /// Moves a live call: it starts anew after all commits, and is run whole. Returns the number of its records. Fails
     /// with `NoMemory` if memory runs out, and then the call hasn't moved.
     pub fn move_up(&mut self, alloc: Global, call: u32) -> Result<usize, NoMemory>
-        requires { IsLiveCall self.old.course call }
-        ensures { HasMovedUp call result self.old self.new }
+        requires { IsLiveCall self.old.book.course call }
+        ensures made { HasMovedUp call result self.old.book self.new.book }
+        ensures whole { OnOk result (HasAllRecords self.new call) }
+        ensures others { KeepsOtherTasks call self.old self.new }
     {
         self.book.reserve(call)?;
         let task = whole_task(alloc, &self.book, &self.store, call, self.book.commits())?;
@@ -215,16 +228,17 @@ impl Core {
     /// with older starts stale. Fails with `NoMemory` if memory runs out, and then nothing is collected. Takes time
     /// linear in the number of live calls and of the keys that the commits up to low have written.
     pub fn collect(&mut self) -> Result<(), NoMemory>
-        ensures { HasCollected result self.old self.new }
+        ensures made { HasCollected result self.old.book self.new.book }
+        ensures tasks { self.new.tasks ≡ self.old.tasks }
     {
         collect_versions(&mut self.book, &mut self.store)
     }
 
     /// Returns the events. The law of journals allows each of them after those before it.
     pub fn journal(&self) -> &[Event]
-        ensures events { result.now ≡ self.now.journal }
-        ensures allowed { AllAllowed (work_in self.now) beginning self.now.journal }
-        ensures reaches { self.now.course ≡ course_of (work_in self.now) self.now.journal }
+        ensures events { result.now ≡ self.now.book.journal }
+        ensures allowed { AllAllowed (work_in self.now.book) beginning self.now.book.journal }
+        ensures reaches { self.now.book.course ≡ course_of (work_in self.now.book) self.now.book.journal }
     {
         self.book.journal()
     }
@@ -232,25 +246,38 @@ impl Core {
     /// Returns the rounds of a live call. Returns `None` for a call that hasn't begun or has committed. The last round
     /// has the call's start. Only a first round may not have its number yet.
     pub fn rounds(&self, call: u32) -> Option<&[Round]>
-        ensures live { IfSome result (λ rounds. HasRounds self.now call rounds.now) }
-        ensures none { IfNone result (IsLiveCall self.now.course call → ⊥) }
+        ensures live { IfSome result (λ rounds. HasRounds self.now.book call rounds.now) }
+        ensures none { IfNone result (IsLiveCall self.now.book.course call → ⊥) }
     {
         self.book.rounds(call)
     }
 
     /// Whether the statements of a live call have run: it isn't in its first round, or no statement of that is left.
     pub fn ended(&self, call: u32) -> bool
-        requires { IsLiveCall self.now.course call }
-        ensures { (l : Live) → IsLive self.now.course call l → result ≡ not (has_step (work_in self.now) self.now.course call l) }
+        requires { IsLiveCall self.now.book.course call }
+        ensures { (l : Live) → IsLive self.now.book.course call l → result ≡ not (has_step (work_in self.now.book) self.now.book.course call l) }
     {
         !self.may_step(call)
     }
 
+    /// Returns the records of a live call, as far as it has run. They are the first ones of its full run on the tables at
+    /// its start.
+    pub fn records(&self, call: u32) -> &[Record]
+        requires { IsLiveCall self.now.book.course call }
+        ensures told { result.now ≡ records_in self.now call }
+        ensures first { AreFirstOf self.now.book call result.now }
+    {
+        let Some(running) = &self.tasks[call as usize] else {
+            unreachable!();
+        };
+        running.task.records()
+    }
+
     /// Returns the number of records that the last round of a live call executed. The call's statements must have run.
     pub fn executed(&self, call: u32) -> usize
-        requires live { IsLiveCall self.now.course call }
-        requires ended { HasEnded self.now call }
-        ensures { due_number (work_in self.now) self.now.course call ≡ Some result }
+        requires live { IsLiveCall self.now.book.course call }
+        requires ended { HasEnded self.now.book call }
+        ensures { due_number (work_in self.now.book) self.now.book.course call ≡ Some result }
     {
         let Some(running) = &self.tasks[call as usize] else {
             unreachable!();
@@ -263,23 +290,23 @@ impl Core {
 
     /// Returns the number of calls that have begun.
     pub fn begun(&self) -> u32
-        ensures begun { result ≡ length self.now.course.calls }
-        ensures within { result ≤ length self.now.script.calls }
+        ensures begun { result ≡ length self.now.book.course.calls }
+        ensures within { result ≤ length self.now.book.script.calls }
     {
         self.tasks.len() as u32
     }
 
     /// Returns the call that begins next, or none if each has begun.
     pub fn next_call(&self) -> Option<u32>
-        ensures next { IfSome result (λ call. (call ≡ length self.now.course.calls) × (call < length self.now.script.calls)) }
-        ensures none { IfNone result (length self.now.course.calls ≡ length self.now.script.calls) }
+        ensures next { IfSome result (λ call. (call ≡ length self.now.book.course.calls) × (call < length self.now.book.script.calls)) }
+        ensures none { IfNone result (length self.now.book.course.calls ≡ length self.now.book.script.calls) }
     {
         self.book.next_call()
     }
 
     /// Whether this call begins next.
     pub(crate) fn is_next(&self, call: u32) -> bool
-        ensures { result ≡ ((call == length self.now.course.calls) && nat_lt call (length self.now.script.calls)) }
+        ensures { result ≡ ((call == length self.now.book.course.calls) && nat_lt call (length self.now.book.script.calls)) }
     {
         match self.next_call() {
             Some(next) => next == call,
@@ -289,7 +316,7 @@ impl Core {
 
     /// Whether the call is live and in its first round, which has a statement left.
     pub(crate) fn may_step(&self, call: u32) -> bool
-        ensures { MayStep result self.now call }
+        ensures { MayStep result self.now.book call }
     {
         let Some(rounds) = self.book.rounds(call) else {
             return false;
@@ -303,8 +330,8 @@ impl Core {
     /// Whether a live call was repaired and moved less often than there are rounds. Then it may be repaired once more
     /// before it is decided in one step.
     pub(crate) fn has_round(&self, call: u32) -> bool
-        requires { IsLiveCall self.now.course call }
-        ensures { (l : Live) → IsLive self.now.course call l → result ≡ has_round (work_in self.now) l }
+        requires { IsLiveCall self.now.book.course call }
+        ensures { (l : Live) → IsLive self.now.book.course call l → result ≡ has_round (work_in self.now.book) l }
     {
         let Some(rounds) = self.book.rounds(call) else {
             unreachable!();
@@ -314,7 +341,7 @@ impl Core {
 
     /// Returns the least call that hasn't committed. Takes time linear in the number of calls that have begun.
     pub fn open_call(&self) -> Option<u32>
-        ensures { result ≡ open_call (work_in self.now) self.now.course }
+        ensures { result ≡ open_call (work_in self.now.book) self.now.book.course }
     {
         for call in 0..self.begun() {
             if self.rounds(call).is_some() {
@@ -327,9 +354,9 @@ impl Core {
     /// Turns the core into the outcome of its run: the replies by call, the commits with their rounds, the events, and
     /// the tables after all commits. Each call must have committed. Fails with `NoMemory` if memory runs out.
     pub fn outcome(self, alloc: Global) -> Result<Outcome, NoMemory>
-        requires { open_call (work_in self) self.course ≡ None }
-        ensures outcome { IfOk result (λ outcome. outcome ≡ outcome_of (work_in self) self.journal) }
-        ensures lawful { OnOk result (Lawful (work_in self) self.journal) }
+        requires { open_call (work_in self.book) self.book.course ≡ None }
+        ensures outcome { IfOk result (λ outcome. outcome ≡ outcome_of (work_in self.book) self.book.journal) }
+        ensures lawful { OnOk result (Lawful (work_in self.book) self.book.journal) }
     {
         let Core { book, store, .. } = self;
         let last = store.last();

@@ -12,7 +12,7 @@ use std::alloc::Global;
 
 /// Begins a call, if it is the next one.
 fn begin_event(core: &mut Core, alloc: Global, call: u32) -> Result<(), Refusal>
-    ensures { HasTaken (B call) core.old core.new result }
+    ensures { HasTaken (B call) core.old.book core.new.book result }
 {
     if !core.is_next(call) {
         return Err(Refusal::Refused(Fault::Order));
@@ -23,7 +23,7 @@ fn begin_event(core: &mut Core, alloc: Global, call: u32) -> Result<(), Refusal>
 
 /// Executes the next statement of a call, if it has one.
 fn step_event(core: &mut Core, alloc: Global, call: u32) -> Result<(), Refusal>
-    ensures { HasTaken (S call) core.old core.new result }
+    ensures { HasTaken (S call) core.old.book core.new.book result }
 {
     if !core.may_step(call) {
         return Err(Refusal::Refused(Fault::Order));
@@ -34,7 +34,7 @@ fn step_event(core: &mut Core, alloc: Global, call: u32) -> Result<(), Refusal>
 
 /// Moves a call, if it is live.
 fn move_event(core: &mut Core, alloc: Global, call: u32) -> Result<(), Refusal>
-    ensures { HasTaken (M call) core.old core.new result }
+    ensures { HasTaken (M call) core.old.book core.new.book result }
 {
     if core.rounds(call).is_none() {
         return Err(Refusal::Refused(Fault::Order));
@@ -45,7 +45,7 @@ fn move_event(core: &mut Core, alloc: Global, call: u32) -> Result<(), Refusal>
 
 /// Commits a call, if it is live and may commit.
 fn commit_event(core: &mut Core, alloc: Global, call: u32) -> Result<(), Refusal>
-    ensures { HasTaken (C call) core.old core.new result }
+    ensures { HasTaken (C call) core.old.book core.new.book result }
 {
     if core.rounds(call).is_none() {
         return Err(Refusal::Refused(Fault::Order));
@@ -60,7 +60,7 @@ fn commit_event(core: &mut Core, alloc: Global, call: u32) -> Result<(), Refusal
 /// Whether a live call that is hit may be repaired once more before it is decided in one step. Refuses the repair of any
 /// other call.
 fn round_left(core: &mut Core, alloc: Global, call: u32) -> Result<bool, Refusal>
-    ensures { TellsRound call result core.old core.new }
+    ensures { TellsRound call result core.old.book core.new.book }
 {
     if core.rounds(call).is_none() {
         return Err(Refusal::Refused(Fault::Order));
@@ -75,7 +75,7 @@ fn round_left(core: &mut Core, alloc: Global, call: u32) -> Result<bool, Refusal
 
 /// Repairs a call, if it is live, hit and may be repaired once more.
 fn repair_event(core: &mut Core, alloc: Global, call: u32) -> Result<(), Refusal>
-    ensures { HasTaken (A call) core.old core.new result }
+    ensures { HasTaken (A call) core.old.book core.new.book result }
 {
     let more = round_left(core, alloc, call)?;
     if !more {
@@ -87,7 +87,7 @@ fn repair_event(core: &mut Core, alloc: Global, call: u32) -> Result<(), Refusal
 
 /// Repairs and commits a call in one step, if it is live and hit, and has used its rounds.
 fn decide_event(core: &mut Core, alloc: Global, call: u32) -> Result<(), Refusal>
-    ensures { HasTaken (X call) core.old core.new result }
+    ensures { HasTaken (X call) core.old.book core.new.book result }
 {
     let more = round_left(core, alloc, call)?;
     if more {
@@ -99,17 +99,17 @@ fn decide_event(core: &mut Core, alloc: Global, call: u32) -> Result<(), Refusal
 
 /// Collects old versions.
 fn collect_event(core: &mut Core) -> Result<(), Refusal>
-    ensures { HasTaken G core.old core.new result }
+    ensures { HasTaken G core.old.book core.new.book result }
 {
     core.collect()?;
     Ok(())
 }
 
 impl Events for Core {
-    ghost booked = { λ core. core };
+    ghost booked = { λ core. core.book };
 
     fn event(&mut self, alloc: Global, event: Event) -> Result<(), Refusal>
-        ensures { HasTaken event self.old self.new result }
+        ensures { HasTaken event self.old.book self.new.book result }
     {
         match event {
             Event::B(call) => begin_event(self, alloc, call),

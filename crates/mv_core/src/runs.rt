@@ -21,7 +21,7 @@ const PERIOD: u32 = 64;
 
 /// Collects old versions, if this is the last call of a period.
 fn collect_after(core: &mut Core, call: u32) -> Result<(), NoMemory>
-    ensures { OnOk result (IsSame core.old core.new ⊎ Made G core.old core.new) }
+    ensures { OnOk result (IsSame core.old.book core.new.book ⊎ Made G core.old.book core.new.book) }
 {
     if call % PERIOD == PERIOD - 1 {
         core.collect()?;
@@ -31,8 +31,8 @@ fn collect_after(core: &mut Core, call: u32) -> Result<(), NoMemory>
 
 /// Begins and commits the calls of a core without events, one after another, and collects old versions from time to time.
 fn run_calls(alloc: Global, core: &mut Core) -> Result<(), NoMemory>
-    requires { core.old.course ≡ beginning }
-    ensures { OnOk result (HasTurned core.old core.new) }
+    requires { core.old.book.course ≡ beginning }
+    ensures { OnOk result (HasTurned core.old.book core.new.book) }
 {
     while let Some(call) = core.begin(alloc)? {
         core.attempt(alloc, call)?;

@@ -16,7 +16,7 @@ ghost use Rattle.mv_lawful.specs.Work.{records_at, table_at};
 ghost use Rattle.mv_lawful.specs.Lawful.{Live, refusal};
 ghost use Rattle.mv_store.specs.Changes.{HasRaised};
 ghost use Rattle.mv_store.specs.Stored.{IsLike};
-ghost use Rattle.mv_core.specs.declared.book.Check.TheVariants.{Free as IsFree};
+ghost use Rattle.mv_core.specs.declared.book.Check.TheVariants.{Free as IsFree, Hit as IsHit};
 ghost use Rattle.mv_core.specs.Told.{writes_told};
 ghost use Rattle.mv_core.specs.Scripts.{IsScript};
 ghost use Rattle.mv_core.specs.Calls.{IsLive, IsLiveCall, due_number};
@@ -96,8 +96,8 @@ pub fn new_task(alloc: Global, script: &Script, number: u32) -> Result<Task, NoM
 
 /// Runs the next statement of a live call at its start, unless its task has run more statements than the journal names.
 /// The start may not be below low, and a statement must be left. The journal names that statement next. A task that has
-/// run exactly the statements of the journal runs exactly one more. Fails with `NoMemory` if memory runs out, and then the
-/// task has run none.
+/// run no more statements than the journal names runs exactly one more. Any other runs none. Fails with `NoMemory` if
+/// memory runs out, and then the task has run none.
 pub fn step_task(
     alloc: Global,
     book: &Book,
@@ -109,7 +109,8 @@ pub fn step_task(
     requires fresh { IsNotStale book.now call }
     requires left { HasStep book.now call }
     ensures ok { OnOk result ((l : Live) → IsLive book.now.course call l → IsLiveTask book.now.script book.now.course.order call (record l { steps = l.steps + 1 }) running.new) }
-    ensures one { OnOk result ((l : Live) → IsLive book.now.course call l → l.steps ≡ length running.old.task.records → HasRunOne running.old.task running.new.task) }
+    ensures one { OnOk result ((l : Live) → IsLive book.now.course call l → length running.old.task.records ≤ l.steps → HasRunOne running.old.task running.new.task) }
+    ensures named { OnOk result ((l : Live) → IsLive book.now.course call l → l.steps < length running.old.task.records → running.new ≡ running.old) }
     ensures err { OnErr result (IsUnchanged running.old.task running.new.task) }
     ensures task { IsTaskIn book.now call running.new }
     ensures ran { HasRunOn running.old running.new }
@@ -152,6 +153,7 @@ pub(crate) fn validate_task(
     requires call { IsRunningIn book.now store.now call running.old }
     ensures answer { IfOk result (λ check. (l : Live) → IsLive book.now.course call l → IsAnswer check (work_in book.now) book.now.course call l) }
     ensures records { IfOk result (λ check. check ≡ IsFree → AreRecordsOf book.now call running.new.task.records) }
+    ensures hit { IfOk result (λ check. (number commit : ℕ) → check ≡ IsHit number commit → AreRecordsOf book.now call running.new.task.records) }
     ensures task { IsTaskIn book.now call running.new }
 {
     let start = book.start(call);

@@ -149,11 +149,11 @@ known_same old new h course k = record {
 
 -- what is said of a statement of the call's first round, of a task that has run all before it
 abbrev pub OneMore : Booked → Holding → Running → Type 0
-OneMore b h r = (l : Live) → IsLive b.course h.call l → l.steps ≡ length h.running.task.records → HasRunOne h.running.task r.task
+OneMore b h r = (l : Live) → IsLive b.course h.call l → length h.running.task.records ≤ l.steps → HasRunOne h.running.task r.task
 
 -- a call that has a statement left has run all before it, and runs one
 pub one_more : (b : Booked) (h : Holding) (r : Running) → HasStep b h.call → OneMore b h r → IsKnown b h → HasRunOne h.running.task r.task
-one_more b h r step one k = one k.live k.is_live (k.steps (step_used (work_in b) b.course h.call k.live (step k.live k.is_live)))
+one_more b h r step one k = one k.live k.is_live (let all = k.steps (step_used (work_in b) b.course h.call k.live (step k.live k.is_live)) in omega (arith, all))
 
 -- and after a statement
 pub known_stepped : (b new : Booked) (h : Holding) (r : Running) → HasStep b h.call → OneMore b h r → Made (S h.call) b new → IsKnown b h → IsKnown new (record h { running = r })

@@ -85,3 +85,13 @@ returns-else-records-steps-clause-one c l live all =
 
 pub returns-in_err-run_next-clause-err : goal.returns-in_err-run_next-clause-err
 returns-in_err-run_next-clause-err c = always_err c.from_residual.result _ c.in_err-run_next.ensures.err
+
+pub returns-in_ok-run_next-clause-named : goal.returns-in_ok-run_next-clause-named
+returns-in_ok-run_next-clause-named c l live more =
+    let few = c.if-records-steps.true in
+    let many = ap length c.records.ensures in
+    let steps = c.steps.ensures l live in
+    absurd (omega (arith, few, many, steps, more))
+
+pub returns-else-records-steps-clause-named : goal.returns-else-records-steps-clause-named
+returns-else-records-steps-clause-named c l live more = refl

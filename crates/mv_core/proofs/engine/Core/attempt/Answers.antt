@@ -1,27 +1,28 @@
-use Rattle.std.proofs.Common.{rules, ◌<◌, ◌+◌, None, Ok, length, ap, subst, ◌∙◌}
+use Rattle.std.proofs.Common.{rules, ◌<◌, ◌+◌, None, Ok, length, ap, subst, ◌∙◌, Some}
 use Rattle.mv_journal.specs.declared.event.Event.TheVariants.{C}
 use Rattle.mv_lawful.specs.Lawful.{Course}
 use Rattle.mv_core.proofs.Taking.{task_there, task_within, due_first, call_within, committed_on, running_in, core_set}
 use Rattle.mv_core.proofs.Stored.{stored_same, last_records, last_records_on}
-use Rattle.mv_core.proofs.Changed.{core_same, same_both, made_after, made_now, allowed_same, try_failed, live_in, live_now, free_told, hit_told, stale_told, same_self}
+use Rattle.mv_core.proofs.Changed.{core_same, same_both, made_after, made_now, allowed_same, try_failed, live_in, live_now, free_told, hit_told, stale_told, same_self, book_in, tasks_in}
 use Rattle.mv_core.specs.declared.engine.Attempt.TheVariants as attempt
 use Rattle.mv_core.specs.Books.{Booked, IsSame}
 use Rattle.mv_core.specs.Cores.{HasTried}
+use Rattle.mv_core.proofs.Recorded.{others_set, others_twice, whole_set}
 use Rattle.mv_core.proofs.engine.Core.attempt.Goals as goal
 
 pub unreachable-requires : goal.unreachable-requires
 unreachable-requires c =
-    task_there c.self.inside.book.script c.self.inside.book.course c.self.inside.tasks.items c.args.call c.index_mut.result.now c.self.invariant.tasks (live_in c.self.inside.book c.args.self.now c.args.call c.self.view_is c.requires) c.index_mut.ensures.value c.in_default.is
+    task_there c.self.inside.book.script c.self.inside.book.course c.self.inside.tasks.items c.args.call c.index_mut.result.now c.self.invariant.tasks (live_in c.self.inside.book c.args.self.now.book c.args.call (ap book_in c.self.view_is) c.requires) c.index_mut.ensures.value c.in_default.is
 
 pub validate_task-requires : goal.validate_task-requires
 validate_task-requires c =
-    record { call = running_in c.self.inside.book c.self.inside.store c.self.inside.tasks.items c.args.call c.index_mut.result.now c.in-Some.running c.self.invariant (live_in c.self.inside.book c.args.self.now c.args.call c.self.view_is c.requires) c.index_mut.ensures.value c.in-Some.is }
+    record { call = running_in c.self.inside.book c.self.inside.store c.self.inside.tasks.items c.args.call c.index_mut.result.now c.in-Some.running c.self.invariant (live_in c.self.inside.book c.args.self.now.book c.args.call (ap book_in c.self.view_is) c.requires) c.index_mut.ensures.value c.in-Some.is }
 
 pub invariant_of-self : goal.invariant_of-self
-invariant_of-self c = core_set c.self.inside.book c.self.inside.store c.self.inside.tasks.items c.args.call c.validate_task.new.running c.self.invariant (live_in c.self.inside.book c.args.self.now c.args.call c.self.view_is c.requires) c.validate_task.ensures.task
+invariant_of-self c = core_set c.self.inside.book c.self.inside.store c.self.inside.tasks.items c.args.call c.validate_task.new.running c.self.invariant (live_in c.self.inside.book c.args.self.now.book c.args.call (ap book_in c.self.view_is) c.requires) c.validate_task.ensures.task
 
 pub settle-requires-clause-live : goal.settle-requires-clause-live
-settle-requires-clause-live c = live_in c.self.inside.book c.args.self.now c.args.call c.self.view_is c.requires
+settle-requires-clause-live c = live_in c.self.inside.book c.args.self.now.book c.args.call (ap book_in c.self.view_is) c.requires
 
 pub settle-requires-clause-number : goal.settle-requires-clause-number
 settle-requires-clause-number c = due_first c.self.inside.book c.args.call c.validate_task.new.running c.validate_task.ensures.task (c.in_ok-validate_task.ensures.records c.in-Free.is)
@@ -30,28 +31,28 @@ pub commit_task-requires-clause-stored : goal.commit_task-requires-clause-stored
 commit_task-requires-clause-stored c = stored_same c.self.inside.book c.settle.new.self c.self.inside.store c.self.invariant.stored c.settle.ensures.same
 
 pub commit_task-requires-clause-live : goal.commit_task-requires-clause-live
-commit_task-requires-clause-live c = live_now c.self.inside.book c.args.self.now c.settle.new.self c.args.call c.self.view_is c.requires c.settle.ensures.same
+commit_task-requires-clause-live c = live_now c.self.inside.book c.args.self.now.book c.settle.new.self c.args.call (ap book_in c.self.view_is) c.requires c.settle.ensures.same
 
 pub commit_task-requires-clause-number : goal.commit_task-requires-clause-number
 commit_task-requires-clause-number c =
     let k = core_same c.self.inside.book c.settle.new.self c.self.inside.store c.self.inside.tasks.items c.self.invariant c.settle.ensures.same in
-    call_within c.settle.new.self.script c.settle.new.self.course c.self.inside.tasks.items c.args.call k.tasks (live_now c.self.inside.book c.args.self.now c.settle.new.self c.args.call c.self.view_is c.requires c.settle.ensures.same)
+    call_within c.settle.new.self.script c.settle.new.self.course c.self.inside.tasks.items c.args.call k.tasks (live_now c.self.inside.book c.args.self.now.book c.settle.new.self c.args.call (ap book_in c.self.view_is) c.requires c.settle.ensures.same)
 
 pub invariant_of-self-in_err-commit-in-Free : goal.invariant_of-self-in_err-commit-in-Free
 invariant_of-self-in_err-commit-in-Free c =
-    let live = live_in c.self.inside.book c.args.self.now c.args.call c.self.view_is c.requires in
+    let live = live_in c.self.inside.book c.args.self.now.book c.args.call (ap book_in c.self.view_is) c.requires in
     let k = core_set c.self.inside.book c.self.inside.store c.self.inside.tasks.items c.args.call c.validate_task.new.running c.self.invariant live c.validate_task.ensures.task in
     let same = same_both c.self.inside.book c.settle.new.self c.commit_task.new.book c.settle.ensures.same c.in_err-commit-in-Free.ensures.made in
     record { stored = c.commit_task.ensures.stored; tasks = (core_same c.self.inside.book c.commit_task.new.book c.self.inside.store _ k same).tasks }
 
 pub index_mut-requires-in-Free : goal.index_mut-requires-in-Free
 index_mut-requires-in-Free c =
-    let lt : c.args.call < length c.self.inside.tasks.items = task_within c.self.inside.book.script c.self.inside.book.course c.self.inside.tasks.items c.args.call c.self.invariant.tasks (live_in c.self.inside.book c.args.self.now c.args.call c.self.view_is c.requires) in
+    let lt : c.args.call < length c.self.inside.tasks.items = task_within c.self.inside.book.script c.self.inside.book.course c.self.inside.tasks.items c.args.call c.self.invariant.tasks (live_in c.self.inside.book c.args.self.now.book c.args.call (ap book_in c.self.view_is) c.requires) in
     search (rules, lt)
 
 pub invariant_of-self-in-Free : goal.invariant_of-self-in-Free
 invariant_of-self-in-Free c =
-    let live = live_in c.self.inside.book c.args.self.now c.args.call c.self.view_is c.requires in
+    let live = live_in c.self.inside.book c.args.self.now.book c.args.call (ap book_in c.self.view_is) c.requires in
     let k = core_set c.self.inside.book c.self.inside.store c.self.inside.tasks.items c.args.call c.validate_task.new.running c.self.invariant live c.validate_task.ensures.task in
     record {
       stored = c.commit_task.ensures.stored;
@@ -60,14 +61,14 @@ invariant_of-self-in-Free c =
     }
 
 pub invariant_of-self-in-Hit : goal.invariant_of-self-in-Hit
-invariant_of-self-in-Hit c = core_set c.self.inside.book c.self.inside.store c.self.inside.tasks.items c.args.call c.validate_task.new.running c.self.invariant (live_in c.self.inside.book c.args.self.now c.args.call c.self.view_is c.requires) c.validate_task.ensures.task
+invariant_of-self-in-Hit c = core_set c.self.inside.book c.self.inside.store c.self.inside.tasks.items c.args.call c.validate_task.new.running c.self.invariant (live_in c.self.inside.book c.args.self.now.book c.args.call (ap book_in c.self.view_is) c.requires) c.validate_task.ensures.task
 
 pub invariant_of-self-in-Stale : goal.invariant_of-self-in-Stale
-invariant_of-self-in-Stale c = core_set c.self.inside.book c.self.inside.store c.self.inside.tasks.items c.args.call c.validate_task.new.running c.self.invariant (live_in c.self.inside.book c.args.self.now c.args.call c.self.view_is c.requires) c.validate_task.ensures.task
+invariant_of-self-in-Stale c = core_set c.self.inside.book c.self.inside.store c.self.inside.tasks.items c.args.call c.validate_task.new.running c.self.invariant (live_in c.self.inside.book c.args.self.now.book c.args.call (ap book_in c.self.view_is) c.requires) c.validate_task.ensures.task
 
 pub commit_task-requires-clause-whole : goal.commit_task-requires-clause-whole
 commit_task-requires-clause-whole c =
-    let live = live_in c.self.inside.book c.args.self.now c.args.call c.self.view_is c.requires in
+    let live = live_in c.self.inside.book c.args.self.now.book c.args.call (ap book_in c.self.view_is) c.requires in
     last_records_on c.self.inside.book c.settle.new.self c.args.call c.validate_task.new.running.task.records c.settle.ensures.same.script (ap (λ (s : Course). s.order) c.settle.ensures.same.course)
     (last_records c.self.inside.book c.self.inside.store c.args.call c.validate_task.new.running.task.records c.self.invariant.stored
     (call_within c.self.inside.book.script c.self.inside.book.course c.self.inside.tasks.items c.args.call c.self.invariant.tasks live) live (c.in_ok-validate_task.ensures.records c.in-Free.is)
@@ -75,29 +76,50 @@ commit_task-requires-clause-whole c =
 
 pub commit_task-requires-clause-allowed : goal.commit_task-requires-clause-allowed
 commit_task-requires-clause-allowed c =
-    let live = live_in c.self.inside.book c.args.self.now c.args.call c.self.view_is c.requires in
+    let live = live_in c.self.inside.book c.args.self.now.book c.args.call (ap book_in c.self.view_is) c.requires in
     allowed_same (C c.args.call) c.self.inside.book c.settle.new.self c.settle.ensures.same.script c.settle.ensures.same.course
     (free_told c.self.inside.book c.args.call c.in_ok-validate_task.field-0 live.0 c.in_ok-validate_task.ensures.answer c.in-Free.is live.1)
 
-pub returns-in_err-commit-in-Free : goal.returns-in_err-commit-in-Free
-returns-in_err-commit-in-Free c =
-    try_failed _ c.args.call c.from_residual-in_err-commit-in-Free.result c.args.self.now c.commit_task.new.book c.from_residual-in_err-commit-in-Free.ensures.1
-    (subst (λ (b : Booked). IsSame b c.commit_task.new.book) c.self.view_is (same_both c.self.inside.book c.settle.new.self c.commit_task.new.book c.settle.ensures.same c.in_err-commit-in-Free.ensures.made))
+pub returns-in_err-commit-in-Free-clause-made : goal.returns-in_err-commit-in-Free-clause-made
+returns-in_err-commit-in-Free-clause-made c =
+    try_failed _ c.args.call c.from_residual-in_err-commit-in-Free.result c.args.self.now.book c.commit_task.new.book c.from_residual-in_err-commit-in-Free.ensures.1
+    (subst (λ (b : Booked). IsSame b c.commit_task.new.book) (ap book_in c.self.view_is) (same_both c.self.inside.book c.settle.new.self c.commit_task.new.book c.settle.ensures.same c.in_err-commit-in-Free.ensures.made))
 
-pub returns-in_ok-commit-in-Free : goal.returns-in_ok-commit-in-Free
-returns-in_ok-commit-in-Free c = (
-  made_now (C c.args.call) c.self.inside.book c.args.self.now c.settle.new.self c.commit_task.new.book c.self.view_is c.settle.ensures.same c.in_ok-commit-in-Free.ensures.made.0,
-  c.in_ok-commit-in-Free.ensures.made.1 ∙ ap (λ (s : Course). length s.order + 1) (c.settle.ensures.same.course ∙ ap (λ (b : Booked). b.course) c.self.view_is),
+pub returns-in_ok-commit-in-Free-clause-made : goal.returns-in_ok-commit-in-Free-clause-made
+returns-in_ok-commit-in-Free-clause-made c = (
+  made_now (C c.args.call) c.self.inside.book c.args.self.now.book c.settle.new.self c.commit_task.new.book (ap book_in c.self.view_is) c.settle.ensures.same c.in_ok-commit-in-Free.ensures.made.0,
+  c.in_ok-commit-in-Free.ensures.made.1 ∙ ap (λ (s : Course). length s.order + 1) (c.settle.ensures.same.course ∙ ap (λ (b : Booked). b.course) (ap book_in c.self.view_is)),
 )
 
-pub returns-in-Hit : goal.returns-in-Hit
-returns-in-Hit c =
-    let live = live_in c.self.inside.book c.args.self.now c.args.call c.self.view_is c.requires in
-    subst (λ (b : Booked). HasTried c.args.call (Ok (attempt.Hit c.in-Hit.number c.in-Hit.commit)) b c.self.inside.book) c.self.view_is
+pub returns-in-Hit-clause-made : goal.returns-in-Hit-clause-made
+returns-in-Hit-clause-made c =
+    let live = live_in c.self.inside.book c.args.self.now.book c.args.call (ap book_in c.self.view_is) c.requires in
+    subst (λ (b : Booked). HasTried c.args.call (Ok (attempt.Hit c.in-Hit.number c.in-Hit.commit)) b c.self.inside.book) (ap book_in c.self.view_is)
     (hit_told c.self.inside.book c.args.call c.in-Hit.number c.in-Hit.commit c.in_ok-validate_task.field-0 live.0 c.in_ok-validate_task.ensures.answer c.in-Hit.is live.1, same_self c.self.inside.book)
 
-pub returns-in-Stale : goal.returns-in-Stale
-returns-in-Stale c =
-    let live = live_in c.self.inside.book c.args.self.now c.args.call c.self.view_is c.requires in
-    subst (λ (b : Booked). HasTried c.args.call (Ok (attempt.Stale c.in-Stale.start c.in-Stale.low)) b c.self.inside.book) c.self.view_is
+pub returns-in-Stale-clause-made : goal.returns-in-Stale-clause-made
+returns-in-Stale-clause-made c =
+    let live = live_in c.self.inside.book c.args.self.now.book c.args.call (ap book_in c.self.view_is) c.requires in
+    subst (λ (b : Booked). HasTried c.args.call (Ok (attempt.Stale c.in-Stale.start c.in-Stale.low)) b c.self.inside.book) (ap book_in c.self.view_is)
     (stale_told c.self.inside.book c.args.call c.in-Stale.start c.in-Stale.low c.in_ok-validate_task.field-0 live.0 c.in_ok-validate_task.ensures.answer c.in-Stale.is live.1, same_self c.self.inside.book)
+
+pub returns-in_err-validate_task-clause-others : goal.returns-in_err-validate_task-clause-others
+returns-in_err-validate_task-clause-others c = others_set c.args.call c.self.inside.tasks.items (Some c.validate_task.new.running) c.args.self.now (ap tasks_in c.self.view_is)
+
+pub returns-in_err-commit-in-Free-clause-others : goal.returns-in_err-commit-in-Free-clause-others
+returns-in_err-commit-in-Free-clause-others c = others_set c.args.call c.self.inside.tasks.items (Some c.validate_task.new.running) c.args.self.now (ap tasks_in c.self.view_is)
+
+pub returns-in_ok-commit-in-Free-clause-others : goal.returns-in_ok-commit-in-Free-clause-others
+returns-in_ok-commit-in-Free-clause-others c = others_twice c.args.call c.self.inside.tasks.items (Some c.validate_task.new.running) None c.args.self.now (ap tasks_in c.self.view_is)
+
+pub returns-in-Hit-clause-others : goal.returns-in-Hit-clause-others
+returns-in-Hit-clause-others c = others_set c.args.call c.self.inside.tasks.items (Some c.validate_task.new.running) c.args.self.now (ap tasks_in c.self.view_is)
+
+pub returns-in-Stale-clause-others : goal.returns-in-Stale-clause-others
+returns-in-Stale-clause-others c = others_set c.args.call c.self.inside.tasks.items (Some c.validate_task.new.running) c.args.self.now (ap tasks_in c.self.view_is)
+
+pub returns-in-Hit-clause-whole : goal.returns-in-Hit-clause-whole
+returns-in-Hit-clause-whole c =
+    let live = live_in c.self.inside.book c.args.self.now.book c.args.call (ap book_in c.self.view_is) c.requires in
+    whole_set c.self.inside.book.script c.self.inside.book.course c.self.inside.book c.self.inside.tasks.items c.args.call c.validate_task.new.running c.self.invariant.tasks live
+    (c.in_ok-validate_task.ensures.hit c.in-Hit.number c.in-Hit.commit c.in-Hit.is)

@@ -1,16 +1,18 @@
-use Rattle.std.proofs.Common.{◌≡◌, ◌∷◌, [], List, Option, Some, None, Ok, take, length, sym, ap, subst, ◌∙◌, refl}
+use Rattle.std.proofs.Common.{◌≡◌, ◌∷◌, [], List, Option, Some, None, Ok, take, length, sym, ap, subst, ◌∙◌, refl, ℕ}
 use Rattle.std.proofs.lemmas.List.{take_at}
+use Rattle.std.specs.Prelude.{slice_get}
 use Rattle.mv_values.specs.Tables.{Tables}
 use Rattle.mv_core.specs.declared.tasks.Running.{Running}
 use Rattle.mv_journal.specs.declared.event.Event.TheVariants.{B}
 use Rattle.mv_core.specs.declared.script.Script.{Script}
 use Rattle.mv_core.specs.declared.book.Begun.{Begun}
 use Rattle.mv_core.specs.Books.{Made, HasBegun}
-use Rattle.mv_core.specs.Cores.{RunsOn, IsCore}
+use Rattle.mv_core.specs.Cores.{RunsOn, IsCore, records_by}
 use Rattle.mv_core.proofs.Stored.{stored_made}
 use Rattle.mv_core.proofs.Taking.{begun_on}
 use Rattle.mv_core.proofs.Refusing.{begun_number}
-use Rattle.mv_core.proofs.Changed.{core_same}
+use Rattle.mv_core.proofs.Changed.{core_same, tasks_in}
+use Rattle.mv_core.proofs.Recorded.{begun_records, others_begun}
 use Rattle.mv_core.proofs.engine.Core.begin.Goals as goal
 
 pub invariant_of-self-in-Ok-Some : goal.invariant_of-self-in-Ok-Some
@@ -31,3 +33,19 @@ invariant_of-self-in-Err c =
     let back : c.truncate.new.self.items ≡ c.self.inside.tasks.items =
     c.truncate.ensures.items ∙ (ap (take c.in-Some.call) c.in_ok-push.ensures.items ∙ take_at c.self.inside.tasks.items (Some (record { task = c.in_ok-task.task; count = None }) ∷ []) c.in-Some.call (c.self.invariant.tasks.count ∙ sym c.in-Some.ensures.next.0)) in
     subst (λ (ts : List (Option Running)). IsCore c.begin.new.self c.self.inside.store ts) (sym back) (core_same c.self.inside.book c.begin.new.self c.self.inside.store c.self.inside.tasks.items c.self.invariant c.in-Err.ensures)
+
+pub returns-in-Ok-Some-clause-task : goal.returns-in-Ok-Some-clause-task
+returns-in-Ok-Some-clause-task c =
+    let begun : Made (B c.in-Ok-Some.begun.call) c.self.inside.book c.begin.new.self =
+    (subst (λ (o : Option Begun). HasBegun (Ok o) c.self.inside.book c.begin.new.self) c.in-Ok-Some.field-0-is c.in-Ok-Some.ensures).0 in
+    let last : c.in-Ok-Some.begun.call ≡ length c.self.inside.tasks.items = begun_number c.in-Ok-Some.begun.call c.self.inside.book c.begin.new.self begun ∙ sym c.self.invariant.tasks.count in
+    subst (λ (ts : List (Option Running)). (records_by (slice_get ts c.in-Ok-Some.begun.call) ≡ []) × ((d : ℕ) → (d ≡ c.in-Ok-Some.begun.call → ⊥) → slice_get ts d ≡ slice_get c.args.self.now.tasks d)) (sym c.in_ok-push.ensures.items) (
+      begun_records c.in-Ok-Some.begun.call c.self.inside.tasks.items (record { task = c.in_ok-task.task; count = None }) last c.in_ok-task.ensures.records,
+      others_begun c.in-Ok-Some.begun.call c.self.inside.tasks.items (Some (record { task = c.in_ok-task.task; count = None })) c.args.self.now (ap tasks_in c.self.view_is) last,
+    )
+
+pub returns-in-Err-clause-task : goal.returns-in-Err-clause-task
+returns-in-Err-clause-task c =
+    c.truncate.ensures.items
+    ∙ (ap (take c.in-Some.call) c.in_ok-push.ensures.items
+    ∙ (take_at c.self.inside.tasks.items (Some (record { task = c.in_ok-task.task; count = None }) ∷ []) c.in-Some.call (c.self.invariant.tasks.count ∙ sym c.in-Some.ensures.next.0) ∙ ap tasks_in c.self.view_is))

@@ -1,4 +1,4 @@
-use Rattle.std.proofs.Common.{List, Option, subst}
+use Rattle.std.proofs.Common.{List, Option, subst, ap}
 use Rattle.std.specs.Prelude.{Result, Ok, Err}
 use Rattle.mv_values.specs.declared.memory.NoMemory.{NoMemory}
 use Rattle.mv_store.specs.Stored.{Versioned}
@@ -6,6 +6,7 @@ use Rattle.mv_core.specs.declared.tasks.Running.{Running}
 use Rattle.mv_core.specs.Books.{Booked}
 use Rattle.mv_core.specs.Cores.{IsStoreOf, IsCore, HasCollected}
 use Rattle.mv_core.proofs.Taking.{tasks_same, collected_on}
+use Rattle.mv_core.proofs.Changed.{book_in, tasks_in}
 use Rattle.mv_core.proofs.engine.Core.collect.Goals as goal
 
 -- versions were collected, or nothing happened
@@ -17,5 +18,8 @@ pub invariant_of-self : goal.invariant_of-self
 invariant_of-self c =
     core_collected c.collect_versions.result c.self.inside.book c.collect_versions.new.book c.self.inside.store c.collect_versions.new.store c.self.inside.tasks.items c.self.invariant c.collect_versions.ensures.made c.collect_versions.ensures.stored
 
-pub returns : goal.returns
-returns c = subst (λ (b : Booked). HasCollected c.collect_versions.result b c.collect_versions.new.book) c.self.view_is c.collect_versions.ensures.made
+pub returns-clause-made : goal.returns-clause-made
+returns-clause-made c = subst (λ (b : Booked). HasCollected c.collect_versions.result b c.collect_versions.new.book) (ap book_in c.self.view_is) c.collect_versions.ensures.made
+
+pub returns-clause-tasks : goal.returns-clause-tasks
+returns-clause-tasks c = ap tasks_in c.self.view_is

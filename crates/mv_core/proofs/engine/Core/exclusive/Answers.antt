@@ -1,50 +1,60 @@
-use Rattle.std.proofs.Common.{rules, ◌<◌, ◌+◌, length, ap, sym, subst, ◌∙◌}
+use Rattle.std.proofs.Common.{rules, ◌<◌, ◌+◌, length, ap, sym, subst, ◌∙◌, Some, None, refl}
 use Rattle.mv_journal.specs.declared.event.Event.TheVariants.{X}
 use Rattle.std.specs.Prelude.{not}
 use Rattle.mv_lawful.specs.Lawful.{has_round}
 use Rattle.mv_core.specs.Books.{Booked, work_in, Made, IsNotStale}
 use Rattle.mv_core.proofs.Taking.{task_there, task_within, tasks_set, tasks_same, decided_on, running_in}
 use Rattle.mv_core.proofs.Refusing.{repairs_last}
-use Rattle.mv_core.proofs.Changed.{live_in, fresh_now_allowed}
+use Rattle.mv_core.proofs.Changed.{live_in, fresh_now_allowed, book_in, tasks_in}
+use Rattle.mv_core.proofs.Recorded.{others_set, others_twice}
 use Rattle.mv_core.proofs.engine.Core.exclusive.Goals as goal
 
 pub unreachable-requires : goal.unreachable-requires
 unreachable-requires c =
-    task_there c.self.inside.book.script c.self.inside.book.course c.self.inside.tasks.items c.args.call c.index_mut.result.now c.self.invariant.tasks (live_in c.self.inside.book c.args.self.now c.args.call c.self.view_is c.requires.live) c.index_mut.ensures.value c.in_default.is
+    task_there c.self.inside.book.script c.self.inside.book.course c.self.inside.tasks.items c.args.call c.index_mut.result.now c.self.invariant.tasks (live_in c.self.inside.book c.args.self.now.book c.args.call (ap book_in c.self.view_is) c.requires.live) c.index_mut.ensures.value c.in_default.is
 
 pub decide_task-requires-clause-call : goal.decide_task-requires-clause-call
 decide_task-requires-clause-call c =
-    running_in c.self.inside.book c.self.inside.store c.self.inside.tasks.items c.args.call c.index_mut.result.now c.in-Some.running c.self.invariant (live_in c.self.inside.book c.args.self.now c.args.call c.self.view_is c.requires.live) c.index_mut.ensures.value c.in-Some.is
+    running_in c.self.inside.book c.self.inside.store c.self.inside.tasks.items c.args.call c.index_mut.result.now c.in-Some.running c.self.invariant (live_in c.self.inside.book c.args.self.now.book c.args.call (ap book_in c.self.view_is) c.requires.live) c.index_mut.ensures.value c.in-Some.is
 
 pub decide_task-requires-clause-fresh : goal.decide_task-requires-clause-fresh
-decide_task-requires-clause-fresh c = subst (λ (b : Booked). IsNotStale b c.args.call) (sym c.self.view_is) c.in_ok-refuse_stale.ensures.fresh
+decide_task-requires-clause-fresh c = subst (λ (b : Booked). IsNotStale b c.args.call) (sym (ap book_in c.self.view_is)) c.in_ok-refuse_stale.ensures.fresh
 
 pub decide_task-requires-clause-allowed : goal.decide_task-requires-clause-allowed
 decide_task-requires-clause-allowed c =
-    let live = live_in c.self.inside.book c.args.self.now c.args.call c.self.view_is c.requires.live in
-    fresh_now_allowed c.self.inside.book c.args.self.now c.args.call live.0 (X c.args.call) (not (has_round (work_in c.self.inside.book) live.0)) c.self.view_is
+    let live = live_in c.self.inside.book c.args.self.now.book c.args.call (ap book_in c.self.view_is) c.requires.live in
+    fresh_now_allowed c.self.inside.book c.args.self.now.book c.args.call live.0 (X c.args.call) (not (has_round (work_in c.self.inside.book) live.0)) (ap book_in c.self.view_is)
     (repairs_last (work_in c.self.inside.book) c.self.inside.book.course c.args.call live.0 live.1) c.requires.allowed
-    (subst (λ (b : Booked). IsNotStale b c.args.call) (sym c.self.view_is) c.in_ok-refuse_stale.ensures.fresh live.0 live.1)
+    (subst (λ (b : Booked). IsNotStale b c.args.call) (sym (ap book_in c.self.view_is)) c.in_ok-refuse_stale.ensures.fresh live.0 live.1)
 
 pub invariant_of-self : goal.invariant_of-self
 invariant_of-self c = record {
   stored = c.decide_task.ensures.stored;
   tasks = tasks_same c.self.inside.book.script c.decide_task.new.book.script c.self.inside.book.course c.decide_task.new.book.course _
-      (tasks_set c.self.inside.book.script c.self.inside.book.course c.self.inside.tasks.items c.args.call c.decide_task.new.running c.self.invariant.tasks (live_in c.self.inside.book c.args.self.now c.args.call c.self.view_is c.requires.live) c.in_err-commit.ensures.task) c.in_err-commit.ensures.made.script c.in_err-commit.ensures.made.course;
+      (tasks_set c.self.inside.book.script c.self.inside.book.course c.self.inside.tasks.items c.args.call c.decide_task.new.running c.self.invariant.tasks (live_in c.self.inside.book c.args.self.now.book c.args.call (ap book_in c.self.view_is) c.requires.live) c.in_err-commit.ensures.task) c.in_err-commit.ensures.made.script c.in_err-commit.ensures.made.course;
 }
 
 pub index_mut-requires-2 : goal.index_mut-requires-2
 index_mut-requires-2 c =
-    let lt : c.args.call < length c.self.inside.tasks.items = task_within c.self.inside.book.script c.self.inside.book.course c.self.inside.tasks.items c.args.call c.self.invariant.tasks (live_in c.self.inside.book c.args.self.now c.args.call c.self.view_is c.requires.live) in
+    let lt : c.args.call < length c.self.inside.tasks.items = task_within c.self.inside.book.script c.self.inside.book.course c.self.inside.tasks.items c.args.call c.self.invariant.tasks (live_in c.self.inside.book c.args.self.now.book c.args.call (ap book_in c.self.view_is) c.requires.live) in
     search (rules, lt)
 
 pub invariant_of-self-2 : goal.invariant_of-self-2
 invariant_of-self-2 c =
-    let live = live_in c.self.inside.book c.args.self.now c.args.call c.self.view_is c.requires.live in
+    let live = live_in c.self.inside.book c.args.self.now.book c.args.call (ap book_in c.self.view_is) c.requires.live in
     record {
       stored = c.decide_task.ensures.stored;
       tasks = decided_on c.self.inside.book c.decide_task.new.book c.self.inside.tasks.items c.args.call live.0 c.decide_task.new.running c.self.invariant.tasks live.1 c.in_ok-commit.ensures.made.0;
     }
 
-pub returns : goal.returns
-returns c = (subst (λ (b : Booked). Made (X c.args.call) b c.decide_task.new.book) c.self.view_is c.in_ok-commit.ensures.made.0, c.in_ok-commit.ensures.made.1 ∙ ap (λ (b : Booked). length b.course.order + 1) c.self.view_is)
+pub returns-clause-made : goal.returns-clause-made
+returns-clause-made c = (subst (λ (b : Booked). Made (X c.args.call) b c.decide_task.new.book) (ap book_in c.self.view_is) c.in_ok-commit.ensures.made.0, c.in_ok-commit.ensures.made.1 ∙ ap (λ (b : Booked). length b.course.order + 1) (ap book_in c.self.view_is))
+
+pub returns-in_err-refuse_stale-clause-others : goal.returns-in_err-refuse_stale-clause-others
+returns-in_err-refuse_stale-clause-others c d ne = refl
+
+pub returns-in_err-commit-clause-others : goal.returns-in_err-commit-clause-others
+returns-in_err-commit-clause-others c = others_set c.args.call c.self.inside.tasks.items (Some c.decide_task.new.running) c.args.self.now (ap tasks_in c.self.view_is)
+
+pub returns-clause-others : goal.returns-clause-others
+returns-clause-others c = others_twice c.args.call c.self.inside.tasks.items (Some c.decide_task.new.running) None c.args.self.now (ap tasks_in c.self.view_is)

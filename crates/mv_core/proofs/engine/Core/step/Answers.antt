@@ -1,4 +1,4 @@
-use Rattle.std.proofs.Common.{arith, ◌≡◌, ◌+◌, false, sym, ap, subst, ◌∙◌, refl}
+use Rattle.std.proofs.Common.{arith, ◌≡◌, ◌+◌, false, sym, ap, subst, ◌∙◌, refl, Some}
 use Rattle.std.specs.Prelude.{not}
 use Rattle.mv_journal.specs.declared.event.Event.TheVariants.{S}
 use Rattle.mv_lawful.specs.Lawful.{Live, Course, used, is_stale}
@@ -7,39 +7,40 @@ use Rattle.mv_core.specs.Calls.{IsLive}
 use Rattle.mv_core.specs.Books.{Booked, work_in}
 use Rattle.mv_core.proofs.Stored.{stored_made}
 use Rattle.mv_core.proofs.Taking.{task_there, call_within, stepped_on, running_in, core_set}
-use Rattle.mv_core.proofs.Changed.{core_same, live_now, step_now, step_used, live_stepped, step_told, made_now}
+use Rattle.mv_core.proofs.Changed.{core_same, live_now, step_now, step_used, live_stepped, step_told, made_now, book_in, tasks_in}
+use Rattle.mv_core.proofs.Recorded.{others_kept, others_set, runs_one}
 use Rattle.mv_core.proofs.engine.Core.step.Goals as goal
 
 pub unreachable-requires : goal.unreachable-requires
 unreachable-requires c =
     let k = core_same c.self.inside.book c.reserve.new.self c.self.inside.store c.self.inside.tasks.items c.self.invariant c.reserve.ensures.same in
     task_there c.reserve.new.self.script c.reserve.new.self.course c.self.inside.tasks.items c.args.call c.index_mut.result.now k.tasks
-    (live_now c.self.inside.book c.args.self.now c.reserve.new.self c.args.call c.self.view_is c.requires.live c.reserve.ensures.same) c.index_mut.ensures.value c.in_default.is
+    (live_now c.self.inside.book c.args.self.now.book c.reserve.new.self c.args.call (ap book_in c.self.view_is) c.requires.live c.reserve.ensures.same) c.index_mut.ensures.value c.in_default.is
 
 pub step_task-requires-clause-call : goal.step_task-requires-clause-call
 step_task-requires-clause-call c =
     let k = core_same c.self.inside.book c.reserve.new.self c.self.inside.store c.self.inside.tasks.items c.self.invariant c.reserve.ensures.same in
     running_in c.reserve.new.self c.self.inside.store c.self.inside.tasks.items c.args.call c.index_mut.result.now c.in-Some.running k
-    (live_now c.self.inside.book c.args.self.now c.reserve.new.self c.args.call c.self.view_is c.requires.live c.reserve.ensures.same) c.index_mut.ensures.value c.in-Some.is
+    (live_now c.self.inside.book c.args.self.now.book c.reserve.new.self c.args.call (ap book_in c.self.view_is) c.requires.live c.reserve.ensures.same) c.index_mut.ensures.value c.in-Some.is
 
 pub step_task-requires-clause-fresh : goal.step_task-requires-clause-fresh
 step_task-requires-clause-fresh c =
-    subst (λ (s : Course). (l : Live) → IsLive s c.args.call l → is_stale s l ≡ false) (sym (c.reserve.ensures.same.course ∙ ap (λ (b : Booked). b.course) c.self.view_is)) c.in_ok-refuse_stale.ensures.fresh
+    subst (λ (s : Course). (l : Live) → IsLive s c.args.call l → is_stale s l ≡ false) (sym (c.reserve.ensures.same.course ∙ ap (λ (b : Booked). b.course) (ap book_in c.self.view_is))) c.in_ok-refuse_stale.ensures.fresh
 
 pub invariant_of-self-in_err-step_task : goal.invariant_of-self-in_err-step_task
 invariant_of-self-in_err-step_task c =
     let k = core_same c.self.inside.book c.reserve.new.self c.self.inside.store c.self.inside.tasks.items c.self.invariant c.reserve.ensures.same in
-    core_set c.reserve.new.self c.self.inside.store c.self.inside.tasks.items c.args.call c.step_task.new.running k (live_now c.self.inside.book c.args.self.now c.reserve.new.self c.args.call c.self.view_is c.requires.live c.reserve.ensures.same) c.in_err-step_task.ensures.task
+    core_set c.reserve.new.self c.self.inside.store c.self.inside.tasks.items c.args.call c.step_task.new.running k (live_now c.self.inside.book c.args.self.now.book c.reserve.new.self c.args.call (ap book_in c.self.view_is) c.requires.live c.reserve.ensures.same) c.in_err-step_task.ensures.task
 
 pub steps-requires : goal.steps-requires
 steps-requires c =
-    let live = live_now c.self.inside.book c.args.self.now c.reserve.new.self c.args.call c.self.view_is c.requires.live c.reserve.ensures.same in
+    let live = live_now c.self.inside.book c.args.self.now.book c.reserve.new.self c.args.call (ap book_in c.self.view_is) c.requires.live c.reserve.ensures.same in
     (record live.0 { steps = live.0.steps + 1 }, live_stepped c.args.call c.reserve.new.self c.ran.new.self live.0 live.1 c.ran.ensures.made)
 
 pub has_more-requires : goal.has_more-requires
 has_more-requires c none =
-    let live = live_now c.self.inside.book c.args.self.now c.reserve.new.self c.args.call c.self.view_is c.requires.live c.reserve.ensures.same in
-    let first : used live.0 ≡ 0 = step_used (work_in c.reserve.new.self) c.reserve.new.self.course c.args.call live.0 (step_now c.self.inside.book c.args.self.now c.reserve.new.self c.args.call c.self.view_is c.requires.left c.reserve.ensures.same live.0 live.1) in
+    let live = live_now c.self.inside.book c.args.self.now.book c.reserve.new.self c.args.call (ap book_in c.self.view_is) c.requires.live c.reserve.ensures.same in
+    let first : used live.0 ≡ 0 = step_used (work_in c.reserve.new.self) c.reserve.new.self.course c.args.call live.0 (step_now c.self.inside.book c.args.self.now.book c.reserve.new.self c.args.call (ap book_in c.self.view_is) c.requires.left c.reserve.ensures.same live.0 live.1) in
     let le = (c.in_ok-step_task.ensures.ok live.0 live.1).steps none first in
     let is = c.steps.ensures (record live.0 { steps = live.0.steps + 1 }) (live_stepped c.args.call c.reserve.new.self c.ran.new.self live.0 live.1 c.ran.ensures.made) in
     omega (arith, le, is)
@@ -47,19 +48,39 @@ has_more-requires c none =
 pub invariant_of-self-2 : goal.invariant_of-self-2
 invariant_of-self-2 c =
     let k = core_same c.self.inside.book c.reserve.new.self c.self.inside.store c.self.inside.tasks.items c.self.invariant c.reserve.ensures.same in
-    let live = live_now c.self.inside.book c.args.self.now c.reserve.new.self c.args.call c.self.view_is c.requires.live c.reserve.ensures.same in
+    let live = live_now c.self.inside.book c.args.self.now.book c.reserve.new.self c.args.call (ap book_in c.self.view_is) c.requires.live c.reserve.ensures.same in
     record {
       stored = stored_made (S c.args.call) c.reserve.new.self c.ran.new.self c.self.inside.store k.stored c.ran.ensures.made refl refl;
       tasks = stepped_on c.reserve.new.self c.ran.new.self c.self.inside.tasks.items c.args.call live.0 c.step_task.new.running k.tasks live.1 c.ran.ensures.made (c.in_ok-step_task.ensures.ok live.0 live.1);
     }
 
-pub returns : goal.returns
-returns c =
+pub returns-clause-made : goal.returns-clause-made
+returns-clause-made c =
     let k = core_same c.self.inside.book c.reserve.new.self c.self.inside.store c.self.inside.tasks.items c.self.invariant c.reserve.ensures.same in
-    let live = live_now c.self.inside.book c.args.self.now c.reserve.new.self c.args.call c.self.view_is c.requires.live c.reserve.ensures.same in
-    let first : used live.0 ≡ 0 = step_used (work_in c.reserve.new.self) c.reserve.new.self.course c.args.call live.0 (step_now c.self.inside.book c.args.self.now c.reserve.new.self c.args.call c.self.view_is c.requires.left c.reserve.ensures.same live.0 live.1) in (
-      made_now (S c.args.call) c.self.inside.book c.args.self.now c.reserve.new.self c.ran.new.self c.self.view_is c.reserve.ensures.same c.ran.ensures.made,
+    let live = live_now c.self.inside.book c.args.self.now.book c.reserve.new.self c.args.call (ap book_in c.self.view_is) c.requires.live c.reserve.ensures.same in
+    let first : used live.0 ≡ 0 = step_used (work_in c.reserve.new.self) c.reserve.new.self.course c.args.call live.0 (step_now c.self.inside.book c.args.self.now.book c.reserve.new.self c.args.call (ap book_in c.self.view_is) c.requires.left c.reserve.ensures.same live.0 live.1) in (
+      made_now (S c.args.call) c.self.inside.book c.args.self.now.book c.reserve.new.self c.ran.new.self (ap book_in c.self.view_is) c.reserve.ensures.same c.ran.ensures.made,
       λ m at. c.stepped_of.ensures ∙ ap (λ b. stepped (not b)) (sym
           (step_told c.reserve.new.self c.ran.new.self c.self.inside.store c.args.call live.0 c.step_task.new.running c.steps.result c.has_more.result k.stored
           (call_within c.reserve.new.self.script c.reserve.new.self.course c.self.inside.tasks.items c.args.call k.tasks live) live.1 c.ran.ensures.made (c.in_ok-step_task.ensures.ok live.0 live.1) first c.steps.ensures c.has_more.ensures.known c.has_more.ensures.unknown m at)),
     )
+
+pub returns-in_err-refuse_stale-clause-others : goal.returns-in_err-refuse_stale-clause-others
+returns-in_err-refuse_stale-clause-others c d ne = refl
+
+pub returns-in_err-reserve-clause-others : goal.returns-in_err-reserve-clause-others
+returns-in_err-reserve-clause-others c = others_kept c.args.call c.self.inside.tasks.items c.args.self.now (ap tasks_in c.self.view_is)
+
+pub returns-in_err-step_task-clause-others : goal.returns-in_err-step_task-clause-others
+returns-in_err-step_task-clause-others c = others_set c.args.call c.self.inside.tasks.items (Some c.step_task.new.running) c.args.self.now (ap tasks_in c.self.view_is)
+
+pub returns-clause-others : goal.returns-clause-others
+returns-clause-others c = others_set c.args.call c.self.inside.tasks.items (Some c.step_task.new.running) c.args.self.now (ap tasks_in c.self.view_is)
+
+pub returns-clause-one : goal.returns-clause-one
+returns-clause-one c =
+    let k = core_same c.self.inside.book c.reserve.new.self c.self.inside.store c.self.inside.tasks.items c.self.invariant c.reserve.ensures.same in
+    let live = live_now c.self.inside.book c.args.self.now.book c.reserve.new.self c.args.call (ap book_in c.self.view_is) c.requires.live c.reserve.ensures.same in
+    runs_one c.reserve.new.self.script c.reserve.new.self.course c.self.inside.tasks.items c.args.call c.index_mut.result.now c.in-Some.running c.step_task.new.running c.args.self.now c.ran.new.self
+    k.tasks live c.index_mut.ensures.value c.in-Some.is (ap tasks_in c.self.view_is) (c.reserve.ensures.same.course ∙ ap (λ (b : Booked). b.course) (ap book_in c.self.view_is))
+    c.in_ok-step_task.ensures.one c.in_ok-step_task.ensures.named
