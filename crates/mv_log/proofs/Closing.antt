@@ -1,5 +1,5 @@
 -- A log whose open statement is added to its records.
-use Rattle.std.proofs.Common.{◌≡◌, ◌≤◌, ◌<◌, ℕ, zero, suc, Option, None, Some, List, [], ◌∷◌, ◌++◌, length, take, drop, refl, sym, ap, subst, ◌∙◌, arith, length-append}
+use Rattle.std.proofs.Common.{◌≡◌, ◌≤◌, ◌+◌, ◌<◌, ℕ, zero, suc, Option, None, Some, List, [], ◌∷◌, ◌++◌, length, take, drop, refl, sym, ap, subst, ◌∙◌, arith, length-append}
 use Rattle.std.specs.Prelude.{map, slice_get}
 use Rattle.std.proofs.lemmas.List.{take_all, drop_all, map-append, take-append-le, drop-append-le}
 use Rattle.mv_values.specs.declared.pred.Pred.{Pred}
@@ -17,6 +17,9 @@ use Rattle.mv_log.specs.Heads.{blank, side_at, pred_of, record_with, record_at}
 use Rattle.mv_log.specs.Cutting.{side_between, head_between, HasNothing, HasSide}
 use Rattle.mv_log.specs.Logged.{Logged, no_effect}
 use Rattle.mv_log.specs.Expanding.{expanded, effect_from, closed_sizes, IsWhole}
+use Rattle.mv_log.specs.Sharing.{IsApart}
+use Rattle.mv_log.proofs.Lending.{heads_drop}
+use Rattle.mv_log.proofs.Sharing.{apart_bare, apart_more, apart_kept}
 use Rattle.mv_log.proofs.Growing.{AgreeTo, AreIn, heads_same, past_same, heads_more, sides_more, asked_more, up_to_same}
 
 -- Lists with one item more
@@ -124,8 +127,8 @@ closed p k n parent (Some i) s w =
     subst (λ (fs : List Side). expanded (closing p fs h) ≡ closing_view (expanded p) (new_record p n parent)) (ap (λ (x : Lists). x.sides) (sym s.0))
     (closing_is p es h (new_record p n parent) (take-append-le (length l.sides) l.sides (e ∷ []) (omega arith) ∙ take_all (length l.sides) l.sides (omega arith)) r w)
 
-closing_whole : (p : Inside) (es : List Side) (h : Head) → length p.lists.sides ≤ length es → SidesFit (marks_of p.lists) es → HeadFits (record { marks = marks_of p.lists; sides = length es }) h → IsWhole p → IsWhole (closing p es h)
-closing_whole p es h l f g w =
+closing_whole : (p : Inside) (es : List Side) (h : Head) → length p.lists.sides ≤ length es → SidesFit (marks_of p.lists) es → HeadFits (record { marks = marks_of p.lists; sides = length es }) h → IsApart es (p.heads ++ h ∷ []) (drop p.kept p.past) → IsWhole p → IsWhole (closing p es h)
+closing_whole p es h l f g a w =
     let m : Marks = marks_of p.lists in
     let s : Sizes = record { marks = m; sides = length es } in
     let i : AreIn (closed_sizes p) s = record { marks = w.from; sides = l } in
@@ -135,6 +138,7 @@ closing_whole p es h l f g w =
       sides = f;
       preds = asked_more p.from m p.lists.preds w.from w.preds;
       from = up_to_same m;
+      apart = a;
     }
 
 to_end_fits : (i n : ℕ) → i ≤ n → Fits n (record { from = i; to = n })
@@ -166,7 +170,7 @@ closed_whole p k n parent None s w =
     let l : Lists = p.lists in
     let h : Head = head_between p.from (marks_of l) n parent None in
     subst (λ (es : List Side). IsWhole (closing p es h)) (ap (λ (x : Lists). x.sides) (sym s.0))
-    (closing_whole p l.sides h (omega arith) (sides_more p.from (marks_of l) l.sides w.from w.sides) (new_fits p n (length l.sides) parent None tt w) w)
+    (closing_whole p l.sides h (omega arith) (sides_more p.from (marks_of l) l.sides w.from w.sides) (new_fits p n (length l.sides) parent None tt w) (apart_bare l.sides p.heads (drop p.kept p.past) h refl w.apart) w)
 closed_whole p k n parent (Some i) s w =
     let l : Lists = p.lists in
     let h : Head = head_between p.from (marks_of l) n parent (Some i) in
@@ -175,7 +179,7 @@ closed_whole p k n parent (Some i) s w =
     let longer : length l.sides ≤ length es = omega (arith, length-append l.sides (e ∷ [])) in
     let below : i < length es = omega (arith, s.1, length-append l.sides (e ∷ [])) in
     subst (λ (fs : List Side). IsWhole (closing p fs h)) (ap (λ (x : Lists). x.sides) (sym s.0))
-    (closing_whole p es h longer (sides_push (marks_of l) l.sides e (sides_more p.from (marks_of l) l.sides w.from w.sides) (between_fits p w)) (new_fits p n (length es) parent (Some i) below w) w)
+    (closing_whole p es h longer (sides_push (marks_of l) l.sides e (sides_more p.from (marks_of l) l.sides w.from w.sides) (between_fits p w)) (new_fits p n (length es) parent (Some i) below w) (apart_more p.from l.sides e p.heads (drop p.kept p.past) h i refl s.1 refl w.sides w.heads (heads_drop (closed_sizes p) p.kept p.past w.past) w.apart) w)
 
 -- A side that is taken back
 
@@ -225,6 +229,7 @@ asking_whole p t w =
       heads = heads_more (closed_sizes p) (record { marks = n; sides = length l.sides }) p.heads i w.heads;
       past = heads_more (closed_sizes p) (record { marks = n; sides = length l.sides }) p.past i w.past;
       sides = sides_more m n l.sides u w.sides;
+      apart = w.apart;
       preds = asked_push n l.preds a (asked_more m n l.preds u w.preds) (record { tests = to_end_fits m.tests (length l.tests) w.from.tests; columns = to_end_fits m.columns (length l.columns) w.from.columns });
       from = record { turns = w.from.turns; reads = w.from.reads; sets = w.from.sets; preds = omega (arith, w.from.preds, length-append l.preds (a ∷ [])); tests = omega arith; columns = omega arith; rows = w.from.rows; writes = w.from.writes; lines = w.from.lines; ends = w.from.ends };
     }
@@ -241,11 +246,11 @@ kept_head p n parent kept = record {
   side = kept.side;
 }
 
-abbrev pub adopting : Inside → ℕ → Option ℕ → Head → Inside
-adopting p n parent kept = let l = p.lists in let m = p.from in record p { heads = p.heads ++ kept_head p n parent kept ∷ []; from = record m { turns = length l.turns; reads = length l.reads } }
+abbrev pub adopting : Inside → ℕ → Option ℕ → ℕ → Head → Inside
+adopting p n parent old kept = let l = p.lists in let m = p.from in record p { heads = p.heads ++ kept_head p n parent kept ∷ []; from = record m { turns = length l.turns; reads = length l.reads }; kept = old + 1 }
 
-pub adopted : (p : Inside) (n : ℕ) (parent : Option ℕ) (kept : Head) (given : Record) → record_at p.lists kept ≡ given → expanded (adopting p n parent kept) ≡ (let was = expanded p in record was { records = was.records ++ record given { spot = record { statement = n; turns = was.turns }; parent = parent; reads = was.reads } ∷ []; turns = []; reads = [] })
-adopted p n parent kept given is =
+pub adopted : (p : Inside) (n : ℕ) (parent : Option ℕ) (old : ℕ) (kept : Head) (given : Record) → record_at p.lists kept ≡ given → expanded (adopting p n parent old kept) ≡ (let was = expanded p in record was { records = was.records ++ record given { spot = record { statement = n; turns = was.turns }; parent = parent; reads = was.reads } ∷ []; turns = []; reads = []; kept = old + 1 })
+adopted p n parent old kept given is =
     let l : Lists = p.lists in
     let m : Marks = p.from in
     let h : Head = kept_head p n parent kept in
@@ -259,8 +264,8 @@ adopted p n parent kept given is =
     let no_reads : drop (length l.reads) l.reads ≡ [] = none_after l.reads in
     rw heads (rw no_turns (rw no_reads refl))
 
-pub adopted_whole : (p : Inside) (n : ℕ) (parent : Option ℕ) (kept : Head) → HeadFits (closed_sizes p) kept → IsWhole p → IsWhole (adopting p n parent kept)
-adopted_whole p n parent kept f w =
+pub adopted_whole : (p : Inside) (n : ℕ) (parent : Option ℕ) (old : ℕ) (kept : Head) → p.kept ≤ old → slice_get p.past old ≡ Some kept → HeadFits (closed_sizes p) kept → IsWhole p → IsWhole (adopting p n parent old kept)
+adopted_whole p n parent old kept o at f w =
     let l : Lists = p.lists in
     let m : Marks = p.from in
     let t : Marks = record m { turns = length l.turns; reads = length l.reads } in
@@ -272,6 +277,7 @@ adopted_whole p n parent kept f w =
       past = heads_more (closed_sizes p) s p.past i w.past;
       sides = sides_more m t l.sides u w.sides;
       preds = asked_more m t l.preds u w.preds;
+      apart = apart_kept l.sides p.heads p.past p.kept old kept (kept_head p n parent kept) o at refl w.apart;
       from = record { turns = omega arith; reads = omega arith; sets = w.from.sets; preds = w.from.preds; tests = w.from.tests; columns = w.from.columns; rows = w.from.rows; writes = w.from.writes; lines = w.from.lines; ends = w.from.ends };
     }
 

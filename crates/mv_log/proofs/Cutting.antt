@@ -9,10 +9,11 @@ use Rattle.mv_log.specs.declared.log.Log.TheInside.{Inside}
 use Rattle.mv_log.specs.Fitting.{marks_of}
 use Rattle.mv_log.specs.Heads.{record_at}
 use Rattle.mv_log.specs.Cutting.{nothing, kept_to, unchanged_from, unasked_from}
-use Rattle.mv_log.specs.Logged.{no_effect, closed}
+use Rattle.mv_log.specs.Logged.{no_effect}
 use Rattle.mv_log.specs.Expanding.{expanded, closed_sizes, IsWhole}
 use Rattle.mv_log.proofs.Lending.{map_take, heads_take}
 use Rattle.mv_log.proofs.Sides.{asked_take}
+use Rattle.mv_log.proofs.Sharing.{apart_take}
 use Rattle.mv_log.proofs.Growing.{AgreeTo, heads_same, past_same, up_to_same}
 
 none_left : {X : Type 0} (n : ℕ) (xs : List X) → n ≤ length xs → drop n (take n xs) ≡ []
@@ -32,7 +33,7 @@ same_sides es = take_all (length es) es (omega arith)
 agree_kept : (p : Inside) → IsWhole p → AgreeTo p.from (kept_to p.from p.lists) p.lists
 agree_kept p w = let l : Lists = p.lists in let m : Marks = p.from in record { turns = cut_once m.turns l.turns; reads = cut_once m.reads l.reads; sets = cut_once m.sets l.sets; preds = cut_once m.preds l.preds; tests = cut_once m.tests l.tests; columns = cut_once m.columns l.columns; rows = cut_once m.rows l.rows; writes = cut_once m.writes l.writes; lines = cut_once m.lines l.lines; ends = cut_once m.ends l.ends; sides = same_sides l.sides }
 
-pub cut : (p : Inside) (n : ℕ) → IsWhole p → expanded (let l = p.lists in record p { heads = take n p.heads; lists = kept_to p.from l }) ≡ (let was = expanded p in closed (take n was.records) was.past)
+pub cut : (p : Inside) (n : ℕ) → IsWhole p → expanded (let l = p.lists in record p { heads = take n p.heads; lists = kept_to p.from l }) ≡ (let was = expanded p in record was { records = take n was.records; turns = []; reads = []; effect = no_effect; tests = []; columns = [] })
 cut p n w =
     let l : Lists = p.lists in
     let m : Marks = p.from in
@@ -59,6 +60,7 @@ cut_whole p n w =
       heads = heads_take (closed_sizes p) n p.heads w.heads;
       past = w.past;
       sides = w.sides;
+      apart = apart_take p.lists.sides p.heads (drop p.kept p.past) n w.apart;
       preds = asked_take p.from p.from.preds l.preds w.preds;
       from = record { turns = still_within p.from.turns l.turns w.from.turns; reads = still_within p.from.reads l.reads w.from.reads; sets = still_within p.from.sets l.sets w.from.sets; preds = still_within p.from.preds l.preds w.from.preds; tests = still_within p.from.tests l.tests w.from.tests; columns = still_within p.from.columns l.columns w.from.columns; rows = still_within p.from.rows l.rows w.from.rows; writes = still_within p.from.writes l.writes w.from.writes; lines = still_within p.from.lines l.lines w.from.lines; ends = still_within p.from.ends l.ends w.from.ends };
     }
@@ -86,7 +88,7 @@ unchanged p w =
 pub unchanged_whole : (p : Inside) → IsWhole p → IsWhole (let l = p.lists in record p { lists = unchanged_from p.from l })
 unchanged_whole p w =
     let l : Lists = p.lists in
-    record { heads = w.heads; past = w.past; sides = w.sides; preds = w.preds; from = record { turns = w.from.turns; reads = w.from.reads; sets = still_within p.from.sets l.sets w.from.sets; preds = w.from.preds; tests = w.from.tests; columns = w.from.columns; rows = still_within p.from.rows l.rows w.from.rows; writes = still_within p.from.writes l.writes w.from.writes; lines = still_within p.from.lines l.lines w.from.lines; ends = still_within p.from.ends l.ends w.from.ends } }
+    record { heads = w.heads; past = w.past; sides = w.sides; preds = w.preds; apart = w.apart; from = record { turns = w.from.turns; reads = w.from.reads; sets = still_within p.from.sets l.sets w.from.sets; preds = w.from.preds; tests = w.from.tests; columns = w.from.columns; rows = still_within p.from.rows l.rows w.from.rows; writes = still_within p.from.writes l.writes w.from.writes; lines = still_within p.from.lines l.lines w.from.lines; ends = still_within p.from.ends l.ends w.from.ends } }
 
 -- The effect
 
@@ -118,17 +120,18 @@ dropped_whole p w =
       heads = w.heads;
       past = w.past;
       sides = w.sides;
+      apart = w.apart;
       preds = asked_take p.from p.from.preds l.preds w.preds;
       from = record { turns = w.from.turns; reads = w.from.reads; sets = still_within p.from.sets l.sets w.from.sets; preds = still_within p.from.preds l.preds w.from.preds; tests = still_within p.from.tests l.tests w.from.tests; columns = still_within p.from.columns l.columns w.from.columns; rows = still_within p.from.rows l.rows w.from.rows; writes = still_within p.from.writes l.writes w.from.writes; lines = still_within p.from.lines l.lines w.from.lines; ends = still_within p.from.ends l.ends w.from.ends };
     }
 
 -- An empty log, and a run that is repaired
 
-pub empty_whole : IsWhole (record { heads = []; past = []; lists = nothing; from = marks_of nothing })
-empty_whole = record { heads = tt; past = tt; sides = tt; preds = tt; from = up_to_same (marks_of nothing) }
+pub empty_whole : IsWhole (record { heads = []; past = []; kept = 0; lists = nothing; from = marks_of nothing })
+empty_whole = record { heads = tt; past = tt; sides = tt; preds = tt; from = up_to_same (marks_of nothing); apart = record { once = λ s. omega arith; sides = tt } }
 
-pub repaired_whole : (p : Inside) → IsWhole p → IsWhole (let hs = p.heads in record p { heads = []; past = hs })
-repaired_whole p w = record { heads = tt; past = w.heads; sides = w.sides; preds = w.preds; from = w.from }
+pub repaired_whole : (p : Inside) → IsWhole p → IsWhole (let hs = p.heads in record p { heads = []; past = hs; kept = 0 })
+repaired_whole p w = record { heads = tt; past = w.heads; sides = w.sides; preds = w.preds; from = w.from; apart = record { once = λ s. omega (arith, w.apart.once s); sides = w.apart.sides } }
 
-pub ended_whole : (p : Inside) → IsWhole p → IsWhole (record p { past = [] })
-ended_whole p w = record { heads = w.heads; past = tt; sides = w.sides; preds = w.preds; from = w.from }
+pub ended_whole : (p : Inside) → IsWhole p → IsWhole (record p { past = []; kept = 0 })
+ended_whole p w = record { heads = w.heads; past = tt; sides = w.sides; preds = w.preds; from = w.from; apart = record { once = λ s. omega (arith, w.apart.once s); sides = w.apart.sides } }

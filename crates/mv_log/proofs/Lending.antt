@@ -1,5 +1,5 @@
 -- Heads, records and predicates at a place.
-use Rattle.std.proofs.Common.{◌≡◌, ◌<◌, ℕ, zero, suc, List, [], ◌∷◌, Option, Some, length, take, get_or, refl, ap, arith}
+use Rattle.std.proofs.Common.{◌≡◌, ◌<◌, ℕ, zero, suc, List, [], ◌∷◌, Option, Some, length, take, drop, get_or, refl, ap, arith}
 use Rattle.std.specs.Prelude.{map, slice_get}
 use Rattle.mv_log.specs.declared.head.Head.{Head}
 use Rattle.mv_log.specs.declared.head.Asked.{Asked}
@@ -33,6 +33,11 @@ heads_take s zero hs f = tt
 heads_take s (suc n) [] f = tt
 heads_take s (suc n) (h ∷ hs) f = (f.0, heads_take s n hs f.1)
 
+pub heads_drop : (s : Sizes) (n : ℕ) (hs : List Head) → HeadsFit s hs → HeadsFit s (drop n hs)
+heads_drop s zero hs f = f
+heads_drop s (suc n) [] f = tt
+heads_drop s (suc n) (h ∷ hs) f = heads_drop s n hs f.1
+
 pub head_fits : (s : Sizes) (hs : List Head) (i : ℕ) (d : Head) → i < length hs → HeadsFit s hs → HeadFits s (get_or hs i d)
 head_fits s [] i d l f = let no : ⊥ = omega arith in absurd no
 head_fits s (h ∷ hs) zero d l f = f.0
@@ -42,3 +47,7 @@ pub asked_at : (m : Marks) (qs : List Asked) (i : ℕ) (d : Asked) → i < lengt
 asked_at m [] i d l f = let no : ⊥ = omega arith in absurd no
 asked_at m (a ∷ qs) zero d l f = f.0
 asked_at m (a ∷ qs) (suc i) d l f = asked_at m qs i d (omega arith) f.1
+
+pub no_items : {X Y : Type 0} (f : X → Y) (xs : List X) → map f xs ≡ [] → xs ≡ []
+no_items f [] e = refl
+no_items f (x ∷ xs) e = cc

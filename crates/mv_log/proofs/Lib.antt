@@ -3,5 +3,7 @@ pub mod Sides
 pub mod Lending
 pub mod Growing
 pub mod Pushing
+pub mod Sharing
 pub mod Closing
 pub mod Cutting
+pub mod Taking

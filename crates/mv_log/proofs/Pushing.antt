@@ -41,7 +41,7 @@ more_turns p more w =
 pub whole_turns : (p : Inside) (more : List ℕ) → IsWhole p → IsWhole (let l = p.lists in record p { lists = record l { turns = l.turns ++ more } })
 whole_turns p more w =
     let l : Lists = p.lists in
-    record { heads = w.heads; past = w.past; sides = w.sides; preds = w.preds; from = record { turns = longer l.turns (more) p.from.turns w.from.turns; reads = w.from.reads; sets = w.from.sets; preds = w.from.preds; tests = w.from.tests; columns = w.from.columns; rows = w.from.rows; writes = w.from.writes; lines = w.from.lines; ends = w.from.ends } }
+    record { heads = w.heads; past = w.past; sides = w.sides; preds = w.preds; apart = w.apart; from = record { turns = longer l.turns (more) p.from.turns w.from.turns; reads = w.from.reads; sets = w.from.sets; preds = w.from.preds; tests = w.from.tests; columns = w.from.columns; rows = w.from.rows; writes = w.from.writes; lines = w.from.lines; ends = w.from.ends } }
 
 -- reads
 
@@ -61,7 +61,7 @@ more_reads p more w =
 pub whole_reads : (p : Inside) (more : List Read) → IsWhole p → IsWhole (let l = p.lists in record p { lists = record l { reads = l.reads ++ more } })
 whole_reads p more w =
     let l : Lists = p.lists in
-    record { heads = w.heads; past = w.past; sides = w.sides; preds = w.preds; from = record { turns = w.from.turns; reads = longer l.reads (more) p.from.reads w.from.reads; sets = w.from.sets; preds = w.from.preds; tests = w.from.tests; columns = w.from.columns; rows = w.from.rows; writes = w.from.writes; lines = w.from.lines; ends = w.from.ends } }
+    record { heads = w.heads; past = w.past; sides = w.sides; preds = w.preds; apart = w.apart; from = record { turns = w.from.turns; reads = longer l.reads (more) p.from.reads w.from.reads; sets = w.from.sets; preds = w.from.preds; tests = w.from.tests; columns = w.from.columns; rows = w.from.rows; writes = w.from.writes; lines = w.from.lines; ends = w.from.ends } }
 
 -- tests
 
@@ -82,7 +82,7 @@ more_tests p more w =
 pub whole_tests : (p : Inside) (more : List Test) → IsWhole p → IsWhole (let l = p.lists in record p { lists = record l { tests = l.tests ++ more } })
 whole_tests p more w =
     let l : Lists = p.lists in
-    record { heads = w.heads; past = w.past; sides = w.sides; preds = w.preds; from = record { turns = w.from.turns; reads = w.from.reads; sets = w.from.sets; preds = w.from.preds; tests = longer l.tests (more) p.from.tests w.from.tests; columns = w.from.columns; rows = w.from.rows; writes = w.from.writes; lines = w.from.lines; ends = w.from.ends } }
+    record { heads = w.heads; past = w.past; sides = w.sides; preds = w.preds; apart = w.apart; from = record { turns = w.from.turns; reads = w.from.reads; sets = w.from.sets; preds = w.from.preds; tests = longer l.tests (more) p.from.tests w.from.tests; columns = w.from.columns; rows = w.from.rows; writes = w.from.writes; lines = w.from.lines; ends = w.from.ends } }
 
 -- columns
 
@@ -103,7 +103,7 @@ more_columns p more w =
 pub whole_columns : (p : Inside) (more : List ℕ) → IsWhole p → IsWhole (let l = p.lists in record p { lists = record l { columns = l.columns ++ more } })
 whole_columns p more w =
     let l : Lists = p.lists in
-    record { heads = w.heads; past = w.past; sides = w.sides; preds = w.preds; from = record { turns = w.from.turns; reads = w.from.reads; sets = w.from.sets; preds = w.from.preds; tests = w.from.tests; columns = longer l.columns (more) p.from.columns w.from.columns; rows = w.from.rows; writes = w.from.writes; lines = w.from.lines; ends = w.from.ends } }
+    record { heads = w.heads; past = w.past; sides = w.sides; preds = w.preds; apart = w.apart; from = record { turns = w.from.turns; reads = w.from.reads; sets = w.from.sets; preds = w.from.preds; tests = w.from.tests; columns = longer l.columns (more) p.from.columns w.from.columns; rows = w.from.rows; writes = w.from.writes; lines = w.from.lines; ends = w.from.ends } }
 
 -- sets
 
@@ -123,7 +123,7 @@ more_sets p more w =
 pub whole_sets : (p : Inside) (more : List Slot) → IsWhole p → IsWhole (let l = p.lists in record p { lists = record l { sets = l.sets ++ more } })
 whole_sets p more w =
     let l : Lists = p.lists in
-    record { heads = w.heads; past = w.past; sides = w.sides; preds = w.preds; from = record { turns = w.from.turns; reads = w.from.reads; sets = longer l.sets (more) p.from.sets w.from.sets; preds = w.from.preds; tests = w.from.tests; columns = w.from.columns; rows = w.from.rows; writes = w.from.writes; lines = w.from.lines; ends = w.from.ends } }
+    record { heads = w.heads; past = w.past; sides = w.sides; preds = w.preds; apart = w.apart; from = record { turns = w.from.turns; reads = w.from.reads; sets = longer l.sets (more) p.from.sets w.from.sets; preds = w.from.preds; tests = w.from.tests; columns = w.from.columns; rows = w.from.rows; writes = w.from.writes; lines = w.from.lines; ends = w.from.ends } }
 
 -- rows
 
@@ -143,7 +143,7 @@ more_rows p more w =
 pub whole_rows : (p : Inside) (more : List (List Value)) → IsWhole p → IsWhole (let l = p.lists in record p { lists = record l { rows = l.rows ++ more } })
 whole_rows p more w =
     let l : Lists = p.lists in
-    record { heads = w.heads; past = w.past; sides = w.sides; preds = w.preds; from = record { turns = w.from.turns; reads = w.from.reads; sets = w.from.sets; preds = w.from.preds; tests = w.from.tests; columns = w.from.columns; rows = longer l.rows (more) p.from.rows w.from.rows; writes = w.from.writes; lines = w.from.lines; ends = w.from.ends } }
+    record { heads = w.heads; past = w.past; sides = w.sides; preds = w.preds; apart = w.apart; from = record { turns = w.from.turns; reads = w.from.reads; sets = w.from.sets; preds = w.from.preds; tests = w.from.tests; columns = w.from.columns; rows = longer l.rows (more) p.from.rows w.from.rows; writes = w.from.writes; lines = w.from.lines; ends = w.from.ends } }
 
 -- writes
 
@@ -163,7 +163,7 @@ more_writes p more w =
 pub whole_writes : (p : Inside) (more : List Write) → IsWhole p → IsWhole (let l = p.lists in record p { lists = record l { writes = l.writes ++ more } })
 whole_writes p more w =
     let l : Lists = p.lists in
-    record { heads = w.heads; past = w.past; sides = w.sides; preds = w.preds; from = record { turns = w.from.turns; reads = w.from.reads; sets = w.from.sets; preds = w.from.preds; tests = w.from.tests; columns = w.from.columns; rows = w.from.rows; writes = longer l.writes (more) p.from.writes w.from.writes; lines = w.from.lines; ends = w.from.ends } }
+    record { heads = w.heads; past = w.past; sides = w.sides; preds = w.preds; apart = w.apart; from = record { turns = w.from.turns; reads = w.from.reads; sets = w.from.sets; preds = w.from.preds; tests = w.from.tests; columns = w.from.columns; rows = w.from.rows; writes = longer l.writes (more) p.from.writes w.from.writes; lines = w.from.lines; ends = w.from.ends } }
 
 -- lines
 
@@ -184,7 +184,7 @@ more_lines p x w h =
 pub whole_lines : (p : Inside) (x : List ℕ) → IsWhole p → IsWhole (let l = p.lists in record p { lists = record l { lines = l.lines ++ x ∷ [] } })
 whole_lines p x w =
     let l : Lists = p.lists in
-    record { heads = w.heads; past = w.past; sides = w.sides; preds = w.preds; from = record { turns = w.from.turns; reads = w.from.reads; sets = w.from.sets; preds = w.from.preds; tests = w.from.tests; columns = w.from.columns; rows = w.from.rows; writes = w.from.writes; lines = longer l.lines (x ∷ []) p.from.lines w.from.lines; ends = w.from.ends } }
+    record { heads = w.heads; past = w.past; sides = w.sides; preds = w.preds; apart = w.apart; from = record { turns = w.from.turns; reads = w.from.reads; sets = w.from.sets; preds = w.from.preds; tests = w.from.tests; columns = w.from.columns; rows = w.from.rows; writes = w.from.writes; lines = longer l.lines (x ∷ []) p.from.lines w.from.lines; ends = w.from.ends } }
 
 -- ends
 
@@ -205,4 +205,4 @@ more_ends p x w h =
 pub whole_ends : (p : Inside) (x : End) → IsWhole p → IsWhole (let l = p.lists in record p { lists = record l { ends = l.ends ++ x ∷ [] } })
 whole_ends p x w =
     let l : Lists = p.lists in
-    record { heads = w.heads; past = w.past; sides = w.sides; preds = w.preds; from = record { turns = w.from.turns; reads = w.from.reads; sets = w.from.sets; preds = w.from.preds; tests = w.from.tests; columns = w.from.columns; rows = w.from.rows; writes = w.from.writes; lines = w.from.lines; ends = longer l.ends (x ∷ []) p.from.ends w.from.ends } }
+    record { heads = w.heads; past = w.past; sides = w.sides; preds = w.preds; apart = w.apart; from = record { turns = w.from.turns; reads = w.from.reads; sets = w.from.sets; preds = w.from.preds; tests = w.from.tests; columns = w.from.columns; rows = w.from.rows; writes = w.from.writes; lines = w.from.lines; ends = longer l.ends (x ∷ []) p.from.ends w.from.ends } }

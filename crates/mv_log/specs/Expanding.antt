@@ -8,6 +8,7 @@ use Rattle.mv_log.specs.Parts.{first_of}
 use Rattle.mv_log.specs.Fitting.{Sizes, marks_of, HeadsFit, SidesFit, AskedFit, AreUpTo}
 use Rattle.mv_log.specs.Heads.{pred_of, record_at}
 use Rattle.mv_log.specs.Logged.{Logged}
+use Rattle.mv_log.specs.Sharing.{IsApart}
 
 -- the effect whose parts begin at these marks
 abbrev pub effect_from : Marks → Lists → Effect
@@ -24,6 +25,7 @@ abbrev pub expanded : Inside → Logged
 expanded p = record {
   records = map (record_at p.lists) p.heads;
   past = map (record_at p.lists) p.past;
+  kept = p.kept;
   turns = drop p.from.turns p.lists.turns;
   reads = drop p.from.reads p.lists.reads;
   effect = effect_from p.from p.lists;
@@ -35,10 +37,11 @@ expanded p = record {
 abbrev pub closed_sizes : Inside → Sizes
 closed_sizes p = record { marks = p.from; sides = length p.lists.sides }
 
--- heads, sides and predicates have their parts before the open statement
+-- heads, sides and predicates have their parts before the open statement, and no side is shared
 pub record IsWhole (p : Inside) : Type 0 where
   pub heads : HeadsFit (closed_sizes p) p.heads
   pub past : HeadsFit (closed_sizes p) p.past
   pub sides : SidesFit p.from p.lists.sides
   pub preds : AskedFit p.from p.lists.preds
   pub from : AreUpTo p.from (marks_of p.lists)
+  pub apart : IsApart p.lists.sides p.heads (drop p.kept p.past)

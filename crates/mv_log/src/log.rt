@@ -1,11 +1,11 @@
 //! The records of a running call.
 
-ghost use Rattle.std.specs.Prelude.{◌≡◌, ◌<◌, ◌≤◌, [], ◌∷◌, ◌++◌, Some, None, length, OnOk, OnErr, take, drop, map, slice_get};
+ghost use Rattle.std.specs.Prelude.{◌≡◌, ◌<◌, ◌≤◌, ◌+◌, [], ◌∷◌, ◌++◌, Some, None, length, OnOk, OnErr, take, drop, map, slice_get, slice_set};
 ghost use Rattle.mv_record.specs.declared.record.Record.{Record};
 ghost use Rattle.mv_record.specs.Effects.{record_of};
 ghost use Rattle.mv_log.specs.Fitting.{marks_of, AskedFit};
 ghost use Rattle.mv_log.specs.Heads.{pred_of};
-ghost use Rattle.mv_log.specs.Logged.{no_effect, closed};
+ghost use Rattle.mv_log.specs.Logged.{no_effect, empty};
 ghost use Rattle.mv_log.specs.Cutting.{head_between};
 
 use crate::flat::Flat;
@@ -32,6 +32,8 @@ use std::mem;
 pub struct Log {
     heads: Flat<Head>,
     past: Flat<Head>,
+    /// The past records from this number on may still be kept.
+    kept: usize,
     lists: Lists,
     /// Where the items of the open statement begin.
     from: Marks,
@@ -56,6 +58,14 @@ fn head_at(heads: &[Head], at: u32) -> Head
     ensures { slice_get heads.now at ≡ Some result }
 {
     heads[at as usize]
+}
+
+/// Returns the place of an item of a part.
+fn place_in(range: Range, at: u32) -> u32
+    requires { range.from + at < range.to }
+    ensures { result ≡ range.from + at }
+{
+    range.from + at
 }
 
 /// Returns the head of a statement whose items stand between these marks.
@@ -105,11 +115,12 @@ impl Log {
     /// Returns an empty log. It allocates nothing.
     #[tactic(auto, using(crate::proofs::Cutting::empty_whole))]
     pub fn new(alloc: Global) -> Log
-        ensures { result ≡ closed [] [] }
+        ensures { result ≡ empty }
     {
         Log {
             heads: Flat::new(alloc),
             past: Flat::new(alloc),
+            kept: 0,
             lists: Lists::new(alloc),
             from: start(),
         }
@@ -118,10 +129,11 @@ impl Log {
     /// Forgets all records. All room is kept.
     #[tactic(auto, using(crate::proofs::Cutting::empty_whole))]
     pub fn clear(&mut self)
-        ensures { self.new ≡ closed [] [] }
+        ensures { self.new ≡ empty }
     {
         self.heads.truncate(0);
         self.past.truncate(0);
+        self.kept = 0;
         self.lists.clear();
         self.from = start();
     }
@@ -148,6 +160,13 @@ impl Log {
         ensures { result ≡ self.now.past }
     {
         Records::of(self.past.as_slice(), &self.lists)
+    }
+
+    /// Returns the number from which on past records may still be kept.
+    pub fn kept(&self) -> usize
+        ensures { result ≡ self.now.kept }
+    {
+        self.kept
     }
 
     /// Lends the predicates of the open effect.
@@ -313,11 +332,12 @@ impl Log {
     }
 
     /// Adds a record of the run before the repair, with the position, controller and reads of the open statement. It
-    /// names the items of the old record, and moves none. On `NoMemory` the log is unchanged.
+    /// names the items of the old record, and moves none. Old records are kept in their order. On `NoMemory` the log is unchanged.
     #[tactic(auto, using(crate::proofs::Closing::adopted, crate::proofs::Closing::adopted_whole))]
     pub fn adopt(&mut self, old: u32, statement: u16, parent: Option<u32>) -> Result<(), NoMemory>
-        requires { old < length self.old.past }
-        ensures ok { OnOk result ((given : Record) → slice_get self.old.past old ≡ Some given → self.new ≡ (let was = self.old in record was { records = was.records ++ record given { spot = record { statement = statement; turns = was.turns }; parent = parent; reads = was.reads } ∷ []; turns = []; reads = [] })) }
+        requires within { old < length self.old.past }
+        requires rises { self.old.kept ≤ old }
+        ensures ok { OnOk result ((given : Record) → slice_get self.old.past old ≡ Some given → self.new ≡ (let was = self.old in record was { records = was.records ++ record given { spot = record { statement = statement; turns = was.turns }; parent = parent; reads = was.reads } ∷ []; turns = []; reads = []; kept = old + 1 })) }
         ensures err { OnErr result (self.new ≡ self.old) }
     {
         let kept = head_at(self.past.as_slice(), old);
@@ -339,6 +359,7 @@ impl Log {
         })?;
         self.from.turns = turns.to;
         self.from.reads = reads.to;
+        self.kept = old as usize + 1;
         Ok(())
     }
 
@@ -346,7 +367,7 @@ impl Log {
     /// of dropped records is used again after `clear`.
     #[tactic(auto, using(crate::proofs::Cutting::cut, crate::proofs::Cutting::cut_whole))]
     pub fn truncate(&mut self, len: u32)
-        ensures { self.new ≡ closed (take len self.old.records) self.old.past }
+        ensures { self.new ≡ (let was = self.old in record was { records = take len was.records; turns = []; reads = []; effect = no_effect; tests = []; columns = [] }) }
     {
         self.heads.truncate(len);
         self.lists.keep_to(self.from);
@@ -356,17 +377,32 @@ impl Log {
     /// record.
     #[tactic(auto, using(crate::proofs::Cutting::repaired_whole))]
     pub fn begin_repair(&mut self)
-        ensures { self.new ≡ (let was = self.old in record was { records = []; past = was.records }) }
+        ensures { self.new ≡ (let was = self.old in record was { records = []; past = was.records; kept = 0 }) }
     {
         self.past.truncate(0);
+        self.kept = 0;
         mem::swap(&mut self.heads, &mut self.past);
     }
 
     /// Forgets the records of the run before the repair.
     #[tactic(auto, using(crate::proofs::Cutting::ended_whole))]
     pub fn end_repair(&mut self)
-        ensures { self.new ≡ (let was = self.old in record was { past = [] }) }
+        ensures { self.new ≡ (let was = self.old in record was { past = []; kept = 0 }) }
     {
         self.past.truncate(0);
+        self.kept = 0;
+    }
+
+    /// Moves a write of a record out, and leaves another one in its place. There may be no past records.
+    pub fn take_write(&mut self, number: u32, at: u32, blank: Write) -> Write
+        requires ended { self.old.past ≡ [] }
+        requires within { number < length self.old.records }
+        requires there { (given : Record) → slice_get self.old.records number ≡ Some given → at < length given.writes }
+        ensures taken { (given : Record) → slice_get self.old.records number ≡ Some given → slice_get given.writes at ≡ Some result }
+        ensures others { (given : Record) → slice_get self.old.records number ≡ Some given → self.new ≡ (let was = self.old in record was { records = slice_set was.records number (record given { writes = slice_set given.writes at blank }) }) }
+    {
+        let head = head_at(self.heads.as_slice(), number);
+        let side = self.lists.side(head.side);
+        self.lists.writes.replace(place_in(side.writes, at), blank)
     }
 }
