@@ -1,4 +1,4 @@
-# shellcheck shell=sh disable=SC2034,SC2154,SC3013
+# shellcheck shell=sh disable=SC2034,SC2154,SC3013,SC3045
 # What ./mv3c, .ci/run and .ci/release share: which sources a program is made of, whether a build or the release is of
 # these very sources, and how it is built. A script reads it by '.' once it has set $top to the repository's folder.
 #
@@ -139,6 +139,15 @@ tune_memory() {
     export GLIBC_TUNABLES="${GLIBC_TUNABLES-glibc.malloc.tcache_count=256:glibc.malloc.hugetlb=1:glibc.malloc.top_pad=16777216}"
 }
 
+# Gives each stack of mv3c 16 MiB, in which every accepted script fits: that of the main thread, and those of the workers,
+# which take over its bound. Where the system allows less, they are as large as they may be.
+set_stack() {
+    ulimit -S -s 16384 2>/dev/null && return
+    most=$(ulimit -H -s)
+    ulimit -S -s "$most"
+    echo "mv3c: a stack has at most $most KiB here (ulimit -H -s). A script that needs more, up to 16384 KiB, ends with 139." >&2
+}
+
 # Runs a program: the build of these sources, or the release of these sources, or what is built now.
 start() { # NAME WORDS..
     find_sources "$1" || exit 70
@@ -150,6 +159,7 @@ start() { # NAME WORDS..
         build "$1" || exit 70
         program=$top/crates/$1/out/$1
     fi
+    [ "$1" != mv3c ] || set_stack
     shift
     tune_memory
     exec "$program" "$@"
