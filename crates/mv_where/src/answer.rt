@@ -3,10 +3,10 @@
 ghost use Rattle.std.specs.Prelude.{◌≡◌, [], IsFalse, IfOk};
 ghost use Rattle.mv_where.specs.Refusal.{is_refusal};
 
-use crate::blocks::{block_of, rows_start, values_row};
+use crate::blocks::{block_of, call_of, journal_of, rows_end, rows_start, values_row};
 use crate::place::{column, first_line, line_around, line_number};
-use crate::records::record_at;
-use crate::refusal::{Target, is_refusal, target_of};
+use crate::records::{field_at, record_at};
+use crate::refusal::{Target, is_refusal, number_in, refusal_in};
 use itoa::Buffer;
 use mv_lex::lexer::{LexFault, lex};
 use mv_lex::token::{Kind, Token};
@@ -18,89 +18,107 @@ use std::str;
 /// The most bytes that a script has.
 const MOST: usize = 16_777_216;
 
-/// Returns the places in a script that the refusal in a text names, each with its line and a caret. Returns an empty
-/// text if the text isn't a refusal or names no place. `name` is the name of the script's file.
+/// The most bytes of a line that are shown on each side of a place.
+const AROUND: usize = 200;
+
+/// The most lines of a block that are noted.
+const NOTED: u32 = 5;
+
+/// Returns the places in a script that the refusal in a text names, each with its line and a caret, and what the refusal
+/// means there. Returns an empty text if the text isn't a refusal or names no place. `name` is the name of the script's
+/// file.
 pub fn answer(alloc: Global, name: &[u8], script: &[u8], text: &[u8]) -> Result<List<u8>, NoMemory>
     ensures { IsFalse (is_refusal text.now) → IfOk result (λ places. places ≡ []) }
 {
+    if !is_refusal(text) {
+        return Ok(List::new(alloc));
+    }
+    let tokens = tokens_of(alloc, script)?;
     let mut places = Places {
+        alloc,
         name,
         script,
+        tokens: tokens.as_slice(),
         text: List::new(alloc),
     };
-    if !is_refusal(text) {
-        return Ok(places.text);
-    }
-    let Ok(line) = str::from_utf8(first_line(text)) else {
-        return Ok(places.text);
-    };
-    let Some(target) = target_of(line) else {
-        return Ok(places.text);
-    };
-    if let Target::Byte(at) = target {
-        places.show(at as usize)?;
-        return Ok(places.text);
-    }
-    if script.len() > MOST {
-        return Ok(places.text);
-    }
-    match lex(alloc, script) {
-        Ok(tokens) => places.show_target(tokens.as_slice(), target)?,
-        Err(LexFault::NoMemory) => return Err(NoMemory),
-        Err(_) => {}
+    if let Ok(line) = str::from_utf8(first_line(text)) {
+        places.tell(line)?;
     }
     Ok(places.text)
 }
 
+/// Returns the tokens of a script, or none if it isn't one.
+fn tokens_of(alloc: Global, script: &[u8]) -> Result<List<Token>, NoMemory> {
+    if script.len() > MOST {
+        return Ok(List::new(alloc));
+    }
+    match lex(alloc, script) {
+        Ok(tokens) => Ok(tokens),
+        Err(LexFault::NoMemory) => Err(NoMemory),
+        Err(_) => Ok(List::new(alloc)),
+    }
+}
+
 /// A script, and the text of places in it.
 #[derive(Drop)]
-struct Places<'a> {
+pub(crate) struct Places<'a> {
+    pub(crate) alloc: Global,
     name: &'a [u8],
-    script: &'a [u8],
-    text: List<u8>,
+    pub(crate) script: &'a [u8],
+    pub(crate) tokens: &'a [Token],
+    pub(crate) text: List<u8>,
 }
 
 impl Places<'_> {
-    fn show_target(&mut self, tokens: &[Token], target: Target<'_>) -> Result<(), NoMemory> {
-        match target {
-            Target::Byte(at) => self.show(at as usize),
-            Target::Token(number) => self.show_token(tokens, number),
-            Target::Row { table, row } => self.show_row(tokens, table.as_bytes(), row),
-            Target::OpenBlock => match tokens.last() {
-                Some(block) if block.kind == Kind::OpenBlock => {
-                    self.show(block.at as usize)?;
-                    self.note_lines(block)
-                }
-                _ => Ok(()),
-            },
+    /// Adds the places that the line of a refusal names, and what it means.
+    fn tell(&mut self, line: &str) -> Result<(), NoMemory> {
+        let Some(refusal) = refusal_in(line) else {
+            return Ok(());
+        };
+        match refusal.target {
+            Target::All if self.script.len() > MOST => return self.say(refusal),
+            Target::All => {}
+            Target::Byte(at) => self.show(at as usize)?,
+            Target::Token(number) => self.show_token(number)?,
+            Target::Row { table, row, column } => self.show_row(table.as_bytes(), row, column)?,
+            Target::OpenBlock => self.show_open_block()?,
+            Target::Line(number) => self.show_event(
+                number,
+                refusal.number == 17 || refusal.number == 18,
+            )?,
+            Target::Call(number) => self.show_call(number)?,
         }
+        if self.text.as_slice().is_empty() {
+            return Ok(());
+        }
+        self.say(refusal)
     }
 
     /// Shows the token with this number, or the end of the script if the number is past the last token.
-    fn show_token(&mut self, tokens: &[Token], number: u32) -> Result<(), NoMemory> {
-        match tokens.get((number as usize).saturating_sub(1)) {
+    fn show_token(&mut self, number: u32) -> Result<(), NoMemory> {
+        match self.tokens.get((number as usize).saturating_sub(1)) {
             Some(token) => self.show(token.at as usize),
-            None => self.show(match tokens.last() {
-                Some(token) => token.at as usize + token.len as usize,
+            None => self.show(match self.tokens.last() {
+                Some(token) => (token.at as usize).saturating_add(token.len as usize),
                 None => self.script.len(),
             }),
         }
     }
 
     /// Shows the row with this number of the VALUES and of each copy of a table.
-    fn show_row(&mut self, tokens: &[Token], table: &[u8], row: u32) -> Result<(), NoMemory> {
+    fn show_row(&mut self, table: &[u8], row: u32, column: u32) -> Result<(), NoMemory> {
+        let (script, tokens) = (self.script, self.tokens);
         for at in 0..tokens.len() {
             let from = &tokens[at..];
-            if let Some(bracket) = values_row(self.script, from, table, row) {
+            if let Some(bracket) = values_row(script, from, table, row) {
                 self.show(bracket.at as usize)?;
             }
-            if let Some(block) = block_of(self.script, from, table) {
-                let begin = rows_start(self.script, block);
-                let end = (block.at as usize + block.len as usize)
-                    .min(self.script.len())
-                    .max(begin);
-                if let Some(place) = record_at(&self.script[begin..end], row) {
-                    self.show(begin + place)?;
+            if let Some(block) = block_of(script, from, table) {
+                let begin = rows_start(script, block);
+                let rows = &script[begin..rows_end(script, block).max(begin)];
+                if let Some(place) = record_at(rows, row) {
+                    let field = field_at(&rows[place..], column);
+                    self.show(begin.saturating_add(place).saturating_add(field))?;
                     self.note_lines(block)?;
                 }
             }
@@ -108,16 +126,68 @@ impl Places<'_> {
         Ok(())
     }
 
-    /// Notes the lines of a block that look like the start of a copy, or like an end with something beside it.
+    fn show_open_block(&mut self) -> Result<(), NoMemory> {
+        match self.tokens.last() {
+            Some(block) if block.kind == Kind::OpenBlock => {
+                self.show(block.at as usize)?;
+                self.note_lines(block)
+            }
+            _ => Ok(()),
+        }
+    }
+
+    /// Shows a line of the journal, and the CALL that it names if that is asked for.
+    fn show_event(&mut self, number: u32, with_call: bool) -> Result<(), NoMemory> {
+        let script = self.script;
+        let Some(block) = journal_of(script, self.tokens) else {
+            return Ok(());
+        };
+        let mut at = rows_start(script, block);
+        let lines = &script[at..rows_end(script, block).max(at)];
+        for (index, line) in lines.split(|byte| *byte == b'\n').enumerate() {
+            if index == (number as usize).saturating_sub(1) {
+                self.show(at)?;
+                if with_call {
+                    self.show_call_of(line)?;
+                }
+                return Ok(());
+            }
+            at = at.saturating_add(line.len()).saturating_add(1);
+        }
+        Ok(())
+    }
+
+    /// Shows the CALL of an event.
+    fn show_call_of(&mut self, event: &[u8]) -> Result<(), NoMemory> {
+        let Ok(line) = str::from_utf8(event.trim_ascii()) else {
+            return Ok(());
+        };
+        match line.split_once(' ') {
+            Some((_, digits)) => match number_in(digits) {
+                Some(number) => self.show_call(number),
+                None => Ok(()),
+            },
+            None => Ok(()),
+        }
+    }
+
+    fn show_call(&mut self, number: u32) -> Result<(), NoMemory> {
+        match call_of(self.script, self.tokens, number) {
+            Some(call) => self.show(call.at as usize),
+            None => Ok(()),
+        }
+    }
+
+    /// Notes the lines of a block that look like the start of an item, or like an end with something beside it.
     fn note_lines(&mut self, block: &Token) -> Result<(), NoMemory> {
-        let begin = rows_start(self.script, block);
-        let end = (block.at as usize + block.len as usize)
-            .min(self.script.len())
-            .max(begin);
-        let mut at = begin;
-        for line in self.script[begin..end].split(|byte| *byte == b'\n') {
-            if looks_like_copy(line) || looks_like_end(line) {
+        let script = self.script;
+        let mut at = rows_start(script, block);
+        let lines = &script[at..rows_end(script, block).max(at)];
+        let mut noted = 0u32;
+        for line in lines.split(|byte| *byte == b'\n') {
+            if noted < NOTED && (looks_like_item(line) || looks_like_end(line)) {
                 self.note(at, block.at as usize)?;
+                noted += 1;
             }
             at = at.saturating_add(line.len()).saturating_add(1);
         }
@@ -125,7 +195,7 @@ impl Places<'_> {
     }
 
     /// Returns the line number of a place, or that of the last line if the place is past the end.
-    fn line_of(&self, at: usize) -> usize {
+    pub(crate) fn line_of(&self, at: usize) -> usize {
         line_number(self.script, at.min(self.script.len()))
     }
 
@@ -136,12 +206,12 @@ impl Places<'_> {
         self.add_number(self.line_of(at))
     }
 
-    fn add_number(&mut self, number: usize) -> Result<(), NoMemory> {
+    pub(crate) fn add_number(&mut self, number: usize) -> Result<(), NoMemory> {
         let mut digits = Buffer::new();
         self.text.append(digits.format(number).as_bytes())
     }
 
-    /// Adds a place, its line, and a caret below it. A place past the end counts as the end.
+    /// Adds a place, its line, and a caret below it. A place past the end counts as the end. A long line is cut.
     fn show(&mut self, at: usize) -> Result<(), NoMemory> {
         let at = at.min(self.script.len());
         let before = column(self.script, at);
@@ -150,9 +220,19 @@ impl Places<'_> {
         self.text.push(b':')?;
         self.add_number(before + 1)?;
         self.text.push(b'\n')?;
-        self.text.append(line)?;
-        self.text.push(b'\n')?;
-        for byte in &line[..before.min(line.len())] {
+        let before = before.min(line.len());
+        let begin = before.saturating_sub(AROUND);
+        let end = before.saturating_add(AROUND).min(line.len());
+        if begin > 0 {
+            self.text.append(b"..")?;
+        }
+        self.text.append(&line[begin..end])?;
+        self.text
+            .append(if end < line.len() { b"..\n" } else { b"\n" })?;
+        if begin > 0 {
+            self.text.append(b"  ")?;
+        }
+        for byte in &line[begin..before] {
             self.text.push(if *byte == b'\t' { b'\t' } else { b' ' })?;
         }
         self.text.append(b"^\n")
@@ -168,10 +248,20 @@ impl Places<'_> {
     }
 }
 
-/// Whether a line starts like `COPY x <<`.
-fn looks_like_copy(line: &[u8]) -> bool {
+/// Whether a line starts like a CREATE or a CALL, or like `COPY x <<` or `JOURNAL <<`.
+fn looks_like_item(line: &[u8]) -> bool {
     let line = line.trim_ascii();
-    line.len() > 4 && line[..4].eq_ignore_ascii_case(b"copy") && line.ends_with(b"<<")
+    begins(line, b"create ")
+        || begins(line, b"call ")
+        || (line.ends_with(b"<<") && (begins(line, b"copy ") || begins(line, b"journal")))
+}
+
+/// Whether a line begins with a word, in any letter case.
+fn begins(line: &[u8], word: &[u8]) -> bool {
+    match line.get(..word.len()) {
+        Some(front) => front.eq_ignore_ascii_case(word),
+        None => false,
+    }
 }
 
 /// Whether a line has `>>` at its start or end, and something beside it.

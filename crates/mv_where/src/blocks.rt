@@ -12,7 +12,7 @@ pub(crate) fn bytes_of<'a>(script: &'a [u8], token: &Token) -> &'a [u8] {
     &after[..(token.len as usize).min(after.len())]
 }
 
-fn is_word(script: &[u8], token: &Token, word: &[u8]) -> bool {
+pub(crate) fn is_word(script: &[u8], token: &Token, word: &[u8]) -> bool {
     token.kind == Kind::Word && bytes_of(script, token).eq_ignore_ascii_case(word)
 }
 
@@ -34,6 +34,34 @@ pub(crate) fn rows_start(script: &[u8], block: &Token) -> usize
 {
     let line = first_line(bytes_of(script, block));
     ((block.at as usize).min(script.len()) + line.len() + 1).min(script.len())
+}
+
+/// Returns the place after the rows of a block: where the line of its `>>` begins, or its end if it is open.
+pub(crate) fn rows_end(script: &[u8], block: &Token) -> usize
+    ensures { result ≤ length script.now }
+{
+    let text = bytes_of(script, block);
+    let len = match block.kind {
+        Kind::Block => text.trim_ascii_end().len().saturating_sub(2),
+        _ => text.len(),
+    };
+    (block.at as usize).saturating_add(len).min(script.len())
+}
+
+/// Returns the block of the journal, if there is one.
+pub(crate) fn journal_of<'a>(script: &[u8], tokens: &'a [Token]) -> Option<&'a Token> {
+    tokens
+        .iter()
+        .skip_while(|token| !is_word(script, token, b"journal"))
+        .nth(1)
+}
+
+/// Returns the CALL with a number, from 0.
+pub(crate) fn call_of<'a>(script: &[u8], tokens: &'a [Token], number: u32) -> Option<&'a Token> {
+    tokens
+        .iter()
+        .filter(|token| is_word(script, token, b"call"))
+        .nth(number as usize)
 }
 
 /// Returns the bracket before a row of the VALUES of this table, if these tokens start with its CREATE TABLE. Rows

@@ -1,14 +1,19 @@
 //! Shows where in a script a refusal points: `mv3c run < order.sql | where order.sql` passes the text through, and adds
-//! the place that it names, the line and a caret.
+//! the place that it names, the line and a caret, and what the refusal means there.
 #![tactic(auto)]
 
+mod advice;
 mod answer;
 mod blocks;
 mod fault;
+mod grammar;
 mod passing;
 mod place;
+mod reading;
 mod records;
 mod refusal;
+mod types;
+mod words;
 
 use crate::answer::answer;
 use crate::fault::Fault;
@@ -50,7 +55,7 @@ fn usage(sink: &mut StdSink) -> Result<u8, Fault> {
     Ok(2)
 }
 
-/// Passes standard input through, and adds the places in the file that a refusal names.
+/// Passes standard input through, and adds the places in the file that a refusal names. Returns 1 after a refusal.
 fn tell(rt: &HostRuntime, name: &str, sink: &mut StdSink) -> Result<u8, Fault> {
     let text = pass(rt.alloc(), &mut StdSource::new(rt.stdin()), sink)?;
     if !is_refusal(text.as_slice()) {
@@ -64,5 +69,5 @@ fn tell(rt: &HostRuntime, name: &str, sink: &mut StdSink) -> Result<u8, Fault> {
         text.as_slice(),
     )?;
     write_all(sink, places.as_slice()).map_err(|_| Fault::Unwritten)?;
-    Ok(0)
+    Ok(1)
 }

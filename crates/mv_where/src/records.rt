@@ -1,6 +1,6 @@
 //! The records of a block.
 
-ghost use Rattle.std.specs.Prelude.{◌<◌, length, IfSome};
+ghost use Rattle.std.specs.Prelude.{◌<◌, ◌≤◌, length, IfSome};
 
 /// Where in a field a byte of a block is.
 #[derive(Clone, Copy, PartialEq, Eq)]
@@ -48,4 +48,24 @@ pub fn record_at(block: &[u8], row: u32) -> Option<usize>
         inside = next;
     }
     None
+}
+
+/// Returns the place in a record of the field with a number, from 1, or the record's end if it has fewer.
+pub fn field_at(record: &[u8], column: u32) -> usize
+    ensures { result ≤ length record.now }
+{
+    let mut inside = Inside::Nothing;
+    let mut fields = 1u32;
+    for (at, byte) in record.iter().enumerate() {
+        if fields >= column {
+            return at;
+        }
+        inside = step(inside, *byte);
+        match inside {
+            Inside::Nothing => return at,
+            Inside::Field => fields = fields.saturating_add(1),
+            _ => {}
+        }
+    }
+    record.len()
 }
