@@ -116,6 +116,24 @@ fn foremost_match<K: KeySet>(
     Ok(None)
 }
 
+/// Returns a copy of the row under the key after commit n, if there is one and the predicate matches it. Takes time
+/// logarithmic in the number of rows, and the time of the chain's look-up.
+pub(crate) fn find_match(
+    alloc: Global,
+    table: &KeyMap<Chain>,
+    n: u32,
+    pred: &Pred,
+    key: &Key,
+) -> Result<Option<Row>, NoMemory>
+    requires { KeysRise table.now }
+    ensures { IfOk result (λ row. row ≡ matched pred.now (row_of (table_at n table.now) key.now)) }
+{
+    let Some(chain) = table.get(key) else {
+        return Ok(None);
+    };
+    chain.found_at(alloc, n, pred)
+}
+
 /// Returns a copy of the row under the key after commit n, if there is one. Takes time logarithmic in the number of
 /// rows, and the time of the chain's look-up.
 pub(crate) fn find_row(

@@ -2,6 +2,7 @@
 
 ghost use Rattle.std.specs.Prelude.{◌≡◌, ◌<◌, ◌≤◌, ℕ, [], ◌∷◌, IfOk, IfErr, OnOk, OnErr, Err};
 ghost use Rattle.mv_values.specs.Patching.{found_by, row_of};
+ghost use Rattle.mv_values.specs.Preds.{matched};
 ghost use Rattle.mv_values.specs.Tables.{rows_at};
 ghost use Rattle.mv_table.specs.Scans.{foremost};
 ghost use Rattle.mv_record.specs.Admitting.{Admitted};
@@ -13,7 +14,7 @@ ghost use Rattle.mv_store.specs.Changes.{IsAsBefore, HasPut, HasDropped, HasStam
 use crate::change::{Fate, settle_noted};
 use crate::close::close_all;
 use crate::collect::collect_all;
-use crate::find::{find, find_foremost, find_row};
+use crate::find::{find, find_foremost, find_match, find_row};
 use crate::open::open_all;
 use crate::write::put_write;
 use crate::written_keys::WrittenKeys;
@@ -119,6 +120,25 @@ impl Store {
         Ok(row)
     }
 
+    /// Returns a copy of the row under a key of the predicate's table after commit n, if there is one and the predicate
+    /// matches it. Fails with `Stale` exactly if n is below the store's low, and with `NoMemory` if memory runs out. Takes
+    /// as long as `row_at`, and copies only a row that matches.
+    pub fn match_at(
+        &self,
+        alloc: Global,
+        n: u32,
+        pred: &Pred,
+        key: &Key,
+    ) -> Result<Option<Row>, Refused>
+        ensures found { IfOk result (λ row. row ≡ matched pred.now (row_of (rows_at (database_at self.now n) pred.now.table) key.now)) }
+        ensures stale { n < self.now.low → result ≡ Err (Stale n self.now.low) }
+        ensures fresh { self.now.low ≤ n → IfErr result (λ e. e ≡ Wanting) }
+    {
+        self.check_fresh(n)?;
+        let row = self.find_match(alloc, n, pred, key)?;
+        Ok(row)
+    }
+
     /// Returns a copy of the row under a key of a table after commit n, if there is one. Fails with `Stale` exactly if
     /// n is below the store's low, and with `NoMemory` if memory runs out. Takes time logarithmic in the number of
     /// rows, and linear in the size of the row and of its later patches.
@@ -185,6 +205,21 @@ impl Store {
     {
         match self.tables.get(pred.table as usize) {
             Some(table) => find_foremost(alloc, table, n, pred, direction, passed),
+            None => Ok(None),
+        }
+    }
+
+    fn find_match(
+        &self,
+        alloc: Global,
+        n: u32,
+        pred: &Pred,
+        key: &Key,
+    ) -> Result<Option<Row>, NoMemory>
+        ensures { IfOk result (λ row. row ≡ matched pred.now (row_of (rows_at (database_at self.now n) pred.now.table) key.now)) }
+    {
+        match self.tables.get(pred.table as usize) {
+            Some(table) => find_match(alloc, table, n, pred, key),
             None => Ok(None),
         }
     }

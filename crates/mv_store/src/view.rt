@@ -5,6 +5,7 @@ ghost use Rattle.std.specs.Result.{is_err};
 ghost use Rattle.mv_values.specs.declared.value.Value.{Value};
 ghost use Rattle.mv_values.specs.declared.rows.Keyed.{Keyed};
 ghost use Rattle.mv_values.specs.Patching.{found_by, row_of};
+ghost use Rattle.mv_values.specs.Preds.{matched};
 ghost use Rattle.mv_values.specs.Tables.{rows_at};
 ghost use Rattle.mv_table.specs.Scans.{foremost};
 ghost use Rattle.mv_record.specs.Admitting.{Admitted};
@@ -112,6 +113,22 @@ impl<'a> View for StoreView<'a> {
             .store
             .foremost_at(alloc, self.start, pred, direction, passed)
         {
+            Ok(row) => Ok(row),
+            Err(refused) => {
+                self.count(refused);
+                Err(refused)
+            }
+        }
+    }
+
+    fn match_under(&mut self, alloc: Global, pred: &Pred, key: &Key) -> Result<Option<Row>, Refused>
+        ensures found { IfOk result (λ row. row ≡ matched pred.now (row_of (rows_at self.old.database pred.now.table) key.now)) }
+        ensures counts { self.new ≡ answered result (with_rows_call self.old) }
+        ensures stale { MayAnswer self.old self.new result }
+        ensures late { self.old.may_be_stale ≡ true → is_err result ≡ true }
+    {
+        self.rows_calls = self.rows_calls.saturating_add(1);
+        match self.store.match_at(alloc, self.start, pred, key) {
             Ok(row) => Ok(row),
             Err(refused) => {
                 self.count(refused);

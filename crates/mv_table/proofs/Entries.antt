@@ -7,6 +7,7 @@ use Rattle.std.proofs.lemmas.List.Kept.{AllPairs-cons}
 use Rattle.mv_values.specs.contracts.value.ValueOrd.TheImpl.{cmp-value}
 use Rattle.mv_values.specs.Order.{value_order, key_order}
 use Rattle.mv_values.specs.declared.value.Value.TheVariants.{Int, Text}
+use Rattle.std.specs.Prelude.{IfSome}
 use Rattle.std.specs.Ordering.{is_eq, ordering_reverse}
 use Rattle.std.specs.Map.{lookup, remove_entry, keys_of}
 use Rattle.std.specs.List.{AllByRecursion, filter}
@@ -33,6 +34,11 @@ keys_alike = ap (λ order. slice_cmp order) (fun_ext (λ a. fun_ext (λ b. value
 
 reversed : (a b : List Value) → key_order a b ≡ ordering_reverse (key_order b a)
 reversed a b = key_order_total.antisymm a b
+
+-- a key that ties with another is the same
+pub tied_keys : {A : Type 0} (k : A → List Value) (key : List Value) (found : Option A) → IfSome found (λ e. slice_cmp cmp-value.it key (k e) ≡ Equal) → IfSome found (λ e. k e ≡ key)
+tied_keys k key None same = tt
+tied_keys k key (Some e) same = sym (exact_keys key (k e) (subst (λ (order : List Value → List Value → Ordering). order key (k e) ≡ Equal) (sym keys_alike) same))
 
 module _ {T : Type 0} where
   looked_up : (key : List Value) (es : List (List Value × T)) → lookup (is_at (key_order key)) es ≡ item_of es key

@@ -7,3 +7,4 @@ pub mod Covering
 pub mod Changing
 pub mod Picking
 pub mod Scanning
+pub mod Whole

@@ -15,7 +15,7 @@ use Rattle.mv_values.specs.declared.value.Value.{Value}
 use Rattle.mv_values.specs.declared.rows.Keyed.{Keyed}
 use Rattle.mv_values.specs.Keys.{IsRising, IsBelow, stored}
 use Rattle.mv_values.specs.Order.{key_order}
-use Rattle.mv_values.specs.Patching.{row_of, placed}
+use Rattle.mv_values.specs.Patching.{row_of, placed, standing}
 use Rattle.mv_values.proofs.KeyOrder.{key_order_total, exact_keys}
 use Rattle.mv_table.specs.Entries.{item_of, with_item, KeysRise}
 use Rattle.mv_table.proofs.Entries.{keys_alike}
@@ -26,6 +26,13 @@ Pair = List Value × List Value
 pub stored_row : (es : List Pair) (key : List Value) → item_of es key ≡ row_of (stored es) key
 stored_row [] key = refl
 stored_row (e ∷ es) key = ap (cond (is_eq (key_order e.0 key)) (Some e.1)) (stored_row es key)
+
+-- the entry of a key, as a row under it
+pub entry_stands : (key k row : List Value) (es : List Pair) → k ≡ key → Some row ≡ item_of es key → record { key = k; row = row } ∷ [] ≡ standing key (row_of (stored es) key)
+entry_stands key k row es same is = ap (λ j. record { key = j; row = row } ∷ []) same ∙ ap (standing key) (is ∙ stored_row es key)
+
+pub nothing_stands : (key : List Value) (es : List Pair) → None ≡ item_of es key → [] ≡ standing key (row_of (stored es) key)
+nothing_stands key es is = ap (standing key) (is ∙ stored_row es key)
 
 pub stored_with : (key : List Value) (row : Option (List Value)) (es : List Pair) → stored (with_item key row es) ≡ placed key row (stored es)
 stored_with key None [] = refl

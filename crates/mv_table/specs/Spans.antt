@@ -73,3 +73,7 @@ is_bounded side tests place = list_any (λ test. is_place test.key_place place &
 abbrev pub are_fixed_before : List Test → ℕ → Bool
 are_fixed_before tests zero = true
 are_fixed_before tests (suc place) = are_fixed_before tests place && is_bounded Both tests place
+
+-- of the keys with so many values the tests admit this one alone
+abbrev pub AdmitsOnly : List Test → ℕ → List Value → Type 0
+AdmitsOnly tests len only = (key : List Value) → length key ≡ len → Admits tests key → key ≡ only

@@ -1,9 +1,9 @@
 //! A map by key, in key order.
 
-ghost use Rattle.std.specs.Prelude.{◌≡◌, [], length, None, Some, OnOk, OnErr, IfOk, IfErr, List, Option, if◌then◌else◌};
+ghost use Rattle.std.specs.Prelude.{◌≡◌, [], length, None, Some, OnOk, OnErr, IfOk, IfErr, IfSome, List, Option, if◌then◌else◌};
 ghost use Rattle.std.specs.Borrow.{sem};
 ghost use Rattle.std.specs.List.{filter};
-ghost use Rattle.std.specs.Option.{option_copied, option_copied_mut};
+ghost use Rattle.std.specs.Option.{option_copied, option_copied_mut, option_map};
 ghost use Rattle.std.specs.Ordering.{is_eq};
 ghost use Rattle.mv_values.specs.declared.value.Value.{Value};
 ghost use Rattle.mv_values.specs.Order.{key_order};
@@ -58,6 +58,14 @@ impl<T> KeyMap<T> {
         ensures { option_copied result ≡ item_of self.now key.now }
     {
         self.entries.get(key)
+    }
+
+    /// Returns the entry of a key. Takes time logarithmic in the number of items.
+    pub fn get_key_value(&self, key: &Key) -> Option<(&Key, &T)>
+        ensures key { IfSome result (λ e. e.0.now ≡ key.now) }
+        ensures item { option_map (λ e. e.1.now) result ≡ item_of self.now key.now }
+    {
+        self.entries.get_key_value(key)
     }
 
     /// Iterates over the entries, in key order.

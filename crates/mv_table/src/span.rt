@@ -15,7 +15,7 @@ ghost use Rattle.mv_values.specs.Order.{value_order, key_order};
 ghost use Rattle.mv_values.specs.Preds.{allows};
 ghost use Rattle.mv_table.specs.declared.span.Side.TheVariants.{Both, Low, High};
 ghost use Rattle.mv_table.specs.Scans.{NeverFallsAt, RisesAt};
-ghost use Rattle.mv_table.specs.Spans.{is_past, is_within, IsForward, Admits, CoversAdmitted, FindsAll, Agrees, bounds, HoldsAt, is_place, is_bounded, are_fixed_before};
+ghost use Rattle.mv_table.specs.Spans.{is_past, is_within, IsForward, Admits, CoversAdmitted, FindsAll, Agrees, bounds, HoldsAt, is_place, is_bounded, are_fixed_before, AdmitsOnly};
 
 use mv_values::copied::Copied;
 use mv_values::list::List;
@@ -109,6 +109,25 @@ pub fn is_fixed_before(tests: &[Test], place: usize) -> bool
         };
     }
     true
+}
+
+/// Returns the key that `=` gives whole: a value for each of its `len` columns. Returns none if `=` doesn't give each of
+/// them. Takes time linear in the size of these values, and in the number of tests for each.
+pub fn whole_key(alloc: Global, tests: &[Test], len: usize) -> Result<Option<Key>, NoMemory>
+    ensures given { IfOk result (λ key. is_some key ≡ are_fixed_before tests.now len) }
+    ensures only { IfOk result (λ key. IfSome key (AdmitsOnly tests.now len)) }
+{
+    if !is_fixed_before(tests, len) {
+        return Ok(None);
+    }
+    let mut key = List::with_room(alloc, len)?;
+    for place in 0..len {
+        match test_at(tests, place, Side::Both) {
+            Some(test) => key.push(test.value.copy(alloc)?)?,
+            None => return Ok(None),
+        }
+    }
+    Ok(Some(key))
 }
 
 /// Returns a value above this one.

@@ -1,10 +1,10 @@
 //! The stored rows of a table.
 
-ghost use Rattle.std.specs.Prelude.{◌≡◌, [], length, map, None, Some, OnOk, OnErr, IfOk, IfErr};
+ghost use Rattle.std.specs.Prelude.{◌≡◌, [], length, map, option_to_list, None, Some, OnOk, OnErr, IfOk, IfErr};
 ghost use Rattle.std.specs.List.{filter};
-ghost use Rattle.std.specs.Option.{option_copied};
+ghost use Rattle.std.specs.Option.{option_copied, option_map};
 ghost use Rattle.mv_values.specs.Keys.{IsRising, stored};
-ghost use Rattle.mv_values.specs.Patching.{row_of, placed};
+ghost use Rattle.mv_values.specs.Patching.{row_of, placed, standing};
 ghost use Rattle.mv_table.specs.Entries.{seen};
 ghost use Rattle.mv_table.specs.Spans.{is_within, IsForward};
 
@@ -108,6 +108,16 @@ impl Table {
         ensures { option_copied result ≡ row_of self.now key.now }
     {
         self.rows.get(key)
+    }
+
+    /// Borrows the row under a key, with the key. Takes time logarithmic in the number of rows.
+    pub fn entry(&self, key: &Key) -> Option<Entry<'_>>
+        ensures { option_to_list (option_map seen result) ≡ standing key.now (row_of self.now key.now) }
+    {
+        match self.rows.get_key_value(key) {
+            Some((key, row)) => Some(Entry { key, row }),
+            None => None,
+        }
     }
 
     /// Puts a row under a key, and returns the old one if there was one. Takes time logarithmic in the number of rows,

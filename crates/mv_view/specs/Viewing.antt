@@ -6,7 +6,7 @@ use Rattle.mv_view.specs.declared.view.Refused.{Refused}
 use Rattle.mv_view.specs.declared.view.Refused.TheVariants.{NoMemory, Stale}
 
 -- a view: its database, the number of commits in it, whether a result may be `Stale`, the number of `Stale` results and
--- the low of the last one, and the numbers of calls of `rows` or `foremost`, and of `row`
+-- the low of the last one, and the numbers of calls of `rows`, `foremost` or `match_under`, and of `row`
 pub record Sight : Type 0 where
   pub database : List (List Keyed)
   pub start : ℕ
@@ -16,7 +16,7 @@ pub record Sight : Type 0 where
   pub rows_calls : ℕ
   pub row_calls : ℕ
 
--- the view after one more call of `rows` or `foremost`, and of `row`
+-- the view after one more call of `rows`, `foremost` or `match_under`, and of `row`
 abbrev pub with_rows_call : Sight → Sight
 with_rows_call s = record s { rows_calls = one_more s.rows_calls }
 

@@ -3,6 +3,7 @@
 ghost use Rattle.std.specs.Prelude.{◌≡◌, false, IfOk};
 ghost use Rattle.mv_values.specs.Keys.{IsRising};
 ghost use Rattle.mv_values.specs.Patching.{found_by, row_of};
+ghost use Rattle.mv_values.specs.Preds.{matched};
 ghost use Rattle.mv_values.specs.Tables.{rows_at};
 ghost use Rattle.mv_table.specs.Scans.{foremost};
 
@@ -73,6 +74,24 @@ fn copy_row(alloc: Global, tables: &Database, table: u8, key: &Key) -> Result<Op
     }
 }
 
+/// Returns a copy of the row with the key, if the predicate matches it.
+fn copy_match(
+    alloc: Global,
+    tables: &Database,
+    pred: &Pred,
+    key: &Key,
+) -> Result<Option<Row>, NoMemory>
+    ensures { IfOk result (λ row. row ≡ matched pred.now (row_of (rows_at tables.now pred.now.table) key.now)) }
+{
+    let Some(rows) = tables.as_slice().get(pred.table as usize) else {
+        return Ok(None);
+    };
+    match find_row(rows, key) {
+        Some(row) if pred.matches(row) => Ok(Some(row.copy(alloc)?)),
+        _ => Ok(None),
+    }
+}
+
 impl<'a> View for Plain<'a> {
     ghost sight = { λ p. p };
 
@@ -92,6 +111,17 @@ impl<'a> View for Plain<'a> {
         self.rows_calls = self.rows_calls.saturating_add(1);
         let rows = rows_in(self.tables, pred.table);
         let row = find_foremost(alloc, pred, rows, direction, passed)?;
+        Ok(row)
+    }
+
+    fn match_under(
+        &mut self,
+        alloc: Global,
+        pred: &Pred,
+        key: &Key,
+    ) -> Result<Option<Row>, Refused> {
+        self.rows_calls = self.rows_calls.saturating_add(1);
+        let row = copy_match(alloc, self.tables, pred, key)?;
         Ok(row)
     }
 

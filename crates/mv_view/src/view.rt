@@ -2,6 +2,7 @@
 
 ghost use Rattle.std.specs.Prelude.{◌≡◌, IfOk};
 ghost use Rattle.mv_values.specs.Patching.{found_by, row_of};
+ghost use Rattle.mv_values.specs.Preds.{matched};
 ghost use Rattle.mv_values.specs.Tables.{rows_at};
 ghost use Rattle.mv_table.specs.Scans.{foremost};
 ghost use Rattle.mv_record.specs.Admitting.{Admitted};
@@ -63,6 +64,14 @@ pub trait View {
     ) -> Result<Option<Keyed>, Refused>
         requires { Admitted pred.now (rows_at (sight self.old).database pred.now.table) }
         ensures found { IfOk result (λ row. row ≡ foremost direction (outside (K.has passed.now) (found_by pred.now (sight self.old).database))) }
+        ensures counts { sight self.new ≡ answered result (with_rows_call (sight self.old)) }
+        ensures stale { MayAnswer (sight self.old) (sight self.new) result };
+
+    /// Returns a copy of the row with the key if the predicate matches it, or `None` if there is no such row. It is enough
+    /// where no other row matches. It counts as a call of `rows`. Fails if memory runs out, or with `Stale` if the
+    /// snapshot may be gone.
+    fn match_under(&mut self, alloc: Global, pred: &Pred, key: &Key) -> Result<Option<Row>, Refused>
+        ensures found { IfOk result (λ row. row ≡ matched pred.now (row_of (rows_at (sight self.old).database pred.now.table) key.now)) }
         ensures counts { sight self.new ≡ answered result (with_rows_call (sight self.old)) }
         ensures stale { MayAnswer (sight self.old) (sight self.new) result };
 
