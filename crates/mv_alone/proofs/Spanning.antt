@@ -1,7 +1,8 @@
 -- The rows in the span of keys that the tests leave.
 use Rattle.std.proofs.Common.{◌≡◌, ℕ, zero, suc, ◌<◌, Bool, true, false, List, [], ◌∷◌, Option, Some, None, Result, Ok, Err, All, length, slice_index_or, refl, sym, ap, subst, ◌∙◌, arith}
-use Rattle.std.specs.Prelude.{◌==◌, IfOk, map, if◌then◌else◌}
+use Rattle.std.specs.Prelude.{◌==◌, option_to_list, IfOk, map, if◌then◌else◌}
 use Rattle.std.specs.List.{filter, position}
+use Rattle.std.specs.Option.{option_map}
 use Rattle.std.proofs.lemmas.Bool.{eqb-true, and_parts}
 use Rattle.std.proofs.lemmas.List.Elements.{All-nil, All-cons, All-head, All-tail}
 use Rattle.std.proofs.lemmas.List.Quantifiers.{position-Some}
@@ -11,11 +12,14 @@ use Rattle.mv_values.specs.declared.rows.Keyed.{Keyed}
 use Rattle.mv_values.specs.declared.calls.End.{End}
 use Rattle.mv_values.specs.Columns.{column_of, columns_of}
 use Rattle.mv_values.specs.Preds.{allows, passes, holds_at, agrees, meets}
-use Rattle.mv_table.specs.Spans.{Admits}
+use Rattle.mv_table.specs.declared.scan.Direction.{Direction}
+use Rattle.mv_table.specs.declared.scan.Direction.TheVariants.{Forward, Backward}
+use Rattle.mv_table.specs.Scans.{foremost}
+use Rattle.mv_table.specs.Spans.{Admits, AdmitsOnly}
 use Rattle.mv_catalog.specs.declared.resolved.RCond.{RCond}
 use Rattle.mv_alone.specs.declared.state.Env.{Env}
 use Rattle.mv_alone.specs.declared.state.Stop.{Stop}
-use Rattle.mv_alone.specs.FirstRows.{AdmitMatches}
+use Rattle.mv_alone.specs.FirstRows.{AdmitMatches, MatchesOnly}
 use Rattle.mv_alone.specs.Outcome.{Gives, then_do}
 use Rattle.mv_alone.specs.Own.{StandUnder}
 use Rattle.mv_alone.specs.Rows.{test_on, tests_of, IsPlaced}
@@ -54,6 +58,16 @@ tests_admit keys row (t ∷ ts) places h =
 pub placed_admit : (keys : List ℕ) (tests : List Test) (rows : List Keyed) → All (IsPlaced keys) tests → StandUnder keys rows → AdmitMatches tests rows
 placed_admit keys tests rows places own k d lt so = subst (Admits tests) (sym (own k d lt)) (tests_admit keys (slice_index_or rows k d).row tests places so)
 
+long_columns : (row : List Value) (keys : List ℕ) → length (columns_of row keys) ≡ length keys
+long_columns row [] = refl
+long_columns row (k ∷ ks) = ap suc (long_columns row ks)
+
+-- so of the rows that match each has the key that the tests give whole
+pub whole_matches : (keys : List ℕ) (tests : List Test) (rows : List Keyed) (key : List Value) → All (IsPlaced keys) tests → StandUnder keys rows → AdmitsOnly tests (length keys) key → MatchesOnly tests key rows
+whole_matches keys tests rows key places own only k d lt so =
+    let item = slice_index_or rows k d in
+    only item.key (ap length (own k d lt) ∙ long_columns item.row keys) (placed_admit keys tests rows places own k d lt so)
+
 -- the tests of WHERE have their places
 pub tests_placed : (keys : List ℕ) (conds : List RCond) (env : Env) (tests : List Test) → tests_of keys conds env ≡ Ok tests → All (IsPlaced keys) tests
 tests_placed keys [] env tests h = let none : [] ≡ tests = cc in subst (All (IsPlaced keys)) none (All-nil (IsPlaced keys))
@@ -80,3 +94,15 @@ filter_seen {A} seen p (x ∷ xs) = by (p (seen x)) (filter_seen seen p xs)
         → map seen (if b then x ∷ filter (λ x. p (seen x)) xs else filter (λ x. p (seen x)) xs) ≡ (if b then seen x ∷ filter p (map seen xs) else filter p (map seen xs))
     by true h = ap (λ l. seen x ∷ l) h
     by false h = h
+
+-- One row or none
+
+pub one_seen : {A : Type 0} (seen : A → Keyed) (o : Option A) → map seen (option_to_list o) ≡ option_to_list (option_map seen o)
+one_seen seen None = refl
+one_seen seen (Some x) = refl
+
+pub foremost_of_one : (d : Direction) (o : Option Keyed) → o ≡ foremost d (option_to_list o)
+foremost_of_one Forward None = refl
+foremost_of_one Forward (Some x) = refl
+foremost_of_one Backward None = refl
+foremost_of_one Backward (Some x) = refl

@@ -32,6 +32,10 @@ total_found agg rows = then_do (aggregate agg rows) (λ v. Ok (v, is_some_row ro
 abbrev pub AdmitMatches : List Test → List Keyed → Type 0
 AdmitMatches tests rows = All (λ item. meets tests item.row ≡ true → Admits tests item.key) rows
 
+-- each row that matches has this key
+abbrev pub MatchesOnly : List Test → List Value → List Keyed → Type 0
+MatchesOnly tests key rows = All (λ item. meets tests item.row ≡ true → item.key ≡ key) rows
+
 -- rows in key order, each under its own key, which the tests admit
 pub record AreAdmitted (keys : List ℕ) (tests : List Test) (rows : List Keyed) : Type 0 where
   pub rising : IsRising rows

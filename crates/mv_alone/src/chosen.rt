@@ -5,9 +5,9 @@ ghost use Rattle.std.specs.Option.{option_map};
 ghost use Rattle.mv_values.specs.Tables.{rows_at, key_columns, KeysStand};
 ghost use Rattle.mv_table.specs.Entries.{seen};
 ghost use Rattle.mv_alone.specs.Rows.{IsPlaced, item_at, matching, ordered};
-ghost use Rattle.mv_alone.specs.FirstRows.{Leads, AdmitMatches, sort_direction, order_direction};
+ghost use Rattle.mv_alone.specs.FirstRows.{Leads, sort_direction, order_direction};
 
-use crate::find::{key_in, matches_in};
+use crate::find::{found_in, key_in};
 use crate::foremost::{foremost_in, never_falls, rises};
 use crate::order::chosen_row;
 use mv_catalog::resolved::RSort;
@@ -45,20 +45,21 @@ pub fn order_direction(sorts: &[RSort], keys: &[u8], tests: &[Test]) -> Option<D
     sort_direction(*sort, keys, tests)
 }
 
-/// Borrows the row at an index in ORDER BY order, of all rows that match. The tests must admit the key of each row that
-/// matches.
+/// Borrows the row at an index in ORDER BY order, of all rows that match.
 fn chosen_of_all<'a>(
     alloc: Global,
+    infos: &[TableInfo],
     tables: &'a Tables,
     table: u16,
     tests: &[Test],
     sorts: &[RSort],
     at: i64,
 ) -> Result<Option<Entry<'a>>, NoMemory>
-    requires { AdmitMatches tests.now (rows_at tables.now table) }
+    requires keys { KeysStand infos.now tables.now }
+    requires places { All (IsPlaced (key_columns infos.now table)) tests.now }
     ensures { IfOk result (λ row. option_map seen row ≡ item_at (ordered sorts.now (matching tests.now (rows_at tables.now table))) at) }
 {
-    let found = matches_in(alloc, tables, table, tests)?;
+    let found = found_in(alloc, infos, tables, table, tests)?;
     Ok(chosen_row(alloc, sorts, found.as_slice(), at)?.copied())
 }
 
@@ -82,8 +83,8 @@ pub fn chosen_in<'a>(
     let keys = key_in(infos, table);
     if at == 0 {
         if let Some(direction) = order_direction(sorts, keys, tests) {
-            return foremost_in(alloc, tables, table, tests, direction);
+            return foremost_in(alloc, infos, tables, table, tests, direction);
         }
     }
-    chosen_of_all(alloc, tables, table, tests, sorts, at)
+    chosen_of_all(alloc, infos, tables, table, tests, sorts, at)
 }

@@ -5,9 +5,9 @@ ghost use Rattle.std.specs.Bool.{then_some};
 ghost use Rattle.mv_values.specs.Tables.{rows_at, key_columns, KeysStand};
 ghost use Rattle.mv_alone.specs.Outcome.{Gives};
 ghost use Rattle.mv_alone.specs.Rows.{IsPlaced, matching};
-ghost use Rattle.mv_alone.specs.FirstRows.{NeverFalls, IsFromEnd, AdmitMatches, does_order, aggregate_direction, total_found};
+ghost use Rattle.mv_alone.specs.FirstRows.{NeverFalls, IsFromEnd, does_order, aggregate_direction, total_found};
 
-use crate::find::{key_in, matches_in};
+use crate::find::{found_in, key_in};
 use crate::foremost::{foremost_in, never_falls};
 use crate::state::Stop;
 use crate::totals::{aggregate_of, value_in};
@@ -46,19 +46,20 @@ pub fn aggregate_direction(agg: RAgg, keys: &[u8], tests: &[Test]) -> Option<(u1
     }
 }
 
-/// Returns the value of an aggregate over all rows that match, and whether there are any. The tests must admit the key
-/// of each row that matches.
+/// Returns the value of an aggregate over all rows that match, and whether there are any.
 fn total_of_all(
     alloc: Global,
+    infos: &[TableInfo],
     tables: &Tables,
     agg: RAgg,
     table: u16,
     tests: &[Test],
 ) -> Result<(Option<Value>, bool), Stop>
-    requires { AdmitMatches tests.now (rows_at tables.now table) }
+    requires keys { KeysStand infos.now tables.now }
+    requires places { All (IsPlaced (key_columns infos.now table)) tests.now }
     ensures { Gives result (total_found agg (matching tests.now (rows_at tables.now table))) }
 {
-    let found = matches_in(alloc, tables, table, tests)?;
+    let found = found_in(alloc, infos, tables, table, tests)?;
     let rows = found.as_slice();
     let value = aggregate_of(alloc, agg, rows)?;
     Ok((value, !rows.is_empty()))
@@ -81,9 +82,9 @@ pub fn total_of(
 {
     let keys = key_in(infos, table);
     let Some((column, direction)) = aggregate_direction(agg, keys, tests) else {
-        return total_of_all(alloc, tables, agg, table, tests);
+        return total_of_all(alloc, infos, tables, agg, table, tests);
     };
-    let row = foremost_in(alloc, tables, table, tests, direction)?;
+    let row = foremost_in(alloc, infos, tables, table, tests, direction)?;
     let value = value_in(alloc, column, row.as_ref())?;
     Ok((value, row.is_some()))
 }

@@ -1,29 +1,31 @@
 //! Finds the rows of a table that match.
 
-ghost use Rattle.std.specs.Prelude.{◌≡◌, ◌<◌, ◌≤◌, ◌==◌, List, All, map, length, IfOk, IfSome};
+ghost use Rattle.std.specs.Prelude.{◌≡◌, ◌<◌, ◌≤◌, ◌==◌, List, All, map, length, option_to_list, IfOk, IfSome};
 ghost use Rattle.std.specs.List.{position};
+ghost use Rattle.std.specs.Option.{option_map};
 ghost use Rattle.mv_values.specs.Preds.{meets};
 ghost use Rattle.mv_values.specs.Order.{value_order};
 ghost use Rattle.mv_values.specs.Columns.{column_of};
 ghost use Rattle.mv_values.specs.Keys.{IsRising};
-ghost use Rattle.mv_values.specs.Tables.{rows_at, columns_at, key_columns};
+ghost use Rattle.mv_values.specs.Patching.{row_of, standing};
+ghost use Rattle.mv_values.specs.Tables.{rows_at, columns_at, key_columns, KeysStand};
 ghost use Rattle.mv_table.specs.Entries.{seen};
 ghost use Rattle.mv_catalog.specs.Text.{IsTable};
 ghost use Rattle.mv_alone.specs.Outcome.{Gives};
 ghost use Rattle.mv_alone.specs.Rows.{test_on, tests_of, IsPlaced, matching};
-ghost use Rattle.mv_alone.specs.FirstRows.{AdmitMatches};
+ghost use Rattle.mv_alone.specs.FirstRows.{AdmitMatches, MatchesOnly};
 
 use crate::expr::value;
 use crate::state::{Env, Stop};
 use mv_catalog::resolved::RCond;
-use mv_table::span::Span;
+use mv_table::span::{Span, whole_key};
 use mv_table::table::{Entry, Table, Tables};
 use mv_values::list::List;
 use mv_values::memory::NoMemory;
 use mv_values::op::Op;
 use mv_values::pred::{Test, meets};
 use mv_values::schema::{Column, TableInfo};
-use mv_values::value::Value;
+use mv_values::value::{Key, Value};
 use std::alloc::Global;
 use std::cmp::Ordering;
 
@@ -156,5 +158,69 @@ pub fn matches_in<'a>(
     match tables.as_slice().get(table as usize) {
         Some(rows) => matches_of(alloc, rows, tests),
         None => Ok(Vec::new(alloc)),
+    }
+}
+
+/// Borrows the row under a key of a table, if it matches.
+fn match_under<'a>(table: &'a Table, key: &Key, tests: &[Test]) -> Option<Entry<'a>>
+    ensures row { option_to_list (option_map seen result) ≡ matching tests.now (standing key.now (row_of table.now key.now)) }
+    ensures rising { IsRising table.now }
+{
+    let _len = table.len();
+    match table.entry(key) {
+        Some(entry) if meets(tests, entry.row.as_slice()) => Some(entry),
+        _ => None,
+    }
+}
+
+/// Borrows the row of a table that matches, if there is one and such a table. Each row that matches must have this key.
+/// Takes time logarithmic in the number of rows.
+pub(crate) fn match_in<'a>(
+    tables: &'a Tables,
+    table: u16,
+    key: &Key,
+    tests: &[Test],
+) -> Option<Entry<'a>>
+    requires { MatchesOnly tests.now key.now (rows_at tables.now table) }
+    ensures row { option_to_list (option_map seen result) ≡ matching tests.now (rows_at tables.now table) }
+    ensures rising { IsRising (rows_at tables.now table) }
+{
+    match tables.as_slice().get(table as usize) {
+        Some(rows) => match_under(rows, key, tests),
+        None => None,
+    }
+}
+
+/// Returns a list of the row, if there is one.
+fn list_of<'a>(alloc: Global, row: Option<Entry<'a>>) -> Result<Vec<Entry<'a>>, NoMemory>
+    ensures { IfOk result (λ list. list.items ≡ option_to_list row.entry) }
+{
+    let mut list = Vec::new(alloc);
+    if let Some(entry) = row {
+        list.push(entry)?;
+    }
+    Ok(list)
+}
+
+/// Does what `matches_in` does. Where `=` gives each value of the key, it looks for no other key.
+pub fn found_in<'a>(
+    alloc: Global,
+    infos: &[TableInfo],
+    tables: &'a Tables,
+    table: u16,
+    tests: &[Test],
+) -> Result<Vec<Entry<'a>>, NoMemory>
+    requires keys { KeysStand infos.now tables.now }
+    requires places { All (IsPlaced (key_columns infos.now table)) tests.now }
+    ensures rows { IfOk result (λ found. map seen found.items ≡ matching tests.now (rows_at tables.now table)) }
+    ensures rising { IfOk result (λ found. IsRising (map seen found.items)) }
+    ensures all { IfOk result (λ found. IsRising (rows_at tables.now table)) }
+{
+    match whole_key(alloc, tests, key_in(infos, table).len())? {
+        Some(key) => {
+            let found = list_of(alloc, match_in(tables, table, &key, tests))?;
+            Ok(found)
+        }
+        None => matches_in(alloc, tables, table, tests),
     }
 }

@@ -1,20 +1,21 @@
 //! Finds the first row that matches, from either end of a table.
 
-ghost use Rattle.std.specs.Prelude.{◌≡◌, true, IfOk};
+ghost use Rattle.std.specs.Prelude.{◌≡◌, true, All, IfOk};
 ghost use Rattle.std.specs.Option.{option_map};
 ghost use Rattle.mv_values.specs.Keys.{IsRising, stored};
-ghost use Rattle.mv_values.specs.Tables.{rows_at};
+ghost use Rattle.mv_values.specs.Tables.{rows_at, key_columns, KeysStand};
 ghost use Rattle.mv_table.specs.Entries.{seen};
 ghost use Rattle.mv_table.specs.Scans.{foremost};
-ghost use Rattle.mv_alone.specs.Rows.{matching};
+ghost use Rattle.mv_alone.specs.Rows.{matching, IsPlaced};
 ghost use Rattle.mv_alone.specs.FirstRows.{NeverFalls, Rises, AdmitMatches, does_order, does_rank};
 
-use crate::find::place_in_key;
+use crate::find::{key_in, match_in, place_in_key};
 use mv_table::scan::Direction;
-use mv_table::span::{Span, is_fixed_before};
+use mv_table::span::{Span, is_fixed_before, whole_key};
 use mv_table::table::{Entry, Table, Tables};
 use mv_values::memory::NoMemory;
 use mv_values::pred::{Test, meets};
+use mv_values::schema::TableInfo;
 use mv_values::value::{Key, Row};
 use std::alloc::Global;
 use std::collections::btree_map::Range;
@@ -77,7 +78,7 @@ fn foremost_of<'a>(
 }
 
 /// Does the same by the number of the table. Borrows none if there is no such table.
-pub(crate) fn foremost_in<'a>(
+fn foremost_within<'a>(
     alloc: Global,
     tables: &'a Tables,
     table: u16,
@@ -91,5 +92,26 @@ pub(crate) fn foremost_in<'a>(
     match tables.as_slice().get(table as usize) {
         Some(rows) => foremost_of(alloc, rows, tests, direction),
         None => Ok(None),
+    }
+}
+
+/// Borrows the first row of a table in this direction that matches; none if there is no such table. Where `=` gives each
+/// value of the key, it looks for no other key.
+pub(crate) fn foremost_in<'a>(
+    alloc: Global,
+    infos: &[TableInfo],
+    tables: &'a Tables,
+    table: u16,
+    tests: &[Test],
+    direction: Direction,
+) -> Result<Option<Entry<'a>>, NoMemory>
+    requires keys { KeysStand infos.now tables.now }
+    requires places { All (IsPlaced (key_columns infos.now table)) tests.now }
+    ensures row { IfOk result (λ row. option_map seen row ≡ foremost direction (matching tests.now (rows_at tables.now table))) }
+    ensures rising { IfOk result (λ row. IsRising (rows_at tables.now table)) }
+{
+    match whole_key(alloc, tests, key_in(infos, table).len())? {
+        Some(key) => Ok(match_in(tables, table, &key, tests)),
+        None => foremost_within(alloc, tables, table, tests, direction),
     }
 }

@@ -4,14 +4,6 @@ use Rattle.mv_alone.proofs.Spanning.{placed_admit}
 use Rattle.mv_alone.proofs.FirstRows.{first_chosen}
 use Rattle.mv_alone.proofs.chosen.chosen_in.Goals as goal
 
-pub foremost_in-requires : goal.foremost_in-requires
-foremost_in-requires c =
-    placed_admit (key_columns c.args.infos.now c.args.table) c.args.tests.now (rows_at c.args.tables.now c.args.table) c.requires.places (c.requires.keys c.args.table)
-
-pub chosen_of_all-requires : goal.chosen_of_all-requires
-chosen_of_all-requires c =
-    placed_admit (key_columns c.args.infos.now c.args.table) c.args.tests.now (rows_at c.args.tables.now c.args.table) c.requires.places (c.requires.keys c.args.table)
-
 pub returns-in-Some : goal.returns-in-Some
 returns-in-Some c =
     let keys = key_columns c.args.infos.now c.args.table in

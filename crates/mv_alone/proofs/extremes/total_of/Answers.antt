@@ -8,14 +8,6 @@ use Rattle.mv_alone.proofs.Spanning.{placed_admit}
 use Rattle.mv_alone.proofs.FirstRows.{told_is, some_mapped, twice_mapped}
 use Rattle.mv_alone.proofs.extremes.total_of.Goals as goal
 
-pub total_of_all-requires : goal.total_of_all-requires
-total_of_all-requires c =
-    placed_admit (key_columns c.args.infos.now c.args.table) c.args.tests.now (rows_at c.args.tables.now c.args.table) c.requires.places (c.requires.keys c.args.table)
-
-pub foremost_in-requires : goal.foremost_in-requires
-foremost_in-requires c =
-    placed_admit (key_columns c.args.infos.now c.args.table) c.args.tests.now (rows_at c.args.tables.now c.args.table) c.requires.places (c.requires.keys c.args.table)
-
 pub returns : goal.returns
 returns c =
     let keys = key_columns c.args.infos.now c.args.table in

@@ -1,28 +1,19 @@
-use Rattle.std.proofs.Common.{◌≡◌, [], sym, subst, ◌∙◌}
-use Rattle.std.specs.Prelude.{IfOk}
+use Rattle.std.proofs.Common.{ap, ◌∙◌}
 use Rattle.std.specs.Option.{option_map}
-use Rattle.std.proofs.lemmas.List.{get_or_default}
-use Rattle.mv_values.specs.Keys.{IsRising}
+use Rattle.mv_values.specs.Tables.{key_columns, rows_at}
 use Rattle.mv_table.specs.Entries.{seen}
 use Rattle.mv_table.specs.Scans.{foremost}
-use Rattle.mv_alone.specs.FirstRows.{AdmitMatches}
-use Rattle.mv_alone.specs.Rows.{matching}
+use Rattle.mv_alone.proofs.Spanning.{placed_admit, whole_matches, foremost_of_one}
 use Rattle.mv_alone.proofs.foremost.foremost_in.Goals as goal
 
-pub foremost_of-requires : goal.foremost_of-requires
-foremost_of-requires c =
-    let there = rw c.as_slice.ensures at c.in-Some.ensures.lookup in
-    let is = there.1 ∙ get_or_default c.args.tables.now c.args.table c.in-Some.rows.now [] there.3.0 in
-    subst (AdmitMatches c.args.tests.now) (sym is) c.requires
+pub match_in-requires : goal.match_in-requires
+match_in-requires c =
+    let only = rw (c.in-Some.is, c.key_in.ensures) at c.in_ok-key.ensures.only in
+    whole_matches (key_columns c.args.infos.now c.args.table) c.args.tests.now (rows_at c.args.tables.now c.args.table) c.in-Some.key c.requires.places (c.requires.keys c.args.table) only
 
 pub returns-in-Some-clause-row : goal.returns-in-Some-clause-row
-returns-in-Some-clause-row c =
-    let there = rw c.as_slice.ensures at c.in-Some.ensures.lookup in
-    let is = there.1 ∙ get_or_default c.args.tables.now c.args.table c.in-Some.rows.now [] there.3.0 in
-    subst (λ rows. IfOk c.foremost_of.result (λ row. option_map seen row ≡ foremost c.args.direction (matching c.args.tests.now rows))) is c.foremost_of.ensures.row
+returns-in-Some-clause-row c = foremost_of_one c.args.direction (option_map seen c.match_in.result) ∙ ap (foremost c.args.direction) c.match_in.ensures.row
 
-pub returns-in-Some-clause-rising : goal.returns-in-Some-clause-rising
-returns-in-Some-clause-rising c =
-    let there = rw c.as_slice.ensures at c.in-Some.ensures.lookup in
-    let is = there.1 ∙ get_or_default c.args.tables.now c.args.table c.in-Some.rows.now [] there.3.0 in
-    subst (λ rows. IfOk c.foremost_of.result (λ row. IsRising rows)) is c.foremost_of.ensures.rising
+pub foremost_within-requires : goal.foremost_within-requires
+foremost_within-requires c =
+    placed_admit (key_columns c.args.infos.now c.args.table) c.args.tests.now (rows_at c.args.tables.now c.args.table) c.requires.places (c.requires.keys c.args.table)
