@@ -10,3 +10,4 @@ pub mod Different
 pub mod Told
 pub mod Foremost
 pub mod OwnKeys
+pub mod Whole

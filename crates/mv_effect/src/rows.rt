@@ -1,12 +1,13 @@
 //! The rows that a statement sees: those of a view, after the call's own writes.
 
-ghost use Rattle.std.specs.Prelude.{◌≡◌, ◌<◌, true, false, IfOk, OnOk, length, List};
+ghost use Rattle.std.specs.Prelude.{◌≡◌, ◌<◌, true, false, IfOk, IfSome, OnOk, length, option_to_list, List};
 ghost use Rattle.mv_values.specs.declared.value.Value.{Value};
 ghost use Rattle.std.specs.Option.{option_copied};
-ghost use Rattle.mv_values.specs.Patching.{row_of, placed, applied, found_by};
+ghost use Rattle.mv_values.specs.Patching.{row_of, placed, standing, applied, found_by};
 ghost use Rattle.mv_values.specs.Preds.{matched};
-ghost use Rattle.mv_values.specs.Tables.{rows_at};
+ghost use Rattle.mv_values.specs.Tables.{rows_at, key_columns};
 ghost use Rattle.mv_table.specs.Scans.{foremost};
+ghost use Rattle.mv_table.specs.Spans.{AdmitsOnly};
 ghost use Rattle.mv_alone.specs.Rows.{is_some_row};
 ghost use Rattle.mv_record.specs.Admitting.{Admitted};
 ghost use Rattle.mv_record.specs.Writes.{writes_on, AreRising};
@@ -17,14 +18,17 @@ ghost use Rattle.mv_effect.specs.Firsts.{is_met_before, IsFirstOf};
 ghost use Rattle.mv_recorded.specs.Asking.{KnowsKey};
 
 use crate::context::Context;
+use mv_alone::find::key_in;
 use mv_record::applying::put_row;
 use mv_table::scan::Direction;
+use mv_table::span::whole_key;
 use mv_undo::undo::Undo;
 use mv_values::copied::Copied;
 use mv_values::list::List;
 use mv_values::memory::NoMemory;
 use mv_values::pred::Pred;
 use mv_values::rows::{Keyed, Rows};
+use mv_values::schema::TableInfo;
 use mv_values::value::{Key, Row, compare_keys};
 use mv_view::key_set::KeySet;
 use mv_view::view::{Refused, View};
@@ -113,23 +117,6 @@ fn look<V: View>(
     let own = rows_under(alloc, undo, number, pred.table, keys, view)?;
     let rows = undo.overlay(alloc, number, pred, keys, rows, own)?;
     Ok(rows)
-}
-
-/// Returns the predicate's rows after the call's own writes that the statement sees, in key order. Asks the view once
-/// for its rows, and once for each key that these writes are on and the predicate admits, where they don't fix its row.
-pub(crate) fn visible_rows<V: View>(
-    alloc: Global,
-    context: &Context<'_>,
-    pred: &Pred,
-    view: &mut V,
-) -> Result<Rows, Refused>
-    requires stands { AreSoundTables context.now.tables.now (earlier context.now.number context.now.undo.now) (V.sight view.old).database }
-    requires knows { KnowsKey context.now.tables.now pred.now }
-    ensures found { IfOk result (λ rows. rows ≡ found_by pred.now (applied (earlier context.now.number context.now.undo.now) (V.sight view.old).database)) }
-    ensures view { OnlyAsks (V.sight view.old) (V.sight view.new) result }
-    ensures looks { AskedAtMost 1 (different (earlier context.now.number context.now.undo.now)) (V.sight view.old) (V.sight view.new) }
-{
-    look(alloc, pred, context.undo, context.number, view)
 }
 
 /// The keys of a table that the own writes of records with smaller numbers are on.
@@ -278,9 +265,124 @@ fn first_after<V: View>(
     Ok(own.or(other))
 }
 
+/// Returns the key that the predicate's tests give whole, if they do: rows that it matches stand under no other one.
+fn only_key(alloc: Global, tables: &[TableInfo], pred: &Pred) -> Result<Option<Key>, NoMemory>
+    ensures { IfOk result (λ key. IfSome key (AdmitsOnly pred.now.tests (length (key_columns tables.now pred.now.table)))) }
+{
+    let keys = key_in(tables, pred.table as u16);
+    whole_key(alloc, pred.tests.as_slice(), keys.len())
+}
+
+/// Returns the row under a key after the own writes of records with smaller numbers, if the predicate matches it. Asks
+/// the view once: for the row if it matches, or for the row before these writes where they are on the key. It doesn't
+/// ask for a row that they fix.
+fn row_under<V: View>(
+    alloc: Global,
+    pred: &Pred,
+    undo: &Undo,
+    number: usize,
+    key: &Key,
+    view: &mut V,
+) -> Result<Option<Row>, Refused>
+    requires rising { AreRising (V.sight view.old).database }
+    requires table { pred.now.table < length (V.sight view.old).database }
+    ensures found { IfOk result (λ row. row ≡ row_of (found_by pred.now (applied (earlier number undo.now) (V.sight view.old).database)) key.now) }
+    ensures view { OnlyAsks (V.sight view.old) (V.sight view.new) result }
+    ensures looks { AskedAtMost 1 (different (earlier number undo.now)) (V.sight view.old) (V.sight view.new) }
+{
+    if undo.touched(number, pred.table, key) {
+        return own_row(alloc, pred, undo, number, key, view);
+    }
+    let row = view.match_under(alloc, pred, key)?;
+    Ok(row)
+}
+
+/// Returns the row with its key, if there is one.
+fn keyed(key: Key, row: Option<Row>) -> Option<Keyed>
+    ensures { option_to_list result ≡ standing key row }
+{
+    match row {
+        Some(row) => Some(Keyed { key, row }),
+        None => None,
+    }
+}
+
+/// Returns the only row that the predicate matches after the own writes that the statement sees, if there is one. Its
+/// tests admit no other key.
+fn only_row<V: View>(
+    alloc: Global,
+    context: &Context<'_>,
+    pred: &Pred,
+    key: Key,
+    view: &mut V,
+) -> Result<Option<Keyed>, Refused>
+    requires stands { AreSoundTables context.now.tables.now (earlier context.now.number context.now.undo.now) (V.sight view.old).database }
+    requires knows { KnowsKey context.now.tables.now pred.now }
+    requires only { AdmitsOnly pred.now.tests (length (key_columns context.now.tables.now pred.now.table)) key }
+    ensures found { IfOk result (λ row. option_to_list row ≡ found_by pred.now (applied (earlier context.now.number context.now.undo.now) (V.sight view.old).database)) }
+    ensures view { OnlyAsks (V.sight view.old) (V.sight view.new) result }
+    ensures looks { AskedAtMost 1 (different (earlier context.now.number context.now.undo.now)) (V.sight view.old) (V.sight view.new) }
+{
+    let row = row_under(alloc, pred, context.undo, context.number, &key, view)?;
+    Ok(keyed(key, row))
+}
+
+/// Returns these rows: one or none.
+fn rows_of(alloc: Global, item: Option<Keyed>) -> Result<Rows, NoMemory>
+    ensures { IfOk result (λ rows. rows ≡ option_to_list item) }
+{
+    let mut rows = Rows::new(alloc);
+    if let Some(item) = item {
+        rows.push(item)?;
+    }
+    Ok(rows)
+}
+
+/// Returns the rows that the predicate matches after the own writes that the statement sees. Its tests admit no other key
+/// than this one.
+fn only_rows<V: View>(
+    alloc: Global,
+    context: &Context<'_>,
+    pred: &Pred,
+    key: Key,
+    view: &mut V,
+) -> Result<Rows, Refused>
+    requires stands { AreSoundTables context.now.tables.now (earlier context.now.number context.now.undo.now) (V.sight view.old).database }
+    requires knows { KnowsKey context.now.tables.now pred.now }
+    requires only { AdmitsOnly pred.now.tests (length (key_columns context.now.tables.now pred.now.table)) key }
+    ensures found { IfOk result (λ rows. rows ≡ found_by pred.now (applied (earlier context.now.number context.now.undo.now) (V.sight view.old).database)) }
+    ensures view { OnlyAsks (V.sight view.old) (V.sight view.new) result }
+    ensures looks { AskedAtMost 1 (different (earlier context.now.number context.now.undo.now)) (V.sight view.old) (V.sight view.new) }
+{
+    let item = only_row(alloc, context, pred, key, view)?;
+    Ok(rows_of(alloc, item)?)
+}
+
+/// Returns the predicate's rows after the call's own writes that the statement sees, in key order. Asks the view once
+/// for its rows, and once for each key that these writes are on and the predicate admits, where they don't fix its row.
+/// Where the predicate's tests give the key whole, it asks for the row under that key alone.
+pub(crate) fn visible_rows<V: View>(
+    alloc: Global,
+    context: &Context<'_>,
+    pred: &Pred,
+    view: &mut V,
+) -> Result<Rows, Refused>
+    requires stands { AreSoundTables context.now.tables.now (earlier context.now.number context.now.undo.now) (V.sight view.old).database }
+    requires knows { KnowsKey context.now.tables.now pred.now }
+    ensures found { IfOk result (λ rows. rows ≡ found_by pred.now (applied (earlier context.now.number context.now.undo.now) (V.sight view.old).database)) }
+    ensures view { OnlyAsks (V.sight view.old) (V.sight view.new) result }
+    ensures looks { AskedAtMost 1 (different (earlier context.now.number context.now.undo.now)) (V.sight view.old) (V.sight view.new) }
+{
+    match only_key(alloc, context.tables, pred)? {
+        Some(key) => only_rows(alloc, context, pred, key, view),
+        None => look(alloc, pred, context.undo, context.number, view),
+    }
+}
+
 /// Returns the first row in this direction of those that `visible_rows` returns. Asks the view once for its first row
 /// under a key that the call's own writes aren't on. Then it asks for the row under each of their keys that a scan meets
-/// before that one, until it has met a row. It doesn't ask for a row that these writes fix.
+/// before that one, until it has met a row. It doesn't ask for a row that these writes fix. Where the predicate's tests
+/// give the key whole, it asks for the row under that key alone.
 pub(crate) fn first_visible<V: View>(
     alloc: Global,
     context: &Context<'_>,
@@ -294,7 +396,10 @@ pub(crate) fn first_visible<V: View>(
     ensures view { OnlyAsks (V.sight view.old) (V.sight view.new) result }
     ensures looks { AskedAtMost 1 (different (earlier context.now.number context.now.undo.now)) (V.sight view.old) (V.sight view.new) }
 {
-    first_after(alloc, pred, context.undo, context.number, direction, view)
+    match only_key(alloc, context.tables, pred)? {
+        Some(key) => only_row(alloc, context, pred, key, view),
+        None => first_after(alloc, pred, context.undo, context.number, direction, view),
+    }
 }
 
 /// Whether there are any rows.

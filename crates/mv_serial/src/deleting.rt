@@ -2,19 +2,18 @@
 
 ghost use Rattle.std.specs.Prelude.{◌≡◌, All, map, IfOk, OnOk};
 ghost use Rattle.mv_values.specs.Keys.{IsRising};
-ghost use Rattle.mv_values.specs.Tables.{rows_at, KeysStand};
+ghost use Rattle.mv_values.specs.Tables.{rows_at, key_columns, KeysStand};
 ghost use Rattle.mv_table.specs.Entries.{seen};
 ghost use Rattle.mv_catalog.specs.Text.{IsTable};
 ghost use Rattle.mv_alone.specs.Outcome.{Leaves};
-ghost use Rattle.mv_alone.specs.Rows.{matching};
-ghost use Rattle.mv_alone.specs.FirstRows.{AdmitMatches};
+ghost use Rattle.mv_alone.specs.Rows.{matching, IsPlaced};
 ghost use Rattle.mv_alone.specs.Changes.{OthersStay};
 ghost use Rattle.mv_alone.specs.Alone.{delete};
 ghost use Rattle.mv_serial.specs.Changing.{removals, StaysUndoable};
 
 use crate::change::{RowChange, make_all};
 use mv_alone::env::set_found;
-use mv_alone::find::{matches_in, tests_from};
+use mv_alone::find::{found_in, tests_from};
 use mv_alone::state::{State, Stop};
 use mv_catalog::resolved::RCond;
 use mv_table::table::{Entry, Tables};
@@ -43,15 +42,17 @@ fn removals_of(alloc: Global, table: u16, rows: &[Entry<'_>]) -> Result<List<Row
 /// Returns the changes that remove each matching row.
 fn removals_in(
     alloc: Global,
+    infos: &[TableInfo],
     tables: &Tables,
     table: u16,
     tests: &[Test],
 ) -> Result<List<RowChange>, NoMemory>
-    requires { AdmitMatches tests.now (rows_at tables.now table) }
+    requires keys { KeysStand infos.now tables.now }
+    requires places { All (IsPlaced (key_columns infos.now table)) tests.now }
     ensures changes { IfOk result (λ changes. changes ≡ removals table (matching tests.now (rows_at tables.now table))) }
     ensures rising { IfOk result (λ changes. IsRising (rows_at tables.now table)) }
 {
-    let found = matches_in(alloc, tables, table, tests)?;
+    let found = found_in(alloc, infos, tables, table, tests)?;
     removals_of(alloc, table, found.as_slice())
 }
 
@@ -72,7 +73,7 @@ pub(crate) fn run_delete(
     ensures undo { StaysUndoable result undo.old state.old.tables undo.new state.new.tables }
 {
     let tests = tests_from(alloc, infos, table, conds, &state.env)?;
-    let changes = removals_in(alloc, &state.tables, table, tests.as_slice())?;
+    let changes = removals_in(alloc, infos, &state.tables, table, tests.as_slice())?;
     let found = changes.len() > 0;
     make_all(alloc, &mut state.tables, undo, changes)?;
     set_found(&mut state.env, found)?;

@@ -18,7 +18,7 @@ use crate::totals::run_total;
 use crate::updating::run_update;
 use mv_alone::env::{copied_turns, set_found, set_held};
 use mv_alone::expr::{holds, value};
-use mv_alone::find::{matches_in, tests_from};
+use mv_alone::find::{found_in, tests_from};
 use mv_alone::fixing::fixed_rows;
 use mv_alone::state::{Content, Env, State, Stop};
 use mv_catalog::resolved::{Query, RExpr, RStmt, Update};
@@ -177,7 +177,7 @@ fn turns_of(
     ensures { Gives result (then_do (tests_of (key_columns tables.now query.now.table) query.now.conds.now state.now.env) (λ tests. Ok (fixed once query.now.columns.now query.now.sorts.now (matching tests (rows_at state.now.tables query.now.table))))) }
 {
     let tests = tests_from(alloc, tables, query.table, query.conds, &state.env)?;
-    let found = matches_in(alloc, &state.tables, query.table, tests.as_slice())?;
+    let found = found_in(alloc, tables, &state.tables, query.table, tests.as_slice())?;
     Ok(fixed_rows(alloc, once, query.columns, query.sorts, found.as_slice())?)
 }
 

@@ -6,15 +6,14 @@ ghost use Rattle.mv_values.specs.Tables.{rows_at, columns_at, key_columns, KeysS
 ghost use Rattle.mv_table.specs.Entries.{seen};
 ghost use Rattle.mv_catalog.specs.Text.{IsTable};
 ghost use Rattle.mv_alone.specs.Outcome.{Gives, Leaves};
-ghost use Rattle.mv_alone.specs.Rows.{matching};
-ghost use Rattle.mv_alone.specs.FirstRows.{AdmitMatches};
+ghost use Rattle.mv_alone.specs.Rows.{matching, IsPlaced};
 ghost use Rattle.mv_alone.specs.Changes.{set_row, OthersStay};
 ghost use Rattle.mv_alone.specs.Alone as alone;
 ghost use Rattle.mv_serial.specs.Changing.{renewals, StaysUndoable};
 
 use crate::change::{RowChange, make_all};
 use mv_alone::env::set_found;
-use mv_alone::find::{columns_in, key_in, matches_in, tests_from};
+use mv_alone::find::{columns_in, found_in, key_in, tests_from};
 use mv_alone::made::row_after_set;
 use mv_alone::state::{Env, State, Stop};
 use mv_catalog::resolved::Update;
@@ -56,11 +55,12 @@ fn renewals_in(
     tests: &[Test],
     state: &State,
 ) -> Result<List<RowChange>, Stop>
-    requires { AdmitMatches tests.now (rows_at state.now.tables update.now.table) }
+    requires keys { KeysStand tables.now state.now.tables }
+    requires places { All (IsPlaced (key_columns tables.now update.now.table)) tests.now }
     ensures changes { Gives result (renewals update.now.table (λ row. set_row (columns_at tables.now update.now.table) (key_columns tables.now update.now.table) state.now.env row update.now.items.now row) (matching tests.now (rows_at state.now.tables update.now.table))) }
     ensures rising { IfOk result (λ changes. IsRising (rows_at state.now.tables update.now.table)) }
 {
-    let found = matches_in(alloc, &state.tables, update.table, tests)?;
+    let found = found_in(alloc, tables, &state.tables, update.table, tests)?;
     renewals_of(
         alloc,
         columns_in(tables, update.table),

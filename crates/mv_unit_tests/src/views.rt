@@ -223,6 +223,54 @@ fn the_first_and_the_last_row_are_found(rt: HostRuntime) -> Result<(), Fail> {
     ends_as_told(rt.alloc(), &tables)
 }
 
+/// A key, a column, its comparison with a number, and the number of the row under the key, if it passes.
+type Matched = (i64, u8, Op, i64, Option<i64>);
+
+const MATCHED: &[Matched] = &[
+    (3, 0, Op::Eq, 3, Some(3)),
+    (9, 0, Op::Eq, 9, None),
+    (2, 1, Op::Eq, 100, Some(2)),
+    (0, 1, Op::Eq, 100, None),
+    (3, 0, Op::Eq, 0, None),
+];
+
+/// Returns the number of the row under the key, if it passes.
+fn match_of<V: View>(
+    alloc: Global,
+    pred: &Pred,
+    key: &Key,
+    view: &mut V,
+) -> Result<Option<i64>, Fail> {
+    match view.match_under(alloc, pred, key) {
+        Ok(Some(row)) => Ok(number(&row, 0)),
+        Ok(None) => Ok(None),
+        Err(_) => Err("no answer".into()),
+    }
+}
+
+fn has_match(alloc: Global, tables: &Database, case: &Matched) -> Result<bool, Fail> {
+    let (id, column, op, value, want) = *case;
+    let pred = where_is(alloc, column, op, value)?;
+    let key = row(alloc, &[id])?;
+    let store = Store::new(alloc, tables)?;
+    let in_memory = match_of(alloc, &pred, &key, &mut Plain::new(tables))?;
+    let in_store = match_of(alloc, &pred, &key, &mut StoreView::new(&store, 0))?;
+    Ok((in_memory, in_store) == (want, want))
+}
+
+fn matched_as_told(alloc: Global, tables: &Database) -> Result<(), Fail> {
+    for (i, case) in MATCHED.iter().enumerate() {
+        ensure_at(alloc, has_match(alloc, tables, case)?, i)?;
+    }
+    Ok(())
+}
+
+#[test]
+fn a_row_is_found_under_its_key_if_it_matches(rt: HostRuntime) -> Result<(), Fail> {
+    let tables = database(rt.alloc())?;
+    matched_as_told(rt.alloc(), &tables)
+}
+
 /// Checks that the row under this key has this number in its second column, or that there is no row.
 fn shows(alloc: Global, view: &mut Plain, table: u8, id: i64, want: Option<i64>) -> Result<(), Fail>
     ensures counted { IfOk result (λ shown. view.new ≡ with_row_call view.old) }

@@ -1,6 +1,9 @@
-use Rattle.std.proofs.Common.{◌<◌, subst, sym}
+use Rattle.std.proofs.Common.{◌<◌, subst, sym, ap, ◌∙◌}
+use Rattle.std.proofs.lemmas.Result.{IfOk-weaker}
 use Rattle.mv_undo.specs.Owning.{earlier}
 use Rattle.mv_values.specs.Patching.{applied}
+use Rattle.mv_table.specs.Scans.{foremost}
+use Rattle.mv_alone.proofs.Spanning.{foremost_of_one}
 use Rattle.mv_recorded.proofs.Matching.{admitted}
 use Rattle.mv_effect.proofs.rows.first_visible.Goals as goal
 
@@ -18,11 +21,23 @@ first_after-requires-clause-behind g c =
 pub first_after-requires-clause-rising : goal.first_after-requires-clause-rising
 first_after-requires-clause-rising g c = c.requires.stands.database.rising
 
-pub returns-clause-found : goal.returns-clause-found
-returns-clause-found g c = c.first_after.ensures.found
+pub returns-in-None-clause-found : goal.returns-in-None-clause-found
+returns-in-None-clause-found g c = c.first_after.ensures.found
 
-pub returns-clause-view : goal.returns-clause-view
-returns-clause-view g c = c.first_after.ensures.view
+pub returns-in-None-clause-view : goal.returns-in-None-clause-view
+returns-in-None-clause-view g c = c.first_after.ensures.view
 
-pub returns-clause-looks : goal.returns-clause-looks
-returns-clause-looks g c = c.first_after.ensures.looks
+pub returns-in-None-clause-looks : goal.returns-in-None-clause-looks
+returns-in-None-clause-looks g c = c.first_after.ensures.looks
+
+pub returns-in-Some-clause-found : goal.returns-in-Some-clause-found
+returns-in-Some-clause-found g c = IfOk-weaker c.only_row.result _ _ (λ row is. foremost_of_one c.args.direction row ∙ ap (foremost c.args.direction) is) c.only_row.ensures.found
+
+pub returns-in-Some-clause-view : goal.returns-in-Some-clause-view
+returns-in-Some-clause-view g c = c.only_row.ensures.view
+
+pub returns-in-Some-clause-looks : goal.returns-in-Some-clause-looks
+returns-in-Some-clause-looks g c = c.only_row.ensures.looks
+
+pub only_row-requires-clause-only : goal.only_row-requires-clause-only
+only_row-requires-clause-only g c = rw c.in-Some.is at c.in_ok-key.ensures

@@ -18,11 +18,23 @@ look-requires-clause-behind g c =
 pub look-requires-clause-rising : goal.look-requires-clause-rising
 look-requires-clause-rising g c = c.requires.stands.database.rising
 
-pub returns-clause-found : goal.returns-clause-found
-returns-clause-found g c = c.look.ensures.found
+pub returns-in-None-clause-found : goal.returns-in-None-clause-found
+returns-in-None-clause-found g c = c.look.ensures.found
 
-pub returns-clause-view : goal.returns-clause-view
-returns-clause-view g c = c.look.ensures.view
+pub returns-in-None-clause-view : goal.returns-in-None-clause-view
+returns-in-None-clause-view g c = c.look.ensures.view
 
-pub returns-clause-looks : goal.returns-clause-looks
-returns-clause-looks g c = c.look.ensures.looks
+pub returns-in-None-clause-looks : goal.returns-in-None-clause-looks
+returns-in-None-clause-looks g c = c.look.ensures.looks
+
+pub returns-in-Some-clause-found : goal.returns-in-Some-clause-found
+returns-in-Some-clause-found g c = c.only_rows.ensures.found
+
+pub returns-in-Some-clause-view : goal.returns-in-Some-clause-view
+returns-in-Some-clause-view g c = c.only_rows.ensures.view
+
+pub returns-in-Some-clause-looks : goal.returns-in-Some-clause-looks
+returns-in-Some-clause-looks g c = c.only_rows.ensures.looks
+
+pub only_rows-requires-clause-only : goal.only_rows-requires-clause-only
+only_rows-requires-clause-only g c = rw c.in-Some.is at c.in_ok-key.ensures

@@ -1,9 +1,7 @@
-use Rattle.std.proofs.Common.{List, length, sym, ap, subst, ◌∙◌}
+use Rattle.std.proofs.Common.{List, All, length, sym, ap, subst, ◌∙◌}
 use Rattle.std.specs.Prelude.{nat_lt}
 use Rattle.mv_values.specs.Tables.{key_columns, rows_at}
-use Rattle.mv_alone.specs.Rows.{matching}
-use Rattle.mv_alone.specs.FirstRows.{AdmitMatches}
-use Rattle.mv_alone.proofs.Spanning.{placed_admit}
+use Rattle.mv_alone.specs.Rows.{matching, IsPlaced}
 use Rattle.mv_serial.proofs.Lawful.{others_left}
 use Rattle.mv_serial.proofs.Renewing.{removals_make, some_removed}
 use Rattle.mv_serial.specs.declared.change.RowChange.{RowChange}
@@ -36,8 +34,5 @@ returns-clause-others c =
     let made = removals_make t c.in_ok-tests.tests db c.make_all.new.tables c.in_ok-changes.changes c.in_ok-changes.ensures.rising is c.in_ok-make_all.ensures.tables in
     others_left db c.make_all.new.tables t _ made
 
-pub removals_in-requires : goal.removals_in-requires
-removals_in-requires c =
-    let rows = rows_at c.args.state.now.tables c.args.table in
-    subst (λ tests. AdmitMatches tests rows) (sym c.as_slice.ensures)
-    (placed_admit (key_columns c.args.infos.now c.args.table) c.in_ok-tests.tests rows c.in_ok-tests.ensures.places (c.requires.keys c.args.table))
+pub removals_in-requires-clause-places : goal.removals_in-requires-clause-places
+removals_in-requires-clause-places c = subst (All (IsPlaced (key_columns c.args.infos.now c.args.table))) (sym c.as_slice.ensures) c.in_ok-tests.ensures.places

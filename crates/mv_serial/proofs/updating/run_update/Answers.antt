@@ -1,9 +1,7 @@
-use Rattle.std.proofs.Common.{sym, subst}
+use Rattle.std.proofs.Common.{All, sym, subst}
 use Rattle.std.proofs.lemmas.Result.{err_from_is_err_and}
 use Rattle.mv_values.specs.Tables.{key_columns, columns_at, rows_at}
-use Rattle.mv_alone.specs.Rows.{matching}
-use Rattle.mv_alone.specs.FirstRows.{AdmitMatches}
-use Rattle.mv_alone.proofs.Spanning.{placed_admit}
+use Rattle.mv_alone.specs.Rows.{matching, IsPlaced}
 use Rattle.mv_alone.specs.Changes.{set_row}
 use Rattle.mv_alone.proofs.Standing.{New}
 use Rattle.mv_serial.proofs.Lawful.{others_stay}
@@ -52,8 +50,5 @@ returns-clause-others c =
     let made = renewals_make t new c.in_ok-tests.tests st.tables c.make_all.new.tables c.in_ok-changes.changes c.in_ok-changes.ensures.rising is c.in_ok-make_all.ensures.tables in
     others_stay st.tables c.make_all.new.tables t (updated_at c.args.tables.now t c.args.update.now.items.now c.in_ok-tests.tests st) made
 
-pub renewals_in-requires : goal.renewals_in-requires
-renewals_in-requires c =
-    let rows = rows_at c.args.state.now.tables c.args.update.now.table in
-    subst (λ tests. AdmitMatches tests rows) (sym c.as_slice.ensures)
-    (placed_admit (key_columns c.args.tables.now c.args.update.now.table) c.in_ok-tests.tests rows c.in_ok-tests.ensures.places (c.requires.keys c.args.update.now.table))
+pub renewals_in-requires-clause-places : goal.renewals_in-requires-clause-places
+renewals_in-requires-clause-places c = subst (All (IsPlaced (key_columns c.args.tables.now c.args.update.now.table))) (sym c.as_slice.ensures) c.in_ok-tests.ensures.places

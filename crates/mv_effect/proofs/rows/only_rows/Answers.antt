@@ -1,0 +1,5 @@
+use Rattle.std.proofs.Common.{◌∙◌}
+use Rattle.mv_effect.proofs.rows.only_rows.Goals as goal
+
+pub returns-clause-found : goal.returns-clause-found
+returns-clause-found g c = c.in_ok-rows_of.ensures ∙ c.in_ok-item.ensures.found
