@@ -5,9 +5,9 @@ use Rattle.mv_lawful.specs.Work.{table_at}
 use Rattle.mv_lawful.specs.Lawful.{Course, beginning}
 use Rattle.mv_lawful.proofs.Turns.{none_at}
 use Rattle.mv_store.specs.Stored.{Versioned, database_at, own_writes}
-use Rattle.mv_core.specs.declared.script.Script.{Script}
+use Rattle.mv_script.specs.declared.script.Script.{Script}
 use Rattle.mv_core.specs.declared.tasks.Running.{Running}
-use Rattle.mv_core.specs.Scripts.{IsScript, work_of}
+use Rattle.mv_script.specs.Scripts.{IsScript, work_of}
 use Rattle.mv_core.specs.Books.{Booked}
 use Rattle.mv_core.specs.Cores.{IsCore}
 

@@ -22,9 +22,9 @@ use Rattle.mv_lawful.specs.Outcomes.{turns_of}
 use Rattle.mv_lawful.specs.Work.{Work, records_at}
 use Rattle.mv_lawful.specs.declared.fault.Fault.TheVariants.{Idle, Order, Stale, Rounds}
 use Rattle.mv_lawful.specs.Lawful.{Live, Course, again, finish, change_live, used, has_step, has_round, is_hit, is_stale, unless, refusal, after}
-use Rattle.mv_core.specs.declared.script.Script.{Script}
+use Rattle.mv_script.specs.declared.script.Script.{Script}
 use Rattle.mv_core.specs.Rooms.{Filled}
-use Rattle.mv_core.specs.Scripts.{work_of, IsScript}
+use Rattle.mv_script.specs.Scripts.{work_of, IsScript}
 use Rattle.mv_core.specs.declared.tasks.Running.{Running}
 use Rattle.mv_core.specs.Calls.{IsLive, IsLiveCall, last_number, due_number}
 use Rattle.mv_core.specs.Books.{Booked, work_in, Made, IsSame, round_event, due_after, IsOwnBy, IsOwnNumber, IsAnswer, HasRoom, IsNotStale}

@@ -23,7 +23,7 @@ use Rattle.mv_graph.specs.contracts.graph.Graph as Graph
 use Rattle.mv_graph.proofs.graph.Node.TheSendSync as node
 use Rattle.mv_changes.proofs.recent.Recent.TheSendSync as recent
 use Rattle.mv_journal.proofs.event.Event.TheSendSync as event
-use Rattle.mv_core.specs.contracts.script.Script as Script
+use Rattle.mv_script.specs.contracts.script.Script as Script
 use Rattle.mv_core.specs.contracts.book.Book as Book
 use Rattle.mv_core.specs.contracts.book.Book.TheInside as Inside
 use Rattle.mv_core.proofs.live.LiveCalls.TheSendSync as live

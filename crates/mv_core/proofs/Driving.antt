@@ -8,7 +8,7 @@ use Rattle.mv_lawful.specs.declared.fault.Wrong.TheVariants as wrong
 use Rattle.mv_core.specs.declared.drive.Refusal.{Refusal}
 use Rattle.mv_core.specs.declared.drive.Refusal.TheVariants.{Refused, NoMemory}
 use Rattle.mv_lawful.specs.Lawful.{Course, refusal, after, or_refused, wrong_from, open_call}
-use Rattle.mv_core.specs.Scripts.{work_of}
+use Rattle.mv_script.specs.Scripts.{work_of}
 use Rattle.mv_core.specs.Books.{Booked, Made}
 use Rattle.mv_core.specs.Drives.{HasMade, HasTaken, Stops, Driven, fault_at}
 use Rattle.mv_core.proofs.Journals.{reach_more, allowed_more}

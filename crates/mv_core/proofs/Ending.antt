@@ -18,9 +18,9 @@ use Rattle.mv_lawful.specs.Rounds.{rounds_of}
 use Rattle.mv_lawful.specs.Outcomes.{reply_in, reply_after, turns_of, history_line, outcome_at, outcome_of}
 use Rattle.mv_core.specs.declared.book.Book.TheInside.{Inside}
 use Rattle.mv_core.specs.contracts.book.Book.{the_view}
-use Rattle.mv_core.specs.declared.script.Script.{Script}
+use Rattle.mv_script.specs.declared.script.Script.{Script}
 use Rattle.mv_core.specs.declared.progress.Progress.{Progress}
-use Rattle.mv_core.specs.Scripts.{work_of}
+use Rattle.mv_script.specs.Scripts.{work_of}
 use Rattle.mv_core.specs.Calls.{turns_in, live_of, TellsBy, IsReply, rounds_by, line_of, replies_in}
 use Rattle.mv_core.specs.Books.{Booked, IsBookKept, work_in, last_tables}
 use Rattle.mv_core.proofs.Journals.{Facts, all_done}

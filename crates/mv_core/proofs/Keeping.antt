@@ -15,13 +15,13 @@ use Rattle.mv_lawful.specs.Work.{Work, table_at}
 use Rattle.mv_lawful.specs.Lawful.{Turn, Live, Course, beginning, begin, again, finish, used, with_call, change_live, refusal, after, reach, AllAllowed}
 use Rattle.mv_lawful.specs.Rounds.{rounds_of}
 use Rattle.mv_lawful.specs.Outcomes.{turns_of}
-use Rattle.mv_core.specs.declared.script.Script.{Script}
+use Rattle.mv_script.specs.declared.script.Script.{Script}
 use Rattle.mv_core.specs.declared.progress.Progress.{Progress}
 use Rattle.mv_core.specs.declared.book.Begun.{Begun}
 use Rattle.mv_core.specs.declared.book.Book.TheInside.{Inside}
 use Rattle.mv_core.specs.contracts.book.Book.{the_view}
 use Rattle.mv_core.specs.Rooms.{Filled}
-use Rattle.mv_core.specs.Scripts.{work_of}
+use Rattle.mv_script.specs.Scripts.{work_of}
 use Rattle.mv_core.specs.Calls.{WithinRounds, turn_of, turns_in, live_of, IsLive, IsLiveCall, numbered, last_number, closed, counted, uncounted, due_number, committed, with_own, AreRounds, IsReply, TellsBy, TellsCall, IsFresh}
 use Rattle.mv_core.specs.Books.{Booked, IsBookKept, IsSame, work_in, kept_rounds, Made, HasBegun, HasRoom, HasRounds, IsSettled, IsFirstNumber, IsOwnBy, round_event, commit_event}
 use Rattle.mv_core.proofs.Numbers.{turns_numbered, turns_closed, last_numbered, table_stays, rounds_stay, last_of_end, closes, settled, settles, rounds_end, all_known}

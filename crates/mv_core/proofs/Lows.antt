@@ -7,9 +7,9 @@ use Rattle.mv_lawful.specs.Work.{Work}
 use Rattle.mv_lawful.specs.Lawful.{Course, next_low, floor}
 use Rattle.mv_lawful.specs.Lawful.{oldest as oldest_of}
 use Rattle.mv_lawful.proofs.Lows.{low_never_falls, oldest_most}
-use Rattle.mv_core.specs.declared.script.Script.{Script}
+use Rattle.mv_script.specs.declared.script.Script.{Script}
 use Rattle.mv_core.specs.declared.progress.Progress.{Progress}
-use Rattle.mv_core.specs.Scripts.{work_of}
+use Rattle.mv_script.specs.Scripts.{work_of}
 use Rattle.mv_core.specs.Calls.{live_of}
 use Rattle.mv_core.specs.Lives.{live_numbers, least_start}
 use Rattle.mv_core.specs.Books.{Booked, IsBookKept, work_in}

@@ -19,7 +19,7 @@ use Rattle.mv_core.specs.declared.progress.Progress.{Progress}
 use Rattle.mv_core.specs.declared.book.Book.TheInside.{Inside}
 use Rattle.mv_core.specs.declared.book.Check.TheVariants as check
 use Rattle.mv_core.specs.contracts.book.Book.{the_view}
-use Rattle.mv_core.specs.Scripts.{work_of}
+use Rattle.mv_script.specs.Scripts.{work_of}
 use Rattle.mv_core.specs.Calls.{live_of, IsLive, IsFresh}
 use Rattle.mv_core.specs.Lives.{live_numbers, least_start}
 use Rattle.mv_core.specs.Books.{Booked, IsRecent, Remembers, IsAnswer, work_in}

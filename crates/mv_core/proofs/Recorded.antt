@@ -13,9 +13,9 @@ use Rattle.mv_journal.specs.declared.outcome.Mark.{Mark}
 use Rattle.mv_journal.specs.declared.outcome.Mark.TheVariants.{Exclusive}
 use Rattle.mv_lawful.specs.Work.{table_at, records_at}
 use Rattle.mv_lawful.specs.Lawful.{Live, Course, again}
-use Rattle.mv_core.specs.declared.script.Script.{Script}
+use Rattle.mv_script.specs.declared.script.Script.{Script}
 use Rattle.mv_core.specs.declared.tasks.Running.{Running}
-use Rattle.mv_core.specs.Scripts.{work_of, IsCallOf, IsScript}
+use Rattle.mv_script.specs.Scripts.{work_of, IsCallOf, IsScript}
 use Rattle.mv_core.specs.Calls.{IsLive, IsLiveCall}
 use Rattle.mv_core.specs.Books.{Booked, work_in, Made, round_event, AreRecordsOf}
 use Rattle.mv_core.specs.Cores.{Cored, HasTasks, IsLiveTask, HasRunOne, KeepsOtherTasks, RunsOne, AreFirstOf, records_by, records_in}

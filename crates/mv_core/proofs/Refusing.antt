@@ -21,8 +21,8 @@ use Rattle.mv_lawful.specs.declared.fault.Fault.{Fault}
 use Rattle.mv_lawful.specs.declared.fault.Fault.TheVariants.{Order, Stale, Conflict, Idle, Rounds}
 use Rattle.mv_lawful.specs.Work.{Work, table_at, records_at, hit_of}
 use Rattle.mv_lawful.specs.Lawful.{Live, Course, used, has_step, has_round, is_stale, is_hit, unless, of_live, of_call, refusal, begin, first_open, open_call}
-use Rattle.mv_core.specs.declared.script.Script.{Script}
-use Rattle.mv_core.specs.Scripts.{work_of, IsScript}
+use Rattle.mv_script.specs.declared.script.Script.{Script}
+use Rattle.mv_script.specs.Scripts.{work_of, IsScript}
 use Rattle.mv_core.specs.Calls.{IsLive, IsLiveCall, turn_of}
 use Rattle.mv_core.specs.declared.book.Check.TheVariants as check
 use Rattle.mv_core.specs.Books.{Booked, work_in, Made, IsSame, IsAnswer, HasRounds}

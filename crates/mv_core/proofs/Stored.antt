@@ -33,8 +33,8 @@ use Rattle.mv_journal.specs.declared.event.Event.TheVariants.{C, G}
 use Rattle.mv_view.specs.Viewing.{Sight}
 use Rattle.mv_store.specs.Stored.{Versioned, database_at, newest, own_writes, IsLike}
 use Rattle.mv_store.specs.Changes.{HasPut, HasDropped, HasStamped, HasRaised}
-use Rattle.mv_core.specs.declared.script.Script.{Script}
-use Rattle.mv_core.specs.Scripts.{work_of, run_in, run_by, IsCallOf, CanRun, IsScriptOf, IsScript}
+use Rattle.mv_script.specs.declared.script.Script.{Script}
+use Rattle.mv_script.specs.Scripts.{work_of, run_in, run_by, IsCallOf, CanRun, IsScriptOf, IsScript}
 use Rattle.mv_core.specs.Told.{reply_told, writes_told}
 use Rattle.mv_core.specs.Calls.{IsLive, IsLiveCall}
 use Rattle.mv_core.specs.Books.{Booked, work_in, last_tables, last_run, last_changes, Made, IsSame, commit_event, IsNotStale, AreRecordsOf}

@@ -25,8 +25,8 @@ use Rattle.mv_lawful.specs.Work.{Work, table_at, records_at, since}
 use Rattle.mv_lawful.specs.Lawful.{Turn, Live, Course, begin, again, used, has_step}
 use Rattle.mv_lawful.specs.Rounds.{whole_run, later_run, round, rounds_of}
 use Rattle.mv_lawful.specs.Outcomes.{turns_of}
-use Rattle.mv_core.specs.declared.script.Script.{Script}
-use Rattle.mv_core.specs.Scripts.{work_of, IsCallOf, IsScript}
+use Rattle.mv_script.specs.declared.script.Script.{Script}
+use Rattle.mv_script.specs.Scripts.{work_of, IsCallOf, IsScript}
 use Rattle.mv_core.specs.declared.tasks.Running.{Running}
 use Rattle.mv_core.specs.Calls.{IsLive, IsLiveCall, closed, committed, last_number, due_number}
 use Rattle.mv_core.specs.Books.{Booked, work_in, Made, round_event, commit_event, IsFirstNumber, AreRecordsOf}

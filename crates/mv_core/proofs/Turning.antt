@@ -22,8 +22,8 @@ use Rattle.mv_lawful.proofs.Collections.{collections_unseen}
 use Rattle.mv_lawful.proofs.Turns.{at_end, turned, turns_reach, closed, no_commits, only_open}
 use Rattle.mv_core.specs.declared.engine.Attempt.{Attempt}
 use Rattle.mv_core.specs.declared.engine.Attempt.TheVariants.{Committed, Hit as Hits, Stale}
-use Rattle.mv_core.specs.declared.script.Script.{Script}
-use Rattle.mv_core.specs.Scripts.{work_of}
+use Rattle.mv_script.specs.declared.script.Script.{Script}
+use Rattle.mv_script.specs.Scripts.{work_of}
 use Rattle.mv_core.specs.Calls.{IsLive, IsLiveCall}
 use Rattle.mv_core.specs.Books.{Booked, work_in, Made, IsSame}
 use Rattle.mv_core.specs.Drives.{HasMade, HasTurned, Driven, HasReplayed}

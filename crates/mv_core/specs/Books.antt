@@ -19,13 +19,13 @@ use Rattle.mv_lawful.specs.Work.{Work, table_at, records_at, since, hit_of}
 use Rattle.mv_lawful.specs.Lawful.{Live, Course, beginning, refusal, used, oldest, after, course_of, is_stale, AllAllowed}
 use Rattle.mv_lawful.specs.Rounds.{rounds_of}
 use Rattle.mv_exec.specs.declared.task.Task.{Task}
-use Rattle.mv_core.specs.declared.script.Script.{Script}
+use Rattle.mv_script.specs.declared.script.Script.{Script}
 use Rattle.mv_core.specs.declared.progress.Progress.{Progress}
 use Rattle.mv_core.specs.declared.book.Begun.{Begun}
 use Rattle.mv_core.specs.declared.book.Check.{Check}
 use Rattle.mv_core.specs.declared.book.Check.TheVariants.{Free, Hit, Stale}
 use Rattle.mv_core.specs.Rooms.{Filled}
-use Rattle.mv_core.specs.Scripts.{work_of}
+use Rattle.mv_script.specs.Scripts.{work_of}
 use Rattle.mv_core.specs.Lives.{live_numbers}
 use Rattle.mv_core.specs.Calls.{IsLive, IsLiveCall, AreRounds, TellsCall, turns_in, last_number, due_number}
 

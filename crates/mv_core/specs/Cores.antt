@@ -26,8 +26,8 @@ use Rattle.mv_store.specs.Stored.{Versioned, database_at, own_writes}
 use Rattle.mv_store.specs.Changes.{HasStamped}
 use Rattle.mv_core.specs.declared.engine.Attempt.{Attempt}
 use Rattle.mv_core.specs.declared.engine.Attempt.TheVariants as attempt
-use Rattle.mv_core.specs.declared.script.Script.{Script}
-use Rattle.mv_core.specs.Scripts.{IsCallOf, IsScript, work_of}
+use Rattle.mv_script.specs.declared.script.Script.{Script}
+use Rattle.mv_script.specs.Scripts.{IsCallOf, IsScript, work_of}
 use Rattle.mv_core.specs.declared.tasks.Running.{Running}
 use Rattle.mv_core.specs.Calls.{IsLive, IsLiveCall, WithinRounds, last_number, due_number}
 use Rattle.mv_core.specs.Books.{Booked, work_in, Made, IsSame, AreRecordsOf}

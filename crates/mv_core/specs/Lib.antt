@@ -1,5 +1,4 @@
 pub mod Rooms
-pub mod Scripts
 pub mod Lives
 pub mod Calls
 pub mod Books

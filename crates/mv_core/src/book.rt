@@ -16,7 +16,7 @@ ghost use Rattle.mv_journal.specs.declared.outcome.Mark.TheVariants.{Plain, Excl
 use crate::live::LiveCalls;
 use crate::progress::{Progress, history_of, live_at, replies_of};
 use crate::roomy::{Roomy, last_number};
-use crate::script::Script;
+use mv_script::script::Script;
 use mv_changes::changes::Changes;
 use mv_changes::recent::{Committed, Recent};
 use mv_exec::task::Task;

@@ -6,12 +6,12 @@ ghost use Rattle.mv_lawful.specs.Lawful.{Live, Lawful, beginning, course_of, has
 ghost use Rattle.mv_lawful.specs.Outcomes.{outcome_of};
 ghost use Rattle.mv_exec.specs.Running.{stepped};
 ghost use Rattle.mv_core.specs.Calls.{IsLive, IsLiveCall, due_number};
-ghost use Rattle.mv_core.specs.Scripts.{IsScript};
+ghost use Rattle.mv_script.specs.Scripts.{IsScript};
 ghost use Rattle.mv_core.specs.Books.{work_in, HasRounds, IsSame, IsNotStale, IsAnswer};
 ghost use Rattle.mv_core.specs.Cores.{HasStep, HasEnded, MayStep, IsAllowedIfFresh, HasRefused, HasBegunCall, HasStepped, HasTried, HasRepaired, HasDecided, HasMovedUp, HasCollected, AreFirstOf, HasAllRecords, KeepsOtherTasks, BeginsTask, RunsOne, RunsWhole, records_in};
 
 use crate::book::{Book, Check};
-use crate::script::Script;
+use mv_script::script::Script;
 use crate::tasks::{
     Running, collect_versions, commit_task, decide_task, new_task, rerun_task, step_task,
     validate_task, whole_task,

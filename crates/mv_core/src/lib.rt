@@ -10,6 +10,5 @@ mod progress;
 mod roomy;
 mod running;
 pub mod runs;
-pub mod script;
 pub mod tasks;
 mod told;

@@ -9,12 +9,12 @@ ghost use Rattle.mv_record.specs.Writes.{AreRising};
 ghost use Rattle.mv_graph.specs.declared.graph.Graph.{Graph};
 ghost use Rattle.mv_graph.specs.Nodes.{meaning_of};
 ghost use Rattle.mv_exec.specs.Running.{IsTaskOf, IsUnchanged, HasLeft};
-ghost use Rattle.mv_core.specs.Scripts.{IsScript, IsCallOf, work_of};
+ghost use Rattle.mv_script.specs.Scripts.{IsScript, IsCallOf, work_of};
 ghost use Rattle.mv_history.specs.Kept.{executions};
 ghost use Rattle.mv_repair.specs.Repairing.{changes_since};
 ghost use Rattle.mv_core.specs.Cores.{RunsOn, IsTaskFor, IsDatabaseIn, CanRepair, HasRunOne, CountsAll};
 
-use crate::script::Script;
+use mv_script::script::Script;
 use mv_changes::recent::Committed;
 use mv_exec::running::{finish, next};
 use mv_exec::task::Task;

@@ -5,12 +5,12 @@ ghost use Rattle.mv_journal.specs.declared.event.Event.TheVariants.{G};
 ghost use Rattle.mv_lawful.specs.Lawful.{beginning};
 ghost use Rattle.mv_lawful.specs.Outcomes.{IsOutcomeInTurn};
 ghost use Rattle.mv_core.specs.Books.{Made, IsSame};
-ghost use Rattle.mv_core.specs.Scripts.{IsScript, work_of};
+ghost use Rattle.mv_script.specs.Scripts.{IsScript, work_of};
 ghost use Rattle.mv_core.specs.Drives.{HasTurned, HasReplayed};
 
 use crate::drive::{DriveFault, drive};
 use crate::engine::Core;
-use crate::script::Script;
+use mv_script::script::Script;
 use mv_journal::event::Event;
 use mv_journal::outcome::Outcome;
 use mv_values::memory::NoMemory;

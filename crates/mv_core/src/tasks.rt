@@ -18,14 +18,14 @@ ghost use Rattle.mv_store.specs.Changes.{HasRaised};
 ghost use Rattle.mv_store.specs.Stored.{IsLike};
 ghost use Rattle.mv_core.specs.declared.book.Check.TheVariants.{Free as IsFree, Hit as IsHit};
 ghost use Rattle.mv_core.specs.Told.{writes_told};
-ghost use Rattle.mv_core.specs.Scripts.{IsScript};
+ghost use Rattle.mv_script.specs.Scripts.{IsScript};
 ghost use Rattle.mv_core.specs.Calls.{IsLive, IsLiveCall, due_number};
 ghost use Rattle.mv_core.specs.Books.{work_in, last_tables, last_run, last_changes, commit_event, own_number, Made, IsSame, IsSettled, IsNotStale, IsAlone, IsOwnNumber, AreRecordsOf, IsAnswer};
 ghost use Rattle.mv_core.specs.Cores.{RunsOn, IsStoreOf, IsTaskIn, IsRunningIn, HasRunOn, HasRunOne, IsLiveTask, IsRepaired, HasStep, IsPrepared, HasCommitted, HasMovedAndCommitted, HasCollected, count_or};
 
 use crate::book::{Book, Check};
 use crate::running::{find_call, has_more, repair_over, run_all, run_next};
-use crate::script::Script;
+use mv_script::script::Script;
 use crate::told::{changes_told, put_told, reply_of};
 use mv_changes::changes::Changes;
 use mv_exec::task::Task;

@@ -8,8 +8,8 @@ use Rattle.mv_journal.specs.declared.event.Event.{Event}
 use Rattle.mv_seats.specs.Scripts.{Script as BoardScript}
 use Rattle.mv_seats.specs.Knowing.{Knows, gate_pass}
 use Rattle.mv_store.specs.Stored.{Versioned, database_at, own_writes}
-use Rattle.mv_core.specs.declared.script.Script.{Script}
-use Rattle.mv_core.specs.Scripts.{IsScript}
+use Rattle.mv_script.specs.declared.script.Script.{Script}
+use Rattle.mv_script.specs.Scripts.{IsScript}
 use Rattle.mv_core.specs.Books.{Booked}
 use Rattle.mv_core.proofs.Beginning.{new_core}
 use Rattle.mv_gate.specs.Gates.{script_in, work, IsDesk}

@@ -15,8 +15,8 @@ use Rattle.mv_lawful.proofs.Rounds.{bounded_other, bounded_repair, bounded_move}
 use Rattle.mv_seats.specs.Scripts.{Script as BoardScript}
 use Rattle.mv_seats.specs.Knowing.{Knows, Gate}
 use Rattle.mv_store.specs.Stored.{Versioned}
-use Rattle.mv_core.specs.declared.script.Script.{Script}
-use Rattle.mv_core.specs.Scripts.{work_of}
+use Rattle.mv_script.specs.declared.script.Script.{Script}
+use Rattle.mv_script.specs.Scripts.{work_of}
 use Rattle.mv_values.specs.declared.memory.NoMemory.{NoMemory}
 use Rattle.mv_core.specs.declared.book.Begun.{Begun}
 use Rattle.mv_core.specs.Calls.{IsLive, IsLiveCall}

@@ -16,9 +16,9 @@ use Rattle.mv_seats.specs.Scripts.{Script as BoardScript}
 use Rattle.mv_seats.specs.Knowing.{Knows}
 use Rattle.mv_seats.proofs.Prefixes.{prefix_self, prefix_more}
 use Rattle.mv_store.specs.Stored.{Versioned}
-use Rattle.mv_core.specs.declared.script.Script.{Script}
+use Rattle.mv_script.specs.declared.script.Script.{Script}
 use Rattle.mv_core.specs.declared.tasks.Running.{Running}
-use Rattle.mv_core.specs.Scripts.{work_of}
+use Rattle.mv_script.specs.Scripts.{work_of}
 use Rattle.mv_core.specs.Calls.{IsLiveCall}
 use Rattle.mv_values.specs.declared.memory.NoMemory.{NoMemory}
 use Rattle.mv_values.proofs.Deciding.{some_at}

@@ -15,9 +15,9 @@ use Rattle.mv_seats.specs.Scripts.{Script as BoardScript}
 use Rattle.mv_seats.specs.Knowing.{Knows, Plain, plain}
 use Rattle.mv_seats.proofs.Prefixes.{prefix_length}
 use Rattle.mv_store.specs.Stored.{Versioned}
-use Rattle.mv_core.specs.declared.script.Script.{Script}
+use Rattle.mv_script.specs.declared.script.Script.{Script}
 use Rattle.mv_core.specs.declared.tasks.Running.{Running}
-use Rattle.mv_core.specs.Scripts.{work_of}
+use Rattle.mv_script.specs.Scripts.{work_of}
 use Rattle.mv_core.specs.Calls.{IsLive, IsLiveCall, turns_in, due_number}
 use Rattle.mv_core.specs.Books.{Booked, work_in, Made, IsSame, HasRounds, IsNotStale, IsFirstNumber}
 use Rattle.mv_core.specs.Cores.{RunsOn, IsStoreOf, HasTurns, HasStep, HasRunOn, HasRunOne, count_or, IsCounted, IsLiveTask, IsTaskIn, IsRunningIn}

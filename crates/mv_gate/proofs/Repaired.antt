@@ -7,10 +7,10 @@ use Rattle.mv_lawful.specs.Work.{table_at, records_at, hit_of}
 use Rattle.mv_lawful.specs.Rounds.{repair_run}
 use Rattle.mv_lawful.specs.Lawful.{Live, Course, again}
 use Rattle.mv_store.specs.Stored.{Versioned}
-use Rattle.mv_core.specs.declared.script.Script.{Script}
+use Rattle.mv_script.specs.declared.script.Script.{Script}
 use Rattle.mv_exec.specs.declared.task.Task.{Task}
 use Rattle.mv_core.specs.declared.tasks.Running.{Running}
-use Rattle.mv_core.specs.Scripts.{work_of}
+use Rattle.mv_script.specs.Scripts.{work_of}
 use Rattle.mv_core.specs.Calls.{IsLive}
 use Rattle.mv_core.specs.Books.{Booked, work_in, Made, IsSame}
 use Rattle.mv_core.specs.Cores.{RunsOn, IsStoreOf, HasTurns, IsLiveTask, IsRepaired}

@@ -13,9 +13,9 @@ use Rattle.mv_lawful.specs.Outcomes.{outcome_of}
 use Rattle.mv_store.specs.Stored.{Versioned}
 use Rattle.mv_seats.specs.Scripts.{Script as BoardScript}
 use Rattle.mv_seats.specs.Knowing.{Knows, Plain, Gate}
-use Rattle.mv_core.specs.declared.script.Script.{Script}
+use Rattle.mv_script.specs.declared.script.Script.{Script}
 use Rattle.mv_core.specs.declared.tasks.Running.{Running}
-use Rattle.mv_core.specs.Scripts.{work_of}
+use Rattle.mv_script.specs.Scripts.{work_of}
 use Rattle.mv_core.specs.Calls.{IsLive, IsLiveCall}
 use Rattle.mv_core.specs.Books.{Booked, work_in, Made, IsSame, IsNotStale, AreRecordsOf}
 use Rattle.mv_core.specs.Cores.{RunsOn, IsStoreOf, HasTurns, HasStep, HasRunOn, IsTaskIn}

@@ -5,7 +5,7 @@ ghost use mathlib.Core.List.{IsPrefix};
 ghost use Rattle.mv_seats.specs.Knowing.{Plain, gate_pass};
 ghost use Rattle.mv_lawful.specs.Lawful.{Live, beginning, open_call, refusal, is_stale, has_round};
 ghost use Rattle.mv_journal.specs.declared.event.Event.TheVariants.{A, M, C, X};
-ghost use Rattle.mv_core.specs.Scripts.{IsScript};
+ghost use Rattle.mv_script.specs.Scripts.{IsScript};
 ghost use Rattle.mv_core.specs.Calls.{IsLive, IsLiveCall};
 ghost use Rattle.mv_core.specs.Books.{work_in, Made, IsSame, IsNotStale};
 ghost use Rattle.mv_core.specs.Cores.{HasStep, HasRunOne, HasCommitted, HasCollected, HasMovedAndCommitted};
@@ -18,7 +18,7 @@ use crate::held::Held;
 use crate::notes::note;
 use crate::rounds::repaired_from;
 use mv_core::book::{Book, Check};
-use mv_core::script::Script;
+use mv_script::script::Script;
 use mv_core::tasks::{
     Running, collect_versions, commit_task, finish_task, move_and_commit, new_task, repair_task,
     step_task, whole_task,

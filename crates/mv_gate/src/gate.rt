@@ -4,7 +4,7 @@ ghost use Rattle.std.specs.Prelude.{◌≡◌, ◌<◌, ◌≤◌, ◌^◌, [], 
 ghost use mathlib.Core.List.{IsPrefix};
 ghost use Rattle.mv_seats.specs.Knowing.{Plain};
 ghost use Rattle.mv_lawful.specs.Serializable.{IsSerializable};
-ghost use Rattle.mv_core.specs.Scripts.{IsScript, work_of};
+ghost use Rattle.mv_script.specs.Scripts.{IsScript, work_of};
 ghost use Rattle.mv_gate.specs.Gates.{script_in, work, IsOutcome};
 
 use crate::answers::Answer;
@@ -12,7 +12,7 @@ use crate::desk::Desk;
 use crate::guarded::Guarded;
 use crate::held::Held;
 use crate::notes::note;
-use mv_core::script::Script;
+use mv_script::script::Script;
 use mv_edge::pace::{Moment, Pace, Point};
 use mv_journal::outcome::Outcome;
 use mv_seats::board::{Blank, Board, Making};

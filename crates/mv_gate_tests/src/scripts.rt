@@ -2,7 +2,7 @@
 
 ghost use Rattle.std.specs.Prelude.{◌<◌, ◌≤◌, length, IfOk};
 ghost use Rattle.mv_accept.specs.Accepting.{most_calls};
-ghost use Rattle.mv_core.specs.Scripts.{IsScript};
+ghost use Rattle.mv_script.specs.Scripts.{IsScript};
 
 use mv_accept::accept::accept;
 use mv_cases::accounts::{ADD, OTHERS};

@@ -19,8 +19,8 @@ use Rattle.mv_recorded.specs.Recorded.{records, records_in, records_at}
 use Rattle.mv_recorded.proofs.RowsTyped.{all_get}
 use Rattle.mv_graph.specs.declared.graph.Graph.{Graph}
 use Rattle.mv_compile.specs.Compiled.{graph_of, graphs_of}
-use Rattle.mv_core.specs.declared.script.Script.{Script}
-use Rattle.mv_core.specs.Scripts.{run_by, run_in, IsCallOf, CanRun, IsScript, work_of as script_work}
+use Rattle.mv_script.specs.declared.script.Script.{Script}
+use Rattle.mv_script.specs.Scripts.{run_by, run_in, IsCallOf, CanRun, IsScript, work_of as script_work}
 use Rattle.mv_report.specs.History.{work_of}
 
 -- What a list has at a place

@@ -3,7 +3,7 @@
 ghost use Rattle.std.specs.Prelude.{◌≡◌, ◌<◌, ◌≤◌, ◌^◌, length, IfOk, IfErr};
 ghost use Rattle.mv_accept.specs.Accepting.{most_calls};
 ghost use Rattle.mv_record.specs.Databases.{IsProgram};
-ghost use Rattle.mv_core.specs.Scripts.{IsScript, work_of};
+ghost use Rattle.mv_script.specs.Scripts.{IsScript, work_of};
 ghost use Rattle.mv_lawful.specs.Lawful.{Lawful};
 ghost use Rattle.mv_lawful.specs.Outcomes.{outcome_of};
 ghost use Rattle.mv_top.specs.Journals.{block_in, IsJournalOf, IsJournalText};
@@ -14,7 +14,7 @@ use crate::script::{Prepared, prepare};
 use mv_catalog::resolved::{CopyInfo, Program};
 use mv_core::drive::DriveFault;
 use mv_core::runs::replay;
-use mv_core::script::Script;
+use mv_script::script::Script;
 use mv_journal::event::Event;
 use mv_journal::fault::LineFault;
 use mv_journal::journal::read_journal;

@@ -4,12 +4,12 @@ ghost use Rattle.std.specs.Prelude.{◌≡◌, ◌≤◌, length, IfOk};
 ghost use Rattle.mv_accept.specs.Accepting.{most_calls};
 ghost use Rattle.mv_catalog.specs.declared.resolved.Program.{Program as Whole};
 ghost use Rattle.mv_record.specs.Databases.{IsProgram};
-ghost use Rattle.mv_core.specs.Scripts.{IsScript, work_of as script_work};
+ghost use Rattle.mv_script.specs.Scripts.{IsScript, work_of as script_work};
 ghost use Rattle.mv_report.specs.History.{work_of};
 
 use mv_catalog::resolved::{Program, Resolved};
 use mv_compile::compile::compile;
-use mv_core::script::Script;
+use mv_script::script::Script;
 use mv_values::calls::Options;
 use mv_values::copied::Copied;
 use mv_values::list::List;

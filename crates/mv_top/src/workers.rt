@@ -3,14 +3,14 @@
 ghost use Rattle.std.specs.Prelude.{◌≤◌, length, IfOk};
 ghost use Rattle.mv_accept.specs.Accepting.{most_calls};
 ghost use Rattle.mv_record.specs.Databases.{IsProgram};
-ghost use Rattle.mv_core.specs.Scripts.{IsScript, work_of};
+ghost use Rattle.mv_script.specs.Scripts.{IsScript, work_of};
 ghost use Rattle.mv_top.specs.Workers.{IsLeftBy};
 ghost use Rattle.mv_top.specs.Answers.{IsTextOfWorkers};
 
 use crate::script::{Prepared, prepare};
 use mv_catalog::resolved::Program;
 use mv_core::runs::run_in_turn;
-use mv_core::script::Script;
+use mv_script::script::Script;
 use mv_edge::pace::Pace;
 use mv_gate::gate;
 use mv_journal::outcome::Outcome;

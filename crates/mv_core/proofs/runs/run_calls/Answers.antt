@@ -1,6 +1,6 @@
 use Rattle.std.proofs.Common.{◌≡◌, ℕ, Option, Ok, length, ap, subst, arith}
 use Rattle.mv_journal.specs.declared.event.Event.TheVariants.{B, C}
-use Rattle.mv_core.specs.declared.script.Script.{Script}
+use Rattle.mv_script.specs.declared.script.Script.{Script}
 use Rattle.mv_core.specs.Books.{Made, IsSame, work_in}
 use Rattle.mv_core.specs.Cores.{HasBegunCall}
 use Rattle.mv_core.proofs.Journals.{room_of}

@@ -4,7 +4,7 @@ use Rattle.mv_values.proofs.Deciding.{always_err}
 use Rattle.mv_journal.specs.declared.event.Event.TheVariants.{X}
 use Rattle.mv_lawful.specs.Work.{records_at}
 use Rattle.mv_lawful.specs.Lawful.{Live, is_stale}
-use Rattle.mv_core.specs.Scripts.{work_of}
+use Rattle.mv_script.specs.Scripts.{work_of}
 use Rattle.mv_core.specs.Calls.{IsLive, IsLiveCall}
 use Rattle.mv_core.specs.Books.{work_in}
 use Rattle.mv_core.specs.Cores.{IsRunningIn, IsLiveTask, IsRepaired, HasTurns}

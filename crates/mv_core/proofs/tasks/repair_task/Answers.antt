@@ -2,7 +2,7 @@ use Rattle.std.proofs.Common.{length, sym, subst, Some}
 use Rattle.mv_changes.specs.Commits.{changes_in}
 use Rattle.mv_lawful.specs.Lawful.{Live}
 use Rattle.mv_repair.specs.Repairing.{changes_since}
-use Rattle.mv_core.specs.declared.script.Script.{Script}
+use Rattle.mv_script.specs.declared.script.Script.{Script}
 use Rattle.mv_core.specs.Cores.{IsTaskFor, IsLiveTask, IsRepaired, CanRepair}
 use Rattle.mv_core.proofs.Stored.{Shows, shows_last, can_repair}
 use Rattle.mv_core.proofs.Taking.{task_runs, task_back, task_spent, task_repaired, one_live}

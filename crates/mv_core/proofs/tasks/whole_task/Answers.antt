@@ -1,5 +1,5 @@
 use Rattle.std.proofs.Common.{arith, length, sym, ap, subst, ◌∙◌}
-use Rattle.mv_core.specs.declared.script.Script.{Script}
+use Rattle.mv_script.specs.declared.script.Script.{Script}
 use Rattle.mv_core.specs.Cores.{RunsOn}
 use Rattle.mv_core.proofs.Stored.{Shows, shows, database_shown}
 use Rattle.mv_core.proofs.Taking.{runs_back}

@@ -2,7 +2,7 @@ use Rattle.std.proofs.Common.{List, length, ap, subst, arith}
 use Rattle.std.proofs.lemmas.Result.{err_from_is_err_and}
 use Rattle.mv_journal.specs.declared.event.Event.{Event}
 use Rattle.mv_top.specs.Refusing.{TellsWrong}
-use Rattle.mv_core.specs.Scripts.{work_of}
+use Rattle.mv_script.specs.Scripts.{work_of}
 use Rattle.mv_top.proofs.Driving.{journal_told}
 use Rattle.mv_top.proofs.journals.journal_text.Goals as goal
 

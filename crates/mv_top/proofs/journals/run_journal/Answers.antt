@@ -1,5 +1,5 @@
 use Rattle.std.proofs.lemmas.Result.{err_from_is_err_and}
-use Rattle.mv_core.specs.Scripts.{work_of}
+use Rattle.mv_script.specs.Scripts.{work_of}
 use Rattle.mv_top.proofs.Driving.{fault_told}
 use Rattle.mv_top.proofs.journals.run_journal.Goals as goal
 

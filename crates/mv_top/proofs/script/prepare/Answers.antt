@@ -1,6 +1,6 @@
 use Rattle.std.proofs.Common.{◌∙◌, List, ap, subst, sym}
 use Rattle.mv_graph.specs.declared.graph.Graph.{Graph}
-use Rattle.mv_core.specs.Scripts.{IsScript, work_of as script_work}
+use Rattle.mv_script.specs.Scripts.{IsScript, work_of as script_work}
 use Rattle.mv_top.proofs.Scripts.{script_is, work_is}
 use Rattle.mv_top.proofs.script.prepare.Goals as goal
 

@@ -1,6 +1,6 @@
 use Rattle.std.proofs.Common.{◌∙◌, ap, subst, sym}
 use Rattle.mv_catalog.specs.declared.resolved.Program.{Program}
-use Rattle.mv_core.specs.Scripts.{IsScript, work_of as script_work}
+use Rattle.mv_script.specs.Scripts.{IsScript, work_of as script_work}
 use Rattle.mv_top.proofs.Scripts.{script_by, script_is, work_is}
 use Rattle.mv_top.proofs.script.script_of.Goals as goal
 

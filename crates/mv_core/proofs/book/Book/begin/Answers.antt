@@ -4,7 +4,7 @@ use Rattle.mv_core.specs.declared.progress.Progress.{Progress}
 use Rattle.std.specs.Prelude.{All}
 use Rattle.mv_core.specs.Lives.{live_numbers}
 use Rattle.mv_core.specs.Calls.{live_of, IsFresh}
-use Rattle.mv_core.specs.Scripts.{work_of}
+use Rattle.mv_script.specs.Scripts.{work_of}
 use Rattle.mv_core.specs.Books.{Booked, IsBook}
 use Rattle.mv_core.proofs.Keeping.{few_inside, live_within, live_comes, kept_begun, begun_none, begun_made, the_course, all_begun}
 use Rattle.mv_core.proofs.Recents.{recent_begun}

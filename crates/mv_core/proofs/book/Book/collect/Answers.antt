@@ -1,6 +1,6 @@
 use Rattle.std.proofs.Common.{arith, ◌≡◌, ◌≤◌, ◌+◌, ◌∙◌, length, sym, ap, subst, refl, map}
 use Rattle.mv_lawful.specs.Lawful.{next_low}
-use Rattle.mv_core.specs.Scripts.{work_of}
+use Rattle.mv_script.specs.Scripts.{work_of}
 use Rattle.mv_core.specs.Calls.{live_of}
 use Rattle.mv_core.specs.Books.{Booked, work_in, IsSettled}
 use Rattle.mv_journal.specs.declared.event.Event.TheVariants.{G}

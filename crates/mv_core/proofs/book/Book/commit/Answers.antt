@@ -7,7 +7,7 @@ use Rattle.mv_lawful.specs.Rounds.{rounds_of}
 use Rattle.mv_core.specs.Lives.{live_numbers, without}
 use Rattle.mv_core.specs.Calls.{IsLive, live_of, turns_in, last_number, committed, with_own}
 use Rattle.mv_core.specs.Books.{Booked, last_run, last_changes, commit_event, own_number, IsAlone, IsOwnNumber}
-use Rattle.mv_core.specs.Scripts.{work_of}
+use Rattle.mv_script.specs.Scripts.{work_of}
 use Rattle.mv_core.proofs.Keeping.{live_leaves, the_course, here_at, IsProgressAt, few_inside, within, commit_live, number_fits, room_here, settled_here, rounds_committed, kept_commit, commit_after, made_committed, own_known, still_settled, free_on, room_left}
 use Rattle.mv_core.proofs.Given.{some_then, none_then}
 use Rattle.mv_core.proofs.Lives.{without_only}

@@ -2,7 +2,7 @@ use Rattle.std.proofs.Common.{arith, rules, ◌≡◌, ◌≤◌, ◌<◌, ◌^�
 use Rattle.mv_lawful.specs.Lawful.{Live, again}
 use Rattle.mv_core.specs.Calls.{IsLive, live_of}
 use Rattle.mv_core.specs.Books.{Booked, round_event, due_after}
-use Rattle.mv_core.specs.Scripts.{work_of}
+use Rattle.mv_script.specs.Scripts.{work_of}
 use Rattle.mv_core.proofs.Keeping.{live_stays, the_course, here_at, IsProgressAt, few_inside, within, round_live, room_here, settled_here, kept_restart, counted_known, number_counted, restarted, restart_after, map_changed, made_on, free_on, room_left, start_past, still_settled}
 use Rattle.mv_core.proofs.Recents.{recent_set}
 use Rattle.mv_core.proofs.book.Book.restart.Goals as goal

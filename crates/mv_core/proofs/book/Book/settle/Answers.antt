@@ -1,7 +1,7 @@
 use Rattle.std.proofs.Common.{arith, Some, is_some, refl, ap, sym, ◌∙◌}
 use Rattle.mv_core.specs.Calls.{last_number}
 use Rattle.mv_core.specs.Books.{Booked}
-use Rattle.mv_core.specs.Scripts.{work_of}
+use Rattle.mv_script.specs.Scripts.{work_of}
 use Rattle.mv_core.proofs.Keeping.{live_stays, the_course, here_at, kept_settled, settled_live, settled_told, still_settled, number_set, set_known, first_due, same_calls, room_left}
 use Rattle.mv_core.proofs.Recents.{recent_set}
 use Rattle.mv_core.proofs.book.Book.settle.Goals as goal

@@ -1,7 +1,7 @@
 use Rattle.std.proofs.Common.{rules, arith, ◌≡◌, length, map, max}
 use Rattle.mv_lawful.proofs.Lows.{oldest_most}
 use Rattle.mv_lawful.specs.Lawful.{oldest}
-use Rattle.mv_core.specs.Scripts.{work_of}
+use Rattle.mv_script.specs.Scripts.{work_of}
 use Rattle.mv_core.specs.Calls.{live_of}
 use Rattle.mv_core.proofs.Keeping.{the_course}
 use Rattle.mv_core.proofs.Lows.{needless_told}

@@ -4,7 +4,7 @@ use Rattle.std.specs.Prelude.{slice_get}
 use Rattle.mv_values.specs.Tables.{Tables}
 use Rattle.mv_core.specs.declared.tasks.Running.{Running}
 use Rattle.mv_journal.specs.declared.event.Event.TheVariants.{B}
-use Rattle.mv_core.specs.declared.script.Script.{Script}
+use Rattle.mv_script.specs.declared.script.Script.{Script}
 use Rattle.mv_core.specs.declared.book.Begun.{Begun}
 use Rattle.mv_core.specs.Books.{Made, HasBegun}
 use Rattle.mv_core.specs.Cores.{RunsOn, IsCore, records_by}

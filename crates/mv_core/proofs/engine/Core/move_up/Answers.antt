@@ -3,8 +3,8 @@ use Rattle.mv_journal.specs.declared.event.Event.TheVariants.{M}
 use Rattle.mv_journal.specs.declared.outcome.Mark.TheVariants.{Moved}
 use Rattle.mv_lawful.specs.Work.{records_at, table_at}
 use Rattle.mv_lawful.specs.Lawful.{Course}
-use Rattle.mv_core.specs.declared.script.Script.{Script}
-use Rattle.mv_core.specs.Scripts.{work_of}
+use Rattle.mv_script.specs.declared.script.Script.{Script}
+use Rattle.mv_script.specs.Scripts.{work_of}
 use Rattle.mv_core.specs.Books.{Booked, work_in}
 use Rattle.mv_core.specs.Cores.{HasTurns, RunsOn}
 use Rattle.mv_core.proofs.Stored.{stored_made}

@@ -4,7 +4,7 @@ use lib.Dec.{eqb}
 use Rattle.mv_journal.specs.declared.event.Event.TheVariants.{C}
 use Rattle.mv_lawful.specs.Lawful.{Course, refusal}
 use Rattle.mv_seats.specs.Knowing.{Knows}
-use Rattle.mv_core.specs.declared.script.Script.{Script}
+use Rattle.mv_script.specs.declared.script.Script.{Script}
 use Rattle.mv_core.specs.Books.{Booked, work_in, Made, IsSame}
 use Rattle.mv_core.proofs.Stored.{stored_same, last_records}
 use Rattle.mv_core.proofs.Changed.{allowed_same, same_both, made_after, made_now}

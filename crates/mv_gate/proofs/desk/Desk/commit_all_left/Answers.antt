@@ -1,5 +1,5 @@
 use Rattle.std.proofs.Common.{length, ap, arith}
-use Rattle.mv_core.specs.declared.script.Script.{Script}
+use Rattle.mv_script.specs.declared.script.Script.{Script}
 use Rattle.mv_gate.proofs.Ending.{keeps_both, done_more, all_done}
 use Rattle.mv_gate.proofs.desk.Desk.commit_all_left.Goals as goal
 

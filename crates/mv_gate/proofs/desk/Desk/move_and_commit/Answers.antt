@@ -2,7 +2,7 @@ use Rattle.std.proofs.Common.{◌≡◌, ◌<◌, ◌∙◌, ℕ, List, false, l
 use Rattle.std.specs.List.{list_any}
 use lib.Dec.{eqb}
 use Rattle.mv_seats.specs.Knowing.{Knows}
-use Rattle.mv_core.specs.declared.script.Script.{Script}
+use Rattle.mv_script.specs.declared.script.Script.{Script}
 use Rattle.mv_core.specs.Calls.{IsLiveCall}
 use Rattle.mv_core.specs.Books.{Booked}
 use Rattle.mv_gate.specs.Gates.{IsStale}

@@ -10,7 +10,7 @@ use Rattle.mv_record.specs.Runs.{Run}
 use Rattle.mv_graph.specs.declared.graph.Graph.{Graph}
 use Rattle.mv_graph.specs.Nodes.{IsSound, meaning_of}
 use Rattle.mv_lawful.specs.Work.{Work}
-use Rattle.mv_core.specs.declared.script.Script.{Script}
+use Rattle.mv_script.specs.declared.script.Script.{Script}
 
 -- Its work
 

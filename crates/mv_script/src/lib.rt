@@ -1,0 +1,4 @@
+//! The script of a run, and how its calls run by the graphs of their procedures.
+#![tactic(auto)]
+
+pub mod script;
