@@ -1,7 +1,8 @@
 -- The variables of a call. This project's own.
-use Rattle.std.specs.Prelude.{ℕ, zero, suc, pos, Bool, List, [], ◌∷◌, slice_index_or, if◌then◌else◌}
+use Rattle.std.specs.Prelude.{◌≡◌, ℕ, zero, suc, pos, Bool, List, [], ◌∷◌, drop, slice_index_or, if◌then◌else◌}
 use Rattle.mv_values.specs.declared.value.Value.{Value}
 use Rattle.mv_values.specs.declared.value.Value.TheVariants.{Int}
+use Rattle.mv_values.specs.Columns.{columns_of}
 use Rattle.mv_alone.specs.declared.state.Content.{Content}
 use Rattle.mv_alone.specs.declared.state.Content.TheVariants.{Scalar, Turn, Turns}
 use Rattle.mv_alone.specs.declared.state.Env.{Env}
@@ -65,6 +66,10 @@ abbrev pub with_values : Env → List ℕ → List Value → Env
 with_values env [] vs = env
 with_values env (x ∷ xs) [] = env
 with_values env (x ∷ xs) (v ∷ vs) = with_values (with_value env x v) xs vs
+
+-- the first of these variables were set to the row's columns: to set the others leads to what setting all of them leads to
+abbrev pub ArePartlySet : List ℕ → List Value → List ℕ → Env → Env → Type 0
+ArePartlySet to row columns old new = (n : ℕ) × (with_values new (drop n to) (columns_of row (drop n columns)) ≡ with_values old to (columns_of row columns))
 
 -- 1 or 0
 abbrev pub truth : Bool → Value

@@ -2,7 +2,7 @@
 
 ghost use Rattle.std.specs.Prelude.{◌≡◌, IfOk, OnErr, OnOk, length, take};
 ghost use Rattle.mv_values.specs.Columns.{column_of, columns_of};
-ghost use Rattle.mv_alone.specs.Env.{scalar_at, turn_at, turns_at, padded, truth, with_held, with_value, with_values, with_found};
+ghost use Rattle.mv_alone.specs.Env.{scalar_at, turn_at, turns_at, padded, truth, with_held, with_value, with_values, with_found, ArePartlySet};
 
 use crate::state::{Content, Env};
 use mv_values::copied::Copied;
@@ -117,8 +117,8 @@ pub fn set_found(env: &mut Env, found: bool) -> Result<(), NoMemory>
     set_held(env, env.found, Content::Scalar(truth_of(found)))
 }
 
-/// Sets each variable to a copy of the column at the same place, up to the end of the shorter list. Fails if memory
-/// runs out; then some of the variables may be set.
+/// Sets each variable to a copy of the column at the same place, up to the end of the shorter list. If memory runs out,
+/// it fails, and the first of the variables are set.
 #[tactic(auto, using(crate::proofs::Putting::values_end))]
 pub fn set_columns(
     alloc: Global,
@@ -127,7 +127,8 @@ pub fn set_columns(
     columns: &[u16],
     row: &[Value],
 ) -> Result<(), NoMemory>
-    ensures { OnOk result (env.new ≡ with_values env.old to.now (columns_of row.now columns.now)) }
+    ensures ok { OnOk result (env.new ≡ with_values env.old to.now (columns_of row.now columns.now)) }
+    ensures err { OnErr result (ArePartlySet to.now row.now columns.now env.old env.new) }
 {
     for (i, x) in to.iter().enumerate() {
         let Some(c) = columns.get(i) else {

@@ -16,12 +16,12 @@ ghost use Rattle.mv_journal.specs.declared.outcome.Mark.TheVariants.{Plain, Excl
 use crate::live::LiveCalls;
 use crate::progress::{Progress, history_of, live_at, replies_of};
 use crate::roomy::{Roomy, last_number};
-use mv_script::script::Script;
 use mv_changes::changes::Changes;
 use mv_changes::recent::{Committed, Recent};
 use mv_exec::task::Task;
 use mv_journal::event::Event;
 use mv_journal::outcome::{HistoryLine, Mark, Outcome, Round};
+use mv_script::script::Script;
 use mv_values::calls::Reply;
 use mv_values::list::List;
 use mv_values::memory::NoMemory;

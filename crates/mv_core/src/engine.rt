@@ -11,7 +11,6 @@ ghost use Rattle.mv_core.specs.Books.{work_in, HasRounds, IsSame, IsNotStale, Is
 ghost use Rattle.mv_core.specs.Cores.{HasStep, HasEnded, MayStep, IsAllowedIfFresh, HasRefused, HasBegunCall, HasStepped, HasTried, HasRepaired, HasDecided, HasMovedUp, HasCollected, AreFirstOf, HasAllRecords, KeepsOtherTasks, BeginsTask, RunsOne, RunsWhole, records_in};
 
 use crate::book::{Book, Check};
-use mv_script::script::Script;
 use crate::tasks::{
     Running, collect_versions, commit_task, decide_task, new_task, rerun_task, step_task,
     validate_task, whole_task,
@@ -20,6 +19,7 @@ use mv_exec::step::Stepped;
 use mv_journal::event::Event;
 use mv_journal::outcome::{Mark, Outcome, Round};
 use mv_record::record::Record;
+use mv_script::script::Script;
 use mv_store::store::Store;
 use mv_values::memory::NoMemory;
 use mv_view::view::Refused;

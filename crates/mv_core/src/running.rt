@@ -14,12 +14,12 @@ ghost use Rattle.mv_history.specs.Kept.{executions};
 ghost use Rattle.mv_repair.specs.Repairing.{changes_since};
 ghost use Rattle.mv_core.specs.Cores.{RunsOn, IsTaskFor, IsDatabaseIn, CanRepair, HasRunOne, CountsAll};
 
-use mv_script::script::Script;
 use mv_changes::recent::Committed;
 use mv_exec::running::{finish, next};
 use mv_exec::task::Task;
 use mv_graph::graph::Graph;
 use mv_repair::repair::repair;
+use mv_script::script::Script;
 use mv_store::view::StoreView;
 use mv_values::calls::Call;
 use mv_values::memory::NoMemory;

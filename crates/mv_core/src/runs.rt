@@ -10,9 +10,9 @@ ghost use Rattle.mv_core.specs.Drives.{HasTurned, HasReplayed};
 
 use crate::drive::{DriveFault, drive};
 use crate::engine::Core;
-use mv_script::script::Script;
 use mv_journal::event::Event;
 use mv_journal::outcome::Outcome;
+use mv_script::script::Script;
 use mv_values::memory::NoMemory;
 use std::alloc::Global;
 

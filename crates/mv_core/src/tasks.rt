@@ -25,12 +25,12 @@ ghost use Rattle.mv_core.specs.Cores.{RunsOn, IsStoreOf, IsTaskIn, IsRunningIn, 
 
 use crate::book::{Book, Check};
 use crate::running::{find_call, has_more, repair_over, run_all, run_next};
-use mv_script::script::Script;
 use crate::told::{changes_told, put_told, reply_of};
 use mv_changes::changes::Changes;
 use mv_exec::task::Task;
 use mv_journal::outcome::Mark;
 use mv_record::record::Record;
+use mv_script::script::Script;
 use mv_store::store::Store;
 use mv_store::view::StoreView;
 use mv_values::calls::Reply;

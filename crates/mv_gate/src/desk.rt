@@ -18,12 +18,12 @@ use crate::held::Held;
 use crate::notes::note;
 use crate::rounds::repaired_from;
 use mv_core::book::{Book, Check};
-use mv_script::script::Script;
 use mv_core::tasks::{
     Running, collect_versions, commit_task, finish_task, move_and_commit, new_task, repair_task,
     step_task, whole_task,
 };
 use mv_journal::outcome::{Mark, Outcome};
+use mv_script::script::Script;
 use mv_seats::board::{Board, Making};
 use mv_seats::pass::Pass;
 use mv_store::store::Store;
