@@ -10,6 +10,8 @@ mod copies;
 #[cfg(test)]
 mod crews;
 #[cfg(test)]
+mod faults;
+#[cfg(test)]
 mod journals;
 #[cfg(test)]
 mod loads;
