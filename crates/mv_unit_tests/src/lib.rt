@@ -25,6 +25,8 @@ mod parsing;
 #[cfg(test)]
 mod prints;
 #[cfg(test)]
+mod readers;
+#[cfg(test)]
 mod reports;
 #[cfg(test)]
 mod scripts;
