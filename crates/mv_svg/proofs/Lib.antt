@@ -1,0 +1,4 @@
+pub mod Characters
+pub mod Chains
+pub mod Elements
+pub mod Pieces

@@ -1,0 +1,4 @@
+pub mod Escapes
+pub mod Pictures
+pub mod Shapes
+pub mod Xml
