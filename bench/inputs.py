@@ -5,7 +5,7 @@ text. What the calls take is the difference of two runs: with them and without. 
 left. So rows that calls delete are read among the calls: then the run without calls doesn't write them either.
 """
 
-from itertools import chain
+from itertools import accumulate, chain
 from random import Random
 
 ROWS = 1000  # as many rows as a ROWS argument may have
@@ -235,6 +235,33 @@ END;
     ran = ["B 0", *["S 0"] * 101]
     events = chain(ran, others, ["C 0"]) if beside else chain(ran, ["C 0"], others)
     return opening, chain([look], repeated(commits, change), journal(events))
+
+
+# A bank with a hot row.
+
+BANK = """CREATE TABLE acc (id INT, bal INT, PRIMARY KEY (id));
+CREATE PROCEDURE transfer (:a INT, :c INT, :x INT) DECLARE :b = 0; DECLARE :d = 0; BEGIN
+  SELECT bal INTO :b FROM acc WHERE id = :a;
+  IF :b < :x THEN ROLLBACK 'no funds'; END IF;
+  SELECT bal INTO :d FROM acc WHERE id = :c;
+  UPDATE acc SET bal = :b - :x WHERE id = :a;
+  UPDATE acc SET bal = :d + :x WHERE id = :c;
+  UPDATE acc SET bal = bal + 1 WHERE id = 0;
+  PRINT :b - :x;
+END;
+"""
+
+
+def bank(accounts, transfers):
+    """Transfers between accounts, each of which adds a fee to account 0. An account is drawn by Zipf's law: the n-th one
+    n times less often than the first."""
+    random = Random(accounts)
+    weights = list(accumulate(1 / number for number in range(1, accounts + 1)))
+    drawn = random.choices(range(1, accounts + 1), cum_weights=weights, k=2 * transfers)
+    pairs = zip(drawn[::2], drawn[1::2])
+    other = lambda one, two: two if two != one else two % accounts + 1
+    calls = (f"CALL transfer({one}, {other(one, two)}, {random.randint(1, 9)});\n" for one, two in pairs)
+    return [BANK, *block("acc", ((number, 1000) for number in range(accounts + 1)))], calls
 
 
 # Many short calls.
