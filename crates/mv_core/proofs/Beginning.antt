@@ -10,6 +10,7 @@ use Rattle.mv_core.specs.declared.tasks.Running.{Running}
 use Rattle.mv_script.specs.Scripts.{IsScript, work_of}
 use Rattle.mv_core.specs.Books.{Booked}
 use Rattle.mv_core.specs.Cores.{IsCore}
+use Rattle.mv_core.proofs.Numbered.{numbers_begin}
 
 pub new_core : (s : Script) (b : Booked) (store : Versioned) (ts : List (Option Running)) → IsScript s → b.script ≡ s → b.course ≡ beginning
     → ((n : ℕ) → database_at store n ≡ s.opening) → ((call : ℕ) → own_writes store call ≡ []) → store.last ≡ 0 → store.low ≡ 0 → ts ≡ [] → IsCore b store ts
@@ -22,6 +23,7 @@ new_core s b store ts sound script course opening own last low none = record {
     reads = λ n from to. reads n to;
     own = own;
   };
+  numbers = numbers_begin b course;
   tasks = record {
     few = subst (λ (x : Course). length x.calls ≤ length b.script.calls) (sym course) (omega arith);
     count = ap length none ∙ sym (ap (λ (x : Course). length x.calls) course);

@@ -27,7 +27,7 @@ use Rattle.mv_core.specs.Rooms.{Filled}
 use Rattle.mv_script.specs.Scripts.{work_of, IsScript}
 use Rattle.mv_core.specs.declared.tasks.Running.{Running}
 use Rattle.mv_core.specs.Calls.{IsLive, IsLiveCall, last_number, due_number}
-use Rattle.mv_core.specs.Books.{Booked, work_in, Made, IsSame, round_event, due_after, IsOwnBy, IsOwnNumber, IsAnswer, HasRoom, IsNotStale}
+use Rattle.mv_core.specs.Books.{Booked, work_in, Made, IsSame, IsSettled, HasRounds, round_event, IsOwnBy, IsOwnNumber, IsAnswer, HasRoom, IsNotStale}
 use Rattle.mv_core.specs.declared.book.Check.{Check}
 use Rattle.mv_core.specs.declared.engine.Attempt.{Attempt}
 use Rattle.mv_view.specs.declared.view.Refused.{Refused}
@@ -39,9 +39,10 @@ use Rattle.mv_core.specs.Cores.{Cored, IsAllowedIfFresh, IsHitAt, IsStaleAt, IsL
 use Rattle.mv_core.proofs.Numbers.{repair_stays}
 use Rattle.mv_core.proofs.Journals.{changed_at, set_there}
 use Rattle.mv_core.proofs.Keeping.{restart_after}
+use Rattle.mv_core.proofs.Numbered.{numbers_same}
 use Rattle.mv_core.proofs.Stored.{stored_same}
 use Rattle.mv_core.proofs.Taking.{tasks_same, number_again, one_live}
-use Rattle.mv_core.proofs.Refusing.{Repairs, repairs_again, repairs_last, step_is, same_made, refused_stale, fresh_allowed, live_is, told_idle, told_stale, told_hit}
+use Rattle.mv_core.proofs.Refusing.{used_rounds, Repairs, repairs_again, repairs_last, step_is, same_made, refused_stale, fresh_allowed, live_is, told_idle, told_stale, told_hit}
 use Rattle.mv_store.specs.Stored.{Versioned}
 
 -- What contracts see of a core
@@ -55,15 +56,25 @@ tasks_in k = k.tasks
 -- No event
 
 pub core_same : (old new : Booked) (store : Versioned) (ts : List (Option Running)) → IsCore old store ts → IsSame old new → IsCore new store ts
-core_same old new store ts k same = record { stored = stored_same old new store k.stored same; tasks = tasks_same old.script new.script old.course new.course ts k.tasks same.script same.course }
+core_same old new store ts k same = record { stored = stored_same old new store k.stored same; numbers = numbers_same old new same k.numbers; tasks = tasks_same old.script new.script old.course new.course ts k.tasks same.script same.course }
 
 pub made_after : (e : Event) (old mid new : Booked) → IsSame old mid → Made e mid new → Made e old new
 made_after e old mid new same m = record {
   allowed = subst (λ (s : Script). refusal (work_of s) old.course e ≡ None) same.script (subst (λ (s : Course). refusal (work_in mid) s e ≡ None) same.course m.allowed);
   course = m.course ∙ (ap (λ s. after (work_in mid) s e) same.course ∙ ap (λ (s : Script). after (work_of s) old.course e) same.script);
-  settled = λ c live has. m.settled c (subst (λ (s : Course). IsLiveCall s c) (sym same.course) live) (same.settled c has);
+  settled = λ c live other has. m.settled c (subst (λ (s : Course). IsLiveCall s c) (sym same.course) live) other (same.settled c has);
   journal = m.journal ∙ ap (λ j. j ++ e ∷ []) same.journal;
   script = m.script ∙ same.script;
+}
+
+-- no event after one
+pub made_before : (e : Event) (old mid new : Booked) → Made e old mid → IsSame mid new → Made e old new
+made_before e old mid new m same = record {
+  allowed = m.allowed;
+  course = same.course ∙ m.course;
+  settled = λ c live other has. same.settled c (m.settled c live other has);
+  journal = same.journal ∙ m.journal;
+  script = same.script ∙ m.script;
 }
 
 -- no event, twice
@@ -143,7 +154,10 @@ live_restarted m c old new l ne live made = record {
   live = live.live;
 }
 
--- its number
+-- the number that Runs gives the round that it begins
+abbrev pub due_after : Booked → Mark → ℕ → Option ℕ
+due_after b mark c = due_number (work_in b) (after (work_in b) b.course (round_event mark c)) c
+
 pub due_restarted : (m : Mark) (b : Booked) (c : ℕ) (l : Live) → m ≢ Exclusive → IsLive b.course c l → HasTurns (length b.course.order) l
     → due_after b m c ≡ Some (later_run (work_in b) b.course.order c l.start (length b.course.order) m)
 due_restarted m b c l ne live turns =
@@ -359,6 +373,14 @@ last_refused c old mid new why same left =
     left_as_is (X c) c old mid new why
     (λ l live stale. (last_law old c l live).law ∙ ap (λ b. unless (not b) Stale (unless (is_hit (work_in old) old.course c l) Idle (unless (not (has_round (work_in old) l)) Rounds None))) stale)
     same left
+
+-- rounds of a core whose last one lacks its number
+pub one_round : (b : Booked) (store : Versioned) (ts : List (Option Running)) (c : ℕ) (rs : List Round) → IsCore b store ts → HasRounds b c rs → last_number rs ≡ None → length rs ≡ 1
+one_round b store ts c rs k h none =
+    let unsettled : IsSettled b c → ⊥ = λ settled. let no : true ≡ false = sym (settled rs h.kept) ∙ ap is_some none in absurd (search (rules, no)) in
+    let first : used h.live ≡ 0 = k.numbers c unsettled h.live h.is_live in
+    let many = used_rounds b c (length b.course.order) h.live rs h h.is_live (k.tasks.running c h.live h.is_live).2.turns in
+    omega (arith, many, first)
 
 -- there are rounds
 pub some_rounds : {A : Type 0} {P : A → Type 0} {Q : Type 0} (o : Option A) → IfSome o P → is_some o ≡ true → ((x : A) → P x → Q) → Q

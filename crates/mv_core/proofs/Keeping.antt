@@ -1,5 +1,5 @@
 -- What events leave of a book.
-use Rattle.std.proofs.Common.{◌≡◌, ◌≢◌, ◌⊎◌, inl, inr, ℕ, zero, suc, ◌+◌, ◌<◌, ◌≤◌, ◌^◌, false, List, [], ◌∷◌, ◌++◌, Option, Some, None, Result, Ok, Err, map, get_or, length, slice_set, is_some, refl, sym, ap, subst, ◌∙◌, arith, eq-eqb, length-append, rules}
+use Rattle.std.proofs.Common.{◌≡◌, ◌≢◌, ◌⊎◌, inl, inr, ℕ, zero, suc, ◌+◌, ◌<◌, ◌≤◌, ◌^◌, true, false, List, [], ◌∷◌, ◌++◌, Option, Some, None, Result, Ok, Err, map, get_or, length, slice_set, is_some, refl, sym, ap, subst, ◌∙◌, arith, eq-eqb, length-append, rules}
 use Rattle.std.specs.Prelude.{slice_get, All, IsSome, IsErrAnd}
 use Rattle.std.specs.Option.{option_map}
 use Rattle.std.proofs.lemmas.List.{map-append, length-map}
@@ -7,7 +7,7 @@ use Rattle.std.proofs.lemmas.Option.{slice_get-map, slice_get_within, slice_get_
 use Rattle.mv_values.specs.declared.calls.Reply.{Reply}
 use Rattle.mv_values.specs.declared.memory.NoMemory.{NoMemory}
 use Rattle.mv_journal.specs.declared.event.Event.{Event}
-use Rattle.mv_journal.specs.declared.event.Event.TheVariants.{B, S}
+use Rattle.mv_journal.specs.declared.event.Event.TheVariants.{B, S, A, M}
 use Rattle.mv_journal.specs.declared.outcome.Mark.{Mark}
 use Rattle.mv_journal.specs.declared.outcome.Mark.TheVariants.{Plain, Exclusive, Moved}
 use Rattle.mv_journal.specs.declared.outcome.Round.{Round}
@@ -23,8 +23,8 @@ use Rattle.mv_core.specs.contracts.book.Book.{the_view}
 use Rattle.mv_core.specs.Rooms.{Filled}
 use Rattle.mv_script.specs.Scripts.{work_of}
 use Rattle.mv_core.specs.Calls.{WithinRounds, turn_of, turns_in, live_of, IsLive, IsLiveCall, numbered, last_number, closed, counted, uncounted, due_number, committed, with_own, AreRounds, IsReply, TellsBy, TellsCall, IsFresh}
-use Rattle.mv_core.specs.Books.{Booked, IsBookKept, IsSame, work_in, kept_rounds, Made, HasBegun, HasRoom, HasRounds, IsSettled, IsFirstNumber, IsOwnBy, round_event, commit_event}
-use Rattle.mv_core.proofs.Numbers.{turns_numbered, turns_closed, last_numbered, table_stays, rounds_stay, last_of_end, closes, settled, settles, rounds_end, all_known}
+use Rattle.mv_core.specs.Books.{Booked, IsBookKept, IsSame, work_in, kept_rounds, Made, HasBegun, HasRoom, HasRounds, IsSettled, BeginsRound, IsMissing, IsOwnBy, round_event, commit_event}
+use Rattle.mv_core.proofs.Numbers.{turns_numbered, turns_closed, last_numbered, table_stays, rounds_stay, last_of_end, closes, settled, settles, rounds_end, rounds_begun}
 use Rattle.mv_core.specs.Lives.{live_numbers, without}
 use Rattle.mv_core.proofs.Lives.{live_kept, live_gone, live_begun, live_below}
 use Rattle.mv_core.proofs.Journals.{get_last, get_set, set_there, facts_of, Facts, CallFacts, live_at, changed_at, done_in, done_within, done_below, reach_more, allowed_more, live_apart, found_last, found_stays}
@@ -105,7 +105,7 @@ kept_begun s order low n ps journal longer q k lt is fresh adds = (free, kept_ev
   calls = map-append live_of ps (q ∷ []) ∙ ap (λ l. map live_of ps ++ l ∷ []) fresh.live
 
   tells : (d : ℕ) → TellsCall (work_of s) order d q
-  tells d = subst (λ (rs : List Round). TellsBy (work_of s) order d rs q.reply) (sym fresh.rounds) (subst (TellsBy (work_of s) order d (uncounted (length order) ∷ [])) (sym fresh.reply) (inr (refl, refl)))
+  tells d = subst (λ (rs : List Round). TellsBy (work_of s) order d rs q.reply) (sym fresh.rounds) (subst (TellsBy (work_of s) order d (uncounted (length order) Plain ∷ [])) (sym fresh.reply) (inr refl))
 
   by : (d : ℕ) (x : Progress) → (slice_get ps d ≡ Some x) ⊎ ((d ≡ length ps) × (q ≡ x)) → TellsCall (work_of s) order d x
   by d x (inl h) = k.tells d x h
@@ -241,7 +241,7 @@ start_past i c p k at = let f = facts i.script _ i.calls.items i.journal.items k
 -- Contracts of events
 
 pub made_on : (e : Event) (view old new : Booked) → view ≡ old → refusal (work_in old) old.course e ≡ None → new.course ≡ after (work_in view) view.course e
-    → ((d : ℕ) → IsLiveCall old.course d → IsSettled old d → IsSettled new d) → new.journal ≡ view.journal ++ e ∷ [] → new.script ≡ view.script → Made e old new
+    → ((d : ℕ) → IsLiveCall old.course d → (BeginsRound e d → ⊥) → IsSettled old d → IsSettled new d) → new.journal ≡ view.journal ++ e ∷ [] → new.script ≡ view.script → Made e old new
 made_on e view old new is free course settled journal script = record {
   allowed = free;
   course = course ∙ ap (λ (b : Booked). after (work_in b) b.course e) is;
@@ -305,14 +305,14 @@ kept_at ps d rs told =
     (p.0, p.1, ap kept_rounds p.2 ∙ f.2)
 
 -- no number is lost where a call is changed whose own one isn't
-pub still_settled : (i : Inside) (old : Booked) (c d : ℕ) (p q : Progress) → the_view i ≡ old → slice_get i.calls.items c ≡ Some p → (IsSome (last_number p.rounds.items) → IsSome (last_number q.rounds.items)) → IsSettled old d
+pub still_settled : (i : Inside) (old : Booked) (c d : ℕ) (p q : Progress) → the_view i ≡ old → slice_get i.calls.items c ≡ Some p → (d ≡ c → IsSome (last_number p.rounds.items) → IsSome (last_number q.rounds.items)) → IsSettled old d
     → (rs : List Round) → option_map kept_rounds (slice_get (room_for (slice_set i.calls.items c q)) d) ≡ Some rs → IsSome (last_number rs)
 still_settled i old c d p q is at keeps has rs told = by (get_set i.calls.items c d q y.0 y.1) where
   y : (x : Progress) × (slice_get (slice_set i.calls.items c q) d ≡ Some x) × (x.rounds.items ≡ rs)
   y = kept_at (slice_set i.calls.items c q) d rs told
 
   by : ((d ≡ c) × (q ≡ y.0)) ⊎ ((d ≡ c → ⊥) × (slice_get i.calls.items d ≡ Some y.0)) → IsSome (last_number rs)
-  by (inl e) = subst (λ (r : List Round). IsSome (last_number r)) (ap (λ (x : Progress). x.rounds.items) e.1 ∙ y.2) (keeps (settled_here i old c p is at (subst (IsSettled old) e.0 has)))
+  by (inl e) = subst (λ (r : List Round). IsSome (last_number r)) (ap (λ (x : Progress). x.rounds.items) e.1 ∙ y.2) (keeps e.0 (settled_here i old c p is at (subst (IsSettled old) e.0 has)))
   by (inr e) = subst (λ (r : List Round). IsSome (last_number r)) y.2 (settled_here i old d y.0 is e.1 has)
 
 -- nor where a call begins
@@ -355,7 +355,7 @@ pub begun_made : (i : Inside) (old new : Booked) (n : ℕ) (ps : List Progress) 
 begun_made i old new n ps q is k lt number fresh more script course rounds journal =
     made_on (B n) (the_view i) old new is (subst (λ (b : Booked). refusal (work_in b) b.course (B n) ≡ None) is free)
     (course ∙ ap (the_course i.order.items i.low) (ap (map live_of) more ∙ (map-append live_of i.calls.items (q ∷ []) ∙ ap (λ l. map live_of i.calls.items ++ l ∷ []) fresh.live)))
-    (λ d live has rs told. begun_settled i old d q is live has rs (ap (λ (fs : List (Filled Round)). option_map kept_rounds (slice_get fs d)) (sym (rounds ∙ ap room_for more)) ∙ told)) journal script where
+    (λ d live other has rs told. begun_settled i old d q is live has rs (ap (λ (fs : List (Filled Round)). option_map kept_rounds (slice_get fs d)) (sym (rounds ∙ ap room_for more)) ∙ told)) journal script where
       free : refusal (work_of i.script) (the_course i.order.items i.low (map live_of i.calls.items)) (B n) ≡ None
       free = (kept_begun i.script i.order.items i.low n i.calls.items i.journal.items new.journal q k lt number fresh journal).0
 
@@ -379,26 +379,25 @@ some_settled kept all are has = by (last_number kept) refl has where
   by None is h = absurd (search (rules, h))
   by (Some k) is h = settled kept all k are is
 
-pub restarted : (n k : ℕ) (m : Mark) (p q : Progress) → q.start ≡ n → q.steps ≡ p.steps → q.rounds.items ≡ closed m p.rounds.items ++ counted n m k ∷ [] → q.reply ≡ p.reply → live_of q ≡ again n m (live_of p)
-restarted n k m p q start steps rounds reply = live_made (live_of q) (again n m (live_of p)) start turns steps (ap is_some reply) where
+pub restarted : (n : ℕ) (m : Mark) (p q : Progress) → q.start ≡ n → q.steps ≡ p.steps → q.rounds.items ≡ closed m p.rounds.items ++ uncounted n m ∷ [] → q.reply ≡ p.reply → live_of q ≡ again n m (live_of p)
+restarted n m p q start steps rounds reply = live_made (live_of q) (again n m (live_of p)) start turns steps (ap is_some reply) where
   turns : turns_in q.rounds.items ≡ turns_in p.rounds.items ++ record { start = n; mark = m } ∷ []
-  turns = ap turns_in rounds ∙ (map-append turn_of (closed m p.rounds.items) (counted n m k ∷ []) ∙ ap (λ ts. ts ++ record { start = n; mark = m } ∷ []) (turns_closed m p.rounds.items))
+  turns = ap turns_in rounds ∙ (map-append turn_of (closed m p.rounds.items) (uncounted n m ∷ []) ∙ ap (λ ts. ts ++ record { start = n; mark = m } ∷ []) (turns_closed m p.rounds.items))
 
-pub kept_restart : (s : Script) (order : List ℕ) (low c n : ℕ) (ps : List Progress) (journal longer : List Event) (m : Mark) (p q : Progress)
+pub kept_restart : (s : Script) (order : List ℕ) (low c : ℕ) (ps : List Progress) (journal longer : List Event) (m : Mark) (p q : Progress)
     → IsBookKept s (the_course order low (map live_of ps)) ps journal → m ≢ Exclusive → refusal (work_of s) (the_course order low (map live_of ps)) (round_event m c) ≡ None
-    → (m ≡ Plain → IsSome (last_number p.rounds.items)) → due_number (work_of s) (after (work_of s) (the_course order low (map live_of ps)) (round_event m c)) c ≡ Some n
-    → slice_get ps c ≡ Some p → p.reply ≡ None
-    → q.start ≡ length order → q.steps ≡ p.steps → q.rounds.items ≡ closed m p.rounds.items ++ counted (length order) m n ∷ [] → q.reply ≡ p.reply
+    → (m ≡ Plain → IsSome (last_number p.rounds.items)) → slice_get ps c ≡ Some p → p.reply ≡ None
+    → q.start ≡ length order → q.steps ≡ p.steps → q.rounds.items ≡ closed m p.rounds.items ++ uncounted (length order) m ∷ [] → q.reply ≡ p.reply
     → longer ≡ journal ++ round_event m c ∷ []
     → IsBookKept s (the_course order low (map live_of (slice_set ps c q))) (slice_set ps c q) longer
-kept_restart s order low c n ps journal longer m p q k ne free has due at silent start steps rounds reply adds =
+kept_restart s order low c ps journal longer m p q k ne free has at silent start steps rounds reply adds =
     kept_one s order low c ps journal longer (round_event m c) (again (length order) m) p q k free restarts adds at new
-    (subst (TellsBy (work_of s) order c q.rounds.items) (sym (reply ∙ silent)) (inl known)) where
+    (subst (TellsBy (work_of s) order c q.rounds.items) (sym (reply ∙ silent)) (inr known)) where
       restarts : after (work_of s) (the_course order low (map live_of ps)) (round_event m c) ≡ with_call (the_course order low (map live_of ps)) c (again (length order) m)
       restarts = restart_after (work_of s) (the_course order low (map live_of ps)) m c ne
 
       new : live_of q ≡ again (length order) m (live_of p)
-      new = restarted (length order) n m p q start steps rounds reply
+      new = restarted (length order) m p q start steps rounds reply
 
       own : CallFacts (length order) (length journal) (live_of p)
       own = (facts s _ ps journal k).each c (live_of p) (live_here ps c p at)
@@ -414,20 +413,12 @@ kept_restart s order low c n ps journal longer m p q k ne free has due at silent
       enough Moved is = inl is
       enough Exclusive is = absurd (ne is)
 
-      there : slice_get (change_live (slice_get (map live_of ps) c) (again (length order) m) (map live_of ps) c) c ≡ Some (again (length order) m (live_of p))
-      there = ap (λ ls. slice_get ls c) (changed_at (map live_of ps) c (again (length order) m) (live_of p) (live_here ps c p at)) ∙ set_there (map live_of ps) c (again (length order) m (live_of p)) (live_of p) (live_here ps c p at)
-
-      number : last_number (rounds_of (work_of s) order c ((own.first ∷ own.rest) ++ record { start = length order; mark = m } ∷ [])) ≡ Some n
-      number =
-          sym (ap (λ (x : Course). due_number (work_of s) x c) restarts
-          ∙ (ap (λ o. last_number (rounds_of (work_of s) order c (turns_of o))) there ∙ ap (λ ts. last_number (rounds_of (work_of s) order c (ts ++ record { start = length order; mark = m } ∷ []))) own.turns)) ∙ due
-
-      known : q.rounds.items ≡ rounds_of (work_of s) order c (turns_in q.rounds.items)
+      known : q.rounds.items ≡ numbered None (rounds_of (work_of s) order c (turns_in q.rounds.items))
       known =
-          rounds ∙ (ap (λ rs. rs ++ counted (length order) m n ∷ []) (closes m p.rounds.items all are (enough m refl))
-          ∙ (ap (λ ts. closed m (rounds_of (work_of s) order c ts) ++ counted (length order) m n ∷ []) own.turns
-          ∙ (sym (rounds_end (work_of s) order c (length order) n m own.first own.rest number)
-          ∙ ap (rounds_of (work_of s) order c) (ap (λ ts. ts ++ record { start = length order; mark = m } ∷ []) (sym own.turns) ∙ sym (ap (λ (l : Live). l.turns) new)))))
+          rounds ∙ (ap (λ rs. rs ++ uncounted (length order) m ∷ []) (closes m p.rounds.items all are (enough m refl))
+          ∙ (ap (λ ts. closed m (rounds_of (work_of s) order c ts) ++ uncounted (length order) m ∷ []) own.turns
+          ∙ (sym (rounds_begun (work_of s) order c (length order) m own.first own.rest)
+          ∙ ap (λ ts. numbered None (rounds_of (work_of s) order c ts)) (ap (λ ts. ts ++ record { start = length order; mark = m } ∷ []) (sym own.turns) ∙ sym (ap (λ (l : Live). l.turns) new)))))
 
 -- A number
 
@@ -478,16 +469,11 @@ set_known ps c n p q at last rs is = subst IsSome (sym (ap last_number (sym one)
   one : q.rounds.items ≡ rs
   one = search (rules, same)
 
--- and after a repair or a move
-counted_last : (m : Mark) (start n : ℕ) (p q : Progress) → q.rounds.items ≡ closed m p.rounds.items ++ counted start m n ∷ [] → last_number q.rounds.items ≡ Some n
-counted_last m start n p q rounds = ap last_number rounds ∙ last_of_end (closed m p.rounds.items) (counted start m n)
-
-pub counted_known : (m : Mark) (start n : ℕ) (p q : Progress) → q.rounds.items ≡ closed m p.rounds.items ++ counted start m n ∷ [] → IsSome (last_number q.rounds.items)
-counted_known m start n p q rounds = ap is_some (counted_last m start n p q rounds)
-
-pub number_counted : (m : Mark) (ps : List Progress) (c start n : ℕ) (p q : Progress) → slice_get ps c ≡ Some p → q.rounds.items ≡ closed m p.rounds.items ++ counted start m n ∷ []
-    → (rs : List Round) → option_map kept_rounds (slice_get (room_for (slice_set ps c q)) c) ≡ Some rs → IsSome (last_number rs)
-number_counted m ps c start n p q at rounds = set_known ps c n p q at (counted_last m start n p q rounds)
+-- an event that begins a round of a call keeps the numbers of the others
+pub other_round : (m : Mark) (c d : ℕ) → m ≢ Exclusive → (BeginsRound (round_event m c) d → ⊥) → d ≡ c → ⊥
+other_round Plain c d ne other is = other (inl (ap A (sym is)))
+other_round Moved c d ne other is = other (inr (ap M (sym is)))
+other_round Exclusive c d ne other is = ne refl
 
 -- A commit
 
@@ -498,7 +484,7 @@ commit_after w order low ls (Some k) c = refl
 
 pub made_committed : (own : Option ℕ) (c : ℕ) (i : Inside) (old new : Booked) (orders : List ℕ) (p q : Progress) → the_view i ≡ old → refusal (work_in old) old.course (commit_event own c) ≡ None
     → slice_get i.calls.items c ≡ Some p → live_of q ≡ committed (length i.order.items) own (live_of p) → orders ≡ i.order.items ++ c ∷ []
-    → new.course ≡ the_course orders i.low (map live_of (slice_set i.calls.items c q)) → ((d : ℕ) → IsLiveCall old.course d → IsSettled old d → IsSettled new d)
+    → new.course ≡ the_course orders i.low (map live_of (slice_set i.calls.items c q)) → ((d : ℕ) → IsLiveCall old.course d → (BeginsRound (commit_event own c) d → ⊥) → IsSettled old d → IsSettled new d)
     → new.journal ≡ i.journal.items ++ commit_event own c ∷ [] → new.script ≡ i.script → Made (commit_event own c) old new
 made_committed own c i old new orders p q is free at live more course settled journal script =
     made_on (commit_event own c) (the_view i) old new is free
@@ -583,11 +569,20 @@ settled_told i old c p is at has = subst (λ (b : Booked). IsSettled b c) is (λ
 
 pub rounds_told : (i : Inside) (old : Booked) (c : ℕ) (p : Progress) → the_view i ≡ old → IsInside i → slice_get i.calls.items c ≡ Some p → p.reply ≡ None → HasRounds old c p.rounds.items
 rounds_told i old c p is k at silent = subst (λ (b : Booked). HasRounds b c p.rounds.items) is (record {
+  kept = ap (option_map kept_rounds) (in_room i.calls.items c p at);
   live = live_of p;
   is_live = record { at = live_here i.calls.items c p at; live = ap is_some silent };
   turns = refl;
   rounds = subst (TellsBy (work_of i.script) i.order.items c p.rounds.items) silent (k.tells c p at);
 })
+
+-- a call has one round more than it was repaired and moved
+pub rounds_used : (i : Inside) (c : ℕ) (p : Progress) → IsInside i → slice_get i.calls.items c ≡ Some p → length p.rounds.items ≡ used (live_of p) + 1
+rounds_used i c p k at =
+    let own : CallFacts (length i.order.items) (length i.journal.items) (live_of p) = (facts i.script _ i.calls.items i.journal.items k).each c (live_of p) (live_here i.calls.items c p at) in
+    let some = ap length own.turns in
+    let many = length-map p.rounds.items turn_of in
+    omega (arith, some, many)
 
 -- the number of a call's last round, as it is kept
 pub number_kept : (i : Inside) (old : Booked) (c n : ℕ) (l : Live) (p : Progress) → the_view i ≡ old → IsInside i → IsProgressAt i.calls.items c l p → last_number p.rounds.items ≡ Some n → due_number (work_in old) old.course c ≡ Some n
@@ -598,26 +593,14 @@ number_kept i old c n l p is k here has = subst (λ (b : Booked). due_number (wo
   are : AreRounds p.rounds.items all
   are = subst (TellsBy (work_of i.script) i.order.items c p.rounds.items) here.going (k.tells c p here.at)
 
--- a call without it is in its first round
-pub first_kept : (i : Inside) (c : ℕ) (l : Live) (p : Progress) → IsInside i → IsProgressAt i.calls.items c l p → last_number p.rounds.items ≡ None → used l ≡ 0
-first_kept i c l p k here none = by (subst (TellsBy (work_of i.script) i.order.items c p.rounds.items) here.going (k.tells c p here.at)) where
-  own : CallFacts (length i.order.items) (length i.journal.items) (live_of p)
-  own = (facts i.script _ i.calls.items i.journal.items k).each c (live_of p) (live_here i.calls.items c p here.at)
+-- a number that isn't kept is missing
+pub unsettled_here : (i : Inside) (old : Booked) (c : ℕ) (p : Progress) → the_view i ≡ old → slice_get i.calls.items c ≡ Some p → last_number p.rounds.items ≡ None → IsSettled old c → ⊥
+unsettled_here i old c p is at none has = let no : true ≡ false = sym (settled_here i old c p is at has) ∙ ap is_some none in absurd (search (rules, no))
 
-  by : AreRounds p.rounds.items (rounds_of (work_of i.script) i.order.items c (turns_in p.rounds.items)) → used l ≡ 0
-  by (inl is) =
-      absurd (all_known (work_of i.script) i.order.items c own.first own.rest (sym (ap (λ ts. last_number (rounds_of (work_of i.script) i.order.items c ts)) own.turns) ∙ (sym (ap last_number is) ∙ none)))
-  by (inr h) =
-      let one = h.1 in
-      let many = length-map p.rounds.items turn_of in
-      let same = ap used here.is in
-      omega (arith, one, many, same)
-
--- the number of a first round that has none yet
-pub first_due : (i : Inside) (old : Booked) (c n : ℕ) (p : Progress) (o : Option ℕ) → the_view i ≡ old → IsInside i → (l : Live) → IsLive old.course c l → IsProgressAt i.calls.items c l p → o ≡ last_number p.rounds.items → is_some o ≡ false → IsFirstNumber n old c
+pub missing_due : (i : Inside) (old : Booked) (c n : ℕ) (p : Progress) (o : Option ℕ) → the_view i ≡ old → slice_get i.calls.items c ≡ Some p → o ≡ last_number p.rounds.items → is_some o ≡ false → IsMissing n old c
     → due_number (work_of i.script) (the_course i.order.items i.low (map live_of i.calls.items)) c ≡ Some n
-first_due i old c n p o is k l live here last unknown first =
-    subst (λ (b : Booked). due_number (work_in b) b.course c ≡ Some n) (sym is) (first l live (first_kept i c l p k here (sym last ∙ none_of o unknown)))
+missing_due i old c n p o is at last unknown missing =
+    subst (λ (b : Booked). due_number (work_in b) b.course c ≡ Some n) (sym is) (missing (unsettled_here i old c p is at (sym last ∙ none_of o unknown)))
 
 pub room_same : (view old : Booked) (room x n m : ℕ) → view ≡ old → n ≤ m → n + view.room ≤ m + room → HasRoom old x m
     → (n ≤ room) × ((f : Filled Round) → slice_get view.rounds x ≡ Some f → n ≤ f.room)

@@ -3,6 +3,7 @@ pub mod Numbers
 pub mod Journals
 pub mod Lives
 pub mod Keeping
+pub mod Numbered
 pub mod Lows
 pub mod Moving
 pub mod Recents

@@ -11,14 +11,14 @@ use Rattle.mv_lawful.specs.Outcomes.{turns_of}
 use Rattle.mv_store.specs.Stored.{Versioned}
 use Rattle.mv_core.specs.Calls.{IsLive, closed, last_number}
 use Rattle.mv_core.specs.Lives.{live_numbers}
-use Rattle.mv_core.specs.Books.{Booked, work_in, Made, IsAlone, due_after}
+use Rattle.mv_core.specs.Books.{Booked, work_in, Made, IsAlone}
 use Rattle.mv_core.specs.Cores.{IsStoreOf}
 use Rattle.mv_core.proofs.Numbers.{last_start, last_of_end, rounds_more}
 use Rattle.mv_core.proofs.Lives.{live_kept}
 use Rattle.mv_core.proofs.Refusing.{may_commit}
 use Rattle.mv_core.proofs.Turning.{none_hit}
 use Rattle.mv_core.proofs.Journals.{changed_at, set_there}
-use Rattle.mv_core.proofs.Changed.{live_restarted}
+use Rattle.mv_core.proofs.Changed.{live_restarted, due_after}
 
 pub apart : Moved ≢ Exclusive
 apart e = search (rules, e)

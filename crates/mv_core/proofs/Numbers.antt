@@ -14,7 +14,7 @@ use Rattle.mv_history.specs.Kept.{executions}
 use Rattle.mv_lawful.specs.Work.{Work, tables_after, table_at, records_at, changes_after, changes_up_to}
 use Rattle.mv_lawful.specs.Lawful.{Turn}
 use Rattle.mv_lawful.specs.Rounds.{whole_run, repair_run, later_run, unless_moved, round, later_rounds, rounds_of}
-use Rattle.mv_core.specs.Calls.{WithinRounds, turn_of, turns_in, numbered, last_number, closed, counted, AreRounds}
+use Rattle.mv_core.specs.Calls.{WithinRounds, turn_of, turns_in, numbered, last_number, closed, counted, uncounted, AreRounds}
 
 -- Numbers in a list
 
@@ -56,6 +56,11 @@ last_of_end [] r = refl
 last_of_end (q ∷ []) r = refl
 last_of_end (q ∷ s ∷ rs) r = last_of_end (s ∷ rs) r
 
+pub numbered_end : (n : Option ℕ) (rs : List Round) (r : Round) → numbered n (rs ++ r ∷ []) ≡ rs ++ record r { count = n } ∷ []
+numbered_end n [] r = refl
+numbered_end n (q ∷ []) r = refl
+numbered_end n (q ∷ s ∷ rs) r = ap (λ xs. q ∷ xs) (numbered_end n (s ∷ rs) r)
+
 last_at : (rs : List Round) (k : ℕ) (d : Round) → length rs ≡ suc k → (slice_index_or rs k d).count ≡ last_number rs
 last_at [] k d h = absurd (omega (arith, h))
 last_at (r ∷ []) zero d h = refl
@@ -74,12 +79,12 @@ none_numbered (r ∷ rs) = last_numbered None r rs
 -- where the last one has a number, it is Runs'
 pub settled : (kept all : List Round) (k : ℕ) → AreRounds kept all → last_number kept ≡ Some k → kept ≡ all
 settled kept all k (inl is) has = is
-settled kept all k (inr is) has = let none : Some k ≡ None = sym has ∙ (ap last_number is.0 ∙ none_numbered all) in absurd (search (rules, none))
+settled kept all k (inr is) has = let none : Some k ≡ None = sym has ∙ (ap last_number is ∙ none_numbered all) in absurd (search (rules, none))
 
 -- a number that is Runs' makes them all Runs'
 pub settles : (kept all : List Round) (n : Option ℕ) → AreRounds kept all → last_number all ≡ n → numbered n kept ≡ all
 settles kept all n (inl is) own = ap (λ m. numbered m kept) (sym own) ∙ (ap (numbered (last_number all)) is ∙ numbered_own all)
-settles kept all n (inr is) own = ap (λ m. numbered m kept) (sym own) ∙ (ap (numbered (last_number all)) is.0 ∙ (numbered_twice (last_number all) None all ∙ numbered_own all))
+settles kept all n (inr is) own = ap (λ m. numbered m kept) (sym own) ∙ (ap (numbered (last_number all)) is ∙ (numbered_twice (last_number all) None all ∙ numbered_own all))
 
 -- What the first commits come to doesn't hang on those after them
 
@@ -186,7 +191,7 @@ rounds_more w order c t u (v ∷ ts) =
 pub closes : (m : Mark) (kept all : List Round) → AreRounds kept all → (m ≡ Moved) ⊎ (kept ≡ all) → closed m kept ≡ closed m all
 closes m kept all are (inr is) = ap (closed m) is
 closes m kept all (inl is) (inl moved) = ap (closed m) is
-closes m kept all (inr is) (inl moved) = subst (λ x. closed x kept ≡ closed x all) (sym moved) (ap (numbered None) is.0 ∙ numbered_twice None None all)
+closes m kept all (inr is) (inl moved) = subst (λ x. closed x kept ≡ closed x all) (sym moved) (ap (numbered None) is ∙ numbered_twice None None all)
 
 -- a round more with a number that is Runs'
 pub rounds_end : (w : Work) (order : List ℕ) (c n k : ℕ) (m : Mark) (t : Turn) (ts : List Turn)
@@ -199,11 +204,10 @@ rounds_end w order c n k m t ts is =
     sym (last_of_end (closed m (rounds_of w order c (t ∷ ts))) (round u (Some (later_run w order c (last_start t.start ts) n m)))) ∙ (sym (ap last_number more) ∙ is) in
     more ∙ ap (λ o. closed m (rounds_of w order c (t ∷ ts)) ++ record { start = n; count = o; mark = m } ∷ []) own
 
--- the last one of Runs has a number
-later_known : (w : Work) (order : List ℕ) (c old : ℕ) (t : Turn) (ts : List Turn) → last_number (later_rounds w order c old (t ∷ ts)) ≡ None → ⊥
-later_known w order c old t [] none = let both : Some (later_run w order c old t.start t.mark) ≡ None = none in search (rules, both)
-later_known w order c old t (u ∷ us) none = later_known w order c t.start u us none
-
-pub all_known : (w : Work) (order : List ℕ) (c : ℕ) (t : Turn) (ts : List Turn) → last_number (rounds_of w order c (t ∷ ts)) ≡ None → ⊥
-all_known w order c t [] none = let both : Some (whole_run w order c t.start) ≡ None = none in search (rules, both)
-all_known w order c t (u ∷ us) none = later_known w order c t.start u us none
+-- a round more without its number
+pub rounds_begun : (w : Work) (order : List ℕ) (c n : ℕ) (m : Mark) (t : Turn) (ts : List Turn)
+    → numbered None (rounds_of w order c ((t ∷ ts) ++ record { start = n; mark = m } ∷ [])) ≡ closed m (rounds_of w order c (t ∷ ts)) ++ uncounted n m ∷ []
+rounds_begun w order c n m t ts =
+    let u : Turn = record { start = n; mark = m } in
+    ap (numbered None) (rounds_more w order c t u ts)
+    ∙ numbered_end None (closed m (rounds_of w order c (t ∷ ts))) (round u (Some (later_run w order c (last_start t.start ts) n m)))

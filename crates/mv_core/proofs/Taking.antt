@@ -29,7 +29,7 @@ use Rattle.mv_script.specs.declared.script.Script.{Script}
 use Rattle.mv_script.specs.Scripts.{work_of, IsCallOf, IsScript}
 use Rattle.mv_core.specs.declared.tasks.Running.{Running}
 use Rattle.mv_core.specs.Calls.{IsLive, IsLiveCall, closed, committed, last_number, due_number}
-use Rattle.mv_core.specs.Books.{Booked, work_in, Made, round_event, commit_event, IsFirstNumber, AreRecordsOf}
+use Rattle.mv_core.specs.Books.{Booked, work_in, Made, round_event, commit_event, IsMissing, HasNumber, AreRecordsOf}
 use Rattle.mv_store.specs.Stored.{Versioned}
 use Rattle.mv_view.specs.Viewing.{Sight}
 use Rattle.mv_core.specs.Cores.{RunsOn, IsTaskFor, HasRunOne, CountsAll, HasTurns, last_start, count_or, IsLiveTask, IsTaskIn, IsRunningIn, IsRepaired, HasTasks, IsCore}
@@ -154,11 +154,13 @@ due_now b c n running live taken are is =
     due_live (work_in b) b.course c live.0 live.1
     ∙ ((taken live.0 live.1).counted ∙ ap Some (ap (λ (rs : List Record). count_or running.count (length rs)) (sym (are live.0 live.1)) ∙ sym is))
 
--- that of its first round is what the task executed
-pub due_first : (b : Booked) (c : ℕ) (running : Running) → IsTaskIn b c running → AreRecordsOf b c running.task.records → IsFirstNumber running.task.executed b c
-due_first b c running taken are l live first =
-    due_live (work_in b) b.course c l live
-    ∙ (first_number (work_in b) b.course.order c (length b.course.order) l (taken l live).turns first ∙ ap Some (sym (ap length (are l live)) ∙ sym ((taken l live).executed first)))
+-- if its round has none yet, that is what the task executed
+pub due_first : (b : Booked) (c : ℕ) (running : Running) → IsLiveCall b.course c → HasNumber b c → IsTaskIn b c running → AreRecordsOf b c running.task.records → IsMissing running.task.executed b c
+due_first b c running live number taken are none =
+    let l : Live = live.0 in
+    let first : used l ≡ 0 = number none l live.1 in
+    due_live (work_in b) b.course c l live.1
+    ∙ (first_number (work_in b) b.course.order c (length b.course.order) l (taken l live.1).turns first ∙ ap Some (sym (ap length (are l live.1)) ∙ sym ((taken l live.1).executed first)))
 
 -- What was counted
 
@@ -430,7 +432,7 @@ running_in b store ts c o t k live read some = record {
 
 -- a core in which one call has another task
 pub core_set : (b : Booked) (store : Versioned) (ts : List (Option Running)) (c : ℕ) (t : Running) → IsCore b store ts → IsLiveCall b.course c → IsTaskIn b c t → IsCore b store (slice_set ts c (Some t))
-core_set b store ts c t k live task = record { stored = k.stored; tasks = tasks_set b.script b.course ts c t k.tasks live task }
+core_set b store ts c t k live task = record { stored = k.stored; numbers = k.numbers; tasks = tasks_set b.script b.course ts c t k.tasks live task }
 
 -- its own writes are those of its records
 pub task_writes : (s : Script) (order : List ℕ) (c : ℕ) (l : Live) (t : Running) → IsScript s → c < length s.calls → IsLiveTask s order c l t → HasWritesOf t.task.undo t.task.records

@@ -1,6 +1,6 @@
 -- Defines the contents of a book, and how events change it. The law of journals says which events are allowed. This
 -- project's own.
-use Rattle.std.specs.Prelude.{◌≡◌, ◌<◌, ◌≤◌, ◌+◌, ◌^◌, ℕ, max, false, List, [], ◌∷◌, ◌++◌, Option, Some, None, Result, Ok, Err, length, slice_get, IsSome}
+use Rattle.std.specs.Prelude.{◌≡◌, ◌⊎◌, ◌<◌, ◌≤◌, ◌+◌, ◌^◌, ℕ, max, false, List, [], ◌∷◌, ◌++◌, Option, Some, None, Result, Ok, Err, length, slice_get, IsSome}
 use Rattle.std.specs.Option.{ForSome, option_map}
 use Rattle.mv_values.specs.declared.memory.NoMemory.{NoMemory}
 use Rattle.mv_values.specs.Tables.{Tables}
@@ -99,15 +99,20 @@ Remembers number (Some changes) old new = (new.low ≡ old.low) × (new.commits 
 
 -- Events
 
--- the event was allowed, and was made. No number of a live call's last round is lost
+-- the event begins a round of a live call, which has no number yet
+abbrev pub BeginsRound : Event → ℕ → Type 0
+BeginsRound e c = (e ≡ A c) ⊎ (e ≡ M c)
+
+-- the event was allowed, and was made. No number of a live call's last round is lost, but that of a round that the event
+-- ends
 pub record Made (e : Event) (old new : Booked) : Type 0 where
   pub allowed : refusal (work_in old) old.course e ≡ None
   pub course : new.course ≡ after (work_in old) old.course e
-  pub settled : (c : ℕ) → IsLiveCall old.course c → IsSettled old c → IsSettled new c
+  pub settled : (c : ℕ) → IsLiveCall old.course c → (BeginsRound e c → ⊥) → IsSettled old c → IsSettled new c
   pub journal : new.journal ≡ old.journal ++ e ∷ []
   pub script : new.script ≡ old.script
 
--- no event was made, and nothing else changed. But a first round may have got its number, and none that was known is lost
+-- no event was made, and nothing else changed. But a last round may have got its number, and none that was known is lost
 pub record IsSame (old new : Booked) : Type 0 where
   pub script : new.script ≡ old.script
   pub course : new.course ≡ old.course
@@ -126,13 +131,16 @@ round_event Plain c = A c
 round_event Moved c = M c
 round_event Exclusive c = X c
 
--- the number that Runs gives that round
-abbrev pub due_after : Booked → Mark → ℕ → Option ℕ
-due_after b mark c = due_number (work_in b) (after (work_in b) b.course (round_event mark c)) c
+-- the number that Runs gives a live call's last round, if the round has none yet
+abbrev pub IsMissing : ℕ → Booked → ℕ → Type 0
+IsMissing n b c = (IsSettled b c → ⊥) → due_number (work_in b) b.course c ≡ Some n
 
--- the number that Runs gives a live call's first round, if the call is in it
-abbrev pub IsFirstNumber : ℕ → Booked → ℕ → Type 0
-IsFirstNumber n b c = (l : Live) → IsLive b.course c l → used l ≡ 0 → due_number (work_in b) b.course c ≡ Some n
+-- a live call's last round has its number, or is its first one
+abbrev pub HasNumber : Booked → ℕ → Type 0
+HasNumber b c = (IsSettled b c → ⊥) → (l : Live) → IsLive b.course c l → used l ≡ 0
+
+abbrev pub HaveNumbers : Booked → Type 0
+HaveNumbers b = (c : ℕ) → HasNumber b c
 
 -- the number of a commit's own round: that of the records executed by the repair in the same step
 abbrev pub own_number : Option Task → Option ℕ
@@ -168,8 +176,9 @@ KeepsRoom old new = (c n : ℕ) → HasRoom old c n → HasRoom new c n
 
 -- What is told
 
--- the rounds of a live call with their numbers; that of a call in its first round may not have its number yet
+-- the rounds of a live call with their numbers; the last one may not have its number yet
 pub record HasRounds (b : Booked) (c : ℕ) (rs : List Round) : Type 0 where
+  pub kept : rounds_at b c ≡ Some rs
   pub live : Live
   pub is_live : IsLive b.course c live
   pub turns : turns_in rs ≡ live.turns

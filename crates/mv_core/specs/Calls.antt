@@ -55,9 +55,9 @@ last_number (r ∷ s ∷ rs) = last_number (s ∷ rs)
 abbrev pub due_number : Work → Course → ℕ → Option ℕ
 due_number w s c = last_number (rounds_of w s.order c (turns_of (slice_get s.calls c)))
 
--- the rounds kept of a live call: those of Runs, but that of a call in its first round may not have its number yet
+-- the rounds kept of a live call: those of Runs, but the last one may not have its number yet
 abbrev pub AreRounds : List Round → List Round → Type 0
-AreRounds kept all = (kept ≡ all) ⊎ ((kept ≡ numbered None all) × (length kept ≡ 1))
+AreRounds kept all = (kept ≡ all) ⊎ (kept ≡ numbered None all)
 
 -- rounds before one with this mark: a move clears the number of the round before it
 abbrev pub closed : Mark → List Round → List Round
@@ -69,9 +69,9 @@ closed Moved rs = numbered None rs
 abbrev pub counted : ℕ → Mark → ℕ → Round
 counted n mark k = record { start = n; count = Some k; mark = mark }
 
--- a first round that begins after n commits, without its number
-abbrev pub uncounted : ℕ → Round
-uncounted n = record { start = n; count = None; mark = Plain }
+-- the same without its number
+abbrev pub uncounted : ℕ → Mark → Round
+uncounted n mark = record { start = n; count = None; mark = mark }
 
 -- Replies
 
@@ -92,7 +92,7 @@ TellsCall w order c p = TellsBy w order c p.rounds.items p.reply
 -- it began after this many commits, and has executed nothing
 pub record IsFresh (n : ℕ) (p : Progress) : Type 0 where
   pub live : live_of p ≡ begin n
-  pub rounds : p.rounds.items ≡ uncounted n ∷ []
+  pub rounds : p.rounds.items ≡ uncounted n Plain ∷ []
   pub reply : p.reply ≡ None
 
 -- A commit

@@ -30,7 +30,7 @@ use Rattle.mv_script.specs.declared.script.Script.{Script}
 use Rattle.mv_script.specs.Scripts.{IsCallOf, IsScript, work_of}
 use Rattle.mv_core.specs.declared.tasks.Running.{Running}
 use Rattle.mv_core.specs.Calls.{IsLive, IsLiveCall, WithinRounds, last_number, due_number}
-use Rattle.mv_core.specs.Books.{Booked, work_in, Made, IsSame, AreRecordsOf}
+use Rattle.mv_core.specs.Books.{Booked, work_in, Made, IsSame, IsSettled, HaveNumbers, AreRecordsOf}
 
 -- Tables
 
@@ -172,9 +172,10 @@ HasAllRecords k c = AreRecordsOf k.book c (records_in k c)
 abbrev pub KeepsOtherTasks : ℕ → Cored → Cored → Type 0
 KeepsOtherTasks c old new = (d : ℕ) → (d ≡ c → ⊥) → slice_get new.tasks d ≡ slice_get old.tasks d
 
--- its store has the tables of its history, and each live call has its task
+-- its store has the tables of its history, and each live call has its task. Only a first round may lack its number
 pub record IsCore (b : Booked) (store : Versioned) (ts : List (Option Running)) : Type 0 where
   pub stored : IsStoreOf b store
+  pub numbers : HaveNumbers b
   pub tasks : HasTasks b.script b.course ts
 
 -- Results
@@ -261,9 +262,9 @@ abbrev pub HasCommitted : Event → Result ℕ NoMemory → Booked → Booked �
 HasCommitted e (Ok n) old new = Made e old new × (n ≡ length old.course.order + 1)
 HasCommitted e (Err x) old new = IsSame old new
 
--- the call moved, and committed in the same step; or nothing happened
+-- the call moved, in a round with its number, and committed in the same step; or nothing happened
 abbrev pub HasMovedAndCommitted : ℕ → Result ℕ NoMemory → Booked → Booked → Type 0
-HasMovedAndCommitted c (Ok n) old new = ((mid : Booked) × Made (M c) old mid × Made (C c) mid new) × (n ≡ length old.course.order + 1)
+HasMovedAndCommitted c (Ok n) old new = ((mid : Booked) × Made (M c) old mid × Made (C c) mid new × IsSettled mid c) × (n ≡ length old.course.order + 1)
 HasMovedAndCommitted c (Err x) old new = IsSame old new
 
 -- the law of journals allows the event, or refuses it only because the call is stale

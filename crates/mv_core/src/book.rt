@@ -4,12 +4,12 @@ ghost use Rattle.std.specs.Prelude.{◌≡◌, ◌<◌, ◌≤◌, ◌+◌, ◌+
 ghost use Rattle.std.specs.Option.{option_copied};
 ghost use Rattle.mv_values.specs.Counts.{first_numbers};
 ghost use Rattle.mv_lawful.specs.Work.{since};
-ghost use Rattle.mv_lawful.specs.Lawful.{Live, Lawful, beginning, course_of, open_call, refusal, oldest, floor, next_low, AllAllowed};
+ghost use Rattle.mv_lawful.specs.Lawful.{Live, Lawful, beginning, course_of, open_call, refusal, is_stale, has_round, oldest, floor, next_low, AllAllowed};
 ghost use Rattle.mv_lawful.specs.Outcomes.{history_line, outcome_of, reply_in};
 ghost use Rattle.mv_changes.specs.Commits.{changes_in, AreNumbered};
 ghost use Rattle.mv_undo.specs.Owning.{HasWritesOf};
 ghost use Rattle.mv_core.specs.Calls.{IsLive, IsLiveCall, due_number};
-ghost use Rattle.mv_core.specs.Books.{work_in, IsSettled, last_run, last_tables, last_changes, Made, IsSame, HasBegun, round_event, due_after, IsFirstNumber, commit_event, own_number, IsOwnNumber, HasRoom, UsesOne, KeepsRoom, HasRounds, IsNotStale, IsAlone, Remembers, AreRecordsOf, IsAnswer};
+ghost use Rattle.mv_core.specs.Books.{work_in, IsSettled, last_run, last_tables, last_changes, Made, IsSame, HasBegun, round_event, IsMissing, commit_event, own_number, IsOwnNumber, HasRoom, UsesOne, KeepsRoom, HasRounds, IsNotStale, IsAlone, Remembers, AreRecordsOf, IsAnswer};
 ghost use Rattle.mv_journal.specs.declared.event.Event.TheVariants.{S, G};
 ghost use Rattle.mv_journal.specs.declared.outcome.Mark.TheVariants.{Plain, Exclusive};
 
@@ -169,32 +169,29 @@ impl Book {
         self.calls[call as usize].steps += 1;
     }
 
-    /// Repairs a call for `Plain`, or moves it for `Moved`. The call starts anew after all commits. Its task has run whole
-    /// there, and the number of the new round is that of the records that the task executed. Returns the new start. A
-    /// repair needs the number of the round before it. After a move that round has none.
-    pub fn restart(&mut self, call: u32, mark: Mark, task: &Task) -> u32
+    /// Repairs a call for `Plain`, or moves it for `Moved`. The call starts anew after all commits. Its new round has no
+    /// number yet. Returns the new start. A repair needs the number of the round before it. After a move that round has
+    /// none.
+    pub fn restart(&mut self, call: u32, mark: Mark) -> u32
         requires mark { mark ≢ Exclusive }
         requires allowed { refusal (work_in self.old) self.old.course (round_event mark call) ≡ None }
         requires settled { mark ≡ Plain → IsSettled self.old call }
-        requires number { due_after self.old mark call ≡ Some task.now.executed }
         requires room { HasRoom self.old call 1 }
         ensures made { Made (round_event mark call) self.old self.new }
-        ensures settled { IsSettled self.new call }
         ensures start { result ≡ length self.old.course.order }
         ensures room { UsesOne self.old self.new }
     {
         let start = self.order.len() as u32;
-        let count = task.executed();
-        self.calls[call as usize].restart(start, mark, count);
+        self.calls[call as usize].restart(start, mark);
         self.journal.put(round_event(mark, call));
         start
     }
 
-    /// Gives the first round of a live call its number: that of the records that its task executed. Does nothing if the
-    /// call is in a later round, or if its first one has its number.
+    /// Gives the last round of a live call its number: that of the records that its task executed. Does nothing if the
+    /// round has its number.
     pub fn settle(&mut self, call: u32, task: &Task)
         requires live { IsLiveCall self.old.course call }
-        requires number { IsFirstNumber task.now.executed self.old call }
+        requires number { IsMissing task.now.executed self.old call }
         ensures settled { IsSettled self.new call }
         ensures same { IsSame self.old self.new }
         ensures room { KeepsRoom self.old self.new }
@@ -316,7 +313,7 @@ impl Book {
     }
 
     /// Returns the rounds of a live call. Returns `None` for a call that hasn't begun or has committed. The last round
-    /// has the call's start. Only a first round may not have its number yet.
+    /// has the call's start, and may not have its number yet.
     pub fn rounds(&self, call: u32) -> Option<&[Round]>
         ensures live { IfSome result (λ rounds. HasRounds self.now call rounds.now) }
         ensures none { IfNone result (IsLiveCall self.now.course call → ⊥) }
@@ -325,11 +322,11 @@ impl Book {
         Some(progress.rounds.as_slice())
     }
 
-    /// Returns the number of a live call's last round. If its first round has none yet, that is the number of the records
-    /// that its task executed.
+    /// Returns the number of a live call's last round. If the round has none yet, that is the number of the records that
+    /// its task executed.
     pub fn number(&self, call: u32, task: &Task) -> usize
         requires live { IsLiveCall self.now.course call }
-        requires number { IsFirstNumber task.now.executed self.now call }
+        requires number { IsMissing task.now.executed self.now call }
         ensures { due_number (work_in self.now) self.now.course call ≡ Some result }
     {
         match last_number(self.calls[call as usize].rounds.as_slice()) {
@@ -353,6 +350,23 @@ impl Book {
         ensures past { result ≤ length self.now.course.order }
     {
         self.calls[call as usize].start
+    }
+
+    /// Whether the start of a live call is below low.
+    pub fn is_stale(&self, call: u32) -> bool
+        requires { IsLiveCall self.now.course call }
+        ensures { (l : Live) → IsLive self.now.course call l → result ≡ is_stale self.now.course l }
+    {
+        self.start(call) < self.low
+    }
+
+    /// Whether a live call was repaired and moved less often than there are rounds. Then it may be repaired or moved once
+    /// more before it is decided in one step.
+    pub fn has_round(&self, call: u32) -> bool
+        requires { IsLiveCall self.now.course call }
+        ensures { (l : Live) → IsLive self.now.course call l → result ≡ has_round (work_in self.now) l }
+    {
+        self.calls[call as usize].rounds.len() <= self.script.options.rounds as usize
     }
 
     /// Returns the number of commits.

@@ -5,19 +5,19 @@ ghost use Rattle.mv_journal.specs.declared.event.Event.TheVariants.{A, X};
 ghost use Rattle.mv_lawful.specs.Lawful.{Live, Lawful, beginning, course_of, has_step, has_round, open_call, AllAllowed};
 ghost use Rattle.mv_lawful.specs.Outcomes.{outcome_of};
 ghost use Rattle.mv_exec.specs.Running.{stepped};
-ghost use Rattle.mv_core.specs.Calls.{IsLive, IsLiveCall, due_number};
+ghost use Rattle.mv_core.specs.Calls.{IsLive, IsLiveCall, last_number, due_number};
 ghost use Rattle.mv_script.specs.Scripts.{IsScript};
 ghost use Rattle.mv_core.specs.Books.{work_in, HasRounds, IsSame, IsNotStale, IsAnswer};
 ghost use Rattle.mv_core.specs.Cores.{HasStep, HasEnded, MayStep, IsAllowedIfFresh, HasRefused, HasBegunCall, HasStepped, HasTried, HasRepaired, HasDecided, HasMovedUp, HasCollected, AreFirstOf, HasAllRecords, KeepsOtherTasks, BeginsTask, RunsOne, RunsWhole, records_in};
 
 use crate::book::{Book, Check};
 use crate::tasks::{
-    Running, collect_versions, commit_task, decide_task, new_task, rerun_task, step_task,
-    validate_task, whole_task,
+    Running, collect_versions, decide_task, finish_task, has_step, move_task, new_task, outcome_of,
+    rerun_task, settle_and_commit, step_task, validate_task,
 };
 use mv_exec::step::Stepped;
 use mv_journal::event::Event;
-use mv_journal::outcome::{Mark, Outcome, Round};
+use mv_journal::outcome::{Outcome, Round};
 use mv_record::record::Record;
 use mv_script::script::Script;
 use mv_store::store::Store;
@@ -149,8 +149,7 @@ impl Core {
         match validate_task(alloc, &self.book, &self.store, call, running)? {
             Check::Free => {
                 let task = &running.task;
-                self.book.settle(call, task);
-                let commit = commit_task(alloc, &mut self.book, &mut self.store, call, task, None)?;
+                let commit = settle_and_commit(alloc, &mut self.book, &mut self.store, call, task)?;
                 self.tasks[call as usize] = None;
                 Ok(Attempt::Committed(commit))
             }
@@ -186,6 +185,7 @@ impl Core {
         let Some(running) = &mut self.tasks[call as usize] else {
             unreachable!();
         };
+        finish_task(alloc, &self.book, &self.store, call, running)?;
         let executed = rerun_task(alloc, &mut self.book, &self.store, call, running)?;
         Ok(executed)
     }
@@ -203,6 +203,7 @@ impl Core {
         let Some(running) = &mut self.tasks[call as usize] else {
             unreachable!();
         };
+        finish_task(alloc, &self.book, &self.store, call, running)?;
         let commit = decide_task(alloc, &mut self.book, &mut self.store, call, running)?;
         self.tasks[call as usize] = None;
         Ok(commit)
@@ -216,9 +217,7 @@ impl Core {
         ensures whole { OnOk result (HasAllRecords self.new call) }
         ensures others { KeepsOtherTasks call self.old self.new }
     {
-        self.book.reserve(call)?;
-        let task = whole_task(alloc, &self.book, &self.store, call, self.book.commits())?;
-        self.book.restart(call, Mark::Moved, &task);
+        let task = move_task(alloc, &mut self.book, &self.store, call)?;
         let executed = task.executed();
         self.tasks[call as usize] = Some(Running { task, count: None });
         Ok(executed)
@@ -247,6 +246,7 @@ impl Core {
     /// has the call's start. Only a first round may not have its number yet.
     pub fn rounds(&self, call: u32) -> Option<&[Round]>
         ensures live { IfSome result (λ rounds. HasRounds self.now.book call rounds.now) }
+        ensures numbers { IfSome result (λ rounds. last_number rounds.now ≡ None → length rounds.now ≡ 1) }
         ensures none { IfNone result (IsLiveCall self.now.book.course call → ⊥) }
     {
         self.book.rounds(call)
@@ -318,13 +318,13 @@ impl Core {
     pub(crate) fn may_step(&self, call: u32) -> bool
         ensures { MayStep result self.now.book call }
     {
-        let Some(rounds) = self.book.rounds(call) else {
+        let Some(_) = self.book.rounds(call) else {
             return false;
         };
         let Some(running) = &self.tasks[call as usize] else {
             unreachable!();
         };
-        rounds.len() == 1 && running.has_more(self.book.steps(call))
+        has_step(&self.book, call, running)
     }
 
     /// Whether a live call was repaired and moved less often than there are rounds. Then it may be repaired once more
@@ -333,10 +333,7 @@ impl Core {
         requires { IsLiveCall self.now.book.course call }
         ensures { (l : Live) → IsLive self.now.book.course call l → result ≡ has_round (work_in self.now.book) l }
     {
-        let Some(rounds) = self.book.rounds(call) else {
-            unreachable!();
-        };
-        rounds.len() <= self.book.script().options.rounds as usize
+        self.book.has_round(call)
     }
 
     /// Returns the least call that hasn't committed. Takes time linear in the number of calls that have begun.
@@ -359,9 +356,7 @@ impl Core {
         ensures lawful { OnOk result (Lawful (work_in self.book) self.book.journal) }
     {
         let Core { book, store, .. } = self;
-        let last = store.last();
-        let tables = store.into_tables_at(alloc, last)?;
-        book.outcome(alloc, tables)
+        outcome_of(alloc, book, store)
     }
 }
 

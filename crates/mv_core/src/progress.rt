@@ -1,7 +1,7 @@
 //! A call that has begun.
 
 ghost use Rattle.std.specs.Prelude.{◌≡◌, ◌<◌, ◌≤◌, ◌+◌, ◌++◌, ◌∷◌, [], None, Some, All, IfOk, IfSome, IfNone, OnOk, length, map, slice_get};
-ghost use Rattle.mv_core.specs.Calls.{live_of, numbered, closed, counted, committed, with_own, line_of, replies_in, IsFresh};
+ghost use Rattle.mv_core.specs.Calls.{live_of, numbered, closed, uncounted, committed, with_own, line_of, replies_in, IsFresh};
 
 use crate::roomy::Roomy;
 use mv_journal::outcome::{HistoryLine, Mark, Round};
@@ -64,13 +64,13 @@ impl Progress {
         self.rounds.number_last(Some(count));
     }
 
-    /// Adds a round with its number, which begins after this many commits. A move clears the number of the round before
-    /// it.
-    pub(crate) fn restart(&mut self, start: u32, mark: Mark, count: usize)
+    /// Adds a round without its number, which begins after this many commits. A move clears the number of the round
+    /// before it.
+    pub(crate) fn restart(&mut self, start: u32, mark: Mark)
         requires { 0 < self.old.rounds.room }
         ensures start { self.new.start ≡ start }
         ensures steps { self.new.steps ≡ self.old.steps }
-        ensures rounds { self.new.rounds.items ≡ closed mark self.old.rounds.items ++ counted start mark count ∷ [] }
+        ensures rounds { self.new.rounds.items ≡ closed mark self.old.rounds.items ++ uncounted start mark ∷ [] }
         ensures reply { self.new.reply ≡ self.old.reply }
         ensures room { self.old.rounds.room ≤ self.new.rounds.room + 1 }
     {
@@ -80,7 +80,7 @@ impl Progress {
         self.start = start;
         self.rounds.put(Round {
             start,
-            count: Some(count),
+            count: None,
             mark,
         });
     }

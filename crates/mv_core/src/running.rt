@@ -6,6 +6,7 @@ ghost use Rattle.mv_values.specs.declared.calls.Call.{Call};
 ghost use Rattle.mv_values.specs.Tables.{Tables};
 ghost use Rattle.mv_record.specs.declared.record.Record.{Record};
 ghost use Rattle.mv_record.specs.Writes.{AreRising};
+ghost use Rattle.mv_effect.specs.Looking.{OnlyAsks};
 ghost use Rattle.mv_graph.specs.declared.graph.Graph.{Graph};
 ghost use Rattle.mv_graph.specs.Nodes.{meaning_of};
 ghost use Rattle.mv_exec.specs.Running.{IsTaskOf, IsUnchanged, HasLeft};
@@ -16,14 +17,13 @@ ghost use Rattle.mv_core.specs.Cores.{RunsOn, IsTaskFor, IsDatabaseIn, CanRepair
 
 use mv_changes::recent::Committed;
 use mv_exec::running::{finish, next};
+use mv_exec::step::Stepped;
 use mv_exec::task::Task;
 use mv_graph::graph::Graph;
 use mv_repair::repair::repair;
 use mv_script::script::Script;
-use mv_store::view::StoreView;
 use mv_values::calls::Call;
-use mv_values::memory::NoMemory;
-use mv_view::view::Refused;
+use mv_view::view::{Refused, View};
 use std::alloc::Global;
 
 /// Returns the call of a number.
@@ -62,83 +62,75 @@ pub(crate) fn find_call(script: &Script, number: u32) -> Called<'_>
     Called { call, graph }
 }
 
-/// Executes the next statement of a call of the script, over a view that isn't stale.
-pub(crate) fn run_next(
+/// Executes the next statement of a call of the script over a view. Fails with `NoMemory` if memory runs out, and with
+/// `Stale` if the view reports it.
+pub fn run_next<V: View>(
     alloc: Global,
     script: &Script,
     number: u32,
     task: &mut Task,
-    view: &mut StoreView<'_>,
-) -> Result<(), NoMemory>
+    view: &mut V,
+) -> Result<Stepped, Refused>
     requires script { IsScript script.now }
     requires number { number < length script.now.calls }
-    requires database { IsDatabaseIn script.now number view.old.database }
-    requires runs { RunsOn script.now number view.old.database task.old }
-    requires fresh { view.old.may_be_stale ≡ false }
-    ensures runs { RunsOn script.now number view.old.database task.new }
+    requires database { IsDatabaseIn script.now number (V.sight view.old).database }
+    requires runs { RunsOn script.now number (V.sight view.old).database task.old }
+    ensures runs { RunsOn script.now number (V.sight view.old).database task.new }
     ensures ran { OnOk result (task.old.ended ≡ false → HasRunOne task.old task.new) }
     ensures err { OnErr result (IsUnchanged task.old task.new) }
+    ensures view { OnlyAsks (V.sight view.old) (V.sight view.new) result }
 {
     let at = find_call(script, number);
-    match next(alloc, at.graph, task, view) {
-        Ok(_) => Ok(()),
-        Err(Refused::NoMemory) => Err(NoMemory),
-        Err(Refused::Stale { .. }) => unreachable!(),
-    }
+    next(alloc, at.graph, task, view)
 }
 
-/// Executes the rest of a call of the script, over a view that isn't stale.
-pub(crate) fn run_all(
+/// Executes the rest of a call of the script over a view. Fails with `NoMemory` if memory runs out, and with `Stale` if
+/// the view reports it. Then the call keeps the records added so far.
+pub fn run_all<V: View>(
     alloc: Global,
     script: &Script,
     number: u32,
     task: &mut Task,
-    view: &mut StoreView<'_>,
-) -> Result<(), NoMemory>
+    view: &mut V,
+) -> Result<(), Refused>
     requires script { IsScript script.now }
     requires number { number < length script.now.calls }
-    requires database { IsDatabaseIn script.now number view.old.database }
-    requires runs { RunsOn script.now number view.old.database task.old }
-    requires fresh { view.old.may_be_stale ≡ false }
-    ensures runs { RunsOn script.now number view.old.database task.new }
-    ensures records { OnOk result (task.new.records ≡ ((work_of script.now).run number view.old.database).records) }
+    requires database { IsDatabaseIn script.now number (V.sight view.old).database }
+    requires runs { RunsOn script.now number (V.sight view.old).database task.old }
+    ensures runs { RunsOn script.now number (V.sight view.old).database task.new }
+    ensures records { OnOk result (task.new.records ≡ ((work_of script.now).run number (V.sight view.old).database).records) }
     ensures ended { OnOk result (task.new.ended ≡ true) }
     ensures counts { CountsAll task.old task.new }
+    ensures view { OnlyAsks (V.sight view.old) (V.sight view.new) result }
 {
     let at = find_call(script, number);
-    match finish(alloc, at.graph, task, view) {
-        Ok(()) => Ok(()),
-        Err(Refused::NoMemory) => Err(NoMemory),
-        Err(Refused::Stale { .. }) => unreachable!(),
-    }
+    finish(alloc, at.graph, task, view)
 }
 
-/// Repairs a call of the script that has run whole: runs it again over a view that isn't stale, to which the changes of
-/// the commits lead. Executes only what depends on them. After `NoMemory` its records are of no use.
-pub(crate) fn repair_over(
+/// Repairs a call of the script that has run whole: runs it again over a view, to which the changes of the commits lead.
+/// Executes only what depends on them, and returns the number of executed records. Fails with `NoMemory` if memory runs
+/// out, and with `Stale` if the view reports it. Then its records are of no use.
+pub fn repair_over<V: View>(
     alloc: Global,
     script: &Script,
     number: u32,
     task: &mut Task,
     since: &[Committed],
-    view: &mut StoreView<'_>,
-) -> Result<(), NoMemory>
+    view: &mut V,
+) -> Result<usize, Refused>
     requires script { IsScript script.now }
     requires number { number < length script.now.calls }
     requires call { IsTaskFor script.now number task.old }
-    requires leads { CanRepair script.now number task.old (changes_since since.now) view.old.database }
-    requires fresh { view.old.may_be_stale ≡ false }
+    requires leads { CanRepair script.now number task.old (changes_since since.now) (V.sight view.old).database }
     ensures call { IsTaskFor script.now number task.new }
-    ensures runs { OnOk result (RunsOn script.now number view.old.database task.new) }
-    ensures records { OnOk result (task.new.records ≡ ((work_of script.now).run number view.old.database).records) }
+    ensures runs { OnOk result (RunsOn script.now number (V.sight view.old).database task.new) }
+    ensures records { OnOk result (task.new.records ≡ ((work_of script.now).run number (V.sight view.old).database).records) }
     ensures executed { OnOk result (task.new.executed ≡ executions task.old.records task.new.records (changes_since since.now)) }
+    ensures answer { IfOk result (λ count. count ≡ task.new.executed) }
+    ensures view { OnlyAsks (V.sight view.old) (V.sight view.new) result }
 {
     let at = find_call(script, number);
-    match repair(alloc, at.graph, task, since, view) {
-        Ok(_) => Ok(()),
-        Err(Refused::NoMemory) => Err(NoMemory),
-        Err(Refused::Stale { .. }) => unreachable!(),
-    }
+    repair(alloc, at.graph, task, since, view)
 }
 
 /// Whether a full run of the call has more records than this many. The call must have executed so many.

@@ -11,24 +11,26 @@ ghost use Rattle.mv_graph.specs.declared.graph.Graph.{Graph};
 ghost use Rattle.mv_graph.specs.Nodes.{meaning_of};
 ghost use Rattle.mv_exec.specs.Running.{IsTaskOf, IsTaskOn, IsUnchanged, HasLeft};
 ghost use Rattle.mv_history.specs.Changes.{changes_between};
-ghost use Rattle.mv_journal.specs.declared.event.Event.TheVariants.{A, X};
+ghost use Rattle.mv_journal.specs.declared.event.Event.TheVariants.{A, M, C, X};
+ghost use Rattle.mv_lawful.specs.Outcomes.{outcome_of};
 ghost use Rattle.mv_lawful.specs.Work.{records_at, table_at};
-ghost use Rattle.mv_lawful.specs.Lawful.{Live, refusal};
+ghost use Rattle.mv_lawful.specs.Lawful.{Live, Lawful, has_step, open_call, refusal};
 ghost use Rattle.mv_store.specs.Changes.{HasRaised};
 ghost use Rattle.mv_store.specs.Stored.{IsLike};
 ghost use Rattle.mv_core.specs.declared.book.Check.TheVariants.{Free as IsFree, Hit as IsHit};
 ghost use Rattle.mv_core.specs.Told.{writes_told};
 ghost use Rattle.mv_script.specs.Scripts.{IsScript};
 ghost use Rattle.mv_core.specs.Calls.{IsLive, IsLiveCall, due_number};
-ghost use Rattle.mv_core.specs.Books.{work_in, last_tables, last_run, last_changes, commit_event, own_number, Made, IsSame, IsSettled, IsNotStale, IsAlone, IsOwnNumber, AreRecordsOf, IsAnswer};
+ghost use Rattle.mv_core.specs.Books.{work_in, last_tables, last_run, last_changes, commit_event, own_number, Made, IsSame, IsSettled, IsMissing, IsNotStale, IsAlone, IsOwnNumber, AreRecordsOf, IsAnswer};
 ghost use Rattle.mv_core.specs.Cores.{RunsOn, IsStoreOf, IsTaskIn, IsRunningIn, HasRunOn, HasRunOne, IsLiveTask, IsRepaired, HasStep, IsPrepared, HasCommitted, HasMovedAndCommitted, HasCollected, count_or};
 
 use crate::book::{Book, Check};
-use crate::running::{find_call, has_more, repair_over, run_all, run_next};
-use crate::told::{changes_told, put_told, reply_of};
+use crate::fresh::{changes_fresh, finish_fresh, next_fresh, repair_fresh};
+use crate::running::{find_call, has_more};
+use crate::told::{put_told, reply_of};
 use mv_changes::changes::Changes;
 use mv_exec::task::Task;
-use mv_journal::outcome::Mark;
+use mv_journal::outcome::{Mark, Outcome};
 use mv_record::record::Record;
 use mv_script::script::Script;
 use mv_store::store::Store;
@@ -94,6 +96,20 @@ pub fn new_task(alloc: Global, script: &Script, number: u32) -> Result<Task, NoM
     Task::new(alloc, at.graph, at.call)
 }
 
+/// Whether a live call is in its first round, which has a statement left.
+pub fn has_step(book: &Book, call: u32, running: &Running) -> bool
+    requires script { IsScript book.now.script }
+    requires live { IsLiveCall book.now.course call }
+    requires number { call < length book.now.script.calls }
+    requires task { IsTaskIn book.now call running.now }
+    ensures { (l : Live) → IsLive book.now.course call l → result ≡ has_step (work_in book.now) book.now.course call l }
+{
+    let Some(rounds) = book.rounds(call) else {
+        unreachable!();
+    };
+    rounds.len() == 1 && running.has_more(book.steps(call))
+}
+
 /// Runs the next statement of a live call at its start, unless its task has run more statements than the journal names.
 /// The start may not be below low, and a statement must be left. The journal names that statement next. A task that has
 /// run no more statements than the journal names runs exactly one more. Any other runs none. Fails with `NoMemory` if
@@ -117,7 +133,7 @@ pub fn step_task(
 {
     if running.task.records().len() <= book.steps(call) {
         let mut view = StoreView::new(store, book.start(call));
-        run_next(alloc, book.script(), call, &mut running.task, &mut view)?;
+        next_fresh(alloc, book.script(), call, &mut running.task, &mut view)?;
     }
     Ok(())
 }
@@ -139,7 +155,7 @@ pub fn finish_task(
     ensures ran { HasRunOn running.old running.new }
 {
     let mut view = StoreView::new(store, book.start(call));
-    run_all(alloc, book.script(), call, &mut running.task, &mut view)
+    finish_fresh(alloc, book.script(), call, &mut running.task, &mut view)
 }
 
 /// Validates a live call. First it runs the rest of the call at its start, unless that is below low.
@@ -184,7 +200,7 @@ pub fn repair_task(
     let number = running.number();
     let mut view = StoreView::new(store, book.commits());
     let since = book.since(call);
-    if let Err(error) = repair_over(
+    if let Err(error) = repair_fresh(
         alloc,
         book.script(),
         call,
@@ -199,9 +215,9 @@ pub fn repair_task(
     Ok(())
 }
 
-/// Event A. Runs the rest of a live call at its start, which isn't below low, and repairs it. Returns the number of
+/// Event A of a live call that has run whole at its start, which isn't below low: repairs it. Returns the number of
 /// executed records. If memory runs out, no event was made, and the call may have lost its records.
-pub(crate) fn rerun_task(
+pub fn rerun_task(
     alloc: Global,
     book: &mut Book,
     store: &Store,
@@ -209,18 +225,22 @@ pub(crate) fn rerun_task(
     running: &mut Running,
 ) -> Result<usize, NoMemory>
     requires call { IsRunningIn book.old store.now call running.old }
+    requires missing { IsMissing running.old.task.executed book.old call }
     requires fresh { IsNotStale book.old call }
+    requires whole { AreRecordsOf book.old call running.old.task.records }
+    requires ended { running.old.task.ended ≡ true }
     requires allowed { refusal (work_in book.old) book.old.course (A call) ≡ None }
     ensures made { IfOk result (λ n. Made (A call) book.old book.new × (due_number (work_in book.new) book.new.course call ≡ Some n)) }
+    ensures settled { OnOk result (IsSettled book.new call) }
     ensures repaired { OnOk result ((l : Live) → IsLive book.old.course call l → IsRepaired book.old.script book.old.course.order call l running.new) }
     ensures same { OnErr result (IsSame book.old book.new) }
     ensures task { OnErr result (IsTaskIn book.old call running.new) }
 {
-    finish_task(alloc, book, store, call, running)?;
     book.settle(call, &running.task);
     book.reserve(call)?;
     repair_task(alloc, book, store, call, running)?;
-    book.restart(call, Mark::Plain, &running.task);
+    book.restart(call, Mark::Plain);
+    book.settle(call, &running.task);
     Ok(running.task.executed())
 }
 
@@ -243,7 +263,27 @@ pub fn whole_task(
 {
     let mut task = new_task(alloc, book.script(), call)?;
     let mut view = StoreView::new(store, start);
-    run_all(alloc, book.script(), call, &mut task, &mut view)?;
+    finish_fresh(alloc, book.script(), call, &mut task, &mut view)?;
+    Ok(task)
+}
+
+/// Event M of a live call: it starts anew after all commits, and is run whole. Returns its task. If memory runs out, the
+/// call hasn't moved.
+pub fn move_task(alloc: Global, book: &mut Book, store: &Store, call: u32) -> Result<Task, NoMemory>
+    requires stored { IsStoreOf book.old store.now }
+    requires live { IsLiveCall book.old.course call }
+    requires number { call < length book.old.script.calls }
+    ensures made { OnOk result (Made (M call) book.old book.new) }
+    ensures settled { OnOk result (IsSettled book.new call) }
+    ensures runs { IfOk result (λ task. RunsOn book.old.script call (last_tables book.old) task) }
+    ensures records { IfOk result (λ task. task.records ≡ records_at (work_in book.old) book.old.course.order (length book.old.course.order) call) }
+    ensures executed { IfOk result (λ task. task.executed ≡ length task.records) }
+    ensures same { OnErr result (IsSame book.old book.new) }
+{
+    let task = whole_task(alloc, book, store, call, book.commits())?;
+    book.reserve(call)?;
+    book.restart(call, Mark::Moved);
+    book.settle(call, &task);
     Ok(task)
 }
 
@@ -264,7 +304,7 @@ fn changes_made(
     if book.is_alone(call) {
         return Ok(None);
     }
-    let changes = changes_told(alloc, book.script().opening.len(), records, &mut view)?;
+    let changes = changes_fresh(alloc, book.script().opening.len(), records, &mut view)?;
     Ok(Some(changes))
 }
 
@@ -328,6 +368,28 @@ pub fn commit_task(
     Ok(commit)
 }
 
+/// Event C of a live call that has run whole at its start, and that no commit after its start hits. Returns the number of
+/// the commit. If memory runs out, the call hasn't committed.
+pub fn settle_and_commit(
+    alloc: Global,
+    book: &mut Book,
+    store: &mut Store,
+    call: u32,
+    task: &Task,
+) -> Result<u32, NoMemory>
+    requires stored { IsStoreOf book.old store.old }
+    requires live { IsLiveCall book.old.course call }
+    requires number { call < length book.old.script.calls }
+    requires missing { IsMissing task.now.executed book.old call }
+    requires whole { AreRecordsOf book.old call task.now.records }
+    requires allowed { refusal (work_in book.old) book.old.course (C call) ≡ None }
+    ensures made { HasCommitted (C call) result book.old book.new }
+    ensures stored { IsStoreOf book.new store.new }
+{
+    book.settle(call, task);
+    commit_task(alloc, book, store, call, task, None)
+}
+
 /// Moves a live call, and commits it in the same step. It runs the call whole on the tables after all commits. Returns
 /// the number of the commit. If memory runs out, the call has neither moved nor committed.
 pub fn move_and_commit(
@@ -345,16 +407,16 @@ pub fn move_and_commit(
     let task = whole_task(alloc, book, store, call, book.commits())?;
     book.reserve(call)?;
     let prepared = prepare(alloc, book, store, call, task.records())?;
-    book.restart(call, Mark::Moved, &task);
+    book.restart(call, Mark::Moved);
+    book.settle(call, &task);
     let commit = book.commit(call, prepared.reply, prepared.changes, None);
     store.stamp(call, commit);
     Ok(commit)
 }
 
-/// Repairs a live call, whose start isn't below low, and commits it in the same step. First it runs the rest of the call
-/// at its start. Returns the number of the commit. If memory runs out, the call hasn't committed, and may have lost its
-/// records.
-pub(crate) fn decide_task(
+/// Event X of a live call that has run whole at its start, which isn't below low: repairs it, and commits it in the same
+/// step. Returns the number of the commit. If memory runs out, the call hasn't committed, and may have lost its records.
+pub fn decide_task(
     alloc: Global,
     book: &mut Book,
     store: &mut Store,
@@ -362,13 +424,15 @@ pub(crate) fn decide_task(
     running: &mut Running,
 ) -> Result<u32, NoMemory>
     requires call { IsRunningIn book.old store.old call running.old }
+    requires missing { IsMissing running.old.task.executed book.old call }
     requires fresh { IsNotStale book.old call }
+    requires whole { AreRecordsOf book.old call running.old.task.records }
+    requires ended { running.old.task.ended ≡ true }
     requires allowed { refusal (work_in book.old) book.old.course (X call) ≡ None }
     ensures made { HasCommitted (X call) result book.old book.new }
     ensures stored { IsStoreOf book.new store.new }
     ensures task { OnErr result (IsTaskIn book.old call running.new) }
 {
-    finish_task(alloc, book, store, call, running)?;
     book.settle(call, &running.task);
     let number = running.number();
     repair_task(alloc, book, store, call, running)?;
@@ -393,4 +457,18 @@ pub fn collect_versions(book: &mut Book, store: &mut Store) -> Result<(), NoMemo
     let low = book.collect();
     store.raise(low);
     Ok(())
+}
+
+/// Turns a history and its tables into the outcome of the run: the replies by call, the commits with their rounds, the
+/// events, and the tables after all commits. Each call must have committed. It copies the events. Fails with `NoMemory` if
+/// memory runs out.
+pub fn outcome_of(alloc: Global, book: Book, store: Store) -> Result<Outcome, NoMemory>
+    requires stored { IsStoreOf book store }
+    requires ended { open_call (work_in book) book.course ≡ None }
+    ensures outcome { IfOk result (λ outcome. outcome ≡ outcome_of (work_in book) book.journal) }
+    ensures lawful { OnOk result (Lawful (work_in book) book.journal) }
+{
+    let last = store.last();
+    let tables = store.into_tables_at(alloc, last)?;
+    book.outcome(alloc, tables)
 }

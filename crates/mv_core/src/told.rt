@@ -6,6 +6,7 @@ ghost use Rattle.mv_values.specs.Patching.{applied};
 ghost use Rattle.mv_record.specs.Writes.{AreRising};
 ghost use Rattle.mv_history.specs.Changes.{changes_between};
 ghost use Rattle.mv_record.specs.Runs.{end_in, lines_in, writes_in};
+ghost use Rattle.mv_view.specs.Viewing.{MayAnswer};
 ghost use Rattle.mv_store.specs.Changes.{HasPut, HasDropped};
 ghost use Rattle.mv_core.specs.Told.{reply_told, writes_told};
 
@@ -13,13 +14,12 @@ use mv_changes::changes::Changes;
 use mv_changes::commit::changes_of_commit;
 use mv_record::record::Record;
 use mv_store::store::Store;
-use mv_store::view::StoreView;
 use mv_values::calls::{End, Reply};
 use mv_values::copied::Copied;
 use mv_values::list::List;
 use mv_values::memory::NoMemory;
 use mv_values::txt::Txt;
-use mv_view::view::Refused;
+use mv_view::view::{Refused, View};
 use std::alloc::Global;
 
 /// Returns the first end that a record has.
@@ -62,7 +62,7 @@ fn lines_of(alloc: Global, records: &[Record]) -> Result<List<Txt>, NoMemory>
 }
 
 /// Returns the reply of a call with these records: their lines, or the first end alone.
-pub(crate) fn reply_of(alloc: Global, records: &[Record]) -> Result<Reply, NoMemory>
+pub fn reply_of(alloc: Global, records: &[Record]) -> Result<Reply, NoMemory>
     ensures { IfOk result (λ reply. reply ≡ reply_told records.now) }
 {
     match end_of(records) {
@@ -111,22 +111,18 @@ pub(crate) fn put_told(
     put_all(alloc, store, call, counted(records))
 }
 
-/// Returns the changes that a call with these records makes to a view's database, which has this many tables. The view
-/// may not be stale.
-pub(crate) fn changes_told(
+/// Returns the changes that a call with these records makes to a view's database, which has this many tables. Fails with
+/// `NoMemory` if memory runs out, and with `Stale` if the view reports it.
+pub fn changes_told<V: View>(
     alloc: Global,
     tables: usize,
     records: &[Record],
-    view: &mut StoreView<'_>,
-) -> Result<Changes, NoMemory>
-    requires tables { tables ≡ length view.old.database }
-    requires rising { AreRising view.old.database }
-    requires fresh { view.old.may_be_stale ≡ false }
-    ensures { IfOk result (λ changes. changes ≡ changes_between view.old.database (applied (writes_told records.now) view.old.database)) }
+    view: &mut V,
+) -> Result<Changes, Refused>
+    requires tables { tables ≡ length (V.sight view.old).database }
+    requires rising { AreRising (V.sight view.old).database }
+    ensures changes { IfOk result (λ changes. changes ≡ changes_between (V.sight view.old).database (applied (writes_told records.now) (V.sight view.old).database)) }
+    ensures stale { MayAnswer (V.sight view.old) (V.sight view.new) result }
 {
-    match changes_of_commit(alloc, tables, counted(records), view) {
-        Ok(changes) => Ok(changes),
-        Err(Refused::NoMemory) => Err(NoMemory),
-        Err(Refused::Stale { .. }) => unreachable!(),
-    }
+    changes_of_commit(alloc, tables, counted(records), view)
 }

@@ -12,6 +12,7 @@ use Rattle.mv_script.specs.declared.script.Script.{Script}
 use Rattle.mv_script.specs.Scripts.{IsScript}
 use Rattle.mv_core.specs.Books.{Booked}
 use Rattle.mv_core.proofs.Beginning.{new_core}
+use Rattle.mv_core.proofs.Numbered.{numbers_begin}
 use Rattle.mv_gate.specs.Gates.{script_in, work, IsDesk}
 
 pub new_desk : (s : BoardScript) (script : Script) (b : Booked) (store : Versioned) (gate : Knows) → IsScript script → script ≡ script_in s → b.script ≡ script → b.course ≡ beginning → b.journal ≡ []
@@ -23,5 +24,6 @@ new_desk s script b store gate sound named same course journal opening own last 
   seen = ap (λ (k : Knows). k.seen) pass ∙ sym (ap (λ (x : Course). x.order) course);
   turns = λ c l at. absurd (none_at c l (subst (λ (x : Course). slice_get x.calls c ≡ Some l) course at));
   bounded = subst (λ (es : List Event). IsBounded (work s) es) (sym journal) (record { few = λ c. omega arith; late = tt });
+  numbers = numbers_begin b course;
   rounds = λ c l live. absurd (none_at c l (subst (λ (x : Course). slice_get x.calls c ≡ Some l) course live.at));
 }

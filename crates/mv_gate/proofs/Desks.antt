@@ -1,15 +1,14 @@
 -- What lies behind the lock, after an event or none.
 use Rattle.std.proofs.Common.{◌≡◌, ℕ, suc, ◌+◌, Bool, true, false, not, List, [], ◌∷◌, ◌++◌, Option, Some, None, length, refl, sym, ap, subst, ◌∙◌, arith, rules}
-use Rattle.std.specs.Prelude.{slice_get, nat_lt, ◌||◌, Result, Ok, Err, IsErrAnd}
+use Rattle.std.specs.Prelude.{slice_get, ◌||◌, Result, Ok, Err, IsErrAnd}
 use Rattle.std.specs.List.{list_any}
 use Rattle.std.proofs.lemmas.Bool.Decides.{nat_tests}
-use lib.Dec.{eqb, leb}
+use lib.Dec.{eqb}
 use Rattle.mv_journal.specs.declared.event.Event.{Event}
 use Rattle.mv_journal.specs.declared.event.Event.TheVariants.{B, S, A, M, C, X, G}
-use Rattle.mv_journal.specs.declared.outcome.Round.{Round}
 use Rattle.mv_lawful.specs.declared.fault.Fault.TheVariants.{Stale, Conflict, Idle, Rounds}
 use Rattle.mv_lawful.specs.Work.{Work}
-use Rattle.mv_lawful.specs.Lawful.{Live, Course, beginning, used, is_stale, is_hit, has_round, unless, refusal, after, course_of, AllAllowed}
+use Rattle.mv_lawful.specs.Lawful.{Live, Course, beginning, is_stale, is_hit, has_round, unless, refusal, after, course_of, AllAllowed}
 use Rattle.mv_lawful.specs.Rounds.{is_round, IsBounded}
 use Rattle.mv_lawful.proofs.Rounds.{bounded_other, bounded_repair, bounded_move}
 use Rattle.mv_seats.specs.Scripts.{Script as BoardScript}
@@ -20,12 +19,12 @@ use Rattle.mv_script.specs.Scripts.{work_of}
 use Rattle.mv_values.specs.declared.memory.NoMemory.{NoMemory}
 use Rattle.mv_core.specs.declared.book.Begun.{Begun}
 use Rattle.mv_core.specs.Calls.{IsLive, IsLiveCall}
-use Rattle.mv_core.specs.Books.{Booked, work_in, Made, IsSame, HasRounds, HasBegun}
+use Rattle.mv_core.specs.Books.{Booked, work_in, Made, IsSame, IsSettled, HaveNumbers, HasBegun}
 use Rattle.mv_core.specs.Cores.{IsStoreOf, HasCommitted}
 use Rattle.mv_core.proofs.Journals.{Facts, facts_of, live_apart}
-use Rattle.mv_core.specs.Cores.{HasTurns}
-use Rattle.mv_core.proofs.Refusing.{live_is, used_rounds}
+use Rattle.mv_core.proofs.Refusing.{live_is}
 use Rattle.mv_core.proofs.Stored.{stored_same, stored_made}
+use Rattle.mv_core.proofs.Numbered.{numbers_same, numbers_other, numbers_again, numbers_moved}
 use Rattle.mv_gate.specs.Gates.{work, HaveTurns, UseRounds, IsDesk, IsStale, HasRound}
 use Rattle.mv_gate.proofs.Turns.{turns_after}
 use Rattle.mv_gate.proofs.Used.{use_other, use_repair, use_move, use_move_and_commit}
@@ -58,9 +57,9 @@ order_decided c old new made = ap (λ (x : Course). x.order) made.course
 
 -- After an event
 
-pub desk_made : (e : Event) (s : BoardScript) (old new : Booked) (store stored : Versioned) (gate now : Knows) → IsDesk s old store gate → Made e old new → IsBounded (work s) new.journal → UseRounds s.options.rounds new.course
+pub desk_made : (e : Event) (s : BoardScript) (old new : Booked) (store stored : Versioned) (gate now : Knows) → IsDesk s old store gate → Made e old new → IsBounded (work s) new.journal → UseRounds s.options.rounds new.course → HaveNumbers new
     → IsStoreOf new stored → now.role ≡ Gate → now.seen ≡ new.course.order → IsDesk s new stored now
-desk_made e s old new store stored gate now d made bounded rounds k role seen = record {
+desk_made e s old new store stored gate now d made bounded rounds numbers k role seen = record {
   script = made.script ∙ d.script;
   stored = k;
   role = role;
@@ -68,6 +67,7 @@ desk_made e s old new store stored gate now d made bounded rounds k role seen = 
   turns = subst HaveTurns (sym made.course) (turns_after (work_in old) old.course e d.turns);
   bounded = bounded;
   rounds = rounds;
+  numbers = numbers;
 }
 
 -- after an event that is no repair and no move
@@ -75,7 +75,7 @@ pub desk_other : (e : Event) (s : BoardScript) (old new : Booked) (store stored 
     → IsStoreOf new stored → now.role ≡ Gate → now.seen ≡ new.course.order → IsDesk s new stored now
 desk_other e s old new store stored gate now d made none k role seen =
     desk_made e s old new store stored gate now d made (subst (IsBounded (work s)) (sym made.journal) (bounded_other (work s) old.journal e none d.bounded))
-    (subst (UseRounds s.options.rounds) (sym made.course) (use_other (work_in old) s.options.rounds old.course e none d.rounds)) k role seen
+    (subst (UseRounds s.options.rounds) (sym made.course) (use_other (work_in old) s.options.rounds old.course e none d.rounds)) (numbers_other e old new made none d.numbers) k role seen
 
 -- what the desk says of its events, in the words of its history
 bounded_in : (s : BoardScript) (b : Booked) (store : Versioned) (gate : Knows) → IsDesk s b store gate → IsBounded (work_in b) b.journal
@@ -85,15 +85,16 @@ rounds_in : (s : BoardScript) (b : Booked) (store : Versioned) (gate : Knows) �
 rounds_in s b store gate d = subst (λ (x : Script). UseRounds x.options.rounds b.course) (sym d.script) d.rounds
 
 -- after a repair
-pub desk_again : (s : BoardScript) (old new : Booked) (store : Versioned) (gate : Knows) (c : ℕ) → IsDesk s old store gate → AllAllowed (work_in old) beginning old.journal → old.course ≡ course_of (work_in old) old.journal → Made (A c) old new
+pub desk_again : (s : BoardScript) (old new : Booked) (store : Versioned) (gate : Knows) (c : ℕ) → IsDesk s old store gate → AllAllowed (work_in old) beginning old.journal → old.course ≡ course_of (work_in old) old.journal → Made (A c) old new → IsSettled new c
     → IsDesk s new store gate
-desk_again s old new store gate c d allowed reaches made =
+desk_again s old new store gate c d allowed reaches made settled =
     desk_made (A c) s old new store store gate gate d made
     (subst (λ (x : Script). IsBounded (work_of x) new.journal) d.script
     (subst (IsBounded (work_in old)) (sym made.journal)
     (bounded_repair (work_in old) old.journal c allowed (subst (λ (x : Course). refusal (work_in old) x (A c) ≡ None) reaches made.allowed) (bounded_in s old store gate d))))
     (subst (λ (x : Script). UseRounds x.options.rounds new.course) d.script
     (subst (UseRounds (work_in old).options.rounds) (sym made.course) (use_repair (work_in old) old.course c (rounds_in s old store gate d) made.allowed)))
+    (numbers_again c old new made settled d.numbers)
     (stored_made (A c) old new store d.stored made refl refl) d.role (d.seen ∙ sym (ap (λ (x : Course). x.order) made.course))
 
 -- the events with a move of a live call, whose start is below low
@@ -106,17 +107,18 @@ moved_bounded s b store gate c d allowed reaches live stale =
 
 -- after a move
 pub desk_moved : (s : BoardScript) (old new : Booked) (store : Versioned) (gate : Knows) (c : ℕ) → IsDesk s old store gate → AllAllowed (work_in old) beginning old.journal → old.course ≡ course_of (work_in old) old.journal → IsLiveCall old.course c
-    → IsStale old c → HasRound true old c → Made (M c) old new → IsDesk s new store gate
-desk_moved s old new store gate c d allowed reaches live stale left made =
+    → IsStale old c → HasRound true old c → Made (M c) old new → IsSettled new c → IsDesk s new store gate
+desk_moved s old new store gate c d allowed reaches live stale left made settled =
     desk_made (M c) s old new store store gate gate d made (subst (IsBounded (work s)) (sym made.journal) (moved_bounded s old store gate c d allowed reaches live stale))
     (subst (λ (x : Script). UseRounds x.options.rounds new.course) d.script
     (subst (UseRounds (work_in old).options.rounds) (sym made.course) (use_move (work_in old) old.course c (rounds_in s old store gate d) left)))
+    (numbers_moved c old new made settled d.numbers)
     (stored_made (M c) old new store d.stored made refl refl) d.role (d.seen ∙ sym (ap (λ (x : Course). x.order) made.course))
 
 -- after a move and the commit of that call
 pub desk_moved_and_committed : (s : BoardScript) (old mid new : Booked) (store stored : Versioned) (gate now : Knows) (c : ℕ) → IsDesk s old store gate → AllAllowed (work_in old) beginning old.journal
-    → old.course ≡ course_of (work_in old) old.journal → IsLiveCall old.course c → IsStale old c → Made (M c) old mid → Made (C c) mid new → IsStoreOf new stored → now.role ≡ Gate → now.seen ≡ gate.seen ++ c ∷ [] → IsDesk s new stored now
-desk_moved_and_committed s old mid new store stored gate now c d allowed reaches live stale moved committed k role seen = record {
+    → old.course ≡ course_of (work_in old) old.journal → IsLiveCall old.course c → IsStale old c → Made (M c) old mid → IsSettled mid c → Made (C c) mid new → IsStoreOf new stored → now.role ≡ Gate → now.seen ≡ gate.seen ++ c ∷ [] → IsDesk s new stored now
+desk_moved_and_committed s old mid new store stored gate now c d allowed reaches live stale moved settled committed k role seen = record {
   script = committed.script ∙ (moved.script ∙ d.script);
   stored = k;
   role = role;
@@ -128,6 +130,7 @@ desk_moved_and_committed s old mid new store stored gate now c d allowed reaches
   rounds =
       subst (UseRounds s.options.rounds) (sym committed.course)
       (subst (λ (x : Course). UseRounds s.options.rounds (after (work_in mid) x (C c))) (sym moved.course) (use_move_and_commit (work_in old) (work_in mid) s.options.rounds old.course c d.rounds));
+  numbers = numbers_other (C c) mid new committed (λ x. refl) (numbers_moved c old mid moved settled d.numbers);
 }
 
 pub desk_same : (s : BoardScript) (old new : Booked) (store stored : Versioned) (gate now : Knows) → IsDesk s old store gate → IsSame old new → IsStoreOf new stored → now.role ≡ Gate → now.seen ≡ new.course.order → IsDesk s new stored now
@@ -139,7 +142,12 @@ desk_same s old new store stored gate now d same k role seen = record {
   turns = subst HaveTurns (sym same.course) d.turns;
   bounded = subst (IsBounded (work s)) (sym same.journal) d.bounded;
   rounds = subst (UseRounds s.options.rounds) (sym same.course) d.rounds;
+  numbers = numbers_same old new same d.numbers;
 }
+
+-- where memory ran out
+pub desk_left : (s : BoardScript) (old new : Booked) (store stored : Versioned) (gate : Knows) → IsDesk s old store gate → IsSame old new → IsStoreOf new stored → IsDesk s new stored gate
+desk_left s old new store stored gate d same k = desk_same s old new store stored gate gate d same k d.role (d.seen ∙ sym (order_same old new same))
 
 -- the next call began, or not
 pub desk_begun : (r : Result (Option Begun) NoMemory) (s : BoardScript) (old new : Booked) (store : Versioned) (gate : Knows) → IsDesk s old store gate → HasBegun r old new → IsDesk s new store gate
@@ -160,15 +168,6 @@ not_there (x ∷ cs) c never = apart c x (list_any (eqb c) cs) (λ e. never 0 (a
 pub fresh_call : (b : Booked) (c : ℕ) → AllAllowed (work_in b) beginning b.journal → b.course ≡ course_of (work_in b) b.journal → IsLiveCall b.course c → list_any (eqb c) b.course.order ≡ false
 fresh_call b c allowed reaches live =
     not_there b.course.order c (λ k at. live_apart (work_in b) (length b.journal) b.course c live.0 (subst (λ (x : Course). Facts (work_in b) (length b.journal) x) (sym reaches) (facts_of (work_in b) b.journal allowed)) live.1 k at)
-
--- Rounds that are left
-
-one_more : (n u r : ℕ) → n ≡ u + 1 → leb n r ≡ nat_lt u r
-one_more n u r is = grind (arith, nat_tests, is)
-
--- whether a call has a round left, by the number of its rounds
-pub round_left : (b : Booked) (c n : ℕ) (l : Live) (rs : List Round) (s : Script) → HasRounds b c rs → IsLive b.course c l → HasTurns n l → s ≡ b.script → leb (length rs) s.options.rounds ≡ has_round (work_in b) l
-round_left b c n l rs s has live h is = ap (λ (x : Script). leb (length rs) x.options.rounds) is ∙ one_more (length rs) (used l) b.script.options.rounds (used_rounds b c n l rs has live h)
 
 -- Why events are refused
 

@@ -19,7 +19,7 @@ use Rattle.mv_script.specs.declared.script.Script.{Script}
 use Rattle.mv_core.specs.declared.tasks.Running.{Running}
 use Rattle.mv_script.specs.Scripts.{work_of}
 use Rattle.mv_core.specs.Calls.{IsLive, IsLiveCall, turns_in, due_number}
-use Rattle.mv_core.specs.Books.{Booked, work_in, Made, IsSame, HasRounds, IsNotStale, IsFirstNumber}
+use Rattle.mv_core.specs.Books.{Booked, work_in, Made, IsSame, HasRounds, IsNotStale, IsMissing, HasNumber}
 use Rattle.mv_core.specs.Cores.{RunsOn, IsStoreOf, HasTurns, HasStep, HasRunOn, HasRunOne, count_or, IsCounted, IsLiveTask, IsTaskIn, IsRunningIn}
 use Rattle.mv_core.proofs.Refusing.{begun_number, used_rounds}
 use Rattle.mv_core.proofs.Taking.{one_live, due_live, due_first, first_number, task_given, task_writes}
@@ -137,6 +137,14 @@ stale_apart old now h g r same one tells is k fresh =
     let no : true ≡ false = sym is ∙ (here k.live k.is_live ∙ fresh k.live k.is_live) in
     search (rules, no)
 
+pub step_apart : (old now : Booked) (h g : Holding) (r : Bool) → now ≡ old → g ≡ h → ((l : Live) → IsLive now.course g.call l → r ≡ has_step (work_in now) now.course g.call l) → r ≡ false → IsKnown old h → HasStep old h.call → ⊥
+step_apart old now h g r same one tells is k step =
+    let here : (l : Live) → IsLive old.course h.call l → r ≡ has_step (work_in old) old.course h.call l =
+    subst (λ (x : Booked). (l : Live) → IsLive x.course h.call l → r ≡ has_step (work_in x) x.course h.call l) same
+    (subst (λ (x : Holding). (l : Live) → IsLive now.course x.call l → r ≡ has_step (work_in now) now.course x.call l) one tells) in
+    let no : false ≡ true = sym is ∙ (here k.live k.is_live ∙ step k.live k.is_live) in
+    search (rules, no)
+
 -- a call that is known is still known where the history has the same calls
 pub known_same : (old new : Booked) (h : Holding) → new.course ≡ old.course → IsKnown old h → IsKnown new h
 known_same old new h course k = record {
@@ -182,10 +190,6 @@ not_known b h away = (λ t. absurd (search (rules, t)), λ k. absurd (away k))
 -- the history and the call as contracts see them
 pub known_seen : (now b : Booked) (held h : Holding) (r : Bool) → b ≡ now → h ≡ held → IsTrue r ↔ IsKnown b h → IsTrue r ↔ IsKnown now held
 known_seen now b held h r desk one both = subst (λ (x : Holding). IsTrue r ↔ IsKnown now x) one (subst (λ (x : Booked). IsTrue r ↔ IsKnown x h) desk both)
-
--- a live call that has a statement left
-pub one_step : (b : Booked) (c : ℕ) (l : Live) → IsLive b.course c l → has_step (work_in b) b.course c l ≡ true → HasStep b c
-one_step b c l live more = λ m at. subst (λ (x : Live). has_step (work_in b) b.course c x ≡ true) (one_live b.course c l m live at) more
 
 -- A call that is handed out
 
@@ -261,9 +265,9 @@ whole_same old new c r same h = record {
 pub running_of : (b : Booked) (store : Versioned) (c : ℕ) (r : Running) → IsStoreOf b store → IsUnderWay b c r → IsRunningIn b store c r
 running_of b store c r k o = record { stored = k; live = o.live; number = o.there; task = o.task }
 
--- the number of its first round
-pub first_whole : (b : Booked) (c : ℕ) (r : Running) → IsWhole b c r → IsFirstNumber r.task.executed b c
-first_whole b c r h = due_first b c r h.call.task h.records
+-- the number of its round, if that has none yet
+pub first_whole : (b : Booked) (c : ℕ) (r : Running) → HasNumber b c → IsWhole b c r → IsMissing r.task.executed b c
+first_whole b c r number h = due_first b c r h.call.live number h.call.task h.records
 
 -- its own writes are those of its records
 pub open_writes : (b : Booked) (store : Versioned) (c : ℕ) (r : Running) → IsStoreOf b store → IsUnderWay b c r → HasWritesOf r.task.undo r.task.records
@@ -275,9 +279,12 @@ open_ran b c old new o t = record { live = o.live; there = o.there; task = t }
 
 -- A call that was run whole anew
 
-pub number_anew : (b : Booked) (c start whole : ℕ) (task : Task) → HaveTurns b.course → ((l : Live) → IsLive b.course c l → start ≡ l.start) → task.records ≡ records_at (work_in b) b.course.order start c → whole ≡ length task.records
-    → IsFirstNumber whole b c
-number_anew b c start whole task turns starts are long l live first =
+pub number_anew : (b : Booked) (c start whole : ℕ) (task : Task) → HaveTurns b.course → IsLiveCall b.course c → HasNumber b c → ((l : Live) → IsLive b.course c l → start ≡ l.start) → task.records ≡ records_at (work_in b) b.course.order start c → whole ≡ length task.records
+    → IsMissing whole b c
+number_anew b c start whole task turns here number starts are long none =
+    let l : Live = here.0 in
+    let live : IsLive b.course c l = here.1 in
+    let first : used l ≡ 0 = number none l live in
     due_live (work_in b) b.course c l live
     ∙ (first_number (work_in b) b.course.order c (length b.course.order) l (turns c l live.at) first
     ∙ ap Some (ap (λ n. length (records_at (work_in b) b.course.order n c)) (sym (starts l live)) ∙ (sym (ap length are) ∙ sym long)))

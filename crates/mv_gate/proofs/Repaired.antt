@@ -12,7 +12,7 @@ use Rattle.mv_exec.specs.declared.task.Task.{Task}
 use Rattle.mv_core.specs.declared.tasks.Running.{Running}
 use Rattle.mv_script.specs.Scripts.{work_of}
 use Rattle.mv_core.specs.Calls.{IsLive}
-use Rattle.mv_core.specs.Books.{Booked, work_in, Made, IsSame}
+use Rattle.mv_core.specs.Books.{Booked, work_in, Made}
 use Rattle.mv_core.specs.Cores.{RunsOn, IsStoreOf, HasTurns, IsLiveTask, IsRepaired}
 use Rattle.mv_core.proofs.Taking.{one_live, task_again}
 use Rattle.mv_core.proofs.Changed.{live_restarted}
@@ -51,9 +51,9 @@ latest_again b new c l r there made repaired past =
     }
 
 -- so no commit after its start hits it
-pub restarted : (now b new : Booked) (store : Versioned) (c : ℕ) (l : Live) (r : Running) → IsSame now b → IsStoreOf b store → c < length b.script.calls → IsLive b.course c l → HasTurns (length b.course.order) l → Made (A c) b new
-    → ((m : Live) → IsLive b.course c m → IsRepaired b.script b.course.order c m r) → IsRestarted now new c r
-restarted now b new store c l r same k there live turns made repaired = record {
+pub restarted : (b new : Booked) (store : Versioned) (c : ℕ) (l : Live) (r : Running) → IsStoreOf b store → c < length b.script.calls → IsLive b.course c l → HasTurns (length b.course.order) l → Made (A c) b new
+    → ((m : Live) → IsLive b.course c m → IsRepaired b.script b.course.order c m r) → IsRestarted b new c r
+restarted b new store c l r k there live turns made repaired = record {
   whole = record {
     call = record {
       live = (next, next_live);
@@ -72,7 +72,7 @@ restarted now b new store c l r same k there live turns made repaired = record {
   free = may_commit (work_in new) new.course c next next_live
       (le-ltb next.start new.course.low (let start = last next next_live in let long = ap length order in let below = k.below in omega (arith, start, low, long, below)))
       (ap (λ n. hit_of (work_in new) new.course.order n c) (last next next_live) ∙ none_hit (work_in new) new.course.order c);
-  latest = λ m at. latest_again b new c m r there made (repaired m (subst (λ (s : Course). IsLive s c m) (sym same.course) at)) (past m (subst (λ (s : Course). IsLive s c m) (sym same.course) at));
+  latest = λ m at. latest_again b new c m r there made (repaired m at) (past m at);
 } where
   past : (m : Live) → IsLive b.course c m → m.start ≤ length b.course.order
   past m at = subst (λ (x : Live). x.start ≤ length b.course.order) (one_live b.course c l m live at) turns.past

@@ -17,7 +17,7 @@ use Rattle.mv_script.specs.declared.script.Script.{Script}
 use Rattle.mv_core.specs.declared.tasks.Running.{Running}
 use Rattle.mv_script.specs.Scripts.{work_of}
 use Rattle.mv_core.specs.Calls.{IsLive, IsLiveCall}
-use Rattle.mv_core.specs.Books.{Booked, work_in, Made, IsSame, IsNotStale, AreRecordsOf}
+use Rattle.mv_core.specs.Books.{Booked, work_in, Made, IsSame, HaveNumbers, IsNotStale, AreRecordsOf}
 use Rattle.mv_core.specs.Cores.{RunsOn, IsStoreOf, HasTurns, HasStep, HasRunOn, IsTaskIn}
 use Rattle.mv_gate.specs.declared.answers.Answer.{Answer}
 use Rattle.mv_gate.specs.declared.answers.Answer.TheVariants as answer
@@ -43,7 +43,8 @@ abbrev pub UseRounds : ℕ → Course → Type 0
 UseRounds rounds s = (c : ℕ) (l : Live) → IsLive s c l → used l ≤ rounds
 
 -- a history of the board's script, a store that has its tables, and the gate's pass, which has seen its commits. Its
--- events are bounded, and so are the rounds of live calls. No call has writes that aren't committed
+-- events are bounded, and so are the rounds of live calls. Only a first round may lack its number. No call has writes
+-- that aren't committed
 pub record IsDesk (s : BoardScript) (b : Booked) (store : Versioned) (gate : Knows) : Type 0 where
   pub script : b.script ≡ script_in s
   pub stored : IsStoreOf b store
@@ -52,6 +53,7 @@ pub record IsDesk (s : BoardScript) (b : Booked) (store : Versioned) (gate : Kno
   pub turns : HaveTurns b.course
   pub bounded : IsBounded (work s) b.journal
   pub rounds : UseRounds s.options.rounds b.course
+  pub numbers : HaveNumbers b
 
 -- Outside of the lock
 

@@ -3,12 +3,12 @@
 ghost use Rattle.std.specs.Prelude.{◌≡◌, ◌≢◌, ◌↔◌, ◌<◌, ◌≤◌, [], None, Some, true, false, IsTrue, IfOk, OnOk, OnErr, length};
 ghost use mathlib.Core.List.{IsPrefix};
 ghost use Rattle.mv_seats.specs.Knowing.{Plain, gate_pass};
-ghost use Rattle.mv_lawful.specs.Lawful.{Live, beginning, open_call, refusal, is_stale, has_round};
+ghost use Rattle.mv_lawful.specs.Lawful.{beginning, open_call, refusal};
 ghost use Rattle.mv_journal.specs.declared.event.Event.TheVariants.{A, M, C, X};
 ghost use Rattle.mv_script.specs.Scripts.{IsScript};
-ghost use Rattle.mv_core.specs.Calls.{IsLive, IsLiveCall};
+ghost use Rattle.mv_core.specs.Calls.{IsLiveCall};
 ghost use Rattle.mv_core.specs.Books.{work_in, Made, IsSame, IsNotStale};
-ghost use Rattle.mv_core.specs.Cores.{HasStep, HasRunOne, HasCommitted, HasCollected, HasMovedAndCommitted};
+ghost use Rattle.mv_core.specs.Cores.{HasRunOne, HasCommitted, HasCollected, HasMovedAndCommitted};
 ghost use Rattle.mv_gate.specs.declared.answers.Answer.TheVariants as Answer;
 ghost use Rattle.mv_lawful.specs.declared.fault.Fault.TheVariants.{Conflict};
 ghost use Rattle.mv_gate.specs.Gates.{script_in, work, IsUnderWay, IsWhole, IsRestarted, IsLastRun, IsLatest, IsLate, HasRound, IsKnown, HasCall, HandsOut, StepsOn, Tries, Meets, answer_in, GivesBack, IsOutcome, IsDone, GoesOn};
@@ -19,10 +19,10 @@ use crate::notes::note;
 use crate::rounds::repaired_from;
 use mv_core::book::{Book, Check};
 use mv_core::tasks::{
-    Running, collect_versions, commit_task, finish_task, move_and_commit, new_task, repair_task,
-    step_task, whole_task,
+    Running, collect_versions, decide_task, finish_task, has_step, move_and_commit, move_task,
+    new_task, outcome_of, rerun_task, settle_and_commit, step_task, whole_task,
 };
-use mv_journal::outcome::{Mark, Outcome};
+use mv_journal::outcome::Outcome;
 use mv_script::script::Script;
 use mv_seats::board::{Board, Making};
 use mv_seats::pass::Pass;
@@ -129,25 +129,6 @@ impl<N: Making> Desk<N> {
         rounds.len() > 1 || self.book.steps(held.call) == held.running.task.records().len()
     }
 
-    /// Whether a live call is in its first round, which has a statement left.
-    fn has_step(&self, call: u32, running: &Running) -> bool
-        requires { IsUnderWay self.now call running.now }
-        ensures { IsTrue result ↔ HasStep self.now call }
-    {
-        let Some(rounds) = self.book.rounds(call) else {
-            unreachable!();
-        };
-        rounds.len() == 1 && running.has_more(self.book.steps(call))
-    }
-
-    /// Whether the start of a live call is below low.
-    fn is_stale(&self, call: u32) -> bool
-        requires { IsLiveCall self.now.course call }
-        ensures { (l : Live) → IsLive self.now.course call l → result ≡ is_stale self.now.course l }
-    {
-        self.book.start(call) < self.store.low()
-    }
-
     /// Event S. Executes the next statement of a call that its holder runs, and no other, over the tables at its start. Returns false,
     /// and does nothing, only if the call has no statement left, or its start is below low, or the history doesn't have
     /// it as its holder knows it. Fails with `NoMemory` if memory runs out. Then the event wasn't made, and the call can go on.
@@ -171,10 +152,10 @@ impl<N: Making> Desk<N> {
         if !self.has(held) {
             return Ok(false);
         }
-        if self.is_stale(held.call) {
+        if self.book.is_stale(held.call) {
             return Ok(false);
         }
-        if !self.has_step(held.call, &held.running) {
+        if !has_step(&self.book, held.call, &held.running) {
             return Ok(false);
         }
         self.book.reserve(held.call)?;
@@ -197,8 +178,7 @@ impl<N: Making> Desk<N> {
     {
         let _events = self.book.journal();
         let task = &running.task;
-        self.book.settle(call, task);
-        let commit = commit_task(alloc, &mut self.book, &mut self.store, call, task, None)?;
+        let commit = settle_and_commit(alloc, &mut self.book, &mut self.store, call, task)?;
         self.pass.append(board, call);
         Ok(commit)
     }
@@ -213,10 +193,7 @@ impl<N: Making> Desk<N> {
         ensures err { OnErr result (IsSame self.old self.new) }
     {
         let _events = self.book.journal();
-        self.book.settle(call, &running.task);
-        self.book.reserve(call)?;
-        repair_task(alloc, &self.book, &self.store, call, running)?;
-        self.book.restart(call, Mark::Plain, &running.task);
+        rerun_task(alloc, &mut self.book, &self.store, call, running)?;
         Ok(())
     }
 
@@ -234,17 +211,7 @@ impl<N: Making> Desk<N> {
         ensures { HasCommitted (X call) result self.old self.new }
     {
         let _events = self.book.journal();
-        self.book.settle(call, &running.task);
-        repair_task(alloc, &self.book, &self.store, call, running)?;
-        let task = &running.task;
-        let commit = commit_task(
-            alloc,
-            &mut self.book,
-            &mut self.store,
-            call,
-            task,
-            Some(task),
-        )?;
+        let commit = decide_task(alloc, &mut self.book, &mut self.store, call, running)?;
         self.pass.append(board, call);
         Ok(commit)
     }
@@ -258,9 +225,7 @@ impl<N: Making> Desk<N> {
         ensures err { OnErr result (IsSame self.old self.new) }
     {
         let _events = self.book.journal();
-        self.book.reserve(call)?;
-        let task = whole_task(alloc, &self.book, &self.store, call, self.book.commits())?;
-        self.book.restart(call, Mark::Moved, &task);
+        let task = move_task(alloc, &mut self.book, &self.store, call)?;
         Ok(Running { task, count: None })
     }
 
@@ -281,17 +246,6 @@ impl<N: Making> Desk<N> {
         Ok(commit)
     }
 
-    /// Whether a live call may be repaired or moved once more before it is decided in one step.
-    fn has_round(&self, call: u32) -> bool
-        requires { IsLiveCall self.now.course call }
-        ensures { (l : Live) → IsLive self.now.course call l → result ≡ has_round (work_in self.now) l }
-    {
-        let Some(rounds) = self.book.rounds(call) else {
-            unreachable!();
-        };
-        rounds.len() <= self.book.script().options.rounds as usize
-    }
-
     /// Event C, A, X or M of a live call, or M and C. If its start is below low, it moves. If not, it commits, or is
     /// repaired if a commit after its start hits it. Once it has used its rounds, it commits in the same step.
     fn try_commit(
@@ -304,7 +258,7 @@ impl<N: Making> Desk<N> {
         requires { IsUnderWay self.old call running.old }
         ensures { Meets call running.new result self.old self.new }
     {
-        if self.is_stale(call) {
+        if self.book.is_stale(call) {
             return self.meet_stale(alloc, board, call, running);
         }
         self.decide(alloc, board, call, running)
@@ -321,7 +275,7 @@ impl<N: Making> Desk<N> {
         requires { IsLate self.old call }
         ensures { Meets call running.new result self.old self.new }
     {
-        if self.has_round(call) {
+        if self.book.has_round(call) {
             *running = self.move_up(alloc, call)?;
             return Ok(Answer::Moved);
         }
@@ -369,7 +323,7 @@ impl<N: Making> Desk<N> {
         ensures met { Meets call running.new result self.old self.new }
         ensures stays { IfOk result (λ answer. answer ≢ Answer.Moved) }
     {
-        if self.has_round(call) {
+        if self.book.has_round(call) {
             self.again(alloc, call, running)?;
             return Ok(Answer::Repaired);
         }
@@ -482,7 +436,7 @@ impl<N: Making> Desk<N> {
         ensures done { OnOk result (IsDone self.new.course call) }
         ensures kept { GoesOn self.old self.new }
     {
-        if self.is_stale(call) {
+        if self.book.is_stale(call) {
             self.move_and_commit(alloc, board, call)?;
             return Ok(());
         }
@@ -547,8 +501,6 @@ impl<N: Making> Desk<N> {
         ensures journal { IfOk result (λ outcome. outcome.journal ≡ self.journal) }
     {
         let Desk { book, store, .. } = self;
-        let last = store.last();
-        let tables = store.into_tables_at(alloc, last)?;
-        book.outcome(alloc, tables)
+        outcome_of(alloc, book, store)
     }
 }

@@ -5,11 +5,11 @@ use Rattle.mv_core.proofs.tasks.changes_made.Goals as goal
 view : (c : goal.After-view-1) → Shows c.args.book.now.script c.args.book.now.course.order (length c.args.book.now.course.order) c.new-view.result
 view c = shows_last c.args.book.now c.args.store.now c.last.result c.new-view.result c.requires (c.last.ensures.last ∙ c.requires.last) c.new-view.ensures
 
-pub changes_told-requires-clause-tables : goal.changes_told-requires-clause-tables
-changes_told-requires-clause-tables c = c.len.ensures ∙ size_shown c.args.book.now (length c.args.book.now.course.order) c.script.result.now c.new-view.result c.requires.script c.script.ensures (view c)
+pub changes_fresh-requires-clause-tables : goal.changes_fresh-requires-clause-tables
+changes_fresh-requires-clause-tables c = c.len.ensures ∙ size_shown c.args.book.now (length c.args.book.now.course.order) c.script.result.now c.new-view.result c.requires.script c.script.ensures (view c)
 
-pub changes_told-requires-clause-rising : goal.changes_told-requires-clause-rising
-changes_told-requires-clause-rising c = rising_shown c.args.book.now (length c.args.book.now.course.order) c.new-view.result c.requires.script (view c)
+pub changes_fresh-requires-clause-rising : goal.changes_fresh-requires-clause-rising
+changes_fresh-requires-clause-rising c = rising_shown c.args.book.now (length c.args.book.now.course.order) c.new-view.result c.requires.script (view c)
 
 pub returns-clause-like : goal.returns-clause-like
 returns-clause-like c = like_last c.args.book.now c.args.store.now c.requires c.last.ensures.like

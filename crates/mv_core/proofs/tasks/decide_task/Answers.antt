@@ -7,34 +7,29 @@ use Rattle.mv_lawful.specs.Lawful.{Live, is_stale}
 use Rattle.mv_script.specs.Scripts.{work_of}
 use Rattle.mv_core.specs.Calls.{IsLive, IsLiveCall}
 use Rattle.mv_core.specs.Books.{work_in}
-use Rattle.mv_core.specs.Cores.{IsRunningIn, IsLiveTask, IsRepaired, HasTurns}
+use Rattle.mv_core.specs.Cores.{IsLiveTask, IsRepaired, HasTurns}
 use Rattle.mv_core.proofs.Stored.{stored_same}
-use Rattle.mv_core.proofs.Taking.{due_live, due_now, due_first, task_runs, task_back, task_given}
+use Rattle.mv_core.proofs.Taking.{due_live, due_now, task_runs, task_back, task_given}
 use Rattle.mv_core.proofs.Changed.{on_new, on_old, running_same, allowed_same, due_decided, committed_after}
 use Rattle.mv_core.proofs.tasks.decide_task.Goals as goal
 
-pub settle-requires-clause-number : goal.settle-requires-clause-number
-settle-requires-clause-number c = due_first c.args.book.now c.args.call c.finish_task.new.running c.finish_task.ensures.task c.in_ok-finish_task.ensures.ok
-
 pub repair_task-requires-clause-call : goal.repair_task-requires-clause-call
 repair_task-requires-clause-call c =
-    let r : IsRunningIn c.args.book.now c.args.store.now c.args.call c.finish_task.new.running =
-    record { stored = c.requires.call.stored; live = c.requires.call.live; number = c.requires.call.number; task = c.finish_task.ensures.task } in
-    running_same c.args.book.now c.settle.new.self c.args.store.now c.args.call c.finish_task.new.running c.settle.ensures.same r
+    running_same c.args.book.now c.settle.new.self c.args.store.now c.args.call c.args.running.now c.settle.ensures.same c.requires.call
 
 pub repair_task-requires-clause-fresh : goal.repair_task-requires-clause-fresh
 repair_task-requires-clause-fresh c = on_new (λ s x. (l : Live) → IsLive x c.args.call l → is_stale x l ≡ false) c.args.book.now c.settle.new.self c.settle.ensures.same c.requires.fresh
 
 pub repair_task-requires-clause-whole : goal.repair_task-requires-clause-whole
 repair_task-requires-clause-whole c =
-    on_new (λ s x. (l : Live) → IsLive x c.args.call l → c.finish_task.new.running.task.records ≡ records_at (work_of s) x.order l.start c.args.call) c.args.book.now c.settle.new.self c.settle.ensures.same c.in_ok-finish_task.ensures.ok
+    on_new (λ s x. (l : Live) → IsLive x c.args.call l → c.args.running.now.task.records ≡ records_at (work_of s) x.order l.start c.args.call) c.args.book.now c.settle.new.self c.settle.ensures.same c.requires.whole
 
 pub returns-in_err-repair_task-clause-stored : goal.returns-in_err-repair_task-clause-stored
 returns-in_err-repair_task-clause-stored c = stored_same c.args.book.now c.settle.new.self c.args.store.now c.requires.call.stored c.settle.ensures.same
 
 pub returns-in_err-repair_task-clause-task : goal.returns-in_err-repair_task-clause-task
 returns-in_err-repair_task-clause-task c =
-    always_err c.from_residual-in_err-repair_task.result _
+    always_err _ _
     (on_old (λ s x. (l : Live) → IsLive x c.args.call l → IsLiveTask s x.order c.args.call l c.repair_task.new.running) c.args.book.now c.settle.new.self c.settle.ensures.same c.in_err-repair_task.ensures.err)
 
 pub commit_task-committed-requires-clause-stored : goal.commit_task-committed-requires-clause-stored
@@ -63,7 +58,7 @@ commit_task-committed-requires-clause-own c =
 
 pub returns-then-is_err-clause-task : goal.returns-then-is_err-clause-task
 returns-then-is_err-clause-task c = always_err c.commit_task-committed.result _ (λ l live.
-    let due = due_now c.args.book.now c.args.call c.number-number.result c.finish_task.new.running c.requires.call.live c.finish_task.ensures.task c.in_ok-finish_task.ensures.ok c.number-number.ensures in
+    let due = due_now c.args.book.now c.args.call c.number-number.result c.args.running.now c.requires.call.live c.requires.call.task c.requires.whole c.number-number.ensures in
     let repaired = on_old (λ s x. (m : Live) → IsLive x c.args.call m → IsRepaired s x.order c.args.call m c.repair_task.new.running) c.args.book.now c.settle.new.self c.settle.ensures.same c.in_ok-repair_task.ensures.ok in
     task_given c.args.book.now.script c.args.book.now.course.order c.args.call c.number-number.result l c.spend.new.self (c.requires.call.task l live).turns
     (sym (due_live (work_in c.args.book.now) c.args.book.now.course c.args.call l live) ∙ due) c.spend.ensures.count c.spend.ensures.executed

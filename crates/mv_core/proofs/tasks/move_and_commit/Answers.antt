@@ -1,13 +1,14 @@
 use Rattle.std.proofs.Common.{arith, ◌≡◌, ◌+◌, None, Some, length, refl, ap, sym, ◌∙◌}
 use Rattle.mv_journal.specs.declared.event.Event.TheVariants.{M}
+use Rattle.mv_journal.specs.declared.outcome.Mark.TheVariants.{Moved}
 use Rattle.mv_record.specs.Runs.{Run}
 use Rattle.mv_lawful.specs.Work.{records_at}
-use Rattle.mv_lawful.specs.Lawful.{Course, after}
+use Rattle.mv_lawful.specs.Lawful.{Course, again, after}
 use Rattle.mv_core.specs.Books.{work_in}
 use Rattle.mv_core.proofs.Stored.{stored_same, stored_committed, stamped_on, last_run_on, last_changes_on, last_records_on}
 use Rattle.mv_core.proofs.Given.{some_then, none_then}
-use Rattle.mv_core.proofs.Moving.{due_moved, moved_free, still_alone}
-use Rattle.mv_core.proofs.Changed.{live_now, made_after, room_less}
+use Rattle.mv_core.proofs.Moving.{live_moved, due_moved, moved_free, still_alone}
+use Rattle.mv_core.proofs.Changed.{live_now, made_after, made_before, due_made, room_less}
 use Rattle.mv_core.proofs.tasks.move_and_commit.Goals as goal
 
 pub whole_task-requires-clause-fresh : goal.whole_task-requires-clause-fresh
@@ -21,54 +22,60 @@ prepare-requires-clause-whole c =
 pub restart-requires-clause-room : goal.restart-requires-clause-room
 restart-requires-clause-room c = room_less c.reserve.new.self c.args.call 2 1 (omega arith) c.in_ok-reserve.ensures.room
 
-pub restart-requires-clause-number : goal.restart-requires-clause-number
-restart-requires-clause-number c =
+pub settle-requires-clause-live : goal.settle-requires-clause-live
+settle-requires-clause-live c =
+    let live = live_now c.args.book.now c.args.book.now c.reserve.new.self c.args.call refl c.requires.live c.reserve.ensures.same in
+    (again (length c.reserve.new.self.course.order) Moved live.0, live_moved c.args.call c.reserve.new.self c.restart.new.self live.0 live.1 c.restart.ensures.made)
+
+pub settle-requires-clause-number : goal.settle-requires-clause-number
+settle-requires-clause-number c none =
     let live = live_now c.args.book.now c.args.book.now c.reserve.new.self c.args.call refl c.requires.live c.reserve.ensures.same in
     let same : records_at (work_in c.reserve.new.self) c.reserve.new.self.course.order (length c.reserve.new.self.course.order) c.args.call ≡ c.in_ok-task.task.records =
     sym (last_records_on c.args.book.now c.reserve.new.self c.args.call c.in_ok-task.task.records c.reserve.ensures.same.script (ap (λ (s : Course). s.order) c.reserve.ensures.same.course)
     (c.in_ok-task.ensures.records ∙ ap (λ n. records_at (work_in c.args.book.now) c.args.book.now.course.order n c.args.call) c.commits.ensures)) in
-    due_moved c.reserve.new.self c.args.call live.0 live.1 ∙ ap Some (ap length same ∙ sym c.in_ok-task.ensures.executed)
+    due_made Moved c.reserve.new.self c.restart.new.self c.args.call c.in_ok-task.task.executed c.restart.ensures.made
+    (due_moved c.reserve.new.self c.args.call live.0 live.1 ∙ ap Some (ap length same ∙ sym c.in_ok-task.ensures.executed))
 
 pub commit-commit-requires-clause-allowed : goal.commit-commit-requires-clause-allowed
 commit-commit-requires-clause-allowed c =
     let live = live_now c.args.book.now c.args.book.now c.reserve.new.self c.args.call refl c.requires.live c.reserve.ensures.same in
-    moved_free c.reserve.new.self c.restart.new.self c.args.store.now c.args.call live.0 (stored_same c.args.book.now c.reserve.new.self c.args.store.now c.requires.stored c.reserve.ensures.same) live.1 c.restart.ensures.made
+    moved_free c.reserve.new.self c.settle.new.self c.args.store.now c.args.call live.0 (stored_same c.args.book.now c.reserve.new.self c.args.store.now c.requires.stored c.reserve.ensures.same) live.1 (made_before (M c.args.call) c.reserve.new.self c.restart.new.self c.settle.new.self c.restart.ensures.made c.settle.ensures.same)
 
 pub commit-commit-requires-clause-reply : goal.commit-commit-requires-clause-reply
 commit-commit-requires-clause-reply c =
     c.in_ok-prepared.ensures.reply
-    ∙ sym (ap (λ (r : Run). r.reply) (last_run_on c.reserve.new.self c.restart.new.self c.args.call c.restart.ensures.made.script (ap (λ (s : Course). s.order) c.restart.ensures.made.course)))
+    ∙ sym (ap (λ (r : Run). r.reply) (last_run_on c.reserve.new.self c.settle.new.self c.args.call (made_before (M c.args.call) c.reserve.new.self c.restart.new.self c.settle.new.self c.restart.ensures.made c.settle.ensures.same).script (ap (λ (s : Course). s.order) (made_before (M c.args.call) c.reserve.new.self c.restart.new.self c.settle.new.self c.restart.ensures.made c.settle.ensures.same).course)))
 
 pub commit-commit-requires-clause-changes : goal.commit-commit-requires-clause-changes
 commit-commit-requires-clause-changes c =
     some_then c.in_ok-prepared.prepared.changes c.in_ok-prepared.ensures.changes
-    (λ told is. is ∙ sym (last_changes_on c.reserve.new.self c.restart.new.self c.args.call c.restart.ensures.made.script (ap (λ (s : Course). s.order) c.restart.ensures.made.course)))
+    (λ told is. is ∙ sym (last_changes_on c.reserve.new.self c.settle.new.self c.args.call (made_before (M c.args.call) c.reserve.new.self c.restart.new.self c.settle.new.self c.restart.ensures.made c.settle.ensures.same).script (ap (λ (s : Course). s.order) (made_before (M c.args.call) c.reserve.new.self c.restart.new.self c.settle.new.self c.restart.ensures.made c.settle.ensures.same).course)))
 
 pub commit-commit-requires-clause-alone : goal.commit-commit-requires-clause-alone
 commit-commit-requires-clause-alone c =
     let live = live_now c.args.book.now c.args.book.now c.reserve.new.self c.args.call refl c.requires.live c.reserve.ensures.same in
-    none_then c.in_ok-prepared.prepared.changes c.in_ok-prepared.ensures.alone (still_alone c.args.call c.reserve.new.self c.restart.new.self live.0 live.1 c.restart.ensures.made)
+    none_then c.in_ok-prepared.prepared.changes c.in_ok-prepared.ensures.alone (still_alone c.args.call c.reserve.new.self c.settle.new.self live.0 live.1 (made_before (M c.args.call) c.reserve.new.self c.restart.new.self c.settle.new.self c.restart.ensures.made c.settle.ensures.same))
 
 pub commit-commit-requires-clause-room : goal.commit-commit-requires-clause-room
-commit-commit-requires-clause-room c = c.restart.ensures.room c.args.call 1 c.in_ok-reserve.ensures.room
+commit-commit-requires-clause-room c = c.settle.ensures.room c.args.call 1 (c.restart.ensures.room c.args.call 1 c.in_ok-reserve.ensures.room)
 
 pub stamp-requires : goal.stamp-requires
 stamp-requires c =
     let last = c.in_ok-prepared.ensures.ok.last in
     let number = c.commit-commit.ensures.number in
-    let same = ap (λ (s : Course). length s.order) c.restart.ensures.made.course in
+    let same = ap (λ (s : Course). length s.order) (made_before (M c.args.call) c.reserve.new.self c.restart.new.self c.settle.new.self c.restart.ensures.made c.settle.ensures.same).course in
     omega (arith, last, number, same)
 
 pub returns-clause-made : goal.returns-clause-made
 returns-clause-made c =
-    let moved = made_after (M c.args.call) c.args.book.now c.reserve.new.self c.restart.new.self c.reserve.ensures.same c.restart.ensures.made in
-    ((c.restart.new.self, moved, c.commit-commit.ensures.made), c.commit-commit.ensures.number ∙ ap (λ (s : Course). length s.order + 1) moved.course)
+    let moved = made_after (M c.args.call) c.args.book.now c.reserve.new.self c.settle.new.self c.reserve.ensures.same (made_before (M c.args.call) c.reserve.new.self c.restart.new.self c.settle.new.self c.restart.ensures.made c.settle.ensures.same) in
+    ((c.settle.new.self, moved, c.commit-commit.ensures.made, c.settle.ensures.settled), c.commit-commit.ensures.number ∙ ap (λ (s : Course). length s.order + 1) moved.course)
 
 pub returns-clause-stored : goal.returns-clause-stored
 returns-clause-stored c =
-    let course : c.restart.new.self.course ≡ after (work_in c.reserve.new.self) c.reserve.new.self.course (M c.args.call) = c.restart.ensures.made.course in
-    stored_committed None c.args.call c.restart.new.self c.commit-commit.new.self c.stamp.new.self
-    (stamped_on c.reserve.new.self c.restart.new.self c.args.call c.stamp.new.self
+    let course : c.settle.new.self.course ≡ after (work_in c.reserve.new.self) c.reserve.new.self.course (M c.args.call) = (made_before (M c.args.call) c.reserve.new.self c.restart.new.self c.settle.new.self c.restart.ensures.made c.settle.ensures.same).course in
+    stored_committed None c.args.call c.settle.new.self c.commit-commit.new.self c.stamp.new.self
+    (stamped_on c.reserve.new.self c.settle.new.self c.args.call c.stamp.new.self
     (c.in_ok-prepared.ensures.ok.stamped c.commit-commit.result c.stamp.new.self (c.commit-commit.ensures.number ∙ ap (λ (s : Course). length s.order + 1) course) c.stamp.ensures)
-    c.restart.ensures.made.script (ap (λ (s : Course). s.order) course) (ap (λ (s : Course). s.low) course))
+    (made_before (M c.args.call) c.reserve.new.self c.restart.new.self c.settle.new.self c.restart.ensures.made c.settle.ensures.same).script (ap (λ (s : Course). s.order) course) (ap (λ (s : Course). s.low) course))
     c.commit-commit.ensures.made

@@ -11,13 +11,13 @@ use Rattle.mv_core.proofs.tasks.repair_task.Goals as goal
 view : (c : goal.After-view-1) → Shows c.args.book.now.script c.args.book.now.course.order (length c.args.book.now.course.order) c.new-view.result
 view c = shows_last c.args.book.now c.args.store.now c.commits.result c.new-view.result c.requires.call.stored c.commits.ensures c.new-view.ensures
 
-pub repair_over-requires-clause-call : goal.repair_over-requires-clause-call
-repair_over-requires-clause-call c =
+pub repair_fresh-requires-clause-call : goal.repair_fresh-requires-clause-call
+repair_fresh-requires-clause-call c =
     subst (λ (s : Script). IsTaskFor s c.args.call c.args.running.now.task) (sym c.script.ensures)
     (task_runs c.args.book.now.script c.args.call _ c.args.running.now.task (c.requires.call.task c.requires.call.live.0 c.requires.call.live.1).runs)
 
-pub repair_over-requires-clause-leads : goal.repair_over-requires-clause-leads
-repair_over-requires-clause-leads c =
+pub repair_fresh-requires-clause-leads : goal.repair_fresh-requires-clause-leads
+repair_fresh-requires-clause-leads c =
     let shows : Shows c.args.book.now.script c.args.book.now.course.order (length c.args.book.now.course.order) c.new-view.result =
     shows_last c.args.book.now c.args.store.now c.commits.result c.new-view.result c.requires.call.stored c.commits.ensures c.new-view.ensures in
     subst (λ (s : Script). CanRepair s c.args.call c.args.running.now.task (changes_since c.since-since.result.now) c.new-view.result.database) (sym c.script.ensures)
@@ -29,12 +29,12 @@ returns-in-Err-clause-err c l live =
     subst (λ (x : Live). IsLiveTask c.args.book.now.script c.args.book.now.course.order c.args.call x c.spend.new.self) (one_live c.args.book.now.course c.args.call c.requires.call.live.0 l c.requires.call.live.1 live)
     (task_spent c.args.book.now.script c.args.book.now.course.order c.args.call c.number-number.result c.requires.call.live.0 c.args.running.now c.spend.new.self (c.requires.call.task c.requires.call.live.0 c.requires.call.live.1)
     (c.requires.whole c.requires.call.live.0 c.requires.call.live.1) c.number-number.ensures c.spend.ensures.count c.spend.ensures.executed
-    (task_back c.args.book.now.script c.args.call _ c.repair_over.new.task c.spend.new.self.task (subst (λ (s : Script). IsTaskFor s c.args.call c.repair_over.new.task) c.script.ensures c.repair_over.ensures.call) c.spend.ensures.begins))
+    (task_back c.args.book.now.script c.args.call _ c.repair_fresh.new.task c.spend.new.self.task (subst (λ (s : Script). IsTaskFor s c.args.call c.repair_fresh.new.task) c.script.ensures c.repair_fresh.ensures.call) c.spend.ensures.begins))
 
 pub returns-clause-ok : goal.returns-clause-ok
 returns-clause-ok c l live =
     let shows : Shows c.args.book.now.script c.args.book.now.course.order (length c.args.book.now.course.order) c.new-view.result =
     shows_last c.args.book.now c.args.store.now c.commits.result c.new-view.result c.requires.call.stored c.commits.ensures c.new-view.ensures in
-    subst (λ (x : Live). IsRepaired c.args.book.now.script c.args.book.now.course.order c.args.call x (record { task = c.repair_over.new.task; count = Some c.executed.result })) (one_live c.args.book.now.course c.args.call c.requires.call.live.0 l c.requires.call.live.1 live)
-    (task_repaired c.args.book.now c.args.call c.executed.result c.script.result.now c.new-view.result c.requires.call.live.0 c.args.running.now.task c.repair_over.new.task (changes_in c.since-since.result.now) c.script.ensures shows
+    subst (λ (x : Live). IsRepaired c.args.book.now.script c.args.book.now.course.order c.args.call x (record { task = c.repair_fresh.new.task; count = Some c.executed.result })) (one_live c.args.book.now.course c.args.call c.requires.call.live.0 l c.requires.call.live.1 live)
+    (task_repaired c.args.book.now c.args.call c.executed.result c.script.result.now c.new-view.result c.requires.call.live.0 c.args.running.now.task c.repair_fresh.new.task (changes_in c.since-since.result.now) c.script.ensures shows
     (c.since-since.ensures.changes c.requires.call.live.0 c.requires.call.live.1) (c.requires.whole c.requires.call.live.0 c.requires.call.live.1) c.in_default.ensures.runs c.in_default.ensures.records c.in_default.ensures.executed c.executed.ensures)

@@ -9,11 +9,11 @@ use Rattle.mv_core.proofs.tasks.step_task.Goals as goal
 view : (c : goal.After-view-1) → Shows c.args.book.now.script c.args.book.now.course.order c.requires.call.live.0.start c.new-view.result
 view c = shows_start c.args.book.now c.args.store.now c.args.call c.start.result c.requires.call.live.0 c.new-view.result c.requires.call.stored c.requires.fresh c.requires.call.live.1 (c.start.ensures.value c.requires.call.live.0 c.requires.call.live.1) c.start.ensures.past c.new-view.ensures
 
-pub run_next-requires-clause-database : goal.run_next-requires-clause-database
-run_next-requires-clause-database c = database_shown c.args.book.now c.args.call c.requires.call.live.0.start c.script.result.now c.new-view.result c.requires.call.stored.script c.script.ensures (view c)
+pub next_fresh-requires-clause-database : goal.next_fresh-requires-clause-database
+next_fresh-requires-clause-database c = database_shown c.args.book.now c.args.call c.requires.call.live.0.start c.script.result.now c.new-view.result c.requires.call.stored.script c.script.ensures (view c)
 
-pub run_next-requires-clause-runs : goal.run_next-requires-clause-runs
-run_next-requires-clause-runs c =
+pub next_fresh-requires-clause-runs : goal.next_fresh-requires-clause-runs
+next_fresh-requires-clause-runs c =
     runs_shown c.args.book.now c.args.call c.requires.call.live.0.start c.script.result.now c.new-view.result c.args.running.now.task c.script.ensures (view c) (c.requires.call.task c.requires.call.live.0 c.requires.call.live.1).runs
 
 refused : (c : goal.After-from_residual) → Shows c.args.book.now.script c.args.book.now.course.order c.requires.call.live.0.start c.new-view.result
@@ -22,40 +22,40 @@ refused c = shows_start c.args.book.now c.args.store.now c.args.call c.start.res
 task_at : (c : goal.After-from_residual) → IsLiveTask c.args.book.now.script c.args.book.now.course.order c.args.call c.requires.call.live.0 c.args.running.now
 task_at c = c.requires.call.task c.requires.call.live.0 c.requires.call.live.1
 
-pub returns-in_err-run_next-clause-task : goal.returns-in_err-run_next-clause-task
-returns-in_err-run_next-clause-task c l live =
-    subst (λ (x : Live). IsLiveTask c.args.book.now.script c.args.book.now.course.order c.args.call x (record { task = c.run_next.new.task; count = c.args.running.now.count })) (one_live c.args.book.now.course c.args.call c.requires.call.live.0 l c.requires.call.live.1 live)
-    (task_kept c.args.book.now.script c.args.book.now.course.order c.args.call c.requires.call.live.0 c.args.running.now c.run_next.new.task (task_at c)
-    (runs_back c.args.book.now c.args.call c.requires.call.live.0.start c.script.result.now c.new-view.result c.run_next.new.task c.script.ensures (refused c) c.in_err-run_next.ensures.runs)
-    (counts_same c.args.running.now.task c.run_next.new.task c.in_err-run_next.ensures.err))
+pub returns-in_err-next_fresh-clause-task : goal.returns-in_err-next_fresh-clause-task
+returns-in_err-next_fresh-clause-task c l live =
+    subst (λ (x : Live). IsLiveTask c.args.book.now.script c.args.book.now.course.order c.args.call x (record { task = c.next_fresh.new.task; count = c.args.running.now.count })) (one_live c.args.book.now.course c.args.call c.requires.call.live.0 l c.requires.call.live.1 live)
+    (task_kept c.args.book.now.script c.args.book.now.course.order c.args.call c.requires.call.live.0 c.args.running.now c.next_fresh.new.task (task_at c)
+    (runs_back c.args.book.now c.args.call c.requires.call.live.0.start c.script.result.now c.new-view.result c.next_fresh.new.task c.script.ensures (refused c) c.in_err-next_fresh.ensures.runs)
+    (counts_same c.args.running.now.task c.next_fresh.new.task c.in_err-next_fresh.ensures.err))
 
-ran : (c : goal.In_ok-run_next) → Shows c.args.book.now.script c.args.book.now.course.order c.requires.call.live.0.start c.new-view.result
+ran : (c : goal.In_ok-next_fresh) → Shows c.args.book.now.script c.args.book.now.course.order c.requires.call.live.0.start c.new-view.result
 ran c = shows_start c.args.book.now c.args.store.now c.args.call c.start.result c.requires.call.live.0 c.new-view.result c.requires.call.stored c.requires.fresh c.requires.call.live.1 (c.start.ensures.value c.requires.call.live.0 c.requires.call.live.1) c.start.ensures.past c.new-view.ensures
 
-task_on : (c : goal.In_ok-run_next) → IsLiveTask c.args.book.now.script c.args.book.now.course.order c.args.call c.requires.call.live.0 c.args.running.now
+task_on : (c : goal.In_ok-next_fresh) → IsLiveTask c.args.book.now.script c.args.book.now.course.order c.args.call c.requires.call.live.0 c.args.running.now
 task_on c = c.requires.call.task c.requires.call.live.0 c.requires.call.live.1
 
-one_more : (c : goal.In_ok-run_next) → HasRunOne c.args.running.now.task c.run_next.new.task
+one_more : (c : goal.In_ok-next_fresh) → HasRunOne c.args.running.now.task c.next_fresh.new.task
 one_more c =
     let few = c.if-records-steps.true in
     let many = ap length c.records.ensures in
     let steps = c.steps.ensures c.requires.call.live.0 c.requires.call.live.1 in
-    c.in_ok-run_next.ensures.ran (goes_on c.args.book.now.script c.args.book.now.course c.args.call c.requires.call.live.0 c.args.running.now.task c.requires.call.stored.script c.requires.call.number (task_on c).runs
+    c.in_ok-next_fresh.ensures.ran (goes_on c.args.book.now.script c.args.book.now.course c.args.call c.requires.call.live.0 c.args.running.now.task c.requires.call.stored.script c.requires.call.number (task_on c).runs
     (omega (arith, few, many, steps)) (c.requires.left c.requires.call.live.0 c.requires.call.live.1))
 
-pub returns-in_ok-run_next-clause-ok : goal.returns-in_ok-run_next-clause-ok
-returns-in_ok-run_next-clause-ok c l live =
-    subst (λ (x : Live). IsLiveTask c.args.book.now.script c.args.book.now.course.order c.args.call (record x { steps = x.steps + 1 }) (record { task = c.run_next.new.task; count = c.args.running.now.count })) (one_live c.args.book.now.course c.args.call c.requires.call.live.0 l c.requires.call.live.1 live)
-    (task_ran c.args.book.now.script c.args.book.now.course.order c.args.call c.requires.call.live.0 c.args.running.now c.run_next.new.task (task_on c)
-    (runs_back c.args.book.now c.args.call c.requires.call.live.0.start c.script.result.now c.new-view.result c.run_next.new.task c.script.ensures (ran c) c.in_ok-run_next.ensures.runs)
+pub returns-in_ok-next_fresh-clause-ok : goal.returns-in_ok-next_fresh-clause-ok
+returns-in_ok-next_fresh-clause-ok c l live =
+    subst (λ (x : Live). IsLiveTask c.args.book.now.script c.args.book.now.course.order c.args.call (record x { steps = x.steps + 1 }) (record { task = c.next_fresh.new.task; count = c.args.running.now.count })) (one_live c.args.book.now.course c.args.call c.requires.call.live.0 l c.requires.call.live.1 live)
+    (task_ran c.args.book.now.script c.args.book.now.course.order c.args.call c.requires.call.live.0 c.args.running.now c.next_fresh.new.task (task_on c)
+    (runs_back c.args.book.now c.args.call c.requires.call.live.0.start c.script.result.now c.new-view.result c.next_fresh.new.task c.script.ensures (ran c) c.in_ok-next_fresh.ensures.runs)
     (one_more c))
 
-pub returns-in_ok-run_next-clause-task : goal.returns-in_ok-run_next-clause-task
-returns-in_ok-run_next-clause-task c l live =
-    subst (λ (x : Live). IsLiveTask c.args.book.now.script c.args.book.now.course.order c.args.call x (record { task = c.run_next.new.task; count = c.args.running.now.count })) (one_live c.args.book.now.course c.args.call c.requires.call.live.0 l c.requires.call.live.1 live)
-    (task_kept c.args.book.now.script c.args.book.now.course.order c.args.call c.requires.call.live.0 c.args.running.now c.run_next.new.task (task_on c)
-    (runs_back c.args.book.now c.args.call c.requires.call.live.0.start c.script.result.now c.new-view.result c.run_next.new.task c.script.ensures (ran c) c.in_ok-run_next.ensures.runs)
-    (counts_one c.args.running.now.task c.run_next.new.task (one_more c)))
+pub returns-in_ok-next_fresh-clause-task : goal.returns-in_ok-next_fresh-clause-task
+returns-in_ok-next_fresh-clause-task c l live =
+    subst (λ (x : Live). IsLiveTask c.args.book.now.script c.args.book.now.course.order c.args.call x (record { task = c.next_fresh.new.task; count = c.args.running.now.count })) (one_live c.args.book.now.course c.args.call c.requires.call.live.0 l c.requires.call.live.1 live)
+    (task_kept c.args.book.now.script c.args.book.now.course.order c.args.call c.requires.call.live.0 c.args.running.now c.next_fresh.new.task (task_on c)
+    (runs_back c.args.book.now c.args.call c.requires.call.live.0.start c.script.result.now c.new-view.result c.next_fresh.new.task c.script.ensures (ran c) c.in_ok-next_fresh.ensures.runs)
+    (counts_one c.args.running.now.task c.next_fresh.new.task (one_more c)))
 
 pub returns-else-records-steps-clause-ok : goal.returns-else-records-steps-clause-ok
 returns-else-records-steps-clause-ok c l live =
@@ -64,17 +64,17 @@ returns-else-records-steps-clause-ok c l live =
     let steps = c.steps.ensures l live in
     task_named c.args.book.now.script c.args.book.now.course.order c.args.call l c.args.running.now (c.requires.call.task l live) (λ le. omega (arith, few, le, many, steps))
 
-pub returns-in_err-run_next-clause-ran : goal.returns-in_err-run_next-clause-ran
-returns-in_err-run_next-clause-ran c = record { count = refl; task = counts_same c.args.running.now.task c.run_next.new.task c.in_err-run_next.ensures.err }
+pub returns-in_err-next_fresh-clause-ran : goal.returns-in_err-next_fresh-clause-ran
+returns-in_err-next_fresh-clause-ran c = record { count = refl; task = counts_same c.args.running.now.task c.next_fresh.new.task c.in_err-next_fresh.ensures.err }
 
-pub returns-in_ok-run_next-clause-ran : goal.returns-in_ok-run_next-clause-ran
-returns-in_ok-run_next-clause-ran c = record { count = refl; task = counts_one c.args.running.now.task c.run_next.new.task (one_more c) }
+pub returns-in_ok-next_fresh-clause-ran : goal.returns-in_ok-next_fresh-clause-ran
+returns-in_ok-next_fresh-clause-ran c = record { count = refl; task = counts_one c.args.running.now.task c.next_fresh.new.task (one_more c) }
 
 pub returns-else-records-steps-clause-ran : goal.returns-else-records-steps-clause-ran
 returns-else-records-steps-clause-ran c = record { count = refl; task = record { executed = refl; more = omega arith } }
 
-pub returns-in_ok-run_next-clause-one : goal.returns-in_ok-run_next-clause-one
-returns-in_ok-run_next-clause-one c l live all = one_more c
+pub returns-in_ok-next_fresh-clause-one : goal.returns-in_ok-next_fresh-clause-one
+returns-in_ok-next_fresh-clause-one c l live all = one_more c
 
 pub returns-else-records-steps-clause-one : goal.returns-else-records-steps-clause-one
 returns-else-records-steps-clause-one c l live all =
@@ -83,11 +83,11 @@ returns-else-records-steps-clause-one c l live all =
     let steps = c.steps.ensures l live in
     absurd (omega (arith, few, many, steps, all))
 
-pub returns-in_err-run_next-clause-err : goal.returns-in_err-run_next-clause-err
-returns-in_err-run_next-clause-err c = always_err c.from_residual.result _ c.in_err-run_next.ensures.err
+pub returns-in_err-next_fresh-clause-err : goal.returns-in_err-next_fresh-clause-err
+returns-in_err-next_fresh-clause-err c = always_err c.from_residual.result _ c.in_err-next_fresh.ensures.err
 
-pub returns-in_ok-run_next-clause-named : goal.returns-in_ok-run_next-clause-named
-returns-in_ok-run_next-clause-named c l live more =
+pub returns-in_ok-next_fresh-clause-named : goal.returns-in_ok-next_fresh-clause-named
+returns-in_ok-next_fresh-clause-named c l live more =
     let few = c.if-records-steps.true in
     let many = ap length c.records.ensures in
     let steps = c.steps.ensures l live in

@@ -43,7 +43,7 @@ invariant_of-self c = record {
 pub returns-clause-made : goal.returns-clause-made
 returns-clause-made c =
     made_on G _ c.args.self.now _ c.self.view_is refl (ap (λ n. the_course c.self.inside.order.items n (map live_of c.self.inside.calls.items)) (low c))
-    (λ d live has. subst (λ (b : Booked). IsSettled b d) (sym c.self.view_is) has) c.put.ensures.items refl
+    (λ d live other has. subst (λ (b : Booked). IsSettled b d) (sym c.self.view_is) has) c.put.ensures.items refl
 
 pub returns-clause-room : goal.returns-clause-room
 returns-clause-room c x n has = room_same _ c.args.self.now _ x n (n + 1) c.self.view_is (omega arith) (let r = c.put.ensures.room in let t = c.trim.ensures.room in omega (arith, r, t)) has

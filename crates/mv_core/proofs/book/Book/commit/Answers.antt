@@ -89,7 +89,7 @@ returns-clause-made c =
     let adds : c.put-2.new.self.items ≡ c.self.inside.journal.items ++ commit_event (own_number (option_copied c.args.exclusive)) c.args.call ∷ [] = search (rules, c.put-2.ensures.items, c.commit_event.ensures, own) in
     made_committed (own_number (option_copied c.args.exclusive)) c.args.call c.self.inside c.args.self.now _ _ c.index_mut.result.now c.commit.new.self c.self.view_is c.requires.allowed place.2.at changed c.put.ensures.items
     c.trim.ensures.same.course
-    (λ d live has. c.trim.ensures.same.settled d (still_settled c.self.inside c.args.self.now c.args.call d c.index_mut.result.now c.commit.new.self c.self.view_is place.2.at (λ was. subst (λ (rs : List Round). IsSome (last_number rs)) (sym rounds) (own_known (length c.self.inside.order.items) (own_number (option_copied c.args.exclusive)) c.index_mut.result.now.rounds.items was)) has))
+    (λ d live other has. c.trim.ensures.same.settled d (still_settled c.self.inside c.args.self.now c.args.call d c.index_mut.result.now c.commit.new.self c.self.view_is place.2.at (λ is was. subst (λ (rs : List Round). IsSome (last_number rs)) (sym rounds) (own_known (length c.self.inside.order.items) (own_number (option_copied c.args.exclusive)) c.index_mut.result.now.rounds.items was)) has))
     (c.trim.ensures.same.journal ∙ adds) c.trim.ensures.same.script
 
 pub returns-clause-room : goal.returns-clause-room

@@ -1,6 +1,6 @@
 use Rattle.std.proofs.Common.{Some, sym, ap, ◌∙◌}
 use Rattle.mv_core.specs.Calls.{last_number}
-use Rattle.mv_core.proofs.Keeping.{here_at, number_kept, first_kept}
+use Rattle.mv_core.proofs.Keeping.{here_at, number_kept, unsettled_here}
 use Rattle.mv_core.proofs.book.Book.number.Goals as goal
 
 pub returns-in-Some : goal.returns-in-Some
@@ -11,5 +11,5 @@ returns-in-Some c =
 pub returns-in-None : goal.returns-in-None
 returns-in-None c =
     let here = here_at c.self.inside c.args.self.now c.args.call c.index.result.now c.self.view_is c.requires.live c.index.ensures in
-    c.requires.number here.0 here.1 (first_kept c.self.inside c.args.call here.0 c.index.result.now c.self.invariant.kept here.2 (sym (ap last_number c.as_slice.ensures) ∙ (sym c.last_number.ensures ∙ c.in-None.is)))
+    c.requires.number (unsettled_here c.self.inside c.args.self.now c.args.call c.index.result.now c.self.view_is here.2.at (sym (ap last_number c.as_slice.ensures) ∙ (sym c.last_number.ensures ∙ c.in-None.is)))
     ∙ ap Some (sym c.executed.ensures)

@@ -30,7 +30,7 @@ pub returns-clause-made : goal.returns-clause-made
 returns-clause-made c =
     made_on (S c.args.call) _ c.args.self.now _ c.self.view_is c.requires.allowed
     (ap (λ (ls : List Live). the_course c.self.inside.order.items c.self.inside.low ls) (map_changed (λ l. record l { steps = l.steps + 1 }) c.self.inside.calls.items c.args.call c.index_mut.result.now _ (here c).2.at refl))
-    (λ d live has. still_settled c.self.inside c.args.self.now c.args.call d c.index_mut.result.now _ c.self.view_is (here c).2.at (λ some. some) has) c.put.ensures.items refl
+    (λ d live other has. still_settled c.self.inside c.args.self.now c.args.call d c.index_mut.result.now _ c.self.view_is (here c).2.at (λ is some. some) has) c.put.ensures.items refl
 
 pub returns-clause-room : goal.returns-clause-room
 returns-clause-room c x n has =

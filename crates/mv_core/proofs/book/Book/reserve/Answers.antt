@@ -30,7 +30,7 @@ returns-clause-same c = record {
       ∙ ap (λ (b : Booked). b.course) c.self.view_is);
   settled = λ d has.
       still_settled c.self.inside c.args.self.now c.args.call d c.index_mut.result.now c.reserve-4.new.self c.self.view_is (here_at c.self.inside c.args.self.now c.args.call c.index_mut.result.now c.self.view_is c.requires.live c.index_mut.ensures.value).2.at
-      (λ some. ap (λ rs. is_some (last_number rs)) c.reserve-4.ensures.rounds ∙ some) has;
+      (λ is some. ap (λ rs. is_some (last_number rs)) c.reserve-4.ensures.rounds ∙ some) has;
   journal = c.reserve-3.ensures.items ∙ ap (λ (b : Booked). b.journal) c.self.view_is;
 }
 

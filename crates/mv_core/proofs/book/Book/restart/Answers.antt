@@ -1,9 +1,9 @@
-use Rattle.std.proofs.Common.{arith, rules, ◌≡◌, ◌≤◌, ◌<◌, ◌^◌, ◌+◌, List, Some, map, length, refl, ap, sym, subst, ◌∙◌}
+use Rattle.std.proofs.Common.{arith, rules, ◌≡◌, ◌≤◌, ◌<◌, ◌^◌, ◌+◌, List, map, length, refl, ap, sym, subst, ◌∙◌}
 use Rattle.mv_lawful.specs.Lawful.{Live, again}
 use Rattle.mv_core.specs.Calls.{IsLive, live_of}
-use Rattle.mv_core.specs.Books.{Booked, round_event, due_after}
+use Rattle.mv_core.specs.Books.{round_event}
 use Rattle.mv_script.specs.Scripts.{work_of}
-use Rattle.mv_core.proofs.Keeping.{live_stays, the_course, here_at, IsProgressAt, few_inside, within, round_live, room_here, settled_here, kept_restart, counted_known, number_counted, restarted, restart_after, map_changed, made_on, free_on, room_left, start_past, still_settled}
+use Rattle.mv_core.proofs.Keeping.{live_stays, the_course, here_at, IsProgressAt, few_inside, within, round_live, room_here, settled_here, kept_restart, other_round, restarted, restart_after, map_changed, made_on, free_on, room_left, start_past, still_settled}
 use Rattle.mv_core.proofs.Recents.{recent_set}
 use Rattle.mv_core.proofs.book.Book.restart.Goals as goal
 
@@ -28,15 +28,15 @@ start c = c.restart.ensures.start ∙ c.len-start.ensures
 live : (c : goal.After-put) → live_of c.restart.new.self ≡ again (length c.self.inside.order.items) c.args.mark (live_of c.index_mut.result.now)
 live c =
     subst (λ n. live_of c.restart.new.self ≡ again n c.args.mark (live_of c.index_mut.result.now)) c.len-start.ensures
-    (restarted c.len-start.result c.executed-count.result c.args.mark c.index_mut.result.now c.restart.new.self c.restart.ensures.start c.restart.ensures.steps c.restart.ensures.rounds c.restart.ensures.reply)
+    (restarted c.len-start.result c.args.mark c.index_mut.result.now c.restart.new.self c.restart.ensures.start c.restart.ensures.steps c.restart.ensures.rounds c.restart.ensures.reply)
 
 pub invariant_of-self : goal.invariant_of-self
 invariant_of-self c = record {
   kept =
-      kept_restart c.self.inside.script c.self.inside.order.items c.self.inside.low c.args.call c.executed-count.result c.self.inside.calls.items c.self.inside.journal.items _ c.args.mark c.index_mut.result.now c.restart.new.self
+      kept_restart c.self.inside.script c.self.inside.order.items c.self.inside.low c.args.call c.self.inside.calls.items c.self.inside.journal.items _ c.args.mark c.index_mut.result.now c.restart.new.self
       c.self.invariant.kept c.requires.mark (free_on (round_event c.args.mark c.args.call) _ c.args.self.now c.self.view_is c.requires.allowed)
       (λ plain. settled_here c.self.inside c.args.self.now c.args.call c.index_mut.result.now c.self.view_is (here c).2.at (c.requires.settled plain))
-      (subst (λ (b : Booked). due_after b c.args.mark c.args.call ≡ Some c.args.task.now.executed) (sym c.self.view_is) c.requires.number ∙ ap Some (sym c.executed-count.ensures)) (here c).2.at (here c).2.going
+      (here c).2.at (here c).2.going
       (start c) c.restart.ensures.steps (search (rules, c.restart.ensures.rounds, c.len-start.ensures)) c.restart.ensures.reply
       (search (rules, c.put.ensures.items, c.round_event.ensures));
   live = c.self.invariant.live ∙ sym (live_stays c.self.inside.calls.items c.args.call c.index_mut.result.now c.restart.new.self (here c).2.at c.restart.ensures.reply);
@@ -51,14 +51,10 @@ returns-clause-made c =
     made_on (round_event c.args.mark c.args.call) _ c.args.self.now _ c.self.view_is c.requires.allowed
     (ap (λ (ls : List Live). the_course c.self.inside.order.items c.self.inside.low ls) (map_changed (again (length c.self.inside.order.items) c.args.mark) c.self.inside.calls.items c.args.call c.index_mut.result.now c.restart.new.self (here c).2.at (live c))
     ∙ sym (restart_after (work_of c.self.inside.script) (the_course c.self.inside.order.items c.self.inside.low (map live_of c.self.inside.calls.items)) c.args.mark c.args.call c.requires.mark))
-    (λ d live has. still_settled c.self.inside c.args.self.now c.args.call d c.index_mut.result.now c.restart.new.self c.self.view_is (here c).2.at
-    (λ was. counted_known c.args.mark c.len-start.result c.executed-count.result c.index_mut.result.now c.restart.new.self c.restart.ensures.rounds) has)
+    (λ d live other has. still_settled c.self.inside c.args.self.now c.args.call d c.index_mut.result.now c.restart.new.self c.self.view_is (here c).2.at
+    (λ is was. absurd (other_round c.args.mark c.args.call d c.requires.mark other is)) has)
     (search (rules, c.put.ensures.items, c.round_event.ensures)) refl
 
 pub returns-clause-room : goal.returns-clause-room
 returns-clause-room c x n has =
     room_left _ c.args.self.now _ c.self.inside.calls.items c.args.call x n (n + 1) c.index_mut.result.now c.restart.new.self c.self.view_is refl (here c).2.at (omega arith) (let r = c.put.ensures.room in omega (arith, r)) (let r = c.restart.ensures.room in omega (arith, r)) has
-
-pub returns-clause-settled : goal.returns-clause-settled
-returns-clause-settled c =
-    number_counted c.args.mark c.self.inside.calls.items c.args.call c.len-start.result c.executed-count.result c.index_mut.result.now c.restart.new.self (here c).2.at c.restart.ensures.rounds

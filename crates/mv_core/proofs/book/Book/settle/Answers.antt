@@ -2,7 +2,7 @@ use Rattle.std.proofs.Common.{arith, Some, is_some, refl, ap, sym, ◌∙◌}
 use Rattle.mv_core.specs.Calls.{last_number}
 use Rattle.mv_core.specs.Books.{Booked}
 use Rattle.mv_script.specs.Scripts.{work_of}
-use Rattle.mv_core.proofs.Keeping.{live_stays, the_course, here_at, kept_settled, settled_live, settled_told, still_settled, number_set, set_known, first_due, same_calls, room_left}
+use Rattle.mv_core.proofs.Keeping.{live_stays, the_course, here_at, kept_settled, settled_live, settled_told, still_settled, number_set, set_known, missing_due, same_calls, room_left}
 use Rattle.mv_core.proofs.Recents.{recent_set}
 use Rattle.mv_core.proofs.book.Book.settle.Goals as goal
 
@@ -16,7 +16,7 @@ pub invariant_of-self : goal.invariant_of-self
 invariant_of-self c =
     let here = here_at c.self.inside c.args.self.now c.args.call c.index_mut.result.now c.self.view_is c.requires.live c.index_mut.ensures.value in
     let first = here_at c.self.inside c.args.self.now c.args.call c.index.result.now c.self.view_is c.requires.live c.index.ensures in
-    let due = first_due c.self.inside c.args.self.now c.args.call c.args.task.now.executed c.index.result.now c.last_number.result c.self.view_is c.self.invariant.kept first.0 first.1 first.2
+    let due = missing_due c.self.inside c.args.self.now c.args.call c.args.task.now.executed c.index.result.now c.last_number.result c.self.view_is first.2.at
     (c.last_number.ensures ∙ ap last_number c.as_slice.ensures) (sym c.is_some.ensures ∙ c.if-is_some.false) c.requires.number in
     let start = c.settle.ensures.start in
     record {
@@ -42,7 +42,7 @@ returns-clause-same c =
           ap (the_course c.self.inside.order.items c.self.inside.low)
           (same_calls c.self.inside.calls.items c.args.call c.index_mut.result.now c.settle.new.self here.2.at (settled_live (Some c.executed.result) c.index_mut.result.now c.settle.new.self c.settle.ensures.start c.settle.ensures.steps c.settle.ensures.rounds c.settle.ensures.reply))
           ∙ ap (λ (b : Booked). b.course) c.self.view_is;
-      settled = λ d has. still_settled c.self.inside c.args.self.now c.args.call d c.index_mut.result.now c.settle.new.self c.self.view_is here.2.at (λ was. ap is_some number) has;
+      settled = λ d has. still_settled c.self.inside c.args.self.now c.args.call d c.index_mut.result.now c.settle.new.self c.self.view_is here.2.at (λ is was. ap is_some number) has;
       journal = ap (λ (b : Booked). b.journal) c.self.view_is;
     }
 

@@ -1,11 +1,10 @@
-use Rattle.std.proofs.Common.{rules, ◌<◌, ◌+◌, None, Ok, length, ap, subst, ◌∙◌, Some}
+use Rattle.std.proofs.Common.{rules, ◌<◌, ◌+◌, None, Ok, length, refl, ap, subst, ◌∙◌, Some}
 use Rattle.mv_journal.specs.declared.event.Event.TheVariants.{C}
-use Rattle.mv_lawful.specs.Lawful.{Course}
 use Rattle.mv_core.proofs.Taking.{task_there, task_within, due_first, call_within, committed_on, running_in, core_set}
-use Rattle.mv_core.proofs.Stored.{stored_same, last_records, last_records_on}
-use Rattle.mv_core.proofs.Changed.{core_same, same_both, made_after, made_now, allowed_same, try_failed, live_in, live_now, free_told, hit_told, stale_told, same_self, book_in, tasks_in}
+use Rattle.mv_core.proofs.Numbered.{numbers_same, numbers_other}
+use Rattle.mv_core.proofs.Changed.{core_same, try_failed, live_in, free_told, hit_told, stale_told, same_self, book_in, tasks_in}
 use Rattle.mv_core.specs.declared.engine.Attempt.TheVariants as attempt
-use Rattle.mv_core.specs.Books.{Booked, IsSame}
+use Rattle.mv_core.specs.Books.{Booked, Made, IsSame}
 use Rattle.mv_core.specs.Cores.{HasTried}
 use Rattle.mv_core.proofs.Recorded.{others_set, others_twice, whole_set}
 use Rattle.mv_core.proofs.engine.Core.attempt.Goals as goal
@@ -21,29 +20,30 @@ validate_task-requires c =
 pub invariant_of-self : goal.invariant_of-self
 invariant_of-self c = core_set c.self.inside.book c.self.inside.store c.self.inside.tasks.items c.args.call c.validate_task.new.running c.self.invariant (live_in c.self.inside.book c.args.self.now.book c.args.call (ap book_in c.self.view_is) c.requires) c.validate_task.ensures.task
 
-pub settle-requires-clause-live : goal.settle-requires-clause-live
-settle-requires-clause-live c = live_in c.self.inside.book c.args.self.now.book c.args.call (ap book_in c.self.view_is) c.requires
+pub settle_and_commit-requires-clause-missing : goal.settle_and_commit-requires-clause-missing
+settle_and_commit-requires-clause-missing c = due_first c.self.inside.book c.args.call c.validate_task.new.running (live_in c.self.inside.book c.args.self.now.book c.args.call (ap book_in c.self.view_is) c.requires) (c.self.invariant.numbers c.args.call) c.validate_task.ensures.task (c.in_ok-validate_task.ensures.records c.in-Free.is)
 
-pub settle-requires-clause-number : goal.settle-requires-clause-number
-settle-requires-clause-number c = due_first c.self.inside.book c.args.call c.validate_task.new.running c.validate_task.ensures.task (c.in_ok-validate_task.ensures.records c.in-Free.is)
+pub settle_and_commit-requires-clause-live : goal.settle_and_commit-requires-clause-live
+settle_and_commit-requires-clause-live c = live_in c.self.inside.book c.args.self.now.book c.args.call (ap book_in c.self.view_is) c.requires
 
-pub commit_task-requires-clause-stored : goal.commit_task-requires-clause-stored
-commit_task-requires-clause-stored c = stored_same c.self.inside.book c.settle.new.self c.self.inside.store c.self.invariant.stored c.settle.ensures.same
+pub settle_and_commit-requires-clause-number : goal.settle_and_commit-requires-clause-number
+settle_and_commit-requires-clause-number c =
+    call_within c.self.inside.book.script c.self.inside.book.course c.self.inside.tasks.items c.args.call c.self.invariant.tasks (live_in c.self.inside.book c.args.self.now.book c.args.call (ap book_in c.self.view_is) c.requires)
 
-pub commit_task-requires-clause-live : goal.commit_task-requires-clause-live
-commit_task-requires-clause-live c = live_now c.self.inside.book c.args.self.now.book c.settle.new.self c.args.call (ap book_in c.self.view_is) c.requires c.settle.ensures.same
+pub settle_and_commit-requires-clause-allowed : goal.settle_and_commit-requires-clause-allowed
+settle_and_commit-requires-clause-allowed c =
+    let live = live_in c.self.inside.book c.args.self.now.book c.args.call (ap book_in c.self.view_is) c.requires in
+    free_told c.self.inside.book c.args.call c.in_ok-validate_task.field-0 live.0 c.in_ok-validate_task.ensures.answer c.in-Free.is live.1
 
-pub commit_task-requires-clause-number : goal.commit_task-requires-clause-number
-commit_task-requires-clause-number c =
-    let k = core_same c.self.inside.book c.settle.new.self c.self.inside.store c.self.inside.tasks.items c.self.invariant c.settle.ensures.same in
-    call_within c.settle.new.self.script c.settle.new.self.course c.self.inside.tasks.items c.args.call k.tasks (live_now c.self.inside.book c.args.self.now.book c.settle.new.self c.args.call (ap book_in c.self.view_is) c.requires c.settle.ensures.same)
+pub settle_and_commit-requires-clause-whole : goal.settle_and_commit-requires-clause-whole
+settle_and_commit-requires-clause-whole c = c.in_ok-validate_task.ensures.records c.in-Free.is
 
 pub invariant_of-self-in_err-commit-in-Free : goal.invariant_of-self-in_err-commit-in-Free
 invariant_of-self-in_err-commit-in-Free c =
     let live = live_in c.self.inside.book c.args.self.now.book c.args.call (ap book_in c.self.view_is) c.requires in
     let k = core_set c.self.inside.book c.self.inside.store c.self.inside.tasks.items c.args.call c.validate_task.new.running c.self.invariant live c.validate_task.ensures.task in
-    let same = same_both c.self.inside.book c.settle.new.self c.commit_task.new.book c.settle.ensures.same c.in_err-commit-in-Free.ensures.made in
-    record { stored = c.commit_task.ensures.stored; tasks = (core_same c.self.inside.book c.commit_task.new.book c.self.inside.store _ k same).tasks }
+    let same = c.in_err-commit-in-Free.ensures.made in
+    record { stored = c.settle_and_commit.ensures.stored; numbers = numbers_same c.self.inside.book c.settle_and_commit.new.book same c.self.invariant.numbers; tasks = (core_same c.self.inside.book c.settle_and_commit.new.book c.self.inside.store _ k same).tasks }
 
 pub index_mut-requires-in-Free : goal.index_mut-requires-in-Free
 index_mut-requires-in-Free c =
@@ -54,10 +54,11 @@ pub invariant_of-self-in-Free : goal.invariant_of-self-in-Free
 invariant_of-self-in-Free c =
     let live = live_in c.self.inside.book c.args.self.now.book c.args.call (ap book_in c.self.view_is) c.requires in
     let k = core_set c.self.inside.book c.self.inside.store c.self.inside.tasks.items c.args.call c.validate_task.new.running c.self.invariant live c.validate_task.ensures.task in
+    let made = c.in_ok-commit-in-Free.ensures.made.0 in
     record {
-      stored = c.commit_task.ensures.stored;
-      tasks = committed_on None c.self.inside.book c.commit_task.new.book _ c.args.call live.0 k.tasks live.1
-          (made_after (C c.args.call) c.self.inside.book c.settle.new.self c.commit_task.new.book c.settle.ensures.same c.in_ok-commit-in-Free.ensures.made.0);
+      stored = c.settle_and_commit.ensures.stored;
+      numbers = numbers_other (C c.args.call) c.self.inside.book c.settle_and_commit.new.book made (λ d. refl) c.self.invariant.numbers;
+      tasks = committed_on None c.self.inside.book c.settle_and_commit.new.book _ c.args.call live.0 k.tasks live.1 made;
     }
 
 pub invariant_of-self-in-Hit : goal.invariant_of-self-in-Hit
@@ -66,29 +67,15 @@ invariant_of-self-in-Hit c = core_set c.self.inside.book c.self.inside.store c.s
 pub invariant_of-self-in-Stale : goal.invariant_of-self-in-Stale
 invariant_of-self-in-Stale c = core_set c.self.inside.book c.self.inside.store c.self.inside.tasks.items c.args.call c.validate_task.new.running c.self.invariant (live_in c.self.inside.book c.args.self.now.book c.args.call (ap book_in c.self.view_is) c.requires) c.validate_task.ensures.task
 
-pub commit_task-requires-clause-whole : goal.commit_task-requires-clause-whole
-commit_task-requires-clause-whole c =
-    let live = live_in c.self.inside.book c.args.self.now.book c.args.call (ap book_in c.self.view_is) c.requires in
-    last_records_on c.self.inside.book c.settle.new.self c.args.call c.validate_task.new.running.task.records c.settle.ensures.same.script (ap (λ (s : Course). s.order) c.settle.ensures.same.course)
-    (last_records c.self.inside.book c.self.inside.store c.args.call c.validate_task.new.running.task.records c.self.invariant.stored
-    (call_within c.self.inside.book.script c.self.inside.book.course c.self.inside.tasks.items c.args.call c.self.invariant.tasks live) live (c.in_ok-validate_task.ensures.records c.in-Free.is)
-    (free_told c.self.inside.book c.args.call c.in_ok-validate_task.field-0 live.0 c.in_ok-validate_task.ensures.answer c.in-Free.is live.1))
-
-pub commit_task-requires-clause-allowed : goal.commit_task-requires-clause-allowed
-commit_task-requires-clause-allowed c =
-    let live = live_in c.self.inside.book c.args.self.now.book c.args.call (ap book_in c.self.view_is) c.requires in
-    allowed_same (C c.args.call) c.self.inside.book c.settle.new.self c.settle.ensures.same.script c.settle.ensures.same.course
-    (free_told c.self.inside.book c.args.call c.in_ok-validate_task.field-0 live.0 c.in_ok-validate_task.ensures.answer c.in-Free.is live.1)
-
 pub returns-in_err-commit-in-Free-clause-made : goal.returns-in_err-commit-in-Free-clause-made
 returns-in_err-commit-in-Free-clause-made c =
-    try_failed _ c.args.call c.from_residual-in_err-commit-in-Free.result c.args.self.now.book c.commit_task.new.book c.from_residual-in_err-commit-in-Free.ensures.1
-    (subst (λ (b : Booked). IsSame b c.commit_task.new.book) (ap book_in c.self.view_is) (same_both c.self.inside.book c.settle.new.self c.commit_task.new.book c.settle.ensures.same c.in_err-commit-in-Free.ensures.made))
+    try_failed _ c.args.call c.from_residual-in_err-commit-in-Free.result c.args.self.now.book c.settle_and_commit.new.book c.from_residual-in_err-commit-in-Free.ensures.1
+    (subst (λ (b : Booked). IsSame b c.settle_and_commit.new.book) (ap book_in c.self.view_is) c.in_err-commit-in-Free.ensures.made)
 
 pub returns-in_ok-commit-in-Free-clause-made : goal.returns-in_ok-commit-in-Free-clause-made
 returns-in_ok-commit-in-Free-clause-made c = (
-  made_now (C c.args.call) c.self.inside.book c.args.self.now.book c.settle.new.self c.commit_task.new.book (ap book_in c.self.view_is) c.settle.ensures.same c.in_ok-commit-in-Free.ensures.made.0,
-  c.in_ok-commit-in-Free.ensures.made.1 ∙ ap (λ (s : Course). length s.order + 1) (c.settle.ensures.same.course ∙ ap (λ (b : Booked). b.course) (ap book_in c.self.view_is)),
+  subst (λ (b : Booked). Made (C c.args.call) b c.settle_and_commit.new.book) (ap book_in c.self.view_is) c.in_ok-commit-in-Free.ensures.made.0,
+  c.in_ok-commit-in-Free.ensures.made.1 ∙ ap (λ (b : Booked). length b.course.order + 1) (ap book_in c.self.view_is),
 )
 
 pub returns-in-Hit-clause-made : goal.returns-in-Hit-clause-made

@@ -9,6 +9,7 @@ use Rattle.mv_core.specs.declared.book.Begun.{Begun}
 use Rattle.mv_core.specs.Books.{Made, HasBegun}
 use Rattle.mv_core.specs.Cores.{RunsOn, IsCore, records_by}
 use Rattle.mv_core.proofs.Stored.{stored_made}
+use Rattle.mv_core.proofs.Numbered.{numbers_other}
 use Rattle.mv_core.proofs.Taking.{begun_on}
 use Rattle.mv_core.proofs.Refusing.{begun_number}
 use Rattle.mv_core.proofs.Changed.{core_same, tasks_in}
@@ -23,6 +24,7 @@ invariant_of-self-in-Ok-Some c =
     let made : Made (B c.in-Some.call) c.self.inside.book c.begin.new.self = subst (λ n. Made (B n) c.self.inside.book c.begin.new.self) (begun_number c.in-Ok-Some.begun.call c.self.inside.book c.begin.new.self begun ∙ sym next.0) begun in
     subst (λ (ts : List (Option Running)). IsCore c.begin.new.self c.self.inside.store ts) (sym c.in_ok-push.ensures.items) (record {
       stored = stored_made (B c.in-Some.call) c.self.inside.book c.begin.new.self c.self.inside.store c.self.invariant.stored made refl refl;
+      numbers = numbers_other (B c.in-Some.call) c.self.inside.book c.begin.new.self made (λ d. refl) c.self.invariant.numbers;
       tasks = begun_on c.self.inside.book c.begin.new.self c.self.inside.tasks.items c.in-Some.call c.in_ok-task.task c.self.invariant.tasks made next.0 next.1
           (subst (λ (s : Script). (db : Tables) → RunsOn s c.in-Some.call db c.in_ok-task.task) c.script.ensures c.in_ok-task.ensures.runs)
           (c.in_ok-task.ensures.executed ∙ sym (ap length c.in_ok-task.ensures.records));

@@ -1,4 +1,4 @@
-use Rattle.std.proofs.Common.{List, Option, subst, ap}
+use Rattle.std.proofs.Common.{List, Option, refl, subst, ap}
 use Rattle.std.specs.Prelude.{Result, Ok, Err}
 use Rattle.mv_values.specs.declared.memory.NoMemory.{NoMemory}
 use Rattle.mv_store.specs.Stored.{Versioned}
@@ -6,13 +6,15 @@ use Rattle.mv_core.specs.declared.tasks.Running.{Running}
 use Rattle.mv_core.specs.Books.{Booked}
 use Rattle.mv_core.specs.Cores.{IsStoreOf, IsCore, HasCollected}
 use Rattle.mv_core.proofs.Taking.{tasks_same, collected_on}
+use Rattle.mv_core.proofs.Numbered.{numbers_same, numbers_other}
+use Rattle.mv_journal.specs.declared.event.Event.TheVariants.{G}
 use Rattle.mv_core.proofs.Changed.{book_in, tasks_in}
 use Rattle.mv_core.proofs.engine.Core.collect.Goals as goal
 
 -- versions were collected, or nothing happened
 core_collected : (r : Result (Unit {0}) NoMemory) (old new : Booked) (store raised : Versioned) (ts : List (Option Running)) → IsCore old store ts → HasCollected r old new → IsStoreOf new raised → IsCore new raised ts
-core_collected (Ok x) old new store raised ts k made stored = record { stored = stored; tasks = collected_on old new ts k.tasks made }
-core_collected (Err e) old new store raised ts k same stored = record { stored = stored; tasks = tasks_same old.script new.script old.course new.course ts k.tasks same.script same.course }
+core_collected (Ok x) old new store raised ts k made stored = record { stored = stored; numbers = numbers_other G old new made (λ d. refl) k.numbers; tasks = collected_on old new ts k.tasks made }
+core_collected (Err e) old new store raised ts k same stored = record { stored = stored; numbers = numbers_same old new same k.numbers; tasks = tasks_same old.script new.script old.course new.course ts k.tasks same.script same.course }
 
 pub invariant_of-self : goal.invariant_of-self
 invariant_of-self c =

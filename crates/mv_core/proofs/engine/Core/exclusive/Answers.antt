@@ -3,8 +3,9 @@ use Rattle.mv_journal.specs.declared.event.Event.TheVariants.{X}
 use Rattle.std.specs.Prelude.{not}
 use Rattle.mv_lawful.specs.Lawful.{has_round}
 use Rattle.mv_core.specs.Books.{Booked, work_in, Made, IsNotStale}
-use Rattle.mv_core.proofs.Taking.{task_there, task_within, tasks_set, tasks_same, decided_on, running_in}
+use Rattle.mv_core.proofs.Taking.{task_there, task_within, tasks_set, tasks_same, decided_on, call_within, due_first, core_set, running_in}
 use Rattle.mv_core.proofs.Refusing.{repairs_last}
+use Rattle.mv_core.proofs.Numbered.{numbers_same, numbers_other}
 use Rattle.mv_core.proofs.Changed.{live_in, fresh_now_allowed, book_in, tasks_in}
 use Rattle.mv_core.proofs.Recorded.{others_set, others_twice}
 use Rattle.mv_core.proofs.engine.Core.exclusive.Goals as goal
@@ -13,9 +14,29 @@ pub unreachable-requires : goal.unreachable-requires
 unreachable-requires c =
     task_there c.self.inside.book.script c.self.inside.book.course c.self.inside.tasks.items c.args.call c.index_mut.result.now c.self.invariant.tasks (live_in c.self.inside.book c.args.self.now.book c.args.call (ap book_in c.self.view_is) c.requires.live) c.index_mut.ensures.value c.in_default.is
 
-pub decide_task-requires-clause-call : goal.decide_task-requires-clause-call
-decide_task-requires-clause-call c =
+pub finish_task-requires-clause-call : goal.finish_task-requires-clause-call
+finish_task-requires-clause-call c =
     running_in c.self.inside.book c.self.inside.store c.self.inside.tasks.items c.args.call c.index_mut.result.now c.in-Some.running c.self.invariant (live_in c.self.inside.book c.args.self.now.book c.args.call (ap book_in c.self.view_is) c.requires.live) c.index_mut.ensures.value c.in-Some.is
+
+pub finish_task-requires-clause-fresh : goal.finish_task-requires-clause-fresh
+finish_task-requires-clause-fresh c = subst (λ (b : Booked). IsNotStale b c.args.call) (sym (ap book_in c.self.view_is)) c.in_ok-refuse_stale.ensures.fresh
+
+pub invariant_of-self : goal.invariant_of-self
+invariant_of-self c = core_set c.self.inside.book c.self.inside.store c.self.inside.tasks.items c.args.call c.finish_task.new.running c.self.invariant (live_in c.self.inside.book c.args.self.now.book c.args.call (ap book_in c.self.view_is) c.requires.live) c.finish_task.ensures.task
+
+pub returns-in_err-finish_task-clause-others : goal.returns-in_err-finish_task-clause-others
+returns-in_err-finish_task-clause-others c = others_set c.args.call c.self.inside.tasks.items (Some c.finish_task.new.running) c.args.self.now (ap tasks_in c.self.view_is)
+
+pub decide_task-requires-clause-call : goal.decide_task-requires-clause-call
+decide_task-requires-clause-call c = record {
+  stored = c.self.invariant.stored;
+  live = live_in c.self.inside.book c.args.self.now.book c.args.call (ap book_in c.self.view_is) c.requires.live;
+  number = call_within c.self.inside.book.script c.self.inside.book.course c.self.inside.tasks.items c.args.call c.self.invariant.tasks (live_in c.self.inside.book c.args.self.now.book c.args.call (ap book_in c.self.view_is) c.requires.live);
+  task = c.finish_task.ensures.task;
+}
+
+pub decide_task-requires-clause-missing : goal.decide_task-requires-clause-missing
+decide_task-requires-clause-missing c = due_first c.self.inside.book c.args.call c.finish_task.new.running (live_in c.self.inside.book c.args.self.now.book c.args.call (ap book_in c.self.view_is) c.requires.live) (c.self.invariant.numbers c.args.call) c.finish_task.ensures.task c.in_ok-finish_task.ensures.ok
 
 pub decide_task-requires-clause-fresh : goal.decide_task-requires-clause-fresh
 decide_task-requires-clause-fresh c = subst (λ (b : Booked). IsNotStale b c.args.call) (sym (ap book_in c.self.view_is)) c.in_ok-refuse_stale.ensures.fresh
@@ -27,9 +48,10 @@ decide_task-requires-clause-allowed c =
     (repairs_last (work_in c.self.inside.book) c.self.inside.book.course c.args.call live.0 live.1) c.requires.allowed
     (subst (λ (b : Booked). IsNotStale b c.args.call) (sym (ap book_in c.self.view_is)) c.in_ok-refuse_stale.ensures.fresh live.0 live.1)
 
-pub invariant_of-self : goal.invariant_of-self
-invariant_of-self c = record {
+pub invariant_of-self-in_err-commit : goal.invariant_of-self-in_err-commit
+invariant_of-self-in_err-commit c = record {
   stored = c.decide_task.ensures.stored;
+  numbers = numbers_same c.self.inside.book c.decide_task.new.book c.in_err-commit.ensures.made c.self.invariant.numbers;
   tasks = tasks_same c.self.inside.book.script c.decide_task.new.book.script c.self.inside.book.course c.decide_task.new.book.course _
       (tasks_set c.self.inside.book.script c.self.inside.book.course c.self.inside.tasks.items c.args.call c.decide_task.new.running c.self.invariant.tasks (live_in c.self.inside.book c.args.self.now.book c.args.call (ap book_in c.self.view_is) c.requires.live) c.in_err-commit.ensures.task) c.in_err-commit.ensures.made.script c.in_err-commit.ensures.made.course;
 }
@@ -44,6 +66,7 @@ invariant_of-self-2 c =
     let live = live_in c.self.inside.book c.args.self.now.book c.args.call (ap book_in c.self.view_is) c.requires.live in
     record {
       stored = c.decide_task.ensures.stored;
+      numbers = numbers_other (X c.args.call) c.self.inside.book c.decide_task.new.book c.in_ok-commit.ensures.made.0 (λ d. refl) c.self.invariant.numbers;
       tasks = decided_on c.self.inside.book c.decide_task.new.book c.self.inside.tasks.items c.args.call live.0 c.decide_task.new.running c.self.invariant.tasks live.1 c.in_ok-commit.ensures.made.0;
     }
 

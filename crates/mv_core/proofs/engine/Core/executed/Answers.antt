@@ -1,5 +1,6 @@
 use Rattle.std.proofs.Common.{◌≡◌, Some, length, ap, sym, subst, ◌∙◌}
-use Rattle.mv_core.specs.Calls.{due_number}
+use Rattle.mv_lawful.specs.Lawful.{Live, used}
+use Rattle.mv_core.specs.Calls.{IsLive, due_number}
 use Rattle.mv_core.specs.Books.{Booked, work_in}
 use Rattle.mv_core.specs.Cores.{HasEnded, count_or}
 use Rattle.mv_core.proofs.Taking.{task_there, task_read, call_within, due_live, number_ran}
@@ -12,8 +13,12 @@ unreachable-requires c =
     task_there c.self.inside.book.script c.self.inside.book.course c.self.inside.tasks.items c.args.call c.index.result.now c.self.invariant.tasks (live_in c.self.inside.book c.args.self.now.book c.args.call (ap book_in c.self.view_is) c.requires.live) c.index.ensures c.in_default.is
 
 pub number-requires-clause-number : goal.number-requires-clause-number
-number-requires-clause-number c l live first =
+number-requires-clause-number c none =
     let b : Booked = c.self.inside.book in
+    let here = live_in b c.args.self.now.book c.args.call (ap book_in c.self.view_is) c.requires.live in
+    let l : Live = here.0 in
+    let live : IsLive b.course c.args.call l = here.1 in
+    let first : used l ≡ 0 = c.self.invariant.numbers c.args.call none l live in
     let t = task_read b.script b.course c.self.inside.tasks.items c.args.call c.index.result.now c.in-Some.running c.self.invariant.tasks c.index.ensures c.in-Some.is l live in
     let ended : HasEnded b c.args.call = subst (λ (x : Booked). HasEnded x c.args.call) (sym (ap book_in c.self.view_is)) c.requires.ended in
     number_ran b.script b.course c.args.call l c.in-Some.running c.self.invariant.stored.script (call_within b.script b.course c.self.inside.tasks.items c.args.call c.self.invariant.tasks (l, live)) live t first (ended l live)

@@ -1,4 +1,4 @@
-use Rattle.std.proofs.Common.{arith, ◌≡◌, ◌+◌, false, sym, ap, subst, ◌∙◌, refl, Some}
+use Rattle.std.proofs.Common.{arith, rules, ◌≡◌, ◌+◌, ◌<◌, length, false, sym, ap, subst, ◌∙◌, refl, Some}
 use Rattle.std.specs.Prelude.{not}
 use Rattle.mv_journal.specs.declared.event.Event.TheVariants.{S}
 use Rattle.mv_lawful.specs.Lawful.{Live, Course, used, is_stale}
@@ -6,10 +6,21 @@ use Rattle.mv_exec.specs.Running.{stepped}
 use Rattle.mv_core.specs.Calls.{IsLive}
 use Rattle.mv_core.specs.Books.{Booked, work_in}
 use Rattle.mv_core.proofs.Stored.{stored_made}
-use Rattle.mv_core.proofs.Taking.{task_there, call_within, stepped_on, running_in, core_set}
+use Rattle.mv_core.proofs.Numbered.{numbers_other}
+use Rattle.mv_core.proofs.Taking.{task_there, task_within, call_within, stepped_on, running_in, core_set}
 use Rattle.mv_core.proofs.Changed.{core_same, live_now, step_now, step_used, live_stepped, step_told, made_now, book_in, tasks_in}
 use Rattle.mv_core.proofs.Recorded.{others_kept, others_set, runs_one}
 use Rattle.mv_core.proofs.engine.Core.step.Goals as goal
+
+pub invariant_of-self : goal.invariant_of-self
+invariant_of-self c = core_same c.self.inside.book c.reserve.new.self c.self.inside.store c.self.inside.tasks.items c.self.invariant c.reserve.ensures.same
+
+pub index_mut-requires : goal.index_mut-requires
+index_mut-requires c =
+    let k = core_same c.self.inside.book c.reserve.new.self c.self.inside.store c.self.inside.tasks.items c.self.invariant c.reserve.ensures.same in
+    let lt : c.args.call < length c.self.inside.tasks.items = task_within c.reserve.new.self.script c.reserve.new.self.course c.self.inside.tasks.items c.args.call k.tasks
+    (live_now c.self.inside.book c.args.self.now.book c.reserve.new.self c.args.call (ap book_in c.self.view_is) c.requires.live c.reserve.ensures.same) in
+    search (rules, lt)
 
 pub unreachable-requires : goal.unreachable-requires
 unreachable-requires c =
@@ -51,6 +62,7 @@ invariant_of-self-2 c =
     let live = live_now c.self.inside.book c.args.self.now.book c.reserve.new.self c.args.call (ap book_in c.self.view_is) c.requires.live c.reserve.ensures.same in
     record {
       stored = stored_made (S c.args.call) c.reserve.new.self c.ran.new.self c.self.inside.store k.stored c.ran.ensures.made refl refl;
+      numbers = numbers_other (S c.args.call) c.reserve.new.self c.ran.new.self c.ran.ensures.made (λ d. refl) k.numbers;
       tasks = stepped_on c.reserve.new.self c.ran.new.self c.self.inside.tasks.items c.args.call live.0 c.step_task.new.running k.tasks live.1 c.ran.ensures.made (c.in_ok-step_task.ensures.ok live.0 live.1);
     }
 

@@ -5,6 +5,9 @@ use Rattle.mv_gate.proofs.Ending.{keeps_next, begun_next}
 use Rattle.mv_gate.proofs.Desks.{desk_begun}
 use Rattle.mv_gate.proofs.desk.Desk.begin_left.Goals as goal
 
+pub invariant_of-self : goal.invariant_of-self
+invariant_of-self g c = desk_begun c.begin.result g.N.Making.script c.self.inside.book c.begin.new.self c.self.inside.store c.self.inside.pass c.self.invariant c.begin.ensures
+
 pub invariant_of-self-2 : goal.invariant_of-self-2
 invariant_of-self-2 g c = desk_begun c.begin.result g.N.Making.script c.self.inside.book c.begin.new.self c.self.inside.store c.self.inside.pass c.self.invariant c.begin.ensures
 

@@ -2,41 +2,29 @@ use Rattle.std.proofs.Common.{◌≡◌, ◌<◌, ◌+◌, ◌++◌, ◌∷◌, 
 use Rattle.std.specs.List.{list_any}
 use lib.Dec.{eqb}
 use Rattle.mv_journal.specs.declared.event.Event.TheVariants.{C}
-use Rattle.mv_lawful.specs.Lawful.{Course, refusal}
+use Rattle.mv_lawful.specs.Lawful.{refusal}
 use Rattle.mv_seats.specs.Knowing.{Knows}
 use Rattle.mv_script.specs.declared.script.Script.{Script}
 use Rattle.mv_core.specs.Books.{Booked, work_in, Made, IsSame}
-use Rattle.mv_core.proofs.Stored.{stored_same, last_records}
-use Rattle.mv_core.proofs.Changed.{allowed_same, same_both, made_after, made_now}
 use Rattle.mv_gate.specs.Gates.{IsWhole}
-use Rattle.mv_gate.proofs.Desks.{desk_other, order_committed, fresh_call, commit_failed}
-use Rattle.mv_gate.proofs.Holding.{whole_same, first_whole}
+use Rattle.mv_gate.proofs.Desks.{desk_left, desk_other, order_committed, fresh_call, commit_failed}
+use Rattle.mv_gate.proofs.Holding.{first_whole}
 use Rattle.mv_gate.proofs.desk.Desk.commit.Goals as goal
 
-pub settle-requires-clause-live : goal.settle-requires-clause-live
-settle-requires-clause-live g c = (subst (λ (b : Booked). IsWhole b c.args.call c.args.running.now) (sym c.self.view_is) c.requires.whole).call.live
+pub settle_and_commit-requires-clause-live : goal.settle_and_commit-requires-clause-live
+settle_and_commit-requires-clause-live g c = (subst (λ (b : Booked). IsWhole b c.args.call c.args.running.now) (sym c.self.view_is) c.requires.whole).call.live
 
-pub settle-requires-clause-number : goal.settle-requires-clause-number
-settle-requires-clause-number g c = first_whole c.self.inside.book c.args.call c.args.running.now (subst (λ (b : Booked). IsWhole b c.args.call c.args.running.now) (sym c.self.view_is) c.requires.whole)
+pub settle_and_commit-requires-clause-number : goal.settle_and_commit-requires-clause-number
+settle_and_commit-requires-clause-number g c = (subst (λ (b : Booked). IsWhole b c.args.call c.args.running.now) (sym c.self.view_is) c.requires.whole).call.there
 
-pub commit_task-requires-clause-stored : goal.commit_task-requires-clause-stored
-commit_task-requires-clause-stored g c = stored_same c.self.inside.book c.settle.new.self c.self.inside.store c.self.invariant.stored c.settle.ensures.same
+pub settle_and_commit-requires-clause-missing : goal.settle_and_commit-requires-clause-missing
+settle_and_commit-requires-clause-missing g c = first_whole c.self.inside.book c.args.call c.args.running.now (c.self.invariant.numbers c.args.call) (subst (λ (b : Booked). IsWhole b c.args.call c.args.running.now) (sym c.self.view_is) c.requires.whole)
 
-pub commit_task-requires-clause-live : goal.commit_task-requires-clause-live
-commit_task-requires-clause-live g c = (whole_same c.self.inside.book c.settle.new.self c.args.call c.args.running.now c.settle.ensures.same (subst (λ (b : Booked). IsWhole b c.args.call c.args.running.now) (sym c.self.view_is) c.requires.whole)).call.live
+pub settle_and_commit-requires-clause-whole : goal.settle_and_commit-requires-clause-whole
+settle_and_commit-requires-clause-whole g c = (subst (λ (b : Booked). IsWhole b c.args.call c.args.running.now) (sym c.self.view_is) c.requires.whole).records
 
-pub commit_task-requires-clause-number : goal.commit_task-requires-clause-number
-commit_task-requires-clause-number g c = (whole_same c.self.inside.book c.settle.new.self c.args.call c.args.running.now c.settle.ensures.same (subst (λ (b : Booked). IsWhole b c.args.call c.args.running.now) (sym c.self.view_is) c.requires.whole)).call.there
-
-pub commit_task-requires-clause-allowed : goal.commit_task-requires-clause-allowed
-commit_task-requires-clause-allowed g c =
-    allowed_same (C c.args.call) c.self.inside.book c.settle.new.self c.settle.ensures.same.script c.settle.ensures.same.course (subst (λ (b : Booked). refusal (work_in b) b.course (C c.args.call) ≡ None) (sym c.self.view_is) c.requires.allowed)
-
-pub commit_task-requires-clause-whole : goal.commit_task-requires-clause-whole
-commit_task-requires-clause-whole g c =
-    let whole = (whole_same c.self.inside.book c.settle.new.self c.args.call c.args.running.now c.settle.ensures.same (subst (λ (b : Booked). IsWhole b c.args.call c.args.running.now) (sym c.self.view_is) c.requires.whole)) in
-    last_records c.settle.new.self c.self.inside.store c.args.call c.args.running.now.task.records (stored_same c.self.inside.book c.settle.new.self c.self.inside.store c.self.invariant.stored c.settle.ensures.same) whole.call.there whole.call.live whole.records
-    (allowed_same (C c.args.call) c.self.inside.book c.settle.new.self c.settle.ensures.same.script c.settle.ensures.same.course (subst (λ (b : Booked). refusal (work_in b) b.course (C c.args.call) ≡ None) (sym c.self.view_is) c.requires.allowed))
+pub settle_and_commit-requires-clause-allowed : goal.settle_and_commit-requires-clause-allowed
+settle_and_commit-requires-clause-allowed g c = subst (λ (b : Booked). refusal (work_in b) b.course (C c.args.call) ≡ None) (sym c.self.view_is) c.requires.allowed
 
 pub append-requires-clause-call : goal.append-requires-clause-call
 append-requires-clause-call g c =
@@ -48,20 +36,23 @@ append-requires-clause-fresh g c =
     subst (λ (xs : List ℕ). list_any (eqb c.args.call) xs ≡ false) (sym c.self.invariant.seen)
     (fresh_call c.self.inside.book c.args.call c.journal-events.ensures.allowed c.journal-events.ensures.reaches (subst (λ (b : Booked). IsWhole b c.args.call c.args.running.now) (sym c.self.view_is) c.requires.whole).call.live)
 
+pub invariant_of-self : goal.invariant_of-self
+invariant_of-self g c = desk_left g.N.Making.script c.self.inside.book c.settle_and_commit.new.book c.self.inside.store c.settle_and_commit.new.store c.self.inside.pass c.self.invariant c.in_err-commit.ensures.made c.settle_and_commit.ensures.stored
+
 pub invariant_of-self-2 : goal.invariant_of-self-2
 invariant_of-self-2 g c =
-    let made : Made (C c.args.call) c.self.inside.book c.commit_task.new.book = made_after (C c.args.call) c.self.inside.book c.settle.new.self c.commit_task.new.book c.settle.ensures.same c.in_ok-commit.ensures.made.0 in
-    desk_other (C c.args.call) g.N.Making.script c.self.inside.book c.commit_task.new.book c.self.inside.store c.commit_task.new.store c.self.inside.pass c.append.new.self c.self.invariant made (λ x. refl) c.in_ok-commit.ensures.stored
+    let made : Made (C c.args.call) c.self.inside.book c.settle_and_commit.new.book = c.in_ok-commit.ensures.made.0 in
+    desk_other (C c.args.call) g.N.Making.script c.self.inside.book c.settle_and_commit.new.book c.self.inside.store c.settle_and_commit.new.store c.self.inside.pass c.append.new.self c.self.invariant made (λ x. refl) c.in_ok-commit.ensures.stored
     (ap (λ (k : Knows). k.role) c.append.ensures ∙ c.self.invariant.role)
-    (ap (λ (k : Knows). k.seen) c.append.ensures ∙ (ap (λ (xs : List ℕ). xs ++ c.args.call ∷ []) c.self.invariant.seen ∙ sym (order_committed c.args.call c.self.inside.book c.commit_task.new.book made)))
+    (ap (λ (k : Knows). k.seen) c.append.ensures ∙ (ap (λ (xs : List ℕ). xs ++ c.args.call ∷ []) c.self.invariant.seen ∙ sym (order_committed c.args.call c.self.inside.book c.settle_and_commit.new.book made)))
 
 pub returns : goal.returns
 returns g c = (
-  made_now (C c.args.call) c.self.inside.book c.args.self.now c.settle.new.self c.commit_task.new.book c.self.view_is c.settle.ensures.same c.in_ok-commit.ensures.made.0,
-  c.in_ok-commit.ensures.made.1 ∙ ap (λ (s : Course). length s.order + 1) (c.settle.ensures.same.course ∙ ap (λ (b : Booked). b.course) c.self.view_is),
+  subst (λ (b : Booked). Made (C c.args.call) b c.settle_and_commit.new.book) c.self.view_is c.in_ok-commit.ensures.made.0,
+  c.in_ok-commit.ensures.made.1 ∙ ap (λ (b : Booked). length b.course.order + 1) c.self.view_is,
 )
 
 pub returns-in_err-commit : goal.returns-in_err-commit
 returns-in_err-commit g c =
-    commit_failed _ (C c.args.call) c.from_residual.result c.args.self.now c.commit_task.new.book c.from_residual.ensures.1
-    (subst (λ (b : Booked). IsSame b c.commit_task.new.book) c.self.view_is (same_both c.self.inside.book c.settle.new.self c.commit_task.new.book c.settle.ensures.same c.in_err-commit.ensures.made))
+    commit_failed _ (C c.args.call) c.from_residual.result c.args.self.now c.settle_and_commit.new.book c.from_residual.ensures.1
+    (subst (λ (b : Booked). IsSame b c.settle_and_commit.new.book) c.self.view_is c.in_err-commit.ensures.made)

@@ -1,16 +1,22 @@
-use Rattle.std.proofs.Common.{Ok, sym, ◌∙◌}
+use Rattle.std.proofs.Common.{Ok, sym, subst, ◌∙◌}
+use Rattle.mv_core.specs.Calls.{IsLiveCall}
+use Rattle.mv_core.specs.Books.{Booked, IsNotStale}
+use Rattle.mv_gate.specs.Gates.{IsStale}
 use Rattle.mv_core.proofs.Changed.{same_self}
 use Rattle.mv_gate.proofs.Ending.{keeps_same, keeps_both, keeps_late, keeps_met, keeps_commit, done_late, done_met, done_committed, met_repaired}
 use Rattle.mv_gate.proofs.desk.Desk.commit_left.Goals as goal
 
+pub is_stale-requires : goal.is_stale-requires
+is_stale-requires g c = subst (λ (b : Booked). IsLiveCall b.course c.args.call) (sym c.self.view_is) c.requires.live
+
 pub move_and_commit-requires : goal.move_and_commit-requires
-move_and_commit-requires g c = record { live = c.requires.live; there = c.requires.number; stale = λ l live. sym (c.is_stale.ensures l live) ∙ c.if-is_stale.true }
+move_and_commit-requires g c = record { live = c.requires.live; there = c.requires.number; stale = subst (λ (b : Booked). IsStale b c.args.call) c.self.view_is (λ l live. sym (c.is_stale.ensures l live) ∙ c.if-is_stale.true) }
 
 pub renew-requires-clause-fresh : goal.renew-requires-clause-fresh
-renew-requires-clause-fresh g c l live = sym (c.is_stale.ensures l live) ∙ c.if-is_stale.false
+renew-requires-clause-fresh g c = subst (λ (b : Booked). IsNotStale b c.args.call) c.self.view_is (λ l live. sym (c.is_stale.ensures l live) ∙ c.if-is_stale.false)
 
 pub decide-requires-clause-fresh : goal.decide-requires-clause-fresh
-decide-requires-clause-fresh g c l live = sym (c.is_stale.ensures l live) ∙ c.if-is_stale.false
+decide-requires-clause-fresh g c = subst (λ (b : Booked). IsNotStale b c.args.call) c.self.view_is (λ l live. sym (c.is_stale.ensures l live) ∙ c.if-is_stale.false)
 
 pub returns-then-is_stale-clause-kept : goal.returns-then-is_stale-clause-kept
 returns-then-is_stale-clause-kept g c = keeps_late c.move_and_commit.result c.args.call c.args.self.now c.move_and_commit.new.self c.move_and_commit.ensures c.requires.live

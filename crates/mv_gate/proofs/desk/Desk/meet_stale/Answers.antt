@@ -1,5 +1,34 @@
-use Rattle.std.proofs.Common.{sym, ◌∙◌}
+use Rattle.std.proofs.Common.{inr, true, false, sym, subst, ◌∙◌}
+use Rattle.mv_core.specs.Books.{Booked}
+use Rattle.mv_core.specs.Calls.{IsLiveCall}
+use Rattle.mv_gate.specs.Gates.{HasRound}
 use Rattle.mv_gate.proofs.desk.Desk.meet_stale.Goals as goal
 
+pub has_round-requires : goal.has_round-requires
+has_round-requires g c = subst (λ (b : Booked). IsLiveCall b.course c.args.call) (sym c.self.view_is) c.requires.live
+
 pub move_up-requires-clause-left : goal.move_up-requires-clause-left
-move_up-requires-clause-left g c l live = sym (c.has_round.ensures l live) ∙ c.if-has_round.true
+move_up-requires-clause-left g c = subst (λ (b : Booked). HasRound true b c.args.call) c.self.view_is (λ l live. sym (c.has_round.ensures l live) ∙ c.if-has_round.true)
+
+pub returns-then-has_round : goal.returns-then-has_round
+returns-then-has_round g c = (
+  record {
+    stale = c.requires.stale;
+    left = subst (λ (b : Booked). HasRound true b c.args.call) c.self.view_is (λ l live. sym (c.has_round.ensures l live) ∙ c.if-has_round.true);
+    made = c.in_ok-running.ensures.ok;
+  },
+  c.in_ok-running.ensures.latest,
+)
+
+pub returns : goal.returns
+returns g c =
+    let made = c.in_ok-commit.ensures.0 in (
+      inr (inr (record {
+        stale = c.requires.stale;
+        none_left = subst (λ (b : Booked). HasRound false b c.args.call) c.self.view_is (λ l live. sym (c.has_round.ensures l live) ∙ c.if-has_round.false);
+        mid = made.0;
+        moved = made.1;
+        committed = made.2;
+      })),
+      c.in_ok-commit.ensures.1,
+    )

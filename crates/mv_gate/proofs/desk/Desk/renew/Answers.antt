@@ -17,7 +17,8 @@ whole_task-requires-clause-fresh g c =
 
 pub number-count-requires-clause-number : goal.number-count-requires-clause-number
 number-count-requires-clause-number g c =
-    number_anew c.self.inside.book c.args.call c.start-start.result c.in_ok-task.task.executed c.in_ok-task.task c.self.invariant.turns c.start-start.ensures.value c.in_ok-task.ensures.records c.in_ok-task.ensures.executed
+    number_anew c.self.inside.book c.args.call c.start-start.result c.in_ok-task.task.executed c.in_ok-task.task c.self.invariant.turns
+    (subst (λ (b : Booked). IsLiveCall b.course c.args.call) (sym c.self.view_is) c.requires.live) (c.self.invariant.numbers c.args.call) c.start-start.ensures.value c.in_ok-task.ensures.records c.in_ok-task.ensures.executed
 
 pub returns : goal.returns
 returns g c =
