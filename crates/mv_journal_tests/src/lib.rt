@@ -9,6 +9,8 @@ mod journals;
 #[cfg(test)]
 mod kept;
 #[cfg(test)]
+mod live;
+#[cfg(test)]
 mod replays;
 #[cfg(test)]
 mod rounds;
