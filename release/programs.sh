@@ -5,7 +5,7 @@
 # crates/NAME/out/built has the checksum of the sources that crates/NAME/out/NAME was built of. release/NAME.txt tells of
 # release/NAME its own checksum (program), the kit that built it (kit), and the checksum of its sources (sources).
 
-programs='mv3c mv_where mv_overlap'
+programs='mv3c mv_where mv_overlap mv_show'
 
 # Prints the crate of a program and those that it stands on by crates.txt, lowest first, each with the crates it names.
 crates_of() { # NAME
