@@ -1,0 +1,24 @@
+use Rattle.std.proofs.Common.{◌≡◌, sym, subst}
+use Rattle.std.specs.Prelude.{IfOk, List as Seq}
+use Rattle.mv_values.specs.declared.rows.Keyed.{Keyed}
+use Rattle.mv_values.specs.Patching.{found_by}
+use Rattle.mv_values.specs.Tables.{Tables, rows_at}
+use Rattle.mv_record.specs.Admitting.{Admitted}
+use Rattle.mv_store.specs.Stored.{database_at}
+use Rattle.mv_shards.specs.Parts.{part}
+use Rattle.mv_shards.specs.Histories.{tables_at}
+use Rattle.mv_shards.specs.Kept.{StoredShard}
+use Rattle.mv_shards.proofs.Stored.{admitted_part}
+use Rattle.mv_shards.proofs.shard_store.ShardStore.rows_at.Goals as goal
+
+pub rows_at-requires : goal.rows_at-requires
+rows_at-requires g c =
+    let db : Tables = tables_at g.N.Making.script c.args.pass.now.seen c.args.n in
+    let is : database_at c.self.inside.store c.args.n ≡ part g.row.Q db = subst (λ (v : StoredShard). database_at v.store c.args.n ≡ part g.row.Q db) (sym c.self.view_is) c.in_ok-check_fresh.ensures.rows in
+    subst (λ (x : Tables). Admitted c.args.pred.now (rows_at x c.args.pred.now.table)) (sym is) (admitted_part g.row.Q c.args.pred.now db c.requires.admitted)
+
+pub returns-clause-found : goal.returns-clause-found
+returns-clause-found g c =
+    let db : Tables = tables_at g.N.Making.script c.args.pass.now.seen c.args.n in
+    let is : database_at c.self.inside.store c.args.n ≡ part g.row.Q db = subst (λ (v : StoredShard). database_at v.store c.args.n ≡ part g.row.Q db) (sym c.self.view_is) c.in_ok-check_fresh.ensures.rows in
+    subst (λ (x : Tables). IfOk c.rows_at.result (λ (rows : Seq Keyed). rows ≡ found_by c.args.pred.now x)) is c.rows_at.ensures.found

@@ -1,0 +1,52 @@
+-- Defines what a shard's lock guards: the rows of the shard in versions, and the shard's pass. This project's own.
+use Rattle.std.specs.Prelude.{◌≡◌, ◌⊎◌, ◌<◌, ◌≤◌, ◌+◌, ℕ, min, List, [], Option, Some, None, length, slice_index}
+use mathlib.Core.List.{IsPrefix}
+use Rattle.mv_values.specs.Tables.{Tables}
+use Rattle.mv_store.specs.Stored.{Versioned, database_at, own_writes}
+use Rattle.mv_seats.specs.Scripts.{Script}
+use Rattle.mv_seats.specs.Knowing.{Knows, Shard, Gate}
+use Rattle.mv_shards.specs.Parts.{part}
+use Rattle.mv_shards.specs.Histories.{IsSteady, tables_at}
+
+-- what contracts see of a shard: its rows in versions, and what its pass knows
+pub record StoredShard : Type 0 where
+  pub store : Versioned
+  pub knows : Knows
+
+-- the low is 0, or a horizon is given and keeps all from low on of n commits
+abbrev pub IsLow : Option ℕ → ℕ → ℕ → Type 0
+IsLow None low n = low ≡ 0
+IsLow (Some h) low n = (low ≡ 0) ⊎ (low + h ≤ n)
+
+-- a shard holds its part of the tables after each commit from its low on. Its last commit is its mark on the board. No
+-- later commit that its pass has seen is in it
+pub record IsShardStore (s : Script) (q : ℕ) (store : Versioned) (k : Knows) : Type 0 where
+  pub role : k.role ≡ Shard q
+  pub there : q < s.shards
+  pub steady : IsSteady s
+  -- the last commit is one that the pass has seen, and the pass knows the mark
+  pub seen : store.last ≤ length k.seen
+  pub mark : slice_index k.marks q ≡ store.last
+  -- no call has writes that aren't committed
+  pub own : (call : ℕ) → own_writes store call ≡ []
+  pub kept : store.low ≤ store.last
+  pub rows : (m : ℕ) → store.low ≤ m → database_at store m ≡ part q (tables_at s k.seen (min m store.last))
+  pub low : IsLow s.options.horizon store.low (length k.seen)
+
+-- a pass has seen no less, knows no lower mark, and has the same roles
+pub record HasGrown (old new : Knows) : Type 0 where
+  pub role : new.role ≡ old.role
+  pub handed : new.handed ≡ old.handed
+  pub seen : IsPrefix old.seen new.seen
+  pub marks : (q : ℕ) → slice_index old.marks q ≤ slice_index new.marks q
+
+-- shards can be made: the pass is the gate's and has seen no commit, and the script has this opening database and horizon
+pub record MayMake (s : Script) (opening : Tables) (horizon : Option ℕ) (k : Knows) : Type 0 where
+  pub role : k.role ≡ Gate
+  pub seen : k.seen ≡ []
+  pub marks : k.marks ≡ []
+  pub steady : IsSteady s
+  pub shards : s.shards ≡ 8
+  pub opens : opening ≡ s.opening
+  pub few : length opening ≤ 256
+  pub waits : horizon ≡ s.options.horizon

@@ -1,0 +1,6 @@
+pub mod Parts
+pub mod Histories
+pub mod Kept
+pub mod Installing
+pub mod Reads
+pub mod Ledgers

@@ -1,0 +1,121 @@
+//! What the gate keeps of its shards: how far they have come, and when each has last changed.
+
+ghost use Rattle.std.specs.Prelude.{◌≡◌, ◌<◌, ◌+◌, ◌++◌, ◌∷◌, [], IfOk, OnErr, false, length};
+ghost use Rattle.std.specs.List.{list_any};
+ghost use lib.Dec.{eqb};
+ghost use mathlib.Core.List.{IsPrefix};
+ghost use Rattle.mv_history.specs.Changes.{changes_between};
+ghost use Rattle.mv_seats.specs.Knowing.{Plain, Gate};
+ghost use Rattle.mv_shards.specs.Histories.{IsSteady, tables_at};
+ghost use Rattle.mv_shards.specs.Installing.{Leads};
+ghost use Rattle.mv_shards.specs.Ledgers.{IsLedger, AreTouched};
+
+use crate::notes::note;
+use crate::parts::{SHARDS, shard_of};
+use crate::shards::Shards;
+use crate::start::Start;
+use mv_history::change::Change;
+use mv_seats::board::{Board, Making};
+use mv_seats::pass::Pass;
+use mv_values::copied::Copied;
+use mv_values::list::List;
+use mv_values::memory::NoMemory;
+use mv_values::patch::Write;
+use std::alloc::Global;
+use std::marker::Model;
+use std::sync::Wait;
+
+/// The gate's pass, the number of commits, and for each shard the last commit that changes a row of it, or 0.
+#[derive(Drop)]
+pub struct Ledger<N: Making> {
+    pass: Pass<N>,
+    commits: u32,
+    touched: List<u32>,
+}
+
+impl<N: Making> Model for Ledger<N> {
+    ghost use Rattle.mv_shards.specs.Ledgers.{Entered, IsLedger};
+
+    ghost Value = { Entered };
+
+    ghost view = { λ l. record { knows = l.pass; commits = l.commits; touched = l.touched } };
+
+    ghost invariant = { λ l. IsLedger N.script l.pass l.commits l.touched };
+}
+
+impl<N: Making> Ledger<N> {
+    /// Returns the ledger before any commit. The pass must be the gate's, as `Shards::new` leaves it.
+    pub fn new(alloc: Global, pass: Pass<N>) -> Result<Ledger<N>, NoMemory>
+        requires role { pass.role ≡ Gate }
+        requires seen { pass.seen ≡ [] }
+        requires steady { IsSteady N.script }
+        ensures commits { IfOk result (λ ledger. ledger.commits ≡ 0) }
+        ensures knows { IfOk result (λ ledger. ledger.knows ≡ pass) }
+    {
+        let mut touched = List::new(alloc);
+        touched.append(&[0; SHARDS as usize])?;
+        Ok(Ledger {
+            pass,
+            commits: 0,
+            touched,
+        })
+    }
+
+    /// Returns the start after all commits. Its pass has seen what the other pass, which must be plain, had seen.
+    pub fn start(
+        &mut self,
+        alloc: Global,
+        board: &Board<N>,
+        other: &mut Pass<N>,
+    ) -> Result<Start<N>, NoMemory>
+        requires plain { other.old.role ≡ Plain }
+        ensures same { other.new ≡ other.old }
+        ensures commits { self.new.commits ≡ self.old.commits }
+        ensures kept { self.new.knows.seen ≡ self.old.knows.seen }
+        ensures number { IfOk result (λ start. start.number ≡ self.old.commits) }
+        ensures all { IfOk result (λ start. start.number ≡ length start.knows.seen) }
+        ensures seen { IfOk result (λ start. IsPrefix other.old.seen start.knows.seen) }
+    {
+        let theirs = note(other, board);
+        self.pass.meet(board, theirs);
+        let touched = self.touched.copy(alloc)?;
+        Ok(Start::of(note(&mut self.pass, board), self.commits, touched))
+    }
+
+    /// Appends a call as commit n with these writes, which each shard that they are to then has, and returns n. `changes`
+    /// must be those of the commit. If memory runs out, the call hasn't committed.
+    pub fn commit<R: Wait>(
+        &mut self,
+        rt: &R,
+        alloc: Global,
+        board: &Board<N>,
+        shards: &Shards<N>,
+        call: u32,
+        writes: &List<Write>,
+        changes: &[Change],
+    ) -> Result<u32, NoMemory>
+        requires call { call < length N.script.calls }
+        requires fresh { list_any (eqb call) self.old.knows.seen ≡ false }
+        requires leads { Leads N.script self.old.knows call writes.now }
+        requires changes { changes.now ≡ changes_between (tables_at N.script self.old.knows.seen self.old.commits) (tables_at N.script (self.old.knows.seen ++ call ∷ []) (self.old.commits + 1)) }
+        ensures number { IfOk result (λ n. n ≡ self.old.commits + 1) }
+        ensures appended { IfOk result (λ n. self.new.knows.seen ≡ self.old.knows.seen ++ call ∷ []) }
+        ensures err { OnErr result (self.new.knows.seen ≡ self.old.knows.seen) }
+    {
+        let n = shards.install(rt, alloc, board, &mut self.pass, call, writes)?;
+        touch(&mut self.touched, changes, n);
+        self.commits = n;
+        Ok(n)
+    }
+}
+
+/// Notes that commit n has made these changes.
+fn touch(touched: &mut List<u32>, changes: &[Change], n: u32)
+    requires { length touched.old ≡ 8 }
+    ensures size { length touched.new ≡ 8 }
+    ensures each { AreTouched changes.now n touched.old touched.new }
+{
+    for change in changes {
+        touched.set(shard_of(change.table, &change.key) as usize, n);
+    }
+}

@@ -1,0 +1,288 @@
+//! What lies behind the lock of a shard.
+
+ghost use Rattle.std.specs.Prelude.{◌≡◌, ◌⊎◌, ◌<◌, ◌≤◌, ◌∷◌, IfOk, IfErr, OnOk, OnErr, true, length, slice_index};
+ghost use mathlib.Core.List.{IsPrefix};
+ghost use Rattle.mv_values.specs.Patching.{found_by, row_of};
+ghost use Rattle.mv_values.specs.Preds.{matched};
+ghost use Rattle.mv_table.specs.Scans.{foremost};
+ghost use Rattle.mv_view.specs.Narrowing.{outside};
+ghost use Rattle.mv_values.specs.Tables.{rows_at};
+ghost use Rattle.mv_record.specs.Admitting.{Admitted};
+ghost use Rattle.mv_store.specs.Stored.{database_at};
+ghost use Rattle.mv_seats.specs.Knowing.{Plain, Gate, Shard, has_role, handing};
+ghost use Rattle.mv_shards.specs.Parts.{part, writes_to};
+ghost use Rattle.mv_shards.specs.Histories.{tables_at, last_touch};
+ghost use Rattle.mv_shards.specs.Kept.{MayMake, HasGrown};
+ghost use Rattle.mv_shards.specs.Installing.{MayInstall, HasInstalled, HasNotInstalled};
+ghost use Rattle.mv_shards.specs.Reads.{IsRefusal};
+
+use crate::notes::note;
+use crate::opening::part_of;
+use crate::parts::put_in;
+use crate::shard_list::ShardList;
+use mv_seats::board::{Board, Making};
+use mv_seats::pass::Pass;
+use mv_store::store::Store;
+use mv_table::scan::Direction;
+use mv_values::memory::NoMemory;
+use mv_values::patch::Write;
+use mv_values::pred::Pred;
+use mv_values::rows::{Database, Keyed, Rows};
+use mv_values::value::{Key, Row};
+use mv_view::key_set::KeySet;
+use mv_view::view::Refused;
+use std::alloc::Global;
+use std::marker::Model;
+use std::sync::Wait;
+
+/// The rows of shard `Q` after each commit up to its mark, and the shard's pass.
+#[derive(Drop)]
+pub(crate) struct ShardStore<N: Making, const Q: u32> {
+    store: Store,
+    pass: Pass<N>,
+    horizon: Option<u32>,
+}
+
+impl<N: Making, const Q: u32> Model for ShardStore<N, Q> {
+    ghost use Rattle.std.specs.Prelude.{◌≡◌};
+    ghost use Rattle.mv_shards.specs.Kept.{StoredShard, IsShardStore};
+
+    ghost Value = { StoredShard };
+
+    ghost view = { λ s. record { store = s.store; knows = s.pass } };
+
+    ghost invariant = { λ s. IsShardStore N.script Q s.store s.pass × (s.horizon ≡ N.script.options.horizon) };
+}
+
+/// A shard's pass learns that all commits were made that the other pass has seen, and raises the shard's mark to n. The
+/// other pass learns the mark.
+fn raise_mark<N: Making>(
+    own: &mut Pass<N>,
+    board: &Board<N>,
+    pass: &mut Pass<N>,
+    shard: u32,
+    n: u32,
+)
+    requires own { own.old.role ≡ Shard shard }
+    requires there { shard < N.script.shards }
+    requires gate { pass.old.role ≡ Gate }
+    requires rises { slice_index own.old.marks shard ≤ n }
+    requires seen { n ≤ length pass.old.seen }
+    requires more { length own.old.seen < length pass.old.seen }
+    ensures role { own.new.role ≡ Shard shard }
+    ensures seen { own.new.seen ≡ pass.old.seen }
+    ensures mark { slice_index own.new.marks shard ≡ n }
+    ensures grown { HasGrown pass.old pass.new }
+    ensures same { pass.new.seen ≡ pass.old.seen }
+    ensures known { n ≤ slice_index pass.new.marks shard }
+{
+    let theirs = note(pass, board);
+    own.meet(board, theirs);
+    own.installed(board, shard);
+    own.install(board, shard, n);
+    let mine = note(own, board);
+    pass.meet(board, mine);
+}
+
+impl<N: Making, const Q: u32> ShardStore<N, Q> {
+    /// Returns shard `Q` of a database, before any commit. The gate's pass hands its role out, unless memory runs out.
+    pub(crate) fn new(
+        alloc: Global,
+        opening: &Database,
+        horizon: Option<u32>,
+        board: &Board<N>,
+        pass: &mut Pass<N>,
+    ) -> Result<ShardStore<N, Q>, NoMemory>
+        requires may { MayMake N.script opening.now horizon pass.old }
+        requires there { Q < 8 }
+        requires has { has_role pass.old Q ≡ true }
+        ensures handed { OnOk result (pass.new ≡ handing pass.old Q) }
+        ensures next { OnOk result (MayMake N.script opening.now horizon pass.new) }
+    {
+        let part = part_of(alloc, Q, opening)?;
+        let store = Store::new(alloc, &part)?;
+        let pass = pass.hand(board, Q);
+        Ok(ShardStore {
+            store,
+            pass,
+            horizon,
+        })
+    }
+
+    /// Shard and pass learn what the other has seen, and the pass learns the shard's mark.
+    fn exchange(&mut self, board: &Board<N>, pass: &mut Pass<N>)
+        requires { (pass.old.role ≡ Plain) ⊎ (pass.old.role ≡ Gate) }
+        ensures same { self.new.store ≡ self.old.store }
+        ensures here { IsPrefix self.old.knows.seen self.new.knows.seen }
+        ensures there { IsPrefix pass.old.seen self.new.knows.seen }
+        ensures back { IsPrefix self.new.knows.seen pass.new.seen }
+        ensures mark { slice_index pass.old.marks Q ≤ self.new.store.last }
+        ensures known { self.new.store.last ≤ slice_index pass.new.marks Q }
+        ensures grown { HasGrown pass.old pass.new }
+        ensures gate { pass.old.role ≡ Gate → pass.new.seen ≡ pass.old.seen }
+    {
+        let theirs = note(pass, board);
+        self.pass.meet(board, theirs);
+        self.pass.installed(board, Q);
+        let mine = note(&mut self.pass, board);
+        pass.meet(board, mine);
+    }
+
+    /// Shard and pass learn what the other has seen, so the shard's rows after n commits are those of the history that the
+    /// pass has seen. Fails with `Stale` if they may be gone.
+    fn check_fresh(&mut self, board: &Board<N>, pass: &mut Pass<N>, n: u32) -> Result<(), Refused>
+        requires role { pass.old.role ≡ Plain }
+        requires past { n ≤ length pass.old.seen }
+        requires known { last_touch N.script Q pass.old.seen n ≤ slice_index pass.old.marks Q }
+        ensures rows { OnOk result (database_at self.new.store n ≡ part Q (tables_at N.script pass.old.seen n)) }
+        ensures fresh { OnOk result (self.new.store.low ≤ n) }
+        ensures refused { IfErr result (IsRefusal N.script n (length pass.new.seen)) }
+        ensures grown { HasGrown pass.old pass.new }
+    {
+        self.exchange(board, pass);
+        let low = self.store.low();
+        if n < low {
+            return Err(Refused::Stale { start: n, low });
+        }
+        Ok(())
+    }
+
+    /// Returns copies of the shard's rows that the predicate matches after n commits of the history that the pass has
+    /// seen.
+    pub(crate) fn rows_at(
+        &mut self,
+        alloc: Global,
+        board: &Board<N>,
+        pass: &mut Pass<N>,
+        n: u32,
+        pred: &Pred,
+    ) -> Result<Rows, Refused>
+        requires role { pass.old.role ≡ Plain }
+        requires past { n ≤ length pass.old.seen }
+        requires known { last_touch N.script Q pass.old.seen n ≤ slice_index pass.old.marks Q }
+        requires admitted { Admitted pred.now (rows_at (tables_at N.script pass.old.seen n) pred.now.table) }
+        ensures found { IfOk result (λ rows. rows ≡ found_by pred.now (part Q (tables_at N.script pass.old.seen n))) }
+        ensures refused { IfErr result (IsRefusal N.script n (length pass.new.seen)) }
+        ensures grown { HasGrown pass.old pass.new }
+    {
+        self.check_fresh(board, pass, n)?;
+        self.store.rows_at(alloc, n, pred)
+    }
+
+    /// Returns a copy of the shard's row under a key after n commits of the history that the pass has seen.
+    pub(crate) fn row_at(
+        &mut self,
+        alloc: Global,
+        board: &Board<N>,
+        pass: &mut Pass<N>,
+        n: u32,
+        table: u8,
+        key: &Key,
+    ) -> Result<Option<Row>, Refused>
+        requires role { pass.old.role ≡ Plain }
+        requires past { n ≤ length pass.old.seen }
+        requires known { last_touch N.script Q pass.old.seen n ≤ slice_index pass.old.marks Q }
+        ensures found { IfOk result (λ row. row ≡ row_of (rows_at (part Q (tables_at N.script pass.old.seen n)) table) key.now) }
+        ensures refused { IfErr result (IsRefusal N.script n (length pass.new.seen)) }
+        ensures grown { HasGrown pass.old pass.new }
+    {
+        self.check_fresh(board, pass, n)?;
+        self.store.row_at(alloc, n, table, key)
+    }
+
+    /// Returns a copy of the shard's row under a key after n commits of the history that the pass has seen, if the
+    /// predicate matches it.
+    pub(crate) fn match_at(
+        &mut self,
+        alloc: Global,
+        board: &Board<N>,
+        pass: &mut Pass<N>,
+        n: u32,
+        pred: &Pred,
+        key: &Key,
+    ) -> Result<Option<Row>, Refused>
+        requires role { pass.old.role ≡ Plain }
+        requires past { n ≤ length pass.old.seen }
+        requires known { last_touch N.script Q pass.old.seen n ≤ slice_index pass.old.marks Q }
+        ensures found { IfOk result (λ row. row ≡ matched pred.now (row_of (rows_at (part Q (tables_at N.script pass.old.seen n)) pred.now.table) key.now)) }
+        ensures refused { IfErr result (IsRefusal N.script n (length pass.new.seen)) }
+        ensures grown { HasGrown pass.old pass.new }
+    {
+        self.check_fresh(board, pass, n)?;
+        self.store.match_at(alloc, n, pred, key)
+    }
+
+    /// Returns a copy of the shard's first row in this direction that the predicate matches after n commits of the history
+    /// that the pass has seen and whose key isn't in `passed`.
+    pub(crate) fn foremost_at<K: KeySet>(
+        &mut self,
+        alloc: Global,
+        board: &Board<N>,
+        pass: &mut Pass<N>,
+        n: u32,
+        pred: &Pred,
+        direction: Direction,
+        passed: &K,
+    ) -> Result<Option<Keyed>, Refused>
+        requires role { pass.old.role ≡ Plain }
+        requires past { n ≤ length pass.old.seen }
+        requires known { last_touch N.script Q pass.old.seen n ≤ slice_index pass.old.marks Q }
+        requires admitted { Admitted pred.now (rows_at (tables_at N.script pass.old.seen n) pred.now.table) }
+        ensures found { IfOk result (λ row. row ≡ foremost direction (outside (K.has passed.now) (found_by pred.now (part Q (tables_at N.script pass.old.seen n))))) }
+        ensures refused { IfErr result (IsRefusal N.script n (length pass.new.seen)) }
+        ensures grown { HasGrown pass.old pass.new }
+    {
+        self.check_fresh(board, pass, n)?;
+        self.store.foremost_at(alloc, n, pred, direction, passed)
+    }
+
+    /// Appends a call, after the writes of it that are to this shard and the shards of `rest` were put, and then makes
+    /// these commit n. Returns n.
+    pub(crate) fn install<R: Wait, L: ShardList<N>>(
+        &mut self,
+        rt: &R,
+        alloc: Global,
+        board: &Board<N>,
+        pass: &mut Pass<N>,
+        call: u32,
+        writes: &[Write],
+        rest: &L,
+    ) -> Result<u32, NoMemory>
+        requires may { MayInstall N.script (Q ∷ L.numbers) call writes.now pass.old }
+        requires touched { writes_to Q writes.now ≡ true }
+        ensures ok { IfOk result (λ n. HasInstalled (Q ∷ L.numbers) call writes.now n pass.old pass.new) }
+        ensures err { OnErr result (HasNotInstalled pass.old pass.new) }
+    {
+        self.exchange(board, pass);
+        let _last = self.store.last();
+        put_in(&mut self.store, alloc, Q, call, writes)?;
+        let n = match rest.install(rt, alloc, board, pass, call, writes) {
+            Ok(n) => n,
+            Err(e) => {
+                self.store.drop_of(call);
+                return Err(e);
+            }
+        };
+        self.store.stamp(call, n);
+        raise_mark(&mut self.pass, board, pass, Q, n);
+        Ok(n)
+    }
+
+    /// Drops the rows before commit `low`, or before the shard's last commit less the horizon if that is lower. Without a
+    /// horizon it does nothing.
+    pub(crate) fn collect(&mut self, low: u32)
+        ensures { self.new.knows ≡ self.old.knows }
+    {
+        let Some(horizon) = self.horizon else {
+            return;
+        };
+        let last = self.store.last();
+        if last < horizon {
+            return;
+        }
+        let to = low.min(last - horizon);
+        if self.store.low() < to {
+            self.store.raise(to);
+        }
+    }
+}

@@ -1,0 +1,190 @@
+//! The rows of a database in eight shards.
+
+ghost use Rattle.std.specs.Prelude.{◌≡◌, ◌<◌, [], IfOk, IfErr, OnOk, OnErr, length};
+ghost use mathlib.Core.List.{IsPrefix};
+ghost use Rattle.mv_values.specs.Patching.{found_by, row_of};
+ghost use Rattle.mv_values.specs.Preds.{matched};
+ghost use Rattle.mv_values.specs.Tables.{rows_at};
+ghost use Rattle.mv_record.specs.Admitting.{Admitted};
+ghost use Rattle.mv_seats.specs.Knowing.{gate_pass, Gate};
+ghost use Rattle.mv_table.specs.Scans.{foremost};
+ghost use Rattle.mv_view.specs.Narrowing.{outside};
+ghost use Rattle.mv_shards.specs.Parts.{eight};
+ghost use Rattle.mv_shards.specs.Histories.{tables_at};
+ghost use Rattle.mv_shards.specs.Kept.{MayMake, HasGrown};
+ghost use Rattle.mv_shards.specs.Installing.{MayInstall, HasInstalled, HasNotInstalled};
+ghost use Rattle.mv_shards.specs.Reads.{IsRefusal, MayRead};
+
+use crate::reads::{foremost_over, match_over, row_over, rows_from, rows_over};
+use crate::shard_list::{ShardList, ShardNode, make_node};
+use crate::start::Start;
+use crate::two_to_seven::TwoToSeven;
+use mv_seats::board::{Board, Making};
+use mv_seats::pass::Pass;
+use mv_table::scan::Direction;
+use mv_values::list::List;
+use mv_values::memory::NoMemory;
+use mv_values::patch::Write;
+use mv_values::pred::Pred;
+use mv_values::rows::{Database, Keyed, Rows};
+use mv_values::value::{Key, Row};
+use mv_view::key_set::KeySet;
+use mv_view::view::Refused;
+use std::alloc::Global;
+use std::sync::Wait;
+
+/// The rows of a database, each in one of eight shards. Each shard is behind its own lock.
+#[derive(Drop)]
+pub struct Shards<N: Making> {
+    list: ShardNode<N, 0, ShardNode<N, 1, TwoToSeven<N>>>,
+}
+
+impl<N: Making> Shards<N> {
+    /// Returns the shards of a database, before any commit. The pass must be the gate's as `Blank::open` gives it, and
+    /// then has no shard's role. If memory runs out, it may have fewer roles. It copies the database twice.
+    pub fn new(
+        alloc: Global,
+        opening: &Database,
+        horizon: Option<u32>,
+        board: &Board<N>,
+        pass: &mut Pass<N>,
+    ) -> Result<Shards<N>, NoMemory>
+        requires may { MayMake N.script opening.now horizon pass.old }
+        requires pass { pass.old ≡ gate_pass }
+        ensures role { OnOk result (pass.new.role ≡ Gate) }
+        ensures seen { OnOk result (pass.new.seen ≡ []) }
+        ensures marks { OnOk result (pass.new.marks ≡ []) }
+    {
+        let rest = TwoToSeven::<N>::new(alloc, opening, horizon, board, pass)?;
+        let first = make_node::<N, 1, TwoToSeven<N>>(alloc, opening, horizon, board, pass, rest)?;
+        let list = make_node::<N, 0, ShardNode<N, 1, TwoToSeven<N>>>(
+            alloc, opening, horizon, board, pass, first,
+        )?;
+        Ok(Shards { list })
+    }
+
+    /// Appends a call as commit n with these writes, and returns n. It holds the locks of the written shards together.
+    pub fn install<R: Wait>(
+        &self,
+        rt: &R,
+        alloc: Global,
+        board: &Board<N>,
+        pass: &mut Pass<N>,
+        call: u32,
+        writes: &List<Write>,
+    ) -> Result<u32, NoMemory>
+        requires { MayInstall N.script eight call writes.now pass.old }
+        ensures ok { IfOk result (λ n. HasInstalled eight call writes.now n pass.old pass.new) }
+        ensures err { OnErr result (HasNotInstalled pass.old pass.new) }
+    {
+        self.list
+            .install(rt, alloc, board, pass, call, writes.as_slice())
+    }
+
+    /// Returns copies of the rows that the predicate matches at a start, in key order. It looks at one shard if the
+    /// predicate fixes it, and else at one after another.
+    pub fn rows_at<R: Wait>(
+        &self,
+        rt: &R,
+        alloc: Global,
+        board: &Board<N>,
+        start: &mut Start<N>,
+        pred: &Pred,
+    ) -> Result<Rows, Refused>
+        requires admitted { Admitted pred.now (rows_at (tables_at N.script start.old.knows.seen start.old.number) pred.now.table) }
+        ensures found { IfOk result (λ rows. rows ≡ found_by pred.now (tables_at N.script start.old.knows.seen start.old.number)) }
+        ensures refused { IfErr result (IsRefusal N.script start.old.number (length start.new.knows.seen)) }
+        ensures seen { IsPrefix start.old.knows.seen start.new.knows.seen }
+        ensures number { start.new.number ≡ start.old.number }
+        ensures touched { start.new.touched ≡ start.old.touched }
+    {
+        rows_from(&self.list, rt, alloc, board, start, pred)
+    }
+
+    /// Returns copies of the rows that the predicate matches after n commits of what the pass has seen.
+    pub(crate) fn rows_after<R: Wait>(
+        &self,
+        rt: &R,
+        alloc: Global,
+        board: &Board<N>,
+        pass: &mut Pass<N>,
+        n: u32,
+        pred: &Pred,
+    ) -> Result<Rows, Refused>
+        requires may { MayRead N.script eight n pass.old }
+        requires admitted { Admitted pred.now (rows_at (tables_at N.script pass.old.seen n) pred.now.table) }
+        ensures found { IfOk result (λ rows. rows ≡ found_by pred.now (tables_at N.script pass.old.seen n)) }
+        ensures refused { IfErr result (IsRefusal N.script n (length pass.new.seen)) }
+        ensures grown { HasGrown pass.old pass.new }
+    {
+        rows_over(&self.list, rt, alloc, board, pass, n, pred)
+    }
+
+    /// Returns a copy of the first row in this direction that the predicate matches after n commits of what the pass has
+    /// seen and whose key isn't in `passed`.
+    pub(crate) fn foremost_after<R: Wait, K: KeySet>(
+        &self,
+        rt: &R,
+        alloc: Global,
+        board: &Board<N>,
+        pass: &mut Pass<N>,
+        n: u32,
+        pred: &Pred,
+        direction: Direction,
+        passed: &K,
+    ) -> Result<Option<Keyed>, Refused>
+        requires may { MayRead N.script eight n pass.old }
+        requires admitted { Admitted pred.now (rows_at (tables_at N.script pass.old.seen n) pred.now.table) }
+        ensures found { IfOk result (λ row. row ≡ foremost direction (outside (K.has passed.now) (found_by pred.now (tables_at N.script pass.old.seen n)))) }
+        ensures refused { IfErr result (IsRefusal N.script n (length pass.new.seen)) }
+        ensures grown { HasGrown pass.old pass.new }
+    {
+        foremost_over(
+            &self.list, rt, alloc, board, pass, n, pred, direction, passed,
+        )
+    }
+
+    /// Returns a copy of the row under a key after n commits of what the pass has seen.
+    pub(crate) fn row_after<R: Wait>(
+        &self,
+        rt: &R,
+        alloc: Global,
+        board: &Board<N>,
+        pass: &mut Pass<N>,
+        n: u32,
+        table: u8,
+        key: &Key,
+    ) -> Result<Option<Row>, Refused>
+        requires { MayRead N.script eight n pass.old }
+        ensures found { IfOk result (λ row. row ≡ row_of (rows_at (tables_at N.script pass.old.seen n) table) key.now) }
+        ensures refused { IfErr result (IsRefusal N.script n (length pass.new.seen)) }
+        ensures grown { HasGrown pass.old pass.new }
+    {
+        row_over(&self.list, rt, alloc, board, pass, n, table, key)
+    }
+
+    /// Returns a copy of the row under a key after n commits of what the pass has seen, if the predicate matches it.
+    pub(crate) fn match_after<R: Wait>(
+        &self,
+        rt: &R,
+        alloc: Global,
+        board: &Board<N>,
+        pass: &mut Pass<N>,
+        n: u32,
+        pred: &Pred,
+        key: &Key,
+    ) -> Result<Option<Row>, Refused>
+        requires { MayRead N.script eight n pass.old }
+        ensures found { IfOk result (λ row. row ≡ matched pred.now (row_of (rows_at (tables_at N.script pass.old.seen n) pred.now.table) key.now)) }
+        ensures refused { IfErr result (IsRefusal N.script n (length pass.new.seen)) }
+        ensures grown { HasGrown pass.old pass.new }
+    {
+        match_over(&self.list, rt, alloc, board, pass, n, pred, key)
+    }
+
+    /// Drops the rows of each shard before commit `low`, or before the shard's last commit less the horizon if that is
+    /// lower. Without a horizon it does nothing.
+    pub fn collect<R: Wait>(&self, rt: &R, low: u32) {
+        self.list.collect(rt, low);
+    }
+}

@@ -1,0 +1,144 @@
+//! Shards 2 to 7, as one type.
+
+ghost use Rattle.std.specs.Prelude.{◌≡◌, ◌∷◌, [], OnOk};
+ghost use Rattle.mv_shards.specs.Kept.{MayMake};
+
+use crate::four_to_seven::FourToSeven;
+use crate::shard_list::{ShardList, ShardNode, make_node};
+use mv_seats::board::{Board, Making};
+use mv_seats::pass::Pass;
+use mv_table::scan::Direction;
+use mv_table::table::Table;
+use mv_values::memory::NoMemory;
+use mv_values::patch::Write;
+use mv_values::pred::Pred;
+use mv_values::rows::{Database, Keyed, Rows};
+use mv_values::value::{Key, Row};
+use mv_view::key_set::KeySet;
+use mv_view::view::Refused;
+use std::alloc::Global;
+use std::sync::Wait;
+
+/// Shards 2 to 7.
+#[derive(Drop)]
+pub(crate) struct TwoToSeven<N: Making> {
+    list: ShardNode<N, 2, ShardNode<N, 3, FourToSeven<N>>>,
+}
+
+impl<N: Making> TwoToSeven<N> {
+    /// Returns shards 2 to 7 of a database, before any commit. The gate's pass hands their roles out, or fewer if memory
+    /// runs out.
+    pub(crate) fn new(
+        alloc: Global,
+        opening: &Database,
+        horizon: Option<u32>,
+        board: &Board<N>,
+        pass: &mut Pass<N>,
+    ) -> Result<TwoToSeven<N>, NoMemory>
+        requires may { MayMake N.script opening.now horizon pass.old }
+        requires none { pass.old.handed ≡ [] }
+        ensures handed { OnOk result (pass.new.handed ≡ 2 ∷ 3 ∷ 4 ∷ 5 ∷ 6 ∷ 7 ∷ []) }
+        ensures next { OnOk result (MayMake N.script opening.now horizon pass.new) }
+    {
+        let rest = FourToSeven::<N>::new(alloc, opening, horizon, board, pass)?;
+        let third = make_node::<N, 3, FourToSeven<N>>(alloc, opening, horizon, board, pass, rest)?;
+        let list = make_node::<N, 2, ShardNode<N, 3, FourToSeven<N>>>(
+            alloc, opening, horizon, board, pass, third,
+        )?;
+        Ok(TwoToSeven { list })
+    }
+}
+
+impl<N: Making> ShardList<N> for TwoToSeven<N> {
+    ghost use Rattle.std.specs.Prelude.{◌∷◌, []};
+
+    ghost numbers = { 2 ∷ 3 ∷ 4 ∷ 5 ∷ 6 ∷ 7 ∷ [] };
+
+    fn install<R: Wait>(
+        &self,
+        rt: &R,
+        alloc: Global,
+        board: &Board<N>,
+        pass: &mut Pass<N>,
+        call: u32,
+        writes: &[Write],
+    ) -> Result<u32, NoMemory> {
+        self.list.install(rt, alloc, board, pass, call, writes)
+    }
+
+    fn rows_of<R: Wait>(
+        &self,
+        rt: &R,
+        alloc: Global,
+        board: &Board<N>,
+        pass: &mut Pass<N>,
+        n: u32,
+        shard: u32,
+        pred: &Pred,
+    ) -> Result<Rows, Refused> {
+        self.list.rows_of(rt, alloc, board, pass, n, shard, pred)
+    }
+
+    fn row_of<R: Wait>(
+        &self,
+        rt: &R,
+        alloc: Global,
+        board: &Board<N>,
+        pass: &mut Pass<N>,
+        n: u32,
+        shard: u32,
+        table: u8,
+        key: &Key,
+    ) -> Result<Option<Row>, Refused> {
+        self.list
+            .row_of(rt, alloc, board, pass, n, shard, table, key)
+    }
+
+    fn match_of<R: Wait>(
+        &self,
+        rt: &R,
+        alloc: Global,
+        board: &Board<N>,
+        pass: &mut Pass<N>,
+        n: u32,
+        shard: u32,
+        pred: &Pred,
+        key: &Key,
+    ) -> Result<Option<Row>, Refused> {
+        self.list
+            .match_of(rt, alloc, board, pass, n, shard, pred, key)
+    }
+
+    fn foremost_of<R: Wait, K: KeySet>(
+        &self,
+        rt: &R,
+        alloc: Global,
+        board: &Board<N>,
+        pass: &mut Pass<N>,
+        n: u32,
+        shard: u32,
+        pred: &Pred,
+        direction: Direction,
+        passed: &K,
+    ) -> Result<Option<Keyed>, Refused> {
+        self.list
+            .foremost_of(rt, alloc, board, pass, n, shard, pred, direction, passed)
+    }
+
+    fn gather<R: Wait>(
+        &self,
+        rt: &R,
+        alloc: Global,
+        board: &Board<N>,
+        pass: &mut Pass<N>,
+        n: u32,
+        pred: &Pred,
+        found: &mut Table,
+    ) -> Result<(), Refused> {
+        self.list.gather(rt, alloc, board, pass, n, pred, found)
+    }
+
+    fn collect<R: Wait>(&self, rt: &R, low: u32) {
+        self.list.collect(rt, low);
+    }
+}

@@ -1,0 +1,186 @@
+//! A view of shards.
+
+ghost use Rattle.std.specs.Prelude.{◌≡◌, ◌<◌, ◌^◌, length};
+ghost use Rattle.std.specs.Option.{is_some};
+ghost use Rattle.mv_view.specs.Viewing.{Sight};
+ghost use Rattle.mv_shards.specs.Histories.{tables_at};
+ghost use Rattle.mv_shards.specs.Kept.{IsLow};
+ghost use Rattle.mv_shards.specs.Reads.{answers_after, low_after};
+
+use crate::notes::note;
+use crate::shards::Shards;
+use crate::start::Start;
+use mv_seats::board::{Board, Making};
+use mv_seats::pass::Pass;
+use mv_table::scan::Direction;
+use mv_values::pred::Pred;
+use mv_values::rows::{Keyed, Rows};
+use mv_values::value::{Key, Row};
+use mv_view::key_set::KeySet;
+use mv_view::view::{Refused, View};
+use std::alloc::Global;
+use std::marker::Model;
+use std::sync::Wait;
+
+/// A view of the tables at a start, of the history that its own pass has seen. Each look-up takes the lock of a shard.
+#[derive(Drop)]
+pub struct ShardsView<'a, N: Making, R: Wait> {
+    rt: &'a R,
+    shards: &'a Shards<N>,
+    board: &'a Board<N>,
+    pass: Pass<N>,
+    start: u32,
+    stale_answers: u64,
+    last_low: u32,
+    rows_calls: u64,
+    row_calls: u64,
+}
+
+impl<'a, N: Making, R: Wait> Model for ShardsView<'a, N, R> {
+    ghost use Rattle.std.specs.Prelude.{length};
+    ghost use Rattle.std.specs.Option.{is_some};
+    ghost use Rattle.mv_shards.specs.Parts.{eight};
+    ghost use Rattle.mv_shards.specs.Histories.{tables_at};
+    ghost use Rattle.mv_shards.specs.Kept.{IsLow};
+    ghost use Rattle.mv_shards.specs.Reads.{MayRead, Sighted};
+
+    ghost Value = { Sighted };
+
+    ghost view = { λ v. record { sight = record { database = tables_at N.script v.pass.seen v.start; start = v.start; may_be_stale = is_some N.script.options.horizon; stale_answers = v.stale_answers; last_low = v.last_low; rows_calls = v.rows_calls; row_calls = v.row_calls }; seen = v.pass.seen } };
+
+    ghost invariant = { λ v. MayRead N.script eight v.start v.pass × IsLow N.script.options.horizon v.last_low (length v.pass.seen) };
+}
+
+impl<'a, N: Making, R: Wait> ShardsView<'a, N, R> {
+    /// Returns a view of the tables at a start, before any query. It allocates no memory.
+    pub fn new(
+        rt: &'a R,
+        shards: &'a Shards<N>,
+        board: &'a Board<N>,
+        start: &mut Start<N>,
+    ) -> ShardsView<'a, N, R>
+        ensures sight { result.sight ≡ record { database = tables_at N.script start.old.knows.seen start.old.number; start = start.old.number; may_be_stale = is_some N.script.options.horizon; stale_answers = 0; last_low = 0; rows_calls = 0; row_calls = 0 } }
+        ensures seen { result.seen ≡ start.old.knows.seen }
+        ensures same { start.new ≡ start.old }
+    {
+        let pass = note(&mut start.pass, board);
+        ShardsView {
+            rt,
+            shards,
+            board,
+            pass,
+            start: start.number,
+            stale_answers: 0,
+            last_low: 0,
+            rows_calls: 0,
+            row_calls: 0,
+        }
+    }
+
+    /// Returns the low of the last `Stale` result, or 0. It lies below what the horizon keeps of the commits that the
+    /// view's pass has seen.
+    pub fn last_low(&self) -> u32
+        ensures low { result ≡ self.now.sight.last_low }
+        ensures kept { IsLow N.script.options.horizon self.now.sight.last_low (length self.now.seen) }
+    {
+        let _pass = &self.pass;
+        self.last_low
+    }
+}
+
+/// Counts an error that is `Stale`, and keeps its low.
+fn count(answers: &mut u64, last_low: &mut u32, refused: Refused)
+    ensures answers { answers.new ≡ answers_after answers.old refused }
+    ensures low { last_low.new ≡ low_after last_low.old refused }
+    ensures fits { answers.old < 2 ^ 64 }
+{
+    let was = *answers;
+    if let Refused::Stale { low, .. } = refused {
+        *answers = was.saturating_add(1);
+        *last_low = low;
+    }
+}
+
+impl<'a, N: Making, R: Wait> View for ShardsView<'a, N, R> {
+    ghost sight = { λ v. v.sight };
+
+    fn rows(&mut self, alloc: Global, pred: &Pred) -> Result<Rows, Refused> {
+        self.rows_calls = self.rows_calls.saturating_add(1);
+        match self.shards.rows_after(self.rt, alloc, self.board, &mut self.pass, self.start, pred) {
+            Ok(rows) => Ok(rows),
+            Err(refused) => {
+                count(&mut self.stale_answers, &mut self.last_low, refused);
+                Err(refused)
+            }
+        }
+    }
+
+    fn foremost<K: KeySet>(
+        &mut self,
+        alloc: Global,
+        pred: &Pred,
+        direction: Direction,
+        passed: &K,
+    ) -> Result<Option<Keyed>, Refused> {
+        self.rows_calls = self.rows_calls.saturating_add(1);
+        match self.shards.foremost_after(
+            self.rt,
+            alloc,
+            self.board,
+            &mut self.pass,
+            self.start,
+            pred,
+            direction,
+            passed,
+        ) {
+            Ok(row) => Ok(row),
+            Err(refused) => {
+                count(&mut self.stale_answers, &mut self.last_low, refused);
+                Err(refused)
+            }
+        }
+    }
+
+    fn match_under(
+        &mut self,
+        alloc: Global,
+        pred: &Pred,
+        key: &Key,
+    ) -> Result<Option<Row>, Refused> {
+        self.rows_calls = self.rows_calls.saturating_add(1);
+        match self.shards.match_after(
+            self.rt,
+            alloc,
+            self.board,
+            &mut self.pass,
+            self.start,
+            pred,
+            key,
+        ) {
+            Ok(row) => Ok(row),
+            Err(refused) => {
+                count(&mut self.stale_answers, &mut self.last_low, refused);
+                Err(refused)
+            }
+        }
+    }
+
+    fn row(&mut self, alloc: Global, table: u8, key: &Key) -> Result<Option<Row>, Refused> {
+        self.row_calls = self.row_calls.saturating_add(1);
+        match self.shards.row_after(
+            self.rt,
+            alloc,
+            self.board,
+            &mut self.pass,
+            self.start,
+            table,
+            key,
+        ) {
+            Ok(row) => Ok(row),
+            Err(refused) => {
+                count(&mut self.stale_answers, &mut self.last_low, refused);
+                Err(refused)
+            }
+        }
+    }
+}
