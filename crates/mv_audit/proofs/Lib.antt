@@ -1,0 +1,5 @@
+pub mod Comparing
+pub mod Endless
+pub mod Examples
+pub mod Judging
+pub mod Shown
