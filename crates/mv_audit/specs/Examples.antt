@@ -1,5 +1,5 @@
 -- Reports of two transfers and their verdicts, worked out by hand. No table is printed. This project's own.
-use Rattle.std.specs.Prelude.{◌≡◌, ℕ, List, [], ◌∷◌, ◌++◌, map, codes}
+use Rattle.std.specs.Prelude.{◌≡◌, ℕ, List, [], ◌∷◌, ◌++◌, codes}
 use Rattle.mv_values.specs.Texts.{line, lines_text}
 use Rattle.mv_lawful.specs.Work.{Work}
 use Rattle.mv_lawful.specs.Examples.{bank, transfer}
