@@ -3,8 +3,9 @@
 ghost use Rattle.mv_audit.specs.Laws.{YesIsLawful, LawfulIsYes};
 ghost use Rattle.mv_audit.specs.Examples.{Repaired, ChangedCount, NoRepair, NoEnd, NoReport, Lone, ZeroAhead, Statement, Collection, Further, NoLastEnd, Returns, Quoted};
 
-/// The verdict on a report is Yes exactly if the report is the text of a lawful journal. So the text of each run gets Yes
-/// under its number of rounds, whatever its horizon was, and no other text does.
+/// A report with the verdict Yes is the text of a lawful journal. The text of a lawful journal gets Yes under its number
+/// of rounds, whatever its horizon was, if its outcome is plain: each line of a reply is one of PRINT, and the numbers of
+/// its calls have 32 bits.
 pub fn yes_is_exact()
     ensures only { YesIsLawful }
     ensures all { LawfulIsYes }
